@@ -1,0 +1,4 @@
+pub mod Coprime
+pub mod Reduced
+pub mod Scaling
+pub mod Signed
