@@ -7,10 +7,14 @@ use Rattle.evidence.specs.Instance.{Instance, width, height, cost_at, entry_at, 
 use Rattle.evidence.specs.Point.{value_at}
 use Rattle.evidence.specs.Cases.{Multiplier, multiplier_at, end_of, or_none, Tree, Clash, Farkas, Bound, Split, at_most, at_least, Node, preorder, Shows}
 
--- the sum of a start and of n products: each product with no factor 0 fits, and so does each partial sum
+-- s and the product of a and x: where neither factor is 0, the product fits, and so does the sum; else nothing is added
+pub record TermFits (s a x : Ratio) : Type 0 where
+  pub term : (a.num ≡ pos 0 → ⊥) → (x.num ≡ pos 0 → ⊥) → ReducedFits (product a x)
+  pub sum : (a.num ≡ pos 0 → ⊥) → (x.num ≡ pos 0 → ⊥) → SumFits s (product a x)
+
+-- a start and n products, each added to the sum of those before it
 pub record StatedFits (start : Ratio) (n : ℕ) (a x : ℕ → Ratio) : Type 0 where
-  pub terms : (j : ℕ) → j < n → ((a j).num ≡ pos 0 → ⊥) → ((x j).num ≡ pos 0 → ⊥) → ReducedFits (product (a j) (x j))
-  pub sums : (j : ℕ) → j < n → ((a j).num ≡ pos 0 → ⊥) → ((x j).num ≡ pos 0 → ⊥) → SumFits (total start j (λ k. product (a k) (x k))) (product (a j) (x j))
+  pub steps : (j : ℕ) → j < n → TermFits (total start j (λ k. product (a k) (x k))) (a j) (x j)
 
 -- the sum of row i's entries, each times its variable, from 0
 abbrev pub RowFits : Instance → List Ratio → ℕ → Type 0
