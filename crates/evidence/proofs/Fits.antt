@@ -1,5 +1,5 @@
 -- Fitting is a matter of the numbers alone, and of one term after the other.
-use Rattle.std.proofs.Common.{◌≡◌, ℕ, ◌+◌, ◌<◌, sym, refl, below_more}
+use Rattle.std.proofs.Common.{ℕ, ◌+◌, sym, refl, below_more}
 use Rattle.rational.specs.Ratio.{Ratio, IsNumber, IsSame, product}
 use Rattle.rational.specs.Width.{ReducedFits, SumFits}
 use Rattle.rational.proofs.Scaling.{IsSame-trans}

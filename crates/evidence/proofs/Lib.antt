@@ -12,3 +12,4 @@ pub mod Listing
 pub mod Pending
 pub mod OneDenominator
 pub mod Fits
+pub mod Tried

@@ -6,3 +6,4 @@ pub mod Claim
 pub mod Width
 pub mod Pending
 pub mod OneDenominator
+pub mod Examples

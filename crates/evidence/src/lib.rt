@@ -19,12 +19,21 @@ ghost use Rattle.evidence.specs.Cases.{Tree, Node, Multiplier, preorder, ClashAt
 ghost use Rattle.evidence.specs.Width.{LeafFits, ProvesWithin};
 ghost use Rattle.evidence.specs.Claim.{Claim, Accepts, IsTrueOf};
 ghost use Rattle.evidence.specs.Pending.{ShowsAll};
+ghost use Rattle.evidence.specs.Examples.{halves, two, half_a_proof, slope, upwards};
 ghost use Rattle.std.specs.Prelude.{◌≡◌, Option, None, Some, [], ◌∷◌, ◌+◌, ◌<◌, pos, ◌+ℤ◌, ◌↔◌, ℕ, ℤ, List};
 ghost use Rattle.std.specs.List.{All};
 
 /// What is accepted is true: what its certificate shows holds of the program's points.
 pub fn accepted_is_true()
     ensures { (I : Instance) (claim : Claim) → IsInstance I → Accepts I claim → IsTrueOf I claim }
+{}
+
+/// Some claims are accepted and some aren't: `branching` has a bound where x is at most 2, and a row that nothing meets
+/// where it is at least 3; `half` leaves the second case out; `direction` has whole movements along a row without slack.
+pub fn some_claims_are_accepted()
+    ensures branching { Accepts halves two }
+    ensures half { Accepts halves half_a_proof → ⊥ }
+    ensures direction { Accepts slope upwards }
 {}
 
 /// Feasible points may be read as lists of ratios or as whole numbers over one denominator, once the program's
