@@ -13,3 +13,4 @@ pub mod Pending
 pub mod OneDenominator
 pub mod Fits
 pub mod Tried
+pub mod Rows

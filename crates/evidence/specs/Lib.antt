@@ -7,3 +7,4 @@ pub mod Width
 pub mod Pending
 pub mod OneDenominator
 pub mod Examples
+pub mod Columns
