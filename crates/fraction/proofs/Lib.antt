@@ -1,0 +1,5 @@
+pub mod Equality
+pub mod Forms
+pub mod Multiples
+pub mod Parts
+pub mod Sums
