@@ -7,10 +7,17 @@
 
 mod files;
 mod listener;
+mod mem_files;
+mod memory;
+mod parts;
+mod standard;
 mod streams;
 mod text;
 
 pub use files::{FileFault, Files};
 pub use listener::Listener;
+pub use mem_files::MemFiles;
+pub use memory::{MemSink, MemSource};
+pub use standard::{StdSink, StdSource};
 pub use streams::{Failed, Link, Sink, Source, Stream, write_all};
 pub use text::{Memory, Text};
