@@ -14,6 +14,8 @@ mod memory;
 mod parts;
 mod standard;
 mod streams;
+#[cfg(test)]
+mod tests;
 mod text;
 
 pub use files::{FileFault, Files};

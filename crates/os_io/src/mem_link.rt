@@ -65,6 +65,20 @@ impl MemLink {
     {
         self.place.ways.output.as_slice()
     }
+
+    /// How often a read has failed.
+    pub fn read_faults(&self) -> u64
+        ensures { result ≡ ⟦<MemLink as Stream>⟧.read_faults self.now }
+    {
+        self.place.ways.read_faults
+    }
+
+    /// How often a write or a flush has failed.
+    pub fn write_faults(&self) -> u64
+        ensures { result ≡ ⟦<MemLink as Stream>⟧.write_faults self.now }
+    {
+        self.place.ways.write_faults
+    }
 }
 
 impl Stream for MemLink {

@@ -46,6 +46,13 @@ impl MemListener {
         Ok(())
     }
 
+    /// How often a call has failed.
+    pub fn faults(&self) -> u64
+        ensures { result ≡ ⟦<MemListener as Listener>⟧.faults self.now }
+    {
+        self.faults
+    }
+
     /// The next link of those that were added.
     fn next(&mut self) -> Result<MemLink, Failed>
         ensures came { IfOk result (λ link. self.old.links.items ≡ link ∷ self.new.links.items) }
