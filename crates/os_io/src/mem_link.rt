@@ -5,7 +5,7 @@ ghost use Rattle.os_io.specs.declared.mem_link.Kept.{out-Kept};
 use crate::parts::{Input, Output, Script, count};
 use crate::streams::{Failed, Link, Sink, Source, Stream};
 use crate::text::Memory;
-use std::alloc::{AllocError, Global};
+use std::alloc::Global;
 
 /// Both ways of a link in memory.
 #[derive(Drop)]
