@@ -1,0 +1,23 @@
+-- Fitting is a matter of the numbers alone, and of one term after the other.
+use Rattle.std.proofs.Common.{ℕ, ◌+◌, sym, refl, below_more}
+use Rattle.rational.specs.Ratio.{Ratio, IsNumber, IsSame, product}
+use Rattle.rational.specs.Width.{ReducedFits, SumFits}
+use Rattle.rational.proofs.Scaling.{IsSame-trans}
+use Rattle.evidence.specs.Sums.{total}
+use Rattle.evidence.specs.Width.{TermFits, StatedFits}
+use Rattle.evidence.proofs.Numbers.{◌≈◌}
+
+pub reduced_same : (x y : Ratio) → IsNumber x → IsSame x y → ReducedFits x → ReducedFits y
+reduced_same x y p e fits = record { form = fits.form; same = IsSame-trans fits.form x y p fits.same e; reduced = fits.reduced; within = fits.within }
+
+pub sums_same : (x y z w : Ratio) → IsNumber z → IsNumber w → IsSame x z → IsSame y w → SumFits x y → SumFits z w
+sums_same x y z w pz pw e f fits =
+    record { by = λ a b ra rb p q. fits.by a b ra rb (IsSame-trans a z x pz p (sym e)) (IsSame-trans b w y pw q (sym f)) }
+
+-- the sum so far may be written in another form
+pub term_same : (s t a x : Ratio) → s ≈ t → IsNumber (product a x) → TermFits s a x → TermFits t a x
+term_same s t a x e p fits =
+    record { term = fits.term; sum = λ h k. sums_same s (product a x) t (product a x) e.right p e.is (let r : IsSame (product a x) (product a x) = refl in r) (fits.sum h k) }
+
+pub stated_more : (start : Ratio) (n : ℕ) (a x : ℕ → Ratio) → StatedFits start n a x → TermFits (total start n (λ k. product (a k) (x k))) (a n) (x n) → StatedFits start (n + 1) a x
+stated_more start n a x before here = record { steps = below_more (λ j. TermFits (total start j (λ k. product (a k) (x k))) (a j) (x j)) n before.steps here }

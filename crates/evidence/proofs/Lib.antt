@@ -1,0 +1,16 @@
+pub mod Whole
+pub mod Numbers
+pub mod Totals
+pub mod Columns
+pub mod Duality
+pub mod Branches
+pub mod Rays
+pub mod Accepted
+pub mod Sparse
+pub mod Cleared
+pub mod Listing
+pub mod Pending
+pub mod OneDenominator
+pub mod Fits
+pub mod Tried
+pub mod Rows

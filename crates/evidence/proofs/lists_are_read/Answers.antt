@@ -1,0 +1,26 @@
+use Rattle.evidence.proofs.Pending.{start, none_left, one_more, clash_step, farkas_step, bound_step, no_bound, split_step}
+use Rattle.evidence.proofs.lists_are_read.Goals as goal
+
+pub returns-clause-start : goal.returns-clause-start
+returns-clause-start c = start
+
+pub returns-clause-none_left : goal.returns-clause-none_left
+returns-clause-none_left c = none_left
+
+pub returns-clause-one_more : goal.returns-clause-one_more
+returns-clause-one_more c = one_more
+
+pub returns-clause-clash : goal.returns-clause-clash
+returns-clause-clash c = clash_step
+
+pub returns-clause-farkas : goal.returns-clause-farkas
+returns-clause-farkas c = farkas_step
+
+pub returns-clause-bound : goal.returns-clause-bound
+returns-clause-bound c = bound_step
+
+pub returns-clause-no_bound : goal.returns-clause-no_bound
+returns-clause-no_bound c = no_bound
+
+pub returns-clause-split : goal.returns-clause-split
+returns-clause-split c = split_step

@@ -1,0 +1,120 @@
+-- Trees of cases, whose leaves have multipliers by which no point is feasible, or none is better than a bound (Farkas; weak duality).
+use Rattle.std.specs.Prelude.{◌≡◌, ℕ, ◌+◌, ◌<◌, ℤ, pos, negsuc, ◌+ℤ◌, cond, IsTrue, Option, None, Some, IsSome, List, [], ◌∷◌, ◌++◌, length, get_or, neg_ℤ, ◌≤ℤ◌, ◌<ℤ◌, slice_set}
+use Rattle.std.specs.List.{All}
+use Rattle.rational.specs.Ratio.{Ratio, whole, product, IsSame, IsBelow, IsNumber, IsAtMost}
+use Rattle.rational.specs.Width.{most}
+use Rattle.evidence.specs.Sums.{none, is_below, total}
+use Rattle.evidence.specs.Instance.{Range, Instance, width, height, variable_at, coefficient_at, column_at, cost_at, minimising}
+
+pub record Multiplier : Type 0 where
+  pub column : ℕ
+  pub by : Ratio
+
+-- cases, one within the other, or one of three reasons
+pub data Tree : Type 0 where
+  Clash : ℕ → Tree
+  Farkas : List Multiplier → Tree
+  Bound : List Multiplier → Tree
+  Split : ℕ → ℤ → Tree → Tree → Tree
+
+abbrev pub multiplier_at : List Multiplier → ℕ → Multiplier
+multiplier_at ms k = get_or ms k (record { column = 0; by = none })
+
+abbrev pub end_by : ℤ → Range → Option Ratio
+end_by (pos n) r = r.lb
+end_by (negsuc n) r = r.ub
+
+-- the end that a multiplier bounds its column by: the lower one where it is positive, the upper one where it is negative
+abbrev pub end_of : Instance → Multiplier → Option Ratio
+end_of I m = end_by m.by.num (column_at I m.column)
+
+pub record IsLegal (I : Instance) (ms : List Multiplier) : Type 0 where
+  pub numbers : All (λ m. IsNumber m.by) ms
+  pub columns : All (λ m. m.column < width I + height I) ms
+  pub ascending : (k : ℕ) → k + 1 < length ms → (multiplier_at ms k).column < (multiplier_at ms (k + 1)).column
+  pub nonzero : All (λ m. m.by.num ≡ pos 0 → ⊥) ms
+  pub ends : All (λ m. IsSome (end_of I m)) ms
+
+-- at variable j: the sum of the multipliers, each times its column's coefficient
+abbrev pub form : Instance → List Multiplier → ℕ → Ratio
+form I ms j = total none (length ms) (λ k. product (multiplier_at ms k).by (coefficient_at I (multiplier_at ms k).column j))
+
+abbrev pub or_none : Option Ratio → Ratio
+or_none None = none
+or_none (Some x) = x
+
+-- a start, and the multipliers, each times its end
+abbrev pub low_sum : Instance → Ratio → List Multiplier → Ratio
+low_sum I start ms = total start (length ms) (λ k. product (multiplier_at ms k).by (or_none (end_of I (multiplier_at ms k))))
+
+-- its lower end is above its upper one
+abbrev pub IsEmpty : Range → Type 0
+IsEmpty r = (l u : Ratio) × (r.lb ≡ Some l) × (r.ub ≡ Some u) × IsBelow u l
+
+-- no point is feasible, since the legal sum of its columns is 0, yet is to be above 0
+pub record IsFarkas (I : Instance) (ms : List Multiplier) : Type 0 where
+  pub legal : IsLegal I ms
+  pub vanishes : (j : ℕ) → j < width I → IsSame (form I ms j) none
+  pub above : IsBelow none (low_sum I none ms)
+
+-- no point's minimising objective is below z, since the legal sum of its columns is that objective
+pub record IsBound (I : Instance) (ms : List Multiplier) (z : Ratio) : Type 0 where
+  pub legal : IsLegal I ms
+  pub costs : (j : ℕ) → j < width I → IsSame (form I ms j) (minimising I (cost_at I j))
+  pub reaches : IsAtMost z (low_sum I (minimising I I.goal.constant) ms)
+
+-- the upper end is the lesser of itself and k
+abbrev pub lesser_end : Option Ratio → Ratio → Option Ratio
+lesser_end None k = Some k
+lesser_end (Some u) k = cond (is_below k u) (Some k) (Some u)
+
+-- the lower end is the greater of itself and k
+abbrev pub greater_end : Option Ratio → Ratio → Option Ratio
+greater_end None k = Some k
+greater_end (Some l) k = cond (is_below l k) (Some k) (Some l)
+
+abbrev pub with_range : Instance → ℕ → Range → Instance
+with_range I j r = record I { variables = slice_set I.variables j (record (variable_at I j) { range = r }) }
+
+-- variable j is at most k
+abbrev pub at_most : Instance → ℕ → ℤ → Instance
+at_most I j k = let r = (variable_at I j).range in with_range I j (record r { ub = lesser_end r.ub (whole k) })
+
+-- variable j is at least k
+abbrev pub at_least : Instance → ℕ → ℤ → Instance
+at_least I j k = let r = (variable_at I j).range in with_range I j (record r { lb = greater_end r.lb (whole k) })
+
+-- a variable whose values are whole, and a number between whose next ones no value is
+pub record IsBranch (I : Instance) (j : ℕ) (k : ℤ) : Type 0 where
+  pub variable : j < width I
+  pub whole : IsTrue (variable_at I j).whole
+  pub low : neg_ℤ (pos most) ≤ℤ k
+  pub high : k <ℤ pos most
+
+-- the tree shows that no feasible point's minimising objective is below z; without z, that no point is feasible
+abbrev pub Shows : Instance → Tree → Option Ratio → Type 0
+Shows I (Clash c) z = (c < width I + height I) × IsEmpty (column_at I c)
+Shows I (Farkas ms) z = IsFarkas I ms
+Shows I (Bound ms) None = ⊥
+Shows I (Bound ms) (Some z) = IsBound I ms z
+Shows I (Split j k a b) z = IsBranch I j k × Shows (at_most I j k) a z × Shows (at_least I j (k +ℤ pos 1)) b z
+
+-- a node of a tree, as texts have it
+pub data Node : Type 0 where
+  ClashAt : ℕ → Node
+  FarkasBy : List Multiplier → Node
+  BoundBy : List Multiplier → Node
+  SplitAt : ℕ → ℤ → Node
+
+-- a node, then the nodes of its first case, then those of its second
+abbrev pub preorder : Tree → List Node
+preorder (Clash c) = ClashAt c ∷ []
+preorder (Farkas ms) = FarkasBy ms ∷ []
+preorder (Bound ms) = BoundBy ms ∷ []
+preorder (Split j k a b) = SplitAt j k ∷ (preorder a ++ preorder b)
+
+-- the list is that of a tree that shows it
+pub record Proves (I : Instance) (nodes : List Node) (z : Option Ratio) : Type 0 where
+  pub tree : Tree
+  pub listed : nodes ≡ preorder tree
+  pub shows : Shows I tree z
