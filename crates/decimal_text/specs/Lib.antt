@@ -1,6 +1,7 @@
 pub mod Space
 pub mod Prefix
 pub mod Sign
+pub mod Head
 pub mod Count
 pub mod Whole
 pub mod Decimal

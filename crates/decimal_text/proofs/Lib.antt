@@ -1,0 +1,4 @@
+pub mod Numerals
+pub mod Leaving
+pub mod Counts
+pub mod CountTexts
