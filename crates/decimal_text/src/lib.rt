@@ -4,7 +4,9 @@
 mod count;
 mod digits;
 mod fault;
+mod ratio;
 mod space;
 
 pub use count::read_count;
 pub use fault::DecimalFault;
+pub use ratio::write_ratio;
