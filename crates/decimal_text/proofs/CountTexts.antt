@@ -65,7 +65,7 @@ count_leaves s u plus ds rest at e parts none h k more place =
     let l : LeavesAt CountGrammar (p ++ rest) (length p) = leaves (next is_plus) start dead accepts CountGrammar count_reads p rest (count_begins plus ds h) (stops is_plus plus_apart (optional 43 plus) ds rest (is_sign plus) (has_none plus (ds ++ rest) (λ n. subst (λ x. DoesNotBegin 43 x) parts (none n))) h k more) in
     subst (λ n. LeavesAt CountGrammar s n) (sym here) (subst (λ x. LeavesAt CountGrammar x (length p)) (sym whole) l)
 
-no_more : (ds rest : List ℕ) → length rest ≡ 0 → ds ++ rest ≡ ds
+pub no_more : (ds rest : List ℕ) → length rest ≡ 0 → ds ++ rest ≡ ds
 no_more ds [] e = append-nil ds
 no_more ds (b ∷ t) e = absurd (omega (arith, e))
 

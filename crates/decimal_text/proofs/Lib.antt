@@ -2,3 +2,4 @@ pub mod Numerals
 pub mod Leaving
 pub mod Counts
 pub mod CountTexts
+pub mod WholeTexts

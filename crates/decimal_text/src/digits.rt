@@ -1,7 +1,7 @@
 // Digits at the head of a text, and the number that digits write.
 ghost use Rattle.std.specs.Prelude.{◌≡◌, ◌+◌, ◌*◌, ◌<◌, ◌≤◌, ◌++◌, false, MatchOption};
 ghost use Rattle.std.specs.Str.Parse.{AllDigits, digits_value};
-ghost use Rattle.decimal_text.specs.Head.{DoesNotBegin, HasNoDigit};
+ghost use Rattle.decimal_text.specs.Head.{DoesNotBegin, HasNoDigit, SignSplit};
 ghost use Rattle.decimal_text.specs.Sign.{optional};
 
 /// The digits that the text begins with, and the rest.
@@ -27,6 +27,17 @@ pub fn strip(text: &[u8], byte: u8) -> (bool, &[u8])
 {
     match text {
         [first, rest @ ..] if *first == byte => (true, rest),
+        _ => (false, text),
+    }
+}
+
+/// Whether the text begins with `-`, and the rest behind an optional sign.
+pub fn split_sign(text: &[u8]) -> (bool, &[u8])
+    ensures { SignSplit text.now result.0 result.1.now }
+{
+    match text {
+        [b'+', rest @ ..] => (false, rest),
+        [b'-', rest @ ..] => (true, rest),
         _ => (false, text),
     }
 }

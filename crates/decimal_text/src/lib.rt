@@ -6,7 +6,9 @@ mod digits;
 mod fault;
 mod ratio;
 mod space;
+mod whole;
 
 pub use count::read_count;
 pub use fault::DecimalFault;
 pub use ratio::write_ratio;
+pub use whole::read_whole;
