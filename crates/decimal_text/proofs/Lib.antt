@@ -3,3 +3,8 @@ pub mod Leaving
 pub mod Counts
 pub mod CountTexts
 pub mod WholeTexts
+pub mod Splits
+pub mod Powers
+pub mod Quotients
+pub mod Forms
+pub mod Values

@@ -1,7 +1,7 @@
 -- Lists of digits.
-use Rattle.std.proofs.Common.{◌≡◌, ℕ, ◌+◌, ◌*◌, ◌-◌, ◌<◌, ◌≤◌, List, [], ◌∷◌, ◌++◌, length, take, get_or, subst, sym, arith}
+use Rattle.std.proofs.Common.{◌≡◌, ℕ, ◌+◌, ◌*◌, ◌-◌, ◌<◌, ◌≤◌, List, [], ◌∷◌, ◌++◌, length, take, get_or, refl, subst, sym, arith}
 use Rattle.std.specs.Char.{digit_value}
-use Rattle.std.specs.Str.Parse.{AllDigits, IsNumeral, digits_value}
+use Rattle.std.specs.Str.Parse.{AllDigits, IsNumeral, digits_value, digits_value_after}
 use Rattle.std.proofs.lemmas.Str.{digit_value_digit}
 use Rattle.std.proofs.lemmas.Str.Parse.{digit_from_value, digit_at}
 use Rattle.std.proofs.lemmas.Int.Digits.{digits_value_more}
@@ -20,3 +20,15 @@ digits_more s i h ds d = rw (take_more s i 0 h) (AllDigits-append (take i s) (ge
 
 pub number_more : (ds : List ℕ) (i : ℕ) → AllDigits 10 ds → i < length ds → digits_value 10 (take (i + 1) ds) ≡ digits_value 10 (take i ds) * 10 + (get_or ds i 0 - 48)
 number_more ds i h k = omega (arith, digits_value_more 10 ds i k, digit_value_digit (get_or ds i 0) (digit_at ds i h k))
+
+pub after-append : (n : ℕ) (xs ys : List ℕ) → digits_value_after 10 n (xs ++ ys) ≡ digits_value_after 10 (digits_value_after 10 n xs) ys
+after-append n [] ys = refl
+after-append n (x ∷ xs) ys = after-append (n * 10 + digit_value x) xs ys
+
+pub after_more : (n : ℕ) (ds : List ℕ) (i : ℕ) → AllDigits 10 ds → i < length ds → digits_value_after 10 n (take (i + 1) ds) ≡ digits_value_after 10 n (take i ds) * 10 + (get_or ds i 0 - 48)
+after_more n ds i h k =
+    let whole : digits_value_after 10 n (take (i + 1) ds) ≡ digits_value_after 10 n (take i ds) * 10 + digit_value (get_or ds i 0) = rw (take_more ds i 0 k) (after-append n (take i ds) (get_or ds i 0 ∷ [])) in
+    omega (arith, whole, digit_value_digit (get_or ds i 0) (digit_at ds i h k))
+
+pub is_digit : (ds : List ℕ) (i : ℕ) → AllDigits 10 ds → i < length ds → get_or ds i 0 - 48 < 10
+is_digit ds i h k = omega (arith, digit_at ds i h k)

@@ -48,9 +48,13 @@ abbrev pub down : Exponent → ℕ
 down absent = 0
 down (power capital sign ds) = cond (is_minus sign) (digits_value 10 ds) 0
 
+-- a size times ten to a, over ten to b
+abbrev pub powered : Bool → ℕ → ℕ → ℕ → Ratio
+powered negative size a b = record { num = signed negative (size * 10 ^ a); den = 10 ^ b }
+
 -- the digits without their point, times ten to the exponent, over ten for each digit after the point
 abbrev pub decimal_value : Sign → Mantissa → Exponent → Ratio
-decimal_value sign m e = record { num = signed (is_minus sign) (digits_value 10 (mantissa_digits m) * 10 ^ up e); den = 10 ^ (places m + down e) }
+decimal_value sign m e = powered (is_minus sign) (digits_value 10 (mantissa_digits m)) (up e) (places m + down e)
 
 -- an optional sign, digits that may have a point, at least one in all, and an optional exponent, which write x
 pub record DecimalText (s : List ℕ) (x : Ratio) : Type 0 where
@@ -83,17 +87,25 @@ pub record ShortestForm (x : Ratio) : Type 0 where
 abbrev pub IsNarrow : {x : Ratio} → ShortestForm x → Type 0
 IsNarrow f = IsWithin (scientific f.negative f.n f.k)
 
+-- x is the number w, whose shortest form fits
+pub record HasFit (w x : Ratio) : Type 0 where
+  pub same : IsSame x w
+  pub form : ShortestForm w
+  pub fits : IsNarrow form
+
+-- the shortest form of w doesn't fit
+pub record HasNoFit (w : Ratio) : Type 0 where
+  pub form : ShortestForm w
+  pub wide : IsNarrow form → ⊥
+
 -- the text, with white space round it dropped, is a decimal with the value x, which fits
 pub record IsDecimal (text : List ℕ) (x : Ratio) : Type 0 where
   pub written : Ratio
   pub read : DecimalText (trimmed text) written
-  pub same : IsSame x written
-  pub form : ShortestForm written
-  pub fits : IsNarrow form
+  pub fit : HasFit written x
 
 -- the text is a decimal that doesn't fit
 pub record IsWideDecimal (text : List ℕ) : Type 0 where
   pub written : Ratio
   pub read : DecimalText (trimmed text) written
-  pub form : ShortestForm written
-  pub wide : IsNarrow form → ⊥
+  pub unfit : HasNoFit written

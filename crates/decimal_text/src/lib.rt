@@ -4,6 +4,8 @@
 mod count;
 mod digits;
 mod fault;
+mod parts;
+mod power;
 mod ratio;
 mod space;
 mod whole;
