@@ -8,3 +8,5 @@ pub mod Powers
 pub mod Quotients
 pub mod Forms
 pub mod Values
+pub mod Decimals
+pub mod DecimalTexts

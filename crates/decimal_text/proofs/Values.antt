@@ -86,12 +86,12 @@ pub far_wide : (negative is_down : Bool) (v m zeros len power : ℕ) → IsSize 
 far_wide negative true v m zeros len power s n z l h = subst (λ w. HasNoFit w) (sym (powered_shift negative v m zeros 0 (len + power) s.value)) (far_down negative m (zeros + 0) (len + power) (s.short n) (omega arith))
 far_wide negative false v m zeros len power s n z l h = subst (λ w. HasNoFit w) (sym (powered_shift negative v m zeros power (len + 0) s.value)) (far_up negative m (zeros + power) (len + 0) (s.short n) (omega arith))
 
-pub down_same : (negative is_down : Bool) (v m zeros len power exponent : ℕ) → is_down ≡ true → IsSize v m zeros → power ≡ exponent → powered negative v (cond is_down 0 exponent) (len + cond is_down exponent 0) ≡ powered negative m zeros (len + power)
-down_same negative false v m zeros len power exponent h s e = cc
-down_same negative true v m zeros len power exponent h s e =
-    powered_shift negative v m zeros 0 (len + exponent) s.value ∙ (ap (λ a. powered negative m a (len + exponent)) (let k : zeros + 0 ≡ zeros = omega arith in k) ∙ ap (λ x. powered negative m zeros (len + x)) (sym e))
+pub down_same : (negative is_down : Bool) (v m high len power exponent : ℕ) → is_down ≡ true → IsSize v m high → power ≡ exponent → powered negative v (cond is_down 0 exponent) (len + cond is_down exponent 0) ≡ powered negative m high (len + power)
+down_same negative false v m high len power exponent h s e = cc
+down_same negative true v m high len power exponent h s e =
+    powered_shift negative v m high 0 (len + exponent) s.value ∙ (ap (λ a. powered negative m a (len + exponent)) (let k : high + 0 ≡ high = omega arith in k) ∙ ap (λ x. powered negative m high (len + x)) (sym e))
 
-pub up_same : (negative is_down : Bool) (v m zeros len power exponent : ℕ) → is_down ≡ false → IsSize v m zeros → power ≡ exponent → powered negative v (cond is_down 0 exponent) (len + cond is_down exponent 0) ≡ powered negative m (zeros + power) len
-up_same negative true v m zeros len power exponent h s e = cc
-up_same negative false v m zeros len power exponent h s e =
-    powered_shift negative v m zeros exponent (len + 0) s.value ∙ (ap (λ b. powered negative m (zeros + exponent) b) (let k : len + 0 ≡ len = omega arith in k) ∙ ap (λ x. powered negative m (zeros + x) len) (sym e))
+pub up_same : (negative is_down : Bool) (v m high len power exponent : ℕ) → is_down ≡ false → IsSize v m high → power ≡ exponent → powered negative v (cond is_down 0 exponent) (len + cond is_down exponent 0) ≡ powered negative m (high + power) len
+up_same negative true v m high len power exponent h s e = cc
+up_same negative false v m high len power exponent h s e =
+    powered_shift negative v m high exponent (len + 0) s.value ∙ (ap (λ b. powered negative m (high + exponent) b) (let k : len + 0 ≡ len = omega arith in k) ∙ ap (λ x. powered negative m (high + x) len) (sym e))

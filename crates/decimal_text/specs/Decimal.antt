@@ -27,25 +27,25 @@ places (pointed ds es) = length es
 
 -- no exponent, or a letter, which may be a capital, a sign and digits
 pub data Exponent : Type 0 where
-  absent : Exponent
+  none : Exponent
   power : Bool → Sign → List ℕ → Exponent
 
 abbrev pub exponent_text : Exponent → List ℕ
-exponent_text absent = []
+exponent_text none = []
 exponent_text (power capital sign ds) = (cond capital 69 101) ∷ (sign_text sign ++ ds)
 
 abbrev pub IsExponent : Exponent → Type 0
-IsExponent absent = Unit {0}
+IsExponent none = Unit {0}
 IsExponent (power capital sign ds) = IsNumeral 10 ds
 
 -- the exponent, where it isn't negative
 abbrev pub up : Exponent → ℕ
-up absent = 0
+up none = 0
 up (power capital sign ds) = cond (is_minus sign) 0 (digits_value 10 ds)
 
 -- the exponent's size, where it is negative
 abbrev pub down : Exponent → ℕ
-down absent = 0
+down none = 0
 down (power capital sign ds) = cond (is_minus sign) (digits_value 10 ds) 0
 
 -- a size times ten to a, over ten to b
@@ -98,14 +98,22 @@ pub record HasNoFit (w : Ratio) : Type 0 where
   pub form : ShortestForm w
   pub wide : IsNarrow form → ⊥
 
--- the text, with white space round it dropped, is a decimal with the value x, which fits
-pub record IsDecimal (text : List ℕ) (x : Ratio) : Type 0 where
+-- s is a decimal with the value x, which fits
+pub record FittingText (s : List ℕ) (x : Ratio) : Type 0 where
   pub written : Ratio
-  pub read : DecimalText (trimmed text) written
+  pub read : DecimalText s written
   pub fit : HasFit written x
 
--- the text is a decimal that doesn't fit
-pub record IsWideDecimal (text : List ℕ) : Type 0 where
+-- s is a decimal that doesn't fit
+pub record WideText (s : List ℕ) : Type 0 where
   pub written : Ratio
-  pub read : DecimalText (trimmed text) written
+  pub read : DecimalText s written
   pub unfit : HasNoFit written
+
+-- the text, with white space round it dropped, is a decimal with the value x, which fits
+abbrev pub IsDecimal : List ℕ → Ratio → Type 0
+IsDecimal text x = FittingText (trimmed text) x
+
+-- the text, with white space round it dropped, is a decimal that doesn't fit
+abbrev pub IsWideDecimal : List ℕ → Type 0
+IsWideDecimal text = WideText (trimmed text)

@@ -5,6 +5,7 @@ pub mod Head
 pub mod Count
 pub mod Whole
 pub mod Decimal
+pub mod Bound
 pub mod Parts
 pub mod Exact
 pub mod Plain

@@ -2,6 +2,7 @@
 #![tactic(auto)]
 
 mod count;
+mod decimal;
 mod digits;
 mod fault;
 mod parts;
@@ -11,6 +12,7 @@ mod space;
 mod whole;
 
 pub use count::read_count;
+pub use decimal::{read_bound, read_decimal};
 pub use fault::DecimalFault;
 pub use ratio::write_ratio;
 pub use whole::read_whole;
