@@ -10,3 +10,5 @@ pub mod Forms
 pub mod Values
 pub mod Decimals
 pub mod DecimalTexts
+pub mod Ratios
+pub mod RatioTexts

@@ -4,6 +4,7 @@
 mod count;
 mod decimal;
 mod digits;
+mod exact;
 mod fault;
 mod parts;
 mod power;
@@ -13,6 +14,7 @@ mod whole;
 
 pub use count::read_count;
 pub use decimal::{read_bound, read_decimal};
+pub use exact::read_ratio;
 pub use fault::DecimalFault;
 pub use ratio::write_ratio;
 pub use whole::read_whole;
