@@ -1,5 +1,5 @@
 -- Texts of counts.
-use Rattle.std.proofs.Common.{◌≡◌, ℕ, ◌+◌, ◌-◌, ◌<◌, ◌≤◌, Bool, true, false, List, [], ◌∷◌, ◌++◌, length, refl, ap, sym, ◌∙◌, subst, arith, eqb}
+use Rattle.std.proofs.Common.{◌≡◌, ℕ, ◌-◌, ◌<◌, Bool, true, false, List, [], ◌∷◌, ◌++◌, length, refl, ap, sym, ◌∙◌, subst, arith, eqb}
 use Rattle.std.specs.Char.{digit_value}
 use Rattle.std.specs.Str.Parse.{AllDigits, IsNumeral, digits_value}
 use Rattle.std.proofs.lemmas.Bool.{ne_eqb}
@@ -10,8 +10,8 @@ use Rattle.decimal_text.specs.Sign.{optional}
 use Rattle.decimal_text.specs.Count.{CountText, CountGrammar}
 use Rattle.decimal_text.specs.Prefix.{Begins, LeavesAt}
 use Rattle.decimal_text.proofs.Numerals.{AllDigits-append}
-use Rattle.decimal_text.proofs.Leaving.{run, Reads, Stops, leaves}
-use Rattle.decimal_text.proofs.Counts.{State, start, digits, dead, next, accepts, AreSigns, IsSign, HasNoSign, reads, stops}
+use Rattle.decimal_text.proofs.Leaving.{Reads, leaves}
+use Rattle.decimal_text.proofs.Counts.{start, dead, next, accepts, AreSigns, IsSign, HasNoSign, reads, stops}
 
 abbrev pub is_plus : ℕ → Bool
 is_plus b = eqb b 43

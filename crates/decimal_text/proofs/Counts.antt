@@ -1,13 +1,11 @@
 -- A sign and digits: where their reading stops.
-use Rattle.std.proofs.Common.{◌≡◌, ℕ, ◌+◌, ◌-◌, ◌<◌, ◌≤◌, Bool, true, false, cond, List, [], ◌∷◌, ◌++◌, length, refl, ap, sym, ◌∙◌, subst, arith}
+use Rattle.std.proofs.Common.{◌≡◌, ℕ, ◌<◌, Bool, true, false, cond, List, [], ◌∷◌, ◌++◌, length, refl, ap, ◌∙◌, arith}
 use Rattle.std.specs.Prelude.{nat_lt}
 use Rattle.std.specs.Char.{digit_value}
 use Rattle.std.specs.Str.Parse.{AllDigits, IsNumeral}
 use Rattle.std.proofs.lemmas.Bool.{lt-ltb, le-ltb}
-use Rattle.std.proofs.lemmas.List.{append_assoc, length-append}
 use Rattle.decimal_text.specs.Head.{HasNoDigit}
-use Rattle.decimal_text.proofs.Numerals.{AllDigits-append}
-use Rattle.decimal_text.proofs.Leaving.{run, run-append, run-digits, Stops}
+use Rattle.decimal_text.proofs.Leaving.{run, run-digits, Stops}
 
 pub data State : Type 0 where
   start : State

@@ -1,19 +1,19 @@
 -- Texts of decimals and bounds.
-use Rattle.std.proofs.Common.{◌≡◌, ℕ, ◌+◌, ◌-◌, ◌<◌, ◌≤◌, ◌⊎◌, inl, inr, Bool, true, false, cond, List, [], ◌∷◌, ◌++◌, length, refl, ap, sym, ◌∙◌, subst, arith}
+use Rattle.std.proofs.Common.{◌≡◌, ℕ, ◌+◌, ◌-◌, ◌<◌, inl, inr, Bool, true, false, cond, List, [], ◌∷◌, ◌++◌, length, refl, ap, sym, ◌∙◌, subst, arith}
 use Rattle.std.specs.Str.Parse.{AllDigits, IsNumeral, digits_value}
-use Rattle.std.proofs.lemmas.List.{append_assoc, append-nil, length-append}
-use Rattle.decimal_text.specs.Head.{HasNoDigit, DoesNotBegin, IsBehind}
+use Rattle.std.proofs.lemmas.List.{append_assoc, length-append}
+use Rattle.decimal_text.specs.Head.{IsBehind}
 use Rattle.decimal_text.specs.Sign.{Sign, sign_text, is_minus}
 use Rattle.decimal_text.specs.Decimal.{Mantissa, plain, pointed, mantissa_text, mantissa_digits, power, exponent_text, DecimalText, DecimalGrammar, powered}
 use Rattle.decimal_text.specs.Bound.{BoundGrammar, EndsInfinity, InfinityStop}
 use Rattle.std.proofs.lemmas.Bool.{ne_eqb}
 use Rattle.decimal_text.specs.Prefix.{Begins, LeavesAt}
-use Rattle.decimal_text.specs.Parts.{MantissaSplit, EndsMantissa, MantissaMissing, MantissaFollowed, PowerMissing, PowerBroken, UnsignedStop, UnsignedSplit}
+use Rattle.decimal_text.specs.Parts.{MantissaSplit, EndsMantissa, MantissaMissing, PowerMissing, PowerBroken, UnsignedStop, UnsignedSplit}
 use Rattle.decimal_text.proofs.Numerals.{AllDigits-append}
 use Rattle.decimal_text.proofs.Leaving.{run, run-append, Stops, leaves}
 use Rattle.decimal_text.proofs.Counts as tail
 use Rattle.decimal_text.proofs.WholeTexts.{is_sign, signs_apart, sign_is_sign, behind_sign}
-use Rattle.decimal_text.proofs.Decimals.{next, start, dead, accepts, first, front, has_sign, after, wrap, point, Grammar, decimal_reads, IsFinite, after_sign, after_mantissa, after_letter, run_wrap, stops_front, stops_point, stops_after, stops_wrap, begins_as, begins_mantissa, begins_power, first_point}
+use Rattle.decimal_text.proofs.Decimals.{next, start, dead, accepts, first, front, has_sign, after, wrap, Grammar, decimal_reads, IsFinite, after_sign, after_mantissa, after_letter, run_wrap, stops_front, stops_point, stops_after, stops_wrap, begins_as, begins_mantissa, begins_power, first_point}
 
 -- a grammar is left behind the part of a text that was read
 stopped : (bound : Bool) (s p rest : List ℕ) (at left : ℕ) → s ≡ p ++ rest → left ≡ length rest → at ≡ length s - left → Begins (Grammar bound) p → Stops (next bound) dead accepts (run (next bound) start p) rest → LeavesAt (Grammar bound) s at

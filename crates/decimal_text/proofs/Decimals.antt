@@ -1,21 +1,21 @@
 -- Decimals and bounds: where their reading stops.
-use Rattle.std.proofs.Common.{◌≡◌, ℕ, ◌+◌, ◌-◌, ◌<◌, ◌≤◌, ◌⊎◌, inl, inr, Bool, true, false, cond, ◌&&◌, ◌||◌, eqb, List, [], ◌∷◌, ◌++◌, length, refl, ap, sym, ◌∙◌, subst, arith}
+use Rattle.std.proofs.Common.{◌≡◌, ℕ, ◌<◌, ◌≤◌, inl, inr, Bool, true, false, cond, ◌&&◌, ◌||◌, eqb, List, [], ◌∷◌, ◌++◌, length, refl, ap, sym, ◌∙◌, subst, arith}
 use Rattle.std.specs.Prelude.{nat_lt}
 use Rattle.std.specs.Char.{digit_value}
-use Rattle.std.specs.Str.Parse.{AllDigits, IsNumeral, digits_value}
+use Rattle.std.specs.Str.Parse.{AllDigits, IsNumeral}
 use Rattle.std.proofs.lemmas.Bool.{lt-ltb, le-ltb, ne_eqb}
-use Rattle.std.proofs.lemmas.List.{append_assoc, append-nil, length-append}
+use Rattle.std.proofs.lemmas.List.{append_assoc, append-nil}
 use Rattle.decimal_text.specs.Head.{HasNoDigit, DoesNotBegin, IsBehind}
-use Rattle.decimal_text.specs.Sign.{Sign, absent, plus, minus, sign_text, is_minus}
-use Rattle.decimal_text.specs.Decimal.{Mantissa, plain, pointed, mantissa_text, mantissa_digits, Exponent, none, power, exponent_text, IsExponent, decimal_value, DecimalText, DecimalGrammar}
+use Rattle.decimal_text.specs.Sign.{Sign, absent, plus, minus, sign_text}
+use Rattle.decimal_text.specs.Decimal.{Mantissa, plain, pointed, mantissa_text, mantissa_digits, Exponent, none, power, exponent_text, IsExponent, decimal_value, DecimalGrammar}
 use Rattle.decimal_text.specs.Bound.{infinity, BoundGrammar}
-use Rattle.decimal_text.specs.Prefix.{Begins, LeavesAt}
-use Rattle.decimal_text.specs.Parts.{MantissaSplit, EndsMantissa}
-use Rattle.decimal_text.proofs.Numerals.{AllDigits-append, AllDigits-split}
-use Rattle.decimal_text.proofs.Leaving.{run, run-append, run-digits, Reads, Stops, leaves}
+use Rattle.decimal_text.specs.Prefix.{Begins}
+use Rattle.decimal_text.specs.Parts.{EndsMantissa}
+use Rattle.decimal_text.proofs.Numerals.{AllDigits-split}
+use Rattle.decimal_text.proofs.Leaving.{run, run-append, run-digits, Reads, Stops}
 use Rattle.decimal_text.proofs.Counts as tail
 use Rattle.decimal_text.proofs.CountTexts.{numeral_onward}
-use Rattle.decimal_text.proofs.WholeTexts.{is_sign, signs_apart, sign_is_sign, behind_sign}
+use Rattle.decimal_text.proofs.WholeTexts.{is_sign, signs_apart, sign_is_sign}
 
 pub data State : Type 0 where
   start : State

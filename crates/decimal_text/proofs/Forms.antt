@@ -1,6 +1,5 @@
 -- Shortest forms of sizes times powers of ten.
-use Rattle.std.proofs.Common.{◌≡◌, ◌≢◌, ℕ, zero, suc, ◌+◌, ◌*◌, ◌-◌, ◌%◌, ◌^◌, ◌<◌, ◌≤◌, ◌⊎◌, inl, inr, Bool, pos, negsuc, refl, ap, sym, ◌∙◌, subst, arith, lit<, lit≤}
-use Rattle.std.specs.Prelude.{unsigned_abs}
+use Rattle.std.proofs.Common.{◌≡◌, ◌≢◌, ℕ, suc, ◌+◌, ◌*◌, ◌-◌, ◌%◌, ◌^◌, ◌<◌, ◌≤◌, ◌⊎◌, inl, inr, Bool, pos, negsuc, ap, sym, ◌∙◌, subst, arith, lit<, lit≤}
 use Rattle.std.proofs.lemmas.Nat.{pow-add}
 use Rattle.rational.specs.Ratio.{Ratio, IsSame}
 use Rattle.rational.specs.Width.{most}

@@ -1,5 +1,5 @@
 -- Fractions whose parts are within the width.
-use Rattle.std.proofs.Common.{◌≡◌, ℕ, zero, suc, ◌*◌, ◌<◌, ◌≤◌, ℤ, pos, ◌*ℤ◌, refl, ap, sym, ◌∙◌, subst, arith, Option, Some, None}
+use Rattle.std.proofs.Common.{◌≡◌, ℕ, zero, suc, ◌*◌, ◌<◌, ◌≤◌, ℤ, pos, ◌*ℤ◌, refl, ap, sym, ◌∙◌, subst, arith, Option}
 use Rattle.std.specs.Prelude.{unsigned_abs, Result, Ok, Err, OnErr, IfOk, MatchOption}
 use Rattle.std.specs.Result.{result_ok}
 use Rattle.std.specs.Int.{◌∣◌}

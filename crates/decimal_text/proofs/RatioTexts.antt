@@ -1,19 +1,18 @@
 -- Texts of ratios.
-use Rattle.std.proofs.Common.{◌≡◌, ℕ, ◌+◌, ◌*◌, ◌-◌, ◌<◌, ◌≤◌, ◌⊎◌, inl, inr, Bool, true, false, List, [], ◌∷◌, ◌++◌, length, pos, ◌*ℤ◌, refl, ap, sym, ◌∙◌, subst, arith}
-use Rattle.std.specs.Prelude.{unsigned_abs}
+use Rattle.std.proofs.Common.{◌≡◌, ℕ, ◌+◌, ◌*◌, ◌-◌, ◌<◌, ◌≤◌, inr, Bool, true, false, List, [], ◌∷◌, ◌++◌, length, pos, ◌*ℤ◌, refl, ap, sym, ◌∙◌, subst, arith}
 use Rattle.std.specs.Char.{digit_value}
-use Rattle.std.specs.Str.Parse.{AllDigits, IsNumeral, digits_value, digits_value_after}
+use Rattle.std.specs.Str.Parse.{digits_value, digits_value_after}
 use Rattle.std.proofs.lemmas.Str.{digit_value_digit}
 use Rattle.std.proofs.lemmas.Str.Parse.{digit_from_value}
-use Rattle.rational.specs.Ratio.{Ratio, IsSame, IsNumber}
-use Rattle.rational.specs.Width.{most, IsWithin, IsReduced}
+use Rattle.rational.specs.Ratio.{Ratio, IsSame}
+use Rattle.rational.specs.Width.{most, IsReduced}
 use Rattle.rational.specs.Whole.{signed}
 use Rattle.rational.proofs.Signed.{unsigned_abs-signed}
 use Rattle.rational.proofs.Scaling.{same_multiple}
 use Rattle.rational.proofs.Reduced.{same_reduced}
-use Rattle.decimal_text.specs.Head.{HasNoDigit, DoesNotBegin, EndsPositive, PositiveSplit}
+use Rattle.decimal_text.specs.Head.{DoesNotBegin, PositiveSplit}
 use Rattle.decimal_text.specs.Sign.{optional}
-use Rattle.decimal_text.specs.Exact.{IsPositive, Under, absent, over, under_text, under_of, under_value, IsUnder, QuotientText, RatioText, RatioGrammar, UnderSplit, UnderStop, IsWideRatio, IsUnreduced}
+use Rattle.decimal_text.specs.Exact.{IsPositive, under_of, under_value, IsUnder, RatioText, RatioGrammar, UnderSplit, UnderStop, IsWideRatio, IsUnreduced}
 use Rattle.decimal_text.specs.Prefix.{LeavesAt}
 use Rattle.decimal_text.proofs.CountTexts.{no_more}
 use Rattle.decimal_text.proofs.Ratios.{IsUnmarked, front_leaves, under_leaves}

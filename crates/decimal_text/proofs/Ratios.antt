@@ -2,20 +2,20 @@
 use Rattle.std.proofs.Common.{◌≡◌, ℕ, ◌+◌, ◌*◌, ◌-◌, ◌<◌, ◌≤◌, ◌⊎◌, inl, inr, Bool, true, false, cond, eqb, List, [], ◌∷◌, ◌++◌, length, pos, refl, ap, sym, ◌∙◌, subst, arith}
 use Rattle.std.specs.Prelude.{nat_lt}
 use Rattle.std.specs.Char.{digit_value}
-use Rattle.std.specs.Str.Parse.{AllDigits, IsNumeral, digits_value}
+use Rattle.std.specs.Str.Parse.{AllDigits, digits_value}
 use Rattle.std.proofs.lemmas.Bool.{lt-ltb, le-ltb, ne_eqb}
 use Rattle.std.proofs.lemmas.Int.Digits.{digits_value_push}
 use Rattle.std.proofs.lemmas.Bool.Decides.{eqb_tells}
-use Rattle.std.proofs.lemmas.List.{append_assoc, append-nil, length-append}
-use Rattle.rational.specs.Ratio.{Ratio, whole}
+use Rattle.std.proofs.lemmas.List.{append_assoc, length-append}
+use Rattle.rational.specs.Ratio.{whole}
 use Rattle.rational.specs.Whole.{signed}
 use Rattle.decimal_text.specs.Head.{HasNoDigit, DoesNotBegin, EndsPositive}
 use Rattle.decimal_text.specs.Sign.{optional}
-use Rattle.decimal_text.specs.Exact.{IsPositive, Under, absent, over, under_text, IsUnder, under_value, QuotientText, RatioText, RatioGrammar, UnderMissing, UnderBroken, UnderStop}
+use Rattle.decimal_text.specs.Exact.{IsPositive, Under, absent, over, under_text, IsUnder, under_value, RatioGrammar, UnderStop}
 use Rattle.decimal_text.specs.Prefix.{Begins, LeavesAt}
 use Rattle.decimal_text.proofs.Numerals.{AllDigits-append}
 use Rattle.decimal_text.proofs.Leaving.{run, run-append, run-digits, Reads, Stops, leaves}
-use Rattle.decimal_text.proofs.CountTexts.{not_a_digit, numeral_onward}
+use Rattle.decimal_text.proofs.CountTexts.{not_a_digit}
 
 pub data State : Type 0 where
   start : State

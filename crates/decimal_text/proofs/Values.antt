@@ -1,14 +1,14 @@
 -- The value of a decimal's digits and exponent.
-use Rattle.std.proofs.Common.{◌≡◌, ◌≢◌, ℕ, ◌+◌, ◌*◌, ◌-◌, ◌%◌, ◌^◌, ◌<◌, ◌≤◌, ◌⊎◌, inl, inr, Bool, true, false, cond, List, [], ◌++◌, length, pos, refl, ap, sym, ◌∙◌, subst, arith, lit≤, Option, Some, None}
+use Rattle.std.proofs.Common.{◌≡◌, ◌≢◌, ℕ, ◌+◌, ◌*◌, ◌-◌, ◌%◌, ◌^◌, ◌<◌, ◌≤◌, inl, inr, Bool, true, false, cond, List, ◌++◌, pos, refl, ap, sym, ◌∙◌, subst, arith, lit≤, Option, Some, None}
 use Rattle.std.proofs.Math.Nat.{le-mul_of_pos_right}
 use Rattle.std.proofs.lemmas.Bool.Decides.{leb_tells}
 use Rattle.std.specs.Str.Parse.{digits_value, digits_value_after}
 use Rattle.std.proofs.lemmas.Nat.{pow-add}
-use Rattle.rational.specs.Ratio.{Ratio, IsSame}
+use Rattle.rational.specs.Ratio.{IsSame}
 use Rattle.rational.specs.Width.{most}
 use Rattle.rational.specs.Whole.{signed}
-use Rattle.rational.proofs.Signed.{same_form, unsigned_abs-signed}
-use Rattle.decimal_text.specs.Decimal.{powered, ShortestForm, HasFit, HasNoFit}
+use Rattle.rational.proofs.Signed.{same_form}
+use Rattle.decimal_text.specs.Decimal.{powered, HasFit, HasNoFit}
 use Rattle.decimal_text.specs.Parts.{IsSignificand}
 use Rattle.decimal_text.proofs.Numerals.{after-append}
 use Rattle.decimal_text.proofs.Powers.{ten_power, far, above_short}

@@ -1,7 +1,6 @@
 -- Texts of whole numbers.
 use Rattle.std.proofs.Common.{◌≡◌, ℕ, ◌-◌, ◌<◌, Bool, ◌||◌, List, [], ◌∷◌, ◌++◌, length, refl, ap, sym, ◌∙◌, subst, arith, eqb}
-use Rattle.std.specs.Char.{digit_value}
-use Rattle.std.specs.Str.Parse.{AllDigits, IsNumeral, digits_value}
+use Rattle.std.specs.Str.Parse.{AllDigits, digits_value}
 use Rattle.std.proofs.lemmas.Bool.{ne_eqb}
 use Rattle.std.proofs.lemmas.List.{append_assoc, length-append}
 use Rattle.rational.specs.Whole.{signed}
@@ -9,8 +8,8 @@ use Rattle.decimal_text.specs.Head.{HasNoDigit, IsBehind}
 use Rattle.decimal_text.specs.Sign.{Sign, absent, plus, minus, sign_text, is_minus}
 use Rattle.decimal_text.specs.Whole.{WholeText, WholeGrammar}
 use Rattle.decimal_text.specs.Prefix.{Begins, LeavesAt}
-use Rattle.decimal_text.proofs.Leaving.{run, Reads, Stops, leaves}
-use Rattle.decimal_text.proofs.Counts.{State, start, digits, dead, next, accepts, AreSigns, IsSign, HasNoSign, reads, stops}
+use Rattle.decimal_text.proofs.Leaving.{Reads, leaves}
+use Rattle.decimal_text.proofs.Counts.{start, dead, next, accepts, AreSigns, IsSign, HasNoSign, reads, stops}
 use Rattle.decimal_text.proofs.CountTexts.{not_a_digit, numeral_onward, no_more}
 
 abbrev pub is_sign : ℕ → Bool

@@ -1,5 +1,5 @@
 -- Exact numbers: a whole number, or two with `/` between them in lowest terms. This form is the project's own.
-use Rattle.std.specs.Prelude.{◌≡◌, ◌≢◌, ℕ, ◌≤◌, ◌==◌, pos, Bool, cond, List, [], ◌∷◌, ◌++◌, ◌⊎◌, length, ◌<◌, decimal}
+use Rattle.std.specs.Prelude.{◌≡◌, ℕ, ◌≤◌, ◌==◌, pos, Bool, cond, List, [], ◌∷◌, ◌++◌, ◌⊎◌, length, ◌<◌, decimal}
 use Rattle.std.specs.Fmt.{signed_decimal}
 use Rattle.std.specs.Str.Parse.{AllDigits, IsNumeral, digits_value}
 use Rattle.rational.specs.Ratio.{Ratio, whole}

@@ -1,8 +1,8 @@
 -- The parts of a decimal as they are read: what stands where, and where they end.
 use Rattle.std.specs.Prelude.{◌≡◌, ◌≢◌, ℕ, ◌*◌, ◌%◌, ◌^◌, ◌<◌, ◌≤◌, Bool, cond, List, [], ◌∷◌, ◌++◌, ◌⊎◌, length, Option, MatchOption}
-use Rattle.std.specs.Str.Parse.{AllDigits, IsNumeral, digits_value}
+use Rattle.std.specs.Str.Parse.{AllDigits, digits_value}
 use Rattle.rational.specs.Width.{most}
-use Rattle.decimal_text.specs.Sign.{Sign, sign_text, is_minus}
+use Rattle.decimal_text.specs.Sign.{Sign, sign_text}
 use Rattle.decimal_text.specs.Head.{DoesNotBegin, HasNoDigit, IsBehind}
 use Rattle.decimal_text.specs.Decimal.{Mantissa, plain, pointed, mantissa_text, mantissa_digits, places, Exponent, exponent_text, IsExponent, up, down}
 

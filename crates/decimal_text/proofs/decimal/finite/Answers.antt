@@ -1,7 +1,6 @@
-use Rattle.std.proofs.Common.{◌≡◌, ◌++◌, ◌+◌, cond, length, true, false, ap, sym, subst, refl}
+use Rattle.std.proofs.Common.{◌++◌, ◌+◌, cond, length, true, false, sym, subst, refl}
 use Rattle.std.specs.Str.Parse.{digits_value}
 use Rattle.decimal_text.specs.Decimal.{DecimalText, powered}
-use Rattle.decimal_text.specs.Sign.{is_minus}
 use Rattle.decimal_text.proofs.DecimalTexts.{decimal_leaves, decimal_made}
 use Rattle.decimal_text.proofs.decimal.finite.Goals as goal
 

@@ -1,4 +1,4 @@
-use Rattle.std.proofs.Common.{◌≡◌, ◌∷◌, ◌++◌, [], length, ap, sym, ◌∙◌, refl, inl, inr, arith}
+use Rattle.std.proofs.Common.{◌∷◌, [], length, ap, sym, ◌∙◌, refl, inr, arith}
 use Rattle.std.proofs.lemmas.Bool.{eqb-false}
 use Rattle.decimal_text.proofs.Splits.{strip_some}
 use Rattle.decimal_text.proofs.decimal.infinity_left.Goals as goal

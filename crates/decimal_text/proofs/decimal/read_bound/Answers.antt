@@ -1,4 +1,4 @@
-use Rattle.std.proofs.Common.{◌≡◌, ◌-◌, length, ap, sym, ◌∙◌}
+use Rattle.std.proofs.Common.{◌-◌, length, ap, sym, ◌∙◌}
 use Rattle.decimal_text.proofs.Splits.{strip_some}
 use Rattle.decimal_text.proofs.DecimalTexts.{infinity_leaves}
 use Rattle.decimal_text.proofs.decimal.read_bound.Goals as goal

@@ -1,4 +1,4 @@
-use Rattle.std.proofs.Common.{◌<◌, ◌≤◌, ◌+◌, take, lit≤, arith}
+use Rattle.std.proofs.Common.{◌<◌, ◌+◌, lit≤, arith}
 use Rattle.std.specs.Str.Parse.{digits_value}
 use Rattle.std.proofs.lemmas.Str.Parse.{digit_at, digits_value-take-le}
 use Rattle.decimal_text.proofs.Numerals.{number_more}

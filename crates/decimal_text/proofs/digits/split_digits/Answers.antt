@@ -1,5 +1,4 @@
-use Rattle.std.proofs.Common.{◌<◌, get_or, arith}
-use Rattle.std.specs.Char.{digit_value}
+use Rattle.std.proofs.Common.{arith}
 use Rattle.decimal_text.proofs.Numerals.{digits_more}
 use Rattle.decimal_text.proofs.digits.split_digits.Goals as goal
 

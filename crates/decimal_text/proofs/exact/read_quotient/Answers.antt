@@ -1,4 +1,4 @@
-use Rattle.std.proofs.Common.{◌≡◌, ◌<◌, length, inl, inr, sym, refl, ◌∙◌, arith}
+use Rattle.std.proofs.Common.{◌<◌, length, inl, inr, sym, refl, ◌∙◌, arith}
 use Rattle.std.proofs.lemmas.Bool.{eqb-true, eqb-false}
 use Rattle.fraction.specs.Frac.{ratio}
 use Rattle.decimal_text.proofs.RatioTexts.{top_missing, under_missing, wide_top, wide_bottom, ratio_made, same_top, unreduced}

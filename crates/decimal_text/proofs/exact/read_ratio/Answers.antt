@@ -1,7 +1,6 @@
-use Rattle.std.proofs.Common.{◌≡◌, length, inl, sym, subst, arith, refl, ◌∷◌, ap, ◌∙◌}
+use Rattle.std.proofs.Common.{length, inl, sym, subst, arith, refl, ◌∷◌, ap, ◌∙◌}
 use Rattle.std.proofs.lemmas.Bool.{eqb-true, eqb-false}
 use Rattle.decimal_text.specs.Head.{DoesNotBegin}
-use Rattle.decimal_text.proofs.CountTexts.{no_more}
 use Rattle.decimal_text.proofs.Splits.{strip_none, strip_some, is_nothing}
 use Rattle.decimal_text.proofs.Ratios.{zero_leaves}
 use Rattle.decimal_text.proofs.exact.read_ratio.Goals as goal

@@ -1,4 +1,4 @@
-use Rattle.std.proofs.Common.{◌≡◌, refl, sym, subst}
+use Rattle.std.proofs.Common.{refl, sym, subst}
 use Rattle.std.proofs.lemmas.List.{append-nil}
 use Rattle.decimal_text.specs.Head.{DoesNotBegin}
 use Rattle.decimal_text.specs.Decimal.{plain, pointed}

@@ -1,4 +1,4 @@
-use Rattle.std.proofs.Common.{◌≡◌, ◌-◌, ◌^◌, ◌<◌, inr, arith, refl}
+use Rattle.std.proofs.Common.{◌-◌, inr, arith}
 use Rattle.rational.specs.Ratio.{IsSame}
 use Rattle.rational.specs.Whole.{signed}
 use Rattle.fraction.specs.Frac.{ratio}

@@ -1,4 +1,4 @@
-use Rattle.std.proofs.Common.{◌+◌, ◌*◌, ◌-◌, get_or, arith, subst, sym}
+use Rattle.std.proofs.Common.{arith, subst, sym}
 use Rattle.std.proofs.lemmas.Str.Parse.{digit_at}
 use Rattle.decimal_text.specs.Parts.{IsSignificand}
 use Rattle.decimal_text.proofs.Numerals.{after_more, is_digit}

@@ -1,8 +1,8 @@
-use Rattle.std.proofs.Common.{rules, ◌≡◌, ◌≢◌, ◌+◌, ◌*◌, ◌%◌, ◌^◌, ◌<◌, ◌≤◌, ◌++◌, cond, length, Some, None, arith, ap, sym, subst, ◌∙◌}
+use Rattle.std.proofs.Common.{rules, ◌++◌, length, sym, subst}
 use Rattle.std.specs.Prelude.{MatchOption}
 use Rattle.std.specs.Str.Parse.{digits_value}
 use Rattle.fraction.specs.Frac.{ratio}
-use Rattle.decimal_text.specs.Decimal.{powered, HasFit, HasNoFit}
+use Rattle.decimal_text.specs.Decimal.{HasFit, HasNoFit}
 use Rattle.decimal_text.proofs.Values.{all_digits, none_wide, size_of, zero_value, zero_fit, far_wide, down_same, up_same}
 use Rattle.decimal_text.proofs.power.value.Goals as goal
 

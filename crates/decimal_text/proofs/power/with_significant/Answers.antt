@@ -1,4 +1,4 @@
-use Rattle.std.proofs.Common.{◌+◌, ◌*◌, Some, None, arith, subst, sym}
+use Rattle.std.proofs.Common.{◌+◌, ◌*◌, None, arith, subst, sym}
 use Rattle.decimal_text.specs.Parts.{IsSignificand}
 use Rattle.decimal_text.proofs.Powers.{past_zero, past_digit, next_kept, next_digit}
 use Rattle.decimal_text.proofs.power.with_significant.Goals as goal
