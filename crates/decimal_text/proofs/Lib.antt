@@ -1,0 +1,14 @@
+pub mod Numerals
+pub mod Leaving
+pub mod Counts
+pub mod CountTexts
+pub mod WholeTexts
+pub mod Splits
+pub mod Powers
+pub mod Quotients
+pub mod Forms
+pub mod Values
+pub mod Decimals
+pub mod DecimalTexts
+pub mod Ratios
+pub mod RatioTexts

@@ -1,0 +1,12 @@
+pub mod Space
+pub mod Prefix
+pub mod Sign
+pub mod Head
+pub mod Count
+pub mod Whole
+pub mod Decimal
+pub mod Bound
+pub mod Parts
+pub mod Exact
+pub mod Plain
+pub mod Fault

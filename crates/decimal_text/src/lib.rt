@@ -1,0 +1,29 @@
+//! The texts of numbers, both ways.
+//!
+//! Decimals have the lexical form of a double (XML Schema part 2, section 3.2.5), bounds the infinities besides;
+//! counts and whole numbers are that page's nonNegativeInteger and integer. White space round these is dropped. Ratios
+//! are this project's own form, `-2/3`, in lowest terms and without white space. A value is exact or refused, never
+//! rounded, and digits of any length are read without a wider number. A text that is none is refused where its longest
+//! prefix ends that begins some text of the grammar. Reading takes no memory. After want of memory the text that was
+//! to be written to is as before.
+#![tactic(auto)]
+
+mod count;
+mod decimal;
+mod digits;
+mod exact;
+mod fault;
+mod parts;
+mod power;
+mod ratio;
+mod space;
+#[cfg(test)]
+mod tests;
+mod whole;
+
+pub use count::read_count;
+pub use decimal::{read_bound, read_decimal};
+pub use exact::read_ratio;
+pub use fault::DecimalFault;
+pub use ratio::write_ratio;
+pub use whole::read_whole;

@@ -1,0 +1,43 @@
+ghost use Rattle.std.specs.Prelude.{◌≡◌, ◌≤◌, IfOk, IfErr};
+ghost use Rattle.rational.specs.Whole.{signed};
+ghost use Rattle.decimal_text.specs.Space.{trimmed};
+ghost use Rattle.decimal_text.specs.Count.{most_count};
+ghost use Rattle.decimal_text.specs.Whole.{WholeGrammar, IsWhole, IsWideWhole};
+ghost use Rattle.decimal_text.specs.Fault.{Refuses};
+
+use crate::count::MOST_COUNT;
+use crate::digits::{number, split_digits, split_sign};
+use crate::fault::DecimalFault;
+use crate::space::trim;
+
+/// The whole number of this sign and size.
+fn signed(is_negative: bool, size: u128) -> i64
+    requires { size ≤ most_count }
+    ensures { result ≡ signed is_negative size }
+{
+    if is_negative {
+        -(size as i64)
+    } else {
+        size as i64
+    }
+}
+
+/// The whole number that the text writes: an optional sign and digits, white space round them dropped (XML Schema
+/// part 2, integer). `Wide` where its size passes `2^63 - 1`.
+pub fn read_whole(text: &[u8]) -> Result<i64, DecimalFault>
+    ensures ok { IfOk result (λ z. IsWhole text.now z) }
+    ensures err { IfErr result (Refuses WholeGrammar (IsWideWhole text.now) (trimmed text.now)) }
+{
+    let core = trim(text);
+    let (is_negative, unsigned) = split_sign(core);
+    let (digits, rest) = split_digits(unsigned);
+    if digits.is_empty() || !rest.is_empty() {
+        return Err(DecimalFault::NotNumber {
+            at: core.len() - rest.len(),
+        });
+    }
+    match number(digits, MOST_COUNT) {
+        Some(size) => Ok(signed(is_negative, size)),
+        None => Err(DecimalFault::Wide),
+    }
+}
