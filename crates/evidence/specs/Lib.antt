@@ -8,3 +8,4 @@ pub mod Pending
 pub mod OneDenominator
 pub mod Examples
 pub mod Columns
+pub mod Rows
