@@ -1,8 +1,19 @@
-ghost use Rattle.std.specs.Prelude.{◌≡◌, ◌≤◌, ◌↔◌, length, IsSome, IfSome};
+ghost use Rattle.std.specs.Prelude.{◌≡◌, ◌↔◌, ℕ, length, nat_eq, IsSome, IfSome, MatchOption, IfOk, OnErr};
+ghost use Rattle.std.specs.List.{filter};
+ghost use Rattle.rational.specs.Ratio.{IsSame};
+ghost use Rattle.fraction.specs.Frac.{ratio, ratios};
+ghost use Rattle.evidence.specs.Point.{activity, objective};
+ghost use Rattle.evidence.specs.Width.{RowFits, GoalFits};
+ghost use Rattle.evidence.specs.Instance.{height};
+ghost use Rattle.evidence.specs.Columns.{IsFirstWide};
 
 use crate::checks::{are_ascending, are_inside, rows_have_ends, vars_have_ends};
+use crate::ends::{first_out, is_between};
+use crate::feasible::Feas;
 use crate::parts::{Goal, Row, Var};
-use fraction::Entry;
+use crate::rows::entries_of;
+use crate::sums::{sum_entries, sum_products};
+use fraction::{Entry, Frac, Wide};
 use std::marker::Model;
 
 /// The most variables of an instance.
@@ -34,7 +45,9 @@ impl Model for Instance {
 }
 
 impl Instance {
-    ghost use Rattle.instance.specs.Parts.{IsValid};
+    ghost use Rattle.instance.specs.Parts.{IsValid, IsAscending};
+    ghost use Rattle.instance.specs.Program.{program};
+    ghost use Rattle.instance.specs.Feasible.{RowsKeptBelow, IsFirstRowOut, IsFirstRowWide, Tells};
 
     /// The instance of these parts: none exactly where they aren't valid.
     pub fn of(vars: Vec<Var>, rows: Vec<Row>, entries: Vec<Entry>, goal: Goal) -> Option<Instance>
@@ -80,5 +93,74 @@ impl Instance {
         ensures valid { IsValid self.now }
     {
         &self.goal
+    }
+
+    /// The entries of one row, ascending by column.
+    pub fn row_entries(&self, row: u32) -> &[Entry]
+        ensures entries { result.now ≡ filter (λ e. nat_eq e.row row) self.now.entries }
+        ensures ascending { IsAscending result.now }
+        ensures valid { IsValid self.now }
+    {
+        entries_of(self.entries(), row)
+    }
+
+    /// A row's activity at a point: the sum, from 0, of its coefficients, each times its variable, in ascending order.
+    ///
+    /// [`Wide`] exactly where one of these products or sums doesn't fit; terms with a factor 0 are left out.
+    pub fn activity_at(&self, row: u32, point: &[Frac]) -> Result<Frac, Wide>
+        requires { length point.now ≡ length self.now.vars }
+        ensures ok { IfOk result (λ r. IsSame (ratio r) (activity (program self.now) (ratios point.now) row)) }
+        ensures fits { IfOk result (λ _. RowFits (program self.now) (ratios point.now) row) }
+        ensures wide { OnErr result (RowFits (program self.now) (ratios point.now) row → ⊥) }
+    {
+        let row = self.row_entries(row);
+        sum_entries(row, point)
+    }
+
+    /// The value of the goal at a point: the sum, from the constant, of the costs, each times its variable.
+    ///
+    /// [`Wide`] exactly where one of these products or sums doesn't fit; terms with a factor 0 are left out.
+    pub fn objective_at(&self, point: &[Frac]) -> Result<Frac, Wide>
+        requires { length point.now ≡ length self.now.vars }
+        ensures ok { IfOk result (λ r. IsSame (ratio r) (objective (program self.now) (ratios point.now))) }
+        ensures fits { IfOk result (λ _. GoalFits (program self.now) (ratios point.now)) }
+        ensures wide { OnErr result (GoalFits (program self.now) (ratios point.now) → ⊥) }
+    {
+        let goal = self.goal();
+        sum_products(goal.constant, goal.costs.as_slice(), point)
+    }
+
+    /// The first row that the point doesn't keep.
+    fn first_row_out(&self, point: &[Frac]) -> Result<Option<usize>, Wide>
+        requires { length point.now ≡ length self.now.vars }
+        ensures found { IfOk result (λ o. MatchOption o (RowsKeptBelow (program self.now) (ratios point.now) (height (program self.now))) (IsFirstRowOut (program self.now) (ratios point.now))) }
+        ensures wide { OnErr result ((i : ℕ) × IsFirstRowWide (program self.now) (ratios point.now) i) }
+    {
+        let rows = self.rows();
+        for i in 0..rows.len() {
+            let activity = self.activity_at(i as u32, point)?;
+            if !is_between(rows[i].lb, rows[i].ub, activity) {
+                return Ok(Some(i));
+            }
+        }
+        Ok(None)
+    }
+
+    /// Whether a point is feasible: each variable, then each row is between its ends, and whole variables are whole.
+    ///
+    /// [`Wide`] exactly where the first check that fails is a row's whose sum doesn't fit.
+    pub fn feasible(&self, point: &[Frac]) -> Result<Feas, Wide>
+        requires { length point.now ≡ length self.now.vars }
+        ensures found { IfOk result (Tells (program self.now) (ratios point.now)) }
+        ensures wide { OnErr result (IsFirstWide (program self.now) (ratios point.now)) }
+    {
+        let vars = self.vars();
+        if let Some(j) = first_out(vars, point) {
+            return Ok(Feas::No { col: j as u32 });
+        }
+        match self.first_row_out(point)? {
+            Some(i) => Ok(Feas::No { col: (vars.len() + i) as u32 }),
+            None => Ok(Feas::Yes),
+        }
     }
 }

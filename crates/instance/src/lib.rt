@@ -2,10 +2,16 @@
 #![tactic(auto)]
 
 mod checks;
+mod ends;
+mod feasible;
 mod instance;
 mod laws;
 mod parts;
+mod rows;
+mod sums;
 
+pub use feasible::Feas;
 pub use instance::{Instance, MAX_ENTRIES, MAX_ROWS, MAX_VARS};
 pub use laws::programs_have_numbers;
 pub use parts::{Costs, Goal, Row, Sense, Var};
+pub use sums::{add_product, sum_entries, sum_products};
