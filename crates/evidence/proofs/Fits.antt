@@ -10,6 +10,7 @@ use Rattle.std.proofs.Math.Nat.{dvd-mul_left}
 use Rattle.evidence.specs.Sums.{IsWhole, total}
 use Rattle.evidence.specs.Width.{TermFits, StatedFits}
 use Rattle.evidence.proofs.Numbers.{◌≈◌}
+use Rattle.evidence.proofs.Totals.{total-same}
 
 pub one_divides : (n : ℕ) → 1 ∣ n
 one_divides n = subst (λ m. 1 ∣ m) (omega arith) (dvd-mul_left 1 n)
@@ -38,3 +39,9 @@ term_same s t a x e p fits =
 
 pub stated_more : (start : Ratio) (n : ℕ) (a x : ℕ → Ratio) → StatedFits start n a x → TermFits (total start n (λ k. product (a k) (x k))) (a n) (x n) → StatedFits start (n + 1) a x
 stated_more start n a x before here = record { steps = below_more (λ j. TermFits (total start j (λ k. product (a k) (x k))) (a j) (x j)) n before.steps here }
+
+-- equal factors, equal sums
+pub stated_same : (s : Ratio) (n : ℕ) (a b x : ℕ → Ratio) → ((j : ℕ) → a j ≡ b j) → StatedFits s n a x → StatedFits s n b x
+stated_same s n a b x e f = record { steps = λ j h.
+    subst (λ t. TermFits t (b j) (x j)) (total-same s j (λ k. product (a k) (x k)) (λ k. product (b k) (x k)) (λ k. ap (λ v. product v (x k)) (e k)))
+    (subst (λ v. TermFits (total s j (λ k. product (a k) (x k))) v (x j)) (e j) (f.steps j h)) }

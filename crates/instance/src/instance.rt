@@ -138,8 +138,9 @@ impl Instance {
     {
         let rows = self.rows();
         for i in 0..rows.len() {
+            let row = rows[i];
             let activity = self.activity_at(i as u32, point)?;
-            if !is_between(rows[i].lb, rows[i].ub, activity) {
+            if !is_between(row.lb, row.ub, activity) {
                 return Ok(Some(i));
             }
         }
