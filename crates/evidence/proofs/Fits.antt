@@ -42,6 +42,8 @@ stated_more start n a x before here = record { steps = below_more (λ j. TermFit
 
 -- equal factors, equal sums
 pub stated_same : (s : Ratio) (n : ℕ) (a b x : ℕ → Ratio) → ((j : ℕ) → a j ≡ b j) → StatedFits s n a x → StatedFits s n b x
-stated_same s n a b x e f = record { steps = λ j h.
-    subst (λ t. TermFits t (b j) (x j)) (total-same s j (λ k. product (a k) (x k)) (λ k. product (b k) (x k)) (λ k. ap (λ v. product v (x k)) (e k)))
-    (subst (λ v. TermFits (total s j (λ k. product (a k) (x k))) v (x j)) (e j) (f.steps j h)) }
+stated_same s n a b x e f = record {
+  steps = λ j h.
+      subst (λ t. TermFits t (b j) (x j)) (total-same s j (λ k. product (a k) (x k)) (λ k. product (b k) (x k)) (λ k. ap (λ v. product v (x k)) (e k)))
+      (subst (λ v. TermFits (total s j (λ k. product (a k) (x k))) v (x j)) (e j) (f.steps j h));
+}

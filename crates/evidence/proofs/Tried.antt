@@ -2,14 +2,14 @@
 use Rattle.std.proofs.Common.{◌≡◌, ℕ, zero, suc, ◌+◌, ◌<◌, ◌≤◌, ℤ, pos, negsuc, ◌+ℤ◌, ◌*ℤ◌, IsTrue, List, [], ◌∷◌, length, arith, lit<, lit≤, refl, sym, ◌∙◌, ap, subst}
 use Rattle.std.specs.Prelude.{unsigned_abs}
 use Rattle.std.specs.Int.{IsGcd, ◌∣◌}
-use Rattle.std.proofs.Math.Nat.{dvd-mul_left, eq-one_of_dvd-one}
+use Rattle.std.proofs.Math.Nat.{eq-one_of_dvd-one}
 use Rattle.std.proofs.Math.IntN.{*ℤ_comm}
 use Rattle.std.specs.List.{All}
 use Rattle.std.proofs.lemmas.Int.{ints}
 use Rattle.std.proofs.lemmas.List.{length-append}
 use Rattle.std.proofs.lemmas.List.Elements.{All-cons, All-nil}
 use Rattle.rational.specs.Ratio.{Ratio, IsNumber, whole, product, IsSame}
-use Rattle.rational.specs.Width.{most, AreFourWithin, SumFits, IsReduced}
+use Rattle.rational.specs.Width.{most, AreFourWithin, SumFits}
 use Rattle.rational.proofs.Scaling.{IsSame-trans}
 use Rattle.rational.proofs.Reduced.{same_reduced}
 use Rattle.evidence.specs.Sums.{none, IsWhole, total}

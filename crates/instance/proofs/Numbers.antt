@@ -1,10 +1,8 @@
 -- The numbers of an instance's program.
-use Rattle.std.proofs.Common.{◌<◌, IfSome, List, slice_index_or}
-use Rattle.std.specs.List.{All}
+use Rattle.std.proofs.Common.{IfSome, slice_index_or}
 use Rattle.std.proofs.lemmas.List.Elements.{All-map}
 use Rattle.rational.specs.Ratio.{IsNumber}
 use Rattle.fraction.specs.Frac.{ratio}
-use Rattle.fraction.specs.declared.frac.Frac.{Frac}
 use Rattle.fraction.specs.declared.ends.End.{End}
 use Rattle.fraction.specs.declared.ends.End.TheVariants.{NegInf, At, Inf}
 use Rattle.evidence.specs.Instance.{IsInstance, HasNumbers}

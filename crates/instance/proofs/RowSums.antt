@@ -1,5 +1,5 @@
 -- A row's sum over its entries is its activity.
-use Rattle.std.proofs.Common.{◌≡◌, ℕ, zero, suc, ◌+◌, ◌<◌, Bool, true, false, cond, nat_eq, List, [], ◌∷◌, length, get_or, slice_index_or, map, arith, refl, sym, ◌∙◌, ap, subst, ⊎_elim}
+use Rattle.std.proofs.Common.{◌≡◌, ℕ, zero, suc, ◌+◌, ◌<◌, Bool, true, false, cond, nat_eq, List, [], ◌∷◌, length, slice_index_or, arith, refl, sym, ◌∙◌, ap, subst, ⊎_elim}
 use Rattle.std.specs.List.{All, filter}
 use Rattle.std.proofs.lemmas.Bool.{eqb-true}
 use Rattle.std.proofs.lemmas.List.{get_or-map, length-map}
@@ -19,7 +19,7 @@ use Rattle.evidence.proofs.Totals.{total-number, total-same}
 use Rattle.evidence.proofs.Columns.{by_lt, none-number, entry-number}
 use Rattle.evidence.proofs.Fits.{stated_same}
 use Rattle.evidence.proofs.Rows.{part, coefficient, entry_filter, row_sum, row_fits, fits_row}
-use Rattle.instance.specs.Parts.{Parts, IsValid, IsInside, IsBefore, IsAscending}
+use Rattle.instance.specs.Parts.{Parts, IsValid, IsAscending}
 use Rattle.instance.specs.Program.{entry, entries, variable, program}
 use Rattle.instance.proofs.Terms.{factors-number, places-number, ratios-number}
 

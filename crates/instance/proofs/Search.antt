@@ -1,14 +1,14 @@
 -- What the search for the first column that a point doesn't keep has seen.
-use Rattle.std.proofs.Common.{◌≡◌, ℕ, ◌+◌, ◌<◌, false, List, length, get_or, slice_index_or, map, arith, refl, sym, ◌∙◌, ap, subst}
+use Rattle.std.proofs.Common.{◌≡◌, ℕ, ◌+◌, ◌<◌, List, length, get_or, slice_index_or, map, arith, sym, ◌∙◌, ap, subst}
 use Rattle.std.specs.List.{All}
 use Rattle.std.proofs.lemmas.List.{get_or-map, length-map}
 use Rattle.std.proofs.lemmas.List.Elements.{All-map}
-use Rattle.rational.specs.Ratio.{Ratio, IsNumber, IsSame}
+use Rattle.rational.specs.Ratio.{IsNumber, IsSame}
 use Rattle.fraction.specs.Frac.{ratio, ratios}
 use Rattle.fraction.specs.declared.frac.Frac.{Frac}
 use Rattle.evidence.specs.Instance as Of
 use Rattle.evidence.specs.Point.{value_at, activity, IsBetween}
-use Rattle.evidence.specs.Columns.{Keeps, KeepsRow, KeepsBelow, IsFirstWide}
+use Rattle.evidence.specs.Columns.{Keeps, KeepsBelow, IsFirstWide}
 use Rattle.evidence.proofs.Numbers.{◌≈◌, ≈-sym}
 use Rattle.evidence.proofs.Columns.{activity-number}
 use Rattle.evidence.proofs.Rays.{between_same}

@@ -1,13 +1,13 @@
 -- One term of a sum of fractions, and elements of lists of fractions.
-use Rattle.std.proofs.Common.{◌≡◌, ℕ, ◌+◌, ◌*◌, ◌<◌, ◌⊎◌, inl, inr, ℤ, pos, ◌+ℤ◌, ◌*ℤ◌, IfOk, OnErr, Ok, Err, List, length, get_or, slice_index_or, refl, sym, ◌∙◌, ap, ap₂, subst, mul_comm, arith}
+use Rattle.std.proofs.Common.{◌≡◌, ℕ, ◌<◌, ◌⊎◌, inl, inr, pos, ◌*ℤ◌, IfOk, OnErr, Ok, Err, List, length, get_or, slice_index_or, refl, sym, ◌∙◌, ap, subst, mul_comm, arith}
 use Rattle.std.specs.declared.result.Result.{Result}
 use Rattle.std.specs.List.{All}
 use Rattle.std.proofs.Math.IntN.{*ℤ_comm, zero-*ℤ}
 use Rattle.std.proofs.lemmas.Int.{ints}
-use Rattle.std.proofs.lemmas.List.{get_or-map, length-map}
+use Rattle.std.proofs.lemmas.List.{get_or-map}
 use Rattle.std.proofs.lemmas.List.Elements.{All-map}
 use Rattle.rational.specs.Ratio.{Ratio, IsNumber, IsSame, sum, product}
-use Rattle.rational.specs.Width.{ReducedFits, SumFits}
+use Rattle.rational.specs.Width.{SumFits}
 use Rattle.rational.proofs.Scaling.{times-times}
 use Rattle.fraction.specs.Frac.{ratio, ratios}
 use Rattle.fraction.specs.declared.frac.Frac.{Frac}

@@ -1,5 +1,5 @@
 -- What the search for the first column that a point doesn't keep finds.
-use Rattle.std.specs.Prelude.{◌≡◌, ℕ, ◌<◌, ◌⊎◌, false, Option, List, length, map, get_or}
+use Rattle.std.specs.Prelude.{ℕ, ◌<◌, false, List, length, map, get_or}
 use Rattle.rational.specs.Ratio.{Ratio}
 use Rattle.fraction.specs.Frac.{ratios}
 use Rattle.fraction.specs.declared.frac.Frac.{Frac}

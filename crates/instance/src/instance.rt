@@ -54,10 +54,18 @@ impl Instance {
         ensures valid { IsSome result ↔ IsValid (record { vars = vars.items; rows = rows.items; entries = entries.items; goal = goal }) }
         ensures parts { IfSome result (λ i. i ≡ record { vars = vars.items; rows = rows.items; entries = entries.items; goal = goal }) }
     {
-        let fits = vars.len() <= MAX_VARS && rows.len() <= MAX_ROWS && entries.len() <= MAX_ENTRIES && goal.costs.len() == vars.len();
+        let fits = vars.len() <= MAX_VARS
+            && rows.len() <= MAX_ROWS
+            && entries.len() <= MAX_ENTRIES
+            && goal.costs.len() == vars.len();
         let ends = vars_have_ends(&vars) && rows_have_ends(&rows);
         if fits && ends && are_ascending(&entries) && are_inside(&entries, rows.len(), vars.len()) {
-            Some(Instance { vars, rows, entries, goal })
+            Some(Instance {
+                vars,
+                rows,
+                entries,
+                goal,
+            })
         } else {
             None
         }
@@ -160,7 +168,9 @@ impl Instance {
             return Ok(Feas::No { col: j as u32 });
         }
         match self.first_row_out(point)? {
-            Some(i) => Ok(Feas::No { col: (vars.len() + i) as u32 }),
+            Some(i) => Ok(Feas::No {
+                col: (vars.len() + i) as u32,
+            }),
             None => Ok(Feas::Yes),
         }
     }

@@ -1,6 +1,6 @@
-use Rattle.std.proofs.Common.{◌<◌, ℕ, false, List, length, refl, sym, ap, subst, below_more, ◌∙◌, arith}
+use Rattle.std.proofs.Common.{◌<◌, false, length, refl, sym, ap, subst, below_more, ◌∙◌, arith}
 use Rattle.std.proofs.lemmas.List.{get_or-map}
-use Rattle.fraction.specs.Frac.{ratio, ratios}
+use Rattle.fraction.specs.Frac.{ratios}
 use Rattle.evidence.specs.Instance as Of
 use Rattle.evidence.specs.Point.{value_at}
 use Rattle.evidence.specs.Columns.{Keeps}
