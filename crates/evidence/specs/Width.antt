@@ -5,7 +5,7 @@ use Rattle.rational.specs.Width.{ReducedFits, SumFits}
 use Rattle.evidence.specs.Sums.{none, total}
 use Rattle.evidence.specs.Instance.{Instance, width, height, cost_at, entry_at, coefficient_at, minimising}
 use Rattle.evidence.specs.Point.{value_at}
-use Rattle.evidence.specs.Cases.{Multiplier, multiplier_at, end_of, or_none, Tree, Clash, Farkas, Bound, Split, at_most, at_least, Node, preorder, Shows}
+use Rattle.evidence.specs.Cases.{Multiplier, multiplier_at, end_of, or_none, Tree, Clash, Farkas, Bound, Split, at_most, at_least, Node, Proves}
 
 -- s and the product of a and x: where neither factor is 0, the product fits, and so does the sum; else nothing is added
 pub record TermFits (s a x : Ratio) : Type 0 where
@@ -54,9 +54,7 @@ TreeFits I (Farkas ms) = LeafFits I none ms
 TreeFits I (Bound ms) = LeafFits I (minimising I I.goal.constant) ms
 TreeFits I (Split j k a b) = TreeFits (at_most I j k) a × TreeFits (at_least I j (k +ℤ pos 1)) b
 
--- the list is that of a tree that shows it by sums that fit
+-- the list is that of a tree that shows it, by sums that fit
 pub record ProvesWithin (I : Instance) (nodes : List Node) (z : Option Ratio) : Type 0 where
-  pub tree : Tree
-  pub listed : nodes ≡ preorder tree
-  pub shows : Shows I tree z
-  pub fits : TreeFits I tree
+  pub proves : Proves I nodes z
+  pub fits : TreeFits I proves.tree
