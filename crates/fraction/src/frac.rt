@@ -30,8 +30,10 @@ impl Frac {
     ghost use Rattle.rational.specs.Whole.{signed};
     ghost use Rattle.fraction.specs.Frac.{ratio};
 
+    /// 0.
     pub const ZERO: Frac = Frac { numer: 0, denom: 1 };
 
+    /// 1.
     pub const ONE: Frac = Frac { numer: 1, denom: 1 };
 
     /// The fraction of these reduced parts.

@@ -17,5 +17,5 @@ mod whole;
 
 pub use ends::{End, Entry};
 pub use frac::{Frac, MAX, Wide};
-pub use laws::equal_fractions;
+pub use laws::{equal_fractions, exact_results, fractions_are_ordered};
 pub use whole::lcm;
