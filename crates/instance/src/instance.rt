@@ -25,7 +25,7 @@ pub const MAX_ROWS: usize = 1_000;
 /// The most entries of an instance's matrix.
 pub const MAX_ENTRIES: usize = 100_000;
 
-/// A linear or integer program.
+/// A linear or integer program, which contracts see as its parts.
 #[derive(Debug, Drop)]
 pub struct Instance {
     vars: Vec<Var>,
@@ -49,7 +49,11 @@ impl Instance {
     ghost use Rattle.instance.specs.Program.{program};
     ghost use Rattle.instance.specs.Feasible.{RowsKeptBelow, IsFirstRowOut, IsFirstRowWide, Tells};
 
-    /// The instance of these parts: none exactly where they aren't valid.
+    /// The instance of these parts.
+    ///
+    /// None exactly where they aren't valid: more than [`MAX_VARS`] variables, [`MAX_ROWS`] rows or [`MAX_ENTRIES`]
+    /// entries; a number of costs that isn't that of the variables; entries that aren't strictly ascending by row and
+    /// column, past the rows or columns, or 0; a lower end of infinity or an upper one of minus infinity.
     pub fn of(vars: Vec<Var>, rows: Vec<Row>, entries: Vec<Entry>, goal: Goal) -> Option<Instance>
         ensures valid { IsSome result ↔ IsValid (record { vars = vars.items; rows = rows.items; entries = entries.items; goal = goal }) }
         ensures parts { IfSome result (λ i. i ≡ record { vars = vars.items; rows = rows.items; entries = entries.items; goal = goal }) }
