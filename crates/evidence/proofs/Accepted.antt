@@ -40,9 +40,9 @@ accepted I (Optimal x v nodes) good a =
     let e : v ≈ objective I x = record { left = a.0.number; right = objective-number I good x a.0.feasible; is = a.0.value } in (
       a.0.feasible,
       λ y f better. none_better I.goal.sense v (objective I x) (objective I y) e (objective-number I good y f)
-          (shown a.2.proves.tree I (Some (minimising I v)) (minimising-number I v a.0.number) good a.2.proves.shows y f) better,
+          (shown a.2.tree I (Some (minimising I v)) (minimising-number I v a.0.number) good a.2.shows y f) better,
     )
-accepted I (Infeasible nodes) good a = λ y f. shown a.proves.tree I None tt good a.proves.shows y f
+accepted I (Infeasible nodes) good a = λ y f. shown a.tree I None tt good a.shows y f
 accepted I (Unbounded x v r) good a = λ bound p. passed I good x r a.0.feasible a.2 bound p
 accepted I (BestSoFar x v) good a = a.0.feasible
 accepted I Unsure good a = absurd a

@@ -9,8 +9,8 @@ use Rattle.evidence.specs.Pending.{ShowsAll}
 
 pub start : (I : Instance) (nodes : List Node) (z : Option Ratio) → ProvesWithin I nodes z ↔ ShowsAll (I ∷ []) nodes z
 start I nodes z = (
-  λ p. (p.proves.tree, [], p.proves.listed ∙ sym (append-nil (preorder p.proves.tree)), p.proves.shows, p.fits, refl),
-  λ (t, rest, e, s, w, o). record { proves = record { tree = t; listed = e ∙ ap (λ r. preorder t ++ r) o ∙ append-nil (preorder t); shows = s }; fits = w },
+  λ p. (p.tree, [], p.listed ∙ sym (append-nil (preorder p.tree)), p.shows, p.fits, refl),
+  λ (t, rest, e, s, w, o). record { tree = t; listed = e ∙ ap (λ r. preorder t ++ r) o ∙ append-nil (preorder t); shows = s; fits = w },
 )
 
 pub none_left : (I : Instance) (Is : List Instance) (z : Option Ratio) → ShowsAll (I ∷ Is) [] z → ⊥

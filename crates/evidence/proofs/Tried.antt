@@ -158,15 +158,13 @@ branches = (
   record { feasible = halves_feasible; number = lit< tt; value = refl },
   halves_fit,
   record {
-    proves = record {
-      tree = Split 0 (pos 2) (Bound bound) (Farkas farkas);
-      listed = refl;
-      shows = (
-        record { variable = lit< tt; whole = refl; low = omega (arith, ints); high = omega (arith, ints) },
-        record { legal = bound_legal; costs = one (λ j. Rattle.rational.specs.Ratio.IsSame (form (at_most halves 0 (pos 2)) bound j) (minimising halves (cost_at halves j))) refl; reaches = omega (arith, ints) },
-        record { legal = farkas_legal; vanishes = one (λ j. Rattle.rational.specs.Ratio.IsSame (form high_case farkas j) none) refl; above = omega (arith, ints) },
-      );
-    };
+    tree = Split 0 (pos 2) (Bound bound) (Farkas farkas);
+    listed = refl;
+    shows = (
+      record { variable = lit< tt; whole = refl; low = omega (arith, ints); high = omega (arith, ints) },
+      record { legal = bound_legal; costs = one (λ j. Rattle.rational.specs.Ratio.IsSame (form (at_most halves 0 (pos 2)) bound j) (minimising halves (cost_at halves j))) refl; reaches = omega (arith, ints) },
+      record { legal = farkas_legal; vanishes = one (λ j. Rattle.rational.specs.Ratio.IsSame (form high_case farkas j) none) refl; above = omega (arith, ints) },
+    );
     fits = (bound_fits, farkas_fits);
   },
 )
@@ -184,7 +182,7 @@ not_two (Bound ms) x y e = let l = ap length e in omega arith
 not_two (Split j k a b) x y e = let l = ap length e in let m = length-append (preorder a) (preorder b) in let p = listed_some a in let q = listed_some b in omega arith
 
 pub half : Accepts halves half_a_proof → ⊥
-half a = not_two a.2.proves.tree _ _ a.2.proves.listed
+half a = not_two a.2.tree _ _ a.2.listed
 
 slope_feasible : IsFeasible slope (none ∷ none ∷ [])
 slope_feasible = record {

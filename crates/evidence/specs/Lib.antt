@@ -1,3 +1,4 @@
+pub use Rattle.rational.specs.Ratio
 pub mod Sums
 pub mod Instance
 pub mod Point

@@ -1,11 +1,11 @@
 -- Where the sums by which a claim is checked stay within 128 bits: by the reduced forms of their terms and of their partial sums.
 use Rattle.std.specs.Prelude.{◌≡◌, ℕ, ◌<◌, ◌+ℤ◌, pos, Option, List, length}
 use Rattle.rational.specs.Ratio.{Ratio, product}
-use Rattle.rational.specs.Width.{ReducedFits, SumFits}
+pub use Rattle.rational.specs.Width.{ReducedFits, SumFits}
 use Rattle.evidence.specs.Sums.{none, total}
 use Rattle.evidence.specs.Instance.{Instance, width, height, cost_at, entry_at, coefficient_at, minimising}
 use Rattle.evidence.specs.Point.{value_at}
-use Rattle.evidence.specs.Cases.{Multiplier, multiplier_at, end_of, or_none, Tree, Clash, Farkas, Bound, Split, at_most, at_least, Node, Proves}
+use Rattle.evidence.specs.Cases.{Multiplier, multiplier_at, end_of, or_none, Tree, Clash, Farkas, Bound, Split, at_most, at_least, Node, preorder, Shows}
 
 -- s and the product of a and x: where neither factor is 0, the product fits, and so does the sum; else nothing is added
 pub record TermFits (s a x : Ratio) : Type 0 where
@@ -56,5 +56,7 @@ TreeFits I (Split j k a b) = TreeFits (at_most I j k) a × TreeFits (at_least I 
 
 -- the list is that of a tree that shows it, by sums that fit
 pub record ProvesWithin (I : Instance) (nodes : List Node) (z : Option Ratio) : Type 0 where
-  pub proves : Proves I nodes z
-  pub fits : TreeFits I proves.tree
+  pub tree : Tree
+  pub listed : nodes ≡ preorder tree
+  pub shows : Shows I tree z
+  pub fits : TreeFits I tree

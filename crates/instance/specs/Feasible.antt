@@ -12,9 +12,11 @@ use Rattle.instance.specs.declared.feasible.Feas.{Feas}
 use Rattle.instance.specs.declared.feasible.Feas.TheVariants.{Yes, No}
 use Rattle.instance.specs.Program.{variable}
 
+-- variable j as the program has it
 abbrev pub variable_of : List Var → ℕ → Of.Variable
 variable_of vs j = get_or (map variable vs) j (record { range = Of.free; whole = false })
 
+-- each variable below n may have its value
 abbrev pub KeptBelow : List Var → List Frac → ℕ → Type 0
 KeptBelow vs x n = (j : ℕ) → j < n → Keeps (variable_of vs j) (value_at (ratios x) j)
 
@@ -24,16 +26,18 @@ pub record IsFirstUnkept (vs : List Var) (x : List Frac) (j : ℕ) : Type 0 wher
   pub below : KeptBelow vs x j
   pub out : Keeps (variable_of vs j) (value_at (ratios x) j) → ⊥
 
+-- each row below n is kept
 abbrev pub RowsKeptBelow : Of.Instance → List Ratio → ℕ → Type 0
 RowsKeptBelow I x n = (i : ℕ) → i < n → KeepsRow I x i
 
--- the first row that isn't kept: its sum fits, or it doesn't
+-- the first row that isn't kept, and its sum fits
 pub record IsFirstRowOut (I : Of.Instance) (x : List Ratio) (i : ℕ) : Type 0 where
   pub inside : i < Of.height I
   pub below : RowsKeptBelow I x i
   pub fits : RowFits I x i
   pub out : IsBetween (Of.row_at I i) (activity I x i) → ⊥
 
+-- the first row that isn't kept, since its sum doesn't fit
 pub record IsFirstRowWide (I : Of.Instance) (x : List Ratio) (i : ℕ) : Type 0 where
   pub inside : i < Of.height I
   pub below : RowsKeptBelow I x i

@@ -8,20 +8,22 @@ use Rattle.instance.specs.declared.parts.Var.{Var}
 use Rattle.instance.specs.declared.parts.Row.{Row}
 use Rattle.instance.specs.declared.parts.Goal.{Goal}
 
+-- the variables, the rows, the entries of the matrix and the goal
 pub record Parts : Type 0 where
   pub vars : List Var
   pub rows : List Row
   pub entries : List Entry
   pub goal : Goal
 
--- neither end leaves no number at all
+-- a lower end that some number is above, and an upper one that some number is below
 abbrev pub AreEnds : End → End → Type 0
 AreEnds lb ub = (lb ≢ Inf) × (ub ≢ NegInf)
 
--- by row, and in one row by column
+-- the order of entries: by row, and in one row by column
 abbrev pub IsBefore : Entry → Entry → Type 0
 IsBefore a b = (a.row < b.row) ⊎ ((a.row ≡ b.row) × (a.col < b.col))
 
+-- each entry is before the next, so that none comes twice
 abbrev pub IsAscending : List Entry → Type 0
 IsAscending es = (k : ℕ) (d : Entry) → k + 1 < length es → IsBefore (slice_index_or es k d) (slice_index_or es (k + 1) d)
 
@@ -31,6 +33,7 @@ pub record IsInside (rows cols : ℕ) (e : Entry) : Type 0 where
   pub col : e.col < cols
   pub nonzero : e.value.numer ≢ pos 0
 
+-- parts that make an instance: within the limits, one cost for each variable, ends and entries as above
 pub record IsValid (p : Parts) : Type 0 where
   pub few_vars : length p.vars ≤ 1000
   pub few_rows : length p.rows ≤ 1000

@@ -18,9 +18,11 @@ limit NegInf = None
 limit (At x) = Some (ratio x)
 limit Inf = None
 
+-- the range between two ends
 abbrev pub range : End → End → Of.Range
 range lb ub = record { lb = limit lb; ub = limit ub }
 
+-- each part as the program has it
 abbrev pub variable : Var → Of.Variable
 variable v = record { range = range v.lb v.ub; whole = v.whole }
 
@@ -37,6 +39,7 @@ abbrev pub sense : Sense → Of.Sense
 sense Min = Of.Minimum
 sense Max = Of.Maximum
 
+-- the program of an instance's parts; its columns are the variables and then the rows
 abbrev pub program : Parts → Of.Instance
 program p = record {
   variables = map variable p.vars;
