@@ -2,7 +2,7 @@
 use Rattle.std.proofs.Common.{◌≡◌, ℕ, zero, suc, ◌*◌, ◌/◌, ◌<◌, ℤ, pos, ◌+ℤ◌, ◌*ℤ◌, ◌≤ℤ◌, ◌↔◌, Option, None, Some, IfSome, List, [], ◌∷◌, nat_eq, ◌&&◌, arith, sym, ◌∙◌, ap, ap₂, subst, false}
 use Rattle.std.specs.List.{All}
 use Rattle.std.specs.Int.{◌∣◌}
-use Rattle.std.proofs.Math.Nat.{mul-pos, div-mul_cancel, dvd-mul_left}
+use Rattle.std.proofs.Math.Nat.{mul-pos, div-mul_cancel}
 use Rattle.std.proofs.Math.IntN.{*ℤ_comm, zero-*ℤ}
 use Rattle.std.proofs.lemmas.Int.{ints}
 use Rattle.std.proofs.lemmas.List.Elements.{All-head, All-tail}
@@ -15,6 +15,7 @@ use Rattle.evidence.specs.OneDenominator.{times_of, whole_total, number_at, Divi
 use Rattle.evidence.proofs.Whole.{times_cross, more-times, most-from_times}
 use Rattle.evidence.proofs.Numbers.{one_times}
 use Rattle.evidence.proofs.Totals.{total-start}
+use Rattle.evidence.proofs.Fits.{one_divides}
 use Rattle.evidence.proofs.Columns.{pick, All-anywhere, activity-number, value-number}
 
 -- x is z over E
@@ -89,9 +90,6 @@ cleared S d r v z us ud h k p o = (
     high_from : (e : Option Ratio) → IfSome e (λ l. l.den ∣ S) → IfSome e (λ u. z ≤ℤ (times_of S u *ℤ pos d)) → IfSome e (λ u. IsAtMost v u)
     high_from None b c = c
     high_from (Some u) b c = most_over (S * d) v u z (times_of S u *ℤ pos d) (mul-pos us ud) o (over_wider S d u (times_of S u) (over_times S u b)) c
-
-one_divides : (S : ℕ) → 1 ∣ S
-one_divides S = subst (λ m. 1 ∣ m) (omega arith) (dvd-mul_left 1 S)
 
 entry_divides : (S : ℕ) (es : List Entry) → All (λ e. e.value.den ∣ S) es → (i j : ℕ) → (entry_at es i j).den ∣ S
 entry_divides S [] p i j = one_divides S

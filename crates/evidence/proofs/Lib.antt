@@ -14,3 +14,4 @@ pub mod OneDenominator
 pub mod Fits
 pub mod Tried
 pub mod Rows
+pub mod Steps

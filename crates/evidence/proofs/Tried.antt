@@ -2,30 +2,25 @@
 use Rattle.std.proofs.Common.{◌≡◌, ℕ, zero, suc, ◌+◌, ◌<◌, ◌≤◌, ℤ, pos, negsuc, ◌+ℤ◌, ◌*ℤ◌, IsTrue, List, [], ◌∷◌, length, arith, lit<, lit≤, refl, sym, ◌∙◌, ap, subst}
 use Rattle.std.specs.Prelude.{unsigned_abs}
 use Rattle.std.specs.Int.{IsGcd, ◌∣◌}
-use Rattle.std.proofs.Math.Nat.{dvd-mul_left, eq-one_of_dvd-one}
+use Rattle.std.proofs.Math.Nat.{eq-one_of_dvd-one}
 use Rattle.std.proofs.Math.IntN.{*ℤ_comm}
 use Rattle.std.specs.List.{All}
 use Rattle.std.proofs.lemmas.Int.{ints}
 use Rattle.std.proofs.lemmas.List.{length-append}
 use Rattle.std.proofs.lemmas.List.Elements.{All-cons, All-nil}
 use Rattle.rational.specs.Ratio.{Ratio, IsNumber, whole, product, IsSame}
-use Rattle.rational.specs.Width.{most, AreFourWithin, SumFits, IsReduced}
+use Rattle.rational.specs.Width.{most, AreFourWithin, SumFits}
 use Rattle.rational.proofs.Scaling.{IsSame-trans}
 use Rattle.rational.proofs.Reduced.{same_reduced}
 use Rattle.evidence.specs.Sums.{none, IsWhole, total}
 use Rattle.evidence.specs.Width.{TermFits, StatedFits, RowFits, FormFits, LeafFits, PointFits, RayFits}
 use Rattle.evidence.proofs.Numbers.{one_times}
+use Rattle.evidence.proofs.Fits.{whole-reduced}
 use Rattle.evidence.specs.Instance.{Instance, variable_at, row_at, cost_at, entry_at, coefficient_at, minimising}
 use Rattle.evidence.specs.Point.{value_at, activity, IsBetween, IsFeasible, NeverLeaves, IsRay}
 use Rattle.evidence.specs.Cases.{Multiplier, Tree, Clash, Farkas, Bound, Split, Node, SplitAt, BoundBy, IsLegal, form, end_of, preorder, at_most, at_least, IsBound, IsFarkas, IsBranch, Shows, multiplier_at, or_none}
 use Rattle.evidence.specs.Claim.{Accepts}
 use Rattle.evidence.specs.Examples.{times, halves, two, half_a_proof, slope, upwards}
-
-one_divides : (n : ℕ) → 1 ∣ n
-one_divides n = subst (λ m. 1 ∣ m) (omega arith) (dvd-mul_left 1 n)
-
-whole-reduced : (n : ℤ) → IsReduced (whole n)
-whole-reduced n = (lit< tt, (one_divides (unsigned_abs n), one_divides 1, λ d p q. q))
 
 -- sums of whole numbers fit where both and their sum are small
 record AreSmall (m n : ℤ) : Type 0 where

@@ -1,4 +1,4 @@
--- Trees of cases, whose leaves have multipliers by which no point is feasible, or none is better than a bound (Farkas; weak duality).
+-- Trees of cases over whole variables (Land and Doig, 1960), whose leaves have multipliers by which no point is feasible (Farkas, 1902), or none is better than a bound (weak duality; Chvátal, Linear Programming, 1983, chapter 5).
 use Rattle.std.specs.Prelude.{◌≡◌, ℕ, ◌+◌, ◌<◌, ℤ, pos, negsuc, ◌+ℤ◌, cond, IsTrue, Option, None, Some, IsSome, List, [], ◌∷◌, ◌++◌, length, get_or, neg_ℤ, ◌≤ℤ◌, ◌<ℤ◌, slice_set}
 use Rattle.std.specs.List.{All}
 use Rattle.rational.specs.Ratio.{Ratio, whole, product, IsSame, IsBelow, IsNumber, IsAtMost}
@@ -6,6 +6,7 @@ use Rattle.rational.specs.Width.{most}
 use Rattle.evidence.specs.Sums.{none, is_below, total}
 use Rattle.evidence.specs.Instance.{Range, Instance, width, height, variable_at, coefficient_at, column_at, cost_at, minimising}
 
+-- a factor of one column: of a variable, or of a row's activity
 pub record Multiplier : Type 0 where
   pub column : ℕ
   pub by : Ratio
@@ -20,6 +21,7 @@ pub data Tree : Type 0 where
 abbrev pub multiplier_at : List Multiplier → ℕ → Multiplier
 multiplier_at ms k = get_or ms k (record { column = 0; by = none })
 
+-- the end on the side of a sign
 abbrev pub end_by : ℤ → Range → Option Ratio
 end_by (pos n) r = r.lb
 end_by (negsuc n) r = r.ub
@@ -28,6 +30,7 @@ end_by (negsuc n) r = r.ub
 abbrev pub end_of : Instance → Multiplier → Option Ratio
 end_of I m = end_by m.by.num (column_at I m.column)
 
+-- multipliers by ascending columns, none 0, each with a finite end on its side: their sum of columns is then at least that of the ends
 pub record IsLegal (I : Instance) (ms : List Multiplier) : Type 0 where
   pub numbers : All (λ m. IsNumber m.by) ms
   pub columns : All (λ m. m.column < width I + height I) ms
@@ -39,6 +42,7 @@ pub record IsLegal (I : Instance) (ms : List Multiplier) : Type 0 where
 abbrev pub form : Instance → List Multiplier → ℕ → Ratio
 form I ms j = total none (length ms) (λ k. product (multiplier_at ms k).by (coefficient_at I (multiplier_at ms k).column j))
 
+-- the number, or 0 where there is none
 abbrev pub or_none : Option Ratio → Ratio
 or_none None = none
 or_none (Some x) = x
@@ -51,13 +55,13 @@ low_sum I start ms = total start (length ms) (λ k. product (multiplier_at ms k)
 abbrev pub IsEmpty : Range → Type 0
 IsEmpty r = (l u : Ratio) × (r.lb ≡ Some l) × (r.ub ≡ Some u) × IsBelow u l
 
--- no point is feasible, since the legal sum of its columns is 0, yet is to be above 0
+-- no point is feasible: the sum of its columns would be 0, and above 0 (Farkas)
 pub record IsFarkas (I : Instance) (ms : List Multiplier) : Type 0 where
   pub legal : IsLegal I ms
   pub vanishes : (j : ℕ) → j < width I → IsSame (form I ms j) none
   pub above : IsBelow none (low_sum I none ms)
 
--- no point's minimising objective is below z, since the legal sum of its columns is that objective
+-- no point's minimising objective is below z: it is the sum of its columns, which is at least z (weak duality)
 pub record IsBound (I : Instance) (ms : List Multiplier) (z : Ratio) : Type 0 where
   pub legal : IsLegal I ms
   pub costs : (j : ℕ) → j < width I → IsSame (form I ms j) (minimising I (cost_at I j))
@@ -73,6 +77,7 @@ abbrev pub greater_end : Option Ratio → Ratio → Option Ratio
 greater_end None k = Some k
 greater_end (Some l) k = cond (is_below l k) (Some k) (Some l)
 
+-- the instance with another range for variable j
 abbrev pub with_range : Instance → ℕ → Range → Instance
 with_range I j r = record I { variables = slice_set I.variables j (record (variable_at I j) { range = r }) }
 
@@ -84,7 +89,7 @@ at_most I j k = let r = (variable_at I j).range in with_range I j (record r { ub
 abbrev pub at_least : Instance → ℕ → ℤ → Instance
 at_least I j k = let r = (variable_at I j).range in with_range I j (record r { lb = greater_end r.lb (whole k) })
 
--- a variable whose values are whole, and a number between whose next ones no value is
+-- variable j is whole, so that each of its values is at most k or at least k + 1, and both numbers fit
 pub record IsBranch (I : Instance) (j : ℕ) (k : ℤ) : Type 0 where
   pub variable : j < width I
   pub whole : IsTrue (variable_at I j).whole

@@ -6,6 +6,7 @@ use Rattle.evidence.specs.Point.{objective, IsFeasible, IsBetter, IsRay}
 use Rattle.evidence.specs.Cases.{Node}
 use Rattle.evidence.specs.Width.{PointFits, RayFits, ProvesWithin}
 
+-- a best point with its value, no point, points without end, a point, or nothing: with what is to show it
 pub data Claim : Type 0 where
   Optimal : List Ratio → Ratio → List Node → Claim
   Infeasible : List Node → Claim

@@ -1,4 +1,4 @@
--- Linear and integer programs: variables and rows between two ends, and a goal.
+-- Linear and integer programs: variables and rows between two ends, and a goal (Chvátal, Linear Programming, 1983).
 use Rattle.std.specs.Prelude.{ℕ, Bool, false, ◌&&◌, cond, ◌-◌, Option, None, IfSome, List, [], ◌∷◌, length, get_or, nat_eq, nat_lt, pos}
 use Rattle.std.specs.List.{All}
 use Rattle.rational.specs.Ratio.{Ratio, whole, negative, IsNumber}
@@ -57,8 +57,7 @@ abbrev pub entry_at : List Entry → ℕ → ℕ → Ratio
 entry_at [] i j = none
 entry_at (e ∷ es) i j = cond (nat_eq e.row i && nat_eq e.variable j) e.value (entry_at es i j)
 
--- columns are the variables and then the rows
--- (Chvátal's names: a row's activity is one more, bounded, variable)
+-- columns are the variables and then the rows, whose activities are further bounded variables (Chvátal, chapter 8)
 abbrev pub coefficient_at : Instance → ℕ → ℕ → Ratio
 coefficient_at I k j = cond (nat_lt k (width I)) (cond (nat_eq k j) (whole (pos 1)) none) (entry_at I.entries (k - width I) j)
 

@@ -1,3 +1,4 @@
+pub use Rattle.rational.specs.Ratio
 pub mod Sums
 pub mod Instance
 pub mod Point
@@ -8,3 +9,4 @@ pub mod Pending
 pub mod OneDenominator
 pub mod Examples
 pub mod Columns
+pub mod Rows

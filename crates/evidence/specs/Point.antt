@@ -17,10 +17,12 @@ activity I x i = total none (width I) (λ j. product (entry_at I.entries i j) (v
 abbrev pub objective : Instance → List Ratio → Ratio
 objective I x = total I.goal.constant (width I) (λ j. product (cost_at I j) (value_at x j))
 
+-- within both ends
 pub record IsBetween (r : Range) (x : Ratio) : Type 0 where
   pub low : IfSome r.lb (λ l. IsAtMost l x)
   pub high : IfSome r.ub (λ u. IsAtMost x u)
 
+-- one number for each variable, between its ends, whole where it must be, and each row between its ends
 pub record IsFeasible (I : Instance) (x : List Ratio) : Type 0 where
   pub count : length x ≡ width I
   pub numbers : All IsNumber x
@@ -28,6 +30,7 @@ pub record IsFeasible (I : Instance) (x : List Ratio) : Type 0 where
   pub rows : (i : ℕ) → i < height I → IsBetween (row_at I i) (activity I x i)
   pub whole : (j : ℕ) → j < width I → IsTrue (variable_at I j).whole → IsWhole (value_at x j)
 
+-- less is better at a minimum, more at a maximum
 abbrev pub IsBetterBy : Sense → Ratio → Ratio → Type 0
 IsBetterBy Minimum a b = IsBelow a b
 IsBetterBy Maximum a b = IsBelow b a
@@ -41,7 +44,7 @@ pub record NeverLeaves (r : Range) (x : Ratio) : Type 0 where
   pub low : IfSome r.lb (λ l. IsAtMost none x)
   pub high : IfSome r.ub (λ u. IsAtMost x none)
 
--- along it, feasible points stay feasible and become better
+-- along it, feasible points stay feasible and become better, without end
 pub record IsRay (I : Instance) (r : List Ratio) : Type 0 where
   pub count : length r ≡ width I
   pub numbers : All IsNumber r

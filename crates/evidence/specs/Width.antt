@@ -1,7 +1,7 @@
 -- Where the sums by which a claim is checked stay within 128 bits: by the reduced forms of their terms and of their partial sums.
 use Rattle.std.specs.Prelude.{◌≡◌, ℕ, ◌<◌, ◌+ℤ◌, pos, Option, List, length}
 use Rattle.rational.specs.Ratio.{Ratio, product}
-use Rattle.rational.specs.Width.{ReducedFits, SumFits}
+pub use Rattle.rational.specs.Width.{ReducedFits, SumFits}
 use Rattle.evidence.specs.Sums.{none, total}
 use Rattle.evidence.specs.Instance.{Instance, width, height, cost_at, entry_at, coefficient_at, minimising}
 use Rattle.evidence.specs.Point.{value_at}
@@ -54,7 +54,7 @@ TreeFits I (Farkas ms) = LeafFits I none ms
 TreeFits I (Bound ms) = LeafFits I (minimising I I.goal.constant) ms
 TreeFits I (Split j k a b) = TreeFits (at_most I j k) a × TreeFits (at_least I j (k +ℤ pos 1)) b
 
--- the list is that of a tree that shows it by sums that fit
+-- the list is that of a tree that shows it, by sums that fit
 pub record ProvesWithin (I : Instance) (nodes : List Node) (z : Option Ratio) : Type 0 where
   pub tree : Tree
   pub listed : nodes ≡ preorder tree

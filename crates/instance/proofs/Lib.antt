@@ -1,0 +1,6 @@
+pub mod Numbers
+pub mod Terms
+pub mod Partition
+pub mod RowSums
+pub mod GoalSums
+pub mod Search

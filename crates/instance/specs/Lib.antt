@@ -1,0 +1,11 @@
+pub use Rattle.rational.specs.Ratio
+pub use Rattle.fraction.specs.Frac
+pub use Rattle.evidence.specs.Instance
+pub use Rattle.evidence.specs.Sums
+pub use Rattle.evidence.specs.Point
+pub use Rattle.evidence.specs.Rows
+pub use Rattle.evidence.specs.Width
+pub use Rattle.evidence.specs.Columns
+pub mod Parts
+pub mod Program
+pub mod Feasible
