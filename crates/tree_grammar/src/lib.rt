@@ -1,0 +1,3 @@
+//! XML documents of the profile, as definitions.
+#![tactic(auto)]
+
