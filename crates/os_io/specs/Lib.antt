@@ -1,0 +1,5 @@
+pub mod Files
+pub mod Held
+pub mod Links
+pub mod Memory
+pub mod Streams
