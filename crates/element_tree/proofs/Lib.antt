@@ -1,0 +1,5 @@
+pub mod Spans
+pub mod Pushes
+pub mod Nestings
+pub mod Tracking
+pub mod Texts

@@ -1,0 +1,6 @@
+use Rattle.std.proofs.Common.{◌∙◌, ap, length}
+use Rattle.element_tree.proofs.Tracking.{open_count}
+use Rattle.element_tree.proofs.builder.TreeBuilder.depth.Goals as goal
+
+pub returns : goal.returns
+returns c = λ names b. ap length c.as_slice.ensures.value ∙ open_count c.self.inside.arena.events c.self.inside.starts.items c.self.inside.sound c.self.invariant names b

@@ -1,0 +1,5 @@
+pub mod Building
+pub mod Arena
+pub mod Items
+pub mod Nesting
+pub mod Escapes
