@@ -1,16 +1,16 @@
 -- What a push tells.
-use Rattle.std.proofs.Common.{◌≡◌, ℕ, ◌+◌, ◌-◌, ◌<◌, ◌≤◌, List, [], ◌∷◌, ◌++◌, length, map, take, drop, refl, ap, arith, ◌∙◌, sym, subst, append-nil, append_assoc}
+use Rattle.std.proofs.Common.{◌≡◌, ℕ, ◌+◌, ◌-◌, ◌≤◌, List, [], ◌∷◌, ◌++◌, length, map, drop, ap, arith, ◌∙◌, sym, subst, append-nil, append_assoc}
 use Rattle.std.proofs.lemmas.List.{drop-append-le, length-append, map-append, drop_all, take_rest, length-drop}
 use Rattle.std.proofs.lemmas.List.Elements.{All-drop}
-use Rattle.std.specs.Prelude.{All, slice_range, Result, Ok, Err, OnErr}
+use Rattle.std.specs.Prelude.{slice_range, Result, Ok, Err, OnErr}
 use Rattle.tree_grammar.specs.Elements.{Attribute, Event}
 use Rattle.tree_grammar.specs.Elements as tree
-use Rattle.element_tree.specs.Building.{Building, with_run}
-use Rattle.element_tree.specs.Arena.{text_of, attribute_of, event_of, events_of, SpanFits, PairFits, MarkFits, Fits, told, IsWhole}
+use Rattle.element_tree.specs.Building.{Building}
+use Rattle.element_tree.specs.Arena.{text_of, attribute_of, event_of, events_of, PairFits, MarkFits, Fits, told, IsWhole}
 use Rattle.element_tree.specs.declared.arena.Span.{Span}
 use Rattle.element_tree.specs.declared.arena.Pair.{Pair}
 use Rattle.element_tree.specs.declared.arena.Mark.{Mark}
-use Rattle.element_tree.specs.declared.arena.Mark.TheVariants.{Open, Chars, Close}
+use Rattle.element_tree.specs.declared.arena.Mark.TheVariants.{Open, Close}
 use Rattle.element_tree.specs.declared.arena.Arena.TheInside.{Inside}
 use Rattle.element_tree.proofs.Spans.{events-grown, pairs-grown, text-stored, text-grown, fits_wider, fits_mark, All-one}
 

@@ -1,5 +1,5 @@
 -- Texts that are written part by part.
-use Rattle.std.proofs.Common.{◌≡◌, ℕ, suc, zero, ◌+◌, ◌≤◌, List, [], ◌∷◌, ◌++◌, Some, None, Option, slice_get, length, drop, refl, ap, arith, ◌∙◌, sym, add-one, append-nil, Bool, false}
+use Rattle.std.proofs.Common.{◌≡◌, ℕ, suc, zero, ◌+◌, ◌≤◌, List, [], ◌∷◌, ◌++◌, Some, slice_get, length, drop, ap, ◌∙◌, sym, add-one, append-nil, Bool, false}
 use Rattle.std.proofs.lemmas.List.{drop_all}
 use Rattle.tree_grammar.specs.Elements.{Attribute, Element, Event, events}
 use Rattle.tree_grammar.specs.Written.{escaped_value, written_attributes, written_events, written_element, written_declaration, written}

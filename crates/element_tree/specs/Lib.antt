@@ -3,3 +3,4 @@ pub mod Arena
 pub mod Items
 pub mod Nesting
 pub mod Escapes
+pub mod Writable
