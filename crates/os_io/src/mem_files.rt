@@ -48,6 +48,13 @@ impl MemFiles {
         self.files.insert(0, MemFile { name, bytes })?;
         Ok(())
     }
+
+    /// How often a file couldn't be read.
+    pub fn faults(&self) -> u64
+        ensures { result ≡ ⟦<MemFiles as Files>⟧.faults self.now }
+    {
+        self.faults
+    }
 }
 
 /// The bytes of the first file with this name.

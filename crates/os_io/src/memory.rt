@@ -32,6 +32,13 @@ impl MemSource {
             faults: 0,
         })
     }
+
+    /// How often a read has failed.
+    pub fn faults(&self) -> u64
+        ensures { result ≡ ⟦<MemSource as Stream>⟧.read_faults self.now }
+    {
+        self.faults
+    }
 }
 
 impl Stream for MemSource {
@@ -80,6 +87,13 @@ impl MemSink {
         ensures { ⟦<MemSink as Stream>⟧.written self.now ≡ Some result.now }
     {
         self.output.as_slice()
+    }
+
+    /// How often a write or a flush has failed.
+    pub fn faults(&self) -> u64
+        ensures { result ≡ ⟦<MemSink as Stream>⟧.write_faults self.now }
+    {
+        self.faults
     }
 }
 

@@ -18,6 +18,13 @@ impl<R: Read + Drop> StdSource<R> {
     {
         StdSource { reader, faults: 0 }
     }
+
+    /// How often a read has failed.
+    pub fn faults(&self) -> u64
+        ensures { result ≡ ⟦<StdSource<R> as Stream>⟧.read_faults self.now }
+    {
+        self.faults
+    }
 }
 
 impl<R: Read + Drop> Stream for StdSource<R> {
@@ -52,6 +59,13 @@ impl<W: Write + Drop> StdSink<W> {
         ensures { ⟦<StdSink<W> as Stream>⟧.write_faults result ≡ 0 }
     {
         StdSink { writer, faults: 0 }
+    }
+
+    /// How often a write or a flush has failed.
+    pub fn faults(&self) -> u64
+        ensures { result ≡ ⟦<StdSink<W> as Stream>⟧.write_faults self.now }
+    {
+        self.faults
     }
 }
 
