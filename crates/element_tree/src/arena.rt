@@ -1,7 +1,6 @@
 //! Events in one byte buffer, with small records that say where each part of it lies.
 
 ghost use Rattle.std.specs.Prelude.{◌≡◌, ◌≤◌, ◌<◌, ◌+◌, [], ◌∷◌, ◌++◌, length, slice_get, slice_range, MatchBool, OnOk, OnErr, IfOk};
-ghost use Rattle.tree_grammar.specs.Elements.{Attribute};
 ghost use Rattle.tree_grammar.specs.Elements.{Open, Close};
 ghost use Rattle.element_tree.specs.Building.{said};
 ghost use Rattle.element_tree.specs.Nesting.{begun_name};

@@ -114,6 +114,7 @@ impl TreeBuilder {
     pub fn attribute(&mut self, name: &[u8], value: &[u8]) -> Result<(), Memory>
         ensures ok { OnOk result (self.new ≡ record { events = said self.old; attributes = self.old.attributes ++ record { name = name.now; value = value.now } ∷ []; text = [] }) }
         ensures err { OnErr result (said self.new ≡ said self.old) }
+        ensures waiting { OnErr result (self.new.attributes ≡ self.old.attributes) }
     {
         self.end_run()?;
         self.arena.push_attribute(name, value)
@@ -123,6 +124,7 @@ impl TreeBuilder {
     pub fn begin(&mut self, name: &[u8]) -> Result<(), Memory>
         ensures ok { OnOk result (self.new ≡ record { events = said self.old ++ Open name.now self.old.attributes ∷ []; attributes = []; text = [] }) }
         ensures err { OnErr result (said self.new ≡ said self.old) }
+        ensures waiting { OnErr result (self.new.attributes ≡ self.old.attributes) }
     {
         self.end_run()?;
         let at = self.arena.len();
@@ -146,6 +148,7 @@ impl TreeBuilder {
     pub fn end(&mut self, name: &[u8]) -> Result<(), Memory>
         ensures ok { OnOk result (self.new ≡ record self.old { events = said self.old ++ Close name.now ∷ []; text = [] }) }
         ensures err { OnErr result (said self.new ≡ said self.old) }
+        ensures waiting { OnErr result (self.new.attributes ≡ self.old.attributes) }
     {
         self.end_run()?;
         let fits = is_innermost(&self.arena, self.starts.as_slice(), name);
@@ -165,7 +168,8 @@ impl TreeBuilder {
         self.starts.as_slice().len()
     }
 
-    /// The tree, exactly where what was told are the events of one element. Attributes whose element was never begun are dropped.
+    /// The tree, exactly where what was told are the events of one element. Attributes whose element was never begun
+    /// are dropped.
     pub fn finish(self) -> Option<Tree>
         ensures { MatchOption result (IsOneElement (said self) → ⊥) (λ t. (t ≡ said self) × IsOneElement t) }
     {
