@@ -2,7 +2,7 @@
 
 ghost use Rattle.std.specs.Prelude.{◌≡◌};
 ghost use Rattle.tree_grammar.specs.Document.{SmallDoc};
-ghost use Rattle.tree_grammar.specs.Elements.{Element};
+ghost use Rattle.tree_grammar.specs.Elements.{Element, events};
 ghost use Rattle.tree_grammar.specs.Written.{written};
 ghost use Rattle.element_tree.specs.Writable.{IsWritable, IsLocal, local_element};
 
@@ -16,4 +16,9 @@ pub fn written_text_is_document()
 /// Law: an element without prefixes and namespaces is held as it is.
 pub fn local_element_is_itself()
     ensures { (e : Element) → IsLocal e → local_element e ≡ e }
+{}
+
+/// Law: equal events are those of equal elements, so a tree is one element.
+pub fn events_tell_the_element()
+    ensures { (d e : Element) → events d ≡ events e → d ≡ e }
 {}

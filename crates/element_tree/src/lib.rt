@@ -20,7 +20,7 @@ mod writing;
 
 pub use builder::TreeBuilder;
 pub use item::Item;
-pub use laws::{local_element_is_itself, written_text_is_document};
+pub use laws::{events_tell_the_element, local_element_is_itself, written_text_is_document};
 pub use tree::Tree;
 pub use writing::{escape, escape_value, write};
 
