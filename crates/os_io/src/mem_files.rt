@@ -1,6 +1,7 @@
 ghost use Rattle.std.specs.Prelude.{◌≡◌, ◌≢◌, ℕ, List, Some, None, take, OnOk, OnErr, IfOk};
 ghost use Rattle.std.specs.Option.{option_copied};
 ghost use Rattle.os_io.specs.Held.{held_by};
+ghost use Rattle.os_io.specs.Memory.{IsFresh};
 
 use crate::files::{FileFault, Files};
 use crate::parts::{Script, count};
@@ -28,6 +29,7 @@ impl MemFiles {
     pub fn new(alloc: Global, fails: &[u64]) -> Result<MemFiles, Memory>
         ensures held { IfOk result (λ s. (name : List ℕ) → ⟦<MemFiles as Files>⟧.held s name ≡ None) }
         ensures faults { IfOk result (λ s. ⟦<MemFiles as Files>⟧.faults s ≡ 0) }
+        ensures fails { IfOk result (λ s. IsFresh s.script fails.now) }
     {
         Ok(MemFiles {
             script: Script::new(alloc, fails)?,

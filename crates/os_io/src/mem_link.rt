@@ -1,5 +1,5 @@
-ghost use Rattle.std.specs.Prelude.{◌≡◌, [], Some, IfOk, IfSome};
-ghost use Rattle.os_io.specs.Memory.{input_left};
+ghost use Rattle.std.specs.Prelude.{◌≡◌, [], Some, IfOk, max, vec_capacity};
+ghost use Rattle.os_io.specs.Memory.{input_left, IsFresh};
 ghost use Rattle.os_io.specs.declared.mem_link.Kept.{out-Kept};
 
 use crate::parts::{Input, Output, Script, count};
@@ -46,6 +46,9 @@ impl MemLink {
         ensures written { IfOk result (λ l. ⟦<MemLink as Stream>⟧.written l ≡ Some []) }
         ensures read_faults { IfOk result (λ l. ⟦<MemLink as Stream>⟧.read_faults l ≡ 0) }
         ensures write_faults { IfOk result (λ l. ⟦<MemLink as Stream>⟧.write_faults l ≡ 0) }
+        ensures piece { IfOk result (λ l. (out-Kept l.place.value).ways.input.piece ≡ max piece 1) }
+        ensures room { IfOk result (λ l. vec_capacity (out-Kept l.place.value).ways.output.bytes ≡ room) }
+        ensures fails { IfOk result (λ l. IsFresh (out-Kept l.place.value).ways.script fails.now) }
     {
         let ways = Ways {
             script: Script::new(alloc, fails)?,

@@ -2,6 +2,7 @@ ghost use Rattle.std.specs.Prelude.{◌≡◌, ◌≤◌, ◌-◌, ◌^◌, ◌+
 ghost use Rattle.os_io.specs.Streams.{HasRisen};
 ghost use Rattle.os_io.specs.Links.{IsGivenBack, ends};
 ghost use Rattle.os_io.specs.Kept.{ends_of_link, ends_kept};
+ghost use Rattle.os_io.specs.Memory.{IsFresh};
 
 use crate::listener::Listener;
 use crate::mem_link::{Kept, MemLink};
@@ -26,6 +27,7 @@ impl MemListener {
         ensures coming { IfOk result (λ s. ⟦<MemListener as Listener>⟧.coming s ≡ Some []) }
         ensures given_back { IfOk result (λ s. ⟦<MemListener as Listener>⟧.given_back s ≡ Some []) }
         ensures faults { IfOk result (λ s. ⟦<MemListener as Listener>⟧.faults s ≡ 0) }
+        ensures fails { IfOk result (λ s. IsFresh s.script fails.now) }
     {
         Ok(MemListener {
             script: Script::new(alloc, fails)?,

@@ -1,5 +1,5 @@
-ghost use Rattle.std.specs.Prelude.{◌≡◌, [], Some, None, IfOk};
-ghost use Rattle.os_io.specs.Memory.{input_left};
+ghost use Rattle.std.specs.Prelude.{◌≡◌, [], Some, None, IfOk, max, vec_capacity};
+ghost use Rattle.os_io.specs.Memory.{input_left, IsFresh};
 
 use crate::parts::{Input, Output, Script, count};
 use crate::streams::{Failed, Link, Sink, Source, Stream};
@@ -25,6 +25,8 @@ impl MemSource {
     ) -> Result<MemSource, Memory>
         ensures left { IfOk result (λ s. ⟦<MemSource as Stream>⟧.left s ≡ Some bytes.now) }
         ensures faults { IfOk result (λ s. ⟦<MemSource as Stream>⟧.read_faults s ≡ 0) }
+        ensures piece { IfOk result (λ s. s.input.piece ≡ max piece 1) }
+        ensures fails { IfOk result (λ s. IsFresh s.script fails.now) }
     {
         Ok(MemSource {
             script: Script::new(alloc, fails)?,
@@ -74,6 +76,8 @@ impl MemSink {
     pub fn new(alloc: Global, room: usize, fails: &[u64]) -> Result<MemSink, Memory>
         ensures written { IfOk result (λ s. ⟦<MemSink as Stream>⟧.written s ≡ Some []) }
         ensures faults { IfOk result (λ s. ⟦<MemSink as Stream>⟧.write_faults s ≡ 0) }
+        ensures room { IfOk result (λ s. vec_capacity s.output.bytes ≡ room) }
+        ensures fails { IfOk result (λ s. IsFresh s.script fails.now) }
     {
         Ok(MemSink {
             script: Script::new(alloc, fails)?,

@@ -1,8 +1,8 @@
 //! What the forms in memory are made of.
-ghost use Rattle.std.specs.Prelude.{◌≡◌, ℕ, ◌<◌, ◌≤◌, ◌+◌, ◌-◌, ◌^◌, List, ◌++◌, [], length, take, drop, IfOk, IfSome, IfNone, ◌==◌, min};
+ghost use Rattle.std.specs.Prelude.{◌≡◌, ℕ, ◌<◌, ◌≤◌, ◌+◌, ◌-◌, ◌^◌, List, ◌++◌, [], length, take, drop, IfOk, IfSome, IfNone, ◌==◌, min, max, vec_capacity};
 ghost use Rattle.std.specs.List.{list_any};
 ghost use Rattle.os_io.specs.Streams.{HasRisen, Takes};
-ghost use Rattle.os_io.specs.Memory.{input_left};
+ghost use Rattle.os_io.specs.Memory.{input_left, IsFresh};
 
 use crate::streams::Failed;
 use crate::text::Memory;
@@ -17,7 +17,7 @@ pub(crate) struct Script {
 
 impl Script {
     pub(crate) fn new(alloc: Global, fails: &[u64]) -> Result<Script, Memory>
-        ensures { IfOk result (λ s. (s.calls ≡ 0) × (s.fails.items ≡ fails.now)) }
+        ensures { IfOk result (λ s. IsFresh s fails.now) }
     {
         Ok(Script {
             calls: 0,
@@ -57,7 +57,8 @@ pub(crate) struct Input {
 impl Input {
     /// These bytes, of which one read gives at most `piece`, or one where that is 0.
     pub(crate) fn new(alloc: Global, bytes: &[u8], piece: usize) -> Result<Input, Memory>
-        ensures { IfOk result (λ i. input_left i ≡ bytes.now) }
+        ensures left { IfOk result (λ i. input_left i ≡ bytes.now) }
+        ensures piece { IfOk result (λ i. i.piece ≡ max piece 1) }
     {
         Ok(Input {
             bytes: Vec::from_slice(alloc, bytes)?,
@@ -88,7 +89,8 @@ pub(crate) struct Output {
 
 impl Output {
     pub(crate) fn new(alloc: Global, room: usize) -> Result<Output, Memory>
-        ensures { IfOk result (λ o. o.bytes.items ≡ []) }
+        ensures empty { IfOk result (λ o. o.bytes.items ≡ []) }
+        ensures room { IfOk result (λ o. vec_capacity o.bytes ≡ room) }
     {
         Ok(Output {
             bytes: Vec::with_capacity(alloc, room)?,
