@@ -30,6 +30,7 @@ events_of bytes pairs marks = map (event_of bytes pairs) marks
 abbrev pub SpanFits : ℕ → Span → Type 0
 SpanFits size span = (span.start ≤ span.end) × (span.end ≤ size)
 
+-- a pair of spans within so many bytes
 abbrev pub PairFits : ℕ → Pair → Type 0
 PairFits size pair = SpanFits size pair.name × SpanFits size pair.value
 
@@ -48,6 +49,7 @@ pub record Fits (size : ℕ) (pairs : List Pair) (marks : List Mark) : Type 0 wh
 abbrev pub told : Inside → Building
 told a = record { events = events_of a.bytes a.pairs.items a.marks.items; attributes = map (attribute_of a.bytes) (drop a.fresh a.pairs.items); text = drop a.run a.bytes }
 
+-- All spans lie within, and so do the places where the waiting attributes and the open run begin.
 pub record IsWhole (a : Inside) : Type 0 where
   pub fits : Fits (length a.bytes) a.pairs.items a.marks.items
   pub fresh_fits : a.fresh ≤ length a.pairs.items
