@@ -1,0 +1,9 @@
+pub mod Building
+pub mod Arena
+pub mod Items
+pub mod Nesting
+pub mod Escapes
+pub mod Writable
+pub use Rattle.tree_grammar.specs.Elements
+pub use Rattle.tree_grammar.specs.Written
+pub use Rattle.tree_grammar.specs.Document

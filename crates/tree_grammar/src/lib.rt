@@ -1,0 +1,16 @@
+//! XML documents of this project's profile, as definitions: what an element is (`Elements`), which
+//! bytes are a document and which element they hold (`Document`, after XML 1.0 and Namespaces in
+//! XML 1.0), and the text that an element is written as (`Written`).
+//!
+//! The crate has no code that runs. Its functions are laws: each has nothing to do, and its
+//! contract is proved.
+#![tactic(auto)]
+
+ghost use Rattle.std.specs.Prelude.{◌≡◌, List, [], ◌++◌, false};
+ghost use Rattle.tree_grammar.specs.Elements.{Element, Event, events};
+ghost use Rattle.tree_grammar.specs.Written.{written_element, written_events};
+
+/// The text of an element is that of its events in document order.
+pub fn written_in_document_order()
+    ensures { (e : Element) → written_events false (events e) ≡ written_element e }
+{}
