@@ -1,0 +1,9 @@
+pub mod Space
+pub mod Prefix
+pub mod Sign
+pub mod Count
+pub mod Whole
+pub mod Decimal
+pub mod Exact
+pub mod Plain
+pub mod Fault

@@ -1,0 +1,6 @@
+//! Numbers as texts.
+#![tactic(auto)]
+
+mod fault;
+
+pub use fault::DecimalFault;
