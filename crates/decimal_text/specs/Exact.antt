@@ -56,6 +56,10 @@ IsWideRatio s = (x : Ratio) × (RatioText s x × (IsWithin x → ⊥))
 abbrev pub IsUnreduced : List ℕ → Type 0
 IsUnreduced s = (x : Ratio) × (RatioText s x × IsWithin x × (IsReduced x → ⊥))
 
+-- `/` and a denominator, or nothing where it is 1
+abbrev pub under_text_of : ℕ → List ℕ
+under_text_of d = cond (d == 1) [] (47 ∷ decimal d)
+
 -- the text of a ratio within the width
 abbrev pub ratio_text : Ratio → List ℕ
-ratio_text x = signed_decimal x.num ++ cond (x.den == 1) [] (47 ∷ decimal x.den)
+ratio_text x = signed_decimal x.num ++ under_text_of x.den

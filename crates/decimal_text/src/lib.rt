@@ -2,5 +2,7 @@
 #![tactic(auto)]
 
 mod fault;
+mod ratio;
 
 pub use fault::DecimalFault;
+pub use ratio::write_ratio;
