@@ -5,7 +5,7 @@ use Rattle.std.specs.Str.Parse.{AllDigits, digits_value}
 use Rattle.std.proofs.Math.Nat.{div-add-mod'}
 use Rattle.std.proofs.lemmas.Nat.{div-mul-add, pow-add}
 use Rattle.std.proofs.lemmas.Int.{ints}
-use Rattle.rational.specs.Ratio.{Ratio, IsSame}
+use Rattle.rational.specs.Ratio.{IsSame}
 use Rattle.rational.specs.Whole.{signed}
 use Rattle.rational.proofs.Signed.{signed-mul, unsigned_abs-signed}
 use Rattle.decimal_text.specs.Plain.{cut12_of, cut12}

@@ -30,7 +30,7 @@ fn fractions_are_written_exactly(rt: HostRuntime) -> Result<(), Fail> {
     assert_eq!(rt; ratio_text(alloc, 0, 9)?.as_slice(), b"0".as_slice());
     assert_eq!(rt;
         ratio_text(alloc, i128::MAX, 1)?.as_slice(),
-        b"170141183460469231731687303715884105727"
+        b"170141183460469231731687303715884105727".as_slice()
     );
     Ok(())
 }
