@@ -12,3 +12,5 @@ pub mod Decimals
 pub mod DecimalTexts
 pub mod Ratios
 pub mod RatioTexts
+pub mod Cutting
+pub mod Expanding

@@ -1,8 +1,12 @@
+ghost use Rattle.std.specs.Prelude.{◌≢◌, pos};
+
 use crate::{
-    DecimalFault, read_bound, read_count, read_decimal, read_ratio, read_whole, write_ratio,
+    DecimalFault, read_bound, read_count, read_decimal, read_ratio, read_whole, write_cut12,
+    write_ratio,
 };
 use fraction::{End, Frac};
 use os_io::Text;
+use std::alloc::Global;
 use std::test::Fail;
 
 const MOST: i128 = 170141183460469231731687303715884105727;
@@ -221,5 +225,34 @@ fn ratios_are_written_and_read(rt: HostRuntime) -> Result<(), Fail> {
         expected.extend(text.as_bytes())?;
         assert_eq!(rt; out.as_slice(), expected.as_slice());
     }
+    Ok(())
+}
+
+fn cut_text(alloc: Global, numer: i128, denom: i128) -> Result<Text, Fail>
+    requires { denom ≢ pos 0 }
+{
+    let mut text = Text::new(alloc);
+    write_cut12(Frac::of(numer, denom)?, &mut text)?;
+    Ok(text)
+}
+
+#[test]
+fn cut_texts_have_twelve_decimals_at_most(rt: HostRuntime) -> Result<(), Fail> {
+    let alloc = rt.alloc();
+    assert_eq!(rt; cut_text(alloc, 7, 1)?.as_slice(), b"7".as_slice());
+    assert_eq!(rt; cut_text(alloc, -1, 2)?.as_slice(), b"-0.5".as_slice());
+    assert_eq!(rt;
+        cut_text(alloc, 2, 3)?.as_slice(),
+        b"0.666666666666".as_slice()
+    );
+    assert_eq!(rt;
+        cut_text(alloc, 1, 10000000000000)?.as_slice(),
+        b"0".as_slice()
+    );
+    assert_eq!(rt;
+        cut_text(alloc, -1, 10000000000000)?.as_slice(),
+        b"0".as_slice()
+    );
+    assert_eq!(rt; cut_text(alloc, -5, 4)?.as_slice(), b"-1.25".as_slice());
     Ok(())
 }
