@@ -1,0 +1,8 @@
+//! Messages of HTTP/1.1 on a link.
+#![tactic(auto)]
+
+mod checks;
+mod refusal;
+mod scan;
+
+pub use refusal::Refusal;
