@@ -1,6 +1,8 @@
 -- How bytes fall into lines, and where a head ends.
 use Rattle.std.proofs.Common.{◌≡◌, ◌≢◌, ℕ, ◌+◌, ◌-◌, ◌<◌, ◌≤◌, ◌⊎◌, inl, inr, List, [], ◌∷◌, ◌++◌, length, drop, refl, sym, ap, ◌∙◌, subst, arith, append_assoc, append-nil, length-append}
-use Rattle.std.specs.Prelude.{All}
+use Rattle.std.specs.Prelude.{All, IsTrue, ◌↔◌, ◌==◌}
+use Rattle.std.proofs.lemmas.Bool.{cases_lt}
+use Rattle.std.proofs.lemmas.Bool.Decides.{Decides-eqb}
 use Rattle.std.proofs.Math.Seq.{drop-append_seam}
 use Rattle.std.specs.List.{flat_map}
 use Rattle.std.proofs.lemmas.Grind.{flat_map-append}
@@ -148,7 +150,7 @@ open_none = record {
 }
 
 -- a byte that is no LF
-pub open_byte : (bytes : List ℕ) (start lines b : ℕ) → IsOpenHead bytes start lines → b ≢ 10
+open_byte : (bytes : List ℕ) (start lines b : ℕ) → IsOpenHead bytes start lines → b ≢ 10
     → IsOpenHead (bytes ++ b ∷ []) start lines
 open_byte bytes start lines b o other = record {
   before = o.before;
@@ -169,7 +171,7 @@ whole_lines bytes start lines o ls e =
     ap (λ s. s ++ 10 ∷ []) o.bytes_are ∙ sym (ap print_lines e ∙ print_push (o.before ++ o.full) o.line)
 
 -- an LF after a line that isn't empty
-pub open_full : (bytes : List ℕ) (start lines : ℕ) → IsOpenHead bytes start lines → ¬ (IsEmptyLine (drop start bytes))
+open_full : (bytes : List ℕ) (start lines : ℕ) → IsOpenHead bytes start lines → ¬ (IsEmptyLine (drop start bytes))
     → IsOpenHead (bytes ++ 10 ∷ []) (length (bytes ++ 10 ∷ [])) (lines + 1)
 open_full bytes start lines o full =
     let now = whole_lines bytes start lines o (o.before ++ (o.full ++ o.line ∷ [])) (sym (append_assoc o.before o.full (o.line ∷ []))) in
@@ -189,7 +191,7 @@ open_full bytes start lines o full =
     }
 
 -- an LF after an empty line, before the request line
-pub open_empty : (bytes : List ℕ) (start : ℕ) → IsOpenHead bytes start 0 → IsEmptyLine (drop start bytes)
+open_empty : (bytes : List ℕ) (start : ℕ) → IsOpenHead bytes start 0 → IsEmptyLine (drop start bytes)
     → IsOpenHead (bytes ++ 10 ∷ []) (length (bytes ++ 10 ∷ [])) 0
 open_empty bytes start o empty =
     let none = nothing o.full (sym o.lines_are) in
@@ -208,7 +210,7 @@ open_empty bytes start o empty =
     }
 
 -- an LF after an empty line, after the request line
-pub head_whole : (bytes : List ℕ) (start lines : ℕ) → IsOpenHead bytes start lines → 0 < lines
+head_whole : (bytes : List ℕ) (start lines : ℕ) → IsOpenHead bytes start lines → 0 < lines
     → IsEmptyLine (drop start bytes) → IsWholeHead (bytes ++ 10 ∷ []) (lines - 1)
 head_whole bytes start lines o some empty =
     closes o.full refl
@@ -230,7 +232,7 @@ head_whole bytes start lines o some empty =
         )
 
 -- whole empty lines alone
-pub open_blank : (bytes : List ℕ) (start : ℕ) → IsOpenHead bytes start 0 → start ≡ length bytes → AreEmptyLines bytes
+open_blank : (bytes : List ℕ) (start : ℕ) → IsOpenHead bytes start 0 → start ≡ length bytes → AreEmptyLines bytes
 open_blank bytes start o all =
     let none = nothing o.full (sym o.lines_are) in
     let size = length-append (print_lines (o.before ++ o.full)) o.line in
@@ -263,3 +265,57 @@ open_not_blank bytes start lines o more blank =
     both : (ls : List (List ℕ)) → All IsEmptyLine ls → All IsFullLine ls → 0 < length ls → ⊥
     both [] p q some = omega arith
     both (l ∷ ls) p q some = (All-head IsFullLine l ls q).full (All-head IsEmptyLine l ls p)
+
+-- no more lines than bytes
+count_lines : (lines : List (List ℕ)) → length lines ≤ length (print_lines lines)
+count_lines [] = omega arith
+count_lines (l ∷ ls) =
+    omega (arith, count_lines ls, length-append (l ++ 10 ∷ []) (print_lines ls), length-append l (10 ∷ []))
+
+pub open_count : (bytes : List ℕ) (start lines : ℕ) → IsOpenHead bytes start lines → lines ≤ length bytes
+open_count bytes start lines o =
+    omega (arith, count_lines (o.before ++ o.full), length-append o.before o.full, o.lines_are, ap length o.bytes_are,
+      length-append (print_lines (o.before ++ o.full)) o.line)
+
+-- the head is blank where it has no full line, and no line has begun
+pub open_is_blank : (bytes : List ℕ) (start lines : ℕ) → IsOpenHead bytes start lines → lines ≡ 0
+    → (n : ℕ) → n ≡ length bytes → IsTrue (start == n) ↔ AreEmptyLines bytes
+open_is_blank bytes start lines o none n size = (
+  λ yes. open_blank bytes start (subst (λ (k : ℕ). IsOpenHead bytes start k) none o) ((Decides-eqb start n).0 yes ∙ size),
+  λ blank. elim (cases_lt start (length bytes)) [
+    inl less ↦ absurd (open_not_blank bytes start lines o (inr less) blank)
+  | inr ge ↦ (Decides-eqb start n).1 (omega (arith, size, ge, o.start_is, ap length o.bytes_are, length-append (print_lines (o.before ++ o.full)) o.line))
+  ]
+)
+
+-- the same calls where the bytes after them have a name
+pub push_byte : (bytes after : List ℕ) (start lines b : ℕ) → IsOpenHead bytes start lines → after ≡ bytes ++ b ∷ []
+    → b ≢ 10 → IsOpenHead after start lines
+push_byte bytes after start lines b o e other =
+    subst (λ (s : List ℕ). IsOpenHead s start lines) (sym e) (open_byte bytes start lines b o other)
+
+feed_after : (bytes after : List ℕ) (b : ℕ) → after ≡ bytes ++ b ∷ [] → b ≡ 10 → bytes ++ 10 ∷ [] ≡ after
+feed_after bytes after b e feed = sym (e ∙ ap (λ c. bytes ++ c ∷ []) feed)
+
+pub push_full : (bytes after : List ℕ) (start lines b n : ℕ) → IsOpenHead bytes start lines → after ≡ bytes ++ b ∷ []
+    → b ≡ 10 → n ≡ length after → ¬ (IsEmptyLine (drop start bytes)) → IsOpenHead after n (lines + 1)
+push_full bytes after start lines b n o e feed size full =
+    let now = feed_after bytes after b e feed in
+    subst (λ (k : ℕ). IsOpenHead after k (lines + 1)) (sym size)
+      (subst (λ (s : List ℕ). IsOpenHead s (length s) (lines + 1)) now (open_full bytes start lines o full))
+
+pub push_empty : (bytes after : List ℕ) (start lines b n : ℕ) → IsOpenHead bytes start lines → after ≡ bytes ++ b ∷ []
+    → b ≡ 10 → n ≡ length after → IsEmptyLine (drop start bytes) → lines ≤ 0 → IsOpenHead after n lines
+push_empty bytes after start lines b n o e feed size empty none =
+    let zero : lines ≡ 0 = omega (arith, none) in
+    let now = feed_after bytes after b e feed in
+    subst (λ (k : ℕ). IsOpenHead after k lines) (sym size)
+      (subst (λ (k : ℕ). IsOpenHead after (length after) k) (sym zero)
+        (subst (λ (s : List ℕ). IsOpenHead s (length s) 0) now
+          (open_empty bytes start (subst (λ (k : ℕ). IsOpenHead bytes start k) zero o) empty)))
+
+pub push_whole : (bytes after : List ℕ) (start lines b : ℕ) → IsOpenHead bytes start lines → after ≡ bytes ++ b ∷ []
+    → b ≡ 10 → IsEmptyLine (drop start bytes) → 0 < lines → IsWholeHead after (lines - 1)
+push_whole bytes after start lines b o e feed empty some =
+    subst (λ (s : List ℕ). IsWholeHead s (lines - 1)) (feed_after bytes after b e feed)
+      (head_whole bytes start lines o some empty)

@@ -3,6 +3,8 @@
 
 mod checks;
 mod refusal;
+mod requests;
 mod scan;
 
 pub use refusal::Refusal;
+pub use requests::{Incoming, LinkFault};
