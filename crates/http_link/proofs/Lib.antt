@@ -2,3 +2,4 @@ pub mod NumberLemmas
 pub mod LineLemmas
 pub mod FieldLemmas
 pub mod HeadLemmas
+pub mod ToldLemmas

@@ -1,5 +1,5 @@
 -- Requests in a stream of bytes (RFC 9112, sections 2 and 6).
-use Rattle.std.specs.Prelude.{◌≡◌, ℕ, ◌<◌, ◌≤◌, ◌⊎◌, List, [], ◌++◌, length, Option, None, Some, Result, Ok, Err, ⊤}
+use Rattle.std.specs.Prelude.{◌≡◌, ℕ, ◌<◌, ◌≤◌, ◌⊎◌, List, [], ◌∷◌, ◌++◌, length, Option, None, Some, Result, Ok, Err, ⊤}
 use Rattle.os_io.specs.Streams.{Told, HasRisen}
 use Rattle.http_link.specs.declared.requests.Incoming.{Incoming}
 use Rattle.http_link.specs.declared.requests.Incoming.TheVariants.{Body, Refused, Cut, Ended}
@@ -89,3 +89,37 @@ abbrev pub AnswersHead : Result HeadRead LinkFault → Option (List ℕ) → Opt
 AnswersHead answer left left' =
     (taken : List ℕ) × ShowsHead answer taken
     × Told left left' (λ before after. (before ≡ taken ++ after) × HeadEnds answer after)
+
+-- the next byte is taken, or the input has ended
+abbrev pub TakesByte : Option ℕ → List ℕ → List ℕ → Type 0
+TakesByte None before after = (before ≡ []) × (after ≡ [])
+TakesByte (Some byte) before after = before ≡ byte ∷ after
+
+-- so many bytes were taken and added to the body. With none, the input has ended
+abbrev pub AddsPiece : Option (List ℕ) → Option (List ℕ) → List ℕ → List ℕ → ℕ → ℕ → Type 0
+AddsPiece left left' body body' most count =
+    (piece : List ℕ) × (body' ≡ body ++ piece) × (length piece ≡ count) × (count ≤ most)
+    × Told left left' (λ before after. (before ≡ piece ++ after) × (count ≡ 0 → after ≡ []))
+
+-- some bytes were taken
+abbrev pub LosesPiece : Option (List ℕ) → Option (List ℕ) → Type 0
+LosesPiece left left' = (piece : List ℕ) × Told left left' (λ before after. (before ≡ piece ++ after) × ⊤)
+
+-- what the bytes are that the reading of a body took
+abbrev pub ShowsBody : ℕ → Result (Option (List ℕ)) LinkFault → List ℕ → Type 0
+ShowsBody len (Ok (Some body)) taken = (taken ≡ body) × (length body ≡ len)
+ShowsBody len (Ok None) taken = length taken < len
+ShowsBody len (Err ReadFault) taken = length taken < len
+ShowsBody len (Err Memory) taken = ⊤
+
+-- the input ended, where that is the answer
+abbrev pub BodyEnds : Result (Option (List ℕ)) LinkFault → List ℕ → Type 0
+BodyEnds (Ok (Some body)) rest = ⊤
+BodyEnds (Ok None) rest = rest ≡ []
+BodyEnds (Err fault) rest = ⊤
+
+-- the reading of a body, by the bytes to come before and after it, where they are told
+abbrev pub AnswersBody : ℕ → Result (Option (List ℕ)) LinkFault → Option (List ℕ) → Option (List ℕ) → Type 0
+AnswersBody len answer left left' =
+    (taken : List ℕ) × ShowsBody len answer taken
+    × Told left left' (λ before after. (before ≡ taken ++ after) × BodyEnds answer after)
