@@ -3,3 +3,4 @@ pub mod LineLemmas
 pub mod FieldLemmas
 pub mod HeadLemmas
 pub mod ToldLemmas
+pub mod RequestLemmas

@@ -319,3 +319,17 @@ pub push_whole : (bytes after : List ℕ) (start lines b : ℕ) → IsOpenHead b
 push_whole bytes after start lines b o e feed empty some =
     subst (λ (s : List ℕ). IsWholeHead s (lines - 1)) (feed_after bytes after b e feed)
       (head_whole bytes start lines o some empty)
+
+-- a whole head, whatever follows, is more than empty lines
+pub whole_not_blank : (head : List ℕ) (lines : ℕ) (rest : List ℕ) → IsWholeHead head lines → ¬ (AreEmptyLines (head ++ rest))
+whole_not_blank head lines rest whole blank =
+    let h = whole.0 in
+    let a = whole.1 in
+    let front = first_lines (h.before ++ (h.request ∷ h.fields) ++ h.last ∷ []) blank.0 rest [] (head_lines_all h a)
+      (empty_are_lines blank.0 blank.1) (All-nil (λ b. b ≢ 10))
+      (ap (λ s. s ++ rest) (sym whole.2) ∙ blank.2 ∙ sym (append-nil _)) in
+    let all = subst (All IsEmptyLine) front.1 blank.1 in
+    let some = all_left IsEmptyLine (h.before ++ (h.request ∷ h.fields) ++ h.last ∷ []) front.0 all in
+    let lines = all_right IsEmptyLine h.before (h.request ∷ h.fields)
+      (all_left IsEmptyLine (h.before ++ (h.request ∷ h.fields)) (h.last ∷ []) some) in
+    a.request.full (All-head IsEmptyLine h.request h.fields lines)

@@ -83,3 +83,10 @@ took_both (Some x) None z first second P Q p q = absurd p
 took_both (Some x) (Some y) None first second P Q p q = absurd q
 took_both (Some x) (Some y) (Some z) first second P Q p q =
     (p.0 ∙ ap (λ s. first ++ s) q.0 ∙ sym (append_assoc first second z), q.1)
+
+-- a piece of the input
+pub took_lost : (x y : Option (List ℕ)) (buffer : List ℕ) (n : ℕ) → Told x y (Takes buffer n)
+    → Told x y (λ before after. (before ≡ take n buffer ++ after) × ⊤)
+took_lost None y buffer n q = tt
+took_lost (Some x) None buffer n q = absurd q
+took_lost (Some x) (Some y) buffer n q = (sym (take-append-drop n x) ∙ (λ i. sym q.0 i ++ sym q.1 i), tt)

@@ -4,8 +4,8 @@ use Rattle.http_link.specs.Checks.{most_head}
 use Rattle.http_link.specs.Lines.{IsOpenHead}
 use Rattle.http_link.proofs.requests.read_head.Given as goal
 
-abbrev pub invariant-loop-head : goal.invariant-loop-head
-invariant-loop-head g l = record {
+abbrev pub invariant-loop-source : goal.invariant-loop-source
+invariant-loop-source g l = record {
   begun : IsOpenHead l.head.text l.head.start l.head.lines;
   fits : length l.head.text ≤ most_head;
   taken : Told (g.S.Stream.left l.fn.source) (g.S.Stream.left l.source) (λ before after. before ≡ l.head.text ++ after);
@@ -14,5 +14,5 @@ invariant-loop-head g l = record {
   write_faults : g.S.Stream.write_faults l.source ≡ g.S.Stream.write_faults l.fn.source;
 }
 
-abbrev pub decreases-loop-head : goal.decreases-loop-head
-decreases-loop-head g l = most_head - length l.head.text
+abbrev pub decreases-loop-source : goal.decreases-loop-source
+decreases-loop-source g l = most_head - length l.head.text
