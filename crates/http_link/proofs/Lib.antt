@@ -4,3 +4,4 @@ pub mod FieldLemmas
 pub mod HeadLemmas
 pub mod ToldLemmas
 pub mod RequestLemmas
+pub mod WrittenLemmas

@@ -1,16 +1,17 @@
 -- What the steps of reading a request show.
 use Rattle.std.proofs.Common.{◌≡◌, ℕ, ◌+◌, ◌<◌, ◌≤◌, ◌⊎◌, inl, inr, List, [], ◌∷◌, ◌++◌, length, Option, Some, None, Result, Ok, Err, refl, sym, ◌∙◌, ap, subst, arith, append_assoc, append-nil}
-use Rattle.std.specs.Prelude.{⊤, All}
+use Rattle.std.specs.Prelude.{⊤, All, MatchOption}
 use Rattle.os_io.specs.Streams.{Told}
 use Rattle.http_link.specs.declared.refusal.Refusal.{Refusal}
 use Rattle.http_link.specs.declared.refusal.Refusal.TheVariants.{HeadTooLarge}
 use Rattle.http_link.specs.declared.requests.Incoming.TheVariants.{Body, Refused, Cut, Ended}
+use Rattle.http_link.specs.declared.requests.HeadRead.{HeadRead}
 use Rattle.http_link.specs.declared.requests.HeadRead.TheVariants.{Whole, TooLarge, Cut as CutHead, Ended as NoHead}
 use Rattle.http_link.specs.declared.requests.LinkFault.{LinkFault}
 use Rattle.http_link.specs.declared.requests.LinkFault.TheVariants.{ReadFault, Memory}
 use Rattle.http_link.specs.Lines.{AreEmptyLines, IsOpenHead, IsWholeHead, IsEmptyLine, IsLine, IsFullLine, print_lines}
 use Rattle.http_link.specs.Checks.{most_head, Head}
-use Rattle.http_link.specs.Requests.{Answers, AnswersHead, AnswersBody, LosesPiece}
+use Rattle.http_link.specs.Requests.{Answers, AnswersHead, AnswersBody, LosesPiece, TakesByte}
 use Rattle.http_link.proofs.LineLemmas.{open_has_no_head, whole_not_blank}
 use Rattle.http_link.proofs.ToldLemmas.{took_with, took_same, took_all, took_both}
 
@@ -23,6 +24,31 @@ Took x y taken = Told x y (λ before after. before ≡ taken ++ after)
 
 abbrev IsEnd : Left → Left → Type 0
 IsEnd y z = Told y z (λ before after. (before ≡ []) × (after ≡ []))
+
+-- an answer under a pattern
+pub head_at : (v w : HeadRead) (x y : Left) → v ≡ w → AnswersHead (Ok v) x y → AnswersHead (Ok w) x y
+head_at v w x y e a = subst (λ (u : HeadRead). AnswersHead (Ok u) x y) e a
+
+pub body_at : (len : ℕ) (v w : Option (List ℕ)) (x y : Left) → v ≡ w → AnswersBody len (Ok v) x y → AnswersBody len (Ok w) x y
+body_at len v w x y e a = subst (λ (u : Option (List ℕ)). AnswersBody len (Ok u) x y) e a
+
+pub byte_at : (v w : Option ℕ) (x y : Left) → v ≡ w → Told x y (TakesByte v) → Told x y (TakesByte w)
+byte_at v w x y e a = subst (λ (u : Option ℕ). Told x y (TakesByte u)) e a
+
+pub pushed_at : (v w : Option ℕ) (text : List ℕ) (start lines : ℕ) → v ≡ w
+    → MatchOption v (IsOpenHead text start lines) (λ n. IsWholeHead text n)
+    → MatchOption w (IsOpenHead text start lines) (λ n. IsWholeHead text n)
+pushed_at v w text start lines e a =
+    subst (λ (u : Option ℕ). MatchOption u (IsOpenHead text start lines) (λ n. IsWholeHead text n)) e a
+
+-- the bytes taken by another name
+pub took_as : (x y : Left) (t u : List ℕ) → t ≡ u → Took x y u → Took x y t
+took_as x y t u e took = subst (λ (v : List ℕ). Took x y v) (sym e) took
+
+-- no byte is the end
+pub end_at : (v : Option ℕ) (x y : Left) → ((b : ℕ) → v ≡ Some b → ⊥) → Told x y (TakesByte v) → IsEnd x y
+end_at None x y none a = a
+end_at (Some b) x y none a = absurd (none b refl)
 
 -- ---- a head
 

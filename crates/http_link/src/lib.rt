@@ -4,7 +4,9 @@
 mod checks;
 mod refusal;
 mod requests;
+mod responses;
 mod scan;
 
 pub use refusal::Refusal;
-pub use requests::{Incoming, LinkFault};
+pub use requests::{Incoming, LinkFault, read_request};
+pub use responses::{write_answer, write_refusal};
