@@ -1,5 +1,5 @@
 -- Files, and why one wasn't read.
-use Rattle.std.specs.Prelude.{◌≡◌, ℕ, List, Result, Ok, Err}
+use Rattle.std.specs.Prelude.{◌≡◌, ℕ, Result, Ok, Err}
 use Rattle.os_io.specs.declared.files.FileFault.{FileFault}
 use Rattle.os_io.specs.declared.files.FileFault.TheVariants.{Failed, Memory}
 use Rattle.os_io.specs.Streams.{HasRisen}

@@ -7,10 +7,23 @@
 
 mod files;
 mod listener;
+mod mem_files;
+mod mem_link;
+mod mem_listener;
+mod memory;
+mod parts;
+mod standard;
 mod streams;
+#[cfg(test)]
+mod tests;
 mod text;
 
 pub use files::{FileFault, Files};
 pub use listener::Listener;
+pub use mem_files::MemFiles;
+pub use mem_link::MemLink;
+pub use mem_listener::MemListener;
+pub use memory::{MemSink, MemSource};
+pub use standard::{StdSink, StdSource};
 pub use streams::{Failed, Link, Sink, Source, Stream, write_all};
 pub use text::{Memory, Text};

@@ -23,12 +23,11 @@ pub trait Stream {
 
 /// Bytes that come. No call touches what was written.
 pub trait Source: Stream {
-    /// Reads some bytes to the front of the buffer. 0 with a buffer that isn't empty is the end. A read that fails
-    /// takes nothing.
+    /// Reads some bytes to the front of the buffer; of the rest of the buffer nothing is promised. 0 with a buffer
+    /// that isn't empty is the end. A read that fails takes nothing.
     fn read(&mut self, buf: &mut [u8]) -> Result<usize, Failed>
         ensures within { IfOk result (λ n. n ≤ length buf.old) }
         ensures taken { IfOk result (λ n. Told (Self.left self.old) (Self.left self.new) (Takes buf.new n)) }
-        ensures rest { IfOk result (λ n. drop n buf.new ≡ drop n buf.old) }
         ensures end { IfOk result (λ n. n ≡ 0 → 0 < length buf.old → Told (Self.left self.old) (Self.left self.new) (λ before after. before ≡ [])) }
         ensures err { OnErr result (Self.left self.new ≡ Self.left self.old) }
         ensures failed { OnErr result (HasRisen (Self.read_faults self.old) (Self.read_faults self.new)) }

@@ -6,7 +6,7 @@ use std::marker::Model;
 /// There was no memory.
 pub type Memory = AllocError;
 
-/// A list of bytes that grows.
+/// A list of bytes that grows. Contracts see it as that list. What fails for want of memory leaves it as it was.
 #[derive(Debug, Drop)]
 pub struct Text {
     bytes: Vec<u8>,
@@ -56,18 +56,21 @@ impl Text {
         self.bytes.extend_from_slice(bytes)
     }
 
+    /// The number of bytes.
     pub fn len(&self) -> usize
         ensures { result ≡ length self.now }
     {
         self.bytes.len()
     }
 
+    /// Whether there are no bytes.
     pub fn is_empty(&self) -> bool
         ensures { result ≡ (length self.now == 0) }
     {
         self.bytes.is_empty()
     }
 
+    /// The bytes.
     pub fn as_slice(&self) -> &[u8]
         ensures { result.now ≡ self.now }
     {

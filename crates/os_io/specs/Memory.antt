@@ -1,0 +1,12 @@
+-- The forms in memory.
+use Rattle.std.specs.Prelude.{◌≡◌, ℕ, List, drop}
+use Rattle.os_io.specs.declared.parts.Script.{Script}
+use Rattle.os_io.specs.declared.parts.Input.{Input}
+
+-- the bytes that are still to be given
+abbrev pub input_left : Input → List ℕ
+input_left i = drop i.at i.bytes.items
+
+-- no call was made, and those with these numbers fail
+abbrev pub IsFresh : Script → List ℕ → Type 0
+IsFresh s fails = (s.calls ≡ 0) × (s.fails.items ≡ fails)
