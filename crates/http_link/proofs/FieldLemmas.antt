@@ -59,10 +59,10 @@ request_is : (h : RequestHead) → print_request h ++ [] ≡ print_lines (lines_
 request_is h =
     print_request-append h []
     ∙ regroup (print_blank h.blank) (print_lines (map end_text h.blank)) h.method h.target (print_version h.minor)
-      (print_end h.line_end) (end_text h.line_end) (flat_map print_field h.fields) (print_lines (map field_line h.fields))
-      (print_end h.last) (end_text h.last) (blank_is h.blank) (end_is h.line_end) (fields_are h.fields) (end_is h.last)
+    (print_end h.line_end) (end_text h.line_end) (flat_map print_field h.fields) (print_lines (map field_line h.fields))
+    (print_end h.last) (end_text h.last) (blank_is h.blank) (end_is h.line_end) (fields_are h.fields) (end_is h.last)
     ∙ sym (print_push (map end_text h.blank ++ (request_line h ∷ map field_line h.fields)) (end_text h.last)
-      ∙ ap (λ s. (s ++ end_text h.last) ++ 10 ∷ []) (flat_map-append (λ l. l ++ 10 ∷ []) (map end_text h.blank) (request_line h ∷ map field_line h.fields)))
+    ∙ ap (λ s. (s ++ end_text h.last) ++ 10 ∷ []) (flat_map-append (λ l. l ++ 10 ∷ []) (map end_text h.blank) (request_line h ∷ map field_line h.fields)))
   where
     regroup : (b pb m t v e pe f pf l pl : List ℕ) → b ≡ pb → e ≡ pe ++ 10 ∷ [] → f ≡ pf → l ≡ pl ++ 10 ∷ []
         → b ++ (m ++ 32 ∷ (t ++ 32 ∷ (v ++ (e ++ ((f ++ l) ++ [])))))
@@ -88,35 +88,47 @@ token_line bytes p = feed_free is_token_byte bytes refl p
 version_line : (minor : ℕ) → IsLine (print_version minor)
 version_line minor =
     let other : (n : ℕ) → 10 < n → n ≢ 10 = λ n above e. omega (arith, above, e) in
-    All-from_recursion (λ b. b ≢ 10) (print_version minor)
-      (other 72 (omega arith), (other 84 (omega arith), (other 84 (omega arith), (other 80 (omega arith), (other 47 (omega arith),
-      (other 49 (omega arith), (other 46 (omega arith), (other (48 + minor) (omega arith), tt))))))))
+    All-from_recursion (λ b. b ≢ 10) (print_version minor) (
+      other 72 (omega arith),
+      (
+        other 84 (omega arith),
+        (
+          other 84 (omega arith),
+          (
+            other 80 (omega arith),
+            (
+              other 47 (omega arith),
+              (other 49 (omega arith), (other 46 (omega arith), (other (48 + minor) (omega arith), tt))),
+            ),
+          ),
+        ),
+      ),
+    )
 
 request_line_all : (h : RequestHead) → IsRequestHead h → IsLine (request_line h)
 request_line_all h a =
     join h.method (32 ∷ (h.target ++ 32 ∷ (print_version h.minor ++ end_text h.line_end))) (token_line h.method a.method.1)
-      (keep 32 (h.target ++ 32 ∷ (print_version h.minor ++ end_text h.line_end)) (omega arith)
-        (join h.target (32 ∷ (print_version h.minor ++ end_text h.line_end)) (feed_free is_uri_byte h.target refl a.target.1)
-          (keep 32 (print_version h.minor ++ end_text h.line_end) (omega arith)
-            (join (print_version h.minor) (end_text h.line_end) (version_line h.minor) (end_line h.line_end)))))
+    (keep 32 (h.target ++ 32 ∷ (print_version h.minor ++ end_text h.line_end)) (omega arith)
+    (join h.target (32 ∷ (print_version h.minor ++ end_text h.line_end)) (feed_free is_uri_byte h.target refl a.target.1)
+    (keep 32 (print_version h.minor ++ end_text h.line_end) (omega arith)
+    (join (print_version h.minor) (end_text h.line_end) (version_line h.minor) (end_line h.line_end)))))
 
 field_line_all : (f : Field) → IsField f → IsLine (field_line f)
 field_line_all f a =
     join f.name (58 ∷ (f.raw ++ end_text f.end)) (token_line f.name a.name.1)
-      (keep 58 (f.raw ++ end_text f.end) (omega arith)
-        (join f.raw (end_text f.end) (feed_free is_value_byte f.raw refl a.raw) (end_line f.end)))
+    (keep 58 (f.raw ++ end_text f.end) (omega arith)
+    (join f.raw (end_text f.end) (feed_free is_value_byte f.raw refl a.raw) (end_line f.end)))
 
 field_lines_all : (fields : List Field) → All IsField fields → All IsLine (map field_line fields)
 field_lines_all [] p = All-nil IsLine
 field_lines_all (f ∷ fs) p =
     All-cons IsLine (field_line f) (map field_line fs) (field_line_all f (All-head IsField f fs p))
-      (field_lines_all fs (All-tail IsField f fs p))
+    (field_lines_all fs (All-tail IsField f fs p))
 
 -- a text with two bytes is no empty line
 long_is_full : (line : List ℕ) → 2 ≤ length line → ¬ (IsEmptyLine line)
 long_is_full line long (inl e) = omega (arith, long, ap length e)
 long_is_full line long (inr e) = omega (arith, long, ap length e)
-
 
 request_full : (h : RequestHead) → IsRequestHead h → IsFullLine (request_line h)
 request_full h a = record {
@@ -143,14 +155,14 @@ fields_counted h t a reads =
     let blanks = map end_text h.blank in
     let fields = map field_line h.fields in
     let all = All-append IsLine (blanks ++ (request_line h ∷ fields)) (end_text h.last ∷ [])
-      (All-append IsLine blanks (request_line h ∷ fields) (empty_are_lines blanks (blank_empty h.blank))
-        (All-cons IsLine (request_line h) fields (request_line_all h valid) (field_lines_all h.fields valid.fields)))
-      (All-cons IsLine (end_text h.last) [] (end_line h.last) (All-nil IsLine)) in
+    (All-append IsLine blanks (request_line h ∷ fields) (empty_are_lines blanks (blank_empty h.blank))
+    (All-cons IsLine (request_line h) fields (request_line_all h valid) (field_lines_all h.fields valid.fields)))
+    (All-cons IsLine (end_text h.last) [] (end_line h.last) (All-nil IsLine)) in
     let front = first_lines (lines_of h) (t.before ++ (t.request ∷ t.fields) ++ t.last ∷ []) [] [] all
-      (head_lines_all t a) (All-nil (λ b. b ≢ 10)) (append-nil _ ∙ sym (request_is h) ∙ sym reads.1 ∙ sym (append-nil _)) in
+    (head_lines_all t a) (All-nil (λ b. b ≢ 10)) (append-nil _ ∙ sym (request_is h) ∙ sym reads.1 ∙ sym (append-nil _)) in
     let end = no_more front.0 [] front.2 in
     let same = sym (append_assoc t.before (t.request ∷ t.fields) (t.last ∷ [])) ∙ front.1 ∙ ap (λ n. lines_of h ++ n) end.0 ∙ append-nil (lines_of h)
-      ∙ append_assoc blanks (request_line h ∷ fields) (end_text h.last ∷ []) in
+    ∙ append_assoc blanks (request_line h ∷ fields) (end_text h.last ∷ []) in
     let rest = after_full t.before blanks t.request (request_line h) (t.fields ++ t.last ∷ []) (fields ++ end_text h.last ∷ [])
-      a.before (blank_empty h.blank) a.request (request_full h valid) same in
+    a.before (blank_empty h.blank) a.request (request_full h valid) same in
     omega (arith, ap length rest, length-append t.fields (t.last ∷ []), length-append fields (end_text h.last ∷ []), length-map h.fields field_line)

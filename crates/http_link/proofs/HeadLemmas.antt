@@ -12,9 +12,9 @@ pub reads_head : (bytes : List ℕ) (lines : ℕ) (outcome : Result ℕ Refusal)
     → ReadsWithin most_fields bytes outcome → Reads bytes outcome
 reads_head bytes lines outcome whole few (inl (more, is)) = inl (
   λ h reads.
-    let counted = fields_counted h whole.0 whole.1 (subst (λ (b : List ℕ). ReadsRequest b h []) whole.2 reads) in
-    omega (arith, more h reads, counted, whole.3, few),
-  is
+      let counted = fields_counted h whole.0 whole.1 (subst (λ (b : List ℕ). ReadsRequest b h []) whole.2 reads) in
+      omega (arith, more h reads, counted, whole.3, few),
+  is,
 )
 reads_head bytes lines outcome whole few (inr found) = inr found
 
@@ -25,5 +25,5 @@ judged bytes lines outcome whole fits few reads = inr (
   whole.1,
   whole.2,
   fits,
-  inr (omega (arith, whole.3, few), reads_head bytes lines outcome whole few reads)
+  inr (omega (arith, whole.3, few), reads_head bytes lines outcome whole few reads),
 )

@@ -56,8 +56,8 @@ first_lines (l ∷ ls) [] rest line p q r e =
     absurd (no_feed l (print_lines ls ++ rest) line r (sym e ∙ print_step l ls rest))
 first_lines (l ∷ ls) (m ∷ ms) rest line p q r e =
     let parts = line_same l m (print_lines ls ++ rest) (print_lines ms ++ line)
-      (All-head IsLine l ls p) (All-head IsLine m ms q)
-      (sym (print_step l ls rest) ∙ e ∙ print_step m ms line) in
+    (All-head IsLine l ls p) (All-head IsLine m ms q)
+    (sym (print_step l ls rest) ∙ e ∙ print_step m ms line) in
     let more = first_lines ls ms rest line (All-tail IsLine l ls p) (All-tail IsLine m ms q) r parts.1 in
     let first : l ≡ m = parts.0 in
     let others : ms ≡ ls ++ more.0 = more.1 in
@@ -103,17 +103,17 @@ open_lines bytes start lines o =
 pub head_lines_all : (h : HeadLines) → AreHeadLines h → All IsLine (h.before ++ (h.request ∷ h.fields) ++ h.last ∷ [])
 head_lines_all h a =
     All-append IsLine (h.before ++ (h.request ∷ h.fields)) (h.last ∷ [])
-      (All-append IsLine h.before (h.request ∷ h.fields) (empty_are_lines h.before a.before)
-        (All-cons IsLine h.request h.fields a.request.line (full_are_lines h.fields a.fields)))
-      (All-cons IsLine h.last [] (empty_is_line h.last a.last) (All-nil IsLine))
+    (All-append IsLine h.before (h.request ∷ h.fields) (empty_are_lines h.before a.before)
+    (All-cons IsLine h.request h.fields a.request.line (full_are_lines h.fields a.fields)))
+    (All-cons IsLine h.last [] (empty_is_line h.last a.last) (All-nil IsLine))
 
 -- it is no whole head
 pub open_has_no_head : (bytes : List ℕ) (start lines : ℕ) → IsOpenHead bytes start lines → HasNoHead bytes
 open_has_no_head bytes start lines o h rest a e =
     let front = first_lines (h.before ++ (h.request ∷ h.fields) ++ h.last ∷ []) (o.before ++ o.full) rest o.line
-      (head_lines_all h a) (open_lines bytes start lines o) o.no_feed (sym e ∙ o.bytes_are) in
+    (head_lines_all h a) (open_lines bytes start lines o) o.no_feed (sym e ∙ o.bytes_are) in
     no_empty_after o.before o.full h.before h.request h.fields h.last front.0 o.are_empty o.are_full a.before a.request a.last
-      (front.1 ∙ regroup h.before (h.request ∷ h.fields) h.last front.0)
+    (front.1 ∙ regroup h.before (h.request ∷ h.fields) h.last front.0)
   where
     regroup : (b f : List (List ℕ)) (l : List ℕ) (n : List (List ℕ)) → (b ++ f ++ l ∷ []) ++ n ≡ b ++ (f ++ l ∷ n)
     regroup b f l n = append_assoc (b ++ f) (l ∷ []) n ∙ append_assoc b f (l ∷ n)
@@ -196,7 +196,7 @@ open_empty : (bytes : List ℕ) (start : ℕ) → IsOpenHead bytes start 0 → I
 open_empty bytes start o empty =
     let none = nothing o.full (sym o.lines_are) in
     let now = whole_lines bytes start 0 o ((o.before ++ o.line ∷ []) ++ [])
-      (append-nil _ ∙ ap (λ s. s ++ o.line ∷ []) (sym (append-nil o.before) ∙ ap (λ s. o.before ++ s) (sym none))) in
+    (append-nil _ ∙ ap (λ s. s ++ o.line ∷ []) (sym (append-nil o.before) ∙ ap (λ s. o.before ++ s) (sym none))) in
     record {
       before = o.before ++ o.line ∷ [];
       full = [];
@@ -227,8 +227,8 @@ head_whole bytes start lines o some empty =
             last = subst IsEmptyLine (open_line bytes start lines o) empty;
           },
           whole_lines bytes start lines o ((o.before ++ (request ∷ fields)) ++ o.line ∷ [])
-            (ap (λ f. (o.before ++ f) ++ o.line ∷ []) (sym e)),
-          omega (arith, o.lines_are, ap length e)
+              (ap (λ f. (o.before ++ f) ++ o.line ∷ []) (sym e)),
+          omega (arith, o.lines_are, ap length e),
         )
 
 -- whole empty lines alone
@@ -240,7 +240,7 @@ open_blank bytes start o all =
       o.before,
       o.are_empty,
       o.bytes_are ∙ ap (λ l. print_lines (o.before ++ o.full) ++ l) rest ∙ append-nil _
-        ∙ ap print_lines (ap (λ f. o.before ++ f) none ∙ append-nil o.before),
+          ∙ ap print_lines (ap (λ f. o.before ++ f) none ∙ append-nil o.before),
     )
 
 pub no_more : (lines : List (List ℕ)) (line : List ℕ) → [] ≡ print_lines lines ++ line → (lines ≡ []) × (line ≡ [])
@@ -253,13 +253,13 @@ pub open_not_blank : (bytes : List ℕ) (start lines : ℕ) → IsOpenHead bytes
     → ¬ (AreEmptyLines bytes)
 open_not_blank bytes start lines o more blank =
     let front = first_lines blank.0 (o.before ++ o.full) [] o.line (empty_are_lines blank.0 blank.1)
-      (open_lines bytes start lines o) o.no_feed (append-nil _ ∙ sym blank.2 ∙ o.bytes_are) in
+    (open_lines bytes start lines o) o.no_feed (append-nil _ ∙ sym blank.2 ∙ o.bytes_are) in
     let end = no_more front.0 o.line front.2 in
     let same = front.1 ∙ ap (λ n. blank.0 ++ n) end.0 ∙ append-nil blank.0 in
     let empty = all_right IsEmptyLine o.before o.full (subst (All IsEmptyLine) (sym same) blank.1) in
     elim more [
-      inl some ↦ both o.full empty o.are_full (omega (arith, some, o.lines_are))
-    | inr less ↦ omega (arith, less, o.start_is, ap length o.bytes_are, ap length end.1, length-append (print_lines (o.before ++ o.full)) o.line)
+      | inl some ↦ both o.full empty o.are_full (omega (arith, some, o.lines_are))
+      | inr less ↦ omega (arith, less, o.start_is, ap length o.bytes_are, ap length end.1, length-append (print_lines (o.before ++ o.full)) o.line)
     ]
   where
     both : (ls : List (List ℕ)) → All IsEmptyLine ls → All IsFullLine ls → 0 < length ls → ⊥
@@ -274,8 +274,14 @@ count_lines (l ∷ ls) =
 
 pub open_count : (bytes : List ℕ) (start lines : ℕ) → IsOpenHead bytes start lines → lines ≤ length bytes
 open_count bytes start lines o =
-    omega (arith, count_lines (o.before ++ o.full), length-append o.before o.full, o.lines_are, ap length o.bytes_are,
-      length-append (print_lines (o.before ++ o.full)) o.line)
+    omega (
+      arith,
+      count_lines (o.before ++ o.full),
+      length-append o.before o.full,
+      o.lines_are,
+      ap length o.bytes_are,
+      length-append (print_lines (o.before ++ o.full)) o.line,
+    )
 
 -- the head is blank where it has no full line, and no line has begun
 pub open_is_blank : (bytes : List ℕ) (start lines : ℕ) → IsOpenHead bytes start lines → lines ≡ 0
@@ -283,9 +289,9 @@ pub open_is_blank : (bytes : List ℕ) (start lines : ℕ) → IsOpenHead bytes 
 open_is_blank bytes start lines o none n size = (
   λ yes. open_blank bytes start (subst (λ (k : ℕ). IsOpenHead bytes start k) none o) ((Decides-eqb start n).0 yes ∙ size),
   λ blank. elim (cases_lt start (length bytes)) [
-    inl less ↦ absurd (open_not_blank bytes start lines o (inr less) blank)
-  | inr ge ↦ (Decides-eqb start n).1 (omega (arith, size, ge, o.start_is, ap length o.bytes_are, length-append (print_lines (o.before ++ o.full)) o.line))
-  ]
+    | inl less ↦ absurd (open_not_blank bytes start lines o (inr less) blank)
+    | inr ge ↦ (Decides-eqb start n).1 (omega (arith, size, ge, o.start_is, ap length o.bytes_are, length-append (print_lines (o.before ++ o.full)) o.line))
+  ],
 )
 
 -- the same calls where the bytes after them have a name
@@ -302,7 +308,7 @@ pub push_full : (bytes after : List ℕ) (start lines b n : ℕ) → IsOpenHead 
 push_full bytes after start lines b n o e feed size full =
     let now = feed_after bytes after b e feed in
     subst (λ (k : ℕ). IsOpenHead after k (lines + 1)) (sym size)
-      (subst (λ (s : List ℕ). IsOpenHead s (length s) (lines + 1)) now (open_full bytes start lines o full))
+    (subst (λ (s : List ℕ). IsOpenHead s (length s) (lines + 1)) now (open_full bytes start lines o full))
 
 pub push_empty : (bytes after : List ℕ) (start lines b n : ℕ) → IsOpenHead bytes start lines → after ≡ bytes ++ b ∷ []
     → b ≡ 10 → n ≡ length after → IsEmptyLine (drop start bytes) → lines ≤ 0 → IsOpenHead after n lines
@@ -310,15 +316,15 @@ push_empty bytes after start lines b n o e feed size empty none =
     let zero : lines ≡ 0 = omega (arith, none) in
     let now = feed_after bytes after b e feed in
     subst (λ (k : ℕ). IsOpenHead after k lines) (sym size)
-      (subst (λ (k : ℕ). IsOpenHead after (length after) k) (sym zero)
-        (subst (λ (s : List ℕ). IsOpenHead s (length s) 0) now
-          (open_empty bytes start (subst (λ (k : ℕ). IsOpenHead bytes start k) zero o) empty)))
+    (subst (λ (k : ℕ). IsOpenHead after (length after) k) (sym zero)
+    (subst (λ (s : List ℕ). IsOpenHead s (length s) 0) now
+    (open_empty bytes start (subst (λ (k : ℕ). IsOpenHead bytes start k) zero o) empty)))
 
 pub push_whole : (bytes after : List ℕ) (start lines b : ℕ) → IsOpenHead bytes start lines → after ≡ bytes ++ b ∷ []
     → b ≡ 10 → IsEmptyLine (drop start bytes) → 0 < lines → IsWholeHead after (lines - 1)
 push_whole bytes after start lines b o e feed empty some =
     subst (λ (s : List ℕ). IsWholeHead s (lines - 1)) (feed_after bytes after b e feed)
-      (head_whole bytes start lines o some empty)
+    (head_whole bytes start lines o some empty)
 
 -- a whole head, whatever follows, is more than empty lines
 pub whole_not_blank : (head : List ℕ) (lines : ℕ) (rest : List ℕ) → IsWholeHead head lines → ¬ (AreEmptyLines (head ++ rest))
@@ -326,10 +332,10 @@ whole_not_blank head lines rest whole blank =
     let h = whole.0 in
     let a = whole.1 in
     let front = first_lines (h.before ++ (h.request ∷ h.fields) ++ h.last ∷ []) blank.0 rest [] (head_lines_all h a)
-      (empty_are_lines blank.0 blank.1) (All-nil (λ b. b ≢ 10))
-      (ap (λ s. s ++ rest) (sym whole.2) ∙ blank.2 ∙ sym (append-nil _)) in
+    (empty_are_lines blank.0 blank.1) (All-nil (λ b. b ≢ 10))
+    (ap (λ s. s ++ rest) (sym whole.2) ∙ blank.2 ∙ sym (append-nil _)) in
     let all = subst (All IsEmptyLine) front.1 blank.1 in
     let some = all_left IsEmptyLine (h.before ++ (h.request ∷ h.fields) ++ h.last ∷ []) front.0 all in
     let lines = all_right IsEmptyLine h.before (h.request ∷ h.fields)
-      (all_left IsEmptyLine (h.before ++ (h.request ∷ h.fields)) (h.last ∷ []) some) in
+    (all_left IsEmptyLine (h.before ++ (h.request ∷ h.fields)) (h.last ∷ []) some) in
     a.request.full (All-head IsEmptyLine h.request h.fields lines)

@@ -69,8 +69,8 @@ above_shorter m [] [] h l q = h
 above_shorter m [] (y ∷ ys) h l q = absurd (omega arith)
 above_shorter m (x ∷ xs) ys h l q =
     elim (eq-or-lt_of_le l) as (λ _. digits_value 10 ys < digits_value_after 10 m (x ∷ xs)) [
-      inl same ↦ below_after 0 m ys (x ∷ xs) same q h
-    | inr less ↦ above_shorter (m * 10 + digit_value x) xs ys (omega arith) (omega arith) q
+      | inl same ↦ below_after 0 m ys (x ∷ xs) same q h
+      | inr less ↦ above_shorter (m * 10 + digit_value x) xs ys (omega arith) (omega arith) q
     ]
 
 -- a number above the most is past the limit, whatever digits follow
@@ -141,10 +141,10 @@ same_digits : (xs ys : List ℕ) → AllDigits 10 xs → AllDigits 10 ys → Has
     → digits_value 10 xs ≡ digits_value 10 ys → xs ≡ ys
 same_digits xs ys p q h k e =
     elim (cases_lt (length xs) (length ys)) [
-      inl less ↦ absurd (omega (arith, more_digits ys xs q p k less, e))
-    | inr ge ↦ elim (eq-or-lt_of_le ge) [
-        inl same ↦ (same_after 0 0 xs ys (sym same) p q e).1
-      | inr less ↦ absurd (omega (arith, more_digits xs ys p q h less, e))
+      | inl less ↦ absurd (omega (arith, more_digits ys xs q p k less, e))
+      | inr ge ↦ elim (eq-or-lt_of_le ge) [
+        | inl same ↦ (same_after 0 0 xs ys (sym same) p q e).1
+        | inr less ↦ absurd (omega (arith, more_digits xs ys p q h less, e))
       ]
     ]
 
@@ -157,9 +157,9 @@ numbers_same xs ys p q =
     let number = Decides-eqb (digits_value 10 xs) (digits_value 10 ys) in
     same_from_decides _ _ (bytes_eq-Decides (without_zeros xs) (without_zeros ys)) (
       λ e. same_digits _ _ (without_zeros_digits xs left) (without_zeros_digits ys right)
-        (without_zeros_front xs) (without_zeros_front ys)
-        (without_zeros_same xs ∙ number.0 e ∙ sym (without_zeros_same ys)),
-      λ e. number.1 (sym (without_zeros_same xs) ∙ ap (digits_value 10) e ∙ without_zeros_same ys)
+          (without_zeros_front xs) (without_zeros_front ys)
+          (without_zeros_same xs ∙ number.0 e ∙ sym (without_zeros_same ys)),
+      λ e. number.1 (sym (without_zeros_same xs) ∙ ap (digits_value 10) e ∙ without_zeros_same ys),
     )
 
 -- a number and a value that is one: the test of their digits is that of the numbers

@@ -66,7 +66,7 @@ pub head_cut : (text : List ℕ) (start lines : ℕ) (x y z : Left) → IsOpenHe
 head_cut text start lines x y z o full fits took end = (
   text,
   (full, record { fits = fits; no_head = open_has_no_head text start lines o }),
-  took_all x y z text took end
+  took_all x y z text took end,
 )
 
 pub head_large : (text : List ℕ) (start lines : ℕ) (x y : Left) → IsOpenHead text start lines → length text ≤ most_head
@@ -101,7 +101,7 @@ pub answer_body : (head : List ℕ) (lines len : ℕ) (body : List ℕ) (x y z :
 answer_body head lines len body x y z a accepted b = (
   a.0 ++ b.0,
   (head, subst (λ (n : ℕ). Head head (Ok n)) (sym b.1.1) accepted, λ i. sym a.1.0 i ++ b.1.0 i),
-  took_both x y z a.0 b.0 (λ _. ⊤) (λ _. ⊤) a.2 b.2
+  took_both x y z a.0 b.0 (λ _. ⊤) (λ _. ⊤) a.2 b.2,
 )
 
 pub answer_cut : (head : List ℕ) (lines len : ℕ) (x y z : Left) → AnswersHead (Ok (Whole head lines)) x y
@@ -110,9 +110,9 @@ answer_cut head lines len x y z a accepted b = (
   a.0 ++ b.0,
   (
     whole_not_blank a.0 lines b.0 a.1.1,
-    inr (head, b.0, len, accepted, (λ i. sym a.1.0 i ++ b.0), b.1)
+    inr (head, b.0, len, accepted, (λ i. sym a.1.0 i ++ b.0), b.1),
   ),
-  took_both x y z a.0 b.0 (λ _. ⊤) (λ rest. rest ≡ []) a.2 b.2
+  took_both x y z a.0 b.0 (λ _. ⊤) (λ rest. rest ≡ []) a.2 b.2,
 )
 
 pub answer_fault : (head : List ℕ) (lines len : ℕ) (fault : LinkFault) (x y z : Left) → AnswersHead (Ok (Whole head lines)) x y
@@ -120,7 +120,7 @@ pub answer_fault : (head : List ℕ) (lines len : ℕ) (fault : LinkFault) (x y 
 answer_fault head lines len ReadFault x y z a accepted b = (
   a.0 ++ b.0,
   inr (head, b.0, len, accepted, (λ i. sym a.1.0 i ++ b.0), b.1),
-  took_both x y z a.0 b.0 (λ _. ⊤) (λ _. ⊤) a.2 b.2
+  took_both x y z a.0 b.0 (λ _. ⊤) (λ _. ⊤) a.2 b.2,
 )
 answer_fault head lines len Memory x y z a accepted b =
     (a.0 ++ b.0, tt, took_both x y z a.0 b.0 (λ _. ⊤) (λ _. ⊤) a.2 b.2)

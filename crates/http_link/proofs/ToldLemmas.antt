@@ -48,7 +48,7 @@ took_piece None y buffer n q end = tt
 took_piece (Some x) None buffer n q end = absurd q
 took_piece (Some x) (Some y) buffer n q end = (
   sym (take-append-drop n x) ∙ (λ i. sym q.0 i ++ sym q.1 i),
-  λ none. q.1 ∙ ap (λ k. drop k x) none ∙ end none
+  λ none. q.1 ∙ ap (λ k. drop k x) none ∙ end none,
 )
 
 -- the same bytes, and a fact of the rest

@@ -137,7 +137,11 @@ fn read_piece<S: Source>(source: &mut S, body: &mut Text, most: usize) -> Result
 }
 
 /// Reads a body of this length, and nothing past it. `None` says that the input ended inside it.
-fn read_body<S: Source>(alloc: Global, source: &mut S, len: usize) -> Result<Option<Text>, LinkFault>
+fn read_body<S: Source>(
+    alloc: Global,
+    source: &mut S,
+    len: usize,
+) -> Result<Option<Text>, LinkFault>
     ensures answer { AnswersBody len result (S.left source.old) (S.left source.new) }
     ensures failed { IfErr result (λ fault. FaultRises fault (S.read_faults source.old) (S.read_faults source.new)) }
     ensures counted { OnOk result (S.read_faults source.new ≡ S.read_faults source.old) }

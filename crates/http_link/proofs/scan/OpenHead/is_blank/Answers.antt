@@ -11,5 +11,5 @@ returns-else-self-eq0 c =
     let some = c.if-self-eq0.false in
     let never = open_not_blank _ _ _ c.requires (inl (omega (arith, some))) in (
       λ yes. absurd (some ((Decides-eqb c.args.self.now.lines 0).0 yes)),
-      λ blank. absurd (never blank)
+      λ blank. absurd (never blank),
     )

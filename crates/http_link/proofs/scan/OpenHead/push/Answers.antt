@@ -12,7 +12,7 @@ returns-then-byte-ne10-clause-ok c =
 pub returns-then-not-empty-clause-ok : goal.returns-then-not-empty-clause-ok
 returns-then-not-empty-clause-ok c =
     push_full _ _ _ _ c.args.byte _ c.requires.begun c.in_ok-push.ensures.ok c.if-byte-ne10.false c.len-self.ensures
-      (λ empty. let never : false ≡ true = c.if-not-empty.ensures.1 empty in cc)
+    (λ empty. let never : false ≡ true = c.if-not-empty.ensures.1 empty in cc)
 
 pub returns-then-self-gt0-clause-ok : goal.returns-then-self-gt0-clause-ok
 returns-then-self-gt0-clause-ok c =
@@ -21,4 +21,4 @@ returns-then-self-gt0-clause-ok c =
 pub returns-else-self-gt0-clause-ok : goal.returns-else-self-gt0-clause-ok
 returns-else-self-gt0-clause-ok c =
     push_empty _ _ _ _ c.args.byte _ c.requires.begun c.in_ok-push.ensures.ok c.if-byte-ne10.false c.len-self.ensures
-      (c.if-not-empty.ensures.0 refl) c.if-self-gt0.false
+    (c.if-not-empty.ensures.0 refl) c.if-self-gt0.false
