@@ -1,8 +1,8 @@
 -- What comes of a whole head.
-use Rattle.std.proofs.Common.{◌≡◌, ℕ, ◌<◌, ◌≤◌, ◌⊎◌, inl, inr, List, [], length, subst, arith}
+use Rattle.std.proofs.Common.{ℕ, ◌≤◌, inl, inr, List, [], length, subst, arith}
 use Rattle.std.specs.Prelude.{Result}
 use Rattle.http_link.specs.declared.refusal.Refusal.{Refusal}
-use Rattle.http_link.specs.Lines.{print_head, IsWholeHead}
+use Rattle.http_link.specs.Lines.{IsWholeHead}
 use Rattle.http_link.specs.Checks.{most_head, most_fields, ReadsWithin, Reads, Head}
 use Rattle.httparse.specs.Grammar.{ReadsRequest}
 use Rattle.http_link.proofs.FieldLemmas.{fields_counted}

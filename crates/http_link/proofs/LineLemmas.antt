@@ -4,10 +4,9 @@ use Rattle.std.specs.Prelude.{All, IsTrue, ◌↔◌, ◌==◌}
 use Rattle.std.proofs.lemmas.Bool.{cases_lt}
 use Rattle.std.proofs.lemmas.Bool.Decides.{Decides-eqb}
 use Rattle.std.proofs.Math.Seq.{drop-append_seam}
-use Rattle.std.specs.List.{flat_map}
 use Rattle.std.proofs.lemmas.Grind.{flat_map-append}
 use Rattle.std.proofs.lemmas.List.Elements.{All-nil, All-cons, All-head, All-tail, All-append, All-push}
-use Rattle.http_link.specs.Lines.{IsLine, IsEmptyLine, IsFullLine, print_lines, AreEmptyLines, HeadLines, print_head, AreHeadLines, HasNoHead, IsOpenHead, IsWholeHead}
+use Rattle.http_link.specs.Lines.{IsLine, IsEmptyLine, IsFullLine, print_lines, AreEmptyLines, HeadLines, AreHeadLines, HasNoHead, IsOpenHead, IsWholeHead}
 
 -- ---- lists of lines
 

@@ -1,6 +1,6 @@
 -- What the steps of reading a request show.
-use Rattle.std.proofs.Common.{◌≡◌, ℕ, ◌+◌, ◌<◌, ◌≤◌, ◌⊎◌, inl, inr, List, [], ◌∷◌, ◌++◌, length, Option, Some, None, Result, Ok, Err, refl, sym, ◌∙◌, ap, subst, arith, append_assoc, append-nil}
-use Rattle.std.specs.Prelude.{⊤, All, MatchOption}
+use Rattle.std.proofs.Common.{◌≡◌, ℕ, ◌<◌, ◌≤◌, inl, inr, List, [], ◌++◌, length, Option, Some, None, Ok, Err, refl, sym, subst, arith}
+use Rattle.std.specs.Prelude.{⊤, MatchOption}
 use Rattle.os_io.specs.Streams.{Told}
 use Rattle.http_link.specs.declared.refusal.Refusal.{Refusal}
 use Rattle.http_link.specs.declared.refusal.Refusal.TheVariants.{HeadTooLarge}
@@ -9,7 +9,7 @@ use Rattle.http_link.specs.declared.requests.HeadRead.{HeadRead}
 use Rattle.http_link.specs.declared.requests.HeadRead.TheVariants.{Whole, TooLarge, Cut as CutHead, Ended as NoHead}
 use Rattle.http_link.specs.declared.requests.LinkFault.{LinkFault}
 use Rattle.http_link.specs.declared.requests.LinkFault.TheVariants.{ReadFault, Memory}
-use Rattle.http_link.specs.Lines.{AreEmptyLines, IsOpenHead, IsWholeHead, IsEmptyLine, IsLine, IsFullLine, print_lines}
+use Rattle.http_link.specs.Lines.{AreEmptyLines, IsOpenHead, IsWholeHead}
 use Rattle.http_link.specs.Checks.{most_head, Head}
 use Rattle.http_link.specs.Requests.{Answers, AnswersHead, AnswersBody, LosesPiece, TakesByte}
 use Rattle.http_link.proofs.LineLemmas.{open_has_no_head, whole_not_blank}

@@ -1,5 +1,5 @@
 -- What a server asks of a request's head, in the order in which it asks (RFC 9112, sections 2.3, 3, 3.2, 6.1 and 6.3; RFC 9110, sections 8.6, 9.1, 15.5 and 15.6.2; RFC 6585, section 5).
-use Rattle.std.specs.Prelude.{◌≡◌, ℕ, ◌+◌, ◌<◌, ◌≤◌, ◌⊎◌, Bool, ◌&&◌, ◌||◌, not, ◌==◌, nat_lt, List, [], ◌∷◌, length, map, filter, count_by, if◌then◌else◌, codes, Result, Ok, Err, bytes_eq}
+use Rattle.std.specs.Prelude.{◌≡◌, ℕ, ◌<◌, ◌≤◌, ◌⊎◌, Bool, ◌&&◌, ◌||◌, not, ◌==◌, nat_lt, List, [], ◌∷◌, length, map, filter, count_by, if◌then◌else◌, codes, Result, Ok, Err, bytes_eq}
 use Rattle.std.specs.List.{list_all}
 use Rattle.std.specs.Char.{is_ascii_digit}
 use Rattle.std.specs.Str.{str_eq_ignore_ascii_case}

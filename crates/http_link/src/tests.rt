@@ -13,7 +13,7 @@ enum Shown {
     Fault,
 }
 
-fn shown(alloc: Global, bytes: &[u8], piece: usize, fails: &[u64]) -> Result<Shown, Memory> {
+fn read_one(alloc: Global, bytes: &[u8], piece: usize, fails: &[u64]) -> Result<Shown, Memory> {
     let mut source = MemSource::new(alloc, bytes, piece, fails)?;
     Ok(match read_request(alloc, &mut source) {
         Ok(Incoming::Body(body)) => Shown::Body(body.len()),
@@ -97,10 +97,10 @@ fn reads_requests(rt: HostRuntime) -> Result<(), Fail> {
         (b"", Shown::Ended),
     ];
     for (bytes, want) in table {
-        assert_eq!(rt; shown(rt.alloc(), bytes, 0, &[])?, want);
-        assert_eq!(rt; shown(rt.alloc(), bytes, 100, &[])?, want);
+        assert_eq!(rt; read_one(rt.alloc(), bytes, 0, &[])?, want);
+        assert_eq!(rt; read_one(rt.alloc(), bytes, 100, &[])?, want);
     }
-    assert_eq!(rt; shown(rt.alloc(), b"POST", 0, &[3])?, Shown::Fault);
+    assert_eq!(rt; read_one(rt.alloc(), b"POST", 0, &[3])?, Shown::Fault);
     Ok(())
 }
 
@@ -112,7 +112,7 @@ fn refuses_large_heads(rt: HostRuntime) -> Result<(), Fail> {
     }
     head.push(b'\n')?;
     assert_eq!(rt;
-        shown(rt.alloc(), head.as_slice(), 9, &[])?,
+        read_one(rt.alloc(), head.as_slice(), 9, &[])?,
         Shown::Refused(Refusal::MethodNotAllowed)
     );
     head.truncate(14);
@@ -121,17 +121,20 @@ fn refuses_large_heads(rt: HostRuntime) -> Result<(), Fail> {
     }
     head.extend(b"\n\n")?;
     assert_eq!(rt;
-        shown(rt.alloc(), head.as_slice(), 9, &[])?,
+        read_one(rt.alloc(), head.as_slice(), 9, &[])?,
         Shown::Refused(Refusal::HeadTooLarge)
     );
     let mut lines = Text::new(rt.alloc());
     for _ in 0..16_383 {
         lines.push(b'\n')?;
     }
-    assert_eq!(rt; shown(rt.alloc(), lines.as_slice(), 9, &[])?, Shown::Ended);
+    assert_eq!(rt;
+        read_one(rt.alloc(), lines.as_slice(), 9, &[])?,
+        Shown::Ended
+    );
     lines.push(b'\n')?;
     assert_eq!(rt;
-        shown(rt.alloc(), lines.as_slice(), 9, &[])?,
+        read_one(rt.alloc(), lines.as_slice(), 9, &[])?,
         Shown::Refused(Refusal::HeadTooLarge)
     );
     Ok(())

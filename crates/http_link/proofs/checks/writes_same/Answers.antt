@@ -1,6 +1,6 @@
-use Rattle.std.proofs.Common.{◌≡◌, true, rules, sym, ◌∙◌}
+use Rattle.std.proofs.Common.{◌≡◌, rules}
 use Rattle.std.specs.Str.{bytes_eq}
-use Rattle.http_link.specs.Checks.{is_number, without_zeros}
+use Rattle.http_link.specs.Checks.{without_zeros}
 use Rattle.http_link.proofs.NumberLemmas.{same_by_digits}
 use Rattle.http_link.proofs.checks.writes_same.Goals as goal
 

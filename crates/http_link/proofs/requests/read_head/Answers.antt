@@ -1,5 +1,4 @@
-use Rattle.std.proofs.Common.{◌≡◌, ◌+◌, ◌<◌, ◌≤◌, ◌++◌, ◌∷◌, [], Some, List, ℕ, length, ap, arith, rules, true, false, length-append}
-use Rattle.http_link.specs.Checks.{most_head}
+use Rattle.std.proofs.Common.{◌≡◌, ◌++◌, ◌∷◌, [], Some, length, ap, arith, rules, true, false, length-append}
 use Rattle.http_link.proofs.ToldLemmas.{took_more}
 use Rattle.http_link.proofs.RequestLemmas.{head_fault, head_cut, head_large, head_found, head_lost, end_at, byte_at, pushed_at, took_as}
 use Rattle.http_link.proofs.requests.read_head.Goals as goal

@@ -1,7 +1,6 @@
-use Rattle.std.proofs.Common.{◌≡◌, Some, None, Ok, List, ℕ, subst}
+use Rattle.std.proofs.Common.{Some, None, Ok, List, ℕ, subst}
 use Rattle.http_link.specs.Checks.{Head}
 use Rattle.http_link.specs.declared.requests.HeadRead.TheVariants.{Whole}
-use Rattle.http_link.specs.Requests.{AnswersHead}
 use Rattle.http_link.proofs.RequestLemmas.{answer_body, answer_cut, answer_fault, head_at, body_at}
 use Rattle.http_link.proofs.requests.read_request.Goals as goal
 
