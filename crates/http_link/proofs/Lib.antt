@@ -1,0 +1,7 @@
+pub mod NumberLemmas
+pub mod LineLemmas
+pub mod FieldLemmas
+pub mod HeadLemmas
+pub mod ToldLemmas
+pub mod RequestLemmas
+pub mod WrittenLemmas

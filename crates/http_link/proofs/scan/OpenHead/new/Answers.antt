@@ -1,0 +1,5 @@
+use Rattle.http_link.proofs.LineLemmas.{open_none}
+use Rattle.http_link.proofs.scan.OpenHead.new.Goals as goal
+
+pub returns-clause-begun : goal.returns-clause-begun
+returns-clause-begun c = rw c.new.ensures open_none

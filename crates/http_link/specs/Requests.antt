@@ -1,0 +1,125 @@
+-- Requests in a stream of bytes (RFC 9112, sections 2 and 6).
+use Rattle.std.specs.Prelude.{◌≡◌, ℕ, ◌<◌, ◌≤◌, ◌⊎◌, List, [], ◌∷◌, ◌++◌, length, Option, None, Some, Result, Ok, Err, ⊤}
+use Rattle.os_io.specs.Streams.{Told, HasRisen}
+use Rattle.http_link.specs.declared.requests.Incoming.{Incoming}
+use Rattle.http_link.specs.declared.requests.Incoming.TheVariants.{Body, Refused, Cut, Ended}
+use Rattle.http_link.specs.declared.requests.LinkFault.{LinkFault}
+use Rattle.http_link.specs.declared.requests.LinkFault.TheVariants.{ReadFault, Memory}
+use Rattle.http_link.specs.declared.requests.HeadRead.{HeadRead}
+use Rattle.http_link.specs.declared.requests.HeadRead.TheVariants.{Whole, TooLarge, Cut as CutHead, Ended as NoHead}
+use Rattle.http_link.specs.Lines.{AreEmptyLines, HasNoHead, IsWholeHead}
+use Rattle.http_link.specs.Checks.{most_head, Head}
+
+-- a head that was accepted, and a body of its length
+abbrev pub IsRequest : List ℕ → List ℕ → Type 0
+IsRequest bytes body = (head : List ℕ) × Head head (Ok (length body)) × (bytes ≡ head ++ body)
+
+-- a head that hasn't come to its end, nor to the most that a head may have
+pub record IsHeadBegun (bytes : List ℕ) : Type 0 where
+  pub fits : length bytes < most_head
+  pub no_head : HasNoHead bytes
+
+-- a head that was accepted, and less than its body
+abbrev pub IsBodyBegun : List ℕ → Type 0
+IsBodyBegun bytes =
+    (head : List ℕ) × (body : List ℕ) × (most : ℕ) × Head head (Ok most) × (bytes ≡ head ++ body)
+    × (length body < most)
+
+-- a request that isn't whole, and that nothing refuses yet
+abbrev pub IsBegun : List ℕ → Type 0
+IsBegun bytes = IsHeadBegun bytes ⊎ IsBodyBegun bytes
+
+-- the input ended inside a request
+abbrev pub IsCut : List ℕ → Type 0
+IsCut bytes = (¬ (AreEmptyLines bytes)) × IsBegun bytes
+
+-- the input ended between two requests
+pub record EndedBetween (bytes : List ℕ) : Type 0 where
+  pub empty : AreEmptyLines bytes
+  pub fits : length bytes < most_head
+
+-- what the bytes that an answer took from the input are
+abbrev pub Shows : Result Incoming LinkFault → List ℕ → Type 0
+Shows (Ok (Body body)) taken = IsRequest taken body
+Shows (Ok (Refused refusal)) taken = Head taken (Err refusal)
+Shows (Ok Cut) taken = IsCut taken
+Shows (Ok Ended) taken = EndedBetween taken
+Shows (Err ReadFault) taken = IsBegun taken
+Shows (Err Memory) taken = ⊤
+
+-- the input ended, where the answer says so
+abbrev pub EndsWith : Result Incoming LinkFault → List ℕ → Type 0
+EndsWith (Ok (Body body)) rest = ⊤
+EndsWith (Ok (Refused refusal)) rest = ⊤
+EndsWith (Ok Cut) rest = rest ≡ []
+EndsWith (Ok Ended) rest = rest ≡ []
+EndsWith (Err fault) rest = ⊤
+
+-- an answer, by the bytes to come before and after it, where they are told
+abbrev pub Answers : Result Incoming LinkFault → Option (List ℕ) → Option (List ℕ) → Type 0
+Answers answer left left' =
+    (taken : List ℕ) × Shows answer taken
+    × Told left left' (λ before after. (before ≡ taken ++ after) × EndsWith answer after)
+
+-- a fault in reading is counted, and a want of memory isn't
+abbrev pub FaultRises : LinkFault → ℕ → ℕ → Type 0
+FaultRises ReadFault before after = HasRisen before after
+FaultRises Memory before after = after ≡ before
+
+-- what the bytes are that the reading of a head took
+abbrev pub ShowsHead : Result HeadRead LinkFault → List ℕ → Type 0
+ShowsHead (Ok (Whole text lines)) taken =
+    (text ≡ taken) × IsWholeHead taken lines × (length taken ≤ most_head)
+ShowsHead (Ok TooLarge) taken = (length taken ≡ most_head) × HasNoHead taken
+ShowsHead (Ok CutHead) taken = (¬ (AreEmptyLines taken)) × IsHeadBegun taken
+ShowsHead (Ok NoHead) taken = EndedBetween taken
+ShowsHead (Err ReadFault) taken = IsHeadBegun taken
+ShowsHead (Err Memory) taken = ⊤
+
+-- the input ended, where that is the answer
+abbrev pub HeadEnds : Result HeadRead LinkFault → List ℕ → Type 0
+HeadEnds (Ok (Whole text lines)) rest = ⊤
+HeadEnds (Ok TooLarge) rest = ⊤
+HeadEnds (Ok CutHead) rest = rest ≡ []
+HeadEnds (Ok NoHead) rest = rest ≡ []
+HeadEnds (Err fault) rest = ⊤
+
+-- the reading of a head, by the bytes to come before and after it, where they are told
+abbrev pub AnswersHead : Result HeadRead LinkFault → Option (List ℕ) → Option (List ℕ) → Type 0
+AnswersHead answer left left' =
+    (taken : List ℕ) × ShowsHead answer taken
+    × Told left left' (λ before after. (before ≡ taken ++ after) × HeadEnds answer after)
+
+-- the next byte is taken, or the input has ended
+abbrev pub TakesByte : Option ℕ → List ℕ → List ℕ → Type 0
+TakesByte None before after = (before ≡ []) × (after ≡ [])
+TakesByte (Some byte) before after = before ≡ byte ∷ after
+
+-- so many bytes were taken and added to the body. With none, the input has ended
+abbrev pub AddsPiece : Option (List ℕ) → Option (List ℕ) → List ℕ → List ℕ → ℕ → ℕ → Type 0
+AddsPiece left left' body body' most count =
+    (piece : List ℕ) × (body' ≡ body ++ piece) × (length piece ≡ count) × (count ≤ most)
+    × Told left left' (λ before after. (before ≡ piece ++ after) × (count ≡ 0 → after ≡ []))
+
+-- some bytes were taken
+abbrev pub LosesPiece : Option (List ℕ) → Option (List ℕ) → Type 0
+LosesPiece left left' = (piece : List ℕ) × Told left left' (λ before after. (before ≡ piece ++ after) × ⊤)
+
+-- what the bytes are that the reading of a body took
+abbrev pub ShowsBody : ℕ → Result (Option (List ℕ)) LinkFault → List ℕ → Type 0
+ShowsBody len (Ok (Some body)) taken = (taken ≡ body) × (length body ≡ len)
+ShowsBody len (Ok None) taken = length taken < len
+ShowsBody len (Err ReadFault) taken = length taken < len
+ShowsBody len (Err Memory) taken = ⊤
+
+-- the input ended, where that is the answer
+abbrev pub BodyEnds : Result (Option (List ℕ)) LinkFault → List ℕ → Type 0
+BodyEnds (Ok (Some body)) rest = ⊤
+BodyEnds (Ok None) rest = rest ≡ []
+BodyEnds (Err fault) rest = ⊤
+
+-- the reading of a body, by the bytes to come before and after it, where they are told
+abbrev pub AnswersBody : ℕ → Result (Option (List ℕ)) LinkFault → Option (List ℕ) → Option (List ℕ) → Type 0
+AnswersBody len answer left left' =
+    (taken : List ℕ) × ShowsBody len answer taken
+    × Told left left' (λ before after. (before ≡ taken ++ after) × BodyEnds answer after)

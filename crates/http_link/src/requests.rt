@@ -1,0 +1,190 @@
+//! Requests on a source.
+ghost use Rattle.std.specs.Prelude.{◌≡◌, ◌≤◌, ◌<◌, ◌++◌, [], ℕ, List, length, Ok, Err, IfOk, OnOk, OnErr, IfErr};
+ghost use Rattle.http_link.specs.declared.requests.LinkFault.TheVariants.{ReadFault};
+ghost use Rattle.os_io.specs.Streams.{Told, HasRisen};
+ghost use Rattle.http_link.specs.Checks.{most_head, Head};
+ghost use Rattle.http_link.specs.Lines.{IsWholeHead};
+ghost use Rattle.http_link.specs.Requests.{Answers, AnswersHead, AnswersBody, AddsPiece, LosesPiece, FaultRises, TakesByte};
+
+use crate::Refusal;
+use crate::checks::{MOST_FIELDS, head_outcome};
+use crate::scan::OpenHead;
+use os_io::{Failed, Source, Text};
+use std::alloc::Global;
+
+/// What came on a source.
+#[derive(Drop)]
+pub enum Incoming {
+    /// A request with this body.
+    Body(Text),
+    /// A head that is refused. Its body, if it has one, is still to come.
+    Refused(Refusal),
+    /// The input ended inside a request that nothing refused before.
+    Cut,
+    /// The input ended between two requests.
+    Ended,
+}
+
+/// Why nothing can be said of what comes on a source.
+#[derive(Clone, Copy, PartialEq, Eq, Debug, Drop)]
+pub enum LinkFault {
+    /// A read failed, and the source's count of faults rose.
+    ReadFault,
+    /// There was no memory.
+    Memory,
+}
+
+/// The length of the body, or the refusal, of a head.
+fn judge(head: &[u8], lines: usize) -> Result<usize, Refusal>
+    requires whole { IsWholeHead head.now lines }
+    requires fits { length head.now ≤ most_head }
+    ensures { Head head.now result }
+{
+    if lines > MOST_FIELDS {
+        return Err(Refusal::HeadTooLarge);
+    }
+    head_outcome(head)
+}
+
+/// The most bytes of a head.
+const MOST_HEAD: usize = 16_384;
+
+/// How the reading of a head ended.
+#[derive(Drop)]
+enum HeadRead {
+    /// The head is whole, with so many lines between its request line and its empty one.
+    Whole(Text, usize),
+    /// It has more bytes than a head may have.
+    TooLarge,
+    /// The input ended inside it.
+    Cut,
+    /// The input ended before it.
+    Ended,
+}
+
+/// The most bytes that one read of a body asks for.
+const PIECE: usize = 4096;
+
+/// Reads the next byte, or finds the input at its end.
+fn read_byte<S: Source>(source: &mut S) -> Result<Option<u8>, Failed>
+    ensures byte { IfOk result (λ got. Told (S.left source.old) (S.left source.new) (TakesByte got)) }
+    ensures err { OnErr result (S.left source.new ≡ S.left source.old) }
+    ensures failed { OnErr result (HasRisen (S.read_faults source.old) (S.read_faults source.new)) }
+    ensures counted { OnOk result (S.read_faults source.new ≡ S.read_faults source.old) }
+    ensures written { S.written source.new ≡ S.written source.old }
+    ensures write_faults { S.write_faults source.new ≡ S.write_faults source.old }
+{
+    let mut byte = [0];
+    match source.read(&mut byte) {
+        Ok(count) => {
+            if count == 0 {
+                return Ok(None);
+            }
+            Ok(Some(byte[0]))
+        }
+        Err(failed) => Err(failed),
+    }
+}
+
+/// Reads a head, and nothing past it.
+fn read_head<S: Source>(alloc: Global, source: &mut S) -> Result<HeadRead, LinkFault>
+    ensures answer { AnswersHead result (S.left source.old) (S.left source.new) }
+    ensures failed { IfErr result (λ fault. FaultRises fault (S.read_faults source.old) (S.read_faults source.new)) }
+    ensures counted { OnOk result (S.read_faults source.new ≡ S.read_faults source.old) }
+    ensures written { S.written source.new ≡ S.written source.old }
+    ensures write_faults { S.write_faults source.new ≡ S.write_faults source.old }
+{
+    let mut head = OpenHead::new(alloc);
+    while head.text.len() < MOST_HEAD {
+        let Ok(got) = read_byte(source) else {
+            return Err(LinkFault::ReadFault);
+        };
+        let Some(byte) = got else {
+            if head.is_blank() {
+                return Ok(HeadRead::Ended);
+            }
+            return Ok(HeadRead::Cut);
+        };
+        match head.push(byte) {
+            Ok(None) => {}
+            Ok(Some(lines)) => return Ok(HeadRead::Whole(head.text, lines)),
+            Err(_) => return Err(LinkFault::Memory),
+        }
+    }
+    Ok(HeadRead::TooLarge)
+}
+
+/// Reads some bytes to the end of a body, and no more than `most`. 0 is the end of the input.
+fn read_piece<S: Source>(source: &mut S, body: &mut Text, most: usize) -> Result<usize, LinkFault>
+    requires { 0 < most }
+    ensures piece { IfOk result (λ count. AddsPiece (S.left source.old) (S.left source.new) body.old body.new most count) }
+    ensures fault { OnErr result (LosesPiece (S.left source.old) (S.left source.new)) }
+    ensures unread { IfErr result (λ fault. fault ≡ ReadFault → (body.new ≡ body.old) × (S.left source.new ≡ S.left source.old)) }
+    ensures failed { IfErr result (λ fault. FaultRises fault (S.read_faults source.old) (S.read_faults source.new)) }
+    ensures counted { OnOk result (S.read_faults source.new ≡ S.read_faults source.old) }
+    ensures written { S.written source.new ≡ S.written source.old }
+    ensures write_faults { S.write_faults source.new ≡ S.write_faults source.old }
+{
+    let mut buffer = [0; PIECE];
+    let room = most.min(PIECE);
+    let Ok(count) = source.read(&mut buffer[..room]) else {
+        return Err(LinkFault::ReadFault);
+    };
+    match body.extend(&buffer[..count]) {
+        Ok(()) => Ok(count),
+        Err(_) => Err(LinkFault::Memory),
+    }
+}
+
+/// Reads a body of this length, and nothing past it. `None` says that the input ended inside it.
+fn read_body<S: Source>(
+    alloc: Global,
+    source: &mut S,
+    len: usize,
+) -> Result<Option<Text>, LinkFault>
+    ensures answer { AnswersBody len result (S.left source.old) (S.left source.new) }
+    ensures failed { IfErr result (λ fault. FaultRises fault (S.read_faults source.old) (S.read_faults source.new)) }
+    ensures counted { OnOk result (S.read_faults source.new ≡ S.read_faults source.old) }
+    ensures written { S.written source.new ≡ S.written source.old }
+    ensures write_faults { S.write_faults source.new ≡ S.write_faults source.old }
+{
+    let mut body = Text::new(alloc);
+    while body.len() < len {
+        let most = len - body.len();
+        match read_piece(source, &mut body, most) {
+            Ok(count) => {
+                if count == 0 {
+                    return Ok(None);
+                }
+            }
+            Err(fault) => return Err(fault),
+        }
+    }
+    Ok(Some(body))
+}
+
+/// Reads a request, and nothing past it. Of a refused head, its body is still to come.
+///
+/// The head is taken byte by byte, so a source with costly reads wants a buffer of its own. Where a read fails, what was taken is lost.
+pub fn read_request<S: Source>(alloc: Global, source: &mut S) -> Result<Incoming, LinkFault>
+    ensures answer { Answers result (S.left source.old) (S.left source.new) }
+    ensures failed { IfErr result (λ fault. FaultRises fault (S.read_faults source.old) (S.read_faults source.new)) }
+    ensures counted { OnOk result (S.read_faults source.new ≡ S.read_faults source.old) }
+    ensures written { S.written source.new ≡ S.written source.old }
+    ensures write_faults { S.write_faults source.new ≡ S.write_faults source.old }
+{
+    match read_head(alloc, source) {
+        Ok(HeadRead::Whole(head, lines)) => match judge(head.as_slice(), lines) {
+            Ok(len) => match read_body(alloc, source, len) {
+                Ok(Some(body)) => Ok(Incoming::Body(body)),
+                Ok(None) => Ok(Incoming::Cut),
+                Err(fault) => Err(fault),
+            },
+            Err(refusal) => Ok(Incoming::Refused(refusal)),
+        },
+        Ok(HeadRead::TooLarge) => Ok(Incoming::Refused(Refusal::HeadTooLarge)),
+        Ok(HeadRead::Cut) => Ok(Incoming::Cut),
+        Ok(HeadRead::Ended) => Ok(Incoming::Ended),
+        Err(fault) => Err(fault),
+    }
+}
