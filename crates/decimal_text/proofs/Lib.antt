@@ -14,3 +14,5 @@ pub mod Ratios
 pub mod RatioTexts
 pub mod Cutting
 pub mod Expanding
+pub mod Tens
+pub mod Written

@@ -10,3 +10,4 @@ pub mod Parts
 pub mod Exact
 pub mod Plain
 pub mod Fault
+pub mod Places

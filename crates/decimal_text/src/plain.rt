@@ -22,7 +22,7 @@ pub fn write_cut12(value: Frac, out: &mut Text) -> Result<(), Memory>
 }
 
 /// The size of the numerator.
-fn size(value: Frac) -> u128
+pub fn size(value: Frac) -> u128
     ensures { result ≡ unsigned_abs value.numer }
 {
     value.numer.unsigned_abs()
