@@ -1,0 +1,4 @@
+pub mod Taken
+pub mod Nested
+pub mod Items
+pub mod Finished

@@ -1,0 +1,14 @@
+use Rattle.std.proofs.Common.{refl}
+use Rattle.solve_call.specs.Documents as documents
+use Rattle.plain_osil.specs.Reading.{said}
+use Rattle.solve_call.proofs.Items.{tells_then}
+use Rattle.solve_call.proofs.Finished.{whole, has_tree, tree_is}
+use Rattle.solve_call.proofs.documents.solved_result.Goals as goal
+
+pub unwrap-requires : goal.unwrap-requires
+unwrap-requires c =
+    has_tree c.finish.result _ (documents.solved_result (said c.args.plain.now)) c.finish.ensures (whole _ _ _ (documents.solved_result (said c.args.plain.now)) c.new-b.ensures (tells_then _ _ _ _ _ (tells_then _ _ _ _ _ (tells_then _ _ _ _ _ (tells_then _ _ _ _ _ (tells_then _ _ _ _ _ (tells_then _ _ _ _ _ (tells_then _ _ _ _ _ (tells_then _ _ _ _ _ (c.in_ok-begin_result.ensures) c.in_ok-close.ensures) c.in_ok-tell_job.ensures) c.in_ok-open.ensures) c.in_ok-open-2.ensures) c.in_ok-tell_solution.ensures) c.in_ok-close-2.ensures) c.in_ok-close-3.ensures) c.in_ok-close-4.ensures) refl)
+
+pub returns : goal.returns
+returns c =
+    tree_is c.finish.result _ c.unwrap.result (documents.solved_result (said c.args.plain.now)) c.finish.ensures c.unwrap.ensures (whole _ _ _ (documents.solved_result (said c.args.plain.now)) c.new-b.ensures (tells_then _ _ _ _ _ (tells_then _ _ _ _ _ (tells_then _ _ _ _ _ (tells_then _ _ _ _ _ (tells_then _ _ _ _ _ (tells_then _ _ _ _ _ (tells_then _ _ _ _ _ (tells_then _ _ _ _ _ (c.in_ok-begin_result.ensures) c.in_ok-close.ensures) c.in_ok-tell_job.ensures) c.in_ok-open.ensures) c.in_ok-open-2.ensures) c.in_ok-tell_solution.ensures) c.in_ok-close-2.ensures) c.in_ok-close-3.ensures) c.in_ok-close-4.ensures) refl)
