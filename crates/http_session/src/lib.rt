@@ -1,0 +1,17 @@
+//! Sessions of HTTP/1.1: requests that come on a source are answered on a sink, each by one response.
+//!
+//! What answers a body is a [`Service`]. [`serve_one`] reads one request, has its body answered and writes the response,
+//! so it holds of each service what of the bytes read it answers and which bytes it writes. A refused head and a body
+//! that asks nothing get `400 Bad Request`, and want of memory gets `503 Service Unavailable`. Nothing is written for a
+//! request whose bytes don't all come.
+#![tactic(auto)]
+
+mod reply;
+mod service;
+mod session;
+
+pub use service::Service;
+pub use session::{Served, serve_one};
+
+#[cfg(test)]
+mod tests;
