@@ -1,18 +1,10 @@
--- The one or two child elements that an element has.
+-- The two child elements that an element has.
 use Rattle.std.proofs.Common.{◌≡◌, ℕ, List, [], ◌∷◌, subst, sym}
 use Rattle.tree_grammar.specs.Elements.{Nodes, Element, Event}
 use Rattle.tree_walk.specs.Rests.{child_elements}
 use Rattle.tree_walk.proofs.Content.{Entered}
 use Rattle.plain_program.specs.Program.{Cost}
 use Rattle.plain_osil.specs.Plain.{AreCosts, HoldsGoal}
-
--- the first of one child element is the one
-pub only_child : (elements : List Element) (goal child : Element) (more : List Element) → elements ≡ goal ∷ [] → elements ≡ child ∷ more → goal ≡ child
-only_child elements goal child more one first = cc
-
--- and none is behind it
-pub none_behind : (elements : List Element) (goal child : Element) (more : List Element) → elements ≡ goal ∷ [] → elements ≡ child ∷ more → more ≡ []
-none_behind elements goal child more one first = cc
 
 -- of two, the first is the first
 pub first_of_two : (elements : List Element) (a b child : Element) (more : List Element) → elements ≡ a ∷ b ∷ [] → elements ≡ child ∷ more → a ≡ child

@@ -14,14 +14,6 @@ names_of names = map (λ n. n.now) names
 pub held_by : (names : List (Bor (List ℕ))) (name : Bor (List ℕ)) (inner : List (Bor (List ℕ))) (content : Nodes) (text : List ℕ) → names ≡ name ∷ inner → Holds (names_of names) content text → (child : Element) × (child_elements content ≡ child ∷ []) × (child.name ≡ name.now) × Holds (names_of inner) child.children text
 held_by names name inner content text e held = subst (λ (ns : List (Bor (List ℕ))). Holds (names_of ns) content text) e held
 
--- the first of one child element is the one
-pub only_child : (elements : List Element) (one child : Element) (more : List Element) → elements ≡ one ∷ [] → elements ≡ child ∷ more → one ≡ child
-only_child elements one child more only first = cc
-
--- and none is behind it
-pub none_behind : (elements : List Element) (one child : Element) (more : List Element) → elements ≡ one ∷ [] → elements ≡ child ∷ more → more ≡ []
-none_behind elements one child more only first = cc
-
 -- What an envelope's content asks, the envelope asks.
 pub envelope_asks : (e : Element) (inside after : List Event) (attributes : List Attribute) (answer : Option (List ℕ)) → EnteredElement inside (codes "Envelope") attributes e [] → ReadsContent inside after answer (λ (t : List ℕ). t) (Holds path) → MatchOption answer ((t : List ℕ) → AsksToSolve e t → ⊥) (λ t. AsksToSolve e t)
 envelope_asks e inside after attributes None into reads = λ t asks. reads e.name e.children [] into.inside t asks.holds

@@ -1,9 +1,9 @@
 -- The characters that a walk took from the front of an element's content, or nothing.
-use Rattle.std.proofs.Common.{◌≡◌, ◌∙◌, ℕ, List, [], ◌∷◌, Option, None, Some, Bor, ap, sym, refl, inl, inr}
+use Rattle.std.proofs.Common.{◌≡◌, ◌∙◌, ℕ, List, [], ◌∷◌, Option, None, Some, Bor, ap, inl, inr}
 use Rattle.std.specs.Prelude.{IfSome, IfNone, unwrap_or}
 use Rattle.tree_grammar.specs.Elements.{Nodes, none, chars, Event, Chars, Close, nodes_events}
 use Rattle.tree_walk.specs.Texts.{HoldsText}
-use Rattle.tree_walk.proofs.Content.{BeganWith, begins_with}
+use Rattle.tree_walk.proofs.Content.{begins_with}
 
 -- Behind them more content stands; the content is characters alone exactly where it is none.
 pub record TookText (walk : List Event) (text : List ℕ) (content : Nodes) (name : List ℕ) (rest : List Event) : Type 0 where

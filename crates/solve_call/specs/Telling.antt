@@ -1,6 +1,6 @@
 -- What a builder is told, whatever comes after it.
 use Rattle.std.specs.Prelude.{◌≡◌, ℕ, List, [], ◌∷◌, ◌++◌}
-use Rattle.tree_grammar.specs.Elements.{Attribute, Nodes, Event, Open, Close, nodes_events}
+use Rattle.tree_grammar.specs.Elements.{Attribute, Event, Open, Close, nodes_events}
 use Rattle.element_tree.specs.Building.{Building, said}
 use Rattle.solve_call.specs.Documents.{text_of}
 

@@ -1,7 +1,7 @@
 -- What comes first in an element's content, behind characters: its next child element, or its end.
 use Rattle.std.proofs.Common.{◌≡◌, ℕ, ◌≤◌, List, [], ◌∷◌, length, refl, inl, inr, ◌∙◌, ap, arith}
 use Rattle.std.specs.Prelude.{◌⊎◌}
-use Rattle.tree_grammar.specs.Elements.{Attribute, Nodes, none, element, chars, Element, Event, Open, Chars, Close, nodes_events, events}
+use Rattle.tree_grammar.specs.Elements.{Attribute, Nodes, none, element, chars, Element, Event, Open, Chars, Close, nodes_events}
 use Rattle.tree_walk.specs.Rests.{after_text, child_elements, Opens, Closes}
 
 -- no element comes in it: its end is next
@@ -94,3 +94,11 @@ length-after_text [] = omega arith
 length-after_text (Open name attributes ∷ more) = omega arith
 length-after_text (Chars text ∷ more) = omega (arith, length-after_text more)
 length-after_text (Close name ∷ more) = omega arith
+
+-- The first of one child element is the one.
+pub only_child : (elements : List Element) (one child : Element) (more : List Element) → elements ≡ one ∷ [] → elements ≡ child ∷ more → one ≡ child
+only_child elements one child more only first = cc
+
+-- And none is behind it.
+pub none_behind : (elements : List Element) (one child : Element) (more : List Element) → elements ≡ one ∷ [] → elements ≡ child ∷ more → more ≡ []
+none_behind elements one child more only first = cc

@@ -1,5 +1,5 @@
 -- One event further in a tree.
-use Rattle.std.proofs.Common.{◌≡◌, ℕ, List, [], ◌∷◌, length, drop, refl, ap, sym, subst, ◌∙◌, Some, arith}
+use Rattle.std.proofs.Common.{◌≡◌, ℕ, List, [], ◌∷◌, length, drop, ap, sym, subst, ◌∙◌, Some, arith}
 use Rattle.std.specs.List.{slice_get}
 use Rattle.tree_grammar.specs.Elements.{Attribute, Event, Open}
 use Rattle.element_tree.specs.Items.{event_at, attributes_of}

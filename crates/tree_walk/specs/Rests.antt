@@ -1,5 +1,5 @@
 -- What of a tree is still to be read: its events from some place on, and the nodes of an element's content among them.
-use Rattle.std.specs.Prelude.{◌≡◌, ℕ, List, [], ◌∷◌, Option, None, Some, MatchOption}
+use Rattle.std.specs.Prelude.{◌≡◌, ℕ, List, [], ◌∷◌, Option, MatchOption}
 use Rattle.tree_grammar.specs.Elements.{Attribute, Nodes, none, element, chars, Element, Event, Open, Chars, Close, nodes_events}
 
 -- the events behind the characters that stand first

@@ -2,9 +2,8 @@ use Rattle.std.proofs.Common.{◌≡◌, ◌∙◌, ℕ, List, [], ◌∷◌, ap
 use Rattle.std.specs.Prelude.{codes}
 use Rattle.tree_grammar.specs.Elements.{Element}
 use Rattle.tree_walk.specs.Rests.{after_text, child_elements}
-use Rattle.tree_walk.proofs.Content.{enters_element, enters, no_first, closes_here, some_is_left}
+use Rattle.tree_walk.proofs.Content.{enters_element, enters, no_first, closes_here, some_is_left, only_child, none_behind}
 use Rattle.plain_osil.specs.Plain.{HoldsParts}
-use Rattle.plain_osil.proofs.Few.{only_child, none_behind}
 use Rattle.plain_osil.proofs.reader.plain_of.Goals as goal
 
 pub returns-then-not-open-2 : goal.returns-then-not-open-2

@@ -2,10 +2,9 @@ use Rattle.std.proofs.Common.{◌≡◌, ◌∙◌, ℕ, List, [], ◌∷◌, ap
 use Rattle.std.specs.Prelude.{codes}
 use Rattle.tree_grammar.specs.Elements.{Element}
 use Rattle.tree_walk.specs.Rests.{after_text, child_elements}
-use Rattle.tree_walk.proofs.Content.{enters, no_first, closes_here, some_is_left}
+use Rattle.tree_walk.proofs.Content.{enters, no_first, closes_here, some_is_left, only_child, none_behind}
 use Rattle.plain_osil.specs.Plain.{AreCosts}
 use Rattle.plain_osil.specs.Reading.{costs_of}
-use Rattle.plain_osil.proofs.Few.{only_child, none_behind}
 use Rattle.plain_osil.proofs.reader.read_goal.Goals as goal
 
 pub returns-then-not-open : goal.returns-then-not-open

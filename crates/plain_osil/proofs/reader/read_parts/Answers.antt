@@ -2,9 +2,9 @@ use Rattle.std.proofs.Common.{◌≡◌, ◌∙◌, ℕ, List, [], ◌∷◌, le
 use Rattle.std.specs.Prelude.{codes}
 use Rattle.tree_grammar.specs.Elements.{Element}
 use Rattle.tree_walk.specs.Rests.{after_text, child_elements}
-use Rattle.tree_walk.proofs.Content.{enters, no_first, closes_here, some_is_left}
+use Rattle.tree_walk.proofs.Content.{enters, no_first, closes_here, some_is_left, only_child, none_behind}
 use Rattle.plain_osil.specs.Plain.{HoldsVariables, HoldsGoal}
-use Rattle.plain_osil.proofs.Few.{first_of_two, second_left, only_child, none_behind}
+use Rattle.plain_osil.proofs.Few.{first_of_two, second_left}
 use Rattle.plain_osil.proofs.reader.read_parts.Goals as goal
 
 pub returns-then-not-open : goal.returns-then-not-open

@@ -1,8 +1,7 @@
-use Rattle.std.proofs.Common.{◌≡◌, ◌∙◌, ℕ, List, [], ◌∷◌, ap, sym, subst, refl}
-use Rattle.tree_grammar.specs.Elements.{Nodes, Event, Close, nodes_events}
-use Rattle.tree_walk.specs.Texts.{HoldsText}
+use Rattle.std.proofs.Common.{◌∙◌, [], ◌∷◌, ap, refl}
+use Rattle.tree_grammar.specs.Elements.{Nodes, Close, nodes_events}
 use Rattle.tree_walk.proofs.Content.{closes_at_once}
-use Rattle.solve_call.proofs.Taken.{TookText, took_text}
+use Rattle.solve_call.proofs.Taken.{took_text}
 use Rattle.solve_call.proofs.body.read_text.Goals as goal
 
 pub returns-in_ok-from_slice : goal.returns-in_ok-from_slice

@@ -1,5 +1,5 @@
 use Rattle.std.proofs.Common.{◌≡◌, ◌++◌, drop}
-use Rattle.std.specs.Prelude.{codes, flat_map}
+use Rattle.std.specs.Prelude.{flat_map}
 use Rattle.plain_osil.specs.Reading.{costs_of}
 use Rattle.solve_call.specs.Documents.{charged_text, bound_text}
 use Rattle.solve_call.proofs.documents.bound_text.Given as goal

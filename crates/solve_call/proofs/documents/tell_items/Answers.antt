@@ -1,4 +1,4 @@
-use Rattle.std.proofs.Common.{◌≡◌, ◌-◌, ◌+◌, suc, arith}
+use Rattle.std.proofs.Common.{arith}
 use Rattle.solve_call.proofs.Items.{item_told}
 use Rattle.solve_call.proofs.documents.tell_items.Goals as goal
 

@@ -1,4 +1,3 @@
-use Rattle.std.proofs.Common.{◌≡◌, ◌∙◌, sym, ap}
 use Rattle.std.proofs.lemmas.Result.{IfOk-weaker}
 use Rattle.solve_call.specs.Documents as documents
 use Rattle.solve_call.proofs.documents.unread_reply.Goals as goal

@@ -1,6 +1,5 @@
 use Rattle.std.proofs.Common.{refl}
 use Rattle.solve_call.specs.Documents as documents
-use Rattle.plain_osil.specs.Reading.{said}
 use Rattle.solve_call.proofs.Items.{tells_then}
 use Rattle.solve_call.proofs.Finished.{whole, has_tree, tree_is}
 use Rattle.solve_call.proofs.documents.unread_result.Goals as goal

@@ -1,4 +1,4 @@
-use Rattle.std.proofs.Common.{◌≡◌, ◌∙◌, drop, sym, ap}
+use Rattle.std.proofs.Common.{◌∙◌, drop, sym, ap}
 use Rattle.std.proofs.lemmas.List.{drop-drop}
 use Rattle.tree_walk.proofs.Walk.advance.Goals as goal
 

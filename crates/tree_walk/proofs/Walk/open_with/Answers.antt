@@ -1,4 +1,4 @@
-use Rattle.std.proofs.Common.{◌≡◌, rules, sym}
+use Rattle.std.proofs.Common.{◌≡◌, rules}
 use Rattle.tree_walk.proofs.Steps.{opens_only}
 use Rattle.tree_walk.proofs.Walk.open_with.Goals as goal
 
