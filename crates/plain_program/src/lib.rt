@@ -2,7 +2,7 @@
 //!
 //! The first programs that the service answers. This crate has what they mean and the claim about
 //! each of them. Its laws say that the claim is accepted by its certificate, and true, and that no
-//! claim which says otherwise is accepted.
+//! claim to the contrary is accepted.
 //!
 //! Each function here is a law: its contract is the statement, and its body is empty.
 #![tactic(auto)]
@@ -26,8 +26,8 @@ pub fn zeros_are_refused()
     ensures { (p : Plain) (x : List Ratio) (v : Ratio) → Any (λ c. c.value ≡ 0) p.costs → Accepts (program p) (Optimal x v (BoundBy (map multiplier p.costs) ∷ [])) → ⊥ }
 {}
 
-/// No other claim is accepted, whatever its certificate: no least value but 0, not that no point
-/// is feasible, and not that the values have no bound.
+/// Whatever the certificate, no claim is accepted that the least value isn't 0, that no point is
+/// feasible, or that the values have no bound.
 pub fn others_are_refused()
     ensures value { (p : Plain) (x : List Ratio) (v : Ratio) (nodes : List Node) → IsPlain p → Accepts (program p) (Optimal x v nodes) → IsSame v none }
     ensures infeasible { (p : Plain) (nodes : List Node) → IsPlain p → Accepts (program p) (Infeasible nodes) → ⊥ }
