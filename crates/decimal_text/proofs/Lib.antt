@@ -16,3 +16,4 @@ pub mod Cutting
 pub mod Expanding
 pub mod Tens
 pub mod Written
+pub mod Reading
