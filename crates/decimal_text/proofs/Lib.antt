@@ -17,3 +17,4 @@ pub mod Expanding
 pub mod Tens
 pub mod Written
 pub mod Reading
+pub mod Once

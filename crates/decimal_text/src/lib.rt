@@ -29,7 +29,7 @@ pub use count::read_count;
 pub use decimal::{read_bound, read_decimal};
 pub use exact::read_ratio;
 pub use fault::DecimalFault;
-pub use laws::ratios_are_read_back;
+pub use laws::{decimals_are_read_back, ratios_are_read_back};
 pub use places::write_decimal;
 pub use plain::write_cut12;
 pub use ratio::write_ratio;
