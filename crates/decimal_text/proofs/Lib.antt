@@ -16,3 +16,5 @@ pub mod Cutting
 pub mod Expanding
 pub mod Tens
 pub mod Written
+pub mod Reading
+pub mod Once

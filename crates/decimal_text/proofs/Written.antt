@@ -1,14 +1,13 @@
 -- Decimals that are written whole, and read again.
-use Rattle.std.proofs.Common.{◌≡◌, ◌≢◌, ℕ, zero, suc, ◌+◌, ◌-◌, ◌*◌, ◌/◌, ◌%◌, ◌^◌, ◌<◌, ◌≤◌, ◌⊎◌, inl, inr, Bool, true, false, ℤ, pos, negsuc, ◌*ℤ◌, List, [], ◌∷◌, ◌++◌, length, refl, ap, sym, ◌∙◌, subst, arith, lit<, lit≤}
+use Rattle.std.proofs.Common.{◌≡◌, ◌≢◌, ℕ, zero, suc, ◌+◌, ◌-◌, ◌*◌, ◌/◌, ◌%◌, ◌^◌, ◌<◌, ◌≤◌, ◌⊎◌, inl, inr, Bool, true, false, ℤ, pos, negsuc, List, [], ◌∷◌, ◌++◌, length, refl, ap, sym, ◌∙◌, subst, arith, lit<, lit≤}
 use Rattle.std.specs.Prelude.{unsigned_abs, decimal, reverse, slice_index}
 use Rattle.std.specs.Char.{digit_value}
-use Rattle.std.specs.Int.{IsGcd}
 use Rattle.std.specs.Str.Parse.{AllDigits, IsNumeral, digits_value, digits_value_after}
 use Rattle.std.proofs.Math.Nat.{eq_of_mul-eq-mul_right, mul-mod_left, div-add-mod', le-mul_of_pos_right}
 use Rattle.std.proofs.lemmas.Bool.Decides.{eqb_tells}
 use Rattle.std.proofs.lemmas.Bool.{ne_eqb}
 use Rattle.std.proofs.lemmas.Fmt.{decimal_is_IsNumeral_wide}
-use Rattle.std.proofs.lemmas.List.{append_assoc, append-nil, length-append, reverse-append, reverse-reverse}
+use Rattle.std.proofs.lemmas.List.{append-nil, length-append, reverse-append, reverse-reverse}
 use Rattle.std.proofs.lemmas.Nat.{pow-add, mod-mul-add}
 use Rattle.std.proofs.lemmas.Str.Parse.{digit_from_value}
 use Rattle.rational.specs.Ratio.{Ratio, IsSame}
@@ -16,11 +15,11 @@ use Rattle.rational.specs.Width.{most}
 use Rattle.rational.specs.Whole.{signed}
 use Rattle.rational.proofs.Scaling.{IsSame-trans}
 use Rattle.rational.proofs.Signed.{same_form, sizes_cross, unsigned_abs-signed}
-use Rattle.decimal_text.specs.Sign.{Sign, absent, minus, sign_text, is_minus, optional}
+use Rattle.decimal_text.specs.Sign.{Sign, absent, minus, optional}
 use Rattle.decimal_text.specs.Space.{is_space, without_leading_space, trimmed}
 use Rattle.decimal_text.specs.Plain.{point_text, PlainText}
 use Rattle.decimal_text.specs.Places.{HasPlaces}
-use Rattle.decimal_text.specs.Decimal.{Mantissa, plain, pointed, mantissa_text, mantissa_digits, places, none, powered, decimal_value, scientific, ShortestForm, IsNarrow, HasFit, DecimalText, FittingText, IsDecimal}
+use Rattle.decimal_text.specs.Decimal.{Mantissa, plain, pointed, mantissa_text, mantissa_digits, places, none, scientific, ShortestForm, IsNarrow, HasFit, DecimalText, IsDecimal}
 use Rattle.decimal_text.proofs.Numerals.{AllDigits-append, after-append}
 use Rattle.decimal_text.proofs.Powers.{ten_power, ten_more, near}
 

@@ -12,10 +12,12 @@ pub data Mantissa : Type 0 where
   plain : List ℕ → Mantissa
   pointed : List ℕ → List ℕ → Mantissa
 
+-- its text, with `.` for the point
 abbrev pub mantissa_text : Mantissa → List ℕ
 mantissa_text (plain ds) = ds
 mantissa_text (pointed ds es) = ds ++ 46 ∷ es
 
+-- all its digits in order, without the point
 abbrev pub mantissa_digits : Mantissa → List ℕ
 mantissa_digits (plain ds) = ds
 mantissa_digits (pointed ds es) = ds ++ es
@@ -30,10 +32,12 @@ pub data Exponent : Type 0 where
   none : Exponent
   power : Bool → Sign → List ℕ → Exponent
 
+-- its text, with `e` or `E` for the letter
 abbrev pub exponent_text : Exponent → List ℕ
 exponent_text none = []
 exponent_text (power capital sign ds) = (cond capital 69 101) ∷ (sign_text sign ++ ds)
 
+-- an exponent has one digit or more
 abbrev pub IsExponent : Exponent → Type 0
 IsExponent none = Unit {0}
 IsExponent (power capital sign ds) = IsNumeral 10 ds

@@ -17,6 +17,7 @@ pub data Under : Type 0 where
   absent : Under
   over : List ℕ → Under
 
+-- its text
 abbrev pub under_text : Under → List ℕ
 under_text absent = []
 under_text (over ds) = 47 ∷ ds
@@ -26,6 +27,7 @@ abbrev pub IsUnder : Under → Type 0
 IsUnder absent = Unit {0}
 IsUnder (over ds) = IsPositive ds × (2 ≤ digits_value 10 ds)
 
+-- the denominator that it writes, 1 where there is none
 abbrev pub under_value : Under → ℕ
 under_value absent = 1
 under_value (over ds) = digits_value 10 ds
@@ -72,6 +74,7 @@ pub record UnderBroken (text : List ℕ) (left : ℕ) : Type 0 where
   pub more : 0 < length digits → (0 < length rest) ⊎ (digits ≡ 49 ∷ [])
   pub all : left ≡ length rest
 
+-- the text isn't a denominator, and so much of it is left where that shows
 abbrev pub UnderStop : List ℕ → ℕ → Type 0
 UnderStop text left = UnderMissing text left ⊎ UnderBroken text left
 

@@ -1,3 +1,6 @@
+pub use Rattle.rational.specs.Ratio
+pub use Rattle.rational.specs.Width
+pub use Rattle.fraction.specs.Frac
 pub mod Space
 pub mod Prefix
 pub mod Sign

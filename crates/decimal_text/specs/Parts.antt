@@ -11,6 +11,7 @@ abbrev pub EndsMantissa : Mantissa → List ℕ → Type 0
 EndsMantissa (plain ds) rest = HasNoDigit rest × DoesNotBegin 46 rest
 EndsMantissa (pointed ds es) rest = HasNoDigit rest
 
+-- a text as a mantissa and the rest, with the digits before and after the point
 pub record MantissaSplit (text before after rest : List ℕ) : Type 0 where
   pub mantissa : Mantissa
   pub parts : text ≡ mantissa_text mantissa ++ rest
@@ -53,6 +54,7 @@ pub record PowerBroken (text : List ℕ) (left : ℕ) : Type 0 where
   pub more : 0 < length digits → 0 < length rest
   pub all : left ≡ length rest
 
+-- the text isn't an exponent, and so much of it is left where that shows
 abbrev pub PowerStop : List ℕ → ℕ → Type 0
 PowerStop text left = PowerMissing text left ⊎ PowerBroken text left
 
@@ -78,6 +80,7 @@ pub record MantissaFollowed (text : List ℕ) (left : ℕ) : Type 0 where
   pub present : 0 < length (before ++ after)
   pub stop : PowerStop rest left
 
+-- the text isn't a decimal without a sign, and so much of it is left where that shows
 abbrev pub UnsignedStop : List ℕ → ℕ → Type 0
 UnsignedStop text left = MantissaMissing text left ⊎ MantissaFollowed text left
 

@@ -5,6 +5,7 @@ use Rattle.std.specs.Prelude.{ℕ, Bool, ◌||◌, ◌==◌, cond, List, [], ◌
 abbrev pub is_space : ℕ → Bool
 is_space b = b == 32 || b == 9 || b == 10 || b == 13
 
+-- the text without the white space that it begins with
 abbrev pub without_leading_space : List ℕ → List ℕ
 without_leading_space [] = []
 without_leading_space (b ∷ s) = cond (is_space b) (without_leading_space s) (b ∷ s)

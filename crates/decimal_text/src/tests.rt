@@ -2,7 +2,7 @@ ghost use Rattle.std.specs.Prelude.{◌≢◌, pos};
 
 use crate::{
     DecimalFault, read_bound, read_count, read_decimal, read_ratio, read_whole, write_cut12,
-    write_ratio,
+    write_decimal, write_ratio,
 };
 use fraction::{End, Frac};
 use os_io::Text;
@@ -254,5 +254,48 @@ fn cut_texts_have_twelve_decimals_at_most(rt: HostRuntime) -> Result<(), Fail> {
         b"0".as_slice()
     );
     assert_eq!(rt; cut_text(alloc, -5, 4)?.as_slice(), b"-1.25".as_slice());
+    Ok(())
+}
+
+fn whole_text(alloc: Global, numer: i128, denom: i128) -> Result<Text, Fail>
+    requires { denom ≢ pos 0 }
+{
+    let mut text = Text::new(alloc);
+    write_decimal(Frac::of(numer, denom)?, &mut text)?;
+    Ok(text)
+}
+
+#[test]
+fn decimals_are_written_whole(rt: HostRuntime) -> Result<(), Fail> {
+    let alloc = rt.alloc();
+    assert_eq!(rt; whole_text(alloc, 1, 8)?.as_slice(), b"0.125".as_slice());
+    assert_eq!(rt; whole_text(alloc, -25, 2)?.as_slice(), b"-12.5".as_slice());
+    assert_eq!(rt; whole_text(alloc, 0, 5)?.as_slice(), b"0".as_slice());
+    assert_eq!(rt; whole_text(alloc, 1200, 1)?.as_slice(), b"1200".as_slice());
+    assert_eq!(rt;
+        whole_text(alloc, 1, 100000000000000000000000000000000000000)?.as_slice(),
+        b"0.00000000000000000000000000000000000001".as_slice()
+    );
+    assert_eq!(rt;
+        whole_text(alloc, -MOST, 10)?.as_slice(),
+        b"-17014118346046923173168730371588410572.7".as_slice()
+    );
+    assert_eq!(rt;
+        whole_text(alloc, MOST, 1)?.as_slice(),
+        b"170141183460469231731687303715884105727".as_slice()
+    );
+    Ok(())
+}
+
+#[test]
+fn other_ratios_have_no_decimal_text(rt: HostRuntime) -> Result<(), Fail> {
+    let third = Frac::of(1, 3)?;
+    let too_wide = Frac::of(MOST, 2)?;
+    let too_deep = Frac::of(1, 549755813888)?;
+    for x in [third, too_wide, too_deep] {
+        let mut out = Text::from_slice(rt.alloc(), b"x=")?;
+        assert_eq!(rt; write_decimal(x, &mut out), Err(DecimalFault::NotDecimal));
+        assert_eq!(rt; out.as_slice(), b"x=".as_slice());
+    }
     Ok(())
 }

@@ -1,26 +1,13 @@
-ghost use Rattle.std.specs.Prelude.{◌≡◌, ◌≤◌, IfOk, IfErr};
-ghost use Rattle.rational.specs.Whole.{signed};
+ghost use Rattle.std.specs.Prelude.{IfOk, IfErr};
 ghost use Rattle.decimal_text.specs.Space.{trimmed};
-ghost use Rattle.decimal_text.specs.Count.{most_count};
 ghost use Rattle.decimal_text.specs.Whole.{WholeGrammar, IsWhole, IsWideWhole};
 ghost use Rattle.decimal_text.specs.Fault.{Refuses};
 
 use crate::count::MOST_COUNT;
 use crate::digits::{number, split_digits, split_sign};
 use crate::fault::DecimalFault;
+use crate::power::signed;
 use crate::space::trim;
-
-/// The whole number of this sign and size.
-fn signed(is_negative: bool, size: u128) -> i64
-    requires { size ≤ most_count }
-    ensures { result ≡ signed is_negative size }
-{
-    if is_negative {
-        -(size as i64)
-    } else {
-        size as i64
-    }
-}
 
 /// The whole number that the text writes: an optional sign and digits, white space round them dropped (XML Schema
 /// part 2, integer). `Wide` where its size passes `2^63 - 1`.
@@ -37,7 +24,7 @@ pub fn read_whole(text: &[u8]) -> Result<i64, DecimalFault>
         });
     }
     match number(digits, MOST_COUNT) {
-        Some(size) => Ok(signed(is_negative, size)),
+        Some(size) => Ok(signed(is_negative, size) as i64),
         None => Err(DecimalFault::Wide),
     }
 }

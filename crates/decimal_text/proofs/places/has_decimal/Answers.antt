@@ -1,5 +1,4 @@
-use Rattle.std.proofs.Common.{◌≡◌, ℕ, ◌*◌, ◌/◌, ◌<◌, ◌≤◌, ◌^◌, ◌%◌, arith, sym, subst, ap, ◌∙◌}
-use Rattle.rational.specs.Width.{most}
+use Rattle.std.proofs.Common.{◌*◌, ◌/◌, ◌%◌, arith, sym, subst, ap, ◌∙◌}
 use Rattle.decimal_text.specs.Parts.{IsKept}
 use Rattle.decimal_text.proofs.Powers.{near}
 use Rattle.decimal_text.proofs.Tens.{found_places, too_great, none_near}
