@@ -1,7 +1,7 @@
 -- Shortest forms of sizes times powers of ten.
 use Rattle.std.proofs.Common.{◌≡◌, ◌≢◌, ℕ, suc, ◌+◌, ◌*◌, ◌-◌, ◌%◌, ◌^◌, ◌<◌, ◌≤◌, ◌⊎◌, inl, inr, Bool, pos, negsuc, ap, sym, ◌∙◌, subst, arith, lit<, lit≤}
 use Rattle.std.proofs.lemmas.Nat.{pow-add}
-use Rattle.rational.specs.Ratio.{Ratio, IsSame}
+use Rattle.rational.specs.Ratio.{Ratio, IsNumber, IsSame}
 use Rattle.rational.specs.Width.{most}
 use Rattle.rational.specs.Whole.{signed}
 use Rattle.rational.proofs.Scaling.{IsSame-trans}
@@ -38,11 +38,12 @@ down_form negative n a b h s = record {
   same = same_form negative n (10 ^ suc (b - a - 1)) (n * 10 ^ a) (10 ^ b) (down_cross n a b h);
 }
 
-pub up_fits : (negative : Bool) (n a b p : ℕ) → b ≤ a → n % 10 ≢ 0 → p ≡ n * 10 ^ (a - b) → p ≤ most → (x : Ratio) → IsSame x (record { num = signed negative p; den = 1 }) → HasFit (powered negative n a b) x
-up_fits negative n a b p h s e small x same =
+pub up_fits : (negative : Bool) (n a b p : ℕ) → b ≤ a → n % 10 ≢ 0 → p ≡ n * 10 ^ (a - b) → p ≤ most → (x : Ratio) → IsNumber x → IsSame x (record { num = signed negative p; den = 1 }) → HasFit (powered negative n a b) x
+up_fits negative n a b p h s e small x number same =
     let f = up_form negative n a b h s in
     let here : IsSame x (scientific negative n (pos (a - b))) = subst (λ q. IsSame x (record { num = signed negative q; den = 1 })) e same in
     record {
+      number = number;
       same = IsSame-trans x (scientific negative n (pos (a - b))) (powered negative n a b) (lit< tt) here f.same;
       form = f;
       fits = (rw (unsigned_abs-signed negative (n * 10 ^ (a - b))) (subst (λ q. q ≤ most) e small), lit≤ tt);
@@ -57,12 +58,13 @@ up_wide negative n a b h s wide = record {
 below_power : (a b : ℕ) → a < b → suc (b - a - 1) ≡ b - a
 below_power a b h = omega arith
 
-pub down_fits : (negative : Bool) (n a b p : ℕ) → a < b → n % 10 ≢ 0 → n ≤ most → p ≡ 10 ^ (b - a) → p ≤ most → (x : Ratio) → IsSame x (record { num = signed negative n; den = p }) → HasFit (powered negative n a b) x
-down_fits negative n a b p h s high e small x same =
+pub down_fits : (negative : Bool) (n a b p : ℕ) → a < b → n % 10 ≢ 0 → n ≤ most → p ≡ 10 ^ (b - a) → p ≤ most → (x : Ratio) → IsNumber x → IsSame x (record { num = signed negative n; den = p }) → HasFit (powered negative n a b) x
+down_fits negative n a b p h s high e small x number same =
     let f = down_form negative n a b h s in
     let power : p ≡ 10 ^ suc (b - a - 1) = e ∙ ap (λ k. 10 ^ k) (sym (below_power a b h)) in
     let here : IsSame x (scientific negative n (negsuc (b - a - 1))) = subst (λ q. IsSame x (record { num = signed negative n; den = q })) power same in
     record {
+      number = number;
       same = IsSame-trans x (scientific negative n (negsuc (b - a - 1))) (powered negative n a b) (ten_power (suc (b - a - 1))) here f.same;
       form = f;
       fits = (rw (unsigned_abs-signed negative n) high, subst (λ q. q ≤ most) power small);

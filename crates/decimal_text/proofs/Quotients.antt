@@ -35,6 +35,7 @@ pub fits : (x : Ratio) → IsNumber x → IsWithin x → ReducedFits x
 fits x up within =
     let f = reduce x up in
     record {
+      number = up;
       form = f.form;
       same = f.same;
       reduced = f.reduced;

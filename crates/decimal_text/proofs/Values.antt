@@ -1,5 +1,5 @@
 -- The value of a decimal's digits and exponent.
-use Rattle.std.proofs.Common.{◌≡◌, ◌≢◌, ℕ, ◌+◌, ◌*◌, ◌-◌, ◌%◌, ◌^◌, ◌<◌, ◌≤◌, inl, inr, Bool, true, false, cond, List, ◌++◌, pos, refl, ap, sym, ◌∙◌, subst, arith, lit≤, Option, Some, None}
+use Rattle.std.proofs.Common.{◌≡◌, ◌≢◌, ℕ, ◌+◌, ◌*◌, ◌-◌, ◌%◌, ◌^◌, ◌<◌, ◌≤◌, inl, inr, Bool, true, false, cond, List, ◌++◌, pos, refl, ap, sym, ◌∙◌, subst, arith, lit<, lit≤, Option, Some, None}
 use Rattle.std.proofs.Math.Nat.{le-mul_of_pos_right}
 use Rattle.std.proofs.lemmas.Bool.Decides.{leb_tells}
 use Rattle.std.specs.Str.Parse.{digits_value, digits_value_after}
@@ -54,6 +54,7 @@ zero_same false v a b z = same_form false 0 1 (v * 10 ^ a) (10 ^ b) (zero_cross 
 
 pub zero_fit : (negative : Bool) (v a b : ℕ) → v ≡ 0 → HasFit (powered negative v a b) (record { num = pos 0; den = 1 })
 zero_fit negative v a b z = record {
+  number = lit< tt;
   same = zero_same negative v a b z;
   form = record { negative = false; n = 0; k = pos 0; shortest = inr (refl, refl); same = zero_same negative v a b z };
   fits = (lit≤ tt, lit≤ tt);

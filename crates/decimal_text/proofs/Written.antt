@@ -120,6 +120,7 @@ has_fit x w negative size den h up e same =
     let f : FittingForm x = subst (λ y. FittingForm y) (sym e) (form_of negative size den h.places h.n h.same h.small h.near h.least) in
     let high : 0 < x.den = subst (λ y. 0 < y.den) (sym e) up in
     record {
+      number = high;
       same = sym same;
       form = record { negative = f.form.negative; n = f.form.n; k = f.form.k; shortest = f.form.shortest; same = IsSame-trans (scientific f.form.negative f.form.n f.form.k) x w high f.form.same (sym same) };
       fits = f.narrow;

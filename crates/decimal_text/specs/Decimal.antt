@@ -1,7 +1,7 @@
 -- Decimals: the lexical form of a double without its special values (XML Schema part 2, section 3.2.5), and bounds.
 use Rattle.std.specs.Prelude.{◌≡◌, ◌≢◌, ℕ, ◌+◌, ◌*◌, ◌%◌, ◌^◌, ℤ, pos, negsuc, suc, Bool, cond, List, [], ◌∷◌, ◌++◌, ◌⊎◌, length}
 use Rattle.std.specs.Str.Parse.{IsNumeral, digits_value}
-use Rattle.rational.specs.Ratio.{Ratio, IsSame}
+use Rattle.rational.specs.Ratio.{Ratio, IsNumber, IsSame}
 use Rattle.rational.specs.Width.{IsWithin}
 use Rattle.rational.specs.Whole.{signed}
 use Rattle.decimal_text.specs.Space.{trimmed}
@@ -93,6 +93,7 @@ IsNarrow f = IsWithin (scientific f.negative f.n f.k)
 
 -- x is the number w, whose shortest form fits
 pub record HasFit (w x : Ratio) : Type 0 where
+  pub number : IsNumber x
   pub same : IsSame x w
   pub form : ShortestForm w
   pub fits : IsNarrow form

@@ -5,7 +5,7 @@ use Rattle.rational.specs.Ratio.{Ratio, product, negative, IsNumber, IsAtMost}
 use Rattle.evidence.specs.Instance.{Instance, IsInstance, Sense, Minimum, Maximum, width, cost_at, minimising, minimising_by}
 use Rattle.evidence.specs.Point.{value_at, objective, IsFeasible, IsBetterBy}
 use Rattle.evidence.specs.Claim.{Claim, Optimal, Infeasible, Unbounded, BestSoFar, Unsure, Accepts, IsTrueOf}
-use Rattle.evidence.proofs.Whole.{neg-times}
+use Rattle.rational.proofs.Integers.{neg-times}
 use Rattle.evidence.proofs.Numbers.{◌≈◌, ◌≲◌, ◌⋖◌, ≈-sym, ≲-from, ≲-trans, ⋖-absurd, product-number}
 use Rattle.evidence.proofs.Totals.{total-number}
 use Rattle.evidence.proofs.Columns.{value-number}

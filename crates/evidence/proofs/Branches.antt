@@ -8,7 +8,7 @@ use Rattle.evidence.specs.Sums.{none, is_below, IsWhole, total}
 use Rattle.evidence.specs.Instance.{Range, Variable, Instance, IsInstance, HasNumbers, free, width, variable_at, row_at, cost_at, entry_at, column_at, minimising}
 use Rattle.evidence.specs.Point.{value_at, objective, IsBetween, IsFeasible}
 use Rattle.evidence.specs.Cases.{Tree, Clash, Farkas, Bound, Split, lesser_end, greater_end, with_range, at_most, at_least, Shows}
-use Rattle.evidence.proofs.Whole.{more-times}
+use Rattle.rational.proofs.Integers.{more-times}
 use Rattle.evidence.proofs.Columns.{by_lt, pick, All-anywhere, column-numbers, column_value, column_value-number, between}
 use Rattle.evidence.proofs.Duality.{bounded, vanished, clashed}
 

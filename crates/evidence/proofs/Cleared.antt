@@ -12,10 +12,10 @@ use Rattle.rational.proofs.Scaling.{add-times, times-times, times_swap, same_mul
 use Rattle.evidence.specs.Instance.{Range, Entry, Instance, IsInstance, HasNumbers, free, width, variable_at, row_at, cost_at, entry_at}
 use Rattle.evidence.specs.Point.{value_at, activity, objective, IsBetween, IsFeasible}
 use Rattle.evidence.specs.OneDenominator.{times_of, whole_total, number_at, Divides, IsCommon, IsOverOne, IsBetweenOver, IsFeasibleOver, objective_over}
-use Rattle.evidence.proofs.Whole.{times_cross, more-times, most-from_times}
+use Rattle.rational.proofs.Integers.{times_cross, more-times, most-from_times}
+use Rattle.rational.proofs.Coprime.{one_divides}
 use Rattle.evidence.proofs.Numbers.{one_times}
 use Rattle.evidence.proofs.Totals.{total-start}
-use Rattle.evidence.proofs.Fits.{one_divides}
 use Rattle.evidence.proofs.Columns.{pick, All-anywhere, activity-number, value-number}
 
 -- x is z over E
@@ -138,6 +138,7 @@ module _ (I : Instance) (S : ℕ) (x : List Ratio) (p : List ℤ) (d : ℕ) (goo
   pub feasible_cleared : IsFeasible I x ↔ IsFeasibleOver I S p d
   feasible_cleared = (
     λ f. record {
+      above = at.above;
       count = at.count ∙ f.count;
       variables = λ j h. (variable_cleared j).0 (f.variables j h);
       rows = λ i h. (row_cleared i).0 (f.rows i h);

@@ -1,19 +1,15 @@
 -- Fitting is a matter of the numbers alone, and of one term after the other.
-use Rattle.std.proofs.Common.{◌≡◌, ℤ, pos, ◌*ℤ◌, arith, ap, subst, lit<, ℕ, ◌+◌, sym, refl, below_more}
+use Rattle.std.proofs.Common.{◌≡◌, ℤ, pos, ◌*ℤ◌, ap, subst, lit<, ℕ, ◌+◌, sym, refl, below_more}
 use Rattle.rational.specs.Ratio.{Ratio, whole, IsNumber, IsSame, product}
 use Rattle.rational.specs.Width.{IsReduced, ReducedFits, SumFits}
 use Rattle.rational.proofs.Scaling.{IsSame-trans}
+use Rattle.rational.proofs.Coprime.{one_divides}
 use Rattle.rational.proofs.Reduced.{same_reduced}
 use Rattle.std.specs.Prelude.{unsigned_abs}
-use Rattle.std.specs.Int.{◌∣◌}
-use Rattle.std.proofs.Math.Nat.{dvd-mul_left}
 use Rattle.evidence.specs.Sums.{IsWhole, total}
 use Rattle.evidence.specs.Width.{TermFits, StatedFits}
 use Rattle.evidence.proofs.Numbers.{◌≈◌}
 use Rattle.evidence.proofs.Totals.{total-same}
-
-pub one_divides : (n : ℕ) → 1 ∣ n
-one_divides n = subst (λ m. 1 ∣ m) (omega arith) (dvd-mul_left 1 n)
 
 pub whole-reduced : (n : ℤ) → IsReduced (whole n)
 whole-reduced n = (lit< tt, (one_divides (unsigned_abs n), one_divides 1, λ d p q. q))
@@ -25,12 +21,12 @@ whole_over_one x r w = ap (λ (y : Ratio). y.den) (same_reduced x (whole w.numbe
 pub over_one_whole : (x : Ratio) → x.den ≡ 1 → IsWhole x
 over_one_whole x e = record { number = x.num; same = ap (λ d. x.num *ℤ pos d) (sym e) }
 
-pub reduced_same : (x y : Ratio) → IsNumber x → IsSame x y → ReducedFits x → ReducedFits y
-reduced_same x y p e fits = record { form = fits.form; same = IsSame-trans fits.form x y p fits.same e; reduced = fits.reduced; within = fits.within }
+pub reduced_same : (x y : Ratio) → IsNumber y → IsSame x y → ReducedFits x → ReducedFits y
+reduced_same x y p e fits = record { number = p; form = fits.form; same = IsSame-trans fits.form x y fits.number fits.same e; reduced = fits.reduced; within = fits.within }
 
 pub sums_same : (x y z w : Ratio) → IsNumber z → IsNumber w → IsSame x z → IsSame y w → SumFits x y → SumFits z w
 sums_same x y z w pz pw e f fits =
-    record { by = λ a b ra rb p q. fits.by a b ra rb (IsSame-trans a z x pz p (sym e)) (IsSame-trans b w y pw q (sym f)) }
+    record { left = pz; right = pw; by = λ a b ra rb p q. fits.by a b ra rb (IsSame-trans a z x pz p (sym e)) (IsSame-trans b w y pw q (sym f)) }
 
 -- the sum so far may be written in another form
 pub term_same : (s t a x : Ratio) → s ≈ t → IsNumber (product a x) → TermFits s a x → TermFits t a x

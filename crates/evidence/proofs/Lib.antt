@@ -1,4 +1,3 @@
-pub mod Whole
 pub mod Numbers
 pub mod Totals
 pub mod Columns

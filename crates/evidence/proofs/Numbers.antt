@@ -5,8 +5,9 @@ use Rattle.std.proofs.Math.IntN.{*ℤ_comm, zero-*ℤ}
 use Rattle.std.proofs.lemmas.Int.{ints}
 use Rattle.rational.specs.Ratio.{Ratio, whole, sum, product, negative, IsSame, IsBelow, IsNumber, IsAtMost}
 use Rattle.evidence.specs.Sums.{none}
+use Rattle.rational.proofs.Reduced.{one_number}
 use Rattle.rational.proofs.Scaling.{add-times, times_swap, IsSame-trans}
-use Rattle.evidence.proofs.Whole.{move, times_cross, times_assoc, times-add-any, neg-times, neg-add, more-times, above-times, most-from_times, below-from_times}
+use Rattle.rational.proofs.Integers.{move, times_cross, times_assoc, times-add-any, neg-times, neg-add, more-times, above-times, most-from_times, below-from_times}
 
 infix 50 ◌≈◌ ◌≲◌ ◌⋖◌
 -- the same number
@@ -26,9 +27,6 @@ pub record ◌⋖◌ (x y : Ratio) : Type 0 where
   pub left : IsNumber x
   pub right : IsNumber y
   pub is : IsBelow x y
-
-pub one_number : (x y : Ratio) → x.num ≡ y.num → x.den ≡ y.den → x ≡ y
-one_number x y p q = ap₂ (λ (n : ℤ) (d : ℕ). let r : Ratio = record { num = n; den = d } in r) p q
 
 pub ≈-refl : {x : Ratio} → IsNumber x → x ≈ x
 ≈-refl p = record { left = p; right = p; is = refl }

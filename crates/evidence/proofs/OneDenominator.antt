@@ -10,7 +10,7 @@ use Rattle.rational.specs.Ratio.{Ratio, IsSame, IsNumber}
 use Rattle.rational.proofs.Scaling.{times-times, times_swap, IsSame-trans}
 use Rattle.evidence.specs.Instance.{Range, Instance, IsInstance, HasNumbers}
 use Rattle.evidence.specs.Point.{value_at}
-use Rattle.evidence.specs.OneDenominator.{number_at, HasOneDenominator, Divides, IsCommon, end_denominator, range_denominator, product_by, denominators}
+use Rattle.evidence.specs.OneDenominator.{number_at, IsOverOne, HasOneDenominator, Divides, IsCommon, end_denominator, range_denominator, product_by, denominators}
 
 abbrev over : ℤ → ℕ → Ratio
 over n d = record { num = n; den = d }
@@ -40,6 +40,22 @@ common (r ∷ x) h =
     at r x p d up same zero = sym (times-times r.num r.den d) ∙ times_swap r.num r.den d
     at r x p d up same (suc j) =
         IsSame-trans (value_at x j) (over (number_at p j) d) (over (number_at (map (λ n. n *ℤ pos r.den) p) j) (r.den * d)) up (same j) (wider r.den p d j)
+
+-- and whole numbers over one denominator are a point
+pub parted : (p : List ℤ) (d : ℕ) → 0 < d → (x : List Ratio) × IsOverOne x p d
+parted p d up = (map (λ n. over n d) p, record { above = up; count = sym (length-map p (λ n. over n d)); numbers = numbers p; same = same p })
+  where
+    numbers : (p : List ℤ) → All IsNumber (map (λ n. over n d) p)
+    numbers [] = All-nil IsNumber
+    numbers (n ∷ p) = All-cons IsNumber (over n d) (map (λ n. over n d) p) up (numbers p)
+
+    same : (p : List ℤ) (j : ℕ) → IsSame (value_at (map (λ n. over n d) p) j) (over (number_at p j) d)
+    same [] j = nothing
+      where
+        nothing : pos 0 *ℤ pos d ≡ pos 0 *ℤ pos 1
+        nothing = ap pos (omega arith)
+    same (n ∷ p) zero = refl
+    same (n ∷ p) (suc j) = same p j
 
 product-above : {X : Type 0} (f : X → ℕ) (xs : List X) → All (λ x. 0 < f x) xs → 0 < product_by f xs
 product-above f [] h = lit< tt

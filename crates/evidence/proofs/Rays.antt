@@ -13,7 +13,7 @@ use Rattle.rational.proofs.Scaling.{add-times}
 use Rattle.evidence.specs.Instance.{Range, Instance, IsInstance, HasNumbers, Sense, Minimum, Maximum, free, width, variable_at, row_at, cost_at, entry_at, minimising_by}
 use Rattle.evidence.specs.Point.{value_at, activity, objective, IsBetween, IsFeasible, IsBetterBy, NeverLeaves, IsRay}
 use Rattle.evidence.specs.Claim.{Passes}
-use Rattle.evidence.proofs.Whole.{neg-times}
+use Rattle.rational.proofs.Integers.{neg-times}
 use Rattle.evidence.proofs.Numbers.{◌≈◌, ◌≲◌, ◌⋖◌, ≈-refl, ≈-from, ≈-sym, ◌⊙◌, ◌▹◌, ≲-is, ≲-from, ≲-trans, ⋖-≲, ≲-⋖, sum-≈, sum-≲, sum-number, product-≈, product_up, product-number, product-sum, product-none, product_swap, product_assoc, sum-none, negative-sum, negative-product}
 use Rattle.evidence.proofs.Totals.{total-number, total-≈, total-sum, product-total}
 use Rattle.evidence.proofs.Columns.{none-number, value-number, entry-number, All-anywhere, activity-number}

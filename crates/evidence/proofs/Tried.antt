@@ -39,6 +39,8 @@ four m n g h eg eh s =
 
 whole_sums : (x y : Ratio) (m n : ℤ) → IsNumber x → IsNumber y → IsSame x (whole m) → IsSame y (whole n) → AreSmall m n → SumFits x y
 whole_sums x y m n px py ex ey s = record {
+  left = px;
+  right = py;
   by = λ p q rp rq ep eq g h isg ish.
       let a : whole m ≡ p = same_reduced (whole m) p (whole-reduced m) rp (sym (IsSame-trans p x (whole m) px ep ex)) in
       let b : whole n ≡ q = same_reduced (whole n) q (whole-reduced n) rq (sym (IsSame-trans q y (whole n) py eq ey)) in
@@ -50,7 +52,7 @@ whole_sums x y m n px py ex ey s = record {
 
 term : (s a x : Ratio) (m n : ℤ) → IsNumber s → IsNumber (product a x) → IsSame s (whole m) → IsSame (product a x) (whole n) → AreSmall m n → TermFits s a x
 term s a x m n ps pt es et small = record {
-  term = λ h k. record { form = whole n; same = sym et; reduced = whole-reduced n; within = (small.right, lit≤ tt) };
+  term = λ h k. record { number = pt; form = whole n; same = sym et; reduced = whole-reduced n; within = (small.right, lit≤ tt) };
   sum = λ h k. whole_sums s (product a x) m n ps pt es et small;
 }
 

@@ -117,9 +117,3 @@ preorder (Clash c) = ClashAt c ∷ []
 preorder (Farkas ms) = FarkasBy ms ∷ []
 preorder (Bound ms) = BoundBy ms ∷ []
 preorder (Split j k a b) = SplitAt j k ∷ (preorder a ++ preorder b)
-
--- the list is that of a tree that shows it
-pub record Proves (I : Instance) (nodes : List Node) (z : Option Ratio) : Type 0 where
-  pub tree : Tree
-  pub listed : nodes ≡ preorder tree
-  pub shows : Shows I tree z

@@ -63,6 +63,7 @@ pub record IsBetweenOver (S : ℕ) (r : Range) (d : ℕ) (v : ℤ) : Type 0 wher
 
 -- the point p over d is feasible
 pub record IsFeasibleOver (I : Instance) (S : ℕ) (p : List ℤ) (d : ℕ) : Type 0 where
+  pub above : 0 < d
   pub count : length p ≡ width I
   pub variables : (j : ℕ) → j < width I → IsBetweenOver S (variable_at I j).range d (pos S *ℤ number_at p j)
   pub rows : (i : ℕ) → i < height I → IsBetweenOver S (row_at I i) d (whole_total (width I) (λ j. times_of S (entry_at I.entries i j) *ℤ number_at p j))

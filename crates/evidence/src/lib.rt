@@ -37,9 +37,11 @@ pub fn some_claims_are_accepted()
 {}
 
 /// Feasible points may be read as lists of ratios or as whole numbers over one denominator, once the program's
-/// denominators are cleared; their objectives are the same number.
+/// denominators are cleared; their objectives are the same number. Each list of whole numbers over a denominator above 0 is
+/// a list of ratios.
 pub fn points_have_one_denominator()
     ensures has { (x : List Ratio) → All IsNumber x → HasOneDenominator x }
+    ensures back { (p : List ℤ) (d : ℕ) → 0 < d → (x : List Ratio) × IsOverOne x p d }
     ensures common { (I : Instance) → IsInstance I → IsCommon I (denominators I) }
     ensures feasible { (I : Instance) (S : ℕ) (x : List Ratio) (p : List ℤ) (d : ℕ) → IsInstance I → IsCommon I S → IsOverOne x p d → IsFeasible I x ↔ IsFeasibleOver I S p d }
     ensures value { (I : Instance) (S : ℕ) (x : List Ratio) (p : List ℤ) (d : ℕ) → IsInstance I → IsCommon I S → IsOverOne x p d → IsSame (objective I x) (objective_over I S p d) }
@@ -64,6 +66,6 @@ pub fn lists_are_read()
 
 /// Whether a product or a sum fits is a matter of the numbers, not of how they are written.
 pub fn fitting_is_of_numbers()
-    ensures products { (x y : Ratio) → IsNumber x → IsSame x y → ReducedFits x → ReducedFits y }
+    ensures products { (x y : Ratio) → IsNumber y → IsSame x y → ReducedFits x → ReducedFits y }
     ensures sums { (x y z w : Ratio) → IsNumber z → IsNumber w → IsSame x z → IsSame y w → SumFits x y → SumFits z w }
 {}

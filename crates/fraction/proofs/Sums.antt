@@ -95,6 +95,8 @@ sum_form x y s size g h first second up high p q is =
 pub sum_fits : (x y : Ratio) (g h : ℕ) → IsReduced x → IsReduced y → IsGcd x.den y.den g → IsGcd (unsigned_abs (left_term x y g +ℤ right_term x y g)) g h → AreFourWithin x y g h → SumFits x y
 sum_fits x y g h first second p q fits =
     record {
+      left = first.0;
+      right = second.0;
       by = λ v w rv rw' sv sw i j u t.
           let ev : x ≡ v = sym (same_reduced v x rv first sv) in
           let ew : y ≡ w = sym (same_reduced w y rw' second sw) in

@@ -3,7 +3,8 @@ use Rattle.std.proofs.Common.{◌≡◌, ℕ, zero, suc, ◌*◌, ◌<◌, pos, 
 use Rattle.std.proofs.Math.IntN.{*ℤ-zero}
 use Rattle.rational.specs.Ratio.{Ratio, whole, sum, product}
 use Rattle.evidence.specs.Sums.{none, total}
-use Rattle.evidence.proofs.Numbers.{one_number, sum-none}
+use Rattle.rational.proofs.Reduced.{one_number}
+use Rattle.evidence.proofs.Numbers.{sum-none}
 
 pub product_none : (x : Ratio) → x.den ≡ 1 → product x none ≡ none
 product_none x e = one_number (product x none) none (*ℤ-zero x.num) (omega arith)

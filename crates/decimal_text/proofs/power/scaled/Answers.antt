@@ -20,7 +20,7 @@ returns-in_ok-product c =
     let p = c.in_ok-product.product in
     let w = powered n size a b in
     let kept = c.in_ok-product.ensures in
-    option_of (λ x. IsSame (ratio x) (record { num = signed n p; den = 1 })) (λ x. HasFit w (ratio x)) (HasNoFit w) c.quotient.result c.ok.result (λ x h. up_fits n size a b p c.if-down-up.true c.requires.short kept.0 kept.1 (ratio x) h) c.quotient.ensures.ok c.quotient.ensures.fits c.ok.ensures.value
+    option_of (λ x. IsSame (ratio x) (record { num = signed n p; den = 1 })) (λ x. HasFit w (ratio x)) (HasNoFit w) c.quotient.result c.ok.result (λ x h. up_fits n size a b p c.if-down-up.true c.requires.short kept.0 kept.1 (ratio x) x.above h) c.quotient.ensures.ok c.quotient.ensures.fits c.ok.ensures.value
 
 pub returns-in_err-denom : goal.returns-in_err-denom
 returns-in_err-denom c = rw c.from_residual-in_err-denom.ensures (down_wide c.args.is_negative c.args.size c.args.up c.args.down (omega arith) c.requires.short (inr c.in_err-denom.ensures))
@@ -37,4 +37,4 @@ returns-in_ok-denom c =
     let p = c.in_ok-denom.denom in
     let w = powered n size a b in
     let kept = c.in_ok-denom.ensures in
-    option_of (λ x. IsSame (ratio x) (record { num = signed n size; den = p })) (λ x. HasFit w (ratio x)) (HasNoFit w) c.quotient-else-down-up.result c.ok-else-down-up.result (λ x h. down_fits n size a b p (omega arith) c.requires.short c.requires.small kept.0 kept.1 (ratio x) h) c.quotient-else-down-up.ensures.ok c.quotient-else-down-up.ensures.fits c.ok-else-down-up.ensures.value
+    option_of (λ x. IsSame (ratio x) (record { num = signed n size; den = p })) (λ x. HasFit w (ratio x)) (HasNoFit w) c.quotient-else-down-up.result c.ok-else-down-up.result (λ x h. down_fits n size a b p (omega arith) c.requires.short c.requires.small kept.0 kept.1 (ratio x) x.above h) c.quotient-else-down-up.ensures.ok c.quotient-else-down-up.ensures.fits c.ok-else-down-up.ensures.value
