@@ -6,9 +6,11 @@ use Rattle.plain_osil.specs.declared.plain.Cost.{Cost}
 use Rattle.plain_osil.specs.declared.plain.Plain.{Plain}
 use Rattle.plain_osil.specs.Plain.{IsCost, IsVariable}
 
+-- what a cost means
 abbrev pub cost : Cost → program.Cost
 cost c = record { variable = c.variable; value = c.value }
 
+-- what costs mean
 abbrev pub costs_of : List Cost → List program.Cost
 costs_of costs = map cost costs
 

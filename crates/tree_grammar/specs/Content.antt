@@ -110,14 +110,17 @@ pub data Body : Type 0 where
   closed : Body
   opened : Content → (space : List ℕ) → Each IsSpace space → Body
 
+-- Its bytes, and then k; `name` is the start tag's.
 abbrev pub body_text : Body → List ℕ → List ℕ → List ℕ
 body_text closed name k = 47 ∷ 62 ∷ k
 body_text (opened inner space s) name k = 62 ∷ content_text inner (end_text name space k)
 
+-- The nodes in it.
 abbrev pub body_nodes : Body → Nodes
 body_nodes closed = none
 body_nodes (opened inner space s) = content_nodes inner
 
+-- No `]]>` stands in a run of its character data.
 abbrev pub IsBodyClear : Body → Type 0
 IsBodyClear closed = Unit {0}
 IsBodyClear (opened inner space s) = IsClear 0 inner
@@ -129,6 +132,7 @@ pub data Misc : Type 0 where
   misc_comment : Comment → Misc → Misc
   misc_instruction : Instruction → Misc → Misc
 
+-- Its bytes, and then k.
 abbrev pub misc_text : Misc → List ℕ → List ℕ
 misc_text misc_over k = k
 misc_text (misc_space c s more) k = c ∷ misc_text more k

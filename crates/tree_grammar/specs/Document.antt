@@ -21,6 +21,7 @@ pub record Document : Type 0 where
   pub clear : IsBodyClear body
   pub after : Misc
 
+-- Its bytes, with normal line ends.
 abbrev pub document_text : Document → List ℕ
 document_text d = mark_text d.mark (declaration_text d.declaration (misc_text d.before (60 ∷ tag_text d.tag (body_text d.body d.tag.name (misc_text d.after [])))))
 
@@ -47,16 +48,19 @@ IsContentSmall (instruction i more) = ⊥
 IsContentSmall (empty tag more) = IsContentSmall more
 IsContentSmall (nested tag inner space s more) = IsContentSmall inner × IsContentSmall more
 
+-- The same of what stands behind a start tag.
 abbrev pub IsBodySmall : Body → Type 0
 IsBodySmall closed = Unit {0}
 IsBodySmall (opened inner space s) = IsContentSmall inner
 
+-- White space alone.
 abbrev pub IsMiscSmall : Misc → Type 0
 IsMiscSmall misc_over = Unit {0}
 IsMiscSmall (misc_space c s more) = IsMiscSmall more
 IsMiscSmall (misc_comment t more) = ⊥
 IsMiscSmall (misc_instruction i more) = ⊥
 
+-- A document without comments, instructions and CDATA sections.
 pub record IsSmall (d : Document) : Type 0 where
   pub before : IsMiscSmall d.before
   pub body : IsBodySmall d.body

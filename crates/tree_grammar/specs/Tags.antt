@@ -14,6 +14,7 @@ pub record Equals : Type 0 where
   pub after : List ℕ
   pub spaced_after : Each IsSpace after
 
+-- Its bytes, and then k.
 abbrev pub equals_text : Equals → List ℕ → List ℕ
 equals_text e k = e.before ++ (61 ∷ (e.after ++ k))
 
@@ -43,6 +44,7 @@ pub data Attributes : Type 0 where
   no_attribute : Attributes
   attribute : (space name : List ℕ) → Some1 IsSpace space → IsQName name → Equals → (quote : ℕ) → IsQuote quote → Value quote → Attributes → Attributes
 
+-- Their bytes, and then k.
 abbrev pub attributes_text : Attributes → List ℕ → List ℕ
 attributes_text no_attribute k = k
 attributes_text (attribute space name s n e quote q v more) k = space ++ (name ++ equals_text e (quote ∷ value_text v (attributes_text more k)))
@@ -51,6 +53,7 @@ attributes_text (attribute space name s n e quote q v more) k = space ++ (name +
 abbrev pub is_kept : List ℕ → Bool
 is_kept name = not (has_prefix name || bytes_eq name (codes "xmlns"))
 
+-- Those that belong to the tree, in their order.
 abbrev pub attribute_list : Attributes → List Attribute
 attribute_list no_attribute = []
 attribute_list (attribute space name s n e quote q v more) = cond (is_kept name) (record { name = name; value = value_chars v } ∷ attribute_list more) (attribute_list more)
@@ -65,7 +68,7 @@ abbrev pub IsFresh : List (List ℕ) → Attributes → Type 0
 IsFresh before no_attribute = Unit {0}
 IsFresh before (attribute space name s n e quote q v more) = (IsAmong name before → ⊥) × IsFresh (before ++ (name ∷ [])) more
 
--- Production 40 between `<` and `>` or `/>`: a qualified name, attributes, white space.
+-- Productions 40 and 44 between `<` and `>` or `/>`: a qualified name, attributes, white space.
 pub record Tag : Type 0 where
   pub name : List ℕ
   pub named : IsQName name
@@ -74,5 +77,6 @@ pub record Tag : Type 0 where
   pub space : List ℕ
   pub spaced : Each IsSpace space
 
+-- Its bytes, and then k.
 abbrev pub tag_text : Tag → List ℕ → List ℕ
 tag_text tag k = tag.name ++ attributes_text tag.attributes (tag.space ++ k)

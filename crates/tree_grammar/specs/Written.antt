@@ -27,12 +27,13 @@ abbrev pub written_attributes : List Attribute → List ℕ → List ℕ
 written_attributes [] k = k
 written_attributes (a ∷ more) k = 32 ∷ (a.name ++ (61 ∷ 34 ∷ (escaped_value a.value ++ (34 ∷ written_attributes more k))))
 
--- What stands before the children, if there are any, and after them (productions 39 to 44).
+-- What stands before the children (productions 39 to 44): the end of a start tag, if there are any.
 abbrev pub children_begin : Nodes → List ℕ → List ℕ
 children_begin none k = k
 children_begin (element name attributes children more) k = 62 ∷ k
 children_begin (chars text more) k = 62 ∷ k
 
+-- What stands after the children: an end tag, or the end of an empty-element tag.
 abbrev pub children_end : Nodes → List ℕ → List ℕ → List ℕ
 children_end none name k = 47 ∷ 62 ∷ k
 children_end (element n attributes children more) name k = 60 ∷ 47 ∷ (name ++ (62 ∷ k))
@@ -48,6 +49,7 @@ written_nodes (chars text more) k = escaped text ++ written_nodes more k
 abbrev pub written_element : Element → List ℕ
 written_element e = written_nodes (element e.name e.attributes e.children none) []
 
+-- The whole text.
 abbrev pub written : Element → List ℕ
 written e = written_declaration ++ written_element e
 
