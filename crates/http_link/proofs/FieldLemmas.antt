@@ -137,7 +137,7 @@ request_full h a = record {
 }
 
 -- what comes after the first full line
-after_full : (es bs : List (List ℕ)) (f g : List ℕ) (xs ys : List (List ℕ)) → All IsEmptyLine es → All IsEmptyLine bs
+pub after_full : (es bs : List (List ℕ)) (f g : List ℕ) (xs ys : List (List ℕ)) → All IsEmptyLine es → All IsEmptyLine bs
     → IsFullLine f → IsFullLine g → es ++ f ∷ xs ≡ bs ++ g ∷ ys → xs ≡ ys
 after_full [] [] f g xs ys p q r s e = (cons_same _ _ _ _ e).1
 after_full [] (b ∷ bs) f g xs ys p q r s e =

@@ -130,7 +130,7 @@ open_line : (bytes : List ℕ) (start lines : ℕ) → (o : IsOpenHead bytes sta
 open_line bytes start lines o =
     (λ i. drop (o.start_is i) (o.bytes_are i)) ∙ drop-append_seam (print_lines (o.before ++ o.full)) o.line
 
-nothing : {X : Type 0} (xs : List X) → length xs ≡ 0 → xs ≡ []
+pub nothing : {X : Type 0} (xs : List X) → length xs ≡ 0 → xs ≡ []
 nothing [] e = refl
 nothing (x ∷ xs) e = absurd (omega arith)
 

@@ -1,6 +1,7 @@
 -- Requests in a stream of bytes (RFC 9112, sections 2 and 6).
 use Rattle.std.specs.Prelude.{◌≡◌, ℕ, ◌<◌, ◌≤◌, ◌⊎◌, List, [], ◌∷◌, ◌++◌, length, Option, None, Some, Result, Ok, Err, ⊤}
 use Rattle.os_io.specs.Streams.{Told, HasRisen}
+use Rattle.http_link.specs.declared.refusal.Refusal.{Refusal}
 use Rattle.http_link.specs.declared.requests.Incoming.{Incoming}
 use Rattle.http_link.specs.declared.requests.Incoming.TheVariants.{Body, Refused, Cut, Ended}
 use Rattle.http_link.specs.declared.requests.LinkFault.{LinkFault}
@@ -123,3 +124,13 @@ abbrev pub AnswersBody : ℕ → Result (Option (List ℕ)) LinkFault → Option
 AnswersBody len answer left left' =
     (taken : List ℕ) × ShowsBody len answer taken
     × Told left left' (λ before after. (before ≡ taken ++ after) × BodyEnds answer after)
+
+-- the bytes begin with a request
+abbrev pub BeginsWithRequest : List ℕ → Type 0
+BeginsWithRequest bytes =
+    (request : List ℕ) × (body : List ℕ) × (rest : List ℕ) × IsRequest request body × (bytes ≡ request ++ rest)
+
+-- the bytes begin with a head that is refused
+abbrev pub BeginsRefused : List ℕ → Type 0
+BeginsRefused bytes =
+    (head : List ℕ) × (refusal : Refusal) × (rest : List ℕ) × Head head (Err refusal) × (bytes ≡ head ++ rest)

@@ -4,16 +4,24 @@
 //! body of its length, a head that is refused with the first refusal in the order of the checks, or a cut. A head has
 //! at most 16,384 bytes, the empty lines before it among them, and 64 field lines, a body at most 4,194,304 bytes.
 //!
+//! Bytes begin with one request at most, and bytes that are cut or end between requests begin with none; laws say so.
+//! So where no read fails and there is memory, the bytes alone decide what [`read_request`] answers.
+//!
 //! [`write_answer`] and [`write_refusal`] write a response whole, or a first part of it where a write fails. They take
 //! no memory.
 #![tactic(auto)]
 
 mod checks;
+mod laws;
 mod refusal;
 mod requests;
 mod responses;
 mod scan;
 
+pub use laws::{
+    begun_request_is_not_whole, cut_input_holds_no_request, ended_input_holds_no_request,
+    one_head_comes_first, one_request_comes_first,
+};
 pub use refusal::Refusal;
 pub use requests::{Incoming, LinkFault, read_request};
 pub use responses::{write_answer, write_refusal};

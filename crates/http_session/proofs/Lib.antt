@@ -1,1 +1,2 @@
 pub mod ServesLemmas
+pub mod ExactLemmas

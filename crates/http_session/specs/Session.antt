@@ -113,3 +113,31 @@ abbrev pub RepliesTo : MayAnswer → List ℕ → Reply → Type 0
 RepliesTo may_answer body (TextReply text) = may_answer body (Some text)
 RepliesTo may_answer body NoRequest = may_answer body None
 RepliesTo may_answer body NoMemory = ⊤
+
+-- so served, no read and no write failed, and there was memory
+abbrev pub HasNoFault : Served → Type 0
+HasNoFault Answered = ⊤
+HasNoFault Ended = ⊤
+HasNoFault CutShort = ⊤
+HasNoFault ReadFault = ⊥
+HasNoFault WriteFault = ⊥
+HasNoFault Memory = ⊥
+
+-- the response may be that to a request with this body
+abbrev pub MayRespond : MayAnswer → List ℕ → List ℕ → Type 0
+MayRespond may_answer body response =
+    (answer : Option (List ℕ)) × may_answer body answer × (response ≡ response_text answer)
+
+-- what is due was done, or a fault or want of memory hindered it: due are a way to be served and a response
+abbrev pub DoesDue : Served → (List ℕ → Type 0) → Served → List ℕ → Type 0
+DoesDue due MayBe Answered out = (due ≡ Answered) × MayBe out
+DoesDue due MayBe Ended out = (due ≡ Ended) × MayBe out
+DoesDue due MayBe CutShort out = (due ≡ CutShort) × MayBe out
+DoesDue due MayBe ReadFault out = out ≡ []
+DoesDue due MayBe WriteFault out = (text : List ℕ) × (MayBe text ⊎ (text ≡ no_memory_text)) × IsPart text out
+DoesDue due MayBe Memory out = out ≡ no_memory_text
+
+-- the same of an output, where what was written is told
+abbrev pub WritesDue : Served → (List ℕ → Type 0) → Served → Option (List ℕ) → Option (List ℕ) → Type 0
+WritesDue due MayBe served written written' =
+    (out : List ℕ) × DoesDue due MayBe served out × Told written written' (Appends out)

@@ -3,13 +3,18 @@
 //! What answers a body is a [`Service`]. [`serve_one`] reads one request, has its body answered and writes the response,
 //! so it holds of each service what of the bytes read it answers and which bytes it writes. A refused head and a body
 //! that asks nothing get `400 Bad Request`, and want of memory gets `503 Service Unavailable`. Nothing is written for a
-//! request whose bytes don't all come.
+//! request whose bytes don't all come. Without a fault, and with memory, the bytes to come alone decide how a request is
+//! served: laws say so, both ways.
 #![tactic(auto)]
 
+mod laws;
 mod reply;
 mod service;
 mod session;
 
+pub use laws::{
+    bytes_decide_the_end, first_request_gets_its_response, input_without_request_gets_no_response,
+};
 pub use service::Service;
 pub use session::{Served, serve_one};
 

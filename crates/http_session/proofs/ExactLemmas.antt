@@ -1,0 +1,228 @@
+-- What the bytes to come begin with decides how a request of them is served.
+use Rattle.std.proofs.Common.{◌≡◌, ℕ, ◌⊎◌, inl, inr, List, [], ◌++◌, Option, Some, None, Err, refl, sym, ap, ◌∙◌, subst, append-nil}
+use Rattle.std.specs.Prelude.{⊤, ◌↔◌}
+use Rattle.os_io.specs.Streams.{Told}
+use Rattle.http_link.specs.declared.refusal.Refusal.{Refusal}
+use Rattle.http_link.specs.declared.refusal.Refusal.TheVariants.{BadRequest}
+use Rattle.http_link.specs.Checks.{Head}
+use Rattle.http_link.specs.Requests.{IsRequest, IsBegun, IsCut, EndedBetween, BeginsWithRequest, BeginsRefused}
+use Rattle.http_link.specs.Responses.{refusal_text, Appends}
+use Rattle.http_link.proofs.OnceLemmas.{request_once, request_not_refused, begun_no_request, begun_not_refused, ended_begun, append_cancel}
+use Rattle.http_session.specs.declared.session.Served.{Served}
+use Rattle.http_session.specs.declared.session.Served.TheVariants.{Answered, Ended, CutShort, ReadFault, WriteFault, Memory}
+use Rattle.http_session.specs.Session.{MayAnswer, IsResponse, IsAnyResponse, Serves, ServesOne, EndsInput, WritesDue, no_memory_text, HasNoFault, MayRespond, DoesDue}
+
+abbrev Left : Type 0
+Left = Option (List ℕ)
+
+-- one request was served of these bytes to come, which left the rest of them, and these bytes were written
+abbrev pub ServesFrom : MayAnswer → Served → List ℕ → List ℕ → List ℕ → Type 0
+ServesFrom may_answer served before after out =
+    (taken : List ℕ) × Serves may_answer served taken out × (before ≡ taken ++ after) × EndsInput served after
+
+-- where the bytes to come are told, they are told after it too
+pub served_from : (may_answer : MayAnswer) (served : Served) (before : List ℕ) (y v w : Left)
+    → ServesOne may_answer served (Some before) y v w
+    → (after : List ℕ) × (out : List ℕ) × (y ≡ Some after) × ServesFrom may_answer served before after out × Told v w (Appends out)
+served_from may_answer served before None v w (taken, out, is, took, wrote) = absurd took
+served_from may_answer served before (Some after) v w (taken, out, is, took, wrote) =
+    (after, out, refl, (taken, is, took.0, took.1), wrote)
+
+-- a response was due to a request or a refused head at the front
+responded : (may_answer : MayAnswer) (before taken after response : List ℕ) → IsResponse may_answer taken response
+    → before ≡ taken ++ after → BeginsWithRequest before ⊎ BeginsRefused before
+responded may_answer before taken after response (inl (refusal, refused, is)) e =
+    inr (taken, refusal, after, refused, e)
+responded may_answer before taken after response (inr (body, answer, request, may, is)) e =
+    inl (taken, body, after, request, e)
+
+-- bytes that have begun alone begin with neither
+never_begun : (before : List ℕ) → IsBegun before → BeginsWithRequest before ⊎ BeginsRefused before → ⊥
+never_begun before begun (inl (a, body, rest, request, e)) = begun_no_request before a rest body begun request e
+never_begun before begun (inr (a, refusal, rest, refused, e)) = begun_not_refused before a rest refusal begun refused e
+
+no_response : (may_answer : MayAnswer) (before taken after response : List ℕ) → IsBegun before
+    → IsResponse may_answer taken response → before ≡ taken ++ after → ⊥
+no_response may_answer before taken after response begun is e =
+    never_begun before begun (responded may_answer before taken after response is e)
+
+-- all of the input was taken
+took_whole : (before taken after : List ℕ) → before ≡ taken ++ after → after ≡ [] → taken ≡ before
+took_whole before taken after e none = sym (e ∙ ap (λ t. taken ++ t) none ∙ append-nil taken)
+
+-- ---- without a request
+
+only_no_memory : (may_answer : MayAnswer) (before taken after text : List ℕ) → IsBegun before
+    → IsAnyResponse may_answer taken text → before ≡ taken ++ after → text ≡ no_memory_text
+only_no_memory may_answer before taken after text begun (inl is) e =
+    absurd (no_response may_answer before taken after text begun is e)
+only_no_memory may_answer before taken after text begun (inr is) e = is
+
+pub cut_due : (may_answer : MayAnswer) (served : Served) (before after out : List ℕ)
+    → ServesFrom may_answer served before after out → IsCut before → DoesDue CutShort (λ text. text ≡ []) served out
+cut_due may_answer Answered before after out (taken, is, e, end) cut =
+    absurd (no_response may_answer before taken after out cut.1 is e)
+cut_due may_answer Ended before after out (taken, is, e, end) cut =
+    absurd (cut.0 (subst (λ (b : List ℕ). EndedBetween b) (took_whole before taken after e end) is.0).empty)
+cut_due may_answer CutShort before after out (taken, is, e, end) cut = (refl, is.1)
+cut_due may_answer ReadFault before after out (taken, is, e, end) cut = is.1
+cut_due may_answer WriteFault before after out (taken, (text, any, part), e, end) cut =
+    (text, inr (only_no_memory may_answer before taken after text cut.1 any e), part)
+cut_due may_answer Memory before after out (taken, is, e, end) cut = is
+
+pub ended_due : (may_answer : MayAnswer) (served : Served) (before after out : List ℕ)
+    → ServesFrom may_answer served before after out → EndedBetween before → DoesDue Ended (λ text. text ≡ []) served out
+ended_due may_answer Answered before after out (taken, is, e, end) ended =
+    absurd (no_response may_answer before taken after out (ended_begun before ended) is e)
+ended_due may_answer Ended before after out (taken, is, e, end) ended = (refl, is.1)
+ended_due may_answer CutShort before after out (taken, is, e, end) ended =
+    absurd ((subst (λ (b : List ℕ). IsCut b) (took_whole before taken after e end) is.0).0 ended.empty)
+ended_due may_answer ReadFault before after out (taken, is, e, end) ended = is.1
+ended_due may_answer WriteFault before after out (taken, (text, any, part), e, end) ended =
+    (text, inr (only_no_memory may_answer before taken after text (ended_begun before ended) any e), part)
+ended_due may_answer Memory before after out (taken, is, e, end) ended = is
+
+-- ---- with a request, or a head that is refused
+
+request_response : (may_answer : MayAnswer) (request body rest taken after response : List ℕ) → IsRequest request body
+    → IsResponse may_answer taken response → request ++ rest ≡ taken ++ after
+    → MayRespond may_answer body response × (after ≡ rest)
+request_response may_answer request body rest taken after response here (inl (refusal, refused, is)) e =
+    absurd (request_not_refused request taken rest after body refusal here refused e)
+request_response may_answer request body rest taken after response here (inr (other, answer, there, may, is)) e =
+    let same = request_once request taken rest after body other here there e in (
+      (answer, subst (λ (b : List ℕ). may_answer b answer) (sym same.1) may, is),
+      sym (append_cancel request rest after (e ∙ ap (λ t. t ++ after) (sym same.0))),
+    )
+
+refused_response : (may_answer : MayAnswer) (head rest taken after response : List ℕ) (refusal : Refusal)
+    → Head head (Err refusal) → IsResponse may_answer taken response → head ++ rest ≡ taken ++ after
+    → response ≡ refusal_text BadRequest
+refused_response may_answer head rest taken after response refusal here (inl (other, refused, is)) e = is
+refused_response may_answer head rest taken after response refusal here (inr (body, answer, there, may, is)) e =
+    absurd (request_not_refused taken head after rest body refusal there here (sym e))
+
+-- bytes that begin with a request or a refused head haven't only begun
+whole_not_begun : (before taken after : List ℕ) → BeginsWithRequest before ⊎ BeginsRefused before → IsBegun taken
+    → before ≡ taken ++ after → after ≡ [] → ⊥
+whole_not_begun before taken after whole begun e none =
+    never_begun before (subst (λ (b : List ℕ). IsBegun b) (took_whole before taken after e none) begun) whole
+
+-- what is due where the bytes begin with one or the other
+answer_due : (may_answer : MayAnswer) (MayBe : List ℕ → Type 0) (served : Served) (before after out : List ℕ)
+    → BeginsWithRequest before ⊎ BeginsRefused before
+    → ((taken response : List ℕ) → IsResponse may_answer taken response → before ≡ taken ++ after → MayBe response)
+    → ServesFrom may_answer served before after out → DoesDue Answered MayBe served out
+answer_due may_answer MayBe Answered before after out whole gives (taken, is, e, end) = (refl, gives taken out is e)
+answer_due may_answer MayBe Ended before after out whole gives (taken, is, e, end) =
+    absurd (whole_not_begun before taken after whole (ended_begun taken is.0) e end)
+answer_due may_answer MayBe CutShort before after out whole gives (taken, is, e, end) =
+    absurd (whole_not_begun before taken after whole is.0.1 e end)
+answer_due may_answer MayBe ReadFault before after out whole gives (taken, is, e, end) = is.1
+answer_due may_answer MayBe WriteFault before after out whole gives (taken, (text, inl is, part), e, end) =
+    (text, inl (gives taken text is e), part)
+answer_due may_answer MayBe WriteFault before after out whole gives (taken, (text, inr is, part), e, end) =
+    (text, inr is, part)
+answer_due may_answer MayBe Memory before after out whole gives (taken, is, e, end) = is
+
+pub request_due : (may_answer : MayAnswer) (served : Served) (request body rest after out : List ℕ) → IsRequest request body
+    → ServesFrom may_answer served (request ++ rest) after out → DoesDue Answered (MayRespond may_answer body) served out
+request_due may_answer served request body rest after out here from =
+    answer_due may_answer (MayRespond may_answer body) served (request ++ rest) after out (inl (request, body, rest, here, refl))
+    (λ taken response is e. (request_response may_answer request body rest taken after response here is e).0) from
+
+pub request_left : (may_answer : MayAnswer) (served : Served) (request body rest after out : List ℕ) → IsRequest request body
+    → ServesFrom may_answer served (request ++ rest) after out → served ≡ Answered → after ≡ rest
+request_left may_answer served request body rest after out here from answered =
+    let found = subst (λ (s : Served). ServesFrom may_answer s (request ++ rest) after out) answered from in
+    (request_response may_answer request body rest found.0 after out here found.1 found.2).1
+
+pub refused_due : (may_answer : MayAnswer) (served : Served) (head rest after out : List ℕ) (refusal : Refusal)
+    → Head head (Err refusal) → ServesFrom may_answer served (head ++ rest) after out
+    → DoesDue Answered (λ text. text ≡ refusal_text BadRequest) served out
+refused_due may_answer served head rest after out refusal here from =
+    answer_due may_answer (λ text. text ≡ refusal_text BadRequest) served (head ++ rest) after out (inr (head, refusal, rest, here, refl))
+    (λ taken response is e. refused_response may_answer head rest taken after response refusal here is e) from
+
+-- ---- without a fault
+
+-- only what was due was done
+done : (due : Served) (MayBe : List ℕ → Type 0) (served : Served) (out : List ℕ) → DoesDue due MayBe served out
+    → HasNoFault served → served ≡ due
+done due MayBe Answered out did free = sym did.0
+done due MayBe Ended out did free = sym did.0
+done due MayBe CutShort out did free = sym did.0
+done due MayBe ReadFault out did free = absurd free
+done due MayBe WriteFault out did free = absurd free
+done due MayBe Memory out did free = absurd free
+
+at_cut : (may_answer : MayAnswer) (before after out : List ℕ) → ServesFrom may_answer CutShort before after out → IsCut before
+at_cut may_answer before after out (taken, is, e, end) =
+    subst (λ (b : List ℕ). IsCut b) (took_whole before taken after e end) is.0
+
+at_end : (may_answer : MayAnswer) (before after out : List ℕ) → ServesFrom may_answer Ended before after out → EndedBetween before
+at_end may_answer before after out (taken, is, e, end) =
+    subst (λ (b : List ℕ). EndedBetween b) (took_whole before taken after e end) is.0
+
+at_answer : (may_answer : MayAnswer) (before after out : List ℕ) → ServesFrom may_answer Answered before after out
+    → BeginsWithRequest before ⊎ BeginsRefused before
+at_answer may_answer before after out (taken, is, e, end) = responded may_answer before taken after out is e
+
+pub cut_exactly : (may_answer : MayAnswer) (served : Served) (before : List ℕ) (y v w : Left)
+    → ServesOne may_answer served (Some before) y v w → HasNoFault served → (served ≡ CutShort) ↔ IsCut before
+cut_exactly may_answer served before y v w one free =
+    let (after, out, left, from, wrote) = served_from may_answer served before y v w one in (
+      λ is. at_cut may_answer before after out (subst (λ (s : Served). ServesFrom may_answer s before after out) is from),
+      λ cut. done CutShort (λ text. text ≡ []) served out (cut_due may_answer served before after out from cut) free,
+    )
+
+pub ended_exactly : (may_answer : MayAnswer) (served : Served) (before : List ℕ) (y v w : Left)
+    → ServesOne may_answer served (Some before) y v w → HasNoFault served → (served ≡ Ended) ↔ EndedBetween before
+ended_exactly may_answer served before y v w one free =
+    let (after, out, left, from, wrote) = served_from may_answer served before y v w one in (
+      λ is. at_end may_answer before after out (subst (λ (s : Served). ServesFrom may_answer s before after out) is from),
+      λ ended. done Ended (λ text. text ≡ []) served out (ended_due may_answer served before after out from ended) free,
+    )
+
+pub answered_exactly : (may_answer : MayAnswer) (served : Served) (before : List ℕ) (y v w : Left)
+    → ServesOne may_answer served (Some before) y v w → HasNoFault served
+    → (served ≡ Answered) ↔ (BeginsWithRequest before ⊎ BeginsRefused before)
+answered_exactly may_answer served before y v w one free =
+    let (after, out, left, from, wrote) = served_from may_answer served before y v w one in (
+      λ is. at_answer may_answer before after out (subst (λ (s : Served). ServesFrom may_answer s before after out) is from),
+      λ whole. done Answered (λ text. ⊤) served out
+          (answer_due may_answer (λ text. ⊤) served before after out whole (λ taken response is e. tt) from) free,
+    )
+
+-- ---- what was written
+
+pub cut_writes : (may_answer : MayAnswer) (served : Served) (before : List ℕ) (y v w : Left)
+    → ServesOne may_answer served (Some before) y v w → IsCut before → WritesDue CutShort (λ text. text ≡ []) served v w
+cut_writes may_answer served before y v w one cut =
+    let (after, out, left, from, wrote) = served_from may_answer served before y v w one in
+    (out, cut_due may_answer served before after out from cut, wrote)
+
+pub ended_writes : (may_answer : MayAnswer) (served : Served) (before : List ℕ) (y v w : Left)
+    → ServesOne may_answer served (Some before) y v w → EndedBetween before → WritesDue Ended (λ text. text ≡ []) served v w
+ended_writes may_answer served before y v w one ended =
+    let (after, out, left, from, wrote) = served_from may_answer served before y v w one in
+    (out, ended_due may_answer served before after out from ended, wrote)
+
+pub request_writes : (may_answer : MayAnswer) (served : Served) (request body rest : List ℕ) (y v w : Left) → IsRequest request body
+    → ServesOne may_answer served (Some (request ++ rest)) y v w → WritesDue Answered (MayRespond may_answer body) served v w
+request_writes may_answer served request body rest y v w here one =
+    let (after, out, left, from, wrote) = served_from may_answer served (request ++ rest) y v w one in
+    (out, request_due may_answer served request body rest after out here from, wrote)
+
+pub request_leaves : (may_answer : MayAnswer) (served : Served) (request body rest : List ℕ) (y v w : Left) → IsRequest request body
+    → ServesOne may_answer served (Some (request ++ rest)) y v w → served ≡ Answered → y ≡ Some rest
+request_leaves may_answer served request body rest y v w here one answered =
+    let (after, out, left, from, wrote) = served_from may_answer served (request ++ rest) y v w one in
+    left ∙ ap (λ t. Some t) (request_left may_answer served request body rest after out here from answered)
+
+pub refused_writes : (may_answer : MayAnswer) (served : Served) (head rest : List ℕ) (refusal : Refusal) (y v w : Left)
+    → Head head (Err refusal) → ServesOne may_answer served (Some (head ++ rest)) y v w
+    → WritesDue Answered (λ text. text ≡ refusal_text BadRequest) served v w
+refused_writes may_answer served head rest refusal y v w here one =
+    let (after, out, left, from, wrote) = served_from may_answer served (head ++ rest) y v w one in
+    (out, refused_due may_answer served head rest after out refusal here from, wrote)
