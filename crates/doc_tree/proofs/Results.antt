@@ -1,0 +1,74 @@
+-- What the reader's answers come from.
+use Rattle.std.proofs.Common.{◌≡◌, ℕ, suc, ◌+◌, ◌<◌, ◌≤◌, List, ◌∷◌, ◌++◌, length, take, drop, get_or, drop-cons, Option, Some, None, MatchOption, refl, ap, sym, ◌∙◌, subst, arith}
+use Rattle.std.proofs.lemmas.List.{take-append-drop}
+use Rattle.tree_grammar.specs.Elements.{Element, Event, nodes_depth, IsShallow}
+use Rattle.tree_grammar.specs.Characters.{IsXmlText, normal_lines}
+use Rattle.tree_grammar.specs.Content.{body_nodes}
+use Rattle.tree_grammar.specs.Document.{Document, SmallDoc, document_element}
+use Rattle.element_tree.specs.Nesting.{IsOneElement}
+use Rattle.doc_tree.specs.Building.{IsApart}
+use Rattle.doc_tree.specs.Marks.{spread, gather}
+use Rattle.doc_tree.specs.Rests.{Whole}
+use Rattle.doc_tree.specs.LineEnds.{IsNoDocument}
+use Rattle.doc_tree.specs.Reading.{Reads, ReadsOnly, NoneWithin}
+use Rattle.doc_tree.proofs.Gathering.{spread_gathers}
+use Rattle.doc_tree.proofs.Unambiguous.{one_element}
+use Rattle.doc_tree.proofs.Wholes.{Small, small_of, whole_of, document_marks, document_gathers}
+
+-- a small document that isn't deep is a whole
+pub document_whole : (bytes : List ℕ) (e : Element) (s : SmallDoc bytes e) → IsShallow e → Whole (normal_lines bytes) (document_marks s.doc.document)
+document_whole bytes e s shallow =
+    let d : Document = s.doc.document in
+    let says : e ≡ document_element d = s.doc.says in
+    let depth : nodes_depth (body_nodes d.body) ≤ 31 = let h : suc (nodes_depth (body_nodes d.body)) ≤ 32 = subst IsShallow says shallow in omega arith in
+    subst (λ z. Whole z (document_marks d)) (sym s.doc.text) (whole_of d s.small depth s.doc.readable)
+
+-- what no document is
+pub none_refuses : (limit : ℕ) (bytes : List ℕ) → IsNoDocument bytes → NoneWithin limit bytes
+none_refuses limit bytes n = λ e s w shallow. n (document_marks s.doc.document) (document_whole bytes e s shallow)
+
+-- what is too long
+pub long_refuses : (limit : ℕ) (bytes : List ℕ) → (length bytes ≤ limit → ⊥) → NoneWithin limit bytes
+long_refuses limit bytes n = λ e s w shallow. n w
+
+-- what has other characters
+pub text_refuses : (limit : ℕ) (bytes : List ℕ) → (IsXmlText bytes → ⊥) → NoneWithin limit bytes
+text_refuses limit bytes n = λ e s w shallow. n s.doc.characters
+
+-- The events told are those of an element that the bytes hold.
+pub read_so : (limit : ℕ) (bytes : List ℕ) (told : List Event) → IsXmlText bytes → length bytes ≤ limit → Whole (normal_lines bytes) (spread told) → IsApart told → Reads limit bytes told
+read_so limit bytes told text within w apart =
+    let s : Small (normal_lines bytes) (spread told) = small_of (normal_lines bytes) (spread told) w in
+    let d = s.document in
+    let deep = s.deep in
+    record {
+      element = document_element d;
+      same = sym (spread_gathers told apart) ∙ (ap gather s.says ∙ document_gathers d);
+      document = record { doc = record { characters = text; document = d; text = s.same; readable = s.readable; says = refl }; small = s.small };
+      within = within;
+      shallow = omega arith;
+    }
+
+-- the bytes before one, it, and those behind it
+pub split_at : (bytes : List ℕ) (at d : ℕ) → at < length bytes → bytes ≡ take at bytes ++ (get_or bytes at d ∷ drop (at + 1) bytes)
+split_at bytes at d l =
+    let a : suc at ≡ at + 1 = omega arith in
+    sym (take-append-drop at bytes) ∙ ap (λ z. take at bytes ++ z) (drop-cons bytes at d l ∙ ap (λ z. get_or bytes at d ∷ drop z bytes) a)
+
+-- the tree that is made of them
+pub read_tree : (limit : ℕ) (bytes : List ℕ) (told tree : List Event) → tree ≡ told → Reads limit bytes told → Reads limit bytes tree
+read_tree limit bytes told tree e r = subst (λ z. Reads limit bytes z) (sym e) r
+
+pub no_element : (limit : ℕ) (bytes : List ℕ) (told : List Event) → Reads limit bytes told → (IsOneElement told → ⊥) → ⊥
+no_element limit bytes told r n = n (record { element = r.element; same = r.same })
+
+-- No other element is held.
+pub reads_only : (limit : ℕ) (bytes : List ℕ) (told : List Event) → Reads limit bytes told → ReadsOnly bytes told
+reads_only limit bytes told r = λ e s. r.same ∙ one_element bytes r.element e r.document s
+
+-- whether there is a tree
+pub some_tree : (told : List Event) (N : Type 0) (o : Option (List Event)) (t : List Event) → MatchOption o N (λ z. z ≡ told) → o ≡ Some t → t ≡ told
+some_tree told N o t h e = subst (λ x. MatchOption x N (λ z. z ≡ told)) e h
+
+pub none_tree : (told : List Event) (N : Type 0) (o : Option (List Event)) → MatchOption o N (λ z. z ≡ told) → o ≡ None → N
+none_tree told N o h e = subst (λ x. MatchOption x N (λ z. z ≡ told)) e h

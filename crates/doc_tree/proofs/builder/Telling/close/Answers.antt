@@ -1,0 +1,11 @@
+use Rattle.std.proofs.Common.{[], ◌∷◌, subst}
+use Rattle.doc_tree.specs.Marks.{Finish}
+use Rattle.doc_tree.specs.Building.{Tells}
+use Rattle.doc_tree.proofs.Tellings.{close_told, close_ready, unless_wanted}
+use Rattle.doc_tree.proofs.builder.Telling.close.Goals as goal
+
+pub invariant_of-self : goal.invariant_of-self
+invariant_of-self c = unless_wanted c.self.inside.wanted (close_ready c.self.inside.builder c.end.new.self _ c.in-Ok.ensures.ok) c.self.invariant
+
+pub returns-in-Ok : goal.returns-in-Ok
+returns-in-Ok c = subst (λ z. Tells z (Finish c.args.name.now ∷ []) z.attributes c.end.new.self) c.self.view_is (close_told c.self.inside.builder c.end.new.self _ c.in-Ok.ensures.ok)

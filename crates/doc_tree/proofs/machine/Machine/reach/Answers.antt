@@ -1,0 +1,14 @@
+use Rattle.doc_tree.specs.Completes.{view}
+use Rattle.doc_tree.specs.declared.machine.Place.TheVariants as places
+use Rattle.doc_tree.specs.declared.machine.Goal.TheVariants as goals
+use Rattle.doc_tree.proofs.Reaching.{reach_place}
+use Rattle.doc_tree.proofs.machine.Machine.reach.Goals as goal
+
+pub returns-in-Marked : goal.returns-in-Marked
+returns-in-Marked c = reach_place (view c.args.self.now) goals.Marked places.Marked c.in-Marked.is c.requires (λ o. o) (λ x es. (λ h. h, λ h. h))
+
+pub returns-in-Field : goal.returns-in-Field
+returns-in-Field c = reach_place (view c.args.self.now) goals.Field places.FieldEquals c.in-Field.is c.requires (λ o. o) (λ x es. (λ h. h, λ h. h))
+
+pub returns-in-Prolog : goal.returns-in-Prolog
+returns-in-Prolog c = reach_place (view c.args.self.now) goals.Prolog places.Prolog c.in-Prolog.is c.requires (λ o. o) (λ x es. (λ h. h, λ h. h))

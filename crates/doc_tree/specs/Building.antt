@@ -1,0 +1,34 @@
+use Rattle.std.specs.Prelude.{◌≡◌, ◌≢◌, List, [], ◌∷◌, ◌++◌}
+use Rattle.tree_grammar.specs.Elements.{Attribute, Event, Open, Chars, Close}
+use Rattle.element_tree.specs.Building.{Building, said}
+use Rattle.doc_tree.specs.Marks.{Mark, spread}
+
+-- How the builder goes on: with these marks said, and these attributes of the tag to come.
+pub record Tells (old : Building) (marks : List Mark) (attributes : List Attribute) (new : Building) : Type 0 where
+  pub says : spread (said new) ≡ spread (said old) ++ marks
+  pub waits : new.attributes ≡ attributes
+
+-- No characters come first.
+abbrev pub NoCharsFirst : List Event → Type 0
+NoCharsFirst [] = Unit {0}
+NoCharsFirst (Open name attributes ∷ more) = Unit {0}
+NoCharsFirst (Chars text ∷ more) = ⊥
+NoCharsFirst (Close name ∷ more) = Unit {0}
+
+-- No characters come last.
+abbrev pub NoCharsLast : List Event → Type 0
+NoCharsLast [] = Unit {0}
+NoCharsLast (e ∷ []) = NoCharsFirst (e ∷ [])
+NoCharsLast (e ∷ f ∷ more) = NoCharsLast (f ∷ more)
+
+-- No characters are none, and none stand beside others.
+abbrev pub IsApart : List Event → Type 0
+IsApart [] = Unit {0}
+IsApart (Open name attributes ∷ more) = IsApart more
+IsApart (Chars text ∷ more) = (text ≢ []) × NoCharsFirst more × IsApart more
+IsApart (Close name ∷ more) = IsApart more
+
+-- What was told is apart. Where no attribute waits, characters may come next.
+pub record IsReady (b : Building) : Type 0 where
+  pub apart : IsApart (said b)
+  pub run_begins : b.attributes ≡ [] → NoCharsLast b.events

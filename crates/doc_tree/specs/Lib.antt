@@ -1,0 +1,6 @@
+pub mod Building
+pub mod Marks
+pub mod Rests
+pub mod Completes
+pub mod LineEnds
+pub mod Reading
