@@ -1,0 +1,139 @@
+-- How a run ends, by its words and by what came and went.
+use Rattle.std.specs.Prelude.{◌≡◌, ℕ, ◌⊎◌, List, [], ◌∷◌, ◌++◌, Option, codes}
+use Rattle.os_io.specs.Streams.{Told, HasRisen}
+use Rattle.http_link.specs.Requests.{IsBegun, IsCut, EndedBetween}
+use Rattle.http_link.specs.Responses.{Appends}
+use Rattle.http_session.specs.Session.{IsResponse, IsAnyResponse, IsPart, no_memory_text}
+use Rattle.os_app.specs.Answers.{MayAnswer}
+
+-- a run's words, and what its input and output tell before and after it
+pub record Run : Type 0 where
+  pub words : List (List ℕ)
+  pub left : Option (List ℕ)
+  pub left_after : Option (List ℕ)
+  pub written : Option (List ℕ)
+  pub written_after : Option (List ℕ)
+  pub read_faults : ℕ
+  pub read_faults_after : ℕ
+  pub write_faults : ℕ
+  pub write_faults_after : ℕ
+
+-- the words are the program's name and `session` alone
+pub record IsSession (words : List (List ℕ)) : Type 0 where
+  pub name : List ℕ
+  pub alone : words ≡ name ∷ codes "session" ∷ []
+
+-- what is written to whoever gives other words
+abbrev pub usage : List ℕ
+usage = codes "usage: os_app session | solve | check | serve | call | generate\n"
+
+-- these bytes were taken from the input, and no others
+abbrev pub Took : Run → List ℕ → Type 0
+Took run taken = Told run.left run.left_after (λ before after. before ≡ taken ++ after)
+
+-- these bytes were taken from the input, and it has ended
+abbrev pub TookAll : Run → List ℕ → Type 0
+TookAll run taken = Told run.left run.left_after (λ before after. (before ≡ taken) × (after ≡ []))
+
+-- these bytes were written, and no others
+abbrev pub Wrote : Run → List ℕ → Type 0
+Wrote run out = Told run.written run.written_after (Appends out)
+
+-- no read failed
+abbrev pub AllRead : Run → Type 0
+AllRead run = run.read_faults_after ≡ run.read_faults
+
+-- no write and no flush failed
+abbrev pub AllWritten : Run → Type 0
+AllWritten run = run.write_faults_after ≡ run.write_faults
+
+-- one request came, and its response was written whole
+pub record IsAnswered (run : Run) : Type 0 where
+  pub taken : List ℕ
+  pub response : List ℕ
+  pub responds : IsResponse MayAnswer taken response
+  pub took : Took run taken
+  pub wrote : Wrote run response
+
+-- the input ended before a request began, and nothing was written
+pub record IsOver (run : Run) : Type 0 where
+  pub taken : List ℕ
+  pub between : EndedBetween taken
+  pub took : TookAll run taken
+  pub wrote : Wrote run []
+
+-- all is done
+pub record IsDone (run : Run) : Type 0 where
+  pub session : IsSession run.words
+  pub served : IsAnswered run ⊎ IsOver run
+  pub all_read : AllRead run
+  pub all_written : AllWritten run
+
+-- other words were given: the usage was written whole, and nothing was read
+pub record IsMisused (run : Run) : Type 0 where
+  pub other : IsSession run.words → ⊥
+  pub wrote : Wrote run usage
+  pub unread : run.left_after ≡ run.left
+  pub all_read : AllRead run
+  pub all_written : AllWritten run
+
+-- a read failed, inside a request that nothing had refused or before one, and nothing was written
+pub record IsReadFault (run : Run) : Type 0 where
+  pub session : IsSession run.words
+  pub taken : List ℕ
+  pub begun : IsBegun taken
+  pub took : Took run taken
+  pub wrote : Wrote run []
+  pub failed : HasRisen run.read_faults run.read_faults_after
+  pub all_written : AllWritten run
+
+-- what was to be written to a request: its response, or the one for want of memory
+pub record WasToRespond (run : Run) (text : List ℕ) : Type 0 where
+  pub session : IsSession run.words
+  pub taken : List ℕ
+  pub responds : IsAnyResponse MayAnswer taken text
+  pub took : Took run taken
+
+-- what was to be written to other words: the usage
+pub record WasToHelp (run : Run) (text : List ℕ) : Type 0 where
+  pub other : IsSession run.words → ⊥
+  pub usage_is : text ≡ usage
+  pub unread : run.left_after ≡ run.left
+
+-- a write or a flush failed, and a first part was written of what was to be written
+pub record IsWriteFault (run : Run) : Type 0 where
+  pub text : List ℕ
+  pub part : List ℕ
+  pub due : WasToRespond run text ⊎ WasToHelp run text
+  pub is_part : IsPart text part
+  pub wrote : Wrote run part
+  pub all_read : AllRead run
+  pub failed : HasRisen run.write_faults run.write_faults_after
+
+-- there was no memory for a request or its answer, and the response that says so was written whole
+pub record IsWithoutMemory (run : Run) : Type 0 where
+  pub session : IsSession run.words
+  pub taken : List ℕ
+  pub took : Took run taken
+  pub wrote : Wrote run no_memory_text
+  pub all_read : AllRead run
+  pub all_written : AllWritten run
+
+-- the input ended inside a request that nothing had refused, and nothing was written
+pub record IsCutShort (run : Run) : Type 0 where
+  pub session : IsSession run.words
+  pub taken : List ℕ
+  pub cut : IsCut taken
+  pub took : TookAll run taken
+  pub wrote : Wrote run []
+  pub all_read : AllRead run
+  pub all_written : AllWritten run
+
+-- how a run ends, by its status
+pub data Ends (status : ℕ) (run : Run) : Type 0 where
+  done : status ≡ 0 → IsDone run → Ends status run
+  misused : status ≡ 2 → IsMisused run → Ends status run
+  read_fault : status ≡ 3 → IsReadFault run → Ends status run
+  write_fault : status ≡ 4 → IsWriteFault run → Ends status run
+  without_memory : status ≡ 5 → IsWithoutMemory run → Ends status run
+  cut_short : status ≡ 8 → IsCutShort run → Ends status run

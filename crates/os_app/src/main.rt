@@ -1,0 +1,53 @@
+//! A solver service for linear programs.
+//!
+//! `os_app session` reads one request from the standard input and writes its response to the standard output.
+//! [`run`](command::run) is the program over any input and output, and its contract says what each status means; `main`
+//! gives it the real ones.
+#![tactic(auto)]
+
+mod command;
+mod service;
+#[cfg(test)]
+mod tests;
+mod words;
+
+use command::{NO_MEMORY, run};
+use os_io::{MemFiles, MemListener, Memory, StdSink, StdSource};
+use std::alloc::{AllocError, Global};
+use std::env;
+use std::io::ErrorKind;
+use std::process::ExitCode;
+
+/// The words of the call, of which the first is the program's name. Words that aren't all UTF-8 are no command's, so
+/// none stand for them.
+fn words_of(rt: &HostRuntime) -> Result<Vec<String>, Memory> {
+    match env::args(rt) {
+        Ok(words) => words.collect(rt.alloc()),
+        Err(error) if error.kind() == ErrorKind::OutOfMemory => Err(AllocError),
+        Err(_) => Ok(Vec::new(rt.alloc())),
+    }
+}
+
+/// Runs over the standard input and output. There are no files and no links yet.
+fn start(rt: &HostRuntime) -> Result<u8, Memory> {
+    let words = words_of(rt)?;
+    let mut files = MemFiles::new(rt.alloc(), &[])?;
+    let mut input = StdSource::new(rt.stdin());
+    let mut output = StdSink::new(rt.stdout());
+    let mut net = MemListener::new(rt.alloc(), &[])?;
+    Ok(run(
+        rt.alloc(),
+        words.as_slice(),
+        &mut files,
+        &mut input,
+        &mut output,
+        &mut net,
+    ))
+}
+
+fn main(rt: HostRuntime) -> ExitCode {
+    match start(&rt) {
+        Ok(status) => ExitCode::from(status),
+        Err(_) => ExitCode::from(NO_MEMORY),
+    }
+}
