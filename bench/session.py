@@ -1,0 +1,72 @@
+"""Times `session` beside `xmllint --noout`: seconds, MB/s, peak memory and the ratio of the times.
+
+Each document is a plain OSiL text of 1,000 variables, the rest white space between elements. `session` gets it
+escaped in an envelope, in one request; xmllint gets the envelope that the request carries.
+"""
+
+import os
+import sys
+import tempfile
+
+VARIABLES = 1000
+RUNS = 5
+
+
+def osil(size):
+    """A plain text of this many bytes."""
+    head = "<osil><instanceData><variables>" + "<var/>" * VARIABLES + "</variables><objectives><obj>"
+    costs = [f'<coef idx="{j}">1</coef>' for j in range(VARIABLES)]
+    tail = "</obj></objectives></instanceData></osil>"
+    room = size - len(head) - sum(map(len, costs)) - len(tail)
+    space = room // VARIABLES
+    costs = [cost + " " * space for cost in costs]
+    return head + "".join(costs) + " " * (room - space * VARIABLES) + tail
+
+
+def envelope(text):
+    escaped = text.replace("&", "&amp;").replace("<", "&lt;").replace(">", "&gt;")
+    return f"<Envelope><Body><solve><osil>{escaped}</osil></solve></Body></Envelope>".encode()
+
+
+def request(body):
+    return f"POST /os HTTP/1.1\r\nHost: a\r\nContent-Length: {len(body)}\r\n\r\n".encode() + body
+
+
+def measured(words, source):
+    """The least seconds of some runs and the greatest peak memory in bytes."""
+    seconds, peak = None, 0
+    for _ in range(RUNS):
+        with tempfile.TemporaryFile() as out:
+            pid = os.posix_spawnp(
+                words[0], words, os.environ,
+                file_actions=[(os.POSIX_SPAWN_OPEN, 0, source, os.O_RDONLY, 0), (os.POSIX_SPAWN_DUP2, out.fileno(), 1)],
+            )
+            _, status, usage = os.wait4(pid, 0)
+            if status != 0:
+                sys.exit(f"{words} ended with {status}")
+        spent = usage.ru_utime + usage.ru_stime
+        seconds = spent if seconds is None else min(seconds, spent)
+        peak = max(peak, usage.ru_maxrss * 1024)
+    return seconds, peak
+
+
+def main():
+    print("document bytes | session s | MB/s | peak bytes a byte | xmllint s | MB/s | session / xmllint")
+    first = None
+    with tempfile.TemporaryDirectory() as folder:
+        for size in (1_000_000, 2_000_000, 4_000_000):
+            body = envelope(osil(size))
+            call, document = os.path.join(folder, "call"), os.path.join(folder, "document")
+            with open(call, "wb") as f:
+                f.write(request(body))
+            with open(document, "wb") as f:
+                f.write(body)
+            ours, peak = measured([os.path.abspath("os"), "session"], call)
+            peer, _ = measured(["xmllint", "--noout", document], "/dev/null")
+            first = first or ours
+            mb = len(body) / 1e6
+            print(f"{len(body)} | {ours:.3f} | {mb / ours:.1f} | {peak / len(body):.1f} | {peer:.3f} | {mb / peer:.1f} | {ours / peer:.1f}")
+        print(f"the time of the last over that of the first: {ours / first:.2f}")
+
+
+main()
