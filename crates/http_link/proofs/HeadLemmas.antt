@@ -16,7 +16,7 @@ reads_head bytes lines outcome whole few (inl (more, is)) = inl (
       omega (arith, more h reads, counted, whole.3, few),
   is,
 )
-reads_head bytes lines outcome whole few (inr found) = inr found
+reads_head bytes lines outcome whole few (inr (h, reads, few', is)) = inr (h, reads, is)
 
 pub judged : (bytes : List ℕ) (lines : ℕ) (outcome : Result ℕ Refusal) → IsWholeHead bytes lines → length bytes ≤ most_head
     → lines ≤ most_fields → ReadsWithin most_fields bytes outcome → Head bytes outcome

@@ -1,5 +1,5 @@
 -- The bytes that come begin with one head, and so with one request, or with none.
-use Rattle.std.proofs.Common.{◌≡◌, ◌≢◌, ℕ, ◌≤◌, ◌⊎◌, inl, inr, List, [], ◌∷◌, ◌++◌, length, Ok, Err, refl, sym, ap, ◌∙◌, subst, arith, append_assoc, append-nil, length-append}
+use Rattle.std.proofs.Common.{◌≡◌, ◌≢◌, ℕ, ◌<◌, ◌≤◌, ◌⊎◌, inl, inr, List, [], ◌∷◌, ◌++◌, length, Ok, Err, refl, sym, ap, ◌∙◌, subst, arith, append_assoc, append-nil, length-append}
 use Rattle.std.specs.Prelude.{All, Result}
 use Rattle.std.proofs.lemmas.List.Elements.{All-nil, All-cons, All-head}
 use Rattle.std.proofs.lemmas.Bool.{cases_lt}
@@ -7,7 +7,7 @@ use Rattle.httparse.proofs.GrammarLemmas.{request_unique}
 use Rattle.http_link.specs.declared.refusal.Refusal.{Refusal}
 use Rattle.http_link.specs.Lines.{IsLine, IsEmptyLine, IsFullLine, HeadLines, AreHeadLines, IsOpenHead, print_lines, print_head}
 use Rattle.http_link.specs.Checks.{most_head, outcome_of, Reads, ReadsLines, Head}
-use Rattle.http_link.specs.Requests.{IsRequest, IsHeadBegun, IsBegun, EndedBetween}
+use Rattle.http_link.specs.Requests.{IsRequest, IsHeadBegun, IsBegun, IsHeadPart, IsRequestPart, EndedBetween}
 use Rattle.http_link.proofs.LineLemmas.{cons_same, nothing, first_lines, empty_are_lines, head_lines_all, open_has_no_head, print_push, no_more}
 use Rattle.http_link.proofs.FieldLemmas.{after_full}
 
@@ -225,6 +225,92 @@ lines_begun lines whole empty is = (
     lines_are = refl;
   },
 )
+
+-- ---- a first part of a request, or all of it
+
+-- one byte behind a head that has begun is no byte past a head
+pub open_part : (text : List ℕ) (b start lines : ℕ) → IsOpenHead text start lines → length text < most_head
+    → IsHeadPart (text ++ b ∷ [])
+open_part text b start lines o less = record {
+  fits = omega (arith, less, length-append text (b ∷ []));
+  nothing_past = λ h rest are e.
+      elim (last_of rest) [
+        | inl none ↦ none
+        | inr found ↦
+            let bytes = push_same text (print_head h ++ found.0) b found.1
+            (e ∙ ap (λ t. print_head h ++ t) found.2 ∙ sym (append_assoc (print_head h) found.0 (found.1 ∷ []))) in
+            absurd (open_has_no_head text start lines o h found.0 are bytes)
+      ];
+}
+
+-- what has begun is a first part
+pub begun_part : (bytes : List ℕ) → IsBegun bytes → IsRequestPart bytes
+begun_part bytes (inl begun) = inl (record {
+  fits = omega (arith, begun.fits);
+  nothing_past = λ h rest are e. absurd (begun.no_head h rest are e);
+})
+begun_part bytes (inr (head, body, most, accepted, is, less)) = inr (head, body, most, accepted, is, omega (arith, less))
+
+-- and so is all of a request
+pub request_part : (bytes body : List ℕ) → IsRequest bytes body → IsRequestPart bytes
+request_part bytes body (head, accepted, is) = inr (head, body, length body, accepted, is, omega arith)
+
+part_of_head : (part a z : List ℕ) (o : Result ℕ Refusal) → IsHeadPart part → Head a o → part ≡ a ++ z → length part ≤ length a
+part_of_head part a z o p (inl (full, none, is)) e = omega (arith, p.fits, full)
+part_of_head part a z o p (inr (h, are, is, fits, lines)) e =
+    omega (arith, ap length e, length-append a z, ap length (p.nothing_past h z are (e ∙ ap (λ t. t ++ z) is)))
+
+head_within : (part a x y : List ℕ) (o : Result ℕ Refusal) → IsHeadPart part → Head a o → part ++ x ≡ a ++ y
+    → length part ≤ length a
+head_within part a x y o p q e =
+    elim (cases_lt (length a) (length part)) [
+      | inl less ↦
+          let more = longer a part y x (sym e) (omega (arith, less)) in
+          part_of_head part a more.0 o p q more.1
+      | inr less ↦ less
+    ]
+
+-- a part of a request has no more bytes than the request at the front of the same bytes
+part_within : (part a x y body : List ℕ) → IsRequestPart part → IsRequest a body → part ++ x ≡ a ++ y
+    → length part ≤ length a
+part_within part a x y body (inl p) (head, accepted, is) e =
+    let within = head_within part head x (body ++ y) (Ok (length body)) p accepted (e ∙ regroup a head body y is) in
+    omega (arith, within, ap length is, length-append head body)
+part_within part a x y body (inr (head', body', most, accepted', is', less)) (head, accepted, is) e =
+    let split : head' ++ (body' ++ x) ≡ head ++ (body ++ y) = sym (regroup part head' body' x is') ∙ e ∙ regroup a head body y is in
+    let once = head_once head' head (body' ++ x) (body ++ y) (Ok most) (Ok (length body)) accepted' accepted split in
+    omega (
+      arith,
+      less,
+      accepted_same most (length body) (Ok most) refl once.1,
+      ap length once.0,
+      ap length is,
+      ap length is',
+      length-append head body,
+      length-append head' body',
+    )
+
+-- nor than a refused head there
+part_within_head : (part a x y : List ℕ) (refusal : Refusal) → IsRequestPart part → Head a (Err refusal) → part ++ x ≡ a ++ y
+    → length part ≤ length a
+part_within_head part a x y refusal (inl p) refused e = head_within part a x y (Err refusal) p refused e
+part_within_head part a x y refusal (inr (head, body, most, accepted, is, less)) refused e =
+    absurd (never_both most refusal
+    (head_once head a (body ++ x) y (Ok most) (Err refusal) accepted refused (sym (regroup part head body x is) ∙ e)).1)
+
+front_of : (part a x y : List ℕ) → part ++ x ≡ a ++ y → length part ≤ length a → (z : List ℕ) × (a ≡ part ++ z) × (x ≡ z ++ y)
+front_of part a x y e less =
+    let more = longer part a x y e less in
+    (more.0, more.1, append_cancel part x (more.0 ++ y) (e ∙ ap (λ t. t ++ y) more.1 ∙ append_assoc part more.0 y))
+
+-- so it is a first part of that request
+pub part_of_request : (part a x y body : List ℕ) → IsRequestPart part → IsRequest a body → part ++ x ≡ a ++ y
+    → (z : List ℕ) × (a ≡ part ++ z) × (x ≡ z ++ y)
+part_of_request part a x y body p q e = front_of part a x y e (part_within part a x y body p q e)
+
+pub part_of_refused : (part a x y : List ℕ) (refusal : Refusal) → IsRequestPart part → Head a (Err refusal) → part ++ x ≡ a ++ y
+    → (z : List ℕ) × (a ≡ part ++ z) × (x ≡ z ++ y)
+part_of_refused part a x y refusal p q e = front_of part a x y e (part_within_head part a x y refusal p q e)
 
 pub ended_begun : (whole : List ℕ) → EndedBetween whole → IsBegun whole
 ended_begun whole ended =

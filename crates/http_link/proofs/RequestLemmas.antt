@@ -1,5 +1,5 @@
 -- What the steps of reading a request show.
-use Rattle.std.proofs.Common.{◌≡◌, ℕ, ◌<◌, ◌≤◌, inl, inr, List, [], ◌++◌, length, Option, Some, None, Ok, Err, refl, sym, subst, arith}
+use Rattle.std.proofs.Common.{◌≡◌, ℕ, ◌+◌, ◌<◌, ◌≤◌, inl, inr, List, [], ◌∷◌, ◌++◌, length, Option, Some, None, Ok, Err, refl, sym, subst, arith, length-append}
 use Rattle.std.specs.Prelude.{⊤, MatchOption}
 use Rattle.os_io.specs.Streams.{Told}
 use Rattle.http_link.specs.declared.refusal.Refusal.{Refusal}
@@ -13,6 +13,7 @@ use Rattle.http_link.specs.Lines.{AreEmptyLines, IsOpenHead, IsWholeHead}
 use Rattle.http_link.specs.Checks.{most_head, Head}
 use Rattle.http_link.specs.Requests.{Answers, AnswersHead, AnswersBody, LosesPiece, TakesByte}
 use Rattle.http_link.proofs.LineLemmas.{open_has_no_head, whole_not_blank}
+use Rattle.http_link.proofs.OnceLemmas.{open_part}
 use Rattle.http_link.proofs.ToldLemmas.{took_with, took_same, took_all, took_both}
 
 abbrev Left : Type 0
@@ -78,16 +79,22 @@ pub head_found : (text : List ℕ) (lines : ℕ) (x y : Left) → IsWholeHead te
     → Took x y text → AnswersHead (Ok (Whole text lines)) x y
 head_found text lines x y whole fits took = (text, (refl, whole, fits), took_with x y text took)
 
-pub head_lost : (text : List ℕ) (x y : Left) → Took x y text → AnswersHead (Err Memory) x y
-head_lost text x y took = (text, tt, took_with x y text took)
+-- a head that had begun before its last byte
+pub head_lost : (text : List ℕ) (b start lines : ℕ) (x y : Left) → IsOpenHead text start lines → length text < most_head
+    → Took x y (text ++ b ∷ []) → AnswersHead (Err Memory) x y
+head_lost text b start lines x y o fits took =
+    (text ++ b ∷ [], open_part text b start lines o fits, took_with x y (text ++ b ∷ []) took)
 
 -- ---- a body
 
-pub body_fault : (fault : LinkFault) (len : ℕ) (x y z : Left) (body after : List ℕ) → length body < len → Took x y body
-    → LosesPiece y z → (fault ≡ ReadFault → (after ≡ body) × (z ≡ y)) → AnswersBody len (Err fault) x z
-body_fault ReadFault len x y z body after less took lost kept = (body, less, took_same x y z body took (kept refl).1)
-body_fault Memory len x y z body after less took lost kept =
-    (body ++ lost.0, tt, took_both x y z body lost.0 (λ _. ⊤) (λ _. ⊤) (took_with x y body took) lost.1)
+pub body_fault : (fault : LinkFault) (len most : ℕ) (x y z : Left) (body after : List ℕ) → length body < len
+    → length body + most ≤ len → Took x y body → LosesPiece y z most → (fault ≡ ReadFault → (after ≡ body) × (z ≡ y)) → AnswersBody len (Err fault) x z
+body_fault ReadFault len most x y z body after less room took lost kept = (body, less, took_same x y z body took (kept refl).1)
+body_fault Memory len most x y z body after less room took lost kept = (
+  body ++ lost.0,
+  omega (arith, room, lost.1, length-append body lost.0),
+  took_both x y z body lost.0 (λ _. ⊤) (λ _. ⊤) (took_with x y body took) lost.2,
+)
 
 -- ---- a request
 
@@ -122,8 +129,11 @@ answer_fault head lines len ReadFault x y z a accepted b = (
   inr (head, b.0, len, accepted, (λ i. sym a.1.0 i ++ b.0), b.1),
   took_both x y z a.0 b.0 (λ _. ⊤) (λ _. ⊤) a.2 b.2,
 )
-answer_fault head lines len Memory x y z a accepted b =
-    (a.0 ++ b.0, tt, took_both x y z a.0 b.0 (λ _. ⊤) (λ _. ⊤) a.2 b.2)
+answer_fault head lines len Memory x y z a accepted b = (
+  a.0 ++ b.0,
+  inr (head, b.0, len, accepted, (λ i. sym a.1.0 i ++ b.0), b.1),
+  took_both x y z a.0 b.0 (λ _. ⊤) (λ _. ⊤) a.2 b.2,
+)
 
 pub answer_large : (x y : Left) → AnswersHead (Ok TooLarge) x y → Answers (Ok (Refused HeadTooLarge)) x y
 answer_large x y a = (a.0, inl (a.1.0, a.1.1, refl), a.2)
@@ -136,4 +146,4 @@ answer_ended x y a = a
 
 pub answer_head_fault : (fault : LinkFault) (x y : Left) → AnswersHead (Err fault) x y → Answers (Err fault) x y
 answer_head_fault ReadFault x y a = (a.0, inl a.1, a.2)
-answer_head_fault Memory x y a = a
+answer_head_fault Memory x y a = (a.0, inl a.1, a.2)

@@ -1,8 +1,9 @@
 -- What reads one after another took.
 use Rattle.std.proofs.Common.{◌≡◌, ◌≢◌, ℕ, ◌≤◌, List, [], ◌∷◌, ◌++◌, length, take, drop, get_or, arith, Option, Some, None, refl, sym, ◌∙◌, ap, subst, append_assoc}
 use Rattle.std.specs.Prelude.{⊤}
-use Rattle.std.proofs.lemmas.List.{take-append-drop}
+use Rattle.std.proofs.lemmas.List.{take-append-drop, length-take}
 use Rattle.os_io.specs.Streams.{Told, Takes}
+use Rattle.http_link.specs.Requests.{LosesPiece}
 
 -- nothing was taken yet
 pub took_none : (x : Option (List ℕ)) → Told x x (λ before after. before ≡ [] ++ after)
@@ -84,9 +85,14 @@ took_both (Some x) (Some y) None first second P Q p q = absurd q
 took_both (Some x) (Some y) (Some z) first second P Q p q =
     (p.0 ∙ ap (λ s. first ++ s) q.0 ∙ sym (append_assoc first second z), q.1)
 
--- a piece of the input
-pub took_lost : (x y : Option (List ℕ)) (buffer : List ℕ) (n : ℕ) → Told x y (Takes buffer n)
+took_lost : (x y : Option (List ℕ)) (buffer : List ℕ) (n : ℕ) → Told x y (Takes buffer n)
     → Told x y (λ before after. (before ≡ take n buffer ++ after) × ⊤)
 took_lost None y buffer n q = tt
 took_lost (Some x) None buffer n q = absurd q
 took_lost (Some x) (Some y) buffer n q = (sym (take-append-drop n x) ∙ (λ i. sym q.0 i ++ sym q.1 i), tt)
+
+-- a piece of the input, of no more bytes than so many
+pub lost_piece : (x y : Option (List ℕ)) (buffer : List ℕ) (n most : ℕ) → n ≤ most → Told x y (Takes buffer n)
+    → LosesPiece x y most
+lost_piece x y buffer n most fits q =
+    (take n buffer, omega (arith, fits, length-take n buffer), took_lost x y buffer n q)

@@ -78,7 +78,7 @@ HasMoreFields most bytes = (h : RequestHead) → ReadsRequest bytes h [] → mos
 abbrev pub ReadsWithin : ℕ → List ℕ → Result ℕ Refusal → Type 0
 ReadsWithin most bytes outcome =
     (HasMoreFields most bytes × (outcome ≡ Err BadRequest))
-    ⊎ ((h : RequestHead) × ReadsRequest bytes h [] × (outcome ≡ outcome_of h))
+    ⊎ ((h : RequestHead) × ReadsRequest bytes h [] × (length h.fields ≤ most) × (outcome ≡ outcome_of h))
 
 -- what comes of the bytes of a head that isn't too large
 abbrev pub Reads : List ℕ → Result ℕ Refusal → Type 0
@@ -92,7 +92,7 @@ ReadsLines lines bytes outcome =
     ((most_fields < lines) × (outcome ≡ Err HeadTooLarge))
     ⊎ ((lines ≤ most_fields) × Reads bytes outcome)
 
--- what comes of a head: the length of its body, or a refusal. Of a head that is too large, the bytes are as many as a head may have
+-- what comes of a head: the length of its body, or a refusal. Where its end isn't among as many bytes as a head may have, those bytes are taken for it
 abbrev pub Head : List ℕ → Result ℕ Refusal → Type 0
 Head bytes outcome =
     ((length bytes ≡ most_head) × HasNoHead bytes × (outcome ≡ Err HeadTooLarge))

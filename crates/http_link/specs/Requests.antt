@@ -8,7 +8,7 @@ use Rattle.http_link.specs.declared.requests.LinkFault.{LinkFault}
 use Rattle.http_link.specs.declared.requests.LinkFault.TheVariants.{ReadFault, Memory}
 use Rattle.http_link.specs.declared.requests.HeadRead.{HeadRead}
 use Rattle.http_link.specs.declared.requests.HeadRead.TheVariants.{Whole, TooLarge, Cut as CutHead, Ended as NoHead}
-use Rattle.http_link.specs.Lines.{AreEmptyLines, HasNoHead, IsWholeHead}
+use Rattle.http_link.specs.Lines.{HeadLines, AreHeadLines, print_head, AreEmptyLines, HasNoHead, IsWholeHead}
 use Rattle.http_link.specs.Checks.{most_head, Head}
 
 -- a head that was accepted, and a body of its length
@@ -30,6 +30,21 @@ IsBodyBegun bytes =
 abbrev pub IsBegun : List ℕ → Type 0
 IsBegun bytes = IsHeadBegun bytes ⊎ IsBodyBegun bytes
 
+-- a first part of a head, or all of it, and not a byte more. Nothing has judged it
+pub record IsHeadPart (bytes : List ℕ) : Type 0 where
+  pub fits : length bytes ≤ most_head
+  pub nothing_past : (h : HeadLines) (rest : List ℕ) → AreHeadLines h → bytes ≡ print_head h ++ rest → rest ≡ []
+
+-- a head that was accepted, and a first part of its body, or all of it
+abbrev pub IsBodyPart : List ℕ → Type 0
+IsBodyPart bytes =
+    (head : List ℕ) × (body : List ℕ) × (most : ℕ) × Head head (Ok most) × (bytes ≡ head ++ body)
+    × (length body ≤ most)
+
+-- a first part of one request, or all of it, and not a byte more
+abbrev pub IsRequestPart : List ℕ → Type 0
+IsRequestPart bytes = IsHeadPart bytes ⊎ IsBodyPart bytes
+
 -- the input ended inside a request
 abbrev pub IsCut : List ℕ → Type 0
 IsCut bytes = (¬ (AreEmptyLines bytes)) × IsBegun bytes
@@ -46,7 +61,7 @@ Shows (Ok (Refused refusal)) taken = Head taken (Err refusal)
 Shows (Ok Cut) taken = IsCut taken
 Shows (Ok Ended) taken = EndedBetween taken
 Shows (Err ReadFault) taken = IsBegun taken
-Shows (Err Memory) taken = ⊤
+Shows (Err Memory) taken = IsRequestPart taken
 
 -- the input ended, where the answer says so
 abbrev pub EndsWith : Result Incoming LinkFault → List ℕ → Type 0
@@ -75,7 +90,7 @@ ShowsHead (Ok TooLarge) taken = (length taken ≡ most_head) × HasNoHead taken
 ShowsHead (Ok CutHead) taken = (¬ (AreEmptyLines taken)) × IsHeadBegun taken
 ShowsHead (Ok NoHead) taken = EndedBetween taken
 ShowsHead (Err ReadFault) taken = IsHeadBegun taken
-ShowsHead (Err Memory) taken = ⊤
+ShowsHead (Err Memory) taken = IsHeadPart taken
 
 -- the input ended, where that is the answer
 abbrev pub HeadEnds : Result HeadRead LinkFault → List ℕ → Type 0
@@ -102,16 +117,17 @@ AddsPiece left left' body body' most count =
     (piece : List ℕ) × (body' ≡ body ++ piece) × (length piece ≡ count) × (count ≤ most)
     × Told left left' (λ before after. (before ≡ piece ++ after) × (count ≡ 0 → after ≡ []))
 
--- some bytes were taken
-abbrev pub LosesPiece : Option (List ℕ) → Option (List ℕ) → Type 0
-LosesPiece left left' = (piece : List ℕ) × Told left left' (λ before after. (before ≡ piece ++ after) × ⊤)
+-- some bytes were taken, and no more than so many
+abbrev pub LosesPiece : Option (List ℕ) → Option (List ℕ) → ℕ → Type 0
+LosesPiece left left' most =
+    (piece : List ℕ) × (length piece ≤ most) × Told left left' (λ before after. (before ≡ piece ++ after) × ⊤)
 
 -- what the bytes are that the reading of a body took
 abbrev pub ShowsBody : ℕ → Result (Option (List ℕ)) LinkFault → List ℕ → Type 0
 ShowsBody len (Ok (Some body)) taken = (taken ≡ body) × (length body ≡ len)
 ShowsBody len (Ok None) taken = length taken < len
 ShowsBody len (Err ReadFault) taken = length taken < len
-ShowsBody len (Err Memory) taken = ⊤
+ShowsBody len (Err Memory) taken = length taken ≤ len
 
 -- the input ended, where that is the answer
 abbrev pub BodyEnds : Result (Option (List ℕ)) LinkFault → List ℕ → Type 0

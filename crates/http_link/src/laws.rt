@@ -2,7 +2,7 @@
 
 ghost use Rattle.std.specs.Prelude.{◌≡◌, ◌++◌, ℕ, List, Result, Err};
 ghost use Rattle.http_link.specs.Checks.{Head};
-ghost use Rattle.http_link.specs.Requests.{IsRequest, IsBegun, IsCut, EndedBetween};
+ghost use Rattle.http_link.specs.Requests.{IsRequest, IsBegun, IsRequestPart, IsCut, EndedBetween};
 ghost use Rattle.http_link.specs.declared.refusal.Refusal.{Refusal};
 
 /// Law: bytes begin with one head at most, and one thing comes of it: its body's length, or a refusal.
@@ -22,6 +22,15 @@ pub fn one_request_comes_first()
 pub fn begun_request_is_not_whole()
     ensures request { (bytes request rest body : List ℕ) → IsBegun bytes → IsRequest request body → bytes ≡ request ++ rest → ⊥ }
     ensures refused { (bytes head rest : List ℕ) (refusal : Refusal) → IsBegun bytes → Head head (Err refusal) → bytes ≡ head ++ rest → ⊥ }
+{}
+
+/// Law: a part of a request is a first part of the request, or of the refused head, that the bytes begin with. What has
+/// only begun is one, and so is all of a request.
+pub fn part_is_of_the_first_request()
+    ensures request { (part request rest more body : List ℕ) → IsRequestPart part → IsRequest request body → part ++ rest ≡ request ++ more → (behind : List ℕ) × (request ≡ part ++ behind) × (rest ≡ behind ++ more) }
+    ensures refused { (part head rest more : List ℕ) (refusal : Refusal) → IsRequestPart part → Head head (Err refusal) → part ++ rest ≡ head ++ more → (behind : List ℕ) × (head ≡ part ++ behind) × (rest ≡ behind ++ more) }
+    ensures begun { (bytes : List ℕ) → IsBegun bytes → IsRequestPart bytes }
+    ensures whole { (bytes body : List ℕ) → IsRequest bytes body → IsRequestPart bytes }
 {}
 
 /// Law: input that is cut begins with no request and with no head that is refused, and has not ended between requests.

@@ -30,7 +30,7 @@ pub enum Incoming {
 pub enum LinkFault {
     /// A read failed, and the source's count of faults rose.
     ReadFault,
-    /// There was no memory.
+    /// There was no memory for bytes that had been read. None past the request was.
     Memory,
 }
 
@@ -118,7 +118,7 @@ fn read_head<S: Source>(alloc: Global, source: &mut S) -> Result<HeadRead, LinkF
 fn read_piece<S: Source>(source: &mut S, body: &mut Text, most: usize) -> Result<usize, LinkFault>
     requires { 0 < most }
     ensures piece { IfOk result (λ count. AddsPiece (S.left source.old) (S.left source.new) body.old body.new most count) }
-    ensures fault { OnErr result (LosesPiece (S.left source.old) (S.left source.new)) }
+    ensures fault { OnErr result (LosesPiece (S.left source.old) (S.left source.new) most) }
     ensures unread { IfErr result (λ fault. fault ≡ ReadFault → (body.new ≡ body.old) × (S.left source.new ≡ S.left source.old)) }
     ensures failed { IfErr result (λ fault. FaultRises fault (S.read_faults source.old) (S.read_faults source.new)) }
     ensures counted { OnOk result (S.read_faults source.new ≡ S.read_faults source.old) }
@@ -165,7 +165,8 @@ fn read_body<S: Source>(
 
 /// Reads a request, and nothing past it. Of a refused head, its body is still to come.
 ///
-/// The head is taken byte by byte, so a source with costly reads wants a buffer of its own. Where a read fails, what was taken is lost.
+/// The head is taken byte by byte, so a source with costly reads wants a buffer of its own. Where a read fails or there is
+/// no memory, what was taken is lost: a first part of one request, or all of it where there was no memory.
 pub fn read_request<S: Source>(alloc: Global, source: &mut S) -> Result<Incoming, LinkFault>
     ensures answer { Answers result (S.left source.old) (S.left source.new) }
     ensures failed { IfErr result (λ fault. FaultRises fault (S.read_faults source.old) (S.read_faults source.new)) }

@@ -5,12 +5,12 @@ use Rattle.os_io.specs.Streams.{Told}
 use Rattle.http_link.specs.declared.refusal.Refusal.{Refusal}
 use Rattle.http_link.specs.declared.refusal.Refusal.TheVariants.{BadRequest}
 use Rattle.http_link.specs.Checks.{Head}
-use Rattle.http_link.specs.Requests.{IsRequest, IsBegun, IsCut, EndedBetween, BeginsWithRequest, BeginsRefused}
+use Rattle.http_link.specs.Requests.{IsRequest, IsBegun, IsRequestPart, IsCut, EndedBetween, BeginsWithRequest, BeginsRefused}
 use Rattle.http_link.specs.Responses.{refusal_text, Appends}
-use Rattle.http_link.proofs.OnceLemmas.{request_once, request_not_refused, begun_no_request, begun_not_refused, ended_begun, append_cancel}
+use Rattle.http_link.proofs.OnceLemmas.{head_once, request_once, request_not_refused, begun_no_request, begun_not_refused, ended_begun, begun_part, part_of_request, part_of_refused, append_cancel}
 use Rattle.http_session.specs.declared.session.Served.{Served}
 use Rattle.http_session.specs.declared.session.Served.TheVariants.{Answered, Ended, CutShort, ReadFault, WriteFault, Memory}
-use Rattle.http_session.specs.Session.{MayAnswer, IsResponse, IsAnyResponse, Serves, ServesOne, EndsInput, WritesDue, no_memory_text, HasNoFault, MayRespond, DoesDue}
+use Rattle.http_session.specs.Session.{MayAnswer, IsResponse, IsAnyResponse, Serves, ServesOne, EndsInput, WritesDue, no_memory_text, HasNoFault, MayRespond, DoesDue, Leaves}
 
 abbrev Left : Type 0
 Left = Option (List ℕ)
@@ -56,7 +56,7 @@ only_no_memory : (may_answer : MayAnswer) (before taken after text : List ℕ) �
     → IsAnyResponse may_answer taken text → before ≡ taken ++ after → text ≡ no_memory_text
 only_no_memory may_answer before taken after text begun (inl is) e =
     absurd (no_response may_answer before taken after text begun is e)
-only_no_memory may_answer before taken after text begun (inr is) e = is
+only_no_memory may_answer before taken after text begun (inr lacks) e = lacks.0
 
 pub cut_due : (may_answer : MayAnswer) (served : Served) (before after out : List ℕ)
     → ServesFrom may_answer served before after out → IsCut before → DoesDue CutShort (λ text. text ≡ []) served out
@@ -68,7 +68,7 @@ cut_due may_answer CutShort before after out (taken, is, e, end) cut = (refl, is
 cut_due may_answer ReadFault before after out (taken, is, e, end) cut = is.1
 cut_due may_answer WriteFault before after out (taken, (text, any, part), e, end) cut =
     (text, inr (only_no_memory may_answer before taken after text cut.1 any e), part)
-cut_due may_answer Memory before after out (taken, is, e, end) cut = is
+cut_due may_answer Memory before after out (taken, lacks, e, end) cut = lacks.0
 
 pub ended_due : (may_answer : MayAnswer) (served : Served) (before after out : List ℕ)
     → ServesFrom may_answer served before after out → EndedBetween before → DoesDue Ended (λ text. text ≡ []) served out
@@ -80,7 +80,7 @@ ended_due may_answer CutShort before after out (taken, is, e, end) ended =
 ended_due may_answer ReadFault before after out (taken, is, e, end) ended = is.1
 ended_due may_answer WriteFault before after out (taken, (text, any, part), e, end) ended =
     (text, inr (only_no_memory may_answer before taken after text (ended_begun before ended) any e), part)
-ended_due may_answer Memory before after out (taken, is, e, end) ended = is
+ended_due may_answer Memory before after out (taken, lacks, e, end) ended = lacks.0
 
 -- ---- with a request, or a head that is refused
 
@@ -121,9 +121,9 @@ answer_due may_answer MayBe CutShort before after out whole gives (taken, is, e,
 answer_due may_answer MayBe ReadFault before after out whole gives (taken, is, e, end) = is.1
 answer_due may_answer MayBe WriteFault before after out whole gives (taken, (text, inl is, part), e, end) =
     (text, inl (gives taken text is e), part)
-answer_due may_answer MayBe WriteFault before after out whole gives (taken, (text, inr is, part), e, end) =
-    (text, inr is, part)
-answer_due may_answer MayBe Memory before after out whole gives (taken, is, e, end) = is
+answer_due may_answer MayBe WriteFault before after out whole gives (taken, (text, inr lacks, part), e, end) =
+    (text, inr lacks.0, part)
+answer_due may_answer MayBe Memory before after out whole gives (taken, lacks, e, end) = lacks.0
 
 pub request_due : (may_answer : MayAnswer) (served : Served) (request body rest after out : List ℕ) → IsRequest request body
     → ServesFrom may_answer served (request ++ rest) after out → DoesDue Answered (MayRespond may_answer body) served out
@@ -143,6 +143,56 @@ pub refused_due : (may_answer : MayAnswer) (served : Served) (head rest after ou
 refused_due may_answer served head rest after out refusal here from =
     answer_due may_answer (λ text. text ≡ refusal_text BadRequest) served (head ++ rest) after out (inr (head, refusal, rest, here, refl))
     (λ taken response is e. refused_response may_answer head rest taken after response refusal here is e) from
+
+-- ---- what was left
+
+-- these bytes are the last of those left
+abbrev pub IsBehind : List ℕ → List ℕ → Type 0
+IsBehind rest after = (behind : List ℕ) × (after ≡ behind ++ rest)
+
+-- the bytes taken are a first part of a request, or of what is refused, at the front
+taken_part : (may_answer : MayAnswer) (served : Served) (before after out : List ℕ)
+    → BeginsWithRequest before ⊎ BeginsRefused before → ServesFrom may_answer served before after out
+    → (taken : List ℕ) × (IsRequestPart taken ⊎ ((response : List ℕ) × IsResponse may_answer taken response)) × (before ≡ taken ++ after)
+taken_part may_answer Answered before after out whole (taken, is, e, end) = (taken, inr (out, is), e)
+taken_part may_answer Ended before after out whole (taken, is, e, end) =
+    absurd (whole_not_begun before taken after whole (ended_begun taken is.0) e end)
+taken_part may_answer CutShort before after out whole (taken, is, e, end) =
+    absurd (whole_not_begun before taken after whole is.0.1 e end)
+taken_part may_answer ReadFault before after out whole (taken, is, e, end) = (taken, inl (begun_part taken is.0), e)
+taken_part may_answer WriteFault before after out whole (taken, (text, inl is, part), e, end) = (taken, inr (text, is), e)
+taken_part may_answer WriteFault before after out whole (taken, (text, inr lacks, part), e, end) = (taken, inl lacks.1, e)
+taken_part may_answer Memory before after out whole (taken, lacks, e, end) = (taken, inl lacks.1, e)
+
+refused_left : (may_answer : MayAnswer) (head rest taken after response : List ℕ) (refusal : Refusal)
+    → Head head (Err refusal) → IsResponse may_answer taken response → head ++ rest ≡ taken ++ after → after ≡ rest
+refused_left may_answer head rest taken after response refusal here (inl (other, refused, is)) e =
+    let same = head_once head taken rest after (Err refusal) (Err other) here refused e in
+    sym (append_cancel head rest after (e ∙ ap (λ t. t ++ after) (sym same.0)))
+refused_left may_answer head rest taken after response refusal here (inr (body, answer, there, may, is)) e =
+    absurd (request_not_refused taken head after rest body refusal there here (sym e))
+
+pub behind_request : (may_answer : MayAnswer) (served : Served) (request body rest after out : List ℕ) → IsRequest request body
+    → ServesFrom may_answer served (request ++ rest) after out → IsBehind rest after
+behind_request may_answer served request body rest after out here from =
+    let (taken, took, e) = taken_part may_answer served (request ++ rest) after out (inl (request, body, rest, here, refl)) from in
+    elim took [
+      | inl part ↦
+          let found = part_of_request taken request after rest body part here (sym e) in
+          (found.0, found.2)
+      | inr responds ↦ ([], (request_response may_answer request body rest taken after responds.0 here responds.1 e).1)
+    ]
+
+pub behind_refused : (may_answer : MayAnswer) (served : Served) (head rest after out : List ℕ) (refusal : Refusal)
+    → Head head (Err refusal) → ServesFrom may_answer served (head ++ rest) after out → IsBehind rest after
+behind_refused may_answer served head rest after out refusal here from =
+    let (taken, took, e) = taken_part may_answer served (head ++ rest) after out (inr (head, refusal, rest, here, refl)) from in
+    elim took [
+      | inl part ↦
+          let found = part_of_refused taken head after rest refusal part here (sym e) in
+          (found.0, found.2)
+      | inr responds ↦ ([], refused_left may_answer head rest taken after responds.0 refusal here responds.1 e)
+    ]
 
 -- ---- without a fault
 
@@ -226,3 +276,19 @@ pub refused_writes : (may_answer : MayAnswer) (served : Served) (head rest : Lis
 refused_writes may_answer served head rest refusal y v w here one =
     let (after, out, left, from, wrote) = served_from may_answer served (head ++ rest) y v w one in
     (out, refused_due may_answer served head rest after out refusal here from, wrote)
+
+-- ---- what was left of the bytes to come
+
+pub request_rest : (may_answer : MayAnswer) (served : Served) (request body rest : List ℕ) (y v w : Left) → IsRequest request body
+    → ServesOne may_answer served (Some (request ++ rest)) y v w → Leaves rest y
+request_rest may_answer served request body rest y v w here one =
+    let (after, out, left, from, wrote) = served_from may_answer served (request ++ rest) y v w one in
+    let found = behind_request may_answer served request body rest after out here from in
+    (found.0, left ∙ ap (λ t. Some t) found.1)
+
+pub refused_rest : (may_answer : MayAnswer) (served : Served) (head rest : List ℕ) (refusal : Refusal) (y v w : Left)
+    → Head head (Err refusal) → ServesOne may_answer served (Some (head ++ rest)) y v w → Leaves rest y
+refused_rest may_answer served head rest refusal y v w here one =
+    let (after, out, left, from, wrote) = served_from may_answer served (head ++ rest) y v w one in
+    let found = behind_refused may_answer served head rest after out refusal here from in
+    (found.0, left ∙ ap (λ t. Some t) found.1)

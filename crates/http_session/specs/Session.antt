@@ -4,7 +4,7 @@ use Rattle.os_io.specs.Streams.{Told, HasRisen}
 use Rattle.http_link.specs.declared.refusal.Refusal.{Refusal}
 use Rattle.http_link.specs.declared.refusal.Refusal.TheVariants.{BadRequest, ServiceUnavailable}
 use Rattle.http_link.specs.Checks.{Head}
-use Rattle.http_link.specs.Requests.{IsRequest, IsBegun, IsCut, EndedBetween}
+use Rattle.http_link.specs.Requests.{IsRequest, IsBegun, IsRequestPart, IsCut, EndedBetween}
 use Rattle.http_link.specs.Responses.{answer_text, refusal_text, Appends}
 use Rattle.http_session.specs.declared.reply.Reply.{Reply}
 use Rattle.http_session.specs.declared.reply.Reply.TheVariants.{Text as TextReply, NoRequest, NoMemory}
@@ -39,9 +39,13 @@ IsAnswered may_answer bytes response =
 abbrev pub IsResponse : MayAnswer → List ℕ → List ℕ → Type 0
 IsResponse may_answer bytes response = IsRefused bytes response ⊎ IsAnswered may_answer bytes response
 
+-- the response is the one for want of memory: to a first part of one request, or to all of one that got no answer
+abbrev pub LacksMemory : List ℕ → List ℕ → Type 0
+LacksMemory bytes response = (response ≡ no_memory_text) × IsRequestPart bytes
+
 -- the response to a request, or the one for want of memory
 abbrev pub IsAnyResponse : MayAnswer → List ℕ → List ℕ → Type 0
-IsAnyResponse may_answer bytes response = IsResponse may_answer bytes response ⊎ (response ≡ no_memory_text)
+IsAnyResponse may_answer bytes response = IsResponse may_answer bytes response ⊎ LacksMemory bytes response
 
 -- a first part of the text, or all of it
 abbrev pub IsPart : List ℕ → List ℕ → Type 0
@@ -54,7 +58,7 @@ Serves may_answer Ended taken out = EndedBetween taken × (out ≡ [])
 Serves may_answer CutShort taken out = IsCut taken × (out ≡ [])
 Serves may_answer ReadFault taken out = IsBegun taken × (out ≡ [])
 Serves may_answer WriteFault taken out = (text : List ℕ) × IsAnyResponse may_answer taken text × IsPart text out
-Serves may_answer Memory taken out = out ≡ no_memory_text
+Serves may_answer Memory taken out = LacksMemory taken out
 
 -- the input is at its end, where it ended between two requests or inside one
 abbrev pub EndsInput : Served → List ℕ → Type 0
@@ -113,6 +117,10 @@ abbrev pub RepliesTo : MayAnswer → List ℕ → Reply → Type 0
 RepliesTo may_answer body (TextReply text) = may_answer body (Some text)
 RepliesTo may_answer body NoRequest = may_answer body None
 RepliesTo may_answer body NoMemory = ⊤
+
+-- all of these bytes are left, behind any before them that weren't taken
+abbrev pub Leaves : List ℕ → Option (List ℕ) → Type 0
+Leaves rest left = (behind : List ℕ) × (left ≡ Some (behind ++ rest))
 
 -- so served, no read and no write failed, and there was memory
 abbrev pub HasNoFault : Served → Type 0

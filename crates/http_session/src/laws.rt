@@ -8,7 +8,7 @@ ghost use Rattle.http_link.specs.declared.refusal.Refusal.TheVariants.{BadReques
 ghost use Rattle.http_link.specs.Responses.{refusal_text};
 ghost use Rattle.http_session.specs.declared.session.Served.{Served};
 ghost use Rattle.http_session.specs.declared.session.Served.TheVariants.{Answered, CutShort, Ended};
-ghost use Rattle.http_session.specs.Session.{ServesOne, HasNoFault, WritesDue, MayRespond};
+ghost use Rattle.http_session.specs.Session.{ServesOne, HasNoFault, WritesDue, MayRespond, Leaves};
 
 use crate::service::Service;
 
@@ -30,4 +30,10 @@ pub fn first_request_gets_its_response<S: Service>()
     ensures response { (served : Served) (request body rest : List ℕ) (left written written' : Option (List ℕ)) → IsRequest request body → ServesOne S.answers served (Some (request ++ rest)) left written written' → WritesDue Answered (MayRespond S.answers body) served written written' }
     ensures left { (served : Served) (request body rest : List ℕ) (left written written' : Option (List ℕ)) → IsRequest request body → ServesOne S.answers served (Some (request ++ rest)) left written written' → served ≡ Answered → left ≡ Some rest }
     ensures refused { (served : Served) (head rest : List ℕ) (refusal : Refusal) (left written written' : Option (List ℕ)) → Head head (Err refusal) → ServesOne S.answers served (Some (head ++ rest)) left written written' → WritesDue Answered (λ text. text ≡ refusal_text BadRequest) served written written' }
+{}
+
+/// Law: however it is served, no byte past the request, or past the refused head, that the bytes begin with is taken.
+pub fn one_request_is_taken<S: Service>()
+    ensures request { (served : Served) (request body rest : List ℕ) (left written written' : Option (List ℕ)) → IsRequest request body → ServesOne S.answers served (Some (request ++ rest)) left written written' → Leaves rest left }
+    ensures refused { (served : Served) (head rest : List ℕ) (refusal : Refusal) (left written written' : Option (List ℕ)) → Head head (Err refusal) → ServesOne S.answers served (Some (head ++ rest)) left written written' → Leaves rest left }
 {}

@@ -4,7 +4,7 @@
 //! so it holds of each service what of the bytes read it answers and which bytes it writes. A refused head and a body
 //! that asks nothing get `400 Bad Request`, and want of memory gets `503 Service Unavailable`. Nothing is written for a
 //! request whose bytes don't all come. Without a fault, and with memory, the bytes to come alone decide how a request is
-//! served: laws say so, both ways.
+//! served: laws say so, both ways. However it is served, no byte past the request is taken.
 #![tactic(auto)]
 
 mod laws;
@@ -14,6 +14,7 @@ mod session;
 
 pub use laws::{
     bytes_decide_the_end, first_request_gets_its_response, input_without_request_gets_no_response,
+    one_request_is_taken,
 };
 pub use service::Service;
 pub use session::{Served, serve_one};

@@ -21,7 +21,7 @@ pub enum Served {
     ReadFault,
     /// A write or the flush failed, and the output's count of faults rose. A first part of a response was written.
     WriteFault,
-    /// There was no memory, and 503 was written whole.
+    /// There was no memory, for the request or for its answer, and 503 was written whole.
     Memory,
 }
 

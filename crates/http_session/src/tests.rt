@@ -1,6 +1,6 @@
 use crate::{Served, Service, serve_one};
 use os_io::{MemSink, MemSource, Memory, Text};
-use std::alloc::Global;
+use std::alloc::{AllocError, Global};
 use std::test::Fail;
 
 /// Answers a body that begins with `a` by the body itself. Another body asks nothing.
@@ -16,6 +16,19 @@ impl Service for Echo {
             return Ok(Some(Text::from_slice(alloc, body)?));
         }
         Ok(None)
+    }
+}
+
+/// Finds no memory for any answer.
+struct Poor;
+
+impl Service for Poor {
+    ghost use Rattle.std.specs.Prelude.{⊤};
+
+    ghost answers = { λ _ _. ⊤ };
+
+    fn answer(&self, _alloc: Global, _body: &[u8]) -> Result<Option<Text>, Memory> {
+        Err(AllocError)
     }
 }
 
@@ -54,6 +67,29 @@ fn serves_requests(rt: HostRuntime) -> Result<(), Fail> {
         assert_eq!(rt; output.as_slice(), written);
         assert_eq!(rt; (input.faults(), output.faults()), (0, 0));
     }
+    Ok(())
+}
+
+#[test]
+fn leaves_the_next_request_where_there_is_no_memory(rt: HostRuntime) -> Result<(), Fail> {
+    let requests =
+        b"POST / HTTP/1.0\nContent-Length: 1\n\nbPOST / HTTP/1.0\nContent-Length: 3\n\nabc";
+    let mut input = MemSource::new(rt.alloc(), requests, 9, &[])?;
+    let mut refused = MemSink::new(rt.alloc(), 200, &[])?;
+    assert_eq!(rt;
+        serve_one(rt.alloc(), &mut input, &mut refused, &Poor),
+        Served::Memory
+    );
+    assert_eq!(rt;
+        refused.as_slice(),
+        b"HTTP/1.1 503 Service Unavailable\r\nConnection: close\r\nContent-Length: 0\r\n\r\n".as_slice()
+    );
+    let mut answered = MemSink::new(rt.alloc(), 200, &[])?;
+    assert_eq!(rt;
+        serve_one(rt.alloc(), &mut input, &mut answered, &Echo),
+        Served::Answered
+    );
+    assert_eq!(rt; answered.as_slice(), ANSWER);
     Ok(())
 }
 

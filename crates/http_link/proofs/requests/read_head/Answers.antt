@@ -1,4 +1,4 @@
-use Rattle.std.proofs.Common.{◌≡◌, ◌++◌, ◌∷◌, [], Some, length, ap, arith, rules, true, false, length-append}
+use Rattle.std.proofs.Common.{◌≡◌, ◌∷◌, [], Some, length, ap, arith, rules, true, false, length-append}
 use Rattle.http_link.proofs.ToldLemmas.{took_more}
 use Rattle.http_link.proofs.RequestLemmas.{head_fault, head_cut, head_large, head_found, head_lost, end_at, byte_at, pushed_at, took_as}
 use Rattle.http_link.proofs.requests.read_head.Goals as goal
@@ -30,7 +30,9 @@ returns-in-Ok-Some-clause-answer g c =
 
 pub returns-in-Err-clause-answer : goal.returns-in-Err-clause-answer
 returns-in-Err-clause-answer g c =
-    head_lost (c.loop-source.head.text ++ c.in-Some.byte ∷ []) _ _ (took_more _ _ _ _ _ c.loop-source.invariant.taken (byte_at c.in-Ok.got (Some c.in-Some.byte) _ _ c.in-Some.is c.in-Ok.ensures.byte))
+    let test = c.loop-source-test.true in
+    let size = c.len.ensures in
+    head_lost c.loop-source.head.text c.in-Some.byte _ _ _ _ c.loop-source.invariant.begun (omega (arith, test, size)) (took_more _ _ _ _ _ c.loop-source.invariant.taken (byte_at c.in-Ok.got (Some c.in-Some.byte) _ _ c.in-Some.is c.in-Ok.ensures.byte))
 
 pub returns-clause-answer : goal.returns-clause-answer
 returns-clause-answer g c =

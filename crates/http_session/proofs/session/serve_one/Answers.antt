@@ -1,5 +1,4 @@
-use Rattle.http_session.specs.declared.reply.Reply.TheVariants.{NoMemory}
-use Rattle.http_session.proofs.ServesLemmas.{sent_serves, body_served}
+use Rattle.http_session.proofs.ServesLemmas.{body_served, memory_served}
 use Rattle.http_session.proofs.session.serve_one.Goals as goal
 
 pub returns-in-Ok-Body-clause-serves : goal.returns-in-Ok-Body-clause-serves
@@ -10,5 +9,5 @@ returns-in-Ok-Body-clause-serves g c =
 
 pub returns-in-Err-Memory-clause-serves : goal.returns-in-Err-Memory-clause-serves
 returns-in-Err-Memory-clause-serves g c =
-    let read = c.in-Err-Memory.ensures.answer in
-    sent_serves _ NoMemory _ read.0 _ _ _ _ tt read.2 c.finish-in-Err-Memory.ensures.sent
+    memory_served g.S.Service.answers _ _ _ _ _ _ c.in-Err-Memory.field-0-is c.in-Err-Memory.ensures.answer
+    c.finish-in-Err-Memory.ensures.sent
