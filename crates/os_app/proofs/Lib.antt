@@ -1,3 +1,4 @@
 pub mod Answering
 pub mod Running
 pub mod Called
+pub mod Deciding

@@ -8,7 +8,7 @@ use Rattle.http_session.specs.declared.session.Served.TheVariants.{Answered, End
 use Rattle.http_session.specs.Session.{ServesOne, EndsInput, IsPart, CountsReads, CountsWrites}
 use Rattle.os_app.specs.Answers.{MayAnswer}
 use Rattle.os_app.specs.Statuses.{status_of}
-use Rattle.os_app.specs.Runs.{Run, IsSession, usage, Took, TookAll, Wrote, Ends, done, read_fault, write_fault, without_memory, cut_short}
+use Rattle.os_app.specs.Runs.{Run, IsSession, usage, Took, TookAll, Wrote, Ends, done, misused, read_fault, write_fault, without_memory, cut_short}
 
 -- what is told of one step says less
 weaker : {X : Type 0} (x y : Option X) (P Q : X → X → Type 0) → ((a b : X) → P a b → Q a b) → Told x y P → Told x y Q
@@ -79,12 +79,13 @@ session_ends run WriteFault status is session (taken, out, (text, responds, part
       all_read = reads;
       failed = writes;
     })
-session_ends run Memory status is session (taken, out, unavailable, took, wrote) reads writes =
+session_ends run Memory status is session (taken, out, lacks, took, wrote) reads writes =
     without_memory is (record {
       session = session;
       taken = taken;
+      part = lacks.1;
       took = took_first run Memory taken took;
-      wrote = wrote_same run out _ unavailable wrote;
+      wrote = wrote_same run out _ lacks.0 wrote;
       all_read = reads;
       all_written = writes;
     })
@@ -111,3 +112,9 @@ other_fails run other told unread reads failed =
       all_read = reads;
       failed = failed;
     })
+
+-- other words, and the usage written
+pub other_helped : (run : Run) → (IsSession run.words → ⊥) → Wrote run usage → run.left_after ≡ run.left
+    → run.read_faults_after ≡ run.read_faults → run.write_faults_after ≡ run.write_faults → Ends 2 run
+other_helped run other wrote unread reads writes =
+    misused refl (record { other = other; wrote = wrote; unread = unread; all_read = reads; all_written = writes })

@@ -1,9 +1,12 @@
 -- How a run ends, by its words and by what came and went.
-use Rattle.std.specs.Prelude.{◌≡◌, ℕ, ◌⊎◌, List, [], ◌∷◌, ◌++◌, Option, codes}
+use Rattle.std.specs.Prelude.{◌≡◌, ◌↔◌, ℕ, ◌⊎◌, List, [], ◌∷◌, ◌++◌, Option, Some, Err, codes}
 use Rattle.os_io.specs.Streams.{Told, HasRisen}
-use Rattle.http_link.specs.Requests.{IsBegun, IsCut, EndedBetween}
-use Rattle.http_link.specs.Responses.{Appends}
-use Rattle.http_session.specs.Session.{IsResponse, IsAnyResponse, IsPart, no_memory_text}
+use Rattle.http_link.specs.declared.refusal.Refusal.{Refusal}
+use Rattle.http_link.specs.declared.refusal.Refusal.TheVariants.{BadRequest}
+use Rattle.http_link.specs.Checks.{Head}
+use Rattle.http_link.specs.Requests.{IsRequest, IsBegun, IsRequestPart, IsCut, EndedBetween}
+use Rattle.http_link.specs.Responses.{refusal_text, Appends}
+use Rattle.http_session.specs.Session.{IsResponse, IsAnyResponse, IsPart, no_memory_text, MayRespond, Leaves}
 use Rattle.os_app.specs.Answers.{MayAnswer}
 
 -- a run's words, and what its input and output tell before and after it
@@ -87,7 +90,7 @@ pub record IsReadFault (run : Run) : Type 0 where
   pub failed : HasRisen run.read_faults run.read_faults_after
   pub all_written : AllWritten run
 
--- what was to be written to a request: its response, or the one for want of memory
+-- what was to be written to a request: its response; or the one for want of memory, to a first part of one or to all of it
 pub record WasToRespond (run : Run) (text : List ℕ) : Type 0 where
   pub session : IsSession run.words
   pub taken : List ℕ
@@ -110,10 +113,11 @@ pub record IsWriteFault (run : Run) : Type 0 where
   pub all_read : AllRead run
   pub failed : HasRisen run.write_faults run.write_faults_after
 
--- there was no memory for a request or its answer, and the response that says so was written whole
+-- there was no memory for one request or its answer, and the response that says so was written whole
 pub record IsWithoutMemory (run : Run) : Type 0 where
   pub session : IsSession run.words
   pub taken : List ℕ
+  pub part : IsRequestPart taken
   pub took : Took run taken
   pub wrote : Wrote run no_memory_text
   pub all_read : AllRead run
@@ -137,3 +141,45 @@ pub data Ends (status : ℕ) (run : Run) : Type 0 where
   write_fault : status ≡ 4 → IsWriteFault run → Ends status run
   without_memory : status ≡ 5 → IsWithoutMemory run → Ends status run
   cut_short : status ≡ 8 → IsCutShort run → Ends status run
+
+-- the status and a text that were due; or a fault or want of memory hindered it, and nothing was written, or a first part
+-- of such a text or of the response for want of memory, or that response whole
+pub data Does (due : ℕ) (MayBe : List ℕ → Type 0) (status : ℕ) (run : Run) : Type 0 where
+  in_full : (text : List ℕ) → status ≡ due → MayBe text → Wrote run text → Does due MayBe status run
+  unread : status ≡ 3 → Wrote run [] → Does due MayBe status run
+  unwritten : (text part : List ℕ) → status ≡ 4 → MayBe text ⊎ (text ≡ no_memory_text) → IsPart text part → Wrote run part → Does due MayBe status run
+  unmade : status ≡ 5 → Wrote run no_memory_text → Does due MayBe status run
+
+-- it is told what was written, and nothing was
+pub record WroteNothing (run : Run) : Type 0 where
+  pub text : List ℕ
+  pub before : run.written ≡ Some text
+  pub after : run.written_after ≡ Some text
+
+-- the bytes begin with a request: it gets its response, and is all that is taken where it does
+pub record IsRequestServed (status : ℕ) (run : Run) (body rest : List ℕ) : Type 0 where
+  pub does : Does 0 (MayRespond MayAnswer body) status run
+  pub alone : status ≡ 0 → run.left_after ≡ Some rest
+  pub leaves : Leaves rest run.left_after
+
+-- the bytes begin with a head that is refused: it gets that refusal
+pub record IsHeadServed (status : ℕ) (run : Run) (rest : List ℕ) : Type 0 where
+  pub does : Does 0 (λ text. text ≡ refusal_text BadRequest) status run
+  pub leaves : Leaves rest run.left_after
+
+-- what the bytes to come decide of a session: it says that they are cut where they are and nowhere else, it ends well and
+-- in silence where they ended between requests and nowhere else, and what they begin with gets its response
+pub record IsDecided (status : ℕ) (run : Run) (bytes : List ℕ) : Type 0 where
+  pub cut : IsCut bytes → Does 8 (λ text. text ≡ []) status run
+  pub cut_only : status ≡ 8 → IsCut bytes
+  pub over : EndedBetween bytes → Does 0 (λ text. text ≡ []) status run
+  pub over_only : status ≡ 0 → WroteNothing run → EndedBetween bytes
+  pub request : (request body rest : List ℕ) → IsRequest request body → bytes ≡ request ++ rest → IsRequestServed status run body rest
+  pub refused : (head rest : List ℕ) (refusal : Refusal) → Head head (Err refusal) → bytes ≡ head ++ rest → IsHeadServed status run rest
+
+-- a run ends in one of these ways. Status 2 says that other words were given and no write failed, exactly, and the bytes
+-- to come, where they are told, decide how a session ends
+pub record Runs (status : ℕ) (run : Run) : Type 0 where
+  pub ends : Ends status run
+  pub misused : (status ≡ 2) ↔ ((IsSession run.words → ⊥) × (status ≡ 4 → ⊥))
+  pub decided : (bytes : List ℕ) → IsSession run.words → run.left ≡ Some bytes → IsDecided status run bytes

@@ -3,7 +3,7 @@ ghost use Rattle.std.specs.Prelude.{◌≡◌, map};
 ghost use Rattle.std.specs.String.{string_bytes};
 ghost use Rattle.http_session.specs.Session.{ServesOne, CountsReads, CountsWrites};
 ghost use Rattle.os_app.specs.Answers.{MayAnswer};
-ghost use Rattle.os_app.specs.Runs.{IsSession, Ends};
+ghost use Rattle.os_app.specs.Runs.{IsSession, Runs};
 ghost use Rattle.os_app.specs.Statuses.{status_of};
 
 use crate::service::PlainSolver;
@@ -57,7 +57,7 @@ pub fn run<F: Files, I: Source, O: Sink, N: Listener>(
     output: &mut O,
     net: &mut N,
 ) -> u8
-    ensures ends { Ends result (record {
+    ensures runs { Runs result (record {
       words = map string_bytes words.now;
       left = I.left input.old;
       left_after = I.left input.new;
