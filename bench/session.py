@@ -9,7 +9,7 @@ import sys
 import tempfile
 
 VARIABLES = 1000
-RUNS = 5
+RUNS = 15
 
 
 def osil(size):
