@@ -1,5 +1,5 @@
 -- The instances that a walk through a tree of cases has before it: that of the cuts so far, and those of the second cases above.
-use Rattle.std.specs.Prelude.{ℕ, zero, suc, ◌+◌, ◌<◌, ℤ, pos, negsuc, ◌+ℤ◌, ◌≤ℤ◌, ◌<ℤ◌, neg_ℤ, false, cond, Option, None, Some, IfSome, List, [], ◌∷◌, length, get_or, slice_set}
+use Rattle.std.specs.Prelude.{ℕ, zero, suc, ◌+◌, ◌<◌, ◌≤◌, ℤ, pos, negsuc, ◌+ℤ◌, ◌≤ℤ◌, ◌<ℤ◌, neg_ℤ, false, cond, Option, None, Some, IfSome, List, [], ◌∷◌, length, get_or, slice_set}
 use Rattle.std.specs.List.{All}
 use Rattle.rational.specs.Width.{most}
 use Rattle.fraction.specs.Frac.{ratio}
@@ -70,3 +70,9 @@ nodes_of (Unsure c) = []
 pub record Room : Type 0 where
   pub vars : ℕ
   pub nodes : ℕ
+
+-- there is room for a check, and no split is at a number below the least one that fits
+pub record HasRoom (p : Parts) (c : Claim) (r : Room) : Type 0 where
+  pub vars : length p.vars ≤ r.vars
+  pub nodes : length (nodes_of c) ≤ r.nodes
+  pub range : All IsInRange (nodes_of c)

@@ -26,9 +26,11 @@ mod refused;
 mod scratch;
 mod slots;
 mod sums;
+#[cfg(test)]
+mod tests;
 mod walk;
 
-pub use checking::check;
+pub use checking::{check, has_room};
 pub use laws::refused_is_not_accepted;
 pub use refused::Refused;
 pub use scratch::Scratch;

@@ -61,8 +61,22 @@ impl Scratch {
         })
     }
 
+    /// How many variables there is room for.
+    pub fn vars(&self) -> usize
+        ensures { result ≡ self.now.vars }
+    {
+        self.vars.len()
+    }
+
+    /// How many nodes there is room for.
+    pub fn nodes(&self) -> usize
+        ensures { result ≡ self.now.nodes }
+    {
+        self.branches.len()
+    }
+
     /// Whether the nodes show that no point is better than the value that is aimed at; without one, that none is feasible.
-    pub fn check_cert(
+    pub(crate) fn check_cert(
         &mut self,
         instance: &Instance,
         cert: &Cert,
