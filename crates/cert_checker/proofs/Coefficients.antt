@@ -1,0 +1,72 @@
+-- The coefficients of columns: of a variable, and of a row by its entries.
+use Rattle.std.proofs.Common.{◌≡◌, ℕ, ◌+◌, ◌-◌, ◌<◌, ◌≤◌, pos, Bool, true, false, cond, nat_eq, nat_lt, Option, None, List, [], ◌∷◌, length, slice_set, slice_index_or, arith, refl, sym, ◌∙◌, ap, subst}
+use Rattle.std.specs.List.{All, filter}
+use Rattle.std.proofs.lemmas.Bool.{eqb-true, eq-eqb, ne_eqb, lt-ltb, le-ltb}
+use Rattle.std.proofs.lemmas.List.Elements.{All-filter, filter_passes}
+use Rattle.rational.specs.Ratio.{Ratio, whole}
+use Rattle.fraction.specs.declared.frac.Frac.{Frac}
+use Rattle.fraction.specs.declared.ends.Entry.{Entry}
+use Rattle.evidence.specs.Sums.{none}
+use Rattle.evidence.specs.Instance.{width, entry_at, coefficient_at}
+use Rattle.evidence.proofs.Columns.{by_lt}
+use Rattle.evidence.proofs.Rows.{entry_filter}
+use Rattle.instance.specs.declared.parts.Var.{Var}
+use Rattle.instance.specs.Parts.{Parts, IsValid}
+use Rattle.instance.specs.Program.{entry, entries}
+use Rattle.cert_checker.specs.Cuts.{cut}
+use Rattle.cert_checker.specs.Slots.{slot_at, IsStep}
+use Rattle.cert_checker.proofs.Adding.{set_apart, nothing}
+use Rattle.cert_checker.proofs.Widths.{width_is}
+
+abbrev row_of : List Entry → ℕ → List Entry
+row_of es i = filter (λ e. nat_eq e.row i) es
+
+entries_filter : (es : List Entry) (i : ℕ) → entries (row_of es i) ≡ filter (λ e. nat_eq e.row i) (entries es)
+entries_filter [] i = refl
+entries_filter (e ∷ es) i = head (nat_eq e.row i) (entries_filter es i)
+  where
+    head : (b : Bool) → entries (row_of es i) ≡ filter (λ e. nat_eq e.row i) (entries es) → entries (cond b (e ∷ row_of es i) (row_of es i)) ≡ cond b (entry e ∷ filter (λ e. nat_eq e.row i) (entries es)) (filter (λ e. nat_eq e.row i) (entries es))
+    head true q = ap (λ l. entry e ∷ l) q
+    head false q = q
+
+pub of_one_row : (es row : List Entry) (i : ℕ) → row ≡ row_of es i → All (λ e. e.row ≡ i) row
+of_one_row es row i is = subst (λ l. All (λ e. e.row ≡ i) l) (sym is) (λ k d h. eqb-true _ i (filter_passes (λ e. nat_eq e.row i) es k d h))
+
+pub within_columns : (p : Parts) (valid : IsValid p) (row : List Entry) (i n : ℕ) → row ≡ row_of p.entries i → n ≡ length p.vars → All (λ e. e.col < n) row
+within_columns p valid row i n is count =
+    subst (λ l. All (λ e. e.col < n) l) (sym is) (All-filter (λ e. nat_eq e.row i) (λ e. e.col < n) p.entries (λ k d h. let q = (valid.inside k d h).col in omega arith))
+
+module _ (p : Parts) (vs : List Var) where
+  variable_coefficient : (k j : ℕ) → k < length vs → coefficient_at (cut p vs) k j ≡ cond (nat_eq k j) (whole (pos 1)) none
+  variable_coefficient k j h = let w = width_is p vs in let t : nat_lt k (width (cut p vs)) ≡ true = lt-ltb k (width (cut p vs)) (omega arith) in rw t refl
+
+  row_coefficient : (k j : ℕ) → length vs ≤ k → coefficient_at (cut p vs) k j ≡ entry_at (entries p.entries) (k - length vs) j
+  row_coefficient k j h =
+      let w = width_is p vs in
+      let t : nat_lt k (width (cut p vs)) ≡ false = le-ltb k (width (cut p vs)) (omega arith) in
+      let e : coefficient_at (cut p vs) k j ≡ entry_at (entries p.entries) (k - width (cut p vs)) j = rw t refl in
+      e ∙ ap (λ n. entry_at (entries p.entries) (k - n) j) w
+
+  -- a variable's column is added
+  pub variable_added : (old new : List (Option Frac)) (k : ℕ) (by : Ratio) → k < length vs → IsStep (slot_at old k) by (whole (pos 1)) (slot_at new k) → new ≡ slice_set old k (slot_at new k) → (j : ℕ) → IsStep (slot_at old j) by (coefficient_at (cut p vs) k j) (slot_at new j)
+  variable_added old new k by h here is j =
+      by_lt j k (λ l. apart (λ e. omega arith)) (λ l. by_lt k j (λ m. apart (λ e. omega arith)) (λ m. let e : k ≡ j = omega arith in same e))
+    where
+      apart : (k ≡ j → ⊥) → IsStep (slot_at old j) by (coefficient_at (cut p vs) k j) (slot_at new j)
+      apart ne =
+          let e : coefficient_at (cut p vs) k j ≡ none = variable_coefficient k j h ∙ ap (λ b. cond b (whole (pos 1)) none) (ne_eqb k j ne) in
+          let f : slot_at new j ≡ slot_at old j = ap (λ l. slot_at l j) is ∙ set_apart old k j (slot_at new k) (λ q. ne (sym q)) in
+          subst (λ w. IsStep (slot_at old j) by w (slot_at new j)) (sym e) (subst (λ w. IsStep (slot_at old j) by none w) (sym f) (nothing (slot_at old j) by))
+
+      same : k ≡ j → IsStep (slot_at old j) by (coefficient_at (cut p vs) k j) (slot_at new j)
+      same q =
+          let e : coefficient_at (cut p vs) k k ≡ whole (pos 1) = variable_coefficient k k h ∙ ap (λ b. cond b (whole (pos 1)) none) (eq-eqb k k refl) in
+          subst (λ j. IsStep (slot_at old j) by (coefficient_at (cut p vs) k j) (slot_at new j)) q
+          (subst (λ w. IsStep (slot_at old k) by w (slot_at new k)) (sym e) here)
+
+  -- a row is added
+  pub row_added : (old new : List (Option Frac)) (k : ℕ) (by : Ratio) (row : List Entry) → length vs ≤ k → row ≡ row_of p.entries (k - length vs) → (j : ℕ) → IsStep (slot_at old j) by (entry_at (entries row) (k - length vs) j) (slot_at new j) → IsStep (slot_at old j) by (coefficient_at (cut p vs) k j) (slot_at new j)
+  row_added old new k by row h is j step =
+      let i : ℕ = k - length vs in
+      let e : entry_at (entries row) i j ≡ entry_at (entries p.entries) i j = ap (λ l. entry_at (entries l) i j) is ∙ ap (λ l. entry_at l i j) (entries_filter p.entries i) ∙ entry_filter (entries p.entries) i j in
+      subst (λ w. IsStep (slot_at old j) by w (slot_at new j)) (e ∙ sym (row_coefficient k j h)) step

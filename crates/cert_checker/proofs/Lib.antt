@@ -1,0 +1,14 @@
+pub mod Sizes
+pub mod Lists
+pub mod Widths
+pub mod Entries
+pub mod Adding
+pub mod Holding
+pub mod Coefficients
+pub mod LowSums
+pub mod Legal
+pub mod Moves
+pub mod Paths
+pub mod Walks
+pub mod Refusing
+pub mod Claims

@@ -1,0 +1,55 @@
+use Rattle.std.proofs.Common.{◌≡◌, ◌<◌, Option, None, Some, IsTrue, false, length, arith, refl, sym, ap, ◌∙◌, inl, inr, below_more}
+use Rattle.fraction.specs.Frac.{ratio}
+use Rattle.fraction.specs.declared.frac.Frac.{Frac}
+use Rattle.rational.specs.Ratio.{IsSame}
+use Rattle.certificate.specs.Means.{multipliers}
+use Rattle.cert_checker.specs.Cuts as Of
+use Rattle.cert_checker.specs.Leaves.{HasForm}
+use Rattle.cert_checker.specs.Slots.{slot_at}
+use Rattle.cert_checker.proofs.Lists.{any_default}
+use Rattle.cert_checker.proofs.Widths.{width_is}
+use Rattle.cert_checker.proofs.Holding.{unfit_form, fits_form, has_form, other_form}
+use Rattle.cert_checker.proofs.forms.compare.Goals as goal
+
+pub returns-in-None-clause-err : goal.returns-in-None-clause-err
+returns-in-None-clause-err c =
+    let w = width_is c.args.instance.now c.args.vars.now in
+    let v = ap length c.vars-count.ensures.value in
+    let h : c.loop-j.j < length c.args.vars.now = omega arith in
+    inr (
+      c.loop-j.j,
+      record {
+        inside = omega arith;
+        below = c.loop-j.invariant;
+        wide = unfit_form c.args.instance.now c.args.vars.now c.args.mults.now c.loop-j.j (slot_at c.args.slots.now c.loop-j.j) (any_default c.args.slots.now c.loop-j.j None _ (omega arith) ∙ c.in-None.is) (c.requires.sums c.loop-j.j h);
+      },
+      refl,
+    )
+
+pub returns-then-not-is_same-clause-err : goal.returns-then-not-is_same-clause-err
+returns-then-not-is_same-clause-err c =
+    let w = width_is c.args.instance.now c.args.vars.now in
+    let v = ap length c.vars-count.ensures.value in
+    let h : c.loop-j.j < length c.args.vars.now = omega arith in
+    let e : slot_at c.args.slots.now c.loop-j.j ≡ Some c.in-Some.sum = any_default c.args.slots.now c.loop-j.j None _ (omega arith) ∙ c.in-Some.is in
+    let s = c.requires.sums c.loop-j.j h in
+    inl (
+      c.loop-j.j,
+      record {
+        inside = omega arith;
+        below = c.loop-j.invariant;
+        fits = fits_form c.args.instance.now c.args.vars.now c.args.mults.now c.loop-j.j (slot_at c.args.slots.now c.loop-j.j) c.in-Some.sum e s;
+        other = other_form c.args.instance.now c.args.vars.now c.args.mults.now c.loop-j.j (slot_at c.args.slots.now c.loop-j.j) c.in-Some.sum e s (Of.aim c.args.aim) c.wanted.result c.wanted.ensures
+            (λ q. let t : IsTrue false = c.if-not-is_same.ensures.1 q in cc);
+      },
+      refl,
+    )
+
+pub loop-j-preserved : goal.loop-j-preserved
+loop-j-preserved c =
+    let v = ap length c.vars-count.ensures.value in
+    let h : c.loop-j.j < length c.args.vars.now = omega arith in
+    let e : slot_at c.args.slots.now c.loop-j.j ≡ Some c.in-Some.sum = any_default c.args.slots.now c.loop-j.j None _ (omega arith) ∙ c.in-Some.is in
+    let s = c.requires.sums c.loop-j.j h in
+    below_more (HasForm (Of.cut c.args.instance.now c.args.vars.now) (multipliers c.args.mults.now) (Of.aim c.args.aim)) c.loop-j.j c.loop-j.invariant
+    (has_form c.args.instance.now c.args.vars.now c.args.mults.now c.loop-j.j (slot_at c.args.slots.now c.loop-j.j) c.in-Some.sum e s (Of.aim c.args.aim) c.wanted.result c.wanted.ensures (c.if-not-is_same.ensures.0 refl))

@@ -1,0 +1,7 @@
+use Rattle.certificate.specs.Means.{multipliers}
+use Rattle.cert_checker.specs.Cuts.{cut}
+use Rattle.cert_checker.specs.Leaves.{PairsBelow}
+use Rattle.cert_checker.proofs.pairs.first_illegal.Given as goal
+
+abbrev pub invariant-loop-k : goal.invariant-loop-k
+invariant-loop-k l = PairsBelow (cut l.instance l.vars) (multipliers l.mults) l.k

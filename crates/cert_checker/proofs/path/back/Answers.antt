@@ -1,0 +1,14 @@
+use Rattle.std.proofs.Common.{◌≡◌, ◌+◌, ◌-◌, ℕ, List, pos, false, arith, ap, subst, sym, ◌∙◌}
+use Rattle.cert_checker.specs.Cuts.{no_var, branch_at, pending}
+use Rattle.cert_checker.proofs.Lists.{read_any}
+use Rattle.cert_checker.proofs.Paths.{undone}
+use Rattle.cert_checker.proofs.path.back.Goals as goal
+
+pub returns-then-not-branch-clause-cases : goal.returns-then-not-branch-clause-cases
+returns-then-not-branch-clause-cases c = λ p.
+    let d = c.loop-place.place - 1 in
+    let vs = c.loop-place.vars in
+    let bs = c.loop-place.branches in
+    let up : d + 1 ≡ c.loop-place.place = omega arith in
+    let eb = read_any bs d c.index-branches-place.result (record { col = 0; k = pos 0; old = no_var; is_second = false }) (omega arith) c.index-branches-place.is in
+    c.turn.ensures.cases p ∙ undone p vs bs d c.index-branches-place.result eb ∙ ap (pending p vs bs) up ∙ c.loop-place.invariant.same p

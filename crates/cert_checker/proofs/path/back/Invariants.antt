@@ -1,0 +1,14 @@
+use Rattle.std.proofs.Common.{◌≡◌, ◌≤◌, length}
+use Rattle.instance.specs.Parts.{Parts}
+use Rattle.cert_checker.specs.Cuts.{pending}
+use Rattle.cert_checker.proofs.path.back.Given as goal
+
+abbrev pub invariant-loop-place : goal.invariant-loop-place
+invariant-loop-place l = record {
+  within : l.place ≤ l.initial.place;
+  branches : l.branches ≡ l.initial.branches;
+  same : (p : Parts) → pending p l.vars l.branches l.place ≡ pending p l.initial.vars l.initial.branches l.initial.place;
+}
+
+abbrev pub decreases-loop-place : goal.decreases-loop-place
+decreases-loop-place l = l.place

@@ -1,0 +1,56 @@
+use mir.Val.{SFits, of_z, to_z}
+use mir.Syntax.{w128}
+use Rattle.std.proofs.Common.{rules, ◌≡◌, ℕ, ◌+◌, ℤ, pos, ◌+ℤ◌, Option, None, Some, List, ◌∷◌, refl, sym, ◌∙◌, ap, subst, inl, inr}
+use Rattle.std.proofs.Math.Facts.{to_z-of_z}
+use Rattle.cert_checker.proofs.Sizes.{not_none}
+use Rattle.std.proofs.lemmas.Result.{err_from_is_err_and}
+use Rattle.evidence.specs.Cases as Cases
+use Rattle.certificate.specs.Means as Means
+use Rattle.certificate.specs.declared.nodes.Node.{Node}
+use Rattle.cert_checker.specs.Cuts as Of
+use Rattle.cert_checker.specs.Trees.{Leads, TreeRefuses}
+use Rattle.cert_checker.proofs.Walks.{split_leads, clash_leads, farkas_node_leads, bound_node_leads, farkas_refused, bound_refused}
+use Rattle.cert_checker.proofs.walk.step.Goals.{in-Clash+in_ok-check_clash-in-Clash, in-Farkas+in_ok-check_leaf-in-Farkas, in-Bound+else-is_none+in_ok-check_leaf-in-Bound}
+use Rattle.cert_checker.proofs.walk.step.Goals as goal
+
+pub returns-in-Split-clause-ok : goal.returns-in-Split-clause-ok
+returns-in-Split-clause-ok c = λ rest.
+    let p = c.args.instance.now in
+    let I = Of.cut p c.args.vars.now in
+    let js = Of.pending p c.args.vars.now c.args.branches.now c.args.depth in
+    let after = Of.cases p c.enter.new.vars c.enter.new.branches (Some (c.args.depth + 1)) in
+    let j = c.in-Split.col in
+    let k = c.in-Split.k in
+    let f : SFits w128 k = search rules in
+    let same : to_z w128 (of_z w128 k) ≡ k = to_z-of_z f in
+    subst (λ (n : Node). Leads (I ∷ js) (Means.node n ∷ rest) c.args.number after rest (c.args.number + 1) (Of.aim c.args.aim)) (sym c.in-Split.is)
+    (split_leads I js after c.args.number (Of.aim c.args.aim) rest j k (subst (λ (z : ℤ). Cases.IsBranch I j z) same (c.if-not-is_branch.ensures.0 refl))
+    (subst (λ (z : ℤ). after ≡ Cases.at_most I j z ∷ Cases.at_least I j (z +ℤ pos 1) ∷ js) same (c.enter.ensures.cases p)))
+
+pub returns-in_err-check_leaf-in-Farkas-clause-err : goal.returns-in_err-check_leaf-in-Farkas-clause-err
+returns-in_err-check_leaf-in-Farkas-clause-err c =
+    let p = err_from_is_err_and c.from_residual-in_err-check_leaf-in-Farkas.result c.from_residual-in_err-check_leaf-in-Farkas.ensures.1 in
+    rw (p.1, p.2)
+    (λ rest. farkas_refused (Of.cut c.args.instance.now c.args.vars.now) (Of.pending c.args.instance.now c.args.vars.now c.args.branches.now c.args.depth) c.args.number (Of.aim c.args.aim) rest c.args.node.now c.in-Farkas.mults c.as_slice.result.now c.in-Farkas.is c.as_slice.ensures c.in_err-check_leaf-in-Farkas.field-0.0 c.in_err-check_leaf-in-Farkas.ensures.err)
+
+pub returns-in_err-check_leaf-in-Bound-clause-err : goal.returns-in_err-check_leaf-in-Bound-clause-err
+returns-in_err-check_leaf-in-Bound-clause-err c =
+    let p = err_from_is_err_and c.from_residual-in_err-check_leaf-in-Bound.result c.from_residual-in_err-check_leaf-in-Bound.ensures.1 in
+    rw (p.1, p.2)
+    (λ rest. bound_refused (Of.cut c.args.instance.now c.args.vars.now) (Of.pending c.args.instance.now c.args.vars.now c.args.branches.now c.args.depth) c.args.number rest c.args.node.now c.in-Bound.mults c.as_slice-in-Bound.result.now c.in-Bound.is c.as_slice-in-Bound.ensures c.args.aim (not_none c.args.aim c.is_none.result c.is_none.ensures c.if-is_none.false) c.in_err-check_leaf-in-Bound.field-0.0 c.in_err-check_leaf-in-Bound.ensures.err)
+
+pub returns-clause-ok : goal.returns-clause-ok
+returns-clause-ok c = λ rest.
+    let p = c.args.instance.now in
+    let I = Of.cut p c.args.vars.now in
+    let js = Of.pending p c.args.vars.now c.args.branches.now c.args.depth in
+    let after = Of.cases p c.back.new.vars c.back.new.branches c.back.result in
+    elim c.match-node.branch [
+      | in-Clash+in_ok-check_clash-in-Clash w ↦
+          subst (λ (n : Node). Leads (I ∷ js) (Means.node n ∷ rest) c.args.number after rest (c.args.number + 1) (Of.aim c.args.aim)) (sym w.in-Clash.is)
+          (clash_leads I js after c.args.number (Of.aim c.args.aim) rest w.in-Clash.col w.in_ok-check_clash-in-Clash.ensures.ok (c.back.ensures.cases p))
+      | in-Farkas+in_ok-check_leaf-in-Farkas w ↦
+          farkas_node_leads I js after c.args.number (Of.aim c.args.aim) rest c.args.node.now w.in-Farkas.mults w.as_slice.result.now w.in-Farkas.is w.as_slice.ensures w.in_ok-check_leaf-in-Farkas.ensures.ok (c.back.ensures.cases p)
+      | in-Bound+else-is_none+in_ok-check_leaf-in-Bound w ↦
+          bound_node_leads I js after c.args.number rest c.args.node.now w.in-Bound.mults w.as_slice-in-Bound.result.now w.in-Bound.is w.as_slice-in-Bound.ensures c.args.aim (not_none c.args.aim w.is_none.result w.is_none.ensures w.if-is_none.false) w.in_ok-check_leaf-in-Bound.ensures.ok (c.back.ensures.cases p)
+    ]

@@ -1,0 +1,78 @@
+-- The instances that a walk through a tree of cases has before it: that of the cuts so far, and those of the second cases above.
+use Rattle.std.specs.Prelude.{ℕ, zero, suc, ◌+◌, ◌<◌, ◌≤◌, ℤ, pos, negsuc, ◌+ℤ◌, ◌≤ℤ◌, ◌<ℤ◌, neg_ℤ, false, cond, Option, None, Some, IfSome, List, [], ◌∷◌, length, get_or, slice_set}
+use Rattle.std.specs.List.{All}
+use Rattle.rational.specs.Width.{most}
+use Rattle.fraction.specs.Frac.{ratio}
+use Rattle.fraction.specs.declared.frac.Frac.{Frac}
+use Rattle.rational.specs.Ratio.{Ratio}
+use Rattle.fraction.specs.declared.ends.End.TheVariants.{NegInf, Inf}
+use Rattle.evidence.specs.Instance as Of
+use Rattle.evidence.specs.Cases.{at_least}
+use Rattle.instance.specs.declared.parts.Var.{Var}
+use Rattle.instance.specs.Parts.{Parts}
+use Rattle.instance.specs.Program.{program}
+use Rattle.certificate.specs.declared.nodes.Node.{Node}
+use Rattle.certificate.specs.declared.nodes.Node.TheVariants.{Split, Clash, Farkas, Bound}
+use Rattle.certificate.specs.declared.claims.Claim.{Claim}
+use Rattle.certificate.specs.declared.claims.Claim.TheVariants.{Optimal, Infeasible, Unbounded, BestSoFar, Unsure}
+use Rattle.cert_checker.specs.declared.path.Branch.{Branch}
+
+-- the program of an instance's parts with these variables in place of its own
+abbrev pub cut : Parts → List Var → Of.Instance
+cut p vs = program (record p { vars = vs })
+
+abbrev pub no_var : Var
+no_var = record { lb = NegInf; ub = Inf; whole = false }
+
+abbrev pub branch_at : List Branch → ℕ → Branch
+branch_at bs d = get_or bs d (record { col = 0; k = pos 0; old = no_var; is_second = false })
+
+-- what is still to show after the case at hand, whose variables are vs: at each branch above whose first case it is in, the second
+abbrev pub pending : Parts → List Var → List Branch → ℕ → List Of.Instance
+pending p vs bs zero = []
+pending p vs bs (suc d) =
+    let b = branch_at bs d in
+    let before = slice_set vs b.col b.old in
+    cond b.is_second (pending p before bs d) (at_least (cut p before) b.col (b.k +ℤ pos 1) ∷ pending p before bs d)
+
+-- all that is still to show: nothing, where the walk is at its end
+abbrev pub cases : Parts → List Var → List Branch → Option ℕ → List Of.Instance
+cases p vs bs None = []
+cases p vs bs (Some d) = cut p vs ∷ pending p vs bs d
+
+-- the branches above have variables, and numbers whose next one fits
+pub record AreBranches (n : ℕ) (bs : List Branch) (d : ℕ) : Type 0 where
+  pub columns : (e : ℕ) → e < d → (branch_at bs e).col < n
+  pub low : (e : ℕ) → e < d → neg_ℤ (pos most) ≤ℤ (branch_at bs e).k
+  pub high : (e : ℕ) → e < d → (branch_at bs e).k <ℤ pos most
+
+-- a value that claims and multipliers may have
+abbrev pub aim : Option Frac → Option Ratio
+aim None = None
+aim (Some z) = Some (ratio z)
+
+-- a split's number isn't below the least one that fits
+abbrev pub IsInRange : Node → Type 0
+IsInRange (Split j k) = neg_ℤ (pos most) ≤ℤ k
+IsInRange (Clash c) = Unit {0}
+IsInRange (Farkas ms) = Unit {0}
+IsInRange (Bound ms) = Unit {0}
+
+-- the certificate of a claim
+abbrev pub nodes_of : Claim → List Node
+nodes_of (Optimal x v ns) = ns
+nodes_of (Infeasible ns) = ns
+nodes_of (Unbounded x v r) = []
+nodes_of (BestSoFar x v c) = []
+nodes_of (Unsure c) = []
+
+-- how many variables and nodes there is room for
+pub record Room : Type 0 where
+  pub vars : ℕ
+  pub nodes : ℕ
+
+-- there is room for a check, and no split is at a number below the least one that fits
+pub record HasRoom (p : Parts) (c : Claim) (r : Room) : Type 0 where
+  pub vars : length p.vars ≤ r.vars
+  pub nodes : length (nodes_of c) ≤ r.nodes
+  pub range : All IsInRange (nodes_of c)

@@ -1,0 +1,11 @@
+pub use Rattle.evidence.specs.Instance
+pub use Rattle.evidence.specs.Claim
+pub use Rattle.instance.specs.Program
+pub use Rattle.certificate.specs.Means
+pub mod Points
+pub mod Rays
+pub mod Leaves
+pub mod Trees
+pub mod Refusals
+pub mod Cuts
+pub mod Slots

@@ -1,0 +1,27 @@
+-- Which refusal of a list of nodes is the first: it is read from its head, with the cases that are still to show.
+use Rattle.std.specs.Prelude.{◌≡◌, ℕ, ◌+◌, ◌⊎◌, pos, ◌+ℤ◌, Option, None, Some, List, [], ◌∷◌}
+use Rattle.rational.specs.Ratio.{Ratio}
+use Rattle.evidence.specs.Instance.{Instance}
+use Rattle.evidence.specs.Cases.{Node, ClashAt, FarkasBy, BoundBy, SplitAt, IsBranch, at_most, at_least}
+use Rattle.evidence.specs.Pending.{ShowsAll}
+use Rattle.cert_checker.specs.declared.refused.Refused.{Refused}
+use Rattle.cert_checker.specs.declared.refused.Refused.TheVariants.{Tree}
+use Rattle.cert_checker.specs.Leaves.{LeafHolds, LeafRefuses, ClashHolds, ClashRefuses}
+
+-- the first node, of those numbered from the given number on, that is refused: it isn't needed, or is missing, or has no place,
+-- or doesn't show its case; the nodes before it do
+abbrev pub TreeRefuses : List Instance → List Node → Option Ratio → ℕ → Refused → Type 0
+TreeRefuses [] [] z number r = ⊥
+TreeRefuses [] (node ∷ nodes) z number r = r ≡ Tree number
+TreeRefuses (I ∷ cases) [] z number r = r ≡ Tree number
+TreeRefuses (I ∷ cases) (ClashAt c ∷ nodes) z number r = ClashRefuses I c number r ⊎ (ClashHolds I c × TreeRefuses cases nodes z (number + 1) r)
+TreeRefuses (I ∷ cases) (FarkasBy ms ∷ nodes) z number r = LeafRefuses I ms None number r ⊎ (LeafHolds I ms None × TreeRefuses cases nodes z (number + 1) r)
+TreeRefuses (I ∷ cases) (BoundBy ms ∷ nodes) None number r = r ≡ Tree number
+TreeRefuses (I ∷ cases) (BoundBy ms ∷ nodes) (Some z) number r = LeafRefuses I ms (Some z) number r ⊎ (LeafHolds I ms (Some z) × TreeRefuses cases nodes (Some z) (number + 1) r)
+TreeRefuses (I ∷ cases) (SplitAt j k ∷ nodes) z number r =
+    ((IsBranch I j k → ⊥) × (r ≡ Tree number)) ⊎ (IsBranch I j k × TreeRefuses (at_most I j k ∷ at_least I j (k +ℤ pos 1) ∷ cases) nodes z (number + 1) r)
+
+-- if the rest shows what is still to show, then all nodes show all; and the first refusal of the rest is that of all
+pub record Leads (before : List Instance) (nodes : List Node) (number : ℕ) (after : List Instance) (rest : List Node) (next : ℕ) (z : Option Ratio) : Type 0 where
+  pub shown : ShowsAll after rest z → ShowsAll before nodes z
+  pub refused : (r : Refused) → TreeRefuses after rest z next r → TreeRefuses before nodes z number r

@@ -1,0 +1,36 @@
+//! Whether a claim about an instance is shown by what it carries.
+//!
+//! [`check`] reads a claim beside its instance and trusts nobody who made it. Its answer is `Ok` exactly where
+//! `evidence` accepts the claim, whose law says that what is accepted is true; else it is the first of the reasons for
+//! which the claim is refused, in the order in which `specs` states the checks: the point, then the direction or the
+//! tree of cases, node by node. Each number is a fraction of 128 bits, and a sum that doesn't fit is a reason too.
+//!
+//! The tree is walked in a loop: the cuts of the case at hand are kept beside what they replaced, in room that
+//! [`Scratch`] has from before, and undone on the way back. A leaf costs time in proportion to the variables and to the
+//! entries of the rows that its multipliers name. `check` takes no memory.
+#![tactic(auto)]
+
+mod checking;
+mod clash;
+mod columns;
+mod cuts;
+mod forms;
+mod laws;
+mod leaf;
+mod numbers;
+mod pairs;
+mod path;
+mod point;
+mod ray;
+mod refused;
+mod scratch;
+mod slots;
+mod sums;
+#[cfg(test)]
+mod tests;
+mod walk;
+
+pub use checking::{check, has_room};
+pub use laws::refused_is_not_accepted;
+pub use refused::Refused;
+pub use scratch::Scratch;

@@ -1,0 +1,5 @@
+pub use Rattle.rational.specs.Ratio
+pub use Rattle.fraction.specs.Frac
+pub use Rattle.evidence.specs.Cases
+pub use Rattle.evidence.specs.Claim
+pub mod Means

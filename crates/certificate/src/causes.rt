@@ -1,0 +1,66 @@
+ghost use Rattle.std.specs.Prelude.{◌≡◌};
+
+use std::alloc::AllocError;
+
+/// What was being done where a number was found too wide.
+#[derive(Clone, Copy, PartialEq, Eq, Debug)]
+pub enum Step {
+    Values,
+    Ratio,
+    Pivot,
+    Point,
+    Ray,
+    Check,
+}
+
+/// Where a number was found too wide: the node, from 1, the turn of the whole job, and what was being done.
+#[derive(Clone, Copy, PartialEq, Eq, Debug)]
+pub struct Place {
+    pub node: u32,
+    pub turn: u64,
+    pub step: Step,
+}
+
+/// Why a search stopped before its end.
+#[derive(Clone, Copy, PartialEq, Eq, Debug)]
+pub enum Cause {
+    /// It was told to stop.
+    Killed,
+    /// It had looked at so many nodes.
+    NodeLimit(u32),
+    /// It had taken so many turns.
+    TurnLimit(u32),
+    /// A number passed the width of a fraction.
+    Wide(Place),
+    /// The certificate would have passed the length of a document.
+    Length,
+    /// There was no memory.
+    Memory,
+}
+
+impl Step {
+    /// An equal step. It takes no memory.
+    pub fn try_copy(&self) -> Result<Step, AllocError>
+        ensures { result ≡ Ok self.now }
+    {
+        Ok(*self)
+    }
+}
+
+impl Place {
+    /// An equal place. It takes no memory.
+    pub fn try_copy(&self) -> Result<Place, AllocError>
+        ensures { result ≡ Ok self.now }
+    {
+        Ok(*self)
+    }
+}
+
+impl Cause {
+    /// An equal cause. It takes no memory.
+    pub fn try_copy(&self) -> Result<Cause, AllocError>
+        ensures { result ≡ Ok self.now }
+    {
+        Ok(*self)
+    }
+}
