@@ -11,6 +11,7 @@ use Rattle.fraction.specs.declared.frac.Frac.{Frac}
 use Rattle.fraction.specs.declared.ends.End.{End}
 use Rattle.fraction.specs.declared.ends.End.TheVariants.{NegInf, At, Inf}
 use Rattle.decimal_text.specs.Bound.{IsBound}
+use Rattle.fraction.specs.declared.ends.Entry.{Entry}
 use Rattle.instance.specs.declared.parts.Var.{Var}
 use Rattle.instance.specs.declared.parts.Row.{Row}
 use Rattle.instance.specs.declared.parts.Goal.{Goal}
@@ -117,15 +118,15 @@ abbrev pub IsObjective : ℕ → List Element → Goal → Type 0
 IsObjective n [] g = IsNoGoal n g
 IsObjective n (e ∷ more) g = IsGoal n e g
 
--- the entries are these sums, where they aren't 0, by rows and in each row by columns
-pub record AreEntriesOf (l : List Of.Entry) (p : Parts) : Type 0 where
-  pub ascending : IsAscending p.entries
-  pub nonzero : All (λ e. e.value.numer ≢ pos 0) p.entries
-  pub sums : (i j : ℕ) → IsSame (Of.entry_at (entries p.entries) i j) (place_sum evidence.none l i j)
+-- the entries are the sums of these, where they aren't 0, by rows and in each row by columns
+pub record AreEntriesOf (l : List Of.Entry) (es : List Entry) : Type 0 where
+  pub ascending : IsAscending es
+  pub nonzero : All (λ e. e.value.numer ≢ pos 0) es
+  pub sums : (i j : ℕ) → IsSame (Of.entry_at (entries es) i j) (place_sum evidence.none l i j)
 
 -- the element of the matrix, which has the three lists or nothing
-abbrev pub IsMatrix : Element → Parts → Type 0
-IsMatrix e p = ((child_elements e.children ≡ []) × (p.entries ≡ [])) ⊎ ((l : Lists) × AreLists e l × AreEntriesOf (stored l) p)
+abbrev pub IsMatrix : Element → List Entry → Type 0
+IsMatrix e es = ((child_elements e.children ≡ []) × (es ≡ [])) ⊎ ((l : Lists) × AreLists e l × AreEntriesOf (stored l) es)
 
 -- the items of a part, none where there is no such part
 abbrev pub HasPart : List ℕ → List Element → (List Element → Type 0) → Type 0
@@ -136,7 +137,7 @@ pub record SayParts (parts : List Element) (p : Parts) : Type 0 where
   pub variables : HasPart (codes "variables") parts (λ es. Expand IsVar es p.vars)
   pub rows : HasPart (codes "constraints") parts (λ es. Expand IsRow es p.rows)
   pub goal : HasPart (codes "objectives") parts (λ es. IsObjective (length p.vars) es p.goal)
-  pub matrix : MatchOption (first_named (codes "linearConstraintCoefficients") parts) (p.entries ≡ []) (λ e. IsMatrix e p)
+  pub matrix : MatchOption (first_named (codes "linearConstraintCoefficients") parts) (p.entries ≡ []) (λ e. IsMatrix e p.entries)
 
 -- the root stands for this instance
 abbrev pub Means : Element → Parts → Type 0
