@@ -1,0 +1,12 @@
+pub mod Tags
+pub mod Kinds
+pub mod Numbers
+pub mod Runs
+pub mod Matrix
+pub mod Costs
+pub mod Deciding
+pub mod Refusals
+pub mod Meaning
+pub mod InstanceText
+pub mod Texts
+pub mod Writing

@@ -1,0 +1,153 @@
+-- The text that an instance is written as: an OSiL document with all its defaults said, rows stored one after another, and no runs.
+use Rattle.std.specs.Prelude.{◌≡◌, ◌⊎◌, ℕ, zero, suc, ◌+◌, ◌<◌, pos, Bool, true, false, cond, nat_lt, List, [], ◌∷◌, map, length, codes}
+use Rattle.std.specs.List.{All}
+use Rattle.std.specs.Fmt.{decimal}
+use Rattle.tree_grammar.specs.Elements.{Attribute, Nodes, none, element, chars, Element}
+use Rattle.tree_grammar.specs.Written.{written}
+use Rattle.tree_walk.specs.Texts.{document_limit}
+use Rattle.fraction.specs.Frac.{ratio}
+use Rattle.fraction.specs.declared.frac.Frac.{Frac}
+use Rattle.fraction.specs.declared.ends.End.{End}
+use Rattle.fraction.specs.declared.ends.End.TheVariants.{NegInf, At, Inf}
+use Rattle.fraction.specs.declared.ends.Entry.{Entry}
+use Rattle.decimal_text.specs.Decimal.{IsDecimal}
+use Rattle.decimal_text.specs.Plain.{PlainText}
+use Rattle.instance.specs.declared.parts.Var.{Var}
+use Rattle.instance.specs.declared.parts.Row.{Row}
+use Rattle.instance.specs.declared.parts.Goal.{Goal}
+use Rattle.instance.specs.declared.parts.Sense.{Sense}
+use Rattle.instance.specs.declared.parts.Sense.TheVariants.{Min, Max}
+use Rattle.instance.specs.Parts.{Parts}
+
+-- some decimal has the value
+abbrev pub HasDecimal : Frac → Type 0
+HasDecimal x = (text : List ℕ) × IsDecimal text (ratio x)
+
+-- an end's text
+abbrev pub IsEndText : End → List ℕ → Type 0
+IsEndText NegInf text = text ≡ codes "-INF"
+IsEndText (At x) text = PlainText text (ratio x)
+IsEndText Inf text = text ≡ codes "INF"
+
+abbrev pub EndHasText : End → Type 0
+EndHasText NegInf = Unit {0}
+EndHasText (At x) = HasDecimal x
+EndHasText Inf = Unit {0}
+
+-- an attribute, and then more
+abbrev pub with_attribute : (name value : List ℕ) → List Attribute → List Attribute
+with_attribute name value more = record { name = name; value = value } ∷ more
+
+-- an element that holds this text, and then more; the text isn't empty
+abbrev pub holding : (name : List ℕ) → List Attribute → (text : List ℕ) → Nodes → Nodes
+holding name attributes text more = element name attributes (chars text none) more
+
+-- the type of a variable
+abbrev pub type_text : Bool → List ℕ
+type_text true = codes "I"
+type_text false = codes "C"
+
+-- the nodes that these variables are written as
+abbrev pub WriteVars : List Var → Nodes → Type 0
+WriteVars [] nodes = nodes ≡ none
+WriteVars (v ∷ vs) nodes = (lb : List ℕ) × (ub : List ℕ) × (more : Nodes) × IsEndText v.lb lb × IsEndText v.ub ub × WriteVars vs more
+    × (nodes ≡ element (codes "var") (with_attribute (codes "type") (type_text v.whole) (with_attribute (codes "lb") lb (with_attribute (codes "ub") ub []))) none more)
+
+-- the same of rows
+abbrev pub WriteRows : List Row → Nodes → Type 0
+WriteRows [] nodes = nodes ≡ none
+WriteRows (r ∷ rs) nodes = (lb : List ℕ) × (ub : List ℕ) × (more : Nodes) × IsEndText r.lb lb × IsEndText r.ub ub × WriteRows rs more
+    × (nodes ≡ element (codes "con") (with_attribute (codes "lb") lb (with_attribute (codes "ub") ub [])) none more)
+
+-- the costs that aren't 0, from variable j on
+abbrev pub WriteCosts : ℕ → List Frac → Nodes → Type 0
+WriteCosts j [] nodes = nodes ≡ none
+WriteCosts j (c ∷ cs) nodes = ((c.numer ≡ pos 0) × WriteCosts (j + 1) cs nodes)
+    ⊎ ((c.numer ≡ pos 0 → ⊥) × (text : List ℕ) × (more : Nodes) × PlainText text (ratio c) × WriteCosts (j + 1) cs more × (nodes ≡ holding (codes "coef") (with_attribute (codes "idx") (decimal j) []) text more))
+
+-- how many costs aren't 0
+abbrev pub CountsCosts : List Frac → ℕ → Type 0
+CountsCosts [] n = n ≡ 0
+CountsCosts (c ∷ cs) n = ((c.numer ≡ pos 0) × CountsCosts cs n) ⊎ ((c.numer ≡ pos 0 → ⊥) × (m : ℕ) × CountsCosts cs m × (n ≡ m + 1))
+
+abbrev pub sense_text : Sense → List ℕ
+sense_text Min = codes "min"
+sense_text Max = codes "max"
+
+-- the goal
+pub record WritesGoal (g : Goal) (nodes : Nodes) : Type 0 where
+  pub constant : List ℕ
+  pub is_constant : PlainText constant (ratio g.constant)
+  pub count : ℕ
+  pub counts : CountsCosts g.costs count
+  pub costs : Nodes
+  pub are_costs : WriteCosts 0 g.costs costs
+  pub says : nodes ≡ element (codes "obj") (with_attribute (codes "maxOrMin") (sense_text g.sense) (with_attribute (codes "constant") constant (with_attribute (codes "numberOfObjCoef") (decimal count) []))) costs none
+
+-- one `el` for each count
+abbrev pub counts_nodes : List ℕ → Nodes
+counts_nodes [] = none
+counts_nodes (n ∷ ns) = holding (codes "el") [] (decimal n) (counts_nodes ns)
+
+-- how many entries stand before row i
+abbrev pub entries_below : ℕ → List Entry → ℕ
+entries_below i [] = 0
+entries_below i (e ∷ es) = cond (nat_lt e.row i) (entries_below i es + 1) (entries_below i es)
+
+-- the starts of the rows from i on, n of them, and their end
+abbrev pub row_starts : List Entry → ℕ → ℕ → List ℕ
+row_starts es i zero = entries_below i es ∷ []
+row_starts es i (suc n) = entries_below i es ∷ row_starts es (i + 1) n
+
+-- one `el` for each value
+abbrev pub WriteValues : List Entry → Nodes → Type 0
+WriteValues [] nodes = nodes ≡ none
+WriteValues (e ∷ es) nodes = (text : List ℕ) × (more : Nodes) × PlainText text (ratio e.value) × WriteValues es more × (nodes ≡ holding (codes "el") [] text more)
+
+-- the three lists, or nothing where there are no entries
+abbrev pub WriteLists : ℕ → List Entry → Nodes → Type 0
+WriteLists m [] nodes = nodes ≡ none
+WriteLists m (e ∷ es) nodes = (values : Nodes) × WriteValues (e ∷ es) values
+    × (nodes ≡ element (codes "start") [] (counts_nodes (row_starts (e ∷ es) 0 m)) (element (codes "colIdx") [] (counts_nodes (map (λ x. x.col) (e ∷ es))) (element (codes "value") [] values none)))
+
+-- an element with a count of what stands in it, and then more
+abbrev pub counted : (name count_name : List ℕ) → ℕ → Nodes → Nodes → Nodes
+counted name count_name n children more = element name (with_attribute count_name (decimal n) []) children more
+
+-- the root that an instance is written as
+pub record WritesInstance (p : Parts) (root : Element) : Type 0 where
+  pub vars : Nodes
+  pub are_vars : WriteVars p.vars vars
+  pub goal : Nodes
+  pub is_goal : WritesGoal p.goal goal
+  pub rows : Nodes
+  pub are_rows : WriteRows p.rows rows
+  pub lists : Nodes
+  pub are_lists : WriteLists (length p.rows) p.entries lists
+  pub says : root ≡ record {
+    name = codes "osil";
+    attributes = with_attribute (codes "xmlns") (codes "os.optimizationservices.org") [];
+    children = element (codes "instanceHeader") [] none (element (codes "instanceData") [] (
+        counted (codes "variables") (codes "numberOfVariables") (length p.vars) vars (
+        counted (codes "objectives") (codes "numberOfObjectives") 1 goal (
+        counted (codes "constraints") (codes "numberOfConstraints") (length p.rows) rows (
+        counted (codes "linearConstraintCoefficients") (codes "numberOfValues") (length p.entries) lists none)))) none);
+  }
+
+-- the instance's text
+pub record IsWrittenText (p : Parts) (text : List ℕ) : Type 0 where
+  pub root : Element
+  pub writes : WritesInstance p root
+  pub says : text ≡ written root
+
+-- each number of the instance has a decimal
+pub record HasDecimals (p : Parts) : Type 0 where
+  pub vars : All (λ v. EndHasText v.lb × EndHasText v.ub) p.vars
+  pub rows : All (λ r. EndHasText r.lb × EndHasText r.ub) p.rows
+  pub entries : All (λ e. HasDecimal e.value) p.entries
+  pub constant : HasDecimal p.goal.constant
+  pub costs : All HasDecimal p.goal.costs
+
+-- the text is longer than a document may be
+abbrev pub IsTooLong : Parts → Type 0
+IsTooLong p = (text : List ℕ) × IsWrittenText p text × (document_limit < length text)
