@@ -1,5 +1,5 @@
 -- What a claim is refused or accepted for, after its point.
-use Rattle.std.proofs.Common.{◌≡◌, List, inr, sym, ap, subst, ◌∙◌}
+use Rattle.std.proofs.Common.{◌≡◌, List, inr, sym, subst}
 use Rattle.fraction.specs.Frac.{ratio, ratios}
 use Rattle.fraction.specs.declared.frac.Frac.{Frac}
 use Rattle.evidence.specs.Instance.{Instance}

@@ -1,5 +1,5 @@
 -- The coefficients of columns: of a variable, and of a row by its entries.
-use Rattle.std.proofs.Common.{◌≡◌, ℕ, ◌+◌, ◌-◌, ◌<◌, ◌≤◌, pos, Bool, true, false, cond, nat_eq, nat_lt, Option, None, List, [], ◌∷◌, length, slice_set, slice_index_or, arith, refl, sym, ◌∙◌, ap, subst}
+use Rattle.std.proofs.Common.{◌≡◌, ℕ, ◌-◌, ◌<◌, ◌≤◌, pos, Bool, true, false, cond, nat_eq, nat_lt, Option, List, [], ◌∷◌, length, slice_set, arith, refl, sym, ◌∙◌, ap, subst}
 use Rattle.std.specs.List.{All, filter}
 use Rattle.std.proofs.lemmas.Bool.{eqb-true, eq-eqb, ne_eqb, lt-ltb, le-ltb}
 use Rattle.std.proofs.lemmas.List.Elements.{All-filter, filter_passes}

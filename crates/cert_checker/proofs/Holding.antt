@@ -1,6 +1,5 @@
 -- Sums of multiplied columns, one multiplier after the other.
-use Rattle.std.proofs.Common.{◌≡◌, ℕ, ◌+◌, ◌<◌, Option, None, Some, List, length, slice_index_or, arith, refl, sym, ◌∙◌, ap, subst}
-use Rattle.std.specs.List.{All}
+use Rattle.std.proofs.Common.{◌≡◌, ℕ, ◌+◌, Option, None, Some, List, length, slice_index_or, arith, refl, sym, subst}
 use Rattle.std.proofs.lemmas.List.Elements.{All-map}
 use Rattle.std.proofs.lemmas.List.{length-map}
 use Rattle.rational.specs.Ratio.{Ratio, IsNumber, IsSame, product}
@@ -14,7 +13,7 @@ use Rattle.evidence.specs.Width.{StatedFits, FormFits}
 use Rattle.evidence.proofs.Columns.{All-anywhere, none-number, coefficient-number}
 use Rattle.evidence.proofs.Numbers.{product-number}
 use Rattle.evidence.proofs.Totals.{total-number}
-use Rattle.evidence.proofs.Steps.{IsSum, no_term, more, wide}
+use Rattle.evidence.proofs.Steps.{no_term, more, wide}
 use Rattle.instance.specs.declared.parts.Var.{Var}
 use Rattle.instance.specs.Parts.{Parts}
 use Rattle.instance.proofs.Numbers.{program-instance}

@@ -1,7 +1,7 @@
 -- Movements along a direction, as the code reads them and as the program has them.
-use Rattle.std.proofs.Common.{◌≡◌, ℕ, ◌+◌, ◌<◌, false, Option, None, Some, IfSome, List, length, get_or, slice_index_or, map, arith, refl, sym, ◌∙◌, ap, subst}
+use Rattle.std.proofs.Common.{◌≡◌, ℕ, ◌<◌, false, Option, None, Some, IfSome, List, length, get_or, slice_index_or, map, arith, refl, sym, ◌∙◌, ap, subst}
 use Rattle.std.proofs.lemmas.List.{get_or-map, length-map}
-use Rattle.rational.specs.Ratio.{Ratio, IsNumber, IsSame, IsAtMost, IsBelow, product, negative}
+use Rattle.rational.specs.Ratio.{Ratio, IsNumber, IsSame, IsBelow, product, negative}
 use Rattle.fraction.specs.Frac.{ratio, ratios}
 use Rattle.fraction.specs.declared.frac.Frac.{Frac}
 use Rattle.evidence.specs.Sums.{none, total}

@@ -1,6 +1,6 @@
 -- What is still to show after each step of the walk.
-use Rattle.std.proofs.Common.{◌≡◌, ℕ, zero, suc, ◌+◌, ◌<◌, ◌≤◌, ℤ, pos, neg_ℤ, ◌+ℤ◌, ◌≤ℤ◌, ◌<ℤ◌, true, false, cond, Some, List, ◌∷◌, length, get_or, slice_set, slice_index_or, map, arith, refl, sym, ◌∙◌, ap, subst, add-one}
-use Rattle.std.proofs.lemmas.List.{get_or-map, map-set, set-set, set-get_or, length-set, get_or-set_same, get_or-set_other}
+use Rattle.std.proofs.Common.{◌≡◌, ℕ, zero, suc, ◌+◌, ◌<◌, ◌≤◌, ℤ, pos, neg_ℤ, ◌+ℤ◌, ◌≤ℤ◌, ◌<ℤ◌, true, false, cond, Some, List, ◌∷◌, length, slice_set, slice_index_or, map, arith, refl, sym, ◌∙◌, ap, subst, add-one}
+use Rattle.std.proofs.lemmas.List.{get_or-map, map-set, set-set, set-get_or, get_or-set_same, get_or-set_other}
 use Rattle.rational.specs.Ratio.{whole}
 use Rattle.rational.specs.Width.{most}
 use Rattle.evidence.specs.Instance as Of

@@ -1,11 +1,11 @@
 -- What is refused isn't accepted, part by part.
-use Rattle.std.proofs.Common.{◌≡◌, ℕ, ◌+◌, ◌<◌, ◌⊎◌, inl, inr, pos, ◌+ℤ◌, Option, None, Some, List, [], ◌∷◌, length, subst, sym}
+use Rattle.std.proofs.Common.{ℕ, ◌+◌, inl, inr, pos, ◌+ℤ◌, Option, None, Some, List, [], ◌∷◌, subst, sym}
 use Rattle.rational.specs.Ratio.{Ratio, IsBelow}
 use Rattle.evidence.specs.Sums.{none}
-use Rattle.evidence.specs.Instance.{Instance, width, height, minimising}
+use Rattle.evidence.specs.Instance.{Instance, minimising}
 use Rattle.evidence.specs.Point.{IsRay}
 use Rattle.evidence.specs.Cases.{Multiplier, Node, ClashAt, FarkasBy, BoundBy, SplitAt, at_most, at_least}
-use Rattle.evidence.specs.Width.{PointFits, RayFits, ProvesWithin}
+use Rattle.evidence.specs.Width.{PointFits, RayFits}
 use Rattle.evidence.specs.Claim.{Claim, Optimal, Infeasible, Unbounded, BestSoFar, Unsure, HasValue, Accepts}
 use Rattle.evidence.specs.Pending.{ShowsAll}
 use Rattle.evidence.proofs.Pending.{start, none_left, one_more, clash_step, farkas_step, bound_step, no_bound, split_step}

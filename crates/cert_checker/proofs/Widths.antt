@@ -1,5 +1,5 @@
 -- The widths and the numbers of a program whose variables are cut.
-use Rattle.std.proofs.Common.{◌≡◌, ℕ, ◌+◌, ◌<◌, List, length, map, slice_index_or, arith, sym, ◌∙◌, subst}
+use Rattle.std.proofs.Common.{◌≡◌, ℕ, ◌+◌, ◌<◌, List, length, slice_index_or, arith, subst}
 use Rattle.std.proofs.lemmas.List.{length-map}
 use Rattle.rational.specs.Ratio.{IsNumber, product}
 use Rattle.fraction.specs.Frac.{ratio, ratios}

@@ -1,4 +1,4 @@
-use Rattle.std.proofs.Common.{refl, ap}
+use Rattle.std.proofs.Common.{ap}
 use Rattle.fraction.specs.Frac.{ratio}
 use Rattle.instance.specs.Program.{row, limit}
 use Rattle.cert_checker.proofs.Sizes.{to_empty, from_empty}

@@ -1,5 +1,4 @@
-use Rattle.std.proofs.Common.{◌≡◌, ◌<◌, length, arith, sym, subst}
-use Rattle.fraction.specs.Frac.{ratio}
+use Rattle.std.proofs.Common.{arith, sym, subst}
 use Rattle.evidence.specs.Instance.{coefficient_at}
 use Rattle.evidence.specs.Cases.{Multiplier}
 use Rattle.cert_checker.specs.Cuts.{cut}

@@ -1,7 +1,4 @@
-use Rattle.std.proofs.Common.{◌≡◌, ◌<◌, Option, None, Some, IsTrue, false, length, arith, refl, sym, ap, ◌∙◌, inl, inr, below_more}
-use Rattle.fraction.specs.Frac.{ratio}
-use Rattle.fraction.specs.declared.frac.Frac.{Frac}
-use Rattle.rational.specs.Ratio.{IsSame}
+use Rattle.std.proofs.Common.{◌≡◌, ◌<◌, None, Some, IsTrue, false, length, arith, refl, ap, ◌∙◌, inl, inr, below_more}
 use Rattle.certificate.specs.Means.{multipliers}
 use Rattle.cert_checker.specs.Cuts as Of
 use Rattle.cert_checker.specs.Leaves.{HasForm}

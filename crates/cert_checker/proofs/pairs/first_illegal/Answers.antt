@@ -1,4 +1,4 @@
-use Rattle.std.proofs.Common.{◌≡◌, ◌<◌, IsTrue, false, length, arith, refl, sym, ap, below_more, subst}
+use Rattle.std.proofs.Common.{◌≡◌, IsTrue, false, length, arith, refl, sym, ap, below_more, subst}
 use Rattle.std.proofs.lemmas.List.{length-map}
 use Rattle.evidence.specs.Cases.{Multiplier}
 use Rattle.certificate.specs.Means.{multiplier, multipliers}

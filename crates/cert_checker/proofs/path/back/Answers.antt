@@ -1,5 +1,5 @@
-use Rattle.std.proofs.Common.{◌≡◌, ◌+◌, ◌-◌, ℕ, List, pos, false, arith, ap, subst, sym, ◌∙◌}
-use Rattle.cert_checker.specs.Cuts.{no_var, branch_at, pending}
+use Rattle.std.proofs.Common.{◌≡◌, ◌+◌, ◌-◌, pos, false, arith, ap, ◌∙◌}
+use Rattle.cert_checker.specs.Cuts.{no_var, pending}
 use Rattle.cert_checker.proofs.Lists.{read_any}
 use Rattle.cert_checker.proofs.Paths.{undone}
 use Rattle.cert_checker.proofs.path.back.Goals as goal

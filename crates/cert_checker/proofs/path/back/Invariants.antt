@@ -1,4 +1,4 @@
-use Rattle.std.proofs.Common.{◌≡◌, ◌≤◌, length}
+use Rattle.std.proofs.Common.{◌≡◌, ◌≤◌}
 use Rattle.instance.specs.Parts.{Parts}
 use Rattle.cert_checker.specs.Cuts.{pending}
 use Rattle.cert_checker.proofs.path.back.Given as goal

@@ -1,4 +1,4 @@
-use Rattle.std.proofs.Common.{◌≡◌, ◌+◌, ℤ, length, slice_set, false, refl, ap, subst, sym}
+use Rattle.std.proofs.Common.{◌≡◌, ◌+◌, ℤ, length, slice_set, false, ap, subst, sym}
 use Rattle.std.proofs.Math.Facts.{to_z-of_z}
 use Rattle.rational.specs.Ratio.{whole}
 use Rattle.evidence.specs.Cases.{lesser_end}

@@ -1,4 +1,4 @@
-use Rattle.std.proofs.Common.{◌≡◌, ◌+◌, ◌<◌, ◌≤ℤ◌, ◌<ℤ◌, ◌+ℤ◌, ℤ, pos, neg_ℤ, rules, length, slice_set, slice_index_or, true, false, arith, refl, ap, subst, sym, ◌∙◌}
+use Rattle.std.proofs.Common.{◌≡◌, ◌+◌, ◌<◌, ◌≤ℤ◌, ◌<ℤ◌, ◌+ℤ◌, ℤ, pos, neg_ℤ, rules, length, slice_set, slice_index_or, true, false, arith, ap, subst, sym, ◌∙◌}
 use mir.Val.{SFits, of_z, to_z}
 use mir.Syntax.{w128}
 use Rattle.std.proofs.Math.Facts.{to_z-of_z}
@@ -9,7 +9,7 @@ use Rattle.evidence.specs.Cases.{greater_end}
 use Rattle.instance.specs.Program.{variable, limit}
 use Rattle.cert_checker.proofs.Sizes.{next_fits}
 use Rattle.cert_checker.specs.declared.path.Branch.{Branch}
-use Rattle.cert_checker.specs.Cuts.{no_var, branch_at, AreBranches}
+use Rattle.cert_checker.specs.Cuts.{no_var, branch_at}
 use Rattle.cert_checker.proofs.Lists.{any_default, read_any}
 use Rattle.cert_checker.proofs.Paths.{branches_with, branches_less, turned, cut_least}
 use Rattle.cert_checker.proofs.path.turn.Goals as goal

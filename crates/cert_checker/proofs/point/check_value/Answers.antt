@@ -1,4 +1,4 @@
-use Rattle.std.proofs.Common.{◌≡◌, false, true, IsTrue, refl, sym, inl, inr}
+use Rattle.std.proofs.Common.{false, IsTrue, refl, sym, inr}
 use Rattle.rational.specs.Ratio.{IsSame}
 use Rattle.rational.proofs.Scaling.{IsSame-trans}
 use Rattle.fraction.specs.Frac.{ratio, ratios}

@@ -1,5 +1,5 @@
 use Rattle.std.proofs.Common.{◌≡◌, length, arith, inl, inr, ap}
-use Rattle.std.proofs.lemmas.Result.{on_ok_weaker, MatchResult-weaker, err_from_is_err_and}
+use Rattle.std.proofs.lemmas.Result.{on_ok_weaker, err_from_is_err_and}
 use Rattle.cert_checker.proofs.Moves.{count_is, is_ray, ray_fits}
 use Rattle.cert_checker.proofs.ray.check_ray.Goals as goal
 

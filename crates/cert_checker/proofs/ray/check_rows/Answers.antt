@@ -1,4 +1,4 @@
-use Rattle.std.proofs.Common.{◌≡◌, ◌+◌, false, IsTrue, length, refl, sym, ◌∙◌, ap, inl, below_more}
+use Rattle.std.proofs.Common.{◌+◌, false, IsTrue, length, refl, sym, ◌∙◌, ap, inl, below_more}
 use Rattle.std.proofs.lemmas.List.{length-map}
 use Rattle.fraction.specs.Frac.{ratios}
 use Rattle.instance.specs.Program.{program, variable}

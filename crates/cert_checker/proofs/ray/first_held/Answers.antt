@@ -1,5 +1,4 @@
-use Rattle.std.proofs.Common.{◌≡◌, ◌<◌, false, IsTrue, length, arith, refl, sym, ap, below_more}
-use Rattle.std.proofs.lemmas.List.{length-map}
+use Rattle.std.proofs.Common.{◌<◌, length, arith, refl, ap, below_more}
 use Rattle.fraction.specs.Frac.{ratios}
 use Rattle.evidence.specs.Instance.{variable_at}
 use Rattle.evidence.specs.Point.{value_at}

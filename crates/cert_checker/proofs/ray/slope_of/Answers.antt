@@ -1,4 +1,4 @@
-use Rattle.std.proofs.Common.{◌≡◌, ◌<◌, length, arith, ap}
+use Rattle.std.proofs.Common.{◌<◌, length, arith, ap}
 use Rattle.fraction.specs.Frac.{ratio, ratios}
 use Rattle.evidence.specs.Sums.{none}
 use Rattle.evidence.specs.Instance.{width, minimising, cost_at}

@@ -1,4 +1,4 @@
-use Rattle.std.proofs.Common.{◌≡◌, ◌+◌, ◌-◌, ◌<◌, ◌≤◌, length, arith, sym}
+use Rattle.std.proofs.Common.{◌-◌, length, arith}
 use Rattle.fraction.specs.Frac.{ratio}
 use Rattle.cert_checker.proofs.Coefficients.{of_one_row, within_columns, variable_added, row_added}
 use Rattle.cert_checker.proofs.slots.add_column.Goals as goal

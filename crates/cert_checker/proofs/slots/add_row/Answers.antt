@@ -1,6 +1,5 @@
-use Rattle.std.proofs.Common.{◌≡◌, ◌+◌, ◌<◌, ◌≤◌, Option, None, length, slice_set, slice_index_or, arith, sym, subst}
+use Rattle.std.proofs.Common.{◌≡◌, ◌+◌, ◌<◌, None, length, slice_set, slice_index_or, arith, sym, subst}
 use Rattle.fraction.specs.Frac.{ratio}
-use Rattle.fraction.specs.declared.frac.Frac.{Frac}
 use Rattle.fraction.specs.declared.ends.Entry.{Entry}
 use Rattle.cert_checker.specs.Slots.{slot_at, IsStep}
 use Rattle.cert_checker.proofs.Lists.{read_any}

@@ -1,4 +1,4 @@
-use Rattle.std.proofs.Common.{◌≡◌, IsTrue, false}
+use Rattle.std.proofs.Common.{IsTrue, false}
 use Rattle.cert_checker.proofs.LowSums.{has_sum, lacks_sum}
 use Rattle.cert_checker.proofs.sums.check_sum.Goals as goal
 

@@ -1,4 +1,4 @@
-use Rattle.std.proofs.Common.{◌≡◌, ◌<◌, length, slice_index_or, arith, ap, sym}
+use Rattle.std.proofs.Common.{length, slice_index_or, arith, ap, sym}
 use Rattle.std.proofs.lemmas.List.{length-map}
 use Rattle.fraction.specs.Frac.{ratio}
 use Rattle.evidence.specs.Cases.{Multiplier, multiplier_at, end_of, or_none}

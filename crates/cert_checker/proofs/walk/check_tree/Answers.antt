@@ -1,4 +1,4 @@
-use Rattle.std.proofs.Common.{◌≡◌, ◌+◌, ◌≤◌, ℕ, Option, Some, IfSome, [], ◌∷◌, length, drop, arith, refl, sym, ap, subst}
+use Rattle.std.proofs.Common.{◌+◌, ◌≤◌, ℕ, Option, Some, IfSome, [], ◌∷◌, drop, arith, sym, subst}
 use Rattle.std.proofs.lemmas.Result.{err_from_is_err_and}
 use Rattle.instance.specs.Program.{program}
 use Rattle.certificate.specs.Means as Means

@@ -1,4 +1,4 @@
-use Rattle.std.proofs.Common.{◌≡◌, ◌+◌, ◌≤◌, IfSome, [], ◌∷◌, length, drop}
+use Rattle.std.proofs.Common.{◌+◌, ◌≤◌, IfSome, [], ◌∷◌, length, drop}
 use Rattle.instance.specs.Program.{program}
 use Rattle.certificate.specs.Means as Means
 use Rattle.cert_checker.specs.Cuts as Of

@@ -1,6 +1,6 @@
 use mir.Val.{SFits, of_z, to_z}
 use mir.Syntax.{w128}
-use Rattle.std.proofs.Common.{rules, ◌≡◌, ℕ, ◌+◌, ℤ, pos, ◌+ℤ◌, Option, None, Some, List, ◌∷◌, refl, sym, ◌∙◌, ap, subst, inl, inr}
+use Rattle.std.proofs.Common.{rules, ◌≡◌, ◌+◌, ℤ, pos, ◌+ℤ◌, Some, ◌∷◌, refl, sym, subst}
 use Rattle.std.proofs.Math.Facts.{to_z-of_z}
 use Rattle.cert_checker.proofs.Sizes.{not_none}
 use Rattle.std.proofs.lemmas.Result.{err_from_is_err_and}
@@ -8,7 +8,7 @@ use Rattle.evidence.specs.Cases as Cases
 use Rattle.certificate.specs.Means as Means
 use Rattle.certificate.specs.declared.nodes.Node.{Node}
 use Rattle.cert_checker.specs.Cuts as Of
-use Rattle.cert_checker.specs.Trees.{Leads, TreeRefuses}
+use Rattle.cert_checker.specs.Trees.{Leads}
 use Rattle.cert_checker.proofs.Walks.{split_leads, clash_leads, farkas_node_leads, bound_node_leads, farkas_refused, bound_refused}
 use Rattle.cert_checker.proofs.walk.step.Goals.{in-Clash+in_ok-check_clash-in-Clash, in-Farkas+in_ok-check_leaf-in-Farkas, in-Bound+else-is_none+in_ok-check_leaf-in-Bound}
 use Rattle.cert_checker.proofs.walk.step.Goals as goal
