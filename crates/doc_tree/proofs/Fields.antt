@@ -2,108 +2,109 @@
 use Rattle.std.proofs.Common.{◌≡◌, ℕ, inl, inr, List, [], ◌∷◌, ◌++◌, refl}
 use Rattle.tree_grammar.specs.Characters.{IsSpace, Each, Some1}
 use Rattle.tree_grammar.specs.Tags.{IsQuote, Equals, equals_text}
-use Rattle.tree_grammar.specs.Declaration.{Version, version_text, Encoding, no_encoding, encoded, encoding_text, IsReadable, Standalone, no_standalone, standing, standalone_text}
+use Rattle.tree_grammar.specs.Declaration.{Version, version_text, Encoding, no_encoding, encoded, encoding_text, Standalone, no_standalone, standing, standalone_text}
 use Rattle.doc_tree.specs.Marks.{Mark}
-use Rattle.doc_tree.specs.Rests.{Word, Before, Ends, Or, Never, GapRest, Next1, Next2, Gap, FieldRest, FieldOver, FieldValue, IsFieldValue, field_name}
+use Rattle.doc_tree.specs.Rests.{Terms, IsEncodingRead, Word, Before, Ends, Or, Never, GapRest, Next1, Next2, Gap, FieldRest, FieldOver, FieldValue, IsFieldValue, field_name}
 use Rattle.doc_tree.specs.declared.declaration.Field.{Field}
 use Rattle.doc_tree.specs.declared.declaration.Field.TheVariants as fields
 use Rattle.doc_tree.proofs.Spans.{then_map}
 use Rattle.doc_tree.proofs.Tags.{equals_to, equals_of}
 
--- the end behind a field
-end_gap : (Next : List ℕ → List Mark → Type 0) (space : List ℕ) → Each IsSpace space → (y x : List ℕ) (es : List Mark) → x ≡ space ++ (63 ∷ 62 ∷ y) → Before y es → GapRest Next x es
-end_gap Next [] s y x es e a = inl (record { behind = y; text = e; after = a })
-end_gap Next (c ∷ cs) s y x es e a = inr (record { run = c ∷ cs; is = s; behind = 63 ∷ 62 ∷ y; text = e; after = inl (record { behind = y; text = refl; after = a }) })
-
 some_each : (space : List ℕ) → Some1 IsSpace space → Each IsSpace space
 some_each [] s = absurd s
 some_each (c ∷ cs) s = s
 
--- a field, with what stands in it
-module _ (field : Field) (G : List ℕ → List Mark → Type 0) where
-  field_to : (word : List ℕ) (e : Equals) (quote : ℕ) → IsQuote quote → (value : List ℕ) → IsFieldValue field value → (y x : List ℕ) (es : List Mark) → x ≡ word ++ equals_text e (quote ∷ (value ++ (quote ∷ y))) → G y es → Word word (FieldOver field G) x es
-  field_to word e quote i value v y x es t g = record { behind = equals_text e (quote ∷ (value ++ (quote ∷ y))); text = t; after = equals_to (FieldValue field G []) e quote i (value ++ (quote ∷ y)) (equals_text e (quote ∷ (value ++ (quote ∷ y)))) es refl (record { run = value; is = v; behind = quote ∷ y; text = refl; after = record { behind = y; text = refl; after = g } }) }
+module _ (u : Terms) where
+  -- the end behind a field
+  end_gap : (Next : List ℕ → List Mark → Type 0) (space : List ℕ) → Each IsSpace space → (y x : List ℕ) (es : List Mark) → x ≡ space ++ (63 ∷ 62 ∷ y) → Before u y es → GapRest u Next x es
+  end_gap Next [] s y x es e a = inl (record { behind = y; text = e; after = a })
+  end_gap Next (c ∷ cs) s y x es e a = inr (record { run = c ∷ cs; is = s; behind = 63 ∷ 62 ∷ y; text = e; after = inl (record { behind = y; text = refl; after = a }) })
 
-  field_of : (word x : List ℕ) (es : List Mark) → Word word (FieldOver field G) x es → (e : Equals) × (quote : ℕ) × IsQuote quote × (value : List ℕ) × IsFieldValue field value × (y : List ℕ) × (x ≡ word ++ equals_text e (quote ∷ (value ++ (quote ∷ y)))) × G y es
-  field_of word x es h =
-      let q = equals_of (FieldValue field G []) h.behind es h.after in
-      let v : FieldValue field G [] q.1 q.3 es = q.5 in
-      let w : Word (q.1 ∷ []) G v.behind es = v.after in
-      let e1 = h.text in let e2 = q.4 in let e3 = v.text in let e4 = w.text in
-      (q.0, q.1, q.2, v.run, v.is, w.behind, (cc), w.after)
+  -- a field, with what stands in it
+  module _ (field : Field) (G : List ℕ → List Mark → Type 0) where
+    field_to : (word : List ℕ) (e : Equals) (quote : ℕ) → IsQuote quote → (value : List ℕ) → IsFieldValue u.aim field value → (y x : List ℕ) (es : List Mark) → x ≡ word ++ equals_text e (quote ∷ (value ++ (quote ∷ y))) → G y es → Word word (FieldOver u field G) x es
+    field_to word e quote i value v y x es t g = record { behind = equals_text e (quote ∷ (value ++ (quote ∷ y))); text = t; after = equals_to (FieldValue u field G []) e quote i (value ++ (quote ∷ y)) (equals_text e (quote ∷ (value ++ (quote ∷ y)))) es refl (record { run = value; is = v; behind = quote ∷ y; text = refl; after = record { behind = y; text = refl; after = g } }) }
 
--- behind the encoding
-standalone_to : (s : Standalone) (space : List ℕ) → Each IsSpace space → (y x : List ℕ) (es : List Mark) → x ≡ standalone_text s (space ++ (63 ∷ 62 ∷ y)) → Before y es → GapRest Next2 x es
-standalone_to no_standalone space sp y x es t a = end_gap Next2 space sp y x es t a
-standalone_to (standing b p e quote i word w) space sp y x es t a = inr (record { run = b; is = p; behind = field_name fields.Standalone ++ equals_text e (quote ∷ (word ++ (quote ∷ (space ++ (63 ∷ 62 ∷ y))))); text = t; after = inr (field_to fields.Standalone (GapRest Never) (field_name fields.Standalone) e quote i word w (space ++ (63 ∷ 62 ∷ y)) (field_name fields.Standalone ++ equals_text e (quote ∷ (word ++ (quote ∷ (space ++ (63 ∷ 62 ∷ y)))))) es refl (end_gap Never space sp y (space ++ (63 ∷ 62 ∷ y)) es refl a)) })
+    field_of : (word x : List ℕ) (es : List Mark) → Word word (FieldOver u field G) x es → (e : Equals) × (quote : ℕ) × IsQuote quote × (value : List ℕ) × IsFieldValue u.aim field value × (y : List ℕ) × (x ≡ word ++ equals_text e (quote ∷ (value ++ (quote ∷ y)))) × G y es
+    field_of word x es h =
+        let q = equals_of (FieldValue u field G []) h.behind es h.after in
+        let v : FieldValue u field G [] q.1 q.3 es = q.5 in
+        let w : Word (q.1 ∷ []) G v.behind es = v.after in
+        let e1 = h.text in let e2 = q.4 in let e3 = v.text in let e4 = w.text in
+        (q.0, q.1, q.2, v.run, v.is, w.behind, (cc), w.after)
 
--- what ends the declaration
-pub record Over (x : List ℕ) (es : List Mark) : Type 0 where
-  pub space : List ℕ
-  pub spaced : Each IsSpace space
-  pub behind : List ℕ
-  pub text : x ≡ space ++ (63 ∷ 62 ∷ behind)
-  pub after : Before behind es
+  -- behind the encoding
+  standalone_to : (s : Standalone) (space : List ℕ) → Each IsSpace space → (y x : List ℕ) (es : List Mark) → x ≡ standalone_text s (space ++ (63 ∷ 62 ∷ y)) → Before u y es → GapRest u (Next2 u) x es
+  standalone_to no_standalone space sp y x es t a = end_gap (Next2 u) space sp y x es t a
+  standalone_to (standing b p e quote i word w) space sp y x es t a = inr (record { run = b; is = p; behind = field_name fields.Standalone ++ equals_text e (quote ∷ (word ++ (quote ∷ (space ++ (63 ∷ 62 ∷ y))))); text = t; after = inr (field_to fields.Standalone (GapRest u Never) (field_name fields.Standalone) e quote i word w (space ++ (63 ∷ 62 ∷ y)) (field_name fields.Standalone ++ equals_text e (quote ∷ (word ++ (quote ∷ (space ++ (63 ∷ 62 ∷ y)))))) es refl (end_gap Never space sp y (space ++ (63 ∷ 62 ∷ y)) es refl a)) })
 
-ends_over : (space : List ℕ) → Each IsSpace space → (y x : List ℕ) (es : List Mark) → x ≡ space ++ y → Ends y es → Over x es
-ends_over space s y x es e h = let e2 = h.text in record { space = space; spaced = s; behind = h.behind; text = cc; after = h.after }
+  -- what ends the declaration
+  pub record Over (x : List ℕ) (es : List Mark) : Type 0 where
+    pub space : List ℕ
+    pub spaced : Each IsSpace space
+    pub behind : List ℕ
+    pub text : x ≡ space ++ (63 ∷ 62 ∷ behind)
+    pub after : Before u behind es
 
-last_of : (x : List ℕ) (es : List Mark) → GapRest Never x es → Over x es
-last_of x es (inl h) = ends_over [] tt x x es refl h
-last_of x es (inr h) = elim h.after [ inl k ↦ ends_over h.run (some_each h.run h.is) h.behind x es h.text k | inr k ↦ absurd k ]
+  ends_over : (space : List ℕ) → Each IsSpace space → (y x : List ℕ) (es : List Mark) → x ≡ space ++ y → Ends u y es → Over x es
+  ends_over space s y x es e h = let e2 = h.text in record { space = space; spaced = s; behind = h.behind; text = cc; after = h.after }
 
-pub record Over2 (x : List ℕ) (es : List Mark) : Type 0 where
-  pub standalone : Standalone
-  pub rest : List ℕ
-  pub text : x ≡ standalone_text standalone rest
-  pub over : Over rest es
+  last_of : (x : List ℕ) (es : List Mark) → GapRest u Never x es → Over x es
+  last_of x es (inl h) = ends_over [] tt x x es refl h
+  last_of x es (inr h) = elim h.after [ inl k ↦ ends_over h.run (some_each h.run h.is) h.behind x es h.text k | inr k ↦ absurd k ]
 
-next2_of : (b : List ℕ) → Some1 IsSpace b → (y x : List ℕ) (es : List Mark) → x ≡ b ++ y → Next2 y es → Over2 x es
-next2_of b p y x es t h = let f = field_of fields.Standalone (GapRest Never) (field_name fields.Standalone) y es h in let e2 = f.6 in record { standalone = standing b p f.0 f.1 f.2 f.3 f.4; rest = f.5; text = cc; over = last_of f.5 es f.7 }
+  pub record Over2 (x : List ℕ) (es : List Mark) : Type 0 where
+    pub standalone : Standalone
+    pub rest : List ℕ
+    pub text : x ≡ standalone_text standalone rest
+    pub over : Over rest es
 
-standalone_of : (x : List ℕ) (es : List Mark) → GapRest Next2 x es → Over2 x es
-standalone_of x es (inl h) = record { standalone = no_standalone; rest = x; text = refl; over = ends_over [] tt x x es refl h }
-standalone_of x es (inr h) = elim h.after [ inl k ↦ record { standalone = no_standalone; rest = x; text = refl; over = ends_over h.run (some_each h.run h.is) h.behind x es h.text k } | inr k ↦ next2_of h.run h.is h.behind x es h.text k ]
+  next2_of : (b : List ℕ) → Some1 IsSpace b → (y x : List ℕ) (es : List Mark) → x ≡ b ++ y → Next2 u y es → Over2 x es
+  next2_of b p y x es t h = let f = field_of fields.Standalone (GapRest u Never) (field_name fields.Standalone) y es h in let e2 = f.6 in record { standalone = standing b p f.0 f.1 f.2 f.3 f.4; rest = f.5; text = cc; over = last_of f.5 es f.7 }
 
--- behind the version
-widen_or : (x : List ℕ) (es : List Mark) → Or Ends Next2 x es → Or Ends Next1 x es
-widen_or x es (inl h) = inl h
-widen_or x es (inr h) = inr (inr h)
+  standalone_of : (x : List ℕ) (es : List Mark) → GapRest u (Next2 u) x es → Over2 x es
+  standalone_of x es (inl h) = record { standalone = no_standalone; rest = x; text = refl; over = ends_over [] tt x x es refl h }
+  standalone_of x es (inr h) = elim h.after [ inl k ↦ record { standalone = no_standalone; rest = x; text = refl; over = ends_over h.run (some_each h.run h.is) h.behind x es h.text k } | inr k ↦ next2_of h.run h.is h.behind x es h.text k ]
 
-widen : (x : List ℕ) (es : List Mark) → GapRest Next2 x es → GapRest Next1 x es
-widen x es (inl h) = inl h
-widen x es (inr h) = inr (then_map (Some1 IsSpace) (Some1 IsSpace) (λ _. Or Ends Next2) (λ _. Or Ends Next1) (λ run i. i) (λ run y fs k. widen_or y fs k) x es h)
+  -- behind the version
+  widen_or : (x : List ℕ) (es : List Mark) → Or (Ends u) (Next2 u) x es → Or (Ends u) (Next1 u) x es
+  widen_or x es (inl h) = inl h
+  widen_or x es (inr h) = inr (inr h)
 
-encoding_to : (n : Encoding) → IsReadable n → (s : Standalone) (space : List ℕ) → Each IsSpace space → (y x : List ℕ) (es : List Mark) → x ≡ encoding_text n (standalone_text s (space ++ (63 ∷ 62 ∷ y))) → Before y es → GapRest Next1 x es
-encoding_to no_encoding f s space sp y x es t a = widen x es (standalone_to s space sp y x es t a)
-encoding_to (encoded b p e quote i name n) f s space sp y x es t a = let r = standalone_text s (space ++ (63 ∷ 62 ∷ y)) in inr (record { run = b; is = p; behind = field_name fields.Encoding ++ equals_text e (quote ∷ (name ++ (quote ∷ r))); text = t; after = inr (inl (field_to fields.Encoding (GapRest Next2) (field_name fields.Encoding) e quote i name (n, f) r (field_name fields.Encoding ++ equals_text e (quote ∷ (name ++ (quote ∷ r)))) es refl (standalone_to s space sp y r es refl a))) })
+  widen : (x : List ℕ) (es : List Mark) → GapRest u (Next2 u) x es → GapRest u (Next1 u) x es
+  widen x es (inl h) = inl h
+  widen x es (inr h) = inr (then_map (Some1 IsSpace) (Some1 IsSpace) (λ _. Or (Ends u) (Next2 u)) (λ _. Or (Ends u) (Next1 u)) (λ run i. i) (λ run y fs k. widen_or y fs k) x es h)
 
-pub record Over1 (x : List ℕ) (es : List Mark) : Type 0 where
-  pub encoding : Encoding
-  pub readable : IsReadable encoding
-  pub rest : List ℕ
-  pub text : x ≡ encoding_text encoding rest
-  pub over : Over2 rest es
+  encoding_to : (n : Encoding) → IsEncodingRead u.aim n → (s : Standalone) (space : List ℕ) → Each IsSpace space → (y x : List ℕ) (es : List Mark) → x ≡ encoding_text n (standalone_text s (space ++ (63 ∷ 62 ∷ y))) → Before u y es → GapRest u (Next1 u) x es
+  encoding_to no_encoding f s space sp y x es t a = widen x es (standalone_to s space sp y x es t a)
+  encoding_to (encoded b p e quote i name n) f s space sp y x es t a = let r = standalone_text s (space ++ (63 ∷ 62 ∷ y)) in inr (record { run = b; is = p; behind = field_name fields.Encoding ++ equals_text e (quote ∷ (name ++ (quote ∷ r))); text = t; after = inr (inl (field_to fields.Encoding (GapRest u (Next2 u)) (field_name fields.Encoding) e quote i name (n, f) r (field_name fields.Encoding ++ equals_text e (quote ∷ (name ++ (quote ∷ r)))) es refl (standalone_to s space sp y r es refl a))) })
 
-next1_of : (b : List ℕ) → Some1 IsSpace b → (y x : List ℕ) (es : List Mark) → x ≡ b ++ y → Next1 y es → Over1 x es
-next1_of b p y x es t (inl h) = let f = field_of fields.Encoding (GapRest Next2) (field_name fields.Encoding) y es h in let e2 = f.6 in record { encoding = encoded b p f.0 f.1 f.2 f.3 f.4.0; readable = f.4.1; rest = f.5; text = cc; over = standalone_of f.5 es f.7 }
-next1_of b p y x es t (inr h) = record { encoding = no_encoding; readable = tt; rest = x; text = refl; over = next2_of b p y x es t h }
+  pub record Over1 (x : List ℕ) (es : List Mark) : Type 0 where
+    pub encoding : Encoding
+    pub readable : IsEncodingRead u.aim encoding
+    pub rest : List ℕ
+    pub text : x ≡ encoding_text encoding rest
+    pub over : Over2 rest es
 
-encoding_of : (x : List ℕ) (es : List Mark) → GapRest Next1 x es → Over1 x es
-encoding_of x es (inl h) = record { encoding = no_encoding; readable = tt; rest = x; text = refl; over = standalone_of x es (inl h) }
-encoding_of x es (inr h) = elim h.after [ inl k ↦ record { encoding = no_encoding; readable = tt; rest = x; text = refl; over = standalone_of x es (inr (record { run = h.run; is = h.is; behind = h.behind; text = h.text; after = inl k })) } | inr k ↦ next1_of h.run h.is h.behind x es h.text k ]
+  next1_of : (b : List ℕ) → Some1 IsSpace b → (y x : List ℕ) (es : List Mark) → x ≡ b ++ y → Next1 u y es → Over1 x es
+  next1_of b p y x es t (inl h) = let f = field_of fields.Encoding (GapRest u (Next2 u)) (field_name fields.Encoding) y es h in let e2 = f.6 in record { encoding = encoded b p f.0 f.1 f.2 f.3 f.4.0; readable = f.4.1; rest = f.5; text = cc; over = standalone_of f.5 es f.7 }
+  next1_of b p y x es t (inr h) = record { encoding = no_encoding; readable = tt; rest = x; text = refl; over = next2_of b p y x es t h }
 
--- behind `<?xml`
-pub gap_to : (v : Version) (n : Encoding) (s : Standalone) (space : List ℕ) → Each IsSpace space → IsReadable n → (y x : List ℕ) (es : List Mark) → x ≡ version_text v (encoding_text n (standalone_text s (space ++ (63 ∷ 62 ∷ y)))) → Before y es → Gap fields.Before x es
-gap_to v n s space sp f y x es t a = let r = encoding_text n (standalone_text s (space ++ (63 ∷ 62 ∷ y))) in inr (record { run = v.space; is = v.spaced; behind = field_name fields.Version ++ equals_text v.equals (v.quote ∷ 49 ∷ 46 ∷ (v.digits ++ (v.quote ∷ r))); text = t; after = inr (field_to fields.Version (GapRest Next1) (field_name fields.Version) v.equals v.quote v.quoted (49 ∷ 46 ∷ v.digits) (v.digits, refl, v.numbered) r (field_name fields.Version ++ equals_text v.equals (v.quote ∷ 49 ∷ 46 ∷ (v.digits ++ (v.quote ∷ r)))) es refl (encoding_to n f s space sp y r es refl a)) })
+  encoding_of : (x : List ℕ) (es : List Mark) → GapRest u (Next1 u) x es → Over1 x es
+  encoding_of x es (inl h) = record { encoding = no_encoding; readable = tt; rest = x; text = refl; over = standalone_of x es (inl h) }
+  encoding_of x es (inr h) = elim h.after [ inl k ↦ record { encoding = no_encoding; readable = tt; rest = x; text = refl; over = standalone_of x es (inr (record { run = h.run; is = h.is; behind = h.behind; text = h.text; after = inl k })) } | inr k ↦ next1_of h.run h.is h.behind x es h.text k ]
 
-version_of : (b : List ℕ) → Some1 IsSpace b → (y x : List ℕ) (es : List Mark) → x ≡ b ++ y → FieldRest fields.Version (GapRest Next1) y es → (v : Version) × (n : Encoding) × (s : Standalone) × (space : List ℕ) × Each IsSpace space × (z : List ℕ) × (x ≡ version_text v (encoding_text n (standalone_text s (space ++ (63 ∷ 62 ∷ z))))) × IsReadable n × Before z es
-version_of b p y x es t h =
-    let f = field_of fields.Version (GapRest Next1) (field_name fields.Version) y es h in
-    let o = encoding_of f.5 es f.7 in let s = o.over in let l = s.over in
-    let e1 = f.6 in let e2 = o.text in let e3 = s.text in let e4 = l.text in let e5 = f.4.1 in
-    (record { space = b; spaced = p; equals = f.0; quote = f.1; quoted = f.2; digits = f.4.0; numbered = f.4.2 }, o.encoding, s.standalone, l.space, l.spaced, l.behind, (cc), o.readable, l.after)
+  -- behind `<?xml`
+  pub gap_to : (v : Version) (n : Encoding) (s : Standalone) (space : List ℕ) → Each IsSpace space → IsEncodingRead u.aim n → (y x : List ℕ) (es : List Mark) → x ≡ version_text v (encoding_text n (standalone_text s (space ++ (63 ∷ 62 ∷ y)))) → Before u y es → Gap fields.Before u x es
+  gap_to v n s space sp f y x es t a = let r = encoding_text n (standalone_text s (space ++ (63 ∷ 62 ∷ y))) in inr (record { run = v.space; is = v.spaced; behind = field_name fields.Version ++ equals_text v.equals (v.quote ∷ 49 ∷ 46 ∷ (v.digits ++ (v.quote ∷ r))); text = t; after = inr (field_to fields.Version (GapRest u (Next1 u)) (field_name fields.Version) v.equals v.quote v.quoted (49 ∷ 46 ∷ v.digits) (v.digits, refl, v.numbered) r (field_name fields.Version ++ equals_text v.equals (v.quote ∷ 49 ∷ 46 ∷ (v.digits ++ (v.quote ∷ r)))) es refl (encoding_to n f s space sp y r es refl a)) })
 
-pub gap_of : (x : List ℕ) (es : List Mark) → Gap fields.Before x es → (v : Version) × (n : Encoding) × (s : Standalone) × (space : List ℕ) × Each IsSpace space × (y : List ℕ) × (x ≡ version_text v (encoding_text n (standalone_text s (space ++ (63 ∷ 62 ∷ y))))) × IsReadable n × Before y es
-gap_of x es (inl h) = absurd h
-gap_of x es (inr h) = elim h.after [ inl k ↦ absurd k | inr k ↦ version_of h.run h.is h.behind x es h.text k ]
+  version_of : (b : List ℕ) → Some1 IsSpace b → (y x : List ℕ) (es : List Mark) → x ≡ b ++ y → FieldRest u fields.Version (GapRest u (Next1 u)) y es → (v : Version) × (n : Encoding) × (s : Standalone) × (space : List ℕ) × Each IsSpace space × (z : List ℕ) × (x ≡ version_text v (encoding_text n (standalone_text s (space ++ (63 ∷ 62 ∷ z))))) × IsEncodingRead u.aim n × Before u z es
+  version_of b p y x es t h =
+      let f = field_of fields.Version (GapRest u (Next1 u)) (field_name fields.Version) y es h in
+      let o = encoding_of f.5 es f.7 in let s = o.over in let l = s.over in
+      let e1 = f.6 in let e2 = o.text in let e3 = s.text in let e4 = l.text in let e5 = f.4.1 in
+      (record { space = b; spaced = p; equals = f.0; quote = f.1; quoted = f.2; digits = f.4.0; numbered = f.4.2 }, o.encoding, s.standalone, l.space, l.spaced, l.behind, (cc), o.readable, l.after)
+
+  pub gap_of : (x : List ℕ) (es : List Mark) → Gap fields.Before u x es → (v : Version) × (n : Encoding) × (s : Standalone) × (space : List ℕ) × Each IsSpace space × (y : List ℕ) × (x ≡ version_text v (encoding_text n (standalone_text s (space ++ (63 ∷ 62 ∷ y))))) × IsEncodingRead u.aim n × Before u y es
+  gap_of x es (inl h) = absurd h
+  gap_of x es (inr h) = elim h.after [ inl k ↦ absurd k | inr k ↦ version_of h.run h.is h.behind x es h.text k ]

@@ -4,7 +4,7 @@ use Rattle.std.proofs.lemmas.List.{append-nil}
 use Rattle.tree_grammar.specs.Characters.{IsSpace, IsQName, IsQNameRest, IsNameStart}
 use Rattle.tree_grammar.specs.Tags.{IsQuote}
 use Rattle.doc_tree.specs.Marks.{Mark}
-use Rattle.doc_tree.specs.Rests.{Then, Word, Quoted, QuoteRest, EqualsRest, TagRest, BodyRest, AttributeValue, TagFirst, Between, room_in, IsPart}
+use Rattle.doc_tree.specs.Rests.{Terms, Then, Word, Quoted, QuoteRest, EqualsRest, TagRest, BodyRest, AttributeValue, TagFirst, Between, room_in, IsPart}
 use Rattle.doc_tree.specs.declared.names.Part.{Part}
 use Rattle.doc_tree.specs.declared.names.Part.TheVariants as parts
 use Rattle.doc_tree.specs.Completes.{State, InTag, InKey, TagChoice}
@@ -62,37 +62,38 @@ qname_first L b r es s = (
 pub qname_stuck : (L : List ℕ → List ℕ → List Mark → Type 0) (b : ℕ) (r : List ℕ) (es : List Mark) → (IsNameStart b → ⊥) → Then IsQName L (b ∷ r) es → ⊥
 qname_stuck L b r es n h = (then_over IsQName L b r es (λ run i. n i.0) h).0
 
-pub tag_high : (s : State) (b : ℕ) (m x : List ℕ) (es : List Mark) → IsHigh b → InTag s m (b ∷ x) es → ⊥
-tag_high s b m x es i h = let k = body_begins (room_in s.names - 1) m s.kept (Between 0 s.names) b x es ((tag_plain (record s { name = m }) b x es (high_not_space b i)).0 h) in grind arith
+module _ (u : Terms) where
+  pub tag_high : (s : State) (b : ℕ) (m x : List ℕ) (es : List Mark) → IsHigh b → InTag s m u (b ∷ x) es → ⊥
+  tag_high s b m x es i h = let k = body_begins (room_in u s.names - 1) m s.kept (Between 0 s.names u) b x es ((tag_plain u (record s { name = m }) b x es (high_not_space b i)).0 h) in grind arith
 
-pub key_high : (s : State) (b : ℕ) (m x : List ℕ) (es : List Mark) → IsHigh b → InKey s m (b ∷ x) es → ⊥
-key_high s b m x es i h = equals_stuck (λ quote. AttributeValue (room_in s.names - 1) s.name s.keys s.kept (Between 0 s.names) m quote []) b x es (high_not_space b i) (λ e. grind arith) h.over
+  pub key_high : (s : State) (b : ℕ) (m x : List ℕ) (es : List Mark) → IsHigh b → InKey s u m (b ∷ x) es → ⊥
+  key_high s b m x es i h = equals_stuck (λ quote. AttributeValue (room_in u s.names - 1) s.name s.keys s.kept (Between 0 s.names u) m quote []) b x es (high_not_space b i) (λ e. grind arith) h.over
 
--- an attribute begins, or the tag ends
-choice_to : (s : State) (b : ℕ) (r : List ℕ) (es : List Mark) → IsNameStart b → TagChoice s (b ∷ r) es → Then (IsPart parts.First) (λ run. InKey s (b ∷ run)) r es
-choice_to s b r es i (inl h) = let l = start_high b i in elim (body_begins (room_in s.names - 1) s.name s.kept (Between 0 s.names) b r es h) [ inl e ↦ absurd (omega arith) | inr e ↦ absurd (omega arith) ]
-choice_to s b r es i (inr h) = (qname_first (InKey s) b r es i).0 h
+  -- an attribute begins, or the tag ends
+  choice_to : (s : State) (b : ℕ) (r : List ℕ) (es : List Mark) → IsNameStart b → TagChoice s u (b ∷ r) es → Then (IsPart parts.First) (λ run. InKey s u (b ∷ run)) r es
+  choice_to s b r es i (inl h) = let l = start_high b i in elim (body_begins (room_in u s.names - 1) s.name s.kept (Between 0 s.names u) b r es h) [ inl e ↦ absurd (omega arith) | inr e ↦ absurd (omega arith) ]
+  choice_to s b r es i (inr h) = (qname_first (InKey s u) b r es i).0 h
 
-ends_to : (s : State) (b : ℕ) (r : List ℕ) (es : List Mark) → (IsNameStart b → ⊥) → TagChoice s (b ∷ r) es → BodyRest (room_in s.names - 1) s.name s.kept (Between 0 s.names) (b ∷ r) es
-ends_to s b r es n (inl h) = h
-ends_to s b r es n (inr h) = absurd (qname_stuck (InKey s) b r es n h)
+  ends_to : (s : State) (b : ℕ) (r : List ℕ) (es : List Mark) → (IsNameStart b → ⊥) → TagChoice s u (b ∷ r) es → BodyRest (room_in u s.names - 1) s.name s.kept (Between 0 s.names u) (b ∷ r) es
+  ends_to s b r es n (inl h) = h
+  ends_to s b r es n (inr h) = absurd (qname_stuck (InKey s u) b r es n h)
 
-no_space : (s : State) (b : ℕ) (r : List ℕ) (es : List Mark) → IsSpace b → TagChoice s (b ∷ r) es → ⊥
-no_space s b r es i (inl h) = body_space (room_in s.names - 1) s.name s.kept (Between 0 s.names) b r es i h
-no_space s b r es i (inr h) = qname_stuck (InKey s) b r es (λ q. let l = start_high b q in let k = space_low b i in omega arith) h
+  no_space : (s : State) (b : ℕ) (r : List ℕ) (es : List Mark) → IsSpace b → TagChoice s u (b ∷ r) es → ⊥
+  no_space s b r es i (inl h) = body_space (room_in u s.names - 1) s.name s.kept (Between 0 s.names u) b r es i h
+  no_space s b r es i (inr h) = qname_stuck (InKey s u) b r es (λ q. let l = start_high b q in let k = space_low b i in omega arith) h
 
-pub choice_key : (s : State) (b : ℕ) (r : List ℕ) (es : List Mark) → IsNameStart b → TagChoice s (b ∷ r) es ↔ Then (IsPart parts.First) (λ run. InKey s (b ∷ run)) r es
-choice_key s b r es i = (choice_to s b r es i, λ h. inr ((qname_first (InKey s) b r es i).1 h))
+  pub choice_key : (s : State) (b : ℕ) (r : List ℕ) (es : List Mark) → IsNameStart b → TagChoice s u (b ∷ r) es ↔ Then (IsPart parts.First) (λ run. InKey s u (b ∷ run)) r es
+  choice_key s b r es i = (choice_to s b r es i, λ h. inr ((qname_first (InKey s u) b r es i).1 h))
 
-pub choice_ends : (s : State) (b : ℕ) (r : List ℕ) (es : List Mark) → (IsNameStart b → ⊥) → TagChoice s (b ∷ r) es ↔ BodyRest (room_in s.names - 1) s.name s.kept (Between 0 s.names) (b ∷ r) es
-choice_ends s b r es n = (ends_to s b r es n, λ h. inl h)
+  pub choice_ends : (s : State) (b : ℕ) (r : List ℕ) (es : List Mark) → (IsNameStart b → ⊥) → TagChoice s u (b ∷ r) es ↔ BodyRest (room_in u s.names - 1) s.name s.kept (Between 0 s.names u) (b ∷ r) es
+  choice_ends s b r es n = (ends_to s b r es n, λ h. inl h)
 
-pub choice_space : (s : State) (b : ℕ) (r : List ℕ) (es : List Mark) → IsSpace b → TagChoice s (b ∷ r) es → ⊥
-choice_space s b r es i h = no_space s b r es i h
+  pub choice_space : (s : State) (b : ℕ) (r : List ℕ) (es : List Mark) → IsSpace b → TagChoice s u (b ∷ r) es → ⊥
+  choice_space s b r es i h = no_space s b r es i h
 
--- an element begins
-pub first_tag : (names : List (List ℕ)) (b : ℕ) (r : List ℕ) (es : List Mark) → IsNameStart b → 1 ≤ room_in names → TagFirst names (b ∷ r) es ↔ Then (IsPart parts.First) (λ run. TagRest (room_in names - 1) (b ∷ run) [] [] (Between 0 names)) r es
-first_tag names b r es i l = let q = qname_first (λ name. TagRest (room_in names - 1) name [] [] (Between 0 names)) b r es i in (λ h. q.0 h.rest, λ h. record { room = l; rest = q.1 h })
+  -- an element begins
+  pub first_tag : (names : List (List ℕ)) (b : ℕ) (r : List ℕ) (es : List Mark) → IsNameStart b → 1 ≤ room_in u names → TagFirst names u (b ∷ r) es ↔ Then (IsPart parts.First) (λ run. TagRest (room_in u names - 1) (b ∷ run) [] [] (Between 0 names u)) r es
+  first_tag names b r es i l = let q = qname_first (λ name. TagRest (room_in u names - 1) name [] [] (Between 0 names u)) b r es i in (λ h. q.0 h.rest, λ h. record { room = l; rest = q.1 h })
 
-pub first_stuck : (names : List (List ℕ)) (b : ℕ) (r : List ℕ) (es : List Mark) → (IsNameStart b → ⊥) → TagFirst names (b ∷ r) es → ⊥
-first_stuck names b r es n h = qname_stuck (λ name. TagRest (room_in names - 1) name [] [] (Between 0 names)) b r es n h.rest
+  pub first_stuck : (names : List (List ℕ)) (b : ℕ) (r : List ℕ) (es : List Mark) → (IsNameStart b → ⊥) → TagFirst names u (b ∷ r) es → ⊥
+  first_stuck names b r es n h = qname_stuck (λ name. TagRest (room_in u names - 1) name [] [] (Between 0 names u)) b r es n h.rest

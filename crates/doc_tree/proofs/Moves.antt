@@ -1,101 +1,98 @@
 -- What a step owes, from what completes it before and after.
 use Rattle.std.proofs.Common.{◌≡◌, ◌≢◌, ℕ, ◌↔◌, List, [], ◌∷◌, ◌++◌, refl, ap, sym, subst, ◌∙◌, append_assoc}
 use Rattle.doc_tree.specs.Marks.{Mark}
-use Rattle.doc_tree.specs.Rests.{Word, Saying}
+use Rattle.doc_tree.specs.Rests.{Terms, Word, Saying}
 use Rattle.doc_tree.specs.declared.machine.Goal.{Goal}
 use Rattle.doc_tree.specs.declared.machine.Place.{Place}
 use Rattle.doc_tree.specs.declared.machine.Place.TheVariants as places
-use Rattle.doc_tree.specs.Completes.{State, Rests, Reaches, Goes, Good, GoodGoal, Follows, Stuck, Reached}
-
--- Both complete the same, behind this byte.
-abbrev pub Same : (List ℕ → List Mark → Type 0) → (List ℕ → List Mark → Type 0) → Type 0
-Same A B = (x : List ℕ) (es : List Mark) → A x es ↔ B x es
+use Rattle.doc_tree.specs.Completes.{State, Rests, Reaches, Goes, Good, GoodGoal, IsAllowed, Follows, Stuck, Reached}
 
 module _ (before : List Mark) (A B : List ℕ → List Mark → Type 0) where
   pub goes_map : (x y : List ℕ) (says : List Mark) → ((es : List Mark) → A x es → B y es) → Goes before A x says → Goes before B y says
   goes_map x y says f h = record { later = h.later; whole = h.whole; rest = f h.later h.rest }
 
+module _ (before : List Mark) (A B : Terms → List ℕ → List Mark → Type 0) where
   -- a tail call
-  pub follows_from : (b : ℕ) (new : State) → ((x : List ℕ) (es : List Mark) → A (b ∷ x) es ↔ B (b ∷ x) es) → Follows before B b new → Follows before A b new
+  pub follows_from : (b : ℕ) (new : State) → ((t : Terms) → IsAllowed t → (x : List ℕ) (es : List Mark) → A t (b ∷ x) es ↔ B t (b ∷ x) es) → Follows before B b new → Follows before A b new
   follows_from b new f h = record {
     good = h.good;
-    same = λ x says. (
-      λ g. (h.same x says).0 (goes_map (b ∷ x) (b ∷ x) says (λ es. (f x es).0) g),
-      λ g. let k : Goes before B (b ∷ x) says = (h.same x says).1 g in record { later = k.later; whole = k.whole; rest = (f x k.later).1 k.rest },
+    same = λ t l x says. (
+      λ g. (h.same t l x says).0 (goes_map before (A t) (B t) (b ∷ x) (b ∷ x) says (λ es. (f t l x es).0) g),
+      λ g. let k : Goes before (B t) (b ∷ x) says = (h.same t l x says).1 g in record { later = k.later; whole = k.whole; rest = (f t l x k.later).1 k.rest },
     );
   }
 
-  pub stuck_from : (b : ℕ) → ((x : List ℕ) (es : List Mark) → A (b ∷ x) es → B (b ∷ x) es) → Stuck B b → Stuck A b
-  stuck_from b f s = λ x es h. s x es (f x es h)
+  pub stuck_from : (b : ℕ) → ((t : Terms) → IsAllowed t → (x : List ℕ) (es : List Mark) → A t (b ∷ x) es → B t (b ∷ x) es) → Stuck B b → Stuck A b
+  stuck_from b f s = λ t l x es h. s t l x es (f t l x es h)
 
   -- a byte before what is reached
-  pub follows_reached : (b : ℕ) (new : State) → ((x : List ℕ) (es : List Mark) → A (b ∷ x) es ↔ B x es) → Reached before B new → Follows before A b new
+  pub follows_reached : (b : ℕ) (new : State) → ((t : Terms) → IsAllowed t → (x : List ℕ) (es : List Mark) → A t (b ∷ x) es ↔ B t x es) → Reached before B new → Follows before A b new
   follows_reached b new f h = record {
     good = h.good;
-    same = λ x says. (
-      λ g. (h.same x says).0 (goes_map (b ∷ x) x says (λ es. (f x es).0) g),
-      λ g. let k : Goes before B x says = (h.same x says).1 g in record { later = k.later; whole = k.whole; rest = (f x k.later).1 k.rest },
+    same = λ t l x says. (
+      λ g. (h.same t l x says).0 (goes_map before (A t) (B t) (b ∷ x) x says (λ es. (f t l x es).0) g),
+      λ g. let k : Goes before (B t) x says = (h.same t l x says).1 g in record { later = k.later; whole = k.whole; rest = (f t l x k.later).1 k.rest },
     );
   }
 
-  pub reached_from : (new : State) → ((x : List ℕ) (es : List Mark) → A x es ↔ B x es) → Reached before B new → Reached before A new
+  pub reached_from : (new : State) → ((t : Terms) → IsAllowed t → (x : List ℕ) (es : List Mark) → A t x es ↔ B t x es) → Reached before B new → Reached before A new
   reached_from new f h = record {
     good = h.good;
-    same = λ x says. (
-      λ g. (h.same x says).0 (goes_map x x says (λ es. (f x es).0) g),
-      λ g. let k : Goes before B x says = (h.same x says).1 g in record { later = k.later; whole = k.whole; rest = (f x k.later).1 k.rest },
+    same = λ t l x says. (
+      λ g. (h.same t l x says).0 (goes_map before (A t) (B t) x x says (λ es. (f t l x es).0) g),
+      λ g. let k : Goes before (B t) x says = (h.same t l x says).1 g in record { later = k.later; whole = k.whole; rest = (f t l x k.later).1 k.rest },
     );
   }
 
-module _ (before : List Mark) (A : List ℕ → List Mark → Type 0) where
+module _ (before : List Mark) (A : Terms → List ℕ → List Mark → Type 0) where
   -- a byte that says nothing
-  pub moves : (b : ℕ) (new : State) → before ≡ new.marks → Good new.place new → ((x : List ℕ) (es : List Mark) → A (b ∷ x) es ↔ Rests new.place new x es) → Follows before A b new
+  pub moves : (b : ℕ) (new : State) → before ≡ new.marks → Good new.place new → ((t : Terms) → IsAllowed t → (x : List ℕ) (es : List Mark) → A t (b ∷ x) es ↔ Rests new.place new t x es) → Follows before A b new
   moves b new e good f = record {
     good = good;
-    same = λ x says. (
-      λ g. record { later = g.later; whole = g.whole ∙ ap (λ z. z ++ g.later) e; rest = (f x g.later).0 g.rest },
-      λ g. record { later = g.later; whole = g.whole ∙ ap (λ z. z ++ g.later) (sym e); rest = (f x g.later).1 g.rest },
+    same = λ t l x says. (
+      λ g. record { later = g.later; whole = g.whole ∙ ap (λ z. z ++ g.later) e; rest = (f t l x g.later).0 g.rest },
+      λ g. record { later = g.later; whole = g.whole ∙ ap (λ z. z ++ g.later) (sym e); rest = (f t l x g.later).1 g.rest },
     );
   }
 
   -- the same where the place is known by an equation
-  pub moves_at : (b : ℕ) (new : State) (p : Place) → new.place ≡ p → before ≡ new.marks → Good p new → ((x : List ℕ) (es : List Mark) → A (b ∷ x) es ↔ Rests p new x es) → Follows before A b new
-  moves_at b new p e m good f = moves b new m (subst (λ z. Good z new) (sym e) good) (subst (λ z. (x : List ℕ) (es : List Mark) → A (b ∷ x) es ↔ Rests z new x es) (sym e) f)
+  pub moves_at : (b : ℕ) (new : State) (p : Place) → new.place ≡ p → before ≡ new.marks → Good p new → ((t : Terms) → IsAllowed t → (x : List ℕ) (es : List Mark) → A t (b ∷ x) es ↔ Rests p new t x es) → Follows before A b new
+  moves_at b new p e m good f = moves b new m (subst (λ z. Good z new) (sym e) good) (subst (λ z. (t : Terms) → IsAllowed t → (x : List ℕ) (es : List Mark) → A t (b ∷ x) es ↔ Rests z new t x es) (sym e) f)
 
   -- before a fixed text
-  pub moves_word : (b : ℕ) (s : State) (goal : Goal) (word : List ℕ) (new : State) → new ≡ record s { place = places.Word; left = word; goal = goal } → before ≡ s.marks → word ≢ [] → GoodGoal goal (record s { place = places.Word; left = word; goal = goal }) → ((x : List ℕ) (es : List Mark) → A (b ∷ x) es ↔ Word word (Reaches goal (record s { place = places.Word; left = word; goal = goal })) x es) → Follows before A b new
+  pub moves_word : (b : ℕ) (s : State) (goal : Goal) (word : List ℕ) (new : State) → new ≡ record s { place = places.Word; left = word; goal = goal } → before ≡ s.marks → word ≢ [] → GoodGoal goal (record s { place = places.Word; left = word; goal = goal }) → ((t : Terms) → IsAllowed t → (x : List ℕ) (es : List Mark) → A t (b ∷ x) es ↔ Word word (Reaches goal (record s { place = places.Word; left = word; goal = goal }) t) x es) → Follows before A b new
   moves_word b s goal word new e m n good f = subst (λ z. Follows before A b z) (sym e) (moves b (record s { place = places.Word; left = word; goal = goal }) m (n, good) f)
 
   -- nothing is read or said
-  pub stays : (new : State) → before ≡ new.marks → Good new.place new → ((x : List ℕ) (es : List Mark) → A x es ↔ Rests new.place new x es) → Reached before A new
+  pub stays : (new : State) → before ≡ new.marks → Good new.place new → ((t : Terms) → IsAllowed t → (x : List ℕ) (es : List Mark) → A t x es ↔ Rests new.place new t x es) → Reached before A new
   stays new e good f = record {
     good = good;
-    same = λ x says. (
-      λ g. record { later = g.later; whole = g.whole ∙ ap (λ z. z ++ g.later) e; rest = (f x g.later).0 g.rest },
-      λ g. record { later = g.later; whole = g.whole ∙ ap (λ z. z ++ g.later) (sym e); rest = (f x g.later).1 g.rest },
+    same = λ t l x says. (
+      λ g. record { later = g.later; whole = g.whole ∙ ap (λ z. z ++ g.later) e; rest = (f t l x g.later).0 g.rest },
+      λ g. record { later = g.later; whole = g.whole ∙ ap (λ z. z ++ g.later) (sym e); rest = (f t l x g.later).1 g.rest },
     );
   }
 
-module _ (before said : List Mark) (A B : List ℕ → List Mark → Type 0) where
+module _ (before said : List Mark) (A B : Terms → List ℕ → List Mark → Type 0) where
   -- marks are said, and then K goes on
-  pub reached_saying : (new : State) → ((x : List ℕ) (es : List Mark) → A x es ↔ Saying said B x es) → Reached (before ++ said) B new → Reached before A new
+  pub reached_saying : (new : State) → ((t : Terms) → IsAllowed t → (x : List ℕ) (es : List Mark) → A t x es ↔ Saying said (B t) x es) → Reached (before ++ said) B new → Reached before A new
   reached_saying new f h = record {
     good = h.good;
-    same = λ x says. (
-      λ g. let k : Saying said B x g.later = (f x g.later).0 g.rest in (h.same x says).0 (record { later = k.later; whole = g.whole ∙ ap (λ z. before ++ z) k.says ∙ sym (append_assoc before said k.later); rest = k.after }),
-      λ g. let k : Goes (before ++ said) B x says = (h.same x says).1 g in record { later = said ++ k.later; whole = k.whole ∙ append_assoc before said k.later; rest = (f x (said ++ k.later)).1 (record { later = k.later; says = refl; after = k.rest }) },
+    same = λ t l x says. (
+      λ g. let k : Saying said (B t) x g.later = (f t l x g.later).0 g.rest in (h.same t l x says).0 (record { later = k.later; whole = g.whole ∙ ap (λ z. before ++ z) k.says ∙ sym (append_assoc before said k.later); rest = k.after }),
+      λ g. let k : Goes (before ++ said) (B t) x says = (h.same t l x says).1 g in record { later = said ++ k.later; whole = k.whole ∙ append_assoc before said k.later; rest = (f t l x (said ++ k.later)).1 (record { later = k.later; says = refl; after = k.rest }) },
     );
   }
 
-  pub follows_saying : (b : ℕ) (new : State) → ((x : List ℕ) (es : List Mark) → A (b ∷ x) es ↔ Saying said B x es) → Reached (before ++ said) B new → Follows before A b new
+  pub follows_saying : (b : ℕ) (new : State) → ((t : Terms) → IsAllowed t → (x : List ℕ) (es : List Mark) → A t (b ∷ x) es ↔ Saying said (B t) x es) → Reached (before ++ said) B new → Follows before A b new
   follows_saying b new f h = let r = reached_saying new in record {
     good = h.good;
-    same = λ x says. (
-      λ g. let k : Saying said B x g.later = (f x g.later).0 g.rest in (h.same x says).0 (record { later = k.later; whole = g.whole ∙ ap (λ z. before ++ z) k.says ∙ sym (append_assoc before said k.later); rest = k.after }),
-      λ g. let k : Goes (before ++ said) B x says = (h.same x says).1 g in record { later = said ++ k.later; whole = k.whole ∙ append_assoc before said k.later; rest = (f x (said ++ k.later)).1 (record { later = k.later; says = refl; after = k.rest }) },
+    same = λ t l x says. (
+      λ g. let k : Saying said (B t) x g.later = (f t l x g.later).0 g.rest in (h.same t l x says).0 (record { later = k.later; whole = g.whole ∙ ap (λ z. before ++ z) k.says ∙ sym (append_assoc before said k.later); rest = k.after }),
+      λ g. let k : Goes (before ++ said) (B t) x says = (h.same t l x says).1 g in record { later = said ++ k.later; whole = k.whole ∙ append_assoc before said k.later; rest = (f t l x (said ++ k.later)).1 (record { later = k.later; says = refl; after = k.rest }) },
     );
   }
 
 -- the next state stands for what goes on
 pub reached_here : (new : State) → Good new.place new → Reached new.marks (Rests new.place new) new
-reached_here new good = record { good = good; same = λ x says. (λ g. g, λ g. g) }
+reached_here new good = record { good = good; same = λ t l x says. (λ g. g, λ g. g) }

@@ -1,115 +1,166 @@
 -- What stands round the root, byte by byte.
-use Rattle.std.proofs.Common.{◌≡◌, ◌≢◌, ℕ, ◌⊎◌, inl, inr, ◌↔◌, List, [], ◌∷◌, ◌++◌, Bool, true, false, refl, ap, sym, subst, arith}
-use Rattle.tree_grammar.specs.Characters.{IsSpace, IsQName}
+use Rattle.std.proofs.Common.{◌≡◌, ◌≢◌, ℕ, ◌-◌, ◌≤◌, ◌⊎◌, inl, inr, ◌↔◌, List, [], ◌∷◌, ◌++◌, Bool, true, false, map, refl, ap, sym, subst, arith}
+use Rattle.tree_grammar.specs.Characters.{IsSpace, IsName, IsQName}
 use Rattle.tree_grammar.specs.Tags.{Tag, tag_text, attributes_text, attribute_list}
-use Rattle.tree_grammar.specs.Content.{Misc, misc_over, misc_space, misc_comment, misc_instruction, misc_text}
-use Rattle.tree_grammar.specs.Declaration.{Declaration, no_declaration, declared, declaration_text, IsDeclarationReadable, version_text, encoding_text, standalone_text}
-use Rattle.tree_grammar.specs.Document.{IsMiscSmall, mark_text}
+use Rattle.tree_grammar.specs.Content.{Misc, misc_over, misc_space, misc_comment, misc_instruction, misc_text, comment_text, instruction_text}
+use Rattle.tree_grammar.specs.Declaration.{Declaration, no_declaration, declared, declaration_text, version_text, encoding_text, standalone_text}
+use Rattle.std.specs.Prelude.{codes}
+use Rattle.std.specs.Char.{to_ascii_lowercase}
+use Rattle.tree_grammar.specs.Document.{mark_text}
 use Rattle.doc_tree.specs.Marks.{Mark}
-use Rattle.doc_tree.specs.Rests.{Then, Word, TagRest, BodyRest, After, Before, TagFirst, Marked, Whole, Gap}
+use Rattle.doc_tree.specs.Rests.{Terms, IsDeclarationRead, room_in, Between, Choice, Never, PiRest, PiOver, FirstOver, Then, Word, TagRest, BodyRest, After, Before, TagFirst, Marked, Whole, Gap}
 use Rattle.doc_tree.specs.declared.declaration.Field.TheVariants as fields
-use Rattle.doc_tree.proofs.Bytes.{space_low, start_high}
+use Rattle.doc_tree.proofs.Bytes.{IsHigh, space_low, start_high, high_not_space}
+use Rattle.doc_tree.proofs.Spans.{some_stuck}
+use Rattle.doc_tree.proofs.Asides.{instruction_to, instruction_of, pi_over_high}
+use Rattle.doc_tree.proofs.Rounds.{Cases, at_space, at_comment, at_pi, IsRound, round_space, round_stuck, round_tag, round_question}
 use Rattle.doc_tree.proofs.Fields.{gap_to, gap_of}
 
--- behind the root
-after_to : (b : ℕ) (r : List ℕ) (es : List Mark) (m : Misc) → IsMiscSmall m → b ∷ r ≡ misc_text m [] → es ≡ [] → IsSpace b × After r es
-after_to b r es misc_over f e q = absurd (cc)
-after_to b r es (misc_space c s more) f e q = let h : c ≡ b = cc in (subst IsSpace h s, record { misc = more; small = f; text = cc; says = q })
-after_to b r es (misc_comment t more) f e q = absurd f
-after_to b r es (misc_instruction t more) f e q = absurd f
+-- a name begins with a letter or `_`
+name_high : (b : ℕ) (r run : List ℕ) → IsQName run → (y : List ℕ) → b ∷ r ≡ run ++ y → 65 ≤ b
+name_high b r [] q y e = absurd q
+name_high b r (c ∷ cs) q y e = let h : b ≡ c = cc in let k = start_high c q.0 in omega arith
 
-pub after_space : (b : ℕ) (r : List ℕ) (es : List Mark) → IsSpace b → After (b ∷ r) es ↔ After r es
-after_space b r es s = (
-  λ h. (after_to b r es h.misc h.small h.text h.says).1,
-  λ h. record { misc = misc_space b s h.misc; small = h.small; text = ap (λ z. b ∷ z) h.text; says = h.says },
-)
+module _ (u : Terms) where
+  -- behind the root
+  after_to : (b : ℕ) (r : List ℕ) (es : List Mark) (m : Misc) → b ∷ r ≡ misc_text m [] → es ≡ [] → Cases (After u) b r es
+  after_to b r es misc_over e q = absurd (cc)
+  after_to b r es (misc_space c s more) e q = let h : c ≡ b = cc in at_space (subst IsSpace h s) (record { misc = more; text = cc; says = q })
+  after_to b r es (misc_comment t more) e q = at_comment (comment_text t (misc_text more [])) (cc) (cc) (record { comment = t; behind = misc_text more []; text = refl; after = record { misc = more; text = refl; says = q } })
+  after_to b r es (misc_instruction t more) e q = at_pi (instruction_text t (misc_text more [])) (cc) (cc) (instruction_to (After u) t (misc_text more []) (instruction_text t (misc_text more [])) es refl (record { misc = more; text = refl; says = q }))
 
-pub after_stuck : (b : ℕ) (r : List ℕ) (es : List Mark) → (IsSpace b → ⊥) → After (b ∷ r) es → ⊥
-after_stuck b r es n h = n (after_to b r es h.misc h.small h.text h.says).0
+  pub after_round : IsRound (After u) Never
+  after_round = record {
+    cases = λ b r es h. inl (after_to b r es h.misc h.text h.says);
+    named = λ b r es h. absurd h;
+    from_comment = λ x es h. let a : After u h.behind es = h.after in let e1 = h.text in let e2 = a.text in record { misc = misc_comment h.comment a.misc; text = cc; says = a.says };
+    from_pi = λ x es h. let o = instruction_of (After u) x es h in let a : After u o.1 es = o.3 in let e1 = o.2 in let e2 = a.text in record { misc = misc_instruction o.0 a.misc; text = cc; says = a.says };
+  }
 
--- before it
-before_to : (b : ℕ) (r : List ℕ) (es : List Mark) (m : Misc) → IsMiscSmall m → (tag : Tag) (y : List ℕ) → b ∷ r ≡ misc_text m (60 ∷ tag_text tag y) → BodyRest 31 tag.name (attribute_list tag.attributes) After y es → (IsSpace b × Before r es) ⊎ ((b ≡ 60) × TagFirst [] r es)
-before_to b r es misc_over f tag y e a = inr ((cc), record { room = omega arith; rest = record { run = tag.name; is = tag.named; behind = attributes_text tag.attributes (tag.space ++ y); text = cc; after = record { attributes = tag.attributes; fresh = tag.fresh; space = tag.space; spaced = tag.spaced; behind = y; text = refl; after = a } } })
-before_to b r es (misc_space c s more) f tag y e a = let h : c ≡ b = cc in inl (subst IsSpace h s, record { misc = more; small = f; tag = tag; behind = y; text = cc; after = a })
-before_to b r es (misc_comment t more) f tag y e a = absurd f
-before_to b r es (misc_instruction t more) f tag y e a = absurd f
+  pub after_space : (b : ℕ) (r : List ℕ) (es : List Mark) → IsSpace b → After u (b ∷ r) es ↔ After u r es
+  after_space b r es s = (
+    λ h. round_space (After u) Never after_round b r es s h,
+    λ h. record { misc = misc_space b s h.misc; text = ap (λ z. b ∷ z) h.text; says = h.says },
+  )
 
-before_cases : (b : ℕ) (r : List ℕ) (es : List Mark) → Before (b ∷ r) es → (IsSpace b × Before r es) ⊎ ((b ≡ 60) × TagFirst [] r es)
-before_cases b r es h = before_to b r es h.misc h.small h.tag h.behind h.text h.after
+  pub after_stuck : (b : ℕ) (r : List ℕ) (es : List Mark) → (IsSpace b → ⊥) → b ≢ 60 → After u (b ∷ r) es → ⊥
+  after_stuck b r es n m h = round_stuck (After u) Never after_round b r es n m h
 
-pub before_space : (b : ℕ) (r : List ℕ) (es : List Mark) → IsSpace b → Before (b ∷ r) es ↔ Before r es
-before_space b r es s = (
-  λ h. elim (before_cases b r es h) [ inl p ↦ p.1 | inr p ↦ (let l = space_low b s in let e = p.0 in absurd (omega arith)) ],
-  λ h. record { misc = misc_space b s h.misc; small = h.small; tag = h.tag; behind = h.behind; text = ap (λ z. b ∷ z) h.text; after = h.after },
-)
+  pub after_less : (b : ℕ) (r : List ℕ) (es : List Mark) → b ≢ 33 → b ≢ 63 → After u (60 ∷ b ∷ r) es → ⊥
+  after_less b r es n m h = round_tag (After u) Never after_round b r es n m h
 
-pub before_less : (r : List ℕ) (es : List Mark) → Before (60 ∷ r) es ↔ TagFirst [] r es
-before_less r es = (
-  λ h. elim (before_cases 60 r es h) [ inl p ↦ (let l = space_low 60 p.0 in absurd (omega arith)) | inr p ↦ p.1 ],
-  λ h. let q : Then IsQName (λ n. TagRest 31 n [] [] After) r es = h.rest in
-      let t : TagRest 31 q.run [] [] After q.behind es = q.after in
-      let e1 = q.text in let e2 = t.text in
-      record { misc = misc_over; small = tt; tag = record { name = q.run; named = q.is; attributes = t.attributes; fresh = t.fresh; space = t.space; spaced = t.spaced }; behind = t.behind; text = cc; after = t.after },
-)
+  -- before it
+  before_to : (b : ℕ) (r : List ℕ) (es : List Mark) (m : Misc) → 1 ≤ room_in u [] → (tag : Tag) (y : List ℕ) → b ∷ r ≡ misc_text m (60 ∷ tag_text tag y) → BodyRest (room_in u [] - 1) tag.name (attribute_list tag.attributes) (After u) y es → Cases (Before u) b r es ⊎ ((b ≡ 60) × TagFirst [] u r es)
+  before_to b r es misc_over l tag y e a = inr ((cc), record { room = l; rest = record { run = tag.name; is = tag.named; behind = attributes_text tag.attributes (tag.space ++ y); text = cc; after = record { attributes = tag.attributes; fresh = tag.fresh; space = tag.space; spaced = tag.spaced; behind = y; text = refl; after = a } } })
+  before_to b r es (misc_space c s more) l tag y e a = let h : c ≡ b = cc in inl (at_space (subst IsSpace h s) (record { room = l; misc = more; tag = tag; behind = y; text = cc; after = a }))
+  before_to b r es (misc_comment t more) l tag y e a = let z = misc_text more (60 ∷ tag_text tag y) in inl (at_comment (comment_text t z) (cc) (cc) (record { comment = t; behind = z; text = refl; after = record { room = l; misc = more; tag = tag; behind = y; text = refl; after = a } }))
+  before_to b r es (misc_instruction t more) l tag y e a = let z = misc_text more (60 ∷ tag_text tag y) in inl (at_pi (instruction_text t z) (cc) (cc) (instruction_to (Before u) t z (instruction_text t z) es refl (record { room = l; misc = more; tag = tag; behind = y; text = refl; after = a })))
 
-pub before_stuck : (b : ℕ) (r : List ℕ) (es : List Mark) → (IsSpace b → ⊥) → b ≢ 60 → Before (b ∷ r) es → ⊥
-before_stuck b r es n m h = elim (before_cases b r es h) [ inl p ↦ n p.0 | inr p ↦ m p.0 ]
+  first_high : (b : ℕ) (r : List ℕ) (es : List Mark) → TagFirst [] u (b ∷ r) es → 65 ≤ b
+  first_high b r es h = let t : Then IsQName (λ n. TagRest (room_in u [] - 1) n [] [] (Between 0 [] u)) (b ∷ r) es = h.rest in name_high b r t.run t.is t.behind t.text
 
--- behind the byte order mark
-marked_to : (b : ℕ) (r : List ℕ) (es : List Mark) → (d : Declaration) → IsDeclarationReadable d → (y : List ℕ) → b ∷ r ≡ declaration_text d y → Before y es → Before (b ∷ r) es ⊎ ((b ≡ 60) × (x : List ℕ) × (r ≡ 63 ∷ 120 ∷ 109 ∷ 108 ∷ x) × Gap fields.Before x es)
-marked_to b r es no_declaration f y e a = inl (subst (λ z. Before z es) (sym e) a)
-marked_to b r es (declared v n s space sp) f y e a = inr ((cc), version_text v (encoding_text n (standalone_text s (space ++ (63 ∷ 62 ∷ y)))), (cc), gap_to v n s space sp f y (version_text v (encoding_text n (standalone_text s (space ++ (63 ∷ 62 ∷ y))))) es refl a)
+  pub before_round : IsRound (Before u) (TagFirst [] u)
+  before_round = record {
+    cases = λ b r es h. before_to b r es h.misc h.room h.tag h.behind h.text h.after;
+    named = first_high;
+    from_comment = λ x es h. let a : Before u h.behind es = h.after in let e1 = h.text in let e2 = a.text in record { room = a.room; misc = misc_comment h.comment a.misc; tag = a.tag; behind = a.behind; text = cc; after = a.after };
+    from_pi = λ x es h. let o = instruction_of (Before u) x es h in let a : Before u o.1 es = o.3 in let e1 = o.2 in let e2 = a.text in record { room = a.room; misc = misc_instruction o.0 a.misc; tag = a.tag; behind = a.behind; text = cc; after = a.after };
+  }
 
-pub marked_cases : (b : ℕ) (r : List ℕ) (es : List Mark) → Marked (b ∷ r) es → Before (b ∷ r) es ⊎ ((b ≡ 60) × (x : List ℕ) × (r ≡ 63 ∷ 120 ∷ 109 ∷ 108 ∷ x) × Gap fields.Before x es)
-marked_cases b r es h = marked_to b r es h.declaration h.readable h.behind h.text h.after
+  pub before_space : (b : ℕ) (r : List ℕ) (es : List Mark) → IsSpace b → Before u (b ∷ r) es ↔ Before u r es
+  before_space b r es s = (
+    λ h. round_space (Before u) (TagFirst [] u) before_round b r es s h,
+    λ h. record { room = h.room; misc = misc_space b s h.misc; tag = h.tag; behind = h.behind; text = ap (λ z. b ∷ z) h.text; after = h.after },
+  )
 
-pub marked_plain : (x : List ℕ) (es : List Mark) → Before x es → Marked x es
-marked_plain x es h = record { declaration = no_declaration; readable = tt; behind = x; text = refl; after = h }
+  pub before_less : (b : ℕ) (r : List ℕ) (es : List Mark) → b ≢ 33 → b ≢ 63 → Before u (60 ∷ b ∷ r) es ↔ TagFirst [] u (b ∷ r) es
+  before_less b r es n m = (
+    λ h. round_tag (Before u) (TagFirst [] u) before_round b r es n m h,
+    λ h. let q : Then IsQName (λ n. TagRest (room_in u [] - 1) n [] [] (After u)) (b ∷ r) es = h.rest in
+        let t : TagRest (room_in u [] - 1) q.run [] [] (After u) q.behind es = q.after in
+        let e1 = q.text in let e2 = t.text in
+        record { room = h.room; misc = misc_over; tag = record { name = q.run; named = q.is; attributes = t.attributes; fresh = t.fresh; space = t.space; spaced = t.spaced }; behind = t.behind; text = cc; after = t.after },
+  )
 
-pub marked_space : (b : ℕ) (r : List ℕ) (es : List Mark) → IsSpace b → Marked (b ∷ r) es ↔ Before r es
-marked_space b r es s = (
-  λ h. elim (marked_cases b r es h) [ inl p ↦ (before_space b r es s).0 p | inr p ↦ (let l = space_low b s in let e = p.0 in absurd (omega arith)) ],
-  λ h. marked_plain (b ∷ r) es ((before_space b r es s).1 h),
-)
+  pub before_stuck : (b : ℕ) (r : List ℕ) (es : List Mark) → (IsSpace b → ⊥) → b ≢ 60 → Before u (b ∷ r) es → ⊥
+  before_stuck b r es n m h = round_stuck (Before u) (TagFirst [] u) before_round b r es n m h
 
-pub marked_stuck : (b : ℕ) (r : List ℕ) (es : List Mark) → (IsSpace b → ⊥) → b ≢ 60 → Marked (b ∷ r) es → ⊥
-marked_stuck b r es n m h = elim (marked_cases b r es h) [ inl p ↦ before_stuck b r es n m p | inr p ↦ m p.0 ]
+  -- behind the byte order mark
+  marked_to : (b : ℕ) (r : List ℕ) (es : List Mark) → (d : Declaration) → IsDeclarationRead u.aim d → (y : List ℕ) → b ∷ r ≡ declaration_text d y → Before u y es → Before u (b ∷ r) es ⊎ ((b ≡ 60) × (x : List ℕ) × (r ≡ 63 ∷ 120 ∷ 109 ∷ 108 ∷ x) × Gap fields.Before u x es)
+  marked_to b r es no_declaration f y e a = inl (subst (λ z. Before u z es) (sym e) a)
+  marked_to b r es (declared v n s space sp) f y e a = inr ((cc), version_text v (encoding_text n (standalone_text s (space ++ (63 ∷ 62 ∷ y)))), (cc), gap_to u v n s space sp f y (version_text v (encoding_text n (standalone_text s (space ++ (63 ∷ 62 ∷ y))))) es refl a)
 
-pub marked_tag : (b : ℕ) (r : List ℕ) (es : List Mark) → b ≢ 63 → Marked (60 ∷ b ∷ r) es ↔ TagFirst [] (b ∷ r) es
-marked_tag b r es n = (
-  λ h. elim (marked_cases 60 (b ∷ r) es h) [ inl p ↦ (before_less (b ∷ r) es).0 p | inr p ↦ (let e = p.2 in absurd (n (cc))) ],
-  λ h. marked_plain (60 ∷ b ∷ r) es ((before_less (b ∷ r) es).1 h),
-)
+  pub marked_cases : (b : ℕ) (r : List ℕ) (es : List Mark) → Marked u (b ∷ r) es → Before u (b ∷ r) es ⊎ ((b ≡ 60) × (x : List ℕ) × (r ≡ 63 ∷ 120 ∷ 109 ∷ 108 ∷ x) × Gap fields.Before u x es)
+  marked_cases b r es h = marked_to b r es h.declaration h.read h.behind h.text h.after
 
-no_tag : (r : List ℕ) (es : List Mark) (run : List ℕ) → IsQName run → (y : List ℕ) → 63 ∷ r ≡ run ++ y → ⊥
-no_tag r es [] q y e = q
-no_tag r es (c ∷ cs) q y e = let h : 63 ≡ c = cc in let l = start_high c q.0 in omega arith
+  pub marked_plain : (x : List ℕ) (es : List Mark) → Before u x es → Marked u x es
+  marked_plain x es h = record { declaration = no_declaration; read = tt; behind = x; text = refl; after = h }
 
-pub marked_declaration : (r : List ℕ) (es : List Mark) → Marked (60 ∷ 63 ∷ r) es ↔ Word (120 ∷ 109 ∷ 108 ∷ []) (Gap fields.Before) r es
-marked_declaration r es = (
-  λ h. elim (marked_cases 60 (63 ∷ r) es h) [ inl p ↦ (let t = ((before_less (63 ∷ r) es).0 p).rest in absurd (no_tag r es t.run t.is t.behind t.text)) | inr p ↦ (let e = p.2 in record { behind = p.1; text = cc; after = p.3 }) ],
-  λ w. let g = gap_of w.behind es w.after in let e1 = w.text in let e2 = g.6 in record { declaration = declared g.0 g.1 g.2 g.3 g.4; readable = g.7; behind = g.5; text = cc; after = g.8 },
-)
+  pub marked_space : (b : ℕ) (r : List ℕ) (es : List Mark) → IsSpace b → Marked u (b ∷ r) es ↔ Before u r es
+  marked_space b r es s = (
+    λ h. elim (marked_cases b r es h) [ inl p ↦ (before_space b r es s).0 p | inr p ↦ (let l = space_low b s in let e = p.0 in absurd (omega arith)) ],
+    λ h. marked_plain (b ∷ r) es ((before_space b r es s).1 h),
+  )
 
--- the whole
-whole_to : (b : ℕ) (r : List ℕ) (es : List Mark) → (m : Bool) (y : List ℕ) → b ∷ r ≡ mark_text m y → Marked y es → Marked (b ∷ r) es ⊎ ((b ≡ 239) × Word (187 ∷ 191 ∷ []) Marked r es)
-whole_to b r es false y e a = inl (subst (λ z. Marked z es) (sym e) a)
-whole_to b r es true y e a = inr ((cc), record { behind = y; text = cc; after = a })
+  pub marked_stuck : (b : ℕ) (r : List ℕ) (es : List Mark) → (IsSpace b → ⊥) → b ≢ 60 → Marked u (b ∷ r) es → ⊥
+  marked_stuck b r es n m h = elim (marked_cases b r es h) [ inl p ↦ before_stuck b r es n m p | inr p ↦ m p.0 ]
 
-pub whole_mark : (r : List ℕ) (es : List Mark) → Whole (239 ∷ r) es ↔ Word (187 ∷ 191 ∷ []) Marked r es
-whole_mark r es = (
-  λ h. elim (whole_to 239 r es h.mark h.behind h.text h.after) [ inl p ↦ absurd (marked_stuck 239 r es (λ s. let l = space_low 239 s in omega arith) (λ e. omega arith) p) | inr p ↦ p.1 ],
-  λ w. record { mark = true; behind = w.behind; text = ap (λ z. 239 ∷ z) w.text; after = w.after },
-)
+  pub marked_less : (b : ℕ) (r : List ℕ) (es : List Mark) → b ≢ 63 → Marked u (60 ∷ b ∷ r) es ↔ Before u (60 ∷ b ∷ r) es
+  marked_less b r es n = (
+    λ h. elim (marked_cases 60 (b ∷ r) es h) [ inl p ↦ p | inr p ↦ (let e = p.2 in absurd (n (cc))) ],
+    λ h. marked_plain (60 ∷ b ∷ r) es h,
+  )
 
-pub whole_plain : (b : ℕ) (r : List ℕ) (es : List Mark) → b ≢ 239 → Whole (b ∷ r) es ↔ Marked (b ∷ r) es
-whole_plain b r es n = (
-  λ h. elim (whole_to b r es h.mark h.behind h.text h.after) [ inl p ↦ p | inr p ↦ absurd (n p.0) ],
-  λ h. record { mark = false; behind = b ∷ r; text = refl; after = h },
-)
+  -- the declaration, or an instruction
+  xml_named : IsName (codes "xml")
+  xml_named = (inl (inr (omega arith, omega arith)), (inl (inl (inr (omega arith, omega arith))), (inl (inl (inr (omega arith, omega arith))), tt)))
 
-pub marked_tag_in : (names : List (List ℕ)) (b : ℕ) (r : List ℕ) (es : List Mark) → names ≡ [] → b ≢ 63 → Marked (60 ∷ b ∷ r) es ↔ TagFirst names (b ∷ r) es
-marked_tag_in names b r es e n = subst (λ z. Marked (60 ∷ b ∷ r) es ↔ TagFirst z (b ∷ r) es) (sym e) (marked_tag b r es n)
+  first_of : (name : List ℕ) → IsName name → (y x : List ℕ) (es : List Mark) → x ≡ name ++ y → FirstOver name u y es → Marked u (60 ∷ 63 ∷ x) es
+  first_of name n y x es e (inl d) = let g = gap_of u y es d.rest in let e1 = d.is in let e2 = g.6 in record { declaration = declared g.0 g.1 g.2 g.3 g.4; read = g.7; behind = g.5; text = cc; after = g.8 }
+  first_of name n y x es e (inr p) = marked_plain (60 ∷ 63 ∷ x) es ((round_question (Before u) (TagFirst [] u) before_round x es).1 (record { run = name; is = n; behind = y; text = e; after = p }))
 
-pub before_less_in : (names : List (List ℕ)) (r : List ℕ) (es : List Mark) → names ≡ [] → Before (60 ∷ r) es ↔ TagFirst names r es
-before_less_in names r es e = subst (λ z. Before (60 ∷ r) es ↔ TagFirst z r es) (sym e) (before_less r es)
+  pub marked_question : (r : List ℕ) (es : List Mark) → Marked u (60 ∷ 63 ∷ r) es ↔ Then IsName (λ name. FirstOver name u) r es
+  marked_question r es = (
+    λ h. elim (marked_cases 60 (63 ∷ r) es h) [
+      | inl p ↦ (let q : PiRest (Before u) r es = (round_question (Before u) (TagFirst [] u) before_round r es).0 p in record { run = q.run; is = q.is; behind = q.behind; text = q.text; after = inr q.after })
+      | inr p ↦ (let e = p.2 in record { run = codes "xml"; is = xml_named; behind = p.1; text = cc; after = inl (record { is = refl; rest = p.3 }) })
+    ],
+    λ h. first_of h.run h.is h.behind r es h.text h.after,
+  )
+
+  gap_spaced : (b : ℕ) (x : List ℕ) (es : List Mark) → (IsSpace b → ⊥) → Gap fields.Before u (b ∷ x) es → ⊥
+  gap_spaced b x es n (inl h) = h
+  gap_spaced b x es n (inr h) = some_stuck (Choice fields.Before u) b x es n h
+
+  pub first_over_high : (b : ℕ) (n x : List ℕ) (es : List Mark) → IsHigh b → FirstOver n u (b ∷ x) es → ⊥
+  first_over_high b n x es i (inl d) = gap_spaced b x es (high_not_space b i) d.rest
+  first_over_high b n x es i (inr p) = pi_over_high (Before u) b n x es i p
+
+  pub first_declares : (n x : List ℕ) (es : List Mark) → n ≡ codes "xml" → FirstOver n u x es ↔ Gap fields.Before u x es
+  first_declares n x es e = (
+    λ h. elim h [ inl d ↦ d.rest | inr p ↦ absurd (p.other (ap (map to_ascii_lowercase) e)) ],
+    λ h. inl (record { is = e; rest = h }),
+  )
+
+  pub first_instructs : (n x : List ℕ) (es : List Mark) → n ≢ codes "xml" → FirstOver n u x es ↔ PiOver n (Before u) x es
+  first_instructs n x es m = (λ h. elim h [ inl d ↦ absurd (m d.is) | inr p ↦ p ], λ h. inr h)
+
+  -- the whole
+  whole_to : (b : ℕ) (r : List ℕ) (es : List Mark) → (m : Bool) (y : List ℕ) → b ∷ r ≡ mark_text m y → Marked u y es → Marked u (b ∷ r) es ⊎ ((b ≡ 239) × Word (187 ∷ 191 ∷ []) (Marked u) r es)
+  whole_to b r es false y e a = inl (subst (λ z. Marked u z es) (sym e) a)
+  whole_to b r es true y e a = inr ((cc), record { behind = y; text = cc; after = a })
+
+  pub whole_mark : (r : List ℕ) (es : List Mark) → Whole u (239 ∷ r) es ↔ Word (187 ∷ 191 ∷ []) (Marked u) r es
+  whole_mark r es = (
+    λ h. elim (whole_to 239 r es h.mark h.behind h.text h.after) [ inl p ↦ absurd (marked_stuck 239 r es (λ s. let l = space_low 239 s in omega arith) (λ e. omega arith) p) | inr p ↦ p.1 ],
+    λ w. record { mark = true; behind = w.behind; text = ap (λ z. 239 ∷ z) w.text; after = w.after },
+  )
+
+  pub whole_plain : (b : ℕ) (r : List ℕ) (es : List Mark) → b ≢ 239 → Whole u (b ∷ r) es ↔ Marked u (b ∷ r) es
+  whole_plain b r es n = (
+    λ h. elim (whole_to b r es h.mark h.behind h.text h.after) [ inl p ↦ p | inr p ↦ absurd (n p.0) ],
+    λ h. record { mark = false; behind = b ∷ r; text = refl; after = h },
+  )
+
+  pub before_less_in : (names : List (List ℕ)) (b : ℕ) (r : List ℕ) (es : List Mark) → names ≡ [] → b ≢ 33 → b ≢ 63 → Before u (60 ∷ b ∷ r) es ↔ TagFirst names u (b ∷ r) es
+  before_less_in names b r es e n m = subst (λ z. Before u (60 ∷ b ∷ r) es ↔ TagFirst z u (b ∷ r) es) (sym e) (before_less b r es n m)

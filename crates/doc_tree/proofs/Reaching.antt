@@ -7,24 +7,23 @@ use Rattle.tree_grammar.specs.Characters.{IsXmlChar}
 use Rattle.tree_grammar.specs.Elements.{Attribute}
 use Rattle.doc_tree.specs.Marks.{Mark, Char}
 use Rattle.tree_grammar.specs.Content.{misc_over}
-use Rattle.doc_tree.specs.Rests.{Word, After, keep, Whole}
+use Rattle.doc_tree.specs.Rests.{Terms, Word, After, keep, Whole}
 use Rattle.doc_tree.specs.declared.machine.Goal.{Goal}
 use Rattle.doc_tree.specs.declared.machine.Goal.TheVariants as goals
 use Rattle.doc_tree.specs.declared.machine.Place.{Place}
 use Rattle.doc_tree.specs.declared.machine.Place.TheVariants as places
-use Rattle.doc_tree.specs.Completes.{State, Rests, Reaches, Insides, Good, GoodReference, GoodGoal, IsRadix, Behind, Completes, Follows, Stuck, Reached, Runs}
+use Rattle.doc_tree.specs.Completes.{State, Rests, Reaches, Insides, Good, GoodReference, GoodGoal, IsRadix, Behind, BehindReference, BehindValue, Completes, Follows, Stuck, Reached, Runs}
 use Rattle.doc_tree.proofs.Moves.{moves_at, follows_reached, reached_from, reached_saying, stays}
 use Rattle.doc_tree.proofs.Spans.{word_first, word_back, word_last}
 use Rattle.doc_tree.proofs.Steps.{at_byte, at_here}
 use Rattle.doc_tree.proofs.Loops.{drop_at}
 use Rattle.doc_tree.proofs.Numbers.{digit_end, digit_end_stuck}
-use Rattle.doc_tree.proofs.TagSteps.{VK}
 
 -- an attribute is whole
-pub attribute_over : (s : State) (keys : List (List ℕ)) (key : List ℕ) (kept : List Attribute) (marks : List Mark) → keys ≡ s.keys ++ (s.key ∷ []) → kept ≡ keep s.key s.value s.kept → s.marks ≡ marks → Reached s.marks (VK s s.value) (record s { place = places.TagAfter; keys = keys; key = key; kept = kept; marks = marks })
+pub attribute_over : (s : State) (keys : List (List ℕ)) (key : List ℕ) (kept : List Attribute) (marks : List Mark) → keys ≡ s.keys ++ (s.key ∷ []) → kept ≡ keep s.key s.value s.kept → s.marks ≡ marks → Reached s.marks (BehindValue s s.value) (record s { place = places.TagAfter; keys = keys; key = key; kept = kept; marks = marks })
 attribute_over s keys key kept marks e f m =
     let T : List (List ℕ) → List Attribute → State = λ ks ats. record s { place = places.TagAfter; keys = ks; key = key; kept = ats; marks = marks } in
-    subst (λ z. Reached s.marks (VK s s.value) (T z kept)) (sym e) (subst (λ z. Reached s.marks (VK s s.value) (T (s.keys ++ (s.key ∷ [])) z)) (sym f) (stays s.marks (VK s s.value) (T (s.keys ++ (s.key ∷ [])) (keep s.key s.value s.kept)) m tt (λ x es. (λ h. h, λ h. h))))
+    subst (λ z. Reached s.marks (BehindValue s s.value) (T z kept)) (sym e) (subst (λ z. Reached s.marks (BehindValue s s.value) (T (s.keys ++ (s.key ∷ [])) z)) (sym f) (stays s.marks (BehindValue s s.value) (T (s.keys ++ (s.key ∷ [])) (keep s.key s.value s.kept)) m tt (λ u d x es. (λ h. h, λ h. h))))
 
 pub kept_is : (key value : List ℕ) (kept new : List Attribute) → true ≡ is_kept key → new ≡ kept ++ (record { name = key; value = value } ∷ []) → new ≡ keep key value kept
 kept_is key value kept new e f = f ∙ ap (λ z. kept ++ cond z (record { name = key; value = value } ∷ []) []) e
@@ -33,78 +32,82 @@ pub kept_not : (key value : List ℕ) (kept : List Attribute) → false ≡ is_k
 kept_not key value kept e = sym (append-nil kept) ∙ ap (λ z. kept ++ cond z (record { name = key; value = value } ∷ []) []) e
 
 -- a fixed text
-pub word_stays : (s : State) (b : ℕ) (left : List ℕ) → s.left ≡ b ∷ left → left ≢ [] → s.place ≡ places.Word → GoodGoal s.goal s → GoodGoal s.goal (record s { left = left }) → ((x : List ℕ) (es : List Mark) → Reaches s.goal s x es ↔ Reaches s.goal (record s { left = left }) x es) → Follows s.marks (Rests places.Word s) b (record s { left = left })
+pub word_stays : (s : State) (b : ℕ) (left : List ℕ) → s.left ≡ b ∷ left → left ≢ [] → s.place ≡ places.Word → GoodGoal s.goal s → GoodGoal s.goal (record s { left = left }) → ((u : Terms) (x : List ℕ) (es : List Mark) → Reaches s.goal s u x es ↔ Reaches s.goal (record s { left = left }) u x es) → Follows s.marks (Rests places.Word s) b (record s { left = left })
 word_stays s b left e n p g k f =
     let t : State = record s { left = left } in
-    moves_at s.marks (Rests places.Word s) b t places.Word p refl (n, k) (λ x es. subst (λ z. Word z (Reaches s.goal s) (b ∷ x) es ↔ Word left (Reaches s.goal t) x es) (sym e) (
-      (λ h. let w = (word_first (Reaches s.goal s) b left b x es h).1 in record { behind = w.behind; text = w.text; after = (f w.behind es).0 w.after }),
-      (λ h. word_back (Reaches s.goal s) b left x es (record { behind = h.behind; text = h.text; after = (f h.behind es).1 h.after })),
+    moves_at s.marks (Rests places.Word s) b t places.Word p refl (n, k) (λ u d x es. subst (λ z. Word z (Reaches s.goal s u) (b ∷ x) es ↔ Word left (Reaches s.goal t u) x es) (sym e) (
+      (λ h. let w = (word_first (Reaches s.goal s u) b left b x es h).1 in record { behind = w.behind; text = w.text; after = (f u w.behind es).0 w.after }),
+      (λ h. word_back (Reaches s.goal s u) b left x es (record { behind = h.behind; text = h.text; after = (f u h.behind es).1 h.after })),
     ))
 
 pub word_ends : (s : State) (b : ℕ) (new : State) → s.left ≡ b ∷ [] → Reached s.marks (Reaches s.goal s) new → Follows s.marks (Rests places.Word s) b new
-word_ends s b new e r = follows_reached s.marks (Rests places.Word s) (Reaches s.goal s) b new (λ x es. subst (λ z. Word z (Reaches s.goal s) (b ∷ x) es ↔ Reaches s.goal s x es) (sym e) (word_last (Reaches s.goal s) b x es)) r
+word_ends s b new e r = follows_reached s.marks (Rests places.Word s) (Reaches s.goal s) b new (λ u d x es. subst (λ z. Word z (Reaches s.goal s u) (b ∷ x) es ↔ Reaches s.goal s u x es) (sym e) (word_last (Reaches s.goal s u) b x es)) r
 
 pub word_stuck : (s : State) (b w : ℕ) (left : List ℕ) → s.left ≡ w ∷ left → w ≢ b → Stuck (Rests places.Word s) b
-word_stuck s b w left e n = λ x es h. n (sym (word_first (Reaches s.goal s) w left b x es (subst (λ z. Word z (Reaches s.goal s) (b ∷ x) es) e h)).0)
+word_stuck s b w left e n = λ u d x es h. n (sym (word_first (Reaches s.goal s u) w left b x es (subst (λ z. Word z (Reaches s.goal s u) (b ∷ x) es) e h)).0)
 
 -- what a goal asks for doesn't depend on how much of the text is left
-pub reaches_same : (g : Goal) (s : State) (left : List ℕ) (x : List ℕ) (es : List Mark) → Reaches g s x es ↔ Reaches g (record s { left = left }) x es
-reaches_same goals.Marked s left x es = (λ h. h, λ h. h)
-reaches_same goals.Declaration s left x es = (λ h. h, λ h. h)
-reaches_same goals.Field s left x es = (λ h. h, λ h. h)
-reaches_same goals.Prolog s left x es = (λ h. h, λ h. h)
-reaches_same goals.EmptyTag s left x es = (λ h. h, λ h. h)
-reaches_same goals.EndName s left x es = (λ h. h, λ h. h)
-reaches_same goals.Entity s left x es = behind_left s.in_value s left (encode_utf8 s.number) x es
+pub reaches_same : (g : Goal) (s : State) (left : List ℕ) (u : Terms) (x : List ℕ) (es : List Mark) → Reaches g s u x es ↔ Reaches g (record s { left = left }) u x es
+reaches_same goals.Marked s left u x es = (λ h. h, λ h. h)
+reaches_same goals.Comment s left u x es = (λ h. h, λ h. h)
+reaches_same goals.Section s left u x es = (λ h. h, λ h. h)
+reaches_same goals.Around s left u x es = (λ h. h, λ h. h)
+reaches_same goals.Field s left u x es = (λ h. h, λ h. h)
+reaches_same goals.Prolog s left u x es = (λ h. h, λ h. h)
+reaches_same goals.EmptyTag s left u x es = (λ h. h, λ h. h)
+reaches_same goals.EndName s left u x es = (λ h. h, λ h. h)
+reaches_same goals.Entity s left u x es = behind_left u s.in_value s left (encode_utf8 s.number) x es
   where
-    behind_left : (v : Bool) (s : State) (left cs x : List ℕ) (es : List Mark) → Behind v s cs x es ↔ Behind v (record s { left = left }) cs x es
-    behind_left true s left cs x es = (λ h. h, λ h. h)
-    behind_left false s left cs x es = (λ h. h, λ h. h)
+    behind_left : (u : Terms) (v : Bool) (s : State) (left cs x : List ℕ) (es : List Mark) → Behind v s u cs x es ↔ Behind v (record s { left = left }) u cs x es
+    behind_left u true s left cs x es = (λ h. h, λ h. h)
+    behind_left u false s left cs x es = (λ h. h, λ h. h)
 
 -- a reference to a number
-pub number_ends : (s : State) (b : ℕ) (new : State) → b ≡ 59 → IsRadix s.radix → IsXmlChar s.number → Reached s.marks (Behind s.in_value s (encode_utf8 s.number)) new → Follows s.marks (Rests places.Digit s) b new
-number_ends s b new e i c r = at_byte s.marks (Rests places.Digit s) b 59 new e (follows_reached s.marks (Rests places.Digit s) (Behind s.in_value s (encode_utf8 s.number)) 59 new (λ x es. digit_end s.radix s.number (Behind s.in_value s) x es i c) r)
+pub number_ends : (s : State) (b : ℕ) (new : State) → b ≡ 59 → IsRadix s.radix → IsXmlChar s.number → Reached s.marks (BehindReference s (encode_utf8 s.number)) new → Follows s.marks (Rests places.Digit s) b new
+number_ends s b new e i c r = at_byte s.marks (Rests places.Digit s) b 59 new e (follows_reached s.marks (Rests places.Digit s) (BehindReference s (encode_utf8 s.number)) 59 new (λ u d x es. digit_end s.radix s.number (Behind s.in_value s u) x es i c) r)
 
 pub number_stuck : (s : State) (b : ℕ) → b ≡ 59 → IsRadix s.radix → (IsXmlChar s.number → ⊥) → Stuck (Rests places.Digit s) b
-number_stuck s b e i n = subst (λ z. Stuck (Rests places.Digit s) z) (sym e) (λ x es h. digit_end_stuck s.radix s.number (Behind s.in_value s) x es i n h)
+number_stuck s b e i n = subst (λ z. Stuck (Rests places.Digit s) z) (sym e) (λ u d x es h. digit_end_stuck s.radix s.number (Behind s.in_value s u) x es i n h)
 
 -- the start
 pub runs_start : (s : State) → s.place ≡ places.Start → s.marks ≡ [] → Good places.Start s → Runs s []
 runs_start s p m g = record {
   good = subst (λ z. Good z s) (sym p) g;
-  same = λ rest says. (
-    (λ h. record { later = says; whole = ap (λ z. z ++ says) (sym m); rest = subst (λ z. Rests z s rest says) (sym p) h }),
-    (λ h. let k : Whole rest h.later = subst (λ z. Rests z s rest h.later) p h.rest in subst (λ z. Whole rest z) (sym (h.whole ∙ ap (λ z. z ++ h.later) m)) k),
+  same = λ u d rest says. (
+    (λ h. record { later = says; whole = ap (λ z. z ++ says) (sym m); rest = subst (λ z. Rests z s u rest says) (sym p) h }),
+    (λ h. let k : Whole u rest h.later = subst (λ z. Rests z s u rest h.later) p h.rest in subst (λ z. Whole u rest z) (sym (h.whole ∙ ap (λ z. z ++ h.later) m)) k),
   );
 }
 
-pub attribute_done : (s t new : State) → t.kept ≡ keep s.key s.value s.kept → s.marks ≡ t.marks → t ≡ record s { kept = t.kept; marks = t.marks } → new ≡ record t { place = places.TagAfter; keys = t.keys ++ (t.key ∷ []); key = [] } → Reached s.marks (VK s s.value) new
-attribute_done s t new f m e q = subst (λ z. Reached s.marks (VK s s.value) z) (sym (q ∙ ap {A = State} (λ z. record z { place = places.TagAfter; keys = z.keys ++ (z.key ∷ []); key = [] }) e)) (attribute_over s (s.keys ++ (s.key ∷ [])) [] t.kept t.marks refl f m)
+pub attribute_done : (s t new : State) → t.kept ≡ keep s.key s.value s.kept → s.marks ≡ t.marks → t ≡ record s { kept = t.kept; marks = t.marks } → new ≡ record t { place = places.TagAfter; keys = t.keys ++ (t.key ∷ []); key = [] } → Reached s.marks (BehindValue s s.value) new
+attribute_done s t new f m e q = subst (λ z. Reached s.marks (BehindValue s s.value) z) (sym (q ∙ ap {A = State} (λ z. record z { place = places.TagAfter; keys = z.keys ++ (z.key ∷ []); key = [] }) e)) (attribute_over s (s.keys ++ (s.key ∷ [])) [] t.kept t.marks refl f m)
 
 -- a goal that only moves on
-pub reach_place : (s : State) (g : Goal) (p : Place) → s.goal ≡ g → GoodGoal s.goal s → (GoodGoal g s → Good p (record s { place = p })) → ((x : List ℕ) (es : List Mark) → Reaches g s x es ↔ Rests p (record s { place = p }) x es) → Reached s.marks (Reaches s.goal s) (record s { place = p })
-reach_place s g p e k f h = subst (λ z. Reached s.marks (Reaches z s) (record s { place = p })) (sym e) (stays s.marks (Reaches g s) (record s { place = p }) refl (f (subst (λ z. GoodGoal z s) e k)) h)
+pub reach_place : (s : State) (g : Goal) (p : Place) → s.goal ≡ g → GoodGoal s.goal s → (GoodGoal g s → Good p (record s { place = p })) → ((u : Terms) (x : List ℕ) (es : List Mark) → Reaches g s u x es ↔ Rests p (record s { place = p }) u x es) → Reached s.marks (Reaches s.goal s) (record s { place = p })
+reach_place s g p e k f h = subst (λ z. Reached s.marks (Reaches z s) (record s { place = p })) (sym e) (stays s.marks (Reaches g s) (record s { place = p }) refl (f (subst (λ z. GoodGoal z s) e k)) (λ u d. h u))
 
 -- a reference in a value
-pub emit_value : (s : State) (cs v : List ℕ) → v ≡ s.value ++ cs → s.in_value ≡ true → GoodReference s.in_value s → Reached s.marks (Behind s.in_value s cs) (record s { place = places.Value; value = v })
-emit_value s cs v e i g = subst (λ z. Reached s.marks (Behind s.in_value s cs) (record s { place = places.Value; value = z })) (sym e) (subst (λ z. Reached s.marks (Behind z s cs) (record s { place = places.Value; value = s.value ++ cs })) (sym i) (stays s.marks (Behind true s cs) (record s { place = places.Value; value = s.value ++ cs }) refl (subst (λ z. GoodReference z s) i g) (λ x es. (λ h. h, λ h. h))))
+pub emit_value : (s : State) (cs v : List ℕ) → v ≡ s.value ++ cs → s.in_value ≡ true → GoodReference s.in_value s → Reached s.marks (BehindReference s cs) (record s { place = places.Value; value = v })
+emit_value s cs v e i g = subst (λ z. Reached s.marks (BehindReference s cs) (record s { place = places.Value; value = z })) (sym e) (subst (λ z. Reached s.marks (λ u. Behind z s u cs) (record s { place = places.Value; value = s.value ++ cs })) (sym i) (stays s.marks (λ u. Behind true s u cs) (record s { place = places.Value; value = s.value ++ cs }) refl (subst (λ z. GoodReference z s) i g) (λ u d x es. (λ h. h, λ h. h))))
 
 -- a reference in content
-pub emit_said : (s : State) (cs : List ℕ) (kept : List Attribute) (marks : List Mark) → marks ≡ s.marks ++ map Char cs → kept ≡ [] → s.in_value ≡ false → Reached s.marks (Behind s.in_value s cs) (record s { place = places.Content; count = 0; kept = kept; marks = marks })
+pub emit_said : (s : State) (cs : List ℕ) (kept : List Attribute) (marks : List Mark) → marks ≡ s.marks ++ map Char cs → kept ≡ [] → s.in_value ≡ false → Reached s.marks (BehindReference s cs) (record s { place = places.Content; count = 0; kept = kept; marks = marks })
 emit_said s cs kept marks m k i = let T : State = record s { place = places.Content; count = 0; kept = kept; marks = marks } in
-    subst (λ z. Reached s.marks (Behind z s cs) T) (sym i) (reached_saying s.marks (map Char cs) (Behind false s cs) (Insides 0 s.names) T (λ x es. (λ h. h, λ h. h)) (subst (λ z. Reached z (Insides 0 s.names) T) m (at_here T refl k)))
+    subst (λ z. Reached s.marks (λ u. Behind z s u cs) T) (sym i) (reached_saying s.marks (map Char cs) (λ u. Behind false s u cs) (Insides 0 s.names) T (λ u d x es. (λ h. h, λ h. h)) (subst (λ z. Reached z (Insides 0 s.names) T) m (at_here T refl k)))
 
 -- the document is whole
-pub finish_whole : (s : State) → s.place ≡ places.Epilog → (says : List Mark) → Completes s [] says ↔ (says ≡ s.marks)
-finish_whole s e says = (
-  (λ h. let a : After [] h.later = subst (λ z. Rests z s [] h.later) e h.rest in h.whole ∙ ap (λ z. s.marks ++ z) a.says ∙ append-nil s.marks),
-  (λ q. let a : After [] [] = record { misc = misc_over; small = tt; text = refl; says = refl } in record { later = []; whole = q ∙ sym (append-nil s.marks); rest = subst (λ z. Rests z s [] []) (sym e) a }),
+pub finish_whole : (s : State) → s.place ≡ places.Epilog → (u : Terms) (says : List Mark) → Completes s u [] says ↔ (says ≡ s.marks)
+finish_whole s e u says = (
+  (λ h. let a : After u [] h.later = subst (λ z. Rests z s u [] h.later) e h.rest in h.whole ∙ ap (λ z. s.marks ++ z) a.says ∙ append-nil s.marks),
+  (λ q. let a : After u [] [] = record { misc = misc_over; text = refl; says = refl } in record { later = []; whole = q ∙ sym (append-nil s.marks); rest = subst (λ z. Rests z s u [] []) (sym e) a }),
 )
 
 -- the goal's own condition doesn't either
 goal_same : (g : Goal) (s : State) (left : List ℕ) → GoodGoal g s → GoodGoal g (record s { left = left })
 goal_same goals.Marked s left h = h
-goal_same goals.Declaration s left h = h
+goal_same goals.Comment s left h = h
+goal_same goals.Section s left h = h
+goal_same goals.Around s left h = h
 goal_same goals.Field s left h = h
 goal_same goals.Prolog s left h = h
 goal_same goals.EmptyTag s left h = h
@@ -116,7 +119,7 @@ goal_same goals.Entity s left h = (value_same s.in_value s left h.0, h.1)
     value_same false s left h = h
 
 pub word_goes : (s : State) (b : ℕ) (left : List ℕ) → s.left ≡ b ∷ left → left ≢ [] → s.place ≡ places.Word → GoodGoal s.goal s → Follows s.marks (Rests places.Word s) b (record s { left = left })
-word_goes s b left e n p g = word_stays s b left e n p g (goal_same s.goal s left g) (λ x es. reaches_same s.goal s left x es)
+word_goes s b left e n p g = word_stays s b left e n p g (goal_same s.goal s left g) (λ u x es. reaches_same s.goal s left u x es)
 
 pub left_at : (ws : List ℕ) (m x b : ℕ) → m < length ws → x ≡ get_or ws m x → x ≡ b → drop m ws ≡ b ∷ drop (m + 1) ws
 left_at ws m x b l e q = drop_at ws m x l e ∙ ap (λ z. z ∷ drop (m + 1) ws) q
@@ -125,4 +128,4 @@ pub drop_some : (xs : List ℕ) (i : ℕ) → i < length xs → drop i xs ≢ []
 drop_some xs i l e = let d = drop-cons xs i 0 l in cc
 
 pub word_reaches : (s : State) (b : ℕ) (left : List ℕ) (new : State) → s.left ≡ b ∷ left → left ≡ [] → Reached s.marks (Reaches s.goal (record s { left = left })) new → Follows s.marks (Rests places.Word s) b new
-word_reaches s b left new e n r = word_ends s b new (e ∙ ap (λ z. b ∷ z) n) (reached_from s.marks (Reaches s.goal s) (Reaches s.goal (record s { left = left })) new (λ x es. reaches_same s.goal s left x es) r)
+word_reaches s b left new e n r = word_ends s b new (e ∙ ap (λ z. b ∷ z) n) (reached_from s.marks (Reaches s.goal s) (Reaches s.goal (record s { left = left })) new (λ u d x es. reaches_same s.goal s left u x es) r)

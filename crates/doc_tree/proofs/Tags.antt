@@ -6,7 +6,7 @@ use Rattle.tree_grammar.specs.Characters.{IsSpace, Each, local_part}
 use Rattle.tree_grammar.specs.Tags.{IsQuote, Equals, equals_text, value_text, value_chars, Attributes, no_attribute, attribute, attributes_text, attribute_list, is_kept, IsFresh}
 use Rattle.tree_grammar.specs.Content.{Body, closed, opened, body_text}
 use Rattle.doc_tree.specs.Marks.{Mark, Start, Finish, content_marks, body_marks}
-use Rattle.doc_tree.specs.Rests.{Then, Word, Quoted, QuoteRest, EqualsRest, TagRest, BodyRest, IsBodyFit, Inside, AttributeValue, Saying, Between, room_in, keep}
+use Rattle.doc_tree.specs.Rests.{Terms, Then, Word, Quoted, QuoteRest, EqualsRest, TagRest, BodyRest, IsBodyFit, Inside, AttributeValue, Saying, Between, room_in, keep}
 use Rattle.doc_tree.specs.Completes.{State, InTag, InKey, TagChoice}
 use Rattle.doc_tree.proofs.Bytes.{space_low}
 
@@ -58,31 +58,31 @@ module _ (room : ℕ) (name : List ℕ) (kept : List Attribute) (K : List ℕ �
   )
 
 -- the fields of the tag that is read
-module _ (s : State) where
+module _ (u : Terms) (s : State) where
   abbrev R : ℕ
-  R = room_in s.names - 1
+  R = room_in u s.names - 1
 
   abbrev K0 : List ℕ → List Mark → Type 0
-  K0 = Between 0 s.names
+  K0 = Between 0 s.names u
 
   -- behind white space
-  space_to : (b : ℕ) (r : List ℕ) (es : List Mark) → IsSpace b → (attributes : Attributes) → IsFresh s.keys attributes → (space : List ℕ) → Each IsSpace space → (y : List ℕ) → b ∷ r ≡ attributes_text attributes (space ++ y) → BodyRest R s.name (s.kept ++ attribute_list attributes) K0 y es → Then (Each IsSpace) (λ _. TagChoice s) r es
+  space_to : (b : ℕ) (r : List ℕ) (es : List Mark) → IsSpace b → (attributes : Attributes) → IsFresh s.keys attributes → (space : List ℕ) → Each IsSpace space → (y : List ℕ) → b ∷ r ≡ attributes_text attributes (space ++ y) → BodyRest R s.name (s.kept ++ attribute_list attributes) K0 y es → Then (Each IsSpace) (λ _. TagChoice s u) r es
   space_to b r es sb no_attribute f [] sp y e a = absurd (body_space R s.name (s.kept ++ []) K0 b r es sb (subst (λ z. BodyRest R s.name (s.kept ++ []) K0 z es) (sym e) a))
   space_to b r es sb no_attribute f (c ∷ cs) sp y e a = record { run = cs; is = sp.1; behind = y; text = cc; after = inl (subst (λ z. BodyRest R s.name z K0 y es) (append-nil s.kept) a) }
   space_to b r es sb (attribute [] n p o q quote i v more) f space sp y e a = absurd p
   space_to b r es sb (attribute (c ∷ cs) n p o q quote i v more) f space sp y e a = record { run = cs; is = p.1; behind = n ++ equals_text q (quote ∷ value_text v (attributes_text more (space ++ y))); text = cc; after = inr (record { run = n; is = o; behind = equals_text q (quote ∷ value_text v (attributes_text more (space ++ y))); text = refl; after = record { new = f.0; over = equals_to (λ z. AttributeValue R s.name s.keys s.kept K0 n z []) q quote i (value_text v (attributes_text more (space ++ y))) (equals_text q (quote ∷ value_text v (attributes_text more (space ++ y)))) es refl (record { value = v; behind = attributes_text more (space ++ y); text = refl; after = record { attributes = more; fresh = f.1; space = space; spaced = sp; behind = y; text = refl; after = subst (λ z. BodyRest R s.name z K0 y es) (sym (keep_more (is_kept n) (record { name = n; value = value_chars v }) s.kept (attribute_list more))) a } }) } }) }
 
-  choice_from : (b : ℕ) → IsSpace b → (run : List ℕ) → Each IsSpace run → (y x : List ℕ) (es : List Mark) → x ≡ run ++ y → TagChoice s y es → InTag s s.name (b ∷ x) es
+  choice_from : (b : ℕ) → IsSpace b → (run : List ℕ) → Each IsSpace run → (y x : List ℕ) (es : List Mark) → x ≡ run ++ y → TagChoice s u y es → InTag s s.name u (b ∷ x) es
   choice_from b sb run p y x es e (inl h) = record { attributes = no_attribute; fresh = tt; space = b ∷ run; spaced = (sb, p); behind = y; text = ap (λ z. b ∷ z) e; after = subst (λ z. BodyRest R s.name z K0 y es) (sym (append-nil s.kept)) h }
   choice_from b sb run p y x es e (inr h) =
-      let k : InKey s h.run h.behind es = h.after in
+      let k : InKey s u h.run h.behind es = h.after in
       let q = equals_of (λ z. AttributeValue R s.name s.keys s.kept K0 h.run z []) h.behind es k.over in
       let v : AttributeValue R s.name s.keys s.kept K0 h.run q.1 [] q.3 es = q.5 in
       let t : TagRest R s.name (s.keys ++ (h.run ∷ [])) (keep h.run (value_chars v.value) s.kept) K0 v.behind es = v.after in
       let e1 = h.text in let e2 = q.4 in let e3 = v.text in let e4 = t.text in
       record { attributes = attribute (b ∷ run) h.run (sb, p) h.is q.0 q.1 q.2 v.value t.attributes; fresh = (k.new, t.fresh); space = t.space; spaced = t.spaced; behind = t.behind; text = cc; after = subst (λ z. BodyRest R s.name z K0 t.behind es) (keep_more (is_kept h.run) (record { name = h.run; value = value_chars v.value }) s.kept (attribute_list t.attributes)) t.after }
 
-  pub tag_space : (b : ℕ) (r : List ℕ) (es : List Mark) → IsSpace b → InTag s s.name (b ∷ r) es ↔ Then (Each IsSpace) (λ _. TagChoice s) r es
+  pub tag_space : (b : ℕ) (r : List ℕ) (es : List Mark) → IsSpace b → InTag s s.name u (b ∷ r) es ↔ Then (Each IsSpace) (λ _. TagChoice s u) r es
   tag_space b r es sb = (
     λ h. space_to b r es sb h.attributes h.fresh h.space h.spaced h.behind h.text h.after,
     λ h. choice_from b sb h.run h.is h.behind r es h.text h.after,
@@ -95,7 +95,7 @@ module _ (s : State) where
   plain_to b r es ns (attribute [] n p o q quote i v more) space sp y e a = absurd p
   plain_to b r es ns (attribute (c ∷ cs) n p o q quote i v more) space sp y e a = let h : c ≡ b = cc in absurd (ns (subst IsSpace h p.0))
 
-  pub tag_plain : (b : ℕ) (r : List ℕ) (es : List Mark) → (IsSpace b → ⊥) → InTag s s.name (b ∷ r) es ↔ BodyRest R s.name s.kept K0 (b ∷ r) es
+  pub tag_plain : (b : ℕ) (r : List ℕ) (es : List Mark) → (IsSpace b → ⊥) → InTag s s.name u (b ∷ r) es ↔ BodyRest R s.name s.kept K0 (b ∷ r) es
   tag_plain b r es ns = (
     λ h. plain_to b r es ns h.attributes h.space h.spaced h.behind h.text h.after,
     λ h. record { attributes = no_attribute; fresh = tt; space = []; spaced = tt; behind = b ∷ r; text = refl; after = subst (λ z. BodyRest R s.name z K0 (b ∷ r) es) (sym (append-nil s.kept)) h },

@@ -1,13 +1,17 @@
 -- The machine's state without where it lies in memory, and what completes a document from there.
-use Rattle.std.specs.Prelude.{◌≡◌, ℕ, List, [], ◌∷◌, ◌++◌, Bool, true, false, map, reverse, drop, ◌↔◌, ◌⊎◌, ◌≤◌, ◌-◌, ◌≢◌, encode_utf8}
+use Rattle.std.specs.Prelude.{◌≡◌, ℕ, List, [], ◌∷◌, ◌++◌, Bool, true, false, map, reverse, drop, ◌↔◌, ◌⊎◌, ◌≤◌, ◌-◌, ◌≢◌, length, encode_utf8}
 use Rattle.std.specs.Char.{IsScalar}
 use Rattle.tree_grammar.specs.Elements.{Attribute}
-use Rattle.tree_grammar.specs.Characters.{IsSpace, Each, IsQName, local_part}
+use Rattle.tree_grammar.specs.Characters.{IsSpace, Each, IsNameStart, IsQName, local_part}
 use Rattle.tree_grammar.specs.Tags.{IsAmong, IsQuote}
+use Rattle.tree_grammar.specs.Declaration.{IsEncodingName, IsUtf8Name}
 use Rattle.element_tree.specs.Building.{said}
 use Rattle.doc_tree.specs.Marks.{Mark, Start, Char, Finish, spread}
-use Rattle.doc_tree.specs.Rests.{Then, Word, QuoteRest, RefRest, DigitRest, NumeralRest, IsPart, EndRest, Saying, Or, TagRest, BodyRest, AttributeValue, KeyOver, KeyRest, After, room_in, Between, Before, FieldValue, FieldOver, Choice, Gap, Marked, Whole}
+use Rattle.doc_tree.specs.Rests.{Terms, Then, Word, QuoteRest, RefRest, DigitRest, NumeralRest, IsPart, CommentRest, SectionRest, pending, PiText, PiOver, FirstOver, EndRest, Saying, Or, Never, TagRest, BodyRest, AttributeValue, KeyOver, KeyRest, After, room_in, keep, Between, Before, FieldValue, FieldOver, IsBegun, Choice, Gap, Marked, Whole}
 use Rattle.doc_tree.specs.declared.names.Part.{Part}
+use Rattle.doc_tree.specs.declared.names.Part.TheVariants as parts
+use Rattle.doc_tree.specs.declared.machine.Round.{Round}
+use Rattle.doc_tree.specs.declared.machine.Round.TheVariants as rounds
 use Rattle.doc_tree.specs.declared.declaration.Field.{Field}
 use Rattle.doc_tree.specs.declared.declaration.Field.TheVariants as fields
 use Rattle.doc_tree.specs.declared.machine.Goal.{Goal}
@@ -18,6 +22,7 @@ use Rattle.doc_tree.specs.declared.machine.Machine.{Machine}
 
 pub record State : Type 0 where
   pub place : Place
+  pub round : Round
   pub names : List (List ℕ)
   pub field : Field
   pub left : List ℕ
@@ -38,6 +43,7 @@ pub record State : Type 0 where
 abbrev pub view : Machine → State
 view m = record {
   place = m.place;
+  round = m.round;
   names = reverse (map (λ v. v.items) m.names.items);
   field = m.field;
   left = drop m.matched m.word.items;
@@ -57,83 +63,126 @@ view m = record {
 }
 
 -- In the content of an element.
-abbrev pub Insides : ℕ → List (List ℕ) → List ℕ → List Mark → Type 0
-Insides count [] bytes marks = ⊥
-Insides count (name ∷ names) bytes marks = Between count (name ∷ names) bytes marks
+abbrev pub Insides : ℕ → List (List ℕ) → Terms → List ℕ → List Mark → Type 0
+Insides count [] t = Never
+Insides count (name ∷ names) t = Between count (name ∷ names) t
 
 -- In an end tag, behind the innermost element's name.
-abbrev pub EndOver : List (List ℕ) → List ℕ → List Mark → Type 0
-EndOver [] bytes marks = ⊥
-EndOver (name ∷ names) bytes marks = EndRest name (Between 0 names) bytes marks
+abbrev pub EndOver : List (List ℕ) → Terms → List ℕ → List Mark → Type 0
+EndOver [] t bytes marks = ⊥
+EndOver (name ∷ names) t bytes marks = EndRest name (Between 0 names t) bytes marks
 
 -- In the start tag that is read.
-abbrev pub InTag : State → List ℕ → List ℕ → List Mark → Type 0
-InTag s name = TagRest (room_in s.names - 1) name s.keys s.kept (Between 0 s.names)
+abbrev pub InTag : State → List ℕ → Terms → List ℕ → List Mark → Type 0
+InTag s name t = TagRest (room_in t s.names - 1) name s.keys s.kept (Between 0 s.names t)
 
 -- In its attribute that is read, behind the name.
-abbrev pub InKey : State → List ℕ → List ℕ → List Mark → Type 0
-InKey s key = KeyRest (room_in s.names - 1) s.name s.keys s.kept (Between 0 s.names) key
+abbrev pub InKey : State → Terms → List ℕ → List ℕ → List Mark → Type 0
+InKey s t key = KeyRest (room_in t s.names - 1) s.name s.keys s.kept (Between 0 s.names t) key
+
+-- The same behind the whole name.
+abbrev pub BehindKey : State → Terms → List ℕ → List Mark → Type 0
+BehindKey s t = InKey s t s.key
+
+-- Behind its white space.
+abbrev pub InBody : State → Terms → List ℕ → List Mark → Type 0
+InBody s t = BodyRest (room_in t s.names - 1) s.name s.kept (Between 0 s.names t)
 
 -- Behind white space in it: an attribute, or the tag's end.
-abbrev pub TagChoice : State → List ℕ → List Mark → Type 0
-TagChoice s = Or (BodyRest (room_in s.names - 1) s.name s.kept (Between 0 s.names)) (Then IsQName (InKey s))
+abbrev pub TagChoice : State → Terms → List ℕ → List Mark → Type 0
+TagChoice s t = Or (InBody s t) (Then IsQName (InKey s t))
 
 -- In its value, behind this much of what it says.
-abbrev pub InValue : State → List ℕ → List ℕ → List Mark → Type 0
-InValue s before = AttributeValue (room_in s.names - 1) s.name s.keys s.kept (Between 0 s.names) s.key s.quote before
+abbrev pub InValue : State → List ℕ → Terms → List ℕ → List Mark → Type 0
+InValue s before t = AttributeValue (room_in t s.names - 1) s.name s.keys s.kept (Between 0 s.names t) s.key s.quote before
+
+-- Behind the attribute that is read, whose value this is.
+abbrev pub BehindValue : State → List ℕ → Terms → List ℕ → List Mark → Type 0
+BehindValue s value t = TagRest (room_in t s.names - 1) s.name (s.keys ++ (s.key ∷ [])) (keep s.key value s.kept) (Between 0 s.names t)
 
 -- Behind a reference in content that stands for these characters.
-abbrev pub Said : List (List ℕ) → List ℕ → List ℕ → List Mark → Type 0
-Said names chars = Saying (map Char chars) (Insides 0 names)
+abbrev pub Said : List (List ℕ) → Terms → List ℕ → List ℕ → List Mark → Type 0
+Said names t chars = Saying (map Char chars) (Insides 0 names t)
 
 -- Behind a reference that stands for these characters.
-abbrev pub Behind : Bool → State → List ℕ → List ℕ → List Mark → Type 0
-Behind true s chars = InValue s (s.value ++ chars)
-Behind false s chars = Said s.names chars
+abbrev pub Behind : Bool → State → Terms → List ℕ → List ℕ → List Mark → Type 0
+Behind true s t chars = InValue s (s.value ++ chars) t
+Behind false s t chars = Said s.names t chars
+
+-- The same where the state knows where it stands.
+abbrev pub BehindReference : State → List ℕ → Terms → List ℕ → List Mark → Type 0
+BehindReference s chars t = Behind s.in_value s t chars
 
 -- Behind an empty-element tag.
-abbrev pub Emptied : State → List ℕ → List Mark → Type 0
-Emptied s = Saying (Start (local_part s.name) s.kept ∷ Finish (local_part s.name) ∷ []) (Between 0 s.names)
+abbrev pub Emptied : State → Terms → List ℕ → List Mark → Type 0
+Emptied s t = Saying (Start (local_part s.name) s.kept ∷ Finish (local_part s.name) ∷ []) (Between 0 s.names t)
+
+-- Behind a comment, an instruction or a section.
+abbrev pub Around : Round → List (List ℕ) → Terms → List ℕ → List Mark → Type 0
+Around rounds.Prolog names t = Before t
+Around rounds.Content names t = Insides 0 names t
+Around rounds.Epilog names t = After t
+
+-- Behind the name of the instruction that is read.
+abbrev pub PiNamed : State → Terms → List ℕ → List Mark → Type 0
+PiNamed s t = PiOver s.name (Around s.round s.names t)
+
+-- In a reference's digits, with this value so far.
+abbrev pub InNumeral : ℕ → ℕ → State → Terms → List ℕ → List Mark → Type 0
+InNumeral radix number s t = NumeralRest radix number (Behind s.in_value s t)
 
 -- Behind the fixed text that is read.
-abbrev pub Reaches : Goal → State → List ℕ → List Mark → Type 0
-Reaches goals.Marked s = Marked
-Reaches goals.Declaration s = Gap fields.Before
-Reaches goals.Field s = FieldOver s.field (Gap s.field)
-Reaches goals.Prolog s = Before
-Reaches goals.EmptyTag s = Emptied s
-Reaches goals.EndName s = EndOver s.names
-Reaches goals.Entity s = Behind s.in_value s (encode_utf8 s.number)
+abbrev pub Reaches : Goal → State → Terms → List ℕ → List Mark → Type 0
+Reaches goals.Marked s t = Marked t
+Reaches goals.Field s t = FieldOver t s.field (Gap s.field t)
+Reaches goals.Prolog s t = Before t
+Reaches goals.EmptyTag s t = Emptied s t
+Reaches goals.EndName s t = EndOver s.names t
+Reaches goals.Comment s t = CommentRest (Around s.round s.names t)
+Reaches goals.Section s t = SectionRest 0 (Insides 0 s.names t)
+Reaches goals.Around s t = Around s.round s.names t
+Reaches goals.Entity s t = Behind s.in_value s t (encode_utf8 s.number)
 
 -- The bytes and marks that complete a document from here.
-abbrev pub Rests : Place → State → List ℕ → List Mark → Type 0
-Rests places.Start s bytes = Whole bytes
-Rests places.Marked s bytes = Marked bytes
-Rests places.FirstLess s bytes = Marked (60 ∷ bytes)
-Rests places.Prolog s bytes = Before bytes
-Rests places.PrologLess s bytes = Before (60 ∷ bytes)
-Rests places.FieldGap s bytes = Gap s.field bytes
-Rests places.FieldSpace s bytes = Then (Each IsSpace) (λ _. Choice s.field) bytes
-Rests places.FieldEquals s bytes = FieldOver s.field (Gap s.field) bytes
-Rests places.FieldQuote s bytes = QuoteRest (FieldValue s.field (Gap s.field) []) bytes
-Rests places.FieldValue s bytes = FieldValue s.field (Gap s.field) s.value s.quote bytes
-Rests places.Word s bytes = Word s.left (Reaches s.goal s) bytes
-Rests places.TagName s bytes = Then (IsPart s.part) (λ run. InTag s (s.name ++ run)) bytes
-Rests places.TagAfter s bytes = InTag s s.name bytes
-Rests places.TagSpace s bytes = Then (Each IsSpace) (λ _. TagChoice s) bytes
-Rests places.Key s bytes = Then (IsPart s.part) (λ run. InKey s (s.key ++ run)) bytes
-Rests places.KeyEquals s bytes = KeyOver (room_in s.names - 1) s.name s.keys s.kept (Between 0 s.names) s.key bytes
-Rests places.KeyQuote s bytes = QuoteRest (λ quote. AttributeValue (room_in s.names - 1) s.name s.keys s.kept (Between 0 s.names) s.key quote []) bytes
-Rests places.Value s bytes = InValue s s.value bytes
-Rests places.Content s bytes = Insides s.count s.names bytes
-Rests places.ContentLess s bytes = Insides 0 s.names (60 ∷ bytes)
-Rests places.EndSpace s bytes = EndOver s.names bytes
-Rests places.Ampersand s bytes = RefRest (Behind s.in_value s) bytes
-Rests places.AmpersandA s bytes = RefRest (Behind s.in_value s) (97 ∷ bytes)
-Rests places.Hash s bytes = RefRest (Behind s.in_value s) (35 ∷ bytes)
-Rests places.NoDigit s bytes = NumeralRest s.radix 0 (Behind s.in_value s) bytes
-Rests places.Digit s bytes = DigitRest s.radix s.number (Behind s.in_value s) bytes
-Rests places.Epilog s bytes = After bytes
+abbrev pub Rests : Place → State → Terms → List ℕ → List Mark → Type 0
+Rests places.Start s t bytes = Whole t bytes
+Rests places.Marked s t bytes = Marked t bytes
+Rests places.FirstLess s t bytes = Marked t (60 ∷ bytes)
+Rests places.Prolog s t bytes = Before t bytes
+Rests places.PrologLess s t bytes = Before t (60 ∷ bytes)
+Rests places.FieldGap s t bytes = Gap s.field t bytes
+Rests places.FieldSpace s t bytes = Then (Each IsSpace) (λ _. Choice s.field t) bytes
+Rests places.FieldEquals s t bytes = FieldOver t s.field (Gap s.field t) bytes
+Rests places.FieldQuote s t bytes = QuoteRest (FieldValue t s.field (Gap s.field t) []) bytes
+Rests places.FieldValue s t bytes = FieldValue t s.field (Gap s.field t) s.value s.quote bytes
+Rests places.Word s t bytes = Word s.left (Reaches s.goal s t) bytes
+Rests places.TagName s t bytes = Then (IsPart s.part) (λ run. InTag s (s.name ++ run) t) bytes
+Rests places.TagAfter s t bytes = InTag s s.name t bytes
+Rests places.TagSpace s t bytes = Then (Each IsSpace) (λ _. TagChoice s t) bytes
+Rests places.Key s t bytes = Then (IsPart s.part) (λ run. InKey s t (s.key ++ run)) bytes
+Rests places.KeyEquals s t bytes = KeyOver (room_in t s.names - 1) s.name s.keys s.kept (Between 0 s.names t) s.key bytes
+Rests places.KeyQuote s t bytes = QuoteRest (λ quote. AttributeValue (room_in t s.names - 1) s.name s.keys s.kept (Between 0 s.names t) s.key quote []) bytes
+Rests places.Value s t bytes = InValue s s.value t bytes
+Rests places.Content s t bytes = Insides s.count s.names t bytes
+Rests places.ContentLess s t bytes = Insides 0 s.names t (60 ∷ bytes)
+Rests places.EndSpace s t bytes = EndOver s.names t bytes
+Rests places.Ampersand s t bytes = RefRest (Behind s.in_value s t) bytes
+Rests places.AmpersandA s t bytes = RefRest (Behind s.in_value s t) (97 ∷ bytes)
+Rests places.Hash s t bytes = RefRest (Behind s.in_value s t) (35 ∷ bytes)
+Rests places.NoDigit s t bytes = InNumeral s.radix 0 s t bytes
+Rests places.Digit s t bytes = DigitRest s.radix s.number (Behind s.in_value s t) bytes
+Rests places.Epilog s t bytes = After t bytes
+Rests places.EpilogLess s t bytes = After t (60 ∷ bytes)
+Rests places.Bang s t bytes = Around s.round s.names t (60 ∷ 33 ∷ bytes)
+Rests places.Comment s t bytes = CommentRest (Around s.round s.names t) bytes
+Rests places.CommentDash s t bytes = CommentRest (Around s.round s.names t) (45 ∷ bytes)
+Rests places.Section s t bytes = SectionRest 0 (Insides 0 s.names t) (pending s.count bytes)
+Rests places.FirstQuestion s t bytes = Marked t (60 ∷ 63 ∷ bytes)
+Rests places.FirstName s t bytes = Then (IsPart parts.Local) (λ run. FirstOver (s.name ++ run) t) bytes
+Rests places.Question s t bytes = Around s.round s.names t (60 ∷ 63 ∷ bytes)
+Rests places.PiName s t bytes = Then (IsPart parts.Local) (λ run. PiOver (s.name ++ run) (Around s.round s.names t)) bytes
+Rests places.PiText s t bytes = PiText (Around s.round s.names t) bytes
+Rests places.PiMark s t bytes = PiText (Around s.round s.names t) (63 ∷ bytes)
 
 -- Behind these marks.
 pub record Goes (before : List Mark) (K : List ℕ → List Mark → Type 0) (bytes : List ℕ) (says : List Mark) : Type 0 where
@@ -142,12 +191,18 @@ pub record Goes (before : List Mark) (K : List ℕ → List Mark → Type 0) (by
   pub rest : K bytes later
 
 -- The rest of the bytes with which the document says all of this.
-abbrev pub Completes : State → List ℕ → List Mark → Type 0
-Completes s = Goes s.marks (Rests s.place s)
+abbrev pub Completes : State → Terms → List ℕ → List Mark → Type 0
+Completes s t = Goes s.marks (Rests s.place s t)
 
 -- Before the root.
 abbrev pub Outer : State → Type 0
 Outer s = (s.kept ≡ []) × (s.names ≡ [])
+
+-- Where a comment or an instruction stands.
+abbrev pub GoodRound : Round → List (List ℕ) → List Attribute → Type 0
+GoodRound rounds.Prolog names kept = (kept ≡ []) × (names ≡ [])
+GoodRound rounds.Content names kept = kept ≡ []
+GoodRound rounds.Epilog names kept = Unit {0}
 
 -- In an attribute's value.
 abbrev pub GoodValue : State → Type 0
@@ -158,8 +213,12 @@ GoodReference true s = GoodValue s
 GoodReference false s = s.kept ≡ []
 
 abbrev pub GoodGoal : Goal → State → Type 0
+GoodGoal goals.Field s = Outer s × (s.field ≢ fields.Before)
 GoodGoal goals.EmptyTag s = Unit {0}
 GoodGoal goals.EndName s = s.kept ≡ []
+GoodGoal goals.Comment s = GoodRound s.round s.names s.kept
+GoodGoal goals.Section s = s.kept ≡ []
+GoodGoal goals.Around s = GoodRound s.round s.names s.kept
 GoodGoal goals.Entity s = GoodReference s.in_value s × IsScalar s.number
 GoodGoal _ s = Outer s
 
@@ -177,7 +236,9 @@ Good places.Key s = Unit {0}
 Good places.KeyEquals s = IsAmong s.key s.keys → ⊥
 Good places.KeyQuote s = IsAmong s.key s.keys → ⊥
 Good places.Value s = GoodValue s
-Good places.FieldValue s = Outer s × IsQuote s.quote
+Good places.FieldEquals s = Outer s × (s.field ≢ fields.Before)
+Good places.FieldQuote s = Outer s × (s.field ≢ fields.Before)
+Good places.FieldValue s = Outer s × IsQuote s.quote × IsBegun s.field s.value
 Good places.Content s = s.kept ≡ []
 Good places.ContentLess s = s.kept ≡ []
 Good places.EndSpace s = s.kept ≡ []
@@ -187,31 +248,64 @@ Good places.Hash s = GoodReference s.in_value s
 Good places.NoDigit s = IsRadix s.radix × (s.number ≡ 0) × GoodReference s.in_value s
 Good places.Digit s = IsRadix s.radix × (s.number ≤ 1114111) × GoodReference s.in_value s
 Good places.Epilog s = Unit {0}
+Good places.EpilogLess s = Unit {0}
+Good places.Bang s = GoodRound s.round s.names s.kept
+Good places.Comment s = GoodRound s.round s.names s.kept
+Good places.CommentDash s = GoodRound s.round s.names s.kept
+Good places.Section s = (s.kept ≡ []) × (s.count ≤ 2)
+Good places.Question s = GoodRound s.round s.names s.kept
+Good places.PiName s = GoodRound s.round s.names s.kept
+Good places.PiText s = GoodRound s.round s.names s.kept
+Good places.PiMark s = GoodRound s.round s.names s.kept
 Good _ s = Outer s
 
 -- before a field's or an attribute's `=`, and the place behind it
 abbrev pub EqualsAt : State → Place → Type 0
-EqualsAt s to = ((s.place ≡ places.FieldEquals) × (to ≡ places.FieldQuote) × Outer s) ⊎ ((s.place ≡ places.KeyEquals) × (to ≡ places.KeyQuote) × (IsAmong s.key s.keys → ⊥))
+EqualsAt s to = ((s.place ≡ places.FieldEquals) × (to ≡ places.FieldQuote) × Outer s × (s.field ≢ fields.Before)) ⊎ ((s.place ≡ places.KeyEquals) × (to ≡ places.KeyQuote) × (IsAmong s.key s.keys → ⊥))
+
+-- behind `<?`, and the place in the name
+abbrev pub QuestionAt : State → Place → Type 0
+QuestionAt s to = ((s.place ≡ places.FirstQuestion) × (to ≡ places.FirstName) × Outer s) ⊎ ((s.place ≡ places.Question) × (to ≡ places.PiName) × GoodRound s.round s.names s.kept)
 
 -- before a field's or an attribute's value, and the place in it
 abbrev pub QuoteAt : State → Place → Type 0
-QuoteAt s to = ((s.place ≡ places.FieldQuote) × (to ≡ places.FieldValue) × Outer s) ⊎ ((s.place ≡ places.KeyQuote) × (to ≡ places.Value) × (IsAmong s.key s.keys → ⊥))
+QuoteAt s to = ((s.place ≡ places.FieldQuote) × (to ≡ places.FieldValue) × Outer s × (s.field ≢ fields.Before)) ⊎ ((s.place ≡ places.KeyQuote) × (to ≡ places.Value) × (IsAmong s.key s.keys → ⊥))
+
+-- The machine goes on wherever 32 elements may stand in one another.
+abbrev pub IsAllowed : Terms → Type 0
+IsAllowed t = 32 ≤ t.depth
 
 -- From what completes this, the machine takes the byte: behind it all stays the same.
-pub record Follows (before : List Mark) (K : List ℕ → List Mark → Type 0) (b : ℕ) (new : State) : Type 0 where
+pub record Follows (before : List Mark) (K : Terms → List ℕ → List Mark → Type 0) (b : ℕ) (new : State) : Type 0 where
   pub good : Good new.place new
-  pub same : (bytes : List ℕ) (says : List Mark) → Goes before K (b ∷ bytes) says ↔ Completes new bytes says
+  pub same : (t : Terms) → IsAllowed t → (bytes : List ℕ) (says : List Mark) → Goes before (K t) (b ∷ bytes) says ↔ Completes new t bytes says
 
 -- Nothing that begins with this byte completes it.
-abbrev pub Stuck : (List ℕ → List Mark → Type 0) → ℕ → Type 0
-Stuck K b = (bytes : List ℕ) (marks : List Mark) → K (b ∷ bytes) marks → ⊥
+abbrev pub Stuck : (Terms → List ℕ → List Mark → Type 0) → ℕ → Type 0
+Stuck K b = (t : Terms) → IsAllowed t → (bytes : List ℕ) (marks : List Mark) → K t (b ∷ bytes) marks → ⊥
+
+-- An element of depth 33 begins.
+abbrev pub IsDeep : State → ℕ → Type 0
+IsDeep s b = (s.place ≡ places.ContentLess) × (32 ≤ length s.names) × IsNameStart b
+
+-- The declaration's encoding ends here, and isn't one that is read.
+abbrev pub IsOther : State → ℕ → Type 0
+IsOther s b = (s.place ≡ places.FieldValue) × (s.field ≡ fields.Encoding) × (b ≡ s.quote) × IsEncodingName s.value × (IsUtf8Name s.value → ⊥)
+
+-- A document type begins.
+abbrev pub IsDoctype : State → ℕ → Type 0
+IsDoctype s b = (s.place ≡ places.Bang) × (s.round ≡ rounds.Prolog) × (b ≡ 68)
+
+-- Neither an element that is too deep begins, nor such an encoding ends.
+abbrev pub IsPlain : State → ℕ → Type 0
+IsPlain s b = (IsDeep s b → ⊥) × (IsOther s b → ⊥)
 
 -- What completes this is what completes the machine.
-pub record Reached (before : List Mark) (K : List ℕ → List Mark → Type 0) (new : State) : Type 0 where
+pub record Reached (before : List Mark) (K : Terms → List ℕ → List Mark → Type 0) (new : State) : Type 0 where
   pub good : Good new.place new
-  pub same : (bytes : List ℕ) (says : List Mark) → Goes before K bytes says ↔ Completes new bytes says
+  pub same : (t : Terms) → IsAllowed t → (bytes : List ℕ) (says : List Mark) → Goes before (K t) bytes says ↔ Completes new t bytes says
 
 -- What completes the state is what continues the bytes.
 pub record Runs (s : State) (bytes : List ℕ) : Type 0 where
   pub good : Good s.place s
-  pub same : (rest : List ℕ) (says : List Mark) → Whole (bytes ++ rest) says ↔ Completes s rest says
+  pub same : (t : Terms) → IsAllowed t → (rest : List ℕ) (says : List Mark) → Whole t (bytes ++ rest) says ↔ Completes s t rest says

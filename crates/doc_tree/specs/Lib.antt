@@ -4,3 +4,4 @@ pub mod Rests
 pub mod Completes
 pub mod LineEnds
 pub mod Reading
+pub mod Refusals

@@ -1,25 +1,25 @@
 -- What the reader promises.
 use Rattle.std.specs.Prelude.{◌≡◌, ℕ, ◌⊎◌, List}
 use Rattle.tree_grammar.specs.Elements.{Element, Event, events, IsShallow, IsWithin}
-use Rattle.tree_grammar.specs.Document.{SmallDoc}
+use Rattle.tree_grammar.specs.Document.{Doc}
 use Rattle.doc_tree.specs.declared.fault.TreeFault.{TreeFault}
 use Rattle.doc_tree.specs.declared.fault.TreeFault.TheVariants.{Memory}
 
--- The bytes are a small document within the bounds, and these are the events of its element.
+-- The bytes are a document within the bounds, and these are the events of its element.
 pub record Reads (limit : ℕ) (bytes : List ℕ) (told : List Event) : Type 0 where
   pub element : Element
   pub same : told ≡ events element
-  pub document : SmallDoc bytes element
+  pub document : Doc bytes element
   pub within : IsWithin limit bytes
   pub shallow : IsShallow element
 
--- Whichever element the bytes hold as a small document, these are its events.
+-- Whichever element the bytes hold as a document, these are its events.
 abbrev pub ReadsOnly : List ℕ → List Event → Type 0
-ReadsOnly bytes told = (e : Element) → SmallDoc bytes e → told ≡ events e
+ReadsOnly bytes told = (e : Element) → Doc bytes e → told ≡ events e
 
--- The bytes are no small document within the bounds.
+-- The bytes are no document within the bounds.
 abbrev pub NoneWithin : ℕ → List ℕ → Type 0
-NoneWithin limit bytes = (e : Element) → SmallDoc bytes e → IsWithin limit bytes → IsShallow e → ⊥
+NoneWithin limit bytes = (e : Element) → Doc bytes e → IsWithin limit bytes → IsShallow e → ⊥
 
 -- A fault other than want of memory comes only where the bytes are none.
 abbrev pub Refuses : ℕ → List ℕ → TreeFault → Type 0

@@ -1,17 +1,32 @@
 -- Of a document that has begun: what of the bytes completes it, and what it then says. Each relation names what comes behind it by K.
-use Rattle.std.specs.Prelude.{◌≡◌, ◌≢◌, ℕ, ◌-◌, ◌≤◌, ◌⊎◌, cond, Bool, List, [], ◌∷◌, ◌++◌, length, codes, encode_utf8}
+use Rattle.std.specs.Prelude.{◌≡◌, ◌≢◌, ℕ, zero, suc, ◌-◌, ◌≤◌, ◌⊎◌, cond, Bool, List, [], ◌∷◌, ◌++◌, length, map, codes, encode_utf8}
+use Rattle.std.specs.Char.{to_ascii_lowercase}
 use Rattle.std.specs.Str.Parse.{AllDigits, IsNumeral, digits_value_after}
 use Rattle.tree_grammar.specs.Elements.{Attribute}
-use Rattle.tree_grammar.specs.Characters.{IsXmlChar, IsSpace, Each, Some1, IsNameChar, IsName, IsQNameRest, IsQName, local_part, Reference, reference_text, reference_chars, IsDigit}
+use Rattle.tree_grammar.specs.Characters.{IsXmlChar, IsSpace, Each, Some1, IsNameChar, IsName, IsQNameRest, IsQName, local_part, Reference, reference_text, reference_chars, IsLetter, IsDigit}
 use Rattle.tree_grammar.specs.Tags.{IsQuote, Value, value_text, value_chars, Attributes, attributes_text, attribute_list, is_kept, IsAmong, IsFresh, Tag, tag_text}
-use Rattle.tree_grammar.specs.Content.{brackets, Content, nothing, char, reference, section, comment, instruction, empty, nested, content_text, end_text, Body, closed, opened, body_text, Misc, misc_text}
-use Rattle.tree_grammar.specs.Declaration.{IsEncodingName, IsUtf8Name, IsYesOrNo, Declaration, declaration_text, IsDeclarationReadable}
-use Rattle.tree_grammar.specs.Document.{IsMiscSmall, mark_text}
-use Rattle.doc_tree.specs.Marks.{Mark, Start, Finish, content_marks, body_marks}
+use Rattle.tree_grammar.specs.Content.{brackets, Comment, comment_text, IsInstructionText, IsSectionText, Content, nothing, char, reference, section, comment, instruction, empty, nested, content_text, end_text, Body, closed, opened, body_text, Misc, misc_text}
+use Rattle.tree_grammar.specs.Declaration.{IsEncodingChar, IsEncodingName, IsUtf8Name, IsYesOrNo, Encoding, no_encoding, encoded, Declaration, no_declaration, declared, declaration_text}
+use Rattle.tree_grammar.specs.Document.{mark_text}
+use Rattle.doc_tree.specs.Marks.{Mark, Start, Char, Finish, content_marks, body_marks}
 use Rattle.doc_tree.specs.declared.names.Part.{Part}
 use Rattle.doc_tree.specs.declared.names.Part.TheVariants as parts
 use Rattle.doc_tree.specs.declared.declaration.Field.{Field}
 use Rattle.doc_tree.specs.declared.declaration.Field.TheVariants as fields
+
+-- Whether the declaration may name an encoding that isn't read.
+pub data Aim : Type 0 where
+  readable : Aim
+  any : Aim
+
+abbrev pub IsRead : Aim → List ℕ → Type 0
+IsRead readable name = IsUtf8Name name
+IsRead any name = Unit {0}
+
+-- What is asked of a document: how many elements may stand in one another, and which encodings it may name.
+pub record Terms : Type 0 where
+  pub depth : ℕ
+  pub aim : Aim
 
 -- a text of the kind, and behind it what the text asks for
 pub record Then (P : List ℕ → Type 0) (K : List ℕ → List ℕ → List Mark → Type 0) (bytes : List ℕ) (marks : List Mark) : Type 0 where
@@ -71,20 +86,67 @@ pub record ValueRest (quote : ℕ) (before : List ℕ) (K : List ℕ → List �
   pub text : bytes ≡ value_text value behind
   pub after : K (before ++ value_chars value) behind marks
 
+-- What is said, and then what K says.
+pub record Saying (said : List Mark) (K : List ℕ → List Mark → Type 0) (bytes : List ℕ) (marks : List Mark) : Type 0 where
+  pub later : List Mark
+  pub says : marks ≡ said ++ later
+  pub after : K bytes later
+
+-- either
+abbrev pub Or : (List ℕ → List Mark → Type 0) → (List ℕ → List Mark → Type 0) → List ℕ → List Mark → Type 0
+Or A B bytes marks = A bytes marks ⊎ B bytes marks
+
+-- In a comment.
+pub record CommentRest (K : List ℕ → List Mark → Type 0) (bytes : List ℕ) (marks : List Mark) : Type 0 where
+  pub comment : Comment
+  pub behind : List ℕ
+  pub text : bytes ≡ comment_text comment behind
+  pub after : K behind marks
+
+-- in a CDATA section, behind so many `]` of its text
+abbrev pub SectionRest : ℕ → (List ℕ → List Mark → Type 0) → List ℕ → List Mark → Type 0
+SectionRest count K = Then (IsSectionText count) (λ run. Word (93 ∷ 93 ∷ 62 ∷ []) (Saying (map Char run) K))
+
+-- so many `]`, which may belong to the text or to the end of a section
+abbrev pub pending : ℕ → List ℕ → List ℕ
+pending zero bytes = bytes
+pending (suc n) bytes = 93 ∷ pending n bytes
+
+-- in an instruction's text
+abbrev pub PiText : (List ℕ → List Mark → Type 0) → List ℕ → List Mark → Type 0
+PiText K = Then IsInstructionText (λ _. Word (63 ∷ 62 ∷ []) K)
+
+-- white space, and an instruction's text
+pub record PiSpace (K : List ℕ → List Mark → Type 0) (bytes : List ℕ) (marks : List Mark) : Type 0 where
+  pub space : ℕ
+  pub is : IsSpace space
+  pub behind : List ℕ
+  pub text : bytes ≡ space ∷ behind
+  pub after : PiText K behind marks
+
+-- behind an instruction's name
+pub record PiOver (name : List ℕ) (K : List ℕ → List Mark → Type 0) (bytes : List ℕ) (marks : List Mark) : Type 0 where
+  pub other : map to_ascii_lowercase name ≢ codes "xml"
+  pub rest : Or (Word (63 ∷ 62 ∷ []) K) (PiSpace K) bytes marks
+
+-- behind `<?`
+abbrev pub PiRest : (List ℕ → List Mark → Type 0) → List ℕ → List Mark → Type 0
+PiRest K = Then IsName (λ name. PiOver name K)
+
 -- the rest of a qualified name
 abbrev pub IsPart : Part → List ℕ → Type 0
 IsPart parts.First = IsQNameRest
 IsPart parts.Colon = IsName
 IsPart parts.Local = Each IsNameChar
 
--- No comment, instruction and CDATA section, no `]]>` in a run behind so many `]`, and at most so many elements in one another.
+-- No `]]>` in a run behind so many `]`, and at most so many elements in one another.
 abbrev pub IsFit : ℕ → ℕ → Content → Type 0
 IsFit room count nothing = Unit {0}
 IsFit room count (char c l a more) = (2 ≤ count → c ≢ 62) × IsFit room (brackets count c) more
 IsFit room count (reference r more) = IsFit room 0 more
-IsFit room count (section text t more) = ⊥
-IsFit room count (comment t more) = ⊥
-IsFit room count (instruction i more) = ⊥
+IsFit room count (section text t more) = IsFit room 0 more
+IsFit room count (comment t more) = IsFit room 0 more
+IsFit room count (instruction i more) = IsFit room 0 more
 IsFit room count (empty tag more) = (1 ≤ room) × IsFit room 0 more
 IsFit room count (nested tag inner space s more) = (1 ≤ room) × IsFit (room - 1) 0 inner × IsFit room 0 more
 
@@ -103,12 +165,6 @@ pub record Inside (room count : ℕ) (name : List ℕ) (K : List ℕ → List Ma
   pub text : bytes ≡ content_text content (end_text name space behind)
   pub says : marks ≡ content_marks content (Finish (local_part name) ∷ later)
   pub after : K behind later
-
--- What is said, and then what K says.
-pub record Saying (said : List Mark) (K : List ℕ → List Mark → Type 0) (bytes : List ℕ) (marks : List Mark) : Type 0 where
-  pub later : List Mark
-  pub says : marks ≡ said ++ later
-  pub after : K bytes later
 
 -- In an end tag, behind its name.
 abbrev pub EndRest : List ℕ → (List ℕ → List Mark → Type 0) → List ℕ → List Mark → Type 0
@@ -151,36 +207,51 @@ pub record KeyRest (room : ℕ) (name : List ℕ) (keys : List (List ℕ)) (kept
   pub over : KeyOver room name keys kept K key bytes marks
 
 -- Behind the root.
-pub record After (bytes : List ℕ) (marks : List Mark) : Type 0 where
+pub record After (t : Terms) (bytes : List ℕ) (marks : List Mark) : Type 0 where
   pub misc : Misc
-  pub small : IsMiscSmall misc
   pub text : bytes ≡ misc_text misc []
   pub says : marks ≡ []
 
 -- how many elements may still stand in one another inside so many
-abbrev pub room_in : List (List ℕ) → ℕ
-room_in names = 32 - length names
+abbrev pub room_in : Terms → List (List ℕ) → ℕ
+room_in t names = t.depth - length names
 
 -- Inside the elements of these names, the innermost first, behind so many `]`.
-abbrev pub Between : ℕ → List (List ℕ) → List ℕ → List Mark → Type 0
-Between count [] = After
-Between count (name ∷ names) = Inside (room_in (name ∷ names)) count name (Between 0 names)
+abbrev pub Between : ℕ → List (List ℕ) → Terms → List ℕ → List Mark → Type 0
+Between count [] t = After t
+Between count (name ∷ names) t = Inside (room_in t (name ∷ names)) count name (Between 0 names t)
 
 -- Before the root.
-pub record Before (bytes : List ℕ) (marks : List Mark) : Type 0 where
+pub record Before (t : Terms) (bytes : List ℕ) (marks : List Mark) : Type 0 where
+  pub room : 1 ≤ room_in t []
   pub misc : Misc
-  pub small : IsMiscSmall misc
   pub tag : Tag
   pub behind : List ℕ
   pub text : bytes ≡ misc_text misc (60 ∷ tag_text tag behind)
-  pub after : BodyRest 31 tag.name (attribute_list tag.attributes) After behind marks
+  pub after : BodyRest (room_in t [] - 1) tag.name (attribute_list tag.attributes) (After t) behind marks
 
 -- what a field's value is
-abbrev pub IsFieldValue : Field → List ℕ → Type 0
-IsFieldValue fields.Before value = ⊥
-IsFieldValue fields.Version value = (digits : List ℕ) × (value ≡ 49 ∷ 46 ∷ digits) × Some1 IsDigit digits
-IsFieldValue fields.Encoding value = IsEncodingName value × IsUtf8Name value
-IsFieldValue fields.Standalone value = IsYesOrNo value
+abbrev pub IsFieldValue : Aim → Field → List ℕ → Type 0
+IsFieldValue aim fields.Before value = ⊥
+IsFieldValue aim fields.Version value = (digits : List ℕ) × (value ≡ 49 ∷ 46 ∷ digits) × Some1 IsDigit digits
+IsFieldValue aim fields.Encoding value = IsEncodingName value × IsRead aim value
+IsFieldValue aim fields.Standalone value = IsYesOrNo value
+
+-- a value of the field begins so
+abbrev pub IsBegun : Field → List ℕ → Type 0
+IsBegun field value = (more : List ℕ) × IsFieldValue any field (value ++ more)
+
+-- what a version's value goes on with, behind so many bytes
+abbrev pub VersionNext : ℕ → ℕ → Type 0
+VersionNext n b = ((n ≡ 0) × (b ≡ 49)) ⊎ (((n ≡ 1) × (b ≡ 46)) ⊎ ((2 ≤ n) × IsDigit b))
+
+-- an encoding's
+abbrev pub EncodingNext : ℕ → ℕ → Type 0
+EncodingNext n b = ((n ≡ 0) × IsLetter b) ⊎ ((1 ≤ n) × IsEncodingChar b)
+
+-- that of `yes` or `no`, behind this text
+abbrev pub WordNext : List ℕ → ℕ → Type 0
+WordNext v b = ((v ≡ []) × ((b ≡ 121) ⊎ (b ≡ 110))) ⊎ (((v ≡ 121 ∷ []) × (b ≡ 101)) ⊎ (((v ≡ 121 ∷ 101 ∷ []) × (b ≡ 115)) ⊎ ((v ≡ 110 ∷ []) × (b ≡ 111))))
 
 -- a field's word
 abbrev pub field_name : Field → List ℕ
@@ -209,75 +280,88 @@ abbrev pub NoNextField : Field → ℕ → Type 0
 NoNextField after b = (next : Field) → IsNextField after next → b ≢ first_letter next
 
 -- in a field's value, behind this much of it
-abbrev pub FieldValue : Field → (List ℕ → List Mark → Type 0) → List ℕ → ℕ → List ℕ → List Mark → Type 0
-FieldValue field K before quote = Then (λ more. IsFieldValue field (before ++ more)) (λ _. Word (quote ∷ []) K)
+abbrev pub FieldValue : Terms → Field → (List ℕ → List Mark → Type 0) → List ℕ → ℕ → List ℕ → List Mark → Type 0
+FieldValue t field K before quote = Then (λ more. IsFieldValue t.aim field (before ++ more)) (λ _. Word (quote ∷ []) K)
 
-abbrev pub FieldOver : Field → (List ℕ → List Mark → Type 0) → List ℕ → List Mark → Type 0
-FieldOver field K = EqualsRest (FieldValue field K [])
+abbrev pub FieldOver : Terms → Field → (List ℕ → List Mark → Type 0) → List ℕ → List Mark → Type 0
+FieldOver t field K = EqualsRest (FieldValue t field K [])
 
-abbrev pub FieldRest : Field → (List ℕ → List Mark → Type 0) → List ℕ → List Mark → Type 0
-FieldRest field K = Word (field_name field) (FieldOver field K)
+abbrev pub FieldRest : Terms → Field → (List ℕ → List Mark → Type 0) → List ℕ → List Mark → Type 0
+FieldRest t field K = Word (field_name field) (FieldOver t field K)
 
 -- the end of the declaration
-abbrev pub Ends : List ℕ → List Mark → Type 0
-Ends = Word (63 ∷ 62 ∷ []) Before
+abbrev pub Ends : Terms → List ℕ → List Mark → Type 0
+Ends t = Word (63 ∷ 62 ∷ []) (Before t)
 
 -- nothing
 abbrev pub Never : List ℕ → List Mark → Type 0
 Never bytes marks = ⊥
 
--- either
-abbrev pub Or : (List ℕ → List Mark → Type 0) → (List ℕ → List Mark → Type 0) → List ℕ → List Mark → Type 0
-Or A B bytes marks = A bytes marks ⊎ B bytes marks
-
 -- behind a field behind which these may stand: the end, or behind white space the end or one of these
-abbrev pub GapRest : (List ℕ → List Mark → Type 0) → List ℕ → List Mark → Type 0
-GapRest Next = Or Ends (Then (Some1 IsSpace) (λ _. Or Ends Next))
+abbrev pub GapRest : Terms → (List ℕ → List Mark → Type 0) → List ℕ → List Mark → Type 0
+GapRest t Next = Or (Ends t) (Then (Some1 IsSpace) (λ _. Or (Ends t) Next))
 
-abbrev pub Next2 : List ℕ → List Mark → Type 0
-Next2 = FieldRest fields.Standalone (GapRest Never)
+abbrev pub Next2 : Terms → List ℕ → List Mark → Type 0
+Next2 t = FieldRest t fields.Standalone (GapRest t Never)
 
-abbrev pub Next1 : List ℕ → List Mark → Type 0
-Next1 = Or (FieldRest fields.Encoding (GapRest Next2)) Next2
+abbrev pub Next1 : Terms → List ℕ → List Mark → Type 0
+Next1 t = Or (FieldRest t fields.Encoding (GapRest t (Next2 t))) (Next2 t)
 
 -- the fields that may stand behind one
-abbrev pub Next : Field → List ℕ → List Mark → Type 0
-Next fields.Before = FieldRest fields.Version (GapRest Next1)
-Next fields.Version = Next1
-Next fields.Encoding = Next2
-Next fields.Standalone = Never
+abbrev pub Next : Field → Terms → List ℕ → List Mark → Type 0
+Next fields.Before t = FieldRest t fields.Version (GapRest t (Next1 t))
+Next fields.Version t = Next1 t
+Next fields.Encoding t = Next2 t
+Next fields.Standalone t = Never
 
 -- the end of the declaration, which may stand behind a field
-abbrev pub EndsBehind : Field → List ℕ → List Mark → Type 0
-EndsBehind fields.Before = Never
-EndsBehind fields.Version = Ends
-EndsBehind fields.Encoding = Ends
-EndsBehind fields.Standalone = Ends
+abbrev pub EndsBehind : Field → Terms → List ℕ → List Mark → Type 0
+EndsBehind fields.Before t = Never
+EndsBehind fields.Version t = Ends t
+EndsBehind fields.Encoding t = Ends t
+EndsBehind fields.Standalone t = Ends t
 
 -- Behind white space behind a field.
-abbrev pub Choice : Field → List ℕ → List Mark → Type 0
-Choice field = Or (EndsBehind field) (Next field)
+abbrev pub Choice : Field → Terms → List ℕ → List Mark → Type 0
+Choice field t = Or (EndsBehind field t) (Next field t)
 
 -- Behind a field.
-abbrev pub Gap : Field → List ℕ → List Mark → Type 0
-Gap field = Or (EndsBehind field) (Then (Some1 IsSpace) (λ _. Choice field))
+abbrev pub Gap : Field → Terms → List ℕ → List Mark → Type 0
+Gap field t = Or (EndsBehind field t) (Then (Some1 IsSpace) (λ _. Choice field t))
 
 -- An element: behind `<`, inside the elements of these names.
-pub record TagFirst (names : List (List ℕ)) (bytes : List ℕ) (marks : List Mark) : Type 0 where
-  pub room : 1 ≤ room_in names
-  pub rest : Then IsQName (λ name. TagRest (room_in names - 1) name [] [] (Between 0 names)) bytes marks
+pub record TagFirst (names : List (List ℕ)) (t : Terms) (bytes : List ℕ) (marks : List Mark) : Type 0 where
+  pub room : 1 ≤ room_in t names
+  pub rest : Then IsQName (λ name. TagRest (room_in t names - 1) name [] [] (Between 0 names t)) bytes marks
+
+-- an encoding that may be named
+abbrev pub IsEncodingRead : Aim → Encoding → Type 0
+IsEncodingRead aim no_encoding = Unit {0}
+IsEncodingRead aim (encoded space s e quote q name n) = IsRead aim name
+
+abbrev pub IsDeclarationRead : Aim → Declaration → Type 0
+IsDeclarationRead aim no_declaration = Unit {0}
+IsDeclarationRead aim (declared v e s space sp) = IsEncodingRead aim e
+
+-- behind the name of what may be the declaration
+pub record DeclarationOver (name : List ℕ) (t : Terms) (bytes : List ℕ) (marks : List Mark) : Type 0 where
+  pub is : name ≡ codes "xml"
+  pub rest : Gap fields.Before t bytes marks
+
+abbrev pub FirstOver : List ℕ → Terms → List ℕ → List Mark → Type 0
+FirstOver name t = Or (DeclarationOver name t) (PiOver name (Before t))
 
 -- Behind a byte order mark.
-pub record Marked (bytes : List ℕ) (marks : List Mark) : Type 0 where
+pub record Marked (t : Terms) (bytes : List ℕ) (marks : List Mark) : Type 0 where
   pub declaration : Declaration
-  pub readable : IsDeclarationReadable declaration
+  pub read : IsDeclarationRead t.aim declaration
   pub behind : List ℕ
   pub text : bytes ≡ declaration_text declaration behind
-  pub after : Before behind marks
+  pub after : Before t behind marks
 
 -- The whole.
-pub record Whole (bytes : List ℕ) (marks : List Mark) : Type 0 where
+pub record Whole (t : Terms) (bytes : List ℕ) (marks : List Mark) : Type 0 where
   pub mark : Bool
   pub behind : List ℕ
   pub text : bytes ≡ mark_text mark behind
-  pub after : Marked behind marks
+  pub after : Marked t behind marks

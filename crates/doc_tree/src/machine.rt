@@ -1,21 +1,25 @@
 //! The reader's state, and its step over a byte whose line ends are normal.
 
-ghost use Rattle.std.specs.Prelude.{◌≡◌, ◌≤◌, ◌↔◌, [], ◌∷◌, ◌++◌, ◌-◌, List, OnOk, IfOk, IsErrOf, MatchBool, MatchOption, encode_utf8};
+ghost use Rattle.std.specs.Prelude.{◌≡◌, ◌≢◌, ◌≤◌, ◌<◌, ◌↔◌, [], ◌∷◌, ◌++◌, length, List, IsTrue, OnOk, IfOk, IsErrOf, MatchBool, MatchOption, encode_utf8};
 ghost use Rattle.std.specs.Char.{IsScalar};
+ghost use Rattle.tree_grammar.specs.Characters.{IsNameStart};
 ghost use Rattle.tree_grammar.specs.Content.{brackets};
 ghost use Rattle.element_tree.specs.Building.{said};
 ghost use Rattle.element_tree.specs.Nesting.{IsOneElement};
 ghost use Rattle.doc_tree.specs.Building.{IsApart};
 ghost use Rattle.doc_tree.specs.Marks.{Mark};
-ghost use Rattle.doc_tree.specs.Rests.{Marked, Between, TagFirst, TagRest, BodyRest, NumeralRest, EndsBehind, room_in, keep};
-ghost use Rattle.doc_tree.specs.Completes.{view, Good, GoodGoal, GoodReference, Outer, Rests, Reaches, Follows, Stuck, Reached, Runs, Completes, Emptied, InTag, InKey, Behind, EqualsAt, QuoteAt, IsRadix};
+ghost use Rattle.doc_tree.specs.Rests.{Terms, Marked, Between, TagFirst, EndsBehind};
+ghost use Rattle.doc_tree.specs.Completes.{view, Good, GoodGoal, GoodReference, Outer, Rests, Reaches, Follows, Stuck, Reached, Runs, Completes, Emptied, InTag, InBody, BehindKey, BehindValue, BehindReference, InNumeral, Around, GoodRound, PiNamed, QuestionAt, EqualsAt, QuoteAt, IsRadix, IsDeep, IsOther, IsDoctype, IsPlain};
 
 use crate::builder::Telling;
 use crate::characters::is_xml_char;
-use crate::declaration::{Field, field_word, is_encoding, is_field_value, next_field};
-use crate::fault::{StepFault, TreeFault};
+use crate::declaration::{
+    Field, field_word, is_encoding, is_field_value, is_utf8_name, may_go_on, next_field,
+};
+use crate::fault::StepFault;
 use crate::names::{
-    Part, is_among, is_kept, is_name_start, is_quote, is_space, local_part, next_part,
+    Part, is_among, is_declaration, is_kept, is_name_char, is_name_start, is_quote, is_space,
+    is_xml, local_part, next_part,
 };
 use element_tree::Tree;
 use os_io::Memory;
@@ -65,6 +69,28 @@ pub(crate) enum Place {
     Content,
     /// Behind a `<` in the content of an element.
     ContentLess,
+    /// Behind a `<` behind the root.
+    EpilogLess,
+    /// Behind `<!`.
+    Bang,
+    /// In a comment.
+    Comment,
+    /// In a comment, behind `-`.
+    CommentDash,
+    /// In a CDATA section.
+    Section,
+    /// Behind a `<?` where the declaration may begin.
+    FirstQuestion,
+    /// In a name that may be that of the declaration.
+    FirstName,
+    /// Behind `<?`.
+    Question,
+    /// In an instruction's name.
+    PiName,
+    /// In an instruction's text.
+    PiText,
+    /// In an instruction's text, behind `?`.
+    PiMark,
     /// Behind the name of an end tag.
     EndSpace,
     /// Behind `&`.
@@ -86,8 +112,6 @@ pub(crate) enum Place {
 pub(crate) enum Goal {
     /// The byte order mark.
     Marked,
-    /// `<?xml`.
-    Declaration,
     /// A field's word.
     Field,
     /// `?>` of the declaration.
@@ -96,8 +120,22 @@ pub(crate) enum Goal {
     EmptyTag,
     /// `</` and the element's name.
     EndName,
+    /// `<!--`.
+    Comment,
+    /// `<![CDATA[`.
+    Section,
+    /// The end of a comment or an instruction.
+    Around,
     /// A reference to an entity.
     Entity,
+}
+
+/// Where a comment or an instruction stands.
+#[derive(Clone, Copy, Debug, PartialEq, Eq)]
+pub(crate) enum Round {
+    Prolog,
+    Content,
+    Epilog,
 }
 
 /// The reader's state.
@@ -105,6 +143,8 @@ pub(crate) enum Goal {
 pub(crate) struct Machine {
     alloc: Global,
     place: Place,
+    /// Of the comment or the instruction that is read.
+    round: Round,
     /// The qualified names of the open elements, the outermost first.
     names: Vec<Vec<u8>>,
     /// The last field of the declaration.
@@ -141,6 +181,7 @@ impl Machine {
         Machine {
             alloc,
             place: Place::Start,
+            round: Round::Prolog,
             names: Vec::new(alloc),
             field: Field::Before,
             word: Vec::new(alloc),
@@ -163,7 +204,7 @@ impl Machine {
     /// Whether the document is over.
     pub(crate) fn is_over(&self) -> bool
         requires { Good self.now.place (view self.now) }
-        ensures { MatchBool result ((says : List Mark) → Completes (view self.now) [] says ↔ (says ≡ (view self.now).marks)) ((says : List Mark) → Completes (view self.now) [] says → ⊥) }
+        ensures { MatchBool result ((t : Terms) (says : List Mark) → Completes (view self.now) t [] says ↔ (says ≡ (view self.now).marks)) ((t : Terms) (says : List Mark) → Completes (view self.now) t [] says → ⊥) }
     {
         matches!(self.place, Place::Epilog)
     }
@@ -176,8 +217,10 @@ impl Machine {
         self.builder.finish()
     }
 
+    /// Takes a byte.
     pub(crate) fn step(&mut self, b: u8) -> Result<(), StepFault>
-        requires { Good self.old.place (view self.old) }
+        requires good { Good self.old.place (view self.old) }
+        requires plain { IsPlain (view self.old) b }
         ensures follows { OnOk result (Follows (view self.old).marks (Rests self.old.place (view self.old)) b (view self.new)) }
         ensures stuck { IsErrOf result StepFault.Refused → Stuck (Rests self.old.place (view self.old)) b }
     {
@@ -186,7 +229,7 @@ impl Machine {
             Place::Marked => self.marked(b),
             Place::FirstLess => self.first_less(b),
             Place::Prolog => self.prolog(b),
-            Place::PrologLess => self.tag_begins(b),
+            Place::PrologLess => self.prolog_less(b),
             Place::FieldGap => self.field_gap(b),
             Place::FieldSpace => self.field_space(b),
             Place::FieldEquals => self.equals(b, Place::FieldQuote),
@@ -209,22 +252,63 @@ impl Machine {
             Place::NoDigit => self.digit(b),
             Place::Digit => self.number(b),
             Place::Epilog => self.epilog(b),
+            Place::EpilogLess => self.epilog_less(b),
+            Place::Bang => self.bang(b),
+            Place::Comment => self.comment(b),
+            Place::CommentDash => self.comment_dash(b),
+            Place::Section => self.section(b),
+            Place::FirstQuestion => self.question(b, Place::FirstName),
+            Place::FirstName => self.first_name(b),
+            Place::Question => self.question(b, Place::PiName),
+            Place::PiName => self.pi_name(b),
+            Place::PiText => self.pi_text(b),
+            Place::PiMark => self.pi_mark(b),
         }
     }
 
-    /// What this byte at this place is refused as.
-    pub(crate) fn refusal(&self, b: u8, at: usize) -> TreeFault {
-        if self.place == Place::FieldValue && self.field == Field::Encoding {
-            if b == self.quote && is_encoding(self.value.as_slice()) {
-                return TreeFault::Encoding;
-            }
+    /// Whether an element that is too deep begins with this byte.
+    pub(crate) fn is_deep(&self, b: u8) -> bool
+        ensures { IsTrue result ↔ IsDeep (view self.now) b }
+    {
+        if self.place != Place::ContentLess {
+            return false;
         }
-        if self.place == Place::ContentLess && self.names.len() >= DEPTH && is_name_start(b) {
-            return TreeFault::Deep {
-                at: at.saturating_sub(1),
-            };
+        if self.names.len() < DEPTH {
+            return false;
         }
-        TreeFault::Malformed { at }
+        is_name_start(b)
+    }
+
+    /// Whether the declaration's encoding ends with this byte, and isn't one that is read.
+    pub(crate) fn is_other(&self, b: u8) -> bool
+        ensures { IsTrue result ↔ IsOther (view self.now) b }
+    {
+        if self.place != Place::FieldValue {
+            return false;
+        }
+        if self.field != Field::Encoding {
+            return false;
+        }
+        if b != self.quote {
+            return false;
+        }
+        if !is_encoding(self.value.as_slice()) {
+            return false;
+        }
+        !is_utf8_name(self.value.as_slice())
+    }
+
+    /// Whether a document type begins, of which this byte is the `D`.
+    pub(crate) fn is_doctype(&self, b: u8) -> bool
+        ensures { IsTrue result ↔ IsDoctype (view self.now) b }
+    {
+        if self.place != Place::Bang {
+            return false;
+        }
+        if self.round != Round::Prolog {
+            return false;
+        }
+        b == b'D'
     }
 
     /// Goes on with a fixed text.
@@ -265,14 +349,16 @@ impl Machine {
     {
         match self.goal {
             Goal::Marked => self.place = Place::Marked,
-            Goal::Declaration => {
-                self.field = Field::Before;
-                self.place = Place::FieldGap;
-            }
             Goal::Field => self.place = Place::FieldEquals,
             Goal::Prolog => self.place = Place::Prolog,
             Goal::EmptyTag => return self.empty_tag(),
             Goal::EndName => self.place = Place::EndSpace,
+            Goal::Comment => self.place = Place::Comment,
+            Goal::Section => {
+                self.brackets = 0;
+                self.place = Place::Section;
+            }
+            Goal::Around => self.around(),
             Goal::Entity => return self.emit(),
         }
         Ok(())
@@ -312,7 +398,25 @@ impl Machine {
         ensures stuck { IsErrOf result StepFault.Refused → Stuck (Rests Place.FirstLess (view self.old)) b }
     {
         if b == b'?' {
-            self.expect(b"xml", Goal::Declaration)?;
+            self.place = Place::FirstQuestion;
+            return Ok(());
+        }
+        self.prolog_less(b)
+    }
+
+    fn prolog_less(&mut self, b: u8) -> Result<(), StepFault>
+        requires { Good Place.PrologLess (view self.old) }
+        ensures follows { OnOk result (Follows (view self.old).marks (Rests Place.PrologLess (view self.old)) b (view self.new)) }
+        ensures stuck { IsErrOf result StepFault.Refused → Stuck (Rests Place.PrologLess (view self.old)) b }
+    {
+        if b == b'!' {
+            self.round = Round::Prolog;
+            self.place = Place::Bang;
+            return Ok(());
+        }
+        if b == b'?' {
+            self.round = Round::Prolog;
+            self.place = Place::Question;
             return Ok(());
         }
         self.tag_begins(b)
@@ -341,11 +445,258 @@ impl Machine {
         ensures follows { OnOk result (Follows (view self.old).marks (Rests Place.Epilog (view self.old)) b (view self.new)) }
         ensures stuck { IsErrOf result StepFault.Refused → Stuck (Rests Place.Epilog (view self.old)) b }
     {
+        if b == b'<' {
+            self.place = Place::EpilogLess;
+            return Ok(());
+        }
         if is_space(b) {
             Ok(())
         } else {
             Err(StepFault::Refused)
         }
+    }
+
+    fn epilog_less(&mut self, b: u8) -> Result<(), StepFault>
+        ensures follows { OnOk result (Follows (view self.old).marks (Rests Place.EpilogLess (view self.old)) b (view self.new)) }
+        ensures stuck { IsErrOf result StepFault.Refused → Stuck (Rests Place.EpilogLess (view self.old)) b }
+    {
+        if b == b'!' {
+            self.round = Round::Epilog;
+            self.place = Place::Bang;
+            return Ok(());
+        }
+        if b != b'?' {
+            return Err(StepFault::Refused);
+        }
+        self.round = Round::Epilog;
+        self.place = Place::Question;
+        Ok(())
+    }
+
+    fn bang(&mut self, b: u8) -> Result<(), StepFault>
+        requires { Good Place.Bang (view self.old) }
+        ensures follows { OnOk result (Follows (view self.old).marks (Rests Place.Bang (view self.old)) b (view self.new)) }
+        ensures stuck { IsErrOf result StepFault.Refused → Stuck (Rests Place.Bang (view self.old)) b }
+    {
+        if b == b'-' {
+            self.expect(b"-", Goal::Comment)?;
+            return Ok(());
+        }
+        if b != b'[' {
+            return Err(StepFault::Refused);
+        }
+        match self.round {
+            Round::Content => {
+                self.expect(b"CDATA[", Goal::Section)?;
+                Ok(())
+            }
+            _ => Err(StepFault::Refused),
+        }
+    }
+
+    fn comment(&mut self, b: u8) -> Result<(), StepFault>
+        requires place { self.old.place ≡ Place.Comment }
+        requires good { Good Place.Comment (view self.old) }
+        ensures follows { OnOk result (Follows (view self.old).marks (Rests Place.Comment (view self.old)) b (view self.new)) }
+        ensures stuck { IsErrOf result StepFault.Refused → Stuck (Rests Place.Comment (view self.old)) b }
+    {
+        if b == b'-' {
+            self.place = Place::CommentDash;
+            return Ok(());
+        }
+        Ok(())
+    }
+
+    fn comment_dash(&mut self, b: u8) -> Result<(), StepFault>
+        requires { Good Place.CommentDash (view self.old) }
+        ensures follows { OnOk result (Follows (view self.old).marks (Rests Place.CommentDash (view self.old)) b (view self.new)) }
+        ensures stuck { IsErrOf result StepFault.Refused → Stuck (Rests Place.CommentDash (view self.old)) b }
+    {
+        if b == b'-' {
+            self.expect(b">", Goal::Around)?;
+            return Ok(());
+        }
+        self.place = Place::Comment;
+        Ok(())
+    }
+
+    /// Behind a comment or an instruction.
+    fn around(&mut self)
+        requires { GoodRound self.old.round (view self.old).names (view self.old).kept }
+        ensures { Reached (view self.old).marks (Around self.old.round (view self.old).names) (view self.new) }
+    {
+        match self.round {
+            Round::Prolog => self.place = Place::Prolog,
+            Round::Content => {
+                self.brackets = 0;
+                self.place = Place::Content;
+            }
+            Round::Epilog => self.place = Place::Epilog,
+        }
+    }
+
+    fn section(&mut self, b: u8) -> Result<(), StepFault>
+        requires place { self.old.place ≡ Place.Section }
+        requires good { Good Place.Section (view self.old) }
+        ensures follows { OnOk result (Follows (view self.old).marks (Rests Place.Section (view self.old)) b (view self.new)) }
+        ensures stuck { IsErrOf result StepFault.Refused → Stuck (Rests Place.Section (view self.old)) b }
+    {
+        if b == b']' {
+            return self.section_bracket();
+        }
+        if self.brackets >= 2 {
+            self.section_closes(b)?;
+            return Ok(());
+        }
+        self.section_text(b)?;
+        Ok(())
+    }
+
+    /// Behind `]]` in a section.
+    fn section_closes(&mut self, b: u8) -> Result<(), AllocError>
+        requires place { self.old.place ≡ Place.Section }
+        requires good { Good Place.Section (view self.old) }
+        requires open { b ≢ 93 }
+        requires two { 2 ≤ self.old.brackets }
+        ensures { OnOk result (Follows (view self.old).marks (Rests Place.Section (view self.old)) b (view self.new)) }
+    {
+        if b == b'>' {
+            self.brackets = 0;
+            self.place = Place::Content;
+            return Ok(());
+        }
+        self.builder.push_text(&[b']', b']', b])?;
+        self.brackets = 0;
+        Ok(())
+    }
+
+    /// A `]` in a section: of three the first belongs to the text.
+    fn section_bracket(&mut self) -> Result<(), StepFault>
+        requires place { self.old.place ≡ Place.Section }
+        requires good { Good Place.Section (view self.old) }
+        ensures follows { OnOk result (Follows (view self.old).marks (Rests Place.Section (view self.old)) 93 (view self.new)) }
+        ensures stuck { IsErrOf result StepFault.Refused → Stuck (Rests Place.Section (view self.old)) 93 }
+    {
+        if self.brackets < 2 {
+            self.brackets += 1;
+            return Ok(());
+        }
+        self.builder.push_text(b"]")?;
+        Ok(())
+    }
+
+    /// Behind at most one `]` in a section.
+    fn section_text(&mut self, b: u8) -> Result<(), AllocError>
+        requires place { self.old.place ≡ Place.Section }
+        requires good { Good Place.Section (view self.old) }
+        requires open { b ≢ 93 }
+        requires few { self.old.brackets < 2 }
+        ensures { OnOk result (Follows (view self.old).marks (Rests Place.Section (view self.old)) b (view self.new)) }
+    {
+        if self.brackets == 0 {
+            self.builder.push_text(&[b])?;
+            return Ok(());
+        }
+        self.builder.push_text(&[b']', b])?;
+        self.brackets = 0;
+        Ok(())
+    }
+
+    /// At the first byte of an instruction's name.
+    fn question(&mut self, b: u8, to: Place) -> Result<(), StepFault>
+        requires { QuestionAt (view self.old) to }
+        ensures follows { OnOk result (Follows (view self.old).marks (Rests self.old.place (view self.old)) b (view self.new)) }
+        ensures stuck { IsErrOf result StepFault.Refused → Stuck (Rests self.old.place (view self.old)) b }
+    {
+        if !is_name_start(b) {
+            return Err(StepFault::Refused);
+        }
+        let mut name = Vec::new(self.alloc);
+        name.push(b)?;
+        self.name = name;
+        self.place = to;
+        Ok(())
+    }
+
+    fn first_name(&mut self, b: u8) -> Result<(), StepFault>
+        requires place { self.old.place ≡ Place.FirstName }
+        requires good { Good Place.FirstName (view self.old) }
+        ensures follows { OnOk result (Follows (view self.old).marks (Rests Place.FirstName (view self.old)) b (view self.new)) }
+        ensures stuck { IsErrOf result StepFault.Refused → Stuck (Rests Place.FirstName (view self.old)) b }
+    {
+        if is_name_char(b) {
+            self.name.push(b)?;
+            return Ok(());
+        }
+        if is_declaration(self.name.as_slice()) {
+            self.field = Field::Before;
+            return self.field_gap(b);
+        }
+        self.round = Round::Prolog;
+        self.pi_named(b)
+    }
+
+    fn pi_name(&mut self, b: u8) -> Result<(), StepFault>
+        requires place { self.old.place ≡ Place.PiName }
+        requires good { Good Place.PiName (view self.old) }
+        ensures follows { OnOk result (Follows (view self.old).marks (Rests Place.PiName (view self.old)) b (view self.new)) }
+        ensures stuck { IsErrOf result StepFault.Refused → Stuck (Rests Place.PiName (view self.old)) b }
+    {
+        if is_name_char(b) {
+            self.name.push(b)?;
+            return Ok(());
+        }
+        self.pi_named(b)
+    }
+
+    /// Behind an instruction's name.
+    fn pi_named(&mut self, b: u8) -> Result<(), StepFault>
+        requires { GoodRound self.old.round (view self.old).names (view self.old).kept }
+        ensures follows { OnOk result (Follows (view self.old).marks (PiNamed (view self.old)) b (view self.new)) }
+        ensures stuck { IsErrOf result StepFault.Refused → Stuck (PiNamed (view self.old)) b }
+    {
+        if is_xml(self.name.as_slice()) {
+            return Err(StepFault::Refused);
+        }
+        if b == b'?' {
+            self.expect(b">", Goal::Around)?;
+            return Ok(());
+        }
+        if !is_space(b) {
+            return Err(StepFault::Refused);
+        }
+        self.place = Place::PiText;
+        Ok(())
+    }
+
+    fn pi_text(&mut self, b: u8) -> Result<(), StepFault>
+        requires place { self.old.place ≡ Place.PiText }
+        requires good { Good Place.PiText (view self.old) }
+        ensures follows { OnOk result (Follows (view self.old).marks (Rests Place.PiText (view self.old)) b (view self.new)) }
+        ensures stuck { IsErrOf result StepFault.Refused → Stuck (Rests Place.PiText (view self.old)) b }
+    {
+        if b == b'?' {
+            self.place = Place::PiMark;
+            return Ok(());
+        }
+        Ok(())
+    }
+
+    fn pi_mark(&mut self, b: u8) -> Result<(), StepFault>
+        requires place { self.old.place ≡ Place.PiMark }
+        requires good { Good Place.PiMark (view self.old) }
+        ensures follows { OnOk result (Follows (view self.old).marks (Rests Place.PiMark (view self.old)) b (view self.new)) }
+        ensures stuck { IsErrOf result StepFault.Refused → Stuck (Rests Place.PiMark (view self.old)) b }
+    {
+        if b == b'?' {
+            return Ok(());
+        }
+        if b == b'>' {
+            self.around();
+            return Ok(());
+        }
+        self.place = Place::PiText;
+        Ok(())
     }
 
     fn field_gap(&mut self, b: u8) -> Result<(), StepFault>
@@ -431,10 +782,14 @@ impl Machine {
     fn field_value(&mut self, b: u8) -> Result<(), StepFault>
         requires place { self.old.place ≡ Place.FieldValue }
         requires good { Good Place.FieldValue (view self.old) }
+        requires plain { IsPlain (view self.old) b }
         ensures follows { OnOk result (Follows (view self.old).marks (Rests Place.FieldValue (view self.old)) b (view self.new)) }
         ensures stuck { IsErrOf result StepFault.Refused → Stuck (Rests Place.FieldValue (view self.old)) b }
     {
         if b != self.quote {
+            if !may_go_on(self.field, self.value.as_slice(), b) {
+                return Err(StepFault::Refused);
+            }
             self.value.push(b)?;
             return Ok(());
         }
@@ -446,14 +801,12 @@ impl Machine {
     }
 
     fn tag_begins(&mut self, b: u8) -> Result<(), StepFault>
-        requires { (view self.old).kept ≡ [] }
+        requires kept { (view self.old).kept ≡ [] }
+        requires room { IsNameStart b → length self.old.names.items < 32 }
         ensures follows { OnOk result (Follows (view self.old).marks (TagFirst (view self.old).names) b (view self.new)) }
         ensures stuck { IsErrOf result StepFault.Refused → Stuck (TagFirst (view self.old).names) b }
     {
         if !is_name_start(b) {
-            return Err(StepFault::Refused);
-        }
-        if self.names.len() >= DEPTH {
             return Err(StepFault::Refused);
         }
         let mut name = Vec::new(self.alloc);
@@ -518,8 +871,8 @@ impl Machine {
     }
 
     fn tag_ends(&mut self, b: u8) -> Result<(), StepFault>
-        ensures follows { OnOk result (Follows (view self.old).marks (BodyRest (room_in (view self.old).names - 1) (view self.old).name (view self.old).kept (Between 0 (view self.old).names)) b (view self.new)) }
-        ensures stuck { IsErrOf result StepFault.Refused → Stuck (BodyRest (room_in (view self.old).names - 1) (view self.old).name (view self.old).kept (Between 0 (view self.old).names)) b }
+        ensures follows { OnOk result (Follows (view self.old).marks (InBody (view self.old)) b (view self.new)) }
+        ensures stuck { IsErrOf result StepFault.Refused → Stuck (InBody (view self.old)) b }
     {
         if b == b'/' {
             self.expect(b">", Goal::EmptyTag)?;
@@ -581,8 +934,8 @@ impl Machine {
 
     /// Behind an attribute's name.
     fn key_over(&mut self, b: u8) -> Result<(), StepFault>
-        ensures follows { OnOk result (Follows (view self.old).marks (InKey (view self.old) (view self.old).key) b (view self.new)) }
-        ensures stuck { IsErrOf result StepFault.Refused → Stuck (InKey (view self.old) (view self.old).key) b }
+        ensures follows { OnOk result (Follows (view self.old).marks (BehindKey (view self.old)) b (view self.new)) }
+        ensures stuck { IsErrOf result StepFault.Refused → Stuck (BehindKey (view self.old)) b }
     {
         if is_among(self.key.as_slice(), self.keys.as_slice()) {
             return Err(StepFault::Refused);
@@ -625,7 +978,7 @@ impl Machine {
     }
 
     fn value_over(&mut self) -> Result<(), AllocError>
-        ensures { OnOk result (Reached (view self.old).marks (TagRest (room_in (view self.old).names - 1) (view self.old).name ((view self.old).keys ++ ((view self.old).key ∷ [])) (keep (view self.old).key (view self.old).value (view self.old).kept) (Between 0 (view self.old).names)) (view self.new)) }
+        ensures { OnOk result (Reached (view self.old).marks (BehindValue (view self.old) (view self.old).value) (view self.new)) }
     {
         if is_kept(self.key.as_slice()) {
             self.builder
@@ -671,7 +1024,9 @@ impl Machine {
     }
 
     fn content_less(&mut self, b: u8) -> Result<(), StepFault>
-        requires { Good Place.ContentLess (view self.old) }
+        requires place { self.old.place ≡ Place.ContentLess }
+        requires good { Good Place.ContentLess (view self.old) }
+        requires plain { IsPlain (view self.old) b }
         ensures follows { OnOk result (Follows (view self.old).marks (Rests Place.ContentLess (view self.old)) b (view self.new)) }
         ensures stuck { IsErrOf result StepFault.Refused → Stuck (Rests Place.ContentLess (view self.old)) b }
     {
@@ -679,6 +1034,16 @@ impl Machine {
         let count = names.len();
         if count == 0 {
             return Err(StepFault::Refused);
+        }
+        if b == b'!' {
+            self.round = Round::Content;
+            self.place = Place::Bang;
+            return Ok(());
+        }
+        if b == b'?' {
+            self.round = Round::Content;
+            self.place = Place::Question;
+            return Ok(());
         }
         if b != b'/' {
             return self.tag_begins(b);
@@ -784,8 +1149,8 @@ impl Machine {
         requires good { GoodReference self.old.in_value (view self.old) }
         requires number { self.old.number ≤ 1114111 }
         requires radix { IsRadix self.old.radix }
-        ensures follows { OnOk result (Follows (view self.old).marks (NumeralRest self.old.radix self.old.number (Behind self.old.in_value (view self.old))) b (view self.new)) }
-        ensures stuck { IsErrOf result StepFault.Refused → Stuck (NumeralRest self.old.radix self.old.number (Behind self.old.in_value (view self.old))) b }
+        ensures follows { OnOk result (Follows (view self.old).marks (InNumeral self.old.radix self.old.number (view self.old)) b (view self.new)) }
+        ensures stuck { IsErrOf result StepFault.Refused → Stuck (InNumeral self.old.radix self.old.number (view self.old)) b }
     {
         match char::from(b).to_digit(self.radix) {
             Some(digit) => {
@@ -820,7 +1185,7 @@ impl Machine {
     fn emit(&mut self) -> Result<(), AllocError>
         requires good { GoodReference self.old.in_value (view self.old) }
         requires scalar { IsScalar self.old.number }
-        ensures { OnOk result (Reached (view self.old).marks (Behind self.old.in_value (view self.old) (encode_utf8 self.old.number)) (view self.new)) }
+        ensures { OnOk result (Reached (view self.old).marks (BehindReference (view self.old) (encode_utf8 self.old.number)) (view self.new)) }
     {
         match char::from_u32(self.number) {
             Some(c) => {

@@ -1,6 +1,7 @@
 //! Names, and characters of the kinds that the grammar names.
 
-ghost use Rattle.std.specs.Prelude.{◌≡◌, ◌↔◌, ℕ, List, ◌∷◌, IsTrue, IfSome, IfNone, map};
+ghost use Rattle.std.specs.Prelude.{◌≡◌, ◌↔◌, ℕ, List, ◌∷◌, IsTrue, IfSome, IfNone, map, codes};
+ghost use Rattle.std.specs.Char.{to_ascii_lowercase};
 ghost use Rattle.tree_grammar.specs.Characters as characters;
 ghost use Rattle.tree_grammar.specs.Characters.{IsSpace, IsNameStart, IsNameChar};
 ghost use Rattle.tree_grammar.specs.Tags as tags;
@@ -73,6 +74,20 @@ pub(crate) fn next_part(part: Part, b: u8) -> Option<Part>
             }
         }
     }
+}
+
+/// Whether the name is the declaration's.
+pub(crate) fn is_declaration(name: &[u8]) -> bool
+    ensures { IsTrue result ↔ (name.now ≡ codes "xml") }
+{
+    name == b"xml".as_slice()
+}
+
+/// Whether no instruction may have this name.
+pub(crate) fn is_xml(name: &[u8]) -> bool
+    ensures { IsTrue result ↔ (map to_ascii_lowercase name.now ≡ codes "xml") }
+{
+    name.eq_ignore_ascii_case(b"xml")
 }
 
 /// The local part of a qualified name.

@@ -2,7 +2,7 @@
 
 ghost use Rattle.std.specs.Prelude.{[], OnOk, IfOk, IfErr, IsErrOf};
 ghost use Rattle.tree_grammar.specs.Elements.{IsWithin};
-ghost use Rattle.doc_tree.specs.Completes.{view, Good};
+ghost use Rattle.doc_tree.specs.Completes.{view, Good, IsPlain};
 ghost use Rattle.doc_tree.specs.LineEnds.{Passes, Blocks, Continues};
 ghost use Rattle.doc_tree.specs.Reading.{Reads, ReadsOnly, Refuses};
 
@@ -33,7 +33,8 @@ impl Lines {
 
     /// Takes a byte.
     fn step(&mut self, b: u8) -> Result<(), StepFault>
-        requires { Good self.old.machine.place (view self.old.machine) }
+        requires good { Good self.old.machine.place (view self.old.machine) }
+        requires plain { IsPlain (view self.old.machine) b }
         ensures passes { OnOk result (Passes (view self.old.machine) self.old.returned b (view self.new.machine) self.new.returned) }
         ensures stops { IsErrOf result StepFault.Refused → Blocks (view self.old.machine) self.old.returned b }
     {
@@ -59,10 +60,22 @@ fn take_all(lines: &mut Lines, bytes: &[u8], limit: u64) -> Result<(), TreeFault
         if at as u64 >= limit {
             return Err(TreeFault::Long);
         }
-        match lines.step(bytes[at]) {
+        let b = bytes[at];
+        if lines.machine.is_deep(b) {
+            let at = at.saturating_sub(1);
+            return Err(TreeFault::Deep { at });
+        }
+        if lines.machine.is_doctype(b) {
+            let at = at.saturating_sub(2);
+            return Err(TreeFault::Doctype { at });
+        }
+        if lines.machine.is_other(b) {
+            return Err(TreeFault::Encoding);
+        }
+        match lines.step(b) {
             Ok(()) => {}
             Err(StepFault::Memory) => return Err(TreeFault::Memory),
-            Err(StepFault::Refused) => return Err(lines.machine.refusal(bytes[at], at)),
+            Err(StepFault::Refused) => return Err(TreeFault::Malformed { at }),
         }
     }
     Ok(())
@@ -109,7 +122,7 @@ mod tests {
 
     #[test]
     fn reads(rt: HostRuntime) -> Result<(), Fail> {
-        let table: [(&[u8], &[u8]); 12] = [
+        let table: [(&[u8], &[u8]); 23] = [
             (b"<a/>", b"<a/>"),
             (b" \r\n<a>\r\n\rx</a >\r\n", b"<a>\n\nx</a>"),
             (b"\xEF\xBB\xBF<?xml version=\"1.0\"?><a/>", b"<a/>"),
@@ -131,6 +144,20 @@ mod tests {
             (b"<a>&#13;\r</a>", b"<a>&#13;\n</a>"),
             (b"<_a.b-c9:_x/>", b"<_x/>"),
             (b"<a b=''/>", b"<a b=\"\"/>"),
+            (b"<!-->--><a/>", b"<a/>"),
+            (b"<!----><a>x<!-- - y -->z</a><!--a-b-->", b"<a>xz</a>"),
+            (b"<?p?><a>x<?p y??>z<?q ?></a>\n<?xmlns a?>", b"<a>xz</a>"),
+            (b"<?xml-stylesheet href='a'?><a/>", b"<a/>"),
+            (b"<?xml version='1.0'?><?xmlx?><!--<a>--><a/>", b"<a/>"),
+            (
+                b"<a>x<![CDATA[]]>y<![CDATA[<&]]]]><![CDATA[>]]></a>",
+                b"<a>xy&lt;&amp;]]&gt;</a>",
+            ),
+            (b"<a><![CDATA[]]]]></a>", b"<a>]]</a>"),
+            (b"<a><![CDATA[]]]]]>]]</a>", b"<a>]]]]]</a>"),
+            (b"<a><![CDATA[a]b]]c]>]]></a>", b"<a>a]b]]c]&gt;</a>"),
+            (b"<a>]]<!---->></a>", b"<a>]]&gt;</a>"),
+            (b"<a>]]<?p?>></a>", b"<a>]]&gt;</a>"),
         ];
         for (text, wanted) in table {
             assert_eq!(rt; says(rt.alloc(), text, wanted), Ok(true));
@@ -148,11 +175,11 @@ mod tests {
     #[test]
     fn refuses(rt: HostRuntime) -> Result<(), Fail> {
         let a = rt.alloc();
-        let table: [(&[u8], usize); 24] = [
+        let table: [(&[u8], usize); 45] = [
             (b"", 0),
             (b"<a>", 3),
             (b"<a/>x", 4),
-            (b"<a/><b/>", 4),
+            (b"<a/><b/>", 5),
             (b"<a></b>", 5),
             (b"<a></ab>", 6),
             (b"<a></a", 6),
@@ -169,14 +196,44 @@ mod tests {
             (b"<a>&nbsp;</a>", 4),
             (b"<a:b:c/>", 4),
             (b"<a:/>", 3),
-            (b" <?xml version='1.0'?><a/>", 2),
+            (b" <?xml version='1.0'?><a/>", 6),
             (b"<?xml encoding='UTF-8'?><a/>", 6),
-            (b"<?xml version='2.0'?><a/>", 18),
+            (b"<?xml version='2.0'?><a/>", 15),
             (b"<a>\xFF</a>", 8),
+            (b"<!-- -- --><a/>", 7),
+            (b"<!-- --->", 7),
+            (b"<!-<a/>", 3),
+            (b"<!x<a/>", 2),
+            (b"<![CDATA[x]]><a/>", 2),
+            (b"<a/><![CDATA[x]]>", 6),
+            (b"<a><![CDATA]</a>", 11),
+            (b"<a><![CDATA[]]</a>", 18),
+            (b"<a><? x?></a>", 5),
+            (b"<a><?xml?></a>", 8),
+            (b"<a><?XmL x?></a>", 8),
+            (b"<?XML version='1.0'?><a/>", 5),
+            (b"<a/><?xml version='1.0'?>", 9),
+            (b"<a><?x:y?></a>", 6),
+            (b"<?p x>", 6),
+            (b"<?xml version='1.'?><a/>", 17),
+            (b"<?xml version='1.0x'?><a/>", 18),
+            (b"<?xml version='1.0' encoding='8'?><a/>", 30),
+            (b"<?xml version='1.0' encoding='a b'?><a/>", 31),
+            (b"<?xml version='1.0' standalone='yet'?><a/>", 34),
+            (b"<?xml version='1.0' standalone='noo'?><a/>", 34),
         ];
         for (text, place) in table {
             assert_eq!(rt; at(a, text), Some(TreeFault::Malformed { at: place }));
         }
+        for (text, place) in [
+            (b"<!DOCTYPE osil><osil/>".as_slice(), 0),
+            (b"<?xml version='1.0'?><!-- --> <!D".as_slice(), 30),
+            (b"\xEF\xBB\xBF<!D<a/>".as_slice(), 3),
+        ] {
+            assert_eq!(rt; at(a, text), Some(TreeFault::Doctype { at: place }));
+        }
+        assert_eq!(rt; at(a, b"<a><!D"), Some(TreeFault::Malformed { at: 5 }));
+        assert_eq!(rt; at(a, b"<a/><!D"), Some(TreeFault::Malformed { at: 6 }));
         assert_eq!(rt;
             at(a, b"<?xml version='1.0' encoding='latin1'?><a/>"),
             Some(TreeFault::Encoding)

@@ -1,7 +1,7 @@
 -- Elements that hold characters alone, and documents within the limits.
 use Rattle.std.specs.Prelude.{◌≡◌, ◌⊎◌, ℕ, List, []}
 use Rattle.tree_grammar.specs.Elements.{Nodes, none, chars, Element, IsShallow, IsWithin}
-use Rattle.tree_grammar.specs.Document.{SmallDoc}
+use Rattle.tree_grammar.specs.Document.{Doc}
 
 -- characters alone, or nothing
 abbrev pub HoldsText : Nodes → List ℕ → Type 0
@@ -13,6 +13,6 @@ document_limit = 4194304
 
 -- the bytes are a document within the limits, and hold this element
 pub record IsDocument (bytes : List ℕ) (root : Element) : Type 0 where
-  pub document : SmallDoc bytes root
+  pub document : Doc bytes root
   pub short : IsWithin document_limit bytes
   pub shallow : IsShallow root

@@ -15,7 +15,7 @@ pub returns-in_ok-expect-in-Some-clause-follows : goal.returns-in_ok-expect-in-S
 returns-in_ok-expect-in-Some-clause-follows c = field_moves (view c.args.self.now) _ _ _ _ c.in_ok-expect-in-Some.ensures c.requires.good (λ s. not_true (c.if-is_space.ensures.1 s)) c.in-Some.ensures.next c.field_word.ensures.word c.field_word.ensures.some
 
 pub returns-in-None-clause-follows : goal.returns-in-None-clause-follows
-returns-in-None-clause-follows c = OnOk-map c.declaration_ends.result (follows_from _ (Rests places.FieldSpace (view c.args.self.now)) (EndsBehind (view c.args.self.now).field) _ _ (λ x es. field_ends (view c.args.self.now) _ x es (λ s. not_true (c.if-is_space.ensures.1 s)) c.in-None.ensures.none)) c.declaration_ends.ensures.follows
+returns-in-None-clause-follows c = OnOk-map c.declaration_ends.result (follows_from _ (Rests places.FieldSpace (view c.args.self.now)) (EndsBehind (view c.args.self.now).field) _ _ (λ u d x es. field_ends u (view c.args.self.now) _ x es (λ s. not_true (c.if-is_space.ensures.1 s)) c.in-None.ensures.none)) c.declaration_ends.ensures.follows
 
 pub returns-in-None-clause-stuck : goal.returns-in-None-clause-stuck
-returns-in-None-clause-stuck c = λ w x es h. c.declaration_ends.ensures.stuck w x es ((field_ends (view c.args.self.now) _ x es (λ s. not_true (c.if-is_space.ensures.1 s)) c.in-None.ensures.none).0 h)
+returns-in-None-clause-stuck c = λ w u d x es h. c.declaration_ends.ensures.stuck w u d x es ((field_ends u (view c.args.self.now) _ x es (λ s. not_true (c.if-is_space.ensures.1 s)) c.in-None.ensures.none).0 h)

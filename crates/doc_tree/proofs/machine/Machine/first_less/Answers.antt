@@ -1,19 +1,17 @@
 use Rattle.std.proofs.Common.{refl}
-use Rattle.doc_tree.specs.Completes.{view}
-use Rattle.doc_tree.specs.declared.machine.Goal.TheVariants as goals
-use Rattle.doc_tree.proofs.Moves.{moves_word, follows_from}
-use Rattle.std.proofs.Common.{[], ◌∷◌}
-use Rattle.doc_tree.specs.Rests.{TagFirst}
+use Rattle.doc_tree.specs.Completes.{view, Rests}
+use Rattle.doc_tree.specs.declared.machine.Place.TheVariants as places
+use Rattle.doc_tree.proofs.Moves.{moves, follows_from}
 use Rattle.doc_tree.proofs.Steps.{at_byte}
-use Rattle.doc_tree.proofs.Prologs.{marked_declaration, marked_tag_in}
+use Rattle.doc_tree.proofs.Prologs.{marked_less}
 use Rattle.doc_tree.proofs.Answering.{OnOk-map}
 use Rattle.doc_tree.proofs.machine.Machine.first_less.Goals as goal
 
 pub returns-then-b-eq63-clause-follows : goal.returns-then-b-eq63-clause-follows
-returns-then-b-eq63-clause-follows c = at_byte _ _ _ _ _ c.if-b-eq63.true (moves_word _ _ 63 (view c.args.self.now) goals.Declaration (120 ∷ 109 ∷ 108 ∷ []) _ c.in_ok-expect.ensures refl (λ e. cc) c.requires (λ x es. marked_declaration x es))
+returns-then-b-eq63-clause-follows c = at_byte _ _ _ _ _ c.if-b-eq63.true (moves _ (Rests places.FirstLess (view c.args.self.now)) 63 (record (view c.args.self.now) { place = places.FirstQuestion }) refl c.requires (λ u d x es. (λ h. h, λ h. h)))
 
 pub returns-clause-follows : goal.returns-clause-follows
-returns-clause-follows c = OnOk-map c.tag_begins.result (follows_from _ _ (TagFirst (view c.args.self.now).names) _ _ (λ x es. marked_tag_in _ _ x es c.requires.1 c.if-b-eq63.false)) c.tag_begins.ensures.follows
+returns-clause-follows c = OnOk-map c.prolog_less.result (follows_from _ (Rests places.FirstLess (view c.args.self.now)) (Rests places.PrologLess (view c.args.self.now)) _ _ (λ u d x es. marked_less u _ x es c.if-b-eq63.false)) c.prolog_less.ensures.follows
 
 pub returns-clause-stuck : goal.returns-clause-stuck
-returns-clause-stuck c = λ w x es h. c.tag_begins.ensures.stuck w x es ((marked_tag_in _ _ x es c.requires.1 c.if-b-eq63.false).0 h)
+returns-clause-stuck c = λ w u d x es h. c.prolog_less.ensures.stuck w u d x es ((marked_less u _ x es c.if-b-eq63.false).0 h)

@@ -10,4 +10,4 @@ pub returns-clause-follows : goal.returns-clause-follows
 returns-clause-follows c = OnOk-map c.digit.result (hash_follows (view c.args.self.now) _ _ c.if-b-eq120.false) c.digit.ensures.follows
 
 pub returns-clause-stuck : goal.returns-clause-stuck
-returns-clause-stuck c = λ w x es h. c.digit.ensures.stuck w x es (hash_to (view c.args.self.now) _ x es c.if-b-eq120.false h)
+returns-clause-stuck c = λ w u d x es h. c.digit.ensures.stuck w u d x es (hash_to u (view c.args.self.now) _ x es c.if-b-eq120.false h)

@@ -7,4 +7,4 @@ pub returns-in-Epilog : goal.returns-in-Epilog
 returns-in-Epilog c = finish_whole (view c.args.self.now) c.in-Epilog.is
 
 pub returns-in_default : goal.returns-in_default
-returns-in_default c = not_over (view c.args.self.now) c.in_default.not-Epilog c.requires
+returns-in_default c = λ u. not_over u (view c.args.self.now) c.in_default.not-Epilog c.requires

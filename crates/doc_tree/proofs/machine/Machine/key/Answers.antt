@@ -1,5 +1,5 @@
 use Rattle.std.proofs.Common.{refl, subst, sym, IsTrue}
-use Rattle.doc_tree.specs.Completes.{view, Rests, InKey}
+use Rattle.doc_tree.specs.Completes.{view, Rests, BehindKey}
 use Rattle.doc_tree.specs.declared.machine.Place.TheVariants as places
 use Rattle.doc_tree.proofs.Moves.{follows_from}
 use Rattle.doc_tree.proofs.Answering.{not_true, OnOk-map}
@@ -10,7 +10,7 @@ pub returns-in_ok-push-in-Some-clause-follows : goal.returns-in_ok-push-in-Some-
 returns-in_ok-push-in-Some-clause-follows c = steps.key_more (view c.args.self.now) _ _ _ c.in_ok-push-in-Some.ensures.items c.requires.place c.in-Some.ensures.next
 
 pub returns-else-eq-clause-follows : goal.returns-else-eq-clause-follows
-returns-else-eq-clause-follows c = OnOk-map c.key_over.result (follows_from _ (Rests places.Key (view c.args.self.now)) (InKey (view c.args.self.now) (view c.args.self.now).key) _ _ (λ x es. steps.key_named (view c.args.self.now) _ x es (λ e. let h = c.if-eq.ensures in let j = rw e at h in not_true (subst IsTrue (sym j) refl)) c.in-None.ensures.none)) c.key_over.ensures.follows
+returns-else-eq-clause-follows c = OnOk-map c.key_over.result (follows_from _ (Rests places.Key (view c.args.self.now)) (BehindKey (view c.args.self.now)) _ _ (λ u d x es. steps.key_named u (view c.args.self.now) _ x es (λ e. let h = c.if-eq.ensures in let j = rw e at h in not_true (subst IsTrue (sym j) refl)) c.in-None.ensures.none)) c.key_over.ensures.follows
 
 pub returns-else-eq-clause-stuck : goal.returns-else-eq-clause-stuck
-returns-else-eq-clause-stuck c = λ w x es h. c.key_over.ensures.stuck w x es ((steps.key_named (view c.args.self.now) _ x es (λ e. let h = c.if-eq.ensures in let j = rw e at h in not_true (subst IsTrue (sym j) refl)) c.in-None.ensures.none).0 h)
+returns-else-eq-clause-stuck c = λ w u d x es h. c.key_over.ensures.stuck w u d x es ((steps.key_named u (view c.args.self.now) _ x es (λ e. let h = c.if-eq.ensures in let j = rw e at h in not_true (subst IsTrue (sym j) refl)) c.in-None.ensures.none).0 h)

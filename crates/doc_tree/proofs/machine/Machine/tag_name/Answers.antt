@@ -10,7 +10,7 @@ pub returns-in_ok-push-in-Some-clause-follows : goal.returns-in_ok-push-in-Some-
 returns-in_ok-push-in-Some-clause-follows c = steps.tag_more (view c.args.self.now) _ _ _ c.in_ok-push-in-Some.ensures.items c.requires.place c.requires.good c.in-Some.ensures.next
 
 pub returns-else-eq-clause-follows : goal.returns-else-eq-clause-follows
-returns-else-eq-clause-follows c = OnOk-map c.tag_after.result (follows_from _ (Rests places.TagName (view c.args.self.now)) (InTag (view c.args.self.now) (view c.args.self.now).name) _ _ (λ x es. steps.tag_named (view c.args.self.now) _ x es (λ e. let h = c.if-eq.ensures in let j = rw e at h in not_true (subst IsTrue (sym j) refl)) c.in-None.ensures.none)) c.tag_after.ensures.follows
+returns-else-eq-clause-follows c = OnOk-map c.tag_after.result (follows_from _ (Rests places.TagName (view c.args.self.now)) (InTag (view c.args.self.now) (view c.args.self.now).name) _ _ (λ u d x es. steps.tag_named u (view c.args.self.now) _ x es (λ e. let h = c.if-eq.ensures in let j = rw e at h in not_true (subst IsTrue (sym j) refl)) c.in-None.ensures.none)) c.tag_after.ensures.follows
 
 pub returns-else-eq-clause-stuck : goal.returns-else-eq-clause-stuck
-returns-else-eq-clause-stuck c = λ w x es h. c.tag_after.ensures.stuck w x es ((steps.tag_named (view c.args.self.now) _ x es (λ e. let h = c.if-eq.ensures in let j = rw e at h in not_true (subst IsTrue (sym j) refl)) c.in-None.ensures.none).0 h)
+returns-else-eq-clause-stuck c = λ w u d x es h. c.tag_after.ensures.stuck w u d x es ((steps.tag_named u (view c.args.self.now) _ x es (λ e. let h = c.if-eq.ensures in let j = rw e at h in not_true (subst IsTrue (sym j) refl)) c.in-None.ensures.none).0 h)
