@@ -5,6 +5,7 @@
 //! see why. Real inputs and outputs tell nothing of their bytes; the forms in memory tell all.
 #![tactic(auto)]
 
+mod disk;
 mod files;
 mod listener;
 mod mem_files;
@@ -18,6 +19,7 @@ mod streams;
 mod tests;
 mod text;
 
+pub use disk::DiskFiles;
 pub use files::{FileFault, Files};
 pub use listener::Listener;
 pub use mem_files::MemFiles;

@@ -1,10 +1,10 @@
 use crate::{
-    Failed, FileFault, Files, Link, Listener, MemFiles, MemLink, MemListener, MemSink, MemSource,
-    Sink, Source, StdSink, StdSource, Text, write_all,
+    DiskFiles, Failed, FileFault, Files, Link, Listener, MemFiles, MemLink, MemListener, MemSink,
+    MemSource, Sink, Source, StdSink, StdSource, Text, write_all,
 };
 use std::alloc::{AllocError, Global};
-use std::io;
 use std::test::Fail;
+use std::{env, fs, io};
 
 /// Reads of three bytes until an end, with `!` for a read that failed, `|` after each read and at most ten reads.
 fn log_reads<S: Source>(alloc: Global, source: &mut S) -> Result<Text, AllocError> {
@@ -233,4 +233,29 @@ fn adapts_the_standard_streams(rt: HostRuntime) {
     assert_eq!(rt; write_all(&mut sink, b"written\n"), Ok(()));
     assert_eq!(rt; sink.flush(), Ok(()));
     assert_eq!(rt; (source.faults(), sink.faults()), (0, 0));
+}
+
+#[test]
+fn reads_files_of_the_disk(rt: HostRuntime) -> Result<(), Fail> {
+    let mut name = env::temp_dir(&rt)?;
+    name.push("os_io_reads_files_of_the_disk")?;
+    fs::write(&rt, name.as_str(), b"six bytes")?;
+    let mut files = DiskFiles::new(&rt);
+    for (most, wanted) in [
+        (0, b"".as_slice()),
+        (3, b"six"),
+        (9, b"six bytes"),
+        (u64::MAX, b"six bytes"),
+    ] {
+        let text = files.read_all(rt.alloc(), name.as_str(), most);
+        assert_eq!(rt; text.map(|t| t.as_slice() == wanted), Ok(true));
+    }
+    fs::remove_file(&rt, name.as_str())?;
+    assert_eq!(rt; files.faults(), 0);
+    assert_eq!(rt;
+        files.read_all(rt.alloc(), name.as_str(), 9).err(),
+        Some(FileFault::Failed)
+    );
+    assert_eq!(rt; files.faults(), 1);
+    Ok(())
 }

@@ -39,6 +39,13 @@ impl Text {
         })
     }
 
+    /// A text of the bytes of this vector, which it takes.
+    pub fn from_vec(bytes: Vec<u8>) -> Text
+        ensures { result ≡ bytes.items }
+    {
+        Text { bytes }
+    }
+
     /// Adds a byte at the end.
     pub fn push(&mut self, byte: u8) -> Result<(), Memory>
         ensures ok { OnOk result (self.new ≡ self.old ++ byte ∷ []) }
