@@ -3,7 +3,7 @@
 //! A [`Tree`] is one element with all that stands in it, kept as its events in document order: an element begins, a run
 //! of characters, the innermost element ends. All names, values and texts lie in one buffer. A [`TreeBuilder`] is told
 //! the events one after another, characters in any pieces, and gives a tree exactly where they are those of one
-//! element. [`write()`] gives the text of a tree, [`escape()`] that of character data.
+//! element. [`write()`] gives the text of a tree, [`write_to`] writes it to a sink, [`escape()`] that of character data.
 //!
 //! Contracts see a tree as the list of its events, which are those of one element, and a builder as what it was told:
 //! whole events, the attributes that wait for their element, and the run of characters at the end. A tree takes some
@@ -13,21 +13,23 @@
 
 mod arena;
 mod builder;
+mod escaping;
 mod item;
 mod laws;
 mod tree;
 mod writing;
 
 pub use builder::TreeBuilder;
+pub use escaping::{escape, escape_value};
 pub use item::Item;
 pub use laws::{events_tell_the_element, local_element_is_itself, written_text_is_document};
 pub use tree::Tree;
-pub use writing::{escape, escape_value, write};
+pub use writing::{write, write_to};
 
 #[cfg(test)]
 mod tests {
     use super::*;
-    use os_io::{Memory, Text};
+    use os_io::{Failed, MemSink, Memory, Text};
     use std::alloc::Global;
     use std::test::Fail;
 
@@ -70,6 +72,28 @@ mod tests {
                 }
             }
         }
+        Ok(())
+    }
+
+    #[test]
+    fn writes_to_a_sink(rt: HostRuntime) -> Result<(), Fail> {
+        let alloc = rt.alloc();
+        let mut b = TreeBuilder::new(alloc);
+        b.attribute(b"x", b"1\"")?;
+        b.begin(b"a")?;
+        b.chars(b"<b")?;
+        b.end(b"a")?;
+        let Some(tree) = b.finish() else {
+            assert!(rt; false);
+            return Ok(());
+        };
+        let wanted: &[u8] = b"<?xml version=\"1.0\" encoding=\"UTF-8\"?><a x=\"1&quot;\">&lt;b</a>";
+        let mut sink = MemSink::new(alloc, 100, &[])?;
+        assert_eq!(rt; write_to(&tree, &mut sink), Ok(()));
+        assert!(rt; sink.as_slice() == wanted);
+        let mut full = MemSink::new(alloc, 50, &[])?;
+        assert_eq!(rt; write_to(&tree, &mut full), Err(Failed));
+        assert!(rt; full.as_slice() == &wanted[..50]);
         Ok(())
     }
 

@@ -1,161 +1,202 @@
-//! Writes a tree as text.
+//! Writes a tree, part by part.
 
-ghost use Rattle.std.specs.Prelude.{◌≡◌, ◌<◌, ◌++◌, List, ℕ, Bool, [], ◌∷◌, flat_map, length, OnOk, OnErr, IfOk, MatchOption};
-ghost use Rattle.tree_grammar.specs.Elements.{Element, Event, events};
-ghost use Rattle.tree_grammar.specs.Written.{escaped, escaped_value, tag_end, element_end, written_attributes, written_events, written};
+ghost use Rattle.std.specs.Prelude.{◌≡◌, ◌+◌, ◌<◌, ◌≤◌, ◌++◌, [], ◌∷◌, None, Some, flat_map, length, take, IfOk};
+ghost use Rattle.tree_grammar.specs.Elements.{Element, events};
+ghost use Rattle.tree_grammar.specs.Written.{tag_end, element_end, written_attributes, escaped_value, written};
 ghost use Rattle.element_tree.specs.Escapes.{escaped_by};
 ghost use Rattle.element_tree.specs.Items.{event_at, attributes_of};
+ghost use Rattle.element_tree.specs.Sending.{Writes, is_open_behind, event_text};
 
+use crate::escaping::reference;
 use crate::item::Item;
 use crate::tree::Tree;
-use os_io::{Memory, Text};
-use std::alloc::Global;
+use os_io::{Failed, Memory, Sink, Stream, Text, write_all};
+use std::alloc::{AllocError, Global};
 use tree_grammar::written_in_document_order;
 
-/// The reference that a character is written as, if it is: in an attribute's value, or else in text.
-fn reference(byte: u8, in_value: bool) -> Option<&'static [u8]>
-    ensures { MatchOption result (escaped_by in_value byte ≡ byte ∷ []) (λ r. escaped_by in_value byte ≡ r.now) }
+/// What stands before the element.
+const DECLARATION: &[u8] = b"<?xml version=\"1.0\" encoding=\"UTF-8\"?>";
+
+/// Writes bytes.
+fn put<S: Sink>(bytes: &[u8], sink: &mut S) -> Result<(), Failed>
+    ensures { Writes result bytes.now (S.written sink.old) (S.written sink.new) (S.write_faults sink.old) (S.write_faults sink.new) (S.left sink.old) (S.left sink.new) (S.read_faults sink.old) (S.read_faults sink.new) }
 {
-    match byte {
-        b'&' => Some(b"&amp;"),
-        b'<' => Some(b"&lt;"),
-        b'>' => Some(b"&gt;"),
-        b'\r' => Some(b"&#13;"),
-        b'"' if in_value => Some(b"&quot;"),
-        b'\t' if in_value => Some(b"&#9;"),
-        b'\n' if in_value => Some(b"&#10;"),
-        _ => None,
-    }
+    write_all(sink, bytes)
 }
 
-/// Appends a character, escaped.
-fn put_escaped(byte: u8, in_value: bool, out: &mut Text) -> Result<(), Memory>
-    ensures ok { OnOk result (out.new ≡ out.old ++ escaped_by in_value byte) }
-    ensures err { OnErr result (out.new ≡ out.old) }
+/// How many characters at the front are written as they are.
+fn plain_length(bytes: &[u8], in_value: bool) -> usize
+    ensures within { result ≤ length bytes.now }
+    ensures plain { flat_map (escaped_by in_value) (take result bytes.now) ≡ take result bytes.now }
+{
+    for i in 0..bytes.len() {
+        if reference(bytes[i], in_value).is_some() {
+            return i;
+        }
+    }
+    bytes.len()
+}
+
+/// The characters at the front that are written as they are, and the rest.
+fn plain_front(bytes: &[u8], in_value: bool) -> (&[u8], &[u8])
+    ensures text { flat_map (escaped_by in_value) bytes.now ≡ result.0.now ++ flat_map (escaped_by in_value) result.1.now }
+    ensures length { length result.0.now + length result.1.now ≡ length bytes.now }
+{
+    bytes.split_at(plain_length(bytes, in_value))
+}
+
+/// Writes a character, escaped.
+fn put_character<S: Sink>(byte: u8, in_value: bool, sink: &mut S) -> Result<(), Failed>
+    ensures { Writes result (escaped_by in_value byte) (S.written sink.old) (S.written sink.new) (S.write_faults sink.old) (S.write_faults sink.new) (S.left sink.old) (S.left sink.new) (S.read_faults sink.old) (S.read_faults sink.new) }
 {
     match reference(byte, in_value) {
-        Some(text) => out.extend(text),
-        None => out.push(byte),
+        Some(text) => put(text, sink),
+        None => put(&[byte], sink),
     }
 }
 
-/// Appends characters, escaped.
-fn put_all_escaped(bytes: &[u8], in_value: bool, out: &mut Text) -> Result<(), Memory>
-    ensures ok { OnOk result (out.new ≡ out.old ++ flat_map (escaped_by in_value) bytes.now) }
-    ensures err { OnErr result (out.new ≡ out.old) }
+/// Writes characters, escaped.
+fn put_escaped<S: Sink>(bytes: &[u8], in_value: bool, sink: &mut S) -> Result<(), Failed>
+    ensures { Writes result (flat_map (escaped_by in_value) bytes.now) (S.written sink.old) (S.written sink.new) (S.write_faults sink.old) (S.write_faults sink.new) (S.left sink.old) (S.left sink.new) (S.read_faults sink.old) (S.read_faults sink.new) }
 {
-    let before = out.len();
-    for byte in bytes {
-        if let Err(e) = put_escaped(*byte, in_value, out) {
-            out.truncate(before);
-            return Err(e);
+    let mut rest = bytes;
+    while let Some((first, behind)) = rest.split_first() {
+        let (run, more) = plain_front(rest, in_value);
+        if run.is_empty() {
+            put_character(*first, in_value, sink)?;
+            rest = behind;
+        } else {
+            put(run, sink)?;
+            rest = more;
         }
     }
     Ok(())
 }
 
-/// Appends character data (XML 1.0, section 2.4): `&`, `<`, `>` and the carriage return become references. After
-/// want of memory the text is as before.
-pub fn escape(text: &[u8], out: &mut Text) -> Result<(), Memory>
-    ensures ok { OnOk result (out.new ≡ out.old ++ escaped text.now) }
-    ensures err { OnErr result (out.new ≡ out.old) }
+/// The end of a start tag, if one is open.
+fn end_of_tag(is_open: bool) -> &'static [u8]
+    ensures { result.now ≡ tag_end is_open [] }
 {
-    put_all_escaped(text, false, out)
+    if is_open { b">" } else { b"" }
 }
 
-/// Appends an attribute's value, to stand in double quotes (XML 1.0, sections 2.3 and 3.3.3): the quote, the tab and
-/// the line feed become references too. After want of memory the text is as before.
-pub fn escape_value(value: &[u8], out: &mut Text) -> Result<(), Memory>
-    ensures ok { OnOk result (out.new ≡ out.old ++ escaped_value value.now) }
-    ensures err { OnErr result (out.new ≡ out.old) }
+/// Writes an attribute.
+fn put_attribute<S: Sink>(name: &[u8], value: &[u8], sink: &mut S) -> Result<(), Failed>
+    ensures { Writes result (32 ∷ (name.now ++ (61 ∷ 34 ∷ (escaped_value value.now ++ (34 ∷ []))))) (S.written sink.old) (S.written sink.new) (S.write_faults sink.old) (S.write_faults sink.new) (S.left sink.old) (S.left sink.new) (S.read_faults sink.old) (S.read_faults sink.new) }
 {
-    put_all_escaped(value, true, out)
+    put(b" ", sink)?;
+    put(name, sink)?;
+    put(b"=\"", sink)?;
+    put_escaped(value, true, sink)?;
+    put(b"\"", sink)
 }
 
-/// Appends the end of a start tag, if one is open.
-fn put_tag_end(is_open: bool, out: &mut Text) -> Result<(), Memory>
-    ensures { OnOk result ((k : List ℕ) → out.new ++ k ≡ out.old ++ tag_end is_open k) }
-{
-    if is_open {
-        out.push(b'>')?;
-    }
-    Ok(())
-}
-
-/// Appends an attribute.
-fn put_attribute(name: &[u8], value: &[u8], out: &mut Text) -> Result<(), Memory>
-    ensures { OnOk result ((k : List ℕ) → out.new ++ k ≡ out.old ++ (32 ∷ (name.now ++ (61 ∷ 34 ∷ (escaped_value value.now ++ (34 ∷ k)))))) }
-{
-    out.push(b' ')?;
-    out.extend(name)?;
-    out.extend(b"=\"")?;
-    escape_value(value, out)?;
-    out.push(b'"')?;
-    Ok(())
-}
-
-/// Appends the attributes of the event at an index.
-fn put_attributes(tree: &Tree, i: usize, out: &mut Text) -> Result<(), Memory>
+/// Writes the attributes of the event at an index.
+fn put_attributes<S: Sink>(tree: &Tree, i: usize, sink: &mut S) -> Result<(), Failed>
     requires { i < length tree.now }
-    ensures { OnOk result ((k : List ℕ) → out.new ++ k ≡ out.old ++ written_attributes (attributes_of (event_at tree.now i)) k) }
+    ensures { Writes result (written_attributes (attributes_of (event_at tree.now i)) []) (S.written sink.old) (S.written sink.new) (S.write_faults sink.old) (S.write_faults sink.new) (S.left sink.old) (S.left sink.new) (S.read_faults sink.old) (S.read_faults sink.new) }
 {
     for k in 0..tree.attribute_count(i) {
         let (name, value) = tree.attribute(i, k);
-        put_attribute(name, value, out)?;
+        put_attribute(name, value, sink)?;
     }
     Ok(())
 }
 
-/// Appends the end of an element, whose start tag may still be open.
-fn put_element_end(is_open: bool, name: &[u8], out: &mut Text) -> Result<(), Memory>
-    ensures { OnOk result ((k : List ℕ) → out.new ++ k ≡ out.old ++ element_end is_open name.now k) }
+/// Writes the end of an element, whose start tag may still be open.
+fn put_element_end<S: Sink>(is_open: bool, name: &[u8], sink: &mut S) -> Result<(), Failed>
+    ensures { Writes result (element_end is_open name.now []) (S.written sink.old) (S.written sink.new) (S.write_faults sink.old) (S.write_faults sink.new) (S.left sink.old) (S.left sink.new) (S.read_faults sink.old) (S.read_faults sink.new) }
 {
     if is_open {
-        return out.extend(b"/>");
+        return put(b"/>", sink);
     }
-    out.extend(b"</")?;
-    out.extend(name)?;
-    out.push(b'>')?;
-    Ok(())
+    put(b"</", sink)?;
+    put(name, sink)?;
+    put(b">", sink)
 }
 
-/// Appends the event at an index, and says whether a start tag is open behind it.
-fn put_event(tree: &Tree, i: usize, is_open: bool, out: &mut Text) -> Result<bool, Memory>
+/// Writes the event at an index, and says whether a start tag is open behind it.
+fn put_event<S: Sink>(tree: &Tree, i: usize, is_open: bool, sink: &mut S) -> Result<bool, Failed>
     requires { i < length tree.now }
-    ensures { IfOk result (λ then. (more : List Event) → out.new ++ written_events then more ≡ out.old ++ written_events is_open (event_at tree.now i ∷ more)) }
+    ensures writes { Writes result (event_text is_open (event_at tree.now i)) (S.written sink.old) (S.written sink.new) (S.write_faults sink.old) (S.write_faults sink.new) (S.left sink.old) (S.left sink.new) (S.read_faults sink.old) (S.read_faults sink.new) }
+    ensures open { IfOk result (λ then. then ≡ is_open_behind (event_at tree.now i)) }
 {
     match tree.event(i) {
         Item::Open { name } => {
-            put_tag_end(is_open, out)?;
-            out.push(b'<')?;
-            out.extend(name)?;
-            put_attributes(tree, i, out)?;
+            put(end_of_tag(is_open), sink)?;
+            put(b"<", sink)?;
+            put(name, sink)?;
+            put_attributes(tree, i, sink)?;
             Ok(true)
         }
         Item::Chars { text } => {
-            put_tag_end(is_open, out)?;
-            escape(text, out)?;
+            put(end_of_tag(is_open), sink)?;
+            put_escaped(text, false, sink)?;
             Ok(false)
         }
         Item::Close { name } => {
-            put_element_end(is_open, name, out)?;
+            put_element_end(is_open, name, sink)?;
             Ok(false)
         }
     }
 }
 
-/// The text of a tree: a declaration and the element, without white space of its own. An element without children
-/// is an empty-element tag.
+/// Writes the text of a tree: a declaration and the element, without white space of its own. An element without
+/// children is an empty-element tag. After [`Failed`] a first part of the text was written. Takes no memory.
+pub fn write_to<S: Sink>(tree: &Tree, sink: &mut S) -> Result<(), Failed>
+    ensures { (e : Element) → tree.now ≡ events e → Writes result (written e) (S.written sink.old) (S.written sink.new) (S.write_faults sink.old) (S.write_faults sink.new) (S.left sink.old) (S.left sink.new) (S.read_faults sink.old) (S.read_faults sink.new) }
+{
+    // The law that an element's text is that of its events, in their order.
+    written_in_document_order();
+    put(DECLARATION, sink)?;
+    let mut is_open = false;
+    for i in 0..tree.len() {
+        is_open = put_event(tree, i, is_open, sink)?;
+    }
+    Ok(())
+}
+
+/// A text that grows with what is written. A fault is want of memory.
+#[derive(Drop)]
+struct Growing {
+    text: Text,
+    faults: u64,
+}
+
+impl Stream for Growing {
+    ghost left = { λ _. None };
+
+    ghost written = { λ s. Some s.text };
+
+    ghost read_faults = { λ _. 0 };
+
+    ghost write_faults = { λ s. s.faults };
+}
+
+impl Sink for Growing {
+    fn write(&mut self, bytes: &[u8]) -> Result<usize, Failed> {
+        if self.text.extend(bytes).is_err() {
+            self.faults = self.faults.saturating_add(1);
+            return Err(Failed);
+        }
+        Ok(bytes.len())
+    }
+
+    fn flush(&mut self) -> Result<(), Failed> {
+        Ok(())
+    }
+}
+
+/// The text of a tree, as [`write_to`] writes it.
 pub fn write(alloc: Global, tree: &Tree) -> Result<Text, Memory>
     ensures { IfOk result (λ text. (e : Element) → tree.now ≡ events e → text ≡ written e) }
 {
-    let mut out = Text::new(alloc);
-    out.extend(b"<?xml version=\"1.0\" encoding=\"UTF-8\"?>")?;
-    let mut is_open = false;
-    for i in 0..tree.len() {
-        is_open = put_event(tree, i, is_open, &mut out)?;
+    let mut out = Growing {
+        text: Text::new(alloc),
+        faults: 0,
+    };
+    match write_to(tree, &mut out) {
+        Ok(()) => Ok(out.text),
+        Err(Failed) => Err(AllocError),
     }
-    // The law that an element's text is that of its events, in their order.
-    written_in_document_order();
-    Ok(out)
 }

@@ -1,7 +1,9 @@
-use Rattle.std.proofs.Common.{◌≡◌, ◌++◌, List, ℕ, drop}
+use Rattle.std.proofs.Common.{[], drop}
+use Rattle.os_io.specs.declared.streams.Failed.{Failed}
 use Rattle.tree_grammar.specs.Written.{written_attributes}
 use Rattle.element_tree.specs.Items.{event_at, attributes_of}
+use Rattle.element_tree.proofs.Texts.{SoFar}
 use Rattle.element_tree.proofs.writing.put_attributes.Given as goal
 
 abbrev pub invariant-loop-k : goal.invariant-loop-k
-invariant-loop-k l = (more : List ℕ) → l.out ++ written_attributes (drop l.k (attributes_of (event_at l.tree l.i))) more ≡ l.fn.out ++ written_attributes (attributes_of (event_at l.tree l.i)) more
+invariant-loop-k g l = SoFar Failed (written_attributes (attributes_of (event_at l.tree l.i)) []) (written_attributes (drop l.k (attributes_of (event_at l.tree l.i))) []) (g.S.Stream.written l.fn.sink) (g.S.Stream.written l.sink) (g.S.Stream.write_faults l.fn.sink) (g.S.Stream.write_faults l.sink) (g.S.Stream.left l.fn.sink) (g.S.Stream.left l.sink) (g.S.Stream.read_faults l.fn.sink) (g.S.Stream.read_faults l.sink)
