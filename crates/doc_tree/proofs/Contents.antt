@@ -167,7 +167,7 @@ again room n K a b r es h = elim (inside_less room n K a r es h) [
 ]
 
 -- a start tag in content
-tag_to : (room : ℕ) (n : List ℕ) (K : List ℕ → List Mark → Type 0) (b : ℕ) (r : List ℕ) (es : List Mark) → b ≢ 47 → b ≢ 33 → b ≢ 63 → LessCases room n K (b ∷ r) es → (1 ≤ room) × Then IsQName (λ m. TagRest (room - 1) m [] [] (Inside room 0 n K)) (b ∷ r) es
+pub tag_to : (room : ℕ) (n : List ℕ) (K : List ℕ → List Mark → Type 0) (b : ℕ) (r : List ℕ) (es : List Mark) → b ≢ 47 → b ≢ 33 → b ≢ 63 → LessCases room n K (b ∷ r) es → (1 ≤ room) × Then IsQName (λ m. TagRest (room - 1) m [] [] (Inside room 0 n K)) (b ∷ r) es
 tag_to room n K b r es no_end no_bang no_mark (is_end t e w) = absurd (no_end (cc))
 tag_to room n K b r es no_end no_bang no_mark (is_comment t e w) = absurd (no_bang (cc))
 tag_to room n K b r es no_end no_bang no_mark (is_section t e w) = absurd (no_bang (cc))
@@ -179,7 +179,7 @@ slash : (r run : List ℕ) → IsQName run → (y : List ℕ) → 47 ∷ r ≡ r
 slash r [] q y e = q
 slash r (c ∷ cs) q y e = let h : 47 ≡ c = cc in let l = start_high c q.0 in omega arith
 
-end_to : (room : ℕ) (n : List ℕ) (K : List ℕ → List Mark → Type 0) (r : List ℕ) (es : List Mark) → LessCases room n K (47 ∷ r) es → Word n (EndRest n K) r es
+pub end_to : (room : ℕ) (n : List ℕ) (K : List ℕ → List Mark → Type 0) (r : List ℕ) (es : List Mark) → LessCases room n K (47 ∷ r) es → Word n (EndRest n K) r es
 end_to room n K r es (is_end t e w) = let q : t ≡ r = cc in subst (λ z. Word n (EndRest n K) z es) q w
 end_to room n K r es (is_comment t e w) = let h : ◌≡◌ {A = ℕ} 47 33 = cc in absurd (omega arith)
 end_to room n K r es (is_section t e w) = let h : ◌≡◌ {A = ℕ} 47 33 = cc in absurd (omega arith)

@@ -6,8 +6,9 @@ use Rattle.tree_grammar.specs.Tags.{Value, value_over, value_plain, value_white,
 use Rattle.tree_grammar.specs.Content.{Comment, comment_over, comment_plain, comment_dash, comment_text, IsInstructionText, Content, nothing, char, reference, section, comment, instruction, empty, nested, content_text, end_text, Body, closed, opened, body_text, Misc, misc_over, misc_space, misc_comment, misc_instruction, misc_text}
 use Rattle.tree_grammar.specs.Declaration.{Declaration, no_declaration, declared, declaration_text}
 use Rattle.tree_grammar.specs.Document.{mark_text}
+use Rattle.std.specs.Prelude.{codes}
 use Rattle.doc_tree.specs.Marks.{Mark, Char}
-use Rattle.doc_tree.specs.Rests.{Terms, CommentRest, SectionRest, pending, PiText, PiSpace, PiRest, PiOver, FirstOver, After, Saying, Never, Then, Word, Quoted, QuoteRest, EqualsRest, RefRest, ValueRest, IsPart, IsFit, Inside, BodyRest, TagRest, Between, Before, FieldRest, GapRest, Or, Next, Next1, Next2, EndsBehind, Choice, Gap, Marked, Whole, TagFirst, room_in}
+use Rattle.doc_tree.specs.Rests.{Terms, CommentRest, SectionRest, pending, PiText, PiSpace, PiRest, PiOver, FirstOver, After, Saying, Never, Then, Word, Quoted, QuoteRest, EqualsRest, RefRest, ValueRest, IsPart, IsFit, Inside, BodyRest, TagRest, Between, Before, FieldRest, GapRest, Or, Next, Next1, Next2, EndsBehind, Choice, Gap, Marked, VersionRest, Valued, Whole, RootOrType, room_in}
 use Rattle.doc_tree.specs.Completes.{Around, State, Rests, Good, Insides, EndOver, InTag, InKey, TagChoice, Completes}
 use Rattle.doc_tree.specs.declared.declaration.Field.{Field}
 use Rattle.doc_tree.specs.declared.declaration.Field.TheVariants as fields
@@ -202,6 +203,10 @@ module _ (u : Terms) where
   tag_choice_lasts : (s : State) → Lasts (TagChoice s u)
   tag_choice_lasts s = or_lasts (BodyRest (room_in u s.names - 1) s.name s.kept (Between 0 s.names u)) (Then IsQName (InKey s u)) (body_lasts (room_in u s.names - 1) s.name s.kept (Between 0 s.names u)) (some_lasts IsQName (InKey s u) (λ q. q))
 
+  no_qname : (name : List ℕ) → IsQName name → (y : List ℕ) → [] ≡ name ++ y → ⊥
+  no_qname [] q y e = q
+  no_qname (c ∷ cs) q y e = absurd (cc)
+
   -- before the root
   no_misc : (m : Misc) (k : List ℕ) → [] ≡ misc_text m (60 ∷ k) → ⊥
   no_misc misc_over k e = absurd (cc)
@@ -212,13 +217,17 @@ module _ (u : Terms) where
   before_lasts : Lasts (Before u)
   before_lasts es h = no_misc h.misc _ h.text
 
-  one_of : (es : List Mark) → Cases (Before u) 60 [] es ⊎ ((◌≡◌ {A = ℕ} 60 60) × TagFirst [] u [] es) → ⊥
+  opens_lasts : Lasts (RootOrType u)
+  opens_lasts es (inl h) = no_qname h.tag.name h.tag.named _ h.text
+  opens_lasts es (inr h) = let e = h.text in absurd (cc)
+
+  one_of : (es : List Mark) → Cases (Before u) 60 [] es ⊎ ((◌≡◌ {A = ℕ} 60 60) × RootOrType u [] es) → ⊥
   one_of es (inl (at_space s k)) = let l = space_low 60 s in omega arith
   one_of es (inl (at_comment x e q k)) = absurd (cc)
   one_of es (inl (at_pi x e q k)) = absurd (cc)
-  one_of es (inr p) = some_lasts IsQName (λ n. TagRest (room_in u [] - 1) n [] [] (Between 0 [] u)) (λ q. q) es p.1.rest
+  one_of es (inr p) = opens_lasts es p.1
 
-  one_to : (es : List Mark) → IsRound (Before u) (TagFirst [] u) → Before u (60 ∷ []) es → ⊥
+  one_to : (es : List Mark) → IsRound (Before u) (RootOrType u) → Before u (60 ∷ []) es → ⊥
   one_to es round h = one_of es (round.cases 60 [] es h)
 
   before_one : (es : List Mark) → Before u (60 ∷ []) es → ⊥
@@ -246,15 +255,16 @@ module _ (u : Terms) where
   choice_lasts : (field : Field) → Lasts (Choice field u)
   choice_lasts field = or_lasts (EndsBehind field u) (Next field u) (ends_lasts field) (next_lasts field)
 
-  gap_lasts : (field : Field) → Lasts (Gap field u)
+  pub gap_lasts : (field : Field) → Lasts (Gap field u)
   gap_lasts field = or_lasts (EndsBehind field u) (Then (Some1 IsSpace) (λ _. Choice field u)) (ends_lasts field) (then_lasts (Some1 IsSpace) (λ _. Choice field u) (λ _. choice_lasts field))
 
   no_declared : (d : Declaration) (y : List ℕ) (es : List Mark) → [] ≡ declaration_text d y → Before u y es → ⊥
   no_declared no_declaration y es e h = before_lasts es (subst (λ z. Before u z es) (sym e) h)
   no_declared (declared v n s space sp) y es e h = absurd (cc)
 
-  marked_lasts : Lasts (Marked u)
-  marked_lasts es h = no_declared h.declaration h.behind es h.text h.after
+  pub marked_lasts : Lasts (Marked u)
+  marked_lasts es (inl h) = no_declared h.declaration h.behind es h.text h.after
+  marked_lasts es (inr h) = word_lasts (codes "<?xml") (VersionRest u) (λ e. cc) es h
 
   marked_one : (es : List Mark) → Marked u (60 ∷ []) es → ⊥
   marked_one es h = elim (marked_cases u 60 [] es h) [ inl p ↦ before_one es p | inr p ↦ (let e = p.2 in absurd (cc)) ]
@@ -283,7 +293,7 @@ module _ (u : Terms) where
   bang_of K Other round es (inl (at_space s k)) = let l = space_low 60 s in omega arith
   bang_of K Other round es (inl (at_comment x e q k)) = absurd (cc)
   bang_of K Other round es (inl (at_pi x e q k)) = let h : ◌≡◌ {A = ℕ} 33 63 = cc in omega arith
-  bang_of K Other round es (inr p) = let l = round.named 33 [] es p.1 in omega arith
+  bang_of K Other round es (inr p) = elim (round.named 33 [] es p.1) [ inl l ↦ (omega arith) | inr q ↦ (let e = q.1 in absurd (cc)) ]
 
   bang_lasts : (K Other : List ℕ → List Mark → Type 0) → IsRound K Other → (es : List Mark) → K (60 ∷ 33 ∷ []) es → ⊥
   bang_lasts K Other round es h = bang_of K Other round es (round.cases 60 (33 ∷ []) es h)
@@ -300,12 +310,12 @@ module _ (u : Terms) where
   content_bang_lasts (n ∷ names) es h = bang_none (room_in u (n ∷ names)) n (Between 0 names u) es (inside_less (room_in u (n ∷ names)) n (Between 0 names u) 0 (33 ∷ []) es h)
 
   around_bang : (round : Round) (names : List (List ℕ)) (es : List Mark) → Around round names u (60 ∷ 33 ∷ []) es → ⊥
-  around_bang rounds.Prolog names es h = bang_lasts (Before u) (TagFirst [] u) (before_round u) es h
+  around_bang rounds.Prolog names es h = bang_lasts (Before u) (RootOrType u) (before_round u) es h
   around_bang rounds.Content names es h = content_bang_lasts names es h
   around_bang rounds.Epilog names es h = bang_lasts (After u) Never (after_round u) es h
 
   around_question : (round : Round) (names : List (List ℕ)) (es : List Mark) → Around round names u (60 ∷ 63 ∷ []) es → ⊥
-  around_question rounds.Prolog names es h = pi_lasts (Before u) es ((round_question (Before u) (TagFirst [] u) (before_round u) [] es).0 h)
+  around_question rounds.Prolog names es h = pi_lasts (Before u) es ((round_question (Before u) (RootOrType u) (before_round u) [] es).0 h)
   around_question rounds.Content names es h = pi_lasts (Insides 0 names u) es ((content_question u names [] es).0 h)
   around_question rounds.Epilog names es h = pi_lasts (After u) es ((round_question (After u) Never (after_round u) [] es).0 h)
 
@@ -324,7 +334,7 @@ module _ (u : Terms) where
   place_lasts places.FieldSpace s n g es h = then_lasts (Each IsSpace) (λ _. Choice s.field u) (λ _. choice_lasts s.field) es h
   place_lasts places.FieldEquals s n g es h = equals_lasts _ es h
   place_lasts places.FieldQuote s n g es h = quote_lasts _ es h
-  place_lasts places.FieldValue s n g es h = then_lasts _ _ (λ _. word_lasts (s.quote ∷ []) (Gap s.field u) (λ e. cc)) es h
+  place_lasts places.FieldValue s n g es h = then_lasts _ _ (λ more. word_lasts (s.quote ∷ []) (Valued u s.field (Gap s.field u) (s.value ++ more)) (λ e. cc)) es h
   place_lasts places.Word s n g es h = word_lasts s.left _ g.0 es h
   place_lasts places.TagName s n g es h = then_lasts (IsPart s.part) (λ run. InTag s (s.name ++ run) u) (λ run. tag_lasts _ _ _ _ _) es h
   place_lasts places.TagAfter s n g es h = tag_lasts _ _ _ _ _ es h

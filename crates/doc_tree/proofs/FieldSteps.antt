@@ -5,10 +5,10 @@ use Rattle.tree_grammar.specs.Characters.{IsSpace, Each, Some1, IsDigit}
 use Rattle.tree_grammar.specs.Tags.{IsQuote}
 use Rattle.tree_grammar.specs.Declaration.{IsEncodingChar, IsYesOrNo}
 use Rattle.doc_tree.specs.Marks.{Mark}
-use Rattle.doc_tree.specs.Rests.{Terms, Then, Word, Before, Ends, Never, GapRest, Next, Next1, Next2, Gap, Choice, EndsBehind, FieldRest, FieldOver, FieldValue, IsFieldValue, field_name, first_letter, IsNextField, NoNextField}
+use Rattle.doc_tree.specs.Rests.{Terms, Then, Word, Before, Ends, Never, GapRest, Next, Next1, Next2, Gap, Choice, EndsBehind, FieldRest, FieldOver, FieldValue, Valued, Foreign, IsFieldValue, field_name, first_letter, IsNextField, NoNextField}
 use Rattle.doc_tree.specs.declared.declaration.Field.{Field}
 use Rattle.doc_tree.specs.declared.declaration.Field.TheVariants as fields
-use Rattle.doc_tree.proofs.Spans.{then_over, then_here, then_next, then_back, some_more, some_stuck, word_first, word_back, word_last}
+use Rattle.doc_tree.proofs.Spans.{then_over, then_here, then_next, then_back, then_map, some_more, some_stuck, word_first, word_back, word_last}
 use Rattle.doc_tree.proofs.Bytes.{space_low}
 
 module _ (u : Terms) where
@@ -131,7 +131,7 @@ module _ (u : Terms) where
   word_each w (inl e) = let h : Each IsEncodingChar (121 ∷ 101 ∷ 115 ∷ []) = (letters 121 (omega arith) (omega arith), (letters 101 (omega arith) (omega arith), (letters 115 (omega arith) (omega arith), tt))) in subst (Each IsEncodingChar) (sym e) h
   word_each w (inr e) = let h : Each IsEncodingChar (110 ∷ 111 ∷ []) = (letters 110 (omega arith) (omega arith), (letters 111 (omega arith) (omega arith), tt)) in subst (Each IsEncodingChar) (sym e) h
 
-  field_each : (f : Field) (v : List ℕ) → IsFieldValue u.aim f v → Each IsEncodingChar v
+  pub field_each : (f : Field) (v : List ℕ) → IsFieldValue u.aim f v → Each IsEncodingChar v
   field_each fields.Before v h = absurd h
   field_each fields.Version v h = let k : Each IsEncodingChar (49 ∷ 46 ∷ h.0) = (inr (inl (omega arith, omega arith)), (inr (inr (inl refl)), digits_some h.0 h.2)) in subst (Each IsEncodingChar) (sym h.1) k
   field_each fields.Encoding [] h = tt
@@ -155,19 +155,35 @@ module _ (u : Terms) where
     abbrev N : ℕ → List ℕ → Type 0
     N b more = IsFieldValue u.aim f ((v ++ (b ∷ [])) ++ more)
 
+    abbrev L : List ℕ → List ℕ → List Mark → Type 0
+    L more = Word (q ∷ []) (Valued u f K (v ++ more))
+
+    -- the value with this byte
+    longer : (b : ℕ) (run : List ℕ) → (v ++ (b ∷ [])) ++ run ≡ v ++ (b ∷ run)
+    longer b run = append_assoc v (b ∷ []) run
+
     pub value_more : (b : ℕ) (r : List ℕ) (es : List Mark) → b ≢ q → FieldValue u f K v q (b ∷ r) es ↔ FieldValue u f K (v ++ (b ∷ [])) q r es
     value_more b r es n = (
-      then_next P (N b) (λ _. Word (q ∷ []) K) b r es (λ run i. subst (IsFieldValue u.aim f) (sym (append_assoc v (b ∷ []) run)) i) (λ i k. n (word_first K q [] b r es k).0),
-      then_back P (N b) (λ _. Word (q ∷ []) K) b r es (λ run i. subst (IsFieldValue u.aim f) (append_assoc v (b ∷ []) run) i),
+      λ h. then_map (N b) (N b) (λ run. L (b ∷ run)) (λ run. Word (q ∷ []) (Valued u f K ((v ++ (b ∷ [])) ++ run))) (λ run i. i) (λ run x fs k. subst (λ z. Word (q ∷ []) (Valued u f K z) x fs) (sym (longer b run)) k) r es
+          (then_next P (N b) L b r es (λ run i. subst (IsFieldValue u.aim f) (sym (longer b run)) i) (λ i k. n (word_first (Valued u f K (v ++ [])) q [] b r es k).0) h),
+      λ h. then_back P (N b) L b r es (λ run i. subst (IsFieldValue u.aim f) (longer b run) i)
+          (then_map (N b) (N b) (λ run. Word (q ∷ []) (Valued u f K ((v ++ (b ∷ [])) ++ run))) (λ run. L (b ∷ run)) (λ run i. i) (λ run x fs k. subst (λ z. Word (q ∷ []) (Valued u f K z) x fs) (longer b run) k) r es h),
     )
 
-    value_done : (r : List ℕ) (es : List Mark) → IsQuote q → FieldValue u f K v q (q ∷ r) es → P [] × Word (q ∷ []) K (q ∷ r) es
-    value_done r es i h = then_over P (λ _. Word (q ∷ []) K) q r es (λ run k. value_quote f v q run i k) h
+    value_done : (r : List ℕ) (es : List Mark) → IsQuote q → FieldValue u f K v q (q ∷ r) es → P [] × Word (q ∷ []) (Valued u f K (v ++ [])) (q ∷ r) es
+    value_done r es i h = then_over P L q r es (λ run k. value_quote f v q run i k) h
 
-    pub value_over : (r : List ℕ) (es : List Mark) → IsQuote q → IsFieldValue u.aim f v → FieldValue u f K v q (q ∷ r) es ↔ K r es
-    value_over r es i g = (
-      λ h. (word_last K q r es).0 (value_done r es i h).1,
-      λ k. then_here P (λ _. Word (q ∷ []) K) (q ∷ r) es (subst (IsFieldValue u.aim f) (sym (append-nil v)) g) ((word_last K q r es).1 k),
+    -- the same without the nothing behind
+    pub value_valued : (r : List ℕ) (es : List Mark) → IsQuote q → FieldValue u f K v q (q ∷ r) es → Valued u f K v r es
+    value_valued r es i h = subst (λ z. Valued u f K z r es) (append-nil v) ((word_last (Valued u f K (v ++ [])) q r es).0 (value_done r es i h).1)
+
+    pub value_back : (r : List ℕ) (es : List Mark) → IsFieldValue u.aim f v → Valued u f K v r es → FieldValue u f K v q (q ∷ r) es
+    value_back r es g k = then_here P L (q ∷ r) es (subst (IsFieldValue u.aim f) (sym (append-nil v)) g) ((word_last (Valued u f K (v ++ [])) q r es).1 (subst (λ z. Valued u f K z r es) (sym (append-nil v)) k))
+
+    pub value_over : (r : List ℕ) (es : List Mark) → IsQuote q → IsFieldValue u.aim f v → (Foreign u f v r es → ⊥) → FieldValue u f K v q (q ∷ r) es ↔ K r es
+    value_over r es i g n = (
+      λ h. elim (value_valued r es i h) [ inl k ↦ k | inr k ↦ absurd (n k) ],
+      λ k. value_back r es g (inl k),
     )
 
     pub value_stuck : (r : List ℕ) (es : List Mark) → IsQuote q → (IsFieldValue u.aim f v → ⊥) → FieldValue u f K v q (q ∷ r) es → ⊥

@@ -20,7 +20,7 @@ after_grows radix n (d ∷ ds) i = let a = after_grows radix (n * radix + digit_
 xml_low : (c : ℕ) → IsXmlChar c → c ≤ 1114111
 xml_low c h = grind arith
 
-radix_low : (radix : ℕ) → IsRadix radix → radix ≤ 16
+pub radix_low : (radix : ℕ) → IsRadix radix → radix ≤ 16
 radix_low radix (inl e) = omega arith
 radix_low radix (inr e) = omega arith
 

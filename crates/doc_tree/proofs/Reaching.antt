@@ -1,5 +1,5 @@
 -- Fixed texts, references and attributes that are whole; and the machine's ends.
-use Rattle.std.proofs.Common.{◌≡◌, ◌≢◌, ℕ, ◌+◌, ◌<◌, Bool, true, false, cond, length, map, drop, drop-cons, get_or, ◌↔◌, List, [], ◌∷◌, ◌++◌, refl, ap, sym, ◌∙◌, subst}
+use Rattle.std.proofs.Common.{◌≡◌, ◌≢◌, ℕ, ◌+◌, ◌<◌, inl, inr, Bool, true, false, cond, length, map, drop, drop-cons, get_or, ◌↔◌, List, [], ◌∷◌, ◌++◌, refl, ap, sym, ◌∙◌, subst, arith}
 use Rattle.std.specs.Prelude.{encode_utf8}
 use Rattle.std.proofs.lemmas.List.{append-nil}
 use Rattle.tree_grammar.specs.Tags.{is_kept}
@@ -12,7 +12,7 @@ use Rattle.doc_tree.specs.declared.machine.Goal.{Goal}
 use Rattle.doc_tree.specs.declared.machine.Goal.TheVariants as goals
 use Rattle.doc_tree.specs.declared.machine.Place.{Place}
 use Rattle.doc_tree.specs.declared.machine.Place.TheVariants as places
-use Rattle.doc_tree.specs.Completes.{State, Rests, Reaches, Insides, Good, GoodReference, GoodGoal, IsRadix, Behind, BehindReference, BehindValue, Completes, Follows, Stuck, Reached, Runs}
+use Rattle.doc_tree.specs.Completes.{State, Rests, Reaches, Insides, Good, GoodReference, GoodGoal, GoodTag, IsFixed, InElement, IsInMark, IsRadix, Behind, BehindReference, BehindValue, Completes, Follows, Stuck, Reached, Runs}
 use Rattle.doc_tree.proofs.Moves.{moves_at, follows_reached, reached_from, reached_saying, stays}
 use Rattle.doc_tree.proofs.Spans.{word_first, word_back, word_last}
 use Rattle.doc_tree.proofs.Steps.{at_byte, at_here}
@@ -20,10 +20,10 @@ use Rattle.doc_tree.proofs.Loops.{drop_at}
 use Rattle.doc_tree.proofs.Numbers.{digit_end, digit_end_stuck}
 
 -- an attribute is whole
-pub attribute_over : (s : State) (keys : List (List ℕ)) (key : List ℕ) (kept : List Attribute) (marks : List Mark) → keys ≡ s.keys ++ (s.key ∷ []) → kept ≡ keep s.key s.value s.kept → s.marks ≡ marks → Reached s.marks (BehindValue s s.value) (record s { place = places.TagAfter; keys = keys; key = key; kept = kept; marks = marks })
-attribute_over s keys key kept marks e f m =
+pub attribute_over : (s : State) → GoodTag s → (keys : List (List ℕ)) (key : List ℕ) (kept : List Attribute) (marks : List Mark) → keys ≡ s.keys ++ (s.key ∷ []) → kept ≡ keep s.key s.value s.kept → s.marks ≡ marks → Reached s.marks (BehindValue s s.value) (record s { place = places.TagAfter; keys = keys; key = key; kept = kept; marks = marks })
+attribute_over s g keys key kept marks e f m =
     let T : List (List ℕ) → List Attribute → State = λ ks ats. record s { place = places.TagAfter; keys = ks; key = key; kept = ats; marks = marks } in
-    subst (λ z. Reached s.marks (BehindValue s s.value) (T z kept)) (sym e) (subst (λ z. Reached s.marks (BehindValue s s.value) (T (s.keys ++ (s.key ∷ [])) z)) (sym f) (stays s.marks (BehindValue s s.value) (T (s.keys ++ (s.key ∷ [])) (keep s.key s.value s.kept)) m tt (λ u d x es. (λ h. h, λ h. h))))
+    subst (λ z. Reached s.marks (BehindValue s s.value) (T z kept)) (sym e) (subst (λ z. Reached s.marks (BehindValue s s.value) (T (s.keys ++ (s.key ∷ [])) z)) (sym f) (stays s.marks (BehindValue s s.value) (T (s.keys ++ (s.key ∷ [])) (keep s.key s.value s.kept)) m (λ h. h) g (λ u d x es. (λ h. h, λ h. h))))
 
 pub kept_is : (key value : List ℕ) (kept new : List Attribute) → true ≡ is_kept key → new ≡ kept ++ (record { name = key; value = value } ∷ []) → new ≡ keep key value kept
 kept_is key value kept new e f = f ∙ ap (λ z. kept ++ cond z (record { name = key; value = value } ∷ []) []) e
@@ -31,11 +31,37 @@ kept_is key value kept new e f = f ∙ ap (λ z. kept ++ cond z (record { name =
 pub kept_not : (key value : List ℕ) (kept : List Attribute) → false ≡ is_kept key → kept ≡ keep key value kept
 kept_not key value kept e = sym (append-nil kept) ∙ ap (λ z. kept ++ cond z (record { name = key; value = value } ∷ []) []) e
 
+-- what is left of a fixed text
+fixed_left : (g : Goal) (b : ℕ) (left : List ℕ) → left ≢ [] → IsFixed g (b ∷ left) → IsFixed g left
+fixed_left goals.Marked b left n (inl e) = inr (cc)
+fixed_left goals.Marked b left n (inr e) = absurd (n (cc))
+fixed_left goals.Comment b left n h = h.1
+fixed_left goals.Section b left n h = h.1
+fixed_left goals.Around b left n h = h.1
+fixed_left goals.Field b left n h = h.1
+fixed_left goals.Prolog b left n h = h.1
+fixed_left goals.EmptyTag b left n h = h.1
+fixed_left goals.EndName b left n h = h.1
+fixed_left goals.Entity b left n h = h.1
+
+-- in the byte order mark no byte is of ASCII
+fixed_high : (g : Goal) (b : ℕ) (left : List ℕ) → left ≢ [] → IsFixed g (b ∷ left) → b < 128 → IsInMark places.Word g → ⊥
+fixed_high goals.Marked b left n (inl e) l h = let k : b ≡ 187 = cc in omega arith
+fixed_high goals.Marked b left n (inr e) l h = n (cc)
+fixed_high goals.Comment b left n f l h = h
+fixed_high goals.Section b left n f l h = h
+fixed_high goals.Around b left n f l h = h
+fixed_high goals.Field b left n f l h = h
+fixed_high goals.Prolog b left n f l h = h
+fixed_high goals.EmptyTag b left n f l h = h
+fixed_high goals.EndName b left n f l h = h
+fixed_high goals.Entity b left n f l h = h
+
 -- a fixed text
-pub word_stays : (s : State) (b : ℕ) (left : List ℕ) → s.left ≡ b ∷ left → left ≢ [] → s.place ≡ places.Word → GoodGoal s.goal s → GoodGoal s.goal (record s { left = left }) → ((u : Terms) (x : List ℕ) (es : List Mark) → Reaches s.goal s u x es ↔ Reaches s.goal (record s { left = left }) u x es) → Follows s.marks (Rests places.Word s) b (record s { left = left })
-word_stays s b left e n p g k f =
+pub word_stays : (s : State) (b : ℕ) (left : List ℕ) → s.left ≡ b ∷ left → left ≢ [] → s.place ≡ places.Word → IsFixed s.goal s.left → GoodGoal s.goal (record s { left = left }) → ((u : Terms) (x : List ℕ) (es : List Mark) → Reaches s.goal s u x es ↔ Reaches s.goal (record s { left = left }) u x es) → Follows s.marks (Rests places.Word s) b (record s { left = left })
+word_stays s b left e n p i k f =
     let t : State = record s { left = left } in
-    moves_at s.marks (Rests places.Word s) b t places.Word p refl (n, k) (λ u d x es. subst (λ z. Word z (Reaches s.goal s u) (b ∷ x) es ↔ Word left (Reaches s.goal t u) x es) (sym e) (
+    moves_at s.marks (Rests places.Word s) b t places.Word p refl (fixed_high s.goal b left n (subst (IsFixed s.goal) e i)) (n, fixed_left s.goal b left n (subst (IsFixed s.goal) e i), k) (λ u d x es. subst (λ z. Word z (Reaches s.goal s u) (b ∷ x) es ↔ Word left (Reaches s.goal t u) x es) (sym e) (
       (λ h. let w = (word_first (Reaches s.goal s u) b left b x es h).1 in record { behind = w.behind; text = w.text; after = (f u w.behind es).0 w.after }),
       (λ h. word_back (Reaches s.goal s u) b left x es (record { behind = h.behind; text = h.text; after = (f u h.behind es).1 h.after })),
     ))
@@ -79,19 +105,19 @@ runs_start s p m g = record {
   );
 }
 
-pub attribute_done : (s t new : State) → t.kept ≡ keep s.key s.value s.kept → s.marks ≡ t.marks → t ≡ record s { kept = t.kept; marks = t.marks } → new ≡ record t { place = places.TagAfter; keys = t.keys ++ (t.key ∷ []); key = [] } → Reached s.marks (BehindValue s s.value) new
-attribute_done s t new f m e q = subst (λ z. Reached s.marks (BehindValue s s.value) z) (sym (q ∙ ap {A = State} (λ z. record z { place = places.TagAfter; keys = z.keys ++ (z.key ∷ []); key = [] }) e)) (attribute_over s (s.keys ++ (s.key ∷ [])) [] t.kept t.marks refl f m)
+pub attribute_done : (s t new : State) → GoodTag s → t.kept ≡ keep s.key s.value s.kept → s.marks ≡ t.marks → t ≡ record s { kept = t.kept; marks = t.marks } → new ≡ record t { place = places.TagAfter; keys = t.keys ++ (t.key ∷ []); key = [] } → Reached s.marks (BehindValue s s.value) new
+attribute_done s t new g f m e q = subst (λ z. Reached s.marks (BehindValue s s.value) z) (sym (q ∙ ap {A = State} (λ z. record z { place = places.TagAfter; keys = z.keys ++ (z.key ∷ []); key = [] }) e)) (attribute_over s g (s.keys ++ (s.key ∷ [])) [] t.kept t.marks refl f m)
 
 -- a goal that only moves on
-pub reach_place : (s : State) (g : Goal) (p : Place) → s.goal ≡ g → GoodGoal s.goal s → (GoodGoal g s → Good p (record s { place = p })) → ((u : Terms) (x : List ℕ) (es : List Mark) → Reaches g s u x es ↔ Rests p (record s { place = p }) u x es) → Reached s.marks (Reaches s.goal s) (record s { place = p })
-reach_place s g p e k f h = subst (λ z. Reached s.marks (Reaches z s) (record s { place = p })) (sym e) (stays s.marks (Reaches g s) (record s { place = p }) refl (f (subst (λ z. GoodGoal z s) e k)) (λ u d. h u))
+pub reach_place : (s : State) (g : Goal) (p : Place) → s.goal ≡ g → GoodGoal s.goal s → (GoodGoal g s → Good p (record s { place = p })) → (IsInMark p s.goal → ⊥) → ((u : Terms) (x : List ℕ) (es : List Mark) → Reaches g s u x es ↔ Rests p (record s { place = p }) u x es) → Reached s.marks (Reaches s.goal s) (record s { place = p })
+reach_place s g p e k f n h = subst (λ z. Reached s.marks (Reaches z s) (record s { place = p })) (sym e) (stays s.marks (Reaches g s) (record s { place = p }) refl n (f (subst (λ z. GoodGoal z s) e k)) (λ u d. h u))
 
 -- a reference in a value
 pub emit_value : (s : State) (cs v : List ℕ) → v ≡ s.value ++ cs → s.in_value ≡ true → GoodReference s.in_value s → Reached s.marks (BehindReference s cs) (record s { place = places.Value; value = v })
-emit_value s cs v e i g = subst (λ z. Reached s.marks (BehindReference s cs) (record s { place = places.Value; value = z })) (sym e) (subst (λ z. Reached s.marks (λ u. Behind z s u cs) (record s { place = places.Value; value = s.value ++ cs })) (sym i) (stays s.marks (λ u. Behind true s u cs) (record s { place = places.Value; value = s.value ++ cs }) refl (subst (λ z. GoodReference z s) i g) (λ u d x es. (λ h. h, λ h. h))))
+emit_value s cs v e i g = subst (λ z. Reached s.marks (BehindReference s cs) (record s { place = places.Value; value = z })) (sym e) (subst (λ z. Reached s.marks (λ u. Behind z s u cs) (record s { place = places.Value; value = s.value ++ cs })) (sym i) (stays s.marks (λ u. Behind true s u cs) (record s { place = places.Value; value = s.value ++ cs }) refl (λ h. h) (subst (λ z. GoodReference z s) i g) (λ u d x es. (λ h. h, λ h. h))))
 
 -- a reference in content
-pub emit_said : (s : State) (cs : List ℕ) (kept : List Attribute) (marks : List Mark) → marks ≡ s.marks ++ map Char cs → kept ≡ [] → s.in_value ≡ false → Reached s.marks (BehindReference s cs) (record s { place = places.Content; count = 0; kept = kept; marks = marks })
+pub emit_said : (s : State) (cs : List ℕ) (kept : List Attribute) (marks : List Mark) → marks ≡ s.marks ++ map Char cs → InElement s.names kept → s.in_value ≡ false → Reached s.marks (BehindReference s cs) (record s { place = places.Content; count = 0; kept = kept; marks = marks })
 emit_said s cs kept marks m k i = let T : State = record s { place = places.Content; count = 0; kept = kept; marks = marks } in
     subst (λ z. Reached s.marks (λ u. Behind z s u cs) T) (sym i) (reached_saying s.marks (map Char cs) (λ u. Behind false s u cs) (Insides 0 s.names) T (λ u d x es. (λ h. h, λ h. h)) (subst (λ z. Reached z (Insides 0 s.names) T) m (at_here T refl k)))
 
@@ -118,8 +144,8 @@ goal_same goals.Entity s left h = (value_same s.in_value s left h.0, h.1)
     value_same true s left h = h
     value_same false s left h = h
 
-pub word_goes : (s : State) (b : ℕ) (left : List ℕ) → s.left ≡ b ∷ left → left ≢ [] → s.place ≡ places.Word → GoodGoal s.goal s → Follows s.marks (Rests places.Word s) b (record s { left = left })
-word_goes s b left e n p g = word_stays s b left e n p g (goal_same s.goal s left g) (λ u x es. reaches_same s.goal s left u x es)
+pub word_goes : (s : State) (b : ℕ) (left : List ℕ) → s.left ≡ b ∷ left → left ≢ [] → s.place ≡ places.Word → IsFixed s.goal s.left → GoodGoal s.goal s → Follows s.marks (Rests places.Word s) b (record s { left = left })
+word_goes s b left e n p i g = word_stays s b left e n p i (goal_same s.goal s left g) (λ u x es. reaches_same s.goal s left u x es)
 
 pub left_at : (ws : List ℕ) (m x b : ℕ) → m < length ws → x ≡ get_or ws m x → x ≡ b → drop m ws ≡ b ∷ drop (m + 1) ws
 left_at ws m x b l e q = drop_at ws m x l e ∙ ap (λ z. z ∷ drop (m + 1) ws) q

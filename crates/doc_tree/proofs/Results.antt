@@ -50,7 +50,7 @@ text_refuses limit bytes n = λ e s w shallow. n s.characters
 -- The events told are those of an element that the bytes hold.
 pub read_so : (limit : ℕ) (bytes : List ℕ) (told : List Event) → IsXmlText bytes → length bytes ≤ limit → Whole bounds (normal_lines bytes) (spread told) → IsApart told → Reads limit bytes told
 read_so limit bytes told text within w apart =
-    let s : Held bounds (normal_lines bytes) (spread told) = held_of bounds (normal_lines bytes) (spread told) w in
+    let s : Held bounds (normal_lines bytes) (spread told) = held_of bounds (normal_lines bytes) (spread told) (λ i. i) w in
     let d = s.document in
     let deep = s.deep in
     record {

@@ -1,5 +1,5 @@
 -- The machine's state without where it lies in memory, and what completes a document from there.
-use Rattle.std.specs.Prelude.{◌≡◌, ℕ, List, [], ◌∷◌, ◌++◌, Bool, true, false, map, reverse, drop, ◌↔◌, ◌⊎◌, ◌≤◌, ◌-◌, ◌≢◌, length, encode_utf8}
+use Rattle.std.specs.Prelude.{◌≡◌, ℕ, List, [], ◌∷◌, ◌++◌, Bool, true, false, map, reverse, drop, ◌↔◌, ◌⊎◌, ◌≤◌, ◌<◌, ◌-◌, ◌≢◌, length, encode_utf8}
 use Rattle.std.specs.Char.{IsScalar}
 use Rattle.tree_grammar.specs.Elements.{Attribute}
 use Rattle.tree_grammar.specs.Characters.{IsSpace, Each, IsNameStart, IsQName, local_part}
@@ -194,6 +194,23 @@ pub record Goes (before : List Mark) (K : List ℕ → List Mark → Type 0) (by
 abbrev pub Completes : State → Terms → List ℕ → List Mark → Type 0
 Completes s t = Goes s.marks (Rests s.place s t)
 
+-- a printable character of ASCII
+abbrev pub IsPrintable : ℕ → Type 0
+IsPrintable c = (32 ≤ c) × (c ≤ 126)
+
+-- names of such characters
+abbrev pub ArePrintable : List (List ℕ) → Type 0
+ArePrintable [] = Unit {0}
+ArePrintable (name ∷ names) = Each IsPrintable name × ArePrintable names
+
+-- In an element.
+abbrev pub InElement : List (List ℕ) → List Attribute → Type 0
+InElement names kept = (kept ≡ []) × (names ≢ []) × ArePrintable names
+
+-- In a start tag.
+abbrev pub GoodTag : State → Type 0
+GoodTag s = Each IsPrintable s.name × ArePrintable s.names
+
 -- Before the root.
 abbrev pub Outer : State → Type 0
 Outer s = (s.kept ≡ []) × (s.names ≡ [])
@@ -201,26 +218,36 @@ Outer s = (s.kept ≡ []) × (s.names ≡ [])
 -- Where a comment or an instruction stands.
 abbrev pub GoodRound : Round → List (List ℕ) → List Attribute → Type 0
 GoodRound rounds.Prolog names kept = (kept ≡ []) × (names ≡ [])
-GoodRound rounds.Content names kept = kept ≡ []
+GoodRound rounds.Content names kept = InElement names kept
 GoodRound rounds.Epilog names kept = Unit {0}
 
 -- In an attribute's value.
 abbrev pub GoodValue : State → Type 0
-GoodValue s = (IsAmong s.key s.keys → ⊥) × IsQuote s.quote
+GoodValue s = (IsAmong s.key s.keys → ⊥) × IsQuote s.quote × GoodTag s
 
 abbrev pub GoodReference : Bool → State → Type 0
 GoodReference true s = GoodValue s
-GoodReference false s = s.kept ≡ []
+GoodReference false s = InElement s.names s.kept
 
 abbrev pub GoodGoal : Goal → State → Type 0
 GoodGoal goals.Field s = Outer s × (s.field ≢ fields.Before)
-GoodGoal goals.EmptyTag s = Unit {0}
-GoodGoal goals.EndName s = s.kept ≡ []
+GoodGoal goals.EmptyTag s = GoodTag s
+GoodGoal goals.EndName s = InElement s.names s.kept
 GoodGoal goals.Comment s = GoodRound s.round s.names s.kept
-GoodGoal goals.Section s = s.kept ≡ []
+GoodGoal goals.Section s = InElement s.names s.kept
 GoodGoal goals.Around s = GoodRound s.round s.names s.kept
 GoodGoal goals.Entity s = GoodReference s.in_value s × IsScalar s.number
 GoodGoal _ s = Outer s
+
+-- the rest of a fixed text: of the byte order mark, or of printable characters
+abbrev pub IsFixed : Goal → List ℕ → Type 0
+IsFixed goals.Marked left = (left ≡ 187 ∷ 191 ∷ []) ⊎ (left ≡ 191 ∷ [])
+IsFixed _ left = Each IsPrintable left
+
+-- In the byte order mark.
+abbrev pub IsInMark : Place → Goal → Type 0
+IsInMark places.Word goals.Marked = Unit {0}
+IsInMark _ _ = ⊥
 
 -- decimal or hexadecimal
 abbrev pub IsRadix : ℕ → Type 0
@@ -228,20 +255,20 @@ IsRadix radix = (radix ≡ 10) ⊎ (radix ≡ 16)
 
 -- what holds at each place of a machine that has been used as it should
 abbrev pub Good : Place → State → Type 0
-Good places.Word s = (s.left ≢ []) × GoodGoal s.goal s
-Good places.TagName s = (s.kept ≡ []) × (s.keys ≡ [])
-Good places.TagAfter s = Unit {0}
-Good places.TagSpace s = Unit {0}
-Good places.Key s = Unit {0}
-Good places.KeyEquals s = IsAmong s.key s.keys → ⊥
-Good places.KeyQuote s = IsAmong s.key s.keys → ⊥
+Good places.Word s = (s.left ≢ []) × IsFixed s.goal s.left × GoodGoal s.goal s
+Good places.TagName s = (s.kept ≡ []) × (s.keys ≡ []) × GoodTag s
+Good places.TagAfter s = GoodTag s
+Good places.TagSpace s = GoodTag s
+Good places.Key s = GoodTag s
+Good places.KeyEquals s = (IsAmong s.key s.keys → ⊥) × GoodTag s
+Good places.KeyQuote s = (IsAmong s.key s.keys → ⊥) × GoodTag s
 Good places.Value s = GoodValue s
 Good places.FieldEquals s = Outer s × (s.field ≢ fields.Before)
 Good places.FieldQuote s = Outer s × (s.field ≢ fields.Before)
 Good places.FieldValue s = Outer s × IsQuote s.quote × IsBegun s.field s.value
-Good places.Content s = s.kept ≡ []
-Good places.ContentLess s = s.kept ≡ []
-Good places.EndSpace s = s.kept ≡ []
+Good places.Content s = InElement s.names s.kept
+Good places.ContentLess s = InElement s.names s.kept
+Good places.EndSpace s = InElement s.names s.kept
 Good places.Ampersand s = GoodReference s.in_value s
 Good places.AmpersandA s = GoodReference s.in_value s
 Good places.Hash s = GoodReference s.in_value s
@@ -252,7 +279,7 @@ Good places.EpilogLess s = Unit {0}
 Good places.Bang s = GoodRound s.round s.names s.kept
 Good places.Comment s = GoodRound s.round s.names s.kept
 Good places.CommentDash s = GoodRound s.round s.names s.kept
-Good places.Section s = (s.kept ≡ []) × (s.count ≤ 2)
+Good places.Section s = InElement s.names s.kept × (s.count ≤ 2)
 Good places.Question s = GoodRound s.round s.names s.kept
 Good places.PiName s = GoodRound s.round s.names s.kept
 Good places.PiText s = GoodRound s.round s.names s.kept
@@ -261,7 +288,7 @@ Good _ s = Outer s
 
 -- before a field's or an attribute's `=`, and the place behind it
 abbrev pub EqualsAt : State → Place → Type 0
-EqualsAt s to = ((s.place ≡ places.FieldEquals) × (to ≡ places.FieldQuote) × Outer s × (s.field ≢ fields.Before)) ⊎ ((s.place ≡ places.KeyEquals) × (to ≡ places.KeyQuote) × (IsAmong s.key s.keys → ⊥))
+EqualsAt s to = ((s.place ≡ places.FieldEquals) × (to ≡ places.FieldQuote) × Outer s × (s.field ≢ fields.Before)) ⊎ ((s.place ≡ places.KeyEquals) × (to ≡ places.KeyQuote) × (IsAmong s.key s.keys → ⊥) × GoodTag s)
 
 -- behind `<?`, and the place in the name
 abbrev pub QuestionAt : State → Place → Type 0
@@ -269,15 +296,16 @@ QuestionAt s to = ((s.place ≡ places.FirstQuestion) × (to ≡ places.FirstNam
 
 -- before a field's or an attribute's value, and the place in it
 abbrev pub QuoteAt : State → Place → Type 0
-QuoteAt s to = ((s.place ≡ places.FieldQuote) × (to ≡ places.FieldValue) × Outer s × (s.field ≢ fields.Before)) ⊎ ((s.place ≡ places.KeyQuote) × (to ≡ places.Value) × (IsAmong s.key s.keys → ⊥))
+QuoteAt s to = ((s.place ≡ places.FieldQuote) × (to ≡ places.FieldValue) × Outer s × (s.field ≢ fields.Before)) ⊎ ((s.place ≡ places.KeyQuote) × (to ≡ places.Value) × (IsAmong s.key s.keys → ⊥) × GoodTag s)
 
 -- The machine goes on wherever 32 elements may stand in one another.
 abbrev pub IsAllowed : Terms → Type 0
 IsAllowed t = 32 ≤ t.depth
 
--- From what completes this, the machine takes the byte: behind it all stays the same.
+-- From what completes this, the machine takes the byte: behind it all stays the same. No byte of ASCII leads into the byte order mark.
 pub record Follows (before : List Mark) (K : Terms → List ℕ → List Mark → Type 0) (b : ℕ) (new : State) : Type 0 where
   pub good : Good new.place new
+  pub unmarked : b < 128 → IsInMark new.place new.goal → ⊥
   pub same : (t : Terms) → IsAllowed t → (bytes : List ℕ) (says : List Mark) → Goes before (K t) (b ∷ bytes) says ↔ Completes new t bytes says
 
 -- Nothing that begins with this byte completes it.
@@ -296,13 +324,14 @@ IsOther s b = (s.place ≡ places.FieldValue) × (s.field ≡ fields.Encoding) �
 abbrev pub IsDoctype : State → ℕ → Type 0
 IsDoctype s b = (s.place ≡ places.Bang) × (s.round ≡ rounds.Prolog) × (b ≡ 68)
 
--- Neither an element that is too deep begins, nor such an encoding ends.
+-- No element that is too deep begins, no such encoding ends, and no document type begins.
 abbrev pub IsPlain : State → ℕ → Type 0
-IsPlain s b = (IsDeep s b → ⊥) × (IsOther s b → ⊥)
+IsPlain s b = (IsDeep s b → ⊥) × (IsOther s b → ⊥) × (IsDoctype s b → ⊥)
 
 -- What completes this is what completes the machine.
 pub record Reached (before : List Mark) (K : Terms → List ℕ → List Mark → Type 0) (new : State) : Type 0 where
   pub good : Good new.place new
+  pub unmarked : IsInMark new.place new.goal → ⊥
   pub same : (t : Terms) → IsAllowed t → (bytes : List ℕ) (says : List Mark) → Goes before (K t) bytes says ↔ Completes new t bytes says
 
 -- What completes the state is what continues the bytes.

@@ -3,5 +3,7 @@ pub mod Marks
 pub mod Rests
 pub mod Completes
 pub mod LineEnds
+pub mod Utf8
+pub mod Feeding
 pub mod Reading
 pub mod Refusals

@@ -1,9 +1,9 @@
 -- Reading bytes whose line ends are made normal on the way.
-use Rattle.std.specs.Prelude.{ℕ, Bool, true, false, cond, ◌==◌, ◌↔◌, List, [], ◌∷◌, ◌++◌}
+use Rattle.std.specs.Prelude.{ℕ, ◌<◌, Bool, true, false, cond, ◌==◌, ◌↔◌, List, [], ◌∷◌, ◌++◌}
 use Rattle.tree_grammar.specs.Characters.{normal_lines}
 use Rattle.doc_tree.specs.Marks.{Mark}
 use Rattle.doc_tree.specs.Rests.{Terms, readable, Whole}
-use Rattle.doc_tree.specs.Completes.{State, Completes, Good, IsAllowed}
+use Rattle.doc_tree.specs.Completes.{State, Completes, Good, IsInMark, IsAllowed}
 
 -- the rest without a line feed that stands first
 abbrev pub without_line_feed : List ℕ → List ℕ
@@ -22,6 +22,7 @@ Finishes s returned t rest = Completes s t (normal_lines (unread returned rest))
 -- The byte is taken: what ends the document before it ends it behind it.
 pub record Passes (old : State) (returned : Bool) (b : ℕ) (new : State) (returns : Bool) : Type 0 where
   pub good : Good new.place new
+  pub unmarked : b < 128 → (IsInMark old.place old.goal → ⊥) → IsInMark new.place new.goal → ⊥
   pub same : (t : Terms) → IsAllowed t → (rest : List ℕ) (says : List Mark) → Finishes old returned t (b ∷ rest) says ↔ Finishes new returns t rest says
 
 -- No document goes on with this byte.

@@ -4,9 +4,9 @@ use Rattle.std.specs.Char.{to_ascii_lowercase}
 use Rattle.std.specs.Str.Parse.{AllDigits, IsNumeral, digits_value_after}
 use Rattle.tree_grammar.specs.Elements.{Attribute}
 use Rattle.tree_grammar.specs.Characters.{IsXmlChar, IsSpace, Each, Some1, IsNameChar, IsName, IsQNameRest, IsQName, local_part, Reference, reference_text, reference_chars, IsLetter, IsDigit}
-use Rattle.tree_grammar.specs.Tags.{IsQuote, Value, value_text, value_chars, Attributes, attributes_text, attribute_list, is_kept, IsAmong, IsFresh, Tag, tag_text}
+use Rattle.tree_grammar.specs.Tags.{IsQuote, Equals, equals_text, Value, value_text, value_chars, Attributes, attributes_text, attribute_list, is_kept, IsAmong, IsFresh, Tag, tag_text}
 use Rattle.tree_grammar.specs.Content.{brackets, Comment, comment_text, IsInstructionText, IsSectionText, Content, nothing, char, reference, section, comment, instruction, empty, nested, content_text, end_text, Body, closed, opened, body_text, Misc, misc_text}
-use Rattle.tree_grammar.specs.Declaration.{IsEncodingChar, IsEncodingName, IsUtf8Name, IsYesOrNo, Encoding, no_encoding, encoded, Declaration, no_declaration, declared, declaration_text}
+use Rattle.tree_grammar.specs.Declaration.{IsEncodingChar, IsEncodingName, IsUtf8Name, IsYesOrNo, Version, version_text, Encoding, no_encoding, encoded, Declaration, no_declaration, declared, declaration_text}
 use Rattle.tree_grammar.specs.Document.{mark_text}
 use Rattle.doc_tree.specs.Marks.{Mark, Start, Char, Finish, content_marks, body_marks}
 use Rattle.doc_tree.specs.declared.names.Part.{Part}
@@ -14,16 +14,23 @@ use Rattle.doc_tree.specs.declared.names.Part.TheVariants as parts
 use Rattle.doc_tree.specs.declared.declaration.Field.{Field}
 use Rattle.doc_tree.specs.declared.declaration.Field.TheVariants as fields
 
--- Whether the declaration may name an encoding that isn't read.
+-- Which encodings the declaration may name: those that are read, or any. A special text may also end with the byte that shows a document type, or an encoding that isn't read.
 pub data Aim : Type 0 where
   readable : Aim
   any : Aim
+  special : Aim
 
 abbrev pub IsRead : Aim → List ℕ → Type 0
 IsRead readable name = IsUtf8Name name
 IsRead any name = Unit {0}
+IsRead special name = Unit {0}
 
--- What is asked of a document: how many elements may stand in one another, and which encodings it may name.
+abbrev pub IsSpecial : Aim → Type 0
+IsSpecial readable = ⊥
+IsSpecial any = ⊥
+IsSpecial special = Unit {0}
+
+-- What is asked of a document: how many elements may stand in one another, and what its declaration may name.
 pub record Terms : Type 0 where
   pub depth : ℕ
   pub aim : Aim
@@ -221,14 +228,30 @@ abbrev pub Between : ℕ → List (List ℕ) → Terms → List ℕ → List Mar
 Between count [] t = After t
 Between count (name ∷ names) t = Inside (room_in t (name ∷ names)) count name (Between 0 names t)
 
--- Before the root.
-pub record Before (t : Terms) (bytes : List ℕ) (marks : List Mark) : Type 0 where
+-- The root, behind its `<`.
+pub record RootRest (t : Terms) (bytes : List ℕ) (marks : List Mark) : Type 0 where
   pub room : 1 ≤ room_in t []
-  pub misc : Misc
   pub tag : Tag
   pub behind : List ℕ
-  pub text : bytes ≡ misc_text misc (60 ∷ tag_text tag behind)
+  pub text : bytes ≡ tag_text tag behind
   pub after : BodyRest (room_in t [] - 1) tag.name (attribute_list tag.attributes) (After t) behind marks
+
+-- A document type, behind its `<`: the text ends with its `D`.
+pub record TypeRest (t : Terms) (bytes : List ℕ) (marks : List Mark) : Type 0 where
+  pub special : IsSpecial t.aim
+  pub text : bytes ≡ codes "!D"
+  pub says : marks ≡ []
+
+-- either of them
+abbrev pub RootOrType : Terms → List ℕ → List Mark → Type 0
+RootOrType t = Or (RootRest t) (TypeRest t)
+
+-- Before the root.
+pub record Before (t : Terms) (bytes : List ℕ) (marks : List Mark) : Type 0 where
+  pub misc : Misc
+  pub behind : List ℕ
+  pub text : bytes ≡ misc_text misc (60 ∷ behind)
+  pub after : RootOrType t behind marks
 
 -- what a field's value is
 abbrev pub IsFieldValue : Aim → Field → List ℕ → Type 0
@@ -279,9 +302,21 @@ IsNextField _ _ = ⊥
 abbrev pub NoNextField : Field → ℕ → Type 0
 NoNextField after b = (next : Field) → IsNextField after next → b ≢ first_letter next
 
+-- The text ends behind an encoding that isn't read.
+pub record Foreign (t : Terms) (field : Field) (value bytes : List ℕ) (marks : List Mark) : Type 0 where
+  pub special : IsSpecial t.aim
+  pub is : field ≡ fields.Encoding
+  pub other : IsUtf8Name value → ⊥
+  pub text : bytes ≡ []
+  pub says : marks ≡ []
+
+-- behind a field's whole value
+abbrev pub Valued : Terms → Field → (List ℕ → List Mark → Type 0) → List ℕ → List ℕ → List Mark → Type 0
+Valued t field K value = Or K (Foreign t field value)
+
 -- in a field's value, behind this much of it
 abbrev pub FieldValue : Terms → Field → (List ℕ → List Mark → Type 0) → List ℕ → ℕ → List ℕ → List Mark → Type 0
-FieldValue t field K before quote = Then (λ more. IsFieldValue t.aim field (before ++ more)) (λ _. Word (quote ∷ []) K)
+FieldValue t field K before quote = Then (λ more. IsFieldValue t.aim field (before ++ more)) (λ more. Word (quote ∷ []) (Valued t field K (before ++ more)))
 
 abbrev pub FieldOver : Terms → Field → (List ℕ → List Mark → Type 0) → List ℕ → List Mark → Type 0
 FieldOver t field K = EqualsRest (FieldValue t field K [])
@@ -351,13 +386,38 @@ pub record DeclarationOver (name : List ℕ) (t : Terms) (bytes : List ℕ) (mar
 abbrev pub FirstOver : List ℕ → Terms → List ℕ → List Mark → Type 0
 FirstOver name t = Or (DeclarationOver name t) (PiOver name (Before t))
 
--- Behind a byte order mark.
-pub record Marked (t : Terms) (bytes : List ℕ) (marks : List Mark) : Type 0 where
+-- Behind a byte order mark: a declaration or none, and what stands behind it.
+pub record DeclaredRest (t : Terms) (bytes : List ℕ) (marks : List Mark) : Type 0 where
   pub declaration : Declaration
   pub read : IsDeclarationRead t.aim declaration
   pub behind : List ℕ
   pub text : bytes ≡ declaration_text declaration behind
   pub after : Before t behind marks
+
+-- Behind a version: an encoding that isn't read, with which the text ends.
+pub record ForeignRest (t : Terms) (bytes : List ℕ) (marks : List Mark) : Type 0 where
+  pub special : IsSpecial t.aim
+  pub space : List ℕ
+  pub spaced : Some1 IsSpace space
+  pub equals : Equals
+  pub quote : ℕ
+  pub quoted : IsQuote quote
+  pub name : List ℕ
+  pub named : IsEncodingName name
+  pub other : IsUtf8Name name → ⊥
+  pub text : bytes ≡ space ++ (codes "encoding" ++ equals_text equals (quote ∷ (name ++ (quote ∷ []))))
+  pub says : marks ≡ []
+
+-- Behind `<?xml`: a version, and such an encoding.
+pub record VersionRest (t : Terms) (bytes : List ℕ) (marks : List Mark) : Type 0 where
+  pub version : Version
+  pub behind : List ℕ
+  pub text : bytes ≡ version_text version behind
+  pub after : ForeignRest t behind marks
+
+-- Behind a byte order mark.
+abbrev pub Marked : Terms → List ℕ → List Mark → Type 0
+Marked t = Or (DeclaredRest t) (Word (codes "<?xml") (VersionRest t))
 
 -- The whole.
 pub record Whole (t : Terms) (bytes : List ℕ) (marks : List Mark) : Type 0 where

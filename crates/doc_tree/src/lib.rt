@@ -1,16 +1,20 @@
 //! Reads XML documents into trees.
 //!
-//! [`read`] gives the tree of a document of XML 1.0 in this project's profile (`docs/rules/trees.md`). It answers
-//! exactly the documents within a limit of bytes and a depth of 32, each with its one tree; whatever it refuses, but
-//! for want of memory, is none. [`write()`] gives the text of a tree, [`escape()`] that of character data.
+//! [`read`] gives the tree of a document of XML 1.0 in this project's profile (`docs/rules/trees.md`), and a [`Reader`]
+//! of one that comes in pieces. They answer exactly the documents within a limit of bytes and a depth of 32, each with
+//! its one tree. [`write()`] gives the text of a tree, [`write_to`] writes it to a sink, and [`escape()`] gives the text
+//! of character data.
 //!
-//! `Refusals` defines, by the bytes and the grammar alone, which refusal bytes have; [`refusals_are_one`] shows that
-//! it is one at most.
+//! What is refused, but for want of memory, has the refusal that `Refusals` defines by the bytes and the grammar alone:
+//! the first byte decides it behind which no document goes on, or which is one too many, begins an element that is too
+//! deep or a document type, or ends an encoding that isn't read; or else the end. A reader says so with the piece that
+//! has this byte, and again at each later call. [`refusals_are_one`] shows that bytes have one refusal at most, and
+//! [`documents_have_one_tree`] that a document has one tree, by the grammar alone and without limits.
 //!
 //! A machine takes the document byte by byte, behind a layer that makes line ends normal. At each place of the machine
 //! a relation says which bytes complete the document from there and what it then says; a step keeps that both ways, or
-//! shows that nothing completes it. It keeps the tree so far, the names of the open elements, and one name, value or
-//! reference, and doesn't recurse.
+//! shows that nothing completes it. Beside it a smaller machine takes the UTF-8 of each character in the same way. They
+//! keep the tree so far, the names of the open elements, and one name, value or reference, and don't recurse.
 #![tactic(auto)]
 
 mod builder;
@@ -21,8 +25,10 @@ mod laws;
 mod machine;
 mod names;
 mod reader;
+#[cfg(test)]
+mod tests;
 
-pub use element_tree::{Tree, escape, write};
+pub use element_tree::{Tree, escape, write, write_to};
 pub use fault::TreeFault;
-pub use laws::refusals_are_one;
-pub use reader::read;
+pub use laws::{documents_have_one_tree, refusals_are_one};
+pub use reader::{Reader, read};

@@ -9,7 +9,7 @@ ghost use Rattle.element_tree.specs.Nesting.{IsOneElement};
 ghost use Rattle.doc_tree.specs.Building.{IsApart};
 ghost use Rattle.doc_tree.specs.Marks.{Mark};
 ghost use Rattle.doc_tree.specs.Rests.{Terms, Marked, Between, TagFirst, EndsBehind};
-ghost use Rattle.doc_tree.specs.Completes.{view, Good, GoodGoal, GoodReference, Outer, Rests, Reaches, Follows, Stuck, Reached, Runs, Completes, Emptied, InTag, InBody, BehindKey, BehindValue, BehindReference, InNumeral, Around, GoodRound, PiNamed, QuestionAt, EqualsAt, QuoteAt, IsRadix, IsDeep, IsOther, IsDoctype, IsPlain};
+ghost use Rattle.doc_tree.specs.Completes.{view, Good, GoodGoal, GoodReference, GoodTag, ArePrintable, Outer, Rests, Reaches, Follows, Stuck, Reached, Runs, Completes, Emptied, InTag, InBody, BehindKey, BehindValue, BehindReference, InNumeral, Around, GoodRound, PiNamed, QuestionAt, EqualsAt, QuoteAt, IsRadix, IsDeep, IsOther, IsDoctype, IsPlain};
 
 use crate::builder::Telling;
 use crate::characters::is_xml_char;
@@ -474,7 +474,9 @@ impl Machine {
     }
 
     fn bang(&mut self, b: u8) -> Result<(), StepFault>
-        requires { Good Place.Bang (view self.old) }
+        requires place { self.old.place ≡ Place.Bang }
+        requires good { Good Place.Bang (view self.old) }
+        requires plain { IsPlain (view self.old) b }
         ensures follows { OnOk result (Follows (view self.old).marks (Rests Place.Bang (view self.old)) b (view self.new)) }
         ensures stuck { IsErrOf result StepFault.Refused → Stuck (Rests Place.Bang (view self.old)) b }
     {
@@ -802,6 +804,7 @@ impl Machine {
 
     fn tag_begins(&mut self, b: u8) -> Result<(), StepFault>
         requires kept { (view self.old).kept ≡ [] }
+        requires names { ArePrintable (view self.old).names }
         requires room { IsNameStart b → length self.old.names.items < 32 }
         ensures follows { OnOk result (Follows (view self.old).marks (TagFirst (view self.old).names) b (view self.new)) }
         ensures stuck { IsErrOf result StepFault.Refused → Stuck (TagFirst (view self.old).names) b }
@@ -840,6 +843,7 @@ impl Machine {
     }
 
     fn tag_after(&mut self, b: u8) -> Result<(), StepFault>
+        requires { GoodTag (view self.old) }
         ensures follows { OnOk result (Follows (view self.old).marks (InTag (view self.old) (view self.old).name) b (view self.new)) }
         ensures stuck { IsErrOf result StepFault.Refused → Stuck (InTag (view self.old) (view self.old).name) b }
     {
@@ -871,6 +875,7 @@ impl Machine {
     }
 
     fn tag_ends(&mut self, b: u8) -> Result<(), StepFault>
+        requires { GoodTag (view self.old) }
         ensures follows { OnOk result (Follows (view self.old).marks (InBody (view self.old)) b (view self.new)) }
         ensures stuck { IsErrOf result StepFault.Refused → Stuck (InBody (view self.old)) b }
     {
@@ -890,6 +895,7 @@ impl Machine {
     }
 
     fn empty_tag(&mut self) -> Result<(), AllocError>
+        requires { GoodTag (view self.old) }
         ensures { OnOk result (Reached (view self.old).marks (Emptied (view self.old)) (view self.new)) }
     {
         self.builder.open(local_part(self.name.as_slice()))?;
@@ -900,7 +906,8 @@ impl Machine {
 
     /// Behind an element.
     fn element_over(&mut self)
-        requires { (view self.old).kept ≡ [] }
+        requires kept { (view self.old).kept ≡ [] }
+        requires names { ArePrintable (view self.old).names }
         ensures { Reached (view self.old).marks (Between 0 (view self.old).names) (view self.new) }
     {
         if self.names.as_slice().is_empty() {
@@ -934,6 +941,7 @@ impl Machine {
 
     /// Behind an attribute's name.
     fn key_over(&mut self, b: u8) -> Result<(), StepFault>
+        requires { GoodTag (view self.old) }
         ensures follows { OnOk result (Follows (view self.old).marks (BehindKey (view self.old)) b (view self.new)) }
         ensures stuck { IsErrOf result StepFault.Refused → Stuck (BehindKey (view self.old)) b }
     {
@@ -978,6 +986,7 @@ impl Machine {
     }
 
     fn value_over(&mut self) -> Result<(), AllocError>
+        requires { GoodTag (view self.old) }
         ensures { OnOk result (Reached (view self.old).marks (BehindValue (view self.old) (view self.old).value) (view self.new)) }
     {
         if is_kept(self.key.as_slice()) {

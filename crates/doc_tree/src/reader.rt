@@ -1,16 +1,19 @@
-//! The reader over whole bytes.
+//! The reader, in any pieces.
 
-ghost use Rattle.std.specs.Prelude.{[], OnOk, IfOk, IfErr, IsErrOf};
+ghost use Rattle.std.specs.Prelude.{◌≡◌, ◌≤◌, ◌<◌, ◌+◌, ◌++◌, ◌∷◌, [], List, ℕ, ⊤, OnOk, IfOk, IfErr, IsErrOf, MatchOption, Some, None, Ok, Err};
 ghost use Rattle.tree_grammar.specs.Elements.{IsWithin};
 ghost use Rattle.doc_tree.specs.Completes.{view, Good, IsPlain};
 ghost use Rattle.doc_tree.specs.LineEnds.{Passes, Blocks, Continues};
-ghost use Rattle.doc_tree.specs.Reading.{Reads, ReadsOnly, Refuses};
+ghost use Rattle.doc_tree.specs.Reading.{Reads, ReadsOnly, NoneWithin, Refuses};
+ghost use Rattle.doc_tree.specs.declared.fault.TreeFault.{TreeFault};
+ghost use Rattle.doc_tree.specs.Feeding.{feeding, IsTaken, Refused, Ends, WasFed, CanGoOn};
 
-use crate::characters::is_xml_text;
+use crate::characters::{Awaited, is_whole, next_awaited};
 use crate::fault::{StepFault, TreeFault};
 use crate::machine::Machine;
 use element_tree::Tree;
 use std::alloc::Global;
+use std::marker::Model;
 use std::mem;
 
 /// Reads normal line ends.
@@ -50,35 +53,177 @@ impl Lines {
     }
 }
 
-/// Takes all the bytes, of which there are at most `limit`.
-fn take_all(lines: &mut Lines, bytes: &[u8], limit: u64) -> Result<(), TreeFault>
-    requires { Continues (view lines.old.machine) lines.old.returned [] }
-    ensures taken { OnOk result (Continues (view lines.new.machine) lines.new.returned bytes.now × IsWithin limit bytes.now) }
-    ensures refuses { IfErr result (Refuses limit bytes.now) }
-{
-    for at in 0..bytes.len() {
-        if at as u64 >= limit {
-            return Err(TreeFault::Long);
+/// What has been fed, byte by byte.
+#[derive(Debug, Drop)]
+struct Progress {
+    lines: Lines,
+    awaited: Awaited,
+    limit: u64,
+    count: u64,
+    /// Why no byte more is taken.
+    refusal: Option<TreeFault>,
+}
+
+impl Progress {
+    fn new(alloc: Global, limit: u64) -> Self
+        ensures goes { CanGoOn (feeding result) }
+        ensures fed { WasFed (feeding result) [] }
+        ensures limit { result.limit ≡ limit }
+        ensures refusal { result.refusal ≡ None }
+    {
+        Progress {
+            lines: Lines::new(alloc),
+            awaited: Awaited::First,
+            limit,
+            count: 0,
+            refusal: None,
         }
-        let b = bytes[at];
-        if lines.machine.is_deep(b) {
-            let at = at.saturating_sub(1);
-            return Err(TreeFault::Deep { at });
+    }
+
+    /// Why the byte is refused before the machine is asked, if it is.
+    fn bound(&self, b: u8) -> Option<TreeFault>
+        ensures { MatchOption result ((self.now.count < self.now.limit) × IsPlain (view self.now.lines.machine) b) (λ fault. (bytes : List ℕ) → IsTaken (feeding self.now) bytes → Refused self.now.limit (bytes ++ b ∷ []) fault) }
+    {
+        if self.count >= self.limit {
+            return Some(TreeFault::Long);
         }
-        if lines.machine.is_doctype(b) {
-            let at = at.saturating_sub(2);
-            return Err(TreeFault::Doctype { at });
+        if self.lines.machine.is_deep(b) {
+            let at = self.count.saturating_sub(1);
+            return Some(TreeFault::Deep { at });
         }
-        if lines.machine.is_other(b) {
-            return Err(TreeFault::Encoding);
+        if self.lines.machine.is_doctype(b) {
+            let at = self.count.saturating_sub(2);
+            return Some(TreeFault::Doctype { at });
         }
-        match lines.step(b) {
+        if self.lines.machine.is_other(b) {
+            return Some(TreeFault::Encoding);
+        }
+        None
+    }
+
+    /// Takes a byte.
+    fn take(&mut self, b: u8) -> Result<(), TreeFault>
+        requires { Good self.old.lines.machine.place (view self.old.lines.machine) }
+        ensures limit { self.new.limit ≡ self.old.limit }
+        ensures refusal { self.new.refusal ≡ self.old.refusal }
+        ensures good { OnOk result (Good self.new.lines.machine.place (view self.new.lines.machine)) }
+        ensures taken { OnOk result ((bytes : List ℕ) → IsTaken (feeding self.old) bytes → IsTaken (feeding self.new) (bytes ++ b ∷ [])) }
+        ensures refused { IfErr result (λ fault. (bytes : List ℕ) → IsTaken (feeding self.old) bytes → Refused self.old.limit (bytes ++ b ∷ []) fault) }
+    {
+        if let Some(fault) = self.bound(b) {
+            return Err(fault);
+        }
+        let at = self.count;
+        match self.lines.step(b) {
             Ok(()) => {}
             Err(StepFault::Memory) => return Err(TreeFault::Memory),
             Err(StepFault::Refused) => return Err(TreeFault::Malformed { at }),
         }
+        match next_awaited(self.awaited, b) {
+            Some(awaited) => self.awaited = awaited,
+            None => return Err(TreeFault::Malformed { at }),
+        }
+        self.count = at + 1;
+        Ok(())
     }
-    Ok(())
+
+    /// Takes the bytes, up to the first that is refused.
+    fn feed(&mut self, piece: &[u8]) -> Result<(), TreeFault>
+        requires { CanGoOn (feeding self.old) }
+        ensures goes { CanGoOn (feeding self.new) }
+        ensures limit { self.new.limit ≡ self.old.limit }
+        ensures stays { (fault : TreeFault) → self.old.refusal ≡ Some fault → self.new.refusal ≡ Some fault }
+        ensures answers { MatchOption self.new.refusal (result ≡ Ok tt) (λ fault. result ≡ Err fault) }
+        ensures fed { (bytes : List ℕ) → WasFed (feeding self.old) bytes → WasFed (feeding self.new) (bytes ++ piece.now) }
+    {
+        if let Some(fault) = self.refusal {
+            return Err(fault);
+        }
+        for b in piece {
+            if let Err(fault) = self.take(*b) {
+                self.refusal = Some(fault);
+                return Err(fault);
+            }
+        }
+        Ok(())
+    }
+
+    /// The tree of what was fed.
+    fn finish(self) -> Result<Tree, TreeFault>
+        requires { CanGoOn (feeding self) }
+        ensures again { (fault : TreeFault) → self.refusal ≡ Some fault → result ≡ Err fault }
+        ensures reads { IfOk result (λ tree. (bytes : List ℕ) → WasFed (feeding self) bytes → Reads self.limit bytes tree) }
+        ensures only { IfOk result (λ tree. (bytes : List ℕ) → WasFed (feeding self) bytes → ReadsOnly bytes tree) }
+        ensures refuses { IfErr result (λ fault. (bytes : List ℕ) → WasFed (feeding self) bytes → Ends self.limit bytes fault) }
+    {
+        if let Some(fault) = self.refusal {
+            return Err(fault);
+        }
+        let at = self.count;
+        if !is_whole(self.awaited) {
+            return Err(TreeFault::Malformed { at });
+        }
+        if !self.lines.machine.is_over() {
+            return Err(TreeFault::Malformed { at });
+        }
+        match self.lines.machine.tree() {
+            Ok(Some(tree)) => Ok(tree),
+            Ok(None) => Err(TreeFault::Malformed { at }),
+            Err(_) => Err(TreeFault::Memory),
+        }
+    }
+}
+
+/// Reads a document of at most `limit` bytes and of a depth of at most 32, piece by piece.
+///
+/// Contracts say which bytes it was fed (`WasFed`), and why it takes no more, if it doesn't.
+#[derive(Debug, Drop)]
+pub struct Reader {
+    progress: Progress,
+}
+
+impl Model for Reader {
+    ghost use Rattle.doc_tree.specs.Feeding.{Feeding, feeding, CanGoOn};
+
+    ghost Value = { Feeding };
+
+    ghost view = { λ r. feeding r.progress };
+
+    ghost invariant = { λ r. CanGoOn (feeding r.progress) };
+}
+
+impl Reader {
+    /// A reader that was fed nothing.
+    pub fn new(alloc: Global, limit: u64) -> Self
+        ensures fed { WasFed result [] }
+        ensures limit { result.limit ≡ limit }
+        ensures refusal { result.refusal ≡ None }
+    {
+        Reader {
+            progress: Progress::new(alloc, limit),
+        }
+    }
+
+    /// Reads the next piece. A refusal comes with the piece that has the byte which decides it, and each later call
+    /// answers it again.
+    pub fn feed(&mut self, piece: &[u8]) -> Result<(), TreeFault>
+        ensures limit { self.new.limit ≡ self.old.limit }
+        ensures stays { (fault : TreeFault) → self.old.refusal ≡ Some fault → self.new.refusal ≡ Some fault }
+        ensures answers { MatchOption self.new.refusal (result ≡ Ok tt) (λ fault. result ≡ Err fault) }
+        ensures fed { (bytes : List ℕ) → WasFed self.old bytes → WasFed self.new (bytes ++ piece.now) }
+    {
+        self.progress.feed(piece)
+    }
+
+    /// The tree of the document that was fed, or why there is none.
+    pub fn finish(self) -> Result<Tree, TreeFault>
+        ensures again { (fault : TreeFault) → self.refusal ≡ Some fault → result ≡ Err fault }
+        ensures reads { IfOk result (λ tree. (bytes : List ℕ) → WasFed self bytes → Reads self.limit bytes tree) }
+        ensures only { IfOk result (λ tree. (bytes : List ℕ) → WasFed self bytes → ReadsOnly bytes tree) }
+        ensures refuses { IfErr result (λ fault. (bytes : List ℕ) → WasFed self bytes → Ends self.limit bytes fault) }
+    {
+        self.progress.finish()
+    }
 }
 
 /// Reads a document of at most `limit` bytes and of a depth of at most 32.
@@ -86,183 +231,11 @@ pub fn read(alloc: Global, bytes: &[u8], limit: u64) -> Result<Tree, TreeFault>
     ensures reads { IfOk result (Reads limit bytes.now) }
     ensures only { IfOk result (ReadsOnly bytes.now) }
     ensures refuses { IfErr result (Refuses limit bytes.now) }
+    ensures refusal { IfErr result (Ends limit bytes.now) }
 {
-    let mut lines = Lines::new(alloc);
-    take_all(&mut lines, bytes, limit)?;
-    if !is_xml_text(bytes) {
-        return Err(TreeFault::Malformed { at: bytes.len() });
-    }
-    if !lines.machine.is_over() {
-        return Err(TreeFault::Malformed { at: bytes.len() });
-    }
-    match lines.machine.tree() {
-        Ok(Some(tree)) => Ok(tree),
-        Ok(None) => Err(TreeFault::Malformed { at: bytes.len() }),
-        Err(_) => Err(TreeFault::Memory),
-    }
-}
-
-#[cfg(test)]
-mod tests {
-    use super::*;
-    use element_tree::write;
-    use std::test::Fail;
-
-    /// What stands before each written element.
-    const DECLARATION: &[u8] = b"<?xml version=\"1.0\" encoding=\"UTF-8\"?>";
-
-    /// Whether the text is read as the element that is written so.
-    fn says(alloc: Global, text: &[u8], wanted: &[u8]) -> Result<bool, TreeFault> {
-        let tree = read(alloc, text, 1000)?;
-        match write(alloc, &tree) {
-            Ok(written) => Ok(written.as_slice().strip_prefix(DECLARATION) == Some(wanted)),
-            Err(_) => Err(TreeFault::Memory),
-        }
-    }
-
-    #[test]
-    fn reads(rt: HostRuntime) -> Result<(), Fail> {
-        let table: [(&[u8], &[u8]); 23] = [
-            (b"<a/>", b"<a/>"),
-            (b" \r\n<a>\r\n\rx</a >\r\n", b"<a>\n\nx</a>"),
-            (b"\xEF\xBB\xBF<?xml version=\"1.0\"?><a/>", b"<a/>"),
-            (
-                b"<?xml\tversion = '1.10' encoding=\"utf-8\" standalone='yes' ?>\n<a></a>",
-                b"<a/>",
-            ),
-            (b"<?xml version='1.0' encoding='Us-AsCiI'?><a/>", b"<a/>"),
-            (
-                b"<p:a xmlns='u' xmlns:p=\"v\" b='1' p:b=\"2\" c = 'x\ty\n&#9;\"'></p:a>",
-                b"<a b=\"1\" c=\"x y &#9;&quot;\"/>",
-            ),
-            (
-                b"<a>&amp;&lt;&gt;&quot;&apos;&#65;&#x42;&#xe9;&#x10FFFD;</a>",
-                b"<a>&amp;&lt;&gt;\"'AB\xC3\xA9\xF4\x8F\xBF\xBD</a>",
-            ),
-            (b"<a>x<b/>y<b>z</b></a>", b"<a>x<b/>y<b>z</b></a>"),
-            (b"<a>]]x]&#93;&gt;]]]</a>", b"<a>]]x]]&gt;]]]</a>"),
-            (b"<a>&#13;\r</a>", b"<a>&#13;\n</a>"),
-            (b"<_a.b-c9:_x/>", b"<_x/>"),
-            (b"<a b=''/>", b"<a b=\"\"/>"),
-            (b"<!-->--><a/>", b"<a/>"),
-            (b"<!----><a>x<!-- - y -->z</a><!--a-b-->", b"<a>xz</a>"),
-            (b"<?p?><a>x<?p y??>z<?q ?></a>\n<?xmlns a?>", b"<a>xz</a>"),
-            (b"<?xml-stylesheet href='a'?><a/>", b"<a/>"),
-            (b"<?xml version='1.0'?><?xmlx?><!--<a>--><a/>", b"<a/>"),
-            (
-                b"<a>x<![CDATA[]]>y<![CDATA[<&]]]]><![CDATA[>]]></a>",
-                b"<a>xy&lt;&amp;]]&gt;</a>",
-            ),
-            (b"<a><![CDATA[]]]]></a>", b"<a>]]</a>"),
-            (b"<a><![CDATA[]]]]]>]]</a>", b"<a>]]]]]</a>"),
-            (b"<a><![CDATA[a]b]]c]>]]></a>", b"<a>a]b]]c]&gt;</a>"),
-            (b"<a>]]<!---->></a>", b"<a>]]&gt;</a>"),
-            (b"<a>]]<?p?>></a>", b"<a>]]&gt;</a>"),
-        ];
-        for (text, wanted) in table {
-            assert_eq!(rt; says(rt.alloc(), text, wanted), Ok(true));
-        }
-        Ok(())
-    }
-
-    fn at(alloc: Global, text: &[u8]) -> Option<TreeFault> {
-        match read(alloc, text, 100) {
-            Ok(_) => None,
-            Err(fault) => Some(fault),
-        }
-    }
-
-    #[test]
-    fn refuses(rt: HostRuntime) -> Result<(), Fail> {
-        let a = rt.alloc();
-        let table: [(&[u8], usize); 45] = [
-            (b"", 0),
-            (b"<a>", 3),
-            (b"<a/>x", 4),
-            (b"<a/><b/>", 5),
-            (b"<a></b>", 5),
-            (b"<a></ab>", 6),
-            (b"<a></a", 6),
-            (b"<a b='1' b='2'/>", 10),
-            (b"<a p:b='1' p:b='2'/>", 14),
-            (b"<a b='1'c='2'/>", 8),
-            (b"<a b='<'/>", 6),
-            (b"<a b='&am;'/>", 9),
-            (b"<a>]]></a>", 5),
-            (b"<a>&#0;</a>", 6),
-            (b"<a>&#xD800;</a>", 10),
-            (b"<a>&#1114112;</a>", 11),
-            (b"<a>&#;</a>", 5),
-            (b"<a>&nbsp;</a>", 4),
-            (b"<a:b:c/>", 4),
-            (b"<a:/>", 3),
-            (b" <?xml version='1.0'?><a/>", 6),
-            (b"<?xml encoding='UTF-8'?><a/>", 6),
-            (b"<?xml version='2.0'?><a/>", 15),
-            (b"<a>\xFF</a>", 8),
-            (b"<!-- -- --><a/>", 7),
-            (b"<!-- --->", 7),
-            (b"<!-<a/>", 3),
-            (b"<!x<a/>", 2),
-            (b"<![CDATA[x]]><a/>", 2),
-            (b"<a/><![CDATA[x]]>", 6),
-            (b"<a><![CDATA]</a>", 11),
-            (b"<a><![CDATA[]]</a>", 18),
-            (b"<a><? x?></a>", 5),
-            (b"<a><?xml?></a>", 8),
-            (b"<a><?XmL x?></a>", 8),
-            (b"<?XML version='1.0'?><a/>", 5),
-            (b"<a/><?xml version='1.0'?>", 9),
-            (b"<a><?x:y?></a>", 6),
-            (b"<?p x>", 6),
-            (b"<?xml version='1.'?><a/>", 17),
-            (b"<?xml version='1.0x'?><a/>", 18),
-            (b"<?xml version='1.0' encoding='8'?><a/>", 30),
-            (b"<?xml version='1.0' encoding='a b'?><a/>", 31),
-            (b"<?xml version='1.0' standalone='yet'?><a/>", 34),
-            (b"<?xml version='1.0' standalone='noo'?><a/>", 34),
-        ];
-        for (text, place) in table {
-            assert_eq!(rt; at(a, text), Some(TreeFault::Malformed { at: place }));
-        }
-        for (text, place) in [
-            (b"<!DOCTYPE osil><osil/>".as_slice(), 0),
-            (b"<?xml version='1.0'?><!-- --> <!D".as_slice(), 30),
-            (b"\xEF\xBB\xBF<!D<a/>".as_slice(), 3),
-        ] {
-            assert_eq!(rt; at(a, text), Some(TreeFault::Doctype { at: place }));
-        }
-        assert_eq!(rt; at(a, b"<a><!D"), Some(TreeFault::Malformed { at: 5 }));
-        assert_eq!(rt; at(a, b"<a/><!D"), Some(TreeFault::Malformed { at: 6 }));
-        assert_eq!(rt;
-            at(a, b"<?xml version='1.0' encoding='latin1'?><a/>"),
-            Some(TreeFault::Encoding)
-        );
-        Ok(())
-    }
-
-    /// An element in an element, so many of them.
-    fn nested(alloc: Global, depth: usize) -> Result<Vec<u8>, Fail> {
-        let mut text = Vec::new(alloc);
-        for _ in 0..depth {
-            text.extend_from_slice(b"<a>")?;
-        }
-        for _ in 0..depth {
-            text.extend_from_slice(b"</a>")?;
-        }
-        Ok(text)
-    }
-
-    #[test]
-    fn is_bounded(rt: HostRuntime) -> Result<(), Fail> {
-        let a = rt.alloc();
-        assert!(rt; read(a, b"<a/>", 4).is_ok());
-        assert_eq!(rt; read(a, b"<a/>", 3).err(), Some(TreeFault::Long));
-        assert!(rt; read(a, nested(a, 32)?.as_slice(), 1000).is_ok());
-        assert_eq!(rt;
-            read(a, nested(a, 33)?.as_slice(), 1000).err(),
-            Some(TreeFault::Deep { at: 96 })
-        );
-        Ok(())
+    let mut reader = Reader::new(alloc, limit);
+    match reader.feed(bytes) {
+        Ok(()) => reader.finish(),
+        Err(fault) => Err(fault),
     }
 }

@@ -7,7 +7,7 @@ use Rattle.doc_tree.proofs.Prologs.{after_space, after_stuck}
 use Rattle.doc_tree.proofs.machine.Machine.epilog.Goals as goal
 
 pub returns-then-is_space-clause-follows : goal.returns-then-is_space-clause-follows
-returns-then-is_space-clause-follows c = moves_at _ _ _ (view c.args.self.now) places.Epilog c.requires.place refl tt (λ u d x es. after_space u _ x es (c.if-is_space.ensures.0 refl))
+returns-then-is_space-clause-follows c = moves_at _ _ _ (view c.args.self.now) places.Epilog c.requires.place refl (λ l h. h) tt (λ u d x es. after_space u _ x es (c.if-is_space.ensures.0 refl))
 
 pub returns-else-is_space-clause-stuck : goal.returns-else-is_space-clause-stuck
 returns-else-is_space-clause-stuck c = λ w u d x es h. after_stuck u _ x es (λ s. not_true (c.if-is_space.ensures.1 s)) c.if-b-eq60.false h

@@ -15,4 +15,4 @@ pub returns-then-not-is_field_value-clause-stuck : goal.returns-then-not-is_fiel
 returns-then-not-is_field_value-clause-stuck c = λ w. steps.field_stuck (view c.args.self.now) _ c.if-b-self.false c.requires.good (steps.no_aim _ _ (λ i. not_true (c.if-not-is_field_value.ensures.1 (subst (IsFieldValue readable _) (sym c.as_slice-2.ensures.value) i))) (λ e n o. c.requires.plain.1 (c.requires.place, e, c.if-b-self.false, n, o)))
 
 pub returns-clause-follows : goal.returns-clause-follows
-returns-clause-follows c = steps.field_over (view c.args.self.now) _ c.if-b-self.false c.requires.good (steps.every_aim _ _ (subst (IsFieldValue readable _) c.as_slice-2.ensures.value (c.if-not-is_field_value.ensures.0 refl)))
+returns-clause-follows c = steps.field_over (view c.args.self.now) _ c.if-b-self.false c.requires.good (subst (IsFieldValue readable _) c.as_slice-2.ensures.value (c.if-not-is_field_value.ensures.0 refl))

@@ -7,7 +7,7 @@ use Rattle.doc_tree.proofs.AsideSteps as steps
 use Rattle.doc_tree.proofs.machine.Machine.pi_text.Goals as goal
 
 pub returns-then-b-eq63-clause-follows : goal.returns-then-b-eq63-clause-follows
-returns-then-b-eq63-clause-follows c = at_byte _ _ _ _ _ c.if-b-eq63.true (moves _ (Rests places.PiText (view c.args.self.now)) 63 (record (view c.args.self.now) { place = places.PiMark }) refl c.requires.good (λ u d x es. (λ h. h, λ h. h)))
+returns-then-b-eq63-clause-follows c = at_byte _ _ _ _ _ c.if-b-eq63.true (moves _ (Rests places.PiText (view c.args.self.now)) 63 (record (view c.args.self.now) { place = places.PiMark }) refl (λ l h. h) c.requires.good (λ u d x es. (λ h. h, λ h. h)))
 
 pub returns-clause-follows : goal.returns-clause-follows
 returns-clause-follows c = steps.text_stays (view c.args.self.now) _ c.requires.place c.requires.good c.if-b-eq63.false

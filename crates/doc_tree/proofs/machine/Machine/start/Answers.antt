@@ -1,4 +1,4 @@
-use Rattle.std.proofs.Common.{refl}
+use Rattle.std.proofs.Common.{refl, inl, arith}
 use Rattle.doc_tree.specs.Completes.{view}
 use Rattle.doc_tree.specs.declared.machine.Goal.TheVariants as goals
 use Rattle.doc_tree.proofs.Moves.{moves_word, follows_from}
@@ -10,7 +10,7 @@ use Rattle.doc_tree.proofs.Answering.{OnOk-map}
 use Rattle.doc_tree.proofs.machine.Machine.start.Goals as goal
 
 pub returns-then-b-eq239-clause-follows : goal.returns-then-b-eq239-clause-follows
-returns-then-b-eq239-clause-follows c = at_byte _ _ _ _ _ c.if-b-eq239.true (moves_word _ _ 239 (view c.args.self.now) goals.Marked (187 ∷ 191 ∷ []) _ c.in_ok-expect.ensures refl (λ e. cc) c.requires (λ u d x es. whole_mark u x es))
+returns-then-b-eq239-clause-follows c = at_byte _ _ _ _ _ c.if-b-eq239.true (moves_word _ _ 239 (view c.args.self.now) goals.Marked (187 ∷ 191 ∷ []) _ c.in_ok-expect.ensures refl (λ l h. absurd (omega arith)) (λ e. cc) (inl refl) c.requires (λ u d x es. whole_mark u x es))
 
 pub returns-clause-follows : goal.returns-clause-follows
 returns-clause-follows c = OnOk-map c.marked.result (follows_from _ _ Marked _ _ (λ u d x es. whole_plain u _ x es c.if-b-eq239.false)) c.marked.ensures.follows

@@ -1,0 +1,64 @@
+-- A reader that is fed bytes, and where it stands behind them.
+use Rattle.std.specs.Prelude.{◌≡◌, ℕ, ◌⊎◌, Bool, List, ◌++◌, length, Option, MatchOption}
+use Rattle.doc_tree.specs.Marks.{Mark}
+use Rattle.doc_tree.specs.Rests.{Terms, any}
+use Rattle.doc_tree.specs.Completes.{State, view, Good}
+use Rattle.doc_tree.specs.LineEnds.{Finishes, Continues}
+use Rattle.doc_tree.specs.Reading.{NoneWithin}
+use Rattle.doc_tree.specs.Refusals.{IsClean, IsRefusedIn, IsRefusal}
+use Rattle.doc_tree.specs.Utf8.{CharacterRest, Spells}
+use Rattle.doc_tree.specs.declared.characters.Awaited.{Awaited}
+use Rattle.doc_tree.specs.declared.fault.TreeFault.{TreeFault}
+use Rattle.doc_tree.specs.declared.fault.TreeFault.TheVariants.{Memory}
+use Rattle.doc_tree.specs.declared.reader.Progress.{Progress}
+
+-- A document of any encoding, with at most 32 elements in one another.
+abbrev pub named : Terms
+named = record { depth = 32; aim = any }
+
+-- Where a reader stands in a document, in a line's end and in a character; how many bytes it took of how many; and why it takes no more.
+pub record Feeding : Type 0 where
+  pub state : State
+  pub returned : Bool
+  pub awaited : Awaited
+  pub limit : ℕ
+  pub count : ℕ
+  pub refusal : Option TreeFault
+
+abbrev pub feeding : Progress → Feeding
+feeding p = record { state = view p.lines.machine; returned = p.lines.returned; awaited = p.awaited; limit = p.limit; count = p.count; refusal = p.refusal }
+
+-- Some bytes complete the character and the document at once.
+pub record Meets (awaited : Awaited) (s : State) (returned : Bool) : Type 0 where
+  pub rest : List ℕ
+  pub character : CharacterRest awaited rest
+  pub says : List Mark
+  pub document : Finishes s returned named rest says
+
+-- The bytes have been taken, and none of them decides a refusal.
+pub record IsTaken (f : Feeding) (bytes : List ℕ) : Type 0 where
+  pub continues : Continues f.state f.returned bytes
+  pub spells : Spells f.awaited bytes
+  pub meets : Meets f.awaited f.state f.returned
+  pub counted : f.count ≡ length bytes
+  pub clean : IsClean f.limit bytes
+
+-- No document within the bounds begins with the bytes.
+abbrev pub NoneBegins : ℕ → List ℕ → Type 0
+NoneBegins limit bytes = (more : List ℕ) → NoneWithin limit (bytes ++ more)
+
+-- For want of memory, or since one of the bytes decides it.
+abbrev pub Refused : ℕ → List ℕ → TreeFault → Type 0
+Refused limit bytes fault = (fault ≡ Memory) ⊎ (IsRefusedIn limit bytes fault × NoneBegins limit bytes)
+
+-- For want of memory, or since the bytes, which are all, are refused so.
+abbrev pub Ends : ℕ → List ℕ → TreeFault → Type 0
+Ends limit bytes fault = (fault ≡ Memory) ⊎ (IsRefusal limit bytes fault × NoneWithin limit bytes)
+
+-- These bytes were fed.
+abbrev pub WasFed : Feeding → List ℕ → Type 0
+WasFed f bytes = MatchOption f.refusal (IsTaken f bytes) (Refused f.limit bytes)
+
+-- A reader that takes more stands at a place of the machine that some document has.
+abbrev pub CanGoOn : Feeding → Type 0
+CanGoOn f = MatchOption f.refusal (Good f.state.place f.state) (λ fault. Unit {0})
