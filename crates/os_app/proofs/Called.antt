@@ -1,37 +1,59 @@
--- The words of a call, and what is written to them.
-use Rattle.std.proofs.Common.{◌≡◌, ◌∙◌, ℕ, List, [], ◌∷◌, ◌++◌, length, get_or, map, Bool, Option, Some, None, Global, sym, ap, subst, arith}
-use Rattle.std.specs.Prelude.{IsTrue, ◌↔◌, codes}
-use Rattle.std.specs.Str.{bytes_eq}
-use Rattle.std.specs.declared.string.String.{String}
-use Rattle.std.specs.String.{string_bytes}
-use Rattle.std.proofs.lemmas.Slice.Eq.{bytes_eq-Decides}
+-- What the words of a call ask for, and what is written where they are no command's.
+use Rattle.std.proofs.Common.{◌≡◌, ◌∙◌, ℕ, List, [], ◌∷◌, ◌++◌, length, Option, Some, None, inl, inr, sym, ap, subst, arith, refl, true}
+use Rattle.std.specs.Prelude.{option_and_then}
 use Rattle.std.proofs.Math.Seq.{take-length}
 use Rattle.os_io.specs.Streams.{Told}
 use Rattle.http_link.specs.Responses.{Appends, AppendsPart}
-use Rattle.os_app.specs.Runs.{IsSession}
+use Rattle.clap.specs.Words.{App, HasKind, HasMatchesOf, IsAmong, Kinds, Row, Text, fault_of, is_simple, is_simple_and_free, kind_of, subcommand_of, subcommand_rows_of}
+use Rattle.clap.specs.declared.error.Error.{Error}
+use Rattle.clap.specs.declared.error.kind.ErrorKind.{ErrorKind}
+use Rattle.clap.specs.declared.error.kind.ErrorKind.TheVariants.{OutOfMemory}
+use Rattle.clap.specs.declared.parser.matches.ArgMatches.{ArgMatches}
+use Rattle.clap.proofs.OnLiterals.{clap_on_literals}
+use Rattle.os_app.specs.declared.words.Asked.{Asked}
+use Rattle.os_app.specs.declared.words.Asked.TheVariants.{Session}
+use Rattle.os_app.specs.Words.{IsSession, asked_by, asked_with, asks, program}
 
--- the second of some words
-abbrev second_of : List (List ℕ) → List ℕ
-second_of [] = []
-second_of (a ∷ []) = []
-second_of (a ∷ (b ∷ words)) = b
+-- clap says exactly what it makes of the program's words
+program_is_free : is_simple_and_free program ≡ true
+unfolding clap_on_literals
+program_is_free = refl
 
-same_text : (b : Bool) (text wanted : List ℕ) → b ≡ bytes_eq text wanted → IsTrue b ↔ (text ≡ wanted)
-same_text b text wanted is = subst (λ (t : Bool). IsTrue t ↔ (text ≡ wanted)) (sym is) (bytes_eq-Decides text wanted)
+program_is_simple : is_simple program ≡ true
+unfolding clap_on_literals
+program_is_simple = refl
 
--- two words, the second of which has this text
-pub two_words : (words : List (String Global)) (second : String Global) (text : List ℕ) (b : Bool) → length words ≡ 2
-    → second ≡ get_or words 1 second → text ≡ string_bytes second → b ≡ bytes_eq text (codes "session")
-    → IsTrue b ↔ IsSession (map string_bytes words)
-two_words [] second text b two at text_is is = absurd (omega (arith, two))
-two_words (x ∷ []) second text b two at text_is is = absurd (omega (arith, two))
-two_words (x ∷ (y ∷ (z ∷ words))) second text b two at text_is is = absurd (omega (arith, two))
-two_words (x ∷ (y ∷ [])) second text b two at text_is is =
-    let same = same_text b text (codes "session") is in
-    let lent : text ≡ string_bytes y = text_is ∙ ap string_bytes at in (
-      λ true_is. record { name = string_bytes x; alone = ap (λ (t : List ℕ). string_bytes x ∷ (t ∷ [])) (sym lent ∙ same.0 true_is) },
-      λ session. same.1 (lent ∙ ap second_of session.alone),
-    )
+-- what words ask for that aren't refused
+pub asks_by_subcommand : (app : App) (words : List Text) (found : ArgMatches) → app ≡ program
+    → (is_simple_and_free app ≡ true → fault_of app words ≡ []) → HasMatchesOf app words found
+    → option_and_then asked_by (subcommand_rows_of found) ≡ asks words
+unfolding asks
+asks_by_subcommand app words found is faults matches =
+    let none : fault_of program words ≡ [] = subst (λ (a : App). fault_of a words ≡ []) is (faults (ap is_simple_and_free is ∙ program_is_free)) in
+    let rows : subcommand_rows_of found ≡ subcommand_of program words =
+    (matches (ap is_simple is ∙ program_is_simple)).1 ∙ ap (λ (a : App). subcommand_of a words) is in
+    ap (option_and_then asked_by) rows ∙ ap (λ (faults : Kinds). asked_with faults (subcommand_of program words)) (sym none)
+
+some_fault : (kind : ErrorKind) (faults : Kinds) (found : Option (Text × List Row)) → IsAmong kind faults
+    → None ≡ asked_with faults found
+some_fault kind [] found among = absurd among
+some_fault kind (fault ∷ faults) found among = refl
+
+-- what words ask for that are refused
+pub asks_nothing : (app : App) (words : List Text) (error : Error) → app ≡ program
+    → (is_simple_and_free app ≡ true → HasKind (fault_of app words) error) → (kind_of error ≡ OutOfMemory → ⊥)
+    → None ≡ asks words
+unfolding asks
+asks_nothing app words error is kinds other =
+    let kind = subst (λ (a : App). HasKind (fault_of a words) error) is (kinds (ap is_simple_and_free is ∙ program_is_free)) in
+    elim kind [
+      | inl memory ↦ absurd (other memory)
+      | inr among ↦ some_fault (kind_of error) (fault_of program words) (subcommand_of program words) among
+    ]
+
+-- a session is all that words ask for today
+pub only_session : (asked : Option Asked) (it : Asked) (words : List Text) → asked ≡ Some it → asked ≡ asks words → IsSession words
+only_session asked Session words some is = sym is ∙ some
 
 -- a text that was written whole is a first part of it
 pub all_is_part : (x y z : Option (List ℕ)) (text : List ℕ) → Told x y (Appends text) → z ≡ y → Told x z (AppendsPart text)

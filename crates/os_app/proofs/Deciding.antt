@@ -1,6 +1,7 @@
 -- What the words of a run, and the bytes to come, decide of it.
 use Rattle.std.proofs.Common.{◌≡◌, ◌∙◌, ℕ, ◌⊎◌, inl, inr, List, [], ◌∷◌, ◌++◌, length, Option, Some, None, Err, arith, refl, sym, ap, subst, length-append}
 use Rattle.std.specs.Prelude.{⊤}
+use Rattle.std.proofs.lemmas.Option.{none-some}
 use Rattle.os_io.specs.Streams.{Told}
 use Rattle.http_link.specs.declared.refusal.Refusal.{Refusal}
 use Rattle.http_link.specs.declared.refusal.Refusal.TheVariants.{BadRequest}
@@ -9,11 +10,13 @@ use Rattle.http_link.specs.Requests.{IsRequest, IsCut, EndedBetween}
 use Rattle.http_link.specs.Responses.{refusal_text, Appends}
 use Rattle.http_session.specs.declared.session.Served.{Served}
 use Rattle.http_session.specs.declared.session.Served.TheVariants.{Answered, Ended, CutShort, ReadFault, WriteFault, Memory}
-use Rattle.http_session.specs.Session.{ServesOne, CountsReads, CountsWrites, HasNoFault, WritesDue, MayRespond, IsResponse, response_text}
+use Rattle.http_session.specs.Session.{ServesOne, CountsReads, CountsWrites, HasNoFault, WritesDue, MayRespond, IsResponse, Leaves, response_text}
 use Rattle.http_session.proofs.ExactLemmas.{cut_exactly, ended_exactly, answered_exactly, cut_writes, ended_writes, request_writes, request_leaves, refused_writes, request_rest, refused_rest}
 use Rattle.os_app.specs.Answers.{MayAnswer}
 use Rattle.os_app.specs.Statuses.{status_of}
-use Rattle.os_app.specs.Runs.{Run, IsSession, Wrote, Ends, Does, in_full, unread, unwritten, unmade, WroteNothing, IsRequestServed, IsHeadServed, IsDecided, Runs}
+use Rattle.os_app.specs.declared.words.Asked.{Asked}
+use Rattle.os_app.specs.Words.{IsSession, IsNoCommand}
+use Rattle.os_app.specs.Runs.{Run, Wrote, IsUnheard, Ends, without_memory, Does, in_full, unread, unwritten, unmade, WroteNothing, IsRequestServed, IsHeadServed, IsDecided, Runs}
 use Rattle.os_app.proofs.Running.{session_ends}
 
 abbrev Left : Type 0
@@ -27,7 +30,7 @@ what_is_done due MayBe run Ended status is (out, (due_is, may), wrote) = in_full
 what_is_done due MayBe run CutShort status is (out, (due_is, may), wrote) = in_full out (is ∙ ap status_of (sym due_is)) may wrote
 what_is_done due MayBe run ReadFault status is (out, none, wrote) = unread is (subst (λ (t : List ℕ). Wrote run t) none wrote)
 what_is_done due MayBe run WriteFault status is (out, (text, any, part), wrote) = unwritten text out is any part wrote
-what_is_done due MayBe run Memory status is (out, same, wrote) = unmade is (subst (λ (t : List ℕ). Wrote run t) same wrote)
+what_is_done due MayBe run Memory status is (out, same, wrote) = unmade is (inl (subst (λ (t : List ℕ). Wrote run t) same wrote))
 
 -- ---- what a status says of the bytes
 
@@ -139,7 +142,11 @@ decided run served status bytes is one =
       refused = refused_decided run served status bytes is one;
     }
 
--- a session's status isn't that of other words
+-- words that ask for something aren't words that ask for nothing
+some_or_none : (asked : Option Asked) (it : Asked) → asked ≡ Some it → asked ≡ None → ⊥
+some_or_none asked it some none = none-some it (sym none ∙ some)
+
+-- a session's status isn't that of words that are no command's
 never_misused : (served : Served) → status_of served ≡ 2 → ⊥
 never_misused Answered two = absurd (omega (arith, two))
 never_misused Ended two = absurd (omega (arith, two))
@@ -158,24 +165,54 @@ session_runs run served status is session one reads writes = record {
   ends = session_ends run served status is session one reads writes;
   misused = (
     λ two. absurd (never_misused served (sym is ∙ two)),
-    λ both. absurd (both.0 session),
+    λ all. absurd (some_or_none _ _ session all.0),
   );
   decided = λ bytes given told.
       decided run served status bytes is
       (subst (λ (x : Left). ServesOne MayAnswer served x run.left_after run.written run.written_after) told one);
 }
 
--- other words, whose usage was written, or not whole
-pub other_runs : (run : Run) (status : ℕ) → (IsSession run.words → ⊥) → Ends status run
+-- words that are no command's, whose usage was written, or not whole
+pub other_runs : (run : Run) (status : ℕ) → IsNoCommand run.words → Ends status run
     → (status ≡ 2) ⊎ (status ≡ 4) → Runs status run
 other_runs run status other ends which = record {
   ends = ends;
   misused = (
-    λ two. (other, λ four. omega (arith, two, four)),
-    λ both. elim which [
+    λ two. (other, λ four. omega (arith, two, four), λ five. omega (arith, two, five)),
+    λ all. elim which [
       | inl two ↦ two
-      | inr four ↦ absurd (both.1 four)
+      | inr four ↦ absurd (all.1 four)
     ],
   );
-  decided = λ bytes session told. absurd (other session);
+  decided = λ bytes session told. absurd (some_or_none _ _ session other);
+}
+
+-- no memory to read the words: all the bytes to come are left
+unheard_leaves : (run : Run) (bytes front rest : List ℕ) → IsUnheard run → run.left ≡ Some bytes → bytes ≡ front ++ rest
+    → Leaves rest run.left_after
+unheard_leaves run bytes front rest unheard told e = (front, unheard.untaken ∙ told ∙ ap (λ (b : List ℕ). Some b) e)
+
+unheard_decided : (run : Run) (bytes : List ℕ) → IsUnheard run → run.left ≡ Some bytes → IsDecided 5 run bytes
+unheard_decided run bytes unheard told = record {
+  cut = λ cut. unmade refl (inr unheard);
+  cut_only = λ eight. absurd (omega (arith, eight));
+  over = λ ended. unmade refl (inr unheard);
+  over_only = λ zero none. absurd (omega (arith, zero));
+  request = λ request body rest here e. record {
+    does = unmade refl (inr unheard);
+    alone = λ zero. absurd (omega (arith, zero));
+    leaves = unheard_leaves run bytes request rest unheard told e;
+  };
+  refused = λ head rest refusal here e. record {
+    does = unmade refl (inr unheard);
+    leaves = unheard_leaves run bytes head rest unheard told e;
+  };
+}
+
+-- no memory to read the words
+pub unheard_runs : (run : Run) → IsUnheard run → Runs 5 run
+unheard_runs run unheard = record {
+  ends = without_memory refl (inr unheard);
+  misused = (λ two. absurd (omega (arith, two)), λ all. absurd (all.2 refl));
+  decided = λ bytes session told. unheard_decided run bytes unheard told;
 }

@@ -8,7 +8,8 @@ use Rattle.http_session.specs.declared.session.Served.TheVariants.{Answered, End
 use Rattle.http_session.specs.Session.{ServesOne, EndsInput, IsPart, CountsReads, CountsWrites}
 use Rattle.os_app.specs.Answers.{MayAnswer}
 use Rattle.os_app.specs.Statuses.{status_of}
-use Rattle.os_app.specs.Runs.{Run, IsSession, usage, Took, TookAll, Wrote, Ends, done, misused, read_fault, write_fault, without_memory, cut_short}
+use Rattle.os_app.specs.Words.{IsSession, IsNoCommand}
+use Rattle.os_app.specs.Runs.{Run, usage, Took, TookAll, Wrote, Ends, done, misused, read_fault, write_fault, without_memory, cut_short}
 
 -- what is told of one step says less
 weaker : {X : Type 0} (x y : Option X) (P Q : X → X → Type 0) → ((a b : X) → P a b → Q a b) → Told x y P → Told x y Q
@@ -80,7 +81,7 @@ session_ends run WriteFault status is session (taken, out, (text, responds, part
       failed = writes;
     })
 session_ends run Memory status is session (taken, out, lacks, took, wrote) reads writes =
-    without_memory is (record {
+    without_memory is (inl (record {
       session = session;
       taken = taken;
       part = lacks.1;
@@ -88,7 +89,7 @@ session_ends run Memory status is session (taken, out, lacks, took, wrote) reads
       wrote = wrote_same run out _ lacks.0 wrote;
       all_read = reads;
       all_written = writes;
-    })
+    }))
 
 -- a first part of a text was written: which
 part_of : (x y : Option (List ℕ)) (text : List ℕ) → Told x y (AppendsPart text)
@@ -97,8 +98,8 @@ part_of None y text told = ([], (0, omega arith, refl), tt)
 part_of (Some x) None text told = absurd told
 part_of (Some x) (Some y) text (n, within, same) = (take n text, (n, within, refl), same)
 
--- other words, and a fault in writing the usage
-pub other_fails : (run : Run) → (IsSession run.words → ⊥) → Told run.written run.written_after (AppendsPart usage)
+-- no command's words, and a fault in writing the usage
+pub other_fails : (run : Run) → IsNoCommand run.words → Told run.written run.written_after (AppendsPart usage)
     → run.left_after ≡ run.left → run.read_faults_after ≡ run.read_faults
     → HasRisen run.write_faults run.write_faults_after → Ends 4 run
 other_fails run other told unread reads failed =
@@ -113,8 +114,8 @@ other_fails run other told unread reads failed =
       failed = failed;
     })
 
--- other words, and the usage written
-pub other_helped : (run : Run) → (IsSession run.words → ⊥) → Wrote run usage → run.left_after ≡ run.left
+-- no command's words, and the usage written
+pub other_helped : (run : Run) → IsNoCommand run.words → Wrote run usage → run.left_after ≡ run.left
     → run.read_faults_after ≡ run.read_faults → run.write_faults_after ≡ run.write_faults → Ends 2 run
 other_helped run other wrote unread reads writes =
     misused refl (record { other = other; wrote = wrote; unread = unread; all_read = reads; all_written = writes })

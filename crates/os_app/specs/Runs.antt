@@ -1,5 +1,5 @@
 -- How a run ends, by its words and by what came and went.
-use Rattle.std.specs.Prelude.{◌≡◌, ◌↔◌, ℕ, ◌⊎◌, List, [], ◌∷◌, ◌++◌, Option, Some, Err, codes}
+use Rattle.std.specs.Prelude.{◌≡◌, ◌↔◌, ℕ, ◌⊎◌, List, [], ◌++◌, Option, Some, Err, codes}
 use Rattle.os_io.specs.Streams.{Told, HasRisen}
 use Rattle.http_link.specs.declared.refusal.Refusal.{Refusal}
 use Rattle.http_link.specs.declared.refusal.Refusal.TheVariants.{BadRequest}
@@ -8,6 +8,7 @@ use Rattle.http_link.specs.Requests.{IsRequest, IsBegun, IsRequestPart, IsCut, E
 use Rattle.http_link.specs.Responses.{refusal_text, Appends}
 use Rattle.http_session.specs.Session.{IsResponse, IsAnyResponse, IsPart, no_memory_text, MayRespond, Leaves}
 use Rattle.os_app.specs.Answers.{MayAnswer}
+use Rattle.os_app.specs.Words.{IsSession, IsNoCommand}
 
 -- a run's words, and what its input and output tell before and after it
 pub record Run : Type 0 where
@@ -21,12 +22,7 @@ pub record Run : Type 0 where
   pub write_faults : ℕ
   pub write_faults_after : ℕ
 
--- the words are the program's name and `session` alone
-pub record IsSession (words : List (List ℕ)) : Type 0 where
-  pub name : List ℕ
-  pub alone : words ≡ name ∷ codes "session" ∷ []
-
--- what is written to whoever gives other words
+-- what is written to whoever gives words that are no command's
 abbrev pub usage : List ℕ
 usage = codes "usage: os_app session | solve | check | serve | call | generate\n"
 
@@ -72,9 +68,9 @@ pub record IsDone (run : Run) : Type 0 where
   pub all_read : AllRead run
   pub all_written : AllWritten run
 
--- other words were given: the usage was written whole, and nothing was read
+-- the words are no command's: the usage was written whole, and nothing was read
 pub record IsMisused (run : Run) : Type 0 where
-  pub other : IsSession run.words → ⊥
+  pub other : IsNoCommand run.words
   pub wrote : Wrote run usage
   pub unread : run.left_after ≡ run.left
   pub all_read : AllRead run
@@ -97,9 +93,9 @@ pub record WasToRespond (run : Run) (text : List ℕ) : Type 0 where
   pub responds : IsAnyResponse MayAnswer taken text
   pub took : Took run taken
 
--- what was to be written to other words: the usage
+-- what was to be written to words that are no command's: the usage
 pub record WasToHelp (run : Run) (text : List ℕ) : Type 0 where
-  pub other : IsSession run.words → ⊥
+  pub other : IsNoCommand run.words
   pub usage_is : text ≡ usage
   pub unread : run.left_after ≡ run.left
 
@@ -123,6 +119,13 @@ pub record IsWithoutMemory (run : Run) : Type 0 where
   pub all_read : AllRead run
   pub all_written : AllWritten run
 
+-- there was no memory to read the words: nothing was taken from the input, and nothing was written
+pub record IsUnheard (run : Run) : Type 0 where
+  pub untaken : run.left_after ≡ run.left
+  pub unwritten : run.written_after ≡ run.written
+  pub all_read : AllRead run
+  pub all_written : AllWritten run
+
 -- the input ended inside a request that nothing had refused, and nothing was written
 pub record IsCutShort (run : Run) : Type 0 where
   pub session : IsSession run.words
@@ -139,16 +142,16 @@ pub data Ends (status : ℕ) (run : Run) : Type 0 where
   misused : status ≡ 2 → IsMisused run → Ends status run
   read_fault : status ≡ 3 → IsReadFault run → Ends status run
   write_fault : status ≡ 4 → IsWriteFault run → Ends status run
-  without_memory : status ≡ 5 → IsWithoutMemory run → Ends status run
+  without_memory : status ≡ 5 → IsWithoutMemory run ⊎ IsUnheard run → Ends status run
   cut_short : status ≡ 8 → IsCutShort run → Ends status run
 
 -- the status and a text that were due; or a fault or want of memory hindered it, and nothing was written, or a first part
--- of such a text or of the response for want of memory, or that response whole
+-- of such a text or of the response for want of memory, or that response whole; or the words weren't read
 pub data Does (due : ℕ) (MayBe : List ℕ → Type 0) (status : ℕ) (run : Run) : Type 0 where
   in_full : (text : List ℕ) → status ≡ due → MayBe text → Wrote run text → Does due MayBe status run
   unread : status ≡ 3 → Wrote run [] → Does due MayBe status run
   unwritten : (text part : List ℕ) → status ≡ 4 → MayBe text ⊎ (text ≡ no_memory_text) → IsPart text part → Wrote run part → Does due MayBe status run
-  unmade : status ≡ 5 → Wrote run no_memory_text → Does due MayBe status run
+  unmade : status ≡ 5 → Wrote run no_memory_text ⊎ IsUnheard run → Does due MayBe status run
 
 -- it is told what was written, and nothing was
 pub record WroteNothing (run : Run) : Type 0 where
@@ -177,9 +180,9 @@ pub record IsDecided (status : ℕ) (run : Run) (bytes : List ℕ) : Type 0 wher
   pub request : (request body rest : List ℕ) → IsRequest request body → bytes ≡ request ++ rest → IsRequestServed status run body rest
   pub refused : (head rest : List ℕ) (refusal : Refusal) → Head head (Err refusal) → bytes ≡ head ++ rest → IsHeadServed status run rest
 
--- a run ends in one of these ways. Status 2 says that other words were given and no write failed, exactly, and the bytes
--- to come, where they are told, decide how a session ends
+-- a run ends in one of these ways. Status 2 says that the words are no command's, no write failed and there was memory,
+-- exactly, and the bytes to come, where they are told, decide how a session ends
 pub record Runs (status : ℕ) (run : Run) : Type 0 where
   pub ends : Ends status run
-  pub misused : (status ≡ 2) ↔ ((IsSession run.words → ⊥) × (status ≡ 4 → ⊥))
+  pub misused : (status ≡ 2) ↔ (IsNoCommand run.words × (status ≡ 4 → ⊥) × (status ≡ 5 → ⊥))
   pub decided : (bytes : List ℕ) → IsSession run.words → run.left ≡ Some bytes → IsDecided status run bytes

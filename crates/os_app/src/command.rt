@@ -3,14 +3,14 @@ ghost use Rattle.std.specs.Prelude.{◌≡◌, map};
 ghost use Rattle.std.specs.String.{string_bytes};
 ghost use Rattle.http_session.specs.Session.{ServesOne, CountsReads, CountsWrites};
 ghost use Rattle.os_app.specs.Answers.{MayAnswer};
-ghost use Rattle.os_app.specs.Runs.{IsSession, Runs};
+ghost use Rattle.os_app.specs.Runs.{Runs};
 ghost use Rattle.os_app.specs.Statuses.{status_of};
 
 use crate::service::PlainSolver;
-use crate::words::{is_session, write_usage};
+use crate::words::{Asked, read, write_usage};
 use http_session::{Served, serve_one};
 use os_io::{Failed, Files, Listener, Sink, Source};
-use std::alloc::Global;
+use std::alloc::{AllocError, Global};
 
 /// All was written.
 const DONE: u8 = 0;
@@ -48,7 +48,8 @@ fn status_of(served: Served) -> u8
 /// request from the input and writes its response to the output.
 ///
 /// The status is 0 where all was written, 2 where the words are no command and the usage was written, 3 and 4 where a
-/// read or a write failed, 5 where there was no memory, and 8 where the input ended inside a request.
+/// read or a write failed, 5 where there was no memory, and 8 where the input ended inside a request. Where there was no
+/// memory to read the words, nothing is taken and nothing written.
 pub fn run<F: Files, I: Source, O: Sink, N: Listener>(
     alloc: Global,
     words: &[String],
@@ -75,11 +76,12 @@ pub fn run<F: Files, I: Source, O: Sink, N: Listener>(
     ensures files { files.new ≡ files.old }
     ensures net { net.new ≡ net.old }
 {
-    if is_session(words) {
-        return status_of(serve_one(alloc, input, output, &PlainSolver));
-    }
-    match write_usage(output) {
-        Ok(()) => MISUSED,
-        Err(Failed) => WRITE_FAULT,
+    match read(alloc, words) {
+        Ok(Some(Asked::Session)) => status_of(serve_one(alloc, input, output, &PlainSolver)),
+        Ok(None) => match write_usage(output) {
+            Ok(()) => MISUSED,
+            Err(Failed) => WRITE_FAULT,
+        },
+        Err(AllocError) => NO_MEMORY,
     }
 }

@@ -105,15 +105,44 @@ fn says_that_a_write_failed(rt: HostRuntime) -> Result<(), Fail> {
 }
 
 #[test]
+fn reads_the_words_of_a_session(rt: HostRuntime) -> Result<(), Fail> {
+    let table: [&[&str]; 3] = [
+        &["os_app", "session"],
+        &["", "session"],
+        &["os_app", "session", "--"],
+    ];
+    for words in table {
+        let mut input = MemSource::new(rt.alloc(), MINIMUM, 400, &[])?;
+        let mut output = MemSink::new(rt.alloc(), 2000, &[])?;
+        assert_eq!(rt; status(rt.alloc(), words, &mut input, &mut output)?, 0);
+        assert!(rt; output.as_slice() == SOLVED);
+    }
+    Ok(())
+}
+
+#[test]
 fn helps_with_other_words(rt: HostRuntime) -> Result<(), Fail> {
-    let table: [&[&str]; 7] = [
+    let table: [&[&str]; 20] = [
         &[],
         &["os_app"],
         &["session"],
+        &["os_app", ""],
+        &["os_app", "-"],
+        &["os_app", "--"],
         &["os_app", "fly"],
         &["os_app", "sessions"],
-        &["os_app", "session", "session"],
+        &["os_app", "Session"],
+        &["os_app", "--session"],
+        &["os_app", "-h"],
+        &["os_app", "--help"],
         &["os_app", "help"],
+        &["os_app", "help", "session"],
+        &["os_app", "session", "session"],
+        &["os_app", "session", "x"],
+        &["os_app", "session", ""],
+        &["os_app", "session", "-h"],
+        &["os_app", "session", "--", "x"],
+        &["os_app", "--", "session"],
     ];
     for words in table {
         let mut input = MemSource::new(rt.alloc(), MINIMUM, 400, &[])?;
