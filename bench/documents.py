@@ -6,10 +6,10 @@ variables and rows, and as many entries of the matrix as the size asks for.
 
 import os
 import random
-import sys
 import tempfile
 
-RUNS = 15
+from measuring import measured
+
 OURS = "crates/bench_documents/out/bench_documents"
 
 
@@ -35,28 +35,6 @@ def osil(size):
         parts += [f"<{name}>", *els, f"</{name}>"]
     parts.append("</linearConstraintCoefficients></instanceData></osil>")
     return "".join(parts).encode()
-
-
-def measured(words, source):
-    """The least seconds of some runs and the greatest peak memory in bytes."""
-    seconds, peak = None, 0
-    for _ in range(RUNS):
-        with open(os.devnull, "wb") as out:
-            pid = os.posix_spawnp(
-                words[0], words, os.environ,
-                file_actions=[
-                    (os.POSIX_SPAWN_OPEN, 0, source, os.O_RDONLY, 0),
-                    (os.POSIX_SPAWN_DUP2, out.fileno(), 1),
-                    (os.POSIX_SPAWN_DUP2, out.fileno(), 2),
-                ],
-            )
-            _, status, usage = os.wait4(pid, 0)
-        if status != 0:
-            sys.exit(f"{words} ended with {status}")
-        spent = usage.ru_utime + usage.ru_stime
-        seconds = spent if seconds is None else min(seconds, spent)
-        peak = max(peak, usage.ru_maxrss * 1024)
-    return seconds, peak
 
 
 def main():

@@ -5,11 +5,11 @@ escaped in an envelope, in one request; xmllint gets the envelope that the reque
 """
 
 import os
-import sys
 import tempfile
 
+from measuring import measured
+
 VARIABLES = 1000
-RUNS = 15
 
 
 def osil(size):
@@ -30,24 +30,6 @@ def envelope(text):
 
 def request(body):
     return f"POST /os HTTP/1.1\r\nHost: a\r\nContent-Length: {len(body)}\r\n\r\n".encode() + body
-
-
-def measured(words, source):
-    """The least seconds of some runs and the greatest peak memory in bytes."""
-    seconds, peak = None, 0
-    for _ in range(RUNS):
-        with tempfile.TemporaryFile() as out:
-            pid = os.posix_spawnp(
-                words[0], words, os.environ,
-                file_actions=[(os.POSIX_SPAWN_OPEN, 0, source, os.O_RDONLY, 0), (os.POSIX_SPAWN_DUP2, out.fileno(), 1)],
-            )
-            _, status, usage = os.wait4(pid, 0)
-            if status != 0:
-                sys.exit(f"{words} ended with {status}")
-        spent = usage.ru_utime + usage.ru_stime
-        seconds = spent if seconds is None else min(seconds, spent)
-        peak = max(peak, usage.ru_maxrss * 1024)
-    return seconds, peak
 
 
 def main():
