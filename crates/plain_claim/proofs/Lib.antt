@@ -1,0 +1,6 @@
+pub mod Zero
+pub mod Sums
+pub mod Charged
+pub mod Leaf
+pub mod Point
+pub mod Accepted
