@@ -4,3 +4,4 @@ pub mod Charged
 pub mod Leaf
 pub mod Point
 pub mod Accepted
+pub mod Others

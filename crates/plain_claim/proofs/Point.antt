@@ -67,13 +67,13 @@ module _ (p : Parts) (plain : IsPlain p) where
   pub origin_value : (j : ℕ) → j < Of.width (program p) → value_at (origin p) j ≡ none
   origin_value j h = get_or-replicate (length p.vars) j none none (within j h)
 
-  origin_objective : objective (program p) (origin p) ≈ none
+  pub origin_objective : objective (program p) (origin p) ≈ none
   origin_objective =
       total-≈ (Of.width (program p)) (λ j. product (Of.cost_at (program p) j) (value_at (origin p) j)) (λ j. none) (≈-from p.goal.constant.above plain.goal.constant)
       (λ j h. rw (origin_value j h) (times_none (Of.cost_at (program p) j) (ratios-number p.goal.costs j)))
       ▹ total-none (Of.width (program p))
 
-  origin_feasible : IsFeasible (program p) (origin p)
+  pub origin_feasible : IsFeasible (program p) (origin p)
   origin_feasible =
       record {
         count = length-replicate (length p.vars) none ∙ sym (width_is);

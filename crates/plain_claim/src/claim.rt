@@ -40,6 +40,8 @@ fn multipliers_of(alloc: Global, costs: &[Frac]) -> Result<Mults, AllocError>
 }
 
 /// The claim about a plain instance: 0 everywhere is optimal, by its costs. None exactly where the instance isn't plain.
+///
+/// The error is want of memory.
 pub fn plain_claim(alloc: Global, instance: &Instance) -> Result<Option<Claim>, AllocError>
     ensures { IfOk result (λ r. MatchOption r (Plain.IsPlain instance.now → ⊥) (λ c. Plain.IsPlain instance.now × (Means.claim c ≡ Plain.claim instance.now))) }
 {

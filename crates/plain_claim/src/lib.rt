@@ -5,7 +5,8 @@
 //! themselves are the multipliers that show it (weak duality; Chvátal, Linear Programming, 1983, chapter 5). Those that
 //! are 0 are left out, since a certificate has no multiplier 0.
 //!
-//! [`plain_claim`] makes this claim, and [`plain_claims_hold`] says that it is accepted by its certificate, and true.
+//! [`plain_claim`] makes this claim. The laws say that it is accepted by its certificate, and true, and that no claim to the
+//! contrary is accepted; a law is a function whose contract is the statement, and whose body is empty.
 #![tactic(auto)]
 
 mod claim;
@@ -15,4 +16,4 @@ mod plain;
 mod tests;
 
 pub use claim::plain_claim;
-pub use laws::plain_claims_hold;
+pub use laws::{others_are_refused, plain_claims_hold, zeros_are_refused};
