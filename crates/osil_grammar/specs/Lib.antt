@@ -10,3 +10,8 @@ pub mod Meaning
 pub mod InstanceText
 pub mod Texts
 pub mod Writing
+pub mod Walking
+pub mod Orders
+pub mod Reading
+pub mod PartsRead
+pub mod Telling

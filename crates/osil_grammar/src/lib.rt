@@ -1,10 +1,35 @@
 //! What OSiL documents say (Optimization Services instance language, its linear and integer part).
 //!
-//! The definitions stand in `specs`: `Tags` has a document's tags in their order, `Deciding` at which tag each refusal
-//! is decided, `Refusals` which one is told, `Meaning` the instance that a document stands for, `Writing` the text
-//! that an instance is written as, and `Texts` what is told of a refusal.
+//! [`decode`] gives the instance that a document stands for, or why it is none: the first thing in the order of tags
+//! that is wrong with it, with the ordinal of its element. [`encode`] writes an instance as a document, and
+//! [`refusal_text`] says in words why a document is refused.
 #![tactic(auto)]
 
+mod document;
+mod entries;
+mod fault;
 mod laws;
+mod matrix;
+mod numbers;
+mod objectives;
+mod rows;
+mod runs;
+mod sections;
+mod tags;
+mod telling;
+#[cfg(test)]
+mod tests;
+mod texts;
+mod unread;
+mod variables;
+mod writing;
 
-pub use laws::accepted_is_not_refused;
+pub use document::{MOST_BYTES, decode};
+pub use fault::{EncodeFault, OsilFault, Refusal};
+pub use laws::{
+    accepted_is_not_refused, documents_are_refused_in_one_way, documents_mean_one_instance,
+    instances_have_one_text, written_root_is_accepted, written_root_means_instance,
+    written_text_is_document, written_text_is_of_one_instance,
+};
+pub use texts::refusal_text;
+pub use writing::encode;

@@ -1,0 +1,95 @@
+-- What a builder is told one thing after another.
+use Rattle.std.proofs.Common.{◌≡◌, ◌∙◌, ℕ, ◌+◌, ◌<◌, ◌≤◌, List, [], ◌∷◌, ◌++◌, length, take, drop, get_or, Result, Ok, Err, ap, sym, subst, refl}
+use Rattle.std.specs.Prelude.{OnOk}
+use Rattle.std.specs.List.{All}
+use Rattle.std.proofs.lemmas.List.{drop_more, drop_all, take_all}
+use Rattle.std.proofs.lemmas.List.Elements.{All-nil, All-more}
+use Rattle.tree_grammar.specs.Elements.{Attribute, Nodes, none, element, Event, nodes_events}
+use Rattle.element_tree.specs.Building.{Building, said}
+use Rattle.osil_grammar.specs.declared.fault.EncodeFault.{EncodeFault}
+use Rattle.osil_grammar.specs.declared.fault.EncodeFault.TheVariants.{NotDecimal, Long, Memory}
+use Rattle.osil_grammar.specs.Telling.{Told, opening, closing, HasNone}
+
+-- one thing told, and then another
+pub told_then : (a b c : Building) (f g : List Event → List Event) → Told a b f → Told b c g → Told a c (λ k. f (g k))
+told_then a b c f g first second = record { told = λ behind. second.told behind ∙ first.told (g behind); waiting = second.waiting }
+
+-- the last thing told is the call's own
+pub ends_told : {X E : Type 0} (r : Result X E) (a b c : Building) (f g : List Event → List Event) → Told a b f → OnOk r (Told b c g) → OnOk r (Told a c (λ k. f (g k)))
+ends_told (Ok x) a b c f g first second = told_then a b c f g first second
+ends_told (Err e) a b c f g first second = tt
+
+-- an element with what stands in it
+pub told_around : (a b c d : Building) (name : List ℕ) (attributes : List Attribute) (inner : Nodes) → Told a b (opening name attributes) → Told b c (nodes_events inner) → Told c d (closing name) → Told a d (nodes_events (element name attributes inner none))
+told_around a b c d name attributes inner begins inside ends = told_then a c d (λ k. opening name attributes (nodes_events inner k)) (closing name) (told_then a b c (opening name attributes) (nodes_events inner) begins inside) ends
+
+-- what was told before only attributes were told
+pub told_after : (a b c : Building) (f : List Event → List Event) → said b ≡ said a → Told b c f → Told a c f
+told_after a b c f same tells = record { told = λ behind. tells.told behind ∙ ap (λ (l : List Event). l ++ f behind) same; waiting = tells.waiting }
+
+-- an element with the attributes that waited
+pub content_told : (a b c : Building) (name : List ℕ) (waits attributes : List Attribute) (children : Nodes) → said b ≡ said a → waits ≡ attributes → Told b c (nodes_events (element name waits children none)) → Told a c (nodes_events (element name attributes children none))
+content_told a b c name waits attributes children same is tells = told_after a b c (nodes_events (element name attributes children none)) same (subst (λ (l : List Attribute). Told b c (nodes_events (element name l children none))) is tells)
+
+-- a number that has no decimal is one of those that would need one
+pub none_of : (P Q : Type 0) (e : EncodeFault) → (Q → P) → HasNone P e → HasNone Q e
+none_of P Q NotDecimal needs has_none = λ q. has_none (needs q)
+none_of P Q Long needs has_none = has_none
+none_of P Q Memory needs has_none = tt
+
+-- what is still to be told of a list, written as these nodes, and what that makes of the whole list
+pub record Completes {X : Type 0} (W : ℕ → List X → Nodes → Type 0) (start b : Building) (all : List X) (rest : Nodes) : Type 0 where
+  pub nodes : Nodes
+  pub writes : W 0 all nodes
+  pub told : (behind : List Event) → said b ++ nodes_events rest behind ≡ said start ++ nodes_events nodes behind
+
+-- the first so many elements of a list were told, for which there are decimals, and any nodes of the rest make the whole
+pub record ToldFirst {X : Type 0} (P : X → Type 0) (W : ℕ → List X → Nodes → Type 0) (start b : Building) (all : List X) (i : ℕ) : Type 0 where
+  pub decimals : All P (take i all)
+  pub waiting : b.attributes ≡ []
+  pub completes : (rest : Nodes) → W i (drop i all) rest → Completes W start b all rest
+
+-- the nodes of an element and those of the rest
+pub record Joins {X : Type 0} (W : ℕ → List X → Nodes → Type 0) (i : ℕ) (x : X) (xs : List X) (first rest : Nodes) : Type 0 where
+  pub nodes : Nodes
+  pub writes : W i (x ∷ xs) nodes
+  pub same : (k : List Event) → nodes_events nodes k ≡ nodes_events first (nodes_events rest k)
+
+-- an element's nodes may stand before those of the rest
+abbrev pub CanJoin : {X : Type 0} → (ℕ → List X → Nodes → Type 0) → Type 0
+CanJoin {X} W = (i : ℕ) (x : X) (xs : List X) (first rest : Nodes) → W i (x ∷ []) first → W (i + 1) xs rest → Joins W i x xs first rest
+
+-- nothing is told yet
+pub none_told : {X : Type 0} (P : X → Type 0) (W : ℕ → List X → Nodes → Type 0) (b : Building) (all : List X) → b.attributes ≡ [] → ToldFirst P W b b all 0
+none_told P W b all waiting = record {
+  decimals = All-nil P;
+  waiting = waiting;
+  completes = λ rest writes. record { nodes = rest; writes = writes; told = λ behind. refl };
+}
+
+-- one more is told
+pub one_told : {X : Type 0} (P : X → Type 0) (W : ℕ → List X → Nodes → Type 0) → CanJoin W → (start a b : Building) (all : List X) (i : ℕ) (x : X) → i < length all → x ≡ get_or all i x → ToldFirst P W start a all i → P x → (first : Nodes) → W i (x ∷ []) first → Told a b (nodes_events first) → ToldFirst P W start b all (i + 1)
+one_told {X} P W joins start a b all i x inside is before here first writes tells = record {
+  decimals = All-more P all i x inside before.decimals (subst P is here);
+  waiting = tells.waiting;
+  completes = λ rest more.
+      let joined : Joins W i x (drop (i + 1) all) first rest = joins i x (drop (i + 1) all) first rest writes more in
+      let next : x ∷ drop (i + 1) all ≡ drop i all = ap (λ (y : X). y ∷ drop (i + 1) all) is ∙ sym (drop_more all i x inside) in
+      let whole : W i (drop i all) joined.nodes = subst (λ (l : List X). W i l joined.nodes) next joined.writes in
+      let done : Completes W start a all joined.nodes = before.completes joined.nodes whole in
+      record {
+        nodes = done.nodes;
+        writes = done.writes;
+        told = λ behind. tells.told (nodes_events rest behind) ∙ ap (λ (l : List Event). said a ++ l) (sym (joined.same behind)) ∙ done.told behind;
+      };
+}
+
+-- all are told
+pub all_told : {X : Type 0} (P : X → Type 0) (W : ℕ → List X → Nodes → Type 0) (start b : Building) (all : List X) (i : ℕ) → length all ≤ i → W i [] none → ToldFirst P W start b all i → All P all × (inner : Nodes) × W 0 all inner × Told start b (nodes_events inner)
+all_told {X} P W start b all i over empty first =
+    let done : Completes W start b all none = first.completes none (subst (λ (l : List X). W i l none) (sym (drop_all i all over)) empty) in
+    (subst (λ (l : List X). All P l) (take_all i all over) first.decimals, done.nodes, done.writes, record { told = done.told; waiting = first.waiting })
+
+-- one that has no decimal is one of all
+pub none_at : {X : Type 0} (P : X → Type 0) (all : List X) (i : ℕ) (x : X) (e : EncodeFault) → i < length all → x ≡ get_or all i x → HasNone (P x) e → HasNone (All P all) e
+none_at {X} P all i x e inside is has_none = none_of (P x) (All P all) e (λ (each : All P all). subst P (sym is) (each i x inside)) has_none

@@ -1,0 +1,62 @@
+use Rattle.std.proofs.Common.{◌≡◌, ℕ, List, [], ◌∷◌, ◌++◌, length, sym, subst, arith}
+use Rattle.std.specs.Vec.{vec_len}
+use Rattle.std.specs.List.{All}
+use Rattle.std.proofs.lemmas.List.Elements.{All-nil}
+use Rattle.instance.specs.Parts.{AreEnds}
+use Rattle.instance.specs.declared.parts.Var.{Var}
+use Rattle.tree_grammar.specs.Elements.{Element}
+use Rattle.osil_grammar.specs.Meaning.{IsVar}
+use Rattle.osil_grammar.specs.Runs.{StandFor}
+use Rattle.osil_grammar.specs.Reading.{begun}
+use Rattle.osil_grammar.proofs.Decided.{tells_more}
+use Rattle.osil_grammar.proofs.Exits.{handed_on}
+use Rattle.osil_grammar.proofs.Items.{ItemsOf, no_items, one_more_item}
+use Rattle.osil_grammar.proofs.Midway.{begins_midway, enters_child, leaves_children}
+use Rattle.osil_grammar.proofs.Passing.{fewer_entered, both_on, entered_on, left_on, stays_on}
+use Rattle.osil_grammar.proofs.variables.read_vars.Goals as goal
+
+pub loop-child-init : goal.loop-child-init
+loop-child-init c = record {
+  few = omega (arith, c.new-vars.ensures.len);
+  ends = subst (λ (vars : List Var). All (λ v. AreEnds v.lb v.ub) vars) (sym c.new-vars.ensures.items) (All-nil (λ (v : Var). AreEnds v.lb v.ub));
+  on = stays_on c.args.place.now;
+  at = λ e rest around at joined inside. ([], begins_midway c.args.place.now e rest around at joined, no_items IsVar c.new-vars.result.items c.new-vars.ensures.items);
+}
+
+pub loop-child-smaller : goal.loop-child-smaller
+loop-child-smaller c =
+    let on = c.in_ok-read_item.ensures.on in omega (arith, fewer_entered c.loop-child.place c.child.new.self (begun c.in-Some.child) c.in-Some.ensures.some, on.shorter)
+
+pub loop-child-preserved : goal.loop-child-preserved
+loop-child-preserved c = record {
+  few = c.in_ok-read_item.ensures.few;
+  ends = c.in_ok-read_item.ensures.ends c.loop-child.invariant.ends;
+  on = both_on (both_on c.loop-child.invariant.on (entered_on c.loop-child.place c.child.new.self (begun c.in-Some.child) c.in-Some.ensures.some)) c.in_ok-read_item.ensures.on;
+  at = λ e rest around at joined inside.
+      let here = c.loop-child.invariant.at e rest around at joined inside in
+      let next = enters_child c.args.place.now c.loop-child.place c.child.new.self e rest around here.0 (begun c.in-Some.child) here.1 c.in-Some.ensures.some in
+      let count : length c.loop-child.vars.items ≡ vec_len c.loop-child.vars = omega (arith, c.loop-child.vars.ok.0) in
+      let read = c.in_ok-read_item.ensures.reads next.child next.behind around here.0 next.inside inside (subst (λ (n : ℕ). StandFor here.0 n) count here.2.1) in
+      (here.0 ++ next.child ∷ [], next.goes_on c.read_item.new.place read.0 read.1.1, one_more_item IsVar here.0 next.child c.loop-child.vars.items c.read_item.new.vars.items here.2 read.1.0);
+}
+
+pub returns-in_err-read_item-clause-reads : goal.returns-in_err-read_item-clause-reads
+returns-in_err-read_item-clause-reads c e rest around at joined inside anywhere =
+    let here = c.loop-child.invariant.at e rest around at joined inside in
+    let next = enters_child c.args.place.now c.loop-child.place c.child.new.self e rest around here.0 (begun c.in-Some.child) here.1 c.in-Some.ensures.some in
+    let count : length c.loop-child.vars.items ≡ vec_len c.loop-child.vars = omega (arith, c.loop-child.vars.ok.0) in
+    handed_on c.from_residual.result c.in_err-read_item.field-0.0 _ _ c.from_residual.ensures.1
+    (tells_more c.in_err-read_item.field-0.0 _ _ (λ r n first. next.refused r n first)
+    (c.in_err-read_item.ensures.reads next.child next.behind around here.0 next.inside inside (subst (λ (n : ℕ). StandFor here.0 n) count here.2.1)))
+
+pub returns-clause-reads : goal.returns-clause-reads
+returns-clause-reads c e rest around at joined inside anywhere =
+    let here = c.loop-child.invariant.at e rest around at joined inside in
+    let over = leaves_children c.args.place.now c.loop-child.place c.child.new.self e rest around here.0 here.1 c.in_default.ensures.none in
+    (over.clean, (subst (λ (es : List Element). ItemsOf IsVar es c.loop-child.vars.items) (sym over.children) here.2, over.behind))
+
+pub returns-clause-on : goal.returns-clause-on
+returns-clause-on c = both_on c.loop-child.invariant.on (left_on c.loop-child.place c.child.new.self c.in_default.ensures.none)
+
+pub returns-clause-ends : goal.returns-clause-ends
+returns-clause-ends c = c.loop-child.invariant.ends

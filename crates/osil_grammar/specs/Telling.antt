@@ -1,0 +1,56 @@
+-- What a builder is told, whatever comes after it, and why an instance isn't written.
+use Rattle.std.specs.Prelude.{◌≡◌, ℕ, Result, MatchResult, List, [], ◌∷◌, ◌++◌, codes}
+use Rattle.std.specs.List.{All}
+use Rattle.tree_grammar.specs.Elements.{Attribute, Nodes, Event, Open, Close, nodes_events}
+use Rattle.element_tree.specs.Building.{Building, said}
+use Rattle.fraction.specs.declared.ends.End.{End}
+use Rattle.instance.specs.declared.parts.Goal.{Goal}
+use Rattle.instance.specs.Parts.{Parts}
+use Rattle.osil_grammar.specs.declared.fault.EncodeFault.{EncodeFault}
+use Rattle.osil_grammar.specs.declared.fault.EncodeFault.TheVariants.{NotDecimal, Long, Memory}
+use Rattle.osil_grammar.specs.Writing.{HasDecimal, EndHasText, IsEndText, HasDecimals, IsTooLong, with_attribute}
+
+-- more was told, and no attribute waits
+pub record Told (old new : Building) (more : List Event → List Event) : Type 0 where
+  pub told : (behind : List Event) → said new ++ behind ≡ said old ++ more behind
+  pub waiting : new.attributes ≡ []
+
+-- attributes were told, for the element that begins next
+pub record ToldAttributes (old new : Building) (more : List Attribute) : Type 0 where
+  pub told : said new ≡ said old
+  pub waiting : new.attributes ≡ old.attributes ++ more
+
+-- an element begins with these attributes, and an element ends
+abbrev pub opening : List ℕ → List Attribute → List Event → List Event
+opening name attributes behind = Open name attributes ∷ behind
+
+abbrev pub closing : List ℕ → List Event → List Event
+closing name behind = Close name ∷ behind
+
+-- a number has no decimal; or there was no memory
+abbrev pub HasNone : Type 0 → EncodeFault → Type 0
+HasNone P NotDecimal = P → ⊥
+HasNone P Long = ⊥
+HasNone P Memory = Unit {0}
+
+-- these nodes were told, for which there are decimals; or there are none
+abbrev pub Writes : {X : Type 0} → Result X EncodeFault → Building → Building → Type 0 → (Nodes → Type 0) → Type 0
+Writes result old new P Q = MatchResult result (λ x. P × (nodes : Nodes) × Q nodes × Told old new (nodes_events nodes)) (HasNone P)
+
+-- the ends have texts
+abbrev pub EndsHaveTexts : End → End → Type 0
+EndsHaveTexts lb ub = EndHasText lb × EndHasText ub
+
+-- two ends as attributes
+abbrev pub EndAttributes : End → End → List Attribute → Type 0
+EndAttributes lb ub attributes = (low : List ℕ) × (high : List ℕ) × IsEndText lb low × IsEndText ub high × (attributes ≡ with_attribute (codes "lb") low (with_attribute (codes "ub") high []))
+
+-- a goal's numbers have decimals
+abbrev pub GoalHasDecimals : Goal → Type 0
+GoalHasDecimals g = HasDecimal g.constant × All HasDecimal g.costs
+
+-- why an instance has no text: a number without a decimal, or a text that is too long
+abbrev pub EncodeFails : Parts → EncodeFault → Type 0
+EncodeFails p NotDecimal = HasDecimals p → ⊥
+EncodeFails p Long = HasDecimals p × IsTooLong p
+EncodeFails p Memory = Unit {0}
