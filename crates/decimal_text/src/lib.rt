@@ -35,4 +35,5 @@ pub use laws::{decimals_are_read_back, ratios_are_read_back};
 pub use places::write_decimal;
 pub use plain::write_cut12;
 pub use ratio::write_ratio;
+pub use space::trim;
 pub use whole::read_whole;

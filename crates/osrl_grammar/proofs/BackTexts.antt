@@ -1,0 +1,149 @@
+-- The texts of numbers, items and statuses are characters of XML.
+use Rattle.std.proofs.Common.{ℕ, zero, suc, ◌+◌, ◌/◌, ◌%◌, ◌^◌, ◌<◌, ◌==◌, Bool, true, false, cond, ℤ, pos, negsuc, List, [], ◌∷◌, ◌++◌, map, drop, reverse, refl, sym, subst, arith, lit<, lit≤, lt-ltb}
+use Rattle.std.specs.Prelude.{codes, decimal, flat_map}
+use Rattle.std.specs.Fmt.{signed_decimal, digits, digits_onto, digit_glyph}
+use Rattle.std.specs.List.{All}
+use Rattle.std.proofs.lemmas.List.{reverse-append}
+use Rattle.std.proofs.lemmas.List.Elements.{All-nil, All-cons}
+use Rattle.tree_grammar.specs.Characters.{IsXmlText, Each}
+use Rattle.element_tree.proofs.XmlTexts.{Printable, each_append, list_printable}
+use Rattle.rational.specs.Ratio.{Ratio}
+use Rattle.fraction.specs.Frac.{ratio}
+use Rattle.fraction.specs.declared.frac.Frac.{Frac}
+use Rattle.decimal_text.specs.Sign.{optional}
+use Rattle.decimal_text.specs.Plain.{point_text}
+use Rattle.decimal_text.specs.Exact.{denominator_text, ratio_text}
+use Rattle.certificate.specs.declared.lists.Mult.{Mult}
+use Rattle.certificate.specs.declared.nodes.Node.{Node}
+use Rattle.certificate.specs.declared.nodes.Node.TheVariants.{Split, Clash, Farkas, Bound}
+use Rattle.certificate.specs.declared.causes.Cause.{Cause}
+use Rattle.certificate.specs.declared.causes.Cause.TheVariants as causes
+use Rattle.certificate.specs.declared.causes.Step.{Step}
+use Rattle.certificate.specs.declared.causes.Step.TheVariants as steps
+use Rattle.osrl_grammar.specs.Cuts.{without_zeros, decimals, cut_size, has_sign, cut_text}
+use Rattle.osrl_grammar.specs.Items.{step_text}
+use Rattle.osrl_grammar.specs.Writing.{mult_text, node_text, cause_text, fraction_texts}
+use Rattle.osrl_grammar.proofs.BackFlat.{printable_text}
+
+-- what holds of each digit
+abbrev pub HoldsOfDigits : (ℕ → Type 0) → Type 0
+HoldsOfDigits P = (d : ℕ) → d < 10 → P (48 + d)
+
+glyph_holds : (P : ℕ → Type 0) → HoldsOfDigits P → (d : ℕ) → d < 10 → P (digit_glyph false d)
+glyph_holds P of_digits d small = subst (λ (b : Bool). P (cond b (48 + d) (87 + d))) (sym (lt-ltb d 10 small)) (of_digits d small)
+
+onto_by : (P : ℕ → Type 0) (b : Bool) (one more : List ℕ) → Each P one → Each P more → Each P (cond b one more)
+onto_by P true one more h k = h
+onto_by P false one more h k = k
+
+onto_each : (P : ℕ → Type 0) → HoldsOfDigits P → (k n : ℕ) (acc : List ℕ) → Each P acc → Each P (digits_onto k 10 false n acc)
+onto_each P of_digits zero n acc h = h
+onto_each P of_digits (suc k) n acc h =
+    let last : Each P (digit_glyph false (n % 10) ∷ acc) = (glyph_holds P of_digits (n % 10) (omega arith), h) in
+    onto_by P (n / 10 == 0) (digit_glyph false (n % 10) ∷ acc) (digits_onto k 10 false (n / 10) (digit_glyph false (n % 10) ∷ acc)) last (onto_each P of_digits k (n / 10) (digit_glyph false (n % 10) ∷ acc) last)
+
+-- it holds of each byte of a number
+pub decimal_each : (P : ℕ → Type 0) → HoldsOfDigits P → (n : ℕ) → Each P (decimal n)
+unfolding digits
+decimal_each P of_digits n = onto_each P of_digits 64 n [] tt
+
+pub signed_each : (P : ℕ → Type 0) → HoldsOfDigits P → P 45 → (z : ℤ) → Each P (signed_decimal z)
+signed_each P of_digits minus (pos n) = decimal_each P of_digits n
+signed_each P of_digits minus (negsuc n) = (minus, decimal_each P of_digits (suc n))
+
+denominator_each : (P : ℕ → Type 0) → HoldsOfDigits P → P 47 → (b : Bool) (d : ℕ) → Each P (cond b [] (47 ∷ decimal d))
+denominator_each P of_digits over true d = tt
+denominator_each P of_digits over false d = (over, decimal_each P of_digits d)
+
+pub ratio_each : (P : ℕ → Type 0) → HoldsOfDigits P → P 45 → P 47 → (x : Ratio) → Each P (ratio_text x)
+ratio_each P of_digits minus over x = each_append P (signed_decimal x.num) (denominator_text x.den) (signed_each P of_digits minus x.num) (denominator_each P of_digits over (x.den == 1) x.den)
+
+digits_printable : HoldsOfDigits Printable
+digits_printable d small = (omega (arith, small), omega (arith, small))
+
+pub decimal_printable : (n : ℕ) → Each Printable (decimal n)
+decimal_printable n = decimal_each Printable digits_printable n
+
+signed_printable : (z : ℤ) → Each Printable (signed_decimal z)
+signed_printable z = signed_each Printable digits_printable (lit≤ tt, lit< tt) z
+
+ratio_printable : (x : Ratio) → Each Printable (ratio_text x)
+ratio_printable x = ratio_each Printable digits_printable (lit≤ tt, lit< tt) (lit≤ tt, lit< tt) x
+
+-- numbers for people
+kept_printable : (b : Bool) (c : ℕ) (cs rest : List ℕ) → Each Printable (c ∷ cs) → Each Printable rest → Each Printable (cond b rest (c ∷ cs))
+kept_printable true c cs rest h k = k
+kept_printable false c cs rest h k = h
+
+zeros_printable : (cs : List ℕ) → Each Printable cs → Each Printable (without_zeros cs)
+zeros_printable [] h = tt
+zeros_printable (c ∷ cs) h = kept_printable (c == 48) c cs (without_zeros cs) h (zeros_printable cs h.1)
+
+turned_printable : (cs : List ℕ) → Each Printable cs → Each Printable (reverse cs)
+turned_printable [] h = tt
+turned_printable (c ∷ cs) h = subst (Each Printable) (sym (reverse-append (c ∷ []) cs)) (each_append Printable (reverse cs) (c ∷ []) (turned_printable cs h.1) (h.0, tt))
+
+behind_printable : (cs : List ℕ) → Each Printable cs → Each Printable (drop 1 cs)
+behind_printable [] h = tt
+behind_printable (c ∷ cs) h = h.1
+
+decimals_printable : (n : ℕ) → Each Printable (decimals n)
+decimals_printable n =
+    let ds = drop 1 (decimal (10 ^ 12 + n)) in
+    turned_printable (without_zeros (reverse ds)) (zeros_printable (reverse ds) (turned_printable ds (behind_printable (decimal (10 ^ 12 + n)) (decimal_printable (10 ^ 12 + n)))))
+
+point_printable : (ds : List ℕ) → Each Printable ds → Each Printable (point_text ds)
+point_printable [] h = tt
+point_printable (d ∷ ds) h = ((lit≤ tt, lit< tt), h)
+
+sign_printable : (negative : Bool) → Each Printable (optional 45 negative)
+sign_printable true = ((lit≤ tt, lit< tt), tt)
+sign_printable false = tt
+
+pub cut_printable : (x : Ratio) → Each Printable (cut_text x)
+cut_printable x =
+    let front = decimal (cut_size x / 10 ^ 12) in
+    let behind = point_text (decimals (cut_size x % 10 ^ 12)) in
+    each_append Printable (optional 45 (has_sign x.num (cut_size x))) (front ++ behind) (sign_printable (has_sign x.num (cut_size x)))
+    (each_append Printable front behind (decimal_printable (cut_size x / 10 ^ 12)) (point_printable (decimals (cut_size x % 10 ^ 12)) (decimals_printable (cut_size x % 10 ^ 12))))
+
+-- items
+mult_printable : (m : Mult) → Each Printable (mult_text m)
+mult_printable m = ((lit≤ tt, lit< tt), each_append Printable (decimal m.col) (58 ∷ ratio_text (ratio m.value)) (decimal_printable m.col) ((lit≤ tt, lit< tt), ratio_printable (ratio m.value)))
+
+mults_printable : (ms : List Mult) → Each Printable (flat_map mult_text ms)
+mults_printable [] = tt
+mults_printable (m ∷ ms) = each_append Printable (mult_text m) (flat_map mult_text ms) (mult_printable m) (mults_printable ms)
+
+pub node_printable : (n : Node) → Each Printable (node_text n)
+node_printable (Split j k) = each_append Printable (codes "split ") (decimal j ++ (32 ∷ signed_decimal k)) (list_printable (codes "split ") refl) (each_append Printable (decimal j) (32 ∷ signed_decimal k) (decimal_printable j) ((lit≤ tt, lit< tt), signed_printable k))
+node_printable (Clash c) = each_append Printable (codes "clash ") (decimal c) (list_printable (codes "clash ") refl) (decimal_printable c)
+node_printable (Farkas ms) = each_append Printable (codes "farkas") (flat_map mult_text ms) (list_printable (codes "farkas") refl) (mults_printable ms)
+node_printable (Bound ms) = each_append Printable (codes "bound") (flat_map mult_text ms) (list_printable (codes "bound") refl) (mults_printable ms)
+
+step_printable : (s : Step) → Each Printable (step_text s)
+step_printable steps.Values = list_printable (codes "values") refl
+step_printable steps.Ratio = list_printable (codes "ratio") refl
+step_printable steps.Pivot = list_printable (codes "pivot") refl
+step_printable steps.Point = list_printable (codes "point") refl
+step_printable steps.Ray = list_printable (codes "ray") refl
+step_printable steps.Check = list_printable (codes "check") refl
+
+pub cause_printable : (c : Cause) → Each Printable (cause_text c)
+cause_printable causes.Killed = list_printable (codes "killed") refl
+cause_printable (causes.NodeLimit n) = each_append Printable (codes "nodeLimit ") (decimal n) (list_printable (codes "nodeLimit ") refl) (decimal_printable n)
+cause_printable (causes.TurnLimit n) = each_append Printable (codes "turnLimit ") (decimal n) (list_printable (codes "turnLimit ") refl) (decimal_printable n)
+cause_printable (causes.Wide p) =
+    let step : Each Printable (32 ∷ step_text p.step) = ((lit≤ tt, lit< tt), step_printable p.step) in
+    let turn : Each Printable (32 ∷ (decimal p.turn ++ (32 ∷ step_text p.step))) = ((lit≤ tt, lit< tt), each_append Printable (decimal p.turn) (32 ∷ step_text p.step) (decimal_printable p.turn) step) in
+    each_append Printable (codes "wide ") (decimal p.node ++ (32 ∷ (decimal p.turn ++ (32 ∷ step_text p.step)))) (list_printable (codes "wide ") refl) (each_append Printable (decimal p.node) (32 ∷ (decimal p.turn ++ (32 ∷ step_text p.step))) (decimal_printable p.node) turn)
+cause_printable causes.Length = list_printable (codes "length") refl
+cause_printable causes.Memory = list_printable (codes "memory") refl
+
+pub fractions_xml : (xs : List Frac) → All IsXmlText (fraction_texts xs)
+fractions_xml [] = All-nil IsXmlText
+fractions_xml (x ∷ xs) = All-cons IsXmlText (ratio_text (ratio x)) (fraction_texts xs) (printable_text (ratio_text (ratio x)) (ratio_printable (ratio x))) (fractions_xml xs)
+
+pub nodes_xml : (ns : List Node) → All IsXmlText (map node_text ns)
+nodes_xml [] = All-nil IsXmlText
+nodes_xml (n ∷ ns) = All-cons IsXmlText (node_text n) (map node_text ns) (printable_text (node_text n) (node_printable n)) (nodes_xml ns)

@@ -1,0 +1,10 @@
+use Rattle.std.proofs.Common.{◌≡◌, List, [], drop}
+use Rattle.tree_grammar.specs.Elements.{Element}
+use Rattle.osrl_grammar.specs.declared.spot.Spot.{Spot}
+use Rattle.osrl_grammar.specs.Parts.{of_part}
+use Rattle.osrl_grammar.specs.Spots.{Stands, AreSpots}
+use Rattle.osrl_grammar.proofs.Walked.{Walks}
+use Rattle.osrl_grammar.proofs.checks.first_part.Given as goal
+
+abbrev pub invariant-loop-result : goal.invariant-loop-result
+invariant-loop-result l = (es : List Element) → AreSpots l.results es → Walks Spot Element Stands es (drop l.result-index l.results) (λ before. of_part l.part before ≡ [])

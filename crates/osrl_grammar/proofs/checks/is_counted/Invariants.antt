@@ -1,0 +1,10 @@
+use Rattle.std.proofs.Common.{List, drop}
+use Rattle.tree_grammar.specs.Elements.{Element}
+use Rattle.osrl_grammar.specs.declared.spot.Spot.{Spot}
+use Rattle.osrl_grammar.specs.Refusals.{WasSeen}
+use Rattle.osrl_grammar.specs.Spots.{Stands, AreSpots}
+use Rattle.osrl_grammar.proofs.Walked.{Walks}
+use Rattle.osrl_grammar.proofs.checks.is_counted.Given as goal
+
+abbrev pub invariant-loop-found : goal.invariant-loop-found
+invariant-loop-found l = (es : List Element) → AreSpots l.results es → Walks Spot Element Stands es (drop l.found-index l.results) (WasSeen l.part l.seen)

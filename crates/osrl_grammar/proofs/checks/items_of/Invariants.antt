@@ -1,0 +1,11 @@
+use Rattle.std.proofs.Common.{List, drop}
+use Rattle.std.specs.Prelude.{flat_map}
+use Rattle.tree_grammar.specs.Elements.{Element}
+use Rattle.osrl_grammar.specs.declared.spot.Spot.{Spot}
+use Rattle.osrl_grammar.specs.Parts.{items_of}
+use Rattle.osrl_grammar.specs.Spots.{Stands, AreSpots, AreItems}
+use Rattle.osrl_grammar.proofs.Walked.{Walks}
+use Rattle.osrl_grammar.proofs.checks.items_of.Given as goal
+
+abbrev pub invariant-loop-result : goal.invariant-loop-result
+invariant-loop-result l = (es : List Element) → AreSpots l.results es → Walks Spot Element Stands es (drop l.result-index l.results) (λ before. AreItems l.out.items (flat_map items_of before))

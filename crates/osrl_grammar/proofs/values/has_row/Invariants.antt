@@ -1,0 +1,6 @@
+use Rattle.std.proofs.Common.{◌≡◌, drop}
+use Rattle.osrl_grammar.specs.Writing.{row_values}
+use Rattle.osrl_grammar.proofs.values.has_row.Given as goal
+
+abbrev pub invariant-loop-mult : goal.invariant-loop-mult
+invariant-loop-mult l = row_values l.width (drop l.mult-index l.mults) ≡ row_values l.width l.mults

@@ -1,0 +1,11 @@
+use Rattle.std.proofs.Common.{◌≡◌, List, [], ◌++◌, drop}
+use Rattle.tree_grammar.specs.Elements.{Event, nodes_events}
+use Rattle.element_tree.specs.Building.{said}
+use Rattle.osrl_grammar.specs.Writing.{variable_values}
+use Rattle.osrl_grammar.proofs.values.tell_variables.Given as goal
+
+abbrev pub invariant-loop-j : goal.invariant-loop-j
+invariant-loop-j l = record {
+  waiting : l.b.attributes ≡ [];
+  told : (behind : List Event) → said l.b ++ nodes_events (variable_values l.j (drop l.j l.point)) behind ≡ said l.fn.b ++ nodes_events (variable_values 0 l.point) behind;
+}

@@ -1,0 +1,66 @@
+-- The reports that come back from their texts.
+use Rattle.std.specs.Prelude.{◌≡◌, ◌≢◌, ℕ, ◌^◌, ◌<◌, ◌≤◌, unsigned_abs, Option, None, Some, List, [], length}
+use Rattle.std.specs.List.{All}
+use Rattle.tree_grammar.specs.Characters.{IsXmlText}
+use Rattle.tree_walk.specs.Texts.{document_limit}
+use Rattle.decimal_text.specs.Space.{trimmed}
+use Rattle.rational.specs.Width.{most}
+use Rattle.certificate.specs.declared.lists.Mult.{Mult}
+use Rattle.certificate.specs.declared.nodes.Node.{Node}
+use Rattle.certificate.specs.declared.nodes.Node.TheVariants.{Split, Clash, Farkas, Bound}
+use Rattle.certificate.specs.declared.causes.Cause.{Cause}
+use Rattle.certificate.specs.declared.causes.Cause.TheVariants as causes
+use Rattle.certificate.specs.declared.claims.Claim.{Claim}
+use Rattle.certificate.specs.declared.claims.Claim.TheVariants.{Optimal, Infeasible, Unbounded, BestSoFar, Unsure}
+use Rattle.osrl_grammar.specs.declared.report.Report.{Report}
+use Rattle.osrl_grammar.specs.Writing.{report_text}
+
+-- characters of XML, one at least, with no white space round them
+pub record IsBare (text : List ℕ) : Type 0 where
+  pub some : text ≢ []
+  pub bare : trimmed text ≡ text
+  pub characters : IsXmlText text
+
+-- a text that is bare, or none
+abbrev pub IsBareOrNone : Option (List ℕ) → Type 0
+IsBareOrNone None = Unit {0}
+IsBareOrNone (Some text) = IsBare text
+
+-- each column is a number of its type, as every multiplier's is
+abbrev pub HaveColumns : List Mult → Type 0
+HaveColumns ms = All (λ m. m.col < 2 ^ 32) ms
+
+-- the numbers are of their types, and a split's isn't the least of its type, whose size no fraction has
+abbrev pub NodeComesBack : Node → Type 0
+NodeComesBack (Split j k) = (j < 2 ^ 32) × (unsigned_abs k ≤ most)
+NodeComesBack (Clash c) = c < 2 ^ 32
+NodeComesBack (Farkas ms) = HaveColumns ms
+NodeComesBack (Bound ms) = HaveColumns ms
+
+-- the numbers are of their types, as those of every cause are
+abbrev pub CauseComesBack : Cause → Type 0
+CauseComesBack causes.Killed = Unit {0}
+CauseComesBack (causes.NodeLimit n) = n < 2 ^ 32
+CauseComesBack (causes.TurnLimit n) = n < 2 ^ 32
+CauseComesBack (causes.Wide p) = (p.node < 2 ^ 32) × (p.turn < 2 ^ 64)
+CauseComesBack causes.Length = Unit {0}
+CauseComesBack causes.Memory = Unit {0}
+
+-- a tree has a node
+abbrev pub TreeComesBack : List Node → Type 0
+TreeComesBack ns = (0 < length ns) × All NodeComesBack ns
+
+abbrev pub ClaimComesBack : Option Claim → Type 0
+ClaimComesBack None = Unit {0}
+ClaimComesBack (Some (Optimal x v ns)) = TreeComesBack ns
+ClaimComesBack (Some (Infeasible ns)) = TreeComesBack ns
+ClaimComesBack (Some (Unbounded x v r)) = Unit {0}
+ClaimComesBack (Some (BestSoFar x v c)) = CauseComesBack c
+ClaimComesBack (Some (Unsure c)) = CauseComesBack c
+
+-- the text is no longer than a document may be, and what the report says can be written and read
+pub record ComesBack (r : Report) : Type 0 where
+  pub short : length (report_text r) ≤ document_limit
+  pub job : IsBareOrNone r.job
+  pub message : IsBareOrNone r.message
+  pub claim : ClaimComesBack r.claim

@@ -1,0 +1,108 @@
+//! Tells the parts of a claim's certificate.
+
+ghost use Rattle.std.specs.Prelude.{◌≡◌, [], ◌∷◌, OnOk, map, codes};
+ghost use Rattle.tree_grammar.specs.Elements.{none, nodes_events};
+ghost use Rattle.osrl_grammar.specs.Writing as writing;
+ghost use Rattle.osrl_grammar.specs.Parts as named;
+ghost use Rattle.osrl_grammar.specs.Telling.{Tells, opening};
+
+use crate::item_texts::{cause_text, node_text};
+use crate::parts::{Part, part_name};
+use crate::telling::{close, leaf, open_with};
+use certificate::{Cause, Node};
+use decimal_text::write_ratio;
+use element_tree::TreeBuilder;
+use fraction::Frac;
+use os_io::{Memory, Text};
+use std::alloc::Global;
+
+/// Tells an item that holds a number.
+fn tell_fraction(alloc: Global, b: &mut TreeBuilder, value: Frac) -> Result<(), Memory>
+    requires { b.old.attributes ≡ [] }
+    ensures { OnOk result (Tells b.old b.new (nodes_events (writing.item_nodes (writing.fraction_texts (value ∷ []))))) }
+{
+    let mut text = Text::new(alloc);
+    write_ratio(value, &mut text)?;
+    leaf(b, b"item", text.as_slice())
+}
+
+/// Tells items that hold numbers.
+fn tell_fractions(alloc: Global, b: &mut TreeBuilder, values: &[Frac]) -> Result<(), Memory>
+    requires { b.old.attributes ≡ [] }
+    ensures { OnOk result (Tells b.old b.new (nodes_events (writing.item_nodes (writing.fraction_texts values.now)))) }
+{
+    for value in values {
+        tell_fraction(alloc, b, *value)?;
+    }
+    Ok(())
+}
+
+/// Tells items that hold nodes.
+fn tell_nodes(alloc: Global, b: &mut TreeBuilder, nodes: &[Node]) -> Result<(), Memory>
+    requires { b.old.attributes ≡ [] }
+    ensures { OnOk result (Tells b.old b.new (nodes_events (writing.item_nodes (map writing.node_text nodes.now)))) }
+{
+    for node in nodes {
+        let text = node_text(alloc, node)?;
+        leaf(b, b"item", text.as_slice())?;
+    }
+    Ok(())
+}
+
+/// Begins a part.
+fn open_part(b: &mut TreeBuilder, part: Part) -> Result<(), Memory>
+    requires { b.old.attributes ≡ [] }
+    ensures { OnOk result (Tells b.old b.new (opening (codes "otherSolutionResult") (writing.only (codes "name") (named.part_name part)))) }
+{
+    open_with(b, b"otherSolutionResult", b"name", part_name(part))
+}
+
+/// Tells a part that holds numbers.
+pub(crate) fn tell_numbers(
+    alloc: Global,
+    b: &mut TreeBuilder,
+    part: Part,
+    values: &[Frac],
+) -> Result<(), Memory>
+    requires { b.old.attributes ≡ [] }
+    ensures { OnOk result (Tells b.old b.new (λ k. nodes_events (writing.certificate_part part (writing.fraction_texts values.now) none) k)) }
+{
+    open_part(b, part)?;
+    tell_fractions(alloc, b, values)?;
+    close(b, b"otherSolutionResult")
+}
+
+/// Tells a tree of cases.
+pub(crate) fn tell_tree(alloc: Global, b: &mut TreeBuilder, nodes: &[Node]) -> Result<(), Memory>
+    requires { b.old.attributes ≡ [] }
+    ensures { OnOk result (Tells b.old b.new (λ k. nodes_events (writing.tree_part nodes.now) k)) }
+{
+    open_part(b, Part::Tree)?;
+    tell_nodes(alloc, b, nodes)?;
+    close(b, b"otherSolutionResult")
+}
+
+/// Tells why a search stopped.
+pub(crate) fn tell_cause(alloc: Global, b: &mut TreeBuilder, cause: Cause) -> Result<(), Memory>
+    requires { b.old.attributes ≡ [] }
+    ensures { OnOk result (Tells b.old b.new (λ k. nodes_events (writing.cause_part cause) k)) }
+{
+    let text = cause_text(alloc, cause)?;
+    open_part(b, Part::Cause)?;
+    leaf(b, b"item", text.as_slice())?;
+    close(b, b"otherSolutionResult")
+}
+
+/// Tells a point and its value.
+pub(crate) fn tell_point(
+    alloc: Global,
+    b: &mut TreeBuilder,
+    point: &[Frac],
+    value: Frac,
+) -> Result<(), Memory>
+    requires { b.old.attributes ≡ [] }
+    ensures { OnOk result (Tells b.old b.new (λ k. nodes_events (writing.point_parts point.now value none) k)) }
+{
+    tell_numbers(alloc, b, Part::Point, point)?;
+    tell_numbers(alloc, b, Part::Value, &[value])
+}

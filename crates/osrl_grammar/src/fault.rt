@@ -1,0 +1,39 @@
+//! Why bytes are no report.
+
+use doc_tree::TreeFault;
+use std::alloc::AllocError;
+
+/// Why bytes are no report. Where several stand together, `Root` comes first, then the first item with a fault, of whose
+/// faults `Item` comes first and `Wide` last, then `Count`, then `Missing`. Items are those of a certificate's parts,
+/// counted from 1 over the whole document in its order.
+#[derive(Clone, Copy, PartialEq, Debug, Drop)]
+pub enum OsrlFault {
+    /// They are no document within the limits.
+    Tree(TreeFault),
+    /// The root isn't `osrl`.
+    Root,
+    /// There is no general status, no job status of the six, a solution without a status of the five, or without a part
+    /// that its status needs.
+    Missing,
+    /// The n-th item isn't of its shape.
+    Item { n: u64 },
+    /// There are two solutions, or two parts of one name, or a part has more or fewer items than it may have.
+    Count,
+    /// A number of the n-th item isn't one.
+    Number { n: u64 },
+    /// A number of the n-th item is too great.
+    Wide { n: u64 },
+    /// There was no memory.
+    Memory,
+}
+
+impl From<AllocError> for OsrlFault {
+    ghost from_gives = { λ _ e. e ≡ Memory };
+
+    ghost use Rattle.std.specs.Prelude.{◌≡◌};
+    ghost use Rattle.osrl_grammar.specs.declared.fault.OsrlFault.TheVariants.{Memory};
+
+    fn from(_e: AllocError) -> OsrlFault {
+        OsrlFault::Memory
+    }
+}

@@ -1,0 +1,37 @@
+//! Result documents (Optimization Services result language, in this project's profile): reports as documents say them.
+//!
+//! [`decode`] gives the report that a document says, or why it says none. [`encode`] writes a report as a document, and
+//! [`comes_back`] says that this is the document of that report. [`refusal_text`] says in words why a document is refused.
+#![tactic(auto)]
+
+mod along;
+mod certificates;
+mod checks;
+mod claims;
+mod document;
+mod fault;
+mod item_texts;
+mod items;
+mod laws;
+mod numbers;
+mod parts;
+mod passing;
+mod pieces;
+mod reading;
+mod reading_laws;
+mod report;
+mod spot;
+mod telling;
+#[cfg(test)]
+mod tests;
+mod texts;
+mod values;
+mod words;
+
+pub use document::encode;
+pub use fault::OsrlFault;
+pub use laws::comes_back;
+pub use reading::{MOST_BYTES, decode};
+pub use reading_laws::{document_has_one_refusal, document_has_one_report, report_is_not_refused};
+pub use report::{JobStatus, Report};
+pub use texts::refusal_text;

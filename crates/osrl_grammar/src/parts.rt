@@ -1,0 +1,100 @@
+//! The parts of a claim's certificate, and the words of a result document.
+
+ghost use Rattle.std.specs.Prelude.{◌≡◌};
+ghost use Rattle.osrl_grammar.specs.Parts as named;
+
+use crate::report::JobStatus;
+use crate::words::Worded;
+use certificate::Step;
+
+/// A part of a certificate. Its name is that of a result.
+#[derive(Clone, Copy, PartialEq, Eq, Debug)]
+pub(crate) enum Part {
+    Point,
+    Value,
+    Ray,
+    Tree,
+    Cause,
+}
+
+/// What a solution's status claims.
+#[derive(Clone, Copy, PartialEq, Eq, Debug)]
+pub(crate) enum Claiming {
+    Optimal,
+    Infeasible,
+    Unbounded,
+    BestSoFar,
+    Unsure,
+}
+
+/// What is wrong with an item: it isn't of its shape, a text in it isn't a number, or a number is too great. Of several
+/// the first of these is told.
+#[derive(Clone, Copy, PartialEq, Eq, Debug)]
+pub(crate) enum Unread {
+    NoShape,
+    NoNumber,
+    TooGreat,
+}
+
+/// The name of a part's result.
+pub(crate) fn part_name(part: Part) -> &'static [u8]
+    ensures { result.now ≡ named.part_name part }
+{
+    match part {
+        Part::Point => b"os_cert.point",
+        Part::Value => b"os_cert.value",
+        Part::Ray => b"os_cert.ray",
+        Part::Tree => b"os_cert.tree",
+        Part::Cause => b"os_cert.cause",
+    }
+}
+
+impl Worded for Claiming {
+    ghost use Rattle.osrl_grammar.specs.Refusals.{claiming_text};
+
+    ghost text = { claiming_text };
+
+    fn word(self) -> &'static [u8] {
+        match self {
+            Claiming::Optimal => b"optimal",
+            Claiming::Infeasible => b"infeasible",
+            Claiming::Unbounded => b"unbounded",
+            Claiming::BestSoFar => b"bestSoFar",
+            Claiming::Unsure => b"unsure",
+        }
+    }
+}
+
+impl Worded for JobStatus {
+    ghost use Rattle.osrl_grammar.specs.Refusals.{status_text};
+
+    ghost text = { status_text };
+
+    fn word(self) -> &'static [u8] {
+        match self {
+            JobStatus::Unknown => b"unknown",
+            JobStatus::Issued => b"issued",
+            JobStatus::Waiting => b"waiting",
+            JobStatus::Running => b"running",
+            JobStatus::Killed => b"killed",
+            JobStatus::Finished => b"finished",
+        }
+    }
+}
+
+impl Worded for Step {
+    ghost use Rattle.osrl_grammar.specs.Items.{step_text};
+
+    ghost text = { step_text };
+
+    fn word(self) -> &'static [u8] {
+        match self {
+            Step::Values => b"values",
+            Step::Ratio => b"ratio",
+            Step::Pivot => b"pivot",
+            Step::Point => b"point",
+            Step::Ray => b"ray",
+            Step::Check => b"check",
+        }
+    }
+}

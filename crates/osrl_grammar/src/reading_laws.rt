@@ -1,0 +1,28 @@
+//! What the definitions say together of documents that are read: each is one report, or is refused in one way.
+
+ghost use Rattle.std.specs.Prelude.{◌≡◌, ◌≢◌, ℕ, List};
+ghost use Rattle.tree_grammar.specs.Elements.{Element};
+ghost use Rattle.osrl_grammar.specs.declared.report.Report.{Report};
+ghost use Rattle.osrl_grammar.specs.declared.fault.OsrlFault.{OsrlFault};
+ghost use Rattle.osrl_grammar.specs.declared.fault.OsrlFault.TheVariants.{Memory};
+ghost use Rattle.osrl_grammar.specs.Refusals.{IsRefused};
+ghost use Rattle.osrl_grammar.specs.Meaning.{IsReport, IsReportText};
+ghost use Rattle.osrl_grammar.specs.Reading.{DecodeFails};
+
+/// Law: a document is one report at most, and so are bytes.
+pub fn document_has_one_report()
+    ensures root { (root : Element) (r s : Report) → IsReport root r → IsReport root s → r ≡ s }
+    ensures text { (bytes : List ℕ) (r s : Report) → IsReportText bytes r → IsReportText bytes s → r ≡ s }
+{}
+
+/// Law: a document is refused in one way at most, and so are bytes, but for want of memory.
+pub fn document_has_one_refusal()
+    ensures root { (root : Element) (f g : OsrlFault) → IsRefused root f → IsRefused root g → f ≡ g }
+    ensures text { (bytes : List ℕ) (f g : OsrlFault) → f ≢ Memory → g ≢ Memory → DecodeFails bytes f → DecodeFails bytes g → f ≡ g }
+{}
+
+/// Law: a document that is a report isn't refused, nor are its bytes, but for want of memory.
+pub fn report_is_not_refused()
+    ensures root { (root : Element) (r : Report) (f : OsrlFault) → IsReport root r → IsRefused root f → ⊥ }
+    ensures text { (bytes : List ℕ) (r : Report) (f : OsrlFault) → IsReportText bytes r → DecodeFails bytes f → f ≡ Memory }
+{}

@@ -1,0 +1,179 @@
+//! Tells the values that are for people: cut after twelve decimals.
+
+ghost use Rattle.std.specs.Prelude.{◌≡◌, ◌↔◌, [], ◌∷◌, OnOk, IfOk, IsFalse, length};
+ghost use Rattle.tree_grammar.specs.Elements.{none, nodes_events};
+ghost use Rattle.fraction.specs.Frac.{ratio};
+ghost use Rattle.osrl_grammar.specs.Cuts as cuts;
+ghost use Rattle.osrl_grammar.specs.Writing as writing;
+ghost use Rattle.osrl_grammar.specs.Telling.{Tells};
+
+use crate::telling::{close, leaf_with, open};
+use certificate::{Mult, Node};
+use decimal_text::write_cut12;
+use element_tree::TreeBuilder;
+use fraction::Frac;
+use itoa::Buffer;
+use os_io::{Memory, Text};
+use std::alloc::Global;
+
+/// The text of a number, cut.
+fn cut_text(alloc: Global, value: Frac) -> Result<Text, Memory>
+    ensures { IfOk result (λ t. t ≡ cuts.cut_text (ratio value)) }
+{
+    let mut text = Text::new(alloc);
+    write_cut12(value, &mut text)?;
+    Ok(text)
+}
+
+/// Tells an element with an index that holds a cut number.
+fn tell_indexed(
+    alloc: Global,
+    b: &mut TreeBuilder,
+    name: &[u8],
+    index: &[u8],
+    value: Frac,
+) -> Result<(), Memory>
+    requires { b.old.attributes ≡ [] }
+    ensures { OnOk result (Tells b.old b.new (λ k. nodes_events (writing.indexed name.now index.now value none) k)) }
+{
+    let text = cut_text(alloc, value)?;
+    leaf_with(b, name, b"idx", index, text.as_slice())
+}
+
+/// Tells the values of the variables.
+fn tell_variables(alloc: Global, b: &mut TreeBuilder, point: &[Frac]) -> Result<(), Memory>
+    requires { b.old.attributes ≡ [] }
+    ensures { OnOk result (Tells b.old b.new (nodes_events (writing.variable_values 0 point.now))) }
+{
+    for j in 0..point.len() {
+        let mut index = Buffer::new();
+        tell_indexed(alloc, b, b"var", index.format(j).as_bytes(), point[j])?;
+    }
+    Ok(())
+}
+
+/// Tells the values of the variables and of the objective.
+pub(crate) fn tell_point_values(
+    alloc: Global,
+    b: &mut TreeBuilder,
+    point: &[Frac],
+    value: Frac,
+) -> Result<(), Memory>
+    requires { b.old.attributes ≡ [] }
+    ensures { OnOk result (Tells b.old b.new (λ k. nodes_events (writing.point_values point.now value none) k)) }
+{
+    open(b, b"variables")?;
+    open(b, b"values")?;
+    tell_variables(alloc, b, point)?;
+    close(b, b"values")?;
+    close(b, b"variables")?;
+    open(b, b"objectives")?;
+    open(b, b"values")?;
+    tell_indexed(alloc, b, b"obj", b"-1", value)?;
+    close(b, b"values")?;
+    close(b, b"objectives")
+}
+
+/// Tells a multiplier, where it is that of a row.
+fn tell_row_value(
+    alloc: Global,
+    b: &mut TreeBuilder,
+    width: usize,
+    mult: Mult,
+) -> Result<(), Memory>
+    requires { b.old.attributes ≡ [] }
+    ensures { OnOk result (Tells b.old b.new (nodes_events (writing.row_values width (mult ∷ [])))) }
+{
+    let col = mult.col as usize;
+    if col < width {
+        return Ok(());
+    }
+    let mut index = Buffer::new();
+    tell_indexed(
+        alloc,
+        b,
+        b"con",
+        index.format(col - width).as_bytes(),
+        mult.value,
+    )
+}
+
+/// Tells the multipliers of rows.
+fn tell_row_values(
+    alloc: Global,
+    b: &mut TreeBuilder,
+    width: usize,
+    mults: &[Mult],
+) -> Result<(), Memory>
+    requires { b.old.attributes ≡ [] }
+    ensures { OnOk result (Tells b.old b.new (nodes_events (writing.row_values width mults.now))) }
+{
+    for mult in mults {
+        tell_row_value(alloc, b, width, *mult)?;
+    }
+    Ok(())
+}
+
+/// Whether a row has a multiplier.
+fn has_row(width: usize, mults: &[Mult]) -> bool
+    ensures { IsFalse result ↔ (writing.row_values width mults.now ≡ none) }
+{
+    for mult in mults {
+        if mult.col as usize >= width {
+            return true;
+        }
+    }
+    false
+}
+
+/// Tells the multipliers of rows as a part of the solution, where there are any.
+fn tell_rows_part(
+    alloc: Global,
+    b: &mut TreeBuilder,
+    width: usize,
+    mults: &[Mult],
+) -> Result<(), Memory>
+    requires { b.old.attributes ≡ [] }
+    ensures { OnOk result (Tells b.old b.new (λ k. nodes_events (writing.rows_part width mults.now none) k)) }
+{
+    if !has_row(width, mults) {
+        return Ok(());
+    }
+    open(b, b"constraints")?;
+    open(b, b"dualValues")?;
+    tell_row_values(alloc, b, width, mults)?;
+    close(b, b"dualValues")?;
+    close(b, b"constraints")
+}
+
+/// Tells the dual values of a tree of this one node, where it has some.
+fn tell_node_values(
+    alloc: Global,
+    b: &mut TreeBuilder,
+    width: usize,
+    node: &Node,
+) -> Result<(), Memory>
+    requires { b.old.attributes ≡ [] }
+    ensures { OnOk result (Tells b.old b.new (λ k. nodes_events (writing.dual_values width (node.now ∷ []) none) k)) }
+{
+    match node {
+        Node::Bound(mults) => tell_rows_part(alloc, b, width, mults.as_slice()),
+        Node::Split { .. } | Node::Clash { .. } | Node::Farkas(_) => Ok(()),
+    }
+}
+
+/// Tells the dual values, where a tree has some.
+pub(crate) fn tell_dual_values(
+    alloc: Global,
+    b: &mut TreeBuilder,
+    width: usize,
+    tree: &[Node],
+) -> Result<(), Memory>
+    requires { b.old.attributes ≡ [] }
+    ensures { OnOk result (Tells b.old b.new (λ k. nodes_events (writing.dual_values width tree.now none) k)) }
+{
+    if tree.len() != 1 {
+        return Ok(());
+    }
+    tell_node_values(alloc, b, width, &tree[0])
+}
