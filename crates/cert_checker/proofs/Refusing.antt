@@ -12,14 +12,14 @@ use Rattle.evidence.proofs.Pending.{start, none_left, one_more, clash_step, fark
 use Rattle.cert_checker.specs.declared.refused.Refused.{Refused}
 use Rattle.cert_checker.specs.Points.{PointRefuses}
 use Rattle.cert_checker.specs.Rays.{RayRefuses}
-use Rattle.cert_checker.specs.Leaves.{LeafHolds, LeafRefuses}
+use Rattle.cert_checker.specs.Leaves.{LeafHolds, LeafRefuses, ClashHolds, ClashRefuses}
 use Rattle.cert_checker.specs.Trees.{TreeRefuses}
 use Rattle.cert_checker.specs.Refusals.{IsRefused}
 use Rattle.cert_checker.proofs.Legal.{pair_of}
 use Rattle.cert_checker.proofs.Moves.{slope_is}
 use Rattle.cert_checker.proofs.Walks.{farkas_from, bound_from}
 
-not_point : (I : Instance) (x : List Ratio) (v : Ratio) (r : Refused) → HasValue I x v → PointFits I x → PointRefuses I x v r → ⊥
+pub not_point : (I : Instance) (x : List Ratio) (v : Ratio) (r : Refused) → HasValue I x v → PointFits I x → PointRefuses I x v r → ⊥
 not_point I x v r has fits (inl (c, m, e)) = m.0 has.feasible.count
 not_point I x v r has fits (inr (inl (n, c, inl out, e))) = out.out (record { between = has.feasible.variables c out.inside; whole = has.feasible.whole c out.inside })
 not_point I x v r has fits (inr (inl (n, c, inr out, e))) = out.out (has.feasible.rows out.row out.inside)
@@ -35,19 +35,22 @@ not_ray I d r ray fits (inr (inr (inl (n, vars, inr (i, w, e))))) = w.wide (fits
 not_ray I d r ray fits (inr (inr (inr (n, vars, rows, inl (unfit, e))))) = unfit fits.goal
 not_ray I d r ray fits (inr (inr (inr (n, vars, rows, inr (f, other, e))))) = other (subst (λ s. IsBelow s none) (sym (slope_is I d)) ray.better)
 
-not_leaf : (I : Instance) (ms : List Multiplier) (z : Option Ratio) (n : ℕ) (r : Refused) → LeafHolds I ms z → LeafRefuses I ms z n r → ⊥
+pub not_leaf : (I : Instance) (ms : List Multiplier) (z : Option Ratio) (n : ℕ) (r : Refused) → LeafHolds I ms z → LeafRefuses I ms z n r → ⊥
 not_leaf I ms z n r h (inl (c, f, e)) = f.out (pair_of I ms h.legal f.at f.inside)
 not_leaf I ms z n r h (inr (inl (l, inl (j, o, e)))) = let f = h.forms j o.inside in o.other f.is
 not_leaf I ms z n r h (inr (inl (l, inr (j, o, e)))) = let f = h.forms j o.inside in o.wide f.fits
 not_leaf I ms z n r h (inr (inr (l, f, inl (unfit, e)))) = unfit h.sum.fits
 not_leaf I ms z n r h (inr (inr (l, f, inr (g, other, e)))) = other h.sum.reaches
 
+pub not_clash : (I : Instance) (c n : ℕ) (r : Refused) → ClashHolds I c → ClashRefuses I c n r → ⊥
+not_clash I c n r h (inl (past, e)) = past h.0
+not_clash I c n r h (inr (inside, other, e)) = other h.1
+
 not_tree : (Is : List Instance) (ns : List Node) (z : Option Ratio) (n : ℕ) (r : Refused) → ShowsAll Is ns z → TreeRefuses Is ns z n r → ⊥
 not_tree [] [] z n r s q = q
 not_tree [] (x ∷ ns) z n r s q = one_more x ns z s
 not_tree (I ∷ Is) [] z n r s q = none_left I Is z s
-not_tree (I ∷ Is) (ClashAt c ∷ ns) z n r s (inl (inl (past, e))) = let t = (clash_step I Is c ns z).0 s in past t.0.0
-not_tree (I ∷ Is) (ClashAt c ∷ ns) z n r s (inl (inr (h, no_clash, e))) = let t = (clash_step I Is c ns z).0 s in no_clash t.0.1
+not_tree (I ∷ Is) (ClashAt c ∷ ns) z n r s (inl q) = let t = (clash_step I Is c ns z).0 s in not_clash I c n r t.0 q
 not_tree (I ∷ Is) (ClashAt c ∷ ns) z n r s (inr (h, q)) = let t = (clash_step I Is c ns z).0 s in not_tree Is ns z (n + 1) r t.1 q
 not_tree (I ∷ Is) (FarkasBy ms ∷ ns) z n r s (inl q) = let t = (farkas_step I Is ms ns z).0 s in not_leaf I ms None n r (farkas_from I ms t.0 t.1) q
 not_tree (I ∷ Is) (FarkasBy ms ∷ ns) z n r s (inr (h, q)) = let t = (farkas_step I Is ms ns z).0 s in not_tree Is ns z (n + 1) r t.2 q

@@ -9,3 +9,5 @@ pub mod Trees
 pub mod Refusals
 pub mod Cuts
 pub mod Slots
+pub mod Documents
+pub mod Texts

@@ -1,9 +1,48 @@
+ghost use Rattle.std.specs.Prelude.{◌≡◌, ℕ, Some, Result, MatchResult, List};
 ghost use Rattle.evidence.specs.Instance.{Instance};
-ghost use Rattle.evidence.specs.Claim.{Claim, Accepts};
+ghost use Rattle.evidence.specs.Claim.{Claim, Accepts, IsTrueOf};
+ghost use Rattle.instance.specs.Parts.{Parts};
+ghost use Rattle.instance.specs.Program.{program};
+ghost use Rattle.certificate.specs.declared.claims.Claim as carried;
+ghost use Rattle.certificate.specs.Means as Means;
+ghost use Rattle.osil_grammar.specs.InstanceText.{IsInstanceText};
+ghost use Rattle.osrl_grammar.specs.Meaning.{IsReportText};
+ghost use Rattle.osrl_grammar.specs.declared.report.Report.{Report};
 ghost use Rattle.cert_checker.specs.declared.refused.Refused.{Refused};
+ghost use Rattle.cert_checker.specs.declared.refused.Refused.TheVariants.{Memory};
+ghost use Rattle.cert_checker.specs.declared.documents.Kind.{Kind};
 ghost use Rattle.cert_checker.specs.Refusals.{IsRefused};
+ghost use Rattle.cert_checker.specs.Documents.{kind, IsAcceptedText, DocsRefuse};
+ghost use Rattle.cert_checker.specs.Texts.{IsAnswerText};
 
 /// What is refused isn't accepted.
 pub fn refused_is_not_accepted()
     ensures { (I : Instance) (claim : Claim) (r : Refused) → IsRefused I claim r → Accepts I claim → ⊥ }
+{}
+
+/// A claim is refused for one reason at most.
+pub fn claims_have_one_refusal()
+    ensures { (I : Instance) (claim : Claim) (r s : Refused) → IsRefused I claim r → IsRefused I claim s → r ≡ s }
+{}
+
+/// Documents that are accepted aren't refused, but for want of memory.
+pub fn accepted_is_not_refused()
+    ensures { (osil osrl : List ℕ) (k : Kind) (r : Refused) → IsAcceptedText osil osrl k → DocsRefuse osil osrl r → r ≡ Memory }
+{}
+
+/// Documents are accepted as one kind at most.
+pub fn documents_have_one_kind()
+    ensures { (osil osrl : List ℕ) (j k : Kind) → IsAcceptedText osil osrl j → IsAcceptedText osil osrl k → j ≡ k }
+{}
+
+/// What accepted documents claim is true: whichever instance the first stands for, and whichever report the second is,
+/// the report's claim is of the accepted kind, and what it says holds of the instance's points.
+pub fn accepted_documents_are_true()
+    ensures kind { (osil osrl : List ℕ) (k : Kind) (report : Report) (c : carried.Claim) → IsAcceptedText osil osrl k → IsReportText osrl report → report.claim ≡ Some c → kind c ≡ Some k }
+    ensures is_true { (osil osrl : List ℕ) (k : Kind) (p : Parts) (report : Report) (c : carried.Claim) → IsAcceptedText osil osrl k → IsInstanceText osil p → IsReportText osrl report → report.claim ≡ Some c → IsTrueOf (program p) (Means.claim c) }
+{}
+
+/// Documents have one answer, in one text; want of memory has none.
+pub fn documents_have_one_answer()
+    ensures { (osil osrl : List ℕ) (a b : Result Kind Refused) (s t : List ℕ) → MatchResult a (IsAcceptedText osil osrl) (DocsRefuse osil osrl) → MatchResult b (IsAcceptedText osil osrl) (DocsRefuse osil osrl) → IsAnswerText a s → IsAnswerText b t → s ≡ t }
 {}

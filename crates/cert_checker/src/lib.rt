@@ -8,12 +8,18 @@
 //! The tree is walked in a loop: the cuts of the case at hand are kept beside what they replaced, in room that
 //! [`Scratch`] has from before, and undone on the way back. A leaf costs time in proportion to the variables and to the
 //! entries of the rows that its multipliers name. `check` takes no memory.
+//!
+//! [`check_docs`] answers the same of two documents: an instance's, and a result's that carries the claim. [`answer_text`] says
+//! its answer in words.
 #![tactic(auto)]
 
 mod checking;
 mod clash;
 mod columns;
 mod cuts;
+#[cfg(test)]
+mod document_tests;
+mod documents;
 mod forms;
 mod laws;
 mod leaf;
@@ -28,9 +34,15 @@ mod slots;
 mod sums;
 #[cfg(test)]
 mod tests;
+mod texts;
 mod walk;
 
 pub use checking::{check, has_room};
-pub use laws::refused_is_not_accepted;
+pub use documents::{Kind, check_docs};
+pub use laws::{
+    accepted_documents_are_true, accepted_is_not_refused, claims_have_one_refusal,
+    documents_have_one_answer, documents_have_one_kind, refused_is_not_accepted,
+};
 pub use refused::Refused;
 pub use scratch::Scratch;
+pub use texts::answer_text;

@@ -1,20 +1,25 @@
-use crate::{Refused, Scratch, check, has_room};
+use crate::texts::refused_text;
+use crate::{Scratch, check, has_room};
 use certificate::{Cause, Cert, Claim, Mult, Mults, Node, Point, Ray};
 use fraction::{End, Entry, Frac};
 use instance::{Costs, Goal, Instance, Row, Sense, Var};
+use os_io::{Memory, Text};
 use std::alloc::{AllocError, Global};
 use std::test::Fail;
 
-/// What the check answers; where it may not be called, none.
+/// What the check answers, in words; where it may not be called, nothing.
 fn answer(
+    alloc: Global,
     instance: &Instance,
     claim: &Claim,
     scratch: &mut Scratch,
-) -> Option<Result<(), Refused>> {
-    if has_room(instance, claim, scratch) {
-        Some(check(instance, claim, scratch))
-    } else {
-        None
+) -> Result<Text, Memory> {
+    if !has_room(instance, claim, scratch) {
+        return Ok(Text::new(alloc));
+    }
+    match check(instance, claim, scratch) {
+        Ok(()) => Text::from_slice(alloc, b"accepted"),
+        Err(reason) => refused_text(alloc, &reason),
     }
 }
 
@@ -81,34 +86,33 @@ fn slope(alloc: Global) -> Result<Option<Instance>, Fail> {
     greatest(alloc, entries, 2, End::At(none), none)
 }
 
-/// One multiplier, or two.
-fn mults(alloc: Global, first: Frac, second: Frac) -> Result<Mults, AllocError> {
-    let mut mults = Mults::new(alloc);
-    mults.push(Mult {
+/// `bound 0:-1`, and `farkas 0:2 1:-1`.
+fn leaves(alloc: Global) -> Result<(Mults, Mults), Fail> {
+    let less = Frac::of(-1, 1)?;
+    let mut bound = Mults::new(alloc);
+    bound.push(Mult {
         col: 0,
-        value: first,
+        value: less,
     })?;
-    if second.numer != 0 {
-        mults.push(Mult {
-            col: 1,
-            value: second,
-        })?;
-    }
-    Ok(mults)
+    let mut farkas = Mults::new(alloc);
+    farkas.push(Mult {
+        col: 0,
+        value: Frac::of(2, 1)?,
+    })?;
+    farkas.push(Mult {
+        col: 1,
+        value: less,
+    })?;
+    Ok((bound, farkas))
 }
 
-/// `split 0 K`, `bound 0:B`, `farkas 0:2 1:F` and, as the fourth, `clash 0`: the first `count` of them.
-fn cert(alloc: Global, k: i128, b: Frac, f: Frac, count: u32) -> Result<Cert, Fail> {
-    let two = Frac::of(2, 1)?;
+/// `split 0 K` and its two leaves.
+fn cert(alloc: Global, k: i128) -> Result<Cert, Fail> {
+    let (bound, farkas) = leaves(alloc)?;
     let mut cert = Cert::new(alloc);
     cert.push(Node::Split { col: 0, k })?;
-    cert.push(Node::Bound(mults(alloc, b, Frac::of(0, 1)?)?))?;
-    if count > 2 {
-        cert.push(Node::Farkas(mults(alloc, two, f)?))?;
-    }
-    if count > 3 {
-        cert.push(Node::Clash { col: 0 })?;
-    }
+    cert.push(Node::Bound(bound))?;
+    cert.push(Node::Farkas(farkas))?;
     Ok(cert)
 }
 
@@ -116,78 +120,44 @@ fn cert(alloc: Global, k: i128, b: Frac, f: Frac, count: u32) -> Result<Cert, Fa
 fn a_proof_by_cases_is_read(rt: HostRuntime) -> Result<(), Fail> {
     let a = rt.alloc();
     let instance = halves(a)?.expect(&rt, "an instance");
-    let mut scratch = Scratch::for_size(a, 1, 8)?;
-    let (one, two) = (Frac::of(-1, 1)?, Frac::of(2, 1)?);
-    let (three, more) = (Frac::of(3, 1)?, Frac::of(5, 2)?);
-    let refused = |reason: Refused| Some(Err(reason));
-    for (point, value, k, b, f, count, want) in [
-        (two, two, 2, one, one, 3, Some(Ok(()))),
-        (
-            three,
-            two,
-            2,
-            one,
-            one,
-            3,
-            refused(Refused::NotFeasible { col: 1 }),
-        ),
-        (
-            more,
-            two,
-            2,
-            one,
-            one,
-            3,
-            refused(Refused::NotFeasible { col: 0 }),
-        ),
-        (two, three, 2, one, one, 3, refused(Refused::Value)),
-        (two, two, 2, one, one, 2, refused(Refused::Tree { node: 3 })),
-        (two, two, 2, one, one, 4, refused(Refused::Tree { node: 4 })),
-        (
-            two,
-            two,
-            2,
-            two.neg(),
-            one,
-            3,
-            refused(Refused::Form { node: 2, col: 0 }),
-        ),
-        (
-            two,
-            two,
-            2,
-            one,
-            one.neg(),
-            3,
-            refused(Refused::Sign { node: 3, col: 1 }),
-        ),
-        (two, two, 1, one, one, 3, refused(Refused::Sum { node: 3 })),
-    ] {
+    let mut scratch = Scratch::for_size(a, 1, 3)?;
+    let two = Frac::of(2, 1)?;
+    for (k, want) in [(2, "accepted"), (1, "refused Sum 3"), (i128::MIN, "")] {
         let claim = Claim::Optimal {
-            point: Point::of(vec![in a; point]?),
-            value,
-            cert: cert(a, k, b, f, count)?,
+            point: Point::of(vec![in a; two]?),
+            value: two,
+            cert: cert(a, k)?,
         };
-        assert_eq!(rt; answer(&instance, &claim, &mut scratch), want);
+        assert_eq!(rt;
+            answer(a, &instance, &claim, &mut scratch)?.as_slice(),
+            want.as_bytes()
+        );
     }
-    let claim = Claim::Infeasible {
-        cert: cert(a, 2, one, one, 3)?,
-    };
-    let want = Some(Err(Refused::Tree { node: 2 }));
-    assert_eq!(rt; answer(&instance, &claim, &mut scratch), want);
+    Ok(())
+}
+
+#[test]
+fn claims_without_a_proof_are_read(rt: HostRuntime) -> Result<(), Fail> {
+    let a = rt.alloc();
+    let instance = halves(a)?.expect(&rt, "an instance");
+    let mut scratch = Scratch::for_size(a, 1, 0)?;
     let claim = Claim::Unsure {
         cause: Cause::NodeLimit(5),
     };
     assert_eq!(rt;
-        answer(&instance, &claim, &mut scratch),
-        Some(Err(Refused::NoClaim))
+        answer(a, &instance, &claim, &mut scratch)?.as_slice(),
+        "refused NoClaim".as_bytes()
     );
+    let two = Frac::of(2, 1)?;
     let claim = Claim::BestSoFar {
         point: Point::of(vec![in a; two]?),
         value: two,
         cause: Cause::Killed,
     };
-    assert_eq!(rt; answer(&instance, &claim, &mut scratch), Some(Ok(())));
+    assert_eq!(rt;
+        answer(a, &instance, &claim, &mut scratch)?.as_slice(),
+        "accepted".as_bytes()
+    );
     Ok(())
 }
 
@@ -200,17 +170,20 @@ fn directions_are_read(rt: HostRuntime) -> Result<(), Fail> {
     let (one, two) = (Frac::of(1, 1)?, Frac::of(2, 1)?);
     let (three, half) = (Frac::of(3, 1)?, Frac::of(3, 2)?);
     for (first, second, want) in [
-        (three, two, Ok(())),
-        (half, one, Err(Refused::Direction { col: 0 })),
-        (three, one, Err(Refused::Direction { col: 2 })),
-        (none, none, Err(Refused::Direction { col: 3 })),
+        (three, two, "accepted"),
+        (half, one, "refused Direction 0"),
+        (three, one, "refused Direction 2"),
+        (none, none, "refused Direction 3"),
     ] {
         let claim = Claim::Unbounded {
             point: Point::of(vec![in a; none, none]?),
             value: none,
             ray: Ray::of(vec![in a; first, second]?),
         };
-        assert_eq!(rt; answer(&instance, &claim, &mut scratch), Some(want));
+        assert_eq!(rt;
+            answer(a, &instance, &claim, &mut scratch)?.as_slice(),
+            want.as_bytes()
+        );
     }
     Ok(())
 }
@@ -228,7 +201,10 @@ fn deep_trees_are_walked(rt: HostRuntime) -> Result<(), Fail> {
         })?;
     }
     let claim = Claim::Infeasible { cert };
-    let want = Some(Err(Refused::Tree { node: 100_001 }));
-    assert_eq!(rt; answer(&instance, &claim, &mut scratch), want);
+    let want = "refused Tree 100001";
+    assert_eq!(rt;
+        answer(a, &instance, &claim, &mut scratch)?.as_slice(),
+        want.as_bytes()
+    );
     Ok(())
 }

@@ -1,0 +1,24 @@
+-- What two documents are accepted or refused for, once each is read.
+use Rattle.std.proofs.Common.{◌≡◌, ℕ, List, ◌⊎◌, inl, inr}
+use Rattle.instance.specs.Parts.{Parts}
+use Rattle.osil_grammar.specs.InstanceText.{IsInstanceText}
+use Rattle.osrl_grammar.specs.Meaning.{IsReportText}
+use Rattle.osrl_grammar.specs.declared.report.Report.{Report}
+use Rattle.cert_checker.specs.declared.documents.Kind.{Kind}
+use Rattle.cert_checker.specs.declared.refused.Refused.{Refused}
+use Rattle.cert_checker.specs.declared.refused.Refused.TheVariants as reasons
+use Rattle.cert_checker.specs.Documents.{ReportAccepts, ReportRefuses, NoReport, IsAcceptedText, DocsRefuse}
+
+pub accepted_text : {osil osrl : List ℕ} {p : Parts} {report : Report} {k : Kind} → IsInstanceText osil p → IsReportText osrl report → ReportAccepts p report k → IsAcceptedText osil osrl k
+accepted_text {osil} {osrl} {p} {report} {k} instance said accepts =
+    record { parts = p; report = report; instance_text = instance; report_text = said; accepts = accepts }
+
+pub report_refused : {osil osrl : List ℕ} {p : Parts} {report : Report} {r : Refused} → IsInstanceText osil p → IsReportText osrl report → ReportRefuses p report r ⊎ (r ≡ reasons.Memory) → DocsRefuse osil osrl r
+report_refused {osil} {osrl} {p} {report} {r} instance said (inl refuses) =
+    inr (inr (inl (record { parts = p; report = report; instance_text = instance; report_text = said; refuses = refuses })))
+report_refused instance said (inr none) = inr (inr (inr none))
+
+pub result_refused : {osil osrl : List ℕ} {p : Parts} {r : Refused} → IsInstanceText osil p → NoReport osrl r ⊎ (r ≡ reasons.Memory) → DocsRefuse osil osrl r
+result_refused {osil} {osrl} {p} {r} instance (inl missing) =
+    inr (inl (record { parts = p; instance_text = instance; no_report = missing }))
+result_refused instance (inr none) = inr (inr (inr none))

@@ -1,0 +1,5 @@
+use Rattle.cert_checker.proofs.OneAnswer.{answer_once}
+use Rattle.cert_checker.proofs.laws.documents_have_one_answer.Goals as goal
+
+pub returns : goal.returns
+returns c = answer_once

@@ -1,0 +1,5 @@
+use Rattle.cert_checker.proofs.Accepted.{one_kind}
+use Rattle.cert_checker.proofs.laws.documents_have_one_kind.Goals as goal
+
+pub returns : goal.returns
+returns c = one_kind
