@@ -1,7 +1,7 @@
 """Times `session` beside `xmllint --noout`: seconds, MB/s, peak memory and the ratio of the times.
 
-Each document is a plain OSiL text of 1,000 variables, the rest white space between elements. `session` gets it
-escaped in an envelope, in one request; xmllint gets the envelope that the request carries.
+Each document is the OSiL text of a plain instance of 1,000 variables, the rest white space between elements.
+`session` gets it escaped in an envelope, in one request; xmllint gets the envelope that the request carries.
 """
 
 import os
@@ -13,7 +13,7 @@ VARIABLES = 1000
 
 
 def osil(size):
-    """A plain text of this many bytes."""
+    """The text of a plain instance, of this many bytes."""
     head = "<osil><instanceData><variables>" + "<var/>" * VARIABLES + "</variables><objectives><obj>"
     costs = [f'<coef idx="{j}">1</coef>' for j in range(VARIABLES)]
     tail = "</obj></objectives></instanceData></osil>"

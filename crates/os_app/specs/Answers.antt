@@ -1,11 +1,10 @@
--- What answers a body: a result, an error report, or nothing where it asks to solve nothing.
-use Rattle.std.specs.Prelude.{◌≡◌, ℕ, List, Option, None, Some, ◌⊎◌}
+-- What answers a body: a result document in a reply, or nothing where it asks to solve nothing.
+use Rattle.std.specs.Prelude.{◌≡◌, ℕ, List, Option, None, Some}
 use Rattle.tree_grammar.specs.Elements.{Element, Event, events}
 use Rattle.tree_walk.specs.Texts.{IsDocument}
-use Rattle.plain_program.specs.Program.{Plain, Holds}
-use Rattle.plain_osil.specs.Plain.{IsPlain}
 use Rattle.solve_call.specs.Body.{IsSolveBody}
-use Rattle.solve_call.specs.Documents.{solved_result, unread_result, reply_text}
+use Rattle.solve_call.specs.Reply.{reply_text}
+use Rattle.os_app.specs.Results.{IsResult}
 
 -- the bytes are a document, and these are the events of its root, whichever it is
 pub record IsRead (bytes : List ℕ) (told : List Event) : Type 0 where
@@ -19,21 +18,11 @@ abbrev pub Reads : List ℕ → Option (List Event) → Type 0
 Reads bytes None = (root : Element) → IsDocument bytes root → ⊥
 Reads bytes (Some told) = IsRead bytes told
 
--- the text is plain; the claim that the reply has is accepted and true
-pub record RepliesPlain (text reply : List ℕ) : Type 0 where
-  pub plain : Plain
-  pub says : IsPlain text plain
-  pub holds : Holds plain
-  pub written : reply ≡ reply_text (solved_result plain)
-
--- the text isn't plain
-pub record RepliesUnread (text reply : List ℕ) : Type 0 where
-  pub other : (plain : Plain) → IsPlain text plain → ⊥
-  pub written : reply ≡ reply_text unread_result
-
--- the reply to a call that asks to solve the text
-abbrev pub Replies : List ℕ → List ℕ → Type 0
-Replies text reply = RepliesPlain text reply ⊎ RepliesUnread text reply
+-- the reply to a call that asks to solve the text: it returns the result document that answers the text
+pub record Replies (text reply : List ℕ) : Type 0 where
+  pub result : List ℕ
+  pub answers : IsResult text result
+  pub written : reply ≡ reply_text result
 
 -- what a body may get: none exactly where it asks to solve no text
 abbrev pub MayAnswer : List ℕ → Option (List ℕ) → Type 0

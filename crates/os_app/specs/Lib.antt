@@ -1,4 +1,5 @@
 pub mod Answers
+pub mod Results
 pub mod Runs
 pub mod Statuses
 pub mod Words

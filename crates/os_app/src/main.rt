@@ -7,6 +7,7 @@
 
 mod command;
 mod service;
+mod solving;
 #[cfg(test)]
 mod tests;
 mod words;

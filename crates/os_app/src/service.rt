@@ -1,22 +1,19 @@
 //! Answers the bodies of requests: each asks to solve a text.
-ghost use Rattle.std.specs.Prelude.{IfOk, MatchOption};
-ghost use Rattle.plain_program.specs.Program as program;
-ghost use Rattle.plain_osil.specs.Plain.{IsPlain};
-ghost use Rattle.plain_osil.specs.Reading.{said};
+ghost use Rattle.std.specs.Prelude.{IfOk};
 ghost use Rattle.os_app.specs.Answers.{Reads, Replies, MayAnswer};
 
+use crate::solving::solve;
 use doc_tree::{TreeFault, read};
 use element_tree::Tree;
 use http_session::Service;
 use os_io::{Memory, Text};
-use plain_osil::{Plain, plain_of};
-use solve_call::{solved_reply, text_to_solve, unread_reply};
+use solve_call::{solve_reply, text_to_solve};
 use std::alloc::{AllocError, Global};
 
 /// The greatest length of a document in bytes.
 const DOCUMENT_LIMIT: u64 = 4_194_304;
 
-/// Solves plain texts, and says of others that they weren't read.
+/// Answers calls that ask to solve a text.
 pub(crate) struct PlainSolver;
 
 /// The tree of a document within the limits, if the bytes are one.
@@ -30,24 +27,12 @@ fn tree_of(alloc: Global, bytes: &[u8]) -> Result<Option<Tree>, Memory>
     }
 }
 
-/// What a text says, if it is plain.
-fn plain_text(alloc: Global, text: &[u8]) -> Result<Option<Plain>, Memory>
-    ensures { IfOk result (λ r. MatchOption r ((p : program.Plain) → IsPlain text.now p → ⊥) (λ p. IsPlain text.now (said p))) }
-{
-    match tree_of(alloc, text)? {
-        Some(tree) => plain_of(alloc, &tree),
-        None => Ok(None),
-    }
-}
-
 /// The reply to a call that asks to solve this text.
 fn reply_to(alloc: Global, text: &[u8]) -> Result<Text, Memory>
     ensures { IfOk result (λ reply. Replies text.now reply) }
 {
-    match plain_text(alloc, text)? {
-        Some(plain) => solved_reply(alloc, &plain),
-        None => unread_reply(alloc),
-    }
+    let result = solve(alloc, text)?;
+    solve_reply(alloc, result.as_slice())
 }
 
 impl Service for PlainSolver {

@@ -11,13 +11,14 @@ const MINIMUM: &[u8] =
 const SOLVED: &[u8] =
     b"HTTP/1.1 200 OK\r\nContent-Type: text/xml; charset=utf-8\r\nContent-Length: 1142\r\n\r\n<?xml version=\"1.0\" encoding=\"UTF-8\"?><soap:Envelope xmlns:soap=\"http://schemas.xmlsoap.org/soap/envelope/\"><soap:Body><solveResponse xmlns=\"os.optimizationservices.org\"><solveReturn>&lt;?xml version=\"1.0\" encoding=\"UTF-8\"?&gt;&lt;osrl xmlns=\"os.optimizationservices.org\"&gt;&lt;general&gt;&lt;generalStatus type=\"normal\"/&gt;&lt;/general&gt;&lt;job&gt;&lt;status&gt;finished&lt;/status&gt;&lt;/job&gt;&lt;optimization&gt;&lt;solution&gt;&lt;status type=\"optimal\"/&gt;&lt;variables&gt;&lt;values&gt;&lt;var idx=\"0\"&gt;0&lt;/var&gt;&lt;/values&gt;&lt;/variables&gt;&lt;objectives&gt;&lt;values&gt;&lt;obj idx=\"-1\"&gt;0&lt;/obj&gt;&lt;/values&gt;&lt;/objectives&gt;&lt;otherSolutionResults&gt;&lt;otherSolutionResult name=\"os_cert.point\"&gt;&lt;item&gt;0&lt;/item&gt;&lt;/otherSolutionResult&gt;&lt;otherSolutionResult name=\"os_cert.value\"&gt;&lt;item&gt;0&lt;/item&gt;&lt;/otherSolutionResult&gt;&lt;otherSolutionResult name=\"os_cert.tree\"&gt;&lt;item&gt;bound 0:1&lt;/item&gt;&lt;/otherSolutionResult&gt;&lt;/otherSolutionResults&gt;&lt;/solution&gt;&lt;/optimization&gt;&lt;/osrl&gt;</solveReturn></solveResponse></soap:Body></soap:Envelope>";
 
-/// Asks to solve a text that isn't plain.
-const OTHER: &[u8] =
-    b"POST /os HTTP/1.1\r\nHost: a\r\nContent-Length: 75\r\n\r\n<Envelope><Body><solve><osil>&lt;osil/&gt;</osil></solve></Body></Envelope>";
+/// Asks to solve the least sum of two variables with the costs 0 and 3/2: the variables are one `var`, and the costs stand
+/// from the last to the first.
+const PAIR: &[u8] =
+    b"POST /os HTTP/1.1\r\nHost: a\r\nContent-Length: 387\r\n\r\n<Envelope><Body><solve><osil>&lt;osil&gt;&lt;instanceData&gt;&lt;variables numberOfVariables=\"2\"&gt;&lt;var ub=\"INF\" mult=\"2\" lb=\"0\"/&gt;&lt;/variables&gt;&lt;objectives&gt;&lt;obj numberOfObjCoef=\"2\" maxOrMin=\"min\"&gt;&lt;coef idx=\"1\"&gt;1.5&lt;/coef&gt;&lt;coef idx=\"0\"&gt;0&lt;/coef&gt;&lt;/obj&gt;&lt;/objectives&gt;&lt;/instanceData&gt;&lt;/osil&gt;</osil></solve></Body></Envelope>";
 
-/// Its response.
-const UNREAD: &[u8] =
-    b"HTTP/1.1 200 OK\r\nContent-Type: text/xml; charset=utf-8\r\nContent-Length: 520\r\n\r\n<?xml version=\"1.0\" encoding=\"UTF-8\"?><soap:Envelope xmlns:soap=\"http://schemas.xmlsoap.org/soap/envelope/\"><soap:Body><solveResponse xmlns=\"os.optimizationservices.org\"><solveReturn>&lt;?xml version=\"1.0\" encoding=\"UTF-8\"?&gt;&lt;osrl xmlns=\"os.optimizationservices.org\"&gt;&lt;general&gt;&lt;generalStatus type=\"error\"/&gt;&lt;message&gt;osil not read yet&lt;/message&gt;&lt;/general&gt;&lt;job&gt;&lt;status&gt;finished&lt;/status&gt;&lt;/job&gt;&lt;/osrl&gt;</solveReturn></solveResponse></soap:Body></soap:Envelope>";
+/// Its response: 0 is the least value, at 0 and 0.
+const PAIR_SOLVED: &[u8] =
+    b"HTTP/1.1 200 OK\r\nContent-Type: text/xml; charset=utf-8\r\nContent-Length: 1202\r\n\r\n<?xml version=\"1.0\" encoding=\"UTF-8\"?><soap:Envelope xmlns:soap=\"http://schemas.xmlsoap.org/soap/envelope/\"><soap:Body><solveResponse xmlns=\"os.optimizationservices.org\"><solveReturn>&lt;?xml version=\"1.0\" encoding=\"UTF-8\"?&gt;&lt;osrl xmlns=\"os.optimizationservices.org\"&gt;&lt;general&gt;&lt;generalStatus type=\"normal\"/&gt;&lt;/general&gt;&lt;job&gt;&lt;status&gt;finished&lt;/status&gt;&lt;/job&gt;&lt;optimization&gt;&lt;solution&gt;&lt;status type=\"optimal\"/&gt;&lt;variables&gt;&lt;values&gt;&lt;var idx=\"0\"&gt;0&lt;/var&gt;&lt;var idx=\"1\"&gt;0&lt;/var&gt;&lt;/values&gt;&lt;/variables&gt;&lt;objectives&gt;&lt;values&gt;&lt;obj idx=\"-1\"&gt;0&lt;/obj&gt;&lt;/values&gt;&lt;/objectives&gt;&lt;otherSolutionResults&gt;&lt;otherSolutionResult name=\"os_cert.point\"&gt;&lt;item&gt;0&lt;/item&gt;&lt;item&gt;0&lt;/item&gt;&lt;/otherSolutionResult&gt;&lt;otherSolutionResult name=\"os_cert.value\"&gt;&lt;item&gt;0&lt;/item&gt;&lt;/otherSolutionResult&gt;&lt;otherSolutionResult name=\"os_cert.tree\"&gt;&lt;item&gt;bound 1:3/2&lt;/item&gt;&lt;/otherSolutionResult&gt;&lt;/otherSolutionResults&gt;&lt;/solution&gt;&lt;/optimization&gt;&lt;/osrl&gt;</solveReturn></solveResponse></soap:Body></soap:Envelope>";
 
 /// Asks for another call.
 const JOB: &[u8] =
@@ -27,6 +28,22 @@ const REFUSAL: &[u8] =
     b"HTTP/1.1 400 Bad Request\r\nConnection: close\r\nContent-Length: 0\r\n\r\n";
 
 const USAGE: &[u8] = b"usage: os_app session | solve | check | serve | call | generate\n";
+
+/// Asks to solve this text, which is escaped.
+fn request(alloc: Global, text: &str) -> Result<String, AllocError> {
+    let length = 62 + text.len();
+    format!(in alloc;
+        "POST /os HTTP/1.1\r\nHost: a\r\nContent-Length: {length}\r\n\r\n<Envelope><Body><solve><osil>{text}</osil></solve></Body></Envelope>"
+    )
+}
+
+/// The response that returns the report of an error.
+fn error_response(alloc: Global, message: &str) -> Result<String, AllocError> {
+    let length = 503 + message.len();
+    format!(in alloc;
+        "HTTP/1.1 200 OK\r\nContent-Type: text/xml; charset=utf-8\r\nContent-Length: {length}\r\n\r\n<?xml version=\"1.0\" encoding=\"UTF-8\"?><soap:Envelope xmlns:soap=\"http://schemas.xmlsoap.org/soap/envelope/\"><soap:Body><solveResponse xmlns=\"os.optimizationservices.org\"><solveReturn>&lt;?xml version=\"1.0\" encoding=\"UTF-8\"?&gt;&lt;osrl xmlns=\"os.optimizationservices.org\"&gt;&lt;general&gt;&lt;generalStatus type=\"error\"/&gt;&lt;message&gt;{message}&lt;/message&gt;&lt;/general&gt;&lt;job&gt;&lt;status&gt;finished&lt;/status&gt;&lt;/job&gt;&lt;/osrl&gt;</solveReturn></solveResponse></soap:Body></soap:Envelope>"
+    )
+}
 
 /// The status of a call with these words.
 fn status(
@@ -48,7 +65,7 @@ fn status(
 fn answers_requests(rt: HostRuntime) -> Result<(), Fail> {
     let table: [(&[u8], u8, &[u8]); 7] = [
         (MINIMUM, 0, SOLVED),
-        (OTHER, 0, UNREAD),
+        (PAIR, 0, PAIR_SOLVED),
         (JOB, 0, REFUSAL),
         (b"GET /os HTTP/1.1\r\nHost: a\r\n\r\n", 0, REFUSAL),
         (&MINIMUM[..319], 8, b""),
@@ -64,6 +81,27 @@ fn answers_requests(rt: HostRuntime) -> Result<(), Fail> {
             assert!(rt; output.as_slice() == written);
             assert_eq!(rt; (input.faults(), output.faults()), (0, 0));
         }
+    }
+    Ok(())
+}
+
+#[test]
+fn says_why_a_text_gets_no_claim(rt: HostRuntime) -> Result<(), Fail> {
+    for (text, message) in [
+        ("&lt;osil", "osil Malformed at 5"),
+        ("&lt;osil/&gt;", "osil Missing at 1"),
+        (
+            "&lt;osil&gt;&lt;instanceData&gt;&lt;variables&gt;&lt;var type='I'/&gt;&lt;/variables&gt;&lt;/instanceData&gt;&lt;/osil&gt;",
+            "not solved yet",
+        ),
+    ] {
+        let asked = request(rt.alloc(), text)?;
+        let wanted = error_response(rt.alloc(), message)?;
+        let mut input = MemSource::new(rt.alloc(), asked.as_bytes(), 400, &[])?;
+        let mut output = MemSink::new(rt.alloc(), 2000, &[])?;
+        let got = status(rt.alloc(), &["os_app", "session"], &mut input, &mut output)?;
+        assert_eq!(rt; got, 0);
+        assert!(rt; output.as_slice() == wanted.as_bytes(), "{message}");
     }
     Ok(())
 }

@@ -1,4 +1,3 @@
 pub mod Taken
 pub mod Nested
-pub mod Items
 pub mod Finished

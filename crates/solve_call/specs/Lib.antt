@@ -1,3 +1,2 @@
 pub mod Body
-pub mod Documents
-pub mod Telling
+pub mod Reply

@@ -1,8 +1,9 @@
+use Rattle.std.proofs.Common.{◌∙◌, ap}
 use Rattle.std.proofs.lemmas.Result.{IfOk-weaker}
-use Rattle.os_app.proofs.Answering.{replies_plain}
+use Rattle.solve_call.specs.Reply.{reply_text}
 use Rattle.os_app.proofs.service.reply_to.Goals as goal
 
-pub returns-in-Some : goal.returns-in-Some
-returns-in-Some c =
-    let plain = rw c.in-Some.is at c.in_ok-plain.ensures in
-    IfOk-weaker c.solved_reply.result _ _ (λ reply written. replies_plain c.args.text.now reply _ plain written) c.solved_reply.ensures
+pub returns : goal.returns
+returns c =
+    IfOk-weaker c.solve_reply.result _ _
+    (λ reply written. record { result = c.in_ok-result.result; answers = c.in_ok-result.ensures; written = written ∙ ap reply_text c.as_slice.ensures }) c.solve_reply.ensures

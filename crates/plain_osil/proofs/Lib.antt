@@ -1,3 +1,0 @@
-pub mod Few
-pub mod Priced
-pub mod Counted

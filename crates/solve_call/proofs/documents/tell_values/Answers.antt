@@ -1,6 +1,0 @@
-use Rattle.solve_call.proofs.Items.{tells_then, ends_with}
-use Rattle.solve_call.proofs.documents.tell_values.Goals as goal
-
-pub returns : goal.returns
-returns c =
-    ends_with c.close-4.result _ _ _ _ _ (tells_then _ _ _ _ _ (tells_then _ _ _ _ _ (tells_then _ _ _ _ _ (tells_then _ _ _ _ _ (tells_then _ _ _ _ _ (tells_then _ _ _ _ _ (tells_then _ _ _ _ _ (tells_then _ _ _ _ _ (c.in_ok-open.ensures) c.in_ok-open-2.ensures) c.in_ok-tell_variables.ensures) c.in_ok-close.ensures) c.in_ok-close-2.ensures) c.in_ok-open-3.ensures) c.in_ok-open-4.ensures) c.in_ok-leaf_with.ensures) c.in_ok-close-3.ensures) c.close-4.ensures
