@@ -1,18 +1,23 @@
 -- What the words of a call ask for, and what is written where they are no command's.
-use Rattle.std.proofs.Common.{◌≡◌, ◌∙◌, ℕ, List, [], ◌∷◌, ◌++◌, length, Option, Some, None, inl, inr, sym, ap, subst, arith, refl, true}
-use Rattle.std.specs.Prelude.{option_and_then}
+use Rattle.std.proofs.Common.{◌≡◌, ◌∙◌, ℕ, List, [], ◌∷◌, ◌++◌, length, Option, Some, None, inl, inr, sym, ap, subst, arith, refl, true, false}
+use Rattle.std.specs.Prelude.{codes, option_and_then, option_map}
 use Rattle.std.proofs.Math.Seq.{take-length}
 use Rattle.os_io.specs.Streams.{Told}
 use Rattle.http_link.specs.Responses.{Appends, AppendsPart}
-use Rattle.clap.specs.Words.{App, HasKind, HasMatchesOf, IsAmong, Kinds, Row, Text, fault_of, is_simple, is_simple_and_free, kind_of, subcommand_of, subcommand_rows_of}
+use Rattle.clap.specs.Words.{App, HasKind, HasMatchesOf, IsAmong, Kinds, Row, Rule, Text, fault_of, is_simple, is_simple_and_free, kind_of, new_rule, rows_of, rule_of, subcommand_of, subcommand_rows_of}
+use Rattle.clap.specs.declared.builder.arg.Arg.{Arg}
 use Rattle.clap.specs.declared.error.Error.{Error}
 use Rattle.clap.specs.declared.error.kind.ErrorKind.{ErrorKind}
 use Rattle.clap.specs.declared.error.kind.ErrorKind.TheVariants.{OutOfMemory}
 use Rattle.clap.specs.declared.parser.matches.ArgMatches.{ArgMatches}
 use Rattle.clap.proofs.OnLiterals.{clap_on_literals}
+use Rattle.std.specs.Borrow.{Bor}
+use Rattle.clap.specs.Matches.{first_value}
+use Rattle.clap.specs.declared.parser.matches.Found.{Found}
+use Rattle.clap.proofs.WalkLemmas.{first_value-rows}
 use Rattle.os_app.specs.declared.words.Asked.{Asked}
-use Rattle.os_app.specs.declared.words.Asked.TheVariants.{Session}
-use Rattle.os_app.specs.Words.{IsSession, asked_by, asked_with, asks, program}
+use Rattle.os_app.specs.declared.words.Asked.TheVariants as asked
+use Rattle.os_app.specs.Words.{Command, Session, Check, IsCheck, IsSession, IsNoCommand, asked_by, asked_with, asks, files_of, meant, needed_word, program}
 
 -- clap says exactly what it makes of the program's words
 program_is_free : is_simple_and_free program ≡ true
@@ -51,9 +56,55 @@ asks_nothing app words error is kinds other =
       | inr among ↦ some_fault (kind_of error) (fault_of program words) (subcommand_of program words) among
     ]
 
--- a session is all that words ask for today
-pub only_session : (asked : Option Asked) (it : Asked) (words : List Text) → asked ≡ Some it → asked ≡ asks words → IsSession words
-only_session asked Session words some is = sym is ∙ some
+-- ---- a word that must be given
+
+pub needed : (id : Text) (fresh word : Arg) → word ≡ record fresh { required = true } → rule_of fresh ≡ new_rule id → rule_of word ≡ needed_word id
+needed id fresh word is rule = ap rule_of is ∙ ap (λ (r : Rule). record r { required = true }) rule
+
+-- it is no subcommand's
+pub needed_here : (fresh word : Arg) → word ≡ record fresh { required = true } → fresh.global ≡ false → word.global ≡ false
+needed_here fresh word is here = ap (λ (a : Arg). a.global) is ∙ here
+
+-- ---- the files that a check's words name
+
+-- the words in these two places are these
+files_by : (f : Found) (osil osrl : Option Text) → osil ≡ first_value f (codes "osil") → osrl ≡ first_value f (codes "osrl")
+    → option_and_then (λ a. option_map (Check a) osrl) osil ≡ files_of (rows_of f)
+files_by f osil osrl first second = λ i. option_and_then (λ a. option_map (Check a) ((second ∙ first_value-rows f (codes "osrl")) i)) ((first ∙ first_value-rows f (codes "osil")) i)
+
+abbrev texts_in : Option (Bor Text) → Option Text
+texts_in o = option_map (λ s. s.now) o
+
+pub no_osil : (f : Found) (a : Option (Bor Text)) (r : Option Asked) → a ≡ None → r ≡ None → texts_in a ≡ first_value f (codes "osil")
+    → option_map meant r ≡ files_of (rows_of f)
+no_osil f a r none is first = ap (option_map meant) is ∙ files_by f None (first_value f (codes "osrl")) (ap texts_in (sym none) ∙ first) refl
+
+pub no_osrl : (f : Found) (b : Option (Bor Text)) (r : Option Asked) → b ≡ None → r ≡ None → texts_in b ≡ first_value f (codes "osrl")
+    → option_map meant r ≡ files_of (rows_of f)
+no_osrl f b r none is second = ap (option_map meant) is ∙ go (first_value f (codes "osil")) ∙ files_by f (first_value f (codes "osil")) None refl (ap texts_in (sym none) ∙ second)
+  where
+    go : (a : Option Text) → None ≡ option_and_then (λ (t : Text). option_map (Check t) None) a
+    go None = refl
+    go (Some t) = refl
+
+pub both_named : (f : Found) (a b : Option (Bor Text)) (osil osrl : Bor Text) → a ≡ Some osil → b ≡ Some osrl
+    → texts_in a ≡ first_value f (codes "osil") → texts_in b ≡ first_value f (codes "osrl")
+    → Some (Check osil.now osrl.now) ≡ files_of (rows_of f)
+both_named f a b osil osrl first second found_first found_second =
+    files_by f (Some osil.now) (Some osrl.now) (ap texts_in (sym first) ∙ found_first) (ap texts_in (sym second) ∙ found_second)
+
+-- ---- what was asked for
+
+-- what is asked for is what the words ask for
+pub asks_session : (found : Option Asked) (words : List Text) → found ≡ Some asked.Session → option_map meant found ≡ asks words → IsSession words
+asks_session found words some is = sym is ∙ ap (option_map meant) some
+
+pub asks_check : (found : Option Asked) (osil osrl : Bor Text) (words : List Text) → found ≡ Some (asked.Check osil osrl) → option_map meant found ≡ asks words
+    → IsCheck words osil.now osrl.now
+asks_check found osil osrl words some is = sym is ∙ ap (option_map meant) some
+
+pub asks_none : (found : Option Asked) (words : List Text) → found ≡ None → option_map meant found ≡ asks words → IsNoCommand words
+asks_none found words none is = sym is ∙ ap (option_map meant) none
 
 -- a text that was written whole is a first part of it
 pub all_is_part : (x y z : Option (List ℕ)) (text : List ℕ) → Told x y (Appends text) → z ≡ y → Told x z (AppendsPart text)

@@ -14,9 +14,9 @@ use Rattle.http_session.specs.Session.{ServesOne, CountsReads, CountsWrites, Has
 use Rattle.http_session.proofs.ExactLemmas.{cut_exactly, ended_exactly, answered_exactly, cut_writes, ended_writes, request_writes, request_leaves, refused_writes, request_rest, refused_rest}
 use Rattle.os_app.specs.Answers.{MayAnswer}
 use Rattle.os_app.specs.Statuses.{status_of}
-use Rattle.os_app.specs.declared.words.Asked.{Asked}
-use Rattle.os_app.specs.Words.{IsSession, IsNoCommand}
+use Rattle.os_app.specs.Words.{Command, Session, Check, IsSession, IsCheck, IsNoCheck, IsNoCommand}
 use Rattle.os_app.specs.Runs.{Run, Wrote, IsUnheard, Ends, without_memory, Does, in_full, unread, unwritten, unmade, WroteNothing, IsRequestServed, IsHeadServed, IsDecided, Runs}
+use Rattle.os_app.specs.Runs as runs
 use Rattle.os_app.proofs.Running.{session_ends}
 
 abbrev Left : Type 0
@@ -35,10 +35,10 @@ what_is_done due MayBe run Memory status is (out, same, wrote) = unmade is (inl 
 -- ---- what a status says of the bytes
 
 -- one request of a session was served, of which these are the bytes to come
-abbrev Session : Run → Served → List ℕ → Type 0
-Session run served bytes = ServesOne MayAnswer served (Some bytes) run.left_after run.written run.written_after
+abbrev Serves : Run → Served → List ℕ → Type 0
+Serves run served bytes = ServesOne MayAnswer served (Some bytes) run.left_after run.written run.written_after
 
-says_cut : (run : Run) (served : Served) (status : ℕ) (bytes : List ℕ) → status ≡ status_of served → Session run served bytes
+says_cut : (run : Run) (served : Served) (status : ℕ) (bytes : List ℕ) → status ≡ status_of served → Serves run served bytes
     → status ≡ 8 → IsCut bytes
 says_cut run Answered status bytes is one eight = absurd (omega (arith, is, eight))
 says_cut run Ended status bytes is one eight = absurd (omega (arith, is, eight))
@@ -74,7 +74,7 @@ wrote_some run out has wrote none =
     subst (λ (x : Left). Told (Some none.text) x (Appends out)) none.after first in
     never_same none.text out has second
 
-says_over : (run : Run) (served : Served) (status : ℕ) (bytes : List ℕ) → status ≡ status_of served → Session run served bytes
+says_over : (run : Run) (served : Served) (status : ℕ) (bytes : List ℕ) → status ≡ status_of served → Serves run served bytes
     → status ≡ 0 → WroteNothing run → EndedBetween bytes
 says_over run Answered status bytes is (taken, out, responds, took, wrote) zero none =
     absurd (wrote_some run out (response_has_bytes taken out responds) wrote none)
@@ -94,12 +94,12 @@ free_at_zero ReadFault status is zero = absurd (omega (arith, is, zero))
 free_at_zero WriteFault status is zero = absurd (omega (arith, is, zero))
 free_at_zero Memory status is zero = absurd (omega (arith, is, zero))
 
-from_front : (run : Run) (served : Served) (bytes front rest : List ℕ) → bytes ≡ front ++ rest → Session run served bytes
-    → Session run served (front ++ rest)
-from_front run served bytes front rest e one = subst (λ (b : List ℕ). Session run served b) e one
+from_front : (run : Run) (served : Served) (bytes front rest : List ℕ) → bytes ≡ front ++ rest → Serves run served bytes
+    → Serves run served (front ++ rest)
+from_front run served bytes front rest e one = subst (λ (b : List ℕ). Serves run served b) e one
 
 request_taken : (run : Run) (served : Served) (status : ℕ) (bytes request body rest : List ℕ) → status ≡ status_of served
-    → Session run served bytes → IsRequest request body → bytes ≡ request ++ rest → status ≡ 0 → run.left_after ≡ Some rest
+    → Serves run served bytes → IsRequest request body → bytes ≡ request ++ rest → status ≡ 0 → run.left_after ≡ Some rest
 request_taken run served status bytes request body rest is one here e zero =
     let answered =
     (answered_exactly MayAnswer served bytes run.left_after run.written run.written_after one (free_at_zero served status is zero)).1
@@ -107,7 +107,7 @@ request_taken run served status bytes request body rest is one here e zero =
     request_leaves MayAnswer served request body rest run.left_after run.written run.written_after here
     (from_front run served bytes request rest e one) answered
 
-request_decided : (run : Run) (served : Served) (status : ℕ) (bytes : List ℕ) → status ≡ status_of served → Session run served bytes
+request_decided : (run : Run) (served : Served) (status : ℕ) (bytes : List ℕ) → status ≡ status_of served → Serves run served bytes
     → (request body rest : List ℕ) → IsRequest request body → bytes ≡ request ++ rest → IsRequestServed status run body rest
 request_decided run served status bytes is one request body rest here e =
     let from = from_front run served bytes request rest e one in
@@ -118,7 +118,7 @@ request_decided run served status bytes is one request body rest here e =
       leaves = request_rest MayAnswer served request body rest run.left_after run.written run.written_after here from;
     }
 
-refused_decided : (run : Run) (served : Served) (status : ℕ) (bytes : List ℕ) → status ≡ status_of served → Session run served bytes
+refused_decided : (run : Run) (served : Served) (status : ℕ) (bytes : List ℕ) → status ≡ status_of served → Serves run served bytes
     → (head rest : List ℕ) (refusal : Refusal) → Head head (Err refusal) → bytes ≡ head ++ rest → IsHeadServed status run rest
 refused_decided run served status bytes is one head rest refusal here e =
     let from = from_front run served bytes head rest e one in
@@ -130,7 +130,7 @@ refused_decided run served status bytes is one head rest refusal here e =
 
 -- ---- a run
 
-decided : (run : Run) (served : Served) (status : ℕ) (bytes : List ℕ) → status ≡ status_of served → Session run served bytes
+decided : (run : Run) (served : Served) (status : ℕ) (bytes : List ℕ) → status ≡ status_of served → Serves run served bytes
     → IsDecided status run bytes
 decided run served status bytes is one =
     record {
@@ -143,7 +143,7 @@ decided run served status bytes is one =
     }
 
 -- words that ask for something aren't words that ask for nothing
-some_or_none : (asked : Option Asked) (it : Asked) → asked ≡ Some it → asked ≡ None → ⊥
+pub some_or_none : (asked : Option Command) (it : Command) → asked ≡ Some it → asked ≡ None → ⊥
 some_or_none asked it some none = none-some it (sym none ∙ some)
 
 -- a session's status isn't that of words that are no command's
@@ -155,14 +155,28 @@ never_misused ReadFault two = absurd (omega (arith, two))
 never_misused WriteFault two = absurd (omega (arith, two))
 never_misused Memory two = absurd (omega (arith, two))
 
+-- a session's words aren't a check's
+abbrev IsCheckCommand : Command → Type 0
+IsCheckCommand Session = ⊥
+IsCheckCommand (Check osil osrl) = Unit {0}
+
+pub same_command : {a b : Command} → Some a ≡ Some b → a ≡ b
+same_command e = cc
+
+no_check : (words : List (List ℕ)) → IsSession words → IsNoCheck words
+no_check words session osil osrl check = subst IsCheckCommand (same_command (sym check ∙ session)) tt
+
 -- a session of one request
 pub session_runs : (run : Run) (served : Served) (status : ℕ) → status ≡ status_of served → IsSession run.words
     → ServesOne MayAnswer served run.left run.left_after run.written run.written_after
     → CountsReads served run.read_faults run.read_faults_after
     → CountsWrites served run.write_faults run.write_faults_after
+    → run.file_faults_after ≡ run.file_faults
     → Runs status run
-session_runs run served status is session one reads writes = record {
+session_runs run served status is session one reads writes files = record {
   ends = session_ends run served status is session one reads writes;
+  files = λ none. files;
+  judged = λ osil_name osrl_name osil osrl check first second. absurd (no_check run.words session osil_name osrl_name check);
   misused = (
     λ two. absurd (never_misused served (sym is ∙ two)),
     λ all. absurd (some_or_none _ _ session all.0),
@@ -174,9 +188,11 @@ session_runs run served status is session one reads writes = record {
 
 -- words that are no command's, whose usage was written, or not whole
 pub other_runs : (run : Run) (status : ℕ) → IsNoCommand run.words → Ends status run
-    → (status ≡ 2) ⊎ (status ≡ 4) → Runs status run
-other_runs run status other ends which = record {
+    → (status ≡ 2) ⊎ (status ≡ 4) → run.file_faults_after ≡ run.file_faults → Runs status run
+other_runs run status other ends which files = record {
   ends = ends;
+  files = λ none. files;
+  judged = λ osil_name osrl_name osil osrl check first second. absurd (some_or_none _ _ check other);
   misused = (
     λ two. (other, λ four. omega (arith, two, four), λ five. omega (arith, two, five)),
     λ all. elim which [
@@ -213,6 +229,13 @@ unheard_decided run bytes unheard told = record {
 pub unheard_runs : (run : Run) → IsUnheard run → Runs 5 run
 unheard_runs run unheard = record {
   ends = without_memory refl (inr unheard);
+  files = λ none. unheard.all_files_read;
+  judged = λ osil_name osrl_name osil osrl check first second. record {
+    accepted = λ k shown. runs.no_memory refl unheard;
+    accepted_only = λ zero. absurd (omega (arith, zero));
+    refused = λ r text why says. runs.no_memory refl unheard;
+    refused_only = λ one. absurd (omega (arith, one));
+  };
   misused = (λ two. absurd (omega (arith, two)), λ all. absurd (all.2 refl));
   decided = λ bytes session told. unheard_decided run bytes unheard told;
 }

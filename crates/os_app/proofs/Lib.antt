@@ -1,3 +1,5 @@
+pub mod FirstBytes
+pub mod Judging
 pub mod Answering
 pub mod OneClaim
 pub mod OneResult
@@ -5,3 +7,5 @@ pub mod Running
 pub mod Called
 pub mod Deciding
 pub mod Sessions
+pub mod Checked
+pub mod FileWords

@@ -61,7 +61,7 @@ session_ends run CutShort status is session (taken, out, (cut, none), took, wrot
       all_written = writes;
     })
 session_ends run ReadFault status is session (taken, out, (begun, none), took, wrote) reads writes =
-    read_fault is (record {
+    read_fault is (inl (record {
       session = session;
       taken = taken;
       begun = begun;
@@ -69,7 +69,7 @@ session_ends run ReadFault status is session (taken, out, (begun, none), took, w
       wrote = wrote_same run out [] none wrote;
       failed = reads;
       all_written = writes;
-    })
+    }))
 session_ends run WriteFault status is session (taken, out, (text, responds, part), took, wrote) reads writes =
     write_fault is (record {
       text = text;
@@ -92,7 +92,7 @@ session_ends run Memory status is session (taken, out, lacks, took, wrote) reads
     }))
 
 -- a first part of a text was written: which
-part_of : (x y : Option (List ℕ)) (text : List ℕ) → Told x y (AppendsPart text)
+pub part_of : (x y : Option (List ℕ)) (text : List ℕ) → Told x y (AppendsPart text)
     → (part : List ℕ) × IsPart text part × Told x y (Appends part)
 part_of None y text told = ([], (0, omega arith, refl), tt)
 part_of (Some x) None text told = absurd told
@@ -107,7 +107,7 @@ other_fails run other told unread reads failed =
     write_fault refl (record {
       text = usage;
       part = part.0;
-      due = inr (record { other = other; usage_is = refl; unread = unread });
+      due = inr (inl (record { other = other; usage_is = refl; unread = unread }));
       is_part = part.1;
       wrote = part.2;
       all_read = reads;

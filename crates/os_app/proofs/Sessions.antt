@@ -1,22 +1,20 @@
 -- Which words are a session's.
-use Rattle.std.proofs.Common.{◌≡◌, ℕ, ◌⊎◌, zero, suc, List, [], ◌∷◌, length, Bool, true, false, cond, Option, Some, None, inl, inr, refl, sym, ap, subst, arith}
-use Rattle.std.specs.Prelude.{◌||◌, codes, drop, encode_utf8, option_map, slice_get, unwrap_or}
+use Rattle.std.proofs.Common.{◌≡◌, ◌∙◌, ℕ, ◌⊎◌, zero, suc, List, [], ◌∷◌, length, Bool, true, false, cond, Option, Some, None, inl, inr, refl, sym, ap, subst, arith}
+use Rattle.std.specs.Prelude.{◌||◌, codes, drop, encode_utf8, option_map, option_and_then, slice_get, unwrap_or}
 use Rattle.std.specs.Option.{option_map_or}
 use Rattle.std.specs.Str.{bytes_eq, chars}
 use Rattle.std.proofs.lemmas.Option.{none-some}
 use Rattle.std.proofs.lemmas.Slice.Eq.{bytes_eq-Decides}
 use Rattle.clap.specs.Lexer.{long_of, short_of}
 use Rattle.clap.specs.Kinds.{Kinds, or_else}
-use Rattle.clap.specs.Walk.{Held, Names, Outcome, Row, Rule, Text, Walk, after_flag, bundle_met, bundle_step, idle, long_or_other, nothing_held, plain, short_or_plain, subcommand_or_other, trailing, walk, walk_from, walked}
-use Rattle.clap.specs.Simple.{Shape, built, filled, help_rule, names_of}
+use Rattle.clap.specs.Walk.{Held, Names, Outcome, Row, Rule, Text, Walk, after_flag, bundle_met, bundle_step, first_of, idle, long_or_other, nothing_held, plain, rows_after, short_or_plain, subcommand_or_other, trailing, walk, walk_from, walked}
+use Rattle.clap.specs.Simple.{Shape, built, entered, filled, help_rule, names_of}
 use Rattle.clap.specs.Faults.{bundle_fault, bundle_step_fault, entered_fault, fault_of, flag_word_fault, flags_fault, level_fault, long_fault, other_fault, short_fault, step_fault, stray_fault, walk_fault}
 use Rattle.clap.specs.declared.error.kind.ErrorKind.{ErrorKind}
 use Rattle.clap.specs.declared.error.kind.ErrorKind.TheVariants.{InvalidSubcommand, UnknownArgument}
 use Rattle.clap.proofs.OnLiterals.{clap_on_literals}
 use Rattle.clap.proofs.WalkLemmas.{walk_stopped}
-use Rattle.os_app.specs.declared.words.Asked.{Asked}
-use Rattle.os_app.specs.declared.words.Asked.TheVariants.{Session}
-use Rattle.os_app.specs.Words.{HasSessionWords, IsSession, alone, asked_with, asks, program, with_dashes}
+use Rattle.os_app.specs.Words.{Check, Command, HasSessionWords, IsSession, Session, alone, asked_with, asks, files_of, program, with_dashes}
 
 -- ---- kinds of faults
 
@@ -139,29 +137,31 @@ session_takes (word ∷ words) none =
     subst (λ (t : Text). walk_fault session_shape [] (walked session_shape.rules [] (walk_from nothing_held) t) words ≡ []) is (next_none _ _ walk_none) in
     inr ((λ i. is i ∷ after_dashes session_shape [] words rest i))
 
--- the subcommand that a word calls, by whether it is `session` and whether it is `help`
-abbrev called_by : Bool → Bool → Option Text
-called_by session help =
-    option_map (λ (s : Text × List Text). s.0) (cond session (Some (codes "session", [])) (cond help (Some (codes "help", [])) None))
+-- the subcommand that a word calls, by whether it is `session`, `check` or `help`
+abbrev called_by : (session check help : Bool) → Option Text
+called_by session check help =
+    option_map (λ (s : Text × List Text). s.0) (cond session (Some (codes "session", [])) (cond check (Some (codes "check", [])) (cond help (Some (codes "help", [])) None)))
 
-session_or_dashes : (session help : Bool) (word : Text) → turn_with program_shape (called_by session help) word ≡ []
-    → (session ≡ true) ⊎ (word ≡ dashes)
-session_or_dashes true help word none = inl refl
-session_or_dashes false true word none = absurd (some_fault _ _ none)
-session_or_dashes false false word none = inr (dashes_alone program_shape word none)
+which_word : (session check help : Bool) (word : Text) → turn_with program_shape (called_by session check help) word ≡ []
+    → (session ≡ true) ⊎ (check ≡ true) ⊎ (word ≡ dashes)
+which_word true check help word none = inl refl
+which_word false true help word none = inr (inl refl)
+which_word false false true word none = absurd (some_fault _ _ none)
+which_word false false false word none = inr (inr (dashes_alone program_shape word none))
 
 or_false : (b : Bool) → (b || false) ≡ true → b ≡ true
 or_false true e = refl
 or_false false e = e
 
 first_word : (name word : Text) (words : List Text) → fault_of program (name ∷ word ∷ words) ≡ []
-    → (word ≡ codes "session") ⊎ (word ≡ dashes)
+    → (word ≡ codes "session") ⊎ (word ≡ codes "check") ⊎ (word ≡ dashes)
 unfolding clap_on_literals
 first_word name word words none =
     let walk_none : walk_fault program_shape subcommands (walk_from nothing_held) (word ∷ words) ≡ [] = first_none _ _ none in
-    elim (session_or_dashes (bytes_eq (codes "session") word || false) (bytes_eq (codes "help") word || false) word (first_none _ _ walk_none)) [
+    elim (which_word (bytes_eq (codes "session") word || false) (bytes_eq (codes "check") word || false) (bytes_eq (codes "help") word || false) word (first_none _ _ walk_none)) [
       | inl session ↦ inl (sym ((bytes_eq-Decides (codes "session") word).0 (or_false _ session)))
-      | inr is ↦ inr is
+      | inr (inl check) ↦ inr (inl (sym ((bytes_eq-Decides (codes "check") word).0 (or_false _ check))))
+      | inr (inr is) ↦ inr (inr is)
     ]
 
 dashes_are_refused : (name : Text) (words : List Text) → fault_of program (name ∷ dashes ∷ words) ≡ [] → ⊥
@@ -182,7 +182,7 @@ after_session name words none =
 
 -- ---- what words ask for
 
-none_refused : (faults : Kinds) (found : Option (Text × List Row)) (it : Asked) → asked_with faults found ≡ Some it → faults ≡ []
+none_refused : (faults : Kinds) (found : Option (Text × List Row)) (it : Command) → asked_with faults found ≡ Some it → faults ≡ []
 none_refused [] found it asked = refl
 none_refused (fault ∷ faults) found it asked = absurd (none-some it asked)
 
@@ -190,25 +190,46 @@ session_is_taken : (words : List Text) → IsSession words → fault_of program 
 unfolding asks
 session_is_taken words session = none_refused (fault_of program words) _ Session session
 
-named : (name word : Text) (words : List Text) → fault_of program (name ∷ word ∷ words) ≡ []
-    → (word ≡ codes "session") ⊎ (word ≡ dashes) → HasSessionWords (name ∷ word ∷ words)
-named name word words none (inr is) =
+-- files aren't a session
+files_are_no_session : (rows : List Row) → files_of rows ≡ Some Session → ⊥
+files_are_no_session rows is = go (first_of (codes "osil") rows) (first_of (codes "osrl") rows) is
+  where
+    go : (osil osrl : Option Text) → option_and_then (λ a. option_map (Check a) osrl) osil ≡ Some Session → ⊥
+    go None osrl e = none-some Session e
+    go (Some a) None e = none-some Session e
+    go (Some a) (Some b) e = cc
+
+check_is_no_session : (name : Text) (words : List Text) → fault_of program (name ∷ codes "check" ∷ words) ≡ []
+    → IsSession (name ∷ codes "check" ∷ words) → ⊥
+unfolding asks clap_on_literals
+check_is_no_session name words none session =
+    let stopped : (walk program_shape.rules subcommands nothing_held (codes "check" ∷ words)).stopped ≡ Some (codes "check", words) =
+    ap (λ (w : Walk). w.stopped) (sym (walk_stopped program_shape.rules subcommands (walk_from nothing_held) (codes "check") [] words)) in
+    let found = ap (entered (built program)) stopped in
+    files_are_no_session (rows_after (unwrap_or (slice_get (built program).subs 1) program_shape).rules [] words) (sym (λ i. asked_with (none i) (found i)) ∙ session)
+
+named : (name word : Text) (words : List Text) → fault_of program (name ∷ word ∷ words) ≡ [] → IsSession (name ∷ word ∷ words)
+    → (word ≡ codes "session") ⊎ (word ≡ codes "check") ⊎ (word ≡ dashes) → HasSessionWords (name ∷ word ∷ words)
+named name word words none session (inr (inl is)) =
+    absurd (check_is_no_session name words (subst (λ (t : Text). fault_of program (name ∷ t ∷ words) ≡ []) is none)
+    (subst (λ (t : Text). IsSession (name ∷ t ∷ words)) is session))
+named name word words none session (inr (inr is)) =
     absurd (dashes_are_refused name words (subst (λ (t : Text). fault_of program (name ∷ t ∷ words) ≡ []) is none))
-named name word words none (inl is) =
+named name word words none session (inl is) =
     elim (after_session name words (subst (λ (t : Text). fault_of program (name ∷ t ∷ words) ≡ []) is none)) [
       | inl nothing ↦ alone name (λ i. name ∷ is i ∷ nothing i)
       | inr one ↦ with_dashes name (λ i. name ∷ is i ∷ one i)
     ]
 
-taken_words : (words : List Text) → fault_of program words ≡ [] → HasSessionWords words
+taken_words : (words : List Text) → fault_of program words ≡ [] → IsSession words → HasSessionWords words
 unfolding clap_on_literals
-taken_words [] none = absurd (some_fault _ _ none)
-taken_words (name ∷ []) none = absurd (some_fault _ _ none)
-taken_words (name ∷ word ∷ words) none = named name word words none (first_word name word words none)
+taken_words [] none session = absurd (some_fault _ _ none)
+taken_words (name ∷ []) none session = absurd (some_fault _ _ none)
+taken_words (name ∷ word ∷ words) none session = named name word words none session (first_word name word words none)
 
 -- a session's words are a name and `session`, and perhaps `--`
 pub session_words : (words : List Text) → IsSession words → HasSessionWords words
-session_words words session = taken_words words (session_is_taken words session)
+session_words words session = taken_words words (session_is_taken words session) session
 
 -- and these words are a session's
 pub words_of_session : (words : List Text) → HasSessionWords words → IsSession words

@@ -1,5 +1,5 @@
 -- How a run ends, by its words and by what came and went.
-use Rattle.std.specs.Prelude.{◌≡◌, ◌↔◌, ℕ, ◌⊎◌, List, [], ◌++◌, Option, Some, Err, codes}
+use Rattle.std.specs.Prelude.{◌≡◌, ◌↔◌, ℕ, ◌⊎◌, List, [], ◌∷◌, ◌++◌, Option, Some, Ok, Err, codes}
 use Rattle.os_io.specs.Streams.{Told, HasRisen}
 use Rattle.http_link.specs.declared.refusal.Refusal.{Refusal}
 use Rattle.http_link.specs.declared.refusal.Refusal.TheVariants.{BadRequest}
@@ -7,12 +7,21 @@ use Rattle.http_link.specs.Checks.{Head}
 use Rattle.http_link.specs.Requests.{IsRequest, IsBegun, IsRequestPart, IsCut, EndedBetween}
 use Rattle.http_link.specs.Responses.{refusal_text, Appends}
 use Rattle.http_session.specs.Session.{IsResponse, IsAnyResponse, IsPart, no_memory_text, MayRespond, Leaves}
+use Rattle.cert_checker.specs.declared.documents.Kind.{Kind}
+use Rattle.cert_checker.specs.declared.refused.Refused.{Refused}
+use Rattle.cert_checker.specs.declared.refused.Refused.TheVariants as reasons
+use Rattle.cert_checker.specs.Documents.{IsAcceptedText, DocsRefuse}
+use Rattle.cert_checker.specs.Texts.{IsAnswerText}
 use Rattle.os_app.specs.Answers.{MayAnswer}
-use Rattle.os_app.specs.Words.{IsSession, IsNoCommand}
+use Rattle.os_app.specs.Checks.{IsAnswerLine, IsAnswerAbout}
+use Rattle.os_app.specs.Words.{IsSession, IsCheck, IsNoCheck, IsNoCommand}
 
--- a run's words, and what its input and output tell before and after it
+-- a run's words, what names hold, and what its files, its input and its output tell before and after it
 pub record Run : Type 0 where
   pub words : List (List ℕ)
+  pub held : List ℕ → Option (List ℕ)
+  pub file_faults : ℕ
+  pub file_faults_after : ℕ
   pub left : Option (List ℕ)
   pub left_after : Option (List ℕ)
   pub written : Option (List ℕ)
@@ -46,6 +55,17 @@ AllRead run = run.read_faults_after ≡ run.read_faults
 abbrev pub AllWritten : Run → Type 0
 AllWritten run = run.write_faults_after ≡ run.write_faults
 
+-- no file failed to be read
+abbrev pub AllFilesRead : Run → Type 0
+AllFilesRead run = run.file_faults_after ≡ run.file_faults
+
+-- the words are a check's, and this is the line that it asks for, with its status
+pub record AsksLine (run : Run) (status : ℕ) (line : List ℕ) : Type 0 where
+  pub osil_name : List ℕ
+  pub osrl_name : List ℕ
+  pub check : IsCheck run.words osil_name osrl_name
+  pub about : IsAnswerAbout (run.held osil_name) (run.held osrl_name) status line
+
 -- one request came, and its response was written whole
 pub record IsAnswered (run : Run) : Type 0 where
   pub taken : List ℕ
@@ -68,6 +88,16 @@ pub record IsDone (run : Run) : Type 0 where
   pub all_read : AllRead run
   pub all_written : AllWritten run
 
+-- two files were checked, and the line that says how was written whole; nothing was taken from the input
+pub record IsChecked (status : ℕ) (run : Run) : Type 0 where
+  pub line : List ℕ
+  pub asked : AsksLine run status line
+  pub wrote : Wrote run line
+  pub untaken : run.left_after ≡ run.left
+  pub all_files_read : AllFilesRead run
+  pub all_read : AllRead run
+  pub all_written : AllWritten run
+
 -- the words are no command's: the usage was written whole, and nothing was read
 pub record IsMisused (run : Run) : Type 0 where
   pub other : IsNoCommand run.words
@@ -86,6 +116,17 @@ pub record IsReadFault (run : Run) : Type 0 where
   pub failed : HasRisen run.read_faults run.read_faults_after
   pub all_written : AllWritten run
 
+-- a file wasn't read, and nothing was taken or written
+pub record IsFileFault (run : Run) : Type 0 where
+  pub osil_name : List ℕ
+  pub osrl_name : List ℕ
+  pub check : IsCheck run.words osil_name osrl_name
+  pub failed : HasRisen run.file_faults run.file_faults_after
+  pub untaken : run.left_after ≡ run.left
+  pub unwritten : run.written_after ≡ run.written
+  pub all_read : AllRead run
+  pub all_written : AllWritten run
+
 -- what was to be written to a request: its response; or the one for want of memory, to a first part of one or to all of it
 pub record WasToRespond (run : Run) (text : List ℕ) : Type 0 where
   pub session : IsSession run.words
@@ -99,11 +140,18 @@ pub record WasToHelp (run : Run) (text : List ℕ) : Type 0 where
   pub usage_is : text ≡ usage
   pub unread : run.left_after ≡ run.left
 
+-- what was to be written of two files: the line that says what they say together
+pub record WasToAnswer (run : Run) (line : List ℕ) : Type 0 where
+  pub status : ℕ
+  pub asked : AsksLine run status line
+  pub untaken : run.left_after ≡ run.left
+  pub all_files_read : AllFilesRead run
+
 -- a write or a flush failed, and a first part was written of what was to be written
 pub record IsWriteFault (run : Run) : Type 0 where
   pub text : List ℕ
   pub part : List ℕ
-  pub due : WasToRespond run text ⊎ WasToHelp run text
+  pub due : WasToRespond run text ⊎ WasToHelp run text ⊎ WasToAnswer run text
   pub is_part : IsPart text part
   pub wrote : Wrote run part
   pub all_read : AllRead run
@@ -119,10 +167,11 @@ pub record IsWithoutMemory (run : Run) : Type 0 where
   pub all_read : AllRead run
   pub all_written : AllWritten run
 
--- there was no memory to read the words: nothing was taken from the input, and nothing was written
+-- there was no memory to read the words, or to check two files: nothing was taken from the input, and nothing was written
 pub record IsUnheard (run : Run) : Type 0 where
   pub untaken : run.left_after ≡ run.left
   pub unwritten : run.written_after ≡ run.written
+  pub all_files_read : AllFilesRead run
   pub all_read : AllRead run
   pub all_written : AllWritten run
 
@@ -139,8 +188,9 @@ pub record IsCutShort (run : Run) : Type 0 where
 -- how a run ends, by its status
 pub data Ends (status : ℕ) (run : Run) : Type 0 where
   done : status ≡ 0 → IsDone run → Ends status run
+  checked : IsChecked status run → Ends status run
   misused : status ≡ 2 → IsMisused run → Ends status run
-  read_fault : status ≡ 3 → IsReadFault run → Ends status run
+  read_fault : status ≡ 3 → IsReadFault run ⊎ IsFileFault run → Ends status run
   write_fault : status ≡ 4 → IsWriteFault run → Ends status run
   without_memory : status ≡ 5 → IsWithoutMemory run ⊎ IsUnheard run → Ends status run
   cut_short : status ≡ 8 → IsCutShort run → Ends status run
@@ -180,9 +230,27 @@ pub record IsDecided (status : ℕ) (run : Run) (bytes : List ℕ) : Type 0 wher
   pub request : (request body rest : List ℕ) → IsRequest request body → bytes ≡ request ++ rest → IsRequestServed status run body rest
   pub refused : (head rest : List ℕ) (refusal : Refusal) → Head head (Err refusal) → bytes ≡ head ++ rest → IsHeadServed status run rest
 
+-- the line that was due was written, with its status; or a file wasn't read, or a write failed, or there was no memory
+pub data Gives (due : ℕ) (MayBe : List ℕ → Type 0) (status : ℕ) (run : Run) : Type 0 where
+  in_full : (line : List ℕ) → status ≡ due → MayBe line → Wrote run line → Gives due MayBe status run
+  no_file : status ≡ 3 → IsFileFault run → Gives due MayBe status run
+  not_written : (line part : List ℕ) → status ≡ 4 → MayBe line → IsPart line part → Wrote run part → Gives due MayBe status run
+  no_memory : status ≡ 5 → IsUnheard run → Gives due MayBe status run
+
+-- what the bytes of two files decide of a check: it says that the claim is accepted exactly where it is, and why something is
+-- refused exactly where that is
+pub record IsJudged (status : ℕ) (run : Run) (osil osrl : List ℕ) : Type 0 where
+  pub accepted : (k : Kind) → IsAcceptedText osil osrl k → Gives 0 (IsAnswerLine (Ok k)) status run
+  pub accepted_only : status ≡ 0 → (k : Kind) × IsAcceptedText osil osrl k
+  pub refused : (r : Refused) (text : List ℕ) → DocsRefuse osil osrl r → IsAnswerText (Err r) text → Gives 1 (λ line. line ≡ text ++ (10 ∷ [])) status run
+  pub refused_only : status ≡ 1 → (r : Refused) × DocsRefuse osil osrl r × (r ≡ reasons.Memory → ⊥)
+
 -- a run ends in one of these ways. Status 2 says that the words are no command's, no write failed and there was memory,
--- exactly, and the bytes to come, where they are told, decide how a session ends
+-- exactly, the bytes to come, where they are told, decide how a session ends, and those of the files how a check does. Only in
+-- a check a file fails to be read
 pub record Runs (status : ℕ) (run : Run) : Type 0 where
   pub ends : Ends status run
+  pub files : IsNoCheck run.words → AllFilesRead run
   pub misused : (status ≡ 2) ↔ (IsNoCommand run.words × (status ≡ 4 → ⊥) × (status ≡ 5 → ⊥))
   pub decided : (bytes : List ℕ) → IsSession run.words → run.left ≡ Some bytes → IsDecided status run bytes
+  pub judged : (osil_name osrl_name osil osrl : List ℕ) → IsCheck run.words osil_name osrl_name → run.held osil_name ≡ Some osil → run.held osrl_name ≡ Some osrl → IsJudged status run osil osrl

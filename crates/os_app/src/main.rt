@@ -1,10 +1,14 @@
 //! A solver service for linear programs.
 //!
 //! `os_app session` reads one request from the standard input and writes its response to the standard output.
+//! `os_app check OSIL OSRL` reads an instance and a result from two files and says whether what is claimed is shown.
 //! [`run`](command::run) is the program over any input and output, and its contract says what each status means; `main`
 //! gives it the real ones.
 #![tactic(auto)]
 
+#[cfg(test)]
+mod check_tests;
+mod checking;
 mod command;
 mod service;
 mod solving;
@@ -13,7 +17,7 @@ mod tests;
 mod words;
 
 use command::{NO_MEMORY, run};
-use os_io::{MemFiles, MemListener, Memory, StdSink, StdSource};
+use os_io::{DiskFiles, MemListener, Memory, StdSink, StdSource};
 use std::alloc::{AllocError, Global};
 use std::env;
 use std::io::ErrorKind;
@@ -29,10 +33,10 @@ fn words_of(rt: &HostRuntime) -> Result<Vec<String>, Memory> {
     }
 }
 
-/// Runs over the standard input and output. There are no files and no links yet.
+/// Runs over the disk's files and the standard input and output. There are no links yet.
 fn start(rt: &HostRuntime) -> Result<u8, Memory> {
     let words = words_of(rt)?;
-    let mut files = MemFiles::new(rt.alloc(), &[])?;
+    let mut files = DiskFiles::new(rt);
     let mut input = StdSource::new(rt.stdin());
     let mut output = StdSink::new(rt.stdout());
     let mut net = MemListener::new(rt.alloc(), &[])?;

@@ -1,14 +1,14 @@
 //! The words that the program is called with.
-ghost use Rattle.std.specs.Prelude.{◌≡◌, ◌↔◌, ℕ, List, IfOk, OnOk, OnErr, map, option_and_then};
+ghost use Rattle.std.specs.Prelude.{◌≡◌, ◌↔◌, ℕ, List, [], ◌∷◌, codes, IfOk, OnOk, OnErr, map, option_and_then, option_map};
 ghost use Rattle.std.specs.String.{string_bytes};
 ghost use Rattle.os_io.specs.Streams.{Told, HasRisen};
 ghost use Rattle.http_link.specs.Responses.{Appends, AppendsPart};
-ghost use Rattle.clap.specs.Words.{app_of, subcommand_rows_of};
+ghost use Rattle.clap.specs.Words.{app_of, found_of, rows_of, subcommand_rows_of};
 ghost use Rattle.os_app.specs.Runs.{usage};
-ghost use Rattle.os_app.specs.Words.{HasSessionWords, IsSession, asked_by, asks, program};
+ghost use Rattle.os_app.specs.Words.{HasSessionWords, IsCheck, IsSession, asked_by, asks, files_of, meant, program};
 
 use clap::error::ErrorKind;
-use clap::{ArgMatches, Command};
+use clap::{Arg, ArgMatches, Command};
 use os_io::{Failed, Memory, Sink, write_all};
 use std::alloc::{AllocError, Global};
 
@@ -16,10 +16,12 @@ use std::alloc::{AllocError, Global};
 const USAGE: &[u8] = b"usage: os_app session | solve | check | serve | call | generate\n";
 
 /// What the words ask for.
-#[derive(Clone, Copy, Debug, PartialEq, Eq)]
-pub(crate) enum Asked {
+#[derive(Clone, Copy, Debug)]
+pub(crate) enum Asked<'w> {
     /// To read one request from the input and write its response to the output.
     Session,
+    /// To check the result in one file of the instance in another.
+    Check { osil: &'w str, osrl: &'w str },
 }
 
 /// The program's command line.
@@ -27,26 +29,42 @@ fn program<'a>(alloc: Global) -> Result<Command<'a>, Memory>
     ensures { IfOk result (λ command. app_of command ≡ program) }
 {
     let session = Command::new(alloc, "session");
+    let check = Command::new(alloc, "check")
+        .arg(Arg::new(alloc, "osil").required(true))?
+        .arg(Arg::new(alloc, "osrl").required(true))?;
     Command::new(alloc, "os_app")
         .subcommand_required(true)
-        .subcommand(session)
+        .subcommand(session)?
+        .subcommand(check)
+}
+
+/// The files that a check's words name.
+fn files_of<'w>(matches: &ArgMatches<'w>) -> Option<Asked<'w>>
+    ensures { option_map meant result ≡ files_of (rows_of (found_of matches.now)) }
+{
+    let osil = matches.get_str("osil")?;
+    let osrl = matches.get_str("osrl")?;
+    Some(Asked::Check { osil, osrl })
 }
 
 /// What a subcommand asks for.
-fn asked_by(matches: &ArgMatches<'_>) -> Option<Asked>
-    ensures { result ≡ option_and_then asked_by (subcommand_rows_of matches.now) }
+fn asked_by<'w>(matches: &ArgMatches<'w>) -> Option<Asked<'w>>
+    ensures { option_map meant result ≡ option_and_then asked_by (subcommand_rows_of matches.now) }
 {
-    let (name, _) = matches.subcommand()?;
+    let (name, found) = matches.subcommand()?;
     if name == "session" {
         return Some(Asked::Session);
+    }
+    if name == "check" {
+        return files_of(found);
     }
     None
 }
 
 /// What the words ask for, the first of which is the program's name. There is nothing where they are no command, or ask
 /// for help.
-pub(crate) fn read(alloc: Global, words: &[String]) -> Result<Option<Asked>, Memory>
-    ensures { IfOk result (λ asked. asked ≡ asks (map string_bytes words.now)) }
+pub(crate) fn read<'w>(alloc: Global, words: &'w [String]) -> Result<Option<Asked<'w>>, Memory>
+    ensures { IfOk result (λ asked. option_map meant asked ≡ asks (map string_bytes words.now)) }
 {
     match program(alloc)?.try_get_matches_from(words) {
         Ok(matches) => Ok(asked_by(&matches)),
@@ -62,7 +80,25 @@ pub(crate) fn session_has_its_words()
     ensures { (words : List (List ℕ)) → IsSession words ↔ HasSessionWords words }
 {}
 
-/// Writes how the program is called, and hands it on.
+/// Law: behind a name, `check` and `--` any two words name the files.
+pub(crate) fn any_words_name_files()
+    ensures { (name osil osrl : List ℕ) → IsCheck (name ∷ codes "check" ∷ codes "--" ∷ osil ∷ osrl ∷ []) osil osrl }
+{}
+
+/// Writes a text, and hands it on.
+pub(crate) fn write_out<O: Sink>(output: &mut O, text: &[u8]) -> Result<(), Failed>
+    ensures ok { OnOk result (Told (O.written output.old) (O.written output.new) (Appends text.now)) }
+    ensures prefix { OnErr result (Told (O.written output.old) (O.written output.new) (AppendsPart text.now)) }
+    ensures failed { OnErr result (HasRisen (O.write_faults output.old) (O.write_faults output.new)) }
+    ensures counted { OnOk result (O.write_faults output.new ≡ O.write_faults output.old) }
+    ensures left { O.left output.new ≡ O.left output.old }
+    ensures read_faults { O.read_faults output.new ≡ O.read_faults output.old }
+{
+    write_all(output, text)?;
+    output.flush()
+}
+
+/// Writes how the program is called.
 pub(crate) fn write_usage<O: Sink>(output: &mut O) -> Result<(), Failed>
     ensures ok { OnOk result (Told (O.written output.old) (O.written output.new) (Appends usage)) }
     ensures prefix { OnErr result (Told (O.written output.old) (O.written output.new) (AppendsPart usage)) }
@@ -71,6 +107,5 @@ pub(crate) fn write_usage<O: Sink>(output: &mut O) -> Result<(), Failed>
     ensures left { O.left output.new ≡ O.left output.old }
     ensures read_faults { O.read_faults output.new ≡ O.read_faults output.old }
 {
-    write_all(output, USAGE)?;
-    output.flush()
+    write_out(output, USAGE)
 }

@@ -1,0 +1,58 @@
+//! Checks what two files say together.
+ghost use Rattle.std.specs.Prelude.{◌≡◌, IfOk};
+ghost use Rattle.os_io.specs.Files.{Counts};
+ghost use Rattle.os_app.specs.Checks.{IsAnswerAbout, IsAnswerLine, IsAnswerTo, status_of};
+
+use cert_checker::{Kind, Refused, answer_text, check_docs};
+use os_io::{FileFault, Files, Memory, Text};
+use std::alloc::Global;
+
+/// Of each file so many bytes are read at most: one more than a document has, so that a file that is too long is refused.
+const MOST_BYTES: u64 = 4_194_305;
+
+/// The line that says what two files say together, and whether it says that the claim is accepted.
+#[derive(Drop)]
+pub(crate) struct Answer {
+    pub(crate) is_accepted: bool,
+    pub(crate) line: Text,
+}
+
+/// An answer in words, and a line feed.
+fn line_of(alloc: Global, answer: &Result<Kind, Refused>) -> Result<Text, Memory>
+    ensures { IfOk result (λ line. IsAnswerLine answer.now line) }
+{
+    let mut line = answer_text(alloc, answer)?;
+    line.push(b'\n')?;
+    Ok(line)
+}
+
+/// What these bytes of two files say together.
+fn answer_to(alloc: Global, osil: &[u8], osrl: &[u8]) -> Result<Answer, Memory>
+    ensures { IfOk result (λ a. IsAnswerTo osil.now osrl.now (status_of a.is_accepted) a.line) }
+{
+    let answer = check_docs(alloc, osil, osrl);
+    let line = line_of(alloc, &answer)?;
+    Ok(Answer {
+        is_accepted: answer.is_ok(),
+        line,
+    })
+}
+
+/// What the files of these names say together.
+pub(crate) fn answer_about<F: Files>(
+    alloc: Global,
+    files: &mut F,
+    osil: &str,
+    osrl: &str,
+) -> Result<Answer, FileFault>
+    ensures held { F.held files.new ≡ F.held files.old }
+    ensures counted { Counts result (F.faults files.old) (F.faults files.new) }
+    ensures ok { IfOk result (λ a. IsAnswerAbout (F.held files.old osil.now) (F.held files.old osrl.now) (status_of a.is_accepted) a.line) }
+{
+    let instance = files.read_all(alloc, osil, MOST_BYTES)?;
+    let result = files.read_all(alloc, osrl, MOST_BYTES)?;
+    match answer_to(alloc, instance.as_slice(), result.as_slice()) {
+        Ok(answer) => Ok(answer),
+        Err(_) => Err(FileFault::Memory),
+    }
+}
