@@ -16,6 +16,12 @@ const TWO: &[u8] =
 const THREE: &[u8] =
     b"<osrl><general><generalStatus type=\"normal\"/></general><job><status>finished</status></job><optimization><solution><status type=\"optimal\"/><otherSolutionResults><otherSolutionResult name=\"os_cert.point\"><item>3</item></otherSolutionResult><otherSolutionResult name=\"os_cert.value\"><item>3</item></otherSolutionResult><otherSolutionResult name=\"os_cert.tree\"><item>split 0 3</item><item>bound 0:-1</item><item>farkas 0:2 1:-1</item></otherSolutionResult></otherSolutionResults></solution></optimization></osrl>";
 
+/// The same of 2, up to the number at which its tree splits, and behind that.
+const SPLIT: [&[u8]; 2] = [
+    b"<osrl><general><generalStatus type=\"normal\"/></general><job><status>finished</status></job><optimization><solution><status type=\"optimal\"/><otherSolutionResults><otherSolutionResult name=\"os_cert.point\"><item>2</item></otherSolutionResult><otherSolutionResult name=\"os_cert.value\"><item>2</item></otherSolutionResult><otherSolutionResult name=\"os_cert.tree\"><item>split 0 ",
+    b"</item><item>bound 0:-1</item><item>farkas 0:2 1:-1</item></otherSolutionResult></otherSolutionResults></solution></optimization></osrl>",
+];
+
 /// A report that claims nothing.
 const SILENT: &[u8] =
     b"<osrl><general><generalStatus type=\"normal\"/></general><job><status>unknown</status></job></osrl>";
@@ -106,6 +112,39 @@ fn reads_the_words_of_a_check(rt: HostRuntime) -> Result<(), Fail> {
         let mut output = MemSink::new(rt.alloc(), 100, &[])?;
         assert_eq!(rt; status(rt.alloc(), words, &mut files, &mut output)?, 0);
         assert!(rt; output.as_slice() == b"accepted optimal\n".as_slice());
+    }
+    Ok(())
+}
+
+/// The line about the halves and a result whose tree splits at this number.
+fn line_of_split(alloc: Global, number: &[u8]) -> Result<Text, AllocError> {
+    let mut result = Text::from_slice(alloc, SPLIT[0])?;
+    result.extend(number)?;
+    result.extend(SPLIT[1])?;
+    let mut files = files(alloc, &[])?;
+    files.put(alloc, "split.osrl", result.as_slice())?;
+    let mut output = MemSink::new(alloc, 100, &[])?;
+    let words = ["os_app", "check", "halves.osil", "split.osrl"];
+    status(alloc, &words, &mut files, &mut output)?;
+    Text::from_slice(alloc, output.as_slice())
+}
+
+#[test]
+fn splits_are_read_up_to_the_width(rt: HostRuntime) -> Result<(), Fail> {
+    let table: [(&[u8], &[u8]); 3] = [
+        (b"2", b"accepted optimal\n"),
+        (
+            b"170141183460469231731687303715884105727",
+            b"refused Tree 1\n",
+        ),
+        (
+            b"170141183460469231731687303715884105728",
+            b"refused Result osrl Wide at 3\n",
+        ),
+    ];
+    for (number, want) in table {
+        let line = line_of_split(rt.alloc(), number)?;
+        assert!(rt; line.as_slice() == want);
     }
     Ok(())
 }
