@@ -1,6 +1,6 @@
 -- The text that an instance is written as is that of this instance and of no other.
 use Rattle.std.proofs.Common.{◌≡◌, ℕ, ◌≤◌, List, length}
-use Rattle.tree_walk.specs.Texts.{document_limit}
+use Rattle.document_tags.specs.Texts.{document_limit}
 use Rattle.instance.specs.Parts.{Parts, IsValid}
 use Rattle.osil_grammar.specs.InstanceText.{IsInstanceText}
 use Rattle.osil_grammar.specs.Writing.{HasDecimals, IsWrittenText}

@@ -1,7 +1,7 @@
 -- OSiL documents: those that stand for an instance, and those that are refused.
 use Rattle.std.specs.Prelude.{ℕ, List}
 use Rattle.tree_grammar.specs.Elements.{Element}
-use Rattle.tree_walk.specs.Texts as tree
+use Rattle.document_tags.specs.Texts as tree
 use Rattle.instance.specs.Parts.{Parts}
 use Rattle.osil_grammar.specs.Refusals.{Refusal, IsRefused, IsAccepted}
 use Rattle.osil_grammar.specs.Meaning.{Means}
