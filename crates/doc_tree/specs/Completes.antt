@@ -1,6 +1,7 @@
 -- The machine's state without where it lies in memory, and what completes a document from there.
 use Rattle.std.specs.Prelude.{◌≡◌, ℕ, List, [], ◌∷◌, ◌++◌, Bool, true, false, map, reverse, drop, ◌↔◌, ◌⊎◌, ◌≤◌, ◌<◌, ◌-◌, ◌≢◌, length, encode_utf8}
 use Rattle.std.specs.Char.{IsScalar}
+use Rattle.tree_grammar.specs.declared.TheConstants.{DEPTH}
 use Rattle.tree_grammar.specs.Elements.{Attribute}
 use Rattle.tree_grammar.specs.Characters.{IsSpace, Each, IsNameStart, IsQName, local_part}
 use Rattle.tree_grammar.specs.Tags.{IsAmong, IsQuote}
@@ -298,9 +299,9 @@ QuestionAt s to = ((s.place ≡ places.FirstQuestion) × (to ≡ places.FirstNam
 abbrev pub QuoteAt : State → Place → Type 0
 QuoteAt s to = ((s.place ≡ places.FieldQuote) × (to ≡ places.FieldValue) × Outer s × (s.field ≢ fields.Before)) ⊎ ((s.place ≡ places.KeyQuote) × (to ≡ places.Value) × (IsAmong s.key s.keys → ⊥) × GoodTag s)
 
--- The machine goes on wherever 32 elements may stand in one another.
+-- The machine goes on wherever that many elements may stand in one another.
 abbrev pub IsAllowed : Terms → Type 0
-IsAllowed t = 32 ≤ t.depth
+IsAllowed t = DEPTH ≤ t.depth
 
 -- From what completes this, the machine takes the byte: behind it all stays the same. No byte of ASCII leads into the byte order mark.
 pub record Follows (before : List Mark) (K : Terms → List ℕ → List Mark → Type 0) (b : ℕ) (new : State) : Type 0 where
@@ -314,7 +315,7 @@ Stuck K b = (t : Terms) → IsAllowed t → (bytes : List ℕ) (marks : List Mar
 
 -- An element of depth 33 begins.
 abbrev pub IsDeep : State → ℕ → Type 0
-IsDeep s b = (s.place ≡ places.ContentLess) × (32 ≤ length s.names) × IsNameStart b
+IsDeep s b = (s.place ≡ places.ContentLess) × (DEPTH ≤ length s.names) × IsNameStart b
 
 -- The declaration's encoding ends here, and isn't one that is read.
 abbrev pub IsOther : State → ℕ → Type 0

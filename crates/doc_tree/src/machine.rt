@@ -25,6 +25,7 @@ use element_tree::Tree;
 use os_io::Memory;
 use std::alloc::{AllocError, Global};
 use std::mem;
+use tree_grammar::DEPTH;
 
 /// Where in the document the reader stands.
 #[derive(Clone, Copy, Debug, PartialEq, Eq)]
@@ -170,9 +171,6 @@ pub(crate) struct Machine {
     radix: u32,
     builder: Telling,
 }
-
-/// How many elements may stand in one another.
-const DEPTH: usize = 32;
 
 impl Machine {
     pub(crate) fn new(alloc: Global) -> Self
@@ -805,7 +803,7 @@ impl Machine {
     fn tag_begins(&mut self, b: u8) -> Result<(), StepFault>
         requires kept { (view self.old).kept ≡ [] }
         requires names { ArePrintable (view self.old).names }
-        requires room { IsNameStart b → length self.old.names.items < 32 }
+        requires room { IsNameStart b → length self.old.names.items < DEPTH }
         ensures follows { OnOk result (Follows (view self.old).marks (TagFirst (view self.old).names) b (view self.new)) }
         ensures stuck { IsErrOf result StepFault.Refused → Stuck (TagFirst (view self.old).names) b }
     {
