@@ -8,7 +8,7 @@ use Rattle.tree_grammar.specs.Tags.{IsAmong, IsQuote}
 use Rattle.tree_grammar.specs.Declaration.{IsEncodingName, IsUtf8Name}
 use Rattle.element_tree.specs.Building.{said}
 use Rattle.doc_tree.specs.Marks.{Mark, Start, Char, Finish, spread}
-use Rattle.doc_tree.specs.Rests.{Terms, Then, Word, QuoteRest, RefRest, DigitRest, NumeralRest, IsPart, CommentRest, SectionRest, pending, PiText, PiOver, FirstOver, EndRest, Saying, Or, Never, TagRest, BodyRest, AttributeValue, KeyOver, KeyRest, After, room_in, keep, Between, Before, FieldValue, FieldOver, IsBegun, Choice, Gap, Marked, Whole}
+use Rattle.doc_tree.specs.Rests.{Terms, Then, Word, QuoteRest, RefRest, DigitRest, NumeralRest, IsPart, CommentRest, SectionRest, pending, PiText, PiOver, FirstOver, EndRest, Saying, Or, Never, TagRest, BodyRest, AreSameNames, AttributeValue, KeyOver, KeyRest, After, room_in, keep, Between, Before, FieldValue, FieldOver, IsBegun, Choice, Gap, Marked, Whole}
 use Rattle.doc_tree.specs.declared.names.Part.{Part}
 use Rattle.doc_tree.specs.declared.names.Part.TheVariants as parts
 use Rattle.doc_tree.specs.declared.machine.Round.{Round}
@@ -50,7 +50,7 @@ view m = record {
   left = drop m.matched m.word.items;
   goal = m.goal;
   name = m.name.items;
-  keys = map (λ v. v.items) m.keys.items;
+  keys = map (λ v. v.items) m.keys.keys;
   part = m.part;
   key = m.key.items;
   quote = m.quote;
@@ -100,6 +100,12 @@ InValue s before t = AttributeValue (room_in t s.names - 1) s.name s.keys s.kept
 -- Behind the attribute that is read, whose value this is.
 abbrev pub BehindValue : State → List ℕ → Terms → List ℕ → List Mark → Type 0
 BehindValue s value t = TagRest (room_in t s.names - 1) s.name (s.keys ++ (s.key ∷ [])) (keep s.key value s.kept) (Between 0 s.names t)
+
+-- Behind the attribute that is read, whose name is now among those of its tag.
+pub record HoldsKey (old new : State) : Type 0 where
+  pub keys : List (List ℕ)
+  pub same : AreSameNames keys (old.keys ++ (old.key ∷ []))
+  pub is : new ≡ record old { place = places.TagAfter; keys = keys; key = [] }
 
 -- Behind a reference in content that stands for these characters.
 abbrev pub Said : List (List ℕ) → Terms → List ℕ → List ℕ → List Mark → Type 0
