@@ -4,14 +4,10 @@ use Rattle.std.specs.Prelude.{IsErrAnd, OnOk, if◌then◌else◌}
 use Rattle.std.proofs.Math.Seq.{take-length}
 use Rattle.std.proofs.lemmas.List.{take-append-drop, drop-drop}
 use Rattle.os_io.specs.Streams.{Tells, Told, IsPart, Appends, AppendsPart, Grows, HasRisen, Counts, SameInput, Writes, Sends}
-use Rattle.os_io.specs.Laws.{handed_part}
+use Rattle.os_io.specs.Laws.{handed_part, part_whole}
 use Rattle.os_io.proofs.Told.{tells_same, tells_on, tells_map}
 
 -- ---- first parts
-
--- all is a first part
-pub part_whole : (a : List ℕ) → IsPart a a
-part_whole a = ([], sym (append-nil a))
 
 -- nothing is a first part
 pub part_none : (a : List ℕ) → IsPart a []

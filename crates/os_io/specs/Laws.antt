@@ -1,6 +1,6 @@
 -- What shows the laws of the forms in memory, and of the watch that never stops.
 use Rattle.std.specs.Prelude.{◌≡◌, ℕ, ◌+◌, List, [], ◌∷◌, ◌++◌, take, drop, Bool, true, false, refl}
-use Rattle.std.proofs.Common.{sym, ◌∙◌, ap, subst}
+use Rattle.std.proofs.Common.{append-nil, sym, ◌∙◌, ap, subst}
 use Rattle.std.proofs.Math.Nat.{add_assoc, add_right_comm, add-zero, zero-add}
 use Rattle.std.proofs.lemmas.List.{take-append-drop}
 use Rattle.os_io.specs.Streams.{IsPart}
@@ -10,6 +10,10 @@ use Rattle.os_io.specs.declared.mem_watch.MemWatch.{MemWatch}
 -- the first bytes are a first part
 pub handed_part : (n : ℕ) (bytes : List ℕ) → IsPart bytes (take n bytes)
 handed_part n bytes = (drop n bytes, sym (take-append-drop n bytes))
+
+-- all is a first part
+pub part_whole : (a : List ℕ) → IsPart a a
+part_whole a = ([], sym (append-nil a))
 
 -- the looks of two lists that said to stop
 pub stops_more : (first second : List Bool) → stops_of (first ++ second) ≡ stops_of first + stops_of second
