@@ -8,7 +8,7 @@ use Rattle.evidence.proofs.Columns.{by_eq, by_bool, none-number}
 use Rattle.evidence.proofs.Units.{unit-number, unit_own, unit_other, picked_left}
 use Rattle.bases.specs.Order.{GoesThrough}
 
-module _ (n k : ℕ) (basic : ℕ → Bool) (at place : ℕ → ℕ) (through : GoesThrough n k basic at place) where
+module _ (n k : ℕ) (basic : ℕ → Bool) (at place : ℕ → ℕ) (through : GoesThrough n k basic false at place) where
   abbrev count : ℕ → Ratio
   count c = total none n (λ j. unit_at (at j) c)
 

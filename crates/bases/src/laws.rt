@@ -22,7 +22,7 @@ pub fn dictionaries_have_forms()
 
 /// A sum over all columns to which basic ones add nothing is that over the others, in whatever order they stand.
 pub fn order_is_free()
-    ensures { (n k : ℕ) (basic : ℕ → Bool) (at place : ℕ → ℕ) (f : ℕ → Ratio) → GoesThrough n k basic at place → ((c : ℕ) → IsNumber (f c)) → ((c : ℕ) → c < k → basic c ≡ true → IsSame (f c) none) → IsSame (total none k f) (total none n (λ j. f (at j))) }
+    ensures { (n k : ℕ) (basic : ℕ → Bool) (at place : ℕ → ℕ) (f : ℕ → Ratio) → GoesThrough n k basic false at place → ((c : ℕ) → IsNumber (f c)) → ((c : ℕ) → c < k → basic c ≡ true → IsSame (f c) none) → IsSame (total none k f) (total none n (λ j. f (at j))) }
 {}
 
 /// The rows themselves are the dictionary of their own columns.
