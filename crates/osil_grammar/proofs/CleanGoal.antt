@@ -8,8 +8,8 @@ use Rattle.std.proofs.lemmas.List.Elements.{All-nil, All-head, All-tail, All-pus
 use Rattle.tree_grammar.specs.Elements.{Attribute, Nodes, none, chars, Element}
 use Rattle.tree_grammar.specs.Tags.{IsAmong}
 use Rattle.element_tree.specs.Writable.{local_nodes}
-use Rattle.tree_walk.specs.Rests.{child_elements}
-use Rattle.tree_walk.specs.Texts.{HoldsText}
+use Rattle.document_tags.specs.Rests.{child_elements}
+use Rattle.document_tags.specs.Texts.{HoldsText}
 use Rattle.rational.specs.Ratio.{Ratio}
 use Rattle.rational.specs.Width.{SumFits}
 use Rattle.evidence.specs.Sums as evidence

@@ -7,7 +7,7 @@ use Rattle.std.proofs.lemmas.List.{length-map}
 use Rattle.std.proofs.lemmas.List.Elements.{All-map, All-weaker, All-contains}
 use Rattle.tree_grammar.specs.Elements.{Attribute, Nodes, none, element, Element}
 use Rattle.element_tree.specs.Writable.{local_nodes}
-use Rattle.tree_walk.specs.Rests.{child_elements}
+use Rattle.document_tags.specs.Rests.{child_elements}
 use Rattle.rational.specs.Ratio.{Ratio, sum}
 use Rattle.rational.specs.Width.{SumFits}
 use Rattle.evidence.specs.Sums as evidence

@@ -6,7 +6,7 @@ use Rattle.std.proofs.lemmas.List.Elements.{All-cons, All-append}
 use Rattle.tree_grammar.specs.Elements.{Nodes, none, element, Element}
 use Rattle.tree_grammar.specs.Tags.{IsAmong}
 use Rattle.element_tree.specs.Writable.{local_element, local_nodes}
-use Rattle.tree_walk.specs.Rests.{child_elements}
+use Rattle.document_tags.specs.Rests.{child_elements}
 use Rattle.decimal_text.specs.Count.{IsCount}
 use Rattle.instance.specs.declared.parts.Var.{Var}
 use Rattle.instance.specs.declared.parts.Row.{Row}

@@ -2,7 +2,7 @@
 use Rattle.std.proofs.Common.{◌≡◌, ◌∙◌, ℕ, zero, suc, ◌≤◌, Some, None, List, [], ◌∷◌, ◌++◌, refl, ap, sym, subst, inl, inr, arith}
 use Rattle.std.specs.Prelude.{codes}
 use Rattle.tree_grammar.specs.Elements.{Element}
-use Rattle.tree_walk.specs.Rests.{child_elements}
+use Rattle.document_tags.specs.Rests.{child_elements}
 use Rattle.osil_grammar.specs.declared.tags.StartTag.{StartTag}
 use Rattle.osil_grammar.specs.declared.fault.OsilFault.{OsilFault}
 use Rattle.osil_grammar.specs.Tags.{Tag, Level, names, level_of, start_tag, end_tag, first_named}

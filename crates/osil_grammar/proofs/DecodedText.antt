@@ -2,7 +2,7 @@
 use Rattle.std.proofs.Common.{◌≡◌, ℕ, Ok, Err, List}
 use Rattle.std.specs.Prelude.{Result, IfOk, IfErr}
 use Rattle.tree_grammar.specs.Elements.{Element, Event, events}
-use Rattle.tree_walk.specs.Texts.{IsDocument, document_limit}
+use Rattle.document_tags.specs.Texts.{IsDocument, document_limit}
 use Rattle.doc_tree.specs.Reading as document
 use Rattle.instance.specs.Parts.{Parts}
 use Rattle.osil_grammar.specs.declared.fault.OsilFault.{OsilFault}

@@ -11,7 +11,7 @@ use Rattle.tree_grammar.specs.Elements.{Attribute, Nodes, none, element, Element
 use Rattle.element_tree.specs.Writable.{IsWritable, local_element}
 use Rattle.element_tree.proofs.XmlTexts.{Printable}
 use Rattle.element_tree.proofs.Documents.{written_doc}
-use Rattle.tree_walk.specs.Texts.{IsDocument, document_limit}
+use Rattle.document_tags.specs.Texts.{IsDocument, document_limit}
 use Rattle.tree_grammar.specs.Document.{SmallDoc}
 use Rattle.fraction.specs.declared.frac.Frac.{Frac}
 use Rattle.fraction.specs.declared.ends.Entry.{Entry}

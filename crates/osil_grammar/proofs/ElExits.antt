@@ -2,7 +2,7 @@
 use Rattle.std.proofs.Common.{◌≡◌, ℕ, ◌+◌, ◌<◌, Some, None, Ok, Err, List, [], ◌∷◌, ◌++◌, refl, sym, ◌∙◌, ap, subst, arith, inl, inr, ⊎_elim}
 use Rattle.std.specs.Prelude.{◌⊎◌, Option, Result, IsSomeAnd, MatchOption, MatchResult, codes}
 use Rattle.tree_grammar.specs.Elements.{Attribute, Element, Event}
-use Rattle.tree_walk.specs.Texts.{HoldsText}
+use Rattle.document_tags.specs.Texts.{HoldsText}
 use Rattle.decimal_text.specs.Count.{IsCount}
 use Rattle.osil_grammar.specs.Tags.{Level, Tag, level_of, names, attribute, value_of}
 use Rattle.osil_grammar.specs.Kinds.{Listing, Listed, El, path}

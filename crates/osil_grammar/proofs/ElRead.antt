@@ -2,7 +2,7 @@
 use Rattle.std.proofs.Common.{◌≡◌, ℕ, ◌+◌, ◌<◌, ◌≤◌, Some, None, List, [], ◌∷◌, ◌++◌, refl, sym, ◌∙◌, ap, subst, arith, inl, inr, ⊎_elim}
 use Rattle.std.specs.Prelude.{◌⊎◌, Option, IsSomeAnd, MatchOption, codes}
 use Rattle.tree_grammar.specs.Elements.{Element}
-use Rattle.tree_walk.specs.Texts.{HoldsText}
+use Rattle.document_tags.specs.Texts.{HoldsText}
 use Rattle.decimal_text.specs.Count.{IsCount}
 use Rattle.osil_grammar.specs.Tags.{Level, Tag, level_of, start_tag, end_tag, names, attribute}
 use Rattle.osil_grammar.specs.Kinds.{Listing, Values, Listed, El, path}

@@ -3,7 +3,7 @@ use Rattle.std.proofs.Common.{◌≡◌, ℕ, ◌≤◌, false, List, [], length
 use Rattle.std.proofs.lemmas.Bool.{true≢false}
 use Rattle.tree_grammar.specs.Elements.{Nodes, Element}
 use Rattle.tree_grammar.specs.Tags.{IsAmong}
-use Rattle.tree_walk.specs.Texts.{HoldsText}
+use Rattle.document_tags.specs.Texts.{HoldsText}
 use Rattle.osil_grammar.specs.Tags.{Level, level_of, start_tag, names, node_tags}
 use Rattle.osil_grammar.specs.Kinds.{Kind, path, content_names, is_open}
 use Rattle.osil_grammar.specs.Deciding.{told}

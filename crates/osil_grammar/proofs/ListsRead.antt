@@ -2,7 +2,7 @@
 use Rattle.std.proofs.Common.{◌≡◌, ℕ, zero, suc, ◌+◌, ℤ, pos, ◌+ℤ◌, List, [], ◌∷◌, ◌++◌, length, refl, sym, ◌∙◌, ap, subst, arith}
 use Rattle.std.proofs.lemmas.List.{append_assoc, append-nil, map-append, length-append, length-map}
 use Rattle.tree_grammar.specs.Elements.{Element, Event, Close, nodes_events}
-use Rattle.tree_walk.specs.Rests.{child_elements}
+use Rattle.document_tags.specs.Rests.{child_elements}
 use Rattle.rational.specs.Ratio.{Ratio, sum}
 use Rattle.fraction.specs.Frac.{ratio, ratios}
 use Rattle.fraction.specs.declared.frac.Frac.{Frac}

@@ -3,7 +3,7 @@ use Rattle.std.proofs.Common.{◌≡◌, ◌≢◌, ℕ, ◌<◌, inl, inr, List
 use Rattle.std.specs.Prelude.{Option, None, Some, MatchOption, IfSome, IsSomeAnd, Result, Ok, Err, MatchResult, map, codes}
 use Rattle.tree_grammar.specs.Elements.{Attribute, Element}
 use Rattle.tree_grammar.specs.Tags.{IsAmong}
-use Rattle.tree_walk.specs.Rests.{child_elements}
+use Rattle.document_tags.specs.Rests.{child_elements}
 use Rattle.evidence.specs.Sums as evidence
 use Rattle.fraction.specs.declared.frac.Frac.{Frac}
 use Rattle.fraction.specs.Frac.{ratio}

@@ -3,7 +3,7 @@ use Rattle.std.proofs.Common.{◌≡◌, ◌≢◌, ◌∙◌, ℕ, List, refl, 
 use Rattle.doc_tree.specs.declared.TreeFault.{TreeFault}
 use Rattle.doc_tree.specs.declared.TreeFault.TheVariants as trees
 use Rattle.doc_tree.proofs.OneRefusal.{one_refusal}
-use Rattle.tree_walk.specs.Texts.{document_limit}
+use Rattle.document_tags.specs.Texts.{document_limit}
 use Rattle.instance.specs.Parts.{Parts}
 use Rattle.osil_grammar.specs.declared.fault.OsilFault.{OsilFault}
 use Rattle.osil_grammar.specs.declared.fault.OsilFault.TheVariants.{Tree, Refused, Memory}

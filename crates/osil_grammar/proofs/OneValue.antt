@@ -3,7 +3,7 @@ use Rattle.std.proofs.Common.{◌≡◌, ◌∙◌, ℕ, suc, ◌<◌, inl, inr,
 use Rattle.std.specs.Prelude.{Option, None, Some, MatchOption, bytes_eq, codes}
 use Rattle.std.proofs.lemmas.Bool.{true≢false}
 use Rattle.tree_grammar.specs.Elements.{Element}
-use Rattle.tree_walk.specs.Rests.{child_elements}
+use Rattle.document_tags.specs.Rests.{child_elements}
 use Rattle.rational.specs.Ratio.{Ratio, IsNumber, IsSame, sum, negative}
 use Rattle.rational.proofs.Scaling.{IsSame-trans}
 use Rattle.evidence.specs.Sums as evidence

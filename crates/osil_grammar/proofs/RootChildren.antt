@@ -4,7 +4,7 @@ use Rattle.std.proofs.Common.{◌≡◌, ◌∙◌, true, false, ℕ, zero, ◌+
 use Rattle.std.specs.Prelude.{Option, IsSomeAnd, codes}
 use Rattle.tree_grammar.specs.Elements.{Element}
 use Rattle.tree_grammar.specs.Tags.{IsAmong}
-use Rattle.tree_walk.specs.Rests.{child_elements}
+use Rattle.document_tags.specs.Rests.{child_elements}
 use Rattle.instance.specs.Parts.{Parts}
 use Rattle.osil_grammar.specs.Tags.{Level, names, level_of, start_tag, end_tag, first_named}
 use Rattle.osil_grammar.specs.Kinds.{Osil, path, ordered, content_names}

@@ -2,7 +2,7 @@
 use Rattle.std.proofs.Common.{◌≡◌, ℕ, Some, None, [], ◌∷◌, refl, ap, sym, subst, arith}
 use Rattle.std.specs.Prelude.{Option, MatchOption, IsSomeAnd, codes}
 use Rattle.tree_grammar.specs.Elements.{Element, Open, Close, nodes_events, events}
-use Rattle.tree_walk.specs.Rests.{after_text, child_elements}
+use Rattle.document_tags.specs.Rests.{after_text, child_elements}
 use Rattle.instance.specs.Parts.{Parts}
 use Rattle.osil_grammar.specs.declared.fault.OsilFault.{OsilFault}
 use Rattle.osil_grammar.specs.Tags.{level_of, start_tag, end_tag, tags, node_tags, first_named}

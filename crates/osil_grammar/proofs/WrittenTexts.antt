@@ -1,7 +1,7 @@
 -- The text that an instance is written as is that of this instance and of no other.
 use Rattle.std.proofs.Common.{◌≡◌, ◌⊎◌, inl, inr, ℕ, ◌≤◌, List, length, ap}
 use Rattle.std.specs.Prelude.{Result, Ok, Err, IfOk, IfErr}
-use Rattle.tree_walk.specs.Texts.{document_limit}
+use Rattle.document_tags.specs.Texts.{document_limit}
 use Rattle.instance.specs.Parts.{Parts, IsValid}
 use Rattle.osil_grammar.specs.declared.fault.OsilFault.{OsilFault}
 use Rattle.osil_grammar.specs.declared.fault.OsilFault.TheVariants.{Memory}

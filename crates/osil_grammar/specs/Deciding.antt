@@ -2,8 +2,8 @@
 use Rattle.std.specs.Prelude.{◌≡◌, ◌≢◌, ◌⊎◌, ℕ, suc, ◌+◌, ◌<◌, ◌≤◌, ℤ, pos, ◌+ℤ◌, ◌*ℤ◌, ◌<ℤ◌, ◌≤ℤ◌, Bool, true, false, Option, None, Some, IsSomeAnd, Contains, List, [], ◌∷◌, ◌++◌, map, length, get_or, take, codes}
 use Rattle.tree_grammar.specs.Elements.{Element}
 use Rattle.tree_grammar.specs.Tags.{IsAmong}
-use Rattle.tree_walk.specs.Rests.{child_elements}
-use Rattle.tree_walk.specs.Texts.{HoldsText}
+use Rattle.document_tags.specs.Rests.{child_elements}
+use Rattle.document_tags.specs.Texts.{HoldsText}
 use Rattle.rational.specs.Ratio.{negative}
 use Rattle.rational.specs.Width.{SumFits}
 use Rattle.evidence.specs.Sums as evidence

@@ -2,7 +2,7 @@
 use Rattle.std.specs.Prelude.{◌≡◌, ◌≢◌, ◌⊎◌, ℕ, ◌<◌, pos, true, false, cond, MatchOption, List, [], ◌∷◌, ◌++◌, length, replicate, get_or, codes}
 use Rattle.std.specs.List.{All}
 use Rattle.tree_grammar.specs.Elements.{Element}
-use Rattle.tree_walk.specs.Rests.{child_elements}
+use Rattle.document_tags.specs.Rests.{child_elements}
 use Rattle.rational.specs.Ratio.{Ratio, whole, sum, negative, IsSame}
 use Rattle.evidence.specs.Sums as evidence
 use Rattle.evidence.specs.Instance as Of

@@ -1,7 +1,7 @@
 -- The numbers of OSiL documents: which attributes and texts are read, and by which grammar (XML Schema part 2).
 use Rattle.std.specs.Prelude.{ℕ, Option, None, Some, MatchOption, List, [], ◌∷◌, codes}
 use Rattle.tree_grammar.specs.Elements.{Element}
-use Rattle.tree_walk.specs.Texts.{HoldsText}
+use Rattle.document_tags.specs.Texts.{HoldsText}
 use Rattle.fraction.specs.Frac.{ratio}
 use Rattle.fraction.specs.declared.frac.Frac.{Frac}
 use Rattle.decimal_text.specs.Space.{trimmed}

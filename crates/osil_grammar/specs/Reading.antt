@@ -1,8 +1,8 @@
 -- What the reader promises: bytes stand for an instance, or are refused.
 use Rattle.std.specs.Prelude.{◌≡◌, ℕ, List}
 use Rattle.tree_grammar.specs.Elements.{Element}
-use Rattle.tree_walk.specs.Texts as tree
-use Rattle.tree_walk.specs.Texts.{document_limit}
+use Rattle.document_tags.specs.Texts as tree
+use Rattle.document_tags.specs.Texts.{document_limit}
 use Rattle.doc_tree.specs.Refusals.{IsRefusal}
 use Rattle.doc_tree.specs.declared.TreeFault.{TreeFault}
 use Rattle.doc_tree.specs.declared.TreeFault.TheVariants as tree_fault

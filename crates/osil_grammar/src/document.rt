@@ -4,7 +4,7 @@ ghost use Rattle.std.specs.Prelude.{◌≡◌, ◌≢◌, ◌≤◌, List, [], �
 ghost use Rattle.std.specs.List.{All};
 ghost use Rattle.tree_grammar.specs.Elements.{Attribute, Nodes, Element, none, events, nodes_events};
 ghost use Rattle.tree_grammar.specs.Elements as tree;
-ghost use Rattle.tree_walk.specs.Texts.{document_limit};
+ghost use Rattle.document_tags.specs.Texts.{document_limit};
 ghost use Rattle.fraction.specs.Frac.{ratio};
 ghost use Rattle.decimal_text.specs.Plain.{PlainText};
 ghost use Rattle.instance.specs.Parts.{IsAscending};

@@ -2,7 +2,7 @@
 
 ghost use Rattle.std.specs.Prelude.{ℕ, ◌≡◌, ◌≤◌, ◌++◌, ◌∷◌, [], List, cond, IfOk, OnOk, MatchOption, ◌↔◌, IsTrue};
 ghost use Rattle.tree_grammar.specs.Elements.{Element};
-ghost use Rattle.tree_walk.specs.Rests.{child_elements};
+ghost use Rattle.document_tags.specs.Rests.{child_elements};
 ghost use Rattle.osil_grammar.specs.Kinds.{Listing, InstanceData, Coefficients, listing_name};
 ghost use Rattle.osil_grammar.specs.Walking.{GoesOn};
 ghost use Rattle.osil_grammar.specs.PartsRead.{AreWithin};

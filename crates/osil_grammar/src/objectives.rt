@@ -2,7 +2,7 @@
 
 ghost use Rattle.std.specs.Prelude.{◌≡◌, ◌<◌, ℕ, MatchOption, MatchResult, IfSome, IfOk, OnOk, codes, length, vec_len};
 ghost use Rattle.std.specs.List.{All};
-ghost use Rattle.tree_walk.specs.Rests.{child_elements};
+ghost use Rattle.document_tags.specs.Rests.{child_elements};
 ghost use Rattle.evidence.specs.Sums as evidence;
 ghost use Rattle.fraction.specs.Frac.{ratio};
 ghost use Rattle.decimal_text.specs.Count.{IsCount};

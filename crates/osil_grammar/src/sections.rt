@@ -3,7 +3,7 @@
 ghost use Rattle.std.specs.Prelude.{◌≡◌, ◌↔◌, ◌++◌, ◌∷◌, [], ℕ, List, IsTrue, IfOk, OnOk, MatchOption, codes, length};
 ghost use Rattle.tree_grammar.specs.Elements.{Element, events};
 ghost use Rattle.tree_grammar.specs.Tags.{IsAmong};
-ghost use Rattle.tree_walk.specs.Rests.{child_elements};
+ghost use Rattle.document_tags.specs.Rests.{child_elements};
 ghost use Rattle.osil_grammar.specs.Tags.{tags};
 ghost use Rattle.osil_grammar.specs.Kinds.{Osil, InstanceData, content_names};
 ghost use Rattle.osil_grammar.specs.Meaning.{SayParts, Means};

@@ -7,7 +7,7 @@ use Rattle.tree_grammar.specs.Document.{SmallDoc}
 use Rattle.element_tree.specs.Writable.{IsWritable, local_element}
 use Rattle.element_tree.proofs.XmlTexts.{Printable, list_printable}
 use Rattle.element_tree.proofs.Documents.{written_doc, nodes_local}
-use Rattle.tree_walk.specs.Texts.{IsDocument}
+use Rattle.document_tags.specs.Texts.{IsDocument}
 use Rattle.certificate.specs.declared.claims.Claim.{Claim}
 use Rattle.osrl_grammar.specs.declared.report.JobStatus.{JobStatus}
 use Rattle.osrl_grammar.specs.declared.report.JobStatus.TheVariants as statuses

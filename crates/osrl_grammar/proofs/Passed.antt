@@ -2,7 +2,7 @@
 use Rattle.std.proofs.Common.{◌≡◌, ◌∙◌, ℕ, suc, ◌+◌, ◌-◌, ◌<◌, ◌≤◌, List, [], ◌∷◌, length, drop, drop-cons, refl, ap, sym, subst, arith}
 use Rattle.std.proofs.lemmas.List.{drop_all}
 use Rattle.tree_grammar.specs.Elements.{Attribute, Nodes, none, element, chars, Event, Open, Chars, Close, nodes_events}
-use Rattle.tree_walk.specs.Rests.{child_elements}
+use Rattle.document_tags.specs.Rests.{child_elements}
 use Rattle.element_tree.specs.Items.{event_at}
 use Rattle.osrl_grammar.specs.Passing.{Pending, IsChild, Remains}
 

@@ -1,7 +1,7 @@
 -- Elements found at their places.
 use Rattle.std.proofs.Common.{◌≡◌, ◌∙◌, ℕ, suc, ◌+◌, ◌<◌, Bool, true, false, cond, bytes_eq, List, [], ◌∷◌, ◌++◌, Some, slice_get, get_or, length, drop, drop-cons, drop-drop, add-one, refl, ap, sym, subst, append_assoc, append-nil, arith}
 use Rattle.tree_grammar.specs.Elements.{Attribute, Nodes, none, element, chars, Element, Event, Open, Chars, Close, nodes_events}
-use Rattle.tree_walk.specs.Rests.{child_elements}
+use Rattle.document_tags.specs.Rests.{child_elements}
 use Rattle.osrl_grammar.specs.declared.spot.Spot.{Spot}
 use Rattle.osrl_grammar.specs.Elements.{named, children_named, characters}
 use Rattle.osrl_grammar.specs.Values.{Each}

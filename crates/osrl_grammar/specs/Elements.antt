@@ -1,7 +1,7 @@
 -- Where the parts of a result document stand: elements at the end of a path of names, their attributes and their own text.
 use Rattle.std.specs.Prelude.{ℕ, Option, None, Some, cond, bytes_eq, slice_get, flat_map, List, [], ◌∷◌, ◌++◌}
 use Rattle.tree_grammar.specs.Elements.{Attribute, Nodes, none, element, chars, Element}
-use Rattle.tree_walk.specs.Rests.{child_elements}
+use Rattle.document_tags.specs.Rests.{child_elements}
 
 -- the value of the first attribute of this name, if there is one
 abbrev pub value_of : List ℕ → List Attribute → Option (List ℕ)

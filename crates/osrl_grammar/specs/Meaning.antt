@@ -2,7 +2,7 @@
 use Rattle.std.specs.Prelude.{◌≡◌, ◌↔◌, ℕ, IsTrue, Option, None, Some, IsSomeAnd, List, [], ◌∷◌, codes}
 use Rattle.std.specs.List.{All}
 use Rattle.tree_grammar.specs.Elements.{Element}
-use Rattle.tree_walk.specs.Texts.{IsDocument}
+use Rattle.document_tags.specs.Texts.{IsDocument}
 use Rattle.decimal_text.specs.Space.{trimmed}
 use Rattle.fraction.specs.declared.frac.Frac.{Frac}
 use Rattle.certificate.specs.declared.nodes.Node.{Node}

@@ -1,7 +1,7 @@
 -- What of a tree's events is still to come while elements are passed.
 use Rattle.std.specs.Prelude.{◌≡◌, ℕ, zero, suc, List, ◌∷◌}
 use Rattle.tree_grammar.specs.Elements.{Nodes, Element, Event, Open, Close, nodes_events}
-use Rattle.tree_walk.specs.Rests.{child_elements}
+use Rattle.document_tags.specs.Rests.{child_elements}
 
 -- so many elements are still to be ended, each with its content, and then comes the rest
 abbrev pub Pending : ℕ → List Event → List Event → Type 0

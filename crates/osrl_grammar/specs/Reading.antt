@@ -1,7 +1,7 @@
 -- What the reader promises.
 use Rattle.std.specs.Prelude.{ℕ, List}
 use Rattle.tree_grammar.specs.Elements.{Element}
-use Rattle.tree_walk.specs.Texts.{document_limit, IsDocument}
+use Rattle.document_tags.specs.Texts.{document_limit, IsDocument}
 use Rattle.doc_tree.specs.Refusals.{IsRefusal}
 use Rattle.doc_tree.specs.declared.fault.TreeFault.{TreeFault}
 use Rattle.doc_tree.specs.declared.fault.TreeFault.TheVariants as trees

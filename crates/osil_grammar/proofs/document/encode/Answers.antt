@@ -1,5 +1,5 @@
 use Rattle.std.proofs.Common.{◌<◌, length, arith}
-use Rattle.tree_walk.specs.Texts.{document_limit}
+use Rattle.document_tags.specs.Texts.{document_limit}
 use Rattle.osil_grammar.proofs.document.encode.Goals as goal
 
 pub returns-then-len-gt-MOST_BYTES-clause-err : goal.returns-then-len-gt-MOST_BYTES-clause-err

@@ -1,7 +1,7 @@
 use Rattle.std.proofs.Common.{◌≡◌, ◌∙◌, ℕ, [], ◌∷◌, length, ap, sym, subst, inl, inr, arith}
 use Rattle.std.specs.Prelude.{Option, Vec, codes}
 use Rattle.std.specs.declared.alloc.Global.{Global}
-use Rattle.tree_walk.specs.Rests.{child_elements}
+use Rattle.document_tags.specs.Rests.{child_elements}
 use Rattle.instance.specs.declared.parts.Var.{Var}
 use Rattle.instance.specs.declared.parts.Goal.{Goal}
 use Rattle.instance.specs.Parts.{Parts}

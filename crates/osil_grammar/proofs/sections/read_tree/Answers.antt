@@ -1,7 +1,7 @@
 use Rattle.std.proofs.Common.{◌≡◌, ◌∙◌, ℕ, ◌+◌, List, [], ◌∷◌, ap, sym, subst}
 use Rattle.std.specs.Prelude.{Option, codes}
 use Rattle.tree_grammar.specs.Elements.{Event}
-use Rattle.tree_walk.specs.Rests.{child_elements}
+use Rattle.document_tags.specs.Rests.{child_elements}
 use Rattle.instance.specs.Parts.{Parts}
 use Rattle.osil_grammar.specs.Tags.{level_of, node_tags}
 use Rattle.osil_grammar.specs.Refusals.{AreClean, IsFirstDecided}

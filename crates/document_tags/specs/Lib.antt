@@ -1,0 +1,10 @@
+pub mod Rests
+pub mod Texts
+pub mod Elements
+pub mod Passing
+pub mod Spots
+pub mod Deciding
+pub mod Documents
+pub mod Writing
+pub mod Telling
+pub mod Faults
