@@ -13,9 +13,9 @@ use Rattle.job_table.proofs.table.Table.issue.Goals as goal
 numbered : (old new : Register) (x : Result ℕ IssueFault) → IfOk x (λ n. n ≡ old.issued + 1)
     → ((said : Reply) → Leads (adds Issued said old) old (added_reply (λ _. said) x) new) → Follows Issue old (added_reply reply.Issued x) new
 numbered old new (Ok n) is added = added (reply.Issued (old.issued + 1)) ∙ ap (λ k. outcome (reply.Issued k) new) (sym is)
-numbered old new (Err fault.Full) is added = added reply.Full
+numbered old new (Err fault.Full) is added = added (reply.Issued (old.issued + 1))
 numbered old new (Err fault.Spent) is added = added reply.Spent
-numbered old new (Err fault.Memory) is added = added reply.Full
+numbered old new (Err fault.Memory) is added = added (reply.Issued (old.issued + 1))
 
 pub returns : goal.returns
 returns g c =
