@@ -8,3 +8,5 @@ pub mod Printing
 pub mod Flat
 pub mod Decided
 pub mod OneDocument
+pub mod Coming
+pub mod Placed

@@ -8,3 +8,5 @@ pub mod Documents
 pub mod Writing
 pub mod Telling
 pub mod Faults
+pub mod Tags
+pub mod Coming

@@ -9,10 +9,14 @@
 //! documents, and which nodes are those of XML.
 #![tactic(auto)]
 
+mod attributes;
 mod faults;
 mod passing;
 mod paths;
+mod place;
+mod reaching;
 mod spot;
+mod tags;
 mod telling;
 #[cfg(test)]
 mod tests;
@@ -21,6 +25,7 @@ mod walk;
 pub use faults::{refusal_at, tree_fault_text};
 pub use paths::{along, first, first_within, within};
 pub use spot::Spot;
+pub use tags::Tags;
 pub use telling::{
     attribute, close, empty_after, finished, leaf, leaf_after, leaf_with, open, open_after,
     open_with, told_text,

@@ -2,6 +2,7 @@
 
 ghost use Rattle.std.specs.Prelude.{◌<◌, ◌+◌, ◌^◌, length};
 
+use crate::attributes::value_at;
 use crate::passing::{behind, next_child};
 use element_tree::{Item, Tree};
 use os_io::{Memory, Text};
@@ -48,13 +49,7 @@ impl<'t> Spot<'t> {
     pub fn attribute(&self, name: &[u8]) -> Option<&'t [u8]>
         ensures { (e : Element) → Stands self.now e → MatchOption result (elements.attribute e name.now ≡ None) (λ v. elements.attribute e name.now ≡ Some v.now) }
     {
-        for k in 0..self.tree.attribute_count(self.at) {
-            let (found, value) = self.tree.attribute(self.at, k);
-            if found == name {
-                return Some(value);
-            }
-        }
-        None
+        value_at(self.tree, self.at, name)
     }
 
     /// The characters that stand in the element, and not in an element in it.

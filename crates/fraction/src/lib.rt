@@ -7,6 +7,7 @@
 //! `rational` states as `SumFits`. Comparing, negating and taking the floor are never refused, and no call takes memory.
 #![tactic(auto)]
 
+mod divisor;
 mod ends;
 mod frac;
 mod laws;

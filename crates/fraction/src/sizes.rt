@@ -1,28 +1,50 @@
 // Whole numbers as sizes and signs: what the fractions are computed by.
-ghost use Rattle.std.specs.Prelude.{◌≡◌, ◌≢◌, ◌*◌, ◌<◌, ◌≤◌, pos, ◌+ℤ◌, ◌*ℤ◌, unsigned_abs, IfOk, OnErr};
-ghost use Rattle.std.specs.Int.{IsGcd};
+ghost use Rattle.std.specs.Prelude.{Bool, ◌≡◌, ◌≢◌, ◌*◌, ◌/◌, ◌<◌, ◌≤◌, pos, ◌+ℤ◌, ◌*ℤ◌, unsigned_abs, IfOk, OnErr};
 ghost use Rattle.std.specs.Ordering.{nat_cmp};
 ghost use Rattle.rational.specs.Ratio.{quotient, whole};
 ghost use Rattle.rational.specs.Whole.{signed};
 ghost use Rattle.rational.specs.Width.{most};
 
+use crate::divisor::NARROW;
 use crate::frac::{MAX, Wide};
 use std::cmp::Ordering;
 
-/// The greatest common divisor, by Euclid's steps.
-pub fn gcd(a: u128, b: u128) -> u128
-    requires { 0 < b }
-    ensures common { IsGcd a b result }
-    ensures above { 0 < result }
+/// The size of a whole number.
+pub fn size_of(a: i128) -> u128
+    ensures { result ≡ unsigned_abs a }
 {
-    let mut x = a;
-    let mut y = b;
-    while y != 0 {
-        let rest = x % y;
-        x = y;
-        y = rest;
+    a.unsigned_abs()
+}
+
+/// The whole part of a quotient of sizes.
+#[inline]
+pub fn divide(a: u128, by: u128) -> u128
+    requires { 0 < by }
+    ensures { result ≡ a / by }
+{
+    if by == 1 {
+        return a;
     }
-    x
+    if a == by {
+        return 1;
+    }
+    if a <= NARROW && by <= NARROW {
+        return (a as u64 / by as u64) as u128;
+    }
+    a / by
+}
+
+/// The whole number with a quotient for its size.
+#[inline]
+pub fn divide_whole(a: i128, by: u128) -> i128
+    requires above { 0 < by }
+    requires size { unsigned_abs a ≤ most }
+    ensures { (s : Bool) × (a ≡ signed s (unsigned_abs a)) × (result ≡ signed s (unsigned_abs a / by)) }
+{
+    if by == 1 {
+        return a;
+    }
+    signed(a < 0, divide(size_of(a), by))
 }
 
 /// The whole number of this sign and size.
@@ -58,9 +80,25 @@ pub fn times(a: u128, b: u128) -> Result<u128, Wide>
     ensures small { IfOk result (λ size. size ≤ most) }
     ensures wide { OnErr result (most < a * b) }
 {
+    if a <= NARROW && b <= NARROW {
+        return within(a as u64 as u128 * (b as u64 as u128));
+    }
     match a.checked_mul(b) {
-        Some(size) if size <= MAX as u128 => Ok(size),
-        _ => Err(Wide),
+        Some(size) => within(size),
+        None => Err(Wide),
+    }
+}
+
+/// The size, if it doesn't pass [`MAX`].
+fn within(size: u128) -> Result<u128, Wide>
+    ensures value { IfOk result (λ kept. kept ≡ size) }
+    ensures small { IfOk result (λ kept. kept ≤ most) }
+    ensures wide { OnErr result (most < size) }
+{
+    if size <= MAX as u128 {
+        Ok(size)
+    } else {
+        Err(Wide)
     }
 }
 
@@ -70,6 +108,9 @@ pub fn scaled(a: i128, by: u128) -> Result<i128, Wide>
     ensures small { IfOk result (λ n. unsigned_abs n ≤ most) }
     ensures wide { OnErr result (most < unsigned_abs (a *ℤ pos by)) }
 {
+    if a >= i64::MIN as i128 && a <= i64::MAX as i128 && by <= i64::MAX as u128 {
+        return Ok(a as i64 as i128 * (by as i64 as i128));
+    }
     let size = times(a.unsigned_abs(), by)?;
     Ok(signed(a < 0, size))
 }

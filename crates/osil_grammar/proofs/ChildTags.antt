@@ -13,7 +13,7 @@ use Rattle.osil_grammar.specs.Kinds.{Osil, InstanceData, Coefficients, path, ord
 use Rattle.osil_grammar.specs.Deciding.{IsLate, IsInRow}
 use Rattle.osil_grammar.specs.Refusals.{Root, Beyond, DecidesNothing, AreClean, IsAccepted}
 use Rattle.osil_grammar.specs.Deciding.{told}
-use Rattle.osil_grammar.specs.Reading.{element_tags}
+use Rattle.osil_grammar.specs.Parsing.{element_tags}
 use Rattle.osil_grammar.proofs.Children.{tags_then}
 use Rattle.osil_grammar.proofs.OneMatrix.{HasBoth}
 

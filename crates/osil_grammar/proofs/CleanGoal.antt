@@ -36,7 +36,8 @@ use Rattle.osil_grammar.proofs.Fields.{EachOf, IsFine, IsReadBy, fine_one, times
 use Rattle.osil_grammar.proofs.Foreign.{text_once}
 use Rattle.osil_grammar.proofs.Joining.{none_fits}
 use Rattle.osil_grammar.proofs.NoRefusal.{IsInPlace, element_then, it_begins, it_ends, start_fine, end_fine}
-use Rattle.osil_grammar.proofs.Once.{count_once, count_fits, times_once, decimal_fits}
+use Rattle.decimal_text.proofs.OneNumber.{count_once, count_fits, decimal_fits}
+use Rattle.osil_grammar.proofs.Once.{times_once}
 use Rattle.osil_grammar.proofs.StartEnds.{no_ends_but, no_limit}
 use Rattle.osil_grammar.proofs.SummedCosts.{cost_once, costs_once, costs_more}
 use Rattle.osil_grammar.proofs.ReadBack.{plain_decimal, count_read}

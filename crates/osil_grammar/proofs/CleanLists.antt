@@ -37,7 +37,8 @@ use Rattle.osil_grammar.proofs.Joining.{apart, none_fits}
 use Rattle.osil_grammar.proofs.Lines.{Divides, division}
 use Rattle.osil_grammar.proofs.MatrixMeans.{lists_of, stored_are, wholes_said, values_said, columns_are}
 use Rattle.osil_grammar.proofs.NoRefusal.{IsInPlace, element_then, it_ends, plain_start, end_fine, not_late}
-use Rattle.osil_grammar.proofs.Once.{count_once, stand_once}
+use Rattle.decimal_text.proofs.OneNumber.{count_once}
+use Rattle.osil_grammar.proofs.Once.{stand_once}
 use Rattle.osil_grammar.proofs.OneMatrix.{HasBoth, lists_once, no_lists}
 use Rattle.osil_grammar.proofs.Places.{is_at}
 use Rattle.osil_grammar.proofs.ReadBack.{count_read}

@@ -28,7 +28,8 @@ use Rattle.osil_grammar.proofs.Decided.{clean_none}
 use Rattle.osil_grammar.proofs.EndTags.{ends_once, not_missing, end_number, end_wide, no_range}
 use Rattle.osil_grammar.proofs.Fields.{EachOf, IsFine, fine_one}
 use Rattle.osil_grammar.proofs.NoRefusal.{IsInPlace, element_then, it_ends, is_plain, plain_start, end_fine, not_some, not_late}
-use Rattle.osil_grammar.proofs.Once.{count_once, stand_once}
+use Rattle.decimal_text.proofs.OneNumber.{count_once}
+use Rattle.osil_grammar.proofs.Once.{stand_once}
 use Rattle.osil_grammar.proofs.OpenPlaces.{NoKind, unknown_clean, in_open, in_root_path, late_in_root, end_in_place}
 use Rattle.osil_grammar.proofs.OneValue.{texts_apart}
 use Rattle.osil_grammar.proofs.ReadBack.{count_read}

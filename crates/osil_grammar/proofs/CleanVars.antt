@@ -29,7 +29,7 @@ use Rattle.osil_grammar.specs.Numbers.{bound, decimal, fields}
 use Rattle.osil_grammar.specs.Runs.{StandFor}
 use Rattle.osil_grammar.specs.Deciding.{types, HasWideRow}
 use Rattle.osil_grammar.specs.Refusals.{DecidesNothing, AreClean}
-use Rattle.osil_grammar.specs.Reading.{IsNear}
+use Rattle.osil_grammar.specs.Parsing.{IsNear}
 use Rattle.osil_grammar.specs.Writing.{EndHasText, WriteVars, WriteRows, type_text, with_attribute}
 use Rattle.osil_grammar.proofs.AtStart.{no_attribute, no_var_type, no_many, no_wide_row, no_bound, not_too_big}
 use Rattle.osil_grammar.proofs.Decided.{clean_none}

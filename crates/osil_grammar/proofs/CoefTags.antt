@@ -14,12 +14,12 @@ use Rattle.osil_grammar.specs.Numbers.{count, fields}
 use Rattle.osil_grammar.specs.Runs.{ItemsStandFor}
 use Rattle.osil_grammar.specs.Deciding.{HasAttribute, HasCoefFault, DecidesAttribute, DecidesIndex, VariablesBefore}
 use Rattle.osil_grammar.specs.Refusals.{Attribute, Index, DecidesNothing, IsFirstDecided}
-use Rattle.osil_grammar.specs.Reading.{begun, Tells, IsAtTag, start_only, IsTagOf, ReadsField, InWidth, IsCoefFault, HasIndex, parts_around}
+use Rattle.osil_grammar.specs.Parsing.{begun, Tells, IsAtTag, start_only, IsTagOf, ReadsField, InWidth, IsCoefFault, HasIndex, parts_around}
 use Rattle.osil_grammar.proofs.AtStart.{told_here, begins_child, fields_refused, fields_fine, past_fields, no_wide_but_row, no_wide_row, no_var_type, no_many}
 use Rattle.osil_grammar.proofs.Counted.{IsDeclared, Declares, declared_is}
 use Rattle.osil_grammar.proofs.ElRead.{some_both}
 use Rattle.osil_grammar.proofs.Fields.{EachOf, IsFine, FieldsRead, field_read}
-use Rattle.osil_grammar.proofs.Once.{count_once}
+use Rattle.decimal_text.proofs.OneNumber.{count_once}
 use Rattle.osil_grammar.proofs.PartsBefore.{parts_kept}
 use Rattle.osil_grammar.proofs.StartEnds.{past_ends, start_clean}
 use Rattle.osil_grammar.proofs.StartTags.{AtLeast, known_place, begins_once, past_attribute, past_wide, past_count, past_index, past_start, past_var_type, no_count, no_starts}

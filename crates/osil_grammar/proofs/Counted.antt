@@ -15,12 +15,13 @@ use Rattle.osil_grammar.specs.Numbers.{Grammar, count, Field, field, fields, tex
 use Rattle.osil_grammar.specs.Runs.{StandFor}
 use Rattle.osil_grammar.specs.Deciding.{IsLate, most, Differs, HasOtherCount, DecidesCount}
 use Rattle.osil_grammar.specs.Refusals.{Count, DecidesNothing, IsFirstDecided}
-use Rattle.osil_grammar.specs.Reading.{IsTagOf, ReadsField, IsAtTag, Tells, start_only, end_only}
+use Rattle.osil_grammar.specs.Parsing.{IsTagOf, ReadsField, IsAtTag, Tells, start_only, end_only}
 use Rattle.osil_grammar.proofs.AtStart.{begins_child, no_attribute, no_var_type, no_many, no_wide_row, fields_refused, fields_fine, past_fields, no_wide_but_row}
 use Rattle.osil_grammar.proofs.Decided.{told_at}
 use Rattle.osil_grammar.proofs.EndTags.{MissesNothing, ends_once, end_least, end_number, end_wide, end_clean}
 use Rattle.osil_grammar.proofs.Fields.{FieldsRead, IsReadBy, field_read, ordinal_is}
-use Rattle.osil_grammar.proofs.Once.{count_once, count_fits, stand_once}
+use Rattle.decimal_text.proofs.OneNumber.{count_once, count_fits}
+use Rattle.osil_grammar.proofs.Once.{stand_once}
 use Rattle.osil_grammar.proofs.StartEnds.{past_ends, start_clean}
 use Rattle.osil_grammar.proofs.StartTags.{AtLeast, known_place, no_count, no_index, no_starts, past_attribute, past_number, past_wide, past_count, past_index, past_start, past_var_type}
 

@@ -4,7 +4,7 @@ use Rattle.std.proofs.lemmas.List.Elements.{All-append, All-cons, All-nil, All-s
 use Rattle.tree_grammar.specs.Elements.{Element}
 use Rattle.osil_grammar.specs.Tags.{Level, Tag, level_of, node_tags}
 use Rattle.osil_grammar.specs.Refusals.{Refusal, number, Decides, DecidesNothing, AreClean, IsFirstDecided}
-use Rattle.osil_grammar.specs.Reading.{Tells, element_tags, start_only, end_only}
+use Rattle.osil_grammar.specs.Parsing.{Tells, element_tags, start_only, end_only}
 use Rattle.osil_grammar.specs.declared.fault.OsilFault.{OsilFault}
 use Rattle.osil_grammar.specs.declared.fault.OsilFault.TheVariants.{Tree, Refused, Memory}
 

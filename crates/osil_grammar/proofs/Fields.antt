@@ -11,8 +11,8 @@ use Rattle.osil_grammar.specs.Walking.{Begun}
 use Rattle.osil_grammar.specs.Numbers.{Grammar, count, whole, decimal, bound, Field, field, mult, IsOf, IsWideOf, Says}
 use Rattle.osil_grammar.specs.Runs.{StandsFor}
 use Rattle.osil_grammar.specs.Deciding.{HasAttribute}
-use Rattle.osil_grammar.specs.Reading.{begun, IsTagOf, ReadsField, IsUnread, IsNoTimes, IsFirstOf}
-use Rattle.osil_grammar.proofs.Once.{count_once, count_fits}
+use Rattle.osil_grammar.specs.Parsing.{begun, IsTagOf, ReadsField, IsUnread, IsNoTimes, IsFirstOf}
+use Rattle.decimal_text.proofs.OneNumber.{count_once, count_fits}
 
 -- one of these fields is so; each is
 abbrev pub OneOf : (Field → Type 0) → List Field → Type 0

@@ -6,7 +6,7 @@ use Rattle.document_tags.specs.Rests.{after_text, child_elements}
 use Rattle.document_tags.specs.Texts.{HoldsText}
 use Rattle.osil_grammar.specs.Tags.{elements_in}
 use Rattle.osil_grammar.specs.Walking.{Walking, Begun, Entered, Left, IsJoined}
-use Rattle.osil_grammar.specs.Reading.{FirstChild, Tells}
+use Rattle.osil_grammar.specs.Parsing.{FirstChild, Tells}
 use Rattle.osil_grammar.specs.Refusals as refusals
 use Rattle.osil_grammar.specs.Deciding.{told}
 use Rattle.osil_grammar.specs.declared.fault.OsilFault.{OsilFault}

@@ -13,7 +13,7 @@ use Rattle.osil_grammar.specs.Kinds.{Osil, InstanceData, Variables, Objectives, 
 use Rattle.osil_grammar.specs.Numbers.{count, fields}
 use Rattle.osil_grammar.specs.Deciding.{IsLate, HasList, HasLists, HasWideEntry, HasItems, HasOtherValues, HasOtherIndices, DecidesCount, DecidesIndex, DecidesStart, DecidesBound, Differs}
 use Rattle.osil_grammar.specs.Refusals.{Refusal, Root, Missing, Beyond, Attribute, Wide, Count, Start, number, Decides, DecidesNothing, IsFirstDecided}
-use Rattle.osil_grammar.specs.Reading.{IsTagOf, ReadsField, IsAtTag, Tells, start_only, end_only}
+use Rattle.osil_grammar.specs.Parsing.{IsTagOf, ReadsField, IsAtTag, Tells, start_only, end_only}
 use Rattle.osil_grammar.proofs.AtStart.{begins_child, no_attribute, no_var_type, no_many, no_wide_row, fields_refused, fields_fine, past_fields, no_wide_but_row}
 use Rattle.osil_grammar.proofs.Counted.{IsDeclared, Declares, declared_is, declared_differs, declared_same}
 use Rattle.osil_grammar.proofs.Decided.{first_one, tells_more}

@@ -21,7 +21,7 @@ use Rattle.osil_grammar.specs.Runs.{StandsFor}
 use Rattle.osil_grammar.specs.Meaning.{IsSense}
 use Rattle.osil_grammar.specs.Deciding.{senses, HasConstant, DecidesAttribute, DecidesCount, DecidesManyObjectives, Differs}
 use Rattle.osil_grammar.specs.Refusals.{Attribute as BadAttribute, Count, ManyObjectives, DecidesNothing, IsFirstDecided}
-use Rattle.osil_grammar.specs.Reading.{begun, Tells, IsAtTag, start_only, end_only, IsTagOf, ReadsField, IsFirstOf, IsNoTimes, AreObjs, ReadsSense, IsObjHead}
+use Rattle.osil_grammar.specs.Parsing.{begun, Tells, IsAtTag, start_only, end_only, IsTagOf, ReadsField, IsFirstOf, IsNoTimes, AreObjs, ReadsSense, IsObjHead}
 use Rattle.osil_grammar.proofs.AtStart.{told_here, begins_child, fields_refused, fields_fine, past_fields, no_wide_but_row, no_wide_row, no_var_type}
 use Rattle.osil_grammar.proofs.Counted.{IsDeclared, Declares, declared_is, declared_differs, declared_same}
 use Rattle.osil_grammar.proofs.Decided.{told_at}

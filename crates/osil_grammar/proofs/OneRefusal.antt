@@ -5,7 +5,7 @@ use Rattle.std.proofs.lemmas.List.Elements.{All-head, All-tail}
 use Rattle.tree_grammar.specs.Elements.{Element}
 use Rattle.doc_tree.proofs.Unambiguous.{one_tree}
 use Rattle.instance.specs.Parts.{Parts}
-use Rattle.osil_grammar.specs.InstanceText.{IsInstanceText, IsRefusedText}
+use Rattle.osil_grammar.specs.Reading.{IsInstanceText, IsRefusedText}
 use Rattle.osil_grammar.specs.Tags.{Level, Tag, tags, attribute}
 use Rattle.osil_grammar.specs.Kinds.{Coef, Obj}
 use Rattle.osil_grammar.specs.Deciding.{IsForeign, IsMisplaced, IsInFurther, HasCoefFault, DecidesBeyond, DecidesAttribute, told}

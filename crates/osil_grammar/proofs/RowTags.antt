@@ -25,10 +25,10 @@ use Rattle.osil_grammar.specs.Runs.{StandsFor}
 use Rattle.osil_grammar.specs.Refusals.{Wide, IsFirstDecided}
 use Rattle.osil_grammar.specs.Deciding.{HasConstant, HasWideEnd, HasWideRow}
 use Rattle.osil_grammar.specs.Meaning.{IsLess}
-use Rattle.osil_grammar.specs.Reading.{begun, Tells, IsAtTag, start_only, IsTagOf, ReadsField, IsFirstOf, IsNoTimes, IsTooFar, IsNear, unread_refusal}
+use Rattle.osil_grammar.specs.Parsing.{begun, Tells, IsAtTag, start_only, IsTagOf, ReadsField, IsFirstOf, IsNoTimes, IsTooFar, IsNear, unread_refusal}
 use Rattle.osil_grammar.proofs.AtStart.{told_here, begins_child, no_attribute, fields_refused, fields_fine, past_fields, no_wide_but_row, no_var_type, no_many, no_bound}
 use Rattle.osil_grammar.proofs.Fields.{EachOf, IsFine, FieldsRead, IsReadBy, field_read, times_read, both_read}
-use Rattle.osil_grammar.proofs.Once.{decimal_fits, only_inf, only_neg_inf}
+use Rattle.decimal_text.proofs.OneNumber.{decimal_fits, only_inf, only_neg_inf}
 use Rattle.osil_grammar.proofs.RatioEls.{decimal_once}
 use Rattle.osil_grammar.proofs.StartTags.{AtLeast, past_attribute, known_place, past_wide, past_count, past_index, past_start, past_var_type, past_bound, past_many, no_count, no_index, no_starts}
 use Rattle.osil_grammar.proofs.Vars.{ends_read}

@@ -24,9 +24,9 @@ use Rattle.osil_grammar.specs.Runs.{StandsFor}
 use Rattle.osil_grammar.specs.Deciding.{types}
 use Rattle.osil_grammar.specs.Meaning.{IsContinuous, IsOfType, IsEndAt, IsVar}
 use Rattle.evidence.specs.Sums as evidence
-use Rattle.osil_grammar.specs.Reading.{begun, Tells, IsAtTag, start_only, IsTagOf, ReadsField, IsFirstOf, IsNoTimes, IsSaid, IsVariableOf}
+use Rattle.osil_grammar.specs.Parsing.{begun, Tells, IsAtTag, start_only, IsTagOf, ReadsField, IsFirstOf, IsNoTimes, IsSaid, IsVariableOf}
 use Rattle.osil_grammar.proofs.Fields.{EachOf, IsFine, FieldsRead, IsReadBy, field_read, times_read, both_read}
-use Rattle.osil_grammar.proofs.Once.{bound_fits}
+use Rattle.decimal_text.proofs.OneNumber.{bound_fits}
 use Rattle.fraction.specs.declared.ends.End.TheVariants.{NegInf, At, Inf}
 use Rattle.decimal_text.specs.Sign.{minus}
 

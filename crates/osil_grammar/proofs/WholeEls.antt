@@ -9,7 +9,7 @@ use Rattle.osil_grammar.specs.Kinds.{Listing, Starts, RowIndices, ColumnIndices,
 use Rattle.osil_grammar.specs.Numbers.{whole, listing_grammar}
 use Rattle.osil_grammar.specs.Runs.{StandFor, ItemsStandFor, IsWholeRun}
 use Rattle.osil_grammar.specs.Deciding.{IsLimit, LeavesRange}
-use Rattle.osil_grammar.specs.Reading.{IsLimitOf, IsBelow, parts_around}
+use Rattle.osil_grammar.specs.Parsing.{IsLimitOf, IsBelow, parts_around}
 use Rattle.osil_grammar.proofs.Foreign.{text_once}
 use Rattle.osil_grammar.proofs.Wholes.{whole_once}
 use Rattle.osil_grammar.proofs.Once.{times_once, stand_once}

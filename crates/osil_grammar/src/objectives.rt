@@ -12,8 +12,8 @@ ghost use Rattle.osil_grammar.specs.Costs.{Cost};
 ghost use Rattle.osil_grammar.specs.Runs.{StandsFor, StandFor};
 ghost use Rattle.osil_grammar.specs.Walking.{GoesOn};
 ghost use Rattle.osil_grammar.specs.Meaning.{IsNoGoal, IsGoal};
-ghost use Rattle.osil_grammar.specs.Reading as reading;
-ghost use Rattle.osil_grammar.specs.Reading.{begun, NoMemoryAlone, ReadsElement, ReadsContent, ReadsStart, InWidth, IsNextCost, IsCoefAt, HasIndex, IsObjAt, IsObjHead, AddsCost, HoldsCosts, IsGoalOf, HoldsGoal, IsNamedIn, IsAfter, IsCoefFault};
+ghost use Rattle.osil_grammar.specs.Parsing as reading;
+ghost use Rattle.osil_grammar.specs.Parsing.{begun, NoMemoryAlone, ReadsElement, ReadsContent, ReadsStart, InWidth, IsNextCost, IsCoefAt, HasIndex, IsObjAt, IsObjHead, AddsCost, HoldsCosts, IsGoalOf, HoldsGoal, IsNamedIn, IsAfter, IsCoefFault};
 
 use crate::fault::{OsilFault, Refusal};
 use crate::numbers::{at_tag, both, check_count, count, decimal, held_decimal, times};

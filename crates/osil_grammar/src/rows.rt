@@ -7,7 +7,7 @@ ghost use Rattle.osil_grammar.specs.Kinds.{InstanceData, Constraints};
 ghost use Rattle.osil_grammar.specs.Runs.{StandsFor};
 ghost use Rattle.osil_grammar.specs.Walking.{GoesOn};
 ghost use Rattle.osil_grammar.specs.Meaning.{IsLess, IsRow};
-ghost use Rattle.osil_grammar.specs.Reading.{ReadsElement, ReadsContent, ReadsStart, StandBefore, IsPartNamed, IsNamedAfter, Adds, HoldsAll, IsNear, IsTooFar};
+ghost use Rattle.osil_grammar.specs.Parsing.{ReadsElement, ReadsContent, ReadsStart, StandBefore, IsPartNamed, IsNamedAfter, Adds, HoldsAll, IsNear, IsTooFar};
 
 use crate::fault::{OsilFault, Refusal};
 use crate::numbers::{at_tag, both, bound, check_count, count, decimal, end, times};

@@ -62,7 +62,8 @@ impl<'t> StartTag<'t> {
     ghost use Rattle.osil_grammar.specs.Tags.{value_of};
     ghost use Rattle.osil_grammar.specs.Refusals as refusals;
     ghost use Rattle.osil_grammar.specs.Deciding.{told};
-    ghost use Rattle.osil_grammar.specs.Reading.{begun, refusal, Tells};
+    ghost use Rattle.osil_grammar.specs.Reading.{refusal};
+    ghost use Rattle.osil_grammar.specs.Parsing.{begun, Tells};
 
     /// The element's name.
     pub(crate) fn name(&self) -> &'t [u8]
@@ -118,7 +119,7 @@ impl<'t> Place<'t> {
     ghost use Rattle.document_tags.specs.Rests.{after_text};
     ghost use Rattle.osil_grammar.specs.Tags.{elements_in};
     ghost use Rattle.osil_grammar.specs.Walking.{Walking, Begins, Entered, Left, GoesOn};
-    ghost use Rattle.osil_grammar.specs.Reading.{begun};
+    ghost use Rattle.osil_grammar.specs.Parsing.{begun};
 
     /// The place before the root's start tag.
     pub(crate) fn before(tree: &'t Tree) -> Self

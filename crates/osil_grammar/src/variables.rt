@@ -11,7 +11,7 @@ ghost use Rattle.osil_grammar.specs.Deciding.{types};
 ghost use Rattle.osil_grammar.specs.Tags.{value_of};
 ghost use Rattle.osil_grammar.specs.Meaning as meaning;
 ghost use Rattle.osil_grammar.specs.Meaning.{IsEndAt, IsVar};
-ghost use Rattle.osil_grammar.specs.Reading.{begun, ReadsElement, ReadsContent, ReadsStart, StandBefore, IsPartNamed, IsNamedAfter, Adds, HoldsAll, IsSaid, IsVariableOf, NoMemoryAlone};
+ghost use Rattle.osil_grammar.specs.Parsing.{begun, ReadsElement, ReadsContent, ReadsStart, StandBefore, IsPartNamed, IsNamedAfter, Adds, HoldsAll, IsSaid, IsVariableOf, NoMemoryAlone};
 
 use crate::fault::{OsilFault, Refusal};
 use crate::numbers::{at_tag, both, bound, check_count, count, end, times};

@@ -7,7 +7,7 @@ use Rattle.osil_grammar.specs.declared.fault.OsilFault.{OsilFault}
 use Rattle.osil_grammar.specs.Tags.{start_tag, level_of}
 use Rattle.osil_grammar.specs.Kinds as kinds
 use Rattle.osil_grammar.specs.Refusals.{Bound, TooBig}
-use Rattle.osil_grammar.specs.Reading.{IsAtTag}
+use Rattle.osil_grammar.specs.Parsing.{IsAtTag}
 use Rattle.osil_grammar.proofs.AtStart.{told_here, bound_decided, too_big, not_too_big}
 use Rattle.osil_grammar.proofs.Decided.{clean_one}
 use Rattle.osil_grammar.proofs.Exits.{handed_on}

@@ -10,7 +10,7 @@ use Rattle.osil_grammar.specs.Kinds as kinds
 use Rattle.osil_grammar.specs.Numbers.{bound}
 use Rattle.osil_grammar.specs.Deciding.{types}
 use Rattle.osil_grammar.specs.Refusals.{VarType, Bound, TooBig}
-use Rattle.osil_grammar.specs.Reading.{IsSaid}
+use Rattle.osil_grammar.specs.Parsing.{IsSaid}
 use Rattle.osil_grammar.proofs.AtStart.{told_here, bound_decided, too_big, not_too_big}
 use Rattle.osil_grammar.proofs.Decided.{clean_one}
 use Rattle.osil_grammar.proofs.Exits.{handed_on}

@@ -1,0 +1,5 @@
+pub mod Jobs
+pub mod Waiting
+pub mod Steps
+pub mod History
+pub mod Laws
