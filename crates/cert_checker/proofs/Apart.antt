@@ -12,7 +12,7 @@ use Rattle.osil_grammar.specs.declared.fault.OsilFault.{OsilFault}
 use Rattle.osil_grammar.specs.declared.fault.OsilFault.TheVariants.{Tree, Refused as Told, Memory}
 use Rattle.osil_grammar.proofs.OneInstance.{text_means_once}
 use Rattle.osil_grammar.proofs.OneRefusal.{text_not_both}
-use Rattle.osrl_grammar.specs.Meaning.{IsReportText}
+use Rattle.osrl_grammar.specs.Reading.{IsReportText}
 use Rattle.osrl_grammar.specs.declared.report.Report.{Report}
 use Rattle.osrl_grammar.proofs.OneReport.{report_text_once}
 use Rattle.osrl_grammar.proofs.OneRefusal.{refusal_apart}

@@ -2,7 +2,7 @@
 use Rattle.std.proofs.Common.{◌≡◌, ℕ, List, ◌⊎◌, inl, inr}
 use Rattle.instance.specs.Parts.{Parts}
 use Rattle.osil_grammar.specs.Reading.{IsInstanceText}
-use Rattle.osrl_grammar.specs.Meaning.{IsReportText}
+use Rattle.osrl_grammar.specs.Reading.{IsReportText}
 use Rattle.osrl_grammar.specs.declared.report.Report.{Report}
 use Rattle.cert_checker.specs.declared.documents.Kind.{Kind}
 use Rattle.cert_checker.specs.declared.refused.Refused.{Refused}

@@ -11,7 +11,7 @@ use Rattle.osil_grammar.specs.Reading.{IsInstanceText}
 use Rattle.osil_grammar.specs.Reading as instances
 use Rattle.osil_grammar.specs.declared.fault.OsilFault.{OsilFault}
 use Rattle.osil_grammar.specs.declared.fault.OsilFault.TheVariants as instance_faults
-use Rattle.osrl_grammar.specs.Meaning.{IsReportText}
+use Rattle.osrl_grammar.specs.Reading.{IsReportText}
 use Rattle.osrl_grammar.specs.Reading as results
 use Rattle.osrl_grammar.specs.declared.report.Report.{Report}
 use Rattle.osrl_grammar.specs.declared.fault.OsrlFault.{OsrlFault}
