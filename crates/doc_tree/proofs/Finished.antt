@@ -17,7 +17,7 @@ use Rattle.doc_tree.specs.Marks.{Mark, spread}
 use Rattle.doc_tree.specs.Rests.{Terms, Whole}
 use Rattle.doc_tree.specs.Completes.{Completes}
 use Rattle.doc_tree.specs.LineEnds.{bounds, Continues}
-use Rattle.doc_tree.specs.Reading.{Reads, ReadsOnly, NoneWithin, Refuses}
+use Rattle.doc_tree.specs.Reading.{Reads, ReadsOnly, NoneWithin}
 use Rattle.doc_tree.specs.Refusals.{IsText}
 use Rattle.doc_tree.specs.Utf8.{CharacterRest, Spells}
 use Rattle.doc_tree.specs.Feeding.{named, Feeding, IsTaken, Refused, Ends, WasFed}
@@ -111,11 +111,6 @@ start_taken f c e n = record {
 pub answers_refused : {A : Type 0} (o : Option TreeFault) (r : Result A TreeFault) (ok : A) (fault : TreeFault) → MatchOption o (r ≡ Ok ok) (λ f. r ≡ Err f) → r ≡ Err fault → o ≡ Some fault
 answers_refused {A} None r ok fault m e = let h : ◌≡◌ {A = Result A TreeFault} (Ok ok) (Err fault) = sym m ∙ e in absurd (cc)
 answers_refused {A} (Some f) r ok fault m e = let h : ◌≡◌ {A = Result A TreeFault} (Err f) (Err fault) = sym m ∙ e in let k : f ≡ fault = cc in ap Some k
-
--- what ends so is no document within the bounds
-pub ends_refuses : (limit : ℕ) (bytes : List ℕ) (fault : TreeFault) → Ends limit bytes fault → Refuses limit bytes fault
-ends_refuses limit bytes fault (inl e) = inl e
-ends_refuses limit bytes fault (inr h) = inr h.1
 
 -- What was fed ends so where the last piece was refused.
 pub feed_ends : {A : Type 0} (f : Feeding) (limit : ℕ) (bytes : List ℕ) (r : Result A TreeFault) (ok : A) (fault : TreeFault) → f.limit ≡ limit → WasFed f bytes → MatchOption f.refusal (r ≡ Ok ok) (λ x. r ≡ Err x) → r ≡ Err fault → Ends limit bytes fault

@@ -20,6 +20,7 @@ pub mod Endings
 pub mod Tellings
 pub mod Gathering
 pub mod Fitting
+mod Held
 pub mod Wholes
 pub mod LineFeeds
 pub mod Results

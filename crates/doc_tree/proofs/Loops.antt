@@ -1,10 +1,9 @@
 -- Loops over a text: what holds of the rest holds of the whole.
-use Rattle.std.proofs.Common.{◌≡◌, ◌≢◌, ℕ, ◌+◌, ◌-◌, ◌<◌, ◌≤◌, inl, inr, ◌↔◌, List, [], ◌∷◌, true, false, ◌==◌, length, drop, get_or, take, drop-cons, map, reverse, suc, refl, ap, sym, ◌∙◌, subst, arith}
+use Rattle.std.proofs.Common.{◌≡◌, ◌≢◌, ℕ, ◌+◌, ◌-◌, ◌<◌, ◌≤◌, ◌↔◌, List, [], ◌∷◌, true, false, ◌==◌, length, drop, get_or, take, drop-cons, map, reverse, suc, refl, ap, sym, ◌∙◌, subst, arith}
 use Rattle.std.proofs.Math.ListN.{drop_of_length-le}
 use Rattle.doc_tree.proofs.Answering.{last_is}
 use Rattle.std.proofs.lemmas.List.{length-reverse, length-map}
 use Rattle.tree_grammar.specs.Characters.{Each, has_prefix, behind_colon}
-use Rattle.tree_grammar.specs.Tags.{IsAmong}
 
 pub drop_at : {A : Type 0} (xs : List A) (i : ℕ) (x : A) → i < length xs → x ≡ get_or xs i x → drop i xs ≡ x ∷ drop (i + 1) xs
 drop_at xs i x l e = let a : suc i ≡ i + 1 = omega arith in drop-cons xs i x l ∙ ap (λ z. get_or xs i x ∷ drop z xs) a ∙ ap (λ z. z ∷ drop (i + 1) xs) (sym e)
@@ -33,16 +32,6 @@ behind_cons w c cs n = grind arith
 
 pub behind_here : (w : List ℕ) (c : ℕ) (cs : List ℕ) → c ≡ 58 → behind_colon w (c ∷ cs) ≡ cs
 behind_here w c cs e = ap (λ z. behind_colon w (z ∷ cs)) e
-
-module _ {A : Type 0} (f : A → List ℕ) (name : List ℕ) (xs : List A) (i : ℕ) (x : A) (l : i < length xs) (e : x ≡ get_or xs i x) where
-  pub among_more : (name ≡ f x → ⊥) → IsAmong name (map f (drop i xs)) → IsAmong name (map f (drop (i + 1) xs))
-  among_more n h = let k : IsAmong name (map f (x ∷ drop (i + 1) xs)) = subst (λ z. IsAmong name (map f z)) (drop_at xs i x l e) h in elim k [ inl q ↦ absurd (n q) | inr q ↦ q ]
-
-  pub among_here : name ≡ f x → IsAmong name (map f (drop i xs))
-  among_here q = let k : IsAmong name (map f (x ∷ drop (i + 1) xs)) = inl q in subst (λ z. IsAmong name (map f z)) (sym (drop_at xs i x l e)) k
-
-  pub among_back : IsAmong name (map f (drop (i + 1) xs)) → IsAmong name (map f (drop i xs))
-  among_back h = let k : IsAmong name (map f (x ∷ drop (i + 1) xs)) = inr h in subst (λ z. IsAmong name (map f z)) (sym (drop_at xs i x l e)) k
 
 -- the open elements
 zero_is : (n : ℕ) → true ≡ (n == 0) → n ≡ 0

@@ -1,5 +1,5 @@
 -- Fixed texts, references and attributes that are whole; and the machine's ends.
-use Rattle.std.proofs.Common.{◌≡◌, ◌≢◌, ℕ, ◌+◌, ◌<◌, inl, inr, Bool, true, false, cond, length, map, drop, drop-cons, get_or, ◌↔◌, List, [], ◌∷◌, ◌++◌, refl, ap, sym, ◌∙◌, subst, arith}
+use Rattle.std.proofs.Common.{◌≡◌, ◌≢◌, ℕ, ◌+◌, ◌-◌, ◌<◌, inl, inr, Bool, true, false, cond, length, map, drop, drop-cons, get_or, ◌↔◌, List, [], ◌∷◌, ◌++◌, refl, ap, sym, ◌∙◌, subst, arith}
 use Rattle.std.specs.Prelude.{encode_utf8}
 use Rattle.std.proofs.lemmas.List.{append-nil}
 use Rattle.tree_grammar.specs.Tags.{is_kept}
@@ -7,23 +7,24 @@ use Rattle.tree_grammar.specs.Characters.{IsXmlChar}
 use Rattle.tree_grammar.specs.Elements.{Attribute}
 use Rattle.doc_tree.specs.Marks.{Mark, Char}
 use Rattle.tree_grammar.specs.Content.{misc_over}
-use Rattle.doc_tree.specs.Rests.{Terms, Word, After, keep, Whole}
+use Rattle.doc_tree.specs.Rests.{Terms, Word, After, keep, AreSameNames, room_in, Between, Whole}
 use Rattle.doc_tree.specs.declared.machine.Goal.{Goal}
 use Rattle.doc_tree.specs.declared.machine.Goal.TheVariants as goals
 use Rattle.doc_tree.specs.declared.machine.Place.{Place}
 use Rattle.doc_tree.specs.declared.machine.Place.TheVariants as places
-use Rattle.doc_tree.specs.Completes.{State, Rests, Reaches, Insides, Good, GoodReference, GoodGoal, GoodTag, IsFixed, InElement, IsInMark, IsRadix, Behind, BehindReference, BehindValue, Completes, Follows, Stuck, Reached, Runs}
+use Rattle.doc_tree.specs.Completes.{State, Rests, Reaches, Insides, Good, GoodReference, GoodGoal, GoodTag, IsFixed, InElement, IsInMark, IsRadix, Behind, BehindReference, BehindValue, HoldsKey, Completes, Follows, Stuck, Reached, Runs}
 use Rattle.doc_tree.proofs.Moves.{moves_at, follows_reached, reached_from, reached_saying, stays}
 use Rattle.doc_tree.proofs.Spans.{word_first, word_back, word_last}
 use Rattle.doc_tree.proofs.Steps.{at_byte, at_here}
 use Rattle.doc_tree.proofs.Loops.{drop_at}
+use Rattle.doc_tree.proofs.Held.{tag_alike}
 use Rattle.doc_tree.proofs.Numbers.{digit_end, digit_end_stuck}
 
 -- an attribute is whole
-pub attribute_over : (s : State) → GoodTag s → (keys : List (List ℕ)) (key : List ℕ) (kept : List Attribute) (marks : List Mark) → keys ≡ s.keys ++ (s.key ∷ []) → kept ≡ keep s.key s.value s.kept → s.marks ≡ marks → Reached s.marks (BehindValue s s.value) (record s { place = places.TagAfter; keys = keys; key = key; kept = kept; marks = marks })
+pub attribute_over : (s : State) → GoodTag s → (keys : List (List ℕ)) (key : List ℕ) (kept : List Attribute) (marks : List Mark) → AreSameNames keys (s.keys ++ (s.key ∷ [])) → kept ≡ keep s.key s.value s.kept → s.marks ≡ marks → Reached s.marks (BehindValue s s.value) (record s { place = places.TagAfter; keys = keys; key = key; kept = kept; marks = marks })
 attribute_over s g keys key kept marks e f m =
     let T : List (List ℕ) → List Attribute → State = λ ks ats. record s { place = places.TagAfter; keys = ks; key = key; kept = ats; marks = marks } in
-    subst (λ z. Reached s.marks (BehindValue s s.value) (T z kept)) (sym e) (subst (λ z. Reached s.marks (BehindValue s s.value) (T (s.keys ++ (s.key ∷ [])) z)) (sym f) (stays s.marks (BehindValue s s.value) (T (s.keys ++ (s.key ∷ [])) (keep s.key s.value s.kept)) m (λ h. h) g (λ u d x es. (λ h. h, λ h. h))))
+    subst (λ z. Reached s.marks (BehindValue s s.value) (T keys z)) (sym f) (stays s.marks (BehindValue s s.value) (T keys (keep s.key s.value s.kept)) m (λ h. h) g (λ u d x es. (tag_alike (room_in u s.names - 1) s.name (keep s.key s.value s.kept) (Between 0 s.names u) (s.keys ++ (s.key ∷ [])) keys x es (λ n. (e n).0), tag_alike (room_in u s.names - 1) s.name (keep s.key s.value s.kept) (Between 0 s.names u) keys (s.keys ++ (s.key ∷ [])) x es (λ n. (e n).1))))
 
 pub kept_is : (key value : List ℕ) (kept new : List Attribute) → true ≡ is_kept key → new ≡ kept ++ (record { name = key; value = value } ∷ []) → new ≡ keep key value kept
 kept_is key value kept new e f = f ∙ ap (λ z. kept ++ cond z (record { name = key; value = value } ∷ []) []) e
@@ -105,8 +106,8 @@ runs_start s p m g = record {
   );
 }
 
-pub attribute_done : (s t new : State) → GoodTag s → t.kept ≡ keep s.key s.value s.kept → s.marks ≡ t.marks → t ≡ record s { kept = t.kept; marks = t.marks } → new ≡ record t { place = places.TagAfter; keys = t.keys ++ (t.key ∷ []); key = [] } → Reached s.marks (BehindValue s s.value) new
-attribute_done s t new g f m e q = subst (λ z. Reached s.marks (BehindValue s s.value) z) (sym (q ∙ ap {A = State} (λ z. record z { place = places.TagAfter; keys = z.keys ++ (z.key ∷ []); key = [] }) e)) (attribute_over s g (s.keys ++ (s.key ∷ [])) [] t.kept t.marks refl f m)
+pub attribute_done : (s t new : State) → GoodTag s → t.kept ≡ keep s.key s.value s.kept → s.marks ≡ t.marks → t ≡ record s { kept = t.kept; marks = t.marks } → HoldsKey t new → Reached s.marks (BehindValue s s.value) new
+attribute_done s t new g f m e q = subst (λ z. Reached s.marks (BehindValue s s.value) z) (sym (q.is ∙ ap {A = State} (λ z. record z { place = places.TagAfter; keys = q.keys; key = [] }) e)) (attribute_over s g q.keys [] t.kept t.marks (subst {A = State} (λ z. AreSameNames q.keys (z.keys ++ (z.key ∷ []))) e q.same) f m)
 
 -- a goal that only moves on
 pub reach_place : (s : State) (g : Goal) (p : Place) → s.goal ≡ g → GoodGoal s.goal s → (GoodGoal g s → Good p (record s { place = p })) → (IsInMark p s.goal → ⊥) → ((u : Terms) (x : List ℕ) (es : List Mark) → Reaches g s u x es ↔ Rests p (record s { place = p }) u x es) → Reached s.marks (Reaches s.goal s) (record s { place = p })

@@ -1,13 +1,14 @@
 -- The machine's state without where it lies in memory, and what completes a document from there.
 use Rattle.std.specs.Prelude.{◌≡◌, ℕ, List, [], ◌∷◌, ◌++◌, Bool, true, false, map, reverse, drop, ◌↔◌, ◌⊎◌, ◌≤◌, ◌<◌, ◌-◌, ◌≢◌, length, encode_utf8}
 use Rattle.std.specs.Char.{IsScalar}
+use Rattle.tree_grammar.specs.declared.TheConstants.{DEPTH}
 use Rattle.tree_grammar.specs.Elements.{Attribute}
 use Rattle.tree_grammar.specs.Characters.{IsSpace, Each, IsNameStart, IsQName, local_part}
 use Rattle.tree_grammar.specs.Tags.{IsAmong, IsQuote}
 use Rattle.tree_grammar.specs.Declaration.{IsEncodingName, IsUtf8Name}
 use Rattle.element_tree.specs.Building.{said}
 use Rattle.doc_tree.specs.Marks.{Mark, Start, Char, Finish, spread}
-use Rattle.doc_tree.specs.Rests.{Terms, Then, Word, QuoteRest, RefRest, DigitRest, NumeralRest, IsPart, CommentRest, SectionRest, pending, PiText, PiOver, FirstOver, EndRest, Saying, Or, Never, TagRest, BodyRest, AttributeValue, KeyOver, KeyRest, After, room_in, keep, Between, Before, FieldValue, FieldOver, IsBegun, Choice, Gap, Marked, Whole}
+use Rattle.doc_tree.specs.Rests.{Terms, Then, Word, QuoteRest, RefRest, DigitRest, NumeralRest, IsPart, CommentRest, SectionRest, pending, PiText, PiOver, FirstOver, EndRest, Saying, Or, Never, TagRest, BodyRest, AreSameNames, AttributeValue, KeyOver, KeyRest, After, room_in, keep, Between, Before, FieldValue, FieldOver, IsBegun, Choice, Gap, Marked, Whole}
 use Rattle.doc_tree.specs.declared.names.Part.{Part}
 use Rattle.doc_tree.specs.declared.names.Part.TheVariants as parts
 use Rattle.doc_tree.specs.declared.machine.Round.{Round}
@@ -49,7 +50,7 @@ view m = record {
   left = drop m.matched m.word.items;
   goal = m.goal;
   name = m.name.items;
-  keys = map (λ v. v.items) m.keys.items;
+  keys = map (λ v. v.items) m.keys.keys;
   part = m.part;
   key = m.key.items;
   quote = m.quote;
@@ -99,6 +100,12 @@ InValue s before t = AttributeValue (room_in t s.names - 1) s.name s.keys s.kept
 -- Behind the attribute that is read, whose value this is.
 abbrev pub BehindValue : State → List ℕ → Terms → List ℕ → List Mark → Type 0
 BehindValue s value t = TagRest (room_in t s.names - 1) s.name (s.keys ++ (s.key ∷ [])) (keep s.key value s.kept) (Between 0 s.names t)
+
+-- Behind the attribute that is read, whose name is now among those of its tag.
+pub record HoldsKey (old new : State) : Type 0 where
+  pub keys : List (List ℕ)
+  pub same : AreSameNames keys (old.keys ++ (old.key ∷ []))
+  pub is : new ≡ record old { place = places.TagAfter; keys = keys; key = [] }
 
 -- Behind a reference in content that stands for these characters.
 abbrev pub Said : List (List ℕ) → Terms → List ℕ → List ℕ → List Mark → Type 0
@@ -298,9 +305,9 @@ QuestionAt s to = ((s.place ≡ places.FirstQuestion) × (to ≡ places.FirstNam
 abbrev pub QuoteAt : State → Place → Type 0
 QuoteAt s to = ((s.place ≡ places.FieldQuote) × (to ≡ places.FieldValue) × Outer s × (s.field ≢ fields.Before)) ⊎ ((s.place ≡ places.KeyQuote) × (to ≡ places.Value) × (IsAmong s.key s.keys → ⊥) × GoodTag s)
 
--- The machine goes on wherever 32 elements may stand in one another.
+-- The machine goes on wherever that many elements may stand in one another.
 abbrev pub IsAllowed : Terms → Type 0
-IsAllowed t = 32 ≤ t.depth
+IsAllowed t = DEPTH ≤ t.depth
 
 -- From what completes this, the machine takes the byte: behind it all stays the same. No byte of ASCII leads into the byte order mark.
 pub record Follows (before : List Mark) (K : Terms → List ℕ → List Mark → Type 0) (b : ℕ) (new : State) : Type 0 where
@@ -314,7 +321,7 @@ Stuck K b = (t : Terms) → IsAllowed t → (bytes : List ℕ) (marks : List Mar
 
 -- An element of depth 33 begins.
 abbrev pub IsDeep : State → ℕ → Type 0
-IsDeep s b = (s.place ≡ places.ContentLess) × (32 ≤ length s.names) × IsNameStart b
+IsDeep s b = (s.place ≡ places.ContentLess) × (DEPTH ≤ length s.names) × IsNameStart b
 
 -- The declaration's encoding ends here, and isn't one that is read.
 abbrev pub IsOther : State → ℕ → Type 0

@@ -1,5 +1,6 @@
 -- A reader that is fed bytes, and where it stands behind them.
 use Rattle.std.specs.Prelude.{◌≡◌, ℕ, ◌⊎◌, Bool, List, ◌++◌, length, Option, MatchOption}
+use Rattle.tree_grammar.specs.declared.TheConstants.{DEPTH}
 use Rattle.doc_tree.specs.Marks.{Mark}
 use Rattle.doc_tree.specs.Rests.{Terms, any}
 use Rattle.doc_tree.specs.Completes.{State, view, Good}
@@ -12,9 +13,9 @@ use Rattle.doc_tree.specs.declared.fault.TreeFault.{TreeFault}
 use Rattle.doc_tree.specs.declared.fault.TreeFault.TheVariants.{Memory}
 use Rattle.doc_tree.specs.declared.reader.Progress.{Progress}
 
--- A document of any encoding, with at most 32 elements in one another.
+-- A document of any encoding that isn't too deep.
 abbrev pub named : Terms
-named = record { depth = 32; aim = any }
+named = record { depth = DEPTH; aim = any }
 
 -- Where a reader stands in a document, in a line's end and in a character; how many bytes it took of how many; and why it takes no more.
 pub record Feeding : Type 0 where

@@ -1,9 +1,7 @@
 -- What the reader promises.
-use Rattle.std.specs.Prelude.{◌≡◌, ℕ, ◌⊎◌, List}
+use Rattle.std.specs.Prelude.{◌≡◌, ℕ, List}
 use Rattle.tree_grammar.specs.Elements.{Element, Event, events, IsShallow, IsWithin}
 use Rattle.tree_grammar.specs.Document.{Doc}
-use Rattle.doc_tree.specs.declared.fault.TreeFault.{TreeFault}
-use Rattle.doc_tree.specs.declared.fault.TreeFault.TheVariants.{Memory}
 
 -- The bytes are a document within the bounds, and these are the events of its element.
 pub record Reads (limit : ℕ) (bytes : List ℕ) (told : List Event) : Type 0 where
@@ -20,7 +18,3 @@ ReadsOnly bytes told = (e : Element) → Doc bytes e → told ≡ events e
 -- The bytes are no document within the bounds.
 abbrev pub NoneWithin : ℕ → List ℕ → Type 0
 NoneWithin limit bytes = (e : Element) → Doc bytes e → IsWithin limit bytes → IsShallow e → ⊥
-
--- A fault other than want of memory comes only where the bytes are none.
-abbrev pub Refuses : ℕ → List ℕ → TreeFault → Type 0
-Refuses limit bytes fault = (fault ≡ Memory) ⊎ NoneWithin limit bytes

@@ -1,5 +1,5 @@
 -- Of a document that has begun: what of the bytes completes it, and what it then says. Each relation names what comes behind it by K.
-use Rattle.std.specs.Prelude.{◌≡◌, ◌≢◌, ℕ, zero, suc, ◌-◌, ◌≤◌, ◌⊎◌, cond, Bool, List, [], ◌∷◌, ◌++◌, length, map, codes, encode_utf8}
+use Rattle.std.specs.Prelude.{◌≡◌, ◌≢◌, ℕ, zero, suc, ◌-◌, ◌≤◌, ◌⊎◌, cond, Bool, List, [], ◌∷◌, ◌++◌, length, map, codes, encode_utf8, ◌↔◌}
 use Rattle.std.specs.Char.{to_ascii_lowercase}
 use Rattle.std.specs.Str.Parse.{AllDigits, IsNumeral, digits_value_after}
 use Rattle.tree_grammar.specs.Elements.{Attribute}
@@ -200,6 +200,10 @@ pub record TagRest (room : ℕ) (name : List ℕ) (keys : List (List ℕ)) (kept
 -- these attributes of the tree, and one more where it belongs to it
 abbrev pub keep : List ℕ → List ℕ → List Attribute → List Attribute
 keep key value kept = kept ++ cond (is_kept key) (record { name = key; value = value } ∷ []) []
+
+-- the same names, in any order
+abbrev pub AreSameNames : List (List ℕ) → List (List ℕ) → Type 0
+AreSameNames names others = (name : List ℕ) → IsAmong name names ↔ IsAmong name others
 
 -- in an attribute's value, behind this much of what it says
 abbrev pub AttributeValue : ℕ → List ℕ → List (List ℕ) → List Attribute → (List ℕ → List Mark → Type 0) → List ℕ → ℕ → List ℕ → List ℕ → List Mark → Type 0

@@ -25,8 +25,6 @@ mod laws;
 mod machine;
 mod names;
 mod reader;
-#[cfg(test)]
-mod tests;
 
 pub use element_tree::{Tree, escape, write, write_to};
 pub use fault::TreeFault;

@@ -9,7 +9,7 @@ ghost use Rattle.element_tree.specs.Nesting.{IsOneElement};
 ghost use Rattle.doc_tree.specs.Building.{IsApart};
 ghost use Rattle.doc_tree.specs.Marks.{Mark};
 ghost use Rattle.doc_tree.specs.Rests.{Terms, Marked, Between, TagFirst, EndsBehind};
-ghost use Rattle.doc_tree.specs.Completes.{view, Good, GoodGoal, GoodReference, GoodTag, ArePrintable, Outer, Rests, Reaches, Follows, Stuck, Reached, Runs, Completes, Emptied, InTag, InBody, BehindKey, BehindValue, BehindReference, InNumeral, Around, GoodRound, PiNamed, QuestionAt, EqualsAt, QuoteAt, IsRadix, IsDeep, IsOther, IsDoctype, IsPlain};
+ghost use Rattle.doc_tree.specs.Completes.{view, Good, GoodGoal, GoodReference, GoodTag, ArePrintable, Outer, Rests, Reaches, Follows, Stuck, Reached, Runs, Completes, Emptied, InTag, InBody, BehindKey, BehindValue, HoldsKey, BehindReference, InNumeral, Around, GoodRound, PiNamed, QuestionAt, EqualsAt, QuoteAt, IsRadix, IsDeep, IsOther, IsDoctype, IsPlain};
 
 use crate::builder::Telling;
 use crate::characters::is_xml_char;
@@ -18,13 +18,15 @@ use crate::declaration::{
 };
 use crate::fault::StepFault;
 use crate::names::{
-    Part, is_among, is_declaration, is_kept, is_name_char, is_name_start, is_quote, is_space,
+    Part, add_name, is_among, is_declaration, is_kept, is_name_char, is_name_start, is_quote, is_space,
     is_xml, local_part, next_part,
 };
 use element_tree::Tree;
 use os_io::Memory;
 use std::alloc::{AllocError, Global};
+use std::collections::BTreeSet;
 use std::mem;
+use tree_grammar::DEPTH;
 
 /// Where in the document the reader stands.
 #[derive(Clone, Copy, Debug, PartialEq, Eq)]
@@ -155,7 +157,7 @@ pub(crate) struct Machine {
     goal: Goal,
     /// Of the start tag that is read: its name, and the names of its attributes.
     name: Vec<u8>,
-    keys: Vec<Vec<u8>>,
+    keys: BTreeSet<Vec<u8>>,
     /// The name that is read.
     part: Part,
     /// Of the attribute or field that is read.
@@ -171,9 +173,6 @@ pub(crate) struct Machine {
     builder: Telling,
 }
 
-/// How many elements may stand in one another.
-const DEPTH: usize = 32;
-
 impl Machine {
     pub(crate) fn new(alloc: Global) -> Self
         ensures { Runs (view result) [] }
@@ -188,7 +187,7 @@ impl Machine {
             matched: 0,
             goal: Goal::Marked,
             name: Vec::new(alloc),
-            keys: Vec::new(alloc),
+            keys: BTreeSet::new(alloc),
             part: Part::First,
             key: Vec::new(alloc),
             quote: 0,
@@ -805,7 +804,7 @@ impl Machine {
     fn tag_begins(&mut self, b: u8) -> Result<(), StepFault>
         requires kept { (view self.old).kept ≡ [] }
         requires names { ArePrintable (view self.old).names }
-        requires room { IsNameStart b → length self.old.names.items < 32 }
+        requires room { IsNameStart b → length self.old.names.items < DEPTH }
         ensures follows { OnOk result (Follows (view self.old).marks (TagFirst (view self.old).names) b (view self.new)) }
         ensures stuck { IsErrOf result StepFault.Refused → Stuck (TagFirst (view self.old).names) b }
     {
@@ -815,7 +814,7 @@ impl Machine {
         let mut name = Vec::new(self.alloc);
         name.push(b)?;
         self.name = name;
-        self.keys = Vec::new(self.alloc);
+        self.keys = BTreeSet::new(self.alloc);
         self.part = Part::First;
         self.place = Place::TagName;
         Ok(())
@@ -945,7 +944,7 @@ impl Machine {
         ensures follows { OnOk result (Follows (view self.old).marks (BehindKey (view self.old)) b (view self.new)) }
         ensures stuck { IsErrOf result StepFault.Refused → Stuck (BehindKey (view self.old)) b }
     {
-        if is_among(self.key.as_slice(), self.keys.as_slice()) {
+        if is_among(self.key.as_slice(), &self.keys) {
             return Err(StepFault::Refused);
         }
         if b == b'=' {
@@ -999,10 +998,10 @@ impl Machine {
 
     /// Holds the attribute's name among those of its tag.
     fn key_done(&mut self) -> Result<(), AllocError>
-        ensures { OnOk result (view self.new ≡ record (view self.old) { place = Place.TagAfter; keys = (view self.old).keys ++ ((view self.old).key ∷ []); key = [] }) }
+        ensures { OnOk result (HoldsKey (view self.old) (view self.new)) }
     {
         let key = mem::replace(&mut self.key, Vec::new(self.alloc));
-        self.keys.push(key)?;
+        add_name(&mut self.keys, key)?;
         self.place = Place::TagAfter;
         Ok(())
     }

@@ -1,12 +1,15 @@
 //! Names, and characters of the kinds that the grammar names.
 
-ghost use Rattle.std.specs.Prelude.{◌≡◌, ◌↔◌, ℕ, List, ◌∷◌, IsTrue, IfSome, IfNone, map, codes};
+ghost use Rattle.std.specs.Prelude.{◌≡◌, ◌↔◌, ℕ, List, [], ◌∷◌, ◌++◌, IsTrue, IfSome, IfNone, OnOk, map, codes};
 ghost use Rattle.std.specs.Char.{to_ascii_lowercase};
 ghost use Rattle.tree_grammar.specs.Characters as characters;
 ghost use Rattle.tree_grammar.specs.Characters.{IsSpace, IsNameStart, IsNameChar};
 ghost use Rattle.tree_grammar.specs.Tags as tags;
 ghost use Rattle.tree_grammar.specs.Tags.{IsQuote, IsAmong};
-ghost use Rattle.doc_tree.specs.Rests.{IsPart};
+ghost use Rattle.doc_tree.specs.Rests.{IsPart, AreSameNames};
+
+use std::alloc::AllocError;
+use std::collections::BTreeSet;
 
 /// Where a qualified name goes on.
 #[derive(Clone, Copy, Debug, PartialEq, Eq)]
@@ -121,13 +124,16 @@ pub(crate) fn is_kept(name: &[u8]) -> bool
 }
 
 /// Whether the name is one of these.
-pub(crate) fn is_among(name: &[u8], names: &[Vec<u8>]) -> bool
-    ensures { IsTrue result ↔ IsAmong name.now (map (λ v. v.items) names.now) }
+pub(crate) fn is_among(name: &[u8], names: &BTreeSet<Vec<u8>>) -> bool
+    ensures { IsTrue result ↔ IsAmong name.now (map (λ v. v.items) names.now.keys) }
 {
-    for other in names {
-        if other.as_slice() == name {
-            return true;
-        }
-    }
-    false
+    names.contains(name)
+}
+
+/// Adds a name to these.
+pub(crate) fn add_name(names: &mut BTreeSet<Vec<u8>>, name: Vec<u8>) -> Result<(), AllocError>
+    ensures { OnOk result (AreSameNames (map (λ v. v.items) names.new.keys) (map (λ v. v.items) names.old.keys ++ (name.items ∷ []))) }
+{
+    names.insert(name)?;
+    Ok(())
 }

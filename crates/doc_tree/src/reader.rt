@@ -4,7 +4,7 @@ ghost use Rattle.std.specs.Prelude.{◌≡◌, ◌≤◌, ◌<◌, ◌+◌, ◌+
 ghost use Rattle.tree_grammar.specs.Elements.{IsWithin};
 ghost use Rattle.doc_tree.specs.Completes.{view, Good, IsPlain};
 ghost use Rattle.doc_tree.specs.LineEnds.{Passes, Blocks, Continues};
-ghost use Rattle.doc_tree.specs.Reading.{Reads, ReadsOnly, NoneWithin, Refuses};
+ghost use Rattle.doc_tree.specs.Reading.{Reads, ReadsOnly};
 ghost use Rattle.doc_tree.specs.declared.fault.TreeFault.{TreeFault};
 ghost use Rattle.doc_tree.specs.Feeding.{feeding, IsTaken, Refused, Ends, WasFed, CanGoOn};
 
@@ -230,7 +230,6 @@ impl Reader {
 pub fn read(alloc: Global, bytes: &[u8], limit: u64) -> Result<Tree, TreeFault>
     ensures reads { IfOk result (Reads limit bytes.now) }
     ensures only { IfOk result (ReadsOnly bytes.now) }
-    ensures refuses { IfErr result (Refuses limit bytes.now) }
     ensures refusal { IfErr result (Ends limit bytes.now) }
 {
     let mut reader = Reader::new(alloc, limit);

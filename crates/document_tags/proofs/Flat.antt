@@ -5,7 +5,7 @@ use Rattle.std.proofs.lemmas.Bool.{leb-true}
 use Rattle.tree_grammar.specs.Characters.{IsXmlText, IsNameStart, IsNameChar, IsName, IsQName, IsQNameRest, Each, local_part}
 use Rattle.tree_grammar.specs.Tags.{IsAmong}
 use Rattle.tree_grammar.specs.Elements.{Attribute, Nodes, none, element, Element, nodes_depth}
-use Rattle.tree_grammar.specs.Document.{SmallDoc}
+use Rattle.tree_grammar.specs.Document.{Doc}
 use Rattle.tree_grammar.specs.Written.{written}
 use Rattle.element_tree.specs.Writable.{AreWritable, NamesDiffer, NodesWritable, IsWritable, kept_attributes, local_nodes}
 use Rattle.element_tree.proofs.Documents.{written_doc}
@@ -160,8 +160,8 @@ pub written_is_document : (e : Element) (inside : Nodes) → is_tag e.name e.att
 written_is_document e inside is texts flat short =
     let writable : IsWritable e = (tag_by e.name e.attributes is texts, flat.writable) in
     let root : Nodes → Element = λ c. record { name = local_part e.name; attributes = kept_attributes e.attributes; children = c } in
-    let doc : SmallDoc (written e) (root inside) = subst (λ (c : Nodes). SmallDoc (written e) (root c)) flat.here (written_doc e writable) in
-    record { document = doc.doc; short = short; shallow = let low = flat.low in omega (arith, low) }
+    let doc : Doc (written e) (root inside) = subst (λ (c : Nodes). Doc (written e) (root c)) flat.here (written_doc e writable) in
+    record { document = doc; short = short; shallow = let low = flat.low in omega (arith, low) }
 
 -- the document of a root of the Optimization Services
 pub root_is_document : (name : List ℕ) (children : Nodes) → is_tag name [] ≡ true → local_part name ≡ name → AreFlat 31 children children → length (written (rooted name children)) ≤ document_limit → IsDocument (written (rooted name children)) (bare_root name children)

@@ -108,7 +108,7 @@ mod tests {
                 other => b.chars(&[other])?,
             }
         }
-        Ok(b.depth() == 0 && b.finish().is_some())
+        Ok(b.finish().is_some())
     }
 
     #[test]

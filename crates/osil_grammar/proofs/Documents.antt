@@ -12,7 +12,7 @@ use Rattle.element_tree.specs.Writable.{IsWritable, local_element}
 use Rattle.element_tree.proofs.XmlTexts.{Printable}
 use Rattle.element_tree.proofs.Documents.{written_doc}
 use Rattle.document_tags.specs.Texts.{IsDocument, document_limit}
-use Rattle.tree_grammar.specs.Document.{SmallDoc}
+use Rattle.tree_grammar.specs.Document.{Doc}
 use Rattle.fraction.specs.declared.frac.Frac.{Frac}
 use Rattle.fraction.specs.declared.ends.Entry.{Entry}
 use Rattle.instance.specs.declared.parts.Goal.{Goal}
@@ -120,5 +120,5 @@ written_document p text valid is short =
     let root : Element = is.root in
     let low = root_low p root valid is.writes in
     let writable : IsWritable root = (low.0, low.1.writable) in
-    let doc : SmallDoc text (local_element root) = subst (λ (t : List ℕ). SmallDoc t (local_element root)) (sym is.says) (written_doc root writable) in
-    (root, is.writes, record { document = doc.doc; short = short; shallow = let l = low.1.low in omega (arith, l) })
+    let doc : Doc text (local_element root) = subst (λ (t : List ℕ). Doc t (local_element root)) (sym is.says) (written_doc root writable) in
+    (root, is.writes, record { document = doc; short = short; shallow = let l = low.1.low in omega (arith, l) })

@@ -3,7 +3,7 @@ use Rattle.std.proofs.Common.{◌≡◌, ℕ, Bool, true, false, Option, None, S
 use Rattle.std.specs.Prelude.{codes}
 use Rattle.tree_grammar.specs.Characters.{Each}
 use Rattle.tree_grammar.specs.Elements.{Nodes, none, Element}
-use Rattle.tree_grammar.specs.Document.{SmallDoc}
+use Rattle.tree_grammar.specs.Document.{Doc}
 use Rattle.element_tree.specs.Writable.{IsWritable, local_element}
 use Rattle.element_tree.proofs.XmlTexts.{Printable, list_printable}
 use Rattle.element_tree.proofs.Documents.{written_doc, nodes_local}
@@ -62,5 +62,5 @@ text_document r back =
     let flat = children_flat r back in
     let place : Each Printable (codes "os.optimizationservices.org") = list_printable (codes "os.optimizationservices.org") refl in
     let writable : IsWritable (report_element r) = ((letters_name (codes "osrl") refl, (letters_name (codes "xmlns") refl, printable_text (codes "os.optimizationservices.org") place, tt), ((λ nothing. nothing), tt)), flat.writable) in
-    let doc : SmallDoc (report_text r) (root_of r) = subst (λ (e : Element). SmallDoc (report_text r) e) (root_local r flat) (written_doc (report_element r) writable) in
-    record { document = doc.doc; short = back.short; shallow = let low = flat.low in omega (arith, low) }
+    let doc : Doc (report_text r) (root_of r) = subst (λ (e : Element). Doc (report_text r) e) (root_local r flat) (written_doc (report_element r) writable) in
+    record { document = doc; short = back.short; shallow = let low = flat.low in omega (arith, low) }

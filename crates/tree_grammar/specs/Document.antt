@@ -3,7 +3,7 @@ use Rattle.std.specs.Prelude.{◌≡◌, ℕ, Bool, true, false, List, [], ◌�
 use Rattle.tree_grammar.specs.Elements.{Element}
 use Rattle.tree_grammar.specs.Characters.{IsXmlText, normal_lines, local_part}
 use Rattle.tree_grammar.specs.Tags.{Tag, tag_text, attribute_list}
-use Rattle.tree_grammar.specs.Content.{Content, nothing, char, reference, section, comment, instruction, empty, nested, Body, closed, opened, body_text, body_nodes, IsBodyClear, Misc, misc_over, misc_space, misc_comment, misc_instruction, misc_text}
+use Rattle.tree_grammar.specs.Content.{Body, body_text, body_nodes, IsBodyClear, Misc, misc_text}
 use Rattle.tree_grammar.specs.Declaration.{Declaration, declaration_text, IsDeclarationReadable}
 
 -- A byte order mark (section 4.3.3, appendix F), or none.
@@ -36,37 +36,3 @@ pub record Doc (bytes : List ℕ) (root : Element) : Type 0 where
   pub text : normal_lines bytes ≡ document_text document
   pub readable : IsDeclarationReadable document.declaration
   pub says : root ≡ document_element document
-
--- No comment, no instruction, no CDATA section.
-abbrev pub IsContentSmall : Content → Type 0
-IsContentSmall nothing = Unit {0}
-IsContentSmall (char c l a more) = IsContentSmall more
-IsContentSmall (reference r more) = IsContentSmall more
-IsContentSmall (section text t more) = ⊥
-IsContentSmall (comment t more) = ⊥
-IsContentSmall (instruction i more) = ⊥
-IsContentSmall (empty tag more) = IsContentSmall more
-IsContentSmall (nested tag inner space s more) = IsContentSmall inner × IsContentSmall more
-
--- The same of what stands behind a start tag.
-abbrev pub IsBodySmall : Body → Type 0
-IsBodySmall closed = Unit {0}
-IsBodySmall (opened inner space s) = IsContentSmall inner
-
--- White space alone.
-abbrev pub IsMiscSmall : Misc → Type 0
-IsMiscSmall misc_over = Unit {0}
-IsMiscSmall (misc_space c s more) = IsMiscSmall more
-IsMiscSmall (misc_comment t more) = ⊥
-IsMiscSmall (misc_instruction i more) = ⊥
-
--- A document without comments, instructions and CDATA sections.
-pub record IsSmall (d : Document) : Type 0 where
-  pub before : IsMiscSmall d.before
-  pub body : IsBodySmall d.body
-  pub after : IsMiscSmall d.after
-
--- The bytes are a document without comments, instructions and CDATA sections, with this root.
-pub record SmallDoc (bytes : List ℕ) (root : Element) : Type 0 where
-  pub doc : Doc bytes root
-  pub small : IsSmall doc.document

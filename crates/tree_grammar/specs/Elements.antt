@@ -1,5 +1,6 @@
 -- Elements of XML documents (XML 1.0, sections 2.1 and 3), as trees and in document order.
 use Rattle.std.specs.Prelude.{ℕ, suc, ◌≤◌, max, List, [], ◌∷◌, length}
+use Rattle.tree_grammar.specs.declared.TheConstants.{DEPTH}
 
 -- An attribute's name and its value (XML 1.0, section 3.1).
 pub record Attribute : Type 0 where
@@ -44,9 +45,9 @@ nodes_depth (chars text more) = nodes_depth more
 abbrev pub depth : Element → ℕ
 depth e = suc (nodes_depth e.children)
 
--- At most 32 elements stand in one another.
+-- No more elements stand in one another than may.
 abbrev pub IsShallow : Element → Type 0
-IsShallow e = depth e ≤ 32
+IsShallow e = depth e ≤ DEPTH
 
 -- The text has at most so many bytes.
 abbrev pub IsWithin : ℕ → List ℕ → Type 0

@@ -1,6 +1,6 @@
 use Rattle.std.proofs.Common.{[], ◌∙◌}
 use Rattle.doc_tree.specs.Reading.{ReadsOnly}
-use Rattle.doc_tree.proofs.Finished.{feed_ends, ends_refuses, at_ok}
+use Rattle.doc_tree.proofs.Finished.{feed_ends, at_ok}
 use Rattle.doc_tree.proofs.reader.read.Goals as goal
 
 pub returns-in-Ok-clause-only : goal.returns-in-Ok-clause-only
@@ -8,6 +8,3 @@ returns-in-Ok-clause-only c = at_ok c.finish.result c.feed.new.self c.args.bytes
 
 pub returns-in-Err-clause-refusal : goal.returns-in-Err-clause-refusal
 returns-in-Err-clause-refusal c = feed_ends c.feed.new.self c.args.limit c.args.bytes.now c.feed.result tt c.in-Err.fault (c.feed.ensures.limit ∙ c.new-reader.ensures.limit) (c.feed.ensures.fed [] c.new-reader.ensures.fed) c.feed.ensures.answers c.in-Err.is
-
-pub returns-in-Err-clause-refuses : goal.returns-in-Err-clause-refuses
-returns-in-Err-clause-refuses c = ends_refuses c.args.limit c.args.bytes.now c.in-Err.fault (returns-in-Err-clause-refusal c)

@@ -1,0 +1,103 @@
+//! Tables of XML documents: the tree that each is read as, or why and where it is refused.
+//!
+//! The tables' answers come from the rules (XML 1.0, Namespaces in XML 1.0, and this project's profile of them, in
+//! `docs/rules/trees.md`). Each document is read whole, byte by byte, and in two pieces at every place. A tree is told
+//! by its written text, without the declaration. The output is a line for each answer that is another, and how many
+//! cases there are.
+#![tactic(auto)]
+
+mod reading;
+
+use cases::{Answers, try_file};
+use doc_tree::TreeFault;
+use os_io::{DiskFiles, Memory, Text};
+use reading::{answer_text, in_two, number_of, told_whole, told_in_pieces};
+use std::alloc::Global;
+use std::io;
+
+/// The most bytes of a document where no case says another number.
+const MOST: u64 = 4_194_304;
+
+/// Given a document, in any pieces.
+#[derive(Drop)]
+struct InPieces;
+
+impl Answers for InPieces {
+    fn answer(&mut self, alloc: Global, given: &[Vec<u8>]) -> Result<Text, Memory> {
+        match given {
+            [text] => told_in_pieces(alloc, text.as_slice(), MOST),
+            _ => Text::from_slice(alloc, b"one field"),
+        }
+    }
+}
+
+/// Given the most bytes of a document, and the document, in any pieces.
+#[derive(Drop)]
+struct Limited;
+
+impl Answers for Limited {
+    fn answer(&mut self, alloc: Global, given: &[Vec<u8>]) -> Result<Text, Memory> {
+        match given {
+            [limit, text] => told_in_pieces(alloc, text.as_slice(), number_of(limit.as_slice())),
+            _ => Text::from_slice(alloc, b"two fields"),
+        }
+    }
+}
+
+/// Given a document, of which each beginning ends too early.
+#[derive(Drop)]
+struct Beginnings;
+
+impl Answers for Beginnings {
+    fn answer(&mut self, alloc: Global, given: &[Vec<u8>]) -> Result<Text, Memory> {
+        match given {
+            [text] => {
+                for k in 0..text.len() {
+                    let at = k as u64;
+                    let answer = in_two(alloc, &text.as_slice()[..k], b"", MOST);
+                    if answer.as_ref().err() != Some(&TreeFault::Malformed { at }) {
+                        return answer_text(alloc, answer);
+                    }
+                }
+                told_whole(alloc, text.as_slice(), MOST)
+            }
+            _ => Text::from_slice(alloc, b"one field"),
+        }
+    }
+}
+
+/// Given what a document begins with, a text, how often it comes, and the second piece.
+#[derive(Drop)]
+struct Repeated;
+
+impl Answers for Repeated {
+    fn answer(&mut self, alloc: Global, given: &[Vec<u8>]) -> Result<Text, Memory> {
+        match given {
+            [front, part, times, back] => {
+                let mut text = Text::from_slice(alloc, front.as_slice())?;
+                for _ in 0..number_of(times.as_slice()) {
+                    text.extend(part.as_slice())?;
+                }
+                let answer = in_two(alloc, text.as_slice(), back.as_slice(), MOST);
+                answer_text(alloc, answer)
+            }
+            _ => Text::from_slice(alloc, b"four fields"),
+        }
+    }
+}
+
+fn main(rt: HostRuntime) -> io::Result<()> {
+    let alloc = rt.alloc();
+    let mut files = DiskFiles::new(&rt);
+    let mut output = rt.stdout();
+    let read = try_file(alloc, "read.txt", &mut files, &mut InPieces, &mut output)?;
+    let refused = try_file(alloc, "refused.txt", &mut files, &mut InPieces, &mut output)?;
+    let limits = try_file(alloc, "limits.txt", &mut files, &mut Limited, &mut output)?;
+    let begun = try_file(alloc, "beginnings.txt", &mut files, &mut Beginnings, &mut output)?;
+    let repeated = try_file(alloc, "repeated.txt", &mut files, &mut Repeated, &mut output)?;
+    let mut count: u64 = 0;
+    for n in [read, refused, limits, begun, repeated] {
+        count = count.saturating_add(n);
+    }
+    println!(rt; "{count} cases")
+}
