@@ -5,6 +5,7 @@
 //! and [`lcm`] are refused exactly where the reduced result passes `MAX`, and sums exactly where one of the four whole
 //! numbers does from which Knuth makes a sum (The Art of Computer Programming, volume 2, section 4.5.1), which
 //! `rational` states as `SumFits`. Comparing, negating and taking the floor are never refused, and no call takes memory.
+//! Numbers up to 64 bits are multiplied, divided and reduced in steps of 64 bits, whole numbers without a division.
 #![tactic(auto)]
 
 mod divisor;

@@ -3,3 +3,4 @@ pub mod Waiting
 pub mod Steps
 pub mod History
 pub mod Laws
+pub mod Watching

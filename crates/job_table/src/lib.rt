@@ -9,7 +9,7 @@
 //! says what it answers and what it leaves.
 //!
 //! A document of a job is right where [`Verdicts`] says so, and a finish asks for one that is. [`Calls`] is who makes calls: a
-//! table's owner, or one of many who share it. What holds of every history of calls is said by the laws below.
+//! table's owner, or one of many who share it; [`CallsWatch`] asks them whether a job is to stop. What holds of every history of calls is said by the laws below.
 //!
 //! Only `knock` goes over the jobs. Room for a job's record and for its place among those that wait is taken where its number is
 //! given, and texts have two owners from the start ([`Twin`]), so that `send`, `claim`, `look`, `finish` and `kill` take no memory.
@@ -21,8 +21,11 @@ mod job;
 mod jobs;
 mod laws;
 mod table;
+#[cfg(test)]
+mod tests;
 mod texts;
 mod waiting;
+mod watch;
 
 pub use caller::Calls;
 pub use calls::{
@@ -34,3 +37,4 @@ pub use laws::{
 };
 pub use table::Table;
 pub use texts::{SharedText, Twin};
+pub use watch::CallsWatch;

@@ -24,7 +24,8 @@ use Rattle.osil_grammar.specs.Runs.{StandFor, ItemsStandFor, AreWholes}
 use Rattle.osil_grammar.specs.Matrix.{Lists, AreLists, IsDivision, stored, place_sum, HasWidePlace}
 use Rattle.osil_grammar.specs.Deciding.{IsLate, HasOtherValues, HasOtherIndices, HasWideEntry, AreDivided, DecidesMissing, DecidesCount, DecidesStart}
 use Rattle.osil_grammar.specs.Refusals.{DecidesNothing, AreClean}
-use Rattle.osil_grammar.specs.Writing.{HasDecimal, WriteLists, WriteValues, counts_nodes, entries_below, row_starts, with_attribute}
+use Rattle.document_tags.specs.Writing.{with_attribute}
+use Rattle.osil_grammar.specs.Writing.{HasDecimal, WriteLists, WriteValues, counts_nodes, entries_below, row_starts}
 use Rattle.osil_grammar.proofs.Ascending.{Rises, rises, below_rises, all_before, none_first}
 use Rattle.osil_grammar.proofs.ChildTags.{same_heads, same_rests}
 use Rattle.osil_grammar.proofs.CleanGoal.{count_is}

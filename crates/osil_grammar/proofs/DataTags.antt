@@ -15,7 +15,7 @@ use Rattle.osil_grammar.proofs.AtStart.{begins_child, no_attribute, no_var_type,
 use Rattle.osil_grammar.proofs.Decided.{first_one}
 use Rattle.osil_grammar.proofs.EndPlaces.{told_end, least_end, full_end}
 use Rattle.osil_grammar.proofs.EndTags.{ends_once}
-use Rattle.osil_grammar.proofs.Fields.{EachOf, IsNumber, IsWide}
+use Rattle.osil_grammar.specs.Fields.{EachOf, IsNumber, IsWide}
 use Rattle.osil_grammar.proofs.FirstNamed.{none_there, is_among, not_among}
 use Rattle.osil_grammar.proofs.Paths.{names_append}
 use Rattle.osil_grammar.proofs.StartEnds.{past_ends, start_clean}

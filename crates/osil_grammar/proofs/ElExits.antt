@@ -4,7 +4,8 @@ use Rattle.std.specs.Prelude.{◌⊎◌, Option, Result, IsSomeAnd, MatchOption,
 use Rattle.tree_grammar.specs.Elements.{Attribute, Element, Event}
 use Rattle.document_tags.specs.Texts.{HoldsText}
 use Rattle.decimal_text.specs.Count.{IsCount}
-use Rattle.osil_grammar.specs.Tags.{Level, Tag, level_of, names, attribute, value_of}
+use Rattle.document_tags.specs.Elements.{attribute, value_of}
+use Rattle.osil_grammar.specs.Tags.{Level, Tag, level_of, names}
 use Rattle.osil_grammar.specs.Kinds.{Listing, Listed, El, path}
 use Rattle.osil_grammar.specs.Numbers.{Grammar, count, mult, listing_grammar, IsOf, IsWideOf}
 use Rattle.osil_grammar.specs.Runs.{StandsFor, StandFor}

@@ -4,7 +4,8 @@ use Rattle.std.specs.Prelude.{◌⊎◌, Option, IsSomeAnd, MatchOption, codes}
 use Rattle.tree_grammar.specs.Elements.{Element}
 use Rattle.document_tags.specs.Texts.{HoldsText}
 use Rattle.decimal_text.specs.Count.{IsCount}
-use Rattle.osil_grammar.specs.Tags.{Level, Tag, level_of, start_tag, end_tag, names, attribute}
+use Rattle.document_tags.specs.Elements.{attribute}
+use Rattle.osil_grammar.specs.Tags.{Level, Tag, level_of, start_tag, end_tag, names}
 use Rattle.osil_grammar.specs.Kinds.{Listing, Values, Listed, El, path}
 use Rattle.osil_grammar.specs.Numbers.{mult, field, listing_grammar, IsOf, IsWideOf}
 use Rattle.osil_grammar.specs.Runs.{StandsFor, StandFor}

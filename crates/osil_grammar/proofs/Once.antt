@@ -4,7 +4,7 @@ use Rattle.std.specs.Prelude.{Option, None, Some, MatchOption, codes}
 use Rattle.tree_grammar.specs.Elements.{Element}
 use Rattle.decimal_text.specs.Count.{IsCount}
 use Rattle.decimal_text.proofs.OneNumber.{count_once}
-use Rattle.osil_grammar.specs.Tags.{attribute}
+use Rattle.document_tags.specs.Elements.{attribute}
 use Rattle.osil_grammar.specs.Runs.{StandsFor, StandFor}
 
 -- for how many an element stands, and elements together

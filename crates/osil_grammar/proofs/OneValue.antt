@@ -19,7 +19,7 @@ use Rattle.instance.specs.declared.parts.Row.{Row}
 use Rattle.instance.specs.declared.parts.Goal.{Goal}
 use Rattle.instance.specs.declared.parts.Sense.{Sense}
 use Rattle.instance.specs.declared.parts.Sense.TheVariants.{Min, Max}
-use Rattle.osil_grammar.specs.Tags.{attribute}
+use Rattle.document_tags.specs.Elements.{attribute}
 use Rattle.osil_grammar.specs.Costs.{Cost, cost_sum}
 use Rattle.osil_grammar.specs.Meaning.{IsEndAt, raised, lowered, IsContinuous, IsBinary, IsOfType, IsVar, IsLess, IsRow, Expand, IsSense, AreSums, IsObjective}
 use Rattle.decimal_text.proofs.OneNumber.{only_inf, only_neg_inf}

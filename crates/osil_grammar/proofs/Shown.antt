@@ -71,7 +71,3 @@ pub end_shown : (end : End) (text : List ℕ) → IsEndText end text → IsShown
 end_shown NegInf text is = subst IsShown (sym is) (record { some = λ e. cc; printable = ((lit≤ tt, lit< tt), ((lit≤ tt, lit< tt), ((lit≤ tt, lit< tt), ((lit≤ tt, lit< tt), tt)))) })
 end_shown (At x) text is = plain_shown x text is
 end_shown Inf text is = subst IsShown (sym is) (record { some = λ e. cc; printable = ((lit≤ tt, lit< tt), ((lit≤ tt, lit< tt), ((lit≤ tt, lit< tt), tt))) })
-
--- printable characters are a text of XML
-pub printable_text : (text : List ℕ) → Each Printable text → IsXmlText text
-printable_text text printable = subst IsXmlText (append-nil text) (clean_ascii text [] printable clean_nothing).text

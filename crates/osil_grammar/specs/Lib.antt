@@ -13,5 +13,6 @@ pub mod Writing
 pub mod Walking
 pub mod Orders
 pub mod Parsing
+pub mod Fields
 pub mod PartsRead
 pub mod Telling

@@ -23,7 +23,8 @@ use Rattle.fraction.specs.declared.frac.Frac.{Frac}
 use Rattle.osil_grammar.specs.declared.fault.OsilFault.{OsilFault}
 use Rattle.osil_grammar.specs.declared.fault.OsilFault.TheVariants.{Tree, Refused, Memory}
 use Rattle.osil_grammar.specs.Walking.{Walking, Begun, Entered, Left, IsJoined, IsInside, IsBehind}
-use Rattle.osil_grammar.specs.Tags.{Level, Tag, level_of, start_tag, end_tag, node_tags, names, no_element, value_of, attribute, element_of}
+use Rattle.document_tags.specs.Elements.{value_of, attribute}
+use Rattle.osil_grammar.specs.Tags.{Level, Tag, level_of, start_tag, end_tag, node_tags, names, no_element, element_of}
 use Rattle.osil_grammar.specs.Kinds.{Kind, InstanceData, Coefficients, path, ordered, content_names}
 use Rattle.osil_grammar.specs.Numbers.{Grammar, count, IsOf, IsWideOf, Says}
 use Rattle.osil_grammar.specs.Kinds.{Listing, Starts, RowIndices, ColumnIndices, Values, El}

@@ -1,11 +1,11 @@
 -- What the reader promises: bytes stand for an instance, or are refused.
-use Rattle.std.specs.Prelude.{◌≡◌, ℕ, List}
+use Rattle.std.specs.Prelude.{◌≡◌, ℕ, List, codes}
 use Rattle.tree_grammar.specs.Elements.{Element}
 use Rattle.document_tags.specs.Texts as tree
 use Rattle.document_tags.specs.Texts.{document_limit}
 use Rattle.doc_tree.specs.Refusals.{IsRefusal}
 use Rattle.doc_tree.specs.declared.TreeFault.{TreeFault}
-use Rattle.doc_tree.specs.declared.TreeFault.TheVariants as tree_fault
+use Rattle.document_tags.specs.Faults as spoken
 use Rattle.instance.specs.Parts.{Parts}
 use Rattle.osil_grammar.specs.declared.fault.Refusal.{Refusal}
 use Rattle.osil_grammar.specs.declared.fault.Refusal.TheVariants.{Root, Missing, Beyond, Attribute, Number, Wide, Count, Index, Start, VarType, Bound, ManyObjectives, TooBig}
@@ -14,8 +14,7 @@ use Rattle.osil_grammar.specs.declared.fault.OsilFault.TheVariants.{Tree, Refuse
 use Rattle.osil_grammar.specs.Refusals as refusals
 use Rattle.osil_grammar.specs.Refusals.{IsRefused, IsAccepted}
 use Rattle.osil_grammar.specs.Meaning.{Means}
-use Rattle.osil_grammar.specs.Texts as texts
-use Rattle.osil_grammar.specs.Texts.{tree_refusal_text, refusal_text}
+use Rattle.osil_grammar.specs.Texts.{refusal_text}
 
 -- the bytes are a document within the limits, and hold this element
 abbrev pub IsDocument : List ℕ → Element → Type 0
@@ -65,12 +64,7 @@ AreAlike f g = ⊥
 
 -- what is wrong with bytes that are no document
 abbrev pub IsTreeText : TreeFault → List ℕ → Type 0
-IsTreeText (tree_fault.Malformed at) text = text ≡ tree_refusal_text (texts.Malformed at)
-IsTreeText (tree_fault.Doctype at) text = text ≡ tree_refusal_text (texts.Doctype at)
-IsTreeText tree_fault.Encoding text = text ≡ tree_refusal_text texts.Encoding
-IsTreeText (tree_fault.Deep at) text = text ≡ tree_refusal_text (texts.Deep at)
-IsTreeText tree_fault.Long text = text ≡ tree_refusal_text texts.Long
-IsTreeText tree_fault.Memory text = ⊥
+IsTreeText f text = spoken.IsTreeText (codes "osil") f text
 
 -- the text of a fault; want of memory has none
 abbrev pub IsFaultText : OsilFault → List ℕ → Type 0

@@ -9,13 +9,16 @@ ghost use Rattle.fraction.specs.Frac.{ratio};
 ghost use Rattle.decimal_text.specs.Plain.{PlainText};
 ghost use Rattle.instance.specs.Parts.{IsAscending};
 ghost use Rattle.element_tree.specs.Building.{said};
-ghost use Rattle.osil_grammar.specs.Writing.{HasDecimal, EndHasText, IsEndText, WriteVars, WriteRows, WriteCosts, CountsCosts, WritesGoal, WriteValues, WriteLists, WritesInstance, HasDecimals, IsWrittenText, counted, counts_nodes, entries_below, row_starts, sense_text, type_text, with_attribute};
-ghost use Rattle.osil_grammar.specs.Telling.{Told, ToldAttributes, opening, HasNone, Writes, EndsHaveTexts, EndAttributes, GoalHasDecimals, EncodeFails};
+ghost use Rattle.document_tags.specs.Writing.{counted, with_attribute};
+ghost use Rattle.osil_grammar.specs.Writing.{HasDecimal, EndHasText, IsEndText, WriteVars, WriteRows, WriteCosts, CountsCosts, WritesGoal, WriteValues, WriteLists, WritesInstance, HasDecimals, IsWrittenText, counts_nodes, entries_below, row_starts, sense_text, type_text};
+ghost use Rattle.document_tags.specs.Telling.{Told, ToldAttributes, opening};
+ghost use Rattle.osil_grammar.specs.Telling.{HasNone, Writes, EndsHaveTexts, EndAttributes, GoalHasDecimals, EncodeFails};
 
-use crate::reading::MOST_BYTES;
 use crate::fault::EncodeFault;
-use crate::telling::{close, empty, leaf, open, open_with};
+use crate::reading::MOST_BYTES;
+use crate::telling::leaf;
 use decimal_text::{DecimalFault, write_decimal};
+use document_tags::{close, empty_after, open, open_after};
 use element_tree::{Tree, TreeBuilder, write};
 use fraction::{End, Entry, Frac};
 use instance::{Goal, Instance, Row, Sense, Var};
@@ -71,7 +74,7 @@ fn tell_var(alloc: Global, b: &mut TreeBuilder, var: Var) -> Result<(), EncodeFa
 {
     b.attribute(b"type", type_of(var.whole))?;
     tell_ends(alloc, b, var.lb, var.ub)?;
-    empty(b, b"var")?;
+    empty_after(b, b"var")?;
     Ok(())
 }
 
@@ -92,7 +95,7 @@ fn tell_vars(alloc: Global, b: &mut TreeBuilder, vars: &[Var]) -> Result<(), Enc
 fn open_counted(b: &mut TreeBuilder, name: &[u8], key: &[u8], n: usize) -> Result<(), Memory>
     ensures { OnOk result (Told b.old b.new (opening name.now (b.old.attributes ++ with_attribute key.now (digits n) []))) }
 {
-    open_with(b, name, key, Buffer::new().format(n).as_bytes())
+    open_after(b, name, key, Buffer::new().format(n).as_bytes())
 }
 
 /// Tells a row.
@@ -101,7 +104,7 @@ fn tell_row(alloc: Global, b: &mut TreeBuilder, row: Row) -> Result<(), EncodeFa
     ensures { Writes result b.old b.new (EndsHaveTexts row.lb row.ub) (WriteRows (row ∷ [])) }
 {
     tell_ends(alloc, b, row.lb, row.ub)?;
-    empty(b, b"con")?;
+    empty_after(b, b"con")?;
     Ok(())
 }
 
@@ -307,8 +310,8 @@ fn tell_instance(alloc: Global, b: &mut TreeBuilder, instance: &Instance) -> Res
     ensures { MatchResult result (λ _. HasDecimals instance.now × (root : Element) × WritesInstance instance.now root × (said b.new ≡ events root)) (HasNone (HasDecimals instance.now)) }
 {
     let rows = instance.rows();
-    open_with(b, b"osil", b"xmlns", b"os.optimizationservices.org")?;
-    empty(b, b"instanceHeader")?;
+    open_after(b, b"osil", b"xmlns", b"os.optimizationservices.org")?;
+    empty_after(b, b"instanceHeader")?;
     open(b, b"instanceData")?;
     tell_vars(alloc, b, instance.vars())?;
     tell_goal(alloc, b, instance.goal())?;

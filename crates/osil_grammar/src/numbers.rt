@@ -8,7 +8,7 @@ ghost use Rattle.decimal_text.specs.Count.{IsCount};
 ghost use Rattle.decimal_text.specs.Whole.{IsWhole};
 ghost use Rattle.decimal_text.specs.Decimal.{IsDecimal};
 ghost use Rattle.decimal_text.specs.Bound.{IsBound};
-ghost use Rattle.osil_grammar.specs.Tags.{value_of};
+ghost use Rattle.document_tags.specs.Elements.{value_of};
 ghost use Rattle.osil_grammar.specs.Numbers.{Grammar, count as count_grammar, whole as whole_grammar, decimal as decimal_grammar, bound as bound_grammar, IsOf, IsWideOf, HoldsDecimal};
 ghost use Rattle.osil_grammar.specs.Walking.{GoesOn};
 ghost use Rattle.osil_grammar.specs.Reading as promised;

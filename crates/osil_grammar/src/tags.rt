@@ -59,7 +59,7 @@ fn told(alloc: Global, name: &[u8]) -> Result<Text, Memory>
 
 impl<'t> StartTag<'t> {
     ghost use Rattle.std.specs.Prelude.{◌↔◌, IsTrue};
-    ghost use Rattle.osil_grammar.specs.Tags.{value_of};
+    ghost use Rattle.document_tags.specs.Elements.{value_of};
     ghost use Rattle.osil_grammar.specs.Refusals as refusals;
     ghost use Rattle.osil_grammar.specs.Deciding.{told};
     ghost use Rattle.osil_grammar.specs.Reading.{refusal};

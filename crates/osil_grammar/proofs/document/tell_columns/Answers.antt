@@ -4,8 +4,9 @@ use Rattle.std.proofs.lemmas.Result.{on_ok_weaker}
 use Rattle.tree_grammar.specs.Elements.{Nodes, nodes_events}
 use Rattle.fraction.specs.declared.ends.Entry.{Entry}
 use Rattle.osil_grammar.specs.Writing.{counts_nodes}
-use Rattle.osil_grammar.specs.Telling.{Told}
-use Rattle.osil_grammar.proofs.Told.{one_told, all_told, told_around}
+use Rattle.document_tags.specs.Telling.{Told}
+use Rattle.document_tags.proofs.Told.{told_around}
+use Rattle.osil_grammar.proofs.Told.{one_told, all_told}
 use Rattle.osil_grammar.proofs.Joined.{WriteColumns, columns_join}
 use Rattle.osil_grammar.proofs.document.tell_columns.Goals as goal
 

@@ -36,5 +36,5 @@ returns c =
     let high : length rows ≡ length c.args.instance.now.rows = ap (λ (l : List Row). length l) c.rows-rows.ensures.value in
     let by_entries = subst (λ (l : List Entry). All (λ (x : Entry). HasDecimal x.value) l × ToldSome (IsPart (codes "linearConstraintCoefficients") (codes "numberOfValues") (length l) (WriteLists (length rows) l)) c.tell_rows.new.b c.tell_matrix.new.b) c.entries.ensures.value (m.0, (m.1, m.2, m.3)) in
     let matrix = subst (λ (n : ℕ). ToldSome (IsPart (codes "linearConstraintCoefficients") (codes "numberOfValues") (length c.args.instance.now.entries) (WriteLists n c.args.instance.now.entries)) c.tell_rows.new.b c.tell_matrix.new.b) high by_entries.1 in
-    let whole = whole_told c.args.instance.now _ _ _ _ _ _ _ _ _ _ c.requires c.in_ok-open_with.ensures c.in_ok-empty.ensures c.in_ok-open.ensures vars.1 objective.1 constraints.1 matrix c.in_ok-close.ensures c.in_ok-close-2.ensures in
+    let whole = whole_told c.args.instance.now _ _ _ _ _ _ _ _ _ _ c.requires c.in_ok-open_after.ensures c.in_ok-empty_after.ensures c.in_ok-open.ensures vars.1 objective.1 constraints.1 matrix c.in_ok-close.ensures c.in_ok-close-2.ensures in
     (record { vars = vars.0; rows = constraints.0; entries = by_entries.0; constant = objective.0.0; costs = objective.0.1 }, whole.root, whole.writes, whole.same)

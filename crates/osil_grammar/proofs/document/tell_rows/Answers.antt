@@ -2,7 +2,8 @@ use Rattle.std.proofs.Common.{refl, arith, length}
 use Rattle.std.specs.Prelude.{codes}
 use Rattle.tree_grammar.specs.Elements.{none}
 use Rattle.instance.specs.declared.parts.Row.{Row}
-use Rattle.osil_grammar.specs.Writing.{WriteRows, counted}
+use Rattle.document_tags.specs.Writing.{counted}
+use Rattle.osil_grammar.specs.Writing.{WriteRows}
 use Rattle.osil_grammar.specs.Telling.{EndsHaveTexts}
 use Rattle.osil_grammar.proofs.Told.{one_told, all_told}
 use Rattle.osil_grammar.proofs.Joined.{rows_join}
