@@ -10,3 +10,4 @@ pub mod Decided
 pub mod OneDocument
 pub mod Coming
 pub mod Placed
+pub mod FaultTexts

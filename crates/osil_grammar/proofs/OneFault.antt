@@ -1,9 +1,10 @@
 -- Bytes are refused in one way, and told of in one text, or stand for an instance.
 use Rattle.std.proofs.Common.{◌≡◌, ◌≢◌, ◌∙◌, ℕ, List, refl, ap, sym, subst}
+use Rattle.std.specs.Prelude.{codes}
 use Rattle.doc_tree.specs.declared.TreeFault.{TreeFault}
-use Rattle.doc_tree.specs.declared.TreeFault.TheVariants as trees
 use Rattle.doc_tree.proofs.OneRefusal.{one_refusal}
 use Rattle.document_tags.specs.Texts.{document_limit}
+use Rattle.document_tags.proofs.FaultTexts.{tree_text_once}
 use Rattle.instance.specs.Parts.{Parts}
 use Rattle.osil_grammar.specs.declared.fault.OsilFault.{OsilFault}
 use Rattle.osil_grammar.specs.declared.fault.OsilFault.TheVariants.{Tree, Refused, Memory}
@@ -20,16 +21,8 @@ faults_alike bytes (Refused r n) (Refused q m) one other h k = text_refused_once
 faults_alike bytes Memory g one other h k = absurd (one refl)
 faults_alike bytes f Memory one other h k = absurd (other refl)
 
-tree_text_once : (f : TreeFault) (s t : List ℕ) → IsTreeText f s → IsTreeText f t → s ≡ t
-tree_text_once (trees.Malformed at) s t a b = a ∙ sym b
-tree_text_once (trees.Doctype at) s t a b = a ∙ sym b
-tree_text_once trees.Encoding s t a b = a ∙ sym b
-tree_text_once (trees.Deep at) s t a b = a ∙ sym b
-tree_text_once trees.Long s t a b = a ∙ sym b
-tree_text_once trees.Memory s t a b = absurd a
-
 alike_told : (f g : OsilFault) (s t : List ℕ) → AreAlike f g → IsFaultText f s → IsFaultText g t → s ≡ t
-alike_told (Tree f) (Tree g) s t same a b = tree_text_once g s t (subst (λ (e : TreeFault). IsTreeText e s) same a) b
+alike_told (Tree f) (Tree g) s t same a b = tree_text_once (codes "osil") g s t (subst (λ (e : TreeFault). IsTreeText e s) same a) b
 alike_told (Refused r n) (Refused q m) s t same a b = a ∙ ap (λ (x : refusals.Refusal). refusal_text x n) same.0 ∙ ap (λ (k : ℕ). refusal_text (refusal q) k) same.1 ∙ sym b
 alike_told Memory g s t same a b = absurd a
 alike_told (Tree f) (Refused q m) s t same a b = absurd same
