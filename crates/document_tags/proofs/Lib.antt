@@ -11,3 +11,4 @@ pub mod OneDocument
 pub mod Coming
 pub mod Placed
 pub mod FaultTexts
+pub mod Sizes

@@ -1,5 +1,5 @@
 -- Where the parts of a document stand: elements at the end of a path of names, their attributes and their own text.
-use Rattle.std.specs.Prelude.{ℕ, Option, None, Some, cond, bytes_eq, slice_get, flat_map, List, [], ◌∷◌, ◌++◌}
+use Rattle.std.specs.Prelude.{ℕ, suc, ◌+◌, Option, None, Some, cond, bytes_eq, slice_get, flat_map, List, [], ◌∷◌, ◌++◌}
 use Rattle.tree_grammar.specs.Elements.{Attribute, Nodes, none, element, chars, Element}
 use Rattle.document_tags.specs.Rests.{child_elements}
 
@@ -40,3 +40,9 @@ characters (chars text more) = text ++ characters more
 
 abbrev pub own_text : Element → List ℕ
 own_text e = characters e.children
+
+-- how many elements there are, at any depth
+abbrev pub elements_in : Nodes → ℕ
+elements_in none = 0
+elements_in (element name attributes children more) = suc (elements_in children + elements_in more)
+elements_in (chars text more) = elements_in more

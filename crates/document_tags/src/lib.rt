@@ -11,6 +11,7 @@
 
 mod attributes;
 mod faults;
+mod laws;
 mod passing;
 mod paths;
 mod place;
@@ -23,6 +24,7 @@ mod tests;
 mod walk;
 
 pub use faults::{refusal_at, tree_fault_text};
+pub use laws::documents_have_fewer_elements_than_bytes;
 pub use paths::{along, first, first_within, within};
 pub use spot::Spot;
 pub use tags::Tags;
