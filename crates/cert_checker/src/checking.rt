@@ -3,7 +3,8 @@ ghost use Rattle.std.specs.List.{All};
 ghost use Rattle.evidence.specs.Claim.{Accepts};
 ghost use Rattle.instance.specs.Program.{program};
 ghost use Rattle.certificate.specs.Means as Means;
-ghost use Rattle.cert_checker.specs.Cuts.{nodes_of, HasRoom, IsInRange};
+ghost use Rattle.certificate.specs.Nodes.{nodes_of, IsInRange};
+ghost use Rattle.cert_checker.specs.Cuts.{HasRoom};
 ghost use Rattle.cert_checker.specs.Refusals.{IsRefused};
 
 use crate::numbers::turned;

@@ -28,3 +28,4 @@ pub mod Solved
 pub mod Completed
 pub mod Reported
 pub mod Found
+pub mod FewNodes
