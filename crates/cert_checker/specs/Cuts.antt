@@ -54,8 +54,7 @@ pub record Room : Type 0 where
   pub vars : ℕ
   pub nodes : ℕ
 
--- there is room for a check, and no split is at a number below the least one that fits
+-- there is room for a check
 pub record HasRoom (p : Parts) (c : Claim) (r : Room) : Type 0 where
   pub vars : length p.vars ≤ r.vars
   pub nodes : length (nodes_of c) ≤ r.nodes
-  pub range : All IsInRange (nodes_of c)
