@@ -33,6 +33,7 @@ pub mod Exits
 pub mod Fields
 pub mod Foreign
 pub mod Held
+pub mod ItemTags
 pub mod Items
 pub mod Joining
 pub mod Lines

@@ -14,5 +14,6 @@ pub mod Walking
 pub mod Orders
 pub mod Parsing
 pub mod Fields
+pub mod ItemLists
 pub mod PartsRead
 pub mod Telling

@@ -9,6 +9,7 @@ mod document;
 mod entries;
 mod fault;
 mod laws;
+mod lists;
 mod matrix;
 mod numbers;
 mod objectives;

@@ -14,11 +14,10 @@ ghost use Rattle.osil_grammar.specs.Parsing as reading;
 ghost use Rattle.osil_grammar.specs.Parsing.{begun, Reads, ReadsElement, ReadsContent, ReadsEnd, AreFound, IsFurther, IsNext, AreAll, NoMemoryAlone};
 
 use crate::fault::{OsilFault, Refusal};
+use crate::lists::read_list;
 use crate::matrix::read_matrix;
 use crate::objectives::{no_goal, read_objectives};
-use crate::rows::read_rows;
 use crate::tags::{Place, StartTag};
-use crate::variables::read_variables;
 use element_tree::Tree;
 use fraction::Entry;
 use instance::{Goal, Instance, Row, Var};
@@ -124,12 +123,12 @@ fn read_part(
     ensures on { OnOk result (GoesOn place.old place.new) }
 {
     match part {
-        PartName::Variables => found.vars = Some(read_variables(alloc, place, tag)?),
+        PartName::Variables => found.vars = Some(read_list(alloc, place, tag)?),
         PartName::Objectives => {
             let width = found.width();
             found.goal = Some(read_objectives(alloc, place, tag, width)?);
         }
-        PartName::Constraints => found.rows = Some(read_rows(alloc, place, tag)?),
+        PartName::Constraints => found.rows = Some(read_list(alloc, place, tag)?),
         PartName::Coefficients => {
             let size = (found.width() as u32, found.height() as u32);
             found.entries = Some(read_matrix(alloc, place, tag, size)?);
