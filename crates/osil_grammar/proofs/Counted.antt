@@ -1,7 +1,7 @@
 -- Parts of `instanceData` with a count of their items.
 use Rattle.osil_grammar.specs.Fields.{IsDeclared, Declares}
 use Rattle.std.proofs.Common.{◌≡◌, ◌≢◌, ℕ, inl, inr, false, List, [], ◌∷◌, ◌++◌, refl, sym, ◌∙◌, subst}
-use Rattle.std.specs.Prelude.{Option, None, Some, MatchOption, IfSome, IsSome, IsSomeAnd, Result, Ok, Err, bytes_eq, codes}
+use Rattle.std.specs.Prelude.{Option, None, Some, MatchOption, IfSome, IsSomeAnd, Result, Ok, Err, bytes_eq, codes}
 use Rattle.tree_grammar.specs.Elements.{Element}
 use Rattle.tree_grammar.specs.Tags.{IsAmong}
 use Rattle.document_tags.specs.Rests.{child_elements}
@@ -13,7 +13,7 @@ use Rattle.osil_grammar.specs.declared.fault.OsilFault.{OsilFault}
 use Rattle.document_tags.specs.Elements.{attribute}
 use Rattle.osil_grammar.specs.Tags.{Tag, Level, names, level_of, start_tag, end_tag}
 use Rattle.osil_grammar.specs.Kinds.{Listing, Values, Kind, InstanceData, Variables, Var, Objectives, Obj, Coef, Constraints, Con, Coefficients, El, path, Begins, Ends, ordered, content_names}
-use Rattle.osil_grammar.specs.Numbers.{Grammar, count, Field, field, fields, text_grammar, IsOf, IsWideOf, Says}
+use Rattle.osil_grammar.specs.Numbers.{Grammar, count, Field, field, fields, text_grammar, IsOf, IsWideOf}
 use Rattle.osil_grammar.specs.Runs.{StandFor}
 use Rattle.osil_grammar.specs.Deciding.{IsLate, most, Differs, HasOtherCount, DecidesCount}
 use Rattle.osil_grammar.specs.Refusals.{Count, DecidesNothing, IsFirstDecided}

@@ -1,6 +1,6 @@
 -- The attributes of a start tag that are numbers, read together.
 use Rattle.osil_grammar.specs.Fields.{OneOf, EachOf, IsBad, IsWide, IsNumber, IsFine, FieldsRead}
-use Rattle.std.proofs.Common.{◌≡◌, ℕ, zero, suc, ◌<◌, ◌⊎◌, inl, inr, true, false, List, [], ◌∷◌, ◌++◌, refl, ap, sym, subst, arith}
+use Rattle.std.proofs.Common.{◌≡◌, ℕ, zero, suc, ◌<◌, inl, inr, true, false, List, [], ◌∷◌, ◌++◌, refl, ap, sym, subst, arith}
 use Rattle.std.specs.Prelude.{Option, None, Some, MatchOption, IsSomeAnd, Result, Ok, Err, MatchResult, Contains, bytes_eq, codes}
 use Rattle.tree_grammar.specs.Elements.{Attribute, Element}
 use Rattle.decimal_text.specs.Count.{IsCount}
@@ -11,7 +11,6 @@ use Rattle.document_tags.specs.Elements.{value_of, attribute}
 use Rattle.osil_grammar.specs.Walking.{Begun}
 use Rattle.osil_grammar.specs.Numbers.{Grammar, count, whole, decimal, bound, Field, field, mult, IsOf, IsWideOf, Says}
 use Rattle.osil_grammar.specs.Runs.{StandsFor}
-use Rattle.osil_grammar.specs.Deciding.{HasAttribute}
 use Rattle.osil_grammar.specs.Parsing.{begun, IsTagOf, ReadsField, IsUnread, IsNoTimes, IsFirstOf}
 use Rattle.decimal_text.proofs.OneNumber.{count_once, count_fits}
 

@@ -1,14 +1,12 @@
 -- What is written of variables, rows, costs, indices and values: elements in a row, whose text is XML, and none in another.
-use Rattle.std.proofs.Common.{◌≡◌, ◌∙◌, ℕ, suc, ◌+◌, ◌^◌, ◌<◌, ◌≤◌, Bool, true, false, cond, List, [], ◌∷◌, length, leb, refl, sym, subst, arith, inl, inr, lit<, lit≤}
+use Rattle.std.proofs.Common.{ℕ, suc, ◌+◌, ◌^◌, ◌<◌, ◌≤◌, Bool, true, false, List, [], ◌∷◌, refl, sym, subst, arith, inl, inr}
 use Rattle.std.specs.Prelude.{codes}
 use Rattle.std.specs.Fmt.{decimal}
 use Rattle.std.specs.List.{All}
-use Rattle.std.proofs.lemmas.Bool.{leb-true}
 use Rattle.std.proofs.lemmas.List.Elements.{All-head, All-tail}
-use Rattle.tree_grammar.specs.Characters.{IsXmlText, IsNameStart, IsQName, IsQNameRest}
-use Rattle.tree_grammar.specs.Tags.{IsAmong}
+use Rattle.tree_grammar.specs.Characters.{IsXmlText}
 use Rattle.tree_grammar.specs.Elements.{Attribute, Nodes, none, element, chars, nodes_depth}
-use Rattle.element_tree.specs.Writable.{AreWritable, NamesDiffer, NodesWritable, local_nodes}
+use Rattle.element_tree.specs.Writable.{NodesWritable, local_nodes}
 use Rattle.fraction.specs.declared.frac.Frac.{Frac}
 use Rattle.fraction.specs.declared.ends.Entry.{Entry}
 use Rattle.instance.specs.declared.parts.Var.{Var}

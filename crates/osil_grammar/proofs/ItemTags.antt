@@ -1,5 +1,5 @@
 -- The tags of variables and rows: what holds of both alike.
-use Rattle.std.proofs.Common.{◌≡◌, ℕ, ◌+◌, inl, inr, List, [], ◌∷◌, ◌++◌, refl, subst}
+use Rattle.std.proofs.Common.{◌≡◌, ℕ, ◌+◌, inl, inr, List, [], ◌∷◌, refl, subst}
 use Rattle.std.specs.Prelude.{codes, Option, None, Result}
 use Rattle.tree_grammar.specs.Elements.{Element, Event, Close, nodes_events}
 use Rattle.osil_grammar.specs.declared.fault.OsilFault.{OsilFault}

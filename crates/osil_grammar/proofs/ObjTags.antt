@@ -1,15 +1,12 @@
 -- What the tags of an `obj` say, and what is decided there.
 use Rattle.osil_grammar.specs.Fields.{ObjSays}
 use Rattle.std.proofs.Common.{◌≡◌, ◌≢◌, ℕ, ◌<◌, inl, inr, List, [], ◌∷◌, length, refl, sym, subst, arith}
-use Rattle.std.specs.Prelude.{Option, None, Some, MatchOption, IfSome, IsSomeAnd, Result, Ok, Err, MatchResult, map, codes}
+use Rattle.std.specs.Prelude.{Option, None, Some, MatchOption, IfSome, IsSomeAnd, Result, Ok, Err, map, codes}
 use Rattle.tree_grammar.specs.Elements.{Attribute, Element}
 use Rattle.tree_grammar.specs.Tags.{IsAmong}
 use Rattle.document_tags.specs.Rests.{child_elements}
-use Rattle.evidence.specs.Sums as evidence
 use Rattle.fraction.specs.declared.frac.Frac.{Frac}
-use Rattle.fraction.specs.Frac.{ratio}
 use Rattle.decimal_text.specs.Count.{IsCount}
-use Rattle.decimal_text.specs.Decimal.{IsDecimal}
 use Rattle.instance.specs.declared.parts.Sense.{Sense}
 use Rattle.instance.specs.declared.parts.Sense.TheVariants.{Min, Max}
 use Rattle.osil_grammar.specs.declared.unread.Unread.{Unread}
@@ -18,21 +15,20 @@ use Rattle.osil_grammar.specs.declared.fault.OsilFault.{OsilFault}
 use Rattle.document_tags.specs.Elements.{value_of, attribute}
 use Rattle.osil_grammar.specs.Tags.{Level, names, level_of, start_tag, end_tag}
 use Rattle.osil_grammar.specs.Kinds.{Variables, Objectives, Obj, Coef, Constraints, Coefficients, Begins, Ends, path}
-use Rattle.osil_grammar.specs.Numbers.{count, decimal, field, fields, mult, Says, IsOf, IsWideOf}
+use Rattle.osil_grammar.specs.Numbers.{fields, Says, IsOf, IsWideOf}
 use Rattle.osil_grammar.specs.Runs.{StandsFor}
 use Rattle.osil_grammar.specs.Meaning.{IsSense}
-use Rattle.osil_grammar.specs.Deciding.{senses, HasConstant, DecidesAttribute, DecidesCount, DecidesManyObjectives, Differs}
+use Rattle.osil_grammar.specs.Deciding.{senses, DecidesAttribute, DecidesCount, DecidesManyObjectives, Differs}
 use Rattle.osil_grammar.specs.Refusals.{Attribute as BadAttribute, Count, ManyObjectives, DecidesNothing, IsFirstDecided}
-use Rattle.osil_grammar.specs.Parsing.{begun, Tells, IsAtTag, start_only, end_only, IsTagOf, ReadsField, IsFirstOf, IsNoTimes, AreObjs, ReadsSense, IsObjHead}
+use Rattle.osil_grammar.specs.Parsing.{Tells, IsAtTag, start_only, end_only, IsTagOf, AreObjs, ReadsSense, IsObjHead}
 use Rattle.osil_grammar.proofs.AtStart.{told_here, begins_child, fields_refused, fields_fine, past_fields, no_wide_but_row, no_wide_row, no_var_type}
-use Rattle.osil_grammar.specs.Fields.{IsDeclared, Declares}
-use Rattle.osil_grammar.proofs.Counted.{declared_is, declared_differs, declared_same}
+use Rattle.osil_grammar.specs.Fields.{IsDeclared}
+use Rattle.osil_grammar.proofs.Counted.{declared_differs, declared_same}
 use Rattle.osil_grammar.proofs.Decided.{told_at}
 use Rattle.osil_grammar.proofs.EndTags.{HoldsSo, ends_once, end_least, end_number, end_wide, end_clean}
 use Rattle.osil_grammar.specs.Fields.{EachOf, IsFine, FieldsRead}
-use Rattle.osil_grammar.proofs.Fields.{attributes_are, ordinal_is, field_read, times_read, both_read}
+use Rattle.osil_grammar.proofs.Fields.{attributes_are, ordinal_is}
 use Rattle.osil_grammar.proofs.Once.{times_once}
-use Rattle.osil_grammar.proofs.RowTags.{decimal_is}
 use Rattle.osil_grammar.proofs.StartEnds.{past_ends, start_clean}
 use Rattle.osil_grammar.proofs.StartTags.{AtLeast, known_place, begins_once, past_attribute, past_number, past_wide, past_count, past_index, past_start, past_var_type, no_count, no_index, no_starts}
 

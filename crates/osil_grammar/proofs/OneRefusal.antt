@@ -1,5 +1,5 @@
 -- A document is refused in one way.
-use Rattle.std.proofs.Common.{◌≡◌, ◌∙◌, ℕ, ◌⊎◌, inl, inr, List, [], ◌∷◌, ◌++◌, refl, ap, sym, subst, arith}
+use Rattle.std.proofs.Common.{◌≡◌, ◌∙◌, ℕ, ◌⊎◌, inl, inr, List, refl, ap, sym, subst, arith}
 use Rattle.std.specs.Prelude.{codes}
 use Rattle.document_tags.proofs.Decided.{first_once}
 use Rattle.tree_grammar.specs.Elements.{Element}
@@ -10,7 +10,7 @@ use Rattle.document_tags.specs.Elements.{attribute}
 use Rattle.osil_grammar.specs.Tags.{Level, Tag, tags}
 use Rattle.osil_grammar.specs.Kinds.{Coef, Obj}
 use Rattle.osil_grammar.specs.Deciding.{IsForeign, IsMisplaced, IsInFurther, HasCoefFault, DecidesBeyond, DecidesAttribute, told}
-use Rattle.osil_grammar.specs.Refusals.{Refusal, Root, Missing, Beyond, Attribute, Number, Wide, Count, Index, Start, VarType, Bound, ManyObjectives, TooBig, number, Decides, DecidesNothing, AreClean, IsFirstDecided, IsRefused}
+use Rattle.osil_grammar.specs.Refusals.{Refusal, Root, Missing, Beyond, Attribute, Number, Wide, Count, Index, Start, VarType, Bound, ManyObjectives, TooBig, number, Decides, IsRefused}
 use Rattle.osil_grammar.proofs.Clean.{not_both}
 use Rattle.osil_grammar.proofs.NoRefusal.{not_some}
 use Rattle.osil_grammar.proofs.Parents.{same_ends}

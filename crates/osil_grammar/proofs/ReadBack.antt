@@ -1,5 +1,5 @@
 -- The texts of numbers and ends, as they are written, are read as these.
-use Rattle.std.proofs.Common.{◌≡◌, ℕ, ◌≤◌, pos, List, refl, sym, subst, arith, lit<, ◌<◌}
+use Rattle.std.proofs.Common.{ℕ, ◌≤◌, pos, List, refl, sym, subst, arith, lit<, ◌<◌}
 use Rattle.std.specs.Fmt.{decimal}
 use Rattle.fraction.specs.declared.frac.Frac.{Frac}
 use Rattle.fraction.specs.declared.ends.End.{End}

@@ -1,6 +1,6 @@
 -- What the start tag of a row says, and what is decided there.
 use Rattle.osil_grammar.specs.Fields.{LowSays, HighSays, RowSays}
-use Rattle.std.proofs.Common.{◌≡◌, ℕ, ◌<◌, inl, inr, List, [], ◌∷◌, refl, ap, sym, ◌∙◌, subst}
+use Rattle.std.proofs.Common.{◌≡◌, ℕ, inl, inr, List, refl, ap, sym, ◌∙◌, subst}
 use Rattle.std.specs.Prelude.{Option, None, Some, MatchOption, IsSomeAnd, Result, Ok, Err, MatchResult, codes}
 use Rattle.tree_grammar.specs.Elements.{Element}
 use Rattle.fraction.specs.declared.frac.Frac.{Frac}
@@ -12,29 +12,26 @@ use Rattle.rational.specs.Ratio.{negative}
 use Rattle.rational.specs.Width.{SumFits}
 use Rattle.evidence.specs.Sums as evidence
 use Rattle.decimal_text.specs.Bound.{IsBound}
-use Rattle.decimal_text.specs.Count.{IsCount}
 use Rattle.decimal_text.specs.Decimal.{IsDecimal}
 use Rattle.instance.specs.Parts.{AreEnds}
 use Rattle.osil_grammar.specs.declared.unread.Unread.{Unread}
 use Rattle.osil_grammar.specs.declared.unread.Unread.TheVariants as unread
 use Rattle.osil_grammar.specs.declared.tags.StartTag.{StartTag}
 use Rattle.osil_grammar.specs.declared.fault.OsilFault.{OsilFault}
-use Rattle.document_tags.specs.Elements.{value_of, attribute}
+use Rattle.document_tags.specs.Elements.{attribute}
 use Rattle.osil_grammar.specs.Tags.{Level, names, start_tag, level_of}
 use Rattle.osil_grammar.specs.Kinds.{Constraints, Con, Begins, path}
-use Rattle.osil_grammar.specs.Numbers.{bound, decimal, field, fields, mult, Says}
-use Rattle.osil_grammar.specs.Runs.{StandsFor}
+use Rattle.osil_grammar.specs.Numbers.{decimal, fields, Says}
 use Rattle.osil_grammar.specs.Refusals.{Wide, IsFirstDecided}
 use Rattle.osil_grammar.specs.Deciding.{HasConstant, HasWideEnd, HasWideRow}
 use Rattle.osil_grammar.specs.Meaning.{IsLess}
-use Rattle.osil_grammar.specs.Parsing.{begun, Tells, IsAtTag, start_only, IsTagOf, ReadsField, IsFirstOf, IsNoTimes, IsTooFar, IsNear, unread_refusal}
+use Rattle.osil_grammar.specs.Parsing.{Tells, IsAtTag, start_only, IsTagOf, IsFirstOf, IsTooFar, IsNear, unread_refusal}
 use Rattle.osil_grammar.proofs.AtStart.{told_here, begins_child, no_attribute, fields_refused, fields_fine, past_fields, no_wide_but_row, no_var_type, no_many, no_bound}
 use Rattle.osil_grammar.specs.Fields.{EachOf, IsFine, FieldsRead}
-use Rattle.osil_grammar.proofs.Fields.{IsReadBy, field_read, times_read, both_read}
+use Rattle.osil_grammar.proofs.Fields.{IsReadBy}
 use Rattle.decimal_text.proofs.OneNumber.{decimal_fits, only_inf, only_neg_inf}
 use Rattle.osil_grammar.proofs.RatioEls.{decimal_once}
 use Rattle.osil_grammar.proofs.StartTags.{AtLeast, past_attribute, known_place, past_wide, past_count, past_index, past_start, past_var_type, past_bound, past_many, no_count, no_index, no_starts}
-use Rattle.osil_grammar.proofs.Vars.{ends_read}
 
 pub decimal_is : IsReadBy {X = Frac} decimal (λ text x. IsDecimal text (ratio x))
 decimal_is text x h = ((h.written, h.read), decimal_fits text x h)

@@ -1,23 +1,16 @@
 -- The texts of numbers and ends are printable, and not empty.
-use Rattle.std.proofs.Common.{◌≡◌, ◌∙◌, ℕ, ◌+◌, ◌*◌, ◌^◌, ◌<◌, ◌≤◌, Bool, true, false, List, [], ◌∷◌, ◌++◌, length, ap, refl, sym, subst, arith, inl, inr, lit<, lit≤}
-use Rattle.std.specs.Prelude.{unsigned_abs}
+use Rattle.std.proofs.Common.{◌≡◌, ◌∙◌, ℕ, ◌^◌, ◌<◌, Bool, true, false, List, [], ◌∷◌, ◌++◌, length, ap, refl, sym, subst, arith, lit<, lit≤}
 use Rattle.std.specs.Fmt.{decimal}
 use Rattle.std.specs.Char.{digit_value}
-use Rattle.std.specs.Str.Parse.{AllDigits, digits_value}
-use Rattle.std.proofs.Math.Nat.{le-mul_of_pos_right, mul-le-mul_left}
-use Rattle.std.proofs.lemmas.Bool.Decides.{leb_tells}
+use Rattle.std.specs.Str.Parse.{AllDigits}
 use Rattle.std.proofs.lemmas.Fmt.{decimal_is_IsNumeral_wide}
 use Rattle.std.proofs.lemmas.Str.Parse.{digit_from_value}
-use Rattle.std.proofs.lemmas.List.{append-nil}
-use Rattle.rational.specs.Width.{most}
-use Rattle.rational.specs.Whole.{signed}
-use Rattle.rational.proofs.Signed.{sizes_cross, unsigned_abs-signed}
 use Rattle.fraction.specs.declared.frac.Frac.{Frac}
 use Rattle.fraction.specs.declared.ends.End.{End}
 use Rattle.fraction.specs.declared.ends.End.TheVariants.{NegInf, At, Inf}
 use Rattle.fraction.specs.Frac.{ratio}
-use Rattle.tree_grammar.specs.Characters.{Each, IsXmlText}
-use Rattle.element_tree.proofs.XmlTexts.{Printable, each_append, clean_ascii, clean_nothing}
+use Rattle.tree_grammar.specs.Characters.{Each}
+use Rattle.element_tree.proofs.XmlTexts.{Printable, each_append}
 use Rattle.decimal_text.specs.Sign.{optional}
 use Rattle.decimal_text.specs.Plain.{PlainText, point_text}
 use Rattle.decimal_text.proofs.PlainTexts.{plain_whole}

@@ -1,18 +1,17 @@
 -- What the start tag of a variable says, and what is decided there.
 use Rattle.osil_grammar.specs.Fields.{IsLow, IsHigh, VarSays}
-use Rattle.std.proofs.Common.{◌≡◌, ℕ, ◌<◌, inl, inr, List, [], ◌∷◌, refl, subst}
+use Rattle.std.proofs.Common.{◌≡◌, ℕ, inl, inr, List, [], ◌∷◌, refl, subst}
 use Rattle.std.specs.Prelude.{Option, None, Some, MatchOption, IsSomeAnd, Result, Ok, Err, MatchResult, codes}
 use Rattle.tree_grammar.specs.Elements.{Element}
 use Rattle.tree_grammar.specs.Tags.{IsAmong}
 use Rattle.fraction.specs.declared.ends.End.{End}
 use Rattle.decimal_text.specs.Bound.{IsBound}
-use Rattle.decimal_text.specs.Count.{IsCount}
 use Rattle.instance.specs.declared.parts.Var.{Var}
 use Rattle.osil_grammar.specs.declared.unread.Unread.{Unread}
 use Rattle.osil_grammar.specs.declared.tags.StartTag.{StartTag}
 use Rattle.osil_grammar.specs.declared.variables.Domain.{Domain}
 use Rattle.osil_grammar.specs.declared.variables.Domain.TheVariants.{Continuous, Integer, Binary}
-use Rattle.document_tags.specs.Elements.{value_of, attribute}
+use Rattle.document_tags.specs.Elements.{attribute}
 use Rattle.osil_grammar.specs.Tags.{Level, names, start_tag, level_of}
 use Rattle.osil_grammar.specs.Kinds.{Variables, Begins, path}
 use Rattle.osil_grammar.specs.Kinds as kinds
@@ -21,14 +20,12 @@ use Rattle.osil_grammar.specs.declared.fault.OsilFault.{OsilFault}
 use Rattle.instance.specs.Parts.{AreEnds}
 use Rattle.osil_grammar.proofs.AtStart.{begins_child, no_attribute, fields_refused, fields_fine, past_fields, no_wide_but_row, no_wide_row, no_many, no_bound}
 use Rattle.osil_grammar.proofs.StartTags.{AtLeast, past_attribute, known_place, past_wide, past_count, past_index, past_start, past_var_type, past_bound, past_many, no_count, no_index, no_starts}
-use Rattle.osil_grammar.specs.Numbers.{bound, field, fields, mult, Says}
-use Rattle.osil_grammar.specs.Runs.{StandsFor}
+use Rattle.osil_grammar.specs.Numbers.{bound, field, fields, Says}
 use Rattle.osil_grammar.specs.Deciding.{types}
-use Rattle.osil_grammar.specs.Meaning.{IsContinuous, IsOfType, IsEndAt, IsVar}
-use Rattle.evidence.specs.Sums as evidence
-use Rattle.osil_grammar.specs.Parsing.{begun, Tells, IsAtTag, start_only, IsTagOf, ReadsField, IsFirstOf, IsNoTimes, IsSaid, IsVariableOf}
+use Rattle.osil_grammar.specs.Meaning.{IsContinuous, IsOfType, IsVar}
+use Rattle.osil_grammar.specs.Parsing.{Tells, IsAtTag, start_only, IsTagOf, ReadsField, IsFirstOf, IsSaid, IsVariableOf}
 use Rattle.osil_grammar.specs.Fields.{EachOf, IsFine, FieldsRead}
-use Rattle.osil_grammar.proofs.Fields.{IsReadBy, field_read, times_read, both_read}
+use Rattle.osil_grammar.proofs.Fields.{IsReadBy, field_read, both_read}
 use Rattle.decimal_text.proofs.OneNumber.{bound_fits}
 use Rattle.fraction.specs.declared.ends.End.TheVariants.{NegInf, At, Inf}
 use Rattle.decimal_text.specs.Sign.{minus}

@@ -1,8 +1,7 @@
 -- The numbers of a start tag, read together: what they say where each is fine, and else what is wrong with one of them.
-use Rattle.std.specs.Prelude.{◌≡◌, ◌⊎◌, ℕ, ◌<◌, Option, None, Some, Result, Ok, Err, IfSome, IsSome, List, [], ◌∷◌, codes}
+use Rattle.std.specs.Prelude.{◌≡◌, ◌⊎◌, ℕ, ◌<◌, Option, None, Result, Ok, Err, IfSome, IsSome, List, [], ◌∷◌, codes}
 use Rattle.evidence.specs.Sums as evidence
 use Rattle.tree_grammar.specs.Elements.{Element}
-use Rattle.document_tags.specs.Elements.{attribute}
 use Rattle.fraction.specs.declared.frac.Frac.{Frac}
 use Rattle.fraction.specs.declared.ends.End.{End}
 use Rattle.fraction.specs.declared.ends.End.TheVariants.{NegInf, Inf}

@@ -8,7 +8,7 @@ use Rattle.instance.specs.declared.parts.Sense.TheVariants.{Min}
 use Rattle.tree_grammar.specs.Elements.{Nodes, none, Element, Event, Close, nodes_events}
 use Rattle.element_tree.specs.Items.{event_at, attributes_of}
 use Rattle.document_tags.specs.Rests.{child_elements}
-use Rattle.document_tags.specs.Texts.{HoldsText, document_limit}
+use Rattle.document_tags.specs.Texts.{HoldsText}
 use Rattle.fraction.specs.Frac.{ratio, ratios}
 use Rattle.decimal_text.specs.Count.{IsCount}
 use Rattle.decimal_text.specs.Whole.{IsWhole}

@@ -1,8 +1,8 @@
 -- What a builder is told, whatever comes after it, and why an instance isn't written.
-use Rattle.std.specs.Prelude.{◌≡◌, ℕ, Result, MatchResult, List, [], ◌∷◌, ◌++◌, codes}
+use Rattle.std.specs.Prelude.{◌≡◌, ℕ, Result, MatchResult, List, [], codes}
 use Rattle.std.specs.List.{All}
-use Rattle.tree_grammar.specs.Elements.{Attribute, Nodes, Event, Open, Close, nodes_events}
-use Rattle.element_tree.specs.Building.{Building, said}
+use Rattle.tree_grammar.specs.Elements.{Attribute, Nodes, nodes_events}
+use Rattle.element_tree.specs.Building.{Building}
 use Rattle.document_tags.specs.Telling.{Told}
 use Rattle.fraction.specs.declared.ends.End.{End}
 use Rattle.instance.specs.declared.parts.Goal.{Goal}

@@ -1,6 +1,6 @@
 use Rattle.std.proofs.Common.{subst, sym, refl}
 use Rattle.std.specs.Prelude.{codes, []}
-use Rattle.std.specs.Prelude.{◌∷◌, ℕ, ◌<◌}
+use Rattle.std.specs.Prelude.{◌∷◌, ◌<◌}
 use Rattle.fraction.specs.declared.ends.End.{End}
 use Rattle.decimal_text.specs.Bound.{IsBound}
 use Rattle.osil_grammar.specs.Numbers.{bound, field, mult, Says}

@@ -1,21 +1,18 @@
-use Rattle.std.proofs.Common.{inl, sym, subst, arith, refl}
+use Rattle.std.proofs.Common.{inl, subst, arith, refl}
 use Rattle.std.specs.Prelude.{codes, List, IsSomeAnd}
-use Rattle.fraction.specs.declared.ends.End.{End}
-use Rattle.decimal_text.specs.Bound.{IsBound}
 use Rattle.tree_grammar.specs.Elements.{Attribute}
 use Rattle.tree_grammar.specs.Tags.{IsAmong}
 use Rattle.instance.specs.Parts.{AreEnds}
 use Rattle.document_tags.specs.Elements.{value_of}
 use Rattle.osil_grammar.specs.Tags.{start_tag, level_of}
 use Rattle.osil_grammar.specs.Kinds as kinds
-use Rattle.osil_grammar.specs.Numbers.{bound}
 use Rattle.osil_grammar.specs.Deciding.{types}
 use Rattle.osil_grammar.specs.Refusals.{VarType, Bound, TooBig}
 use Rattle.osil_grammar.specs.Parsing.{IsSaid}
 use Rattle.osil_grammar.proofs.AtStart.{told_here, bound_decided, too_big, not_too_big}
 use Rattle.osil_grammar.proofs.Decided.{clean_one}
 use Rattle.osil_grammar.proofs.Exits.{handed_on}
-use Rattle.osil_grammar.proofs.Fields.{field_weaker, attributes_are}
+use Rattle.osil_grammar.proofs.Fields.{attributes_are}
 use Rattle.osil_grammar.proofs.StartTags.{past_too_big, past_all}
 use Rattle.osil_grammar.specs.Fields.{IsLow, IsHigh}
 use Rattle.osil_grammar.proofs.Vars.{low_finite, high_some, is_var, var_begins, var_refused, var_fine, var_least_type, var_least_bound, var_least_big}
