@@ -1,7 +1,7 @@
 -- What two documents are accepted or refused for, once each is read.
 use Rattle.std.proofs.Common.{◌≡◌, ℕ, List, ◌⊎◌, inl, inr}
 use Rattle.instance.specs.Parts.{Parts}
-use Rattle.osil_grammar.specs.InstanceText.{IsInstanceText}
+use Rattle.osil_grammar.specs.Reading.{IsInstanceText}
 use Rattle.osrl_grammar.specs.Meaning.{IsReportText}
 use Rattle.osrl_grammar.specs.declared.report.Report.{Report}
 use Rattle.cert_checker.specs.declared.documents.Kind.{Kind}

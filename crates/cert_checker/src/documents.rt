@@ -4,7 +4,7 @@ ghost use Rattle.std.specs.Prelude.{◌≡◌, ◌⊎◌, IfOk, IfErr};
 ghost use Rattle.evidence.specs.Claim.{Accepts};
 ghost use Rattle.instance.specs.Program.{program};
 ghost use Rattle.certificate.specs.Means as Means;
-ghost use Rattle.osil_grammar.specs.InstanceText.{IsInstanceText};
+ghost use Rattle.osil_grammar.specs.Reading.{IsInstanceText};
 ghost use Rattle.osrl_grammar.specs.Meaning.{IsReportText};
 ghost use Rattle.cert_checker.specs.declared.refused.Refused.TheVariants.{Memory};
 ghost use Rattle.cert_checker.specs.Refusals.{IsRefused};

@@ -5,7 +5,7 @@ ghost use Rattle.instance.specs.Parts.{Parts};
 ghost use Rattle.instance.specs.Program.{program};
 ghost use Rattle.certificate.specs.declared.claims.Claim as carried;
 ghost use Rattle.certificate.specs.Means as Means;
-ghost use Rattle.osil_grammar.specs.InstanceText.{IsInstanceText};
+ghost use Rattle.osil_grammar.specs.Reading.{IsInstanceText};
 ghost use Rattle.osrl_grammar.specs.Meaning.{IsReportText};
 ghost use Rattle.osrl_grammar.specs.declared.report.Report.{Report};
 ghost use Rattle.cert_checker.specs.declared.refused.Refused.{Refused};

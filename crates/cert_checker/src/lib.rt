@@ -17,8 +17,6 @@ mod checking;
 mod clash;
 mod columns;
 mod cuts;
-#[cfg(test)]
-mod document_tests;
 mod documents;
 mod forms;
 mod laws;

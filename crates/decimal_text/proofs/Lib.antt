@@ -18,3 +18,6 @@ pub mod Tens
 pub mod Written
 pub mod Reading
 pub mod Once
+pub mod OneNumber
+pub mod PlainTexts
+pub mod ReadBack

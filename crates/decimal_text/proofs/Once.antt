@@ -30,7 +30,7 @@ use Rattle.decimal_text.proofs.Reading.{split_once, heads}
 abbrev pub IsSignless : List ℕ → Type 0
 IsSignless s = DoesNotBegin 43 s × DoesNotBegin 45 s
 
-sign_once : (a b : Sign) (u v : List ℕ) → IsSignless u → IsSignless v → sign_text a ++ u ≡ sign_text b ++ v → (is_minus a ≡ is_minus b) × (u ≡ v)
+pub sign_once : (a b : Sign) (u v : List ℕ) → IsSignless u → IsSignless v → sign_text a ++ u ≡ sign_text b ++ v → (is_minus a ≡ is_minus b) × (u ≡ v)
 sign_once absent absent u v h k e = (refl, e)
 sign_once plus plus u v h k e = (refl, cc)
 sign_once minus minus u v h k e = (refl, cc)
@@ -44,11 +44,11 @@ sign_once minus plus u v h k e = absurd (let g = heads 45 43 u v e in omega (ari
 digit_apart : (d b : ℕ) → digit_value d < 10 → 10 ≤ digit_value b → d ≢ b
 digit_apart d b h k e = let v : digit_value d ≡ digit_value b = ap digit_value e in omega (arith, h, k, v)
 
-signless_digits : (ds s : List ℕ) → IsNumeral 10 ds → IsSignless (ds ++ s)
+pub signless_digits : (ds s : List ℕ) → IsNumeral 10 ds → IsSignless (ds ++ s)
 signless_digits [] s h = absurd (omega (arith, h.0))
 signless_digits (d ∷ ds) s h = (digit_apart d 43 h.1.0 (lit≤ tt), digit_apart d 45 h.1.0 (lit≤ tt))
 
-signless_mantissa : (m : Mantissa) (s : List ℕ) → IsNumeral 10 (mantissa_digits m) → IsSignless (mantissa_text m ++ s)
+pub signless_mantissa : (m : Mantissa) (s : List ℕ) → IsNumeral 10 (mantissa_digits m) → IsSignless (mantissa_text m ++ s)
 signless_mantissa (plain ds) s h = signless_digits ds s h
 signless_mantissa (pointed [] es) s h = (λ e. omega (arith, e), λ e. omega (arith, e))
 signless_mantissa (pointed (d ∷ ds) es) s h = (digit_apart d 43 h.1.0 (lit≤ tt), digit_apart d 45 h.1.0 (lit≤ tt))
@@ -162,14 +162,14 @@ forms_alike p q n m (negsuc a) (negsuc b) h g e w =
           ]
     ]
 
-written_above : (s : List ℕ) (w : Ratio) → DecimalText s w → 0 < w.den
+pub written_above : (s : List ℕ) (w : Ratio) → DecimalText s w → 0 < w.den
 written_above s w t = subst (λ x. 0 < x.den) (sym t.value) (ten_power _)
 
 no_both : (v w : Ratio) → 0 < v.den → v ≡ w → (f : ShortestForm v) → IsNarrow f → (g : ShortestForm w) → (IsNarrow g → ⊥) → ⊥
 no_both v w high e f narrow g wide =
     wide (forms_alike f.negative g.negative f.n g.n f.k g.k f.shortest g.shortest (sizes_cross (scientific f.negative f.n f.k) (scientific g.negative g.n g.k) (IsSame-trans (scientific f.negative f.n f.k) v (scientific g.negative g.n g.k) high f.same (subst (λ y. IsSame y (scientific g.negative g.n g.k)) (sym e) (sym g.same)))) narrow)
 
-decimal_refused : (x : Ratio) (text : List ℕ) (e : DecimalFault) → IsDecimal text x → Refuses DecimalGrammar (IsWideDecimal text) (trimmed text) e → ⊥
+pub decimal_refused : (x : Ratio) (text : List ℕ) (e : DecimalFault) → IsDecimal text x → Refuses DecimalGrammar (IsWideDecimal text) (trimmed text) e → ⊥
 decimal_refused x text (NotNumber at) d h = h.outside (d.written, d.read)
 decimal_refused x text Wide d h =
     no_both d.written h.written (written_above (trimmed text) d.written d.read) (decimal_once (trimmed text) d.written h.written d.read h.read) d.fit.form d.fit.fits h.unfit.form h.unfit.wide

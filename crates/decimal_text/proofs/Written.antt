@@ -147,13 +147,13 @@ pub unspaced_trimmed : (s : List ℕ) → IsUnspaced s → trimmed s ≡ s
 unspaced_trimmed s h =
     ap (λ t. reverse (without_leading_space (reverse t))) (none_leading s h) ∙ (ap reverse (none_leading (reverse s) (unspaced-reverse s h)) ∙ reverse-reverse s)
 
-digits_unspaced : (ds : List ℕ) → AllDigits 10 ds → IsUnspaced ds
+pub digits_unspaced : (ds : List ℕ) → AllDigits 10 ds → IsUnspaced ds
 digits_unspaced [] h = tt
 digits_unspaced (d ∷ ds) h =
     let r = digit_from_value d h.0 in
     (rw (ne_eqb d 32 (λ e. omega (arith, e, r)), ne_eqb d 9 (λ e. omega (arith, e, r)), ne_eqb d 10 (λ e. omega (arith, e, r)), ne_eqb d 13 (λ e. omega (arith, e, r))) refl, digits_unspaced ds h.1)
 
-after_split : (n : ℕ) (ds : List ℕ) → digits_value_after 10 n ds ≡ n * 10 ^ length ds + digits_value 10 ds
+pub after_split : (n : ℕ) (ds : List ℕ) → digits_value_after 10 n ds ≡ n * 10 ^ length ds + digits_value 10 ds
 after_split n [] = omega arith
 after_split n (d ∷ ds) =
     let power : 10 ^ suc (length ds) ≡ 10 ^ length ds * 10 = ap (λ k. 10 ^ k) (let e : suc (length ds) ≡ length ds + 1 = omega arith in e) ∙ ten_more (length ds) in
@@ -221,7 +221,7 @@ point_unspaced : (ds : List ℕ) → AllDigits 10 ds → IsUnspaced (point_text 
 point_unspaced [] h = tt
 point_unspaced (d ∷ ds) h = (refl, digits_unspaced (d ∷ ds) h)
 
-plain_unspaced : (is_negative : Bool) (whole : ℕ) (ds : List ℕ) → whole < 10 ^ 64 → AllDigits 10 ds → IsUnspaced (optional 45 is_negative ++ (decimal whole ++ point_text ds))
+pub plain_unspaced : (is_negative : Bool) (whole : ℕ) (ds : List ℕ) → whole < 10 ^ 64 → AllDigits 10 ds → IsUnspaced (optional 45 is_negative ++ (decimal whole ++ point_text ds))
 plain_unspaced true whole ds low h = (refl, unspaced-append (decimal whole) (point_text ds) (digits_unspaced (decimal whole) (let d = decimal_is_IsNumeral_wide whole low in d.0.1)) (point_unspaced ds h))
 plain_unspaced false whole ds low h = unspaced-append (decimal whole) (point_text ds) (digits_unspaced (decimal whole) (let d = decimal_is_IsNumeral_wide whole low in d.0.1)) (point_unspaced ds h)
 

@@ -7,7 +7,7 @@
 //! prefix ends that begins some text of the grammar. Reading takes no memory. A fraction is
 //! written as a ratio, as a whole decimal text where it has one, or cut towards zero to twelve decimals; after an error
 //! the text that was to be written to is as before. What was written as a ratio or a whole decimal is read as the same
-//! fraction.
+//! fraction, and the digits of a count or a whole number as that number.
 #![tactic(auto)]
 
 mod count;
@@ -31,7 +31,10 @@ pub use count::read_count;
 pub use decimal::{read_bound, read_decimal};
 pub use exact::read_ratio;
 pub use fault::DecimalFault;
-pub use laws::{decimals_are_read_back, ratios_are_read_back};
+pub use laws::{
+    counts_are_read_back, decimals_are_read_back, decimals_have_one_text, ratios_are_read_back,
+    wholes_are_read_back,
+};
 pub use places::write_decimal;
 pub use plain::write_cut12;
 pub use ratio::write_ratio;

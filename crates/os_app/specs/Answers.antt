@@ -1,7 +1,7 @@
 -- What answers a body: a result document in a reply, or nothing where it asks to solve nothing.
 use Rattle.std.specs.Prelude.{◌≡◌, ℕ, List, Option, None, Some}
 use Rattle.tree_grammar.specs.Elements.{Element, Event, events}
-use Rattle.tree_walk.specs.Texts.{IsDocument}
+use Rattle.document_tags.specs.Texts.{IsDocument}
 use Rattle.solve_call.specs.Body.{IsSolveBody}
 use Rattle.solve_call.specs.Reply.{reply_text}
 use Rattle.os_app.specs.Results.{IsResult}

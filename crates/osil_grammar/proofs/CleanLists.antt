@@ -7,7 +7,7 @@ use Rattle.std.proofs.lemmas.List.{length-map}
 use Rattle.std.proofs.lemmas.List.Elements.{All-map, All-weaker, All-contains}
 use Rattle.tree_grammar.specs.Elements.{Attribute, Nodes, none, element, Element}
 use Rattle.element_tree.specs.Writable.{local_nodes}
-use Rattle.tree_walk.specs.Rests.{child_elements}
+use Rattle.document_tags.specs.Rests.{child_elements}
 use Rattle.rational.specs.Ratio.{Ratio, sum}
 use Rattle.rational.specs.Width.{SumFits}
 use Rattle.evidence.specs.Sums as evidence
@@ -24,7 +24,8 @@ use Rattle.osil_grammar.specs.Runs.{StandFor, ItemsStandFor, AreWholes}
 use Rattle.osil_grammar.specs.Matrix.{Lists, AreLists, IsDivision, stored, place_sum, HasWidePlace}
 use Rattle.osil_grammar.specs.Deciding.{IsLate, HasOtherValues, HasOtherIndices, HasWideEntry, AreDivided, DecidesMissing, DecidesCount, DecidesStart}
 use Rattle.osil_grammar.specs.Refusals.{DecidesNothing, AreClean}
-use Rattle.osil_grammar.specs.Writing.{HasDecimal, WriteLists, WriteValues, counts_nodes, entries_below, row_starts, with_attribute}
+use Rattle.document_tags.specs.Writing.{with_attribute}
+use Rattle.osil_grammar.specs.Writing.{HasDecimal, WriteLists, WriteValues, counts_nodes, entries_below, row_starts}
 use Rattle.osil_grammar.proofs.Ascending.{Rises, rises, below_rises, all_before, none_first}
 use Rattle.osil_grammar.proofs.ChildTags.{same_heads, same_rests}
 use Rattle.osil_grammar.proofs.CleanGoal.{count_is}
@@ -37,7 +38,8 @@ use Rattle.osil_grammar.proofs.Joining.{apart, none_fits}
 use Rattle.osil_grammar.proofs.Lines.{Divides, division}
 use Rattle.osil_grammar.proofs.MatrixMeans.{lists_of, stored_are, wholes_said, values_said, columns_are}
 use Rattle.osil_grammar.proofs.NoRefusal.{IsInPlace, element_then, it_ends, plain_start, end_fine, not_late}
-use Rattle.osil_grammar.proofs.Once.{count_once, stand_once}
+use Rattle.decimal_text.proofs.OneNumber.{count_once}
+use Rattle.osil_grammar.proofs.Once.{stand_once}
 use Rattle.osil_grammar.proofs.OneMatrix.{HasBoth, lists_once, no_lists}
 use Rattle.osil_grammar.proofs.Places.{is_at}
 use Rattle.osil_grammar.proofs.ReadBack.{count_read}

@@ -1,7 +1,7 @@
 -- What is decided at an end tag.
 use Rattle.std.proofs.Common.{◌≡◌, ℕ, inl, inr, true, false, List, sym, subst, arith}
 use Rattle.std.specs.Prelude.{Option, None, IsSomeAnd}
-use Rattle.tree_walk.specs.Texts.{HoldsText}
+use Rattle.document_tags.specs.Texts.{HoldsText}
 use Rattle.osil_grammar.specs.Tags.{Tag, line, names}
 use Rattle.osil_grammar.specs.Kinds.{Listing, Values, Kind, Osil, InstanceData, Variables, Var, Objectives, Obj, Coef, Constraints, Con, Coefficients, El, Begins, Ends}
 use Rattle.osil_grammar.specs.Numbers.{Grammar, text_grammar, IsOf, IsWideOf}

@@ -3,12 +3,12 @@ use Rattle.std.proofs.Common.{◌≡◌, ℕ, ◌≤◌, false, List, [], length
 use Rattle.std.proofs.lemmas.Bool.{true≢false}
 use Rattle.tree_grammar.specs.Elements.{Nodes, Element}
 use Rattle.tree_grammar.specs.Tags.{IsAmong}
-use Rattle.tree_walk.specs.Texts.{HoldsText}
+use Rattle.document_tags.specs.Texts.{HoldsText}
 use Rattle.osil_grammar.specs.Tags.{Level, level_of, start_tag, names, node_tags}
 use Rattle.osil_grammar.specs.Kinds.{Kind, path, content_names, is_open}
 use Rattle.osil_grammar.specs.Deciding.{told}
 use Rattle.osil_grammar.specs.Refusals.{Refusal, Root, Missing, Beyond, Attribute, Number, Wide, Count, Index, Start, VarType, Bound, ManyObjectives, TooBig, number, Decides, IsFirstDecided}
-use Rattle.osil_grammar.specs.Reading.{start_only, element_tags, FirstChild}
+use Rattle.osil_grammar.specs.Parsing.{start_only, element_tags, FirstChild}
 use Rattle.osil_grammar.proofs.Children.{next_of}
 use Rattle.osil_grammar.proofs.Decided.{first_one, first_front, first_same}
 use Rattle.osil_grammar.proofs.Parents.{path_some}

@@ -6,7 +6,7 @@ use Rattle.std.proofs.lemmas.Bool.{cases_Bool}
 use Rattle.std.proofs.lemmas.Slice.Eq.{bytes_eq-Decides}
 use Rattle.tree_grammar.specs.Elements.{Element}
 use Rattle.tree_grammar.specs.Tags.{IsAmong}
-use Rattle.tree_walk.specs.Rests.{child_elements}
+use Rattle.document_tags.specs.Rests.{child_elements}
 use Rattle.fraction.specs.declared.ends.Entry.{Entry}
 use Rattle.instance.specs.declared.parts.Var.{Var}
 use Rattle.instance.specs.declared.parts.Row.{Row}
@@ -15,7 +15,7 @@ use Rattle.osil_grammar.specs.Tags.{first_named}
 use Rattle.osil_grammar.specs.Kinds.{InstanceData, content_names}
 use Rattle.osil_grammar.specs.Runs.{StandFor, ItemsStandFor}
 use Rattle.osil_grammar.specs.Meaning.{IsVar, IsRow, IsMatrix}
-use Rattle.osil_grammar.specs.Reading.{AreFound, IsRead, HaveVariables, HaveRows, HoldsAll, HoldsGoal}
+use Rattle.osil_grammar.specs.Parsing.{AreFound, IsRead, HaveVariables, HaveRows, HoldsAll, HoldsGoal}
 use Rattle.osil_grammar.specs.PartsRead.{items_of, vars_of, rows_of}
 use Rattle.osil_grammar.specs.declared.sections.Sections.{Sections}
 use Rattle.osil_grammar.proofs.FirstNamed.{first_other, first_here}

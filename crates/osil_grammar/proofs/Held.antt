@@ -2,11 +2,11 @@
 use Rattle.std.proofs.Common.{◌≡◌, ℕ, ◌+◌, List, [], ◌∷◌, drop, refl, ap, sym, ◌∙◌, inl, inr, arith}
 use Rattle.tree_grammar.specs.Elements.{Nodes, none, element, chars, Element, Event, Chars, Close, nodes_events}
 use Rattle.element_tree.specs.Writable.{BeginsApart}
-use Rattle.tree_walk.specs.Rests.{after_text, child_elements}
-use Rattle.tree_walk.specs.Texts.{HoldsText}
+use Rattle.document_tags.specs.Rests.{after_text, child_elements}
+use Rattle.document_tags.specs.Texts.{HoldsText}
 use Rattle.osil_grammar.specs.Tags.{elements_in}
 use Rattle.osil_grammar.specs.Walking.{Walking, Begun, Entered, Left, IsJoined}
-use Rattle.osil_grammar.specs.Reading.{FirstChild, Tells}
+use Rattle.osil_grammar.specs.Parsing.{FirstChild, Tells}
 use Rattle.osil_grammar.specs.Refusals as refusals
 use Rattle.osil_grammar.specs.Deciding.{told}
 use Rattle.osil_grammar.specs.declared.fault.OsilFault.{OsilFault}

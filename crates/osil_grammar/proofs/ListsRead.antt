@@ -2,14 +2,14 @@
 use Rattle.std.proofs.Common.{◌≡◌, ℕ, zero, suc, ◌+◌, ℤ, pos, ◌+ℤ◌, List, [], ◌∷◌, ◌++◌, length, refl, sym, ◌∙◌, ap, subst, arith}
 use Rattle.std.proofs.lemmas.List.{append_assoc, append-nil, map-append, length-append, length-map}
 use Rattle.tree_grammar.specs.Elements.{Element, Event, Close, nodes_events}
-use Rattle.tree_walk.specs.Rests.{child_elements}
+use Rattle.document_tags.specs.Rests.{child_elements}
 use Rattle.rational.specs.Ratio.{Ratio, sum}
 use Rattle.fraction.specs.Frac.{ratio, ratios}
 use Rattle.fraction.specs.declared.frac.Frac.{Frac}
 use Rattle.osil_grammar.specs.Tags.{Level}
 use Rattle.osil_grammar.specs.Walking.{Walking, IsJoined}
 use Rattle.osil_grammar.specs.Runs.{StandsFor, StandFor, IsWholeRun, IsRatioRun, whole_run, ratio_run, AreWholes, AreRatios}
-use Rattle.osil_grammar.specs.Reading.{wholes, AddsWholes, AddsRatios, AreSame, HoldsWholes, HoldsRatios}
+use Rattle.osil_grammar.specs.Parsing.{wholes, AddsWholes, AddsRatios, AreSame, HoldsWholes, HoldsRatios}
 use Rattle.osil_grammar.proofs.Midway.{Midway, begins_midway}
 use Rattle.osil_grammar.proofs.Once.{stand_append}
 

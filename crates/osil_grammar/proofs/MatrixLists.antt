@@ -5,7 +5,7 @@ use Rattle.std.specs.List.{All}
 use Rattle.std.proofs.lemmas.List.{length-map}
 use Rattle.tree_grammar.specs.Elements.{Element}
 use Rattle.tree_grammar.specs.Tags.{IsAmong}
-use Rattle.tree_walk.specs.Rests.{child_elements}
+use Rattle.document_tags.specs.Rests.{child_elements}
 use Rattle.rational.specs.Ratio.{Ratio, IsNumber}
 use Rattle.fraction.specs.Frac.{ratio, ratios}
 use Rattle.fraction.specs.declared.frac.Frac.{Frac}
@@ -21,7 +21,7 @@ use Rattle.osil_grammar.specs.Matrix.{index_name, IsDivision, AreLists, lines_fr
 use Rattle.osil_grammar.specs.Meaning.{AreEntriesOf, IsMatrix}
 use Rattle.osil_grammar.specs.Deciding.{HasList, HasLists, HasItems, HasWideEntry, LinesBefore, AreDivided}
 use Rattle.osil_grammar.specs.Refusals.{Refusal, Wide, Count, AreClean, IsFirstDecided}
-use Rattle.osil_grammar.specs.Reading.{IsTagOf, Tells, end_only, wholes, lists_of, AreSame, HoldsWholes, HoldsRatios, HoldsLists, HasLines, IsRightMatrix, AreStored, IsListsFault}
+use Rattle.osil_grammar.specs.Parsing.{IsTagOf, Tells, end_only, wholes, lists_of, AreSame, HoldsWholes, HoldsRatios, HoldsLists, HasLines, IsRightMatrix, AreStored, IsListsFault}
 use Rattle.osil_grammar.proofs.Decided.{clean_one, tells_more}
 use Rattle.osil_grammar.proofs.FirstNamed.{is_among}
 use Rattle.osil_grammar.proofs.ListsRead.{length-same}

@@ -5,7 +5,7 @@ use Rattle.std.specs.Fmt.{decimal}
 use Rattle.std.proofs.lemmas.List.Elements.{All-head, All-tail, All-map, All-weaker}
 use Rattle.tree_grammar.specs.Elements.{Attribute, Nodes}
 use Rattle.element_tree.specs.Writable.{local_nodes}
-use Rattle.tree_walk.specs.Rests.{child_elements}
+use Rattle.document_tags.specs.Rests.{child_elements}
 use Rattle.rational.specs.Ratio.{IsSame}
 use Rattle.evidence.specs.Sums as evidence
 use Rattle.evidence.specs.Instance as Of

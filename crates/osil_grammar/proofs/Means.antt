@@ -6,7 +6,7 @@ use Rattle.std.proofs.lemmas.List.Elements.{All-head, All-tail}
 use Rattle.std.proofs.lemmas.Nat.Gcd.{IsGcd-from_zero, IsGcd-swap}
 use Rattle.tree_grammar.specs.Elements.{Nodes}
 use Rattle.element_tree.specs.Writable.{local_nodes}
-use Rattle.tree_walk.specs.Rests.{child_elements}
+use Rattle.document_tags.specs.Rests.{child_elements}
 use Rattle.rational.specs.Ratio.{Ratio, IsSame, sum}
 use Rattle.evidence.specs.Sums as evidence
 use Rattle.evidence.proofs.Numbers.{sum-none, none-sum}

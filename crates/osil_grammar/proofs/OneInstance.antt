@@ -2,7 +2,7 @@
 use Rattle.std.proofs.Common.{◌≡◌, ◌∙◌, ℕ, List, [], length, refl, ap, sym, subst}
 use Rattle.std.specs.Prelude.{Option, None, Some, MatchOption, codes}
 use Rattle.tree_grammar.specs.Elements.{Element}
-use Rattle.tree_walk.specs.Rests.{child_elements}
+use Rattle.document_tags.specs.Rests.{child_elements}
 use Rattle.doc_tree.proofs.Unambiguous.{one_tree}
 use Rattle.fraction.specs.declared.ends.Entry.{Entry}
 use Rattle.instance.specs.declared.parts.Var.{Var}
@@ -12,7 +12,7 @@ use Rattle.instance.specs.Parts.{Parts}
 use Rattle.osil_grammar.specs.Tags.{first_named}
 use Rattle.osil_grammar.specs.Refusals.{IsAccepted}
 use Rattle.osil_grammar.specs.Meaning.{IsVar, IsRow, IsObjective, IsMatrix, Expand, SayParts, Means}
-use Rattle.osil_grammar.specs.InstanceText.{IsInstanceText}
+use Rattle.osil_grammar.specs.Reading.{IsInstanceText}
 use Rattle.osil_grammar.proofs.OneValue.{var_once, row_once, expand_once, objective_once}
 use Rattle.osil_grammar.proofs.OneMatrix.{HasBoth, matrix_once}
 use Rattle.osil_grammar.proofs.ChildTags.{accepted_single}

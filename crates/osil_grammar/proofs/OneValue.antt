@@ -3,7 +3,7 @@ use Rattle.std.proofs.Common.{◌≡◌, ◌∙◌, ℕ, suc, ◌<◌, inl, inr,
 use Rattle.std.specs.Prelude.{Option, None, Some, MatchOption, bytes_eq, codes}
 use Rattle.std.proofs.lemmas.Bool.{true≢false}
 use Rattle.tree_grammar.specs.Elements.{Element}
-use Rattle.tree_walk.specs.Rests.{child_elements}
+use Rattle.document_tags.specs.Rests.{child_elements}
 use Rattle.rational.specs.Ratio.{Ratio, IsNumber, IsSame, sum, negative}
 use Rattle.rational.proofs.Scaling.{IsSame-trans}
 use Rattle.evidence.specs.Sums as evidence
@@ -19,10 +19,11 @@ use Rattle.instance.specs.declared.parts.Row.{Row}
 use Rattle.instance.specs.declared.parts.Goal.{Goal}
 use Rattle.instance.specs.declared.parts.Sense.{Sense}
 use Rattle.instance.specs.declared.parts.Sense.TheVariants.{Min, Max}
-use Rattle.osil_grammar.specs.Tags.{attribute}
+use Rattle.document_tags.specs.Elements.{attribute}
 use Rattle.osil_grammar.specs.Costs.{Cost, cost_sum}
 use Rattle.osil_grammar.specs.Meaning.{IsEndAt, raised, lowered, IsContinuous, IsBinary, IsOfType, IsVar, IsLess, IsRow, Expand, IsSense, AreSums, IsObjective}
-use Rattle.osil_grammar.proofs.Once.{only_inf, only_neg_inf, times_once}
+use Rattle.decimal_text.proofs.OneNumber.{only_inf, only_neg_inf}
+use Rattle.osil_grammar.proofs.Once.{times_once}
 use Rattle.osil_grammar.proofs.RatioEls.{decimal_once}
 use Rattle.osil_grammar.proofs.Places.{number_either}
 use Rattle.osil_grammar.proofs.RowTags.{constant_once}

@@ -1,8 +1,8 @@
 -- A way to the end of an element, past all that is in it.
 use Rattle.std.proofs.Common.{◌≡◌, ℕ, ◌+◌, ◌-◌, ◌<◌, ◌≤◌, zero, suc, List, ◌∷◌, length, drop, refl, ap, sym, ◌∙◌, subst, arith, inl, inr, length-drop}
 use Rattle.tree_grammar.specs.Elements.{Nodes, Event, Close, nodes_events}
-use Rattle.tree_walk.specs.Rests.{after_text}
-use Rattle.tree_walk.proofs.Content.{length-after_text}
+use Rattle.document_tags.specs.Rests.{after_text}
+use Rattle.document_tags.proofs.Content.{length-after_text}
 use Rattle.osil_grammar.specs.Tags.{elements_in}
 use Rattle.osil_grammar.specs.Walking.{Walking, Begun, Entered, Left, GoesOn}
 use Rattle.osil_grammar.proofs.Children.{next_of}

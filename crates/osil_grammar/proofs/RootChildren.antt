@@ -4,14 +4,14 @@ use Rattle.std.proofs.Common.{◌≡◌, ◌∙◌, true, false, ℕ, zero, ◌+
 use Rattle.std.specs.Prelude.{Option, IsSomeAnd, codes}
 use Rattle.tree_grammar.specs.Elements.{Element}
 use Rattle.tree_grammar.specs.Tags.{IsAmong}
-use Rattle.tree_walk.specs.Rests.{child_elements}
+use Rattle.document_tags.specs.Rests.{child_elements}
 use Rattle.instance.specs.Parts.{Parts}
 use Rattle.osil_grammar.specs.Tags.{Level, names, level_of, start_tag, end_tag, first_named}
 use Rattle.osil_grammar.specs.Kinds.{Osil, path, ordered, content_names}
 use Rattle.osil_grammar.specs.Deciding.{IsLate}
 use Rattle.osil_grammar.specs.Refusals.{AreClean}
 use Rattle.osil_grammar.specs.Meaning.{SayParts}
-use Rattle.osil_grammar.specs.Reading.{element_tags, IsDataRead}
+use Rattle.osil_grammar.specs.Parsing.{element_tags, IsDataRead}
 use Rattle.osil_grammar.proofs.Decided.{clean_element, clean_one}
 use Rattle.osil_grammar.proofs.FirstNamed.{first_other, first_here, first_there}
 use Rattle.osil_grammar.proofs.FoundMore.{part_kept, part_new, differs}

@@ -2,7 +2,7 @@
 use Rattle.std.proofs.Common.{ℕ, ◌≤◌, length, subst, sym, arith}
 use Rattle.tree_grammar.specs.Elements.{Element}
 use Rattle.element_tree.specs.Writable.{local_element, local_nodes}
-use Rattle.tree_walk.specs.Rests.{child_elements}
+use Rattle.document_tags.specs.Rests.{child_elements}
 use Rattle.instance.specs.Parts.{Parts, IsValid}
 use Rattle.osil_grammar.specs.Meaning.{IsObjective, Means}
 use Rattle.osil_grammar.specs.Writing.{HasDecimals, WritesInstance}

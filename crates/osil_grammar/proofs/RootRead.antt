@@ -2,14 +2,14 @@
 use Rattle.std.proofs.Common.{◌≡◌, ℕ, Some, None, [], ◌∷◌, refl, ap, sym, subst, arith}
 use Rattle.std.specs.Prelude.{Option, MatchOption, IsSomeAnd, codes}
 use Rattle.tree_grammar.specs.Elements.{Element, Open, Close, nodes_events, events}
-use Rattle.tree_walk.specs.Rests.{after_text, child_elements}
+use Rattle.document_tags.specs.Rests.{after_text, child_elements}
 use Rattle.instance.specs.Parts.{Parts}
 use Rattle.osil_grammar.specs.declared.fault.OsilFault.{OsilFault}
 use Rattle.osil_grammar.specs.Tags.{level_of, start_tag, end_tag, tags, node_tags, first_named}
 use Rattle.osil_grammar.specs.Walking.{Walking, Begun, Entered, Left}
 use Rattle.osil_grammar.specs.Refusals.{Refusal, Root, Missing, AreClean, IsFirstDecided}
 use Rattle.osil_grammar.specs.Meaning.{SayParts, Means}
-use Rattle.osil_grammar.specs.Reading.{Tells, IsDataRead, start_only}
+use Rattle.osil_grammar.specs.Parsing.{Tells, IsDataRead, start_only}
 use Rattle.osil_grammar.proofs.DataTags.{root_start, root_other, root_end, root_lacks}
 use Rattle.osil_grammar.proofs.Decided.{tells_more, clean_element, clean_one, refused_start, refused_inside, refused_end}
 

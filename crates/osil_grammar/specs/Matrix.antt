@@ -1,7 +1,7 @@
 -- The matrix of the rows as it is stored (Optimization Services, SparseMatrix): starts, indices and values, by columns or by rows.
 use Rattle.std.specs.Prelude.{◌≡◌, ℕ, ◌+◌, ◌-◌, ◌<◌, ◌&&◌, ℤ, pos, ◌-ℤ◌, ◌≤ℤ◌, unsigned_abs, nat_eq, Bool, true, false, cond, IsSomeAnd, List, [], ◌∷◌, ◌++◌, length, get_or, replicate, codes}
 use Rattle.tree_grammar.specs.Elements.{Element}
-use Rattle.tree_walk.specs.Rests.{child_elements}
+use Rattle.document_tags.specs.Rests.{child_elements}
 use Rattle.rational.specs.Ratio.{Ratio, sum}
 use Rattle.rational.specs.Width.{SumFits}
 use Rattle.evidence.specs.Sums as evidence

@@ -2,7 +2,7 @@
 use Rattle.std.specs.Prelude.{◌≡◌, ◌≢◌, ◌⊎◌, ℕ, ◌<◌, pos, true, false, cond, MatchOption, List, [], ◌∷◌, ◌++◌, length, replicate, get_or, codes}
 use Rattle.std.specs.List.{All}
 use Rattle.tree_grammar.specs.Elements.{Element}
-use Rattle.tree_walk.specs.Rests.{child_elements}
+use Rattle.document_tags.specs.Rests.{child_elements}
 use Rattle.rational.specs.Ratio.{Ratio, whole, sum, negative, IsSame}
 use Rattle.evidence.specs.Sums as evidence
 use Rattle.evidence.specs.Instance as Of
@@ -19,7 +19,8 @@ use Rattle.instance.specs.declared.parts.Sense.{Sense}
 use Rattle.instance.specs.declared.parts.Sense.TheVariants.{Min, Max}
 use Rattle.instance.specs.Parts.{Parts, IsAscending}
 use Rattle.instance.specs.Program.{entries}
-use Rattle.osil_grammar.specs.Tags.{attribute, first_named}
+use Rattle.document_tags.specs.Elements.{attribute}
+use Rattle.osil_grammar.specs.Tags.{first_named}
 use Rattle.osil_grammar.specs.Numbers.{Says}
 use Rattle.osil_grammar.specs.Runs.{StandsFor}
 use Rattle.osil_grammar.specs.Matrix.{Lists, AreLists, stored, place_sum}

@@ -1,7 +1,7 @@
 -- The numbers of OSiL documents: which attributes and texts are read, and by which grammar (XML Schema part 2).
 use Rattle.std.specs.Prelude.{ℕ, Option, None, Some, MatchOption, List, [], ◌∷◌, codes}
 use Rattle.tree_grammar.specs.Elements.{Element}
-use Rattle.tree_walk.specs.Texts.{HoldsText}
+use Rattle.document_tags.specs.Texts.{HoldsText}
 use Rattle.fraction.specs.Frac.{ratio}
 use Rattle.fraction.specs.declared.frac.Frac.{Frac}
 use Rattle.decimal_text.specs.Space.{trimmed}
@@ -9,7 +9,7 @@ use Rattle.decimal_text.specs.Count.{CountGrammar, IsWideCount}
 use Rattle.decimal_text.specs.Whole.{WholeGrammar, IsWideWhole}
 use Rattle.decimal_text.specs.Decimal.{DecimalGrammar, IsDecimal, IsWideDecimal}
 use Rattle.decimal_text.specs.Bound.{BoundGrammar}
-use Rattle.osil_grammar.specs.Tags.{attribute}
+use Rattle.document_tags.specs.Elements.{attribute}
 use Rattle.osil_grammar.specs.Kinds.{Listing, Values, Kind, Variables, Var, Objectives, Obj, Coef, Constraints, Con, Coefficients, El}
 
 pub data Grammar : Type 0 where

@@ -1,8 +1,8 @@
 -- Runs: an element that stands for several, and a list of numbers that `el` elements stand for (Optimization Services, `mult` and `incr`).
 use Rattle.std.specs.Prelude.{◌≡◌, ℕ, zero, suc, ◌+◌, ℤ, pos, ◌+ℤ◌, List, [], ◌∷◌, ◌++◌, codes, MatchOption}
 use Rattle.tree_grammar.specs.Elements.{Element}
-use Rattle.tree_walk.specs.Rests.{child_elements}
-use Rattle.tree_walk.specs.Texts.{HoldsText}
+use Rattle.document_tags.specs.Rests.{child_elements}
+use Rattle.document_tags.specs.Texts.{HoldsText}
 use Rattle.rational.specs.Ratio.{Ratio, sum}
 use Rattle.evidence.specs.Sums as evidence
 use Rattle.fraction.specs.Frac.{ratio}

@@ -57,14 +57,6 @@ no_element = record { name = []; attributes = []; children = none }
 abbrev pub parts_before : Tag → List Element
 parts_before t = (get_or (line t) 2 (level_of no_element 0 [])).before
 
--- the value of the attribute of this name, if there is one
-abbrev pub value_of : List ℕ → List Attribute → Option (List ℕ)
-value_of name [] = None
-value_of name (a ∷ more) = cond (bytes_eq a.name name) (Some a.value) (value_of name more)
-
-abbrev pub attribute : Element → List ℕ → Option (List ℕ)
-attribute e name = value_of name e.attributes
-
 -- the first element of this name, if there is one
 abbrev pub first_named : List ℕ → List Element → Option Element
 first_named name [] = None

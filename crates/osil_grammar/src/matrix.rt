@@ -2,12 +2,13 @@
 
 ghost use Rattle.std.specs.Prelude.{ℕ, ◌≡◌, ◌≤◌, ◌++◌, ◌∷◌, [], List, cond, IfOk, OnOk, MatchOption, ◌↔◌, IsTrue};
 ghost use Rattle.tree_grammar.specs.Elements.{Element};
-ghost use Rattle.tree_walk.specs.Rests.{child_elements};
+ghost use Rattle.document_tags.specs.Rests.{child_elements};
 ghost use Rattle.osil_grammar.specs.Kinds.{Listing, InstanceData, Coefficients, listing_name};
 ghost use Rattle.osil_grammar.specs.Walking.{GoesOn};
 ghost use Rattle.osil_grammar.specs.PartsRead.{AreWithin};
 ghost use Rattle.osil_grammar.specs.Meaning.{IsMatrix};
-ghost use Rattle.osil_grammar.specs.Reading.{ReadsElement, ReadsContent, ReadsEnd, AreRead, IsMatrixAt, IsListAt, IsMatrixNamed, InSizeAround, IsRightMatrix, HasNoList, LacksList, AreListsOf, AreStored, IsListsFault, FitsSize, FitsMatrix, begun, listing, refusal, MayFollow};
+ghost use Rattle.osil_grammar.specs.Reading.{refusal};
+ghost use Rattle.osil_grammar.specs.Parsing.{ReadsElement, ReadsContent, ReadsEnd, AreRead, IsMatrixAt, IsListAt, IsMatrixNamed, InSizeAround, IsRightMatrix, HasNoList, LacksList, AreListsOf, AreStored, IsListsFault, FitsSize, FitsMatrix, begun, listing, MayFollow};
 
 use crate::entries::{Lists, entries, is_division};
 use crate::fault::{OsilFault, Refusal};

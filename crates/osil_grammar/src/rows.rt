@@ -3,11 +3,13 @@
 ghost use Rattle.std.specs.Prelude.{◌≡◌, ◌+◌, ◌≤◌, MatchResult, IfOk, OnOk, codes, vec_len};
 ghost use Rattle.std.specs.List.{All};
 ghost use Rattle.instance.specs.Parts.{AreEnds};
+ghost use Rattle.osil_grammar.specs.Kinds as kinds;
 ghost use Rattle.osil_grammar.specs.Kinds.{InstanceData, Constraints};
+ghost use Rattle.osil_grammar.specs.Fields.{ReadsNumbers, RowSays};
 ghost use Rattle.osil_grammar.specs.Runs.{StandsFor};
 ghost use Rattle.osil_grammar.specs.Walking.{GoesOn};
 ghost use Rattle.osil_grammar.specs.Meaning.{IsLess, IsRow};
-ghost use Rattle.osil_grammar.specs.Reading.{ReadsElement, ReadsContent, ReadsStart, StandBefore, IsPartNamed, IsNamedAfter, Adds, HoldsAll, IsNear, IsTooFar};
+ghost use Rattle.osil_grammar.specs.Parsing.{ReadsElement, ReadsContent, ReadsStart, StandBefore, IsPartNamed, IsNamedAfter, Adds, HoldsAll, IsNear, IsTooFar};
 
 use crate::fault::{OsilFault, Refusal};
 use crate::numbers::{at_tag, both, bound, check_count, count, decimal, end, times};
@@ -31,6 +33,15 @@ fn less(end: End, constant: Frac) -> Result<End, Unread>
     }
 }
 
+/// The numbers of a start tag `con`: its ends, its constant, and for how many it stands.
+fn read_numbers(tag: StartTag<'_>) -> Result<((End, End), (Frac, u64)), Unread>
+    ensures { ReadsNumbers tag.entry result kinds.Con RowSays }
+{
+    let low = bound(tag, b"lb", End::NegInf);
+    let high = bound(tag, b"ub", End::Inf);
+    both(both(low, high), both(decimal(tag, b"constant"), times(tag)))
+}
+
 /// What a start tag `con` says, and for how many it stands, where so many rows stand before it.
 fn read_con(tag: StartTag<'_>, before: usize) -> Result<(Row, u64), OsilFault>
     requires { before ≤ 1000 }
@@ -38,10 +49,7 @@ fn read_con(tag: StartTag<'_>, before: usize) -> Result<(Row, u64), OsilFault>
     ensures few { IfOk result (λ x. before + x.1 ≤ 1000) }
     ensures ends { IfOk result (λ x. AreEnds x.0.lb x.0.ub) }
 {
-    let low = bound(tag, b"lb", End::NegInf);
-    let high = bound(tag, b"ub", End::Inf);
-    let read = both(both(low, high), both(decimal(tag, b"constant"), times(tag)));
-    let ((lb, ub), (constant, times)) = at_tag(tag, read)?;
+    let ((lb, ub), (constant, times)) = at_tag(tag, read_numbers(tag))?;
     let (low, high) = at_tag(tag, both(less(lb, constant), less(ub, constant)))?;
     if !are_ends(lb, ub) {
         return Err(tag.refused(Refusal::Bound));

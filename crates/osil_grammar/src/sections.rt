@@ -3,14 +3,15 @@
 ghost use Rattle.std.specs.Prelude.{◌≡◌, ◌↔◌, ◌++◌, ◌∷◌, [], ℕ, List, IsTrue, IfOk, OnOk, MatchOption, codes, length};
 ghost use Rattle.tree_grammar.specs.Elements.{Element, events};
 ghost use Rattle.tree_grammar.specs.Tags.{IsAmong};
-ghost use Rattle.tree_walk.specs.Rests.{child_elements};
+ghost use Rattle.document_tags.specs.Rests.{child_elements};
 ghost use Rattle.osil_grammar.specs.Tags.{tags};
 ghost use Rattle.osil_grammar.specs.Kinds.{Osil, InstanceData, content_names};
 ghost use Rattle.osil_grammar.specs.Meaning.{SayParts, Means};
 ghost use Rattle.osil_grammar.specs.Walking.{IsJoined, GoesOn};
 ghost use Rattle.osil_grammar.specs.PartsRead.{items_of, IsGoalOrNone, vars_of, rows_of, name_of, MayStand, IsSound, IsNextPart, IsFirstData};
-ghost use Rattle.osil_grammar.specs.Reading as reading;
-ghost use Rattle.osil_grammar.specs.Reading.{begun, Reads, ReadsElement, ReadsContent, ReadsEnd, AreFound, IsFurther, IsNext, AreAll, NoMemoryAlone};
+ghost use Rattle.osil_grammar.specs.Reading as promised;
+ghost use Rattle.osil_grammar.specs.Parsing as reading;
+ghost use Rattle.osil_grammar.specs.Parsing.{begun, Reads, ReadsElement, ReadsContent, ReadsEnd, AreFound, IsFurther, IsNext, AreAll, NoMemoryAlone};
 
 use crate::fault::{OsilFault, Refusal};
 use crate::matrix::read_matrix;
@@ -263,7 +264,7 @@ fn read_root(alloc: Global, place: &mut Place<'_>) -> Result<Option<Instance>, O
 
 /// The refusal of the root.
 fn refused_root(refusal: Refusal) -> OsilFault
-    ensures { reading.Tells result (λ r n. (r ≡ reading.refusal refusal) × (n ≡ 1)) }
+    ensures { reading.Tells result (λ r n. (r ≡ promised.refusal refusal) × (n ≡ 1)) }
 {
     OsilFault::Refused { refusal, at: 1 }
 }

@@ -4,18 +4,21 @@ ghost use Rattle.std.specs.Prelude.{◌≡◌, ◌+◌, ◌≤◌, ◌↔◌, �
 ghost use Rattle.std.specs.List.{All};
 ghost use Rattle.tree_grammar.specs.Tags.{IsAmong};
 ghost use Rattle.instance.specs.Parts.{AreEnds};
+ghost use Rattle.osil_grammar.specs.Kinds as kinds;
 ghost use Rattle.osil_grammar.specs.Kinds.{InstanceData, Variables};
+ghost use Rattle.osil_grammar.specs.Fields.{ReadsNumbers, VarSays};
 ghost use Rattle.osil_grammar.specs.Runs.{StandsFor};
 ghost use Rattle.osil_grammar.specs.Walking.{GoesOn};
 ghost use Rattle.osil_grammar.specs.Deciding.{types};
-ghost use Rattle.osil_grammar.specs.Tags.{value_of};
+ghost use Rattle.document_tags.specs.Elements.{value_of};
 ghost use Rattle.osil_grammar.specs.Meaning as meaning;
 ghost use Rattle.osil_grammar.specs.Meaning.{IsEndAt, IsVar};
-ghost use Rattle.osil_grammar.specs.Reading.{begun, ReadsElement, ReadsContent, ReadsStart, StandBefore, IsPartNamed, IsNamedAfter, Adds, HoldsAll, IsSaid, IsVariableOf, NoMemoryAlone};
+ghost use Rattle.osil_grammar.specs.Parsing.{begun, ReadsElement, ReadsContent, ReadsStart, StandBefore, IsPartNamed, IsNamedAfter, Adds, HoldsAll, IsSaid, IsVariableOf, NoMemoryAlone};
 
 use crate::fault::{OsilFault, Refusal};
 use crate::numbers::{at_tag, both, bound, check_count, count, end, times};
 use crate::tags::{Place, StartTag};
+use crate::unread::Unread;
 use fraction::{End, Frac};
 use instance::{MAX_VARS, Var};
 use std::alloc::Global;
@@ -100,6 +103,15 @@ pub(crate) fn are_ends(lb: End, ub: End) -> bool
     !matches!(lb, End::Inf) && !matches!(ub, End::NegInf)
 }
 
+/// The numbers of a start tag `var`: its ends, and for how many it stands.
+fn read_numbers(tag: StartTag<'_>) -> Result<((End, End), u64), Unread>
+    ensures { ReadsNumbers tag.entry result kinds.Var VarSays }
+{
+    let low = bound(tag, b"lb", End::At(Frac::ZERO));
+    let high = bound(tag, b"ub", End::Inf);
+    both(both(low, high), times(tag))
+}
+
 /// What a start tag `var` says, and for how many it stands, where so many variables stand before it.
 fn read_var(tag: StartTag<'_>, before: usize) -> Result<(Var, u64), OsilFault>
     requires { before ≤ 1000 }
@@ -107,9 +119,7 @@ fn read_var(tag: StartTag<'_>, before: usize) -> Result<(Var, u64), OsilFault>
     ensures few { IfOk result (λ x. before + x.1 ≤ 1000) }
     ensures ends { IfOk result (λ x. AreEnds x.0.lb x.0.ub) }
 {
-    let low = bound(tag, b"lb", End::At(Frac::ZERO));
-    let high = bound(tag, b"ub", End::Inf);
-    let ((lb, ub), times) = at_tag(tag, both(both(low, high), times(tag)))?;
+    let ((lb, ub), times) = at_tag(tag, read_numbers(tag))?;
     let Some(kind) = type_of(tag) else {
         return Err(tag.refused(Refusal::VarType));
     };

@@ -2,7 +2,7 @@
 use Rattle.std.specs.Prelude.{◌≡◌, ◌≢◌, ℕ, ◌^◌, ◌<◌, ◌≤◌, unsigned_abs, Option, None, Some, List, [], length}
 use Rattle.std.specs.List.{All}
 use Rattle.tree_grammar.specs.Characters.{IsXmlText}
-use Rattle.tree_walk.specs.Texts.{document_limit}
+use Rattle.document_tags.specs.Texts.{document_limit}
 use Rattle.decimal_text.specs.Space.{trimmed}
 use Rattle.rational.specs.Width.{most}
 use Rattle.certificate.specs.declared.lists.Mult.{Mult}

@@ -6,8 +6,8 @@ ghost use Rattle.osrl_grammar.specs.declared.report.Report.{Report};
 ghost use Rattle.osrl_grammar.specs.declared.fault.OsrlFault.{OsrlFault};
 ghost use Rattle.osrl_grammar.specs.declared.fault.OsrlFault.TheVariants.{Memory};
 ghost use Rattle.osrl_grammar.specs.Refusals.{IsRefused};
-ghost use Rattle.osrl_grammar.specs.Meaning.{IsReport, IsReportText};
-ghost use Rattle.osrl_grammar.specs.Reading.{DecodeFails};
+ghost use Rattle.osrl_grammar.specs.Meaning.{IsReport};
+ghost use Rattle.osrl_grammar.specs.Reading.{IsReportText, DecodeFails};
 
 /// Law: a document is one report at most, and so are bytes.
 pub fn document_has_one_report()

@@ -2,8 +2,8 @@
 use Rattle.std.proofs.Common.{◌≡◌, ℕ, List, [], ◌∷◌, Option, None, Some, Bor, map, subst}
 use Rattle.std.specs.Prelude.{MatchOption, codes}
 use Rattle.tree_grammar.specs.Elements.{Attribute, Element, Nodes, Event}
-use Rattle.tree_walk.specs.Rests.{child_elements, ReadsContent}
-use Rattle.tree_walk.proofs.Content.{EnteredElement}
+use Rattle.document_tags.specs.Rests.{child_elements, ReadsContent}
+use Rattle.document_tags.proofs.Content.{EnteredElement}
 use Rattle.solve_call.specs.Body.{Holds, AsksToSolve, path}
 
 -- the names behind references

@@ -2,8 +2,8 @@
 use Rattle.std.proofs.Common.{◌≡◌, ◌∙◌, ℕ, List, [], ◌∷◌, Option, None, Some, Bor, ap, inl, inr}
 use Rattle.std.specs.Prelude.{IfSome, IfNone, unwrap_or}
 use Rattle.tree_grammar.specs.Elements.{Nodes, none, chars, Event, Chars, Close, nodes_events}
-use Rattle.tree_walk.specs.Texts.{HoldsText}
-use Rattle.tree_walk.proofs.Content.{begins_with}
+use Rattle.document_tags.specs.Texts.{HoldsText}
+use Rattle.document_tags.proofs.Content.{begins_with}
 
 -- Behind them more content stands; the content is characters alone exactly where it is none.
 pub record TookText (walk : List Event) (text : List ℕ) (content : Nodes) (name : List ℕ) (rest : List Event) : Type 0 where

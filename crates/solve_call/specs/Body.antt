@@ -1,8 +1,8 @@
 -- What a body asks for (SOAP 1.1, section 4).
 use Rattle.std.specs.Prelude.{◌≡◌, ℕ, List, [], ◌∷◌, codes}
 use Rattle.tree_grammar.specs.Elements.{Nodes, Element}
-use Rattle.tree_walk.specs.Rests.{child_elements}
-use Rattle.tree_walk.specs.Texts.{HoldsText, IsDocument}
+use Rattle.document_tags.specs.Rests.{child_elements}
+use Rattle.document_tags.specs.Texts.{HoldsText, IsDocument}
 
 -- elements of these names, each the only one in the one before, and the text in the last
 abbrev pub Holds : List (List ℕ) → Nodes → List ℕ → Type 0

@@ -5,7 +5,8 @@ ghost use Rattle.tree_grammar.specs.Elements.{events};
 ghost use Rattle.element_tree.specs.Building.{said};
 ghost use Rattle.solve_call.specs.Reply as replies;
 
-use element_tree::{Tree, TreeBuilder, write};
+use document_tags::told_text;
+use element_tree::TreeBuilder;
 use os_io::{Memory, Text};
 use std::alloc::Global;
 
@@ -27,19 +28,11 @@ fn tell_reply(b: &mut TreeBuilder, text: &[u8]) -> Result<(), Memory>
     b.end(b"soap:Envelope")
 }
 
-/// The envelope of the reply that returns this text.
-fn envelope(alloc: Global, text: &[u8]) -> Result<Tree, Memory>
-    ensures { IfOk result (λ t. t ≡ events (replies.envelope text.now)) }
-{
-    let mut b = TreeBuilder::new(alloc);
-    tell_reply(&mut b, text)?;
-    Ok(b.finish().unwrap())
-}
-
 /// The reply that returns this text, as it is written.
 pub fn solve_reply(alloc: Global, text: &[u8]) -> Result<Text, Memory>
     ensures { IfOk result (λ reply. reply ≡ replies.reply_text text.now) }
 {
-    let envelope = envelope(alloc, text)?;
-    write(alloc, &envelope)
+    let mut b = TreeBuilder::new(alloc);
+    tell_reply(&mut b, text)?;
+    told_text(alloc, b)
 }

@@ -7,7 +7,7 @@ use Rattle.instance.specs.declared.parts.Row.{Row}
 use Rattle.tree_grammar.specs.Elements.{Element}
 use Rattle.osil_grammar.specs.Meaning.{IsRow}
 use Rattle.osil_grammar.specs.Runs.{StandFor}
-use Rattle.osil_grammar.specs.Reading.{begun}
+use Rattle.osil_grammar.specs.Parsing.{begun}
 use Rattle.osil_grammar.proofs.Decided.{tells_more}
 use Rattle.osil_grammar.proofs.Exits.{handed_on}
 use Rattle.osil_grammar.proofs.Items.{ItemsOf, no_items, one_more_item}

@@ -1,7 +1,7 @@
 use Rattle.std.proofs.Common.{◌≡◌, ◌∙◌, ℕ, inl, inr, ap, sym, subst, refl, ◌++◌, ◌∷◌, []}
 use Rattle.osil_grammar.specs.Walking.{Begun, IsBehind}
 use Rattle.osil_grammar.specs.Meaning.{IsRow}
-use Rattle.osil_grammar.specs.Reading.{Adds, element_tags}
+use Rattle.osil_grammar.specs.Parsing.{Adds, element_tags}
 use Rattle.std.specs.Prelude.{codes}
 use Rattle.tree_grammar.specs.Tags.{IsAmong}
 use Rattle.osil_grammar.specs.Tags.{level_of, end_tag}

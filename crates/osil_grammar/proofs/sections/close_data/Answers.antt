@@ -1,7 +1,7 @@
 use Rattle.std.proofs.Common.{◌≡◌, ◌∙◌, ℕ, [], ◌∷◌, length, ap, sym, subst, inl, inr, arith}
 use Rattle.std.specs.Prelude.{Option, Vec, codes}
 use Rattle.std.specs.declared.alloc.Global.{Global}
-use Rattle.tree_walk.specs.Rests.{child_elements}
+use Rattle.document_tags.specs.Rests.{child_elements}
 use Rattle.instance.specs.declared.parts.Var.{Var}
 use Rattle.instance.specs.declared.parts.Goal.{Goal}
 use Rattle.instance.specs.Parts.{Parts}
@@ -9,7 +9,7 @@ use Rattle.osil_grammar.specs.Meaning.{IsVar}
 use Rattle.osil_grammar.specs.Refusals.{AreClean}
 use Rattle.osil_grammar.specs.Tags.{level_of, end_tag, first_named}
 use Rattle.osil_grammar.specs.PartsRead.{items_of, vars_of, rows_of, entries_of, IsGoalOrNone}
-use Rattle.osil_grammar.specs.Reading.{HoldsAll}
+use Rattle.osil_grammar.specs.Parsing.{HoldsAll}
 use Rattle.osil_grammar.proofs.DataTags.{data_end, data_lacks}
 use Rattle.osil_grammar.proofs.Decided.{clean_one}
 use Rattle.osil_grammar.proofs.ListPlaces.{not_read}

@@ -3,7 +3,7 @@ use Rattle.std.specs.Prelude.{codes}
 use Rattle.tree_grammar.specs.Elements.{Element}
 use Rattle.osil_grammar.specs.Walking.{Walking, IsBehind}
 use Rattle.osil_grammar.specs.PartsRead.{vars_of, MayStand, IsSound, AreWithin}
-use Rattle.osil_grammar.specs.Reading.{AreFound, HaveVariables, HaveRows}
+use Rattle.osil_grammar.specs.Parsing.{AreFound, HaveVariables, HaveRows}
 use Rattle.osil_grammar.specs.declared.sections.Sections.{Sections}
 use Rattle.osil_grammar.specs.declared.sections.PartName.{PartName}
 use Rattle.osil_grammar.specs.declared.sections.PartName.TheVariants.{Variables, Objectives, Constraints, Coefficients}

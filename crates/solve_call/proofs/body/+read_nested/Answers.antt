@@ -1,8 +1,8 @@
 use Rattle.std.proofs.Common.{◌≡◌, ◌∙◌, [], ◌∷◌, ap, subst}
 use Rattle.std.proofs.lemmas.List.{nil_from_length}
 use Rattle.tree_grammar.specs.Elements.{Element}
-use Rattle.tree_walk.specs.Rests.{after_text}
-use Rattle.tree_walk.proofs.Content.{enters, no_first, closes_here, some_is_left, only_child, none_behind}
+use Rattle.document_tags.specs.Rests.{after_text}
+use Rattle.document_tags.proofs.Content.{enters, no_first, closes_here, some_is_left, only_child, none_behind}
 use Rattle.solve_call.specs.Body.{Holds}
 use Rattle.solve_call.proofs.Nested.{names_of, held_by}
 use Rattle.solve_call.proofs.body.+read_nested.Goals as goal

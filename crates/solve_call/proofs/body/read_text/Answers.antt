@@ -1,6 +1,6 @@
 use Rattle.std.proofs.Common.{◌∙◌, [], ◌∷◌, ap, refl}
 use Rattle.tree_grammar.specs.Elements.{Nodes, Close, nodes_events}
-use Rattle.tree_walk.proofs.Content.{closes_at_once}
+use Rattle.document_tags.proofs.Content.{closes_at_once}
 use Rattle.solve_call.proofs.Taken.{took_text}
 use Rattle.solve_call.proofs.body.read_text.Goals as goal
 

@@ -1,7 +1,7 @@
 use Rattle.std.proofs.Common.{◌∙◌, []}
 use Rattle.std.specs.Prelude.{codes}
 use Rattle.std.proofs.lemmas.Result.{IfOk-weaker}
-use Rattle.tree_walk.proofs.Content.{enters_element}
+use Rattle.document_tags.proofs.Content.{enters_element}
 use Rattle.solve_call.proofs.Nested.{envelope_asks}
 use Rattle.solve_call.proofs.body.text_to_solve.Goals as goal
 

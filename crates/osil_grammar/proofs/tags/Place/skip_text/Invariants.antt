@@ -1,5 +1,5 @@
 use Rattle.std.proofs.Common.{◌≡◌, length}
-use Rattle.tree_walk.specs.Rests.{after_text}
+use Rattle.document_tags.specs.Rests.{after_text}
 use Rattle.osil_grammar.proofs.tags.Place.skip_text.Given as goal
 
 -- the characters that were passed over don't count

@@ -1,0 +1,12 @@
+pub mod Steps
+pub mod Content
+pub mod Passed
+pub mod Spotted
+pub mod Told
+pub mod OneTree
+pub mod Printing
+pub mod Flat
+pub mod Decided
+pub mod OneDocument
+pub mod Coming
+pub mod Placed

@@ -1,0 +1,12 @@
+pub mod Rests
+pub mod Texts
+pub mod Elements
+pub mod Passing
+pub mod Spots
+pub mod Deciding
+pub mod Documents
+pub mod Writing
+pub mod Telling
+pub mod Faults
+pub mod Tags
+pub mod Coming
