@@ -123,6 +123,7 @@ SHOWN = "".join(
     for name, item in (("point", "0"), ("value", "0"), ("tree", "bound 0:1"))
 )
 TOLD = '<general><generalStatus type="normal"/></general><job><status>finished</status></job>'
+TREE = '<otherSolutionResult name="os_cert.tree">'
 
 
 def osil(head, part, tail):
@@ -130,36 +131,34 @@ def osil(head, part, tail):
     return filled("<osil><instanceData>" + head, part, tail + "</instanceData></osil>"), None
 
 
-def osrl(head, part, tail, status="optimal", shown=SHOWN, told=TOLD):
+def osrl(head, part, tail, status="optimal", shown=SHOWN):
     """A result with parts, before what shows that 0 is least."""
-    front = f'<osrl>{told}<optimization><solution><status type="{status}"/>'
-    back = f"</solution></optimization></osrl>"
+    front = f'<osrl>{TOLD}<optimization><solution><status type="{status}"/>'
+    back = "</solution></optimization></osrl>"
     results = "<otherSolutionResults>" + head
     return None, filled(front + results, part, tail + shown + "</otherSolutionResults>" + back)
-
-
-def element(name):
-    """An element of a matrix's list."""
-    return f"<{name}><el>0</el></{name}>"
 
 
 # of an instance and a result: a name, one of the two of a size, and the answer
 CHECKS = [
     ("digits of a cost", osil(VARIABLE + '<objectives><obj><coef idx="0">1.', "0", "</coef></obj></objectives>"), "accepted optimal"),
     ("digits before a bound", osil('<variables><var lb="', "0", f'"/></variables>{COST}'), "accepted optimal"),
-    ("digits of a wide cost", osil(VARIABLE + '<objectives><obj><coef idx="0">', "9", "</coef></obj></objectives>"), "instance refused"),
+    ("digits of a wide cost", osil(VARIABLE + '<objectives><obj><coef idx="0">', "9", "</coef></obj></objectives>"), "refused Instance osil Wide"),
     ("digits of a count", osil('<variables numberOfVariables="', "0", f'1"><var/></variables>{COST}'), "accepted optimal"),
     ("digits of an exponent", osil(VARIABLE + '<objectives><obj><coef idx="0">1e', "0", "</coef></obj></objectives>"), "accepted optimal"),
     ("white space round a cost", osil(VARIABLE + '<objectives><obj><coef idx="0">', " ", "1</coef></obj></objectives>"), "accepted optimal"),
     ("costs of one variable", osil(VARIABLE + '<objectives><obj><coef idx="0">1</coef>', '<coef idx="0">0</coef>', "</obj></objectives>"), "accepted optimal"),
-    ("variables", osil("<variables>", "<var/>", f"</variables>{COST}"), "instance refused"),
-    ("entries", osil(f"{VARIABLE}{COST}<linearConstraintCoefficients><start>", "<el>0</el>", "</start></linearConstraintCoefficients>"), "instance refused"),
-    ("elements beside an instance", osil(f"{VARIABLE}{COST}</instanceData>", "<a><b/></a>", "<instanceHeader/><a>x</a><instanceData>"), "instance refused"),
+    ("variables", osil("<variables>", "<var/>", f"</variables>{COST}"), "refused Instance osil TooBig"),
+    ("entries", osil(f"{VARIABLE}{COST}<linearConstraintCoefficients><start>", "<el>0</el>", "</start></linearConstraintCoefficients>"), "refused Instance osil TooBig"),
+    ("elements beside an instance", osil(f"{VARIABLE}{COST}</instanceData>", "<a><b/></a>", "<instanceHeader/><a>x</a><instanceData>"), "refused Instance osil Beyond"),
     ("items of a result", osrl('<otherSolutionResult name="a">', "<item>1</item>", "</otherSolutionResult>"), "accepted optimal"),
     ("results", osrl("", '<otherSolutionResult name="a"/>', ""), "accepted optimal"),
     ("a long name of a result", osrl('<otherSolutionResult name="', "a", '"/>'), "accepted optimal"),
     ("a long item", osrl('<otherSolutionResult name="a"><item>', "a ", "</item></otherSolutionResult>"), "accepted optimal"),
-    ("names of results twice", osrl("", SHOWN, ""), "result refused"),
+    ("nodes of a tree", osrl(TREE, "<item>split 0 0</item>", "</otherSolutionResult>", "infeasible", ""), "refused"),
+    ("multipliers of a node", osrl(TREE + "<item>farkas", lambda k: f" {k}:1", "</item></otherSolutionResult>", "infeasible", ""), "refused"),
+    ("a long number of a node", osrl(TREE + "<item>farkas 0:", "1", "</item></otherSolutionResult>", "infeasible", ""), "refused Result osrl Wide"),
+    ("names of results twice", osrl("", SHOWN, ""), "refused Result osrl Count"),
 ]
 
 
