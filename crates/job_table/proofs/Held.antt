@@ -156,7 +156,7 @@ stands_step n x low e es high true is above rise f at =
       is = ap (λ k. (k, e.1) ∷ es) same ∙ ap (λ y. (n, y) ∷ es) here;
       below = tt;
       rise = subst (λ (k : ℕ). Rise k es high) same rise;
-      above = subst (λ (k : ℕ). low < k) same above
+      above = subst (λ (k : ℕ). low < k) same above;
     }
 stands_step n x low e es high false is above rise f at =
     let rest = f at in
@@ -166,7 +166,7 @@ stands_step n x low e es high false is above rise f at =
       is = ap (λ s. e ∷ s) rest.is;
       below = (rest.above, rest.below);
       rise = rest.rise;
-      above = omega (arith, above, rest.above)
+      above = omega (arith, above, rest.above);
     }
 
 pub stands : (n : ℕ) (x : Phase) (low : ℕ) (jobs : Held) (high : ℕ) → Rise low jobs high → phase_of n jobs ≡ Some x → Stands n x low jobs high

@@ -45,9 +45,12 @@ goes_on e n issued before now o p m (Moves.Starts a b worker was is call) never 
 goes_on e n issued before now o p m (Moves.Ends a b l asked d was is told call) never at =
     let named : is_finish_of n e.call ≡ true = ap (λ (x : Entry). is_finish_of n x.call) call ∙ is_itself n in absurd cc
 goes_on e n issued before now o p m (Moves.Marks a b l was is call) never at =
-    let same : Some (Running a b l) ≡ Some (Running o p m) = sym was ∙ at in
-    (true, is ∙ ap (λ (x : List ℕ). Some (Running x b true)) (ap (λ (q : Option Phase). running_osil q o) same)
-    ∙ ap (λ (x : List ℕ). Some (Running o x true)) (ap (λ (q : Option Phase). running_osol q p) same), λ h. refl)
+    let same : Some (Running a b l) ≡ Some (Running o p m) = sym was ∙ at in (
+      true,
+      is ∙ ap (λ (x : List ℕ). Some (Running x b true)) (ap (λ (q : Option Phase). running_osil q o) same)
+          ∙ ap (λ (x : List ℕ). Some (Running o x true)) (ap (λ (q : Option Phase). running_osol q p) same),
+      λ h. refl,
+    )
 goes_on e n issued before now o p m (Moves.Stops (inl was) is call) never at = absurd cc
 goes_on e n issued before now o p m (Moves.Stops (inr (a, b, was)) is call) never at = absurd cc
 goes_on e n issued before now o p m (Moves.Goes (inl (d, was)) is call) never at = absurd cc
@@ -61,7 +64,7 @@ runs_after e r s n o p m c never at = by (nat_eq c.number n) refl
     by true is =
         let same = same_number c.number n is in
         let next = goes_on e c.number r.issued (phase_of c.number r.jobs) c.now o p m c.moves
-          (ap (λ k. is_finish_of k e.call) same ∙ never) (ap (λ k. phase_of k r.jobs) same ∙ at) in
+        (ap (λ k. is_finish_of k e.call) same ∙ never) (ap (λ k. phase_of k r.jobs) same ∙ at) in
         (next.0, moved_here e r s c n is ∙ next.1, next.2)
     by false is = (m, moved_else e r s c n is ∙ at, λ h. h)
 
@@ -137,7 +140,7 @@ gives call j r s c giving n number before at (Moves.Enters a b new was is by) =
     let same : job n a b ≡ j = sym (ap (λ (x : Entry). gave_of j x.reply) by) in
     record {
       runs = given_here _ r s c j (job n a b) number is same;
-      fresh = λ past. let k : n ≡ j.number = ap (λ (i : Job). i.number) same in omega (arith, new, past.given, k)
+      fresh = λ past. let k : n ≡ j.number = ap (λ (i : Job). i.number) same in omega (arith, new, past.given, k);
     }
 gives call j r s c giving n number before at (Moves.Sends a b was is by) =
     let wrong : reply.Gave (Some j) ≡ reply.Sent true = ap (λ (x : Entry). x.reply) by in absurd cc
@@ -146,9 +149,9 @@ gives call j r s c giving n number before at (Moves.Starts a b worker was is by)
     record {
       runs = given_here _ r s c j (job n a b) number is same;
       fresh = λ past.
-        let wrong : false ≡ true =
+          let wrong : false ≡ true =
           sym (ap is_past (ap (λ k. phase_of k r.jobs) (sym (number ∙ ap (λ (i : Job). i.number) same)) ∙ at ∙ was)) ∙ past.past in
-        absurd cc
+          absurd cc;
     }
 gives call j r s c giving n number before at (Moves.Ends a b l asked d was is told by) =
     let wrong : reply.Gave (Some j) ≡ reply.Finish Kept = ap (λ (x : Entry). x.reply) by in absurd cc
@@ -195,7 +198,7 @@ module _ (right : List ℕ → List ℕ → Bool → Option (List ℕ) → Type 
         after = g.new;
         rise = (change_of right g.old g.new (entry g.call (reply.Gave (Some j))) rise g.gave).rise;
         runs = (gave g.call j g.old g.new rise g.giving g.gave).runs;
-        rest = g.rest
+        rest = g.rest;
       }
 
   pub given_run : (j : Job) (before entries : List Entry) (now : Register) → Given right j before entries now → NoFinish j.number entries
@@ -339,11 +342,11 @@ module _ (right : List ℕ → List ℕ → Bool → Option (List ℕ) → Type 
     osol = was.osol;
     asked = was.asked;
     are =
-      ap (λ x. x ++ e ∷ []) was.are
-      ∙ append_assoc was.before (entry (Finish (job n was.osil was.osol) was.asked d) (reply.Finish Kept) ∷ was.after) (e ∷ []);
+        ap (λ x. x ++ e ∷ []) was.are
+        ∙ append_assoc was.before (entry (Finish (job n was.osil was.osol) was.asked d) (reply.Finish Kept) ∷ was.after) (e ∷ []);
     brought = was.brought;
     killed = was.killed;
-    is_right = was.is_right
+    is_right = was.is_right;
   }
   traced_more es e n (Some Killed) was = tt
 
@@ -370,7 +373,7 @@ module _ (right : List ℕ → List ℕ → Bool → Option (List ℕ) → Type 
         are = ap (λ (x : Entry). es ++ x ∷ []) call;
         brought = had.0;
         killed = λ h. had.1 (told h);
-        is_right = subst (λ (x : Entry). May right x.call) call may
+        is_right = subst (λ (x : Entry). May right x.call) call may;
       })
   traced_move es e n issued before now (Moves.Marks a b l from is call) may was =
       let had = subst (λ (q : Option Phase). Traced es n q) from was in

@@ -77,9 +77,10 @@ climb_low a b (n ∷ ns) le climb = (omega (arith, le, climb.0), climb.1)
 pub climbs : (low : ℕ) (jobs : Held) (high : ℕ) → Rise low jobs high → Climb low (waiting_numbers jobs)
 climbs low [] high rise = tt
 climbs low (e ∷ es) high rise =
-    elim (is_waiting e.1) as (λ b. Climb low (cond b (e.0 ∷ waiting_numbers es) (waiting_numbers es)))
-    [ true ↦ (rise.0, climbs e.0 es high rise.1)
-    | false ↦ climb_low low e.0 (waiting_numbers es) (omega (arith, rise.0)) (climbs e.0 es high rise.1) ]
+    elim (is_waiting e.1) as (λ b. Climb low (cond b (e.0 ∷ waiting_numbers es) (waiting_numbers es))) [
+      | true ↦ (rise.0, climbs e.0 es high rise.1)
+      | false ↦ climb_low low e.0 (waiting_numbers es) (omega (arith, rise.0)) (climbs e.0 es high rise.1)
+    ]
 
 under_is : (n : ℕ) (front : Held) → Below n front → Under n (waiting_numbers front)
 under_is n [] below = tt
@@ -121,8 +122,13 @@ both_one Killed = omega arith
 pub both_few : (jobs : Held) → waiting_jobs jobs + running_jobs jobs ≤ length jobs
 both_few [] = omega arith
 both_few (e ∷ es) =
-    omega (arith, both_few es, both_one e.1, sum_by-cons (λ (h : ℕ × Phase). cond (is_waiting h.1) 1 0) e es,
-    sum_by-cons (λ (h : ℕ × Phase). cond (is_running h.1) 1 0) e es)
+    omega (
+      arith,
+      both_few es,
+      both_one e.1,
+      sum_by-cons (λ (h : ℕ × Phase). cond (is_waiting h.1) 1 0) e es,
+      sum_by-cons (λ (h : ℕ × Phase). cond (is_running h.1) 1 0) e es,
+    )
 
 renewed_is : (n : ℕ) (a b : Bool) (front behind : List ℕ) → Under n front → Climb n behind
     → renewed n a b (front ++ cond a (n ∷ behind) behind) ≡ front ++ cond b (n ∷ behind) behind
@@ -174,9 +180,9 @@ module _ (jobs : Held) (issued : ℕ) (waiting : List ℕ) (room running : ℕ) 
     pub has_room : is_waiting x ≡ false → length waiting < room
     has_room waits =
         let is : waiting ≡ waiting_numbers here.front ++ waiting_numbers here.behind =
-          waiting_here ∙ ap (λ b. waiting_numbers here.front ++ cond b (n ∷ waiting_numbers here.behind) (waiting_numbers here.behind)) waits in
+        waiting_here ∙ ap (λ b. waiting_numbers here.front ++ cond b (n ∷ waiting_numbers here.behind) (waiting_numbers here.behind)) waits in
         let one : length waiting ≡ length (waiting_numbers here.front) + length (waiting_numbers here.behind) =
-          ap length is ∙ length-append (waiting_numbers here.front) (waiting_numbers here.behind) in
+        ap length is ∙ length-append (waiting_numbers here.front) (waiting_numbers here.behind) in
         let all : length jobs ≡ length here.front + length ((n, x) ∷ here.behind) = ap length here.is ∙ length-append here.front ((n, x) ∷ here.behind) in
         omega (arith, one, all, few_waiting here.front, few_waiting here.behind, kept.room_is)
 
@@ -184,7 +190,7 @@ module _ (jobs : Held) (issued : ℕ) (waiting : List ℕ) (room running : ℕ) 
     pub some_runs : is_running x ≡ true → 0 < running
     some_runs runs =
         let count : running ≡ running_jobs here.front + (cond (is_running x) 1 0 + running_jobs here.behind) =
-          kept.running_is ∙ ap running_jobs here.is ∙ counts is_running n x here.front here.behind in
+        kept.running_is ∙ ap running_jobs here.is ∙ counts is_running n x here.front here.behind in
         let one : ◌≡◌ {A = ℕ} (cond (is_running x) 1 0) 1 = ap (λ b. cond b 1 0) runs in
         omega (arith, count, one)
 
@@ -193,45 +199,45 @@ module _ (jobs : Held) (issued : ℕ) (waiting : List ℕ) (room running : ℕ) 
         → running' + cond (is_running x) 1 0 ≡ running + cond (is_running w) 1 0 → IsKept (with_phase n w jobs) issued waiting' room' running'
     kept_put w waiting' room' running' waits more runs =
         let put : with_phase n w jobs ≡ here.front ++ (n, w) ∷ here.behind =
-          ap (with_phase n w) here.is ∙ with_there n x w here.front here.behind here.below in
+        ap (with_phase n w) here.is ∙ with_there n x w here.front here.behind here.below in
         let before : running ≡ running_jobs here.front + (cond (is_running x) 1 0 + running_jobs here.behind) =
-          kept.running_is ∙ ap running_jobs here.is ∙ counts is_running n x here.front here.behind in
+        kept.running_is ∙ ap running_jobs here.is ∙ counts is_running n x here.front here.behind in
         let after : running_jobs (with_phase n w jobs) ≡ running_jobs here.front + (cond (is_running w) 1 0 + running_jobs here.behind) =
-          ap running_jobs put ∙ counts is_running n w here.front here.behind in
+        ap running_jobs put ∙ counts is_running n w here.front here.behind in
         let many : length (with_phase n w jobs) ≡ length jobs =
-          ap length put ∙ length-append here.front ((n, w) ∷ here.behind) ∙ sym (ap length here.is ∙ length-append here.front ((n, x) ∷ here.behind)) in
+        ap length put ∙ length-append here.front ((n, w) ∷ here.behind) ∙ sym (ap length here.is ∙ length-append here.front ((n, x) ∷ here.behind)) in
         record {
           rise = rise_with n 0 issued w jobs kept.rise;
           waiting_is =
-            waits ∙ ap (renewed n (is_waiting x) (is_waiting w)) waiting_here
-            ∙ renewed_is n (is_waiting x) (is_waiting w) (waiting_numbers here.front) (waiting_numbers here.behind)
-            (under_is n here.front here.below) (climbs n here.behind issued here.rise)
-            ∙ sym (ap waiting_numbers put ∙ waiting_by n w here.front here.behind);
+              waits ∙ ap (renewed n (is_waiting x) (is_waiting w)) waiting_here
+              ∙ renewed_is n (is_waiting x) (is_waiting w) (waiting_numbers here.front) (waiting_numbers here.behind)
+              (under_is n here.front here.below) (climbs n here.behind issued here.rise)
+              ∙ sym (ap waiting_numbers put ∙ waiting_by n w here.front here.behind);
           room_is = omega (arith, many, kept.room_is, more);
           running_is = omega (arith, before, after, runs);
-          few = omega (arith, many, kept.few)
+          few = omega (arith, many, kept.few);
         }
 
     -- a job that neither waits nor runs is given up
     kept_gone : is_waiting x ≡ false → is_running x ≡ false → IsKept (without n jobs) issued waiting room running
     kept_gone waits runs =
         let cut : without n jobs ≡ here.front ++ here.behind =
-          ap (without n) here.is ∙ without_there n x here.front here.behind here.below in
+        ap (without n) here.is ∙ without_there n x here.front here.behind here.below in
         let before : running ≡ running_jobs here.front + (cond (is_running x) 1 0 + running_jobs here.behind) =
-          kept.running_is ∙ ap running_jobs here.is ∙ counts is_running n x here.front here.behind in
+        kept.running_is ∙ ap running_jobs here.is ∙ counts is_running n x here.front here.behind in
         let none : ◌≡◌ {A = ℕ} (cond (is_running x) 1 0) 0 = ap (λ b. cond b 1 0) runs in
         let after : running_jobs (without n jobs) ≡ running_jobs here.front + running_jobs here.behind =
-          ap running_jobs cut ∙ sum_by-append (λ (h : ℕ × Phase). cond (is_running h.1) 1 0) here.front here.behind in
+        ap running_jobs cut ∙ sum_by-append (λ (h : ℕ × Phase). cond (is_running h.1) 1 0) here.front here.behind in
         let all : length jobs ≡ length here.front + length ((n, x) ∷ here.behind) = ap length here.is ∙ length-append here.front ((n, x) ∷ here.behind) in
         let fewer : length (without n jobs) ≡ length here.front + length here.behind = ap length cut ∙ length-append here.front here.behind in
         record {
           rise = rise_without n 0 issued jobs kept.rise;
           waiting_is =
-            waiting_here ∙ ap (λ b. waiting_numbers here.front ++ cond b (n ∷ waiting_numbers here.behind) (waiting_numbers here.behind)) waits
-            ∙ sym (ap waiting_numbers cut ∙ waiting_split here.front here.behind);
+              waiting_here ∙ ap (λ b. waiting_numbers here.front ++ cond b (n ∷ waiting_numbers here.behind) (waiting_numbers here.behind)) waits
+              ∙ sym (ap waiting_numbers cut ∙ waiting_split here.front here.behind);
           room_is = omega (arith, all, fewer, kept.room_is);
           running_is = omega (arith, before, none, after);
-          few = omega (arith, all, fewer, kept.few)
+          few = omega (arith, all, fewer, kept.few);
         }
 
   pub gone_is : (n : ℕ) (q : Option Phase) → phase_of n jobs ≡ q → IsSomeAnd q (λ x. (is_waiting x ≡ false) × (is_running x ≡ false))
@@ -247,11 +253,11 @@ module _ (jobs : Held) (issued : ℕ) (waiting : List ℕ) (room running : ℕ) 
       record {
         rise = rise_more 0 issued w jobs kept.rise;
         waiting_is =
-          kept.waiting_is
-          ∙ sym (waiting_by (issued + 1) w jobs [] ∙ ap (λ b. waiting_numbers jobs ++ cond b ((issued + 1) ∷ []) []) waits ∙ nothing_more (waiting_numbers jobs));
+            kept.waiting_is
+            ∙ sym (waiting_by (issued + 1) w jobs [] ∙ ap (λ b. waiting_numbers jobs ++ cond b ((issued + 1) ∷ []) []) waits ∙ nothing_more (waiting_numbers jobs));
         room_is = omega (arith, many, more);
         running_is = omega (arith, counts is_running (issued + 1) w jobs [], kept.running_is, runs);
-        few = omega (arith, many, less)
+        few = omega (arith, many, less);
       }
     where
       nothing_more : (ns : List ℕ) → ns ++ [] ≡ ns
@@ -283,7 +289,7 @@ passed n e es high x is waits rise next =
       osil = next.osil;
       osol = next.osol;
       waits = ap (λ b. cond b (Some e.1) (phase_of n es)) (above_apart n e.0 s.above) ∙ next.waits;
-      first = not_first e.0 e.1 (first_waiting es) (ap is_waiting is ∙ waits) ∙ next.first
+      first = not_first e.0 e.1 (first_waiting es) (ap is_waiting is ∙ waits) ∙ next.first;
     }
 
 first_step : (n : ℕ) (rest : List ℕ) (e : ℕ × Phase) (es : Held) (high : ℕ) (x : Phase) → e.1 ≡ x → Rise e.0 es high
@@ -296,7 +302,7 @@ first_step n rest e es high (Waiting o p) is rise f h =
       osil = o;
       osol = p;
       waits = ap (λ b. cond b (Some e.1) (phase_of n es)) (itself same) ∙ ap (λ y. Some y) is;
-      first = ap (λ y. or_waiting e.0 y (first_waiting es)) is ∙ ap (λ k. Some (job k o p)) same
+      first = ap (λ y. or_waiting e.0 y (first_waiting es)) is ∙ ap (λ k. Some (job k o p)) same;
     }
   where
     itself : e.0 ≡ n → nat_eq n e.0 ≡ true
@@ -351,7 +357,7 @@ pub place_found : (n : ℕ) (numbers : List ℕ) (r : Result ℕ ℕ) (i : ℕ) 
     → r ≡ Ok i → i ≡ place n numbers
 place_found n numbers r i climb found is =
     let s = subst (λ (r : Result ℕ ℕ). MatchResult r (λ i. (i < length numbers) × (get_or numbers i 0 ≡ n)) (λ i. (i ≤ length numbers) × ((k : ℕ) → k < i → get_or numbers k 0 < n) × ((k : ℕ) → i ≤ k → k < length numbers → n < get_or numbers k 0))) is
-      (searched numbers n r found (no_fall 0 numbers climb)) in
+    (searched numbers n r found (no_fall 0 numbers climb)) in
     sym (prefix_len_is (λ m. nat_lt m n) numbers i 0 (omega (arith, s.0))
     (λ k less. lesser (get_or numbers k 0) n (let far = climbs_between 0 numbers climb k i less s.0 in omega (arith, far, s.1)))
     (λ within. at_it (get_or numbers i 0) s.1))
@@ -363,7 +369,7 @@ pub place_free : (n : ℕ) (numbers : List ℕ) (r : Result ℕ ℕ) (i : ℕ) �
     → r ≡ Err i → i ≡ place n numbers
 place_free n numbers r i climb found is =
     let s = subst (λ (r : Result ℕ ℕ). MatchResult r (λ i. (i < length numbers) × (get_or numbers i 0 ≡ n)) (λ i. (i ≤ length numbers) × ((k : ℕ) → k < i → get_or numbers k 0 < n) × ((k : ℕ) → i ≤ k → k < length numbers → n < get_or numbers k 0))) is
-      (searched numbers n r found (no_fall 0 numbers climb)) in
+    (searched numbers n r found (no_fall 0 numbers climb)) in
     sym (prefix_len_is (λ m. nat_lt m n) numbers i 0 s.0
     (λ k less. lesser (get_or numbers k 0) n (s.1 k less))
     (λ within. not_lesser (get_or numbers i 0) n (s.2 i (omega arith) within)))

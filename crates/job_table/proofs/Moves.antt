@@ -64,7 +64,7 @@ stays e old new rise jobs issued none = record {
   only = λ q. ap (phase_of q) jobs ∙ same_there 0 q old.jobs (nat_eq 0 q) refl;
   moves = Moves.Stays refl none;
   rise = subst (λ (js : Held). Rise 0 js new.issued) (sym jobs) (subst (λ (i : ℕ). Rise 0 old.jobs i) (sym issued) rise);
-  grows = omega (arith, issued)
+  grows = omega (arith, issued);
 }
 
 absent : (old : Register) → Rise 0 old.jobs old.issued → phase_of (old.issued + 1) old.jobs ≡ None
@@ -78,7 +78,7 @@ comes e old w rise moves = record {
   only = λ q. phase_more q (old.issued + 1) w old.jobs (absent old rise);
   moves = moves;
   rise = rise_more 0 old.issued w old.jobs rise;
-  grows = omega arith
+  grows = omega arith;
 }
 
 goes_on : (e : Entry) (old : Register) (n : ℕ) (x w : Phase) → Rise 0 old.jobs old.issued → phase_of n old.jobs ≡ Some x
@@ -89,7 +89,7 @@ goes_on e old n x w rise at moves = record {
   only = λ q. phase_with q n w old.jobs (held_is (phase_of n old.jobs) x at);
   moves = moves;
   rise = rise_with n 0 old.issued w old.jobs rise;
-  grows = omega arith
+  grows = omega arith;
 }
 
 leaves : (e : Entry) (old : Register) (n : ℕ) → Rise 0 old.jobs old.issued
@@ -100,7 +100,7 @@ leaves e old n rise moves = record {
   only = λ q. phase_without q n 0 old.jobs old.issued rise;
   moves = moves;
   rise = rise_without n 0 old.issued old.jobs rise;
-  grows = omega arith
+  grows = omega arith;
 }
 
 either : (P : Outcome → Type 0) (b : Bool) (x y : Outcome) → P x → P y → P (cond b x y)

@@ -18,9 +18,9 @@ invariant_of-self-2 c =
     let held = c.len-held.ensures.len in
     let room = c.in-Ok.ensures.ok in
     let more =
-      kept_add c.self.inside.phases.entries _ _ _ _ c.self.invariant c.args.phase (deque_capacity c.make_room.new.numbers) c.recount-self-inside.result
-      c.requires (omega (arith, fewer, held)) (omega (arith, room, held))
-      (c.recount-self-inside.ensures ∙ ap (λ b. c.self.inside.running + cond b 1 0) c.is_running-runs.ensures) in
+    kept_add c.self.inside.phases.entries _ _ _ _ c.self.invariant c.args.phase (deque_capacity c.make_room.new.numbers) c.recount-self-inside.result
+    c.requires (omega (arith, fewer, held)) (omega (arith, room, held))
+    (c.recount-self-inside.ensures ∙ ap (λ b. c.self.inside.running + cond b 1 0) c.is_running-runs.ensures) in
     subst (λ (jobs : Held). IsKept jobs (c.self.inside.issued + 1) c.make_room.new.numbers.items (deque_capacity c.make_room.new.numbers) c.recount-self-inside.result)
     (sym c.in-Ok-append.ensures.ok)
     (subst (λ (numbers : List ℕ). IsKept (c.self.inside.phases.entries ++ (c.self.inside.issued + 1, c.args.phase) ∷ []) (c.self.inside.issued + 1) numbers

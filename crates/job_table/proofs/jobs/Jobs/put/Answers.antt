@@ -15,8 +15,8 @@ renew-requires-clause-there c =
 pub renew-requires-clause-room : goal.renew-requires-clause-room
 renew-requires-clause-room c =
     λ waited waits.
-      let room = has_room c.self.inside.phases.entries _ _ _ _ c.self.invariant _ _ c.replace-before.ensures.before (sym c.is_waiting.ensures ∙ waited) in
-      subst (λ (k : ℕ). k < deque_capacity c.self.inside.waiting) (sym c.self.inside.waiting.ok.0) room
+    let room = has_room c.self.inside.phases.entries _ _ _ _ c.self.invariant _ _ c.replace-before.ensures.before (sym c.is_waiting.ensures ∙ waited) in
+    subst (λ (k : ℕ). k < deque_capacity c.self.inside.waiting) (sym c.self.inside.waiting.ok.0) room
 
 pub recount-self-inside-requires-clause-some : goal.recount-self-inside-requires-clause-some
 recount-self-inside-requires-clause-some c =
