@@ -4,3 +4,4 @@ pub mod Steps
 pub mod History
 pub mod Laws
 pub mod Watching
+pub mod Ids

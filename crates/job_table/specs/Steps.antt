@@ -97,7 +97,7 @@ told_of n r = record {
   busy = nat_lt 0 (running_jobs r.jobs);
   current = waiting_jobs r.jobs + running_jobs r.jobs;
   total = r.issued;
-  state = option_map state_of (phase_of n r.jobs)
+  state = option_map state_of (phase_of n r.jobs);
 }
 
 -- what is told of the table and of all its jobs
@@ -106,7 +106,7 @@ told_of_all r = record {
   busy = nat_lt 0 (running_jobs r.jobs);
   current = waiting_jobs r.jobs + running_jobs r.jobs;
   total = r.issued;
-  jobs = states r.jobs
+  jobs = states r.jobs;
 }
 
 -- what is shown of a job in that phase, or of one that isn't held

@@ -9,7 +9,9 @@
 //! says what it answers and what it leaves.
 //!
 //! A document of a job is right where [`Verdicts`] says so, and a finish asks for one that is. [`Calls`] is who makes calls: a
-//! table's owner, or one of many who share it; [`CallsWatch`] asks them whether a job is to stop. What holds of every history of calls is said by the laws below.
+//! table's owner, or one of many who share it; [`CallsWatch`] asks them whether a job is to stop. [`write_id`] and [`read_id`]
+//! know the texts that name jobs. What holds of every history of calls is said by four laws, [`given_jobs_run`],
+//! [`numbers_are_given_once`], [`first_finish_is_kept`] and [`documents_are_right`].
 //!
 //! Only `knock` goes over the jobs. Room for a job's record and for its place among those that wait is taken where its number is
 //! given, and texts have two owners from the start ([`Twin`]), so that `send`, `claim`, `look`, `finish` and `kill` take no memory.
@@ -17,6 +19,7 @@
 
 mod caller;
 mod calls;
+mod ids;
 mod job;
 mod jobs;
 mod laws;
@@ -31,10 +34,9 @@ pub use caller::Calls;
 pub use calls::{
     Call, Finish, IssueFault, JobStates, Killing, Reply, Retrieved, Statistics, Verdicts,
 };
+pub use ids::{read_id, write_id};
 pub use job::{Job, Phase, State};
-pub use laws::{
-    documents_are_right, first_finish_is_kept, given_jobs_run, numbers_are_given_once,
-};
+pub use laws::{documents_are_right, first_finish_is_kept, given_jobs_run, numbers_are_given_once};
 pub use table::Table;
 pub use texts::{SharedText, Twin};
 pub use watch::CallsWatch;

@@ -150,12 +150,16 @@ impl<V: Verdicts> Table<V> {
     {
         let Job { number, osil, osol } = job;
         match self.jobs.phase(number) {
-            Some(Phase::Running {
-                osil: kept_osil,
-                osol: kept_osol,
-                marked,
-            }) => {
-                if osil.as_slice() != kept_osil.as_slice() || osol.as_slice() != kept_osol.as_slice() {
+            Some(
+                Phase::Running {
+                    osil: kept_osil,
+                    osol: kept_osol,
+                    marked,
+                },
+            ) => {
+                if osil.as_slice() != kept_osil.as_slice()
+                    || osol.as_slice() != kept_osol.as_slice()
+                {
                     return Finish::Other;
                 }
                 if asked && !*marked {
