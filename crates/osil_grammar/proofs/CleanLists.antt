@@ -17,7 +17,8 @@ use Rattle.fraction.specs.declared.ends.Entry.{Entry}
 use Rattle.decimal_text.specs.Count.{IsCount}
 use Rattle.instance.specs.Parts.{IsBefore, IsAscending, IsInside}
 use Rattle.instance.specs.Program.{entry, entries}
-use Rattle.osil_grammar.specs.Tags.{Level, Tag, level_of, element_of, names, node_tags, start_tag, end_tag, elements_in}
+use Rattle.document_tags.specs.Elements.{elements_in}
+use Rattle.osil_grammar.specs.Tags.{Level, Tag, level_of, element_of, names, node_tags, start_tag, end_tag}
 use Rattle.osil_grammar.specs.Kinds.{Listing, Starts, ColumnIndices, Values, Osil, InstanceData, Variables, Objectives, Obj, Constraints, Coefficients, Listed, path, listing_name, ordered, Ends}
 use Rattle.osil_grammar.specs.Numbers.{count}
 use Rattle.osil_grammar.specs.Runs.{StandFor, ItemsStandFor, AreWholes}

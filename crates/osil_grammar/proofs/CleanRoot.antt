@@ -13,7 +13,8 @@ use Rattle.instance.specs.declared.parts.Row.{Row}
 use Rattle.instance.specs.declared.parts.Goal.{Goal}
 use Rattle.instance.specs.Parts.{Parts, IsValid}
 use Rattle.document_tags.specs.Elements.{attribute}
-use Rattle.osil_grammar.specs.Tags.{Level, Tag, level_of, element_of, elements_in, names, node_tags, start_tag, end_tag}
+use Rattle.document_tags.specs.Elements.{elements_in}
+use Rattle.osil_grammar.specs.Tags.{Level, Tag, level_of, element_of, names, node_tags, start_tag, end_tag}
 use Rattle.osil_grammar.specs.Kinds.{Kind, Osil, InstanceData, Variables, Objectives, Constraints, Coefficients, Values, path, ordered, content_names, Ends}
 use Rattle.osil_grammar.specs.Numbers.{Field, count, fields, text_grammar}
 use Rattle.osil_grammar.specs.Runs.{StandFor}

@@ -2,7 +2,8 @@
 use Rattle.std.proofs.Common.{◌≡◌, ℕ, ◌+◌, List, [], ◌∷◌, ◌++◌, drop, refl, ap, sym, ◌∙◌, append_assoc, append-nil, inl, inr, arith}
 use Rattle.tree_grammar.specs.Elements.{Attribute, Nodes, Element, Event, Close, nodes_events}
 use Rattle.document_tags.specs.Rests.{after_text, child_elements}
-use Rattle.osil_grammar.specs.Tags.{Level, Tag, elements_in, node_tags}
+use Rattle.document_tags.specs.Elements.{elements_in}
+use Rattle.osil_grammar.specs.Tags.{Level, Tag, node_tags}
 use Rattle.osil_grammar.specs.Walking.{Walking, Begun, Entered, Left, IsJoined, IsInside, IsBehind}
 use Rattle.osil_grammar.specs.Refusals.{Refusal, AreClean, IsFirstDecided}
 use Rattle.osil_grammar.specs.Parsing.{element_tags}

@@ -7,7 +7,8 @@ use Rattle.std.proofs.lemmas.Slice.Eq.{bytes_eq-Decides}
 use Rattle.tree_grammar.specs.Elements as tree
 use Rattle.tree_grammar.specs.Elements.{Nodes, element, Element}
 use Rattle.tree_grammar.specs.Tags.{IsAmong}
-use Rattle.osil_grammar.specs.Tags.{Level, Tag, names, level_of, element_of, elements_in, start_tag, end_tag, node_tags}
+use Rattle.document_tags.specs.Elements.{elements_in}
+use Rattle.osil_grammar.specs.Tags.{Level, Tag, names, level_of, element_of, start_tag, end_tag, node_tags}
 use Rattle.osil_grammar.specs.Kinds.{Kind, Var, Obj, Coef, Con, El, Begins, Ends, ordered}
 use Rattle.osil_grammar.specs.Numbers.{fields}
 use Rattle.osil_grammar.specs.Deciding.{IsInRow, IsLate, HasWideRow, DecidesMissing, DecidesAttribute, DecidesNumber, DecidesWide, DecidesCount, DecidesIndex, DecidesStart, DecidesVarType, DecidesBound, DecidesManyObjectives, DecidesTooBig, most}

@@ -117,7 +117,7 @@ impl<'t> Place<'t> {
     ghost use Rattle.element_tree.specs.Items.{Shows};
     ghost use Rattle.tree_grammar.specs.Elements.{Attribute, Event, Nodes, Chars, Close, nodes_events};
     ghost use Rattle.document_tags.specs.Rests.{after_text};
-    ghost use Rattle.osil_grammar.specs.Tags.{elements_in};
+    ghost use Rattle.document_tags.specs.Elements.{elements_in};
     ghost use Rattle.osil_grammar.specs.Walking.{Walking, Begins, Entered, Left, GoesOn};
     ghost use Rattle.osil_grammar.specs.Parsing.{begun};
 
