@@ -27,5 +27,5 @@ result_refused {osil} {osrl} {p} {r} instance (inl missing) =
 result_refused instance (inr none) = inr (inr (inr none))
 
 -- a document is shorter than a check's room may be
-pub read_fits : {osrl : List ℕ} {report : Report} {nodes : List Node} → IsReportText osrl report → (length nodes < length osrl) × All IsInRange nodes → (length nodes < 2 ^ 32) × All IsInRange nodes
-read_fits said (few, range) = let short = said.document.short in (omega (arith, few, short), range)
+pub read_fits : {osrl : List ℕ} {report : Report} → IsReportText osrl report → (nodes : List Node) → (length nodes < length osrl) × All IsInRange nodes → (length nodes < 2 ^ 32) × All IsInRange nodes
+read_fits said nodes (few, range) = let short = said.document.short in (omega (arith, few, short), range)
