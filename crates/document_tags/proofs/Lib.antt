@@ -10,3 +10,5 @@ pub mod Decided
 pub mod OneDocument
 pub mod Coming
 pub mod Placed
+pub mod Apart
+pub mod Sizes

@@ -40,3 +40,8 @@ characters (chars text more) = text ++ characters more
 
 abbrev pub own_text : Element → List ℕ
 own_text e = characters e.children
+
+-- a text, or none where it is empty
+abbrev pub unless_empty : List ℕ → Option (List ℕ)
+unless_empty [] = None
+unless_empty (c ∷ cs) = Some (c ∷ cs)

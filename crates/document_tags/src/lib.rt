@@ -10,6 +10,7 @@
 #![tactic(auto)]
 
 mod attributes;
+mod documents;
 mod faults;
 mod passing;
 mod paths;
@@ -22,6 +23,7 @@ mod telling;
 mod tests;
 mod walk;
 
+pub use documents::{MOST_BYTES, read_document};
 pub use faults::{refusal_at, tree_fault_text};
 pub use paths::{along, first, first_within, within};
 pub use spot::Spot;
@@ -31,6 +33,3 @@ pub use telling::{
     open_with, told_text,
 };
 pub use walk::Walk;
-
-/// The most bytes of a document.
-pub const MOST_BYTES: u64 = 4_194_304;
