@@ -11,4 +11,6 @@ pub mod OneDocument
 pub mod Coming
 pub mod Placed
 pub mod FaultTexts
+pub mod Apart
 pub mod Sizes
+pub mod MoreBytes

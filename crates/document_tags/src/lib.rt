@@ -10,6 +10,7 @@
 #![tactic(auto)]
 
 mod attributes;
+mod documents;
 mod faults;
 mod laws;
 mod passing;
@@ -23,6 +24,7 @@ mod telling;
 mod tests;
 mod walk;
 
+pub use documents::{MOST_BYTES, read_document};
 pub use faults::{refusal_at, tree_fault_text};
 pub use laws::documents_have_fewer_elements_than_bytes;
 pub use paths::{along, first, first_within, within};
@@ -33,6 +35,3 @@ pub use telling::{
     open_with, told_text,
 };
 pub use walk::Walk;
-
-/// The most bytes of a document.
-pub const MOST_BYTES: u64 = 4_194_304;

@@ -1,0 +1,9 @@
+pub mod LastTags
+pub mod Limited
+pub mod TagKinds
+pub mod Taken
+pub mod ReadAll
+pub mod WrittenLimits
+pub mod OneAnswer
+pub mod WrittenText
+pub mod BackTags

@@ -1,0 +1,25 @@
+-- The options that come back from their text.
+use Rattle.std.specs.Prelude.{◌≡◌, ◌≢◌, ℕ, ◌≤◌, Option, None, Some, List, [], length}
+use Rattle.tree_grammar.specs.Characters.{IsXmlText}
+use Rattle.decimal_text.specs.Space.{trimmed}
+use Rattle.osol_grammar.specs.declared.limit.Limit.{Limit}
+use Rattle.osol_grammar.specs.declared.options.Options.{Options}
+use Rattle.osol_grammar.specs.Limits.{row}
+use Rattle.osol_grammar.specs.Options.{amount}
+
+-- a job's name: characters of XML, one at least and of at most 256 bytes, with no white space round them
+pub record IsName (job : List ℕ) : Type 0 where
+  pub some : job ≢ []
+  pub short : length job ≤ 256
+  pub bare : trimmed job ≡ job
+  pub characters : IsXmlText job
+
+abbrev pub IsNameOrNone : Option (List ℕ) → Type 0
+IsNameOrNone None = Unit {0}
+IsNameOrNone (Some job) = IsName job
+
+-- there is no job's name or it is one, and each limit is one that it may be
+pub record ComesBack (o : Options) : Type 0 where
+  pub job : IsNameOrNone o.job
+  pub above : (l : Limit) → (row l).least ≤ amount o l
+  pub below : (l : Limit) → amount o l ≤ (row l).most

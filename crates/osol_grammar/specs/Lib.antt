@@ -1,0 +1,9 @@
+pub mod Limits
+pub mod Options
+pub mod Lasts
+pub mod Refusals
+pub mod Meaning
+pub mod Texts
+pub mod Writing
+pub mod Back
+pub mod Reading

@@ -1,0 +1,19 @@
+-- The texts of refusals, as a reply or a message tells them.
+use Rattle.std.specs.Prelude.{◌≡◌, ℕ, List, codes}
+use Rattle.document_tags.specs.Faults.{refusal_at, IsTreeText}
+use Rattle.osol_grammar.specs.declared.fault.Refusal.{Refusal}
+use Rattle.osol_grammar.specs.declared.fault.Refusal.TheVariants.{Root, JobTwice, BadLimit, LongJob}
+use Rattle.osol_grammar.specs.declared.fault.OsolFault.{OsolFault}
+use Rattle.osol_grammar.specs.declared.fault.OsolFault.TheVariants.{Tree, Refused, Memory}
+
+abbrev pub refusal_name : Refusal → List ℕ
+refusal_name Root = codes "Root"
+refusal_name JobTwice = codes "JobTwice"
+refusal_name BadLimit = codes "BadLimit"
+refusal_name LongJob = codes "LongJob"
+
+-- the text of a fault; want of memory has none
+abbrev pub IsFaultText : OsolFault → List ℕ → Type 0
+IsFaultText (Tree f) text = IsTreeText (codes "osol") f text
+IsFaultText (Refused r n) text = text ≡ refusal_at (codes "osol") (refusal_name r) n
+IsFaultText Memory text = ⊥

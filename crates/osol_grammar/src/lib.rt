@@ -1,0 +1,26 @@
+//! Options documents (Optimization Services option language, in this project's profile): what a job asks for beside its
+//! instance.
+//!
+//! [`decode`] gives the options that a document says, or why it says none: of the first tag at which something is wrong
+//! the least refusal, with the ordinal of its element. [`encode`] writes options as a document, and [`comes_back`] says
+//! that this is the document of those options. [`refusal_text`] says in words why a document is refused.
+#![tactic(auto)]
+
+mod amounts;
+mod document;
+mod fault;
+mod laws;
+mod limit;
+mod options;
+mod reading;
+#[cfg(test)]
+mod tests;
+mod texts;
+mod writing;
+
+pub use document::decode;
+pub use fault::{OsolFault, Refusal};
+pub use laws::{comes_back, document_has_one_refusal, document_says_one, options_are_not_refused};
+pub use options::Options;
+pub use texts::refusal_text;
+pub use writing::encode;

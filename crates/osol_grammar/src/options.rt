@@ -1,0 +1,53 @@
+//! What a job asks for beside its instance.
+
+use crate::limit::Limit;
+use os_io::Text;
+
+/// The job's name, if it has one, and how much may be done for it: so many nodes of the tree of cases, 1 to 1,000,000,
+/// and so many turns of the simplex method, 1 to 100,000,000.
+#[derive(Debug, Drop)]
+pub struct Options {
+    pub job: Option<Text>,
+    pub nodes: u32,
+    pub turns: u32,
+}
+
+impl Options {
+    ghost use Rattle.std.specs.Prelude.{◌≡◌, ◌≢◌};
+    ghost use Rattle.osol_grammar.specs.declared.limit.Limit as kinds;
+    ghost use Rattle.osol_grammar.specs.Options as said;
+    ghost use Rattle.osol_grammar.specs.Meaning.{IsNoOptions};
+
+    /// No options: no job's name, 10,000 nodes and 1,000,000 turns.
+    pub fn none() -> Options
+        ensures { IsNoOptions result }
+    {
+        Options {
+            job: None,
+            nodes: Limit::Nodes.row().default,
+            turns: Limit::Turns.row().default,
+        }
+    }
+
+    /// The amount of a limit.
+    pub(crate) fn amount(&self, limit: Limit) -> u32
+        ensures { result ≡ said.amount self.now limit }
+    {
+        match limit {
+            Limit::Nodes => self.nodes,
+            Limit::Turns => self.turns,
+        }
+    }
+
+    /// Sets a limit.
+    pub(crate) fn set(&mut self, limit: Limit, amount: u32)
+        ensures own { said.amount self.new limit ≡ amount }
+        ensures others { (l : kinds.Limit) → l ≢ limit → said.amount self.new l ≡ said.amount self.old l }
+        ensures job { self.new.job ≡ self.old.job }
+    {
+        match limit {
+            Limit::Nodes => self.nodes = amount,
+            Limit::Turns => self.turns = amount,
+        }
+    }
+}
