@@ -9,11 +9,11 @@ use Rattle.certificate.specs.declared.claims.Claim.{Claim}
 use Rattle.osrl_grammar.specs.declared.report.JobStatus.{JobStatus}
 use Rattle.osrl_grammar.specs.declared.report.Report.{Report}
 use Rattle.osrl_grammar.specs.declared.parts.Part.{Part}
-use Rattle.document_tags.specs.Elements.{attribute, characters, first_within, own_text}
+use Rattle.document_tags.specs.Elements.{attribute, characters, first_within, own_text, unless_empty}
 use Rattle.osrl_grammar.specs.Items.{IsReadable}
 use Rattle.osrl_grammar.specs.Parts.{items_of, results, solutions, all_results}
 use Rattle.osrl_grammar.specs.Refusals.{IsPartCounted, general_path, job_path, status_text}
-use Rattle.osrl_grammar.specs.Meaning.{unless_empty, text_in, SayClaim, IsReport}
+use Rattle.osrl_grammar.specs.Meaning.{text_in, SayClaim, IsReport}
 use Rattle.osrl_grammar.specs.Reading.{IsReportText}
 use Rattle.document_tags.specs.Writing.{text_nodes, group, typed}
 use Rattle.osrl_grammar.specs.Writing.{leaf_of, optimization, general_type, job_nodes, report_text}

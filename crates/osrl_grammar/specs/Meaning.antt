@@ -9,7 +9,7 @@ use Rattle.certificate.specs.declared.causes.Cause.{Cause}
 use Rattle.certificate.specs.declared.claims.Claim.{Claim}
 use Rattle.certificate.specs.declared.claims.Claim.TheVariants.{Optimal, Infeasible, Unbounded, BestSoFar, Unsure}
 use Rattle.osrl_grammar.specs.declared.report.Report.{Report}
-use Rattle.document_tags.specs.Elements.{attribute, first_within, own_text}
+use Rattle.document_tags.specs.Elements.{attribute, first_within, own_text, unless_empty}
 use Rattle.osrl_grammar.specs.declared.parts.Part.{Part}
 use Rattle.osrl_grammar.specs.declared.parts.Part.TheVariants as parts
 use Rattle.osrl_grammar.specs.declared.parts.Claiming.TheVariants as claiming
@@ -17,11 +17,6 @@ use Rattle.osrl_grammar.specs.Items.{IsReadable}
 use Rattle.osrl_grammar.specs.Values.{IsFraction, IsNode, IsCause}
 use Rattle.osrl_grammar.specs.Parts.{first_part, item_texts, solutions, items}
 use Rattle.osrl_grammar.specs.Refusals.{IsNamed, IsCounted, general_path, job_path, status_text, Claims}
-
--- a text, or none where it is empty
-abbrev pub unless_empty : List ℕ → Option (List ℕ)
-unless_empty [] = None
-unless_empty (c ∷ cs) = Some (c ∷ cs)
 
 -- what an element says, without the white space round it, if there is one that says anything
 abbrev pub text_in : Option Element → Option (List ℕ)
