@@ -1,9 +1,6 @@
 -- What the words of a call ask for, and what is written where they are no command's.
 use Rattle.std.proofs.Common.{◌≡◌, ◌∙◌, ℕ, List, [], ◌∷◌, ◌++◌, length, Option, Some, None, inl, inr, sym, ap, subst, arith, refl, true, false}
 use Rattle.std.specs.Prelude.{codes, option_and_then, option_map}
-use Rattle.std.proofs.Math.Seq.{take-length}
-use Rattle.os_io.specs.Streams.{Told}
-use Rattle.http_link.specs.Responses.{Appends, AppendsPart}
 use Rattle.clap.specs.Words.{App, HasKind, HasMatchesOf, IsAmong, Kinds, Row, Rule, Text, fault_of, is_simple, is_simple_and_free, kind_of, new_rule, rows_of, rule_of, subcommand_of, subcommand_rows_of}
 use Rattle.clap.specs.declared.builder.arg.Arg.{Arg}
 use Rattle.clap.specs.declared.error.Error.{Error}
@@ -105,11 +102,3 @@ asks_check found osil osrl words some is = sym is ∙ ap (option_map meant) some
 
 pub asks_none : (found : Option Asked) (words : List Text) → found ≡ None → option_map meant found ≡ asks words → IsNoCommand words
 asks_none found words none is = sym is ∙ ap (option_map meant) none
-
--- a text that was written whole is a first part of it
-pub all_is_part : (x y z : Option (List ℕ)) (text : List ℕ) → Told x y (Appends text) → z ≡ y → Told x z (AppendsPart text)
-all_is_part None y z text told same = tt
-all_is_part (Some x) None z text told same = absurd told
-all_is_part (Some x) (Some y) z text told same =
-    subst (λ (after : Option (List ℕ)). Told (Some x) after (AppendsPart text)) (sym same)
-    (length text, omega arith, told ∙ ap (λ part. x ++ part) (sym (take-length text)))

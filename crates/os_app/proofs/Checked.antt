@@ -1,8 +1,7 @@
 -- How a run ends that checks two files, and what their bytes decide of it.
 use Rattle.std.proofs.Common.{◌≡◌, ◌∙◌, ℕ, ◌⊎◌, List, [], ◌∷◌, ◌++◌, Option, Some, None, Ok, Err, inl, inr, arith, refl, sym, ap, subst}
-use Rattle.std.specs.Prelude.{IfSome}
-use Rattle.os_io.specs.Streams.{Told, HasRisen}
-use Rattle.http_link.specs.Responses.{Appends, AppendsPart}
+use Rattle.os_io.specs.Files.{Held, Holds, NoFile, MayHold}
+use Rattle.os_io.specs.Streams.{HasRisen}
 use Rattle.cert_checker.specs.declared.documents.Kind.{Kind}
 use Rattle.cert_checker.specs.declared.refused.Refused.{Refused}
 use Rattle.cert_checker.specs.declared.refused.Refused.TheVariants as reasons
@@ -13,10 +12,9 @@ use Rattle.cert_checker.proofs.Apart.{accepted_apart}
 use Rattle.cert_checker.proofs.OneAnswer.{answer_once}
 use Rattle.os_app.specs.Checks.{IsAnswerLine, IsAnswerTo, IsAnswerAbout, CheckEnds, accepted, refused, in_full, unread, unwritten, unmade}
 use Rattle.os_app.specs.Words.{Command, Session, Check, IsSession, IsCheck, IsNoCommand}
-use Rattle.os_app.specs.Runs.{Run, Wrote, AsksLine, IsFileFault, IsUnheard, Ends, checked, read_fault, write_fault, without_memory, Gives, IsJudged, Runs}
+use Rattle.os_app.specs.Runs.{Run, AsksLine, IsUntaken, IsFileFault, IsUnheard, RunEnds, checked, file_fault, unsent, unheard, MayBeThere, IsJudged, Runs}
 use Rattle.os_app.specs.Runs as runs
-use Rattle.os_app.proofs.Running.{part_of}
-use Rattle.os_app.proofs.Deciding.{same_command, some_or_none}
+use Rattle.os_app.proofs.Deciding.{one_command, some_or_none}
 
 -- ---- what is said of two files, by what they say together
 
@@ -55,118 +53,97 @@ zero_or_one osil osrl due line (refused r is why says) (inr eight) = omega (arit
 
 -- ---- the files, where they are told
 
-same_bytes : (held : Option (List ℕ)) (bytes read : List ℕ) → held ≡ Some bytes → IfSome held (λ h. h ≡ read) → read ≡ bytes
-same_bytes held bytes read told is = sym (subst (λ (o : Option (List ℕ)). IfSome o (λ h. h ≡ read)) told is)
+same_bytes : (held : Held) (bytes read : List ℕ) → held ≡ Holds bytes → MayHold held read → read ≡ bytes
+same_bytes held bytes read told is = subst (λ (h : Held). MayHold h read) told is
 
-about_told : (instance result : Option (List ℕ)) (due : ℕ) (line osil osrl : List ℕ) → IsAnswerAbout instance result due line → instance ≡ Some osil → result ≡ Some osrl
+about_told : (instance result : Held) (due : ℕ) (line osil osrl : List ℕ) → IsAnswerAbout instance result due line → instance ≡ Holds osil → result ≡ Holds osrl
     → IsAnswerTo osil osrl due line
 about_told instance result due line osil osrl about first second =
     subst (λ (b : List ℕ). IsAnswerTo osil b due line) (same_bytes result osrl about.osrl second about.result_file)
     (subst (λ (a : List ℕ). IsAnswerTo a about.osrl due line) (same_bytes instance osil about.osil first about.instance_file) about.answers)
 
+-- what may hold these bytes isn't absent
+may_be_there : (held : Held) (read : List ℕ) → MayHold held read → held ≡ NoFile → ⊥
+may_be_there held read is none = subst (λ (h : Held). MayHold h read) none is
+
 -- ---- a run
+
+-- how the check of a run ends
+abbrev EndsCheck : ℕ → Run → List ℕ → List ℕ → Type 0
+EndsCheck status run osil_name osrl_name =
+    CheckEnds status (run.held osil_name) (run.held osrl_name) run.file_faults run.file_faults_after run.output run.output_after
 
 -- what a run and its check say of it
 record Checking (status : ℕ) (run : Run) (osil_name osrl_name : List ℕ) : Type 0 where
   pub check : IsCheck run.words osil_name osrl_name
-  pub ends : CheckEnds status (run.held osil_name) (run.held osrl_name) (record {
-    files = run.file_faults;
-    files_after = run.file_faults_after;
-    written = run.written;
-    written_after = run.written_after;
-    write_faults = run.write_faults;
-    write_faults_after = run.write_faults_after;
-  })
-  pub untaken : run.left_after ≡ run.left
-  pub all_read : run.read_faults_after ≡ run.read_faults
+  pub ends : EndsCheck status run osil_name osrl_name
+  pub untaken : IsUntaken run
 
-file_fault : (status : ℕ) (run : Run) (osil_name osrl_name : List ℕ) → Checking status run osil_name osrl_name → HasRisen run.file_faults run.file_faults_after
-    → run.written_after ≡ run.written → run.write_faults_after ≡ run.write_faults → IsFileFault run
-file_fault status run osil_name osrl_name c risen same writes = record {
-  osil_name = osil_name;
-  osrl_name = osrl_name;
-  check = c.check;
-  failed = risen;
-  untaken = c.untaken;
-  unwritten = same;
-  all_read = c.all_read;
-  all_written = writes;
-}
+fault_of_file : (status : ℕ) (run : Run) (osil_name osrl_name : List ℕ) → Checking status run osil_name osrl_name → HasRisen run.file_faults run.file_faults_after
+    → run.output_after ≡ run.output → IsFileFault run
+fault_of_file status run osil_name osrl_name c risen same =
+    record { osil_name = osil_name; osrl_name = osrl_name; check = c.check; failed = risen; untaken = c.untaken; unwritten = same }
 
-no_memory : (status : ℕ) (run : Run) (osil_name osrl_name : List ℕ) → Checking status run osil_name osrl_name → run.written_after ≡ run.written
-    → run.file_faults_after ≡ run.file_faults → run.write_faults_after ≡ run.write_faults → IsUnheard run
-no_memory status run osil_name osrl_name c same files writes = record {
-  untaken = c.untaken;
-  unwritten = same;
-  all_files_read = files;
-  all_read = c.all_read;
-  all_written = writes;
-}
+no_memory : (status : ℕ) (run : Run) (osil_name osrl_name : List ℕ) → Checking status run osil_name osrl_name
+    → run.file_faults_after ≡ run.file_faults → run.output_after ≡ run.output → IsUnheard run
+no_memory status run osil_name osrl_name c files same = record { untaken = c.untaken; unwritten = same; all_files_read = files }
 
 asks_line : (status due : ℕ) (run : Run) (osil_name osrl_name line : List ℕ) → Checking status run osil_name osrl_name
     → IsAnswerAbout (run.held osil_name) (run.held osrl_name) due line → AsksLine run due line
 asks_line status due run osil_name osrl_name line c about = record { osil_name = osil_name; osrl_name = osrl_name; check = c.check; about = about }
 
-ends_of : (status : ℕ) (run : Run) (osil_name osrl_name : List ℕ) → Checking status run osil_name osrl_name → Ends status run
+ends_of : (status : ℕ) (run : Run) (osil_name osrl_name : List ℕ) → Checking status run osil_name osrl_name → RunEnds status run
 ends_of status run osil_name osrl_name c = go c.ends
   where
-    go : CheckEnds status (run.held osil_name) (run.held osrl_name) (record { files = run.file_faults; files_after = run.file_faults_after; written = run.written; written_after = run.written_after; write_faults = run.write_faults; write_faults_after = run.write_faults_after }) → Ends status run
-    go (in_full line about wrote unhurt) = checked (record {
+    go : EndsCheck status run osil_name osrl_name → RunEnds status run
+    go (in_full line about files sent) = checked (record {
       line = line;
       asked = asks_line status status run osil_name osrl_name line c about;
-      wrote = wrote;
+      sent = sent;
       untaken = c.untaken;
-      all_files_read = unhurt.0;
-      all_read = c.all_read;
-      all_written = unhurt.1;
+      all_files_read = files;
     })
-    go (unread is risen same writes) = read_fault is (inr (file_fault status run osil_name osrl_name c risen same writes))
-    go (unwritten due line is about told files failed) =
-        let part = part_of run.written run.written_after line told in
-        write_fault is (record {
-          text = line;
-          part = part.0;
-          due = inr (inr (record { status = due; asked = asks_line status due run osil_name osrl_name line c about; untaken = c.untaken; all_files_read = files }));
-          is_part = part.1;
-          wrote = part.2;
-          all_read = c.all_read;
-          failed = failed;
-        })
-    go (unmade is same unhurt) = without_memory is (inr (no_memory status run osil_name osrl_name c same unhurt.0 unhurt.1))
+    go (unread is risen same) = file_fault is (fault_of_file status run osil_name osrl_name c risen same)
+    go (unwritten due line is about files off) = unsent is (record {
+      text = line;
+      due = inr (record { status = due; asked = asks_line status due run osil_name osrl_name line c about; all_files_read = files });
+      breaks_off = off;
+      untaken = c.untaken;
+    })
+    go (unmade is files same) = unheard is (no_memory status run osil_name osrl_name c files same)
 
 -- what the bytes decide
 judged_by : (status : ℕ) (run : Run) (osil_name osrl_name osil osrl : List ℕ) → Checking status run osil_name osrl_name
-    → run.held osil_name ≡ Some osil → run.held osrl_name ≡ Some osrl → IsJudged status run osil osrl
+    → run.held osil_name ≡ Holds osil → run.held osrl_name ≡ Holds osrl → IsJudged status run osil osrl
 judged_by status run osil_name osrl_name osil osrl c first second = go c.ends
   where
-    go : CheckEnds status (run.held osil_name) (run.held osrl_name) (record { files = run.file_faults; files_after = run.file_faults_after; written = run.written; written_after = run.written_after; write_faults = run.write_faults; write_faults_after = run.write_faults_after }) → IsJudged status run osil osrl
-    go (in_full line about wrote unhurt) =
+    go : EndsCheck status run osil_name osrl_name → IsJudged status run osil osrl
+    go (in_full line about files sent) =
         let answers = about_told (run.held osil_name) (run.held osrl_name) status line osil osrl about first second in
         record {
-          accepted = λ k shown. let it = line_of_accepted osil osrl status line k shown answers in runs.in_full line it.0 it.1 wrote;
+          accepted = λ k shown. let it = line_of_accepted osil osrl status line k shown answers in runs.in_full line it.0 it.1 sent;
           accepted_only = says_accepted osil osrl status line answers;
-          refused = λ r text why says. let it = line_of_refused osil osrl status line r text why says answers in runs.in_full line it.0 it.1 wrote;
+          refused = λ r text why says. let it = line_of_refused osil osrl status line r text why says answers in runs.in_full line it.0 it.1 sent;
           refused_only = says_refused osil osrl status line answers;
         }
-    go (unread is risen same writes) =
-        let fault = file_fault status run osil_name osrl_name c risen same writes in
+    go (unread is risen same) =
+        let fault = fault_of_file status run osil_name osrl_name c risen same in
         record {
           accepted = λ k shown. runs.no_file is fault;
           accepted_only = λ zero. absurd (omega (arith, is, zero));
           refused = λ r text why says. runs.no_file is fault;
           refused_only = λ one. absurd (omega (arith, is, one));
         }
-    go (unwritten due line is about told files failed) =
+    go (unwritten due line is about files off) =
         let answers = about_told (run.held osil_name) (run.held osrl_name) due line osil osrl about first second in
-        let part = part_of run.written run.written_after line told in
         record {
-          accepted = λ k shown. runs.not_written line part.0 is (line_of_accepted osil osrl due line k shown answers).1 part.1 part.2;
+          accepted = λ k shown. runs.not_written line is (line_of_accepted osil osrl due line k shown answers).1 off;
           accepted_only = λ zero. absurd (omega (arith, is, zero));
-          refused = λ r text why says. runs.not_written line part.0 is (line_of_refused osil osrl due line r text why says answers).1 part.1 part.2;
+          refused = λ r text why says. runs.not_written line is (line_of_refused osil osrl due line r text why says answers).1 off;
           refused_only = λ one. absurd (omega (arith, is, one));
         }
-    go (unmade is same unhurt) =
-        let lacks = no_memory status run osil_name osrl_name c same unhurt.0 unhurt.1 in
+    go (unmade is files same) =
+        let lacks = no_memory status run osil_name osrl_name c files same in
         record {
           accepted = λ k shown. runs.no_memory is lacks;
           accepted_only = λ zero. absurd (omega (arith, is, zero));
@@ -174,14 +151,25 @@ judged_by status run osil_name osrl_name osil osrl c first second = go c.ends
           refused_only = λ one. absurd (omega (arith, is, one));
         }
 
-never_two : (status : ℕ) (run : Run) (osil_name osrl_name : List ℕ) → Checking status run osil_name osrl_name → status ≡ 2 → ⊥
-never_two status run osil_name osrl_name c two = go c.ends
-  where
-    go : CheckEnds status (run.held osil_name) (run.held osrl_name) (record { files = run.file_faults; files_after = run.file_faults_after; written = run.written; written_after = run.written_after; write_faults = run.write_faults; write_faults_after = run.write_faults_after }) → ⊥
-    go (in_full line about wrote unhurt) = zero_or_one about.osil about.osrl status line about.answers (inl two)
-    go (unread is risen same writes) = omega (arith, is, two)
-    go (unwritten due line is about told files failed) = omega (arith, is, two)
-    go (unmade is same unhurt) = omega (arith, is, two)
+never_two : (status : ℕ) (run : Run) (osil_name osrl_name : List ℕ) → EndsCheck status run osil_name osrl_name → status ≡ 2 → ⊥
+never_two status run osil_name osrl_name (in_full line about files sent) two = zero_or_one about.osil about.osrl status line about.answers (inl two)
+never_two status run osil_name osrl_name (unread is risen same) two = omega (arith, is, two)
+never_two status run osil_name osrl_name (unwritten due line is about files off) two = omega (arith, is, two)
+never_two status run osil_name osrl_name (unmade is files same) two = omega (arith, is, two)
+
+-- an answer is given where no file is told to be absent
+both_there : (status : ℕ) (run : Run) (osil_name osrl_name : List ℕ) → EndsCheck status run osil_name osrl_name → (status ≡ 0) ⊎ (status ≡ 1)
+    → MayBeThere run osil_name × MayBeThere run osrl_name
+both_there status run osil_name osrl_name (in_full line about files sent) which = (
+  may_be_there (run.held osil_name) about.osil about.instance_file,
+  may_be_there (run.held osrl_name) about.osrl about.result_file,
+)
+both_there status run osil_name osrl_name (unread is risen same) (inl zero) = absurd (omega (arith, is, zero))
+both_there status run osil_name osrl_name (unread is risen same) (inr one) = absurd (omega (arith, is, one))
+both_there status run osil_name osrl_name (unwritten due line is about files off) (inl zero) = absurd (omega (arith, is, zero))
+both_there status run osil_name osrl_name (unwritten due line is about files off) (inr one) = absurd (omega (arith, is, one))
+both_there status run osil_name osrl_name (unmade is files same) (inl zero) = absurd (omega (arith, is, zero))
+both_there status run osil_name osrl_name (unmade is files same) (inr one) = absurd (omega (arith, is, one))
 
 -- a check's words name two files, and no others, and aren't a session's
 abbrev first_name : Command → List ℕ
@@ -192,40 +180,28 @@ abbrev second_name : Command → List ℕ
 second_name Session = []
 second_name (Check osil osrl) = osrl
 
-abbrev IsSessionCommand : Command → Type 0
-IsSessionCommand Session = Unit {0}
-IsSessionCommand (Check osil osrl) = ⊥
-
-one_command : (o : Option Command) (a b : Command) → o ≡ Some a → o ≡ Some b → a ≡ b
-one_command o a b first second = same_command (sym first ∙ second)
-
-no_session : (words : List (List ℕ)) (osil osrl : List ℕ) → IsCheck words osil osrl → IsSession words → ⊥
-no_session words osil osrl check session = subst IsSessionCommand (one_command _ Session (Check osil osrl) session check) tt
+same_names : (words : List (List ℕ)) (a b c d : List ℕ) → IsCheck words a b → IsCheck words c d → Check a b ≡ Check c d
+same_names words a b c d first second = one_command _ (Check a b) (Check c d) first second
 
 -- a check of two files
 pub check_runs : (status : ℕ) (run : Run) (osil_name osrl_name : List ℕ) → IsCheck run.words osil_name osrl_name
-    → CheckEnds status (run.held osil_name) (run.held osrl_name) (record {
-      files = run.file_faults;
-      files_after = run.file_faults_after;
-      written = run.written;
-      written_after = run.written_after;
-      write_faults = run.write_faults;
-      write_faults_after = run.write_faults_after;
-    })
-    → run.left_after ≡ run.left → run.read_faults_after ≡ run.read_faults → Runs status run
-check_runs status run osil_name osrl_name check ends untaken reads =
-    let c : Checking status run osil_name osrl_name = record { check = check; ends = ends; untaken = untaken; all_read = reads } in
+    → EndsCheck status run osil_name osrl_name → IsUntaken run → Runs status run
+check_runs status run osil_name osrl_name check ends untaken =
+    let c : Checking status run osil_name osrl_name = record { check = check; ends = ends; untaken = untaken } in
     record {
       ends = ends_of status run osil_name osrl_name c;
       files = λ none. absurd (none osil_name osrl_name check);
       misused = (
-        λ two. absurd (never_two status run osil_name osrl_name c two),
+        λ two. absurd (never_two status run osil_name osrl_name ends two),
         λ all. absurd (some_or_none _ _ check all.0),
       );
-      decided = λ bytes session told. absurd (no_session run.words osil_name osrl_name check session);
       judged = λ a b osil osrl named first second.
-          let same = one_command _ (Check osil_name osrl_name) (Check a b) check named in
           judged_by status run osil_name osrl_name osil osrl c
-          (ap (λ (x : Command). run.held (first_name x)) same ∙ first)
-          (ap (λ (x : Command). run.held (second_name x)) same ∙ second);
+          (ap (λ (x : Command). run.held (first_name x)) (same_names run.words osil_name osrl_name a b check named) ∙ first)
+          (ap (λ (x : Command). run.held (second_name x)) (same_names run.words osil_name osrl_name a b check named) ∙ second);
+      there = λ a b named which.
+          let both = both_there status run osil_name osrl_name ends which in (
+            λ none. both.0 (ap (λ (x : Command). run.held (first_name x)) (same_names run.words osil_name osrl_name a b check named) ∙ none),
+            λ none. both.1 (ap (λ (x : Command). run.held (second_name x)) (same_names run.words osil_name osrl_name a b check named) ∙ none),
+          );
     }

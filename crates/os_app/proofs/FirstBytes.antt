@@ -1,6 +1,7 @@
 -- The first bytes of a file, one more than a document may have, say what the whole file says.
 use Rattle.std.proofs.Common.{◌≡◌, ◌∙◌, ℕ, zero, suc, ◌+◌, ◌≤◌, ◌<◌, ◌⊎◌, List, [], ◌∷◌, ◌++◌, length, take, drop, Option, Some, None, inl, inr, arith, refl, sym, ap, subst}
-use Rattle.std.specs.Prelude.{IfSome}
+use Rattle.std.proofs.lemmas.Bool.{cases_lt}
+use Rattle.os_io.specs.Files.{Held, Holds, NoFile, Untold, MayHold, ReadsFirst}
 use Rattle.std.proofs.lemmas.List.{take-append-drop, take_all, length-take-le, length-drop, append_assoc}
 use Rattle.tree_grammar.specs.Elements.{Element}
 use Rattle.document_tags.specs.Texts.{IsDocument, document_limit}
@@ -22,23 +23,14 @@ use Rattle.osrl_grammar.specs.Reading as osrl
 abbrev front : ℕ → List ℕ → List ℕ
 front limit bytes = take (limit + 1) bytes
 
-few_or_many : (n m : ℕ) → (m ≤ n) ⊎ (n < m)
-few_or_many zero zero = inl (omega arith)
-few_or_many zero (suc m) = inr (omega arith)
-few_or_many (suc n) zero = inl (omega arith)
-few_or_many (suc n) (suc m) = elim (few_or_many n m) [
-  | inl few ↦ inl (omega (arith, few))
-  | inr many ↦ inr (omega (arith, many))
-]
-
 -- where they are few they are all
 few_are_all : (limit : ℕ) (bytes : List ℕ) → length bytes ≤ limit → front limit bytes ≡ bytes
 few_are_all limit bytes few = take_all (limit + 1) bytes (omega (arith, few))
 
 front_is_all : (limit : ℕ) (bytes : List ℕ) → length (front limit bytes) ≤ limit → front limit bytes ≡ bytes
-front_is_all limit bytes short = elim (few_or_many limit (length bytes)) [
-  | inl few ↦ few_are_all limit bytes few
-  | inr many ↦ absurd (omega (arith, short, length-take-le (limit + 1) bytes (omega (arith, many))))
+front_is_all limit bytes short = elim (cases_lt limit (length bytes)) [
+  | inr few ↦ few_are_all limit bytes few
+  | inl many ↦ absurd (omega (arith, short, length-take-le (limit + 1) bytes (omega (arith, many))))
 ]
 
 -- ---- refusals of bytes
@@ -70,9 +62,9 @@ too_many limit bytes f many cut =
 
 refusal : (limit : ℕ) (bytes : List ℕ) (f : TreeFault) → IsRefusal limit (front limit bytes) f → IsRefusal limit bytes f
 refusal limit bytes f (inl r) = inl (refused_in limit bytes f r)
-refusal limit bytes f (inr cut) = elim (few_or_many limit (length bytes)) [
-  | inl few ↦ inr (subst (λ (b : List ℕ). IsCut limit b f) (few_are_all limit bytes few) cut)
-  | inr many ↦ absurd (too_many limit bytes f many cut)
+refusal limit bytes f (inr cut) = elim (cases_lt limit (length bytes)) [
+  | inr few ↦ inr (subst (λ (b : List ℕ). IsCut limit b f) (few_are_all limit bytes few) cut)
+  | inl many ↦ absurd (too_many limit bytes f many cut)
 ]
 
 -- ---- documents
@@ -133,7 +125,8 @@ front_shows bytes = record {
 }
 
 -- what a file holds, of which so much was read; where that isn't told, what was read
-pub file_of : (held : Option (List ℕ)) (text : List ℕ) → IfSome held (λ bytes. text ≡ take 4194305 bytes)
-    → (bytes : List ℕ) × IfSome held (λ h. h ≡ bytes) × Shows text bytes
-file_of None text is = (text, tt, shows_itself text)
-file_of (Some bytes) text is = (bytes, refl, subst (λ (t : List ℕ). Shows t bytes) (sym is) (front_shows bytes))
+pub file_of : (held : Held) (text : List ℕ) → ReadsFirst 4194305 held text
+    → (bytes : List ℕ) × MayHold held bytes × Shows text bytes
+file_of Untold text is = (text, tt, shows_itself text)
+file_of NoFile text is = absurd is
+file_of (Holds bytes) text is = (bytes, refl, subst (λ (t : List ℕ). Shows t bytes) (sym is) (front_shows bytes))

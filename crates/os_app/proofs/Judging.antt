@@ -1,12 +1,12 @@
 -- What is said of two files.
 use Rattle.std.proofs.Common.{◌≡◌, ◌∙◌, ℕ, ◌⊎◌, Bool, true, false, List, [], ◌∷◌, ◌++◌, Option, Some, None, Result, Ok, Err, inl, inr, refl, sym, ap, subst}
-use Rattle.std.specs.Prelude.{IfSome, IfOk, IfErr, is_ok, take}
-use Rattle.os_io.specs.Streams.{Told}
-use Rattle.http_link.specs.Responses.{Appends, AppendsPart}
+use Rattle.std.specs.Prelude.{IfOk, IfErr, is_ok}
+use Rattle.os_io.specs.Files.{Held, ReadsFirst}
 use Rattle.cert_checker.specs.declared.documents.Kind.{Kind}
 use Rattle.cert_checker.specs.declared.refused.Refused.{Refused}
 use Rattle.cert_checker.specs.Documents.{IsAcceptedText, DocsRefuse, NoInstance, NoReport, ResultRefuses, CheckRefuses}
-use Rattle.os_app.specs.Checks.{IsAnswerLine, IsAnswerTo, accepted, refused, status_of, IsAnswerAbout}
+use Rattle.os_app.specs.Checks.{IsAnswerLine, IsAnswerTo, accepted, refused, IsAnswerAbout}
+use Rattle.os_app.specs.Statuses.{check_status}
 use Rattle.os_app.proofs.FirstBytes.{Shows, file_of}
 
 -- what two texts say together, the files do that hold what they show
@@ -46,8 +46,8 @@ answer_to_files a b osil osrl status line first second (accepted k is is_yes say
 answer_to_files a b osil osrl status line first second (refused r is lacks says) = refused r is (refused_files a b osil osrl r first second lacks) says
 
 -- the answer to what was read is one about the files
-pub answer_about_files : (instance result : Option (List ℕ)) (a b : List ℕ) (status : ℕ) (line : List ℕ)
-    → IfSome instance (λ bytes. a ≡ take 4194305 bytes) → IfSome result (λ bytes. b ≡ take 4194305 bytes)
+pub answer_about_files : (instance result : Held) (a b : List ℕ) (status : ℕ) (line : List ℕ)
+    → ReadsFirst 4194305 instance a → ReadsFirst 4194305 result b
     → IsAnswerTo a b status line → IsAnswerAbout instance result status line
 answer_about_files instance result a b status line first second answers =
     let osil = file_of instance a first in
@@ -63,25 +63,19 @@ answer_about_files instance result a b status line first second answers =
 -- the line of an answer, with its status
 pub answer_to : (osil osrl : List ℕ) (answer : Result Kind Refused) (is_yes : Bool) (line : List ℕ)
     → is_yes ≡ is_ok answer → IfOk answer (IsAcceptedText osil osrl) → IfErr answer (DocsRefuse osil osrl)
-    → IsAnswerLine answer line → IsAnswerTo osil osrl (status_of is_yes) line
-answer_to osil osrl (Ok k) is_yes line is accepts refuses says = accepted k (ap status_of is) accepts says
-answer_to osil osrl (Err r) is_yes line is accepts refuses says = refused r (ap status_of is) refuses says
+    → IsAnswerLine answer line → IsAnswerTo osil osrl (check_status is_yes) line
+answer_to osil osrl (Ok k) is_yes line is accepts refuses says = accepted k (ap check_status is) accepts says
+answer_to osil osrl (Err r) is_yes line is accepts refuses says = refused r (ap check_status is) refuses says
 
 -- the same with another name for what is equal
 pub answer_of_texts : (a b x y : List ℕ) (status : ℕ) (line : List ℕ) → x ≡ a → y ≡ b → IsAnswerTo x y status line → IsAnswerTo a b status line
 answer_of_texts a b x y status line first second answers =
     subst (λ (t : List ℕ). IsAnswerTo t b status line) first (subst (λ (t : List ℕ). IsAnswerTo x t status line) second answers)
 
-pub held_still : (before after : List ℕ → Option (List ℕ)) (name text : List ℕ) → after ≡ before → IfSome (after name) (λ bytes. text ≡ take 4194305 bytes)
-    → IfSome (before name) (λ bytes. text ≡ take 4194305 bytes)
-held_still before after name text same is = subst (λ (held : List ℕ → Option (List ℕ)). IfSome (held name) (λ bytes. text ≡ take 4194305 bytes)) same is
+pub held_still : (before after : List ℕ → Held) (name text : List ℕ) → after ≡ before → ReadsFirst 4194305 (after name) text
+    → ReadsFirst 4194305 (before name) text
+held_still before after name text same is = subst (λ (held : List ℕ → Held). ReadsFirst 4194305 (held name) text) same is
 
-pub with_status : (instance result : Option (List ℕ)) (status due : ℕ) (line : List ℕ) → status ≡ due → IsAnswerAbout instance result due line
+pub with_status : (instance result : Held) (status due : ℕ) (line : List ℕ) → status ≡ due → IsAnswerAbout instance result due line
     → IsAnswerAbout instance result status line
 with_status instance result status due line is about = subst (λ (s : ℕ). IsAnswerAbout instance result s line) (sym is) about
-
-pub wrote_text : (x y : Option (List ℕ)) (out line : List ℕ) → out ≡ line → Told x y (Appends out) → Told x y (Appends line)
-wrote_text x y out line is told = subst (λ (t : List ℕ). Told x y (Appends t)) is told
-
-pub wrote_part : (x y : Option (List ℕ)) (out line : List ℕ) → out ≡ line → Told x y (AppendsPart out) → Told x y (AppendsPart line)
-wrote_part x y out line is told = subst (λ (t : List ℕ). Told x y (AppendsPart t)) is told

@@ -9,3 +9,4 @@ pub mod Deciding
 pub mod Sessions
 pub mod Checked
 pub mod FileWords
+pub mod OneReply

@@ -1,7 +1,8 @@
 //! Checks what two files say together.
 ghost use Rattle.std.specs.Prelude.{◌≡◌, IfOk};
-ghost use Rattle.os_io.specs.Files.{Counts};
-ghost use Rattle.os_app.specs.Checks.{IsAnswerAbout, IsAnswerLine, IsAnswerTo, status_of};
+ghost use Rattle.os_io.specs.Files.{CountsFiles};
+ghost use Rattle.os_app.specs.Checks.{IsAnswerAbout, IsAnswerLine, IsAnswerTo};
+ghost use Rattle.os_app.specs.Statuses.{check_status};
 
 use cert_checker::{Kind, Refused, answer_text, check_docs};
 use os_io::{FileFault, Files, Memory, Text};
@@ -28,7 +29,7 @@ fn line_of(alloc: Global, answer: &Result<Kind, Refused>) -> Result<Text, Memory
 
 /// What these bytes of two files say together.
 fn answer_to(alloc: Global, osil: &[u8], osrl: &[u8]) -> Result<Answer, Memory>
-    ensures { IfOk result (λ a. IsAnswerTo osil.now osrl.now (status_of a.is_accepted) a.line) }
+    ensures { IfOk result (λ a. IsAnswerTo osil.now osrl.now (check_status a.is_accepted) a.line) }
 {
     let answer = check_docs(alloc, osil, osrl);
     let line = line_of(alloc, &answer)?;
@@ -46,8 +47,8 @@ pub(crate) fn answer_about<F: Files>(
     osrl: &str,
 ) -> Result<Answer, FileFault>
     ensures held { F.held files.new ≡ F.held files.old }
-    ensures counted { Counts result (F.faults files.old) (F.faults files.new) }
-    ensures ok { IfOk result (λ a. IsAnswerAbout (F.held files.old osil.now) (F.held files.old osrl.now) (status_of a.is_accepted) a.line) }
+    ensures counted { CountsFiles result (F.faults files.old) (F.faults files.new) }
+    ensures ok { IfOk result (λ a. IsAnswerAbout (F.held files.old osil.now) (F.held files.old osrl.now) (check_status a.is_accepted) a.line) }
 {
     let instance = files.read_all(alloc, osil, MOST_BYTES)?;
     let result = files.read_all(alloc, osrl, MOST_BYTES)?;

@@ -1,20 +1,20 @@
 //! What the words of a call ask for.
-ghost use Rattle.std.specs.Prelude.{◌≡◌, map};
+ghost use Rattle.std.specs.Prelude.{◌≡◌, map, IfOk, OnErr};
+ghost use Rattle.std.specs.Process.{exit_status};
 ghost use Rattle.std.specs.String.{string_bytes};
-ghost use Rattle.http_session.specs.Session.{ServesOne, CountsReads, CountsWrites};
-ghost use Rattle.os_app.specs.Answers.{MayAnswer};
-ghost use Rattle.os_app.specs.Checks as checks;
+ghost use Rattle.os_io.specs.Streams.{SameInput, SameOutput};
 ghost use Rattle.os_app.specs.Checks.{CheckEnds};
 ghost use Rattle.os_app.specs.Runs.{Runs};
 ghost use Rattle.os_app.specs.Words.{IsNoCheck};
-ghost use Rattle.os_app.specs.Statuses.{status_of};
+ghost use Rattle.os_app.specs.Statuses.{check_status, session_status};
 
 use crate::checking::{Answer, answer_about};
 use crate::service::PlainSolver;
-use crate::words::{Asked, read, write_out, write_usage};
+use crate::words::{Asked, read, write_usage};
 use http_session::{Served, serve_one};
-use os_io::{Failed, FileFault, Files, Listener, Sink, Source};
+use os_io::{Failed, FileFault, Files, Listener, Memory, Sink, Source, send_all};
 use std::alloc::{AllocError, Global};
+use std::process::ExitCode;
 
 /// All was written.
 const DONE: u8 = 0;
@@ -32,14 +32,14 @@ const READ_FAULT: u8 = 3;
 const WRITE_FAULT: u8 = 4;
 
 /// There was no memory.
-pub(crate) const NO_MEMORY: u8 = 5;
+const NO_MEMORY: u8 = 5;
 
 /// The input ended inside a request.
 const CUT_SHORT: u8 = 8;
 
 /// The status of a session of one request.
-fn status_of(served: Served) -> u8
-    ensures { result ≡ status_of served }
+fn session_status(served: Served) -> u8
+    ensures { result ≡ session_status served }
 {
     match served {
         Served::Answered => DONE,
@@ -52,13 +52,13 @@ fn status_of(served: Served) -> u8
 }
 
 /// The status of an answer that was written.
-fn status_of_answer(answer: &Answer) -> u8
-    ensures { result ≡ checks.status_of answer.now.is_accepted }
+fn check_status(answer: &Answer) -> u8
+    ensures { result ≡ check_status answer.now.is_accepted }
 {
     if answer.is_accepted { DONE } else { NEGATIVE }
 }
 
-/// Checks the files of these names, writes the line that says what they say together, and says how it went.
+/// Checks the files of these names, sends the line that says what they say together, and says how it went.
 fn check_files<F: Files, O: Sink>(
     alloc: Global,
     files: &mut F,
@@ -67,20 +67,12 @@ fn check_files<F: Files, O: Sink>(
     osrl: &str,
 ) -> u8
     ensures held { F.held files.new ≡ F.held files.old }
-    ensures ends { CheckEnds result (F.held files.old osil.now) (F.held files.old osrl.now) (record {
-      files = F.faults files.old;
-      files_after = F.faults files.new;
-      written = O.written output.old;
-      written_after = O.written output.new;
-      write_faults = O.write_faults output.old;
-      write_faults_after = O.write_faults output.new;
-    }) }
-    ensures left { O.left output.new ≡ O.left output.old }
-    ensures read_faults { O.read_faults output.new ≡ O.read_faults output.old }
+    ensures ends { CheckEnds result (F.held files.old osil.now) (F.held files.old osrl.now) (F.faults files.old) (F.faults files.new) (O.tells output.old) (O.tells output.new) }
+    ensures input { SameInput (O.tells output.old) (O.tells output.new) }
 {
     match answer_about(alloc, files, osil, osrl) {
-        Ok(answer) => match write_out(output, answer.line.as_slice()) {
-            Ok(()) => status_of_answer(&answer),
+        Ok(answer) => match send_all(output, answer.line.as_slice()) {
+            Ok(()) => check_status(&answer),
             Err(Failed) => WRITE_FAULT,
         },
         Err(FileFault::Failed) => READ_FAULT,
@@ -88,12 +80,23 @@ fn check_files<F: Files, O: Sink>(
     }
 }
 
+/// The exit code of a run, by its status. Where there was no memory to begin it, it is that of no memory.
+pub(crate) fn exit_code(ran: Result<u8, Memory>) -> ExitCode
+    ensures ok { IfOk ran (λ status. exit_status result ≡ status) }
+    ensures err { OnErr ran (exit_status result ≡ 5) }
+{
+    match ran {
+        Ok(status) => ExitCode::from(status),
+        Err(AllocError) => ExitCode::from(NO_MEMORY),
+    }
+}
+
 /// Does what the words ask for, and says how it went. The words begin with the program's name. `session` reads one
 /// request from the input and writes its response to the output. `check` reads two files, an instance's document and a
 /// result document, and writes `accepted` and what is accepted, or `refused` and why, in a line.
 ///
-/// The status is 0 where all was written, 1 where `refused` was written, 2 where the words are no command and the usage
-/// was written, 3 where a read of the input or of a file failed, 4 where a write failed, 5 where there was no memory, and 8
+/// The status is 0 where all was written and handed on, 1 where `refused` was, 2 where the words are no command and the
+/// usage was, 3 where a read of the input or of a file failed, 4 where a write failed, 5 where there was no memory, and 8
 /// where the input ended inside a request. Where there was no memory to read the words or to check the files, nothing is
 /// taken and nothing written.
 pub fn run<F: Files, I: Source, O: Sink, N: Listener>(
@@ -109,25 +112,19 @@ pub fn run<F: Files, I: Source, O: Sink, N: Listener>(
       held = F.held files.old;
       file_faults = F.faults files.old;
       file_faults_after = F.faults files.new;
-      left = I.left input.old;
-      left_after = I.left input.new;
-      written = O.written output.old;
-      written_after = O.written output.new;
-      read_faults = I.read_faults input.old;
-      read_faults_after = I.read_faults input.new;
-      write_faults = O.write_faults output.old;
-      write_faults_after = O.write_faults output.new;
+      input = I.tells input.old;
+      input_after = I.tells input.new;
+      output = O.tells output.old;
+      output_after = O.tells output.new;
     }) }
-    ensures input_written { I.written input.new ≡ I.written input.old }
-    ensures input_writes { I.write_faults input.new ≡ I.write_faults input.old }
-    ensures output_left { O.left output.new ≡ O.left output.old }
-    ensures output_reads { O.read_faults output.new ≡ O.read_faults output.old }
+    ensures output_of_input { SameOutput (I.tells input.old) (I.tells input.new) }
+    ensures input_of_output { SameInput (O.tells output.old) (O.tells output.new) }
     ensures held { F.held files.new ≡ F.held files.old }
     ensures unread { IsNoCheck (map string_bytes words.now) → files.new ≡ files.old }
     ensures net { net.new ≡ net.old }
 {
     match read(alloc, words) {
-        Ok(Some(Asked::Session)) => status_of(serve_one(alloc, input, output, &PlainSolver)),
+        Ok(Some(Asked::Session)) => session_status(serve_one(alloc, input, output, &PlainSolver)),
         Ok(Some(Asked::Check { osil, osrl })) => check_files(alloc, files, output, osil, osrl),
         Ok(None) => match write_usage(output) {
             Ok(()) => MISUSED,

@@ -2,12 +2,10 @@
 //!
 //! `os_app session` reads one request from the standard input and writes its response to the standard output.
 //! `os_app check OSIL OSRL` reads an instance and a result from two files and says whether what is claimed is shown.
-//! [`run`](command::run) is the program over any input and output, and its contract says what each status means; `main`
-//! gives it the real ones.
+//! [`run`](command::run) is the program over any input and output, and its contract says what each status means. `main`
+//! gives it the real ones, and ends with its status, [`exit_code`](command::exit_code).
 #![tactic(auto)]
 
-#[cfg(test)]
-mod check_tests;
 mod checking;
 mod command;
 mod service;
@@ -16,7 +14,7 @@ mod solving;
 mod tests;
 mod words;
 
-use command::{NO_MEMORY, run};
+use command::{exit_code, run};
 use os_io::{DiskFiles, MemListener, Memory, StdSink, StdSource};
 use std::alloc::{AllocError, Global};
 use std::env;
@@ -51,8 +49,5 @@ fn start(rt: &HostRuntime) -> Result<u8, Memory> {
 }
 
 fn main(rt: HostRuntime) -> ExitCode {
-    match start(&rt) {
-        Ok(status) => ExitCode::from(status),
-        Err(_) => ExitCode::from(NO_MEMORY),
-    }
+    exit_code(start(&rt))
 }

@@ -1,11 +1,12 @@
 //! Answers the bodies of requests: each asks to solve a text.
-ghost use Rattle.std.specs.Prelude.{IfOk};
+ghost use Rattle.std.specs.Prelude.{◌≡◌, ℕ, List, IfOk};
+ghost use Rattle.http_session.specs.Session.{IsResponse};
 ghost use Rattle.os_app.specs.Answers.{IsTreeOf, Replies, SolverAnswers};
 
 use crate::solving::solve;
 use doc_tree::{TreeFault, read};
 use element_tree::Tree;
-use http_session::Service;
+use http_session::{Service, bytes_have_one_response};
 use os_io::{Memory, Text};
 use solve_call::{solve_reply, text_to_solve};
 use std::alloc::{AllocError, Global};
@@ -47,4 +48,11 @@ impl Service for PlainSolver {
             None => Ok(None),
         }
     }
+}
+
+/// Law: a request has one response.
+pub(crate) fn requests_have_one_response()
+    ensures { (bytes r s : List ℕ) → IsResponse SolverAnswers bytes r → IsResponse SolverAnswers bytes s → r ≡ s }
+{
+    bytes_have_one_response::<PlainSolver>();
 }

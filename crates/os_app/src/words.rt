@@ -1,15 +1,14 @@
 //! The words that the program is called with.
-ghost use Rattle.std.specs.Prelude.{◌≡◌, ◌↔◌, ℕ, List, [], ◌∷◌, codes, IfOk, OnOk, OnErr, map, option_and_then, option_map};
+ghost use Rattle.std.specs.Prelude.{◌≡◌, ◌↔◌, ℕ, List, [], ◌∷◌, codes, IfOk, map, option_and_then, option_map};
 ghost use Rattle.std.specs.String.{string_bytes};
-ghost use Rattle.os_io.specs.Streams.{Told, HasRisen};
-ghost use Rattle.http_link.specs.Responses.{Appends, AppendsPart};
+ghost use Rattle.os_io.specs.Streams.{Sends};
 ghost use Rattle.clap.specs.Words.{app_of, found_of, rows_of, subcommand_rows_of};
 ghost use Rattle.os_app.specs.Runs.{usage};
 ghost use Rattle.os_app.specs.Words.{HasSessionWords, IsCheck, IsSession, asked_by, asks, files_of, meant, program};
 
 use clap::error::ErrorKind;
 use clap::{Arg, ArgMatches, Command};
-use os_io::{Failed, Memory, Sink, write_all};
+use os_io::{Failed, Memory, Sink, send_all};
 use std::alloc::{AllocError, Global};
 
 /// How the program is called.
@@ -85,27 +84,9 @@ pub(crate) fn any_words_name_files()
     ensures { (name osil osrl : List ℕ) → IsCheck (name ∷ codes "check" ∷ codes "--" ∷ osil ∷ osrl ∷ []) osil osrl }
 {}
 
-/// Writes a text, and hands it on.
-pub(crate) fn write_out<O: Sink>(output: &mut O, text: &[u8]) -> Result<(), Failed>
-    ensures ok { OnOk result (Told (O.written output.old) (O.written output.new) (Appends text.now)) }
-    ensures prefix { OnErr result (Told (O.written output.old) (O.written output.new) (AppendsPart text.now)) }
-    ensures failed { OnErr result (HasRisen (O.write_faults output.old) (O.write_faults output.new)) }
-    ensures counted { OnOk result (O.write_faults output.new ≡ O.write_faults output.old) }
-    ensures left { O.left output.new ≡ O.left output.old }
-    ensures read_faults { O.read_faults output.new ≡ O.read_faults output.old }
-{
-    write_all(output, text)?;
-    output.flush()
-}
-
 /// Writes how the program is called.
 pub(crate) fn write_usage<O: Sink>(output: &mut O) -> Result<(), Failed>
-    ensures ok { OnOk result (Told (O.written output.old) (O.written output.new) (Appends usage)) }
-    ensures prefix { OnErr result (Told (O.written output.old) (O.written output.new) (AppendsPart usage)) }
-    ensures failed { OnErr result (HasRisen (O.write_faults output.old) (O.write_faults output.new)) }
-    ensures counted { OnOk result (O.write_faults output.new ≡ O.write_faults output.old) }
-    ensures left { O.left output.new ≡ O.left output.old }
-    ensures read_faults { O.read_faults output.new ≡ O.read_faults output.old }
+    ensures { Sends result usage (O.tells output.old) (O.tells output.new) }
 {
-    write_out(output, USAGE)
+    send_all(output, USAGE)
 }
