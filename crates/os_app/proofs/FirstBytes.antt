@@ -15,8 +15,8 @@ use Rattle.osil_grammar.specs.Reading.{IsInstanceText}
 use Rattle.osil_grammar.specs.Reading as osil
 use Rattle.osrl_grammar.specs.declared.report.Report.{Report}
 use Rattle.osrl_grammar.specs.declared.fault.OsrlFault.{OsrlFault}
-use Rattle.osrl_grammar.specs.declared.fault.OsrlFault.TheVariants as results
-use Rattle.osrl_grammar.specs.Meaning.{IsReportText, IsRefusedText}
+use Rattle.document_tags.specs.Documents.{TreeFails}
+use Rattle.osrl_grammar.specs.Reading.{IsReportText}
 use Rattle.osrl_grammar.specs.Reading as osrl
 
 -- so many bytes, and one more
@@ -78,31 +78,18 @@ document bytes root d = subst (λ (b : List ℕ). IsDocument b root) (front_is_a
 no_document : (bytes : List ℕ) → ((root : Element) → IsDocument (read bytes) root → ⊥) → (root : Element) → IsDocument bytes root → ⊥
 no_document bytes none root d = none root (subst (λ (b : List ℕ). IsDocument b root) (sym (few_are_all document_limit bytes d.short)) d)
 
-tree_fails : (bytes : List ℕ) (f : TreeFault) → osrl.TreeFails (read bytes) f → osrl.TreeFails bytes f
-tree_fails bytes f (refused, none) = (refusal document_limit bytes f refused, no_document bytes none)
+tree_fails : (bytes : List ℕ) (f : TreeFault) → TreeFails (read bytes) f → TreeFails bytes f
+tree_fails bytes f h = record { refusal = refusal document_limit bytes f h.refusal; none = no_document bytes h.none }
 
 no_instance : (bytes : List ℕ) (f : OsilFault) → osil.DecodeFails (read bytes) f → osil.DecodeFails bytes f
 no_instance bytes (instances.Tree f) (refused, none) = (refusal document_limit bytes f refused, no_document bytes none)
 no_instance bytes (instances.Refused r n) text = record { root = text.root; document = document bytes text.root text.document; refused = text.refused }
 no_instance bytes instances.Memory fails = tt
 
-refused_result : (bytes : List ℕ) (f : OsrlFault) → IsRefusedText (read bytes) f → IsRefusedText bytes f
-refused_result bytes f text = record { root = text.root; document = document bytes text.root text.document; refused = text.refused }
-
 no_report : (bytes : List ℕ) (f : OsrlFault) → osrl.DecodeFails (read bytes) f → osrl.DecodeFails bytes f
-no_report bytes (results.Tree (trees.Malformed at)) fails = tree_fails bytes (trees.Malformed at) fails
-no_report bytes (results.Tree (trees.Doctype at)) fails = tree_fails bytes (trees.Doctype at) fails
-no_report bytes (results.Tree trees.Encoding) fails = tree_fails bytes trees.Encoding fails
-no_report bytes (results.Tree (trees.Deep at)) fails = tree_fails bytes (trees.Deep at) fails
-no_report bytes (results.Tree trees.Long) fails = tree_fails bytes trees.Long fails
-no_report bytes (results.Tree trees.Memory) fails = fails
-no_report bytes results.Root fails = refused_result bytes results.Root fails
-no_report bytes results.Missing fails = refused_result bytes results.Missing fails
-no_report bytes (results.Item n) fails = refused_result bytes (results.Item n) fails
-no_report bytes results.Count fails = refused_result bytes results.Count fails
-no_report bytes (results.Number n) fails = refused_result bytes (results.Number n) fails
-no_report bytes (results.Wide n) fails = refused_result bytes (results.Wide n) fails
-no_report bytes results.Memory fails = tt
+no_report bytes f (inl none) = inl none
+no_report bytes f (inr (inl (t, is, fails))) = inr (inl (t, is, tree_fails bytes t fails))
+no_report bytes f (inr (inr text)) = inr (inr (record { root = text.root; document = document bytes text.root text.document; is = text.is }))
 
 -- ---- files
 
@@ -119,7 +106,7 @@ shows_itself text = record { instance = λ p is. is; report = λ r is. is; no_in
 front_shows : (bytes : List ℕ) → Shows (read bytes) bytes
 front_shows bytes = record {
   instance = λ p text. record { root = text.root; document = document bytes text.root text.document; accepted = text.accepted; means = text.means };
-  report = λ r text. record { root = text.root; document = document bytes text.root text.document; report = text.report };
+  report = λ r text. record { root = text.root; document = document bytes text.root text.document; is = text.is };
   no_instance = no_instance bytes;
   no_report = no_report bytes;
 }

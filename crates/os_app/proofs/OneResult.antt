@@ -1,8 +1,9 @@
 -- A text decides its result document.
 use Rattle.std.proofs.Common.{◌≡◌, ◌∙◌, ℕ, List, inl, inr, ap, ap₂, sym, subst}
+use Rattle.std.specs.Prelude.{codes}
 use Rattle.document_tags.specs.Texts.{document_limit}
 use Rattle.doc_tree.specs.declared.fault.TreeFault.{TreeFault}
-use Rattle.doc_tree.specs.declared.fault.TreeFault.TheVariants as trees
+use Rattle.document_tags.proofs.FaultTexts.{tree_text_once}
 use Rattle.doc_tree.proofs.OneRefusal.{one_refusal}
 use Rattle.instance.specs.Parts.{Parts}
 use Rattle.certificate.specs.declared.claims.Claim.{Claim}
@@ -53,19 +54,10 @@ result_of_refusal text r n s refused (inr a) = a.written ∙ ap (λ (m : List �
         is ∙ ap₂ refusal_text both.0 both.1
     says Memory m fails is = absurd is
 
--- the text of why bytes are no document
-tree_text_once : (f : TreeFault) (m n : List ℕ) → IsTreeText f m → IsTreeText f n → m ≡ n
-tree_text_once (trees.Malformed at) m n a b = a ∙ sym b
-tree_text_once (trees.Doctype at) m n a b = a ∙ sym b
-tree_text_once trees.Encoding m n a b = a ∙ sym b
-tree_text_once (trees.Deep at) m n a b = a ∙ sym b
-tree_text_once trees.Long m n a b = a ∙ sym b
-tree_text_once trees.Memory m n a b = absurd a
-
 -- a text that is no document is refused by one text
 no_document_once : (text : List ℕ) (f : TreeFault) (m : List ℕ) → DecodeFails text (Tree f) → IsTreeText f m → (g : OsilFault) (n : List ℕ) → DecodeFails text g → IsFaultText g n → m ≡ n
 no_document_once text f m fails is (Tree g) n b y =
-    tree_text_once g m n (subst (λ (h : TreeFault). IsTreeText h m) (one_refusal document_limit text f g fails.0 b.0) is) y
+    tree_text_once (codes "osil") g m n (subst (λ (h : TreeFault). IsTreeText h m) (one_refusal document_limit text f g fails.0 b.0) is) y
 no_document_once text f m fails is (Refused q at) n b y = absurd (fails.1 b.root b.document)
 no_document_once text f m fails is Memory n b y = absurd y
 
