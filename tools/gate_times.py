@@ -12,6 +12,7 @@ import time
 TICKS = os.sysconf("SC_CLK_TCK")
 BECOME_PARENT_OF_ORPHANS = 36  # PR_SET_CHILD_SUBREAPER: so that every process of the gate stays below this one
 KINDS = ("proof", "tests", "edits")
+KEPT = "--kept"
 
 
 def processes():
@@ -55,7 +56,8 @@ def task_of(pid):
 
 def run(names, folder):
     """Runs the gate there; its status, and the ticks of each task."""
-    gate = subprocess.Popen(["rt", "ci", "--anew", *names], cwd=folder, stdout=sys.stderr)
+    words = [name for name in names if name != KEPT]
+    gate = subprocess.Popen(["rt", "ci", *([] if KEPT in names else ["--anew"]), *words], cwd=folder, stdout=sys.stderr)
     ticks, tasks = {}, {}
     while gate.poll() is None:
         found = processes()
