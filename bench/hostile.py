@@ -112,7 +112,7 @@ DOCUMENTS = [
     ("characters of four bytes", filled("<a>", "\U0010fffd", "</a>"), "accepted"),
     ("digits of the version", filled("<?xml version='1.", "0", "'?><a/>"), "accepted"),
     ("one letter", filled("<a>", "x", "</a>"), "accepted"),
-    ("an element that never ends", filled("", "<a></a", ""), "refused Malformed"),
+    ("an element that never ends", filled("<a>", "x", ""), "refused Malformed"),
 ]
 
 VARIABLE = "<variables><var/></variables>"
