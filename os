@@ -5,6 +5,8 @@ crate=$here/crates/os_app
 program=$crate/out/os_app
 if [ ! -x "$program" ] || [ -n "$(find "$here/crates.txt" "$here/crates" -name out -prune -o -type f -newer "$program" -print)" ]; then
     mkdir -p "$crate/out"
+    # Crates that don't stand on one another are proved side by side. What fails here is told by the build below.
+    (cd "$here" && rt all check --jobs "$(nproc)" >"$crate/out/crates.log" 2>&1)
     # An empty input ends a session at once, with status 0.
     if ! (cd "$crate" && rt run -- session </dev/null >out/build.log 2>&1); then
         echo "os: not built: $crate/out/build.log says why" >&2

@@ -58,6 +58,7 @@ impl Numbers {
         match digits {
             "small" => (self.next() % 999) as i128 + 1,
             "middle" => (self.next() % 999_999_999_999_999) as i128 + 1,
+            "mixed" => (self.next() % 99) as i128 + 1,
             _ => {
                 let high = (self.next() % 0x8000) as i128;
                 let middle = (self.next() % 0x1_0000_0000) as i128;
@@ -67,9 +68,33 @@ impl Numbers {
         }
     }
 
-    fn with_sign(&mut self, digits: &str) -> i128 {
-        let size = self.of(digits);
+    fn with_sign(&mut self, size: i128) -> i128 {
         if self.next() % 2 == 0 { size } else { -size }
+    }
+
+    /// A numerator and a denominator, which at `large` is the shared one.
+    fn parts(&mut self, digits: &str, shared: i128) -> (i128, i128) {
+        if digits == "mixed" {
+            return self.mixed();
+        }
+        let size = self.of(digits);
+        let n = self.with_sign(size);
+        (n, if digits == "large" { shared } else { self.of(digits) })
+    }
+
+    /// A whole number, a half or a third of 2 digits, and one time in ten both parts of 10 digits at most.
+    fn mixed(&mut self) -> (i128, i128) {
+        let kind = self.next() % 10;
+        let most = if kind == 9 { 9_999_999_999 } else { 99 };
+        let size = (self.next() % most) as i128 + 1;
+        let n = self.with_sign(size);
+        let d = match kind {
+            0..=3 => 1,
+            4..=6 => 2,
+            7..=8 => 3,
+            _ => (self.next() % most) as i128 + 1,
+        };
+        (n, d)
     }
 }
 
@@ -79,8 +104,7 @@ fn operands(digits: &str, seed: u64, count: u32, is_turned: bool) -> Vec<Frac> {
     let mut numbers = Numbers(seed);
     (0..count)
         .map(|place| {
-            let n = numbers.with_sign(digits);
-            let d = if digits == "large" { both[place as usize % 2] } else { numbers.of(digits) };
+            let (n, d) = numbers.parts(digits, both[place as usize % 2]);
             if is_turned { Frac::of(d, n) } else { Frac::of(n, d) }.expect("both parts are small")
         })
         .collect()
@@ -123,7 +147,7 @@ fn main() {
         let line = line.expect("a line");
         let words: Vec<&str> = line.split(' ').collect();
         match words[..] {
-            [digits @ ("small" | "middle" | "large"), operation @ ("sum" | "product"), count, rounds] => {
+            [digits @ ("small" | "middle" | "mixed" | "large"), operation @ ("sum" | "product"), count, rounds] => {
                 let (sum, wide) = run(digits, operation, count.parse().expect("a count"), rounds.parse().expect("a count"));
                 println!("{line}: {sum} wide {wide}");
             }

@@ -12,6 +12,8 @@ pub enum Digits {
     Middle,
     /// 120 bits, over one of two denominators, so that half of the pairs have a result that fits.
     Large,
+    /// As in a simplex tableau: whole numbers, halves and thirds of 2 digits, and one in ten with both parts of 10 digits at most.
+    Mixed,
 }
 
 /// The numbers of Knuth's linear congruential generator of 64 bits.
@@ -54,13 +56,42 @@ impl Numbers {
             Digits::Small => self.up_to(999),
             Digits::Middle => self.up_to(999_999_999_999_999),
             Digits::Large => self.wide(),
+            Digits::Mixed => self.up_to(99),
         }
     }
 
     /// Below 0 every other time.
-    fn with_sign(&mut self, digits: Digits) -> i128 {
-        let size = self.of(digits);
+    fn with_sign(&mut self, size: i128) -> i128
+        requires { pos 0 <ℤ size }
+    {
         if self.next() % 2 == 0 { size } else { -size }
+    }
+
+    /// A numerator and a denominator, which at `Large` is the shared one.
+    fn parts(&mut self, digits: Digits, shared: i128) -> (i128, i128) {
+        if digits == Digits::Mixed {
+            return self.mixed();
+        }
+        let size = self.of(digits);
+        let n = self.with_sign(size);
+        match digits {
+            Digits::Large => (n, shared),
+            _ => (n, self.of(digits)),
+        }
+    }
+
+    fn mixed(&mut self) -> (i128, i128) {
+        let kind = self.next() % 10;
+        let most = if kind == 9 { 9_999_999_999 } else { 99 };
+        let size = self.up_to(most);
+        let n = self.with_sign(size);
+        let d = match kind {
+            0..=3 => 1,
+            4..=6 => 2,
+            7..=8 => 3,
+            _ => self.up_to(most),
+        };
+        (n, d)
     }
 }
 
@@ -78,12 +109,8 @@ pub fn operands(
     let mut numbers = Numbers { state: seed };
     let mut list = Vec::new(alloc);
     for place in 0..count {
-        let n = numbers.with_sign(digits);
-        let d = match digits {
-            Digits::Large if place % 2 == 0 => first,
-            Digits::Large => second,
-            _ => numbers.of(digits),
-        };
+        let shared = if place % 2 == 0 { first } else { second };
+        let (n, d) = numbers.parts(digits, shared);
         list.push(quotient(n, d, is_turned))?;
     }
     Ok(list)

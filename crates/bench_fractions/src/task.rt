@@ -32,6 +32,7 @@ pub fn read(line: &str) -> Option<Task> {
         "small" => Digits::Small,
         "middle" => Digits::Middle,
         "large" => Digits::Large,
+        "mixed" => Digits::Mixed,
         _ => return None,
     };
     let operation = match words.next()? {

@@ -7,9 +7,9 @@ use Rattle.instance.specs.Program.{program}
 use Rattle.instance.proofs.Numbers.{program-instance}
 use Rattle.certificate.specs.declared.claims.Claim.{Claim}
 use Rattle.certificate.specs.Means as Means
-use Rattle.osil_grammar.specs.InstanceText.{IsInstanceText}
+use Rattle.osil_grammar.specs.Reading.{IsInstanceText}
 use Rattle.osil_grammar.proofs.OneInstance.{text_means_once}
-use Rattle.osrl_grammar.specs.Meaning.{IsReportText}
+use Rattle.osrl_grammar.specs.Reading.{IsReportText}
 use Rattle.osrl_grammar.specs.declared.report.Report.{Report}
 use Rattle.osrl_grammar.proofs.OneReport.{report_text_once}
 use Rattle.cert_checker.specs.declared.documents.Kind.{Kind}

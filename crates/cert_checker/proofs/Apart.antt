@@ -6,13 +6,10 @@ use Rattle.instance.specs.Parts.{Parts}
 use Rattle.instance.specs.Program.{program}
 use Rattle.certificate.specs.declared.claims.Claim.{Claim}
 use Rattle.certificate.specs.Means as Means
-use Rattle.osil_grammar.specs.InstanceText.{IsInstanceText}
-use Rattle.osil_grammar.specs.Reading.{DecodeFails, refusal}
-use Rattle.osil_grammar.specs.declared.fault.OsilFault.{OsilFault}
-use Rattle.osil_grammar.specs.declared.fault.OsilFault.TheVariants.{Tree, Refused as Told, Memory}
+use Rattle.osil_grammar.specs.Reading.{IsInstanceText}
 use Rattle.osil_grammar.proofs.OneInstance.{text_means_once}
-use Rattle.osil_grammar.proofs.OneRefusal.{text_not_both}
-use Rattle.osrl_grammar.specs.Meaning.{IsReportText}
+use Rattle.osil_grammar.proofs.OneFault.{never_both}
+use Rattle.osrl_grammar.specs.Reading.{IsReportText}
 use Rattle.osrl_grammar.specs.declared.report.Report.{Report}
 use Rattle.osrl_grammar.proofs.OneReport.{report_text_once}
 use Rattle.osrl_grammar.proofs.OneRefusal.{refusal_apart}
@@ -23,13 +20,8 @@ use Rattle.cert_checker.specs.Refusals.{IsRefused}
 use Rattle.cert_checker.specs.Documents.{ClaimRefuses, NoInstance, NoReport, CheckRefuses, IsAcceptedText, DocsRefuse}
 use Rattle.cert_checker.proofs.Refusing.{not_accepted}
 
-fails_apart : (osil : List ℕ) (p : Parts) (f : OsilFault) → IsInstanceText osil p → DecodeFails osil f → f ≡ Memory
-fails_apart osil p (Tree f) is h = absurd (h.1 is.root is.document)
-fails_apart osil p (Told f at) is h = absurd (text_not_both osil p (refusal f) at is h)
-fails_apart osil p Memory is h = refl
-
 pub no_instance : (osil : List ℕ) (p : Parts) (r : Refused) → IsInstanceText osil p → NoInstance osil r → ⊥
-no_instance osil p r is h = h.told (fails_apart osil p h.fault is h.fails)
+no_instance osil p r is h = h.told (never_both osil p h.fault is h.fails)
 
 pub no_report : (osrl : List ℕ) (report : Report) (r : Refused) → IsReportText osrl report → NoReport osrl r → ⊥
 no_report osrl report r said h = h.told (refusal_apart osrl report h.fault said h.fails)

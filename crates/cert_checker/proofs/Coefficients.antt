@@ -13,21 +13,11 @@ use Rattle.evidence.proofs.Rows.{entry_filter}
 use Rattle.instance.specs.declared.parts.Var.{Var}
 use Rattle.instance.specs.Parts.{Parts, IsValid}
 use Rattle.instance.specs.Program.{entry, entries}
+use Rattle.instance.proofs.RowSums.{row_of, entries_filter}
 use Rattle.cert_checker.specs.Cuts.{cut}
 use Rattle.cert_checker.specs.Slots.{slot_at, IsStep}
 use Rattle.cert_checker.proofs.Adding.{set_apart, nothing}
 use Rattle.cert_checker.proofs.Widths.{width_is}
-
-abbrev row_of : List Entry → ℕ → List Entry
-row_of es i = filter (λ e. nat_eq e.row i) es
-
-entries_filter : (es : List Entry) (i : ℕ) → entries (row_of es i) ≡ filter (λ e. nat_eq e.row i) (entries es)
-entries_filter [] i = refl
-entries_filter (e ∷ es) i = head (nat_eq e.row i) (entries_filter es i)
-  where
-    head : (b : Bool) → entries (row_of es i) ≡ filter (λ e. nat_eq e.row i) (entries es) → entries (cond b (e ∷ row_of es i) (row_of es i)) ≡ cond b (entry e ∷ filter (λ e. nat_eq e.row i) (entries es)) (filter (λ e. nat_eq e.row i) (entries es))
-    head true q = ap (λ l. entry e ∷ l) q
-    head false q = q
 
 pub of_one_row : (es row : List Entry) (i : ℕ) → row ≡ row_of es i → All (λ e. e.row ≡ i) row
 of_one_row es row i is = subst (λ l. All (λ e. e.row ≡ i) l) (sym is) (λ k d h. eqb-true _ i (filter_passes (λ e. nat_eq e.row i) es k d h))

@@ -1,20 +1,13 @@
 -- Documents have one answer, in one text.
 use Rattle.std.proofs.Common.{◌≡◌, ◌∙◌, ℕ, Option, None, Some, Result, Ok, Err, List, inl, inr, ap, sym, subst}
 use Rattle.std.specs.Prelude.{MatchResult, codes}
-use Rattle.doc_tree.specs.declared.fault.TreeFault.{TreeFault}
-use Rattle.doc_tree.proofs.OneRefusal.{one_refusal}
 use Rattle.evidence.specs.Instance as Of
 use Rattle.instance.specs.Parts.{Parts}
 use Rattle.instance.specs.Program.{program}
 use Rattle.certificate.specs.declared.claims.Claim.{Claim}
 use Rattle.certificate.specs.Means as Means
-use Rattle.osil_grammar.specs.Refusals.{Refusal}
-use Rattle.osil_grammar.specs.Texts.{refusal_text}
-use Rattle.osil_grammar.specs.Reading as instances
-use Rattle.osil_grammar.specs.declared.fault.OsilFault.{OsilFault}
-use Rattle.osil_grammar.specs.declared.fault.OsilFault.TheVariants as instance_faults
 use Rattle.osil_grammar.proofs.OneInstance.{text_means_once}
-use Rattle.osil_grammar.proofs.OneRefusal.{text_refused_once}
+use Rattle.osil_grammar.proofs.OneFault.{told_once}
 use Rattle.osrl_grammar.specs.declared.report.Report.{Report}
 use Rattle.osrl_grammar.proofs.OneReport.{report_text_once}
 use Rattle.osrl_grammar.proofs.OneRefusal.{refusal_once}
@@ -26,26 +19,13 @@ use Rattle.cert_checker.specs.Texts.{kind_name, IsRefusedText, IsAnswerText}
 use Rattle.cert_checker.proofs.Accepted.{one_kind}
 use Rattle.cert_checker.proofs.Apart.{no_instance, no_report, accepted_apart}
 use Rattle.cert_checker.proofs.OneReason.{reason_once}
-use Rattle.cert_checker.proofs.OneText.{instance_told, same_quote, reason_told}
-
--- an instance's document is refused in one text
-fault_once : (osil : List ℕ) (f g : OsilFault) (s t : List ℕ) → instances.DecodeFails osil f → instances.DecodeFails osil g → instances.IsFaultText f s → instances.IsFaultText g t → s ≡ t
-fault_once osil (instance_faults.Tree f) (instance_faults.Tree g) s t h k a b =
-    let same : f ≡ g = one_refusal _ osil f g h.0 k.0 in
-    instance_told (instance_faults.Tree g) s t (subst (λ (e : TreeFault). instances.IsTreeText e s) same a) b
-fault_once osil (instance_faults.Tree f) (instance_faults.Refused q m) s t h k a b = absurd (h.1 k.root k.document)
-fault_once osil (instance_faults.Refused r n) (instance_faults.Tree g) s t h k a b = absurd (k.1 h.root h.document)
-fault_once osil (instance_faults.Refused r n) (instance_faults.Refused q m) s t h k a b =
-    let same = text_refused_once osil (instances.refusal r) (instances.refusal q) n m h k in
-    a ∙ ap (λ (x : Refusal). refusal_text x n) same.0 ∙ ap (refusal_text (instances.refusal q)) same.1 ∙ sym b
-fault_once osil instance_faults.Memory g s t h k a b = absurd a
-fault_once osil f instance_faults.Memory s t h k a b = absurd b
+use Rattle.cert_checker.proofs.OneText.{same_quote, reason_told}
 
 instance_once : (osil : List ℕ) (r s : Refused) (t u : List ℕ) → NoInstance osil r → NoInstance osil s → IsRefusedText r t → IsRefusedText s u → t ≡ u
 instance_once osil r s t u h k a b =
     let first : IsRefusedText (reasons.Instance h.fault) t = subst (λ (q : Refused). IsRefusedText q t) h.is a in
     let second : IsRefusedText (reasons.Instance k.fault) u = subst (λ (q : Refused). IsRefusedText q u) k.is b in
-    same_quote (codes "Instance") first.0 second.0 t u (fault_once osil h.fault k.fault first.0 second.0 h.fails k.fails first.1 second.1) first.2 second.2
+    same_quote (codes "Instance") first.0 second.0 t u (told_once osil h.fault k.fault first.0 second.0 h.fails k.fails first.1 second.1) first.2 second.2
 
 report_once : (osrl : List ℕ) (r s : Refused) → NoReport osrl r → NoReport osrl s → r ≡ s
 report_once osrl r s h k = h.is ∙ ap reasons.Result (refusal_once osrl h.fault k.fault h.told k.told h.fails k.fails) ∙ sym k.is

@@ -1,8 +1,7 @@
 -- A reason has one text.
 use Rattle.std.proofs.Common.{◌≡◌, ◌∙◌, ℕ, List, ap, sym}
 use Rattle.std.specs.Prelude.{codes}
-use Rattle.doc_tree.specs.declared.fault.TreeFault.{TreeFault}
-use Rattle.doc_tree.specs.declared.fault.TreeFault.TheVariants as trees
+use Rattle.document_tags.proofs.FaultTexts.{tree_text_once}
 use Rattle.osil_grammar.specs.Reading as instances
 use Rattle.osil_grammar.specs.declared.fault.OsilFault.{OsilFault}
 use Rattle.osil_grammar.specs.declared.fault.OsilFault.TheVariants as instance_faults
@@ -13,29 +12,13 @@ use Rattle.cert_checker.specs.declared.refused.Refused.{Refused}
 use Rattle.cert_checker.specs.declared.refused.Refused.TheVariants.{NotFeasible, Tree, Sign, Form, Sum, Value, Direction, NoClaim, Wide, Instance, Result as NoResult, Memory}
 use Rattle.cert_checker.specs.Texts.{quoted, IsRefusedText}
 
-instance_tree : (f : TreeFault) (s t : List ℕ) → instances.IsTreeText f s → instances.IsTreeText f t → s ≡ t
-instance_tree (trees.Malformed at) s t h k = h ∙ sym k
-instance_tree (trees.Doctype at) s t h k = h ∙ sym k
-instance_tree trees.Encoding s t h k = h ∙ sym k
-instance_tree (trees.Deep at) s t h k = h ∙ sym k
-instance_tree trees.Long s t h k = h ∙ sym k
-instance_tree trees.Memory s t h k = absurd h
-
 pub instance_told : (f : OsilFault) (s t : List ℕ) → instances.IsFaultText f s → instances.IsFaultText f t → s ≡ t
-instance_told (instance_faults.Tree f) s t h k = instance_tree f s t h k
+instance_told (instance_faults.Tree f) s t h k = tree_text_once (codes "osil") f s t h k
 instance_told (instance_faults.Refused r at) s t h k = h ∙ sym k
 instance_told instance_faults.Memory s t h k = absurd h
 
-result_tree : (f : TreeFault) (s t : List ℕ) → results.IsTreeText f s → results.IsTreeText f t → s ≡ t
-result_tree (trees.Malformed at) s t h k = h ∙ sym k
-result_tree (trees.Doctype at) s t h k = h ∙ sym k
-result_tree trees.Encoding s t h k = h ∙ sym k
-result_tree (trees.Deep at) s t h k = h ∙ sym k
-result_tree trees.Long s t h k = h ∙ sym k
-result_tree trees.Memory s t h k = absurd h
-
 pub result_told : (f : OsrlFault) (s t : List ℕ) → results.IsFaultText f s → results.IsFaultText f t → s ≡ t
-result_told (result_faults.Tree f) s t h k = result_tree f s t h k
+result_told (result_faults.Tree f) s t h k = tree_text_once (codes "osrl") f s t h k
 result_told result_faults.Root s t h k = h ∙ sym k
 result_told result_faults.Missing s t h k = h ∙ sym k
 result_told (result_faults.Item n) s t h k = h ∙ sym k

@@ -1,8 +1,11 @@
 -- What two documents are accepted or refused for, once each is read.
-use Rattle.std.proofs.Common.{◌≡◌, ℕ, List, ◌⊎◌, inl, inr}
+use Rattle.std.proofs.Common.{◌≡◌, ℕ, ◌^◌, ◌<◌, List, length, ◌⊎◌, inl, inr, arith}
+use Rattle.std.specs.List.{All}
+use Rattle.certificate.specs.Nodes.{IsInRange}
+use Rattle.certificate.specs.declared.nodes.Node.{Node}
 use Rattle.instance.specs.Parts.{Parts}
-use Rattle.osil_grammar.specs.InstanceText.{IsInstanceText}
-use Rattle.osrl_grammar.specs.Meaning.{IsReportText}
+use Rattle.osil_grammar.specs.Reading.{IsInstanceText}
+use Rattle.osrl_grammar.specs.Reading.{IsReportText}
 use Rattle.osrl_grammar.specs.declared.report.Report.{Report}
 use Rattle.cert_checker.specs.declared.documents.Kind.{Kind}
 use Rattle.cert_checker.specs.declared.refused.Refused.{Refused}
@@ -22,3 +25,7 @@ pub result_refused : {osil osrl : List ℕ} {p : Parts} {r : Refused} → IsInst
 result_refused {osil} {osrl} {p} {r} instance (inl missing) =
     inr (inl (record { parts = p; instance_text = instance; no_report = missing }))
 result_refused instance (inr none) = inr (inr (inr none))
+
+-- a document is shorter than a check's room may be
+pub read_fits : {osrl : List ℕ} {report : Report} → IsReportText osrl report → (nodes : List Node) → (length nodes < length osrl) × All IsInRange nodes → (length nodes < 2 ^ 32) × All IsInRange nodes
+read_fits said nodes (few, range) = let short = said.document.short in (omega (arith, few, short), range)

@@ -11,10 +11,8 @@ use Rattle.evidence.specs.Cases.{at_least}
 use Rattle.instance.specs.declared.parts.Var.{Var}
 use Rattle.instance.specs.Parts.{Parts}
 use Rattle.instance.specs.Program.{program}
-use Rattle.certificate.specs.declared.nodes.Node.{Node}
-use Rattle.certificate.specs.declared.nodes.Node.TheVariants.{Split, Clash, Farkas, Bound}
+use Rattle.certificate.specs.Nodes.{nodes_of, IsInRange}
 use Rattle.certificate.specs.declared.claims.Claim.{Claim}
-use Rattle.certificate.specs.declared.claims.Claim.TheVariants.{Optimal, Infeasible, Unbounded, BestSoFar, Unsure}
 use Rattle.cert_checker.specs.declared.path.Branch.{Branch}
 
 -- the program of an instance's parts with these variables in place of its own
@@ -51,28 +49,12 @@ abbrev pub aim : Option Frac → Option Ratio
 aim None = None
 aim (Some z) = Some (ratio z)
 
--- a split's number isn't below the least one that fits
-abbrev pub IsInRange : Node → Type 0
-IsInRange (Split j k) = neg_ℤ (pos most) ≤ℤ k
-IsInRange (Clash c) = Unit {0}
-IsInRange (Farkas ms) = Unit {0}
-IsInRange (Bound ms) = Unit {0}
-
--- the certificate of a claim
-abbrev pub nodes_of : Claim → List Node
-nodes_of (Optimal x v ns) = ns
-nodes_of (Infeasible ns) = ns
-nodes_of (Unbounded x v r) = []
-nodes_of (BestSoFar x v c) = []
-nodes_of (Unsure c) = []
-
 -- how many variables and nodes there is room for
 pub record Room : Type 0 where
   pub vars : ℕ
   pub nodes : ℕ
 
--- there is room for a check, and no split is at a number below the least one that fits
+-- there is room for a check
 pub record HasRoom (p : Parts) (c : Claim) (r : Room) : Type 0 where
   pub vars : length p.vars ≤ r.vars
   pub nodes : length (nodes_of c) ≤ r.nodes
-  pub range : All IsInRange (nodes_of c)

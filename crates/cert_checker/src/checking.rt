@@ -1,9 +1,9 @@
-ghost use Rattle.std.specs.Prelude.{◌≡◌, ◌≤◌, ◌↔◌, IsTrue, length, OnOk, IfErr};
+ghost use Rattle.std.specs.Prelude.{◌≡◌, ◌≤◌, length, OnOk, IfErr};
 ghost use Rattle.std.specs.List.{All};
 ghost use Rattle.evidence.specs.Claim.{Accepts};
 ghost use Rattle.instance.specs.Program.{program};
 ghost use Rattle.certificate.specs.Means as Means;
-ghost use Rattle.cert_checker.specs.Cuts.{nodes_of, HasRoom, IsInRange};
+ghost use Rattle.certificate.specs.Nodes.{nodes_of, IsInRange};
 ghost use Rattle.cert_checker.specs.Refusals.{IsRefused};
 
 use crate::numbers::turned;
@@ -11,39 +11,8 @@ use crate::point::check_point;
 use crate::ray::check_ray;
 use crate::refused::Refused;
 use crate::scratch::Scratch;
-use certificate::{Claim, Node};
-use fraction::MAX;
+use certificate::Claim;
 use instance::Instance;
-
-fn is_in_range(node: &Node) -> bool
-    ensures { IsTrue result ↔ IsInRange node.now }
-{
-    match node {
-        Node::Split { k, .. } => *k >= -MAX,
-        _ => true,
-    }
-}
-
-fn fits(nodes: &[Node], scratch: &Scratch) -> bool
-    ensures { IsTrue result ↔ ((length nodes.now ≤ scratch.now.nodes) × All IsInRange nodes.now) }
-{
-    nodes.len() <= scratch.nodes() && nodes.iter().all(|node| is_in_range(node))
-}
-
-/// Whether [`check`] may be called: the room does for the instance's variables and the claim's nodes, and no split is at a
-/// number below the least one that a fraction has.
-pub fn has_room(instance: &Instance, claim: &Claim, scratch: &Scratch) -> bool
-    ensures { IsTrue result ↔ HasRoom instance.now claim.now scratch.now }
-{
-    if instance.vars().len() > scratch.vars() {
-        return false;
-    }
-    match claim {
-        Claim::Optimal { cert, .. } => fits(cert.as_slice(), scratch),
-        Claim::Infeasible { cert } => fits(cert.as_slice(), scratch),
-        _ => true,
-    }
-}
 
 /// Whether the claim is shown by what it carries: `Ok` exactly where it is accepted, else the first of the reasons for which it
 /// is refused. The room has to do for the instance's variables and the claim's nodes, and no split is at a number below the least

@@ -1,22 +1,26 @@
 //! Checks of documents.
 
-ghost use Rattle.std.specs.Prelude.{◌≡◌, ◌⊎◌, IfOk, IfErr};
+ghost use Rattle.std.specs.Prelude.{◌≡◌, ◌⊎◌, ◌<◌, ◌^◌, Some, IfOk, IfErr, length};
+ghost use Rattle.std.specs.List.{All};
 ghost use Rattle.evidence.specs.Claim.{Accepts};
 ghost use Rattle.instance.specs.Program.{program};
 ghost use Rattle.certificate.specs.Means as Means;
-ghost use Rattle.osil_grammar.specs.InstanceText.{IsInstanceText};
-ghost use Rattle.osrl_grammar.specs.Meaning.{IsReportText};
+ghost use Rattle.certificate.specs.Nodes.{nodes_of, IsInRange};
+ghost use Rattle.certificate.specs.declared.claims.Claim as carried;
+ghost use Rattle.osil_grammar.specs.Reading.{IsInstanceText};
+ghost use Rattle.osrl_grammar.specs.Reading.{IsReportText};
 ghost use Rattle.cert_checker.specs.declared.refused.Refused.TheVariants.{Memory};
+ghost use Rattle.cert_checker.specs.Cuts.{HasRoom};
 ghost use Rattle.cert_checker.specs.Refusals.{IsRefused};
 ghost use Rattle.cert_checker.specs.Documents.{kind, ReportRefuses, NoInstance, NoReport, IsAcceptedText, DocsRefuse, ReportAccepts};
 
-use crate::checking::{check, has_room};
+use crate::checking::check;
 use crate::refused::Refused;
 use crate::scratch::Scratch;
 use certificate::Claim;
 use instance::Instance;
 use osil_grammar::OsilFault;
-use osrl_grammar::{OsrlFault, Report};
+use osrl_grammar::{OsrlFault, Report, read_claims_fit};
 use std::alloc::{AllocError, Global};
 
 /// What an accepted claim says of the instance.
@@ -46,7 +50,9 @@ fn kind_of(claim: &Claim) -> Option<Kind>
 }
 
 /// The number of nodes in a claim's certificate.
-fn count_nodes(claim: &Claim) -> usize {
+fn count_nodes(claim: &Claim) -> usize
+    ensures { result ≡ length (nodes_of claim.now) }
+{
     match claim {
         Claim::Optimal { cert, .. } => cert.as_slice().len(),
         Claim::Infeasible { cert } => cert.as_slice().len(),
@@ -55,30 +61,31 @@ fn count_nodes(claim: &Claim) -> usize {
 }
 
 /// Room for a check.
-fn room_for(alloc: Global, instance: &Instance, claim: &Claim) -> Result<Scratch, AllocError> {
-    let Ok(vars) = u32::try_from(instance.vars().len()) else {
-        return Err(AllocError);
-    };
-    let Ok(nodes) = u32::try_from(count_nodes(claim)) else {
-        return Err(AllocError);
-    };
-    Scratch::for_size(alloc, vars, nodes)
+fn room_for(alloc: Global, instance: &Instance, claim: &Claim) -> Result<Scratch, AllocError>
+    requires { length (nodes_of claim.now) < 2 ^ 32 }
+    ensures { IfOk result (HasRoom instance.now claim.now) }
+{
+    Scratch::for_size(
+        alloc,
+        instance.vars().len() as u32,
+        count_nodes(claim) as u32,
+    )
 }
 
-/// Checks a claim in room that is taken for it. There is room for each claim that was read from a document.
+/// Checks a claim in room that is taken for it.
 fn check_claim(alloc: Global, instance: &Instance, claim: &Claim) -> Result<(), Refused>
+    requires few { length (nodes_of claim.now) < 2 ^ 32 }
+    requires range { All IsInRange (nodes_of claim.now) }
     ensures ok { IfOk result (λ _. Accepts (program instance.now) (Means.claim claim.now)) }
     ensures err { IfErr result (λ r. IsRefused (program instance.now) (Means.claim claim.now) r ⊎ (r ≡ Memory)) }
 {
     let mut scratch = room_for(alloc, instance, claim)?;
-    if !has_room(instance, claim, &scratch) {
-        return Err(Refused::Memory);
-    }
     check(instance, claim, &mut scratch)
 }
 
 /// Checks the claim of a report, if it has one.
 fn check_report(alloc: Global, instance: &Instance, report: &Report) -> Result<Kind, Refused>
+    requires { (c : carried.Claim) → report.now.claim ≡ Some c → (length (nodes_of c) < 2 ^ 32) × All IsInRange (nodes_of c) }
     ensures ok { IfOk result (ReportAccepts instance.now report.now) }
     ensures err { IfErr result (λ r. ReportRefuses instance.now report.now r ⊎ (r ≡ Memory)) }
 {
@@ -125,5 +132,6 @@ pub fn check_docs(alloc: Global, osil: &[u8], osrl: &[u8]) -> Result<Kind, Refus
 {
     let instance = read_instance(alloc, osil)?;
     let report = read_report(alloc, osrl)?;
+    read_claims_fit();
     check_report(alloc, &instance, &report)
 }

@@ -17,8 +17,6 @@ mod checking;
 mod clash;
 mod columns;
 mod cuts;
-#[cfg(test)]
-mod document_tests;
 mod documents;
 mod forms;
 mod laws;
@@ -37,7 +35,7 @@ mod tests;
 mod texts;
 mod walk;
 
-pub use checking::{check, has_room};
+pub use checking::check;
 pub use documents::{Kind, check_docs};
 pub use laws::{
     accepted_documents_are_true, accepted_is_not_refused, claims_have_one_refusal,

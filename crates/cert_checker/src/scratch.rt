@@ -3,7 +3,7 @@ ghost use Rattle.std.specs.List.{All};
 ghost use Rattle.evidence.specs.Width.{ProvesWithin};
 ghost use Rattle.instance.specs.Program.{program};
 ghost use Rattle.certificate.specs.Means as Means;
-ghost use Rattle.cert_checker.specs.Cuts.{IsInRange};
+ghost use Rattle.certificate.specs.Nodes.{IsInRange};
 ghost use Rattle.cert_checker.specs.Cuts as Of;
 ghost use Rattle.cert_checker.specs.Trees.{TreeRefuses};
 

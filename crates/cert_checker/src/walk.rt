@@ -5,7 +5,8 @@ ghost use Rattle.evidence.specs.Cases as Cases;
 ghost use Rattle.evidence.specs.Width.{ProvesWithin};
 ghost use Rattle.instance.specs.Program.{program};
 ghost use Rattle.certificate.specs.Means as Means;
-ghost use Rattle.cert_checker.specs.Cuts.{cases, AreBranches, IsInRange};
+ghost use Rattle.certificate.specs.Nodes.{IsInRange};
+ghost use Rattle.cert_checker.specs.Cuts.{cases, AreBranches};
 ghost use Rattle.cert_checker.specs.Cuts as Of;
 ghost use Rattle.cert_checker.specs.Trees.{TreeRefuses, Leads};
 

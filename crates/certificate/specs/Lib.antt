@@ -3,3 +3,4 @@ pub use Rattle.fraction.specs.Frac
 pub use Rattle.evidence.specs.Cases
 pub use Rattle.evidence.specs.Claim
 pub mod Means
+pub mod Nodes

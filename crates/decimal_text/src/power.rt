@@ -10,7 +10,7 @@ ghost use Rattle.decimal_text.specs.Parts.{IsKept, IsSignificand};
 
 use crate::digits::number;
 use crate::parts::Parts;
-use fraction::{Frac, MAX, Wide};
+use fraction::{Frac, MAX, Wide, signed};
 
 /// The greatest exponent that is told from greater ones.
 const MOST_POWER: u128 = 1 << 100;
@@ -87,18 +87,6 @@ fn significand(mut kept: Option<u128>, mut zeros: u128, digits: &[u8]) -> (Optio
         zeros = more.1;
     }
     (kept, zeros)
-}
-
-/// The whole number of this sign and size.
-pub fn signed(is_negative: bool, size: u128) -> i128
-    requires { size ≤ most }
-    ensures { result ≡ signed is_negative size }
-{
-    if is_negative {
-        -(size as i128)
-    } else {
-        size as i128
-    }
 }
 
 /// The fraction of this sign, size and denominator, which always fits.

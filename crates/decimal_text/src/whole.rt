@@ -6,8 +6,8 @@ ghost use Rattle.decimal_text.specs.Fault.{Refuses};
 use crate::count::MOST_COUNT;
 use crate::digits::{number, split_digits, split_sign};
 use crate::fault::DecimalFault;
-use crate::power::signed;
 use crate::space::trim;
+use fraction::signed;
 
 /// The whole number that the text writes: an optional sign and digits, white space round them dropped (XML Schema
 /// part 2, integer). `Wide` where its size passes `2^63 - 1`.

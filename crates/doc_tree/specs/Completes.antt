@@ -21,6 +21,7 @@ use Rattle.doc_tree.specs.declared.machine.Place.{Place}
 use Rattle.doc_tree.specs.declared.machine.Place.TheVariants as places
 use Rattle.doc_tree.specs.declared.machine.Machine.{Machine}
 
+-- Where the machine stands, what it holds of the text that is read, and what it has told so far.
 pub record State : Type 0 where
   pub place : Place
   pub round : Round
@@ -41,6 +42,7 @@ pub record State : Type 0 where
   pub kept : List Attribute
   pub marks : List Mark
 
+-- The machine's state: its open elements are listed with the innermost first.
 abbrev pub view : Machine → State
 view m = record {
   place = m.place;
@@ -214,7 +216,7 @@ ArePrintable (name ∷ names) = Each IsPrintable name × ArePrintable names
 abbrev pub InElement : List (List ℕ) → List Attribute → Type 0
 InElement names kept = (kept ≡ []) × (names ≢ []) × ArePrintable names
 
--- In a start tag.
+-- In a start tag (XML 1.0, section 3.1).
 abbrev pub GoodTag : State → Type 0
 GoodTag s = Each IsPrintable s.name × ArePrintable s.names
 
@@ -232,10 +234,12 @@ GoodRound rounds.Epilog names kept = Unit {0}
 abbrev pub GoodValue : State → Type 0
 GoodValue s = (IsAmong s.key s.keys → ⊥) × IsQuote s.quote × GoodTag s
 
+-- In a reference, in a value or in content (XML 1.0, section 4.1).
 abbrev pub GoodReference : Bool → State → Type 0
 GoodReference true s = GoodValue s
 GoodReference false s = InElement s.names s.kept
 
+-- What holds where a fixed text that leads to this is read.
 abbrev pub GoodGoal : Goal → State → Type 0
 GoodGoal goals.Field s = Outer s × (s.field ≢ fields.Before)
 GoodGoal goals.EmptyTag s = GoodTag s
@@ -319,7 +323,7 @@ pub record Follows (before : List Mark) (K : Terms → List ℕ → List Mark �
 abbrev pub Stuck : (Terms → List ℕ → List Mark → Type 0) → ℕ → Type 0
 Stuck K b = (t : Terms) → IsAllowed t → (bytes : List ℕ) (marks : List Mark) → K t (b ∷ bytes) marks → ⊥
 
--- An element of depth 33 begins.
+-- An element begins in as many as may stand in one another.
 abbrev pub IsDeep : State → ℕ → Type 0
 IsDeep s b = (s.place ≡ places.ContentLess) × (DEPTH ≤ length s.names) × IsNameStart b
 

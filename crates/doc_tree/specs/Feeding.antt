@@ -1,17 +1,16 @@
 -- A reader that is fed bytes, and where it stands behind them.
-use Rattle.std.specs.Prelude.{◌≡◌, ℕ, ◌⊎◌, Bool, List, ◌++◌, length, Option, MatchOption}
+use Rattle.std.specs.Prelude.{◌≡◌, ℕ, Bool, List, length, Option, MatchOption}
 use Rattle.tree_grammar.specs.declared.TheConstants.{DEPTH}
 use Rattle.doc_tree.specs.Marks.{Mark}
 use Rattle.doc_tree.specs.Rests.{Terms, any}
 use Rattle.doc_tree.specs.Completes.{State, view, Good}
 use Rattle.doc_tree.specs.LineEnds.{Finishes, Continues}
-use Rattle.doc_tree.specs.Reading.{NoneWithin}
-use Rattle.doc_tree.specs.Refusals.{IsClean, IsRefusedIn, IsRefusal}
+use Rattle.doc_tree.specs.Reading.{Refused}
+use Rattle.doc_tree.specs.Refusals.{IsClean}
 use Rattle.doc_tree.specs.Utf8.{CharacterRest, Spells}
 use Rattle.doc_tree.specs.declared.characters.Awaited.{Awaited}
 use Rattle.doc_tree.specs.declared.fault.TreeFault.{TreeFault}
-use Rattle.doc_tree.specs.declared.fault.TreeFault.TheVariants.{Memory}
-use Rattle.doc_tree.specs.declared.reader.Progress.{Progress}
+use Rattle.doc_tree.specs.declared.progress.Progress.{Progress}
 
 -- A document of any encoding that isn't too deep.
 abbrev pub named : Terms
@@ -26,6 +25,7 @@ pub record Feeding : Type 0 where
   pub count : ℕ
   pub refusal : Option TreeFault
 
+-- The same of a reader's own state.
 abbrev pub feeding : Progress → Feeding
 feeding p = record { state = view p.lines.machine; returned = p.lines.returned; awaited = p.awaited; limit = p.limit; count = p.count; refusal = p.refusal }
 
@@ -43,18 +43,6 @@ pub record IsTaken (f : Feeding) (bytes : List ℕ) : Type 0 where
   pub meets : Meets f.awaited f.state f.returned
   pub counted : f.count ≡ length bytes
   pub clean : IsClean f.limit bytes
-
--- No document within the bounds begins with the bytes.
-abbrev pub NoneBegins : ℕ → List ℕ → Type 0
-NoneBegins limit bytes = (more : List ℕ) → NoneWithin limit (bytes ++ more)
-
--- For want of memory, or since one of the bytes decides it.
-abbrev pub Refused : ℕ → List ℕ → TreeFault → Type 0
-Refused limit bytes fault = (fault ≡ Memory) ⊎ (IsRefusedIn limit bytes fault × NoneBegins limit bytes)
-
--- For want of memory, or since the bytes, which are all, are refused so.
-abbrev pub Ends : ℕ → List ℕ → TreeFault → Type 0
-Ends limit bytes fault = (fault ≡ Memory) ⊎ (IsRefusal limit bytes fault × NoneWithin limit bytes)
 
 -- These bytes were fed.
 abbrev pub WasFed : Feeding → List ℕ → Type 0

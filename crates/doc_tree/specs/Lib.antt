@@ -1,9 +1,9 @@
+pub mod Reading
+pub mod Refusals
+pub mod Feeding
 pub mod Building
 pub mod Marks
 pub mod Rests
 pub mod Completes
 pub mod LineEnds
 pub mod Utf8
-pub mod Feeding
-pub mod Reading
-pub mod Refusals

@@ -20,11 +20,13 @@ pub data Aim : Type 0 where
   any : Aim
   special : Aim
 
+-- the encodings that may be named (XML 1.0, section 4.3.3)
 abbrev pub IsRead : Aim → List ℕ → Type 0
 IsRead readable name = IsUtf8Name name
 IsRead any name = Unit {0}
 IsRead special name = Unit {0}
 
+-- the text may be a special one
 abbrev pub IsSpecial : Aim → Type 0
 IsSpecial readable = ⊥
 IsSpecial any = ⊥
@@ -61,11 +63,11 @@ pub record Quoted (K : ℕ → List ℕ → List Mark → Type 0) (bytes : List 
 abbrev pub QuoteRest : (ℕ → List ℕ → List Mark → Type 0) → List ℕ → List Mark → Type 0
 QuoteRest K = Then (Each IsSpace) (λ _. Quoted K)
 
--- behind a name
+-- behind a name (production 25)
 abbrev pub EqualsRest : (ℕ → List ℕ → List Mark → Type 0) → List ℕ → List Mark → Type 0
 EqualsRest K = Then (Each IsSpace) (λ _. Word (61 ∷ []) (QuoteRest K))
 
--- behind `&`
+-- behind `&` (productions 66 and 68)
 pub record RefRest (K : List ℕ → List ℕ → List Mark → Type 0) (bytes : List ℕ) (marks : List Mark) : Type 0 where
   pub to : Reference
   pub behind : List ℕ
@@ -76,6 +78,7 @@ pub record RefRest (K : List ℕ → List ℕ → List Mark → Type 0) (bytes :
 abbrev pub IsDigitsRest : ℕ → ℕ → List ℕ → Type 0
 IsDigitsRest radix number digits = AllDigits radix digits × IsXmlChar (digits_value_after radix number digits)
 
+-- behind a digit of a reference (production 66), up to its `;`
 abbrev pub DigitRest : ℕ → ℕ → (List ℕ → List ℕ → List Mark → Type 0) → List ℕ → List Mark → Type 0
 DigitRest radix number K = Then (IsDigitsRest radix number) (λ digits. Word (59 ∷ []) (K (encode_utf8 (digits_value_after radix number digits))))
 
@@ -83,6 +86,7 @@ DigitRest radix number K = Then (IsDigitsRest radix number) (λ digits. Word (59
 abbrev pub IsNumeralRest : ℕ → ℕ → List ℕ → Type 0
 IsNumeralRest radix number digits = IsNumeral radix digits × IsXmlChar (digits_value_after radix number digits)
 
+-- the same before its next digit
 abbrev pub NumeralRest : ℕ → ℕ → (List ℕ → List ℕ → List Mark → Type 0) → List ℕ → List Mark → Type 0
 NumeralRest radix number K = Then (IsNumeralRest radix number) (λ digits. Word (59 ∷ []) (K (encode_utf8 (digits_value_after radix number digits))))
 
@@ -103,14 +107,14 @@ pub record Saying (said : List Mark) (K : List ℕ → List Mark → Type 0) (by
 abbrev pub Or : (List ℕ → List Mark → Type 0) → (List ℕ → List Mark → Type 0) → List ℕ → List Mark → Type 0
 Or A B bytes marks = A bytes marks ⊎ B bytes marks
 
--- In a comment.
+-- In a comment (production 15).
 pub record CommentRest (K : List ℕ → List Mark → Type 0) (bytes : List ℕ) (marks : List Mark) : Type 0 where
   pub comment : Comment
   pub behind : List ℕ
   pub text : bytes ≡ comment_text comment behind
   pub after : K behind marks
 
--- in a CDATA section, behind so many `]` of its text
+-- in a CDATA section (production 18), behind so many `]` of its text
 abbrev pub SectionRest : ℕ → (List ℕ → List Mark → Type 0) → List ℕ → List Mark → Type 0
 SectionRest count K = Then (IsSectionText count) (λ run. Word (93 ∷ 93 ∷ 62 ∷ []) (Saying (map Char run) K))
 
@@ -119,7 +123,7 @@ abbrev pub pending : ℕ → List ℕ → List ℕ
 pending zero bytes = bytes
 pending (suc n) bytes = 93 ∷ pending n bytes
 
--- in an instruction's text
+-- in an instruction's text (production 16)
 abbrev pub PiText : (List ℕ → List Mark → Type 0) → List ℕ → List Mark → Type 0
 PiText K = Then IsInstructionText (λ _. Word (63 ∷ 62 ∷ []) K)
 
@@ -157,6 +161,7 @@ IsFit room count (instruction i more) = IsFit room 0 more
 IsFit room count (empty tag more) = (1 ≤ room) × IsFit room 0 more
 IsFit room count (nested tag inner space s more) = (1 ≤ room) × IsFit (room - 1) 0 inner × IsFit room 0 more
 
+-- the same of what stands behind a start tag
 abbrev pub IsBodyFit : ℕ → Body → Type 0
 IsBodyFit room closed = Unit {0}
 IsBodyFit room (opened inner space s) = IsFit room 0 inner
@@ -177,7 +182,7 @@ pub record Inside (room count : ℕ) (name : List ℕ) (K : List ℕ → List Ma
 abbrev pub EndRest : List ℕ → (List ℕ → List Mark → Type 0) → List ℕ → List Mark → Type 0
 EndRest name K = Then (Each IsSpace) (λ _. Word (62 ∷ []) (Saying (Finish (local_part name) ∷ []) K))
 
--- Behind a start tag's name, attributes and white space; room for the elements in it.
+-- Behind a start tag's name, attributes and white space (productions 40 and 44); room for the elements in it.
 pub record BodyRest (room : ℕ) (name : List ℕ) (kept : List Attribute) (K : List ℕ → List Mark → Type 0) (bytes : List ℕ) (marks : List Mark) : Type 0 where
   pub body : Body
   pub fit : IsBodyFit room body
@@ -187,7 +192,7 @@ pub record BodyRest (room : ℕ) (name : List ℕ) (kept : List Attribute) (K : 
   pub says : marks ≡ Start (local_part name) kept ∷ body_marks body (Finish (local_part name) ∷ later)
   pub after : K behind later
 
--- In a start tag, behind its name and attributes of these names, of which these belong to the tree.
+-- In a start tag (productions 40 and 41), behind its name and attributes of these names, of which these belong to the tree.
 pub record TagRest (room : ℕ) (name : List ℕ) (keys : List (List ℕ)) (kept : List Attribute) (K : List ℕ → List Mark → Type 0) (bytes : List ℕ) (marks : List Mark) : Type 0 where
   pub attributes : Attributes
   pub fresh : IsFresh keys attributes
@@ -205,7 +210,7 @@ keep key value kept = kept ++ cond (is_kept key) (record { name = key; value = v
 abbrev pub AreSameNames : List (List ℕ) → List (List ℕ) → Type 0
 AreSameNames names others = (name : List ℕ) → IsAmong name names ↔ IsAmong name others
 
--- in an attribute's value, behind this much of what it says
+-- in an attribute's value (production 10), behind this much of what it says
 abbrev pub AttributeValue : ℕ → List ℕ → List (List ℕ) → List Attribute → (List ℕ → List Mark → Type 0) → List ℕ → ℕ → List ℕ → List ℕ → List Mark → Type 0
 AttributeValue room name keys kept K key quote before = ValueRest quote before (λ value. TagRest room name (keys ++ (key ∷ [])) (keep key value kept) K)
 
@@ -213,11 +218,12 @@ AttributeValue room name keys kept K key quote before = ValueRest quote before (
 abbrev pub KeyOver : ℕ → List ℕ → List (List ℕ) → List Attribute → (List ℕ → List Mark → Type 0) → List ℕ → List ℕ → List Mark → Type 0
 KeyOver room name keys kept K key = EqualsRest (λ quote. AttributeValue room name keys kept K key quote [])
 
+-- behind an attribute's name, which is none of those before (XML 1.0, section 3.1, "Unique Att Spec")
 pub record KeyRest (room : ℕ) (name : List ℕ) (keys : List (List ℕ)) (kept : List Attribute) (K : List ℕ → List Mark → Type 0) (key bytes : List ℕ) (marks : List Mark) : Type 0 where
   pub new : IsAmong key keys → ⊥
   pub over : KeyOver room name keys kept K key bytes marks
 
--- Behind the root.
+-- Behind the root (production 1).
 pub record After (t : Terms) (bytes : List ℕ) (marks : List Mark) : Type 0 where
   pub misc : Misc
   pub text : bytes ≡ misc_text misc []
@@ -240,7 +246,7 @@ pub record RootRest (t : Terms) (bytes : List ℕ) (marks : List Mark) : Type 0 
   pub text : bytes ≡ tag_text tag behind
   pub after : BodyRest (room_in t [] - 1) tag.name (attribute_list tag.attributes) (After t) behind marks
 
--- A document type, behind its `<`: the text ends with its `D`.
+-- A document type (production 28), behind its `<`: the text ends with its `D`.
 pub record TypeRest (t : Terms) (bytes : List ℕ) (marks : List Mark) : Type 0 where
   pub special : IsSpecial t.aim
   pub text : bytes ≡ codes "!D"
@@ -250,7 +256,7 @@ pub record TypeRest (t : Terms) (bytes : List ℕ) (marks : List Mark) : Type 0 
 abbrev pub RootOrType : Terms → List ℕ → List Mark → Type 0
 RootOrType t = Or (RootRest t) (TypeRest t)
 
--- Before the root.
+-- Before the root (production 22).
 pub record Before (t : Terms) (bytes : List ℕ) (marks : List Mark) : Type 0 where
   pub misc : Misc
   pub behind : List ℕ
@@ -322,9 +328,11 @@ Valued t field K value = Or K (Foreign t field value)
 abbrev pub FieldValue : Terms → Field → (List ℕ → List Mark → Type 0) → List ℕ → ℕ → List ℕ → List Mark → Type 0
 FieldValue t field K before quote = Then (λ more. IsFieldValue t.aim field (before ++ more)) (λ more. Word (quote ∷ []) (Valued t field K (before ++ more)))
 
+-- behind a field's word
 abbrev pub FieldOver : Terms → Field → (List ℕ → List Mark → Type 0) → List ℕ → List Mark → Type 0
 FieldOver t field K = EqualsRest (FieldValue t field K [])
 
+-- a field of the declaration (productions 24, 32 and 80)
 abbrev pub FieldRest : Terms → Field → (List ℕ → List Mark → Type 0) → List ℕ → List Mark → Type 0
 FieldRest t field K = Word (field_name field) (FieldOver t field K)
 
@@ -340,9 +348,11 @@ Never bytes marks = ⊥
 abbrev pub GapRest : Terms → (List ℕ → List Mark → Type 0) → List ℕ → List Mark → Type 0
 GapRest t Next = Or (Ends t) (Then (Some1 IsSpace) (λ _. Or (Ends t) Next))
 
+-- behind the encoding: `standalone`
 abbrev pub Next2 : Terms → List ℕ → List Mark → Type 0
 Next2 t = FieldRest t fields.Standalone (GapRest t Never)
 
+-- behind the version: the encoding or `standalone`
 abbrev pub Next1 : Terms → List ℕ → List Mark → Type 0
 Next1 t = Or (FieldRest t fields.Encoding (GapRest t (Next2 t))) (Next2 t)
 
@@ -378,6 +388,7 @@ abbrev pub IsEncodingRead : Aim → Encoding → Type 0
 IsEncodingRead aim no_encoding = Unit {0}
 IsEncodingRead aim (encoded space s e quote q name n) = IsRead aim name
 
+-- the same of a declaration
 abbrev pub IsDeclarationRead : Aim → Declaration → Type 0
 IsDeclarationRead aim no_declaration = Unit {0}
 IsDeclarationRead aim (declared v e s space sp) = IsEncodingRead aim e
@@ -387,6 +398,7 @@ pub record DeclarationOver (name : List ℕ) (t : Terms) (bytes : List ℕ) (mar
   pub is : name ≡ codes "xml"
   pub rest : Gap fields.Before t bytes marks
 
+-- the declaration, or an instruction of another name
 abbrev pub FirstOver : List ℕ → Terms → List ℕ → List Mark → Type 0
 FirstOver name t = Or (DeclarationOver name t) (PiOver name (Before t))
 

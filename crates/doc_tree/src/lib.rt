@@ -24,6 +24,7 @@ mod fault;
 mod laws;
 mod machine;
 mod names;
+mod progress;
 mod reader;
 
 pub use element_tree::{Tree, escape, write, write_to};

@@ -11,4 +11,6 @@ pub mod OneDocument
 pub mod Coming
 pub mod Placed
 pub mod Apart
+pub mod FaultTexts
 pub mod Sizes
+pub mod Lengths

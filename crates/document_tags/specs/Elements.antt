@@ -1,5 +1,5 @@
 -- Where the parts of a document stand: elements at the end of a path of names, their attributes and their own text.
-use Rattle.std.specs.Prelude.{ℕ, Option, None, Some, cond, bytes_eq, slice_get, flat_map, List, [], ◌∷◌, ◌++◌}
+use Rattle.std.specs.Prelude.{ℕ, suc, ◌+◌, Option, None, Some, cond, bytes_eq, slice_get, flat_map, List, [], ◌∷◌, ◌++◌}
 use Rattle.tree_grammar.specs.Elements.{Attribute, Nodes, none, element, chars, Element}
 use Rattle.document_tags.specs.Rests.{child_elements}
 
@@ -45,3 +45,9 @@ own_text e = characters e.children
 abbrev pub unless_empty : List ℕ → Option (List ℕ)
 unless_empty [] = None
 unless_empty (c ∷ cs) = Some (c ∷ cs)
+
+-- how many elements there are, at any depth
+abbrev pub elements_in : Nodes → ℕ
+elements_in none = 0
+elements_in (element name attributes children more) = suc (elements_in children + elements_in more)
+elements_in (chars text more) = elements_in more

@@ -12,6 +12,7 @@
 mod attributes;
 mod documents;
 mod faults;
+mod laws;
 mod passing;
 mod paths;
 mod place;
@@ -25,6 +26,7 @@ mod walk;
 
 pub use documents::{MOST_BYTES, read_document};
 pub use faults::{refusal_at, tree_fault_text};
+pub use laws::documents_have_fewer_elements_than_bytes;
 pub use paths::{along, first, first_within, within};
 pub use spot::Spot;
 pub use tags::Tags;

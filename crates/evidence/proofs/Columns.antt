@@ -1,5 +1,5 @@
 -- The numbers of an instance, and the values of its columns.
-use Rattle.std.proofs.Common.{◌≡◌, ℕ, zero, suc, ◌+◌, ◌-◌, ◌<◌, ◌≤◌, Bool, true, false, cond, nat_eq, nat_lt, ◌&&◌, List, [], ◌∷◌, get_or, pos, arith, lit<, sym, ap}
+use Rattle.std.proofs.Common.{◌≡◌, ℕ, zero, suc, ◌+◌, ◌-◌, ◌<◌, ◌≤◌, Bool, true, false, cond, nat_eq, nat_lt, ◌&&◌, List, [], ◌∷◌, get_or, pos, arith, lit<, refl, sym, ap}
 use Rattle.std.specs.List.{All}
 use Rattle.std.proofs.lemmas.Bool.{lt-ltb, le-ltb, eq-eqb, ne_eqb}
 use Rattle.std.proofs.lemmas.Int.{ints, by_lt_z}
@@ -13,6 +13,13 @@ use Rattle.evidence.proofs.Totals.{total-number}
 
 pub by_lt : {P : Type 0} (a b : ℕ) → (a < b → P) → (b ≤ a → P) → P
 by_lt a b f g = by_lt_z (pos a) (pos b) (λ p. f (omega (arith, ints))) (λ p. g (omega (arith, ints)))
+
+pub by_eq : {P : Type 0} (a b : ℕ) → (a ≡ b → P) → ((a ≡ b → ⊥) → P) → P
+by_eq a b f g = by_lt a b (λ h. g (λ e. omega arith)) (λ h. by_lt b a (λ k. g (λ e. omega arith)) (λ k. f (omega arith)))
+
+pub by_bool : {P : Type 0} (b : Bool) → (b ≡ true → P) → (b ≡ false → P) → P
+by_bool true f g = f refl
+by_bool false f g = g refl
 
 pub pick : {X : Type 0} (P : X → Type 0) (b : Bool) (x y : X) → P x → P y → P (cond b x y)
 pick P true x y p q = p
@@ -78,7 +85,7 @@ unit_before : (x : ℕ → Ratio) → ((j : ℕ) → IsNumber (x j)) → (k n : 
 unit_before x p k zero h = ≈-refl none-number
 unit_before x p k (suc n) h = sum-≈ (unit_before x p k n (omega arith)) (other_term k n (x n) (p n) (λ e. omega arith)) ⊙ none_and_none
 
-unit : (x : ℕ → Ratio) → ((j : ℕ) → IsNumber (x j)) → (k n : ℕ) → k < n → total none n (λ j. product (cond (nat_eq k j) (whole (pos 1)) none) (x j)) ≈ x k
+pub unit : (x : ℕ → Ratio) → ((j : ℕ) → IsNumber (x j)) → (k n : ℕ) → k < n → total none n (λ j. product (cond (nat_eq k j) (whole (pos 1)) none) (x j)) ≈ x k
 unit x p k zero h = absurd (omega arith)
 unit x p k (suc n) h =
     by_lt k n

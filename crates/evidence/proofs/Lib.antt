@@ -14,3 +14,6 @@ pub mod Fits
 pub mod Tried
 pub mod Rows
 pub mod Steps
+pub mod Units
+pub mod Rest
+pub mod Inverses

@@ -77,10 +77,11 @@ Answers answer left left' =
     (taken : List ℕ) × Shows answer taken
     × Told left left' (λ before after. (before ≡ taken ++ after) × EndsWith answer after)
 
--- a fault in reading is counted, and a want of memory isn't
-abbrev pub FaultRises : LinkFault → ℕ → ℕ → Type 0
-FaultRises ReadFault before after = HasRisen before after
-FaultRises Memory before after = after ≡ before
+-- a fault in reading is counted, and nothing else is
+abbrev pub CountsFault : {X : Type 0} → Result X LinkFault → ℕ → ℕ → Type 0
+CountsFault (Ok x) before after = after ≡ before
+CountsFault (Err ReadFault) before after = HasRisen before after
+CountsFault (Err Memory) before after = after ≡ before
 
 -- what the bytes are that the reading of a head took
 abbrev pub ShowsHead : Result HeadRead LinkFault → List ℕ → Type 0

@@ -1,10 +1,10 @@
 //! Requests on a source.
 ghost use Rattle.std.specs.Prelude.{◌≡◌, ◌≤◌, ◌<◌, ◌++◌, [], ℕ, List, length, Ok, Err, IfOk, OnOk, OnErr, IfErr};
 ghost use Rattle.http_link.specs.declared.requests.LinkFault.TheVariants.{ReadFault};
-ghost use Rattle.os_io.specs.Streams.{Told, HasRisen};
+ghost use Rattle.os_io.specs.Streams.{Told, Counts, SameOutput};
 ghost use Rattle.http_link.specs.Checks.{most_head, Head};
 ghost use Rattle.http_link.specs.Lines.{IsWholeHead};
-ghost use Rattle.http_link.specs.Requests.{Answers, AnswersHead, AnswersBody, AddsPiece, LosesPiece, FaultRises, TakesByte};
+ghost use Rattle.http_link.specs.Requests.{Answers, AnswersHead, AnswersBody, AddsPiece, LosesPiece, CountsFault, TakesByte};
 
 use crate::Refusal;
 use crate::checks::{MOST_FIELDS, head_outcome};
@@ -67,12 +67,10 @@ const PIECE: usize = 4096;
 
 /// Reads the next byte, or finds the input at its end.
 fn read_byte<S: Source>(source: &mut S) -> Result<Option<u8>, Failed>
-    ensures byte { IfOk result (λ got. Told (S.left source.old) (S.left source.new) (TakesByte got)) }
-    ensures err { OnErr result (S.left source.new ≡ S.left source.old) }
-    ensures failed { OnErr result (HasRisen (S.read_faults source.old) (S.read_faults source.new)) }
-    ensures counted { OnOk result (S.read_faults source.new ≡ S.read_faults source.old) }
-    ensures written { S.written source.new ≡ S.written source.old }
-    ensures write_faults { S.write_faults source.new ≡ S.write_faults source.old }
+    ensures byte { IfOk result (λ got. Told (S.tells source.old).left (S.tells source.new).left (TakesByte got)) }
+    ensures err { OnErr result ((S.tells source.new).left ≡ (S.tells source.old).left) }
+    ensures counted { Counts result (S.tells source.old).read_faults (S.tells source.new).read_faults }
+    ensures output { SameOutput (S.tells source.old) (S.tells source.new) }
 {
     let mut byte = [0];
     match source.read(&mut byte) {
@@ -88,11 +86,9 @@ fn read_byte<S: Source>(source: &mut S) -> Result<Option<u8>, Failed>
 
 /// Reads a head, and nothing past it.
 fn read_head<S: Source>(alloc: Global, source: &mut S) -> Result<HeadRead, LinkFault>
-    ensures answer { AnswersHead result (S.left source.old) (S.left source.new) }
-    ensures failed { IfErr result (λ fault. FaultRises fault (S.read_faults source.old) (S.read_faults source.new)) }
-    ensures counted { OnOk result (S.read_faults source.new ≡ S.read_faults source.old) }
-    ensures written { S.written source.new ≡ S.written source.old }
-    ensures write_faults { S.write_faults source.new ≡ S.write_faults source.old }
+    ensures answer { AnswersHead result (S.tells source.old).left (S.tells source.new).left }
+    ensures counted { CountsFault result (S.tells source.old).read_faults (S.tells source.new).read_faults }
+    ensures output { SameOutput (S.tells source.old) (S.tells source.new) }
 {
     let mut head = OpenHead::new(alloc);
     while head.text.len() < MOST_HEAD {
@@ -117,13 +113,11 @@ fn read_head<S: Source>(alloc: Global, source: &mut S) -> Result<HeadRead, LinkF
 /// Reads some bytes to the end of a body, and no more than `most`. 0 is the end of the input.
 fn read_piece<S: Source>(source: &mut S, body: &mut Text, most: usize) -> Result<usize, LinkFault>
     requires { 0 < most }
-    ensures piece { IfOk result (λ count. AddsPiece (S.left source.old) (S.left source.new) body.old body.new most count) }
-    ensures fault { OnErr result (LosesPiece (S.left source.old) (S.left source.new) most) }
-    ensures unread { IfErr result (λ fault. fault ≡ ReadFault → (body.new ≡ body.old) × (S.left source.new ≡ S.left source.old)) }
-    ensures failed { IfErr result (λ fault. FaultRises fault (S.read_faults source.old) (S.read_faults source.new)) }
-    ensures counted { OnOk result (S.read_faults source.new ≡ S.read_faults source.old) }
-    ensures written { S.written source.new ≡ S.written source.old }
-    ensures write_faults { S.write_faults source.new ≡ S.write_faults source.old }
+    ensures piece { IfOk result (λ count. AddsPiece (S.tells source.old).left (S.tells source.new).left body.old body.new most count) }
+    ensures fault { OnErr result (LosesPiece (S.tells source.old).left (S.tells source.new).left most) }
+    ensures unread { IfErr result (λ fault. fault ≡ ReadFault → (body.new ≡ body.old) × ((S.tells source.new).left ≡ (S.tells source.old).left)) }
+    ensures counted { CountsFault result (S.tells source.old).read_faults (S.tells source.new).read_faults }
+    ensures output { SameOutput (S.tells source.old) (S.tells source.new) }
 {
     let mut buffer = [0; PIECE];
     let room = most.min(PIECE);
@@ -142,11 +136,9 @@ fn read_body<S: Source>(
     source: &mut S,
     len: usize,
 ) -> Result<Option<Text>, LinkFault>
-    ensures answer { AnswersBody len result (S.left source.old) (S.left source.new) }
-    ensures failed { IfErr result (λ fault. FaultRises fault (S.read_faults source.old) (S.read_faults source.new)) }
-    ensures counted { OnOk result (S.read_faults source.new ≡ S.read_faults source.old) }
-    ensures written { S.written source.new ≡ S.written source.old }
-    ensures write_faults { S.write_faults source.new ≡ S.write_faults source.old }
+    ensures answer { AnswersBody len result (S.tells source.old).left (S.tells source.new).left }
+    ensures counted { CountsFault result (S.tells source.old).read_faults (S.tells source.new).read_faults }
+    ensures output { SameOutput (S.tells source.old) (S.tells source.new) }
 {
     let mut body = Text::new(alloc);
     while body.len() < len {
@@ -168,11 +160,9 @@ fn read_body<S: Source>(
 /// The head is taken byte by byte, so a source with costly reads wants a buffer of its own. Where a read fails or there is
 /// no memory, what was taken is lost: a first part of one request, or all of it where there was no memory.
 pub fn read_request<S: Source>(alloc: Global, source: &mut S) -> Result<Incoming, LinkFault>
-    ensures answer { Answers result (S.left source.old) (S.left source.new) }
-    ensures failed { IfErr result (λ fault. FaultRises fault (S.read_faults source.old) (S.read_faults source.new)) }
-    ensures counted { OnOk result (S.read_faults source.new ≡ S.read_faults source.old) }
-    ensures written { S.written source.new ≡ S.written source.old }
-    ensures write_faults { S.write_faults source.new ≡ S.write_faults source.old }
+    ensures answer { Answers result (S.tells source.old).left (S.tells source.new).left }
+    ensures counted { CountsFault result (S.tells source.old).read_faults (S.tells source.new).read_faults }
+    ensures output { SameOutput (S.tells source.old) (S.tells source.new) }
 {
     match read_head(alloc, source) {
         Ok(HeadRead::Whole(head, lines)) => match judge(head.as_slice(), lines) {

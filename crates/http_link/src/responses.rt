@@ -1,7 +1,7 @@
 //! Responses on a sink.
-ghost use Rattle.std.specs.Prelude.{◌≡◌, OnOk, OnErr};
-ghost use Rattle.os_io.specs.Streams.{Told, HasRisen};
-ghost use Rattle.http_link.specs.Responses.{answer_text, refusal_text, Appends, AppendsPart};
+ghost use Rattle.std.specs.Prelude.{◌≡◌};
+ghost use Rattle.os_io.specs.Streams.{Writes};
+ghost use Rattle.http_link.specs.Responses.{answer_text, refusal_text};
 
 use crate::Refusal;
 use itoa::Buffer;
@@ -9,12 +9,7 @@ use os_io::{Failed, Sink, write_all};
 
 /// Writes an answer with this body: `200 OK`, as XML. Takes no memory, and doesn't flush.
 pub fn write_answer<S: Sink>(sink: &mut S, body: &[u8]) -> Result<(), Failed>
-    ensures ok { OnOk result (Told (S.written sink.old) (S.written sink.new) (Appends (answer_text body.now))) }
-    ensures prefix { OnErr result (Told (S.written sink.old) (S.written sink.new) (AppendsPart (answer_text body.now))) }
-    ensures failed { OnErr result (HasRisen (S.write_faults sink.old) (S.write_faults sink.new)) }
-    ensures counted { OnOk result (S.write_faults sink.new ≡ S.write_faults sink.old) }
-    ensures left { S.left sink.new ≡ S.left sink.old }
-    ensures read_faults { S.read_faults sink.new ≡ S.read_faults sink.old }
+    ensures { Writes result (answer_text body.now) (S.tells sink.old) (S.tells sink.new) }
 {
     let mut digits = Buffer::new();
     let front = b"HTTP/1.1 200 OK\r\nContent-Type: text/xml; charset=utf-8\r\nContent-Length: ";
@@ -26,12 +21,7 @@ pub fn write_answer<S: Sink>(sink: &mut S, body: &[u8]) -> Result<(), Failed>
 
 /// Writes a refusal, which has no body and closes the connection. Takes no memory, and doesn't flush.
 pub fn write_refusal<S: Sink>(sink: &mut S, refusal: Refusal) -> Result<(), Failed>
-    ensures ok { OnOk result (Told (S.written sink.old) (S.written sink.new) (Appends (refusal_text refusal))) }
-    ensures prefix { OnErr result (Told (S.written sink.old) (S.written sink.new) (AppendsPart (refusal_text refusal))) }
-    ensures failed { OnErr result (HasRisen (S.write_faults sink.old) (S.write_faults sink.new)) }
-    ensures counted { OnOk result (S.write_faults sink.new ≡ S.write_faults sink.old) }
-    ensures left { S.left sink.new ≡ S.left sink.old }
-    ensures read_faults { S.read_faults sink.new ≡ S.read_faults sink.old }
+    ensures { Writes result (refusal_text refusal) (S.tells sink.old) (S.tells sink.new) }
 {
     write_all(sink, text_of(refusal))
 }

@@ -1,7 +1,5 @@
 //! What a request is replied.
-ghost use Rattle.std.specs.Prelude.{◌≡◌, OnOk, OnErr};
-ghost use Rattle.os_io.specs.Streams.{Told, HasRisen};
-ghost use Rattle.http_link.specs.Responses.{Appends, AppendsPart};
+ghost use Rattle.os_io.specs.Streams.{Writes, Sends};
 ghost use Rattle.http_session.specs.Session.{text_of_reply, RepliesTo};
 
 use crate::service::Service;
@@ -14,8 +12,8 @@ use std::alloc::Global;
 pub(crate) enum Reply {
     /// This text, in an answer.
     Text(Text),
-    /// The request isn't one, or asks nothing: 400.
-    NoRequest,
+    /// This refusal: of the head, or 400 where the body asks nothing.
+    Refused(Refusal),
     /// There was no memory: 503.
     NoMemory,
 }
@@ -26,35 +24,25 @@ pub(crate) fn reply_to<S: Service>(alloc: Global, service: &S, body: &[u8]) -> R
 {
     match service.answer(alloc, body) {
         Ok(Some(text)) => Reply::Text(text),
-        Ok(None) => Reply::NoRequest,
+        Ok(None) => Reply::Refused(Refusal::BadRequest),
         Err(_) => Reply::NoMemory,
     }
 }
 
 /// Writes a reply.
 fn write_reply<O: Sink>(output: &mut O, reply: &Reply) -> Result<(), Failed>
-    ensures ok { OnOk result (Told (O.written output.old) (O.written output.new) (Appends (text_of_reply reply.now))) }
-    ensures prefix { OnErr result (Told (O.written output.old) (O.written output.new) (AppendsPart (text_of_reply reply.now))) }
-    ensures failed { OnErr result (HasRisen (O.write_faults output.old) (O.write_faults output.new)) }
-    ensures counted { OnOk result (O.write_faults output.new ≡ O.write_faults output.old) }
-    ensures left { O.left output.new ≡ O.left output.old }
-    ensures read_faults { O.read_faults output.new ≡ O.read_faults output.old }
+    ensures { Writes result (text_of_reply reply.now) (O.tells output.old) (O.tells output.new) }
 {
     match reply {
         Reply::Text(text) => write_answer(output, text.as_slice()),
-        Reply::NoRequest => write_refusal(output, Refusal::BadRequest),
+        Reply::Refused(refusal) => write_refusal(output, *refusal),
         Reply::NoMemory => write_refusal(output, Refusal::ServiceUnavailable),
     }
 }
 
 /// Writes a reply and hands it on.
 pub(crate) fn send<O: Sink>(output: &mut O, reply: &Reply) -> Result<(), Failed>
-    ensures ok { OnOk result (Told (O.written output.old) (O.written output.new) (Appends (text_of_reply reply.now))) }
-    ensures prefix { OnErr result (Told (O.written output.old) (O.written output.new) (AppendsPart (text_of_reply reply.now))) }
-    ensures failed { OnErr result (HasRisen (O.write_faults output.old) (O.write_faults output.new)) }
-    ensures counted { OnOk result (O.write_faults output.new ≡ O.write_faults output.old) }
-    ensures left { O.left output.new ≡ O.left output.old }
-    ensures read_faults { O.read_faults output.new ≡ O.read_faults output.old }
+    ensures { Sends result (text_of_reply reply.now) (O.tells output.old) (O.tells output.new) }
 {
     write_reply(output, reply)?;
     output.flush()

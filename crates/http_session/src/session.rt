@@ -1,6 +1,7 @@
 //! One request of a session.
 ghost use Rattle.std.specs.Prelude.{◌≡◌};
-ghost use Rattle.http_session.specs.Session.{ServesOne, CountsReads, CountsWrites, Sends};
+ghost use Rattle.os_io.specs.Streams.{SameInput, SameOutput};
+ghost use Rattle.http_session.specs.Session.{ServesOne, CountsReads, CountsWrites, Finishes, HandsOn, served_by};
 
 use crate::reply::{Reply, reply_to, send};
 use crate::service::Service;
@@ -11,7 +12,7 @@ use std::alloc::Global;
 /// How one request was served.
 #[derive(Clone, Copy, PartialEq, Eq, Debug, Drop)]
 pub enum Served {
-    /// A request came, and its response was written whole.
+    /// A request came, and its response was written whole and handed on.
     Answered,
     /// The input ended between two requests.
     Ended,
@@ -21,24 +22,28 @@ pub enum Served {
     ReadFault,
     /// A write or the flush failed, and the output's count of faults rose. A first part of a response was written.
     WriteFault,
-    /// There was no memory, for the request or for its answer, and 503 was written whole.
+    /// There was no memory, for the request or for its answer, and 503 was written whole and handed on.
     Memory,
+}
+
+/// How a request was served whose reply was written.
+fn served_by(reply: &Reply) -> Served
+    ensures { result ≡ served_by reply.now }
+{
+    match reply {
+        Reply::Text(_) => Served::Answered,
+        Reply::Refused(_) => Served::Answered,
+        Reply::NoMemory => Served::Memory,
+    }
 }
 
 /// Writes a reply and hands it on, and says how that serves the request.
 fn finish<O: Sink>(output: &mut O, reply: &Reply) -> Served
-    ensures sent { Sends reply.now result (O.written output.old) (O.written output.new) }
-    ensures counted { CountsWrites result (O.write_faults output.old) (O.write_faults output.new) }
-    ensures left { O.left output.new ≡ O.left output.old }
-    ensures read_faults { O.read_faults output.new ≡ O.read_faults output.old }
+    ensures { Finishes reply.now result (O.tells output.old) (O.tells output.new) }
 {
     match send(output, reply) {
+        Ok(()) => served_by(reply),
         Err(Failed) => Served::WriteFault,
-        Ok(()) => match reply {
-            Reply::Text(_) => Served::Answered,
-            Reply::NoRequest => Served::Answered,
-            Reply::NoMemory => Served::Memory,
-        },
     }
 }
 
@@ -50,20 +55,19 @@ pub fn serve_one<I: Source, O: Sink, S: Service>(
     output: &mut O,
     service: &S,
 ) -> Served
-    ensures serves { ServesOne S.answers result (I.left input.old) (I.left input.new) (O.written output.old) (O.written output.new) }
-    ensures reads { CountsReads result (I.read_faults input.old) (I.read_faults input.new) }
-    ensures writes { CountsWrites result (O.write_faults output.old) (O.write_faults output.new) }
-    ensures input_written { I.written input.new ≡ I.written input.old }
-    ensures input_writes { I.write_faults input.new ≡ I.write_faults input.old }
-    ensures output_left { O.left output.new ≡ O.left output.old }
-    ensures output_reads { O.read_faults output.new ≡ O.read_faults output.old }
+    ensures serves { ServesOne S.answers result (I.tells input.old).left (I.tells input.new).left (O.tells output.old).written (O.tells output.new).written }
+    ensures handed_on { HandsOn result (O.tells output.old) (O.tells output.new) }
+    ensures reads { CountsReads result (I.tells input.old).read_faults (I.tells input.new).read_faults }
+    ensures writes { CountsWrites result (O.tells output.old).write_faults (O.tells output.new).write_faults }
+    ensures output_of_input { SameOutput (I.tells input.old) (I.tells input.new) }
+    ensures input_of_output { SameInput (O.tells output.old) (O.tells output.new) }
 {
     match read_request(alloc, input) {
         Ok(Incoming::Body(body)) => {
             let reply = reply_to(alloc, service, body.as_slice());
             finish(output, &reply)
         }
-        Ok(Incoming::Refused(_)) => finish(output, &Reply::NoRequest),
+        Ok(Incoming::Refused(refusal)) => finish(output, &Reply::Refused(refusal)),
         Ok(Incoming::Cut) => Served::CutShort,
         Ok(Incoming::Ended) => Served::Ended,
         Err(LinkFault::ReadFault) => Served::ReadFault,

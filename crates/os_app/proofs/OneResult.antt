@@ -10,7 +10,7 @@ use Rattle.osil_grammar.specs.declared.fault.OsilFault.{OsilFault}
 use Rattle.osil_grammar.specs.declared.fault.OsilFault.TheVariants.{Tree, Refused, Memory}
 use Rattle.osil_grammar.specs.Refusals.{Refusal}
 use Rattle.osil_grammar.specs.Texts.{refusal_text}
-use Rattle.osil_grammar.specs.InstanceText.{IsInstanceText, IsRefusedText}
+use Rattle.osil_grammar.specs.Reading.{IsInstanceText, IsRefusedText}
 use Rattle.osil_grammar.specs.Reading.{DecodeFails, IsTreeText, IsFaultText, refusal}
 use Rattle.osil_grammar.proofs.OneInstance.{text_means_once}
 use Rattle.osil_grammar.proofs.OneRefusal.{text_refused_once, text_not_both}

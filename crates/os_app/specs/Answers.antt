@@ -14,9 +14,9 @@ pub record IsRead (bytes : List ℕ) (told : List Event) : Type 0 where
   pub only : (other : Element) → IsDocument bytes other → told ≡ events other
 
 -- the events of a document, or none exactly where the bytes aren't one
-abbrev pub Reads : List ℕ → Option (List Event) → Type 0
-Reads bytes None = (root : Element) → IsDocument bytes root → ⊥
-Reads bytes (Some told) = IsRead bytes told
+abbrev pub IsTreeOf : List ℕ → Option (List Event) → Type 0
+IsTreeOf bytes None = (root : Element) → IsDocument bytes root → ⊥
+IsTreeOf bytes (Some told) = IsRead bytes told
 
 -- the reply to a call that asks to solve the text: it returns the result document that answers the text
 pub record Replies (text reply : List ℕ) : Type 0 where
@@ -24,7 +24,7 @@ pub record Replies (text reply : List ℕ) : Type 0 where
   pub answers : IsResult text result
   pub written : reply ≡ reply_text result
 
--- what a body may get: none exactly where it asks to solve no text
-abbrev pub MayAnswer : List ℕ → Option (List ℕ) → Type 0
-MayAnswer body None = (text : List ℕ) → IsSolveBody body text → ⊥
-MayAnswer body (Some reply) = (text : List ℕ) × IsSolveBody body text × Replies text reply
+-- what a body gets: none exactly where it asks to solve no text
+abbrev pub SolverAnswers : List ℕ → Option (List ℕ) → Type 0
+SolverAnswers body None = (text : List ℕ) → IsSolveBody body text → ⊥
+SolverAnswers body (Some reply) = (text : List ℕ) × IsSolveBody body text × Replies text reply

@@ -2,5 +2,6 @@ pub mod Checks
 pub mod Answers
 pub mod Results
 pub mod Runs
+pub mod Sent
 pub mod Statuses
 pub mod Words

@@ -5,7 +5,7 @@ use Rattle.certificate.specs.declared.claims.Claim.{Claim}
 use Rattle.certificate.specs.Means as Means
 use Rattle.plain_claim.specs.Plain.{IsPlain, Holds, claim as plain_claim}
 use Rattle.osil_grammar.specs.declared.fault.OsilFault.{OsilFault}
-use Rattle.osil_grammar.specs.InstanceText.{IsInstanceText}
+use Rattle.osil_grammar.specs.Reading.{IsInstanceText}
 use Rattle.osil_grammar.specs.Reading.{DecodeFails, IsFaultText}
 use Rattle.osrl_grammar.specs.declared.report.JobStatus.TheVariants.{Finished}
 use Rattle.osrl_grammar.specs.declared.report.Report.{Report}

@@ -1,6 +1,6 @@
 //! Answers the bodies of requests: each asks to solve a text.
 ghost use Rattle.std.specs.Prelude.{IfOk};
-ghost use Rattle.os_app.specs.Answers.{Reads, Replies, MayAnswer};
+ghost use Rattle.os_app.specs.Answers.{IsTreeOf, Replies, SolverAnswers};
 
 use crate::solving::solve;
 use doc_tree::{TreeFault, read};
@@ -18,7 +18,7 @@ pub(crate) struct PlainSolver;
 
 /// The tree of a document within the limits, if the bytes are one.
 fn tree_of(alloc: Global, bytes: &[u8]) -> Result<Option<Tree>, Memory>
-    ensures { IfOk result (λ tree. Reads bytes.now tree) }
+    ensures { IfOk result (λ tree. IsTreeOf bytes.now tree) }
 {
     match read(alloc, bytes, DOCUMENT_LIMIT) {
         Ok(tree) => Ok(Some(tree)),
@@ -36,7 +36,7 @@ fn reply_to(alloc: Global, text: &[u8]) -> Result<Text, Memory>
 }
 
 impl Service for PlainSolver {
-    ghost answers = { MayAnswer };
+    ghost answers = { SolverAnswers };
 
     fn answer(&self, alloc: Global, body: &[u8]) -> Result<Option<Text>, Memory> {
         let Some(envelope) = tree_of(alloc, body)? else {

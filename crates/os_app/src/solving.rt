@@ -1,7 +1,7 @@
 //! Answers texts that are to be solved, each by a result document.
 ghost use Rattle.std.specs.Prelude.{◌≡◌, ℕ, List, IfOk};
 ghost use Rattle.instance.specs.Parts.{Parts, IsValid};
-ghost use Rattle.osil_grammar.specs.InstanceText.{IsInstanceText, IsRefusedText};
+ghost use Rattle.osil_grammar.specs.Reading.{IsInstanceText, IsRefusedText};
 ghost use Rattle.osil_grammar.specs.Refusals.{Refusal};
 ghost use Rattle.osil_grammar.specs.Texts.{refusal_text};
 ghost use Rattle.osrl_grammar.specs.Writing.{report_text};

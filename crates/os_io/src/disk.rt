@@ -1,4 +1,5 @@
-ghost use Rattle.std.specs.Prelude.{◌≡◌, None};
+ghost use Rattle.std.specs.Prelude.{◌≡◌};
+ghost use Rattle.os_io.specs.Files.{Untold};
 
 use crate::files::{FileFault, Files};
 use crate::parts::count;
@@ -44,7 +45,7 @@ fn first_bytes<R: fs::Files>(
 }
 
 impl<R: fs::Files + Drop> Files for DiskFiles<R> {
-    ghost held = { λ _ _. None };
+    ghost held = { λ _ _. Untold };
 
     ghost faults = { λ s. s.faults };
 

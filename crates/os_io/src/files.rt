@@ -1,6 +1,5 @@
-ghost use Rattle.std.specs.Prelude.{◌≡◌, ℕ, ◌≤◌, ◌-◌, ◌^◌, List, take, Option, IfSome, IfOk};
-ghost use Rattle.os_io.specs.Streams.{HasRisen};
-ghost use Rattle.os_io.specs.Files.{Counts};
+ghost use Rattle.std.specs.Prelude.{◌≡◌, ℕ, List, IfOk};
+ghost use Rattle.os_io.specs.Files.{CountsFiles, Held, ReadsFirst};
 
 use crate::text::Text;
 use std::alloc::Global;
@@ -16,17 +15,15 @@ pub enum FileFault {
 
 /// Files by name.
 pub trait Files {
-    /// What a name holds, where told.
-    ghost held: { Self → List ℕ → Option (List ℕ) };
+    /// What a name holds: a file's bytes, or no file, or nothing is told.
+    ghost held: { Self → List ℕ → Held };
 
     /// How often a file couldn't be read, at most 2^64 - 1.
     ghost faults: { Self → ℕ };
 
-    /// The first `most` bytes of a file.
+    /// The first `most` bytes of a file. Where it is told that there is no file, it isn't read.
     fn read_all(&mut self, alloc: Global, name: &str, most: u64) -> Result<Text, FileFault>
-        ensures ok { IfOk result (λ text. IfSome (held self.old name.now) (λ bytes. text ≡ take most bytes)) }
+        ensures ok { IfOk result (ReadsFirst most (held self.old name.now)) }
         ensures held { held self.new ≡ held self.old }
-        ensures counted { Counts result (faults self.old) (faults self.new) }
-        ensures faults { faults self.old ≤ faults self.new }
-        ensures full { faults self.old ≡ 2 ^ 64 - 1 → faults self.new ≡ 2 ^ 64 - 1 };
+        ensures counted { CountsFiles result (faults self.old) (faults self.new) };
 }

@@ -1,8 +1,12 @@
-//! Bytes from and to the outside: sources, sinks, links, files and listeners, each with a count of its faults.
+//! The outside: bytes that come and go, files, listeners and looks at whether to stop, each with its count.
 //!
 //! What an object tells of its bytes is part of each contract: a read says which bytes it took, a write which it
-//! added. A call answers [`Failed`] only where the object's count of faults rose in that call, so whoever counts can
-//! see why. Real inputs and outputs tell nothing of their bytes; the forms in memory tell all.
+//! added, a flush that all that was written was handed on. A call answers [`Failed`] only where the object's count of
+//! faults rose in that call, so whoever counts can see why. Real inputs and outputs tell nothing of their bytes; the
+//! forms in memory tell all.
+//!
+//! Where one call after another writes, `Writes` says of all of them which text was written, or a first part of it at a
+//! fault, and that nothing else was touched.
 #![tactic(auto)]
 
 mod disk;
@@ -11,13 +15,16 @@ mod listener;
 mod mem_files;
 mod mem_link;
 mod mem_listener;
+mod mem_watch;
 mod memory;
+mod never;
 mod parts;
 mod standard;
 mod streams;
 #[cfg(test)]
 mod tests;
 mod text;
+mod watch;
 
 pub use disk::DiskFiles;
 pub use files::{FileFault, Files};
@@ -25,7 +32,10 @@ pub use listener::Listener;
 pub use mem_files::MemFiles;
 pub use mem_link::MemLink;
 pub use mem_listener::MemListener;
+pub use mem_watch::MemWatch;
 pub use memory::{MemSink, MemSource};
+pub use never::Never;
 pub use standard::{StdSink, StdSource};
-pub use streams::{Failed, Link, Sink, Source, Stream, write_all};
+pub use streams::{Failed, Link, Sink, Source, Stream, send_all, write_all};
 pub use text::{Memory, Text};
+pub use watch::Watch;

@@ -1,6 +1,7 @@
-ghost use Rattle.std.specs.Prelude.{◌≡◌, ◌≢◌, ℕ, List, Some, None, take, OnOk, OnErr, IfOk};
+ghost use Rattle.std.specs.Prelude.{◌≡◌, ◌≢◌, ℕ, List, take, OnOk, OnErr, IfOk};
 ghost use Rattle.std.specs.Option.{option_copied};
-ghost use Rattle.os_io.specs.Held.{held_by};
+ghost use Rattle.os_io.specs.Files.{Holds, NoFile};
+ghost use Rattle.os_io.specs.MemFiles.{bytes_of, held_as};
 ghost use Rattle.os_io.specs.Memory.{IsFresh};
 
 use crate::files::{FileFault, Files};
@@ -27,7 +28,7 @@ pub struct MemFiles {
 impl MemFiles {
     /// No files yet. The reads whose numbers are in `fails` fail.
     pub fn new(alloc: Global, fails: &[u64]) -> Result<MemFiles, Memory>
-        ensures held { IfOk result (λ s. (name : List ℕ) → ⟦<MemFiles as Files>⟧.held s name ≡ None) }
+        ensures held { IfOk result (λ s. (name : List ℕ) → ⟦<MemFiles as Files>⟧.held s name ≡ NoFile) }
         ensures faults { IfOk result (λ s. ⟦<MemFiles as Files>⟧.faults s ≡ 0) }
         ensures fails { IfOk result (λ s. IsFresh s.script fails.now) }
     {
@@ -40,7 +41,7 @@ impl MemFiles {
 
     /// Puts a file there, in place of one with this name.
     pub fn put(&mut self, alloc: Global, name: &str, bytes: &[u8]) -> Result<(), Memory>
-        ensures there { OnOk result (⟦<MemFiles as Files>⟧.held self.new name.now ≡ Some bytes.now) }
+        ensures there { OnOk result (⟦<MemFiles as Files>⟧.held self.new name.now ≡ Holds bytes.now) }
         ensures others { OnOk result ((other : List ℕ) → other ≢ name.now → ⟦<MemFiles as Files>⟧.held self.new other ≡ ⟦<MemFiles as Files>⟧.held self.old other) }
         ensures err { OnErr result (⟦<MemFiles as Files>⟧.held self.new ≡ ⟦<MemFiles as Files>⟧.held self.old) }
         ensures faults { ⟦<MemFiles as Files>⟧.faults self.new ≡ ⟦<MemFiles as Files>⟧.faults self.old }
@@ -61,7 +62,7 @@ impl MemFiles {
 
 /// The bytes of the first file with this name.
 fn find<'a>(files: &'a [MemFile], name: &str) -> Option<&'a [u8]>
-    ensures { option_copied result ≡ held_by files.now name.now }
+    ensures { option_copied result ≡ bytes_of files.now name.now }
 {
     for file in files {
         if file.name.as_slice() == name.as_bytes() {
@@ -80,7 +81,7 @@ fn first(bytes: &[u8], most: u64) -> &[u8]
 }
 
 impl Files for MemFiles {
-    ghost held = { λ s name. held_by s.files.items name };
+    ghost held = { λ s name. held_as (bytes_of s.files.items name) };
 
     ghost faults = { λ s. s.faults };
 

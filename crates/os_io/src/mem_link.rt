@@ -1,6 +1,8 @@
 ghost use Rattle.std.specs.Prelude.{◌≡◌, [], Some, IfOk, max, vec_capacity};
-ghost use Rattle.os_io.specs.Memory.{input_left, IsFresh};
+ghost use Rattle.os_io.specs.Kept.{tells_of_link};
+ghost use Rattle.os_io.specs.Memory.{IsFresh};
 ghost use Rattle.os_io.specs.declared.mem_link.Kept.{out-Kept};
+ghost use Rattle.os_io.specs.Laws.{handed_part};
 
 use crate::parts::{Input, Output, Script, count};
 use crate::streams::{Failed, Link, Sink, Source, Stream};
@@ -42,10 +44,11 @@ impl MemLink {
         room: usize,
         fails: &[u64],
     ) -> Result<MemLink, Memory>
-        ensures left { IfOk result (λ l. ⟦<MemLink as Stream>⟧.left l ≡ Some bytes.now) }
-        ensures written { IfOk result (λ l. ⟦<MemLink as Stream>⟧.written l ≡ Some []) }
-        ensures read_faults { IfOk result (λ l. ⟦<MemLink as Stream>⟧.read_faults l ≡ 0) }
-        ensures write_faults { IfOk result (λ l. ⟦<MemLink as Stream>⟧.write_faults l ≡ 0) }
+        ensures left { IfOk result (λ l. (⟦<MemLink as Stream>⟧.tells l).left ≡ Some bytes.now) }
+        ensures written { IfOk result (λ l. (⟦<MemLink as Stream>⟧.tells l).written ≡ Some []) }
+        ensures handed_on { IfOk result (λ l. (⟦<MemLink as Stream>⟧.tells l).handed_on ≡ Some []) }
+        ensures read_faults { IfOk result (λ l. (⟦<MemLink as Stream>⟧.tells l).read_faults ≡ 0) }
+        ensures write_faults { IfOk result (λ l. (⟦<MemLink as Stream>⟧.tells l).write_faults ≡ 0) }
         ensures piece { IfOk result (λ l. (out-Kept l.place.value).ways.input.piece ≡ max piece 1) }
         ensures room { IfOk result (λ l. vec_capacity (out-Kept l.place.value).ways.output.bytes ≡ room) }
         ensures fails { IfOk result (λ l. IsFresh (out-Kept l.place.value).ways.script fails.now) }
@@ -64,34 +67,35 @@ impl MemLink {
 
     /// The bytes written.
     pub fn as_slice(&self) -> &[u8]
-        ensures { ⟦<MemLink as Stream>⟧.written self.now ≡ Some result.now }
+        ensures { (⟦<MemLink as Stream>⟧.tells self.now).written ≡ Some result.now }
     {
         self.place.ways.output.as_slice()
     }
 
+    /// The bytes handed on.
+    pub fn handed_on(&self) -> &[u8]
+        ensures { (⟦<MemLink as Stream>⟧.tells self.now).handed_on ≡ Some result.now }
+    {
+        self.place.ways.output.handed()
+    }
+
     /// How often a read has failed.
     pub fn read_faults(&self) -> u64
-        ensures { result ≡ ⟦<MemLink as Stream>⟧.read_faults self.now }
+        ensures { result ≡ (⟦<MemLink as Stream>⟧.tells self.now).read_faults }
     {
         self.place.ways.read_faults
     }
 
     /// How often a write or a flush has failed.
     pub fn write_faults(&self) -> u64
-        ensures { result ≡ ⟦<MemLink as Stream>⟧.write_faults self.now }
+        ensures { result ≡ (⟦<MemLink as Stream>⟧.tells self.now).write_faults }
     {
         self.place.ways.write_faults
     }
 }
 
 impl Stream for MemLink {
-    ghost left = { λ l. Some (input_left (out-Kept l.place.value).ways.input) };
-
-    ghost written = { λ l. Some (out-Kept l.place.value).ways.output.bytes.items };
-
-    ghost read_faults = { λ l. (out-Kept l.place.value).ways.read_faults };
-
-    ghost write_faults = { λ l. (out-Kept l.place.value).ways.write_faults };
+    ghost tells = { tells_of_link };
 }
 
 impl Source for MemLink {
@@ -121,8 +125,11 @@ impl Sink for MemLink {
         if ways.script.fails() {
             return Err(count(&mut ways.write_faults));
         }
+        ways.output.hand_on();
         Ok(())
     }
+
+    ghost handed_on_is_written = { λ l. handed_part (out-Kept l.place.value).ways.output.handed (out-Kept l.place.value).ways.output.bytes.items };
 }
 
 impl Link for MemLink {}

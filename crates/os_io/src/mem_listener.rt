@@ -1,7 +1,7 @@
-ghost use Rattle.std.specs.Prelude.{◌≡◌, ◌≤◌, ◌-◌, ◌^◌, ◌++◌, ◌∷◌, [], map, Some, IfOk, IfSome, IfNone, OnOk, OnErr};
-ghost use Rattle.os_io.specs.Streams.{HasRisen};
-ghost use Rattle.os_io.specs.Links.{IsGivenBack, ends};
-ghost use Rattle.os_io.specs.Kept.{ends_of_link, ends_kept};
+ghost use Rattle.std.specs.Prelude.{◌≡◌, ◌∷◌, [], map, Some, IfOk, IfSome, IfNone, OnOk, OnErr};
+ghost use Rattle.os_io.specs.Streams.{Counts};
+ghost use Rattle.os_io.specs.Links.{IsGivenBack};
+ghost use Rattle.os_io.specs.Kept.{tells_of_link, tells_kept};
 ghost use Rattle.os_io.specs.Memory.{IsFresh};
 
 use crate::listener::Listener;
@@ -39,7 +39,7 @@ impl MemListener {
 
     /// Adds a link, which comes after those that were added before. Without memory the link is lost.
     pub fn add(&mut self, link: MemLink) -> Result<(), Memory>
-        ensures coming { OnOk result (IsGivenBack (⟦<MemListener as Listener>⟧.coming self.old) (⟦<MemListener as Listener>⟧.coming self.new) (ends (⟦<MemLink as Stream>⟧.left link) (⟦<MemLink as Stream>⟧.written link) (⟦<MemLink as Stream>⟧.read_faults link) (⟦<MemLink as Stream>⟧.write_faults link))) }
+        ensures coming { OnOk result (IsGivenBack (⟦<MemListener as Listener>⟧.coming self.old) (⟦<MemListener as Listener>⟧.coming self.new) (⟦<MemLink as Stream>⟧.tells link)) }
         ensures err { OnErr result (⟦<MemListener as Listener>⟧.coming self.new ≡ ⟦<MemListener as Listener>⟧.coming self.old) }
         ensures given_back { ⟦<MemListener as Listener>⟧.given_back self.new ≡ ⟦<MemListener as Listener>⟧.given_back self.old }
         ensures faults { ⟦<MemListener as Listener>⟧.faults self.new ≡ ⟦<MemListener as Listener>⟧.faults self.old }
@@ -60,10 +60,7 @@ impl MemListener {
         ensures came { IfOk result (λ link. self.old.links.items ≡ link ∷ self.new.links.items) }
         ensures err { OnErr result (self.new.links.items ≡ self.old.links.items) }
         ensures back { self.new.back ≡ self.old.back }
-        ensures failed { OnErr result (HasRisen self.old.faults self.new.faults) }
-        ensures counted { OnOk result (self.new.faults ≡ self.old.faults) }
-        ensures faults { self.old.faults ≤ self.new.faults }
-        ensures full { self.old.faults ≡ 2 ^ 64 - 1 → self.new.faults ≡ 2 ^ 64 - 1 }
+        ensures counted { Counts result self.old.faults self.new.faults }
     {
         if self.script.fails() || self.links.is_empty() {
             return Err(count(&mut self.faults));
@@ -73,7 +70,7 @@ impl MemListener {
 
     /// Takes out the link that was given back last, if there is one.
     pub fn take_back(&mut self) -> Option<MemLink>
-        ensures last { IfSome result (λ link. IsGivenBack (⟦<MemListener as Listener>⟧.given_back self.new) (⟦<MemListener as Listener>⟧.given_back self.old) (ends (⟦<MemLink as Stream>⟧.left link) (⟦<MemLink as Stream>⟧.written link) (⟦<MemLink as Stream>⟧.read_faults link) (⟦<MemLink as Stream>⟧.write_faults link))) }
+        ensures last { IfSome result (λ link. IsGivenBack (⟦<MemListener as Listener>⟧.given_back self.new) (⟦<MemListener as Listener>⟧.given_back self.old) (⟦<MemLink as Stream>⟧.tells link)) }
         ensures none { IfNone result (⟦<MemListener as Listener>⟧.given_back self.old ≡ Some []) }
         ensures unchanged { IfNone result (⟦<MemListener as Listener>⟧.given_back self.new ≡ Some []) }
         ensures coming { ⟦<MemListener as Listener>⟧.coming self.new ≡ ⟦<MemListener as Listener>⟧.coming self.old }
@@ -88,9 +85,9 @@ impl MemListener {
 impl Listener for MemListener {
     type Conn = MemLink;
 
-    ghost coming = { λ s. Some (map ends_of_link s.links.items) };
+    ghost coming = { λ s. Some (map tells_of_link s.links.items) };
 
-    ghost given_back = { λ s. Some (ends_kept s.back) };
+    ghost given_back = { λ s. Some (tells_kept s.back) };
 
     ghost faults = { λ s. s.faults };
 

@@ -1,5 +1,7 @@
-ghost use Rattle.std.specs.Prelude.{◌≡◌, [], Some, None, IfOk, max, vec_capacity};
-ghost use Rattle.os_io.specs.Memory.{input_left, IsFresh};
+ghost use Rattle.std.specs.Prelude.{◌≡◌, [], Some, IfOk, max, vec_capacity};
+ghost use Rattle.os_io.specs.Memory.{input_left, output_handed, IsFresh};
+ghost use Rattle.os_io.specs.Streams.{source_tells, sink_tells};
+ghost use Rattle.os_io.specs.Laws.{handed_part};
 
 use crate::parts::{Input, Output, Script, count};
 use crate::streams::{Failed, Link, Sink, Source, Stream};
@@ -23,8 +25,8 @@ impl MemSource {
         piece: usize,
         fails: &[u64],
     ) -> Result<MemSource, Memory>
-        ensures left { IfOk result (λ s. ⟦<MemSource as Stream>⟧.left s ≡ Some bytes.now) }
-        ensures faults { IfOk result (λ s. ⟦<MemSource as Stream>⟧.read_faults s ≡ 0) }
+        ensures left { IfOk result (λ s. (⟦<MemSource as Stream>⟧.tells s).left ≡ Some bytes.now) }
+        ensures faults { IfOk result (λ s. (⟦<MemSource as Stream>⟧.tells s).read_faults ≡ 0) }
         ensures piece { IfOk result (λ s. s.input.piece ≡ max piece 1) }
         ensures fails { IfOk result (λ s. IsFresh s.script fails.now) }
     {
@@ -37,20 +39,14 @@ impl MemSource {
 
     /// How often a read has failed.
     pub fn faults(&self) -> u64
-        ensures { result ≡ ⟦<MemSource as Stream>⟧.read_faults self.now }
+        ensures { result ≡ (⟦<MemSource as Stream>⟧.tells self.now).read_faults }
     {
         self.faults
     }
 }
 
 impl Stream for MemSource {
-    ghost left = { λ s. Some (input_left s.input) };
-
-    ghost written = { λ _. None };
-
-    ghost read_faults = { λ s. s.faults };
-
-    ghost write_faults = { λ _. 0 };
+    ghost tells = { λ s. source_tells (Some (input_left s.input)) s.faults };
 }
 
 impl Source for MemSource {
@@ -74,8 +70,9 @@ pub struct MemSink {
 impl MemSink {
     /// An empty sink with room for so many bytes. The calls whose numbers are in `fails` fail.
     pub fn new(alloc: Global, room: usize, fails: &[u64]) -> Result<MemSink, Memory>
-        ensures written { IfOk result (λ s. ⟦<MemSink as Stream>⟧.written s ≡ Some []) }
-        ensures faults { IfOk result (λ s. ⟦<MemSink as Stream>⟧.write_faults s ≡ 0) }
+        ensures written { IfOk result (λ s. (⟦<MemSink as Stream>⟧.tells s).written ≡ Some []) }
+        ensures handed_on { IfOk result (λ s. (⟦<MemSink as Stream>⟧.tells s).handed_on ≡ Some []) }
+        ensures faults { IfOk result (λ s. (⟦<MemSink as Stream>⟧.tells s).write_faults ≡ 0) }
         ensures room { IfOk result (λ s. vec_capacity s.output.bytes ≡ room) }
         ensures fails { IfOk result (λ s. IsFresh s.script fails.now) }
     {
@@ -88,27 +85,28 @@ impl MemSink {
 
     /// The bytes written.
     pub fn as_slice(&self) -> &[u8]
-        ensures { ⟦<MemSink as Stream>⟧.written self.now ≡ Some result.now }
+        ensures { (⟦<MemSink as Stream>⟧.tells self.now).written ≡ Some result.now }
     {
         self.output.as_slice()
     }
 
+    /// The bytes handed on.
+    pub fn handed_on(&self) -> &[u8]
+        ensures { (⟦<MemSink as Stream>⟧.tells self.now).handed_on ≡ Some result.now }
+    {
+        self.output.handed()
+    }
+
     /// How often a write or a flush has failed.
     pub fn faults(&self) -> u64
-        ensures { result ≡ ⟦<MemSink as Stream>⟧.write_faults self.now }
+        ensures { result ≡ (⟦<MemSink as Stream>⟧.tells self.now).write_faults }
     {
         self.faults
     }
 }
 
 impl Stream for MemSink {
-    ghost left = { λ _. None };
-
-    ghost written = { λ s. Some s.output.bytes.items };
-
-    ghost read_faults = { λ _. 0 };
-
-    ghost write_faults = { λ s. s.faults };
+    ghost tells = { λ s. sink_tells (Some s.output.bytes.items) (Some (output_handed s.output)) s.faults };
 }
 
 impl Sink for MemSink {
@@ -126,6 +124,9 @@ impl Sink for MemSink {
         if self.script.fails() {
             return Err(count(&mut self.faults));
         }
+        self.output.hand_on();
         Ok(())
     }
+
+    ghost handed_on_is_written = { λ s. handed_part s.output.handed s.output.bytes.items };
 }

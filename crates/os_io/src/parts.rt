@@ -1,8 +1,8 @@
 //! What the forms in memory are made of.
 ghost use Rattle.std.specs.Prelude.{◌≡◌, ℕ, ◌<◌, ◌≤◌, ◌+◌, ◌-◌, ◌^◌, List, ◌++◌, [], length, take, drop, IfOk, IfSome, IfNone, ◌==◌, min, max, vec_capacity};
 ghost use Rattle.std.specs.List.{list_any};
-ghost use Rattle.os_io.specs.Streams.{HasRisen, Takes};
-ghost use Rattle.os_io.specs.Memory.{input_left, IsFresh};
+ghost use Rattle.os_io.specs.Streams.{HasRisen, IsPart, Takes};
+ghost use Rattle.os_io.specs.Memory.{input_left, output_handed, IsFresh};
 
 use crate::streams::Failed;
 use crate::text::Memory;
@@ -25,6 +25,13 @@ impl Script {
         })
     }
 
+    /// How often it was called, at most 2^64 - 1.
+    pub(crate) fn calls(&self) -> u64
+        ensures { result ≡ self.now.calls }
+    {
+        self.calls
+    }
+
     /// Counts a call, and tells whether it fails.
     pub(crate) fn fails(&mut self) -> bool
         ensures calls { self.new.calls ≡ min (self.old.calls + 1) (2 ^ 64 - 1) }
@@ -36,11 +43,9 @@ impl Script {
     }
 }
 
-/// Raises a count of faults that isn't at its end.
+/// Raises a count of faults that isn't at its greatest.
 pub(crate) fn count(faults: &mut u64) -> Failed
-    ensures risen { HasRisen faults.old faults.new }
-    ensures below { faults.old ≤ faults.new }
-    ensures full { faults.old ≡ 2 ^ 64 - 1 → faults.new ≡ 2 ^ 64 - 1 }
+    ensures { HasRisen faults.old faults.new }
 {
     *faults = faults.saturating_add(1);
     Failed
@@ -81,19 +86,22 @@ impl Input {
     }
 }
 
-/// Bytes that grow in a room of a fixed size.
+/// Bytes that grow in a room of a fixed size, and how many of them were handed on.
 #[derive(Drop)]
 pub(crate) struct Output {
     bytes: Vec<u8>,
+    handed: usize,
 }
 
 impl Output {
     pub(crate) fn new(alloc: Global, room: usize) -> Result<Output, Memory>
         ensures empty { IfOk result (λ o. o.bytes.items ≡ []) }
+        ensures handed { IfOk result (λ o. output_handed o ≡ []) }
         ensures room { IfOk result (λ o. vec_capacity o.bytes ≡ room) }
     {
         Ok(Output {
             bytes: Vec::with_capacity(alloc, room)?,
+            handed: 0,
         })
     }
 
@@ -103,12 +111,29 @@ impl Output {
         self.bytes.as_slice()
     }
 
+    /// The bytes that were handed on.
+    pub(crate) fn handed(&self) -> &[u8]
+        ensures { result.now ≡ output_handed self.now }
+    {
+        &self.bytes[..self.handed.min(self.bytes.len())]
+    }
+
+    /// Hands on all bytes.
+    pub(crate) fn hand_on(&mut self)
+        ensures bytes { self.new.bytes ≡ self.old.bytes }
+        ensures all { output_handed self.new ≡ self.new.bytes.items }
+        ensures handed { IsPart (output_handed self.new) (output_handed self.old) }
+    {
+        self.handed = self.bytes.len();
+    }
+
     /// Writes as many of the bytes as there is room for. None where there is none for bytes that aren't empty.
     pub(crate) fn write(&mut self, bytes: &[u8]) -> Option<usize>
         ensures within { IfSome result (λ n. n ≤ length bytes.now) }
         ensures some { IfSome result (λ n. 0 < length bytes.now → 0 < n) }
         ensures added { IfSome result (λ n. self.new.bytes.items ≡ self.old.bytes.items ++ take n bytes.now) }
         ensures none { IfNone result (self.new.bytes.items ≡ self.old.bytes.items) }
+        ensures handed { IsPart (output_handed self.new) (output_handed self.old) }
     {
         let room = self.bytes.capacity().saturating_sub(self.bytes.len());
         let n = bytes.len().min(room);

@@ -1,4 +1,5 @@
 ghost use Rattle.std.specs.Prelude.{◌≡◌, None};
+ghost use Rattle.os_io.specs.Streams.{source_tells, sink_tells};
 
 use crate::parts::count;
 use crate::streams::{Failed, Sink, Source, Stream};
@@ -14,27 +15,21 @@ pub struct StdSource<R> {
 impl<R: Read + Drop> StdSource<R> {
     /// Reads from here, as `rt.stdin()`.
     pub fn new(reader: R) -> StdSource<R>
-        ensures { ⟦<StdSource<R> as Stream>⟧.read_faults result ≡ 0 }
+        ensures { (⟦<StdSource<R> as Stream>⟧.tells result).read_faults ≡ 0 }
     {
         StdSource { reader, faults: 0 }
     }
 
     /// How often a read has failed.
     pub fn faults(&self) -> u64
-        ensures { result ≡ ⟦<StdSource<R> as Stream>⟧.read_faults self.now }
+        ensures { result ≡ (⟦<StdSource<R> as Stream>⟧.tells self.now).read_faults }
     {
         self.faults
     }
 }
 
 impl<R: Read + Drop> Stream for StdSource<R> {
-    ghost left = { λ _. None };
-
-    ghost written = { λ _. None };
-
-    ghost read_faults = { λ s. s.faults };
-
-    ghost write_faults = { λ _. 0 };
+    ghost tells = { λ s. source_tells None s.faults };
 }
 
 impl<R: Read + Drop> Source for StdSource<R> {
@@ -56,27 +51,21 @@ pub struct StdSink<W> {
 impl<W: Write + Drop> StdSink<W> {
     /// Writes to here, as `rt.stdout()`.
     pub fn new(writer: W) -> StdSink<W>
-        ensures { ⟦<StdSink<W> as Stream>⟧.write_faults result ≡ 0 }
+        ensures { (⟦<StdSink<W> as Stream>⟧.tells result).write_faults ≡ 0 }
     {
         StdSink { writer, faults: 0 }
     }
 
     /// How often a write or a flush has failed.
     pub fn faults(&self) -> u64
-        ensures { result ≡ ⟦<StdSink<W> as Stream>⟧.write_faults self.now }
+        ensures { result ≡ (⟦<StdSink<W> as Stream>⟧.tells self.now).write_faults }
     {
         self.faults
     }
 }
 
 impl<W: Write + Drop> Stream for StdSink<W> {
-    ghost left = { λ _. None };
-
-    ghost written = { λ _. None };
-
-    ghost read_faults = { λ _. 0 };
-
-    ghost write_faults = { λ s. s.faults };
+    ghost tells = { λ s. sink_tells None None s.faults };
 }
 
 impl<W: Write + Drop> Sink for StdSink<W> {
@@ -93,4 +82,6 @@ impl<W: Write + Drop> Sink for StdSink<W> {
             Err(_) => Err(count(&mut self.faults)),
         }
     }
+
+    ghost handed_on_is_written = { λ _. tt };
 }

@@ -1,24 +1,14 @@
-ghost use Rattle.std.specs.Prelude.{◌≡◌, ℕ, ◌<◌, ◌≤◌, ◌-◌, ◌^◌, List, ◌++◌, [], length, take, drop, Option, IfOk, OnErr, OnOk};
-ghost use Rattle.os_io.specs.Streams.{Told, Takes, HasRisen};
+ghost use Rattle.std.specs.Prelude.{◌≡◌, ℕ, ◌<◌, ◌≤◌, [], length, take, IfOk, OnErr, OnOk};
+ghost use Rattle.os_io.specs.Streams.{Tells, Told, Takes, Appends, Grows, Counts, SameInput, SameOutput, Writes, Sends};
 
 /// A call failed, and its object's count of faults rose, or stands at 2^64 - 1.
 #[derive(Clone, Copy, PartialEq, Eq, Debug, Drop)]
 pub struct Failed;
 
-/// What an object tells of the bytes that come from it and go to it. One that goes one way alone tells nothing of
-/// the other.
+/// Bytes that come, or go, or both.
 pub trait Stream {
-    /// The bytes still to come, where told.
-    ghost left: { Self → Option (List ℕ) };
-
-    /// The bytes written so far, where told.
-    ghost written: { Self → Option (List ℕ) };
-
-    /// How often a read has failed, at most 2^64 - 1.
-    ghost read_faults: { Self → ℕ };
-
-    /// How often a write or a flush has failed, at most 2^64 - 1.
-    ghost write_faults: { Self → ℕ };
+    /// What it tells of its bytes, and how often it failed. One that goes one way alone tells nothing of the other.
+    ghost tells: { Self → Tells };
 }
 
 /// Bytes that come. No call touches what was written.
@@ -27,15 +17,11 @@ pub trait Source: Stream {
     /// that isn't empty is the end. A read that fails takes nothing.
     fn read(&mut self, buf: &mut [u8]) -> Result<usize, Failed>
         ensures within { IfOk result (λ n. n ≤ length buf.old) }
-        ensures taken { IfOk result (λ n. Told (Self.left self.old) (Self.left self.new) (Takes buf.new n)) }
-        ensures end { IfOk result (λ n. n ≡ 0 → 0 < length buf.old → Told (Self.left self.old) (Self.left self.new) (λ before after. before ≡ [])) }
-        ensures err { OnErr result (Self.left self.new ≡ Self.left self.old) }
-        ensures failed { OnErr result (HasRisen (Self.read_faults self.old) (Self.read_faults self.new)) }
-        ensures counted { OnOk result (Self.read_faults self.new ≡ Self.read_faults self.old) }
-        ensures faults { Self.read_faults self.old ≤ Self.read_faults self.new }
-        ensures full { Self.read_faults self.old ≡ 2 ^ 64 - 1 → Self.read_faults self.new ≡ 2 ^ 64 - 1 }
-        ensures written { Self.written self.new ≡ Self.written self.old }
-        ensures write_faults { Self.write_faults self.new ≡ Self.write_faults self.old };
+        ensures taken { IfOk result (λ n. Told (Self.tells self.old).left (Self.tells self.new).left (Takes buf.new n)) }
+        ensures end { IfOk result (λ n. n ≡ 0 → 0 < length buf.old → Told (Self.tells self.old).left (Self.tells self.new).left (λ before after. before ≡ [])) }
+        ensures err { OnErr result ((Self.tells self.new).left ≡ (Self.tells self.old).left) }
+        ensures counted { Counts result (Self.tells self.old).read_faults (Self.tells self.new).read_faults }
+        ensures output { SameOutput (Self.tells self.old) (Self.tells self.new) };
 }
 
 /// Bytes that go. No call touches what is still to come.
@@ -44,39 +30,30 @@ pub trait Sink: Stream {
     fn write(&mut self, bytes: &[u8]) -> Result<usize, Failed>
         ensures within { IfOk result (λ n. n ≤ length bytes.now) }
         ensures some { IfOk result (λ n. 0 < length bytes.now → 0 < n) }
-        ensures added { IfOk result (λ n. Told (Self.written self.old) (Self.written self.new) (λ before after. after ≡ before ++ take n bytes.now)) }
-        ensures err { OnErr result (Self.written self.new ≡ Self.written self.old) }
-        ensures failed { OnErr result (HasRisen (Self.write_faults self.old) (Self.write_faults self.new)) }
-        ensures counted { OnOk result (Self.write_faults self.new ≡ Self.write_faults self.old) }
-        ensures faults { Self.write_faults self.old ≤ Self.write_faults self.new }
-        ensures full { Self.write_faults self.old ≡ 2 ^ 64 - 1 → Self.write_faults self.new ≡ 2 ^ 64 - 1 }
-        ensures left { Self.left self.new ≡ Self.left self.old }
-        ensures read_faults { Self.read_faults self.new ≡ Self.read_faults self.old };
+        ensures added { IfOk result (λ n. Told (Self.tells self.old).written (Self.tells self.new).written (Appends (take n bytes.now))) }
+        ensures err { OnErr result ((Self.tells self.new).written ≡ (Self.tells self.old).written) }
+        ensures handed_on { Grows (Self.tells self.old).handed_on (Self.tells self.new).handed_on }
+        ensures counted { Counts result (Self.tells self.old).write_faults (Self.tells self.new).write_faults }
+        ensures input { SameInput (Self.tells self.old) (Self.tells self.new) };
 
-    /// Hands on what is held back. What was written stays.
+    /// Hands on all that was written. Where that fails, some of it may be.
     fn flush(&mut self) -> Result<(), Failed>
-        ensures written { Self.written self.new ≡ Self.written self.old }
-        ensures failed { OnErr result (HasRisen (Self.write_faults self.old) (Self.write_faults self.new)) }
-        ensures counted { OnOk result (Self.write_faults self.new ≡ Self.write_faults self.old) }
-        ensures faults { Self.write_faults self.old ≤ Self.write_faults self.new }
-        ensures full { Self.write_faults self.old ≡ 2 ^ 64 - 1 → Self.write_faults self.new ≡ 2 ^ 64 - 1 }
-        ensures left { Self.left self.new ≡ Self.left self.old }
-        ensures read_faults { Self.read_faults self.new ≡ Self.read_faults self.old };
+        ensures written { (Self.tells self.new).written ≡ (Self.tells self.old).written }
+        ensures all { OnOk result ((Self.tells self.new).handed_on ≡ (Self.tells self.new).written) }
+        ensures handed_on { Grows (Self.tells self.old).handed_on (Self.tells self.new).handed_on }
+        ensures counted { Counts result (Self.tells self.old).write_faults (Self.tells self.new).write_faults }
+        ensures input { SameInput (Self.tells self.old) (Self.tells self.new) };
+
+    /// Law: nothing is handed on but what was written, in its order.
+    ghost handed_on_is_written: { (s : Self) → Grows (Self.tells s).handed_on (Self.tells s).written };
 }
 
 /// Bytes both ways, with a count of faults each way.
 pub trait Link: Source + Sink {}
 
-/// Writes all the bytes. After [`Failed`] a first part of them was written. Takes no memory.
+/// Writes all the bytes. After [`Failed`] a first part of them was written. Takes no memory, and doesn't flush.
 pub fn write_all<S: Sink>(sink: &mut S, bytes: &[u8]) -> Result<(), Failed>
-    ensures ok { OnOk result (Told (S.written sink.old) (S.written sink.new) (λ before after. after ≡ before ++ bytes.now)) }
-    ensures prefix { OnErr result (Told (S.written sink.old) (S.written sink.new) (λ before after. (n : ℕ) × (n ≤ length bytes.now) × (after ≡ before ++ take n bytes.now))) }
-    ensures failed { OnErr result (HasRisen (S.write_faults sink.old) (S.write_faults sink.new)) }
-    ensures counted { OnOk result (S.write_faults sink.new ≡ S.write_faults sink.old) }
-    ensures faults { S.write_faults sink.old ≤ S.write_faults sink.new }
-    ensures full { S.write_faults sink.old ≡ 2 ^ 64 - 1 → S.write_faults sink.new ≡ 2 ^ 64 - 1 }
-    ensures left { S.left sink.new ≡ S.left sink.old }
-    ensures read_faults { S.read_faults sink.new ≡ S.read_faults sink.old }
+    ensures { Writes result bytes.now (S.tells sink.old) (S.tells sink.new) }
 {
     let mut done = 0;
     while done < bytes.len() {
@@ -84,4 +61,12 @@ pub fn write_all<S: Sink>(sink: &mut S, bytes: &[u8]) -> Result<(), Failed>
         done += n;
     }
     Ok(())
+}
+
+/// Writes all the bytes, and hands on all that was written. Takes no memory.
+pub fn send_all<S: Sink>(sink: &mut S, bytes: &[u8]) -> Result<(), Failed>
+    ensures { Sends result bytes.now (S.tells sink.old) (S.tells sink.new) }
+{
+    write_all(sink, bytes)?;
+    sink.flush()
 }

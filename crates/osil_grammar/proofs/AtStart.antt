@@ -11,18 +11,21 @@ use Rattle.osil_grammar.specs.declared.unread.Unread.{Unread}
 use Rattle.osil_grammar.specs.declared.unread.Unread.TheVariants as unread
 use Rattle.osil_grammar.specs.declared.tags.StartTag.{StartTag}
 use Rattle.osil_grammar.specs.declared.fault.OsilFault.{OsilFault}
-use Rattle.osil_grammar.specs.Tags.{Tag, Level, names, level_of, start_tag, attribute}
+use Rattle.document_tags.specs.Elements.{attribute}
+use Rattle.osil_grammar.specs.Tags.{Tag, Level, names, level_of, start_tag}
 use Rattle.osil_grammar.specs.Kinds.{Kind, Coef, Obj, Con, Var, path, Begins, content_names, is_open}
 use Rattle.osil_grammar.specs.Walking.{Begun}
 use Rattle.osil_grammar.specs.Numbers.{fields, Says}
 use Rattle.osil_grammar.specs.Runs.{StandsFor, StandFor}
 use Rattle.osil_grammar.specs.Deciding.{most, HasWideRow, DecidesAttribute, DecidesBound, DecidesTooBig, DecidesVarType, DecidesManyObjectives, DecidesWide}
 use Rattle.osil_grammar.specs.Refusals.{Refusal, Beyond, Number, Wide, number, Decides, IsFirstDecided}
-use Rattle.osil_grammar.specs.Reading.{begun, IsTagOf, Tells, IsAtTag, start_only}
+use Rattle.osil_grammar.specs.Parsing.{begun, IsTagOf, Tells, IsAtTag, start_only}
 use Rattle.osil_grammar.specs.Deciding.{told}
 use Rattle.osil_grammar.proofs.Decided.{told_at, tells_more}
-use Rattle.osil_grammar.proofs.Fields.{FieldsRead, IsWide, IsNumber, IsFine, EachOf, each_weaker, ordinal_is}
-use Rattle.osil_grammar.proofs.Once.{only_inf, only_neg_inf, times_once, stand_once}
+use Rattle.osil_grammar.specs.Fields.{FieldsRead, IsWide, IsNumber, IsFine, EachOf}
+use Rattle.osil_grammar.proofs.Fields.{each_weaker, ordinal_is}
+use Rattle.decimal_text.proofs.OneNumber.{only_inf, only_neg_inf}
+use Rattle.osil_grammar.proofs.Once.{times_once, stand_once}
 use Rattle.osil_grammar.proofs.Paths.{names_append}
 use Rattle.osil_grammar.proofs.StartTags.{AtLeast, least_start, past_number, begins_once, number_decided, no_number, wide_decided, no_wide}
 

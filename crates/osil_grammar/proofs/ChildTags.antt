@@ -8,12 +8,13 @@ use Rattle.std.proofs.lemmas.List.Elements.{All-nil, All-cons, All-head, All-tai
 use Rattle.std.proofs.lemmas.Slice.Eq.{bytes_eq-Decides}
 use Rattle.tree_grammar.specs.Elements.{Nodes, none, element, chars, Element}
 use Rattle.document_tags.specs.Rests.{child_elements}
-use Rattle.osil_grammar.specs.Tags.{Level, level_of, element_of, elements_in, start_tag, end_tag, node_tags, names, first_named}
+use Rattle.document_tags.specs.Elements.{elements_in}
+use Rattle.osil_grammar.specs.Tags.{Level, level_of, element_of, start_tag, end_tag, node_tags, names, first_named}
 use Rattle.osil_grammar.specs.Kinds.{Osil, InstanceData, Coefficients, path, ordered}
 use Rattle.osil_grammar.specs.Deciding.{IsLate, IsInRow}
 use Rattle.osil_grammar.specs.Refusals.{Root, Beyond, DecidesNothing, AreClean, IsAccepted}
 use Rattle.osil_grammar.specs.Deciding.{told}
-use Rattle.osil_grammar.specs.Reading.{element_tags}
+use Rattle.osil_grammar.specs.Parsing.{element_tags}
 use Rattle.osil_grammar.proofs.Children.{tags_then}
 use Rattle.osil_grammar.proofs.OneMatrix.{HasBoth}
 

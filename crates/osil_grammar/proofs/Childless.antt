@@ -8,7 +8,7 @@ use Rattle.osil_grammar.specs.Kinds.{Kind, path, content_names, is_open}
 use Rattle.osil_grammar.specs.Deciding.{told}
 use Rattle.osil_grammar.specs.Refusals.{Refusal, Beyond, IsFirstDecided}
 use Rattle.osil_grammar.specs.Walking.{Walking, Begun, Entered, IsJoined}
-use Rattle.osil_grammar.specs.Reading.{Tells, start_only}
+use Rattle.osil_grammar.specs.Parsing.{Tells, start_only}
 use Rattle.osil_grammar.proofs.AtStart.{foreign_decided}
 use Rattle.osil_grammar.proofs.Decided.{first_one, first_front, tells_more}
 use Rattle.osil_grammar.proofs.Midway.{begins_midway, enters_child}

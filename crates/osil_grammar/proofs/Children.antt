@@ -3,9 +3,10 @@ use Rattle.std.proofs.Common.{◌≡◌, ℕ, ◌+◌, suc, List, [], ◌∷◌,
 use Rattle.std.specs.Prelude.{◌⊎◌}
 use Rattle.tree_grammar.specs.Elements.{Nodes, none, element, chars, Element, Event, Open, Close, nodes_events}
 use Rattle.document_tags.specs.Rests.{after_text, child_elements}
-use Rattle.osil_grammar.specs.Tags.{Level, Tag, elements_in, node_tags}
+use Rattle.document_tags.specs.Elements.{elements_in}
+use Rattle.osil_grammar.specs.Tags.{Level, Tag, node_tags}
 use Rattle.osil_grammar.specs.Walking.{IsJoined}
-use Rattle.osil_grammar.specs.Reading.{element_tags}
+use Rattle.osil_grammar.specs.Parsing.{element_tags}
 
 -- no child element comes in it: its end is next
 pub record EndsHere (content : Nodes) (name : List ℕ) (rest : List Event) : Type 0 where

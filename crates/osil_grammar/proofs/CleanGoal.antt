@@ -27,16 +27,19 @@ use Rattle.osil_grammar.specs.Runs.{ItemsStandFor}
 use Rattle.osil_grammar.specs.Costs.{Cost, IsCost, AreCosts, cost_sum}
 use Rattle.osil_grammar.specs.Deciding.{senses, HasCoefFault, HasWideCost, DecidesIndex, DecidesCount, DecidesManyObjectives, Differs}
 use Rattle.osil_grammar.specs.Refusals.{DecidesNothing, AreClean}
-use Rattle.osil_grammar.specs.Writing.{HasDecimal, WriteCosts, CountsCosts, WritesGoal, sense_text, with_attribute}
+use Rattle.document_tags.specs.Writing.{with_attribute}
+use Rattle.osil_grammar.specs.Writing.{HasDecimal, WriteCosts, CountsCosts, WritesGoal, sense_text}
 use Rattle.osil_grammar.proofs.AtStart.{no_var_type, no_many, no_wide_row}
 use Rattle.osil_grammar.proofs.Decided.{clean_none}
 use Rattle.osil_grammar.proofs.Documents.{counts_few}
 use Rattle.osil_grammar.proofs.EndTags.{ends_once, not_missing, end_number, end_wide, end_count, no_range}
-use Rattle.osil_grammar.proofs.Fields.{EachOf, IsFine, IsReadBy, fine_one, times_fine}
+use Rattle.osil_grammar.specs.Fields.{EachOf, IsFine}
+use Rattle.osil_grammar.proofs.Fields.{IsReadBy, fine_one, times_fine}
 use Rattle.osil_grammar.proofs.Foreign.{text_once}
 use Rattle.osil_grammar.proofs.Joining.{none_fits}
 use Rattle.osil_grammar.proofs.NoRefusal.{IsInPlace, element_then, it_begins, it_ends, start_fine, end_fine}
-use Rattle.osil_grammar.proofs.Once.{count_once, count_fits, times_once, decimal_fits}
+use Rattle.decimal_text.proofs.OneNumber.{count_once, count_fits, decimal_fits}
+use Rattle.osil_grammar.proofs.Once.{times_once}
 use Rattle.osil_grammar.proofs.StartEnds.{no_ends_but, no_limit}
 use Rattle.osil_grammar.proofs.SummedCosts.{cost_once, costs_once, costs_more}
 use Rattle.osil_grammar.proofs.ReadBack.{plain_decimal, count_read}

@@ -17,14 +17,16 @@ use Rattle.fraction.specs.declared.ends.Entry.{Entry}
 use Rattle.decimal_text.specs.Count.{IsCount}
 use Rattle.instance.specs.Parts.{IsBefore, IsAscending, IsInside}
 use Rattle.instance.specs.Program.{entry, entries}
-use Rattle.osil_grammar.specs.Tags.{Level, Tag, level_of, element_of, names, node_tags, start_tag, end_tag, elements_in}
+use Rattle.document_tags.specs.Elements.{elements_in}
+use Rattle.osil_grammar.specs.Tags.{Level, Tag, level_of, element_of, names, node_tags, start_tag, end_tag}
 use Rattle.osil_grammar.specs.Kinds.{Listing, Starts, ColumnIndices, Values, Osil, InstanceData, Variables, Objectives, Obj, Constraints, Coefficients, Listed, path, listing_name, ordered, Ends}
 use Rattle.osil_grammar.specs.Numbers.{count}
 use Rattle.osil_grammar.specs.Runs.{StandFor, ItemsStandFor, AreWholes}
 use Rattle.osil_grammar.specs.Matrix.{Lists, AreLists, IsDivision, stored, place_sum, HasWidePlace}
 use Rattle.osil_grammar.specs.Deciding.{IsLate, HasOtherValues, HasOtherIndices, HasWideEntry, AreDivided, DecidesMissing, DecidesCount, DecidesStart}
 use Rattle.osil_grammar.specs.Refusals.{DecidesNothing, AreClean}
-use Rattle.osil_grammar.specs.Writing.{HasDecimal, WriteLists, WriteValues, counts_nodes, entries_below, row_starts, with_attribute}
+use Rattle.document_tags.specs.Writing.{with_attribute}
+use Rattle.osil_grammar.specs.Writing.{HasDecimal, WriteLists, WriteValues, counts_nodes, entries_below, row_starts}
 use Rattle.osil_grammar.proofs.Ascending.{Rises, rises, below_rises, all_before, none_first}
 use Rattle.osil_grammar.proofs.ChildTags.{same_heads, same_rests}
 use Rattle.osil_grammar.proofs.CleanGoal.{count_is}
@@ -37,7 +39,8 @@ use Rattle.osil_grammar.proofs.Joining.{apart, none_fits}
 use Rattle.osil_grammar.proofs.Lines.{Divides, division}
 use Rattle.osil_grammar.proofs.MatrixMeans.{lists_of, stored_are, wholes_said, values_said, columns_are}
 use Rattle.osil_grammar.proofs.NoRefusal.{IsInPlace, element_then, it_ends, plain_start, end_fine, not_late}
-use Rattle.osil_grammar.proofs.Once.{count_once, stand_once}
+use Rattle.decimal_text.proofs.OneNumber.{count_once}
+use Rattle.osil_grammar.proofs.Once.{stand_once}
 use Rattle.osil_grammar.proofs.OneMatrix.{HasBoth, lists_once, no_lists}
 use Rattle.osil_grammar.proofs.Places.{is_at}
 use Rattle.osil_grammar.proofs.ReadBack.{count_read}

@@ -18,7 +18,7 @@ use Rattle.osil_grammar.specs.Numbers.{Grammar, listing_grammar, IsOf, IsWideOf}
 use Rattle.osil_grammar.specs.Runs.{StandFor, IsWholeRun, IsRatioRun}
 use Rattle.osil_grammar.specs.Deciding.{most}
 use Rattle.osil_grammar.specs.Refusals.{DecidesNothing, AreClean}
-use Rattle.osil_grammar.specs.Reading.{IsLimitOf, IsBelow, start_only, end_only}
+use Rattle.osil_grammar.specs.Parsing.{IsLimitOf, IsBelow, start_only, end_only}
 use Rattle.osil_grammar.specs.Writing.{HasDecimal, WriteValues, counts_nodes}
 use Rattle.osil_grammar.proofs.AtTags.{IsPlaced}
 use Rattle.osil_grammar.proofs.Decided.{clean_none}
@@ -26,7 +26,7 @@ use Rattle.osil_grammar.proofs.ElRead.{IsBegun, start_clean, end_clean}
 use Rattle.osil_grammar.proofs.ListsRead.{stand_push}
 use Rattle.osil_grammar.proofs.Means.{nothing}
 use Rattle.osil_grammar.proofs.NoRefusal.{element_then}
-use Rattle.osil_grammar.proofs.Once.{decimal_fits}
+use Rattle.decimal_text.proofs.OneNumber.{decimal_fits}
 use Rattle.osil_grammar.proofs.RatioEls.{all_fit, no_limit}
 use Rattle.osil_grammar.proofs.ReadBack.{plain_decimal, whole_read}
 use Rattle.osil_grammar.proofs.Running.{at_step}

@@ -12,13 +12,16 @@ use Rattle.instance.specs.declared.parts.Var.{Var}
 use Rattle.instance.specs.declared.parts.Row.{Row}
 use Rattle.instance.specs.declared.parts.Goal.{Goal}
 use Rattle.instance.specs.Parts.{Parts, IsValid}
-use Rattle.osil_grammar.specs.Tags.{Level, Tag, level_of, element_of, elements_in, names, node_tags, start_tag, end_tag, attribute}
+use Rattle.document_tags.specs.Elements.{attribute}
+use Rattle.document_tags.specs.Elements.{elements_in}
+use Rattle.osil_grammar.specs.Tags.{Level, Tag, level_of, element_of, names, node_tags, start_tag, end_tag}
 use Rattle.osil_grammar.specs.Kinds.{Kind, Osil, InstanceData, Variables, Objectives, Constraints, Coefficients, Values, path, ordered, content_names, Ends}
 use Rattle.osil_grammar.specs.Numbers.{Field, count, fields, text_grammar}
 use Rattle.osil_grammar.specs.Runs.{StandFor}
 use Rattle.osil_grammar.specs.Deciding.{IsLate, HasOtherCount}
 use Rattle.osil_grammar.specs.Refusals.{DecidesNothing, AreClean, IsAccepted}
-use Rattle.osil_grammar.specs.Writing.{HasDecimals, WriteVars, WriteRows, WritesGoal, WritesInstance, counted, with_attribute}
+use Rattle.document_tags.specs.Writing.{counted, with_attribute}
+use Rattle.osil_grammar.specs.Writing.{HasDecimals, WriteVars, WriteRows, WritesGoal, WritesInstance}
 use Rattle.osil_grammar.proofs.CleanGoal.{count_is, goal_clean}
 use Rattle.osil_grammar.proofs.CleanLists.{StandsIn, AreFine, matrix_clean}
 use Rattle.osil_grammar.proofs.CleanVars.{vars_clean, rows_clean}
@@ -26,9 +29,11 @@ use Rattle.osil_grammar.proofs.Counted.{IsCounted, variables_counted, objectives
 use Rattle.osil_grammar.proofs.DataTags.{data_start, data_end, root_start, root_end}
 use Rattle.osil_grammar.proofs.Decided.{clean_none}
 use Rattle.osil_grammar.proofs.EndTags.{ends_once, not_missing, end_number, end_wide, no_range}
-use Rattle.osil_grammar.proofs.Fields.{EachOf, IsFine, fine_one}
+use Rattle.osil_grammar.specs.Fields.{EachOf, IsFine}
+use Rattle.osil_grammar.proofs.Fields.{fine_one}
 use Rattle.osil_grammar.proofs.NoRefusal.{IsInPlace, element_then, it_ends, is_plain, plain_start, end_fine, not_some, not_late}
-use Rattle.osil_grammar.proofs.Once.{count_once, stand_once}
+use Rattle.decimal_text.proofs.OneNumber.{count_once}
+use Rattle.osil_grammar.proofs.Once.{stand_once}
 use Rattle.osil_grammar.proofs.OpenPlaces.{NoKind, unknown_clean, in_open, in_root_path, late_in_root, end_in_place}
 use Rattle.osil_grammar.proofs.OneValue.{texts_apart}
 use Rattle.osil_grammar.proofs.ReadBack.{count_read}

@@ -29,12 +29,14 @@ use Rattle.osil_grammar.specs.Numbers.{bound, decimal, fields}
 use Rattle.osil_grammar.specs.Runs.{StandFor}
 use Rattle.osil_grammar.specs.Deciding.{types, HasWideRow}
 use Rattle.osil_grammar.specs.Refusals.{DecidesNothing, AreClean}
-use Rattle.osil_grammar.specs.Reading.{IsNear}
-use Rattle.osil_grammar.specs.Writing.{EndHasText, WriteVars, WriteRows, type_text, with_attribute}
+use Rattle.osil_grammar.specs.Parsing.{IsNear}
+use Rattle.document_tags.specs.Writing.{with_attribute}
+use Rattle.osil_grammar.specs.Writing.{EndHasText, WriteVars, WriteRows, type_text}
 use Rattle.osil_grammar.proofs.AtStart.{no_attribute, no_var_type, no_many, no_wide_row, no_bound, not_too_big}
 use Rattle.osil_grammar.proofs.Decided.{clean_none}
 use Rattle.osil_grammar.proofs.EndTags.{plain_end}
-use Rattle.osil_grammar.proofs.Fields.{EachOf, IsFine, fine_one, times_fine}
+use Rattle.osil_grammar.specs.Fields.{EachOf, IsFine}
+use Rattle.osil_grammar.proofs.Fields.{fine_one, times_fine}
 use Rattle.osil_grammar.proofs.ListsRead.{stand_push}
 use Rattle.osil_grammar.proofs.Means.{nothing}
 use Rattle.osil_grammar.proofs.NoRefusal.{IsInPlace, element_then, it_begins, it_ends, start_fine}

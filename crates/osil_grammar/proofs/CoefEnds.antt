@@ -18,13 +18,13 @@ use Rattle.osil_grammar.specs.Numbers.{decimal, IsOf, IsWideOf}
 use Rattle.osil_grammar.specs.Costs.{Cost, IsCost, cost_sum}
 use Rattle.osil_grammar.specs.Deciding.{HasWideCost, DecidesNumber, told}
 use Rattle.osil_grammar.specs.Refusals.{Refusal, Beyond, Number, Wide, DecidesNothing, AreClean, IsFirstDecided}
-use Rattle.osil_grammar.specs.Reading.{begun, Tells, Reads, start_only, end_only, element_tags, IsUnread, unread_refusal, FirstChild, AreSummed, AddsAt, AddsCost}
+use Rattle.osil_grammar.specs.Parsing.{begun, Tells, Reads, start_only, end_only, element_tags, IsUnread, unread_refusal, FirstChild, AreSummed, AddsAt, AddsCost}
 use Rattle.osil_grammar.proofs.CoefTags.{coef_begins}
 use Rattle.osil_grammar.proofs.Decided.{first_one, first_front, first_behind, clean_none, clean_one, clean_same, clean_element, inner_tags, tells_more, told_at, refused_end}
 use Rattle.osil_grammar.proofs.EndTags.{HoldsSo, end_least, end_number, end_wide, end_count, end_clean}
 use Rattle.osil_grammar.proofs.Fields.{ordinal_is}
 use Rattle.osil_grammar.proofs.Foreign.{first_child_foreign, text_tags, text_once}
-use Rattle.osil_grammar.proofs.Once.{decimal_fits}
+use Rattle.decimal_text.proofs.OneNumber.{decimal_fits}
 use Rattle.osil_grammar.proofs.StartTags.{AtLeast, past_number, past_wide, past_count}
 use Rattle.osil_grammar.proofs.SummedCosts.{cost, cost_once, costs_once, fits_here, fits_there}
 use Rattle.osil_grammar.proofs.Wholes.{wide_is_of}

@@ -7,19 +7,22 @@ use Rattle.decimal_text.specs.Count.{IsCount}
 use Rattle.osil_grammar.specs.declared.unread.Unread.{Unread}
 use Rattle.osil_grammar.specs.declared.tags.StartTag.{StartTag}
 use Rattle.osil_grammar.specs.declared.fault.OsilFault.{OsilFault}
-use Rattle.osil_grammar.specs.Tags.{Level, attribute, names, start_tag, level_of, parts_before, element_of}
+use Rattle.document_tags.specs.Elements.{attribute}
+use Rattle.osil_grammar.specs.Tags.{Level, names, start_tag, level_of, parts_before, element_of}
 use Rattle.osil_grammar.specs.Kinds.{Obj, Coef, Begins, path}
 use Rattle.osil_grammar.specs.Walking.{Begun}
 use Rattle.osil_grammar.specs.Numbers.{count, fields}
 use Rattle.osil_grammar.specs.Runs.{ItemsStandFor}
 use Rattle.osil_grammar.specs.Deciding.{HasAttribute, HasCoefFault, DecidesAttribute, DecidesIndex, VariablesBefore}
 use Rattle.osil_grammar.specs.Refusals.{Attribute, Index, DecidesNothing, IsFirstDecided}
-use Rattle.osil_grammar.specs.Reading.{begun, Tells, IsAtTag, start_only, IsTagOf, ReadsField, InWidth, IsCoefFault, HasIndex, parts_around}
+use Rattle.osil_grammar.specs.Parsing.{begun, Tells, IsAtTag, start_only, IsTagOf, ReadsField, InWidth, IsCoefFault, HasIndex, parts_around}
 use Rattle.osil_grammar.proofs.AtStart.{told_here, begins_child, fields_refused, fields_fine, past_fields, no_wide_but_row, no_wide_row, no_var_type, no_many}
-use Rattle.osil_grammar.proofs.Counted.{IsDeclared, Declares, declared_is}
+use Rattle.osil_grammar.specs.Fields.{IsDeclared, Declares}
+use Rattle.osil_grammar.proofs.Counted.{declared_is}
 use Rattle.osil_grammar.proofs.ElRead.{some_both}
-use Rattle.osil_grammar.proofs.Fields.{EachOf, IsFine, FieldsRead, field_read}
-use Rattle.osil_grammar.proofs.Once.{count_once}
+use Rattle.osil_grammar.specs.Fields.{EachOf, IsFine, FieldsRead}
+use Rattle.osil_grammar.proofs.Fields.{field_read}
+use Rattle.decimal_text.proofs.OneNumber.{count_once}
 use Rattle.osil_grammar.proofs.PartsBefore.{parts_kept}
 use Rattle.osil_grammar.proofs.StartEnds.{past_ends, start_clean}
 use Rattle.osil_grammar.proofs.StartTags.{AtLeast, known_place, begins_once, past_attribute, past_wide, past_count, past_index, past_start, past_var_type, no_count, no_starts}

@@ -1,6 +1,7 @@
 -- Parts of `instanceData` with a count of their items.
+use Rattle.osil_grammar.specs.Fields.{IsDeclared, Declares}
 use Rattle.std.proofs.Common.{◌≡◌, ◌≢◌, ℕ, inl, inr, false, List, [], ◌∷◌, ◌++◌, refl, sym, ◌∙◌, subst}
-use Rattle.std.specs.Prelude.{Option, None, Some, MatchOption, IfSome, IsSome, IsSomeAnd, Result, Ok, Err, bytes_eq, codes}
+use Rattle.std.specs.Prelude.{Option, None, Some, MatchOption, IfSome, IsSomeAnd, Result, Ok, Err, bytes_eq, codes}
 use Rattle.tree_grammar.specs.Elements.{Element}
 use Rattle.tree_grammar.specs.Tags.{IsAmong}
 use Rattle.document_tags.specs.Rests.{child_elements}
@@ -9,27 +10,23 @@ use Rattle.decimal_text.specs.Count.{IsCount}
 use Rattle.osil_grammar.specs.declared.unread.Unread.{Unread}
 use Rattle.osil_grammar.specs.declared.tags.StartTag.{StartTag}
 use Rattle.osil_grammar.specs.declared.fault.OsilFault.{OsilFault}
-use Rattle.osil_grammar.specs.Tags.{Tag, Level, names, attribute, level_of, start_tag, end_tag}
+use Rattle.document_tags.specs.Elements.{attribute}
+use Rattle.osil_grammar.specs.Tags.{Tag, Level, names, level_of, start_tag, end_tag}
 use Rattle.osil_grammar.specs.Kinds.{Listing, Values, Kind, InstanceData, Variables, Var, Objectives, Obj, Coef, Constraints, Con, Coefficients, El, path, Begins, Ends, ordered, content_names}
-use Rattle.osil_grammar.specs.Numbers.{Grammar, count, Field, field, fields, text_grammar, IsOf, IsWideOf, Says}
+use Rattle.osil_grammar.specs.Numbers.{Grammar, count, Field, field, fields, text_grammar, IsOf, IsWideOf}
 use Rattle.osil_grammar.specs.Runs.{StandFor}
 use Rattle.osil_grammar.specs.Deciding.{IsLate, most, Differs, HasOtherCount, DecidesCount}
 use Rattle.osil_grammar.specs.Refusals.{Count, DecidesNothing, IsFirstDecided}
-use Rattle.osil_grammar.specs.Reading.{IsTagOf, ReadsField, IsAtTag, Tells, start_only, end_only}
+use Rattle.osil_grammar.specs.Parsing.{IsTagOf, ReadsField, IsAtTag, Tells, start_only, end_only}
 use Rattle.osil_grammar.proofs.AtStart.{begins_child, no_attribute, no_var_type, no_many, no_wide_row, fields_refused, fields_fine, past_fields, no_wide_but_row}
 use Rattle.osil_grammar.proofs.Decided.{told_at}
 use Rattle.osil_grammar.proofs.EndTags.{MissesNothing, ends_once, end_least, end_number, end_wide, end_clean}
-use Rattle.osil_grammar.proofs.Fields.{FieldsRead, IsReadBy, field_read, ordinal_is}
-use Rattle.osil_grammar.proofs.Once.{count_once, count_fits, stand_once}
+use Rattle.osil_grammar.specs.Fields.{FieldsRead}
+use Rattle.osil_grammar.proofs.Fields.{IsReadBy, field_read, ordinal_is}
+use Rattle.decimal_text.proofs.OneNumber.{count_once, count_fits}
+use Rattle.osil_grammar.proofs.Once.{stand_once}
 use Rattle.osil_grammar.proofs.StartEnds.{past_ends, start_clean}
 use Rattle.osil_grammar.proofs.StartTags.{AtLeast, known_place, no_count, no_index, no_starts, past_attribute, past_number, past_wide, past_count, past_index, past_start, past_var_type}
-
--- a count that may be wanting
-abbrev pub IsDeclared : List ℕ → Option ℕ → Type 0
-IsDeclared text x = IfSome x (λ n. IsCount text n) × IsSome x
-
-abbrev pub Declares : Element → List ℕ → Option ℕ → Type 0
-Declares e name x = Says e name (λ (y : Option ℕ). y ≡ None) IsDeclared x
 
 pub declared_is : IsReadBy count IsDeclared
 declared_is text None h = absurd (let some = h.1 in cc)

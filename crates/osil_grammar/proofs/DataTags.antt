@@ -10,12 +10,12 @@ use Rattle.osil_grammar.specs.Kinds.{Kind, Osil, InstanceData, Coefficients, Var
 use Rattle.osil_grammar.specs.Numbers.{Field, fields}
 use Rattle.osil_grammar.specs.Deciding.{IsLate, HasChild, DecidesMissing, most}
 use Rattle.osil_grammar.specs.Refusals.{Refusal, Root, Missing, Beyond, number, DecidesNothing, IsFirstDecided}
-use Rattle.osil_grammar.specs.Reading.{IsTagOf, Tells, end_only, start_only}
+use Rattle.osil_grammar.specs.Parsing.{IsTagOf, Tells, end_only, start_only}
 use Rattle.osil_grammar.proofs.AtStart.{begins_child, no_attribute, no_var_type, no_many, no_wide_row}
 use Rattle.osil_grammar.proofs.Decided.{first_one}
 use Rattle.osil_grammar.proofs.EndPlaces.{told_end, least_end, full_end}
 use Rattle.osil_grammar.proofs.EndTags.{ends_once}
-use Rattle.osil_grammar.proofs.Fields.{EachOf, IsNumber, IsWide}
+use Rattle.osil_grammar.specs.Fields.{EachOf, IsNumber, IsWide}
 use Rattle.osil_grammar.proofs.FirstNamed.{none_there, is_among, not_among}
 use Rattle.osil_grammar.proofs.Paths.{names_append}
 use Rattle.osil_grammar.proofs.StartEnds.{past_ends, start_clean}

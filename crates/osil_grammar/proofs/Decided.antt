@@ -1,37 +1,37 @@
 -- Which refusal is decided first among tags one after another.
-use Rattle.std.proofs.Common.{◌≡◌, ℕ, ◌+◌, ◌≤◌, List, [], ◌∷◌, ◌++◌, refl, ap, sym, ◌∙◌, subst, append_assoc}
-use Rattle.std.proofs.lemmas.List.Elements.{All-append, All-cons, All-nil, All-same}
+use Rattle.std.proofs.Common.{◌≡◌, ℕ, ◌+◌, ◌≤◌, List, [], ◌∷◌, ◌++◌, sym, ◌∙◌, subst}
+use Rattle.document_tags.proofs.Decided as deciding
 use Rattle.tree_grammar.specs.Elements.{Element}
 use Rattle.osil_grammar.specs.Tags.{Level, Tag, level_of, node_tags}
 use Rattle.osil_grammar.specs.Refusals.{Refusal, number, Decides, DecidesNothing, AreClean, IsFirstDecided}
-use Rattle.osil_grammar.specs.Reading.{Tells, element_tags, start_only, end_only}
+use Rattle.osil_grammar.specs.Parsing.{Tells, element_tags, start_only, end_only}
 use Rattle.osil_grammar.specs.declared.fault.OsilFault.{OsilFault}
 use Rattle.osil_grammar.specs.declared.fault.OsilFault.TheVariants.{Tree, Refused, Memory}
 
 pub clean_none : AreClean []
-clean_none = All-nil DecidesNothing
+clean_none = deciding.clean_none Decides
 
 pub clean_one : (t : Tag) → DecidesNothing t → AreClean (t ∷ [])
-clean_one t clean = All-cons DecidesNothing t [] clean clean_none
+clean_one t clean = deciding.clean_one Decides t clean
 
 pub clean_append : (xs ys : List Tag) → AreClean xs → AreClean ys → AreClean (xs ++ ys)
-clean_append xs ys a b = All-append DecidesNothing xs ys a b
+clean_append xs ys a b = deciding.clean_append Decides xs ys a b
 
 pub clean_same : (xs ys : List Tag) → xs ≡ ys → AreClean ys → AreClean xs
-clean_same xs ys same clean = All-same DecidesNothing xs ys same clean
+clean_same xs ys same clean = deciding.clean_same Decides xs ys same clean
 
 -- at the one tag
 pub first_one : (t : Tag) (r : Refusal) (n : ℕ) → Decides t r n → ((q : Refusal) (m : ℕ) → Decides t q m → number r ≤ number q) → IsFirstDecided (t ∷ []) r n
-first_one t r n decided least = record { before = []; tag = t; after = []; split = refl; clean = clean_none; decided = decided; least = least }
+first_one t r n decided least = deciding.first_one Decides number t r n decided least
 
 pub first_front : (xs ys : List Tag) (r : Refusal) (n : ℕ) → IsFirstDecided xs r n → IsFirstDecided (xs ++ ys) r n
-first_front xs ys r n f = record { before = f.before; tag = f.tag; after = f.after ++ ys; split = ap (λ (ts : List Tag). ts ++ ys) f.split ∙ append_assoc f.before (f.tag ∷ f.after) ys; clean = f.clean; decided = f.decided; least = f.least }
+first_front xs ys r n f = deciding.first_front Decides number xs ys r n f
 
 pub first_behind : (xs ys : List Tag) (r : Refusal) (n : ℕ) → AreClean xs → IsFirstDecided ys r n → IsFirstDecided (xs ++ ys) r n
-first_behind xs ys r n clean f = record { before = xs ++ f.before; tag = f.tag; after = f.after; split = ap (λ (ts : List Tag). xs ++ ts) f.split ∙ sym (append_assoc xs f.before (f.tag ∷ f.after)); clean = clean_append xs f.before clean f.clean; decided = f.decided; least = f.least }
+first_behind xs ys r n clean f = deciding.first_behind Decides number xs ys r n clean f
 
 pub first_same : (xs ys : List Tag) (r : Refusal) (n : ℕ) → xs ≡ ys → IsFirstDecided ys r n → IsFirstDecided xs r n
-first_same xs ys r n same f = record { before = f.before; tag = f.tag; after = f.after; split = same ∙ f.split; clean = f.clean; decided = f.decided; least = f.least }
+first_same xs ys r n same f = deciding.first_same Decides number xs ys r n same f
 
 -- what is told of a refusal holds of it in other words
 pub tells_more : (f : OsilFault) (P Q : Refusal → ℕ → Type 0) → ((r : Refusal) (n : ℕ) → P r n → Q r n) → Tells f P → Tells f Q

@@ -7,12 +7,13 @@ use Rattle.doc_tree.specs.Reading as document
 use Rattle.instance.specs.Parts.{Parts}
 use Rattle.osil_grammar.specs.declared.fault.OsilFault.{OsilFault}
 use Rattle.osil_grammar.specs.declared.fault.OsilFault.TheVariants.{Tree, Refused, Memory}
-use Rattle.osil_grammar.specs.InstanceText.{IsInstanceText}
+use Rattle.osil_grammar.specs.Reading.{IsInstanceText}
 use Rattle.osil_grammar.specs.Tags.{tags}
 use Rattle.osil_grammar.specs.Walking.{IsJoined}
 use Rattle.osil_grammar.specs.Meaning.{Means}
 use Rattle.osil_grammar.specs.Refusals.{IsFirstDecided}
-use Rattle.osil_grammar.specs.Reading.{Reads, Tells, DecodeFails}
+use Rattle.osil_grammar.specs.Reading.{DecodeFails}
+use Rattle.osil_grammar.specs.Parsing.{Reads, Tells}
 use Rattle.osil_grammar.proofs.JoinedRoots.{root_joined}
 
 told_of : (bytes : List ℕ) (root : Element) (f : OsilFault) → IsDocument bytes root → Tells f (IsFirstDecided (tags root)) → DecodeFails bytes f

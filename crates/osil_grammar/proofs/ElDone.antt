@@ -14,13 +14,13 @@ use Rattle.osil_grammar.specs.Runs.{IsWholeRun, IsRatioRun, whole_run, ratio_at}
 use Rattle.osil_grammar.specs.Walking.{Walking, Begun, IsInside}
 use Rattle.osil_grammar.specs.Refusals.{Wide, Index, AreClean, IsFirstDecided}
 use Rattle.osil_grammar.specs.Refusals as refusals
-use Rattle.osil_grammar.specs.Reading.{Tells, Reads, begun, element_tags, start_only, wholes, AddsWholes, AddsRatios, IsBelow, IsLimitOf, NoMemoryAlone, ReadsRun}
+use Rattle.osil_grammar.specs.Parsing.{Tells, Reads, begun, element_tags, start_only, wholes, AddsWholes, AddsRatios, IsBelow, IsLimitOf, NoMemoryAlone, ReadsRun}
 use Rattle.osil_grammar.specs.declared.fault.OsilFault.{OsilFault}
 use Rattle.osil_grammar.specs.declared.tags.StartTag.{StartTag}
 use Rattle.osil_grammar.proofs.Decided.{tells_more, inner_tags, clean_none, clean_same, first_behind}
 use Rattle.osil_grammar.proofs.Foreign.{text_tags}
 use Rattle.osil_grammar.proofs.Wholes.{whole_fits}
-use Rattle.osil_grammar.proofs.Once.{decimal_fits}
+use Rattle.decimal_text.proofs.OneNumber.{decimal_fits}
 use Rattle.osil_grammar.proofs.AtTags.{IsPlaced}
 use Rattle.osil_grammar.proofs.ElRead.{index_first, run_wide_first, end_clean}
 use Rattle.osil_grammar.proofs.ElExits.{tag_ordinal, end_refused, read_clean}

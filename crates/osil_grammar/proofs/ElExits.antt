@@ -4,14 +4,15 @@ use Rattle.std.specs.Prelude.{◌⊎◌, Option, Result, IsSomeAnd, MatchOption,
 use Rattle.tree_grammar.specs.Elements.{Attribute, Element, Event}
 use Rattle.document_tags.specs.Texts.{HoldsText}
 use Rattle.decimal_text.specs.Count.{IsCount}
-use Rattle.osil_grammar.specs.Tags.{Level, Tag, level_of, names, attribute, value_of}
+use Rattle.document_tags.specs.Elements.{attribute, value_of}
+use Rattle.osil_grammar.specs.Tags.{Level, Tag, level_of, names}
 use Rattle.osil_grammar.specs.Kinds.{Listing, Listed, El, path}
 use Rattle.osil_grammar.specs.Numbers.{Grammar, count, mult, listing_grammar, IsOf, IsWideOf}
 use Rattle.osil_grammar.specs.Runs.{StandsFor, StandFor}
 use Rattle.osil_grammar.specs.Deciding.{told, most}
 use Rattle.osil_grammar.specs.Walking.{Walking, Begun, IsInside}
 use Rattle.osil_grammar.specs.Refusals.{Refusal, Beyond, Number, TooBig, AreClean, IsFirstDecided}
-use Rattle.osil_grammar.specs.Reading.{Tells, begun, IsAtTag, element_tags, start_only, end_only, FirstChild, IsNoTimes, IsUnread, IsFirstOf, unread_refusal}
+use Rattle.osil_grammar.specs.Parsing.{Tells, begun, IsAtTag, element_tags, start_only, end_only, FirstChild, IsNoTimes, IsUnread, IsFirstOf, unread_refusal}
 use Rattle.osil_grammar.specs.declared.fault.OsilFault.{OsilFault}
 use Rattle.osil_grammar.specs.declared.tags.StartTag.{StartTag}
 use Rattle.osil_grammar.specs.declared.unread.Unread.{Unread}
@@ -22,7 +23,7 @@ use Rattle.osil_grammar.proofs.Wholes.{wide_is_of}
 use Rattle.osil_grammar.proofs.AtTags.{IsPlaced, line_path}
 use Rattle.osil_grammar.proofs.Els.{StartFault}
 use Rattle.osil_grammar.proofs.ElRead.{IsBegun, some_both, el_placed, number_first, wide_first, big_first, text_number_first, text_wide_first}
-use Rattle.osil_grammar.proofs.Once.{count_once, count_fits}
+use Rattle.decimal_text.proofs.OneNumber.{count_once, count_fits}
 
 -- the one refusal that is told is decided first
 pub tells_first : (f : OsilFault) (ts : List Tag) (r : Refusal) (n : ℕ) → Tells f (λ q m. (q ≡ r) × (m ≡ n)) → IsFirstDecided ts r n → Tells f (IsFirstDecided ts)

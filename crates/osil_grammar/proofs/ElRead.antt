@@ -4,14 +4,16 @@ use Rattle.std.specs.Prelude.{◌⊎◌, Option, IsSomeAnd, MatchOption, codes}
 use Rattle.tree_grammar.specs.Elements.{Element}
 use Rattle.document_tags.specs.Texts.{HoldsText}
 use Rattle.decimal_text.specs.Count.{IsCount}
-use Rattle.osil_grammar.specs.Tags.{Level, Tag, level_of, start_tag, end_tag, names, attribute}
+use Rattle.document_tags.specs.Elements.{attribute}
+use Rattle.osil_grammar.specs.Tags.{Level, Tag, level_of, start_tag, end_tag, names}
 use Rattle.osil_grammar.specs.Kinds.{Listing, Values, Listed, El, path}
 use Rattle.osil_grammar.specs.Numbers.{mult, field, listing_grammar, IsOf, IsWideOf}
 use Rattle.osil_grammar.specs.Runs.{StandsFor, StandFor}
 use Rattle.osil_grammar.specs.Deciding.{HasWideRun, LeavesRange, DecidesNumber, DecidesWide, most}
 use Rattle.osil_grammar.specs.Refusals.{Refusal, Root, Missing, Beyond, Attribute, Number, Wide, Count, Index, Start, VarType, Bound, ManyObjectives, TooBig, number, DecidesNothing, AreClean, IsFirstDecided}
-use Rattle.osil_grammar.specs.Reading.{start_only, end_only}
-use Rattle.osil_grammar.proofs.Once.{count_once, count_fits, times_once, stand_once}
+use Rattle.osil_grammar.specs.Parsing.{start_only, end_only}
+use Rattle.decimal_text.proofs.OneNumber.{count_once, count_fits}
+use Rattle.osil_grammar.proofs.Once.{times_once, stand_once}
 use Rattle.osil_grammar.proofs.Decided.{first_one, clean_one}
 use Rattle.osil_grammar.proofs.Foreign.{text_once}
 use Rattle.osil_grammar.proofs.Wholes.{wide_is_of}

@@ -10,7 +10,7 @@ use Rattle.osil_grammar.specs.Kinds.{Listing, Values, Kind, Coef, El, Ends}
 use Rattle.osil_grammar.specs.Numbers.{Grammar, text_grammar, IsOf, IsWideOf}
 use Rattle.osil_grammar.specs.Deciding.{DecidesMissing}
 use Rattle.osil_grammar.specs.Refusals.{Refusal, Root, number, Decides, DecidesNothing, IsFirstDecided}
-use Rattle.osil_grammar.specs.Reading.{IsTagOf, Tells, end_only}
+use Rattle.osil_grammar.specs.Parsing.{IsTagOf, Tells, end_only}
 use Rattle.osil_grammar.proofs.Decided.{first_one, tells_more}
 use Rattle.osil_grammar.proofs.EndTags.{no_start, end_least_of, NoCount, end_number, end_wide, end_clean, end_count}
 use Rattle.osil_grammar.proofs.Fields.{ordinal_is}

@@ -19,7 +19,7 @@ use Rattle.osil_grammar.specs.Meaning.{AreEntriesOf}
 use Rattle.osil_grammar.specs.PartsRead.{AreWithin}
 use Rattle.osil_grammar.specs.declared.entries.Lists.{Lists}
 use Rattle.osil_grammar.specs.declared.matrix.Found.{Found}
-use Rattle.osil_grammar.specs.Reading.{wholes, lists_of, AreStored, AreListsOf, FitsSize, FitsMatrix}
+use Rattle.osil_grammar.specs.Parsing.{wholes, lists_of, AreStored, AreListsOf, FitsSize, FitsMatrix}
 use Rattle.osil_grammar.proofs.Ascending.{Rises, rises}
 use Rattle.osil_grammar.proofs.Places.{is_at, is_at-own, is_at-same}
 

@@ -7,7 +7,7 @@ use Rattle.tree_grammar.specs.Elements.{Element}
 use Rattle.osil_grammar.specs.Tags.{Tag, Level}
 use Rattle.osil_grammar.proofs.Decided.{inner_tags, clean_element, refused_end}
 use Rattle.osil_grammar.specs.Refusals.{AreClean, IsFirstDecided}
-use Rattle.osil_grammar.specs.Reading.{Reads, Tells, NoMemoryAlone, element_tags, start_only, end_only}
+use Rattle.osil_grammar.specs.Parsing.{Reads, Tells, NoMemoryAlone, element_tags, start_only, end_only}
 use Rattle.osil_grammar.specs.declared.fault.OsilFault.{OsilFault}
 
 -- what a `?` hands on is what was refused

@@ -1,27 +1,18 @@
 -- The attributes of a start tag that are numbers, read together.
-use Rattle.std.proofs.Common.{◌≡◌, ℕ, zero, suc, ◌<◌, ◌⊎◌, inl, inr, true, false, List, [], ◌∷◌, ◌++◌, refl, ap, sym, subst, arith}
+use Rattle.osil_grammar.specs.Fields.{OneOf, EachOf, IsBad, IsWide, IsNumber, IsFine, FieldsRead}
+use Rattle.std.proofs.Common.{◌≡◌, ℕ, zero, suc, ◌<◌, inl, inr, true, false, List, [], ◌∷◌, ◌++◌, refl, ap, sym, subst, arith}
 use Rattle.std.specs.Prelude.{Option, None, Some, MatchOption, IsSomeAnd, Result, Ok, Err, MatchResult, Contains, bytes_eq, codes}
 use Rattle.tree_grammar.specs.Elements.{Attribute, Element}
 use Rattle.decimal_text.specs.Count.{IsCount}
 use Rattle.osil_grammar.specs.declared.unread.Unread.{Unread}
 use Rattle.osil_grammar.specs.declared.unread.Unread.TheVariants as unread
 use Rattle.osil_grammar.specs.declared.tags.StartTag.{StartTag}
-use Rattle.osil_grammar.specs.Tags.{value_of, attribute}
+use Rattle.document_tags.specs.Elements.{value_of, attribute}
 use Rattle.osil_grammar.specs.Walking.{Begun}
 use Rattle.osil_grammar.specs.Numbers.{Grammar, count, whole, decimal, bound, Field, field, mult, IsOf, IsWideOf, Says}
 use Rattle.osil_grammar.specs.Runs.{StandsFor}
-use Rattle.osil_grammar.specs.Deciding.{HasAttribute}
-use Rattle.osil_grammar.specs.Reading.{begun, IsTagOf, ReadsField, IsUnread, IsNoTimes, IsFirstOf}
-use Rattle.osil_grammar.proofs.Once.{count_once, count_fits}
-
--- one of these fields is so; each is
-abbrev pub OneOf : (Field → Type 0) → List Field → Type 0
-OneOf P [] = ⊥
-OneOf P (f ∷ fs) = P f ⊎ OneOf P fs
-
-abbrev pub EachOf : (Field → Type 0) → List Field → Type 0
-EachOf P [] = Unit {0}
-EachOf P (f ∷ fs) = P f × EachOf P fs
+use Rattle.osil_grammar.specs.Parsing.{begun, IsTagOf, ReadsField, IsUnread, IsNoTimes, IsFirstOf}
+use Rattle.decimal_text.proofs.OneNumber.{count_once, count_fits}
 
 pub contains_one : (P : Field → Type 0) (fs : List Field) → OneOf P fs → (f : Field) × Contains fs f × P f
 contains_one P [] h = absurd h
@@ -49,25 +40,6 @@ each_append P (f ∷ fs) gs a b = (a.0, each_append P fs gs a.1 b)
 pub each_weaker : (P Q : Field → Type 0) → ((f : Field) → P f → Q f) → (fs : List Field) → EachOf P fs → EachOf Q fs
 each_weaker P Q weaker [] h = tt
 each_weaker P Q weaker (f ∷ fs) h = (weaker f h.0, each_weaker P Q weaker fs h.1)
-
--- a field isn't of its grammar, or stands for no element; it is too great; neither
-abbrev pub IsBad : Element → Field → Type 0
-IsBad e f = HasAttribute e f.name (λ text. IsOf f.grammar text → ⊥) ⊎ ((f ≡ mult) × HasAttribute e (codes "mult") (λ text. IsCount text 0))
-
-abbrev pub IsWide : Element → Field → Type 0
-IsWide e f = HasAttribute e f.name (λ text. IsWideOf f.grammar text)
-
-abbrev pub IsNumber : Element → Field → Type 0
-IsNumber e f = IsBad e f → ⊥
-
-abbrev pub IsFine : Element → Field → Type 0
-IsFine e f = (IsBad e f → ⊥) × (IsWide e f → ⊥)
-
--- these fields were read: all are fine, or what is told of them is so
-abbrev pub FieldsRead : {X : Type 0} → Element → List Field → Result X Unread → (X → Type 0) → Type 0
-FieldsRead e fs (Ok x) P = P x × EachOf (IsFine e) fs
-FieldsRead e fs (Err unread.NotNumber) P = OneOf (IsBad e) fs
-FieldsRead e fs (Err unread.Wide) P = OneOf (IsWide e) fs × EachOf (IsNumber e) fs
 
 fine_numbers : (e : Element) (fs : List Field) → EachOf (IsFine e) fs → EachOf (IsNumber e) fs
 fine_numbers e fs h = each_weaker (IsFine e) (IsNumber e) (λ f fine. fine.0) fs h

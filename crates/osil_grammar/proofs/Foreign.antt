@@ -8,7 +8,7 @@ use Rattle.osil_grammar.specs.Tags.{Level, level_of, start_tag, names, node_tags
 use Rattle.osil_grammar.specs.Kinds.{Kind, path, content_names, is_open}
 use Rattle.osil_grammar.specs.Deciding.{told}
 use Rattle.osil_grammar.specs.Refusals.{Refusal, Root, Missing, Beyond, Attribute, Number, Wide, Count, Index, Start, VarType, Bound, ManyObjectives, TooBig, number, Decides, IsFirstDecided}
-use Rattle.osil_grammar.specs.Reading.{start_only, element_tags, FirstChild}
+use Rattle.osil_grammar.specs.Parsing.{start_only, element_tags, FirstChild}
 use Rattle.osil_grammar.proofs.Children.{next_of}
 use Rattle.osil_grammar.proofs.Decided.{first_one, first_front, first_same}
 use Rattle.osil_grammar.proofs.Parents.{path_some}

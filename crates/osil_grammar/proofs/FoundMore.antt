@@ -15,7 +15,7 @@ use Rattle.osil_grammar.specs.Tags.{first_named}
 use Rattle.osil_grammar.specs.Kinds.{InstanceData, content_names}
 use Rattle.osil_grammar.specs.Runs.{StandFor, ItemsStandFor}
 use Rattle.osil_grammar.specs.Meaning.{IsVar, IsRow, IsMatrix}
-use Rattle.osil_grammar.specs.Reading.{AreFound, IsRead, HaveVariables, HaveRows, HoldsAll, HoldsGoal}
+use Rattle.osil_grammar.specs.Parsing.{AreFound, IsRead, HaveVariables, HaveRows, HoldsAll, HoldsGoal}
 use Rattle.osil_grammar.specs.PartsRead.{items_of, vars_of, rows_of}
 use Rattle.osil_grammar.specs.declared.sections.Sections.{Sections}
 use Rattle.osil_grammar.proofs.FirstNamed.{first_other, first_here}

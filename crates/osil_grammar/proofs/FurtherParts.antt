@@ -8,7 +8,7 @@ use Rattle.osil_grammar.specs.Kinds.{Kind, InstanceData, path, content_names}
 use Rattle.osil_grammar.specs.Deciding.{told}
 use Rattle.osil_grammar.specs.Walking.{Walking, Begun, Entered, Left, IsInside, IsBehind}
 use Rattle.osil_grammar.specs.Refusals.{Refusal, Root, Missing, Beyond, Decides, AreClean, IsFirstDecided}
-use Rattle.osil_grammar.specs.Reading.{Tells, element_tags, start_only}
+use Rattle.osil_grammar.specs.Parsing.{Tells, element_tags, start_only}
 use Rattle.osil_grammar.proofs.Decided.{first_one, first_front, tells_more, clean_element, clean_one, refused_inside}
 use Rattle.osil_grammar.proofs.Midway.{begins_midway, enters_child, leaves_children}
 use Rattle.osil_grammar.proofs.OpenPlaces.{NoKind, unknown_clean, end_in_place, in_open, late_in_data}

@@ -4,9 +4,9 @@ use Rattle.tree_grammar.specs.Elements.{Nodes, none, element, chars, Element, Ev
 use Rattle.element_tree.specs.Writable.{BeginsApart}
 use Rattle.document_tags.specs.Rests.{after_text, child_elements}
 use Rattle.document_tags.specs.Texts.{HoldsText}
-use Rattle.osil_grammar.specs.Tags.{elements_in}
+use Rattle.document_tags.specs.Elements.{elements_in}
 use Rattle.osil_grammar.specs.Walking.{Walking, Begun, Entered, Left, IsJoined}
-use Rattle.osil_grammar.specs.Reading.{FirstChild, Tells}
+use Rattle.osil_grammar.specs.Parsing.{FirstChild, Tells}
 use Rattle.osil_grammar.specs.Refusals as refusals
 use Rattle.osil_grammar.specs.Deciding.{told}
 use Rattle.osil_grammar.specs.declared.fault.OsilFault.{OsilFault}

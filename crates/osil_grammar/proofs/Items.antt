@@ -5,7 +5,7 @@ use Rattle.std.specs.Prelude.{replicate}
 use Rattle.tree_grammar.specs.Elements.{Element}
 use Rattle.osil_grammar.specs.Runs.{StandsFor, StandFor}
 use Rattle.osil_grammar.specs.Meaning.{Expand}
-use Rattle.osil_grammar.specs.Reading.{Adds}
+use Rattle.osil_grammar.specs.Parsing.{Adds}
 use Rattle.osil_grammar.proofs.Once.{stand_append}
 
 -- one element more

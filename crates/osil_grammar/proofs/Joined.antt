@@ -4,7 +4,8 @@ use Rattle.std.specs.Prelude.{codes}
 use Rattle.std.specs.Fmt.{decimal}
 use Rattle.tree_grammar.specs.Elements.{Attribute, Nodes, none, element, chars, Event, nodes_events}
 use Rattle.fraction.specs.declared.ends.Entry.{Entry}
-use Rattle.osil_grammar.specs.Writing.{WriteVars, WriteRows, WriteCosts, WriteValues, counts_nodes, with_attribute, type_text}
+use Rattle.document_tags.specs.Writing.{with_attribute}
+use Rattle.osil_grammar.specs.Writing.{WriteVars, WriteRows, WriteCosts, WriteValues, counts_nodes, type_text}
 use Rattle.osil_grammar.proofs.Told.{CanJoin}
 
 -- a single element, and then the rest

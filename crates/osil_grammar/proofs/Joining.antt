@@ -24,7 +24,7 @@ use Rattle.instance.specs.Parts.{IsBefore}
 use Rattle.instance.specs.Program.{entry, entries}
 use Rattle.osil_grammar.specs.Matrix.{place_sum, HasWidePlace}
 use Rattle.osil_grammar.specs.Orders.{Follow, IsNotBehind, IsInOrder, IsRising}
-use Rattle.osil_grammar.specs.Reading.{AreSumsAt, AreJoined}
+use Rattle.osil_grammar.specs.Parsing.{AreSumsAt, AreJoined}
 use Rattle.osil_grammar.proofs.Places.{is_at, entry_at-push_other, entry_at-push_here, entry_at-nowhere, place_sum-push, place_sum-number, IsWideFrom, wide_push, is_at-same}
 use Rattle.osil_grammar.proofs.Ordering.{all_before_last, before_alike, before_or_same, all_change, all_behind_one}
 

@@ -8,7 +8,7 @@ use Rattle.osil_grammar.specs.Kinds.{Kind, path, ordered}
 use Rattle.osil_grammar.specs.Walking.{Begun}
 use Rattle.osil_grammar.specs.Deciding.{IsLate, told}
 use Rattle.osil_grammar.specs.Refusals.{Beyond, Decides, IsFirstDecided}
-use Rattle.osil_grammar.specs.Reading.{begun, IsTagOf, Tells, start_only}
+use Rattle.osil_grammar.specs.Parsing.{begun, IsTagOf, Tells, start_only}
 use Rattle.osil_grammar.proofs.AtStart.{told_here}
 use Rattle.osil_grammar.proofs.Decided.{tells_more}
 use Rattle.osil_grammar.proofs.StartTags.{least_start}

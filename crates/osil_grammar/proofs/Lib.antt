@@ -19,7 +19,6 @@ pub mod Means
 pub mod Ascending
 pub mod MatrixMeans
 pub mod RootMeans
-pub mod OneText
 pub mod OneRoot
 pub mod CoefEnds
 pub mod CoefTags
@@ -34,6 +33,7 @@ pub mod Exits
 pub mod Fields
 pub mod Foreign
 pub mod Held
+pub mod ItemTags
 pub mod Items
 pub mod Joining
 pub mod Lines
@@ -65,6 +65,7 @@ pub mod ListPlaces
 pub mod OneValue
 pub mod OneMatrix
 pub mod ChildTags
+pub mod OneFault
 pub mod OneInstance
 pub mod NoRefusal
 pub mod CleanVars

@@ -9,7 +9,7 @@ use Rattle.fraction.specs.Frac.{ratio, ratios}
 use Rattle.fraction.specs.declared.frac.Frac.{Frac}
 use Rattle.osil_grammar.specs.Matrix.{IsDivision, lines_from, placed, placed_all}
 use Rattle.osil_grammar.specs.declared.entries.Lists.{Lists}
-use Rattle.osil_grammar.specs.Reading.{wholes, line_entries, AreStored}
+use Rattle.osil_grammar.specs.Parsing.{wholes, line_entries, AreStored}
 
 -- the first values are all on one line, and the others come behind them
 pub placed_front : (by_columns : Bool) (n j : ℕ) (lines : List ℕ) (indices : List ℤ) (values : List Ratio) → n ≤ length indices → n ≤ length values → placed_all by_columns (replicate n j ++ lines) indices values ≡ placed_all by_columns (replicate n j) (take n indices) (take n values) ++ placed_all by_columns lines (drop n indices) (drop n values)

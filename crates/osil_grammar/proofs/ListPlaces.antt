@@ -12,7 +12,7 @@ use Rattle.osil_grammar.specs.Kinds.{Listing, Starts, RowIndices, ColumnIndices,
 use Rattle.osil_grammar.specs.Matrix.{index_name}
 use Rattle.osil_grammar.specs.Deciding.{IsInRow}
 use Rattle.osil_grammar.specs.declared.matrix.Found.{Found}
-use Rattle.osil_grammar.specs.Reading.{AreRead, IsRead, MayFollow}
+use Rattle.osil_grammar.specs.Parsing.{AreRead, IsRead, MayFollow}
 
 -- where no element of a name is found, none has it
 pub first_none : (name : List ℕ) (es : List Element) → first_named name es ≡ None → All (λ e. e.name ≡ name → ⊥) es

@@ -14,7 +14,7 @@ use Rattle.osil_grammar.specs.Matrix.{index_name}
 use Rattle.osil_grammar.specs.Walking.{Begun}
 use Rattle.osil_grammar.specs.Deciding.{told, IsInRow, IsLate}
 use Rattle.osil_grammar.specs.Refusals.{Beyond, DecidesNothing, AreClean, IsFirstDecided}
-use Rattle.osil_grammar.specs.Reading.{begun, IsTagOf, Tells, start_only, element_tags, AreRead, IsRead, MayFollow, InSize, parts_around}
+use Rattle.osil_grammar.specs.Parsing.{begun, IsTagOf, Tells, start_only, element_tags, AreRead, IsRead, MayFollow, InSize, parts_around}
 use Rattle.osil_grammar.proofs.AtStart.{begins_child, told_here, no_attribute, no_var_type, no_many, no_wide_row}
 use Rattle.osil_grammar.proofs.Decided.{tells_more, inner_tags, clean_one, clean_element, refused_inside}
 use Rattle.osil_grammar.proofs.EndTags.{plain_end}

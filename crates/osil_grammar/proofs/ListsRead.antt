@@ -9,7 +9,7 @@ use Rattle.fraction.specs.declared.frac.Frac.{Frac}
 use Rattle.osil_grammar.specs.Tags.{Level}
 use Rattle.osil_grammar.specs.Walking.{Walking, IsJoined}
 use Rattle.osil_grammar.specs.Runs.{StandsFor, StandFor, IsWholeRun, IsRatioRun, whole_run, ratio_run, AreWholes, AreRatios}
-use Rattle.osil_grammar.specs.Reading.{wholes, AddsWholes, AddsRatios, AreSame, HoldsWholes, HoldsRatios}
+use Rattle.osil_grammar.specs.Parsing.{wholes, AddsWholes, AddsRatios, AreSame, HoldsWholes, HoldsRatios}
 use Rattle.osil_grammar.proofs.Midway.{Midway, begins_midway}
 use Rattle.osil_grammar.proofs.Once.{stand_append}
 

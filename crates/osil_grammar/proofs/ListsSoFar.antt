@@ -9,7 +9,7 @@ use Rattle.osil_grammar.specs.declared.matrix.Found.{Found}
 use Rattle.osil_grammar.specs.Tags.{first_named}
 use Rattle.osil_grammar.specs.Kinds.{Listing, Starts, Values, Coefficients, listing_name, content_names}
 use Rattle.osil_grammar.specs.Matrix.{index_name}
-use Rattle.osil_grammar.specs.Reading.{AreRead, IsRead, HoldsWholes, HoldsRatios}
+use Rattle.osil_grammar.specs.Parsing.{AreRead, IsRead, HoldsWholes, HoldsRatios}
 use Rattle.osil_grammar.proofs.FirstNamed.{first_other, first_here}
 use Rattle.osil_grammar.proofs.ListPlaces.{not_read}
 use Rattle.osil_grammar.proofs.ListTags.{is_list}

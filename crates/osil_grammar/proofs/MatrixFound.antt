@@ -15,7 +15,7 @@ use Rattle.osil_grammar.specs.Runs.{ItemsStandFor}
 use Rattle.osil_grammar.specs.Matrix.{index_name}
 use Rattle.osil_grammar.specs.Deciding.{HasList, HasLists, HasWideEntry}
 use Rattle.osil_grammar.specs.Refusals.{Missing, Count, AreClean, IsFirstDecided}
-use Rattle.osil_grammar.specs.Reading.{IsTagOf, Tells, end_only, HasLines, IsMatrixAt, InSize, HasNoList, LacksList, AreRead, IsRead}
+use Rattle.osil_grammar.specs.Parsing.{IsTagOf, Tells, end_only, HasLines, IsMatrixAt, InSize, HasNoList, LacksList, AreRead, IsRead}
 use Rattle.osil_grammar.proofs.Decided.{clean_one}
 use Rattle.osil_grammar.proofs.FirstNamed.{is_among, not_among, none_there}
 use Rattle.osil_grammar.proofs.ListPlaces.{not_read}

@@ -21,7 +21,7 @@ use Rattle.osil_grammar.specs.Matrix.{index_name, IsDivision, AreLists, lines_fr
 use Rattle.osil_grammar.specs.Meaning.{AreEntriesOf, IsMatrix}
 use Rattle.osil_grammar.specs.Deciding.{HasList, HasLists, HasItems, HasWideEntry, LinesBefore, AreDivided}
 use Rattle.osil_grammar.specs.Refusals.{Refusal, Wide, Count, AreClean, IsFirstDecided}
-use Rattle.osil_grammar.specs.Reading.{IsTagOf, Tells, end_only, wholes, lists_of, AreSame, HoldsWholes, HoldsRatios, HoldsLists, HasLines, IsRightMatrix, AreStored, IsListsFault}
+use Rattle.osil_grammar.specs.Parsing.{IsTagOf, Tells, end_only, wholes, lists_of, AreSame, HoldsWholes, HoldsRatios, HoldsLists, HasLines, IsRightMatrix, AreStored, IsListsFault}
 use Rattle.osil_grammar.proofs.Decided.{clean_one, tells_more}
 use Rattle.osil_grammar.proofs.FirstNamed.{is_among}
 use Rattle.osil_grammar.proofs.ListsRead.{length-same}

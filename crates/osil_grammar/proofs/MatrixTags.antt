@@ -8,17 +8,20 @@ use Rattle.decimal_text.specs.Count.{IsCount}
 use Rattle.osil_grammar.specs.declared.unread.Unread.{Unread}
 use Rattle.osil_grammar.specs.declared.tags.StartTag.{StartTag}
 use Rattle.osil_grammar.specs.declared.fault.OsilFault.{OsilFault}
-use Rattle.osil_grammar.specs.Tags.{Level, names, attribute, level_of, start_tag, end_tag}
+use Rattle.document_tags.specs.Elements.{attribute}
+use Rattle.osil_grammar.specs.Tags.{Level, names, level_of, start_tag, end_tag}
 use Rattle.osil_grammar.specs.Kinds.{Osil, InstanceData, Variables, Objectives, Obj, Constraints, Coefficients, El, path, ordered, Begins, Ends}
 use Rattle.osil_grammar.specs.Numbers.{count, fields}
 use Rattle.osil_grammar.specs.Deciding.{IsLate, HasList, HasLists, HasWideEntry, HasItems, HasOtherValues, HasOtherIndices, DecidesCount, DecidesIndex, DecidesStart, DecidesBound, Differs}
 use Rattle.osil_grammar.specs.Refusals.{Refusal, Root, Missing, Beyond, Attribute, Wide, Count, Start, number, Decides, DecidesNothing, IsFirstDecided}
-use Rattle.osil_grammar.specs.Reading.{IsTagOf, ReadsField, IsAtTag, Tells, start_only, end_only}
+use Rattle.osil_grammar.specs.Parsing.{IsTagOf, ReadsField, IsAtTag, Tells, start_only, end_only}
 use Rattle.osil_grammar.proofs.AtStart.{begins_child, no_attribute, no_var_type, no_many, no_wide_row, fields_refused, fields_fine, past_fields, no_wide_but_row}
-use Rattle.osil_grammar.proofs.Counted.{IsDeclared, Declares, declared_is, declared_differs, declared_same}
+use Rattle.osil_grammar.specs.Fields.{IsDeclared, Declares}
+use Rattle.osil_grammar.proofs.Counted.{declared_is, declared_differs, declared_same}
 use Rattle.osil_grammar.proofs.Decided.{first_one, tells_more}
 use Rattle.osil_grammar.proofs.EndTags.{ends_once, end_number, end_wide}
-use Rattle.osil_grammar.proofs.Fields.{FieldsRead, field_read, ordinal_is}
+use Rattle.osil_grammar.specs.Fields.{FieldsRead}
+use Rattle.osil_grammar.proofs.Fields.{field_read, ordinal_is}
 use Rattle.osil_grammar.proofs.StartEnds.{past_ends, start_clean}
 use Rattle.osil_grammar.proofs.StartTags.{AtLeast, known_place, no_count, no_index, no_starts, past_attribute, past_number, past_wide, past_count, past_index, past_start, past_var_type, past_bound, past_many, past_too_big, past_all}
 use Rattle.osil_grammar.proofs.WholeEls.{items_once}

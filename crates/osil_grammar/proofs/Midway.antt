@@ -2,10 +2,11 @@
 use Rattle.std.proofs.Common.{◌≡◌, ℕ, ◌+◌, List, [], ◌∷◌, ◌++◌, drop, refl, ap, sym, ◌∙◌, append_assoc, append-nil, inl, inr, arith}
 use Rattle.tree_grammar.specs.Elements.{Attribute, Nodes, Element, Event, Close, nodes_events}
 use Rattle.document_tags.specs.Rests.{after_text, child_elements}
-use Rattle.osil_grammar.specs.Tags.{Level, Tag, elements_in, node_tags}
+use Rattle.document_tags.specs.Elements.{elements_in}
+use Rattle.osil_grammar.specs.Tags.{Level, Tag, node_tags}
 use Rattle.osil_grammar.specs.Walking.{Walking, Begun, Entered, Left, IsJoined, IsInside, IsBehind}
 use Rattle.osil_grammar.specs.Refusals.{Refusal, AreClean, IsFirstDecided}
-use Rattle.osil_grammar.specs.Reading.{element_tags}
+use Rattle.osil_grammar.specs.Parsing.{element_tags}
 use Rattle.osil_grammar.proofs.Children.{HasNext, next_of}
 use Rattle.osil_grammar.proofs.Decided.{clean_append, clean_none, clean_same, first_front, first_behind, first_same}
 use Rattle.osil_grammar.proofs.Steps.{is_walking}

@@ -7,7 +7,8 @@ use Rattle.std.proofs.lemmas.Slice.Eq.{bytes_eq-Decides}
 use Rattle.tree_grammar.specs.Elements as tree
 use Rattle.tree_grammar.specs.Elements.{Nodes, element, Element}
 use Rattle.tree_grammar.specs.Tags.{IsAmong}
-use Rattle.osil_grammar.specs.Tags.{Level, Tag, names, level_of, element_of, elements_in, start_tag, end_tag, node_tags}
+use Rattle.document_tags.specs.Elements.{elements_in}
+use Rattle.osil_grammar.specs.Tags.{Level, Tag, names, level_of, element_of, start_tag, end_tag, node_tags}
 use Rattle.osil_grammar.specs.Kinds.{Kind, Var, Obj, Coef, Con, El, Begins, Ends, ordered}
 use Rattle.osil_grammar.specs.Numbers.{fields}
 use Rattle.osil_grammar.specs.Deciding.{IsInRow, IsLate, HasWideRow, DecidesMissing, DecidesAttribute, DecidesNumber, DecidesWide, DecidesCount, DecidesIndex, DecidesStart, DecidesVarType, DecidesBound, DecidesManyObjectives, DecidesTooBig, most}
@@ -15,7 +16,8 @@ use Rattle.osil_grammar.specs.Refusals.{DecidesNothing, AreClean}
 use Rattle.osil_grammar.proofs.AtStart.{no_attribute, no_var_type, no_many, no_wide_row}
 use Rattle.osil_grammar.proofs.AtTags.{IsPlaced, line_path}
 use Rattle.osil_grammar.proofs.EndTags.{end_least_of, not_begun}
-use Rattle.osil_grammar.proofs.Fields.{EachOf, IsWide, IsFine, IsNumber, each_weaker}
+use Rattle.osil_grammar.specs.Fields.{EachOf, IsWide, IsFine, IsNumber}
+use Rattle.osil_grammar.proofs.Fields.{each_weaker}
 use Rattle.osil_grammar.proofs.Parents.{child_of}
 use Rattle.osil_grammar.proofs.StartEnds.{no_ends_but, no_limit}
 use Rattle.osil_grammar.proofs.StartTags.{AtLeast, past_attribute, past_number, past_wide, past_count, past_index, past_start, past_var_type, past_bound, past_many, past_too_big, past_all, known_place, no_number, no_wide, no_count, no_starts, no_index}

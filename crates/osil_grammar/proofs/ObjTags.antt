@@ -1,34 +1,34 @@
 -- What the tags of an `obj` say, and what is decided there.
+use Rattle.osil_grammar.specs.Fields.{ObjSays}
 use Rattle.std.proofs.Common.{◌≡◌, ◌≢◌, ℕ, ◌<◌, inl, inr, List, [], ◌∷◌, length, refl, sym, subst, arith}
-use Rattle.std.specs.Prelude.{Option, None, Some, MatchOption, IfSome, IsSomeAnd, Result, Ok, Err, MatchResult, map, codes}
+use Rattle.std.specs.Prelude.{Option, None, Some, MatchOption, IfSome, IsSomeAnd, Result, Ok, Err, map, codes}
 use Rattle.tree_grammar.specs.Elements.{Attribute, Element}
 use Rattle.tree_grammar.specs.Tags.{IsAmong}
 use Rattle.document_tags.specs.Rests.{child_elements}
-use Rattle.evidence.specs.Sums as evidence
 use Rattle.fraction.specs.declared.frac.Frac.{Frac}
-use Rattle.fraction.specs.Frac.{ratio}
 use Rattle.decimal_text.specs.Count.{IsCount}
-use Rattle.decimal_text.specs.Decimal.{IsDecimal}
 use Rattle.instance.specs.declared.parts.Sense.{Sense}
 use Rattle.instance.specs.declared.parts.Sense.TheVariants.{Min, Max}
 use Rattle.osil_grammar.specs.declared.unread.Unread.{Unread}
 use Rattle.osil_grammar.specs.declared.tags.StartTag.{StartTag}
 use Rattle.osil_grammar.specs.declared.fault.OsilFault.{OsilFault}
-use Rattle.osil_grammar.specs.Tags.{Level, value_of, attribute, names, level_of, start_tag, end_tag}
+use Rattle.document_tags.specs.Elements.{value_of, attribute}
+use Rattle.osil_grammar.specs.Tags.{Level, names, level_of, start_tag, end_tag}
 use Rattle.osil_grammar.specs.Kinds.{Variables, Objectives, Obj, Coef, Constraints, Coefficients, Begins, Ends, path}
-use Rattle.osil_grammar.specs.Numbers.{count, decimal, field, fields, mult, Says, IsOf, IsWideOf}
+use Rattle.osil_grammar.specs.Numbers.{fields, Says, IsOf, IsWideOf}
 use Rattle.osil_grammar.specs.Runs.{StandsFor}
 use Rattle.osil_grammar.specs.Meaning.{IsSense}
-use Rattle.osil_grammar.specs.Deciding.{senses, HasConstant, DecidesAttribute, DecidesCount, DecidesManyObjectives, Differs}
+use Rattle.osil_grammar.specs.Deciding.{senses, DecidesAttribute, DecidesCount, DecidesManyObjectives, Differs}
 use Rattle.osil_grammar.specs.Refusals.{Attribute as BadAttribute, Count, ManyObjectives, DecidesNothing, IsFirstDecided}
-use Rattle.osil_grammar.specs.Reading.{begun, Tells, IsAtTag, start_only, end_only, IsTagOf, ReadsField, IsFirstOf, IsNoTimes, AreObjs, ReadsSense, IsObjHead}
+use Rattle.osil_grammar.specs.Parsing.{Tells, IsAtTag, start_only, end_only, IsTagOf, AreObjs, ReadsSense, IsObjHead}
 use Rattle.osil_grammar.proofs.AtStart.{told_here, begins_child, fields_refused, fields_fine, past_fields, no_wide_but_row, no_wide_row, no_var_type}
-use Rattle.osil_grammar.proofs.Counted.{IsDeclared, Declares, declared_is, declared_differs, declared_same}
+use Rattle.osil_grammar.specs.Fields.{IsDeclared}
+use Rattle.osil_grammar.proofs.Counted.{declared_differs, declared_same}
 use Rattle.osil_grammar.proofs.Decided.{told_at}
 use Rattle.osil_grammar.proofs.EndTags.{HoldsSo, ends_once, end_least, end_number, end_wide, end_clean}
-use Rattle.osil_grammar.proofs.Fields.{EachOf, IsFine, FieldsRead, attributes_are, ordinal_is, field_read, times_read, both_read}
+use Rattle.osil_grammar.specs.Fields.{EachOf, IsFine, FieldsRead}
+use Rattle.osil_grammar.proofs.Fields.{attributes_are, ordinal_is}
 use Rattle.osil_grammar.proofs.Once.{times_once}
-use Rattle.osil_grammar.proofs.RowTags.{decimal_is}
 use Rattle.osil_grammar.proofs.StartEnds.{past_ends, start_clean}
 use Rattle.osil_grammar.proofs.StartTags.{AtLeast, known_place, begins_once, past_attribute, past_number, past_wide, past_count, past_index, past_start, past_var_type, no_count, no_index, no_starts}
 
@@ -48,22 +48,6 @@ says_declared : (text : Option (List ℕ)) (x : Option ℕ) → MatchOption text
 says_declared None x says = says
 says_declared (Some t) None says = absurd says
 says_declared (Some t) (Some n) says = (says, refl)
-
--- the fields of its start tag, as they were read
-pub record ObjRead (t : StartTag) (read : Result ((Frac × Option ℕ) × ℕ) Unread) : Type 0 where
-  pub constant : Result Frac Unread
-  pub declared : Result (Option ℕ) Unread
-  pub head : Result (Frac × Option ℕ) Unread
-  pub times : Result ℕ Unread
-  pub constant_read : ReadsField t (codes "constant") decimal constant (λ x. ratio x ≡ evidence.none) (λ text x. IsDecimal text (ratio x))
-  pub declared_read : ReadsField t (codes "numberOfObjCoef") count declared (λ x. x ≡ None) IsDeclared
-  pub head_read : MatchResult head (λ x. (constant ≡ Ok x.0) × (declared ≡ Ok x.1)) (IsFirstOf constant declared)
-  pub times_read : MatchResult times (λ m. (0 < m) × MatchOption (value_of (codes "mult") (begun t).attributes) (m ≡ 1) (λ text. IsCount text m)) (λ u. IsSomeAnd (value_of (codes "mult") (begun t).attributes) (IsNoTimes u))
-  pub all_read : MatchResult read (λ x. (head ≡ Ok x.0) × (times ≡ Ok x.1)) (IsFirstOf head times)
-
--- what they say
-abbrev pub ObjSays : Element → (Frac × Option ℕ) × ℕ → Type 0
-ObjSays e x = (HasConstant e x.0.0 × Declares e (codes "numberOfObjCoef") x.0.1) × ((0 < x.1) × StandsFor e x.1)
 
 abbrev pub SaysSense : Element → Sense → Type 0
 SaysSense e s = Says e (codes "maxOrMin") (λ (x : Sense). x ≡ Min) IsSense s
@@ -93,19 +77,11 @@ module _ (t : StartTag) (around : List Level) (before : List Element) (n : ℕ) 
   obj_least : (s : Sense) → SaysSense e s → AtLeast 5 (start_tag around (level_of e n before))
   obj_least s said = past_attribute (start_tag around (level_of e n before)) obj_place (attribute_fine s said)
 
-  obj_fields : (read : Result ((Frac × Option ℕ) × ℕ) Unread) → ObjRead t read → FieldsRead e (fields Obj) read (ObjSays e)
-  obj_fields read r =
-      both_read e (field (codes "constant") decimal ∷ field (codes "numberOfObjCoef") count ∷ []) (mult ∷ []) r.head r.times read (λ x. HasConstant e x.0 × Declares e (codes "numberOfObjCoef") x.1) (λ m. (0 < m) × StandsFor e m)
-      (both_read e (field (codes "constant") decimal ∷ []) (field (codes "numberOfObjCoef") count ∷ []) r.constant r.declared r.head (HasConstant e) (Declares e (codes "numberOfObjCoef"))
-      (field_read t e n (codes "constant") decimal r.constant (λ x. ratio x ≡ evidence.none) (λ text x. IsDecimal text (ratio x)) tag refl decimal_is r.constant_read)
-      (field_read t e n (codes "numberOfObjCoef") count r.declared (λ x. x ≡ None) IsDeclared tag refl declared_is r.declared_read) r.head_read)
-      (times_read t e n r.times tag r.times_read) r.all_read
+  pub obj_refused : (s : Sense) → SaysSense e s → (read : Result ((Frac × Option ℕ) × ℕ) Unread) (f : OsilFault) → FieldsRead e (fields Obj) read (ObjSays e) → IsAtTag t read (Err f) → Tells f (IsFirstDecided (start_only around before n e))
+  obj_refused s said read f r at = fields_refused t around before n e Obj tag obj_begins (obj_least s said) read (ObjSays e) f r at
 
-  pub obj_refused : (s : Sense) → SaysSense e s → (read : Result ((Frac × Option ℕ) × ℕ) Unread) (f : OsilFault) → ObjRead t read → IsAtTag t read (Err f) → Tells f (IsFirstDecided (start_only around before n e))
-  obj_refused s said read f r at = fields_refused t around before n e Obj tag obj_begins (obj_least s said) read (ObjSays e) f (obj_fields read r) at
-
-  pub obj_fine : (s : Sense) → SaysSense e s → (read : Result ((Frac × Option ℕ) × ℕ) Unread) (x : (Frac × Option ℕ) × ℕ) → ObjRead t read → IsAtTag t read (Ok x) → ObjSays e x × EachOf (IsFine e) (fields Obj)
-  obj_fine s said read x r at = fields_fine t around before n e Obj tag obj_begins (obj_least s said) read (ObjSays e) x (obj_fields read r) at
+  pub obj_fine : (s : Sense) → SaysSense e s → (read : Result ((Frac × Option ℕ) × ℕ) Unread) (x : (Frac × Option ℕ) × ℕ) → FieldsRead e (fields Obj) read (ObjSays e) → IsAtTag t read (Ok x) → ObjSays e x × EachOf (IsFine e) (fields Obj)
+  obj_fine s said read x r at = fields_fine t around before n e Obj tag obj_begins (obj_least s said) read (ObjSays e) x r at
 
   obj_least_many : (s : Sense) → SaysSense e s → EachOf (IsFine e) (fields Obj) → AtLeast 12 (start_tag around (level_of e n before))
   obj_least_many s said fine =

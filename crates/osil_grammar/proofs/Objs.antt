@@ -6,7 +6,7 @@ use Rattle.tree_grammar.specs.Elements.{Element}
 use Rattle.instance.specs.declared.parts.Goal.{Goal}
 use Rattle.osil_grammar.specs.Runs.{StandsFor, StandFor}
 use Rattle.osil_grammar.specs.Meaning.{IsNoGoal, IsGoal, IsObjective}
-use Rattle.osil_grammar.specs.Reading.{AreObjs}
+use Rattle.osil_grammar.specs.Parsing.{AreObjs}
 
 -- the goal of these elements, how many they are, and for how many they stand
 abbrev pub ObjsOf : ℕ → List Element → Goal → ℕ → Type 0

@@ -12,7 +12,7 @@ use Rattle.instance.specs.Parts.{Parts}
 use Rattle.osil_grammar.specs.Tags.{first_named}
 use Rattle.osil_grammar.specs.Refusals.{IsAccepted}
 use Rattle.osil_grammar.specs.Meaning.{IsVar, IsRow, IsObjective, IsMatrix, Expand, SayParts, Means}
-use Rattle.osil_grammar.specs.InstanceText.{IsInstanceText}
+use Rattle.osil_grammar.specs.Reading.{IsInstanceText}
 use Rattle.osil_grammar.proofs.OneValue.{var_once, row_once, expand_once, objective_once}
 use Rattle.osil_grammar.proofs.OneMatrix.{HasBoth, matrix_once}
 use Rattle.osil_grammar.proofs.ChildTags.{accepted_single}

@@ -1,30 +1,20 @@
 -- A document is refused in one way.
-use Rattle.std.proofs.Common.{◌≡◌, ◌∙◌, ℕ, ◌⊎◌, inl, inr, List, [], ◌∷◌, ◌++◌, refl, ap, sym, subst, arith}
+use Rattle.std.proofs.Common.{◌≡◌, ◌∙◌, ℕ, ◌⊎◌, inl, inr, List, refl, ap, sym, subst, arith}
 use Rattle.std.specs.Prelude.{codes}
-use Rattle.std.proofs.lemmas.List.Elements.{All-head, All-tail}
+use Rattle.document_tags.proofs.Decided.{first_once}
 use Rattle.tree_grammar.specs.Elements.{Element}
 use Rattle.doc_tree.proofs.Unambiguous.{one_tree}
 use Rattle.instance.specs.Parts.{Parts}
-use Rattle.osil_grammar.specs.InstanceText.{IsInstanceText, IsRefusedText}
-use Rattle.osil_grammar.specs.Tags.{Level, Tag, tags, attribute}
+use Rattle.osil_grammar.specs.Reading.{IsInstanceText, IsRefusedText}
+use Rattle.document_tags.specs.Elements.{attribute}
+use Rattle.osil_grammar.specs.Tags.{Level, Tag, tags}
 use Rattle.osil_grammar.specs.Kinds.{Coef, Obj}
 use Rattle.osil_grammar.specs.Deciding.{IsForeign, IsMisplaced, IsInFurther, HasCoefFault, DecidesBeyond, DecidesAttribute, told}
-use Rattle.osil_grammar.specs.Refusals.{Refusal, Root, Missing, Beyond, Attribute, Number, Wide, Count, Index, Start, VarType, Bound, ManyObjectives, TooBig, number, Decides, DecidesNothing, AreClean, IsFirstDecided, IsRefused}
-use Rattle.osil_grammar.proofs.ChildTags.{same_heads, same_rests}
+use Rattle.osil_grammar.specs.Refusals.{Refusal, Root, Missing, Beyond, Attribute, Number, Wide, Count, Index, Start, VarType, Bound, ManyObjectives, TooBig, number, Decides, IsRefused}
 use Rattle.osil_grammar.proofs.Clean.{not_both}
 use Rattle.osil_grammar.proofs.NoRefusal.{not_some}
 use Rattle.osil_grammar.proofs.Parents.{same_ends}
 use Rattle.osil_grammar.proofs.StartTags.{begins_once, no_further}
-
--- the first tag at which something is decided is one
-same_tag : (before others : List Tag) (t s : Tag) (after more : List Tag) (r q : Refusal) (n m : ℕ) → before ++ t ∷ after ≡ others ++ s ∷ more → AreClean before → AreClean others → Decides t r n → Decides s q m → t ≡ s
-same_tag [] [] t s after more r q n m same clean free a b = same_heads t s after more same
-same_tag [] (x ∷ others) t s after more r q n m same clean free a b =
-    absurd (All-head DecidesNothing x others free r n (subst (λ (y : Tag). Decides y r n) (same_heads t x after (others ++ s ∷ more) same) a))
-same_tag (x ∷ before) [] t s after more r q n m same clean free a b =
-    absurd (All-head DecidesNothing x before clean q m (subst (λ (y : Tag). Decides y q m) (sym (same_heads x s (before ++ t ∷ after) more same)) b))
-same_tag (x ∷ before) (y ∷ others) t s after more r q n m same clean free a b =
-    same_tag before others t s after more r q n m (same_rests x y (before ++ t ∷ after) (others ++ s ∷ more) same) (All-tail DecidesNothing x before clean) (All-tail DecidesNothing y others free) a b
 
 -- an element that may not stand there isn't in a further part
 not_in_further : (t : Tag) (part : Level) → IsForeign t ⊎ IsMisplaced t → IsInFurther t part → ⊥
@@ -76,17 +66,8 @@ decided_once t ManyObjectives ManyObjectives n m same p q = (refl, p.1 ∙ sym q
 decided_once t TooBig TooBig n m same p q = (refl, p.1 ∙ sym q.1)
 decided_once t r q n m same p d = absurd (omega (arith, same))
 
-first_once : (ts : List Tag) (r q : Refusal) (n m : ℕ) → IsFirstDecided ts r n → IsFirstDecided ts q m → (r ≡ q) × (n ≡ m)
-first_once ts r q n m a b =
-    let one : a.tag ≡ b.tag = same_tag a.before b.before a.tag b.tag a.after b.after r q n m (sym a.split ∙ b.split) a.clean b.clean a.decided b.decided in
-    let here : Decides b.tag r n = subst (λ (t : Tag). Decides t r n) one a.decided in
-    let there : Decides a.tag q m = subst (λ (t : Tag). Decides t q m) (sym one) b.decided in
-    let low = a.least q m there in
-    let high = b.least r n here in
-    decided_once b.tag r q n m (omega (arith, low, high)) here b.decided
-
 pub refused_once : (root : Element) (r q : Refusal) (n m : ℕ) → IsRefused root r n → IsRefused root q m → (r ≡ q) × (n ≡ m)
-refused_once root r q n m a b = first_once (tags root) r q n m a b
+refused_once root r q n m a b = first_once Decides number decided_once (tags root) r q n m a b
 
 pub text_refused_once : (text : List ℕ) (r q : Refusal) (n m : ℕ) → IsRefusedText text r n → IsRefusedText text q m → (r ≡ q) × (n ≡ m)
 text_refused_once text r q n m a b =

@@ -11,7 +11,7 @@ use Rattle.instance.specs.declared.parts.Row.{Row}
 use Rattle.instance.specs.declared.parts.Goal.{Goal}
 use Rattle.instance.specs.Parts.{Parts}
 use Rattle.osil_grammar.specs.Writing.{IsEndText, WriteVars, WriteRows, WriteCosts, CountsCosts, WritesGoal, WriteValues, WriteLists, WritesInstance}
-use Rattle.osil_grammar.proofs.OneText.{plain_once}
+use Rattle.decimal_text.proofs.PlainTexts.{plain_once}
 
 end_once : (end : End) (s t : List ℕ) → IsEndText end s → IsEndText end t → s ≡ t
 end_once NegInf s t p q = p ∙ sym q

@@ -19,10 +19,11 @@ use Rattle.instance.specs.declared.parts.Row.{Row}
 use Rattle.instance.specs.declared.parts.Goal.{Goal}
 use Rattle.instance.specs.declared.parts.Sense.{Sense}
 use Rattle.instance.specs.declared.parts.Sense.TheVariants.{Min, Max}
-use Rattle.osil_grammar.specs.Tags.{attribute}
+use Rattle.document_tags.specs.Elements.{attribute}
 use Rattle.osil_grammar.specs.Costs.{Cost, cost_sum}
 use Rattle.osil_grammar.specs.Meaning.{IsEndAt, raised, lowered, IsContinuous, IsBinary, IsOfType, IsVar, IsLess, IsRow, Expand, IsSense, AreSums, IsObjective}
-use Rattle.osil_grammar.proofs.Once.{only_inf, only_neg_inf, times_once}
+use Rattle.decimal_text.proofs.OneNumber.{only_inf, only_neg_inf}
+use Rattle.osil_grammar.proofs.Once.{times_once}
 use Rattle.osil_grammar.proofs.RatioEls.{decimal_once}
 use Rattle.osil_grammar.proofs.Places.{number_either}
 use Rattle.osil_grammar.proofs.RowTags.{constant_once}

@@ -4,7 +4,8 @@ use Rattle.std.specs.Prelude.{codes}
 use Rattle.std.proofs.lemmas.List.Elements.{All-cons}
 use Rattle.tree_grammar.specs.Elements.{Nodes, none, element, chars, Element}
 use Rattle.tree_grammar.specs.Tags.{IsAmong}
-use Rattle.osil_grammar.specs.Tags.{Level, Tag, line, names, level_of, start_tag, end_tag, node_tags, element_of, elements_in}
+use Rattle.document_tags.specs.Elements.{elements_in}
+use Rattle.osil_grammar.specs.Tags.{Level, Tag, line, names, level_of, start_tag, end_tag, node_tags, element_of}
 use Rattle.osil_grammar.specs.Kinds.{Values, Kind, Osil, InstanceData, Variables, Var, Objectives, Obj, Coef, Constraints, Con, Coefficients, Listed, El, path, ordered, content_names, is_open}
 use Rattle.osil_grammar.specs.Deciding.{IsLate, IsForeign, IsMisplaced, DecidesMissing, DecidesBeyond, DecidesAttribute, DecidesNumber, DecidesWide, DecidesCount, DecidesIndex, DecidesBound}
 use Rattle.osil_grammar.specs.Refusals.{Root, Missing, Beyond, Attribute, Number, Wide, Count, Index, Start, VarType, Bound, ManyObjectives, TooBig, DecidesNothing, AreClean}

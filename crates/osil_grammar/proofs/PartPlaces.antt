@@ -5,7 +5,7 @@ use Rattle.tree_grammar.specs.Elements.{Element}
 use Rattle.osil_grammar.specs.Tags.{Level, first_named}
 use Rattle.osil_grammar.specs.Kinds.{InstanceData, ordered}
 use Rattle.osil_grammar.specs.Deciding.{IsInRow, IsLate}
-use Rattle.osil_grammar.specs.Reading.{AreFound, IsRead, IsPartNamed}
+use Rattle.osil_grammar.specs.Parsing.{AreFound, IsRead, IsPartNamed}
 use Rattle.osil_grammar.specs.PartsRead.{name_of, MayStand, IsNextPart}
 use Rattle.osil_grammar.specs.declared.sections.Sections.{Sections}
 use Rattle.osil_grammar.specs.declared.sections.PartName.{PartName}

@@ -10,9 +10,11 @@ use Rattle.decimal_text.specs.Plain.{PlainText}
 use Rattle.instance.specs.declared.parts.Var.{Var}
 use Rattle.instance.specs.declared.parts.Row.{Row}
 use Rattle.instance.specs.declared.parts.Goal.{Goal}
-use Rattle.osil_grammar.specs.Writing.{WriteVars, WriteRows, WriteCosts, CountsCosts, WritesGoal, counted, holding, sense_text, type_text, with_attribute}
-use Rattle.osil_grammar.specs.Telling.{Told, ToldAttributes, EndAttributes, opening, closing}
-use Rattle.osil_grammar.proofs.Told.{content_told, told_around}
+use Rattle.document_tags.specs.Writing.{counted, with_attribute}
+use Rattle.osil_grammar.specs.Writing.{WriteVars, WriteRows, WriteCosts, CountsCosts, WritesGoal, holding, sense_text, type_text}
+use Rattle.document_tags.specs.Telling.{Told, ToldAttributes, opening, closing}
+use Rattle.osil_grammar.specs.Telling.{EndAttributes}
+use Rattle.document_tags.proofs.Told.{content_told, told_around}
 
 -- an attribute was told
 abbrev pub told_attribute : Building → (name value : List ℕ) → Building

@@ -3,7 +3,7 @@ use Rattle.std.proofs.Common.{◌≡◌, ◌≤◌, List, [], ◌∷◌, ◌++�
 use Rattle.std.proofs.lemmas.List.{length-map, get_or_append_left}
 use Rattle.osil_grammar.specs.Tags.{Level, level_of, names, no_element}
 use Rattle.osil_grammar.specs.Kinds.{Kind, InstanceData, path}
-use Rattle.osil_grammar.specs.Reading.{parts_around}
+use Rattle.osil_grammar.specs.Parsing.{parts_around}
 
 -- seen from an element of a part, they are those that are seen from a tag in it
 pub parts_kept : (p : Kind) (around : List Level) (last : Level) → names around ≡ path p → 3 ≤ length (path p) → (get_or (around ++ last ∷ []) 2 (level_of no_element 0 [])).before ≡ parts_around around

@@ -3,7 +3,7 @@ use Rattle.std.proofs.Common.{◌≡◌, ℕ, ◌+◌, ◌-◌, ◌<◌, ◌≤�
 use Rattle.tree_grammar.specs.Elements.{Nodes, Event, Close, nodes_events}
 use Rattle.document_tags.specs.Rests.{after_text}
 use Rattle.document_tags.proofs.Content.{length-after_text}
-use Rattle.osil_grammar.specs.Tags.{elements_in}
+use Rattle.document_tags.specs.Elements.{elements_in}
 use Rattle.osil_grammar.specs.Walking.{Walking, Begun, Entered, Left, GoesOn}
 use Rattle.osil_grammar.proofs.Children.{next_of}
 use Rattle.osil_grammar.proofs.Steps.{is_walking}

@@ -9,7 +9,8 @@ use Rattle.fraction.specs.Frac.{ratio}
 use Rattle.fraction.specs.declared.frac.Frac.{Frac}
 use Rattle.decimal_text.specs.Decimal.{IsDecimal}
 use Rattle.decimal_text.proofs.Once.{decimal_read_back}
-use Rattle.osil_grammar.specs.Tags.{Level, end_tag, attribute}
+use Rattle.document_tags.specs.Elements.{attribute}
+use Rattle.osil_grammar.specs.Tags.{Level, end_tag}
 use Rattle.osil_grammar.specs.Kinds.{Values}
 use Rattle.osil_grammar.specs.Numbers.{HoldsDecimal}
 use Rattle.osil_grammar.specs.Runs.{IsRatioRun, ratio_at}

@@ -10,7 +10,7 @@ use Rattle.evidence.proofs.Fits.{sums_same}
 use Rattle.fraction.specs.Frac.{ratio, ratios}
 use Rattle.fraction.specs.declared.frac.Frac.{Frac}
 use Rattle.osil_grammar.specs.Runs.{ratio_run, ratio_at}
-use Rattle.osil_grammar.specs.Reading.{AreSame}
+use Rattle.osil_grammar.specs.Parsing.{AreSame}
 
 -- the run's numbers one after another
 later : (first step : Ratio) (k : ℕ) → ratio_at (sum first step) step k ≡ ratio_at first step (suc k)

@@ -11,7 +11,7 @@ use Rattle.osil_grammar.specs.Kinds.{Osil, path, ordered, content_names}
 use Rattle.osil_grammar.specs.Deciding.{IsLate}
 use Rattle.osil_grammar.specs.Refusals.{AreClean}
 use Rattle.osil_grammar.specs.Meaning.{SayParts}
-use Rattle.osil_grammar.specs.Reading.{element_tags, IsDataRead}
+use Rattle.osil_grammar.specs.Parsing.{element_tags, IsDataRead}
 use Rattle.osil_grammar.proofs.Decided.{clean_element, clean_one}
 use Rattle.osil_grammar.proofs.FirstNamed.{first_other, first_here, first_there}
 use Rattle.osil_grammar.proofs.FoundMore.{part_kept, part_new, differs}

@@ -9,7 +9,7 @@ use Rattle.osil_grammar.specs.Tags.{level_of, start_tag, end_tag, tags, node_tag
 use Rattle.osil_grammar.specs.Walking.{Walking, Begun, Entered, Left}
 use Rattle.osil_grammar.specs.Refusals.{Refusal, Root, Missing, AreClean, IsFirstDecided}
 use Rattle.osil_grammar.specs.Meaning.{SayParts, Means}
-use Rattle.osil_grammar.specs.Reading.{Tells, IsDataRead, start_only}
+use Rattle.osil_grammar.specs.Parsing.{Tells, IsDataRead, start_only}
 use Rattle.osil_grammar.proofs.DataTags.{root_start, root_other, root_end, root_lacks}
 use Rattle.osil_grammar.proofs.Decided.{tells_more, clean_element, clean_one, refused_start, refused_inside, refused_end}
 

@@ -1,5 +1,6 @@
 -- What the start tag of a row says, and what is decided there.
-use Rattle.std.proofs.Common.{◌≡◌, ℕ, ◌<◌, inl, inr, List, [], ◌∷◌, refl, ap, sym, ◌∙◌, subst}
+use Rattle.osil_grammar.specs.Fields.{LowSays, HighSays, RowSays}
+use Rattle.std.proofs.Common.{◌≡◌, ℕ, inl, inr, List, refl, ap, sym, ◌∙◌, subst}
 use Rattle.std.specs.Prelude.{Option, None, Some, MatchOption, IsSomeAnd, Result, Ok, Err, MatchResult, codes}
 use Rattle.tree_grammar.specs.Elements.{Element}
 use Rattle.fraction.specs.declared.frac.Frac.{Frac}
@@ -11,56 +12,29 @@ use Rattle.rational.specs.Ratio.{negative}
 use Rattle.rational.specs.Width.{SumFits}
 use Rattle.evidence.specs.Sums as evidence
 use Rattle.decimal_text.specs.Bound.{IsBound}
-use Rattle.decimal_text.specs.Count.{IsCount}
 use Rattle.decimal_text.specs.Decimal.{IsDecimal}
 use Rattle.instance.specs.Parts.{AreEnds}
 use Rattle.osil_grammar.specs.declared.unread.Unread.{Unread}
 use Rattle.osil_grammar.specs.declared.unread.Unread.TheVariants as unread
 use Rattle.osil_grammar.specs.declared.tags.StartTag.{StartTag}
 use Rattle.osil_grammar.specs.declared.fault.OsilFault.{OsilFault}
-use Rattle.osil_grammar.specs.Tags.{Level, value_of, attribute, names, start_tag, level_of}
+use Rattle.document_tags.specs.Elements.{attribute}
+use Rattle.osil_grammar.specs.Tags.{Level, names, start_tag, level_of}
 use Rattle.osil_grammar.specs.Kinds.{Constraints, Con, Begins, path}
-use Rattle.osil_grammar.specs.Numbers.{bound, decimal, field, fields, mult, Says}
-use Rattle.osil_grammar.specs.Runs.{StandsFor}
+use Rattle.osil_grammar.specs.Numbers.{decimal, fields, Says}
 use Rattle.osil_grammar.specs.Refusals.{Wide, IsFirstDecided}
 use Rattle.osil_grammar.specs.Deciding.{HasConstant, HasWideEnd, HasWideRow}
 use Rattle.osil_grammar.specs.Meaning.{IsLess}
-use Rattle.osil_grammar.specs.Reading.{begun, Tells, IsAtTag, start_only, IsTagOf, ReadsField, IsFirstOf, IsNoTimes, IsTooFar, IsNear, unread_refusal}
+use Rattle.osil_grammar.specs.Parsing.{Tells, IsAtTag, start_only, IsTagOf, IsFirstOf, IsTooFar, IsNear, unread_refusal}
 use Rattle.osil_grammar.proofs.AtStart.{told_here, begins_child, no_attribute, fields_refused, fields_fine, past_fields, no_wide_but_row, no_var_type, no_many, no_bound}
-use Rattle.osil_grammar.proofs.Fields.{EachOf, IsFine, FieldsRead, IsReadBy, field_read, times_read, both_read}
-use Rattle.osil_grammar.proofs.Once.{decimal_fits, only_inf, only_neg_inf}
+use Rattle.osil_grammar.specs.Fields.{EachOf, IsFine, FieldsRead}
+use Rattle.osil_grammar.proofs.Fields.{IsReadBy}
+use Rattle.decimal_text.proofs.OneNumber.{decimal_fits, only_inf, only_neg_inf}
 use Rattle.osil_grammar.proofs.RatioEls.{decimal_once}
 use Rattle.osil_grammar.proofs.StartTags.{AtLeast, past_attribute, known_place, past_wide, past_count, past_index, past_start, past_var_type, past_bound, past_many, no_count, no_index, no_starts}
-use Rattle.osil_grammar.proofs.Vars.{ends_read}
 
 pub decimal_is : IsReadBy {X = Frac} decimal (λ text x. IsDecimal text (ratio x))
 decimal_is text x h = ((h.written, h.read), decimal_fits text x h)
-
--- the fields of a row's start tag, as they were read
-pub record RowRead (t : StartTag) (read : Result ((End × End) × (Frac × ℕ)) Unread) : Type 0 where
-  pub low : Result End Unread
-  pub high : Result End Unread
-  pub ends : Result (End × End) Unread
-  pub constant : Result Frac Unread
-  pub times : Result ℕ Unread
-  pub others : Result (Frac × ℕ) Unread
-  pub low_read : ReadsField t (codes "lb") bound low (λ x. x ≡ NegInf) IsBound
-  pub high_read : ReadsField t (codes "ub") bound high (λ x. x ≡ Inf) IsBound
-  pub ends_read : MatchResult ends (λ x. (low ≡ Ok x.0) × (high ≡ Ok x.1)) (IsFirstOf low high)
-  pub constant_read : ReadsField t (codes "constant") decimal constant (λ x. ratio x ≡ evidence.none) (λ text x. IsDecimal text (ratio x))
-  pub times_read : MatchResult times (λ m. (0 < m) × MatchOption (value_of (codes "mult") (begun t).attributes) (m ≡ 1) (λ text. IsCount text m)) (λ u. IsSomeAnd (value_of (codes "mult") (begun t).attributes) (IsNoTimes u))
-  pub others_read : MatchResult others (λ x. (constant ≡ Ok x.0) × (times ≡ Ok x.1)) (IsFirstOf constant times)
-  pub all_read : MatchResult read (λ x. (ends ≡ Ok x.0) × (others ≡ Ok x.1)) (IsFirstOf ends others)
-
-abbrev pub LowSays : Element → End → Type 0
-LowSays e x = Says e (codes "lb") (λ (y : End). y ≡ NegInf) IsBound x
-
-abbrev pub HighSays : Element → End → Type 0
-HighSays e x = Says e (codes "ub") (λ (y : End). y ≡ Inf) IsBound x
-
--- what they say
-abbrev pub RowSays : Element → (End × End) × (Frac × ℕ) → Type 0
-RowSays e x = (LowSays e x.0.0 × HighSays e x.0.1) × (HasConstant e x.1.0 × ((0 < x.1.1) × StandsFor e x.1.1))
 
 -- a constant is one fraction
 constant_of : (text : Option (List ℕ)) (x y : Frac) → MatchOption text (ratio x ≡ evidence.none) (λ t. IsDecimal t (ratio x)) → MatchOption text (ratio y ≡ evidence.none) (λ t. IsDecimal t (ratio y)) → x ≡ y
@@ -106,20 +80,11 @@ module _ (t : StartTag) (around : List Level) (before : List Element) (n : ℕ) 
       past_attribute (start_tag around (level_of e n before)) (known_place (start_tag around (level_of e n before)) Constraints refl inside (inl named) (λ late. late.1))
       (no_attribute (start_tag around (level_of e n before)) Con row_begins (λ z. absurd (cc)) (λ z. absurd (cc)))
 
-  row_fields : (read : Result ((End × End) × (Frac × ℕ)) Unread) → RowRead t read → FieldsRead e (fields Con) read (RowSays e)
-  row_fields read r =
-      both_read e (field (codes "lb") bound ∷ field (codes "ub") bound ∷ []) (field (codes "constant") decimal ∷ mult ∷ []) r.ends r.others read (λ x. LowSays e x.0 × HighSays e x.1) (λ x. HasConstant e x.0 × ((0 < x.1) × StandsFor e x.1))
-      (ends_read t e n r.low r.high r.ends (λ x. x ≡ NegInf) (λ x. x ≡ Inf) tag r.low_read r.high_read r.ends_read)
-      (both_read e (field (codes "constant") decimal ∷ []) (mult ∷ []) r.constant r.times r.others (HasConstant e) (λ m. (0 < m) × StandsFor e m)
-      (field_read t e n (codes "constant") decimal r.constant (λ x. ratio x ≡ evidence.none) (λ text x. IsDecimal text (ratio x)) tag refl decimal_is r.constant_read)
-      (times_read t e n r.times tag r.times_read) r.others_read)
-      r.all_read
+  pub row_refused : (read : Result ((End × End) × (Frac × ℕ)) Unread) (result : Result ((End × End) × (Frac × ℕ)) OsilFault) (f : OsilFault) → FieldsRead e (fields Con) read (RowSays e) → IsAtTag t read result → result ≡ Err f → Tells f (IsFirstDecided (start_only around before n e))
+  row_refused read result f r at failed = fields_refused t around before n e Con tag row_begins row_least read (RowSays e) f r (subst (λ (x : Result ((End × End) × (Frac × ℕ)) OsilFault). IsAtTag t read x) failed at)
 
-  pub row_refused : (read : Result ((End × End) × (Frac × ℕ)) Unread) (result : Result ((End × End) × (Frac × ℕ)) OsilFault) (f : OsilFault) → RowRead t read → IsAtTag t read result → result ≡ Err f → Tells f (IsFirstDecided (start_only around before n e))
-  row_refused read result f r at failed = fields_refused t around before n e Con tag row_begins row_least read (RowSays e) f (row_fields read r) (subst (λ (x : Result ((End × End) × (Frac × ℕ)) OsilFault). IsAtTag t read x) failed at)
-
-  pub row_fine : (read : Result ((End × End) × (Frac × ℕ)) Unread) (result : Result ((End × End) × (Frac × ℕ)) OsilFault) (x : (End × End) × (Frac × ℕ)) → RowRead t read → IsAtTag t read result → result ≡ Ok x → RowSays e x × EachOf (IsFine e) (fields Con)
-  row_fine read result x r at done = fields_fine t around before n e Con tag row_begins row_least read (RowSays e) x (row_fields read r) (subst (λ (x : Result ((End × End) × (Frac × ℕ)) OsilFault). IsAtTag t read x) done at)
+  pub row_fine : (read : Result ((End × End) × (Frac × ℕ)) Unread) (result : Result ((End × End) × (Frac × ℕ)) OsilFault) (x : (End × End) × (Frac × ℕ)) → FieldsRead e (fields Con) read (RowSays e) → IsAtTag t read result → result ≡ Ok x → RowSays e x × EachOf (IsFine e) (fields Con)
+  row_fine read result x r at done = fields_fine t around before n e Con tag row_begins row_least read (RowSays e) x r (subst (λ (x : Result ((End × End) × (Frac × ℕ)) OsilFault). IsAtTag t read x) done at)
 
   far_told : (u : Unread) (f : OsilFault) → u ≡ unread.Wide → HasWideRow (start_tag around (level_of e n before)) → EachOf (IsFine e) (fields Con) → Tells f (λ r m. (r ≡ unread_refusal u) × (m ≡ t.ordinal)) → Tells f (IsFirstDecided (start_only around before n e))
   far_told u f same wide fine h =

@@ -8,7 +8,7 @@ use Rattle.std.proofs.lemmas.Int.{ints, to_z_pos}
 use Rattle.std.proofs.lemmas.Bool.{false≢true}
 use Rattle.std.proofs.lemmas.List.{append_assoc, map_push}
 use Rattle.osil_grammar.specs.Runs.{whole_run}
-use Rattle.osil_grammar.specs.Reading.{wholes, IsBelow}
+use Rattle.osil_grammar.specs.Parsing.{wholes, IsBelow}
 
 -- the number at place k of a run
 abbrev pub at_step : ℤ → ℤ → ℕ → ℤ

@@ -16,7 +16,7 @@ use Rattle.fraction.specs.declared.ends.Entry.{Entry}
 use Rattle.instance.specs.Program.{entries}
 use Rattle.osil_grammar.specs.Matrix.{placed, placed_all, place_sum, HasWidePlace}
 use Rattle.osil_grammar.specs.Meaning.{AreEntriesOf}
-use Rattle.osil_grammar.specs.Reading.{AreSame}
+use Rattle.osil_grammar.specs.Parsing.{AreSame}
 use Rattle.osil_grammar.proofs.OneValue.{none_number}
 
 -- two entries at one place, whose values are the same number

@@ -1,26 +1,19 @@
 -- The texts of numbers and ends are printable, and not empty.
-use Rattle.std.proofs.Common.{◌≡◌, ◌∙◌, ℕ, ◌+◌, ◌*◌, ◌^◌, ◌<◌, ◌≤◌, Bool, true, false, List, [], ◌∷◌, ◌++◌, length, ap, refl, sym, subst, arith, inl, inr, lit<, lit≤}
-use Rattle.std.specs.Prelude.{unsigned_abs}
+use Rattle.std.proofs.Common.{◌≡◌, ◌∙◌, ℕ, ◌^◌, ◌<◌, Bool, true, false, List, [], ◌∷◌, ◌++◌, length, ap, refl, sym, subst, arith, lit<, lit≤}
 use Rattle.std.specs.Fmt.{decimal}
 use Rattle.std.specs.Char.{digit_value}
-use Rattle.std.specs.Str.Parse.{AllDigits, digits_value}
-use Rattle.std.proofs.Math.Nat.{le-mul_of_pos_right, mul-le-mul_left}
-use Rattle.std.proofs.lemmas.Bool.Decides.{leb_tells}
+use Rattle.std.specs.Str.Parse.{AllDigits}
 use Rattle.std.proofs.lemmas.Fmt.{decimal_is_IsNumeral_wide}
 use Rattle.std.proofs.lemmas.Str.Parse.{digit_from_value}
-use Rattle.std.proofs.lemmas.List.{append-nil}
-use Rattle.rational.specs.Width.{most}
-use Rattle.rational.specs.Whole.{signed}
-use Rattle.rational.proofs.Signed.{sizes_cross, unsigned_abs-signed}
 use Rattle.fraction.specs.declared.frac.Frac.{Frac}
 use Rattle.fraction.specs.declared.ends.End.{End}
 use Rattle.fraction.specs.declared.ends.End.TheVariants.{NegInf, At, Inf}
 use Rattle.fraction.specs.Frac.{ratio}
-use Rattle.tree_grammar.specs.Characters.{Each, IsXmlText}
-use Rattle.element_tree.proofs.XmlTexts.{Printable, each_append, clean_ascii, clean_nothing}
+use Rattle.tree_grammar.specs.Characters.{Each}
+use Rattle.element_tree.proofs.XmlTexts.{Printable, each_append}
 use Rattle.decimal_text.specs.Sign.{optional}
 use Rattle.decimal_text.specs.Plain.{PlainText, point_text}
-use Rattle.decimal_text.proofs.Powers.{ten_power}
+use Rattle.decimal_text.proofs.PlainTexts.{plain_whole}
 use Rattle.osil_grammar.specs.Writing.{IsEndText}
 
 -- printable characters, one at least
@@ -49,19 +42,6 @@ sign_printable : (negative : Bool) → Each Printable (optional 45 negative)
 sign_printable true = ((lit≤ tt, lit< tt), tt)
 sign_printable false = tt
 
--- a whole part is no greater than the numerator's size
-whole_small : (whole power v den size : ℕ) → 0 < power → 0 < den → (whole * power + v) * den ≡ size * power → size ≤ most → whole < 10 ^ 64
-whole_small whole power v den size up above cross small =
-    let wide : whole * power + v ≤ (whole * power + v) * den = le-mul_of_pos_right (whole * power + v) above in
-    let top : most < 10 ^ 64 = lit< tt in
-    elim (leb_tells whole size) as (λ _. whole < 10 ^ 64) [
-      | inl low ↦ let l = low.1 in omega (arith, l, top, small)
-      | inr high ↦
-          let h : size + 1 ≤ whole = let g = high.1 in omega (arith, g) in
-          let more : power * (size + 1) ≤ power * whole = mul-le-mul_left power h in
-          absurd (omega (arith, wide, more, cross, up))
-    ]
-
 some_append : (a b : List ℕ) → (b ≡ [] → ⊥) → a ++ b ≡ [] → ⊥
 some_append [] b some = some
 some_append (x ∷ a) b some = λ e. cc
@@ -69,20 +49,6 @@ some_append (x ∷ a) b some = λ e. cc
 front_some : (a b : List ℕ) → (a ≡ [] → ⊥) → a ++ b ≡ [] → ⊥
 front_some [] b some = λ e. some refl
 front_some (x ∷ a) b some = λ e. cc
-
--- the size that is written of a fraction, over a power of ten
-pub plain_cross : (x : Frac) (text : List ℕ) (plain : PlainText text (ratio x)) → (plain.whole * 10 ^ length plain.digits + digits_value 10 plain.digits) * x.denom ≡ unsigned_abs x.numer * 10 ^ length plain.digits
-plain_cross x text plain =
-    let n = length plain.digits in
-    let v = digits_value 10 plain.digits in
-    let size = unsigned_abs-signed plain.is_negative (plain.whole * 10 ^ n + v) in
-    sym (ap (λ (m : ℕ). m * x.denom) size) ∙ sizes_cross (record { num = signed plain.is_negative (plain.whole * 10 ^ n + v); den = 10 ^ n }) (ratio x) plain.same
-
--- and its whole part
-pub plain_whole : (x : Frac) (text : List ℕ) (plain : PlainText text (ratio x)) → plain.whole < 10 ^ 64
-plain_whole x text plain =
-    let n = length plain.digits in
-    whole_small plain.whole (10 ^ n) (digits_value 10 plain.digits) x.denom (unsigned_abs x.numer) (ten_power n) x.above (plain_cross x text plain) x.numer_within
 
 pub plain_shown : (x : Frac) (text : List ℕ) → PlainText text (ratio x) → IsShown text
 plain_shown x text plain =
@@ -98,7 +64,3 @@ pub end_shown : (end : End) (text : List ℕ) → IsEndText end text → IsShown
 end_shown NegInf text is = subst IsShown (sym is) (record { some = λ e. cc; printable = ((lit≤ tt, lit< tt), ((lit≤ tt, lit< tt), ((lit≤ tt, lit< tt), ((lit≤ tt, lit< tt), tt)))) })
 end_shown (At x) text is = plain_shown x text is
 end_shown Inf text is = subst IsShown (sym is) (record { some = λ e. cc; printable = ((lit≤ tt, lit< tt), ((lit≤ tt, lit< tt), ((lit≤ tt, lit< tt), tt))) })
-
--- printable characters are a text of XML
-pub printable_text : (text : List ℕ) → Each Printable text → IsXmlText text
-printable_text text printable = subst IsXmlText (append-nil text) (clean_ascii text [] printable clean_nothing).text

@@ -23,7 +23,7 @@ use Rattle.instance.specs.Program.{entry, entries}
 use Rattle.osil_grammar.specs.Matrix.{place_sum, HasWidePlace}
 use Rattle.osil_grammar.specs.Meaning.{AreEntriesOf}
 use Rattle.osil_grammar.specs.Orders.{IsNotBehind, IsInOrder, IsRising}
-use Rattle.osil_grammar.specs.Reading.{AreSumsAt}
+use Rattle.osil_grammar.specs.Parsing.{AreSumsAt}
 use Rattle.osil_grammar.proofs.Places.{is_at, place_sum-filter, wide_filter, IsWideFrom, wide_from_place, place_from_wide, entry_at-nowhere, is_at-same}
 use Rattle.osil_grammar.proofs.Ordering.{ties_are_places, not_before, all_from_indices, ascending, rise_from, rising_behind, rising_filter}
 

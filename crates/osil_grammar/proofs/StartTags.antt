@@ -8,7 +8,8 @@ use Rattle.osil_grammar.specs.Numbers.{Field, mult, fields}
 use Rattle.osil_grammar.specs.Deciding.{IsForeign, IsMisplaced, IsInFurther, IsLate, HasWideRow, DecidesBeyond, DecidesAttribute, DecidesNumber, DecidesWide, DecidesCount, DecidesIndex, DecidesStart, DecidesVarType, DecidesBound, DecidesManyObjectives, DecidesTooBig}
 use Rattle.osil_grammar.specs.Refusals.{Refusal, Root, Missing, Beyond, Attribute, Number, Wide, Count, Index, Start, VarType, Bound, ManyObjectives, TooBig, number, Decides, DecidesNothing}
 use Rattle.osil_grammar.proofs.Paths.{path_once, names_append}
-use Rattle.osil_grammar.proofs.Fields.{OneOf, EachOf, contains_one, at_each, IsBad, IsWide, IsNumber}
+use Rattle.osil_grammar.specs.Fields.{OneOf, EachOf, IsBad, IsWide, IsNumber}
+use Rattle.osil_grammar.proofs.Fields.{contains_one, at_each}
 
 -- nothing is decided that stands before this place in the list of refusals
 abbrev pub AtLeast : ℕ → Tag → Type 0

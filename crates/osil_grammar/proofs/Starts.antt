@@ -8,7 +8,7 @@ use Rattle.fraction.specs.declared.ends.Entry.{Entry}
 use Rattle.tree_grammar.specs.Elements.{Event, nodes_events}
 use Rattle.element_tree.specs.Building.{Building, said}
 use Rattle.osil_grammar.specs.Writing.{counts_nodes, entries_below, row_starts}
-use Rattle.osil_grammar.specs.Telling.{Told}
+use Rattle.document_tags.specs.Telling.{Told}
 
 -- the entries of the rows before it all count
 all_below : (i : ℕ) (xs ys : List Entry) → All (λ e. nat_lt e.row i ≡ true) xs → entries_below i (xs ++ ys) ≡ entries_below i ys + length xs

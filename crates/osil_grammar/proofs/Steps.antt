@@ -8,7 +8,7 @@ use Rattle.element_tree.proofs.Texts.{drop-slice_get}
 use Rattle.tree_grammar.specs.Elements.{Attribute, Event}
 use Rattle.tree_grammar.specs.Elements as tree
 use Rattle.element_tree.specs.Items.{event_at}
-use Rattle.osil_grammar.specs.Tags.{value_of}
+use Rattle.document_tags.specs.Elements.{value_of}
 use Rattle.osil_grammar.specs.Walking.{Walking}
 
 abbrev pub walking : List Event → ℕ → Walking

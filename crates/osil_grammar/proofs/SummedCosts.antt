@@ -14,11 +14,11 @@ use Rattle.evidence.proofs.Fits.{sums_same}
 use Rattle.fraction.specs.declared.frac.Frac.{Frac}
 use Rattle.fraction.specs.Frac.{ratio, ratios}
 use Rattle.decimal_text.specs.Count.{IsCount}
-use Rattle.osil_grammar.specs.Tags.{attribute}
+use Rattle.document_tags.specs.Elements.{attribute}
 use Rattle.osil_grammar.specs.Costs.{Cost, IsCost, AreCosts, cost_sum}
 use Rattle.osil_grammar.specs.Meaning.{AreSums}
-use Rattle.osil_grammar.specs.Reading.{AreSummed, AddsCost}
-use Rattle.osil_grammar.proofs.Once.{count_once}
+use Rattle.osil_grammar.specs.Parsing.{AreSummed, AddsCost}
+use Rattle.decimal_text.proofs.OneNumber.{count_once}
 use Rattle.osil_grammar.proofs.Places.{chosen, number_either}
 use Rattle.osil_grammar.proofs.RatioEls.{held_once}
 

@@ -1,35 +1,14 @@
 -- What a builder is told one thing after another.
-use Rattle.std.proofs.Common.{◌≡◌, ◌∙◌, ℕ, ◌+◌, ◌<◌, ◌≤◌, List, [], ◌∷◌, ◌++◌, length, take, drop, get_or, Result, Ok, Err, ap, sym, subst, refl}
-use Rattle.std.specs.Prelude.{OnOk}
+use Rattle.std.proofs.Common.{◌≡◌, ◌∙◌, ℕ, ◌+◌, ◌<◌, ◌≤◌, List, [], ◌∷◌, ◌++◌, length, take, drop, get_or, ap, sym, subst, refl}
 use Rattle.std.specs.List.{All}
 use Rattle.std.proofs.lemmas.List.{drop_more, drop_all, take_all}
 use Rattle.std.proofs.lemmas.List.Elements.{All-nil, All-more}
-use Rattle.tree_grammar.specs.Elements.{Attribute, Nodes, none, element, Event, nodes_events}
+use Rattle.tree_grammar.specs.Elements.{Nodes, none, Event, nodes_events}
 use Rattle.element_tree.specs.Building.{Building, said}
 use Rattle.osil_grammar.specs.declared.fault.EncodeFault.{EncodeFault}
 use Rattle.osil_grammar.specs.declared.fault.EncodeFault.TheVariants.{NotDecimal, Long, Memory}
-use Rattle.osil_grammar.specs.Telling.{Told, opening, closing, HasNone}
-
--- one thing told, and then another
-pub told_then : (a b c : Building) (f g : List Event → List Event) → Told a b f → Told b c g → Told a c (λ k. f (g k))
-told_then a b c f g first second = record { told = λ behind. second.told behind ∙ first.told (g behind); waiting = second.waiting }
-
--- the last thing told is the call's own
-pub ends_told : {X E : Type 0} (r : Result X E) (a b c : Building) (f g : List Event → List Event) → Told a b f → OnOk r (Told b c g) → OnOk r (Told a c (λ k. f (g k)))
-ends_told (Ok x) a b c f g first second = told_then a b c f g first second
-ends_told (Err e) a b c f g first second = tt
-
--- an element with what stands in it
-pub told_around : (a b c d : Building) (name : List ℕ) (attributes : List Attribute) (inner : Nodes) → Told a b (opening name attributes) → Told b c (nodes_events inner) → Told c d (closing name) → Told a d (nodes_events (element name attributes inner none))
-told_around a b c d name attributes inner begins inside ends = told_then a c d (λ k. opening name attributes (nodes_events inner k)) (closing name) (told_then a b c (opening name attributes) (nodes_events inner) begins inside) ends
-
--- what was told before only attributes were told
-pub told_after : (a b c : Building) (f : List Event → List Event) → said b ≡ said a → Told b c f → Told a c f
-told_after a b c f same tells = record { told = λ behind. tells.told behind ∙ ap (λ (l : List Event). l ++ f behind) same; waiting = tells.waiting }
-
--- an element with the attributes that waited
-pub content_told : (a b c : Building) (name : List ℕ) (waits attributes : List Attribute) (children : Nodes) → said b ≡ said a → waits ≡ attributes → Told b c (nodes_events (element name waits children none)) → Told a c (nodes_events (element name attributes children none))
-content_told a b c name waits attributes children same is tells = told_after a b c (nodes_events (element name attributes children none)) same (subst (λ (l : List Attribute). Told b c (nodes_events (element name l children none))) is tells)
+use Rattle.document_tags.specs.Telling.{Told}
+use Rattle.osil_grammar.specs.Telling.{HasNone}
 
 -- a number that has no decimal is one of those that would need one
 pub none_of : (P Q : Type 0) (e : EncodeFault) → (Q → P) → HasNone P e → HasNone Q e

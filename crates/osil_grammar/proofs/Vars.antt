@@ -1,17 +1,18 @@
 -- What the start tag of a variable says, and what is decided there.
-use Rattle.std.proofs.Common.{◌≡◌, ℕ, ◌<◌, inl, inr, List, [], ◌∷◌, refl, subst}
+use Rattle.osil_grammar.specs.Fields.{IsLow, IsHigh, VarSays}
+use Rattle.std.proofs.Common.{◌≡◌, ℕ, inl, inr, List, [], ◌∷◌, refl, subst}
 use Rattle.std.specs.Prelude.{Option, None, Some, MatchOption, IsSomeAnd, Result, Ok, Err, MatchResult, codes}
 use Rattle.tree_grammar.specs.Elements.{Element}
 use Rattle.tree_grammar.specs.Tags.{IsAmong}
 use Rattle.fraction.specs.declared.ends.End.{End}
 use Rattle.decimal_text.specs.Bound.{IsBound}
-use Rattle.decimal_text.specs.Count.{IsCount}
 use Rattle.instance.specs.declared.parts.Var.{Var}
 use Rattle.osil_grammar.specs.declared.unread.Unread.{Unread}
 use Rattle.osil_grammar.specs.declared.tags.StartTag.{StartTag}
 use Rattle.osil_grammar.specs.declared.variables.Domain.{Domain}
 use Rattle.osil_grammar.specs.declared.variables.Domain.TheVariants.{Continuous, Integer, Binary}
-use Rattle.osil_grammar.specs.Tags.{Level, value_of, attribute, names, start_tag, level_of}
+use Rattle.document_tags.specs.Elements.{attribute}
+use Rattle.osil_grammar.specs.Tags.{Level, names, start_tag, level_of}
 use Rattle.osil_grammar.specs.Kinds.{Variables, Begins, path}
 use Rattle.osil_grammar.specs.Kinds as kinds
 use Rattle.osil_grammar.specs.Refusals.{IsFirstDecided}
@@ -19,14 +20,13 @@ use Rattle.osil_grammar.specs.declared.fault.OsilFault.{OsilFault}
 use Rattle.instance.specs.Parts.{AreEnds}
 use Rattle.osil_grammar.proofs.AtStart.{begins_child, no_attribute, fields_refused, fields_fine, past_fields, no_wide_but_row, no_wide_row, no_many, no_bound}
 use Rattle.osil_grammar.proofs.StartTags.{AtLeast, past_attribute, known_place, past_wide, past_count, past_index, past_start, past_var_type, past_bound, past_many, no_count, no_index, no_starts}
-use Rattle.osil_grammar.specs.Numbers.{bound, field, fields, mult, Says}
-use Rattle.osil_grammar.specs.Runs.{StandsFor}
+use Rattle.osil_grammar.specs.Numbers.{bound, field, fields, Says}
 use Rattle.osil_grammar.specs.Deciding.{types}
-use Rattle.osil_grammar.specs.Meaning.{IsContinuous, IsOfType, IsEndAt, IsVar}
-use Rattle.evidence.specs.Sums as evidence
-use Rattle.osil_grammar.specs.Reading.{begun, Tells, IsAtTag, start_only, IsTagOf, ReadsField, IsFirstOf, IsNoTimes, IsSaid, IsVariableOf}
-use Rattle.osil_grammar.proofs.Fields.{EachOf, IsFine, FieldsRead, IsReadBy, field_read, times_read, both_read}
-use Rattle.osil_grammar.proofs.Once.{bound_fits}
+use Rattle.osil_grammar.specs.Meaning.{IsContinuous, IsOfType, IsVar}
+use Rattle.osil_grammar.specs.Parsing.{Tells, IsAtTag, start_only, IsTagOf, ReadsField, IsFirstOf, IsSaid, IsVariableOf}
+use Rattle.osil_grammar.specs.Fields.{EachOf, IsFine, FieldsRead}
+use Rattle.osil_grammar.proofs.Fields.{IsReadBy, field_read, both_read}
+use Rattle.decimal_text.proofs.OneNumber.{bound_fits}
 use Rattle.fraction.specs.declared.ends.End.TheVariants.{NegInf, At, Inf}
 use Rattle.decimal_text.specs.Sign.{minus}
 
@@ -58,23 +58,7 @@ known_type Continuous (Some t) said none = none (inl said)
 known_type Integer (Some t) said none = none (inr (inr (inl said)))
 known_type Binary (Some t) said none = none (inr (inl said))
 
--- the fields of a variable's start tag, as they were read
-pub record VarRead (t : StartTag) (Low High : End → Type 0) (read : Result ((End × End) × ℕ) Unread) : Type 0 where
-  pub low : Result End Unread
-  pub high : Result End Unread
-  pub ends : Result (End × End) Unread
-  pub times : Result ℕ Unread
-  pub low_read : ReadsField t (codes "lb") bound low Low IsBound
-  pub high_read : ReadsField t (codes "ub") bound high High IsBound
-  pub ends_read : MatchResult ends (λ x. (low ≡ Ok x.0) × (high ≡ Ok x.1)) (IsFirstOf low high)
-  pub times_read : MatchResult times (λ m. (0 < m) × MatchOption (value_of (codes "mult") (begun t).attributes) (m ≡ 1) (λ text. IsCount text m)) (λ u. IsSomeAnd (value_of (codes "mult") (begun t).attributes) (IsNoTimes u))
-  pub all_read : MatchResult read (λ x. (ends ≡ Ok x.0) × (times ≡ Ok x.1)) (IsFirstOf ends times)
-
--- what they say
-abbrev pub VarSays : Element → (Low High : End → Type 0) → (End × End) × ℕ → Type 0
-VarSays e Low High x = (Says e (codes "lb") Low IsBound x.0.0 × Says e (codes "ub") High IsBound x.0.1) × ((0 < x.1) × StandsFor e x.1)
-
-module _ (t : StartTag) (around : List Level) (before : List Element) (n : ℕ) (e : Element) (tag : IsTagOf t e n) (inside : names around ≡ path Variables) (named : e.name ≡ codes "var") (Low High : End → Type 0) where
+module _ (t : StartTag) (around : List Level) (before : List Element) (n : ℕ) (e : Element) (tag : IsTagOf t e n) (inside : names around ≡ path Variables) (named : e.name ≡ codes "var") where
   pub var_begins : Begins (start_tag around (level_of e n before)) kinds.Var
   var_begins = begins_child around before n e Variables kinds.Var (codes "var") inside named refl
 
@@ -83,16 +67,11 @@ module _ (t : StartTag) (around : List Level) (before : List Element) (n : ℕ) 
       past_attribute (start_tag around (level_of e n before)) (known_place (start_tag around (level_of e n before)) Variables refl inside (inl named) (λ late. late.1))
       (no_attribute (start_tag around (level_of e n before)) kinds.Var var_begins (λ z. absurd (cc)) (λ z. absurd (cc)))
 
-  pub var_fields : (read : Result ((End × End) × ℕ) Unread) → VarRead t Low High read → FieldsRead e (fields kinds.Var) read (VarSays e Low High)
-  var_fields read r =
-      both_read e (field (codes "lb") bound ∷ field (codes "ub") bound ∷ []) (mult ∷ []) r.ends r.times read (λ x. Says e (codes "lb") Low IsBound x.0 × Says e (codes "ub") High IsBound x.1) (λ m. (0 < m) × StandsFor e m)
-      (ends_read t e n r.low r.high r.ends Low High tag r.low_read r.high_read r.ends_read) (times_read t e n r.times tag r.times_read) r.all_read
+  pub var_refused : (read : Result ((End × End) × ℕ) Unread) (result : Result ((End × End) × ℕ) OsilFault) (f : OsilFault) → FieldsRead e (fields kinds.Var) read (VarSays e) → IsAtTag t read result → result ≡ Err f → Tells f (IsFirstDecided (start_only around before n e))
+  var_refused read result f r at failed = fields_refused t around before n e kinds.Var tag var_begins var_least read (VarSays e) f r (subst (λ (x : Result ((End × End) × ℕ) OsilFault). IsAtTag t read x) failed at)
 
-  pub var_refused : (read : Result ((End × End) × ℕ) Unread) (result : Result ((End × End) × ℕ) OsilFault) (f : OsilFault) → VarRead t Low High read → IsAtTag t read result → result ≡ Err f → Tells f (IsFirstDecided (start_only around before n e))
-  var_refused read result f r at failed = fields_refused t around before n e kinds.Var tag var_begins var_least read (VarSays e Low High) f (var_fields read r) (subst (λ (x : Result ((End × End) × ℕ) OsilFault). IsAtTag t read x) failed at)
-
-  pub var_fine : (read : Result ((End × End) × ℕ) Unread) (result : Result ((End × End) × ℕ) OsilFault) (x : (End × End) × ℕ) → VarRead t Low High read → IsAtTag t read result → result ≡ Ok x → VarSays e Low High x × EachOf (IsFine e) (fields kinds.Var)
-  var_fine read result x r at done = fields_fine t around before n e kinds.Var tag var_begins var_least read (VarSays e Low High) x (var_fields read r) (subst (λ (x : Result ((End × End) × ℕ) OsilFault). IsAtTag t read x) done at)
+  pub var_fine : (read : Result ((End × End) × ℕ) Unread) (result : Result ((End × End) × ℕ) OsilFault) (x : (End × End) × ℕ) → FieldsRead e (fields kinds.Var) read (VarSays e) → IsAtTag t read result → result ≡ Ok x → VarSays e x × EachOf (IsFine e) (fields kinds.Var)
+  var_fine read result x r at done = fields_fine t around before n e kinds.Var tag var_begins var_least read (VarSays e) x r (subst (λ (x : Result ((End × End) × ℕ) OsilFault). IsAtTag t read x) done at)
 
   pub var_least_type : EachOf (IsFine e) (fields kinds.Var) → AtLeast 10 (start_tag around (level_of e n before))
   var_least_type fine =
@@ -105,17 +84,10 @@ module _ (t : StartTag) (around : List Level) (before : List Element) (n : ℕ) 
   pub var_least_bound : EachOf (IsFine e) (fields kinds.Var) → (kind : Domain) → IsSaid kind (attribute e (codes "type")) → AtLeast 11 (start_tag around (level_of e n before))
   var_least_bound fine kind said = let s = start_tag around (level_of e n before) in past_var_type s (var_least_type fine) (λ h. known_type kind (attribute e (codes "type")) said h.1)
 
-  pub var_least_big : EachOf (IsFine e) (fields kinds.Var) → (kind : Domain) → IsSaid kind (attribute e (codes "type")) → (lb ub : End) → Says e (codes "lb") Low IsBound lb → Says e (codes "ub") High IsBound ub → AreEnds lb ub → AtLeast 13 (start_tag around (level_of e n before))
+  pub var_least_big : EachOf (IsFine e) (fields kinds.Var) → (kind : Domain) → IsSaid kind (attribute e (codes "type")) → (lb ub : End) → Says e (codes "lb") IsLow IsBound lb → Says e (codes "ub") IsHigh IsBound ub → AreEnds lb ub → AtLeast 13 (start_tag around (level_of e n before))
   var_least_big fine kind said lb ub low high ends =
       let s = start_tag around (level_of e n before) in
-      past_many s (past_bound s (var_least_bound fine kind said) (no_bound s Low High lb ub low high ends)) (no_many s kinds.Var var_begins (λ z. absurd (cc)))
-
--- 0, where there is no lower end, is no infinity
-abbrev pub IsLow : End → Type 0
-IsLow x = IsEndAt x evidence.none
-
-abbrev pub IsHigh : End → Type 0
-IsHigh x = x ≡ Inf
+      past_many s (past_bound s (var_least_bound fine kind said) (no_bound s IsLow IsHigh lb ub low high ends)) (no_many s kinds.Var var_begins (λ z. absurd (cc)))
 
 pub low_finite : (x : End) → IsLow x → x ≡ Inf → ⊥
 low_finite x low same = subst (λ (y : End). IsLow y) same low

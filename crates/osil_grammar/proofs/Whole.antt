@@ -6,9 +6,10 @@ use Rattle.tree_grammar.specs.Elements.{Attribute, Nodes, none, element, Element
 use Rattle.element_tree.specs.Building.{Building, said}
 use Rattle.fraction.specs.declared.ends.Entry.{Entry}
 use Rattle.instance.specs.Parts.{Parts}
-use Rattle.osil_grammar.specs.Writing.{WriteVars, WriteRows, WritesGoal, WriteValues, WriteLists, WritesInstance, counted, counts_nodes, row_starts, with_attribute}
-use Rattle.osil_grammar.specs.Telling.{Told, opening, closing}
-use Rattle.osil_grammar.proofs.Told.{told_then, content_told}
+use Rattle.document_tags.specs.Writing.{counted, with_attribute}
+use Rattle.osil_grammar.specs.Writing.{WriteVars, WriteRows, WritesGoal, WriteValues, WriteLists, WritesInstance, counts_nodes, row_starts}
+use Rattle.document_tags.specs.Telling.{Told, opening, closing}
+use Rattle.document_tags.proofs.Told.{told_then, content_told}
 use Rattle.osil_grammar.proofs.Parts.{ToldSome}
 
 -- these nodes are an element of such nodes

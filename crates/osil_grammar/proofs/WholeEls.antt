@@ -4,12 +4,13 @@ use Rattle.std.specs.Prelude.{Option, MatchOption, codes}
 use Rattle.tree_grammar.specs.Elements.{Element}
 use Rattle.document_tags.specs.Rests.{child_elements}
 use Rattle.decimal_text.specs.Whole.{IsWhole}
-use Rattle.osil_grammar.specs.Tags.{Level, level_of, end_tag, names, attribute, no_element, first_named}
+use Rattle.document_tags.specs.Elements.{attribute}
+use Rattle.osil_grammar.specs.Tags.{Level, level_of, end_tag, names, no_element, first_named}
 use Rattle.osil_grammar.specs.Kinds.{Listing, Starts, RowIndices, ColumnIndices, Values, Listed, path}
 use Rattle.osil_grammar.specs.Numbers.{whole, listing_grammar}
 use Rattle.osil_grammar.specs.Runs.{StandFor, ItemsStandFor, IsWholeRun}
 use Rattle.osil_grammar.specs.Deciding.{IsLimit, LeavesRange}
-use Rattle.osil_grammar.specs.Reading.{IsLimitOf, IsBelow, parts_around}
+use Rattle.osil_grammar.specs.Parsing.{IsLimitOf, IsBelow, parts_around}
 use Rattle.osil_grammar.proofs.Foreign.{text_once}
 use Rattle.osil_grammar.proofs.Wholes.{whole_once}
 use Rattle.osil_grammar.proofs.Once.{times_once, stand_once}

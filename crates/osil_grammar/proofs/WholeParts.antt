@@ -11,7 +11,7 @@ use Rattle.instance.specs.declared.parts.Goal.{Goal}
 use Rattle.instance.specs.Parts.{Parts, IsValid}
 use Rattle.osil_grammar.specs.Tags.{first_named}
 use Rattle.osil_grammar.specs.Meaning.{Expand, IsVar, IsRow, IsMatrix, IsObjective, SayParts}
-use Rattle.osil_grammar.specs.Reading.{AreFound, HaveVariables, HoldsAll, HoldsGoal}
+use Rattle.osil_grammar.specs.Parsing.{AreFound, HaveVariables, HoldsAll, HoldsGoal}
 use Rattle.osil_grammar.specs.PartsRead.{items_of, vars_of, rows_of, entries_of, IsSound, IsGoalOrNone}
 use Rattle.osil_grammar.specs.declared.sections.Sections.{Sections}
 use Rattle.osil_grammar.proofs.FoundMore.{have_variables}

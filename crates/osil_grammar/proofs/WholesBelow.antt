@@ -6,7 +6,7 @@ use Rattle.std.specs.Result.{OnOk}
 use Rattle.std.proofs.lemmas.Int.{ints}
 use Rattle.std.proofs.lemmas.List.Elements.{All-nil, All-cons, All-head, All-tail, All-append, All-map, All-weaker}
 use Rattle.osil_grammar.specs.Runs.{whole_run}
-use Rattle.osil_grammar.specs.Reading.{wholes, IsBelow}
+use Rattle.osil_grammar.specs.Parsing.{wholes, IsBelow}
 use Rattle.osil_grammar.proofs.Running.{at_step, step_on, first_place}
 
 -- what holds where a step succeeds

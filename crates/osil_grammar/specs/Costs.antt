@@ -5,7 +5,7 @@ use Rattle.rational.specs.Ratio.{Ratio, sum}
 use Rattle.fraction.specs.Frac.{ratio}
 use Rattle.fraction.specs.declared.frac.Frac.{Frac}
 use Rattle.decimal_text.specs.Count.{IsCount}
-use Rattle.osil_grammar.specs.Tags.{attribute}
+use Rattle.document_tags.specs.Elements.{attribute}
 use Rattle.osil_grammar.specs.Numbers.{HoldsDecimal}
 
 -- one `coef`

@@ -13,7 +13,8 @@ use Rattle.fraction.specs.declared.ends.End.TheVariants.{NegInf, At, Inf}
 use Rattle.decimal_text.specs.Count.{IsCount}
 use Rattle.decimal_text.specs.Decimal.{IsDecimal}
 use Rattle.decimal_text.specs.Bound.{IsBound}
-use Rattle.osil_grammar.specs.Tags.{Level, Tag, parts_before, attribute}
+use Rattle.document_tags.specs.Elements.{attribute}
+use Rattle.osil_grammar.specs.Tags.{Level, Tag, parts_before}
 use Rattle.osil_grammar.specs.Kinds.{Listing, Starts, RowIndices, ColumnIndices, Values, Kind, Osil, InstanceData, Variables, Var, Objectives, Obj, Coef, Constraints, Con, Coefficients, El, Begins, Ends, BeginsIn, ordered, content_names, is_open, path}
 use Rattle.osil_grammar.specs.Tags.{names}
 use Rattle.osil_grammar.specs.Numbers.{Field, mult, fields, text_grammar, IsOf, IsWideOf, Says}

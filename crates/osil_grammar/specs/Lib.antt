@@ -7,11 +7,13 @@ pub mod Costs
 pub mod Deciding
 pub mod Refusals
 pub mod Meaning
-pub mod InstanceText
 pub mod Texts
+pub mod Reading
 pub mod Writing
 pub mod Walking
 pub mod Orders
-pub mod Reading
+pub mod Parsing
+pub mod Fields
+pub mod ItemLists
 pub mod PartsRead
 pub mod Telling

@@ -19,7 +19,8 @@ use Rattle.instance.specs.declared.parts.Sense.{Sense}
 use Rattle.instance.specs.declared.parts.Sense.TheVariants.{Min, Max}
 use Rattle.instance.specs.Parts.{Parts, IsAscending}
 use Rattle.instance.specs.Program.{entries}
-use Rattle.osil_grammar.specs.Tags.{attribute, first_named}
+use Rattle.document_tags.specs.Elements.{attribute}
+use Rattle.osil_grammar.specs.Tags.{first_named}
 use Rattle.osil_grammar.specs.Numbers.{Says}
 use Rattle.osil_grammar.specs.Runs.{StandsFor}
 use Rattle.osil_grammar.specs.Matrix.{Lists, AreLists, stored, place_sum}

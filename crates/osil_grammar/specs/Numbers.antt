@@ -9,7 +9,7 @@ use Rattle.decimal_text.specs.Count.{CountGrammar, IsWideCount}
 use Rattle.decimal_text.specs.Whole.{WholeGrammar, IsWideWhole}
 use Rattle.decimal_text.specs.Decimal.{DecimalGrammar, IsDecimal, IsWideDecimal}
 use Rattle.decimal_text.specs.Bound.{BoundGrammar}
-use Rattle.osil_grammar.specs.Tags.{attribute}
+use Rattle.document_tags.specs.Elements.{attribute}
 use Rattle.osil_grammar.specs.Kinds.{Listing, Values, Kind, Variables, Var, Objectives, Obj, Coef, Constraints, Con, Coefficients, El}
 
 pub data Grammar : Type 0 where

@@ -1,6 +1,7 @@
 -- Which refusal of an OSiL document is told: the first that is decided in the order of tags, and of several at one tag the first of this list.
-use Rattle.std.specs.Prelude.{◌≡◌, ℕ, ◌≤◌, List, ◌∷◌, ◌++◌, All}
+use Rattle.std.specs.Prelude.{◌≡◌, ℕ, List}
 use Rattle.tree_grammar.specs.Elements.{Element}
+use Rattle.document_tags.specs.Deciding as deciding
 use Rattle.osil_grammar.specs.Tags.{Tag, tags}
 use Rattle.osil_grammar.specs.Deciding.{DecidesRoot, DecidesMissing, DecidesBeyond, DecidesAttribute, DecidesNumber, DecidesWide, DecidesCount, DecidesIndex, DecidesStart, DecidesVarType, DecidesBound, DecidesManyObjectives, DecidesTooBig}
 
@@ -53,21 +54,15 @@ Decides t TooBig n = DecidesTooBig t × (n ≡ t.level.ordinal)
 
 -- nothing is decided at this tag
 abbrev pub DecidesNothing : Tag → Type 0
-DecidesNothing t = (r : Refusal) (n : ℕ) → Decides t r n → ⊥
+DecidesNothing t = deciding.DecidesNothing Decides t
 
 -- nothing is decided at any of these tags
 abbrev pub AreClean : List Tag → Type 0
-AreClean ts = All DecidesNothing ts
+AreClean ts = deciding.AreClean Decides ts
 
 -- of these tags, the first at which something is decided decides this, and nothing that stands before it in the list of refusals
-pub record IsFirstDecided (ts : List Tag) (r : Refusal) (n : ℕ) : Type 0 where
-  pub before : List Tag
-  pub tag : Tag
-  pub after : List Tag
-  pub split : ts ≡ before ++ tag ∷ after
-  pub clean : AreClean before
-  pub decided : Decides tag r n
-  pub least : (q : Refusal) (m : ℕ) → Decides tag q m → number r ≤ number q
+abbrev pub IsFirstDecided : List Tag → Refusal → ℕ → Type 0
+IsFirstDecided ts r n = deciding.IsFirstDecided Decides number ts r n
 
 -- the document with this root is refused, at the element with this ordinal
 abbrev pub IsRefused : Element → Refusal → ℕ → Type 0

@@ -1,5 +1,6 @@
 -- The tags of a document in their order (XML 1.0, section 3.1), each with what is known where it stands.
 use Rattle.std.specs.Prelude.{ℕ, suc, ◌+◌, Bool, true, false, Option, None, Some, cond, bytes_eq, List, [], ◌∷◌, ◌++◌, map, get_or}
+use Rattle.document_tags.specs.Elements.{elements_in}
 use Rattle.tree_grammar.specs.Elements.{Attribute, Nodes, none, element, chars, Element}
 
 -- an element, its ordinal, and the sibling elements that stand before it
@@ -26,12 +27,6 @@ end_tag around l = record { is_start = false; around = around; level = l }
 abbrev pub element_of : List ℕ → List Attribute → Nodes → Element
 element_of name attributes children = record { name = name; attributes = attributes; children = children }
 
--- how many elements there are, at any depth
-abbrev pub elements_in : Nodes → ℕ
-elements_in none = 0
-elements_in (element name attributes children more) = suc (elements_in children + elements_in more)
-elements_in (chars text more) = elements_in more
-
 -- the tags of these nodes: they stand in these elements, these siblings stand before them, and the next start tag has this ordinal
 abbrev pub node_tags : List Level → List Element → ℕ → Nodes → List Tag
 node_tags around before n none = []
@@ -56,14 +51,6 @@ no_element = record { name = []; attributes = []; children = none }
 -- the siblings before the third element of the line
 abbrev pub parts_before : Tag → List Element
 parts_before t = (get_or (line t) 2 (level_of no_element 0 [])).before
-
--- the value of the attribute of this name, if there is one
-abbrev pub value_of : List ℕ → List Attribute → Option (List ℕ)
-value_of name [] = None
-value_of name (a ∷ more) = cond (bytes_eq a.name name) (Some a.value) (value_of name more)
-
-abbrev pub attribute : Element → List ℕ → Option (List ℕ)
-attribute e name = value_of name e.attributes
 
 -- the first element of this name, if there is one
 abbrev pub first_named : List ℕ → List Element → Option Element

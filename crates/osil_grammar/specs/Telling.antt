@@ -1,31 +1,16 @@
 -- What a builder is told, whatever comes after it, and why an instance isn't written.
-use Rattle.std.specs.Prelude.{◌≡◌, ℕ, Result, MatchResult, List, [], ◌∷◌, ◌++◌, codes}
+use Rattle.std.specs.Prelude.{◌≡◌, ℕ, Result, MatchResult, List, [], codes}
 use Rattle.std.specs.List.{All}
-use Rattle.tree_grammar.specs.Elements.{Attribute, Nodes, Event, Open, Close, nodes_events}
-use Rattle.element_tree.specs.Building.{Building, said}
+use Rattle.tree_grammar.specs.Elements.{Attribute, Nodes, nodes_events}
+use Rattle.element_tree.specs.Building.{Building}
+use Rattle.document_tags.specs.Telling.{Told}
 use Rattle.fraction.specs.declared.ends.End.{End}
 use Rattle.instance.specs.declared.parts.Goal.{Goal}
 use Rattle.instance.specs.Parts.{Parts}
 use Rattle.osil_grammar.specs.declared.fault.EncodeFault.{EncodeFault}
 use Rattle.osil_grammar.specs.declared.fault.EncodeFault.TheVariants.{NotDecimal, Long, Memory}
-use Rattle.osil_grammar.specs.Writing.{HasDecimal, EndHasText, IsEndText, HasDecimals, IsTooLong, with_attribute}
-
--- more was told, and no attribute waits
-pub record Told (old new : Building) (more : List Event → List Event) : Type 0 where
-  pub told : (behind : List Event) → said new ++ behind ≡ said old ++ more behind
-  pub waiting : new.attributes ≡ []
-
--- attributes were told, for the element that begins next
-pub record ToldAttributes (old new : Building) (more : List Attribute) : Type 0 where
-  pub told : said new ≡ said old
-  pub waiting : new.attributes ≡ old.attributes ++ more
-
--- an element begins with these attributes, and an element ends
-abbrev pub opening : List ℕ → List Attribute → List Event → List Event
-opening name attributes behind = Open name attributes ∷ behind
-
-abbrev pub closing : List ℕ → List Event → List Event
-closing name behind = Close name ∷ behind
+use Rattle.document_tags.specs.Writing.{with_attribute}
+use Rattle.osil_grammar.specs.Writing.{HasDecimal, EndHasText, IsEndText, HasDecimals, IsTooLong}
 
 -- a number has no decimal; or there was no memory
 abbrev pub HasNone : Type 0 → EncodeFault → Type 0

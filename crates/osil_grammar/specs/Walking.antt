@@ -3,7 +3,7 @@ use Rattle.std.specs.Prelude.{◌≡◌, ℕ, ◌+◌, ◌≤◌, List, ◌∷�
 use Rattle.tree_grammar.specs.Elements.{Attribute, Nodes, none, element, chars, Element, Event, Open, Close, nodes_events}
 use Rattle.element_tree.specs.Writable.{BeginsApart}
 use Rattle.document_tags.specs.Rests.{after_text}
-use Rattle.osil_grammar.specs.Tags.{elements_in}
+use Rattle.document_tags.specs.Elements.{elements_in}
 
 -- a place among a document's tags: the events that are still to come, and the ordinal of the last start tag
 pub record Walking : Type 0 where

@@ -5,6 +5,7 @@ use Rattle.std.specs.Fmt.{decimal}
 use Rattle.tree_grammar.specs.Elements.{Attribute, Nodes, none, element, chars, Element}
 use Rattle.tree_grammar.specs.Written.{written}
 use Rattle.document_tags.specs.Texts.{document_limit}
+use Rattle.document_tags.specs.Writing.{with_attribute, counted}
 use Rattle.fraction.specs.Frac.{ratio}
 use Rattle.fraction.specs.declared.frac.Frac.{Frac}
 use Rattle.fraction.specs.declared.ends.End.{End}
@@ -33,10 +34,6 @@ abbrev pub EndHasText : End → Type 0
 EndHasText NegInf = Unit {0}
 EndHasText (At x) = HasDecimal x
 EndHasText Inf = Unit {0}
-
--- an attribute, and then more
-abbrev pub with_attribute : (name value : List ℕ) → List Attribute → List Attribute
-with_attribute name value more = record { name = name; value = value } ∷ more
 
 -- an element that holds this text, and then more; the text isn't empty
 abbrev pub holding : (name : List ℕ) → List Attribute → (text : List ℕ) → Nodes → Nodes
@@ -109,10 +106,6 @@ abbrev pub WriteLists : ℕ → List Entry → Nodes → Type 0
 WriteLists m [] nodes = nodes ≡ none
 WriteLists m (e ∷ es) nodes = (values : Nodes) × WriteValues (e ∷ es) values
     × (nodes ≡ element (codes "start") [] (counts_nodes (row_starts (e ∷ es) 0 m)) (element (codes "colIdx") [] (counts_nodes (map (λ x. x.col) (e ∷ es))) (element (codes "value") [] values none)))
-
--- an element with a count of what stands in it, and then more
-abbrev pub counted : (name count_name : List ℕ) → ℕ → Nodes → Nodes → Nodes
-counted name count_name n children more = element name (with_attribute count_name (decimal n) []) children more
 
 -- the root that an instance is written as
 pub record WritesInstance (p : Parts) (root : Element) : Type 0 where

@@ -1,26 +1,21 @@
-//! What the definitions say together: of refusals, of the instance that a document stands for, and of the text that an
-//! instance is written as.
+//! What the definitions say together of the text that an instance is written as, and that it comes back from.
 
-ghost use Rattle.std.specs.Prelude.{◌≡◌, ℕ, ◌≤◌, List, length};
+ghost use Rattle.std.specs.Prelude.{◌≡◌, ◌⊎◌, ◌≤◌, ℕ, List, length, Result, Ok, Err, IfOk, IfErr};
 ghost use Rattle.tree_grammar.specs.Elements.{Element};
 ghost use Rattle.element_tree.specs.Writable.{local_element};
 ghost use Rattle.document_tags.specs.Texts.{IsDocument, document_limit};
 ghost use Rattle.instance.specs.Parts.{Parts, IsValid};
-ghost use Rattle.osil_grammar.specs.Refusals.{Refusal, IsAccepted, IsRefused};
+ghost use Rattle.osil_grammar.specs.declared.fault.OsilFault.{OsilFault};
+ghost use Rattle.osil_grammar.specs.declared.fault.OsilFault.TheVariants.{Memory};
+ghost use Rattle.osil_grammar.specs.Refusals.{IsAccepted};
 ghost use Rattle.osil_grammar.specs.Meaning.{Means};
-ghost use Rattle.osil_grammar.specs.InstanceText.{IsInstanceText, IsRefusedText};
+ghost use Rattle.osil_grammar.specs.Reading.{IsInstanceText, DecodeFails};
 ghost use Rattle.osil_grammar.specs.Writing.{HasDecimals, WritesInstance, IsWrittenText};
 
-/// Law: a document of which nothing is refused isn't refused.
-pub fn accepted_is_not_refused()
-    ensures { (root : Element) (r : Refusal) (n : ℕ) → IsAccepted root → IsRefused root r n → ⊥ }
-{}
-
-/// Law: a document is refused in one way, and none that is stands for an instance.
-pub fn documents_are_refused_in_one_way()
-    ensures root { (root : Element) (r q : Refusal) (n m : ℕ) → IsRefused root r n → IsRefused root q m → (r ≡ q) × (n ≡ m) }
-    ensures text { (text : List ℕ) (r q : Refusal) (n m : ℕ) → IsRefusedText text r n → IsRefusedText text q m → (r ≡ q) × (n ≡ m) }
-    ensures no_instance { (text : List ℕ) (p : Parts) (r : Refusal) (n : ℕ) → IsInstanceText text p → IsRefusedText text r n → ⊥ }
+/// Law: an instance comes back from its text: [`decode`](crate::decode) of what [`encode`](crate::encode) wrote of it
+/// answers, by its contract, the instance, or finds no memory.
+pub fn instances_are_read_back()
+    ensures { (p : Parts) (text : List ℕ) (r : Result Parts OsilFault) → IsValid p → HasDecimals p → IsWrittenText p text → length text ≤ document_limit → IfOk r (IsInstanceText text) → IfErr r (DecodeFails text) → (r ≡ Ok p) ⊎ (r ≡ Err Memory) }
 {}
 
 /// Law: the text of a written instance, if it isn't longer than a document may be, is a document within the limits,
@@ -42,12 +37,6 @@ pub fn written_root_is_accepted()
 /// Law: an instance is written as one text.
 pub fn instances_have_one_text()
     ensures { (p : Parts) (s t : List ℕ) → IsWrittenText p s → IsWrittenText p t → s ≡ t }
-{}
-
-/// Law: a document of which nothing is refused stands for one instance, and so do its bytes.
-pub fn documents_mean_one_instance()
-    ensures root { (root : Element) (p q : Parts) → IsAccepted root → Means root p → Means root q → p ≡ q }
-    ensures text { (text : List ℕ) (p q : Parts) → IsInstanceText text p → IsInstanceText text q → p ≡ q }
 {}
 
 /// Law: the text of a written instance, each number of which has a decimal, if it isn't longer than a document may be,

@@ -9,27 +9,29 @@ mod document;
 mod entries;
 mod fault;
 mod laws;
+mod lists;
 mod matrix;
 mod numbers;
 mod objectives;
+mod reading;
+mod reading_laws;
 mod rows;
 mod runs;
 mod sections;
 mod tags;
 mod telling;
-#[cfg(test)]
-mod tests;
 mod texts;
 mod unread;
 mod variables;
-mod writing;
 
-pub use document::{MOST_BYTES, decode};
+pub use document::encode;
 pub use fault::{EncodeFault, OsilFault, Refusal};
 pub use laws::{
+    instances_are_read_back, instances_have_one_text, written_root_is_accepted,
+    written_root_means_instance, written_text_is_document, written_text_is_of_one_instance,
+};
+pub use reading::{MOST_BYTES, decode};
+pub use reading_laws::{
     accepted_is_not_refused, documents_are_refused_in_one_way, documents_mean_one_instance,
-    instances_have_one_text, written_root_is_accepted, written_root_means_instance,
-    written_text_is_document, written_text_is_of_one_instance,
 };
 pub use texts::refusal_text;
-pub use writing::encode;

@@ -7,7 +7,8 @@ ghost use Rattle.osil_grammar.specs.Kinds.{Listing, InstanceData, Coefficients, 
 ghost use Rattle.osil_grammar.specs.Walking.{GoesOn};
 ghost use Rattle.osil_grammar.specs.PartsRead.{AreWithin};
 ghost use Rattle.osil_grammar.specs.Meaning.{IsMatrix};
-ghost use Rattle.osil_grammar.specs.Reading.{ReadsElement, ReadsContent, ReadsEnd, AreRead, IsMatrixAt, IsListAt, IsMatrixNamed, InSizeAround, IsRightMatrix, HasNoList, LacksList, AreListsOf, AreStored, IsListsFault, FitsSize, FitsMatrix, begun, listing, refusal, MayFollow};
+ghost use Rattle.osil_grammar.specs.Reading.{refusal};
+ghost use Rattle.osil_grammar.specs.Parsing.{ReadsElement, ReadsContent, ReadsEnd, AreRead, IsMatrixAt, IsListAt, IsMatrixNamed, InSizeAround, IsRightMatrix, HasNoList, LacksList, AreListsOf, AreStored, IsListsFault, FitsSize, FitsMatrix, begun, listing, MayFollow};
 
 use crate::entries::{Lists, entries, is_division};
 use crate::fault::{OsilFault, Refusal};

@@ -8,11 +8,12 @@ ghost use Rattle.decimal_text.specs.Count.{IsCount};
 ghost use Rattle.decimal_text.specs.Whole.{IsWhole};
 ghost use Rattle.decimal_text.specs.Decimal.{IsDecimal};
 ghost use Rattle.decimal_text.specs.Bound.{IsBound};
-ghost use Rattle.osil_grammar.specs.Tags.{value_of};
+ghost use Rattle.document_tags.specs.Elements.{value_of};
 ghost use Rattle.osil_grammar.specs.Numbers.{Grammar, count as count_grammar, whole as whole_grammar, decimal as decimal_grammar, bound as bound_grammar, IsOf, IsWideOf, HoldsDecimal};
 ghost use Rattle.osil_grammar.specs.Walking.{GoesOn};
-ghost use Rattle.osil_grammar.specs.Reading as reading;
-ghost use Rattle.osil_grammar.specs.Reading.{Tells, IsUnread, IsNoTimes, IsFirstOf, ReadsField, unread_refusal, HoldsWhole, ReadsText, EndsAt};
+ghost use Rattle.osil_grammar.specs.Reading as promised;
+ghost use Rattle.osil_grammar.specs.Parsing as reading;
+ghost use Rattle.osil_grammar.specs.Parsing.{Tells, IsUnread, IsNoTimes, IsFirstOf, ReadsField, unread_refusal, HoldsWhole, ReadsText, EndsAt};
 ghost use Rattle.osil_grammar.specs.Refusals as refusals;
 
 use crate::fault::{OsilFault, Refusal};
@@ -59,7 +60,7 @@ pub(crate) fn both<A: Drop, B: Drop>(
 
 /// The refusal for a number that isn't read.
 fn refusal(unread: Unread) -> Refusal
-    ensures { reading.refusal result ≡ unread_refusal unread }
+    ensures { promised.refusal result ≡ unread_refusal unread }
 {
     match unread {
         Unread::NotNumber => Refusal::Number,

@@ -6,18 +6,21 @@ ghost use Rattle.document_tags.specs.Rests.{child_elements};
 ghost use Rattle.evidence.specs.Sums as evidence;
 ghost use Rattle.fraction.specs.Frac.{ratio};
 ghost use Rattle.decimal_text.specs.Count.{IsCount};
-ghost use Rattle.osil_grammar.specs.Tags.{value_of, attribute};
+ghost use Rattle.document_tags.specs.Elements.{value_of, attribute};
 ghost use Rattle.osil_grammar.specs.Kinds.{InstanceData, Objectives, Obj};
+ghost use Rattle.osil_grammar.specs.Kinds as kinds;
 ghost use Rattle.osil_grammar.specs.Costs.{Cost};
+ghost use Rattle.osil_grammar.specs.Fields.{ReadsNumbers, ObjSays};
 ghost use Rattle.osil_grammar.specs.Runs.{StandsFor, StandFor};
 ghost use Rattle.osil_grammar.specs.Walking.{GoesOn};
 ghost use Rattle.osil_grammar.specs.Meaning.{IsNoGoal, IsGoal};
-ghost use Rattle.osil_grammar.specs.Reading as reading;
-ghost use Rattle.osil_grammar.specs.Reading.{begun, NoMemoryAlone, ReadsElement, ReadsContent, ReadsStart, InWidth, IsNextCost, IsCoefAt, HasIndex, IsObjAt, IsObjHead, AddsCost, HoldsCosts, IsGoalOf, HoldsGoal, IsNamedIn, IsAfter, IsCoefFault};
+ghost use Rattle.osil_grammar.specs.Parsing as reading;
+ghost use Rattle.osil_grammar.specs.Parsing.{begun, NoMemoryAlone, ReadsElement, ReadsContent, ReadsStart, InWidth, IsNextCost, IsCoefAt, HasIndex, IsObjAt, IsObjHead, AddsCost, HoldsCosts, IsGoalOf, HoldsGoal, IsNamedIn, IsAfter, IsCoefFault};
 
 use crate::fault::{OsilFault, Refusal};
 use crate::numbers::{at_tag, both, check_count, count, decimal, held_decimal, times};
 use crate::tags::{Place, StartTag};
+use crate::unread::Unread;
 use fraction::Frac;
 use instance::{Costs, Goal, Sense};
 use std::alloc::Global;
@@ -154,15 +157,22 @@ fn read_sense(tag: StartTag<'_>) -> Result<Sense, OsilFault>
     }
 }
 
+/// The numbers of a start tag `obj`: its constant, its count, and for how many it stands.
+fn read_numbers(tag: StartTag<'_>) -> Result<((Frac, Option<u64>), u64), Unread>
+    ensures { ReadsNumbers tag.entry result kinds.Obj ObjSays }
+{
+    let constant = decimal(tag, b"constant");
+    let declared = count(tag, b"numberOfObjCoef");
+    both(both(constant, declared), times(tag))
+}
+
 /// What a start tag `obj` says: the sense, the constant and `numberOfObjCoef`, where so many stand before it.
 fn read_obj(tag: StartTag<'_>, before: u64) -> Result<(Sense, Frac, Option<u64>), OsilFault>
     ensures reads { ReadsStart tag.entry result Objectives (IsObjAt before) (λ e x. IsObjHead e x.0 x.1 x.2 × StandsFor e 1) }
     ensures first { OnOk result (before ≡ 0) }
 {
     let sense = read_sense(tag)?;
-    let constant = decimal(tag, b"constant");
-    let declared = count(tag, b"numberOfObjCoef");
-    let ((constant, declared), times) = at_tag(tag, both(both(constant, declared), times(tag)))?;
+    let ((constant, declared), times) = at_tag(tag, read_numbers(tag))?;
     if before > 0 || times > 1 {
         return Err(tag.refused(Refusal::ManyObjectives));
     }

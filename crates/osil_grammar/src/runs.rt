@@ -5,8 +5,8 @@ ghost use Rattle.std.specs.List.{All};
 ghost use Rattle.osil_grammar.specs.Kinds.{Listing, Values, Listed};
 ghost use Rattle.osil_grammar.specs.Runs.{StandsFor, whole_run};
 ghost use Rattle.osil_grammar.specs.Walking.{GoesOn};
-ghost use Rattle.osil_grammar.specs.Reading as reading;
-ghost use Rattle.osil_grammar.specs.Reading.{wholes, NoMemoryAlone, ReadsElement, ReadsContent, ListLimits, IsListed, IsListedValue, AddsWholes, AddsRatios, HoldsWholes, HoldsRatios, ReadsRun, HasRoom, IsBelow};
+ghost use Rattle.osil_grammar.specs.Parsing as reading;
+ghost use Rattle.osil_grammar.specs.Parsing.{wholes, NoMemoryAlone, ReadsElement, ReadsContent, ListLimits, IsListed, IsListedValue, AddsWholes, AddsRatios, HoldsWholes, HoldsRatios, ReadsRun, HasRoom, IsBelow};
 
 use crate::fault::{OsilFault, Refusal};
 use crate::numbers::{at_tag, both, decimal, held_decimal, held_whole, times, whole};

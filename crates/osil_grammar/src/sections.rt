@@ -9,15 +9,15 @@ ghost use Rattle.osil_grammar.specs.Kinds.{Osil, InstanceData, content_names};
 ghost use Rattle.osil_grammar.specs.Meaning.{SayParts, Means};
 ghost use Rattle.osil_grammar.specs.Walking.{IsJoined, GoesOn};
 ghost use Rattle.osil_grammar.specs.PartsRead.{items_of, IsGoalOrNone, vars_of, rows_of, name_of, MayStand, IsSound, IsNextPart, IsFirstData};
-ghost use Rattle.osil_grammar.specs.Reading as reading;
-ghost use Rattle.osil_grammar.specs.Reading.{begun, Reads, ReadsElement, ReadsContent, ReadsEnd, AreFound, IsFurther, IsNext, AreAll, NoMemoryAlone};
+ghost use Rattle.osil_grammar.specs.Reading as promised;
+ghost use Rattle.osil_grammar.specs.Parsing as reading;
+ghost use Rattle.osil_grammar.specs.Parsing.{begun, Reads, ReadsElement, ReadsContent, ReadsEnd, AreFound, IsFurther, IsNext, AreAll, NoMemoryAlone};
 
 use crate::fault::{OsilFault, Refusal};
+use crate::lists::read_list;
 use crate::matrix::read_matrix;
 use crate::objectives::{no_goal, read_objectives};
-use crate::rows::read_rows;
 use crate::tags::{Place, StartTag};
-use crate::variables::read_variables;
 use element_tree::Tree;
 use fraction::Entry;
 use instance::{Goal, Instance, Row, Var};
@@ -123,12 +123,12 @@ fn read_part(
     ensures on { OnOk result (GoesOn place.old place.new) }
 {
     match part {
-        PartName::Variables => found.vars = Some(read_variables(alloc, place, tag)?),
+        PartName::Variables => found.vars = Some(read_list(alloc, place, tag)?),
         PartName::Objectives => {
             let width = found.width();
             found.goal = Some(read_objectives(alloc, place, tag, width)?);
         }
-        PartName::Constraints => found.rows = Some(read_rows(alloc, place, tag)?),
+        PartName::Constraints => found.rows = Some(read_list(alloc, place, tag)?),
         PartName::Coefficients => {
             let size = (found.width() as u32, found.height() as u32);
             found.entries = Some(read_matrix(alloc, place, tag, size)?);
@@ -263,7 +263,7 @@ fn read_root(alloc: Global, place: &mut Place<'_>) -> Result<Option<Instance>, O
 
 /// The refusal of the root.
 fn refused_root(refusal: Refusal) -> OsilFault
-    ensures { reading.Tells result (λ r n. (r ≡ reading.refusal refusal) × (n ≡ 1)) }
+    ensures { reading.Tells result (λ r n. (r ≡ promised.refusal refusal) × (n ≡ 1)) }
 {
     OsilFault::Refused { refusal, at: 1 }
 }

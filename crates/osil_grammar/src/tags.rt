@@ -59,10 +59,11 @@ fn told(alloc: Global, name: &[u8]) -> Result<Text, Memory>
 
 impl<'t> StartTag<'t> {
     ghost use Rattle.std.specs.Prelude.{◌↔◌, IsTrue};
-    ghost use Rattle.osil_grammar.specs.Tags.{value_of};
+    ghost use Rattle.document_tags.specs.Elements.{value_of};
     ghost use Rattle.osil_grammar.specs.Refusals as refusals;
     ghost use Rattle.osil_grammar.specs.Deciding.{told};
-    ghost use Rattle.osil_grammar.specs.Reading.{begun, refusal, Tells};
+    ghost use Rattle.osil_grammar.specs.Reading.{refusal};
+    ghost use Rattle.osil_grammar.specs.Parsing.{begun, Tells};
 
     /// The element's name.
     pub(crate) fn name(&self) -> &'t [u8]
@@ -116,9 +117,9 @@ impl<'t> Place<'t> {
     ghost use Rattle.element_tree.specs.Items.{Shows};
     ghost use Rattle.tree_grammar.specs.Elements.{Attribute, Event, Nodes, Chars, Close, nodes_events};
     ghost use Rattle.document_tags.specs.Rests.{after_text};
-    ghost use Rattle.osil_grammar.specs.Tags.{elements_in};
+    ghost use Rattle.document_tags.specs.Elements.{elements_in};
     ghost use Rattle.osil_grammar.specs.Walking.{Walking, Begins, Entered, Left, GoesOn};
-    ghost use Rattle.osil_grammar.specs.Reading.{begun};
+    ghost use Rattle.osil_grammar.specs.Parsing.{begun};
 
     /// The place before the root's start tag.
     pub(crate) fn before(tree: &'t Tree) -> Self

@@ -4,21 +4,24 @@ ghost use Rattle.std.specs.Prelude.{◌≡◌, ◌+◌, ◌≤◌, ◌↔◌, �
 ghost use Rattle.std.specs.List.{All};
 ghost use Rattle.tree_grammar.specs.Tags.{IsAmong};
 ghost use Rattle.instance.specs.Parts.{AreEnds};
+ghost use Rattle.osil_grammar.specs.Kinds as kinds;
 ghost use Rattle.osil_grammar.specs.Kinds.{InstanceData, Variables};
+ghost use Rattle.osil_grammar.specs.Fields.{ReadsNumbers, VarSays};
 ghost use Rattle.osil_grammar.specs.Runs.{StandsFor};
 ghost use Rattle.osil_grammar.specs.Walking.{GoesOn};
 ghost use Rattle.osil_grammar.specs.Deciding.{types};
-ghost use Rattle.osil_grammar.specs.Tags.{value_of};
+ghost use Rattle.document_tags.specs.Elements.{value_of};
 ghost use Rattle.osil_grammar.specs.Meaning as meaning;
 ghost use Rattle.osil_grammar.specs.Meaning.{IsEndAt, IsVar};
-ghost use Rattle.osil_grammar.specs.Reading.{begun, ReadsElement, ReadsContent, ReadsStart, StandBefore, IsPartNamed, IsNamedAfter, Adds, HoldsAll, IsSaid, IsVariableOf, NoMemoryAlone};
+ghost use Rattle.osil_grammar.specs.Parsing.{begun, ReadsElement, ReadsContent, ReadsStart, StandBefore, IsPartNamed, IsNamedAfter, Adds, HoldsAll, IsSaid, IsVariableOf, NoMemoryAlone};
 
 use crate::fault::{OsilFault, Refusal};
-use crate::numbers::{at_tag, both, bound, check_count, count, end, times};
-use crate::tags::{Place, StartTag};
+use crate::lists::Listed;
+use crate::numbers::{at_tag, both, bound, times};
+use crate::tags::StartTag;
+use crate::unread::Unread;
 use fraction::{End, Frac};
 use instance::{MAX_VARS, Var};
-use std::alloc::Global;
 use std::cmp::Ordering;
 
 /// Which values a variable may have.
@@ -100,6 +103,15 @@ pub(crate) fn are_ends(lb: End, ub: End) -> bool
     !matches!(lb, End::Inf) && !matches!(ub, End::NegInf)
 }
 
+/// The numbers of a start tag `var`: its ends, and for how many it stands.
+fn read_numbers(tag: StartTag<'_>) -> Result<((End, End), u64), Unread>
+    ensures { ReadsNumbers tag.entry result kinds.Var VarSays }
+{
+    let low = bound(tag, b"lb", End::At(Frac::ZERO));
+    let high = bound(tag, b"ub", End::Inf);
+    both(both(low, high), times(tag))
+}
+
 /// What a start tag `var` says, and for how many it stands, where so many variables stand before it.
 fn read_var(tag: StartTag<'_>, before: usize) -> Result<(Var, u64), OsilFault>
     requires { before ≤ 1000 }
@@ -107,9 +119,7 @@ fn read_var(tag: StartTag<'_>, before: usize) -> Result<(Var, u64), OsilFault>
     ensures few { IfOk result (λ x. before + x.1 ≤ 1000) }
     ensures ends { IfOk result (λ x. AreEnds x.0.lb x.0.ub) }
 {
-    let low = bound(tag, b"lb", End::At(Frac::ZERO));
-    let high = bound(tag, b"ub", End::Inf);
-    let ((lb, ub), times) = at_tag(tag, both(both(low, high), times(tag)))?;
+    let ((lb, ub), times) = at_tag(tag, read_numbers(tag))?;
     let Some(kind) = type_of(tag) else {
         return Err(tag.refused(Refusal::VarType));
     };
@@ -122,69 +132,26 @@ fn read_var(tag: StartTag<'_>, before: usize) -> Result<(Var, u64), OsilFault>
     Ok((variable(kind, lb, ub), times))
 }
 
-/// Adds so many equal items.
-pub(crate) fn push_times<T: Copy + Drop>(
-    items: &mut Vec<T>,
-    item: T,
-    times: u64,
-) -> Result<(), OsilFault>
-    ensures ok { OnOk result (items.new.items ≡ items.old.items ++ replicate times item) }
-    ensures err { NoMemoryAlone result }
-{
-    for _ in 0..times {
-        items.push(item)?;
-    }
-    Ok(())
-}
+impl Listed for Var {
+    ghost use Rattle.osil_grammar.specs.ItemLists as lists;
+    ghost use Rattle.osil_grammar.specs.Meaning.{IsVar};
+    ghost use Rattle.instance.specs.Parts.{AreEnds};
 
-/// Reads an element in `variables`, which the place has gone into by this start tag, to its end, and adds its variables.
-fn read_item(
-    alloc: Global,
-    place: &mut Place<'_>,
-    tag: StartTag<'_>,
-    vars: &mut Vec<Var>,
-) -> Result<(), OsilFault>
-    requires { vec_len vars.old ≤ 1000 }
-    ensures reads { ReadsElement place.old place.new tag.entry result Variables (StandBefore (vec_len vars.old)) (λ e _. Adds IsVar vars.old.items vars.new.items e) }
-    ensures few { OnOk result (vec_len vars.new ≤ 1000) }
-    ensures ends { All (λ v. AreEnds v.lb v.ub) vars.old.items → OnOk result (All (λ v. AreEnds v.lb v.ub) vars.new.items) }
-    ensures on { OnOk result (GoesOn place.old place.new) }
-{
-    if !tag.is(b"var") {
-        return Err(tag.beyond(alloc));
-    }
-    let (var, times) = read_var(tag, vars.len())?;
-    end(alloc, place)?;
-    push_times(vars, var, times)
-}
+    ghost which = { lists.Variables };
 
-/// Reads what stands in `variables`, which the place has gone into, to its end.
-fn read_vars(alloc: Global, place: &mut Place<'_>) -> Result<Vec<Var>, OsilFault>
-    ensures reads { ReadsContent place.old place.new result Variables (λ around. Unit {0}) (λ e vars. HoldsAll IsVar e vars.items) }
-    ensures few { IfOk result (λ vars. vec_len vars ≤ 1000) }
-    ensures ends { IfOk result (λ vars. All (λ v. AreEnds v.lb v.ub) vars.items) }
-    ensures on { OnOk result (GoesOn place.old place.new) }
-{
-    let mut vars = Vec::new(alloc);
-    while let Some(child) = place.child() {
-        read_item(alloc, place, child, &mut vars)?;
-    }
-    Ok(vars)
-}
+    ghost says = { IsVar };
 
-/// Reads `variables`, which the place has gone into by this start tag, to its end.
-pub(crate) fn read_variables(
-    alloc: Global,
-    place: &mut Place<'_>,
-    tag: StartTag<'_>,
-) -> Result<Vec<Var>, OsilFault>
-    ensures reads { ReadsElement place.old place.new tag.entry result InstanceData (IsPartNamed (codes "variables")) (λ e vars. HoldsAll IsVar e vars.items) }
-    ensures few { IfOk result (λ vars. vec_len vars ≤ 1000) }
-    ensures ends { IfOk result (λ vars. All (λ v. AreEnds v.lb v.ub) vars.items) }
-    ensures on { OnOk result (GoesOn place.old place.new) }
-{
-    let declared = at_tag(tag, count(tag, b"numberOfVariables"))?;
-    let vars = read_vars(alloc, place)?;
-    check_count(tag, declared, vars.len() as u64)?;
-    Ok(vars)
+    ghost has_ends = { λ v. AreEnds v.lb v.ub };
+
+    fn name() -> &'static [u8] {
+        b"var"
+    }
+
+    fn count_name() -> &'static [u8] {
+        b"numberOfVariables"
+    }
+
+    fn read_tag(tag: StartTag<'_>, before: usize) -> Result<(Var, u64), OsilFault> {
+        read_var(tag, before)
+    }
 }

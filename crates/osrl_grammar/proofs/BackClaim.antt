@@ -1,7 +1,7 @@
 -- A written solution says its claim: its items are readable, its parts are counted, and its certificate is the claim's.
 use Rattle.std.proofs.Common.{◌≡◌, ◌∙◌, ℕ, true, false, Some, List, [], ◌∷◌, length, map, refl, ap, arith}
 use Rattle.std.specs.Prelude.{flat_map}
-use Rattle.std.specs.List.{All}
+use Rattle.std.specs.List.{All, AllZip}
 use Rattle.std.proofs.lemmas.List.{length-map}
 use Rattle.std.proofs.lemmas.List.Elements.{All-nil, All-cons, All-head, All-tail, All-append}
 use Rattle.tree_grammar.specs.Elements.{Element}
@@ -16,7 +16,7 @@ use Rattle.osrl_grammar.specs.declared.parts.Part.{Part}
 use Rattle.osrl_grammar.specs.declared.parts.Part.TheVariants.{Point, Value, Ray, Tree, Cause}
 use Rattle.osrl_grammar.specs.Numbers.{Exact, IsRead}
 use Rattle.osrl_grammar.specs.Items.{Item, Number, IsOfPart, IsReadable}
-use Rattle.osrl_grammar.specs.Values.{Each, IsFraction, IsNode, IsCause}
+use Rattle.osrl_grammar.specs.Values.{IsFraction, IsNode, IsCause}
 use Rattle.osrl_grammar.specs.Parts.{item_texts, items_of}
 use Rattle.osrl_grammar.specs.Refusals.{MayHold, IsPartCounted}
 use Rattle.osrl_grammar.specs.Meaning.{SaysClaim}
@@ -30,19 +30,19 @@ use Rattle.osrl_grammar.proofs.BackItems.{node_back, cause_back, fractions_back,
 use Rattle.osrl_grammar.proofs.BackParts.{part_element, texts_are, part_readable, parts_of, solution_of, has_part, holds_texts}
 
 -- a point and its value, a tree, and a cause among the parts
-point_said : (x : List Frac) → Each IsFraction (item_texts (part_element Point (fraction_texts x))) x
+point_said : (x : List Frac) → AllZip IsFraction (item_texts (part_element Point (fraction_texts x))) x
 point_said x = holds_texts Point IsFraction (fraction_texts x) x (fractions_back x)
 
-value_said : (v : Frac) → Each IsFraction (item_texts (part_element Value (fraction_texts (v ∷ [])))) (v ∷ [])
+value_said : (v : Frac) → AllZip IsFraction (item_texts (part_element Value (fraction_texts (v ∷ [])))) (v ∷ [])
 value_said v = holds_texts Value IsFraction (fraction_texts (v ∷ [])) (v ∷ []) (fractions_back (v ∷ []))
 
-ray_said : (r : List Frac) → Each IsFraction (item_texts (part_element Ray (fraction_texts r))) r
+ray_said : (r : List Frac) → AllZip IsFraction (item_texts (part_element Ray (fraction_texts r))) r
 ray_said r = holds_texts Ray IsFraction (fraction_texts r) r (fractions_back r)
 
-tree_said : (ns : List Node) → TreeComesBack ns → Each IsNode (item_texts (part_element Tree (map node_text ns))) ns
+tree_said : (ns : List Node) → TreeComesBack ns → AllZip IsNode (item_texts (part_element Tree (map node_text ns))) ns
 tree_said ns back = holds_texts Tree IsNode (map node_text ns) ns (nodes_back ns back.1)
 
-cause_said : (c : why.Cause) → CauseComesBack c → Each IsCause (item_texts (part_element Cause (cause_text c ∷ []))) (c ∷ [])
+cause_said : (c : why.Cause) → CauseComesBack c → AllZip IsCause (item_texts (part_element Cause (cause_text c ∷ []))) (c ∷ [])
 cause_said c back = holds_texts Cause IsCause (cause_text c ∷ []) (c ∷ []) (cause_back c back, tt)
 
 -- the solution says the claim

@@ -2,7 +2,7 @@
 use Rattle.std.proofs.Common.{◌≡◌, ℕ, ◌^◌, ◌<◌, List, [], ◌∷◌, ◌++◌, map, refl, ap}
 use Rattle.std.specs.Prelude.{codes, decimal, flat_map}
 use Rattle.std.specs.Fmt.{signed_decimal}
-use Rattle.std.specs.List.{All}
+use Rattle.std.specs.List.{All, AllZip}
 use Rattle.std.proofs.lemmas.List.Elements.{All-nil, All-cons, All-head, All-tail}
 use Rattle.fraction.specs.Frac.{ratio}
 use Rattle.fraction.specs.declared.frac.Frac.{Frac}
@@ -13,7 +13,7 @@ use Rattle.certificate.specs.declared.nodes.Node.TheVariants as nodes
 use Rattle.certificate.specs.declared.causes.Cause as why
 use Rattle.certificate.specs.declared.causes.Cause.TheVariants as causes
 use Rattle.osrl_grammar.specs.Items.{Pair, IsPair, pair_text, Split, Clash, Farkas, Bound, Killed, NodeLimit, TurnLimit, Wide, Length, Memory}
-use Rattle.osrl_grammar.specs.Values.{Each, IsMult, IsFraction, IsNode, IsCause}
+use Rattle.osrl_grammar.specs.Values.{IsMult, IsFraction, IsNode, IsCause}
 use Rattle.osrl_grammar.specs.Writing.{mult_text, node_text, cause_text, fraction_texts}
 use Rattle.osrl_grammar.specs.Back.{HaveColumns, NodeComesBack, CauseComesBack}
 use Rattle.osrl_grammar.proofs.BackNumbers.{fraction_back, whole_back, index_back, turn_back, decimal_spaceless, decimal_colonless, signed_spaceless, ratio_spaceless}
@@ -30,7 +30,7 @@ are_pairs : (ms : List Mult) → All IsPair (map pair_of ms)
 are_pairs [] = All-nil IsPair
 are_pairs (m ∷ ms) = All-cons IsPair (pair_of m) (map pair_of ms) (decimal_spaceless m.col, decimal_colonless m.col, ratio_spaceless (ratio m.value)) (are_pairs ms)
 
-mults_back : (ms : List Mult) → HaveColumns ms → Each IsMult (map pair_of ms) ms
+mults_back : (ms : List Mult) → HaveColumns ms → AllZip IsMult (map pair_of ms) ms
 mults_back [] columns = tt
 mults_back (m ∷ ms) columns = ((index_back m.col (All-head (λ (m : Mult). m.col < 2 ^ 32) m ms columns), fraction_back m.value), mults_back ms (All-tail (λ (m : Mult). m.col < 2 ^ 32) m ms columns))
 
@@ -48,10 +48,10 @@ cause_back (causes.Wide p) back = (Wide (decimal p.node) (decimal p.turn) p.step
 cause_back causes.Length back = (Length, (refl, tt), refl)
 cause_back causes.Memory back = (Memory, (refl, tt), refl)
 
-pub fractions_back : (xs : List Frac) → Each IsFraction (fraction_texts xs) xs
+pub fractions_back : (xs : List Frac) → AllZip IsFraction (fraction_texts xs) xs
 fractions_back [] = tt
 fractions_back (x ∷ xs) = (fraction_back x, fractions_back xs)
 
-pub nodes_back : (ns : List Node) → All NodeComesBack ns → Each IsNode (map node_text ns) ns
+pub nodes_back : (ns : List Node) → All NodeComesBack ns → AllZip IsNode (map node_text ns) ns
 nodes_back [] back = tt
 nodes_back (n ∷ ns) back = (node_back n (All-head NodeComesBack n ns back), nodes_back ns (All-tail NodeComesBack n ns back))

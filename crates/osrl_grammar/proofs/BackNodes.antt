@@ -1,11 +1,10 @@
 -- The nodes of a written solution are nodes of XML.
-use Rattle.std.proofs.Common.{◌≡◌, ℕ, suc, ◌+◌, ◌-◌, nat_lt, Bool, true, false, cond, List, [], ◌∷◌, map, length, refl}
+use Rattle.std.proofs.Common.{◌≡◌, ℕ, suc, ◌+◌, ◌-◌, nat_lt, Bool, true, false, cond, List, [], ◌∷◌, map, length, refl, subst}
 use Rattle.std.specs.Prelude.{codes, decimal}
 use Rattle.std.specs.List.{All}
 use Rattle.std.proofs.lemmas.List.Elements.{All-nil, All-cons, All-head, All-tail}
-use Rattle.tree_grammar.specs.Characters.{IsXmlText, Each, has_prefix}
-use Rattle.tree_grammar.specs.Tags.{is_kept}
-use Rattle.tree_grammar.specs.Elements.{Nodes, none, element, chars}
+use Rattle.tree_grammar.specs.Characters.{IsXmlText, Each, local_part}
+use Rattle.tree_grammar.specs.Elements.{Attribute, Nodes, none, element, chars}
 use Rattle.element_tree.proofs.XmlTexts.{Printable, list_printable}
 use Rattle.fraction.specs.Frac.{ratio}
 use Rattle.fraction.specs.declared.frac.Frac.{Frac}
@@ -22,56 +21,60 @@ use Rattle.osrl_grammar.specs.declared.parts.Claiming.TheVariants as claiming
 use Rattle.osrl_grammar.specs.Cuts.{cut_text}
 use Rattle.osrl_grammar.specs.Parts.{part_name}
 use Rattle.osrl_grammar.specs.Refusals.{claiming_text}
-use Rattle.osrl_grammar.specs.Writing.{only, text_nodes, leaf, group, indexed, typed, variable_values, row_values, values_part, values_part_unless_none, point_values, dual_values, node_text, cause_text, item_nodes, certificate_part, fraction_texts, point_parts, ray_part, tree_part, cause_part, solution, claim_nodes}
-use Rattle.osrl_grammar.proofs.BackFlat.{IsTag, AreFlat, is_name, letters_name, printable_text, bare_tag, none_flat, text_flat, element_flat}
-use Rattle.osrl_grammar.proofs.BackTexts.{decimal_printable, cut_printable, cause_printable, fractions_xml, nodes_xml}
+use Rattle.document_tags.specs.Writing.{only, text_nodes, leaf, group, typed}
+use Rattle.osrl_grammar.specs.Writing.{indexed, variable_values, row_values, values_part, values_part_unless_none, point_values, dual_values, node_text, cause_text, item_nodes, certificate_part, fraction_texts, point_parts, ray_part, tree_part, cause_part, solution, claim_nodes}
+use Rattle.element_tree.specs.Writable.{kept_attributes}
+use Rattle.document_tags.proofs.Printing.{printable_text, decimal_printable}
+use Rattle.document_tags.proofs.Flat.{is_tag, AreTexts, AreFlat, none_flat, text_flat, element_flat}
+use Rattle.osrl_grammar.proofs.BackTexts.{cut_printable, cause_printable, fractions_xml, nodes_xml}
 
--- a start tag with one attribute
-pub only_tag : (name key value : List ℕ) → is_name name ≡ true → has_prefix name ≡ false → is_name key ≡ true → is_kept key ≡ true → Each Printable value → IsTag name (only key value)
-only_tag name key value is plain is_key kept printable = record {
-  named = letters_name name is;
-  plain = plain;
-  writable = (letters_name key is_key, printable_text value printable, tt);
-  differ = ((λ nothing. nothing), tt);
-  kept = (kept, tt);
-}
+-- nodes of XML without prefixes, of which at most so many stand in one another
+abbrev pub Flat : ℕ → Nodes → Type 0
+Flat n nodes = AreFlat n nodes nodes
 
-pub leaf_flat : (n : ℕ) (name text : List ℕ) (more : Nodes) → is_name name ≡ true → has_prefix name ≡ false → IsXmlText text → AreFlat (suc n) more → AreFlat (suc n) (leaf name text more)
-leaf_flat n name text more is plain xml rest = element_flat n name [] (text_nodes text) more (bare_tag name is plain) (text_flat n text xml) rest
+-- an element that belongs to the tree as it is written, with what stands in it, and then more
+plain_flat : (n : ℕ) (name : List ℕ) (attributes : List Attribute) (children more : Nodes) → is_tag name attributes ≡ true → local_part name ≡ name → kept_attributes attributes ≡ attributes → AreTexts attributes → Flat n children → Flat (suc n) more → Flat (suc n) (element name attributes children more)
+plain_flat n name attributes children more is plain kept texts inside rest =
+    let flat = element_flat n name attributes children more children more is texts inside rest in
+    subst (λ (a : List Attribute). AreFlat (suc n) (element name attributes children more) (element name a children more)) kept
+    (subst (λ (l : List ℕ). AreFlat (suc n) (element name attributes children more) (element l (kept_attributes attributes) children more)) plain flat)
 
-pub group_flat : (n : ℕ) (name : List ℕ) (children more : Nodes) → is_name name ≡ true → has_prefix name ≡ false → AreFlat n children → AreFlat (suc n) more → AreFlat (suc n) (group name children more)
-group_flat n name children more is plain inside rest = element_flat n name [] children more (bare_tag name is plain) inside rest
+pub leaf_flat : (n : ℕ) (name text : List ℕ) (more : Nodes) → is_tag name [] ≡ true → local_part name ≡ name → IsXmlText text → Flat (suc n) more → Flat (suc n) (leaf name text more)
+leaf_flat n name text more is plain xml rest = plain_flat n name [] (text_nodes text) more is plain refl tt (text_flat n text xml) rest
 
-pub typed_flat : (n : ℕ) (name type : List ℕ) (more : Nodes) → is_name name ≡ true → has_prefix name ≡ false → Each Printable type → AreFlat (suc n) more → AreFlat (suc n) (typed name type more)
-typed_flat n name type more is plain printable rest = element_flat n name (only (codes "type") type) none more (only_tag name (codes "type") type is plain refl refl printable) (none_flat n) rest
+pub group_flat : (n : ℕ) (name : List ℕ) (children more : Nodes) → is_tag name [] ≡ true → local_part name ≡ name → Flat n children → Flat (suc n) more → Flat (suc n) (group name children more)
+group_flat n name children more is plain inside rest = plain_flat n name [] children more is plain refl tt inside rest
 
-indexed_flat : (name index : List ℕ) (x : Frac) (more : Nodes) → is_name name ≡ true → has_prefix name ≡ false → Each Printable index → AreFlat 1 more → AreFlat 1 (indexed name index x more)
+pub typed_flat : (n : ℕ) (name type : List ℕ) (more : Nodes) → is_tag name (only (codes "type") type) ≡ true → local_part name ≡ name → Each Printable type → Flat (suc n) more → Flat (suc n) (typed name type more)
+typed_flat n name type more is plain printable rest = plain_flat n name (only (codes "type") type) none more is plain refl (printable_text type printable, tt) (none_flat n) rest
+
+indexed_flat : (name index : List ℕ) (x : Frac) (more : Nodes) → is_tag name (only (codes "idx") index) ≡ true → local_part name ≡ name → Each Printable index → Flat 1 more → Flat 1 (indexed name index x more)
 indexed_flat name index x more is plain printable rest =
-    element_flat 0 name (only (codes "idx") index) (text_nodes (cut_text (ratio x))) more (only_tag name (codes "idx") index is plain refl refl printable) (text_flat 0 (cut_text (ratio x)) (printable_text (cut_text (ratio x)) (cut_printable (ratio x)))) rest
+    plain_flat 0 name (only (codes "idx") index) (text_nodes (cut_text (ratio x))) more is plain refl (printable_text index printable, tt) (text_flat 0 (cut_text (ratio x)) (printable_text (cut_text (ratio x)) (cut_printable (ratio x)))) rest
 
-variables_flat : (j : ℕ) (xs : List Frac) → AreFlat 1 (variable_values j xs)
+variables_flat : (j : ℕ) (xs : List Frac) → Flat 1 (variable_values j xs)
 variables_flat j [] = none_flat 1
 variables_flat j (x ∷ xs) = indexed_flat (codes "var") (decimal j) x (variable_values (j + 1) xs) refl refl (decimal_printable j) (variables_flat (j + 1) xs)
 
-one_of : (b : Bool) (n : ℕ) (xs ys : Nodes) → AreFlat n xs → AreFlat n ys → AreFlat n (cond b xs ys)
+one_of : (b : Bool) (n : ℕ) (xs ys : Nodes) → Flat n xs → Flat n ys → Flat n (cond b xs ys)
 one_of true n xs ys h k = h
 one_of false n xs ys h k = k
 
-rows_flat : (n : ℕ) (ms : List Mult) → AreFlat 1 (row_values n ms)
+rows_flat : (n : ℕ) (ms : List Mult) → Flat 1 (row_values n ms)
 rows_flat n [] = none_flat 1
 rows_flat n (m ∷ ms) =
     let rest = rows_flat n ms in
     one_of (nat_lt m.col n) 1 (row_values n ms) (indexed (codes "con") (decimal (m.col - n)) m.value (row_values n ms)) rest (indexed_flat (codes "con") (decimal (m.col - n)) m.value (row_values n ms) refl refl (decimal_printable (m.col - n)) rest)
 
-values_flat : (name list : List ℕ) (values more : Nodes) → is_name name ≡ true → has_prefix name ≡ false → is_name list ≡ true → has_prefix list ≡ false → AreFlat 1 values → AreFlat 3 more → AreFlat 3 (values_part name list values more)
+values_flat : (name list : List ℕ) (values more : Nodes) → is_tag name [] ≡ true → local_part name ≡ name → is_tag list [] ≡ true → local_part list ≡ list → Flat 1 values → Flat 3 more → Flat 3 (values_part name list values more)
 values_flat name list values more is plain is_list plain_list inside rest = group_flat 2 name (group list values none) more is plain (group_flat 1 list values none is_list plain_list inside (none_flat 2)) rest
 
-some_flat : (values more : Nodes) → AreFlat 1 values → AreFlat 3 more → AreFlat 3 (values_part_unless_none (codes "constraints") (codes "dualValues") values more)
+some_flat : (values more : Nodes) → Flat 1 values → Flat 3 more → Flat 3 (values_part_unless_none (codes "constraints") (codes "dualValues") values more)
 some_flat none more inside rest = rest
 some_flat (element n attributes children behind) more inside rest = values_flat (codes "constraints") (codes "dualValues") (element n attributes children behind) more refl refl refl refl inside rest
 some_flat (chars text behind) more inside rest = values_flat (codes "constraints") (codes "dualValues") (chars text behind) more refl refl refl refl inside rest
 
-duals_flat : (n : ℕ) (ns : List Node) (more : Nodes) → AreFlat 3 more → AreFlat 3 (dual_values n ns more)
+duals_flat : (n : ℕ) (ns : List Node) (more : Nodes) → Flat 3 more → Flat 3 (dual_values n ns more)
 duals_flat n [] more rest = rest
 duals_flat n (Split j k ∷ ns) more rest = rest
 duals_flat n (Clash c ∷ ns) more rest = rest
@@ -79,13 +82,13 @@ duals_flat n (Farkas ms ∷ ns) more rest = rest
 duals_flat n (Bound ms ∷ []) more rest = some_flat (row_values n ms) more (rows_flat n ms) rest
 duals_flat n (Bound ms ∷ m ∷ ns) more rest = rest
 
-point_flat : (x : List Frac) (v : Frac) (more : Nodes) → AreFlat 3 more → AreFlat 3 (point_values x v more)
+point_flat : (x : List Frac) (v : Frac) (more : Nodes) → Flat 3 more → Flat 3 (point_values x v more)
 point_flat x v more rest =
-    let value : AreFlat 1 (indexed (codes "obj") (codes "-1") v none) = indexed_flat (codes "obj") (codes "-1") v none refl refl (list_printable (codes "-1") refl) (none_flat 1) in
+    let value : Flat 1 (indexed (codes "obj") (codes "-1") v none) = indexed_flat (codes "obj") (codes "-1") v none refl refl (list_printable (codes "-1") refl) (none_flat 1) in
     let objectives = values_flat (codes "objectives") (codes "values") (indexed (codes "obj") (codes "-1") v none) more refl refl refl refl value rest in
     values_flat (codes "variables") (codes "values") (variable_values 0 x) (values_part (codes "objectives") (codes "values") (indexed (codes "obj") (codes "-1") v none) more) refl refl refl refl (variables_flat 0 x) objectives
 
-items_flat : (texts : List (List ℕ)) → All IsXmlText texts → AreFlat 1 (item_nodes texts)
+items_flat : (texts : List (List ℕ)) → All IsXmlText texts → Flat 1 (item_nodes texts)
 items_flat [] xml = none_flat 1
 items_flat (text ∷ more) xml = leaf_flat 0 (codes "item") text (item_nodes more) refl refl (All-head IsXmlText text more xml) (items_flat more (All-tail IsXmlText text more xml))
 
@@ -96,20 +99,20 @@ name_printable parts.Ray = list_printable (part_name parts.Ray) refl
 name_printable parts.Tree = list_printable (part_name parts.Tree) refl
 name_printable parts.Cause = list_printable (part_name parts.Cause) refl
 
-part_flat : (p : Part) (texts : List (List ℕ)) (more : Nodes) → All IsXmlText texts → AreFlat 2 more → AreFlat 2 (certificate_part p texts more)
+part_flat : (p : Part) (texts : List (List ℕ)) (more : Nodes) → All IsXmlText texts → Flat 2 more → Flat 2 (certificate_part p texts more)
 part_flat p texts more xml rest =
-    element_flat 1 (codes "otherSolutionResult") (only (codes "name") (part_name p)) (item_nodes texts) more (only_tag (codes "otherSolutionResult") (codes "name") (part_name p) refl refl refl refl (name_printable p)) (items_flat texts xml) rest
+    plain_flat 1 (codes "otherSolutionResult") (only (codes "name") (part_name p)) (item_nodes texts) more refl refl refl (printable_text (part_name p) (name_printable p), tt) (items_flat texts xml) rest
 
-points_flat : (x : List Frac) (v : Frac) (more : Nodes) → AreFlat 2 more → AreFlat 2 (point_parts x v more)
+points_flat : (x : List Frac) (v : Frac) (more : Nodes) → Flat 2 more → Flat 2 (point_parts x v more)
 points_flat x v more rest = part_flat parts.Point (fraction_texts x) (certificate_part parts.Value (fraction_texts (v ∷ [])) more) (fractions_xml x) (part_flat parts.Value (fraction_texts (v ∷ [])) more (fractions_xml (v ∷ [])) rest)
 
-ray_flat : (r : List Frac) → AreFlat 2 (ray_part r)
+ray_flat : (r : List Frac) → Flat 2 (ray_part r)
 ray_flat r = part_flat parts.Ray (fraction_texts r) none (fractions_xml r) (none_flat 2)
 
-tree_flat : (ns : List Node) → AreFlat 2 (tree_part ns)
+tree_flat : (ns : List Node) → Flat 2 (tree_part ns)
 tree_flat ns = part_flat parts.Tree (map node_text ns) none (nodes_xml ns) (none_flat 2)
 
-cause_flat : (c : Cause) → AreFlat 2 (cause_part c)
+cause_flat : (c : Cause) → Flat 2 (cause_part c)
 cause_flat c = part_flat parts.Cause (cause_text c ∷ []) none (All-cons IsXmlText (cause_text c) [] (printable_text (cause_text c) (cause_printable c)) (All-nil IsXmlText)) (none_flat 2)
 
 claiming_printable : (c : Claiming) → Each Printable (claiming_text c)
@@ -119,12 +122,12 @@ claiming_printable claiming.Unbounded = list_printable (claiming_text claiming.U
 claiming_printable claiming.BestSoFar = list_printable (claiming_text claiming.BestSoFar) refl
 claiming_printable claiming.Unsure = list_printable (claiming_text claiming.Unsure) refl
 
-solution_flat : (c : Claiming) (certificate : Nodes) (values : Nodes → Nodes) → AreFlat 2 certificate → ((more : Nodes) → AreFlat 3 more → AreFlat 3 (values more)) → AreFlat 3 (solution c certificate values)
+solution_flat : (c : Claiming) (certificate : Nodes) (values : Nodes → Nodes) → Flat 2 certificate → ((more : Nodes) → Flat 3 more → Flat 3 (values more)) → Flat 3 (solution c certificate values)
 solution_flat c certificate values inside shows =
     let parts = group_flat 2 (codes "otherSolutionResults") certificate none refl refl inside (none_flat 3) in
     typed_flat 2 (codes "status") (claiming_text c) (values (group (codes "otherSolutionResults") certificate none)) refl refl (claiming_printable c) (shows (group (codes "otherSolutionResults") certificate none) parts)
 
-pub claim_flat : (c : Claim) → AreFlat 3 (claim_nodes c)
+pub claim_flat : (c : Claim) → Flat 3 (claim_nodes c)
 claim_flat (Optimal x v ns) = solution_flat claiming.Optimal (point_parts x v (tree_part ns)) (λ more. point_values x v (dual_values (length x) ns more)) (points_flat x v (tree_part ns) (tree_flat ns)) (λ more rest. point_flat x v (dual_values (length x) ns more) (duals_flat (length x) ns more rest))
 claim_flat (Infeasible ns) = solution_flat claiming.Infeasible (tree_part ns) (λ more. more) (tree_flat ns) (λ more rest. rest)
 claim_flat (Unbounded x v r) = solution_flat claiming.Unbounded (point_parts x v (ray_part r)) (point_values x v) (points_flat x v (ray_part r) (ray_flat r)) (point_flat x v)

@@ -15,7 +15,8 @@ use Rattle.osrl_grammar.specs.Items.{IsFree}
 use Rattle.osrl_grammar.specs.Numbers.{Index, Turn, Whole, IsNumber}
 use Rattle.osrl_grammar.specs.Values.{IsFraction}
 use Rattle.osrl_grammar.proofs.Exact.{exact_read}
-use Rattle.osrl_grammar.proofs.BackTexts.{decimal_each, signed_each, ratio_each}
+use Rattle.document_tags.proofs.Printing.{decimal_each, signed_each}
+use Rattle.osrl_grammar.proofs.BackTexts.{ratio_each}
 
 pub fraction_back : (x : Frac) → IsFraction (ratio_text (ratio x)) x
 fraction_back x = exact_read (ratio_text (ratio x)) x (written_ratio (ratio x) (x.above, x.reduced) (x.numer_within, x.denom_within))

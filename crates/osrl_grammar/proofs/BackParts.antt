@@ -1,7 +1,7 @@
 -- The parts of a written solution are found by their names, and hold what was written.
 use Rattle.std.proofs.Common.{◌≡◌, ◌∙◌, ℕ, true, List, [], ◌∷◌, ◌++◌, length, map, slice_get, refl, ap, sym, subst, append-nil}
 use Rattle.std.specs.Prelude.{IsSomeAnd, codes, flat_map}
-use Rattle.std.specs.List.{All}
+use Rattle.std.specs.List.{All, AllZip}
 use Rattle.std.proofs.lemmas.List.Elements.{All-nil, All-cons, All-head, All-tail}
 use Rattle.tree_grammar.specs.Elements.{Nodes, none, element, chars, Element}
 use Rattle.document_tags.specs.Rests.{child_elements}
@@ -11,12 +11,12 @@ use Rattle.certificate.specs.declared.claims.Claim.{Claim}
 use Rattle.certificate.specs.declared.claims.Claim.TheVariants.{Optimal, Infeasible, Unbounded, BestSoFar, Unsure}
 use Rattle.osrl_grammar.specs.declared.parts.Part.{Part}
 use Rattle.osrl_grammar.specs.declared.parts.Part.TheVariants as parts
-use Rattle.osrl_grammar.specs.Elements.{named, children_named, characters, own_text}
+use Rattle.document_tags.specs.Elements.{named, children_named, characters, own_text}
 use Rattle.osrl_grammar.specs.Items.{Item, IsReadable}
-use Rattle.osrl_grammar.specs.Values.{Each}
 use Rattle.osrl_grammar.specs.Parts.{part_name, is_part, of_part, item_texts, items_among, items_of, results}
 use Rattle.osrl_grammar.specs.Meaning.{HasPart}
-use Rattle.osrl_grammar.specs.Writing.{only, text_nodes, group, row_values, values_part_unless_none, dual_values, item_nodes, node_text, cause_text, fraction_texts, point_parts, tree_part, claim_nodes}
+use Rattle.document_tags.specs.Writing.{only, text_nodes, group}
+use Rattle.osrl_grammar.specs.Writing.{row_values, values_part_unless_none, dual_values, item_nodes, node_text, cause_text, fraction_texts, point_parts, tree_part, claim_nodes}
 use Rattle.osrl_grammar.proofs.Parted.{items_of_part}
 
 -- what an element says that holds a text
@@ -97,8 +97,8 @@ results_are (BestSoFar x v c) = refl
 results_are (Unsure c) = refl
 
 -- the part that stands among them
-pub has_part : {X : Type 0} (c : Claim) (p : Part) (Is : List ℕ → X → Type 0) (xs : List X) → IsSomeAnd (slice_get (of_part p (parts_of c)) 0) (λ e. Each Is (item_texts e) xs) → HasPart (solution_of c) p Is xs
-has_part c p Is xs h = subst (λ (l : List Element). IsSomeAnd (slice_get (of_part p l) 0) (λ e. Each Is (item_texts e) xs)) (sym (results_are c)) h
+pub has_part : {X : Type 0} (c : Claim) (p : Part) (Is : List ℕ → X → Type 0) (xs : List X) → IsSomeAnd (slice_get (of_part p (parts_of c)) 0) (λ e. AllZip Is (item_texts e) xs) → HasPart (solution_of c) p Is xs
+has_part c p Is xs h = subst (λ (l : List Element). IsSomeAnd (slice_get (of_part p l) 0) (λ e. AllZip Is (item_texts e) xs)) (sym (results_are c)) h
 
-pub holds_texts : {X : Type 0} (p : Part) (Is : List ℕ → X → Type 0) (texts : List (List ℕ)) (xs : List X) → Each Is texts xs → Each Is (item_texts (part_element p texts)) xs
-holds_texts p Is texts xs h = subst (λ (l : List (List ℕ)). Each Is l xs) (sym (texts_are p texts)) h
+pub holds_texts : {X : Type 0} (p : Part) (Is : List ℕ → X → Type 0) (texts : List (List ℕ)) (xs : List X) → AllZip Is texts xs → AllZip Is (item_texts (part_element p texts)) xs
+holds_texts p Is texts xs h = subst (λ (l : List (List ℕ)). AllZip Is l xs) (sym (texts_are p texts)) h

@@ -9,12 +9,14 @@ use Rattle.certificate.specs.declared.claims.Claim.{Claim}
 use Rattle.osrl_grammar.specs.declared.report.JobStatus.{JobStatus}
 use Rattle.osrl_grammar.specs.declared.report.Report.{Report}
 use Rattle.osrl_grammar.specs.declared.parts.Part.{Part}
-use Rattle.osrl_grammar.specs.Elements.{attribute, characters, first_within, own_text}
+use Rattle.document_tags.specs.Elements.{attribute, characters, first_within, own_text}
 use Rattle.osrl_grammar.specs.Items.{IsReadable}
 use Rattle.osrl_grammar.specs.Parts.{items_of, results, solutions, all_results}
 use Rattle.osrl_grammar.specs.Refusals.{IsPartCounted, general_path, job_path, status_text}
-use Rattle.osrl_grammar.specs.Meaning.{unless_empty, text_in, SayClaim, IsReport, IsReportText}
-use Rattle.osrl_grammar.specs.Writing.{text_nodes, leaf_of, group, typed, optimization, general_type, job_nodes, report_text}
+use Rattle.osrl_grammar.specs.Meaning.{unless_empty, text_in, SayClaim, IsReport}
+use Rattle.osrl_grammar.specs.Reading.{IsReportText}
+use Rattle.document_tags.specs.Writing.{text_nodes, group, typed}
+use Rattle.osrl_grammar.specs.Writing.{leaf_of, optimization, general_type, job_nodes, report_text}
 use Rattle.osrl_grammar.specs.Back.{IsBare, IsBareOrNone, ClaimComesBack, ComesBack}
 use Rattle.osrl_grammar.proofs.Parted.{counted}
 use Rattle.osrl_grammar.proofs.BackText.{root_of, text_document}
@@ -105,4 +107,4 @@ root_reports r back =
 
 -- so does its text
 pub text_comes_back : (r : Report) → ComesBack r → IsReportText (report_text r) r
-text_comes_back r back = record { root = root_of r; document = text_document r back; report = root_reports r back }
+text_comes_back r back = record { root = root_of r; document = text_document r back; is = root_reports r back }

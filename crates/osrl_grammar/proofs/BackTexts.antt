@@ -23,33 +23,7 @@ use Rattle.certificate.specs.declared.causes.Step.TheVariants as steps
 use Rattle.osrl_grammar.specs.Cuts.{without_zeros, decimals, cut_size, has_sign, cut_text}
 use Rattle.osrl_grammar.specs.Items.{step_text}
 use Rattle.osrl_grammar.specs.Writing.{mult_text, node_text, cause_text, fraction_texts}
-use Rattle.osrl_grammar.proofs.BackFlat.{printable_text}
-
--- what holds of each digit
-abbrev pub HoldsOfDigits : (ℕ → Type 0) → Type 0
-HoldsOfDigits P = (d : ℕ) → d < 10 → P (48 + d)
-
-glyph_holds : (P : ℕ → Type 0) → HoldsOfDigits P → (d : ℕ) → d < 10 → P (digit_glyph false d)
-glyph_holds P of_digits d small = subst (λ (b : Bool). P (cond b (48 + d) (87 + d))) (sym (lt-ltb d 10 small)) (of_digits d small)
-
-onto_by : (P : ℕ → Type 0) (b : Bool) (one more : List ℕ) → Each P one → Each P more → Each P (cond b one more)
-onto_by P true one more h k = h
-onto_by P false one more h k = k
-
-onto_each : (P : ℕ → Type 0) → HoldsOfDigits P → (k n : ℕ) (acc : List ℕ) → Each P acc → Each P (digits_onto k 10 false n acc)
-onto_each P of_digits zero n acc h = h
-onto_each P of_digits (suc k) n acc h =
-    let last : Each P (digit_glyph false (n % 10) ∷ acc) = (glyph_holds P of_digits (n % 10) (omega arith), h) in
-    onto_by P (n / 10 == 0) (digit_glyph false (n % 10) ∷ acc) (digits_onto k 10 false (n / 10) (digit_glyph false (n % 10) ∷ acc)) last (onto_each P of_digits k (n / 10) (digit_glyph false (n % 10) ∷ acc) last)
-
--- it holds of each byte of a number
-pub decimal_each : (P : ℕ → Type 0) → HoldsOfDigits P → (n : ℕ) → Each P (decimal n)
-unfolding digits
-decimal_each P of_digits n = onto_each P of_digits 64 n [] tt
-
-pub signed_each : (P : ℕ → Type 0) → HoldsOfDigits P → P 45 → (z : ℤ) → Each P (signed_decimal z)
-signed_each P of_digits minus (pos n) = decimal_each P of_digits n
-signed_each P of_digits minus (negsuc n) = (minus, decimal_each P of_digits (suc n))
+use Rattle.document_tags.proofs.Printing.{HoldsOfDigits, decimal_each, signed_each, digits_printable, decimal_printable, signed_printable, printable_text}
 
 denominator_each : (P : ℕ → Type 0) → HoldsOfDigits P → P 47 → (b : Bool) (d : ℕ) → Each P (cond b [] (47 ∷ decimal d))
 denominator_each P of_digits over true d = tt
@@ -57,15 +31,6 @@ denominator_each P of_digits over false d = (over, decimal_each P of_digits d)
 
 pub ratio_each : (P : ℕ → Type 0) → HoldsOfDigits P → P 45 → P 47 → (x : Ratio) → Each P (ratio_text x)
 ratio_each P of_digits minus over x = each_append P (signed_decimal x.num) (denominator_text x.den) (signed_each P of_digits minus x.num) (denominator_each P of_digits over (x.den == 1) x.den)
-
-digits_printable : HoldsOfDigits Printable
-digits_printable d small = (omega (arith, small), omega (arith, small))
-
-pub decimal_printable : (n : ℕ) → Each Printable (decimal n)
-decimal_printable n = decimal_each Printable digits_printable n
-
-signed_printable : (z : ℤ) → Each Printable (signed_decimal z)
-signed_printable z = signed_each Printable digits_printable (lit≤ tt, lit< tt) z
 
 ratio_printable : (x : Ratio) → Each Printable (ratio_text x)
 ratio_printable x = ratio_each Printable digits_printable (lit≤ tt, lit< tt) (lit≤ tt, lit< tt) x

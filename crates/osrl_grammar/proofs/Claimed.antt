@@ -20,19 +20,20 @@ use Rattle.osrl_grammar.specs.Pieces.{node_item, cause_item}
 use Rattle.osrl_grammar.proofs.Shaped.{unlike}
 use Rattle.osrl_grammar.proofs.Faulted.{node_readable, cause_readable}
 use Rattle.osrl_grammar.proofs.OneItem.{readable_apart}
-use Rattle.osrl_grammar.specs.declared.spot.Spot.{Spot}
-use Rattle.osrl_grammar.specs.Elements.{attribute, first_within, own_text}
+use Rattle.document_tags.specs.declared.spot.Spot.{Spot}
+use Rattle.document_tags.specs.Elements.{attribute, first_within, own_text}
 use Rattle.osrl_grammar.specs.Numbers.{Exact, Fits, IsNumber}
 use Rattle.rational.specs.Ratio.{Ratio}
 use Rattle.decimal_text.proofs.Reading.{ratio_once}
 use Rattle.osrl_grammar.specs.Fields.{IsNot}
-use Rattle.osrl_grammar.specs.Values.{Each, IsFraction, IsNode, IsCause}
+use Rattle.std.specs.List.{AllZip}
+use Rattle.osrl_grammar.specs.Values.{IsFraction, IsNode, IsCause}
 use Rattle.osrl_grammar.specs.Parts.{of_part, item_texts}
 use Rattle.osrl_grammar.specs.Refusals.{claiming_text, Claims}
 use Rattle.osrl_grammar.specs.Claiming.{IsOnly, AreOf}
-use Rattle.osrl_grammar.specs.Spots.{Stands, AreSpots, IsSpot}
+use Rattle.document_tags.specs.Spots.{Stands, AreSpots, IsSpot}
 use Rattle.fraction.proofs.Equality.{one_fraction}
-use Rattle.osrl_grammar.proofs.Spotted.{each_more}
+use Rattle.document_tags.proofs.Spotted.{each_more}
 
 -- an element at a place, or none
 pub no_spot : (P : Element → Type 0) (o : Option Element) → IsSpot None o → IsSomeAnd o P → ⊥
@@ -70,7 +71,7 @@ no_word e status c is none claims =
     let f : None ≡ Some (claiming_text c) = sym none ∙ has in cc
 
 -- one item's number
-pub each_at : {X Y : Type 0} (Is : X → Y → Type 0) (before : List X) (x : X) (rest : List X) (ys : List Y) → Each Is (before ++ x ∷ rest) ys → (y : Y) × Is x y
+pub each_at : {X Y : Type 0} (Is : X → Y → Type 0) (before : List X) (x : X) (rest : List X) (ys : List Y) → AllZip Is (before ++ x ∷ rest) ys → (y : Y) × Is x y
 each_at Is [] x rest [] h = absurd h
 each_at Is [] x rest (y ∷ ys) h = (y, h.0)
 each_at Is (a ∷ before) x rest [] h = absurd h
@@ -86,22 +87,22 @@ not_fraction text NoShape x h is = h
 not_fraction text NoNumber x h is = h (ratio x) is.0
 not_fraction text TooGreat x (y, w, over) is = over (subst (λ (z : Ratio). Fits Exact z) (ratio_once text (ratio x) y is.0.form w.form) is.1)
 
-pub no_fractions : (before rest es : List Element) (e : Element) (text : List ℕ) (u : Unread) → before ++ e ∷ rest ≡ es → text ≡ own_text e → IsNot Exact text u → (xs : List Frac) → Each IsFraction (map own_text es) xs → ⊥
+pub no_fractions : (before rest es : List Element) (e : Element) (text : List ℕ) (u : Unread) → before ++ e ∷ rest ≡ es → text ≡ own_text e → IsNot Exact text u → (xs : List Frac) → AllZip IsFraction (map own_text es) xs → ⊥
 no_fractions before rest es e text u total is unread xs each =
-    let at = each_at IsFraction (map own_text before) (own_text e) (map own_text rest) xs (subst (λ (l : List (List ℕ)). Each IsFraction l xs) (ap (map own_text) (sym total) ∙ map_split before e rest) each) in
+    let at = each_at IsFraction (map own_text before) (own_text e) (map own_text rest) xs (subst (λ (l : List (List ℕ)). AllZip IsFraction l xs) (ap (map own_text) (sym total) ∙ map_split before e rest) each) in
     not_fraction text u at.0 unread (subst (λ (t : List ℕ). IsFraction t at.0) (sym is) at.1)
 
 -- one number more
-pub fraction_more : (before : List Element) (e : Element) (text : List ℕ) (old new : List Frac) (x : Frac) → new ≡ old ++ x ∷ [] → text ≡ own_text e → IsNumber Exact text (ratio x) → Each IsFraction (map own_text before) old → Each IsFraction (map own_text (before ++ e ∷ [])) new
+pub fraction_more : (before : List Element) (e : Element) (text : List ℕ) (old new : List Frac) (x : Frac) → new ≡ old ++ x ∷ [] → text ≡ own_text e → IsNumber Exact text (ratio x) → AllZip IsFraction (map own_text before) old → AllZip IsFraction (map own_text (before ++ e ∷ [])) new
 fraction_more before e text old new x add is h each =
     let more = each_more IsFraction (map own_text before) old (own_text e) x each (subst (λ (t : List ℕ). IsNumber Exact t (ratio x)) is h) in
-    subst (λ (l : List (List ℕ)). Each IsFraction l new) (sym (map_split before e [])) (subst (λ (l : List Frac). Each IsFraction (map own_text before ++ own_text e ∷ []) l) (sym add) more)
+    subst (λ (l : List (List ℕ)). AllZip IsFraction l new) (sym (map_split before e [])) (subst (λ (l : List Frac). AllZip IsFraction (map own_text before ++ own_text e ∷ []) l) (sym add) more)
 
 -- a text is one number, and texts are one list of them
 pub fraction_once : (text : List ℕ) (x y : Frac) → IsFraction text x → IsFraction text y → x ≡ y
 fraction_once text x y h k = one_fraction x y (ratio_once text (ratio x) (ratio y) h.0.form k.0.form)
 
-pub each_once : {X Y : Type 0} (Is : X → Y → Type 0) → ((x : X) (y z : Y) → Is x y → Is x z → y ≡ z) → (xs : List X) (ys zs : List Y) → Each Is xs ys → Each Is xs zs → ys ≡ zs
+pub each_once : {X Y : Type 0} (Is : X → Y → Type 0) → ((x : X) (y z : Y) → Is x y → Is x z → y ≡ z) → (xs : List X) (ys zs : List Y) → AllZip Is xs ys → AllZip Is xs zs → ys ≡ zs
 each_once Is once [] [] [] h k = refl
 each_once Is once [] [] (z ∷ zs) h k = absurd k
 each_once Is once [] (y ∷ ys) zs h k = absurd h
@@ -112,7 +113,7 @@ each_once Is once (x ∷ xs) (y ∷ ys) (z ∷ zs) h k =
     let more = each_once Is once xs ys zs h.1 k.1 in
     cc
 
-once_in : {X : Type 0} (Is : List ℕ → X → Type 0) → ((t : List ℕ) (y z : X) → Is t y → Is t z → y ≡ z) → (o : Option Element) (xs ys : List X) → IsSomeAnd o (λ e. Each Is (item_texts e) xs) → IsSomeAnd o (λ e. Each Is (item_texts e) ys) → xs ≡ ys
+once_in : {X : Type 0} (Is : List ℕ → X → Type 0) → ((t : List ℕ) (y z : X) → Is t y → Is t z → y ≡ z) → (o : Option Element) (xs ys : List X) → IsSomeAnd o (λ e. AllZip Is (item_texts e) xs) → IsSomeAnd o (λ e. AllZip Is (item_texts e) ys) → xs ≡ ys
 once_in Is once None xs ys h k = absurd h
 once_in Is once (Some e) xs ys h k = each_once Is once (item_texts e) xs ys h k
 
@@ -186,21 +187,21 @@ pub in_slice : (slice items : List Spot) (es : List Element) → slice ≡ items
 in_slice slice items es is spots = subst (λ (l : List Spot). AreSpots l es) (sym is) spots
 
 -- one node more
-pub node_more : (before : List Element) (e : Element) (text : List ℕ) (old new : List Node) (n : Node) → new ≡ old ++ n ∷ [] → text ≡ own_text e → IsNode text n → Each IsNode (map own_text before) old → Each IsNode (map own_text (before ++ e ∷ [])) new
+pub node_more : (before : List Element) (e : Element) (text : List ℕ) (old new : List Node) (n : Node) → new ≡ old ++ n ∷ [] → text ≡ own_text e → IsNode text n → AllZip IsNode (map own_text before) old → AllZip IsNode (map own_text (before ++ e ∷ [])) new
 node_more before e text old new n add is h each =
     let more = each_more IsNode (map own_text before) old (own_text e) n each (subst (λ (t : List ℕ). IsNode t n) is h) in
-    subst (λ (l : List (List ℕ)). Each IsNode l new) (sym (map_split before e [])) (subst (λ (l : List Node). Each IsNode (map own_text before ++ own_text e ∷ []) l) (sym add) more)
+    subst (λ (l : List (List ℕ)). AllZip IsNode l new) (sym (map_split before e [])) (subst (λ (l : List Node). AllZip IsNode (map own_text before ++ own_text e ∷ []) l) (sym add) more)
 
-pub no_nodes : (before rest es : List Element) (e : Element) (text : List ℕ) (u : Unread) → before ++ e ∷ rest ≡ es → text ≡ own_text e → IsUnread (node_item text) u → (ns : List Node) → Each IsNode (map own_text es) ns → ⊥
+pub no_nodes : (before rest es : List Element) (e : Element) (text : List ℕ) (u : Unread) → before ++ e ∷ rest ≡ es → text ≡ own_text e → IsUnread (node_item text) u → (ns : List Node) → AllZip IsNode (map own_text es) ns → ⊥
 no_nodes before rest es e text u total is unread ns each =
-    let at = each_at IsNode (map own_text before) (own_text e) (map own_text rest) ns (subst (λ (l : List (List ℕ)). Each IsNode l ns) (ap (map own_text) (sym total) ∙ map_split before e rest) each) in
+    let at = each_at IsNode (map own_text before) (own_text e) (map own_text rest) ns (subst (λ (l : List (List ℕ)). AllZip IsNode l ns) (ap (map own_text) (sym total) ∙ map_split before e rest) each) in
     readable_apart (node_item text) u (node_readable text at.0 (subst (λ (t : List ℕ). IsNode t at.0) (sym is) at.1)) unread
 
 pub at_err : {X : Type 0} (r : Result X Unread) (u : Unread) (P : Unread → Type 0) → r ≡ Err u → IfErr r P → P u
 at_err {X} r u P e h = subst (λ (q : Result X Unread). IfErr q P) e h
 
 -- a list of one element
-pub not_one : (spots : List Spot) (es : List Element) (c : Cause) → length spots ≢ 1 → AreSpots spots es → Each IsCause (map own_text es) (c ∷ []) → ⊥
+pub not_one : (spots : List Spot) (es : List Element) (c : Cause) → length spots ≢ 1 → AreSpots spots es → AllZip IsCause (map own_text es) (c ∷ []) → ⊥
 not_one [] [] c several h each = each
 not_one [] (e ∷ es) c several h each = h
 not_one (s ∷ spots) [] c several h each = h
@@ -215,10 +216,10 @@ one_spot (a ∷ []) [] s one is h = absurd h
 one_spot (a ∷ []) (e ∷ []) s one is h = (e, refl, subst (λ (x : Spot). Stands x e) (sym is) h.0)
 one_spot (a ∷ []) (e ∷ d ∷ es) s one is h = absurd h.1
 
-pub no_cause : (es : List Element) (e : Element) (text : List ℕ) (u : Unread) (c : Cause) → es ≡ e ∷ [] → text ≡ own_text e → IsUnread (cause_item text) u → Each IsCause (map own_text es) (c ∷ []) → ⊥
+pub no_cause : (es : List Element) (e : Element) (text : List ℕ) (u : Unread) (c : Cause) → es ≡ e ∷ [] → text ≡ own_text e → IsUnread (cause_item text) u → AllZip IsCause (map own_text es) (c ∷ []) → ⊥
 no_cause es e text u c one is unread each =
-    let all = subst (λ (l : List Element). Each IsCause (map own_text l) (c ∷ [])) one each in
+    let all = subst (λ (l : List Element). AllZip IsCause (map own_text l) (c ∷ [])) one each in
     readable_apart (cause_item text) u (cause_readable text c (subst (λ (t : List ℕ). IsCause t c) (sym is) all.0)) unread
 
-pub one_said : (es : List Element) (e : Element) (text : List ℕ) (c : Cause) → es ≡ e ∷ [] → text ≡ own_text e → IsCause text c → Each IsCause (map own_text es) (c ∷ [])
-one_said es e text c one is says = subst (λ (l : List Element). Each IsCause (map own_text l) (c ∷ [])) (sym one) (subst (λ (t : List ℕ). IsCause t c) is says, tt)
+pub one_said : (es : List Element) (e : Element) (text : List ℕ) (c : Cause) → es ≡ e ∷ [] → text ≡ own_text e → IsCause text c → AllZip IsCause (map own_text es) (c ∷ [])
+one_said es e text c one is says = subst (λ (l : List Element). AllZip IsCause (map own_text l) (c ∷ [])) (sym one) (subst (λ (t : List ℕ). IsCause t c) is says, tt)

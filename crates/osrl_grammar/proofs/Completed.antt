@@ -9,7 +9,7 @@ use Rattle.certificate.specs.declared.claims.Claim.{Claim}
 use Rattle.osrl_grammar.specs.declared.parts.Part.{Part}
 use Rattle.osrl_grammar.specs.declared.report.JobStatus.{JobStatus}
 use Rattle.osrl_grammar.specs.declared.report.Report.{Report}
-use Rattle.osrl_grammar.specs.Elements.{attribute, first_within, own_text}
+use Rattle.document_tags.specs.Elements.{attribute, first_within, own_text}
 use Rattle.osrl_grammar.specs.Items.{IsReadable}
 use Rattle.osrl_grammar.specs.Parts.{is_value, items_of, results, solutions, items}
 use Rattle.osrl_grammar.specs.Meaning.{text_in, SayClaim, Says}

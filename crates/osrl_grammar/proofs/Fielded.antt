@@ -1,7 +1,7 @@
 -- What is wrong with texts in place of numbers.
 use Rattle.std.proofs.Common.{◌≡◌, ◌∙◌, ◌⊎◌, inl, inr, Option, None, Some, Result, Ok, Err, List, [], ◌∷◌, ◌++◌, ℕ, pos, ap, sym, subst}
 use Rattle.std.specs.Prelude.{flat_map, IfOk, IfErr, MatchOption}
-use Rattle.std.specs.List.{All}
+use Rattle.std.specs.List.{All, AllZip}
 use Rattle.std.proofs.lemmas.Grind.{flat_map-append}
 use Rattle.std.proofs.lemmas.List.{append-nil}
 use Rattle.std.proofs.lemmas.List.Elements.{All-nil, All-cons, All-head, All-tail, All-append}
@@ -13,10 +13,10 @@ use Rattle.osrl_grammar.specs.declared.parts.Unread.{Unread}
 use Rattle.osrl_grammar.specs.declared.parts.Unread.TheVariants.{NoShape, NoNumber, TooGreat}
 use Rattle.osrl_grammar.specs.Numbers.{Kind, Index, Exact, Fits, IsNumber, Field, IsWritten, IsRead}
 use Rattle.osrl_grammar.specs.Items.{Item, Shape, HasShape, fields, Pair, pair_fields, IsUnread}
-use Rattle.osrl_grammar.specs.Values.{Each, IsMult}
+use Rattle.osrl_grammar.specs.Values.{IsMult}
 use Rattle.osrl_grammar.specs.Fields.{IsNot, AreNot, AreRead}
 use Rattle.osrl_grammar.specs.Pieces.{SoFar, IsPairRead}
-use Rattle.osrl_grammar.proofs.Spotted.{each_more}
+use Rattle.document_tags.proofs.Spotted.{each_more}
 
 pub all_left : {X : Type 0} (P : X → Type 0) (xs ys : List X) → All P (xs ++ ys) → All P xs
 all_left P [] ys h = All-nil P
@@ -83,7 +83,7 @@ at_result {X} fs r q e h = subst (λ (p : Result X Unread). AreRead fs p) e h
 pub mult_read : (p : Pair) (m : Mult) → IsMult p m → All IsRead (pair_fields p)
 mult_read p m h = All-cons IsRead (record { kind = Index; text = p.column }) (record { kind = Exact; text = p.factor } ∷ []) (whole (pos m.col), h.0) (alone IsRead (record { kind = Exact; text = p.factor }) (ratio m.value, h.1))
 
-pub mults_read : (ps : List Pair) (ms : List Mult) → Each IsMult ps ms → All IsRead (flat_map pair_fields ps)
+pub mults_read : (ps : List Pair) (ms : List Mult) → AllZip IsMult ps ms → All IsRead (flat_map pair_fields ps)
 mults_read [] [] h = All-nil IsRead
 mults_read (p ∷ ps) (m ∷ ms) h = All-append IsRead (pair_fields p) (flat_map pair_fields ps) (mult_read p m h.0) (mults_read ps ms h.1)
 mults_read [] (m ∷ ms) h = absurd h
@@ -94,7 +94,7 @@ fields_more done p = sym (flat_map-append pair_fields done (p ∷ []) ∙ ap (λ
 
 -- one multiplier more
 pub pushed : (done : List Pair) (p : Pair) (old new : List Mult) (fault : Option Unread) (m : Mult) → new ≡ old ++ m ∷ [] → SoFar done old fault → IsMult p m → SoFar (done ++ p ∷ []) new fault
-pushed done p old new None m is h k = subst (λ (l : List Mult). Each IsMult (done ++ p ∷ []) l) (sym is) (each_more IsMult done old p m h k)
+pushed done p old new None m is h k = subst (λ (l : List Mult). AllZip IsMult (done ++ p ∷ []) l) (sym is) (each_more IsMult done old p m h k)
 pushed done p old new (Some u) m is h k = subst (λ (l : List Field). AreNot l u) (fields_more done p) (then_read (flat_map pair_fields done) (pair_fields p) u h (mult_read p m k))
 
 -- what is wrong so far

@@ -1,9 +1,5 @@
-pub mod Told
 pub mod Listed
 pub mod Cut
-pub mod Finished
-pub mod Passed
-pub mod Spotted
 pub mod Exact
 pub mod Wholes
 pub mod Fielded
@@ -14,7 +10,6 @@ pub mod Walked
 pub mod Parted
 pub mod Once
 pub mod Claimed
-pub mod BackFlat
 pub mod BackTexts
 pub mod BackNodes
 pub mod BackText
@@ -33,3 +28,4 @@ pub mod Solved
 pub mod Completed
 pub mod Reported
 pub mod Found
+pub mod FewNodes

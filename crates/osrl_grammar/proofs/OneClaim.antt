@@ -18,7 +18,8 @@ use Rattle.osrl_grammar.specs.declared.parts.Part.{Part}
 use Rattle.osrl_grammar.specs.declared.parts.Part.TheVariants as parts
 use Rattle.osrl_grammar.specs.Numbers.{Kind, Index, Turn, Whole, IsNumber}
 use Rattle.osrl_grammar.specs.Items.{Pair, Shape, Split, Clash, Farkas, Bound, NodeLimit, TurnLimit, Wide}
-use Rattle.osrl_grammar.specs.Values.{Each, IsFraction, IsMult, SaysNode, SaysCause, IsNode, IsCause}
+use Rattle.std.specs.List.{AllZip}
+use Rattle.osrl_grammar.specs.Values.{IsFraction, IsMult, SaysNode, SaysCause, IsNode, IsCause}
 use Rattle.osrl_grammar.specs.Parts.{results}
 use Rattle.osrl_grammar.specs.Meaning.{HasNumbers, HasTree, HasCause, HasPoint, SaysClaim}
 use Rattle.osrl_grammar.proofs.Shaped.{word, unlike}
@@ -38,8 +39,8 @@ mult_once p m n h k =
     let value = fraction_once p.factor m.value n.value h.1 k.1 in
     ap₂ (λ (c : ℕ) (v : Frac). let x : Mult = record { col = c; value = v } in x) col value
 
-mults_once : (ps qs : List Pair) (ms ns : List Mult) → ps ≡ qs → Each IsMult ps ms → Each IsMult qs ns → ms ≡ ns
-mults_once ps qs ms ns same h k = each_once IsMult mult_once qs ms ns (subst (λ (l : List Pair). Each IsMult l ms) same h) k
+mults_once : (ps qs : List Pair) (ms ns : List Mult) → ps ≡ qs → AllZip IsMult ps ms → AllZip IsMult qs ns → ms ≡ ns
+mults_once ps qs ms ns same h k = each_once IsMult mult_once qs ms ns (subst (λ (l : List Pair). AllZip IsMult l ms) same h) k
 
 -- the word of a node, and of a cause
 abbrev node_word : Node → List ℕ

@@ -2,11 +2,6 @@
 use Rattle.std.proofs.Common.{◌≡◌, ◌≢◌, ◌∙◌, ◌⊎◌, inl, inr, ℕ, List, refl, ap, sym, subst}
 use Rattle.std.specs.List.{All}
 use Rattle.tree_grammar.specs.Elements.{Element}
-use Rattle.document_tags.specs.Texts.{document_limit}
-use Rattle.doc_tree.specs.declared.fault.TreeFault.{TreeFault}
-use Rattle.doc_tree.specs.declared.fault.TreeFault.TheVariants as trees
-use Rattle.doc_tree.proofs.OneRefusal.{one_refusal}
-use Rattle.doc_tree.proofs.Unambiguous.{one_tree}
 use Rattle.osrl_grammar.specs.declared.report.Report.{Report}
 use Rattle.osrl_grammar.specs.declared.fault.OsrlFault.{OsrlFault}
 use Rattle.osrl_grammar.specs.declared.fault.OsrlFault.TheVariants.{Tree, Root, Missing, Item, Count, Number, Wide, Memory}
@@ -14,8 +9,9 @@ use Rattle.osrl_grammar.specs.declared.parts.Unread.TheVariants.{NoShape, NoNumb
 use Rattle.osrl_grammar.specs.Items.{IsReadable}
 use Rattle.osrl_grammar.specs.Parts.{items}
 use Rattle.osrl_grammar.specs.Refusals.{IsNamed, IsCounted, IsComplete, RefusesItem, IsRefused}
-use Rattle.osrl_grammar.specs.Meaning.{IsReport, IsReportText, IsRefusedText}
-use Rattle.osrl_grammar.specs.Reading.{TreeFails, DecodeFails}
+use Rattle.osrl_grammar.specs.Meaning.{IsReport}
+use Rattle.osrl_grammar.specs.Reading.{IsReportText, DecodeFails}
+use Rattle.document_tags.proofs.OneDocument.{fails_once, fails_apart}
 use Rattle.osrl_grammar.proofs.OneItem.{item_once, none_refused}
 use Rattle.osrl_grammar.proofs.Completed.{says_complete}
 
@@ -64,45 +60,11 @@ way_apart root r f is (inr (named, inr (all, inr h))) = h.2 (says_complete root 
 pub report_apart : (root : Element) (r : Report) (f : OsrlFault) → IsReport root r → IsRefused root f → ⊥
 report_apart root r f is h = way_apart root r f is (way root f h)
 
--- why bytes aren't read, but for want of memory
-abbrev Fails : List ℕ → OsrlFault → Type 0
-Fails bytes f = ((t : TreeFault) × (f ≡ Tree t) × TreeFails bytes t) ⊎ IsRefusedText bytes f
-
-fails : (bytes : List ℕ) (f : OsrlFault) → DecodeFails bytes f → (f ≡ Memory) ⊎ Fails bytes f
-fails bytes (Tree (trees.Malformed at)) h = inr (inl (trees.Malformed at, refl, h))
-fails bytes (Tree (trees.Doctype at)) h = inr (inl (trees.Doctype at, refl, h))
-fails bytes (Tree trees.Encoding) h = inr (inl (trees.Encoding, refl, h))
-fails bytes (Tree (trees.Deep at)) h = inr (inl (trees.Deep at, refl, h))
-fails bytes (Tree trees.Long) h = inr (inl (trees.Long, refl, h))
-fails bytes (Tree trees.Memory) h = absurd h
-fails bytes Memory h = inl refl
-fails bytes f h = inr (inr h)
-
-fails_once : (bytes : List ℕ) (f g : OsrlFault) → Fails bytes f → Fails bytes g → f ≡ g
-fails_once bytes f g (inl (t, e, h)) (inl (s, d, k)) = e ∙ ap (λ (x : TreeFault). Tree x) (one_refusal document_limit bytes t s h.0 k.0) ∙ sym d
-fails_once bytes f g (inl (t, e, h)) (inr k) = absurd (h.1 k.root k.document)
-fails_once bytes f g (inr h) (inl (s, d, k)) = absurd (k.1 h.root h.document)
-fails_once bytes f g (inr h) (inr k) =
-    let same : h.root ≡ k.root = one_tree bytes h.root k.root h.document.document k.document.document in
-    refused_once k.root f g (subst (λ (e : Element). IsRefused e f) same h.refused) k.refused
-
-either_once : (bytes : List ℕ) (f g : OsrlFault) → f ≢ Memory → g ≢ Memory → (f ≡ Memory) ⊎ Fails bytes f → (g ≡ Memory) ⊎ Fails bytes g → f ≡ g
-either_once bytes f g other another (inl h) k = absurd (other h)
-either_once bytes f g other another (inr h) (inl k) = absurd (another k)
-either_once bytes f g other another (inr h) (inr k) = fails_once bytes f g h k
-
 pub refusal_once : (bytes : List ℕ) (f g : OsrlFault) → f ≢ Memory → g ≢ Memory → DecodeFails bytes f → DecodeFails bytes g → f ≡ g
-refusal_once bytes f g other another h k = either_once bytes f g other another (fails bytes f h) (fails bytes g k)
-
-fails_apart : (bytes : List ℕ) (r : Report) (f : OsrlFault) → IsReportText bytes r → Fails bytes f → ⊥
-fails_apart bytes r f is (inl (t, e, h)) = h.1 is.root is.document
-fails_apart bytes r f is (inr h) =
-    let same : h.root ≡ is.root = one_tree bytes h.root is.root h.document.document is.document.document in
-    report_apart is.root r f is.report (subst (λ (e : Element). IsRefused e f) same h.refused)
-
-only_memory : (bytes : List ℕ) (r : Report) (f : OsrlFault) → IsReportText bytes r → (f ≡ Memory) ⊎ Fails bytes f → f ≡ Memory
-only_memory bytes r f is (inl h) = h
-only_memory bytes r f is (inr h) = absurd (fails_apart bytes r f is h)
+refusal_once bytes f g other another (inl h) k = absurd (other h)
+refusal_once bytes f g other another (inr h) (inl k) = absurd (another k)
+refusal_once bytes f g other another (inr h) (inr k) = fails_once (λ t. Tree t) IsRefused refused_once bytes f g h k
 
 pub refusal_apart : (bytes : List ℕ) (r : Report) (f : OsrlFault) → IsReportText bytes r → DecodeFails bytes f → f ≡ Memory
-refusal_apart bytes r f is h = only_memory bytes r f is (fails bytes f h)
+refusal_apart bytes r f is (inl h) = h
+refusal_apart bytes r f is (inr h) = absurd (fails_apart (λ t. Tree t) IsReport IsRefused report_apart bytes r f is h)

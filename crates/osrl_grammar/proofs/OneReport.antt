@@ -2,15 +2,16 @@
 use Rattle.std.proofs.Common.{◌≡◌, ◌∙◌, ◌↔◌, ℕ, Bool, true, false, Option, None, Some, List, [], ◌∷◌, refl, ap, sym, subst}
 use Rattle.std.specs.Prelude.{IsTrue, IsSomeAnd, codes}
 use Rattle.tree_grammar.specs.Elements.{Element}
-use Rattle.doc_tree.proofs.Unambiguous.{one_tree}
 use Rattle.certificate.specs.declared.claims.Claim.{Claim}
 use Rattle.osrl_grammar.specs.declared.report.JobStatus.{JobStatus}
 use Rattle.osrl_grammar.specs.declared.report.JobStatus.TheVariants as statuses
 use Rattle.osrl_grammar.specs.declared.report.Report.{Report}
-use Rattle.osrl_grammar.specs.Elements.{attribute, first_within, own_text}
+use Rattle.document_tags.specs.Elements.{attribute, first_within, own_text}
 use Rattle.osrl_grammar.specs.Parts.{solutions}
 use Rattle.osrl_grammar.specs.Refusals.{general_path, job_path, status_text}
-use Rattle.osrl_grammar.specs.Meaning.{SayClaim, Says, IsReport, IsReportText}
+use Rattle.osrl_grammar.specs.Meaning.{SayClaim, Says, IsReport}
+use Rattle.osrl_grammar.specs.Reading.{IsReportText}
+use Rattle.document_tags.proofs.OneDocument.{document_once}
 use Rattle.osrl_grammar.proofs.Shaped.{unlike}
 use Rattle.osrl_grammar.proofs.OneClaim.{claim_once}
 
@@ -68,6 +69,4 @@ pub report_once : (root : Element) (r s : Report) → IsReport root r → IsRepo
 report_once root r s a b = says_once root r s a.says b.says
 
 pub report_text_once : (bytes : List ℕ) (r s : Report) → IsReportText bytes r → IsReportText bytes s → r ≡ s
-report_text_once bytes r s a b =
-    let same : a.root ≡ b.root = one_tree bytes a.root b.root a.document.document b.document.document in
-    report_once b.root r s (subst (λ (e : Element). IsReport e r) same a.report) b.report
+report_text_once bytes r s a b = document_once IsReport report_once bytes r s a b

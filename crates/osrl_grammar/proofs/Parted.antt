@@ -1,7 +1,7 @@
 -- Results by their parts.
 use Rattle.std.proofs.Common.{◌≡◌, ◌∙◌, ℕ, ◌+◌, ◌<◌, ◌≤◌, Bool, true, false, cond, Option, None, Some, List, [], ◌∷◌, ◌++◌, length, get_or, slice_get, map, refl, sym, ap, subst, append_assoc, append-nil, arith}
 use Rattle.std.specs.Prelude.{flat_map, codes, MatchOption}
-use Rattle.std.specs.List.{All}
+use Rattle.std.specs.List.{All, AllZip}
 use Rattle.std.proofs.lemmas.Slice.Eq.{bytes_eq-Decides}
 use Rattle.std.proofs.lemmas.List.{length-append}
 use Rattle.std.proofs.lemmas.List.Elements.{All-nil, All-head, All-append}
@@ -9,17 +9,17 @@ use Rattle.tree_grammar.specs.Elements.{Element}
 use Rattle.osrl_grammar.specs.declared.parts.Part.{Part}
 use Rattle.osrl_grammar.specs.declared.parts.Part.TheVariants.{Point, Value, Ray, Tree, Cause}
 use Rattle.osrl_grammar.specs.declared.parts.Unread.{Unread}
-use Rattle.osrl_grammar.specs.declared.spot.Spot.{Spot}
+use Rattle.document_tags.specs.declared.spot.Spot.{Spot}
 use Rattle.osrl_grammar.specs.declared.checks.Entry.{Entry}
-use Rattle.osrl_grammar.specs.Elements.{attribute, children_named, within, own_text}
+use Rattle.document_tags.specs.Elements.{attribute, children_named, within, own_text}
 use Rattle.osrl_grammar.specs.Items.{Item, IsReadable, IsUnread}
-use Rattle.osrl_grammar.specs.Values.{Each}
 use Rattle.osrl_grammar.specs.Parts.{part_name, parts, is_value, is_part, of_part, item_texts, items_among, items_as, items_of}
 use Rattle.osrl_grammar.specs.Refusals.{MayHold, IsPartCounted, WasSeen, SeesNext, RefusesItem, refusal}
-use Rattle.osrl_grammar.specs.Spots.{Stands, AreSpots, IsSpot, IsEntry, AreItems}
+use Rattle.document_tags.specs.Spots.{Stands, AreSpots, IsSpot}
+use Rattle.osrl_grammar.specs.Spots.{IsEntry, AreItems}
 use Rattle.osrl_grammar.proofs.Fielded.{alone}
 use Rattle.std.proofs.lemmas.Grind.{flat_map-append}
-use Rattle.osrl_grammar.proofs.Spotted.{each_more}
+use Rattle.document_tags.proofs.Spotted.{each_more}
 
 -- what holds of each part
 pub each_part : (P : Part → Type 0) (n : ℕ) → 5 ≤ n → ((k : ℕ) → k < n → P (get_or parts k Point)) → (p : Part) → P p
@@ -94,7 +94,7 @@ counted p false es none = record {
   holds = subst (λ (l : List Element). All (λ (d : Element). MayHold p (length (item_texts d))) l) (sym none) (All-nil (λ (d : Element). MayHold p (length (item_texts d))));
 }
 
-pub each_length : {X Y : Type 0} (Is : X → Y → Type 0) (xs : List X) (ys : List Y) → Each Is xs ys → length xs ≡ length ys
+pub each_length : {X Y : Type 0} (Is : X → Y → Type 0) (xs : List X) (ys : List Y) → AllZip Is xs ys → length xs ≡ length ys
 each_length Is [] [] h = refl
 each_length Is [] (y ∷ ys) h = absurd h
 each_length Is (x ∷ xs) [] h = absurd h

@@ -3,7 +3,7 @@ use Rattle.std.proofs.Common.{◌≡◌, ◌∙◌, ℕ, List, [], ◌∷◌, �
 use Rattle.std.specs.Prelude.{flat_map}
 use Rattle.std.proofs.lemmas.Grind.{flat_map-append}
 use Rattle.tree_grammar.specs.Elements.{Element}
-use Rattle.osrl_grammar.specs.Elements.{children_named, along, within}
+use Rattle.document_tags.specs.Elements.{children_named, along, within}
 
 along-append : (names : List (List ℕ)) (xs ys : List Element) → along names (xs ++ ys) ≡ along names xs ++ along names ys
 along-append [] xs ys = refl

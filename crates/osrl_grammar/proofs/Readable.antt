@@ -1,7 +1,7 @@
 -- What nothing is wrong with says something: numbers, nodes and causes.
 use Rattle.std.proofs.Common.{◌≡◌, ℕ, ℤ, pos, List, [], ◌∷◌, refl, sym, subst}
 use Rattle.std.specs.Prelude.{flat_map}
-use Rattle.std.specs.List.{All}
+use Rattle.std.specs.List.{All, AllZip}
 use Rattle.std.proofs.lemmas.List.Elements.{All-head, All-tail}
 use Rattle.rational.specs.Ratio.{Ratio, whole}
 use Rattle.rational.specs.Width.{IsReduced, IsWithin}
@@ -15,7 +15,7 @@ use Rattle.certificate.specs.declared.causes.Cause as why
 use Rattle.certificate.specs.declared.causes.Cause.TheVariants as causes
 use Rattle.osrl_grammar.specs.Numbers.{Kind, Index, Turn, Whole, Exact, IsNumber, Field, IsRead}
 use Rattle.osrl_grammar.specs.Items.{Pair, pair_fields, Shape, Number, Split, Clash, Farkas, Bound, Killed, NodeLimit, TurnLimit, Wide, Length, Memory, shape_text, fields, IsNumberShape, IsNodeShape, IsCauseShape, IsReadable}
-use Rattle.osrl_grammar.specs.Values.{Each, IsFraction, IsMult, SaysNode, SaysCause, IsNode, IsCause}
+use Rattle.osrl_grammar.specs.Values.{IsFraction, IsMult, SaysNode, SaysCause, IsNode, IsCause}
 use Rattle.osrl_grammar.specs.Pieces.{node_item, cause_item}
 use Rattle.osrl_grammar.proofs.Wholes.{IsSizes, index_sizes, turn_sizes}
 use Rattle.osrl_grammar.proofs.Fielded.{all_left, all_right}
@@ -52,7 +52,7 @@ mult_said p h =
     let m : Mult = record { col = column.0; value = factor.0 } in
     (m, (column.1, factor.1))
 
-mults_said : (ps : List Pair) → All IsRead (flat_map pair_fields ps) → (ms : List Mult) × Each IsMult ps ms
+mults_said : (ps : List Pair) → All IsRead (flat_map pair_fields ps) → (ms : List Mult) × AllZip IsMult ps ms
 mults_said [] h = ([], tt)
 mults_said (p ∷ ps) h =
     let first = mult_said p (all_left IsRead (pair_fields p) (flat_map pair_fields ps) h) in

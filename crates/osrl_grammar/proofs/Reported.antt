@@ -10,13 +10,13 @@ use Rattle.osrl_grammar.specs.declared.parts.Unread.TheVariants.{NoShape, NoNumb
 use Rattle.osrl_grammar.specs.declared.report.Report.{Report}
 use Rattle.osrl_grammar.specs.declared.fault.OsrlFault.{OsrlFault}
 use Rattle.osrl_grammar.specs.declared.fault.OsrlFault.TheVariants.{Missing}
-use Rattle.osrl_grammar.specs.declared.spot.Spot.{Spot}
+use Rattle.document_tags.specs.declared.spot.Spot.{Spot}
 use Rattle.osrl_grammar.specs.Items.{IsReadable}
 use Rattle.osrl_grammar.specs.Parts.{solutions, all_results, items}
 use Rattle.osrl_grammar.specs.Refusals.{IsNamed, IsPartCounted, IsCounted, IsFirstUnread, RefusesItem, refusal, IsRefused}
 use Rattle.osrl_grammar.specs.Meaning.{SaysClaim, SayClaim, Says}
 use Rattle.osrl_grammar.specs.Claiming.{IsOnly}
-use Rattle.osrl_grammar.specs.Spots.{Stands, AreSpots, IsSpot}
+use Rattle.document_tags.specs.Spots.{Stands, AreSpots, IsSpot}
 use Rattle.osrl_grammar.proofs.Parted.{each_length}
 use Rattle.osrl_grammar.proofs.Worded.{same_word, other_word}
 use Rattle.osrl_grammar.proofs.Completed.{complete_says}

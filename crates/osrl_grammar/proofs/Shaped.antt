@@ -2,7 +2,7 @@
 use denote.Ref.{Bor}
 use Rattle.std.proofs.Common.{◌≡◌, ◌∙◌, ◌≢◌, append_assoc, ℕ, ◌+◌, ◌<◌, Bool, true, false, cond, nat_eq, Option, None, Some, Err, List, [], ◌∷◌, ◌++◌, length, refl, ap, sym, subst, eq-eqb, arith}
 use Rattle.std.specs.Prelude.{flat_map, MatchOption, codes, bytes_eq}
-use Rattle.std.specs.List.{All}
+use Rattle.std.specs.List.{All, AllZip}
 use Rattle.std.proofs.lemmas.Slice.Eq.{bytes_eq-Decides}
 use Rattle.std.proofs.lemmas.List.{append-nil, append_cancel_left, length-append}
 use Rattle.std.proofs.lemmas.List.Elements.{All-nil, All-head, All-tail, All-append}
@@ -11,7 +11,7 @@ use Rattle.certificate.specs.declared.lists.Mult.{Mult}
 use Rattle.osrl_grammar.specs.declared.parts.Unread.{Unread}
 use Rattle.osrl_grammar.specs.declared.parts.Unread.TheVariants.{NoShape, NoNumber, TooGreat}
 use Rattle.osrl_grammar.specs.Items.{Pair, IsFree, IsPair, pair_text, pair_fields, Shape, Number, Split, Clash, Farkas, Bound, Killed, NodeLimit, TurnLimit, Wide, Length, Memory, step_text, shape_text, IsNodeShape, IsCauseShape, IsNumberShape, HasShape}
-use Rattle.osrl_grammar.specs.Values.{Each, IsMult}
+use Rattle.osrl_grammar.specs.Values.{IsMult}
 use Rattle.osrl_grammar.specs.Fields.{AreNot}
 use Rattle.osrl_grammar.specs.Pieces.{AreTwo, tail, HasPairs, SoFar, ArePairsRead, node_item}
 use Rattle.osrl_grammar.proofs.Wholes.{free_nil, free_cons, free_append, not_free}
@@ -190,7 +190,7 @@ pub record Begins (text rest : List ℕ) (ms : List Mult) (fault : Option Unread
   pub so_far : SoFar done ms fault
 
 pub begins_none : (text : List ℕ) (ms : List Mult) → ms ≡ [] → Begins text text ms None
-begins_none text ms e = record { done = []; parts = refl; pairs = All-nil IsPair; so_far = subst (λ (l : List Mult). Each IsMult [] l) (sym e) tt }
+begins_none text ms e = record { done = []; parts = refl; pairs = All-nil IsPair; so_far = subst (λ (l : List Mult). AllZip IsMult [] l) (sym e) tt }
 
 -- a pair as it is written
 pair_behind : (text piece rest : List ℕ) (done : List Pair) (p : Pair) → text ≡ flat_map pair_text done ++ (32 ∷ (piece ++ rest)) → piece ≡ p.column ++ 58 ∷ p.factor → text ≡ flat_map pair_text (done ++ p ∷ []) ++ rest

@@ -1,7 +1,7 @@
 -- A solution claims something where all the parts are there that it needs.
 use Rattle.std.proofs.Common.{◌≡◌, ℕ, Bool, true, false, cond, Option, None, Some, List, [], ◌∷◌, length, slice_get, map, refl, sym, subst, arith}
 use Rattle.std.specs.Prelude.{IsSome, IsSomeAnd, flat_map, codes}
-use Rattle.std.specs.List.{All}
+use Rattle.std.specs.List.{All, AllZip}
 use Rattle.std.proofs.lemmas.List.Elements.{All-nil, All-cons, All-head, All-tail}
 use Rattle.tree_grammar.specs.Elements.{Element}
 use Rattle.fraction.specs.declared.frac.Frac.{Frac}
@@ -12,9 +12,9 @@ use Rattle.osrl_grammar.specs.declared.parts.Part.{Part}
 use Rattle.osrl_grammar.specs.declared.parts.Part.TheVariants.{Point, Value, Ray, Tree, Cause}
 use Rattle.osrl_grammar.specs.declared.parts.Claiming.{Claiming}
 use Rattle.osrl_grammar.specs.declared.parts.Claiming.TheVariants.{Optimal, Infeasible, Unbounded, BestSoFar, Unsure}
-use Rattle.osrl_grammar.specs.Elements.{children_named, own_text}
+use Rattle.document_tags.specs.Elements.{children_named, own_text}
 use Rattle.osrl_grammar.specs.Items.{Shape, IsNumberShape, IsOfPart, IsReadable}
-use Rattle.osrl_grammar.specs.Values.{Each, IsFraction, IsNode, IsCause}
+use Rattle.osrl_grammar.specs.Values.{IsFraction, IsNode, IsCause}
 use Rattle.osrl_grammar.specs.Parts.{is_part, of_part, item_texts, items_among, items_of, results, first_part}
 use Rattle.osrl_grammar.specs.Meaning.{HasPart, SaysClaim}
 use Rattle.osrl_grammar.specs.Refusals.{IsPartCounted, needed, Claims, IsSolution}
@@ -42,24 +42,24 @@ part_read p (r ∷ es) h = kept p r (of_part p es) (is_part p r) refl (all_left 
 abbrev Says : (X : Type 0) → Part → (List ℕ → X → Type 0) → Type 0
 Says X p Is = (text : List ℕ) → IsReadable (record { part = p; text = text }) → (x : X) × Is text x
 
-items_said : {X : Type 0} (p : Part) (Is : List ℕ → X → Type 0) (es : List Element) → Says X p Is → All IsReadable (items_among p es) → (xs : List X) × Each Is (map own_text es) xs
+items_said : {X : Type 0} (p : Part) (Is : List ℕ → X → Type 0) (es : List Element) → Says X p Is → All IsReadable (items_among p es) → (xs : List X) × AllZip Is (map own_text es) xs
 items_said p Is [] says h = ([], tt)
 items_said p Is (e ∷ es) says h =
     let first = says (own_text e) (All-head IsReadable (record { part = p; text = own_text e }) (items_among p es) h) in
     let more = items_said p Is es says (All-tail IsReadable (record { part = p; text = own_text e }) (items_among p es) h) in
     (first.0 ∷ more.0, (first.1, more.1))
 
-first_said : {X : Type 0} (p : Part) (Is : List ℕ → X → Type 0) (rs : List Element) → Says X p Is → IsSome (slice_get rs 0) → All (IsPartRead p) rs → (xs : List X) × IsSomeAnd (slice_get rs 0) (λ r. Each Is (item_texts r) xs)
+first_said : {X : Type 0} (p : Part) (Is : List ℕ → X → Type 0) (rs : List Element) → Says X p Is → IsSome (slice_get rs 0) → All (IsPartRead p) rs → (xs : List X) × IsSomeAnd (slice_get rs 0) (λ r. AllZip Is (item_texts r) xs)
 first_said p Is [] says some h = absurd (let f : false ≡ true = some in cc)
 first_said p Is (r ∷ rs) says some h = items_said p Is (children_named (codes "item") r) says (All-head (IsPartRead p) r rs h)
 
-one_of : {X : Type 0} (Is : List ℕ → X → Type 0) (texts : List (List ℕ)) (xs : List X) → length texts ≡ 1 → Each Is texts xs → (x : X) × Each Is texts (x ∷ [])
+one_of : {X : Type 0} (Is : List ℕ → X → Type 0) (texts : List (List ℕ)) (xs : List X) → length texts ≡ 1 → AllZip Is texts xs → (x : X) × AllZip Is texts (x ∷ [])
 one_of Is texts (x ∷ []) one h = (x, h)
 one_of Is texts [] one h = absurd (let size = each_length Is texts [] h in omega (arith, one, size))
 one_of Is texts (x ∷ y ∷ xs) one h = absurd (let size = each_length Is texts (x ∷ y ∷ xs) h in omega (arith, one, size))
 
 -- a part that holds one item says one thing
-one_said : {X : Type 0} (p : Part) (Is : List ℕ → X → Type 0) (rs : List Element) → Says X p Is → IsSome (slice_get rs 0) → All (IsPartRead p) rs → All (λ r. length (item_texts r) ≡ 1) rs → (x : X) × IsSomeAnd (slice_get rs 0) (λ r. Each Is (item_texts r) (x ∷ []))
+one_said : {X : Type 0} (p : Part) (Is : List ℕ → X → Type 0) (rs : List Element) → Says X p Is → IsSome (slice_get rs 0) → All (IsPartRead p) rs → All (λ r. length (item_texts r) ≡ 1) rs → (x : X) × IsSomeAnd (slice_get rs 0) (λ r. AllZip Is (item_texts r) (x ∷ []))
 one_said p Is [] says some h holds = absurd (let f : false ≡ true = some in cc)
 one_said p Is (r ∷ rs) says some h holds =
     let all = items_said p Is (children_named (codes "item") r) says (All-head (IsPartRead p) r rs h) in
@@ -132,7 +132,7 @@ solution_claims e sound (c, by, there) = claim_of e c sound by there
 
 -- and only there
 part_there : {X : Type 0} (e : Element) (p : Part) (Is : List ℕ → X → Type 0) (xs : List X) → HasPart e p Is xs → IsThere e p
-part_there e p Is xs h = some_there (first_part p e) (λ r. Each Is (item_texts r) xs) h
+part_there e p Is xs h = some_there (first_part p e) (λ r. AllZip Is (item_texts r) xs) h
 
 pub claims_solution : (e : Element) (claim : Claim) → SaysClaim e claim → IsSolution e
 claims_solution e (claims.Optimal x v ns) h = (

@@ -1,4 +1,3 @@
-pub mod Elements
 pub mod Numbers
 pub mod Items
 pub mod Values
@@ -9,8 +8,6 @@ pub mod Cuts
 pub mod Writing
 pub mod Texts
 pub mod Reading
-pub mod Telling
-pub mod Passing
 pub mod Spots
 pub mod Fields
 pub mod Pieces

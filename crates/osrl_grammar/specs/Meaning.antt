@@ -1,8 +1,7 @@
 -- What a result document reports, where nothing of it is refused (Optimization Services result language).
 use Rattle.std.specs.Prelude.{◌≡◌, ◌↔◌, ℕ, IsTrue, Option, None, Some, IsSomeAnd, List, [], ◌∷◌, codes}
-use Rattle.std.specs.List.{All}
+use Rattle.std.specs.List.{All, AllZip}
 use Rattle.tree_grammar.specs.Elements.{Element}
-use Rattle.document_tags.specs.Texts.{IsDocument}
 use Rattle.decimal_text.specs.Space.{trimmed}
 use Rattle.fraction.specs.declared.frac.Frac.{Frac}
 use Rattle.certificate.specs.declared.nodes.Node.{Node}
@@ -10,15 +9,14 @@ use Rattle.certificate.specs.declared.causes.Cause.{Cause}
 use Rattle.certificate.specs.declared.claims.Claim.{Claim}
 use Rattle.certificate.specs.declared.claims.Claim.TheVariants.{Optimal, Infeasible, Unbounded, BestSoFar, Unsure}
 use Rattle.osrl_grammar.specs.declared.report.Report.{Report}
-use Rattle.osrl_grammar.specs.declared.fault.OsrlFault.{OsrlFault}
-use Rattle.osrl_grammar.specs.Elements.{attribute, first_within, own_text}
+use Rattle.document_tags.specs.Elements.{attribute, first_within, own_text}
 use Rattle.osrl_grammar.specs.declared.parts.Part.{Part}
 use Rattle.osrl_grammar.specs.declared.parts.Part.TheVariants as parts
 use Rattle.osrl_grammar.specs.declared.parts.Claiming.TheVariants as claiming
 use Rattle.osrl_grammar.specs.Items.{IsReadable}
-use Rattle.osrl_grammar.specs.Values.{Each, IsFraction, IsNode, IsCause}
+use Rattle.osrl_grammar.specs.Values.{IsFraction, IsNode, IsCause}
 use Rattle.osrl_grammar.specs.Parts.{first_part, item_texts, solutions, items}
-use Rattle.osrl_grammar.specs.Refusals.{IsNamed, IsCounted, general_path, job_path, status_text, Claims, IsRefused}
+use Rattle.osrl_grammar.specs.Refusals.{IsNamed, IsCounted, general_path, job_path, status_text, Claims}
 
 -- a text, or none where it is empty
 abbrev pub unless_empty : List ℕ → Option (List ℕ)
@@ -32,7 +30,7 @@ text_in (Some e) = unless_empty (trimmed (own_text e))
 
 -- the items of a solution's part are these
 abbrev pub HasPart : {X : Type 0} → Element → Part → (List ℕ → X → Type 0) → List X → Type 0
-HasPart solution p Is xs = IsSomeAnd (first_part p solution) (λ e. Each Is (item_texts e) xs)
+HasPart solution p Is xs = IsSomeAnd (first_part p solution) (λ e. AllZip Is (item_texts e) xs)
 
 abbrev pub HasNumbers : Element → Part → List Frac → Type 0
 HasNumbers solution p xs = HasPart solution p IsFraction xs
@@ -76,15 +74,3 @@ pub record IsReport (root : Element) (r : Report) : Type 0 where
   pub readable : All IsReadable (items root)
   pub counted : IsCounted root
   pub says : Says root r
-
--- the bytes are the document of a report
-pub record IsReportText (bytes : List ℕ) (r : Report) : Type 0 where
-  pub root : Element
-  pub document : IsDocument bytes root
-  pub report : IsReport root r
-
--- the bytes are a document that is refused
-pub record IsRefusedText (bytes : List ℕ) (f : OsrlFault) : Type 0 where
-  pub root : Element
-  pub document : IsDocument bytes root
-  pub refused : IsRefused root f

@@ -1,7 +1,7 @@
 -- The parts of a solution's certificate, by the names of its results (Optimization Services, otherSolutionResults).
 use Rattle.std.specs.Prelude.{ℕ, Bool, false, Option, None, Some, cond, bytes_eq, slice_get, flat_map, map, List, [], ◌∷◌, codes}
 use Rattle.tree_grammar.specs.Elements.{Element}
-use Rattle.osrl_grammar.specs.Elements.{attribute, children_named, within, own_text}
+use Rattle.document_tags.specs.Elements.{attribute, children_named, within, own_text}
 use Rattle.osrl_grammar.specs.declared.parts.Part.{Part}
 use Rattle.osrl_grammar.specs.declared.parts.Part.TheVariants.{Point, Value, Ray, Tree, Cause}
 use Rattle.osrl_grammar.specs.Items.{Item}

@@ -6,7 +6,7 @@ use Rattle.osrl_grammar.specs.declared.report.JobStatus.{JobStatus}
 use Rattle.osrl_grammar.specs.declared.report.JobStatus.TheVariants as statuses
 use Rattle.osrl_grammar.specs.declared.fault.OsrlFault.{OsrlFault}
 use Rattle.osrl_grammar.specs.declared.fault.OsrlFault.TheVariants.{Tree, Root, Missing, Item, Count, Number, Wide, Memory}
-use Rattle.osrl_grammar.specs.Elements.{attribute, first_within, own_text}
+use Rattle.document_tags.specs.Elements.{attribute, first_within, own_text}
 use Rattle.osrl_grammar.specs.Items as shapes
 use Rattle.osrl_grammar.specs.Items.{IsUnread, IsReadable}
 use Rattle.osrl_grammar.specs.declared.parts.Part.{Part}

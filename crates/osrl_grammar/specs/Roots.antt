@@ -4,7 +4,7 @@ use Rattle.tree_grammar.specs.Elements.{Element}
 use Rattle.osrl_grammar.specs.declared.report.JobStatus.{JobStatus}
 use Rattle.osrl_grammar.specs.declared.fault.OsrlFault.{OsrlFault}
 use Rattle.osrl_grammar.specs.declared.fault.OsrlFault.TheVariants.{Memory}
-use Rattle.osrl_grammar.specs.Elements.{attribute, first_within, own_text}
+use Rattle.document_tags.specs.Elements.{attribute, first_within, own_text}
 use Rattle.osrl_grammar.specs.Refusals.{general_path, job_path, status_text, IsRefused}
 
 -- the general status is that of an error, or another

@@ -1,5 +1,6 @@
 -- What items stand for: numbers, nodes and causes.
 use Rattle.std.specs.Prelude.{◌≡◌, ℕ, pos, List, [], ◌∷◌}
+use Rattle.std.specs.List.{AllZip}
 use Rattle.rational.specs.Ratio.{whole}
 use Rattle.fraction.specs.Frac.{ratio}
 use Rattle.fraction.specs.declared.frac.Frac.{Frac}
@@ -12,13 +13,6 @@ use Rattle.osrl_grammar.specs.Numbers.{Index, Turn, Whole, Exact, IsNumber}
 use Rattle.osrl_grammar.specs.Items.{Pair, Shape, Split, Clash, Farkas, Bound, Killed, NodeLimit, TurnLimit, Wide, Length, Memory, HasShape}
 use Rattle.osrl_grammar.specs.declared.parts.Part.TheVariants.{Tree, Cause}
 
--- one for one, in their order
-abbrev pub Each : {X Y : Type 0} → (X → Y → Type 0) → List X → List Y → Type 0
-Each {X} {Y} Is [] [] = Unit {0}
-Each {X} {Y} Is [] (y ∷ ys) = ⊥
-Each {X} {Y} Is (x ∷ xs) [] = ⊥
-Each {X} {Y} Is (x ∷ xs) (y ∷ ys) = Is x y × Each Is xs ys
-
 abbrev pub IsFraction : List ℕ → Frac → Type 0
 IsFraction text x = IsNumber Exact text (ratio x)
 
@@ -29,8 +23,8 @@ IsMult p m = IsNumber Index p.column (whole (pos m.col)) × IsFraction p.factor 
 abbrev pub SaysNode : Node → Shape → Type 0
 SaysNode (nodes.Split j k) s = (column bound : List ℕ) × (s ≡ Split column bound) × IsNumber Index column (whole (pos j)) × IsNumber Whole bound (whole k)
 SaysNode (nodes.Clash c) s = (column : List ℕ) × (s ≡ Clash column) × IsNumber Index column (whole (pos c))
-SaysNode (nodes.Farkas ms) s = (pairs : List Pair) × (s ≡ Farkas pairs) × Each IsMult pairs ms
-SaysNode (nodes.Bound ms) s = (pairs : List Pair) × (s ≡ Bound pairs) × Each IsMult pairs ms
+SaysNode (nodes.Farkas ms) s = (pairs : List Pair) × (s ≡ Farkas pairs) × AllZip IsMult pairs ms
+SaysNode (nodes.Bound ms) s = (pairs : List Pair) × (s ≡ Bound pairs) × AllZip IsMult pairs ms
 
 -- why a search stopped
 abbrev pub SaysCause : why.Cause → Shape → Type 0

@@ -3,6 +3,7 @@ use Rattle.std.specs.Prelude.{ℕ, ◌+◌, ◌-◌, Bool, true, false, Option, 
 use Rattle.std.specs.Fmt.{signed_decimal}
 use Rattle.tree_grammar.specs.Elements.{Attribute, Nodes, none, element, chars, Element}
 use Rattle.tree_grammar.specs.Written.{written}
+use Rattle.document_tags.specs.Writing.{only, text_nodes, leaf, group, typed, rooted}
 use Rattle.fraction.specs.Frac.{ratio}
 use Rattle.fraction.specs.declared.frac.Frac.{Frac}
 use Rattle.decimal_text.specs.Exact.{ratio_text}
@@ -24,29 +25,9 @@ use Rattle.osrl_grammar.specs.Items.{step_text}
 use Rattle.osrl_grammar.specs.Parts.{part_name}
 use Rattle.osrl_grammar.specs.Refusals.{claiming_text, status_text}
 
--- the one attribute of this name
-abbrev pub only : (name value : List ℕ) → List Attribute
-only name value = record { name = name; value = value } ∷ []
-
--- characters, or nothing where the text is empty
-abbrev pub text_nodes : List ℕ → Nodes
-text_nodes [] = none
-text_nodes (c ∷ cs) = chars (c ∷ cs) none
-
--- an element without attributes that holds this text, or these nodes, and then more
-abbrev pub leaf : (name text : List ℕ) → Nodes → Nodes
-leaf name text more = element name [] (text_nodes text) more
-
-abbrev pub group : (name : List ℕ) → Nodes → Nodes → Nodes
-group name children more = element name [] children more
-
 -- an element with an index that holds a cut number, and then more
 abbrev pub indexed : (name index : List ℕ) → Frac → Nodes → Nodes
 indexed name index x more = element name (only (codes "idx") index) (text_nodes (cut_text (ratio x))) more
-
--- an element whose type is all that it says, and then more
-abbrev pub typed : (name type : List ℕ) → Nodes → Nodes
-typed name type more = element name (only (codes "type") type) none more
 
 -- the values of the variables from j on
 abbrev pub variable_values : ℕ → List Frac → Nodes
@@ -163,11 +144,7 @@ job_nodes status more = group (codes "job") (leaf (codes "status") (status_text 
 
 -- the root that a report is written as
 abbrev pub report_element : Report → Element
-report_element r = record {
-  name = codes "osrl";
-  attributes = only (codes "xmlns") (codes "os.optimizationservices.org");
-  children = group (codes "general") (general_nodes r) (job_nodes r.status (optimization r.claim));
-}
+report_element r = rooted (codes "osrl") (group (codes "general") (general_nodes r) (job_nodes r.status (optimization r.claim)))
 
 -- the text of a report
 abbrev pub report_text : Report → List ℕ

@@ -2,15 +2,16 @@
 
 ghost use Rattle.std.specs.Prelude.{◌≡◌, [], ◌∷◌, OnOk, map, codes};
 ghost use Rattle.tree_grammar.specs.Elements.{none, nodes_events};
+ghost use Rattle.document_tags.specs.Writing as nodes;
 ghost use Rattle.osrl_grammar.specs.Writing as writing;
 ghost use Rattle.osrl_grammar.specs.Parts as named;
-ghost use Rattle.osrl_grammar.specs.Telling.{Tells, opening};
+ghost use Rattle.document_tags.specs.Telling.{Told, opening};
 
 use crate::item_texts::{cause_text, node_text};
 use crate::parts::{Part, part_name};
-use crate::telling::{close, leaf, open_with};
 use certificate::{Cause, Node};
 use decimal_text::write_ratio;
+use document_tags::{close, leaf, open_with};
 use element_tree::TreeBuilder;
 use fraction::Frac;
 use os_io::{Memory, Text};
@@ -19,7 +20,7 @@ use std::alloc::Global;
 /// Tells an item that holds a number.
 fn tell_fraction(alloc: Global, b: &mut TreeBuilder, value: Frac) -> Result<(), Memory>
     requires { b.old.attributes ≡ [] }
-    ensures { OnOk result (Tells b.old b.new (nodes_events (writing.item_nodes (writing.fraction_texts (value ∷ []))))) }
+    ensures { OnOk result (Told b.old b.new (nodes_events (writing.item_nodes (writing.fraction_texts (value ∷ []))))) }
 {
     let mut text = Text::new(alloc);
     write_ratio(value, &mut text)?;
@@ -29,7 +30,7 @@ fn tell_fraction(alloc: Global, b: &mut TreeBuilder, value: Frac) -> Result<(), 
 /// Tells items that hold numbers.
 fn tell_fractions(alloc: Global, b: &mut TreeBuilder, values: &[Frac]) -> Result<(), Memory>
     requires { b.old.attributes ≡ [] }
-    ensures { OnOk result (Tells b.old b.new (nodes_events (writing.item_nodes (writing.fraction_texts values.now)))) }
+    ensures { OnOk result (Told b.old b.new (nodes_events (writing.item_nodes (writing.fraction_texts values.now)))) }
 {
     for value in values {
         tell_fraction(alloc, b, *value)?;
@@ -40,7 +41,7 @@ fn tell_fractions(alloc: Global, b: &mut TreeBuilder, values: &[Frac]) -> Result
 /// Tells items that hold nodes.
 fn tell_nodes(alloc: Global, b: &mut TreeBuilder, nodes: &[Node]) -> Result<(), Memory>
     requires { b.old.attributes ≡ [] }
-    ensures { OnOk result (Tells b.old b.new (nodes_events (writing.item_nodes (map writing.node_text nodes.now)))) }
+    ensures { OnOk result (Told b.old b.new (nodes_events (writing.item_nodes (map writing.node_text nodes.now)))) }
 {
     for node in nodes {
         let text = node_text(alloc, node)?;
@@ -52,7 +53,7 @@ fn tell_nodes(alloc: Global, b: &mut TreeBuilder, nodes: &[Node]) -> Result<(), 
 /// Begins a part.
 fn open_part(b: &mut TreeBuilder, part: Part) -> Result<(), Memory>
     requires { b.old.attributes ≡ [] }
-    ensures { OnOk result (Tells b.old b.new (opening (codes "otherSolutionResult") (writing.only (codes "name") (named.part_name part)))) }
+    ensures { OnOk result (Told b.old b.new (opening (codes "otherSolutionResult") (nodes.only (codes "name") (named.part_name part)))) }
 {
     open_with(b, b"otherSolutionResult", b"name", part_name(part))
 }
@@ -65,7 +66,7 @@ pub(crate) fn tell_numbers(
     values: &[Frac],
 ) -> Result<(), Memory>
     requires { b.old.attributes ≡ [] }
-    ensures { OnOk result (Tells b.old b.new (λ k. nodes_events (writing.certificate_part part (writing.fraction_texts values.now) none) k)) }
+    ensures { OnOk result (Told b.old b.new (λ k. nodes_events (writing.certificate_part part (writing.fraction_texts values.now) none) k)) }
 {
     open_part(b, part)?;
     tell_fractions(alloc, b, values)?;
@@ -75,7 +76,7 @@ pub(crate) fn tell_numbers(
 /// Tells a tree of cases.
 pub(crate) fn tell_tree(alloc: Global, b: &mut TreeBuilder, nodes: &[Node]) -> Result<(), Memory>
     requires { b.old.attributes ≡ [] }
-    ensures { OnOk result (Tells b.old b.new (λ k. nodes_events (writing.tree_part nodes.now) k)) }
+    ensures { OnOk result (Told b.old b.new (λ k. nodes_events (writing.tree_part nodes.now) k)) }
 {
     open_part(b, Part::Tree)?;
     tell_nodes(alloc, b, nodes)?;
@@ -85,7 +86,7 @@ pub(crate) fn tell_tree(alloc: Global, b: &mut TreeBuilder, nodes: &[Node]) -> R
 /// Tells why a search stopped.
 pub(crate) fn tell_cause(alloc: Global, b: &mut TreeBuilder, cause: Cause) -> Result<(), Memory>
     requires { b.old.attributes ≡ [] }
-    ensures { OnOk result (Tells b.old b.new (λ k. nodes_events (writing.cause_part cause) k)) }
+    ensures { OnOk result (Told b.old b.new (λ k. nodes_events (writing.cause_part cause) k)) }
 {
     let text = cause_text(alloc, cause)?;
     open_part(b, Part::Cause)?;
@@ -101,7 +102,7 @@ pub(crate) fn tell_point(
     value: Frac,
 ) -> Result<(), Memory>
     requires { b.old.attributes ≡ [] }
-    ensures { OnOk result (Tells b.old b.new (λ k. nodes_events (writing.point_parts point.now value none) k)) }
+    ensures { OnOk result (Told b.old b.new (λ k. nodes_events (writing.point_parts point.now value none) k)) }
 {
     tell_numbers(alloc, b, Part::Point, point)?;
     tell_numbers(alloc, b, Part::Value, &[value])

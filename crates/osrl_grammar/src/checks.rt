@@ -8,13 +8,13 @@ ghost use Rattle.osrl_grammar.specs.declared.parts.Unread.{Unread};
 ghost use Rattle.osrl_grammar.specs.Parts as named;
 ghost use Rattle.osrl_grammar.specs.Items as shapes;
 ghost use Rattle.osrl_grammar.specs.Refusals as says;
-ghost use Rattle.osrl_grammar.specs.Spots.{Stands, AreSpots, IsSpot, IsEntry, AreItems};
+ghost use Rattle.document_tags.specs.Spots.{Stands, AreSpots, IsSpot};
+ghost use Rattle.osrl_grammar.specs.Spots.{IsEntry, AreItems};
 
-use crate::along::within;
 use crate::fault::OsrlFault;
 use crate::items::item_fault;
 use crate::parts::{Part, Unread, part_name};
-use crate::spot::Spot;
+use document_tags::{Spot, within};
 use os_io::Memory;
 use std::alloc::Global;
 

@@ -3,24 +3,24 @@
 ghost use Rattle.std.specs.Prelude.{◌≡◌, ℕ, List, [], ◌∷◌, None, Some, IfOk, MatchOption, slice_get, map, codes};
 ghost use Rattle.tree_grammar.specs.Elements.{Element};
 ghost use Rattle.fraction.specs.declared.frac.Frac.{Frac};
-ghost use Rattle.osrl_grammar.specs.Elements as elements;
+ghost use Rattle.document_tags.specs.Elements as elements;
 ghost use Rattle.osrl_grammar.specs.Parts as named;
 ghost use Rattle.osrl_grammar.specs.Refusals as words;
-ghost use Rattle.osrl_grammar.specs.Values.{Each, IsFraction, IsNode, IsCause};
+ghost use Rattle.std.specs.List.{AllZip};
+ghost use Rattle.osrl_grammar.specs.Values.{IsFraction, IsNode, IsCause};
 ghost use Rattle.osrl_grammar.specs.Meaning as meaning;
 ghost use Rattle.osrl_grammar.specs.Claiming.{IsOnly, AreOf};
-ghost use Rattle.osrl_grammar.specs.Spots.{Stands, AreSpots};
+ghost use Rattle.document_tags.specs.Spots.{Stands, AreSpots};
 ghost use Rattle.osrl_grammar.specs.declared.parts.Part.TheVariants as kinds;
 ghost use Rattle.osrl_grammar.specs.declared.parts.Claiming.TheVariants as claiming;
 
-use crate::along::{first_within, within};
 use crate::checks::first_part;
 use crate::items::{read_cause, read_node};
 use crate::numbers::read_exact;
 use crate::parts::{Claiming, Part};
-use crate::spot::Spot;
 use crate::words::with_word;
 use certificate::{Cause, Cert, Claim, Point, Ray};
+use document_tags::{Spot, first_within, within};
 use fraction::Frac;
 use os_io::Memory;
 use std::alloc::Global;
@@ -73,7 +73,7 @@ fn part_items<'t>(
 
 /// The numbers that these elements say, if all say one.
 fn read_fractions(alloc: Global, items: &[Spot<'_>]) -> Result<Option<Vec<Frac>>, Memory>
-    ensures { (es : List Element) → AreSpots items.now es → IfOk result (λ r. MatchOption r ((xs : List Frac) → Each IsFraction (map elements.own_text es) xs → ⊥) (λ v. Each IsFraction (map elements.own_text es) v.items)) }
+    ensures { (es : List Element) → AreSpots items.now es → IfOk result (λ r. MatchOption r ((xs : List Frac) → AllZip IsFraction (map elements.own_text es) xs → ⊥) (λ v. AllZip IsFraction (map elements.own_text es) v.items)) }
 {
     let mut numbers = Vec::new(alloc);
     for item in items {
@@ -135,7 +135,7 @@ fn read_point(alloc: Global, results: &[Spot<'_>]) -> Result<Option<(Point, Frac
 
 /// The nodes that these elements say, if all say one.
 fn read_nodes(alloc: Global, items: &[Spot<'_>]) -> Result<Option<Cert>, Memory>
-    ensures { (es : List Element) → AreSpots items.now es → IfOk result (IsOnly (Each IsNode (map elements.own_text es))) }
+    ensures { (es : List Element) → AreSpots items.now es → IfOk result (IsOnly (AllZip IsNode (map elements.own_text es))) }
 {
     let mut cert = Cert::new(alloc);
     for item in items {
@@ -160,7 +160,7 @@ fn read_cert(alloc: Global, results: &[Spot<'_>]) -> Result<Option<Cert>, Memory
 
 /// The cause that these elements say, if there is one that says it.
 fn one_cause(alloc: Global, items: &[Spot<'_>]) -> Result<Option<Cause>, Memory>
-    ensures { (es : List Element) → AreSpots items.now es → IfOk result (IsOnly (λ c. Each IsCause (map elements.own_text es) (c ∷ []))) }
+    ensures { (es : List Element) → AreSpots items.now es → IfOk result (IsOnly (λ c. AllZip IsCause (map elements.own_text es) (c ∷ []))) }
 {
     if items.len() != 1 {
         return Ok(None);

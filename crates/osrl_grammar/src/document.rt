@@ -1,20 +1,21 @@
 //! Writes reports.
 
 ghost use Rattle.std.specs.Prelude.{◌≡◌, [], OnOk, IfOk, codes};
-ghost use Rattle.tree_grammar.specs.Elements.{none, nodes_events, events};
+ghost use Rattle.tree_grammar.specs.Elements.{none, nodes_events};
 ghost use Rattle.certificate.specs.declared.claims.Claim.TheVariants.{Optimal, Infeasible, Unbounded, BestSoFar, Unsure};
+ghost use Rattle.document_tags.specs.Writing as nodes;
 ghost use Rattle.osrl_grammar.specs.Writing as writing;
 ghost use Rattle.osrl_grammar.specs.Refusals as words;
-ghost use Rattle.osrl_grammar.specs.Telling.{Tells, report_events};
+ghost use Rattle.document_tags.specs.Telling.{Told, whole};
 
 use crate::certificates::{tell_cause, tell_numbers, tell_point, tell_tree};
 use crate::parts::{Claiming, Part};
 use crate::report::{JobStatus, Report};
-use crate::telling::{close, leaf, leaf_with, open, open_with};
 use crate::values::{tell_dual_values, tell_point_values};
 use crate::words::Worded;
 use certificate::{Cause, Claim, Node};
-use element_tree::{Tree, TreeBuilder, write};
+use document_tags::{close, leaf, leaf_with, open, open_with, told_text};
+use element_tree::TreeBuilder;
 use fraction::Frac;
 use os_io::{Memory, Text};
 use std::alloc::Global;
@@ -22,7 +23,7 @@ use std::alloc::Global;
 /// Tells an element whose type is all that it says.
 fn tell_typed(b: &mut TreeBuilder, name: &[u8], kind: &[u8]) -> Result<(), Memory>
     requires { b.old.attributes ≡ [] }
-    ensures { OnOk result (Tells b.old b.new (λ k. nodes_events (writing.typed name.now kind.now none) k)) }
+    ensures { OnOk result (Told b.old b.new (λ k. nodes_events (nodes.typed name.now kind.now none) k)) }
 {
     leaf_with(b, name, b"type", kind, b"")
 }
@@ -30,7 +31,7 @@ fn tell_typed(b: &mut TreeBuilder, name: &[u8], kind: &[u8]) -> Result<(), Memor
 /// Tells a solution's status.
 fn tell_status(b: &mut TreeBuilder, claiming: Claiming) -> Result<(), Memory>
     requires { b.old.attributes ≡ [] }
-    ensures { OnOk result (Tells b.old b.new (λ k. nodes_events (writing.typed (codes "status") (words.claiming_text claiming) none) k)) }
+    ensures { OnOk result (Told b.old b.new (λ k. nodes_events (nodes.typed (codes "status") (words.claiming_text claiming) none) k)) }
 {
     tell_typed(b, b"status", claiming.word())
 }
@@ -44,7 +45,7 @@ fn tell_optimal(
     tree: &[Node],
 ) -> Result<(), Memory>
     requires { b.old.attributes ≡ [] }
-    ensures { OnOk result (Tells b.old b.new (nodes_events (writing.claim_nodes (Optimal point.now value tree.now)))) }
+    ensures { OnOk result (Told b.old b.new (nodes_events (writing.claim_nodes (Optimal point.now value tree.now)))) }
 {
     tell_status(b, Claiming::Optimal)?;
     tell_point_values(alloc, b, point, value)?;
@@ -58,7 +59,7 @@ fn tell_optimal(
 /// Tells the solution of a claim that no point is feasible.
 fn tell_infeasible(alloc: Global, b: &mut TreeBuilder, tree: &[Node]) -> Result<(), Memory>
     requires { b.old.attributes ≡ [] }
-    ensures { OnOk result (Tells b.old b.new (nodes_events (writing.claim_nodes (Infeasible tree.now)))) }
+    ensures { OnOk result (Told b.old b.new (nodes_events (writing.claim_nodes (Infeasible tree.now)))) }
 {
     tell_status(b, Claiming::Infeasible)?;
     open(b, b"otherSolutionResults")?;
@@ -75,7 +76,7 @@ fn tell_unbounded(
     ray: &[Frac],
 ) -> Result<(), Memory>
     requires { b.old.attributes ≡ [] }
-    ensures { OnOk result (Tells b.old b.new (nodes_events (writing.claim_nodes (Unbounded point.now value ray.now)))) }
+    ensures { OnOk result (Told b.old b.new (nodes_events (writing.claim_nodes (Unbounded point.now value ray.now)))) }
 {
     tell_status(b, Claiming::Unbounded)?;
     tell_point_values(alloc, b, point, value)?;
@@ -94,7 +95,7 @@ fn tell_best_so_far(
     cause: Cause,
 ) -> Result<(), Memory>
     requires { b.old.attributes ≡ [] }
-    ensures { OnOk result (Tells b.old b.new (nodes_events (writing.claim_nodes (BestSoFar point.now value cause)))) }
+    ensures { OnOk result (Told b.old b.new (nodes_events (writing.claim_nodes (BestSoFar point.now value cause)))) }
 {
     tell_status(b, Claiming::BestSoFar)?;
     tell_point_values(alloc, b, point, value)?;
@@ -107,7 +108,7 @@ fn tell_best_so_far(
 /// Tells the solution of a claim of nothing.
 fn tell_unsure(alloc: Global, b: &mut TreeBuilder, cause: Cause) -> Result<(), Memory>
     requires { b.old.attributes ≡ [] }
-    ensures { OnOk result (Tells b.old b.new (nodes_events (writing.claim_nodes (Unsure cause)))) }
+    ensures { OnOk result (Told b.old b.new (nodes_events (writing.claim_nodes (Unsure cause)))) }
 {
     tell_status(b, Claiming::Unsure)?;
     open(b, b"otherSolutionResults")?;
@@ -118,7 +119,7 @@ fn tell_unsure(alloc: Global, b: &mut TreeBuilder, cause: Cause) -> Result<(), M
 /// Tells a claim's solution.
 fn tell_claim(alloc: Global, b: &mut TreeBuilder, claim: &Claim) -> Result<(), Memory>
     requires { b.old.attributes ≡ [] }
-    ensures { OnOk result (Tells b.old b.new (nodes_events (writing.claim_nodes claim.now))) }
+    ensures { OnOk result (Told b.old b.new (nodes_events (writing.claim_nodes claim.now))) }
 {
     match claim {
         Claim::Optimal { point, value, cert } => {
@@ -144,7 +145,7 @@ fn tell_optimization(
     claim: &Option<Claim>,
 ) -> Result<(), Memory>
     requires { b.old.attributes ≡ [] }
-    ensures { OnOk result (Tells b.old b.new (nodes_events (writing.optimization claim.now))) }
+    ensures { OnOk result (Told b.old b.new (nodes_events (writing.optimization claim.now))) }
 {
     let Some(claim) = claim else {
         return Ok(());
@@ -159,7 +160,7 @@ fn tell_optimization(
 /// Tells a text in an element of this name, if there is one.
 fn tell_text(b: &mut TreeBuilder, name: &[u8], text: &Option<Text>) -> Result<(), Memory>
     requires { b.old.attributes ≡ [] }
-    ensures { OnOk result (Tells b.old b.new (λ k. nodes_events (writing.leaf_of name.now text.now none) k)) }
+    ensures { OnOk result (Told b.old b.new (λ k. nodes_events (writing.leaf_of name.now text.now none) k)) }
 {
     match text {
         Some(text) => leaf(b, name, text.as_slice()),
@@ -177,7 +178,7 @@ fn general_type(error: bool) -> &'static [u8]
 /// Tells what is said of the job in general.
 fn tell_general(b: &mut TreeBuilder, report: &Report) -> Result<(), Memory>
     requires { b.old.attributes ≡ [] }
-    ensures { OnOk result (Tells b.old b.new (nodes_events (writing.general_nodes report.now))) }
+    ensures { OnOk result (Told b.old b.new (nodes_events (writing.general_nodes report.now))) }
 {
     tell_typed(b, b"generalStatus", general_type(report.error))?;
     tell_text(b, b"jobID", &report.job)?;
@@ -187,7 +188,7 @@ fn tell_general(b: &mut TreeBuilder, report: &Report) -> Result<(), Memory>
 /// Tells how far the job is.
 fn tell_job(b: &mut TreeBuilder, status: JobStatus) -> Result<(), Memory>
     requires { b.old.attributes ≡ [] }
-    ensures { OnOk result (Tells b.old b.new (λ k. nodes_events (writing.job_nodes status none) k)) }
+    ensures { OnOk result (Told b.old b.new (λ k. nodes_events (writing.job_nodes status none) k)) }
 {
     open(b, b"job")?;
     leaf(b, b"status", status.word())?;
@@ -197,7 +198,7 @@ fn tell_job(b: &mut TreeBuilder, status: JobStatus) -> Result<(), Memory>
 /// Tells a whole report.
 fn tell_report(alloc: Global, b: &mut TreeBuilder, report: &Report) -> Result<(), Memory>
     requires { b.old.attributes ≡ [] }
-    ensures { OnOk result (Tells b.old b.new (report_events report.now)) }
+    ensures { OnOk result (Told b.old b.new (whole (writing.report_element report.now))) }
 {
     open_with(b, b"osrl", b"xmlns", b"os.optimizationservices.org")?;
     open(b, b"general")?;
@@ -208,21 +209,13 @@ fn tell_report(alloc: Global, b: &mut TreeBuilder, report: &Report) -> Result<()
     close(b, b"osrl")
 }
 
-/// The document of a report.
-fn document(alloc: Global, report: &Report) -> Result<Tree, Memory>
-    ensures { IfOk result (λ t. t ≡ events (writing.report_element report.now)) }
-{
-    let mut b = TreeBuilder::new(alloc);
-    tell_report(alloc, &mut b, report)?;
-    Ok(b.finish().unwrap())
-}
-
 /// The text of a report: its document with the namespace of the result language, the general status, the job's text and
 /// the message where there are, the job's status, and, where there is a claim, its solution: the status, the values that
 /// are for people, and the certificate's parts.
 pub fn encode(alloc: Global, report: &Report) -> Result<Text, Memory>
     ensures { IfOk result (λ text. text ≡ writing.report_text report.now) }
 {
-    let tree = document(alloc, report)?;
-    write(alloc, &tree)
+    let mut b = TreeBuilder::new(alloc);
+    tell_report(alloc, &mut b, report)?;
+    told_text(alloc, b)
 }

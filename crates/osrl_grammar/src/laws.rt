@@ -2,7 +2,7 @@
 
 ghost use Rattle.osrl_grammar.specs.declared.report.Report.{Report};
 ghost use Rattle.osrl_grammar.specs.Writing.{report_text};
-ghost use Rattle.osrl_grammar.specs.Meaning.{IsReportText};
+ghost use Rattle.osrl_grammar.specs.Reading.{IsReportText};
 ghost use Rattle.osrl_grammar.specs.Back.{ComesBack};
 
 /// Law: the text that a report is written as is the document of that report.

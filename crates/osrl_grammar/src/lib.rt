@@ -4,7 +4,6 @@
 //! [`comes_back`] says that this is the document of that report. [`refusal_text`] says in words why a document is refused.
 #![tactic(auto)]
 
-mod along;
 mod certificates;
 mod checks;
 mod claims;
@@ -15,13 +14,10 @@ mod items;
 mod laws;
 mod numbers;
 mod parts;
-mod passing;
 mod pieces;
 mod reading;
 mod reading_laws;
 mod report;
-mod spot;
-mod telling;
 #[cfg(test)]
 mod tests;
 mod texts;
@@ -31,7 +27,7 @@ mod words;
 pub use document::encode;
 pub use fault::OsrlFault;
 pub use laws::comes_back;
-pub use reading::{MOST_BYTES, decode};
-pub use reading_laws::{document_has_one_refusal, document_has_one_report, report_is_not_refused};
+pub use reading::decode;
+pub use reading_laws::{document_has_one_refusal, document_has_one_report, read_claims_fit, report_is_not_refused};
 pub use report::{JobStatus, Report};
 pub use texts::refusal_text;

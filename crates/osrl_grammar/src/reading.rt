@@ -2,31 +2,27 @@
 
 ghost use Rattle.std.specs.Prelude.{◌≡◌, ◌↔◌, List, IsTrue, IfOk, IfErr};
 ghost use Rattle.tree_grammar.specs.Elements.{Element, events};
-ghost use Rattle.osrl_grammar.specs.Elements as elements;
+ghost use Rattle.document_tags.specs.Elements as elements;
 ghost use Rattle.osrl_grammar.specs.Parts as named;
 ghost use Rattle.osrl_grammar.specs.Refusals as words;
 ghost use Rattle.osrl_grammar.specs.Claiming.{IsOnly};
-ghost use Rattle.osrl_grammar.specs.Spots.{Stands, AreSpots};
+ghost use Rattle.document_tags.specs.Spots.{Stands, AreSpots};
 ghost use Rattle.osrl_grammar.specs.Roots.{SaysError, SaysStatus, Refuses};
-ghost use Rattle.osrl_grammar.specs.Meaning.{text_in, SayClaim, Says, IsReport, IsReportText};
-ghost use Rattle.osrl_grammar.specs.Reading.{DecodeFails};
+ghost use Rattle.osrl_grammar.specs.Meaning.{text_in, SayClaim, Says, IsReport};
+ghost use Rattle.osrl_grammar.specs.Reading.{IsReportText, DecodeFails};
 
-use crate::along::{along, first, first_within, within};
 use crate::checks::{are_counted, items_fault};
 use crate::claims::{RESULTS, read_claim};
 use crate::fault::OsrlFault;
 use crate::report::{JobStatus, Report};
-use crate::spot::Spot;
 use crate::words::with_word;
 use certificate::Claim;
 use decimal_text::trim;
 use doc_tree::{TreeFault, read};
+use document_tags::{MOST_BYTES, Spot, along, first, first_within, within};
 use element_tree::Tree;
 use os_io::{Memory, Text};
 use std::alloc::Global;
-
-/// The most bytes of a document.
-pub const MOST_BYTES: u64 = 4_194_304;
 
 /// Where the solutions of a document stand in its root.
 const SOLUTIONS: [&[u8]; 2] = [b"optimization", b"solution"];

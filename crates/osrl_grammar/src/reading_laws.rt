@@ -1,13 +1,16 @@
 //! What the definitions say together of documents that are read: each is one report, or is refused in one way.
 
-ghost use Rattle.std.specs.Prelude.{◌≡◌, ◌≢◌, ℕ, List};
+ghost use Rattle.std.specs.Prelude.{◌≡◌, ◌≢◌, ◌<◌, ℕ, Some, List, length};
+ghost use Rattle.std.specs.List.{All};
+ghost use Rattle.certificate.specs.Nodes.{nodes_of, IsInRange};
+ghost use Rattle.certificate.specs.declared.claims.Claim.{Claim};
 ghost use Rattle.tree_grammar.specs.Elements.{Element};
 ghost use Rattle.osrl_grammar.specs.declared.report.Report.{Report};
 ghost use Rattle.osrl_grammar.specs.declared.fault.OsrlFault.{OsrlFault};
 ghost use Rattle.osrl_grammar.specs.declared.fault.OsrlFault.TheVariants.{Memory};
 ghost use Rattle.osrl_grammar.specs.Refusals.{IsRefused};
-ghost use Rattle.osrl_grammar.specs.Meaning.{IsReport, IsReportText};
-ghost use Rattle.osrl_grammar.specs.Reading.{DecodeFails};
+ghost use Rattle.osrl_grammar.specs.Meaning.{IsReport};
+ghost use Rattle.osrl_grammar.specs.Reading.{IsReportText, DecodeFails};
 
 /// Law: a document is one report at most, and so are bytes.
 pub fn document_has_one_report()
@@ -25,4 +28,10 @@ pub fn document_has_one_refusal()
 pub fn report_is_not_refused()
     ensures root { (root : Element) (r : Report) (f : OsrlFault) → IsReport root r → IsRefused root f → ⊥ }
     ensures text { (bytes : List ℕ) (r : Report) (f : OsrlFault) → IsReportText bytes r → DecodeFails bytes f → f ≡ Memory }
+{}
+
+/// Law: a claim that is read has fewer nodes than its document has bytes, and each split is at a number that a fraction
+/// has.
+pub fn read_claims_fit()
+    ensures { (bytes : List ℕ) (r : Report) (c : Claim) → IsReportText bytes r → r.claim ≡ Some c → (length (nodes_of c) < length bytes) × All IsInRange (nodes_of c) }
 {}

@@ -5,11 +5,11 @@ ghost use Rattle.tree_grammar.specs.Elements.{none, nodes_events};
 ghost use Rattle.fraction.specs.Frac.{ratio};
 ghost use Rattle.osrl_grammar.specs.Cuts as cuts;
 ghost use Rattle.osrl_grammar.specs.Writing as writing;
-ghost use Rattle.osrl_grammar.specs.Telling.{Tells};
+ghost use Rattle.document_tags.specs.Telling.{Told};
 
-use crate::telling::{close, leaf_with, open};
 use certificate::{Mult, Node};
 use decimal_text::write_cut12;
+use document_tags::{close, leaf_with, open};
 use element_tree::TreeBuilder;
 use fraction::Frac;
 use itoa::Buffer;
@@ -34,7 +34,7 @@ fn tell_indexed(
     value: Frac,
 ) -> Result<(), Memory>
     requires { b.old.attributes ≡ [] }
-    ensures { OnOk result (Tells b.old b.new (λ k. nodes_events (writing.indexed name.now index.now value none) k)) }
+    ensures { OnOk result (Told b.old b.new (λ k. nodes_events (writing.indexed name.now index.now value none) k)) }
 {
     let text = cut_text(alloc, value)?;
     leaf_with(b, name, b"idx", index, text.as_slice())
@@ -43,7 +43,7 @@ fn tell_indexed(
 /// Tells the values of the variables.
 fn tell_variables(alloc: Global, b: &mut TreeBuilder, point: &[Frac]) -> Result<(), Memory>
     requires { b.old.attributes ≡ [] }
-    ensures { OnOk result (Tells b.old b.new (nodes_events (writing.variable_values 0 point.now))) }
+    ensures { OnOk result (Told b.old b.new (nodes_events (writing.variable_values 0 point.now))) }
 {
     for j in 0..point.len() {
         let mut index = Buffer::new();
@@ -60,7 +60,7 @@ pub(crate) fn tell_point_values(
     value: Frac,
 ) -> Result<(), Memory>
     requires { b.old.attributes ≡ [] }
-    ensures { OnOk result (Tells b.old b.new (λ k. nodes_events (writing.point_values point.now value none) k)) }
+    ensures { OnOk result (Told b.old b.new (λ k. nodes_events (writing.point_values point.now value none) k)) }
 {
     open(b, b"variables")?;
     open(b, b"values")?;
@@ -82,7 +82,7 @@ fn tell_row_value(
     mult: Mult,
 ) -> Result<(), Memory>
     requires { b.old.attributes ≡ [] }
-    ensures { OnOk result (Tells b.old b.new (nodes_events (writing.row_values width (mult ∷ [])))) }
+    ensures { OnOk result (Told b.old b.new (nodes_events (writing.row_values width (mult ∷ [])))) }
 {
     let col = mult.col as usize;
     if col < width {
@@ -106,7 +106,7 @@ fn tell_row_values(
     mults: &[Mult],
 ) -> Result<(), Memory>
     requires { b.old.attributes ≡ [] }
-    ensures { OnOk result (Tells b.old b.new (nodes_events (writing.row_values width mults.now))) }
+    ensures { OnOk result (Told b.old b.new (nodes_events (writing.row_values width mults.now))) }
 {
     for mult in mults {
         tell_row_value(alloc, b, width, *mult)?;
@@ -134,7 +134,7 @@ fn tell_rows_part(
     mults: &[Mult],
 ) -> Result<(), Memory>
     requires { b.old.attributes ≡ [] }
-    ensures { OnOk result (Tells b.old b.new (λ k. nodes_events (writing.rows_part width mults.now none) k)) }
+    ensures { OnOk result (Told b.old b.new (λ k. nodes_events (writing.rows_part width mults.now none) k)) }
 {
     if !has_row(width, mults) {
         return Ok(());
@@ -154,7 +154,7 @@ fn tell_node_values(
     node: &Node,
 ) -> Result<(), Memory>
     requires { b.old.attributes ≡ [] }
-    ensures { OnOk result (Tells b.old b.new (λ k. nodes_events (writing.dual_values width (node.now ∷ []) none) k)) }
+    ensures { OnOk result (Told b.old b.new (λ k. nodes_events (writing.dual_values width (node.now ∷ []) none) k)) }
 {
     match node {
         Node::Bound(mults) => tell_rows_part(alloc, b, width, mults.as_slice()),
@@ -170,7 +170,7 @@ pub(crate) fn tell_dual_values(
     tree: &[Node],
 ) -> Result<(), Memory>
     requires { b.old.attributes ≡ [] }
-    ensures { OnOk result (Tells b.old b.new (λ k. nodes_events (writing.dual_values width tree.now none) k)) }
+    ensures { OnOk result (Told b.old b.new (λ k. nodes_events (writing.dual_values width tree.now none) k)) }
 {
     if tree.len() != 1 {
         return Ok(());

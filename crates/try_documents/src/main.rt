@@ -11,7 +11,7 @@ mod reading;
 use cases::{Answers, try_file};
 use doc_tree::TreeFault;
 use os_io::{DiskFiles, Memory, Text};
-use reading::{answer_text, in_two, number_of, told_whole, told_in_pieces};
+use reading::{answer_text, in_two, number_of, told_in_pieces, told_whole};
 use std::alloc::Global;
 use std::io;
 
@@ -93,8 +93,20 @@ fn main(rt: HostRuntime) -> io::Result<()> {
     let read = try_file(alloc, "read.txt", &mut files, &mut InPieces, &mut output)?;
     let refused = try_file(alloc, "refused.txt", &mut files, &mut InPieces, &mut output)?;
     let limits = try_file(alloc, "limits.txt", &mut files, &mut Limited, &mut output)?;
-    let begun = try_file(alloc, "beginnings.txt", &mut files, &mut Beginnings, &mut output)?;
-    let repeated = try_file(alloc, "repeated.txt", &mut files, &mut Repeated, &mut output)?;
+    let begun = try_file(
+        alloc,
+        "beginnings.txt",
+        &mut files,
+        &mut Beginnings,
+        &mut output,
+    )?;
+    let repeated = try_file(
+        alloc,
+        "repeated.txt",
+        &mut files,
+        &mut Repeated,
+        &mut output,
+    )?;
     let mut count: u64 = 0;
     for n in [read, refused, limits, begun, repeated] {
         count = count.saturating_add(n);

@@ -58,10 +58,7 @@ fn tree_text(alloc: Global, tree: &Tree) -> Result<Text, Memory> {
 }
 
 /// What an answer says.
-pub(crate) fn answer_text(
-    alloc: Global,
-    answer: Result<Tree, TreeFault>,
-) -> Result<Text, Memory> {
+pub(crate) fn answer_text(alloc: Global, answer: Result<Tree, TreeFault>) -> Result<Text, Memory> {
     let text = match answer {
         Ok(tree) => return tree_text(alloc, &tree),
         Err(TreeFault::Malformed { at }) => format!(in alloc; "Malformed at {at}")?,

@@ -1,8 +1,9 @@
 use Rattle.std.proofs.Common.{sym, subst}
 use Rattle.std.proofs.lemmas.Result.{MatchResult-weaker, err_from_is_err_and}
 use Rattle.std.specs.Result.{IfErr}
+use Rattle.certificate.specs.Nodes.{nodes_of}
 use Rattle.cert_checker.specs.Documents.{DocsRefuse}
-use Rattle.cert_checker.proofs.Together.{accepted_text, report_refused, result_refused}
+use Rattle.cert_checker.proofs.Together.{accepted_text, report_refused, result_refused, read_fits}
 use Rattle.cert_checker.proofs.documents.check_docs.Goals as goal
 
 pub returns-in_err-report-clause-err : goal.returns-in_err-report-clause-err
@@ -22,3 +23,6 @@ returns-clause-err c =
     MatchResult-weaker c.check_report.result c.check_report.ensures.err
     (λ k p. p)
     (λ r refuses. report_refused c.in_ok-instance.ensures.ok c.in_ok-report.ensures.ok refuses)
+
+pub check_report-requires : goal.check_report-requires
+check_report-requires c = λ claim is. read_fits c.in_ok-report.ensures.ok (nodes_of claim) (c.read_claims_fit.ensures c.args.osrl.now c.in_ok-report.report claim c.in_ok-report.ensures.ok is)

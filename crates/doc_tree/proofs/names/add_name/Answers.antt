@@ -1,6 +1,6 @@
 use Rattle.std.proofs.Common.{sym, subst, map, ◌++◌, ◌∷◌, []}
 use Rattle.doc_tree.specs.Rests.{AreSameNames}
-use Rattle.doc_tree.proofs.Held.{put}
+use Rattle.doc_tree.proofs.Stepwise.Held.{put}
 use Rattle.doc_tree.proofs.names.add_name.Goals as goal
 
 pub returns : goal.returns

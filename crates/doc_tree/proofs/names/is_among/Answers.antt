@@ -1,5 +1,5 @@
 use Rattle.std.proofs.Common.{sym, ◌∙◌}
-use Rattle.doc_tree.proofs.Held.{found, finds}
+use Rattle.doc_tree.proofs.Stepwise.Held.{found, finds}
 use Rattle.doc_tree.proofs.names.is_among.Goals as goal
 
 pub returns : goal.returns

@@ -1,33 +1,35 @@
-use Rattle.std.proofs.Common.{◌∙◌}
-use Rattle.http_link.proofs.WrittenLemmas.{answer_first, answer_second, answer_third, answer_part, answer_all, on_err, on_err_map, on_ok_map}
+use Rattle.std.proofs.Common.{◌∙◌, ◌++◌, length}
+use Rattle.std.specs.Prelude.{decimal}
+use Rattle.os_io.proofs.Written.{writes_then, writes_part, writes_same}
+use Rattle.http_link.specs.Responses.{answer_head}
+use Rattle.http_link.proofs.WrittenLemmas.{gap, answer_parts}
 use Rattle.http_link.proofs.responses.write_answer.Goals as goal
 
-pub returns-in_err-write_all-clause-prefix : goal.returns-in_err-write_all-clause-prefix
-returns-in_err-write_all-clause-prefix g c =
-    on_err c.from_residual.result _ (answer_first _ _ c.args.body.now c.in_err-write_all.ensures.prefix)
+pub returns-in_err-write_all : goal.returns-in_err-write_all
+returns-in_err-write_all g c =
+    writes_part _ c.from_residual.result c.from_residual.ensures.1 c.in_err-write_all.field-0.0 answer_head (decimal (length c.args.body.now) ++ (gap ++ c.args.body.now)) c.in_err-write_all.ensures
 
-pub returns-in_err-write_all-2-clause-prefix : goal.returns-in_err-write_all-2-clause-prefix
-returns-in_err-write_all-2-clause-prefix g c =
-    on_err c.from_residual-in_err-write_all-2.result _
-    (answer_second _ _ _ c.args.body.now c.as_bytes.result.now (c.as_bytes.ensures.value ∙ c.format.ensures.text)
-    c.in_ok-write_all.ensures.ok c.in_err-write_all-2.ensures.prefix)
+pub returns-in_err-write_all-2 : goal.returns-in_err-write_all-2
+returns-in_err-write_all-2 g c =
+    let d = c.as_bytes.result.now in
+    let r = c.from_residual-in_err-write_all-2 in
+    writes_same r.result (answer_head ++ (d ++ (gap ++ c.args.body.now))) _ (answer_parts c.args.body.now d (c.as_bytes.ensures.value ∙ c.format.ensures.text))
+    (writes_then c.in_ok-write_all.field-0 r.result answer_head (d ++ (gap ++ c.args.body.now)) c.in_ok-write_all.ensures
+    (writes_part _ r.result r.ensures.1 c.in_err-write_all-2.field-0.0 d (gap ++ c.args.body.now) c.in_err-write_all-2.ensures))
 
-pub returns-in_err-write_all-3-clause-prefix : goal.returns-in_err-write_all-3-clause-prefix
-returns-in_err-write_all-3-clause-prefix g c =
-    on_err c.from_residual-in_err-write_all-3.result _
-    (answer_third _ _ _ _ c.args.body.now c.as_bytes.result.now (c.as_bytes.ensures.value ∙ c.format.ensures.text)
-    c.in_ok-write_all.ensures.ok c.in_ok-write_all-2.ensures.ok c.in_err-write_all-3.ensures.prefix)
+pub returns-in_err-write_all-3 : goal.returns-in_err-write_all-3
+returns-in_err-write_all-3 g c =
+    let d = c.as_bytes.result.now in
+    let r = c.from_residual-in_err-write_all-3 in
+    writes_same r.result (answer_head ++ (d ++ (gap ++ c.args.body.now))) _ (answer_parts c.args.body.now d (c.as_bytes.ensures.value ∙ c.format.ensures.text))
+    (writes_then c.in_ok-write_all.field-0 r.result answer_head (d ++ (gap ++ c.args.body.now)) c.in_ok-write_all.ensures
+    (writes_then c.in_ok-write_all-2.field-0 r.result d (gap ++ c.args.body.now) c.in_ok-write_all-2.ensures
+    (writes_part _ r.result r.ensures.1 c.in_err-write_all-3.field-0.0 gap c.args.body.now c.in_err-write_all-3.ensures)))
 
-pub returns-clause-ok : goal.returns-clause-ok
-returns-clause-ok g c =
-    on_ok_map c.write_all-4.result _ _
-    (answer_all _ _ _ _ _ c.args.body.now c.as_bytes.result.now (c.as_bytes.ensures.value ∙ c.format.ensures.text)
-    c.in_ok-write_all.ensures.ok c.in_ok-write_all-2.ensures.ok c.in_ok-write_all-3.ensures.ok)
-    c.write_all-4.ensures.ok
-
-pub returns-clause-prefix : goal.returns-clause-prefix
-returns-clause-prefix g c =
-    on_err_map c.write_all-4.result _ _
-    (answer_part _ _ _ _ _ c.args.body.now c.as_bytes.result.now (c.as_bytes.ensures.value ∙ c.format.ensures.text)
-    c.in_ok-write_all.ensures.ok c.in_ok-write_all-2.ensures.ok c.in_ok-write_all-3.ensures.ok)
-    c.write_all-4.ensures.prefix
+pub returns : goal.returns
+returns g c =
+    let d = c.as_bytes.result.now in
+    writes_same c.write_all-4.result (answer_head ++ (d ++ (gap ++ c.args.body.now))) _ (answer_parts c.args.body.now d (c.as_bytes.ensures.value ∙ c.format.ensures.text))
+    (writes_then c.in_ok-write_all.field-0 c.write_all-4.result answer_head (d ++ (gap ++ c.args.body.now)) c.in_ok-write_all.ensures
+    (writes_then c.in_ok-write_all-2.field-0 c.write_all-4.result d (gap ++ c.args.body.now) c.in_ok-write_all-2.ensures
+    (writes_then c.in_ok-write_all-3.field-0 c.write_all-4.result gap c.args.body.now c.in_ok-write_all-3.ensures c.write_all-4.ensures)))

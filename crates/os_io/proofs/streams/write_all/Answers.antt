@@ -1,15 +1,13 @@
-use Rattle.std.proofs.Common.{arith, length-drop, ◌∙◌}
+use Rattle.std.proofs.Common.{arith, length-drop}
 use Rattle.std.proofs.lemmas.List.{take_rest}
-use Rattle.os_io.proofs.Told.{writes_more}
+use Rattle.os_io.proofs.Written.{wrote_first, so_far_more, rest_behind}
 use Rattle.os_io.proofs.streams.write_all.Goals as goal
 
 pub loop-done-preserved : goal.loop-done-preserved
 loop-done-preserved g c =
     let within = simp (take_rest, length-drop) at c.in_ok-n.ensures.within in
+    let w = c.write.ensures in
     record {
       within = omega (arith, within);
-      written = writes_more _ _ _ _ _ _ c.loop-done.invariant.written (simp take_rest at c.in_ok-n.ensures.added);
-      faults = c.in_ok-n.ensures.counted ∙ c.loop-done.invariant.faults;
-      left = c.write.ensures.left ∙ c.loop-done.invariant.left;
-      read_faults = c.write.ensures.read_faults ∙ c.loop-done.invariant.read_faults;
+      so_far = so_far_more c.in_ok-n.n _ _ _ _ c.loop-done.invariant.so_far (rest_behind c.args.bytes.now c.loop-done.done c.in_ok-n.n) (wrote_first c.in_ok-n.n _ (simp take_rest at c.in_ok-n.ensures.added) c.in_ok-n.ensures.handed_on c.in_ok-n.ensures.counted c.in_ok-n.ensures.input);
     }

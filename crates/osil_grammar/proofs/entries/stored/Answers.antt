@@ -2,7 +2,7 @@ use Rattle.std.proofs.Common.{◌≡◌, ◌+◌, ◌-◌, ◌≤◌, ◌++◌, 
 use Rattle.std.proofs.lemmas.List.{append-nil}
 use Rattle.instance.specs.Program.{entries as entries_of}
 use Rattle.osil_grammar.specs.Matrix.{stored as stored_lists}
-use Rattle.osil_grammar.specs.Reading.{lists_of}
+use Rattle.osil_grammar.specs.Parsing.{lists_of}
 use Rattle.osil_grammar.proofs.Lines.{divides, IsLine, is_line, more_lines, last_line}
 use Rattle.osil_grammar.proofs.entries.stored.Goals as goal
 

@@ -1,5 +1,5 @@
 use Rattle.std.proofs.Common.{inl}
-use Rattle.osil_grammar.specs.Reading.{HasNoList}
+use Rattle.osil_grammar.specs.Parsing.{HasNoList}
 use Rattle.osil_grammar.proofs.Exits.{handed_on}
 use Rattle.osil_grammar.proofs.EntriesWithin.{nothing_within, fits_lists}
 use Rattle.osil_grammar.proofs.MatrixFound.{none_told, none_clean, no_children, wanting_told}

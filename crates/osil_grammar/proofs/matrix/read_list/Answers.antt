@@ -3,7 +3,7 @@ use Rattle.tree_grammar.specs.Tags.{IsAmong}
 use Rattle.osil_grammar.specs.Tags.{level_of}
 use Rattle.osil_grammar.specs.Walking.{Walking, Begun, IsBehind}
 use Rattle.osil_grammar.specs.Kinds.{Starts, RowIndices, ColumnIndices, Values, Coefficients, content_names, listing_name}
-use Rattle.osil_grammar.specs.Reading.{MayFollow, AreRead, FitsSize, listing}
+use Rattle.osil_grammar.specs.Parsing.{MayFollow, AreRead, FitsSize, listing}
 use Rattle.osil_grammar.specs.declared.matrix.ListName.{ListName}
 use Rattle.osil_grammar.specs.declared.matrix.Found.{Found}
 use Rattle.osil_grammar.proofs.AtStart.{foreign_told}

@@ -3,7 +3,7 @@ use Rattle.std.proofs.lemmas.List.Elements.{All-nil}
 use Rattle.tree_grammar.specs.Elements.{Element}
 use Rattle.tree_grammar.specs.Tags.{IsAmong}
 use Rattle.osil_grammar.specs.Kinds.{Coefficients, content_names}
-use Rattle.osil_grammar.specs.Reading.{begun, AreRead}
+use Rattle.osil_grammar.specs.Parsing.{begun, AreRead}
 use Rattle.osil_grammar.proofs.Decided.{tells_more}
 use Rattle.osil_grammar.proofs.Exits.{handed_on}
 use Rattle.osil_grammar.proofs.Midway.{begins_midway, enters_child, leaves_children}

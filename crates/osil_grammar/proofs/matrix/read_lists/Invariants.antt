@@ -3,7 +3,7 @@ use Rattle.tree_grammar.specs.Elements.{Element, Event, Close, nodes_events}
 use Rattle.osil_grammar.specs.Tags.{Level, names}
 use Rattle.osil_grammar.specs.Kinds.{Coefficients, path}
 use Rattle.osil_grammar.specs.Walking.{IsJoined, GoesOn}
-use Rattle.osil_grammar.specs.Reading.{AreRead, InSizeAround, FitsSize}
+use Rattle.osil_grammar.specs.Parsing.{AreRead, InSizeAround, FitsSize}
 use Rattle.osil_grammar.proofs.Midway.{Midway}
 use Rattle.osil_grammar.proofs.matrix.read_lists.Given as goal
 

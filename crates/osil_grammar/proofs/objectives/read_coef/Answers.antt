@@ -5,7 +5,7 @@ use Rattle.osil_grammar.specs.Walking.{Begun}
 use Rattle.osil_grammar.specs.Costs.{IsCost}
 use Rattle.osil_grammar.specs.Kinds as kinds
 use Rattle.osil_grammar.specs.Kinds.{content_names}
-use Rattle.osil_grammar.specs.Reading.{InWidth}
+use Rattle.osil_grammar.specs.Parsing.{InWidth}
 use Rattle.osil_grammar.proofs.AtStart.{foreign_told}
 use Rattle.osil_grammar.proofs.CoefEnds.{held_refused, cost_added}
 use Rattle.osil_grammar.proofs.Decided.{refused_start}

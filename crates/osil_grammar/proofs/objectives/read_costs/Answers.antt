@@ -3,7 +3,7 @@ use Rattle.std.specs.Vec.{vec_len}
 use Rattle.tree_grammar.specs.Elements.{Element}
 use Rattle.osil_grammar.specs.Costs.{Cost, AreCosts}
 use Rattle.osil_grammar.specs.Meaning.{AreSums}
-use Rattle.osil_grammar.specs.Reading.{begun, InWidth, AreSummed, HoldsCosts}
+use Rattle.osil_grammar.specs.Parsing.{begun, InWidth, AreSummed, HoldsCosts}
 use Rattle.osil_grammar.proofs.Decided.{tells_more}
 use Rattle.osil_grammar.proofs.Exits.{handed_on}
 use Rattle.osil_grammar.proofs.Midway.{begins_midway, enters_child, leaves_children}

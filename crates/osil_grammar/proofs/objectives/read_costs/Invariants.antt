@@ -4,7 +4,7 @@ use Rattle.tree_grammar.specs.Elements.{Element, Event, Close, nodes_events}
 use Rattle.osil_grammar.specs.Tags.{Level, names}
 use Rattle.osil_grammar.specs.Kinds.{Obj, path}
 use Rattle.osil_grammar.specs.Walking.{IsJoined, GoesOn}
-use Rattle.osil_grammar.specs.Reading.{InWidth, AreSummed}
+use Rattle.osil_grammar.specs.Parsing.{InWidth, AreSummed}
 use Rattle.osil_grammar.proofs.Midway.{Midway}
 use Rattle.osil_grammar.proofs.objectives.read_costs.Given as goal
 

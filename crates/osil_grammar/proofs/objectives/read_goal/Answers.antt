@@ -8,7 +8,7 @@ use Rattle.osil_grammar.specs.Walking.{Begun}
 use Rattle.osil_grammar.specs.Kinds as kinds
 use Rattle.osil_grammar.specs.Kinds.{content_names}
 use Rattle.osil_grammar.specs.Meaning.{AreSums}
-use Rattle.osil_grammar.specs.Reading.{HaveVariables}
+use Rattle.osil_grammar.specs.Parsing.{HaveVariables}
 use Rattle.osil_grammar.proofs.AtStart.{foreign_told}
 use Rattle.osil_grammar.proofs.Decided.{refused_start, refused_inside, refused_end, clean_element, clean_one}
 use Rattle.osil_grammar.proofs.Exits.{handed_on}

@@ -1,7 +1,7 @@
 use Rattle.std.proofs.Common.{List, ◌++◌, ◌∷◌, [], sym, subst}
 use Rattle.std.specs.Prelude.{codes}
 use Rattle.tree_grammar.specs.Elements.{Element}
-use Rattle.osil_grammar.specs.Reading.{HaveVariables}
+use Rattle.osil_grammar.specs.Parsing.{HaveVariables}
 use Rattle.osil_grammar.proofs.PartsBefore.{parts_here}
 use Rattle.osil_grammar.specs.Tags.{level_of, start_tag, end_tag}
 use Rattle.osil_grammar.specs.Kinds as kinds

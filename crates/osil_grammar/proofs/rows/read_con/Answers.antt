@@ -7,7 +7,7 @@ use Rattle.osil_grammar.specs.declared.fault.OsilFault.{OsilFault}
 use Rattle.osil_grammar.specs.Tags.{start_tag, level_of}
 use Rattle.osil_grammar.specs.Kinds as kinds
 use Rattle.osil_grammar.specs.Refusals.{Bound, TooBig}
-use Rattle.osil_grammar.specs.Reading.{IsAtTag}
+use Rattle.osil_grammar.specs.Parsing.{IsAtTag}
 use Rattle.osil_grammar.proofs.AtStart.{told_here, bound_decided, too_big, not_too_big}
 use Rattle.osil_grammar.proofs.Decided.{clean_one}
 use Rattle.osil_grammar.proofs.Exits.{handed_on}
@@ -18,61 +18,19 @@ use Rattle.osil_grammar.proofs.rows.read_con.Goals as goal
 pub returns-in_err-lb-clause-reads : goal.returns-in_err-lb-clause-reads
 returns-in_err-lb-clause-reads c e n around before tag inside here =
     handed_on c.from_residual.result c.in_err-lb.field-0.0 _ _ c.from_residual.ensures.1
-    (row_refused c.args.tag around before n e tag inside here.0 c.both-read.result c.at_tag.result c.in_err-lb.field-0.0 (record {
-      low = c.bound-low.result;
-      high = c.bound-high.result;
-      ends = c.both.result;
-      constant = c.decimal.result;
-      times = c.times.result;
-      others = c.both-2.result;
-      low_read = c.bound-low.ensures;
-      high_read = c.bound-high.ensures;
-      ends_read = c.both.ensures;
-      constant_read = c.decimal.ensures;
-      times_read = c.times.ensures;
-      others_read = c.both-2.ensures;
-      all_read = c.both-read.ensures;
-    }) c.at_tag.ensures c.in_err-lb.was)
+    (row_refused c.args.tag around before n e tag inside here.0 c.read_numbers.result c.at_tag.result c.in_err-lb.field-0.0 (c.read_numbers.ensures e n tag) c.at_tag.ensures c.in_err-lb.was)
 
 pub returns-in_err-low-clause-reads : goal.returns-in_err-low-clause-reads
 returns-in_err-low-clause-reads c e n around before tag inside here =
-    let fine = row_fine c.args.tag around before n e tag inside here.0 c.both-read.result c.at_tag.result ((c.in_ok-lb.lb, c.in_ok-lb.ub), (c.in_ok-lb.constant, c.in_ok-lb.times)) (record {
-      low = c.bound-low.result;
-      high = c.bound-high.result;
-      ends = c.both.result;
-      constant = c.decimal.result;
-      times = c.times.result;
-      others = c.both-2.result;
-      low_read = c.bound-low.ensures;
-      high_read = c.bound-high.ensures;
-      ends_read = c.both.ensures;
-      constant_read = c.decimal.ensures;
-      times_read = c.times.ensures;
-      others_read = c.both-2.ensures;
-      all_read = c.both-read.ensures;
-    }) c.at_tag.ensures c.in_ok-lb.was in
+    let fine = row_fine c.args.tag around before n e tag inside here.0 c.read_numbers.result c.at_tag.result ((c.in_ok-lb.lb, c.in_ok-lb.ub), (c.in_ok-lb.constant, c.in_ok-lb.times)) (c.read_numbers.ensures e n tag) c.at_tag.ensures c.in_ok-lb.was in
     handed_on c.from_residual-in_err-low.result c.in_err-low.field-0.0 _ _ c.from_residual-in_err-low.ensures.1
-    (ends_refused c.args.tag around before n e tag inside here.0 c.in_ok-lb.lb c.in_ok-lb.ub c.in_ok-lb.constant _ _ c.less.result c.less-2.result c.both-3.result c.in_err-low.field-0.0 fine.0.0.0 fine.0.0.1 fine.0.1.0 fine.1 c.less.ensures c.less-2.ensures c.both-3.ensures
-    (subst (λ (r : Result (End × End) OsilFault). IsAtTag c.args.tag c.both-3.result r) c.in_err-low.was c.at_tag-2.ensures))
+    (ends_refused c.args.tag around before n e tag inside here.0 c.in_ok-lb.lb c.in_ok-lb.ub c.in_ok-lb.constant _ _ c.less.result c.less-2.result c.both.result c.in_err-low.field-0.0 fine.0.0.0 fine.0.0.1 fine.0.1.0 fine.1 c.less.ensures c.less-2.ensures c.both.ensures
+    (subst (λ (r : Result (End × End) OsilFault). IsAtTag c.args.tag c.both.result r) c.in_err-low.was c.at_tag-2.ensures))
 
 pub returns-then-not-are_ends-clause-reads : goal.returns-then-not-are_ends-clause-reads
 returns-then-not-are_ends-clause-reads c e n around before tag inside here =
-    let fine = row_fine c.args.tag around before n e tag inside here.0 c.both-read.result c.at_tag.result ((c.in_ok-lb.lb, c.in_ok-lb.ub), (c.in_ok-lb.constant, c.in_ok-lb.times)) (record {
-      low = c.bound-low.result;
-      high = c.bound-high.result;
-      ends = c.both.result;
-      constant = c.decimal.result;
-      times = c.times.result;
-      others = c.both-2.result;
-      low_read = c.bound-low.ensures;
-      high_read = c.bound-high.ensures;
-      ends_read = c.both.ensures;
-      constant_read = c.decimal.ensures;
-      times_read = c.times.ensures;
-      others_read = c.both-2.ensures;
-      all_read = c.both-read.ensures;
-    }) c.at_tag.ensures c.in_ok-lb.was in
-    let less = ends_fine c.args.tag around before n e tag inside here.0 c.in_ok-lb.lb c.in_ok-lb.ub c.in_ok-lb.constant c.less.result c.less-2.result c.both-3.result (c.in_ok-low.low, c.in_ok-low.high) c.less.ensures c.less-2.ensures c.both-3.ensures (subst (λ (r : Result (End × End) OsilFault). IsAtTag c.args.tag c.both-3.result r) c.in_ok-low.was c.at_tag-2.ensures) in
+    let fine = row_fine c.args.tag around before n e tag inside here.0 c.read_numbers.result c.at_tag.result ((c.in_ok-lb.lb, c.in_ok-lb.ub), (c.in_ok-lb.constant, c.in_ok-lb.times)) (c.read_numbers.ensures e n tag) c.at_tag.ensures c.in_ok-lb.was in
+    let less = ends_fine c.args.tag around before n e tag inside here.0 c.in_ok-lb.lb c.in_ok-lb.ub c.in_ok-lb.constant c.less.result c.less-2.result c.both.result (c.in_ok-low.low, c.in_ok-low.high) c.less.ensures c.less-2.ensures c.both.ensures (subst (λ (r : Result (End × End) OsilFault). IsAtTag c.args.tag c.both.result r) c.in_ok-low.was c.at_tag-2.ensures) in
     let least = row_least_bound c.args.tag around before n e tag inside here.0 c.in_ok-lb.lb c.in_ok-lb.ub c.in_ok-lb.constant fine.0.0.0 fine.0.0.1 fine.0.1.0 fine.1 less.0.1 less.1.1 in
     let begins = row_begins c.args.tag around before n e tag inside here.0 in
     let s = start_tag around (level_of e n before) in
@@ -82,22 +40,8 @@ returns-then-not-are_ends-clause-reads c e n around before tag inside here =
 
 pub returns-then-times-before-clause-reads : goal.returns-then-times-before-clause-reads
 returns-then-times-before-clause-reads c e n around before tag inside here =
-    let fine = row_fine c.args.tag around before n e tag inside here.0 c.both-read.result c.at_tag.result ((c.in_ok-lb.lb, c.in_ok-lb.ub), (c.in_ok-lb.constant, c.in_ok-lb.times)) (record {
-      low = c.bound-low.result;
-      high = c.bound-high.result;
-      ends = c.both.result;
-      constant = c.decimal.result;
-      times = c.times.result;
-      others = c.both-2.result;
-      low_read = c.bound-low.ensures;
-      high_read = c.bound-high.ensures;
-      ends_read = c.both.ensures;
-      constant_read = c.decimal.ensures;
-      times_read = c.times.ensures;
-      others_read = c.both-2.ensures;
-      all_read = c.both-read.ensures;
-    }) c.at_tag.ensures c.in_ok-lb.was in
-    let less = ends_fine c.args.tag around before n e tag inside here.0 c.in_ok-lb.lb c.in_ok-lb.ub c.in_ok-lb.constant c.less.result c.less-2.result c.both-3.result (c.in_ok-low.low, c.in_ok-low.high) c.less.ensures c.less-2.ensures c.both-3.ensures (subst (λ (r : Result (End × End) OsilFault). IsAtTag c.args.tag c.both-3.result r) c.in_ok-low.was c.at_tag-2.ensures) in
+    let fine = row_fine c.args.tag around before n e tag inside here.0 c.read_numbers.result c.at_tag.result ((c.in_ok-lb.lb, c.in_ok-lb.ub), (c.in_ok-lb.constant, c.in_ok-lb.times)) (c.read_numbers.ensures e n tag) c.at_tag.ensures c.in_ok-lb.was in
+    let less = ends_fine c.args.tag around before n e tag inside here.0 c.in_ok-lb.lb c.in_ok-lb.ub c.in_ok-lb.constant c.less.result c.less-2.result c.both.result (c.in_ok-low.low, c.in_ok-low.high) c.less.ensures c.less-2.ensures c.both.ensures (subst (λ (r : Result (End × End) OsilFault). IsAtTag c.args.tag c.both.result r) c.in_ok-low.was c.at_tag-2.ensures) in
     let least = row_least_bound c.args.tag around before n e tag inside here.0 c.in_ok-lb.lb c.in_ok-lb.ub c.in_ok-lb.constant fine.0.0.0 fine.0.0.1 fine.0.1.0 fine.1 less.0.1 less.1.1 in
     let begins = row_begins c.args.tag around before n e tag inside here.0 in
     let s = start_tag around (level_of e n before) in
@@ -107,22 +51,8 @@ returns-then-times-before-clause-reads c e n around before tag inside here =
 
 pub returns-clause-reads : goal.returns-clause-reads
 returns-clause-reads c e n around before tag inside here =
-    let fine = row_fine c.args.tag around before n e tag inside here.0 c.both-read.result c.at_tag.result ((c.in_ok-lb.lb, c.in_ok-lb.ub), (c.in_ok-lb.constant, c.in_ok-lb.times)) (record {
-      low = c.bound-low.result;
-      high = c.bound-high.result;
-      ends = c.both.result;
-      constant = c.decimal.result;
-      times = c.times.result;
-      others = c.both-2.result;
-      low_read = c.bound-low.ensures;
-      high_read = c.bound-high.ensures;
-      ends_read = c.both.ensures;
-      constant_read = c.decimal.ensures;
-      times_read = c.times.ensures;
-      others_read = c.both-2.ensures;
-      all_read = c.both-read.ensures;
-    }) c.at_tag.ensures c.in_ok-lb.was in
-    let less = ends_fine c.args.tag around before n e tag inside here.0 c.in_ok-lb.lb c.in_ok-lb.ub c.in_ok-lb.constant c.less.result c.less-2.result c.both-3.result (c.in_ok-low.low, c.in_ok-low.high) c.less.ensures c.less-2.ensures c.both-3.ensures (subst (λ (r : Result (End × End) OsilFault). IsAtTag c.args.tag c.both-3.result r) c.in_ok-low.was c.at_tag-2.ensures) in
+    let fine = row_fine c.args.tag around before n e tag inside here.0 c.read_numbers.result c.at_tag.result ((c.in_ok-lb.lb, c.in_ok-lb.ub), (c.in_ok-lb.constant, c.in_ok-lb.times)) (c.read_numbers.ensures e n tag) c.at_tag.ensures c.in_ok-lb.was in
+    let less = ends_fine c.args.tag around before n e tag inside here.0 c.in_ok-lb.lb c.in_ok-lb.ub c.in_ok-lb.constant c.less.result c.less-2.result c.both.result (c.in_ok-low.low, c.in_ok-low.high) c.less.ensures c.less-2.ensures c.both.ensures (subst (λ (r : Result (End × End) OsilFault). IsAtTag c.args.tag c.both.result r) c.in_ok-low.was c.at_tag-2.ensures) in
     let least = row_least_bound c.args.tag around before n e tag inside here.0 c.in_ok-lb.lb c.in_ok-lb.ub c.in_ok-lb.constant fine.0.0.0 fine.0.0.1 fine.0.1.0 fine.1 less.0.1 less.1.1 in
     let begins = row_begins c.args.tag around before n e tag inside here.0 in
     let s = start_tag around (level_of e n before) in (

@@ -1,6 +1,6 @@
 use Rattle.std.proofs.Common.{arith, w64, ◌∙◌}
 use Rattle.std.proofs.lemmas.Int.{to_z-of_z}
-use Rattle.osil_grammar.specs.Reading.{IsBelow}
+use Rattle.osil_grammar.specs.Parsing.{IsBelow}
 use Rattle.osil_grammar.proofs.Running.{at_step, next_pushed, pushed_is}
 use Rattle.osil_grammar.proofs.runs.push_wholes.Goals as goal
 

@@ -9,9 +9,9 @@ use Rattle.osil_grammar.specs.Kinds.{Values}
 use Rattle.osil_grammar.specs.Numbers.{decimal}
 use Rattle.osil_grammar.specs.Runs.{IsRatioRun}
 use Rattle.osil_grammar.specs.Walking.{IsBehind}
-use Rattle.osil_grammar.specs.Reading.{begun}
+use Rattle.osil_grammar.specs.Parsing.{begun}
 use Rattle.osil_grammar.proofs.Exits.{handed_on}
-use Rattle.osil_grammar.proofs.Once.{decimal_fits}
+use Rattle.decimal_text.proofs.OneNumber.{decimal_fits}
 use Rattle.osil_grammar.proofs.ElRead.{el_placed, start_clean}
 use Rattle.osil_grammar.proofs.ElExits.{tag_name, other_refused, unread_exit, el_begun, room_exit, held_refused}
 use Rattle.osil_grammar.proofs.ElDone.{IsRatioEl, ratio_ends}

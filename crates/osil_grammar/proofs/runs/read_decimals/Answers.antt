@@ -1,7 +1,7 @@
 use Rattle.std.proofs.Common.{◌≡◌, ℕ, length, subst, arith}
 use Rattle.std.specs.Vec.{vec_len}
 use Rattle.osil_grammar.specs.Runs.{StandFor}
-use Rattle.osil_grammar.specs.Reading.{begun}
+use Rattle.osil_grammar.specs.Parsing.{begun}
 use Rattle.osil_grammar.proofs.Decided.{tells_more}
 use Rattle.osil_grammar.proofs.Exits.{handed_on}
 use Rattle.osil_grammar.proofs.ListsRead.{none_ratios, more_ratios, all_ratios}

@@ -5,7 +5,7 @@ use Rattle.decimal_text.specs.Whole.{IsWhole}
 use Rattle.osil_grammar.specs.Numbers.{whole}
 use Rattle.osil_grammar.specs.Runs.{IsWholeRun}
 use Rattle.osil_grammar.specs.Walking.{IsBehind}
-use Rattle.osil_grammar.specs.Reading.{begun, element_tags}
+use Rattle.osil_grammar.specs.Parsing.{begun, element_tags}
 use Rattle.osil_grammar.proofs.Exits.{handed_on}
 use Rattle.osil_grammar.proofs.Wholes.{whole_fits}
 use Rattle.osil_grammar.proofs.ElRead.{el_placed, start_clean}

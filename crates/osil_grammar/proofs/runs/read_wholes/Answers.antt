@@ -3,7 +3,7 @@ use Rattle.std.specs.List.{All}
 use Rattle.std.specs.Vec.{vec_len}
 use Rattle.std.proofs.lemmas.List.Elements.{All-nil}
 use Rattle.osil_grammar.specs.Runs.{StandFor}
-use Rattle.osil_grammar.specs.Reading.{begun}
+use Rattle.osil_grammar.specs.Parsing.{begun}
 use Rattle.osil_grammar.proofs.Decided.{tells_more}
 use Rattle.osil_grammar.proofs.Exits.{handed_on}
 use Rattle.osil_grammar.proofs.ListsRead.{none_wholes, more_wholes, all_wholes}

@@ -5,7 +5,7 @@ use Rattle.tree_grammar.specs.Elements.{Element, Event, Close, nodes_events}
 use Rattle.osil_grammar.specs.Tags.{Level, names}
 use Rattle.osil_grammar.specs.Kinds.{Listing, Listed, path}
 use Rattle.osil_grammar.specs.Walking.{IsJoined, GoesOn}
-use Rattle.osil_grammar.specs.Reading.{ListLimits}
+use Rattle.osil_grammar.specs.Parsing.{ListLimits}
 use Rattle.osil_grammar.proofs.ListsRead.{WholesSoFar}
 use Rattle.osil_grammar.proofs.runs.read_wholes.Given as goal
 

@@ -9,7 +9,7 @@ use Rattle.osil_grammar.specs.Meaning.{IsVar}
 use Rattle.osil_grammar.specs.Refusals.{AreClean}
 use Rattle.osil_grammar.specs.Tags.{level_of, end_tag, first_named}
 use Rattle.osil_grammar.specs.PartsRead.{items_of, vars_of, rows_of, entries_of, IsGoalOrNone}
-use Rattle.osil_grammar.specs.Reading.{HoldsAll}
+use Rattle.osil_grammar.specs.Parsing.{HoldsAll}
 use Rattle.osil_grammar.proofs.DataTags.{data_end, data_lacks}
 use Rattle.osil_grammar.proofs.Decided.{clean_one}
 use Rattle.osil_grammar.proofs.ListPlaces.{not_read}

@@ -1,4 +1,4 @@
-use Rattle.osil_grammar.specs.Reading.{begun}
+use Rattle.osil_grammar.specs.Parsing.{begun}
 use Rattle.osil_grammar.proofs.FurtherParts.{further_empty, further_filled}
 use Rattle.osil_grammar.proofs.Passing.{left_on}
 use Rattle.osil_grammar.proofs.sections.pass_further.Goals as goal

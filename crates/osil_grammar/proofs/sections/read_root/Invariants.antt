@@ -3,7 +3,7 @@ use Rattle.tree_grammar.specs.Elements.{Element, Event, Close, nodes_events}
 use Rattle.osil_grammar.specs.Tags.{Level, names}
 use Rattle.osil_grammar.specs.Kinds.{Osil, path}
 use Rattle.osil_grammar.specs.Walking.{IsJoined}
-use Rattle.osil_grammar.specs.Reading.{IsDataRead}
+use Rattle.osil_grammar.specs.Parsing.{IsDataRead}
 use Rattle.osil_grammar.proofs.Midway.{Midway}
 use Rattle.osil_grammar.proofs.sections.read_root.Given as goal
 

@@ -5,7 +5,7 @@ use Rattle.osil_grammar.specs.Kinds.{InstanceData, content_names, ordered}
 use Rattle.osil_grammar.specs.Deciding.{IsLate}
 use Rattle.osil_grammar.specs.PartsRead.{name_of, MayStand}
 use Rattle.osil_grammar.specs.Walking.{Begun}
-use Rattle.osil_grammar.specs.Reading.{element_tags}
+use Rattle.osil_grammar.specs.Parsing.{element_tags}
 use Rattle.osil_grammar.proofs.Decided.{refused_start}
 use Rattle.osil_grammar.proofs.Exits.{reads_more}
 use Rattle.osil_grammar.proofs.FoundMore.{found_further}

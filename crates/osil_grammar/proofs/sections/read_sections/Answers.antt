@@ -1,6 +1,6 @@
 use Rattle.std.proofs.Common.{List, [], ◌∷◌, ◌++◌, sym, subst, refl, arith}
 use Rattle.tree_grammar.specs.Elements.{Element}
-use Rattle.osil_grammar.specs.Reading.{begun, AreFound}
+use Rattle.osil_grammar.specs.Parsing.{begun, AreFound}
 use Rattle.osil_grammar.proofs.Decided.{tells_more}
 use Rattle.osil_grammar.proofs.Exits.{handed_on}
 use Rattle.osil_grammar.proofs.Midway.{begins_midway, enters_child, leaves_children}

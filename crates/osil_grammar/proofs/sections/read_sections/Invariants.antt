@@ -4,7 +4,7 @@ use Rattle.osil_grammar.specs.Tags.{Level, names}
 use Rattle.osil_grammar.specs.Kinds.{InstanceData, path}
 use Rattle.osil_grammar.specs.Walking.{IsJoined, GoesOn}
 use Rattle.osil_grammar.specs.PartsRead.{IsSound}
-use Rattle.osil_grammar.specs.Reading.{AreFound}
+use Rattle.osil_grammar.specs.Parsing.{AreFound}
 use Rattle.osil_grammar.proofs.Midway.{Midway}
 use Rattle.osil_grammar.proofs.sections.read_sections.Given as goal
 

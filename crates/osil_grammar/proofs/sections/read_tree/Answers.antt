@@ -5,7 +5,7 @@ use Rattle.document_tags.specs.Rests.{child_elements}
 use Rattle.instance.specs.Parts.{Parts}
 use Rattle.osil_grammar.specs.Tags.{level_of, node_tags}
 use Rattle.osil_grammar.specs.Refusals.{AreClean, IsFirstDecided}
-use Rattle.osil_grammar.specs.Reading.{begun, Tells, IsDataRead}
+use Rattle.osil_grammar.specs.Parsing.{begun, Tells, IsDataRead}
 use Rattle.osil_grammar.proofs.Exits.{handed_on}
 use Rattle.osil_grammar.proofs.RootRead.{enters_root, root_there, other_root, inside_root, lacking_root, whole_root}
 use Rattle.osil_grammar.proofs.Steps.{walking}

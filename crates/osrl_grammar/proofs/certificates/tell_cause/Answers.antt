@@ -1,7 +1,7 @@
 use Rattle.std.proofs.Common.{◌∙◌}
-use Rattle.osrl_grammar.proofs.Told.{tells_then, ends_with}
+use Rattle.document_tags.proofs.Told.{told_then, ends_told}
 use Rattle.osrl_grammar.proofs.certificates.tell_cause.Goals as goal
 
 pub returns : goal.returns
 returns c =
-    ends_with c.close.result _ _ _ _ _ (tells_then _ _ _ _ _ c.in_ok-open_part.ensures (rw (c.as_slice.ensures ∙ c.in_ok-text.ensures) at c.in_ok-leaf.ensures)) c.close.ensures
+    ends_told c.close.result _ _ _ _ _ (told_then _ _ _ _ _ c.in_ok-open_part.ensures (rw (c.as_slice.ensures ∙ c.in_ok-text.ensures) at c.in_ok-leaf.ensures)) c.close.ensures

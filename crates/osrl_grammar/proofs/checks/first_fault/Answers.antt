@@ -4,7 +4,7 @@ use Rattle.osrl_grammar.specs.declared.fault.OsrlFault.{OsrlFault}
 use Rattle.osrl_grammar.specs.Items.{IsReadable, IsUnread}
 use Rattle.osrl_grammar.specs.Refusals.{RefusesItem}
 use Rattle.osrl_grammar.specs.Spots.{IsEntry}
-use Rattle.osrl_grammar.proofs.Spotted.{from_item}
+use Rattle.document_tags.proofs.Spotted.{from_item}
 use Rattle.osrl_grammar.proofs.Walked.{comes, walks_more, walks_all}
 use Rattle.osrl_grammar.proofs.Parted.{at_some, at_none, one_read_more, refuses_item}
 use Rattle.osrl_grammar.proofs.checks.first_fault.Goals as goal

@@ -1,6 +1,6 @@
 use Rattle.std.proofs.Common.{◌∙◌, sym}
-use Rattle.osrl_grammar.specs.Spots.{Stands}
-use Rattle.osrl_grammar.proofs.Spotted.{from_item}
+use Rattle.document_tags.specs.Spots.{Stands}
+use Rattle.document_tags.proofs.Spotted.{from_item}
 use Rattle.osrl_grammar.proofs.Walked.{comes, walks_more}
 use Rattle.osrl_grammar.proofs.Parted.{first_found, still_none}
 use Rattle.osrl_grammar.proofs.checks.first_part.Goals as goal

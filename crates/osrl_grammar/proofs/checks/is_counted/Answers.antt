@@ -1,6 +1,6 @@
 use Rattle.std.proofs.Common.{◌≡◌, true, false}
-use Rattle.osrl_grammar.specs.Spots.{Stands}
-use Rattle.osrl_grammar.proofs.Spotted.{from_item}
+use Rattle.document_tags.specs.Spots.{Stands}
+use Rattle.document_tags.proofs.Spotted.{from_item}
 use Rattle.osrl_grammar.proofs.Walked.{comes, walks_more}
 use Rattle.osrl_grammar.proofs.Parted.{sees_none, sees_some}
 use Rattle.osrl_grammar.proofs.checks.is_counted.Goals as goal

@@ -1,8 +1,8 @@
 use Rattle.std.proofs.Common.{List, drop}
 use Rattle.tree_grammar.specs.Elements.{Element}
-use Rattle.osrl_grammar.specs.declared.spot.Spot.{Spot}
+use Rattle.document_tags.specs.declared.spot.Spot.{Spot}
 use Rattle.osrl_grammar.specs.Refusals.{WasSeen}
-use Rattle.osrl_grammar.specs.Spots.{Stands, AreSpots}
+use Rattle.document_tags.specs.Spots.{Stands, AreSpots}
 use Rattle.osrl_grammar.proofs.Walked.{Walks}
 use Rattle.osrl_grammar.proofs.checks.is_counted.Given as goal
 

@@ -2,8 +2,9 @@ use Rattle.std.proofs.Common.{List, subst}
 use Rattle.std.specs.Prelude.{flat_map}
 use Rattle.osrl_grammar.specs.Items.{Item}
 use Rattle.osrl_grammar.specs.Parts.{items_of}
-use Rattle.osrl_grammar.specs.Spots.{Stands, AreItems}
-use Rattle.osrl_grammar.proofs.Spotted.{from_item}
+use Rattle.document_tags.specs.Spots.{Stands}
+use Rattle.osrl_grammar.specs.Spots.{AreItems}
+use Rattle.document_tags.proofs.Spotted.{from_item}
 use Rattle.osrl_grammar.proofs.Walked.{walks_more}
 use Rattle.osrl_grammar.proofs.Parted.{items_more}
 use Rattle.osrl_grammar.proofs.checks.items_of.Goals as goal

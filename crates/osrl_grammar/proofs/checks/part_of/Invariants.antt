@@ -2,7 +2,7 @@ use Rattle.std.proofs.Common.{◌≡◌, ℕ, ◌<◌, get_or, false}
 use Rattle.tree_grammar.specs.Elements.{Element}
 use Rattle.osrl_grammar.specs.declared.parts.Part.TheVariants.{Point}
 use Rattle.osrl_grammar.specs.Parts.{parts, is_part}
-use Rattle.osrl_grammar.specs.Spots.{Stands}
+use Rattle.document_tags.specs.Spots.{Stands}
 use Rattle.osrl_grammar.proofs.checks.part_of.Given as goal
 
 abbrev pub invariant-loop-part : goal.invariant-loop-part

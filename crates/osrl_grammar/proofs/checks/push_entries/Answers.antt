@@ -1,7 +1,7 @@
 use Rattle.std.proofs.Common.{refl}
 use Rattle.std.proofs.lemmas.List.{drop_all}
-use Rattle.osrl_grammar.specs.Spots.{Stands}
-use Rattle.osrl_grammar.proofs.Spotted.{from_item}
+use Rattle.document_tags.specs.Spots.{Stands}
+use Rattle.document_tags.proofs.Spotted.{from_item}
 use Rattle.osrl_grammar.proofs.Walked.{walks_more, walks_all}
 use Rattle.osrl_grammar.proofs.Parted.{entry_more}
 use Rattle.osrl_grammar.proofs.checks.push_entries.Goals as goal

@@ -1,9 +1,10 @@
 use Rattle.std.proofs.Common.{◌++◌, List, drop}
 use Rattle.tree_grammar.specs.Elements.{Element}
-use Rattle.osrl_grammar.specs.declared.spot.Spot.{Spot}
+use Rattle.document_tags.specs.declared.spot.Spot.{Spot}
 use Rattle.osrl_grammar.specs.Items.{Item}
 use Rattle.osrl_grammar.specs.Parts.{items_among}
-use Rattle.osrl_grammar.specs.Spots.{Stands, AreSpots, AreItems}
+use Rattle.document_tags.specs.Spots.{Stands, AreSpots}
+use Rattle.osrl_grammar.specs.Spots.{AreItems}
 use Rattle.osrl_grammar.proofs.Walked.{Walks}
 use Rattle.osrl_grammar.proofs.checks.push_entries.Given as goal
 

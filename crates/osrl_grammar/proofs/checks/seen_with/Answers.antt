@@ -1,5 +1,5 @@
 use Rattle.std.proofs.Common.{◌∙◌, List, length, ap, true, false, sym, subst}
-use Rattle.osrl_grammar.specs.declared.spot.Spot.{Spot}
+use Rattle.document_tags.specs.declared.spot.Spot.{Spot}
 use Rattle.osrl_grammar.specs.Refusals.{MayHold}
 use Rattle.osrl_grammar.proofs.Wholes.{accepted, refused}
 use Rattle.osrl_grammar.proofs.Parted.{seen_still, seen_twice, seen_now, held_wrong, says_seen, item_count}

@@ -1,6 +1,6 @@
 use Rattle.std.proofs.Common.{◌∙◌}
-use Rattle.osrl_grammar.specs.Spots.{Stands}
-use Rattle.osrl_grammar.proofs.Spotted.{from_item}
+use Rattle.document_tags.specs.Spots.{Stands}
+use Rattle.document_tags.proofs.Spotted.{from_item}
 use Rattle.osrl_grammar.proofs.Walked.{comes, walks_more}
 use Rattle.osrl_grammar.proofs.Claimed.{no_fractions, fraction_more}
 use Rattle.osrl_grammar.proofs.claims.read_fractions.Goals as goal

@@ -1,11 +1,12 @@
 use Rattle.std.proofs.Common.{List, drop, map}
 use Rattle.tree_grammar.specs.Elements.{Element}
-use Rattle.osrl_grammar.specs.declared.spot.Spot.{Spot}
-use Rattle.osrl_grammar.specs.Elements.{own_text}
-use Rattle.osrl_grammar.specs.Values.{Each, IsFraction}
-use Rattle.osrl_grammar.specs.Spots.{Stands, AreSpots}
+use Rattle.document_tags.specs.declared.spot.Spot.{Spot}
+use Rattle.document_tags.specs.Elements.{own_text}
+use Rattle.std.specs.List.{AllZip}
+use Rattle.osrl_grammar.specs.Values.{IsFraction}
+use Rattle.document_tags.specs.Spots.{Stands, AreSpots}
 use Rattle.osrl_grammar.proofs.Walked.{Walks}
 use Rattle.osrl_grammar.proofs.claims.read_fractions.Given as goal
 
 abbrev pub invariant-loop-item : goal.invariant-loop-item
-invariant-loop-item l = (es : List Element) → AreSpots l.items es → Walks Spot Element Stands es (drop l.item-index l.items) (λ before. Each IsFraction (map own_text before) l.numbers.items)
+invariant-loop-item l = (es : List Element) → AreSpots l.items es → Walks Spot Element Stands es (drop l.item-index l.items) (λ before. AllZip IsFraction (map own_text before) l.numbers.items)

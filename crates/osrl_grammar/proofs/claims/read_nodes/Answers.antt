@@ -1,9 +1,9 @@
 use Rattle.std.proofs.Common.{◌∙◌}
-use Rattle.osrl_grammar.specs.Spots.{Stands}
+use Rattle.document_tags.specs.Spots.{Stands}
 use Rattle.osrl_grammar.specs.Values.{IsNode}
 use Rattle.osrl_grammar.specs.Items.{IsUnread}
 use Rattle.osrl_grammar.specs.Pieces.{node_item}
-use Rattle.osrl_grammar.proofs.Spotted.{from_item}
+use Rattle.document_tags.proofs.Spotted.{from_item}
 use Rattle.osrl_grammar.proofs.Walked.{comes, walks_more}
 use Rattle.osrl_grammar.proofs.Worded.{at_ok}
 use Rattle.osrl_grammar.proofs.Claimed.{node_more, no_nodes, at_err}

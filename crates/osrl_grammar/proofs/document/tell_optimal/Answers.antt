@@ -2,8 +2,9 @@ use Rattle.std.proofs.Common.{List, length, codes, ap}
 use Rattle.tree_grammar.specs.Elements.{none, Event, Nodes, nodes_events}
 use Rattle.osrl_grammar.specs.declared.parts.Claiming.TheVariants as claiming
 use Rattle.osrl_grammar.specs.Refusals.{claiming_text}
-use Rattle.osrl_grammar.specs.Writing.{group, typed, point_values, point_parts, tree_part, dual_values}
-use Rattle.osrl_grammar.proofs.Told.{tells_then, ends_with, ok_tells_as}
+use Rattle.document_tags.specs.Writing.{group, typed}
+use Rattle.osrl_grammar.specs.Writing.{point_values, point_parts, tree_part, dual_values}
+use Rattle.document_tags.proofs.Told.{told_then, ends_told, ok_told_as}
 use Rattle.osrl_grammar.proofs.Listed.{duals_then}
 use Rattle.osrl_grammar.proofs.document.tell_optimal.Goals as goal
 
@@ -14,5 +15,5 @@ returns c =
     let ns = c.args.tree.now in
     let rest : Nodes = group (codes "otherSolutionResults") (point_parts x v (tree_part ns)) none in
     let before : List Event → List Event = λ events. nodes_events (typed (codes "status") (claiming_text claiming.Optimal) none) (nodes_events (point_values x v none) events) in
-    ok_tells_as c.close.result _ _ (λ k. before (nodes_events (dual_values (length x) ns none) (nodes_events rest k))) _ (λ k. ap before (duals_then (length x) ns rest k))
-    (ends_with c.close.result _ _ _ _ _ (tells_then _ _ _ _ _ (tells_then _ _ _ _ _ (tells_then _ _ _ _ _ (tells_then _ _ _ _ _ (tells_then _ _ _ _ _ c.in_ok-tell_status.ensures c.in_ok-tell_point_values.ensures) c.in_ok-tell_dual_values.ensures) c.in_ok-open.ensures) c.in_ok-tell_point.ensures) c.in_ok-tell_tree.ensures) c.close.ensures)
+    ok_told_as c.close.result _ _ (λ k. before (nodes_events (dual_values (length x) ns none) (nodes_events rest k))) _ (λ k. ap before (duals_then (length x) ns rest k))
+    (ends_told c.close.result _ _ _ _ _ (told_then _ _ _ _ _ (told_then _ _ _ _ _ (told_then _ _ _ _ _ (told_then _ _ _ _ _ (told_then _ _ _ _ _ c.in_ok-tell_status.ensures c.in_ok-tell_point_values.ensures) c.in_ok-tell_dual_values.ensures) c.in_ok-open.ensures) c.in_ok-tell_point.ensures) c.in_ok-tell_tree.ensures) c.close.ensures)

@@ -2,7 +2,7 @@ use Rattle.std.proofs.Common.{List, subst}
 use Rattle.std.specs.Prelude.{IfOk}
 use Rattle.tree_grammar.specs.Elements.{Element}
 use Rattle.osrl_grammar.specs.Parts.{results_path, solutions}
-use Rattle.osrl_grammar.specs.Spots.{AreSpots}
+use Rattle.document_tags.specs.Spots.{AreSpots}
 use Rattle.osrl_grammar.proofs.Paths.{along_each}
 use Rattle.osrl_grammar.proofs.reading.read_results.Goals as goal
 

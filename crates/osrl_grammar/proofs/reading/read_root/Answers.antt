@@ -6,7 +6,7 @@ use Rattle.osrl_grammar.specs.Items.{IsReadable}
 use Rattle.osrl_grammar.specs.Parts.{solutions, all_results, items}
 use Rattle.osrl_grammar.specs.Refusals.{IsNamed, IsCounted, RefusesItem}
 use Rattle.osrl_grammar.specs.Meaning.{Says}
-use Rattle.osrl_grammar.specs.Spots.{Stands}
+use Rattle.document_tags.specs.Spots.{Stands}
 use Rattle.osrl_grammar.proofs.Wholes.{accepted, refused}
 use Rattle.osrl_grammar.proofs.Parted.{at_some, at_none}
 use Rattle.osrl_grammar.proofs.Claimed.{only_none, in_slice}

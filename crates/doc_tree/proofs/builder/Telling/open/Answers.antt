@@ -1,7 +1,7 @@
 use Rattle.std.proofs.Common.{[], ◌∷◌, subst}
 use Rattle.doc_tree.specs.Marks.{Start}
 use Rattle.doc_tree.specs.Building.{Tells}
-use Rattle.doc_tree.proofs.Tellings.{open_told, open_ready, unless_wanted}
+use Rattle.doc_tree.proofs.Told.Tellings.{open_told, open_ready, unless_wanted}
 use Rattle.doc_tree.proofs.builder.Telling.open.Goals as goal
 
 pub invariant_of-self : goal.invariant_of-self

@@ -1,7 +1,7 @@
 use Rattle.std.proofs.Common.{◌≡◌, [], map, sym, subst}
 use Rattle.doc_tree.specs.Marks.{Char}
 use Rattle.doc_tree.specs.Building.{Tells}
-use Rattle.doc_tree.proofs.Tellings.{text_told, text_ready, unless_wanted}
+use Rattle.doc_tree.proofs.Told.Tellings.{text_told, text_ready, unless_wanted}
 use Rattle.doc_tree.proofs.builder.Telling.push_text.Goals as goal
 
 pub invariant_of-self : goal.invariant_of-self

@@ -1,7 +1,7 @@
 use Rattle.std.proofs.Common.{refl, subst, sym}
 use Rattle.doc_tree.specs.Completes.{view}
-use Rattle.doc_tree.proofs.Answering.{not_true}
-use Rattle.doc_tree.proofs.TagSteps as steps
+use Rattle.doc_tree.proofs.Stepwise.Answering.{not_true}
+use Rattle.doc_tree.proofs.Stepwise.TagSteps as steps
 use Rattle.tree_grammar.specs.Tags.{IsAmong}
 use Rattle.doc_tree.proofs.machine.Machine.key_over.Goals as goal
 

@@ -1,6 +1,6 @@
 use Rattle.std.proofs.Common.{subst, List, ℕ, IfOk, IfErr}
-use Rattle.doc_tree.specs.Reading.{ReadsOnly}
-use Rattle.doc_tree.specs.Feeding.{WasFed, Ends}
+use Rattle.doc_tree.specs.Reading.{ReadsOnly, Ends}
+use Rattle.doc_tree.specs.Feeding.{WasFed}
 use Rattle.doc_tree.proofs.reader.Reader.finish.Goals as goal
 
 pub returns-clause-only : goal.returns-clause-only

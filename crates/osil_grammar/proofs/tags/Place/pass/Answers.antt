@@ -1,6 +1,6 @@
 use Rattle.std.proofs.Common.{◌+◌, refl, arith}
-use Rattle.osil_grammar.specs.Reading.{begun}
-use Rattle.osil_grammar.specs.Tags.{elements_in}
+use Rattle.osil_grammar.specs.Parsing.{begun}
+use Rattle.document_tags.specs.Elements.{elements_in}
 use Rattle.osil_grammar.proofs.Passing.{deeper_by, higher_by, out_by, fewer_entered, fewer_left, both_on, entered_on, left_on, stays_on}
 use Rattle.osil_grammar.proofs.tags.Place.pass.Goals as goal
 

@@ -1,6 +1,6 @@
 use Rattle.std.proofs.Common.{◌≡◌, ◌+◌, ◌*◌, ◌≤◌, ℕ, List, ◌∷◌, length}
 use Rattle.tree_grammar.specs.Elements.{Event, Nodes, Close, nodes_events}
-use Rattle.osil_grammar.specs.Tags.{elements_in}
+use Rattle.document_tags.specs.Elements.{elements_in}
 use Rattle.osil_grammar.specs.Walking.{GoesOn}
 use Rattle.osil_grammar.proofs.Passing.{IsAhead}
 use Rattle.osil_grammar.proofs.tags.Place.pass.Given as goal

@@ -1,6 +1,6 @@
 use Rattle.std.proofs.Common.{◌≡◌, drop}
 use Rattle.element_tree.specs.Items.{event_at, attributes_of}
-use Rattle.osil_grammar.specs.Tags.{value_of}
+use Rattle.document_tags.specs.Elements.{value_of}
 use Rattle.osil_grammar.proofs.tags.StartTag.attribute.Given as goal
 
 abbrev pub invariant-loop-k : goal.invariant-loop-k

@@ -1,0 +1,8 @@
+-- What a whole text says, and the tree that is told of it.
+pub mod Tellings
+pub mod Gathering
+pub mod Fitting
+pub mod Wholes
+pub mod LineFeeds
+pub mod Results
+pub mod Finished

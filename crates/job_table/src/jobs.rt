@@ -1,0 +1,339 @@
+//! The jobs that are held, by number, with what is counted of them.
+
+ghost use Rattle.std.specs.Prelude.{◌≡◌, ℕ, List, ◌+◌, ◌-◌, ◌<◌, ◌≤◌, ◌^◌, length, Some, None, true, false, IfOk, IfSome, OnOk, OnErr, IfNone, IsSome, IsSomeAnd, min, if◌then◌else◌, [], ◌∷◌, ◌++◌};
+ghost use Rattle.std.specs.Option.{option_copied};
+ghost use Rattle.job_table.specs.declared.calls.Reply.{Reply};
+ghost use Rattle.job_table.specs.declared.job.Phase.TheVariants.{Running};
+ghost use Rattle.job_table.specs.Jobs.{Register, empty, Rise, phase_of, with_phase, without, state_of, is_waiting, is_running, states, waiting_jobs, running_jobs, first_waiting, IsFirst, Below};
+ghost use Rattle.job_table.specs.Steps.{most_jobs, last_number, with_new, moved, forgotten, adds, added_reply, Leads, claims, kills, outcome};
+
+use crate::calls::{IssueFault, JobStates};
+use crate::job::{Job, Phase, State};
+use crate::waiting::{make_room, renew};
+use os_io::Memory;
+use std::alloc::{AllocError, Global};
+use std::collections::{BTreeMap, VecDeque};
+use std::marker::Model;
+
+/// The most jobs that are held.
+const MOST_JOBS: usize = 10_000;
+
+/// The last number.
+const LAST_NUMBER: u64 = (1 << 63) - 1;
+
+/// The jobs that are held. Contracts see them in order of issue, how many numbers were given, and how many workers are enlisted.
+#[derive(Drop)]
+pub(crate) struct Jobs {
+    /// Numbers rise with the order of issue, so this is that order, also after a record was given up.
+    phases: BTreeMap<u64, Phase>,
+    /// The numbers of those that wait, in order, with room for all that are held.
+    waiting: VecDeque<u64>,
+    /// How many run.
+    running: u32,
+    issued: u64,
+    workers: u32,
+}
+
+impl Model for Jobs {
+    ghost use Rattle.std.specs.VecDeque.{deque_capacity};
+    ghost use Rattle.job_table.specs.Jobs.{Register};
+    ghost use Rattle.job_table.specs.Waiting.{IsKept};
+
+    ghost Value = { Register };
+
+    ghost view = { λ j. record { jobs = j.phases.entries; issued = j.issued; workers = j.workers } };
+
+    ghost invariant = { λ j. IsKept j.phases.entries j.issued j.waiting.items (deque_capacity j.waiting) j.running };
+}
+
+/// What is told of a phase.
+pub(crate) fn state_of(phase: &Phase) -> State
+    ensures { result ≡ state_of phase.now }
+{
+    match phase {
+        Phase::Issued => State::Issued,
+        Phase::Waiting { .. } => State::Waiting,
+        Phase::Running { .. } => State::Running,
+        Phase::Finished(_) => State::Finished,
+        Phase::Killed => State::Killed,
+    }
+}
+
+fn is_waiting(phase: &Phase) -> bool
+    ensures { result ≡ is_waiting phase.now }
+{
+    matches!(phase, Phase::Waiting { .. })
+}
+
+fn is_running(phase: &Phase) -> bool
+    ensures { result ≡ is_running phase.now }
+{
+    matches!(phase, Phase::Running { .. })
+}
+
+/// Puts a job that is held into another phase, and gives the one before.
+fn replace(phases: &mut BTreeMap<u64, Phase>, number: u64, phase: Phase) -> Phase
+    requires { IsSome (phase_of number phases.old.entries) }
+    ensures phases { (low high : ℕ) → Rise low phases.old.entries high → phases.new.entries ≡ with_phase number phase phases.old.entries }
+    ensures before { phase_of number phases.old.entries ≡ Some result }
+{
+    match phases.insert(number, phase) {
+        Ok(Some(before)) => before,
+        Ok(None) => unreachable!(),
+        Err(_) => unreachable!(),
+    }
+}
+
+/// Adds a job behind all others, by a number that is above theirs.
+fn append(phases: &mut BTreeMap<u64, Phase>, number: u64, phase: Phase) -> Result<(), Memory>
+    requires { Below number phases.old.entries }
+    ensures ok { OnOk result (phases.new.entries ≡ phases.old.entries ++ (number, phase) ∷ []) }
+    ensures err { OnErr result (phases.new.entries ≡ phases.old.entries) }
+{
+    match phases.insert(number, phase) {
+        Ok(_) => Ok(()),
+        Err(_) => Err(AllocError),
+    }
+}
+
+/// Takes a job out.
+fn take_away(phases: &mut BTreeMap<u64, Phase>, number: u64)
+    ensures { phases.new.entries ≡ without number phases.old.entries }
+{
+    phases.remove(&number);
+}
+
+/// How many run, where one job ran or not, and runs or not.
+fn recount(running: u32, ran: bool, runs: bool) -> u32
+    requires some { ran ≡ true → 0 < running }
+    requires few { running < 2 ^ 32 - 1 }
+    ensures { result + (if ran then 1 else 0) ≡ running + (if runs then 1 else 0) }
+{
+    match (ran, runs) {
+        (true, false) => running - 1,
+        (false, true) => running + 1,
+        (true, true) => running,
+        (false, false) => running,
+    }
+}
+
+impl Jobs {
+    pub(crate) fn new(alloc: Global) -> Jobs
+        ensures { result ≡ empty }
+    {
+        Jobs {
+            phases: BTreeMap::new(alloc),
+            waiting: VecDeque::new(alloc),
+            running: 0,
+            issued: 0,
+            workers: 0,
+        }
+    }
+
+    /// How many numbers were given.
+    pub(crate) fn issued(&self) -> u64
+        ensures { result ≡ self.now.issued }
+    {
+        self.issued
+    }
+
+    /// How many workers are enlisted.
+    pub(crate) fn workers(&self) -> u32
+        ensures { result ≡ self.now.workers }
+    {
+        self.workers
+    }
+
+    /// How many jobs run.
+    pub(crate) fn running(&self) -> u32
+        ensures { result ≡ running_jobs self.now.jobs }
+    {
+        self.running
+    }
+
+    /// How many jobs wait or run.
+    pub(crate) fn current(&self) -> u32
+        ensures { result ≡ waiting_jobs self.now.jobs + running_jobs self.now.jobs }
+    {
+        self.waiting.len() as u32 + self.running
+    }
+
+    /// The phase of a job.
+    pub(crate) fn phase(&self, number: u64) -> Option<&Phase>
+        ensures { option_copied result ≡ phase_of number self.now.jobs }
+    {
+        self.phases.get(&number)
+    }
+
+    /// The number of the first job that waits.
+    fn first_waiting(&self) -> Option<u64>
+        ensures some { IfSome result (λ number. IsFirst number self.now.jobs) }
+        ensures none { IfNone result (first_waiting self.now.jobs ≡ None) }
+    {
+        match self.waiting.front() {
+            Some(number) => Some(*number),
+            None => None,
+        }
+    }
+
+    /// The states of all, in order of issue.
+    pub(crate) fn states(&self, alloc: Global) -> Result<JobStates, Memory>
+        ensures { IfOk result (λ all. all ≡ states self.now.jobs) }
+    {
+        let mut all = JobStates::new(alloc);
+        for (number, phase) in &self.phases {
+            match all.push(*number, state_of(phase)) {
+                Ok(()) => {}
+                Err(lost) => return Err(lost),
+            }
+        }
+        Ok(all)
+    }
+
+    /// A new job, which has the next number.
+    pub(crate) fn add(&mut self, phase: Phase) -> Result<u64, IssueFault>
+        requires { is_waiting phase ≡ false }
+        ensures number { IfOk result (λ number. number ≡ self.old.issued + 1) }
+        ensures added { (said : Reply) → Leads (adds phase said self.old) self.old (added_reply (λ _. said) result) self.new }
+    {
+        let held = self.phases.len();
+        if held >= MOST_JOBS {
+            return Err(IssueFault::Full);
+        }
+        if self.issued >= LAST_NUMBER {
+            return Err(IssueFault::Spent);
+        }
+        match make_room(&mut self.waiting, held + 1) {
+            Ok(()) => {}
+            Err(_) => return Err(IssueFault::Memory),
+        }
+        let runs = is_running(&phase);
+        match append(&mut self.phases, self.issued + 1, phase) {
+            Ok(()) => {}
+            Err(_) => return Err(IssueFault::Memory),
+        }
+        self.issued += 1;
+        self.running = recount(self.running, false, runs);
+        Ok(self.issued)
+    }
+
+    /// Puts a job that is held into another phase, and gives the one before. It takes no memory.
+    pub(crate) fn put(&mut self, number: u64, phase: Phase) -> Phase
+        requires { IsSome (phase_of number self.old.jobs) }
+        ensures moved { self.new ≡ moved number phase self.old }
+        ensures before { phase_of number self.old.jobs ≡ Some result }
+    {
+        let waits = is_waiting(&phase);
+        let runs = is_running(&phase);
+        let before = replace(&mut self.phases, number, phase);
+        renew(&mut self.waiting, number, is_waiting(&before), waits);
+        self.running = recount(self.running, is_running(&before), runs);
+        before
+    }
+
+    /// Gives up a job that neither waits nor runs.
+    pub(crate) fn forget(&mut self, number: u64)
+        requires { IsSomeAnd (phase_of number self.old.jobs) (λ phase. (is_waiting phase ≡ false) × (is_running phase ≡ false)) }
+        ensures { self.new ≡ forgotten number self.old }
+    {
+        take_away(&mut self.phases, number);
+    }
+
+    /// The first job that waits, which runs from then on.
+    pub(crate) fn start(&mut self) -> Option<Job>
+        ensures { claims (first_waiting self.old.jobs) self.old ≡ outcome (Reply.Gave result) self.new }
+    {
+        match self.first_waiting() {
+            Some(number) => Some(self.run(number)),
+            None => None,
+        }
+    }
+
+    /// Runs the first job that waits, which has this number.
+    fn run(&mut self, number: u64) -> Job
+        requires { IsFirst number self.old.jobs }
+        ensures given { first_waiting self.old.jobs ≡ Some result }
+        ensures runs { self.new ≡ moved result.number (Running result.osil result.osol false) self.old }
+    {
+        match self.put(number, Phase::Issued) {
+            Phase::Waiting { osil, osol } => {
+                let (kept_osil, osil) = osil.split();
+                let (kept_osol, osol) = osol.split();
+                self.put(
+                    number,
+                    Phase::Running {
+                        osil: kept_osil,
+                        osol: kept_osol,
+                        marked: false,
+                    },
+                );
+                Job { number, osil, osol }
+            }
+            Phase::Issued => unreachable!(),
+            Phase::Running { .. } => unreachable!(),
+            Phase::Finished(_) => unreachable!(),
+            Phase::Killed => unreachable!(),
+        }
+    }
+
+    /// Kills a job that doesn't run yet, marks one that runs, and gives up one that is over.
+    pub(crate) fn stop(&mut self, number: u64)
+        ensures { self.new ≡ kills number (phase_of number self.old.jobs) self.old }
+    {
+        match self.phase(number) {
+            Some(Phase::Issued) => {}
+            Some(Phase::Waiting { .. }) => {}
+            Some(Phase::Running { .. }) => {
+                self.mark(number);
+                return;
+            }
+            Some(Phase::Finished(_)) => {
+                self.forget(number);
+                return;
+            }
+            Some(Phase::Killed) => {
+                self.forget(number);
+                return;
+            }
+            None => return,
+        }
+        self.put(number, Phase::Killed);
+    }
+
+    /// Marks a job that runs.
+    fn mark(&mut self, number: u64)
+        requires { IsSomeAnd (phase_of number self.old.jobs) (λ phase. is_running phase ≡ true) }
+        ensures { self.new ≡ kills number (phase_of number self.old.jobs) self.old }
+    {
+        match self.put(number, Phase::Issued) {
+            Phase::Running { osil, osol, .. } => {
+                self.put(
+                    number,
+                    Phase::Running {
+                        osil,
+                        osol,
+                        marked: true,
+                    },
+                );
+            }
+            Phase::Issued => unreachable!(),
+            Phase::Waiting { .. } => unreachable!(),
+            Phase::Finished(_) => unreachable!(),
+            Phase::Killed => unreachable!(),
+        }
+    }
+
+    /// One more worker.
+    pub(crate) fn enlist(&mut self)
+        ensures { self.new ≡ record self.old { workers = min (self.old.workers + 1) (2 ^ 32 - 1) } }
+    {
+        self.workers = self.workers.saturating_add(1);
+    }
+
+    /// One worker less.
+    pub(crate) fn leave(&mut self)
+        ensures { self.new ≡ record self.old { workers = self.old.workers - 1 } }
+    {
+        self.workers = self.workers.saturating_sub(1);
+    }
+}

@@ -1,0 +1,42 @@
+//! The job table: what each call of it answers, and what it leaves.
+//!
+//! A job gets a number, is sent its texts, waits until somebody claims it, runs, and is finished with a document; or it is
+//! entered with its texts and runs at once. Whoever runs it looks whether it is asked to stop. A kill of a job that doesn't
+//! run yet ends it, of one that runs asks it to stop, of one that is over gives up its record. [`Table`] has one call for each
+//! of these, as the calls of Optimization Services ask for (Optimization Services manual, the calls `getJobID`, `send`,
+//! `solve`, `kill`, `retrieve` and `knock`), and [`Table::step`] makes any of them, given as a [`Call`]. Contracts see the jobs in
+//! order of issue, how many numbers were given, and how many workers are enlisted; for each call one row of `specs/Steps.antt`
+//! says what it answers and what it leaves.
+//!
+//! A document of a job is right where [`Verdicts`] says so, and a finish asks for one that is. [`Calls`] is who makes calls: a
+//! table's owner, or one of many who share it; [`CallsWatch`] asks them whether a job is to stop. [`write_id`] and [`read_id`]
+//! know the texts that name jobs. What holds of every history of calls is said by four laws, [`given_jobs_run`],
+//! [`numbers_are_given_once`], [`first_finish_is_kept`] and [`documents_are_right`].
+//!
+//! Only `knock` goes over the jobs. Room for a job's record and for its place among those that wait is taken where its number is
+//! given, and texts have two owners from the start ([`Twin`]), so that `send`, `claim`, `look`, `finish` and `kill` take no memory.
+#![tactic(auto)]
+
+mod caller;
+mod calls;
+mod ids;
+mod job;
+mod jobs;
+mod laws;
+mod table;
+#[cfg(test)]
+mod tests;
+mod texts;
+mod waiting;
+mod watch;
+
+pub use caller::Calls;
+pub use calls::{
+    Call, Finish, IssueFault, JobStates, Killing, Reply, Retrieved, Statistics, Verdicts,
+};
+pub use ids::{read_id, write_id};
+pub use job::{Job, Phase, State};
+pub use laws::{documents_are_right, first_finish_is_kept, given_jobs_run, numbers_are_given_once};
+pub use table::Table;
+pub use texts::{SharedText, Twin};
+pub use watch::CallsWatch;

@@ -1,0 +1,284 @@
+//! The table.
+
+ghost use Rattle.std.specs.Prelude.{◌≡◌, List, ℕ, Some, None, true, false, IfOk, IsOk, OnErr, IsSome};
+ghost use Rattle.job_table.specs.declared.job.Phase.TheVariants.{Finished as HasFinished};
+ghost use Rattle.job_table.specs.Jobs.{Register, empty, phase_of};
+ghost use Rattle.job_table.specs.Steps.{May, Step, Follows, fits, wants_memory, row, outcome, added_reply, kills, is_marked};
+
+use crate::calls::{Call, Finish, IssueFault, Killing, Reply, Retrieved, Statistics, Verdicts};
+use crate::job::{Job, Phase};
+use crate::jobs::{Jobs, state_of};
+use crate::texts::{SharedText, Twin};
+use os_io::Memory;
+use std::alloc::{AllocError, Global};
+use std::marker::{Model, PhantomData};
+
+/// The table of jobs. Contracts see the jobs that are held, in order of issue, how many numbers were given, and how many workers
+/// are enlisted. What finds no memory leaves the table as it was.
+#[derive(Drop)]
+pub struct Table<V: Verdicts> {
+    alloc: Global,
+    jobs: Jobs,
+    verdicts: PhantomData<V>,
+}
+
+impl<V: Verdicts> Model for Table<V> {
+    ghost use Rattle.job_table.specs.Jobs.{Register};
+
+    ghost Value = { Register };
+
+    ghost view = { λ t. t.jobs };
+}
+
+/// An answer of issue as a reply.
+fn reply_of_issue(answer: Result<u64, IssueFault>) -> Result<Reply, Memory>
+    ensures ok { IfOk result (λ reply. added_reply Reply.Issued answer ≡ Some reply) }
+    ensures err { OnErr result (added_reply Reply.Issued answer ≡ None) }
+    ensures fits { IfOk result (λ reply. fits Call.Issue reply ≡ true) }
+{
+    match answer {
+        Ok(number) => Ok(Reply::Issued(number)),
+        Err(IssueFault::Full) => Ok(Reply::Full),
+        Err(IssueFault::Spent) => Ok(Reply::Spent),
+        Err(IssueFault::Memory) => Err(AllocError),
+    }
+}
+
+/// An answer of enter as a reply.
+fn reply_of_enter(answer: Result<Job, IssueFault>) -> Result<Reply, Memory>
+    ensures ok { IfOk result (λ reply. added_reply (λ job. Reply.Gave (Some job)) answer ≡ Some reply) }
+    ensures err { OnErr result (added_reply (λ job. Reply.Gave (Some job)) answer ≡ None) }
+    ensures fits { IfOk result (λ reply. (osil osol : List ℕ) → fits (Call.Enter osil osol) reply ≡ true) }
+{
+    match answer {
+        Ok(job) => Ok(Reply::Gave(Some(job))),
+        Err(IssueFault::Full) => Ok(Reply::Full),
+        Err(IssueFault::Spent) => Ok(Reply::Spent),
+        Err(IssueFault::Memory) => Err(AllocError),
+    }
+}
+
+impl<V: Verdicts> Table<V> {
+    /// The empty table.
+    pub fn new(alloc: Global) -> Table<V>
+        ensures { result ≡ empty }
+    {
+        Table {
+            alloc,
+            jobs: Jobs::new(alloc),
+            verdicts: PhantomData,
+        }
+    }
+
+    /// How many numbers were given. It is no call, and no history has it.
+    pub fn issued(&self) -> u64
+        ensures { result ≡ self.now.issued }
+    {
+        self.jobs.issued()
+    }
+
+    /// A new job, with its number alone. The answer is the number.
+    pub fn issue(&mut self) -> Result<u64, IssueFault>
+        ensures { Follows Call.Issue self.old (added_reply Reply.Issued result) self.new }
+    {
+        self.jobs.add(Phase::Issued)
+    }
+
+    /// Sends texts to a job that has its number alone; true where they were taken. It takes no memory.
+    pub fn send(&mut self, number: u64, osil: Twin, osol: Twin) -> bool
+        ensures { row (Call.Send number osil osol) self.old ≡ outcome (Reply.Sent result) self.new }
+    {
+        match self.jobs.phase(number) {
+            Some(Phase::Issued) => {}
+            Some(Phase::Waiting { .. }) => return false,
+            Some(Phase::Running { .. }) => return false,
+            Some(Phase::Finished(_)) => return false,
+            Some(Phase::Killed) => return false,
+            None => return false,
+        }
+        self.jobs.put(number, Phase::Waiting { osil, osol });
+        true
+    }
+
+    /// A new job with its texts, which the caller runs at once.
+    pub fn enter(&mut self, osil: Twin, osol: Twin) -> Result<Job, IssueFault>
+        ensures { Follows (Call.Enter osil osol) self.old (added_reply (λ job. Reply.Gave (Some job)) result) self.new }
+    {
+        let (kept_osil, osil) = osil.split();
+        let (kept_osol, osol) = osol.split();
+        let phase = Phase::Running {
+            osil: kept_osil,
+            osol: kept_osol,
+            marked: false,
+        };
+        match self.jobs.add(phase) {
+            Ok(number) => Ok(Job { number, osil, osol }),
+            Err(fault) => Err(fault),
+        }
+    }
+
+    /// The first job that waits, which the caller runs from then on. None where no job waits, or where the caller is no worker
+    /// and a worker is enlisted. It takes no memory.
+    pub fn claim(&mut self, worker: bool) -> Option<Job>
+        ensures { row (Call.Claim worker) self.old ≡ outcome (Reply.Gave result) self.new }
+    {
+        if !worker && self.jobs.workers() > 0 {
+            return None;
+        }
+        self.jobs.start()
+    }
+
+    /// Whether a job runs and was asked to stop. It takes no memory.
+    pub fn look(&self, number: u64) -> bool
+        ensures { row (Call.Look number) self.now ≡ outcome (Reply.Marked result) self.now }
+    {
+        match self.jobs.phase(number) {
+            Some(Phase::Running { marked, .. }) => *marked,
+            Some(Phase::Issued) => false,
+            Some(Phase::Waiting { .. }) => false,
+            Some(Phase::Finished(_)) => false,
+            Some(Phase::Killed) => false,
+            None => false,
+        }
+    }
+
+    /// Keeps the document of a job that runs with these texts, which may say that the job was asked to stop only where it was.
+    /// No document stands for want of memory. It takes no memory, and lets go of what isn't kept.
+    pub fn finish(&mut self, job: Job, asked: bool, document: Option<SharedText>) -> Finish
+        requires { V.right job.osil job.osol asked document }
+        ensures { row (Call.Finish job asked document) self.old ≡ outcome (Reply.Finish result) self.new }
+    {
+        let Job { number, osil, osol } = job;
+        match self.jobs.phase(number) {
+            Some(
+                Phase::Running {
+                    osil: kept_osil,
+                    osol: kept_osol,
+                    marked,
+                },
+            ) => {
+                if osil.as_slice() != kept_osil.as_slice()
+                    || osol.as_slice() != kept_osol.as_slice()
+                {
+                    return Finish::Other;
+                }
+                if asked && !*marked {
+                    return Finish::Unmarked;
+                }
+            }
+            Some(phase) => {
+                return Finish::Stale {
+                    state: Some(state_of(phase)),
+                };
+            }
+            None => return Finish::Stale { state: None },
+        }
+        self.jobs.put(number, Phase::Finished(document));
+        Finish::Kept
+    }
+
+    /// Kills a job that doesn't run yet, asks one that runs to stop, and gives up the record of one that is over. The answer
+    /// tells what stands afterwards. It takes no memory.
+    pub fn kill(&mut self, number: u64) -> Killing
+        ensures { row (Call.Kill number) self.old ≡ outcome (Reply.Killing result) self.new }
+    {
+        self.jobs.stop(number);
+        let state = match self.jobs.phase(number) {
+            Some(phase) => Some(state_of(phase)),
+            None => None,
+        };
+        Killing {
+            busy: self.jobs.running() > 0,
+            current: self.jobs.current(),
+            total: self.jobs.issued(),
+            state,
+        }
+    }
+
+    /// How far a job has come, with a further owner of its document, which alone needs memory.
+    pub fn retrieve(&self, number: u64) -> Result<Retrieved, Memory>
+        ensures ok { IfOk result (λ shown. row (Call.Retrieve number) self.now ≡ outcome (Reply.Retrieved shown) self.now) }
+        ensures err { OnErr result ((document : List ℕ) × (phase_of number self.now.jobs ≡ Some (HasFinished (Some document)))) }
+    {
+        match self.jobs.phase(number) {
+            None => Ok(Retrieved::Unknown),
+            Some(Phase::Issued) => Ok(Retrieved::Issued),
+            Some(Phase::Waiting { .. }) => Ok(Retrieved::Waiting),
+            Some(Phase::Running { .. }) => Ok(Retrieved::Running),
+            Some(Phase::Killed) => Ok(Retrieved::Killed),
+            Some(Phase::Finished(None)) => Ok(Retrieved::Finished(None)),
+            Some(Phase::Finished(Some(document))) => match document.share() {
+                Ok(owner) => Ok(Retrieved::Finished(Some(owner))),
+                Err(lost) => Err(lost),
+            },
+        }
+    }
+
+    /// How far all jobs have come. It goes over the jobs that are held.
+    pub fn knock(&self) -> Result<Statistics, Memory>
+        ensures { IfOk result (λ told. row Call.Knock self.now ≡ outcome (Reply.Statistics told) self.now) }
+    {
+        match self.jobs.states(self.alloc) {
+            Ok(jobs) => Ok(Statistics {
+                busy: self.jobs.running() > 0,
+                current: self.jobs.current(),
+                total: self.jobs.issued(),
+                jobs,
+            }),
+            Err(lost) => Err(lost),
+        }
+    }
+
+    /// One more worker, up to 4,294,967,295. It takes no memory.
+    pub fn enlist(&mut self)
+        ensures { row Call.Enlist self.old ≡ outcome Reply.Done self.new }
+    {
+        self.jobs.enlist();
+    }
+
+    /// One worker less, down to none. It takes no memory.
+    pub fn leave(&mut self)
+        ensures { row Call.Leave self.old ≡ outcome Reply.Done self.new }
+    {
+        self.jobs.leave();
+    }
+
+    /// Makes a call that is given as a value.
+    pub fn step(&mut self, call: Call) -> Result<Reply, Memory>
+        requires { May V.right call }
+        ensures ok { IfOk result (λ reply. Step V.right self.old call reply self.new) }
+        ensures fits { IfOk result (λ reply. fits call reply ≡ true) }
+        ensures sure { wants_memory call ≡ false → IsOk result }
+        ensures err { OnErr result (self.new ≡ self.old) }
+    {
+        match call {
+            Call::Issue => reply_of_issue(self.issue()),
+            Call::Send { number, osil, osol } => Ok(Reply::Sent(self.send(number, osil, osol))),
+            Call::Enter { osil, osol } => reply_of_enter(self.enter(osil, osol)),
+            Call::Claim { worker } => Ok(Reply::Gave(self.claim(worker))),
+            Call::Look { number } => Ok(Reply::Marked(self.look(number))),
+            Call::Finish {
+                job,
+                asked,
+                document,
+            } => Ok(Reply::Finish(self.finish(job, asked, document))),
+            Call::Kill { number } => Ok(Reply::Killing(self.kill(number))),
+            Call::Retrieve { number } => match self.retrieve(number) {
+                Ok(shown) => Ok(Reply::Retrieved(shown)),
+                Err(lost) => Err(lost),
+            },
+            Call::Knock => match self.knock() {
+                Ok(told) => Ok(Reply::Statistics(told)),
+                Err(lost) => Err(lost),
+            },
+            Call::Enlist => {
+                self.enlist();
+                Ok(Reply::Done)
+            }
+            Call::Leave => {
+                self.leave();
+                Ok(Reply::Done)
+            }
+        }
+    }
+}

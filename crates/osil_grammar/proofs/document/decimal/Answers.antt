@@ -1,0 +1,12 @@
+use Rattle.std.proofs.Common.{◌≡◌, ◌∙◌, ◌++◌, List, ℕ, ap, subst, sym}
+use Rattle.fraction.specs.Frac.{ratio}
+use Rattle.decimal_text.specs.Plain.{PlainText}
+use Rattle.osil_grammar.proofs.NotEmpty.{decimal_not_empty}
+use Rattle.osil_grammar.proofs.document.decimal.Goals as goal
+
+pub returns-in-Ok : goal.returns-in-Ok
+returns-in-Ok c =
+    let wrote = c.in-Ok.ensures.ok in
+    let from_nothing : c.new-text.result ++ wrote.written ≡ wrote.written = ap (λ (l : List ℕ). l ++ wrote.written) c.new-text.ensures in
+    let back : wrote.written ≡ c.write_decimal.new.out = sym from_nothing ∙ sym wrote.after in
+    ((wrote.written, wrote.read), subst (λ (t : List ℕ). PlainText t (ratio c.args.value)) back wrote.plain, λ empty. decimal_not_empty (ratio c.args.value) wrote.written wrote.read (back ∙ empty))

@@ -1,0 +1,28 @@
+use Rattle.std.proofs.Common.{◌≡◌, List, ℕ, subst, sym}
+use Rattle.std.specs.List.{All}
+use Rattle.std.proofs.lemmas.Result.{err_from_is_err_and}
+use Rattle.fraction.specs.Frac.{ratio}
+use Rattle.fraction.specs.declared.frac.Frac.{Frac}
+use Rattle.decimal_text.specs.Plain.{PlainText}
+use Rattle.osil_grammar.specs.Writing.{HasDecimal, CountsCosts, WriteCosts}
+use Rattle.osil_grammar.specs.Telling.{GoalHasDecimals}
+use Rattle.osil_grammar.proofs.Told.{none_of}
+use Rattle.osil_grammar.proofs.Parts.{objective_told}
+use Rattle.osil_grammar.proofs.document.tell_objective.Goals as goal
+
+pub returns-in_err-tell_costs : goal.returns-in_err-tell_costs
+returns-in_err-tell_costs c =
+    let g = c.args.goal.now in
+    let costs : c.as_slice-costs.result.now ≡ g.costs = c.as_slice-costs.ensures in
+    let p = err_from_is_err_and c.from_residual-in_err-tell_costs.result c.from_residual-in_err-tell_costs.ensures.1 in
+    rw (p.1, p.2) (none_of (All HasDecimal c.as_slice-costs.result.now) (GoalHasDecimals g) c.in_err-tell_costs.field-0.0 (λ (all : GoalHasDecimals g). subst (λ (l : List Frac). All HasDecimal l) (sym costs) all.1) c.in_err-tell_costs.ensures)
+
+pub returns : goal.returns
+returns c =
+    let g = c.args.goal.now in
+    let costs : c.as_slice-costs.result.now ≡ g.costs = c.as_slice-costs.ensures in
+    let told_costs = c.in_ok-tell_costs.ensures in
+    let plain = subst (λ (t : List ℕ). PlainText t (ratio g.constant)) (sym c.as_slice.ensures) c.in_ok-constant.ensures.1 in
+    let count = subst (λ (l : List Frac). CountsCosts l c.count_costs.result) costs c.count_costs.ensures in
+    let told = objective_told g _ _ _ _ _ _ _ _ c.count_costs.result told_costs.1 c.requires c.sense_of.ensures plain count c.in_ok-attribute.ensures.ok c.in_ok-attribute-2.ensures.ok c.in_ok-open_counted.ensures (subst (λ (l : List Frac). WriteCosts 0 l told_costs.1) costs told_costs.2) told_costs.3 c.in_ok-close.ensures in
+    ((c.in_ok-constant.ensures.0, subst (λ (l : List Frac). All HasDecimal l) costs told_costs.0), told.0, told.1, told.2)

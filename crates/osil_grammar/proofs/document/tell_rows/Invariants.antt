@@ -1,0 +1,8 @@
+use Rattle.instance.specs.declared.parts.Row.{Row}
+use Rattle.osil_grammar.specs.Writing.{WriteRows}
+use Rattle.osil_grammar.specs.Telling.{EndsHaveTexts}
+use Rattle.osil_grammar.proofs.Told.{ToldFirst}
+use Rattle.osil_grammar.proofs.document.tell_rows.Given as goal
+
+abbrev pub invariant-loop-row : goal.invariant-loop-row
+invariant-loop-row l = ToldFirst (λ (r : Row). EndsHaveTexts r.lb r.ub) (λ i. WriteRows) l.initial.b l.b l.rows l.row-index

@@ -1,5 +1,0 @@
-use Rattle.osil_grammar.proofs.Clean.{not_both}
-use Rattle.osil_grammar.proofs.laws.accepted_is_not_refused.Goals as goal
-
-pub returns : goal.returns
-returns c = not_both

@@ -1,7 +1,0 @@
-use Rattle.fraction.specs.declared.ends.Entry.{Entry}
-use Rattle.osil_grammar.proofs.Told.{ToldFirst}
-use Rattle.osil_grammar.proofs.Joined.{WriteColumns}
-use Rattle.osil_grammar.proofs.writing.tell_columns.Given as goal
-
-abbrev pub invariant-loop-entry : goal.invariant-loop-entry
-invariant-loop-entry l = ToldFirst (λ (e : Entry). Unit {0}) WriteColumns l.initial.b l.b l.entries l.entry-index

@@ -1,6 +1,0 @@
-use Rattle.osil_grammar.specs.Writing.{HasDecimal, WriteCosts}
-use Rattle.osil_grammar.proofs.Told.{ToldFirst}
-use Rattle.osil_grammar.proofs.writing.tell_costs.Given as goal
-
-abbrev pub invariant-loop-j : goal.invariant-loop-j
-invariant-loop-j l = ToldFirst HasDecimal WriteCosts l.initial.b l.b l.costs l.j

@@ -1,8 +1,0 @@
-use Rattle.instance.specs.declared.parts.Var.{Var}
-use Rattle.osil_grammar.specs.Writing.{WriteVars}
-use Rattle.osil_grammar.specs.Telling.{EndsHaveTexts}
-use Rattle.osil_grammar.proofs.Told.{ToldFirst}
-use Rattle.osil_grammar.proofs.writing.tell_vars.Given as goal
-
-abbrev pub invariant-loop-var : goal.invariant-loop-var
-invariant-loop-var l = ToldFirst (λ (v : Var). EndsHaveTexts v.lb v.ub) (λ i. WriteVars) l.initial.b l.b l.vars l.var-index

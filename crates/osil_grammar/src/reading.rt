@@ -1,0 +1,30 @@
+//! Reads documents.
+
+ghost use Rattle.std.specs.Prelude.{IfOk, IfErr};
+ghost use Rattle.osil_grammar.specs.Reading.{IsInstanceText};
+ghost use Rattle.osil_grammar.specs.Reading.{DecodeFails};
+
+use crate::fault::OsilFault;
+use crate::sections::read_tree;
+use doc_tree::{TreeFault, read};
+use instance::Instance;
+use std::alloc::Global;
+
+/// The most bytes of a document.
+pub const MOST_BYTES: u64 = 4_194_304;
+
+/// The instance that an OSiL document stands for.
+///
+/// [`OsilFault::Tree`] exactly where the bytes are no document within the limits, with the refusal of the first byte
+/// that decides one and its place. [`OsilFault::Refused`] exactly where they are a document that is refused: of the
+/// first tag at which something is decided the least refusal.
+pub fn decode(alloc: Global, bytes: &[u8]) -> Result<Instance, OsilFault>
+    ensures ok { IfOk result (λ p. IsInstanceText bytes.now p) }
+    ensures err { IfErr result (DecodeFails bytes.now) }
+{
+    match read(alloc, bytes, MOST_BYTES) {
+        Ok(tree) => read_tree(alloc, &tree),
+        Err(TreeFault::Memory) => Err(OsilFault::Memory),
+        Err(fault) => Err(OsilFault::Tree(fault)),
+    }
+}

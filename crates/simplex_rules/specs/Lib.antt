@@ -1,0 +1,11 @@
+pub use Rattle.rational.specs.Ratio
+pub use Rattle.evidence.specs.Instance
+pub use Rattle.evidence.specs.Cases
+pub use Rattle.evidence.specs.Point
+pub mod Statuses
+pub mod Turns
+pub mod Widths
+pub mod Ends
+pub mod Reports
+pub mod Runs
+pub mod Looks
