@@ -10,7 +10,7 @@ pub mod Decided
 pub mod OneDocument
 pub mod Coming
 pub mod Placed
-pub mod FaultTexts
 pub mod Apart
+pub mod FaultTexts
 pub mod Sizes
-pub mod MoreBytes
+pub mod Lengths

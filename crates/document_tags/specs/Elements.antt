@@ -41,13 +41,13 @@ characters (chars text more) = text ++ characters more
 abbrev pub own_text : Element → List ℕ
 own_text e = characters e.children
 
+-- a text, or none where it is empty
+abbrev pub unless_empty : List ℕ → Option (List ℕ)
+unless_empty [] = None
+unless_empty (c ∷ cs) = Some (c ∷ cs)
+
 -- how many elements there are, at any depth
 abbrev pub elements_in : Nodes → ℕ
 elements_in none = 0
 elements_in (element name attributes children more) = suc (elements_in children + elements_in more)
 elements_in (chars text more) = elements_in more
-
--- a text, or none where it is empty
-abbrev pub unless_empty : List ℕ → Option (List ℕ)
-unless_empty [] = None
-unless_empty (c ∷ cs) = Some (c ∷ cs)

@@ -9,7 +9,7 @@ use Rattle.document_tags.specs.Texts.{document_limit, IsDocument}
 use Rattle.document_tags.specs.Writing.{text_nodes, leaf, group, bare_root}
 use Rattle.document_tags.proofs.Printing.{fixed_text, number_text}
 use Rattle.document_tags.proofs.Flat.{AreFlat, none_flat, text_flat, element_flat, still_flat, root_is_document}
-use Rattle.document_tags.proofs.Sizes.{nodes_size, decimal_size, written_short}
+use Rattle.document_tags.proofs.Lengths.{nodes_size, decimal_size, written_short}
 use Rattle.osol_grammar.specs.declared.limit.Limit.TheVariants.{Nodes, Turns}
 use Rattle.osol_grammar.specs.declared.options.Options.{Options}
 use Rattle.osol_grammar.specs.Limits.{row}

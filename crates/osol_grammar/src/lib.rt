@@ -13,8 +13,6 @@ mod laws;
 mod limit;
 mod options;
 mod reading;
-#[cfg(test)]
-mod tests;
 mod texts;
 mod writing;
 

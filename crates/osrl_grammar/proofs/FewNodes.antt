@@ -10,7 +10,7 @@ use Rattle.rational.specs.Width.{most}
 use Rattle.tree_grammar.specs.Elements.{Nodes, none, element, chars, Element}
 use Rattle.document_tags.specs.Rests.{child_elements}
 use Rattle.document_tags.specs.Elements.{named, children_named, along, within, own_text, elements_in}
-use Rattle.document_tags.proofs.MoreBytes.{fewer_elements}
+use Rattle.document_tags.proofs.Sizes.{fewer_elements}
 use Rattle.certificate.specs.Nodes.{nodes_of, IsInRange}
 use Rattle.certificate.specs.declared.nodes.Node.{Node}
 use Rattle.certificate.specs.declared.nodes.Node.TheVariants.{Split, Clash, Farkas, Bound}

@@ -5,10 +5,10 @@ ghost use Rattle.tree_grammar.specs.Elements.{Element, events};
 ghost use Rattle.document_tags.specs.Rests.{ReadsContent};
 ghost use Rattle.solve_call.specs.Body.{Holds, AsksToSolve};
 
+use document_tags::Walk;
 use element_tree::Tree;
 use os_io::{Memory, Text};
 use std::alloc::Global;
-use document_tags::Walk;
 
 /// The elements between the envelope and the text, from the outside in.
 const PATH: [&[u8]; 3] = [b"Body", b"solve", b"osil"];
