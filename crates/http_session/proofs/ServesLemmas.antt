@@ -1,5 +1,5 @@
 -- A reply that was sent, and what it serves.
-use Rattle.std.proofs.Common.{◌≡◌, ℕ, inl, inr, List, [], ◌++◌, Option, Some, None, Ok, Err, Result, refl, sym, ap, subst}
+use Rattle.std.proofs.Common.{◌≡◌, ℕ, inl, inr, List, [], ◌++◌, Option, Some, None, Ok, Err, refl, sym, ap, subst}
 use Rattle.std.specs.Prelude.{⊤}
 use Rattle.os_io.specs.Streams.{Tells, Told, Appends, AppendsPart, Sends}
 use Rattle.os_io.specs.declared.streams.Failed.{Failed}
@@ -14,7 +14,7 @@ use Rattle.http_link.proofs.OnceLemmas.{request_part}
 use Rattle.http_session.specs.declared.reply.Reply.{Reply}
 use Rattle.http_session.specs.declared.reply.Reply.TheVariants.{Text as TextReply, Refused as RefusalReply, NoMemory}
 use Rattle.http_session.specs.declared.session.Served.{Served}
-use Rattle.http_session.specs.declared.session.Served.TheVariants.{Answered, Memory, WriteFault}
+use Rattle.http_session.specs.declared.session.Served.TheVariants.{WriteFault}
 use Rattle.http_session.specs.Session.{BodyAnswers, IsResponse, IsAnyResponse, ServesOne, WritesReply, Finishes, HandsOn, CountsWrites, RepliesTo, text_of_reply, served_by}
 
 abbrev Left : Type 0

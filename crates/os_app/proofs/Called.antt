@@ -1,5 +1,5 @@
 -- What the words of a call ask for, and what is written where they are no command's.
-use Rattle.std.proofs.Common.{◌≡◌, ◌∙◌, ℕ, List, [], ◌∷◌, ◌++◌, length, Option, Some, None, inl, inr, sym, ap, subst, arith, refl, true, false}
+use Rattle.std.proofs.Common.{◌≡◌, ◌∙◌, List, [], ◌∷◌, Option, Some, None, inl, inr, sym, ap, subst, refl, true, false}
 use Rattle.std.specs.Prelude.{codes, option_and_then, option_map}
 use Rattle.clap.specs.Words.{App, HasKind, HasMatchesOf, IsAmong, Kinds, Row, Rule, Text, fault_of, is_simple, is_simple_and_free, kind_of, new_rule, rows_of, rule_of, subcommand_of, subcommand_rows_of}
 use Rattle.clap.specs.declared.builder.arg.Arg.{Arg}
@@ -14,7 +14,7 @@ use Rattle.clap.specs.declared.parser.matches.Found.{Found}
 use Rattle.clap.proofs.WalkLemmas.{first_value-rows}
 use Rattle.os_app.specs.declared.words.Asked.{Asked}
 use Rattle.os_app.specs.declared.words.Asked.TheVariants as asked
-use Rattle.os_app.specs.Words.{Command, Session, Check, IsCheck, IsSession, IsNoCommand, asked_by, asked_with, asks, files_of, meant, needed_word, program}
+use Rattle.os_app.specs.Words.{Check, IsCheck, IsSession, IsNoCommand, asked_by, asked_with, asks, files_of, meant, needed_word, program}
 
 -- clap says exactly what it makes of the program's words
 program_is_free : is_simple_and_free program ≡ true

@@ -1,5 +1,5 @@
 -- How a run ends that checks two files, and what their bytes decide of it.
-use Rattle.std.proofs.Common.{◌≡◌, ◌∙◌, ℕ, ◌⊎◌, List, [], ◌∷◌, ◌++◌, Option, Some, None, Ok, Err, inl, inr, arith, refl, sym, ap, subst}
+use Rattle.std.proofs.Common.{◌≡◌, ◌∙◌, ℕ, ◌⊎◌, List, [], ◌∷◌, ◌++◌, Ok, Err, inl, inr, arith, ap, subst}
 use Rattle.os_io.specs.Files.{Held, Holds, NoFile, MayHold}
 use Rattle.os_io.specs.Streams.{HasRisen}
 use Rattle.cert_checker.specs.declared.documents.Kind.{Kind}
@@ -11,7 +11,7 @@ use Rattle.cert_checker.proofs.Accepted.{one_kind}
 use Rattle.cert_checker.proofs.Apart.{accepted_apart}
 use Rattle.cert_checker.proofs.OneAnswer.{answer_once}
 use Rattle.os_app.specs.Checks.{IsAnswerLine, IsAnswerTo, IsAnswerAbout, CheckEnds, accepted, refused, in_full, unread, unwritten, unmade}
-use Rattle.os_app.specs.Words.{Command, Session, Check, IsSession, IsCheck, IsNoCommand}
+use Rattle.os_app.specs.Words.{Command, Session, Check, IsCheck}
 use Rattle.os_app.specs.Runs.{Run, AsksLine, IsUntaken, IsFileFault, IsUnheard, RunEnds, checked, file_fault, unsent, unheard, MayBeThere, IsJudged, Runs}
 use Rattle.os_app.specs.Runs as runs
 use Rattle.os_app.proofs.Deciding.{one_command, some_or_none}

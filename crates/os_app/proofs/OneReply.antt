@@ -1,11 +1,10 @@
 -- A body has one answer.
-use Rattle.std.proofs.Common.{◌≡◌, ◌∙◌, ℕ, List, [], ◌∷◌, Option, Some, None, inl, inr, refl, sym, ap, subst}
+use Rattle.std.proofs.Common.{◌≡◌, ◌∙◌, ℕ, List, [], ◌∷◌, Some, None, inl, inr, refl, sym, ap, subst}
 use Rattle.tree_grammar.specs.Elements.{Nodes, none, chars, Element}
-use Rattle.tree_walk.specs.Rests.{child_elements}
 use Rattle.tree_walk.specs.Texts.{HoldsText}
 use Rattle.doc_tree.proofs.Unambiguous.{one_tree}
 use Rattle.http_session.specs.Session.{HasOneAnswer}
-use Rattle.solve_call.specs.Body.{Holds, path, AsksToSolve, IsSolveBody}
+use Rattle.solve_call.specs.Body.{Holds, path, IsSolveBody}
 use Rattle.solve_call.specs.Reply.{reply_text}
 use Rattle.os_app.specs.Answers.{Replies, SolverAnswers}
 use Rattle.os_app.proofs.OneResult.{result_once}

@@ -1,5 +1,5 @@
 -- How a run ends whose words are no command's.
-use Rattle.std.proofs.Common.{◌≡◌, ℕ, List, Ok, Err, inl, refl, subst}
+use Rattle.std.proofs.Common.{ℕ, List, Ok, Err, inl, refl}
 use Rattle.os_io.specs.declared.streams.Failed.{Failed}
 use Rattle.os_io.specs.Streams.{Tells, Sends}
 use Rattle.os_app.specs.Sent.{IsSent, BreaksOff}

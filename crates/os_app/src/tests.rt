@@ -25,7 +25,14 @@ fn two_files_are_checked(rt: HostRuntime) -> Result<(), Fail> {
     let mut input = MemSource::new(alloc, b"", 1, &[])?;
     let mut output = MemSink::new(alloc, 100, &[])?;
     let mut net = MemListener::new(alloc, &[])?;
-    let status = run(alloc, words.as_slice(), &mut files, &mut input, &mut output, &mut net);
+    let status = run(
+        alloc,
+        words.as_slice(),
+        &mut files,
+        &mut input,
+        &mut output,
+        &mut net,
+    );
     assert!(rt; exit_code(Ok(status)) == ExitCode::SUCCESS);
     assert!(rt; output.handed_on() == b"accepted optimal\n".as_slice());
     Ok(())

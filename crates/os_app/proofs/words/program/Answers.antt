@@ -3,7 +3,7 @@ use Rattle.std.specs.Prelude.{codes, ◌||◌}
 use Rattle.std.proofs.lemmas.Result.{IfOk-weaker}
 use Rattle.clap.specs.Words.{App, app_of, new_app, shape_of, with_rule, with_subcommand}
 use Rattle.clap.specs.Simple.{app_of_fields, new_shape, on_top}
-use Rattle.os_app.specs.Words.{check_shape, needed_word, needing_subcommand}
+use Rattle.os_app.specs.Words.{check_shape, needing_subcommand}
 use Rattle.os_app.proofs.Called.{needed, needed_here}
 use Rattle.os_app.proofs.words.program.Goals as goal
 
