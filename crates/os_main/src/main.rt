@@ -1,22 +1,13 @@
 //! A solver service for linear programs.
 //!
-//! `os_app session` reads one request from the standard input and writes its response to the standard output.
-//! `os_app check OSIL OSRL` reads an instance and a result from two files and says whether what is claimed is shown.
-//! [`run`](command::run) is the program over any input and output, and its contract says what each status means. `main`
-//! gives it the real ones, and ends with its status, [`exit_code`](command::exit_code).
+//! `session` reads one request from the standard input and writes its response to the standard output. `check OSIL OSRL`
+//! reads an instance and a result from two files and says whether what is claimed is shown. The program is
+//! [`os_app::run`] over the real words, files, input and output, and ends with its status.
 #![tactic(auto)]
 
-mod checking;
-mod command;
-mod service;
-mod solving;
-#[cfg(test)]
-mod tests;
-mod words;
-
-use command::{exit_code, run};
+use os_app::{exit_code, run};
 use os_io::{DiskFiles, MemListener, Memory, StdSink, StdSource};
-use std::alloc::{AllocError, Global};
+use std::alloc::AllocError;
 use std::env;
 use std::io::ErrorKind;
 use std::process::ExitCode;
