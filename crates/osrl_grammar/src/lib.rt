@@ -18,8 +18,6 @@ mod pieces;
 mod reading;
 mod reading_laws;
 mod report;
-#[cfg(test)]
-mod tests;
 mod texts;
 mod values;
 mod words;
