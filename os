@@ -1,8 +1,8 @@
 #!/bin/sh
 # Runs the program with the words given. Where its sources changed since it was built, it is proved and built first.
 here=$(CDPATH='' cd -- "$(dirname -- "$0")" && pwd) || exit 1
-crate=$here/crates/os_app
-program=$crate/out/os_app
+crate=$here/crates/os_main
+program=$crate/out/os_main
 if [ ! -x "$program" ] || [ -n "$(find "$here/crates.txt" "$here/crates" -name out -prune -o -type f -newer "$program" -print)" ]; then
     mkdir -p "$crate/out"
     # Crates that don't stand on one another are proved side by side. What fails here is told by the build below.

@@ -1,8 +1,10 @@
 #!/usr/bin/env bash
-# Tells whether the examples that the program `try_claims` reads are those in `examples/`.
+# Tells whether the examples that the programs of cases read are those in `examples/`.
 cd "$(dirname "$0")/.." || exit 1
 status=0
 for file in examples/*.os?l; do
     cmp "$file" "crates/try_claims/data/${file#examples/}" || status=1
 done
+cmp examples/minimum.http crates/try_runs/data/minimum.http || status=1
+cmp examples/minimum.http crates/os_main/stdin || status=1
 exit $status

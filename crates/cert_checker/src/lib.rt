@@ -30,8 +30,6 @@ mod refused;
 mod scratch;
 mod slots;
 mod sums;
-#[cfg(test)]
-mod tests;
 mod texts;
 mod walk;
 

@@ -81,7 +81,7 @@ fn check_files<F: Files, O: Sink>(
 }
 
 /// The exit code of a run, by its status. Where there was no memory to begin it, it is that of no memory.
-pub(crate) fn exit_code(ran: Result<u8, Memory>) -> ExitCode
+pub fn exit_code(ran: Result<u8, Memory>) -> ExitCode
     ensures ok { IfOk ran (λ status. exit_status result ≡ status) }
     ensures err { OnErr ran (exit_status result ≡ 5) }
 {

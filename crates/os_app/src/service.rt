@@ -51,7 +51,7 @@ impl Service for PlainSolver {
 }
 
 /// Law: a request has one response.
-pub(crate) fn requests_have_one_response()
+pub fn requests_have_one_response()
     ensures { (bytes r s : List ℕ) → IsResponse SolverAnswers bytes r → IsResponse SolverAnswers bytes s → r ≡ s }
 {
     bytes_have_one_response::<PlainSolver>();

@@ -69,7 +69,7 @@ pub(crate) fn solve(alloc: Global, text: &[u8]) -> Result<Text, Memory>
 
 /// Law: a text has one result document. That of a text that stands for an instance is the instance's, and that of a
 /// document that is refused says why.
-pub(crate) fn texts_have_one_result()
+pub fn texts_have_one_result()
     ensures one { (text r s : List ℕ) → IsResult text r → IsResult text s → r ≡ s }
     ensures instance { (text : List ℕ) (p : Parts) (r : List ℕ) → IsInstanceText text p → IsResult text r → IsResultOf p r }
     ensures refused { (text : List ℕ) (why : Refusal) (n : ℕ) (r : List ℕ) → IsRefusedText text why n → IsResult text r → r ≡ report_text (error_report (refusal_text why n)) }

@@ -75,12 +75,12 @@ pub(crate) fn read<'w>(alloc: Global, words: &'w [String]) -> Result<Option<Aske
 }
 
 /// Law: the words of a session are a name and `session`, and perhaps `--`.
-pub(crate) fn session_has_its_words()
+pub fn session_has_its_words()
     ensures { (words : List (List ℕ)) → IsSession words ↔ HasSessionWords words }
 {}
 
 /// Law: behind a name, `check` and `--` any two words name the files.
-pub(crate) fn any_words_name_files()
+pub fn any_words_name_files()
     ensures { (name osil osrl : List ℕ) → IsCheck (name ∷ codes "check" ∷ codes "--" ∷ osil ∷ osrl ∷ []) osil osrl }
 {}
 

@@ -12,7 +12,7 @@ ghost use Rattle.document_tags.specs.Spots.{Stands, AreSpots, IsSpot};
 ghost use Rattle.osrl_grammar.specs.Spots.{IsEntry, AreItems};
 
 use crate::fault::OsrlFault;
-use crate::items::item_fault;
+use crate::item_reading::item_fault;
 use crate::parts::{Part, Unread, part_name};
 use document_tags::{Spot, within};
 use os_io::Memory;

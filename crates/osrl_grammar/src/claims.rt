@@ -15,7 +15,7 @@ ghost use Rattle.osrl_grammar.specs.declared.parts.Part.TheVariants as kinds;
 ghost use Rattle.osrl_grammar.specs.declared.parts.Claiming.TheVariants as claiming;
 
 use crate::checks::first_part;
-use crate::items::{read_cause, read_node};
+use crate::item_reading::{read_cause, read_node};
 use crate::numbers::read_exact;
 use crate::parts::{Claiming, Part};
 use crate::words::with_word;

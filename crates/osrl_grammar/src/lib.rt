@@ -9,8 +9,8 @@ mod checks;
 mod claims;
 mod document;
 mod fault;
+mod item_reading;
 mod item_texts;
-mod items;
 mod laws;
 mod numbers;
 mod parts;
@@ -18,8 +18,6 @@ mod pieces;
 mod reading;
 mod reading_laws;
 mod report;
-#[cfg(test)]
-mod tests;
 mod texts;
 mod values;
 mod words;
@@ -28,6 +26,8 @@ pub use document::encode;
 pub use fault::OsrlFault;
 pub use laws::comes_back;
 pub use reading::decode;
-pub use reading_laws::{document_has_one_refusal, document_has_one_report, read_claims_fit, report_is_not_refused};
+pub use reading_laws::{
+    document_has_one_refusal, document_has_one_report, read_claims_fit, report_is_not_refused,
+};
 pub use report::{JobStatus, Report};
 pub use texts::refusal_text;

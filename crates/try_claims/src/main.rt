@@ -20,10 +20,22 @@ fn main(rt: HostRuntime) -> io::Result<()> {
     let mut claimed = Claimed::new(DiskFiles::new(&rt));
     let claims = try_file(alloc, "claims.txt", &mut tables, &mut claimed, &mut output)?;
     let mut in_files = InFiles::new(DiskFiles::new(&rt));
-    let examples = try_file(alloc, "examples.txt", &mut tables, &mut in_files, &mut output)?;
+    let examples = try_file(
+        alloc,
+        "examples.txt",
+        &mut tables,
+        &mut in_files,
+        &mut output,
+    )?;
     let texts = try_file(alloc, "texts.txt", &mut tables, &mut InTexts, &mut output)?;
     let mut repeated = Repeated::new(DiskFiles::new(&rt));
-    let long = try_file(alloc, "repeated.txt", &mut tables, &mut repeated, &mut output)?;
+    let long = try_file(
+        alloc,
+        "repeated.txt",
+        &mut tables,
+        &mut repeated,
+        &mut output,
+    )?;
     let mut count: u64 = 0;
     for n in [claims, examples, texts, long] {
         count = count.saturating_add(n);

@@ -5,7 +5,9 @@ use std::alloc::Global;
 
 /// The beginning of a document whose solution has this status.
 fn put_front(text: &mut Text, status: &[u8]) -> Result<(), Memory> {
-    text.extend(b"<osrl><general><generalStatus type=\"normal\"/></general><job><status>finished</status></job><optimization><solution><status type=\"")?;
+    text.extend(
+        b"<osrl><general><generalStatus type=\"normal\"/></general><job><status>finished</status></job><optimization><solution><status type=\"",
+    )?;
     text.extend(status)?;
     text.extend(b"\"/><otherSolutionResults>")
 }

@@ -109,8 +109,20 @@ fn main(rt: HostRuntime) -> io::Result<()> {
     let mut files = DiskFiles::new(&rt);
     let mut output = rt.stdout();
     let written = try_file(alloc, "written.txt", &mut files, &mut Written, &mut output)?;
-    let solutions = try_file(alloc, "solutions.txt", &mut files, &mut Solution, &mut output)?;
-    let documents = try_file(alloc, "documents.txt", &mut files, &mut Document, &mut output)?;
+    let solutions = try_file(
+        alloc,
+        "solutions.txt",
+        &mut files,
+        &mut Solution,
+        &mut output,
+    )?;
+    let documents = try_file(
+        alloc,
+        "documents.txt",
+        &mut files,
+        &mut Document,
+        &mut output,
+    )?;
     let texts = try_file(alloc, "texts.txt", &mut files, &mut General, &mut output)?;
     let mut count: u64 = 0;
     for n in [written, solutions, documents, texts] {

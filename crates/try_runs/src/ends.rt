@@ -1,0 +1,63 @@
+//! The ends of a run: files, an input and an output in memory, one call of which may fail.
+
+use os_io::{FileFault, Files, MemFiles, MemSink, MemSource, Memory, Text};
+use std::alloc::{AllocError, Global};
+
+/// The most bytes of a file.
+const MOST: u64 = 4_194_305;
+
+/// The files that a run finds.
+const NAMES: [&str; 6] = [
+    "halves.osil",
+    "two.osrl",
+    "three.osrl",
+    "silent.osrl",
+    "wide.osrl",
+    "empty",
+];
+
+/// Which call fails, counted from 1 for each kind of call; none where it is 0.
+#[derive(Clone, Copy)]
+pub(crate) struct Fails {
+    pub file: u64,
+    pub read: u64,
+    pub write: u64,
+}
+
+/// The bytes of a file, or none where it can't be read.
+pub(crate) fn bytes_of<F: Files>(alloc: Global, files: &mut F, name: &str) -> Result<Text, Memory> {
+    match files.read_all(alloc, name, MOST) {
+        Ok(text) => Ok(text),
+        Err(FileFault::Failed) => Ok(Text::new(alloc)),
+        Err(FileFault::Memory) => Err(AllocError),
+    }
+}
+
+/// The files of a run, read from the disk.
+pub(crate) fn files_of<F: Files>(
+    alloc: Global,
+    disk: &mut F,
+    fails: Fails,
+) -> Result<MemFiles, Memory> {
+    let mut files = MemFiles::new(alloc, &[fails.file])?;
+    for name in NAMES {
+        let bytes = bytes_of(alloc, disk, name)?;
+        files.put(alloc, name, bytes.as_slice())?;
+    }
+    Ok(files)
+}
+
+/// An input that gives pieces of so many bytes at most.
+pub(crate) fn input_of(
+    alloc: Global,
+    bytes: &[u8],
+    piece: usize,
+    fails: Fails,
+) -> Result<MemSource, Memory> {
+    MemSource::new(alloc, bytes, piece, &[fails.read])
+}
+
+/// An output with room for so many bytes.
+pub(crate) fn output_of(alloc: Global, room: usize, fails: Fails) -> Result<MemSink, Memory> {
+    MemSink::new(alloc, room, &[fails.write])
+}
