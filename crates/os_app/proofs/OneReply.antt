@@ -1,7 +1,7 @@
 -- A body has one answer.
 use Rattle.std.proofs.Common.{◌≡◌, ◌∙◌, ℕ, List, [], ◌∷◌, Some, None, inl, inr, refl, sym, ap, subst}
 use Rattle.tree_grammar.specs.Elements.{Nodes, none, chars, Element}
-use Rattle.tree_walk.specs.Texts.{HoldsText}
+use Rattle.document_tags.specs.Texts.{HoldsText}
 use Rattle.doc_tree.proofs.Unambiguous.{one_tree}
 use Rattle.http_session.specs.Session.{HasOneAnswer}
 use Rattle.solve_call.specs.Body.{Holds, path, IsSolveBody}
