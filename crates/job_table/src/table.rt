@@ -1,9 +1,8 @@
 //! The table.
 
-ghost use Rattle.std.specs.Prelude.{◌≡◌, List, ℕ, Some, None, true, false, IfOk, IsOk, OnErr, IsSome};
-ghost use Rattle.job_table.specs.declared.job.Phase.TheVariants.{Finished as HasFinished};
+ghost use Rattle.std.specs.Prelude.{◌≡◌, List, ℕ, Some, None, true, IfOk, OnErr, IsSome};
 ghost use Rattle.job_table.specs.Jobs.{Register, empty, phase_of};
-ghost use Rattle.job_table.specs.Steps.{May, Step, Follows, fits, wants_memory, row, outcome, added_reply, kills, is_marked};
+ghost use Rattle.job_table.specs.Steps.{May, Step, Follows, fits, has_document, wants_memory, row, outcome, added_reply, kills, is_marked};
 
 use crate::calls::{Call, Finish, IssueFault, Killing, Reply, Retrieved, Statistics, Verdicts};
 use crate::job::{Job, Phase};
@@ -198,7 +197,7 @@ impl<V: Verdicts> Table<V> {
     /// How far a job has come, with a further owner of its document, which alone needs memory.
     pub fn retrieve(&self, number: u64) -> Result<Retrieved, Memory>
         ensures ok { IfOk result (λ shown. row (Call.Retrieve number) self.now ≡ outcome (Reply.Retrieved shown) self.now) }
-        ensures err { OnErr result ((document : List ℕ) × (phase_of number self.now.jobs ≡ Some (HasFinished (Some document)))) }
+        ensures err { OnErr result (has_document (phase_of number self.now.jobs) ≡ true) }
     {
         match self.jobs.phase(number) {
             None => Ok(Retrieved::Unknown),
@@ -248,7 +247,7 @@ impl<V: Verdicts> Table<V> {
         requires { May V.right call }
         ensures ok { IfOk result (λ reply. Step V.right self.old call reply self.new) }
         ensures fits { IfOk result (λ reply. fits call reply ≡ true) }
-        ensures sure { wants_memory call ≡ false → IsOk result }
+        ensures sure { OnErr result (wants_memory call self.old ≡ true) }
         ensures err { OnErr result (self.new ≡ self.old) }
     {
         match call {
