@@ -268,8 +268,8 @@ module _ (I : Instance) (t : Terms) where
   next_holds m n h (inr (inl (e, f, g))) = absurd (cc)
   next_holds m n h (inr (inr (inl (e, f, s, g)))) = absurd (cc)
   next_holds m n h (inr (inr (inr v))) =
-      goes_holds t I v.case v.rest (record m { clock = v.clock }) v.is (clocked I m v.clock h) v.end n
-      (run_true v.case (is_some m.ray) t _ v.end v.clock (this I v.case v.rest m v.is h).numbers v.run) v.goes
+      goes_holds t I v.visit.case v.visit.rest (record m { clock = v.clock }) v.visit.is (clocked I m v.clock h) v.end n
+      (run_true v.visit.case (is_some m.ray) t _ v.end v.clock (this I v.visit.case v.visit.rest m v.visit.is h).numbers v.visit.run) v.goes
 
   pub comes_holds : IsInstance I → (m : Moment) → Comes I t m → Holds I m
   comes_holds n m begins = holds_first I n

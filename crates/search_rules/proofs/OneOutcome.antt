@@ -12,7 +12,7 @@ use Rattle.evidence.specs.Cases.{Multiplier}
 use Rattle.evidence.proofs.Columns.{by_lt, value-number}
 use Rattle.evidence.proofs.Numbers.{product-number}
 use Rattle.evidence.proofs.Totals.{total-number}
-use Rattle.simplex_rules.specs.Ends.{Terms, End, Shown, Clash, Empty, Best, Endless, TurnsOut, TooWide, Stopped}
+use Rattle.simplex_rules.specs.Ends.{Terms, Clock, End, Shown, Clash, Empty, Best, Endless, TurnsOut, TooWide, Stopped}
 use Rattle.search_rules.specs.Search.{Found, Moment, Outcome, Next, To, Out, first, branch, IsPassed, IsHopeful, IsSplit, IsWholeBelow, IsValue, Meets, Goes, IsVisit, IsNext, Comes, begins, goes_on, Search}
 use Rattle.simplex_rules.specs.Runs.{Run, looked}
 use Rattle.simplex_rules.proofs.Moments.{run_true}
@@ -93,16 +93,16 @@ module _ (t : Terms) (zeroed : Bool) (I J : Instance) (good : IsInstance I) (res
 module _ (I : Instance) (t : Terms) (good : IsInstance I) where
   visit_once : (m : Moment) (a b : Next) → Holds I m → IsVisit I t m a → IsVisit I t m b → a ≡ b
   visit_once m a b h v w =
-      let l : v.case ∷ v.rest ≡ w.case ∷ w.rest = sym v.is ∙ w.is in
-      let j : v.case ≡ w.case = cc in
-      let k : v.rest ≡ w.rest = cc in
-      let n : IsInstance w.case = let c = this I w.case w.rest m w.is h in c.numbers in
-      let r = run_once w.case (is_some m.ray) t (looked m.clock) v.end w.end v.clock w.clock n (subst (λ J. Run J (is_some m.ray) t (looked m.clock) v.end v.clock) j v.run) w.run in
-      let g = subst (λ J. Goes t I J v.rest (record m { clock = v.clock }) v.end a) j v.goes in
-      let g = subst (λ l. Goes t I w.case l (record m { clock = v.clock }) v.end a) k g in
-      let g = subst (λ e. Goes t I w.case w.rest (record m { clock = v.clock }) e a) r.0 g in
-      let g = subst (λ c. Goes t I w.case w.rest (record m { clock = c }) w.end a) r.1 g in
-      goes_once t (is_some m.ray) I w.case good w.rest (record m { clock = w.clock }) w.end a b (run_true w.case (is_some m.ray) t (looked m.clock) w.end w.clock n w.run) g w.goes
+      let l : v.visit.case ∷ v.visit.rest ≡ w.visit.case ∷ w.visit.rest = sym v.visit.is ∙ w.visit.is in
+      let j : v.visit.case ≡ w.visit.case = cc in
+      let k : v.visit.rest ≡ w.visit.rest = cc in
+      let n : IsInstance w.visit.case = let c = this I w.visit.case w.visit.rest m w.visit.is h in c.numbers in
+      let r = run_once w.visit.case (is_some m.ray) t (looked m.clock) v.end w.end v.clock w.clock n (subst (λ J. Run J (is_some m.ray) t (looked m.clock) v.end v.clock) j v.visit.run) w.visit.run in
+      let g = subst (λ J. Goes t I J v.visit.rest (record m { clock = v.clock }) v.end a) j v.goes in
+      let g = subst (λ l. Goes t I w.visit.case l (record m { clock = v.clock }) v.end a) k g in
+      let g = subst (λ e. Goes t I w.visit.case w.visit.rest (record m { clock = v.clock }) e a) r.0 g in
+      let g = subst (λ c. Goes t I w.visit.case w.visit.rest (record m { clock = c }) w.end a) r.1 g in
+      goes_once t (is_some m.ray) I w.visit.case good w.visit.rest (record m { clock = w.clock }) w.end a b (run_true w.visit.case (is_some m.ray) t (looked m.clock) w.end w.clock n w.visit.run) g w.goes
 
   waits : (m : Moment) (J : Instance) (rest : List Instance) → m.waiting ≡ J ∷ rest → m.waiting ≡ [] → ⊥
   waits m J rest e f = cc
@@ -111,37 +111,37 @@ module _ (I : Instance) (t : Terms) (good : IsInstance I) where
   next_once m a b hold (inl (e, f)) (inl (g, h)) = f ∙ sym h
   next_once m a b hold (inl (e, f)) (inr (inl (g, h, i))) = absurd (g e)
   next_once m a b hold (inl (e, f)) (inr (inr (inl (g, h, i, j)))) = absurd (g e)
-  next_once m a b hold (inl (e, f)) (inr (inr (inr w))) = absurd (waits m w.case w.rest w.is e)
+  next_once m a b hold (inl (e, f)) (inr (inr (inr w))) = absurd (waits m w.visit.case w.visit.rest w.visit.is e)
   next_once m a b hold (inr (inl (g, h, i))) (inl (e, f)) = absurd (g e)
   next_once m a b hold (inr (inl (g, h, i))) (inr (inl (j, k, l))) = i ∙ sym l
   next_once m a b hold (inr (inl (g, h, i))) (inr (inr (inl (j, k, s, l)))) = absurd (omega arith)
-  next_once m a b hold (inr (inl (g, h, i))) (inr (inr (inr w))) = let k = w.within in absurd (omega arith)
+  next_once m a b hold (inr (inl (g, h, i))) (inr (inr (inr w))) = let k = w.visit.within in absurd (omega arith)
   next_once m a b hold (inr (inr (inl (g, h, s, i)))) (inl (e, f)) = absurd (g e)
   next_once m a b hold (inr (inr (inl (g, h, s, i)))) (inr (inl (j, k, l))) = absurd (omega arith)
   next_once m a b hold (inr (inr (inl (g, h, s, i)))) (inr (inr (inl (j, k, u, l)))) = i ∙ sym l
-  next_once m a b hold (inr (inr (inl (g, h, s, i)))) (inr (inr (inr w))) = absurd (w.goes_on s)
-  next_once m a b hold (inr (inr (inr v))) (inl (e, f)) = absurd (waits m v.case v.rest v.is e)
-  next_once m a b hold (inr (inr (inr v))) (inr (inl (j, k, l))) = let h = v.within in absurd (omega arith)
-  next_once m a b hold (inr (inr (inr v))) (inr (inr (inl (j, k, u, l)))) = absurd (v.goes_on u)
+  next_once m a b hold (inr (inr (inl (g, h, s, i)))) (inr (inr (inr w))) = absurd (w.visit.goes_on s)
+  next_once m a b hold (inr (inr (inr v))) (inl (e, f)) = absurd (waits m v.visit.case v.visit.rest v.visit.is e)
+  next_once m a b hold (inr (inr (inr v))) (inr (inl (j, k, l))) = let h = v.visit.within in absurd (omega arith)
+  next_once m a b hold (inr (inr (inr v))) (inr (inr (inl (j, k, u, l)))) = absurd (v.visit.goes_on u)
   next_once m a b hold (inr (inr (inr v))) (inr (inr (inr w))) = visit_once m a b hold v w
 
   -- the moments from one on, to the end
-  data Halts : Moment → Outcome → Type 0 where
-    now : {m : Moment} {o : Outcome} → IsNext I t m (Out o) → Halts m o
-    later : {m n : Moment} {o : Outcome} → IsNext I t m (To n) → Halts n o → Halts m o
+  data Halts : Moment → Outcome → Clock → Type 0 where
+    now : {m : Moment} {o : Outcome} {c : Clock} → IsNext I t m (Out o c) → Halts m o c
+    later : {m n : Moment} {o : Outcome} {c : Clock} → IsNext I t m (To n) → Halts n o c → Halts m o c
 
-  from_first : (m : Moment) (o : Outcome) → Comes I t m → Halts m o → Halts (first I) o
-  from_first m o begins h = h
-  from_first m o (goes_on {m = before} c next) h = from_first before o c (later next h)
+  from_first : (m : Moment) (o : Outcome) (c : Clock) → Comes I t m → Halts m o c → Halts (first I) o c
+  from_first m o c begins h = h
+  from_first m o c (goes_on {m = before} p next) h = from_first before o c p (later next h)
 
-  halts_once : (m : Moment) (o : Outcome) → Holds I m → Halts m o → (n : Moment) (p : Outcome) → n ≡ m → Halts n p → o ≡ p
-  halts_once m o h (now a) n p e (now b) = let q = next_once m (Out o) (Out p) h a (subst (λ k. IsNext I t k (Out p)) e b) in cc
-  halts_once m o h (now a) n p e (later {n = k} b i) = let q = next_once m (Out o) (To k) h a (subst (λ i. IsNext I t i (To k)) e b) in absurd (cc)
-  halts_once m o h (later {n = k} a i) n p e (now b) = let q = next_once m (To k) (Out p) h a (subst (λ i. IsNext I t i (Out p)) e b) in absurd (cc)
-  halts_once m o h (later {n = k} a i) n p e (later {n = l} b j) =
+  halts_once : (m : Moment) (o : Outcome) (c : Clock) → Holds I m → Halts m o c → (n : Moment) (p : Outcome) (d : Clock) → n ≡ m → Halts n p d → (o ≡ p) × (c ≡ d)
+  halts_once m o c h (now a) n p d e (now b) = let q = next_once m (Out o c) (Out p d) h a (subst (λ k. IsNext I t k (Out p d)) e b) in (cc, cc)
+  halts_once m o c h (now a) n p d e (later {n = k} b i) = let q = next_once m (Out o c) (To k) h a (subst (λ i. IsNext I t i (To k)) e b) in absurd (cc)
+  halts_once m o c h (later {n = k} a i) n p d e (now b) = let q = next_once m (To k) (Out p d) h a (subst (λ i. IsNext I t i (Out p d)) e b) in absurd (cc)
+  halts_once m o c h (later {n = k} a i) n p d e (later {n = l} b j) =
       let q = next_once m (To k) (To l) h a (subst (λ i. IsNext I t i (To l)) e b) in
       let r : l ≡ k = cc in
-      halts_once k o (next_holds I t m k h a) i l p r j
+      halts_once k o c (next_holds I t m k h a) i l p d r j
 
-  pub search_once : (o p : Outcome) → Search I t o → Search I t p → o ≡ p
-  search_once o p s u = halts_once (first I) o (holds_first I good) (from_first s.last o s.comes (now s.ends)) (first I) p refl (from_first u.last p u.comes (now u.ends))
+  pub search_once : (o p : Outcome) (c d : Clock) → Search I t o c → Search I t p d → (o ≡ p) × (c ≡ d)
+  search_once o p c d s u = halts_once (first I) o c (holds_first I good) (from_first s.last o c s.comes (now s.ends)) (first I) p d refl (from_first u.last p d u.comes (now u.ends))

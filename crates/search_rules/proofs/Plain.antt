@@ -37,12 +37,12 @@ module _ (I : Instance) (plain : IsPlain I) where
     next_plain m n h (inl (e, f)) = absurd (cc)
     next_plain m n h (inr (inl (e, f, g))) = absurd (cc)
     next_plain m n h (inr (inr (inl (e, f, s, g)))) = absurd (cc)
-    next_plain m n (inr e) (inr (inr (inr v))) = let q = v.is in absurd (cc)
+    next_plain m n (inr e) (inr (inr (inr v))) = let q = v.visit.is in absurd (cc)
     next_plain m n (inl e) (inr (inr (inr v))) =
-        let l : v.case ∷ v.rest ≡ I ∷ [] = sym v.is ∙ e in
-        let p : v.case ≡ I = cc in
-        let q : v.rest ≡ [] = cc in
-        let g = subst (λ J. Goes t I J v.rest (record m { clock = v.clock }) v.end (To n)) p v.goes in
+        let l : v.visit.case ∷ v.visit.rest ≡ I ∷ [] = sym v.visit.is ∙ e in
+        let p : v.visit.case ≡ I = cc in
+        let q : v.visit.rest ≡ [] = cc in
+        let g = subst (λ J. Goes t I J v.visit.rest (record m { clock = v.clock }) v.end (To n)) p v.goes in
         let g = subst (λ r. Goes t I I r (record m { clock = v.clock }) v.end (To n)) q g in
         inr (goes_plain t (record m { clock = v.clock }) n v.end g)
 

@@ -90,18 +90,18 @@ pub record IsValue (I : Instance) (x : List Ratio) (v : Ratio) : Type 0 where
   pub reduced : IsReduced v
   pub same : IsSame v (objective I x)
 
--- a next moment, or the end
+-- a next moment, or the end with its clock
 pub data Next : Type 0 where
   To : Moment → Next
-  Out : Outcome → Next
+  Out : Outcome → Clock → Next
 
 -- from point x of case J on: at a whole variable whose value isn't whole the case is split; else the sums of the point don't fit; or it becomes the best point, and multipliers ms close the case; or, where there is a ray, the search ends with it
 abbrev pub Meets : Instance → Instance → List Instance → Moment → List Ratio → List Multiplier → Next → Type 0
 Meets I J rest m x ms next =
     ((j : ℕ) × (k : ℤ) × IsSplit J x j k × (next ≡ To (branch m J rest j k)))
-    ⊎ (IsWholeBelow J x (width J) × (PointFits I x → ⊥) × (next ≡ Out (too_wide m Point)))
+    ⊎ (IsWholeBelow J x (width J) × (PointFits I x → ⊥) × (next ≡ Out (too_wide m Point) m.clock))
     ⊎ ((v : Ratio) × IsWholeBelow J x (width J) × PointFits I x × IsValue I x v × (m.ray ≡ None) × (next ≡ To (leaf (record m { best = Some (record { point = x; value = v }) }) rest (BoundBy ms))))
-    ⊎ ((v : Ratio) × (r : List Ratio) × IsWholeBelow J x (width J) × PointFits I x × IsValue I x v × (m.ray ≡ Some r) × (next ≡ Out (Unbounded x v r)))
+    ⊎ ((v : Ratio) × (r : List Ratio) × IsWholeBelow J x (width J) × PointFits I x × IsValue I x v × (m.ray ≡ Some r) × (next ≡ Out (Unbounded x v r) m.clock))
 
 -- from the end of the run of case J on, with m's clock then: a clash or multipliers close the case, and so does a bound that isn't better than the best value; a direction gives the ray, and the goal is zero from then on
 abbrev pub Goes : Terms → Instance → Instance → List Instance → Moment → End → Next → Type 0
@@ -110,10 +110,10 @@ Goes t I J rest m (Empty ms) next = next ≡ To (leaf m rest (FarkasBy ms))
 Goes t I J rest m (Best b x ms) next =
     (IsPassed I m.best b × (next ≡ To (leaf m rest (BoundBy ms)))) ⊎ (IsHopeful I m.best b × Meets I J rest m x ms next)
 Goes t I J rest m (Endless x d) next =
-    (((r : List Ratio) → IsScaled I d r → ⊥) × (next ≡ Out (too_wide m Ray))) ⊎ ((r : List Ratio) × IsScaled I d r × Meets I J rest (record m { ray = Some r }) x [] next)
-Goes t I J rest m TurnsOut next = next ≡ Out (early m.best (TurnLimit t.turns))
-Goes t I J rest m (TooWide s) next = next ≡ Out (too_wide m s)
-Goes t I J rest m Stopped next = next ≡ Out (early m.best Killed)
+    (((r : List Ratio) → IsScaled I d r → ⊥) × (next ≡ Out (too_wide m Ray) m.clock)) ⊎ ((r : List Ratio) × IsScaled I d r × Meets I J rest (record m { ray = Some r }) x [] next)
+Goes t I J rest m TurnsOut next = next ≡ Out (early m.best (TurnLimit t.turns)) m.clock
+Goes t I J rest m (TooWide s) next = next ≡ Out (too_wide m s) m.clock
+Goes t I J rest m Stopped next = next ≡ Out (early m.best Killed) m.clock
 
 -- the look before the next case stops the search
 abbrev pub IsStop : Terms → Moment → Type 0
@@ -121,24 +121,28 @@ IsStop t m = t.stop ≡ Some (m.clock.looks + 1)
 
 -- I is searched, within these terms
 module _ (I : Instance) (t : Terms) where
-  -- the next case is run, its goal being zero once there is a ray, and the search goes by the run's end
-  pub record IsVisit (m : Moment) (next : Next) : Type 0 where
+  -- the next case is run to this end, with this clock then; its goal is zero where there is a ray
+  pub record IsCaseRun (m : Moment) (e : End) (c : Clock) : Type 0 where
     pub case : Instance
     pub rest : List Instance
     pub is : m.waiting ≡ case ∷ rest
     pub within : length m.nodes < t.nodes
     pub goes_on : IsStop t m → ⊥
+    pub run : Run case (is_some m.ray) t (looked m.clock) e c
+
+  -- the search goes by the end of that run
+  pub record IsVisit (m : Moment) (next : Next) : Type 0 where
     pub end : End
     pub clock : Clock
-    pub run : Run case (is_some m.ray) t (looked m.clock) end clock
-    pub goes : Goes t I case rest (record m { clock = clock }) end next
+    pub visit : IsCaseRun m end clock
+    pub goes : Goes t I visit.case visit.rest (record m { clock = clock }) end next
 
   -- what comes after a moment, in this order: the end where no case is left, that at the limit of nodes, that by a look, or what the next case brings
   abbrev pub IsNext : Moment → Next → Type 0
   IsNext m next =
-      ((m.waiting ≡ []) × (next ≡ Out (closed m.best m.nodes)))
-      ⊎ ((m.waiting ≡ [] → ⊥) × (t.nodes ≤ length m.nodes) × (next ≡ Out (early m.best (NodeLimit t.nodes))))
-      ⊎ ((m.waiting ≡ [] → ⊥) × (length m.nodes < t.nodes) × IsStop t m × (next ≡ Out (early m.best Killed)))
+      ((m.waiting ≡ []) × (next ≡ Out (closed m.best m.nodes) m.clock))
+      ⊎ ((m.waiting ≡ [] → ⊥) × (t.nodes ≤ length m.nodes) × (next ≡ Out (early m.best (NodeLimit t.nodes)) m.clock))
+      ⊎ ((m.waiting ≡ [] → ⊥) × (length m.nodes < t.nodes) × IsStop t m × (next ≡ Out (early m.best Killed) (looked m.clock)))
       ⊎ IsVisit m next
 
   -- the moments of the search
@@ -146,13 +150,14 @@ module _ (I : Instance) (t : Terms) where
     begins : Comes (first I)
     goes_on : {m n : Moment} → Comes m → IsNext m (To n) → Comes n
 
-  -- the search ends so
-  pub record Search (o : Outcome) : Type 0 where
+  -- the search ends so, with this clock
+  pub record Search (o : Outcome) (c : Clock) : Type 0 where
     pub last : Moment
     pub comes : Comes last
-    pub ends : IsNext last (Out o)
+    pub ends : IsNext last (Out o c)
 
-  -- what may be answered of the search: its outcome, or want of memory, with the best point of some moment
-  pub data IsAnswer : Outcome → Type 0 where
-    searched : {o : Outcome} → Search o → IsAnswer o
-    given_up : {m : Moment} → Comes m → IsAnswer (early m.best Memory)
+  -- what may be answered of the search once the clock is this: its outcome; or want of memory at a moment, or where the run after it has ended, with the moment's best point
+  pub data IsAnswer : Outcome → Clock → Type 0 where
+    searched : {o : Outcome} {c : Clock} → Search o c → IsAnswer o c
+    given_up : {m : Moment} → Comes m → IsAnswer (early m.best Memory) m.clock
+    given_up_after : {m : Moment} {e : End} {c : Clock} → Comes m → IsCaseRun m e c → IsAnswer (early m.best Memory) c
