@@ -14,7 +14,7 @@ use Rattle.instance.specs.declared.parts.Var.{Var}
 use Rattle.instance.specs.Parts.{Parts, IsValid}
 use Rattle.instance.specs.Program.{entry, entries}
 use Rattle.instance.proofs.RowSums.{row_of, entries_filter}
-use Rattle.cert_checker.specs.Cuts.{cut}
+use Rattle.case_tree.specs.Cuts.{cut}
 use Rattle.cert_checker.specs.Slots.{slot_at, IsStep}
 use Rattle.cert_checker.proofs.Adding.{set_apart, nothing}
 use Rattle.cert_checker.proofs.Widths.{width_is}
