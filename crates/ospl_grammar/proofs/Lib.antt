@@ -1,0 +1,10 @@
+pub mod Answered
+pub mod Stated
+pub mod Counted
+pub mod Listed
+pub mod Whole
+pub mod Asked
+pub mod OneProcess
+pub mod OneRefusal
+pub mod BackText
+pub mod BackProcess

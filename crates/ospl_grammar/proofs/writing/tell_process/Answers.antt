@@ -1,0 +1,5 @@
+use Rattle.document_tags.proofs.Told.{told_then, ends_told}
+use Rattle.ospl_grammar.proofs.writing.tell_process.Goals as goal
+
+pub returns : goal.returns
+returns c = ends_told c.close.result _ _ _ _ _ (told_then _ _ _ _ _ c.in_ok-open_with.ensures c.in_ok-tell_content.ensures) c.close.ensures

@@ -1,0 +1,31 @@
+//! Processes: what a process document says.
+
+use items::Items;
+use job_table::State;
+use os_io::Text;
+
+/// A job by the text that names it, and how far it has come.
+#[derive(Debug, Drop)]
+pub struct StatedJob {
+    pub id: Text,
+    pub state: State,
+}
+
+/// Jobs in their order.
+pub type JobStates = Items<StatedJob>;
+
+/// What a process document says: what is asked, or how far all jobs have come.
+#[derive(Debug, Drop)]
+pub enum Process {
+    /// What is asked, by its action.
+    Ask {
+        action: Text,
+    },
+    /// Whether a job runs, how many wait or run, how many numbers were given, at most 9,223,372,036,854,775,807, and jobs.
+    Statistics {
+        busy: bool,
+        current: u32,
+        total: u64,
+        jobs: JobStates,
+    },
+}
