@@ -14,7 +14,7 @@ use Rattle.clap.specs.declared.error.kind.ErrorKind.{ErrorKind}
 use Rattle.clap.specs.declared.error.kind.ErrorKind.TheVariants.{InvalidSubcommand, UnknownArgument}
 use Rattle.clap.proofs.OnLiterals.{clap_on_literals}
 use Rattle.clap.proofs.WalkLemmas.{walk_stopped}
-use Rattle.os_app.specs.Words.{Check, Command, HasSessionWords, IsSession, Session, alone, asked_with, asks, files_of, program, with_dashes}
+use Rattle.command_line.specs.Words.{Check, Command, HasSessionWords, IsSession, Session, alone, asked_with, asks, files_of, program, with_dashes}
 
 -- ---- kinds of faults
 

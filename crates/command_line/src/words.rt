@@ -3,8 +3,7 @@ ghost use Rattle.std.specs.Prelude.{◌≡◌, ◌↔◌, ℕ, List, [], ◌∷�
 ghost use Rattle.std.specs.String.{string_bytes};
 ghost use Rattle.os_io.specs.Streams.{Sends};
 ghost use Rattle.clap.specs.Words.{app_of, found_of, rows_of, subcommand_rows_of};
-ghost use Rattle.os_app.specs.Runs.{usage};
-ghost use Rattle.os_app.specs.Words.{HasSessionWords, IsCheck, IsSession, asked_by, asks, files_of, meant, program};
+ghost use Rattle.command_line.specs.Words.{HasSessionWords, IsCheck, IsSession, asked_by, asks, files_of, meant, program, usage};
 
 use clap::error::ErrorKind;
 use clap::{Arg, ArgMatches, Command};
@@ -16,7 +15,7 @@ const USAGE: &[u8] = b"usage: os_app session | solve | check | serve | call | ge
 
 /// What the words ask for.
 #[derive(Clone, Copy, Debug)]
-pub(crate) enum Asked<'w> {
+pub enum Asked<'w> {
     /// To read one request from the input and write its response to the output.
     Session,
     /// To check the result in one file of the instance in another.
@@ -62,7 +61,7 @@ fn asked_by<'w>(matches: &ArgMatches<'w>) -> Option<Asked<'w>>
 
 /// What the words ask for, the first of which is the program's name. There is nothing where they are no command, or ask
 /// for help.
-pub(crate) fn read<'w>(alloc: Global, words: &'w [String]) -> Result<Option<Asked<'w>>, Memory>
+pub fn read<'w>(alloc: Global, words: &'w [String]) -> Result<Option<Asked<'w>>, Memory>
     ensures { IfOk result (λ asked. option_map meant asked ≡ asks (map string_bytes words.now)) }
 {
     match program(alloc)?.try_get_matches_from(words) {
@@ -85,7 +84,7 @@ pub fn any_words_name_files()
 {}
 
 /// Writes how the program is called.
-pub(crate) fn write_usage<O: Sink>(output: &mut O) -> Result<(), Failed>
+pub fn write_usage<O: Sink>(output: &mut O) -> Result<(), Failed>
     ensures { Sends result usage (O.tells output.old) (O.tells output.new) }
 {
     send_all(output, USAGE)

@@ -1,11 +1,11 @@
 -- What the words of a call ask for: what clap makes of them, where it refuses none.
-use Rattle.std.specs.Prelude.{◌≡◌, true, List, [], ◌∷◌, Option, Some, None, codes, option_and_then, option_map, if◌then◌else◌}
+use Rattle.std.specs.Prelude.{◌≡◌, ℕ, true, List, [], ◌∷◌, Option, Some, None, codes, option_and_then, option_map, if◌then◌else◌}
 use Rattle.std.specs.Str.{bytes_eq}
 use Rattle.clap.specs.Words.{App, Row, Rule, Text, fault_of, first_of, new_app, new_rule, subcommand_of, with_subcommand}
 use Rattle.clap.specs.Simple.{Shape, new_shape, on_top}
 use Rattle.clap.specs.Kinds.{Kinds}
-use Rattle.os_app.specs.declared.words.Asked.{Asked}
-use Rattle.os_app.specs.declared.words.Asked.TheVariants as asked
+use Rattle.command_line.specs.declared.words.Asked.{Asked}
+use Rattle.command_line.specs.declared.words.Asked.TheVariants as asked
 
 -- what words may ask for: a session, or a check of the files of these names
 pub data Command : Type 0 where
@@ -70,3 +70,7 @@ IsCheck words osil osrl = asks words ≡ Some (Check osil osrl)
 -- the words are no check's
 abbrev pub IsNoCheck : List Text → Type 0
 IsNoCheck words = (osil osrl : Text) → IsCheck words osil osrl → ⊥
+
+-- what is written to whoever gives words that are no command's
+abbrev pub usage : List ℕ
+usage = codes "usage: os_app session | solve | check | serve | call | generate\n"
