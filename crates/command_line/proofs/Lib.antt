@@ -1,3 +1,5 @@
 pub mod Called
-pub mod FileWords
-pub mod Sessions
+pub mod Flags
+pub mod Standing
+pub mod Commands
+pub mod Forms

@@ -4,6 +4,7 @@ use Rattle.std.specs.Str.{bytes_eq}
 use Rattle.clap.specs.Words.{App, Row, Rule, Text, fault_of, first_of, new_app, new_rule, subcommand_of, with_subcommand}
 use Rattle.clap.specs.Simple.{Shape, new_shape, on_top}
 use Rattle.clap.specs.Kinds.{Kinds}
+use Rattle.command_line.specs.Forms.{IsCallOf}
 use Rattle.command_line.specs.declared.words.Asked.{Asked}
 use Rattle.command_line.specs.declared.words.Asked.TheVariants as asked
 
@@ -54,10 +55,9 @@ asks words = asked_with (fault_of program words) (subcommand_of program words)
 abbrev pub IsSession : List Text → Type 0
 IsSession words = asks words ≡ Some Session
 
--- the words are a name and `session`, and perhaps `--`
-pub data HasSessionWords (words : List Text) : Type 0 where
-  alone : (name : Text) → words ≡ name ∷ codes "session" ∷ [] → HasSessionWords words
-  with_dashes : (name : Text) → words ≡ name ∷ codes "session" ∷ codes "--" ∷ [] → HasSessionWords words
+-- the words of a session: a name, `session`, and no word that stands for something
+abbrev pub HasSessionWords : List Text → Type 0
+HasSessionWords words = IsCallOf (codes "session") [] words
 
 -- the words are no command's
 abbrev pub IsNoCommand : List Text → Type 0
@@ -66,6 +66,10 @@ IsNoCommand words = asks words ≡ None
 -- the words are `check`'s, and name these files
 abbrev pub IsCheck : List Text → (osil osrl : Text) → Type 0
 IsCheck words osil osrl = asks words ≡ Some (Check osil osrl)
+
+-- the words of a check: a name, `check`, and words that stand for the names of the two files
+abbrev pub HasCheckWords : List Text → (osil osrl : Text) → Type 0
+HasCheckWords words osil osrl = IsCallOf (codes "check") (osil ∷ osrl ∷ []) words
 
 -- the words are no check's
 abbrev pub IsNoCheck : List Text → Type 0

@@ -6,4 +6,4 @@
 
 mod words;
 
-pub use words::{Asked, any_words_name_files, read, session_has_its_words, write_usage};
+pub use words::{Asked, check_has_its_words, read, session_has_its_words, write_usage};

@@ -13,6 +13,6 @@ mod service;
 mod solving;
 
 pub use command::{exit_code, run};
-pub use command_line::{any_words_name_files, session_has_its_words};
+pub use command_line::{check_has_its_words, session_has_its_words};
 pub use service::requests_have_one_response;
 pub use solving::texts_have_one_result;

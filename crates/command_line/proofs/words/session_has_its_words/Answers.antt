@@ -1,4 +1,4 @@
-use Rattle.command_line.proofs.Sessions.{session_words, words_of_session}
+use Rattle.command_line.proofs.Forms.{session_words, words_of_session}
 use Rattle.command_line.proofs.words.session_has_its_words.Goals as goal
 
 pub returns : goal.returns
