@@ -11,7 +11,7 @@ use Rattle.cert_checker.proofs.Accepted.{one_kind}
 use Rattle.cert_checker.proofs.Apart.{accepted_apart}
 use Rattle.cert_checker.proofs.OneAnswer.{answer_once}
 use Rattle.os_app.specs.Checks.{IsAnswerLine, IsAnswerTo, IsAnswerAbout, CheckEnds, accepted, refused, in_full, unread, unwritten, unmade}
-use Rattle.os_app.specs.Words.{Command, Session, Check, IsCheck}
+use Rattle.command_line.specs.Words.{Command, Session, Check, IsCheck}
 use Rattle.os_app.specs.Runs.{Run, AsksLine, IsUntaken, IsFileFault, IsUnheard, RunEnds, checked, file_fault, unsent, unheard, MayBeThere, IsJudged, Runs}
 use Rattle.os_app.specs.Runs as runs
 use Rattle.os_app.proofs.Deciding.{one_command, some_or_none}

@@ -4,7 +4,7 @@ use Rattle.std.proofs.lemmas.Option.{none-some, same_Some}
 use Rattle.http_session.specs.declared.session.Served.{Served}
 use Rattle.http_session.specs.declared.session.Served.TheVariants.{Answered, Ended, CutShort, ReadFault, WriteFault, Memory}
 use Rattle.os_app.specs.Statuses.{session_status}
-use Rattle.os_app.specs.Words.{Command, Session, Check, IsSession, IsNoCheck, IsNoCommand}
+use Rattle.command_line.specs.Words.{Command, Session, Check, IsSession, IsNoCheck, IsNoCommand}
 use Rattle.os_app.specs.Runs.{Run, IsServed, IsUnheard, RunEnds, served, unheard, AllFilesRead, Runs}
 use Rattle.os_app.specs.Runs as runs
 

@@ -4,9 +4,6 @@ pub mod Answering
 pub mod OneClaim
 pub mod OneResult
 pub mod Running
-pub mod Called
 pub mod Deciding
-pub mod Sessions
 pub mod Checked
-pub mod FileWords
 pub mod OneReply

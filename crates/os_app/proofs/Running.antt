@@ -3,8 +3,8 @@ use Rattle.std.proofs.Common.{ℕ, List, Ok, Err, inl, refl}
 use Rattle.os_io.specs.declared.streams.Failed.{Failed}
 use Rattle.os_io.specs.Streams.{Tells, Sends}
 use Rattle.os_app.specs.Sent.{IsSent, BreaksOff}
-use Rattle.os_app.specs.Words.{IsNoCommand}
-use Rattle.os_app.specs.Runs.{Run, usage, IsUntaken, RunEnds, misused, unsent}
+use Rattle.command_line.specs.Words.{IsNoCommand, usage}
+use Rattle.os_app.specs.Runs.{Run, IsUntaken, RunEnds, misused, unsent}
 
 -- a text that was written and handed on
 pub sent : (text : List ℕ) (x : Unit {0}) (a b : Tells) → Sends {X = Unit {0}} {E = Failed} (Ok x) text a b → IsSent text a b

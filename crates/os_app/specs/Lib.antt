@@ -4,4 +4,3 @@ pub mod Results
 pub mod Runs
 pub mod Sent
 pub mod Statuses
-pub mod Words

@@ -1,5 +1,5 @@
 -- How a run ends, by its words and by what came and went.
-use Rattle.std.specs.Prelude.{◌≡◌, ◌↔◌, ℕ, ◌⊎◌, List, [], ◌∷◌, ◌++◌, Ok, Err, codes}
+use Rattle.std.specs.Prelude.{◌≡◌, ◌↔◌, ℕ, ◌⊎◌, List, [], ◌∷◌, ◌++◌, Ok, Err}
 use Rattle.os_io.specs.Files.{Held, Holds, NoFile}
 use Rattle.os_io.specs.Streams.{Tells, HasRisen}
 use Rattle.http_session.specs.declared.session.Served.{Served}
@@ -13,7 +13,7 @@ use Rattle.os_app.specs.Answers.{SolverAnswers}
 use Rattle.os_app.specs.Checks.{IsAnswerLine, IsAnswerAbout}
 use Rattle.os_app.specs.Sent.{IsSent, BreaksOff}
 use Rattle.os_app.specs.Statuses.{session_status}
-use Rattle.os_app.specs.Words.{IsSession, IsCheck, IsNoCheck, IsNoCommand}
+use Rattle.command_line.specs.Words.{IsSession, IsCheck, IsNoCheck, IsNoCommand, usage}
 
 -- a run's words, what names hold, and what its files, its input and its output tell before and after it
 pub record Run : Type 0 where
@@ -25,10 +25,6 @@ pub record Run : Type 0 where
   pub input_after : Tells
   pub output : Tells
   pub output_after : Tells
-
--- what is written to whoever gives words that are no command's
-abbrev pub usage : List ℕ
-usage = codes "usage: os_app session | solve | check | serve | call | generate\n"
 
 -- no file failed to be read
 abbrev pub AllFilesRead : Run → Type 0

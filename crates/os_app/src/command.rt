@@ -5,12 +5,12 @@ ghost use Rattle.std.specs.String.{string_bytes};
 ghost use Rattle.os_io.specs.Streams.{SameInput, SameOutput};
 ghost use Rattle.os_app.specs.Checks.{CheckEnds};
 ghost use Rattle.os_app.specs.Runs.{Runs};
-ghost use Rattle.os_app.specs.Words.{IsNoCheck};
+ghost use Rattle.command_line.specs.Words.{IsNoCheck};
 ghost use Rattle.os_app.specs.Statuses.{check_status, session_status};
 
 use crate::checking::{Answer, answer_about};
 use crate::service::PlainSolver;
-use crate::words::{Asked, read, write_usage};
+use command_line::{Asked, read, write_usage};
 use http_session::{Served, serve_one};
 use os_io::{Failed, FileFault, Files, Listener, Memory, Sink, Source, send_all};
 use std::alloc::{AllocError, Global};

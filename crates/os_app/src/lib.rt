@@ -11,9 +11,8 @@ mod checking;
 mod command;
 mod service;
 mod solving;
-mod words;
 
 pub use command::{exit_code, run};
+pub use command_line::{check_has_its_words, session_has_its_words};
 pub use service::requests_have_one_response;
 pub use solving::texts_have_one_result;
-pub use words::{any_words_name_files, session_has_its_words};

@@ -1,5 +1,5 @@
 use Rattle.std.proofs.Common.{◌∙◌, Some, ap, refl, inl, inr}
-use Rattle.os_app.proofs.Called.{asks_session, asks_check, asks_none}
+use Rattle.command_line.proofs.Called.{asks_session, asks_check, asks_none}
 use Rattle.os_app.proofs.Running.{sent, broken, other_fails, other_helped}
 use Rattle.os_app.proofs.Deciding.{session_runs, other_runs, unheard_runs}
 use Rattle.os_app.proofs.Checked.{check_runs}

@@ -3,9 +3,9 @@ use Rattle.std.specs.Prelude.{codes, ◌||◌}
 use Rattle.std.proofs.lemmas.Result.{IfOk-weaker}
 use Rattle.clap.specs.Words.{App, app_of, new_app, shape_of, with_rule, with_subcommand}
 use Rattle.clap.specs.Simple.{app_of_fields, new_shape, on_top}
-use Rattle.os_app.specs.Words.{check_shape, needing_subcommand}
-use Rattle.os_app.proofs.Called.{needed, needed_here}
-use Rattle.os_app.proofs.words.program.Goals as goal
+use Rattle.command_line.specs.Words.{check_shape, needing_subcommand}
+use Rattle.command_line.proofs.Called.{needed, needed_here}
+use Rattle.command_line.proofs.words.program.Goals as goal
 
 pub returns : goal.returns
 returns c =

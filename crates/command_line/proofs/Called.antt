@@ -12,9 +12,9 @@ use Rattle.std.specs.Borrow.{Bor}
 use Rattle.clap.specs.Matches.{first_value}
 use Rattle.clap.specs.declared.parser.matches.Found.{Found}
 use Rattle.clap.proofs.WalkLemmas.{first_value-rows}
-use Rattle.os_app.specs.declared.words.Asked.{Asked}
-use Rattle.os_app.specs.declared.words.Asked.TheVariants as asked
-use Rattle.os_app.specs.Words.{Check, IsCheck, IsSession, IsNoCommand, asked_by, asked_with, asks, files_of, meant, needed_word, program}
+use Rattle.command_line.specs.declared.words.Asked.{Asked}
+use Rattle.command_line.specs.declared.words.Asked.TheVariants as asked
+use Rattle.command_line.specs.Words.{Check, IsCheck, IsSession, IsNoCommand, asked_by, asked_with, asks, files_of, meant, needed_word, program}
 
 -- clap says exactly what it makes of the program's words
 program_is_free : is_simple_and_free program ≡ true

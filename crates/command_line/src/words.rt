@@ -1,10 +1,10 @@
 //! The words that the program is called with.
-ghost use Rattle.std.specs.Prelude.{◌≡◌, ◌↔◌, ℕ, List, [], ◌∷◌, codes, IfOk, map, option_and_then, option_map};
+ghost use Rattle.std.specs.Prelude.{◌≡◌, ◌↔◌, ℕ, List, [], ◌∷◌, codes, IfOk, map, option_and_then, option_map, true};
 ghost use Rattle.std.specs.String.{string_bytes};
 ghost use Rattle.os_io.specs.Streams.{Sends};
 ghost use Rattle.clap.specs.Words.{app_of, found_of, rows_of, subcommand_rows_of};
-ghost use Rattle.os_app.specs.Runs.{usage};
-ghost use Rattle.os_app.specs.Words.{HasSessionWords, IsCheck, IsSession, asked_by, asks, files_of, meant, program};
+ghost use Rattle.command_line.specs.Forms.{is_plain};
+ghost use Rattle.command_line.specs.Words.{HasCheckWords, HasSessionWords, IsCheck, IsSession, asked_by, asks, files_of, meant, program, usage};
 
 use clap::error::ErrorKind;
 use clap::{Arg, ArgMatches, Command};
@@ -16,7 +16,7 @@ const USAGE: &[u8] = b"usage: os_app session | solve | check | serve | call | ge
 
 /// What the words ask for.
 #[derive(Clone, Copy, Debug)]
-pub(crate) enum Asked<'w> {
+pub enum Asked<'w> {
     /// To read one request from the input and write its response to the output.
     Session,
     /// To check the result in one file of the instance in another.
@@ -62,7 +62,7 @@ fn asked_by<'w>(matches: &ArgMatches<'w>) -> Option<Asked<'w>>
 
 /// What the words ask for, the first of which is the program's name. There is nothing where they are no command, or ask
 /// for help.
-pub(crate) fn read<'w>(alloc: Global, words: &'w [String]) -> Result<Option<Asked<'w>>, Memory>
+pub fn read<'w>(alloc: Global, words: &'w [String]) -> Result<Option<Asked<'w>>, Memory>
     ensures { IfOk result (λ asked. option_map meant asked ≡ asks (map string_bytes words.now)) }
 {
     match program(alloc)?.try_get_matches_from(words) {
@@ -79,13 +79,16 @@ pub fn session_has_its_words()
     ensures { (words : List (List ℕ)) → IsSession words ↔ HasSessionWords words }
 {}
 
-/// Law: behind a name, `check` and `--` any two words name the files.
-pub fn any_words_name_files()
-    ensures { (name osil osrl : List ℕ) → IsCheck (name ∷ codes "check" ∷ codes "--" ∷ osil ∷ osrl ∷ []) osil osrl }
+/// Law: the words of a check are a name, `check` and the names of the two files, none of which is a flag before a `--`. That
+/// may stand once, before, between or behind the two.
+pub fn check_has_its_words()
+    ensures exact { (words : List (List ℕ)) (osil osrl : List ℕ) → IsCheck words osil osrl ↔ HasCheckWords words osil osrl }
+    ensures plain { (name osil osrl : List ℕ) → is_plain osil ≡ true → is_plain osrl ≡ true → IsCheck (name ∷ codes "check" ∷ osil ∷ osrl ∷ []) osil osrl }
+    ensures behind_dashes { (name osil osrl : List ℕ) → IsCheck (name ∷ codes "check" ∷ codes "--" ∷ osil ∷ osrl ∷ []) osil osrl }
 {}
 
 /// Writes how the program is called.
-pub(crate) fn write_usage<O: Sink>(output: &mut O) -> Result<(), Failed>
+pub fn write_usage<O: Sink>(output: &mut O) -> Result<(), Failed>
     ensures { Sends result usage (O.tells output.old) (O.tells output.new) }
 {
     send_all(output, USAGE)

@@ -1,7 +1,7 @@
 use Rattle.std.proofs.Common.{rules}
 use Rattle.clap.specs.Words.{found_of}
-use Rattle.os_app.proofs.Called.{no_osil, no_osrl, both_named}
-use Rattle.os_app.proofs.words.files_of.Goals as goal
+use Rattle.command_line.proofs.Called.{no_osil, no_osrl, both_named}
+use Rattle.command_line.proofs.words.files_of.Goals as goal
 
 pub returns-in_err-osil : goal.returns-in_err-osil
 returns-in_err-osil c = no_osil (found_of c.args.matches.now) c.get_str.result c.from_residual.result (search rules) (search rules) c.get_str.ensures

@@ -1,11 +1,12 @@
 -- What the words of a call ask for: what clap makes of them, where it refuses none.
-use Rattle.std.specs.Prelude.{◌≡◌, true, List, [], ◌∷◌, Option, Some, None, codes, option_and_then, option_map, if◌then◌else◌}
+use Rattle.std.specs.Prelude.{◌≡◌, ℕ, true, List, [], ◌∷◌, Option, Some, None, codes, option_and_then, option_map, if◌then◌else◌}
 use Rattle.std.specs.Str.{bytes_eq}
 use Rattle.clap.specs.Words.{App, Row, Rule, Text, fault_of, first_of, new_app, new_rule, subcommand_of, with_subcommand}
 use Rattle.clap.specs.Simple.{Shape, new_shape, on_top}
 use Rattle.clap.specs.Kinds.{Kinds}
-use Rattle.os_app.specs.declared.words.Asked.{Asked}
-use Rattle.os_app.specs.declared.words.Asked.TheVariants as asked
+use Rattle.command_line.specs.Forms.{IsCallOf}
+use Rattle.command_line.specs.declared.words.Asked.{Asked}
+use Rattle.command_line.specs.declared.words.Asked.TheVariants as asked
 
 -- what words may ask for: a session, or a check of the files of these names
 pub data Command : Type 0 where
@@ -54,10 +55,9 @@ asks words = asked_with (fault_of program words) (subcommand_of program words)
 abbrev pub IsSession : List Text → Type 0
 IsSession words = asks words ≡ Some Session
 
--- the words are a name and `session`, and perhaps `--`
-pub data HasSessionWords (words : List Text) : Type 0 where
-  alone : (name : Text) → words ≡ name ∷ codes "session" ∷ [] → HasSessionWords words
-  with_dashes : (name : Text) → words ≡ name ∷ codes "session" ∷ codes "--" ∷ [] → HasSessionWords words
+-- the words of a session: a name, `session`, and no word that stands for something
+abbrev pub HasSessionWords : List Text → Type 0
+HasSessionWords words = IsCallOf (codes "session") [] words
 
 -- the words are no command's
 abbrev pub IsNoCommand : List Text → Type 0
@@ -67,6 +67,14 @@ IsNoCommand words = asks words ≡ None
 abbrev pub IsCheck : List Text → (osil osrl : Text) → Type 0
 IsCheck words osil osrl = asks words ≡ Some (Check osil osrl)
 
+-- the words of a check: a name, `check`, and words that stand for the names of the two files
+abbrev pub HasCheckWords : List Text → (osil osrl : Text) → Type 0
+HasCheckWords words osil osrl = IsCallOf (codes "check") (osil ∷ osrl ∷ []) words
+
 -- the words are no check's
 abbrev pub IsNoCheck : List Text → Type 0
 IsNoCheck words = (osil osrl : Text) → IsCheck words osil osrl → ⊥
+
+-- what is written to whoever gives words that are no command's
+abbrev pub usage : List ℕ
+usage = codes "usage: os_app session | solve | check | serve | call | generate\n"

@@ -1,5 +1,0 @@
-use Rattle.os_app.proofs.FileWords.{words_behind_dashes}
-use Rattle.os_app.proofs.words.any_words_name_files.Goals as goal
-
-pub returns : goal.returns
-returns c = words_behind_dashes
