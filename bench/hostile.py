@@ -2,8 +2,7 @@
 
 A shape is a document that grows in one way that could cost more than its bytes. The first shapes are of any XML
 document, read by `bench_documents`; the others are instances and results, read by `os check`. What is answered is
-compared, so a figure is that of a whole read. Fails where 4 MB take more than 5 times 1 MB, or 8 times where a tag's
-names come in no order: these are looked up in an ordered set, more and more of it outside the processor's caches.
+compared, so a figure is that of a whole read. Fails where 4 MB take more than 5 times 1 MB.
 """
 
 import os
@@ -15,8 +14,6 @@ RUNS = 3
 ROUNDS = 5
 SIZES = (1_000_000, 2_000_000, 4_000_000)
 MOST = 5
-MOST_IN_NO_ORDER = 8
-IN_NO_ORDER = "attributes in no order"
 READER = os.path.abspath("crates/bench_documents/out/bench_documents")
 PROGRAM = os.path.abspath("os")
 
@@ -35,11 +32,21 @@ def filled(head, part, tail):
     return of
 
 
-def shuffled(size):
-    """A tag of attributes in no order."""
-    names = [f" a{k}=''" for k in range(size // 11)]
-    random.Random(1).shuffle(names)
-    return "<a" + "".join(names) + "/>"
+def shuffled(begins):
+    """A tag of attributes in no order, whose names begin so."""
+
+    def of(size):
+        names = [f" {begins}{k:06}=''" for k in range(size // (len(begins) + 10))]
+        random.Random(1).shuffle(names)
+        return "<a" + "".join(names) + "/>"
+
+    return of
+
+
+def of_one_number(k):
+    """An attribute whose name has the same number in the base 257, modulo 2^64, for each k below 2^15: two texts of nine
+    letters have one, since they differ by the coefficients of (x - 1)^8."""
+    return " " + "".join(("azKz-zKza", "brgBsBgrb")[k >> place & 1] for place in range(15)) + "=''"
 
 
 def twice(size):
@@ -72,7 +79,9 @@ def deep_once(size):
 # of any XML document: a name, the document of a size, and the answer
 DOCUMENTS = [
     ("attributes in a tag", filled("<a", lambda k: f" a{k}=''", "/>"), "accepted"),
-    (IN_NO_ORDER, shuffled, "accepted"),
+    ("attributes in no order", shuffled("a"), "accepted"),
+    ("attributes in no order that begin alike", shuffled("abcdefghijklmnop"), "accepted"),
+    ("attributes whose names have one number", filled("<a", of_one_number, "/>"), "accepted"),
     ("attributes of one letter's names", filled("<a", lambda k: " " + "a" * (k % 2000 + 1) + f"{k // 2000}=''", "/>"), "accepted"),
     ("attributes that begin alike", filled("<a", lambda k: " " + "a" * 300 + f"{k}=''", "/>"), "accepted"),
     ("attributes with a prefix", filled("<a", lambda k: f" p:a{k}=''", "/>"), "accepted"),
@@ -196,15 +205,14 @@ def written(folder, name, text):
 def figures(name, figure_at):
     """Prints the figures of a shape, and whether they grow as the bytes do. Where they don't, it is timed again, since
     other work may have come between."""
-    most = MOST_IN_NO_ORDER if name == IN_NO_ORDER else MOST
     seconds = [figure_at(size) for size in SIZES]
     for _ in range(ROUNDS):
-        if seconds[-1] <= most * seconds[0]:
+        if seconds[-1] <= MOST * seconds[0]:
             break
         seconds = [min(s, figure_at(size)) for s, size in zip(seconds, SIZES)]
     growth = seconds[-1] / seconds[0]
     print(f"{name} | " + " | ".join(f"{s:.3f}" for s in seconds) + f" | {growth:.1f}", flush=True)
-    return growth <= most
+    return growth <= MOST
 
 
 def main():
@@ -233,4 +241,5 @@ def main():
         sys.exit("4 MB take too many times 1 MB: " + ", ".join(slow))
 
 
-main()
+if __name__ == "__main__":
+    main()

@@ -2,6 +2,7 @@ pub mod Reading
 pub mod Refusals
 pub mod Feeding
 pub mod Building
+pub mod Keeping
 pub mod Marks
 pub mod Rests
 pub mod Completes

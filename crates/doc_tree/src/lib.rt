@@ -21,6 +21,7 @@ mod builder;
 mod characters;
 mod declaration;
 mod fault;
+mod keys;
 mod laws;
 mod machine;
 mod names;

@@ -19,11 +19,11 @@ mod tags;
 use crate::builder::Telling;
 use crate::declaration::{Field, is_encoding, is_utf8_name};
 use crate::fault::StepFault;
+use crate::keys::Keys;
 use crate::names::{Part, is_name_start};
 use element_tree::Tree;
 use os_io::Memory;
 use std::alloc::{AllocError, Global};
-use std::collections::BTreeSet;
 use tree_grammar::DEPTH;
 
 /// Where in the document the reader stands.
@@ -155,7 +155,7 @@ pub(crate) struct Machine {
     goal: Goal,
     /// Of the start tag that is read: its name, and the names of its attributes.
     name: Vec<u8>,
-    keys: BTreeSet<Vec<u8>>,
+    keys: Keys,
     /// The name that is read.
     part: Part,
     /// Of the attribute or field that is read.
@@ -185,7 +185,7 @@ impl Machine {
             matched: 0,
             goal: Goal::Marked,
             name: Vec::new(alloc),
-            keys: BTreeSet::new(alloc),
+            keys: Keys::new(alloc),
             part: Part::First,
             key: Vec::new(alloc),
             quote: 0,

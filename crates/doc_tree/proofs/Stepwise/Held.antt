@@ -1,16 +1,17 @@
--- The names of a tag in an ordered set, and that their order says nothing.
-use Rattle.std.proofs.Common.{◌≡◌, ◌∙◌, ℕ, Bool, true, false, ◌||◌, inl, inr, ◌⊎◌, List, [], ◌∷◌, ◌++◌, map, refl, ap, sym, Less, Equal, Greater}
+-- The names of a tag: their numbers, and their set.
+use Rattle.std.proofs.Common.{◌≡◌, ◌∙◌, ℕ, Bool, true, false, ◌||◌, inl, inr, ◌⊎◌, List, [], ◌∷◌, ◌++◌, map, length, take, get_or, ◌<◌, ◌≤◌, ◌+◌, cond, refl, ap, sym, subst, arith, length-append, Less, Equal, Greater}
 use Rattle.std.specs.declared.cmp.Ordering.{Ordering}
 use Rattle.std.specs.Ordering.{is_eq, nat_cmp, match_ordering}
 use Rattle.std.specs.Cmp.Lexicographic.{slice_cmp}
 use Rattle.std.specs.List.{list_any}
-use Rattle.std.specs.BTreeSet.{insert_key}
+use Rattle.std.specs.BTreeMap.{is_at}
+use Rattle.std.specs.BTreeSet.{BTreeSet, contains, insert_key, Updates}
+use Rattle.std.proofs.lemmas.List.{take-append-le, take_more, take_all, length-map, map-append}
+use Rattle.std.proofs.Math.ListN.{get_or-map}
 use Rattle.std.proofs.lemmas.Map.Text.{is_eq-slice_cmp}
 use Rattle.std.proofs.lemmas.Slice.Eq.{bytes_eq-Decides}
-use Rattle.tree_grammar.specs.Elements.{Attribute}
-use Rattle.tree_grammar.specs.Tags.{Attributes, no_attribute, attribute, IsAmong, IsFresh}
-use Rattle.doc_tree.specs.Marks.{Mark}
-use Rattle.doc_tree.specs.Rests.{TagRest, AreSameNames}
+use Rattle.tree_grammar.specs.Tags.{IsAmong}
+use Rattle.doc_tree.specs.Keeping.{AreNumbered, AreSameNames, IsSorted, number_from}
 
 pub among_first : (n name : List ℕ) (names : List (List ℕ)) → IsAmong n names → IsAmong n (names ++ (name ∷ []))
 among_first n name [] h = absurd h
@@ -27,17 +28,11 @@ among_either n name [] (inr h) = absurd h
 among_either n name (m ∷ names) (inl e) = inl (inl e)
 among_either n name (m ∷ names) (inr h) = elim (among_either n name names h) [ inl a ↦ inl (inr a) | inr e ↦ inr e ]
 
--- where each of the second is one of the first, attributes new to the first are new to the second
-fresh_alike : (names others : List (List ℕ)) → ((n : List ℕ) → IsAmong n others → IsAmong n names) → (attributes : Attributes) → IsFresh names attributes → IsFresh others attributes
-fresh_alike names others back no_attribute f = tt
-fresh_alike names others back (attribute space name s n e quote q v more) f = (
-  (λ a. f.0 (back name a)),
-  fresh_alike (names ++ (name ∷ [])) (others ++ (name ∷ [])) (λ m a. elim (among_either m name others a) [ inl b ↦ among_first m name names (back m b) | inr b ↦ among_last m name names b ]) more f.1,
+same_more : (names others : List (List ℕ)) (name : List ℕ) → AreSameNames names others → AreSameNames (names ++ (name ∷ [])) (others ++ (name ∷ []))
+same_more names others name h = λ n. (
+  (λ a. elim (among_either n name names a) [ inl b ↦ among_first n name others ((h n).0 b) | inr e ↦ among_last n name others e ]),
+  (λ a. elim (among_either n name others a) [ inl b ↦ among_first n name names ((h n).1 b) | inr e ↦ among_last n name names e ]),
 )
-
-module _ (room : ℕ) (name : List ℕ) (kept : List Attribute) (K : List ℕ → List Mark → Type 0) where
-  pub tag_alike : (names others : List (List ℕ)) (bytes : List ℕ) (es : List Mark) → ((n : List ℕ) → IsAmong n others → IsAmong n names) → TagRest room name names kept K bytes es → TagRest room name others kept K bytes es
-  tag_alike names others bytes es back h = record { attributes = h.attributes; fresh = fresh_alike names others back h.attributes h.fresh; space = h.space; spaced = h.spaced; behind = h.behind; text = h.text; after = h.after }
 
 or_true : (b : Bool) → (b || true) ≡ true
 or_true true = refl
@@ -84,3 +79,40 @@ module _ {K : Type 0} (bytes : K → List ℕ) where
   pub put : (keys : List K) (key : K) → AreSameNames (map bytes (insert_key order keys key)) (map bytes keys ++ (bytes key ∷ []))
   put [] key = λ n. (λ h. h, λ h. h)
   put (k ∷ keys) key = put_by key k keys (order key k) refl (put keys key)
+
+  -- one name more in order
+  pub sorted_next : (names : List K) (i : ℕ) (keys : List K) (key k : K) → i < length names → k ≡ get_or names i k → bytes key ≡ bytes k → IsSorted (map bytes names) i (map bytes keys) → IsSorted (map bytes names) (i + 1) (map bytes (insert_key order keys key))
+  sorted_next names i keys key k l e f h =
+      let m : i < length (map bytes names) = subst (λ z. i < z) (sym (length-map names bytes)) l in
+      let g : get_or (map bytes names) i (bytes k) ≡ bytes key = get_or-map bytes names i k ∙ ap bytes (sym e) ∙ sym f in
+      record {
+        within = omega arith;
+        same = subst (AreSameNames (map bytes (insert_key order keys key))) (sym (take_more (map bytes names) i (bytes k) m ∙ ap (λ z. take i (map bytes names) ++ (z ∷ [])) g)) (λ n.
+            let a = put keys key n in let b = same_more (map bytes keys) (take i (map bytes names)) (bytes key) h.same n in
+            (λ q. b.0 (a.0 q), λ q. a.1 (b.1 q)));
+      }
+
+  -- all are in order
+  pub sorted_all : (names : List K) (settled : ℕ) (keys : List K) → IsSorted (map bytes names) settled (map bytes keys) → length names ≤ settled → AreSameNames (map bytes keys) (map bytes names)
+  sorted_all names settled keys h l = subst (AreSameNames (map bytes keys)) (take_all settled (map bytes names) (subst (λ z. z ≤ settled) (sym (length-map names bytes)) l)) h.same
+
+  pub names_more : (names new : List K) (key : K) → new ≡ names ++ (key ∷ []) → map bytes new ≡ map bytes names ++ (bytes key ∷ [])
+  names_more names new key e = ap (map bytes) e ∙ map-append bytes names (key ∷ [])
+
+-- the names' numbers, with one more
+pub numbered_more : (names : List (List ℕ)) (old new : BTreeSet ℕ) (k : ℕ) → Updates nat_cmp old new k true → AreNumbered names old → AreNumbered names new
+numbered_more names old new k u h = λ name a. u.0 (number_from 0 name) ∙ either (is_at (nat_cmp k) (number_from 0 name)) (contains nat_cmp old (number_from 0 name)) (h name a)
+  where
+    either : (here there : Bool) → there ≡ true → cond here true there ≡ true
+    either true there e = refl
+    either false there e = e
+
+pub numbered_push : (names : List (List ℕ)) (name : List ℕ) (numbers : BTreeSet ℕ) → AreNumbered names numbers → contains nat_cmp numbers (number_from 0 name) ≡ true → AreNumbered (names ++ (name ∷ [])) numbers
+numbered_push names name numbers h e = λ n a. elim (among_either n name names a) [ inl b ↦ h n b | inr q ↦ ap (λ z. contains nat_cmp numbers (number_from 0 z)) q ∙ e ]
+
+-- a name that comes is not yet in order
+pub sorted_push : (names : List (List ℕ)) (name : List ℕ) (settled : ℕ) (sorted : List (List ℕ)) → IsSorted names settled sorted → IsSorted (names ++ (name ∷ [])) settled sorted
+sorted_push names name settled sorted h = record {
+  within = omega (arith, h.within, length-append names (name ∷ []));
+  same = subst (AreSameNames sorted) (sym (take-append-le settled names (name ∷ []) h.within)) h.same;
+}
