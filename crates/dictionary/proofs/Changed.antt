@@ -7,9 +7,9 @@ use Rattle.fraction.specs.Frac.{ratio}
 use Rattle.fraction.specs.declared.frac.Frac.{Frac}
 use Rattle.dictionary.specs.declared.row.Item.{Item}
 use Rattle.evidence.proofs.Columns.{by_eq}
-use Rattle.dictionary.specs.Row.{HasColumn, IsEntry, has_column}
+use Rattle.dictionary.specs.Row.{entries_of, room_of, entries_in, room_in, HasColumn, IsEntry, has_column, HaveRoom}
 use Rattle.dictionary.specs.Merge.{MergeFits, IsMerged, HasRoom}
-use Rattle.dictionary.specs.Table.{entries_of, room_of, entries_in, room_in, Changes, IsWideRow, IsChanged, IsReplacedRow, row_cost, others_cost, IsReplacedAt, AreReplaced, IsWideTable}
+use Rattle.dictionary.specs.Table.{Changes, IsWideRow, IsChanged, IsReplacedRow, row_cost, others_cost, IsReplacedAt, AreReplaced, IsWideTable}
 use Rattle.dictionary.specs.declared.row.Row.{Row}
 
 pub has_true : (xs : List Item) (c : ℕ) → HasColumn xs c → has_column xs c ≡ true
@@ -21,18 +21,9 @@ has_true (x ∷ xs) c (inr h) = by (nat_eq x.col c) (has_true xs c h)
     by true e = refl
     by false e = e
 
-module _ (A row B by : List Item) (skip : ℕ) (f : Frac) (ea : A ≡ row) (eb : B ≡ by) (entry : IsEntry A skip f) where
-  pub told_wide : (MergeFits A (ratio f) B → ⊥) → IsWideRow row by skip
-  told_wide w = subst (λ r. IsWideRow r by skip) ea (subst (λ r. IsWideRow A r skip) eb (record { factor = f; entry = entry; wide = w }))
-
-  pub told_change : (out : List Item) → IsMerged A (ratio f) B skip out → MergeFits A (ratio f) B → Changes row by skip out
-  told_change out m fits = subst (λ r. Changes r by skip out) ea (subst (λ r. Changes A r skip out) eb (record { factor = f; entry = entry; merged = m; fits = fits }))
-
-  pub told_cost : (s t u : ℕ) → ((b : ℕ) → length A < 2 ^ b → t ≤ s + b) → u ≤ t + 3 * (length A + length B) → (b : ℕ) → length row < 2 ^ b → u ≤ s + b + row_cost row by skip
-  told_cost s t u find merge b h =
-      let k = find b (subst (λ l. length l < 2 ^ b) (sym ea) h) in
-      subst (λ r. u ≤ s + b + row_cost r by skip) ea (subst (λ r. u ≤ s + b + row_cost A r skip) eb
-      (subst (λ (x : Bool). u ≤ s + b + cond x (3 * (length A + length B)) 0) (sym (has_true A skip entry.stands)) (omega arith)))
+-- the cost of a row with an entry there
+pub entry_cost : (row by : List Item) (skip : ℕ) (f : Frac) → IsEntry row skip f → row_cost row by skip ≡ 3 * (length row + length by)
+entry_cost row by skip f e = ap (λ (b : Bool). cond b (3 * (length row + length by)) 0) (has_true row skip e.stands)
 
 pub entries_set : (rows : List Row) (r : ℕ) (v : Row) → r < length rows → entries_in (set rows r v) r ≡ entries_of v
 entries_set rows r v h = ap (λ (l : List (List Item)). get_or l r []) (map-set entries_of rows r v) ∙ get_or-set_same (map entries_of rows) r (entries_of v) [] (omega (arith, length-map rows entries_of))
@@ -43,14 +34,19 @@ entries_other rows r j v h = ap (λ (l : List (List Item)). get_or l j []) (map-
 pub entries_is : (rows : List Row) (r : ℕ) (v : Row) → r < length rows → v ≡ get_or rows r v → entries_of v ≡ entries_in rows r
 entries_is rows r v h e = ap entries_of e ∙ sym (get_or-map entries_of rows r v [] h)
 
-pub room_is : (rows : List Row) (r : ℕ) (v : Row) → r < length rows → v ≡ get_or rows r v → room_of v ≡ room_in rows r
-room_is rows r v h e = ap room_of e ∙ sym (get_or-map room_of rows r v 0 h)
+pub room_there : (rows : List Row) (r : ℕ) (v d : Row) → r < length rows → v ≡ get_or rows r d → room_of v ≡ room_in rows r
+room_there rows r v d h e = ap room_of e ∙ sym (get_or-map room_of rows r d 0 h)
 
-pub room_set : (rows : List Row) (r : ℕ) (v : Row) → r < length rows → room_of v ≡ room_in rows r → (j : ℕ) → room_in (set rows r v) j ≡ room_in rows j
-room_set rows r v h e j =
-    by_eq j r
-    (λ d. subst (λ k. room_in (set rows r v) k ≡ room_in rows k) (sym d) (ap (λ (l : List ℕ). get_or l r 0) (map-set room_of rows r v) ∙ get_or-set_same (map room_of rows) r (room_of v) 0 (omega (arith, length-map rows room_of)) ∙ e))
-    (λ d. ap (λ (l : List ℕ). get_or l j 0) (map-set room_of rows r v) ∙ get_or-set_other (map room_of rows) r j (room_of v) 0 d)
+-- a row and another one outside change places
+pub swapped_room : (n : ℕ) (rows : List Row) (before : Row) (r : ℕ) (v after : Row) → r < length rows → HaveRoom n rows before → room_of before ≤ room_of v → room_of after ≡ room_in rows r → HaveRoom n (set rows r v) after
+swapped_room n rows before r v after l h g e = record {
+  each = λ j i.
+      let inside : j < length rows = subst (λ k. j < k) (length-set rows r v) i in
+      by_eq j r
+      (λ d. subst (λ k. n ≤ room_in (set rows r v) k) (sym d) (subst (λ k. n ≤ k) (sym (ap (λ (l : List ℕ). get_or l r 0) (map-set room_of rows r v) ∙ get_or-set_same (map room_of rows) r (room_of v) 0 (omega (arith, length-map rows room_of)))) (let m = h.more in omega arith)))
+      (λ d. subst (λ k. n ≤ k) (sym (ap (λ (l : List ℕ). get_or l j 0) (map-set room_of rows r v) ∙ get_or-set_other (map room_of rows) r j (room_of v) 0 d)) (h.each j inside));
+  more = subst (λ k. n ≤ k) (sym e) (h.each r l);
+}
 
 pub changed_at : (rows : List Row) (r p skip : ℕ) (x y out v : Row) (b : Bool) → r < length rows → p < length rows → x ≡ get_or rows r x → y ≡ get_or rows p y → (r ≡ p → ⊥) → b ≡ true → IsChanged b (entries_of x) (entries_of y) skip (entries_of out) → v ≡ out → IsReplacedAt r p skip rows (set rows r v)
 changed_at rows r p skip x y out v b lr lp ex ey d t h ev = record {
@@ -82,10 +78,10 @@ module _ (p skip r : ℕ) (old rows : List Row) (made : AreReplaced p skip r old
     after = λ k l. at.others k (λ e. omega arith) ∙ made.after k (omega arith);
   }
 
-  pub room_here : (room more : ℕ) → more ≡ room → HasRoom (entries_in old r) (entries_in old p) skip room → HasRoom (entries_in rows r) (entries_in rows p) skip more
-  room_here room more e h =
-      subst (λ n. HasRoom (entries_in rows r) (entries_in rows p) skip n) (sym e)
-      (subst (λ x. HasRoom x (entries_in rows p) skip room) (sym here) (subst (λ y. HasRoom (entries_in old r) y skip room) (sym made.own) h))
+  pub room_here : (n room : ℕ) → n ≤ room → HasRoom (entries_in old r) (entries_in old p) skip n → HasRoom (entries_in rows r) (entries_in rows p) skip room
+  room_here n room l h =
+      subst (λ x. HasRoom x (entries_in rows p) skip room) (sym here) (subst (λ y. HasRoom (entries_in old r) y skip room) (sym made.own)
+      (λ xs a s. let k = h xs a s in omega arith))
 
   pub wide_here : r < length old → (r ≡ p → ⊥) × IsWideRow (entries_in rows r) (entries_in rows p) skip → IsWideTable p skip old
   wide_here l w = record { row = r; inside = l; other = w.0; wide = subst (λ x. IsWideRow x (entries_in old p) skip) here (subst (λ y. IsWideRow (entries_in rows r) y skip) made.own w.1) }

@@ -5,3 +5,7 @@ pub mod Found
 pub mod Counted
 pub mod OwnRow
 pub mod Changed
+pub mod Costs
+pub mod Exchanged
+pub mod Nonzeros
+pub mod Pivoted

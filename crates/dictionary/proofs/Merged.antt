@@ -6,13 +6,11 @@ use Rattle.rational.specs.Width.{ReducedFits}
 use Rattle.fraction.specs.Frac.{ratio}
 use Rattle.evidence.specs.Sums.{none}
 use Rattle.evidence.specs.Width.{TermFits}
-use Rattle.evidence.proofs.Columns.{by_lt}
+use Rattle.evidence.proofs.Columns.{by_lt, by_eq}
 use Rattle.evidence.proofs.Numbers.{sum-none}
 use Rattle.dictionary.specs.declared.row.Item.{Item}
-use Rattle.dictionary.specs.Row.{item_at, number_in, joined}
-use Rattle.evidence.proofs.Columns.{by_eq}
+use Rattle.dictionary.specs.Row.{item_at, number_in, joined, IsFrom, IsRow, HasColumn}
 use Rattle.dictionary.proofs.Sums.{joined-number, number-append, own_next, other_next, both_next, item_times, item_joined, kept_zero, stepped, finished, begun}
-use Rattle.dictionary.specs.Row.{IsFrom, IsRow, HasColumn}
 use Rattle.dictionary.specs.Merge.{MergeFits, IsMerged, HasRoom, IsBefore, Takes, IsWide, IsAppended}
 use Rattle.dictionary.proofs.Rows.{term_none, term_first, from_order, from_high, from_append, before_from, no_item, number_rest, none_below, number_head, has_append}
 
@@ -216,9 +214,3 @@ module _ (row by : List Item) (f : Ratio) (pf : IsNumber f) (skip : ℕ) where
   merge_fits done i j hj m = record {
     terms = λ c. by_lt c m.mid (m.fits c) (λ g. nothing_fits (number_in row c) f (number_in by c) (m.by_rest c g ∙ ap (λ l. number_in l c) (drop_of_length-le by hj)));
   }
-
-pub one_longer : (out : List Item) (n : ℕ) (z : Item) → n ≤ length out → length (take n out ++ z ∷ []) ≡ n + 1
-one_longer [] zero z h = refl
-one_longer [] (suc n) z h = absurd (omega arith)
-one_longer (x ∷ xs) zero z h = refl
-one_longer (x ∷ xs) (suc n) z h = ap suc (one_longer xs n z (omega arith)) ∙ omega arith

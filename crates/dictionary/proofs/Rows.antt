@@ -1,9 +1,9 @@
 -- Rows by ascending columns.
-use Rattle.std.proofs.Common.{◌≡◌, ℕ, ◌+◌, ◌*◌, ◌/◌, ◌<◌, ◌≤◌, ◌⊎◌, inl, inr, ℤ, pos, ◌+ℤ◌, ◌*ℤ◌, List, [], ◌∷◌, ◌++◌, arith, refl, sym, ◌∙◌, ap, ap₂, subst}
+use Rattle.std.proofs.Common.{◌≡◌, ℕ, ◌+◌, ◌*◌, ◌/◌, ◌<◌, ◌≤◌, ◌⊎◌, inl, inr, zero, suc, ℤ, pos, negsuc, ◌+ℤ◌, ◌*ℤ◌, List, [], ◌∷◌, ◌++◌, arith, refl, sym, ◌∙◌, ap, ap₂, subst}
 use Rattle.std.specs.Prelude.{unsigned_abs}
 use Rattle.std.specs.Int.{IsGcd, ◌∣◌}
 use Rattle.std.proofs.Math.Nat.{eq-one_of_dvd-one}
-use Rattle.std.proofs.Math.IntN.{zero-*ℤ}
+use Rattle.std.proofs.Math.IntN.{zero-*ℤ, *ℤ_comm}
 use Rattle.std.proofs.lemmas.Bool.{eq-eqb, ne_eqb}
 use Rattle.std.proofs.lemmas.Int.{ints}
 use Rattle.rational.specs.Ratio.{Ratio, whole, sum, product, IsNumber, IsSame}
@@ -14,9 +14,9 @@ use Rattle.fraction.specs.Frac.{ratio}
 use Rattle.fraction.specs.declared.frac.Frac.{Frac}
 use Rattle.evidence.specs.Sums.{none}
 use Rattle.evidence.specs.Width.{TermFits}
-use Rattle.evidence.proofs.Columns.{none-number}
+use Rattle.evidence.proofs.Columns.{none-number, by_eq}
 use Rattle.evidence.proofs.Fits.{whole-reduced}
-use Rattle.evidence.proofs.Numbers.{sum-none, none-sum}
+use Rattle.evidence.proofs.Numbers.{sum-none, none-sum, product-number}
 use Rattle.dictionary.specs.declared.row.Item.{Item}
 use Rattle.dictionary.specs.Row.{item_at, number_in, IsFrom, HasColumn}
 use Rattle.dictionary.specs.Merge.{IsBefore}
@@ -115,3 +115,46 @@ pub has_above : (low high : ℕ) (xs : List Item) (c : ℕ) → IsFrom low high 
 has_above low high [] c h g = elim g [ ]
 has_above low high (x ∷ xs) c h (inl e) = let k = h.0 in omega arith
 has_above low high (x ∷ xs) c h (inr g) = let k = h.0 in let l = has_above (x.col + 1) high xs c h.2 g in omega arith
+
+-- a column has an entry, or the number 0
+pub has_or_none : (xs : List Item) (c : ℕ) → HasColumn xs c ⊎ (number_in xs c ≡ none)
+has_or_none [] c = inr refl
+has_or_none (x ∷ xs) c = by_eq x.col c (λ e. inl (inl e)) (λ d. further d (has_or_none xs c))
+  where
+    further : (x.col ≡ c → ⊥) → HasColumn xs c ⊎ (number_in xs c ≡ none) → HasColumn (x ∷ xs) c ⊎ (number_in (x ∷ xs) c ≡ none)
+    further d (inl h) = inl (inr h)
+    further d (inr e) = inr (number_rest x xs c d ∙ e)
+
+pub none_there : (xs : List Item) (c : ℕ) → (HasColumn xs c → ⊥) → number_in xs c ≡ none
+none_there xs c h = which (has_or_none xs c)
+  where
+    which : HasColumn xs c ⊎ (number_in xs c ≡ none) → number_in xs c ≡ none
+    which (inl a) = absurd (h a)
+    which (inr e) = e
+
+-- 0 fits, in whatever form
+pub zero_fit : (x : Ratio) → IsNumber x → x.num ≡ pos 0 → ReducedFits x
+zero_fit x p e = record {
+  number = p;
+  form = none;
+  same = zero-*ℤ (pos x.den) ∙ sym (ap (λ (z : ℤ). z *ℤ pos 1) e ∙ zero-*ℤ (pos 1));
+  reduced = whole-reduced (pos 0);
+  within = (omega arith, omega arith);
+}
+
+pub zero_or : (z : ℤ) → (z ≡ pos 0) ⊎ (z ≡ pos 0 → ⊥)
+zero_or (pos zero) = inl refl
+zero_or (pos (suc n)) = inr (λ e. omega (arith, ints))
+zero_or (negsuc n) = inr (λ e. omega (arith, ints))
+
+-- a product that fits where the second factor isn't 0 fits
+pub term_fits : (f x : Ratio) → IsNumber f → IsNumber x → ((x.num ≡ pos 0 → ⊥) → ReducedFits (product f x)) → ReducedFits (product f x)
+term_fits f x pf px t = which (zero_or x.num)
+  where
+    which : (x.num ≡ pos 0) ⊎ (x.num ≡ pos 0 → ⊥) → ReducedFits (product f x)
+    which (inl e) = zero_fit (product f x) (product-number f x pf px) (ap (λ (z : ℤ). f.num *ℤ z) e ∙ *ℤ_comm f.num (pos 0) ∙ zero-*ℤ f.num)
+    which (inr d) = t d
+
+-- nothing is added where the factor is 0
+pub term_zero : (s f x : Ratio) → f.num ≡ pos 0 → TermFits s f x
+term_zero s f x e = record { term = λ a b. absurd (a e); sum = λ a b. absurd (a e) }
