@@ -7,7 +7,7 @@ use Rattle.fraction.specs.Frac.{ratio}
 use Rattle.fraction.specs.declared.frac.Frac.{Frac}
 use Rattle.dictionary.specs.declared.row.Item.{Item}
 use Rattle.evidence.proofs.Columns.{by_eq}
-use Rattle.dictionary.specs.Row.{entries_of, room_of, entries_in, room_in, HasColumn, IsEntry, has_column, HaveRoom}
+use Rattle.dictionary.specs.Row.{entries_of, room_of, entries_in, room_in, HasColumn, IsEntry, has_column, HaveRoom, RowsHaveRoom}
 use Rattle.dictionary.specs.Merge.{MergeFits, IsMerged, HasRoom}
 use Rattle.dictionary.specs.Table.{Changes, IsWideRow, IsChanged, IsReplacedRow, row_cost, others_cost, IsReplacedAt, AreReplaced, IsWideTable}
 use Rattle.dictionary.specs.declared.row.Row.{Row}
@@ -37,14 +37,18 @@ entries_is rows r v h e = ap entries_of e ∙ sym (get_or-map entries_of rows r 
 pub room_there : (rows : List Row) (r : ℕ) (v d : Row) → r < length rows → v ≡ get_or rows r d → room_of v ≡ room_in rows r
 room_there rows r v d h e = ap room_of e ∙ sym (get_or-map room_of rows r d 0 h)
 
+-- a row with no less room in its place
+pub rooms_set : (n : ℕ) (rows : List Row) (r : ℕ) (v : Row) → r < length rows → n ≤ room_of v → RowsHaveRoom n rows → RowsHaveRoom n (set rows r v)
+rooms_set n rows r v l g h j i =
+    let inside : j < length rows = subst (λ k. j < k) (length-set rows r v) i in
+    by_eq j r
+    (λ d. subst (λ k. n ≤ room_in (set rows r v) k) (sym d) (subst (λ k. n ≤ k) (sym (ap (λ (l : List ℕ). get_or l r 0) (map-set room_of rows r v) ∙ get_or-set_same (map room_of rows) r (room_of v) 0 (omega (arith, length-map rows room_of)))) g))
+    (λ d. subst (λ k. n ≤ k) (sym (ap (λ (l : List ℕ). get_or l j 0) (map-set room_of rows r v) ∙ get_or-set_other (map room_of rows) r j (room_of v) 0 d)) (h j inside))
+
 -- a row and another one outside change places
 pub swapped_room : (n : ℕ) (rows : List Row) (before : Row) (r : ℕ) (v after : Row) → r < length rows → HaveRoom n rows before → room_of before ≤ room_of v → room_of after ≡ room_in rows r → HaveRoom n (set rows r v) after
 swapped_room n rows before r v after l h g e = record {
-  each = λ j i.
-      let inside : j < length rows = subst (λ k. j < k) (length-set rows r v) i in
-      by_eq j r
-      (λ d. subst (λ k. n ≤ room_in (set rows r v) k) (sym d) (subst (λ k. n ≤ k) (sym (ap (λ (l : List ℕ). get_or l r 0) (map-set room_of rows r v) ∙ get_or-set_same (map room_of rows) r (room_of v) 0 (omega (arith, length-map rows room_of)))) (let m = h.more in omega arith)))
-      (λ d. subst (λ k. n ≤ k) (sym (ap (λ (l : List ℕ). get_or l j 0) (map-set room_of rows r v) ∙ get_or-set_other (map room_of rows) r j (room_of v) 0 d)) (h.each j inside));
+  each = rooms_set n rows r v l (let m = h.more in omega arith) h.each;
   more = subst (λ k. n ≤ k) (sym e) (h.each r l);
 }
 

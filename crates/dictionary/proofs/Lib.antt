@@ -9,3 +9,9 @@ pub mod Costs
 pub mod Exchanged
 pub mod Nonzeros
 pub mod Pivoted
+pub mod Widths
+pub mod Rooms
+pub mod Bounds
+pub mod Held
+pub mod Filled
+pub mod Valued

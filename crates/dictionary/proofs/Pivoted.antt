@@ -32,17 +32,14 @@ number_reduced low high (x ∷ xs) h c =
     (λ e. subst (λ (v : Ratio). IsReduced v) (sym (ap (λ k. number_in (x ∷ xs) k) (sym e) ∙ number_head x xs low high h)) (let v = x.value in (v.above, v.reduced)))
     (λ d. subst (λ (v : Ratio). IsReduced v) (sym (number_rest x xs c d)) (number_reduced (x.col + 1) high xs h.2 c))
 
+get_or_past : (xs : List (List Item)) (i : ℕ) → length xs ≤ i → get_or xs i [] ≡ []
+get_or_past [] i l = refl
+get_or_past (x ∷ xs) zero l = absurd (omega arith)
+get_or_past (x ∷ xs) (suc i) l = get_or_past xs i (omega arith)
+
 -- no row stands past the last
 pub past_rows : (rows : List Row) (r : ℕ) → length rows ≤ r → entries_in rows r ≡ []
 past_rows rows r h = get_or_past (map entries_of rows) r (omega (arith, length-map rows entries_of))
-  where
-    get_or_past : (xs : List (List Item)) (i : ℕ) → length xs ≤ i → get_or xs i [] ≡ []
-    get_or_past [] i l = refl
-    get_or_past (x ∷ xs) i l = by i l
-      where
-        by : (j : ℕ) → length (x ∷ xs) ≤ j → get_or (x ∷ xs) j [] ≡ []
-        by zero k = absurd (omega arith)
-        by (suc j) k = get_or_past xs j (omega arith)
 
 pub every_row : (P : List Item → Type 0) (rows : List Row) → P [] → ((r : ℕ) → r < length rows → P (entries_in rows r)) → (r : ℕ) → P (entries_in rows r)
 every_row P rows none_left p r = by_lt r (length rows) (p r) (λ l. subst P (sym (past_rows rows r l)) none_left)
@@ -69,9 +66,9 @@ pub record ArePivoted (n : ℕ) (at place to new : ℕ → ℕ) (b e : ℕ) (row
 
 module _ (n : ℕ) (place : ℕ → ℕ) (rows : List Row) (b e : ℕ) where
   abbrev u : Entries
-  abbrev p : ℕ
-
   u = entries_by n place rows
+
+  abbrev p : ℕ
   p = place b - n
 
   pub own_entry : n ≤ place b → (pivot : Frac) → IsEntry (entries_in rows p) e pivot → u b e ≡ ratio pivot

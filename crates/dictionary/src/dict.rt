@@ -100,9 +100,12 @@ impl Dict {
         ensures holds { Holds (rows_of matrix.now costs.now factor (height_of self.old)) self.new }
         ensures basis { (c : ℕ) → c < columns_of self.old → basic_of self.new c ≡ is_fresh (width_of self.old) c }
     {
-        load_rows(self.rows.as_mut_slice(), matrix, costs, factor);
-        number(self.columns.as_mut_slice());
-        number(self.places.as_mut_slice());
+        let rows = self.rows.as_mut_slice();
+        let columns = self.columns.as_mut_slice();
+        let places = self.places.as_mut_slice();
+        load_rows(rows, matrix, costs, factor);
+        number(columns);
+        number(places);
         self.is_loaded = true;
     }
 
@@ -139,8 +142,9 @@ impl Dict {
     {
         self.is_loaded = false;
         let p = self.row_of(basic);
+        let rows = self.rows.as_mut_slice();
         pivot_rows(
-            self.rows.as_mut_slice(),
+            rows,
             &mut self.lead,
             &mut self.scratch,
             p,
@@ -148,12 +152,9 @@ impl Dict {
             nonbasic,
             steps,
         )?;
-        exchange(
-            self.columns.as_mut_slice(),
-            self.places.as_mut_slice(),
-            basic,
-            nonbasic,
-        );
+        let columns = self.columns.as_mut_slice();
+        let places = self.places.as_mut_slice();
+        exchange(columns, places, basic, nonbasic);
         self.is_loaded = true;
         Ok(())
     }
