@@ -37,6 +37,12 @@ entries_is rows r v h e = ap entries_of e ∙ sym (get_or-map entries_of rows r 
 pub room_there : (rows : List Row) (r : ℕ) (v d : Row) → r < length rows → v ≡ get_or rows r d → room_of v ≡ room_in rows r
 room_there rows r v d h e = ap room_of e ∙ sym (get_or-map room_of rows r d 0 h)
 
+pub room_from : (n : ℕ) (rows : List Row) (r : ℕ) (d : Row) → r < length rows → RowsHaveRoom n rows → n ≤ room_of (get_or rows r d)
+room_from n rows r d l h = subst (λ k. n ≤ k) (get_or-map room_of rows r d 0 l) (h r l)
+
+pub row_room : (n : ℕ) (rows : List Row) (r : ℕ) (d v : Row) → r < length rows → room_of (get_or rows r d) ≤ room_of v → RowsHaveRoom n rows → n ≤ room_of v
+row_room n rows r d v l g h = let a = room_from n rows r d l h in omega arith
+
 -- a row with no less room in its place
 pub rooms_set : (n : ℕ) (rows : List Row) (r : ℕ) (v : Row) → r < length rows → n ≤ room_of v → RowsHaveRoom n rows → RowsHaveRoom n (set rows r v)
 rooms_set n rows r v l g h j i =

@@ -1,11 +1,12 @@
 -- The rows of a program's entries and of its costs.
-use Rattle.std.proofs.Common.{◌≡◌, ℕ, zero, suc, ◌+◌, ◌-◌, ◌^◌, ◌<◌, ◌≤◌, ◌⊎◌, inl, inr, ℤ, pos, negsuc, Bool, true, false, cond, nat_eq, nat_lt, ◌&&◌, List, [], ◌∷◌, ◌++◌, length, map, get_or, take, drop, arith, refl, sym, ◌∙◌, ap, ap₂, subst, length-append}
+use Rattle.std.proofs.Common.{◌≡◌, ℕ, zero, suc, ◌+◌, ◌-◌, ◌^◌, ◌<◌, ◌≤◌, ◌⊎◌, inl, inr, ℤ, pos, negsuc, ◌*ℤ◌, Bool, true, false, cond, nat_eq, nat_lt, ◌&&◌, List, [], ◌∷◌, ◌++◌, length, map, get_or, set, take, drop, arith, refl, sym, ◌∙◌, ap, ap₂, subst, length-append}
 use Rattle.std.specs.List.{All}
 use Rattle.std.proofs.Math.Seq.{take-suc}
-use Rattle.std.proofs.lemmas.List.{take-append-drop, length_push, map_push, get_or_append_left, get_or_push, length-map}
+use Rattle.std.proofs.lemmas.List.{take-append-drop, length_push, map_push, get_or_append_left, get_or_push, length-map, take_more, append-nil}
 use Rattle.std.proofs.lemmas.Bool.{eq-eqb, ne_eqb, lt-ltb, le-ltb}
 use Rattle.std.proofs.lemmas.List.Elements.{All-head, All-tail}
-use Rattle.rational.specs.Ratio.{Ratio, negative}
+use Rattle.std.proofs.Math.IntN.{zero-*ℤ}
+use Rattle.rational.specs.Ratio.{Ratio, sum, negative}
 use Rattle.fraction.specs.Frac.{ratio, ratios}
 use Rattle.fraction.specs.declared.frac.Frac.{Frac}
 use Rattle.fraction.specs.declared.ends.Entry.{Entry}
@@ -13,13 +14,18 @@ use Rattle.evidence.specs.Sums.{none}
 use Rattle.evidence.specs.Instance.{entry_at}
 use Rattle.evidence.specs.Point.{value_at}
 use Rattle.evidence.proofs.Columns.{by_eq, by_lt}
+use Rattle.evidence.proofs.Numbers.{sum-none, none-sum}
+use Rattle.bases.proofs.Lists.{reduced_none}
 use Rattle.instance.specs.Parts.{IsBefore, IsAscending, IsInside}
 use Rattle.instance.specs.Program.{entry, entries}
+use Rattle.instance.proofs.Terms.{read}
 use Rattle.dictionary.specs.declared.row.Item.{Item}
 use Rattle.dictionary.specs.declared.row.Row.{Row}
-use Rattle.dictionary.specs.Row.{number_in, room_of, IsFrom, IsRow, HasColumn, RowsHaveRoom}
-use Rattle.dictionary.specs.Loaded.{times_sign, row_items, IsRowOf}
-use Rattle.dictionary.proofs.Rows.{from_high, number_rest, number_head, none_there, has_above}
+use Rattle.dictionary.specs.Row.{number_in, entries_of, entries_in, room_of, IsFrom, IsRow, HasColumn, RowsHaveRoom}
+use Rattle.dictionary.specs.Loaded.{times_sign, rows_of, row_items, IsPut, IsRowOf, AreRowsOf}
+use Rattle.dictionary.proofs.Rows.{from_high, from_append, number_rest, number_head, none_there}
+use Rattle.dictionary.proofs.Sums.{number-append}
+use Rattle.dictionary.proofs.Changed.{entries_set, entries_other}
 
 pub from_length : (low high : ℕ) (xs : List Item) → IsFrom low high xs → length xs + low ≤ high
 from_length low high [] h = omega arith
@@ -162,3 +168,80 @@ row_rooms_push n rows v h all r l =
     (by_lt r (length rows)
     (λ i. subst (λ j. n ≤ j) (sym (get_or_append_left (map room_of rows) (room_of v ∷ []) 0 r (omega (arith, length-map rows room_of)))) (all r i))
     (λ i. subst (λ j. n ≤ j) (sym (get_or_push (map room_of rows) (room_of v) 0 r (omega (arith, length-map rows room_of)))) h))
+
+none_by_zero : (x : Frac) → x.numer ≡ pos 0 → ratio x ≡ none
+none_by_zero x z = reduced_none (ratio x) (x.above, x.reduced) (ap (λ (n : ℤ). n *ℤ pos 1) z ∙ zero-*ℤ (pos 1) ∙ sym (zero-*ℤ (pos x.denom)))
+
+pub put_first : (f : ℕ → Ratio) (xs : List Item) → xs ≡ [] → PutSoFar 0 f xs
+put_first f xs e = subst (λ (l : List Item). PutSoFar 0 f l) (sym e) (record { ascending = omega arith; numbers = λ c l. absurd (omega arith) })
+
+pub put_at : (n j : ℕ) (F G : ℤ) (costs : List Frac) (xs : List Item) → j ≡ n → F ≡ G → PutSoFar j (λ c. times_sign F (value_at (ratios costs) c)) xs → PutSoFar n (λ c. times_sign G (value_at (ratios costs) c)) xs
+put_at n j F G costs xs e f s = subst (λ k. PutSoFar k (λ c. times_sign G (value_at (ratios costs) c)) xs) e (subst (λ (z : ℤ). PutSoFar j (λ c. times_sign z (value_at (ratios costs) c)) xs) f s)
+
+pub rows_at : (n m k : ℕ) (F G : ℤ) (es : List Entry) (costs : List Frac) (rows : List Row) → F ≡ G → AreRowsOf n m (rows_of es costs F k) rows → AreRowsOf n m (rows_of es costs G k) rows
+rows_at n m k F G es costs rows e h = subst (λ (z : ℤ). AreRowsOf n m (rows_of es costs z k) rows) e h
+
+-- one more cost
+pub put_step : (costs : List Frac) (factor : ℤ) (j : ℕ) (xs ys : List Item) (value cost : Frac) → j < length costs → cost ≡ get_or costs j cost → ratio value ≡ times_sign factor (ratio cost) → PutSoFar j (λ c. times_sign factor (value_at (ratios costs) c)) xs → IsPut j value xs ys → PutSoFar (j + 1) (λ c. times_sign factor (value_at (ratios costs) c)) ys
+put_step costs factor j xs ys value cost l is ev s (inl (z, same)) =
+    subst (λ (l : List Item). PutSoFar (j + 1) (λ c. times_sign factor (value_at (ratios costs) c)) l) (sym same) (record {
+      ascending = from_high 0 j (j + 1) xs (omega arith) s.ascending;
+      numbers = λ c h. by_lt c j (s.numbers c)
+          (λ g. none_above 0 j xs c s.ascending g ∙ sym (ap (λ k. times_sign factor (value_at (ratios costs) k)) (let e : c ≡ j = omega arith in e) ∙ ap (times_sign factor) (read costs j cost l is) ∙ sym ev ∙ none_by_zero value z));
+    })
+put_step costs factor j xs ys value cost l is ev s (inr (n, same)) =
+    let x : Item = record { col = j; value = value } in
+    subst (λ (l : List Item). PutSoFar (j + 1) (λ c. times_sign factor (value_at (ratios costs) c)) l) (sym same) (record {
+      ascending = from_append 0 j xs x (omega arith) n s.ascending;
+      numbers = λ c h. number-append xs (x ∷ []) c
+          ∙ by_lt c j
+          (λ g. ap (λ (v : Ratio). sum (number_in xs c) v) (number_rest x [] c (λ e. omega arith)) ∙ sum-none (number_in xs c) ∙ s.numbers c g)
+          (λ g.
+          let e : c ≡ j = omega arith in
+          ap (λ (v : Ratio). sum v (number_in (x ∷ []) c)) (none_above 0 j xs c s.ascending g) ∙ none-sum (number_in (x ∷ []) c)
+          ∙ ap (λ k. number_in (x ∷ []) k) e ∙ number_head x [] j (j + 1) (omega arith, n, omega arith) ∙ ev
+          ∙ sym (ap (λ k. times_sign factor (value_at (ratios costs) k)) e ∙ ap (times_sign factor) (read costs j cost l is)));
+    })
+
+-- no entry is past the last row
+pub no_items : (m n r : ℕ) (es : List Entry) → All (IsInside m n) es → m ≤ r → row_items r es ≡ []
+no_items m n r [] inside l = refl
+no_items m n r (e ∷ es) inside l =
+    let here = All-head (IsInside m n) e es inside in
+    other_row r e es (λ h. let k = here.row in omega arith) ∙ no_items m n r es (All-tail (IsInside m n) e es inside) l
+
+-- all rows of a program
+pub filled : (rows : List Row) (v : Row) (es : List Entry) (costs : List Frac) (factor : ℤ) (m : ℕ) → length rows ≡ m → 0 < m → IsAscending es → All (IsInside (m - 1) (length costs)) es → length costs ≤ 2 ^ 32 → ((r : ℕ) → entries_in rows r ≡ row_items r es) → IsRowOf (length costs) (λ c. times_sign factor (value_at (ratios costs) c)) (entries_of v) → AreRowsOf (length costs) m (rows_of es costs factor (m - 1)) (set rows (m - 1) v)
+filled rows v es costs factor m count some asc inside few put goal_row =
+    record {
+      rows_are = λ r h. by_eq r (m - 1)
+          (λ e. subst (λ k. IsRowOf (length costs) (rows_of es costs factor (m - 1) k) (entries_in (set rows (m - 1) v) k)) (sym e)
+          (subst (λ (xs : List Item). IsRowOf (length costs) (rows_of es costs factor (m - 1) (m - 1)) xs) (sym (entries_set rows (m - 1) v (omega arith)))
+          (record {
+            ascending = goal_row.ascending;
+            columns = goal_row.columns;
+            numbers = λ c. goal_row.numbers c ∙ sym (ap (λ (b : Bool). cond b (entry_at (entries es) (m - 1) c) (times_sign factor (value_at (ratios costs) c))) (le-ltb (m - 1) (m - 1) (omega arith)));
+          })))
+          (λ d.
+          let from = items_from r (m - 1) (length costs) 0 es asc inside (columns_from r es) (omega arith) in
+          subst (λ (xs : List Item). IsRowOf (length costs) (rows_of es costs factor (m - 1) r) xs) (sym (entries_other rows (m - 1) r v d ∙ put r))
+          (record {
+            ascending = from_high 0 (length costs) (2 ^ 32) (row_items r es) few from;
+            columns = λ c g. has_below 0 (length costs) (row_items r es) c from g;
+            numbers = λ c. items_numbers r 0 (length costs) es from c ∙ sym (ap (λ (b : Bool). cond b (entry_at (entries es) r c) (times_sign factor (value_at (ratios costs) c))) (lt-ltb r (m - 1) (omega arith)));
+          }));
+    }
+
+pub entry_row : (m n : ℕ) (es : List Entry) (k : ℕ) (e : Entry) → All (IsInside m n) es → k < length es → e ≡ get_or es k e → (rows : ℕ) → m ≤ rows → e.row < rows
+entry_row m n es k e inside l is rows h = let i : IsInside m n e = subst (λ (x : Entry). IsInside m n x) (sym is) (inside k e l) in let r = i.row in omega arith
+
+-- one more entry is that of its own row, and of no other
+pub items_next : (es : List Entry) (k : ℕ) (e : Entry) → k < length es → e ≡ get_or es k e → row_items e.row (take k es) ++ (record { col = e.col; value = e.value }) ∷ [] ≡ row_items e.row (take (k + 1) es)
+items_next es k e l is =
+    ap (λ (xs : List Item). row_items e.row (take k es) ++ xs) (sym (items_one e)) ∙ sym (items_append e.row (take k es) (e ∷ []))
+    ∙ sym (ap (row_items e.row) (take_more es k e l ∙ ap (λ (x : Entry). take k es ++ x ∷ []) (sym is)))
+
+pub items_stay : (es : List Entry) (k : ℕ) (e : Entry) (r : ℕ) → k < length es → e ≡ get_or es k e → (e.row ≡ r → ⊥) → row_items r (take k es) ≡ row_items r (take (k + 1) es)
+items_stay es k e r l is d =
+    sym (ap (row_items r) (take_more es k e l ∙ ap (λ (x : Entry). take k es ++ x ∷ []) (sym is)) ∙ items_append r (take k es) (e ∷ [])
+    ∙ ap (λ (xs : List Item). row_items r (take k es) ++ xs) (items_other r e d) ∙ append-nil (row_items r (take k es)))

@@ -1,5 +1,5 @@
 -- A dictionary in memory before and after a pivot.
-use Rattle.std.proofs.Common.{◌≡◌, ℕ, ◌+◌, ◌-◌, zero, suc, ◌*◌, ◌^◌, ◌<◌, ◌≤◌, ◌⊎◌, inl, inr, pos, Bool, true, false, IsTrue, List, [], ◌∷◌, length, slice_index, arith, refl, sym, ◌∙◌, ap, subst}
+use Rattle.std.proofs.Common.{◌≡◌, ℕ, ◌+◌, ◌-◌, zero, suc, ◌*◌, ◌^◌, ◌<◌, ◌≤◌, ◌⊎◌, inl, inr, pos, Bool, true, false, IsTrue, List, [], ◌∷◌, length, slice_index, get_or, arith, refl, sym, ◌∙◌, ap, subst}
 use Rattle.rational.specs.Ratio.{Ratio}
 use Rattle.fraction.specs.Frac.{ratio}
 use Rattle.evidence.specs.Sums.{none}
@@ -34,8 +34,14 @@ place d = slice_index d.places.items
 abbrev pub rows : Dict → List Row
 rows d = d.rows.items
 
+-- an element that was read
+pub same_number : (xs : List ℕ) (i x : ℕ) → i < length xs → x ≡ get_or xs i x → x ≡ slice_index xs i
+same_number [] i x h e = absurd (omega arith)
+same_number (y ∷ ys) zero x h e = e
+same_number (y ∷ ys) (suc i) x h e = same_number ys i x (omega arith) e
+
 -- a list of numbers past its end
-past_list : (xs : List ℕ) (c : ℕ) → length xs ≤ c → slice_index xs c ≡ 0
+pub past_list : (xs : List ℕ) (c : ℕ) → length xs ≤ c → slice_index xs c ≡ 0
 past_list [] c h = refl
 past_list (x ∷ xs) zero h = absurd (omega arith)
 past_list (x ∷ xs) (suc c) h = past_list xs c (omega arith)

@@ -15,3 +15,6 @@ pub mod Bounds
 pub mod Held
 pub mod Filled
 pub mod Valued
+pub mod Told
+pub mod Alike
+pub mod Begun

@@ -1,5 +1,5 @@
 -- The rows of a program: those of its entries, and its goal's.
-use Rattle.std.specs.Prelude.{◌≡◌, ℕ, zero, suc, ◌<◌, ℤ, pos, negsuc, cond, nat_eq, nat_lt, List, [], ◌∷◌}
+use Rattle.std.specs.Prelude.{◌≡◌, ℕ, zero, suc, ◌<◌, ◌⊎◌, ◌++◌, ℤ, pos, negsuc, cond, nat_eq, nat_lt, List, [], ◌∷◌}
 use Rattle.rational.specs.Ratio.{Ratio, negative}
 use Rattle.fraction.specs.Frac.{ratios}
 use Rattle.fraction.specs.declared.frac.Frac.{Frac}
@@ -27,6 +27,10 @@ rows_of es costs factor m r j = cond (nat_lt r m) (entry_at (entries es) r j) (t
 abbrev pub row_items : ℕ → List Entry → List Item
 row_items r [] = []
 row_items r (e ∷ es) = cond (nat_eq e.row r) ((record { col = e.col; value = e.value }) ∷ row_items r es) (row_items r es)
+
+-- the number is put at the end, or left out where it is 0
+abbrev pub IsPut : ℕ → Frac → List Item → List Item → Type 0
+IsPut col value old new = ((value.numer ≡ pos 0) × (new ≡ old)) ⊎ ((value.numer ≡ pos 0 → ⊥) × (new ≡ old ++ (record { col = col; value = value }) ∷ []))
 
 -- the row has the numbers of f, all at columns below n
 pub record IsRowOf (n : ℕ) (f : ℕ → Ratio) (xs : List Item) : Type 0 where

@@ -3,6 +3,7 @@ ghost use Rattle.std.specs.Prelude.{◌≡◌, ℕ, ◌+◌, ◌<◌, ◌≤◌,
 ghost use Rattle.fraction.specs.Frac.{ratio};
 ghost use Rattle.dictionary.specs.Row.{entries_of, IsRow, HasColumn, IsEntry, number_in};
 
+use crate::numbers::zero;
 use crate::row::Row;
 use crate::steps::Steps;
 use fraction::Frac;
@@ -43,7 +44,7 @@ fn number_by<L: Ledger>(row: &Row, col: u32, blank: Blank) -> Frac
     let mut steps = Steps::<L>::new(blank);
     match find(row, col, &mut steps) {
         Some(value) => value,
-        None => Frac::ZERO,
+        None => zero(),
     }
 }
 

@@ -19,6 +19,7 @@ mod finding;
 mod laws;
 mod loading;
 mod merging;
+mod numbers;
 mod places;
 mod pivoting;
 mod replacing;

@@ -1,24 +1,18 @@
 // The rows of a program in a table.
-ghost use Rattle.std.specs.Prelude.{◌≡◌, ℕ, ◌+◌, ◌-◌, ◌<◌, ◌≤◌, ◌^◌, [], length};
+ghost use Rattle.std.specs.Prelude.{◌≡◌, ◌≢◌, ℕ, ◌+◌, ◌-◌, ◌<◌, ◌≤◌, ◌^◌, pos, [], length};
 ghost use Rattle.std.specs.List.{All};
 ghost use Rattle.fraction.specs.Frac.{ratio, ratios};
-ghost use Rattle.evidence.specs.Sums.{none};
 ghost use Rattle.evidence.specs.Point.{value_at};
 ghost use Rattle.instance.specs.Parts.{IsAscending, IsInside};
 ghost use Rattle.dictionary.specs.Row.{entries_of, room_of, entries_in, RowsHaveRoom};
-ghost use Rattle.dictionary.specs.Loaded.{times_sign, rows_of, row_items, IsRowOf, AreRowsOf};
+ghost use Rattle.dictionary.specs.Loaded.{times_sign, rows_of, row_items, IsPut, IsRowOf, AreRowsOf};
 
+use crate::numbers::zero;
 use crate::row::{Item, Row};
 use crate::steps::Steps;
 use fraction::{Entry, Frac};
 use std::marker::Brand;
 use std::sync::ledger::{Blank, Ledger};
-
-fn zero() -> Frac
-    ensures { ratio result ≡ none }
-{
-    Frac::ZERO
-}
 
 /// The number, its negative or 0, by the sign of the factor.
 fn times_factor(factor: i8, cost: Frac) -> Frac
@@ -61,6 +55,17 @@ fn put_entries<L: Ledger>(rows: &mut [Row], matrix: &[Entry], width: usize, step
     }
 }
 
+/// Puts a number at the end of a row, where it isn't 0.
+fn put_cost<L: Ledger>(row: &mut Row, col: u32, value: Frac, steps: &mut Steps<L>)
+    requires { value.numer ≢ pos 0 → length (entries_of row.old) < room_of row.old }
+    ensures is { IsPut col value (entries_of row.old) (entries_of row.new) }
+    ensures room { room_of row.old ≤ room_of row.new }
+{
+    if value.numer != 0 {
+        row.write(Item { col, value }, steps);
+    }
+}
+
 /// Puts the costs that aren't 0, times the factor, into a row that has no entries.
 fn put_costs<L: Ledger>(row: &mut Row, costs: &[Frac], factor: i8, steps: &mut Steps<L>)
     requires cleared { entries_of row.old ≡ [] }
@@ -71,15 +76,7 @@ fn put_costs<L: Ledger>(row: &mut Row, costs: &[Frac], factor: i8, steps: &mut S
 {
     for j in 0..costs.len() {
         let value = times_factor(factor, costs[j]);
-        if value.numer != 0 {
-            row.write(
-                Item {
-                    col: j as u32,
-                    value,
-                },
-                steps,
-            );
-        }
+        put_cost(row, j as u32, value, steps);
     }
 }
 

@@ -6,17 +6,11 @@ ghost use Rattle.dictionary.specs.Table.{SolveFits, SolvesRow, IsSolvedBy, IsWid
 
 use crate::finding::find;
 use crate::merging::merge;
+use crate::numbers::one;
 use crate::row::{Item, Row};
 use crate::steps::Steps;
 use fraction::{Frac, Wide};
 use std::sync::ledger::Ledger;
-
-fn one() -> Frac
-    ensures numer { result.numer ≡ pos 1 }
-    ensures denom { result.denom ≡ 1 }
-{
-    Frac::ONE
-}
 
 /// Solves a row for the column `nonbasic`, whose entry is `pivot`: the merge of 1/pivot at `basic` and the row times -1/pivot.
 fn solve<L: Ledger>(

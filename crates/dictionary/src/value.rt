@@ -8,6 +8,7 @@ ghost use Rattle.dictionary.specs.Row.{entries_of, number_in, IsRow, HasColumn};
 ghost use Rattle.dictionary.specs.Dict.{count_of, values_of};
 ghost use Rattle.dictionary.specs.Value.{AreValuesAt};
 
+use crate::numbers::zero;
 use crate::places::Places;
 use crate::row::Row;
 use crate::steps::Steps;
@@ -28,7 +29,7 @@ pub fn sum_row<L: Ledger>(
     ensures wide { (k : ℕ) (w : Values) → AreValuesAt (entries_of row.now) (values_of places.now) k w → OnErr result (ValueFits k (number_in (entries_of row.now)) w → ⊥) }
     ensures cost { steps.new ≤ steps.old + length (entries_of row.now) }
 {
-    let mut sum = Frac::ZERO;
+    let mut sum = zero();
     for i in 0..row.len() {
         let x = row.read(i, steps);
         sum = add_product(sum, x.value, places.at(x.col))?;

@@ -9,5 +9,5 @@ use Rattle.dictionary.proofs.loading.put_costs.Given as goal
 abbrev pub invariant-loop-j : goal.invariant-loop-j
 invariant-loop-j g l = record {
   put : PutSoFar l.j (λ c. times_sign l.factor (value_at (ratios l.costs) c)) (entries_of l.row);
-  room : room_of l.fn.row ≤ room_of l.row;
+  room : room_of l.initial.row ≤ room_of l.row;
 }
