@@ -21,7 +21,8 @@ use Rattle.bases.proofs.Lists.{same_basis}
 use Rattle.dictionary.specs.declared.dict.Dict.{Dict}
 use Rattle.dictionary.specs.declared.row.Item.{Item}
 use Rattle.dictionary.specs.Row.{entries_in, number_in, IsOver}
-use Rattle.dictionary.specs.Basis.{entries_by}
+use Rattle.dictionary.specs.declared.row.Row.{Row}
+use Rattle.dictionary.specs.Basis.{ArePlaces, entries_by}
 use Rattle.dictionary.specs.Loaded.{times_sign, rows_of, AreRowsOf}
 use Rattle.dictionary.specs.Dict.{width_of, height_of, columns_of, basic_of, entry_of, IsLoaded, Holds}
 use Rattle.dictionary.proofs.Rows.{none_there}
@@ -96,3 +97,19 @@ module _ (f : Dict) (A : Entries) (number : (i j : ℕ) → IsNumber (A i j)) (f
 
   pub begun_holds : Holds A f
   begun_holds = record { loaded = begun_loaded; is = begun_is }
+
+pub told_rows : (n n' m m' k k' : ℕ) (F G : ℤ) (es : List Entry) (costs : List Frac) (R S : List Row) → n ≡ n' → m ≡ m' → k ≡ k' → F ≡ G → R ≡ S → AreRowsOf n m (rows_of es costs F k) R → AreRowsOf n' m' (rows_of es costs G k') S
+told_rows n n' m m' k k' F G es costs R S en em ek ef er h =
+    subst (λ j. AreRowsOf j m' (rows_of es costs G k') S) en
+    (subst (λ j. AreRowsOf n j (rows_of es costs G k') S) em
+    (subst (λ j. AreRowsOf n m (rows_of es costs G j) S) ek
+    (subst (λ (z : ℤ). AreRowsOf n m (rows_of es costs z k) S) ef
+    (subst (λ (l : List Row). AreRowsOf n m (rows_of es costs F k) l) er h))))
+
+pub own_places : (k : ℕ) (at place : ℕ → ℕ) → ((j : ℕ) → j < k → at j ≡ j) → ((c : ℕ) → c < k → place c ≡ c) → ArePlaces k at place
+own_places k at place a p = record {
+  inside = λ j h. let e = a j h in omega arith;
+  stands = λ c h. let e = p c h in omega arith;
+  at_place = λ c h. ap at (p c h) ∙ a c h;
+  place_at = λ j h. ap place (a j h) ∙ p j h;
+}
