@@ -1,8 +1,8 @@
 -- A dictionary that was loaded is that of the rows' own columns.
-use Rattle.std.proofs.Common.{◌≡◌, ℕ, ◌+◌, ◌-◌, ◌^◌, ◌<◌, ◌≤◌, ℤ, pos, negsuc, zero, suc, Bool, true, false, cond, nat_lt, IsTrue, List, [], length, slice_index_or, arith, refl, sym, ◌∙◌, ap, subst}
+use Rattle.std.proofs.Common.{◌≡◌, ℕ, ◌+◌, ◌-◌, ◌^◌, ◌<◌, ◌≤◌, ℤ, pos, negsuc, zero, suc, true, false, cond, nat_lt, IsTrue, List, length, slice_index_or, arith, refl, sym, ◌∙◌, ap, subst}
 use Rattle.std.proofs.lemmas.Bool.{lt-ltb, le-ltb}
 use Rattle.std.proofs.lemmas.List.Elements.{All-map}
-use Rattle.rational.specs.Ratio.{Ratio, negative, IsNumber, IsSame}
+use Rattle.rational.specs.Ratio.{Ratio, IsNumber, IsSame}
 use Rattle.rational.specs.Width.{IsReduced}
 use Rattle.fraction.specs.Frac.{ratios}
 use Rattle.fraction.specs.declared.frac.Frac.{Frac}
@@ -24,7 +24,7 @@ use Rattle.dictionary.specs.Row.{entries_in, number_in, IsOver}
 use Rattle.dictionary.specs.declared.row.Row.{Row}
 use Rattle.dictionary.specs.Basis.{ArePlaces, entries_by}
 use Rattle.dictionary.specs.Loaded.{times_sign, rows_of, AreRowsOf}
-use Rattle.dictionary.specs.Dict.{width_of, height_of, columns_of, basic_of, entry_of, IsLoaded, Holds}
+use Rattle.dictionary.specs.Dict.{width_of, height_of, basic_of, entry_of, IsLoaded, Holds}
 use Rattle.dictionary.proofs.Rows.{none_there}
 use Rattle.dictionary.proofs.Pivoted.{every_row, number_reduced, listed, unlisted}
 use Rattle.dictionary.proofs.Held.{cols, place, rows, past_list}

@@ -9,7 +9,7 @@ use Rattle.dictionary.specs.declared.row.Row.{Row}
 use Rattle.dictionary.specs.Row.{entries_in, number_in, IsFrom, HasColumn, has_column, IsOver}
 use Rattle.dictionary.specs.Table.{row_cost, others_cost}
 use Rattle.dictionary.specs.Basis.{entries_by}
-use Rattle.dictionary.specs.Steps.{unless_zero, nonzeros, count_all, touched, pivot_steps}
+use Rattle.dictionary.specs.Steps.{nonzeros, count_all, touched, pivot_steps}
 use Rattle.dictionary.proofs.Rows.{number_rest, number_head, has_above}
 use Rattle.dictionary.proofs.Changed.{has_true}
 use Rattle.dictionary.proofs.Counted.{at_most}

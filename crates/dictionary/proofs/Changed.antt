@@ -3,12 +3,11 @@ use Rattle.std.proofs.Common.{◌≡◌, ℕ, zero, suc, ◌+◌, ◌*◌, ◌^�
 use Rattle.std.proofs.lemmas.Bool.{eq-eqb}
 use Rattle.std.proofs.lemmas.List.{map-set, length-map, get_or-map}
 use Rattle.std.proofs.Math.ListN.{length-set}
-use Rattle.fraction.specs.Frac.{ratio}
 use Rattle.fraction.specs.declared.frac.Frac.{Frac}
 use Rattle.dictionary.specs.declared.row.Item.{Item}
 use Rattle.evidence.proofs.Columns.{by_eq}
 use Rattle.dictionary.specs.Row.{entries_of, room_of, entries_in, room_in, HasColumn, IsEntry, has_column, HaveRoom, RowsHaveRoom}
-use Rattle.dictionary.specs.Merge.{MergeFits, IsMerged, HasRoom}
+use Rattle.dictionary.specs.Merge.{HasRoom}
 use Rattle.dictionary.specs.Table.{Changes, IsWideRow, IsChanged, IsReplacedRow, row_cost, others_cost, IsReplacedAt, AreReplaced, IsWideTable}
 use Rattle.dictionary.specs.declared.row.Row.{Row}
 

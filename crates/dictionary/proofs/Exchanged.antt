@@ -1,5 +1,5 @@
 -- Two columns change places: the one at x below n, and the one at y from n on.
-use Rattle.std.proofs.Common.{◌≡◌, ℕ, ◌+◌, ◌-◌, ◌<◌, ◌≤◌, ◌⊎◌, inl, inr, Bool, true, false, cond, nat_lt, List, arith, refl, sym, ◌∙◌, ap, subst}
+use Rattle.std.proofs.Common.{◌≡◌, ℕ, ◌<◌, ◌≤◌, ◌⊎◌, inl, inr, true, false, cond, nat_lt, List, arith, refl, sym, ◌∙◌, ap, subst}
 use Rattle.std.proofs.lemmas.Bool.{lt-ltb, le-ltb}
 use Rattle.rational.specs.Ratio.{Ratio}
 use Rattle.evidence.proofs.Columns.{by_eq, by_lt}
@@ -7,8 +7,7 @@ use Rattle.bases.specs.Pivot.{exchanged}
 use Rattle.bases.proofs.Pivots.{exchanged_own, exchanged_left, exchanged_other}
 use Rattle.dictionary.specs.declared.row.Item.{Item}
 use Rattle.dictionary.specs.Row.{HasColumn, Stands, IsOver}
-use Rattle.dictionary.specs.Merge.{IsMerged}
-use Rattle.dictionary.specs.Table.{SolvesRow, Changes, IsReplacedRow}
+use Rattle.dictionary.specs.Table.{SolvesRow, IsReplacedRow}
 use Rattle.dictionary.specs.Basis.{ArePlaces, ChangePlaces, basic_by}
 
 changed_inside : (k x y : ℕ) (f g : ℕ → ℕ) → x < k → y < k → ChangePlaces x y f g → ((j : ℕ) → j < k → f j < k) → (j : ℕ) → j < k → g j < k

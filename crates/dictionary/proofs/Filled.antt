@@ -1,12 +1,12 @@
 -- The rows of a program's entries and of its costs.
-use Rattle.std.proofs.Common.{◌≡◌, ℕ, zero, suc, ◌+◌, ◌-◌, ◌^◌, ◌<◌, ◌≤◌, ◌⊎◌, inl, inr, ℤ, pos, negsuc, ◌*ℤ◌, Bool, true, false, cond, nat_eq, nat_lt, ◌&&◌, List, [], ◌∷◌, ◌++◌, length, map, get_or, set, take, drop, arith, refl, sym, ◌∙◌, ap, ap₂, subst, length-append}
+use Rattle.std.proofs.Common.{◌≡◌, ℕ, zero, suc, ◌+◌, ◌-◌, ◌^◌, ◌<◌, ◌≤◌, inl, inr, ℤ, pos, negsuc, ◌*ℤ◌, Bool, cond, nat_eq, ◌&&◌, List, [], ◌∷◌, ◌++◌, length, map, get_or, set, take, drop, arith, refl, sym, ◌∙◌, ap, ap₂, subst, length-append}
 use Rattle.std.specs.List.{All}
 use Rattle.std.proofs.Math.Seq.{take-suc}
 use Rattle.std.proofs.lemmas.List.{take-append-drop, length_push, map_push, get_or_append_left, get_or_push, length-map, take_more, append-nil}
 use Rattle.std.proofs.lemmas.Bool.{eq-eqb, ne_eqb, lt-ltb, le-ltb}
 use Rattle.std.proofs.lemmas.List.Elements.{All-head, All-tail}
 use Rattle.std.proofs.Math.IntN.{zero-*ℤ}
-use Rattle.rational.specs.Ratio.{Ratio, sum, negative}
+use Rattle.rational.specs.Ratio.{Ratio, sum}
 use Rattle.fraction.specs.Frac.{ratio, ratios}
 use Rattle.fraction.specs.declared.frac.Frac.{Frac}
 use Rattle.fraction.specs.declared.ends.Entry.{Entry}
@@ -17,11 +17,11 @@ use Rattle.evidence.proofs.Columns.{by_eq, by_lt}
 use Rattle.evidence.proofs.Numbers.{sum-none, none-sum}
 use Rattle.bases.proofs.Lists.{reduced_none}
 use Rattle.instance.specs.Parts.{IsBefore, IsAscending, IsInside}
-use Rattle.instance.specs.Program.{entry, entries}
+use Rattle.instance.specs.Program.{entries}
 use Rattle.instance.proofs.Terms.{read}
 use Rattle.dictionary.specs.declared.row.Item.{Item}
 use Rattle.dictionary.specs.declared.row.Row.{Row}
-use Rattle.dictionary.specs.Row.{number_in, entries_of, entries_in, room_of, IsFrom, IsRow, HasColumn, RowsHaveRoom}
+use Rattle.dictionary.specs.Row.{number_in, entries_of, entries_in, room_of, IsFrom, HasColumn, RowsHaveRoom}
 use Rattle.dictionary.specs.Loaded.{times_sign, rows_of, row_items, IsPut, IsRowOf, AreRowsOf}
 use Rattle.dictionary.proofs.Rows.{from_high, from_append, number_rest, number_head, none_there}
 use Rattle.dictionary.proofs.Sums.{number-append}

@@ -1,9 +1,7 @@
 -- A dictionary in memory before and after a pivot.
 use Rattle.std.proofs.Common.{◌≡◌, ℕ, ◌+◌, ◌-◌, zero, suc, ◌*◌, ◌^◌, ◌<◌, ◌≤◌, ◌⊎◌, inl, inr, pos, Bool, true, false, IsTrue, List, [], ◌∷◌, length, slice_index, get_or, arith, refl, sym, ◌∙◌, ap, subst}
 use Rattle.rational.specs.Ratio.{Ratio}
-use Rattle.fraction.specs.Frac.{ratio}
 use Rattle.evidence.specs.Sums.{none}
-use Rattle.evidence.proofs.Columns.{by_lt}
 use Rattle.bases.specs.Dictionary.{Entries, IsDictionary}
 use Rattle.bases.specs.Pivot.{exchanged, PivotFits}
 use Rattle.bases.proofs.Pivots.{pivoted_dictionary}

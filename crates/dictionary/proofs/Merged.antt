@@ -1,5 +1,5 @@
 -- The merge of two rows.
-use Rattle.std.proofs.Common.{◌≡◌, ℕ, zero, suc, ◌+◌, ◌^◌, ◌<◌, ◌≤◌, ◌⊎◌, inl, inr, pos, List, [], ◌∷◌, ◌++◌, length, take, drop, arith, refl, sym, ◌∙◌, ap, ap₂, subst}
+use Rattle.std.proofs.Common.{◌≡◌, ℕ, ◌+◌, ◌^◌, ◌<◌, ◌≤◌, ◌⊎◌, inl, inr, pos, List, [], ◌∷◌, ◌++◌, length, drop, arith, refl, sym, ◌∙◌, ap, ap₂, subst}
 use Rattle.std.proofs.Math.ListN.{drop_of_length-le}
 use Rattle.rational.specs.Ratio.{Ratio, sum, product, IsNumber, IsSame}
 use Rattle.rational.specs.Width.{ReducedFits}

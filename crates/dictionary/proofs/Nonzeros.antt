@@ -2,8 +2,7 @@
 use Rattle.std.proofs.Common.{◌≡◌, ℕ, zero, suc, ◌+◌, ◌<◌, ◌≤◌, inl, inr, cond, nat_eq, ℤ, pos, negsuc, List, [], ◌∷◌, length, arith, refl, sym, ◌∙◌, ap, ap₂, subst}
 use Rattle.std.proofs.lemmas.Bool.{eq-eqb, ne_eqb}
 use Rattle.rational.specs.Ratio.{Ratio}
-use Rattle.fraction.specs.Frac.{ratio}
-use Rattle.evidence.proofs.Columns.{by_eq, by_lt}
+use Rattle.evidence.proofs.Columns.{by_eq}
 use Rattle.dictionary.specs.declared.row.Item.{Item}
 use Rattle.dictionary.specs.Row.{IsFrom, HasColumn, number_in}
 use Rattle.dictionary.specs.Steps.{unless_zero, nonzeros, count_all}
@@ -43,7 +42,7 @@ counted k low high [] h s = omega arith
 counted k low high (x ∷ xs) h s =
     let r = counted k (x.col + 1) high xs h.2 (λ c i. s c (inr i)) in
     let e = one_more k x.col (number_in xs) (number_in (x ∷ xs)) (s x.col (inl refl)) (ap (λ (v : Ratio). v.num) (none_below x.col (x.col + 1) high xs (omega arith) h.2))
-        (λ z. h.1 (sym (ap (λ (v : Ratio). v.num) (number_head x xs low high h)) ∙ z)) (λ c d. sym (number_rest x xs c (λ i. d (sym i)))) in
+    (λ z. h.1 (sym (ap (λ (v : Ratio). v.num) (number_head x xs low high h)) ∙ z)) (λ c d. sym (number_rest x xs c (λ i. d (sym i)))) in
     omega arith
 
 -- a sum without its part at q

@@ -1,24 +1,22 @@
 -- A pivot of rows is a pivot of the entries that they say.
-use Rattle.std.proofs.Common.{◌≡◌, ℕ, ◌+◌, ◌-◌, ◌<◌, zero, suc, ◌^◌, ◌≤◌, ◌⊎◌, inl, inr, pos, Bool, true, false, cond, nat_lt, List, [], ◌∷◌, length, map, get_or, arith, refl, sym, ◌∙◌, ap, ap₂, subst}
+use Rattle.std.proofs.Common.{◌≡◌, ℕ, ◌+◌, ◌-◌, ◌<◌, zero, suc, ◌^◌, ◌≤◌, inl, inr, pos, Bool, cond, List, [], ◌∷◌, length, map, get_or, arith, refl, sym, ◌∙◌, ap, subst}
 use Rattle.std.proofs.lemmas.Bool.{lt-ltb, le-ltb, eq-eqb, ne_eqb}
 use Rattle.std.proofs.lemmas.List.{length-map}
-use Rattle.rational.specs.Ratio.{Ratio, whole, sum, product, negative, quotient, inverse, IsNumber, IsSame}
-use Rattle.rational.specs.Width.{IsReduced, ReducedFits}
+use Rattle.rational.specs.Ratio.{Ratio, whole, sum, product, negative, quotient, IsNumber, IsSame}
+use Rattle.rational.specs.Width.{IsReduced}
 use Rattle.fraction.specs.Frac.{ratio}
 use Rattle.fraction.specs.declared.frac.Frac.{Frac}
 use Rattle.evidence.specs.Sums.{none}
-use Rattle.evidence.specs.Width.{TermFits}
 use Rattle.evidence.proofs.Columns.{by_eq, by_lt, none-number}
-use Rattle.evidence.proofs.Numbers.{◌≈◌, ≈-refl, ≈-from, ≈-sym, ◌⊙◌, ◌▹◌, sum-≈, product-≈, sum-number, product-number, product-none, sum-none, times_none}
-use Rattle.evidence.proofs.Inverses.{inverse-number, product-inverse}
-use Rattle.evidence.proofs.Fits.{whole-reduced, reduced_same}
+use Rattle.evidence.proofs.Numbers.{◌≈◌, ≈-refl, ≈-from, ≈-sym, ◌⊙◌, ◌▹◌, sum-≈, product-≈, sum-number, product-number, product-none, sum-none}
+use Rattle.evidence.proofs.Fits.{whole-reduced}
 use Rattle.bases.specs.Dictionary.{Entries}
-use Rattle.bases.specs.Pivot.{solved_at, replaced_at, IsPivoted, PivotFits}
-use Rattle.bases.proofs.Pivots.{solved-number, replaced-number, replaced_unlisted}
+use Rattle.bases.specs.Pivot.{solved_at, replaced_at, IsPivoted}
+use Rattle.bases.proofs.Pivots.{solved-number, replaced_unlisted}
 use Rattle.dictionary.specs.declared.row.Item.{Item}
 use Rattle.dictionary.specs.declared.row.Row.{Row}
-use Rattle.dictionary.specs.Row.{entries_of, entries_in, number_in, IsFrom, IsRow, HasColumn, IsEntry, IsOver}
-use Rattle.dictionary.specs.Table.{SolvesRow, IsReplacedRow, IsTablePivot, IsSolvedAt}
+use Rattle.dictionary.specs.Row.{entries_of, entries_in, number_in, IsFrom, IsEntry, IsOver}
+use Rattle.dictionary.specs.Table.{SolvesRow, IsReplacedRow, IsTablePivot}
 use Rattle.dictionary.specs.Basis.{entries_by}
 use Rattle.dictionary.proofs.Rows.{number_rest, number_head, none_there}
 use Rattle.dictionary.proofs.Sums.{row-number}

@@ -5,7 +5,7 @@ use Rattle.fraction.specs.Frac.{ratio}
 use Rattle.evidence.proofs.Columns.{by_eq}
 use Rattle.dictionary.specs.declared.row.Item.{Item}
 use Rattle.dictionary.specs.declared.row.Row.{Row}
-use Rattle.dictionary.specs.Row.{entries_in, room_of, IsRow, HasColumn, IsOver, HaveRoom}
+use Rattle.dictionary.specs.Row.{entries_in, IsRow, HasColumn, IsOver, HaveRoom}
 use Rattle.dictionary.specs.Merge.{HasRoom}
 use Rattle.dictionary.specs.Table.{IsSolvedAt, PivotHasRoom, MergesHaveRoom}
 use Rattle.dictionary.specs.Basis.{ArePlaces, ChangePlaces}

@@ -1,7 +1,7 @@
 -- Rows that keep only some entries.
-use Rattle.std.proofs.Common.{◌≡◌, ℕ, ◌+◌, ◌<◌, ◌≤◌, Bool, true, false, cond, nat_eq, pos, ◌*ℤ◌, List, [], ◌∷◌, ◌++◌, length, get_or, set, take, drop, refl, sym, ◌∙◌, ap, ap₂, subst, add-one}
+use Rattle.std.proofs.Common.{◌≡◌, ℕ, ◌+◌, ◌<◌, ◌≤◌, Bool, true, false, cond, nat_eq, pos, ◌*ℤ◌, List, [], ◌∷◌, ◌++◌, length, get_or, drop, refl, sym, ◌∙◌, ap, ap₂, subst, add-one}
 use Rattle.std.proofs.Math.IntN.{zero-*ℤ}
-use Rattle.std.proofs.Math.Seq.{take-suc-set, drop-cons}
+use Rattle.std.proofs.Math.Seq.{drop-cons}
 use Rattle.std.proofs.Math.ListN.{drop_of_length-le}
 use Rattle.rational.specs.Ratio.{Ratio, sum, product, IsNumber, IsSame}
 use Rattle.fraction.specs.Frac.{ratio}

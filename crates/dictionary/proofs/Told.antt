@@ -1,10 +1,7 @@
 -- What a dictionary in memory tells.
-use Rattle.std.proofs.Common.{◌≡◌, ℕ, ◌+◌, ◌-◌, ◌^◌, ◌<◌, ◌≤◌, true, false, IfOk, OnErr, List, length, arith, refl, sym, ◌∙◌, ap, subst}
-use Rattle.std.specs.declared.result.Result.{Result}
-use Rattle.rational.specs.Ratio.{Ratio, product, IsNumber, IsSame}
-use Rattle.fraction.specs.Frac.{ratio}
-use Rattle.fraction.specs.declared.frac.Frac.{Frac}
-use Rattle.evidence.specs.Sums.{none, total}
+use Rattle.std.proofs.Common.{◌≡◌, ℕ, ◌+◌, ◌-◌, ◌^◌, ◌<◌, ◌≤◌, true, false, length, arith, sym, ◌∙◌, ap, subst}
+use Rattle.rational.specs.Ratio.{Ratio, product}
+use Rattle.evidence.specs.Sums.{none}
 use Rattle.evidence.proofs.Columns.{by_lt}
 use Rattle.evidence.proofs.Totals.{total-same}
 use Rattle.evidence.proofs.Fits.{stated_same}
@@ -13,16 +10,14 @@ use Rattle.bases.specs.Pivot.{ValueFits}
 use Rattle.bases.specs.Order.{GoesThrough}
 use Rattle.dictionary.specs.declared.dict.Dict.{Dict}
 use Rattle.dictionary.specs.declared.places.Places.{Places}
-use Rattle.dictionary.specs.declared.row.Item.{Item}
-use Rattle.dictionary.specs.declared.row.Row.{Row}
-use Rattle.dictionary.specs.Row.{entries_in, number_in, IsRow, HasColumn, IsOver}
+use Rattle.dictionary.specs.Row.{entries_in, number_in, HasColumn, IsOver}
 use Rattle.dictionary.specs.Value.{AreValuesAt}
 use Rattle.dictionary.specs.Steps.{nonzeros}
 use Rattle.dictionary.specs.Dict.{width_of, height_of, columns_of, column_at, place_of, basic_of, entry_of, IsLoaded, IsBasic, IsNonbasic, Rest, count_of, values_of}
 use Rattle.dictionary.proofs.Nonzeros.{counted, nonzeros_same}
 use Rattle.dictionary.proofs.Exchanged.{one_place, basic_below, basic_from, place_basic, place_nonbasic}
 use Rattle.dictionary.proofs.Pivoted.{listed}
-use Rattle.dictionary.proofs.Held.{cols, place, rows, placed, rows_over}
+use Rattle.dictionary.proofs.Held.{cols, place, rows, rows_over}
 
 -- the goal's column stands at its place alone
 not_goal : (d : Dict) (j : ℕ) → j < d.width + d.height → cols d j < d.width + d.height

@@ -1,5 +1,5 @@
 -- The sum of a row's entries, each times its column's value, is that over all columns.
-use Rattle.std.proofs.Common.{◌≡◌, ℕ, zero, suc, ◌+◌, ◌-◌, ◌^◌, ◌<◌, ◌≤◌, inl, inr, pos, List, [], ◌∷◌, length, drop, arith, refl, sym, ◌∙◌, ap, subst, add-one}
+use Rattle.std.proofs.Common.{◌≡◌, ℕ, zero, suc, ◌+◌, ◌-◌, ◌^◌, ◌<◌, ◌≤◌, inl, List, ◌∷◌, length, drop, arith, refl, ◌∙◌, ap, subst}
 use Rattle.std.proofs.Math.ListN.{drop_of_length-le}
 use Rattle.rational.specs.Ratio.{Ratio, sum, product, IsNumber, IsSame}
 use Rattle.fraction.specs.Frac.{ratio}

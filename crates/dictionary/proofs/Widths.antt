@@ -2,7 +2,7 @@
 use Rattle.std.proofs.Common.{◌≡◌, ℕ, ◌+◌, ◌-◌, ◌<◌, ◌≤◌, ◌⊎◌, inl, inr, ℤ, pos, ◌*ℤ◌, Bool, cond, List, length, arith, refl, lit<, sym, ◌∙◌, ap, subst}
 use Rattle.std.proofs.lemmas.Bool.{eq-eqb, ne_eqb}
 use Rattle.std.proofs.Math.IntN.{zero-*ℤ}
-use Rattle.rational.specs.Ratio.{Ratio, whole, sum, product, negative, quotient, inverse, IsNumber, IsSame}
+use Rattle.rational.specs.Ratio.{Ratio, whole, product, negative, quotient, inverse, IsNumber, IsSame}
 use Rattle.rational.specs.Width.{ReducedFits}
 use Rattle.rational.proofs.Scaling.{same_multiple}
 use Rattle.fraction.specs.Frac.{ratio}
@@ -10,7 +10,7 @@ use Rattle.fraction.specs.declared.frac.Frac.{Frac}
 use Rattle.evidence.specs.Sums.{none}
 use Rattle.evidence.specs.Width.{TermFits}
 use Rattle.evidence.proofs.Columns.{by_eq, by_lt}
-use Rattle.evidence.proofs.Numbers.{◌≈◌, ≈-refl, ≈-from, ≈-sym, ◌⊙◌, product-≈, product-number}
+use Rattle.evidence.proofs.Numbers.{◌≈◌, ≈-refl, ≈-sym, product-≈, product-number}
 use Rattle.evidence.proofs.Inverses.{inverse-number, product-inverse, negative-negative}
 use Rattle.evidence.proofs.Fits.{whole-reduced, reduced_same, sums_same}
 use Rattle.bases.specs.Dictionary.{Entries}
@@ -19,7 +19,7 @@ use Rattle.dictionary.specs.declared.row.Item.{Item}
 use Rattle.dictionary.specs.declared.row.Row.{Row}
 use Rattle.dictionary.specs.Row.{entries_in, number_in, HasColumn, IsEntry, IsOver}
 use Rattle.dictionary.specs.Merge.{MergeFits}
-use Rattle.dictionary.specs.Table.{SolveFits, SolvesRow, IsReplacedRow, IsWideRow, IsSolvedAt, IsWideBy, IsWideTable, IsWidePivot, IsTablePivot}
+use Rattle.dictionary.specs.Table.{SolveFits, SolvesRow, IsReplacedRow, IsWideRow, IsSolvedAt, IsWidePivot}
 use Rattle.dictionary.specs.Basis.{entries_by}
 use Rattle.dictionary.proofs.Rows.{has_or_none, none_there, term_none, term_zero, zero_fit}
 use Rattle.dictionary.proofs.Sums.{row-number}

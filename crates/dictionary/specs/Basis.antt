@@ -1,5 +1,5 @@
 -- A table of rows with the places of its columns: n columns that aren't basic, and then a basic one for each row.
-use Rattle.std.specs.Prelude.{◌≡◌, ℕ, ◌+◌, ◌-◌, ◌<◌, Bool, true, false, cond, nat_lt, List}
+use Rattle.std.specs.Prelude.{◌≡◌, ℕ, ◌-◌, ◌<◌, Bool, true, false, cond, nat_lt, List}
 use Rattle.evidence.specs.Sums.{none}
 use Rattle.bases.specs.Dictionary.{Entries}
 use Rattle.dictionary.specs.declared.row.Row.{Row}

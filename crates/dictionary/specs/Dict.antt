@@ -1,5 +1,5 @@
 -- What a dictionary in memory says, by columns: those of the variables, of the rows and of the goal, which is one more row.
-use Rattle.std.specs.Prelude.{◌≡◌, ℕ, ◌+◌, ◌-◌, ◌<◌, Bool, true, false, cond, nat_lt, IsTrue, List, length, slice_index}
+use Rattle.std.specs.Prelude.{◌≡◌, ℕ, ◌+◌, ◌<◌, Bool, true, false, IsTrue, length, slice_index}
 use Rattle.rational.specs.Ratio.{IsNumber}
 use Rattle.fraction.specs.Frac.{ratios}
 use Rattle.evidence.specs.Point.{value_at}

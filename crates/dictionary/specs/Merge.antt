@@ -6,6 +6,7 @@ use Rattle.fraction.specs.Frac.{ratio}
 use Rattle.evidence.specs.Width.{TermFits}
 use Rattle.dictionary.specs.declared.row.Item.{Item}
 use Rattle.dictionary.specs.Row.{number_in, joined, IsRow, HasColumn}
+
 -- at each column the product fits, and its sum with the row's number
 pub record MergeFits (row : List Item) (f : Ratio) (by : List Item) : Type 0 where
   pub terms : (c : ℕ) → TermFits (number_in row c) f (number_in by c)

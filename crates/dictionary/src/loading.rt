@@ -80,13 +80,7 @@ fn put_costs<L: Ledger>(row: &mut Row, costs: &[Frac], factor: i8, steps: &mut S
     }
 }
 
-fn load_by<L: Ledger>(
-    rows: &mut [Row],
-    matrix: &[Entry],
-    costs: &[Frac],
-    factor: i8,
-    blank: Blank,
-)
+fn load_by<L: Ledger>(rows: &mut [Row], matrix: &[Entry], costs: &[Frac], factor: i8, blank: Blank)
     requires name { blank.name ≡ L.name }
     requires parts { blank.parts ≡ L.parts }
     requires some { 0 < blank.parts }

@@ -1,6 +1,5 @@
-use Rattle.std.proofs.Common.{◌≤◌, arith, ◌∙◌}
+use Rattle.std.proofs.Common.{arith, ◌∙◌}
 use Rattle.std.proofs.lemmas.List.{length_push}
-use Rattle.dictionary.specs.Row.{room_of}
 use Rattle.dictionary.proofs.Filled.{row_rooms_push}
 use Rattle.dictionary.proofs.dict.make_rows.Goals as goal
 

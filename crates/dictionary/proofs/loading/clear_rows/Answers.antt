@@ -1,5 +1,4 @@
-use Rattle.std.proofs.Common.{ℕ, ◌<◌, ◌≤◌, length, set, arith, ◌∙◌, ap, sym, subst}
-use Rattle.std.proofs.Math.ListN.{length-set}
+use Rattle.std.proofs.Common.{◌<◌, length, set, arith, ◌∙◌, ap}
 use Rattle.evidence.proofs.Columns.{by_eq, by_lt}
 use Rattle.dictionary.specs.Row.{entries_in}
 use Rattle.dictionary.proofs.Changed.{entries_set, entries_other, rooms_set, row_room}

@@ -1,4 +1,4 @@
-use Rattle.std.proofs.Common.{ℕ, ◌-◌, ◌<◌, ◌≤◌, length, w8, arith, ◌∙◌, sym}
+use Rattle.std.proofs.Common.{◌-◌, ◌<◌, length, w8, arith, ◌∙◌}
 use Rattle.std.proofs.lemmas.Int.{to_z-of_z}
 use Rattle.dictionary.proofs.Changed.{is_there, room_from, row_room, rooms_set}
 use Rattle.dictionary.proofs.Filled.{no_items, filled, rows_at}

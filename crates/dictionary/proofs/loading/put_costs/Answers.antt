@@ -1,11 +1,7 @@
-use Rattle.std.proofs.Common.{◌≤◌, ℤ, List, length, w8, arith, sym, subst}
+use Rattle.std.proofs.Common.{length, w8, arith}
 use Rattle.std.proofs.lemmas.Int.{to_z-of_z}
-use Rattle.fraction.specs.Frac.{ratio, ratios}
-use Rattle.evidence.specs.Point.{value_at}
-use Rattle.dictionary.specs.declared.row.Item.{Item}
-use Rattle.dictionary.specs.Row.{entries_of, room_of}
-use Rattle.dictionary.specs.Loaded.{times_sign}
-use Rattle.dictionary.proofs.Filled.{PutSoFar, put_first, put_at, put_step, put_all, from_length}
+use Rattle.dictionary.specs.Row.{entries_of}
+use Rattle.dictionary.proofs.Filled.{put_first, put_at, put_step, put_all, from_length}
 use Rattle.dictionary.proofs.loading.put_costs.Goals as goal
 
 pub put_cost-requires : goal.put_cost-requires

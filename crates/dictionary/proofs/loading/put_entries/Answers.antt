@@ -1,9 +1,7 @@
-use Rattle.std.proofs.Common.{◌≡◌, ℕ, ◌+◌, ◌-◌, ◌<◌, ◌≤◌, ◌++◌, ◌∷◌, [], List, length, set, get_or, take, arith, ◌∙◌, ap, sym, subst}
-use Rattle.std.proofs.lemmas.List.{take_more}
-use Rattle.fraction.specs.declared.ends.Entry.{Entry}
+use Rattle.std.proofs.Common.{◌+◌, ◌-◌, ◌<◌, ◌++◌, ◌∷◌, [], List, length, set, take, arith, ◌∙◌, ap, sym}
 use Rattle.evidence.proofs.Columns.{by_eq}
 use Rattle.dictionary.specs.declared.row.Item.{Item}
-use Rattle.dictionary.specs.Row.{entries_of, entries_in}
+use Rattle.dictionary.specs.Row.{entries_in}
 use Rattle.dictionary.specs.Loaded.{row_items}
 use Rattle.dictionary.proofs.Changed.{is_there, entries_set, entries_other, rooms_set, row_room, room_from}
 use Rattle.dictionary.proofs.Filled.{next_room, entry_row, items_next, items_stay}

@@ -1,4 +1,4 @@
-use Rattle.std.proofs.Common.{◌+◌, ◌*◌, length, arith}
+use Rattle.std.proofs.Common.{arith}
 use Rattle.instance.proofs.Terms.{at_err}
 use Rattle.dictionary.specs.Row.{entries_of}
 use Rattle.dictionary.proofs.Changed.{entry_cost}

@@ -1,4 +1,4 @@
-use Rattle.std.proofs.Common.{◌<◌, ◌≤◌, ◌+◌, length, arith}
+use Rattle.std.proofs.Common.{◌<◌, ◌+◌, length, arith}
 use Rattle.instance.proofs.Terms.{at_err}
 use Rattle.dictionary.specs.Row.{room_of, entries_in}
 use Rattle.dictionary.proofs.Changed.{one_more, room_here, wide_here, cost_more, cost_up}

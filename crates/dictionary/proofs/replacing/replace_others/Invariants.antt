@@ -1,4 +1,4 @@
-use Rattle.std.proofs.Common.{◌≡◌, ℕ, ◌≤◌, ◌<◌, ◌+◌, ◌^◌, length}
+use Rattle.std.proofs.Common.{ℕ, ◌≤◌, ◌<◌, ◌+◌, ◌^◌, length}
 use Rattle.dictionary.specs.Row.{entries_in, HaveRoom}
 use Rattle.dictionary.specs.Table.{AreReplaced, others_cost}
 use Rattle.dictionary.proofs.replacing.replace_others.Given as goal

@@ -1,4 +1,4 @@
-use Rattle.std.proofs.Common.{◌≡◌, ◌∷◌, [], List, length, arith, ap, sym, subst}
+use Rattle.std.proofs.Common.{◌≡◌, List, length, arith, ap, sym, subst}
 use Rattle.fraction.specs.Frac.{ratio}
 use Rattle.instance.proofs.Terms.{on_err}
 use Rattle.dictionary.specs.declared.row.Item.{Item}

@@ -1,10 +1,9 @@
-use Rattle.std.proofs.Common.{◌<◌, ◌≤◌, ◌^◌, ◌+◌, ◌≡◌, length, drop, arith, sym, subst}
+use Rattle.std.proofs.Common.{◌<◌, ◌^◌, length, arith, sym, subst}
 use Rattle.fraction.specs.Frac.{ratio}
-use Rattle.evidence.specs.Sums.{none}
 use Rattle.rational.specs.Ratio.{Ratio}
 use Rattle.instance.proofs.Terms.{at_err}
-use Rattle.dictionary.specs.Row.{entries_of, HasColumn}
-use Rattle.dictionary.specs.Dict.{count_of, values_of}
+use Rattle.dictionary.specs.Row.{entries_of}
+use Rattle.dictionary.specs.Dict.{values_of}
 use Rattle.dictionary.proofs.Sums.{rest_is}
 use Rattle.dictionary.proofs.Found.{entry_is}
 use Rattle.dictionary.proofs.Valued.{Summed, summed_none, summed_more, summed_wide, summed_all}

@@ -1,7 +1,7 @@
-use Rattle.std.proofs.Common.{◌+◌, ◌<◌, length, arith, sym, subst, ◌∙◌}
+use Rattle.std.proofs.Common.{◌+◌, arith, sym, subst}
 use Rattle.dictionary.specs.Dict.{width_of, height_of, column_at, IsBasic}
 use Rattle.dictionary.proofs.Told.{basic_there}
-use Rattle.dictionary.proofs.Held.{cols, same_number}
+use Rattle.dictionary.proofs.Held.{same_number}
 use Rattle.dictionary.proofs.dict.Dict.basic_at.Goals as goal
 
 pub index-requires : goal.index-requires

@@ -3,7 +3,7 @@ use Rattle.std.specs.Vec.{with_items}
 use Rattle.std.proofs.lemmas.List.{with_items_is}
 use Rattle.std.proofs.lemmas.Int.{to_z-of_z}
 use Rattle.dictionary.specs.declared.row.Row.{Row}
-use Rattle.dictionary.specs.Row.{HaveRoom, RowsHaveRoom}
+use Rattle.dictionary.specs.Row.{RowsHaveRoom}
 use Rattle.dictionary.specs.Dict.{width_of, height_of}
 use Rattle.dictionary.proofs.Begun.{begun_holds, begun_basis, rows-number, told_rows, own_places}
 use Rattle.dictionary.proofs.dict.Dict.load.Goals as goal
@@ -86,7 +86,7 @@ returns-clause-holds c =
     let at : (k : ℕ) → k < d.width + (d.height + 1) → slice_index (with_items d.columns c.number.new.list).items k ≡ k = λ k l. subst (λ (xs : List ℕ). slice_index xs k ≡ k) (sym nc) (c.number.ensures k (omega arith)) in
     let place : (k : ℕ) → k < d.width + (d.height + 1) → slice_index (with_items d.places c.number-2.new.list).items k ≡ k = λ k l. subst (λ (xs : List ℕ). slice_index xs k ≡ k) (sym np) (c.number-2.ensures k (omega arith)) in
     let made = told_rows (length c.args.costs.now) d.width (length c.as_mut_slice-rows.result.now) (length (with_items d.rows c.load_rows.new.rows).items) (length c.as_mut_slice-rows.result.now - 1) d.height _ c.args.factor c.args.matrix.now c.args.costs.now c.load_rows.new.rows (with_items d.rows c.load_rows.new.rows).items
-        c.requires.costs (sym (ap length nr ∙ c.load_rows.auto.rows)) (omega arith) (to_z-of_z w8 c.args.factor c.ranges.factor) (sym nr) c.load_rows.ensures.rows in
+    c.requires.costs (sym (ap length nr ∙ c.load_rows.auto.rows)) (omega arith) (to_z-of_z w8 c.args.factor c.ranges.factor) (sym nr) c.load_rows.ensures.rows in
     begun_holds _ _ (rows-number c.args.matrix.now c.args.costs.now c.args.factor d.height) refl made at place
 
 pub returns-clause-basis : goal.returns-clause-basis
@@ -103,5 +103,5 @@ returns-clause-basis c =
     let at : (k : ℕ) → k < d.width + (d.height + 1) → slice_index (with_items d.columns c.number.new.list).items k ≡ k = λ k l. subst (λ (xs : List ℕ). slice_index xs k ≡ k) (sym nc) (c.number.ensures k (omega arith)) in
     let place : (k : ℕ) → k < d.width + (d.height + 1) → slice_index (with_items d.places c.number-2.new.list).items k ≡ k = λ k l. subst (λ (xs : List ℕ). slice_index xs k ≡ k) (sym np) (c.number-2.ensures k (omega arith)) in
     let made = told_rows (length c.args.costs.now) d.width (length c.as_mut_slice-rows.result.now) (length (with_items d.rows c.load_rows.new.rows).items) (length c.as_mut_slice-rows.result.now - 1) d.height _ c.args.factor c.args.matrix.now c.args.costs.now c.load_rows.new.rows (with_items d.rows c.load_rows.new.rows).items
-        c.requires.costs (sym (ap length nr ∙ c.load_rows.auto.rows)) (omega arith) (to_z-of_z w8 c.args.factor c.ranges.factor) (sym nr) c.load_rows.ensures.rows in
+    c.requires.costs (sym (ap length nr ∙ c.load_rows.auto.rows)) (omega arith) (to_z-of_z w8 c.args.factor c.ranges.factor) (sym nr) c.load_rows.ensures.rows in
     begun_basis _ _ (rows-number c.args.matrix.now c.args.costs.now c.args.factor d.height) refl made at place

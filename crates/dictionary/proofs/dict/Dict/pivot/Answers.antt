@@ -79,7 +79,7 @@ returns-in_err-pivot_rows-clause-cost g c =
     let er : c.as_mut_slice-rows.result.now ≡ d.rows.items = c.as_mut_slice-rows.ensures.value in
     let ep : c.row_of-p.result ≡ place d c.args.basic - d.width = c.row_of-p.ensures in
     λ digits l. bounded d c.args.basic c.args.nonbasic c.requires.basic c.requires.nonbasic c.requires.loaded c.requires.nonzero digits c.args.steps.now c.pivot_rows.new.steps l
-        (carry (λ R p. ((r : ℕ) → r < length R → length (entries_in R r) < 2 ^ digits) → c.pivot_rows.new.steps ≤ c.args.steps.now + digits + 3 * (1 + length (entries_in R p)) + others_cost (entries_in R) p (entries_in R p) c.args.nonbasic digits (length R)) (rows d) c.as_mut_slice-rows.result.now (place d c.args.basic - d.width) c.row_of-p.result (sym er) (sym ep) (c.pivot_rows.ensures.cost digits))
+    (carry (λ R p. ((r : ℕ) → r < length R → length (entries_in R r) < 2 ^ digits) → c.pivot_rows.new.steps ≤ c.args.steps.now + digits + 3 * (1 + length (entries_in R p)) + others_cost (entries_in R) p (entries_in R p) c.args.nonbasic digits (length R)) (rows d) c.as_mut_slice-rows.result.now (place d c.args.basic - d.width) c.row_of-p.result (sym er) (sym ep) (c.pivot_rows.ensures.cost digits))
 
 pub exchange-requires-clause-a : goal.exchange-requires-clause-a
 exchange-requires-clause-a g c = let d = c.args.self.now in let i = b_inside d c.args.basic c.args.nonbasic c.requires.basic c.requires.nonbasic in let j = e_inside d c.args.basic c.args.nonbasic c.requires.basic c.requires.nonbasic in let n = d.count in let q = d.places_count in let l = ap length c.as_mut_slice-places.ensures.value in omega arith
@@ -187,4 +187,4 @@ returns-clause-cost g c =
     let er : c.as_mut_slice-rows.result.now ≡ d.rows.items = c.as_mut_slice-rows.ensures.value in
     let ep : c.row_of-p.result ≡ place d c.args.basic - d.width = c.row_of-p.ensures in
     λ digits l. bounded d c.args.basic c.args.nonbasic c.requires.basic c.requires.nonbasic c.requires.loaded c.requires.nonzero digits c.args.steps.now c.pivot_rows.new.steps l
-        (carry (λ R p. ((r : ℕ) → r < length R → length (entries_in R r) < 2 ^ digits) → c.pivot_rows.new.steps ≤ c.args.steps.now + digits + 3 * (1 + length (entries_in R p)) + others_cost (entries_in R) p (entries_in R p) c.args.nonbasic digits (length R)) (rows d) c.as_mut_slice-rows.result.now (place d c.args.basic - d.width) c.row_of-p.result (sym er) (sym ep) (c.pivot_rows.ensures.cost digits))
+    (carry (λ R p. ((r : ℕ) → r < length R → length (entries_in R r) < 2 ^ digits) → c.pivot_rows.new.steps ≤ c.args.steps.now + digits + 3 * (1 + length (entries_in R p)) + others_cost (entries_in R) p (entries_in R p) c.args.nonbasic digits (length R)) (rows d) c.as_mut_slice-rows.result.now (place d c.args.basic - d.width) c.row_of-p.result (sym er) (sym ep) (c.pivot_rows.ensures.cost digits))

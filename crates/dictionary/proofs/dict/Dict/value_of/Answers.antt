@@ -1,4 +1,4 @@
-use Rattle.std.proofs.Common.{ℕ, ◌+◌, ◌<◌, ◌≤◌, length, List, IfOk, OnErr, arith, sym, ap, subst}
+use Rattle.std.proofs.Common.{ℕ, ◌<◌, length, List, IfOk, OnErr, arith, sym, ap, subst}
 use Rattle.rational.specs.Ratio.{Ratio, IsSame}
 use Rattle.fraction.specs.Frac.{ratio}
 use Rattle.instance.proofs.Terms.{if_ok, on_err}
