@@ -1,0 +1,4 @@
+use Rattle.simplex.proofs.dict.Dict.cost.Goals as goal
+
+pub returns : goal.returns
+returns c = ?

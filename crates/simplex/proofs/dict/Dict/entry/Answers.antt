@@ -1,0 +1,4 @@
+use Rattle.simplex.proofs.dict.Dict.entry.Goals as goal
+
+pub returns : goal.returns
+returns c = ?
