@@ -1,0 +1,9 @@
+pub mod Slots
+pub mod EndsRead
+pub mod Plain
+pub mod Least
+pub mod Leaving
+pub mod Listing
+pub mod Found
+pub mod Bounded
+pub mod Leading

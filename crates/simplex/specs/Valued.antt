@@ -1,6 +1,6 @@
 -- What is known of columns' values in memory.
 use Rattle.std.specs.Prelude.{◌≡◌, ℕ, ◌<◌, Bool, true, false, cond, List, length}
-use Rattle.rational.specs.Ratio.{Ratio, IsSame}
+use Rattle.rational.specs.Ratio.{Ratio, IsNumber, IsSame}
 use Rattle.evidence.specs.Sums.{none}
 use Rattle.evidence.specs.Instance.{Range}
 use Rattle.bases.specs.Dictionary.{Values, value_by}
@@ -23,3 +23,10 @@ AreResting ranges ss rest = (c : ℕ) → c < length ss → rest c ≡ rest_at (
 -- the goal's entries, 0 at basic columns
 abbrev pub cost_in : List Status → (ℕ → Ratio) → ℕ → Ratio
 cost_in ss row c = cond (basic_in ss c) none (row c)
+
+-- a and x have the first n costs and the values of their columns
+pub record AreTerms (row rest : Values) (n : ℕ) (a x : Values) : Type 0 where
+  pub cost_numbers : (c : ℕ) → IsNumber (a c)
+  pub value_numbers : (c : ℕ) → IsNumber (x c)
+  pub costs : (c : ℕ) → c < n → row c ≡ a c
+  pub values : (c : ℕ) → c < n → rest c ≡ x c

@@ -9,18 +9,20 @@ ghost use Rattle.simplex.specs.Loading.{IsStart};
 ghost use Rattle.bases.specs.Dictionary.{Values, AreEntries};
 ghost use Rattle.bases.specs.Program.{goal_column};
 ghost use Rattle.simplex_rules.specs.declared.columns.Way.{Way};
-ghost use Rattle.simplex_rules.specs.Statuses.{is_basic, basic_in, resting};
+ghost use Rattle.simplex_rules.specs.Statuses.{is_basic, basic_in};
 ghost use Rattle.simplex_rules.specs.Turns.{NoneHelps};
 ghost use Rattle.simplex_rules.specs.Ends.{Terms, Clock};
 ghost use Rattle.simplex_rules.specs.Runs.{Improves};
 ghost use Rattle.simplex.specs.Dict.{IsLoaded, width_of, height_of, columns_of, basic_of, entry_of, count_of, values_of};
+ghost use Rattle.simplex.specs.Cuts.{AreEndsOf, ranges_in};
 ghost use Rattle.simplex.specs.Held.{AreStatuses, HasSizeOf};
-ghost use Rattle.simplex.specs.Valued.{cost_in};
+ghost use Rattle.simplex.specs.Valued.{cost_in, AreTerms, AreResting};
 ghost use Rattle.simplex.specs.Chosen.{Leads};
 ghost use Rattle.simplex.specs.Finished.{IsReady};
 ghost use Rattle.simplex.specs.declared.choosing.Choice.TheVariants.{Done};
 
 use crate::dict::{Dict, Places};
+use crate::ends::Ends;
 use crate::finish::Finish;
 use crate::helping::entry_at;
 use crate::valued::zero;
@@ -59,9 +61,9 @@ pub fn bound(
     requires statuses { AreStatuses dict.now statuses.now }
     requires basic { basic_of dict.now goal ≡ true }
     requires rest { goal ≤ count_of rest.now }
-    ensures ok { IfOk result (λ b. IsSame (ratio b) (total (ratio start) goal (λ c. product (cost_in statuses.now (entry_of dict.now goal) c) (values_of rest.now c)))) }
-    ensures fits { IfOk result (λ _. StatedFits (ratio start) goal (cost_in statuses.now (entry_of dict.now goal)) (values_of rest.now)) }
-    ensures wide { OnErr result (StatedFits (ratio start) goal (cost_in statuses.now (entry_of dict.now goal)) (values_of rest.now) → ⊥) }
+    ensures ok { (a x : Values) → AreTerms (cost_in statuses.now (entry_of dict.now goal)) (values_of rest.now) goal a x → IfOk result (λ b. IsSame (ratio b) (total (ratio start) goal (λ c. product (a c) (x c)))) }
+    ensures fits { (a x : Values) → AreTerms (cost_in statuses.now (entry_of dict.now goal)) (values_of rest.now) goal a x → IfOk result (λ _. StatedFits (ratio start) goal a x) }
+    ensures wide { (a x : Values) → AreTerms (cost_in statuses.now (entry_of dict.now goal)) (values_of rest.now) goal a x → OnErr result (StatedFits (ratio start) goal a x → ⊥) }
 {
     let mut sum = start;
     for c in 0..goal {
@@ -74,6 +76,7 @@ pub fn bound(
 /// The best end: the bound is 0 under the goal zero, where there is no start.
 pub fn best(
     dict: &Dict,
+    ends: &[Ends],
     statuses: &[Status],
     rest: &Places,
     start: Option<Frac>,
@@ -83,9 +86,11 @@ pub fn best(
     requires goal { goal ≡ length statuses.now }
     requires statuses { AreStatuses dict.now statuses.now }
     requires rest { goal ≤ count_of rest.now }
+    requires resting { AreResting (ranges_in ends.now) statuses.now (values_of rest.now) }
     ensures ready { IsReady statuses.now result }
-    ensures next { (I : Instance) (zeroed : Bool) (w : Values) (t : Terms) (c : Clock) → HasSizeOf I dict.now → ((k : ℕ) → k < goal → values_of rest.now k ≡ resting I statuses.now k) → AreEntries (columns_of dict.now) (basic_of dict.now) (entry_of dict.now) → IsStart zeroed (minimising I I.goal.constant) start → NoneHelps I statuses.now (entry_of dict.now) w (goal_column I) Way.Fall → Leads I statuses.now (entry_of dict.now) w t c (Improves I zeroed t (record { statuses = statuses.now; clock = c }) (entry_of dict.now) w) (Done result) }
+    ensures next { (I : Instance) (zeroed : Bool) (w : Values) (t : Terms) (c : Clock) → AreEndsOf I ends.now → HasSizeOf I dict.now → AreEntries (columns_of dict.now) (basic_of dict.now) (entry_of dict.now) → IsStart zeroed (minimising I I.goal.constant) start → NoneHelps I statuses.now (entry_of dict.now) w (goal_column I) Way.Fall → Leads I statuses.now (entry_of dict.now) w t c (Improves I zeroed t (record { statuses = statuses.now; clock = c }) (entry_of dict.now) w) (Done result) }
 {
+    let _ends = ends;
     match start {
         None => Finish::Best(zero()),
         Some(s) => match bound(dict, statuses, rest, s, goal) {

@@ -195,7 +195,7 @@ fn improve(
     ensures next { (I : Instance) (zeroed : Bool) (t : Terms) (c : Clock) → AreEndsOf I ends.now → HasSizeOf I dict.now → AreEntries (columns_of dict.now) (basic_of dict.now) (entry_of dict.now) → IsStart zeroed (minimising I I.goal.constant) start → Leads I statuses.now (entry_of dict.now) (values_in values.now) t c (Improves I zeroed t (record { statuses = statuses.now; clock = c }) (entry_of dict.now) (values_in values.now)) result }
 {
     match first_help(dict, ends, statuses, goal, Way::Fall, goal) {
-        None => Choice::Done(best(dict, statuses, rest, start, goal)),
+        None => Choice::Done(best(dict, ends, statuses, rest, start, goal)),
         Some(n) => move_on(dict, ends, statuses, values, n, goal),
     }
 }
