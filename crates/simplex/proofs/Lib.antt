@@ -7,3 +7,4 @@ pub mod Listing
 pub mod Found
 pub mod Bounded
 pub mod Leading
+pub mod Turned

@@ -13,7 +13,7 @@ use Rattle.simplex.specs.declared.choosing.Swap.{Swap}
 use Rattle.simplex.specs.declared.choosing.Flip.{Flip}
 use Rattle.simplex.specs.declared.choosing.Choice.{Choice}
 use Rattle.simplex.specs.declared.choosing.Choice.TheVariants as Has
-use Rattle.simplex.specs.Finished.{end_at, IsReady}
+use Rattle.simplex.specs.Finished.{end_at, is_stop, IsReady}
 
 -- R holds of what comes next, whatever the turn that was chosen makes of it, or else of the end
 abbrev pub Leads : Instance → List Status → Entries → Values → Terms → Clock → (Next → Type 0) → Choice → Type 0
@@ -36,7 +36,8 @@ pub record IsFlip (ss : List Status) (f : Flip) : Type 0 where
   pub nonbasic : basic_in ss f.col ≡ false
   pub status : is_basic f.status ≡ false
 
+-- the turn can be made; a finish that is chosen isn't a stop
 abbrev pub IsAllowed : List Status → Entries → Choice → Type 0
 IsAllowed ss u (Has.Swap s) = IsSwap ss u s
 IsAllowed ss u (Has.Flip f) = IsFlip ss f
-IsAllowed ss u (Has.Done f) = IsReady ss f
+IsAllowed ss u (Has.Done f) = (is_stop f ≡ false) × IsReady ss f

@@ -1,5 +1,5 @@
 // The bound of a best basis.
-ghost use Rattle.std.specs.Prelude.{◌≡◌, ℕ, ◌+◌, ◌≤◌, ◌<◌, true, Bool, cond, length, IfOk, OnErr};
+ghost use Rattle.std.specs.Prelude.{◌≡◌, ℕ, ◌+◌, ◌≤◌, ◌<◌, true, false, Bool, cond, length, IfOk, OnErr};
 ghost use Rattle.rational.specs.Ratio.{product, IsSame};
 ghost use Rattle.fraction.specs.Frac.{ratio};
 ghost use Rattle.evidence.specs.Sums.{none, total};
@@ -18,7 +18,7 @@ ghost use Rattle.simplex.specs.Cuts.{AreEndsOf, ranges_in};
 ghost use Rattle.simplex.specs.Held.{AreStatuses, HasSizeOf};
 ghost use Rattle.simplex.specs.Valued.{cost_in, AreTerms, AreResting};
 ghost use Rattle.simplex.specs.Chosen.{Leads};
-ghost use Rattle.simplex.specs.Finished.{IsReady};
+ghost use Rattle.simplex.specs.Finished.{is_stop, IsReady};
 ghost use Rattle.simplex.specs.declared.choosing.Choice.TheVariants.{Done};
 
 use crate::dict::{Dict, Places};
@@ -87,6 +87,7 @@ pub fn best(
     requires statuses { AreStatuses dict.now statuses.now }
     requires rest { goal ≤ count_of rest.now }
     requires resting { AreResting (ranges_in ends.now) statuses.now (values_of rest.now) }
+    ensures on { is_stop result ≡ false }
     ensures ready { IsReady statuses.now result }
     ensures next { (I : Instance) (zeroed : Bool) (w : Values) (t : Terms) (c : Clock) → AreEndsOf I ends.now → HasSizeOf I dict.now → AreEntries (columns_of dict.now) (basic_of dict.now) (entry_of dict.now) → IsStart zeroed (minimising I I.goal.constant) start → NoneHelps I statuses.now (entry_of dict.now) w (goal_column I) Way.Fall → Leads I statuses.now (entry_of dict.now) w t c (Improves I zeroed t (record { statuses = statuses.now; clock = c }) (entry_of dict.now) w) (Done result) }
 {
