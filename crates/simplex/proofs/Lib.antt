@@ -8,3 +8,4 @@ pub mod Found
 pub mod Bounded
 pub mod Leading
 pub mod Turned
+pub mod Looks

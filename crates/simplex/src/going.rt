@@ -11,7 +11,7 @@ ghost use Rattle.simplex_rules.specs.Looks.{answers, Tells, looks_after};
 ghost use Rattle.simplex.specs.Dict.{Holds, HaveOneSize, entry_of, count_of};
 ghost use Rattle.simplex.specs.Cuts.{AreEndsOf};
 ghost use Rattle.simplex.specs.Held.{AreHeld, HasSizeOf, values_in};
-ghost use Rattle.simplex.specs.Finished.{stops_at, is_stop, next_at, end_at, IsLeft, IsLeftAt, IsCounted, KeepsAt, Keeps, ComesTo};
+ghost use Rattle.simplex.specs.Finished.{stops_at, is_stop, next_at, end_at, IsLeft, IsLeftAt, IsCounted, KeepsAt, ComesTo};
 
 use crate::answer::Turns;
 use crate::choosing::{Choice, choose};
@@ -84,7 +84,6 @@ pub fn make_turns<W: Watch, L: Ledger>(
     ensures more { turns.old.done ≤ turns.new.done }
     ensures within { turns.old.done ≤ turns.old.most → turns.new.done ≤ turns.old.most }
     ensures left { IsLeft dict.new statuses.new result }
-    ensures holds { (A : Entries) → Holds A dict.old → Keeps result (Holds A dict.new) }
     ensures end { (n : ℕ) × W.came watch.old watch.new (answers n (is_stop result)) × ((I : Instance) (zeroed : Bool) (t : Terms) (looks : ℕ) → AreEndsOf I ends.now → HasSizeOf I dict.old → IsStart zeroed (minimising I I.goal.constant) start → Holds (rows_with_goal zeroed I) dict.old → IsFresh I statuses.old → t.turns ≡ turns.old.most → Tells t.stop looks n (is_stop result) → ComesTo I zeroed t (record { turns = turns.old.done; looks = looks }) (end_at I statuses.new (entry_of dict.new) (values_in values.new) result) (record { turns = turns.new.done; looks = looks_after looks n (is_stop result) })) }
 {
     loop {
