@@ -9,3 +9,4 @@ pub mod Bounded
 pub mod Leading
 pub mod Turned
 pub mod Looks
+pub mod Begun

@@ -1,11 +1,12 @@
 // How a run begins.
-ghost use Rattle.std.specs.Prelude.{◌≡◌, ℕ, ◌+◌, ◌<◌, ◌≤◌, false, length, MatchOption};
+ghost use Rattle.std.specs.Prelude.{◌≡◌, ℕ, ◌+◌, ◌<◌, ◌≤◌, cond, length, MatchOption};
 ghost use Rattle.fraction.specs.Frac.{ratio};
 ghost use Rattle.evidence.specs.Instance.{Instance, width, minimising_by};
 ghost use Rattle.instance.specs.Program.{limit};
 ghost use Rattle.instance.specs.Program as Programs;
 ghost use Rattle.bases.specs.Program.{is_fresh};
-ghost use Rattle.simplex_rules.specs.Statuses.{first_status, is_basic, basic_in, IsFresh};
+ghost use Rattle.simplex_rules.specs.declared.columns.Status.{Status};
+ghost use Rattle.simplex_rules.specs.Statuses.{first_status, basic_in, IsFresh};
 ghost use Rattle.simplex_rules.specs.Runs.{HasRoom, IsFirstEmpty};
 ghost use Rattle.simplex.specs.Cuts.{AreEndsOf, range_of, ranges_in, range_at};
 ghost use Rattle.simplex.specs.Loading.{factor_of, IsStart};
@@ -51,11 +52,13 @@ pub fn first_clash(ends: &[Ends], goal: u32) -> Option<u32>
     None
 }
 
-/// Where a variable stands first: at its lower end where it has one, else at its upper one, else at 0.
-fn first_status(e: Ends) -> Status
-    ensures is { result ≡ first_status (limit e.lb) (limit e.ub) }
-    ensures free { is_basic result ≡ false }
+/// Where a column stands first: a row is basic, a variable at its lower end where it has one, else at its upper one, else at 0.
+fn first_at(e: Ends, is_variable: bool) -> Status
+    ensures { result ≡ cond is_variable (first_status (limit e.lb) (limit e.ub)) Status.Basic }
 {
+    if !is_variable {
+        return Status::Basic;
+    }
     match e.lb {
         End::At(_) => Status::Lower,
         _ => match e.ub {
@@ -73,11 +76,7 @@ pub fn set_first(ends: &[Ends], vars: usize, statuses: &mut [Status])
     ensures basic { (c : ℕ) → basic_in statuses.new c ≡ is_fresh vars c }
 {
     for c in 0..statuses.len() {
-        if c < vars {
-            statuses[c] = first_status(ends[c]);
-        } else {
-            statuses[c] = Status::Basic;
-        }
+        statuses[c] = first_at(ends[c], c < vars);
     }
 }
 
