@@ -1,5 +1,6 @@
 // What the end of a run is told by.
-ghost use Rattle.std.specs.Prelude.{◌≡◌, ℕ, ◌+◌, ◌<◌, ◌≤◌, true, false, cond, nat_eq, length};
+ghost use Rattle.std.specs.Prelude.{◌≡◌, ℕ, ◌+◌, ◌<◌, ◌≤◌, pos, true, false, cond, nat_eq, length};
+ghost use Rattle.rational.specs.Ratio.{whole};
 ghost use Rattle.fraction.specs.Frac.{ratio};
 ghost use Rattle.evidence.specs.Sums.{none};
 ghost use Rattle.evidence.specs.Instance.{Instance, width};
@@ -22,13 +23,21 @@ use crate::valued::zero;
 use fraction::Frac;
 use simplex_rules::{Status, Way};
 
+/// 1, as contracts say it.
+fn one() -> Frac
+    ensures { ratio result ≡ whole (pos 1) }
+{
+    Frac::ONE
+}
+
 /// Up by 1, or down by 1.
 fn step_of(way: Way) -> Frac
     ensures { ratio result ≡ step_of way }
 {
+    let one = one();
     match way {
-        Way::Rise => Frac::ONE,
-        Way::Fall => Frac::ONE.neg(),
+        Way::Rise => one,
+        Way::Fall => one.neg(),
     }
 }
 
