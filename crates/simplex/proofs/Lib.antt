@@ -10,3 +10,4 @@ pub mod Leading
 pub mod Turned
 pub mod Looks
 pub mod Begun
+pub mod CutPrograms

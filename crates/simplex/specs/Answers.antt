@@ -1,5 +1,5 @@
 -- The end of a run, as an answer and lists of numbers tell it.
-use Rattle.std.specs.Prelude.{◌≡◌, ℕ, zero, suc, ◌+◌, List, [], ◌∷◌, ◌++◌}
+use Rattle.std.specs.Prelude.{ℕ, zero, suc, Bool, true, false, List, [], ◌∷◌, ◌++◌}
 use Rattle.rational.specs.Ratio.{Ratio}
 use Rattle.fraction.specs.Frac.{ratio, ratios}
 use Rattle.evidence.specs.Point.{value_at}
@@ -24,3 +24,13 @@ ended Has.Endless x ms d = Endless x d
 ended Has.TurnLimit x ms d = TurnsOut
 ended (Has.Wide s) x ms d = TooWide s
 ended Has.Stopped x ms d = Stopped
+
+-- a look said to stop
+abbrev pub was_stopped : LpEnd → Bool
+was_stopped (Has.Best b) = false
+was_stopped (Has.Clash c) = false
+was_stopped Has.Empty = false
+was_stopped Has.Endless = false
+was_stopped Has.TurnLimit = false
+was_stopped (Has.Wide s) = false
+was_stopped Has.Stopped = true

@@ -13,6 +13,7 @@ mod going;
 mod helping;
 mod limits;
 mod reporting;
+mod running;
 mod turning;
 mod valued;
 mod work;

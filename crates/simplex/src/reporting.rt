@@ -11,8 +11,8 @@ ghost use Rattle.simplex_rules.specs.Turns.{rate};
 ghost use Rattle.simplex_rules.specs.Reports.{against, factor_at, step_of, movement, collected};
 ghost use Rattle.simplex.specs.Dict.{IsLoaded, width_of, height_of, basic_of, entry_of, columns_of};
 ghost use Rattle.simplex.specs.Held.{AreStatuses, values_in};
-ghost use Rattle.simplex.specs.Answers.{listed, ended};
-ghost use Rattle.simplex.specs.Finished.{end_at, IsLeft};
+ghost use Rattle.simplex.specs.Answers.{listed, ended, was_stopped};
+ghost use Rattle.simplex.specs.Finished.{end_at, is_stop, IsLeft};
 
 use crate::answer::LpEnd;
 use crate::dict::Dict;
@@ -148,7 +148,8 @@ pub fn report(
     requires goal { goal ≡ length statuses.now }
     requires factors { length factors.old ≡ goal }
     requires movements { length movements.old ≤ goal }
-    ensures { (I : Instance) (w : Values) → width I ≡ length movements.old → goal_column I ≡ goal → end_at I statuses.now (entry_of dict.now) w finish ≡ ended result (listed (length movements.old) w) (collected (values_in factors.new) goal) (listed (length movements.old) (values_in movements.new)) }
+    ensures stopped { was_stopped result ≡ is_stop finish }
+    ensures end { (I : Instance) (w : Values) → width I ≡ length movements.old → goal_column I ≡ goal → end_at I statuses.now (entry_of dict.now) w finish ≡ ended result (listed (length movements.old) w) (collected (values_in factors.new) goal) (listed (length movements.old) (values_in movements.new)) }
 {
     match finish {
         Finish::Empty(out) => {

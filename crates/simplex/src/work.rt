@@ -1,19 +1,16 @@
-ghost use Rattle.std.specs.Prelude.{◌≡◌, ℕ, ◌+◌, ◌-◌, ◌^◌, ◌<◌, ◌≤◌, Option, length, vec_len, IfOk};
+ghost use Rattle.std.specs.Prelude.{◌≡◌, ℕ, ◌+◌, ◌-◌, ◌^◌, ◌<◌, ◌≤◌, length, vec_len, IfOk};
 ghost use Rattle.fraction.specs.Frac.{ratio};
 ghost use Rattle.evidence.specs.Instance as Of;
 ghost use Rattle.simplex.specs.Dict.{width_of, height_of, count_of};
 ghost use Rattle.simplex_rules.specs.Ends.{Terms};
 ghost use Rattle.simplex_rules.specs.Runs.{Run};
-ghost use Rattle.simplex_rules.specs.Looks.{is_stopped, answers, Tells, looks_after};
+ghost use Rattle.simplex_rules.specs.Looks.{answers, Tells, looks_after};
 
 use crate::answer::{LpEnd, Turns};
-use crate::beginning::{factor, first_clash, set_ends, set_first, start};
 use crate::cuts::Cuts;
 use crate::dict::{Dict, Places, Steps};
 use crate::ends::Ends;
-use crate::finish::Finish;
-use crate::going::make_turns;
-use crate::reporting::report;
+use crate::running::run_over;
 use fraction::{End, Frac};
 use instance::Instance;
 use os_io::Watch;
@@ -42,6 +39,7 @@ pub struct Work {
 impl Work {
     ghost use Rattle.simplex.specs.Cuts.{IsCutBy};
     ghost use Rattle.simplex.specs.Memory.{width_in, height_in, point_in, factor_in, movement_in, ended_with};
+    ghost use Rattle.simplex.specs.Answers.{was_stopped};
 
     /// Memory for runs of so many variables and rows.
     pub fn for_size(alloc: Global, n: u32, m: u32) -> Result<Work, AllocError>
@@ -81,35 +79,22 @@ impl Work {
         ensures most { turns.new.most ≡ turns.old.most }
         ensures more { turns.old.done ≤ turns.new.done }
         ensures within { turns.old.done ≤ turns.old.most → turns.new.done ≤ turns.old.most }
-        ensures run { (n : ℕ) × W.came watch.old watch.new (answers n (is_stopped (ended_with result self.new))) × ((I : Of.Instance) (nodes looks : ℕ) (stop : Option ℕ) → IsCutBy instance.now cuts.now I → Tells stop looks n (is_stopped (ended_with result self.new)) → Run I zero_goal (record { nodes = nodes; turns = turns.old.most; stop = stop }) (record { turns = turns.old.done; looks = looks }) (ended_with result self.new) (record { turns = turns.new.done; looks = looks_after looks n (is_stopped (ended_with result self.new)) })) }
+        ensures run { (n : ℕ) × W.came watch.old watch.new (answers n (was_stopped result)) × ((I : Of.Instance) (t : Terms) (looks : ℕ) → IsCutBy instance.now cuts.now I → t.turns ≡ turns.old.most → Tells t.stop looks n (was_stopped result) → Run I zero_goal t (record { turns = turns.old.done; looks = looks }) (ended_with result self.new) (record { turns = turns.new.done; looks = looks_after looks n (was_stopped result) })) }
     {
-        let goal = instance.goal();
-        let columns = (instance.vars().len() + instance.rows().len()) as u32;
-        set_ends(cuts.as_slice(), instance.rows(), self.ends.as_mut_slice());
-        if let Some(col) = first_clash(self.ends.as_slice(), columns) {
-            return LpEnd::Clash { col };
-        }
-        set_first(self.ends.as_slice(), cuts.len(), self.statuses.as_mut_slice());
-        self.dict.load(instance.entries(), goal.costs.as_slice(), factor(zero_goal, goal.sense));
-        let finish = make_turns(
+        run_over(
             &mut self.dict,
-            self.ends.as_slice(),
+            self.ends.as_mut_slice(),
             self.statuses.as_mut_slice(),
             &mut self.rest,
             self.values.as_mut_slice(),
-            start(zero_goal, goal.sense, goal.constant),
-            turns,
-            watch,
-            columns,
-            steps,
-        );
-        report(
-            &self.dict,
-            self.statuses.as_slice(),
-            finish,
             self.factors.as_mut_slice(),
             self.movements.as_mut_slice(),
-            columns,
+            instance,
+            cuts.as_slice(),
+            zero_goal,
+            turns,
+            watch,
+            steps,
         )
     }
 
