@@ -16,9 +16,9 @@ use Rattle.simplex_rules.specs.Widths.{BoundFits}
 use Rattle.simplex_rules.specs.Reports.{bound_sum}
 use Rattle.simplex_rules.proofs.Facts.{rest-number}
 use Rattle.simplex.specs.declared.ends.Ends.{Ends}
-use Rattle.simplex.specs.declared.dict.Dict.{Dict}
-use Rattle.simplex.specs.declared.dict.Places.{Places}
-use Rattle.simplex.specs.Dict.{width_of, height_of, columns_of, basic_of, entry_of, values_of}
+use Rattle.dictionary.specs.declared.dict.Dict.{Dict}
+use Rattle.dictionary.specs.declared.places.Places.{Places}
+use Rattle.dictionary.specs.Dict.{width_of, height_of, columns_of, basic_of, entry_of, values_of}
 use Rattle.simplex.specs.Cuts.{ranges_in, AreEndsOf}
 use Rattle.simplex.specs.Held.{AreStatuses, HasSizeOf}
 use Rattle.simplex.specs.Valued.{cost_in, AreTerms, AreResting}

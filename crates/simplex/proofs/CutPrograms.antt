@@ -21,7 +21,7 @@ use Rattle.instance.specs.Program.{program, row, sense, entries}
 use Rattle.bases.specs.Dictionary.{Entries}
 use Rattle.bases.specs.Program.{goal_column, goal_row, rows_with_goal}
 use Rattle.simplex.specs.declared.ends.Ends.{Ends}
-use Rattle.simplex.specs.Loaded.{rows_of, times_sign}
+use Rattle.dictionary.specs.Loaded.{rows_of, times_sign}
 use Rattle.simplex.specs.Loading.{factor_of, IsStart}
 use Rattle.simplex.specs.Cuts.{range_of, ranges_in, range_at, IsCutBy, AreEndsOf}
 

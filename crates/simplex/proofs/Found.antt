@@ -20,9 +20,9 @@ use Rattle.simplex_rules.specs.Statuses.{status_at, basic_in, rest_at, resting, 
 use Rattle.simplex_rules.specs.Widths.{ValuesFit}
 use Rattle.simplex_rules.proofs.Facts.{rest-number}
 use Rattle.simplex.specs.declared.ends.Ends.{Ends}
-use Rattle.simplex.specs.declared.dict.Dict.{Dict}
-use Rattle.simplex.specs.declared.dict.Places.{Places}
-use Rattle.simplex.specs.Dict.{width_of, height_of, columns_of, entry_of, values_of, Rest}
+use Rattle.dictionary.specs.declared.dict.Dict.{Dict}
+use Rattle.dictionary.specs.declared.places.Places.{Places}
+use Rattle.dictionary.specs.Dict.{width_of, height_of, columns_of, entry_of, values_of, Rest}
 use Rattle.simplex.specs.Cuts.{range_of, ranges_in, AreEndsOf}
 use Rattle.simplex.specs.Held.{AreStatuses, HasSizeOf, values_in}
 use Rattle.simplex.specs.Valued.{IsColumnValue, AreResting}

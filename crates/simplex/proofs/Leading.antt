@@ -9,10 +9,10 @@ use Rattle.simplex_rules.specs.declared.columns.Status.{Status}
 use Rattle.simplex_rules.specs.Statuses.{basic_in, HasDictionary}
 use Rattle.simplex_rules.specs.Ends.{Terms, Clock}
 use Rattle.simplex_rules.specs.Runs.{Next}
-use Rattle.simplex.specs.declared.dict.Dict.{Dict}
+use Rattle.dictionary.specs.declared.dict.Dict.{Dict}
 use Rattle.simplex.specs.declared.choosing.Choice.{Choice}
 use Rattle.simplex.specs.declared.choosing.Choice.TheVariants as Has
-use Rattle.simplex.specs.Dict.{width_of, height_of, basic_of, entry_of, Holds}
+use Rattle.dictionary.specs.Dict.{width_of, height_of, basic_of, entry_of, Holds}
 use Rattle.simplex.specs.Held.{AreStatuses, HasSizeOf}
 use Rattle.simplex.specs.Chosen.{Leads}
 

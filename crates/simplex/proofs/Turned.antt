@@ -13,10 +13,10 @@ use Rattle.simplex_rules.specs.Turns.{pivoted}
 use Rattle.simplex_rules.specs.Ends.{Terms, Clock, Stopped}
 use Rattle.simplex_rules.specs.Runs.{To, Out, Passes, is_checked}
 use Rattle.simplex_rules.specs.Looks.{answers, IsAfter, Tells, looks_after}
-use Rattle.simplex.specs.declared.dict.Dict.{Dict}
+use Rattle.dictionary.specs.declared.dict.Dict.{Dict}
 use Rattle.simplex.specs.declared.choosing.Swap.{Swap}
 use Rattle.simplex.specs.declared.choosing.Flip.{Flip}
-use Rattle.simplex.specs.Dict.{width_of, height_of, columns_of, basic_of, entry_of, Holds, HaveOneSize}
+use Rattle.dictionary.specs.Dict.{width_of, height_of, columns_of, basic_of, entry_of, Holds, HaveOneSize}
 use Rattle.simplex.specs.Held.{AreStatuses, AreHeld}
 use Rattle.simplex.specs.Chosen.{IsSwap, IsFlip}
 use Rattle.simplex.specs.Finished.{passed}
@@ -27,8 +27,8 @@ looked_at true Came came turns h = (
   0,
   came,
   (λ t looks ss e.
-  let k : looks + 0 + 1 ≡ looks + 1 = omega arith in
-  inr (inl (h, e ∙ ap Some k, ap (λ l. Out Stopped (record { turns = turns; looks = l })) k))),
+      let k : looks + 0 + 1 ≡ looks + 1 = omega arith in
+      inr (inl (h, e ∙ ap Some k, ap (λ l. Out Stopped (record { turns = turns; looks = l })) k))),
 )
 looked_at false Came came turns h = (
   1,

@@ -11,7 +11,7 @@ use Rattle.simplex_rules.specs.Statuses.{basic_in}
 use Rattle.simplex_rules.specs.Ends.{Terms, Clock, End, Empty, Best, Endless, TurnsOut, TooWide, Stopped}
 use Rattle.simplex_rules.specs.Reports.{multipliers, movement}
 use Rattle.simplex_rules.specs.Runs.{Moment, Next, To, Out, Comes, IsNext}
-use Rattle.simplex.specs.declared.dict.Dict.{Dict}
+use Rattle.dictionary.specs.declared.dict.Dict.{Dict}
 use Rattle.simplex.specs.declared.answer.Turns.{Turns}
 use Rattle.simplex.specs.declared.finish.Finish.{Finish}
 use Rattle.simplex.specs.declared.finish.Finish.TheVariants as Has

@@ -9,8 +9,8 @@ use Rattle.evidence.specs.Point.{value_at}
 use Rattle.bases.specs.Dictionary.{Entries, Values}
 use Rattle.simplex_rules.specs.declared.columns.Status.{Status}
 use Rattle.simplex_rules.specs.Statuses.{basic_in}
-use Rattle.simplex.specs.declared.dict.Dict.{Dict}
-use Rattle.simplex.specs.Dict.{width_of, height_of, columns_of, basic_of, Holds}
+use Rattle.dictionary.specs.declared.dict.Dict.{Dict}
+use Rattle.dictionary.specs.Dict.{width_of, height_of, columns_of, basic_of, Holds}
 
 -- these are the statuses of the columns; the goal's, after the last, is basic
 pub record AreStatuses (d : Dict) (ss : List Status) : Type 0 where

@@ -1,13 +1,11 @@
 pub use Rattle.rational.specs.Ratio
-pub use Rattle.bases.specs.Pivot
+pub use Rattle.dictionary.specs.Dict
 pub use Rattle.simplex_rules.specs.Statuses
 pub use Rattle.simplex_rules.specs.Turns
 pub use Rattle.simplex_rules.specs.Ends
 pub use Rattle.simplex_rules.specs.Reports
 pub use Rattle.simplex_rules.specs.Runs
 pub use Rattle.simplex_rules.specs.Looks
-pub mod Dict
-pub mod Loaded
 pub mod Cuts
 pub mod Held
 pub mod Answers

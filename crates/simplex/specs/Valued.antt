@@ -7,8 +7,8 @@ use Rattle.bases.specs.Dictionary.{Values, value_by}
 use Rattle.bases.specs.Pivot.{ValueFits}
 use Rattle.simplex_rules.specs.declared.columns.Status.{Status}
 use Rattle.simplex_rules.specs.Statuses.{status_at, basic_in, rest_at}
-use Rattle.simplex.specs.declared.dict.Dict.{Dict}
-use Rattle.simplex.specs.Dict.{entry_of, columns_of}
+use Rattle.dictionary.specs.declared.dict.Dict.{Dict}
+use Rattle.dictionary.specs.Dict.{entry_of, columns_of}
 
 -- v is the value of column c, which is basic or not; rest has the values of those that aren't
 pub record IsColumnValue (d : Dict) (rest : Values) (basic : Bool) (c : ℕ) (v : Ratio) : Type 0 where

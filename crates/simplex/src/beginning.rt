@@ -25,7 +25,10 @@ fn ends_at(cuts: &[Ends], rows: &[Row], col: usize) -> Ends
         cuts[col]
     } else {
         let row = rows[col - cuts.len()];
-        Ends { lb: row.lb, ub: row.ub }
+        Ends {
+            lb: row.lb,
+            ub: row.ub,
+        }
     }
 }
 

@@ -8,20 +8,20 @@ ghost use Rattle.simplex_rules.specs.Statuses.{is_basic, basic_in, upper_status}
 ghost use Rattle.simplex_rules.specs.Turns.{missed_status, reached_status, left_status, way_of};
 ghost use Rattle.simplex_rules.specs.Ends.{Terms, Clock};
 ghost use Rattle.simplex_rules.specs.Runs.{Repairs, MovesOn, Improves, IsNext};
-ghost use Rattle.simplex.specs.Dict.{IsLoaded, Holds, columns_of, basic_of, entry_of, count_of, values_of};
+ghost use Rattle.dictionary.specs.Dict.{IsLoaded, Holds, columns_of, basic_of, entry_of, count_of, values_of};
 ghost use Rattle.simplex.specs.Cuts.{AreEndsOf, range_of, ranges_in};
 ghost use Rattle.simplex.specs.Held.{AreStatuses, HasSizeOf, values_in};
 ghost use Rattle.simplex.specs.Valued.{AreResting};
 ghost use Rattle.simplex.specs.Chosen.{Leads, IsAllowed};
 
 use crate::bounding::best;
-use crate::dict::{Dict, Places, Steps};
 use crate::ends::{Ends, has_room};
 use crate::finish::{Finish, Move};
 use crate::helping::{entry_at, first_help};
 use crate::limits::{first_limit, rate};
 use crate::valued::{find_values, first_out};
 use certificate::Step;
+use dictionary::{Dict, Places, Steps};
 use fraction::Frac;
 use simplex_rules::{Status, Way};
 use std::sync::ledger::Ledger;

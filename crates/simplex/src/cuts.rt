@@ -29,7 +29,10 @@ impl Cuts {
     {
         let mut ends = Vec::with_capacity(alloc, vars.len())?;
         for var in vars {
-            ends.push(Ends { lb: var.lb, ub: var.ub })?;
+            ends.push(Ends {
+                lb: var.lb,
+                ub: var.ub,
+            })?;
         }
         Ok(Cuts { ends })
     }

@@ -8,17 +8,17 @@ ghost use Rattle.simplex_rules.specs.Statuses.{IsFresh};
 ghost use Rattle.simplex_rules.specs.Ends.{Terms};
 ghost use Rattle.simplex_rules.specs.Runs.{IsNext};
 ghost use Rattle.simplex_rules.specs.Looks.{answers, Tells, looks_after};
-ghost use Rattle.simplex.specs.Dict.{Holds, HaveOneSize, entry_of, count_of};
+ghost use Rattle.dictionary.specs.Dict.{Holds, HaveOneSize, entry_of, count_of};
 ghost use Rattle.simplex.specs.Cuts.{AreEndsOf};
 ghost use Rattle.simplex.specs.Held.{AreHeld, HasSizeOf, values_in};
 ghost use Rattle.simplex.specs.Finished.{stops_at, is_stop, next_at, end_at, IsLeft, IsLeftAt, IsCounted, KeepsAt, ComesTo};
 
 use crate::answer::Turns;
 use crate::choosing::{Choice, choose};
-use crate::dict::{Dict, Places, Steps};
 use crate::ends::Ends;
 use crate::finish::Finish;
 use crate::turning::{flip_turn, swap_turn};
+use dictionary::{Dict, Places, Steps};
 use fraction::Frac;
 use os_io::Watch;
 use simplex_rules::Status;
@@ -87,9 +87,9 @@ pub fn make_turns<W: Watch, L: Ledger>(
     ensures end { (n : ℕ) × W.came watch.old watch.new (answers n (is_stop result)) × ((I : Instance) (zeroed : Bool) (t : Terms) (looks : ℕ) → AreEndsOf I ends.now → HasSizeOf I dict.old → IsStart zeroed (minimising I I.goal.constant) start → Holds (rows_with_goal zeroed I) dict.old → IsFresh I statuses.old → t.turns ≡ turns.old.most → Tells t.stop looks n (is_stop result) → ComesTo I zeroed t (record { turns = turns.old.done; looks = looks }) (end_at I statuses.new (entry_of dict.new) (values_in values.new) result) (record { turns = turns.new.done; looks = looks_after looks n (is_stop result) })) }
 {
     loop {
-        if let Some(finish) =
-            make_turn(dict, ends, statuses, rest, values, start, turns, watch, goal, steps)
-        {
+        if let Some(finish) = make_turn(
+            dict, ends, statuses, rest, values, start, turns, watch, goal, steps,
+        ) {
             return finish;
         }
     }

@@ -3,16 +3,16 @@ ghost use Rattle.std.specs.Prelude.{◌≡◌, ◌+◌, ◌<◌, ◌≤◌, true
 ghost use Rattle.fraction.specs.Frac.{ratio};
 ghost use Rattle.evidence.specs.Instance.{Instance};
 ghost use Rattle.bases.specs.Dictionary.{Values};
-ghost use Rattle.simplex.specs.Dict.{IsLoaded, width_of, height_of, basic_of, entry_of};
+ghost use Rattle.dictionary.specs.Dict.{IsLoaded, width_of, height_of, basic_of, entry_of};
 ghost use Rattle.simplex_rules.specs.declared.columns.Way.{Way};
 ghost use Rattle.simplex_rules.specs.Statuses.{is_basic, basic_in};
 ghost use Rattle.simplex_rules.specs.Turns.{Can, Moves, rate, NoneHelps, IsFirstHelp};
 ghost use Rattle.simplex.specs.Cuts.{AreEndsOf, range_of};
 ghost use Rattle.simplex.specs.Held.{AreStatuses};
 
-use crate::dict::Dict;
 use crate::ends::{Ends, help};
 use crate::finish::Move;
+use dictionary::Dict;
 use fraction::Frac;
 use simplex_rules::{Status, Way};
 

@@ -6,7 +6,6 @@ mod beginning;
 mod bounding;
 mod choosing;
 mod cuts;
-mod dict;
 mod ends;
 mod finish;
 mod going;
@@ -20,6 +19,5 @@ mod work;
 
 pub use answer::{LpEnd, Turns};
 pub use cuts::Cuts;
-pub use dict::Steps;
 pub use ends::Ends;
 pub use work::Work;

@@ -5,7 +5,7 @@ ghost use Rattle.fraction.specs.Frac.{ratio};
 ghost use Rattle.evidence.specs.Instance.{Instance};
 ghost use Rattle.instance.specs.Program.{limit};
 ghost use Rattle.bases.specs.Dictionary.{Values};
-ghost use Rattle.simplex.specs.Dict.{IsLoaded, width_of, height_of, basic_of, entry_of};
+ghost use Rattle.dictionary.specs.Dict.{IsLoaded, width_of, height_of, basic_of, entry_of};
 ghost use Rattle.simplex_rules.specs.Statuses.{is_basic, basic_in};
 ghost use Rattle.simplex_rules.specs.Turns.{rate, until_end, until_by, across, limit_one, NoLimit, IsFirstLimit};
 ghost use Rattle.simplex_rules.specs.Widths.{EndFits, ByFits, AcrossFits, OneFits, LimitsFit};
@@ -13,10 +13,10 @@ ghost use Rattle.simplex.specs.Cuts.{AreEndsOf, range_of};
 ghost use Rattle.simplex.specs.Held.{AreStatuses, values_in};
 ghost use Rattle.simplex.specs.Limits.{IsLimit, IsBestOf};
 
-use crate::dict::Dict;
 use crate::ends::{Ends, is_less};
 use crate::finish::Move;
 use crate::helping::entry_at;
+use dictionary::Dict;
 use fraction::{End, Frac, Wide};
 use simplex_rules::{Status, Way};
 

@@ -9,17 +9,17 @@ ghost use Rattle.bases.specs.Program.{goal_column};
 ghost use Rattle.simplex_rules.specs.Statuses.{is_basic, basic_in};
 ghost use Rattle.simplex_rules.specs.Turns.{rate};
 ghost use Rattle.simplex_rules.specs.Reports.{against, factor_at, step_of, movement, collected};
-ghost use Rattle.simplex.specs.Dict.{IsLoaded, width_of, height_of, basic_of, entry_of, columns_of};
+ghost use Rattle.dictionary.specs.Dict.{IsLoaded, width_of, height_of, basic_of, entry_of, columns_of};
 ghost use Rattle.simplex.specs.Held.{AreStatuses, values_in};
 ghost use Rattle.simplex.specs.Answers.{listed, ended, was_stopped};
 ghost use Rattle.simplex.specs.Finished.{end_at, is_stop, IsLeft};
 
 use crate::answer::LpEnd;
-use crate::dict::Dict;
 use crate::finish::{Finish, Move};
 use crate::helping::entry_at;
 use crate::limits::rate;
 use crate::valued::zero;
+use dictionary::Dict;
 use fraction::Frac;
 use simplex_rules::{Status, Way};
 
@@ -115,13 +115,7 @@ fn movement_at(dict: &Dict, status: Status, moving: Move, col: u32, goal: u32) -
 }
 
 /// Writes the movements of the variables.
-fn set_movements(
-    dict: &Dict,
-    statuses: &[Status],
-    moving: Move,
-    movements: &mut [Frac],
-    goal: u32,
-)
+fn set_movements(dict: &Dict, statuses: &[Status], moving: Move, movements: &mut [Frac], goal: u32)
     requires loaded { IsLoaded dict.now }
     requires statuses { AreStatuses dict.now statuses.now }
     requires goal { goal ≡ length statuses.now }

@@ -9,16 +9,16 @@ ghost use Rattle.simplex_rules.specs.Turns.{pivoted};
 ghost use Rattle.simplex_rules.specs.Ends.{Terms};
 ghost use Rattle.simplex_rules.specs.Runs.{Begins, Passes};
 ghost use Rattle.simplex_rules.specs.Looks.{answers, Tells, looks_after};
-ghost use Rattle.simplex.specs.Dict.{Holds, HaveOneSize, entry_of};
+ghost use Rattle.dictionary.specs.Dict.{Holds, HaveOneSize, entry_of};
 ghost use Rattle.simplex.specs.Held.{AreHeld};
 ghost use Rattle.simplex.specs.Finished.{stops_at, passed, next_at, IsLeftAt, IsCounted, KeepsAt};
 ghost use Rattle.simplex.specs.Chosen.{IsSwap, IsFlip};
 
 use crate::answer::Turns;
 use crate::choosing::{Flip, Swap};
-use crate::dict::{Dict, Steps};
 use crate::finish::Finish;
 use certificate::Step;
+use dictionary::{Dict, Steps};
 use fraction::Wide;
 use os_io::Watch;
 use simplex_rules::Status;

@@ -11,14 +11,14 @@ ghost use Rattle.simplex_rules.specs.declared.columns.Way.{Way};
 ghost use Rattle.simplex_rules.specs.Statuses.{is_basic, basic_in, rest_at, HasValues};
 ghost use Rattle.simplex_rules.specs.Turns.{Misses, NoneOut, IsFirstOut};
 ghost use Rattle.simplex_rules.specs.Widths.{ValuesFit};
-ghost use Rattle.simplex.specs.Dict.{IsLoaded, width_of, height_of, columns_of, basic_of, entry_of, Rest, count_of, values_of};
+ghost use Rattle.dictionary.specs.Dict.{IsLoaded, width_of, height_of, columns_of, basic_of, entry_of, Rest, count_of, values_of};
 ghost use Rattle.simplex.specs.Cuts.{AreEndsOf, range_of, ranges_in};
 ghost use Rattle.simplex.specs.Held.{AreStatuses, HasSizeOf, values_in};
 ghost use Rattle.simplex.specs.Valued.{IsColumnValue, AreResting};
 
-use crate::dict::{Dict, Places, Steps};
 use crate::ends::{Ends, is_less};
 use crate::finish::Move;
+use dictionary::{Dict, Places, Steps};
 use fraction::{End, Frac, Wide};
 use simplex_rules::{Status, Way};
 use std::sync::ledger::Ledger;

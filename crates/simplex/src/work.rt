@@ -1,16 +1,16 @@
 ghost use Rattle.std.specs.Prelude.{◌≡◌, ℕ, ◌+◌, ◌-◌, ◌^◌, ◌<◌, ◌≤◌, length, vec_len, IfOk};
 ghost use Rattle.fraction.specs.Frac.{ratio};
 ghost use Rattle.evidence.specs.Instance as Of;
-ghost use Rattle.simplex.specs.Dict.{width_of, height_of, count_of};
+ghost use Rattle.dictionary.specs.Dict.{width_of, height_of, count_of};
 ghost use Rattle.simplex_rules.specs.Ends.{Terms};
 ghost use Rattle.simplex_rules.specs.Runs.{Run};
 ghost use Rattle.simplex_rules.specs.Looks.{answers, Tells, looks_after};
 
 use crate::answer::{LpEnd, Turns};
 use crate::cuts::Cuts;
-use crate::dict::{Dict, Places, Steps};
 use crate::ends::Ends;
 use crate::running::run_over;
+use dictionary::{Dict, Places, Steps};
 use fraction::{End, Frac};
 use instance::Instance;
 use os_io::Watch;
@@ -49,14 +49,25 @@ impl Work {
         let vars = n as usize;
         let columns = vars + m as usize;
         let dict = Dict::with_size(alloc, n, m)?;
-        let free = Ends { lb: End::NegInf, ub: End::Inf };
+        let free = Ends {
+            lb: End::NegInf,
+            ub: End::Inf,
+        };
         let ends = vec![in alloc; free; columns]?;
         let statuses = vec![in alloc; Status::Basic; columns]?;
         let rest = Places::with_size(alloc, columns)?;
         let values = vec![in alloc; Frac::ZERO; columns]?;
         let factors = vec![in alloc; Frac::ZERO; columns]?;
         let movements = vec![in alloc; Frac::ZERO; vars]?;
-        Ok(Work { dict, ends, statuses, rest, values, factors, movements })
+        Ok(Work {
+            dict,
+            ends,
+            statuses,
+            rest,
+            values,
+            factors,
+            movements,
+        })
     }
 
     /// Runs the linear program of an instance with these ends of its variables, from the first basis to its end, without the

@@ -7,7 +7,7 @@ use Rattle.evidence.specs.Instance.{width, minimising}
 use Rattle.bases.specs.Program.{goal_column}
 use Rattle.simplex_rules.specs.Statuses.{resting}
 use Rattle.simplex_rules.specs.Reports.{IsBoundAt}
-use Rattle.simplex.specs.Dict.{entry_of}
+use Rattle.dictionary.specs.Dict.{entry_of}
 use Rattle.simplex.specs.Answers.{listed}
 use Rattle.simplex.specs.Loading.{IsStart}
 use Rattle.simplex.proofs.Listing.{listed_values}
@@ -56,6 +56,6 @@ returns-in-Err-clause-next c = λ I zeroed w t k e size entries starts off.
       off,
       f.0,
       (λ z. c.in-Err.ensures.wide (entry_of c.args.dict.now (goal_column I)) (resting I c.args.statuses.now) ts
-      (fits_less c.args.dict.now c.args.statuses.now c.requires.statuses entries c.args.ends.now I e size c.args.rest.now c.requires.resting c.args.goal c.requires.goal (ratio c.in-Some.s) f.1 z)),
+          (fits_less c.args.dict.now c.args.statuses.now c.requires.statuses entries c.args.ends.now I e size c.args.rest.now c.requires.resting c.args.goal c.requires.goal (ratio c.in-Some.s) f.1 z)),
       refl,
     )

@@ -1,7 +1,7 @@
 use Rattle.fraction.specs.Frac.{ratio}
 use Rattle.evidence.proofs.Steps.{IsSum}
 use Rattle.bases.specs.Dictionary.{Values}
-use Rattle.simplex.specs.Dict.{entry_of, values_of}
+use Rattle.dictionary.specs.Dict.{entry_of, values_of}
 use Rattle.simplex.specs.Valued.{cost_in, AreTerms}
 use Rattle.simplex.proofs.bounding.bound.Given as goal
 

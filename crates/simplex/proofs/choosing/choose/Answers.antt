@@ -1,7 +1,7 @@
 use Rattle.std.proofs.Common.{◌≡◌, ◌<◌, inl, inr, refl, arith}
 use Rattle.evidence.specs.Sums.{none}
 use Rattle.simplex_rules.specs.Runs.{Repairs, Improves, IsNext}
-use Rattle.simplex.specs.Dict.{entry_of}
+use Rattle.dictionary.specs.Dict.{entry_of}
 use Rattle.simplex.specs.Held.{values_in}
 use Rattle.simplex.proofs.Plain.{plain, plain_ends}
 use Rattle.simplex.proofs.Leading.{leads_map, held_dictionary}

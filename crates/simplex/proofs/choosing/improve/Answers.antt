@@ -5,7 +5,7 @@ use Rattle.bases.specs.Program.{goal_column}
 use Rattle.simplex_rules.specs.declared.columns.Way.TheVariants.{Fall}
 use Rattle.simplex_rules.specs.Turns.{NoneHelps, IsFirstHelp}
 use Rattle.simplex_rules.specs.Runs.{MovesOn, Improves}
-use Rattle.simplex.specs.Dict.{entry_of}
+use Rattle.dictionary.specs.Dict.{entry_of}
 use Rattle.simplex.specs.Held.{values_in}
 use Rattle.simplex.proofs.Plain.{plain, plain_ends}
 use Rattle.simplex.proofs.Leading.{leads_map}

@@ -3,7 +3,7 @@ use Rattle.rational.specs.Ratio.{Ratio}
 use Rattle.evidence.specs.Instance.{Range, column_at}
 use Rattle.simplex_rules.specs.declared.columns.Way.{Way}
 use Rattle.simplex_rules.specs.Turns.{rate, reached_status, way_of}
-use Rattle.simplex.specs.Dict.{entry_of}
+use Rattle.dictionary.specs.Dict.{entry_of}
 use Rattle.simplex.proofs.EndsRead.{read_range}
 use Rattle.simplex.proofs.choosing.leave.Goals as goal
 

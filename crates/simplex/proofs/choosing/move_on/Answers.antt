@@ -7,7 +7,7 @@ use Rattle.simplex_rules.specs.Turns.{flipped, reached_status, pivoted, NoLimit,
 use Rattle.simplex_rules.specs.Reports.{movement}
 use Rattle.bases.specs.Pivot.{PivotFits}
 use Rattle.simplex_rules.specs.Runs.{Begins}
-use Rattle.simplex.specs.Dict.{entry_of}
+use Rattle.dictionary.specs.Dict.{entry_of}
 use Rattle.simplex.specs.Held.{values_in}
 use Rattle.simplex.specs.Cuts.{AreEndsOf}
 use Rattle.simplex.specs.Answers.{listed}
@@ -85,6 +85,6 @@ returns-else-l-moving-clause-next c = λ I zeroed t k e size next q.
       p,
       c.if-l-moving.false,
       subst (λ (z : Status). Begins t k (PivotFits (entry_of c.args.dict.now) c.in-Ok-Some.l.col c.args.moving.col) (pivoted c.args.statuses.now c.in-Ok-Some.l.col c.args.moving.col z) next) (c.leave.ensures.status I e)
-      (subst (λ j. Begins t k (PivotFits (entry_of c.args.dict.now) c.in-Ok-Some.l.col j) (pivoted c.args.statuses.now c.in-Ok-Some.l.col j c.leave.result.status) next) c.leave.ensures.nonbasic
-      (subst (λ i. Begins t k (PivotFits (entry_of c.args.dict.now) i c.leave.result.nonbasic) (pivoted c.args.statuses.now i c.leave.result.nonbasic c.leave.result.status) next) c.leave.ensures.basic q)),
+          (subst (λ j. Begins t k (PivotFits (entry_of c.args.dict.now) c.in-Ok-Some.l.col j) (pivoted c.args.statuses.now c.in-Ok-Some.l.col j c.leave.result.status) next) c.leave.ensures.nonbasic
+          (subst (λ i. Begins t k (PivotFits (entry_of c.args.dict.now) i c.leave.result.nonbasic) (pivoted c.args.statuses.now i c.leave.result.nonbasic c.leave.result.status) next) c.leave.ensures.basic q)),
     )))

@@ -5,7 +5,7 @@ use Rattle.bases.specs.Pivot.{PivotFits}
 use Rattle.simplex_rules.specs.declared.columns.Status.{Status}
 use Rattle.simplex_rules.specs.Turns.{pivoted, missed_status}
 use Rattle.simplex_rules.specs.Runs.{Begins}
-use Rattle.simplex.specs.Dict.{entry_of}
+use Rattle.dictionary.specs.Dict.{entry_of}
 use Rattle.simplex.proofs.EndsRead.{read_range}
 use Rattle.simplex.proofs.Plain.{plain, plain_ends, moves_nonzero}
 use Rattle.simplex.proofs.choosing.repair.Goals as goal

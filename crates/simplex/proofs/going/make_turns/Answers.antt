@@ -3,8 +3,8 @@ use Rattle.evidence.specs.Instance.{Instance, width, height}
 use Rattle.simplex_rules.specs.Ends.{Terms, Clock}
 use Rattle.simplex_rules.specs.Runs.{Moment, To, Out, Comes, begins, goes_on, IsNext}
 use Rattle.simplex_rules.specs.Looks.{went_on, answers, looks_after}
-use Rattle.simplex.specs.declared.dict.Dict.{Dict}
-use Rattle.simplex.specs.Dict.{entry_of, HaveOneSize}
+use Rattle.dictionary.specs.declared.dict.Dict.{Dict}
+use Rattle.dictionary.specs.Dict.{entry_of, HaveOneSize}
 use Rattle.simplex.specs.Held.{values_in, HasSizeOf}
 use Rattle.simplex.specs.Finished.{is_stop, end_at}
 use Rattle.simplex.proofs.Looks.{answers_more, after_less, tells_less, after_more}
@@ -27,8 +27,8 @@ loop-finish-init g c = record {
     0,
     g.met.W.Watch.stays c.args.watch.now,
     (λ I zeroed t looks e size starts holds fresh most after.
-    let k : looks ≡ looks + 0 = omega arith in
-    subst (λ j. Comes I zeroed t (record { turns = c.args.turns.now.done; looks = looks }) (record { statuses = c.args.statuses.now; clock = record { turns = c.args.turns.now.done; looks = j } })) k (begins fresh)),
+        let k : looks ≡ looks + 0 = omega arith in
+        subst (λ j. Comes I zeroed t (record { turns = c.args.turns.now.done; looks = looks }) (record { statuses = c.args.statuses.now; clock = record { turns = c.args.turns.now.done; looks = j } })) k (begins fresh)),
   );
 }
 
@@ -51,10 +51,10 @@ loop-finish-preserved g c =
         m.0 + p.0,
         subst (λ (xs : List Bool). g.W.Watch.came c.args.watch.now c.make_turn.new.watch xs) (answers_more m.0 p.0 false) (g.met.W.Watch.joined c.args.watch.now c.loop-finish.watch c.make_turn.new.watch (went_on m.0) (went_on p.0) m.1 p.1),
         (λ I zeroed t looks e size starts holds fresh most after.
-        let here = m.2 I zeroed t looks e size starts holds fresh most (after_less looks m.0 p.0 false t.stop after) in
-        let next = p.2 I zeroed t (looks + m.0) e (sized I c.args.dict.now c.loop-finish.dict v.size size) starts (v.holds _ holds) (most ∙ sym v.most) (tells_less looks m.0 p.0 false t.stop after) in
-        subst (λ (j : ℕ). Comes I zeroed t (record { turns = c.args.turns.now.done; looks = looks }) (record { statuses = c.make_turn.new.statuses; clock = record { turns = c.make_turn.new.turns.done; looks = j } })) (after_more looks m.0 p.0 false)
-        (goes_on here next)),
+            let here = m.2 I zeroed t looks e size starts holds fresh most (after_less looks m.0 p.0 false t.stop after) in
+            let next = p.2 I zeroed t (looks + m.0) e (sized I c.args.dict.now c.loop-finish.dict v.size size) starts (v.holds _ holds) (most ∙ sym v.most) (tells_less looks m.0 p.0 false t.stop after) in
+            subst (λ (j : ℕ). Comes I zeroed t (record { turns = c.args.turns.now.done; looks = looks }) (record { statuses = c.make_turn.new.statuses; clock = record { turns = c.make_turn.new.turns.done; looks = j } })) (after_more looks m.0 p.0 false)
+            (goes_on here next)),
       );
     }
 
@@ -63,8 +63,7 @@ returns-in-Some-clause-end g c =
     let v = c.loop-finish.invariant in
     let m = v.moments in
     let p = c.in-Some.ensures.turn in
-    let b = is_stop c.in-Some.finish in
-    (
+    let b = is_stop c.in-Some.finish in (
       m.0 + p.0,
       subst (λ (xs : List Bool). g.W.Watch.came c.args.watch.now c.make_turn.new.watch xs) (answers_more m.0 p.0 b) (g.met.W.Watch.joined c.args.watch.now c.loop-finish.watch c.make_turn.new.watch (went_on m.0) (answers p.0 b) m.1 p.1),
       (λ I zeroed t looks e size starts holds fresh most tells. record {

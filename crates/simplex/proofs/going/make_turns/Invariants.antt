@@ -6,7 +6,7 @@ use Rattle.simplex_rules.specs.Statuses.{IsFresh}
 use Rattle.simplex_rules.specs.Ends.{Terms}
 use Rattle.simplex_rules.specs.Runs.{Comes}
 use Rattle.simplex_rules.specs.Looks.{went_on, IsAfter}
-use Rattle.simplex.specs.Dict.{Holds, HaveOneSize, count_of}
+use Rattle.dictionary.specs.Dict.{Holds, HaveOneSize, count_of}
 use Rattle.simplex.specs.Cuts.{AreEndsOf}
 use Rattle.simplex.specs.Held.{AreHeld, HasSizeOf}
 use Rattle.simplex.specs.Loading.{IsStart}

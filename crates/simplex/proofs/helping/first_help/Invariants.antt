@@ -2,7 +2,7 @@ use Rattle.std.proofs.Common.{ℕ, ◌<◌}
 use Rattle.simplex_rules.specs.declared.columns.Way.{Way}
 use Rattle.simplex_rules.specs.Statuses.{status_at}
 use Rattle.simplex_rules.specs.Turns.{Can, Moves, rate}
-use Rattle.simplex.specs.Dict.{entry_of}
+use Rattle.dictionary.specs.Dict.{entry_of}
 use Rattle.simplex.specs.Cuts.{ranges_in}
 use Rattle.simplex.proofs.helping.first_help.Given as goal
 

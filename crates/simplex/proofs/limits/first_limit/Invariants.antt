@@ -2,7 +2,7 @@ use Rattle.std.proofs.Common.{ℕ, ◌<◌, nat_eq}
 use Rattle.simplex_rules.specs.Statuses.{basic_in}
 use Rattle.simplex_rules.specs.Turns.{rate, limit_one}
 use Rattle.simplex_rules.specs.Widths.{OneFits}
-use Rattle.simplex.specs.Dict.{entry_of}
+use Rattle.dictionary.specs.Dict.{entry_of}
 use Rattle.simplex.specs.Cuts.{ranges_in}
 use Rattle.simplex.specs.Held.{values_in}
 use Rattle.simplex.specs.Limits.{IsBestOf}

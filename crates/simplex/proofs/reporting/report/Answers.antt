@@ -4,7 +4,7 @@ use Rattle.simplex_rules.specs.declared.columns.Way.TheVariants.{Fall}
 use Rattle.simplex_rules.specs.Ends.{Empty, Best, Endless}
 use Rattle.simplex_rules.specs.Reports.{factor_at, movement, collected}
 use Rattle.simplex.specs.declared.finish.Finish.{Finish}
-use Rattle.simplex.specs.Dict.{entry_of}
+use Rattle.dictionary.specs.Dict.{entry_of}
 use Rattle.simplex.specs.Held.{values_in, AreHeld}
 use Rattle.simplex.specs.Answers.{listed}
 use Rattle.simplex.specs.Finished.{end_at, Keeps}

@@ -2,7 +2,7 @@ use Rattle.std.proofs.Common.{◌≡◌, ◌<◌, ◌≤◌, length, sym, ◌∙
 use Rattle.std.specs.Prelude.{slice_set}
 use Rattle.evidence.proofs.Columns.{by_eq}
 use Rattle.simplex_rules.specs.Reports.{factor_at}
-use Rattle.simplex.specs.Dict.{entry_of}
+use Rattle.dictionary.specs.Dict.{entry_of}
 use Rattle.simplex.specs.Held.{values_in}
 use Rattle.simplex.proofs.Slots.{value_set, value_other}
 use Rattle.simplex.proofs.reporting.set_factors.Goals as goal

@@ -1,7 +1,7 @@
 use Rattle.std.proofs.Common.{◌≡◌, ℕ, ◌<◌}
 use Rattle.bases.specs.Dictionary.{AreEntries}
 use Rattle.simplex_rules.specs.Reports.{factor_at}
-use Rattle.simplex.specs.Dict.{columns_of, basic_of, entry_of}
+use Rattle.dictionary.specs.Dict.{columns_of, basic_of, entry_of}
 use Rattle.simplex.specs.Held.{values_in}
 use Rattle.simplex.proofs.reporting.set_factors.Given as goal
 

@@ -1,6 +1,6 @@
 use Rattle.std.proofs.Common.{◌≡◌, ℕ, ◌<◌}
 use Rattle.simplex_rules.specs.Reports.{movement}
-use Rattle.simplex.specs.Dict.{entry_of}
+use Rattle.dictionary.specs.Dict.{entry_of}
 use Rattle.simplex.specs.Held.{values_in}
 use Rattle.simplex.proofs.reporting.set_movements.Given as goal
 

@@ -1,7 +1,7 @@
 use Rattle.std.proofs.Common.{ℕ, ◌<◌}
 use Rattle.bases.specs.Dictionary.{Values}
 use Rattle.simplex_rules.specs.Statuses.{basic_in}
-use Rattle.simplex.specs.Dict.{Rest}
+use Rattle.dictionary.specs.Dict.{Rest}
 use Rattle.simplex.specs.Held.{values_in}
 use Rattle.simplex.specs.Valued.{IsColumnValue}
 use Rattle.simplex.proofs.valued.all_values.Given as goal

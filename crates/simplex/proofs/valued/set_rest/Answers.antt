@@ -3,7 +3,7 @@ use Rattle.evidence.specs.Instance.{Range}
 use Rattle.evidence.proofs.Columns.{by_eq}
 use Rattle.simplex_rules.specs.Statuses.{status_at, rest_at}
 use Rattle.simplex.specs.Cuts.{ranges_in}
-use Rattle.simplex.specs.Dict.{values_of}
+use Rattle.dictionary.specs.Dict.{values_of}
 use Rattle.simplex.proofs.EndsRead.{read_range}
 use Rattle.simplex.proofs.valued.set_rest.Goals as goal
 

@@ -1,7 +1,7 @@
 use Rattle.std.proofs.Common.{◌≡◌, ℕ, ◌<◌}
 use Rattle.simplex_rules.specs.Statuses.{status_at, rest_at}
 use Rattle.simplex.specs.Cuts.{ranges_in}
-use Rattle.simplex.specs.Dict.{values_of, count_of}
+use Rattle.dictionary.specs.Dict.{values_of, count_of}
 use Rattle.simplex.proofs.valued.set_rest.Given as goal
 
 abbrev pub invariant-loop-c : goal.invariant-loop-c
