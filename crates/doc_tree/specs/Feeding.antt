@@ -1,16 +1,15 @@
 -- A reader that is fed bytes, and where it stands behind them.
-use Rattle.std.specs.Prelude.{◌≡◌, ℕ, Bool, List, length, Option, MatchOption}
+use Rattle.std.specs.Prelude.{◌≡◌, ℕ, Bool, List, [], ◌∷◌, ◌++◌, length, Option, MatchOption}
 use Rattle.tree_grammar.specs.declared.TheConstants.{DEPTH}
 use Rattle.doc_tree.specs.Marks.{Mark}
 use Rattle.doc_tree.specs.Rests.{Terms, any}
-use Rattle.doc_tree.specs.Completes.{State, view, Good}
+use Rattle.doc_tree.specs.Completes.{State, Good}
 use Rattle.doc_tree.specs.LineEnds.{Finishes, Continues}
 use Rattle.doc_tree.specs.Reading.{Refused}
 use Rattle.doc_tree.specs.Refusals.{IsClean}
 use Rattle.doc_tree.specs.Utf8.{CharacterRest, Spells}
 use Rattle.doc_tree.specs.declared.characters.Awaited.{Awaited}
 use Rattle.doc_tree.specs.declared.fault.TreeFault.{TreeFault}
-use Rattle.doc_tree.specs.declared.progress.Progress.{Progress}
 
 -- A document of any encoding that isn't too deep.
 abbrev pub named : Terms
@@ -24,10 +23,6 @@ pub record Feeding : Type 0 where
   pub limit : ℕ
   pub count : ℕ
   pub refusal : Option TreeFault
-
--- The same of a reader's own state.
-abbrev pub feeding : Progress → Feeding
-feeding p = record { state = view p.lines.machine; returned = p.lines.returned; awaited = p.awaited; limit = p.limit; count = p.count; refusal = p.refusal }
 
 -- Some bytes complete the character and the document at once.
 pub record Meets (awaited : Awaited) (s : State) (returned : Bool) : Type 0 where
@@ -47,6 +42,10 @@ pub record IsTaken (f : Feeding) (bytes : List ℕ) : Type 0 where
 -- These bytes were fed.
 abbrev pub WasFed : Feeding → List ℕ → Type 0
 WasFed f bytes = MatchOption f.refusal (IsTaken f bytes) (Refused f.limit bytes)
+
+-- Behind any such bytes, a reader is refused so at this one.
+abbrev pub Refuses : Feeding → ℕ → TreeFault → Type 0
+Refuses f b fault = (bytes : List ℕ) → IsTaken f bytes → Refused f.limit (bytes ++ b ∷ []) fault
 
 -- A reader that takes more stands at a place of the machine that some document has.
 abbrev pub CanGoOn : Feeding → Type 0

@@ -1,6 +1,7 @@
 pub mod Reading
 pub mod Refusals
 pub mod Feeding
+pub mod Standing
 pub mod Building
 pub mod Keeping
 pub mod Marks

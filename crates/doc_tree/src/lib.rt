@@ -23,9 +23,9 @@ mod declaration;
 mod fault;
 mod keys;
 mod laws;
+mod lines;
 mod machine;
 mod names;
-mod progress;
 mod reader;
 
 pub use element_tree::{Tree, escape, write, write_to};
