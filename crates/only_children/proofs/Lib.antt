@@ -1,2 +1,4 @@
 pub mod One
 pub mod Left
+pub mod Answered
+pub mod Gathered

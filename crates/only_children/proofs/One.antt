@@ -1,5 +1,5 @@
 -- Elements that are the only ones, and what they hold.
-use Rattle.std.proofs.Common.{◌≡◌, ◌≢◌, ◌∙◌, ◌↔◌, ℕ, Bool, Option, None, List, [], ◌∷◌, length, bytes_eq, append-nil, refl, arith, subst, sym}
+use Rattle.std.proofs.Common.{◌≡◌, ◌≢◌, ◌∙◌, ◌↔◌, ◌<◌, ℕ, Bool, Option, None, List, [], ◌∷◌, length, bytes_eq, append-nil, refl, arith, subst, sym}
 use Rattle.std.specs.Prelude.{IsTrue}
 use Rattle.std.proofs.lemmas.Slice.Eq.{bytes_eq-Decides}
 use Rattle.tree_grammar.specs.Elements.{Element}
@@ -7,7 +7,7 @@ use Rattle.document_tags.specs.declared.spot.Spot.{Spot}
 use Rattle.document_tags.specs.Elements.{characters}
 use Rattle.document_tags.specs.Writing.{text_nodes}
 use Rattle.document_tags.specs.Spots.{AreSpots, IsSpot}
-use Rattle.only_children.specs.Only.{only}
+use Rattle.only_children.specs.Only.{only, unless_elements}
 
 -- where they aren't one, there is none
 pub none_only : (spots : List Spot) (es : List Element) → length spots ≢ 1 → AreSpots spots es → IsSpot None (only es)
@@ -39,3 +39,9 @@ pub has_name : (name given literal : List ℕ) (e : Element) (r : Bool) → r �
 has_name name given literal e r tests is word =
     let test = bytes_eq-Decides given literal in
     (λ yes. sym is ∙ test.0 (sym tests ∙ yes) ∙ word, λ named. tests ∙ test.1 (is ∙ named ∙ sym word))
+
+-- what an element says whose child elements these are
+pub some_inside : (spots : List Spot) (es : List Element) (text : List ℕ) → 0 < length spots → AreSpots spots es → None ≡ unless_elements es text
+some_inside [] es text some are = absurd (omega (arith, some))
+some_inside (s ∷ spots) [] text some are = absurd are
+some_inside (s ∷ spots) (e ∷ es) text some are = refl

@@ -1,4 +1,3 @@
-pub mod Answered
 pub mod Stated
 pub mod Counted
 pub mod Listed

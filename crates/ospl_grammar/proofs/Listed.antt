@@ -7,10 +7,9 @@ use Rattle.document_tags.specs.declared.spot.Spot.{Spot}
 use Rattle.document_tags.specs.Elements.{children_named}
 use Rattle.document_tags.specs.Spots.{Stands, IsSpot}
 use Rattle.document_tags.proofs.Spotted.{each_more}
-use Rattle.only_children.specs.Only.{only_child}
 use Rattle.ospl_grammar.specs.declared.process.StatedJob.{StatedJob}
 use Rattle.ospl_grammar.specs.Meaning.{IsJob, AreJobs}
-use Rattle.ospl_grammar.specs.Reading.{IsOnly}
+use Rattle.only_children.specs.Only.{only_child, IsOnly}
 
 -- the first elements are these jobs, and these are left
 pub record AreRead (es : List Element) (jobs : List StatedJob) (rest : List Element) : Type 0 where

@@ -1,5 +1,5 @@
 -- What the reader promises.
-use Rattle.std.specs.Prelude.{◌≡◌, ◌⊎◌, Option, None, Some, codes}
+use Rattle.std.specs.Prelude.{◌≡◌, ◌⊎◌, Some, codes}
 use Rattle.tree_grammar.specs.Elements.{Element}
 use Rattle.job_table.specs.declared.job.State.{State}
 use Rattle.only_children.specs.Only.{only_text}
@@ -7,11 +7,6 @@ use Rattle.ospl_grammar.specs.declared.fault.OsplFault.{OsplFault}
 use Rattle.ospl_grammar.specs.declared.fault.OsplFault.TheVariants.{Memory}
 use Rattle.ospl_grammar.specs.Words.{state_text}
 use Rattle.ospl_grammar.specs.Refusals.{IsRefused}
-
--- the answer is a value of this kind, or there is none
-abbrev pub IsOnly : {X : Type 0} → (X → Type 0) → Option X → Type 0
-IsOnly {X} P None = (x : X) → P x → ⊥
-IsOnly {X} P (Some x) = P x
 
 -- a job's state is this one
 abbrev pub SaysState : Element → State → Type 0

@@ -5,7 +5,8 @@ ghost use Rattle.std.specs.List.{AllZip};
 ghost use Rattle.tree_grammar.specs.Elements.{Element};
 ghost use Rattle.document_tags.specs.Spots.{Stands, AreSpots};
 ghost use Rattle.ospl_grammar.specs.Meaning.{IsJob, AreJobs};
-ghost use Rattle.ospl_grammar.specs.Reading.{IsOnly, SaysState};
+ghost use Rattle.only_children.specs.Only.{IsOnly};
+ghost use Rattle.ospl_grammar.specs.Reading.{SaysState};
 
 use crate::process::{JobStates, StatedJob};
 use crate::words::state_of;

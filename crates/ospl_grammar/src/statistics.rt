@@ -4,7 +4,7 @@ ghost use Rattle.std.specs.Prelude.{◌≡◌, List, IfOk};
 ghost use Rattle.tree_grammar.specs.Elements.{Element};
 ghost use Rattle.document_tags.specs.Spots.{Stands, AreSpots};
 ghost use Rattle.ospl_grammar.specs.Meaning.{SaysBusy, SaysNumber, SaysCurrent, SaysStatistics, IsFirstWhole};
-ghost use Rattle.ospl_grammar.specs.Reading.{IsOnly};
+ghost use Rattle.only_children.specs.Only.{IsOnly};
 
 use crate::jobs::read_jobs;
 use crate::process::Process;

@@ -2,7 +2,7 @@
 
 ghost use Rattle.std.specs.Prelude.{◌≡◌};
 ghost use Rattle.ospl_grammar.specs.Words as words;
-ghost use Rattle.ospl_grammar.specs.Reading.{IsOnly};
+ghost use Rattle.only_children.specs.Only.{IsOnly};
 
 use job_table::State;
 

@@ -1,7 +1,7 @@
 -- What is known of an answer that is there, or isn't.
 use Rattle.std.proofs.Common.{◌≡◌, ◌↔◌, Bool, true, false, Option, None, Some, subst}
 use Rattle.std.specs.Prelude.{IsTrue}
-use Rattle.ospl_grammar.specs.Reading.{IsOnly}
+use Rattle.only_children.specs.Only.{IsOnly}
 
 pub only_some : {X : Type 0} (P : X → Type 0) (o : Option X) (x : X) → o ≡ Some x → IsOnly P o → P x
 only_some {X} P o x is only = subst (λ (q : Option X). IsOnly P q) is only

@@ -1,0 +1,9 @@
+pub mod Enveloped
+pub mod Parted
+pub mod Called
+pub mod Replied
+pub mod OneCall
+pub mod OneAnswer
+pub mod Framed
+pub mod BackCalls
+pub mod BackAnswers

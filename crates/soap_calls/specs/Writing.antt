@@ -1,0 +1,63 @@
+-- The envelopes that calls and answers are written as (SOAP 1.1, sections 4 and 6), and their texts.
+use Rattle.std.specs.Prelude.{ℕ, List, [], ◌∷◌, ◌++◌, codes}
+use Rattle.tree_grammar.specs.Elements.{Attribute, Nodes, none, element, Element, Event, Open, Close}
+use Rattle.tree_grammar.specs.Written.{written}
+use Rattle.document_tags.specs.Writing.{only, leaf, group}
+use Rattle.soap_calls.specs.declared.call.Part.{Part}
+use Rattle.soap_calls.specs.declared.call.Part.TheVariants.{Osil, Ospl}
+use Rattle.soap_calls.specs.declared.call.SoapCall.{SoapCall}
+use Rattle.soap_calls.specs.declared.call.SoapCall.TheVariants.{Solve, GetJobId, Send, Retrieve, Knock, Kill}
+use Rattle.soap_calls.specs.Names.{kind_text, part_text, kind_of}
+
+abbrev pub soap : List Attribute
+soap = only (codes "xmlns:soap") (codes "http://schemas.xmlsoap.org/soap/envelope/")
+
+-- the namespace of the Optimization Services
+abbrev pub ours : List Attribute
+ours = only (codes "xmlns") (codes "os.optimizationservices.org")
+
+-- the envelope round what stands in its body
+abbrev pub frame : Nodes → Element
+frame inside = record { name = codes "soap:Envelope"; attributes = soap; children = group (codes "soap:Body") inside none }
+
+-- its start tags and its end tags
+abbrev pub frame_opening : List Event → List Event
+frame_opening behind = Open (codes "soap:Envelope") soap ∷ Open (codes "soap:Body") [] ∷ behind
+
+abbrev pub frame_closing : List Event → List Event
+frame_closing behind = Close (codes "soap:Body") ∷ Close (codes "soap:Envelope") ∷ behind
+
+-- an element of this name in that namespace
+abbrev pub ours_around : List ℕ → Nodes → Nodes
+ours_around name inside = element name ours inside none
+
+abbrev pub two_parts : Part → List ℕ → List ℕ → Nodes
+two_parts p text osol = leaf (part_text p) text (leaf (codes "osol") osol none)
+
+-- all parts of a call, in the order in which it takes them
+abbrev pub part_nodes : SoapCall → Nodes
+part_nodes (Solve osil osol) = two_parts Osil osil osol
+part_nodes (GetJobId osol) = leaf (codes "osol") osol none
+part_nodes (Send osil osol) = two_parts Osil osil osol
+part_nodes (Retrieve osol) = leaf (codes "osol") osol none
+part_nodes (Knock ospl osol) = two_parts Ospl ospl osol
+part_nodes (Kill osol) = leaf (codes "osol") osol none
+
+-- the text of a call
+abbrev pub call_text : SoapCall → List ℕ
+call_text c = written (frame (ours_around (kind_text (kind_of c)) (part_nodes c)))
+
+-- a response of this name, whose one element has that name and this text
+abbrev pub response_nodes : List ℕ → List ℕ → List ℕ → Nodes
+response_nodes response value text = ours_around response (leaf value text none)
+
+-- the text of the reply to the call of this name that returns this text
+abbrev pub reply_text : List ℕ → List ℕ → List ℕ
+reply_text name text = written (frame (response_nodes (name ++ codes "Response") (name ++ codes "Return") text))
+
+-- a fault with this code and this text
+abbrev pub fault_nodes : List ℕ → List ℕ → Nodes
+fault_nodes code text = group (codes "soap:Fault") (leaf (codes "faultcode") code (leaf (codes "faultstring") text none)) none
+
+abbrev pub fault_text : List ℕ → List ℕ → List ℕ
+fault_text code text = written (frame (fault_nodes (codes "soap:" ++ code) text))

@@ -1,0 +1,40 @@
+//! Envelopes.
+
+ghost use Rattle.std.specs.Prelude.{◌≡◌, IfOk, bytes_eq, codes};
+ghost use Rattle.tree_grammar.specs.Elements.{Element};
+ghost use Rattle.document_tags.specs.Spots.{Stands, IsSpot};
+ghost use Rattle.only_children.specs.Only.{only_element};
+ghost use Rattle.soap_calls.specs.Envelope as envelopes;
+
+use document_tags::Spot;
+use only_children::{elements, only, only_child};
+use os_io::Memory;
+use std::alloc::Global;
+
+/// Whether an element is an envelope.
+fn is_envelope(root: Spot<'_>) -> bool
+    ensures { (e : Element) → Stands root.entry e → result ≡ bytes_eq e.name (codes "Envelope") }
+{
+    root.name() == b"Envelope".as_slice()
+}
+
+/// The one element in another, if there is exactly one.
+pub(crate) fn sole<'t>(alloc: Global, spot: Spot<'t>) -> Result<Option<Spot<'t>>, Memory>
+    ensures { (e : Element) → Stands spot.entry e → IfOk result (λ r. IsSpot r (only_element e)) }
+{
+    let inside = elements(alloc, spot)?;
+    Ok(only(inside.as_slice()))
+}
+
+/// The one element in the one body of an envelope, if there is one.
+pub(crate) fn held<'t>(alloc: Global, root: Spot<'t>) -> Result<Option<Spot<'t>>, Memory>
+    ensures { (e : Element) → Stands root.entry e → IfOk result (λ r. IsSpot r (envelopes.held e)) }
+{
+    if !is_envelope(root) {
+        return Ok(None);
+    }
+    let Some(body) = only_child(alloc, root, b"Body")? else {
+        return Ok(None);
+    };
+    sole(alloc, body)
+}

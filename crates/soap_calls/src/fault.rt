@@ -1,0 +1,58 @@
+//! Why bytes are no call, and what answers a call.
+
+use crate::call::Part;
+use os_io::Text;
+use std::alloc::AllocError;
+
+/// Why bytes are no call. The first of these is told, and of parts the first that is refused.
+#[derive(Debug, Drop)]
+pub enum SoapFault {
+    /// They are no document within the limits, or no envelope with one body that has one element in it.
+    Envelope,
+    /// That element isn't one of the six calls. `name` is the beginning of its name, at most 64 bytes.
+    Call { name: Text },
+    /// The part stands twice, has an element in it, or is needed and doesn't stand there.
+    Part { part: Part },
+    /// There was no memory.
+    Memory,
+}
+
+/// What answers a call.
+#[derive(Debug, Drop)]
+pub enum Answer {
+    /// The text that it returns.
+    Return(Text),
+    /// A fault, with its code as it stands there, and its text.
+    Fault { code: Text, text: Text },
+}
+
+/// Why bytes answer no call.
+#[derive(Clone, Copy, PartialEq, Eq, Debug, Drop)]
+pub enum NotReply {
+    /// They aren't in the grammar of replies.
+    Form,
+    /// There was no memory.
+    Memory,
+}
+
+impl From<AllocError> for SoapFault {
+    ghost from_gives = { λ _ e. e ≡ Memory };
+
+    ghost use Rattle.std.specs.Prelude.{◌≡◌};
+    ghost use Rattle.soap_calls.specs.declared.fault.SoapFault.TheVariants.{Memory};
+
+    fn from(_e: AllocError) -> SoapFault {
+        SoapFault::Memory
+    }
+}
+
+impl From<AllocError> for NotReply {
+    ghost from_gives = { λ _ e. e ≡ Memory };
+
+    ghost use Rattle.std.specs.Prelude.{◌≡◌};
+    ghost use Rattle.soap_calls.specs.declared.fault.NotReply.TheVariants.{Memory};
+
+    fn from(_e: AllocError) -> NotReply {
+        NotReply::Memory
+    }
+}

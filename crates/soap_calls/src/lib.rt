@@ -1,0 +1,29 @@
+//! The six calls of the Optimization Services in SOAP envelopes, and what answers them (SOAP 1.1, sections 4 and 6).
+//!
+//! [`read_call`] gives the call that bytes are the envelope of, or why they are none, and [`write_call`] writes a call.
+//! [`write_reply`] and [`write_fault`] write what answers one, and [`read_reply`] reads that. What is written is read back:
+//! [`calls_are_read_back`], [`returns_are_read_back`], [`faults_are_read_back`].
+#![tactic(auto)]
+
+mod answering;
+mod call;
+mod calling;
+mod envelope;
+mod fault;
+mod kinds;
+mod laws;
+mod parts;
+mod replies;
+mod replying;
+mod telling;
+
+pub use call::{CallKind, Part, SoapCall};
+pub use calling::read_call;
+pub use fault::{Answer, NotReply, SoapFault};
+pub use laws::{
+    bytes_have_one_refusal, bytes_say_one_answer, bytes_say_one_call, calls_are_not_refused,
+    calls_are_read_back, faults_are_read_back, returns_are_read_back,
+};
+pub use replies::read_reply;
+pub use replying::{write_fault, write_reply};
+pub use telling::write_call;
