@@ -31,7 +31,7 @@ factor_fits false Min = refl
 factor_fits false Max = refl
 
 module _ (p : Parts) (cs : List Ends) (I : Instance) (cut : IsCutBy p cs I) where
-  rows_count : height I ≡ length p.rows
+  pub rows_count : height I ≡ length p.rows
   rows_count = ap length cut.rows ∙ length-map p.rows row
 
   module _ (es : List Ends) (long : length es ≡ length cs + length p.rows) (each : (c : ℕ) → c < length es → ranges_in es c ≡ range_at cs p.rows c) where

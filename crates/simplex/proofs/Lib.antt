@@ -11,3 +11,4 @@ pub mod Turned
 pub mod Looks
 pub mod Begun
 pub mod CutPrograms
+pub mod Finishing
