@@ -1,63 +1,73 @@
 -- The forms of the words of each command.
-use Rattle.std.proofs.Common.{◌≡◌, ◌∙◌, true, List, [], ◌∷◌, Some, ap, inl, inr, refl, sym, subst}
+use Rattle.std.proofs.Common.{◌≡◌, ◌∙◌, true, List, [], ◌∷◌, Some, ap, inl, inr, refl, subst}
 use Rattle.std.specs.Prelude.{codes}
 use Rattle.std.proofs.lemmas.Option.{none-some, same_Some}
 use Rattle.clap.specs.Walk.{Text}
 use Rattle.clap.specs.Faults.{fault_of}
-use Rattle.clap.specs.Simple.{subcommand_of}
+use Rattle.clap.specs.Simple.{Shape, subcommand_of}
 use Rattle.clap.proofs.OnLiterals.{clap_on_literals}
-use Rattle.command_line.specs.Forms.{StandFor, is_plain, ends, dashes, next}
+use Rattle.command_line.specs.Forms.{IsCallOf, StandFor, is_plain, ends, dashes, next}
 use Rattle.command_line.specs.Words.{Check, Command, HasCheckWords, HasSessionWords, IsCheck, IsSession, Session, asks, program}
 use Rattle.command_line.proofs.Flags.{some_fault}
-use Rattle.command_line.proofs.Commands.{answer, answers, asked_for, check_leaf, first_word, has_check, has_session, none_refused, session_shape}
+use Rattle.command_line.proofs.Commands.{HasCommand, answer, answers, asked_for, check_leaf, first_word, has_check, has_session, none_refused, session_shape}
 
--- the words of a command
-abbrev HasWords : Command → List Text → Type 0
-HasWords Session words = HasSessionWords words
-HasWords (Check osil osrl) words = HasCheckWords words osil osrl
+-- the word that calls a command, and the values that it is called with
+abbrev word_of : Command → Text
+word_of Session = codes "session"
+word_of (Check osil osrl) = codes "check"
+
+abbrev values_of : Command → List Text
+values_of Session = []
+values_of (Check osil osrl) = osil ∷ osrl ∷ []
 
 -- ---- words of these forms ask for the command
 
+answers_call : (command : Text) (s : Shape) (values words : List Text) → HasCommand command s → IsCallOf command values words → asks words ≡ answer command s values
+answers_call command s values words has call = ap asks call.are ∙ answers command s has call.name call.rest values call.stand
+
 pub words_of_session : (words : List Text) → HasSessionWords words → IsSession words
 unfolding clap_on_literals
-words_of_session words call = ap asks call.are ∙ answers (codes "session") session_shape has_session call.name call.rest [] call.stand
+words_of_session words call = answers_call (codes "session") session_shape [] words has_session call
 
 pub words_of_check : (words : List Text) (osil osrl : Text) → HasCheckWords words osil osrl → IsCheck words osil osrl
 unfolding clap_on_literals
-words_of_check words osil osrl call = ap asks call.are ∙ answers (codes "check") check_leaf has_check call.name call.rest (osil ∷ osrl ∷ []) call.stand
+words_of_check words osil osrl call = answers_call (codes "check") check_leaf (osil ∷ osrl ∷ []) words has_check call
 
 -- ---- words that ask for a command have its form
 
-session_takes : (name : Text) (rest values : List Text) (it : Command) → StandFor rest values → answer (codes "session") session_shape values ≡ Some it
-    → HasWords it (name ∷ codes "session" ∷ rest)
-unfolding clap_on_literals
-session_takes name rest [] it stand asked =
-    subst (λ (c : Command). HasWords c (name ∷ codes "session" ∷ rest)) (same_Some _ it asked) (record { name = name; rest = rest; are = refl; stand = stand })
-session_takes name rest (value ∷ values) it stand asked = absurd (none-some it asked)
+-- a command of this shape that takes these values is this one, called with them
+abbrev Takes : Text → Shape → Type 0
+Takes command s = (values : List Text) (it : Command) → answer command s values ≡ Some it → (command ≡ word_of it) × (values ≡ values_of it)
 
-check_takes : (name : Text) (rest values : List Text) (it : Command) → StandFor rest values → answer (codes "check") check_leaf values ≡ Some it
-    → HasWords it (name ∷ codes "check" ∷ rest)
+session_takes : Takes (codes "session") session_shape
 unfolding clap_on_literals
-check_takes name rest [] it stand asked = absurd (none-some it asked)
-check_takes name rest (osil ∷ []) it stand asked = absurd (none-some it asked)
-check_takes name rest (osil ∷ osrl ∷ []) it stand asked =
-    subst (λ (c : Command). HasWords c (name ∷ codes "check" ∷ rest)) (same_Some _ it asked) (record { name = name; rest = rest; are = refl; stand = stand })
-check_takes name rest (osil ∷ osrl ∷ value ∷ values) it stand asked = absurd (none-some it asked)
+session_takes [] it asked = (ap word_of (same_Some _ it asked), ap values_of (same_Some _ it asked))
+session_takes (value ∷ values) it asked = absurd (none-some it asked)
 
-words_are : (words : List Text) (it : Command) → asks words ≡ Some it → fault_of program words ≡ [] → HasWords it words
+check_takes : Takes (codes "check") check_leaf
+unfolding clap_on_literals
+check_takes [] it asked = absurd (none-some it asked)
+check_takes (osil ∷ []) it asked = absurd (none-some it asked)
+check_takes (osil ∷ osrl ∷ []) it asked = (ap word_of (same_Some _ it asked), ap values_of (same_Some _ it asked))
+check_takes (osil ∷ osrl ∷ value ∷ values) it asked = absurd (none-some it asked)
+
+called : (command : Text) (s : Shape) → HasCommand command s → Takes command s → (name word : Text) (rest : List Text) (it : Command)
+    → word ≡ command → asks (name ∷ word ∷ rest) ≡ Some it → IsCallOf (word_of it) (values_of it) (name ∷ word ∷ rest)
+called command s has takes name word rest it is asked =
+    let call = asked_for command s has name rest it (subst (λ (t : Text). asks (name ∷ t ∷ rest) ≡ Some it) is asked) in
+    let same = takes call.0 it call.2 in
+    record { name = name; rest = rest; are = ap (λ (t : Text). name ∷ t ∷ rest) (is ∙ same.0); stand = subst (λ (values : List Text). StandFor rest values) same.1 call.1 }
+
+words_are : (words : List Text) (it : Command) → asks words ≡ Some it → fault_of program words ≡ [] → IsCallOf (word_of it) (values_of it) words
 unfolding clap_on_literals
 words_are [] it asked none = absurd (some_fault _ _ none)
 words_are (name ∷ []) it asked none = absurd (some_fault _ _ none)
 words_are (name ∷ word ∷ rest) it asked none = elim (first_word name word rest none) [
-  | inl is ↦
-      let call = asked_for (codes "session") session_shape has_session name rest it (subst (λ (t : Text). asks (name ∷ t ∷ rest) ≡ Some it) is asked) in
-      subst (λ (t : Text). HasWords it (name ∷ t ∷ rest)) (sym is) (session_takes name rest call.0 it call.1 call.2)
-  | inr is ↦
-      let call = asked_for (codes "check") check_leaf has_check name rest it (subst (λ (t : Text). asks (name ∷ t ∷ rest) ≡ Some it) is asked) in
-      subst (λ (t : Text). HasWords it (name ∷ t ∷ rest)) (sym is) (check_takes name rest call.0 it call.1 call.2)
+  | inl is ↦ called (codes "session") session_shape has_session session_takes name word rest it is asked
+  | inr is ↦ called (codes "check") check_leaf has_check check_takes name word rest it is asked
 ]
 
-called_words : (it : Command) (words : List Text) → asks words ≡ Some it → HasWords it words
+called_words : (it : Command) (words : List Text) → asks words ≡ Some it → IsCallOf (word_of it) (values_of it) words
 unfolding asks
 called_words it words asked = words_are words it asked (none_refused (fault_of program words) (subcommand_of program words) it asked)
 
