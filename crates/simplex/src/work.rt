@@ -10,6 +10,7 @@ use crate::answer::{LpEnd, Turns};
 use crate::cuts::Cuts;
 use crate::ends::Ends;
 use crate::running::run_over;
+use crate::valued::zero;
 use dictionary::{Dict, Places, Steps};
 use fraction::{End, Frac};
 use instance::Instance;
@@ -56,9 +57,10 @@ impl Work {
         let ends = vec![in alloc; free; columns]?;
         let statuses = vec![in alloc; Status::Basic; columns]?;
         let rest = Places::with_size(alloc, columns)?;
-        let values = vec![in alloc; Frac::ZERO; columns]?;
-        let factors = vec![in alloc; Frac::ZERO; columns]?;
-        let movements = vec![in alloc; Frac::ZERO; vars]?;
+        let none = zero();
+        let values = vec![in alloc; none; columns]?;
+        let factors = vec![in alloc; none; columns]?;
+        let movements = vec![in alloc; none; vars]?;
         Ok(Work {
             dict,
             ends,
