@@ -36,6 +36,10 @@ looked_at false Came came turns h = (
   (λ t looks ss a. inr (inr (h, (λ e. let l : looks + 1 < looks + 1 = subst (λ s. IsAfter (looks + 1) s) e a in omega arith), refl))),
 )
 
+-- the same statuses by another name
+pub passes_to : (t : Terms) (c d : Clock) (ss zs : List Status) → zs ≡ ss → Passes t c ss (To (record { statuses = ss; clock = d })) → Passes t c ss (To (record { statuses = zs; clock = d }))
+passes_to t c d ss zs e p = subst (λ (z : List Status). Passes t c ss (To (record { statuses = z; clock = d }))) (sym e) p
+
 module _ (d e : Dict) (ss : List Status) (s : AreStatuses d ss) where
   -- the statuses after a swap are those of the dictionary after its pivot
   pub swapped_statuses : (w : Swap) → IsSwap ss (entry_of d) w → HaveOneSize d e → ((c : ℕ) → basic_of e c ≡ exchanged (basic_of d) w.basic w.nonbasic c) → AreStatuses e (pivoted ss w.basic w.nonbasic w.status)
