@@ -1,4 +1,4 @@
-use Rattle.std.proofs.Common.{◌≡◌, List, length, sym, ◌∙◌, subst}
+use Rattle.std.proofs.Common.{List, length, sym, ◌∙◌, subst}
 use Rattle.std.specs.Vec.{with_items}
 use Rattle.std.proofs.lemmas.List.{with_items_is}
 use Rattle.simplex_rules.specs.Ends.{End}
@@ -21,11 +21,10 @@ returns-clause-run g c =
     (sym c.requires.vars ∙ sym c.run_over.ensures.size.width) (sym c.requires.rows ∙ sym c.run_over.ensures.size.height)
     (sym (with_items_is c.args.self.now.values c.run_over.new.values (c.run_over.auto.values ∙ c.as_mut_slice-3.ensures.len)))
     (sym (with_items_is c.args.self.now.factors c.run_over.new.factors (c.run_over.auto.factors ∙ c.as_mut_slice-4.ensures.len)))
-    (sym (with_items_is c.args.self.now.movements c.run_over.new.movements (c.run_over.auto.movements ∙ c.as_mut_slice-5.ensures.len))) in
-    (
+    (sym (with_items_is c.args.self.now.movements c.run_over.new.movements (c.run_over.auto.movements ∙ c.as_mut_slice-5.ensures.len))) in (
       p.0,
       p.1,
       (λ I t looks cut most tells.
-      subst (λ (e : End). Run I c.args.zero_goal t (record { turns = c.args.turns.now.done; looks = looks }) e (record { turns = c.run_over.new.turns.done; looks = looks_after looks p.0 (was_stopped c.run_over.result) })) same
-      (p.2 I t looks (subst (λ (cs : List Ends). IsCutBy c.args.instance.now cs I) (sym c.as_slice.ensures) cut) most tells)),
+          subst (λ (e : End). Run I c.args.zero_goal t (record { turns = c.args.turns.now.done; looks = looks }) e (record { turns = c.run_over.new.turns.done; looks = looks_after looks p.0 (was_stopped c.run_over.result) })) same
+          (p.2 I t looks (subst (λ (cs : List Ends). IsCutBy c.args.instance.now cs I) (sym c.as_slice.ensures) cut) most tells)),
     )
