@@ -1,9 +1,9 @@
 -- The bound in memory is that of the definitions.
-use Rattle.std.proofs.Common.{◌≡◌, ℕ, suc, ◌+◌, ◌<◌, ◌≤◌, pos, Bool, true, false, cond, List, length, refl, sym, ◌∙◌, ap, ap₂, subst, arith}
+use Rattle.std.proofs.Common.{◌≡◌, ℕ, suc, ◌≤◌, pos, true, cond, List, length, sym, ◌∙◌, ap, ap₂, subst, arith}
 use Rattle.std.proofs.Math.ListN.{get_or-eq_default}
-use Rattle.rational.specs.Ratio.{Ratio, sum, product, IsSame}
+use Rattle.rational.specs.Ratio.{Ratio, sum, product}
 use Rattle.evidence.specs.Sums.{none, total}
-use Rattle.evidence.specs.Width.{TermFits, StatedFits}
+use Rattle.evidence.specs.Width.{StatedFits}
 use Rattle.evidence.specs.Instance.{Range, Instance, HasNumbers, column_at, minimising}
 use Rattle.evidence.proofs.Columns.{by_bool, by_lt}
 use Rattle.evidence.proofs.Numbers.{sum-none}
@@ -18,7 +18,7 @@ use Rattle.simplex_rules.proofs.Facts.{rest-number}
 use Rattle.simplex.specs.declared.ends.Ends.{Ends}
 use Rattle.dictionary.specs.declared.dict.Dict.{Dict}
 use Rattle.dictionary.specs.declared.places.Places.{Places}
-use Rattle.dictionary.specs.Dict.{width_of, height_of, columns_of, basic_of, entry_of, values_of}
+use Rattle.dictionary.specs.Dict.{columns_of, basic_of, entry_of, values_of}
 use Rattle.simplex.specs.Cuts.{ranges_in, AreEndsOf}
 use Rattle.simplex.specs.Held.{AreStatuses, HasSizeOf}
 use Rattle.simplex.specs.Valued.{cost_in, AreTerms, AreResting}

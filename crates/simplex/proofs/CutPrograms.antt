@@ -1,25 +1,22 @@
 -- Programs with cut ends: their columns, and the rows that a dictionary is loaded with.
-use Rattle.std.proofs.Common.{w8, to_z, of_z, ◌≡◌, ℕ, zero, suc, ◌+◌, ◌-◌, ◌<◌, ◌≤◌, ℤ, pos, negsuc, Bool, true, false, cond, nat_lt, Option, None, Some, List, length, map, get_or, refl, sym, ◌∙◌, ap, ap₂, subst, arith}
+use Rattle.std.proofs.Common.{w8, to_z, of_z, ◌≡◌, ℕ, ◌+◌, ◌-◌, ◌<◌, ◌≤◌, ℤ, Bool, true, false, cond, nat_lt, Option, List, length, map, get_or, refl, sym, ◌∙◌, ap, ap₂, subst, arith}
 use Rattle.std.proofs.Math.Path.{fun_ext}
 use Rattle.std.proofs.Math.ListN.{get_or-eq_default}
 use Rattle.std.proofs.lemmas.List.{length-map}
 use Rattle.std.proofs.lemmas.Bool.{lt-ltb, le-ltb}
-use Rattle.rational.specs.Ratio.{Ratio, negative}
+use Rattle.rational.specs.Ratio.{Ratio}
 use Rattle.fraction.specs.Frac.{ratio, ratios}
 use Rattle.fraction.specs.declared.frac.Frac.{Frac}
 use Rattle.fraction.specs.declared.ends.Entry.{Entry}
 use Rattle.evidence.specs.Sums.{none}
-use Rattle.evidence.specs.Instance as Of
-use Rattle.evidence.specs.Instance.{Range, Instance, Goal, free, width, height, variable_at, row_at, column_at, entry_at, minimising_by, minimising}
+use Rattle.evidence.specs.Instance.{Instance, Goal, free, width, height, variable_at, row_at, column_at, entry_at, minimising_by, minimising}
 use Rattle.evidence.specs.Point.{value_at}
 use Rattle.evidence.proofs.Columns.{by_lt}
 use Rattle.instance.specs.declared.parts.Sense.{Sense}
 use Rattle.instance.specs.declared.parts.Sense.TheVariants.{Min, Max}
-use Rattle.instance.specs.declared.parts.Row.{Row}
 use Rattle.instance.specs.Parts.{Parts}
 use Rattle.instance.specs.Program.{program, row, sense, entries}
-use Rattle.bases.specs.Dictionary.{Entries}
-use Rattle.bases.specs.Program.{goal_column, goal_row, rows_with_goal}
+use Rattle.bases.specs.Program.{goal_row, rows_with_goal}
 use Rattle.simplex.specs.declared.ends.Ends.{Ends}
 use Rattle.dictionary.specs.Loaded.{rows_of, times_sign}
 use Rattle.simplex.specs.Loading.{factor_of, IsStart}

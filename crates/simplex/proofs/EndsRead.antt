@@ -1,7 +1,7 @@
 -- Ends in memory.
 use Rattle.std.proofs.Common.{◌≡◌, ℕ, ◌<◌, List, length, get_or, sym, ◌∙◌, ap}
 use Rattle.std.proofs.lemmas.List.{get_or-map}
-use Rattle.evidence.specs.Instance.{Range, free}
+use Rattle.evidence.specs.Instance.{free}
 use Rattle.simplex.specs.declared.ends.Ends.{Ends}
 use Rattle.simplex.specs.Cuts.{range_of, ranges_in}
 

@@ -1,5 +1,5 @@
 -- The values in memory are those of the definitions.
-use Rattle.std.proofs.Common.{◌≡◌, ℕ, ◌+◌, ◌<◌, ◌≤◌, Bool, true, false, List, [], ◌∷◌, length, map, get_or, zero, suc, IfSome, refl, sym, ◌∙◌, ap, subst, arith}
+use Rattle.std.proofs.Common.{◌≡◌, ℕ, ◌<◌, true, List, [], ◌∷◌, length, zero, suc, IfSome, sym, ◌∙◌, ap, subst, arith}
 use Rattle.std.proofs.Math.ListN.{get_or-eq_default}
 use Rattle.std.proofs.lemmas.List.{length-map}
 use Rattle.rational.specs.Ratio.{Ratio, IsNumber, IsSame}
@@ -8,11 +8,10 @@ use Rattle.fraction.specs.declared.frac.Frac.{Frac}
 use Rattle.fraction.specs.declared.ends.End.{End}
 use Rattle.fraction.specs.declared.ends.End.TheVariants.{NegInf, At, Inf}
 use Rattle.evidence.specs.Sums.{none}
-use Rattle.evidence.specs.Instance.{Range, Instance, HasNumbers, free, column_at}
-use Rattle.evidence.specs.Cases.{or_none}
+use Rattle.evidence.specs.Instance.{Range, Instance, HasNumbers, column_at}
 use Rattle.evidence.proofs.Numbers.{≈-from}
 use Rattle.instance.specs.Program.{limit}
-use Rattle.bases.specs.Dictionary.{Values, value_by}
+use Rattle.bases.specs.Dictionary.{value_by}
 use Rattle.bases.specs.Program.{goal_column, columns}
 use Rattle.bases.specs.Pivot.{ValueFits}
 use Rattle.simplex_rules.specs.declared.columns.Status.{Status}
@@ -22,8 +21,8 @@ use Rattle.simplex_rules.proofs.Facts.{rest-number}
 use Rattle.simplex.specs.declared.ends.Ends.{Ends}
 use Rattle.dictionary.specs.declared.dict.Dict.{Dict}
 use Rattle.dictionary.specs.declared.places.Places.{Places}
-use Rattle.dictionary.specs.Dict.{width_of, height_of, columns_of, entry_of, values_of, Rest}
-use Rattle.simplex.specs.Cuts.{range_of, ranges_in, AreEndsOf}
+use Rattle.dictionary.specs.Dict.{columns_of, entry_of, values_of, Rest}
+use Rattle.simplex.specs.Cuts.{ranges_in, AreEndsOf}
 use Rattle.simplex.specs.Held.{AreStatuses, HasSizeOf, values_in}
 use Rattle.simplex.specs.Valued.{IsColumnValue, AreResting}
 use Rattle.simplex.proofs.Slots.{value_reduced}

@@ -1,10 +1,10 @@
 -- What a choice says of what comes next, and so of what that is part of.
 use Rattle.std.proofs.Common.{List}
-use Rattle.evidence.specs.Instance.{Instance, width, height}
+use Rattle.evidence.specs.Instance.{Instance, width}
 use Rattle.bases.specs.Dictionary.{Entries, Values, IsDictionary}
 use Rattle.bases.specs.Program.{rows_with_goal}
 use Rattle.bases.proofs.Lists.{same_basis}
-use Rattle.std.proofs.Common.{◌≡◌, ℕ, ◌+◌, ◌<◌, Bool, sym, subst, arith}
+use Rattle.std.proofs.Common.{◌+◌, Bool, sym, subst}
 use Rattle.simplex_rules.specs.declared.columns.Status.{Status}
 use Rattle.simplex_rules.specs.Statuses.{basic_in, HasDictionary}
 use Rattle.simplex_rules.specs.Ends.{Terms, Clock}

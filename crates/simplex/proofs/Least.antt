@@ -1,17 +1,13 @@
 -- Limits in memory, and the least of them.
-use Rattle.std.proofs.Common.{◌≡◌, ℕ, ◌+◌, ◌<◌, ◌≤◌, ℤ, pos, negsuc, ◌*ℤ◌, ◌<ℤ◌, ◌≤ℤ◌, Bool, true, false, Option, None, Some, Result, Ok, Err, OnErr, IfOk, refl, sym, ◌∙◌, ap, subst, arith, below_more}
-use Rattle.std.proofs.Math.Nat.{mul-pos}
+use Rattle.std.proofs.Common.{◌≡◌, ℕ, ◌+◌, ◌<◌, ℤ, pos, ◌*ℤ◌, ◌<ℤ◌, true, false, Option, None, Some, Result, Ok, Err, OnErr, IfOk, sym, ◌∙◌, ap, subst, arith, below_more}
 use Rattle.std.proofs.lemmas.Int.{ints}
 use Rattle.std.specs.Prelude.{int_lt}
-use Rattle.rational.specs.Ratio.{Ratio, sum, product, negative, inverse, quotient, IsNumber, IsSame, IsBelow, IsAtMost}
+use Rattle.rational.specs.Ratio.{Ratio, sum, negative, inverse, quotient, IsNumber, IsSame, IsBelow, IsAtMost}
 use Rattle.rational.specs.Width.{ReducedFits, SumFits}
 use Rattle.fraction.specs.Frac.{ratio}
 use Rattle.fraction.specs.declared.frac.Frac.{Frac}
-use Rattle.fraction.specs.declared.ends.End.{End}
-use Rattle.fraction.specs.declared.ends.End.TheVariants.{At}
-use Rattle.instance.specs.Program.{limit}
-use Rattle.evidence.specs.Sums.{none, is_below}
-use Rattle.evidence.proofs.Numbers.{◌≈◌, ◌≲◌, ◌⋖◌, ≈-refl, ≈-sym, ◌⊙◌, product-≈, product-number, sum-number, ≲-from, ⋖-≲, ≲-⋖, ≲-trans}
+use Rattle.evidence.specs.Sums.{is_below}
+use Rattle.evidence.proofs.Numbers.{◌≈◌, ◌≲◌, ◌⋖◌, ≈-refl, ≈-sym, ◌⊙◌, product-≈, sum-number, ≲-from, ⋖-≲, ≲-⋖, ≲-trans}
 use Rattle.evidence.proofs.Fits.{reduced_same}
 use Rattle.evidence.proofs.Columns.{by_lt}
 use Rattle.evidence.proofs.Inverses.{inverse-number}
@@ -28,8 +24,8 @@ use Rattle.simplex_rules.specs.Statuses.{basic_in}
 use Rattle.bases.specs.Program.{goal_column}
 use Rattle.simplex.specs.Cuts.{ranges_in, AreEndsOf}
 use Rattle.simplex.specs.declared.limits.Limit.{Limit}
-use Rattle.simplex_rules.specs.Turns.{rate, IsFirstLeast, until_end, limit_one, NoLimit, IsFirstLimit}
-use Rattle.simplex_rules.specs.Widths.{UntilFits, EndFits, OneFits, LimitsFit}
+use Rattle.simplex_rules.specs.Turns.{rate, IsFirstLeast, limit_one, NoLimit, IsFirstLimit}
+use Rattle.simplex_rules.specs.Widths.{UntilFits, OneFits, LimitsFit}
 use Rattle.simplex.specs.Limits.{IsTold, IsLimit, IsFirst, IsBestOf}
 use Rattle.simplex_rules.proofs.Facts.{not_below, below_no}
 

@@ -1,8 +1,8 @@
 -- What the first limit says of its column.
-use Rattle.std.proofs.Common.{◌≡◌, ℕ, ℤ, zero, suc, pos, negsuc, neg_ℤ, Bool, true, false, nat_eq, Option, None, Some, MatchOption, List, refl, sym, ◌∙◌, ap, subst}
+use Rattle.std.proofs.Common.{◌≡◌, ℕ, pos, neg_ℤ, true, Option, None, Some, MatchOption, List, refl, sym, ◌∙◌, ap, subst}
 use Rattle.std.proofs.lemmas.Bool.{ne_eqb}
 use Rattle.rational.specs.Ratio.{Ratio}
-use Rattle.evidence.specs.Instance.{Range, Instance, column_at}
+use Rattle.evidence.specs.Instance.{Instance, column_at}
 use Rattle.bases.specs.Dictionary.{Entries, Values}
 use Rattle.simplex_rules.specs.declared.columns.Status.{Status}
 use Rattle.simplex_rules.specs.declared.columns.Way.{Way}

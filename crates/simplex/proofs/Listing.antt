@@ -1,12 +1,11 @@
 -- Lists of the first values.
-use Rattle.std.proofs.Common.{◌≡◌, ℕ, zero, suc, ◌+◌, ◌<◌, ◌≤◌, List, [], ◌∷◌, ◌++◌, length, get_or, refl, sym, ◌∙◌, ap, ap₂, arith}
+use Rattle.std.proofs.Common.{◌≡◌, ℕ, zero, suc, ◌<◌, [], ◌∷◌, ◌++◌, length, refl, sym, ◌∙◌, ap, ap₂, arith}
 use Rattle.std.proofs.Math.Seq.{get_or-append_seam}
 use Rattle.std.proofs.lemmas.List.{get_or_append_left, length-append}
 use Rattle.rational.specs.Ratio.{Ratio}
 use Rattle.evidence.specs.Sums.{none}
 use Rattle.evidence.specs.Instance.{Instance, width}
 use Rattle.evidence.specs.Point.{value_at}
-use Rattle.evidence.specs.Cases.{Multiplier}
 use Rattle.evidence.proofs.Columns.{by_eq}
 use Rattle.bases.specs.Dictionary.{Values}
 use Rattle.simplex_rules.specs.Reports.{AreValues, collected, one_of}

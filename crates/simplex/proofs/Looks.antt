@@ -1,5 +1,5 @@
 -- Looks after looks.
-use Rattle.std.proofs.Common.{◌≡◌, ℕ, zero, suc, ◌+◌, ◌<◌, Bool, true, false, Option, None, Some, List, [], ◌∷◌, ◌++◌, append_assoc, sym, ◌∙◌, ap, subst, arith}
+use Rattle.std.proofs.Common.{◌≡◌, ℕ, zero, suc, ◌+◌, Bool, true, false, Option, None, Some, [], ◌∷◌, ◌++◌, append_assoc, sym, ◌∙◌, ap, subst, arith}
 use Rattle.simplex_rules.specs.Looks.{went_on, answers, IsAfter, Tells, looks_after}
 
 went_more : (n k : ℕ) → went_on n ++ went_on k ≡ went_on (n + k)

@@ -1,16 +1,16 @@
 -- Any ends are those of some program; what a help says of its entry.
-use Rattle.std.proofs.Common.{◌≡◌, ℕ, ◌+◌, ◌-◌, ◌<◌, ◌≤◌, ℤ, pos, neg_ℤ, ◌<ℤ◌, Bool, List, [], length, map, get_or, refl, sym, ◌∙◌, ap, subst, arith, Option, None, Some, MatchOption}
+use Rattle.std.proofs.Common.{◌≡◌, ◌-◌, ◌≤◌, pos, neg_ℤ, ◌<ℤ◌, List, [], map, refl, subst, arith, Option, None, Some, MatchOption}
 use Rattle.std.proofs.lemmas.List.{length-map}
 use Rattle.std.proofs.lemmas.Bool.{le-ltb}
 use Rattle.std.proofs.lemmas.Int.{ints}
 use Rattle.rational.specs.Ratio.{Ratio}
 use Rattle.evidence.specs.Sums.{none}
-use Rattle.evidence.specs.Instance.{Instance, Minimum, column_at, free}
+use Rattle.evidence.specs.Instance.{Instance, Minimum}
 use Rattle.simplex_rules.specs.declared.columns.Way.{Way}
 use Rattle.simplex_rules.specs.declared.columns.Way.TheVariants.{Rise, Fall}
 use Rattle.simplex.specs.declared.ends.Ends.{Ends}
 use Rattle.simplex_rules.specs.Turns.{rate, Moves}
-use Rattle.simplex.specs.Cuts.{range_of, ranges_in, AreEndsOf}
+use Rattle.simplex.specs.Cuts.{range_of, AreEndsOf}
 
 pub plain : List Ends → Instance
 plain es = record { variables = []; rows = map range_of es; entries = []; goal = record { sense = Minimum; constant = none; costs = [] } }

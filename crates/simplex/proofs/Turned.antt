@@ -1,9 +1,8 @@
 -- What is left after a turn.
-use Rattle.std.proofs.Common.{◌≡◌, ℕ, ◌+◌, ◌<◌, Bool, true, false, cond, Option, None, Some, IfSome, List, [], ◌∷◌, length, inl, inr, refl, sym, ◌∙◌, ap, subst, arith, length-set}
+use Rattle.std.proofs.Common.{◌≡◌, ℕ, ◌+◌, ◌<◌, Bool, true, false, Some, List, [], ◌∷◌, length, inl, inr, refl, sym, ◌∙◌, ap, subst, arith, length-set}
 use Rattle.std.specs.Prelude.{slice_set}
 use Rattle.std.proofs.lemmas.List.{get_or-set_same, get_or-set_other}
 use Rattle.evidence.proofs.Columns.{by_eq}
-use Rattle.bases.specs.Dictionary.{Entries}
 use Rattle.bases.specs.Pivot.{exchanged}
 use Rattle.bases.proofs.Pivots.{exchanged_own, exchanged_left, exchanged_other}
 use Rattle.simplex_rules.specs.declared.columns.Status.{Status}
@@ -16,8 +15,8 @@ use Rattle.simplex_rules.specs.Looks.{answers, IsAfter, Tells, looks_after}
 use Rattle.dictionary.specs.declared.dict.Dict.{Dict}
 use Rattle.simplex.specs.declared.choosing.Swap.{Swap}
 use Rattle.simplex.specs.declared.choosing.Flip.{Flip}
-use Rattle.dictionary.specs.Dict.{width_of, height_of, columns_of, basic_of, entry_of, Holds, HaveOneSize}
-use Rattle.simplex.specs.Held.{AreStatuses, AreHeld}
+use Rattle.dictionary.specs.Dict.{columns_of, basic_of, entry_of, HaveOneSize}
+use Rattle.simplex.specs.Held.{AreStatuses}
 use Rattle.simplex.specs.Chosen.{IsSwap, IsFlip}
 use Rattle.simplex.specs.Finished.{passed}
 
@@ -35,6 +34,10 @@ looked_at false Came came turns h = (
   came,
   (λ t looks ss a. inr (inr (h, (λ e. let l : looks + 1 < looks + 1 = subst (λ s. IsAfter (looks + 1) s) e a in omega arith), refl))),
 )
+
+-- the same statuses by another name
+pub passes_to : (t : Terms) (c d : Clock) (ss zs : List Status) → zs ≡ ss → Passes t c ss (To (record { statuses = ss; clock = d })) → Passes t c ss (To (record { statuses = zs; clock = d }))
+passes_to t c d ss zs e p = subst (λ (z : List Status). Passes t c ss (To (record { statuses = z; clock = d }))) (sym e) p
 
 module _ (d e : Dict) (ss : List Status) (s : AreStatuses d ss) where
   -- the statuses after a swap are those of the dictionary after its pivot

@@ -1,12 +1,10 @@
 -- The end of a run, as an answer and lists of numbers tell it.
 use Rattle.std.specs.Prelude.{ℕ, zero, suc, Bool, true, false, List, [], ◌∷◌, ◌++◌}
 use Rattle.rational.specs.Ratio.{Ratio}
-use Rattle.fraction.specs.Frac.{ratio, ratios}
-use Rattle.evidence.specs.Point.{value_at}
+use Rattle.fraction.specs.Frac.{ratio}
 use Rattle.evidence.specs.Cases.{Multiplier}
 use Rattle.bases.specs.Dictionary.{Values}
 use Rattle.simplex_rules.specs.Ends.{End, Clash, Empty, Best, Endless, TurnsOut, TooWide, Stopped}
-use Rattle.simplex_rules.specs.Reports.{collected}
 use Rattle.simplex.specs.declared.answer.LpEnd.{LpEnd}
 use Rattle.simplex.specs.declared.answer.LpEnd.TheVariants as Has
 

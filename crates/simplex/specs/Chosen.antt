@@ -1,6 +1,5 @@
 -- What a choice at a moment says of what comes next.
-use Rattle.std.specs.Prelude.{◌≡◌, ◌≢◌, ℕ, ◌<◌, true, false, pos, List, length, slice_set}
-use Rattle.rational.specs.Ratio.{Ratio}
+use Rattle.std.specs.Prelude.{◌≡◌, ◌≢◌, ◌<◌, true, false, pos, List, length, slice_set}
 use Rattle.evidence.specs.Instance.{Instance}
 use Rattle.bases.specs.Dictionary.{Entries, Values}
 use Rattle.bases.specs.Pivot.{PivotFits}

@@ -1,5 +1,5 @@
 -- The programs of a node: an instance with other ends of its variables.
-use Rattle.std.specs.Prelude.{◌≡◌, ℕ, ◌+◌, ◌<◌, ◌-◌, cond, nat_lt, List, length, map, get_or}
+use Rattle.std.specs.Prelude.{◌≡◌, ℕ, ◌<◌, ◌-◌, cond, nat_lt, List, length, map, get_or}
 use Rattle.evidence.specs.Instance.{Range, Instance, free, width, variable_at, column_at}
 use Rattle.bases.specs.Program.{goal_column}
 use Rattle.instance.specs.declared.parts.Row.{Row}

@@ -1,6 +1,5 @@
 -- How the turns of a run finish, and what that makes of its end.
-use Rattle.std.specs.Prelude.{◌≡◌, ℕ, ◌+◌, ◌<◌, ◌≤◌, Bool, true, false, Option, None, Some, List, length}
-use Rattle.rational.specs.Ratio.{Ratio}
+use Rattle.std.specs.Prelude.{◌≡◌, ◌+◌, ◌<◌, ◌≤◌, Bool, true, false, Option, None, Some, List, length}
 use Rattle.fraction.specs.Frac.{ratio}
 use Rattle.evidence.specs.Instance.{Instance, width}
 use Rattle.bases.specs.Dictionary.{Entries, Values}

@@ -1,5 +1,5 @@
 -- What the memory for runs has.
-use Rattle.std.specs.Prelude.{◌≡◌, ℕ, ◌+◌, List}
+use Rattle.std.specs.Prelude.{ℕ, ◌+◌, List}
 use Rattle.rational.specs.Ratio.{Ratio}
 use Rattle.evidence.specs.Cases.{Multiplier}
 use Rattle.bases.specs.Dictionary.{Values}

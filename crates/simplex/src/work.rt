@@ -10,6 +10,7 @@ use crate::answer::{LpEnd, Turns};
 use crate::cuts::Cuts;
 use crate::ends::Ends;
 use crate::running::run_over;
+use crate::valued::zero;
 use dictionary::{Dict, Places, Steps};
 use fraction::{End, Frac};
 use instance::Instance;
@@ -56,9 +57,10 @@ impl Work {
         let ends = vec![in alloc; free; columns]?;
         let statuses = vec![in alloc; Status::Basic; columns]?;
         let rest = Places::with_size(alloc, columns)?;
-        let values = vec![in alloc; Frac::ZERO; columns]?;
-        let factors = vec![in alloc; Frac::ZERO; columns]?;
-        let movements = vec![in alloc; Frac::ZERO; vars]?;
+        let none = zero();
+        let values = vec![in alloc; none; columns]?;
+        let factors = vec![in alloc; none; columns]?;
+        let movements = vec![in alloc; none; vars]?;
         Ok(Work {
             dict,
             ends,
@@ -70,8 +72,13 @@ impl Work {
         })
     }
 
-    /// Runs the linear program of an instance with these ends of its variables, from the first basis to its end, without the
-    /// wholeness of variables; with `zero_goal` only a point within all ends is asked for, and the goal is 0.
+    /// Runs the linear program of an instance with these ends of its variables, from the first basis to its end. That some
+    /// variables are to be whole is nothing to it; with `zero_goal` the goal is 0, so that any point within all ends is best.
+    ///
+    /// The answer is the end of the run for each program of these ends, with the point, the multipliers and the direction that
+    /// [`Work::point_at`], [`Work::mult_at`] and [`Work::ray_at`] tell then. `turns.done` counts the turns of the whole search: it
+    /// rises by the run's turns, at most to `turns.most`, and after each turn whose number is a multiple of 64 there is a look.
+    /// The run ends by [`LpEnd::Stopped`] exactly where one of its looks said to stop, which is then the last.
     pub fn run<W: Watch, L: Ledger>(
         &mut self,
         instance: &Instance,

@@ -1,4 +1,4 @@
-use Rattle.std.proofs.Common.{◌≡◌, ℕ, ◌+◌, ◌<◌, ◌≤◌, length, below_more, subst, sym, ◌∙◌, arith}
+use Rattle.std.proofs.Common.{◌<◌, length, below_more, subst, sym, ◌∙◌, arith}
 use Rattle.evidence.specs.Cases.{IsEmpty}
 use Rattle.simplex.specs.Cuts.{ranges_in}
 use Rattle.simplex.proofs.EndsRead.{read_range}

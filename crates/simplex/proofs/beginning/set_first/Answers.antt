@@ -1,4 +1,4 @@
-use Rattle.std.proofs.Common.{◌≡◌, ◌<◌, ◌≤◌, cond, nat_lt, length, sym, ◌∙◌, ap, arith}
+use Rattle.std.proofs.Common.{cond, nat_lt, sym, ◌∙◌, ap, arith}
 use Rattle.std.specs.Prelude.{slice_set}
 use Rattle.std.proofs.lemmas.List.{get_or-set_same, get_or-set_other}
 use Rattle.evidence.specs.Instance.{Range}

@@ -2,7 +2,6 @@ use Rattle.std.proofs.Common.{◌≡◌, Bool, true, false, Option, inl, inr, re
 use Rattle.rational.specs.Ratio.{Ratio, IsSame}
 use Rattle.fraction.specs.Frac.{ratio}
 use Rattle.fraction.specs.declared.frac.Frac.{Frac}
-use Rattle.evidence.specs.Sums.{none}
 use Rattle.evidence.specs.Instance.{width, minimising}
 use Rattle.bases.specs.Program.{goal_column}
 use Rattle.simplex_rules.specs.Statuses.{resting}

@@ -1,4 +1,4 @@
-use Rattle.std.proofs.Common.{◌≡◌, ◌<◌, sym, ◌∙◌}
+use Rattle.std.proofs.Common.{sym, ◌∙◌}
 use Rattle.fraction.specs.Frac.{ratio}
 use Rattle.evidence.proofs.Steps.{more, wide, no_term}
 use Rattle.instance.proofs.Terms.{at_err}

@@ -1,4 +1,4 @@
-use Rattle.std.proofs.Common.{◌≡◌, ◌<◌, inl, inr, refl, arith}
+use Rattle.std.proofs.Common.{inl, inr, refl, arith}
 use Rattle.evidence.specs.Sums.{none}
 use Rattle.simplex_rules.specs.Runs.{Repairs, Improves, IsNext}
 use Rattle.dictionary.specs.Dict.{entry_of}

@@ -1,6 +1,5 @@
-use Rattle.std.proofs.Common.{◌≡◌, ◌<◌, length, inl, inr, sym, ◌∙◌, subst, arith}
+use Rattle.std.proofs.Common.{◌≡◌, inr, sym, ◌∙◌, subst, arith}
 use Rattle.evidence.specs.Sums.{none}
-use Rattle.evidence.specs.Instance.{Instance}
 use Rattle.bases.specs.Program.{goal_column}
 use Rattle.simplex_rules.specs.declared.columns.Way.TheVariants.{Fall}
 use Rattle.simplex_rules.specs.Turns.{NoneHelps, IsFirstHelp}

@@ -1,4 +1,4 @@
-use Rattle.std.proofs.Common.{◌≡◌, ◌<◌, length, List, inl, inr, refl, sym, ◌∙◌, ap, subst, arith}
+use Rattle.std.proofs.Common.{◌≡◌, ◌<◌, length, inl, inr, refl, sym, ◌∙◌, ap, subst, arith}
 use Rattle.evidence.specs.Sums.{none}
 use Rattle.evidence.specs.Instance.{column_at}
 use Rattle.bases.specs.Pivot.{PivotFits}

@@ -1,9 +1,9 @@
-use Rattle.std.proofs.Common.{◌≡◌, ℕ, ◌+◌, Bool, Option, None, Some, sym, ◌∙◌, ap, subst, arith}
+use Rattle.std.proofs.Common.{◌≡◌, ℕ, ◌+◌, Bool, sym, ◌∙◌, ap, subst, arith}
 use Rattle.simplex_rules.specs.Runs.{Out, IsNext}
 use Rattle.simplex_rules.specs.Looks.{answers, looks_after}
 use Rattle.dictionary.specs.Dict.{entry_of}
 use Rattle.simplex.specs.Held.{values_in}
-use Rattle.simplex.specs.Finished.{is_stop, stops_at, next_at, end_at}
+use Rattle.simplex.specs.Finished.{stops_at, next_at, end_at}
 use Rattle.simplex.proofs.going.make_turn.Goals as goal
 
 pub returns-in-Swap-clause-turn : goal.returns-in-Swap-clause-turn

@@ -1,8 +1,7 @@
-use Rattle.std.proofs.Common.{◌≡◌, ℕ, ◌+◌, ◌<◌, ◌≤◌, Bool, false, List, refl, sym, ◌∙◌, ap, subst, arith}
-use Rattle.evidence.specs.Instance.{Instance, width, height}
-use Rattle.simplex_rules.specs.Ends.{Terms, Clock}
-use Rattle.simplex_rules.specs.Runs.{Moment, To, Out, Comes, begins, goes_on, IsNext}
-use Rattle.simplex_rules.specs.Looks.{went_on, answers, looks_after}
+use Rattle.std.proofs.Common.{◌≡◌, ℕ, ◌+◌, Bool, false, List, refl, sym, ◌∙◌, subst, arith}
+use Rattle.evidence.specs.Instance.{Instance}
+use Rattle.simplex_rules.specs.Runs.{Out, Comes, begins, goes_on, IsNext}
+use Rattle.simplex_rules.specs.Looks.{went_on, answers}
 use Rattle.dictionary.specs.declared.dict.Dict.{Dict}
 use Rattle.dictionary.specs.Dict.{entry_of, HaveOneSize}
 use Rattle.simplex.specs.Held.{values_in, HasSizeOf}

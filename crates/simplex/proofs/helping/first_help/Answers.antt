@@ -1,9 +1,9 @@
-use Rattle.std.proofs.Common.{◌≡◌, ℕ, ◌+◌, ◌<◌, ◌≤◌, length, below_more, subst, sym, ◌∙◌, arith}
+use Rattle.std.proofs.Common.{◌<◌, length, below_more, subst, sym, ◌∙◌, arith}
 use Rattle.simplex_rules.specs.declared.columns.Way.{Way}
 use Rattle.simplex_rules.specs.Statuses.{status_at}
 use Rattle.simplex_rules.specs.Turns.{Can, Moves, rate}
 use Rattle.dictionary.specs.Dict.{entry_of}
-use Rattle.simplex.specs.Cuts.{ranges_in, range_of}
+use Rattle.simplex.specs.Cuts.{ranges_in}
 use Rattle.simplex.proofs.EndsRead.{read_range}
 use Rattle.simplex.proofs.helping.first_help.Goals as goal
 

@@ -1,4 +1,4 @@
-use Rattle.std.proofs.Common.{ℕ, ◌≡◌, ◌+◌, ◌<◌, ◌≤◌, length, nat_eq, sym, ◌∙◌, ap, subst, arith, below_more, Option}
+use Rattle.std.proofs.Common.{ℕ, ◌≡◌, ◌<◌, length, nat_eq, sym, subst, arith, below_more, Option}
 use Rattle.evidence.specs.Instance.{Range}
 use Rattle.rational.specs.Ratio.{Ratio}
 use Rattle.fraction.specs.Frac.{ratio}

@@ -1,4 +1,4 @@
-use Rattle.std.proofs.Common.{◌≡◌, ℕ, length, sym, ◌∙◌, ap, ap₂, subst}
+use Rattle.std.proofs.Common.{ℕ, length, sym, ◌∙◌, ap, ap₂, subst}
 use Rattle.fraction.specs.Frac.{ratio}
 use Rattle.simplex_rules.specs.declared.columns.Way.TheVariants.{Fall}
 use Rattle.simplex_rules.specs.Ends.{Empty, Best, Endless}

@@ -1,11 +1,10 @@
-use Rattle.std.proofs.Common.{w8, to_z, of_z, ◌≡◌, ◌+◌, ◌<◌, length, sym, ◌∙◌, ap, subst, arith}
+use Rattle.std.proofs.Common.{w8, to_z, of_z, ◌∙◌, ap, subst, arith}
 use Rattle.evidence.specs.Instance as Of
 use Rattle.instance.specs.declared.parts.Goal.{Goal}
-use Rattle.instance.specs.declared.parts.Row.{Row}
 use Rattle.bases.specs.Dictionary.{Entries}
 use Rattle.dictionary.specs.Dict.{Holds}
 use Rattle.simplex.specs.Loading.{factor_of}
-use Rattle.simplex.specs.Cuts.{ranges_in, range_at, IsCutBy, AreEndsOf}
+use Rattle.simplex.specs.Cuts.{range_at, IsCutBy, AreEndsOf}
 use Rattle.simplex.proofs.CutPrograms.{cut_ends, rows_loaded, factor_fits}
 use Rattle.simplex.proofs.running.begin.Goals as goal
 use Rattle.simplex.proofs.running.begin.Goals.{After-set_ends}

@@ -1,6 +1,5 @@
-use Rattle.std.proofs.Common.{◌<◌, inl, inr, arith}
+use Rattle.std.proofs.Common.{inr, arith}
 use Rattle.std.specs.Prelude.{slice_set}
-use Rattle.simplex.proofs.Turned.{flipped_statuses}
 use Rattle.simplex.proofs.turning.flip_turn.Goals as goal
 
 pub returns-then-count_turn-clause-turn : goal.returns-then-count_turn-clause-turn

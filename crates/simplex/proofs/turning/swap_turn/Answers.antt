@@ -1,9 +1,9 @@
-use Rattle.std.proofs.Common.{◌≡◌, ◌+◌, ◌<◌, List, inl, inr, sym, ap, subst, arith}
-use Rattle.simplex_rules.specs.declared.columns.Status.{Status}
+use Rattle.std.proofs.Common.{◌≡◌, ◌+◌, inl, inr, sym, ap, arith}
 use Rattle.simplex_rules.specs.Turns.{pivoted}
 use Rattle.simplex_rules.specs.Ends.{TooWide}
-use Rattle.simplex_rules.specs.Runs.{To, Out, Passes}
+use Rattle.simplex_rules.specs.Runs.{Out}
 use Rattle.certificate.specs.declared.causes.Step.TheVariants.{Pivot}
+use Rattle.simplex.proofs.Turned.{passes_to}
 use Rattle.simplex.proofs.turning.swap_turn.Goals as goal
 
 pub returns-in-Err-clause-turn : goal.returns-in-Err-clause-turn
@@ -28,7 +28,8 @@ returns-then-count_turn-clause-turn g c =
 
 pub returns-in-Ok-clause-turn : goal.returns-in-Ok-clause-turn
 returns-in-Ok-clause-turn g c =
-    let p = c.if-count_turn.ensures.passes in (
+    let p = c.if-count_turn.ensures.passes in
+    let ss = pivoted c.args.statuses.now c.args.swap.basic c.args.swap.nonbasic c.args.swap.status in (
       p.0,
       p.1,
       (λ I u w t looks e a.
@@ -36,7 +37,7 @@ returns-in-Ok-clause-turn g c =
           inr (inr (
             omega arith,
             c.in-Ok.ensures.fits,
-            subst (λ (z : List Status). Passes t (record { turns = c.args.turns.now.done + 1; looks = looks }) (pivoted c.args.statuses.now c.args.swap.basic c.args.swap.nonbasic c.args.swap.status) (To (record { statuses = z; clock = record { turns = c.count_turn.new.turns.done; looks = looks + p.0 } }))) (sym c.in-Ok.ensures.statuses)
-                (p.2 t looks (pivoted c.args.statuses.now c.args.swap.basic c.args.swap.nonbasic c.args.swap.status) a),
+            passes_to t (record { turns = c.args.turns.now.done + 1; looks = looks }) (record { turns = c.count_turn.new.turns.done; looks = looks + p.0 }) ss c.exchange.new.statuses c.in-Ok.ensures.statuses
+                (p.2 t looks ss a),
           ))),
     )

@@ -1,4 +1,4 @@
-use Rattle.std.proofs.Common.{◌≡◌, ℕ, ◌<◌, ◌≤◌, length, sym, subst, arith}
+use Rattle.std.proofs.Common.{ℕ, ◌<◌, length, sym, subst, arith}
 use Rattle.std.specs.Prelude.{slice_set}
 use Rattle.rational.specs.Ratio.{Ratio}
 use Rattle.evidence.proofs.Columns.{by_eq}

@@ -1,4 +1,4 @@
-use Rattle.std.proofs.Common.{◌≡◌, ◌<◌, ◌≤◌, length, ◌∙◌, arith}
+use Rattle.std.proofs.Common.{◌<◌, length, ◌∙◌, arith}
 use Rattle.simplex_rules.specs.Statuses.{resting}
 use Rattle.simplex.proofs.Least.{ok_map, err_map}
 use Rattle.simplex.proofs.Found.{rest_is, values_found, fits_found, wide_found}

@@ -1,4 +1,4 @@
-use Rattle.std.proofs.Common.{◌≡◌, ◌<◌, ◌≤◌, length, refl, sym, ◌∙◌, ap, arith}
+use Rattle.std.proofs.Common.{◌<◌, length, refl, sym, ◌∙◌, ap, arith}
 use Rattle.evidence.specs.Instance.{Range}
 use Rattle.evidence.proofs.Columns.{by_eq}
 use Rattle.simplex_rules.specs.Statuses.{status_at, rest_at}
