@@ -4,16 +4,13 @@
 //! chapter 2). The output is a line for each answer that is another, and how many cases there are.
 #![tactic(auto)]
 
-mod reading;
-mod telling;
-mod turning;
-
 use cases::{Answers, try_file};
 use os_io::{DiskFiles, Memory, Text};
-use reading::{read_factor, read_numbers, read_tableau};
 use std::alloc::Global;
 use std::io;
-use turning::{tell_turned, tell_values};
+use tableaus::{
+    read_exchanges, read_factor, read_numbers, read_tableau, tell_turned, tell_values,
+};
 
 /// Given the rows, the costs, the factor of the costs and the exchanges, and maybe a value for each column.
 #[derive(Drop)]
@@ -26,6 +23,9 @@ fn answer_of(alloc: Global, given: &[Vec<u8>]) -> Result<Text, Memory> {
     };
     let Some(instance) = read_tableau(alloc, rows.as_slice(), costs.as_slice())? else {
         return Text::from_slice(alloc, b"no program");
+    };
+    let Some(turns) = read_exchanges(alloc, turns.as_slice())? else {
+        return Text::from_slice(alloc, b"no exchanges");
     };
     let factor = read_factor(factor.as_slice());
     if values.is_empty() {

@@ -76,7 +76,8 @@ fn put_equation(text: &mut Text, dict: &Dict, size: Size, basic: u32) -> Result<
     text.extend(b"; ")
 }
 
-fn put_goal(text: &mut Text, dict: &Dict, size: Size) -> Result<(), Memory>
+/// Puts the goal's equation.
+pub fn put_goal(text: &mut Text, dict: &Dict, size: Size) -> Result<(), Memory>
     requires loaded { IsLoaded dict.now }
     requires width { width_of dict.now ≡ size.width }
 {

@@ -2,14 +2,15 @@
 ghost use Rattle.std.specs.Prelude.{◌≡◌, ℕ, ◌+◌, ◌≤◌, ◌<◌, length, IfOk, IfSome};
 ghost use Rattle.bases.specs.Dictionary.{Entries};
 ghost use Rattle.dictionary.specs.Dict.{width_of, height_of, count_of, IsLoaded, Holds, IsBasic, IsNonbasic};
-ghost use Rattle.try_dictionaries.specs.Held.{IsHeld, Keeps};
+ghost use Rattle.tableaus.specs.Held.{IsHeld, Keeps};
 
-use crate::reading::read_column;
-use crate::telling::{Size, is_basic, is_nonbasic, put_dictionary, put_number};
+use crate::reading::Exchange;
+use crate::telling::{Size, is_basic, is_nonbasic, put_dictionary, put_goal, put_number};
 use decimal_text::write_ratio;
 use dictionary::{Dict, Places, Steps};
 use fraction::{Frac, Wide};
 use instance::Instance;
+use itoa::Buffer;
 use os_io::{Memory, Text};
 use std::alloc::Global;
 use std::marker::Brand;
@@ -20,9 +21,9 @@ use std::sync::ledger::{Blank, Ledger};
 enum Turned {
     All,
     /// The exchange of this number is none: its columns aren't a basic one and another, or the entry is 0.
-    Never(u32),
+    Never(usize),
     /// A number of this exchange doesn't fit.
-    Wide(u32),
+    Wide(usize),
 }
 
 fn size_of(instance: &Instance) -> Size
@@ -71,18 +72,10 @@ fn turn<L: Ledger>(
     Ok(true)
 }
 
-/// The two columns of an exchange.
-fn read_turn(text: &[u8]) -> Option<(u32, u32)> {
-    let mut halves = text.split(|b| *b == b' ');
-    let basic = read_column(halves.next()?)?;
-    let nonbasic = read_column(halves.next()?)?;
-    Some((basic, nonbasic))
-}
-
 fn turn_all<L: Ledger>(
     dict: &mut Dict,
     size: Size,
-    turns: &[u8],
+    turns: &[Exchange],
     steps: &mut Steps<L>,
 ) -> Turned
     requires width { width_of dict.old ≡ size.width }
@@ -92,26 +85,24 @@ fn turn_all<L: Ledger>(
     ensures height { height_of dict.new ≡ height_of dict.old }
     ensures held { Keeps result dict.new }
 {
-    let mut count: u32 = 0;
-    for piece in turns.split(|b| *b == b';') {
-        let Some((basic, nonbasic)) = read_turn(piece) else {
-            return Turned::Never(count);
-        };
-        match turn(dict, size, basic, nonbasic, steps) {
-            Ok(true) => count = count.saturating_add(1),
-            Ok(false) => return Turned::Never(count),
-            Err(_) => return Turned::Wide(count),
+    for k in 0..turns.len() {
+        let it = turns[k];
+        match turn(dict, size, it.basic, it.nonbasic, steps) {
+            Ok(true) => {}
+            Ok(false) => return Turned::Never(k),
+            Err(_) => return Turned::Wide(k),
         }
     }
     Turned::All
 }
 
-/// A loaded dictionary after exchanges, and what became of them.
-fn run<L: Ledger>(
+/// A program loaded and its columns exchanged so often, each time from the beginning, and what became of it the last time.
+fn turn_often<L: Ledger>(
     dict: &mut Dict,
     instance: &Instance,
     factor: i8,
-    turns: &[u8],
+    turns: &[Exchange],
+    rounds: u32,
     blank: Blank,
 ) -> Turned
     requires name { blank.name ≡ L.name }
@@ -123,18 +114,19 @@ fn run<L: Ledger>(
     ensures height { height_of dict.new ≡ height_of dict.old }
     ensures held { Keeps result dict.new }
 {
-    load(dict, instance, factor);
-    if turns.is_empty() {
-        return Turned::All;
-    }
     let size = size_of(instance);
     let mut steps = Steps::<L>::new(blank);
+    for _ in 1..rounds {
+        load(dict, instance, factor);
+        turn_all(dict, size, turns, &mut steps);
+    }
+    load(dict, instance, factor);
     turn_all(dict, size, turns, &mut steps)
 }
 
-fn put_turned(text: &mut Text, word: &[u8], count: u32) -> Result<(), Memory> {
+fn put_turned(text: &mut Text, word: &[u8], count: usize) -> Result<(), Memory> {
     text.extend(word)?;
-    put_number(text, count)?;
+    text.extend(Buffer::new().format(count).as_bytes())?;
     text.extend(b" then ")
 }
 
@@ -144,12 +136,12 @@ pub fn tell_turned(
     alloc: Global,
     instance: &Instance,
     factor: i8,
-    turns: &[u8],
+    turns: &[Exchange],
 ) -> Result<Text, Memory> {
     let size = size_of(instance);
     let mut dict = Dict::with_size(alloc, size.width, size.height)?;
     let mut text = Text::new(alloc);
-    match run::<Brand>(&mut dict, instance, factor, turns, Blank::new(1)) {
+    match turn_often::<Brand>(&mut dict, instance, factor, turns, 1, Blank::new(1)) {
         Turned::All => {}
         Turned::Never(count) => put_turned(&mut text, b"none at ", count)?,
         Turned::Wide(count) => {
@@ -211,7 +203,7 @@ pub fn tell_values(
     alloc: Global,
     instance: &Instance,
     factor: i8,
-    turns: &[u8],
+    turns: &[Exchange],
     values: &[Frac],
 ) -> Result<Text, Memory> {
     let size = size_of(instance);
@@ -221,8 +213,26 @@ pub fn tell_values(
     let mut dict = Dict::with_size(alloc, size.width, size.height)?;
     let places = read_places(alloc, values)?;
     let mut text = Text::new(alloc);
-    match run::<Brand>(&mut dict, instance, factor, turns, Blank::new(1)) {
+    match turn_often::<Brand>(&mut dict, instance, factor, turns, 1, Blank::new(1)) {
         Turned::All => put_values::<Brand>(&mut text, &dict, size, &places, Blank::new(1))?,
+        _ => text.extend(b"not turned")?,
+    }
+    Ok(text)
+}
+
+/// The goal's equation after the exchanges, which are made so often, each time from the beginning.
+pub fn tell_goal(
+    alloc: Global,
+    instance: &Instance,
+    factor: i8,
+    turns: &[Exchange],
+    rounds: u32,
+) -> Result<Text, Memory> {
+    let size = size_of(instance);
+    let mut dict = Dict::with_size(alloc, size.width, size.height)?;
+    let mut text = Text::new(alloc);
+    match turn_often::<Brand>(&mut dict, instance, factor, turns, rounds, Blank::new(1)) {
+        Turned::All => put_goal(&mut text, &dict, size)?,
         _ => text.extend(b"not turned")?,
     }
     Ok(text)

@@ -2,8 +2,8 @@
 use Rattle.bases.specs.Dictionary.{Entries}
 use Rattle.dictionary.specs.declared.dict.Dict.{Dict}
 use Rattle.dictionary.specs.Dict.{Holds}
-use Rattle.try_dictionaries.specs.declared.turning.Turned.{Turned}
-use Rattle.try_dictionaries.specs.declared.turning.Turned.TheVariants.{All, Never, Wide}
+use Rattle.tableaus.specs.declared.turning.Turned.{Turned}
+use Rattle.tableaus.specs.declared.turning.Turned.TheVariants.{All, Never, Wide}
 
 -- it is the dictionary of its basis for some rows
 abbrev pub IsHeld : Dict → Type 0

@@ -105,3 +105,32 @@ pub fn read_tableau(alloc: Global, rows: &[u8], costs: &[u8]) -> Result<Option<I
     let rows = free_rows(alloc, height)?;
     Ok(Instance::of(vars, rows, entries, goal))
 }
+
+/// A basic column that leaves, and one that enters.
+#[derive(Clone, Copy)]
+pub struct Exchange {
+    pub basic: u32,
+    pub nonbasic: u32,
+}
+
+fn read_exchange(text: &[u8]) -> Option<Exchange> {
+    let mut halves = text.split(|b| *b == b' ');
+    let basic = read_column(halves.next()?)?;
+    let nonbasic = read_column(halves.next()?)?;
+    Some(Exchange { basic, nonbasic })
+}
+
+/// Exchanges parted by `;`, none in the empty text.
+pub fn read_exchanges(alloc: Global, text: &[u8]) -> Result<Option<Vec<Exchange>>, Memory> {
+    let mut exchanges = Vec::new(alloc);
+    if text.is_empty() {
+        return Ok(Some(exchanges));
+    }
+    for piece in text.split(|b| *b == b';') {
+        match read_exchange(piece) {
+            Some(exchange) => exchanges.push(exchange)?,
+            None => return Ok(None),
+        }
+    }
+    Ok(Some(exchanges))
+}
