@@ -29,3 +29,4 @@ pub mod Completed
 pub mod Reported
 pub mod Found
 pub mod FewNodes
+pub mod ReadAgain

@@ -1,7 +1,8 @@
 //! Result documents (Optimization Services result language, in this project's profile): reports as documents say them.
 //!
 //! [`decode`] gives the report that a document says, or why it says none. [`encode`] writes a report as a document, and
-//! [`comes_back`] says that this is the document of that report. [`refusal_text`] says in words why a document is refused.
+//! [`comes_back`] says that this is the document of that report; [`reports_are_read_back`] says so of what was read,
+//! whatever it claims. [`refusal_text`] says in words why a document is refused.
 #![tactic(auto)]
 
 mod certificates;
@@ -24,7 +25,7 @@ mod words;
 
 pub use document::encode;
 pub use fault::OsrlFault;
-pub use laws::comes_back;
+pub use laws::{comes_back, reports_are_read_back};
 pub use reading::decode;
 pub use reading_laws::{
     document_has_one_refusal, document_has_one_report, read_claims_fit, report_is_not_refused,
