@@ -6,68 +6,66 @@ use Rattle.instance.specs.Parts.{Parts}
 use Rattle.instance.specs.Program.{program}
 use Rattle.certificate.specs.declared.claims.Claim.{Claim}
 use Rattle.certificate.specs.Means as Means
-use Rattle.osil_grammar.proofs.OneInstance.{text_means_once}
-use Rattle.osil_grammar.proofs.OneFault.{told_once}
 use Rattle.osrl_grammar.specs.declared.report.Report.{Report}
-use Rattle.osrl_grammar.proofs.OneReport.{report_text_once}
-use Rattle.osrl_grammar.proofs.OneRefusal.{refusal_once}
 use Rattle.cert_checker.specs.declared.documents.Kind.{Kind}
 use Rattle.cert_checker.specs.declared.refused.Refused.{Refused}
 use Rattle.cert_checker.specs.declared.refused.Refused.TheVariants as reasons
 use Rattle.cert_checker.specs.Documents.{ClaimRefuses, NoInstance, NoReport, CheckRefuses, IsAcceptedText, DocsRefuse}
 use Rattle.cert_checker.specs.Texts.{kind_name, IsRefusedText, IsAnswerText}
+use Rattle.cert_checker.specs.Grounds.{InstancesAreOne, ReportsAreOne}
 use Rattle.cert_checker.proofs.Accepted.{one_kind}
 use Rattle.cert_checker.proofs.Apart.{no_instance, no_report, accepted_apart}
 use Rattle.cert_checker.proofs.OneReason.{reason_once}
 use Rattle.cert_checker.proofs.OneText.{same_quote, reason_told}
 
-instance_once : (osil : List ℕ) (r s : Refused) (t u : List ℕ) → NoInstance osil r → NoInstance osil s → IsRefusedText r t → IsRefusedText s u → t ≡ u
-instance_once osil r s t u h k a b =
-    let first : IsRefusedText (reasons.Instance h.fault) t = subst (λ (q : Refused). IsRefusedText q t) h.is a in
-    let second : IsRefusedText (reasons.Instance k.fault) u = subst (λ (q : Refused). IsRefusedText q u) k.is b in
-    same_quote (codes "Instance") first.0 second.0 t u (told_once osil h.fault k.fault first.0 second.0 h.fails k.fails first.1 second.1) first.2 second.2
-
-report_once : (osrl : List ℕ) (r s : Refused) → NoReport osrl r → NoReport osrl s → r ≡ s
-report_once osrl r s h k = h.is ∙ ap reasons.Result (refusal_once osrl h.fault k.fault h.told k.told h.fails k.fails) ∙ sym k.is
-
-claim_once : (I : Of.Instance) (o : Option Claim) (r s : Refused) → ClaimRefuses I o r → ClaimRefuses I o s → r ≡ s
-claim_once I None r s h k = h ∙ sym k
-claim_once I (Some c) r s h k = reason_once I (Means.claim c) r s h k
-
-check_once : (osil osrl : List ℕ) (r s : Refused) → CheckRefuses osil osrl r → CheckRefuses osil osrl s → r ≡ s
-check_once osil osrl r s h k =
-    let instance : h.parts ≡ k.parts = text_means_once osil h.parts k.parts h.instance_text k.instance_text in
-    let report : h.report ≡ k.report = report_text_once osrl h.report k.report h.report_text k.report_text in
-    claim_once (program k.parts) k.report.claim r s
-    (subst (λ (p : Parts). ClaimRefuses (program p) k.report.claim r) instance (subst (λ (q : Report). ClaimRefuses (program h.parts) q.claim r) report h.refuses))
-    k.refuses
-
-same_text : (r s : Refused) (t u : List ℕ) → r ≡ s → IsRefusedText r t → IsRefusedText s u → t ≡ u
-same_text r s t u same a b = reason_told s t u (subst (λ (q : Refused). IsRefusedText q t) same a) b
-
--- want of memory has no text
-no_text : (r : Refused) (t : List ℕ) → r ≡ reasons.Memory → IsRefusedText r t → ⊥
-no_text r t is a = subst (λ (q : Refused). IsRefusedText q t) is a
-
-refused_once : (osil osrl : List ℕ) (r s : Refused) (t u : List ℕ) → DocsRefuse osil osrl r → DocsRefuse osil osrl s → IsRefusedText r t → IsRefusedText s u → t ≡ u
-refused_once osil osrl r s t u (inl h) (inl k) a b = instance_once osil r s t u h k a b
-refused_once osil osrl r s t u (inl h) (inr (inl k)) a b = absurd (no_instance osil k.parts r k.instance_text h)
-refused_once osil osrl r s t u (inl h) (inr (inr (inl k))) a b = absurd (no_instance osil k.parts r k.instance_text h)
-refused_once osil osrl r s t u (inr (inl h)) (inl k) a b = absurd (no_instance osil h.parts s h.instance_text k)
-refused_once osil osrl r s t u (inr (inr (inl h))) (inl k) a b = absurd (no_instance osil h.parts s h.instance_text k)
-refused_once osil osrl r s t u (inr (inl h)) (inr (inl k)) a b = same_text r s t u (report_once osrl r s h.no_report k.no_report) a b
-refused_once osil osrl r s t u (inr (inl h)) (inr (inr (inl k))) a b = absurd (no_report osrl k.report r k.report_text h.no_report)
-refused_once osil osrl r s t u (inr (inr (inl h))) (inr (inl k)) a b = absurd (no_report osrl h.report s h.report_text k.no_report)
-refused_once osil osrl r s t u (inr (inr (inl h))) (inr (inr (inl k))) a b = same_text r s t u (check_once osil osrl r s h k) a b
-refused_once osil osrl r s t u (inr (inr (inr h))) k a b = absurd (no_text r t h a)
-refused_once osil osrl r s t u h (inr (inr (inr k))) a b = absurd (no_text s u k b)
-
 -- the documents are answered so
 abbrev pub Answers : List ℕ → List ℕ → Result Kind Refused → Type 0
 Answers osil osrl a = MatchResult a (IsAcceptedText osil osrl) (DocsRefuse osil osrl)
 
-pub answer_once : (osil osrl : List ℕ) (a b : Result Kind Refused) (s t : List ℕ) → Answers osil osrl a → Answers osil osrl b → IsAnswerText a s → IsAnswerText b t → s ≡ t
-answer_once osil osrl (Ok j) (Ok k) s t h i x y = let same : j ≡ k = one_kind osil osrl j k h i in let named : kind_name j ≡ kind_name k = ap kind_name same in cc
-answer_once osil osrl (Ok j) (Err r) s t h i x y = absurd (no_text r t (accepted_apart osil osrl j r h i) y)
-answer_once osil osrl (Err r) (Ok j) s t h i x y = absurd (no_text r s (accepted_apart osil osrl j r i h) x)
-answer_once osil osrl (Err r) (Err q) s t h i x y = refused_once osil osrl r q s t h i x y
+module _ (instances : InstancesAreOne) (reports : ReportsAreOne) where
+  instance_once : (osil : List ℕ) (r s : Refused) (t u : List ℕ) → NoInstance osil r → NoInstance osil s → IsRefusedText r t → IsRefusedText s u → t ≡ u
+  instance_once osil r s t u h k a b =
+      let first : IsRefusedText (reasons.Instance h.fault) t = subst (λ (q : Refused). IsRefusedText q t) h.is a in
+      let second : IsRefusedText (reasons.Instance k.fault) u = subst (λ (q : Refused). IsRefusedText q u) k.is b in
+      same_quote (codes "Instance") first.0 second.0 t u (instances.told osil h.fault k.fault first.0 second.0 h.fails k.fails first.1 second.1) first.2 second.2
+
+  report_once : (osrl : List ℕ) (r s : Refused) → NoReport osrl r → NoReport osrl s → r ≡ s
+  report_once osrl r s h k = h.is ∙ ap reasons.Result (reports.refused osrl h.fault k.fault h.told k.told h.fails k.fails) ∙ sym k.is
+
+  claim_once : (I : Of.Instance) (o : Option Claim) (r s : Refused) → ClaimRefuses I o r → ClaimRefuses I o s → r ≡ s
+  claim_once I None r s h k = h ∙ sym k
+  claim_once I (Some c) r s h k = reason_once I (Means.claim c) r s h k
+
+  check_once : (osil osrl : List ℕ) (r s : Refused) → CheckRefuses osil osrl r → CheckRefuses osil osrl s → r ≡ s
+  check_once osil osrl r s h k =
+      let instance : h.parts ≡ k.parts = instances.once osil h.parts k.parts h.instance_text k.instance_text in
+      let report : h.report ≡ k.report = reports.once osrl h.report k.report h.report_text k.report_text in
+      claim_once (program k.parts) k.report.claim r s
+      (subst (λ (p : Parts). ClaimRefuses (program p) k.report.claim r) instance (subst (λ (q : Report). ClaimRefuses (program h.parts) q.claim r) report h.refuses))
+      k.refuses
+
+  same_text : (r s : Refused) (t u : List ℕ) → r ≡ s → IsRefusedText r t → IsRefusedText s u → t ≡ u
+  same_text r s t u same a b = reason_told s t u (subst (λ (q : Refused). IsRefusedText q t) same a) b
+
+  -- want of memory has no text
+  no_text : (r : Refused) (t : List ℕ) → r ≡ reasons.Memory → IsRefusedText r t → ⊥
+  no_text r t is a = subst (λ (q : Refused). IsRefusedText q t) is a
+
+  refused_once : (osil osrl : List ℕ) (r s : Refused) (t u : List ℕ) → DocsRefuse osil osrl r → DocsRefuse osil osrl s → IsRefusedText r t → IsRefusedText s u → t ≡ u
+  refused_once osil osrl r s t u (inl h) (inl k) a b = instance_once osil r s t u h k a b
+  refused_once osil osrl r s t u (inl h) (inr (inl k)) a b = absurd (no_instance instances reports osil k.parts r k.instance_text h)
+  refused_once osil osrl r s t u (inl h) (inr (inr (inl k))) a b = absurd (no_instance instances reports osil k.parts r k.instance_text h)
+  refused_once osil osrl r s t u (inr (inl h)) (inl k) a b = absurd (no_instance instances reports osil h.parts s h.instance_text k)
+  refused_once osil osrl r s t u (inr (inr (inl h))) (inl k) a b = absurd (no_instance instances reports osil h.parts s h.instance_text k)
+  refused_once osil osrl r s t u (inr (inl h)) (inr (inl k)) a b = same_text r s t u (report_once osrl r s h.no_report k.no_report) a b
+  refused_once osil osrl r s t u (inr (inl h)) (inr (inr (inl k))) a b = absurd (no_report instances reports osrl k.report r k.report_text h.no_report)
+  refused_once osil osrl r s t u (inr (inr (inl h))) (inr (inl k)) a b = absurd (no_report instances reports osrl h.report s h.report_text k.no_report)
+  refused_once osil osrl r s t u (inr (inr (inl h))) (inr (inr (inl k))) a b = same_text r s t u (check_once osil osrl r s h k) a b
+  refused_once osil osrl r s t u (inr (inr (inr h))) k a b = absurd (no_text r t h a)
+  refused_once osil osrl r s t u h (inr (inr (inr k))) a b = absurd (no_text s u k b)
+
+  pub answer_once : (osil osrl : List ℕ) (a b : Result Kind Refused) (s t : List ℕ) → Answers osil osrl a → Answers osil osrl b → IsAnswerText a s → IsAnswerText b t → s ≡ t
+  answer_once osil osrl (Ok j) (Ok k) s t h i x y = let same : j ≡ k = one_kind instances reports osil osrl j k h i in let named : kind_name j ≡ kind_name k = ap kind_name same in cc
+  answer_once osil osrl (Ok j) (Err r) s t h i x y = absurd (no_text r t (accepted_apart instances reports osil osrl j r h i) y)
+  answer_once osil osrl (Err r) (Ok j) s t h i x y = absurd (no_text r s (accepted_apart instances reports osil osrl j r i h) x)
+  answer_once osil osrl (Err r) (Err q) s t h i x y = refused_once osil osrl r q s t h i x y

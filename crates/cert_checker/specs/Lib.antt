@@ -10,4 +10,5 @@ pub mod Refusals
 pub mod Cuts
 pub mod Slots
 pub mod Documents
+pub mod Grounds
 pub mod Texts

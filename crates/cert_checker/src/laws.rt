@@ -14,6 +14,27 @@ ghost use Rattle.cert_checker.specs.declared.documents.Kind.{Kind};
 ghost use Rattle.cert_checker.specs.Refusals.{IsRefused};
 ghost use Rattle.cert_checker.specs.Documents.{kind, IsAcceptedText, DocsRefuse};
 ghost use Rattle.cert_checker.specs.Texts.{IsAnswerText};
+ghost use Rattle.cert_checker.specs.Grounds.{InstancesAreOne, ReportsAreOne};
+
+use osil_grammar::{documents_are_refused_in_one_way, documents_mean_one_instance};
+use osrl_grammar::{document_has_one_refusal, document_has_one_report, report_is_not_refused};
+
+/// The laws of instances' documents.
+fn instances_are_one()
+    ensures { InstancesAreOne }
+{
+    documents_mean_one_instance();
+    documents_are_refused_in_one_way();
+}
+
+/// The laws of result documents.
+fn reports_are_one()
+    ensures { ReportsAreOne }
+{
+    document_has_one_report();
+    report_is_not_refused();
+    document_has_one_refusal();
+}
 
 /// What is refused isn't accepted.
 pub fn refused_is_not_accepted()
@@ -28,21 +49,33 @@ pub fn claims_have_one_refusal()
 /// Documents that are accepted aren't refused, but for want of memory.
 pub fn accepted_is_not_refused()
     ensures { (osil osrl : List ℕ) (k : Kind) (r : Refused) → IsAcceptedText osil osrl k → DocsRefuse osil osrl r → r ≡ Memory }
-{}
+{
+    instances_are_one();
+    reports_are_one();
+}
 
 /// Documents are accepted as one kind at most.
 pub fn documents_have_one_kind()
     ensures { (osil osrl : List ℕ) (j k : Kind) → IsAcceptedText osil osrl j → IsAcceptedText osil osrl k → j ≡ k }
-{}
+{
+    instances_are_one();
+    reports_are_one();
+}
 
 /// What accepted documents claim is true: whichever instance the first stands for, and whichever report the second is,
 /// the report's claim is of the accepted kind, and what it says holds of the instance's points.
 pub fn accepted_documents_are_true()
     ensures kind { (osil osrl : List ℕ) (k : Kind) (report : Report) (c : carried.Claim) → IsAcceptedText osil osrl k → IsReportText osrl report → report.claim ≡ Some c → kind c ≡ Some k }
     ensures is_true { (osil osrl : List ℕ) (k : Kind) (p : Parts) (report : Report) (c : carried.Claim) → IsAcceptedText osil osrl k → IsInstanceText osil p → IsReportText osrl report → report.claim ≡ Some c → IsTrueOf (program p) (Means.claim c) }
-{}
+{
+    instances_are_one();
+    reports_are_one();
+}
 
 /// Documents have one answer, in one text; want of memory has none.
 pub fn documents_have_one_answer()
     ensures { (osil osrl : List ℕ) (a b : Result Kind Refused) (s t : List ℕ) → MatchResult a (IsAcceptedText osil osrl) (DocsRefuse osil osrl) → MatchResult b (IsAcceptedText osil osrl) (DocsRefuse osil osrl) → IsAnswerText a s → IsAnswerText b t → s ≡ t }
-{}
+{
+    instances_are_one();
+    reports_are_one();
+}

@@ -7,9 +7,7 @@ use Rattle.cert_checker.specs.declared.refused.Refused.{Refused}
 use Rattle.cert_checker.specs.declared.refused.Refused.TheVariants as reasons
 use Rattle.cert_checker.specs.Documents.{IsAcceptedText, DocsRefuse}
 use Rattle.cert_checker.specs.Texts.{IsAnswerText, IsRefusedText}
-use Rattle.cert_checker.proofs.Accepted.{one_kind}
-use Rattle.cert_checker.proofs.Apart.{accepted_apart}
-use Rattle.cert_checker.proofs.OneAnswer.{answer_once}
+use Rattle.os_app.specs.Grounds.{AnswersAreOne}
 use Rattle.os_app.specs.Checks.{IsAnswerLine, IsAnswerTo, IsAnswerAbout, CheckEnds, accepted, refused, in_full, unread, unwritten, unmade}
 use Rattle.command_line.specs.Words.{Command, Session, Check, IsCheck}
 use Rattle.os_app.specs.Runs.{Run, AsksLine, IsUntaken, IsFileFault, IsUnheard, RunEnds, checked, file_fault, unsent, unheard, MayBeThere, IsJudged, Runs}
@@ -25,16 +23,16 @@ no_memory_text r text says is = subst (λ (s : Refused). IsRefusedText s text) i
 never_memory : (r : Refused) (line : List ℕ) → IsAnswerLine (Err r) line → r ≡ reasons.Memory → ⊥
 never_memory r line says is = no_memory_text r says.text says.says is
 
-line_of_accepted : (osil osrl : List ℕ) (due : ℕ) (line : List ℕ) (k : Kind) → IsAcceptedText osil osrl k → IsAnswerTo osil osrl due line → (due ≡ 0) × IsAnswerLine (Ok k) line
-line_of_accepted osil osrl due line k shown (accepted j is all says) =
-    (is, subst (λ (i : Kind). IsAnswerLine (Ok i) line) (one_kind osil osrl j k all shown) says)
-line_of_accepted osil osrl due line k shown (refused r is why says) = absurd (never_memory r line says (accepted_apart osil osrl k r shown why))
+line_of_accepted : AnswersAreOne → (osil osrl : List ℕ) (due : ℕ) (line : List ℕ) (k : Kind) → IsAcceptedText osil osrl k → IsAnswerTo osil osrl due line → (due ≡ 0) × IsAnswerLine (Ok k) line
+line_of_accepted one osil osrl due line k shown (accepted j is all says) =
+    (is, subst (λ (i : Kind). IsAnswerLine (Ok i) line) (one.kind osil osrl j k all shown) says)
+line_of_accepted one osil osrl due line k shown (refused r is why says) = absurd (never_memory r line says (one.apart osil osrl k r shown why))
 
-line_of_refused : (osil osrl : List ℕ) (due : ℕ) (line : List ℕ) (r : Refused) (text : List ℕ) → DocsRefuse osil osrl r → IsAnswerText (Err r) text → IsAnswerTo osil osrl due line → (due ≡ 1) × (line ≡ text ++ (10 ∷ []))
-line_of_refused osil osrl due line r text why told (accepted k is all says) =
-    absurd (no_memory_text r text told (accepted_apart osil osrl k r all why))
-line_of_refused osil osrl due line r text why told (refused s is other says) =
-    (is, says.ended ∙ ap (λ t. t ++ (10 ∷ [])) (answer_once osil osrl (Err s) (Err r) says.text text other why says.says told))
+line_of_refused : AnswersAreOne → (osil osrl : List ℕ) (due : ℕ) (line : List ℕ) (r : Refused) (text : List ℕ) → DocsRefuse osil osrl r → IsAnswerText (Err r) text → IsAnswerTo osil osrl due line → (due ≡ 1) × (line ≡ text ++ (10 ∷ []))
+line_of_refused one osil osrl due line r text why told (accepted k is all says) =
+    absurd (no_memory_text r text told (one.apart osil osrl k r all why))
+line_of_refused one osil osrl due line r text why told (refused s is other says) =
+    (is, says.ended ∙ ap (λ t. t ++ (10 ∷ [])) (one.told osil osrl (Err s) (Err r) says.text text other why says.says told))
 
 says_accepted : (osil osrl : List ℕ) (due : ℕ) (line : List ℕ) → IsAnswerTo osil osrl due line → due ≡ 0 → (k : Kind) × IsAcceptedText osil osrl k
 says_accepted osil osrl due line (accepted k is all says) zero = (k, all)
@@ -113,17 +111,17 @@ ends_of status run osil_name osrl_name c = go c.ends
     go (unmade is files same) = unheard is (no_memory status run osil_name osrl_name c files same)
 
 -- what the bytes decide
-judged_by : (status : ℕ) (run : Run) (osil_name osrl_name osil osrl : List ℕ) → Checking status run osil_name osrl_name
+judged_by : AnswersAreOne → (status : ℕ) (run : Run) (osil_name osrl_name osil osrl : List ℕ) → Checking status run osil_name osrl_name
     → run.held osil_name ≡ Holds osil → run.held osrl_name ≡ Holds osrl → IsJudged status run osil osrl
-judged_by status run osil_name osrl_name osil osrl c first second = go c.ends
+judged_by one status run osil_name osrl_name osil osrl c first second = go c.ends
   where
     go : EndsCheck status run osil_name osrl_name → IsJudged status run osil osrl
     go (in_full line about files sent) =
         let answers = about_told (run.held osil_name) (run.held osrl_name) status line osil osrl about first second in
         record {
-          accepted = λ k shown. let it = line_of_accepted osil osrl status line k shown answers in runs.in_full line it.0 it.1 sent;
+          accepted = λ k shown. let it = line_of_accepted one osil osrl status line k shown answers in runs.in_full line it.0 it.1 sent;
           accepted_only = says_accepted osil osrl status line answers;
-          refused = λ r text why says. let it = line_of_refused osil osrl status line r text why says answers in runs.in_full line it.0 it.1 sent;
+          refused = λ r text why says. let it = line_of_refused one osil osrl status line r text why says answers in runs.in_full line it.0 it.1 sent;
           refused_only = says_refused osil osrl status line answers;
         }
     go (unread is risen same) =
@@ -137,9 +135,9 @@ judged_by status run osil_name osrl_name osil osrl c first second = go c.ends
     go (unwritten due line is about files off) =
         let answers = about_told (run.held osil_name) (run.held osrl_name) due line osil osrl about first second in
         record {
-          accepted = λ k shown. runs.not_written line is (line_of_accepted osil osrl due line k shown answers).1 off;
+          accepted = λ k shown. runs.not_written line is (line_of_accepted one osil osrl due line k shown answers).1 off;
           accepted_only = λ zero. absurd (omega (arith, is, zero));
-          refused = λ r text why says. runs.not_written line is (line_of_refused osil osrl due line r text why says answers).1 off;
+          refused = λ r text why says. runs.not_written line is (line_of_refused one osil osrl due line r text why says answers).1 off;
           refused_only = λ one. absurd (omega (arith, is, one));
         }
     go (unmade is files same) =
@@ -184,9 +182,9 @@ same_names : (words : List (List ℕ)) (a b c d : List ℕ) → IsCheck words a 
 same_names words a b c d first second = one_command _ (Check a b) (Check c d) first second
 
 -- a check of two files
-pub check_runs : (status : ℕ) (run : Run) (osil_name osrl_name : List ℕ) → IsCheck run.words osil_name osrl_name
+pub check_runs : AnswersAreOne → (status : ℕ) (run : Run) (osil_name osrl_name : List ℕ) → IsCheck run.words osil_name osrl_name
     → EndsCheck status run osil_name osrl_name → IsUntaken run → Runs status run
-check_runs status run osil_name osrl_name check ends untaken =
+check_runs one status run osil_name osrl_name check ends untaken =
     let c : Checking status run osil_name osrl_name = record { check = check; ends = ends; untaken = untaken } in
     record {
       ends = ends_of status run osil_name osrl_name c;
@@ -196,7 +194,7 @@ check_runs status run osil_name osrl_name check ends untaken =
         λ all. absurd (some_or_none _ _ check all.0),
       );
       judged = λ a b osil osrl named first second.
-          judged_by status run osil_name osrl_name osil osrl c
+          judged_by one status run osil_name osrl_name osil osrl c
           (ap (λ (x : Command). run.held (first_name x)) (same_names run.words osil_name osrl_name a b check named) ∙ first)
           (ap (λ (x : Command). run.held (second_name x)) (same_names run.words osil_name osrl_name a b check named) ∙ second);
       there = λ a b named which.

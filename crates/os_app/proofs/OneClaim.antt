@@ -1,9 +1,8 @@
 -- A claim about a plain instance is told by what it means.
-use Rattle.std.proofs.Common.{◌≡◌, ◌∙◌, List, [], ◌∷◌, map, refl, ap, sym}
-use Rattle.rational.specs.Ratio.{Ratio}
+use Rattle.std.proofs.Common.{◌≡◌, ◌∙◌, List, [], ◌∷◌, map, refl, ap, sym, subst}
+use Rattle.rational.specs.Ratio.{Ratio, IsSame}
 use Rattle.fraction.specs.Frac.{ratio, ratios}
 use Rattle.fraction.specs.declared.frac.Frac.{Frac}
-use Rattle.fraction.proofs.Equality.{one_fraction}
 use Rattle.evidence.specs.Cases as Of
 use Rattle.evidence.specs.Claim as Says
 use Rattle.certificate.specs.declared.lists.Mult.{Mult}
@@ -23,12 +22,6 @@ each_once f once (x ∷ xs) (y ∷ ys) e =
     let first : x ≡ y = once x y (cc) in
     let rest : xs ≡ ys = each_once f once xs ys (cc) in
     cc
-
-multiplier_once : (m n : Mult) → multiplier m ≡ multiplier n → m ≡ n
-multiplier_once m n e =
-    let col = ap (λ (x : Of.Multiplier). x.column) e in
-    let value = one_fraction m.value n.value (ap (λ (x : Of.Multiplier). x.by) e) in
-    λ i. record { col = col i; value = value i }
 
 -- a tree that means one leaf that bounds is one
 record IsLeaf (ns : List Node) (by : List Of.Multiplier) : Type 0 where
@@ -65,13 +58,23 @@ is_optimal (Unbounded x v r) point value tree e = let clash : Says.Unbounded (ra
 is_optimal (BestSoFar x v s) point value tree e = let clash : Says.BestSoFar (ratios x) (ratio v) ≡ Says.Optimal point value tree = e in absurd (cc)
 is_optimal (Unsure s) point value tree e = let clash : Says.Unsure ≡ Says.Optimal point value tree = e in absurd (cc)
 
-pub claim_once : (c d : Claim) (point : List Ratio) (value : Ratio) (by : List Of.Multiplier) → claim c ≡ Says.Optimal point value (Of.BoundBy by ∷ []) → claim d ≡ Says.Optimal point value (Of.BoundBy by ∷ []) → c ≡ d
-claim_once c d point value by e f =
-    let a = is_optimal c point value (Of.BoundBy by ∷ []) e in
-    let b = is_optimal d point value (Of.BoundBy by ∷ []) f in
-    let p = is_leaf a.ns by a.says_tree in
-    let q = is_leaf b.ns by b.says_tree in
-    let points : a.x ≡ b.x = each_once ratio one_fraction a.x b.x (a.says_point ∙ sym b.says_point) in
-    let values : a.v ≡ b.v = one_fraction a.v b.v (a.says_value ∙ sym b.says_value) in
-    let mults : p.mults ≡ q.mults = each_once multiplier multiplier_once p.mults q.mults (p.says ∙ sym q.says) in
-    cc
+module _ (fractions : (x y : Frac) → IsSame (ratio x) (ratio y) → x ≡ y) where
+  one_fraction : (x y : Frac) → ratio x ≡ ratio y → x ≡ y
+  one_fraction x y e = fractions x y (subst (IsSame (ratio x)) e refl)
+
+  multiplier_once : (m n : Mult) → multiplier m ≡ multiplier n → m ≡ n
+  multiplier_once m n e =
+      let col = ap (λ (x : Of.Multiplier). x.column) e in
+      let value = one_fraction m.value n.value (ap (λ (x : Of.Multiplier). x.by) e) in
+      λ i. record { col = col i; value = value i }
+
+  pub claim_once : (c d : Claim) (point : List Ratio) (value : Ratio) (by : List Of.Multiplier) → claim c ≡ Says.Optimal point value (Of.BoundBy by ∷ []) → claim d ≡ Says.Optimal point value (Of.BoundBy by ∷ []) → c ≡ d
+  claim_once c d point value by e f =
+      let a = is_optimal c point value (Of.BoundBy by ∷ []) e in
+      let b = is_optimal d point value (Of.BoundBy by ∷ []) f in
+      let p = is_leaf a.ns by a.says_tree in
+      let q = is_leaf b.ns by b.says_tree in
+      let points : a.x ≡ b.x = each_once ratio one_fraction a.x b.x (a.says_point ∙ sym b.says_point) in
+      let values : a.v ≡ b.v = one_fraction a.v b.v (a.says_value ∙ sym b.says_value) in
+      let mults : p.mults ≡ q.mults = each_once multiplier multiplier_once p.mults q.mults (p.says ∙ sym q.says) in
+      cc

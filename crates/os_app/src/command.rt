@@ -3,6 +3,7 @@ ghost use Rattle.std.specs.Prelude.{◌≡◌, map, IfOk, OnErr};
 ghost use Rattle.std.specs.Process.{exit_status};
 ghost use Rattle.std.specs.String.{string_bytes};
 ghost use Rattle.os_io.specs.Streams.{SameInput, SameOutput};
+ghost use Rattle.os_app.specs.Grounds.{AnswersAreOne};
 ghost use Rattle.os_app.specs.Checks.{CheckEnds};
 ghost use Rattle.os_app.specs.Runs.{Runs};
 ghost use Rattle.command_line.specs.Words.{IsNoCheck};
@@ -10,6 +11,7 @@ ghost use Rattle.os_app.specs.Statuses.{check_status, session_status};
 
 use crate::checking::{Answer, answer_about};
 use crate::service::PlainSolver;
+use cert_checker::{accepted_is_not_refused, documents_have_one_answer, documents_have_one_kind};
 use command_line::{Asked, read, write_usage};
 use http_session::{Served, serve_one};
 use os_io::{Failed, FileFault, Files, Listener, Memory, Sink, Source, send_all};
@@ -91,6 +93,15 @@ pub fn exit_code(ran: Result<u8, Memory>) -> ExitCode
     }
 }
 
+/// The laws of documents that are checked.
+fn documents_are_judged_once()
+    ensures { AnswersAreOne }
+{
+    documents_have_one_kind();
+    accepted_is_not_refused();
+    documents_have_one_answer();
+}
+
 /// Does what the words ask for, and says how it went. The words begin with the program's name. `session` reads one
 /// request from the input and writes its response to the output. `check` reads two files, an instance's document and a
 /// result document, and writes `accepted` and what is accepted, or `refused` and why, in a line.
@@ -125,7 +136,10 @@ pub fn run<F: Files, I: Source, O: Sink, N: Listener>(
 {
     match read(alloc, words) {
         Ok(Some(Asked::Session)) => session_status(serve_one(alloc, input, output, &PlainSolver)),
-        Ok(Some(Asked::Check { osil, osrl })) => check_files(alloc, files, output, osil, osrl),
+        Ok(Some(Asked::Check { osil, osrl })) => {
+            documents_are_judged_once();
+            check_files(alloc, files, output, osil, osrl)
+        }
         Ok(None) => match write_usage(output) {
             Ok(()) => MISUSED,
             Err(Failed) => WRITE_FAULT,

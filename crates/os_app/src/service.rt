@@ -3,8 +3,8 @@ ghost use Rattle.std.specs.Prelude.{◌≡◌, ℕ, List, IfOk};
 ghost use Rattle.http_session.specs.Session.{IsResponse};
 ghost use Rattle.os_app.specs.Answers.{IsTreeOf, Replies, SolverAnswers};
 
-use crate::solving::solve;
-use doc_tree::{TreeFault, read};
+use crate::solving::{solve, texts_have_one_result};
+use doc_tree::{TreeFault, documents_have_one_tree, read};
 use element_tree::Tree;
 use http_session::{Service, bytes_have_one_response};
 use os_io::{Memory, Text};
@@ -54,5 +54,7 @@ impl Service for PlainSolver {
 pub fn requests_have_one_response()
     ensures { (bytes r s : List ℕ) → IsResponse SolverAnswers bytes r → IsResponse SolverAnswers bytes s → r ≡ s }
 {
+    documents_have_one_tree();
+    texts_have_one_result();
     bytes_have_one_response::<PlainSolver>();
 }

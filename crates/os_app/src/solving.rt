@@ -5,12 +5,16 @@ ghost use Rattle.osil_grammar.specs.Reading.{IsInstanceText, IsRefusedText};
 ghost use Rattle.osil_grammar.specs.Refusals.{Refusal};
 ghost use Rattle.osil_grammar.specs.Texts.{refusal_text};
 ghost use Rattle.osrl_grammar.specs.Writing.{report_text};
+ghost use Rattle.os_app.specs.Grounds.{TextsAreOne};
 ghost use Rattle.os_app.specs.Results.{IsResult, IsResultOf, claim_report, error_report};
 
 use certificate::Claim;
+use fraction::equal_fractions;
 use instance::Instance;
 use os_io::{Memory, Text};
-use osil_grammar::{decode, refusal_text};
+use osil_grammar::{
+    decode, documents_are_refused_in_one_way, documents_mean_one_instance, refusal_text,
+};
 use osrl_grammar::{JobStatus, Report, encode};
 use plain_claim::plain_claim;
 use std::alloc::Global;
@@ -67,10 +71,21 @@ pub(crate) fn solve(alloc: Global, text: &[u8]) -> Result<Text, Memory>
     }
 }
 
+/// The laws of instances' texts and of fractions.
+fn texts_are_one()
+    ensures { TextsAreOne }
+{
+    documents_mean_one_instance();
+    documents_are_refused_in_one_way();
+    equal_fractions();
+}
+
 /// Law: a text has one result document. That of a text that stands for an instance is the instance's, and that of a
 /// document that is refused says why.
 pub fn texts_have_one_result()
     ensures one { (text r s : List ℕ) → IsResult text r → IsResult text s → r ≡ s }
     ensures instance { (text : List ℕ) (p : Parts) (r : List ℕ) → IsInstanceText text p → IsResult text r → IsResultOf p r }
     ensures refused { (text : List ℕ) (why : Refusal) (n : ℕ) (r : List ℕ) → IsRefusedText text why n → IsResult text r → r ≡ report_text (error_report (refusal_text why n)) }
-{}
+{
+    texts_are_one();
+}

@@ -18,7 +18,7 @@ returns-in-Ok-Some-Session-clause-runs g c =
 
 pub returns-in-Ok-Some-Check-clause-runs : goal.returns-in-Ok-Some-Check-clause-runs
 returns-in-Ok-Some-Check-clause-runs g c =
-    check_runs _ _ _ _ (asks_check _ _ _ _ (c.in-Ok-Some-Check.field-0-is ∙ ap Some c.in-Ok-Some-Check.field-0-0-is) c.in-Ok-Some-Check.ensures) c.check_files.ensures.ends refl
+    check_runs c.documents_are_judged_once.ensures _ _ _ _ (asks_check _ _ _ _ (c.in-Ok-Some-Check.field-0-is ∙ ap Some c.in-Ok-Some-Check.field-0-0-is) c.in-Ok-Some-Check.ensures) c.check_files.ensures.ends refl
 
 pub returns-in-Ok-clause-runs : goal.returns-in-Ok-clause-runs
 returns-in-Ok-clause-runs g c =
