@@ -17,7 +17,8 @@ use std::sync::ledger::Ledger;
 
 /// The dictionary of a basis: each basic column as a sum over the others (Chvátal, Linear Programming, 1983, chapter 2).
 ///
-/// Its columns are `width` variables, `height` rows and the goal, whose column is `width + height` and always basic.
+/// Its columns are `width` variables, `height` rows and the goal, whose column is `width + height` and always basic. Whether
+/// it is loaded is asked by contracts alone.
 #[derive(Drop)]
 pub struct Dict {
     width: u32,

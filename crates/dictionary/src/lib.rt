@@ -7,8 +7,8 @@
 //! the rows that were loaded, goal included (`Holds`).
 //!
 //! Each number is a fraction of 128 bits, and an answer is `Wide` exactly where one of the stated products, quotients and
-//! sums doesn't fit. Only [`Dict::with_size`] and [`Places::with_size`] take memory: a row has room for an entry at each
-//! variable's number of columns, and keeps only the entries that aren't 0.
+//! sums doesn't fit. Only [`Dict::with_size`] and [`Places::with_size`] take memory: each row has room for as many entries
+//! as there are variables, and keeps only those that aren't 0.
 //!
 //! [`Steps`] counts the entries of rows that are read and written. It takes no bytes and does nothing at run time.
 #![tactic(auto)]
