@@ -1,6 +1,5 @@
 -- The instances that a walk through a tree of cases has before it: that of the cuts so far, and those of the second cases above.
 use Rattle.std.specs.Prelude.{ℕ, zero, suc, ◌<◌, ◌≤◌, pos, ◌+ℤ◌, ◌≤ℤ◌, ◌<ℤ◌, neg_ℤ, false, cond, Option, None, Some, List, [], ◌∷◌, length, get_or, slice_set}
-use Rattle.std.specs.List.{All}
 use Rattle.rational.specs.Width.{most}
 use Rattle.fraction.specs.Frac.{ratio}
 use Rattle.fraction.specs.declared.frac.Frac.{Frac}
@@ -11,7 +10,7 @@ use Rattle.evidence.specs.Cases.{at_least}
 use Rattle.instance.specs.declared.parts.Var.{Var}
 use Rattle.instance.specs.Parts.{Parts}
 use Rattle.instance.specs.Program.{program}
-use Rattle.certificate.specs.Nodes.{nodes_of, IsInRange}
+use Rattle.certificate.specs.Nodes.{nodes_of}
 use Rattle.certificate.specs.declared.claims.Claim.{Claim}
 use Rattle.cert_checker.specs.declared.path.Branch.{Branch}
 
