@@ -1,7 +1,5 @@
 -- A text decides its result document.
 use Rattle.std.proofs.Common.{◌≡◌, ◌∙◌, ℕ, List, inl, inr, ap, ap₂, sym, subst}
-use Rattle.std.specs.Prelude.{codes}
-use Rattle.doc_tree.specs.declared.fault.TreeFault.{TreeFault}
 use Rattle.instance.specs.Parts.{Parts}
 use Rattle.certificate.specs.declared.claims.Claim.{Claim}
 use Rattle.osil_grammar.specs.declared.fault.OsilFault.{OsilFault}
@@ -9,7 +7,7 @@ use Rattle.osil_grammar.specs.declared.fault.OsilFault.TheVariants.{Tree, Refuse
 use Rattle.osil_grammar.specs.Refusals.{Refusal}
 use Rattle.osil_grammar.specs.Texts.{refusal_text}
 use Rattle.osil_grammar.specs.Reading.{IsInstanceText, IsRefusedText}
-use Rattle.osil_grammar.specs.Reading.{DecodeFails, IsTreeText, IsFaultText, refusal}
+use Rattle.osil_grammar.specs.Reading.{DecodeFails, IsFaultText, refusal}
 use Rattle.osrl_grammar.specs.Writing.{report_text}
 use Rattle.os_app.specs.Results.{claim_report, error_report, IsSolved, IsResultOf, IsRefusedResult, IsResult}
 use Rattle.os_app.specs.Grounds.{TextsAreOne}

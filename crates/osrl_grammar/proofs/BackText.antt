@@ -1,5 +1,5 @@
 -- The text of a report is a document.
-use Rattle.std.proofs.Common.{◌≡◌, ℕ, Bool, true, false, Option, None, Some, List, [], refl, lit≤}
+use Rattle.std.proofs.Common.{ℕ, Bool, true, false, Option, None, Some, List, refl, lit≤}
 use Rattle.std.specs.Prelude.{codes}
 use Rattle.tree_grammar.specs.Characters.{Each}
 use Rattle.tree_grammar.specs.Elements.{Nodes, none, Element}

@@ -1,5 +1,5 @@
 -- A claim that is read has fewer nodes than its document has bytes, and each split is at a number that a fraction has.
-use Rattle.std.proofs.Common.{◌≡◌, ℕ, zero, suc, ◌+◌, ◌<◌, ◌≤◌, ℤ, pos, negsuc, Bool, true, false, cond, Option, None, Some, List, [], ◌∷◌, ◌++◌, length, map, refl, ap, sym, subst, arith}
+use Rattle.std.proofs.Common.{◌≡◌, ℕ, zero, suc, ◌<◌, ◌≤◌, ℤ, pos, negsuc, Bool, true, false, cond, Option, None, Some, List, [], ◌∷◌, length, subst, arith}
 use Rattle.std.specs.Prelude.{codes, bytes_eq, flat_map, slice_get, IsSomeAnd, neg_ℤ, ◌≤ℤ◌, unsigned_abs}
 use Rattle.std.specs.List.{All, AllZip}
 use Rattle.std.proofs.lemmas.Int.{ints}

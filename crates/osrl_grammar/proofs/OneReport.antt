@@ -1,5 +1,5 @@
 -- A document is one report.
-use Rattle.std.proofs.Common.{◌≡◌, ◌∙◌, ◌↔◌, ℕ, Bool, true, false, Option, None, Some, List, [], ◌∷◌, refl, ap, sym, subst}
+use Rattle.std.proofs.Common.{◌≡◌, ◌∙◌, ◌↔◌, ℕ, Bool, true, false, Option, None, Some, List, [], ◌∷◌, refl, ap, sym}
 use Rattle.std.specs.Prelude.{IsTrue, IsSomeAnd, codes}
 use Rattle.tree_grammar.specs.Elements.{Element}
 use Rattle.certificate.specs.declared.claims.Claim.{Claim}

@@ -21,7 +21,7 @@ use Rattle.osrl_grammar.specs.Items.{Pair}
 use Rattle.osrl_grammar.specs.Values.{IsMult, IsNode, IsCause}
 use Rattle.osrl_grammar.specs.Parts.{of_part, item_texts, results, solutions}
 use Rattle.osrl_grammar.specs.Refusals.{MayHold, IsPartCounted}
-use Rattle.osrl_grammar.specs.Meaning.{HasTree, HasCause, SaysClaim, SayClaim}
+use Rattle.osrl_grammar.specs.Meaning.{HasTree, SaysClaim, SayClaim}
 use Rattle.osrl_grammar.specs.Reading.{IsReportText, DecodeFails}
 use Rattle.osrl_grammar.specs.Writing.{report_text}
 use Rattle.osrl_grammar.specs.Back.{HaveColumns, NodeComesBack, CauseComesBack, TreeComesBack, ClaimComesBack, IsBareOrNone}

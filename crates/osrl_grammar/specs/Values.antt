@@ -1,5 +1,5 @@
 -- What items stand for: numbers, nodes and causes.
-use Rattle.std.specs.Prelude.{◌≡◌, ℕ, pos, List, [], ◌∷◌}
+use Rattle.std.specs.Prelude.{◌≡◌, ℕ, pos, List}
 use Rattle.std.specs.List.{AllZip}
 use Rattle.rational.specs.Ratio.{whole}
 use Rattle.fraction.specs.Frac.{ratio}

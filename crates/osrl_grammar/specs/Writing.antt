@@ -1,7 +1,7 @@
 -- The document that a report is written as (Optimization Services result language), and its text.
 use Rattle.std.specs.Prelude.{ℕ, ◌+◌, ◌-◌, Bool, true, false, Option, None, Some, nat_lt, cond, List, [], ◌∷◌, ◌++◌, map, flat_map, length, codes, decimal}
 use Rattle.std.specs.Fmt.{signed_decimal}
-use Rattle.tree_grammar.specs.Elements.{Attribute, Nodes, none, element, chars, Element}
+use Rattle.tree_grammar.specs.Elements.{Nodes, none, element, chars, Element}
 use Rattle.tree_grammar.specs.Written.{written}
 use Rattle.document_tags.specs.Writing.{only, text_nodes, leaf, group, typed, rooted}
 use Rattle.fraction.specs.Frac.{ratio}
