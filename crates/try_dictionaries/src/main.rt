@@ -8,9 +8,7 @@ use cases::{Answers, try_file};
 use os_io::{DiskFiles, Memory, Text};
 use std::alloc::Global;
 use std::io;
-use tableaus::{
-    read_exchanges, read_factor, read_numbers, read_tableau, tell_turned, tell_values,
-};
+use tableaus::{read_exchanges, read_factor, read_numbers, read_tableau, tell_turned, tell_values};
 
 /// Given the rows, the costs, the factor of the costs and the exchanges, and maybe a value for each column.
 #[derive(Drop)]
