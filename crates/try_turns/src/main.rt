@@ -1,0 +1,43 @@
+//! A table of cases for runs of linear programs: the end of each, the turns done, and the looks.
+//!
+//! The answers come from the rules (`docs/rules/runs.md`; Bland 1977), by hand and by solving the rows anew for each basis.
+//! The output is a line for each answer that is another, and how many cases there are.
+#![tactic(auto)]
+
+mod reading;
+mod running;
+mod telling;
+
+use cases::{Answers, try_file};
+use os_io::{DiskFiles, Memory, Text};
+use reading::read_case;
+use running::tell_run;
+use std::alloc::Global;
+use std::io;
+
+/// Given the rows, their ends, those of the variables, cuts, the goal, the costs, and the turns with the looks that stop.
+#[derive(Drop)]
+struct Turns;
+
+impl Answers for Turns {
+    fn answer(&mut self, alloc: Global, given: &[Vec<u8>]) -> Result<Text, Memory> {
+        match read_case(alloc, given)? {
+            Some(case) => tell_run(alloc, case),
+            None => Text::from_slice(alloc, b"no case"),
+        }
+    }
+}
+
+fn main(rt: HostRuntime) -> io::Result<()> {
+    let alloc = rt.alloc();
+    let mut files = DiskFiles::new(&rt);
+    let count = try_file(
+        alloc,
+        "turns.txt",
+        &mut files,
+        &mut Turns,
+        &mut rt.stdout(),
+    )?;
+    println!(rt; "{count} cases")?;
+    Ok(())
+}
