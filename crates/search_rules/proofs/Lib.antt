@@ -1,7 +1,7 @@
 mod Proving
 mod Narrower
 mod Relaxed
-mod Scaled
+pub mod Scaled
 mod Holding
 mod Outcomes
 mod OneOutcome

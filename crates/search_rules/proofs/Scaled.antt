@@ -24,20 +24,12 @@ use Rattle.simplex_rules.specs.Ends.{IsDirection}
 use Rattle.simplex_rules.proofs.Facts.{below_none}
 use Rattle.search_rules.specs.Rays.{IsNextFactor, IsFactor, IsMultiple, IsScaled}
 
-module _ (I : Instance) (d : List Ratio) (numbers : All IsNumber d) where
-  next_above : (b : Bool) (x : Ratio) (f g : ℕ) → IsNumber x → 0 < f → IsNextFactor b x f g → 0 < g
-  next_above true x f g n up h = pos_of_dvd_of_pos (h.0.2 (f * x.den) (dvd-mul_right f x.den) (dvd-mul_left x.den f)) (mul-pos up n)
-  next_above false x f g n up h = rw h up
-
-  factor_above : (n f : ℕ) → IsFactor I d n f → 0 < f
-  factor_above zero f h = rw h (lit< tt)
-  factor_above (suc j) f h = next_above (variable_at I j).whole (value_at d j) h.0 f (value-number d numbers j) (factor_above j h.0 h.1) h.2
-
+module _ (I : Instance) (d : List Ratio) where
   one_next : (b : Bool) (x : Ratio) (e f g : ℕ) → IsNextFactor b x e f → IsNextFactor b x e g → f ≡ g
   one_next true x e f g p q = dvd_antisymm (p.0.2 g q.0.0 q.0.1) (q.0.2 f p.0.0 p.0.1)
   one_next false x e f g p q = p ∙ sym q
 
-  one_factor : (n f g : ℕ) → IsFactor I d n f → IsFactor I d n g → f ≡ g
+  pub one_factor : (n f g : ℕ) → IsFactor I d n f → IsFactor I d n g → f ≡ g
   one_factor zero f g p q = p ∙ sym q
   one_factor (suc j) f g p q =
       one_next (variable_at I j).whole (value_at d j) q.0 f g
@@ -59,12 +51,21 @@ module _ (I : Instance) (d : List Ratio) (numbers : All IsNumber d) where
       (λ below. dvd_trans _ (factor_divides k h.0 h.1 j below w) (before_divides (variable_at I k).whole (value_at d k) h.0 f h.2))
       (λ up. let e : j ≡ k = omega arith in own_divides (variable_at I j).whole (value_at d j) h.0 f w (subst (λ k. IsNextFactor (variable_at I k).whole (value_at d k) h.0 f) (sym e) h.2))
 
+module _ (I : Instance) (d : List Ratio) (numbers : All IsNumber d) where
+  next_above : (b : Bool) (x : Ratio) (f g : ℕ) → IsNumber x → 0 < f → IsNextFactor b x f g → 0 < g
+  next_above true x f g n up h = pos_of_dvd_of_pos (h.0.2 (f * x.den) (dvd-mul_right f x.den) (dvd-mul_left x.den f)) (mul-pos up n)
+  next_above false x f g n up h = rw h up
+
+  factor_above : (n f : ℕ) → IsFactor I d n f → 0 < f
+  factor_above zero f h = rw h (lit< tt)
+  factor_above (suc j) f h = next_above (variable_at I j).whole (value_at d j) h.0 f (value-number d numbers j) (factor_above j h.0 h.1) h.2
+
   one_multiple : (f : ℕ) (x y z : Ratio) → IsNumber x → IsMultiple f x y → IsMultiple f x z → y ≡ z
   one_multiple f x y z n p q = same_reduced y z p.reduced q.reduced (IsSame-trans y (product x (whole (pos f))) z (product-number x (whole (pos f)) n (lit< tt)) p.same (sym q.same))
 
   pub one_ray : (r s : List Ratio) → IsScaled I d r → IsScaled I d s → r ≡ s
   one_ray r s p q =
-      let e : p.factor ≡ q.factor = one_factor (width I) p.factor q.factor p.least q.least in
+      let e : p.factor ≡ q.factor = one_factor I d (width I) p.factor q.factor p.least q.least in
       ext_get_or none r s (p.count ∙ sym q.count)
       (λ j h.
       let k : j < width I = let n = p.count in omega arith in
@@ -130,7 +131,7 @@ ray_of I d r good h s = record {
   numbers = All-from_get_or IsNumber r none (λ j low. number j (let n = s.count in omega arith));
   variables = λ j low. never_leaves f up (variable_at I j).range (value_at d j) (value_at r j) (px j) (scaled j low) (h.variables j low);
   rows = λ i low. never_leaves f up (row_at I i) (activity I d i) (activity I r i) (sum-number (entry_at I.entries i) (entry-number I.entries good.entries i)) (sums (entry_at I.entries i) (entry-number I.entries good.entries i)) (h.rows i low);
-  whole = λ j low w. is_whole f up (value_at d j) (value_at r j) (px j) (scaled j low) (factor_divides I d h.numbers (width I) f s.least j low w);
+  whole = λ j low w. is_whole f up (value_at d j) (value_at r j) (px j) (scaled j low) (factor_divides I d (width I) f s.least j low w);
   better =
       let costs = value-number I.goal.costs good.costs in
       let t : Ratio = total none (width I) (λ j. product (cost_at I j) (value_at d j)) in
