@@ -1,5 +1,5 @@
 -- Documents that are accepted aren't refused.
-use Rattle.std.proofs.Common.{◌≡◌, ◌∙◌, ℕ, Option, None, Some, List, inl, inr, refl, ap, sym, subst}
+use Rattle.std.proofs.Common.{◌≡◌, ◌∙◌, ℕ, Option, None, Some, List, inl, inr, ap, sym, subst}
 use Rattle.evidence.specs.Instance.{Instance}
 use Rattle.evidence.specs.Claim.{Accepts}
 use Rattle.instance.specs.Parts.{Parts}

@@ -1,6 +1,6 @@
 -- The coefficients of columns: of a variable, and of a row by its entries.
-use Rattle.std.proofs.Common.{◌≡◌, ℕ, ◌-◌, ◌<◌, ◌≤◌, pos, Bool, true, false, cond, nat_eq, nat_lt, Option, List, [], ◌∷◌, length, slice_set, arith, refl, sym, ◌∙◌, ap, subst}
-use Rattle.std.specs.List.{All, filter}
+use Rattle.std.proofs.Common.{◌≡◌, ℕ, ◌-◌, ◌<◌, ◌≤◌, pos, true, false, cond, nat_eq, nat_lt, Option, List, length, slice_set, arith, refl, sym, ◌∙◌, ap, subst}
+use Rattle.std.specs.List.{All}
 use Rattle.std.proofs.lemmas.Bool.{eqb-true, eq-eqb, ne_eqb, lt-ltb, le-ltb}
 use Rattle.std.proofs.lemmas.List.Elements.{All-filter, filter_passes}
 use Rattle.rational.specs.Ratio.{Ratio, whole}
@@ -12,9 +12,9 @@ use Rattle.evidence.proofs.Columns.{by_lt}
 use Rattle.evidence.proofs.Rows.{entry_filter}
 use Rattle.instance.specs.declared.parts.Var.{Var}
 use Rattle.instance.specs.Parts.{Parts, IsValid}
-use Rattle.instance.specs.Program.{entry, entries}
+use Rattle.instance.specs.Program.{entries}
 use Rattle.instance.proofs.RowSums.{row_of, entries_filter}
-use Rattle.cert_checker.specs.Cuts.{cut}
+use Rattle.case_tree.specs.Cuts.{cut}
 use Rattle.cert_checker.specs.Slots.{slot_at, IsStep}
 use Rattle.cert_checker.proofs.Adding.{set_apart, nothing}
 use Rattle.cert_checker.proofs.Widths.{width_is}

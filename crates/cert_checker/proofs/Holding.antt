@@ -19,7 +19,7 @@ use Rattle.instance.specs.Parts.{Parts}
 use Rattle.instance.proofs.Numbers.{program-instance}
 use Rattle.certificate.specs.declared.lists.Mult.{Mult}
 use Rattle.certificate.specs.Means.{multiplier, multipliers}
-use Rattle.cert_checker.specs.Cuts.{cut}
+use Rattle.case_tree.specs.Cuts.{cut}
 use Rattle.cert_checker.specs.Slots.{IsStep, Holds}
 use Rattle.cert_checker.specs.Leaves.{wanted, HasForm}
 

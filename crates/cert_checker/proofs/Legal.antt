@@ -10,14 +10,14 @@ use Rattle.evidence.specs.Cases.{Multiplier, multiplier_at, end_of, IsLegal}
 use Rattle.certificate.specs.declared.lists.Mult.{Mult}
 use Rattle.certificate.specs.Means.{multiplier, multipliers}
 use Rattle.cert_checker.specs.Leaves.{IsPair, PairsBelow}
-use Rattle.cert_checker.proofs.Lists.{any_default}
+use Rattle.std.proofs.lemmas.List.{get_or_default}
 
 abbrev no_mult : Multiplier
 no_mult = record { column = 0; by = none }
 
 -- what holds of the multiplier at each place holds of all
 all_at : (P : Multiplier → Type 0) (ms : List Multiplier) → ((k : ℕ) → k < length ms → P (multiplier_at ms k)) → All P ms
-all_at P ms f = λ k d h. subst P (any_default ms k no_mult d h) (f k h)
+all_at P ms f = λ k d h. subst P (get_or_default ms k no_mult d h) (f k h)
 
 pub at_all : (P : Multiplier → Type 0) (ms : List Multiplier) → All P ms → (k : ℕ) → k < length ms → P (multiplier_at ms k)
 at_all P ms f k h = f k no_mult h

@@ -8,7 +8,6 @@ pub mod Coefficients
 pub mod LowSums
 pub mod Legal
 pub mod Moves
-pub mod Paths
 pub mod Walks
 pub mod Refusing
 pub mod Claims

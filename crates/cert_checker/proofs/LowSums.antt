@@ -15,7 +15,8 @@ use Rattle.instance.specs.Parts.{Parts}
 use Rattle.instance.proofs.Numbers.{program-instance}
 use Rattle.certificate.specs.declared.lists.Mult.{Mult}
 use Rattle.certificate.specs.Means.{multipliers}
-use Rattle.cert_checker.specs.Cuts.{cut, aim}
+use Rattle.case_tree.specs.Cuts.{cut}
+use Rattle.cert_checker.specs.Cuts.{aim}
 use Rattle.cert_checker.specs.declared.refused.Refused.TheVariants.{Sum, Wide}
 use Rattle.cert_checker.specs.Leaves.{start, Reaches, HasSum, SumRefuses}
 use Rattle.cert_checker.proofs.Holding.{factors-number}

@@ -17,9 +17,10 @@ use Rattle.certificate.specs.declared.nodes.Node.TheVariants.{Farkas, Bound}
 use Rattle.cert_checker.specs.declared.refused.Refused.{Refused}
 use Rattle.instance.specs.declared.parts.Var.{Var}
 use Rattle.instance.specs.Parts.{Parts}
-use Rattle.cert_checker.specs.declared.path.Branch.{Branch}
+use Rattle.case_tree.specs.declared.path.Branch.{Branch}
 use Rattle.cert_checker.specs.declared.refused.Refused.TheVariants.{Tree as Missing}
-use Rattle.cert_checker.specs.Cuts.{aim, cases}
+use Rattle.case_tree.specs.Cuts.{cases}
+use Rattle.cert_checker.specs.Cuts.{aim}
 use Rattle.cert_checker.specs.Leaves.{LeafHolds, LeafRefuses, ClashHolds}
 use Rattle.cert_checker.specs.Trees.{TreeRefuses, Leads}
 

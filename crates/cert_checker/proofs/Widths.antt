@@ -16,7 +16,7 @@ use Rattle.instance.specs.Program.{variable, row, program}
 use Rattle.instance.proofs.Terms.{ratios-number}
 use Rattle.certificate.specs.declared.lists.Mult.{Mult}
 use Rattle.certificate.specs.Means.{multiplier, multipliers}
-use Rattle.cert_checker.specs.Cuts.{cut}
+use Rattle.case_tree.specs.Cuts.{cut}
 use Rattle.cert_checker.proofs.Lists.{mult_read}
 
 pub width_is : (p : Parts) (vs : List Var) → width (cut p vs) ≡ length vs

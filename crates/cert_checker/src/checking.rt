@@ -6,11 +6,11 @@ ghost use Rattle.certificate.specs.Means as Means;
 ghost use Rattle.certificate.specs.Nodes.{nodes_of, IsInRange};
 ghost use Rattle.cert_checker.specs.Refusals.{IsRefused};
 
-use crate::numbers::turned;
 use crate::point::check_point;
 use crate::ray::check_ray;
 use crate::refused::Refused;
 use crate::scratch::Scratch;
+use case_tree::turned;
 use certificate::Claim;
 use instance::Instance;
 

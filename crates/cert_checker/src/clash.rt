@@ -2,12 +2,12 @@
 ghost use Rattle.std.specs.Prelude.{◌≡◌, ◌↔◌, length, IsTrue, OnOk, IfErr};
 ghost use Rattle.evidence.specs.Cases.{IsEmpty};
 ghost use Rattle.instance.specs.Program.{row};
-ghost use Rattle.cert_checker.specs.Cuts.{cut};
+ghost use Rattle.case_tree.specs.Cuts.{cut};
 ghost use Rattle.cert_checker.specs.Leaves.{ClashHolds, ClashRefuses};
 
 use crate::columns::ends_of;
-use crate::numbers::is_below;
 use crate::refused::Refused;
+use case_tree::is_below;
 use fraction::End;
 use instance::{Instance, Row, Var};
 

@@ -3,7 +3,7 @@ ghost use Rattle.std.specs.Prelude.{◌≡◌, ◌+◌, ◌<◌, length};
 ghost use Rattle.evidence.specs.Instance.{column_at};
 ghost use Rattle.evidence.specs.Cases.{end_by};
 ghost use Rattle.instance.specs.Program.{limit, row};
-ghost use Rattle.cert_checker.specs.Cuts.{cut};
+ghost use Rattle.case_tree.specs.Cuts.{cut};
 
 use fraction::{End, Frac};
 use instance::{Instance, Row, Var};

@@ -3,15 +3,15 @@ ghost use Rattle.std.specs.Prelude.{◌≡◌, ◌<◌, ℕ, length, OnOk, IfErr
 ghost use Rattle.fraction.specs.Frac.{ratio};
 ghost use Rattle.evidence.specs.Cases.{IsLegal};
 ghost use Rattle.certificate.specs.Means.{multipliers};
-ghost use Rattle.cert_checker.specs.Cuts.{cut};
+ghost use Rattle.case_tree.specs.Cuts.{cut};
 ghost use Rattle.cert_checker.specs.Cuts as Of;
 ghost use Rattle.cert_checker.specs.Leaves.{FormsBelow, FormRefuses};
 ghost use Rattle.cert_checker.specs.Leaves as Leaf;
 ghost use Rattle.cert_checker.specs.Slots.{slot_at, Holds};
 
-use crate::numbers::{is_same, turned, zero};
 use crate::refused::Refused;
 use crate::slots::{add_column, clear};
+use case_tree::{is_same, turned, zero};
 use certificate::Mult;
 use fraction::Frac;
 use instance::{Instance, Var};

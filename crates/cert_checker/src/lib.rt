@@ -16,14 +16,11 @@
 mod checking;
 mod clash;
 mod columns;
-mod cuts;
 mod documents;
 mod forms;
 mod laws;
 mod leaf;
-mod numbers;
 mod pairs;
-mod path;
 mod point;
 mod ray;
 mod refused;

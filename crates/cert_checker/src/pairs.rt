@@ -2,7 +2,7 @@
 ghost use Rattle.std.specs.Prelude.{◌≡◌, ◌↔◌, ◌+◌, ◌<◌, ℕ, length, IsTrue, IsSome, MatchOption};
 ghost use Rattle.evidence.specs.Cases.{multiplier_at, end_of, IsLegal};
 ghost use Rattle.certificate.specs.Means.{multipliers};
-ghost use Rattle.cert_checker.specs.Cuts.{cut};
+ghost use Rattle.case_tree.specs.Cuts.{cut};
 ghost use Rattle.cert_checker.specs.Leaves.{IsPair, IsFirstIllegal};
 
 use crate::columns::{end_by, ends_of};

@@ -7,8 +7,8 @@ ghost use Rattle.instance.specs.Program.{program};
 ghost use Rattle.instance.specs.Feasible.{IsFeasibleWithin};
 ghost use Rattle.cert_checker.specs.Points.{PointRefuses, ValueRefuses};
 
-use crate::numbers::is_same;
 use crate::refused::Refused;
+use case_tree::is_same;
 use fraction::Frac;
 use instance::{Feas, Instance};
 

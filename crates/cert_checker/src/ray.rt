@@ -9,8 +9,8 @@ ghost use Rattle.evidence.specs.Width.{RayFits};
 ghost use Rattle.instance.specs.Program.{limit, range, variable, program};
 ghost use Rattle.cert_checker.specs.Rays.{MayMove, VariablesMove, IsVariableHeld, RowsMove, RowsRefuse, slope, SlopeFits, SlopeRefuses, RayRefuses};
 
-use crate::numbers::{is_below, turned, zero};
 use crate::refused::Refused;
+use case_tree::{is_below, turned, zero};
 use fraction::{End, Frac, Wide};
 use instance::{Instance, Var, add_product};
 

@@ -7,9 +7,9 @@ ghost use Rattle.certificate.specs.Nodes.{IsInRange};
 ghost use Rattle.cert_checker.specs.Cuts as Of;
 ghost use Rattle.cert_checker.specs.Trees.{TreeRefuses};
 
-use crate::path::Branch;
 use crate::refused::Refused;
 use crate::walk::check_tree;
+use case_tree::Branch;
 use certificate::{Cert, Node};
 use fraction::{End, Frac};
 use instance::{Instance, Var};

@@ -8,10 +8,10 @@ ghost use Rattle.evidence.specs.Sums.{none};
 ghost use Rattle.evidence.specs.Instance.{entry_at, coefficient_at};
 ghost use Rattle.instance.specs.Program.{entries};
 ghost use Rattle.instance.specs.Parts.{IsAscending};
-ghost use Rattle.cert_checker.specs.Cuts.{cut};
+ghost use Rattle.case_tree.specs.Cuts.{cut};
 ghost use Rattle.cert_checker.specs.Slots.{slot_at, IsStep};
 
-use crate::numbers::{one, zero};
+use case_tree::{one, zero};
 use certificate::Mult;
 use fraction::{Entry, Frac};
 use instance::{Instance, Var, add_product};

@@ -5,13 +5,13 @@ ghost use Rattle.fraction.specs.Frac.{ratio};
 ghost use Rattle.evidence.specs.Cases.{multiplier_at, end_of, or_none, IsLegal, low_sum};
 ghost use Rattle.evidence.specs.Width.{LowFits};
 ghost use Rattle.certificate.specs.Means.{multipliers};
-ghost use Rattle.cert_checker.specs.Cuts.{cut};
+ghost use Rattle.case_tree.specs.Cuts.{cut};
 ghost use Rattle.cert_checker.specs.Cuts as Of;
 ghost use Rattle.cert_checker.specs.Leaves as Leaf;
 
 use crate::columns::{end_by, ends_of};
-use crate::numbers::{is_at_most, is_below, turned, zero};
 use crate::refused::Refused;
+use case_tree::{is_at_most, is_below, turned, zero};
 use certificate::Mult;
 use fraction::{End, Frac, Wide};
 use instance::{Instance, Var, add_product};

@@ -6,15 +6,14 @@ ghost use Rattle.evidence.specs.Width.{ProvesWithin};
 ghost use Rattle.instance.specs.Program.{program};
 ghost use Rattle.certificate.specs.Means as Means;
 ghost use Rattle.certificate.specs.Nodes.{IsInRange};
-ghost use Rattle.cert_checker.specs.Cuts.{cases, AreBranches};
+ghost use Rattle.case_tree.specs.Cuts.{cases, AreBranches};
 ghost use Rattle.cert_checker.specs.Cuts as Of;
 ghost use Rattle.cert_checker.specs.Trees.{TreeRefuses, Leads};
 
 use crate::clash::check_clash;
-use crate::cuts::is_branch;
 use crate::leaf::check_leaf;
-use crate::path::{Branch, back, enter};
 use crate::refused::Refused;
+use case_tree::{Branch, back, enter, is_branch};
 use certificate::Node;
 use fraction::Frac;
 use instance::{Instance, Var};

@@ -1,7 +1,7 @@
 use Rattle.std.proofs.Common.{arith, sym, subst}
 use Rattle.evidence.specs.Instance.{coefficient_at}
 use Rattle.evidence.specs.Cases.{Multiplier}
-use Rattle.cert_checker.specs.Cuts.{cut}
+use Rattle.case_tree.specs.Cuts.{cut}
 use Rattle.cert_checker.specs.Slots.{slot_at, IsStep}
 use Rattle.cert_checker.proofs.Lists.{mult_read}
 use Rattle.cert_checker.proofs.Widths.{legal_column}

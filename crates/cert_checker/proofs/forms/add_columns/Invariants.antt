@@ -1,6 +1,6 @@
 use Rattle.std.proofs.Common.{◌<◌, ℕ, length}
 use Rattle.certificate.specs.Means.{multipliers}
-use Rattle.cert_checker.specs.Cuts.{cut}
+use Rattle.case_tree.specs.Cuts.{cut}
 use Rattle.cert_checker.specs.Slots.{slot_at, Holds}
 use Rattle.cert_checker.proofs.forms.add_columns.Given as goal
 

@@ -1,9 +1,10 @@
 use Rattle.std.proofs.Common.{◌≡◌, ◌<◌, None, Some, IsTrue, false, length, arith, refl, ap, ◌∙◌, inl, inr, below_more}
 use Rattle.certificate.specs.Means.{multipliers}
+use Rattle.case_tree.specs.Cuts as Tree
 use Rattle.cert_checker.specs.Cuts as Of
 use Rattle.cert_checker.specs.Leaves.{HasForm}
 use Rattle.cert_checker.specs.Slots.{slot_at}
-use Rattle.cert_checker.proofs.Lists.{any_default}
+use Rattle.std.proofs.lemmas.List.{get_or_default}
 use Rattle.cert_checker.proofs.Widths.{width_is}
 use Rattle.cert_checker.proofs.Holding.{unfit_form, fits_form, has_form, other_form}
 use Rattle.cert_checker.proofs.forms.compare.Goals as goal
@@ -18,7 +19,7 @@ returns-in-None-clause-err c =
       record {
         inside = omega arith;
         below = c.loop-j.invariant;
-        wide = unfit_form c.args.instance.now c.args.vars.now c.args.mults.now c.loop-j.j (slot_at c.args.slots.now c.loop-j.j) (any_default c.args.slots.now c.loop-j.j None _ (omega arith) ∙ c.in-None.is) (c.requires.sums c.loop-j.j h);
+        wide = unfit_form c.args.instance.now c.args.vars.now c.args.mults.now c.loop-j.j (slot_at c.args.slots.now c.loop-j.j) (get_or_default c.args.slots.now c.loop-j.j None _ (omega arith) ∙ c.in-None.is) (c.requires.sums c.loop-j.j h);
       },
       refl,
     )
@@ -28,7 +29,7 @@ returns-then-not-is_same-clause-err c =
     let w = width_is c.args.instance.now c.args.vars.now in
     let v = ap length c.vars-count.ensures.value in
     let h : c.loop-j.j < length c.args.vars.now = omega arith in
-    let e : slot_at c.args.slots.now c.loop-j.j ≡ Some c.in-Some.sum = any_default c.args.slots.now c.loop-j.j None _ (omega arith) ∙ c.in-Some.is in
+    let e : slot_at c.args.slots.now c.loop-j.j ≡ Some c.in-Some.sum = get_or_default c.args.slots.now c.loop-j.j None _ (omega arith) ∙ c.in-Some.is in
     let s = c.requires.sums c.loop-j.j h in
     inl (
       c.loop-j.j,
@@ -46,7 +47,7 @@ pub loop-j-preserved : goal.loop-j-preserved
 loop-j-preserved c =
     let v = ap length c.vars-count.ensures.value in
     let h : c.loop-j.j < length c.args.vars.now = omega arith in
-    let e : slot_at c.args.slots.now c.loop-j.j ≡ Some c.in-Some.sum = any_default c.args.slots.now c.loop-j.j None _ (omega arith) ∙ c.in-Some.is in
+    let e : slot_at c.args.slots.now c.loop-j.j ≡ Some c.in-Some.sum = get_or_default c.args.slots.now c.loop-j.j None _ (omega arith) ∙ c.in-Some.is in
     let s = c.requires.sums c.loop-j.j h in
-    below_more (HasForm (Of.cut c.args.instance.now c.args.vars.now) (multipliers c.args.mults.now) (Of.aim c.args.aim)) c.loop-j.j c.loop-j.invariant
+    below_more (HasForm (Tree.cut c.args.instance.now c.args.vars.now) (multipliers c.args.mults.now) (Of.aim c.args.aim)) c.loop-j.j c.loop-j.invariant
     (has_form c.args.instance.now c.args.vars.now c.args.mults.now c.loop-j.j (slot_at c.args.slots.now c.loop-j.j) c.in-Some.sum e s (Of.aim c.args.aim) c.wanted.result c.wanted.ensures (c.if-not-is_same.ensures.0 refl))

@@ -1,7 +1,8 @@
 use Rattle.certificate.specs.Means.{multipliers}
+use Rattle.case_tree.specs.Cuts as Tree
 use Rattle.cert_checker.specs.Cuts as Of
 use Rattle.cert_checker.specs.Leaves.{FormsBelow}
 use Rattle.cert_checker.proofs.forms.compare.Given as goal
 
 abbrev pub invariant-loop-j : goal.invariant-loop-j
-invariant-loop-j l = FormsBelow (Of.cut l.instance l.vars) (multipliers l.mults) (Of.aim l.aim) l.j
+invariant-loop-j l = FormsBelow (Tree.cut l.instance l.vars) (multipliers l.mults) (Of.aim l.aim) l.j

@@ -1,6 +1,7 @@
 use Rattle.std.proofs.Common.{sym, subst, inl, inr}
 use Rattle.std.proofs.lemmas.Result.{MatchResult-weaker, err_from_is_err_and}
 use Rattle.certificate.specs.Means.{multipliers}
+use Rattle.case_tree.specs.Cuts as Tree
 use Rattle.cert_checker.specs.Cuts as Of
 use Rattle.cert_checker.specs.Leaves.{FormsBelow}
 use Rattle.cert_checker.proofs.Widths.{width_is}
@@ -13,5 +14,5 @@ returns-in_err-check_forms-clause-err c =
 
 pub returns-clause-err : goal.returns-clause-err
 returns-clause-err c =
-    let forms = subst (FormsBelow (Of.cut c.args.instance.now c.args.vars.now) (multipliers c.args.mults.now) (Of.aim c.args.aim)) (sym (width_is c.args.instance.now c.args.vars.now)) c.in_ok-check_forms.ensures.ok in
+    let forms = subst (FormsBelow (Tree.cut c.args.instance.now c.args.vars.now) (multipliers c.args.mults.now) (Of.aim c.args.aim)) (sym (width_is c.args.instance.now c.args.vars.now)) c.in_ok-check_forms.ensures.ok in
     MatchResult-weaker c.check_sum.result c.check_sum.ensures.err (λ x p. p) (λ e p. inr (inr (c.in_default.ensures, forms, p)))

@@ -2,7 +2,7 @@ use Rattle.std.proofs.Common.{◌≡◌, IsTrue, false, length, arith, refl, sym
 use Rattle.std.proofs.lemmas.List.{length-map}
 use Rattle.evidence.specs.Cases.{Multiplier}
 use Rattle.certificate.specs.Means.{multiplier, multipliers}
-use Rattle.cert_checker.specs.Cuts.{cut}
+use Rattle.case_tree.specs.Cuts.{cut}
 use Rattle.cert_checker.specs.Leaves.{IsPair, PairsBelow}
 use Rattle.cert_checker.proofs.Lists.{mult_is}
 use Rattle.cert_checker.proofs.Legal.{legal_from}

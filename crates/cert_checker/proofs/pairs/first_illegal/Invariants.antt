@@ -1,5 +1,5 @@
 use Rattle.certificate.specs.Means.{multipliers}
-use Rattle.cert_checker.specs.Cuts.{cut}
+use Rattle.case_tree.specs.Cuts.{cut}
 use Rattle.cert_checker.specs.Leaves.{PairsBelow}
 use Rattle.cert_checker.proofs.pairs.first_illegal.Given as goal
 

@@ -5,7 +5,7 @@ use Rattle.evidence.specs.Cases.{Multiplier, multiplier_at, end_of, or_none}
 use Rattle.evidence.proofs.Steps.{more, wide}
 use Rattle.instance.proofs.Terms.{at_err}
 use Rattle.certificate.specs.Means.{multiplier, multipliers}
-use Rattle.cert_checker.specs.Cuts.{cut}
+use Rattle.case_tree.specs.Cuts.{cut}
 use Rattle.cert_checker.proofs.Lists.{mult_is}
 use Rattle.cert_checker.proofs.Holding.{factors-number}
 use Rattle.cert_checker.proofs.LowSums.{ends-number}

@@ -7,6 +7,7 @@ use Rattle.std.proofs.lemmas.Result.{err_from_is_err_and}
 use Rattle.evidence.specs.Cases as Cases
 use Rattle.certificate.specs.Means as Means
 use Rattle.certificate.specs.declared.nodes.Node.{Node}
+use Rattle.case_tree.specs.Cuts as Tree
 use Rattle.cert_checker.specs.Cuts as Of
 use Rattle.cert_checker.specs.Trees.{Leads}
 use Rattle.cert_checker.proofs.Walks.{split_leads, clash_leads, farkas_node_leads, bound_node_leads, farkas_refused, bound_refused}
@@ -16,9 +17,9 @@ use Rattle.cert_checker.proofs.walk.step.Goals as goal
 pub returns-in-Split-clause-ok : goal.returns-in-Split-clause-ok
 returns-in-Split-clause-ok c = λ rest.
     let p = c.args.instance.now in
-    let I = Of.cut p c.args.vars.now in
-    let js = Of.pending p c.args.vars.now c.args.branches.now c.args.depth in
-    let after = Of.cases p c.enter.new.vars c.enter.new.branches (Some (c.args.depth + 1)) in
+    let I = Tree.cut p c.args.vars.now in
+    let js = Tree.pending p c.args.vars.now c.args.branches.now c.args.depth in
+    let after = Tree.cases p c.enter.new.vars c.enter.new.branches (Some (c.args.depth + 1)) in
     let j = c.in-Split.col in
     let k = c.in-Split.k in
     let f : SFits w128 k = search rules in
@@ -31,20 +32,20 @@ pub returns-in_err-check_leaf-in-Farkas-clause-err : goal.returns-in_err-check_l
 returns-in_err-check_leaf-in-Farkas-clause-err c =
     let p = err_from_is_err_and c.from_residual-in_err-check_leaf-in-Farkas.result c.from_residual-in_err-check_leaf-in-Farkas.ensures.1 in
     rw (p.1, p.2)
-    (λ rest. farkas_refused (Of.cut c.args.instance.now c.args.vars.now) (Of.pending c.args.instance.now c.args.vars.now c.args.branches.now c.args.depth) c.args.number (Of.aim c.args.aim) rest c.args.node.now c.in-Farkas.mults c.as_slice.result.now c.in-Farkas.is c.as_slice.ensures c.in_err-check_leaf-in-Farkas.field-0.0 c.in_err-check_leaf-in-Farkas.ensures.err)
+    (λ rest. farkas_refused (Tree.cut c.args.instance.now c.args.vars.now) (Tree.pending c.args.instance.now c.args.vars.now c.args.branches.now c.args.depth) c.args.number (Of.aim c.args.aim) rest c.args.node.now c.in-Farkas.mults c.as_slice.result.now c.in-Farkas.is c.as_slice.ensures c.in_err-check_leaf-in-Farkas.field-0.0 c.in_err-check_leaf-in-Farkas.ensures.err)
 
 pub returns-in_err-check_leaf-in-Bound-clause-err : goal.returns-in_err-check_leaf-in-Bound-clause-err
 returns-in_err-check_leaf-in-Bound-clause-err c =
     let p = err_from_is_err_and c.from_residual-in_err-check_leaf-in-Bound.result c.from_residual-in_err-check_leaf-in-Bound.ensures.1 in
     rw (p.1, p.2)
-    (λ rest. bound_refused (Of.cut c.args.instance.now c.args.vars.now) (Of.pending c.args.instance.now c.args.vars.now c.args.branches.now c.args.depth) c.args.number rest c.args.node.now c.in-Bound.mults c.as_slice-in-Bound.result.now c.in-Bound.is c.as_slice-in-Bound.ensures c.args.aim (not_none c.args.aim c.is_none.result c.is_none.ensures c.if-is_none.false) c.in_err-check_leaf-in-Bound.field-0.0 c.in_err-check_leaf-in-Bound.ensures.err)
+    (λ rest. bound_refused (Tree.cut c.args.instance.now c.args.vars.now) (Tree.pending c.args.instance.now c.args.vars.now c.args.branches.now c.args.depth) c.args.number rest c.args.node.now c.in-Bound.mults c.as_slice-in-Bound.result.now c.in-Bound.is c.as_slice-in-Bound.ensures c.args.aim (not_none c.args.aim c.is_none.result c.is_none.ensures c.if-is_none.false) c.in_err-check_leaf-in-Bound.field-0.0 c.in_err-check_leaf-in-Bound.ensures.err)
 
 pub returns-clause-ok : goal.returns-clause-ok
 returns-clause-ok c = λ rest.
     let p = c.args.instance.now in
-    let I = Of.cut p c.args.vars.now in
-    let js = Of.pending p c.args.vars.now c.args.branches.now c.args.depth in
-    let after = Of.cases p c.back.new.vars c.back.new.branches c.back.result in
+    let I = Tree.cut p c.args.vars.now in
+    let js = Tree.pending p c.args.vars.now c.args.branches.now c.args.depth in
+    let after = Tree.cases p c.back.new.vars c.back.new.branches c.back.result in
     elim c.match-node.branch [
       | in-Clash+in_ok-check_clash-in-Clash w ↦
           subst (λ (n : Node). Leads (I ∷ js) (Means.node n ∷ rest) c.args.number after rest (c.args.number + 1) (Of.aim c.args.aim)) (sym w.in-Clash.is)

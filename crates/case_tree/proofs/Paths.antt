@@ -9,8 +9,8 @@ use Rattle.evidence.proofs.Columns.{by_lt}
 use Rattle.instance.specs.declared.parts.Var.{Var}
 use Rattle.instance.specs.Parts.{Parts}
 use Rattle.instance.specs.Program.{variable, limit}
-use Rattle.cert_checker.specs.declared.path.Branch.{Branch}
-use Rattle.cert_checker.specs.Cuts.{cut, cases, pending, branch_at, no_var, AreBranches}
+use Rattle.case_tree.specs.declared.path.Branch.{Branch}
+use Rattle.case_tree.specs.Cuts.{cut, cases, pending, branch_at, no_var, AreBranches}
 
 -- a variable in place of another
 module _ (p : Parts) (vs : List Var) (j : ℕ) (v w : Var) (h : j < length vs) (is : v ≡ slice_index_or vs j v) (k : ℤ) where

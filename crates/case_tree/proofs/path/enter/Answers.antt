@@ -3,10 +3,10 @@ use Rattle.std.proofs.Math.Facts.{to_z-of_z}
 use Rattle.rational.specs.Ratio.{whole}
 use Rattle.evidence.specs.Cases.{lesser_end}
 use Rattle.instance.specs.Program.{variable, limit}
-use Rattle.cert_checker.specs.declared.path.Branch.{Branch}
-use Rattle.cert_checker.specs.Cuts.{AreBranches}
-use Rattle.cert_checker.proofs.Paths.{branches_with, entered, cut_most}
-use Rattle.cert_checker.proofs.path.enter.Goals as goal
+use Rattle.case_tree.specs.declared.path.Branch.{Branch}
+use Rattle.case_tree.specs.Cuts.{AreBranches}
+use Rattle.case_tree.proofs.Paths.{branches_with, entered, cut_most}
+use Rattle.case_tree.proofs.path.enter.Goals as goal
 
 pub returns-clause-above : goal.returns-clause-above
 returns-clause-above c =

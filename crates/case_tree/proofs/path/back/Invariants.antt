@@ -1,7 +1,7 @@
 use Rattle.std.proofs.Common.{◌≡◌, ◌≤◌}
 use Rattle.instance.specs.Parts.{Parts}
-use Rattle.cert_checker.specs.Cuts.{pending}
-use Rattle.cert_checker.proofs.path.back.Given as goal
+use Rattle.case_tree.specs.Cuts.{pending}
+use Rattle.case_tree.proofs.path.back.Given as goal
 
 abbrev pub invariant-loop-place : goal.invariant-loop-place
 invariant-loop-place l = record {

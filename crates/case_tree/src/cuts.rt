@@ -4,7 +4,7 @@ ghost use Rattle.rational.specs.Ratio.{whole};
 ghost use Rattle.rational.specs.Width.{most};
 ghost use Rattle.evidence.specs.Cases.{lesser_end, greater_end, IsBranch};
 ghost use Rattle.instance.specs.Program.{limit, variable};
-ghost use Rattle.cert_checker.specs.Cuts.{cut};
+ghost use Rattle.case_tree.specs.Cuts.{cut};
 
 use crate::numbers::{is_below, whole};
 use fraction::{End, MAX};

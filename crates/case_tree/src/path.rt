@@ -3,7 +3,7 @@ ghost use Rattle.std.specs.Prelude.{◌≡◌, ◌+◌, ◌<◌, ◌≤◌, ◌�
 ghost use Rattle.rational.specs.Width.{most};
 ghost use Rattle.evidence.specs.Cases as Cases;
 ghost use Rattle.instance.specs.Parts.{Parts};
-ghost use Rattle.cert_checker.specs.Cuts.{cut, cases, pending, branch_at, AreBranches};
+ghost use Rattle.case_tree.specs.Cuts.{cut, cases, pending, branch_at, AreBranches};
 
 use crate::cuts::{at_least, at_most};
 use instance::Var;

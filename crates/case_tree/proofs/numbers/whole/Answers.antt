@@ -3,8 +3,8 @@ use Rattle.std.specs.Prelude.{unsigned_abs}
 use Rattle.std.proofs.Math.Facts.{to_z-of_z}
 use Rattle.rational.specs.Width.{most}
 use Rattle.rational.proofs.Coprime.{one_divides}
-use Rattle.cert_checker.proofs.Sizes.{size_within}
-use Rattle.cert_checker.proofs.numbers.whole.Goals as goal
+use Rattle.case_tree.proofs.Sizes.{size_within}
+use Rattle.case_tree.proofs.numbers.whole.Goals as goal
 
 pub invariant_of-result-clause-reduced : goal.invariant_of-result-clause-reduced
 invariant_of-result-clause-reduced c = (one_divides _, one_divides 1, λ d p q. q)

@@ -1,4 +1,4 @@
-use Rattle.std.proofs.Common.{◌≡◌, ◌+◌, ◌<◌, ◌≤ℤ◌, ◌<ℤ◌, ◌+ℤ◌, ℤ, pos, neg_ℤ, rules, length, slice_set, slice_index_or, true, false, arith, ap, subst, sym, ◌∙◌}
+use Rattle.std.proofs.Common.{◌≡◌, ◌+◌, ◌<◌, ◌≤ℤ◌, ◌<ℤ◌, ◌+ℤ◌, ℤ, pos, neg_ℤ, rules, length, slice_set, slice_index_or, true, false, arith, ap, subst, sym, ◌∙◌, refl}
 use mir.Val.{SFits, of_z, to_z}
 use mir.Syntax.{w128}
 use Rattle.std.proofs.Math.Facts.{to_z-of_z}
@@ -7,19 +7,19 @@ use Rattle.rational.specs.Ratio.{whole}
 use Rattle.rational.specs.Width.{most}
 use Rattle.evidence.specs.Cases.{greater_end}
 use Rattle.instance.specs.Program.{variable, limit}
-use Rattle.cert_checker.proofs.Sizes.{next_fits}
-use Rattle.cert_checker.specs.declared.path.Branch.{Branch}
-use Rattle.cert_checker.specs.Cuts.{no_var, branch_at}
-use Rattle.cert_checker.proofs.Lists.{any_default, read_any}
-use Rattle.cert_checker.proofs.Paths.{branches_with, branches_less, turned, cut_least}
-use Rattle.cert_checker.proofs.path.turn.Goals as goal
+use Rattle.case_tree.proofs.Sizes.{next_fits}
+use Rattle.case_tree.specs.declared.path.Branch.{Branch}
+use Rattle.case_tree.specs.Cuts.{no_var, branch_at}
+use Rattle.std.proofs.lemmas.List.{get_or_default, get_or_read_under}
+use Rattle.case_tree.proofs.Paths.{branches_with, branches_less, turned, cut_least}
+use Rattle.case_tree.proofs.path.turn.Goals as goal
 
 pub returns-clause-above : goal.returns-clause-above
 returns-clause-above c =
     let bs = c.args.branches.now in
     let d = c.args.place in
     let b : Branch = slice_index_or bs d c.index-branches-place-2.result in
-    let same : branch_at bs d ≡ b = any_default bs d (record { col = 0; k = pos 0; old = no_var; is_second = false }) c.index-branches-place-2.result c.requires.room in
+    let same : branch_at bs d ≡ b = get_or_default bs d (record { col = 0; k = pos 0; old = no_var; is_second = false }) c.index-branches-place-2.result c.requires.room in
     let here : d < d + 1 = omega arith in
     branches_with (length c.args.vars.now) bs d (record b { is_second = true }) c.requires.room (branches_less (length c.args.vars.now) bs d (d + 1) (omega arith) c.requires.above)
     (subst (λ (x : Branch). x.col < length c.args.vars.now) same (c.requires.above.columns d here))
@@ -31,8 +31,8 @@ returns-clause-cases c = λ p.
     let bs = c.args.branches.now in
     let d = c.args.place in
     let b : Branch = c.index-branches-place.result in
-    let eb : branch_at bs d ≡ b = read_any bs d b (record { col = 0; k = pos 0; old = no_var; is_second = false }) c.requires.room c.index-branches-place.is in
-    let ec : slice_index_or bs d c.index-branches-place-2.result ≡ b = read_any bs d b c.index-branches-place-2.result c.requires.room c.index-branches-place.is in
+    let eb : branch_at bs d ≡ b = sym (get_or_read_under bs d (length bs) b (record { col = 0; k = pos 0; old = no_var; is_second = false }) c.index-branches-place.is c.requires.room refl) in
+    let ec : slice_index_or bs d c.index-branches-place-2.result ≡ b = sym (get_or_read_under bs d (length bs) b c.index-branches-place-2.result c.index-branches-place.is c.requires.room refl) in
     let f : SFits w128 b.k = search rules in
     let here : d < d + 1 = omega arith in
     let high : b.k <ℤ pos most = subst (λ (x : Branch). x.k <ℤ pos most) eb (c.requires.above.high d here) in
