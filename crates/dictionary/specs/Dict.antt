@@ -1,0 +1,70 @@
+-- What a dictionary in memory says, by columns: those of the variables, of the rows and of the goal, which is one more row.
+use Rattle.std.specs.Prelude.{◌≡◌, ℕ, ◌+◌, ◌<◌, Bool, true, false, IsTrue, length, slice_index}
+use Rattle.rational.specs.Ratio.{IsNumber}
+use Rattle.fraction.specs.Frac.{ratios}
+use Rattle.evidence.specs.Point.{value_at}
+use Rattle.bases.specs.Dictionary.{Entries, Values, IsDictionary}
+use Rattle.dictionary.specs.declared.dict.Dict.{Dict}
+use Rattle.dictionary.specs.declared.places.Places.{Places}
+use Rattle.dictionary.specs.Row.{entries_in, IsOver}
+use Rattle.dictionary.specs.Basis.{basic_by, entries_by}
+
+-- how many variables and rows, and how many columns with the goal's
+unfoldable pub width_of : Dict → ℕ
+width_of d = d.width
+
+unfoldable pub height_of : Dict → ℕ
+height_of d = d.height
+
+abbrev pub columns_of : Dict → ℕ
+columns_of d = width_of d + (height_of d + 1)
+
+-- the columns in the order in which they stand: those that aren't basic, the rows' basic ones, the goal's
+unfoldable pub column_at : Dict → ℕ → ℕ
+column_at d = slice_index d.columns.items
+
+unfoldable pub place_of : Dict → ℕ → ℕ
+place_of d = slice_index d.places.items
+
+-- whether a column is basic
+unfoldable pub basic_of : Dict → ℕ → Bool
+basic_of d = basic_by d.width (slice_index d.places.items)
+
+-- the entry of each column in each basic one's equation, 0 where there is none
+unfoldable pub entry_of : Dict → Entries
+entry_of d = entries_by d.width (slice_index d.places.items) d.rows.items
+
+-- it is loaded: each row has entries of columns that aren't basic alone
+unfoldable pub IsLoaded : Dict → Type 0
+IsLoaded d = IsTrue d.is_loaded × ((r : ℕ) → r < d.height + 1 → IsOver d.width (slice_index d.columns.items) (entries_in d.rows.items r))
+
+-- it is loaded, and is the dictionary of its basis for these rows, the goal's being the last
+pub record Holds (A : Entries) (d : Dict) : Type 0 where
+  pub loaded : IsLoaded d
+  pub is : IsDictionary (width_of d) (height_of d + 1) A (basic_of d) (entry_of d)
+
+-- a variable's or a row's column that is basic, or isn't
+pub record IsBasic (d : Dict) (c : ℕ) : Type 0 where
+  pub inside : c < width_of d + height_of d
+  pub is : basic_of d c ≡ true
+
+pub record IsNonbasic (d : Dict) (c : ℕ) : Type 0 where
+  pub inside : c < width_of d + height_of d
+  pub is : basic_of d c ≡ false
+
+-- as many variables and rows
+pub record HaveOneSize (d e : Dict) : Type 0 where
+  pub width : width_of e ≡ width_of d
+  pub height : height_of e ≡ height_of d
+
+-- how many columns have a value, and which
+unfoldable pub count_of : Places → ℕ
+count_of p = length p.values.items
+
+unfoldable pub values_of : Places → Values
+values_of p = value_at (ratios p.values.items)
+
+-- w has the values of all columns that aren't basic
+pub record Rest (d : Dict) (p : Places) (w : Values) : Type 0 where
+  pub numbers : (c : ℕ) → IsNumber (w c)
+  pub values : (c : ℕ) → c < width_of d + height_of d → basic_of d c ≡ false → w c ≡ values_of p c

@@ -1,0 +1,14 @@
+pub use Rattle.rational.specs.Ratio
+pub use Rattle.bases.specs.Dictionary
+pub use Rattle.bases.specs.Program
+pub use Rattle.bases.specs.Order
+pub use Rattle.bases.specs.Pivot
+pub use Rattle.instance.specs.Parts
+pub mod Row
+pub mod Merge
+pub mod Table
+pub mod Basis
+pub mod Loaded
+pub mod Value
+pub mod Steps
+pub mod Dict

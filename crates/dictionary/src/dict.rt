@@ -1,0 +1,221 @@
+// A dictionary in memory.
+ghost use Rattle.std.specs.Prelude.{◌≡◌, ℕ, ◌+◌, ◌<◌, ◌≤◌, ◌^◌, length, slice_index, IfOk};
+ghost use Rattle.dictionary.specs.Row.{room_of, HaveRoom, RowsHaveRoom};
+ghost use Rattle.dictionary.specs.Basis.{ArePlaces};
+
+use crate::basis::{exchange, make_numbers, number};
+use crate::finding::number_at;
+use crate::loading::load_rows;
+use crate::pivoting::pivot_rows;
+use crate::places::Places;
+use crate::row::Row;
+use crate::steps::Steps;
+use crate::value::sum_row;
+use fraction::{Entry, Frac, Wide};
+use std::alloc::{AllocError, Global};
+use std::sync::ledger::Ledger;
+
+/// The dictionary of a basis: each basic column as a sum over the others (Chvátal, Linear Programming, 1983, chapter 2).
+///
+/// Its columns are `width` variables, `height` rows and the goal, whose column is `width + height` and always basic.
+#[derive(Drop)]
+pub struct Dict {
+    width: u32,
+    height: u32,
+    rows: Vec<Row>,
+    lead: Row,
+    scratch: Row,
+    columns: Vec<u32>,
+    places: Vec<u32>,
+    is_loaded: bool,
+    ghost count: { length rows.items ≡ height + 1 },
+    ghost room: { HaveRoom width rows.items scratch },
+    ghost lead_room: { 0 < room_of lead },
+    ghost columns_count: { length columns.items ≡ width + (height + 1) },
+    ghost places_count: { length places.items ≡ width + (height + 1) },
+    ghost basis: { ArePlaces (width + (height + 1)) (slice_index columns.items) (slice_index places.items) },
+    ghost few: { width + (height + 1) ≤ 2 ^ 32 },
+    ghost goal: { slice_index columns.items (width + height) ≡ width + height },
+}
+
+fn make_rows(alloc: Global, width: usize, count: usize) -> Result<Vec<Row>, AllocError>
+    ensures count { IfOk result (λ v. length v.items ≡ count) }
+    ensures room { IfOk result (λ v. RowsHaveRoom width v.items) }
+{
+    let mut rows = Vec::with_capacity(alloc, count)?;
+    for _r in 0..count {
+        rows.push(Row::with_room(alloc, width)?)?;
+    }
+    Ok(rows)
+}
+
+impl Dict {
+    ghost use Rattle.std.specs.Prelude.{◌≢◌, ◌-◌, pos, OnErr};
+    ghost use Rattle.std.specs.List.{All};
+    ghost use Rattle.rational.specs.Ratio.{IsSame};
+    ghost use Rattle.fraction.specs.Frac.{ratio};
+    ghost use Rattle.instance.specs.Parts.{IsAscending, IsInside};
+    ghost use Rattle.bases.specs.Dictionary.{Entries, Values, value_by};
+    ghost use Rattle.bases.specs.Program.{is_fresh};
+    ghost use Rattle.bases.specs.Pivot.{exchanged, PivotFits, ValueFits};
+    ghost use Rattle.dictionary.specs.Loaded.{rows_of};
+    ghost use Rattle.dictionary.specs.Steps.{nonzeros, pivot_steps};
+    ghost use Rattle.dictionary.specs.Dict.{width_of, height_of, columns_of, column_at, place_of, basic_of, entry_of, IsLoaded, Holds, IsBasic, IsNonbasic, HaveOneSize, count_of, Rest};
+
+    /// Room for a dictionary of so many variables and rows, which isn't loaded: `width` entries for each row, the goal and
+    /// one row more. The room is reserved and not written to. More columns than there are numbers of 32 bits find none.
+    pub fn with_size(alloc: Global, width: u32, height: u32) -> Result<Dict, AllocError>
+        ensures width { IfOk result (λ d. width_of d ≡ width) }
+        ensures height { IfOk result (λ d. height_of d ≡ height) }
+    {
+        let room = width as usize;
+        let count = height as usize + 1;
+        if room + count > 1 << 32 {
+            return Err(AllocError);
+        }
+        let rows = make_rows(alloc, room, count)?;
+        let lead = Row::with_room(alloc, 1)?;
+        let scratch = Row::with_room(alloc, room)?;
+        let columns = make_numbers(alloc, room + count)?;
+        let places = make_numbers(alloc, room + count)?;
+        Ok(Dict {
+            width,
+            height,
+            rows,
+            lead,
+            scratch,
+            columns,
+            places,
+            is_loaded: false,
+        })
+    }
+
+    /// Makes the dictionary in which the rows of these entries are basic. The goal's row is the costs, their negatives or
+    /// 0, by the sign of `factor`.
+    pub fn load(&mut self, matrix: &[Entry], costs: &[Frac], factor: i8)
+        requires costs { length costs.now ≡ width_of self.old }
+        requires ascending { IsAscending matrix.now }
+        requires inside { All (IsInside (height_of self.old) (width_of self.old)) matrix.now }
+        ensures size { HaveOneSize self.old self.new }
+        ensures holds { Holds (rows_of matrix.now costs.now factor (height_of self.old)) self.new }
+        ensures basis { (c : ℕ) → c < columns_of self.old → basic_of self.new c ≡ is_fresh (width_of self.old) c }
+    {
+        let rows = self.rows.as_mut_slice();
+        let columns = self.columns.as_mut_slice();
+        let places = self.places.as_mut_slice();
+        load_rows(rows, matrix, costs, factor);
+        number(columns);
+        number(places);
+        self.is_loaded = true;
+    }
+
+    /// The row of a basic column.
+    fn row_of(&self, basic: u32) -> usize
+        requires { basic < length self.now.places.items }
+        ensures { result ≡ slice_index self.now.places.items basic - self.now.width }
+    {
+        let place = self.places[basic as usize] as usize;
+        place.saturating_sub(self.width as usize)
+    }
+
+    /// Exchanges a basic column for one that isn't, whose entry isn't 0.
+    ///
+    /// [`Wide`] exactly where one of the pivot's quotients, products and sums doesn't fit; then the dictionary isn't loaded
+    /// until it is loaded anew.
+    pub fn pivot<L: Ledger>(
+        &mut self,
+        basic: u32,
+        nonbasic: u32,
+        steps: &mut Steps<L>,
+    ) -> Result<(), Wide>
+        requires loaded { IsLoaded self.old }
+        requires basic { IsBasic self.old basic }
+        requires nonbasic { IsNonbasic self.old nonbasic }
+        requires nonzero { (entry_of self.old basic nonbasic).num ≢ pos 0 }
+        ensures size { HaveOneSize self.old self.new }
+        ensures holds { (A : Entries) → Holds A self.old → IfOk result (λ _. Holds A self.new) }
+        ensures basis { IfOk result (λ _. (c : ℕ) → basic_of self.new c ≡ exchanged (basic_of self.old) basic nonbasic c) }
+        ensures fits { IfOk result (λ _. PivotFits (entry_of self.old) basic nonbasic) }
+        ensures wide { OnErr result (PivotFits (entry_of self.old) basic nonbasic → ⊥) }
+        ensures unloaded { OnErr result (IsLoaded self.new → ⊥) }
+        ensures cost { (b : ℕ) → width_of self.old < 2 ^ b → steps.new ≤ steps.old + pivot_steps (columns_of self.old) (height_of self.old + 1) (entry_of self.old) basic nonbasic b }
+    {
+        self.is_loaded = false;
+        let p = self.row_of(basic);
+        let rows = self.rows.as_mut_slice();
+        pivot_rows(
+            rows,
+            &mut self.lead,
+            &mut self.scratch,
+            p,
+            basic,
+            nonbasic,
+            steps,
+        )?;
+        let columns = self.columns.as_mut_slice();
+        let places = self.places.as_mut_slice();
+        exchange(columns, places, basic, nonbasic);
+        self.is_loaded = true;
+        Ok(())
+    }
+
+    /// The value of a basic column: the sum, from 0, over the columns that aren't basic, in ascending order, of its entry
+    /// times their value.
+    ///
+    /// [`Wide`] exactly where one of the products or sums doesn't fit; terms with a factor 0 are left out.
+    pub fn value_of<L: Ledger>(
+        &self,
+        basic: u32,
+        places: &Places,
+        steps: &mut Steps<L>,
+    ) -> Result<Frac, Wide>
+        requires loaded { IsLoaded self.now }
+        requires basic { IsBasic self.now basic }
+        requires places { width_of self.now + height_of self.now ≤ count_of places.now }
+        ensures ok { (w : Values) → Rest self.now places.now w → IfOk result (λ r. IsSame (ratio r) (value_by (columns_of self.now) (entry_of self.now basic) w)) }
+        ensures fits { (w : Values) → Rest self.now places.now w → IfOk result (λ _. ValueFits (columns_of self.now) (entry_of self.now basic) w) }
+        ensures wide { (w : Values) → Rest self.now places.now w → OnErr result (ValueFits (columns_of self.now) (entry_of self.now basic) w → ⊥) }
+        ensures cost { steps.new ≤ steps.old + nonzeros (columns_of self.now) (entry_of self.now basic) }
+    {
+        let r = self.row_of(basic);
+        sum_row(&self.rows[r], places, steps)
+    }
+
+    /// The entry of a column that isn't basic in a basic one's equation.
+    pub fn entry(&self, basic: u32, nonbasic: u32) -> Frac
+        requires loaded { IsLoaded self.now }
+        requires basic { IsBasic self.now basic }
+        requires nonbasic { IsNonbasic self.now nonbasic }
+        ensures { ratio result ≡ entry_of self.now basic nonbasic }
+    {
+        let r = self.row_of(basic);
+        number_at(&self.rows[r], nonbasic)
+    }
+
+    /// The goal's entry at a column that isn't basic.
+    pub fn cost(&self, nonbasic: u32) -> Frac
+        requires loaded { IsLoaded self.now }
+        requires nonbasic { IsNonbasic self.now nonbasic }
+        ensures { ratio result ≡ entry_of self.now (width_of self.now + height_of self.now) nonbasic }
+    {
+        number_at(&self.rows[self.height as usize], nonbasic)
+    }
+
+    /// The basic columns of variables and rows in some order, each once: `i` is below `height`.
+    pub fn basic_at(&self, i: u32) -> u32
+        requires { i < height_of self.now }
+        ensures column { result ≡ column_at self.now (width_of self.now + i) }
+        ensures basic { IsBasic self.now result }
+    {
+        self.columns[self.width as usize + i as usize]
+    }
+
+    /// The columns that aren't basic in some order, each once: `j` is below `width`.
+    pub fn nonbasic_at(&self, j: u32) -> u32
+        requires { j < width_of self.now }
+        ensures column { result ≡ column_at self.now j }
+        ensures nonbasic { IsNonbasic self.now result }
+    {
+        self.columns[j as usize]
+    }
+}

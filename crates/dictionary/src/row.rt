@@ -1,0 +1,84 @@
+// Rows of a table, which keep only the entries that aren't 0.
+ghost use Rattle.std.specs.Prelude.{◌≡◌, ℕ, ◌+◌, ◌<◌, ◌≤◌, [], ◌∷◌, ◌++◌, length, slice_index_or, IfOk};
+
+use crate::steps::Steps;
+use fraction::Frac;
+use std::alloc::{AllocError, Global};
+use std::sync::ledger::Ledger;
+
+/// An entry of a row: its column, and its value, which isn't 0.
+#[derive(Clone, Copy, PartialEq, Eq, Debug)]
+pub struct Item {
+    pub col: u32,
+    pub value: Frac,
+}
+
+/// The entries of a row, by ascending columns. Nothing else reads or writes one than `read` and `write`, which count it.
+#[derive(Drop)]
+pub struct Row {
+    items: Vec<Item>,
+}
+
+impl Row {
+    ghost use Rattle.dictionary.specs.Row.{entries_of, room_of};
+
+    /// A row without entries, and room for so many.
+    pub fn with_room(alloc: Global, room: usize) -> Result<Row, AllocError>
+        ensures { IfOk result (λ r. room_of r ≡ room) }
+    {
+        let items = Vec::with_capacity(alloc, room)?;
+        Ok(Row { items })
+    }
+
+    /// How many entries it has.
+    pub fn len(&self) -> usize
+        ensures { result ≡ length (entries_of self.now) }
+    {
+        self.items.len()
+    }
+
+    /// Leaves it without entries.
+    pub fn clear(&mut self)
+        ensures entries { entries_of self.new ≡ [] }
+        ensures room { room_of self.old ≤ room_of self.new }
+    {
+        self.items.clear();
+    }
+
+    /// Leaves it with this entry alone, which is none of a table's: no step.
+    pub fn hold(&mut self, item: Item)
+        requires { 0 < room_of self.old }
+        ensures entries { entries_of self.new ≡ item ∷ [] }
+        ensures room { room_of self.old ≤ room_of self.new }
+    {
+        self.items.clear();
+        match self.items.push(item) {
+            Ok(()) => {}
+            Err(_) => unreachable!(),
+        }
+    }
+
+    /// The entry at a place: one step.
+    pub fn read<L: Ledger>(&self, i: usize, steps: &mut Steps<L>) -> Item
+        requires { i < length (entries_of self.now) }
+        ensures item { result ≡ slice_index_or (entries_of self.now) i result }
+        ensures cost { steps.new ≡ steps.old + 1 }
+    {
+        steps.tick();
+        self.items[i]
+    }
+
+    /// Puts an entry at the end: one step.
+    pub fn write<L: Ledger>(&mut self, item: Item, steps: &mut Steps<L>)
+        requires { length (entries_of self.old) < room_of self.old }
+        ensures entries { entries_of self.new ≡ entries_of self.old ++ item ∷ [] }
+        ensures room { room_of self.old ≤ room_of self.new }
+        ensures cost { steps.new ≡ steps.old + 1 }
+    {
+        steps.tick();
+        match self.items.push(item) {
+            Ok(()) => {}
+            Err(_) => unreachable!(),
+        }
+    }
+}

@@ -1,0 +1,34 @@
+// Values of basic columns.
+ghost use Rattle.std.specs.Prelude.{◌≡◌, ℕ, ◌+◌, ◌<◌, ◌≤◌, length, IfOk, OnErr};
+ghost use Rattle.rational.specs.Ratio.{IsNumber, IsSame};
+ghost use Rattle.fraction.specs.Frac.{ratio};
+ghost use Rattle.bases.specs.Dictionary.{Values, value_by};
+ghost use Rattle.bases.specs.Pivot.{ValueFits};
+ghost use Rattle.dictionary.specs.Row.{entries_of, number_in, IsRow, HasColumn};
+ghost use Rattle.dictionary.specs.Dict.{count_of, values_of};
+ghost use Rattle.dictionary.specs.Value.{AreValuesAt};
+
+use crate::numbers::zero;
+use crate::places::Places;
+use crate::row::Row;
+use crate::steps::Steps;
+use fraction::{Frac, Wide};
+use instance::add_product;
+use std::sync::ledger::Ledger;
+
+/// The sum, from 0, of a row's entries, each times its column's value, in ascending order.
+pub fn sum_row<L: Ledger>(row: &Row, places: &Places, steps: &mut Steps<L>) -> Result<Frac, Wide>
+    requires row { IsRow (entries_of row.now) }
+    requires inside { (c : ℕ) → HasColumn (entries_of row.now) c → c < count_of places.now }
+    ensures ok { (k : ℕ) (w : Values) → AreValuesAt (entries_of row.now) (values_of places.now) k w → IfOk result (λ r. IsSame (ratio r) (value_by k (number_in (entries_of row.now)) w)) }
+    ensures fits { (k : ℕ) (w : Values) → AreValuesAt (entries_of row.now) (values_of places.now) k w → IfOk result (λ _. ValueFits k (number_in (entries_of row.now)) w) }
+    ensures wide { (k : ℕ) (w : Values) → AreValuesAt (entries_of row.now) (values_of places.now) k w → OnErr result (ValueFits k (number_in (entries_of row.now)) w → ⊥) }
+    ensures cost { steps.new ≤ steps.old + length (entries_of row.now) }
+{
+    let mut sum = zero();
+    for i in 0..row.len() {
+        let x = row.read(i, steps);
+        sum = add_product(sum, x.value, places.at(x.col))?;
+    }
+    Ok(sum)
+}

@@ -1,0 +1,14 @@
+pub mod Slots
+pub mod EndsRead
+pub mod Plain
+pub mod Least
+pub mod Leaving
+pub mod Listing
+pub mod Found
+pub mod Bounded
+pub mod Leading
+pub mod Turned
+pub mod Looks
+pub mod Begun
+pub mod CutPrograms
+pub mod Finishing

@@ -1,0 +1,36 @@
+use Rattle.std.proofs.Common.{◌<◌, length, below_more, subst, sym, ◌∙◌, arith}
+use Rattle.simplex_rules.specs.declared.columns.Way.{Way}
+use Rattle.simplex_rules.specs.Statuses.{status_at}
+use Rattle.simplex_rules.specs.Turns.{Can, Moves, rate}
+use Rattle.dictionary.specs.Dict.{entry_of}
+use Rattle.simplex.specs.Cuts.{ranges_in}
+use Rattle.simplex.proofs.EndsRead.{read_range}
+use Rattle.simplex.proofs.helping.first_help.Goals as goal
+
+pub loop-c-init : goal.loop-c-init
+loop-c-init c = λ k h. absurd (omega arith)
+
+pub returns-in-Some : goal.returns-in-Some
+returns-in-Some c = λ I w e.
+    let h : c.loop-c.c < length c.args.ends.now = let a = c.requires.ends in let b = c.requires.goal in omega arith in
+    let r = read_range c.args.ends.now c.loop-c.c c.index-ends-c.result c.index-ends-c.is h in
+    let f = c.in-Some.ensures in
+    record {
+      inside = let a = e.count in let b = c.requires.ends in let d = c.requires.goal in omega arith;
+      helps = record {
+        nonbasic = f.0;
+        can = subst (λ x. Can c.in-Some.way x (status_at c.args.statuses.now c.loop-c.c)) (sym (e.is c.loop-c.c ∙ r)) f.1;
+        moves = f.2;
+      };
+      before = λ k l v p. c.loop-c.invariant k l v (subst (λ x. Can v x (status_at c.args.statuses.now k)) (e.is k) p.can) p.moves;
+    }
+
+pub loop-c-preserved : goal.loop-c-preserved
+loop-c-preserved c =
+    let h : c.loop-c.c < length c.args.ends.now = let a = c.requires.ends in let b = c.requires.goal in omega arith in
+    let r = read_range c.args.ends.now c.loop-c.c c.index-ends-c.result c.index-ends-c.is h in
+    below_more (λ k. (v : Way) → Can v (ranges_in c.args.ends.now k) (status_at c.args.statuses.now k) → Moves c.args.wanted (rate v (entry_of c.args.dict.now c.args.row k)) → ⊥) c.loop-c.c c.loop-c.invariant
+    (λ v p. c.in_default.ensures v (subst (λ x. Can v x (status_at c.args.statuses.now c.loop-c.c)) r p))
+
+pub returns : goal.returns
+returns c = λ I w e k h v p. c.loop-c.invariant k (let a = e.count in let b = c.requires.ends in let d = c.requires.goal in let f = c.loop-c-test.false in omega arith) v (subst (λ x. Can v x (status_at c.args.statuses.now k)) (e.is k) p.can) p.moves

@@ -1,0 +1,10 @@
+use Rattle.std.proofs.Common.{◌≡◌, ℕ, ◌<◌, true}
+use Rattle.simplex_rules.specs.declared.columns.Way.{Way}
+use Rattle.simplex_rules.specs.Statuses.{basic_in}
+use Rattle.simplex_rules.specs.Turns.{Misses}
+use Rattle.simplex.specs.Cuts.{ranges_in}
+use Rattle.simplex.specs.Held.{values_in}
+use Rattle.simplex.proofs.valued.first_out.Given as goal
+
+abbrev pub invariant-loop-c : goal.invariant-loop-c
+invariant-loop-c l = (k : ℕ) → k < l.c → (v : Way) → basic_in l.statuses k ≡ true → Misses v (ranges_in l.ends k) (values_in l.values k) → ⊥

@@ -1,0 +1,30 @@
+use Rattle.std.proofs.Common.{List, length, sym, ◌∙◌, subst}
+use Rattle.std.specs.Vec.{with_items}
+use Rattle.std.proofs.lemmas.List.{with_items_is}
+use Rattle.simplex_rules.specs.Ends.{End}
+use Rattle.simplex_rules.specs.Looks.{looks_after}
+use Rattle.simplex_rules.specs.Runs.{Run}
+use Rattle.dictionary.specs.Dict.{width_of, height_of}
+use Rattle.simplex.specs.declared.ends.Ends.{Ends}
+use Rattle.simplex.specs.Cuts.{IsCutBy}
+use Rattle.simplex.specs.Answers.{was_stopped}
+use Rattle.simplex.proofs.Finishing.{ended_same}
+use Rattle.simplex.proofs.work.Work.run.Goals as goal
+
+pub returns-clause-run : goal.returns-clause-run
+returns-clause-run g c =
+    let p = c.run_over.ensures.run in
+    let d = c.args.self.now in
+    let same = ended_same c.run_over.result
+    (length c.args.instance.now.vars) (width_of c.run_over.new.dict) (length c.args.instance.now.rows) (height_of c.run_over.new.dict)
+    c.run_over.new.values (with_items c.args.self.now.values c.run_over.new.values).items c.run_over.new.factors (with_items c.args.self.now.factors c.run_over.new.factors).items c.run_over.new.movements (with_items c.args.self.now.movements c.run_over.new.movements).items
+    (sym c.requires.vars ∙ sym c.run_over.ensures.size.width) (sym c.requires.rows ∙ sym c.run_over.ensures.size.height)
+    (sym (with_items_is c.args.self.now.values c.run_over.new.values (c.run_over.auto.values ∙ c.as_mut_slice-3.ensures.len)))
+    (sym (with_items_is c.args.self.now.factors c.run_over.new.factors (c.run_over.auto.factors ∙ c.as_mut_slice-4.ensures.len)))
+    (sym (with_items_is c.args.self.now.movements c.run_over.new.movements (c.run_over.auto.movements ∙ c.as_mut_slice-5.ensures.len))) in (
+      p.0,
+      p.1,
+      (λ I t looks cut most tells.
+          subst (λ (e : End). Run I c.args.zero_goal t (record { turns = c.args.turns.now.done; looks = looks }) e (record { turns = c.run_over.new.turns.done; looks = looks_after looks p.0 (was_stopped c.run_over.result) })) same
+          (p.2 I t looks (subst (λ (cs : List Ends). IsCutBy c.args.instance.now cs I) (sym c.as_slice.ensures) cut) most tells)),
+    )

@@ -1,0 +1,17 @@
+pub use Rattle.rational.specs.Ratio
+pub use Rattle.dictionary.specs.Dict
+pub use Rattle.simplex_rules.specs.Statuses
+pub use Rattle.simplex_rules.specs.Turns
+pub use Rattle.simplex_rules.specs.Ends
+pub use Rattle.simplex_rules.specs.Reports
+pub use Rattle.simplex_rules.specs.Runs
+pub use Rattle.simplex_rules.specs.Looks
+pub mod Cuts
+pub mod Held
+pub mod Answers
+pub mod Memory
+pub mod Finished
+pub mod Chosen
+pub mod Valued
+pub mod Limits
+pub mod Loading

@@ -1,0 +1,43 @@
+-- What the memory for runs has.
+use Rattle.std.specs.Prelude.{ℕ, ◌+◌, List}
+use Rattle.rational.specs.Ratio.{Ratio}
+use Rattle.evidence.specs.Cases.{Multiplier}
+use Rattle.bases.specs.Dictionary.{Values}
+use Rattle.simplex_rules.specs.Ends.{End}
+use Rattle.simplex_rules.specs.Reports.{collected}
+use Rattle.simplex.specs.declared.answer.LpEnd.{LpEnd}
+use Rattle.simplex.specs.declared.work.Work.{Work}
+use Rattle.dictionary.specs.Dict.{width_of, height_of}
+use Rattle.simplex.specs.Held.{values_in}
+use Rattle.simplex.specs.Answers.{listed, ended}
+
+-- the variables and the rows that there is room for
+abbrev pub width_in : Work → ℕ
+width_in w = width_of w.dict
+
+abbrev pub height_in : Work → ℕ
+height_in w = height_of w.dict
+
+-- the value, the multiplier and the movement of each column
+abbrev pub point_in : Work → Values
+point_in w = values_in w.values.items
+
+abbrev pub factor_in : Work → Values
+factor_in w = values_in w.factors.items
+
+abbrev pub movement_in : Work → Values
+movement_in w = values_in w.movements.items
+
+-- the point, the multipliers that aren't 0, and the direction
+abbrev pub point_of : Work → List Ratio
+point_of w = listed (width_in w) (point_in w)
+
+abbrev pub mults_of : Work → List Multiplier
+mults_of w = collected (factor_in w) (width_in w + height_in w)
+
+abbrev pub ray_of : Work → List Ratio
+ray_of w = listed (width_in w) (movement_in w)
+
+-- the end of the run that answered so and left this memory
+abbrev pub ended_with : LpEnd → Work → End
+ended_with e w = ended e (point_of w) (mults_of w) (ray_of w)

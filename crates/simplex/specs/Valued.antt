@@ -1,0 +1,32 @@
+-- What is known of columns' values in memory.
+use Rattle.std.specs.Prelude.{◌≡◌, ℕ, ◌<◌, Bool, true, false, cond, List, length}
+use Rattle.rational.specs.Ratio.{Ratio, IsNumber, IsSame}
+use Rattle.evidence.specs.Sums.{none}
+use Rattle.evidence.specs.Instance.{Range}
+use Rattle.bases.specs.Dictionary.{Values, value_by}
+use Rattle.bases.specs.Pivot.{ValueFits}
+use Rattle.simplex_rules.specs.declared.columns.Status.{Status}
+use Rattle.simplex_rules.specs.Statuses.{status_at, basic_in, rest_at}
+use Rattle.dictionary.specs.declared.dict.Dict.{Dict}
+use Rattle.dictionary.specs.Dict.{entry_of, columns_of}
+
+-- v is the value of column c, which is basic or not; rest has the values of those that aren't
+pub record IsColumnValue (d : Dict) (rest : Values) (basic : Bool) (c : ℕ) (v : Ratio) : Type 0 where
+  pub sum : basic ≡ true → IsSame v (value_by (columns_of d) (entry_of d c) rest)
+  pub fits : basic ≡ true → ValueFits (columns_of d) (entry_of d c) rest
+  pub rests : basic ≡ false → v ≡ rest c
+
+-- each column that isn't basic has the value of its place, and the others have 0
+abbrev pub AreResting : (ℕ → Range) → List Status → Values → Type 0
+AreResting ranges ss rest = (c : ℕ) → c < length ss → rest c ≡ rest_at (ranges c) (status_at ss c)
+
+-- the goal's entries, 0 at basic columns
+abbrev pub cost_in : List Status → (ℕ → Ratio) → ℕ → Ratio
+cost_in ss row c = cond (basic_in ss c) none (row c)
+
+-- a and x have the first n costs and the values of their columns
+pub record AreTerms (row rest : Values) (n : ℕ) (a x : Values) : Type 0 where
+  pub cost_numbers : (c : ℕ) → IsNumber (a c)
+  pub value_numbers : (c : ℕ) → IsNumber (x c)
+  pub costs : (c : ℕ) → c < n → row c ≡ a c
+  pub values : (c : ℕ) → c < n → rest c ≡ x c

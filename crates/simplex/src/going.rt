@@ -1,0 +1,96 @@
+// The turns of a run, one after the other.
+ghost use Rattle.std.specs.Prelude.{◌≡◌, ℕ, ◌+◌, ◌-◌, ◌^◌, ◌<◌, ◌≤◌, Bool, None, Some, length};
+ghost use Rattle.evidence.specs.Instance.{Instance, minimising};
+ghost use Rattle.simplex.specs.Loading.{IsStart};
+ghost use Rattle.bases.specs.Dictionary.{Entries};
+ghost use Rattle.bases.specs.Program.{rows_with_goal};
+ghost use Rattle.simplex_rules.specs.Statuses.{IsFresh};
+ghost use Rattle.simplex_rules.specs.Ends.{Terms};
+ghost use Rattle.simplex_rules.specs.Runs.{IsNext};
+ghost use Rattle.simplex_rules.specs.Looks.{answers, Tells, looks_after};
+ghost use Rattle.dictionary.specs.Dict.{Holds, HaveOneSize, entry_of, count_of};
+ghost use Rattle.simplex.specs.Cuts.{AreEndsOf};
+ghost use Rattle.simplex.specs.Held.{AreHeld, HasSizeOf, values_in};
+ghost use Rattle.simplex.specs.Finished.{stops_at, is_stop, next_at, end_at, IsLeft, IsLeftAt, IsCounted, KeepsAt, ComesTo};
+
+use crate::answer::Turns;
+use crate::choosing::{Choice, choose};
+use crate::ends::Ends;
+use crate::finish::Finish;
+use crate::turning::{flip_turn, swap_turn};
+use dictionary::{Dict, Places, Steps};
+use fraction::Frac;
+use os_io::Watch;
+use simplex_rules::Status;
+use std::sync::ledger::Ledger;
+
+/// From a moment to the next, or to the end of the run. None where the run goes on.
+fn make_turn<W: Watch, L: Ledger>(
+    dict: &mut Dict,
+    ends: &[Ends],
+    statuses: &mut [Status],
+    rest: &mut Places,
+    values: &mut [Frac],
+    start: Option<Frac>,
+    turns: &mut Turns,
+    watch: &mut W,
+    goal: u32,
+    steps: &mut Steps<L>,
+) -> Option<Finish>
+    requires held { AreHeld dict.old statuses.old }
+    requires ends { length ends.now ≡ length statuses.old }
+    requires values { length values.old ≡ goal }
+    requires rest { goal ≤ count_of rest.old }
+    requires goal { goal ≡ length statuses.old }
+    requires stops { W.stops watch.old < 2 ^ 64 - 1 }
+    ensures size { HaveOneSize dict.old dict.new }
+    ensures count { count_of rest.new ≡ count_of rest.old }
+    ensures most { turns.new.most ≡ turns.old.most }
+    ensures counted { IsCounted turns.old turns.new result }
+    ensures stops { result ≡ None → W.stops watch.new ≡ W.stops watch.old }
+    ensures left { IsLeftAt dict.new statuses.new result }
+    ensures holds { (A : Entries) → Holds A dict.old → KeepsAt result (Holds A dict.new) }
+    ensures turn { (n : ℕ) × W.came watch.old watch.new (answers n (stops_at result)) × ((I : Instance) (zeroed : Bool) (t : Terms) (looks : ℕ) → AreEndsOf I ends.now → HasSizeOf I dict.old → IsStart zeroed (minimising I I.goal.constant) start → Holds (rows_with_goal zeroed I) dict.old → t.turns ≡ turns.old.most → Tells t.stop looks n (stops_at result) → IsNext I zeroed t (record { statuses = statuses.old; clock = record { turns = turns.old.done; looks = looks } }) (next_at I statuses.new (entry_of dict.new) (values_in values.new) (record { turns = turns.new.done; looks = looks_after looks n (stops_at result) }) result)) }
+{
+    match choose(dict, ends, statuses, rest, values, start, goal, steps) {
+        Choice::Swap(swap) => swap_turn(dict, statuses, swap, turns, watch, steps),
+        Choice::Flip(flip) => flip_turn(dict, statuses, flip, turns, watch),
+        Choice::Done(finish) => Some(finish),
+    }
+}
+
+/// The turns of a run from its first basis on.
+pub fn make_turns<W: Watch, L: Ledger>(
+    dict: &mut Dict,
+    ends: &[Ends],
+    statuses: &mut [Status],
+    rest: &mut Places,
+    values: &mut [Frac],
+    start: Option<Frac>,
+    turns: &mut Turns,
+    watch: &mut W,
+    goal: u32,
+    steps: &mut Steps<L>,
+) -> Finish
+    requires held { AreHeld dict.old statuses.old }
+    requires ends { length ends.now ≡ length statuses.old }
+    requires values { length values.old ≡ goal }
+    requires rest { goal ≤ count_of rest.old }
+    requires goal { goal ≡ length statuses.old }
+    requires stops { W.stops watch.old < 2 ^ 64 - 1 }
+    ensures size { HaveOneSize dict.old dict.new }
+    ensures count { count_of rest.new ≡ count_of rest.old }
+    ensures most { turns.new.most ≡ turns.old.most }
+    ensures more { turns.old.done ≤ turns.new.done }
+    ensures within { turns.old.done ≤ turns.old.most → turns.new.done ≤ turns.old.most }
+    ensures left { IsLeft dict.new statuses.new result }
+    ensures end { (n : ℕ) × W.came watch.old watch.new (answers n (is_stop result)) × ((I : Instance) (zeroed : Bool) (t : Terms) (looks : ℕ) → AreEndsOf I ends.now → HasSizeOf I dict.old → IsStart zeroed (minimising I I.goal.constant) start → Holds (rows_with_goal zeroed I) dict.old → IsFresh I statuses.old → t.turns ≡ turns.old.most → Tells t.stop looks n (is_stop result) → ComesTo I zeroed t (record { turns = turns.old.done; looks = looks }) (end_at I statuses.new (entry_of dict.new) (values_in values.new) result) (record { turns = turns.new.done; looks = looks_after looks n (is_stop result) })) }
+{
+    loop {
+        if let Some(finish) = make_turn(
+            dict, ends, statuses, rest, values, start, turns, watch, goal, steps,
+        ) {
+            return finish;
+        }
+    }
+}

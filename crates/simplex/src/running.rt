@@ -1,0 +1,105 @@
+// A whole run, over the memory that is lent for it.
+ghost use Rattle.std.specs.Prelude.{◌≡◌, ℕ, ◌+◌, ◌-◌, ◌^◌, ◌<◌, ◌≤◌, Option, None, length, MatchOption};
+ghost use Rattle.evidence.specs.Instance as Of;
+ghost use Rattle.bases.specs.Program.{rows_with_goal};
+ghost use Rattle.simplex_rules.specs.Statuses.{IsFresh};
+ghost use Rattle.simplex_rules.specs.Ends.{Terms};
+ghost use Rattle.simplex_rules.specs.Runs.{HasRoom, IsFirstEmpty, Run};
+ghost use Rattle.simplex_rules.specs.Reports.{collected};
+ghost use Rattle.simplex_rules.specs.Looks.{answers, Tells, looks_after};
+ghost use Rattle.dictionary.specs.Dict.{width_of, height_of, count_of, HaveOneSize, Holds};
+ghost use Rattle.simplex.specs.Cuts.{IsCutBy, AreEndsOf};
+ghost use Rattle.simplex.specs.Held.{AreHeld, values_in};
+ghost use Rattle.simplex.specs.Answers.{listed, ended, was_stopped};
+
+use crate::answer::{LpEnd, Turns};
+use crate::beginning::{factor, first_clash, set_ends, set_first, start};
+use crate::ends::Ends;
+use crate::going::make_turns;
+use crate::reporting::report;
+use dictionary::{Dict, Places, Steps};
+use fraction::Frac;
+use instance::Instance;
+use os_io::Watch;
+use simplex_rules::Status;
+use std::sync::ledger::Ledger;
+
+/// Makes the first basis, with the dictionary of the rows and the goal; or answers the first column whose ends pass each
+/// other.
+fn begin(
+    dict: &mut Dict,
+    ends: &mut [Ends],
+    statuses: &mut [Status],
+    instance: &Instance,
+    cuts: &[Ends],
+    zero_goal: bool,
+    goal: u32,
+) -> Option<u32>
+    requires vars { width_of dict.old ≡ length instance.now.vars }
+    requires rows { height_of dict.old ≡ length instance.now.rows }
+    requires cuts { length cuts.now ≡ length instance.now.vars }
+    requires goal { goal ≡ length instance.now.vars + length instance.now.rows }
+    requires ends { length ends.old ≡ goal }
+    requires statuses { length statuses.old ≡ goal }
+    ensures size { HaveOneSize dict.old dict.new }
+    ensures ends { (I : Of.Instance) → IsCutBy instance.now cuts.now I → AreEndsOf I ends.new }
+    ensures clash { (I : Of.Instance) → IsCutBy instance.now cuts.now I → MatchOption result (HasRoom I) (IsFirstEmpty I) }
+    ensures held { result ≡ None → AreHeld dict.new statuses.new }
+    ensures fresh { result ≡ None → (I : Of.Instance) → IsCutBy instance.now cuts.now I → IsFresh I statuses.new }
+    ensures holds { result ≡ None → (I : Of.Instance) → IsCutBy instance.now cuts.now I → Holds (rows_with_goal zero_goal I) dict.new }
+{
+    set_ends(cuts, instance.rows(), ends);
+    if let Some(col) = first_clash(ends, goal) {
+        return Some(col);
+    }
+    set_first(ends, cuts.len(), statuses);
+    let sense = instance.goal().sense;
+    let costs = instance.goal().costs.as_slice();
+    dict.load(instance.entries(), costs, factor(zero_goal, sense));
+    None
+}
+
+/// Runs an instance's program with these ends of its variables, from the first basis to its end.
+pub fn run_over<W: Watch, L: Ledger>(
+    dict: &mut Dict,
+    ends: &mut [Ends],
+    statuses: &mut [Status],
+    rest: &mut Places,
+    values: &mut [Frac],
+    factors: &mut [Frac],
+    movements: &mut [Frac],
+    instance: &Instance,
+    cuts: &[Ends],
+    zero_goal: bool,
+    turns: &mut Turns,
+    watch: &mut W,
+    steps: &mut Steps<L>,
+) -> LpEnd
+    requires vars { width_of dict.old ≡ length instance.now.vars }
+    requires rows { height_of dict.old ≡ length instance.now.rows }
+    requires cuts { length cuts.now ≡ length instance.now.vars }
+    requires ends { length ends.old ≡ length instance.now.vars + length instance.now.rows }
+    requires statuses { length statuses.old ≡ length instance.now.vars + length instance.now.rows }
+    requires rest { count_of rest.old ≡ length instance.now.vars + length instance.now.rows }
+    requires values { length values.old ≡ length instance.now.vars + length instance.now.rows }
+    requires factors { length factors.old ≡ length instance.now.vars + length instance.now.rows }
+    requires movements { length movements.old ≡ length instance.now.vars }
+    requires stops { W.stops watch.old < 2 ^ 64 - 1 }
+    ensures size { HaveOneSize dict.old dict.new }
+    ensures count { count_of rest.new ≡ count_of rest.old }
+    ensures most { turns.new.most ≡ turns.old.most }
+    ensures more { turns.old.done ≤ turns.new.done }
+    ensures within { turns.old.done ≤ turns.old.most → turns.new.done ≤ turns.old.most }
+    ensures run { (n : ℕ) × W.came watch.old watch.new (answers n (was_stopped result)) × ((I : Of.Instance) (t : Terms) (looks : ℕ) → IsCutBy instance.now cuts.now I → t.turns ≡ turns.old.most → Tells t.stop looks n (was_stopped result) → Run I zero_goal t (record { turns = turns.old.done; looks = looks }) (ended result (listed (length instance.now.vars) (values_in values.new)) (collected (values_in factors.new) (length instance.now.vars + length instance.now.rows)) (listed (length instance.now.vars) (values_in movements.new))) (record { turns = turns.new.done; looks = looks_after looks n (was_stopped result) })) }
+{
+    let goal = (instance.vars().len() + instance.rows().len()) as u32;
+    if let Some(col) = begin(dict, ends, statuses, instance, cuts, zero_goal, goal) {
+        return LpEnd::Clash { col };
+    }
+    let own = instance.goal();
+    let start = start(zero_goal, own.sense, own.constant);
+    let finish = make_turns(
+        dict, ends, statuses, rest, values, start, turns, watch, goal, steps,
+    );
+    report(dict, statuses, finish, factors, movements, goal)
+}

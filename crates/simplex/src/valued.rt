@@ -1,0 +1,184 @@
+// The values of the columns.
+ghost use Rattle.std.specs.Prelude.{◌≡◌, ℕ, ◌+◌, ◌<◌, ◌≤◌, true, length, MatchOption, IfOk, OnErr};
+ghost use Rattle.fraction.specs.Frac.{ratio};
+ghost use Rattle.evidence.specs.Sums.{none};
+ghost use Rattle.evidence.specs.Cases.{or_none};
+ghost use Rattle.evidence.specs.Instance.{Instance};
+ghost use Rattle.instance.specs.Program.{limit};
+ghost use Rattle.bases.specs.Dictionary.{Entries, Values};
+ghost use Rattle.bases.specs.Pivot.{ValueFits};
+ghost use Rattle.simplex_rules.specs.declared.columns.Way.{Way};
+ghost use Rattle.simplex_rules.specs.Statuses.{is_basic, basic_in, rest_at, HasValues};
+ghost use Rattle.simplex_rules.specs.Turns.{Misses, NoneOut, IsFirstOut};
+ghost use Rattle.simplex_rules.specs.Widths.{ValuesFit};
+ghost use Rattle.dictionary.specs.Dict.{IsLoaded, width_of, height_of, columns_of, basic_of, entry_of, Rest, count_of, values_of};
+ghost use Rattle.simplex.specs.Cuts.{AreEndsOf, range_of, ranges_in};
+ghost use Rattle.simplex.specs.Held.{AreStatuses, HasSizeOf, values_in};
+ghost use Rattle.simplex.specs.Valued.{IsColumnValue, AreResting};
+
+use crate::ends::{Ends, is_less};
+use crate::finish::Move;
+use dictionary::{Dict, Places, Steps};
+use fraction::{End, Frac, Wide};
+use simplex_rules::{Status, Way};
+use std::sync::ledger::Ledger;
+
+/// 0, as contracts say it.
+pub fn zero() -> Frac
+    ensures { ratio result ≡ none }
+{
+    Frac::ZERO
+}
+
+/// The end, or 0 where it is infinite.
+fn number(end: End) -> Frac
+    ensures { ratio result ≡ or_none (limit end) }
+{
+    match end {
+        End::At(x) => x,
+        _ => zero(),
+    }
+}
+
+/// The value of a column that isn't basic, and 0 of one that is.
+fn rest_value(ends: Ends, status: Status) -> Frac
+    ensures { ratio result ≡ rest_at (range_of ends) status }
+{
+    match status {
+        Status::Basic => zero(),
+        Status::Lower => number(ends.lb),
+        Status::Upper => number(ends.ub),
+        Status::Zero => zero(),
+    }
+}
+
+/// Writes the values of the columns that aren't basic.
+fn set_rest(ends: &[Ends], statuses: &[Status], rest: &mut Places, goal: u32)
+    requires ends { length ends.now ≡ length statuses.now }
+    requires rest { goal ≤ count_of rest.old }
+    requires goal { goal ≡ length statuses.now }
+    ensures count { count_of rest.new ≡ count_of rest.old }
+    ensures values { AreResting (ranges_in ends.now) statuses.now (values_of rest.new) }
+{
+    for c in 0..goal {
+        let value = rest_value(ends[c as usize], statuses[c as usize]);
+        rest.set(c, value);
+    }
+}
+
+/// The value of a column.
+fn value_at<L: Ledger>(
+    dict: &Dict,
+    status: Status,
+    rest: &Places,
+    col: u32,
+    steps: &mut Steps<L>,
+) -> Result<Frac, Wide>
+    requires loaded { IsLoaded dict.now }
+    requires rest { width_of dict.now + height_of dict.now ≤ count_of rest.now }
+    requires col { col < width_of dict.now + height_of dict.now }
+    requires status { is_basic status ≡ basic_of dict.now col }
+    ensures ok { (w : Values) → Rest dict.now rest.now w → IfOk result (λ v. IsColumnValue dict.now w (is_basic status) col (ratio v)) }
+    ensures wide { (w : Values) → Rest dict.now rest.now w → OnErr result ((is_basic status ≡ true) × (ValueFits (columns_of dict.now) (entry_of dict.now col) w → ⊥)) }
+{
+    match status {
+        Status::Basic => dict.value_of(col, rest, steps),
+        Status::Lower => Ok(rest.at(col)),
+        Status::Upper => Ok(rest.at(col)),
+        Status::Zero => Ok(rest.at(col)),
+    }
+}
+
+/// Writes the values of all columns.
+fn all_values<L: Ledger>(
+    dict: &Dict,
+    statuses: &[Status],
+    rest: &Places,
+    values: &mut [Frac],
+    goal: u32,
+    steps: &mut Steps<L>,
+) -> Result<(), Wide>
+    requires loaded { IsLoaded dict.now }
+    requires statuses { AreStatuses dict.now statuses.now }
+    requires rest { goal ≤ count_of rest.now }
+    requires values { length values.old ≡ goal }
+    requires goal { goal ≡ length statuses.now }
+    ensures ok { (w : Values) → Rest dict.now rest.now w → IfOk result (λ _. (c : ℕ) → c < goal → IsColumnValue dict.now w (basic_in statuses.now c) c (values_in values.new c)) }
+    ensures wide { (w : Values) → Rest dict.now rest.now w → OnErr result ((b : ℕ) × (b < goal) × (basic_in statuses.now b ≡ true) × (ValueFits (columns_of dict.now) (entry_of dict.now b) w → ⊥)) }
+{
+    for c in 0..goal {
+        let value = value_at(dict, statuses[c as usize], rest, c, steps)?;
+        values[c as usize] = value;
+    }
+    Ok(())
+}
+
+/// The values of the columns at a basis.
+pub fn find_values<L: Ledger>(
+    dict: &Dict,
+    ends: &[Ends],
+    statuses: &[Status],
+    rest: &mut Places,
+    values: &mut [Frac],
+    goal: u32,
+    steps: &mut Steps<L>,
+) -> Result<(), Wide>
+    requires loaded { IsLoaded dict.now }
+    requires statuses { AreStatuses dict.now statuses.now }
+    requires ends { length ends.now ≡ length statuses.now }
+    requires rest { goal ≤ count_of rest.old }
+    requires values { length values.old ≡ goal }
+    requires goal { goal ≡ length statuses.now }
+    ensures count { count_of rest.new ≡ count_of rest.old }
+    ensures ok { (I : Instance) → AreEndsOf I ends.now → HasSizeOf I dict.now → IfOk result (λ _. HasValues I statuses.now (entry_of dict.now) (values_in values.new)) }
+    ensures resting { AreResting (ranges_in ends.now) statuses.now (values_of rest.new) }
+    ensures fits { (I : Instance) → AreEndsOf I ends.now → HasSizeOf I dict.now → IfOk result (λ _. ValuesFit I statuses.now (entry_of dict.now)) }
+    ensures wide { (I : Instance) → AreEndsOf I ends.now → HasSizeOf I dict.now → OnErr result (ValuesFit I statuses.now (entry_of dict.now) → ⊥) }
+{
+    set_rest(ends, statuses, rest, goal);
+    all_values(dict, statuses, rest, values, goal, steps)
+}
+
+/// The way in which a value is to move to come within the ends.
+fn misses(e: Ends, x: Frac) -> Option<Way>
+    ensures { MatchOption result ((v : Way) → Misses v (range_of e) (ratio x) → ⊥) (λ v. Misses v (range_of e) (ratio x)) }
+{
+    if let End::At(l) = e.lb {
+        if is_less(x, l) {
+            return Some(Way::Rise);
+        }
+    }
+    if let End::At(h) = e.ub {
+        if is_less(h, x) {
+            return Some(Way::Fall);
+        }
+    }
+    None
+}
+
+/// The way in which a column is to move, where it is basic and out of its ends.
+fn out_at(e: Ends, status: Status, x: Frac) -> Option<Way>
+    ensures { MatchOption result ((v : Way) → is_basic status ≡ true → Misses v (range_of e) (ratio x) → ⊥) (λ v. (is_basic status ≡ true) × Misses v (range_of e) (ratio x)) }
+{
+    match status {
+        Status::Basic => misses(e, x),
+        Status::Lower => None,
+        Status::Upper => None,
+        Status::Zero => None,
+    }
+}
+
+/// The first basic column that is out of its ends.
+pub fn first_out(ends: &[Ends], statuses: &[Status], values: &[Frac], goal: u32) -> Option<Move>
+    requires ends { length ends.now ≡ length statuses.now }
+    requires values { length values.now ≡ length statuses.now }
+    requires goal { goal ≡ length statuses.now }
+    ensures { (I : Instance) (u : Entries) → AreEndsOf I ends.now → MatchOption result (NoneOut I statuses.now u (values_in values.now)) (λ m. IsFirstOut I statuses.now u (values_in values.now) m.col m.way) }
+{
+    for c in 0..goal {
+        if let Some(way) = out_at(ends[c as usize], statuses[c as usize], values[c as usize]) {
+            return Some(Move { col: c, way });
+        }
+    }
+    None
+}

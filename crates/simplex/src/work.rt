@@ -1,0 +1,142 @@
+ghost use Rattle.std.specs.Prelude.{◌≡◌, ℕ, ◌+◌, ◌-◌, ◌^◌, ◌<◌, ◌≤◌, length, vec_len, IfOk};
+ghost use Rattle.fraction.specs.Frac.{ratio};
+ghost use Rattle.evidence.specs.Instance as Of;
+ghost use Rattle.dictionary.specs.Dict.{width_of, height_of, count_of};
+ghost use Rattle.simplex_rules.specs.Ends.{Terms};
+ghost use Rattle.simplex_rules.specs.Runs.{Run};
+ghost use Rattle.simplex_rules.specs.Looks.{answers, Tells, looks_after};
+
+use crate::answer::{LpEnd, Turns};
+use crate::cuts::Cuts;
+use crate::ends::Ends;
+use crate::running::run_over;
+use crate::valued::zero;
+use dictionary::{Dict, Places, Steps};
+use fraction::{End, Frac};
+use instance::Instance;
+use os_io::Watch;
+use simplex_rules::Status;
+use std::alloc::{AllocError, Global};
+use std::sync::ledger::Ledger;
+
+/// Memory for runs of one size, and what the last of them found.
+#[derive(Drop)]
+pub struct Work {
+    dict: Dict,
+    ends: Vec<Ends>,
+    statuses: Vec<Status>,
+    rest: Places,
+    values: Vec<Frac>,
+    factors: Vec<Frac>,
+    movements: Vec<Frac>,
+    ghost ends_long: { vec_len ends ≡ width_of dict + height_of dict },
+    ghost statuses_long: { vec_len statuses ≡ width_of dict + height_of dict },
+    ghost rest_long: { count_of rest ≡ width_of dict + height_of dict },
+    ghost values_long: { vec_len values ≡ width_of dict + height_of dict },
+    ghost factors_long: { vec_len factors ≡ width_of dict + height_of dict },
+    ghost movements_long: { vec_len movements ≡ width_of dict },
+}
+
+impl Work {
+    ghost use Rattle.simplex.specs.Cuts.{IsCutBy};
+    ghost use Rattle.simplex.specs.Memory.{width_in, height_in, point_in, factor_in, movement_in, ended_with};
+    ghost use Rattle.simplex.specs.Answers.{was_stopped};
+
+    /// Memory for runs of so many variables and rows.
+    pub fn for_size(alloc: Global, n: u32, m: u32) -> Result<Work, AllocError>
+        ensures width { IfOk result (λ w. width_in w ≡ n) }
+        ensures height { IfOk result (λ w. height_in w ≡ m) }
+    {
+        let vars = n as usize;
+        let columns = vars + m as usize;
+        let dict = Dict::with_size(alloc, n, m)?;
+        let free = Ends {
+            lb: End::NegInf,
+            ub: End::Inf,
+        };
+        let ends = vec![in alloc; free; columns]?;
+        let statuses = vec![in alloc; Status::Basic; columns]?;
+        let rest = Places::with_size(alloc, columns)?;
+        let none = zero();
+        let values = vec![in alloc; none; columns]?;
+        let factors = vec![in alloc; none; columns]?;
+        let movements = vec![in alloc; none; vars]?;
+        Ok(Work {
+            dict,
+            ends,
+            statuses,
+            rest,
+            values,
+            factors,
+            movements,
+        })
+    }
+
+    /// Runs the linear program of an instance with these ends of its variables, from the first basis to its end. That some
+    /// variables are to be whole is nothing to it; with `zero_goal` the goal is 0, so that any point within all ends is best.
+    ///
+    /// The answer is the end of the run for each program of these ends, with the point, the multipliers and the direction that
+    /// [`Work::point_at`], [`Work::mult_at`] and [`Work::ray_at`] tell then. `turns.done` counts the turns of the whole search: it
+    /// rises by the run's turns, at most to `turns.most`, and after each turn whose number is a multiple of 64 there is a look.
+    /// The run ends by [`LpEnd::Stopped`] exactly where one of its looks said to stop, which is then the last.
+    pub fn run<W: Watch, L: Ledger>(
+        &mut self,
+        instance: &Instance,
+        cuts: &Cuts,
+        zero_goal: bool,
+        turns: &mut Turns,
+        watch: &mut W,
+        steps: &mut Steps<L>,
+    ) -> LpEnd
+        requires vars { width_in self.old ≡ length instance.now.vars }
+        requires rows { height_in self.old ≡ length instance.now.rows }
+        requires cuts { length cuts.now ≡ length instance.now.vars }
+        requires stops { W.stops watch.old < 2 ^ 64 - 1 }
+        ensures width { width_in self.new ≡ width_in self.old }
+        ensures height { height_in self.new ≡ height_in self.old }
+        ensures most { turns.new.most ≡ turns.old.most }
+        ensures more { turns.old.done ≤ turns.new.done }
+        ensures within { turns.old.done ≤ turns.old.most → turns.new.done ≤ turns.old.most }
+        ensures run { (n : ℕ) × W.came watch.old watch.new (answers n (was_stopped result)) × ((I : Of.Instance) (t : Terms) (looks : ℕ) → IsCutBy instance.now cuts.now I → t.turns ≡ turns.old.most → Tells t.stop looks n (was_stopped result) → Run I zero_goal t (record { turns = turns.old.done; looks = looks }) (ended_with result self.new) (record { turns = turns.new.done; looks = looks_after looks n (was_stopped result) })) }
+    {
+        run_over(
+            &mut self.dict,
+            self.ends.as_mut_slice(),
+            self.statuses.as_mut_slice(),
+            &mut self.rest,
+            self.values.as_mut_slice(),
+            self.factors.as_mut_slice(),
+            self.movements.as_mut_slice(),
+            instance,
+            cuts.as_slice(),
+            zero_goal,
+            turns,
+            watch,
+            steps,
+        )
+    }
+
+    /// The value of variable j at the last point: that of [`LpEnd::Best`], or the one from which [`LpEnd::Endless`] goes on.
+    pub fn point_at(&self, j: u32) -> Frac
+        requires { j < width_in self.now }
+        ensures { ratio result ≡ point_in self.now j }
+    {
+        self.values[j as usize]
+    }
+
+    /// The multiplier of a column, of the variables and then the rows: of [`LpEnd::Best`] or of [`LpEnd::Empty`].
+    pub fn mult_at(&self, col: u32) -> Frac
+        requires { col < width_in self.now + height_in self.now }
+        ensures { ratio result ≡ factor_in self.now col }
+    {
+        self.factors[col as usize]
+    }
+
+    /// The movement of variable j along the direction of [`LpEnd::Endless`].
+    pub fn ray_at(&self, j: u32) -> Frac
+        requires { j < width_in self.now }
+        ensures { ratio result ≡ movement_in self.now j }
+    {
+        self.movements[j as usize]
+    }
+}

@@ -1,0 +1,105 @@
+// What a dictionary says, as a text.
+ghost use Rattle.std.specs.Prelude.{◌≡◌, ◌≤◌, IsTrue};
+ghost use Rattle.dictionary.specs.Dict.{width_of, height_of, IsLoaded, IsBasic, IsNonbasic};
+
+use decimal_text::write_ratio;
+use dictionary::Dict;
+use fraction::Frac;
+use itoa::Buffer;
+use os_io::{Memory, Text};
+use std::alloc::Global;
+
+/// How many variables and rows a dictionary has.
+#[derive(Clone, Copy)]
+pub struct Size {
+    pub width: u32,
+    pub height: u32,
+    ghost few: { width ≤ 1000 },
+    ghost short: { height ≤ 1000 },
+}
+
+pub fn put_number(text: &mut Text, number: u32) -> Result<(), Memory> {
+    text.extend(Buffer::new().format(number).as_bytes())
+}
+
+/// Whether the column is basic.
+pub fn is_basic(dict: &Dict, size: Size, column: u32) -> bool
+    requires { height_of dict.now ≡ size.height }
+    ensures { IsTrue result → IsBasic dict.now column }
+{
+    for i in 0..size.height {
+        if dict.basic_at(i) == column {
+            return true;
+        }
+    }
+    false
+}
+
+/// Whether the column is one that isn't basic.
+pub fn is_nonbasic(dict: &Dict, size: Size, column: u32) -> bool
+    requires { width_of dict.now ≡ size.width }
+    ensures { IsTrue result → IsNonbasic dict.now column }
+{
+    for j in 0..size.width {
+        let at = dict.nonbasic_at(j);
+        if at == column {
+            return true;
+        }
+    }
+    false
+}
+
+/// Puts ` COLUMN*VALUE`, where the value isn't 0.
+fn put_entry(text: &mut Text, column: u32, value: Frac) -> Result<(), Memory> {
+    if value.numer == 0 {
+        return Ok(());
+    }
+    text.push(b' ')?;
+    put_number(text, column)?;
+    text.push(b'*')?;
+    write_ratio(value, text)
+}
+
+/// Puts the equation of a basic column, by ascending columns.
+fn put_equation(text: &mut Text, dict: &Dict, size: Size, basic: u32) -> Result<(), Memory>
+    requires loaded { IsLoaded dict.now }
+    requires width { width_of dict.now ≡ size.width }
+    requires basic { IsBasic dict.now basic }
+{
+    put_number(text, basic)?;
+    text.push(b':')?;
+    for column in 0..size.width + size.height {
+        if is_nonbasic(dict, size, column) {
+            put_entry(text, column, dict.entry(basic, column))?;
+        }
+    }
+    text.extend(b"; ")
+}
+
+/// Puts the goal's equation.
+pub fn put_goal(text: &mut Text, dict: &Dict, size: Size) -> Result<(), Memory>
+    requires loaded { IsLoaded dict.now }
+    requires width { width_of dict.now ≡ size.width }
+{
+    text.extend(b"goal:")?;
+    for column in 0..size.width + size.height {
+        if is_nonbasic(dict, size, column) {
+            put_entry(text, column, dict.cost(column))?;
+        }
+    }
+    Ok(())
+}
+
+/// All equations, by ascending basic columns, and last the goal's.
+pub fn put_dictionary(text: &mut Text, dict: &Dict, size: Size) -> Result<(), Memory>
+    requires loaded { IsLoaded dict.now }
+    requires width { width_of dict.now ≡ size.width }
+    requires height { height_of dict.now ≡ size.height }
+{
+    for column in 0..size.width + size.height {
+        if is_basic(dict, size, column) {
+            put_equation(text, dict, size, column)?;
+        }
+    }
+    put_goal(text, dict, size)
+}

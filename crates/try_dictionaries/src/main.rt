@@ -1,0 +1,58 @@
+//! A table of cases for dictionaries: programs, the columns that are exchanged, and what the dictionary then says.
+//!
+//! The answers are worked out by hand from the rules (`docs/rules/dictionaries.md`; Chvátal, Linear Programming, 1983,
+//! chapter 2). The output is a line for each answer that is another, and how many cases there are.
+#![tactic(auto)]
+
+use cases::{Answers, try_file};
+use os_io::{DiskFiles, Memory, Text};
+use std::alloc::Global;
+use std::io;
+use tableaus::{
+    read_exchanges, read_factor, read_numbers, read_tableau, tell_turned, tell_values,
+};
+
+/// Given the rows, the costs, the factor of the costs and the exchanges, and maybe a value for each column.
+#[derive(Drop)]
+struct Tableaus;
+
+/// The answer of a program that was read.
+fn answer_of(alloc: Global, given: &[Vec<u8>]) -> Result<Text, Memory> {
+    let [rows, costs, factor, turns, values] = given else {
+        return Text::from_slice(alloc, b"five fields");
+    };
+    let Some(instance) = read_tableau(alloc, rows.as_slice(), costs.as_slice())? else {
+        return Text::from_slice(alloc, b"no program");
+    };
+    let Some(turns) = read_exchanges(alloc, turns.as_slice())? else {
+        return Text::from_slice(alloc, b"no exchanges");
+    };
+    let factor = read_factor(factor.as_slice());
+    if values.is_empty() {
+        return tell_turned(alloc, &instance, factor, turns.as_slice());
+    }
+    match read_numbers(alloc, values.as_slice())? {
+        Some(list) => tell_values(alloc, &instance, factor, turns.as_slice(), list.as_slice()),
+        None => Text::from_slice(alloc, b"no values"),
+    }
+}
+
+impl Answers for Tableaus {
+    fn answer(&mut self, alloc: Global, given: &[Vec<u8>]) -> Result<Text, Memory> {
+        answer_of(alloc, given)
+    }
+}
+
+fn main(rt: HostRuntime) -> io::Result<()> {
+    let alloc = rt.alloc();
+    let mut files = DiskFiles::new(&rt);
+    let count = try_file(
+        alloc,
+        "dictionaries.txt",
+        &mut files,
+        &mut Tableaus,
+        &mut rt.stdout(),
+    )?;
+    println!(rt; "{count} cases")?;
+    Ok(())
+}
