@@ -1,2 +1,2 @@
 mod Sizes
-mod Paths
+pub mod Paths
