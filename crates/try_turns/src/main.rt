@@ -31,13 +31,7 @@ impl Answers for Turns {
 fn main(rt: HostRuntime) -> io::Result<()> {
     let alloc = rt.alloc();
     let mut files = DiskFiles::new(&rt);
-    let count = try_file(
-        alloc,
-        "turns.txt",
-        &mut files,
-        &mut Turns,
-        &mut rt.stdout(),
-    )?;
+    let count = try_file(alloc, "turns.txt", &mut files, &mut Turns, &mut rt.stdout())?;
     println!(rt; "{count} cases")?;
     Ok(())
 }
