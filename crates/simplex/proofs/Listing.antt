@@ -11,11 +11,11 @@ use Rattle.bases.specs.Dictionary.{Values}
 use Rattle.simplex_rules.specs.Reports.{AreValues, collected, one_of}
 use Rattle.simplex.specs.Answers.{listed}
 
-length-listed : (n : ℕ) (w : Values) → length (listed n w) ≡ n
+pub length-listed : (n : ℕ) (w : Values) → length (listed n w) ≡ n
 length-listed zero w = refl
 length-listed (suc n) w = length-append (listed n w) (w n ∷ []) ∙ (let i = length-listed n w in omega arith)
 
-value_listed : (n : ℕ) (w : Values) (j : ℕ) → j < n → value_at (listed n w) j ≡ w j
+pub value_listed : (n : ℕ) (w : Values) (j : ℕ) → j < n → value_at (listed n w) j ≡ w j
 value_listed zero w j h = absurd (omega arith)
 value_listed (suc n) w j h =
     by_eq j n

@@ -1,0 +1,10 @@
+mod Rooms
+mod Ranges
+mod Floors
+mod Factors
+mod Places
+mod Splits
+mod Multiples
+mod Meets
+mod Nexts
+mod Looks

@@ -1,0 +1,34 @@
+use Rattle.std.proofs.Common.{arith}
+use Rattle.std.proofs.lemmas.List.{length-map}
+use Rattle.certificate.specs.Means as Means
+use Rattle.instance.specs.Program.{program, variable}
+use Rattle.simplex.specs.Memory.{point_of}
+use Rattle.branch_bound.specs.Walks as Walks
+use Rattle.instance.proofs.Terms.{if_ok}
+use Rattle.branch_bound.proofs.Meets.{meets_split}
+use Rattle.branch_bound.proofs.meeting.meet.Goals as goal
+
+pub branch-walk-requires-clause-inside : goal.branch-walk-requires-clause-inside
+branch-walk-requires-clause-inside c =
+    let s = rw c.as_slice.ensures.value at c.in-Some.ensures c.args.instance.now in
+    let n = length-map c.args.walk.now.vars.items variable in
+    let b = s.branch.variable in
+    omega arith
+
+pub branch-walk-requires-clause-low : goal.branch-walk-requires-clause-low
+branch-walk-requires-clause-low c = let s = c.in-Some.ensures c.args.instance.now in s.branch.low
+
+pub branch-walk-requires-clause-high : goal.branch-walk-requires-clause-high
+branch-walk-requires-clause-high c = let s = c.in-Some.ensures c.args.instance.now in s.branch.high
+
+pub take_point-requires-clause-whole : goal.take_point-requires-clause-whole
+take_point-requires-clause-whole c = rw c.as_slice.ensures.value at c.in-None.ensures c.args.instance.now
+
+pub returns-in-Some-clause-ok : goal.returns-in-Some-clause-ok
+returns-in-Some-clause-ok c =
+    let p = c.args.instance.now in
+    let w = c.args.walk.now in
+    let s = rw c.as_slice.ensures.value at c.in-Some.ensures p in
+    if_ok c.branch-walk.result
+    (λ x h at. meets_split (program p) (Walks.case p w) (Walks.rest p w c.args.depth) (Walks.moment p w at) (point_of c.args.relaxation.now.work) (Means.multipliers c.args.mults) _ c.in-Some.at.col c.in-Some.at.k s (h p at))
+    c.branch-walk.ensures.ok

@@ -1,0 +1,94 @@
+use Rattle.std.proofs.Common.{rules, ◌≡◌, ◌+◌, inl, Bool, None, false, arith, sym, ◌∙◌, ap, subst}
+use Rattle.certificate.specs.Means as Means
+use Rattle.instance.specs.Program.{program}
+use Rattle.case_tree.specs.Cuts.{cases}
+use Rattle.simplex_rules.specs.Looks.{went_on, answers, IsAfter, Tells, looks_after}
+use Rattle.search_rules.specs.Search.{Outcome, To, Out, closed, IsNext, Comes, begins, goes_on, IsAnswer, searched}
+use Rattle.branch_bound.specs.Claims.{outcome}
+use Rattle.branch_bound.specs.Walks.{best, moment}
+use Rattle.branch_bound.specs.Cases.{terms, clock_at}
+use Rattle.branch_bound.proofs.Looks.{no_stops, answers_more, after_less, tells_less, looks_more}
+use Rattle.branch_bound.proofs.Nexts.{answered}
+use Rattle.branch_bound.proofs.searching.explore.Goals as goal
+
+pub loop-walk-init : goal.loop-walk-init
+loop-walk-init g c = record {
+  walk = c.requires.walk;
+  size = c.requires.size;
+  most = ap (λ t. t.most) c.requires.turns;
+  moments = (0, g.met.W.Watch.stays c.args.watch.now, λ stop h. subst (Comes (program c.args.instance.now) (terms c.args.limits stop)) (sym c.requires.first) begins);
+}
+
+pub step-requires-clause-stops : goal.step-requires-clause-stops
+step-requires-clause-stops g c =
+    let (n, came, comes) = c.loop-walk.invariant.moments in
+    let e = g.met.W.Watch.counts c.args.watch.now c.loop-walk.watch (went_on n) came in
+    let z = no_stops n in
+    let low = c.requires.stops in
+    omega (arith, e, z, low)
+
+pub loop-walk-preserved : goal.loop-walk-preserved
+loop-walk-preserved g c =
+    let a = c.args in
+    let l = c.loop-walk in
+    let p = a.instance.now in
+    let r = c.step.new.relaxation in
+    let (n, came, comes) = l.invariant.moments in
+    let (k, b, q, came', on) = c.in-Ok.ensures.next in
+    let went : b ≡ false = sym q in
+    let came'' = subst (λ b. g.W.Watch.came l.watch c.step.new.watch (answers k b)) went came' in
+    record {
+      walk = c.in-Ok.ensures.walk;
+      size = c.step.ensures.size;
+      most = c.step.ensures.most;
+      moments = (
+        n + k,
+        subst (g.W.Watch.came a.watch.now c.step.new.watch) (answers_more n k false) (g.met.W.Watch.joined a.watch.now l.watch c.step.new.watch (went_on n) (went_on k) came came''),
+        λ stop h.
+            let t = terms a.limits stop in
+            let s : Tells stop 0 (n + k) false = subst (λ i. IsAfter i stop) (omega arith) h in
+            let later : Tells stop n k b = subst (Tells stop n k) (sym went) (tells_less n k false stop s) in
+            goes_on (comes stop (after_less n k false stop s))
+            (subst (λ (b : Bool). IsNext (program p) t (moment p l.walk (clock_at l.relaxation n)) (To (moment p c.step.new.walk (clock_at r (looks_after n k b))))) went (on n stop later)),
+      );
+    }
+
+pub returns-in-Err : goal.returns-in-Err
+returns-in-Err g c =
+    let a = c.args in
+    let l = c.loop-walk in
+    let p = a.instance.now in
+    let r = c.step.new.relaxation in
+    let (n, came, comes) = l.invariant.moments in
+    let (k, b, q, came', ends) = c.in-Err.ensures.next in (
+      n + k,
+      b,
+      q,
+      subst (g.W.Watch.came a.watch.now c.step.new.watch) (answers_more n k b) (g.met.W.Watch.joined a.watch.now l.watch c.step.new.watch (went_on n) (answers k b) came came'),
+      λ stop h.
+          let t = terms a.limits stop in
+          subst (λ i. IsAnswer (program p) t (outcome c.in-Err.claim) (clock_at r i)) (looks_more n k b)
+          (answered (program p) t (moment p l.walk (clock_at l.relaxation n)) (outcome c.in-Err.claim) (clock_at r (looks_after n k b)) (comes stop (after_less n k b stop h)) (ends n stop (tells_less n k b stop h))),
+    )
+
+pub returns : goal.returns
+returns g c =
+    let a = c.args in
+    let l = c.loop-walk in
+    let p = a.instance.now in
+    let (n, came, comes) = l.invariant.moments in
+    let none : l.walk.next ≡ None = search rules in (
+      n,
+      false,
+      c.all_closed.ensures.killed,
+      came,
+      λ stop h.
+          let t = terms a.limits stop in
+          let s : IsAfter n stop = subst (λ i. IsAfter i stop) (omega arith) h in
+          let e : 0 + n ≡ n = omega arith in
+          searched (record {
+            last = moment p l.walk (clock_at l.relaxation n);
+            comes = comes stop s;
+            ends = inl (ap (cases p l.walk.vars.items l.walk.branches.items) none, ap (λ (o : Outcome). Out o (clock_at l.relaxation (0 + n))) c.all_closed.ensures.told ∙ ap (λ i. Out (closed (best l.walk.best) (Means.nodes l.walk.nodes)) (clock_at l.relaxation i)) e);
+          }),
+    )

@@ -1,0 +1,25 @@
+use Rattle.std.proofs.Common.{◌≡◌, Bool, sym, subst}
+use Rattle.instance.specs.Program.{program}
+use Rattle.simplex_rules.specs.Looks.{answers, Tells, looks_after}
+use Rattle.search_rules.specs.Search.{IsAnswer, begins, given_up}
+use Rattle.branch_bound.specs.Claims.{outcome, is_killed}
+use Rattle.branch_bound.proofs.searching.search.Goals as goal
+
+pub returns-in-Err : goal.returns-in-Err
+returns-in-Err g c = (0, g.met.W.Watch.stays c.args.watch.now, λ stop h. given_up begins)
+
+pub returns-in-Err-begin : goal.returns-in-Err-begin
+returns-in-Err-begin g c = (0, g.met.W.Watch.stays c.args.watch.now, λ stop h. given_up begins)
+
+pub returns : goal.returns
+returns g c =
+    let a = c.args in
+    let e = c.explore-claim in
+    let (n, b, q, came, answer) = e.ensures in
+    let back : b ≡ is_killed e.result = sym q in (
+      n,
+      subst (λ (b : Bool). g.W.Watch.came a.watch.now e.new.watch (answers n b)) back came,
+      λ stop h.
+          subst (λ (b : Bool). IsAnswer (program a.instance.now) (record { nodes = a.nodes; turns = a.turns; stop = stop }) (outcome e.result) (record { turns = e.new.relaxation.turns.done; looks = looks_after 0 n b })) back
+          (answer stop (subst (Tells stop 0 n) q h)),
+    )

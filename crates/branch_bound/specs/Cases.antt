@@ -1,0 +1,54 @@
+-- What the code makes of a case, as the rules of a search say it.
+use Rattle.std.specs.Prelude.{◌≡◌, ◌⊎◌, ℕ, Bool, false, Option, Result, Ok, Err, List, length}
+use Rattle.rational.specs.Ratio.{Ratio}
+use Rattle.evidence.specs.Instance.{Instance}
+use Rattle.evidence.specs.Cases.{Multiplier}
+use Rattle.instance.specs.Parts.{Parts}
+use Rattle.instance.specs.Program.{program}
+use Rattle.certificate.specs.declared.causes.Cause.TheVariants.{Memory}
+use Rattle.certificate.specs.declared.claims.Claim.{Claim}
+use Rattle.simplex_rules.specs.Ends.{Terms, Clock, End}
+use Rattle.simplex.specs.Memory.{width_in, height_in}
+use Rattle.search_rules.specs.Search.{Moment, Outcome, Next, To, Out, Meets, Goes, IsNext, IsCaseRun, early}
+use Rattle.branch_bound.specs.declared.relaxation.Relaxation.{Relaxation}
+use Rattle.branch_bound.specs.declared.limits.Limits.{Limits}
+use Rattle.branch_bound.specs.declared.walk.Walk.{Walk}
+use Rattle.branch_bound.specs.Claims.{outcome, is_killed}
+use Rattle.branch_bound.specs.Walks.{best, case, rest, moment}
+
+abbrev pub terms : Limits → Option ℕ → Terms
+terms l stop = record { nodes = l.nodes; turns = l.turns; stop = stop }
+
+-- the memory has the size of the instance
+pub record HasSize (p : Parts) (r : Relaxation) : Type 0 where
+  pub width : width_in r.work ≡ length p.vars
+  pub height : height_in r.work ≡ length p.rows
+  pub cuts : length r.cuts ≡ length p.vars
+
+abbrev pub clock_at : Relaxation → ℕ → Clock
+clock_at r looks = record { turns = r.turns.done; looks = looks }
+
+-- the search is given up for want of memory, or else this holds
+abbrev pub OrMemory : Walk → Claim → Type 0 → Type 0
+OrMemory w claim P = (outcome claim ≡ early (best w.best) Memory) ⊎ P
+
+-- from this point of the case at hand on
+abbrev pub MeetsAt : Parts → Walk → ℕ → Clock → List Ratio → List Multiplier → Next → Type 0
+MeetsAt p w d c x ms next = Meets (program p) (case p w) (rest p w d) (moment p w c) x ms next
+
+-- from this end of the run of the case at hand on
+abbrev pub GoesAt : Parts → Walk → ℕ → Terms → Clock → End → Next → Type 0
+GoesAt p w d t c e next = Goes t (program p) (case p w) (rest p w d) (moment p w c) e next
+
+-- a search that is at a moment ends so, or is given up once the next case was run
+abbrev pub Ends : Instance → Terms → Moment → Outcome → Clock → Type 0
+Ends I t m o c = ((e : End) × IsCaseRun I t m e c × (o ≡ early m.best Memory)) ⊎ IsNext I t m (Out o c)
+
+abbrev pub is_killed_by : Result (Unit {0}) Claim → Bool
+is_killed_by (Ok x) = false
+is_killed_by (Err claim) = is_killed claim
+
+-- what a step makes of a search: its next moment, or its end
+abbrev pub Follows : Parts → Terms → Clock → Clock → Walk → Walk → Result (Unit {0}) Claim → Type 0
+Follows p t before after w v (Ok x) = IsNext (program p) t (moment p w before) (To (moment p v after))
+Follows p t before after w v (Err claim) = Ends (program p) t (moment p w before) (outcome claim) after

@@ -1,0 +1,10 @@
+pub use Rattle.rational.specs.Ratio
+pub use Rattle.evidence.specs.Instance
+pub use Rattle.instance.specs.Program
+pub use Rattle.certificate.specs.Means
+pub use Rattle.simplex_rules.specs.Ends
+pub use Rattle.simplex_rules.specs.Looks
+pub use Rattle.search_rules.specs.Search
+pub mod Claims
+pub mod Walks
+pub mod Cases

@@ -1,0 +1,6 @@
+/// How many nodes a search may have, and how many turns in all its runs.
+#[derive(Clone, Copy, PartialEq, Eq, Debug)]
+pub struct Limits {
+    pub nodes: u32,
+    pub turns: u32,
+}

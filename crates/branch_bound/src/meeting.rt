@@ -1,0 +1,84 @@
+// From a point of the case at hand on.
+ghost use Rattle.std.specs.Prelude.{◌≡◌, ℕ, ◌-◌, ◌^◌, ◌<◌, false, length, IfOk, IfErr};
+ghost use Rattle.evidence.specs.Instance as Of;
+ghost use Rattle.certificate.specs.Means as Means;
+ghost use Rattle.simplex.specs.Memory.{point_of};
+ghost use Rattle.simplex_rules.specs.Ends.{Clock};
+ghost use Rattle.search_rules.specs.Search.{To, Out, IsWholeBelow};
+ghost use Rattle.branch_bound.specs.Claims.{outcome, is_killed};
+ghost use Rattle.branch_bound.specs.Walks.{case, moment, IsWalk, IsAt};
+ghost use Rattle.branch_bound.specs.Cases.{HasSize, clock_at, OrMemory, MeetsAt};
+
+use crate::claims::{branch, give_up, leaf, too_wide};
+use crate::open::first_open;
+use crate::points::read_point;
+use crate::relaxation::Relaxation;
+use crate::values::value_at;
+use crate::walk::{Found, Walk};
+use certificate::{Cause, Claim, Mults, Node, Step};
+use instance::Instance;
+use std::alloc::Global;
+
+/// Takes a point that is whole where it must be as the best, or ends the search with it.
+fn take_point(
+    alloc: Global,
+    instance: &Instance,
+    relaxation: &Relaxation,
+    mults: Mults,
+    walk: &mut Walk,
+    depth: usize,
+) -> Result<(), Claim>
+    requires size { HasSize instance.now relaxation.now }
+    requires at { IsAt (length instance.now.vars) walk.old depth }
+    requires within { length walk.old.nodes < 2 ^ 32 - 1 }
+    requires whole { IsWholeBelow (case instance.now walk.old) (point_of relaxation.now.work) (Of.width (case instance.now walk.old)) }
+    ensures walk { IfOk result (λ _. IsWalk (length instance.now.vars) walk.new) }
+    ensures ok { IfOk result (λ _. (c : Clock) → MeetsAt instance.now walk.old depth c (point_of relaxation.now.work) (Means.multipliers mults) (To (moment instance.now walk.new c))) }
+    ensures err { IfErr result (λ claim. OrMemory walk.old claim ((looks : ℕ) → let c = clock_at relaxation.now looks in MeetsAt instance.now walk.old depth c (point_of relaxation.now.work) (Means.multipliers mults) (Out (outcome claim) c))) }
+    ensures went_on { IfErr result (λ claim. is_killed claim ≡ false) }
+{
+    let width = instance.vars().len() as u32;
+    let point = match read_point(alloc, &relaxation.work, width) {
+        Ok(point) => point,
+        Err(_) => return Err(give_up(walk, Cause::Memory)),
+    };
+    let value = match value_at(instance, point.as_slice()) {
+        Ok(value) => value,
+        Err(_) => return Err(too_wide(walk, relaxation.turns.done, Step::Point)),
+    };
+    match walk.ray.take() {
+        Some(ray) => return Err(Claim::Unbounded { point, value, ray }),
+        None => {}
+    }
+    match leaf(walk, depth, Node::Bound(mults)) {
+        Ok(()) => {
+            walk.best = Some(Found { point, value });
+            Ok(())
+        }
+        Err(claim) => Err(claim),
+    }
+}
+
+/// Goes on from the run's point: splits the case, or takes the point.
+pub fn meet(
+    alloc: Global,
+    instance: &Instance,
+    relaxation: &Relaxation,
+    mults: Mults,
+    walk: &mut Walk,
+    depth: usize,
+) -> Result<(), Claim>
+    requires size { HasSize instance.now relaxation.now }
+    requires at { IsAt (length instance.now.vars) walk.old depth }
+    requires within { length walk.old.nodes < 2 ^ 32 - 1 }
+    ensures walk { IfOk result (λ _. IsWalk (length instance.now.vars) walk.new) }
+    ensures ok { IfOk result (λ _. (c : Clock) → MeetsAt instance.now walk.old depth c (point_of relaxation.now.work) (Means.multipliers mults) (To (moment instance.now walk.new c))) }
+    ensures err { IfErr result (λ claim. OrMemory walk.old claim ((looks : ℕ) → let c = clock_at relaxation.now looks in MeetsAt instance.now walk.old depth c (point_of relaxation.now.work) (Means.multipliers mults) (Out (outcome claim) c))) }
+    ensures went_on { IfErr result (λ claim. is_killed claim ≡ false) }
+{
+    let _few = instance.vars();
+    match first_open(&relaxation.work, walk.vars.as_slice()) {
+        Some(at) => return branch(walk, depth, at),
+        None => return take_point(alloc, instance, relaxation, mults, walk, depth),
+    }
+}

@@ -1,0 +1,45 @@
+// What the last run found: its point and its multipliers.
+ghost use Rattle.std.specs.Prelude.{◌≡◌, ◌+◌, ◌++◌, IfOk};
+ghost use Rattle.fraction.specs.Frac.{ratio, ratios};
+ghost use Rattle.certificate.specs.Means as Means;
+ghost use Rattle.simplex_rules.specs.Reports.{one_of};
+ghost use Rattle.simplex.specs.Memory.{width_in, height_in, point_of, mults_of};
+
+use certificate::{Mult, Mults, Point};
+use fraction::Frac;
+use simplex::Work;
+use std::alloc::{AllocError, Global};
+
+/// The run's point, of so many variables.
+pub fn read_point(alloc: Global, work: &Work, width: u32) -> Result<Point, AllocError>
+    requires { width ≡ width_in work.now }
+    ensures { IfOk result (λ point. ratios point ≡ point_of work.now) }
+{
+    let mut point = Point::new(alloc);
+    for j in 0..width {
+        point.push(work.point_at(j))?;
+    }
+    Ok(point)
+}
+
+/// Adds a column's multiplier, unless it is 0.
+fn add(mults: &mut Mults, col: u32, value: Frac) -> Result<(), AllocError>
+    ensures { IfOk result (λ _. Means.multipliers mults.new ≡ Means.multipliers mults.old ++ one_of col value.numer (ratio value)) }
+{
+    if value.numer == 0 {
+        return Ok(());
+    }
+    mults.push(Mult { col, value })
+}
+
+/// The run's multipliers that aren't 0, of so many columns.
+pub fn read_mults(alloc: Global, work: &Work, columns: u32) -> Result<Mults, AllocError>
+    requires { columns ≡ width_in work.now + height_in work.now }
+    ensures { IfOk result (λ mults. Means.multipliers mults ≡ mults_of work.now) }
+{
+    let mut mults = Mults::new(alloc);
+    for col in 0..columns {
+        add(&mut mults, col, work.mult_at(col))?;
+    }
+    Ok(mults)
+}

@@ -1,0 +1,177 @@
+// The search, case by case.
+ghost use Rattle.std.specs.Prelude.{◌≡◌, ℕ, ◌+◌, ◌-◌, ◌^◌, ◌<◌, Bool, Option, length, IfOk};
+ghost use Rattle.instance.specs.Program.{program};
+ghost use Rattle.simplex.specs.Answers.{was_stopped};
+ghost use Rattle.simplex_rules.specs.Looks.{answers, Tells, looks_after};
+ghost use Rattle.search_rules.specs.Search.{IsAnswer, first};
+ghost use Rattle.branch_bound.specs.Claims.{outcome, is_killed};
+ghost use Rattle.branch_bound.specs.Walks.{moment, IsWalk, IsAt};
+ghost use Rattle.branch_bound.specs.Cases.{terms, HasSize, clock_at, is_killed_by, Follows};
+
+use crate::claims::{all_closed, give_up};
+use crate::limits::Limits;
+use crate::relaxation::{Relaxation, run_case};
+use crate::visit::visit;
+use crate::walk::Walk;
+use certificate::{Cause, Cert, Claim};
+use dictionary::Steps;
+use instance::Instance;
+use os_io::Watch;
+use simplex::{Cuts, LpEnd, Turns, Work};
+use std::alloc::{AllocError, Global};
+use std::sync::ledger::Ledger;
+
+/// What a search claims, and how many turns its runs have done.
+#[derive(Debug, Drop)]
+pub struct Searched {
+    pub claim: Claim,
+    pub turns: u64,
+}
+
+/// Whether a look stopped the run.
+fn is_stop(end: LpEnd) -> bool
+    ensures { result ≡ was_stopped end }
+{
+    matches!(end, LpEnd::Stopped)
+}
+
+/// Searches the case at hand.
+fn step<W: Watch, L: Ledger>(
+    alloc: Global,
+    instance: &Instance,
+    limits: Limits,
+    relaxation: &mut Relaxation,
+    walk: &mut Walk,
+    depth: usize,
+    watch: &mut W,
+    steps: &mut Steps<L>,
+) -> Result<(), Claim>
+    requires size { HasSize instance.now relaxation.old }
+    requires most { relaxation.old.turns.most ≡ limits.turns }
+    requires at { IsAt (length instance.now.vars) walk.old depth }
+    requires stops { W.stops watch.old < 2 ^ 64 - 1 }
+    ensures size { HasSize instance.now relaxation.new }
+    ensures most { relaxation.new.turns.most ≡ limits.turns }
+    ensures walk { IfOk result (λ _. IsWalk (length instance.now.vars) walk.new) }
+    ensures one { IfOk result (λ _. length walk.new.nodes ≡ length walk.old.nodes + 1) }
+    ensures within { IfOk result (λ _. length walk.old.nodes < limits.nodes) }
+    ensures next { (n : ℕ) × (killed : Bool) × (is_killed_by result ≡ killed) × W.came watch.old watch.new (answers n killed) × ((looks : ℕ) (stop : Option ℕ) → Tells stop looks n killed → Follows instance.now (terms limits stop) (clock_at relaxation.old looks) (clock_at relaxation.new (looks_after looks n killed)) walk.old walk.new result) }
+{
+    if walk.nodes.len() >= limits.nodes as usize {
+        return Err(give_up(walk, Cause::NodeLimit(limits.nodes)));
+    }
+    if watch.look() {
+        return Err(give_up(walk, Cause::Killed));
+    }
+    let zero_goal = walk.ray.is_some();
+    let end = run_case(
+        instance,
+        relaxation,
+        walk.vars.as_slice(),
+        zero_goal,
+        watch,
+        steps,
+    );
+    if is_stop(end) {
+        return Err(give_up(walk, Cause::Killed));
+    }
+    visit(alloc, instance, limits, relaxation, end, walk, depth)
+}
+
+/// Searches the cases, one after the other.
+fn explore<W: Watch, L: Ledger>(
+    alloc: Global,
+    instance: &Instance,
+    limits: Limits,
+    relaxation: &mut Relaxation,
+    mut walk: Walk,
+    watch: &mut W,
+    steps: &mut Steps<L>,
+) -> Claim
+    requires size { HasSize instance.now relaxation.old }
+    requires turns { relaxation.old.turns ≡ record { done = 0; most = limits.turns } }
+    requires walk { IsWalk (length instance.now.vars) walk }
+    requires first { moment instance.now walk (clock_at relaxation.old 0) ≡ first (program instance.now) }
+    requires stops { W.stops watch.old < 2 ^ 64 - 1 }
+    ensures { (n : ℕ) × (killed : Bool) × (is_killed result ≡ killed) × W.came watch.old watch.new (answers n killed) × ((stop : Option ℕ) → Tells stop 0 n killed → IsAnswer (program instance.now) (terms limits stop) (outcome result) (clock_at relaxation.new (looks_after 0 n killed))) }
+{
+    while let Some(depth) = walk.next {
+        match step(
+            alloc, instance, limits, relaxation, &mut walk, depth, watch, steps,
+        ) {
+            Ok(()) => {}
+            Err(claim) => return claim,
+        }
+    }
+    all_closed(walk.best, walk.nodes)
+}
+
+/// Memory for the runs of a search that begins.
+fn relax(alloc: Global, instance: &Instance, turns: u32) -> Result<Relaxation, AllocError>
+    ensures size { IfOk result (λ r. HasSize instance.now r) }
+    ensures turns { IfOk result (λ r. r.turns ≡ record { done = 0; most = turns }) }
+{
+    let vars = instance.vars();
+    let work = Work::for_size(alloc, vars.len() as u32, instance.rows().len() as u32)?;
+    let cuts = Cuts::of(alloc, vars)?;
+    let turns = Turns {
+        done: 0,
+        most: u64::from(turns),
+    };
+    Ok(Relaxation { work, cuts, turns })
+}
+
+/// The walk before its first case, which is the instance itself.
+fn begin(alloc: Global, instance: &Instance) -> Result<Walk, AllocError>
+    ensures walk { IfOk result (λ w. IsWalk (length instance.now.vars) w) }
+    ensures first { IfOk result (λ w. moment instance.now w (record { turns = 0; looks = 0 }) ≡ first (program instance.now)) }
+{
+    Ok(Walk {
+        vars: Vec::from_slice(alloc, instance.vars())?,
+        branches: Vec::new(alloc),
+        next: Some(0),
+        nodes: Cert::new(alloc),
+        best: None,
+        ray: None,
+    })
+}
+
+/// Searches an instance for a best point, within at most `nodes` cases, and `turns` exchanges in all runs. The watch is
+/// asked before each case and after each 64th turn; `steps` counts what the runs' dictionaries cost.
+pub fn search<W: Watch, L: Ledger>(
+    alloc: Global,
+    instance: &Instance,
+    nodes: u32,
+    turns: u32,
+    watch: &mut W,
+    steps: &mut Steps<L>,
+) -> Searched
+    requires { W.stops watch.old < 2 ^ 64 - 1 }
+    ensures { (n : ℕ) × W.came watch.old watch.new (answers n (is_killed result.claim)) × ((stop : Option ℕ) → Tells stop 0 n (is_killed result.claim) → IsAnswer (program instance.now) (record { nodes = nodes; turns = turns; stop = stop }) (outcome result.claim) (record { turns = result.turns; looks = looks_after 0 n (is_killed result.claim) })) }
+{
+    let cause = Cause::Memory;
+    let mut relaxation = match relax(alloc, instance, turns) {
+        Ok(relaxation) => relaxation,
+        Err(_) => {
+            return Searched {
+                claim: Claim::Unsure { cause },
+                turns: 0,
+            }
+        }
+    };
+    let walk = match begin(alloc, instance) {
+        Ok(walk) => walk,
+        Err(_) => {
+            return Searched {
+                claim: Claim::Unsure { cause },
+                turns: 0,
+            }
+        }
+    };
+    let limits = Limits { nodes, turns };
+    let claim = explore(alloc, instance, limits, &mut relaxation, walk, watch, steps);
+    Searched {
+        claim,
+        turns: relaxation.turns.done,
+    }
+}

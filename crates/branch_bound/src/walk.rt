@@ -1,0 +1,93 @@
+// The walk through the cases of a search.
+ghost use Rattle.std.specs.Prelude.{◌≡◌, ℕ, ◌+◌, ◌<◌, ◌≤◌, List, length, pos, neg_ℤ, ◌≤ℤ◌, ◌<ℤ◌, IfOk, OnErr, vec_len};
+ghost use Rattle.rational.specs.Width.{most};
+ghost use Rattle.instance.specs.Parts.{Parts};
+ghost use Rattle.instance.specs.declared.parts.Var.{Var as OneVar};
+ghost use Rattle.certificate.specs.Means as Means;
+ghost use Rattle.case_tree.specs.Cuts.{pending, AreBranches};
+ghost use Rattle.simplex_rules.specs.Ends.{Clock};
+ghost use Rattle.search_rules.specs.Search.{leaf, branch};
+ghost use Rattle.branch_bound.specs.Walks.{case, rest, moment, IsWalk, IsAt};
+
+use case_tree::{Branch, back, enter};
+use certificate::{Cert, Node, Point, Ray};
+use fraction::Frac;
+use instance::Var;
+use std::alloc::AllocError;
+
+/// A point with its value of the goal.
+#[derive(Debug, Drop)]
+pub struct Found {
+    pub point: Point,
+    pub value: Frac,
+}
+
+/// Where a search stands: the variables of the case at hand, the branches above it, how many of them count, the nodes so far,
+/// the best point, and the ray.
+#[derive(Debug, Drop)]
+pub struct Walk {
+    pub vars: Vec<Var>,
+    pub branches: Vec<Branch>,
+    pub next: Option<usize>,
+    pub nodes: Cert,
+    pub best: Option<Found>,
+    pub ray: Option<Ray>,
+}
+
+/// Closes the case at hand by a leaf, and goes to the next one.
+pub fn close(walk: &mut Walk, depth: usize, node: Node) -> Result<(), AllocError>
+    requires { IsAt (length walk.old.vars.items) walk.old depth }
+    ensures ok { IfOk result (λ _. (p : Parts) (c : Clock) → moment p walk.new c ≡ leaf (moment p walk.old c) (rest p walk.old depth) (Means.node node)) }
+    ensures walk { IfOk result (λ _. IsWalk (length walk.old.vars.items) walk.new) }
+    ensures err { OnErr result (walk.new.best ≡ walk.old.best) }
+{
+    walk.nodes.push(node)?;
+    walk.next = back(
+        walk.vars.as_mut_slice(),
+        walk.branches.as_mut_slice(),
+        depth,
+    );
+    Ok(())
+}
+
+/// Makes room for one more branch.
+fn make_room(branches: &mut Vec<Branch>, depth: usize, filler: Branch) -> Result<(), AllocError>
+    requires { depth ≤ vec_len branches.old }
+    ensures room { IfOk result (λ _. depth < vec_len branches.new) }
+    ensures same { (p : Parts) (vs : List OneVar) → pending p vs branches.new.items depth ≡ pending p vs branches.old.items depth }
+    ensures above { (n : ℕ) → AreBranches n branches.old.items depth → AreBranches n branches.new.items depth }
+{
+    if depth == branches.len() {
+        branches.push(filler)?;
+    }
+    Ok(())
+}
+
+/// Splits the case at hand, and goes to the first of its two cases.
+pub fn split(walk: &mut Walk, depth: usize, col: u32, k: i128) -> Result<(), AllocError>
+    requires at { IsAt (length walk.old.vars.items) walk.old depth }
+    requires inside { col < length walk.old.vars.items }
+    requires low { neg_ℤ (pos most) ≤ℤ k }
+    requires high { k <ℤ pos most }
+    ensures ok { IfOk result (λ _. (p : Parts) (c : Clock) → moment p walk.new c ≡ branch (moment p walk.old c) (case p walk.old) (rest p walk.old depth) col k) }
+    ensures walk { IfOk result (λ _. IsWalk (length walk.old.vars.items) walk.new) }
+    ensures err { OnErr result (walk.new.best ≡ walk.old.best) }
+{
+    let filler = Branch {
+        col,
+        k,
+        old: walk.vars[col as usize],
+        is_second: false,
+    };
+    make_room(&mut walk.branches, depth, filler)?;
+    walk.nodes.push(Node::Split { col, k })?;
+    enter(
+        walk.vars.as_mut_slice(),
+        walk.branches.as_mut_slice(),
+        depth,
+        col,
+        k,
+    );
+    walk.next = Some(depth + 1);
+    Ok(())
+}
