@@ -1,0 +1,78 @@
+//! A table of cases for searches: what is claimed, with its certificate, after how many turns and looks.
+//!
+//! The answers come from the rules (`docs/rules/search.md`), by hand: each case's run, split and bound. The output is a line for
+//! each answer that is another, and how many cases there are.
+#![tactic(auto)]
+
+mod reading;
+mod telling;
+
+ghost use Rattle.std.specs.Prelude.{◌≡◌, ◌<◌};
+
+use cases::{Answers, try_file};
+use dictionary::Steps;
+use os_io::{DiskFiles, MemWatch, Memory, Text};
+use reading::{Case, read_case};
+use std::alloc::Global;
+use std::io;
+use std::marker::Brand;
+use std::sync::ledger::{Blank, Ledger};
+use telling::{put_claim, put_count};
+
+/// Given the rows, their ends, the variables, the goal, the costs, and the limits with the looks that stop.
+#[derive(Drop)]
+struct Searches;
+
+/// What is claimed of a case, the turns done then, and the looks.
+fn tell<L: Ledger>(alloc: Global, case: Case, blank: Blank) -> Result<Text, Memory>
+    requires name { blank.name ≡ L.name }
+    requires parts { blank.parts ≡ L.parts }
+    requires some { 0 < blank.parts }
+{
+    let mut steps = Steps::<L>::new(blank);
+    let mut watch = MemWatch::new(alloc, case.stops.as_slice())?;
+    let found = branch_bound::search(
+        alloc,
+        &case.instance,
+        case.nodes,
+        case.turns,
+        &mut watch,
+        &mut steps,
+    );
+    let mut text = Text::new(alloc);
+    put_claim(&mut text, &found.claim)?;
+    text.extend(b" after ")?;
+    put_count(&mut text, found.turns)?;
+    text.extend(b" with ")?;
+    put_count(&mut text, watch.looks())?;
+    text.extend(b" looks")?;
+    Ok(text)
+}
+
+/// What is claimed of a case, as a text.
+fn tell_search(alloc: Global, case: Case) -> Result<Text, Memory> {
+    tell::<Brand>(alloc, case, Blank::new(1))
+}
+
+impl Answers for Searches {
+    fn answer(&mut self, alloc: Global, given: &[Vec<u8>]) -> Result<Text, Memory> {
+        match read_case(alloc, given)? {
+            Some(case) => tell_search(alloc, case),
+            None => Text::from_slice(alloc, b"no case"),
+        }
+    }
+}
+
+fn main(rt: HostRuntime) -> io::Result<()> {
+    let alloc = rt.alloc();
+    let mut files = DiskFiles::new(&rt);
+    let count = try_file(
+        alloc,
+        "searches.txt",
+        &mut files,
+        &mut Searches,
+        &mut rt.stdout(),
+    )?;
+    println!(rt; "{count} cases")?;
+    Ok(())
+}

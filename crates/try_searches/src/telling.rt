@@ -1,0 +1,131 @@
+// Claims as texts.
+use certificate::{Cause, Cert, Claim, Mults, Node, Step};
+use decimal_text::write_ratio;
+use fraction::Frac;
+use itoa::Buffer;
+use os_io::{Memory, Text};
+
+pub fn put_count(text: &mut Text, count: u64) -> Result<(), Memory> {
+    text.extend(Buffer::new().format(count).as_bytes())
+}
+
+fn put_numbers(text: &mut Text, word: &[u8], numbers: &[Frac]) -> Result<(), Memory> {
+    text.extend(word)?;
+    for number in numbers {
+        text.push(b' ')?;
+        write_ratio(*number, text)?;
+    }
+    Ok(())
+}
+
+fn put_mults(text: &mut Text, word: &[u8], mults: &Mults) -> Result<(), Memory> {
+    text.extend(word)?;
+    for mult in mults.as_slice() {
+        text.push(b' ')?;
+        put_count(text, mult.col as u64)?;
+        text.push(b':')?;
+        write_ratio(mult.value, text)?;
+    }
+    Ok(())
+}
+
+fn put_node(text: &mut Text, node: &Node) -> Result<(), Memory> {
+    match node {
+        Node::Split { col, k } => {
+            text.extend(b"split ")?;
+            put_count(text, *col as u64)?;
+            text.push(b' ')?;
+            text.extend(Buffer::new().format(*k).as_bytes())
+        }
+        Node::Clash { col } => {
+            text.extend(b"clash ")?;
+            put_count(text, *col as u64)
+        }
+        Node::Farkas(mults) => put_mults(text, b"farkas", mults),
+        Node::Bound(mults) => put_mults(text, b"bound", mults),
+    }
+}
+
+fn put_cert(text: &mut Text, cert: &Cert) -> Result<(), Memory> {
+    text.extend(b" by")?;
+    for node in cert.as_slice() {
+        text.extend(b" (")?;
+        put_node(text, node)?;
+        text.push(b')')?;
+    }
+    Ok(())
+}
+
+fn word_of(step: Step) -> &'static [u8] {
+    match step {
+        Step::Values => b"values",
+        Step::Ratio => b"ratio",
+        Step::Pivot => b"pivot",
+        Step::Point => b"point",
+        Step::Ray => b"ray",
+        Step::Check => b"check",
+    }
+}
+
+fn put_cause(text: &mut Text, cause: Cause) -> Result<(), Memory> {
+    match cause {
+        Cause::Killed => text.extend(b" killed"),
+        Cause::NodeLimit(count) => {
+            text.extend(b" nodeLimit ")?;
+            put_count(text, count as u64)
+        }
+        Cause::TurnLimit(count) => {
+            text.extend(b" turnLimit ")?;
+            put_count(text, count as u64)
+        }
+        Cause::Wide(place) => {
+            text.extend(b" wide ")?;
+            put_count(text, place.node as u64)?;
+            text.push(b' ')?;
+            put_count(text, place.turn)?;
+            text.push(b' ')?;
+            text.extend(word_of(place.step))
+        }
+        Cause::Length => text.extend(b" length"),
+        Cause::Memory => text.extend(b" memory"),
+    }
+}
+
+fn put_point(text: &mut Text, point: &[Frac], value: Frac) -> Result<(), Memory> {
+    put_numbers(text, b" at", point)?;
+    text.extend(b" value ")?;
+    write_ratio(value, text)
+}
+
+/// Puts a claim, with what it carries.
+pub fn put_claim(text: &mut Text, claim: &Claim) -> Result<(), Memory> {
+    match claim {
+        Claim::Optimal { point, value, cert } => {
+            text.extend(b"optimal")?;
+            put_point(text, point.as_slice(), *value)?;
+            put_cert(text, cert)
+        }
+        Claim::Infeasible { cert } => {
+            text.extend(b"infeasible")?;
+            put_cert(text, cert)
+        }
+        Claim::Unbounded { point, value, ray } => {
+            text.extend(b"unbounded")?;
+            put_point(text, point.as_slice(), *value)?;
+            put_numbers(text, b" along", ray.as_slice())
+        }
+        Claim::BestSoFar {
+            point,
+            value,
+            cause,
+        } => {
+            text.extend(b"bestSoFar")?;
+            put_point(text, point.as_slice(), *value)?;
+            put_cause(text, *cause)
+        }
+        Claim::Unsure { cause } => {
+            text.extend(b"unsure")?;
+            put_cause(text, *cause)
+        }
+    }
+}
