@@ -49,10 +49,15 @@ fn tell<L: Ledger>(alloc: Global, case: Case, blank: Blank) -> Result<Text, Memo
     Ok(text)
 }
 
+/// What is claimed of a case, as a text.
+fn tell_search(alloc: Global, case: Case) -> Result<Text, Memory> {
+    tell::<Brand>(alloc, case, Blank::new(1))
+}
+
 impl Answers for Searches {
     fn answer(&mut self, alloc: Global, given: &[Vec<u8>]) -> Result<Text, Memory> {
         match read_case(alloc, given)? {
-            Some(case) => tell::<Brand>(alloc, case, Blank::new(1)),
+            Some(case) => tell_search(alloc, case),
             None => Text::from_slice(alloc, b"no case"),
         }
     }

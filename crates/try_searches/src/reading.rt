@@ -4,7 +4,7 @@ use fraction::{End, Frac};
 use instance::{Goal, Instance, Row, Sense, Var};
 use os_io::Memory;
 use std::alloc::Global;
-use tableaus::read_tableau;
+use tableaus::{read_column, read_tableau};
 
 /// An instance, and how it is searched.
 #[derive(Drop)]
@@ -59,9 +59,12 @@ fn read_goal(text: &[u8]) -> Option<(Sense, Frac)> {
     }
 }
 
-/// Counts parted by spaces.
+/// Counts parted by spaces, none in the empty text.
 fn read_counts(alloc: Global, text: &[u8]) -> Result<Option<Vec<u64>>, Memory> {
     let mut counts = Vec::new(alloc);
+    if text.is_empty() {
+        return Ok(Some(counts));
+    }
     for piece in text.split(|b| *b == b' ') {
         match read_count(piece) {
             Ok(count) => counts.push(count)?,
@@ -97,7 +100,7 @@ fn with_parts(
 
 /// A case's instance and limits, if it is one.
 pub fn read_case(alloc: Global, given: &[Vec<u8>]) -> Result<Option<Case>, Memory> {
-    let [rows, row_ends, vars, goal, costs, limits] = given else {
+    let [rows, row_ends, vars, goal, costs, nodes, turns, stops] = given else {
         return Ok(None);
     };
     let Some(free) = read_tableau(alloc, rows.as_slice(), costs.as_slice())? else {
@@ -115,16 +118,19 @@ pub fn read_case(alloc: Global, given: &[Vec<u8>]) -> Result<Option<Case>, Memor
     let Some(instance) = with_parts(alloc, &free, row_ends.as_slice(), vars, goal)? else {
         return Ok(None);
     };
-    let Some(counts) = read_counts(alloc, limits.as_slice())? else {
+    let Some(nodes) = read_column(nodes.as_slice()) else {
         return Ok(None);
     };
-    match counts.as_slice() {
-        [nodes, turns, stops @ ..] => Ok(Some(Case {
-            instance,
-            nodes: *nodes as u32,
-            turns: *turns as u32,
-            stops: Vec::from_slice(alloc, stops)?,
-        })),
-        _ => Ok(None),
-    }
+    let Some(turns) = read_column(turns.as_slice()) else {
+        return Ok(None);
+    };
+    let Some(stops) = read_counts(alloc, stops.as_slice())? else {
+        return Ok(None);
+    };
+    Ok(Some(Case {
+        instance,
+        nodes,
+        turns,
+        stops,
+    }))
 }
