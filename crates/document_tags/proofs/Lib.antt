@@ -14,3 +14,5 @@ pub mod Apart
 pub mod FaultTexts
 pub mod Sizes
 pub mod Lengths
+pub mod Cut
+pub mod OfCharacters

@@ -1,9 +1,9 @@
 -- A document has more bytes than elements.
-use Rattle.std.proofs.Common.{◌≡◌, ◌∙◌, ℕ, suc, ◌+◌, ◌<◌, ◌≤◌, ◌==◌, Bool, true, false, cond, List, [], ◌∷◌, ◌++◌, length, refl, ap, sym, subst, arith}
+use Rattle.std.proofs.Common.{◌≡◌, ◌∙◌, ℕ, suc, ◌+◌, ◌<◌, ◌≤◌, ◌==◌, Bool, true, false, cond, List, [], ◌∷◌, ◌++◌, length, refl, ap, arith}
 use Rattle.std.specs.Prelude.{codes}
 use Rattle.std.proofs.lemmas.List.{length-append}
-use Rattle.tree_grammar.specs.Characters.{normal_lines, begins_with_line_feed, Reference, reference_text, named, decimal, hexadecimal, Entity, entity_text, amp, lt, gt, quot, apos, reference_chars, local_part}
-use Rattle.tree_grammar.specs.Tags.{Equals, equals_text, Value, value_over, value_plain, value_white, value_reference, value_text, Attributes, no_attribute, attribute, attributes_text, attribute_list, Tag, tag_text}
+use Rattle.tree_grammar.specs.Characters.{normal_lines, begins_with_line_feed, Reference, reference_text, named, decimal, hexadecimal, Entity, entity_text, amp, lt, gt, quot, apos, reference_chars}
+use Rattle.tree_grammar.specs.Tags.{Equals, equals_text, Value, value_over, value_plain, value_white, value_reference, value_text, Attributes, no_attribute, attribute, attributes_text, Tag, tag_text}
 use Rattle.tree_grammar.specs.Elements.{Nodes, none, element, chars, Element}
 use Rattle.tree_grammar.specs.Content.{Comment, comment_over, comment_plain, comment_dash, comment_text, Instruction, bare, with_text, instruction_text, Content, nothing, char, reference, section, comment, instruction, empty, nested, content_text, content_nodes, end_text, put_char, put_chars, Body, closed, opened, body_text, body_nodes, Misc, misc_over, misc_space, misc_comment, misc_instruction, misc_text}
 use Rattle.tree_grammar.specs.Declaration.{Declaration, no_declaration, declared, declaration_text, Encoding, no_encoding, encoded, encoding_text, Standalone, no_standalone, standing, standalone_text, Version, version_text}

@@ -1,5 +1,6 @@
 pub mod Rests
 pub mod Texts
+pub mod Characters
 pub mod Elements
 pub mod Passing
 pub mod Spots

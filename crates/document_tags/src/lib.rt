@@ -26,7 +26,10 @@ mod walk;
 
 pub use documents::{MOST_BYTES, read_document};
 pub use faults::{refusal_at, tree_fault_text};
-pub use laws::documents_have_fewer_elements_than_bytes;
+pub use laws::{
+    documents_are_of_characters, documents_have_fewer_elements_than_bytes, texts_part_at_ascii,
+    tree_faults_have_one_text,
+};
 pub use paths::{along, first, first_within, within};
 pub use spot::Spot;
 pub use tags::Tags;
