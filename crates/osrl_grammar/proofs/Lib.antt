@@ -29,4 +29,5 @@ pub mod Completed
 pub mod Reported
 pub mod Found
 pub mod FewNodes
+pub mod Bare
 pub mod ReadAgain

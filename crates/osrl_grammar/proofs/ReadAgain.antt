@@ -1,9 +1,11 @@
 -- What is read can be written and read again: its numbers are of their types, and its tree has a node.
-use Rattle.std.proofs.Common.{◌≡◌, ℕ, ◌^◌, ◌<◌, ◌≤◌, ◌⊎◌, inl, inr, Result, Ok, Err, Option, None, Some, List, [], ◌∷◌, length, arith, ap, subst, append-nil}
-use Rattle.std.specs.Prelude.{flat_map, slice_get, IsSomeAnd, IfOk, IfErr}
+use Rattle.std.proofs.Common.{◌≡◌, ℕ, ◌^◌, ◌<◌, ◌≤◌, ◌⊎◌, inl, inr, Result, Ok, Err, Option, None, Some, List, [], ◌∷◌, length, arith, ap, sym, subst, append-nil}
+use Rattle.std.specs.Prelude.{flat_map, slice_get, IsSomeAnd, IfOk, IfErr, codes}
 use Rattle.std.specs.List.{All, AllZip}
 use Rattle.std.proofs.lemmas.List.Elements.{All-nil, All-cons, All-head}
 use Rattle.tree_grammar.specs.Elements.{Element}
+use Rattle.tree_grammar.specs.Document.{Doc}
+use Rattle.document_tags.specs.Elements.{within, first_within}
 use Rattle.document_tags.specs.Texts.{document_limit}
 use Rattle.certificate.specs.declared.lists.Mult.{Mult}
 use Rattle.certificate.specs.declared.nodes.Node.{Node}
@@ -20,11 +22,13 @@ use Rattle.osrl_grammar.specs.declared.fault.OsrlFault.TheVariants.{Memory}
 use Rattle.osrl_grammar.specs.Items.{Pair}
 use Rattle.osrl_grammar.specs.Values.{IsMult, IsNode, IsCause}
 use Rattle.osrl_grammar.specs.Parts.{of_part, item_texts, results, solutions}
-use Rattle.osrl_grammar.specs.Refusals.{MayHold, IsPartCounted}
-use Rattle.osrl_grammar.specs.Meaning.{HasTree, SaysClaim, SayClaim}
+use Rattle.osrl_grammar.specs.Refusals.{MayHold, IsPartCounted, general_path}
+use Rattle.osrl_grammar.specs.Grounds.{TextsAreOfCharacters}
+use Rattle.osrl_grammar.specs.Meaning.{text_in, HasTree, SaysClaim, SayClaim}
 use Rattle.osrl_grammar.specs.Reading.{IsReportText, DecodeFails}
 use Rattle.osrl_grammar.specs.Writing.{report_text}
 use Rattle.osrl_grammar.specs.Back.{HaveColumns, NodeComesBack, CauseComesBack, TreeComesBack, ClaimComesBack, IsBareOrNone}
+use Rattle.osrl_grammar.proofs.Bare.{first_bare}
 use Rattle.osrl_grammar.proofs.BackReport.{text_comes_back}
 use Rattle.osrl_grammar.proofs.OneReport.{report_text_once}
 use Rattle.osrl_grammar.proofs.OneRefusal.{refusal_apart}
@@ -88,11 +92,22 @@ say_back [] (Some c) once counted h = absurd h
 say_back (e ∷ []) (Some c) once counted h = claim_back e c (λ p. subst (λ (l : List Element). IsPartCounted p l) (append-nil (results e)) (counted p)) h
 say_back (e ∷ d ∷ es) (Some c) once counted h = absurd (omega (arith, once))
 
--- the text of a report that was read is its text
-pub read_comes_back : (bytes : List ℕ) (r : Report) → IsReportText bytes r → length (report_text r) ≤ document_limit → IsBareOrNone r.job → IsBareOrNone r.message → IsReportText (report_text r) r
-read_comes_back bytes r text short job message =
-    text_comes_back r (record { short = short; job = job; message = message; claim = say_back (solutions text.root) r.claim text.is.counted.once text.is.counted.each text.is.says.claim })
+module _ (ground : TextsAreOfCharacters) where
+  said_back : (bytes : List ℕ) (root : Element) (path : List (List ℕ)) (o : Option (List ℕ)) → Doc bytes root → o ≡ text_in (first_within root path) → IsBareOrNone o
+  said_back bytes root path o doc says = subst IsBareOrNone (sym says) (first_bare ground (within root path) (ground.within root path (ground.root bytes root doc)))
 
-pub reads_again : (bytes : List ℕ) (r : Report) (d : Result Report OsrlFault) → IsReportText bytes r → length (report_text r) ≤ document_limit → IsBareOrNone r.job → IsBareOrNone r.message → IfOk d (IsReportText (report_text r)) → IfErr d (DecodeFails (report_text r)) → (d ≡ Ok r) ⊎ (d ≡ Err Memory)
-reads_again bytes r (Ok s) text short job message is fails = inl (ap Ok (report_text_once (report_text r) s r is (read_comes_back bytes r text short job message)))
-reads_again bytes r (Err f) text short job message is fails = inr (ap Err (refusal_apart (report_text r) r f (read_comes_back bytes r text short job message) fails))
+  -- the text of a report that was read is its text
+  pub read_comes_back : (bytes : List ℕ) (r : Report) → IsReportText bytes r → length (report_text r) ≤ document_limit → IsReportText (report_text r) r
+  read_comes_back bytes r text short =
+      let doc = text.document.document in
+      let says = text.is.says in
+      text_comes_back r (record {
+        short = short;
+        job = said_back bytes text.root (general_path (codes "jobID")) r.job doc says.job;
+        message = said_back bytes text.root (general_path (codes "message")) r.message doc says.message;
+        claim = say_back (solutions text.root) r.claim text.is.counted.once text.is.counted.each says.claim;
+      })
+
+  pub reads_again : (bytes : List ℕ) (r : Report) (d : Result Report OsrlFault) → IsReportText bytes r → length (report_text r) ≤ document_limit → IfOk d (IsReportText (report_text r)) → IfErr d (DecodeFails (report_text r)) → (d ≡ Ok r) ⊎ (d ≡ Err Memory)
+  reads_again bytes r (Ok s) text short is fails = inl (ap Ok (report_text_once (report_text r) s r is (read_comes_back bytes r text short)))
+  reads_again bytes r (Err f) text short is fails = inr (ap Err (refusal_apart (report_text r) r f (read_comes_back bytes r text short) fails))

@@ -14,3 +14,4 @@ pub mod Pieces
 pub mod Claiming
 pub mod Back
 pub mod Roots
+pub mod Grounds

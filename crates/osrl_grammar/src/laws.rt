@@ -7,16 +7,29 @@ ghost use Rattle.osrl_grammar.specs.declared.fault.OsrlFault.{OsrlFault};
 ghost use Rattle.osrl_grammar.specs.declared.fault.OsrlFault.TheVariants.{Memory};
 ghost use Rattle.osrl_grammar.specs.Writing.{report_text};
 ghost use Rattle.osrl_grammar.specs.Reading.{IsReportText, DecodeFails};
-ghost use Rattle.osrl_grammar.specs.Back.{ComesBack, IsBareOrNone};
+ghost use Rattle.osrl_grammar.specs.Back.{ComesBack};
+ghost use Rattle.osrl_grammar.specs.Grounds.{TextsAreOfCharacters};
+
+use document_tags::{documents_are_of_characters, texts_part_at_ascii};
 
 /// Law: the text that a report is written as is the document of that report.
 pub fn comes_back()
     ensures { (r : Report) → ComesBack r → IsReportText (report_text r) r }
 {}
 
-/// Law: a report that was read, whatever it claims, comes back from its text, if that isn't longer than a document may be
-/// and the job and the message are characters of XML with no white space round them: [`decode`](crate::decode) of what
-/// [`encode`](crate::encode) wrote of it answers, by its contract, the report, or finds no memory.
+/// The laws of documents' characters.
+fn texts_are_of_characters()
+    ensures { TextsAreOfCharacters }
+{
+    documents_are_of_characters();
+    texts_part_at_ascii();
+}
+
+/// Law: a report that was read comes back from its text, if that isn't longer than a document may be:
+/// [`decode`](crate::decode) of what [`encode`](crate::encode) wrote of it answers, by its contract, the report, or finds
+/// no memory.
 pub fn reports_are_read_back()
-    ensures { (bytes : List ℕ) (r : Report) (d : Result Report OsrlFault) → IsReportText bytes r → length (report_text r) ≤ document_limit → IsBareOrNone r.job → IsBareOrNone r.message → IfOk d (IsReportText (report_text r)) → IfErr d (DecodeFails (report_text r)) → (d ≡ Ok r) ⊎ (d ≡ Err Memory) }
-{}
+    ensures { (bytes : List ℕ) (r : Report) (d : Result Report OsrlFault) → IsReportText bytes r → length (report_text r) ≤ document_limit → IfOk d (IsReportText (report_text r)) → IfErr d (DecodeFails (report_text r)) → (d ≡ Ok r) ⊎ (d ≡ Err Memory) }
+{
+    texts_are_of_characters();
+}

@@ -1,8 +1,8 @@
 //! Result documents (Optimization Services result language, in this project's profile): reports as documents say them.
 //!
 //! [`decode`] gives the report that a document says, or why it says none. [`encode`] writes a report as a document, and
-//! [`comes_back`] says that this is the document of that report; [`reports_are_read_back`] says so of what was read,
-//! whatever it claims. [`refusal_text`] says in words why a document is refused.
+//! [`comes_back`] says that this is the document of that report; [`reports_are_read_back`] says so of every report that was
+//! read. [`refusal_text`] says in words why a document is refused.
 #![tactic(auto)]
 
 mod certificates;
