@@ -9,9 +9,11 @@
 #![tactic(auto)]
 
 mod cuts;
+mod laws;
 mod numbers;
 mod path;
 
 pub use cuts::is_branch;
+pub use laws::cases_come_of_branches_above;
 pub use numbers::{is_at_most, is_below, is_same, one, turned, whole, zero};
 pub use path::{Branch, back, enter};
