@@ -1,6 +1,7 @@
 pub mod Rows
 pub mod Sums
 pub mod Merged
+pub mod Next
 pub mod Found
 pub mod Counted
 pub mod OwnRow

@@ -98,10 +98,10 @@ taken f pf row by z row' by' low high (inl t) hr hb =
     (subst (λ (l : List Item). IsFrom low high (z ∷ row') → Taken f (z ∷ row') by z row' l low high) (sym t.stays) (λ h. taken_own f pf z row' by low high t.first h hb)) hr
 taken f pf row by z row' by' low high (inr (inl t)) hr hb =
     subst (λ (l : List Item). IsFrom low high l → Taken f row l z row' by' low high) (sym t.other)
-    (subst (λ (l : List Item). IsFrom low high (t.item ∷ by') → Taken f row (t.item ∷ by') z l by' low high) (sym t.stays) (λ h. taken_other f pf z t.item row by' low high t.first t.col t.value t.fits hr h)) hb
+    (subst (λ (l : List Item). IsFrom low high (t.item ∷ by') → Taken f row (t.item ∷ by') z l by' low high) (sym t.stays) (λ h. let m = t.made in taken_other f pf z t.item row by' low high t.first m.col m.value m.fits hr h)) hb
 taken f pf row by z row' by' low high (inr (inr t)) hr hb =
     subst (λ (l : List Item). IsFrom low high l → Taken f l by z row' by' low high) (sym t.own)
-    (λ g. subst (λ (l : List Item). IsFrom low high l → Taken f (t.own_item ∷ row') l z row' by' low high) (sym t.other) (λ h. taken_both f pf z t.own_item t.item row' by' low high t.own_col t.col t.value t.fits g h) hb) hr
+    (λ g. subst (λ (l : List Item). IsFrom low high l → Taken f (t.own_item ∷ row') l z row' by' low high) (sym t.other) (λ h. let m = t.made in taken_both f pf z t.own_item t.item row' by' low high m.col t.col m.value m.fits g h) hb) hr
 
 -- what is written, and what is left of both rows from column mid on
 pub record Merging (row by : List Item) (f : Ratio) (skip : ℕ) (done rest other : List Item) : Type 0 where

@@ -26,6 +26,18 @@ abbrev pub IsBefore : ℕ → List Item → Type 0
 IsBefore c [] = Unit {0}
 IsBefore c (x ∷ xs) = c < x.col
 
+-- z is an entry times the factor
+pub record IsProduct (f : Ratio) (y z : Item) : Type 0 where
+  pub col : z.col ≡ y.col
+  pub value : IsSame (ratio z.value) (product f (ratio y.value))
+  pub fits : ReducedFits (product f (ratio y.value))
+
+-- it is an entry and another times the factor
+pub record IsSum (x : Item) (f : Ratio) (y z : Item) : Type 0 where
+  pub col : z.col ≡ x.col
+  pub value : IsSame (ratio z.value) (sum (ratio x.value) (product f (ratio y.value)))
+  pub fits : TermFits (ratio x.value) f (ratio y.value)
+
 -- the next entry z is the row's own
 pub record TakesOwn (row by : List Item) (z : Item) (row' by' : List Item) : Type 0 where
   pub own : row ≡ z ∷ row'
@@ -38,9 +50,7 @@ pub record TakesOther (f : Ratio) (row by : List Item) (z : Item) (row' by' : Li
   pub other : by ≡ item ∷ by'
   pub stays : row' ≡ row
   pub first : IsBefore item.col row
-  pub col : z.col ≡ item.col
-  pub value : IsSame (ratio z.value) (product f (ratio item.value))
-  pub fits : ReducedFits (product f (ratio item.value))
+  pub made : IsProduct f item z
 
 -- it is both together
 pub record TakesBoth (f : Ratio) (row by : List Item) (z : Item) (row' by' : List Item) : Type 0 where
@@ -48,10 +58,8 @@ pub record TakesBoth (f : Ratio) (row by : List Item) (z : Item) (row' by' : Lis
   pub item : Item
   pub own : row ≡ own_item ∷ row'
   pub other : by ≡ item ∷ by'
-  pub own_col : z.col ≡ own_item.col
   pub col : own_item.col ≡ item.col
-  pub value : IsSame (ratio z.value) (sum (ratio own_item.value) (product f (ratio item.value)))
-  pub fits : TermFits (ratio own_item.value) f (ratio item.value)
+  pub made : IsSum own_item f item z
 
 abbrev pub Takes : Ratio → List Item → List Item → Item → List Item → List Item → Type 0
 Takes f row by z row' by' = TakesOwn row by z row' by' ⊎ TakesOther f row by z row' by' ⊎ TakesBoth f row by z row' by'
@@ -83,3 +91,16 @@ abbrev pub IsAppended : ℕ → Item → List Item → List Item → Type 0
 IsAppended skip z done more =
     (((z.value.numer ≡ pos 0) ⊎ (z.col ≡ skip)) × (more ≡ done))
     ⊎ ((z.value.numer ≡ pos 0 → ⊥) × (z.col ≡ skip → ⊥) × (more ≡ done ++ z ∷ []))
+
+-- whichever entry is next has room, where it isn't left out
+abbrev pub HasRoomFor : (Item → Type 0) → ℕ → List Item → ℕ → Type 0
+HasRoomFor IsNext skip done room = (z : Item) → IsNext z → (z.value.numer ≡ pos 0 → ⊥) → (z.col ≡ skip → ⊥) → length done < room
+
+abbrev pub HasRoomForNext : Ratio → List Item → List Item → ℕ → List Item → ℕ → Type 0
+HasRoomForNext f row by skip done room = (row' by' : List Item) → HasRoomFor (λ z. Takes f row by z row' by') skip done room
+
+-- the next entry is left out, or put at the end
+pub record IsNextAppended (IsNext : Item → Type 0) (skip : ℕ) (done more : List Item) : Type 0 where
+  pub item : Item
+  pub next : IsNext item
+  pub appended : IsAppended skip item done more

@@ -1,8 +1,11 @@
 // A row and another times a factor.
 ghost use Rattle.std.specs.Prelude.{◌≡◌, ◌≢◌, ℕ, ◌+◌, ◌*◌, ◌<◌, ◌≤◌, ◌⊎◌, pos, length, drop, IfOk, OnErr};
+ghost use Rattle.rational.specs.Ratio.{product};
+ghost use Rattle.rational.specs.Width.{ReducedFits};
 ghost use Rattle.fraction.specs.Frac.{ratio};
 ghost use Rattle.dictionary.specs.Row.{entries_of, room_of, IsRow};
-ghost use Rattle.dictionary.specs.Merge.{MergeFits, IsMerged, HasRoom, Takes, IsWide, IsAppended};
+ghost use Rattle.evidence.specs.Width.{TermFits};
+ghost use Rattle.dictionary.specs.Merge.{MergeFits, IsMerged, HasRoom, HasRoomFor, HasRoomForNext, IsProduct, IsSum, Takes, IsWide, IsAppended, IsNextAppended};
 
 use crate::row::{Item, Row};
 use crate::steps::Steps;
@@ -10,80 +13,112 @@ use fraction::{Frac, Wide};
 use instance::add_product;
 use std::sync::ledger::Ledger;
 
-/// The next entry, and how much of both rows is used then.
-#[derive(Clone, Copy)]
-struct Next {
-    item: Item,
-    i: usize,
-    j: usize,
-}
-
-/// The next entry of a merge: the lesser column's, or that of both where they are one.
-fn next_item<L: Ledger>(
-    row: &Row,
-    factor: Frac,
-    by: &Row,
-    i: usize,
-    j: usize,
-    steps: &mut Steps<L>,
-) -> Result<Next, Wide>
-    requires i { i ≤ length (entries_of row.now) }
-    requires j { j ≤ length (entries_of by.now) }
-    requires left { (i < length (entries_of row.now)) ⊎ (j < length (entries_of by.now)) }
-    ensures i { IfOk result (λ n. n.i ≤ length (entries_of row.now)) }
-    ensures j { IfOk result (λ n. n.j ≤ length (entries_of by.now)) }
-    ensures more { IfOk result (λ n. i + j < n.i + n.j) }
-    ensures takes { IfOk result (λ n. Takes (ratio factor) (drop i (entries_of row.now)) (drop j (entries_of by.now)) n.item (drop n.i (entries_of row.now)) (drop n.j (entries_of by.now))) }
-    ensures wide { OnErr result (IsWide (ratio factor) (drop i (entries_of row.now)) (drop j (entries_of by.now))) }
-    ensures cost { steps.new ≤ steps.old + 2 }
-{
-    if j == by.len() {
-        let x = row.read(i, steps);
-        return Ok(Next {
-            item: x,
-            i: i + 1,
-            j,
-        });
-    }
-    if i == row.len() {
-        let y = by.read(j, steps);
-        let value = factor.mul(y.value)?;
-        let item = Item { col: y.col, value };
-        return Ok(Next { item, i, j: j + 1 });
-    }
-    let x = row.read(i, steps);
-    let y = by.read(j, steps);
-    if x.col < y.col {
-        return Ok(Next {
-            item: x,
-            i: i + 1,
-            j,
-        });
-    }
-    if y.col < x.col {
-        let value = factor.mul(y.value)?;
-        let item = Item { col: y.col, value };
-        return Ok(Next { item, i, j: j + 1 });
-    }
-    let value = add_product(x.value, factor, y.value)?;
-    let item = Item { col: x.col, value };
-    Ok(Next {
-        item,
-        i: i + 1,
-        j: j + 1,
-    })
-}
-
 /// Puts an entry at the end, where it isn't 0 and not at `skip`.
-fn append<L: Ledger>(out: &mut Row, item: Item, skip: u32, steps: &mut Steps<L>)
-    requires { item.value.numer ≢ pos 0 → item.col ≢ skip → length (entries_of out.old) < room_of out.old }
-    ensures is { IsAppended skip item (entries_of out.old) (entries_of out.new) }
+fn append<L: Ledger>(out: &mut Row, item: &Item, skip: u32, steps: &mut Steps<L>)
+    requires { item.now.value.numer ≢ pos 0 → item.now.col ≢ skip → length (entries_of out.old) < room_of out.old }
+    ensures is { IsAppended skip item.now (entries_of out.old) (entries_of out.new) }
     ensures room { room_of out.old ≤ room_of out.new }
     ensures cost { steps.new ≤ steps.old + 1 }
 {
     if item.value.numer != 0 && item.col != skip {
-        out.write(item, steps);
+        out.write(*item, steps);
     }
+}
+
+/// Puts a factor times an entry at the end, where that isn't 0 and not at `skip`.
+// Most entries of a long row are copied: what a product needs on the stack is then out of their way.
+#[inline(never)]
+fn append_product<L: Ledger>(
+    out: &mut Row,
+    factor: Frac,
+    y: &Item,
+    skip: u32,
+    steps: &mut Steps<L>,
+) -> Result<(), Wide>
+    requires { HasRoomFor (IsProduct (ratio factor) y.now) skip (entries_of out.old) (room_of out.old) }
+    ensures is { IfOk result (λ _. IsNextAppended (IsProduct (ratio factor) y.now) skip (entries_of out.old) (entries_of out.new)) }
+    ensures wide { OnErr result (ReducedFits (product (ratio factor) (ratio y.now.value)) → ⊥) }
+    ensures room { room_of out.old ≤ room_of out.new }
+    ensures cost { steps.new ≤ steps.old + 1 }
+{
+    let value = factor.mul(y.value)?;
+    append(out, &Item { col: y.col, value }, skip, steps);
+    Ok(())
+}
+
+/// Puts an entry and a factor times one of the same column at the end, where the sum isn't 0 and not at `skip`.
+#[inline(never)]
+fn append_sum<L: Ledger>(
+    out: &mut Row,
+    x: &Item,
+    factor: Frac,
+    y: &Item,
+    skip: u32,
+    steps: &mut Steps<L>,
+) -> Result<(), Wide>
+    requires { HasRoomFor (IsSum x.now (ratio factor) y.now) skip (entries_of out.old) (room_of out.old) }
+    ensures is { IfOk result (λ _. IsNextAppended (IsSum x.now (ratio factor) y.now) skip (entries_of out.old) (entries_of out.new)) }
+    ensures wide { OnErr result (TermFits (ratio x.now.value) (ratio factor) (ratio y.now.value) → ⊥) }
+    ensures room { room_of out.old ≤ room_of out.new }
+    ensures cost { steps.new ≤ steps.old + 1 }
+{
+    let value = add_product(x.value, factor, y.value)?;
+    append(out, &Item { col: x.col, value }, skip, steps);
+    Ok(())
+}
+
+/// How much of both rows is used.
+#[derive(Clone, Copy)]
+struct Used {
+    i: usize,
+    j: usize,
+}
+
+/// Puts the next entry of a merge at the end: the lesser column's, or that of both where they are one.
+fn advance<L: Ledger>(
+    row: &Row,
+    factor: Frac,
+    by: &Row,
+    skip: u32,
+    used: Used,
+    out: &mut Row,
+    steps: &mut Steps<L>,
+) -> Result<Used, Wide>
+    requires i { used.i ≤ length (entries_of row.now) }
+    requires j { used.j ≤ length (entries_of by.now) }
+    requires left { (used.i < length (entries_of row.now)) ⊎ (used.j < length (entries_of by.now)) }
+    requires room { HasRoomForNext (ratio factor) (drop used.i (entries_of row.now)) (drop used.j (entries_of by.now)) skip (entries_of out.old) (room_of out.old) }
+    ensures i { IfOk result (λ n. n.i ≤ length (entries_of row.now)) }
+    ensures j { IfOk result (λ n. n.j ≤ length (entries_of by.now)) }
+    ensures more { IfOk result (λ n. used.i + used.j < n.i + n.j) }
+    ensures takes { IfOk result (λ n. IsNextAppended (λ z. Takes (ratio factor) (drop used.i (entries_of row.now)) (drop used.j (entries_of by.now)) z (drop n.i (entries_of row.now)) (drop n.j (entries_of by.now))) skip (entries_of out.old) (entries_of out.new)) }
+    ensures wide { OnErr result (IsWide (ratio factor) (drop used.i (entries_of row.now)) (drop used.j (entries_of by.now))) }
+    ensures room { room_of out.old ≤ room_of out.new }
+    ensures cost { steps.new ≤ steps.old + 3 }
+{
+    let Used { i, j } = used;
+    if j == by.len() {
+        let x = row.read(i, steps);
+        append(out, x, skip, steps);
+        return Ok(Used { i: i + 1, j });
+    }
+    if i == row.len() {
+        let y = by.read(j, steps);
+        append_product(out, factor, y, skip, steps)?;
+        return Ok(Used { i, j: j + 1 });
+    }
+    let x = row.read(i, steps);
+    let y = by.read(j, steps);
+    if x.col < y.col {
+        append(out, x, skip, steps);
+        return Ok(Used { i: i + 1, j });
+    }
+    if y.col < x.col {
+        append_product(out, factor, y, skip, steps)?;
+        return Ok(Used { i, j: j + 1 });
+    }
+    append_sum(out, x, factor, y, skip, steps)?;
+    Ok(Used { i: i + 1, j: j + 1 })
 }
 
 /// A row and another times a factor, but for the column `skip`, in place of what `out` had.
@@ -106,13 +141,9 @@ pub fn merge<L: Ledger>(
     ensures cost { steps.new ≤ steps.old + 3 * (length (entries_of row.now) + length (entries_of by.now)) }
 {
     out.clear();
-    let mut i = 0;
-    let mut j = 0;
-    while i < row.len() || j < by.len() {
-        let next = next_item(row, factor, by, i, j, steps)?;
-        i = next.i;
-        j = next.j;
-        append(out, next.item, skip, steps);
+    let mut used = Used { i: 0, j: 0 };
+    while used.i < row.len() || used.j < by.len() {
+        used = advance(row, factor, by, skip, used, out, steps)?;
     }
     Ok(())
 }

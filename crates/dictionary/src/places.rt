@@ -1,6 +1,7 @@
 // The values of columns while they aren't basic.
 ghost use Rattle.std.specs.Prelude.{◌≡◌, ℕ, ◌<◌, ◌≢◌, IfOk};
 ghost use Rattle.fraction.specs.Frac.{ratio};
+ghost use Rattle.evidence.specs.Sums.{none};
 
 use fraction::Frac;
 use std::alloc::{AllocError, Global};
@@ -16,7 +17,8 @@ impl Places {
 
     /// The value 0 for each of so many columns.
     pub fn with_size(alloc: Global, count: usize) -> Result<Places, AllocError>
-        ensures { IfOk result (λ p. count_of p ≡ count) }
+        ensures count { IfOk result (λ p. count_of p ≡ count) }
+        ensures zeros { IfOk result (λ p. (c : ℕ) → c < count → values_of p c ≡ none) }
     {
         let values = vec![in alloc; Frac::ZERO; count]?;
         Ok(Places { values })

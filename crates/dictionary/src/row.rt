@@ -59,13 +59,13 @@ impl Row {
     }
 
     /// The entry at a place: one step.
-    pub fn read<L: Ledger>(&self, i: usize, steps: &mut Steps<L>) -> Item
+    pub fn read<L: Ledger>(&self, i: usize, steps: &mut Steps<L>) -> &Item
         requires { i < length (entries_of self.now) }
-        ensures item { result ≡ slice_index_or (entries_of self.now) i result }
+        ensures item { result.now ≡ slice_index_or (entries_of self.now) i result.now }
         ensures cost { steps.new ≡ steps.old + 1 }
     {
         steps.tick();
-        self.items[i]
+        &self.items[i]
     }
 
     /// Puts an entry at the end: one step.

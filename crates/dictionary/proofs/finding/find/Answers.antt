@@ -5,14 +5,14 @@ use Rattle.dictionary.proofs.finding.find.Goals as goal
 
 pub returns-then-x-col-clause-found : goal.returns-then-x-col-clause-found
 returns-then-x-col-clause-found g c =
-    let x = c.read-x.result in
+    let x = c.read-x.result.now in
     let mid = c.loop-low.low + (c.loop-low.high - c.loop-low.low) / 2 in
     let l : mid < length (entries_of c.args.row.now) = let a = c.loop-low.invariant.high in let t = c.loop-low-test.true in omega arith in
     subst (λ k. IsEntry (entries_of c.args.row.now) k x.value) c.if-x-col.true (entry_is 0 (2 ^ 32) (entries_of c.args.row.now) mid x c.requires l c.read-x.ensures.item)
 
 pub loop-low-preserved-then-x-col-2 : goal.loop-low-preserved-then-x-col-2
 loop-low-preserved-then-x-col-2 g c =
-    let x = c.read-x.result in
+    let x = c.read-x.result.now in
     let low = c.loop-low.low in
     let high = c.loop-low.high in
     let mid = low + (high - low) / 2 in
@@ -28,7 +28,7 @@ loop-low-preserved-then-x-col-2 g c =
 
 pub loop-low-preserved : goal.loop-low-preserved
 loop-low-preserved g c =
-    let x = c.read-x.result in
+    let x = c.read-x.result.now in
     let low = c.loop-low.low in
     let high = c.loop-low.high in
     let mid = low + (high - low) / 2 in

@@ -5,8 +5,8 @@ use Rattle.dictionary.specs.Row.{entries_of, room_of}
 use Rattle.dictionary.proofs.Merged.{Merging, merge_begun, merge_more, merge_room, merge_wide, merge_ended, merge_fits}
 use Rattle.dictionary.proofs.merging.merge.Goals as goal
 
-pub loop-i-init : goal.loop-i-init
-loop-i-init g c =
+pub loop-used-init : goal.loop-used-init
+loop-used-init g c =
     let row = entries_of c.args.row.now in
     let by = entries_of c.args.by.now in
     record {
@@ -17,36 +17,36 @@ loop-i-init g c =
       cost = omega arith;
     }
 
-pub returns-in_err-next-clause-wide : goal.returns-in_err-next-clause-wide
-returns-in_err-next-clause-wide g c =
+pub advance-requires-clause-room : goal.advance-requires-clause-room
+advance-requires-clause-room g c rest other z t n d =
     let row = entries_of c.args.row.now in
     let by = entries_of c.args.by.now in
-    at_err c.from_residual.result (merge_wide row by (ratio c.args.factor) c.args.factor.above c.args.skip (entries_of c.loop-i.out) (drop c.loop-i.i row) (drop c.loop-i.j by) c.requires.factor c.loop-i.invariant.merging c.in_err-next.ensures.wide)
-
-pub append-requires : goal.append-requires
-append-requires g c n d =
-    let row = entries_of c.args.row.now in
-    let by = entries_of c.args.by.now in
-    let z = c.in_ok-next.next.item in
-    let done = entries_of c.loop-i.out in
-    let r : length (done ++ z ∷ []) ≤ room_of c.args.out.now = merge_room row by (ratio c.args.factor) c.args.factor.above c.args.skip (room_of c.args.out.now) done (drop c.loop-i.i row) (drop c.loop-i.j by) z (drop c.in_ok-next.next.i row) (drop c.in_ok-next.next.j by) c.requires.room c.loop-i.invariant.merging c.in_ok-next.ensures.takes n d in
-    let l : room_of c.args.out.now ≤ room_of c.loop-i.out = c.loop-i.invariant.room in
+    let done = entries_of c.loop-used.out in
+    let r : length (done ++ z ∷ []) ≤ room_of c.args.out.now = merge_room row by (ratio c.args.factor) c.args.factor.above c.args.skip (room_of c.args.out.now) done (drop c.loop-used.used.i row) (drop c.loop-used.used.j by) z rest other c.requires.room c.loop-used.invariant.merging t n d in
+    let l : room_of c.args.out.now ≤ room_of c.loop-used.out = c.loop-used.invariant.room in
     omega (arith, length-append done (z ∷ []))
 
-pub loop-i-preserved : goal.loop-i-preserved
-loop-i-preserved g c =
+pub returns-in_err-used-clause-wide : goal.returns-in_err-used-clause-wide
+returns-in_err-used-clause-wide g c =
     let row = entries_of c.args.row.now in
     let by = entries_of c.args.by.now in
+    at_err c.from_residual.result (merge_wide row by (ratio c.args.factor) c.args.factor.above c.args.skip (entries_of c.loop-used.out) (drop c.loop-used.used.i row) (drop c.loop-used.used.j by) c.requires.factor c.loop-used.invariant.merging c.in_err-used.ensures.wide)
+
+pub loop-used-preserved : goal.loop-used-preserved
+loop-used-preserved g c =
+    let row = entries_of c.args.row.now in
+    let by = entries_of c.args.by.now in
+    let t = c.in_ok-used.ensures.takes in
     record {
-      i = c.in_ok-next.ensures.i;
-      j = c.in_ok-next.ensures.j;
-      merging = merge_more row by (ratio c.args.factor) c.args.factor.above c.args.skip (entries_of c.loop-i.out) (drop c.loop-i.i row) (drop c.loop-i.j by) c.in_ok-next.next.item (entries_of c.append.new.out) (drop c.in_ok-next.next.i row) (drop c.in_ok-next.next.j by) c.loop-i.invariant.merging c.in_ok-next.ensures.takes c.append.ensures.is;
-      room = let a = c.loop-i.invariant.room in let b = c.append.ensures.room in omega arith;
-      cost = let a = c.loop-i.invariant.cost in let b = c.in_ok-next.ensures.cost in let d = c.append.ensures.cost in let m = c.in_ok-next.ensures.more in omega arith;
+      i = c.in_ok-used.ensures.i;
+      j = c.in_ok-used.ensures.j;
+      merging = merge_more row by (ratio c.args.factor) c.args.factor.above c.args.skip (entries_of c.loop-used.out) (drop c.loop-used.used.i row) (drop c.loop-used.used.j by) t.item (entries_of c.advance.new.out) (drop c.in_ok-used.used.i row) (drop c.in_ok-used.used.j by) c.loop-used.invariant.merging t.next t.appended;
+      room = let a = c.loop-used.invariant.room in let b = c.in_ok-used.ensures.room in omega arith;
+      cost = let a = c.loop-used.invariant.cost in let b = c.in_ok-used.ensures.cost in let m = c.in_ok-used.ensures.more in omega arith;
     }
 
 pub returns-clause-is : goal.returns-clause-is
-returns-clause-is g c = merge_ended (entries_of c.args.row.now) (entries_of c.args.by.now) (ratio c.args.factor) c.args.factor.above c.args.skip (entries_of c.loop-i.out) c.loop-i.i c.loop-i.j (let a = c.if-i-len.false in omega arith) (let a = c.if-j-len.false in omega arith) c.loop-i.invariant.merging
+returns-clause-is g c = merge_ended (entries_of c.args.row.now) (entries_of c.args.by.now) (ratio c.args.factor) c.args.factor.above c.args.skip (entries_of c.loop-used.out) c.loop-used.used.i c.loop-used.used.j (let a = c.if-used-len.false in omega arith) (let a = c.if-used-len-2.false in omega arith) c.loop-used.invariant.merging
 
 pub returns-clause-fits : goal.returns-clause-fits
-returns-clause-fits g c = merge_fits (entries_of c.args.row.now) (entries_of c.args.by.now) (ratio c.args.factor) c.args.factor.above c.args.skip (entries_of c.loop-i.out) c.loop-i.i c.loop-i.j (let a = c.if-j-len.false in omega arith) c.loop-i.invariant.merging
+returns-clause-fits g c = merge_fits (entries_of c.args.row.now) (entries_of c.args.by.now) (ratio c.args.factor) c.args.factor.above c.args.skip (entries_of c.loop-used.out) c.loop-used.used.i c.loop-used.used.j (let a = c.if-used-len-2.false in omega arith) c.loop-used.invariant.merging

@@ -18,25 +18,25 @@ loop-i-init g c = record {
 pub at-requires : goal.at-requires
 at-requires g c =
     let l : c.loop-i.i < length (entries_of c.args.row.now) = let e = c.len-i-end.ensures in let t = c.loop-i-test.true in omega arith in
-    let e = entry_is 0 (2 ^ 32) (entries_of c.args.row.now) c.loop-i.i c.read-x.result c.requires.row l c.read-x.ensures.item in
-    c.requires.inside c.read-x.result.col e.stands
+    let e = entry_is 0 (2 ^ 32) (entries_of c.args.row.now) c.loop-i.i c.read-x.result.now c.requires.row l c.read-x.ensures.item in
+    c.requires.inside c.read-x.result.now.col e.stands
 
 pub loop-i-preserved : goal.loop-i-preserved
 loop-i-preserved g c =
     let l : c.loop-i.i < length (entries_of c.args.row.now) = let e = c.len-i-end.ensures in let t = c.loop-i-test.true in omega arith in
-    let e = entry_is 0 (2 ^ 32) (entries_of c.args.row.now) c.loop-i.i c.read-x.result c.requires.row l c.read-x.ensures.item in
-    let left = rest_is (entries_of c.args.row.now) c.loop-i.i c.read-x.result l c.read-x.ensures.item in
+    let e = entry_is 0 (2 ^ 32) (entries_of c.args.row.now) c.loop-i.i c.read-x.result.now c.requires.row l c.read-x.ensures.item in
+    let left = rest_is (entries_of c.args.row.now) c.loop-i.i c.read-x.result.now l c.read-x.ensures.item in
     record {
-      summed = λ k w at. summed_more (entries_of c.args.row.now) (values_of c.args.places.now) k w at c.loop-i.i c.read-x.result left e.stands (ratio c.loop-i.sum) c.loop-i.sum.above (c.loop-i.invariant.summed k w at) c.at.result (ratio c.in_ok-sum.sum) c.in_ok-sum.sum.above (sym c.at.ensures) c.in_ok-sum.ensures.ok c.in_ok-sum.ensures.fits;
+      summed = λ k w at. summed_more (entries_of c.args.row.now) (values_of c.args.places.now) k w at c.loop-i.i c.read-x.result.now left e.stands (ratio c.loop-i.sum) c.loop-i.sum.above (c.loop-i.invariant.summed k w at) c.at.result (ratio c.in_ok-sum.sum) c.in_ok-sum.sum.above (sym c.at.ensures) c.in_ok-sum.ensures.ok c.in_ok-sum.ensures.fits;
       cost = let a = c.loop-i.invariant.cost in let b = c.read-x.ensures.cost in omega arith;
     }
 
 pub returns-in_err-sum-clause-wide : goal.returns-in_err-sum-clause-wide
 returns-in_err-sum-clause-wide g c k w at =
     let l : c.loop-i.i < length (entries_of c.args.row.now) = let e = c.len-i-end.ensures in let t = c.loop-i-test.true in omega arith in
-    let e = entry_is 0 (2 ^ 32) (entries_of c.args.row.now) c.loop-i.i c.read-x.result c.requires.row l c.read-x.ensures.item in
-    let left = rest_is (entries_of c.args.row.now) c.loop-i.i c.read-x.result l c.read-x.ensures.item in
-    at_err c.from_residual.result (summed_wide (entries_of c.args.row.now) (values_of c.args.places.now) k w at c.loop-i.i c.read-x.result left e.stands (ratio c.loop-i.sum) c.loop-i.sum.above (c.loop-i.invariant.summed k w at) c.at.result (sym c.at.ensures) c.in_err-sum.ensures.wide)
+    let e = entry_is 0 (2 ^ 32) (entries_of c.args.row.now) c.loop-i.i c.read-x.result.now c.requires.row l c.read-x.ensures.item in
+    let left = rest_is (entries_of c.args.row.now) c.loop-i.i c.read-x.result.now l c.read-x.ensures.item in
+    at_err c.from_residual.result (summed_wide (entries_of c.args.row.now) (values_of c.args.places.now) k w at c.loop-i.i c.read-x.result.now left e.stands (ratio c.loop-i.sum) c.loop-i.sum.above (c.loop-i.invariant.summed k w at) c.at.result (sym c.at.ensures) c.in_err-sum.ensures.wide)
 
 pub returns-clause-ok : goal.returns-clause-ok
 returns-clause-ok g c k w at =
