@@ -1,23 +1,23 @@
 -- From a point of a case on, as the code goes.
-use Rattle.std.proofs.Common.{◌≡◌, ℕ, inl, inr, ℤ, None, Some, Result, Ok, Err, IfErr, List, length, sym, ◌∙◌, ap, subst}
-use Rattle.std.proofs.lemmas.List.{length-map}
+use Rattle.std.proofs.Common.{◌≡◌, ℕ, inl, inr, ℤ, None, Some, Result, Ok, Err, IfOk, IfErr, List, sym, ◌∙◌, ap, subst}
 use Rattle.rational.specs.Ratio.{Ratio}
-use Rattle.fraction.specs.Frac.{ratio, ratios}
+use Rattle.fraction.specs.Frac.{ratios}
 use Rattle.fraction.specs.declared.frac.Frac.{Frac}
 use Rattle.evidence.specs.Instance.{Instance, width}
 use Rattle.evidence.specs.Cases.{Multiplier, BoundBy}
 use Rattle.evidence.specs.Width.{PointFits}
 use Rattle.certificate.specs.declared.causes.Step.TheVariants.{Point}
-use Rattle.bases.specs.Dictionary.{Values}
-use Rattle.simplex.specs.Answers.{listed}
 use Rattle.search_rules.specs.Search.{Moment, Outcome, To, Out, Meets, IsSplit, IsWholeBelow, IsValue, leaf, branch, too_wide}
 use Rattle.certificate.specs.declared.claims.Claim.{Claim}
 use Rattle.branch_bound.specs.declared.walk.Walk.{Walk}
-use Rattle.branch_bound.specs.Cases.{OrMemory}
-use Rattle.simplex.proofs.Listing.{length-listed}
-
-pub length_is : (xs : List Frac) (w : Values) (n : ℕ) → ratios xs ≡ listed n w → length xs ≡ n
-length_is xs w n e = sym (length-map xs ratio) ∙ ap length e ∙ length-listed n w
+use Rattle.instance.specs.Parts.{Parts}
+use Rattle.simplex.specs.declared.answer.LpEnd.{LpEnd}
+use Rattle.simplex.specs.Memory.{ended_with}
+use Rattle.simplex_rules.specs.Ends.{Terms, Clock}
+use Rattle.branch_bound.specs.declared.relaxation.Relaxation.{Relaxation}
+use Rattle.branch_bound.specs.Claims.{outcome}
+use Rattle.branch_bound.specs.Walks.{moment}
+use Rattle.branch_bound.specs.Cases.{OrMemory, GoesAt, clock_at}
 
 module _ (I J : Instance) (rest : List Instance) (m : Moment) (x : List Ratio) (ms : List Multiplier) where
   pub meets_split : (n : Moment) (j : ℕ) (k : ℤ) → IsSplit J x j k → n ≡ branch m J rest j k → Meets I J rest m x ms (To n)
@@ -45,3 +45,13 @@ if_err (Err y) f h = f y h
 pub or_memory : {P Q : Type 0} (w : Walk) (claim : Claim) → (P → Q) → OrMemory w claim P → OrMemory w claim Q
 or_memory w claim f (inl e) = inl e
 or_memory w claim f (inr h) = inr (f h)
+
+-- the run ended so, and the walk went on from there or the search ended
+module _ (p : Parts) (r : Relaxation) (w v : Walk) (d : ℕ) (end is : LpEnd) (same : end ≡ is) where
+  pub went_on_as : {X : Type 0} (a : Result X Claim) → IfOk a (λ _. (t : Terms) (c : Clock) → GoesAt p w d t c (ended_with is r.work) (To (moment p v c))) → IfOk a (λ _. (t : Terms) (c : Clock) → GoesAt p w d t c (ended_with end r.work) (To (moment p v c)))
+  went_on_as {X} a h = subst (λ (e : LpEnd). IfOk a (λ _. (t : Terms) (c : Clock) → GoesAt p w d t c (ended_with e r.work) (To (moment p v c)))) (sym same) h
+
+  pub ended_as : (turns : ℕ) {X : Type 0} (a : Result X Claim) → IfErr a (λ claim. OrMemory w claim ((t : Terms) (looks : ℕ) → GoesAt p w d t (clock_at r looks) (ended_with is r.work) (Out (outcome claim) (clock_at r looks)))) → IfErr a (λ claim. OrMemory w claim ((t : Terms) (looks : ℕ) → t.turns ≡ turns → GoesAt p w d t (clock_at r looks) (ended_with end r.work) (Out (outcome claim) (clock_at r looks))))
+  ended_as turns {X} a h =
+      subst (λ (e : LpEnd). IfErr a (λ claim. OrMemory w claim ((t : Terms) (looks : ℕ) → t.turns ≡ turns → GoesAt p w d t (clock_at r looks) (ended_with e r.work) (Out (outcome claim) (clock_at r looks))))) (sym same)
+      (if_err a (λ claim. or_memory w claim (λ goes t looks q. goes t looks)) h)

@@ -1,7 +1,7 @@
 -- The least whole variable whose value isn't whole, as the code finds it.
 use Rattle.std.proofs.Common.{◌≡◌, ◌≢◌, ℕ, ◌+◌, ◌<◌, ◌≤◌, ℤ, IsTrue, List, length, slice_index_or, arith, sym, subst}
 use Rattle.std.proofs.lemmas.List.{length-map}
-use Rattle.rational.specs.Ratio.{IsFloor}
+use Rattle.rational.specs.Ratio.{Ratio, IsFloor}
 use Rattle.fraction.specs.Frac.{ratio}
 use Rattle.fraction.specs.declared.frac.Frac.{Frac}
 use Rattle.evidence.specs.Sums.{IsWhole}
@@ -12,17 +12,12 @@ use Rattle.instance.specs.declared.parts.Var.{Var}
 use Rattle.instance.specs.Parts.{Parts}
 use Rattle.instance.specs.Program.{variable}
 use Rattle.case_tree.specs.Cuts.{cut}
-use Rattle.bases.specs.Dictionary.{Values}
-use Rattle.simplex.specs.Answers.{listed}
 use Rattle.search_rules.specs.Search.{IsSplit, IsWholeBelow}
 use Rattle.branch_bound.proofs.Floors.{floor_within}
-use Rattle.branch_bound.proofs.Places.{whole_at, read_at}
+use Rattle.branch_bound.proofs.Places.{whole_at}
 
-module _ (p : Parts) (vs : List Var) (w : Values) (n j : ℕ) (v : Var) (x : Frac) (low : j < length vs) (long : j < n) (is : v ≡ slice_index_or vs j v) (value : ratio x ≡ w j) where
-  here : value_at (listed n w) j ≡ ratio x
-  here = read_at w n j (ratio x) long value
-
-  pub split_at : (k : ℤ) → IsTrue v.whole × (IsWhole (ratio x) → ⊥) × (x.denom ≢ 1) → IsFloor (ratio x) k → IsWholeBelow (cut p vs) (listed n w) j → IsSplit (cut p vs) (listed n w) j k
+module _ (p : Parts) (vs : List Var) (point : List Ratio) (j : ℕ) (v : Var) (x : Frac) (low : j < length vs) (is : v ≡ slice_index_or vs j v) (here : value_at point j ≡ ratio x) where
+  pub split_at : (k : ℤ) → IsTrue v.whole × (IsWhole (ratio x) → ⊥) × (x.denom ≢ 1) → IsFloor (ratio x) k → IsWholeBelow (cut p vs) point j → IsSplit (cut p vs) point j k
   split_at k (must, isnt, den) f below =
       let two : 2 ≤ x.denom = let a = x.above in omega (arith, den) in
       let within = floor_within (ratio x) k two x.numer_within f in
@@ -38,10 +33,10 @@ module _ (p : Parts) (vs : List Var) (w : Values) (n j : ℕ) (v : Var) (x : Fra
         floor = subst (λ y. IsFloor y k) (sym here) f;
       }
 
-  pub whole_more : (IsTrue v.whole → IsWhole (ratio x)) → IsWholeBelow (cut p vs) (listed n w) j → IsWholeBelow (cut p vs) (listed n w) (j + 1)
+  pub whole_more : (IsTrue v.whole → IsWhole (ratio x)) → IsWholeBelow (cut p vs) point j → IsWholeBelow (cut p vs) point (j + 1)
   whole_more own below i h t =
       by_lt i j (λ l. below i l t)
       (λ l.
       let e : i ≡ j = omega arith in
       let t : IsTrue (Of.variable_at (cut p vs) j).whole = subst (λ i. IsTrue (Of.variable_at (cut p vs) i).whole) e t in
-      subst (λ i. IsWhole (value_at (listed n w) i)) (sym e) (subst IsWhole (sym here) (own (subst IsTrue (whole_at p vs j v low is) t))))
+      subst (λ i. IsWhole (value_at point i)) (sym e) (subst IsWhole (sym here) (own (subst IsTrue (whole_at p vs j v low is) t))))

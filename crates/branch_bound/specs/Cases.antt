@@ -1,5 +1,5 @@
 -- What the code makes of a case, as the rules of a search say it.
-use Rattle.std.specs.Prelude.{◌≡◌, ◌⊎◌, ℕ, Bool, false, Option, Result, Ok, Err, List, length}
+use Rattle.std.specs.Prelude.{◌≡◌, ◌⊎◌, ℕ, ◌-◌, ◌^◌, ◌<◌, Bool, false, Option, Result, Ok, Err, List, length}
 use Rattle.rational.specs.Ratio.{Ratio}
 use Rattle.evidence.specs.Instance.{Instance}
 use Rattle.evidence.specs.Cases.{Multiplier}
@@ -14,7 +14,7 @@ use Rattle.branch_bound.specs.declared.relaxation.Relaxation.{Relaxation}
 use Rattle.branch_bound.specs.declared.limits.Limits.{Limits}
 use Rattle.branch_bound.specs.declared.walk.Walk.{Walk}
 use Rattle.branch_bound.specs.Claims.{outcome, is_killed}
-use Rattle.branch_bound.specs.Walks.{best, case, rest, moment}
+use Rattle.branch_bound.specs.Walks.{best, case, rest, moment, IsAt}
 
 abbrev pub terms : Limits → Option ℕ → Terms
 terms l stop = record { nodes = l.nodes; turns = l.turns; stop = stop }
@@ -24,6 +24,12 @@ pub record HasSize (p : Parts) (r : Relaxation) : Type 0 where
   pub width : width_in r.work ≡ length p.vars
   pub height : height_in r.work ≡ length p.rows
   pub cuts : length r.cuts ≡ length p.vars
+
+-- the memory has the size of the instance, and the walk is at a case whose node has a number
+pub record IsReady (p : Parts) (r : Relaxation) (w : Walk) (d : ℕ) : Type 0 where
+  pub size : HasSize p r
+  pub at : IsAt (length p.vars) w d
+  pub within : length w.nodes < 2 ^ 32 - 1
 
 abbrev pub clock_at : Relaxation → ℕ → Clock
 clock_at r looks = record { turns = r.turns.done; looks = looks }

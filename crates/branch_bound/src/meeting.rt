@@ -1,13 +1,13 @@
 // From a point of the case at hand on.
-ghost use Rattle.std.specs.Prelude.{◌≡◌, ℕ, ◌-◌, ◌^◌, ◌<◌, false, length, IfOk, IfErr};
+ghost use Rattle.std.specs.Prelude.{◌≡◌, ℕ, false, length, IfOk, IfErr};
 ghost use Rattle.evidence.specs.Instance as Of;
 ghost use Rattle.certificate.specs.Means as Means;
 ghost use Rattle.simplex.specs.Memory.{point_of};
 ghost use Rattle.simplex_rules.specs.Ends.{Clock};
 ghost use Rattle.search_rules.specs.Search.{To, Out, IsWholeBelow};
 ghost use Rattle.branch_bound.specs.Claims.{outcome, is_killed};
-ghost use Rattle.branch_bound.specs.Walks.{case, moment, IsWalk, IsAt};
-ghost use Rattle.branch_bound.specs.Cases.{HasSize, clock_at, OrMemory, MeetsAt};
+ghost use Rattle.branch_bound.specs.Walks.{case, moment, IsWalk};
+ghost use Rattle.branch_bound.specs.Cases.{IsReady, clock_at, OrMemory, MeetsAt};
 
 use crate::claims::{branch, give_up, leaf, too_wide};
 use crate::open::first_open;
@@ -28,9 +28,7 @@ fn take_point(
     walk: &mut Walk,
     depth: usize,
 ) -> Result<(), Claim>
-    requires size { HasSize instance.now relaxation.now }
-    requires at { IsAt (length instance.now.vars) walk.old depth }
-    requires within { length walk.old.nodes < 2 ^ 32 - 1 }
+    requires ready { IsReady instance.now relaxation.now walk.old depth }
     requires whole { IsWholeBelow (case instance.now walk.old) (point_of relaxation.now.work) (Of.width (case instance.now walk.old)) }
     ensures walk { IfOk result (λ _. IsWalk (length instance.now.vars) walk.new) }
     ensures ok { IfOk result (λ _. (c : Clock) → MeetsAt instance.now walk.old depth c (point_of relaxation.now.work) (Means.multipliers mults) (To (moment instance.now walk.new c))) }
@@ -68,9 +66,7 @@ pub fn meet(
     walk: &mut Walk,
     depth: usize,
 ) -> Result<(), Claim>
-    requires size { HasSize instance.now relaxation.now }
-    requires at { IsAt (length instance.now.vars) walk.old depth }
-    requires within { length walk.old.nodes < 2 ^ 32 - 1 }
+    requires { IsReady instance.now relaxation.now walk.old depth }
     ensures walk { IfOk result (λ _. IsWalk (length instance.now.vars) walk.new) }
     ensures ok { IfOk result (λ _. (c : Clock) → MeetsAt instance.now walk.old depth c (point_of relaxation.now.work) (Means.multipliers mults) (To (moment instance.now walk.new c))) }
     ensures err { IfErr result (λ claim. OrMemory walk.old claim ((looks : ℕ) → let c = clock_at relaxation.now looks in MeetsAt instance.now walk.old depth c (point_of relaxation.now.work) (Means.multipliers mults) (Out (outcome claim) c))) }

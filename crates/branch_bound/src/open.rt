@@ -8,6 +8,7 @@ ghost use Rattle.case_tree.specs.Cuts.{cut};
 ghost use Rattle.simplex.specs.Memory.{width_in, point_of};
 ghost use Rattle.search_rules.specs.Search.{IsSplit, IsWholeBelow};
 
+use crate::points::coordinate;
 use fraction::Frac;
 use instance::Var;
 use simplex::Work;
@@ -35,7 +36,7 @@ pub fn first_open(work: &Work, vars: &[Var]) -> Option<Open>
 {
     for j in 0..vars.len() {
         let col = j as u32;
-        let value = work.point_at(col);
+        let value = coordinate(work, col);
         if is_open(vars[j], value) {
             let k = value.floor();
             return Some(Open { col, k });

@@ -1,19 +1,39 @@
-// What the last run found: its point and its multipliers.
-ghost use Rattle.std.specs.Prelude.{◌≡◌, ◌+◌, ◌++◌, IfOk};
+// What the last run found: its point, its multipliers and its direction.
+ghost use Rattle.std.specs.Prelude.{◌≡◌, ◌+◌, ◌<◌, ◌++◌, length, IfOk};
 ghost use Rattle.fraction.specs.Frac.{ratio, ratios};
+ghost use Rattle.evidence.specs.Point.{value_at};
 ghost use Rattle.certificate.specs.Means as Means;
 ghost use Rattle.simplex_rules.specs.Reports.{one_of};
-ghost use Rattle.simplex.specs.Memory.{width_in, height_in, point_of, mults_of};
+ghost use Rattle.simplex.specs.Memory.{width_in, height_in, point_of, mults_of, ray_of};
 
 use certificate::{Mult, Mults, Point};
 use fraction::Frac;
-use simplex::Work;
+use simplex::{Work, first_values_are_listed};
 use std::alloc::{AllocError, Global};
+
+/// A variable's value at the run's point.
+pub fn coordinate(work: &Work, j: u32) -> Frac
+    requires { j < width_in work.now }
+    ensures { value_at (point_of work.now) j ≡ ratio result }
+{
+    first_values_are_listed();
+    work.point_at(j)
+}
+
+/// A variable's movement along the run's direction.
+pub fn movement(work: &Work, j: u32) -> Frac
+    requires { j < width_in work.now }
+    ensures { value_at (ray_of work.now) j ≡ ratio result }
+{
+    first_values_are_listed();
+    work.ray_at(j)
+}
 
 /// The run's point, of so many variables.
 pub fn read_point(alloc: Global, work: &Work, width: u32) -> Result<Point, AllocError>
     requires { width ≡ width_in work.now }
-    ensures { IfOk result (λ point. ratios point ≡ point_of work.now) }
+    ensures count { IfOk result (λ point. length point ≡ width) }
+    ensures values { IfOk result (λ point. ratios point ≡ point_of work.now) }
 {
     let mut point = Point::new(alloc);
     for j in 0..width {

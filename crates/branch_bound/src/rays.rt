@@ -6,6 +6,7 @@ ghost use Rattle.instance.specs.Program.{program};
 ghost use Rattle.simplex.specs.Memory.{width_in, ray_of};
 ghost use Rattle.search_rules.specs.Rays.{IsNextFactor, IsFactor, IsScaled};
 
+use crate::points::movement;
 use case_tree::whole;
 use certificate::Ray;
 use fraction::{Frac, Wide, lcm};
@@ -37,7 +38,7 @@ fn factor(instance: &Instance, work: &Work) -> Result<i128, Wide>
     let vars = instance.vars();
     let mut factor = 1;
     for j in 0..vars.len() {
-        factor = next_factor(vars[j].whole, work.ray_at(j as u32), factor)?;
+        factor = next_factor(vars[j].whole, movement(work, j as u32), factor)?;
     }
     Ok(factor)
 }
@@ -53,7 +54,7 @@ pub fn read_ray(alloc: Global, instance: &Instance, work: &Work) -> Result<Optio
     };
     let mut ray = Ray::new(alloc);
     for j in 0..instance.vars().len() {
-        match work.ray_at(j as u32).mul(by) {
+        match movement(work, j as u32).mul(by) {
             Ok(movement) => ray.push(movement)?,
             Err(_) => return Ok(None),
         }

@@ -1,5 +1,5 @@
 // From the end of the run of the case at hand on.
-ghost use Rattle.std.specs.Prelude.{◌≡◌, ℕ, ◌-◌, ◌^◌, ◌<◌, false, length, IfOk, IfErr};
+ghost use Rattle.std.specs.Prelude.{◌≡◌, ℕ, false, length, IfOk, IfErr};
 ghost use Rattle.fraction.specs.Frac.{ratio};
 ghost use Rattle.simplex.specs.Memory.{point_of, mults_of, ray_of, ended_with};
 ghost use Rattle.simplex_rules.specs.Ends.{Terms, Clock, Empty, Best, Endless};
@@ -7,8 +7,8 @@ ghost use Rattle.simplex.specs.Answers.{was_stopped};
 ghost use Rattle.certificate.specs.declared.causes.Cause.TheVariants.{Memory};
 ghost use Rattle.search_rules.specs.Search.{To, Out, early as early_of};
 ghost use Rattle.branch_bound.specs.Claims.{outcome, is_killed};
-ghost use Rattle.branch_bound.specs.Walks.{best as best_of, moment, IsWalk, IsAt};
-ghost use Rattle.branch_bound.specs.Cases.{HasSize, clock_at, OrMemory, GoesAt};
+ghost use Rattle.branch_bound.specs.Walks.{best as best_of, moment, IsWalk};
+ghost use Rattle.branch_bound.specs.Cases.{IsReady, clock_at, OrMemory, GoesAt};
 
 use crate::claims::{give_up, leaf, too_wide};
 use crate::limits::Limits;
@@ -33,9 +33,7 @@ fn at_best(
     walk: &mut Walk,
     depth: usize,
 ) -> Result<(), Claim>
-    requires size { HasSize instance.now relaxation.now }
-    requires at { IsAt (length instance.now.vars) walk.old depth }
-    requires within { length walk.old.nodes < 2 ^ 32 - 1 }
+    requires { IsReady instance.now relaxation.now walk.old depth }
     ensures walk { IfOk result (λ _. IsWalk (length instance.now.vars) walk.new) }
     ensures ok { IfOk result (λ _. (t : Terms) (c : Clock) → GoesAt instance.now walk.old depth t c (Best (ratio bound) (point_of relaxation.now.work) (mults_of relaxation.now.work)) (To (moment instance.now walk.new c))) }
     ensures err { IfErr result (λ claim. OrMemory walk.old claim ((t : Terms) (looks : ℕ) → let c = clock_at relaxation.now looks in GoesAt instance.now walk.old depth t c (Best (ratio bound) (point_of relaxation.now.work) (mults_of relaxation.now.work)) (Out (outcome claim) c))) }
@@ -60,9 +58,7 @@ fn at_endless(
     walk: &mut Walk,
     depth: usize,
 ) -> Result<(), Claim>
-    requires size { HasSize instance.now relaxation.now }
-    requires at { IsAt (length instance.now.vars) walk.old depth }
-    requires within { length walk.old.nodes < 2 ^ 32 - 1 }
+    requires { IsReady instance.now relaxation.now walk.old depth }
     ensures walk { IfOk result (λ _. IsWalk (length instance.now.vars) walk.new) }
     ensures ok { IfOk result (λ _. (t : Terms) (c : Clock) → GoesAt instance.now walk.old depth t c (Endless (point_of relaxation.now.work) (ray_of relaxation.now.work)) (To (moment instance.now walk.new c))) }
     ensures err { IfErr result (λ claim. OrMemory walk.old claim ((t : Terms) (looks : ℕ) → let c = clock_at relaxation.now looks in GoesAt instance.now walk.old depth t c (Endless (point_of relaxation.now.work) (ray_of relaxation.now.work)) (Out (outcome claim) c))) }
@@ -87,8 +83,7 @@ fn at_empty(
     walk: &mut Walk,
     depth: usize,
 ) -> Result<(), Claim>
-    requires size { HasSize instance.now relaxation.now }
-    requires at { IsAt (length instance.now.vars) walk.old depth }
+    requires { IsReady instance.now relaxation.now walk.old depth }
     ensures walk { IfOk result (λ _. IsWalk (length instance.now.vars) walk.new) }
     ensures ok { IfOk result (λ _. (t : Terms) (c : Clock) → GoesAt instance.now walk.old depth t c (Empty (mults_of relaxation.now.work)) (To (moment instance.now walk.new c))) }
     ensures err { IfErr result (λ claim. outcome claim ≡ early_of (best_of walk.old.best) Memory) }
@@ -111,9 +106,7 @@ pub fn visit(
     walk: &mut Walk,
     depth: usize,
 ) -> Result<(), Claim>
-    requires size { HasSize instance.now relaxation.now }
-    requires at { IsAt (length instance.now.vars) walk.old depth }
-    requires within { length walk.old.nodes < 2 ^ 32 - 1 }
+    requires ready { IsReady instance.now relaxation.now walk.old depth }
     requires went_on { was_stopped end ≡ false }
     ensures walk { IfOk result (λ _. IsWalk (length instance.now.vars) walk.new) }
     ensures ok { IfOk result (λ _. (t : Terms) (c : Clock) → GoesAt instance.now walk.old depth t c (ended_with end relaxation.now.work) (To (moment instance.now walk.new c))) }

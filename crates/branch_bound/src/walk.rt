@@ -9,7 +9,7 @@ ghost use Rattle.simplex_rules.specs.Ends.{Clock};
 ghost use Rattle.search_rules.specs.Search.{leaf, branch};
 ghost use Rattle.branch_bound.specs.Walks.{case, rest, moment, IsWalk, IsAt};
 
-use case_tree::{Branch, back, enter};
+use case_tree::{Branch, back, cases_come_of_branches_above, enter};
 use certificate::{Cert, Node, Point, Ray};
 use fraction::Frac;
 use instance::Var;
@@ -57,6 +57,7 @@ fn make_room(branches: &mut Vec<Branch>, depth: usize, filler: Branch) -> Result
     ensures same { (p : Parts) (vs : List OneVar) → pending p vs branches.new.items depth ≡ pending p vs branches.old.items depth }
     ensures above { (n : ℕ) → AreBranches n branches.old.items depth → AreBranches n branches.new.items depth }
 {
+    cases_come_of_branches_above();
     if depth == branches.len() {
         branches.push(filler)?;
     }

@@ -1,21 +1,16 @@
-use Rattle.std.proofs.Common.{◌≡◌, inr, List, None, Some, Option, length, sym, ◌∙◌, ap}
+use Rattle.std.proofs.Common.{◌≡◌, inr, List, None, Some, Option, sym, ◌∙◌, ap}
 use Rattle.fraction.specs.Frac.{ratio, ratios}
 use Rattle.rational.specs.Ratio.{Ratio}
 use Rattle.evidence.specs.Cases.{BoundBy}
 use Rattle.certificate.specs.Means as Means
 use Rattle.instance.specs.Program.{program}
-use Rattle.simplex.specs.Memory.{point_of, width_in, point_in}
+use Rattle.simplex.specs.Memory.{point_of}
 use Rattle.search_rules.specs.Search.{Moment, leaf as leaf_of}
 use Rattle.branch_bound.specs.Claims.{outcome}
 use Rattle.branch_bound.specs.Walks as Walks
 use Rattle.branch_bound.specs.Cases.{clock_at}
-use Rattle.branch_bound.proofs.Meets.{length_is, meets_wide, meets_found}
+use Rattle.branch_bound.proofs.Meets.{meets_wide, meets_found}
 use Rattle.branch_bound.proofs.meeting.take_point.Goals as goal
-
-pub value_at-requires : goal.value_at-requires
-value_at-requires c =
-    let w = c.args.relaxation.now.work in
-    ap length c.as_slice.ensures ∙ length_is c.in-Ok.point (point_in w) (width_in w) c.in-Ok.ensures ∙ c.requires.size.width
 
 pub returns-in-Err-value_at-clause-err : goal.returns-in-Err-value_at-clause-err
 returns-in-Err-value_at-clause-err c =
@@ -24,7 +19,7 @@ returns-in-Err-value_at-clause-err c =
     let w = c.args.walk.now in
     let r = c.args.relaxation.now in
     let wide = rw c.as_slice.ensures at c.in-Err-value_at.ensures.wide in
-    meets_wide (program p) (Walks.case p w) (Walks.rest p w c.args.depth) (Walks.moment p w (clock_at r looks)) (point_of r.work) (Means.multipliers c.args.mults) c.in-Ok.point c.in-Ok.ensures c.requires.whole (outcome c.too_wide.result) wide (c.too_wide.ensures.told p looks))
+    meets_wide (program p) (Walks.case p w) (Walks.rest p w c.args.depth) (Walks.moment p w (clock_at r looks)) (point_of r.work) (Means.multipliers c.args.mults) c.in-Ok.point c.in-Ok.ensures.values c.requires.whole (outcome c.too_wide.result) wide (c.too_wide.ensures.told p looks))
 
 pub returns-in-Ok-leaf-clause-ok : goal.returns-in-Ok-leaf-clause-ok
 returns-in-Ok-leaf-clause-ok c = λ at.
@@ -36,6 +31,6 @@ returns-in-Ok-leaf-clause-ok c = λ at.
     let v = ratio c.in-Ok-value_at.value in
     let gone : w.ray ≡ None = sym c.take.ensures.value ∙ c.in-None.is in
     let after : c.take.new.self ≡ None = c.take.ensures.after in
-    meets_found (program p) (Walks.case p w) (Walks.rest p w c.args.depth) (Walks.moment p w at) (point_of r.work) (Means.multipliers c.args.mults) c.in-Ok.point c.in-Ok.ensures c.requires.whole v _ (ap Walks.ray gone) fits value
+    meets_found (program p) (Walks.case p w) (Walks.rest p w c.args.depth) (Walks.moment p w at) (point_of r.work) (Means.multipliers c.args.mults) c.in-Ok.point c.in-Ok.ensures.values c.requires.whole v _ (ap Walks.ray gone) fits value
     (ap (λ (m : Moment). let n : Moment = record m { best = Some (record { point = ratios c.in-Ok.point; value = v }) } in n) (c.in-Ok-leaf.ensures.ok p at)
     ∙ ap (λ (o : Option (List Ratio)). leaf_of (record (Walks.moment p w at) { best = Some (record { point = ratios c.in-Ok.point; value = v }); ray = o }) (Walks.rest p w c.args.depth) (BoundBy (Means.multipliers c.args.mults))) (ap Walks.ray (after ∙ sym gone)))

@@ -1,11 +1,11 @@
-use Rattle.std.proofs.Common.{rules, ◌<◌, sym, subst, ℤ, arith}
+use Rattle.std.proofs.Common.{rules, sym, subst, ℤ, arith}
 use Rattle.std.proofs.lemmas.List.{length-map}
 use mir.Val.{SFits}
 use mir.Syntax.{w128}
 use Rattle.std.proofs.Math.Facts.{to_z-of_z}
 use Rattle.instance.specs.Program.{variable}
 use Rattle.case_tree.specs.Cuts.{cut}
-use Rattle.simplex.specs.Memory.{point_of, width_in, point_in}
+use Rattle.simplex.specs.Memory.{point_of}
 use Rattle.search_rules.specs.Search.{IsSplit}
 use Rattle.branch_bound.proofs.Splits.{split_at, whole_more}
 use Rattle.branch_bound.proofs.open.first_open.Goals as goal
@@ -15,19 +15,17 @@ returns-then-is_open c = λ p.
     let w = c.args.work.now in
     let vs = c.args.vars.now in
     let j = c.loop-j.j in
-    let long : j < width_in w = let n = c.requires.width in omega arith in
-    let v = c.point_at-value.result in
+    let v = c.coordinate-value.result in
     let f : SFits w128 c.floor-k.result = search rules in
     let yes = c.is_open.ensures.yes c.if-is_open.true in
     subst (λ (z : ℤ). IsSplit (cut p vs) (point_of w) j z) (sym (to_z-of_z f))
-    (split_at p vs (point_in w) (width_in w) j c.index-vars-j.result v c.loop-j-test.true long c.index-vars-j.is c.point_at-value.ensures c.floor-k.result yes c.floor-k.ensures (c.loop-j.invariant p))
+    (split_at p vs (point_of w) j c.index-vars-j.result v c.loop-j-test.true c.index-vars-j.is c.coordinate-value.ensures c.floor-k.result yes c.floor-k.ensures (c.loop-j.invariant p))
 
 pub loop-j-preserved : goal.loop-j-preserved
 loop-j-preserved c = λ p.
     let w = c.args.work.now in
     let j = c.loop-j.j in
-    let long : j < width_in w = let n = c.requires.width in omega arith in
-    whole_more p c.args.vars.now (point_in w) (width_in w) j c.index-vars-j.result c.point_at-value.result c.loop-j-test.true long c.index-vars-j.is c.point_at-value.ensures (c.is_open.ensures.no c.if-is_open.false) (c.loop-j.invariant p)
+    whole_more p c.args.vars.now (point_of w) j c.index-vars-j.result c.coordinate-value.result c.loop-j-test.true c.index-vars-j.is c.coordinate-value.ensures (c.is_open.ensures.no c.if-is_open.false) (c.loop-j.invariant p)
 
 pub returns : goal.returns
 returns c = λ p j h t.

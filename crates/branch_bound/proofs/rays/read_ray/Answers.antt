@@ -10,10 +10,9 @@ use Rattle.fraction.specs.declared.frac.Frac.{Frac}
 use Rattle.evidence.specs.Instance as Of
 use Rattle.evidence.specs.Point.{value_at}
 use Rattle.instance.specs.Program.{program, variable}
-use Rattle.simplex.specs.Memory.{ray_of, width_in, movement_in}
+use Rattle.simplex.specs.Memory.{ray_of}
 use Rattle.search_rules.specs.Rays.{IsFactor}
 use Rattle.branch_bound.proofs.Multiples.{factor_is, multiple_of, multiples_more, no_ray}
-use Rattle.branch_bound.proofs.Places.{read_at}
 use Rattle.branch_bound.proofs.rays.read_ray.Goals as goal
 
 -- the factor as a fraction
@@ -37,8 +36,7 @@ returns-in-Err-mul c =
     let least = subst (λ n. IsFactor (program p) (ray_of w) n (unsigned_abs c.whole-by.result.numer)) (sym (length-map p.vars variable)) least in
     let low : j < length p.vars = search rules in
     let inside : j < Of.width (program p) = let n = length-map p.vars variable in omega arith in
-    let long : j < width_in w = let n = c.requires in omega arith in
-    no_ray (program p) (ray_of w) (unsigned_abs c.whole-by.result.numer) j c.ray_at.result c.whole-by.result least inside (read_at (movement_in w) (width_in w) j (ratio c.ray_at.result) long c.ray_at.ensures) is.by c.in-Err-mul.ensures.wide
+    no_ray (program p) (ray_of w) (unsigned_abs c.whole-by.result.numer) j c.movement.result c.whole-by.result least inside c.movement.ensures is.by c.in-Err-mul.ensures.wide
 
 pub loop-j-preserved : goal.loop-j-preserved
 loop-j-preserved c =
@@ -49,12 +47,11 @@ loop-j-preserved c =
     let fits : SFits w128 c.in-Ok.factor = search rules in
     let is = factored c.whole-by.result c.in-Ok.factor fits c.in-Ok.ensures.above c.whole-by.ensures in
     let low : j < length p.vars = search rules in
-    let long : j < width_in w = let n = c.requires in omega arith in
     let e : c.push.new.self ≡ c.loop-j.ray ++ c.in-Ok-mul.movement ∷ [] = search rules in
     record {
       count = ap length e ∙ length-append c.loop-j.ray (c.in-Ok-mul.movement ∷ []) ∙ ap (λ n. n + 1) c.loop-j.invariant.count;
       movements = rw e (multiples_more f (ray_of w) c.loop-j.ray j c.in-Ok-mul.movement c.loop-j.invariant.count c.loop-j.invariant.movements
-          (multiple_of f (value_at (ray_of w) j) c.ray_at.result c.whole-by.result c.in-Ok-mul.movement (read_at (movement_in w) (width_in w) j (ratio c.ray_at.result) long c.ray_at.ensures) is.by c.in-Ok-mul.ensures.ok));
+          (multiple_of f (value_at (ray_of w) j) c.movement.result c.whole-by.result c.in-Ok-mul.movement c.movement.ensures is.by c.in-Ok-mul.ensures.ok));
     }
 
 pub returns : goal.returns
