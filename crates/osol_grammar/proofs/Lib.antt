@@ -7,3 +7,4 @@ pub mod WrittenLimits
 pub mod OneAnswer
 pub mod WrittenText
 pub mod BackTags
+pub mod Named

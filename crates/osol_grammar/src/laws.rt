@@ -9,8 +9,10 @@ ghost use Rattle.osol_grammar.specs.declared.options.Options as kinds;
 ghost use Rattle.osol_grammar.specs.Refusals.{IsRefused};
 ghost use Rattle.osol_grammar.specs.Meaning.{IsOptions, IsOptionsText};
 ghost use Rattle.osol_grammar.specs.Writing.{options_text};
-ghost use Rattle.osol_grammar.specs.Back.{ComesBack};
+ghost use Rattle.osol_grammar.specs.Back.{ComesBack, IsNameOrNone};
 ghost use Rattle.osol_grammar.specs.Reading.{DecodeFails};
+
+use document_tags::{documents_are_of_characters, texts_part_at_ascii};
 
 /// Law: a document says one kind of options at most, and so do bytes.
 pub fn document_says_one()
@@ -29,6 +31,15 @@ pub fn options_are_not_refused()
     ensures root { (root : Element) (o : kinds.Options) (r : Refusal) (n : ℕ) → IsOptions root o → IsRefused root r n → ⊥ }
     ensures text { (bytes : List ℕ) (o : kinds.Options) (f : OsolFault) → IsOptionsText bytes o → DecodeFails bytes f → f ≡ Memory }
 {}
+
+/// Law: the job's name that bytes say, if they say one, is a name: characters of XML, one at least and of at most 256 bytes,
+/// without white space round them.
+pub fn options_have_names()
+    ensures { (bytes : List ℕ) (o : kinds.Options) → IsOptionsText bytes o → IsNameOrNone o.job }
+{
+    documents_are_of_characters();
+    texts_part_at_ascii();
+}
 
 /// Law: what [`decode`](crate::decode) answers of the text that [`encode`](crate::encode) writes of options, by its
 /// contract, is those options, but for want of memory; they are to have no job's name or one of characters of XML, without

@@ -18,7 +18,10 @@ mod writing;
 
 pub use document::decode;
 pub use fault::{OsolFault, Refusal};
-pub use laws::{comes_back, document_has_one_refusal, document_says_one, options_are_not_refused};
+pub use laws::{
+    comes_back, document_has_one_refusal, document_says_one, options_are_not_refused,
+    options_have_names,
+};
 pub use options::Options;
 pub use texts::refusal_text;
 pub use writing::encode;
