@@ -21,3 +21,4 @@ pub mod OneLeaf
 pub mod OneReason
 pub mod OneText
 pub mod OneAnswer
+pub mod Shown

@@ -12,7 +12,7 @@ use Rattle.cert_checker.specs.declared.refused.Refused.{Refused}
 use Rattle.cert_checker.specs.declared.refused.Refused.TheVariants as reasons
 use Rattle.cert_checker.specs.Documents.{ClaimRefuses, NoInstance, NoReport, CheckRefuses, IsAcceptedText, DocsRefuse}
 use Rattle.cert_checker.specs.Texts.{kind_name, IsRefusedText, IsAnswerText}
-use Rattle.cert_checker.specs.Grounds.{InstancesAreOne, ReportsAreOne}
+use Rattle.cert_checker.specs.Grounds.{InstancesAreOne, ReportsAreOne, TreeFaultsAreToldOnce}
 use Rattle.cert_checker.proofs.Accepted.{one_kind}
 use Rattle.cert_checker.proofs.Apart.{no_instance, no_report, accepted_apart}
 use Rattle.cert_checker.proofs.OneReason.{reason_once}
@@ -22,7 +22,7 @@ use Rattle.cert_checker.proofs.OneText.{same_quote, reason_told}
 abbrev pub Answers : List ℕ → List ℕ → Result Kind Refused → Type 0
 Answers osil osrl a = MatchResult a (IsAcceptedText osil osrl) (DocsRefuse osil osrl)
 
-module _ (instances : InstancesAreOne) (reports : ReportsAreOne) where
+module _ (instances : InstancesAreOne) (reports : ReportsAreOne) (told : TreeFaultsAreToldOnce) where
   instance_once : (osil : List ℕ) (r s : Refused) (t u : List ℕ) → NoInstance osil r → NoInstance osil s → IsRefusedText r t → IsRefusedText s u → t ≡ u
   instance_once osil r s t u h k a b =
       let first : IsRefusedText (reasons.Instance h.fault) t = subst (λ (q : Refused). IsRefusedText q t) h.is a in
@@ -45,7 +45,7 @@ module _ (instances : InstancesAreOne) (reports : ReportsAreOne) where
       k.refuses
 
   same_text : (r s : Refused) (t u : List ℕ) → r ≡ s → IsRefusedText r t → IsRefusedText s u → t ≡ u
-  same_text r s t u same a b = reason_told s t u (subst (λ (q : Refused). IsRefusedText q t) same a) b
+  same_text r s t u same a b = reason_told told s t u (subst (λ (q : Refused). IsRefusedText q t) same a) b
 
   -- want of memory has no text
   no_text : (r : Refused) (t : List ℕ) → r ≡ reasons.Memory → IsRefusedText r t → ⊥

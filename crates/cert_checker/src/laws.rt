@@ -1,6 +1,11 @@
-ghost use Rattle.std.specs.Prelude.{◌≡◌, ℕ, Some, Result, MatchResult, List};
-ghost use Rattle.evidence.specs.Instance.{Instance};
-ghost use Rattle.evidence.specs.Claim.{Claim, Accepts, IsTrueOf};
+ghost use Rattle.std.specs.Prelude.{◌≡◌, ℕ, None, Some, Result, MatchResult, List};
+ghost use Rattle.rational.specs.Ratio.{Ratio};
+ghost use Rattle.evidence.specs.Instance.{Instance, minimising};
+ghost use Rattle.evidence.specs.Point.{IsRay};
+ghost use Rattle.evidence.specs.Cases.{Tree, Node, preorder, Shows};
+ghost use Rattle.evidence.specs.Width.{PointFits};
+ghost use Rattle.evidence.specs.Claim.{Claim, Accepts, HasValue, IsTrueOf};
+ghost use Rattle.evidence.specs.Claim as claims;
 ghost use Rattle.instance.specs.Parts.{Parts};
 ghost use Rattle.instance.specs.Program.{program};
 ghost use Rattle.certificate.specs.declared.claims.Claim as carried;
@@ -9,13 +14,14 @@ ghost use Rattle.osil_grammar.specs.Reading.{IsInstanceText};
 ghost use Rattle.osrl_grammar.specs.Reading.{IsReportText};
 ghost use Rattle.osrl_grammar.specs.declared.report.Report.{Report};
 ghost use Rattle.cert_checker.specs.declared.refused.Refused.{Refused};
-ghost use Rattle.cert_checker.specs.declared.refused.Refused.TheVariants.{Memory};
+ghost use Rattle.cert_checker.specs.declared.refused.Refused.TheVariants.{Memory, Wide};
 ghost use Rattle.cert_checker.specs.declared.documents.Kind.{Kind};
 ghost use Rattle.cert_checker.specs.Refusals.{IsRefused};
 ghost use Rattle.cert_checker.specs.Documents.{kind, IsAcceptedText, DocsRefuse};
 ghost use Rattle.cert_checker.specs.Texts.{IsAnswerText};
 ghost use Rattle.cert_checker.specs.Grounds.{InstancesAreOne, ReportsAreOne};
 
+use document_tags::tree_faults_have_one_text;
 use osil_grammar::{documents_are_refused_in_one_way, documents_mean_one_instance};
 use osrl_grammar::{document_has_one_refusal, document_has_one_report, report_is_not_refused};
 
@@ -44,6 +50,14 @@ pub fn refused_is_not_accepted()
 /// A claim is refused for one reason at most.
 pub fn claims_have_one_refusal()
     ensures { (I : Instance) (claim : Claim) (r s : Refused) → IsRefused I claim r → IsRefused I claim s → r ≡ s }
+{}
+
+/// What is shown, by sums that fit or don't, is refused for width alone: a point that is feasible with its value, by sums that
+/// fit, with a tree of cases or a ray; or a tree of cases that rules out each point.
+pub fn shown_is_refused_for_width_alone()
+    ensures optimal { (I : Instance) (x : List Ratio) (v : Ratio) (nodes : List Node) (tree : Tree) (r : Refused) → HasValue I x v → PointFits I x → nodes ≡ preorder tree → Shows I tree (Some (minimising I v)) → IsRefused I (claims.Optimal x v nodes) r → (n : ℕ) × (r ≡ Wide n) }
+    ensures infeasible { (I : Instance) (nodes : List Node) (tree : Tree) (r : Refused) → nodes ≡ preorder tree → Shows I tree None → IsRefused I (claims.Infeasible nodes) r → (n : ℕ) × (r ≡ Wide n) }
+    ensures unbounded { (I : Instance) (x : List Ratio) (v : Ratio) (d : List Ratio) (r : Refused) → HasValue I x v → PointFits I x → IsRay I d → IsRefused I (claims.Unbounded x v d) r → (n : ℕ) × (r ≡ Wide n) }
 {}
 
 /// Documents that are accepted aren't refused, but for want of memory.
@@ -78,4 +92,5 @@ pub fn documents_have_one_answer()
 {
     instances_are_one();
     reports_are_one();
+    tree_faults_have_one_text();
 }

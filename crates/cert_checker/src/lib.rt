@@ -35,6 +35,7 @@ pub use documents::{Kind, check_docs};
 pub use laws::{
     accepted_documents_are_true, accepted_is_not_refused, claims_have_one_refusal,
     documents_have_one_answer, documents_have_one_kind, refused_is_not_accepted,
+    shown_is_refused_for_width_alone,
 };
 pub use refused::Refused;
 pub use scratch::Scratch;
