@@ -1,4 +1,4 @@
--- The envelopes that calls and answers are written as (SOAP 1.1, sections 4 and 6), and their texts.
+-- The envelopes that calls and answers are written as (SOAP 1.1, sections 4 and 7), and their texts.
 use Rattle.std.specs.Prelude.{ℕ, List, [], ◌∷◌, ◌++◌, codes}
 use Rattle.tree_grammar.specs.Elements.{Attribute, Nodes, none, element, Element, Event, Open, Close}
 use Rattle.tree_grammar.specs.Written.{written}

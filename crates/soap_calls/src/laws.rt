@@ -38,11 +38,17 @@ pub fn bytes_say_one_answer()
     ensures { (name bytes : List ℕ) (a b : given_back.Answer) → IsReplyText name bytes a → IsReplyText name bytes b → a ≡ b }
 {}
 
+/// Law: a text that bytes return to a call is one that the call may return: to `send` it is `true` or `false`.
+pub fn returned_texts_may_be_returned()
+    ensures { (name bytes text : List ℕ) → IsReplyText name bytes (answers.Return text) → MayReturn name text }
+{}
+
 /// Law: what [`read_call`](crate::read_call) answers of the text that [`write_call`](crate::write_call) writes of a call, by
 /// its contract, is that call, but for want of memory; its texts are to be characters of XML, and the text within the limit
 /// of a request's body.
 pub fn calls_are_read_back()
-    ensures { (c : given.SoapCall) (r : Result given.SoapCall refused.SoapFault) → AreTexts c → length (call_text c) ≤ document_limit
+    ensures call { (c : given.SoapCall) → AreTexts c → length (call_text c) ≤ document_limit → IsCallText (call_text c) c }
+    ensures read { (c : given.SoapCall) (r : Result given.SoapCall refused.SoapFault) → AreTexts c → length (call_text c) ≤ document_limit
         → IfOk r (IsCallText (call_text c)) → IfErr r (CallFails (call_text c)) → r ≢ Err faults.Memory → r ≡ Ok c }
 {}
 
@@ -50,7 +56,9 @@ pub fn calls_are_read_back()
 /// contract, is that text returned, but for want of memory; it is to be of characters of XML, of a call of `send` one of
 /// `true` and `false`, and the reply within the limit of a response's body.
 pub fn returns_are_read_back()
-    ensures { (k : kinds.CallKind) (text : List ℕ) (r : Result given_back.Answer unread.NotReply) → IsXmlText text → MayReturn (kind_text k) text → length (reply_text (kind_text k) text) ≤ reply_limit
+    ensures says { (k : kinds.CallKind) (text : List ℕ) → IsXmlText text → MayReturn (kind_text k) text → length (reply_text (kind_text k) text) ≤ reply_limit
+        → IsReplyText (kind_text k) (reply_text (kind_text k) text) (answers.Return text) }
+    ensures read { (k : kinds.CallKind) (text : List ℕ) (r : Result given_back.Answer unread.NotReply) → IsXmlText text → MayReturn (kind_text k) text → length (reply_text (kind_text k) text) ≤ reply_limit
         → IfOk r (IsReplyText (kind_text k) (reply_text (kind_text k) text)) → IfErr r (ReplyFails (kind_text k) (reply_text (kind_text k) text)) → r ≢ Err lost.Memory → r ≡ Ok (answers.Return text) }
 {}
 
@@ -58,6 +66,8 @@ pub fn returns_are_read_back()
 /// contract, is that fault, whatever the call, but for want of memory; its texts are to be characters of XML, and the text
 /// within the limit of a response's body.
 pub fn faults_are_read_back()
-    ensures { (name code text : List ℕ) (r : Result given_back.Answer unread.NotReply) → IsXmlText code → IsXmlText text → length (fault_text code text) ≤ reply_limit
+    ensures says { (name code text : List ℕ) → IsXmlText code → IsXmlText text → length (fault_text code text) ≤ reply_limit
+        → IsReplyText name (fault_text code text) (answers.Fault (codes "soap:" ++ code) text) }
+    ensures read { (name code text : List ℕ) (r : Result given_back.Answer unread.NotReply) → IsXmlText code → IsXmlText text → length (fault_text code text) ≤ reply_limit
         → IfOk r (IsReplyText name (fault_text code text)) → IfErr r (ReplyFails name (fault_text code text)) → r ≢ Err lost.Memory → r ≡ Ok (answers.Fault (codes "soap:" ++ code) text) }
 {}

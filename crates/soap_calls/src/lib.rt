@@ -1,4 +1,4 @@
-//! The six calls of the Optimization Services in SOAP envelopes, and what answers them (SOAP 1.1, sections 4 and 6).
+//! The six calls of the Optimization Services in SOAP envelopes, and what answers them (SOAP 1.1, sections 4 and 7).
 //!
 //! [`read_call`] gives the call that bytes are the envelope of, or why they are none, and [`write_call`] writes a call.
 //! [`write_reply`] and [`write_fault`] write what answers one, and [`read_reply`] reads that. What is written is read back:
@@ -22,7 +22,8 @@ pub use calling::read_call;
 pub use fault::{Answer, NotReply, SoapFault};
 pub use laws::{
     bytes_have_one_refusal, bytes_say_one_answer, bytes_say_one_call, calls_are_not_refused,
-    calls_are_read_back, faults_are_read_back, returns_are_read_back,
+    calls_are_read_back, faults_are_read_back, returned_texts_may_be_returned,
+    returns_are_read_back,
 };
 pub use replies::read_reply;
 pub use replying::{write_fault, write_reply};

@@ -119,6 +119,11 @@ impl Answers for Soap {
                     alloc,
                     padded(alloc, first.as_slice(), second.as_slice())?.as_slice(),
                 ),
+                b"long answer" => answered(
+                    alloc,
+                    b"kill",
+                    padded(alloc, first.as_slice(), second.as_slice())?.as_slice(),
+                ),
                 _ => Text::from_slice(alloc, b"not asked"),
             },
             _ => Text::from_slice(alloc, b"two fields or three"),

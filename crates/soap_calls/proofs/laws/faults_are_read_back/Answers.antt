@@ -8,5 +8,8 @@ use Rattle.soap_calls.proofs.OneAnswer.{reply_answers}
 use Rattle.soap_calls.proofs.BackAnswers.{fault_is}
 use Rattle.soap_calls.proofs.laws.faults_are_read_back.Goals as goal
 
-pub returns : goal.returns
-returns c = λ name code text r xml xml_text short ok err other. reply_answers name (fault_text code text) (Fault (codes "soap:" ++ code) text) r (fault_is name code text (text_append (codes "soap:") code (fixed_text (codes "soap:") refl) xml) xml_text short) ok err other
+pub returns-clause-read : goal.returns-clause-read
+returns-clause-read c = λ name code text r xml xml_text short ok err other. reply_answers name (fault_text code text) (Fault (codes "soap:" ++ code) text) r (fault_is name code text (text_append (codes "soap:") code (fixed_text (codes "soap:") refl) xml) xml_text short) ok err other
+
+pub returns-clause-says : goal.returns-clause-says
+returns-clause-says c = λ name code text xml xml_text short. fault_is name code text (text_append (codes "soap:") code (fixed_text (codes "soap:") refl) xml) xml_text short
