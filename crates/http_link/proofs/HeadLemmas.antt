@@ -3,12 +3,13 @@ use Rattle.std.proofs.Common.{ℕ, ◌≤◌, inl, inr, List, [], length, subst,
 use Rattle.std.specs.Prelude.{Result}
 use Rattle.http_link.specs.declared.refusal.Refusal.{Refusal}
 use Rattle.http_link.specs.Lines.{IsWholeHead}
+use Rattle.http_link.specs.declared.checks.Accepted.{Accepted}
 use Rattle.http_link.specs.Checks.{most_head, most_fields, ReadsWithin, Reads, Head}
 use Rattle.httparse.specs.Grammar.{ReadsRequest}
 use Rattle.http_link.proofs.FieldLemmas.{fields_counted}
 
 -- a head with few lines has no more fields than lines
-pub reads_head : (bytes : List ℕ) (lines : ℕ) (outcome : Result ℕ Refusal) → IsWholeHead bytes lines → lines ≤ most_fields
+pub reads_head : (bytes : List ℕ) (lines : ℕ) (outcome : Result Accepted Refusal) → IsWholeHead bytes lines → lines ≤ most_fields
     → ReadsWithin most_fields bytes outcome → Reads bytes outcome
 reads_head bytes lines outcome whole few (inl (more, is)) = inl (
   λ h reads.
@@ -18,7 +19,7 @@ reads_head bytes lines outcome whole few (inl (more, is)) = inl (
 )
 reads_head bytes lines outcome whole few (inr (h, reads, few', is)) = inr (h, reads, is)
 
-pub judged : (bytes : List ℕ) (lines : ℕ) (outcome : Result ℕ Refusal) → IsWholeHead bytes lines → length bytes ≤ most_head
+pub judged : (bytes : List ℕ) (lines : ℕ) (outcome : Result Accepted Refusal) → IsWholeHead bytes lines → length bytes ≤ most_head
     → lines ≤ most_fields → ReadsWithin most_fields bytes outcome → Head bytes outcome
 judged bytes lines outcome whole fits few reads = inr (
   whole.0,

@@ -2,7 +2,13 @@ pub mod NumberLemmas
 pub mod LineLemmas
 pub mod FieldLemmas
 pub mod HeadLemmas
+pub mod ExtentLemmas
 pub mod OnceLemmas
+pub mod ReplyLemmas
+pub mod ReplyOnceLemmas
+pub mod BackLemmas
+pub mod AskedLemmas
 pub mod ToldLemmas
 pub mod RequestLemmas
 pub mod WrittenLemmas
+pub mod Carrying

@@ -1,16 +1,18 @@
 -- What the steps of reading a request show.
-use Rattle.std.proofs.Common.{◌≡◌, ℕ, ◌+◌, ◌<◌, ◌≤◌, inl, inr, List, [], ◌∷◌, ◌++◌, length, Option, Some, None, Ok, Err, refl, sym, subst, arith, length-append}
+use Rattle.std.proofs.Common.{◌≡◌, ℕ, ◌+◌, ◌<◌, ◌≤◌, Bool, inl, inr, List, [], ◌∷◌, ◌++◌, length, Option, Some, None, Ok, Err, refl, sym, subst, arith, length-append}
 use Rattle.std.specs.Prelude.{⊤, MatchOption}
 use Rattle.os_io.specs.Streams.{Told}
 use Rattle.http_link.specs.declared.refusal.Refusal.{Refusal}
 use Rattle.http_link.specs.declared.refusal.Refusal.TheVariants.{HeadTooLarge}
-use Rattle.http_link.specs.declared.requests.Incoming.TheVariants.{Body, Refused, Cut, Ended}
+use Rattle.http_link.specs.declared.requests.Incoming.TheVariants.{Whole as WholeRequest, Refused, Cut, Ended}
 use Rattle.http_link.specs.declared.requests.HeadRead.{HeadRead}
 use Rattle.http_link.specs.declared.requests.HeadRead.TheVariants.{Whole, TooLarge, Cut as CutHead, Ended as NoHead}
+use Rattle.http_link.specs.declared.requests.BodyRead.{BodyRead}
+use Rattle.http_link.specs.declared.requests.BodyRead.TheVariants.{Whole as WholeBody, Cut as CutBody}
 use Rattle.http_link.specs.declared.requests.LinkFault.{LinkFault}
 use Rattle.http_link.specs.declared.requests.LinkFault.TheVariants.{ReadFault, Memory}
 use Rattle.http_link.specs.Lines.{AreEmptyLines, IsOpenHead, IsWholeHead}
-use Rattle.http_link.specs.Checks.{most_head, Head}
+use Rattle.http_link.specs.Checks.{most_head, accepted, Head}
 use Rattle.http_link.specs.Requests.{Answers, AnswersHead, AnswersBody, LosesPiece, TakesByte}
 use Rattle.http_link.proofs.LineLemmas.{open_has_no_head, whole_not_blank}
 use Rattle.http_link.proofs.OnceLemmas.{open_part}
@@ -30,8 +32,8 @@ IsEnd y z = Told y z (λ before after. (before ≡ []) × (after ≡ []))
 pub head_at : (v w : HeadRead) (x y : Left) → v ≡ w → AnswersHead (Ok v) x y → AnswersHead (Ok w) x y
 head_at v w x y e a = subst (λ (u : HeadRead). AnswersHead (Ok u) x y) e a
 
-pub body_at : (len : ℕ) (v w : Option (List ℕ)) (x y : Left) → v ≡ w → AnswersBody len (Ok v) x y → AnswersBody len (Ok w) x y
-body_at len v w x y e a = subst (λ (u : Option (List ℕ)). AnswersBody len (Ok u) x y) e a
+pub body_at : (len : ℕ) (v w : BodyRead) (x y : Left) → v ≡ w → AnswersBody len (Ok v) x y → AnswersBody len (Ok w) x y
+body_at len v w x y e a = subst (λ (u : BodyRead). AnswersBody len (Ok u) x y) e a
 
 pub byte_at : (v w : Option ℕ) (x y : Left) → v ≡ w → Told x y (TakesByte v) → Told x y (TakesByte w)
 byte_at v w x y e a = subst (λ (u : Option ℕ). Told x y (TakesByte u)) e a
@@ -59,21 +61,21 @@ head_fault text start lines x y z o fits took same =
     (text, record { fits = fits; no_head = open_has_no_head text start lines o }, took_same x y z text took same)
 
 pub head_ended : (text : List ℕ) (x y z : Left) → AreEmptyLines text → length text < most_head
-    → Took x y text → IsEnd y z → AnswersHead (Ok NoHead) x z
-head_ended text x y z blank fits took end = (text, record { empty = blank; fits = fits }, took_all x y z text took end)
+    → Took x y text → IsEnd y z → AnswersHead (Ok (NoHead text)) x z
+head_ended text x y z blank fits took end = (text, (refl, record { empty = blank; fits = fits }), took_all x y z text took end)
 
 pub head_cut : (text : List ℕ) (start lines : ℕ) (x y z : Left) → IsOpenHead text start lines → ¬ (AreEmptyLines text)
-    → length text < most_head → Took x y text → IsEnd y z → AnswersHead (Ok CutHead) x z
+    → length text < most_head → Took x y text → IsEnd y z → AnswersHead (Ok (CutHead text)) x z
 head_cut text start lines x y z o full fits took end = (
   text,
-  (full, record { fits = fits; no_head = open_has_no_head text start lines o }),
+  (refl, full, record { fits = fits; no_head = open_has_no_head text start lines o }),
   took_all x y z text took end,
 )
 
 pub head_large : (text : List ℕ) (start lines : ℕ) (x y : Left) → IsOpenHead text start lines → length text ≤ most_head
-    → most_head ≤ length text → Took x y text → AnswersHead (Ok TooLarge) x y
+    → most_head ≤ length text → Took x y text → AnswersHead (Ok (TooLarge text)) x y
 head_large text start lines x y o fits full took =
-    (text, (omega (arith, fits, full), open_has_no_head text start lines o), took_with x y text took)
+    (text, (refl, omega (arith, fits, full), open_has_no_head text start lines o), took_with x y text took)
 
 pub head_found : (text : List ℕ) (lines : ℕ) (x y : Left) → IsWholeHead text lines → length text ≤ most_head
     → Took x y text → AnswersHead (Ok (Whole text lines)) x y
@@ -103,46 +105,47 @@ pub answer_refused : (head : List ℕ) (lines : ℕ) (refusal : Refusal) (x y : 
 answer_refused head lines refusal x y a refused =
     (a.0, subst (λ (h : List ℕ). Head h (Err refusal)) a.1.0 refused, a.2)
 
-pub answer_body : (head : List ℕ) (lines len : ℕ) (body : List ℕ) (x y z : Left) → AnswersHead (Ok (Whole head lines)) x y
-    → Head head (Ok len) → AnswersBody len (Ok (Some body)) y z → Answers (Ok (Body body)) x z
-answer_body head lines len body x y z a accepted b = (
+pub answer_body : (head : List ℕ) (lines len : ℕ) (close : Bool) (body : List ℕ) (x y z : Left) → AnswersHead (Ok (Whole head lines)) x y
+    → Head head (Ok (accepted len close)) → AnswersBody len (Ok (WholeBody body)) y z
+    → Answers (Ok (WholeRequest (record { close = close; body = body }))) x z
+answer_body head lines len close body x y z a taken b = (
   a.0 ++ b.0,
-  (head, subst (λ (n : ℕ). Head head (Ok n)) (sym b.1.1) accepted, λ i. sym a.1.0 i ++ b.1.0 i),
+  (head, subst (λ (n : ℕ). Head head (Ok (accepted n close))) (sym b.1.1) taken, λ i. sym a.1.0 i ++ b.1.0 i),
   took_both x y z a.0 b.0 (λ _. ⊤) (λ _. ⊤) a.2 b.2,
 )
 
-pub answer_cut : (head : List ℕ) (lines len : ℕ) (x y z : Left) → AnswersHead (Ok (Whole head lines)) x y
-    → Head head (Ok len) → AnswersBody len (Ok None) y z → Answers (Ok Cut) x z
-answer_cut head lines len x y z a accepted b = (
+pub answer_cut : (head : List ℕ) (lines len : ℕ) (close : Bool) (body : List ℕ) (x y z : Left) → AnswersHead (Ok (Whole head lines)) x y
+    → Head head (Ok (accepted len close)) → AnswersBody len (Ok (CutBody body)) y z → Answers (Ok Cut) x z
+answer_cut head lines len close body x y z a taken b = (
   a.0 ++ b.0,
   (
     whole_not_blank a.0 lines b.0 a.1.1,
-    inr (head, b.0, len, accepted, (λ i. sym a.1.0 i ++ b.0), b.1),
+    inr (head, body, len, close, taken, (λ i. sym a.1.0 i ++ b.1.0 i), b.1.1),
   ),
   took_both x y z a.0 b.0 (λ _. ⊤) (λ rest. rest ≡ []) a.2 b.2,
 )
 
-pub answer_fault : (head : List ℕ) (lines len : ℕ) (fault : LinkFault) (x y z : Left) → AnswersHead (Ok (Whole head lines)) x y
-    → Head head (Ok len) → AnswersBody len (Err fault) y z → Answers (Err fault) x z
-answer_fault head lines len ReadFault x y z a accepted b = (
+pub answer_fault : (head : List ℕ) (lines len : ℕ) (close : Bool) (fault : LinkFault) (x y z : Left) → AnswersHead (Ok (Whole head lines)) x y
+    → Head head (Ok (accepted len close)) → AnswersBody len (Err fault) y z → Answers (Err fault) x z
+answer_fault head lines len close ReadFault x y z a taken b = (
   a.0 ++ b.0,
-  inr (head, b.0, len, accepted, (λ i. sym a.1.0 i ++ b.0), b.1),
+  inr (head, b.0, len, close, taken, (λ i. sym a.1.0 i ++ b.0), b.1),
   took_both x y z a.0 b.0 (λ _. ⊤) (λ _. ⊤) a.2 b.2,
 )
-answer_fault head lines len Memory x y z a accepted b = (
+answer_fault head lines len close Memory x y z a taken b = (
   a.0 ++ b.0,
-  inr (head, b.0, len, accepted, (λ i. sym a.1.0 i ++ b.0), b.1),
+  inr (head, b.0, len, close, taken, (λ i. sym a.1.0 i ++ b.0), b.1),
   took_both x y z a.0 b.0 (λ _. ⊤) (λ _. ⊤) a.2 b.2,
 )
 
-pub answer_large : (x y : Left) → AnswersHead (Ok TooLarge) x y → Answers (Ok (Refused HeadTooLarge)) x y
-answer_large x y a = (a.0, inl (a.1.0, a.1.1, refl), a.2)
+pub answer_large : (text : List ℕ) (x y : Left) → AnswersHead (Ok (TooLarge text)) x y → Answers (Ok (Refused HeadTooLarge)) x y
+answer_large text x y a = (a.0, inl (a.1.1, a.1.2, refl), a.2)
 
-pub answer_cut_head : (x y : Left) → AnswersHead (Ok CutHead) x y → Answers (Ok Cut) x y
-answer_cut_head x y a = (a.0, (a.1.0, inl a.1.1), a.2)
+pub answer_cut_head : (text : List ℕ) (x y : Left) → AnswersHead (Ok (CutHead text)) x y → Answers (Ok Cut) x y
+answer_cut_head text x y a = (a.0, (a.1.1, inl a.1.2), a.2)
 
-pub answer_ended : (x y : Left) → AnswersHead (Ok NoHead) x y → Answers (Ok Ended) x y
-answer_ended x y a = a
+pub answer_ended : (text : List ℕ) (x y : Left) → AnswersHead (Ok (NoHead text)) x y → Answers (Ok Ended) x y
+answer_ended text x y a = (a.0, a.1.1, a.2)
 
 pub answer_head_fault : (fault : LinkFault) (x y : Left) → AnswersHead (Err fault) x y → Answers (Err fault) x y
 answer_head_fault ReadFault x y a = (a.0, inl a.1, a.2)

@@ -1,12 +1,8 @@
--- An answer that is written part by part: its head, its length, an empty line and its body.
+-- A body that is written part by part: what stands before its length, its length, what stands behind it and the body.
 use Rattle.std.proofs.Common.{List, ℕ, ◌≡◌, ◌++◌, length, ap}
-use Rattle.std.specs.Prelude.{codes, decimal}
-use Rattle.http_link.specs.Responses.{answer_head, answer_text}
+use Rattle.std.specs.Prelude.{decimal}
+use Rattle.http_link.specs.Responses.{behind}
 
--- the empty line behind the head
-abbrev pub gap : List ℕ
-gap = codes "\r\n\r\n"
-
--- an answer's parts, where these are the digits of its length
-pub answer_parts : (body digits : List ℕ) → digits ≡ decimal (length body) → answer_head ++ (digits ++ (gap ++ body)) ≡ answer_text body
-answer_parts body digits e = ap (λ d. answer_head ++ (d ++ (gap ++ body))) e
+-- the parts, where these are the digits of its length
+pub behind_parts : (front gap body digits : List ℕ) → digits ≡ decimal (length body) → front ++ (digits ++ (gap ++ body)) ≡ behind front gap body
+behind_parts front gap body digits e = ap (λ d. front ++ (d ++ (gap ++ body))) e

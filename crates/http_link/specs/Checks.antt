@@ -1,7 +1,8 @@
--- What a server asks of a request's head, in the order in which it asks (RFC 9112, sections 2.3, 3, 3.2, 6.1 and 6.3; RFC 9110, sections 8.6, 9.1, 15.5 and 15.6.2; RFC 6585, section 5).
-use Rattle.std.specs.Prelude.{◌≡◌, ℕ, ◌<◌, ◌≤◌, ◌⊎◌, Bool, ◌&&◌, ◌||◌, not, ◌==◌, nat_lt, List, [], ◌∷◌, length, map, filter, count_by, if◌then◌else◌, codes, Result, Ok, Err, bytes_eq}
-use Rattle.std.specs.List.{list_all}
-use Rattle.std.specs.Char.{is_ascii_digit}
+-- What a server asks of a request's head, in the order in which it asks (RFC 9112, sections 2.3, 3, 3.2, 6.1, 6.3 and 9.3; RFC 9110, sections 5.6.1, 7.6.1, 8.6, 9.1, 15.5 and 15.6.2; RFC 6585, section 5).
+use Rattle.std.specs.Prelude.{◌≡◌, ℕ, ◌<◌, ◌≤◌, ◌^◌, ◌⊎◌, Bool, ◌&&◌, ◌||◌, not, ◌==◌, nat_lt, List, [], ◌∷◌, length, map, filter, count_by, if◌then◌else◌, codes, take, drop, ◌-◌, Result, Ok, Err, bytes_eq}
+use Rattle.std.specs.List.{list_all, list_any, slice_split, prefix_len, suffix_len}
+use Rattle.std.specs.Char.{is_ascii_digit, is_ascii_whitespace}
+use Rattle.http_link.specs.declared.checks.Accepted.{Accepted}
 use Rattle.std.specs.Str.{str_eq_ignore_ascii_case}
 use Rattle.std.specs.Str.Parse.{digits_value}
 use Rattle.httparse.specs.Grammar.{RequestHead, ReadsRequest}
@@ -21,6 +22,10 @@ most_fields = 64
 -- most bytes of a body
 abbrev pub most_body : ℕ
 most_body = 4194304
+
+-- the greatest limit of a body that a length is held against
+abbrev pub most_counted : ℕ
+most_counted = 2 ^ 32
 
 -- a field has that name, whatever the case
 abbrev pub is_named : List ℕ → List ℕ × List ℕ → Bool
@@ -49,25 +54,52 @@ has_bad_host minor fields =
     let hosts = count_by (is_named (codes "host")) fields in
     nat_lt 1 hosts || ((minor == 1) && (hosts == 0))
 
--- the body's length, by the values of Content-Length
-abbrev pub length_by : List (List ℕ) → Result ℕ Refusal
-length_by [] = Err LengthRequired
-length_by (value ∷ values) =
+-- the length of a body of at most so many bytes, by the values of Content-Length
+abbrev pub length_by : ℕ → List (List ℕ) → Result ℕ Refusal
+length_by most [] = Err LengthRequired
+length_by most (value ∷ values) =
     if list_all (writes_number (digits_value 10 value)) (value ∷ values)
-    then (if nat_lt most_body (digits_value 10 value) then Err ContentTooLarge else Ok (digits_value 10 value))
+    then (if nat_lt most (digits_value 10 value) then Err ContentTooLarge else Ok (digits_value 10 value))
     else Err BadRequest
 
--- the body's length, or the first refusal, of a head with these parts
-abbrev pub outcome_of_parts : List ℕ → ℕ → List (List ℕ × List ℕ) → Result ℕ Refusal
+-- without the white space round it, which in a head's values is of spaces and tabs alone
+abbrev pub trimmed : List ℕ → List ℕ
+trimmed item =
+    let behind = drop (prefix_len is_ascii_whitespace item) item in
+    take (length behind - suffix_len is_ascii_whitespace behind) behind
+
+-- an item without the white space round it is `close`, whatever the case
+abbrev pub is_close : List ℕ → Bool
+is_close item = str_eq_ignore_ascii_case (trimmed item) (codes "close")
+
+-- a list of items, which commas part, has `close` among them
+abbrev pub lists_close : List ℕ → Bool
+lists_close value = list_any is_close (slice_split (λ b. b == 44) value)
+
+-- the connection is to close behind the request: HTTP/1.0 asks so, and a Connection field that lists `close`
+abbrev pub asks_to_close : ℕ → List (List ℕ × List ℕ) → Bool
+asks_to_close minor fields = (minor == 0) || list_any lists_close (values_of (codes "connection") fields)
+
+-- what a head that is accepted says: the body's length, and whether the connection is to close behind it
+abbrev pub accepted : ℕ → Bool → Accepted
+accepted len close = record { len = len; close = close }
+
+-- the same, where the body's length isn't refused
+abbrev pub accepted_if : Result ℕ Refusal → Bool → Result Accepted Refusal
+accepted_if (Ok len) close = Ok (accepted len close)
+accepted_if (Err refusal) close = Err refusal
+
+-- what is accepted, or the first refusal, of a head with these parts
+abbrev pub outcome_of_parts : List ℕ → ℕ → List (List ℕ × List ℕ) → Result Accepted Refusal
 outcome_of_parts method minor fields =
     if has_bad_host minor fields then Err BadRequest
     else (if bytes_eq method (codes "POST")
     then (if nat_lt 0 (count_by (is_named (codes "transfer-encoding")) fields) then Err NotImplemented
-    else length_by (values_of (codes "content-length") fields))
+    else accepted_if (length_by most_body (values_of (codes "content-length") fields)) (asks_to_close minor fields))
     else Err MethodNotAllowed)
 
 -- the same of a head of the grammar
-abbrev pub outcome_of : RequestHead → Result ℕ Refusal
+abbrev pub outcome_of : RequestHead → Result Accepted Refusal
 outcome_of h = outcome_of_parts h.method h.minor (map name_and_value h.fields)
 
 -- the bytes are no request head of so many fields or fewer
@@ -75,25 +107,25 @@ abbrev pub HasMoreFields : ℕ → List ℕ → Type 0
 HasMoreFields most bytes = (h : RequestHead) → ReadsRequest bytes h [] → most < length h.fields
 
 -- what comes of the bytes of a head, if no head has more than so many fields
-abbrev pub ReadsWithin : ℕ → List ℕ → Result ℕ Refusal → Type 0
+abbrev pub ReadsWithin : ℕ → List ℕ → Result Accepted Refusal → Type 0
 ReadsWithin most bytes outcome =
     (HasMoreFields most bytes × (outcome ≡ Err BadRequest))
     ⊎ ((h : RequestHead) × ReadsRequest bytes h [] × (length h.fields ≤ most) × (outcome ≡ outcome_of h))
 
 -- what comes of the bytes of a head that isn't too large
-abbrev pub Reads : List ℕ → Result ℕ Refusal → Type 0
+abbrev pub Reads : List ℕ → Result Accepted Refusal → Type 0
 Reads bytes outcome =
     (((h : RequestHead) → ¬ (ReadsRequest bytes h [])) × (outcome ≡ Err BadRequest))
     ⊎ ((h : RequestHead) × ReadsRequest bytes h [] × (outcome ≡ outcome_of h))
 
 -- what comes of the bytes of a head that has so many lines between its request line and its end
-abbrev pub ReadsLines : ℕ → List ℕ → Result ℕ Refusal → Type 0
+abbrev pub ReadsLines : ℕ → List ℕ → Result Accepted Refusal → Type 0
 ReadsLines lines bytes outcome =
     ((most_fields < lines) × (outcome ≡ Err HeadTooLarge))
     ⊎ ((lines ≤ most_fields) × Reads bytes outcome)
 
--- what comes of a head: the length of its body, or a refusal. Where its end isn't among as many bytes as a head may have, those bytes are taken for it
-abbrev pub Head : List ℕ → Result ℕ Refusal → Type 0
+-- what comes of a head: what it says, or a refusal. Where its end isn't among as many bytes as a head may have, those bytes are taken for it
+abbrev pub Head : List ℕ → Result Accepted Refusal → Type 0
 Head bytes outcome =
     ((length bytes ≡ most_head) × HasNoHead bytes × (outcome ≡ Err HeadTooLarge))
     ⊎ ((h : HeadLines) × AreHeadLines h × (bytes ≡ print_head h) × (length bytes ≤ most_head)

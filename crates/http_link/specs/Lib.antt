@@ -2,3 +2,6 @@ pub mod Lines
 pub mod Checks
 pub mod Requests
 pub mod Responses
+pub mod Replies
+pub mod Outgoing
+pub mod Carrying

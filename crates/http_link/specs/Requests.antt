@@ -1,19 +1,22 @@
 -- Requests in a stream of bytes (RFC 9112, sections 2 and 6).
-use Rattle.std.specs.Prelude.{◌≡◌, ℕ, ◌<◌, ◌≤◌, ◌⊎◌, List, [], ◌∷◌, ◌++◌, length, Option, None, Some, Result, Ok, Err, ⊤}
+use Rattle.std.specs.Prelude.{◌≡◌, ℕ, ◌<◌, ◌≤◌, ◌⊎◌, Bool, List, [], ◌∷◌, ◌++◌, length, Option, None, Some, Result, Ok, Err, ⊤}
 use Rattle.os_io.specs.Streams.{Told, HasRisen}
 use Rattle.http_link.specs.declared.refusal.Refusal.{Refusal}
 use Rattle.http_link.specs.declared.requests.Incoming.{Incoming}
-use Rattle.http_link.specs.declared.requests.Incoming.TheVariants.{Body, Refused, Cut, Ended}
+use Rattle.http_link.specs.declared.requests.Incoming.TheVariants.{Whole as WholeRequest, Refused, Cut, Ended}
 use Rattle.http_link.specs.declared.requests.LinkFault.{LinkFault}
 use Rattle.http_link.specs.declared.requests.LinkFault.TheVariants.{ReadFault, Memory}
 use Rattle.http_link.specs.declared.requests.HeadRead.{HeadRead}
 use Rattle.http_link.specs.declared.requests.HeadRead.TheVariants.{Whole, TooLarge, Cut as CutHead, Ended as NoHead}
+use Rattle.http_link.specs.declared.requests.BodyRead.{BodyRead}
+use Rattle.http_link.specs.declared.requests.BodyRead.TheVariants.{Whole as WholeBody, Cut as CutBody}
 use Rattle.http_link.specs.Lines.{HeadLines, AreHeadLines, print_head, AreEmptyLines, HasNoHead, IsWholeHead}
-use Rattle.http_link.specs.Checks.{most_head, Head}
+use Rattle.http_link.specs.Checks.{most_head, accepted, Head}
 
--- a head that was accepted, and a body of its length
-abbrev pub IsRequest : List ℕ → List ℕ → Type 0
-IsRequest bytes body = (head : List ℕ) × Head head (Ok (length body)) × (bytes ≡ head ++ body)
+-- a head that was accepted, which asks to close the connection behind it or not, and a body of its length
+abbrev pub IsRequest : List ℕ → Bool → List ℕ → Type 0
+IsRequest bytes close body =
+    (head : List ℕ) × Head head (Ok (accepted (length body) close)) × (bytes ≡ head ++ body)
 
 -- a head that hasn't come to its end, nor to the most that a head may have
 pub record IsHeadBegun (bytes : List ℕ) : Type 0 where
@@ -23,7 +26,7 @@ pub record IsHeadBegun (bytes : List ℕ) : Type 0 where
 -- a head that was accepted, and less than its body
 abbrev pub IsBodyBegun : List ℕ → Type 0
 IsBodyBegun bytes =
-    (head : List ℕ) × (body : List ℕ) × (most : ℕ) × Head head (Ok most) × (bytes ≡ head ++ body)
+    (head : List ℕ) × (body : List ℕ) × (most : ℕ) × (close : Bool) × Head head (Ok (accepted most close)) × (bytes ≡ head ++ body)
     × (length body < most)
 
 -- a request that isn't whole, and that nothing refuses yet
@@ -38,7 +41,7 @@ pub record IsHeadPart (bytes : List ℕ) : Type 0 where
 -- a head that was accepted, and a first part of its body, or all of it
 abbrev pub IsBodyPart : List ℕ → Type 0
 IsBodyPart bytes =
-    (head : List ℕ) × (body : List ℕ) × (most : ℕ) × Head head (Ok most) × (bytes ≡ head ++ body)
+    (head : List ℕ) × (body : List ℕ) × (most : ℕ) × (close : Bool) × Head head (Ok (accepted most close)) × (bytes ≡ head ++ body)
     × (length body ≤ most)
 
 -- a first part of one request, or all of it, and not a byte more
@@ -56,7 +59,7 @@ pub record EndedBetween (bytes : List ℕ) : Type 0 where
 
 -- what the bytes that an answer took from the input are
 abbrev pub Shows : Result Incoming LinkFault → List ℕ → Type 0
-Shows (Ok (Body body)) taken = IsRequest taken body
+Shows (Ok (WholeRequest request)) taken = IsRequest taken request.close request.body
 Shows (Ok (Refused refusal)) taken = Head taken (Err refusal)
 Shows (Ok Cut) taken = IsCut taken
 Shows (Ok Ended) taken = EndedBetween taken
@@ -65,7 +68,7 @@ Shows (Err Memory) taken = IsRequestPart taken
 
 -- the input ended, where the answer says so
 abbrev pub EndsWith : Result Incoming LinkFault → List ℕ → Type 0
-EndsWith (Ok (Body body)) rest = ⊤
+EndsWith (Ok (WholeRequest request)) rest = ⊤
 EndsWith (Ok (Refused refusal)) rest = ⊤
 EndsWith (Ok Cut) rest = rest ≡ []
 EndsWith (Ok Ended) rest = rest ≡ []
@@ -87,18 +90,18 @@ CountsFault (Err Memory) before after = after ≡ before
 abbrev pub ShowsHead : Result HeadRead LinkFault → List ℕ → Type 0
 ShowsHead (Ok (Whole text lines)) taken =
     (text ≡ taken) × IsWholeHead taken lines × (length taken ≤ most_head)
-ShowsHead (Ok TooLarge) taken = (length taken ≡ most_head) × HasNoHead taken
-ShowsHead (Ok CutHead) taken = (¬ (AreEmptyLines taken)) × IsHeadBegun taken
-ShowsHead (Ok NoHead) taken = EndedBetween taken
+ShowsHead (Ok (TooLarge text)) taken = (text ≡ taken) × (length taken ≡ most_head) × HasNoHead taken
+ShowsHead (Ok (CutHead text)) taken = (text ≡ taken) × (¬ (AreEmptyLines taken)) × IsHeadBegun taken
+ShowsHead (Ok (NoHead text)) taken = (text ≡ taken) × EndedBetween taken
 ShowsHead (Err ReadFault) taken = IsHeadBegun taken
 ShowsHead (Err Memory) taken = IsHeadPart taken
 
 -- the input ended, where that is the answer
 abbrev pub HeadEnds : Result HeadRead LinkFault → List ℕ → Type 0
 HeadEnds (Ok (Whole text lines)) rest = ⊤
-HeadEnds (Ok TooLarge) rest = ⊤
-HeadEnds (Ok CutHead) rest = rest ≡ []
-HeadEnds (Ok NoHead) rest = rest ≡ []
+HeadEnds (Ok (TooLarge text)) rest = ⊤
+HeadEnds (Ok (CutHead text)) rest = rest ≡ []
+HeadEnds (Ok (NoHead text)) rest = rest ≡ []
 HeadEnds (Err fault) rest = ⊤
 
 -- the reading of a head, by the bytes to come before and after it, where they are told
@@ -124,20 +127,20 @@ LosesPiece left left' most =
     (piece : List ℕ) × (length piece ≤ most) × Told left left' (λ before after. (before ≡ piece ++ after) × ⊤)
 
 -- what the bytes are that the reading of a body took
-abbrev pub ShowsBody : ℕ → Result (Option (List ℕ)) LinkFault → List ℕ → Type 0
-ShowsBody len (Ok (Some body)) taken = (taken ≡ body) × (length body ≡ len)
-ShowsBody len (Ok None) taken = length taken < len
+abbrev pub ShowsBody : ℕ → Result BodyRead LinkFault → List ℕ → Type 0
+ShowsBody len (Ok (WholeBody body)) taken = (taken ≡ body) × (length body ≡ len)
+ShowsBody len (Ok (CutBody body)) taken = (taken ≡ body) × (length body < len)
 ShowsBody len (Err ReadFault) taken = length taken < len
 ShowsBody len (Err Memory) taken = length taken ≤ len
 
 -- the input ended, where that is the answer
-abbrev pub BodyEnds : Result (Option (List ℕ)) LinkFault → List ℕ → Type 0
-BodyEnds (Ok (Some body)) rest = ⊤
-BodyEnds (Ok None) rest = rest ≡ []
+abbrev pub BodyEnds : Result BodyRead LinkFault → List ℕ → Type 0
+BodyEnds (Ok (WholeBody body)) rest = ⊤
+BodyEnds (Ok (CutBody body)) rest = rest ≡ []
 BodyEnds (Err fault) rest = ⊤
 
 -- the reading of a body, by the bytes to come before and after it, where they are told
-abbrev pub AnswersBody : ℕ → Result (Option (List ℕ)) LinkFault → Option (List ℕ) → Option (List ℕ) → Type 0
+abbrev pub AnswersBody : ℕ → Result BodyRead LinkFault → Option (List ℕ) → Option (List ℕ) → Type 0
 AnswersBody len answer left left' =
     (taken : List ℕ) × ShowsBody len answer taken
     × Told left left' (λ before after. (before ≡ taken ++ after) × BodyEnds answer after)
@@ -145,7 +148,7 @@ AnswersBody len answer left left' =
 -- the bytes begin with a request
 abbrev pub BeginsWithRequest : List ℕ → Type 0
 BeginsWithRequest bytes =
-    (request : List ℕ) × (body : List ℕ) × (rest : List ℕ) × IsRequest request body × (bytes ≡ request ++ rest)
+    (request : List ℕ) × (close : Bool) × (body : List ℕ) × (rest : List ℕ) × IsRequest request close body × (bytes ≡ request ++ rest)
 
 -- the bytes begin with a head that is refused
 abbrev pub BeginsRefused : List ℕ → Type 0

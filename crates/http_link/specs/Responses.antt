@@ -3,13 +3,21 @@ use Rattle.std.specs.Prelude.{ℕ, List, [], ◌++◌, length, codes, decimal}
 use Rattle.http_link.specs.declared.refusal.Refusal.{Refusal}
 use Rattle.http_link.specs.declared.refusal.Refusal.TheVariants.{BadRequest, MethodNotAllowed, LengthRequired, ContentTooLarge, HeadTooLarge, NotImplemented, ServiceUnavailable}
 
--- what stands before the length of an answer
-abbrev pub answer_head : List ℕ
-answer_head = codes "HTTP/1.1 200 OK\r\nContent-Type: text/xml; charset=utf-8\r\nContent-Length: "
+-- a body behind its length, with what stands before the length and behind it
+abbrev pub behind : (front gap body : List ℕ) → List ℕ
+behind front gap body = front ++ (decimal (length body) ++ (gap ++ body))
+
+-- the end of a head's last line, and the empty line
+abbrev pub head_end : List ℕ
+head_end = codes "\r\n\r\n"
 
 -- an answer with this body
 abbrev pub answer_text : List ℕ → List ℕ
-answer_text body = answer_head ++ (decimal (length body) ++ (codes "\r\n\r\n" ++ body))
+answer_text body = behind (codes "HTTP/1.1 200 OK\r\nContent-Type: text/xml; charset=utf-8\r\nContent-Length: ") head_end body
+
+-- a fault of a call, told by this body
+abbrev pub fault_answer_text : List ℕ → List ℕ
+fault_answer_text body = behind (codes "HTTP/1.1 500 Internal Server Error\r\nContent-Type: text/xml; charset=utf-8\r\nContent-Length: ") head_end body
 
 -- the status code and its phrase
 abbrev pub code_and_phrase : Refusal → List ℕ

@@ -1,10 +1,10 @@
 ghost use Rattle.std.specs.Prelude.{◌≡◌, ◌==◌, ◌≤◌, ◌<◌, ◌&&◌, ◌||◌, nat_lt, ℕ, List, [], All, Ok, Err, map, length, count_by, IfSome, IsTrue, slice_range, slice_get, codes, None, Some, if◌then◌else◌};
-ghost use Rattle.std.specs.List.{list_all};
+ghost use Rattle.std.specs.List.{list_all, list_any};
 ghost use Rattle.std.specs.Char.{is_ascii_digit};
 ghost use Rattle.std.specs.Option.{option_copied};
 ghost use Rattle.std.specs.Str.Parse.{digits_value};
 ghost use Rattle.httparse.specs.Spans.{header_bytes, IsHeaderWithin};
-ghost use Rattle.http_link.specs.Checks.{is_named, is_number, values_of, writes_number, most_body, has_bad_host, outcome_of_parts, length_by, without_zeros, ReadsWithin};
+ghost use Rattle.http_link.specs.Checks.{is_named, is_number, values_of, writes_number, most_body, most_counted, has_bad_host, asks_to_close, lists_close, is_close, outcome_of_parts, length_by, without_zeros, ReadsWithin};
 
 use crate::Refusal;
 use httparse::Status;
@@ -16,8 +16,17 @@ pub const MOST_BODY: usize = 4_194_304;
 /// The most field lines of a head.
 pub(crate) const MOST_FIELDS: usize = 64;
 
-/// The length of the body, or the first refusal, of a head that has no more than `MOST_FIELDS` fields.
-pub(crate) fn head_outcome(head: &[u8]) -> Result<usize, Refusal>
+/// What a head that is accepted says.
+#[derive(Clone, Copy, PartialEq, Eq, Debug, Drop)]
+pub struct Accepted {
+    /// The body's length.
+    pub len: usize,
+    /// Whether the connection is to close behind the body.
+    pub close: bool,
+}
+
+/// What is accepted, or the first refusal, of a head that has no more than `MOST_FIELDS` fields.
+pub(crate) fn head_outcome(head: &[u8]) -> Result<Accepted, Refusal>
     ensures { ReadsWithin 64 head.now result }
 {
     let mut headers = [EMPTY_HEADER_SPAN; MOST_FIELDS];
@@ -35,8 +44,13 @@ pub(crate) fn head_outcome(head: &[u8]) -> Result<usize, Refusal>
     }
 }
 
-/// The length of the body, or the first refusal, of a head with these parts.
-fn outcome(head: &[u8], method: &[u8], minor: u8, headers: &[HeaderSpan]) -> Result<usize, Refusal>
+/// What is accepted, or the first refusal, of a head with these parts.
+fn outcome(
+    head: &[u8],
+    method: &[u8],
+    minor: u8,
+    headers: &[HeaderSpan],
+) -> Result<Accepted, Refusal>
     requires { All (IsHeaderWithin (length head.now)) headers.now }
     ensures { result ≡ outcome_of_parts method.now minor (map (header_bytes head.now) headers.now) }
 {
@@ -48,14 +62,60 @@ fn outcome(head: &[u8], method: &[u8], minor: u8, headers: &[HeaderSpan]) -> Res
     } else if count_named(head, headers, b"transfer-encoding") > 0 {
         Err(Refusal::NotImplemented)
     } else {
-        body_length(head, headers)
+        match body_length(head, headers, MOST_BODY) {
+            Ok(len) => Ok(Accepted {
+                len,
+                close: asks_to_close(head, minor, headers),
+            }),
+            Err(refusal) => Err(refusal),
+        }
     }
 }
 
-/// The length of the body, by the values of `Content-Length`.
-fn body_length(head: &[u8], headers: &[HeaderSpan]) -> Result<usize, Refusal>
+/// Whether the connection is to close behind the request.
+fn asks_to_close(head: &[u8], minor: u8, headers: &[HeaderSpan]) -> bool
     requires { All (IsHeaderWithin (length head.now)) headers.now }
-    ensures { result ≡ length_by (values_of (codes "content-length") (map (header_bytes head.now) headers.now)) }
+    ensures { result ≡ asks_to_close minor (map (header_bytes head.now) headers.now) }
+{
+    minor == 0 || any_lists_close(head, headers)
+}
+
+/// Whether a `Connection` field lists `close`.
+fn any_lists_close(head: &[u8], headers: &[HeaderSpan]) -> bool
+    requires { All (IsHeaderWithin (length head.now)) headers.now }
+    ensures { result ≡ list_any lists_close (values_of (codes "connection") (map (header_bytes head.now) headers.now)) }
+{
+    for header in headers {
+        if has_name(head, header, b"connection") && lists_close(header.value.of(head)) {
+            return true;
+        }
+    }
+    false
+}
+
+/// Whether `close` is among the items of a list, which commas part.
+fn lists_close(value: &[u8]) -> bool
+    ensures { result ≡ lists_close value.now }
+{
+    value.split(|b| *b == b',').any(|item| is_close(item))
+}
+
+/// Whether an item is `close`, whatever the case, without the white space round it.
+fn is_close(item: &[u8]) -> bool
+    ensures { result ≡ is_close item.now }
+{
+    item.trim_ascii().eq_ignore_ascii_case(b"close")
+}
+
+/// The length of a body of at most so many bytes, by the values of `Content-Length`.
+pub(crate) fn body_length(
+    head: &[u8],
+    headers: &[HeaderSpan],
+    most: usize,
+) -> Result<usize, Refusal>
+    requires within { All (IsHeaderWithin (length head.now)) headers.now }
+    requires counted { most ≤ most_counted }
+    ensures { result ≡ length_by most (values_of (codes "content-length") (map (header_bytes head.now) headers.now)) }
 {
     let Some(value) = first_value(head, headers, b"content-length") else {
         return Err(Refusal::LengthRequired);
@@ -63,7 +123,7 @@ fn body_length(head: &[u8], headers: &[HeaderSpan]) -> Result<usize, Refusal>
     if !is_number(value) || !all_write(head, headers, b"content-length", value) {
         return Err(Refusal::BadRequest);
     }
-    number_within(value).ok_or(Refusal::ContentTooLarge)
+    number_within(value, most).ok_or(Refusal::ContentTooLarge)
 }
 
 /// Whether the header has that name, whatever the case.
@@ -75,7 +135,7 @@ fn has_name(head: &[u8], header: &HeaderSpan, name: &[u8]) -> bool
 }
 
 /// How many headers have that name.
-fn count_named(head: &[u8], headers: &[HeaderSpan], name: &[u8]) -> usize
+pub(crate) fn count_named(head: &[u8], headers: &[HeaderSpan], name: &[u8]) -> usize
     requires { All (IsHeaderWithin (length head.now)) headers.now }
     ensures { result ≡ count_by (is_named name.now) (map (header_bytes head.now) headers.now) }
 {
@@ -149,15 +209,16 @@ fn without_zeros(digits: &[u8]) -> &[u8]
     &[]
 }
 
-/// The number, if a body may have so many bytes.
-fn number_within(value: &[u8]) -> Option<usize>
-    requires { IsTrue (is_number value.now) }
-    ensures { result ≡ (if nat_lt most_body (digits_value 10 value.now) then None else Some (digits_value 10 value.now)) }
+/// The number, if it is at most `most`.
+fn number_within(value: &[u8], most: usize) -> Option<usize>
+    requires number { IsTrue (is_number value.now) }
+    requires counted { most ≤ most_counted }
+    ensures { result ≡ (if nat_lt most (digits_value 10 value.now) then None else Some (digits_value 10 value.now)) }
 {
     let mut number = 0;
     for digit in value {
         number = number * 10 + (*digit - b'0') as usize;
-        if number > MOST_BODY {
+        if number > most {
             return None;
         }
     }

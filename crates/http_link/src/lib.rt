@@ -1,4 +1,6 @@
-//! Messages of HTTP/1.1 on a link: requests read from a source, responses written to a sink (RFC 9112).
+//! Messages of HTTP/1.1 on a link, of a server and of a client: read from a source, written to a sink (RFC 9112).
+//!
+//! [`Carried`] reads ahead of a link and is a link itself, so that reading byte by byte costs little.
 //!
 //! [`read_request`] takes one request and not a byte more. It says what its bytes were: a head that is accepted with a
 //! body of its length, a head that is refused with the first refusal in the order of the checks, or a cut. A head has
@@ -8,24 +10,38 @@
 //! So where no read fails and there is memory, the bytes alone decide what [`read_request`] answers. Where a read fails
 //! or there is no memory, it has taken a first part of that request, or all of it, and not a byte more.
 //!
-//! [`write_answer`] and [`write_refusal`] write a response whole, or a first part of it where a write fails. They take
-//! no memory.
+//! [`write_answer`], [`write_fault_answer`] and [`write_refusal`] write a response whole, or a first part of it where a
+//! write fails, and [`write_request`] a client's request. They take no memory.
+//!
+//! [`read_response`] takes what a client reads of the bytes that come, and not a byte more: a head, and a body with 200 and
+//! 500. It keeps those bytes, and says which response they are, exactly where they are one. The bytes that come decide
+//! which of them are read; what is written here is read back.
 #![tactic(auto)]
 
+mod carried;
 mod checks;
 mod laws;
+mod outgoing;
 mod refusal;
+mod replies;
 mod requests;
 mod responses;
 mod scan;
 
+pub use carried::{Carried, Carry};
+pub use checks::Accepted;
 pub use laws::{
-    begun_request_is_not_whole, cut_input_holds_no_request, ended_input_holds_no_request,
-    one_head_comes_first, one_request_comes_first, part_is_of_the_first_request,
+    answers_are_read_back, begun_request_is_not_whole, bytes_are_one_reply,
+    cut_input_holds_no_request, ended_input_holds_no_request, one_head_comes_first,
+    one_reply_comes_first, one_request_comes_first, part_is_of_the_first_reply,
+    part_is_of_the_first_request, refusals_are_read_back, requests_are_read_back,
+    what_came_is_a_part,
 };
+pub use outgoing::write_request;
 pub use refusal::Refusal;
-pub use requests::{Incoming, LinkFault, read_request};
-pub use responses::{write_answer, write_refusal};
+pub use replies::{Came, Response, read_response};
+pub use requests::{Incoming, LinkFault, Request, read_request};
+pub use responses::{write_answer, write_fault_answer, write_refusal};
 
 #[cfg(test)]
 mod tests;

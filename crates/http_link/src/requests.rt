@@ -7,16 +7,24 @@ ghost use Rattle.http_link.specs.Lines.{IsWholeHead};
 ghost use Rattle.http_link.specs.Requests.{Answers, AnswersHead, AnswersBody, AddsPiece, LosesPiece, CountsFault, TakesByte};
 
 use crate::Refusal;
-use crate::checks::{MOST_FIELDS, head_outcome};
+use crate::checks::{Accepted, MOST_FIELDS, head_outcome};
 use crate::scan::OpenHead;
 use os_io::{Failed, Source, Text};
 use std::alloc::Global;
 
+/// A request whose head was accepted.
+#[derive(Drop)]
+pub struct Request {
+    /// Whether the connection is to close behind it.
+    pub close: bool,
+    pub body: Text,
+}
+
 /// What came on a source.
 #[derive(Drop)]
 pub enum Incoming {
-    /// A request with this body.
-    Body(Text),
+    /// A whole request.
+    Whole(Request),
     /// A head that is refused. Its body, if it has one, is still to come.
     Refused(Refusal),
     /// The input ended inside a request that nothing refused before.
@@ -34,8 +42,8 @@ pub enum LinkFault {
     Memory,
 }
 
-/// The length of the body, or the refusal, of a head.
-fn judge(head: &[u8], lines: usize) -> Result<usize, Refusal>
+/// What a head says, or its refusal.
+fn judge(head: &[u8], lines: usize) -> Result<Accepted, Refusal>
     requires whole { IsWholeHead head.now lines }
     requires fits { length head.now ≤ most_head }
     ensures { Head head.now result }
@@ -49,17 +57,26 @@ fn judge(head: &[u8], lines: usize) -> Result<usize, Refusal>
 /// The most bytes of a head.
 const MOST_HEAD: usize = 16_384;
 
-/// How the reading of a head ended.
+/// How the reading of a head ended, with the bytes that were read.
 #[derive(Drop)]
-enum HeadRead {
+pub(crate) enum HeadRead {
     /// The head is whole, with so many lines between its request line and its empty one.
     Whole(Text, usize),
     /// It has more bytes than a head may have.
-    TooLarge,
+    TooLarge(Text),
     /// The input ended inside it.
-    Cut,
+    Cut(Text),
     /// The input ended before it.
-    Ended,
+    Ended(Text),
+}
+
+/// How the reading of a body ended, with the bytes that were read.
+#[derive(Drop)]
+pub(crate) enum BodyRead {
+    /// It has its length.
+    Whole(Text),
+    /// The input ended inside it.
+    Cut(Text),
 }
 
 /// The most bytes that one read of a body asks for.
@@ -85,7 +102,7 @@ fn read_byte<S: Source>(source: &mut S) -> Result<Option<u8>, Failed>
 }
 
 /// Reads a head, and nothing past it.
-fn read_head<S: Source>(alloc: Global, source: &mut S) -> Result<HeadRead, LinkFault>
+pub(crate) fn read_head<S: Source>(alloc: Global, source: &mut S) -> Result<HeadRead, LinkFault>
     ensures answer { AnswersHead result (S.tells source.old).left (S.tells source.new).left }
     ensures counted { CountsFault result (S.tells source.old).read_faults (S.tells source.new).read_faults }
     ensures output { SameOutput (S.tells source.old) (S.tells source.new) }
@@ -97,9 +114,9 @@ fn read_head<S: Source>(alloc: Global, source: &mut S) -> Result<HeadRead, LinkF
         };
         let Some(byte) = got else {
             if head.is_blank() {
-                return Ok(HeadRead::Ended);
+                return Ok(HeadRead::Ended(head.text));
             }
-            return Ok(HeadRead::Cut);
+            return Ok(HeadRead::Cut(head.text));
         };
         match head.push(byte) {
             Ok(None) => {}
@@ -107,7 +124,7 @@ fn read_head<S: Source>(alloc: Global, source: &mut S) -> Result<HeadRead, LinkF
             Err(_) => return Err(LinkFault::Memory),
         }
     }
-    Ok(HeadRead::TooLarge)
+    Ok(HeadRead::TooLarge(head.text))
 }
 
 /// Reads some bytes to the end of a body, and no more than `most`. 0 is the end of the input.
@@ -130,12 +147,12 @@ fn read_piece<S: Source>(source: &mut S, body: &mut Text, most: usize) -> Result
     }
 }
 
-/// Reads a body of this length, and nothing past it. `None` says that the input ended inside it.
-fn read_body<S: Source>(
+/// Reads a body of this length, and nothing past it.
+pub(crate) fn read_body<S: Source>(
     alloc: Global,
     source: &mut S,
     len: usize,
-) -> Result<Option<Text>, LinkFault>
+) -> Result<BodyRead, LinkFault>
     ensures answer { AnswersBody len result (S.tells source.old).left (S.tells source.new).left }
     ensures counted { CountsFault result (S.tells source.old).read_faults (S.tells source.new).read_faults }
     ensures output { SameOutput (S.tells source.old) (S.tells source.new) }
@@ -146,13 +163,13 @@ fn read_body<S: Source>(
         match read_piece(source, &mut body, most) {
             Ok(count) => {
                 if count == 0 {
-                    return Ok(None);
+                    return Ok(BodyRead::Cut(body));
                 }
             }
             Err(fault) => return Err(fault),
         }
     }
-    Ok(Some(body))
+    Ok(BodyRead::Whole(body))
 }
 
 /// Reads a request, and nothing past it. Of a refused head, its body is still to come.
@@ -166,16 +183,19 @@ pub fn read_request<S: Source>(alloc: Global, source: &mut S) -> Result<Incoming
 {
     match read_head(alloc, source) {
         Ok(HeadRead::Whole(head, lines)) => match judge(head.as_slice(), lines) {
-            Ok(len) => match read_body(alloc, source, len) {
-                Ok(Some(body)) => Ok(Incoming::Body(body)),
-                Ok(None) => Ok(Incoming::Cut),
+            Ok(said) => match read_body(alloc, source, said.len) {
+                Ok(BodyRead::Whole(body)) => Ok(Incoming::Whole(Request {
+                    close: said.close,
+                    body,
+                })),
+                Ok(BodyRead::Cut(_)) => Ok(Incoming::Cut),
                 Err(fault) => Err(fault),
             },
             Err(refusal) => Ok(Incoming::Refused(refusal)),
         },
-        Ok(HeadRead::TooLarge) => Ok(Incoming::Refused(Refusal::HeadTooLarge)),
-        Ok(HeadRead::Cut) => Ok(Incoming::Cut),
-        Ok(HeadRead::Ended) => Ok(Incoming::Ended),
+        Ok(HeadRead::TooLarge(_)) => Ok(Incoming::Refused(Refusal::HeadTooLarge)),
+        Ok(HeadRead::Cut(_)) => Ok(Incoming::Cut),
+        Ok(HeadRead::Ended(_)) => Ok(Incoming::Ended),
         Err(fault) => Err(fault),
     }
 }

@@ -1,7 +1,7 @@
 //! Responses on a sink.
 ghost use Rattle.std.specs.Prelude.{◌≡◌};
 ghost use Rattle.os_io.specs.Streams.{Writes};
-ghost use Rattle.http_link.specs.Responses.{answer_text, refusal_text};
+ghost use Rattle.http_link.specs.Responses.{behind, answer_text, fault_answer_text, refusal_text};
 
 use crate::Refusal;
 use itoa::Buffer;
@@ -11,11 +11,33 @@ use os_io::{Failed, Sink, write_all};
 pub fn write_answer<S: Sink>(sink: &mut S, body: &[u8]) -> Result<(), Failed>
     ensures { Writes result (answer_text body.now) (S.tells sink.old) (S.tells sink.new) }
 {
-    let mut digits = Buffer::new();
     let front = b"HTTP/1.1 200 OK\r\nContent-Type: text/xml; charset=utf-8\r\nContent-Length: ";
+    write_behind(sink, front, b"\r\n\r\n", body)
+}
+
+/// Writes a fault of a call with this body: `500 Internal Server Error`, as XML (SOAP 1.1, section 6.2). Takes no memory, and
+/// doesn't flush.
+pub fn write_fault_answer<S: Sink>(sink: &mut S, body: &[u8]) -> Result<(), Failed>
+    ensures { Writes result (fault_answer_text body.now) (S.tells sink.old) (S.tells sink.new) }
+{
+    let front =
+        b"HTTP/1.1 500 Internal Server Error\r\nContent-Type: text/xml; charset=utf-8\r\nContent-Length: ";
+    write_behind(sink, front, b"\r\n\r\n", body)
+}
+
+/// Writes what stands before a body's length, the length, what stands behind it and the body.
+pub(crate) fn write_behind<S: Sink>(
+    sink: &mut S,
+    front: &[u8],
+    gap: &[u8],
+    body: &[u8],
+) -> Result<(), Failed>
+    ensures { Writes result (behind front.now gap.now body.now) (S.tells sink.old) (S.tells sink.new) }
+{
+    let mut digits = Buffer::new();
     write_all(sink, front)?;
     write_all(sink, digits.format(body.len()).as_bytes())?;
-    write_all(sink, b"\r\n\r\n")?;
+    write_all(sink, gap)?;
     write_all(sink, body)
 }
 

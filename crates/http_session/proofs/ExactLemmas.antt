@@ -1,12 +1,14 @@
 -- What the bytes to come begin with decides how a request of them is served.
-use Rattle.std.proofs.Common.{◌≡◌, ℕ, ◌⊎◌, inl, inr, List, [], ◌++◌, Option, Some, None, Result, Err, refl, sym, ap, ◌∙◌, subst, append-nil}
+use Rattle.std.proofs.Common.{◌≡◌, ℕ, Bool, ◌⊎◌, inl, inr, List, [], ◌++◌, Option, Some, None, Result, Err, refl, sym, ap, ◌∙◌, subst, append-nil}
 use Rattle.std.specs.Prelude.{⊤, ◌↔◌}
 use Rattle.os_io.specs.Streams.{Told, Appends}
 use Rattle.http_link.specs.declared.refusal.Refusal.{Refusal}
+use Rattle.http_link.specs.declared.checks.Accepted.{Accepted}
 use Rattle.http_link.specs.Checks.{Head}
 use Rattle.http_link.specs.Requests.{IsRequest, IsBegun, IsRequestPart, IsCut, EndedBetween, BeginsWithRequest, BeginsRefused}
 use Rattle.http_link.specs.Responses.{refusal_text}
-use Rattle.http_link.proofs.OnceLemmas.{head_once, request_once, request_not_refused, begun_no_request, begun_not_refused, ended_begun, begun_part, part_of_request, part_of_refused, append_cancel}
+use Rattle.http_link.proofs.ExtentLemmas.{append_cancel}
+use Rattle.http_link.proofs.OnceLemmas.{head_once, request_once, request_not_refused, begun_no_request, begun_not_refused, ended_begun, begun_part, part_of_request, part_of_refused}
 use Rattle.http_session.specs.declared.session.Served.{Served}
 use Rattle.http_session.specs.declared.session.Served.TheVariants.{Answered, Ended, CutShort, ReadFault, WriteFault, Memory}
 use Rattle.http_session.specs.Session.{BodyAnswers, IsResponse, IsAnyResponse, Serves, ServesOne, EndsInput, WritesDue, no_memory_text, HasNoFault, MayRespond, DoesDue, Leaves, response_text, HasOneAnswer}
@@ -32,12 +34,12 @@ responded : (answers : BodyAnswers) (before taken after response : List ℕ) →
     → before ≡ taken ++ after → BeginsWithRequest before ⊎ BeginsRefused before
 responded answers before taken after response (inl (refusal, refused, is)) e =
     inr (taken, refusal, after, refused, e)
-responded answers before taken after response (inr (body, answer, request, may, is)) e =
-    inl (taken, body, after, request, e)
+responded answers before taken after response (inr (close, body, answer, request, may, is)) e =
+    inl (taken, close, body, after, request, e)
 
 -- bytes that have begun alone begin with neither
 never_begun : (before : List ℕ) → IsBegun before → BeginsWithRequest before ⊎ BeginsRefused before → ⊥
-never_begun before begun (inl (a, body, rest, request, e)) = begun_no_request before a rest body begun request e
+never_begun before begun (inl (a, close, body, rest, request, e)) = begun_no_request before a rest body close begun request e
 never_begun before begun (inr (a, refusal, rest, refused, e)) = begun_not_refused before a rest refusal begun refused e
 
 no_response : (answers : BodyAnswers) (before taken after response : List ℕ) → IsBegun before
@@ -83,18 +85,18 @@ ended_due answers Memory before after out (taken, lacks, e, end) ended = lacks.0
 
 -- ---- with a request, or a head that is refused
 
-request_response : (answers : BodyAnswers) (request body rest taken after response : List ℕ) → IsRequest request body
+request_response : (answers : BodyAnswers) (request body rest taken after response : List ℕ) (close : Bool) → IsRequest request close body
     → IsResponse answers taken response → request ++ rest ≡ taken ++ after
     → MayRespond answers body response × (after ≡ rest)
-request_response answers request body rest taken after response here (inl (refusal, refused, is)) e =
-    absurd (request_not_refused request taken rest after body refusal here refused e)
-request_response answers request body rest taken after response here (inr (other, answer, there, may, is)) e =
-    let same = request_once request taken rest after body other here there e in (
+request_response answers request body rest taken after response close here (inl (refusal, refused, is)) e =
+    absurd (request_not_refused request taken rest after body close refusal here refused e)
+request_response answers request body rest taken after response close here (inr (shut, other, answer, there, may, is)) e =
+    let same = request_once request taken rest after body other close shut here there e in (
       (answer, subst (λ (b : List ℕ). answers b answer) (sym same.1) may, is),
       sym (append_cancel request rest after (e ∙ ap (λ t. t ++ after) (sym same.0))),
     )
 
-same_refusal : (a b : Refusal) → ◌≡◌ {A = Result ℕ Refusal} (Err a) (Err b) → a ≡ b
+same_refusal : (a b : Refusal) → ◌≡◌ {A = Result Accepted Refusal} (Err a) (Err b) → a ≡ b
 same_refusal a b e = cc
 
 refused_response : (answers : BodyAnswers) (head rest taken after response : List ℕ) (refusal : Refusal)
@@ -102,16 +104,16 @@ refused_response : (answers : BodyAnswers) (head rest taken after response : Lis
     → response ≡ refusal_text refusal
 refused_response answers head rest taken after response refusal here (inl (other, refused, is)) e =
     is ∙ ap refusal_text (sym (same_refusal refusal other (head_once head taken rest after (Err refusal) (Err other) here refused e).1))
-refused_response answers head rest taken after response refusal here (inr (body, answer, there, may, is)) e =
-    absurd (request_not_refused taken head after rest body refusal there here (sym e))
+refused_response answers head rest taken after response refusal here (inr (close, body, answer, there, may, is)) e =
+    absurd (request_not_refused taken head after rest body close refusal there here (sym e))
 
 -- a request has one response where a body has one answer, and so has a refused head
 pub one_response : (answers : BodyAnswers) → HasOneAnswer answers
     → (bytes r s : List ℕ) → IsResponse answers bytes r → IsResponse answers bytes s → r ≡ s
 one_response answers one bytes r s (inl (refusal, refused, is)) there =
     is ∙ sym (refused_response answers bytes [] bytes [] s refusal refused there refl)
-one_response answers one bytes r s (inr (body, answer, request, gets, is)) there =
-    let (other, gets_too, is_too) = (request_response answers bytes body [] bytes [] s request there refl).0 in
+one_response answers one bytes r s (inr (close, body, answer, request, gets, is)) there =
+    let (other, gets_too, is_too) = (request_response answers bytes body [] bytes [] s close request there refl).0 in
     is ∙ ap response_text (one body answer other gets gets_too) ∙ sym is_too
 
 -- bytes that begin with a request or a refused head haven't only begun
@@ -137,17 +139,17 @@ answer_due answers MayBe WriteFault before after out whole gives (taken, (text, 
     (text, inr lacks.0, part)
 answer_due answers MayBe Memory before after out whole gives (taken, lacks, e, end) = lacks.0
 
-pub request_due : (answers : BodyAnswers) (served : Served) (request body rest after out : List ℕ) → IsRequest request body
+pub request_due : (answers : BodyAnswers) (served : Served) (request body rest after out : List ℕ) (close : Bool) → IsRequest request close body
     → ServesFrom answers served (request ++ rest) after out → DoesDue Answered (MayRespond answers body) served out
-request_due answers served request body rest after out here from =
-    answer_due answers (MayRespond answers body) served (request ++ rest) after out (inl (request, body, rest, here, refl))
-    (λ taken response is e. (request_response answers request body rest taken after response here is e).0) from
+request_due answers served request body rest after out close here from =
+    answer_due answers (MayRespond answers body) served (request ++ rest) after out (inl (request, close, body, rest, here, refl))
+    (λ taken response is e. (request_response answers request body rest taken after response close here is e).0) from
 
-pub request_left : (answers : BodyAnswers) (served : Served) (request body rest after out : List ℕ) → IsRequest request body
+pub request_left : (answers : BodyAnswers) (served : Served) (request body rest after out : List ℕ) (close : Bool) → IsRequest request close body
     → ServesFrom answers served (request ++ rest) after out → served ≡ Answered → after ≡ rest
-request_left answers served request body rest after out here from answered =
+request_left answers served request body rest after out close here from answered =
     let found = subst (λ (s : Served). ServesFrom answers s (request ++ rest) after out) answered from in
-    (request_response answers request body rest found.0 after out here found.1 found.2).1
+    (request_response answers request body rest found.0 after out close here found.1 found.2).1
 
 pub refused_due : (answers : BodyAnswers) (served : Served) (head rest after out : List ℕ) (refusal : Refusal)
     → Head head (Err refusal) → ServesFrom answers served (head ++ rest) after out
@@ -181,18 +183,18 @@ refused_left : (answers : BodyAnswers) (head rest taken after response : List �
 refused_left answers head rest taken after response refusal here (inl (other, refused, is)) e =
     let same = head_once head taken rest after (Err refusal) (Err other) here refused e in
     sym (append_cancel head rest after (e ∙ ap (λ t. t ++ after) (sym same.0)))
-refused_left answers head rest taken after response refusal here (inr (body, answer, there, may, is)) e =
-    absurd (request_not_refused taken head after rest body refusal there here (sym e))
+refused_left answers head rest taken after response refusal here (inr (close, body, answer, there, may, is)) e =
+    absurd (request_not_refused taken head after rest body close refusal there here (sym e))
 
-pub behind_request : (answers : BodyAnswers) (served : Served) (request body rest after out : List ℕ) → IsRequest request body
+pub behind_request : (answers : BodyAnswers) (served : Served) (request body rest after out : List ℕ) (close : Bool) → IsRequest request close body
     → ServesFrom answers served (request ++ rest) after out → IsBehind rest after
-behind_request answers served request body rest after out here from =
-    let (taken, took, e) = taken_part answers served (request ++ rest) after out (inl (request, body, rest, here, refl)) from in
+behind_request answers served request body rest after out close here from =
+    let (taken, took, e) = taken_part answers served (request ++ rest) after out (inl (request, close, body, rest, here, refl)) from in
     elim took [
       | inl part ↦
-          let found = part_of_request taken request after rest body part here (sym e) in
+          let found = part_of_request taken request after rest body close part here (sym e) in
           (found.0, found.2)
-      | inr responds ↦ ([], (request_response answers request body rest taken after responds.0 here responds.1 e).1)
+      | inr responds ↦ ([], (request_response answers request body rest taken after responds.0 close here responds.1 e).1)
     ]
 
 pub behind_refused : (answers : BodyAnswers) (served : Served) (head rest after out : List ℕ) (refusal : Refusal)
@@ -270,17 +272,17 @@ ended_writes answers served before y v w one ended =
     let (after, out, left, from, wrote) = served_from answers served before y v w one in
     (out, ended_due answers served before after out from ended, wrote)
 
-pub request_writes : (answers : BodyAnswers) (served : Served) (request body rest : List ℕ) (y v w : Left) → IsRequest request body
+pub request_writes : (answers : BodyAnswers) (served : Served) (request body rest : List ℕ) (close : Bool) (y v w : Left) → IsRequest request close body
     → ServesOne answers served (Some (request ++ rest)) y v w → WritesDue Answered (MayRespond answers body) served v w
-request_writes answers served request body rest y v w here one =
+request_writes answers served request body rest close y v w here one =
     let (after, out, left, from, wrote) = served_from answers served (request ++ rest) y v w one in
-    (out, request_due answers served request body rest after out here from, wrote)
+    (out, request_due answers served request body rest after out close here from, wrote)
 
-pub request_leaves : (answers : BodyAnswers) (served : Served) (request body rest : List ℕ) (y v w : Left) → IsRequest request body
+pub request_leaves : (answers : BodyAnswers) (served : Served) (request body rest : List ℕ) (close : Bool) (y v w : Left) → IsRequest request close body
     → ServesOne answers served (Some (request ++ rest)) y v w → served ≡ Answered → y ≡ Some rest
-request_leaves answers served request body rest y v w here one answered =
+request_leaves answers served request body rest close y v w here one answered =
     let (after, out, left, from, wrote) = served_from answers served (request ++ rest) y v w one in
-    left ∙ ap (λ t. Some t) (request_left answers served request body rest after out here from answered)
+    left ∙ ap (λ t. Some t) (request_left answers served request body rest after out close here from answered)
 
 pub refused_writes : (answers : BodyAnswers) (served : Served) (head rest : List ℕ) (refusal : Refusal) (y v w : Left)
     → Head head (Err refusal) → ServesOne answers served (Some (head ++ rest)) y v w
@@ -291,11 +293,11 @@ refused_writes answers served head rest refusal y v w here one =
 
 -- ---- what was left of the bytes to come
 
-pub request_rest : (answers : BodyAnswers) (served : Served) (request body rest : List ℕ) (y v w : Left) → IsRequest request body
+pub request_rest : (answers : BodyAnswers) (served : Served) (request body rest : List ℕ) (close : Bool) (y v w : Left) → IsRequest request close body
     → ServesOne answers served (Some (request ++ rest)) y v w → Leaves rest y
-request_rest answers served request body rest y v w here one =
+request_rest answers served request body rest close y v w here one =
     let (after, out, left, from, wrote) = served_from answers served (request ++ rest) y v w one in
-    let found = behind_request answers served request body rest after out here from in
+    let found = behind_request answers served request body rest after out close here from in
     (found.0, left ∙ ap (λ t. Some t) found.1)
 
 pub refused_rest : (answers : BodyAnswers) (served : Served) (head rest : List ℕ) (refusal : Refusal) (y v w : Left)

@@ -1,11 +1,12 @@
 -- A reply that was sent, and what it serves.
-use Rattle.std.proofs.Common.{◌≡◌, ℕ, inl, inr, List, [], ◌++◌, Option, Some, None, Ok, Err, refl, sym, ap, subst}
+use Rattle.std.proofs.Common.{◌≡◌, ℕ, Bool, inl, inr, List, [], ◌++◌, Option, Some, None, Ok, Err, refl, sym, ap, subst}
 use Rattle.std.specs.Prelude.{⊤}
 use Rattle.os_io.specs.Streams.{Tells, Told, Appends, AppendsPart, Sends}
 use Rattle.os_io.specs.declared.streams.Failed.{Failed}
 use Rattle.http_link.specs.declared.refusal.Refusal.{Refusal}
 use Rattle.http_link.specs.declared.requests.Incoming.{Incoming}
-use Rattle.http_link.specs.declared.requests.Incoming.TheVariants.{Body, Refused}
+use Rattle.http_link.specs.declared.requests.Incoming.TheVariants.{Whole, Refused}
+use Rattle.http_link.specs.declared.requests.Request.{Request}
 use Rattle.http_link.specs.declared.requests.LinkFault.{LinkFault}
 use Rattle.http_link.specs.declared.requests.LinkFault.TheVariants.{Memory as Lost}
 use Rattle.http_link.specs.Requests.{IsRequest, IsRequestPart, Answers}
@@ -95,24 +96,24 @@ sent_serves answers reply served taken x y v w fits took (out, wrote, inr (serve
     (taken, out, (text_of_reply reply, any_response answers taken reply fits, part), took, wrote)
 
 -- the reply to the body is a response to its request
-pub body_fits : (answers : BodyAnswers) (taken body : List ℕ) (reply : Reply) → IsRequest taken body
+pub body_fits : (answers : BodyAnswers) (taken body : List ℕ) (close : Bool) (reply : Reply) → IsRequest taken close body
     → RepliesTo answers body reply → Fits answers taken reply
-body_fits answers taken body (TextReply text) request may = inr (body, Some text, request, may, refl)
-body_fits answers taken body (RefusalReply refusal) request (may, is) = inr (body, None, request, may, ap refusal_text is)
-body_fits answers taken body NoMemory request may = request_part taken body request
+body_fits answers taken body close (TextReply text) request may = inr (close, body, Some text, request, may, refl)
+body_fits answers taken body close (RefusalReply refusal) request (may, is) = inr (close, body, None, request, may, ap refusal_text is)
+body_fits answers taken body close NoMemory request may = request_part taken body close request
 
-answer_served : (answers : BodyAnswers) (body : List ℕ) (reply : Reply) (served : Served) (x y v w : Left)
-    → Answers (Ok (Body body)) x y → RepliesTo answers body reply → WritesReply reply served v w
+answer_served : (answers : BodyAnswers) (r : Request) (reply : Reply) (served : Served) (x y v w : Left)
+    → Answers (Ok (Whole r)) x y → RepliesTo answers r.body reply → WritesReply reply served v w
     → ServesOne answers served x y v w
-answer_served answers body reply served x y v w (taken, request, took) may sent =
-    sent_serves answers reply served taken x y v w (body_fits answers taken body reply request may) took sent
+answer_served answers r reply served x y v w (taken, request, took) may sent =
+    sent_serves answers reply served taken x y v w (body_fits answers taken r.body r.close reply request may) took sent
 
 -- a reply to the body that was read
-pub body_served : (answers : BodyAnswers) (came : Incoming) (body lent : List ℕ) (reply : Reply) (served : Served) (x y v w : Left)
-    → came ≡ Body body → lent ≡ body → Answers (Ok came) x y → RepliesTo answers lent reply → WritesReply reply served v w
+pub body_served : (answers : BodyAnswers) (came : Incoming) (r : Request) (lent : List ℕ) (reply : Reply) (served : Served) (x y v w : Left)
+    → came ≡ Whole r → lent ≡ r.body → Answers (Ok came) x y → RepliesTo answers lent reply → WritesReply reply served v w
     → ServesOne answers served x y v w
-body_served answers came body lent reply served x y v w came_is lent_is read may sent =
-    answer_served answers body reply served x y v w
+body_served answers came r lent reply served x y v w came_is lent_is read may sent =
+    answer_served answers r reply served x y v w
     (subst (λ (i : Incoming). Answers (Ok i) x y) came_is read)
     (subst (λ (b : List ℕ). RepliesTo answers b reply) lent_is may) sent
 

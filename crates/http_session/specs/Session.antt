@@ -1,5 +1,5 @@
 -- What becomes of one request of a session (RFC 9112, sections 2, 6 and 9; RFC 9110, sections 15.5.1 and 15.6.4).
-use Rattle.std.specs.Prelude.{◌≡◌, ℕ, ◌⊎◌, List, [], ◌++◌, Option, None, Some, Err, ⊤}
+use Rattle.std.specs.Prelude.{◌≡◌, ℕ, ◌⊎◌, Bool, List, [], ◌++◌, Option, None, Some, Err, ⊤}
 use Rattle.os_io.specs.Streams.{Tells, Told, Appends, IsPart, Grows, HasRisen, SameInput}
 use Rattle.http_link.specs.declared.refusal.Refusal.{Refusal}
 use Rattle.http_link.specs.declared.refusal.Refusal.TheVariants.{BadRequest, ServiceUnavailable}
@@ -36,7 +36,7 @@ IsRefused bytes response =
 -- the bytes are a request, and the response is the answer to its body
 abbrev pub IsAnsweredRequest : BodyAnswers → List ℕ → List ℕ → Type 0
 IsAnsweredRequest answers bytes response =
-    (body : List ℕ) × (answer : Option (List ℕ)) × IsRequest bytes body × answers body answer
+    (close : Bool) × (body : List ℕ) × (answer : Option (List ℕ)) × IsRequest bytes close body × answers body answer
     × (response ≡ response_text answer)
 
 -- the bytes are one request with this whole response

@@ -1,6 +1,6 @@
 //! Which bytes are served in which way: what the clause `serves` of a request comes to, where the bytes to come are told.
 
-ghost use Rattle.std.specs.Prelude.{◌≡◌, ◌++◌, ◌⊎◌, ◌↔◌, ℕ, List, [], Option, Some, Err};
+ghost use Rattle.std.specs.Prelude.{◌≡◌, ◌++◌, ◌⊎◌, ◌↔◌, ℕ, Bool, List, [], Option, Some, Err};
 ghost use Rattle.http_link.specs.Checks.{Head};
 ghost use Rattle.http_link.specs.Requests.{IsRequest, IsCut, EndedBetween, BeginsWithRequest, BeginsRefused};
 ghost use Rattle.http_link.specs.declared.refusal.Refusal.{Refusal};
@@ -27,14 +27,14 @@ pub fn input_without_request_gets_no_response<S: Service>()
 /// Law: the request that the bytes begin with gets its response, and what follows it is left. A refused head gets its
 /// refusal.
 pub fn first_request_gets_its_response<S: Service>()
-    ensures response { (served : Served) (request body rest : List ℕ) (left written written' : Option (List ℕ)) → IsRequest request body → ServesOne S.answers served (Some (request ++ rest)) left written written' → WritesDue Answered (MayRespond S.answers body) served written written' }
-    ensures left { (served : Served) (request body rest : List ℕ) (left written written' : Option (List ℕ)) → IsRequest request body → ServesOne S.answers served (Some (request ++ rest)) left written written' → served ≡ Answered → left ≡ Some rest }
+    ensures response { (served : Served) (request body rest : List ℕ) (close : Bool) (left written written' : Option (List ℕ)) → IsRequest request close body → ServesOne S.answers served (Some (request ++ rest)) left written written' → WritesDue Answered (MayRespond S.answers body) served written written' }
+    ensures left { (served : Served) (request body rest : List ℕ) (close : Bool) (left written written' : Option (List ℕ)) → IsRequest request close body → ServesOne S.answers served (Some (request ++ rest)) left written written' → served ≡ Answered → left ≡ Some rest }
     ensures refused { (served : Served) (head rest : List ℕ) (refusal : Refusal) (left written written' : Option (List ℕ)) → Head head (Err refusal) → ServesOne S.answers served (Some (head ++ rest)) left written written' → WritesDue Answered (λ text. text ≡ refusal_text refusal) served written written' }
 {}
 
 /// Law: however it is served, no byte past the request, or past the refused head, that the bytes begin with is taken.
 pub fn one_request_is_taken<S: Service>()
-    ensures request { (served : Served) (request body rest : List ℕ) (left written written' : Option (List ℕ)) → IsRequest request body → ServesOne S.answers served (Some (request ++ rest)) left written written' → Leaves rest left }
+    ensures request { (served : Served) (request body rest : List ℕ) (close : Bool) (left written written' : Option (List ℕ)) → IsRequest request close body → ServesOne S.answers served (Some (request ++ rest)) left written written' → Leaves rest left }
     ensures refused { (served : Served) (head rest : List ℕ) (refusal : Refusal) (left written written' : Option (List ℕ)) → Head head (Err refusal) → ServesOne S.answers served (Some (head ++ rest)) left written written' → Leaves rest left }
 {}
 

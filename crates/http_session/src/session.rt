@@ -63,8 +63,8 @@ pub fn serve_one<I: Source, O: Sink, S: Service>(
     ensures input_of_output { SameInput (O.tells output.old) (O.tells output.new) }
 {
     match read_request(alloc, input) {
-        Ok(Incoming::Body(body)) => {
-            let reply = reply_to(alloc, service, body.as_slice());
+        Ok(Incoming::Whole(request)) => {
+            let reply = reply_to(alloc, service, request.body.as_slice());
             finish(output, &reply)
         }
         Ok(Incoming::Refused(refusal)) => finish(output, &Reply::Refused(refusal)),

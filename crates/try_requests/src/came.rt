@@ -23,9 +23,10 @@ fn name_of(refusal: Refusal) -> &'static str {
 fn told(alloc: Global, bytes: &[u8], piece: usize) -> Result<Text, Memory> {
     let mut source = MemSource::new(alloc, bytes, piece, &[])?;
     match read_request(alloc, &mut source) {
-        Ok(Incoming::Body(body)) => {
-            let len = body.len();
-            let text = format!(in alloc; "body {len}")?;
+        Ok(Incoming::Whole(request)) => {
+            let len = request.body.len();
+            let end = if request.close { " close" } else { "" };
+            let text = format!(in alloc; "body {len}{end}")?;
             Text::from_slice(alloc, text.as_str().as_bytes())
         }
         Ok(Incoming::Refused(refusal)) => {

@@ -2,12 +2,11 @@ use Rattle.std.proofs.Common.{◌≡◌, ◌≤◌, drop, true}
 use Rattle.std.specs.List.{list_all}
 use Rattle.std.specs.Char.{is_ascii_digit}
 use Rattle.std.specs.Str.Parse.{digits_value, digits_value_after}
-use Rattle.http_link.specs.Checks.{most_body}
 use Rattle.http_link.proofs.checks.number_within.Given as goal
 
 abbrev pub invariant-loop-digit : goal.invariant-loop-digit
 invariant-loop-digit l = record {
   same : digits_value_after 10 l.number (drop l.digit-index l.value) ≡ digits_value 10 l.value;
   digits : list_all is_ascii_digit (drop l.digit-index l.value) ≡ true;
-  within : l.number ≤ most_body;
+  within : l.number ≤ l.most;
 }

@@ -1,10 +1,10 @@
 use Rattle.http_session.proofs.ServesLemmas.{body_served, memory_served, refusal_served}
 use Rattle.http_session.proofs.session.serve_one.Goals as goal
 
-pub returns-in-Ok-Body-clause-serves : goal.returns-in-Ok-Body-clause-serves
-returns-in-Ok-Body-clause-serves g c =
-    body_served g.S.Service.answers _ c.in-Ok-Body.body _ c.reply_to-reply.result _ _ _ _ _
-    c.in-Ok-Body.field-0-is c.as_slice.ensures c.in-Ok-Body.ensures.answer c.reply_to-reply.ensures
+pub returns-in-Ok-Whole-clause-serves : goal.returns-in-Ok-Whole-clause-serves
+returns-in-Ok-Whole-clause-serves g c =
+    body_served g.S.Service.answers _ c.in-Ok-Whole.request _ c.reply_to-reply.result _ _ _ _ _
+    c.in-Ok-Whole.field-0-is c.as_slice.ensures c.in-Ok-Whole.ensures.answer c.reply_to-reply.ensures
     c.finish.ensures.sent
 
 pub returns-in-Err-Memory-clause-serves : goal.returns-in-Err-Memory-clause-serves

@@ -1,0 +1,78 @@
+use Rattle.std.proofs.Common.{◌≡◌, None, Some, refl, sym, ap, length, ◌∙◌, arith}
+use Rattle.http_link.specs.declared.requests.HeadRead.TheVariants as heads
+use Rattle.http_link.specs.declared.requests.BodyRead.TheVariants.{Whole, Cut}
+use Rattle.http_link.proofs.RequestLemmas.{head_at}
+use Rattle.http_link.proofs.ReplyLemmas.{head_says, large_says, cut_begun, blank_begun, comes_refused, comes_large, comes_cut, comes_blank, comes_whole, comes_short, brings_body_fault, brings_head_fault, brings_joined, reads_of, body_of, fault_of}
+use Rattle.http_link.proofs.ReplyOnceLemmas.{refused_no_reply, begun_no_reply}
+use Rattle.http_link.proofs.replies.read_response.Goals as goal
+
+pub returns-in_default-clause-came : goal.returns-in_default-clause-came
+returns-in_default-clause-came g c =
+    comes_refused c.in-Ok-Whole.head c.in-Ok-Whole.field-0-1 _ _
+    (head_at c.in-Ok-Whole.field-0 (heads.Whole c.in-Ok-Whole.head c.in-Ok-Whole.field-0-1) _ _ c.in-Ok-Whole.field-0-is c.in-Ok-Whole.ensures.answer)
+    (reads_of c.as_slice.result.now c.in-Ok-Whole.head None None c.as_slice.ensures refl c.in_default.ensures)
+
+pub returns-in_default-clause-reply : goal.returns-in_default-clause-reply
+returns-in_default-clause-reply g c =
+    refused_no_reply c.in-Ok-Whole.head
+    (head_says c.in-Ok-Whole.head c.in-Ok-Whole.field-0-1 _ _ None
+    (head_at c.in-Ok-Whole.field-0 (heads.Whole c.in-Ok-Whole.head c.in-Ok-Whole.field-0-1) _ _ c.in-Ok-Whole.field-0-is c.in-Ok-Whole.ensures.answer)
+    (reads_of c.as_slice.result.now c.in-Ok-Whole.head None None c.as_slice.ensures refl c.in_default.ensures))
+
+pub returns-in-Ok-Whole-read_body-clause-came : goal.returns-in-Ok-Whole-read_body-clause-came
+returns-in-Ok-Whole-read_body-clause-came g c =
+    let head = head_at c.in-Ok-Whole.field-0 (heads.Whole c.in-Ok-Whole.head c.in-Ok-Whole.field-0-1) _ _ c.in-Ok-Whole.field-0-is c.in-Ok-Whole.ensures.answer in
+    let body = body_of _ _ c.in-Ok-Whole-read_body.field-0 (Whole c.in-Ok-Whole-read_body.body) _ _ c.most.ensures c.in-Ok-Whole-read_body.field-0-is c.in-Ok-Whole-read_body.ensures.answer in
+    let says = head_says c.in-Ok-Whole.head c.in-Ok-Whole.field-0-1 _ _ (Some c.in-Some.says) head
+    (reads_of c.as_slice.result.now c.in-Ok-Whole.head _ _ c.as_slice.ensures refl c.in-Some.ensures) in
+    brings_joined c.in-Ok-Whole.head c.in-Ok-Whole-read_body.body c.in-Some.says c.join.result _ _ says (omega (arith, body.1.1))
+    (comes_whole c.in-Ok-Whole.head c.in-Ok-Whole.field-0-1 c.in-Ok-Whole-read_body.body c.in-Some.says _ _ _ head says body)
+    c.join.ensures.bytes c.join.ensures.memory
+
+pub returns-in-Ok-Cut-read_body-clause-came : goal.returns-in-Ok-Cut-read_body-clause-came
+returns-in-Ok-Cut-read_body-clause-came g c =
+    let head = head_at c.in-Ok-Whole.field-0 (heads.Whole c.in-Ok-Whole.head c.in-Ok-Whole.field-0-1) _ _ c.in-Ok-Whole.field-0-is c.in-Ok-Whole.ensures.answer in
+    let body = body_of _ _ c.in-Ok-Cut-read_body.field-0 (Cut c.in-Ok-Cut-read_body.body) _ _ c.most.ensures c.in-Ok-Cut-read_body.field-0-is c.in-Ok-Cut-read_body.ensures.answer in
+    let says = head_says c.in-Ok-Whole.head c.in-Ok-Whole.field-0-1 _ _ (Some c.in-Some.says) head
+    (reads_of c.as_slice.result.now c.in-Ok-Whole.head _ _ c.as_slice.ensures refl c.in-Some.ensures) in
+    brings_joined c.in-Ok-Whole.head c.in-Ok-Cut-read_body.body c.in-Some.says c.join-in-Ok-Cut-read_body.result _ _ says (omega (arith, body.1.1))
+    (comes_short c.in-Ok-Whole.head c.in-Ok-Whole.field-0-1 c.in-Ok-Cut-read_body.body c.in-Some.says _ _ _ head says body)
+    c.join-in-Ok-Cut-read_body.ensures.bytes c.join-in-Ok-Cut-read_body.ensures.memory
+
+pub returns-in-Err-read_body-clause-came : goal.returns-in-Err-read_body-clause-came
+returns-in-Err-read_body-clause-came g c =
+    let head = head_at c.in-Ok-Whole.field-0 (heads.Whole c.in-Ok-Whole.head c.in-Ok-Whole.field-0-1) _ _ c.in-Ok-Whole.field-0-is c.in-Ok-Whole.ensures.answer in
+    let says = head_says c.in-Ok-Whole.head c.in-Ok-Whole.field-0-1 _ _ (Some c.in-Some.says) head
+    (reads_of c.as_slice.result.now c.in-Ok-Whole.head _ _ c.as_slice.ensures refl c.in-Some.ensures) in
+    brings_body_fault c.in-Ok-Whole.head c.in-Ok-Whole.field-0-1 c.in-Some.says c.in-Err-read_body.fault _ _ _ head says
+    (fault_of _ _ c.in-Err-read_body.fault _ _ c.most.ensures c.in-Err-read_body.ensures.answer)
+
+pub returns-in-Ok-TooLarge-clause-came : goal.returns-in-Ok-TooLarge-clause-came
+returns-in-Ok-TooLarge-clause-came g c =
+    comes_large c.in-Ok-TooLarge.bytes _ _
+    (head_at c.in-Ok-TooLarge.field-0 (heads.TooLarge c.in-Ok-TooLarge.bytes) _ _ c.in-Ok-TooLarge.field-0-is c.in-Ok-TooLarge.ensures.answer)
+
+pub returns-in-Ok-TooLarge-clause-reply : goal.returns-in-Ok-TooLarge-clause-reply
+returns-in-Ok-TooLarge-clause-reply g c =
+    refused_no_reply c.in-Ok-TooLarge.bytes (large_says c.in-Ok-TooLarge.bytes _ _
+    (head_at c.in-Ok-TooLarge.field-0 (heads.TooLarge c.in-Ok-TooLarge.bytes) _ _ c.in-Ok-TooLarge.field-0-is c.in-Ok-TooLarge.ensures.answer))
+
+pub returns-in-Ok-Cut-clause-came : goal.returns-in-Ok-Cut-clause-came
+returns-in-Ok-Cut-clause-came g c =
+    comes_cut c.in-Ok-Cut.bytes _ _
+    (head_at c.in-Ok-Cut.field-0 (heads.Cut c.in-Ok-Cut.bytes) _ _ c.in-Ok-Cut.field-0-is c.in-Ok-Cut.ensures.answer)
+
+pub returns-in-Ok-Cut-clause-reply : goal.returns-in-Ok-Cut-clause-reply
+returns-in-Ok-Cut-clause-reply g c =
+    begun_no_reply c.in-Ok-Cut.bytes (cut_begun c.in-Ok-Cut.bytes _ _
+    (head_at c.in-Ok-Cut.field-0 (heads.Cut c.in-Ok-Cut.bytes) _ _ c.in-Ok-Cut.field-0-is c.in-Ok-Cut.ensures.answer))
+
+pub returns-in-Ok-Ended-clause-came : goal.returns-in-Ok-Ended-clause-came
+returns-in-Ok-Ended-clause-came g c =
+    comes_blank c.in-Ok-Ended.bytes _ _
+    (head_at c.in-Ok-Ended.field-0 (heads.Ended c.in-Ok-Ended.bytes) _ _ c.in-Ok-Ended.field-0-is c.in-Ok-Ended.ensures.answer)
+
+pub returns-in-Ok-Ended-clause-reply : goal.returns-in-Ok-Ended-clause-reply
+returns-in-Ok-Ended-clause-reply g c =
+    begun_no_reply c.in-Ok-Ended.bytes (blank_begun c.in-Ok-Ended.bytes _ _
+    (head_at c.in-Ok-Ended.field-0 (heads.Ended c.in-Ok-Ended.bytes) _ _ c.in-Ok-Ended.field-0-is c.in-Ok-Ended.ensures.answer))
