@@ -1,0 +1,68 @@
+-- What holds of runs, and of documents that are retrieved, in every history from the empty table on.
+use Rattle.std.specs.Prelude.{◌≡◌, ℕ, Bool, true, false, All, List, ◌∷◌, ◌++◌, Option, Some}
+use Rattle.job_table.specs.declared.job.Job.{Job}
+use Rattle.job_table.specs.declared.calls.Call.{Call}
+use Rattle.job_table.specs.declared.calls.Call.TheVariants as calls
+use Rattle.job_table.specs.declared.calls.Finish as answer
+use Rattle.job_table.specs.declared.calls.Finish.TheVariants as ends
+use Rattle.job_table.specs.declared.calls.Retrieved.TheVariants as shown
+use Rattle.job_table.specs.declared.calls.Reply.{Reply}
+use Rattle.job_table.specs.declared.calls.Reply.TheVariants as reply
+use Rattle.job_table.specs.Jobs.{Register, empty}
+use Rattle.job_table.specs.History.{Entry, entry, Runs, IsGiving, CameRight}
+use Rattle.job_runs.specs.Runs.{IsRun}
+
+-- a finish was kept
+abbrev pub kept_end : answer.Finish → Bool
+kept_end ends.Kept = true
+kept_end (ends.Stale state) = false
+kept_end ends.Other = false
+kept_end ends.Unmarked = false
+
+abbrev pub kept_reply : Reply → Bool
+kept_reply (reply.Issued n) = false
+kept_reply reply.Full = false
+kept_reply reply.Spent = false
+kept_reply (reply.Sent taken) = false
+kept_reply (reply.Gave given) = false
+kept_reply (reply.Marked marked) = false
+kept_reply (reply.Finish end) = kept_end end
+kept_reply (reply.Killing told) = false
+kept_reply (reply.Retrieved job) = false
+kept_reply (reply.Statistics told) = false
+kept_reply reply.Done = false
+
+-- a call that is a finish was kept
+abbrev pub kept_if_finish : Call → Reply → Bool
+kept_if_finish calls.Issue said = true
+kept_if_finish (calls.Send n osil osol) said = true
+kept_if_finish (calls.Enter osil osol) said = true
+kept_if_finish (calls.Claim worker) said = true
+kept_if_finish (calls.Look n) said = true
+kept_if_finish (calls.Finish j asked document) said = kept_reply said
+kept_if_finish (calls.Kill n) said = true
+kept_if_finish (calls.Retrieve n) said = true
+kept_if_finish calls.Knock said = true
+kept_if_finish calls.Enlist said = true
+kept_if_finish calls.Leave said = true
+
+abbrev pub IsKept : Entry → Type 0
+IsKept e = kept_if_finish e.call e.reply ≡ true
+
+-- every finish among these calls was kept
+abbrev pub AreKept : List Entry → Type 0
+AreKept entries = All IsKept entries
+
+-- the finish of a run that follows the claim or the enter that gave the job is kept
+abbrev pub RunsAreKept : (List ℕ → List ℕ → List Bool → Option (List ℕ) → Type 0) → (List ℕ → List ℕ → Bool → Option (List ℕ) → Type 0) → Type 0
+RunsAreKept made right =
+    (j : Job) (call : Call) (before run : List Entry) (now : Register) → IsGiving call → IsRun made j run
+    → Runs right empty (before ++ entry call (reply.Gave (Some j)) ∷ run) now → AreKept run
+
+module _ (right : List ℕ → List ℕ → Bool → Option (List ℕ) → Type 0) where
+  -- a document that is retrieved came before with a finish that was kept: it is right for the texts brought under its number
+  abbrev pub DocumentsComeRight : Type 0
+  DocumentsComeRight =
+      (n : ℕ) (document : Option (List ℕ)) (before after : List Entry) (now : Register)
+      → Runs right empty (before ++ entry (calls.Retrieve n) (reply.Retrieved (shown.Finished document)) ∷ after) now
+      → CameRight right n document before

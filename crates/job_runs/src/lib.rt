@@ -1,0 +1,23 @@
+//! Runs of jobs of the table, whoever makes the calls and whatever runs a job.
+//!
+//! [`work_one`] claims a job that waits, runs it and finishes it; [`solve`] enters one, runs it, finishes it and retrieves it.
+//! Either says of the calls that it made that they are these and no others: between the call that gave the job and its finish
+//! stand the looks of its run alone, the document is right for the job's texts, and the finish says that the job was asked to
+//! stop exactly where the last of these looks did.
+//!
+//! What runs a job is a [`Runner`], which looks at a watch of the caller's and makes no call itself. What makes the calls is
+//! anyone who may (`job_table::Calls`).
+//!
+//! Two laws hold of every history: [`finishes_are_kept`] and [`documents_come_right`].
+#![tactic(auto)]
+
+mod laws;
+mod replies;
+mod runner;
+mod solving;
+mod work;
+
+pub use laws::{documents_come_right, finishes_are_kept};
+pub use runner::Runner;
+pub use solving::solve;
+pub use work::{run_given, work_one};

@@ -1,0 +1,70 @@
+//! A job that was given is run and finished.
+ghost use Rattle.std.specs.Prelude.{◌≡◌, ◌<◌, ◌-◌, ◌^◌, List, Bool, [], ◌∷◌, IsTrue, ◌↔◌, Some, None, IsSome, Option};
+ghost use Rattle.job_table.specs.History.{Entry, entry};
+ghost use Rattle.job_table.specs.Watching.{looks};
+ghost use Rattle.job_runs.specs.Runs.{AreLooks, IsRun, Works};
+
+use crate::replies::{claim, finish};
+use crate::runner::Runner;
+use job_table::{Calls, CallsWatch, Job, SharedText, Verdicts};
+use std::alloc::Global;
+use std::marker::PhantomData;
+
+/// Runs a job that was given, with looks at whether it is asked to stop.
+fn run_watched<V: Verdicts, C: Calls<V>, R: Runner<V>>(
+    alloc: Global,
+    calls: &mut C,
+    runner: &R,
+    job: &Job,
+) -> (Option<SharedText>, bool)
+    ensures ran { (answers : List Bool) × C.did calls.old calls.new (looks job.now.number answers) × AreLooks result.1 answers × R.ran job.now.osil job.now.osol answers result.0 }
+    ensures right { V.right job.now.osil job.now.osol result.1 result.0 }
+{
+    let mut watch = CallsWatch {
+        calls,
+        number: job.number,
+        stops: 0,
+        verdicts: PhantomData,
+    };
+    let document = runner.run(alloc, job.osil.as_slice(), job.osol.as_slice(), &mut watch);
+    let asked = watch.stops > 0;
+    let CallsWatch {
+        calls: _calls,
+        number: _,
+        stops: _,
+        verdicts: _,
+    } = watch;
+    (document, asked)
+}
+
+/// Runs a job that a claim or an enter gave, and finishes it.
+pub fn run_given<V: Verdicts, C: Calls<V>, R: Runner<V>>(
+    alloc: Global,
+    calls: &mut C,
+    runner: &R,
+    job: Job,
+)
+    ensures { (run : List Entry) × C.did calls.old calls.new run × IsRun R.ran job run }
+{
+    let (document, asked) = run_watched(alloc, calls, runner, &job);
+    finish(calls, job, asked, document);
+}
+
+/// Claims a job that waits, runs it and finishes it. False exactly where the claim gave none. It takes no memory but what a run
+/// takes.
+pub fn work_one<V: Verdicts, C: Calls<V>, R: Runner<V>>(
+    alloc: Global,
+    calls: &mut C,
+    runner: &R,
+    worker: bool,
+) -> bool
+    ensures { (given : Option Job) × (entries : List Entry) × C.did calls.old calls.new entries × Works R.ran worker given entries × (IsTrue result ↔ IsSome given) }
+{
+    match claim(calls, worker) {
+        Some(job) => {
+            run_given(alloc, calls, runner, job);
+            true
+        }
+        None => false,
+    }
+}
