@@ -1,0 +1,191 @@
+//! The desk.
+
+ghost use Rattle.std.specs.Prelude.{◌≡◌, [], ◌∷◌, true, None, Some, IfOk, OnErr};
+ghost use Rattle.job_table.specs.Steps.{May, fits, wants_memory};
+ghost use Rattle.desk.specs.declared.view.Turn.TheVariants.{Idle, Waiting};
+ghost use Rattle.desk.specs.History.{IsLegal};
+ghost use Rattle.desk.specs.Rule.{first_view, with_turn, one_more, newcomer, out_of};
+ghost use Rattle.desk.specs.Asks.{desk_id, IsSeatOf, Adds, Waits, Lacks, HasTurn, IsServed, Answers, Meets, Closes};
+
+use crate::held::{Held, Said};
+use crate::plays::{Draw, Look, OneMore, PassOn, Settle, Skip};
+use crate::shape::{Desk, Locked, Seat};
+use job_table::{Call, Reply, Table, Verdicts};
+use os_io::Memory;
+use std::alloc::{AllocError, Global};
+use std::snapshot::Snapshot;
+use std::sync::Wait;
+
+/// The word of the next number to be drawn.
+const TICKET: usize = 0;
+
+/// The word of the number that is served.
+const SERVING: usize = 1;
+
+/// The slot of the table.
+const SLOT: usize = 0;
+
+impl<J: Verdicts> Desk<J> {
+    /// A desk on the empty table, and its first seat.
+    pub fn new(alloc: Global) -> Result<(Desk<J>, Seat<J>), Memory>
+        ensures { IfOk result (λ d. IsSeatOf (desk_id d.0) d.1 × (d.1.me.0 ≡ first_view)) }
+    {
+        let mut slots = Vec::new(alloc);
+        let held = Held {
+            table: Table::new(alloc),
+            said: None,
+        };
+        slots.push(Some(held))?;
+        match atomic_table::Table::new(alloc, &[0, 0], slots, &()) {
+            Ok((table, seat)) => Ok((Locked { table }, seat)),
+            Err(_) => Err(AllocError),
+        }
+    }
+
+    /// Makes a call of the table, in the seat's turn. The reply is the table's after all that the seat has then seen. Without
+    /// memory no call was made, and what the table held after all that the seat has then seen is such that this call wants some.
+    pub fn ask<R: Wait>(&self, rt: &R, me: &mut Seat<J>, call: Call) -> Result<Reply, Memory>
+        requires seat { IsSeatOf (desk_id self.now) me.old }
+        requires call { May J.right call }
+        ensures seat { IsSeatOf (desk_id self.now) me.new }
+        ensures fits { IfOk result (λ reply. fits call reply ≡ true) }
+        ensures ok { IfOk result (λ reply. Adds J.right me.old.me.0 call reply me.new.me.0) }
+        ensures sure { OnErr result (Lacks J.right call me.new.me.0.seen) }
+        ensures err { OnErr result (Waits me.old.me.0 me.new.me.0) }
+    {
+        let number = self.draw(rt, me);
+        let held = self.take(rt, me, number);
+        self.answer(me, number, held, call)
+    }
+
+    /// A further seat, which has seen as much as the first one. Only the first seat splits off others.
+    pub fn split(&self, me: &mut Seat<J>) -> Seat<J>
+        requires seat { IsSeatOf (desk_id self.now) me.old }
+        requires first { me.old.me.0.number ≡ 0 }
+        ensures seat { IsSeatOf (desk_id self.now) me.new × (me.new.me.0 ≡ one_more me.old.me.0) }
+        ensures new { IsSeatOf (desk_id self.now) result × (result.me.0 ≡ newcomer me.old.me.0) }
+        ensures legal { IsLegal J.right result.me.0.seen }
+    {
+        let mut other = self.table.shared.split_seat::<OneMore>(me);
+        self.table.shared.load::<Settle<J>>(&mut other, SERVING);
+        other
+    }
+
+    /// Takes in a seat that was split off. The first one then knows its number and its calls.
+    pub fn meet(&self, me: &mut Seat<J>, other: Seat<J>)
+        requires seat { IsSeatOf (desk_id self.now) me.old }
+        requires first { me.old.me.0.number ≡ 0 }
+        requires other { IsSeatOf (desk_id self.now) other }
+        ensures seat { IsSeatOf (desk_id self.now) me.new }
+        ensures met { Meets me.old.me.0 other.me.0 me.new.me.0 }
+        ensures legal { IsLegal J.right me.new.me.0.seen }
+    {
+        self.table.shared.join_seat::<OneMore>(me, other);
+        self.table.shared.load::<Settle<J>>(me, SERVING);
+    }
+
+    /// The table after the whole history, where no seat is out that the first one split off.
+    pub fn close(self, me: Seat<J>) -> Table<J>
+        requires seat { IsSeatOf (desk_id self) me }
+        requires first { me.me.0.number ≡ 0 }
+        requires alone { out_of me.me.0 ≡ 0 }
+        ensures { Closes J.right me.me.0 result }
+    {
+        let Locked { table } = self;
+        let mut closed = table.close_with(me);
+        let slot = closed.take(SLOT);
+        closed.free();
+        let Some(Held { table, said: _ }) = slot else {
+            unreachable!()
+        };
+        table
+    }
+
+    /// Draws a number. Where all were given, it waits forever.
+    fn draw<R: Wait>(&self, rt: &R, me: &mut Seat<J>) -> u64
+        requires { IsSeatOf (desk_id self.now) me.old }
+        ensures { (me.new.table_id ≡ me.old.table_id) × (me.new.me ≡ (with_turn (Waiting result) me.old.me.0, [])) }
+    {
+        let mut guess = 0;
+        for _ in rt.forever() {
+            if guess < u64::MAX {
+                let found = self
+                    .table
+                    .shared
+                    .compare_exchange::<Draw>(me, TICKET, guess, guess + 1);
+                if found == guess {
+                    return guess;
+                }
+                guess = found;
+            }
+        }
+        unreachable!()
+    }
+
+    /// Waits until the number is served, and takes the table.
+    fn take<R: Wait>(&self, rt: &R, me: &mut Seat<J>, number: u64) -> Held<J>
+        requires seat { (me.old.table_id ≡ (desk_id self.now)) × (me.old.me.1 ≡ []) }
+        requires waits { (me.old.me.0.turn ≡ Waiting number) × (me.old.me.0.live ≡ true) }
+        ensures { (me.new.table_id ≡ me.old.table_id) × HasTurn J.right number me.old.me.0 me.new.me result }
+    {
+        for _ in rt.forever() {
+            if self.table.shared.load::<Look<J>>(me, SERVING) == number {
+                let Some(held) = self.table.shared.exchange(me, SLOT, None) else {
+                    unreachable!()
+                };
+                return held;
+            }
+        }
+        unreachable!()
+    }
+
+    /// Asks the table, gives it back, and serves the next number.
+    fn answer(
+        &self,
+        me: &mut Seat<J>,
+        number: u64,
+        held: Held<J>,
+        call: Call,
+    ) -> Result<Reply, Memory>
+        requires seat { me.old.table_id ≡ (desk_id self.now) }
+        requires turn { IsServed J.right number me.old.me held }
+        requires call { May J.right call }
+        ensures seat { me.new.table_id ≡ me.old.table_id }
+        ensures fits { IfOk result (λ reply. fits call reply ≡ true) }
+        ensures ok { IfOk result (λ reply. Answers J.right call reply me.old.me me.new.me) }
+        ensures sure { OnErr result (wants_memory call held.table ≡ true) }
+        ensures err { OnErr result (me.new.me ≡ (with_turn Idle me.old.me.0, [])) }
+    {
+        let Held { mut table, said: _ } = held;
+        let asked = Snapshot::of(&call);
+        let Ok(reply) = table.step(call) else {
+            self.give(me, Held { table, said: None });
+            self.table.shared.fetch_add::<Skip>(me, SERVING, 1);
+            return Err(AllocError);
+        };
+        let said = Said {
+            call: asked,
+            reply: Snapshot::of(&reply),
+        };
+        self.give(
+            me,
+            Held {
+                table,
+                said: Some(said),
+            },
+        );
+        self.table.shared.fetch_add::<PassOn>(me, SERVING, 1);
+        Ok(reply)
+    }
+
+    /// Puts the table into the slot that the seat has.
+    fn give(&self, me: &mut Seat<J>, held: Held<J>)
+        requires { (me.old.table_id ≡ (desk_id self.now)) × (me.old.me.1 ≡ (0, None) ∷ []) }
+        ensures { (me.new.table_id ≡ me.old.table_id) × (me.new.me ≡ (me.old.me.0, (0, Some held) ∷ [])) }
+    {
+        match self.table.shared.exchange(me, SLOT, Some(held)) {
+            None => {}
+            Some(_) => unreachable!(),
+        }
+    }
+}
