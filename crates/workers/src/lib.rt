@@ -1,0 +1,19 @@
+//! Workers: who runs the jobs of a desk's table beside its other callers.
+//!
+//! [`work_one`] claims one job that waits, runs it and finishes it, by calls of one seat; [`work_loop`] does so until there is
+//! nothing to wait for. Each says of the seat's calls that they are these and no others (`job_runs::Works`, [`WorksThrough`]).
+//! A worker sleeps between jobs: [`wake_pair`] makes the two ends of a channel of empty tokens, [`Wake`] rings and [`Naps`]
+//! waits. A token tells nothing; that it comes, and when, is said by no contract.
+//!
+//! [`DeskWatch`] is what a run looks at: it asks the desk whether its job is to stop, and a [`Gate`] is passed before each look.
+#![tactic(auto)]
+
+mod gate;
+#[cfg(test)]
+mod tests;
+mod wake;
+mod work;
+
+pub use gate::{DeskWatch, Gate, Gated, OpenGate};
+pub use wake::{Naps, Wake, wake_pair};
+pub use work::{work_loop, work_one};

@@ -1,0 +1,155 @@
+//! Jobs are claimed, run and finished.
+
+ghost use Rattle.std.specs.Prelude.{◌≡◌, List, [], ◌∷◌, IsTrue, ◌↔◌, IsSome, Option};
+ghost use Rattle.job_table.specs.declared.job.Job.{Job};
+ghost use Rattle.job_table.specs.History.{Entry, entry};
+ghost use Rattle.job_runs.specs.Runs.{Works};
+ghost use Rattle.desk.specs.Asks.{desk_id, IsSeatOf};
+ghost use Rattle.desk.specs.Asked.{Asked};
+ghost use Rattle.workers.specs.Shifts.{IsTurnout, Rests, WorksThrough};
+ghost use Rattle.workers.specs.Gates.{numbered};
+
+use crate::gate::{Gate, Gated};
+use crate::wake::Naps;
+use desk::{Caller, Desk, Seat};
+use job_runs::Runner;
+use job_table::{Call, Calls, Reply, Verdicts};
+use std::alloc::Global;
+use std::marker::PhantomData;
+use std::sync::Wait;
+
+/// Claims one job that waits, runs it and finishes it, by calls of this seat. False exactly where the claim gave none.
+pub fn work_one<J: Verdicts, R: Wait, U: Runner<J>, G: Gate>(
+    rt: &R,
+    alloc: Global,
+    desk: &Desk<J>,
+    seat: &mut Seat<J>,
+    runner: &U,
+    as_worker: bool,
+    gate: &mut G,
+) -> bool
+    requires { IsSeatOf (desk_id desk.now) seat.old }
+    ensures seat { IsSeatOf (desk_id desk.now) seat.new }
+    ensures worked { (given : Option Job) × (own : List Entry) × Asked J.right seat.old.me.0 seat.new.me.0 own × Works U.ran as_worker given own × (IsTrue result ↔ IsSome given) × G.passed gate.old gate.new (numbered 0 own) }
+{
+    let caller = Caller { rt, desk, seat };
+    let mut gated = Gated {
+        calls: caller,
+        gate,
+        looks: 0,
+        verdicts: PhantomData,
+    };
+    let worked = job_runs::work_one(alloc, &mut gated, runner, as_worker);
+    let Gated {
+        calls: caller,
+        gate: _gate,
+        looks: _,
+        verdicts: _,
+    } = gated;
+    let Caller {
+        rt: _,
+        desk: _,
+        seat: _seat,
+    } = caller;
+    worked
+}
+
+/// Works as one of the desk's workers: it enlists, works until nothing waits, sleeps until a token comes, and leaves when the
+/// channel is closed and nothing waits.
+pub fn work_loop<J: Verdicts, R: Wait, U: Runner<J>, G: Gate>(
+    rt: &R,
+    alloc: Global,
+    desk: &Desk<J>,
+    seat: &mut Seat<J>,
+    naps: &Naps,
+    runner: &U,
+    gate: &mut G,
+)
+    requires { IsSeatOf (desk_id desk.now) seat.old }
+    ensures seat { IsSeatOf (desk_id desk.now) seat.new }
+    ensures worked { (own : List Entry) × Asked J.right seat.old.me.0 seat.new.me.0 own × WorksThrough U.ran own × G.passed gate.old gate.new (numbered 0 own) }
+{
+    let caller = Caller { rt, desk, seat };
+    let mut gated = Gated {
+        calls: caller,
+        gate,
+        looks: 0,
+        verdicts: PhantomData,
+    };
+    work_through(rt, alloc, &mut gated, naps, runner);
+    let Gated {
+        calls: caller,
+        gate: _gate,
+        looks: _,
+        verdicts: _,
+    } = gated;
+    let Caller {
+        rt: _,
+        desk: _,
+        seat: _seat,
+    } = caller;
+}
+
+/// The same, whoever makes the calls.
+fn work_through<V: Verdicts, C: Calls<V>, R: Wait, U: Runner<V>>(
+    rt: &R,
+    alloc: Global,
+    calls: &mut C,
+    naps: &Naps,
+    runner: &U,
+)
+    ensures { (own : List Entry) × C.did calls.old calls.new own × WorksThrough U.ran own }
+{
+    tell(calls, Call::Enlist);
+    work_and_sleep(rt, alloc, calls, naps, runner);
+    tell(calls, Call::Leave);
+}
+
+/// Works until nothing waits, and again after each token, until the channel is closed and nothing waits.
+fn work_and_sleep<V: Verdicts, C: Calls<V>, R: Wait, U: Runner<V>>(
+    rt: &R,
+    alloc: Global,
+    calls: &mut C,
+    naps: &Naps,
+    runner: &U,
+)
+    ensures { (own : List Entry) × C.did calls.old calls.new own × Rests U.ran own }
+{
+    work_off(rt, alloc, calls, runner);
+    for _ in rt.forever() {
+        let woken = naps.nap(rt);
+        work_off(rt, alloc, calls, runner);
+        if !woken {
+            return;
+        }
+    }
+    unreachable!()
+}
+
+/// Works until nothing waits.
+fn work_off<V: Verdicts, C: Calls<V>, R: Wait, U: Runner<V>>(
+    rt: &R,
+    alloc: Global,
+    calls: &mut C,
+    runner: &U,
+)
+    ensures { (own : List Entry) × C.did calls.old calls.new own × Rests U.ran own }
+{
+    for _ in rt.forever() {
+        if !job_runs::work_one(alloc, calls, runner, true) {
+            return;
+        }
+    }
+    unreachable!()
+}
+
+/// Tells the table that a worker comes or goes.
+fn tell<V: Verdicts, C: Calls<V>>(calls: &mut C, call: Call)
+    requires { IsTurnout call }
+    ensures { C.did calls.old calls.new (entry call Reply.Done ∷ []) }
+{
+    match calls.call(call) {
+        Ok(_) => {}
+        Err(_) => unreachable!(),
+    }
+}
