@@ -1,0 +1,130 @@
+//! The six calls.
+
+ghost use Rattle.std.specs.Prelude.{◌≡◌};
+ghost use Rattle.os_io.specs.Streams.{Sends, SameOutput};
+ghost use Rattle.http_link.specs.Outgoing.{request_text};
+ghost use Rattle.soap_calls.specs.declared.call.SoapCall.TheVariants.{Solve, GetJobId, Send, Retrieve, Knock, Kill};
+ghost use Rattle.os_client.specs.Calling.{Listens, Calls, CallsBool};
+
+use crate::fault::CallFault;
+use crate::reading::reading;
+use http_link::{LinkFault, read_response, what_came_is_a_part, write_request};
+use os_io::{Failed, Link, Text};
+use soap_calls::{SoapCall, returned_texts_may_be_returned, write_call};
+use std::alloc::Global;
+
+/// Writes the request with this body, and hands it on.
+fn ask<L: Link>(link: &mut L, body: &[u8]) -> Result<(), Failed>
+    ensures { Sends result (request_text body.now) (L.tells link.old) (L.tells link.new) }
+{
+    write_request(link, body)?;
+    link.flush()
+}
+
+/// Reads what answers the call of this name.
+fn listen<L: Link>(alloc: Global, link: &mut L, name: &[u8]) -> Result<Text, CallFault>
+    ensures came { Listens name.now result (L.tells link.old) (L.tells link.new) }
+    ensures output { SameOutput (L.tells link.old) (L.tells link.new) }
+{
+    what_came_is_a_part();
+    match read_response(alloc, link) {
+        Ok(came) => reading(alloc, name, came),
+        Err(LinkFault::ReadFault) => Err(CallFault::ReadFault),
+        Err(LinkFault::Memory) => Err(CallFault::Memory),
+    }
+}
+
+/// Makes a call: writes its request, hands it on, and reads what answers it.
+pub fn call<L: Link>(alloc: Global, link: &mut L, call: &SoapCall) -> Result<Text, CallFault>
+    ensures { Calls call.now result (L.tells link.old) (L.tells link.new) }
+{
+    let Ok(body) = write_call(alloc, call) else {
+        return Err(CallFault::Memory);
+    };
+    match ask(link, body.as_slice()) {
+        Ok(()) => listen(alloc, link, call.kind().name()),
+        Err(_) => Err(CallFault::WriteFault),
+    }
+}
+
+/// Asks a server to solve an instance: the text of its result document.
+pub fn call_solve<L: Link>(
+    alloc: Global,
+    link: &mut L,
+    osil: &[u8],
+    osol: &[u8],
+) -> Result<Text, CallFault>
+    ensures { Calls (Solve osil.now osol.now) result (L.tells link.old) (L.tells link.new) }
+{
+    let osil = Text::from_slice(alloc, osil)?;
+    let osol = Text::from_slice(alloc, osol)?;
+    call(alloc, link, &SoapCall::Solve { osil, osol })
+}
+
+/// Asks for a new job: the text that names it.
+pub fn call_get_job_id<L: Link>(alloc: Global, link: &mut L, osol: &[u8]) -> Result<Text, CallFault>
+    ensures { Calls (GetJobId osol.now) result (L.tells link.old) (L.tells link.new) }
+{
+    let osol = Text::from_slice(alloc, osol)?;
+    call(alloc, link, &SoapCall::GetJobId { osol })
+}
+
+/// Sends an instance for the job that the options name: whether it was taken.
+pub fn call_send<L: Link>(
+    alloc: Global,
+    link: &mut L,
+    osil: &[u8],
+    osol: &[u8],
+) -> Result<bool, CallFault>
+    ensures { CallsBool (Send osil.now osol.now) result (L.tells link.old) (L.tells link.new) }
+{
+    returned_texts_may_be_returned();
+    match send_text(alloc, link, osil, osol) {
+        Ok(text) => Ok(text.as_slice() == b"true".as_slice()),
+        Err(fault) => Err(fault),
+    }
+}
+
+/// The text that a call of `send` returns.
+fn send_text<L: Link>(
+    alloc: Global,
+    link: &mut L,
+    osil: &[u8],
+    osol: &[u8],
+) -> Result<Text, CallFault>
+    ensures { Calls (Send osil.now osol.now) result (L.tells link.old) (L.tells link.new) }
+{
+    let osil = Text::from_slice(alloc, osil)?;
+    let osol = Text::from_slice(alloc, osol)?;
+    call(alloc, link, &SoapCall::Send { osil, osol })
+}
+
+/// Asks for the result of the job that the options name: the text of its result document.
+pub fn call_retrieve<L: Link>(alloc: Global, link: &mut L, osol: &[u8]) -> Result<Text, CallFault>
+    ensures { Calls (Retrieve osol.now) result (L.tells link.old) (L.tells link.new) }
+{
+    let osol = Text::from_slice(alloc, osol)?;
+    call(alloc, link, &SoapCall::Retrieve { osol })
+}
+
+/// Asks what a server does: the text of its process document.
+pub fn call_knock<L: Link>(
+    alloc: Global,
+    link: &mut L,
+    ospl: &[u8],
+    osol: &[u8],
+) -> Result<Text, CallFault>
+    ensures { Calls (Knock ospl.now osol.now) result (L.tells link.old) (L.tells link.new) }
+{
+    let ospl = Text::from_slice(alloc, ospl)?;
+    let osol = Text::from_slice(alloc, osol)?;
+    call(alloc, link, &SoapCall::Knock { ospl, osol })
+}
+
+/// Asks a server to stop the job that the options name: the text of its process document.
+pub fn call_kill<L: Link>(alloc: Global, link: &mut L, osol: &[u8]) -> Result<Text, CallFault>
+    ensures { Calls (Kill osol.now) result (L.tells link.old) (L.tells link.new) }
+{
+    let osol = Text::from_slice(alloc, osol)?;
+    call(alloc, link, &SoapCall::Kill { osol })
+}
