@@ -4,12 +4,16 @@
 //! call is given, in one field or more, and what it must answer, with a tab between each two. In a field `\n`, `\r`,
 //! `\t`, `\\` and `\x` with two hexadecimal digits stand for one byte, so a field can hold any bytes.
 //!
+//! [`answer_document`] answers cases for documents of a kind, which are read and written.
+//!
 //! [`try_file`] has each case of a file answered, writes a line for each whose answer is another, and counts them all.
 #![tactic(auto)]
 
+mod documents;
 mod escapes;
 mod table;
 
+pub use documents::{Documents, answer_document};
 pub use table::{Answers, try_file, try_table};
 
 #[cfg(test)]

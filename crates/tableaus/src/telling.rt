@@ -2,6 +2,7 @@
 ghost use Rattle.std.specs.Prelude.{◌≡◌, ◌≤◌, IsTrue};
 ghost use Rattle.dictionary.specs.Dict.{width_of, height_of, IsLoaded, IsBasic, IsNonbasic};
 
+use certificate::Step;
 use decimal_text::write_ratio;
 use dictionary::Dict;
 use fraction::Frac;
@@ -18,8 +19,25 @@ pub struct Size {
     ghost short: { height ≤ 1000 },
 }
 
+/// Puts a count.
+pub fn put_count(text: &mut Text, count: u64) -> Result<(), Memory> {
+    text.extend(Buffer::new().format(count).as_bytes())
+}
+
 pub fn put_number(text: &mut Text, number: u32) -> Result<(), Memory> {
-    text.extend(Buffer::new().format(number).as_bytes())
+    put_count(text, number as u64)
+}
+
+/// The step at which a number doesn't fit, as a word.
+pub fn step_word(step: Step) -> &'static [u8] {
+    match step {
+        Step::Values => b"values",
+        Step::Ratio => b"ratio",
+        Step::Pivot => b"pivot",
+        Step::Point => b"point",
+        Step::Ray => b"ray",
+        Step::Check => b"check",
+    }
 }
 
 /// Whether the column is basic.

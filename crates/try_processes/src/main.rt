@@ -4,8 +4,7 @@
 //! `docs/rules/processes.md`). The output is a line for each answer that is another, and how many cases there are.
 #![tactic(auto)]
 
-use cases::{Answers, try_file};
-use decimal_text::read_count;
+use cases::{Answers, Documents, answer_document, try_file};
 use itoa::Buffer;
 use os_io::{DiskFiles, Memory, Text};
 use ospl_grammar::{Process, State, StatedJob, decode, encode, refusal_text};
@@ -62,53 +61,25 @@ fn process_text(alloc: Global, process: &Process) -> Result<Text, Memory> {
     Ok(text)
 }
 
-/// What is read of a text, or the text of its refusal.
-fn decoded(alloc: Global, text: &[u8]) -> Result<Text, Memory> {
-    match decode(alloc, text) {
-        Ok(process) => process_text(alloc, &process),
-        Err(fault) => refusal_text(alloc, fault),
+impl Documents for Ospl {
+    fn read(&mut self, alloc: Global, document: &[u8]) -> Result<Text, Memory> {
+        match decode(alloc, document) {
+            Ok(process) => process_text(alloc, &process),
+            Err(fault) => refusal_text(alloc, fault),
+        }
     }
-}
 
-/// The same of the text with so many spaces behind it.
-fn padded(alloc: Global, spaces: &[u8], text: &[u8]) -> Result<Text, Memory> {
-    let mut long = Text::from_slice(alloc, text)?;
-    for _ in 0..read_count(spaces).unwrap_or(0) {
-        long.push(b' ')?;
-    }
-    decoded(alloc, long.as_slice())
-}
-
-/// The text that the process of a text is written as.
-fn written(alloc: Global, text: &[u8]) -> Result<Text, Memory> {
-    match decode(alloc, text) {
-        Ok(process) => encode(alloc, &process),
-        Err(fault) => refusal_text(alloc, fault),
-    }
-}
-
-/// That text, if what is read of it is written as itself again.
-fn written_twice(alloc: Global, text: &[u8]) -> Result<Text, Memory> {
-    let once = written(alloc, text)?;
-    let twice = written(alloc, once.as_slice())?;
-    if once.as_slice() == twice.as_slice() {
-        Ok(once)
-    } else {
-        Text::from_slice(alloc, b"another text")
+    fn write(&mut self, alloc: Global, document: &[u8]) -> Result<Text, Memory> {
+        match decode(alloc, document) {
+            Ok(process) => encode(alloc, &process),
+            Err(fault) => refusal_text(alloc, fault),
+        }
     }
 }
 
 impl Answers for Ospl {
     fn answer(&mut self, alloc: Global, given: &[Vec<u8>]) -> Result<Text, Memory> {
-        match given {
-            [asked, text] => match asked.as_slice() {
-                b"decode" => decoded(alloc, text.as_slice()),
-                b"encode" => written_twice(alloc, text.as_slice()),
-                _ => Text::from_slice(alloc, b"not asked"),
-            },
-            [_, spaces, text] => padded(alloc, spaces.as_slice(), text.as_slice()),
-            _ => Text::from_slice(alloc, b"two fields or three"),
-        }
+        answer_document(alloc, given, self)
     }
 }
 

@@ -17,7 +17,8 @@ use std::alloc::Global;
 use std::io;
 use std::marker::Brand;
 use std::sync::ledger::{Blank, Ledger};
-use telling::{put_claim, put_count};
+use tableaus::put_count;
+use telling::put_claim;
 
 /// Given the rows, their ends, the variables, the goal, the costs, and the limits with the looks that stop.
 #[derive(Drop)]

@@ -1,13 +1,10 @@
 // Claims as texts.
-use certificate::{Cause, Cert, Claim, Mults, Node, Step};
+use certificate::{Cause, Cert, Claim, Mults, Node};
 use decimal_text::write_ratio;
 use fraction::Frac;
 use itoa::Buffer;
 use os_io::{Memory, Text};
-
-pub fn put_count(text: &mut Text, count: u64) -> Result<(), Memory> {
-    text.extend(Buffer::new().format(count).as_bytes())
-}
+use tableaus::{put_count, step_word};
 
 fn put_numbers(text: &mut Text, word: &[u8], numbers: &[Frac]) -> Result<(), Memory> {
     text.extend(word)?;
@@ -56,17 +53,6 @@ fn put_cert(text: &mut Text, cert: &Cert) -> Result<(), Memory> {
     Ok(())
 }
 
-fn word_of(step: Step) -> &'static [u8] {
-    match step {
-        Step::Values => b"values",
-        Step::Ratio => b"ratio",
-        Step::Pivot => b"pivot",
-        Step::Point => b"point",
-        Step::Ray => b"ray",
-        Step::Check => b"check",
-    }
-}
-
 fn put_cause(text: &mut Text, cause: Cause) -> Result<(), Memory> {
     match cause {
         Cause::Killed => text.extend(b" killed"),
@@ -84,7 +70,7 @@ fn put_cause(text: &mut Text, cause: Cause) -> Result<(), Memory> {
             text.push(b' ')?;
             put_count(text, place.turn)?;
             text.push(b' ')?;
-            text.extend(word_of(place.step))
+            text.extend(step_word(place.step))
         }
         Cause::Length => text.extend(b" length"),
         Cause::Memory => text.extend(b" memory"),

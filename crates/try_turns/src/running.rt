@@ -3,13 +3,14 @@ ghost use Rattle.std.specs.Prelude.{◌≡◌, ◌<◌, length};
 ghost use Rattle.simplex.specs.Memory.{width_in, height_in};
 
 use crate::reading::Case;
-use crate::telling::{put_count, put_end};
+use crate::telling::put_end;
 use dictionary::Steps;
 use os_io::{MemWatch, Memory, Text};
 use simplex::Work;
 use std::alloc::Global;
 use std::marker::Brand;
 use std::sync::ledger::{Blank, Ledger};
+use tableaus::put_count;
 
 /// The end of a case's run, the turns done then, and its looks.
 fn run_case<L: Ledger>(alloc: Global, case: Case, blank: Blank) -> Result<Text, Memory>

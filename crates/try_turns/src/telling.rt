@@ -2,15 +2,10 @@
 ghost use Rattle.std.specs.Prelude.{◌≡◌};
 ghost use Rattle.simplex.specs.Memory.{width_in, height_in};
 
-use certificate::Step;
 use decimal_text::write_ratio;
-use itoa::Buffer;
 use os_io::{Memory, Text};
 use simplex::{LpEnd, Work};
-
-pub fn put_count(text: &mut Text, count: u64) -> Result<(), Memory> {
-    text.extend(Buffer::new().format(count).as_bytes())
-}
+use tableaus::{put_count, step_word};
 
 /// Puts the last point.
 fn put_point(text: &mut Text, work: &Work, width: u32) -> Result<(), Memory>
@@ -54,17 +49,6 @@ fn put_multipliers(text: &mut Text, work: &Work, width: u32, height: u32) -> Res
     Ok(())
 }
 
-fn word_of(step: Step) -> &'static [u8] {
-    match step {
-        Step::Values => b"values",
-        Step::Ratio => b"ratio",
-        Step::Pivot => b"pivot",
-        Step::Point => b"point",
-        Step::Ray => b"ray",
-        Step::Check => b"check",
-    }
-}
-
 /// Puts an end, with what the work tells of it.
 pub fn put_end(
     text: &mut Text,
@@ -99,7 +83,7 @@ pub fn put_end(
         LpEnd::TurnLimit => text.extend(b"turn limit"),
         LpEnd::Wide(step) => {
             text.extend(b"wide ")?;
-            text.extend(word_of(step))
+            text.extend(step_word(step))
         }
         LpEnd::Stopped => text.extend(b"stopped"),
     }
