@@ -1,0 +1,10 @@
+pub mod Numbers
+pub mod Shown
+pub mod Short
+pub mod Names
+pub mod Closings
+pub mod Ran
+pub mod OneClaim
+pub mod OneAnswer
+pub mod Accepted
+pub mod Texts

@@ -1,0 +1,144 @@
+-- A job is answered by one report, but for want of memory and for the look that stops it.
+use Rattle.std.proofs.Common.{◌≡◌, ◌≢◌, ◌∙◌, ℕ, ◌⊎◌, inl, inr, false, Option, None, Some, List, refl, ap, ap₂, sym, subst}
+use Rattle.instance.specs.Parts.{Parts}
+use Rattle.instance.specs.Program.{program}
+use Rattle.certificate.specs.Means as Means
+use Rattle.certificate.specs.declared.claims.Claim.{Claim}
+use Rattle.simplex_rules.specs.Ends.{Clock}
+use Rattle.search_rules.specs.Search.{Search}
+use Rattle.branch_bound.specs.Claims.{outcome}
+use Rattle.cert_checker.specs.declared.refused.Refused.TheVariants as reasons
+use Rattle.cert_checker.specs.Refusals.{IsRefused}
+use Rattle.osol_grammar.specs.declared.options.Options.{Options}
+use Rattle.osol_grammar.specs.declared.fault.OsolFault.{OsolFault}
+use Rattle.osol_grammar.specs.declared.fault.OsolFault.TheVariants as options_faults
+use Rattle.osol_grammar.specs.Meaning.{IsOptionsText}
+use Rattle.osol_grammar.specs.Texts as options_texts
+use Rattle.osil_grammar.specs.declared.fault.OsilFault.{OsilFault}
+use Rattle.osil_grammar.specs.declared.fault.OsilFault.TheVariants as instance_faults
+use Rattle.osil_grammar.specs.Reading.{IsInstanceText}
+use Rattle.osil_grammar.specs.Reading as instances
+use Rattle.osrl_grammar.specs.declared.report.Report.{Report}
+use Rattle.solve_run.specs.Closing.{error_report, claim_report, IsJudged, checked, IsShort, IsFitted, IsClosed}
+use Rattle.solve_run.specs.Right.{terms, RefusesOptions, RefusesInstance, Given, Solved, GaveUp, MayStop, Answers, no_options, no_instance, solved, gave_up}
+use Rattle.solve_run.specs.Grounds.{OptionsAreOne, InstancesAreOne, SearchesAreOne}
+use Rattle.solve_run.proofs.OneClaim.{claim_once}
+
+-- want of memory is told in no text
+untold_options : (f : OsolFault) (text : List ℕ) → options_texts.IsFaultText f text → f ≢ options_faults.Memory
+untold_options f text says = λ is. subst (λ (g : OsolFault). options_texts.IsFaultText g text) is says
+
+untold_instance : (f : OsilFault) (text : List ℕ) → instances.IsFaultText f text → f ≢ instance_faults.Memory
+untold_instance f text says = λ is. subst (λ (g : OsilFault). instances.IsFaultText g text) is says
+
+-- ---- refusals
+
+module _ (options : OptionsAreOne) (instances_one : InstancesAreOne) where
+  no_options_given : (osol : List ℕ) (o : Options) (r : Report) → RefusesOptions osol r → IsOptionsText osol o → ⊥
+  no_options_given osol o r a text = untold_options a.fault a.message a.says (options.apart osol o a.fault text a.fails)
+
+  no_instance_given : (osil osol : List ℕ) (p : Parts) (r : Report) → RefusesInstance osil osol r → IsInstanceText osil p → ⊥
+  no_instance_given osil osol p r a text = untold_instance a.fault a.message a.says (instances_one.apart osil p a.fault text a.fails)
+
+  pub options_instance : (osil osol : List ℕ) (r s : Report) → RefusesOptions osol r → RefusesInstance osil osol s → ⊥
+  options_instance osil osol r s a b = no_options_given osol b.options r a b.options_text
+
+  pub options_search : (osil osol : List ℕ) (stop : Option ℕ) (looks : ℕ) (r s : Report) → RefusesOptions osol r → Solved osil osol stop looks s → ⊥
+  options_search osil osol stop looks r s a b = no_options_given osol b.given.options r a b.given.options_text
+
+  pub instance_search : (osil osol : List ℕ) (stop : Option ℕ) (looks : ℕ) (r s : Report) → RefusesInstance osil osol r → Solved osil osol stop looks s → ⊥
+  instance_search osil osol stop looks r s a b = no_instance_given osil osol b.given.parts r a b.given.instance_text
+
+  pub options_once : (osol : List ℕ) (r s : Report) → RefusesOptions osol r → RefusesOptions osol s → r ≡ s
+  options_once osol r s a b =
+      let same = options.refused osol a.fault b.fault (untold_options a.fault a.message a.says) (untold_options b.fault b.message b.says) a.fails b.fails in
+      let message = options.told b.fault a.message b.message (subst (λ (f : OsolFault). options_texts.IsFaultText f a.message) same a.says) b.says in
+      a.is ∙ ap (error_report None) message ∙ sym b.is
+
+  pub instance_once : (osil osol : List ℕ) (r s : Report) → RefusesInstance osil osol r → RefusesInstance osil osol s → r ≡ s
+  instance_once osil osol r s a b =
+      let job = ap (λ (o : Options). o.job) (options.once osol a.options b.options a.options_text b.options_text) in
+      let message = instances_one.told osil a.fault b.fault a.message b.message a.fails b.fails a.says b.says in
+      a.is ∙ ap₂ error_report job message ∙ sym b.is
+
+-- ---- what is told of a search
+
+module _ (laws : SearchesAreOne) where
+  judged_once : (p : Parts) (c : Claim) (a b : Option ℕ) → IsJudged (program p) c a → IsJudged (program p) c b → a ≡ b
+  judged_once p c None None j k = refl
+  judged_once p c None (Some m) j k = absurd (laws.apart (program p) (Means.claim c) (reasons.Wide m) k.1 (j k.0))
+  judged_once p c (Some n) None j k = absurd (laws.apart (program p) (Means.claim c) (reasons.Wide n) j.1 (k j.0))
+  judged_once p c (Some n) (Some m) j k =
+      let same = laws.refusal (program p) (Means.claim c) (reasons.Wide n) (reasons.Wide m) j.1 k.1 in
+      let number : n ≡ m = cc in
+      ap Some number
+
+  fitted_once : (job : Option (List ℕ)) (c s t : Claim) → IsFitted job c s → IsFitted job c t → s ≡ t
+  fitted_once job c s t (inl (short, same)) (inl (short_too, same_too)) = same ∙ sym same_too
+  fitted_once job c s t (inl (short, same)) (inr (long, same_too)) = absurd (long short)
+  fitted_once job c s t (inr (long, same)) (inl (short, same_too)) = absurd (long short)
+  fitted_once job c s t (inr (long, same)) (inr (long_too, same_too)) = same ∙ sym same_too
+
+  closed_once : (p : Parts) (job : Option (List ℕ)) (turns : ℕ) (c s t : Claim) → IsClosed p job turns c s → IsClosed p job turns c t → s ≡ t
+  closed_once p job turns c s t a b =
+      let width = judged_once p c a.width b.width a.judged b.judged in
+      fitted_once job (checked c turns b.width) s t (subst (λ (w : Option ℕ). IsFitted job (checked c turns w) s) width a.fitted) b.fitted
+
+  -- a search of an instance that ended, and what is told of it
+  record Ended (o : Options) (p : Parts) (stop : Option ℕ) (looks : ℕ) (r : Report) : Type 0 where
+    turns : ℕ
+    found : Claim
+    ends : Search (program p) (terms o stop) (outcome found) (record { turns = turns; looks = looks })
+    told : Claim
+    closed : IsClosed p o.job turns found told
+    is : r ≡ claim_report o.job told
+
+  ended : (osil osol : List ℕ) (stop : Option ℕ) (looks : ℕ) (r : Report) (s : Solved osil osol stop looks r) → Ended s.given.options s.given.parts stop looks r
+  ended osil osol stop looks r s = record { turns = s.turns; found = s.found; ends = s.ends; told = s.told; closed = s.closed; is = s.is }
+
+  ended_once : (o : Options) (p : Parts) (stop : Option ℕ) (looks more : ℕ) (r s : Report) → Ended o p stop looks r → Ended o p stop more s → (r ≡ s) × (looks ≡ more)
+  ended_once o p stop looks more r s a b =
+      let both = laws.once (program p) (terms o stop) (outcome a.found) (outcome b.found) _ _ (laws.numbers p) a.ends b.ends in
+      let found = claim_once laws.fractions a.found b.found both.0 in
+      let turns = ap (λ (c : Clock). c.turns) both.1 in
+      let closed : IsClosed p o.job b.turns b.found a.told = subst (λ (t : ℕ). IsClosed p o.job t b.found a.told) turns (subst (λ (c : Claim). IsClosed p o.job a.turns c a.told) found a.closed) in
+      let told = closed_once p o.job b.turns b.found a.told b.told closed b.closed in
+      (a.is ∙ ap (claim_report o.job) told ∙ sym b.is, ap (λ (c : Clock). c.looks) both.1)
+
+  module _ (options : OptionsAreOne) (instances_one : InstancesAreOne) where
+    moved : (osil osol : List ℕ) (g h : Given osil osol) (stop : Option ℕ) (looks : ℕ) (r : Report) → Ended g.options g.parts stop looks r → Ended h.options h.parts stop looks r
+    moved osil osol g h stop looks r e =
+        subst (λ (o : Options). Ended o h.parts stop looks r) (options.once osol g.options h.options g.options_text h.options_text)
+        (subst (λ (p : Parts). Ended g.options p stop looks r) (instances_one.once osil g.parts h.parts g.instance_text h.instance_text) e)
+
+    pub search_once : (osil osol : List ℕ) (stop : Option ℕ) (looks more : ℕ) (r s : Report) → Solved osil osol stop looks r → Solved osil osol stop more s → (r ≡ s) × (looks ≡ more)
+    search_once osil osol stop looks more r s a b =
+        ended_once b.given.options b.given.parts stop looks more r s (moved osil osol a.given b.given stop looks r (ended osil osol stop looks r a)) (ended osil osol stop more s b)
+
+    -- a search that ends with a claim that is refused for no width, and isn't too long, is told
+    complete : (osil osol : List ℕ) (o : Options) (p : Parts) (found : Claim) (c : Clock) (r : Report) → IsOptionsText osol o → IsInstanceText osil p → Search (program p) (terms o None) (outcome found) c
+        → ((n : ℕ) → IsRefused (program p) (Means.claim found) (reasons.Wide n) → ⊥) → IsShort o.job found → (looks : ℕ) → Solved osil osol None looks r → r ≡ claim_report o.job found
+    complete osil osol o p found c r options_text instance_text ends fits short looks s =
+        let here = ended osil osol None looks r s in
+        let moved_here = subst (λ (x : Options). Ended x p None looks r) (options.once osol s.given.options o s.given.options_text options_text)
+        (subst (λ (q : Parts). Ended s.given.options q None looks r) (instances_one.once osil s.given.parts p s.given.instance_text instance_text) here) in
+        let both = laws.once (program p) (terms o None) (outcome moved_here.found) (outcome found) _ c (laws.numbers p) moved_here.ends ends in
+        let same = claim_once laws.fractions moved_here.found found both.0 in
+        let closed : IsClosed p o.job moved_here.turns found moved_here.told = subst (λ (x : Claim). IsClosed p o.job moved_here.turns x moved_here.told) same moved_here.closed in
+        moved_here.is ∙ ap (claim_report o.job) (by moved_here.turns moved_here.told closed.width closed.judged closed.fitted)
+      where
+        by : (turns : ℕ) (told : Claim) (width : Option ℕ) → IsJudged (program p) found width → IsFitted o.job (checked found turns width) told → told ≡ found
+        by turns told None judged (inl (few, same)) = same
+        by turns told None judged (inr (long, same)) = absurd (long short)
+        by turns told (Some n) judged fitted = absurd (fits n judged.1)
+
+    pub told_at_end : (osil osol : List ℕ) (o : Options) (p : Parts) (found : Claim) (c : Clock) (r : Report) → IsOptionsText osol o → IsInstanceText osil p → Search (program p) (terms o None) (outcome found) c → ((n : ℕ) → IsRefused (program p) (Means.claim found) (reasons.Wide n) → ⊥) → IsShort o.job found → Answers osil osol false r
+        → (r ≡ claim_report o.job found) ⊎ GaveUp osil osol r
+    told_at_end osil osol o p found c r options_text instance_text ends fits short (no_options a) = absurd (no_options_given options instances_one osol o r a options_text)
+    told_at_end osil osol o p found c r options_text instance_text ends fits short (no_instance a) = absurd (no_instance_given options instances_one osil osol p r a instance_text)
+    told_at_end osil osol o p found c r options_text instance_text ends fits short (solved stop looks may s) = inl (complete osil osol o p found c r options_text instance_text ends fits short looks (subst (λ (x : Option ℕ). Solved osil osol x looks r) (none may) s))
+      where
+        none : MayStop false stop looks → stop ≡ None
+        none (inl is) = is
+        none (inr (asked, is)) = absurd (cc)
+    told_at_end osil osol o p found c r options_text instance_text ends fits short (gave_up a) = inr a

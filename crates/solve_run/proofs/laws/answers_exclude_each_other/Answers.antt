@@ -1,0 +1,11 @@
+use Rattle.solve_run.proofs.OneAnswer.{options_instance, options_search, instance_search}
+use Rattle.solve_run.proofs.laws.answers_exclude_each_other.Goals as goal
+
+pub returns-clause-options_instance : goal.returns-clause-options_instance
+returns-clause-options_instance c = options_instance c.options_are_one.ensures c.instances_are_one.ensures
+
+pub returns-clause-options_search : goal.returns-clause-options_search
+returns-clause-options_search c = options_search c.options_are_one.ensures c.instances_are_one.ensures
+
+pub returns-clause-instance_search : goal.returns-clause-instance_search
+returns-clause-instance_search c = instance_search c.options_are_one.ensures c.instances_are_one.ensures

@@ -1,0 +1,16 @@
+use Rattle.std.proofs.Common.{None, inl, refl}
+use Rattle.solve_run.proofs.Ran.{quiet_memory, quiet_options}
+use Rattle.solve_run.proofs.running.run_texts.Goals as goal
+
+pub returns-in-Ok : goal.returns-in-Ok
+returns-in-Ok g c = c.run_options.ensures c.args.osol.now c.in-Ok.ensures.ok
+
+pub returns-in-Err-Memory : goal.returns-in-Err-Memory
+returns-in-Err-Memory g c =
+    quiet_memory (g.W.Watch.came c.args.watch.now c.args.watch.now) c.args.osil.now c.args.osol.now None c.memory_document.result
+    (g.met.W.Watch.stays c.args.watch.now) (inl refl) c.memory_document.ensures
+
+pub returns-in-Err : goal.returns-in-Err
+returns-in-Err g c =
+    quiet_options (g.W.Watch.came c.args.watch.now c.args.watch.now) c.args.osil.now c.args.osol.now c.in-Err.fault c.refusal_text-message.result c.refusal.result
+    (g.met.W.Watch.stays c.args.watch.now) c.in-Err.ensures.err c.refusal_text-message.ensures c.refusal.ensures

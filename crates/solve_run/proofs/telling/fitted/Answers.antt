@@ -1,0 +1,19 @@
+use Rattle.std.proofs.Common.{arith, ap, sym}
+use Rattle.std.proofs.lemmas.Result.{IfOk-weaker}
+use Rattle.osrl_grammar.specs.declared.report.Report.{Report}
+use Rattle.solve_run.proofs.Texts.{fitted_short, fitted_long, fitted_memory}
+use Rattle.solve_run.proofs.telling.fitted.Goals as goal
+
+pub returns-in_default : goal.returns-in_default
+returns-in_default c = IfOk-weaker c.memory_document.result _ _ (λ doc memory. fitted_memory _ _ _ doc c.claim_report-report.ensures memory) c.memory_document.ensures
+
+pub returns-then-len-le-MOST_BYTES : goal.returns-then-len-le-MOST_BYTES
+returns-then-len-le-MOST_BYTES c =
+    fitted_short _ _ _ _ c.claim_report-report.ensures (record { text = c.in-Ok.ensures; error = sym (ap (λ (r : Report). r.error) c.claim_report-report.ensures) })
+    (omega (arith, c.if-len-le-MOST_BYTES.true, c.len.ensures))
+
+pub returns : goal.returns
+returns c =
+    IfOk-weaker c.document_or_memory.result _ _ (λ doc told. fitted_long _ _ _ _ c.in-Ok.text doc c.claim_report-report.ensures c.in-Ok.ensures
+    (omega (arith, c.if-len-le-MOST_BYTES.false, c.len.ensures))
+    (c.shortened.ensures c.args.job c.args.claim c.claim_report-report.ensures) told) c.document_or_memory.ensures

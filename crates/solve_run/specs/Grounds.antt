@@ -1,0 +1,45 @@
+-- What the laws of the crates below say of all options, instances, searches, claims and reports.
+use Rattle.std.specs.Prelude.{◌≡◌, ◌≢◌, ℕ, List}
+use Rattle.rational.specs.Ratio.{IsSame}
+use Rattle.fraction.specs.Frac.{ratio}
+use Rattle.fraction.specs.declared.frac.Frac.{Frac}
+use Rattle.evidence.specs.Instance.{Instance, IsInstance}
+use Rattle.evidence.specs.Claim as Says
+use Rattle.evidence.specs.Claim.{Accepts}
+use Rattle.instance.specs.Parts.{Parts}
+use Rattle.instance.specs.Program.{program}
+use Rattle.simplex_rules.specs.Ends.{Terms, Clock}
+use Rattle.search_rules.specs.Search.{Outcome, Search}
+use Rattle.cert_checker.specs.declared.refused.Refused.{Refused}
+use Rattle.cert_checker.specs.Refusals.{IsRefused}
+use Rattle.osol_grammar.specs.declared.options.Options.{Options}
+use Rattle.osol_grammar.specs.declared.fault.OsolFault.{OsolFault}
+use Rattle.osol_grammar.specs.declared.fault.OsolFault.TheVariants as options_faults
+use Rattle.osol_grammar.specs.Meaning.{IsOptionsText}
+use Rattle.osol_grammar.specs.Reading as options
+use Rattle.osol_grammar.specs.Texts as options_texts
+use Rattle.osil_grammar.specs.declared.fault.OsilFault.{OsilFault}
+use Rattle.osil_grammar.specs.declared.fault.OsilFault.TheVariants as instance_faults
+use Rattle.osil_grammar.specs.Reading.{IsInstanceText}
+use Rattle.osil_grammar.specs.Reading as instances
+
+-- texts are one kind of options, or are refused in one text
+pub record OptionsAreOne : Type 0 where
+  pub once : (bytes : List ℕ) (o p : Options) → IsOptionsText bytes o → IsOptionsText bytes p → o ≡ p
+  pub apart : (bytes : List ℕ) (o : Options) (f : OsolFault) → IsOptionsText bytes o → options.DecodeFails bytes f → f ≡ options_faults.Memory
+  pub refused : (bytes : List ℕ) (f g : OsolFault) → f ≢ options_faults.Memory → g ≢ options_faults.Memory → options.DecodeFails bytes f → options.DecodeFails bytes g → f ≡ g
+  pub told : (f : OsolFault) (s t : List ℕ) → options_texts.IsFaultText f s → options_texts.IsFaultText f t → s ≡ t
+
+-- texts are one instance, or are refused in one text
+pub record InstancesAreOne : Type 0 where
+  pub once : (bytes : List ℕ) (p q : Parts) → IsInstanceText bytes p → IsInstanceText bytes q → p ≡ q
+  pub apart : (bytes : List ℕ) (p : Parts) (f : OsilFault) → IsInstanceText bytes p → instances.DecodeFails bytes f → f ≡ instance_faults.Memory
+  pub told : (bytes : List ℕ) (f g : OsilFault) (s t : List ℕ) → instances.DecodeFails bytes f → instances.DecodeFails bytes g → instances.IsFaultText f s → instances.IsFaultText g t → s ≡ t
+
+-- a search has one outcome, whose claim is checked with one answer
+pub record SearchesAreOne : Type 0 where
+  pub numbers : (p : Parts) → IsInstance (program p)
+  pub once : (I : Instance) (t : Terms) (o p : Outcome) (c d : Clock) → IsInstance I → Search I t o c → Search I t p d → (o ≡ p) × (c ≡ d)
+  pub fractions : (x y : Frac) → IsSame (ratio x) (ratio y) → x ≡ y
+  pub refusal : (I : Instance) (claim : Says.Claim) (r s : Refused) → IsRefused I claim r → IsRefused I claim s → r ≡ s
+  pub apart : (I : Instance) (claim : Says.Claim) (r : Refused) → IsRefused I claim r → Accepts I claim → ⊥

@@ -1,0 +1,16 @@
+pub use Rattle.evidence.specs.Claim
+pub use Rattle.instance.specs.Program
+pub use Rattle.certificate.specs.Means
+pub use Rattle.simplex_rules.specs.Looks
+pub use Rattle.search_rules.specs.Search
+pub use Rattle.branch_bound.specs.Claims
+pub use Rattle.osol_grammar.specs.Meaning
+pub use Rattle.osil_grammar.specs.Reading
+pub use Rattle.osrl_grammar.specs.Writing
+pub use Rattle.osrl_grammar.specs.Back
+pub use Rattle.cert_checker.specs.Refusals
+pub use Rattle.cert_checker.specs.Documents
+pub mod Closing
+pub mod Right
+pub mod Running
+pub mod Grounds

@@ -1,0 +1,54 @@
+// The search of a job's instance.
+ghost use Rattle.std.specs.Prelude.{◌≡◌, ℕ, ◌-◌, ◌^◌, ◌<◌, Option};
+ghost use Rattle.instance.specs.Program.{program};
+ghost use Rattle.simplex_rules.specs.Looks.{answers, Tells, looks_after};
+ghost use Rattle.search_rules.specs.Search.{IsAnswer};
+ghost use Rattle.branch_bound.specs.Claims.{outcome, is_killed};
+ghost use Rattle.solve_run.specs.Right.{terms};
+
+use branch_bound::{Searched, search};
+use dictionary::Steps;
+use instance::Instance;
+use os_io::Watch;
+use osol_grammar::Options;
+use std::alloc::Global;
+use std::marker::Brand;
+use std::sync::ledger::{Blank, Ledger};
+
+/// Searches within the options' limits, with a count of steps on this ledger.
+fn find_on<W: Watch, L: Ledger>(
+    alloc: Global,
+    instance: &Instance,
+    options: &Options,
+    watch: &mut W,
+    blank: Blank,
+) -> Searched
+    requires name { blank.name ≡ L.name }
+    requires parts { blank.parts ≡ L.parts }
+    requires some { 0 < blank.parts }
+    requires stops { W.stops watch.old < 2 ^ 64 - 1 }
+    ensures { (n : ℕ) × W.came watch.old watch.new (answers n (is_killed result.claim)) × ((stop : Option ℕ) → Tells stop 0 n (is_killed result.claim) → IsAnswer (program instance.now) (terms options.now stop) (outcome result.claim) (record { turns = result.turns; looks = looks_after 0 n (is_killed result.claim) })) }
+{
+    let mut steps = Steps::<L>::new(blank);
+    search(
+        alloc,
+        instance,
+        options.nodes,
+        options.turns,
+        watch,
+        &mut steps,
+    )
+}
+
+/// Searches an instance within the options' limits.
+pub fn find<W: Watch>(
+    alloc: Global,
+    instance: &Instance,
+    options: &Options,
+    watch: &mut W,
+) -> Searched
+    requires { W.stops watch.old < 2 ^ 64 - 1 }
+    ensures { (n : ℕ) × W.came watch.old watch.new (answers n (is_killed result.claim)) × ((stop : Option ℕ) → Tells stop 0 n (is_killed result.claim) → IsAnswer (program instance.now) (terms options.now stop) (outcome result.claim) (record { turns = result.turns; looks = looks_after 0 n (is_killed result.claim) })) }
+{
+    find_on::<W, Brand>(alloc, instance, options, watch, Blank::new(1))
+}

@@ -1,0 +1,111 @@
+//! Runs jobs.
+ghost use Rattle.std.specs.Prelude.{◌≡◌, ℕ, ◌-◌, ◌^◌, ◌<◌, Bool, false, List, Some, IfOk};
+ghost use Rattle.instance.specs.Parts.{IsValid};
+ghost use Rattle.osol_grammar.specs.Meaning.{IsOptionsText};
+ghost use Rattle.osil_grammar.specs.Reading.{IsInstanceText};
+ghost use Rattle.solve_run.specs.Right.{Right};
+ghost use Rattle.solve_run.specs.Running.{Ran, IsRight, TellsDocument, TellsText};
+
+use crate::document::Document;
+use crate::finding::find;
+use crate::telling::{found_document, memory_document, refusal};
+use branch_bound::Searched;
+use instance::{Instance, programs_have_numbers};
+use os_io::{Memory, Text, Watch};
+use osil_grammar::OsilFault;
+use osol_grammar::{Options, OsolFault, options_have_names};
+use search_rules::answers_are_shown;
+use std::alloc::Global;
+
+/// Runs a job whose options and instance are read.
+fn run_instance<W: Watch>(
+    alloc: Global,
+    instance: &Instance,
+    options: Options,
+    watch: &mut W,
+) -> Result<Document, Memory>
+    requires valid { IsValid instance.now }
+    requires stops { W.stops watch.old < 2 ^ 64 - 1 }
+    ensures { (osil osol : List ℕ) → IsOptionsText osol options → IsInstanceText osil instance.now → Ran (W.came watch.old watch.new) osil osol (TellsDocument osil osol result) }
+{
+    let Searched { claim, turns } = find(alloc, instance, &options, watch);
+    options_have_names();
+    programs_have_numbers();
+    answers_are_shown();
+    found_document(alloc, instance, options.job, claim, turns)
+}
+
+/// Runs a job whose options are read.
+fn run_options<W: Watch>(
+    alloc: Global,
+    osil: &[u8],
+    options: Options,
+    watch: &mut W,
+) -> Result<Document, Memory>
+    requires { W.stops watch.old < 2 ^ 64 - 1 }
+    ensures { (osol : List ℕ) → IsOptionsText osol options → Ran (W.came watch.old watch.new) osil.now osol (TellsDocument osil.now osol result) }
+{
+    match osil_grammar::decode(alloc, osil) {
+        Ok(instance) => run_instance(alloc, &instance, options, watch),
+        Err(OsilFault::Memory) => memory_document(alloc, options.job),
+        Err(fault) => {
+            let message = osil_grammar::refusal_text(alloc, &fault);
+            refusal(alloc, options.job, message)
+        }
+    }
+}
+
+/// Runs a job, whose options are read first.
+fn run_texts<W: Watch>(
+    alloc: Global,
+    osil: &[u8],
+    osol: &[u8],
+    watch: &mut W,
+) -> Result<Document, Memory>
+    requires { W.stops watch.old < 2 ^ 64 - 1 }
+    ensures { Ran (W.came watch.old watch.new) osil.now osol.now (TellsDocument osil.now osol.now result) }
+{
+    match osol_grammar::decode(alloc, osol) {
+        Ok(options) => run_options(alloc, osil, options, watch),
+        Err(OsolFault::Memory) => memory_document(alloc, None),
+        Err(fault) => {
+            let message = osol_grammar::refusal_text(alloc, fault);
+            refusal(alloc, None, message)
+        }
+    }
+}
+
+/// Runs a job: its result document, from the texts of its instance and of its options. The options are read before the
+/// instance; a text of white space alone says none. The watch is asked by the looks of the search alone.
+///
+/// Where memory is wanting, the document says so, and may have the best point of some moment of the search; where there is
+/// none for such a document either, there is no document.
+pub fn answer_job<W: Watch>(
+    alloc: Global,
+    osil: &[u8],
+    osol: &[u8],
+    watch: &mut W,
+) -> Result<Document, Memory>
+    requires { W.stops watch.old < 2 ^ 64 - 1 }
+    ensures ran { Ran (W.came watch.old watch.new) osil.now osol.now (TellsDocument osil.now osol.now result) }
+    ensures right { (asked : Bool) → (asked ≡ false → W.stops watch.new ≡ W.stops watch.old) → IfOk result (IsRight osil.now osol.now asked) }
+{
+    run_texts(alloc, osil, osol, watch)
+}
+
+/// Runs a job, as [`answer_job`] does: the text of its result document.
+pub fn run_job<W: Watch>(
+    alloc: Global,
+    osil: &[u8],
+    osol: &[u8],
+    watch: &mut W,
+) -> Result<Text, Memory>
+    requires { W.stops watch.old < 2 ^ 64 - 1 }
+    ensures ran { Ran (W.came watch.old watch.new) osil.now osol.now (λ n killed. IfOk result (TellsText osil.now osol.now n killed)) }
+    ensures right { (asked : Bool) → (asked ≡ false → W.stops watch.new ≡ W.stops watch.old) → IfOk result (λ doc. Right osil.now osol.now asked (Some doc)) }
+{
+    match answer_job(alloc, osil, osol, watch) {
+        Ok(document) => Ok(document.text),
+        Err(memory) => Err(memory),
+    }
+}

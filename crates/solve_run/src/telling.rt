@@ -1,0 +1,160 @@
+// The documents of reports.
+ghost use Rattle.std.specs.Prelude.{◌≡◌, ℕ, Option, List, IfOk};
+ghost use Rattle.instance.specs.Parts.{IsValid};
+ghost use Rattle.instance.specs.Program.{program};
+ghost use Rattle.certificate.specs.declared.causes.Cause.TheVariants as causes;
+ghost use Rattle.certificate.specs.declared.claims.Claim.{Claim as OneClaim};
+ghost use Rattle.search_rules.specs.Shown.{IsShown};
+ghost use Rattle.branch_bound.specs.Claims.{outcome};
+ghost use Rattle.osrl_grammar.specs.Back.{CauseComesBack};
+ghost use Rattle.solve_run.specs.Closing as specs;
+ghost use Rattle.solve_run.specs.Running.{IsTold, IsTextOf, IsFittedDocument, IsMemoryDocument, IsRefusal, HasCauses};
+
+use crate::closing::{checked, give_up, judge};
+use crate::document::Document;
+use certificate::{Cause, Claim};
+use document_tags::MOST_BYTES;
+use instance::Instance;
+use os_io::{Memory, Text};
+use osrl_grammar::{JobStatus, Report, encode};
+use std::alloc::Global;
+
+/// A finished job's report with a claim.
+fn claim_report(job: Option<Text>, claim: Claim) -> Report
+    ensures { result ≡ specs.claim_report job claim }
+{
+    Report {
+        error: false,
+        job,
+        message: None,
+        status: JobStatus::Finished,
+        claim: Some(claim),
+    }
+}
+
+/// A finished job's report of an error.
+fn error_report(job: Option<Text>, message: Text) -> Report
+    ensures { result ≡ specs.error_report job message }
+{
+    Report {
+        error: true,
+        job,
+        message: Some(message),
+        status: JobStatus::Finished,
+        claim: None,
+    }
+}
+
+/// The document that claims nothing for want of memory.
+pub fn memory_document(alloc: Global, job: Option<Text>) -> Result<Document, Memory>
+    ensures { IfOk result (IsMemoryDocument job) }
+{
+    let cause = Cause::Memory;
+    let report = claim_report(job, Claim::Unsure { cause });
+    Ok(Document {
+        text: encode(alloc, &report)?,
+        is_error: false,
+    })
+}
+
+/// The document of a report, or for want of memory of one that claims nothing of the same job.
+fn document_or_memory(alloc: Global, report: Report) -> Result<Document, Memory>
+    ensures { IfOk result (IsTextOf report) }
+{
+    match encode(alloc, &report) {
+        Ok(text) => Ok(Document {
+            text,
+            is_error: report.error,
+        }),
+        Err(_) => memory_document(alloc, report.job),
+    }
+}
+
+/// The document of a report of an error, for whose message there may have been no memory.
+pub fn refusal(
+    alloc: Global,
+    job: Option<Text>,
+    message: Result<Text, Memory>,
+) -> Result<Document, Memory>
+    ensures { IfOk result (IsRefusal job message) }
+{
+    let Ok(message) = message else {
+        return memory_document(alloc, job);
+    };
+    document_or_memory(alloc, error_report(job, message))
+}
+
+/// The report whose claim is given up for its length.
+fn shortened(report: Report) -> Report
+    ensures { (job : Option (List ℕ)) (c : OneClaim) → report ≡ specs.claim_report job c → result ≡ specs.claim_report job (specs.given_up c causes.Length) }
+{
+    Report {
+        error: report.error,
+        job: report.job,
+        message: report.message,
+        status: report.status,
+        claim: match report.claim {
+            Some(claim) => Some(give_up(claim, Cause::Length)),
+            None => None,
+        },
+    }
+}
+
+/// The document of a report with a claim, which is given up where the document would be longer than one may be.
+fn fitted(alloc: Global, job: Option<Text>, claim: Claim) -> Result<Document, Memory>
+    ensures { IfOk result (IsFittedDocument job claim) }
+{
+    let report = claim_report(job, claim);
+    let Ok(text) = encode(alloc, &report) else {
+        return memory_document(alloc, report.job);
+    };
+    if text.len() as u64 <= MOST_BYTES {
+        return Ok(Document {
+            text,
+            is_error: false,
+        });
+    }
+    document_or_memory(alloc, shortened(report))
+}
+
+/// Reads the numbers of a cause, each of which is one of its type.
+fn read_cause(cause: Cause)
+    ensures { CauseComesBack cause }
+{
+    match cause {
+        Cause::NodeLimit(_nodes) => {}
+        Cause::TurnLimit(_turns) => {}
+        Cause::Wide(_place) => {}
+        _ => {}
+    }
+}
+
+/// Reads the numbers of a claim's cause, if it has one.
+fn read_causes(claim: &Claim)
+    ensures { HasCauses claim.now }
+{
+    match claim {
+        Claim::BestSoFar { cause, .. } => read_cause(*cause),
+        Claim::Unsure { cause } => read_cause(*cause),
+        _ => {}
+    }
+}
+
+/// The document that tells what a search found after so many turns, once it is checked and fitted.
+pub fn found_document(
+    alloc: Global,
+    instance: &Instance,
+    job: Option<Text>,
+    found: Claim,
+    turns: u64,
+) -> Result<Document, Memory>
+    requires valid { IsValid instance.now }
+    requires shown { IsShown (program instance.now) (outcome found) }
+    ensures { IfOk result (IsTold instance.now job turns found) }
+{
+    read_causes(&found);
+    match judge(alloc, instance, &found) {
+        Ok(width) => fitted(alloc, job, checked(found, turns, width)),
+        Err(_) => memory_document(alloc, job),
+    }
+}
