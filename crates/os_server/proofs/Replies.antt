@@ -1,0 +1,66 @@
+-- What a request is replied, by the calls that it asks.
+use Rattle.std.proofs.Common.{◌≡◌, ℕ, Bool, false, List, [], inl, inr, Option, Some, Result, Ok, Err, refl, sym, ◌∙◌, ap, subst}
+use Rattle.std.specs.Prelude.{IfOk}
+use Rattle.std.specs.declared.alloc.AllocError.{AllocError}
+use Rattle.http_link.specs.Requests.{IsRequest}
+use Rattle.http_link.proofs.OnceLemmas.{request_part}
+use Rattle.soap_calls.specs.declared.call.CallKind.{CallKind}
+use Rattle.job_table.specs.declared.calls.Reply as tables
+use Rattle.job_table.specs.History.{Entry}
+use Rattle.os_server.specs.declared.order.Order.{Order}
+use Rattle.os_server.specs.declared.fault.FaultCode.{FaultCode}
+use Rattle.os_server.specs.declared.fault.NoOrder.{NoOrder}
+use Rattle.os_server.specs.declared.fault.NoOrder.TheVariants as none
+use Rattle.os_server.specs.declared.saying.Said.{Said}
+use Rattle.os_server.specs.declared.reply.Reply.{Reply}
+use Rattle.os_server.specs.declared.reply.Reply.TheVariants.{Answer, Refused, NoMemory}
+use Rattle.os_server.specs.Orders.{Asks, Faults, AsksNothing}
+use Rattle.os_server.specs.Answers.{said_by, fault_said, returns}
+use Rattle.os_server.specs.Talk.{IsDue}
+use Rattle.os_server.specs.Serving.{IsOrdered, IsReplied}
+
+abbrev Made : Type 1
+Made = List ℕ → List ℕ → List Bool → Option (List ℕ) → Type 0
+
+abbrev Bytes : Type 0
+Bytes = Option (List ℕ)
+
+-- what is said by a reply, put otherwise
+pub said_as : (kind : CallKind) (n : ℕ) (last : tables.Reply) (said : Said) (r : Result Said AllocError) → said_by kind n last ≡ Some said
+    → IfOk r (λ s. s ≡ said) → IfOk r (λ s. said_by kind n last ≡ Some s)
+said_as kind n last said (Ok s) is e = is ∙ ap (λ x. Some x) (sym e)
+said_as kind n last said (Err lost) is e = tt
+
+pub returned_as : (kind : CallKind) (n : ℕ) (last : tables.Reply) (text : List ℕ) (r : Result Said AllocError) → said_by kind n last ≡ returns kind text
+    → IfOk r (λ s. returns kind text ≡ Some s) → IfOk r (λ s. said_by kind n last ≡ Some s)
+returned_as kind n last text (Ok s) is e = is ∙ e
+returned_as kind n last text (Err lost) is e = tt
+
+-- what is ordered is what a body is replied that asks it
+pub replied : (made : Made) (body : List ℕ) (order : Order) (close : Bool) (own : List Entry) (r : Reply) → Asks body order
+    → IsOrdered made order close own r → IsReplied made body close own r
+replied made body order close own (Answer said closes as_worker) asks (same, last, does, says, woken) =
+    (same, inl (record { order = order; last = last; asks = asks; does = does; says = says; woken = woken }))
+replied made body order close own (Refused refusal) asks p = absurd p
+replied made body order close own NoMemory asks p = inr (order, asks, p)
+
+faulted : (made : Made) (body : List ℕ) (close : Bool) (code : FaultCode) (text : List ℕ) (said : Said) → Faults body code text
+    → said ≡ fault_said code text → IsReplied made body close [] (Answer said close false)
+faulted made body close code text said faults is =
+    (refl, inr (record { code = code; text = text; faults = faults; none = refl; says = is; alone = refl }))
+
+-- a fault of a call that is refused
+pub refused : (made : Made) (body : List ℕ) (close : Bool) (n : NoOrder) (code : FaultCode) (text lent : List ℕ) (said : Said)
+    → n ≡ none.Fault code text → lent ≡ text → AsksNothing body n → said ≡ fault_said code lent
+    → IsReplied made body close [] (Answer said close false)
+refused made body close n code text lent said is lent_is nothing says =
+    faulted made body close code text said (subst (λ (m : NoOrder). AsksNothing body m) is nothing) (says ∙ ap (fault_said code) lent_is)
+
+-- a reply to a body is due to its request
+pub due : (made : Made) (taken body : List ℕ) (close : Bool) (own : List Entry) (r : Reply) → IsRequest taken close body
+    → IsReplied made body close own r → IsDue made taken own r
+due made taken body close own (Answer said closes as_worker) request (same, answers) =
+    (body, subst (λ (c : Bool). IsRequest taken c body) (sym same) request, answers)
+due made taken body close own (Refused refusal) request (fails, is, alone) = (inr (close, body, request, fails, is), alone)
+due made taken body close own NoMemory request (inl alone) = inl (request_part taken body close request, alone)
+due made taken body close own NoMemory request (inr lacks) = inr (close, body, request, lacks)

@@ -1,0 +1,7 @@
+use Rattle.os_server.specs.Talk.{AtEnd}
+use Rattle.os_server.proofs.Kept.{talk_kept}
+use Rattle.os_server.proofs.laws.conversations_are_kept.Goals as goal
+
+pub returns : goal.returns
+returns g c end past left left' p before now t runs =
+    talk_kept g.R.Runner.ran g.V.Verdicts.right c.finishes_are_kept.ensures end (AtEnd past left left') p t before now runs

@@ -1,0 +1,128 @@
+-- What answers a call, by the last reply of the table of jobs.
+use Rattle.std.specs.Prelude.{◌≡◌, ℕ, Bool, true, false, List, [], ◌∷◌, Option, None, Some, map, codes}
+use Rattle.job_table.specs.declared.job.State.{State}
+use Rattle.job_table.specs.declared.calls.Call.TheVariants as tables
+use Rattle.job_table.specs.declared.calls.Killing.{Killing}
+use Rattle.job_table.specs.declared.calls.Statistics as given
+use Rattle.job_table.specs.declared.calls.Retrieved.{Retrieved}
+use Rattle.job_table.specs.declared.calls.Retrieved.TheVariants as shown
+use Rattle.job_table.specs.declared.calls.Reply.{Reply}
+use Rattle.job_table.specs.declared.calls.Reply.TheVariants as reply
+use Rattle.job_table.specs.Ids.{id_text}
+use Rattle.job_table.specs.History.{Entry, entry}
+use Rattle.job_runs.specs.Solving.{Solves, BeginsToSolve}
+use Rattle.certificate.specs.declared.causes.Cause.TheVariants as causes
+use Rattle.certificate.specs.declared.claims.Claim.{Claim}
+use Rattle.certificate.specs.declared.claims.Claim.TheVariants.{Unsure}
+use Rattle.osrl_grammar.specs.declared.report.JobStatus.{JobStatus}
+use Rattle.osrl_grammar.specs.declared.report.JobStatus.TheVariants as status
+use Rattle.osrl_grammar.specs.declared.report.Report.{Report}
+use Rattle.osrl_grammar.specs.Writing.{report_text}
+use Rattle.ospl_grammar.specs.declared.process.StatedJob.{StatedJob}
+use Rattle.ospl_grammar.specs.declared.process.Process.{Process}
+use Rattle.ospl_grammar.specs.declared.process.Process.TheVariants.{Statistics}
+use Rattle.ospl_grammar.specs.Writing.{process_text}
+use Rattle.soap_calls.specs.declared.call.CallKind.{CallKind}
+use Rattle.soap_calls.specs.Names.{kind_text}
+use Rattle.soap_calls.specs.Writing.{reply_text, fault_text}
+use Rattle.os_server.specs.declared.order.Order.{Order}
+use Rattle.os_server.specs.declared.order.Order.TheVariants as orders
+use Rattle.os_server.specs.declared.fault.FaultCode.{FaultCode}
+use Rattle.os_server.specs.declared.fault.FaultCode.TheVariants as codes_of
+use Rattle.os_server.specs.declared.saying.Said.{Said}
+use Rattle.os_server.specs.Orders.{code_text}
+
+-- a report of no error about how far a job is, with this claim
+abbrev pub state_report : JobStatus → Option Claim → Report
+state_report s claim = record { error = false; job = None; message = None; status = s; claim = claim }
+
+-- the report about a job that isn't held
+abbrev pub unknown_report : Report
+unknown_report = record { error = true; job = None; message = Some (codes "unknown job"); status = status.Unknown; claim = None }
+
+-- the result document of what is shown of a job: its own document, and else a report of how far it is
+abbrev pub shown_text : Retrieved → List ℕ
+shown_text shown.Unknown = report_text unknown_report
+shown_text shown.Issued = report_text (state_report status.Issued None)
+shown_text shown.Waiting = report_text (state_report status.Waiting None)
+shown_text shown.Running = report_text (state_report status.Running None)
+shown_text (shown.Finished (Some document)) = document
+shown_text (shown.Finished None) = report_text (state_report status.Finished (Some (Unsure causes.Memory)))
+shown_text shown.Killed = report_text (state_report status.Killed None)
+
+-- a job by the text that names it
+abbrev pub stated : ℕ × State → StatedJob
+stated job = record { id = id_text job.0; state = job.1 }
+
+-- the process document of all jobs
+abbrev pub process_of : given.Statistics → Process
+process_of told = Statistics told.busy told.current told.total (map stated told.jobs)
+
+-- the one job of that number with its state, or none where it isn't held
+abbrev pub job_alone : ℕ → Option State → List StatedJob
+job_alone n None = []
+job_alone n (Some state) = stated (n, state) ∷ []
+
+-- the process document that follows the kill of a job
+abbrev pub process_after : ℕ → Killing → Process
+process_after n told = Statistics told.busy told.current told.total (job_alone n told.state)
+
+abbrev pub bool_text : Bool → List ℕ
+bool_text true = codes "true"
+bool_text false = codes "false"
+
+-- the envelope of what a call returns
+abbrev pub returns : CallKind → List ℕ → Option Said
+returns kind text = Some (record { fault = false; text = reply_text (kind_text kind) text })
+
+-- the envelope of a fault
+abbrev pub fault_said : FaultCode → List ℕ → Said
+fault_said code text = record { fault = true; text = fault_text (code_text code) text }
+
+-- what answers the call of this kind about the job with this number, whose last reply is this; none where it isn't the last
+-- reply of a call
+abbrev pub said_by : CallKind → ℕ → Reply → Option Said
+said_by kind n (reply.Issued m) = returns kind (id_text m)
+said_by kind n reply.Full = Some (fault_said codes_of.Full (codes "10000 jobs"))
+said_by kind n reply.Spent = Some (fault_said codes_of.Spent (codes "no ids"))
+said_by kind n (reply.Sent taken) = returns kind (bool_text taken)
+said_by kind n (reply.Gave given) = None
+said_by kind n (reply.Marked marked) = None
+said_by kind n (reply.Finish end) = None
+said_by kind n (reply.Killing told) = returns kind (process_text (process_after n told))
+said_by kind n (reply.Retrieved job) = returns kind (shown_text job)
+said_by kind n (reply.Statistics told) = returns kind (process_text (process_of told))
+said_by kind n reply.Done = None
+
+-- the same reply answers a call
+abbrev pub is_last : Reply → Bool
+is_last (reply.Issued m) = true
+is_last reply.Full = true
+is_last reply.Spent = true
+is_last (reply.Sent taken) = true
+is_last (reply.Gave given) = false
+is_last (reply.Marked marked) = false
+is_last (reply.Finish end) = false
+is_last (reply.Killing told) = true
+is_last (reply.Retrieved job) = true
+is_last (reply.Statistics told) = true
+is_last reply.Done = false
+
+module _ (made : List ℕ → List ℕ → List Bool → Option (List ℕ) → Type 0) where
+  -- the calls that do what is asked, the last of which has this reply
+  abbrev pub Does : Order → Reply → List Entry → Type 0
+  Does orders.Issue last own = own ≡ entry tables.Issue last ∷ []
+  Does (orders.Solve osil osol) last own = Solves made osil osol last own
+  Does (orders.Send n osil osol) last own = own ≡ entry (tables.Send n osil osol) last ∷ []
+  Does (orders.Retrieve n) last own = own ≡ entry (tables.Retrieve n) last ∷ []
+  Does orders.Knock last own = own ≡ entry tables.Knock last ∷ []
+  Does (orders.Kill n) last own = own ≡ entry (tables.Kill n) last ∷ []
+
+  -- the calls until one found no memory
+  abbrev pub BeginsToDo : Order → List Entry → Type 0
+  BeginsToDo orders.Issue own = own ≡ []
+  BeginsToDo (orders.Solve osil osol) own = BeginsToSolve made osil osol own
+  BeginsToDo (orders.Send n osil osol) own = own ≡ []
+  BeginsToDo (orders.Retrieve n) own = own ≡ []
+  BeginsToDo orders.Knock own = own ≡ []
+  BeginsToDo (orders.Kill n) own = own ≡ []

@@ -1,0 +1,37 @@
+-- What holds of every conversation.
+use Rattle.std.specs.Prelude.{◌≡◌, ℕ, Bool, List, ◌++◌, Option, Some, map, ⊤}
+use Rattle.job_table.specs.Jobs.{Register, empty}
+use Rattle.job_table.specs.History.{Entry, Runs}
+use Rattle.job_runs.specs.Laws.{AreKept}
+use Rattle.os_server.specs.declared.serve.Served.{Served}
+use Rattle.os_server.specs.declared.serve.Served.TheVariants.{Ended, CutShort, ReadFault, WriteFault, Memory}
+use Rattle.os_server.specs.Talk.{Part, AtEnd, Reads, Talk}
+
+-- so ended, no read and no write failed, and there was memory
+abbrev pub HasNoFault : Served → Type 0
+HasNoFault Ended = ⊤
+HasNoFault CutShort = ⊤
+HasNoFault ReadFault = ⊥
+HasNoFault WriteFault = ⊥
+HasNoFault Memory = ⊥
+
+-- the bytes of each part
+abbrev pub takens : List Part → List (List ℕ)
+takens parts = map (λ p. p.taken) parts
+
+-- where a table's history is that of one who makes calls, every finish of a conversation is kept
+abbrev pub ConversationsAreKept : (List ℕ → List ℕ → List Bool → Option (List ℕ) → Type 0) → (List ℕ → List ℕ → Bool → Option (List ℕ) → Type 0) → Type 0
+ConversationsAreKept made right =
+    (end : Served) (past : List ℕ) (left left' : Option (List ℕ)) (p : Part) (before : List Entry) (now : Register)
+    → Talk made end (AtEnd past left left') p → Runs right empty (before ++ p.entries) now → AreKept p.entries
+
+module _ (made : List ℕ → List ℕ → List Bool → Option (List ℕ) → Type 0) where
+  -- without a fault, and with memory, the bytes to come are cut into requests and a last part in one way, which says how the
+  -- conversation ends
+  abbrev pub BytesAreCutOneWay : Type 0
+  BytesAreCutOneWay =
+      (end other : Served) (bytes past behind left rest : List ℕ) (p q : Part)
+      (t : Talk made end (AtEnd past (Some bytes) (Some left)) p) (u : Talk made other (AtEnd behind (Some bytes) (Some rest)) q)
+      → HasNoFault end → HasNoFault other
+      → Reads (p.taken ++ past) (Some bytes) (Some left) → Reads (q.taken ++ behind) (Some bytes) (Some rest)
+      → (end ≡ other) × (takens t.done ≡ takens u.done) × (t.last.taken ≡ u.last.taken)

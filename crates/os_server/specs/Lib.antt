@@ -1,0 +1,5 @@
+pub mod Orders
+pub mod Answers
+pub mod Talk
+pub mod Serving
+pub mod Laws

@@ -1,0 +1,109 @@
+-- What the parts of the server promise on the way.
+use Rattle.std.specs.Prelude.{◌≡◌, ℕ, ◌⊎◌, Bool, true, false, List, [], Option, None, Some, Result, Ok, Err}
+use Rattle.os_io.specs.Streams.{Tells, Told, Appends, Grows, HasRisen, SameOutput}
+use Rattle.http_link.specs.declared.refusal.Refusal.TheVariants.{BadRequest}
+use Rattle.http_link.specs.Requests.{IsBegun, IsCut, EndedBetween}
+use Rattle.soap_calls.specs.declared.fault.SoapFault.TheVariants as soap
+use Rattle.soap_calls.specs.Refusals.{CallFails}
+use Rattle.job_table.specs.declared.job.Job.{Job}
+use Rattle.job_table.specs.declared.calls.Call.{Call}
+use Rattle.job_table.specs.declared.calls.Call.TheVariants as calls
+use Rattle.job_table.specs.declared.calls.Reply as tables
+use Rattle.job_table.specs.declared.calls.Reply.TheVariants as table
+use Rattle.job_table.specs.History.{Entry}
+use Rattle.job_runs.specs.Runs.{Works}
+use Rattle.os_server.specs.declared.order.Order.{Order}
+use Rattle.os_server.specs.declared.reply.Reply.{Reply}
+use Rattle.os_server.specs.declared.reply.Reply.TheVariants.{Answer, Refused, NoMemory}
+use Rattle.os_server.specs.declared.serve.Served.{Served}
+use Rattle.os_server.specs.declared.serve.Served.TheVariants.{Ended, CutShort, ReadFault, WriteFault, Memory}
+use Rattle.os_server.specs.Orders.{kind_of, number_of}
+use Rattle.os_server.specs.Answers.{said_by, Does, BeginsToDo}
+use Rattle.os_server.specs.Talk.{Part, AtEnd, Reads, Answers, LacksMemory, IsDue, IsExchange, Ends, HandsOn, Accounts}
+
+-- the calls that requests ask for, beside those of a job that is run at once
+abbrev pub is_asked : Call → Bool
+is_asked calls.Issue = true
+is_asked (calls.Send n osil osol) = true
+is_asked (calls.Enter osil osol) = false
+is_asked (calls.Claim worker) = false
+is_asked (calls.Look n) = false
+is_asked (calls.Finish j asked document) = false
+is_asked (calls.Kill n) = true
+is_asked (calls.Retrieve n) = true
+is_asked calls.Knock = true
+is_asked calls.Enlist = false
+is_asked calls.Leave = false
+
+module _ (made : List ℕ → List ℕ → List Bool → Option (List ℕ) → Type 0) where
+  -- the calls that do what is asked, and the reply that says the last one's
+  abbrev pub IsOrdered : Order → Bool → List Entry → Reply → Type 0
+  IsOrdered order close own (Answer said closes as_worker) =
+      (closes ≡ close) × (last : tables.Reply) × Does made order last own × (said_by (kind_of order) (number_of order) last ≡ Some said)
+      × (as_worker ≡ true → last ≡ table.Sent true)
+  IsOrdered order close own (Refused refusal) = ⊥
+  IsOrdered order close own NoMemory = BeginsToDo made order own ⊎ ((last : tables.Reply) × Does made order last own)
+
+  -- the calls for a body, and the reply that it is due after them
+  abbrev pub IsReplied : List ℕ → Bool → List Entry → Reply → Type 0
+  IsReplied body close own (Answer said closes as_worker) = (closes ≡ close) × Answers made body own said as_worker
+  IsReplied body close own (Refused refusal) = CallFails body soap.Envelope × (refusal ≡ BadRequest) × (own ≡ [])
+  IsReplied body close own NoMemory = (own ≡ []) ⊎ LacksMemory made body own
+
+  -- what came on the link and what is due to it, by what was taken, the calls and the answer
+  abbrev pub Came : Result Reply Served → Type 0 → List ℕ → List Entry → Type 0
+  Came (Ok reply) AtEnd taken own = IsDue made taken own reply
+  Came (Err Ended) AtEnd taken own = EndedBetween taken × (own ≡ []) × AtEnd
+  Came (Err CutShort) AtEnd taken own = IsCut taken × (own ≡ []) × AtEnd
+  Came (Err ReadFault) AtEnd taken own = IsBegun taken × (own ≡ [])
+  Came (Err WriteFault) AtEnd taken own = ⊥
+  Came (Err Memory) AtEnd taken own = ⊥
+
+  -- one request, after which the next comes or the conversation ends
+  abbrev pub AnswersOne : Option Served → Type 0 → Part → Type 0
+  AnswersOne None AtEnd p = IsExchange made false p
+  AnswersOne (Some end) AtEnd p = Ends made end AtEnd p
+
+  -- what follows a reply that was written: a claim with the run of the job that it gave, and the next request or the end
+  abbrev pub Follows : Reply → List Entry → Option Served → Type 0
+  Follows (Answer said true as_worker) after end =
+      ((given : Option Job) × Works made as_worker given after) × (end ≡ Some Ended)
+  Follows (Answer said false as_worker) after end =
+      ((given : Option Job) × Works made as_worker given after) × (end ≡ None)
+  Follows (Refused refusal) after end = (after ≡ []) × (end ≡ Some Ended)
+  Follows NoMemory after end = (after ≡ []) × (end ≡ Some Memory)
+
+-- how often reads failed where a request came or didn't
+abbrev pub CountsCame : Result Reply Served → ℕ → ℕ → Type 0
+CountsCame (Ok reply) before after = after ≡ before
+CountsCame (Err Ended) before after = after ≡ before
+CountsCame (Err CutShort) before after = after ≡ before
+CountsCame (Err ReadFault) before after = HasRisen before after
+CountsCame (Err WriteFault) before after = ⊥
+CountsCame (Err Memory) before after = ⊥
+
+-- what was read of the link, and the calls for it
+pub record Comes (made : List ℕ → List ℕ → List Bool → Option (List ℕ) → Type 0) (did : List Entry → Type 0) (came : Result Reply Served) (old new : Tells) : Type 0 where
+  pub taken : List ℕ
+  pub own : List Entry
+  pub shows : Came made came (AtEnd [] old.left new.left) taken own
+  pub calls : did own
+  pub read : Reads taken old.left new.left
+  pub counted : CountsCame came old.read_faults new.read_faults
+  pub output : SameOutput old new
+
+-- the counts and what was handed on, where the next request may come or the conversation ends
+abbrev pub AccountsOne : Option Served → Tells → Tells → Type 0
+AccountsOne None old new =
+    (new.read_faults ≡ old.read_faults) × (new.write_faults ≡ old.write_faults) × HandsOn old new
+AccountsOne (Some end) old new = Accounts end old new
+
+-- one request of a link and of one who makes calls, and what follows
+pub record ServesOne (made : List ℕ → List ℕ → List Bool → Option (List ℕ) → Type 0) (did : List Entry → Type 0) (end : Option Served) (old new : Tells) : Type 0 where
+  pub part : Part
+  pub answers : AnswersOne made end (AtEnd [] old.left new.left) part
+  pub calls : did part.entries
+  pub read : Reads part.taken old.left new.left
+  pub wrote : Told old.written new.written (Appends part.out)
+  pub accounts : AccountsOne end old new
+  pub grew : Grows old.handed_on new.handed_on

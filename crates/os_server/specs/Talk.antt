@@ -1,0 +1,206 @@
+-- A conversation on one connection: the bytes read, the calls made with their replies, the bytes written, and its end (RFC 9112, sections 2, 6 and 9; SOAP 1.1, section 6).
+use Rattle.std.specs.Prelude.{◌≡◌, ℕ, ◌<◌, ◌⊎◌, Bool, true, false, List, [], ◌∷◌, ◌++◌, All, length, Option, Some, Err}
+use Rattle.os_io.specs.Streams.{Tells, Told, HasRisen, IsPart, Appends, Grows}
+use Rattle.http_link.specs.declared.refusal.Refusal.{Refusal}
+use Rattle.http_link.specs.declared.refusal.Refusal.TheVariants.{BadRequest, ServiceUnavailable}
+use Rattle.http_link.specs.Checks.{Head}
+use Rattle.http_link.specs.Requests.{IsRequest, IsBegun, IsRequestPart, IsCut, EndedBetween}
+use Rattle.http_link.specs.Responses.{answer_text, fault_answer_text, refusal_text}
+use Rattle.soap_calls.specs.declared.fault.SoapFault.TheVariants as soap
+use Rattle.soap_calls.specs.Refusals.{CallFails}
+use Rattle.job_table.specs.declared.job.Job.{Job}
+use Rattle.job_table.specs.declared.calls.Reply as tables
+use Rattle.job_table.specs.declared.calls.Reply.TheVariants as table
+use Rattle.job_table.specs.History.{Entry}
+use Rattle.job_runs.specs.Runs.{Works}
+use Rattle.os_server.specs.declared.order.Order.{Order}
+use Rattle.os_server.specs.declared.fault.FaultCode.{FaultCode}
+use Rattle.os_server.specs.declared.saying.Said.{Said}
+use Rattle.os_server.specs.declared.reply.Reply.{Reply}
+use Rattle.os_server.specs.declared.reply.Reply.TheVariants.{Answer, Refused, NoMemory}
+use Rattle.os_server.specs.declared.serve.Served.{Served}
+use Rattle.os_server.specs.declared.serve.Served.TheVariants.{Ended, CutShort, ReadFault, WriteFault, Memory}
+use Rattle.os_server.specs.Orders.{Asks, Faults, kind_of, number_of}
+use Rattle.os_server.specs.Answers.{said_by, fault_said, Does, BeginsToDo}
+
+-- most requests of one connection
+abbrev pub most_requests : ℕ
+most_requests = 1000000
+
+-- a part of a conversation: bytes read, calls with their replies, bytes written
+pub record Part : Type 0 where
+  pub taken : List ℕ
+  pub entries : List Entry
+  pub out : List ℕ
+
+abbrev pub part : List ℕ → List Entry → List ℕ → Part
+part taken entries out = record { taken = taken; entries = entries; out = out }
+
+-- one part after another
+abbrev pub then : Part → Part → Part
+then p q = part (p.taken ++ q.taken) (p.entries ++ q.entries) (p.out ++ q.out)
+
+abbrev pub all_of : List Part → Part
+all_of [] = part [] [] []
+all_of (p ∷ ps) = then p (all_of ps)
+
+-- a response with this envelope: 500 where it says a fault, and else 200
+abbrev pub response_with : Bool → List ℕ → List ℕ
+response_with true text = fault_answer_text text
+response_with false text = answer_text text
+
+abbrev pub response_text : Said → List ℕ
+response_text said = response_with said.fault said.text
+
+-- what a reply is written as
+abbrev pub text_of_reply : Reply → List ℕ
+text_of_reply (Answer said close as_worker) = response_text said
+text_of_reply (Refused refusal) = refusal_text refusal
+text_of_reply NoMemory = refusal_text ServiceUnavailable
+
+-- the bytes are a head that is refused so, or a request whose body is no envelope of a call
+abbrev pub IsRefusedAs : List ℕ → Refusal → Type 0
+IsRefusedAs taken refusal =
+    Head taken (Err refusal)
+    ⊎ ((close : Bool) × (body : List ℕ) × IsRequest taken close body × CallFails body soap.Envelope × (refusal ≡ BadRequest))
+
+module _ (made : List ℕ → List ℕ → List Bool → Option (List ℕ) → Type 0) where
+  -- a body asks something of the table, these calls do it, and the reply of the last one is said. A waiting job is then claimed
+  -- as a worker claims one behind a send alone that was taken
+  pub record IsDone (body : List ℕ) (own : List Entry) (said : Said) (as_worker : Bool) : Type 0 where
+    pub order : Order
+    pub last : tables.Reply
+    pub asks : Asks body order
+    pub does : Does made order last own
+    pub says : said_by (kind_of order) (number_of order) last ≡ Some said
+    pub woken : as_worker ≡ true → last ≡ table.Sent true
+
+  -- a body is an envelope whose call is refused, no call of the table is made, and the fault is said
+  pub record IsFaulted (body : List ℕ) (own : List Entry) (said : Said) (as_worker : Bool) : Type 0 where
+    pub code : FaultCode
+    pub text : List ℕ
+    pub faults : Faults body code text
+    pub none : own ≡ []
+    pub says : said ≡ fault_said code text
+    pub alone : as_worker ≡ false
+
+  -- what a body is answered by these calls, and whether a waiting job is then claimed as a worker claims one
+  abbrev pub Answers : List ℕ → List Entry → Said → Bool → Type 0
+  Answers body own said as_worker = IsDone body own said as_worker ⊎ IsFaulted body own said as_worker
+
+  -- a body asks something of the table, and these calls were made until there was no memory: for one of them, or for the answer
+  abbrev pub LacksMemory : List ℕ → List Entry → Type 0
+  LacksMemory body own =
+      (order : Order) × Asks body order × (BeginsToDo made order own ⊎ ((last : tables.Reply) × Does made order last own))
+
+  -- the bytes are a request whose body is answered so
+  abbrev pub IsAnswered : List ℕ → List Entry → Said → Bool → Bool → Type 0
+  IsAnswered taken own said close as_worker =
+      (body : List ℕ) × IsRequest taken close body × Answers body own said as_worker
+
+  -- the bytes are a first part of a request, or all of one, and there was no memory for it or for what it asks
+  abbrev pub IsUnanswered : List ℕ → List Entry → Type 0
+  IsUnanswered taken own =
+      (IsRequestPart taken × (own ≡ []))
+      ⊎ ((close : Bool) × (body : List ℕ) × IsRequest taken close body × LacksMemory body own)
+
+  -- the bytes, the calls made for them, and the reply that they are due
+  abbrev pub IsDue : List ℕ → List Entry → Reply → Type 0
+  IsDue taken own (Answer said close as_worker) = IsAnswered taken own said close as_worker
+  IsDue taken own (Refused refusal) = IsRefusedAs taken refusal × (own ≡ [])
+  IsDue taken own NoMemory = IsUnanswered taken own
+
+  -- one request that was answered, with the calls for it, and then one claim with the run of the job that it gave
+  pub record IsExchange (close : Bool) (p : Part) : Type 0 where
+    pub said : Said
+    pub as_worker : Bool
+    pub given : Option Job
+    pub own : List Entry
+    pub after : List Entry
+    pub answered : IsAnswered p.taken own said close as_worker
+    pub works : Works made as_worker given after
+    pub entries : p.entries ≡ own ++ after
+    pub out : p.out ≡ response_text said
+
+  -- nothing is asked and nothing answered
+  abbrev pub IsSilent : Part → Type 0
+  IsSilent p = (p.entries ≡ []) × (p.out ≡ [])
+
+  -- a request that was refused
+  abbrev pub IsRefused : Part → Type 0
+  IsRefused p = (refusal : Refusal) × IsDue p.taken p.entries (Refused refusal) × (p.out ≡ refusal_text refusal)
+
+  -- the last part of a conversation that ended so. Whether the input was then at its end is given
+  abbrev pub Ends : Served → Type 0 → Part → Type 0
+  Ends Ended AtEnd p = (EndedBetween p.taken × IsSilent p × AtEnd) ⊎ (IsExchange true p ⊎ IsRefused p)
+  Ends CutShort AtEnd p = IsCut p.taken × IsSilent p × AtEnd
+  Ends ReadFault AtEnd p = IsBegun p.taken × IsSilent p
+  Ends WriteFault AtEnd p =
+      (reply : Reply) × IsDue p.taken p.entries reply × IsPart (text_of_reply reply) p.out
+  Ends Memory AtEnd p = IsDue p.taken p.entries NoMemory × (p.out ≡ text_of_reply NoMemory)
+
+  -- as many requests were answered as may be, and nothing follows
+  abbrev pub IsFull : Served → ℕ → Part → Type 0
+  IsFull end count p = (end ≡ Ended) × (count ≡ most_requests) × (p ≡ part [] [] [])
+
+  -- the last part, after so many requests that were answered
+  abbrev pub IsLast : Served → ℕ → Type 0 → Part → Type 0
+  IsLast end count AtEnd p = ((count < most_requests) × Ends end AtEnd p) ⊎ IsFull end count p
+
+  -- a whole conversation: requests that were answered, one after another, and the last part
+  pub record Talk (end : Served) (AtEnd : Type 0) (p : Part) : Type 0 where
+    pub done : List Part
+    pub last : Part
+    pub exchanges : All (IsExchange false) done
+    pub ends : IsLast end (length done) AtEnd last
+    pub whole : p ≡ then (all_of done) last
+
+-- the input was at its end then: nothing is left, and nothing was read past what was taken
+abbrev pub AtEnd : List ℕ → Option (List ℕ) → Option (List ℕ) → Type 0
+AtEnd past left left' = Told left left' (λ before after. past ++ after ≡ [])
+
+-- these bytes were read
+abbrev pub Reads : List ℕ → Option (List ℕ) → Option (List ℕ) → Type 0
+Reads taken left left' = Told left left' (λ before after. before ≡ taken ++ after)
+
+-- what two ends tell together: the way in of one, and the way out of the other
+abbrev pub both_ends : Tells → Tells → Tells
+both_ends i o = record {
+  left = i.left;
+  written = o.written;
+  handed_on = o.handed_on;
+  read_faults = i.read_faults;
+  write_faults = o.write_faults;
+}
+
+-- all that was written is handed on, or nothing was written and nothing handed on
+abbrev pub HandsOn : Tells → Tells → Type 0
+HandsOn old new =
+    (new.handed_on ≡ new.written) ⊎ ((new.written ≡ old.written) × (new.handed_on ≡ old.handed_on))
+
+-- how often reads and writes failed, and what was handed on: a count rose where that fault is the end, and nowhere else
+abbrev pub Accounts : Served → Tells → Tells → Type 0
+Accounts Ended old new =
+    (new.read_faults ≡ old.read_faults) × (new.write_faults ≡ old.write_faults) × HandsOn old new
+Accounts CutShort old new =
+    (new.read_faults ≡ old.read_faults) × (new.write_faults ≡ old.write_faults) × HandsOn old new
+Accounts ReadFault old new =
+    HasRisen old.read_faults new.read_faults × (new.write_faults ≡ old.write_faults) × HandsOn old new
+Accounts WriteFault old new =
+    (new.read_faults ≡ old.read_faults) × HasRisen old.write_faults new.write_faults × Grows old.handed_on new.handed_on
+Accounts Memory old new =
+    (new.read_faults ≡ old.read_faults) × (new.write_faults ≡ old.write_faults) × HandsOn old new
+
+-- a conversation of a link and of one who makes calls, from before to after. More may have been read than it has
+pub record Serves (made : List ℕ → List ℕ → List Bool → Option (List ℕ) → Type 0) (did : List Entry → Type 0) (end : Served) (old new : Tells) : Type 0 where
+  pub part : Part
+  pub past : List ℕ
+  pub talk : Talk made end (AtEnd past old.left new.left) part
+  pub calls : did part.entries
+  pub read : Reads (part.taken ++ past) old.left new.left
+  pub wrote : Told old.written new.written (Appends part.out)
+  pub accounts : Accounts end old new
+
+-- the same, and no byte past it was read
+abbrev pub ServesWhole : (List ℕ → List ℕ → List Bool → Option (List ℕ) → Type 0) → (List Entry → Type 0) → Served → Tells → Tells → Type 0
+ServesWhole made did end old new = (s : Serves made did end old new) × (s.past ≡ [])

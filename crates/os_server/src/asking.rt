@@ -1,0 +1,202 @@
+//! What the body of a request asks.
+ghost use Rattle.std.specs.Prelude.{◌≡◌, ◌++◌, ◌≢◌, [], ℕ, List, Result, Ok, Err, IfOk, OnOk, IfErr};
+ghost use Rattle.soap_calls.specs.declared.call.SoapCall.TheVariants as calls;
+ghost use Rattle.soap_calls.specs.declared.call.SoapCall as call_types;
+ghost use Rattle.soap_calls.specs.Refusals.{CallFails};
+ghost use Rattle.osol_grammar.specs.declared.options.Options as options_types;
+ghost use Rattle.osol_grammar.specs.Reading.{DecodeFails};
+ghost use Rattle.ospl_grammar.specs.Refusals as ospl;
+ghost use Rattle.osol_grammar.specs.Meaning.{IsOptionsText};
+ghost use Rattle.os_server.specs.Orders.{options_of, NamesJob, Names, SaysProcess, MayKnock, Orders, Asks, AsksNothing, OrdersNothing, RefusesOptions, IsAsked};
+
+use crate::fault::{FaultCode, NoOrder};
+use crate::order::Order;
+use job_table::read_id;
+use os_io::{Memory, Text};
+use osol_grammar::{Options, OsolFault};
+use ospl_grammar::OsplFault;
+use soap_calls::{SoapCall, SoapFault, read_call};
+use std::alloc::Global;
+
+/// One text behind another.
+fn joined(alloc: Global, front: &[u8], back: &[u8]) -> Result<Text, Memory>
+    ensures { IfOk result (λ text. text ≡ front.now ++ back.now) }
+{
+    let mut text = Text::from_slice(alloc, front)?;
+    text.extend(back)?;
+    Ok(text)
+}
+
+/// Why bytes that are refused as a call ask nothing.
+fn refused_call(alloc: Global, fault: SoapFault) -> NoOrder
+    ensures { (body : List ℕ) → CallFails body fault → AsksNothing body result }
+{
+    match fault {
+        SoapFault::Envelope => NoOrder::Envelope,
+        SoapFault::Call { name } => match joined(alloc, b"unknown call ", name.as_slice()) {
+            Ok(text) => NoOrder::Fault {
+                code: FaultCode::Call,
+                text,
+            },
+            Err(_) => NoOrder::Memory,
+        },
+        SoapFault::Part { part } => match joined(alloc, b"part ", part.name()) {
+            Ok(text) => NoOrder::Fault {
+                code: FaultCode::Part,
+                text,
+            },
+            Err(_) => NoOrder::Memory,
+        },
+        SoapFault::Memory => NoOrder::Memory,
+    }
+}
+
+/// Why options that are refused leave a call without an order.
+fn refused_options(alloc: Global, fault: OsolFault) -> NoOrder
+    ensures { (call : call_types.SoapCall) → DecodeFails (options_of call) fault → OrdersNothing call result }
+{
+    match osol_grammar::refusal_text(alloc, fault) {
+        Ok(text) => NoOrder::Fault {
+            code: FaultCode::Options,
+            text,
+        },
+        Err(_) => NoOrder::Memory,
+    }
+}
+
+/// Why a process that is refused leaves a knock without an order.
+fn refused_process(alloc: Global, fault: OsplFault) -> NoOrder
+    ensures { (process options : List ℕ) (said : options_types.Options) → IsOptionsText options said → (process ≢ []) → ospl.DecodeFails process fault → OrdersNothing (calls.Knock process options) result }
+{
+    match ospl_grammar::refusal_text(alloc, fault) {
+        Ok(text) => NoOrder::Fault {
+            code: FaultCode::Process,
+            text,
+        },
+        Err(_) => NoOrder::Memory,
+    }
+}
+
+/// The text of a call's options.
+fn options_text(call: &SoapCall) -> &Text
+    ensures { result.now ≡ options_of call.now }
+{
+    match call {
+        SoapCall::Solve { osol, .. } => osol,
+        SoapCall::GetJobId { osol } => osol,
+        SoapCall::Send { osol, .. } => osol,
+        SoapCall::Retrieve { osol } => osol,
+        SoapCall::Knock { osol, .. } => osol,
+        SoapCall::Kill { osol } => osol,
+    }
+}
+
+/// The number of the job that options name, and 0 where they name none.
+fn number_in(options: &Options) -> u64
+    ensures { NamesJob options.now result }
+{
+    match &options.job {
+        Some(id) => number_of_id(id.as_slice()),
+        None => number_of_id(b""),
+    }
+}
+
+/// The number of the job that a text names, and 0 where it names none.
+fn number_of_id(id: &[u8]) -> u64
+    ensures { Names id.now result }
+{
+    match read_id(id) {
+        Some(number) => number,
+        None => 0,
+    }
+}
+
+/// Reads the options of a call.
+fn read_options(alloc: Global, call: &SoapCall) -> Result<Options, NoOrder>
+    ensures ok { IfOk result (IsOptionsText (options_of call.now)) }
+    ensures err { IfErr result (OrdersNothing call.now) }
+{
+    match osol_grammar::decode(alloc, options_text(call).as_slice()) {
+        Ok(options) => Ok(options),
+        Err(fault) => Err(refused_options(alloc, fault)),
+    }
+}
+
+/// Reads the process of a knock, which may be empty.
+fn check_knock(alloc: Global, process: &[u8]) -> Result<(), NoOrder>
+    ensures ok { OnOk result (SaysProcess process.now) }
+    ensures err { (options : List ℕ) (said : options_types.Options) → IsOptionsText options said → IfErr result (OrdersNothing (calls.Knock process.now options)) }
+{
+    if process.is_empty() {
+        return Ok(());
+    }
+    match ospl_grammar::decode(alloc, process) {
+        Ok(_) => Ok(()),
+        Err(fault) => Err(refused_process(alloc, fault)),
+    }
+}
+
+/// Reads the process of a call, where it is one that may have one.
+fn check_process(alloc: Global, call: &SoapCall, options: &Options) -> Result<(), NoOrder>
+    requires { IsOptionsText (options_of call.now) options.now }
+    ensures ok { OnOk result (MayKnock call.now) }
+    ensures err { IfErr result (OrdersNothing call.now) }
+{
+    match call {
+        SoapCall::Knock { ospl, osol: _ } => check_knock(alloc, ospl.as_slice()),
+        SoapCall::Solve { .. } => Ok(()),
+        SoapCall::GetJobId { .. } => Ok(()),
+        SoapCall::Send { .. } => Ok(()),
+        SoapCall::Retrieve { .. } => Ok(()),
+        SoapCall::Kill { .. } => Ok(()),
+    }
+}
+
+/// What a call with these options asks.
+fn asked_by(call: SoapCall, options: &Options) -> Order
+    ensures { IsAsked call options.now result }
+{
+    match call {
+        SoapCall::Solve { osil, osol } => Order::Solve { osil, osol },
+        SoapCall::GetJobId { osol: _ } => Order::Issue,
+        SoapCall::Send { osil, osol } => Order::Send {
+            number: number_in(options),
+            osil,
+            osol,
+        },
+        SoapCall::Retrieve { osol: _ } => Order::Retrieve {
+            number: number_in(options),
+        },
+        SoapCall::Knock { ospl: _, osol: _ } => Order::Knock,
+        SoapCall::Kill { osol: _ } => Order::Kill {
+            number: number_in(options),
+        },
+    }
+}
+
+/// What a call asks, or why it asks nothing.
+fn order_of(alloc: Global, call: SoapCall) -> Result<Order, NoOrder>
+    ensures ok { IfOk result (Orders call) }
+    ensures err { IfErr result (OrdersNothing call) }
+{
+    let options = match read_options(alloc, &call) {
+        Ok(options) => options,
+        Err(none) => return Err(none),
+    };
+    match check_process(alloc, &call, &options) {
+        Ok(()) => Ok(asked_by(call, &options)),
+        Err(none) => Err(none),
+    }
+}
+
+/// What a body asks, or why it asks nothing: first its envelope is read, then its call, the parts, the options, and of a knock
+/// the process.
+pub(crate) fn read_order(alloc: Global, body: &[u8]) -> Result<Order, NoOrder>
+    ensures ok { IfOk result (Asks body.now) }
+    ensures err { IfErr result (AsksNothing body.now) }
+{
+    match read_call(alloc, body) {
+        Ok(call) => order_of(alloc, call),
+        Err(fault) => Err(refused_call(alloc, fault)),
+    }
+}

@@ -1,0 +1,162 @@
+//! What a request is replied.
+ghost use Rattle.std.specs.Prelude.{◌≡◌, List, true};
+ghost use Rattle.job_table.specs.declared.calls.Reply.TheVariants as table;
+ghost use Rattle.os_io.specs.Streams.{Writes, Sends};
+ghost use Rattle.job_table.specs.History.{Entry};
+ghost use Rattle.os_server.specs.Talk.{text_of_reply, response_text};
+ghost use Rattle.os_server.specs.Serving.{IsReplied, IsOrdered, Comes};
+
+use crate::asking::read_order;
+use crate::doing::make;
+use crate::fault::NoOrder;
+use crate::order::Order;
+use crate::saying::{Said, said_fault, say};
+use crate::serve::Served;
+use crate::server::Server;
+use http_link::{
+    Incoming, LinkFault, Refusal, read_request, write_answer, write_fault_answer, write_refusal,
+};
+use job_table::{self, Calls, Verdicts};
+use os_io::{Failed, Sink, Source};
+use std::alloc::Global;
+
+/// What a request is replied.
+#[derive(Drop)]
+pub enum Reply {
+    /// A response with this envelope, whether the connection closes behind it, and whether the job after it is claimed as a
+    /// worker claims one.
+    Answer {
+        said: Said,
+        close: bool,
+        as_worker: bool,
+    },
+    /// The request is refused.
+    Refused(Refusal),
+    /// There was no memory: 503.
+    NoMemory,
+}
+
+/// Whether texts were taken.
+fn was_taken(last: &job_table::Reply) -> bool
+    ensures { result ≡ true → last.now ≡ table.Sent true }
+{
+    match last {
+        job_table::Reply::Sent(taken) => *taken,
+        _ => false,
+    }
+}
+
+/// Whether the job behind the answer is claimed as a worker claims one: texts were taken, and nobody took over that a job waits.
+fn works_after<V: Verdicts, S: Server<V>>(server: &S, last: &job_table::Reply) -> bool
+    ensures { result ≡ true → last.now ≡ table.Sent true }
+{
+    was_taken(last) && !server.wake()
+}
+
+/// Does what is asked, and says the last reply.
+fn answer_order<V: Verdicts, C: Calls<V>, S: Server<V>>(
+    alloc: Global,
+    calls: &mut C,
+    server: &S,
+    order: Order,
+    close: bool,
+) -> Reply
+    ensures { (own : List Entry) × C.did calls.old calls.new own × IsOrdered S.ran order close own result }
+{
+    let kind = order.kind();
+    let number = order.number();
+    match make(alloc, calls, server, order) {
+        Ok(last) => match say(alloc, kind, number, &last) {
+            Ok(said) => {
+                let as_worker = works_after(server, &last);
+                Reply::Answer {
+                    said,
+                    close,
+                    as_worker,
+                }
+            }
+            Err(_) => Reply::NoMemory,
+        },
+        Err(_) => Reply::NoMemory,
+    }
+}
+
+/// What a body is replied.
+fn reply_to<V: Verdicts, C: Calls<V>, S: Server<V>>(
+    alloc: Global,
+    calls: &mut C,
+    server: &S,
+    body: &[u8],
+    close: bool,
+) -> Reply
+    ensures { (own : List Entry) × C.did calls.old calls.new own × IsReplied S.ran body.now close own result }
+{
+    match read_order(alloc, body) {
+        Ok(order) => answer_order(alloc, calls, server, order, close),
+        Err(NoOrder::Envelope) => Reply::Refused(Refusal::BadRequest),
+        Err(NoOrder::Fault { code, text }) => match said_fault(alloc, code, text.as_slice()) {
+            Ok(said) => Reply::Answer {
+                said,
+                close,
+                as_worker: false,
+            },
+            Err(_) => Reply::NoMemory,
+        },
+        Err(NoOrder::Memory) => Reply::NoMemory,
+    }
+}
+
+/// Reads a request and makes its calls.
+pub(crate) fn next_reply<I: Source, V: Verdicts, C: Calls<V>, S: Server<V>>(
+    alloc: Global,
+    input: &mut I,
+    calls: &mut C,
+    server: &S,
+) -> Result<Reply, Served>
+    ensures { Comes S.ran (C.did calls.old calls.new) result (I.tells input.old) (I.tells input.new) }
+{
+    match read_request(alloc, input) {
+        Ok(Incoming::Whole(request)) => Ok(reply_to(
+            alloc,
+            calls,
+            server,
+            request.body.as_slice(),
+            request.close,
+        )),
+        Ok(Incoming::Refused(refusal)) => Ok(Reply::Refused(refusal)),
+        Ok(Incoming::Cut) => Err(Served::CutShort),
+        Ok(Incoming::Ended) => Err(Served::Ended),
+        Err(LinkFault::ReadFault) => Err(Served::ReadFault),
+        Err(LinkFault::Memory) => Ok(Reply::NoMemory),
+    }
+}
+
+/// Writes the response that carries what is said.
+fn write_said<S: Sink>(sink: &mut S, said: &Said) -> Result<(), Failed>
+    ensures { Writes result (response_text said.now) (S.tells sink.old) (S.tells sink.new) }
+{
+    if said.fault {
+        write_fault_answer(sink, said.text.as_slice())
+    } else {
+        write_answer(sink, said.text.as_slice())
+    }
+}
+
+/// Writes a reply.
+fn write_reply<S: Sink>(sink: &mut S, reply: &Reply) -> Result<(), Failed>
+    ensures { Writes result (text_of_reply reply.now) (S.tells sink.old) (S.tells sink.new) }
+{
+    match reply {
+        Reply::Answer { said, .. } => write_said(sink, said),
+        Reply::Refused(refusal) => write_refusal(sink, *refusal),
+        Reply::NoMemory => write_refusal(sink, Refusal::ServiceUnavailable),
+    }
+}
+
+/// Writes a reply and hands it on.
+pub(crate) fn send<S: Sink>(sink: &mut S, reply: &Reply) -> Result<(), Failed>
+    ensures { Sends result (text_of_reply reply.now) (S.tells sink.old) (S.tells sink.new) }
+{
+    write_reply(sink, reply)?;
+    sink.flush()
+}

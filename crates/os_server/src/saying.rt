@@ -1,0 +1,77 @@
+//! What answers a call.
+ghost use Rattle.std.specs.Prelude.{◌≡◌, true, Some, IfOk};
+ghost use Rattle.os_server.specs.Answers.{said_by, fault_said, is_last, bool_text, returns, shown_text};
+
+use crate::fault::FaultCode;
+use crate::shown::reply_of_shown;
+use crate::stated::{id_of, text_after_kill, text_of_all};
+use job_table::{Reply, Retrieved};
+use os_io::{Memory, Text};
+use soap_calls::{CallKind, write_fault, write_reply};
+use std::alloc::Global;
+
+/// The envelope that answers a call, and whether it says a fault.
+#[derive(Drop)]
+pub struct Said {
+    pub fault: bool,
+    pub text: Text,
+}
+
+/// The envelope of a fault.
+pub(crate) fn said_fault(alloc: Global, code: FaultCode, text: &[u8]) -> Result<Said, Memory>
+    ensures { IfOk result (λ said. said ≡ fault_said code text.now) }
+{
+    let text = write_fault(alloc, code.text(), text)?;
+    Ok(Said { fault: true, text })
+}
+
+fn word_of(taken: bool) -> &'static [u8]
+    ensures { result.now ≡ bool_text taken }
+{
+    if taken { b"true" } else { b"false" }
+}
+
+/// The envelope of what a call returns.
+fn returned(alloc: Global, kind: CallKind, text: &[u8]) -> Result<Said, Memory>
+    ensures { IfOk result (λ said. returns kind text.now ≡ Some said) }
+{
+    let text = write_reply(alloc, kind.name(), text)?;
+    Ok(Said { fault: false, text })
+}
+
+/// The envelope that returns the result document of what is shown of a job.
+fn returned_job(alloc: Global, kind: CallKind, shown: &Retrieved) -> Result<Said, Memory>
+    ensures { IfOk result (λ said. returns kind (shown_text shown.now) ≡ Some said) }
+{
+    let text = reply_of_shown(alloc, kind.name(), shown)?;
+    Ok(Said { fault: false, text })
+}
+
+/// What answers the call of this kind about the job of this number, by the last reply of the table.
+pub(crate) fn say(alloc: Global, kind: CallKind, number: u64, last: &Reply) -> Result<Said, Memory>
+    requires { is_last last.now ≡ true }
+    ensures { IfOk result (λ said. said_by kind number last.now ≡ Some said) }
+{
+    match last {
+        Reply::Issued(given) => {
+            let id = id_of(alloc, *given)?;
+            returned(alloc, kind, id.as_slice())
+        }
+        Reply::Full => said_fault(alloc, FaultCode::Full, b"10000 jobs"),
+        Reply::Spent => said_fault(alloc, FaultCode::Spent, b"no ids"),
+        Reply::Sent(taken) => returned(alloc, kind, word_of(*taken)),
+        Reply::Killing(told) => {
+            let text = text_after_kill(alloc, number, told)?;
+            returned(alloc, kind, text.as_slice())
+        }
+        Reply::Retrieved(shown) => returned_job(alloc, kind, shown),
+        Reply::Statistics(told) => {
+            let text = text_of_all(alloc, told)?;
+            returned(alloc, kind, text.as_slice())
+        }
+        Reply::Gave(_) => unreachable!(),
+        Reply::Marked(_) => unreachable!(),
+        Reply::Finish(_) => unreachable!(),
+        Reply::Done => unreachable!(),
+    }
+}

@@ -1,0 +1,152 @@
+//! The requests of a connection, one after another.
+ghost use Rattle.std.specs.Prelude.{◌≡◌, List};
+ghost use Rattle.job_table.specs.History.{Entry};
+ghost use Rattle.os_io.specs.Streams.{SameInput, SameOutput};
+ghost use Rattle.os_server.specs.Talk.{Serves, ServesWhole, both_ends};
+ghost use Rattle.os_server.specs.Serving.{Follows, ServesOne};
+
+use crate::reply::{Reply, next_reply, send};
+use crate::server::Server;
+use http_link::Carried;
+use job_runs::work_one;
+use job_table::{Calls, Verdicts};
+use os_io::{Link, Sink, Source};
+use std::alloc::Global;
+
+/// How a conversation ended.
+#[derive(Clone, Copy, PartialEq, Eq, Debug, Drop)]
+pub enum Served {
+    /// The input ended between two requests, or a request asked to close and was answered, or one was refused, or as many were
+    /// answered as may be.
+    Ended,
+    /// The input ended inside a request that nothing refused before.
+    CutShort,
+    /// A read failed.
+    ReadFault,
+    /// A write or a flush failed.
+    WriteFault,
+    /// There was no memory for a request or for its answer, and 503 was written.
+    Memory,
+}
+
+/// The most requests of one connection.
+const MOST_REQUESTS: u32 = 1_000_000;
+
+/// Does what follows a reply that was written, and says whether the conversation ends.
+fn follow<V: Verdicts, C: Calls<V>, S: Server<V>>(
+    alloc: Global,
+    calls: &mut C,
+    server: &S,
+    reply: &Reply,
+) -> Option<Served>
+    ensures { (after : List Entry) × C.did calls.old calls.new after × Follows S.ran reply.now after result }
+{
+    match reply {
+        Reply::Answer {
+            said: _,
+            close,
+            as_worker,
+        } => {
+            let close = *close;
+            work_one(alloc, calls, server, *as_worker);
+            if close { Some(Served::Ended) } else { None }
+        }
+        Reply::Refused(_) => Some(Served::Ended),
+        Reply::NoMemory => Some(Served::Memory),
+    }
+}
+
+/// Serves one request, and says whether the conversation ends with it.
+fn serve_request<L: Link, V: Verdicts, C: Calls<V>, S: Server<V>>(
+    alloc: Global,
+    link: &mut L,
+    calls: &mut C,
+    server: &S,
+) -> Option<Served>
+    ensures { ServesOne S.ran (C.did calls.old calls.new) result (L.tells link.old) (L.tells link.new) }
+{
+    match next_reply(alloc, link, calls, server) {
+        Ok(reply) => match send(link, &reply) {
+            Ok(()) => follow(alloc, calls, server, &reply),
+            Err(_) => Some(Served::WriteFault),
+        },
+        Err(served) => Some(served),
+    }
+}
+
+/// Serves the requests of a link, one after another, until its end.
+fn serve_all<L: Link, V: Verdicts, C: Calls<V>, S: Server<V>>(
+    alloc: Global,
+    link: &mut L,
+    calls: &mut C,
+    server: &S,
+) -> Served
+    ensures { Serves S.ran (C.did calls.old calls.new) result (L.tells link.old) (L.tells link.new) }
+{
+    for _ in 0..MOST_REQUESTS {
+        match serve_request(alloc, link, calls, server) {
+            None => {}
+            Some(served) => return served,
+        }
+    }
+    Served::Ended
+}
+
+/// Serves one request of an input and an output, and says whether the conversation ends with it.
+fn serve_next<I: Source, O: Sink, V: Verdicts, C: Calls<V>, S: Server<V>>(
+    alloc: Global,
+    input: &mut I,
+    output: &mut O,
+    calls: &mut C,
+    server: &S,
+) -> Option<Served>
+    ensures serves { ServesOne S.ran (C.did calls.old calls.new) result (both_ends (I.tells input.old) (O.tells output.old)) (both_ends (I.tells input.new) (O.tells output.new)) }
+    ensures output_of_input { SameOutput (I.tells input.old) (I.tells input.new) }
+    ensures input_of_output { SameInput (O.tells output.old) (O.tells output.new) }
+{
+    match next_reply(alloc, input, calls, server) {
+        Ok(reply) => match send(output, &reply) {
+            Ok(()) => follow(alloc, calls, server, &reply),
+            Err(_) => Some(Served::WriteFault),
+        },
+        Err(served) => Some(served),
+    }
+}
+
+/// Serves the requests that come on an input, one after another, and writes the answers to an output, until the conversation's end.
+/// Nothing is read past it, and of a head one byte after another, so a costly input wants a buffer of its own.
+pub fn serve_ends<I: Source, O: Sink, V: Verdicts, C: Calls<V>, S: Server<V>>(
+    alloc: Global,
+    input: &mut I,
+    output: &mut O,
+    calls: &mut C,
+    server: &S,
+) -> Served
+    ensures serves { ServesWhole S.ran (C.did calls.old calls.new) result (both_ends (I.tells input.old) (O.tells output.old)) (both_ends (I.tells input.new) (O.tells output.new)) }
+    ensures output_of_input { SameOutput (I.tells input.old) (I.tells input.new) }
+    ensures input_of_output { SameInput (O.tells output.old) (O.tells output.new) }
+{
+    for _ in 0..MOST_REQUESTS {
+        match serve_next(alloc, input, output, calls, server) {
+            None => {}
+            Some(served) => return served,
+        }
+    }
+    Served::Ended
+}
+
+/// Serves a link, and gives it back: its requests are read and answered one after another, each by the calls that it asks, and
+/// behind each answer that is 200 or 500 a job that waits is run. The link is read ahead in large pieces, and what was read past
+/// the conversation's end is given up.
+pub fn serve_one<L: Link, V: Verdicts, C: Calls<V>, S: Server<V>>(
+    alloc: Global,
+    link: L,
+    calls: &mut C,
+    server: &S,
+) -> (Served, L)
+    ensures { Serves S.ran (C.did calls.old calls.new) result.0 (L.tells link) (L.tells result.1) }
+{
+    let mut carried = Carried::new(link);
+    let served = serve_all(alloc, &mut carried, calls, server);
+    (served, carried.into_link())
+}

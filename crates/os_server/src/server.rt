@@ -1,0 +1,10 @@
+//! Who serves.
+use job_runs::Runner;
+use job_table::Verdicts;
+
+/// Who serves a connection: what runs jobs, and what wakes those who wait for one.
+pub trait Server<V: Verdicts>: Runner<V> {
+    /// Tells that a job waits. True where somebody took that over, and will claim one in time; else whoever tells it claims one
+    /// as a worker would.
+    fn wake(&self) -> bool;
+}
