@@ -1,0 +1,5 @@
+use Rattle.generator.proofs.Valid.{valid}
+use Rattle.generator.proofs.laws.generated_is_valid.Goals as goal
+
+pub returns : goal.returns
+returns c = valid
