@@ -3,17 +3,17 @@ use Rattle.std.proofs.Common.{◌≡◌, ◌∙◌, ◌⊎◌, List, [], ◌∷�
 use Rattle.std.specs.Prelude.{◌||◌, codes, fold, is_some, option_map, slice_get, unwrap_or}
 use Rattle.std.specs.List.{list_all}
 use Rattle.std.specs.Str.{bytes_eq}
-use Rattle.std.proofs.lemmas.Option.{none-some}
+use Rattle.std.proofs.lemmas.Option.{none-some, same_Some}
 use Rattle.std.proofs.lemmas.Slice.Eq.{bytes_eq-Decides}
 use Rattle.clap.specs.Kinds.{Kinds, or_else}
-use Rattle.clap.specs.Walk.{Held, Names, Row, Step, Text, Walk, finished, idle, nothing_held, rows_after, settled, subcommand_or_other, walk, walk_from, walked}
+use Rattle.clap.specs.Walk.{first_of, Held, Names, Row, Step, Text, Walk, finished, idle, nothing_held, rows_after, settled, subcommand_or_other, walk, walk_from, walked}
 use Rattle.clap.specs.Simple.{Shape, built, entered, names_of}
 use Rattle.clap.specs.Faults.{check_fault, defaults_fault, entered_fault, fault_of, level_fault, other_fault, settle_fault, step_fault, turn_fault, walk_fault}
 use Rattle.clap.proofs.FaultLemmas.{stopped_fault}
 use Rattle.clap.proofs.OnLiterals.{clap_on_literals}
 use Rattle.clap.proofs.WalkLemmas.{walk_stopped}
 use Rattle.command_line.specs.Forms.{StandFor}
-use Rattle.command_line.specs.Words.{Command, asked_with, asks, program}
+use Rattle.command_line.specs.Words.{Command, Session, Check, Solve, asked_with, asks, program}
 use Rattle.command_line.proofs.Flags.{HasHelpAlone, dashes, first_none, flag_or_not, goes_to_place, next_none, no_flag, some_fault}
 use Rattle.command_line.proofs.Standing.{is_single, level_faults, level_rows, level_stands, values_fault, values_rows}
 
@@ -28,10 +28,10 @@ subcommands = names_of (built program)
 program_alone : HasHelpAlone program_shape
 program_alone = record { longs = λ name. refl; shorts = λ x. refl }
 
--- the subcommand that a word calls, by whether it is `session`, `check` or `help`
-abbrev called_by : (session check help : Bool) → Option Text
-called_by session check help =
-    option_map (λ (s : Text × List Text). s.0) (cond session (Some (codes "session", [])) (cond check (Some (codes "check", [])) (cond help (Some (codes "help", [])) None)))
+-- the subcommand that a word calls, by whether it is `session`, `check`, `solve` or `help`
+abbrev called_by : (session check solve help : Bool) → Option Text
+called_by session check solve help =
+    option_map (λ (s : Text × List Text). s.0) (cond session (Some (codes "session", [])) (cond check (Some (codes "check", [])) (cond solve (Some (codes "solve", [])) (cond help (Some (codes "help", [])) None))))
 
 -- the faults of the first word, by the subcommand that it calls
 abbrev turn_with : Option Text → Text → Kinds
@@ -48,12 +48,13 @@ no_command word none =
       | inr is ↦ is
     ]
 
-which_word : (session check help : Bool) (word : Text) → turn_with (called_by session check help) word ≡ []
-    → (session ≡ true) ⊎ (check ≡ true) ⊎ (word ≡ dashes)
-which_word true check help word none = inl refl
-which_word false true help word none = inr (inl refl)
-which_word false false true word none = absurd (some_fault _ _ none)
-which_word false false false word none = inr (inr (no_command word none))
+which_word : (session check solve help : Bool) (word : Text) → turn_with (called_by session check solve help) word ≡ []
+    → (session ≡ true) ⊎ (check ≡ true) ⊎ (solve ≡ true) ⊎ (word ≡ dashes)
+which_word true check solve help word none = inl refl
+which_word false true solve help word none = inr (inl refl)
+which_word false false true help word none = inr (inr (inl refl))
+which_word false false false true word none = absurd (some_fault _ _ none)
+which_word false false false false word none = inr (inr (inr (no_command word none)))
 
 or_false : (b : Bool) → (b || false) ≡ true → b ≡ true
 or_false true e = refl
@@ -65,14 +66,15 @@ dashes_are_refused name [] none = some_fault _ _ none
 dashes_are_refused name (word ∷ words) none = some_fault _ _ none
 
 pub first_word : (name word : Text) (words : List Text) → fault_of program (name ∷ word ∷ words) ≡ []
-    → (word ≡ codes "session") ⊎ (word ≡ codes "check")
+    → (word ≡ codes "session") ⊎ (word ≡ codes "check") ⊎ (word ≡ codes "solve")
 unfolding clap_on_literals
 first_word name word words none =
     let turn : turn_fault program_shape subcommands (walk_from nothing_held) word ≡ [] = first_none _ _ (first_none _ _ none) in
-    elim (which_word (bytes_eq (codes "session") word || false) (bytes_eq (codes "check") word || false) (bytes_eq (codes "help") word || false) word turn) [
+    elim (which_word (bytes_eq (codes "session") word || false) (bytes_eq (codes "check") word || false) (bytes_eq (codes "solve") word || false) (bytes_eq (codes "help") word || false) word turn) [
       | inl session ↦ inl (sym ((bytes_eq-Decides (codes "session") word).0 (or_false _ session)))
-      | inr (inl check) ↦ inr (sym ((bytes_eq-Decides (codes "check") word).0 (or_false _ check)))
-      | inr (inr is) ↦ absurd (dashes_are_refused name words (subst (λ (t : Text). fault_of program (name ∷ t ∷ words) ≡ []) is none))
+      | inr (inl check) ↦ inr (inl (sym ((bytes_eq-Decides (codes "check") word).0 (or_false _ check))))
+      | inr (inr (inl solve)) ↦ inr (inr (sym ((bytes_eq-Decides (codes "solve") word).0 (or_false _ solve))))
+      | inr (inr (inr is)) ↦ absurd (dashes_are_refused name words (subst (λ (t : Text). fault_of program (name ∷ t ∷ words) ≡ []) is none))
     ]
 
 -- ---- a command, and the words behind it
@@ -154,3 +156,26 @@ has_check = record {
   singles = refl;
   heard = λ name words. reached (codes "check") refl refl name words;
 }
+
+-- ---- what `solve` asks for
+
+abbrev solve_leaf : Shape
+solve_leaf = unwrap_or (slice_get (built program).subs 2) program_shape
+
+-- a job of files
+abbrev pub IsJob : Command → Type 0
+IsJob Session = ⊥
+IsJob (Check osil osrl) = ⊥
+IsJob (Solve osil options) = Unit {0}
+
+asks_job : (faults : Kinds) (rows : List Row) (it : Command) → asked_with faults (Some (codes "solve", rows)) ≡ Some it → IsJob it
+asks_job [] rows it asked = by (first_of (codes "osil") rows) asked
+  where
+    by : (osil : Option Text) → option_map (λ (name : Text). Solve name (first_of (codes "options") rows)) osil ≡ Some it → IsJob it
+    by None none = absurd (none-some it none)
+    by (Some name) some = subst IsJob (same_Some (Solve name (first_of (codes "options") rows)) it some) tt
+asks_job (fault ∷ faults) rows it asked = absurd (none-some it asked)
+
+pub solve_asks : (name : Text) (words : List Text) (it : Command) → asks (name ∷ codes "solve" ∷ words) ≡ Some it → IsJob it
+unfolding clap_on_literals
+solve_asks name words it asked = asks_job (faults_by [] (stopped_at (codes "solve") words)) (rows_after solve_leaf.rules [] words) it (sym (reached (codes "solve") refl refl name words) ∙ asked)

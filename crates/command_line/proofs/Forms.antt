@@ -7,18 +7,20 @@ use Rattle.clap.specs.Faults.{fault_of}
 use Rattle.clap.specs.Simple.{Shape, subcommand_of}
 use Rattle.clap.proofs.OnLiterals.{clap_on_literals}
 use Rattle.command_line.specs.Forms.{IsCallOf, StandFor, is_plain, ends, dashes, next}
-use Rattle.command_line.specs.Words.{Check, Command, HasCheckWords, HasSessionWords, IsCheck, IsSession, Session, asks, program}
+use Rattle.command_line.specs.Words.{Check, Command, HasCheckWords, HasSessionWords, IsCheck, IsSession, Session, Solve, asks, program}
 use Rattle.command_line.proofs.Flags.{some_fault}
-use Rattle.command_line.proofs.Commands.{HasCommand, answer, answers, asked_for, check_leaf, first_word, has_check, has_session, none_refused, session_shape}
+use Rattle.command_line.proofs.Commands.{HasCommand, answer, answers, asked_for, check_leaf, first_word, has_check, has_session, IsJob, none_refused, session_shape, solve_asks}
 
 -- the word that calls a command, and the values that it is called with
 abbrev word_of : Command → Text
 word_of Session = codes "session"
 word_of (Check osil osrl) = codes "check"
+word_of (Solve osil options) = codes "solve"
 
 abbrev values_of : Command → List Text
 values_of Session = []
 values_of (Check osil osrl) = osil ∷ osrl ∷ []
+values_of (Solve osil options) = osil ∷ []
 
 -- ---- words of these forms ask for the command
 
@@ -58,24 +60,26 @@ called command s has takes name word rest it is asked =
     let same = takes call.0 it call.2 in
     record { name = name; rest = rest; are = ap (λ (t : Text). name ∷ t ∷ rest) (is ∙ same.0); stand = subst (λ (values : List Text). StandFor rest values) same.1 call.1 }
 
-words_are : (words : List Text) (it : Command) → asks words ≡ Some it → fault_of program words ≡ [] → IsCallOf (word_of it) (values_of it) words
+-- of the commands that are called with values alone
+words_are : (words : List Text) (it : Command) → (IsJob it → ⊥) → asks words ≡ Some it → fault_of program words ≡ [] → IsCallOf (word_of it) (values_of it) words
 unfolding clap_on_literals
-words_are [] it asked none = absurd (some_fault _ _ none)
-words_are (name ∷ []) it asked none = absurd (some_fault _ _ none)
-words_are (name ∷ word ∷ rest) it asked none = elim (first_word name word rest none) [
+words_are [] it other asked none = absurd (some_fault _ _ none)
+words_are (name ∷ []) it other asked none = absurd (some_fault _ _ none)
+words_are (name ∷ word ∷ rest) it other asked none = elim (first_word name word rest none) [
   | inl is ↦ called (codes "session") session_shape has_session session_takes name word rest it is asked
-  | inr is ↦ called (codes "check") check_leaf has_check check_takes name word rest it is asked
+  | inr (inl is) ↦ called (codes "check") check_leaf has_check check_takes name word rest it is asked
+  | inr (inr is) ↦ absurd (other (solve_asks name rest it (subst (λ (t : Text). asks (name ∷ t ∷ rest) ≡ Some it) is asked)))
 ]
 
-called_words : (it : Command) (words : List Text) → asks words ≡ Some it → IsCallOf (word_of it) (values_of it) words
+called_words : (it : Command) (words : List Text) → (IsJob it → ⊥) → asks words ≡ Some it → IsCallOf (word_of it) (values_of it) words
 unfolding asks
-called_words it words asked = words_are words it asked (none_refused (fault_of program words) (subcommand_of program words) it asked)
+called_words it words other asked = words_are words it other asked (none_refused (fault_of program words) (subcommand_of program words) it asked)
 
 pub session_words : (words : List Text) → IsSession words → HasSessionWords words
-session_words words session = called_words Session words session
+session_words words session = called_words Session words (λ job. job) session
 
 pub check_words : (words : List Text) (osil osrl : Text) → IsCheck words osil osrl → HasCheckWords words osil osrl
-check_words words osil osrl check = called_words (Check osil osrl) words check
+check_words words osil osrl check = called_words (Check osil osrl) words (λ job. job) check
 
 -- ---- the forms of a check that are mostly used
 

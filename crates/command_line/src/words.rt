@@ -4,7 +4,7 @@ ghost use Rattle.std.specs.String.{string_bytes};
 ghost use Rattle.os_io.specs.Streams.{Sends};
 ghost use Rattle.clap.specs.Words.{app_of, found_of, rows_of, subcommand_rows_of};
 ghost use Rattle.command_line.specs.Forms.{is_plain};
-ghost use Rattle.command_line.specs.Words.{HasCheckWords, HasSessionWords, IsCheck, IsSession, asked_by, asks, files_of, meant, program, usage};
+ghost use Rattle.command_line.specs.Words.{HasCheckWords, HasSessionWords, IsCheck, IsSession, asked_by, asks, files_of, job_of, meant, program, usage};
 
 use clap::error::ErrorKind;
 use clap::{Arg, ArgMatches, Command};
@@ -20,7 +20,15 @@ pub enum Asked<'w> {
     /// To read one request from the input and write its response to the output.
     Session,
     /// To check the result in one file of the instance in another.
-    Check { osil: &'w str, osrl: &'w str },
+    Check {
+        osil: &'w str,
+        osrl: &'w str,
+    },
+    /// To solve the instance in a file, with the options in another one, if it is named.
+    Solve {
+        osil: &'w str,
+        options: Option<&'w str>,
+    },
 }
 
 /// The program's command line.
@@ -31,10 +39,14 @@ fn program<'a>(alloc: Global) -> Result<Command<'a>, Memory>
     let check = Command::new(alloc, "check")
         .arg(Arg::new(alloc, "osil").required(true))?
         .arg(Arg::new(alloc, "osrl").required(true))?;
+    let solve = Command::new(alloc, "solve")
+        .arg(Arg::new(alloc, "osil").required(true))?
+        .arg(Arg::new(alloc, "options").long("options"))?;
     Command::new(alloc, "os_app")
         .subcommand_required(true)
         .subcommand(session)?
-        .subcommand(check)
+        .subcommand(check)?
+        .subcommand(solve)
 }
 
 /// The files that a check's words name.
@@ -44,6 +56,15 @@ fn files_of<'w>(matches: &ArgMatches<'w>) -> Option<Asked<'w>>
     let osil = matches.get_str("osil")?;
     let osrl = matches.get_str("osrl")?;
     Some(Asked::Check { osil, osrl })
+}
+
+/// The files that `solve`'s words name.
+fn job_of<'w>(matches: &ArgMatches<'w>) -> Option<Asked<'w>>
+    ensures { option_map meant result ≡ job_of (rows_of (found_of matches.now)) }
+{
+    let osil = matches.get_str("osil")?;
+    let options = matches.get_str("options");
+    Some(Asked::Solve { osil, options })
 }
 
 /// What a subcommand asks for.
@@ -56,6 +77,9 @@ fn asked_by<'w>(matches: &ArgMatches<'w>) -> Option<Asked<'w>>
     }
     if name == "check" {
         return files_of(found);
+    }
+    if name == "solve" {
+        return job_of(found);
     }
     None
 }
