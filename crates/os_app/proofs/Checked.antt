@@ -8,11 +8,13 @@ use Rattle.cert_checker.specs.declared.refused.Refused.TheVariants as reasons
 use Rattle.cert_checker.specs.Documents.{IsAcceptedText, DocsRefuse}
 use Rattle.cert_checker.specs.Texts.{IsAnswerText, IsRefusedText}
 use Rattle.os_app.specs.Grounds.{AnswersAreOne}
-use Rattle.os_app.specs.Checks.{IsAnswerLine, IsAnswerTo, IsAnswerAbout, CheckEnds, accepted, refused, in_full, unread, unwritten, unmade}
-use Rattle.command_line.specs.Words.{Command, Session, Check, IsCheck}
-use Rattle.os_app.specs.Runs.{Run, AsksLine, IsUntaken, IsFileFault, IsUnheard, RunEnds, checked, file_fault, unsent, unheard, MayBeThere, IsJudged, Runs}
+use Rattle.os_app.specs.Checks.{IsAnswerLine, IsAnswerTo, IsAnswerAbout, accepted, refused}
+use Rattle.os_app.specs.Ends.{FilesEnd, in_full, unread, unwritten, unmade}
+use Rattle.command_line.specs.Words.{Command, Session, Check, Solve, IsCheck}
+use Rattle.os_app.specs.Runs.{Run, AsksLine, IsUntaken, IsFileFault, IsUnheard, MayBeThere, IsJudged, Runs}
 use Rattle.os_app.specs.Runs as runs
 use Rattle.os_app.proofs.Deciding.{one_command, some_or_none}
+use Rattle.os_app.proofs.Telling.{run_ends}
 
 -- ---- what is said of two files, by what they say together
 
@@ -69,7 +71,7 @@ may_be_there held read is none = subst (λ (h : Held). MayHold h read) none is
 -- how the check of a run ends
 abbrev EndsCheck : ℕ → Run → List ℕ → List ℕ → Type 0
 EndsCheck status run osil_name osrl_name =
-    CheckEnds status (run.held osil_name) (run.held osrl_name) run.file_faults run.file_faults_after run.output run.output_after
+    FilesEnd (IsAnswerAbout (run.held osil_name) (run.held osrl_name)) status run.file_faults run.file_faults_after run.output run.output_after
 
 -- what a run and its check say of it
 record Checking (status : ℕ) (run : Run) (osil_name osrl_name : List ℕ) : Type 0 where
@@ -80,7 +82,7 @@ record Checking (status : ℕ) (run : Run) (osil_name osrl_name : List ℕ) : Ty
 fault_of_file : (status : ℕ) (run : Run) (osil_name osrl_name : List ℕ) → Checking status run osil_name osrl_name → HasRisen run.file_faults run.file_faults_after
     → run.output_after ≡ run.output → IsFileFault run
 fault_of_file status run osil_name osrl_name c risen same =
-    record { osil_name = osil_name; osrl_name = osrl_name; check = c.check; failed = risen; untaken = c.untaken; unwritten = same }
+    record { named = inl (osil_name, osrl_name, c.check); failed = risen; untaken = c.untaken; unwritten = same }
 
 no_memory : (status : ℕ) (run : Run) (osil_name osrl_name : List ℕ) → Checking status run osil_name osrl_name
     → run.file_faults_after ≡ run.file_faults → run.output_after ≡ run.output → IsUnheard run
@@ -89,26 +91,6 @@ no_memory status run osil_name osrl_name c files same = record { untaken = c.unt
 asks_line : (status due : ℕ) (run : Run) (osil_name osrl_name line : List ℕ) → Checking status run osil_name osrl_name
     → IsAnswerAbout (run.held osil_name) (run.held osrl_name) due line → AsksLine run due line
 asks_line status due run osil_name osrl_name line c about = record { osil_name = osil_name; osrl_name = osrl_name; check = c.check; about = about }
-
-ends_of : (status : ℕ) (run : Run) (osil_name osrl_name : List ℕ) → Checking status run osil_name osrl_name → RunEnds status run
-ends_of status run osil_name osrl_name c = go c.ends
-  where
-    go : EndsCheck status run osil_name osrl_name → RunEnds status run
-    go (in_full line about files sent) = checked (record {
-      line = line;
-      asked = asks_line status status run osil_name osrl_name line c about;
-      sent = sent;
-      untaken = c.untaken;
-      all_files_read = files;
-    })
-    go (unread is risen same) = file_fault is (fault_of_file status run osil_name osrl_name c risen same)
-    go (unwritten due line is about files off) = unsent is (record {
-      text = line;
-      due = inr (record { status = due; asked = asks_line status due run osil_name osrl_name line c about; all_files_read = files });
-      breaks_off = off;
-      untaken = c.untaken;
-    })
-    go (unmade is files same) = unheard is (no_memory status run osil_name osrl_name c files same)
 
 -- what the bytes decide
 judged_by : AnswersAreOne → (status : ℕ) (run : Run) (osil_name osrl_name osil osrl : List ℕ) → Checking status run osil_name osrl_name
@@ -173,10 +155,12 @@ both_there status run osil_name osrl_name (unmade is files same) (inr one) = abs
 abbrev first_name : Command → List ℕ
 first_name Session = []
 first_name (Check osil osrl) = osil
+first_name (Solve osil options) = []
 
 abbrev second_name : Command → List ℕ
 second_name Session = []
 second_name (Check osil osrl) = osrl
+second_name (Solve osil options) = []
 
 same_names : (words : List (List ℕ)) (a b c d : List ℕ) → IsCheck words a b → IsCheck words c d → Check a b ≡ Check c d
 same_names words a b c d first second = one_command _ (Check a b) (Check c d) first second
@@ -187,8 +171,8 @@ pub check_runs : AnswersAreOne → (status : ℕ) (run : Run) (osil_name osrl_na
 check_runs one status run osil_name osrl_name check ends untaken =
     let c : Checking status run osil_name osrl_name = record { check = check; ends = ends; untaken = untaken } in
     record {
-      ends = ends_of status run osil_name osrl_name c;
-      files = λ none. absurd (none osil_name osrl_name check);
+      ends = run_ends (IsAnswerAbout (run.held osil_name) (run.held osrl_name)) status run (inl (osil_name, osrl_name, check)) (λ s line about. inl (asks_line status s run osil_name osrl_name line c about)) ends untaken;
+      files = λ none. absurd (none.0 osil_name osrl_name check);
       misused = (
         λ two. absurd (never_two status run osil_name osrl_name ends two),
         λ all. absurd (some_or_none _ _ check all.0),

@@ -1,10 +1,10 @@
 -- What the words of a run decide of it.
 use Rattle.std.proofs.Common.{◌≡◌, ◌∙◌, ℕ, ◌⊎◌, inl, inr, List, Option, Some, None, arith, refl, sym, subst}
 use Rattle.std.proofs.lemmas.Option.{none-some, same_Some}
-use Rattle.http_session.specs.declared.session.Served.{Served}
-use Rattle.http_session.specs.declared.session.Served.TheVariants.{Answered, Ended, CutShort, ReadFault, WriteFault, Memory}
+use Rattle.os_server.specs.declared.serve.Served.{Served}
+use Rattle.os_server.specs.declared.serve.Served.TheVariants.{Ended, CutShort, ReadFault, WriteFault, Memory}
 use Rattle.os_app.specs.Statuses.{session_status}
-use Rattle.command_line.specs.Words.{Command, Session, Check, IsSession, IsNoCheck, IsNoCommand}
+use Rattle.command_line.specs.Words.{Command, Session, Check, Solve, IsSession, IsSolve, IsNoCheck, IsNoCommand}
 use Rattle.os_app.specs.Runs.{Run, IsServed, IsUnheard, RunEnds, served, unheard, AllFilesRead, Runs}
 use Rattle.os_app.specs.Runs as runs
 
@@ -18,7 +18,6 @@ one_command asked a b first second = same_Some a b (sym first ∙ second)
 
 -- a session's status isn't that of words that are no command's
 never_misused : (how : Served) → session_status how ≡ 2 → ⊥
-never_misused Answered two = absurd (omega (arith, two))
 never_misused Ended two = absurd (omega (arith, two))
 never_misused CutShort two = absurd (omega (arith, two))
 never_misused ReadFault two = absurd (omega (arith, two))
@@ -29,12 +28,18 @@ never_misused Memory two = absurd (omega (arith, two))
 abbrev IsCheckCommand : Command → Type 0
 IsCheckCommand Session = ⊥
 IsCheckCommand (Check osil osrl) = Unit {0}
+IsCheckCommand (Solve osil options) = ⊥
 
 pub no_check : (words : List (List ℕ)) → IsSession words → IsNoCheck words
 no_check words session osil osrl check =
     subst IsCheckCommand (one_command _ (Check osil osrl) Session check session) tt
 
--- a session of one request
+-- nor are `solve`'s
+pub solves_no_check : (words : List (List ℕ)) (name : List ℕ) (options : Option (List ℕ)) → IsSolve words name options → IsNoCheck words
+solves_no_check words name options solve osil osrl check =
+    subst IsCheckCommand (one_command _ (Check osil osrl) (Solve name options) check solve) tt
+
+-- a session
 pub session_runs : (run : Run) (how : Served) (status : ℕ) → status ≡ session_status how → IsServed how run → AllFilesRead run → Runs status run
 session_runs run how status is one files = record {
   ends = served how is one;

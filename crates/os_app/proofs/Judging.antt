@@ -76,6 +76,5 @@ pub held_still : (before after : List ℕ → Held) (name text : List ℕ) → a
     → ReadsFirst 4194305 (before name) text
 held_still before after name text same is = subst (λ (held : List ℕ → Held). ReadsFirst 4194305 (held name) text) same is
 
-pub with_status : (instance result : Held) (status due : ℕ) (line : List ℕ) → status ≡ due → IsAnswerAbout instance result due line
-    → IsAnswerAbout instance result status line
-with_status instance result status due line is about = subst (λ (s : ℕ). IsAnswerAbout instance result s line) (sym is) about
+pub status_same : (osil osrl : List ℕ) (status due : ℕ) (line : List ℕ) → status ≡ due → IsAnswerTo osil osrl due line → IsAnswerTo osil osrl status line
+status_same osil osrl status due line is answers = subst (λ (s : ℕ). IsAnswerTo osil osrl s line) (sym is) answers

@@ -1,9 +1,7 @@
 pub mod FirstBytes
 pub mod Judging
-pub mod Answering
-pub mod OneClaim
-pub mod OneResult
 pub mod Running
 pub mod Deciding
+pub mod Telling
 pub mod Checked
-pub mod OneReply
+pub mod Solved

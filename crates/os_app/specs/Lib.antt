@@ -1,6 +1,6 @@
 pub mod Checks
-pub mod Answers
-pub mod Results
+pub mod Solves
+pub mod Ends
 pub mod Grounds
 pub mod Runs
 pub mod Sent

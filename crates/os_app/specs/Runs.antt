@@ -1,19 +1,20 @@
 -- How a run ends, by its words and by what came and went.
-use Rattle.std.specs.Prelude.{◌≡◌, ◌↔◌, ℕ, ◌⊎◌, List, [], ◌∷◌, ◌++◌, Ok, Err}
+use Rattle.std.specs.Prelude.{◌≡◌, ◌↔◌, ℕ, ◌⊎◌, Option, List, [], ◌∷◌, ◌++◌, Ok, Err, option_map}
 use Rattle.os_io.specs.Files.{Held, Holds, NoFile}
 use Rattle.os_io.specs.Streams.{Tells, HasRisen}
-use Rattle.http_session.specs.declared.session.Served.{Served}
-use Rattle.http_session.specs.Session.{ServesOne, HandsOn, CountsReads, CountsWrites}
+use Rattle.os_server.specs.declared.serve.Served.{Served}
+use Rattle.os_server.specs.Talk.{both_ends}
+use Rattle.sessions.specs.Sessions as sessions
 use Rattle.cert_checker.specs.declared.documents.Kind.{Kind}
 use Rattle.cert_checker.specs.declared.refused.Refused.{Refused}
 use Rattle.cert_checker.specs.declared.refused.Refused.TheVariants as reasons
 use Rattle.cert_checker.specs.Documents.{IsAcceptedText, DocsRefuse}
 use Rattle.cert_checker.specs.Texts.{IsAnswerText}
-use Rattle.os_app.specs.Answers.{SolverAnswers}
 use Rattle.os_app.specs.Checks.{IsAnswerLine, IsAnswerAbout}
+use Rattle.os_app.specs.Solves.{IsDocumentAbout}
 use Rattle.os_app.specs.Sent.{IsSent, BreaksOff}
 use Rattle.os_app.specs.Statuses.{session_status}
-use Rattle.command_line.specs.Words.{IsSession, IsCheck, IsNoCheck, IsNoCommand, usage}
+use Rattle.command_line.specs.Words.{IsSession, IsCheck, IsSolve, NamesNoFile, IsNoCommand, usage}
 
 -- a run's words, what names hold, and what its files, its input and its output tell before and after it
 pub record Run : Type 0 where
@@ -41,19 +42,31 @@ pub record AsksLine (run : Run) (status : ℕ) (line : List ℕ) : Type 0 where
   pub check : IsCheck run.words osil_name osrl_name
   pub about : IsAnswerAbout (run.held osil_name) (run.held osrl_name) status line
 
--- a session served one request in this way
+-- the words are `solve`'s, and this is the document that they ask for, with its status
+pub record AsksDocument (run : Run) (status : ℕ) (text : List ℕ) : Type 0 where
+  pub osil_name : List ℕ
+  pub options_name : Option (List ℕ)
+  pub solve : IsSolve run.words osil_name options_name
+  pub about : IsDocumentAbout (run.held osil_name) (option_map run.held options_name) status text
+
+-- the text that the words ask for, of files
+abbrev pub Asks : Run → (status : ℕ) → (text : List ℕ) → Type 0
+Asks run status text = AsksLine run status text ⊎ AsksDocument run status text
+
+-- the words name files
+abbrev pub NamesFiles : List (List ℕ) → Type 0
+NamesFiles words = ((osil : List ℕ) × (osrl : List ℕ) × IsCheck words osil osrl) ⊎ ((osil : List ℕ) × (options : Option (List ℕ)) × IsSolve words osil options)
+
+-- a session was served, which ended so: over a table of jobs of its own its requests were answered, and each document that was shown is proved
 pub record IsServed (how : Served) (run : Run) : Type 0 where
   pub session : IsSession run.words
-  pub serves : ServesOne SolverAnswers how run.input.left run.input_after.left run.output.written run.output_after.written
-  pub handed_on : HandsOn how run.output run.output_after
-  pub reads : CountsReads how run.input.read_faults run.input_after.read_faults
-  pub writes : CountsWrites how run.output.write_faults run.output_after.write_faults
+  pub serves : sessions.IsSession how (both_ends run.input run.output) (both_ends run.input_after run.output_after)
 
--- two files were checked, and the line that says how was sent
-pub record IsChecked (status : ℕ) (run : Run) : Type 0 where
-  pub line : List ℕ
-  pub asked : AsksLine run status line
-  pub sent : IsSent line run.output run.output_after
+-- files were read, and the text that was asked for was sent
+pub record IsAnswered (status : ℕ) (run : Run) : Type 0 where
+  pub text : List ℕ
+  pub asked : Asks run status text
+  pub sent : IsSent text run.output run.output_after
   pub untaken : IsUntaken run
   pub all_files_read : AllFilesRead run
 
@@ -65,9 +78,7 @@ pub record IsMisused (run : Run) : Type 0 where
 
 -- a file wasn't read, and nothing was taken or written
 pub record IsFileFault (run : Run) : Type 0 where
-  pub osil_name : List ℕ
-  pub osrl_name : List ℕ
-  pub check : IsCheck run.words osil_name osrl_name
+  pub named : NamesFiles run.words
   pub failed : HasRisen run.file_faults run.file_faults_after
   pub untaken : IsUntaken run
   pub unwritten : run.output_after ≡ run.output
@@ -77,20 +88,20 @@ pub record IsUsageDue (run : Run) (text : List ℕ) : Type 0 where
   pub other : IsNoCommand run.words
   pub usage_is : text ≡ usage
 
--- what is due to a check: the line that says what its files say together
-pub record IsLineDue (run : Run) (line : List ℕ) : Type 0 where
+-- what is due to words that name files: the text that they ask for
+pub record IsAnswerDue (run : Run) (text : List ℕ) : Type 0 where
   pub status : ℕ
-  pub asked : AsksLine run status line
+  pub asked : Asks run status text
   pub all_files_read : AllFilesRead run
 
 -- a write or a flush failed, and a first part was written of what was due
 pub record IsUnsent (run : Run) : Type 0 where
   pub text : List ℕ
-  pub due : IsUsageDue run text ⊎ IsLineDue run text
+  pub due : IsUsageDue run text ⊎ IsAnswerDue run text
   pub breaks_off : BreaksOff text run.output run.output_after
   pub untaken : IsUntaken run
 
--- there was no memory to read the words, or to check two files: nothing was taken, and nothing was written
+-- there was no memory to read the words, or to answer about files: nothing was taken, and nothing was written
 pub record IsUnheard (run : Run) : Type 0 where
   pub untaken : IsUntaken run
   pub unwritten : run.output_after ≡ run.output
@@ -99,7 +110,7 @@ pub record IsUnheard (run : Run) : Type 0 where
 -- how a run ends, by its status
 pub data RunEnds (status : ℕ) (run : Run) : Type 0 where
   served : (how : Served) → status ≡ session_status how → IsServed how run → RunEnds status run
-  checked : IsChecked status run → RunEnds status run
+  answered : IsAnswered status run → RunEnds status run
   misused : status ≡ 2 → IsMisused run → RunEnds status run
   file_fault : status ≡ 3 → IsFileFault run → RunEnds status run
   unsent : status ≡ 4 → IsUnsent run → RunEnds status run
@@ -124,12 +135,12 @@ pub record IsJudged (status : ℕ) (run : Run) (osil osrl : List ℕ) : Type 0 w
 abbrev pub MayBeThere : Run → List ℕ → Type 0
 MayBeThere run name = run.held name ≡ NoFile → ⊥
 
--- a run ends in one of these ways. What the bytes to come decide of a session follows by the laws of `http_session`. Status 2
+-- a run ends in one of these ways. What the bytes to come decide of a session follows by the laws of `os_server`. Status 2
 -- says that the words are no command's, no write failed and there was memory, exactly; the bytes of the files, where they are
--- told, decide how a check ends, and it answers only where no file is told to be absent. Only in a check a file fails to be read
+-- told, decide how a check ends, and it answers only where no file is told to be absent. Only of words that name files a file fails to be read
 pub record Runs (status : ℕ) (run : Run) : Type 0 where
   pub ends : RunEnds status run
-  pub files : IsNoCheck run.words → AllFilesRead run
+  pub files : NamesNoFile run.words → AllFilesRead run
   pub misused : (status ≡ 2) ↔ (IsNoCommand run.words × (status ≡ 4 → ⊥) × (status ≡ 5 → ⊥))
   pub judged : (osil_name osrl_name osil osrl : List ℕ) → IsCheck run.words osil_name osrl_name → run.held osil_name ≡ Holds osil → run.held osrl_name ≡ Holds osrl → IsJudged status run osil osrl
   pub there : (osil_name osrl_name : List ℕ) → IsCheck run.words osil_name osrl_name → (status ≡ 0) ⊎ (status ≡ 1) → MayBeThere run osil_name × MayBeThere run osrl_name

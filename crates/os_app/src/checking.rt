@@ -4,18 +4,25 @@ ghost use Rattle.os_io.specs.Files.{CountsFiles};
 ghost use Rattle.os_app.specs.Checks.{IsAnswerAbout, IsAnswerLine, IsAnswerTo};
 ghost use Rattle.os_app.specs.Statuses.{check_status};
 
+use crate::answer::Answer;
 use cert_checker::{Kind, Refused, answer_text, check_docs};
 use os_io::{FileFault, Files, Memory, Text};
 use std::alloc::Global;
 
 /// Of each file so many bytes are read at most: one more than a document has, so that a file that is too long is refused.
-const MOST_BYTES: u64 = 4_194_305;
+pub(crate) const MOST_BYTES: u64 = 4_194_305;
 
-/// The line that says what two files say together, and whether it says that the claim is accepted.
-#[derive(Drop)]
-pub(crate) struct Answer {
-    pub(crate) is_accepted: bool,
-    pub(crate) line: Text,
+/// The claim is accepted.
+const ACCEPTED: u8 = 0;
+
+/// The claim, or a document, is refused.
+const REFUSED: u8 = 1;
+
+/// The status of a check's answer.
+fn status_of(is_accepted: bool) -> u8
+    ensures { result ≡ check_status is_accepted }
+{
+    if is_accepted { ACCEPTED } else { REFUSED }
 }
 
 /// An answer in words, and a line feed.
@@ -29,13 +36,13 @@ fn line_of(alloc: Global, answer: &Result<Kind, Refused>) -> Result<Text, Memory
 
 /// What these bytes of two files say together.
 fn answer_to(alloc: Global, osil: &[u8], osrl: &[u8]) -> Result<Answer, Memory>
-    ensures { IfOk result (λ a. IsAnswerTo osil.now osrl.now (check_status a.is_accepted) a.line) }
+    ensures { IfOk result (λ a. IsAnswerTo osil.now osrl.now a.status a.text) }
 {
     let answer = check_docs(alloc, osil, osrl);
     let line = line_of(alloc, &answer)?;
     Ok(Answer {
-        is_accepted: answer.is_ok(),
-        line,
+        status: status_of(answer.is_ok()),
+        text: line,
     })
 }
 
@@ -48,7 +55,7 @@ pub(crate) fn answer_about<F: Files>(
 ) -> Result<Answer, FileFault>
     ensures held { F.held files.new ≡ F.held files.old }
     ensures counted { CountsFiles result (F.faults files.old) (F.faults files.new) }
-    ensures ok { IfOk result (λ a. IsAnswerAbout (F.held files.old osil.now) (F.held files.old osrl.now) (check_status a.is_accepted) a.line) }
+    ensures ok { IfOk result (λ a. IsAnswerAbout (F.held files.old osil.now) (F.held files.old osrl.now) a.status a.text) }
 {
     let instance = files.read_all(alloc, osil, MOST_BYTES)?;
     let result = files.read_all(alloc, osrl, MOST_BYTES)?;

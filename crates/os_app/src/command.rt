@@ -4,25 +4,24 @@ ghost use Rattle.std.specs.Process.{exit_status};
 ghost use Rattle.std.specs.String.{string_bytes};
 ghost use Rattle.os_io.specs.Streams.{SameInput, SameOutput};
 ghost use Rattle.os_app.specs.Grounds.{AnswersAreOne};
-ghost use Rattle.os_app.specs.Checks.{CheckEnds};
+ghost use Rattle.os_app.specs.Ends.{IsTold};
 ghost use Rattle.os_app.specs.Runs.{Runs};
-ghost use Rattle.command_line.specs.Words.{IsNoCheck};
-ghost use Rattle.os_app.specs.Statuses.{check_status, session_status};
+ghost use Rattle.command_line.specs.Words.{NamesNoFile};
+ghost use Rattle.os_app.specs.Statuses.{session_status};
 
-use crate::checking::{Answer, answer_about};
-use crate::service::PlainSolver;
+use crate::answer::Answer;
+use crate::checking::answer_about;
+use crate::solving::solve_files;
 use cert_checker::{accepted_is_not_refused, documents_have_one_answer, documents_have_one_kind};
 use command_line::{Asked, read, write_usage};
-use http_session::{Served, serve_one};
 use os_io::{Failed, FileFault, Files, Listener, Memory, Sink, Source, send_all};
+use os_server::Served;
+use sessions::serve_session;
 use std::alloc::{AllocError, Global};
 use std::process::ExitCode;
 
 /// All was written.
 const DONE: u8 = 0;
-
-/// The claim of a result is refused.
-const NEGATIVE: u8 = 1;
 
 /// The words aren't a command, and the usage was written.
 const MISUSED: u8 = 2;
@@ -39,12 +38,11 @@ const NO_MEMORY: u8 = 5;
 /// The input ended inside a request.
 const CUT_SHORT: u8 = 8;
 
-/// The status of a session of one request.
+/// The status of a session.
 fn session_status(served: Served) -> u8
     ensures { result ≡ session_status served }
 {
     match served {
-        Served::Answered => DONE,
         Served::Ended => DONE,
         Served::CutShort => CUT_SHORT,
         Served::ReadFault => READ_FAULT,
@@ -53,28 +51,14 @@ fn session_status(served: Served) -> u8
     }
 }
 
-/// The status of an answer that was written.
-fn check_status(answer: &Answer) -> u8
-    ensures { result ≡ check_status answer.now.is_accepted }
-{
-    if answer.is_accepted { DONE } else { NEGATIVE }
-}
-
-/// Checks the files of these names, sends the line that says what they say together, and says how it went.
-fn check_files<F: Files, O: Sink>(
-    alloc: Global,
-    files: &mut F,
-    output: &mut O,
-    osil: &str,
-    osrl: &str,
-) -> u8
-    ensures held { F.held files.new ≡ F.held files.old }
-    ensures ends { CheckEnds result (F.held files.old osil.now) (F.held files.old osrl.now) (F.faults files.old) (F.faults files.new) (O.tells output.old) (O.tells output.new) }
+/// Sends an answer about files, if there is one, and says how it went.
+fn tell<O: Sink>(output: &mut O, answer: Result<Answer, FileFault>) -> u8
+    ensures told { IsTold answer result (O.tells output.old) (O.tells output.new) }
     ensures input { SameInput (O.tells output.old) (O.tells output.new) }
 {
-    match answer_about(alloc, files, osil, osrl) {
-        Ok(answer) => match send_all(output, answer.line.as_slice()) {
-            Ok(()) => check_status(&answer),
+    match answer {
+        Ok(answer) => match send_all(output, answer.text.as_slice()) {
+            Ok(()) => answer.status,
             Err(Failed) => WRITE_FAULT,
         },
         Err(FileFault::Failed) => READ_FAULT,
@@ -102,13 +86,14 @@ fn documents_are_judged_once()
     documents_have_one_answer();
 }
 
-/// Does what the words ask for, and says how it went. The words begin with the program's name. `session` reads one
-/// request from the input and writes its response to the output. `check` reads two files, an instance's document and a
-/// result document, and writes `accepted` and what is accepted, or `refused` and why, in a line.
+/// Does what the words ask for, and says how it went. The words begin with the program's name. `session` serves the
+/// requests that come on the input, over a table of jobs of its own, and writes the answers to the output. `check` reads two files, an instance's document and a
+/// result document, and writes `accepted` and what is accepted, or `refused` and why, in a line. `solve` reads an instance's
+/// file, and one of options where it is named, and writes the result document that answers them.
 ///
-/// The status is 0 where all was written and handed on, 1 where `refused` was, 2 where the words are no command and the
+/// The status is 0 where all was written and handed on, 1 where `refused` or the document of an error was, 2 where the words are no command and the
 /// usage was, 3 where a read of the input or of a file failed, 4 where a write failed, 5 where there was no memory, and 8
-/// where the input ended inside a request. Where there was no memory to read the words or to check the files, nothing is
+/// where the input ended inside a request. Where there was no memory to read the words or to answer about files, nothing is
 /// taken and nothing written.
 pub fn run<F: Files, I: Source, O: Sink, N: Listener>(
     alloc: Global,
@@ -131,14 +116,17 @@ pub fn run<F: Files, I: Source, O: Sink, N: Listener>(
     ensures output_of_input { SameOutput (I.tells input.old) (I.tells input.new) }
     ensures input_of_output { SameInput (O.tells output.old) (O.tells output.new) }
     ensures held { F.held files.new ≡ F.held files.old }
-    ensures unread { IsNoCheck (map string_bytes words.now) → files.new ≡ files.old }
+    ensures unread { NamesNoFile (map string_bytes words.now) → files.new ≡ files.old }
     ensures net { net.new ≡ net.old }
 {
     match read(alloc, words) {
-        Ok(Some(Asked::Session)) => session_status(serve_one(alloc, input, output, &PlainSolver)),
+        Ok(Some(Asked::Session)) => session_status(serve_session(alloc, input, output)),
         Ok(Some(Asked::Check { osil, osrl })) => {
             documents_are_judged_once();
-            check_files(alloc, files, output, osil, osrl)
+            tell(output, answer_about(alloc, files, osil, osrl))
+        }
+        Ok(Some(Asked::Solve { osil, options })) => {
+            tell(output, solve_files(alloc, files, osil, options))
         }
         Ok(None) => match write_usage(output) {
             Ok(()) => MISUSED,

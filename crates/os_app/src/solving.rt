@@ -1,91 +1,71 @@
-//! Answers texts that are to be solved, each by a result document.
-ghost use Rattle.std.specs.Prelude.{◌≡◌, ℕ, List, IfOk};
-ghost use Rattle.instance.specs.Parts.{Parts, IsValid};
-ghost use Rattle.osil_grammar.specs.Reading.{IsInstanceText, IsRefusedText};
-ghost use Rattle.osil_grammar.specs.Refusals.{Refusal};
-ghost use Rattle.osil_grammar.specs.Texts.{refusal_text};
-ghost use Rattle.osrl_grammar.specs.Writing.{report_text};
-ghost use Rattle.os_app.specs.Grounds.{TextsAreOne};
-ghost use Rattle.os_app.specs.Results.{IsResult, IsResultOf, claim_report, error_report};
+//! Solves jobs that nobody stops.
+ghost use Rattle.std.specs.Prelude.{◌≡◌, false, option_map, IfOk};
+ghost use Rattle.os_io.specs.Files.{CountsFiles};
+ghost use Rattle.solve_run.specs.Running.{IsRight};
+ghost use Rattle.os_app.specs.Solves.{IsDocumentAbout, ReadsOptions};
+ghost use Rattle.os_app.specs.Statuses.{solve_status};
 
-use certificate::Claim;
-use fraction::equal_fractions;
-use instance::Instance;
-use os_io::{Memory, Text};
-use osil_grammar::{
-    decode, documents_are_refused_in_one_way, documents_mean_one_instance, refusal_text,
-};
-use osrl_grammar::{JobStatus, Report, encode};
-use plain_claim::plain_claim;
+use crate::answer::Answer;
+use crate::checking::MOST_BYTES;
+use os_io::{FileFault, Files, Memory, Never, Text};
+use solve_run::{Document, answer_job};
 use std::alloc::Global;
 
-/// What is said of an instance that isn't plain.
-const NOT_SOLVED: &[u8] = b"not solved yet";
+/// The report says what was found.
+const FOUND: u8 = 0;
 
-/// The result document of an error, with this message.
-fn error_result(alloc: Global, message: Text) -> Result<Text, Memory>
-    ensures { IfOk result (λ r. r ≡ report_text (error_report message)) }
+/// The report is an error's.
+const ERROR: u8 = 1;
+
+/// The result document of a job that nobody stops, from the texts of its instance and of its options.
+pub(crate) fn solve(alloc: Global, osil: &[u8], osol: &[u8]) -> Result<Document, Memory>
+    ensures { IfOk result (IsRight osil.now osol.now false) }
 {
-    let report = Report {
-        error: true,
-        job: None,
-        message: Some(message),
-        status: JobStatus::Finished,
-        claim: None,
-    };
-    encode(alloc, &report)
+    let mut watch = Never;
+    answer_job(alloc, osil, osol, &mut watch)
 }
 
-/// The result document of a claim.
-fn claim_result(alloc: Global, claim: Claim) -> Result<Text, Memory>
-    ensures { IfOk result (λ r. r ≡ report_text (claim_report claim)) }
+/// The status of a result document.
+fn status_of(is_error: bool) -> u8
+    ensures { result ≡ solve_status is_error }
 {
-    let report = Report {
-        error: false,
-        job: None,
-        message: None,
-        status: JobStatus::Finished,
-        claim: Some(claim),
-    };
-    encode(alloc, &report)
+    if is_error { ERROR } else { FOUND }
 }
 
-/// The result document of an instance.
-fn instance_result(alloc: Global, instance: &Instance) -> Result<Text, Memory>
-    requires { IsValid instance.now }
-    ensures { IfOk result (λ r. IsResultOf instance.now r) }
+/// The first bytes of the file of options, if one is named.
+fn read_options<F: Files>(
+    alloc: Global,
+    files: &mut F,
+    name: Option<&str>,
+) -> Result<Text, FileFault>
+    ensures held { F.held files.new ≡ F.held files.old }
+    ensures counted { CountsFiles result (F.faults files.old) (F.faults files.new) }
+    ensures ok { IfOk result (ReadsOptions (option_map (λ n. F.held files.old n.now) name.entry)) }
 {
-    match plain_claim(alloc, instance)? {
-        Some(claim) => claim_result(alloc, claim),
-        None => error_result(alloc, Text::from_slice(alloc, NOT_SOLVED)?),
+    match name {
+        Some(name) => files.read_all(alloc, name, MOST_BYTES),
+        None => Ok(Text::new(alloc)),
     }
 }
 
-/// The result document that answers a text. A fault for want of memory has no text, so it is want of memory here.
-pub(crate) fn solve(alloc: Global, text: &[u8]) -> Result<Text, Memory>
-    ensures { IfOk result (λ r. IsResult text.now r) }
+/// The result document of the instance in the file of this name, with the options in another one, if it is named.
+pub(crate) fn solve_files<F: Files>(
+    alloc: Global,
+    files: &mut F,
+    osil: &str,
+    options: Option<&str>,
+) -> Result<Answer, FileFault>
+    ensures held { F.held files.new ≡ F.held files.old }
+    ensures counted { CountsFiles result (F.faults files.old) (F.faults files.new) }
+    ensures ok { IfOk result (λ a. IsDocumentAbout (F.held files.old osil.now) (option_map (λ n. F.held files.old n.now) options.entry) a.status a.text) }
 {
-    match decode(alloc, text) {
-        Ok(instance) => instance_result(alloc, &instance),
-        Err(fault) => error_result(alloc, refusal_text(alloc, &fault)?),
+    let instance = files.read_all(alloc, osil, MOST_BYTES)?;
+    let options = read_options(alloc, files, options)?;
+    match solve(alloc, instance.as_slice(), options.as_slice()) {
+        Ok(document) => Ok(Answer {
+            status: status_of(document.is_error),
+            text: document.text,
+        }),
+        Err(_) => Err(FileFault::Memory),
     }
-}
-
-/// The laws of instances' texts and of fractions.
-fn texts_are_one()
-    ensures { TextsAreOne }
-{
-    documents_mean_one_instance();
-    documents_are_refused_in_one_way();
-    equal_fractions();
-}
-
-/// Law: a text has one result document. That of a text that stands for an instance is the instance's, and that of a
-/// document that is refused says why.
-pub fn texts_have_one_result()
-    ensures one { (text r s : List ℕ) → IsResult text r → IsResult text s → r ≡ s }
-    ensures instance { (text : List ℕ) (p : Parts) (r : List ℕ) → IsInstanceText text p → IsResult text r → IsResultOf p r }
-    ensures refused { (text : List ℕ) (why : Refusal) (n : ℕ) (r : List ℕ) → IsRefusedText text why n → IsResult text r → r ≡ report_text (error_report (refusal_text why n)) }
-{
-    texts_are_one();
 }

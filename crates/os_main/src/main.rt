@@ -1,7 +1,8 @@
 //! A solver service for linear programs.
 //!
 //! `session` reads one request from the standard input and writes its response to the standard output. `check OSIL OSRL`
-//! reads an instance and a result from two files and says whether what is claimed is shown. The program is
+//! reads an instance and a result from two files and says whether what is claimed is shown, and `solve OSIL [--options OSOL]`
+//! writes the result document of an instance. The program is
 //! [`os_app::run`] over the real words, files, input and output, and ends with its status.
 #![tactic(auto)]
 

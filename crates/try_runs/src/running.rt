@@ -6,8 +6,8 @@ use os_app::run;
 use os_io::{Files, MemListener, Memory, Text};
 use std::alloc::Global;
 
-/// Room for each whole answer.
-const ROOM: usize = 4_000;
+/// Room for all that a run writes.
+const ROOM: usize = 9_000;
 
 /// No call fails.
 const NONE: Fails = Fails {
