@@ -1,8 +1,8 @@
-"""Times the reading of instances: seconds and peak memory of `session`, of `xmllint --noout` and of `xml.etree`.
+"""Times the reading of instances: seconds and peak memory of `check`, of `xmllint --noout` and of `xml.etree`.
 
 Each instance has 1,000 variables with two ends each, and 10, 100 or 1,000 rows of 100 entries, listed one by one; the last
-is at every limit. `session` gets it in the CDATA section of an envelope, reads it whole and answers that it isn't
-solved yet. The peers get the instance's file; `xml.etree` builds its tree in Python, whose own start is in the figure.
+is at every limit. `check` gets it beside a small result, whose point it accepts. The peers get the instance's file alone;
+`xml.etree` builds its tree in Python, whose own start is in the figure.
 """
 
 import os
@@ -41,31 +41,39 @@ def osil(rows):
     )
 
 
-def request(text):
-    body = f"<Envelope><Body><solve><osil><![CDATA[{text}]]></osil></solve></Body></Envelope>".encode()
-    return f"POST /os HTTP/1.1\r\nHost: a\r\nContent-Length: {len(body)}\r\n\r\n".encode() + body
+def result():
+    """A result that claims the point 0, which each instance allows."""
+    zeros = "<item>0</item>" * VARIABLES
+    return (
+        '<osrl><general><generalStatus type="normal"/></general><job><status>finished</status></job><optimization><solution>'
+        + '<status type="bestSoFar"/><otherSolutionResults>'
+        + f'<otherSolutionResult name="os_cert.point">{zeros}</otherSolutionResult>'
+        + '<otherSolutionResult name="os_cert.value"><item>0</item></otherSolutionResult>'
+        + '<otherSolutionResult name="os_cert.cause"><item>killed</item></otherSolutionResult>'
+        + "</otherSolutionResults></solution></optimization></osrl>"
+    )
 
 
-def answered(call):
+def answered(words):
     """The instance was read: else a figure would be that of a refusal."""
-    with open(call, "rb") as source:
-        out = subprocess.run([os.path.abspath("os"), "session"], stdin=source, capture_output=True, check=True).stdout
-    if b"not solved yet" not in out:
-        sys.exit(f"{call} was answered {out!r}")
+    out = subprocess.run(words, capture_output=True, check=True).stdout
+    if out != b"accepted bestSoFar\n":
+        sys.exit(f"{words} was answered {out!r}")
 
 
 def main():
-    print("entries | instance bytes | session s | peak bytes a byte | xmllint s | xml.etree s | session / xmllint | session / xml.etree")
+    print("entries | instance bytes | check s | peak bytes a byte | xmllint s | xml.etree s | check / xmllint | check / xml.etree")
     with tempfile.TemporaryDirectory() as folder:
         for rows in (10, 100, 1_000):
             text = osil(rows)
-            call, document = os.path.join(folder, "call"), os.path.join(folder, "document")
-            with open(call, "wb") as f:
-                f.write(request(text))
+            claim, document = os.path.join(folder, "claim"), os.path.join(folder, "document")
+            with open(claim, "w") as f:
+                f.write(result())
             with open(document, "w") as f:
                 f.write(text)
-            answered(call)
-            ours, peak = measured([os.path.abspath("os"), "session"], call)
+            words = [os.path.abspath("os"), "check", document, claim]
+            answered(words)
+            ours, peak = measured(words, "/dev/null")
             lint, _ = measured(["xmllint", "--noout", document], "/dev/null")
             etree, _ = measured([sys.executable, "-c", ETREE, document], "/dev/null")
             print(f"{rows * ROW_ENTRIES} | {len(text)} | {ours:.3f} | {peak / len(text):.1f} | {lint:.3f} | {etree:.3f} | {ours / lint:.2f} | {ours / etree:.2f}")

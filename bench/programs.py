@@ -1,0 +1,150 @@
+"""Linear and mixed-integer programs made at random, and the texts in which solvers read them."""
+
+import random
+
+
+class Program:
+    """Variables (lower end, upper end, whole), rows (lower end, upper end, entries by column) and costs; None is no end."""
+
+    def __init__(self, name, maximise, variables, rows, costs):
+        self.name, self.maximise, self.variables, self.rows, self.costs = name, maximise, variables, rows, costs
+
+    def is_whole(self):
+        return any(whole for _, _, whole in self.variables)
+
+
+def bound(number, infinite):
+    return infinite if number is None else str(number)
+
+
+def listed(name, numbers):
+    return f"<{name}>" + "".join(f"<el>{number}</el>" for number in numbers) + f"</{name}>"
+
+
+def osil(program):
+    """An OSiL document, its matrix by rows."""
+    variables = "".join(
+        f'<var type="{"I" if whole else "C"}" lb="{bound(low, "-INF")}" ub="{bound(high, "INF")}"/>'
+        for low, high, whole in program.variables
+    )
+    costs = "".join(f'<coef idx="{j}">{cost}</coef>' for j, cost in enumerate(program.costs) if cost)
+    rows = "".join(f'<con lb="{bound(low, "-INF")}" ub="{bound(high, "INF")}"/>' for low, high, _ in program.rows)
+    starts, columns, values = [0], [], []
+    for _, _, entries in program.rows:
+        columns += sorted(entries)
+        values += [entries[column] for column in sorted(entries)]
+        starts.append(len(values))
+    matrix = listed("start", starts) + listed("colIdx", columns) + listed("value", values) if values else ""
+    return (
+        '<osil xmlns="os.optimizationservices.org"><instanceData>'
+        f'<variables numberOfVariables="{len(program.variables)}">{variables}</variables>'
+        f'<objectives><obj maxOrMin="{"max" if program.maximise else "min"}">{costs}</obj></objectives>'
+        f"<constraints>{rows}</constraints>"
+        f"<linearConstraintCoefficients>{matrix}</linearConstraintCoefficients></instanceData></osil>"
+    )
+
+
+def terms(entries):
+    """A sum in CPLEX's LP format, a few terms a line."""
+    return "\n ".join(f"{'+' if factor >= 0 else '-'} {abs(factor)} x{column}" for column, factor in sorted(entries.items()))
+
+
+def lp(program):
+    """CPLEX's LP format."""
+    lines = ["Maximize" if program.maximise else "Minimize"]
+    lines.append(" goal: " + terms({j: cost for j, cost in enumerate(program.costs) if cost}))
+    lines.append("Subject To")
+    for i, (low, high, entries) in enumerate(program.rows):
+        if low is not None and low == high:
+            lines.append(f" r{i}: {terms(entries)} = {low}")
+        else:
+            if low is not None:
+                lines.append(f" l{i}: {terms(entries)} >= {low}")
+            if high is not None:
+                lines.append(f" u{i}: {terms(entries)} <= {high}")
+    lines.append("Bounds")
+    for j, (low, high, _) in enumerate(program.variables):
+        lines.append(f" {bound(low, '-inf')} <= x{j} <= {bound(high, '+inf')}")
+    if program.is_whole():
+        lines.append("Generals")
+        lines += [f" x{j}" for j, (_, _, whole) in enumerate(program.variables) if whole]
+    return "\n".join(lines + ["End", ""])
+
+
+def smt_sum(entries):
+    pieces = [f"(* {factor if factor >= 0 else f'(- {-factor})'} x{column})" for column, factor in sorted(entries.items())]
+    return f"(+ 0 {' '.join(pieces)})"
+
+
+def smt(program):
+    """SMT-LIB, with a goal as z3 takes it."""
+    lines = []
+    for j, (low, high, whole) in enumerate(program.variables):
+        lines.append(f"(declare-const x{j} {'Int' if whole else 'Real'})")
+        lines += [f"(assert (>= x{j} {low}))"] * (low is not None) + [f"(assert (<= x{j} {high}))"] * (high is not None)
+    for low, high, entries in program.rows:
+        lines += [f"(assert (>= {smt_sum(entries)} {low}))"] * (low is not None)
+        lines += [f"(assert (<= {smt_sum(entries)} {high}))"] * (high is not None)
+    goal = smt_sum({j: cost for j, cost in enumerate(program.costs) if cost})
+    lines.append(f"({'maximize' if program.maximise else 'minimize'} {goal})")
+    return "\n".join(lines + ["(check-sat)", "(get-objectives)", ""])
+
+
+def transport(sources, targets):
+    """Least cost of what every target wants out of what the sources have."""
+    rng = random.Random(sources)
+    wants = [rng.randint(5, 40) for _ in range(targets)]
+    has = [sum(wants) // sources + rng.randint(1, 10) for _ in range(sources)]
+    rows = [(None, has[s], {s * targets + t: 1 for t in range(targets)}) for s in range(sources)]
+    rows += [(wants[t], None, {s * targets + t: 1 for s in range(sources)}) for t in range(targets)]
+    costs = [rng.randint(1, 30) for _ in range(sources * targets)]
+    return Program(f"transport {sources}x{targets}", False, [(0, None, False)] * len(costs), rows, costs)
+
+
+def assignment(size):
+    """The least cost of one task for each worker."""
+    rng = random.Random(size)
+    rows = [(1, 1, {i * size + j: 1 for j in range(size)}) for i in range(size)]
+    rows += [(1, 1, {i * size + j: 1 for i in range(size)}) for j in range(size)]
+    costs = [rng.randint(1, 99) for _ in range(size * size)]
+    return Program(f"assignment {size}", False, [(0, None, False)] * len(costs), rows, costs)
+
+
+def sparse(size):
+    """As many rows as variables, three entries a row."""
+    rng = random.Random(size)
+    rows = [(rng.randint(1, 50), None, {j: rng.randint(1, 9) for j in rng.sample(range(size), 3)}) for _ in range(size)]
+    costs = [rng.randint(1, 20) for _ in range(size)]
+    return Program(f"random {size}x{size}", False, [(0, None, False)] * size, rows, costs)
+
+
+def knapsack(size, rows):
+    """The most valuable things within so many limits of weight."""
+    rng = random.Random(size + rows)
+    weights = [[rng.randint(5, 60) for _ in range(size)] for _ in range(rows)]
+    limits = [(None, sum(row) // 2, dict(enumerate(row))) for row in weights]
+    costs = [rng.randint(5, 60) for _ in range(size)]
+    return Program(f"knapsack {size}, {rows} rows", True, [(0, 1, True)] * size, limits, costs)
+
+
+def cover(size):
+    """The cheapest sets that have each element, three to six sets an element."""
+    rng = random.Random(size)
+    rows = [(1, None, {j: 1 for j in rng.sample(range(size), rng.randint(3, 6))}) for _ in range(size)]
+    costs = [rng.randint(1, 20) for _ in range(size)]
+    return Program(f"cover {size}x{size}", False, [(0, 1, True)] * size, rows, costs)
+
+
+def generated(size):
+    """The instance of `generate`."""
+    variables = [(0, 3, j < 4) for j in range(size)]
+    rows = [(None, 7, {j: 2 for j in range(4 * i, min(4 * i + 4, size))}) for i in range((size + 3) // 4)]
+    return Program(f"generate {size}", True, variables, rows, [j % 4 + 1 for j in range(size)])
+
+
+def all_programs():
+    return [
+        transport(10, 20), transport(20, 40), transport(20, 50), assignment(10), assignment(20), assignment(30),
+        sparse(20), sparse(50), sparse(100), sparse(200), knapsack(20, 1), knapsack(30, 1), knapsack(40, 1),
+        knapsack(20, 2), knapsack(30, 2), knapsack(20, 3), knapsack(30, 3), cover(20), cover(30), cover(40), generated(1000),
+    ]

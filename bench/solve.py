@@ -1,0 +1,146 @@
+"""Times `solve` beside exact and floating solvers on the same programs, in one run, and compares the objectives.
+
+A figure is the least processor seconds of five runs, process start included. A peer that takes longer than the limit has no
+figure, and neither has one that doesn't take whole variables. The ratio is to the fastest exact peer.
+"""
+
+import fractions
+import os
+import re
+import resource
+import subprocess
+import sys
+import tempfile
+
+import programs
+
+RUNS = 5
+LIMIT = 20
+PROGRAM = os.path.abspath("crates/os_main/out/os_main")
+
+
+def limited():
+    resource.setrlimit(resource.RLIMIT_CPU, (LIMIT, LIMIT + 1))
+
+
+def run(words):
+    """The processor seconds of a run, its greatest memory in bytes and what it wrote; none past the limit."""
+    with tempfile.TemporaryFile() as out:
+        process = subprocess.Popen(words, stdin=subprocess.DEVNULL, stdout=out, stderr=subprocess.DEVNULL, preexec_fn=limited)
+        _, status, usage = os.wait4(process.pid, 0)
+        process.returncode = status
+        out.seek(0)
+        text = out.read().decode(errors="replace")
+    seconds = usage.ru_utime + usage.ru_stime
+    return None if os.WIFSIGNALED(status) or seconds >= LIMIT else (seconds, usage.ru_maxrss * 1024, text)
+
+
+def number(text):
+    return fractions.Fraction(text.strip())
+
+
+def smt_number(text):
+    """The value that z3 writes: `3`, `(- 3)`, `(/ 1 3)` or `(- (/ 1 3))`."""
+    words = re.findall(r"[-/]|\d+(?:\.\d+)?", text)
+    sign, digits = words.count("-"), [number(word) for word in words if word not in "-/"]
+    value = digits[0] / digits[1] if "/" in words else digits[0]
+    return -value if sign % 2 else value
+
+
+def first(pattern, text):
+    found = re.search(pattern, text)
+    return found and found.group(1)
+
+
+def ours(folder):
+    return [PROGRAM, "solve", f"{folder}/osil"]
+
+
+def our_value(text, _):
+    value = first(r'os_cert\.value"><item>([^<]*)<', text)
+    cause = first(r'os_cert\.cause"><item>([^<]*)<', text)
+    return cause or (value and number(value))
+
+
+def esolver_value(_, folder):
+    with open(f"{folder}/esolver.sol", encoding="utf-8") as it:
+        value = first(r"Value = (\S+)", it.read())
+    return value and number(value)
+
+
+def glpsol_value(_, folder):
+    with open(f"{folder}/glpsol.out", encoding="utf-8") as it:
+        value = first(r"Objective:\s+goal = (\S+)", it.read())
+    return value and number(value)
+
+
+def cbc_value(text, _):
+    value = first(r"Objective value:\s+(\S+)", text) or first(r"Optimal objective (\S+)", text)
+    return value and number(value)
+
+
+def z3_value(text, _):
+    value = first(r"\(objectives\s+\((?:\(.*\) )?(.*)\)\s*\)", text.replace("\n", " "))
+    return value and smt_number(value.rsplit(") ", 1)[-1] if value.count("(") > 3 else value)
+
+
+# name, words, what it says of the objective, whether it is exact, whether it takes whole variables
+SOLVERS = [
+    ("ours", ours, our_value, True, True),
+    ("esolver", lambda folder: ["esolver", "-O", f"{folder}/esolver.sol", "-L", f"{folder}/lp"], esolver_value, True, False),
+    ("glpsol --exact", lambda folder: ["glpsol", "--exact", "--lp", f"{folder}/lp", "-o", f"{folder}/glpsol.out"], glpsol_value, True, False),
+    ("z3", lambda folder: ["z3", f"{folder}/smt2"], z3_value, True, True),
+    ("glpsol", lambda folder: ["glpsol", "--lp", f"{folder}/lp", "-o", f"{folder}/glpsol.out"], glpsol_value, False, True),
+    ("cbc", lambda folder: ["cbc", f"{folder}/lp.lp", "solve"], cbc_value, False, True),
+]
+
+
+def timed(words, folder, read):
+    """The least seconds of some runs, the greatest memory, and the objective; none past the limit."""
+    best, peak, value = None, 0, None
+    for _ in range(RUNS):
+        ran = run(words(folder))
+        if ran is None:
+            return None
+        seconds, memory, text = ran
+        best, peak, value = seconds if best is None else min(best, seconds), max(peak, memory), read(text, folder)
+        if seconds > 2:
+            break  # once is enough where it takes long
+    return best, peak, value
+
+
+def compared(program, folder):
+    """A row of the table; whether exact objectives agree."""
+    for name, text in (("osil", programs.osil(program)), ("lp", programs.lp(program)), ("smt2", programs.smt(program))):
+        with open(f"{folder}/{name}", "w", encoding="utf-8") as it:
+            it.write(text)
+    with open(f"{folder}/lp.lp", "w", encoding="utf-8") as it:
+        it.write(programs.lp(program))
+    found, agrees = {}, True
+    for name, words, read, exact, takes_whole in SOLVERS:
+        if takes_whole or not program.is_whole():
+            found[name] = timed(words, folder, read), exact
+    (mine, _), others = found["ours"], [(name, it) for name, (it, exact) in found.items() if exact and name != "ours" and it]
+    for name, (_, _, value) in others:
+        close = name.startswith("glpsol")  # it writes six digits
+        if isinstance(mine[2], fractions.Fraction) and value is not None:
+            agrees &= abs(value - mine[2]) <= abs(value) / 10**5 if close else value == mine[2]
+    fastest = min((it[0] for _, it in others), default=None)
+    shown = {name: (f"{it[0]:.3f}" if it else f"> {LIMIT}") for name, (it, _) in found.items()}
+    ratio = f"{mine[0] / fastest:.2f}" if mine and fastest else "-"
+    what = mine[2] if mine else "-"
+    cells = [program.name, *(shown.get(s[0], "-") for s in SOLVERS), ratio, f"{mine[1] / 1e6:.0f}" if mine else "-", str(what)]
+    print("| " + " | ".join(cells) + " |", flush=True)
+    return agrees
+
+
+def main():
+    print("| program | " + " | ".join(s[0] for s in SOLVERS) + " | ours / fastest exact | MB | objective, or cause |")
+    print("|---" * (len(SOLVERS) + 4) + "|")
+    with tempfile.TemporaryDirectory() as folder:
+        agreed = [compared(program, folder) for program in programs.all_programs()]
+    if not all(agreed):
+        sys.exit("objectives of exact solvers differ")
+
+
+main()
