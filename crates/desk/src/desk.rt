@@ -15,6 +15,7 @@ use os_io::Memory;
 use std::alloc::{AllocError, Global};
 use std::snapshot::Snapshot;
 use std::sync::Wait;
+use std::thread::yield_now;
 
 /// The word of the next number to be drawn.
 const TICKET: usize = 0;
@@ -135,6 +136,8 @@ impl<J: Verdicts> Desk<J> {
                 };
                 return held;
             }
+            // Whoever is served may need this processor.
+            yield_now();
         }
         unreachable!()
     }
