@@ -1,0 +1,5 @@
+pub mod Laws
+pub mod Named
+pub mod Runs
+pub mod Telling
+pub mod Written
