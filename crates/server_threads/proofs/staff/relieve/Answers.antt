@@ -1,0 +1,18 @@
+use Rattle.std.proofs.Common.{arith}
+use Rattle.server_threads.proofs.Rounds.{staffed_over}
+use Rattle.server_threads.proofs.staff.relieve.Goals as goal
+
+pub returns-clause-left : goal.returns-clause-left
+returns-clause-left g c =
+    let none = c.loop-first-test.false in
+    let long = c.loop-first.shifts.ok.0 in
+    λ met s. staffed_over _ _ _ _ _ _ _ c.loop-first.shifts.items (c.loop-first.invariant.all met s) (omega (arith, c.len.ensures))
+
+pub loop-first-preserved : goal.loop-first-preserved
+loop-first-preserved g c =
+    let before = c.loop-first.invariant in
+    let one = c.relieve_one.ensures in record {
+      seat = one.seat;
+      some = (before.some.0, one.staffed before.some.0 before.some.1);
+      all = λ met s. one.staffed met (before.all met s);
+    }

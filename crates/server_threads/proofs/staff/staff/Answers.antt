@@ -1,0 +1,27 @@
+use Rattle.std.proofs.Common.{arith, ap, ◌∙◌}
+use Rattle.server_threads.specs.Talks.{DeskSeat}
+use Rattle.server_threads.proofs.Rounds.{hired_begins, hired_more}
+use Rattle.server_threads.proofs.staff.staff.Goals as goal
+
+pub loop-turn-init : goal.loop-turn-init
+loop-turn-init g c = record {
+  seat = c.requires.seat;
+  hired = hired_begins _ _ _ _ _ c.requires.first c.requires.none;
+  long = c.requires.empty;
+  room = c.requires.room;
+}
+
+pub loop-turn-preserved : goal.loop-turn-preserved
+loop-turn-preserved g c =
+    let before = c.loop-turn.invariant in
+    let s = c.split-seat.ensures in
+    let p = c.hire-place.ensures in
+    let q = c.push_back_reserved.ensures in
+    let long = before.long in
+    let room = before.room in record {
+      seat = s.seat.0;
+      hired = hired_more _ _ _ _ _ _ _ _ _ c.hire-place.result before.hired s.seat.1 (ap (λ (seat : DeskSeat g.row.J.Denot). seat.table_id) p.seat ∙ s.new.0.desk_is)
+          (ap (λ (seat : DeskSeat g.row.J.Denot). seat.me.0) p.seat ∙ s.new.1) p.due q.items;
+      long = omega (arith, q.len);
+      room = omega (arith, q.capacity);
+    }

@@ -1,0 +1,13 @@
+use Rattle.std.proofs.Common.{◌≡◌, ◌≤◌}
+use Rattle.std.specs.VecDeque.{deque_len, deque_capacity}
+use Rattle.desk.specs.Asks.{desk_id, IsSeatOf}
+use Rattle.server_threads.specs.Going.{Hired}
+use Rattle.server_threads.proofs.staff.staff.Given as goal
+
+abbrev pub invariant-loop-turn : goal.invariant-loop-turn
+invariant-loop-turn g l = record {
+  seat : IsSeatOf (desk_id l.means.desk.now) l.first;
+  hired : Hired g.J.Verdicts.right g.S.Runner.ran (desk_id l.means.desk.now) l.fn.first.me.0 l.first.me.0 l.turn l.shifts.items;
+  long : deque_len l.shifts ≡ l.turn;
+  room : l.workers ≤ deque_capacity l.shifts;
+}

@@ -1,0 +1,134 @@
+-- Seats that are out, and links that are being served.
+use Rattle.std.specs.Prelude.{◌≡◌, ℕ, ◌+◌, ◌<◌, Bool, List, [], ◌∷◌, ◌++◌, length, map, Option, Result, Ok, Err}
+use Rattle.atomic_table.specs.Seated.{TableId}
+use Rattle.job_table.specs.History.{Entry as Said}
+use Rattle.os_io.specs.Streams.{Tells, HasRisen}
+use Rattle.desk.specs.declared.view.Met.{Met}
+use Rattle.desk.specs.declared.view.View.{View}
+use Rattle.desk.specs.History.{StartsWith}
+use Rattle.desk.specs.Rule.{HasMet}
+use Rattle.server_threads.specs.declared.hall.ServeFault.{ServeFault}
+use Rattle.server_threads.specs.declared.hall.ServeFault.TheVariants.{Failed}
+use Rattle.server_threads.specs.declared.places.Place.{Place}
+use Rattle.server_threads.specs.declared.promise.Finished.{Finished}
+use Rattle.server_threads.specs.declared.promise.ToServe.{ToServe}
+use Rattle.server_threads.specs.declared.promise.ToWork.{ToWork}
+use Rattle.server_threads.specs.Talks.{DeskSeat, Talk, Shift, talk_met, shift_met, short_of, Came, GivenBack, AllTalked, AllWorked, IsShift, Acts}
+use Rattle.server_threads.specs.Promises.{promise_of, AllDue}
+use Rattle.server_threads.specs.Serving.{Stand}
+
+-- each seat is one of the desk's, had made no call when it was split off, and has the next number
+abbrev pub AllOut : {J : Type 0} → TableId → ℕ → List (DeskSeat J) → Type 0
+AllOut desk n [] = Unit {0}
+AllOut desk n (s ∷ ss) = (s.table_id ≡ desk) × (s.me.0.number ≡ n) × (s.me.0.mine ≡ []) × AllOut desk (n + 1) ss
+
+-- the first seat met these seats, and split off as many and those that are out, whose numbers begin with this one
+pub record Keeps {J : Type 0} (desk : TableId) (v w : View) (met : List Met) (n : ℕ) (out : List (DeskSeat J)) : Type 0 where
+  pub first : w.number ≡ 0
+  pub number : w.number ≡ v.number
+  pub met_is : w.met ≡ v.met ++ met
+  pub given : w.given ≡ v.given + (length met + length out)
+  pub waits : AllOut desk n out
+  pub mine : w.mine ≡ v.mine
+  pub seen : StartsWith w.seen v.seen
+  pub known : HasMet w.seen met
+
+-- what is done for a link
+abbrev pub Conversing : Type 0 → Type 0 → Type 0 → Type 0
+Conversing J L S = Place (Finished (DeskSeat J) L) (ToServe J L S)
+
+module _ {J L S : Type 0} where
+  abbrev pub promised : Conversing J L S → ToServe J L S
+  promised place = promise_of {P = ToServe J L S} place
+
+  abbrev pub seats_out : List (Conversing J L S) → List (DeskSeat J)
+  seats_out places = map (λ place. (promised place).seat.value) places
+
+  module _ (right : List ℕ → List ℕ → Bool → Option (List ℕ) → Type 0) (talked : Tells → List Said → Tells → Bool → Type 0) (tells : L → Tells) where
+    abbrev pub links_out : List (Conversing J L S) → List Tells
+    links_out places = map (λ place. tells (promised place).link.value) places
+
+    -- a link was served as was promised
+    abbrev pub served_so : ToServe J L S → Finished (DeskSeat J) L → Type 0
+    served_so p r = Acts right (λ said. talked (tells p.link.value) said (tells r.link) r.short) p.seat.value r.seat
+
+    -- links came; those that were served were given back, in order, and the later ones are being served
+    pub record Going (desk : TableId) (old new : Stand) (short : ℕ) (places : List (Conversing J L S)) : Type 0 where
+      pub talks : List Talk
+      pub keeps : Keeps desk old.view new.view (map talk_met talks) (old.view.given + length talks) (seats_out places)
+      pub due : AllDue served_so places
+      pub all_talked : AllTalked talked old.view.given talks
+      pub came : Came old.coming new.coming (map (λ t. t.came) talks ++ links_out places)
+      pub back : GivenBack old.given_back new.given_back (map (λ t. t.back) talks)
+      pub shorts : short ≡ short_of talks
+
+-- links came, were served, each by a seat of its own, and were given back, so that none is being served any more
+pub record LinksServed (talked : Tells → List Said → Tells → Bool → Type 0) (old new : Stand) (short : ℕ) : Type 0 where
+  pub talks : List Talk
+  pub all_talked : AllTalked talked old.view.given talks
+  pub came : Came old.coming new.coming (map (λ t. t.came) talks)
+  pub back : GivenBack old.given_back new.given_back (map (λ t. t.back) talks)
+  pub shorts : short ≡ short_of talks
+  pub number : new.view.number ≡ old.view.number
+  pub met : new.view.met ≡ old.view.met ++ map talk_met talks
+  pub given : new.view.given ≡ old.view.given + length talks
+  pub mine : new.view.mine ≡ old.view.mine
+  pub seen : StartsWith new.view.seen old.view.seen
+  pub known : HasMet new.view.seen (map talk_met talks)
+
+-- so many seats more were split off, one for each link that came; or fewer, where the listener failed
+abbrev pub CameSo : {X E : Type 0} → Result X E → (connections seats seats' faults faults' : ℕ) → Type 0
+CameSo (Ok x) connections seats seats' faults faults' = (seats' ≡ seats + connections) × (faults' ≡ faults)
+CameSo (Err e) connections seats seats' faults faults' = (seats' < seats + connections) × HasRisen faults faults'
+
+-- so many links came; or fewer, where the listener failed
+abbrev pub Arrive : {X E : Type 0} → Result X E → (connections : ℕ) → List Talk → (faults faults' : ℕ) → Type 0
+Arrive (Ok x) connections talks faults faults' = (length talks ≡ connections) × (faults' ≡ faults)
+Arrive (Err e) connections talks faults faults' = (length talks < connections) × HasRisen faults faults'
+
+-- what is answered where room was found
+abbrev pub ending_of : {X E : Type 0} → Result X E → ℕ → Result ℕ ServeFault
+ending_of (Ok x) short = Ok short
+ending_of (Err e) short = Err Failed
+
+-- what is done by a worker
+abbrev pub Working : Type 0 → Type 0 → Type 0
+Working J S = Place (DeskSeat J) (ToWork J S)
+
+module _ {J S : Type 0} where
+  abbrev pub shift_promised : Working J S → ToWork J S
+  shift_promised place = promise_of {P = ToWork J S} place
+
+  abbrev pub workers_out : List (Working J S) → List (DeskSeat J)
+  workers_out places = map (λ place. (shift_promised place).seat.value) places
+
+  module _ (right : List ℕ → List ℕ → Bool → Option (List ℕ) → Type 0) (made : List ℕ → List ℕ → List Bool → Option (List ℕ) → Type 0) where
+    -- a worker worked as was promised
+    abbrev pub worked_so : ToWork J S → DeskSeat J → Type 0
+    worked_so p seat = Acts right (IsShift made) p.seat.value seat
+
+    -- so many workers came, and are at work
+    pub record Hired (desk : TableId) (v w : View) (count : ℕ) (places : List (Working J S)) : Type 0 where
+      pub keeps : Keeps desk v w [] v.given (workers_out places)
+      pub due : AllDue worked_so places
+      pub counted : length places ≡ count
+
+    -- so many workers came, of whom some have left and were met behind other seats, and the others are at work
+    pub record Staffed (desk : TableId) (v w : View) (count : ℕ) (met : List Met) (places : List (Working J S)) : Type 0 where
+      pub shifts : List Shift
+      pub keeps : Keeps desk v w (met ++ map shift_met shifts) (v.given + length shifts) (workers_out places)
+      pub due : AllDue worked_so places
+      pub worked : AllWorked made v.given shifts
+      pub counted : length shifts + length places ≡ count
+
+-- so many workers came, were met behind other seats, and have left
+pub record Left (made : List ℕ → List ℕ → List Bool → Option (List ℕ) → Type 0) (v w : View) (count : ℕ) (met : List Met) : Type 0 where
+  pub shifts : List Shift
+  pub worked : AllWorked made v.given shifts
+  pub counted : length shifts ≡ count
+  pub number : w.number ≡ v.number
+  pub met_is : w.met ≡ v.met ++ (met ++ map shift_met shifts)
+  pub given : w.given ≡ v.given + (length met + length shifts)
+  pub mine : w.mine ≡ v.mine
+  pub seen : StartsWith w.seen v.seen
+  pub known : HasMet w.seen (met ++ map shift_met shifts)

@@ -1,0 +1,4 @@
+pub mod Talks
+pub mod Promises
+pub mod Serving
+pub mod Going

@@ -1,0 +1,79 @@
+-- Links that are served beside each other, each by a seat of its own, and the workers beside them.
+use Rattle.std.specs.Prelude.{◌≡◌, ℕ, ◌+◌, Bool, true, false, List, [], ◌∷◌, ◌++◌, ◌⊎◌, Option}
+use Rattle.atomic_table.specs.declared.shared.Seat.{Seat}
+use Rattle.job_table.specs.History.{Entry as Said}
+use Rattle.os_io.specs.Streams.{Tells, Told}
+use Rattle.desk.specs.declared.held.Held.{Held}
+use Rattle.desk.specs.declared.view.Met.{Met}
+use Rattle.desk.specs.declared.view.View.{View}
+use Rattle.desk.specs.History.{by}
+use Rattle.desk.specs.Asks.{IsSeatOf}
+use Rattle.desk.specs.Asked.{Asked}
+use Rattle.workers.specs.Shifts.{WorksThrough}
+
+abbrev pub DeskSeat : Type 0 → Type 0
+DeskSeat J = Seat (Option (Held J)) View
+
+-- one link that was served: what it told when it came and when it was given back, the number of the seat that served it, the calls of that
+-- seat, and whether the conversation ended for want of memory
+pub record Talk : Type 0 where
+  pub came : Tells
+  pub back : Tells
+  pub seat : ℕ
+  pub said : List Said
+  pub short : Bool
+
+-- one worker: the number of its seat, and that seat's calls
+pub record Shift : Type 0 where
+  pub seat : ℕ
+  pub said : List Said
+
+-- a link's seat as the first seat knows it
+abbrev pub talk_met : Talk → Met
+talk_met t = record { seat = t.seat; calls = by t.seat t.said }
+
+-- a worker's seat as the first seat knows it
+abbrev pub shift_met : Shift → Met
+shift_met s = record { seat = s.seat; calls = by s.seat s.said }
+
+abbrev pub one_if : Bool → ℕ
+one_if true = 1
+one_if false = 0
+
+-- how many ended for want of memory
+abbrev pub short_of : List Talk → ℕ
+short_of [] = 0
+short_of (t ∷ ts) = one_if t.short + short_of ts
+
+-- the links came in this order, and come no more
+abbrev pub Came : Option (List Tells) → Option (List Tells) → List Tells → Type 0
+Came old new links = Told old new (λ before after. before ≡ links ++ after)
+
+-- the links were given back in this order
+abbrev pub GivenBack : Option (List Tells) → Option (List Tells) → List Tells → Type 0
+GivenBack old new links = Told old new (λ before after. after ≡ before ++ links)
+
+-- each link was served by a seat of its own, with numbers from this one on, and this holds of what it told when it came, of its seat's calls,
+-- of what it told when it was given back, and of whether memory was wanting
+abbrev pub AllTalked : (Tells → List Said → Tells → Bool → Type 0) → ℕ → List Talk → Type 0
+AllTalked talked n [] = Unit {0}
+AllTalked talked n (t ∷ ts) = (t.seat ≡ n) × talked t.came t.said t.back t.short × AllTalked talked (n + 1) ts
+
+-- which looks a run of a job's texts makes, with their answers, and which document comes of it, is given
+module _ (made : List ℕ → List ℕ → List Bool → Option (List ℕ) → Type 0) where
+  -- the calls of a worker, from its coming to its leaving; or none, where it couldn't be started
+  abbrev pub IsShift : List Said → Type 0
+  IsShift said = (said ≡ []) ⊎ WorksThrough made said
+
+  -- each worker has a seat of its own, with numbers from this one on
+  abbrev pub AllWorked : ℕ → List Shift → Type 0
+  AllWorked n [] = Unit {0}
+  AllWorked n (s ∷ ss) = (s.seat ≡ n) × IsShift s.said × AllWorked (n + 1) ss
+
+module _ (right : List ℕ → List ℕ → Bool → Option (List ℕ) → Type 0) where
+  -- calls were made on this seat, and of these calls this holds
+  pub record Acts {J : Type 0} (holds : List Said → Type 0) (was seat : DeskSeat J) : Type 0 where
+    pub desk_is : IsSeatOf was.table_id seat
+    pub said : List Said
+    pub asked : Asked right was.me.0 seat.me.0 said
+    pub held : holds said

@@ -1,0 +1,25 @@
+//! A server of links, in threads.
+//!
+//! [`serve_loop`] accepts links and has each served in a thread of its own, by calls of a seat of its own of one desk, beside
+//! workers that run the jobs of the desk's table. All links that came are given back, in their order, and of each a conversation is
+//! known ([`Service`]): between what the link told when it came and when it was given back stand the calls of one seat, whose number
+//! no other link has. The desk's first seat then has met these seats and those of the workers, and knows their calls.
+//!
+//! Threads of links stand in a scope inside that of the workers. The oldest is joined first, so that links are given back in the
+//! order in which they came; at most so many run at once. That threads run side by side is said by no contract.
+#![tactic(auto)]
+
+mod door;
+mod hall;
+mod links;
+mod places;
+mod promise;
+mod serve;
+mod service;
+mod staff;
+#[cfg(test)]
+mod tests;
+
+pub use hall::ServeFault;
+pub use serve::serve_loop;
+pub use service::Service;

@@ -1,0 +1,158 @@
+//! Workers, each in a thread of its own beside those of the links.
+
+ghost use Rattle.std.specs.Prelude.{◌≡◌, ◌+◌, ◌<◌, ◌≤◌, [], ℕ, List};
+ghost use Rattle.std.specs.VecDeque.{deque_len, deque_capacity};
+ghost use Rattle.desk.specs.declared.view.Met.{Met};
+ghost use Rattle.desk.specs.Asks.{desk_id, IsSeatOf};
+ghost use Rattle.server_threads.specs.Talks.{Acts, IsShift};
+ghost use Rattle.server_threads.specs.Promises.{promise_of, Due};
+ghost use Rattle.server_threads.specs.Going.{Hired, Staffed, Left, worked_so};
+
+use crate::hall::Means;
+use crate::places::Place;
+use crate::promise::ToWork;
+use crate::service::Service;
+use desk::{Desk, Seat};
+use job_table::Verdicts;
+use std::alloc::Global;
+use std::collections::VecDeque;
+use std::marker::PhantomData;
+use std::snapshot::Snapshot;
+use std::sync::Wait;
+use std::sync::atomic::AtomicU64;
+use std::sync::atomic::Ordering::SeqCst;
+use std::thread::{Scope, Threads};
+use workers::{Naps, OpenGate, work_loop};
+
+/// The workers that are at work, in the order in which they came.
+pub(crate) type Shifts<J, S> = VecDeque<Place<Seat<J>, ToWork<J, S>>>;
+
+/// Works on this seat until the channel is closed and nothing waits. The worker that is missing does nothing.
+fn work_by<J: Verdicts, R: Wait, S: Service<J>>(
+    rt: &R,
+    alloc: Global,
+    desk: &Desk<J>,
+    naps: &Naps,
+    missing: &AtomicU64,
+    service: &S,
+    mut seat: Seat<J>,
+    number: u64,
+) -> Seat<J>
+    requires { IsSeatOf (desk_id desk.now) seat }
+    ensures { Acts J.right (IsShift S.ran) seat result }
+{
+    if missing.load(SeqCst) == number {
+        return seat;
+    }
+    work_loop(rt, alloc, desk, &mut seat, naps, service, &mut OpenGate);
+    seat
+}
+
+/// Starts a worker. Where that can't be, it is missing, and its seat is here.
+fn hire<'s, E, J: Verdicts + Send + Sync, R: Threads + Wait + Sync, S: Service<J> + Sync>(
+    means: &Means<'s, J, R, S>,
+    scope: &'s Scope<'s, E>,
+    seat: Seat<J>,
+    number: u64,
+) -> Place<Seat<J>, ToWork<J, S>>
+    requires { IsSeatOf (desk_id means.now.desk.now) seat }
+    ensures seat { (promise_of result).seat.value ≡ seat }
+    ensures due { Due (worked_so J.right S.ran) result }
+{
+    let Means {
+        rt,
+        alloc,
+        desk,
+        service,
+        naps,
+        missing,
+    } = *means;
+    let promise = ToWork {
+        seat: Snapshot::of(&seat),
+        service: PhantomData,
+    };
+    let again = ToWork {
+        seat: Snapshot::of(&seat),
+        service: PhantomData,
+    };
+    let work = move || -> Seat<J>
+        requires { IsSeatOf (desk_id desk.now) seat }
+        ensures { Acts J.right (IsShift S.ran) seat result }
+    { work_by(rt, alloc, desk, naps, missing, service, seat, number) };
+    match scope.spawn_with(promise, work) {
+        Ok(child) => Place::Thread(child),
+        Err(refused) => {
+            missing.store(number, SeqCst);
+            Place::Here((refused.value)(), again)
+        }
+    }
+}
+
+/// Starts so many workers, each on a seat of its own.
+pub(crate) fn staff<
+    's,
+    E,
+    J: Verdicts + Send + Sync,
+    R: Threads + Wait + Sync,
+    S: Service<J> + Sync,
+>(
+    means: &Means<'s, J, R, S>,
+    scope: &'s Scope<'s, E>,
+    first: &mut Seat<J>,
+    shifts: &mut Shifts<J, S>,
+    workers: u32,
+)
+    requires seat { IsSeatOf (desk_id means.now.desk.now) first.old }
+    requires first { first.old.me.0.number ≡ 0 }
+    requires none { shifts.old.items ≡ [] }
+    requires empty { deque_len shifts.old ≡ 0 }
+    requires room { workers ≤ deque_capacity shifts.old }
+    ensures seat { IsSeatOf (desk_id means.now.desk.now) first.new }
+    ensures hired { Hired J.right S.ran (desk_id means.now.desk.now) first.old.me.0 first.new.me.0 workers shifts.new.items }
+{
+    for turn in 0..workers {
+        let seat = means.desk.split(first);
+        let place = hire(means, scope, seat, u64::from(turn));
+        shifts.push_back_reserved(place);
+    }
+}
+
+/// Joins the worker that came first, and takes its seat in.
+fn relieve_one<J: Verdicts + Send + Sync, R: Threads, S: Service<J>>(
+    means: &Means<'_, J, R, S>,
+    was: &Snapshot<Seat<J>>,
+    first: &mut Seat<J>,
+    shifts: &mut Shifts<J, S>,
+    workers: u32,
+)
+    requires seat { IsSeatOf (desk_id means.now.desk.now) first.old }
+    requires some { 0 < deque_len shifts.old }
+    requires staffed { (met : List Met) × Staffed J.right S.ran (desk_id means.now.desk.now) was.now.value.me.0 first.old.me.0 workers met shifts.old.items }
+    ensures seat { IsSeatOf (desk_id means.now.desk.now) first.new }
+    ensures staffed { (met : List Met) → Staffed J.right S.ran (desk_id means.now.desk.now) was.now.value.me.0 first.old.me.0 workers met shifts.old.items → Staffed J.right S.ran (desk_id means.now.desk.now) was.now.value.me.0 first.new.me.0 workers met shifts.new.items }
+    ensures one_fewer { deque_len shifts.new + 1 ≡ deque_len shifts.old }
+{
+    let Some(place) = shifts.pop_front() else {
+        unreachable!()
+    };
+    let seat = place.join(means.rt);
+    means.desk.meet(first, seat);
+}
+
+/// Joins all workers, the one that came first before the others.
+pub(crate) fn relieve<J: Verdicts + Send + Sync, R: Threads, S: Service<J>>(
+    means: &Means<'_, J, R, S>,
+    was: &Snapshot<Seat<J>>,
+    first: &mut Seat<J>,
+    mut shifts: Shifts<J, S>,
+    workers: u32,
+)
+    requires seat { IsSeatOf (desk_id means.now.desk.now) first.old }
+    requires staffed { (met : List Met) × Staffed J.right S.ran (desk_id means.now.desk.now) was.now.value.me.0 first.old.me.0 workers met shifts.items }
+    ensures seat { IsSeatOf (desk_id means.now.desk.now) first.new }
+    ensures left { (met : List Met) → Staffed J.right S.ran (desk_id means.now.desk.now) was.now.value.me.0 first.old.me.0 workers met shifts.items → Left S.ran was.now.value.me.0 first.new.me.0 workers met }
+{
+    while shifts.len() > 0 {
+        relieve_one(means, was, first, &mut shifts, workers);
+    }
+}
