@@ -2,8 +2,7 @@
 use Rattle.std.proofs.Common.{◌≡◌, ℕ, Bool, false, List, [], inl, inr, Option, Some, Result, Ok, Err, refl, sym, ◌∙◌, ap, subst}
 use Rattle.std.specs.Prelude.{IfOk}
 use Rattle.std.specs.declared.alloc.AllocError.{AllocError}
-use Rattle.http_link.specs.Requests.{IsRequest}
-use Rattle.http_link.proofs.OnceLemmas.{request_part}
+use Rattle.http_link.specs.Requests.{IsRequest, IsRequestPart}
 use Rattle.soap_calls.specs.declared.call.CallKind.{CallKind}
 use Rattle.job_table.specs.declared.calls.Reply as tables
 use Rattle.job_table.specs.History.{Entry}
@@ -56,11 +55,15 @@ pub refused : (made : Made) (body : List ℕ) (close : Bool) (n : NoOrder) (code
 refused made body close n code text lent said is lent_is nothing says =
     faulted made body close code text said (subst (λ (m : NoOrder). AsksNothing body m) is nothing) (says ∙ ap (fault_said code) lent_is)
 
+-- a request is a part of one
+abbrev pub WholesArePart : Type 0
+WholesArePart = (bytes body : List ℕ) (close : Bool) → IsRequest bytes close body → IsRequestPart bytes
+
 -- a reply to a body is due to its request
-pub due : (made : Made) (taken body : List ℕ) (close : Bool) (own : List Entry) (r : Reply) → IsRequest taken close body
+pub due : (made : Made) (wholes : WholesArePart) (taken body : List ℕ) (close : Bool) (own : List Entry) (r : Reply) → IsRequest taken close body
     → IsReplied made body close own r → IsDue made taken own r
-due made taken body close own (Answer said closes as_worker) request (same, answers) =
+due made wholes taken body close own (Answer said closes as_worker) request (same, answers) =
     (body, subst (λ (c : Bool). IsRequest taken c body) (sym same) request, answers)
-due made taken body close own (Refused refusal) request (fails, is, alone) = (inr (close, body, request, fails, is), alone)
-due made taken body close own NoMemory request (inl alone) = inl (request_part taken body close request, alone)
-due made taken body close own NoMemory request (inr lacks) = inr (close, body, request, lacks)
+due made wholes taken body close own (Refused refusal) request (fails, is, alone) = (inr (close, body, request, fails, is), alone)
+due made wholes taken body close own NoMemory request (inl alone) = inl (wholes taken body close request, alone)
+due made wholes taken body close own NoMemory request (inr lacks) = inr (close, body, request, lacks)

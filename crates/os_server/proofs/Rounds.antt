@@ -20,7 +20,7 @@ use Rattle.os_server.specs.declared.serve.Served.TheVariants.{Ended, CutShort, R
 use Rattle.os_server.specs.Talk.{Part, part, then, all_of, Reads, AtEnd, most_requests, text_of_reply, IsDue, IsExchange, Ends, IsLast, HandsOn, Accounts, Serves, ServesWhole, both_ends}
 use Rattle.os_server.specs.Serving.{IsReplied, AnswersOne, Follows, Came, Comes, AccountsOne, ServesOne}
 use Rattle.os_server.proofs.Steps.{read_then, wrote_then, at_end_then, read_none, wrote_none, read_whole, read_of, hands_then, then_none, all_more}
-use Rattle.os_server.proofs.Replies.{due}
+use Rattle.os_server.proofs.Replies.{WholesArePart, due}
 
 abbrev Made : Type 1
 Made = List ℕ → List ℕ → List Bool → Option (List ℕ) → Type 0
@@ -34,13 +34,13 @@ Joins did did' both = (a b : List Entry) → did a → did' b → both (a ++ b)
 
 -- ---- what came
 
-whole_came : (made : Made) (did : List Entry → Type 0) (r : Request) (reply : Reply) (old new : Tells)
+whole_came : (made : Made) (wholes : WholesArePart) (did : List Entry → Type 0) (r : Request) (reply : Reply) (old new : Tells)
     → Reading (Ok (incoming.Whole r)) old.left new.left → new.read_faults ≡ old.read_faults → SameOutput old new
     → ((own : List Entry) × did own × IsReplied made r.body r.close own reply) → Comes made did (Ok reply) old new
-whole_came made did r reply old new (taken, request, took) counted output (own, calls, is) = record {
+whole_came made wholes did r reply old new (taken, request, took) counted output (own, calls, is) = record {
   taken = taken;
   own = own;
-  shows = due made taken r.body r.close own reply request is;
+  shows = due made wholes taken r.body r.close own reply request is;
   calls = calls;
   read = read_of _ old.left new.left taken took;
   counted = counted;
@@ -48,11 +48,11 @@ whole_came made did r reply old new (taken, request, took) counted output (own, 
 }
 
 -- a request that is whole
-pub whole_comes : (made : Made) (did : List Entry → Type 0) (i : Incoming) (r : Request) (lent : List ℕ) (reply : Reply) (old new : Tells)
+pub whole_comes : (made : Made) (wholes : WholesArePart) (did : List Entry → Type 0) (i : Incoming) (r : Request) (lent : List ℕ) (reply : Reply) (old new : Tells)
     → i ≡ incoming.Whole r → lent ≡ r.body → Reading (Ok i) old.left new.left → new.read_faults ≡ old.read_faults → SameOutput old new
     → ((own : List Entry) × did own × IsReplied made lent r.close own reply) → Comes made did (Ok reply) old new
-whole_comes made did i r lent reply old new is lent_is came counted output replied =
-    whole_came made did r reply old new (subst (λ (j : Incoming). Reading (Ok j) old.left new.left) is came) counted output
+whole_comes made wholes did i r lent reply old new is lent_is came counted output replied =
+    whole_came made wholes did r reply old new (subst (λ (j : Incoming). Reading (Ok j) old.left new.left) is came) counted output
     (subst (λ (b : List ℕ). (own : List Entry) × did own × IsReplied made b r.close own reply) lent_is replied)
 
 lost_came : (made : Made) (did : List Entry → Type 0) (old new : Tells) → did [] → Reading (Err lost.Memory) old.left new.left

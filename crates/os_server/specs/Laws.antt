@@ -1,5 +1,6 @@
 -- What holds of every conversation.
 use Rattle.std.specs.Prelude.{◌≡◌, ℕ, Bool, List, ◌++◌, Option, Some, map, ⊤}
+use Rattle.job_table.specs.declared.calls.Reply.{Reply}
 use Rattle.job_table.specs.Jobs.{Register, empty}
 use Rattle.job_table.specs.History.{Entry, Runs}
 use Rattle.job_runs.specs.Laws.{AreKept}
@@ -19,6 +20,10 @@ HasNoFault Memory = ⊥
 abbrev pub takens : List Part → List (List ℕ)
 takens parts = map (λ p. p.taken) parts
 
+-- what the calls were replied
+abbrev pub replies : List Entry → List Reply
+replies entries = map (λ e. e.reply) entries
+
 -- where a table's history is that of one who makes calls, every finish of a conversation is kept
 abbrev pub ConversationsAreKept : (List ℕ → List ℕ → List Bool → Option (List ℕ) → Type 0) → (List ℕ → List ℕ → Bool → Option (List ℕ) → Type 0) → Type 0
 ConversationsAreKept made right =
@@ -35,3 +40,12 @@ module _ (made : List ℕ → List ℕ → List Bool → Option (List ℕ) → T
       → HasNoFault end → HasNoFault other
       → Reads (p.taken ++ past) (Some bytes) (Some left) → Reads (q.taken ++ behind) (Some bytes) (Some rest)
       → (end ≡ other) × (takens t.done ≡ takens u.done) × (t.last.taken ≡ u.last.taken)
+
+  -- without a fault, and with memory, the bytes to come and what the calls were replied decide the bytes written
+  abbrev pub RepliesDecide : Type 0
+  RepliesDecide =
+      (end other : Served) (bytes past behind left rest : List ℕ) (p q : Part)
+      (t : Talk made end (AtEnd past (Some bytes) (Some left)) p) (u : Talk made other (AtEnd behind (Some bytes) (Some rest)) q)
+      → HasNoFault end → HasNoFault other
+      → Reads (p.taken ++ past) (Some bytes) (Some left) → Reads (q.taken ++ behind) (Some bytes) (Some rest)
+      → replies p.entries ≡ replies q.entries → p.out ≡ q.out

@@ -14,7 +14,8 @@ use crate::saying::{Said, said_fault, say};
 use crate::serve::Served;
 use crate::server::Server;
 use http_link::{
-    Incoming, LinkFault, Refusal, read_request, write_answer, write_fault_answer, write_refusal,
+    Incoming, LinkFault, Refusal, part_is_of_the_first_request, read_request, write_answer,
+    write_fault_answer, write_refusal,
 };
 use job_table::{self, Calls, Verdicts};
 use os_io::{Failed, Sink, Source};
@@ -116,13 +117,10 @@ pub(crate) fn next_reply<I: Source, V: Verdicts, C: Calls<V>, S: Server<V>>(
     ensures { Comes S.ran (C.did calls.old calls.new) result (I.tells input.old) (I.tells input.new) }
 {
     match read_request(alloc, input) {
-        Ok(Incoming::Whole(request)) => Ok(reply_to(
-            alloc,
-            calls,
-            server,
-            request.body.as_slice(),
-            request.close,
-        )),
+        Ok(Incoming::Whole(request)) => {
+            part_is_of_the_first_request();
+            Ok(reply_to(alloc, calls, server, request.body.as_slice(), request.close))
+        }
         Ok(Incoming::Refused(refusal)) => Ok(Reply::Refused(refusal)),
         Ok(Incoming::Cut) => Err(Served::CutShort),
         Ok(Incoming::Ended) => Err(Served::Ended),

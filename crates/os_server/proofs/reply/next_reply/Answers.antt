@@ -3,7 +3,7 @@ use Rattle.os_server.proofs.reply.next_reply.Goals as goal
 
 pub returns-in-Ok-Whole : goal.returns-in-Ok-Whole
 returns-in-Ok-Whole g c =
-    whole_comes g.S.Runner.ran _ _ c.in-Ok-Whole.request _ c.reply_to.result _ _ c.in-Ok-Whole.field-0-is c.as_slice.ensures
+    whole_comes g.S.Runner.ran c.part_is_of_the_first_request.ensures.whole _ _ c.in-Ok-Whole.request _ c.reply_to.result _ _ c.in-Ok-Whole.field-0-is c.as_slice.ensures
     c.in-Ok-Whole.ensures.answer c.in-Ok-Whole.ensures.counted c.in-Ok-Whole.ensures.output c.reply_to.ensures
 
 pub returns-in-Err-Memory : goal.returns-in-Err-Memory

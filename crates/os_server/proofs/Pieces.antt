@@ -1,0 +1,119 @@
+-- What holds of the pieces of a conversation's calls holds of all of them.
+use Rattle.std.proofs.Common.{◌≡◌, ℕ, Bool, true, false, length, List, [], ◌∷◌, ◌++◌, Option, Some, None, refl, sym, ◌∙◌, ap, subst, inl, inr}
+use Rattle.std.specs.Prelude.{All, ◌⊎◌}
+use Rattle.std.proofs.lemmas.List.Elements.{All-head, All-tail}
+use Rattle.job_table.specs.declared.job.Job.{Job}
+use Rattle.job_table.specs.declared.calls.Call.{Call}
+use Rattle.job_table.specs.declared.calls.Call.TheVariants as calls
+use Rattle.job_table.specs.declared.calls.Reply as tables
+use Rattle.job_table.specs.declared.calls.Reply.TheVariants as reply
+use Rattle.job_table.specs.History.{Entry, entry, IsGiving}
+use Rattle.job_runs.specs.Runs.{IsRun, Works}
+use Rattle.job_runs.specs.Solving.{EntersAndRuns}
+use Rattle.os_server.specs.declared.order.Order.{Order}
+use Rattle.os_server.specs.declared.order.Order.TheVariants as orders
+use Rattle.os_server.specs.declared.saying.Said.{Said}
+use Rattle.os_server.specs.declared.reply.Reply.{Reply}
+use Rattle.os_server.specs.declared.reply.Reply.TheVariants.{Answer, Refused, NoMemory}
+use Rattle.os_server.specs.declared.serve.Served.{Served}
+use Rattle.os_server.specs.declared.serve.Served.TheVariants.{Ended, CutShort, ReadFault, WriteFault, Memory}
+use Rattle.os_server.specs.Answers.{Does, BeginsToDo}
+use Rattle.os_server.specs.Talk.{Part, all_of, Answers, IsDue, IsExchange, Ends, IsLast, Talk}
+
+abbrev pub Made : Type 1
+Made = List ℕ → List ℕ → List Bool → Option (List ℕ) → Type 0
+
+abbrev gives_none : tables.Reply → Bool
+gives_none (reply.Gave (Some j)) = false
+gives_none said = true
+
+-- the call gives no job, looks at none and finishes none
+abbrev pub is_plain : Call → tables.Reply → Bool
+is_plain (calls.Enter o p) said = gives_none said
+is_plain (calls.Claim worker) said = gives_none said
+is_plain (calls.Look n) said = false
+is_plain (calls.Finish j asked document) said = false
+is_plain call said = true
+
+-- this holds of no calls, of calls after calls, of a plain call, and of a call that gives a job with the job's run
+pub record Builds (made : Made) (Holds : List Entry → Type 0) : Type 0 where
+  pub none : Holds []
+  pub both : (a b : List Entry) → Holds a → Holds b → Holds (a ++ b)
+  pub plain : (call : Call) (said : tables.Reply) → is_plain call said ≡ true → Holds (entry call said ∷ [])
+  pub given : (j : Job) (call : Call) (run : List Entry) → IsGiving call → IsRun made j run → Holds (entry call (reply.Gave (Some j)) ∷ run)
+
+module _ (made : Made) (Holds : List Entry → Type 0) (b : Builds made Holds) where
+  no_calls : (own : List Entry) → own ≡ [] → Holds own
+  no_calls own none = subst Holds (sym none) b.none
+
+  one_call : (call : Call) (said : tables.Reply) (own : List Entry) → own ≡ entry call said ∷ [] → is_plain call said ≡ true → Holds own
+  one_call call said own is plain = subst Holds (sym is) (b.plain call said plain)
+
+  entered : (o p : List ℕ) (j : Job) (own : List Entry) → EntersAndRuns made o p j own → Holds own
+  entered o p j own e = subst Holds (sym e.are) (b.given j (calls.Enter o p) e.run tt e.is_run)
+
+  pub works_so : (as_worker : Bool) (given : Option Job) (own : List Entry) → Works made as_worker given own → Holds own
+  works_so as_worker None own w =
+      one_call (calls.Claim as_worker) (reply.Gave None) own (w.are ∙ ap (λ es. entry (calls.Claim as_worker) (reply.Gave None) ∷ es) w.ran) refl
+  works_so as_worker (Some j) own w = subst Holds (sym w.are) (b.given j (calls.Claim as_worker) w.run tt w.ran)
+
+  turned_away : (said : tables.Reply) → (said ≡ reply.Full) ⊎ (said ≡ reply.Spent) → gives_none said ≡ true
+  turned_away said (inl full) = subst (λ (s : tables.Reply). gives_none s ≡ true) (sym full) refl
+  turned_away said (inr spent) = subst (λ (s : tables.Reply). gives_none s ≡ true) (sym spent) refl
+
+  does_so : (order : Order) (last : tables.Reply) (own : List Entry) → Does made order last own → Holds own
+  does_so orders.Issue last own is = one_call calls.Issue last own is refl
+  does_so (orders.Solve o p) last own (inl away) = one_call (calls.Enter o p) last own away.0 (turned_away last away.1)
+  does_so (orders.Solve o p) last own (inr r) =
+      subst Holds (sym r.are) (b.both r.run (entry (calls.Retrieve r.job.number) last ∷ []) (entered o p r.job r.run r.ran) (b.plain (calls.Retrieve r.job.number) last refl))
+  does_so (orders.Send n o p) last own is = one_call (calls.Send n o p) last own is refl
+  does_so (orders.Retrieve n) last own is = one_call (calls.Retrieve n) last own is refl
+  does_so orders.Knock last own is = one_call calls.Knock last own is refl
+  does_so (orders.Kill n) last own is = one_call (calls.Kill n) last own is refl
+
+  begins_so : (order : Order) (own : List Entry) → BeginsToDo made order own → Holds own
+  begins_so orders.Issue own none = no_calls own none
+  begins_so (orders.Solve o p) own (inl none) = no_calls own none
+  begins_so (orders.Solve o p) own (inr (j, e)) = entered o p j own e
+  begins_so (orders.Send n o p) own none = no_calls own none
+  begins_so (orders.Retrieve n) own none = no_calls own none
+  begins_so orders.Knock own none = no_calls own none
+  begins_so (orders.Kill n) own none = no_calls own none
+
+  answers_so : (body : List ℕ) (own : List Entry) (said : Said) (as_worker : Bool) → Answers made body own said as_worker → Holds own
+  answers_so body own said as_worker (inl d) = does_so d.order d.last own d.does
+  answers_so body own said as_worker (inr f) = no_calls own f.none
+
+  due_so : (taken : List ℕ) (own : List Entry) (r : Reply) → IsDue made taken own r → Holds own
+  due_so taken own (Answer said close as_worker) (body, request, answers) = answers_so body own said as_worker answers
+  due_so taken own (Refused refusal) (refused, none) = no_calls own none
+  due_so taken own NoMemory (inl (request, none)) = no_calls own none
+  due_so taken own NoMemory (inr (close, body, request, (order, asks, inl begins))) = begins_so order own begins
+  due_so taken own NoMemory (inr (close, body, request, (order, asks, inr does))) = does_so order does.0 own does.1
+
+  exchange_so : (close : Bool) (p : Part) → IsExchange made close p → Holds p.entries
+  exchange_so close p x =
+      subst Holds (sym x.entries) (b.both x.own x.after (answers_so x.answered.0 x.own x.said x.as_worker x.answered.2) (works_so x.as_worker x.given x.after x.works))
+
+  last_so : (end : Served) (A : Type 0) (p : Part) → Ends made end A p → Holds p.entries
+  last_so Ended A p (inl (ended, silence, at)) = no_calls p.entries silence.0
+  last_so Ended A p (inr (inl x)) = exchange_so true p x
+  last_so Ended A p (inr (inr (refusal, is_due, out))) = due_so p.taken p.entries (Refused refusal) is_due
+  last_so CutShort A p (cut, silence, at) = no_calls p.entries silence.0
+  last_so ReadFault A p (begun, silence) = no_calls p.entries silence.0
+  last_so WriteFault A p (r, is_due, out) = due_so p.taken p.entries r is_due
+  last_so Memory A p (is_due, out) = due_so p.taken p.entries NoMemory is_due
+
+  end_so : (end : Served) (count : ℕ) (A : Type 0) (p : Part) → IsLast made end count A p → Holds p.entries
+  end_so end count A p (inl (few, ends)) = last_so end A p ends
+  end_so end count A p (inr (is, full, none)) = no_calls p.entries (ap (λ q. q.entries) none)
+
+  all_so : (ps : List Part) → All (IsExchange made false) ps → Holds (all_of ps).entries
+  all_so [] xs = b.none
+  all_so (p ∷ ps) xs =
+      b.both p.entries (all_of ps).entries (exchange_so false p (All-head (IsExchange made false) p ps xs)) (all_so ps (All-tail (IsExchange made false) p ps xs))
+
+  -- of all calls of a conversation
+  pub talk_so : (end : Served) (A : Type 0) (p : Part) → Talk made end A p → Holds p.entries
+  talk_so end A p t =
+      subst Holds (sym (ap (λ q. q.entries) t.whole)) (b.both (all_of t.done).entries t.last.entries (all_so t.done t.exchanges) (end_so end (length t.done) A t.last t.ends))
