@@ -19,7 +19,7 @@ use Rattle.os_server.specs.declared.serve.Served.{Served}
 use Rattle.os_server.specs.Talk.{ServesWhole}
 use Rattle.os_server.specs.Laws.{ConversationsAreKept}
 use Rattle.sessions.specs.Runs.{Makes}
-use Rattle.sessions.specs.Sessions.{IsProved, IsSession}
+use Rattle.sessions.specs.Sessions.{IsProved, ShownAreProved, IsSession}
 
 -- what an answer claims is accepted
 abbrev Accepted : Type 0
@@ -62,10 +62,15 @@ proved_of accepted is_true n document before came =
       is_true = λ p c k reads claims is. is_true came.osil came.osol came.asked p report c k reads answers claims is;
     }
 
+-- what is shown in a history is proved
+pub shown_proved : DocumentsComeRight Right → Accepted → IsTrue → ShownAreProved
+shown_proved right accepted is_true entries now runs n document before after are =
+    proved_of accepted is_true n document before (right n (Some document) before after now (subst (λ (es : List Entry). Runs Right empty es now) are runs))
+
 -- a conversation over a table that was empty is a session
-pub session_of : ConversationsAreKept Makes Right → DocumentsComeRight Right → Accepted → IsTrue → (first now : Register) (end : Served) (old new : Tells)
+pub session_of : ConversationsAreKept Makes Right → ShownAreProved → (first now : Register) (end : Served) (old new : Tells)
     → first ≡ empty → ServesWhole Makes (λ made. Runs Right first made now) end old new → IsSession end old new
-session_of kept right accepted is_true first now end old new is (s, whole) =
+session_of kept shown first now end old new is (s, whole) =
     let runs : Runs Right empty s.part.entries now = subst (λ (r : Register). Runs Right r s.part.entries now) is s.calls in
     record {
       entries = s.part.entries;
@@ -84,6 +89,5 @@ session_of kept right accepted is_true first now end old new is (s, whole) =
         whole,
       );
       kept = kept end s.past old.left new.left s.part [] now s.talk runs;
-      proved = λ n document before after are.
-          proved_of accepted is_true n document before (right n (Some document) before after now (subst (λ (es : List Entry). Runs Right empty es now) are runs));
+      proved = shown s.part.entries now runs;
     }

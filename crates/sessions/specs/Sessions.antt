@@ -45,6 +45,10 @@ AreProved entries =
     → entries ≡ before ++ entry (Retrieve n) (reply.Retrieved (shown.Finished (Some document))) ∷ after
     → IsProved n document before
 
+-- in every history of solved jobs from the empty table on, each document that is shown is such a one
+abbrev pub ShownAreProved : Type 0
+ShownAreProved = (entries : List Entry) (now : Register) → Runs Right empty entries now → AreProved entries
+
 -- a session that ended so, from before to after: calls of the table, step by step from the empty one, which are this
 -- conversation's and no other's; every finish among them is kept, and every document that is shown is proved
 pub record IsSession (end : Served) (old new : Tells) : Type 0 where

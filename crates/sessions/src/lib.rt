@@ -4,11 +4,14 @@
 //! answers. Its contract is one definition, `IsSession`: the calls of the table are those of this conversation and no others,
 //! step by step from the empty table; each finish is kept; and where a result is shown, the table's history has a finish before
 //! that brought it, for the texts that were sent under the job, and a result that says that a point is optimal, that none is
-//! feasible, or that points have no best value, is accepted by the checker from the document's own bytes, and is true.
+//! feasible, or that points have no best value, is accepted by the checker from the document's own bytes, and is true. That
+//! last part holds of every history of solved jobs, whoever makes its calls: [`shown_documents_are_proved`].
 #![tactic(auto)]
 
+mod laws;
 mod session;
 mod solver;
 
+pub use laws::shown_documents_are_proved;
 pub use session::serve_session;
 pub use solver::{SolvedJobs, Solver};

@@ -3,5 +3,5 @@ use Rattle.sessions.proofs.session.serve_session.Goals as goal
 
 pub returns-clause-session : goal.returns-clause-session
 returns-clause-session g c =
-    session_of c.conversations_are_kept.ensures c.documents_come_right.ensures c.claims_are_accepted.ensures.accepted
-    c.claims_are_accepted.ensures.is_true c.new-table.result c.serve_ends.new.calls c.serve_ends.result _ _ c.new-table.ensures c.serve_ends.ensures.serves
+    session_of c.conversations_are_kept.ensures c.shown_documents_are_proved.ensures c.new-table.result c.serve_ends.new.calls c.serve_ends.result _ _
+    c.new-table.ensures c.serve_ends.ensures.serves
