@@ -1,0 +1,28 @@
+-- A conversation over whoever makes calls is one of exactly the calls that were made.
+use Rattle.std.proofs.Common.{◌≡◌, Bool, List, refl}
+use Rattle.os_io.specs.Streams.{Tells}
+use Rattle.job_table.specs.History.{Entry}
+use Rattle.os_server.specs.declared.serve.Served.{Served}
+use Rattle.os_server.specs.Talk.{Serves}
+use Rattle.sessions.specs.Runs.{Makes}
+use Rattle.serving.specs.Serving.{lacks_memory, Converses}
+
+pub converses : (did : List Entry → Type 0) (end : Served) (came back : Tells) (short : Bool) → short ≡ lacks_memory end → Serves Makes did end came back
+    → (own : List Entry) × did own × Converses came own back short
+converses did end came back short is s = (
+  s.part.entries,
+  s.calls,
+  (
+    end,
+    record {
+      part = s.part;
+      past = s.past;
+      talk = s.talk;
+      calls = refl;
+      read = s.read;
+      wrote = s.wrote;
+      accounts = s.accounts;
+    },
+    is,
+  ),
+)

@@ -1,0 +1,10 @@
+-- The lines that a server writes.
+use Rattle.std.specs.Prelude.{ℕ, List, [], ◌∷◌, ◌++◌, codes, decimal}
+
+-- links can come
+abbrev pub listening : List ℕ
+listening = codes "listening" ++ (10 ∷ [])
+
+-- so many numbers of jobs were given
+abbrev pub jobs_line : ℕ → List ℕ
+jobs_line n = codes "jobs " ++ decimal n ++ (10 ∷ [])

@@ -1,0 +1,123 @@
+-- A server, from `listen` on: the links that came, the one history of the calls of the table of jobs, and the lines that were written.
+use Rattle.std.specs.Prelude.{◌≡◌, ◌≢◌, ℕ, ◌+◌, ◌<◌, ◌≤◌, Bool, true, false, List, [], ◌++◌, length, map, count_by, All, Some}
+use Rattle.os_io.specs.Streams.{Tells, HasRisen}
+use Rattle.job_table.specs.declared.calls.Call.{Call}
+use Rattle.job_table.specs.declared.calls.Call.TheVariants.{Issue, Enter}
+use Rattle.job_table.specs.declared.calls.Reply.{Reply}
+use Rattle.job_table.specs.declared.calls.Reply.TheVariants.{Issued, Gave}
+use Rattle.job_table.specs.Jobs.{Register}
+use Rattle.job_table.specs.History.{Entry as Said}
+use Rattle.job_runs.specs.Laws.{AreKept}
+use Rattle.desk.specs.declared.view.Entry.{Entry}
+use Rattle.desk.specs.declared.view.Met.{Met}
+use Rattle.desk.specs.History.{LeadsTo, calls, calls_by}
+use Rattle.server_threads.specs.declared.hall.ServeFault.{ServeFault}
+use Rattle.server_threads.specs.declared.hall.ServeFault.TheVariants.{Failed, Memory}
+use Rattle.server_threads.specs.Talks.{Talk, Shift, talk_met, shift_met, short_of, Came, GivenBack, AllTalked, AllWorked}
+use Rattle.os_server.specs.declared.serve.Served.{Served}
+use Rattle.os_server.specs.declared.serve.Served.TheVariants as served
+use Rattle.os_server.specs.Talk.{Serves}
+use Rattle.solve_run.specs.Right.{Right}
+use Rattle.sessions.specs.Runs.{Makes}
+use Rattle.sessions.specs.Sessions.{AreProved}
+use Rattle.command_answers.specs.Net.{NetTells}
+use Rattle.command_answers.specs.Sent.{IsSent, BreaksOff}
+use Rattle.serving.specs.declared.ending.Ending.{Ending}
+use Rattle.serving.specs.declared.ending.Ending.TheVariants.{Done, LinkMemory, ListenFault, AnnounceFault, NoMemory, AcceptFault, ReportFault}
+use Rattle.serving.specs.Lines.{listening, jobs_line}
+
+-- ---- conversations beside each other
+
+-- so ended, there was no memory
+abbrev pub lacks_memory : Served → Bool
+lacks_memory served.Ended = false
+lacks_memory served.CutShort = false
+lacks_memory served.ReadFault = false
+lacks_memory served.WriteFault = false
+lacks_memory served.Memory = true
+
+-- a conversation, by what its link told before it, the calls that were made for it, what its link told after it, and whether it ended for
+-- want of memory
+abbrev pub Converses : Tells → List Said → Tells → Bool → Type 0
+Converses came said back short =
+    (end : Served) × Serves Makes (λ made. made ≡ said) end came back × (short ≡ lacks_memory end)
+
+-- who made calls: the links that came, and the workers, each with its number and its calls
+abbrev pub callers : List Talk → List Shift → List Met
+callers links staff = map talk_met links ++ map shift_met staff
+
+-- one history of calls of the table, step by step from the empty one. The workers have the numbers from 1 on, and their calls are those of
+-- their shifts; the links have the next ones, in the order in which they came, and their calls are those of their conversations.
+-- Under the number of each stand its calls, in their order, and nobody else has any. Every finish is kept, and every document that is shown is proved
+pub record IsHistory (links : List Talk) (staff : List Shift) (log : List Entry) : Type 0 where
+  pub table : Register
+  pub runs : LeadsTo Right log table
+  pub worked : AllWorked Makes 1 staff
+  pub talked : AllTalked Converses (1 + length staff) links
+  pub made : All (λ m. calls_by m.seat log ≡ m.calls) (callers links staff)
+  pub no_others : (n : ℕ) → All (λ m. m.seat ≢ n) (callers links staff) → calls_by n log ≡ []
+  pub kept : AreKept (calls log)
+  pub proved : AreProved (calls log)
+
+-- ---- what comes and goes
+
+-- links came and were given back, in one order, and with at most so many workers they made one history. What else holds of the links and the
+-- history is given
+pub record Hosts (Further : List Talk → List Entry → Type 0) (workers : ℕ) (old new : NetTells) : Type 0 where
+  pub links : List Talk
+  pub staff : List Shift
+  pub log : List Entry
+  pub few : length staff ≤ workers
+  pub came : Came old.coming new.coming (map (λ t. t.came) links)
+  pub back : GivenBack old.given_back new.given_back (map (λ t. t.back) links)
+  pub history : IsHistory links staff log
+  pub ends : Further links log
+
+-- the call gives a number: an issue, or the enter of a job
+abbrev pub gives_number : Call → Reply → Bool
+gives_number Issue (Issued n) = true
+gives_number (Enter osil osol) (Gave (Some j)) = true
+gives_number call said = false
+
+-- how many numbers these calls gave
+abbrev pub numbers_given : List Said → ℕ
+numbers_given said = count_by (λ e. gives_number e.call e.reply) said
+
+-- ---- how it ends
+
+module _ (connections : ℕ) (links : List Talk) (log : List Entry) (old new : NetTells) (output output' : Tells) where
+  -- so many links came, and no call of the listener failed
+  abbrev pub AllCame : Type 0
+  AllCame = (length links ≡ connections) × (new.faults ≡ old.faults)
+
+  -- how serving so many links ended, by the links that came and their history, by how often a call of the listener failed, and by
+  -- what the output tells
+  abbrev pub Ends : Ending → Type 0
+  Ends Done =
+      AllCame × (short_of links ≡ 0)
+      × ((said : Tells) × IsSent listening output said × IsSent (jobs_line (numbers_given (calls log))) said output')
+  Ends LinkMemory =
+      AllCame × (0 < short_of links)
+      × ((said : Tells) × IsSent listening output said × IsSent (jobs_line (numbers_given (calls log))) said output')
+  Ends ListenFault = (links ≡ []) × HasRisen old.faults new.faults × (output' ≡ output)
+  Ends AnnounceFault = (links ≡ []) × (new.faults ≡ old.faults) × BreaksOff listening output output'
+  Ends NoMemory = (links ≡ []) × (new.faults ≡ old.faults) × IsSent listening output output'
+  Ends AcceptFault = (length links < connections) × HasRisen old.faults new.faults × IsSent listening output output'
+  Ends ReportFault =
+      AllCame
+      × ((said : Tells) × IsSent listening output said × BreaksOff (jobs_line (numbers_given (calls log))) said output')
+
+-- what is answered where all links came and both lines were written, by whether no link ended for want of memory
+abbrev pub done_if : Bool → Ending
+done_if true = Done
+done_if false = LinkMemory
+
+-- and where serving was broken off
+abbrev pub ending_of : ServeFault → Ending
+ending_of Failed = AcceptFault
+ending_of Memory = NoMemory
+
+-- a server listened, served at most so many links with at most so many workers, and ended so
+abbrev pub IsServed : Ending → (workers connections : ℕ) → (old new : NetTells) → (output output' : Tells) → Type 0
+IsServed how workers connections old new output output' =
+    Hosts (λ links log. Ends connections links log old new output output' how) workers old new

@@ -1,0 +1,23 @@
+//! The server of links: many connections over one table of jobs, from `listen` to the last line.
+//!
+//! [`serve`] listens, says so in a line, serves the links that come beside each other and beside workers, gives them back, and
+//! says in a line how many numbers of jobs were given. Its contract is one definition, `IsServed`: there is one history of calls
+//! of the table, step by step from the empty one, in which the calls of each link stand under a number of its own and are its
+//! conversation's, those of each worker are its shift's, and no others stand; each finish is kept; and where a result is shown, the
+//! history has a finish before that brought it, for the texts that were sent under the job, and a result that says that a point is
+//! optimal, that none is feasible, or that points have no best value, is accepted by the checker from the document's own bytes,
+//! and is true.
+//!
+//! Which way of ending comes when is a table by [`Ending`] (`specs/Serving.antt`). What the clauses say of the whole service is gone
+//! through in `docs/HEADLINE.md`.
+#![tactic(auto)]
+
+mod ending;
+mod lines;
+mod links;
+mod server;
+#[cfg(test)]
+mod tests;
+
+pub use ending::Ending;
+pub use server::serve;
