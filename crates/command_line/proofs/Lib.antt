@@ -1,5 +1,12 @@
+pub mod Told
+pub mod Numbers
 pub mod Called
+pub mod Texts
+pub mod Rows
 pub mod Flags
-pub mod Standing
+pub mod Rules
+pub mod Settling
+pub mod Walking
+pub mod Telling
 pub mod Commands
-pub mod Forms
+pub mod Ranges

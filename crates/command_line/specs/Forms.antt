@@ -1,24 +1,40 @@
--- Which words call a command, in their forms.
-use Rattle.std.specs.Prelude.{◌≡◌, ◌==◌, ◌||◌, Bool, true, not, List, [], ◌∷◌, length, codes}
-use Rattle.std.specs.Str.{chars}
-use Rattle.clap.specs.Words.{Text}
+-- The program's commands and their words, as `clap` is told them.
+use Rattle.std.specs.Prelude.{true, List, [], ◌∷◌, ◌++◌, Some, codes, fold, map}
+use Rattle.clap.specs.Words.{App, Rule, Text, new_app, new_rule, with_subcommand}
+use Rattle.clap.specs.Simple.{Shape, new_shape, on_top}
 
--- the word is no flag: it doesn't begin with `-` (45), or no character stands behind that, as in `-` alone (POSIX.1, XBD 12.2,
--- guideline 4)
-abbrev pub is_plain : Text → Bool
-is_plain [] = true
-is_plain (first ∷ rest) = not (first == 45) || length (chars rest) == 0
-
--- the words stand for these values, each for itself: no word is a flag before the first `--`, if there is one, which stands for
--- nothing, and behind it are any words (POSIX.1, XBD 12.2, guideline 10)
-pub data StandFor : (words values : List Text) → Type 0 where
-  ends : StandFor [] []
-  dashes : (values : List Text) → StandFor (codes "--" ∷ values) values
-  next : (word : Text) (words values : List Text) → is_plain word ≡ true → StandFor words values → StandFor (word ∷ words) (word ∷ values)
-
--- the words call a command with these values: a name, the command, and words that stand for the values
-pub record IsCallOf (command : Text) (values words : List Text) : Type 0 where
+-- a command: its name, the names of the words that it needs, in their order, and of those that may be given behind their names
+pub record Form : Type 0 where
   pub name : Text
-  pub rest : List Text
-  pub are : words ≡ name ∷ command ∷ rest
-  pub stand : StandFor rest values
+  pub needed : List Text
+  pub named : List Text
+
+-- the commands
+abbrev pub forms : List Form
+forms = record { name = codes "session"; needed = []; named = [] }
+    ∷ record { name = codes "check"; needed = codes "osil" ∷ codes "osrl" ∷ []; named = [] }
+    ∷ record { name = codes "solve"; needed = codes "osil" ∷ []; named = codes "options" ∷ [] }
+    ∷ record { name = codes "generate"; needed = codes "variables" ∷ []; named = [] }
+    ∷ record { name = codes "call"; needed = codes "name" ∷ codes "host" ∷ codes "port" ∷ []; named = codes "osil" ∷ codes "osol" ∷ codes "ospl" ∷ [] }
+    ∷ record { name = codes "serve"; needed = codes "host" ∷ codes "port" ∷ []; named = codes "workers" ∷ codes "servers" ∷ codes "connections" ∷ [] }
+    ∷ []
+
+-- a word that must be given
+abbrev pub needed_word : Text → Rule
+needed_word id = record (new_rule id) { required = true }
+
+-- a word that may be given behind `--` and its name
+abbrev pub named_word : Text → Rule
+named_word id = record (new_rule id) { long = Some id }
+
+-- what `clap` is told of a command
+abbrev pub shape : Form → Shape
+shape form = record (new_shape form.name) { rules = map needed_word form.needed ++ map named_word form.named }
+
+-- a command that is called by one of its subcommands
+abbrev pub needing_subcommand : Shape → Shape
+needing_subcommand command = record command { subcommand_required = true }
+
+-- the program's command line: it is called by one of the commands
+abbrev pub program : App
+program = fold with_subcommand (on_top needing_subcommand (new_app (codes "os_app"))) (map shape forms)

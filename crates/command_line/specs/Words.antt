@@ -1,65 +1,92 @@
 -- What the words of a call ask for: what clap makes of them, where it refuses none.
-use Rattle.std.specs.Prelude.{◌≡◌, ℕ, true, List, [], ◌∷◌, Option, Some, None, codes, option_and_then, option_map, if◌then◌else◌}
+use Rattle.std.specs.Prelude.{◌≡◌, ◌≤◌, ℕ, Bool, true, false, List, [], ◌∷◌, Option, Some, None, codes, find, option_and_then, option_map, if◌then◌else◌}
 use Rattle.std.specs.Str.{bytes_eq}
-use Rattle.clap.specs.Words.{App, Row, Rule, Text, fault_of, first_of, new_app, new_rule, subcommand_of, with_subcommand}
-use Rattle.clap.specs.Simple.{Shape, new_shape, on_top}
+use Rattle.clap.specs.Words.{Row, Text, fault_of, first_of, subcommand_of}
 use Rattle.clap.specs.Kinds.{Kinds}
-use Rattle.command_line.specs.Forms.{IsCallOf}
+use Rattle.soap_calls.specs.Names.{kind_text}
+use Rattle.soap_calls.specs.declared.call.CallKind.{CallKind}
+use Rattle.soap_calls.specs.declared.call.CallKind.TheVariants as calls
+use Rattle.command_line.specs.Forms.{program}
+use Rattle.command_line.specs.Numbers.{number_in, number_or}
 use Rattle.command_line.specs.declared.words.Asked.{Asked}
 use Rattle.command_line.specs.declared.words.Asked.TheVariants as asked
 
--- what words may ask for: a session, a check of the files of these names, or the result of an instance's file with the options
--- of another file, if one is named
+-- what words may ask for: a session; a check of the files of these names; the result of an instance's file with the options of
+-- another file, if one is named; the instance of so many variables, solved; a call of the server at a host's port, with the
+-- files of its parts; or a server there, with so many workers, so many conversations at once, up to so many connections
 pub data Command : Type 0 where
   Session : Command
   Check : (osil osrl : Text) → Command
   Solve : (osil : Text) → (options : Option Text) → Command
+  Generate : (variables : ℕ) → Command
+  Call : (kind : CallKind) → (host : Text) → (port : ℕ) → (osil osol ospl : Option Text) → Command
+  Serve : (host : Text) → (port workers servers connections : ℕ) → Command
 
 -- the command that is asked for
 abbrev pub meant : Asked → Command
 meant asked.Session = Session
 meant (asked.Check osil osrl) = Check osil.now osrl.now
 meant (asked.Solve osil options) = Solve osil.now (option_map (λ name. name.now) options)
+meant (asked.Generate variables) = Generate variables
+meant (asked.Call kind host port osil osol ospl) = Call kind host.now port (option_map (λ name. name.now) osil) (option_map (λ name. name.now) osol) (option_map (λ name. name.now) ospl)
+meant (asked.Serve host port workers servers connections) = Serve host.now port workers servers connections
 
--- a command that is called by one of its subcommands
-abbrev pub needing_subcommand : Shape → Shape
-needing_subcommand command = record command { subcommand_required = true }
+-- ---- what a command's words mean
 
--- a word that must be given
-abbrev pub needed_word : Text → Rule
-needed_word id = record (new_rule id) { required = true }
+-- the texts of words, by the words' names
+abbrev pub Said : Type 0
+Said = Text → Option Text
 
--- a word that may be given behind `--` and the word's own name
-abbrev pub named_word : Text → Rule
-named_word id = record (new_rule id) { long = Some id }
+abbrev pub check_of : Said → Option Command
+check_of said = option_and_then (λ osil. option_map (Check osil) (said (codes "osrl"))) (said (codes "osil"))
 
--- `check` has two words, the names of the files
-abbrev pub check_shape : Shape
-check_shape = record (new_shape (codes "check")) { rules = needed_word (codes "osil") ∷ needed_word (codes "osrl") ∷ [] }
+abbrev pub solve_of : Said → Option Command
+solve_of said = option_map (λ osil. Solve osil (said (codes "options"))) (said (codes "osil"))
 
--- `solve` has one word, the name of a file, and `--options` with the name of another one
-abbrev pub solve_shape : Shape
-solve_shape = record (new_shape (codes "solve")) { rules = needed_word (codes "osil") ∷ named_word (codes "options") ∷ [] }
+-- one to a thousand variables
+abbrev pub generate_of : Said → Option Command
+generate_of said = option_map Generate (option_and_then (number_in 1 1000) (said (codes "variables")))
 
--- the program's command line: `session` has no words of its own
-abbrev pub program : App
-program = with_subcommand (with_subcommand (with_subcommand (on_top needing_subcommand (new_app (codes "os_app"))) (new_shape (codes "session"))) check_shape) solve_shape
+-- the calls
+abbrev pub kinds : List CallKind
+kinds = calls.Solve ∷ calls.GetJobId ∷ calls.Send ∷ calls.Retrieve ∷ calls.Knock ∷ calls.Kill ∷ []
 
--- the files that a check's words name
-abbrev pub files_of : List Row → Option Command
-files_of rows = option_and_then (λ osil. option_map (Check osil) (first_of (codes "osrl") rows)) (first_of (codes "osil") rows)
+-- the call of this name, if there is one
+abbrev pub kind_named : Text → Option CallKind
+kind_named name = find (λ kind. bytes_eq (kind_text kind) name) kinds
 
--- the files that `solve`'s words name
-abbrev pub job_of : List Row → Option Command
-job_of rows = option_map (λ osil. Solve osil (first_of (codes "options") rows)) (first_of (codes "osil") rows)
+-- a port of TCP (RFC 9293, section 3.1), of which 0 stands for one that the system chooses
+abbrev pub port_of : Said → Option ℕ
+port_of said = option_and_then (number_in 0 65535) (said (codes "port"))
 
--- what a subcommand asks for, by its name and by what was found among its words
-abbrev pub asked_by : Text × List Row → Option Command
-asked_by found = if bytes_eq found.0 (codes "session") then Some Session else (if bytes_eq found.0 (codes "check") then files_of found.1 else (if bytes_eq found.0 (codes "solve") then job_of found.1 else None))
+abbrev pub call_of : Said → Option Command
+call_of said = option_and_then (λ kind. option_and_then (λ host. option_map (λ port. Call kind host port (said (codes "osil")) (said (codes "osol")) (said (codes "ospl"))) (port_of said)) (said (codes "host"))) (option_and_then kind_named (said (codes "name")))
+
+-- no worker to 16, two where none are said; one to 64 conversations at once, eight where none are said; one to 1,000,000
+-- connections, all of them where none are said
+abbrev pub serve_of : Said → Option Command
+serve_of said =
+    option_and_then (λ host. option_and_then (λ port. option_and_then (λ workers. option_and_then (λ servers. option_map (λ connections. Serve host port workers servers connections)
+    (number_or 1000000 1 1000000 (said (codes "connections")))) (number_or 8 1 64 (said (codes "servers")))) (number_or 2 0 16 (said (codes "workers")))) (port_of said)) (said (codes "host"))
+
+-- what a command asks for, by its name and by the texts of its words
+abbrev pub asked_by : Text → Said → Option Command
+asked_by name said = if bytes_eq name (codes "session") then Some Session
+    else (if bytes_eq name (codes "check") then check_of said
+    else (if bytes_eq name (codes "solve") then solve_of said
+    else (if bytes_eq name (codes "generate") then generate_of said
+    else (if bytes_eq name (codes "call") then call_of said
+    else (if bytes_eq name (codes "serve") then serve_of said else None)))))
+
+-- ---- what the words ask for
+
+-- the texts that were found of words
+abbrev pub found_in : List Row → Said
+found_in rows id = first_of id rows
 
 -- what is asked for where the words have these faults and name this subcommand
 abbrev pub asked_with : Kinds → Option (Text × List Row) → Option Command
-asked_with [] found = option_and_then asked_by found
+asked_with [] found = option_and_then (λ f. asked_by f.0 (found_in f.1)) found
 asked_with (fault ∷ faults) found = None
 
 -- what the words ask for, the first of which is the program's name; nothing where they are refused, or ask for help
@@ -70,10 +97,6 @@ asks words = asked_with (fault_of program words) (subcommand_of program words)
 abbrev pub IsSession : List Text → Type 0
 IsSession words = asks words ≡ Some Session
 
--- the words of a session: a name, `session`, and no word that stands for something
-abbrev pub HasSessionWords : List Text → Type 0
-HasSessionWords words = IsCallOf (codes "session") [] words
-
 -- the words are no command's
 abbrev pub IsNoCommand : List Text → Type 0
 IsNoCommand words = asks words ≡ None
@@ -82,21 +105,44 @@ IsNoCommand words = asks words ≡ None
 abbrev pub IsCheck : List Text → (osil osrl : Text) → Type 0
 IsCheck words osil osrl = asks words ≡ Some (Check osil osrl)
 
--- the words of a check: a name, `check`, and words that stand for the names of the two files
-abbrev pub HasCheckWords : List Text → (osil osrl : Text) → Type 0
-HasCheckWords words osil osrl = IsCallOf (codes "check") (osil ∷ osrl ∷ []) words
-
 -- the words are `solve`'s, and name this file, and one of options, if any
 abbrev pub IsSolve : List Text → (osil : Text) → (options : Option Text) → Type 0
 IsSolve words osil options = asks words ≡ Some (Solve osil options)
 
--- the words are no check's
-abbrev pub IsNoCheck : List Text → Type 0
-IsNoCheck words = (osil osrl : Text) → IsCheck words osil osrl → ⊥
+-- a command's numbers are within their ends
+abbrev pub IsWithin : Command → Type 0
+IsWithin Session = Unit {0}
+IsWithin (Check osil osrl) = Unit {0}
+IsWithin (Solve osil options) = Unit {0}
+IsWithin (Generate variables) = (1 ≤ variables) × (variables ≤ 1000)
+IsWithin (Call kind host port osil osol ospl) = port ≤ 65535
+IsWithin (Serve host port workers servers connections) = (port ≤ 65535) × (workers ≤ 16) × ((1 ≤ servers) × (servers ≤ 64)) × ((1 ≤ connections) × (connections ≤ 1000000))
 
--- and not `solve`'s: they name no file
+-- the command names files
+abbrev pub names_files : Command → Bool
+names_files Session = false
+names_files (Check osil osrl) = true
+names_files (Solve osil options) = true
+names_files (Generate variables) = false
+names_files (Call kind host port osil osol ospl) = true
+names_files (Serve host port workers servers connections) = false
+
+-- the command asks for links
+abbrev pub asks_for_links : Command → Bool
+asks_for_links Session = false
+asks_for_links (Check osil osrl) = false
+asks_for_links (Solve osil options) = false
+asks_for_links (Generate variables) = false
+asks_for_links (Call kind host port osil osol ospl) = true
+asks_for_links (Serve host port workers servers connections) = true
+
+-- the words name no file: no command that they ask for does
 abbrev pub NamesNoFile : List Text → Type 0
-NamesNoFile words = IsNoCheck words × ((osil : Text) (options : Option Text) → IsSolve words osil options → ⊥)
+NamesNoFile words = (it : Command) → asks words ≡ Some it → names_files it ≡ false
+
+-- and ask for no link
+abbrev pub AsksForNoLink : List Text → Type 0
+AsksForNoLink words = (it : Command) → asks words ≡ Some it → asks_for_links it ≡ false
 
 -- what is written to whoever gives words that are no command's
 abbrev pub usage : List ℕ

@@ -1,9 +1,15 @@
 //! The words that the program is called with, and the usage that is written where they are no command.
 //!
-//! [`read`] says what the words ask for: `session`, `check OSIL OSRL`, or `solve OSIL [--options OSOL]`. They are read by `clap`, and what it makes of
-//! them is stated exactly (`specs/Words.antt`). The laws say which words are a session's and which a check's.
+//! [`read`] says what the words ask for: `session`, `check OSIL OSRL`, `solve OSIL [--options OSOL]`, `generate N`,
+//! `call NAME HOST PORT [--osil F] [--osol F] [--ospl F]`, or
+//! `serve HOST PORT [--workers W] [--servers S] [--connections C]`. They are read by `clap`, and what it makes of them is
+//! stated exactly (`specs/Words.antt`). The laws say which words are a command's
+//! ([`commands_have_their_words`]), and that its numbers are within their ends.
 #![tactic(auto)]
 
+mod program;
 mod words;
 
-pub use words::{Asked, check_has_its_words, read, session_has_its_words, write_usage};
+pub use words::{
+    Asked, commands_have_their_words, numbers_are_within_their_ends, read, write_usage,
+};

@@ -1,14 +1,19 @@
-//! The words that the program is called with.
-ghost use Rattle.std.specs.Prelude.{◌≡◌, ◌↔◌, ℕ, List, [], ◌∷◌, codes, IfOk, map, option_and_then, option_map, true};
+//! What the words of a call ask for.
+ghost use Rattle.std.specs.Prelude.{◌≡◌, ◌↔◌, ◌≤◌, ℕ, List, Some, IfOk, IfSome, find, map, option_and_then, option_map};
+ghost use Rattle.std.specs.Str.{bytes_eq};
 ghost use Rattle.std.specs.String.{string_bytes};
 ghost use Rattle.os_io.specs.Streams.{Sends};
-ghost use Rattle.clap.specs.Words.{app_of, found_of, rows_of, subcommand_rows_of};
-ghost use Rattle.command_line.specs.Forms.{is_plain};
-ghost use Rattle.command_line.specs.Words.{HasCheckWords, HasSessionWords, IsCheck, IsSession, asked_by, asks, files_of, job_of, meant, program, usage};
+ghost use Rattle.clap.specs.Words.{first_value, found_of, subcommand_rows_of};
+ghost use Rattle.soap_calls.specs.Names.{kind_text};
+ghost use Rattle.command_line.specs.Calls.{IsCallOf};
+ghost use Rattle.command_line.specs.Numbers.{number_in, number_or};
+ghost use Rattle.command_line.specs.Words as says;
 
+use crate::program::program;
+use clap::ArgMatches;
 use clap::error::ErrorKind;
-use clap::{Arg, ArgMatches, Command};
 use os_io::{Failed, Memory, Sink, send_all};
+use soap_calls::CallKind;
 use std::alloc::{AllocError, Global};
 
 /// How the program is called.
@@ -17,7 +22,7 @@ const USAGE: &[u8] = b"usage: os_app session | solve | check | serve | call | ge
 /// What the words ask for.
 #[derive(Clone, Copy, Debug)]
 pub enum Asked<'w> {
-    /// To read one request from the input and write its response to the output.
+    /// To serve the requests that come on the input, and write the answers to the output.
     Session,
     /// To check the result in one file of the instance in another.
     Check {
@@ -29,29 +34,89 @@ pub enum Asked<'w> {
         osil: &'w str,
         options: Option<&'w str>,
     },
+    /// To make, to solve and to check the instance of 1 to 1,000 variables.
+    Generate {
+        variables: u32,
+    },
+    /// To make a call of the server at a port of a host, with the texts of the files that are named.
+    Call {
+        kind: CallKind,
+        host: &'w str,
+        port: u16,
+        osil: Option<&'w str>,
+        osol: Option<&'w str>,
+        ospl: Option<&'w str>,
+    },
+    /// To serve at a port of a host, with up to 16 workers that run jobs beside 1 to 64 conversations at once, until 1 to
+    /// 1,000,000 connections have come.
+    Serve {
+        host: &'w str,
+        port: u16,
+        workers: u32,
+        servers: u32,
+        connections: u32,
+    },
 }
 
-/// The program's command line.
-fn program<'a>(alloc: Global) -> Result<Command<'a>, Memory>
-    ensures { IfOk result (λ command. app_of command ≡ program) }
+/// The number that a word is, if it is one within these ends.
+fn number_in(word: &str, least: u32, most: u32) -> Option<u32>
+    ensures number { result ≡ number_in least most word.now }
+    ensures within { IfSome result (λ n. n ≤ most) }
 {
-    let session = Command::new(alloc, "session");
-    let check = Command::new(alloc, "check")
-        .arg(Arg::new(alloc, "osil").required(true))?
-        .arg(Arg::new(alloc, "osrl").required(true))?;
-    let solve = Command::new(alloc, "solve")
-        .arg(Arg::new(alloc, "osil").required(true))?
-        .arg(Arg::new(alloc, "options").long("options"))?;
-    Command::new(alloc, "os_app")
-        .subcommand_required(true)
-        .subcommand(session)?
-        .subcommand(check)?
-        .subcommand(solve)
+    match word.parse::<u32>() {
+        Ok(number) if least <= number && number <= most => Some(number),
+        _ => None,
+    }
+}
+
+/// The number that a word is, or this one where there is no word.
+fn number_or(default: u32, word: Option<&str>, least: u32, most: u32) -> Option<u32>
+    ensures { result ≡ number_or default least most (option_map (λ w. w.now) word.entry) }
+{
+    match word {
+        Some(word) => number_in(word, least, most),
+        None => Some(default),
+    }
+}
+
+/// The port among a command's words.
+fn port_of(matches: &ArgMatches) -> Option<u16>
+    ensures { result ≡ says.port_of (first_value (found_of matches.now)) }
+{
+    let port = number_in(matches.get_str("port")?, 0, 65_535)?;
+    Some(port as u16)
+}
+
+/// The first of these calls that has this name.
+fn kind_among(kinds: &[CallKind], name: &str) -> Option<CallKind>
+    ensures { result ≡ find (λ kind. bytes_eq (kind_text kind) name.now) kinds.now }
+{
+    for kind in kinds {
+        if kind.name() == name.as_bytes() {
+            return Some(*kind);
+        }
+    }
+    None
+}
+
+/// The call of this name.
+fn kind_named(name: &str) -> Option<CallKind>
+    ensures { result ≡ says.kind_named name.now }
+{
+    let kinds = [
+        CallKind::Solve,
+        CallKind::GetJobId,
+        CallKind::Send,
+        CallKind::Retrieve,
+        CallKind::Knock,
+        CallKind::Kill,
+    ];
+    kind_among(&kinds, name)
 }
 
 /// The files that a check's words name.
-fn files_of<'w>(matches: &ArgMatches<'w>) -> Option<Asked<'w>>
-    ensures { option_map meant result ≡ files_of (rows_of (found_of matches.now)) }
+fn check_of<'w>(matches: &ArgMatches<'w>) -> Option<Asked<'w>>
+    ensures { option_map says.meant result ≡ says.check_of (first_value (found_of matches.now)) }
 {
     let osil = matches.get_str("osil")?;
     let osrl = matches.get_str("osrl")?;
@@ -59,35 +124,93 @@ fn files_of<'w>(matches: &ArgMatches<'w>) -> Option<Asked<'w>>
 }
 
 /// The files that `solve`'s words name.
-fn job_of<'w>(matches: &ArgMatches<'w>) -> Option<Asked<'w>>
-    ensures { option_map meant result ≡ job_of (rows_of (found_of matches.now)) }
+fn solve_of<'w>(matches: &ArgMatches<'w>) -> Option<Asked<'w>>
+    ensures { option_map says.meant result ≡ says.solve_of (first_value (found_of matches.now)) }
 {
     let osil = matches.get_str("osil")?;
     let options = matches.get_str("options");
     Some(Asked::Solve { osil, options })
 }
 
-/// What a subcommand asks for.
+/// How many variables `generate`'s words ask for.
+fn generate_of<'w>(matches: &ArgMatches<'w>) -> Option<Asked<'w>>
+    ensures { option_map says.meant result ≡ says.generate_of (first_value (found_of matches.now)) }
+{
+    let variables = number_in(matches.get_str("variables")?, 1, 1_000)?;
+    Some(Asked::Generate { variables })
+}
+
+/// The call, the server and the files that `call`'s words name.
+fn call_of<'w>(matches: &ArgMatches<'w>) -> Option<Asked<'w>>
+    ensures { option_map says.meant result ≡ says.call_of (first_value (found_of matches.now)) }
+{
+    let kind = kind_named(matches.get_str("name")?)?;
+    let host = matches.get_str("host")?;
+    let port = port_of(matches)?;
+    let osil = matches.get_str("osil");
+    let osol = matches.get_str("osol");
+    let ospl = matches.get_str("ospl");
+    Some(Asked::Call {
+        kind,
+        host,
+        port,
+        osil,
+        osol,
+        ospl,
+    })
+}
+
+/// The port and the counts that `serve`'s words name.
+fn serve_of<'w>(matches: &ArgMatches<'w>) -> Option<Asked<'w>>
+    ensures { option_map says.meant result ≡ says.serve_of (first_value (found_of matches.now)) }
+{
+    let host = matches.get_str("host")?;
+    let port = port_of(matches)?;
+    let workers = number_or(2, matches.get_str("workers"), 0, 16)?;
+    let servers = number_or(8, matches.get_str("servers"), 1, 64)?;
+    let connections = number_or(1_000_000, matches.get_str("connections"), 1, 1_000_000)?;
+    Some(Asked::Serve {
+        host,
+        port,
+        workers,
+        servers,
+        connections,
+    })
+}
+
+/// What a command of this name asks for.
+fn asked_of<'w>(name: &str, matches: &ArgMatches<'w>) -> Option<Asked<'w>>
+    ensures { option_map says.meant result ≡ says.asked_by name.now (first_value (found_of matches.now)) }
+{
+    if name == "session" {
+        Some(Asked::Session)
+    } else if name == "check" {
+        check_of(matches)
+    } else if name == "solve" {
+        solve_of(matches)
+    } else if name == "generate" {
+        generate_of(matches)
+    } else if name == "call" {
+        call_of(matches)
+    } else if name == "serve" {
+        serve_of(matches)
+    } else {
+        None
+    }
+}
+
+/// What the command asks for that was found.
 fn asked_by<'w>(matches: &ArgMatches<'w>) -> Option<Asked<'w>>
-    ensures { option_map meant result ≡ option_and_then asked_by (subcommand_rows_of matches.now) }
+    ensures { option_map says.meant result ≡ option_and_then (λ f. says.asked_by f.0 (says.found_in f.1)) (subcommand_rows_of matches.now) }
 {
     let (name, found) = matches.subcommand()?;
-    if name == "session" {
-        return Some(Asked::Session);
-    }
-    if name == "check" {
-        return files_of(found);
-    }
-    if name == "solve" {
-        return job_of(found);
-    }
-    None
+    asked_of(name, found)
 }
 
 /// What the words ask for, the first of which is the program's name. There is nothing where they are no command, or ask
 /// for help.
 pub fn read<'w>(alloc: Global, words: &'w [String]) -> Result<Option<Asked<'w>>, Memory>
-    ensures { IfOk result (λ asked. option_map meant asked ≡ asks (map string_bytes words.now)) }
+    ensures { IfOk result (λ asked. option_map says.meant asked ≡ says.asks (map string_bytes words.now)) }
 {
     match program(alloc)?.try_get_matches_from(words) {
         Ok(matches) => Ok(asked_by(&matches)),
@@ -98,22 +221,20 @@ pub fn read<'w>(alloc: Global, words: &'w [String]) -> Result<Option<Asked<'w>>,
     }
 }
 
-/// Law: the words of a session are a name and `session`, and perhaps `--`.
-pub fn session_has_its_words()
-    ensures { (words : List (List ℕ)) → IsSession words ↔ HasSessionWords words }
+/// Law: the words of a command are a name, the command's, and words that stand for what it needs and may be given. A word
+/// stands for itself where it is no flag; behind one `--`, which stands for nothing, each does.
+pub fn commands_have_their_words()
+    ensures { (words : List (List ℕ)) (it : says.Command) → (says.asks words ≡ Some it) ↔ IsCallOf it words }
 {}
 
-/// Law: the words of a check are a name, `check` and the names of the two files, none of which is a flag before a `--`. That
-/// may stand once, before, between or behind the two.
-pub fn check_has_its_words()
-    ensures exact { (words : List (List ℕ)) (osil osrl : List ℕ) → IsCheck words osil osrl ↔ HasCheckWords words osil osrl }
-    ensures plain { (name osil osrl : List ℕ) → is_plain osil ≡ true → is_plain osrl ≡ true → IsCheck (name ∷ codes "check" ∷ osil ∷ osrl ∷ []) osil osrl }
-    ensures behind_dashes { (name osil osrl : List ℕ) → IsCheck (name ∷ codes "check" ∷ codes "--" ∷ osil ∷ osrl ∷ []) osil osrl }
+/// Law: the numbers of what words ask for are within their ends.
+pub fn numbers_are_within_their_ends()
+    ensures { (words : List (List ℕ)) (it : says.Command) → says.asks words ≡ Some it → says.IsWithin it }
 {}
 
 /// Writes how the program is called.
 pub fn write_usage<O: Sink>(output: &mut O) -> Result<(), Failed>
-    ensures { Sends result usage (O.tells output.old) (O.tells output.new) }
+    ensures { Sends result says.usage (O.tells output.old) (O.tells output.new) }
 {
     send_all(output, USAGE)
 }

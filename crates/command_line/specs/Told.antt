@@ -1,0 +1,11 @@
+-- What `clap` was told of a command.
+use Rattle.std.specs.Prelude.{◌≡◌, false}
+use Rattle.clap.specs.Words.{shape_of}
+use Rattle.clap.specs.declared.builder.command.Command.TheViews.{out-Command as fields_of}
+use Rattle.clap.specs.declared.builder.command.Command.{Command}
+use Rattle.command_line.specs.Forms.{Form, shape}
+
+-- it has the words of this form, and none that is also another command's
+pub record IsToldForm (form : Form) (command : Command) : Type 0 where
+  pub words : shape_of command ≡ shape form
+  pub local : (fields_of command).has_globals ≡ false
