@@ -3,7 +3,7 @@ use Rattle.std.proofs.Common.{◌≡◌, ℕ, ◌+◌, ◌-◌, zero, suc, ◌*�
 use Rattle.rational.specs.Ratio.{Ratio}
 use Rattle.evidence.specs.Sums.{none}
 use Rattle.bases.specs.Dictionary.{Entries, IsDictionary}
-use Rattle.bases.specs.Pivot.{exchanged, PivotFits}
+use Rattle.bases.specs.Pivot.{exchanged, IsPivoted, PivotFits}
 use Rattle.bases.proofs.Pivots.{pivoted_dictionary}
 use Rattle.bases.proofs.Lists.{same_basis}
 use Rattle.dictionary.specs.declared.dict.Dict.{Dict}
@@ -147,6 +147,10 @@ module _ (d : Dict) (b e : ℕ) (basic : IsBasic d b) (nonbasic : IsNonbasic d e
       pub turned_basis : (c : ℕ) → basic_of f c ≡ exchanged (basic_of d) b e c
       unfolding basic_of
       turned_basis c = ap (λ n. basic_by n (place f) c) width ∙ basic_after d.width (d.width + length d.rows.items) (cols d) (place d) (cols f) (place f) b e (after (cols f) (place f) moved new) c
+
+      pub turned_entries : IsPivoted (entry_of d) b e (entry_of f)
+      unfolding entry_of
+      turned_entries = subst (λ n. IsPivoted (entries_by d.width (place d) (rows d)) b e (entries_by n (place f) (rows f))) (sym width) (pivoted d.width (cols d) (place d) (cols f) (place f) b e (rows d) (rows f) turned)
 
       turned_loaded : IsLoaded f
       unfolding IsLoaded

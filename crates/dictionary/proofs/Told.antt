@@ -68,23 +68,31 @@ through_basic d =
       at_place = λ c h t. let f = place_basic d.width (place d) c t in let e : d.width + (place d c - d.width) ≡ place d c = omega arith in ap (cols d) e ∙ p.at_place c (omega arith);
     }
 
-pub from_basic : (d : Dict) (b : ℕ) → IsBasic d b → d.width ≤ place d b
+-- of an equation's column: a basic one's, or the goal's
+pub equation_from : (d : Dict) (b : ℕ) → basic_of d b ≡ true → d.width ≤ place d b
 unfolding basic_of
-from_basic d b h = place_basic d.width (place d) b h.is
+equation_from d b h = place_basic d.width (place d) b h
 
-pub place_in : (d : Dict) (b : ℕ) → IsBasic d b → b < length d.places.items
+pub equation_place : (d : Dict) (b : ℕ) → b < columns_of d → b < length d.places.items
 unfolding width_of height_of
-place_in d b h = let i = h.inside in let n = d.places_count in omega arith
+equation_place d b h = let n = d.places_count in omega arith
 
-pub row_in : (d : Dict) (b : ℕ) → IsBasic d b → place d b - d.width < length d.rows.items
+pub equation_row : (d : Dict) (b : ℕ) → b < columns_of d → place d b - d.width < length d.rows.items
 unfolding width_of height_of
-row_in d b h =
+equation_row d b h =
     let p = d.basis in
-    let i = h.inside in
-    let s = p.stands b (omega arith) in
-    let f = from_basic d b h in
+    let s = p.stands b h in
     let n = d.count in
     omega arith
+
+pub from_basic : (d : Dict) (b : ℕ) → IsBasic d b → d.width ≤ place d b
+from_basic d b h = equation_from d b h.is
+
+pub place_in : (d : Dict) (b : ℕ) → IsBasic d b → b < length d.places.items
+place_in d b h = equation_place d b (let i = h.inside in omega arith)
+
+pub row_in : (d : Dict) (b : ℕ) → IsBasic d b → place d b - d.width < length d.rows.items
+row_in d b h = equation_row d b (let i = h.inside in omega arith)
 
 -- the goal's column is the last row's
 pub goal_from : (d : Dict) → d.width ≤ place d (d.width + d.height)

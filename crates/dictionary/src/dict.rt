@@ -1,10 +1,10 @@
 // A dictionary in memory.
-ghost use Rattle.std.specs.Prelude.{◌≡◌, ℕ, ◌+◌, ◌<◌, ◌≤◌, ◌^◌, length, slice_index, IfOk};
+ghost use Rattle.std.specs.Prelude.{◌≡◌, ℕ, ◌+◌, ◌<◌, ◌≤◌, ◌^◌, true, length, slice_index, IfOk};
 ghost use Rattle.dictionary.specs.Row.{room_of, HaveRoom, RowsHaveRoom};
 ghost use Rattle.dictionary.specs.Basis.{ArePlaces};
 
 use crate::basis::{exchange, make_numbers, number};
-use crate::finding::number_at;
+use crate::finding::{number_at, number_near};
 use crate::loading::load_rows;
 use crate::pivoting::pivot_rows;
 use crate::places::Places;
@@ -58,7 +58,7 @@ impl Dict {
     ghost use Rattle.instance.specs.Parts.{IsAscending, IsInside};
     ghost use Rattle.bases.specs.Dictionary.{Entries, Values, value_by};
     ghost use Rattle.bases.specs.Program.{is_fresh};
-    ghost use Rattle.bases.specs.Pivot.{exchanged, PivotFits, ValueFits};
+    ghost use Rattle.bases.specs.Pivot.{exchanged, IsPivoted, PivotFits, ValueFits};
     ghost use Rattle.dictionary.specs.Loaded.{rows_of};
     ghost use Rattle.dictionary.specs.Steps.{nonzeros, pivot_steps};
     ghost use Rattle.dictionary.specs.Dict.{width_of, height_of, columns_of, column_at, place_of, basic_of, entry_of, IsLoaded, Holds, IsBasic, IsNonbasic, HaveOneSize, count_of, Rest};
@@ -136,6 +136,7 @@ impl Dict {
         ensures size { HaveOneSize self.old self.new }
         ensures holds { (A : Entries) → Holds A self.old → IfOk result (λ _. Holds A self.new) }
         ensures basis { IfOk result (λ _. (c : ℕ) → basic_of self.new c ≡ exchanged (basic_of self.old) basic nonbasic c) }
+        ensures entries { IfOk result (λ _. IsPivoted (entry_of self.old) basic nonbasic (entry_of self.new)) }
         ensures fits { IfOk result (λ _. PivotFits (entry_of self.old) basic nonbasic) }
         ensures wide { OnErr result (PivotFits (entry_of self.old) basic nonbasic → ⊥) }
         ensures unloaded { OnErr result (IsLoaded self.new → ⊥) }
@@ -200,6 +201,19 @@ impl Dict {
         ensures { ratio result ≡ entry_of self.now (width_of self.now + height_of self.now) nonbasic }
     {
         number_at(&self.rows[self.height as usize], nonbasic)
+    }
+
+    /// The entry of a column that isn't basic in the equation of a basic one, the goal's too, as the others tell it. Where columns
+    /// are asked for in ascending order, from the place 0 on, each is found at once.
+    pub fn entry_near(&self, row: u32, nonbasic: u32, place: &mut usize) -> Frac
+        requires loaded { IsLoaded self.now }
+        requires row { row < columns_of self.now }
+        requires basic { basic_of self.now row ≡ true }
+        requires nonbasic { IsNonbasic self.now nonbasic }
+        ensures { ratio result ≡ entry_of self.now row nonbasic }
+    {
+        let r = self.row_of(row);
+        number_near(&self.rows[r], nonbasic, place)
     }
 
     /// The basic columns of variables and rows in some order, each once: `i` is below `height`.

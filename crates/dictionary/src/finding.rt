@@ -1,5 +1,5 @@
 // Finding an entry by the order of the columns.
-ghost use Rattle.std.specs.Prelude.{◌≡◌, ℕ, ◌+◌, ◌<◌, ◌≤◌, ◌^◌, length, None, IfSome};
+ghost use Rattle.std.specs.Prelude.{◌≡◌, ℕ, ◌+◌, ◌<◌, ◌≤◌, ◌^◌, true, length, take, drop, None, IfSome};
 ghost use Rattle.fraction.specs.Frac.{ratio};
 ghost use Rattle.dictionary.specs.Row.{entries_of, IsRow, HasColumn, IsEntry, number_in};
 
@@ -32,6 +32,93 @@ pub fn find<L: Ledger>(row: &Row, col: u32, steps: &mut Steps<L>) -> Option<Frac
         }
     }
     None
+}
+
+/// Whether all entries before this place are of lesser columns.
+fn is_past<L: Ledger>(row: &Row, col: u32, place: usize, steps: &mut Steps<L>) -> bool
+    requires row { IsRow (entries_of row.now) }
+    requires inside { place ≤ length (entries_of row.now) }
+    ensures { result ≡ true → HasColumn (take place (entries_of row.now)) col → ⊥ }
+{
+    if place == 0 {
+        return true;
+    }
+    let x = row.read(place - 1, steps);
+    x.col < col
+}
+
+/// Whether all entries from this place on are of greater columns.
+fn is_before<L: Ledger>(row: &Row, col: u32, place: usize, steps: &mut Steps<L>) -> bool
+    requires row { IsRow (entries_of row.now) }
+    requires inside { place ≤ length (entries_of row.now) }
+    ensures { result ≡ true → HasColumn (drop place (entries_of row.now)) col → ⊥ }
+{
+    if place == row.len() {
+        return true;
+    }
+    let x = row.read(place, steps);
+    col < x.col
+}
+
+/// Whether the column's entry would stand at this place, and none does.
+fn is_gap<L: Ledger>(row: &Row, col: u32, place: usize, steps: &mut Steps<L>) -> bool
+    requires { IsRow (entries_of row.now) }
+    ensures { result ≡ true → HasColumn (entries_of row.now) col → ⊥ }
+{
+    if place > row.len() {
+        return false;
+    }
+    if is_past(row, col, place, steps) {
+        return is_before(row, col, place, steps);
+    }
+    false
+}
+
+/// The value of the entry at this place, if that is one of the column.
+fn value_there<L: Ledger>(row: &Row, col: u32, place: usize, steps: &mut Steps<L>) -> Option<Frac>
+    requires { IsRow (entries_of row.now) }
+    ensures found { IfSome result (IsEntry (entries_of row.now) col) }
+    ensures inside { IfSome result (λ _. place < length (entries_of row.now)) }
+{
+    if place >= row.len() {
+        return None;
+    }
+    let x = row.read(place, steps);
+    if x.col != col {
+        return None;
+    }
+    Some(x.value)
+}
+
+fn number_near_by<L: Ledger>(row: &Row, col: u32, place: &mut usize, blank: Blank) -> Frac
+    requires row { IsRow (entries_of row.now) }
+    requires name { blank.name ≡ L.name }
+    requires parts { blank.parts ≡ L.parts }
+    requires some { 0 < blank.parts }
+    ensures { ratio result ≡ number_in (entries_of row.now) col }
+{
+    let mut steps = Steps::<L>::new(blank);
+    let at = *place;
+    if let Some(value) = value_there(row, col, at, &mut steps) {
+        *place = at + 1;
+        return value;
+    }
+    if is_gap(row, col, at, &mut steps) {
+        return zero();
+    }
+    match find(row, col, &mut steps) {
+        Some(value) => value,
+        None => zero(),
+    }
+}
+
+/// The number of a column, 0 where it has no entry. It is found at once where its entry, or the first one of a greater column,
+/// is at the place, which then becomes that of the next entry: so ascending columns are asked for from the place 0 on.
+pub fn number_near(row: &Row, col: u32, place: &mut usize) -> Frac
+    requires { IsRow (entries_of row.now) }
+    ensures { ratio result ≡ number_in (entries_of row.now) col }
+{
+    number_near_by::<Brand>(row, col, place, Blank::new(1))
 }
 
 fn number_by<L: Ledger>(row: &Row, col: u32, blank: Blank) -> Frac

@@ -7,7 +7,7 @@ use Rattle.dictionary.specs.Row.{entries_in, IsRow, HasColumn, HaveRoom}
 use Rattle.dictionary.specs.Table.{IsTablePivot, IsWidePivot, PivotHasRoom, others_cost}
 use Rattle.dictionary.specs.Basis.{ChangePlaces}
 use Rattle.dictionary.specs.Dict.{width_of, height_of}
-use Rattle.dictionary.proofs.Held.{carry, b_inside, e_inside, row_inside, row_is, row_stands, row_absent, room_there, b_apart, place, cols, rows, placed, places_kept, goal_kept, not_loaded, moved_there, never_fits, fits_there, bounded, turned_basis, turned_holds}
+use Rattle.dictionary.proofs.Held.{carry, b_inside, e_inside, row_inside, row_is, row_stands, row_absent, room_there, b_apart, place, cols, rows, placed, places_kept, goal_kept, not_loaded, moved_there, never_fits, fits_there, bounded, turned_basis, turned_entries, turned_holds}
 use Rattle.dictionary.proofs.dict.Dict.pivot.Goals as goal
 
 pub row_of-p-requires : goal.row_of-p-requires
@@ -152,6 +152,23 @@ returns-clause-holds g c =
     carry (λ R p. IsTablePivot p c.args.basic c.args.nonbasic R c.pivot_rows.new.rows) (rows d) c.as_mut_slice-rows.result.now (place d c.args.basic - d.width) c.row_of-p.result (sym er) (sym ep) c.in_ok-pivot_rows.ensures.is in
     let made = subst (λ (X : List Row). IsTablePivot (place d c.args.basic - d.width) c.args.basic c.args.nonbasic (rows d) X) (sym nr) pv in
     turned_holds d c.args.basic c.args.nonbasic c.requires.basic c.requires.nonbasic c.requires.loaded _ refl refl refl made moved new c.requires.nonzero
+
+pub returns-clause-entries : goal.returns-clause-entries
+returns-clause-entries g c =
+    let d = c.args.self.now in
+    let er : c.as_mut_slice-rows.result.now ≡ d.rows.items = c.as_mut_slice-rows.ensures.value in
+    let ep : c.row_of-p.result ≡ place d c.args.basic - d.width = c.row_of-p.ensures in
+    let nr : (with_items d.rows c.pivot_rows.new.rows).items ≡ c.pivot_rows.new.rows = with_items_is d.rows c.pivot_rows.new.rows (c.pivot_rows.auto.rows ∙ c.as_mut_slice-rows.ensures.len) in
+    let nc : (with_items d.columns c.exchange.new.columns).items ≡ c.exchange.new.columns = with_items_is d.columns c.exchange.new.columns (c.exchange.auto.columns ∙ c.as_mut_slice-columns.ensures.len) in
+    let np : (with_items d.places c.exchange.new.places).items ≡ c.exchange.new.places = with_items_is d.places c.exchange.new.places (c.exchange.auto.places ∙ c.as_mut_slice-places.ensures.len) in
+    let moved : ChangePlaces (place d c.args.basic) (place d c.args.nonbasic) (cols d) (slice_index (with_items d.columns c.exchange.new.columns).items) =
+    subst (λ (X : List ℕ). ChangePlaces (place d c.args.basic) (place d c.args.nonbasic) (cols d) (slice_index X)) (sym nc) (moved_there d c.args.basic c.args.nonbasic c.as_mut_slice-places.result.now c.as_mut_slice-columns.result.now (slice_index c.exchange.new.columns) c.as_mut_slice-places.ensures.value c.as_mut_slice-columns.ensures.value c.exchange.ensures.columns) in
+    let new : ChangePlaces c.args.basic c.args.nonbasic (place d) (slice_index (with_items d.places c.exchange.new.places).items) =
+    subst (λ (X : List ℕ). ChangePlaces c.args.basic c.args.nonbasic (place d) (slice_index X)) (sym np) (subst (λ (X : List ℕ). ChangePlaces c.args.basic c.args.nonbasic (slice_index X) (slice_index c.exchange.new.places)) c.as_mut_slice-places.ensures.value c.exchange.ensures.places) in
+    let pv : IsTablePivot (place d c.args.basic - d.width) c.args.basic c.args.nonbasic (rows d) c.pivot_rows.new.rows =
+    carry (λ R p. IsTablePivot p c.args.basic c.args.nonbasic R c.pivot_rows.new.rows) (rows d) c.as_mut_slice-rows.result.now (place d c.args.basic - d.width) c.row_of-p.result (sym er) (sym ep) c.in_ok-pivot_rows.ensures.is in
+    let made = subst (λ (X : List Row). IsTablePivot (place d c.args.basic - d.width) c.args.basic c.args.nonbasic (rows d) X) (sym nr) pv in
+    turned_entries d c.args.basic c.args.nonbasic c.requires.basic c.requires.nonbasic c.requires.loaded _ refl refl refl made moved new
 
 pub returns-clause-basis : goal.returns-clause-basis
 returns-clause-basis g c =

@@ -1,0 +1,7 @@
+use Rattle.std.proofs.Common.{refl}
+use Rattle.dictionary.specs.Row.{entries_of}
+use Rattle.dictionary.proofs.Found.{not_in_parts}
+use Rattle.dictionary.proofs.finding.is_gap.Goals as goal
+
+pub returns-then-is_past : goal.returns-then-is_past
+returns-then-is_past g c = λ t. not_in_parts (entries_of c.args.row.now) c.args.place c.args.col (c.if-is_past.ensures refl) (c.is_before.ensures t)
