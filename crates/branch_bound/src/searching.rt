@@ -136,7 +136,7 @@ fn begin(alloc: Global, instance: &Instance) -> Result<Walk, AllocError>
     })
 }
 
-/// Searches an instance for a best point, within at most `nodes` cases, and `turns` exchanges in all runs. The watch is
+/// Searches an instance for a best point, within at most `nodes` cases, and `turns` turns in all runs. The watch is
 /// asked before each case and after each 64th turn; `steps` counts what the runs' dictionaries cost.
 pub fn search<W: Watch, L: Ledger>(
     alloc: Global,

@@ -8,6 +8,7 @@ pub mod Found
 pub mod Bounded
 pub mod Leading
 pub mod Turned
+pub mod Kept
 pub mod Looks
 pub mod Begun
 pub mod CutPrograms

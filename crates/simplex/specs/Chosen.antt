@@ -2,16 +2,19 @@
 use Rattle.std.specs.Prelude.{◌≡◌, ◌≢◌, ◌<◌, true, false, pos, List, length, slice_set}
 use Rattle.evidence.specs.Instance.{Instance}
 use Rattle.bases.specs.Dictionary.{Entries, Values}
-use Rattle.bases.specs.Pivot.{PivotFits}
+use Rattle.bases.specs.Pivot.{IsPivoted, PivotFits}
 use Rattle.simplex_rules.specs.declared.columns.Status.{Status}
 use Rattle.simplex_rules.specs.Statuses.{is_basic, basic_in}
 use Rattle.simplex_rules.specs.Turns.{pivoted}
 use Rattle.simplex_rules.specs.Ends.{Terms, Clock}
 use Rattle.simplex_rules.specs.Runs.{Next, Begins, Out}
+use Rattle.dictionary.specs.declared.dict.Dict.{Dict}
+use Rattle.dictionary.specs.Dict.{HaveOneSize, entry_of}
 use Rattle.simplex.specs.declared.choosing.Swap.{Swap}
 use Rattle.simplex.specs.declared.choosing.Flip.{Flip}
 use Rattle.simplex.specs.declared.choosing.Choice.{Choice}
 use Rattle.simplex.specs.declared.choosing.Choice.TheVariants as Has
+use Rattle.simplex.specs.Held.{AreStatuses}
 use Rattle.simplex.specs.Finished.{end_at, is_stop, IsReady}
 
 -- R holds of what comes next, whatever the turn that was chosen makes of it, or else of the end
@@ -28,6 +31,13 @@ pub record IsSwap (ss : List Status) (u : Entries) (s : Swap) : Type 0 where
   pub nonbasic : basic_in ss s.nonbasic ≡ false
   pub status : is_basic s.status ≡ false
   pub nonzero : (u s.basic s.nonbasic).num ≢ pos 0
+
+-- from the one dictionary and its statuses the swap makes the others
+pub record IsSwapped (d e : Dict) (ss zs : List Status) (s : Swap) : Type 0 where
+  pub size : HaveOneSize d e
+  pub entries : IsPivoted (entry_of d) s.basic s.nonbasic (entry_of e)
+  pub statuses : zs ≡ pivoted ss s.basic s.nonbasic s.status
+  pub basic : AreStatuses e zs
 
 -- a column that isn't basic can stand elsewhere
 pub record IsFlip (ss : List Status) (f : Flip) : Type 0 where

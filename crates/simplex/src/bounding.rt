@@ -23,7 +23,6 @@ ghost use Rattle.simplex.specs.declared.choosing.Choice.TheVariants.{Done};
 
 use crate::ends::Ends;
 use crate::finish::Finish;
-use crate::helping::entry_at;
 use crate::valued::zero;
 use certificate::Step;
 use dictionary::{Dict, Places};
@@ -32,7 +31,7 @@ use instance::add_product;
 use simplex_rules::Status;
 
 /// The goal's entry at a column, 0 where that is basic.
-fn cost_of(dict: &Dict, status: Status, col: u32, goal: u32) -> Frac
+fn cost_of(dict: &Dict, status: Status, col: u32, goal: u32, place: &mut usize) -> Frac
     requires loaded { IsLoaded dict.now }
     requires goal { goal ≡ width_of dict.now + height_of dict.now }
     requires basic { basic_of dict.now goal ≡ true }
@@ -42,9 +41,9 @@ fn cost_of(dict: &Dict, status: Status, col: u32, goal: u32) -> Frac
 {
     match status {
         Status::Basic => zero(),
-        Status::Lower => entry_at(dict, goal, col, goal),
-        Status::Upper => entry_at(dict, goal, col, goal),
-        Status::Zero => entry_at(dict, goal, col, goal),
+        Status::Lower => dict.entry_near(goal, col, place),
+        Status::Upper => dict.entry_near(goal, col, place),
+        Status::Zero => dict.entry_near(goal, col, place),
     }
 }
 
@@ -66,8 +65,9 @@ pub fn bound(
     ensures wide { (a x : Values) → AreTerms (cost_in statuses.now (entry_of dict.now goal)) (values_of rest.now) goal a x → OnErr result (StatedFits (ratio start) goal a x → ⊥) }
 {
     let mut sum = start;
+    let mut place = 0;
     for c in 0..goal {
-        let cost = cost_of(dict, statuses[c as usize], c, goal);
+        let cost = cost_of(dict, statuses[c as usize], c, goal, &mut place);
         sum = add_product(sum, cost, rest.at(c))?;
     }
     Ok(sum)

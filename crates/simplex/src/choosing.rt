@@ -11,7 +11,7 @@ ghost use Rattle.simplex_rules.specs.Runs.{Repairs, MovesOn, Improves, IsNext};
 ghost use Rattle.dictionary.specs.Dict.{IsLoaded, Holds, columns_of, basic_of, entry_of, count_of, values_of};
 ghost use Rattle.simplex.specs.Cuts.{AreEndsOf, range_of, ranges_in};
 ghost use Rattle.simplex.specs.Held.{AreStatuses, HasSizeOf, values_in};
-ghost use Rattle.simplex.specs.Valued.{AreResting};
+ghost use Rattle.simplex.specs.Valued.{AreResting, AreKnown};
 ghost use Rattle.simplex.specs.Chosen.{Leads, IsAllowed};
 
 use crate::bounding::best;
@@ -205,8 +205,9 @@ pub fn choose<L: Ledger>(
     dict: &Dict,
     ends: &[Ends],
     statuses: &[Status],
-    rest: &mut Places,
+    rest: &Places,
     values: &mut [Frac],
+    known: &mut [bool],
     start: Option<Frac>,
     goal: u32,
     steps: &mut Steps<L>,
@@ -214,14 +215,17 @@ pub fn choose<L: Ledger>(
     requires loaded { IsLoaded dict.now }
     requires ends { length ends.now ≡ length statuses.now }
     requires values { length values.old ≡ goal }
-    requires rest { goal ≤ count_of rest.old }
+    requires flags { length known.old ≡ goal }
+    requires rest { goal ≤ count_of rest.now }
+    requires resting { AreResting (ranges_in ends.now) statuses.now (values_of rest.now) }
+    requires known { AreKnown dict.now rest.now statuses.now values.old known.old }
     requires statuses { AreStatuses dict.now statuses.now }
     requires goal { goal ≡ length statuses.now }
-    ensures count { count_of rest.new ≡ count_of rest.old }
+    ensures known { AreKnown dict.now rest.now statuses.now values.new known.new }
     ensures allowed { IsAllowed statuses.now (entry_of dict.now) result }
     ensures next { (I : Instance) (zeroed : Bool) (t : Terms) (c : Clock) → AreEndsOf I ends.now → HasSizeOf I dict.now → Holds (rows_with_goal zeroed I) dict.now → IsStart zeroed (minimising I I.goal.constant) start → Leads I statuses.now (entry_of dict.now) (values_in values.new) t c (IsNext I zeroed t (record { statuses = statuses.now; clock = c })) result }
 {
-    match find_values(dict, ends, statuses, rest, values, goal, steps) {
+    match find_values(dict, ends, statuses, rest, values, known, goal, steps) {
         Err(_) => Choice::Done(Finish::Wide(Step::Values)),
         Ok(()) => match first_out(ends, statuses, values, goal) {
             Some(out) => repair(dict, ends, statuses, out, goal),

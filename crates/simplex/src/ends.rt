@@ -90,10 +90,10 @@ fn moves(wanted: Way, way: Way, entry: Frac) -> bool
 pub fn help(e: Ends, status: Status, wanted: Way, entry: Frac) -> Option<Way>
     ensures { MatchOption result ((v : Way) → Can v (range_of e) status → Moves wanted (rate v (ratio entry)) → ⊥) (λ v. Can v (range_of e) status × Moves wanted (rate v (ratio entry))) }
 {
-    if can(e, status, Way::Rise) && moves(wanted, Way::Rise, entry) {
+    if moves(wanted, Way::Rise, entry) && can(e, status, Way::Rise) {
         return Some(Way::Rise);
     }
-    if can(e, status, Way::Fall) && moves(wanted, Way::Fall, entry) {
+    if moves(wanted, Way::Fall, entry) && can(e, status, Way::Fall) {
         return Some(Way::Fall);
     }
     None

@@ -8,15 +8,17 @@ ghost use Rattle.simplex_rules.specs.Statuses.{IsFresh};
 ghost use Rattle.simplex_rules.specs.Ends.{Terms};
 ghost use Rattle.simplex_rules.specs.Runs.{IsNext};
 ghost use Rattle.simplex_rules.specs.Looks.{answers, Tells, looks_after};
-ghost use Rattle.dictionary.specs.Dict.{Holds, HaveOneSize, entry_of, count_of};
-ghost use Rattle.simplex.specs.Cuts.{AreEndsOf};
+ghost use Rattle.dictionary.specs.Dict.{Holds, HaveOneSize, entry_of, count_of, values_of};
+ghost use Rattle.simplex.specs.Cuts.{AreEndsOf, ranges_in};
 ghost use Rattle.simplex.specs.Held.{AreHeld, HasSizeOf, values_in};
+ghost use Rattle.simplex.specs.Valued.{AreResting, AreKnown};
 ghost use Rattle.simplex.specs.Finished.{stops_at, is_stop, next_at, end_at, IsLeft, IsLeftAt, IsCounted, KeepsAt, ComesTo};
 
 use crate::answer::Turns;
 use crate::choosing::{Choice, choose};
 use crate::ends::Ends;
 use crate::finish::Finish;
+use crate::keeping::{expect_flip, expect_swap};
 use crate::turning::{flip_turn, swap_turn};
 use dictionary::{Dict, Places, Steps};
 use fraction::Frac;
@@ -31,6 +33,7 @@ fn make_turn<W: Watch, L: Ledger>(
     statuses: &mut [Status],
     rest: &mut Places,
     values: &mut [Frac],
+    known: &mut [bool],
     start: Option<Frac>,
     turns: &mut Turns,
     watch: &mut W,
@@ -40,7 +43,10 @@ fn make_turn<W: Watch, L: Ledger>(
     requires held { AreHeld dict.old statuses.old }
     requires ends { length ends.now ≡ length statuses.old }
     requires values { length values.old ≡ goal }
+    requires flags { length known.old ≡ goal }
     requires rest { goal ≤ count_of rest.old }
+    requires resting { AreResting (ranges_in ends.now) statuses.old (values_of rest.old) }
+    requires known { AreKnown dict.old rest.old statuses.old values.old known.old }
     requires goal { goal ≡ length statuses.old }
     requires stops { W.stops watch.old < 2 ^ 64 - 1 }
     ensures size { HaveOneSize dict.old dict.new }
@@ -49,12 +55,22 @@ fn make_turn<W: Watch, L: Ledger>(
     ensures counted { IsCounted turns.old turns.new result }
     ensures stops { result ≡ None → W.stops watch.new ≡ W.stops watch.old }
     ensures left { IsLeftAt dict.new statuses.new result }
+    ensures resting { result ≡ None → AreResting (ranges_in ends.now) statuses.new (values_of rest.new) }
+    ensures known { result ≡ None → AreKnown dict.new rest.new statuses.new values.new known.new }
     ensures holds { (A : Entries) → Holds A dict.old → KeepsAt result (Holds A dict.new) }
     ensures turn { (n : ℕ) × W.came watch.old watch.new (answers n (stops_at result)) × ((I : Instance) (zeroed : Bool) (t : Terms) (looks : ℕ) → AreEndsOf I ends.now → HasSizeOf I dict.old → IsStart zeroed (minimising I I.goal.constant) start → Holds (rows_with_goal zeroed I) dict.old → t.turns ≡ turns.old.most → Tells t.stop looks n (stops_at result) → IsNext I zeroed t (record { statuses = statuses.old; clock = record { turns = turns.old.done; looks = looks } }) (next_at I statuses.new (entry_of dict.new) (values_in values.new) (record { turns = turns.new.done; looks = looks_after looks n (stops_at result) }) result)) }
 {
-    match choose(dict, ends, statuses, rest, values, start, goal, steps) {
-        Choice::Swap(swap) => swap_turn(dict, statuses, swap, turns, watch, steps),
-        Choice::Flip(flip) => flip_turn(dict, statuses, flip, turns, watch),
+    match choose(
+        dict, ends, statuses, rest, values, known, start, goal, steps,
+    ) {
+        Choice::Swap(swap) => {
+            expect_swap(dict, ends, statuses, rest, known, swap, goal);
+            swap_turn(dict, statuses, swap, turns, watch, steps)
+        }
+        Choice::Flip(flip) => {
+            expect_flip(dict, ends, statuses, rest, known, flip, goal);
+            flip_turn(dict, statuses, flip, turns, watch)
+        }
         Choice::Done(finish) => Some(finish),
     }
 }
@@ -66,6 +82,7 @@ pub fn make_turns<W: Watch, L: Ledger>(
     statuses: &mut [Status],
     rest: &mut Places,
     values: &mut [Frac],
+    known: &mut [bool],
     start: Option<Frac>,
     turns: &mut Turns,
     watch: &mut W,
@@ -75,7 +92,10 @@ pub fn make_turns<W: Watch, L: Ledger>(
     requires held { AreHeld dict.old statuses.old }
     requires ends { length ends.now ≡ length statuses.old }
     requires values { length values.old ≡ goal }
+    requires flags { length known.old ≡ goal }
     requires rest { goal ≤ count_of rest.old }
+    requires resting { AreResting (ranges_in ends.now) statuses.old (values_of rest.old) }
+    requires known { AreKnown dict.old rest.old statuses.old values.old known.old }
     requires goal { goal ≡ length statuses.old }
     requires stops { W.stops watch.old < 2 ^ 64 - 1 }
     ensures size { HaveOneSize dict.old dict.new }
@@ -88,7 +108,7 @@ pub fn make_turns<W: Watch, L: Ledger>(
 {
     loop {
         if let Some(finish) = make_turn(
-            dict, ends, statuses, rest, values, start, turns, watch, goal, steps,
+            dict, ends, statuses, rest, values, known, start, turns, watch, goal, steps,
         ) {
             return finish;
         }

@@ -3,7 +3,7 @@ ghost use Rattle.std.specs.Prelude.{◌≡◌, ◌+◌, ◌<◌, ◌≤◌, true
 ghost use Rattle.fraction.specs.Frac.{ratio};
 ghost use Rattle.evidence.specs.Instance.{Instance};
 ghost use Rattle.bases.specs.Dictionary.{Values};
-ghost use Rattle.dictionary.specs.Dict.{IsLoaded, width_of, height_of, basic_of, entry_of};
+ghost use Rattle.dictionary.specs.Dict.{IsLoaded, width_of, height_of, columns_of, basic_of, entry_of};
 ghost use Rattle.simplex_rules.specs.declared.columns.Way.{Way};
 ghost use Rattle.simplex_rules.specs.Statuses.{is_basic, basic_in};
 ghost use Rattle.simplex_rules.specs.Turns.{Can, Moves, rate, NoneHelps, IsFirstHelp};
@@ -36,26 +36,25 @@ pub fn entry_at(dict: &Dict, row: u32, col: u32, goal: u32) -> Frac
 /// The way in which a column helps, if it does.
 fn help_at(
     dict: &Dict,
-    ends: Ends,
+    ends: &Ends,
     status: Status,
     row: u32,
     wanted: Way,
     col: u32,
-    goal: u32,
+    place: &mut usize,
 ) -> Option<Way>
     requires loaded { IsLoaded dict.now }
-    requires goal { goal ≡ width_of dict.now + height_of dict.now }
-    requires row { row ≤ goal }
+    requires row { row < columns_of dict.now }
     requires basic { basic_of dict.now row ≡ true }
-    requires col { col < goal }
+    requires col { col < width_of dict.now + height_of dict.now }
     requires status { is_basic status ≡ basic_of dict.now col }
-    ensures { MatchOption result ((v : Way) → Can v (range_of ends) status → Moves wanted (rate v (entry_of dict.now row col)) → ⊥) (λ v. (is_basic status ≡ false) × Can v (range_of ends) status × Moves wanted (rate v (entry_of dict.now row col))) }
+    ensures { MatchOption result ((v : Way) → Can v (range_of ends.now) status → Moves wanted (rate v (entry_of dict.now row col)) → ⊥) (λ v. (is_basic status ≡ false) × Can v (range_of ends.now) status × Moves wanted (rate v (entry_of dict.now row col))) }
 {
     match status {
         Status::Basic => None,
-        Status::Lower => help(ends, status, wanted, entry_at(dict, row, col, goal)),
-        Status::Upper => help(ends, status, wanted, entry_at(dict, row, col, goal)),
-        Status::Zero => help(ends, status, wanted, entry_at(dict, row, col, goal)),
+        Status::Lower => help(*ends, status, wanted, dict.entry_near(row, col, place)),
+        Status::Upper => help(*ends, status, wanted, dict.entry_near(row, col, place)),
+        Status::Zero => help(*ends, status, wanted, dict.entry_near(row, col, place)),
     }
 }
 
@@ -76,15 +75,16 @@ pub fn first_help(
     requires basic { basic_in statuses.now row ≡ true }
     ensures { (I : Instance) (w : Values) → AreEndsOf I ends.now → MatchOption result (NoneHelps I statuses.now (entry_of dict.now) w row wanted) (λ m. IsFirstHelp I statuses.now (entry_of dict.now) w row wanted m.col m.way) }
 {
+    let mut place = 0;
     for c in 0..goal {
         if let Some(way) = help_at(
             dict,
-            ends[c as usize],
+            &ends[c as usize],
             statuses[c as usize],
             row,
             wanted,
             c,
-            goal,
+            &mut place,
         ) {
             return Some(Move { col: c, way });
         }

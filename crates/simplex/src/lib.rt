@@ -27,6 +27,7 @@ mod ends;
 mod finish;
 mod going;
 mod helping;
+mod keeping;
 mod laws;
 mod limits;
 mod reporting;

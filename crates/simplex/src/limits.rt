@@ -90,9 +90,9 @@ pub fn rate(way: Way, entry: Frac) -> Frac
 /// How far until a column reaches an end, if it does.
 fn limit_at(
     dict: &Dict,
-    ends: Ends,
+    ends: &Ends,
     status: Status,
-    value: Frac,
+    value: &Frac,
     moving: Move,
     col: u32,
     goal: u32,
@@ -103,16 +103,16 @@ fn limit_at(
     requires nonbasic { basic_of dict.now moving.col ≡ false }
     requires col { col < goal }
     requires status { is_basic status ≡ basic_of dict.now col }
-    ensures ok { IfOk result (IsLimit (limit_one (is_basic status) (nat_eq col moving.col) (range_of ends) (ratio value) (rate moving.way (entry_of dict.now col moving.col)))) }
-    ensures fits { IfOk result (λ _. OneFits (is_basic status) (nat_eq col moving.col) (range_of ends) (ratio value) (rate moving.way (entry_of dict.now col moving.col))) }
-    ensures wide { OnErr result (OneFits (is_basic status) (nat_eq col moving.col) (range_of ends) (ratio value) (rate moving.way (entry_of dict.now col moving.col)) → ⊥) }
+    ensures ok { IfOk result (IsLimit (limit_one (is_basic status) (nat_eq col moving.col) (range_of ends.now) (ratio value.now) (rate moving.way (entry_of dict.now col moving.col)))) }
+    ensures fits { IfOk result (λ _. OneFits (is_basic status) (nat_eq col moving.col) (range_of ends.now) (ratio value.now) (rate moving.way (entry_of dict.now col moving.col))) }
+    ensures wide { OnErr result (OneFits (is_basic status) (nat_eq col moving.col) (range_of ends.now) (ratio value.now) (rate moving.way (entry_of dict.now col moving.col)) → ⊥) }
 {
     if status == Status::Basic {
         let entry = entry_at(dict, col, moving.col, goal);
-        return until_by(ends, value, rate(moving.way, entry));
+        return until_by(*ends, *value, rate(moving.way, entry));
     }
     if col == moving.col {
-        return across(ends);
+        return across(*ends);
     }
     Ok(None)
 }
@@ -160,9 +160,9 @@ pub fn first_limit(
     for c in 0..goal {
         let next = limit_at(
             dict,
-            ends[c as usize],
+            &ends[c as usize],
             statuses[c as usize],
-            values[c as usize],
+            &values[c as usize],
             moving,
             c,
             goal,

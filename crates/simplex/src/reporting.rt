@@ -52,12 +52,18 @@ fn against(way: Way, x: Frac) -> Frac
 }
 
 /// The factor of a column where the row's one can't move as wanted.
-fn factor_at(dict: &Dict, status: Status, row: u32, wanted: Way, col: u32, goal: u32) -> Frac
+fn factor_at(
+    dict: &Dict,
+    status: Status,
+    row: u32,
+    wanted: Way,
+    col: u32,
+    place: &mut usize,
+) -> Frac
     requires loaded { IsLoaded dict.now }
-    requires goal { goal ≡ width_of dict.now + height_of dict.now }
-    requires row { row ≤ goal }
+    requires row { row < columns_of dict.now }
     requires basic { basic_of dict.now row ≡ true }
-    requires col { col < goal }
+    requires col { col < width_of dict.now + height_of dict.now }
     requires status { is_basic status ≡ basic_of dict.now col }
     ensures { AreEntries (columns_of dict.now) (basic_of dict.now) (entry_of dict.now) → ratio result ≡ factor_at (entry_of dict.now) row wanted col }
 {
@@ -66,9 +72,9 @@ fn factor_at(dict: &Dict, status: Status, row: u32, wanted: Way, col: u32, goal:
     }
     match status {
         Status::Basic => against(wanted, zero()),
-        Status::Lower => against(wanted, entry_at(dict, row, col, goal)),
-        Status::Upper => against(wanted, entry_at(dict, row, col, goal)),
-        Status::Zero => against(wanted, entry_at(dict, row, col, goal)),
+        Status::Lower => against(wanted, dict.entry_near(row, col, place)),
+        Status::Upper => against(wanted, dict.entry_near(row, col, place)),
+        Status::Zero => against(wanted, dict.entry_near(row, col, place)),
     }
 }
 
@@ -89,8 +95,9 @@ fn set_factors(
     requires factors { length factors.old ≡ goal }
     ensures { AreEntries (columns_of dict.now) (basic_of dict.now) (entry_of dict.now) → (c : ℕ) → c < goal → values_in factors.new c ≡ factor_at (entry_of dict.now) row wanted c }
 {
+    let mut place = 0;
     for c in 0..goal {
-        factors[c as usize] = factor_at(dict, statuses[c as usize], row, wanted, c, goal);
+        factors[c as usize] = factor_at(dict, statuses[c as usize], row, wanted, c, &mut place);
     }
 }
 

@@ -16,7 +16,9 @@ use crate::answer::{LpEnd, Turns};
 use crate::beginning::{factor, first_clash, set_ends, set_first, start};
 use crate::ends::Ends;
 use crate::going::make_turns;
+use crate::keeping::clear;
 use crate::reporting::report;
+use crate::valued::set_rest;
 use dictionary::{Dict, Places, Steps};
 use fraction::Frac;
 use instance::Instance;
@@ -66,6 +68,7 @@ pub fn run_over<W: Watch, L: Ledger>(
     statuses: &mut [Status],
     rest: &mut Places,
     values: &mut [Frac],
+    known: &mut [bool],
     factors: &mut [Frac],
     movements: &mut [Frac],
     instance: &Instance,
@@ -82,6 +85,7 @@ pub fn run_over<W: Watch, L: Ledger>(
     requires statuses { length statuses.old ≡ length instance.now.vars + length instance.now.rows }
     requires rest { count_of rest.old ≡ length instance.now.vars + length instance.now.rows }
     requires values { length values.old ≡ length instance.now.vars + length instance.now.rows }
+    requires flags { length known.old ≡ length instance.now.vars + length instance.now.rows }
     requires factors { length factors.old ≡ length instance.now.vars + length instance.now.rows }
     requires movements { length movements.old ≡ length instance.now.vars }
     requires stops { W.stops watch.old < 2 ^ 64 - 1 }
@@ -96,10 +100,12 @@ pub fn run_over<W: Watch, L: Ledger>(
     if let Some(col) = begin(dict, ends, statuses, instance, cuts, zero_goal, goal) {
         return LpEnd::Clash { col };
     }
+    set_rest(ends, statuses, rest, goal);
+    clear(known);
     let own = instance.goal();
     let start = start(zero_goal, own.sense, own.constant);
     let finish = make_turns(
-        dict, ends, statuses, rest, values, start, turns, watch, goal, steps,
+        dict, ends, statuses, rest, values, known, start, turns, watch, goal, steps,
     );
     report(dict, statuses, finish, factors, movements, goal)
 }

@@ -2,7 +2,7 @@
 ghost use Rattle.std.specs.Prelude.{◌≡◌, ◌≢◌, ℕ, ◌+◌, ◌-◌, ◌^◌, ◌<◌, ◌≤◌, Bool, true, false, Option, None, List, length, slice_set, IfOk, OnErr};
 ghost use Rattle.evidence.specs.Instance.{Instance};
 ghost use Rattle.bases.specs.Dictionary.{Entries, Values};
-ghost use Rattle.bases.specs.Pivot.{PivotFits};
+ghost use Rattle.bases.specs.Pivot.{IsPivoted, PivotFits};
 ghost use Rattle.simplex_rules.specs.declared.columns.Status as Columns;
 ghost use Rattle.simplex_rules.specs.Statuses.{is_basic, basic_in};
 ghost use Rattle.simplex_rules.specs.Turns.{pivoted};
@@ -12,7 +12,7 @@ ghost use Rattle.simplex_rules.specs.Looks.{answers, Tells, looks_after};
 ghost use Rattle.dictionary.specs.Dict.{Holds, HaveOneSize, entry_of};
 ghost use Rattle.simplex.specs.Held.{AreHeld};
 ghost use Rattle.simplex.specs.Finished.{stops_at, passed, next_at, IsLeftAt, IsCounted, KeepsAt};
-ghost use Rattle.simplex.specs.Chosen.{IsSwap, IsFlip};
+ghost use Rattle.simplex.specs.Chosen.{IsSwap, IsFlip, IsSwapped};
 
 use crate::answer::Turns;
 use crate::choosing::{Flip, Swap};
@@ -53,6 +53,7 @@ fn exchange<L: Ledger>(
     ensures holds { (A : Entries) → Holds A dict.old → IfOk result (λ _. Holds A dict.new) }
     ensures statuses { IfOk result (λ _. statuses.new ≡ pivoted statuses.old swap.basic swap.nonbasic swap.status) }
     ensures held { IfOk result (λ _. AreHeld dict.new statuses.new) }
+    ensures entries { IfOk result (λ _. IsPivoted (entry_of dict.old) swap.basic swap.nonbasic (entry_of dict.new)) }
     ensures fits { IfOk result (λ _. PivotFits (entry_of dict.old) swap.basic swap.nonbasic) }
     ensures wide { OnErr result (PivotFits (entry_of dict.old) swap.basic swap.nonbasic → ⊥) }
 {
@@ -79,6 +80,7 @@ pub fn swap_turn<W: Watch, L: Ledger>(
     ensures counted { IsCounted turns.old turns.new result }
     ensures stops { result ≡ None → W.stops watch.new ≡ W.stops watch.old }
     ensures left { IsLeftAt dict.new statuses.new result }
+    ensures swapped { result ≡ None → IsSwapped dict.old dict.new statuses.old statuses.new swap }
     ensures holds { (A : Entries) → Holds A dict.old → KeepsAt result (Holds A dict.new) }
     ensures turn { (n : ℕ) × W.came watch.old watch.new (answers n (stops_at result)) × ((I : Instance) (u : Entries) (w : Values) (t : Terms) (looks : ℕ) → t.turns ≡ turns.old.most → Tells t.stop looks n (stops_at result) → Begins t (record { turns = turns.old.done; looks = looks }) (PivotFits (entry_of dict.old) swap.basic swap.nonbasic) (pivoted statuses.old swap.basic swap.nonbasic swap.status) (next_at I statuses.new u w (record { turns = turns.new.done; looks = looks_after looks n (stops_at result) }) result)) }
 {
@@ -111,6 +113,7 @@ pub fn flip_turn<W: Watch>(
     ensures counted { IsCounted turns.old turns.new result }
     ensures stops { result ≡ None → W.stops watch.new ≡ W.stops watch.old }
     ensures left { IsLeftAt dict.now statuses.new result }
+    ensures flipped { result ≡ None → statuses.new ≡ slice_set statuses.old flip.col flip.status }
     ensures turn { (n : ℕ) × W.came watch.old watch.new (answers n (stops_at result)) × ((I : Instance) (u : Entries) (w : Values) (t : Terms) (looks : ℕ) → t.turns ≡ turns.old.most → Tells t.stop looks n (stops_at result) → Begins t (record { turns = turns.old.done; looks = looks }) (Unit {0}) (slice_set statuses.old flip.col flip.status) (next_at I statuses.new u w (record { turns = turns.new.done; looks = looks_after looks n (stops_at result) }) result)) }
 {
     let _dict = dict;

@@ -14,7 +14,7 @@ ghost use Rattle.simplex_rules.specs.Widths.{ValuesFit};
 ghost use Rattle.dictionary.specs.Dict.{IsLoaded, width_of, height_of, columns_of, basic_of, entry_of, Rest, count_of, values_of};
 ghost use Rattle.simplex.specs.Cuts.{AreEndsOf, range_of, ranges_in};
 ghost use Rattle.simplex.specs.Held.{AreStatuses, HasSizeOf, values_in};
-ghost use Rattle.simplex.specs.Valued.{IsColumnValue, AreResting};
+ghost use Rattle.simplex.specs.Valued.{IsColumnValue, AreResting, AreKnown, known_at};
 
 use crate::ends::{Ends, is_less};
 use crate::finish::Move;
@@ -41,8 +41,8 @@ fn number(end: End) -> Frac
 }
 
 /// The value of a column that isn't basic, and 0 of one that is.
-fn rest_value(ends: Ends, status: Status) -> Frac
-    ensures { ratio result ≡ rest_at (range_of ends) status }
+pub fn rest_value(ends: &Ends, status: Status) -> Frac
+    ensures { ratio result ≡ rest_at (range_of ends.now) status }
 {
     match status {
         Status::Basic => zero(),
@@ -53,7 +53,7 @@ fn rest_value(ends: Ends, status: Status) -> Frac
 }
 
 /// Writes the values of the columns that aren't basic.
-fn set_rest(ends: &[Ends], statuses: &[Status], rest: &mut Places, goal: u32)
+pub fn set_rest(ends: &[Ends], statuses: &[Status], rest: &mut Places, goal: u32)
     requires ends { length ends.now ≡ length statuses.now }
     requires rest { goal ≤ count_of rest.old }
     requires goal { goal ≡ length statuses.now }
@@ -61,7 +61,7 @@ fn set_rest(ends: &[Ends], statuses: &[Status], rest: &mut Places, goal: u32)
     ensures values { AreResting (ranges_in ends.now) statuses.now (values_of rest.new) }
 {
     for c in 0..goal {
-        let value = rest_value(ends[c as usize], statuses[c as usize]);
+        let value = rest_value(&ends[c as usize], statuses[c as usize]);
         rest.set(c, value);
     }
 }
@@ -89,12 +89,45 @@ fn value_at<L: Ledger>(
     }
 }
 
-/// Writes the values of all columns.
+/// Writes the value of a column, where it isn't known.
+fn find_value<L: Ledger>(
+    dict: &Dict,
+    statuses: &[Status],
+    rest: &Places,
+    values: &mut [Frac],
+    known: &mut [bool],
+    col: u32,
+    steps: &mut Steps<L>,
+) -> Result<(), Wide>
+    requires loaded { IsLoaded dict.now }
+    requires statuses { AreStatuses dict.now statuses.now }
+    requires rest { length statuses.now ≤ count_of rest.now }
+    requires values { length values.old ≡ length statuses.now }
+    requires flags { length known.old ≡ length statuses.now }
+    requires known { AreKnown dict.now rest.now statuses.now values.old known.old }
+    requires col { col < length statuses.now }
+    ensures known { AreKnown dict.now rest.now statuses.now values.new known.new }
+    ensures own { IfOk result (λ _. known_at known.new col ≡ true) }
+    ensures others { (c : ℕ) → known_at known.old c ≡ true → known_at known.new c ≡ true }
+    ensures wide { (w : Values) → Rest dict.now rest.now w → OnErr result ((basic_in statuses.now col ≡ true) × (ValueFits (columns_of dict.now) (entry_of dict.now col) w → ⊥)) }
+{
+    let c = col as usize;
+    if known[c] {
+        return Ok(());
+    }
+    let value = value_at(dict, statuses[c], rest, col, steps)?;
+    values[c] = value;
+    known[c] = true;
+    Ok(())
+}
+
+/// Writes the values of all columns that aren't known.
 fn all_values<L: Ledger>(
     dict: &Dict,
     statuses: &[Status],
     rest: &Places,
     values: &mut [Frac],
+    known: &mut [bool],
     goal: u32,
     steps: &mut Steps<L>,
 ) -> Result<(), Wide>
@@ -102,54 +135,59 @@ fn all_values<L: Ledger>(
     requires statuses { AreStatuses dict.now statuses.now }
     requires rest { goal ≤ count_of rest.now }
     requires values { length values.old ≡ goal }
+    requires flags { length known.old ≡ goal }
     requires goal { goal ≡ length statuses.now }
+    requires known { AreKnown dict.now rest.now statuses.now values.old known.old }
+    ensures known { AreKnown dict.now rest.now statuses.now values.new known.new }
     ensures ok { (w : Values) → Rest dict.now rest.now w → IfOk result (λ _. (c : ℕ) → c < goal → IsColumnValue dict.now w (basic_in statuses.now c) c (values_in values.new c)) }
     ensures wide { (w : Values) → Rest dict.now rest.now w → OnErr result ((b : ℕ) × (b < goal) × (basic_in statuses.now b ≡ true) × (ValueFits (columns_of dict.now) (entry_of dict.now b) w → ⊥)) }
 {
     for c in 0..goal {
-        let value = value_at(dict, statuses[c as usize], rest, c, steps)?;
-        values[c as usize] = value;
+        find_value(dict, statuses, rest, values, known, c, steps)?;
     }
     Ok(())
 }
 
-/// The values of the columns at a basis.
+/// The values of the columns at a basis: those that aren't known are formed.
 pub fn find_values<L: Ledger>(
     dict: &Dict,
     ends: &[Ends],
     statuses: &[Status],
-    rest: &mut Places,
+    rest: &Places,
     values: &mut [Frac],
+    known: &mut [bool],
     goal: u32,
     steps: &mut Steps<L>,
 ) -> Result<(), Wide>
     requires loaded { IsLoaded dict.now }
     requires statuses { AreStatuses dict.now statuses.now }
     requires ends { length ends.now ≡ length statuses.now }
-    requires rest { goal ≤ count_of rest.old }
+    requires rest { goal ≤ count_of rest.now }
+    requires resting { AreResting (ranges_in ends.now) statuses.now (values_of rest.now) }
     requires values { length values.old ≡ goal }
+    requires flags { length known.old ≡ goal }
     requires goal { goal ≡ length statuses.now }
-    ensures count { count_of rest.new ≡ count_of rest.old }
+    requires known { AreKnown dict.now rest.now statuses.now values.old known.old }
+    ensures known { AreKnown dict.now rest.now statuses.now values.new known.new }
     ensures ok { (I : Instance) → AreEndsOf I ends.now → HasSizeOf I dict.now → IfOk result (λ _. HasValues I statuses.now (entry_of dict.now) (values_in values.new)) }
-    ensures resting { AreResting (ranges_in ends.now) statuses.now (values_of rest.new) }
     ensures fits { (I : Instance) → AreEndsOf I ends.now → HasSizeOf I dict.now → IfOk result (λ _. ValuesFit I statuses.now (entry_of dict.now)) }
     ensures wide { (I : Instance) → AreEndsOf I ends.now → HasSizeOf I dict.now → OnErr result (ValuesFit I statuses.now (entry_of dict.now) → ⊥) }
 {
-    set_rest(ends, statuses, rest, goal);
-    all_values(dict, statuses, rest, values, goal, steps)
+    let _ends = ends;
+    all_values(dict, statuses, rest, values, known, goal, steps)
 }
 
 /// The way in which a value is to move to come within the ends.
-fn misses(e: Ends, x: Frac) -> Option<Way>
-    ensures { MatchOption result ((v : Way) → Misses v (range_of e) (ratio x) → ⊥) (λ v. Misses v (range_of e) (ratio x)) }
+fn misses(e: &Ends, x: &Frac) -> Option<Way>
+    ensures { MatchOption result ((v : Way) → Misses v (range_of e.now) (ratio x.now) → ⊥) (λ v. Misses v (range_of e.now) (ratio x.now)) }
 {
     if let End::At(l) = e.lb {
-        if is_less(x, l) {
+        if is_less(*x, l) {
             return Some(Way::Rise);
         }
     }
     if let End::At(h) = e.ub {
-        if is_less(h, x) {
+        if is_less(h, *x) {
             return Some(Way::Fall);
         }
     }
@@ -157,8 +195,8 @@ fn misses(e: Ends, x: Frac) -> Option<Way>
 }
 
 /// The way in which a column is to move, where it is basic and out of its ends.
-fn out_at(e: Ends, status: Status, x: Frac) -> Option<Way>
-    ensures { MatchOption result ((v : Way) → is_basic status ≡ true → Misses v (range_of e) (ratio x) → ⊥) (λ v. (is_basic status ≡ true) × Misses v (range_of e) (ratio x)) }
+fn out_at(e: &Ends, status: Status, x: &Frac) -> Option<Way>
+    ensures { MatchOption result ((v : Way) → is_basic status ≡ true → Misses v (range_of e.now) (ratio x.now) → ⊥) (λ v. (is_basic status ≡ true) × Misses v (range_of e.now) (ratio x.now)) }
 {
     match status {
         Status::Basic => misses(e, x),
@@ -176,7 +214,7 @@ pub fn first_out(ends: &[Ends], statuses: &[Status], values: &[Frac], goal: u32)
     ensures { (I : Instance) (u : Entries) → AreEndsOf I ends.now → MatchOption result (NoneOut I statuses.now u (values_in values.now)) (λ m. IsFirstOut I statuses.now u (values_in values.now) m.col m.way) }
 {
     for c in 0..goal {
-        if let Some(way) = out_at(ends[c as usize], statuses[c as usize], values[c as usize]) {
+        if let Some(way) = out_at(&ends[c as usize], statuses[c as usize], &values[c as usize]) {
             return Some(Move { col: c, way });
         }
     }

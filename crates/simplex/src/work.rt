@@ -27,12 +27,14 @@ pub struct Work {
     statuses: Vec<Status>,
     rest: Places,
     values: Vec<Frac>,
+    known: Vec<bool>,
     factors: Vec<Frac>,
     movements: Vec<Frac>,
     ghost ends_long: { vec_len ends ≡ width_of dict + height_of dict },
     ghost statuses_long: { vec_len statuses ≡ width_of dict + height_of dict },
     ghost rest_long: { count_of rest ≡ width_of dict + height_of dict },
     ghost values_long: { vec_len values ≡ width_of dict + height_of dict },
+    ghost known_long: { vec_len known ≡ width_of dict + height_of dict },
     ghost factors_long: { vec_len factors ≡ width_of dict + height_of dict },
     ghost movements_long: { vec_len movements ≡ width_of dict },
 }
@@ -59,6 +61,7 @@ impl Work {
         let rest = Places::with_size(alloc, columns)?;
         let none = zero();
         let values = vec![in alloc; none; columns]?;
+        let known = vec![in alloc; false; columns]?;
         let factors = vec![in alloc; none; columns]?;
         let movements = vec![in alloc; none; vars]?;
         Ok(Work {
@@ -67,6 +70,7 @@ impl Work {
             statuses,
             rest,
             values,
+            known,
             factors,
             movements,
         })
@@ -105,6 +109,7 @@ impl Work {
             self.statuses.as_mut_slice(),
             &mut self.rest,
             self.values.as_mut_slice(),
+            self.known.as_mut_slice(),
             self.factors.as_mut_slice(),
             self.movements.as_mut_slice(),
             instance,

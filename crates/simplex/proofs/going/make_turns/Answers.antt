@@ -17,6 +17,8 @@ loop-finish-init g c = record {
   held = c.requires.held;
   size = record { width = refl; height = refl };
   count = refl;
+  resting = c.requires.resting;
+  known = c.requires.known;
   most = refl;
   more = omega arith;
   within = λ h. h;
@@ -41,6 +43,8 @@ loop-finish-preserved g c =
       held = c.in_default.ensures.left;
       size = record { width = c.in_default.ensures.size.width ∙ v.size.width; height = c.in_default.ensures.size.height ∙ v.size.height };
       count = c.in_default.ensures.count ∙ v.count;
+      resting = c.in_default.ensures.resting refl;
+      known = c.in_default.ensures.known refl;
       most = c.in_default.ensures.most ∙ v.most;
       more = let a = v.more in let b = n.1 in omega arith;
       within = λ h. let a = n.0 in let b = n.1 in let d = v.most in omega arith;

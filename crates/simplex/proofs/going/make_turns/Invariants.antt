@@ -6,10 +6,11 @@ use Rattle.simplex_rules.specs.Statuses.{IsFresh}
 use Rattle.simplex_rules.specs.Ends.{Terms}
 use Rattle.simplex_rules.specs.Runs.{Comes}
 use Rattle.simplex_rules.specs.Looks.{went_on, IsAfter}
-use Rattle.dictionary.specs.Dict.{Holds, HaveOneSize, count_of}
-use Rattle.simplex.specs.Cuts.{AreEndsOf}
+use Rattle.dictionary.specs.Dict.{Holds, HaveOneSize, count_of, values_of}
+use Rattle.simplex.specs.Cuts.{AreEndsOf, ranges_in}
 use Rattle.simplex.specs.Held.{AreHeld, HasSizeOf}
 use Rattle.simplex.specs.Loading.{IsStart}
+use Rattle.simplex.specs.Valued.{AreResting, AreKnown}
 use Rattle.simplex.proofs.going.make_turns.Given as goal
 
 abbrev pub invariant-loop-finish : goal.invariant-loop-finish
@@ -17,6 +18,8 @@ invariant-loop-finish g l = record {
   held : AreHeld l.dict l.statuses;
   size : HaveOneSize l.fn.dict l.dict;
   count : count_of l.rest ≡ count_of l.fn.rest;
+  resting : AreResting (ranges_in l.ends) l.statuses (values_of l.rest);
+  known : AreKnown l.dict l.rest l.statuses l.values l.known;
   most : l.turns.most ≡ l.fn.turns.most;
   more : l.fn.turns.done ≤ l.turns.done;
   within : l.fn.turns.done ≤ l.fn.turns.most → l.turns.done ≤ l.fn.turns.most;

@@ -16,6 +16,7 @@ use Rattle.simplex.specs.Finished.{is_stop, end_at}
 use Rattle.simplex.specs.Loading.{IsStart}
 use Rattle.simplex.proofs.CutPrograms.{start_cut, rows_count}
 use Rattle.simplex.proofs.Finishing.{finish_run}
+use Rattle.simplex.proofs.Kept.{none_known}
 use Rattle.simplex.proofs.running.run_over.Goals as goal
 
 pub returns-clause-run : goal.returns-clause-run
@@ -49,3 +50,6 @@ returns-clause-run g c =
           (k ∙ ap₂ (λ (n h : ℕ). ended c.report.result (listed n (values_in c.make_turns-finish.new.values)) (collected (values_in c.report.new.factors) h) (listed n (values_in c.report.new.movements))) c.requires.movements (ap₂ (λ (a b : ℕ). a + b) vars rows))
           (ap (λ (b : Bool). record { turns = c.make_turns-finish.new.turns.done; looks = looks_after looks m.0 b }) (sym e))),
     )
+
+pub make_turns-finish-requires-clause-known : goal.make_turns-finish-requires-clause-known
+make_turns-finish-requires-clause-known g c = none_known c.begin.new.dict c.set_rest.new.rest c.begin.new.statuses c.args.values.now c.clear.new.known c.clear.ensures

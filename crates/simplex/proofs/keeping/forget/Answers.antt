@@ -1,0 +1,12 @@
+use Rattle.std.proofs.Common.{arith}
+use Rattle.simplex.proofs.keeping.forget.Goals as goal
+
+pub returns : goal.returns
+returns c =
+    let v = c.loop-c.invariant in
+    let t = c.loop-c-test.false in
+    record {
+      less = v.less;
+      own = v.own (let a = c.requires.moving in omega arith);
+      apart = λ k h. v.apart k (let a = c.requires.goal in omega arith);
+    }

@@ -1,0 +1,120 @@
+// Which values stay known through a turn.
+ghost use Rattle.std.specs.Prelude.{◌≡◌, ℕ, ◌+◌, ◌<◌, ◌≤◌, pos, true, false, List, length, slice_set};
+ghost use Rattle.fraction.specs.declared.frac.Frac as numbers;
+ghost use Rattle.simplex_rules.specs.declared.columns.Status as Columns;
+ghost use Rattle.simplex_rules.specs.Statuses.{is_basic, basic_in};
+ghost use Rattle.dictionary.specs.declared.dict.Dict as dictionaries;
+ghost use Rattle.dictionary.specs.Dict.{IsLoaded, width_of, height_of, basic_of, entry_of, count_of, values_of};
+ghost use Rattle.simplex.specs.Cuts.{ranges_in};
+ghost use Rattle.simplex.specs.Held.{AreStatuses, AreHeld};
+ghost use Rattle.simplex.specs.Chosen.{IsSwap, IsFlip, IsSwapped};
+ghost use Rattle.simplex.specs.Valued.{AreResting, AreKnown, IsForgotten, known_at};
+
+use crate::choosing::{Flip, Swap};
+use crate::ends::Ends;
+use crate::helping::entry_at;
+use crate::valued::{rest_value, zero};
+use dictionary::{Dict, Places};
+use simplex_rules::Status;
+
+/// Whether a column's value moves with that of another one, which isn't basic.
+fn moves_with(dict: &Dict, status: Status, col: u32, moving: u32, goal: u32) -> bool
+    requires loaded { IsLoaded dict.now }
+    requires goal { goal ≡ width_of dict.now + height_of dict.now }
+    requires moving { moving < goal }
+    requires nonbasic { basic_of dict.now moving ≡ false }
+    requires col { col < goal }
+    requires status { is_basic status ≡ basic_of dict.now col }
+    ensures own { col ≡ moving → result ≡ true }
+    ensures apart { result ≡ false → is_basic status ≡ true → (entry_of dict.now col moving).num ≡ pos 0 }
+{
+    if col == moving {
+        return true;
+    }
+    if status == Status::Basic {
+        let entry = entry_at(dict, col, moving, goal);
+        return entry.numer != 0;
+    }
+    false
+}
+
+/// Forgets the values that move with a column's, which isn't basic.
+fn forget(dict: &Dict, statuses: &[Status], known: &mut [bool], moving: u32, goal: u32)
+    requires loaded { IsLoaded dict.now }
+    requires statuses { AreStatuses dict.now statuses.now }
+    requires flags { length known.old ≡ goal }
+    requires goal { goal ≡ length statuses.now }
+    requires moving { moving < goal }
+    requires nonbasic { basic_in statuses.now moving ≡ false }
+    ensures { IsForgotten (entry_of dict.now) statuses.now moving known.old known.new }
+{
+    for c in 0..goal {
+        let k = c as usize;
+        if known[k] && moves_with(dict, statuses[k], c, moving, goal) {
+            known[k] = false;
+        }
+    }
+}
+
+/// No value is known.
+pub fn clear(known: &mut [bool])
+    ensures { (c : ℕ) → known_at known.new c ≡ false }
+{
+    for c in 0..known.len() {
+        known[c] = false;
+    }
+}
+
+/// Readies the places and the flags for a swap: the values that don't move with the entering column stay known.
+pub fn expect_swap(
+    dict: &Dict,
+    ends: &[Ends],
+    statuses: &[Status],
+    rest: &mut Places,
+    known: &mut [bool],
+    swap: Swap,
+    goal: u32,
+)
+    requires held { AreHeld dict.now statuses.now }
+    requires ends { length ends.now ≡ length statuses.now }
+    requires rest { goal ≤ count_of rest.old }
+    requires flags { length known.old ≡ goal }
+    requires goal { goal ≡ length statuses.now }
+    requires resting { AreResting (ranges_in ends.now) statuses.now (values_of rest.old) }
+    requires swap { IsSwap statuses.now (entry_of dict.now) swap }
+    ensures count { count_of rest.new ≡ count_of rest.old }
+    ensures resting { (d : dictionaries.Dict) (ss : List Columns.Status) → IsSwapped dict.now d statuses.now ss swap → AreResting (ranges_in ends.now) ss (values_of rest.new) }
+    ensures known { (d : dictionaries.Dict) (ss : List Columns.Status) (vs : List numbers.Frac) → IsSwapped dict.now d statuses.now ss swap → AreKnown dict.now rest.old statuses.now vs known.old → AreKnown d rest.new ss vs known.new }
+{
+    forget(dict, statuses, known, swap.nonbasic, goal);
+    known[swap.basic as usize] = false;
+    let value = rest_value(&ends[swap.basic as usize], swap.status);
+    rest.set(swap.basic, value);
+    rest.set(swap.nonbasic, zero());
+}
+
+/// Readies the places and the flags for a flip: the values that don't move with the column stay known.
+pub fn expect_flip(
+    dict: &Dict,
+    ends: &[Ends],
+    statuses: &[Status],
+    rest: &mut Places,
+    known: &mut [bool],
+    flip: Flip,
+    goal: u32,
+)
+    requires held { AreHeld dict.now statuses.now }
+    requires ends { length ends.now ≡ length statuses.now }
+    requires rest { goal ≤ count_of rest.old }
+    requires flags { length known.old ≡ goal }
+    requires goal { goal ≡ length statuses.now }
+    requires resting { AreResting (ranges_in ends.now) statuses.now (values_of rest.old) }
+    requires flip { IsFlip statuses.now flip }
+    ensures count { count_of rest.new ≡ count_of rest.old }
+    ensures resting { AreResting (ranges_in ends.now) (slice_set statuses.now flip.col flip.status) (values_of rest.new) }
+    ensures known { (vs : List numbers.Frac) → AreKnown dict.now rest.old statuses.now vs known.old → AreKnown dict.now rest.new (slice_set statuses.now flip.col flip.status) vs known.new }
+{
+    forget(dict, statuses, known, flip.col, goal);
+    let value = rest_value(&ends[flip.col as usize], flip.status);
+    rest.set(flip.col, value);
+}
