@@ -1,5 +1,5 @@
 -- How a run ends that checks two files, and what their bytes decide of it.
-use Rattle.std.proofs.Common.{◌≡◌, ◌∙◌, ℕ, ◌⊎◌, List, [], ◌∷◌, ◌++◌, Ok, Err, inl, inr, arith, ap, subst}
+use Rattle.std.proofs.Common.{◌≡◌, ◌∙◌, ℕ, ◌⊎◌, List, [], ◌∷◌, ◌++◌, Ok, Err, inl, inr, arith, refl, ap, subst}
 use Rattle.os_io.specs.Files.{Held, Holds, NoFile, MayHold}
 use Rattle.os_io.specs.Streams.{HasRisen}
 use Rattle.cert_checker.specs.declared.documents.Kind.{Kind}
@@ -9,12 +9,12 @@ use Rattle.cert_checker.specs.Documents.{IsAcceptedText, DocsRefuse}
 use Rattle.cert_checker.specs.Texts.{IsAnswerText, IsRefusedText}
 use Rattle.os_app.specs.Grounds.{AnswersAreOne}
 use Rattle.os_app.specs.Checks.{IsAnswerLine, IsAnswerTo, IsAnswerAbout, accepted, refused}
-use Rattle.os_app.specs.Ends.{FilesEnd, in_full, unread, unwritten, unmade}
-use Rattle.command_line.specs.Words.{Command, Session, Check, Solve, IsCheck}
-use Rattle.os_app.specs.Runs.{Run, AsksLine, IsUntaken, IsFileFault, IsUnheard, MayBeThere, IsJudged, Runs}
+use Rattle.os_app.specs.Ends.{in_full, unread, unwritten, unmade}
+use Rattle.command_line.specs.Words.{Command, Session, Check, Solve, Generate, Call, Serve, IsCheck}
+use Rattle.os_app.specs.Runs.{Run, Checks, IsUntaken, IsFileFault, IsUnheard, MayBeThere, IsJudged, Runs}
 use Rattle.os_app.specs.Runs as runs
-use Rattle.os_app.proofs.Deciding.{one_command, some_or_none}
-use Rattle.os_app.proofs.Telling.{run_ends}
+use Rattle.os_app.proofs.Deciding.{one_command}
+use Rattle.os_app.proofs.Telling.{EndsText, text_runs}
 
 -- ---- what is said of two files, by what they say together
 
@@ -44,13 +44,6 @@ says_refused : (osil osrl : List ℕ) (due : ℕ) (line : List ℕ) → IsAnswer
 says_refused osil osrl due line (accepted k is all says) one = absurd (omega (arith, is, one))
 says_refused osil osrl due line (refused r is why says) one = (r, why, never_memory r line says)
 
--- the status is no other
-zero_or_one : (osil osrl : List ℕ) (due : ℕ) (line : List ℕ) → IsAnswerTo osil osrl due line → (due ≡ 2) ⊎ (due ≡ 8) → ⊥
-zero_or_one osil osrl due line (accepted k is all says) (inl two) = omega (arith, is, two)
-zero_or_one osil osrl due line (accepted k is all says) (inr eight) = omega (arith, is, eight)
-zero_or_one osil osrl due line (refused r is why says) (inl two) = omega (arith, is, two)
-zero_or_one osil osrl due line (refused r is why says) (inr eight) = omega (arith, is, eight)
-
 -- ---- the files, where they are told
 
 same_bytes : (held : Held) (bytes read : List ℕ) → held ≡ Holds bytes → MayHold held read → read ≡ bytes
@@ -70,8 +63,7 @@ may_be_there held read is none = subst (λ (h : Held). MayHold h read) none is
 
 -- how the check of a run ends
 abbrev EndsCheck : ℕ → Run → List ℕ → List ℕ → Type 0
-EndsCheck status run osil_name osrl_name =
-    FilesEnd (IsAnswerAbout (run.held osil_name) (run.held osrl_name)) status run.file_faults run.file_faults_after run.output run.output_after
+EndsCheck status run osil_name osrl_name = EndsText status run (Check osil_name osrl_name)
 
 -- what a run and its check say of it
 record Checking (status : ℕ) (run : Run) (osil_name osrl_name : List ℕ) : Type 0 where
@@ -82,15 +74,11 @@ record Checking (status : ℕ) (run : Run) (osil_name osrl_name : List ℕ) : Ty
 fault_of_file : (status : ℕ) (run : Run) (osil_name osrl_name : List ℕ) → Checking status run osil_name osrl_name → HasRisen run.file_faults run.file_faults_after
     → run.output_after ≡ run.output → IsFileFault run
 fault_of_file status run osil_name osrl_name c risen same =
-    record { named = inl (osil_name, osrl_name, c.check); failed = risen; untaken = c.untaken; unwritten = same }
+    record { named = (Check osil_name osrl_name, c.check, refl); failed = risen; untaken = c.untaken; unwritten = same }
 
 no_memory : (status : ℕ) (run : Run) (osil_name osrl_name : List ℕ) → Checking status run osil_name osrl_name
     → run.file_faults_after ≡ run.file_faults → run.output_after ≡ run.output → IsUnheard run
 no_memory status run osil_name osrl_name c files same = record { untaken = c.untaken; unwritten = same; all_files_read = files }
-
-asks_line : (status due : ℕ) (run : Run) (osil_name osrl_name line : List ℕ) → Checking status run osil_name osrl_name
-    → IsAnswerAbout (run.held osil_name) (run.held osrl_name) due line → AsksLine run due line
-asks_line status due run osil_name osrl_name line c about = record { osil_name = osil_name; osrl_name = osrl_name; check = c.check; about = about }
 
 -- what the bytes decide
 judged_by : AnswersAreOne → (status : ℕ) (run : Run) (osil_name osrl_name osil osrl : List ℕ) → Checking status run osil_name osrl_name
@@ -106,7 +94,7 @@ judged_by one status run osil_name osrl_name osil osrl c first second = go c.end
           refused = λ r text why says. let it = line_of_refused one osil osrl status line r text why says answers in runs.in_full line it.0 it.1 sent;
           refused_only = says_refused osil osrl status line answers;
         }
-    go (unread is risen same) =
+    go (unread named is risen same) =
         let fault = fault_of_file status run osil_name osrl_name c risen same in
         record {
           accepted = λ k shown. runs.no_file is fault;
@@ -131,12 +119,6 @@ judged_by one status run osil_name osrl_name osil osrl c first second = go c.end
           refused_only = λ one. absurd (omega (arith, is, one));
         }
 
-never_two : (status : ℕ) (run : Run) (osil_name osrl_name : List ℕ) → EndsCheck status run osil_name osrl_name → status ≡ 2 → ⊥
-never_two status run osil_name osrl_name (in_full line about files sent) two = zero_or_one about.osil about.osrl status line about.answers (inl two)
-never_two status run osil_name osrl_name (unread is risen same) two = omega (arith, is, two)
-never_two status run osil_name osrl_name (unwritten due line is about files off) two = omega (arith, is, two)
-never_two status run osil_name osrl_name (unmade is files same) two = omega (arith, is, two)
-
 -- an answer is given where no file is told to be absent
 both_there : (status : ℕ) (run : Run) (osil_name osrl_name : List ℕ) → EndsCheck status run osil_name osrl_name → (status ≡ 0) ⊎ (status ≡ 1)
     → MayBeThere run osil_name × MayBeThere run osrl_name
@@ -144,46 +126,27 @@ both_there status run osil_name osrl_name (in_full line about files sent) which 
   may_be_there (run.held osil_name) about.osil about.instance_file,
   may_be_there (run.held osrl_name) about.osrl about.result_file,
 )
-both_there status run osil_name osrl_name (unread is risen same) (inl zero) = absurd (omega (arith, is, zero))
-both_there status run osil_name osrl_name (unread is risen same) (inr one) = absurd (omega (arith, is, one))
+both_there status run osil_name osrl_name (unread named is risen same) (inl zero) = absurd (omega (arith, is, zero))
+both_there status run osil_name osrl_name (unread named is risen same) (inr one) = absurd (omega (arith, is, one))
 both_there status run osil_name osrl_name (unwritten due line is about files off) (inl zero) = absurd (omega (arith, is, zero))
 both_there status run osil_name osrl_name (unwritten due line is about files off) (inr one) = absurd (omega (arith, is, one))
 both_there status run osil_name osrl_name (unmade is files same) (inl zero) = absurd (omega (arith, is, zero))
 both_there status run osil_name osrl_name (unmade is files same) (inr one) = absurd (omega (arith, is, one))
 
--- a check's words name two files, and no others, and aren't a session's
-abbrev first_name : Command → List ℕ
-first_name Session = []
-first_name (Check osil osrl) = osil
-first_name (Solve osil options) = []
-
-abbrev second_name : Command → List ℕ
-second_name Session = []
-second_name (Check osil osrl) = osrl
-second_name (Solve osil options) = []
-
-same_names : (words : List (List ℕ)) (a b c d : List ℕ) → IsCheck words a b → IsCheck words c d → Check a b ≡ Check c d
-same_names words a b c d first second = one_command _ (Check a b) (Check c d) first second
-
 -- a check of two files
 pub check_runs : AnswersAreOne → (status : ℕ) (run : Run) (osil_name osrl_name : List ℕ) → IsCheck run.words osil_name osrl_name
     → EndsCheck status run osil_name osrl_name → IsUntaken run → Runs status run
 check_runs one status run osil_name osrl_name check ends untaken =
-    let c : Checking status run osil_name osrl_name = record { check = check; ends = ends; untaken = untaken } in
-    record {
-      ends = run_ends (IsAnswerAbout (run.held osil_name) (run.held osrl_name)) status run (inl (osil_name, osrl_name, check)) (λ s line about. inl (asks_line status s run osil_name osrl_name line c about)) ends untaken;
-      files = λ none. absurd (none.0 osil_name osrl_name check);
-      misused = (
-        λ two. absurd (never_two status run osil_name osrl_name ends two),
-        λ all. absurd (some_or_none _ _ check all.0),
-      );
-      judged = λ a b osil osrl named first second.
-          judged_by one status run osil_name osrl_name osil osrl c
-          (ap (λ (x : Command). run.held (first_name x)) (same_names run.words osil_name osrl_name a b check named) ∙ first)
-          (ap (λ (x : Command). run.held (second_name x)) (same_names run.words osil_name osrl_name a b check named) ∙ second);
-      there = λ a b named which.
-          let both = both_there status run osil_name osrl_name ends which in (
-            λ none. both.0 (ap (λ (x : Command). run.held (first_name x)) (same_names run.words osil_name osrl_name a b check named) ∙ none),
-            λ none. both.1 (ap (λ (x : Command). run.held (second_name x)) (same_names run.words osil_name osrl_name a b check named) ∙ none),
-          );
-    }
+    text_runs status run (Check osil_name osrl_name) check ends untaken
+    (λ a b named. subst ChecksOf (one_command _ (Check osil_name osrl_name) (Check a b) check named) (record {
+      judged = λ osil osrl first second. judged_by one status run osil_name osrl_name osil osrl (record { check = check; ends = ends; untaken = untaken }) first second;
+      there = both_there status run osil_name osrl_name ends;
+    }))
+  where
+    ChecksOf : Command → Type 0
+    ChecksOf (Check a b) = Checks status run a b
+    ChecksOf Session = Unit {0}
+    ChecksOf (Solve osil options) = Unit {0}
+    ChecksOf (Generate variables) = Unit {0}
+    ChecksOf (Call kind host port osil osol ospl) = Unit {0}
+    ChecksOf (Serve host port workers servers connections) = Unit {0}

@@ -1,12 +1,24 @@
 -- What the words of a run decide of it.
-use Rattle.std.proofs.Common.{◌≡◌, ◌∙◌, ℕ, ◌⊎◌, inl, inr, List, Option, Some, None, arith, refl, sym, subst}
+use Rattle.std.proofs.Common.{◌≡◌, ◌∙◌, ℕ, ◌⊎◌, inl, inr, Bool, true, false, List, Option, Some, None, arith, refl, sym, subst}
 use Rattle.std.proofs.lemmas.Option.{none-some, same_Some}
 use Rattle.os_server.specs.declared.serve.Served.{Served}
 use Rattle.os_server.specs.declared.serve.Served.TheVariants.{Ended, CutShort, ReadFault, WriteFault, Memory}
+use Rattle.serving.specs.declared.ending.Ending.{Ending}
+use Rattle.serving.specs.declared.ending.Ending.TheVariants as endings
+use Rattle.os_app.specs.Statuses.{serve_status}
+use Rattle.os_app.specs.Runs.{IsHosted, hosted}
 use Rattle.os_app.specs.Statuses.{session_status}
-use Rattle.command_line.specs.Words.{Command, Session, Check, Solve, IsSession, IsSolve, IsNoCheck, IsNoCommand}
-use Rattle.os_app.specs.Runs.{Run, IsServed, IsUnheard, RunEnds, served, unheard, AllFilesRead, Runs}
+use Rattle.command_line.specs.Words.{Command, Session, Check, Solve, Generate, Call, Serve, asks, asks_for_links, names_files, AsksForNoLink, IsCheck, IsNoCommand, NamesNoFile}
+use Rattle.os_app.specs.Runs.{Run, IsServed, IsUnheard, RunEnds, served, unheard, AllFilesRead, Checks, Runs}
 use Rattle.os_app.specs.Runs as runs
+
+-- what is true isn't false
+abbrev IsTrue : Bool → Type 0
+IsTrue true = Unit {0}
+IsTrue false = ⊥
+
+true_or_false : true ≡ false → ⊥
+true_or_false is = subst IsTrue is tt
 
 -- words that ask for something aren't words that ask for nothing
 pub some_or_none : (asked : Option Command) (it : Command) → asked ≡ Some it → asked ≡ None → ⊥
@@ -16,41 +28,63 @@ some_or_none asked it some none = none-some it (sym none ∙ some)
 pub one_command : (asked : Option Command) (a b : Command) → asked ≡ Some a → asked ≡ Some b → a ≡ b
 one_command asked a b first second = same_Some a b (sym first ∙ second)
 
--- a session's status isn't that of words that are no command's
-never_misused : (how : Served) → session_status how ≡ 2 → ⊥
-never_misused Ended two = absurd (omega (arith, two))
-never_misused CutShort two = absurd (omega (arith, two))
-never_misused ReadFault two = absurd (omega (arith, two))
-never_misused WriteFault two = absurd (omega (arith, two))
-never_misused Memory two = absurd (omega (arith, two))
+-- a check is no other command
+abbrev pub IsOther : Command → Type 0
+IsOther (Check osil osrl) = ⊥
+IsOther Session = Unit {0}
+IsOther (Solve osil options) = Unit {0}
+IsOther (Generate variables) = Unit {0}
+IsOther (Call kind host port osil osol ospl) = Unit {0}
+IsOther (Serve host port workers servers connections) = Unit {0}
 
--- a session's words aren't a check's
-abbrev IsCheckCommand : Command → Type 0
-IsCheckCommand Session = ⊥
-IsCheckCommand (Check osil osrl) = Unit {0}
-IsCheckCommand (Solve osil options) = ⊥
+pub no_check : (status : ℕ) (run : Run) (it : Command) → asks run.words ≡ Some it → IsOther it → (a b : List ℕ) → IsCheck run.words a b → Checks status run a b
+no_check status run it asked other a b check = absurd (subst IsOther (one_command _ it (Check a b) asked check) other)
 
-pub no_check : (words : List (List ℕ)) → IsSession words → IsNoCheck words
-no_check words session osil osrl check =
-    subst IsCheckCommand (one_command _ (Check osil osrl) Session check session) tt
+-- words that ask for something name files where that does
+pub names_none : (words : List (List ℕ)) (it : Command) → asks words ≡ Some it → names_files it ≡ true → NamesNoFile words → ⊥
+names_none words it asked names none = true_or_false (sym names ∙ none it asked)
 
--- nor are `solve`'s
-pub solves_no_check : (words : List (List ℕ)) (name : List ℕ) (options : Option (List ℕ)) → IsSolve words name options → IsNoCheck words
-solves_no_check words name options solve osil osrl check =
-    subst IsCheckCommand (one_command _ (Check osil osrl) (Solve name options) check solve) tt
+-- and for links where that does
+pub links_none : (words : List (List ℕ)) (it : Command) → asks words ≡ Some it → asks_for_links it ≡ true → AsksForNoLink words → ⊥
+links_none words it asked links none = true_or_false (sym links ∙ none it asked)
 
--- a session
-pub session_runs : (run : Run) (how : Served) (status : ℕ) → status ≡ session_status how → IsServed how run → AllFilesRead run → Runs status run
-session_runs run how status is one files = record {
-  ends = served how is one;
-  files = λ none. files;
-  misused = (
-    λ two. absurd (never_misused how (sym is ∙ two)),
-    λ all. absurd (some_or_none _ _ one.session all.0),
-  );
-  judged = λ osil_name osrl_name osil osrl check first second. absurd (no_check run.words one.session osil_name osrl_name check);
-  there = λ osil_name osrl_name check which. absurd (no_check run.words one.session osil_name osrl_name check);
+-- a run of a command that doesn't end with 2
+pub command_runs : (status : ℕ) (run : Run) (it : Command) → asks run.words ≡ Some it → RunEnds status run → (status ≡ 2 → ⊥) → (NamesNoFile run.words → AllFilesRead run)
+    → ((a b : List ℕ) → IsCheck run.words a b → Checks status run a b) → Runs status run
+command_runs status run it asked ends never files checks = record {
+  ends = ends;
+  files = files;
+  misused = (λ two. absurd (never two), λ all. absurd (some_or_none _ it asked all.0));
+  checks = checks;
 }
+
+-- ---- statuses that aren't 2
+
+session_never : (how : Served) → session_status how ≡ 2 → ⊥
+session_never Ended two = absurd (omega (arith, two))
+session_never CutShort two = absurd (omega (arith, two))
+session_never ReadFault two = absurd (omega (arith, two))
+session_never WriteFault two = absurd (omega (arith, two))
+session_never Memory two = absurd (omega (arith, two))
+
+serve_never : (how : Ending) → serve_status how ≡ 2 → ⊥
+serve_never endings.Done two = absurd (omega (arith, two))
+serve_never endings.LinkMemory two = absurd (omega (arith, two))
+serve_never endings.ListenFault two = absurd (omega (arith, two))
+serve_never endings.AnnounceFault two = absurd (omega (arith, two))
+serve_never endings.NoMemory two = absurd (omega (arith, two))
+serve_never endings.AcceptFault two = absurd (omega (arith, two))
+serve_never endings.ReportFault two = absurd (omega (arith, two))
+
+-- ---- the commands over links
+
+pub session_runs : (run : Run) (how : Served) (status : ℕ) → status ≡ session_status how → IsServed how run → AllFilesRead run → Runs status run
+session_runs run how status is one files = command_runs status run Session one.session (served how is one) (λ two. session_never how (sym is ∙ two)) (λ none. files) (no_check status run Session one.session tt)
+
+pub serve_runs : (run : Run) (how : Ending) (status : ℕ) → status ≡ serve_status how → IsHosted how run → Runs status run
+serve_runs run how status is one = command_runs status run _ one.asked (hosted how is one) (λ two. serve_never how (sym is ∙ two)) (λ none. one.all_files_read) (no_check status run _ one.asked tt)
+
+-- ---- no command, and none that is heard
 
 -- words that are no command's, whose usage was sent, or not whole
 pub other_runs : (run : Run) (status : ℕ) → IsNoCommand run.words → RunEnds status run
@@ -65,8 +99,7 @@ other_runs run status other ends which files = record {
       | inr four ↦ absurd (all.1 four)
     ],
   );
-  judged = λ osil_name osrl_name osil osrl check first second. absurd (some_or_none _ _ check other);
-  there = λ osil_name osrl_name check done. absurd (some_or_none _ _ check other);
+  checks = λ a b check. absurd (some_or_none _ _ check other);
 }
 
 -- no memory to read the words
@@ -75,14 +108,16 @@ unheard_runs run none = record {
   ends = unheard refl none;
   files = λ no. none.all_files_read;
   misused = (λ two. absurd (omega (arith, two)), λ all. absurd (all.2 refl));
-  judged = λ osil_name osrl_name osil osrl check first second. record {
-    accepted = λ k shown. runs.no_memory refl none;
-    accepted_only = λ zero. absurd (omega (arith, zero));
-    refused = λ r text why says. runs.no_memory refl none;
-    refused_only = λ one. absurd (omega (arith, one));
+  checks = λ a b check. record {
+    judged = λ osil osrl first second. record {
+      accepted = λ k shown. runs.no_memory refl none;
+      accepted_only = λ zero. absurd (omega (arith, zero));
+      refused = λ r text why says. runs.no_memory refl none;
+      refused_only = λ one. absurd (omega (arith, one));
+    };
+    there = λ which. elim which [
+      | inl zero ↦ absurd (omega (arith, zero))
+      | inr one ↦ absurd (omega (arith, one))
+    ];
   };
-  there = λ osil_name osrl_name check which. elim which [
-    | inl zero ↦ absurd (omega (arith, zero))
-    | inr one ↦ absurd (omega (arith, one))
-  ];
 }

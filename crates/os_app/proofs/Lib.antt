@@ -1,7 +1,9 @@
 pub mod FirstBytes
 pub mod Judging
-pub mod Running
 pub mod Deciding
+pub mod Running
 pub mod Telling
 pub mod Checked
 pub mod Solved
+pub mod Generated
+pub mod Called

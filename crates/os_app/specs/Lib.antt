@@ -1,7 +1,7 @@
 pub mod Checks
 pub mod Solves
+pub mod Summaries
 pub mod Ends
 pub mod Grounds
 pub mod Runs
-pub mod Sent
 pub mod Statuses

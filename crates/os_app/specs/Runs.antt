@@ -1,22 +1,29 @@
 -- How a run ends, by its words and by what came and went.
-use Rattle.std.specs.Prelude.{◌≡◌, ◌↔◌, ℕ, ◌⊎◌, Option, List, [], ◌∷◌, ◌++◌, Ok, Err, option_map}
+use Rattle.std.specs.Prelude.{◌≡◌, ◌↔◌, ℕ, ◌⊎◌, true, Option, Some, List, [], ◌∷◌, ◌++◌, Ok, Err, option_map}
 use Rattle.os_io.specs.Files.{Held, Holds, NoFile}
 use Rattle.os_io.specs.Streams.{Tells, HasRisen}
 use Rattle.os_server.specs.declared.serve.Served.{Served}
 use Rattle.os_server.specs.Talk.{both_ends}
 use Rattle.sessions.specs.Sessions as sessions
+use Rattle.soap_calls.specs.declared.call.CallKind.{CallKind}
 use Rattle.cert_checker.specs.declared.documents.Kind.{Kind}
 use Rattle.cert_checker.specs.declared.refused.Refused.{Refused}
 use Rattle.cert_checker.specs.declared.refused.Refused.TheVariants as reasons
 use Rattle.cert_checker.specs.Documents.{IsAcceptedText, DocsRefuse}
 use Rattle.cert_checker.specs.Texts.{IsAnswerText}
+use Rattle.command_answers.specs.Net.{NetTells}
+use Rattle.command_answers.specs.Sent.{IsSent, BreaksOff}
+use Rattle.calling.specs.Runs.{CallRun, CallEnds}
+use Rattle.serving.specs.declared.ending.Ending.{Ending}
+use Rattle.serving.specs.Serving as serving
 use Rattle.os_app.specs.Checks.{IsAnswerLine, IsAnswerAbout}
 use Rattle.os_app.specs.Solves.{IsDocumentAbout}
-use Rattle.os_app.specs.Sent.{IsSent, BreaksOff}
+use Rattle.os_app.specs.Summaries.{IsSummaryOf}
+use Rattle.os_app.specs.Statuses.{serve_status}
 use Rattle.os_app.specs.Statuses.{session_status}
-use Rattle.command_line.specs.Words.{IsSession, IsCheck, IsSolve, NamesNoFile, IsNoCommand, usage}
+use Rattle.command_line.specs.Words.{Command, Session, Check, Solve, Generate, Call, Serve, asks, names_files, IsSession, IsCheck, NamesNoFile, IsNoCommand, usage}
 
--- a run's words, what names hold, and what its files, its input and its output tell before and after it
+-- a run's words, what names hold, and what its files, its input, its output and its net tell before and after it
 pub record Run : Type 0 where
   pub words : List (List ℕ)
   pub held : List ℕ → Held
@@ -26,6 +33,8 @@ pub record Run : Type 0 where
   pub input_after : Tells
   pub output : Tells
   pub output_after : Tells
+  pub net : NetTells
+  pub net_after : NetTells
 
 -- no file failed to be read
 abbrev pub AllFilesRead : Run → Type 0
@@ -35,34 +44,32 @@ AllFilesRead run = run.file_faults_after ≡ run.file_faults
 abbrev pub IsUntaken : Run → Type 0
 IsUntaken run = run.input_after ≡ run.input
 
--- the words are a check's, and this is the line that it asks for, with its status
-pub record AsksLine (run : Run) (status : ℕ) (line : List ℕ) : Type 0 where
-  pub osil_name : List ℕ
-  pub osrl_name : List ℕ
-  pub check : IsCheck run.words osil_name osrl_name
-  pub about : IsAnswerAbout (run.held osil_name) (run.held osrl_name) status line
+-- the text that a command asks for, with its status, by what names hold: a check's line, the result document of a job, or the line
+-- about a generated instance. The others ask for no text that is made beforehand
+abbrev pub IsDue : (List ℕ → Held) → Command → (status : ℕ) → (text : List ℕ) → Type 0
+IsDue held (Check osil osrl) status text = IsAnswerAbout (held osil) (held osrl) status text
+IsDue held (Solve osil options) status text = IsDocumentAbout (held osil) (option_map held options) status text
+IsDue held (Generate variables) status text = IsSummaryOf variables status text
+IsDue held Session status text = ⊥
+IsDue held (Call kind host port osil osol ospl) status text = ⊥
+IsDue held (Serve host port workers servers connections) status text = ⊥
 
--- the words are `solve`'s, and this is the document that they ask for, with its status
-pub record AsksDocument (run : Run) (status : ℕ) (text : List ℕ) : Type 0 where
-  pub osil_name : List ℕ
-  pub options_name : Option (List ℕ)
-  pub solve : IsSolve run.words osil_name options_name
-  pub about : IsDocumentAbout (run.held osil_name) (option_map run.held options_name) status text
-
--- the text that the words ask for, of files
-abbrev pub Asks : Run → (status : ℕ) → (text : List ℕ) → Type 0
-Asks run status text = AsksLine run status text ⊎ AsksDocument run status text
+-- the text that the words ask for
+pub record Asks (run : Run) (status : ℕ) (text : List ℕ) : Type 0 where
+  pub command : Command
+  pub asked : asks run.words ≡ Some command
+  pub due : IsDue run.held command status text
 
 -- the words name files
 abbrev pub NamesFiles : List (List ℕ) → Type 0
-NamesFiles words = ((osil : List ℕ) × (osrl : List ℕ) × IsCheck words osil osrl) ⊎ ((osil : List ℕ) × (options : Option (List ℕ)) × IsSolve words osil options)
+NamesFiles words = (it : Command) × (asks words ≡ Some it) × (names_files it ≡ true)
 
 -- a session was served, which ended so: over a table of jobs of its own its requests were answered, and each document that was shown is proved
 pub record IsServed (how : Served) (run : Run) : Type 0 where
   pub session : IsSession run.words
   pub serves : sessions.IsSession how (both_ends run.input run.output) (both_ends run.input_after run.output_after)
 
--- files were read, and the text that was asked for was sent
+-- the text that was asked for was sent
 pub record IsAnswered (status : ℕ) (run : Run) : Type 0 where
   pub text : List ℕ
   pub asked : Asks run status text
@@ -88,7 +95,7 @@ pub record IsUsageDue (run : Run) (text : List ℕ) : Type 0 where
   pub other : IsNoCommand run.words
   pub usage_is : text ≡ usage
 
--- what is due to words that name files: the text that they ask for
+-- what is due to words that ask for a text
 pub record IsAnswerDue (run : Run) (text : List ℕ) : Type 0 where
   pub status : ℕ
   pub asked : Asks run status text
@@ -101,16 +108,56 @@ pub record IsUnsent (run : Run) : Type 0 where
   pub breaks_off : BreaksOff text run.output run.output_after
   pub untaken : IsUntaken run
 
--- there was no memory to read the words, or to answer about files: nothing was taken, and nothing was written
+-- there was no memory to read the words, or to make the text that they ask for: nothing was taken, and nothing was written
 pub record IsUnheard (run : Run) : Type 0 where
   pub untaken : IsUntaken run
   pub unwritten : run.output_after ≡ run.output
+  pub all_files_read : AllFilesRead run
+
+-- what a run tells of the call that its words ask for, with the files of these names
+abbrev pub call_run : Run → CallKind → (osil osol ospl : Option (List ℕ)) → CallRun
+call_run run kind osil osol ospl = record {
+  kind = kind;
+  names = record { osil = osil; osol = osol; ospl = ospl };
+  held = run.held;
+  file_faults = run.file_faults;
+  file_faults_after = run.file_faults_after;
+  net = run.net;
+  net_after = run.net_after;
+  output = run.output;
+  output_after = run.output_after;
+}
+
+-- a call was made, or it came to nothing
+pub record IsCalled (status : ℕ) (run : Run) : Type 0 where
+  pub kind : CallKind
+  pub host : List ℕ
+  pub port : ℕ
+  pub osil : Option (List ℕ)
+  pub osol : Option (List ℕ)
+  pub ospl : Option (List ℕ)
+  pub asked : asks run.words ≡ Some (Call kind host port osil osol ospl)
+  pub ends : CallEnds status (call_run run kind osil osol ospl)
+  pub untaken : IsUntaken run
+
+-- links were served, which ended so
+pub record IsHosted (how : Ending) (run : Run) : Type 0 where
+  pub host : List ℕ
+  pub port : ℕ
+  pub workers : ℕ
+  pub servers : ℕ
+  pub connections : ℕ
+  pub asked : asks run.words ≡ Some (Serve host port workers servers connections)
+  pub serves : serving.IsServed how workers connections run.net run.net_after run.output run.output_after
+  pub untaken : IsUntaken run
   pub all_files_read : AllFilesRead run
 
 -- how a run ends, by its status
 pub data RunEnds (status : ℕ) (run : Run) : Type 0 where
   served : (how : Served) → status ≡ session_status how → IsServed how run → RunEnds status run
   answered : IsAnswered status run → RunEnds status run
+  called : IsCalled status run → RunEnds status run
+  hosted : (how : Ending) → status ≡ serve_status how → IsHosted how run → RunEnds status run
   misused : status ≡ 2 → IsMisused run → RunEnds status run
   file_fault : status ≡ 3 → IsFileFault run → RunEnds status run
   unsent : status ≡ 4 → IsUnsent run → RunEnds status run
@@ -135,12 +182,17 @@ pub record IsJudged (status : ℕ) (run : Run) (osil osrl : List ℕ) : Type 0 w
 abbrev pub MayBeThere : Run → List ℕ → Type 0
 MayBeThere run name = run.held name ≡ NoFile → ⊥
 
+-- how a check of the files of these names ends: their bytes, where they are told, decide it, and it answers only where neither is told
+-- to be absent
+pub record Checks (status : ℕ) (run : Run) (osil_name osrl_name : List ℕ) : Type 0 where
+  pub judged : (osil osrl : List ℕ) → run.held osil_name ≡ Holds osil → run.held osrl_name ≡ Holds osrl → IsJudged status run osil osrl
+  pub there : (status ≡ 0) ⊎ (status ≡ 1) → MayBeThere run osil_name × MayBeThere run osrl_name
+
 -- a run ends in one of these ways. What the bytes to come decide of a session follows by the laws of `os_server`. Status 2
--- says that the words are no command's, no write failed and there was memory, exactly; the bytes of the files, where they are
--- told, decide how a check ends, and it answers only where no file is told to be absent. Only of words that name files a file fails to be read
+-- says that the words are no command's, no write failed and there was memory, exactly. Only of words that name files a file fails to be
+-- read
 pub record Runs (status : ℕ) (run : Run) : Type 0 where
   pub ends : RunEnds status run
   pub files : NamesNoFile run.words → AllFilesRead run
   pub misused : (status ≡ 2) ↔ (IsNoCommand run.words × (status ≡ 4 → ⊥) × (status ≡ 5 → ⊥))
-  pub judged : (osil_name osrl_name osil osrl : List ℕ) → IsCheck run.words osil_name osrl_name → run.held osil_name ≡ Holds osil → run.held osrl_name ≡ Holds osrl → IsJudged status run osil osrl
-  pub there : (osil_name osrl_name : List ℕ) → IsCheck run.words osil_name osrl_name → (status ≡ 0) ⊎ (status ≡ 1) → MayBeThere run osil_name × MayBeThere run osrl_name
+  pub checks : (osil_name osrl_name : List ℕ) → IsCheck run.words osil_name osrl_name → Checks status run osil_name osrl_name

@@ -1,15 +1,11 @@
 -- What is written of a job in files.
-use Rattle.std.specs.Prelude.{◌≡◌, ℕ, false, Option, None, Some, List, []}
-use Rattle.os_io.specs.Files.{Held, MayHold, ReadsFirst}
+use Rattle.std.specs.Prelude.{◌≡◌, ℕ, false, Option, List}
+use Rattle.os_io.specs.Files.{Held, MayHold}
+use Rattle.command_answers.specs.Named.{ReadsNamed}
 use Rattle.osrl_grammar.specs.declared.report.Report.{Report}
 use Rattle.osrl_grammar.specs.Writing.{report_text}
 use Rattle.solve_run.specs.Right.{Answers}
 use Rattle.os_app.specs.Statuses.{solve_status}
-
--- of the file of options, if one is named, so many bytes are read at most, one more than a document may have; else there are none
-abbrev pub ReadsOptions : Option Held → List ℕ → Type 0
-ReadsOptions None read = read ≡ []
-ReadsOptions (Some held) read = ReadsFirst 4194305 held read
 
 -- the document that answers the job of an instance's file, and of a file of options, if one is named, which nobody stops, and its
 -- status: 1 where it reports an error
@@ -17,7 +13,7 @@ pub record IsDocumentAbout (instance : Held) (options : Option Held) (status : �
   pub osil : List ℕ
   pub osol : List ℕ
   pub instance_file : MayHold instance osil
-  pub options_file : ReadsOptions options osol
+  pub options_file : ReadsNamed options osol
   pub report : Report
   pub answers : Answers osil osol false report
   pub written : text ≡ report_text report

@@ -1,7 +1,9 @@
--- The statuses of a session, of a check, and of a result document.
+-- The statuses of a session, of a check, of a result document, and of a server.
 use Rattle.std.specs.Prelude.{ℕ, Bool, true, false}
 use Rattle.os_server.specs.declared.serve.Served.{Served}
 use Rattle.os_server.specs.declared.serve.Served.TheVariants.{Ended, CutShort, ReadFault, WriteFault, Memory}
+use Rattle.serving.specs.declared.ending.Ending.{Ending}
+use Rattle.serving.specs.declared.ending.Ending.TheVariants as endings
 
 -- by how the conversation ended
 abbrev pub session_status : Served → ℕ
@@ -20,3 +22,13 @@ check_status false = 1
 abbrev pub solve_status : Bool → ℕ
 solve_status true = 1
 solve_status false = 0
+
+-- by how serving ended: 6 where the listener failed, 4 where a line wasn't written, 5 where there was no memory
+abbrev pub serve_status : Ending → ℕ
+serve_status endings.Done = 0
+serve_status endings.LinkMemory = 5
+serve_status endings.ListenFault = 6
+serve_status endings.AnnounceFault = 4
+serve_status endings.NoMemory = 5
+serve_status endings.AcceptFault = 6
+serve_status endings.ReportFault = 4

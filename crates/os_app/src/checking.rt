@@ -4,25 +4,17 @@ ghost use Rattle.os_io.specs.Files.{CountsFiles};
 ghost use Rattle.os_app.specs.Checks.{IsAnswerAbout, IsAnswerLine, IsAnswerTo};
 ghost use Rattle.os_app.specs.Statuses.{check_status};
 
-use crate::answer::Answer;
 use cert_checker::{Kind, Refused, answer_text, check_docs};
+use command_answers::status::{DONE, NEGATIVE};
+use command_answers::{Answer, MOST_BYTES};
 use os_io::{FileFault, Files, Memory, Text};
 use std::alloc::Global;
 
-/// Of each file so many bytes are read at most: one more than a document has, so that a file that is too long is refused.
-pub(crate) const MOST_BYTES: u64 = 4_194_305;
-
-/// The claim is accepted.
-const ACCEPTED: u8 = 0;
-
-/// The claim, or a document, is refused.
-const REFUSED: u8 = 1;
-
 /// The status of a check's answer.
-fn status_of(is_accepted: bool) -> u8
+pub(crate) fn status_of(is_accepted: bool) -> u8
     ensures { result ≡ check_status is_accepted }
 {
-    if is_accepted { ACCEPTED } else { REFUSED }
+    if is_accepted { DONE } else { NEGATIVE }
 }
 
 /// An answer in words, and a line feed.

@@ -3,40 +3,32 @@ ghost use Rattle.std.specs.Prelude.{◌≡◌, map, IfOk, OnErr};
 ghost use Rattle.std.specs.Process.{exit_status};
 ghost use Rattle.std.specs.String.{string_bytes};
 ghost use Rattle.os_io.specs.Streams.{SameInput, SameOutput};
+ghost use Rattle.command_answers.specs.Net.{net_tells};
+ghost use Rattle.command_line.specs.Words.{AsksForNoLink, NamesNoFile};
+ghost use Rattle.os_app.specs.Ends.{AnswerEnds, from_memory};
 ghost use Rattle.os_app.specs.Grounds.{AnswersAreOne};
-ghost use Rattle.os_app.specs.Ends.{IsTold};
 ghost use Rattle.os_app.specs.Runs.{Runs};
-ghost use Rattle.command_line.specs.Words.{NamesNoFile};
+ghost use Rattle.os_app.specs.Statuses.{serve_status};
 ghost use Rattle.os_app.specs.Statuses.{session_status};
 
-use crate::answer::Answer;
 use crate::checking::answer_about;
+use crate::generating::generate;
 use crate::solving::solve_files;
+use calling::{CallWords, make_call};
 use cert_checker::{accepted_is_not_refused, documents_have_one_answer, documents_have_one_kind};
-use command_line::{Asked, read, write_usage};
-use os_io::{Failed, FileFault, Files, Listener, Memory, Sink, Source, send_all};
+use command_answers::status::{
+    CUT_SHORT, DONE, MISUSED, NO_LINK, NO_MEMORY, READ_FAULT, WRITE_FAULT,
+};
+use command_answers::{Answer, send_answer};
+use command_line::{Asked, numbers_are_within_their_ends, read, write_usage};
+use os_io::{Failed, FileFault, Files, Listener, Memory, Sink, Source};
 use os_server::Served;
+use serving::{Ending, serve};
 use sessions::serve_session;
 use std::alloc::{AllocError, Global};
 use std::process::ExitCode;
-
-/// All was written.
-const DONE: u8 = 0;
-
-/// The words aren't a command, and the usage was written.
-const MISUSED: u8 = 2;
-
-/// A read failed.
-const READ_FAULT: u8 = 3;
-
-/// A write or a flush failed.
-const WRITE_FAULT: u8 = 4;
-
-/// There was no memory.
-const NO_MEMORY: u8 = 5;
-
-/// The input ended inside a request.
-const CUT_SHORT: u8 = 8;
+use std::sync::Wait;
+use std::thread::Threads;
 
 /// The status of a session.
 fn session_status(served: Served) -> u8
@@ -51,18 +43,37 @@ fn session_status(served: Served) -> u8
     }
 }
 
-/// Sends an answer about files, if there is one, and says how it went.
+/// The status of a server.
+fn serve_status(ending: Ending) -> u8
+    ensures { result ≡ serve_status ending }
+{
+    match ending {
+        Ending::Done => DONE,
+        Ending::LinkMemory | Ending::NoMemory => NO_MEMORY,
+        Ending::ListenFault | Ending::AcceptFault => NO_LINK,
+        Ending::AnnounceFault | Ending::ReportFault => WRITE_FAULT,
+    }
+}
+
+/// Sends an answer, if there is one, and says how it went.
 fn tell<O: Sink>(output: &mut O, answer: Result<Answer, FileFault>) -> u8
-    ensures told { IsTold answer result (O.tells output.old) (O.tells output.new) }
+    ensures told { AnswerEnds answer result (O.tells output.old) (O.tells output.new) }
     ensures input { SameInput (O.tells output.old) (O.tells output.new) }
 {
     match answer {
-        Ok(answer) => match send_all(output, answer.text.as_slice()) {
-            Ok(()) => answer.status,
-            Err(Failed) => WRITE_FAULT,
-        },
+        Ok(answer) => send_answer(output, &answer),
         Err(FileFault::Failed) => READ_FAULT,
         Err(FileFault::Memory) => NO_MEMORY,
+    }
+}
+
+/// An answer for which no file is read.
+fn from_memory(answer: Result<Answer, Memory>) -> Result<Answer, FileFault>
+    ensures { result ≡ from_memory answer }
+{
+    match answer {
+        Ok(answer) => Ok(answer),
+        Err(AllocError) => Err(FileFault::Memory),
     }
 }
 
@@ -87,15 +98,20 @@ fn documents_are_judged_once()
 }
 
 /// Does what the words ask for, and says how it went. The words begin with the program's name. `session` serves the
-/// requests that come on the input, over a table of jobs of its own, and writes the answers to the output. `check` reads two files, an instance's document and a
-/// result document, and writes `accepted` and what is accepted, or `refused` and why, in a line. `solve` reads an instance's
-/// file, and one of options where it is named, and writes the result document that answers them.
+/// requests that come on the input, over a table of jobs of its own, and writes the answers to the output. `check` reads two
+/// files, an instance's document and a result document, and writes `accepted` and what is accepted, or `refused` and why, in
+/// a line. `solve` reads an instance's file, and one of options where it is named, and writes the result document that
+/// answers them. `generate` solves and checks a generated instance, and writes a line about it. `call` makes one of the six
+/// calls over a link, and writes what answers it. `serve` serves links that come.
 ///
-/// The status is 0 where all was written and handed on, 1 where `refused` or the document of an error was, 2 where the words are no command and the
-/// usage was, 3 where a read of the input or of a file failed, 4 where a write failed, 5 where there was no memory, and 8
-/// where the input ended inside a request. Where there was no memory to read the words or to answer about files, nothing is
-/// taken and nothing written.
-pub fn run<F: Files, I: Source, O: Sink, N: Listener>(
+/// The status is 0 where all was written and handed on; 1 where what was written says no: `refused`, the document of an error,
+/// `unchecked`, a fault, another status of HTTP, or `false`; 2 where the words are no command and the usage was written; 3
+/// where a read of the input, of a file or of the link failed; 4 where a write of the output or of the link did; 5 where there
+/// was no memory; 6 where the listener failed; 7 where the bytes that came are no reply; and 8 where the input ended inside a
+/// request. Where there was no memory to read the words or to make the text that they ask for, nothing is taken and nothing
+/// written.
+pub fn run<F: Files, I: Source, O: Sink, N: Listener, R: Threads + Wait + Sync>(
+    rt: &R,
     alloc: Global,
     words: &[String],
     files: &mut F,
@@ -103,6 +119,8 @@ pub fn run<F: Files, I: Source, O: Sink, N: Listener>(
     output: &mut O,
     net: &mut N,
 ) -> u8
+where
+    N::Conn: Send + Drop,
     ensures runs { Runs result (record {
       words = map string_bytes words.now;
       held = F.held files.old;
@@ -112,12 +130,14 @@ pub fn run<F: Files, I: Source, O: Sink, N: Listener>(
       input_after = I.tells input.new;
       output = O.tells output.old;
       output_after = O.tells output.new;
+      net = net_tells N.coming N.given_back N.faults net.old;
+      net_after = net_tells N.coming N.given_back N.faults net.new;
     }) }
     ensures output_of_input { SameOutput (I.tells input.old) (I.tells input.new) }
     ensures input_of_output { SameInput (O.tells output.old) (O.tells output.new) }
     ensures held { F.held files.new ≡ F.held files.old }
     ensures unread { NamesNoFile (map string_bytes words.now) → files.new ≡ files.old }
-    ensures net { net.new ≡ net.old }
+    ensures unlinked { AsksForNoLink (map string_bytes words.now) → net.new ≡ net.old }
 {
     match read(alloc, words) {
         Ok(Some(Asked::Session)) => session_status(serve_session(alloc, input, output)),
@@ -127,6 +147,57 @@ pub fn run<F: Files, I: Source, O: Sink, N: Listener>(
         }
         Ok(Some(Asked::Solve { osil, options })) => {
             tell(output, solve_files(alloc, files, osil, options))
+        }
+        Ok(Some(Asked::Generate { variables })) => {
+            numbers_are_within_their_ends();
+            tell(output, from_memory(generate(alloc, variables)))
+        }
+        Ok(
+            Some(
+                Asked::Call {
+                    kind,
+                    host,
+                    port,
+                    osil,
+                    osol,
+                    ospl,
+                },
+            ),
+        ) => {
+            let words = CallWords {
+                kind,
+                host,
+                port,
+                osil,
+                osol,
+                ospl,
+            };
+            make_call(alloc, words, files, output, net)
+        }
+        Ok(
+            Some(
+                Asked::Serve {
+                    host,
+                    port,
+                    workers,
+                    servers,
+                    connections,
+                },
+            ),
+        ) => {
+            numbers_are_within_their_ends();
+            let ending = serve(
+                rt,
+                alloc,
+                net,
+                output,
+                host,
+                port,
+                workers,
+                servers,
+                connections,
+            );
+            serve_status(ending)
         }
         Ok(None) => match write_usage(output) {
             Ok(()) => MISUSED,

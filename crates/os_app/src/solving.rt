@@ -2,20 +2,14 @@
 ghost use Rattle.std.specs.Prelude.{◌≡◌, false, option_map, IfOk};
 ghost use Rattle.os_io.specs.Files.{CountsFiles};
 ghost use Rattle.solve_run.specs.Running.{IsRight};
-ghost use Rattle.os_app.specs.Solves.{IsDocumentAbout, ReadsOptions};
+ghost use Rattle.os_app.specs.Solves.{IsDocumentAbout};
 ghost use Rattle.os_app.specs.Statuses.{solve_status};
 
-use crate::answer::Answer;
-use crate::checking::MOST_BYTES;
-use os_io::{FileFault, Files, Memory, Never, Text};
+use command_answers::status::{DONE, NEGATIVE};
+use command_answers::{Answer, MOST_BYTES, read_named};
+use os_io::{FileFault, Files, Memory, Never};
 use solve_run::{Document, answer_job};
 use std::alloc::Global;
-
-/// The report says what was found.
-const FOUND: u8 = 0;
-
-/// The report is an error's.
-const ERROR: u8 = 1;
 
 /// The result document of a job that nobody stops, from the texts of its instance and of its options.
 pub(crate) fn solve(alloc: Global, osil: &[u8], osol: &[u8]) -> Result<Document, Memory>
@@ -29,23 +23,7 @@ pub(crate) fn solve(alloc: Global, osil: &[u8], osol: &[u8]) -> Result<Document,
 fn status_of(is_error: bool) -> u8
     ensures { result ≡ solve_status is_error }
 {
-    if is_error { ERROR } else { FOUND }
-}
-
-/// The first bytes of the file of options, if one is named.
-fn read_options<F: Files>(
-    alloc: Global,
-    files: &mut F,
-    name: Option<&str>,
-) -> Result<Text, FileFault>
-    ensures held { F.held files.new ≡ F.held files.old }
-    ensures counted { CountsFiles result (F.faults files.old) (F.faults files.new) }
-    ensures ok { IfOk result (ReadsOptions (option_map (λ n. F.held files.old n.now) name.entry)) }
-{
-    match name {
-        Some(name) => files.read_all(alloc, name, MOST_BYTES),
-        None => Ok(Text::new(alloc)),
-    }
+    if is_error { NEGATIVE } else { DONE }
 }
 
 /// The result document of the instance in the file of this name, with the options in another one, if it is named.
@@ -60,7 +38,7 @@ pub(crate) fn solve_files<F: Files>(
     ensures ok { IfOk result (λ a. IsDocumentAbout (F.held files.old osil.now) (option_map (λ n. F.held files.old n.now) options.entry) a.status a.text) }
 {
     let instance = files.read_all(alloc, osil, MOST_BYTES)?;
-    let options = read_options(alloc, files, options)?;
+    let options = read_named(alloc, files, options)?;
     match solve(alloc, instance.as_slice(), options.as_slice()) {
         Ok(document) => Ok(Answer {
             status: status_of(document.is_error),

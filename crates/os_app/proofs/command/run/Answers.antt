@@ -1,42 +1,106 @@
 use Rattle.std.proofs.lemmas.Result.{IfOk-weaker}
-use Rattle.std.proofs.Common.{◌∙◌, Some, ap, refl, inl, inr}
-use Rattle.command_line.proofs.Called.{asks_session, asks_check, asks_solve, asks_none}
-use Rattle.os_app.proofs.Running.{sent, broken, other_fails, other_helped}
-use Rattle.os_app.proofs.Deciding.{session_runs, other_runs, unheard_runs}
+use Rattle.std.proofs.Common.{◌∙◌, Some, ap, arith, refl}
+use Rattle.command_answers.proofs.Sending.{sent, broken}
+use Rattle.command_line.proofs.Called.{asks_it, asks_none}
+use Rattle.os_app.proofs.Running.{other_fails, other_helped}
+use Rattle.os_app.proofs.Deciding.{serve_runs}
+use Rattle.os_app.proofs.Deciding.{links_none, names_none, session_runs, unheard_runs}
+use Rattle.os_app.proofs.Called.{call_runs}
 use Rattle.os_app.proofs.Checked.{check_runs}
+use Rattle.os_app.proofs.Generated.{generate_runs}
 use Rattle.os_app.proofs.Solved.{about_named, solve_runs}
-use Rattle.os_app.proofs.Telling.{ends_of}
+use Rattle.os_app.proofs.Telling.{ends_of, made_ends, told_from}
 use Rattle.os_app.proofs.command.run.Goals as goal
 
 pub returns-in-Ok-Some-Session-clause-runs : goal.returns-in-Ok-Some-Session-clause-runs
 returns-in-Ok-Some-Session-clause-runs g c =
     session_runs _ c.serve_session.result c.session_status.result c.session_status.ensures (record {
-      session = asks_session _ _ (c.in-Ok-Some-Session.field-0-is ∙ ap Some c.in-Ok-Some-Session.field-0-0-is) c.in-Ok-Some-Session.ensures;
+      session = asks_it _ _ _ (c.in-Ok-Some-Session.field-0-is ∙ ap Some c.in-Ok-Some-Session.field-0-0-is) c.in-Ok-Some-Session.ensures;
       serves = c.serve_session.ensures.session;
     }) refl
 
 pub returns-in-Ok-Some-Check-clause-runs : goal.returns-in-Ok-Some-Check-clause-runs
 returns-in-Ok-Some-Check-clause-runs g c =
-    check_runs c.documents_are_judged_once.ensures _ _ _ _ (asks_check _ _ _ _ (c.in-Ok-Some-Check.field-0-is ∙ ap Some c.in-Ok-Some-Check.field-0-0-is) c.in-Ok-Some-Check.ensures)
-    (ends_of _ c.answer_about.result _ _ _ _ _ c.answer_about.ensures.ok c.answer_about.ensures.counted c.tell.ensures.told) refl
+    check_runs c.documents_are_judged_once.ensures _ _ _ _ (asks_it _ _ _ (c.in-Ok-Some-Check.field-0-is ∙ ap Some c.in-Ok-Some-Check.field-0-0-is) c.in-Ok-Some-Check.ensures)
+    (ends_of _ _ _ _ c.answer_about.result _ _ c.answer_about.ensures.ok c.answer_about.ensures.counted c.tell.ensures.told) refl
 
 pub returns-in-Ok-Some-Solve-clause-runs : goal.returns-in-Ok-Some-Solve-clause-runs
 returns-in-Ok-Some-Solve-clause-runs g c =
-    let solve = asks_solve _ _ _ _ (c.in-Ok-Some-Solve.field-0-is ∙ ap Some c.in-Ok-Some-Solve.field-0-0-is) c.in-Ok-Some-Solve.ensures in
+    let solve = asks_it _ _ _ (c.in-Ok-Some-Solve.field-0-is ∙ ap Some c.in-Ok-Some-Solve.field-0-0-is) c.in-Ok-Some-Solve.ensures in
     solve_runs _ _ _ _ solve
-    (ends_of _ c.solve_files.result _ _ _ _ _
+    (ends_of _ _ _ _ c.solve_files.result _ _
     (IfOk-weaker c.solve_files.result _ _ (λ a about. about_named (g.F.Files.held c.args.files.now) _ _ a.status a.text about) c.solve_files.ensures.ok)
     c.solve_files.ensures.counted c.tell-in-Ok-Some-Solve.ensures.told) refl
 
 pub returns-in-Ok-clause-runs : goal.returns-in-Ok-clause-runs
 returns-in-Ok-clause-runs g c =
     let other = asks_none _ _ c.in-Ok-None.field-0-is c.in-Ok-None.ensures in
-    other_runs _ 2 other (other_helped _ other refl (sent _ c.in-Ok.field-0 _ _ c.in-Ok.ensures)) (inl refl) refl
+    other_helped _ other refl refl (sent _ c.in-Ok.field-0 _ _ c.in-Ok.ensures)
 
 pub returns-in-Err-write_usage-clause-runs : goal.returns-in-Err-write_usage-clause-runs
 returns-in-Err-write_usage-clause-runs g c =
     let other = asks_none _ _ c.in-Ok-None.field-0-is c.in-Ok-None.ensures in
-    other_runs _ 4 other (other_fails _ other refl (broken _ c.in-Err-write_usage.field-0 _ _ c.in-Err-write_usage.ensures)) (inr refl) refl
+    other_fails _ other refl refl (broken _ c.in-Err-write_usage.field-0 _ _ c.in-Err-write_usage.ensures)
 
 pub returns-in-Err-clause-runs : goal.returns-in-Err-clause-runs
 returns-in-Err-clause-runs g c = unheard_runs _ (record { untaken = refl; unwritten = refl; all_files_read = refl })
+
+pub returns-in-Ok-Some-Generate-clause-runs : goal.returns-in-Ok-Some-Generate-clause-runs
+returns-in-Ok-Some-Generate-clause-runs g c =
+    let asked = asks_it _ _ _ (c.in-Ok-Some-Generate.field-0-is ∙ ap Some c.in-Ok-Some-Generate.field-0-0-is) c.in-Ok-Some-Generate.ensures in
+    generate_runs _ _ _ asked
+    (made_ends _ _ _ _ c.generate.result _ c.generate.ensures (told_from _ _ _ _ _ c.from_memory.ensures c.tell-in-Ok-Some-Generate.ensures.told)) refl
+
+pub returns-in-Ok-Some-Call-clause-runs : goal.returns-in-Ok-Some-Call-clause-runs
+returns-in-Ok-Some-Call-clause-runs g c =
+    call_runs _ _ (record {
+      kind = _;
+      host = _;
+      port = _;
+      osil = _;
+      osol = _;
+      ospl = _;
+      asked = asks_it _ _ _ (c.in-Ok-Some-Call.field-0-is ∙ ap Some c.in-Ok-Some-Call.field-0-0-is) c.in-Ok-Some-Call.ensures;
+      ends = c.make_call.ensures.ends;
+      untaken = refl;
+    })
+
+pub returns-in-Ok-Some-Serve-clause-runs : goal.returns-in-Ok-Some-Serve-clause-runs
+returns-in-Ok-Some-Serve-clause-runs g c =
+    serve_runs _ c.serve-ending.result c.serve_status.result c.serve_status.ensures (record {
+      host = _;
+      port = _;
+      workers = _;
+      servers = _;
+      connections = _;
+      asked = asks_it _ _ _ (c.in-Ok-Some-Serve.field-0-is ∙ ap Some c.in-Ok-Some-Serve.field-0-0-is) c.in-Ok-Some-Serve.ensures;
+      serves = c.serve-ending.ensures.served;
+      untaken = refl;
+      all_files_read = refl;
+    })
+
+pub returns-in-Ok-Some-Check-clause-unread : goal.returns-in-Ok-Some-Check-clause-unread
+returns-in-Ok-Some-Check-clause-unread g c = λ none. absurd (names_none _ _ (asks_it _ _ _ (c.in-Ok-Some-Check.field-0-is ∙ ap Some c.in-Ok-Some-Check.field-0-0-is) c.in-Ok-Some-Check.ensures) refl none)
+
+pub returns-in-Ok-Some-Solve-clause-unread : goal.returns-in-Ok-Some-Solve-clause-unread
+returns-in-Ok-Some-Solve-clause-unread g c = λ none. absurd (names_none _ _ (asks_it _ _ _ (c.in-Ok-Some-Solve.field-0-is ∙ ap Some c.in-Ok-Some-Solve.field-0-0-is) c.in-Ok-Some-Solve.ensures) refl none)
+
+pub returns-in-Ok-Some-Call-clause-unread : goal.returns-in-Ok-Some-Call-clause-unread
+returns-in-Ok-Some-Call-clause-unread g c = λ none. absurd (names_none _ _ (asks_it _ _ _ (c.in-Ok-Some-Call.field-0-is ∙ ap Some c.in-Ok-Some-Call.field-0-0-is) c.in-Ok-Some-Call.ensures) refl none)
+
+pub returns-in-Ok-Some-Call-clause-unlinked : goal.returns-in-Ok-Some-Call-clause-unlinked
+returns-in-Ok-Some-Call-clause-unlinked g c = λ none. absurd (links_none _ _ (asks_it _ _ _ (c.in-Ok-Some-Call.field-0-is ∙ ap Some c.in-Ok-Some-Call.field-0-0-is) c.in-Ok-Some-Call.ensures) refl none)
+
+pub returns-in-Ok-Some-Serve-clause-unlinked : goal.returns-in-Ok-Some-Serve-clause-unlinked
+returns-in-Ok-Some-Serve-clause-unlinked g c = λ none. absurd (links_none _ _ (asks_it _ _ _ (c.in-Ok-Some-Serve.field-0-is ∙ ap Some c.in-Ok-Some-Serve.field-0-0-is) c.in-Ok-Some-Serve.ensures) refl none)
+
+pub generate-requires-clause-least : goal.generate-requires-clause-least
+generate-requires-clause-least g c = (c.numbers_are_within_their_ends.ensures _ _ (asks_it _ _ _ (c.in-Ok-Some-Generate.field-0-is ∙ ap Some c.in-Ok-Some-Generate.field-0-0-is) c.in-Ok-Some-Generate.ensures)).0
+
+pub generate-requires-clause-most : goal.generate-requires-clause-most
+generate-requires-clause-most g c = (c.numbers_are_within_their_ends.ensures _ _ (asks_it _ _ _ (c.in-Ok-Some-Generate.field-0-is ∙ ap Some c.in-Ok-Some-Generate.field-0-0-is) c.in-Ok-Some-Generate.ensures)).1
+
+pub serve-ending-requires-after_bounds : goal.serve-ending-requires-after_bounds
+serve-ending-requires-after_bounds g c =
+    let within = c.numbers_are_within_their_ends-in-Ok-Some-Serve.ensures _ _ (asks_it _ _ _ (c.in-Ok-Some-Serve.field-0-is ∙ ap Some c.in-Ok-Some-Serve.field-0-0-is) c.in-Ok-Some-Serve.ensures) in
+    omega (arith, within.2.0)
