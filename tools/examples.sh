@@ -3,7 +3,9 @@
 cd "$(dirname "$0")/.." || exit 1
 status=0
 for file in examples/*.os?l; do
-    cmp "$file" "crates/try_claims/data/${file#examples/}" || status=1
+    for cases in try_claims try_solves; do
+        cmp "$file" "crates/$cases/data/${file#examples/}" || status=1
+    done
 done
 cmp examples/minimum.http crates/try_runs/data/minimum.http || status=1
 cmp examples/minimum.http crates/os_main/stdin || status=1

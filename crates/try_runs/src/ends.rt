@@ -1,10 +1,13 @@
-//! The ends of a run: files, an input and an output in memory, one call of which may fail.
+//! The ends of a run: files, an input, an output and links in memory, one call of which may fail.
 
-use os_io::{FileFault, Files, MemFiles, MemSink, MemSource, Memory, Text};
+use os_io::{FileFault, Files, MemFiles, MemLink, MemListener, MemSink, MemSource, Memory, Text};
 use std::alloc::{AllocError, Global};
 
 /// The most bytes of a file.
 const MOST: u64 = 4_194_305;
+
+/// Room for all that a run writes on its output, or on a link.
+pub(crate) const ROOM: usize = 9_000;
 
 /// The files that a run finds.
 const NAMES: [&str; 6] = [
@@ -22,6 +25,8 @@ pub(crate) struct Fails {
     pub file: u64,
     pub read: u64,
     pub write: u64,
+    pub net: u64,
+    pub link: u64,
 }
 
 /// The bytes of a file, or none where it can't be read.
@@ -60,4 +65,20 @@ pub(crate) fn input_of(
 /// An output with room for so many bytes.
 pub(crate) fn output_of(alloc: Global, room: usize, fails: Fails) -> Result<MemSink, Memory> {
     MemSink::new(alloc, room, &[fails.write])
+}
+
+/// A listener to which links come that give the bytes between `|`, in pieces of so many at most; none where there are no bytes.
+pub(crate) fn net_of(
+    alloc: Global,
+    links: &[u8],
+    piece: usize,
+    fails: Fails,
+) -> Result<MemListener, Memory> {
+    let mut net = MemListener::new(alloc, &[fails.net])?;
+    if !links.is_empty() {
+        for bytes in links.split(|b| *b == b'|') {
+            net.add(MemLink::new(alloc, bytes, piece, ROOM, &[fails.link])?)?;
+        }
+    }
+    Ok(net)
 }

@@ -1,19 +1,19 @@
 //! What a case gives, and how it is answered.
 
-use crate::ends::{Fails, bytes_of, files_of, input_of, output_of};
-use cases::Answers;
+use crate::ends::{Fails, ROOM, bytes_of, files_of, input_of, net_of, output_of};
 use os_app::run;
 use os_io::{Files, MemListener, Memory, Text};
 use std::alloc::Global;
-
-/// Room for all that a run writes.
-const ROOM: usize = 9_000;
+use std::sync::Wait;
+use std::thread::Threads;
 
 /// No call fails.
 const NONE: Fails = Fails {
     file: 0,
     read: 0,
     write: 0,
+    net: 0,
+    link: 0,
 };
 
 /// The words of a run, with `|` between; none where there are no bytes.
@@ -43,7 +43,7 @@ fn behind<'f>(field: &'f [u8], word: &[u8]) -> Option<&'f [u8]> {
     field.strip_prefix(word)
 }
 
-/// The call that fails: `file N`, `read N`, `write N`, or none.
+/// The call that fails: `file N`, `read N`, `write N`, `net N`, `link N`, or none.
 fn fails_of(field: &[u8]) -> Fails {
     let mut fails = NONE;
     if let Some(number) = behind(field, b"file ") {
@@ -52,6 +52,10 @@ fn fails_of(field: &[u8]) -> Fails {
         fails.read = number_of(number);
     } else if let Some(number) = behind(field, b"write ") {
         fails.write = number_of(number);
+    } else if let Some(number) = behind(field, b"net ") {
+        fails.net = number_of(number);
+    } else if let Some(number) = behind(field, b"link ") {
+        fails.link = number_of(number);
     }
     fails
 }
@@ -79,76 +83,78 @@ fn input_bytes<F: Files>(alloc: Global, disk: &mut F, field: &[u8]) -> Result<Te
     Ok(bytes)
 }
 
-/// One run: its status, a space, and what it wrote.
-fn ran<F: Files>(
-    alloc: Global,
-    disk: &mut F,
-    words: &[u8],
-    input: &[u8],
-    piece: usize,
-    fails: Fails,
-    room: usize,
-) -> Result<Text, Memory> {
-    let words = words_of(alloc, words)?;
-    let mut files = files_of(alloc, disk, fails)?;
-    let mut input = input_of(alloc, input, piece, fails)?;
-    let mut output = output_of(alloc, room, fails)?;
-    let mut net = MemListener::new(alloc, &[])?;
-    let status = run(
-        alloc,
-        words.as_slice(),
-        &mut files,
-        &mut input,
-        &mut output,
-        &mut net,
-    );
-    let mut text = Text::new(alloc);
-    text.push(b'0'.saturating_add(status))?;
-    text.push(b' ')?;
-    text.extend(output.as_slice())?;
-    Ok(text)
-}
-
-/// Given words, an input, and what fails or how much room there is. Where nothing fails, the input comes byte by byte too.
+/// What runs go over, each with files of its own: the system's threads, and the disk.
 #[derive(Drop)]
-pub(crate) struct Runs<F> {
+pub(crate) struct World<'r, R, F> {
+    rt: &'r R,
     disk: F,
 }
 
-impl<F> Runs<F> {
-    pub(crate) fn new(disk: F) -> Self {
-        Runs { disk }
+impl<'r, R: Threads + Wait + Sync, F: Files> World<'r, R, F> {
+    pub(crate) fn new(rt: &'r R, disk: F) -> Self {
+        World { rt, disk }
+    }
+
+    /// One run: its status, a space, and what it wrote.
+    fn ran(
+        &mut self,
+        alloc: Global,
+        words: &[u8],
+        input: &[u8],
+        piece: usize,
+        fails: Fails,
+        room: usize,
+        net: &mut MemListener,
+    ) -> Result<Text, Memory> {
+        let words = words_of(alloc, words)?;
+        let mut files = files_of(alloc, &mut self.disk, fails)?;
+        let mut input = input_of(alloc, input, piece, fails)?;
+        let mut output = output_of(alloc, room, fails)?;
+        let status = run(
+            self.rt,
+            alloc,
+            words.as_slice(),
+            &mut files,
+            &mut input,
+            &mut output,
+            net,
+        );
+        let mut text = Text::new(alloc);
+        text.push(b'0'.saturating_add(status))?;
+        text.push(b' ')?;
+        text.extend(output.as_slice())?;
+        Ok(text)
+    }
+
+    /// One run to which no link comes.
+    fn ran_alone(
+        &mut self,
+        alloc: Global,
+        words: &[u8],
+        input: &[u8],
+        piece: usize,
+        fails: Fails,
+        room: usize,
+    ) -> Result<Text, Memory> {
+        let mut net = net_of(alloc, b"", piece, fails)?;
+        self.ran(alloc, words, input, piece, fails, room, &mut net)
     }
 }
 
-impl<F: Files + Drop> Answers for Runs<F> {
-    fn answer(&mut self, alloc: Global, given: &[Vec<u8>]) -> Result<Text, Memory> {
+impl<'r, R: Threads + Wait + Sync, F: Files> World<'r, R, F> {
+    /// Given words, an input, and what fails or how much room there is. Where nothing fails, the input comes byte by byte too.
+    fn run_whole(&mut self, alloc: Global, given: &[Vec<u8>]) -> Result<Text, Memory> {
         let [words, input, failing] = given else {
             return Text::from_slice(alloc, b"three fields");
         };
         let words = words.as_slice();
         let bytes = input_bytes(alloc, &mut self.disk, input.as_slice())?;
+        let bytes = bytes.as_slice();
         let fails = fails_of(failing.as_slice());
         let room = room_of(failing.as_slice());
-        let whole = ran(
-            alloc,
-            &mut self.disk,
-            words,
-            bytes.as_slice(),
-            400,
-            fails,
-            room,
-        )?;
+        let whole = self.ran_alone(alloc, words, bytes, 400, fails, room)?;
         if failing.is_empty() {
-            let single = ran(
-                alloc,
-                &mut self.disk,
-                words,
-                bytes.as_slice(),
-                1,
-                fails,
-                room,
-            )?;
+            let single = self.ran_alone(alloc, words, bytes, 1, fails, room)?;
             if single.as_slice() != whole.as_slice() {
                 return Text::from_slice(alloc, b"another answer byte by byte");
             }
@@ -157,50 +163,20 @@ impl<F: Files + Drop> Answers for Runs<F> {
     }
 }
 
-/// Given words alone: the status.
-#[derive(Drop)]
-pub(crate) struct Words<F> {
-    disk: F,
-}
-
-impl<F> Words<F> {
-    pub(crate) fn new(disk: F) -> Self {
-        Words { disk }
-    }
-}
-
-impl<F: Files + Drop> Answers for Words<F> {
-    fn answer(&mut self, alloc: Global, given: &[Vec<u8>]) -> Result<Text, Memory> {
+impl<'r, R: Threads + Wait + Sync, F: Files> World<'r, R, F> {
+    /// Given words alone: the status, and what is written.
+    fn run_words(&mut self, alloc: Global, given: &[Vec<u8>]) -> Result<Text, Memory> {
         match given {
-            [words] => ran(
-                alloc,
-                &mut self.disk,
-                words.as_slice(),
-                b"",
-                400,
-                NONE,
-                ROOM,
-            ),
+            [words] => self.ran_alone(alloc, words.as_slice(), b"", 400, NONE, ROOM),
             _ => Text::from_slice(alloc, b"one field"),
         }
     }
 }
 
-/// Given words and an input, each byte of which is one read: what all runs answer of which one read fails, one run for each
-/// read.
-#[derive(Drop)]
-pub(crate) struct EveryRead<F> {
-    disk: F,
-}
-
-impl<F> EveryRead<F> {
-    pub(crate) fn new(disk: F) -> Self {
-        EveryRead { disk }
-    }
-}
-
-impl<F: Files + Drop> Answers for EveryRead<F> {
-    fn answer(&mut self, alloc: Global, given: &[Vec<u8>]) -> Result<Text, Memory> {
+impl<'r, R: Threads + Wait + Sync, F: Files> World<'r, R, F> {
+    /// Given words and an input, each byte of which is one read: what all runs answer of which one read fails, one run for each
+    /// read.
+    fn run_every_read(&mut self, alloc: Global, given: &[Vec<u8>]) -> Result<Text, Memory> {
         let [words, input] = given else {
             return Text::from_slice(alloc, b"two fields");
         };
@@ -210,15 +186,7 @@ impl<F: Files + Drop> Answers for EveryRead<F> {
             let mut fails = NONE;
             fails.read = (at as u64).saturating_add(1);
             let words = words.as_slice();
-            let one = ran(
-                alloc,
-                &mut self.disk,
-                words,
-                bytes.as_slice(),
-                1,
-                fails,
-                ROOM,
-            )?;
+            let one = self.ran_alone(alloc, words, bytes.as_slice(), 1, fails, ROOM)?;
             if at == 0 {
                 answer = one;
             } else if one.as_slice() != answer.as_slice() {
@@ -226,5 +194,87 @@ impl<F: Files + Drop> Answers for EveryRead<F> {
             }
         }
         Ok(answer)
+    }
+}
+
+/// Whether a text stands in bytes; `.` stands in all.
+fn has(bytes: &[u8], text: &[u8]) -> bool {
+    if text == b".".as_slice() {
+        return true;
+    }
+    let mut rest = bytes;
+    for _ in 0..bytes.len() {
+        if rest.starts_with(text) {
+            return true;
+        }
+        rest = rest.get(1..).unwrap_or(b"");
+    }
+    rest.starts_with(text)
+}
+
+/// Whether the links that were given back, and no others, have these texts, in their order.
+fn are_back(alloc: Global, net: &mut MemListener, texts: &[u8]) -> Result<bool, Memory> {
+    let mut wanted: Vec<&[u8]> = Vec::new(alloc);
+    if !texts.is_empty() {
+        for text in texts.split(|b| *b == b'|') {
+            wanted.push(text)?;
+        }
+    }
+    for text in wanted.as_slice().iter().rev() {
+        match net.take_back() {
+            Some(link) if has(link.handed_on(), text) => {}
+            _ => return Ok(false),
+        }
+    }
+    Ok(net.take_back().is_none())
+}
+
+impl<'r, R: Threads + Wait + Sync, F: Files> World<'r, R, F> {
+    /// Given words, the bytes of the links that come, with `|` between, what fails, and for each link that is to be given back a text,
+    /// with `|` between, that is to stand in what was written on it: the run's answer, if just these are given back.
+    fn run_linked(&mut self, alloc: Global, given: &[Vec<u8>]) -> Result<Text, Memory> {
+        let [words, links, failing, texts] = given else {
+            return Text::from_slice(alloc, b"four fields");
+        };
+        let fails = fails_of(failing.as_slice());
+        let room = room_of(failing.as_slice());
+        let mut net = net_of(alloc, links.as_slice(), 400, fails)?;
+        let answer = self.ran(alloc, words.as_slice(), b"", 400, fails, room, &mut net)?;
+        if are_back(alloc, &mut net, texts.as_slice())? {
+            Ok(answer)
+        } else {
+            Text::from_slice(alloc, b"other links are given back")
+        }
+    }
+}
+
+/// What a table gives in each case.
+#[derive(Clone, Copy)]
+pub(crate) enum Kind {
+    Runs,
+    Words,
+    EveryRead,
+    Linked,
+}
+
+impl<'r, R: Threads + Wait + Sync, F: Files> World<'r, R, F> {
+    /// The answers of cases of a kind.
+    pub(crate) fn answers(
+        &mut self,
+        alloc: Global,
+        kind: Kind,
+        rows: &[Vec<Vec<u8>>],
+    ) -> Result<Vec<Text>, Memory> {
+        let mut answers = Vec::new(alloc);
+        for row in rows {
+            let given = row.as_slice();
+            answers.push(match kind {
+                Kind::Runs => self.run_whole(alloc, given)?,
+                Kind::Words => self.run_words(alloc, given)?,
+                Kind::EveryRead => self.run_every_read(alloc, given)?,
+                Kind::Linked => self.run_linked(alloc, given)?,
+            })?;
+        }
+        Ok(answers)
     }
 }

@@ -1,0 +1,80 @@
+//! The examples, solved, beside the results that stand with them.
+
+use crate::jobs::{put_status, solve};
+use certificate::Claim;
+use os_io::{FileFault, Files, Memory, Text};
+use osrl_grammar::decode;
+use std::alloc::{AllocError, Global};
+use std::sync::Wait;
+use std::thread::Threads;
+
+/// The most bytes of a file.
+const MOST: u64 = 4_194_304;
+
+/// Given an example's name: the status of `solve`, that of `check` with its line, and whether what is claimed is what the stored
+/// result claims.
+#[derive(Drop)]
+pub(crate) struct Examples<'r, R, F> {
+    rt: &'r R,
+    disk: F,
+}
+
+impl<'r, R: Threads + Wait + Sync, F: Files> Examples<'r, R, F> {
+    pub(crate) fn new(rt: &'r R, disk: F) -> Self {
+        Examples { rt, disk }
+    }
+
+    /// The bytes of an example's file, or none where it can't be read.
+    fn bytes_of(&mut self, alloc: Global, name: &[u8], end: &str) -> Result<Text, Memory> {
+        let mut file = String::new(alloc);
+        file.push_str(str::from_utf8(name).unwrap_or(""))?;
+        file.push_str(end)?;
+        match self.disk.read_all(alloc, file.as_str(), MOST) {
+            Ok(text) => Ok(text),
+            Err(FileFault::Failed) => Ok(Text::new(alloc)),
+            Err(FileFault::Memory) => Err(AllocError),
+        }
+    }
+}
+
+/// Whether two claims say the same, however they show it.
+fn agree(claim: &Claim, stored: &Claim) -> bool {
+    match (claim, stored) {
+        (Claim::Optimal { value, .. }, Claim::Optimal { value: best, .. }) => value == best,
+        (Claim::BestSoFar { value, .. }, Claim::BestSoFar { value: best, .. }) => value == best,
+        (Claim::Infeasible { .. }, Claim::Infeasible { .. }) => true,
+        (Claim::Unbounded { .. }, Claim::Unbounded { .. }) => true,
+        _ => false,
+    }
+}
+
+/// Whether two result documents claim the same.
+fn claim_the_same(alloc: Global, osrl: &[u8], stored: &[u8]) -> bool {
+    match (decode(alloc, osrl), decode(alloc, stored)) {
+        (Ok(report), Ok(other)) => match (&report.claim, &other.claim) {
+            (Some(claim), Some(stored)) => agree(claim, stored),
+            _ => false,
+        },
+        _ => false,
+    }
+}
+
+impl<'r, R: Threads + Wait + Sync, F: Files> Examples<'r, R, F> {
+    /// The answer of one case.
+    pub(crate) fn answer(&mut self, alloc: Global, given: &[Vec<u8>]) -> Result<Text, Memory> {
+        let [name] = given else {
+            return Text::from_slice(alloc, b"one field");
+        };
+        let osil = self.bytes_of(alloc, name.as_slice(), ".osil")?;
+        let osrl = self.bytes_of(alloc, name.as_slice(), ".osrl")?;
+        let solved = solve(self.rt, alloc, osil.as_slice(), b"")?;
+        let mut text = Text::new(alloc);
+        put_status(&mut text, solved.status)?;
+        put_status(&mut text, solved.verdict)?;
+        text.extend(solved.line.as_slice())?;
+        if claim_the_same(alloc, solved.document.as_slice(), osrl.as_slice()) {
+            text.extend(b"as stored")?;
+        }
+        Ok(text)
+    }
+}

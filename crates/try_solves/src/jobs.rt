@@ -1,0 +1,103 @@
+//! Jobs, solved and checked by the program.
+
+use os_app::run;
+use os_io::{MemFiles, MemListener, MemSink, MemSource, Memory, Text};
+use std::alloc::Global;
+use std::sync::Wait;
+use std::thread::Threads;
+
+/// Room for each whole answer.
+const ROOM: usize = 20_000;
+
+/// What is written of a job, and said of it.
+#[derive(Drop)]
+pub(crate) struct Solved {
+    pub status: u8,
+    pub document: Text,
+    pub verdict: u8,
+    pub line: Text,
+}
+
+/// The words of a call.
+fn words_of(alloc: Global, words: &[&str]) -> Result<Vec<String>, Memory> {
+    let mut list = Vec::new(alloc);
+    for word in words {
+        list.push(word.to_string(alloc)?)?;
+    }
+    Ok(list)
+}
+
+/// A run of these words over these files: its status, and what it wrote.
+fn ran<R: Threads + Wait + Sync>(
+    rt: &R,
+    alloc: Global,
+    words: &[&str],
+    files: &mut MemFiles,
+) -> Result<(u8, Text), Memory> {
+    let words = words_of(alloc, words)?;
+    let mut input = MemSource::new(alloc, b"", 1, &[])?;
+    let mut output = MemSink::new(alloc, ROOM, &[])?;
+    let mut net = MemListener::new(alloc, &[])?;
+    let status = run(
+        rt,
+        alloc,
+        words.as_slice(),
+        files,
+        &mut input,
+        &mut output,
+        &mut net,
+    );
+    Ok((status, Text::from_slice(alloc, output.as_slice())?))
+}
+
+/// A digit.
+pub(crate) fn put_status(text: &mut Text, status: u8) -> Result<(), Memory> {
+    text.push(b'0'.saturating_add(status))?;
+    text.push(b' ')
+}
+
+/// Solves a job, and checks what is written of it.
+pub(crate) fn solve<R: Threads + Wait + Sync>(
+    rt: &R,
+    alloc: Global,
+    osil: &[u8],
+    osol: &[u8],
+) -> Result<Solved, Memory> {
+    let mut files = MemFiles::new(alloc, &[])?;
+    files.put(alloc, "a.osil", osil)?;
+    files.put(alloc, "a.osol", osol)?;
+    let (status, document) = if osol.is_empty() {
+        ran(rt, alloc, &["os_app", "solve", "a.osil"], &mut files)?
+    } else {
+        let words = ["os_app", "solve", "a.osil", "--options", "a.osol"];
+        ran(rt, alloc, &words, &mut files)?
+    };
+    files.put(alloc, "a.osrl", document.as_slice())?;
+    let words = ["os_app", "check", "a.osil", "a.osrl"];
+    let (verdict, line) = ran(rt, alloc, &words, &mut files)?;
+    Ok(Solved {
+        status,
+        document,
+        verdict,
+        line,
+    })
+}
+
+/// Given the texts of an instance and of options, of which an empty one isn't named: the status of `solve`, that of `check` with
+/// its line, and the document.
+pub(crate) fn answer_job<R: Threads + Wait + Sync>(
+    rt: &R,
+    alloc: Global,
+    given: &[Vec<u8>],
+) -> Result<Text, Memory> {
+    let [osil, osol] = given else {
+        return Text::from_slice(alloc, b"two fields");
+    };
+    let solved = solve(rt, alloc, osil.as_slice(), osol.as_slice())?;
+    let mut text = Text::new(alloc);
+    put_status(&mut text, solved.status)?;
+    put_status(&mut text, solved.verdict)?;
+    text.extend(solved.line.as_slice())?;
+    text.extend(solved.document.as_slice())?;
+    Ok(text)
+}
