@@ -1,18 +1,24 @@
-//! Tables of HTTP requests: what comes on a source, and how it is served.
+//! Tables of HTTP requests and responses: what comes on a source, and how an answer is written.
 //!
 //! The tables' answers come from the rules (RFC 9112, and the order of the checks in `docs/rules/http.md`). The output
 //! is a line for each answer that is another, and how many cases there are.
 #![tactic(auto)]
 
 mod came;
-mod served;
 
 use came::{told_in_pieces, told_of_response};
 use cases::{Answers, try_file};
 use os_io::{DiskFiles, Memory, Text};
-use served::{Link, number_of, told_of_link};
 use std::alloc::Global;
 use std::io;
+
+/// The number of these digits, or 0.
+fn number_of(digits: &[u8]) -> u64 {
+    match str::from_utf8(digits) {
+        Ok(text) => text.parse::<u64>().unwrap_or(0),
+        Err(_) => 0,
+    }
+}
 
 /// Given the bytes of a source, in any pieces.
 #[derive(Drop)]
@@ -62,47 +68,6 @@ impl Answers for Responses {
     }
 }
 
-/// Given how many requests are served, one after the other, and the bytes of the source, whole and byte by byte.
-#[derive(Drop)]
-struct Sessions;
-
-impl Answers for Sessions {
-    fn answer(&mut self, alloc: Global, given: &[Vec<u8>]) -> Result<Text, Memory> {
-        match given {
-            [times, bytes] => {
-                let times = number_of(times.as_slice());
-                let bytes = bytes.as_slice();
-                let whole = told_of_link(alloc, times, bytes, &Link::whole(bytes.len()))?;
-                let slow = told_of_link(alloc, times, bytes, &Link::whole(1))?;
-                if slow.as_slice() != whole.as_slice() {
-                    return Ok(slow);
-                }
-                Ok(whole)
-            }
-            _ => Text::from_slice(alloc, b"two fields"),
-        }
-    }
-}
-
-/// Given which read fails, which write fails, how many bytes can be written, and the bytes of the source.
-#[derive(Drop)]
-struct Faults;
-
-impl Answers for Faults {
-    fn answer(&mut self, alloc: Global, given: &[Vec<u8>]) -> Result<Text, Memory> {
-        match given {
-            [read, write, room, bytes] => {
-                let read = number_of(read.as_slice());
-                let write = number_of(write.as_slice());
-                let room = number_of(room.as_slice());
-                let link = Link::faulty(read, write, room);
-                told_of_link(alloc, 1, bytes.as_slice(), &link)
-            }
-            _ => Text::from_slice(alloc, b"four fields"),
-        }
-    }
-}
-
 fn main(rt: HostRuntime) -> io::Result<()> {
     let alloc = rt.alloc();
     let mut files = DiskFiles::new(&rt);
@@ -122,16 +87,8 @@ fn main(rt: HostRuntime) -> io::Result<()> {
         &mut Responses,
         &mut output,
     )?;
-    let sessions = try_file(
-        alloc,
-        "sessions.txt",
-        &mut files,
-        &mut Sessions,
-        &mut output,
-    )?;
-    let faults = try_file(alloc, "faults.txt", &mut files, &mut Faults, &mut output)?;
     let mut count: u64 = 0;
-    for n in [requests, heads, responses, sessions, faults] {
+    for n in [requests, heads, responses] {
         count = count.saturating_add(n);
     }
     println!(rt; "{count} cases")

@@ -1,2 +1,0 @@
-pub mod ServesLemmas
-pub mod ExactLemmas

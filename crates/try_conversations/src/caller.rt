@@ -1,0 +1,105 @@
+//! One who makes calls of a table of jobs, beside whom another connection may be served.
+ghost use Rattle.std.specs.Prelude.{◌≡◌, true};
+ghost use Rattle.job_table.specs.Jobs.{empty};
+ghost use Rattle.job_table.specs.Steps.{wants_memory};
+
+use job_table::{Call, Calls, Reply, Table};
+use os_io::{MemSink, MemSource, Memory};
+use os_server::{Served, serve_ends};
+use sessions::{SolvedJobs, Solver};
+use std::alloc::{AllocError, Global};
+
+/// Room for the answers to the other connection.
+const ROOM: usize = 20_000;
+
+/// Another connection on the same table.
+#[derive(Drop)]
+pub(crate) struct Other {
+    /// The call before which it is served.
+    call: u64,
+    pub input: MemSource,
+    pub output: MemSink,
+    /// How it ended, if it was served.
+    pub end: Option<Served>,
+}
+
+/// One who makes calls of a table.
+#[derive(Drop)]
+pub(crate) struct Caller {
+    alloc: Global,
+    table: Table<SolvedJobs>,
+    /// How many calls were made.
+    made: u64,
+    /// The call that finds no memory, if it is one that may.
+    lacks: u64,
+    pub other: Option<Other>,
+}
+
+/// Whether a call may want memory, whatever the table holds.
+fn may_want(call: &Call) -> bool
+    ensures { result ≡ true → wants_memory call.now empty ≡ true }
+{
+    match call {
+        Call::Issue => true,
+        Call::Knock => true,
+        Call::Enter { .. } => true,
+        _ => false,
+    }
+}
+
+impl Caller {
+    pub(crate) fn new(alloc: Global, lacks: u64) -> Caller {
+        Caller {
+            alloc,
+            table: Table::new(alloc),
+            made: 0,
+            lacks,
+            other: None,
+        }
+    }
+
+    /// Another connection with these bytes is to be served before that call.
+    pub(crate) fn meet(&mut self, alloc: Global, call: u64, bytes: &[u8]) -> Result<(), Memory> {
+        let input = MemSource::new(alloc, bytes, bytes.len(), &[])?;
+        let output = MemSink::new(alloc, ROOM, &[])?;
+        self.other = Some(Other {
+            call,
+            input,
+            output,
+            end: None,
+        });
+        Ok(())
+    }
+
+    /// Serves the other connection, if it comes before this call; 0 is none.
+    pub(crate) fn serve_other(&mut self, call: u64) {
+        if let Some(other) = &mut self.other {
+            if other.call == call {
+                let (input, output) = (&mut other.input, &mut other.output);
+                let end = serve_ends(self.alloc, input, output, &mut self.table, &Solver);
+                other.end = Some(end);
+            }
+        }
+    }
+}
+
+impl Calls<SolvedJobs> for Caller {
+    /// Nothing is said of the calls, since others fall between them.
+    ghost did = { λ _ _ _. Unit {0} };
+
+    ghost left = { λ _ _. Unit {0} };
+
+    fn call(&mut self, call: Call) -> Result<Reply, Memory> {
+        self.made = self.made.saturating_add(1);
+        let made = self.made;
+        self.serve_other(made);
+        if made == self.lacks && may_want(&call) {
+            return Err(AllocError);
+        }
+        self.table.step(call)
+    }
+
+    ghost stays = { λ _. tt };
+
+    ghost joins = { λ _ _ _ _ _ _ _. tt };
+}

@@ -1,0 +1,96 @@
+//! Tables of conversations: what is answered on a connection, and which calls of the table of jobs fall beside it.
+//!
+//! The tables' answers come from the rules (`docs/rules/conversations.md`, `jobs.md` and `http.md`). The output is a line for
+//! each answer that is another, and how many cases there are.
+#![tactic(auto)]
+
+mod caller;
+mod conditions;
+mod served;
+
+use caller::Caller;
+use cases::{Answers, try_file};
+use conditions::{Conditions, number_of};
+use os_io::{DiskFiles, Memory, Text};
+use served::{told_of_conversation, told_of_other};
+use std::alloc::Global;
+use std::io;
+
+/// What begins so, has a part so often, and ends so.
+fn repeated(
+    alloc: Global,
+    front: &[u8],
+    part: &[u8],
+    times: u64,
+    back: &[u8],
+) -> Result<Text, Memory> {
+    let mut text = Text::from_slice(alloc, front)?;
+    for _ in 0..times {
+        text.extend(part)?;
+    }
+    text.extend(back)?;
+    Ok(text)
+}
+
+/// Given conditions, and the bytes that come, which may be what they begin with, a part, how often it comes, and their end.
+#[derive(Drop)]
+struct Conversations;
+
+impl Answers for Conversations {
+    fn answer(&mut self, alloc: Global, given: &[Vec<u8>]) -> Result<Text, Memory> {
+        match given {
+            [conditions, bytes] => {
+                let conditions = Conditions::read(conditions.as_slice());
+                told_of_conversation(alloc, conditions, bytes.as_slice())
+            }
+            [conditions, front, part, times, back] => {
+                let conditions = Conditions::read(conditions.as_slice());
+                let times = number_of(times.as_slice());
+                let (front, part, back) = (front.as_slice(), part.as_slice(), back.as_slice());
+                let bytes = repeated(alloc, front, part, times, back)?;
+                told_of_conversation(alloc, conditions, bytes.as_slice())
+            }
+            _ => Text::from_slice(alloc, b"two fields or five"),
+        }
+    }
+}
+
+/// Given conditions and the bytes of a connection, before which of its calls another connection is served, or 0 for behind its
+/// end, and the bytes of that one.
+#[derive(Drop)]
+struct Meetings;
+
+impl Answers for Meetings {
+    fn answer(&mut self, alloc: Global, given: &[Vec<u8>]) -> Result<Text, Memory> {
+        match given {
+            [conditions, bytes, call, others] => {
+                let conditions = Conditions::read(conditions.as_slice());
+                let call = number_of(call.as_slice());
+                let mut caller = Caller::new(alloc, conditions.lacks);
+                caller.meet(alloc, call, others.as_slice())?;
+                told_of_other(alloc, conditions, bytes.as_slice(), caller)
+            }
+            _ => Text::from_slice(alloc, b"four fields"),
+        }
+    }
+}
+
+fn main(rt: HostRuntime) -> io::Result<()> {
+    let alloc = rt.alloc();
+    let mut files = DiskFiles::new(&rt);
+    let mut output = rt.stdout();
+    let mut count: u64 = 0;
+    for name in ["conversations.txt", "faults.txt", "many.txt"] {
+        let tried = try_file(alloc, name, &mut files, &mut Conversations, &mut output)?;
+        count = count.saturating_add(tried);
+    }
+    let tried = try_file(
+        alloc,
+        "meetings.txt",
+        &mut files,
+        &mut Meetings,
+        &mut output,
+    )?;
+    count = count.saturating_add(tried);
+    println!(rt; "{count} cases")
+}
