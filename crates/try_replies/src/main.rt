@@ -1,23 +1,36 @@
-//! A table of cases for a client: which replies bytes are, what it writes, and what a call over a link answers.
+//! Tables of cases for a client: which replies bytes are, what it writes, what a call over a link answers, what calls answer that
+//! a server meets, and what the command `call` writes.
 //!
-//! The table's answers come from the rules (RFC 9112, `docs/rules/http.md` and `docs/rules/calls.md`). The output is a
+//! The tables' answers come from the rules (RFC 9112, `docs/rules/http.md`, `calls.md` and `conversations.md`). The output is a
 //! line for each answer that is another, and how many cases there are.
 #![tactic(auto)]
 
 mod calls;
+mod meetings;
 mod replies;
+mod runs;
 
 use calls::{asked_text, called_text, failing_text};
 use cases::{Answers, try_file};
 use decimal_text::read_count;
+use meetings::met_text;
 use os_io::{DiskFiles, Memory, Text};
 use replies::reply_text;
+use runs::{Given, run_text};
 use std::alloc::Global;
 use std::io;
 
 /// Given what is asked, and bytes.
 #[derive(Drop)]
 struct Client;
+
+/// Given calls.
+#[derive(Drop)]
+struct CallsMet;
+
+/// Given a call's name, three files, what the link gives, and what fails.
+#[derive(Drop)]
+struct CallRuns;
 
 /// The number of these digits, or 0.
 fn number_of(digits: &[u8]) -> u64 {
@@ -77,16 +90,43 @@ impl Answers for Client {
     }
 }
 
+impl Answers for CallsMet {
+    fn answer(&mut self, alloc: Global, given: &[Vec<u8>]) -> Result<Text, Memory> {
+        met_text(alloc, given)
+    }
+}
+
+impl Answers for CallRuns {
+    fn answer(&mut self, alloc: Global, given: &[Vec<u8>]) -> Result<Text, Memory> {
+        match given {
+            [name, osil, osol, ospl, bytes, fails] => {
+                let given = Given {
+                    name: name.as_slice(),
+                    files: [osil.as_slice(), osol.as_slice(), ospl.as_slice()],
+                    bytes: bytes.as_slice(),
+                    fails: fails.as_slice(),
+                };
+                run_text(alloc, given)
+            }
+            _ => Text::from_slice(alloc, b"six fields"),
+        }
+    }
+}
+
 fn main(rt: HostRuntime) -> io::Result<()> {
     let alloc = rt.alloc();
     let mut files = DiskFiles::new(&rt);
-    let count = try_file(
+    let mut output = rt.stdout();
+    let replies = try_file(alloc, "replies.txt", &mut files, &mut Client, &mut output)?;
+    let meetings = try_file(
         alloc,
-        "replies.txt",
+        "meetings.txt",
         &mut files,
-        &mut Client,
-        &mut rt.stdout(),
+        &mut CallsMet,
+        &mut output,
     )?;
+    let runs = try_file(alloc, "runs.txt", &mut files, &mut CallRuns, &mut output)?;
+    let count = replies.saturating_add(meetings).saturating_add(runs);
     println!(rt; "{count} cases")?;
     Ok(())
 }
