@@ -1,0 +1,89 @@
+"""Starts `serve`, and speaks to it over connections that stay."""
+
+import html
+import os
+import re
+import socket
+import subprocess
+
+PROGRAM = os.path.abspath("crates/os_main/out/os_main")
+
+
+def free_port():
+    with socket.create_server(("127.0.0.1", 0)) as it:
+        return it.getsockname()[1]
+
+
+class Server:
+    """A run of `serve` on a free port of loopback. Where it was to end by itself, after so many connections, its status is looked at."""
+
+    def __init__(self, workers, servers, connections=None):
+        self.words = ["--workers", str(workers), "--servers", str(servers)]
+        self.words += ["--connections", str(connections)] if connections else []
+        self.connections, self.peak, self.jobs = connections, 0, None
+
+    def __enter__(self):
+        self.port = free_port()
+        self.process = subprocess.Popen([PROGRAM, "serve", "127.0.0.1", str(self.port), *self.words], stdout=subprocess.PIPE)
+        line = self.process.stdout.readline()
+        if line != b"listening\n":
+            raise SystemExit(f"serve wrote {line!r} and ended with {self.process.wait()}")
+        return self
+
+    def __exit__(self, kind, *_):
+        if kind or not self.connections:
+            self.process.kill()
+        told = self.process.stdout.read()
+        _, status, usage = os.wait4(self.process.pid, 0)
+        self.process.returncode, self.peak = status, usage.ru_maxrss * 1024
+        if self.connections and not kind:
+            found = re.fullmatch(rb"jobs (\d+)\n", told)
+            if status != 0 or not found:
+                raise SystemExit(f"serve wrote {told!r} and ended with {status}")
+            self.jobs = int(found.group(1))
+
+
+def envelope(call, **parts):
+    inner = "".join(f"<{name}>{html.escape(text)}</{name}>" for name, text in parts.items())
+    return f"<Envelope><Body><{call}>{inner}</{call}></Body></Envelope>".encode()
+
+
+def options(number):
+    return f"<osol><general><jobID>os-{number}</jobID></general></osol>"
+
+
+def request(body):
+    return b"POST /os HTTP/1.1\r\nHost: os\r\nContent-Type: text/xml; charset=utf-8\r\nContent-Length: %d\r\n\r\n%s" % (len(body), body)
+
+
+class Client:
+    """A connection that stays."""
+
+    def __init__(self, port):
+        self.link = socket.create_connection(("127.0.0.1", port))
+        self.link.setsockopt(socket.IPPROTO_TCP, socket.TCP_NODELAY, 1)
+        self.file = self.link.makefile("rb")
+
+    def post(self, body):
+        """The status and the body of the answer."""
+        self.link.sendall(request(body))
+        return self.answer()
+
+    def answer(self):
+        status, length = self.file.readline().split(b" ", 2)[1], 0
+        for line in iter(self.file.readline, b"\r\n"):
+            if not line:
+                raise ConnectionError("the connection ended inside a head")
+            if line.lower().startswith(b"content-length:"):
+                length = int(line[15:])
+        return int(status), self.file.read(length)
+
+    def close(self):
+        self.file.close()
+        self.link.close()
+
+
+def returned(body):
+    """The text that a reply returns."""
+    found = re.search(rb"<\w+Return>(.*)</\w+Return>", body, re.S)
+    return html.unescape(found.group(1).decode())
