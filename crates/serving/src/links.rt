@@ -12,14 +12,18 @@ use std::alloc::Global;
 use std::sync::Wait;
 use workers::Wake;
 
-/// Serves a link while it rings for the workers, and runs jobs.
+/// Rings for the workers.
 #[derive(Drop)]
-struct Ringer<'a, R> {
+struct Bell<'a, R> {
     rt: &'a R,
     wake: &'a Wake,
 }
 
-impl<'a, R: Wait> Runner<SolvedJobs> for Ringer<'a, R> {
+/// Serves links by what is asked on them, and runs jobs by what solves them. While it serves a link, it has a bell.
+#[derive(Drop)]
+pub(crate) struct LinkServer<B>(pub(crate) B);
+
+impl<B> Runner<SolvedJobs> for LinkServer<B> {
     ghost use Rattle.sessions.specs.Runs.{Makes};
 
     ghost ran = { Makes };
@@ -35,9 +39,9 @@ impl<'a, R: Wait> Runner<SolvedJobs> for Ringer<'a, R> {
     }
 }
 
-impl<'a, R: Wait> Server<SolvedJobs> for Ringer<'a, R> {
+impl<'a, R: Wait> Server<SolvedJobs> for LinkServer<Bell<'a, R>> {
     fn wake(&self) -> bool {
-        self.wake.ring(self.rt).is_ok()
+        self.0.wake.ring(self.0.rt).is_ok()
     }
 }
 
@@ -51,26 +55,7 @@ fn lacks_memory(served: Served) -> bool
     }
 }
 
-/// Serves links by what is asked on them, and runs jobs by what solves them.
-pub(crate) struct LinkServer;
-
-impl Runner<SolvedJobs> for LinkServer {
-    ghost use Rattle.sessions.specs.Runs.{Makes};
-
-    ghost ran = { Makes };
-
-    fn run<W: Watch>(
-        &self,
-        alloc: Global,
-        osil: &[u8],
-        osol: &[u8],
-        watch: &mut W,
-    ) -> Option<SharedText> {
-        Solver.run(alloc, osil, osol, watch)
-    }
-}
-
-impl Service<SolvedJobs> for LinkServer {
+impl Service<SolvedJobs> for LinkServer<()> {
     ghost use Rattle.serving.specs.Serving.{Converses};
 
     ghost talked = { Converses };
@@ -83,7 +68,8 @@ impl Service<SolvedJobs> for LinkServer {
         link: L,
         calls: &mut C,
     ) -> (bool, L) {
-        let (served, link) = serve_one(alloc, link, calls, &Ringer { rt, wake });
+        let ringing = LinkServer(Bell { rt, wake });
+        let (served, link) = serve_one(alloc, link, calls, &ringing);
         (lacks_memory(served), link)
     }
 }

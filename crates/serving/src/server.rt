@@ -47,7 +47,7 @@ where
         &desk,
         seat,
         net,
-        &LinkServer,
+        &LinkServer(()),
         servers,
         connections,
         workers,
