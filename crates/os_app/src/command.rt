@@ -16,6 +16,7 @@ use crate::generating::generate;
 use crate::solving::solve_files;
 use calling::{CallWords, make_call};
 use cert_checker::{accepted_is_not_refused, documents_have_one_answer, documents_have_one_kind};
+use closing::Close;
 use command_answers::status::{
     CUT_SHORT, DONE, MISUSED, NO_LINK, NO_MEMORY, READ_FAULT, WRITE_FAULT,
 };
@@ -120,7 +121,7 @@ pub fn run<F: Files, I: Source, O: Sink, N: Listener, R: Threads + Wait + Sync>(
     net: &mut N,
 ) -> u8
 where
-    N::Conn: Send + Drop,
+    N::Conn: Close + Send + Drop,
     ensures runs { Runs result (record {
       words = map string_bytes words.now;
       held = F.held files.old;

@@ -6,7 +6,8 @@
 //! no other link has. The desk's first seat then has met these seats and those of the workers, and knows their calls.
 //!
 //! Threads of links stand in a scope inside that of the workers. The oldest is joined first, so that links are given back in the
-//! order in which they came; at most so many run at once. That threads run side by side is said by no contract.
+//! order in which they came; at most so many run at once. Each closes its link ([`closing::Close`]) when the conversation is over,
+//! so that no peer waits for the threads of others. That threads run side by side is said by no contract.
 #![tactic(auto)]
 
 mod door;

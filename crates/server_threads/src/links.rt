@@ -14,9 +14,10 @@ use crate::hall::{Hall, Limits, Means};
 use crate::places::Place;
 use crate::promise::{Finished, ToServe};
 use crate::service::Service;
+use closing::Close;
 use desk::{Caller, Desk, Seat};
 use job_table::Verdicts;
-use os_io::{Failed, Link, Listener};
+use os_io::{Failed, Listener};
 use std::alloc::Global;
 use std::collections::VecDeque;
 use std::marker::PhantomData;
@@ -28,8 +29,8 @@ use workers::Wake;
 /// The links that are being served, in the order in which they came.
 pub(crate) type Running<J, L, S> = VecDeque<Place<Finished<Seat<J>, L>, ToServe<J, L, S>>>;
 
-/// Serves one link by calls of this seat.
-fn serve_by<J: Verdicts, L: Link, R: Wait, S: Service<J>>(
+/// Serves one link by calls of this seat, and tells its peer when the conversation is over.
+fn serve_by<J: Verdicts, L: Close, R: Wait, S: Service<J>>(
     rt: &R,
     alloc: Global,
     desk: &Desk<J>,
@@ -46,7 +47,8 @@ fn serve_by<J: Verdicts, L: Link, R: Wait, S: Service<J>>(
         desk,
         seat: &mut seat,
     };
-    let (short, link) = service.serve(rt, alloc, wake, link, &mut caller);
+    let (short, mut link) = service.serve(rt, alloc, wake, link, &mut caller);
+    link.close();
     let Caller {
         rt: _,
         desk: _,
@@ -60,7 +62,7 @@ fn begin<
     's,
     E,
     J: Verdicts + Send + Sync,
-    L: Link + Send + Drop + 's,
+    L: Close + Send + Drop + 's,
     R: Threads + Wait + Sync,
     S: Service<J> + Sync,
 >(
@@ -182,7 +184,7 @@ fn take_link<
     running: &mut Running<J, N::Conn, S>,
 ) -> Result<(), Failed>
 where
-    N::Conn: Send + Drop + 's,
+    N::Conn: Close + Send + Drop + 's,
     requires seat { IsSeatOf (desk_id means.now.desk.now) hall.old.seat }
     requires going { Going J.right S.talked N.Conn.tells (desk_id means.now.desk.now) (stand N.coming N.given_back was.now.value.seat (D.net was.now.value.door)) (stand N.coming N.given_back hall.old.seat (D.net hall.old.door)) hall.old.short running.old.items }
     requires room { deque_len running.old < deque_capacity running.old }
@@ -220,7 +222,7 @@ fn take_links<
     limits: &Limits,
 ) -> Result<(), Failed>
 where
-    N::Conn: Send + Drop + 's,
+    N::Conn: Close + Send + Drop + 's,
     requires seat { IsSeatOf (desk_id means.now.desk.now) hall.old.seat }
     requires was { was.now.value ≡ hall.old }
     requires first { hall.old.seat.me.0.number ≡ 0 }
@@ -283,7 +285,7 @@ pub(crate) fn serve_links<
     limits: &Limits,
 )
 where
-    N::Conn: Send + Drop + 's,
+    N::Conn: Close + Send + Drop + 's,
     requires seat { IsSeatOf (desk_id means.now.desk.now) hall.old.seat }
     requires first { hall.old.seat.me.0.number ≡ 0 }
     requires fresh { hall.old.short ≡ 0 }

@@ -12,6 +12,7 @@ use crate::hall::{Hall, Limits, Means, ServeFault};
 use crate::links::{Running, serve_links};
 use crate::service::Service;
 use crate::staff::{Shifts, relieve, staff};
+use closing::Close;
 use desk::{Desk, Seat};
 use job_table::Verdicts;
 use os_io::{Failed, Link, Listener, Memory};
@@ -39,7 +40,7 @@ fn serve_within<
     limits: &Limits,
 )
 where
-    N::Conn: Send + Drop,
+    N::Conn: Close + Send + Drop,
     requires seat { IsSeatOf (desk_id means.now.desk.now) hall.old.seat }
     requires first { hall.old.seat.me.0.number ≡ 0 }
     requires fresh { hall.old.short ≡ 0 }
@@ -82,7 +83,7 @@ fn serve_beside<
     limits: &Limits,
 )
 where
-    N::Conn: Send + Drop,
+    N::Conn: Close + Send + Drop,
     requires seat { IsSeatOf (desk_id means.now.desk.now) hall.old.seat }
     requires first { hall.old.seat.me.0.number ≡ 0 }
     requires fresh { hall.old.short ≡ 0 }
@@ -116,7 +117,7 @@ fn serve_staffed<
     limits: &Limits,
 )
 where
-    N::Conn: Send + Drop,
+    N::Conn: Close + Send + Drop,
     requires seat { IsSeatOf (desk_id means.now.desk.now) hall.old.seat }
     requires first { hall.old.seat.me.0.number ≡ 0 }
     requires fresh { hall.old.short ≡ 0 }
@@ -156,7 +157,7 @@ fn serve_hall<
     limits: &Limits,
 ) -> Result<(), Memory>
 where
-    N::Conn: Send + Drop,
+    N::Conn: Close + Send + Drop,
     requires seat { IsSeatOf (desk_id desk.now) hall.old.seat }
     requires first { hall.old.seat.me.0.number ≡ 0 }
     requires fresh { hall.old.short ≡ 0 }
@@ -215,7 +216,7 @@ pub fn serve_loop<
     workers: u32,
 ) -> (Seat<J>, Result<u64, ServeFault>)
 where
-    N::Conn: Send + Drop,
+    N::Conn: Close + Send + Drop,
     requires seat { IsSeatOf (desk_id desk.now) seat }
     requires first { seat.me.0.number ≡ 0 }
     requires some { 0 < servers }

@@ -11,6 +11,7 @@ ghost use Rattle.serving.specs.Serving.{numbers_given, Hosts, done_if, ending_of
 use crate::ending::Ending;
 use crate::lines::{tell_jobs, tell_listening};
 use crate::links::LinkServer;
+use closing::Close;
 use desk::{Desk, Seat};
 use job_table::{first_finish_is_kept, numbers_are_given_once};
 use os_io::{Failed, Listener, Sink};
@@ -32,7 +33,7 @@ fn serve_desk<N: Listener, R: Threads + Wait + Sync>(
     connections: u32,
 ) -> (u64, Result<u64, ServeFault>)
 where
-    N::Conn: Send + Drop,
+    N::Conn: Close + Send + Drop,
     requires seat { IsSeatOf (desk_id desk) seat }
     requires fresh { seat.me.0 ≡ first_view }
     requires some { 0 < servers }
@@ -93,7 +94,7 @@ pub fn serve<N: Listener, O: Sink, R: Threads + Wait + Sync>(
     connections: u32,
 ) -> Ending
 where
-    N::Conn: Send + Drop,
+    N::Conn: Close + Send + Drop,
     requires { 0 < servers }
     ensures served { IsServed result workers connections (net_tells N.coming N.given_back N.faults net.old) (net_tells N.coming N.given_back N.faults net.new) (O.tells output.old) (O.tells output.new) }
     ensures input { SameInput (O.tells output.old) (O.tells output.new) }

@@ -1,21 +1,33 @@
 ghost use Rattle.std.specs.Prelude.{◌≡◌, None, IfOk};
 ghost use Rattle.os_io.specs.Streams.{Tells};
 
+use closing::Close;
 use os_io::{Failed, Link, Sink, Source, StdSink, StdSource, Stream};
 use std::alloc::Global;
-use std::io::{self, BufReader, BufWriter};
-use std::net::TcpStream;
+use std::io::{self, BufReader, BufWriter, Read};
+use std::net::{Shutdown, TcpStream};
+use std::time::Duration;
+
+/// How many bytes of a peer are thrown away behind the end of a conversation: more than the longest request that `call` writes, two
+/// files of 4,194,305 bytes of which each may be written as five. So who asks for too much in one request can write it to its
+/// end, and then reads the refusal.
+const MOST_THROWN_AWAY: u64 = 67_108_864;
+
+/// How many seconds a peer may send nothing behind the end of a conversation. One that is idle and keeps its link is waited
+/// for no longer.
+const PATIENCE: u64 = 5;
 
 /// A link over TCP, with a count of faults each way. It tells nothing of its bytes. A read takes ahead what has come,
-/// and what is written goes out with a flush, or where its buffer is full. It waits for its peer without end.
+/// and what is written goes out with a flush, or where its buffer is full. It waits for its peer without end, until it is closed.
 #[derive(Drop)]
 pub struct TcpLink {
     input: StdSource<BufReader<TcpStream>>,
     output: StdSink<BufWriter<TcpStream>>,
+    socket: TcpStream,
 }
 
 impl TcpLink {
-    /// A link over this socket, which it holds by two handles: one to read, one to write.
+    /// A link over this socket, which it holds by three handles: one to read, one to write, and one to close.
     pub(crate) fn new(alloc: Global, stream: TcpStream) -> io::Result<TcpLink>
         ensures read_faults { IfOk result (λ l. (⟦<TcpLink as Stream>⟧.tells l).read_faults ≡ 0) }
         ensures write_faults { IfOk result (λ l. (⟦<TcpLink as Stream>⟧.tells l).write_faults ≡ 0) }
@@ -24,10 +36,11 @@ impl TcpLink {
         // the peer to acknowledge the rest (RFC 1122, 4.2.3.4). A socket that can't be told so sends it all the same.
         let _ = stream.set_nodelay(true);
         let reader = BufReader::new(alloc, stream.try_clone()?)?;
-        let writer = BufWriter::new(alloc, stream)?;
+        let writer = BufWriter::new(alloc, stream.try_clone()?)?;
         Ok(TcpLink {
             input: StdSource::new(reader),
             output: StdSink::new(writer),
+            socket: stream,
         })
     }
 
@@ -43,6 +56,11 @@ impl TcpLink {
         ensures { result ≡ (⟦<TcpLink as Stream>⟧.tells self.now).write_faults }
     {
         self.output.faults()
+    }
+
+    /// Throws away what the peer still sends, until it ends, sends nothing for too long, or has sent too much.
+    fn throw_away(&self) -> io::Result<u64> {
+        io::copy(&mut (&self.socket).take(MOST_THROWN_AWAY), &mut io::sink())
     }
 }
 
@@ -75,3 +93,18 @@ impl Sink for TcpLink {
 }
 
 impl Link for TcpLink {}
+
+impl Close for TcpLink {
+    fn close(&mut self) {
+        let _ = self
+            .socket
+            .set_read_timeout(Some(Duration::from_secs(PATIENCE)));
+        let _ = self.socket.shutdown(Shutdown::Write);
+        // A connection that is given up with bytes that nobody took is reset, and the peer may lose the answer that is on its way
+        // (RFC 9112, section 9.6).
+        let _ = self.throw_away();
+        // A peer that writes on is reset by the system: at its next bytes, or where no room is left for them when the link is given
+        // back, since then bytes are unread.
+        let _ = self.socket.shutdown(Shutdown::Read);
+    }
+}
