@@ -90,6 +90,35 @@ def by_serve(answers):
         answers.judge(told == b"jobs 4\n" and server.wait() == 0, f"serve: {told!r} and {server.wait()}")
 
 
+# ---- peers of the same server that wait for its end, write on without end, or keep an idle connection
+
+
+def is_reset(port):
+    """Whether a connection on which 256 MiB are announced and written is reset, and not held up."""
+    with socket.create_connection((HOST, port), timeout=60) as peer:
+        try:
+            peer.sendall(b"POST /os HTTP/1.1\r\nHost: os\r\nContent-Length: %d\r\n\r\n" % (256 << 20))
+            for _ in range(256):
+                peer.sendall(bytes(1 << 20))
+        except ConnectionError:
+            return True
+    return False
+
+
+def by_closed(answers):
+    port = free_port()
+    words = [PROGRAM, "serve", HOST, str(port), "--workers", "0", "--servers", "1", "--connections", "3"]
+    head = b"GET /os HTTP/1.0\r\n\r\n"
+    with subprocess.Popen(words, stdout=subprocess.PIPE) as server:
+        server.stdout.readline()
+        ran = subprocess.run(["nc", HOST, str(port)], input=head, capture_output=True, timeout=60, check=False)
+        answers.judge(ran.stdout.startswith(b"HTTP/1.1 405 "), f"nc: got {ran}")
+        answers.judge(is_reset(port), "256 MiB: no reset")
+        with socket.create_connection((HOST, port)) as idle:
+            idle.sendall(head)
+            answers.judge(server.wait(30) == 0, "an idle peer: serve ended otherwise")
+
+
 # ---- a server that answers as Axis 1.4 does
 
 
@@ -202,6 +231,7 @@ def main():
     with tempfile.TemporaryDirectory() as folder:
         answers = Answers(folder)
         by_serve(answers)
+        by_closed(answers)
         by_axis(answers)
         by_others(answers)
     print("\n".join([*answers.wrong, f"{answers.right} answers as the rules give them, {len(answers.wrong)} others"]))
