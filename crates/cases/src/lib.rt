@@ -4,17 +4,23 @@
 //! call is given, in one field or more, and what it must answer, with a tab between each two. In a field `\n`, `\r`,
 //! `\t`, `\\` and `\x` with two hexadecimal digits stand for one byte, so a field can hold any bytes.
 //!
-//! [`answer_document`] answers cases for documents of a kind, which are read and written.
+//! [`DocumentCases`] answers cases for documents of a kind, which are read and written.
 //!
 //! [`try_file`] has each case of a file answered, writes a line for each whose answer is another, and counts them all.
+//! [`Tables`] are the files of a program, which says last how many cases they had. The other functions are what the
+//! answers of many tables need.
 #![tactic(auto)]
 
 mod documents;
 mod escapes;
+mod shared;
 mod table;
+mod tables;
 
-pub use documents::{Documents, answer_document};
+pub use documents::{DocumentCases, Documents};
+pub use shared::{number_of, repeated};
 pub use table::{Answers, try_file, try_table};
+pub use tables::Tables;
 
 #[cfg(test)]
 mod tests {

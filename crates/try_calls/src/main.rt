@@ -4,9 +4,8 @@
 //! output is a line for each answer that is another, and how many cases there are.
 #![tactic(auto)]
 
-use cases::{Answers, try_file};
-use decimal_text::read_count;
-use os_io::{DiskFiles, Memory, Text};
+use cases::{Answers, Tables, number_of, repeated};
+use os_io::{Memory, Text};
 use soap_calls::{
     Answer, NotReply, SoapCall, SoapFault, read_call, read_reply, write_call, write_fault,
     write_reply,
@@ -96,11 +95,7 @@ fn answered(alloc: Global, name: &[u8], bytes: &[u8]) -> Result<Text, Memory> {
 
 /// A text with so many spaces behind it.
 fn padded(alloc: Global, spaces: &[u8], bytes: &[u8]) -> Result<Text, Memory> {
-    let mut long = Text::from_slice(alloc, bytes)?;
-    for _ in 0..read_count(spaces).unwrap_or(0) {
-        long.push(b' ')?;
-    }
-    Ok(long)
+    repeated(alloc, bytes, b" ", number_of(spaces), b"")
 }
 
 impl Answers for Soap {
@@ -132,9 +127,7 @@ impl Answers for Soap {
 }
 
 fn main(rt: HostRuntime) -> io::Result<()> {
-    let alloc = rt.alloc();
-    let mut files = DiskFiles::new(&rt);
-    let count = try_file(alloc, "calls.txt", &mut files, &mut Soap, &mut rt.stdout())?;
-    println!(rt; "{count} cases")?;
-    Ok(())
+    let mut tables = Tables::new(&rt);
+    tables.try_file("calls.txt", &mut Soap)?;
+    tables.tell_count()
 }

@@ -4,8 +4,8 @@
 //! chapter 2). The output is a line for each answer that is another, and how many cases there are.
 #![tactic(auto)]
 
-use cases::{Answers, try_file};
-use os_io::{DiskFiles, Memory, Text};
+use cases::{Answers, Tables};
+use os_io::{Memory, Text};
 use std::alloc::Global;
 use std::io;
 use tableaus::{read_exchanges, read_factor, read_numbers, read_tableau, tell_turned, tell_values};
@@ -42,15 +42,7 @@ impl Answers for Tableaus {
 }
 
 fn main(rt: HostRuntime) -> io::Result<()> {
-    let alloc = rt.alloc();
-    let mut files = DiskFiles::new(&rt);
-    let count = try_file(
-        alloc,
-        "dictionaries.txt",
-        &mut files,
-        &mut Tableaus,
-        &mut rt.stdout(),
-    )?;
-    println!(rt; "{count} cases")?;
-    Ok(())
+    let mut tables = Tables::new(&rt);
+    tables.try_file("dictionaries.txt", &mut Tableaus)?;
+    tables.tell_count()
 }

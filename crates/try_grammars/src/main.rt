@@ -9,23 +9,14 @@ mod numbers;
 mod osil;
 mod shown;
 
-use cases::try_file;
+use cases::{DocumentCases, Tables};
 use numbers::Numbers;
-use os_io::DiskFiles;
 use osil::Osil;
 use std::io;
 
 fn main(rt: HostRuntime) -> io::Result<()> {
-    let alloc = rt.alloc();
-    let mut files = DiskFiles::new(&rt);
-    let numbers = try_file(
-        alloc,
-        "numbers.txt",
-        &mut files,
-        &mut Numbers,
-        &mut rt.stdout(),
-    )?;
-    let osil = try_file(alloc, "osil.txt", &mut files, &mut Osil, &mut rt.stdout())?;
-    println!(rt; "{} cases", numbers.saturating_add(osil))?;
-    Ok(())
+    let mut tables = Tables::new(&rt);
+    tables.try_file("numbers.txt", &mut Numbers)?;
+    tables.try_file("osil.txt", &mut DocumentCases(Osil))?;
+    tables.tell_count()
 }

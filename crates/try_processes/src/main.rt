@@ -4,14 +4,14 @@
 //! `docs/rules/processes.md`). The output is a line for each answer that is another, and how many cases there are.
 #![tactic(auto)]
 
-use cases::{Answers, Documents, answer_document, try_file};
+use cases::{DocumentCases, Documents, Tables};
 use itoa::Buffer;
-use os_io::{DiskFiles, Memory, Text};
-use ospl_grammar::{Process, State, StatedJob, decode, encode, refusal_text};
+use os_io::{Memory, Text};
+use ospl_grammar::{OsplFault, Process, State, StatedJob, decode, encode, refusal_text};
 use std::alloc::Global;
 use std::io;
 
-/// Given what is asked, and a text.
+/// Process documents.
 #[derive(Drop)]
 struct Ospl;
 
@@ -37,62 +37,49 @@ fn put_jobs(text: &mut Text, jobs: &[StatedJob]) -> Result<(), Memory> {
     Ok(())
 }
 
-/// What a process says.
-fn process_text(alloc: Global, process: &Process) -> Result<Text, Memory> {
-    let mut text = Text::new(alloc);
-    match process {
-        Process::Ask { action } => {
-            text.extend(b"ask ")?;
-            text.extend(action.as_slice())?;
-        }
-        Process::Statistics {
-            busy,
-            current,
-            total,
-            jobs,
-        } => {
-            text.extend(if *busy { b"busy " } else { b"idle " })?;
-            text.extend(Buffer::new().format(*current).as_bytes())?;
-            text.extend(b" of ")?;
-            text.extend(Buffer::new().format(*total).as_bytes())?;
-            put_jobs(&mut text, jobs.as_slice())?;
-        }
-    }
-    Ok(text)
-}
-
 impl Documents for Ospl {
-    fn read(&mut self, alloc: Global, document: &[u8]) -> Result<Text, Memory> {
-        match decode(alloc, document) {
-            Ok(process) => process_text(alloc, &process),
-            Err(fault) => refusal_text(alloc, fault),
-        }
+    type Said = Process;
+
+    type Fault = OsplFault;
+
+    fn decode(&self, alloc: Global, document: &[u8]) -> Result<Process, OsplFault> {
+        decode(alloc, document)
     }
 
-    fn write(&mut self, alloc: Global, document: &[u8]) -> Result<Text, Memory> {
-        match decode(alloc, document) {
-            Ok(process) => encode(alloc, &process),
-            Err(fault) => refusal_text(alloc, fault),
-        }
+    fn refuse(&self, alloc: Global, fault: &OsplFault) -> Result<Text, Memory> {
+        refusal_text(alloc, *fault)
     }
-}
 
-impl Answers for Ospl {
-    fn answer(&mut self, alloc: Global, given: &[Vec<u8>]) -> Result<Text, Memory> {
-        answer_document(alloc, given, self)
+    fn tell(&self, alloc: Global, process: &Process) -> Result<Text, Memory> {
+        let mut text = Text::new(alloc);
+        match process {
+            Process::Ask { action } => {
+                text.extend(b"ask ")?;
+                text.extend(action.as_slice())?;
+            }
+            Process::Statistics {
+                busy,
+                current,
+                total,
+                jobs,
+            } => {
+                text.extend(if *busy { b"busy " } else { b"idle " })?;
+                text.extend(Buffer::new().format(*current).as_bytes())?;
+                text.extend(b" of ")?;
+                text.extend(Buffer::new().format(*total).as_bytes())?;
+                put_jobs(&mut text, jobs.as_slice())?;
+            }
+        }
+        Ok(text)
+    }
+
+    fn encode(&self, alloc: Global, process: &Process) -> Result<Text, Memory> {
+        encode(alloc, process)
     }
 }
 
 fn main(rt: HostRuntime) -> io::Result<()> {
-    let alloc = rt.alloc();
-    let mut files = DiskFiles::new(&rt);
-    let count = try_file(
-        alloc,
-        "processes.txt",
-        &mut files,
-        &mut Ospl,
-        &mut rt.stdout(),
-    )?;
-    println!(rt; "{count} cases")?;
-    Ok(())
+    let mut tables = Tables::new(&rt);
+    tables.try_file("processes.txt", &mut DocumentCases(Ospl))?;
+    tables.tell_count()
 }

@@ -8,8 +8,8 @@ mod reading;
 mod running;
 mod telling;
 
-use cases::{Answers, try_file};
-use os_io::{DiskFiles, Memory, Text};
+use cases::{Answers, Tables};
+use os_io::{Memory, Text};
 use reading::read_case;
 use running::tell_run;
 use std::alloc::Global;
@@ -29,9 +29,7 @@ impl Answers for Turns {
 }
 
 fn main(rt: HostRuntime) -> io::Result<()> {
-    let alloc = rt.alloc();
-    let mut files = DiskFiles::new(&rt);
-    let count = try_file(alloc, "turns.txt", &mut files, &mut Turns, &mut rt.stdout())?;
-    println!(rt; "{count} cases")?;
-    Ok(())
+    let mut tables = Tables::new(&rt);
+    tables.try_file("turns.txt", &mut Turns)?;
+    tables.tell_count()
 }
