@@ -1,0 +1,162 @@
+//! Links that are clients in themselves: what a read gives depends on what was written before.
+
+ghost use Rattle.std.specs.Prelude.{◌≡◌, None};
+ghost use Rattle.os_io.specs.Streams.{Counts, source_tells};
+
+use closing::Close;
+use os_io::{Failed, Link, Listener, Memory, Sink, Source, Stream};
+use std::alloc::Global;
+use std::collections::VecDeque;
+
+/// Who asks on a link.
+pub(crate) trait Client {
+    /// The next request, by the answer to the one before. An empty one ends the link.
+    fn ask(&mut self, alloc: Global, answer: &[u8]) -> Result<String, Memory>;
+}
+
+/// A link on which a client asks. It tells nothing of its bytes, and doesn't fail: without memory it ends, or an answer is lost.
+#[derive(Drop)]
+pub(crate) struct ClientLink<C> {
+    alloc: Global,
+    client: C,
+    request: String,
+    /// How much of the request was read.
+    read: usize,
+    /// What was written since it was.
+    answer: Vec<u8>,
+}
+
+impl<C> ClientLink<C> {
+    fn new(alloc: Global, client: C) -> ClientLink<C> {
+        ClientLink {
+            alloc,
+            client,
+            request: String::new(alloc),
+            read: 0,
+            answer: Vec::new(alloc),
+        }
+    }
+}
+
+impl<C: Client> ClientLink<C> {
+    /// Has the client ask, where it has something to ask.
+    fn ask(&mut self) {
+        if let Ok(request) = self.client.ask(self.alloc, self.answer.as_slice()) {
+            if !request.is_empty() {
+                self.request = request;
+                self.read = 0;
+                self.answer.clear();
+            }
+        }
+    }
+}
+
+impl<C> Stream for ClientLink<C> {
+    ghost tells = { λ _. source_tells None 0 };
+}
+
+impl<C: Client> Source for ClientLink<C> {
+    fn read(&mut self, buf: &mut [u8]) -> Result<usize, Failed> {
+        if self.read >= self.request.len() {
+            self.ask();
+        }
+        let read = self.read.min(self.request.len());
+        let left = &self.request.as_bytes()[read..];
+        let n = left.len().min(buf.len());
+        buf[..n].copy_from_slice(&left[..n]);
+        self.read = read + n;
+        Ok(n)
+    }
+}
+
+impl<C> Sink for ClientLink<C> {
+    fn write(&mut self, bytes: &[u8]) -> Result<usize, Failed> {
+        let _ = self.answer.extend_from_slice(bytes);
+        Ok(bytes.len())
+    }
+
+    fn flush(&mut self) -> Result<(), Failed> {
+        Ok(())
+    }
+
+    ghost handed_on_is_written = { λ _. tt };
+}
+
+impl<C: Client> Link for ClientLink<C> {}
+
+impl<C: Client> Close for ClientLink<C> {
+    fn close(&mut self) {}
+}
+
+/// A listener to which the links of these clients come, in their order. A call that finds no more of them fails.
+#[derive(Drop)]
+pub(crate) struct Clients<C> {
+    alloc: Global,
+    coming: VecDeque<C>,
+    back: Vec<ClientLink<C>>,
+    faults: u64,
+}
+
+impl<C: Drop> Clients<C> {
+    pub(crate) fn new(alloc: Global) -> Clients<C> {
+        Clients {
+            alloc,
+            coming: VecDeque::new(alloc),
+            back: Vec::new(alloc),
+            faults: 0,
+        }
+    }
+
+    /// Adds a client, whose link comes after those that were added before.
+    pub(crate) fn add(&mut self, client: C) -> Result<(), Memory> {
+        self.coming.push_back(client)?;
+        Ok(())
+    }
+
+    /// The link of the next client.
+    fn next(&mut self) -> Result<ClientLink<C>, Failed>
+        ensures { Counts result self.old.faults self.new.faults }
+    {
+        match self.coming.pop_front() {
+            Some(client) => Ok(ClientLink::new(self.alloc, client)),
+            None => {
+                self.faults = self.faults.saturating_add(1);
+                Err(Failed)
+            }
+        }
+    }
+
+    /// The answer to the last request on the link that was given back so many others later than the first, from 0.
+    pub(crate) fn last_answer(&self, link: usize) -> &[u8] {
+        match self.back.as_slice().get(link) {
+            Some(link) => link.answer.as_slice(),
+            None => b"",
+        }
+    }
+}
+
+impl<C: Client + Drop> Listener for Clients<C> {
+    type Conn = ClientLink<C>;
+
+    ghost coming = { λ _. None };
+
+    ghost given_back = { λ _. None };
+
+    ghost faults = { λ s. s.faults };
+
+    fn listen(&mut self, _host: &str, _port: u16) -> Result<(), Failed> {
+        Ok(())
+    }
+
+    fn accept(&mut self) -> Result<ClientLink<C>, Failed> {
+        self.next()
+    }
+
+    fn connect(&mut self, _host: &str, _port: u16) -> Result<ClientLink<C>, Failed> {
+        self.next()
+    }
+
+    fn done(&mut self, link: ClientLink<C>) {
+        let _ = self.back.push(link);
+    }
+}

@@ -1,0 +1,23 @@
+//! What no contract can say of the server's threads, seen in runs: that links are served side by side, that workers run jobs while
+//! links are open, and that a knock and a kill are answered while a job runs.
+//!
+//! The output comes from the rules (`docs/rules/`): what is answered where it is so. Where it isn't, a thread waits so
+//! long at most, or a client asks so often at most, and something else is written.
+#![tactic(auto)]
+
+mod clients;
+mod links;
+mod served;
+mod waiting;
+mod working;
+
+use served::{knock_beside_a_worker, serve_two_links};
+use std::io;
+use working::kill_beside_a_worker;
+
+fn main(rt: HostRuntime) -> io::Result<()> {
+    let links = serve_two_links(&rt, rt.alloc())?;
+    let worker = knock_beside_a_worker(&rt, rt.alloc())?;
+    let kill = kill_beside_a_worker(&rt, rt.alloc())?;
+    print!(rt; "{links}{worker}{kill}")
+}

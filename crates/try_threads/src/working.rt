@@ -1,0 +1,167 @@
+//! A job that is killed while a worker runs it.
+
+ghost use Rattle.desk.specs.Asks.{desk_id, IsSeatOf};
+
+use crate::waiting::wait_for;
+use desk::{Desk, Seat};
+use job_table::{Call, Reply, Retrieved, Twin};
+use os_io::{Memory, Text};
+use sessions::{SolvedJobs, Solver};
+use std::alloc::Global;
+use std::sync::Wait;
+use std::sync::atomic::AtomicBool;
+use std::sync::atomic::Ordering::SeqCst;
+use std::thread::{Threads, join};
+use std::time::Clock;
+use workers::{Gate, work_one};
+
+/// max x0 in whole numbers, 2 x0 <= 5. The third look comes before the third node: then the best point so far is 2.
+const HALVES: &[u8] =
+    b"<osil><instanceData><variables><var type=\"I\"/></variables><objectives><obj maxOrMin=\"max\"><coef idx=\"0\">1</coef></obj></objectives><constraints><con ub=\"5\"/></constraints><linearConstraintCoefficients><start><el>0</el><el>1</el></start><rowIdx><el>0</el></rowIdx><value><el>2</el></value></linearConstraintCoefficients></instanceData></osil>";
+
+/// The look that is held.
+const HELD: u64 = 3;
+
+/// A gate that holds one look until it is opened.
+#[derive(Drop)]
+struct HeldGate<'a, R> {
+    clock: &'a R,
+    is_reached: &'a AtomicBool,
+    is_open: &'a AtomicBool,
+}
+
+impl<'a, R: Clock> Gate for HeldGate<'a, R> {
+    ghost passed = { λ _ _ _. Unit {0} };
+
+    fn pass(&mut self, look: u64) {
+        if look == HELD {
+            self.is_reached.store(true, SeqCst);
+            wait_for(self.clock, self.is_open);
+        }
+    }
+
+    ghost stays = { λ _. tt };
+
+    ghost joins = { λ _ _ _ _ _ _ _. tt };
+}
+
+/// What is replied, in a line.
+fn line_of(alloc: Global, reply: Reply) -> Result<String, Memory> {
+    match reply {
+        Reply::Statistics(told) => {
+            let state = if told.busy { "busy" } else { "idle" };
+            let current = told.current;
+            let jobs = told.jobs.as_slice();
+            format!(in alloc; "knock: {state}, {current} current, {jobs:?}\n")
+        }
+        Reply::Killing(told) => {
+            let state = told.state;
+            format!(in alloc; "kill: {state:?}\n")
+        }
+        Reply::Retrieved(Retrieved::Finished(Some(document))) => {
+            let text = str::from_utf8(document.as_slice()).unwrap_or("");
+            format!(in alloc; "retrieve: {text}\n")
+        }
+        _ => "another reply\n".to_string(alloc),
+    }
+}
+
+/// A job that waits.
+fn send<R: Wait>(
+    rt: &R,
+    alloc: Global,
+    desk: &Desk<SolvedJobs>,
+    seat: &mut Seat<SolvedJobs>,
+) -> Result<(), Memory>
+    requires { IsSeatOf (desk_id desk.now) seat.old }
+    ensures { IsSeatOf (desk_id desk.now) seat.new }
+{
+    let osil = Twin::new(alloc, Text::from_slice(alloc, HALVES)?)?;
+    let osol = Twin::new(alloc, Text::new(alloc))?;
+    desk.ask(rt, seat, Call::Issue)?;
+    desk.ask(
+        rt,
+        seat,
+        Call::Send {
+            number: 1,
+            osil,
+            osol,
+        },
+    )?;
+    Ok(())
+}
+
+/// Runs the job that waits, through the gate.
+fn work<R: Wait + Clock>(
+    rt: &R,
+    alloc: Global,
+    desk: &Desk<SolvedJobs>,
+    mut seat: Seat<SolvedJobs>,
+    mut gate: HeldGate<'_, R>,
+)
+    requires { IsSeatOf (desk_id desk.now) seat }
+{
+    work_one(rt, alloc, desk, &mut seat, &Solver, true, &mut gate);
+}
+
+/// A knock, and then a kill of the job.
+fn knock_and_kill<R: Wait>(
+    rt: &R,
+    alloc: Global,
+    desk: &Desk<SolvedJobs>,
+    seat: &mut Seat<SolvedJobs>,
+) -> Result<String, Memory>
+    requires { IsSeatOf (desk_id desk.now) seat.old }
+    ensures { IsSeatOf (desk_id desk.now) seat.new }
+{
+    let mut lines = line_of(alloc, desk.ask(rt, seat, Call::Knock)?)?;
+    let killed = desk.ask(rt, seat, Call::Kill { number: 1 })?;
+    lines.push_str(line_of(alloc, killed)?.as_str())?;
+    Ok(lines)
+}
+
+/// Knocks and kills once the gate is reached, and then opens it.
+fn kill_at_the_gate<R: Wait + Clock>(
+    rt: &R,
+    alloc: Global,
+    desk: &Desk<SolvedJobs>,
+    mut seat: Seat<SolvedJobs>,
+    is_reached: &AtomicBool,
+    is_open: &AtomicBool,
+) -> (Seat<SolvedJobs>, Result<String, Memory>)
+    requires { IsSeatOf (desk_id desk.now) seat }
+    ensures { IsSeatOf (desk_id desk.now) result.0 }
+{
+    wait_for(rt, is_reached);
+    let lines = knock_and_kill(rt, alloc, desk, &mut seat);
+    is_open.store(true, SeqCst);
+    (seat, lines)
+}
+
+/// Kills a job while a worker is held at a look, and shows what comes of it.
+pub(crate) fn kill_beside_a_worker<R: Threads + Wait + Clock + Sync>(
+    rt: &R,
+    alloc: Global,
+) -> Result<String, Memory> {
+    let (desk, mut seat) = Desk::<SolvedJobs>::new(alloc)?;
+    let worker = desk.split(&mut seat);
+    send(rt, alloc, &desk, &mut seat)?;
+    let is_reached = AtomicBool::new(false);
+    let is_open = AtomicBool::new(false);
+    let gate = HeldGate {
+        clock: rt,
+        is_reached: &is_reached,
+        is_open: &is_open,
+    };
+    let ((), (mut seat, lines)) = join(
+        rt,
+        || work(rt, alloc, &desk, worker, gate),
+        || kill_at_the_gate(rt, alloc, &desk, seat, &is_reached, &is_open),
+    );
+    let mut lines = lines?;
+    let shown = desk.ask(rt, &mut seat, Call::Retrieve { number: 1 })?;
+    lines.push_str(line_of(alloc, shown)?.as_str())?;
+    let after = desk.ask(rt, &mut seat, Call::Knock)?;
+    lines.push_str(line_of(alloc, after)?.as_str())?;
+    Ok(lines)
+}
