@@ -1,7 +1,8 @@
 """Times `solve` beside exact and floating solvers on the same programs, in one run, and compares the objectives.
 
 A figure is the least processor seconds of five runs, process start included. A peer that takes longer than the limit has no
-figure, and neither has one that doesn't take whole variables. The ratio is to the fastest exact peer.
+figure, and neither has one that doesn't take whole variables. The ratio is to the fastest exact peer. How many turns of the simplex method
+a search makes is the least limit of turns that doesn't end it.
 """
 
 import fractions
@@ -109,6 +110,27 @@ def timed(words, folder, read):
     return best, peak, value
 
 
+OPTIONS = '<osol><optimization><solverOptions><solverOption name="pivotLimit" value="{turns}"/></solverOptions></optimization></osol>'
+
+
+def is_ended_by(turns, folder):
+    """Whether so many turns aren't enough."""
+    with open(f"{folder}/osol", "w", encoding="utf-8") as it:
+        it.write(OPTIONS.format(turns=turns))
+    return "turnLimit" in run([*ours(folder), "--options", f"{folder}/osol"])[2]
+
+
+def turns_of(folder):
+    """How many turns are made until the search ends."""
+    low, high = 0, 1
+    while is_ended_by(high, folder):
+        low, high = high, 2 * high
+    while low + 1 < high:
+        middle = (low + high) // 2
+        low, high = (middle, high) if is_ended_by(middle, folder) else (low, middle)
+    return high
+
+
 def compared(program, folder):
     """A row of the table; whether exact objectives agree."""
     for name, text in (("osil", programs.osil(program)), ("lp", programs.lp(program)), ("smt2", programs.smt(program))):
@@ -129,14 +151,16 @@ def compared(program, folder):
     shown = {name: (f"{it[0]:.3f}" if it else f"> {LIMIT}") for name, (it, _) in found.items()}
     ratio = f"{mine[0] / fastest:.2f}" if mine and fastest else "-"
     what = mine[2] if mine else "-"
-    cells = [program.name, *(shown.get(s[0], "-") for s in SOLVERS), ratio, f"{mine[1] / 1e6:.0f}" if mine else "-", str(what)]
+    turns = turns_of(folder) if mine else 0
+    each = [str(turns), f"{turns / mine[0]:.0f}"] if mine else ["-", "-"]
+    cells = [program.name, *(shown.get(s[0], "-") for s in SOLVERS), ratio, *each, f"{mine[1] / 1e6:.0f}" if mine else "-", str(what)]
     print("| " + " | ".join(cells) + " |", flush=True)
     return agrees
 
 
 def main():
-    print("| program | " + " | ".join(s[0] for s in SOLVERS) + " | ours / fastest exact | MB | objective, or cause |")
-    print("|---" * (len(SOLVERS) + 4) + "|")
+    print("| program | " + " | ".join(s[0] for s in SOLVERS) + " | ours / fastest exact | turns | turns a second | MB | objective, or cause |")
+    print("|---" * (len(SOLVERS) + 6) + "|")
     with tempfile.TemporaryDirectory() as folder:
         agreed = [compared(program, folder) for program in programs.all_programs()]
     if not all(agreed):
