@@ -6,24 +6,26 @@ the table's, and in which no call stands before one that was answered before it 
 finds is replayed on a table before it is believed, so what is called legal is legal.
 
 Contradictions are told where they are sure: by one answer, by two, or by a chain of calls of which each must stand before the next, the
-last answered before the first was sent. Else the search tells at which call it was stuck for good; that is no proof.
+last answered before the first was sent. Else the search tells which call it found no place for; that is no proof.
 
 What keeps it from trying every order: numbers are given in order, so the total in an answer says between which issues its call stands;
-a job goes one way through its phases, so what was seen of it stands in the order of phases; and a call that changes nothing that another
-one can tell stands as soon as it fits. Changes are made as late as they must be. Left to choose is which change comes first where a kill
-tells how many wait or run, and which jobs are claimed before one with a smaller number waits; there the search goes back and tries
-another way. Clients may ask only for numbers that an answer told them, or that nobody is given.
+a job goes one way through its phases, so no job leaves a phase while a call is left that saw it so; and a call that changes nothing that
+another one can tell stands as soon as it fits. What is left to choose is when jobs are sent, entered, claimed, finished and killed while
+they wait, for kills tell how many wait or run. The search goes along the clock with a few states at once, each of another order, and
+makes such a change only where a call has to stand that needs one. Two orders of the same calls that leave the table the same are one
+state. Where no state is left, it goes back some way along the clock and comes again with more of them. Clients may ask only for numbers
+that an answer told them, or that nobody is given.
 """
 
 import bisect
-import sys
+import heapq
 
 ABSENT, ISSUED, WAITING, RUNNING, FINISHED, KILLED, GONE = "unknown", "issued", "waiting", "running", "finished", "killed", "gone"
-MOST_STEPS_BACK = 2_000
-CHOICES_KEPT = 200
-MOST_KILLS = (3, 1, 10)  # how many kills are tried before a change, in one search after another
-
-sys.setrecursionlimit(20_000)
+PHASES = (ABSENT, ISSUED, WAITING, RUNNING, FINISHED, KILLED, GONE)
+WIDTHS = (4, 16, 64, 256)  # how many states are kept at once: the first, and from where the search was stuck the next
+TRIES = 40  # how many changes are tried for each of them, before a call is given up
+STEPS_KEPT = 200  # how many sends and answers are between the moments to which the search can go back
+NONE, NOTHING = frozenset(), {}
 
 
 class Call:
@@ -101,10 +103,6 @@ class Table:
         return (*self.counts(), dict(self.jobs))
 
 
-class Stuck(Exception):
-    """No way on from here."""
-
-
 class Contradiction(Exception):
     """Answers that no order has."""
 
@@ -123,7 +121,6 @@ class Job:
         self.issue = self.send = self.kill = None  # the calls that issued or entered, sent, and killed it before it ran
         self.gone = []  # kills that were answered without the job
         self.seen = {state: [] for state in (ISSUED, WAITING, RUNNING, FINISHED, KILLED, GONE)}  # the calls that saw it so
-        self.left = dict.fromkeys(self.seen, 0)  # how many of them don't stand in the order yet
         self.claimed = set()  # numbers above it that were claimed before it was sent: a knock saw them run, or done, and it wait
         self.document = None  # the mark of its document, and whether that says that it was killed
 
@@ -156,7 +153,9 @@ class History:
         self.look_at_knocks()
 
     def job(self, number):
-        return self.jobs.setdefault(number, Job())
+        if number not in self.jobs:
+            self.jobs[number] = Job()
+        return self.jobs[number]
 
     def once(self, job, what, call):
         if getattr(job, what) is not None:
@@ -238,11 +237,6 @@ class History:
                 raise Contradiction(f"os-{number} can't have been {state}:\n  {job.seen[state][0]}")
         if job.seen[GONE] and not job.gone:
             raise Contradiction(f"os-{number} was unknown, and no kill gave it up:\n  {job.seen[GONE][0]}")
-
-    def begin(self):
-        """No call stands in an order yet."""
-        for job in self.jobs.values():
-            job.left = {state: len(calls) for state, calls in job.seen.items()}
 
     def look_at_counts(self):
         """No kill tells of more jobs than had been sent by then, less those that were seen to have ended before."""
@@ -364,458 +358,334 @@ class Chains:
         return str(self.history.calls[node])
 
 
-class Search:
-    """A table whose changes are made call by call and taken back where the search is stuck."""
+class State:
+    """A table as one order of calls leaves it, and which of the calls that aren't answered yet stand in that order."""
 
-    def __init__(self, history, kills):
-        self.history, self.kills, self.order, self.undo, self.choices = history, kills, [], [], []
-        self.total, self.phase, self.held = 0, {}, {}
-        self.waiting, self.running = [], set()
-        self.pending, self.placed, self.entered, self.put_off = {}, set(), set(), set()
-        self.totals = {total: len(calls) for total, calls in history.totals.items()}
-        self.steps_back = 0
+    __slots__ = ("total", "held", "waiting", "running", "placed", "order", "key", "moves")
 
-    # ---- changes, each with the way back
+    def __init__(self):
+        self.total, self.held, self.waiting, self.running, self.placed, self.order, self.key, self.moves = 0, {}, (), (), set(), None, 0, 0
 
-    def change(self, back):
-        self.undo.append(back)
+    def copy(self):
+        it = State.__new__(State)
+        it.total, it.held, it.waiting, it.running = self.total, self.held.copy(), self.waiting, self.running
+        it.placed, it.order, it.key, it.moves = self.placed.copy(), self.order, self.key, self.moves
+        return it
 
-    def set_phase(self, number, phase):
-        before = self.phase.get(number, ABSENT)
-        self.phase[number] = phase
-        self.show(number, before, phase)
-        self.change(lambda: (self.phase.__setitem__(number, before), self.show(number, phase, before)))
-
-    def show(self, number, before, after):
-        if before == WAITING:
-            self.waiting.remove(number)
-        self.running.discard(number)
-        if after == WAITING:
-            bisect.insort(self.waiting, number)
-        if after == RUNNING:
-            self.running.add(number)
-        if after in (ABSENT, GONE):
-            self.held.pop(number, None)
-        else:
-            self.held[number] = after
-
-    def place(self, call, what):
-        """The call stands here in the order."""
-        self.order.append((what, call))
-        self.placed.add(call.place)
-        self.pending.pop(call.place, None)
-        self.change(lambda: (self.order.pop(), self.placed.discard(call.place), self.pending.__setitem__(call.place, call)))
-
-    def hidden(self, what, number):
-        self.order.append((what, number))
-        self.change(self.order.pop)
-
-    def less(self, counts, key):
-        counts[key] -= 1
-        self.change(lambda: counts.__setitem__(key, counts[key] + 1))
-
-    def back_to(self, mark):
-        while len(self.undo) > mark:
-            self.undo.pop()()
+    def phase(self, number):
+        return self.held.get(number) or (ABSENT if number > self.total else GONE)
 
     def current(self):
         return len(self.waiting) + len(self.running)
 
-    def is_left(self, number):
-        """No call is left that saw the job as it is now."""
-        job, phase = self.history.jobs[number], self.phase.get(number, ABSENT)
-        return phase == ABSENT or job.left[phase] == 0
+    def counts_fit(self, call):
+        busy, current, total, _ = call.answer
+        return total == self.total and current == len(self.waiting) + len(self.running) and busy == bool(self.running)
+
+    def set_phase(self, number, phase):
+        before = self.held.get(number)
+        if before == WAITING:
+            self.waiting = tuple(n for n in self.waiting if n != number)
+        elif before == RUNNING:
+            self.running = tuple(n for n in self.running if n != number)
+        if phase == WAITING:
+            self.waiting = tuple(sorted((*self.waiting, number)))
+        elif phase == RUNNING:
+            self.running = tuple(sorted((*self.running, number)))
+        if phase == GONE:
+            del self.held[number]
+        else:
+            self.held[number] = phase
+        self.key ^= hash((number, before)) ^ hash((number, phase))
+
+    def step(self, what, it):
+        self.order = (self.order, what, it)
+
+    def place(self, call, what):
+        """The call stands here in the order."""
+        self.step(what, call)
+        self.placed.add(call.place)
+        self.key ^= hash((call.place, "placed"))
+
+    def steps(self):
+        found, link = [], self.order
+        while link:
+            link, what, it = link
+            found.append((what, it))
+        return found[::-1]
+
+
+class Search:
+    """Goes along the clock with some states at once, each of another order of the calls. At the moment at which a call was answered,
+    each state has to have it in its order."""
+
+    def __init__(self, history):
+        self.history, self.pending, self.about, self.counting = history, {}, {}, {}
+        self.left = {(n, phase): {c.place for c in calls} for n, job in history.jobs.items() for phase, calls in job.seen.items() if calls}
+        self.untold = {total: {c.place for c in calls} for total, calls in history.totals.items()}
+        self.deadlines = {n: self.deadline(job) for n, job in history.jobs.items()}
+        self.claimed = {n: [other for other in job.claimed if not history.jobs[other].is_entered()] for n, job in history.jobs.items()}
+        self.sends = {}
+        self.states, self.width, self.times_back = [State()], WIDTHS[0], 0
+
+    @staticmethod
+    def deadline(job):
+        """When the job was seen to have ended."""
+        return min((c.received for c in job.seen[FINISHED] + job.seen[GONE] + job.gone), default=float("inf"))
+
+    # ---- the calls that were sent and aren't answered yet
+
+    def shelves(self, call):
+        """Where the call is found while it isn't answered: by its job, and by the total that it tells."""
+        if call.name in ("kill", "knock"):
+            yield self.counting, call.answer[2]
+        if call.name == "getJobID":
+            yield self.counting, call.answer - 1
+        elif call.name == "send" and call.answer:
+            yield self.sends, call.job
+        elif call.name != "knock":
+            yield self.about, call.job
+
+    def seen_in(self, call):
+        """The sets of calls left that the call is in."""
+        if call.name in ("kill", "knock"):
+            yield self.untold[call.answer[2]]
+        if call.name == "knock":
+            for number, state in call.answer[3].items():
+                yield self.left[number, state]
+        elif call.name in ("retrieve", "solve") or (call.name == "kill" and told_of(call) == RUNNING):
+            if (call.job, told_of(call)) in self.left:
+                yield self.left[call.job, told_of(call)]
+
+    def open(self, call):
+        self.pending[call.place] = call
+        for shelf, key in self.shelves(call):
+            shelf.setdefault(key, {})[call.place] = call
+
+    def close(self, call):
+        del self.pending[call.place]
+        for shelf, key in self.shelves(call):
+            del shelf[key][call.place]
+            if not shelf[key]:
+                del shelf[key]
+
+    def is_left(self, state, number, phase):
+        """No call is left that saw the job in this phase."""
+        return self.left.get((number, phase), NONE) <= state.placed
+
+    def is_told(self, state):
+        """No call is left that tells the state's total."""
+        return self.untold.get(state.total, NONE) <= state.placed
 
     # ---- calls that fit
 
-    def counts_fit(self, call):
-        busy, current, total, _ = call.answer
-        return total == self.total and current == self.current() and busy == bool(self.running)
-
-    def fits(self, call):
+    def fits(self, state, call):
         """Whether a call that changes nothing, or nothing that others can tell, may stand here."""
-        phase = self.phase.get(call.job, ABSENT)
         if call.name == "knock":
-            return call.answer[2] == self.total and call.answer[3] == self.held and self.counts_fit(call)
-        if call.name == "send":
-            return not call.answer and phase != ISSUED and not (phase == ABSENT and call.job in self.history.jobs)
-        if call.name == "retrieve":
-            return told_of(call) == phase or (told_of(call) == GONE and call.job not in self.history.jobs)
-        if call.name == "solve":
-            return call.job in self.entered and told_of(call) == phase
-        if call.name != "kill" or not self.counts_fit(call):
-            return False
-        state = told_of(call)
-        if state == GONE:
-            return phase == GONE or call.job not in self.history.jobs or (phase in (FINISHED, KILLED) and self.is_left(call.job))
-        if state == KILLED:
-            return phase == ISSUED and self.is_left(call.job) and not self.history.jobs[call.job].send
-        return state == phase == RUNNING
-
-    def stand(self, call):
-        """Places a call that fits."""
-        phase = self.phase.get(call.job, ABSENT)
-        if call.name == "knock":
-            for number, state in call.answer[3].items():
-                self.less(self.history.jobs[number].left, state)
-        elif call.name in ("retrieve", "solve") and call.job in self.history.jobs:
-            self.less(self.history.jobs[call.job].left, told_of(call))
-        elif call.name == "kill" and told_of(call) == RUNNING:
-            self.less(self.history.jobs[call.job].left, RUNNING)
-        elif call.name == "kill" and told_of(call) == KILLED:
-            self.set_phase(call.job, KILLED)
-        elif call.name == "kill" and phase in (FINISHED, KILLED):
-            self.set_phase(call.job, GONE)
-        if call.name in ("kill", "knock"):
-            self.less(self.totals, call.answer[2])
-        self.place(call, call.name)
-
-    def settle(self):
-        """Places what fits as long as something does."""
-        again = True
-        while again:
-            again = False
-            for call in list(self.pending.values()):
-                if call.place not in self.placed and self.fits(call):
-                    self.stand(call)
-                    again = True
-
-    # ---- what a call needs before it
-
-    def need(self, call):
-        """The call was sent, so it may stand here."""
-        if call.place not in self.pending and call.place not in self.placed:
-            raise Stuck(f"needed before it was sent: {call}")
-
-    def leave(self, number):
-        """Places the calls that saw the job as it is."""
-        phase = self.phase.get(number, ABSENT)
-        if phase == ABSENT:
-            return
-        for call in self.history.jobs[number].seen[phase]:
-            if call.place not in self.placed:
-                self.force(call)
-
-    def advance(self, number, *targets):
-        """Takes a job to the first of these phases that it comes to."""
-        job = self.history.jobs.get(number)
-        while self.phase.get(number, ABSENT) not in targets:
-            phase = self.phase.get(number, ABSENT)
-            if job is None or phase == GONE:
-                raise Stuck(f"os-{number} is {phase} and has to be {targets[0]}")
-            self.leave(number)
-            if self.phase.get(number, ABSENT) == phase:
-                self.go_on(number, job, phase)
-
-    def go_on(self, number, job, phase):
-        """One step of a job out of its phase."""
-        if phase == ABSENT:
-            self.issue(number, job)
-        elif phase == ISSUED and job.send:
-            self.send(number, job)
-        elif phase in (ISSUED, WAITING) and job.kill:
-            self.kill_early(number, job)
-        elif phase == WAITING:
-            self.claim(number)
-        elif phase == RUNNING:
-            self.finish(number)
-        elif phase in (FINISHED, KILLED) and job.gone:
-            self.give_up(job)
-        else:
-            raise Stuck(f"os-{number} stays {phase}")
-
-    def issue(self, number, job):
-        if number > self.total + 1:
-            self.advance_total(number - 1)
-        for call in self.history.totals.get(self.total, []):
-            if call.place not in self.placed:
-                self.force(call)
-        if number != self.total + 1:
-            return
-        self.need(job.issue)
-        self.total += 1
-        self.change(lambda: setattr(self, "total", self.total - 1))
-        if job.is_entered():
-            self.entered.add(number)
-            self.change(lambda: self.entered.discard(number))
-            self.order.append(("enter", job.issue))
-            self.change(self.order.pop)
-            self.set_phase(number, RUNNING)
-        else:
-            self.set_phase(number, ISSUED)
-            self.place(job.issue, "getJobID")
-        self.settle()
-
-    def advance_total(self, total):
-        while self.total < total:
-            self.issue(self.total + 1, self.history.jobs[self.total + 1])
-
-    def send(self, number, job):
-        """A send. Jobs with greater numbers can't be claimed behind it before this one is, so they are claimed now, or fewer of them."""
-        self.need(job.send)
-        for other in sorted(job.claimed):
-            if not self.history.jobs[other].is_entered() and self.phase.get(other, ABSENT) in (ABSENT, ISSUED, WAITING):
-                self.advance(other, RUNNING, FINISHED, GONE)
-        if job.send.place in self.placed:
-            return
-        claims = 0
-        while self.waiting and self.waiting[-1] > number and claims < len(self.waiting) and self.may_be_claimed(self.waiting[claims]):
-            claims += 1
-        sends = [(None, lambda some=some: self.send_behind(number, job, some)) for some in range(claims, -1, -1)]
-        self.choose(self.kills_before(lambda wanted: wanted <= self.current()) + sends)
-
-    def kills_before(self, wants):
-        """The kills that may tell of the table as it is before one more job waits or runs, or one fewer: now, or as soon as some of
-        the numbers are given that may be given now. Those behind other calls with a smaller total come later."""
-        most = min([call.answer[2] for call in self.forcing if call.name in ("kill", "knock")] + [self.reach()])
-        entered, (fewer, more) = 0, self.room()
-        for total in range(self.total, most + 1):
-            entered += total > self.total and self.history.jobs[total].is_entered()
-            left = [call for call in self.history.totals.get(total, []) if call.place not in self.placed]
-            if left:
-                break
-        else:
-            return []
-        found = []
-        for call in left:
-            if call.name == "kill" and call.place in self.pending and call not in self.forcing and call.place not in self.put_off:
-                lowers = told_of(call) == KILLED and self.phase.get(call.job) == WAITING
-                wanted = call.answer[1] + lowers - entered
-                if wants(wanted) and self.current() - fewer <= wanted <= self.current() + more:
-                    found.append(call)
-        found.sort(key=lambda call: call.received)
-        return [(kill.place, lambda kill=kill: self.force(kill)) for kill in found[: self.kills]]
-
-    def room(self):
-        """How many fewer may wait or run now, and how many more, at most."""
-        fewer = sum(self.may_leave(n, WAITING, RUNNING) for n in self.held if self.phase[n] in (WAITING, RUNNING))
-        sends = [c.job for c in self.pending.values() if c.name == "send" and c.answer and self.phase.get(c.job, ABSENT) in (ABSENT, ISSUED)]
-        return fewer, len(sends)
-
-    def may_be_claimed(self, number):
-        return not self.history.jobs[number].kill and self.may_leave(number, WAITING)
-
-    def send_behind(self, number, job, claims):
-        for first in self.waiting[:claims]:
-            if job.send.place not in self.placed:
-                self.advance(first, RUNNING, FINISHED, KILLED, GONE)
-        if job.send.place not in self.placed:
-            self.leave(number)
-            self.set_phase(number, WAITING)
-            self.place(job.send, "send")
-            self.settle()
-
-    def claim(self, number):
-        while self.waiting and self.waiting[0] < number:
-            first = self.waiting[0]
-            self.advance(first, RUNNING, KILLED, GONE)
-        if self.phase[number] == WAITING:
-            self.set_phase(number, RUNNING)
-            self.hidden("claim", number)
-            self.settle()
-
-    def finish(self, number):
-        self.choose(self.kills_before(lambda wanted: wanted >= self.current()) + [(None, lambda: self.finish_now(number))])
-
-    def finish_now(self, number):
-        self.set_phase(number, FINISHED)
-        self.hidden("finish", number)
-        self.settle()
-
-    def kill_early(self, number, job):
-        self.need(job.kill)
-        lowers = self.phase[number] == WAITING
-        self.meet(job.kill, 1 if lowers else 0, number)
-        if job.kill.place not in self.placed:
-            self.set_phase(number, KILLED)
-            self.less(self.totals, job.kill.answer[2])
-            self.place(job.kill, "kill")
-            self.settle()
-
-    def give_up(self, job):
-        """The kill that gave the job up: the first of those that may have."""
-        ready = [call for call in job.gone if call.place in self.pending]
-        if not ready:
-            raise Stuck(f"given up before a kill of it was sent: {job.gone[0]}")
-        first = min(ready, key=lambda c: (c.answer[2], c.received))
-        self.meet(first, 0, first.job)
-        if first.place not in self.placed:
-            self.stand(first)
-            self.settle()
-
-    def force(self, call):
-        """Places a call that has to stand here at the latest."""
-        self.need(call)
-        if call.place in self.placed:
-            return
-        if call in self.forcing:
-            raise Stuck(f"each has to stand before the other:\n  {call}\n  {self.forcing[-1]}")
-        self.forcing.append(call)
-        try:
-            self.bring(call)
-        finally:
-            self.forcing.pop()
-        if call.place not in self.placed:
-            if not self.fits(call):
-                raise Stuck(f"doesn't fit: {call}")
-            self.stand(call)
-            self.settle()
-
-    def bring(self, call):
-        """Makes the changes that the call needs."""
+            return state.counts_fit(call) and call.answer[3] == state.held
         if call.name == "getJobID":
-            self.advance_total(call.answer)
-        elif call.name == "solve":
-            self.advance_total(call.job)
-            self.advance(call.job, told_of(call))
-        elif call.name == "send" and call.job in self.history.jobs:
-            if call.answer:
-                self.advance(call.job, WAITING)
-            else:
-                self.advance(call.job, WAITING, RUNNING, FINISHED, KILLED, GONE)
-        elif call.name == "retrieve" and call.job in self.history.jobs:
-            self.advance(call.job, told_of(call))
-        elif call.name == "knock":
-            self.bring_all(call)
-        elif call.name == "kill":
-            self.bring_kill(call)
-
-    def bring_all(self, call):
-        self.advance_total(call.answer[2])
-        # Those that still wait come last: no other one with a greater number could be claimed behind them.
-        for number, state in sorted(call.answer[3].items(), key=lambda it: (it[1] == WAITING, it[0])):
-            if call.place not in self.placed:
-                self.advance(number, state)
-        for number in sorted(self.held):
-            if call.place not in self.placed and number not in call.answer[3] and number <= call.answer[2]:
-                self.advance(number, GONE)
-
-    def bring_kill(self, call):
-        self.advance_total(call.answer[2])
+            return call.answer == state.total + 1 and self.is_told(state)
         if call.job not in self.history.jobs:
-            self.meet(call, 0, call.job)
-            return
-        state = told_of(call)
-        if state != GONE:
-            self.advance(call.job, *((KILLED, GONE) if state == KILLED else (state,)))
-        elif self.phase.get(call.job) != GONE:
-            self.advance(call.job, FINISHED, KILLED, GONE)
-            if self.phase[call.job] != GONE:
-                self.leave(call.job)
-        if call.place not in self.placed:
-            self.meet(call, 0, call.job)
+            return call.name != "kill" and not call.answer or told_of(call) == GONE and (call.name != "kill" or state.counts_fit(call))
+        phase = state.phase(call.job)
+        if call.name == "send":
+            return not call.answer and phase not in (ABSENT, ISSUED)
+        if call.name != "kill":
+            return told_of(call) == phase
+        return state.counts_fit(call) and self.kill_fits(state, call, phase)
 
-    # ---- how many wait or run
+    def kill_fits(self, state, call, phase):
+        told = told_of(call)
+        if told == GONE:
+            return phase == GONE or (phase in (FINISHED, KILLED) and self.is_left(state, call.job, phase))
+        if told == KILLED:
+            return phase == ISSUED and not self.history.jobs[call.job].send and self.is_left(state, call.job, ISSUED)
+        return told == phase
 
-    def meet(self, call, lowers, number):
-        """Makes changes until so many wait or run, and one runs or none, as the kill tells it. It lowers the count itself by so many."""
-        self.advance_total(call.answer[2])
-        while call.place not in self.placed:
-            busy, current, total, _ = call.answer
-            if total != self.total:
-                raise Stuck(f"os-{total + 1} was issued before: {call}")
-            if current == self.current() - lowers and busy == bool(self.running):
-                return
-            ways = self.ways(current - self.current() + lowers, busy, number)
-            if not ways:
-                raise Stuck(f"{self.current()} wait or run, {len(self.running)} run: {call}")
-            self.choose([(None, lambda way=way: self.take_way(*way)) for way in ways])
+    def stand(self, state, call):
+        """Places a call that fits; the job whose phase it changed, if any."""
+        state.place(call, call.name)
+        if call.name == "getJobID":
+            state.total += 1
+            state.set_phase(call.answer, ISSUED)
+        elif call.name == "kill" and told_of(call) in (KILLED, GONE) and state.held.get(call.job):
+            state.set_phase(call.job, told_of(call))
 
-    def choose(self, ways):
-        """Takes the first of these ways, and keeps the others for later. The last choices alone are kept, and the way back to them."""
-        if len(ways) > 1:
-            self.choices.append((len(self.undo), self.step, ways))
-            self.forget()
-        ways[0][1]()
+    def settle(self, state, number):
+        """Places what fits as long as something does, where the job's phase or the counts have changed."""
+        numbers = {number}
+        while numbers:
+            number = numbers.pop()
+            for call in [*self.about.get(number, NOTHING).values(), *self.counting.get(state.total, NOTHING).values()]:
+                if call.place not in state.placed and self.fits(state, call):
+                    self.stand(state, call)
+                    numbers.update(call.answer[3] if call.name == "knock" else (call.job or call.answer,))
+                    numbers.add(0)
 
-    def forget(self):
-        del self.choices[:-CHOICES_KEPT]
-        oldest = self.choices[0][0]
-        if oldest > 1_000_000:
-            del self.undo[:oldest]
-            self.choices = [(mark - oldest, step, ways) for mark, step, ways in self.choices]
+    # ---- changes that others can tell
 
-    def ways(self, more, busy, number):
-        """The changes that bring the counts nearer, the most pressing first: a job and the phase that it comes to. The kill's own job
-        stays."""
-        jobs, others = self.history.jobs, [n for n in self.waiting if n != number]
-        if more < 0 or (more == 0 and self.running and not busy):
-            ends = [n for n in self.running if n != number and self.may_leave(n, RUNNING)]
-            first = [n for n in self.waiting[:1] if n != number and not jobs[n].kill and self.may_leave(n, WAITING, RUNNING)]
-            kills = [n for n in others if jobs[n].kill and jobs[n].kill.place in self.pending and self.may_leave(n, WAITING)]
-            ends = sorted(ends, key=self.deadline) + (first if more < 0 else [])
-            return [(n, FINISHED) for n in ends] + [(n, KILLED) for n in kills if more < 0]
-        if more > 0:
-            sends = [c for c in self.pending.values() if c.name == "send" and c.answer and self.phase.get(c.job) == ISSUED]
-            return [(c.job, WAITING) for c in sorted(sends, key=lambda c: c.received) if self.may_leave(c.job, ISSUED)]
-        return [(n, RUNNING) for n in self.waiting[:1] if n != number and self.may_be_claimed(n)]
+    def moves(self, state, aim):
+        """The changes that may come next: what, and of which job."""
+        jobs, found = self.history.jobs, []
+        first = state.waiting[0] if state.waiting else None
+        ends = sorted((n for n in state.running if self.is_left(state, n, RUNNING)), key=self.deadlines.get)
+        found += [("finish", n) for place, n in enumerate(ends) if place < 2 or n == aim.job]
+        if first and not jobs[first].kill and self.is_left(state, first, WAITING):
+            found.append(("claim", first))
+        found += [("kill", n) for n in state.waiting if jobs[n].kill and self.may_be_killed(state, jobs[n].kill)]
+        found += [("send", n) for n in self.sends if state.held.get(n) == ISSUED and self.may_be_sent(state, n)]
+        job = jobs.get(state.total + 1)
+        if job and job.is_entered() and job.issue.place in self.pending and self.is_told(state):
+            found.append(("enter", state.total + 1))
+        return found
 
-    def may_leave(self, number, *phases):
-        """Whichever call is left that sees the job in these phases may stand now, and isn't the one that has to stand next."""
-        job = self.history.jobs[number]
-        calls = [call for phase in phases if job.left[phase] for call in job.seen[phase] if call.place not in self.placed]
-        if not all(call.place in self.pending and call not in self.forcing for call in calls):
-            return False
-        totals = [call.answer[2] for call in calls if call.name in ("kill", "knock")]
-        return not totals or max(totals) <= self.reach()
+    def may_be_killed(self, state, call):
+        """Whether a kill of a job that waits may stand here."""
+        busy, current, total, _ = call.answer
+        fits = total == state.total and current == state.current() - 1 and busy == bool(state.running)
+        return fits and call.place in self.pending and self.is_left(state, call.job, WAITING)
 
-    def reach(self):
-        """The greatest total that may come now, by calls that were sent."""
-        total = self.total
-        while total + 1 in self.history.jobs and self.history.jobs[total + 1].issue.place in self.pending:
-            if any(c.place not in self.placed and c.place not in self.pending for c in self.history.totals.get(total, [])):
-                break
-            total += 1
-        return total
+    def may_be_sent(self, state, number):
+        """Jobs with greater numbers that were claimed before can't be claimed behind."""
+        return self.is_left(state, number, ISSUED) and not any(state.phase(n) in (ABSENT, ISSUED, WAITING) for n in self.claimed[number])
 
-    def deadline(self, number):
-        """When the job was seen to have ended."""
-        job = self.history.jobs[number]
-        return min((c.received for c in job.seen[FINISHED] + job.seen[GONE] + job.gone), default=float("inf"))
+    def moved(self, state, what, number):
+        it, job = state.copy(), self.history.jobs[number]
+        it.moves += 1
+        if what == "enter":
+            it.total += 1
+            it.step("enter", job.issue)
+        elif what in ("kill", "send"):
+            it.place(getattr(job, what), what)
+        else:
+            it.step(what, number)
+        it.set_phase(number, {"finish": FINISHED, "claim": RUNNING, "kill": KILLED, "send": WAITING, "enter": RUNNING}[what])
+        self.settle(it, number)
+        return it
 
-    def take_way(self, number, phase):
-        self.advance(number, phase, FINISHED, KILLED, GONE)
-        self.settle()
+    # ---- the way to a state with a call in its order
+
+    def distance(self, state, call, depth=3):
+        """About how many changes the call needs before it."""
+        if call.place in state.placed:
+            return 0
+        steps = 1
+        if call.name in ("kill", "knock", "getJobID"):
+            steps += self.distance_of_counts(state, call, depth)
+        if call.name == "knock":
+            steps += len(call.answer[3].items() ^ state.held.items()) // 2
+        elif call.job in self.history.jobs and call.name != "getJobID":
+            steps += self.distance_of_job(state, call, depth)
+        return steps
+
+    def distance_of_counts(self, state, call, depth):
+        total = call.answer - 1 if call.name == "getJobID" else call.answer[2]
+        if total > state.total or call.name == "getJobID":
+            return 2 * (total - state.total) + self.distance_of(self.untold.get(state.total, NONE), state, depth)
+        return abs(call.answer[1] - state.current()) + (call.answer[0] != bool(state.running))
+
+    def distance_of_job(self, state, call, depth):
+        phase, wanted = state.phase(call.job), WAITING if call.name == "send" else told_of(call)
+        if phase == wanted:
+            return 0
+        if phase == ABSENT:
+            return 2 * (call.job - state.total) + self.distance_of(self.untold.get(state.total, NONE), state, depth)
+        steps = max(PHASES.index(wanted) - PHASES.index(phase), 1)
+        if phase == WAITING:
+            steps += state.waiting.index(call.job)
+        return steps + self.distance_of(self.left.get((call.job, phase), NONE), state, depth)
+
+    def distance_of(self, places, state, depth):
+        if not depth:
+            return 0
+        return sum(self.distance(state, self.history.calls[place], depth - 1) for place in places if place not in state.placed)
+
+    def reached(self, states, call):
+        """States with the call in their order, from those that don't have it."""
+        heap, met, found, tries = [], set(), [], 0
+        for state in states:
+            heapq.heappush(heap, (self.distance(state, call), len(met), state, 0))
+            met.add(state.key)
+        while heap and len(found) < self.width and tries < self.width * TRIES:
+            _, _, state, steps = heapq.heappop(heap)
+            tries += 1
+            for what, number in self.moves(state, call):
+                it = self.moved(state, what, number)
+                if it.key in met:
+                    continue
+                met.add(it.key)
+                if call.place in it.placed:
+                    found.append(it)
+                else:
+                    heapq.heappush(heap, (steps + 1 + self.distance(it, call), len(met), it, steps + 1))
+        return found
 
     # ---- the walk along the clock
+
+    def send(self, call):
+        self.open(call)
+        for state in self.states:
+            if self.fits(state, call):
+                self.stand(state, call)
+                self.settle(state, call.job or 0)
+
+    def receive(self, call):
+        """Whether states are left, each with the call in its order."""
+        ready = [state for state in self.states if call.place in state.placed]
+        if len(ready) < len(self.states):
+            ready += self.reached([state for state in self.states if call.place not in state.placed], call)
+        if not ready:
+            return False
+        best = {state.key: state for state in sorted(ready, key=lambda state: len(state.placed) - state.moves)}
+        self.states = list(best.values())[-self.width :]
+        for state in self.states:
+            state.placed.discard(call.place)
+        for calls in self.seen_in(call):
+            calls.discard(call.place)
+        self.close(call)
+        return True
+
+    def back(self, steps, begin, end):
+        """Takes these steps of the clock back."""
+        for _, ends, place in reversed(steps[begin:end]):
+            call = self.history.calls[place]
+            if ends:
+                self.open(call)
+                for calls in self.seen_in(call):
+                    calls.add(place)
+            else:
+                self.close(call)
 
     def run(self):
         """The order, or the reason for which none was found."""
         calls = self.history.calls
         steps = sorted([(c.sent, 0, c.place) for c in calls] + [(c.received, 1, c.place) for c in calls])
-        self.step, self.forcing, way = 0, [], None
-        while self.step < len(steps):
-            _, ends, place = steps[self.step]
-            try:
-                if way:
-                    way, taken = None, way
-                    taken()
-                if ends:
-                    self.force(calls[place])
-                elif place not in self.placed and place not in self.pending:
-                    self.pending[place] = calls[place]
-                    self.change(lambda place=place: self.pending.pop(place, None))
-                    self.settle()
-                self.step += 1
-                self.put_off.clear()
-            except Stuck as stuck:
-                way = self.other_way(stuck)
-        return self.order
+        step, kept, narrow = 0, [], 0
+        while step < len(steps):
+            if step % STEPS_KEPT == 0:
+                kept[step // STEPS_KEPT :] = [[state.copy() for state in self.states]]
+                if step > narrow:
+                    self.width = WIDTHS[0]
+            _, ends, place = steps[step]
+            if not ends:
+                self.send(calls[place])
+            elif not self.receive(calls[place]):
+                narrow = max(narrow, step + 2 * STEPS_KEPT)
+                begin = self.wider(calls[place], step)
+                self.back(steps, begin, step)
+                self.states, step = [state.copy() for state in kept[begin // STEPS_KEPT]], begin
+                continue
+            step += 1
+        return max(self.states, key=lambda state: -state.moves).steps()
 
-    def other_way(self, stuck):
-        """Goes back to the last choice that has another way."""
-        self.steps_back += 1
-        if not self.choices or self.steps_back > MOST_STEPS_BACK:
-            raise Contradiction(f"no order was found: {stuck}")
-        mark, step, ways = self.choices.pop()
-        self.back_to(mark)
-        if step != self.step:
-            self.put_off.clear()
-        self.put_off.add(ways[0][0])  # the kill that led nowhere isn't tried again before other changes of this moment
-        self.step, self.forcing = step, []
-        if len(ways) > 2:
-            self.choices.append((mark, step, ways[1:]))
-        return ways[1][1]
+    def wider(self, call, step):
+        """From which step on to search again, with more states at once."""
+        if self.width == WIDTHS[-1]:
+            raise Contradiction(f"no order was found: {call}")
+        self.times_back += 1
+        level = WIDTHS.index(self.width) + 1
+        self.width = WIDTHS[level]
+        return max(step // STEPS_KEPT - level, 0) * STEPS_KEPT
 
 
 def replayed(order, documents):
@@ -851,23 +721,16 @@ def replayed(order, documents):
 
 
 def check(calls):
-    """How many calls stand in one order, with the claims and finishes that were found, and how often the search went back.
+    """How many calls stand in one order, how many claims, finishes and beginnings of solves among them, and how often the search went back.
 
     Raises Contradiction where there is none.
     """
     history = History(calls)
     Chains(history).look()
-    for kills in MOST_KILLS:
-        history.begin()
-        search = Search(history, kills)
-        try:
-            order = search.run()
-            break
-        except Contradiction:
-            if kills == MOST_KILLS[-1]:
-                raise
+    search = Search(history)
+    order = search.run()
     wrong = replayed(order, {number: job.document for number, job in history.jobs.items()})
     placed = sum(1 for what, _ in order if what not in ("claim", "finish", "enter"))
     if wrong or placed != len(calls):
         raise Contradiction(wrong or f"{len(calls) - placed} calls have no place")
-    return placed, len(order) - placed, search.steps_back
+    return placed, len(order) - placed, search.times_back
