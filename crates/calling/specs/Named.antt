@@ -1,6 +1,6 @@
 -- The files that the words of a call name.
 use Rattle.std.specs.Prelude.{option_map}
-use Rattle.calling.specs.declared.words.CallWords.{CallWords}
+use Rattle.command_line.specs.declared.words.CallWords.{CallWords}
 use Rattle.calling.specs.Runs.{Names}
 
 -- their names

@@ -8,8 +8,8 @@ ghost use Rattle.calling.specs.Runs.{CallEnds, NamesNone, Reaches};
 
 use crate::reading::read_call;
 use crate::telling::tell;
-use crate::words::CallWords;
 use command_answers::status::{NO_LINK, NO_MEMORY, READ_FAULT};
+use command_line::CallWords;
 use os_client::{CallFault, call};
 use os_io::{Failed, FileFault, Files, Listener, Sink, Text};
 use soap_calls::SoapCall;

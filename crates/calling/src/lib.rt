@@ -11,8 +11,7 @@ mod calling;
 mod laws;
 mod reading;
 mod telling;
-mod words;
 
 pub use calling::make_call;
+pub use command_line::CallWords;
 pub use laws::{statuses_are_told_as_they_came, written_answers_are_told};
-pub use words::CallWords;

@@ -2,29 +2,14 @@
 
 ghost use Rattle.std.specs.Prelude.{◌≡◌, IfOk, IsOk};
 ghost use Rattle.os_io.specs.Files.{CountsFiles};
-ghost use Rattle.soap_calls.specs.Calls as calls;
 ghost use Rattle.calling.specs.Named.{named_by};
 ghost use Rattle.calling.specs.Runs.{IsCallOf, NamesNone};
 
-use crate::words::CallWords;
 use command_answers::read_named;
-use os_io::{FileFault, Files, Text};
-use soap_calls::{CallKind, SoapCall};
+use command_line::CallWords;
+use os_io::{FileFault, Files};
+use soap_calls::{Parts, SoapCall, call_of};
 use std::alloc::Global;
-
-/// The call with these texts, of which those are dropped that it has no part for.
-fn call_of(kind: CallKind, osil: Text, osol: Text, ospl: Text) -> SoapCall
-    ensures { result ≡ calls.call_of kind (record { osil = osil; osol = osol; ospl = ospl }) }
-{
-    match kind {
-        CallKind::Solve => SoapCall::Solve { osil, osol },
-        CallKind::GetJobId => SoapCall::GetJobId { osol },
-        CallKind::Send => SoapCall::Send { osil, osol },
-        CallKind::Retrieve => SoapCall::Retrieve { osol },
-        CallKind::Knock => SoapCall::Knock { ospl, osol },
-        CallKind::Kill => SoapCall::Kill { osol },
-    }
-}
 
 /// Reads all files that are named, in the order instance, options, process, and makes the call with their texts.
 pub(crate) fn read_call<F: Files>(
@@ -41,5 +26,5 @@ pub(crate) fn read_call<F: Files>(
     let osil = read_named(alloc, files, words.osil)?;
     let osol = read_named(alloc, files, words.osol)?;
     let ospl = read_named(alloc, files, words.ospl)?;
-    Ok(call_of(words.kind, osil, osol, ospl))
+    Ok(call_of(words.kind, Parts { osil, osol, ospl }))
 }

@@ -28,8 +28,8 @@ meant asked.Session = Session
 meant (asked.Check osil osrl) = Check osil.now osrl.now
 meant (asked.Solve osil options) = Solve osil.now (option_map (λ name. name.now) options)
 meant (asked.Generate variables) = Generate variables
-meant (asked.Call kind host port osil osol ospl) = Call kind host.now port (option_map (λ name. name.now) osil) (option_map (λ name. name.now) osol) (option_map (λ name. name.now) ospl)
-meant (asked.Serve host port workers servers connections) = Serve host.now port workers servers connections
+meant (asked.Call words) = Call words.kind words.host.now words.port (option_map (λ name. name.now) words.osil) (option_map (λ name. name.now) words.osol) (option_map (λ name. name.now) words.ospl)
+meant (asked.Serve words) = Serve words.host.now words.port words.workers words.servers words.connections
 
 -- ---- what a command's words mean
 

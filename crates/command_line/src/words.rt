@@ -19,6 +19,28 @@ use std::alloc::{AllocError, Global};
 /// How the program is called.
 const USAGE: &[u8] = b"usage: os_app session | solve | check | serve | call | generate\n";
 
+/// Which call is to be made, of whom, and the names of the files with its parts. A part whose file isn't named is empty, and
+/// one that the call doesn't have isn't sent.
+#[derive(Clone, Copy, Debug)]
+pub struct CallWords<'w> {
+    pub kind: CallKind,
+    pub host: &'w str,
+    pub port: u16,
+    pub osil: Option<&'w str>,
+    pub osol: Option<&'w str>,
+    pub ospl: Option<&'w str>,
+}
+
+/// Where is served, by up to how many workers that run jobs, how many conversations at once, and how many connections in all.
+#[derive(Clone, Copy, Debug)]
+pub struct ServeWords<'w> {
+    pub host: &'w str,
+    pub port: u16,
+    pub workers: u32,
+    pub servers: u32,
+    pub connections: u32,
+}
+
 /// What the words ask for.
 #[derive(Clone, Copy, Debug)]
 pub enum Asked<'w> {
@@ -39,23 +61,10 @@ pub enum Asked<'w> {
         variables: u32,
     },
     /// To make a call of the server at a port of a host, with the texts of the files that are named.
-    Call {
-        kind: CallKind,
-        host: &'w str,
-        port: u16,
-        osil: Option<&'w str>,
-        osol: Option<&'w str>,
-        ospl: Option<&'w str>,
-    },
+    Call(CallWords<'w>),
     /// To serve at a port of a host, with up to 16 workers that run jobs beside 1 to 64 conversations at once, until 1 to
     /// 1,000,000 connections have come.
-    Serve {
-        host: &'w str,
-        port: u16,
-        workers: u32,
-        servers: u32,
-        connections: u32,
-    },
+    Serve(ServeWords<'w>),
 }
 
 /// The number that a word is, if it is one within these ends.
@@ -150,14 +159,14 @@ fn call_of<'w>(matches: &ArgMatches<'w>) -> Option<Asked<'w>>
     let osil = matches.get_str("osil");
     let osol = matches.get_str("osol");
     let ospl = matches.get_str("ospl");
-    Some(Asked::Call {
+    Some(Asked::Call(CallWords {
         kind,
         host,
         port,
         osil,
         osol,
         ospl,
-    })
+    }))
 }
 
 /// The port and the counts that `serve`'s words name.
@@ -169,13 +178,13 @@ fn serve_of<'w>(matches: &ArgMatches<'w>) -> Option<Asked<'w>>
     let workers = number_or(2, matches.get_str("workers"), 0, 16)?;
     let servers = number_or(8, matches.get_str("servers"), 1, 64)?;
     let connections = number_or(1_000_000, matches.get_str("connections"), 1, 1_000_000)?;
-    Some(Asked::Serve {
+    Some(Asked::Serve(ServeWords {
         host,
         port,
         workers,
         servers,
         connections,
-    })
+    }))
 }
 
 /// What a command of this name asks for.

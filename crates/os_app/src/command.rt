@@ -14,7 +14,7 @@ ghost use Rattle.os_app.specs.Statuses.{session_status};
 use crate::checking::answer_about;
 use crate::generating::generate;
 use crate::solving::solve_files;
-use calling::{CallWords, make_call};
+use calling::make_call;
 use cert_checker::{accepted_is_not_refused, documents_have_one_answer, documents_have_one_kind};
 use closing::Close;
 use command_answers::status::{
@@ -153,50 +153,19 @@ where
             numbers_are_within_their_ends();
             tell(output, from_memory(generate(alloc, variables)))
         }
-        Ok(
-            Some(
-                Asked::Call {
-                    kind,
-                    host,
-                    port,
-                    osil,
-                    osol,
-                    ospl,
-                },
-            ),
-        ) => {
-            let words = CallWords {
-                kind,
-                host,
-                port,
-                osil,
-                osol,
-                ospl,
-            };
-            make_call(alloc, words, files, output, net)
-        }
-        Ok(
-            Some(
-                Asked::Serve {
-                    host,
-                    port,
-                    workers,
-                    servers,
-                    connections,
-                },
-            ),
-        ) => {
+        Ok(Some(Asked::Call(call))) => make_call(alloc, call, files, output, net),
+        Ok(Some(Asked::Serve(to))) => {
             numbers_are_within_their_ends();
             let ending = serve(
                 rt,
                 alloc,
                 net,
                 output,
-                host,
-                port,
-                workers,
-                servers,
-                connections,
+                to.host,
+                to.port,
+                to.workers,
+                to.servers,
+                to.connections,
             );
             serve_status(ending)
         }

@@ -40,7 +40,7 @@ pub enum SoapCall {
 
 /// The texts of all parts, empty where the call doesn't have one.
 #[derive(Drop)]
-pub(crate) struct Parts {
+pub struct Parts {
     pub osil: Text,
     pub osol: Text,
     pub ospl: Text,

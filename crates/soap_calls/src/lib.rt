@@ -17,7 +17,7 @@ mod replies;
 mod replying;
 mod telling;
 
-pub use call::{CallKind, Part, SoapCall};
+pub use call::{CallKind, Part, Parts, SoapCall};
 pub use calling::read_call;
 pub use fault::{Answer, NotReply, SoapFault};
 pub use laws::{
@@ -25,6 +25,7 @@ pub use laws::{
     calls_are_read_back, faults_are_read_back, returned_texts_may_be_returned,
     returns_are_read_back,
 };
+pub use parts::call_of;
 pub use replies::read_reply;
 pub use replying::{write_fault, write_reply};
 pub use telling::write_call;

@@ -63,8 +63,8 @@ pub(crate) fn read_parts(alloc: Global, call: Spot<'_>, kind: CallKind) -> Resul
     Ok(Parts { osil, osol, ospl })
 }
 
-/// The call with these texts.
-pub(crate) fn call_of(kind: CallKind, parts: Parts) -> SoapCall
+/// The call with these texts, of which those are dropped that it has no part for.
+pub fn call_of(kind: CallKind, parts: Parts) -> SoapCall
     ensures { result ≡ calls.call_of kind parts }
 {
     let Parts { osil, osol, ospl } = parts;
