@@ -141,7 +141,7 @@ where
     ensures unlinked { AsksForNoLink (map string_bytes words.now) → net.new ≡ net.old }
 {
     match read(alloc, words) {
-        Ok(Some(Asked::Session)) => session_status(serve_session(alloc, input, output)),
+        Ok(Some(Asked::Session)) => session_status(serve_session(rt, alloc, input, output)),
         Ok(Some(Asked::Check { osil, osrl })) => {
             documents_are_judged_once();
             tell(output, answer_about(alloc, files, osil, osrl))

@@ -2,6 +2,7 @@ pub mod Bodies
 pub mod Steps
 pub mod Replies
 pub mod Rounds
+pub mod Away
 pub mod Pieces
 pub mod Kept
 pub mod Cutting

@@ -358,6 +358,19 @@ pub all_done : (made : Made) (did : List Entry → Type 0) (count : ℕ) (a b : 
     → SoFar made did count a b → Serves made did Ended a b
 all_done made did count a b full s = (done_whole made did count a b full s).0
 
+-- of the calls of a conversation something else may be said
+abbrev pub serves_so : (made : Made) (did said : List Entry → Type 0) (end : Served) (old new : Tells) → (s : Serves made did end old new)
+    → said s.part.entries → Serves made said end old new
+serves_so made did said end old new s is = record {
+  part = s.part;
+  past = s.past;
+  talk = s.talk;
+  calls = is;
+  read = s.read;
+  wrote = s.wrote;
+  accounts = s.accounts;
+}
+
 -- ---- read ahead
 
 at_end_of : (x y : Bytes) (past carry : List ℕ) → AtEnd past (with_carry [] x) (with_carry carry y) → AtEnd (past ++ carry) x y

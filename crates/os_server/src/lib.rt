@@ -1,6 +1,7 @@
 //! The server of the six calls of the Optimization Services: what is asked on a connection, and how it is answered.
 //!
-//! [`serve_one`] reads the requests of a link one after another, [`serve_ends`] those of an input, and their contract is one definition, `Talk`: the bytes read are
+//! [`serve_one`] reads the requests of a link one after another, [`serve_ends`] those of an input, and [`turn_away`] answers where there is
+//! no memory to begin. Their contract is one definition, `Talk`: the bytes read are
 //! requests and a last part, the calls made of the table of jobs are those that the requests ask, in their order, and the
 //! bytes written are the answers, each a function of its request and of the table's replies. Behind each answer that is 200
 //! or 500 a job that waits is claimed and run. Each way in which a conversation ends comes exactly where the definition says; but
@@ -30,5 +31,5 @@ pub use laws::{
 };
 pub use order::Order;
 pub use saying::Said;
-pub use serve::{Served, serve_ends, serve_one};
+pub use serve::{Served, serve_ends, serve_one, turn_away};
 pub use server::Server;

@@ -1,5 +1,5 @@
 //! The requests of a connection, one after another.
-ghost use Rattle.std.specs.Prelude.{◌≡◌, List};
+ghost use Rattle.std.specs.Prelude.{◌≡◌, List, []};
 ghost use Rattle.job_table.specs.History.{Entry};
 ghost use Rattle.os_io.specs.Streams.{SameInput, SameOutput};
 ghost use Rattle.os_server.specs.Talk.{Serves, ServesWhole, both_ends};
@@ -133,6 +133,21 @@ pub fn serve_ends<I: Source, O: Sink, V: Verdicts, C: Calls<V>, S: Server<V>>(
         }
     }
     Served::Ended
+}
+
+/// Answers on an output that there is no memory for a conversation, of whose input nothing is read then: 503.
+pub fn turn_away<I: Source, O: Sink, V: Verdicts, S: Server<V>>(
+    _input: &I,
+    output: &mut O,
+    _server: &S,
+) -> Served
+    ensures serves { ServesWhole S.ran (λ made. made ≡ []) result (both_ends (I.tells _input.now) (O.tells output.old)) (both_ends (I.tells _input.now) (O.tells output.new)) }
+    ensures input_of_output { SameInput (O.tells output.old) (O.tells output.new) }
+{
+    match send(output, &Reply::NoMemory) {
+        Ok(()) => Served::Memory,
+        Err(_) => Served::WriteFault,
+    }
 }
 
 /// Serves a link, and gives it back: its requests are read and answered one after another, each by the calls that it asks, and

@@ -4,25 +4,11 @@ use Rattle.os_io.specs.Streams.{Tells}
 use Rattle.job_table.specs.History.{Entry}
 use Rattle.os_server.specs.declared.serve.Served.{Served}
 use Rattle.os_server.specs.Talk.{Serves}
+use Rattle.os_server.proofs.Rounds.{serves_so}
 use Rattle.sessions.specs.Runs.{Makes}
 use Rattle.serving.specs.Serving.{lacks_memory, Converses}
 
 pub converses : (did : List Entry → Type 0) (end : Served) (came back : Tells) (short : Bool) → short ≡ lacks_memory end → Serves Makes did end came back
     → (own : List Entry) × did own × Converses came own back short
-converses did end came back short is s = (
-  s.part.entries,
-  s.calls,
-  (
-    end,
-    record {
-      part = s.part;
-      past = s.past;
-      talk = s.talk;
-      calls = refl;
-      read = s.read;
-      wrote = s.wrote;
-      accounts = s.accounts;
-    },
-    is,
-  ),
-)
+converses did end came back short is s =
+    (s.part.entries, s.calls, (end, serves_so Makes did (λ made. made ≡ s.part.entries) end came back s refl, is))

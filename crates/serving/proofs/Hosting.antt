@@ -23,6 +23,7 @@ use Rattle.server_threads.specs.Serving as threads
 use Rattle.solve_run.specs.Right.{Right}
 use Rattle.sessions.specs.Runs.{Makes}
 use Rattle.sessions.specs.Sessions.{ShownAreProved}
+use Rattle.sessions.proofs.Alone.{calls_by_one}
 use Rattle.os_server.proofs.Pieces.{talk_so}
 use Rattle.command_answers.specs.Net.{NetTells}
 use Rattle.serving.specs.Serving.{Converses, callers, IsHistory, Hosts, numbers_given}
@@ -61,10 +62,6 @@ module _ (P Q : Met → Type 0) (n : ℕ) where
   sits (m ∷ ms) p q = sits_more m ms (eqb m.seat n) refl (All-head P m ms p) (All-head Q m ms q) (sits ms (All-tail P m ms p) (All-tail Q m ms q))
 
 -- ---- the calls of each are orderly
-
-calls_by_one : (n : ℕ) (said : List Said) → calls (by n said) ≡ said
-calls_by_one n [] = refl
-calls_by_one n (s ∷ ss) = ap (λ (l : List Said). s ∷ l) (calls_by_one n ss)
 
 abbrev IsOrderlyMet : Met → Type 0
 IsOrderlyMet m = IsOrderly None (calls m.calls)

@@ -16,10 +16,10 @@ use Rattle.job_table.specs.Jobs.{Register, empty}
 use Rattle.job_table.specs.History.{Entry, Runs, WasBrought, WasKilled, CameRight}
 use Rattle.job_runs.specs.Laws.{DocumentsComeRight}
 use Rattle.os_server.specs.declared.serve.Served.{Served}
-use Rattle.os_server.specs.Talk.{ServesWhole}
 use Rattle.os_server.specs.Laws.{ConversationsAreKept}
+use Rattle.os_server.proofs.Rounds.{serves_so}
 use Rattle.sessions.specs.Runs.{Makes}
-use Rattle.sessions.specs.Sessions.{IsProved, ShownAreProved, IsSession}
+use Rattle.sessions.specs.Sessions.{IsProved, ShownAreProved, ServesAlone, IsSession}
 
 -- what an answer claims is accepted
 abbrev Accepted : Type 0
@@ -67,27 +67,13 @@ pub shown_proved : DocumentsComeRight Right → Accepted → IsTrue → ShownAre
 shown_proved right accepted is_true entries now runs n document before after are =
     proved_of accepted is_true n document before (right n (Some document) before after now (subst (λ (es : List Entry). Runs Right empty es now) are runs))
 
--- a conversation over a table that was empty is a session
-pub session_of : ConversationsAreKept Makes Right → ShownAreProved → (first now : Register) (end : Served) (old new : Tells)
-    → first ≡ empty → ServesWhole Makes (λ made. Runs Right first made now) end old new → IsSession end old new
-session_of kept shown first now end old new is (s, whole) =
-    let runs : Runs Right empty s.part.entries now = subst (λ (r : Register). Runs Right r s.part.entries now) is s.calls in
-    record {
-      entries = s.part.entries;
-      table = now;
-      runs = runs;
-      serves = (
-        record {
-          part = s.part;
-          past = s.past;
-          talk = s.talk;
-          calls = refl;
-          read = s.read;
-          wrote = s.wrote;
-          accounts = s.accounts;
-        },
-        whole,
-      );
-      kept = kept end s.past old.left new.left s.part [] now s.talk runs;
-      proved = shown s.part.entries now runs;
-    }
+-- a conversation whose calls were all that were made is a session
+pub session_of : ConversationsAreKept Makes Right → ShownAreProved → (end : Served) (old new : Tells) → ServesAlone end old new → IsSession end old new
+session_of kept shown end old new (table, (s, whole)) = record {
+  entries = s.part.entries;
+  table = table;
+  runs = s.calls;
+  serves = (serves_so Makes (λ made. Runs Right empty made table) (λ made. made ≡ s.part.entries) end old new s refl, whole);
+  kept = kept end s.past old.left new.left s.part [] table s.talk s.calls;
+  proved = shown s.part.entries table s.calls;
+}

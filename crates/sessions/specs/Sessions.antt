@@ -49,6 +49,11 @@ AreProved entries =
 abbrev pub ShownAreProved : Type 0
 ShownAreProved = (entries : List Entry) (now : Register) → Runs Right empty entries now → AreProved entries
 
+-- a conversation that ended so, from before to after, and no others made calls of its table: step by step from the empty one, they
+-- are this conversation's
+abbrev pub ServesAlone : Served → Tells → Tells → Type 0
+ServesAlone end old new = (table : Register) × ServesWhole Makes (λ made. Runs Right empty made table) end old new
+
 -- a session that ended so, from before to after: calls of the table, step by step from the empty one, which are this
 -- conversation's and no other's; every finish among them is kept, and every document that is shown is proved
 pub record IsSession (end : Served) (old new : Tells) : Type 0 where

@@ -2,23 +2,64 @@
 ghost use Rattle.std.specs.Prelude.{◌≡◌};
 ghost use Rattle.os_io.specs.Streams.{SameInput, SameOutput};
 ghost use Rattle.os_server.specs.Talk.{both_ends};
-ghost use Rattle.sessions.specs.Sessions.{IsSession};
+ghost use Rattle.desk.specs.Rule.{first_view};
+ghost use Rattle.desk.specs.Asks.{desk_id, IsSeatOf};
+ghost use Rattle.sessions.specs.Sessions.{ServesAlone, IsSession};
 
 use crate::laws::shown_documents_are_proved;
 use crate::solver::{SolvedJobs, Solver};
-use job_table::Table;
+use desk::{Caller, Desk, Seat};
 use os_io::{Sink, Source};
-use os_server::{Served, conversations_are_kept, serve_ends};
+use os_server::{Served, conversations_are_kept, serve_ends, turn_away};
 use std::alloc::Global;
+use std::sync::Wait;
 
-/// Serves a session: the requests that come on an input, with the answers on an output, over an empty table of jobs.
-pub fn serve_session<I: Source, O: Sink>(alloc: Global, input: &mut I, output: &mut O) -> Served
+/// Serves the conversation by calls of a new desk, which is closed behind it.
+fn serve_desk<I: Source, O: Sink, R: Wait>(
+    rt: &R,
+    alloc: Global,
+    desk: Desk<SolvedJobs>,
+    mut seat: Seat<SolvedJobs>,
+    input: &mut I,
+    output: &mut O,
+) -> Served
+    requires seat { IsSeatOf (desk_id desk) seat }
+    requires fresh { seat.me.0 ≡ first_view }
+    ensures serves { ServesAlone result (both_ends (I.tells input.old) (O.tells output.old)) (both_ends (I.tells input.new) (O.tells output.new)) }
+    ensures output_of_input { SameOutput (I.tells input.old) (I.tells input.new) }
+    ensures input_of_output { SameInput (O.tells output.old) (O.tells output.new) }
+{
+    let mut caller = Caller {
+        rt,
+        desk: &desk,
+        seat: &mut seat,
+    };
+    let served = serve_ends(alloc, input, output, &mut caller, &Solver);
+    let Caller {
+        rt: _,
+        desk: _,
+        seat: _seat,
+    } = caller;
+    let _closed = desk.close(seat);
+    served
+}
+
+/// Serves a session: the requests that come on an input, with the answers on an output, by calls of a desk of its own. Where there
+/// is no memory for one, 503 is answered and nothing read.
+pub fn serve_session<I: Source, O: Sink, R: Wait>(
+    rt: &R,
+    alloc: Global,
+    input: &mut I,
+    output: &mut O,
+) -> Served
     ensures session { IsSession result (both_ends (I.tells input.old) (O.tells output.old)) (both_ends (I.tells input.new) (O.tells output.new)) }
     ensures output_of_input { SameOutput (I.tells input.old) (I.tells input.new) }
     ensures input_of_output { SameInput (O.tells output.old) (O.tells output.new) }
 {
     conversations_are_kept::<SolvedJobs, Solver>();
     shown_documents_are_proved();
-    let mut table: Table<SolvedJobs> = Table::new(alloc);
-    serve_ends(alloc, input, output, &mut table, &Solver)
+    match Desk::<SolvedJobs>::new(alloc) {
+        Ok((desk, seat)) => serve_desk(rt, alloc, desk, seat, input, output),
+        Err(_) => turn_away(input, output, &Solver),
+    }
 }

@@ -1,7 +1,11 @@
+use Rattle.sessions.proofs.Alone.{served_without}
 use Rattle.sessions.proofs.Proved.{session_of}
 use Rattle.sessions.proofs.session.serve_session.Goals as goal
 
-pub returns-clause-session : goal.returns-clause-session
-returns-clause-session g c =
-    session_of c.conversations_are_kept.ensures c.shown_documents_are_proved.ensures c.new-table.result c.serve_ends.new.calls c.serve_ends.result _ _
-    c.new-table.ensures c.serve_ends.ensures.serves
+pub returns-in-Ok-clause-session : goal.returns-in-Ok-clause-session
+returns-in-Ok-clause-session g c =
+    session_of c.conversations_are_kept.ensures c.shown_documents_are_proved.ensures c.serve_desk.result _ _ c.serve_desk.ensures.serves
+
+pub returns-in-Err-clause-session : goal.returns-in-Err-clause-session
+returns-in-Err-clause-session g c =
+    session_of c.conversations_are_kept.ensures c.shown_documents_are_proved.ensures c.turn_away.result _ _ (served_without _ _ _ c.turn_away.ensures.serves)
