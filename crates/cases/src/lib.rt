@@ -18,7 +18,7 @@ mod table;
 mod tables;
 
 pub use documents::{DocumentCases, Documents};
-pub use shared::{number_of, repeated};
+pub use shared::{bytes_of, count_left, number_of, repeated};
 pub use table::{Answers, try_file, try_table};
 pub use tables::Tables;
 

@@ -1,12 +1,10 @@
 //! Tables, line by line.
 
 use crate::escapes::{put_escaped, read_escaped};
+use crate::shared::MOST;
 use os_io::{FileFault, Files, Memory, Text};
 use std::alloc::Global;
 use std::io::{self, Write};
-
-/// The most bytes of a table.
-const MOST: u64 = 4_194_304;
 
 /// What answers cases.
 pub trait Answers {

@@ -5,10 +5,10 @@
 //! [`Answers`].
 #![tactic(auto)]
 
-use cases::{Answers, try_file};
+use cases::{Answers, Tables, try_file};
 use os_io::{Files, Memory, Text};
 use std::alloc::Global;
-use std::io::{self, Write};
+use std::{fs, io};
 
 /// Keeps what it is given.
 #[derive(Drop)]
@@ -55,14 +55,12 @@ pub fn gather<F: Files>(alloc: Global, name: &str, files: &mut F) -> io::Result<
     Ok(gathered.rows)
 }
 
-/// Goes through the table with these answers, as [`try_file`] does.
-pub fn compare<F: Files, W: Write>(
-    alloc: Global,
+/// Goes through the table in the file of this name with these answers.
+pub fn compare<R: fs::Files + Print + AllocGlobal>(
+    tables: &mut Tables<'_, R>,
     name: &str,
-    files: &mut F,
     answers: Vec<Text>,
-    output: &mut W,
-) -> io::Result<u64> {
+) -> io::Result<()> {
     let mut answered = Answered { answers, next: 0 };
-    try_file(alloc, name, files, &mut answered, output)
+    tables.try_file(name, &mut answered)
 }

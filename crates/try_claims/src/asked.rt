@@ -1,49 +1,25 @@
 //! What a case gives, and how it is answered.
 
 use crate::results::{repeated_tree, result_of};
-use cases::Answers;
+use cases::{Answers, bytes_of, number_of};
 use cert_checker::{answer_text, check_docs};
-use decimal_text::read_count;
-use os_io::{FileFault, Files, Memory, Text};
-use std::alloc::{AllocError, Global};
-
-/// The most bytes of a file.
-const MOST: u64 = 4_194_304;
+use os_io::{Files, Memory, Text};
+use std::alloc::Global;
 
 /// What two documents say together.
 fn answer_about(alloc: Global, osil: &[u8], osrl: &[u8]) -> Result<Text, Memory> {
     answer_text(alloc, &check_docs(alloc, osil, osrl))
 }
 
-/// The bytes of a file, or none where it can't be read.
-fn bytes_of<F: Files>(alloc: Global, files: &mut F, name: &[u8]) -> Result<Text, Memory> {
-    let Ok(name) = str::from_utf8(name) else {
-        return Ok(Text::new(alloc));
-    };
-    match files.read_all(alloc, name, MOST) {
-        Ok(text) => Ok(text),
-        Err(FileFault::Failed) => Ok(Text::new(alloc)),
-        Err(FileFault::Memory) => Err(AllocError),
-    }
-}
-
 /// Given an instance's file, a status, and the results of a certificate: of each its name and its items, with `|` between.
 #[derive(Drop)]
-pub(crate) struct Claimed<F> {
-    files: F,
-}
-
-impl<F> Claimed<F> {
-    pub(crate) fn new(files: F) -> Self {
-        Claimed { files }
-    }
-}
+pub(crate) struct Claimed<F>(pub F);
 
 impl<F: Files + Drop> Answers for Claimed<F> {
     fn answer(&mut self, alloc: Global, given: &[Vec<u8>]) -> Result<Text, Memory> {
         match given {
             [osil, status, results @ ..] => {
-                let osil = bytes_of(alloc, &mut self.files, osil.as_slice())?;
+                let osil = bytes_of(alloc, &mut self.0, osil.as_slice())?;
                 let osrl = result_of(alloc, status.as_slice(), results)?;
                 answer_about(alloc, osil.as_slice(), osrl.as_slice())
             }
@@ -54,22 +30,14 @@ impl<F: Files + Drop> Answers for Claimed<F> {
 
 /// Given an instance's file and a result's.
 #[derive(Drop)]
-pub(crate) struct InFiles<F> {
-    files: F,
-}
-
-impl<F> InFiles<F> {
-    pub(crate) fn new(files: F) -> Self {
-        InFiles { files }
-    }
-}
+pub(crate) struct InFiles<F>(pub F);
 
 impl<F: Files + Drop> Answers for InFiles<F> {
     fn answer(&mut self, alloc: Global, given: &[Vec<u8>]) -> Result<Text, Memory> {
         match given {
             [osil, osrl] => {
-                let osil = bytes_of(alloc, &mut self.files, osil.as_slice())?;
-                let osrl = bytes_of(alloc, &mut self.files, osrl.as_slice())?;
+                let osil = bytes_of(alloc, &mut self.0, osil.as_slice())?;
+                let osrl = bytes_of(alloc, &mut self.0, osrl.as_slice())?;
                 answer_about(alloc, osil.as_slice(), osrl.as_slice())
             }
             _ => Text::from_slice(alloc, b"two fields"),
@@ -92,22 +60,14 @@ impl Answers for InTexts {
 
 /// Given an instance's file, a node, and how often it stands in the tree of a claim that there is no point.
 #[derive(Drop)]
-pub(crate) struct Repeated<F> {
-    files: F,
-}
-
-impl<F> Repeated<F> {
-    pub(crate) fn new(files: F) -> Self {
-        Repeated { files }
-    }
-}
+pub(crate) struct Repeated<F>(pub F);
 
 impl<F: Files + Drop> Answers for Repeated<F> {
     fn answer(&mut self, alloc: Global, given: &[Vec<u8>]) -> Result<Text, Memory> {
         match given {
             [osil, node, times] => {
-                let osil = bytes_of(alloc, &mut self.files, osil.as_slice())?;
-                let times = read_count(times.as_slice()).unwrap_or(0);
+                let osil = bytes_of(alloc, &mut self.0, osil.as_slice())?;
+                let times = number_of(times.as_slice());
                 let osrl = repeated_tree(alloc, node.as_slice(), times)?;
                 answer_about(alloc, osil.as_slice(), osrl.as_slice())
             }

@@ -9,36 +9,15 @@ mod asked;
 mod results;
 
 use asked::{Claimed, InFiles, InTexts, Repeated};
-use cases::try_file;
+use cases::Tables;
 use os_io::DiskFiles;
 use std::io;
 
 fn main(rt: HostRuntime) -> io::Result<()> {
-    let alloc = rt.alloc();
-    let mut tables = DiskFiles::new(&rt);
-    let mut output = rt.stdout();
-    let mut claimed = Claimed::new(DiskFiles::new(&rt));
-    let claims = try_file(alloc, "claims.txt", &mut tables, &mut claimed, &mut output)?;
-    let mut in_files = InFiles::new(DiskFiles::new(&rt));
-    let examples = try_file(
-        alloc,
-        "examples.txt",
-        &mut tables,
-        &mut in_files,
-        &mut output,
-    )?;
-    let texts = try_file(alloc, "texts.txt", &mut tables, &mut InTexts, &mut output)?;
-    let mut repeated = Repeated::new(DiskFiles::new(&rt));
-    let long = try_file(
-        alloc,
-        "repeated.txt",
-        &mut tables,
-        &mut repeated,
-        &mut output,
-    )?;
-    let mut count: u64 = 0;
-    for n in [claims, examples, texts, long] {
-        count = count.saturating_add(n);
-    }
-    println!(rt; "{count} cases")
+    let mut tables = Tables::new(&rt);
+    tables.try_file("claims.txt", &mut Claimed(DiskFiles::new(&rt)))?;
+    tables.try_file("examples.txt", &mut InFiles(DiskFiles::new(&rt)))?;
+    tables.try_file("texts.txt", &mut InTexts)?;
+    tables.try_file("repeated.txt", &mut Repeated(DiskFiles::new(&rt)))?;
+    tables.tell_count()
 }

@@ -1,15 +1,9 @@
 //! What a connection meets.
 
+use cases::number_of;
+
 /// Room for the answers to a few requests.
 const ROOM: u64 = 20_000;
-
-/// The number of these digits, or 0.
-pub(crate) fn number_of(digits: &[u8]) -> u64 {
-    match str::from_utf8(digits) {
-        Ok(text) => text.parse::<u64>().unwrap_or(0),
-        Err(_) => 0,
-    }
-}
 
 /// Which reads and which write fail, how much can be written, and the like. A number is 0 where nothing is said of it.
 #[derive(Clone, Copy, Drop)]

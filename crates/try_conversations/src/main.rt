@@ -9,28 +9,12 @@ mod conditions;
 mod served;
 
 use caller::Caller;
-use cases::{Answers, try_file};
-use conditions::{Conditions, number_of};
-use os_io::{DiskFiles, Memory, Text};
+use cases::{Answers, Tables, number_of, repeated};
+use conditions::Conditions;
+use os_io::{Memory, Text};
 use served::{told_of_conversation, told_of_other};
 use std::alloc::Global;
 use std::io;
-
-/// What begins so, has a part so often, and ends so.
-fn repeated(
-    alloc: Global,
-    front: &[u8],
-    part: &[u8],
-    times: u64,
-    back: &[u8],
-) -> Result<Text, Memory> {
-    let mut text = Text::from_slice(alloc, front)?;
-    for _ in 0..times {
-        text.extend(part)?;
-    }
-    text.extend(back)?;
-    Ok(text)
-}
 
 /// Given conditions, and the bytes that come, which may be what they begin with, a part, how often it comes, and their end.
 #[derive(Drop)]
@@ -76,21 +60,10 @@ impl Answers for Meetings {
 }
 
 fn main(rt: HostRuntime) -> io::Result<()> {
-    let alloc = rt.alloc();
-    let mut files = DiskFiles::new(&rt);
-    let mut output = rt.stdout();
-    let mut count: u64 = 0;
+    let mut tables = Tables::new(&rt);
     for name in ["conversations.txt", "faults.txt", "many.txt"] {
-        let tried = try_file(alloc, name, &mut files, &mut Conversations, &mut output)?;
-        count = count.saturating_add(tried);
+        tables.try_file(name, &mut Conversations)?;
     }
-    let tried = try_file(
-        alloc,
-        "meetings.txt",
-        &mut files,
-        &mut Meetings,
-        &mut output,
-    )?;
-    count = count.saturating_add(tried);
-    println!(rt; "{count} cases")
+    tables.try_file("meetings.txt", &mut Meetings)?;
+    tables.tell_count()
 }

@@ -2,7 +2,8 @@
 
 use crate::caller::Caller;
 use crate::conditions::Conditions;
-use os_io::{MemLink, MemSink, MemSource, Memory, Source, Text};
+use cases::count_left;
+use os_io::{MemLink, MemSink, MemSource, Memory, Text};
 use os_server::{Served, serve_ends, serve_one};
 use sessions::Solver;
 use std::alloc::Global;
@@ -27,18 +28,6 @@ fn name_of(end: Served) -> &'static str {
     }
 }
 
-/// How many bytes a source still gives, of at most so many. One of its reads may fail.
-fn count_left<S: Source>(source: &mut S, most: usize) -> usize {
-    let mut count: usize = 0;
-    let mut byte = [0];
-    for _ in 0..=most {
-        if let Ok(n) = source.read(&mut byte) {
-            count = count.saturating_add(n);
-        }
-    }
-    count
-}
-
 /// How a connection ended, how often reads and writes failed, how many bytes are left and how many were handed on, and the
 /// bytes written, or those of them that are to be told.
 fn told(
@@ -46,7 +35,7 @@ fn told(
     conditions: Conditions,
     end: Served,
     faults: (u64, u64),
-    left: usize,
+    left: u64,
     sent: usize,
     written: &[u8],
 ) -> Result<Text, Memory> {
@@ -77,9 +66,7 @@ fn served(
             let mut output = MemSink::new(alloc, room, &[conditions.write])?;
             let end = serve_ends(alloc, &mut input, &mut output, caller, &Solver);
             let faults = (input.faults(), output.faults());
-            let left = count_left(&mut input, bytes.len()).saturating_add(
-                conditions.taken as usize,
-            );
+            let left = count_left(&mut input, bytes.len()).saturating_add(conditions.taken);
             let sent = output.handed_on().len();
             told(
                 alloc,

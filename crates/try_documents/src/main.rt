@@ -8,10 +8,10 @@
 
 mod reading;
 
-use cases::{Answers, try_file};
+use cases::{Answers, Tables, number_of, repeated};
 use doc_tree::TreeFault;
-use os_io::{DiskFiles, Memory, Text};
-use reading::{answer_text, in_two, number_of, told_in_pieces, told_whole};
+use os_io::{Memory, Text};
+use reading::{answer_text, in_two, told_in_pieces, told_whole};
 use std::alloc::Global;
 use std::io;
 
@@ -74,10 +74,8 @@ impl Answers for Repeated {
     fn answer(&mut self, alloc: Global, given: &[Vec<u8>]) -> Result<Text, Memory> {
         match given {
             [front, part, times, back] => {
-                let mut text = Text::from_slice(alloc, front.as_slice())?;
-                for _ in 0..number_of(times.as_slice()) {
-                    text.extend(part.as_slice())?;
-                }
+                let times = number_of(times.as_slice());
+                let text = repeated(alloc, front.as_slice(), part.as_slice(), times, b"")?;
                 let answer = in_two(alloc, text.as_slice(), back.as_slice(), MOST);
                 answer_text(alloc, answer)
             }
@@ -87,29 +85,11 @@ impl Answers for Repeated {
 }
 
 fn main(rt: HostRuntime) -> io::Result<()> {
-    let alloc = rt.alloc();
-    let mut files = DiskFiles::new(&rt);
-    let mut output = rt.stdout();
-    let read = try_file(alloc, "read.txt", &mut files, &mut InPieces, &mut output)?;
-    let refused = try_file(alloc, "refused.txt", &mut files, &mut InPieces, &mut output)?;
-    let limits = try_file(alloc, "limits.txt", &mut files, &mut Limited, &mut output)?;
-    let begun = try_file(
-        alloc,
-        "beginnings.txt",
-        &mut files,
-        &mut Beginnings,
-        &mut output,
-    )?;
-    let repeated = try_file(
-        alloc,
-        "repeated.txt",
-        &mut files,
-        &mut Repeated,
-        &mut output,
-    )?;
-    let mut count: u64 = 0;
-    for n in [read, refused, limits, begun, repeated] {
-        count = count.saturating_add(n);
-    }
-    println!(rt; "{count} cases")
+    let mut tables = Tables::new(&rt);
+    tables.try_file("read.txt", &mut InPieces)?;
+    tables.try_file("refused.txt", &mut InPieces)?;
+    tables.try_file("limits.txt", &mut Limited)?;
+    tables.try_file("beginnings.txt", &mut Beginnings)?;
+    tables.try_file("repeated.txt", &mut Repeated)?;
+    tables.tell_count()
 }

@@ -3,18 +3,9 @@
 use doc_tree::{Reader, Tree, TreeFault, read, write};
 use os_io::{Memory, Text};
 use std::alloc::Global;
-use std::str;
 
 /// What stands before each written element.
 const DECLARATION: &[u8] = b"<?xml version=\"1.0\" encoding=\"UTF-8\"?>";
-
-/// The number of these digits, or 0.
-pub(crate) fn number_of(digits: &[u8]) -> u64 {
-    match str::from_utf8(digits) {
-        Ok(text) => text.parse::<u64>().unwrap_or(0),
-        Err(_) => 0,
-    }
-}
 
 /// The answer to a document in two pieces. What refuses the first refuses the second and the end too.
 pub(crate) fn in_two(

@@ -1,10 +1,11 @@
 //! Calls over links in memory, told as texts.
 
 use crate::replies::{put, put_number};
+use cases::count_left;
 use os_client::{
     CallFault, call_get_job_id, call_kill, call_knock, call_retrieve, call_send, call_solve,
 };
-use os_io::{MemLink, Memory, Source, Text};
+use os_io::{MemLink, Memory, Text};
 use std::alloc::{AllocError, Global};
 
 /// The room for what is written.
@@ -59,18 +60,6 @@ fn outcome_text(alloc: Global, outcome: Result<Text, CallFault>) -> Result<Text,
         }
     }
     Ok(text)
-}
-
-/// How many bytes the link still gives, of at most so many.
-fn count_left(link: &mut MemLink, most: usize) -> u64 {
-    let mut count: u64 = 0;
-    let mut byte = [0];
-    for _ in 0..=most {
-        if let Ok(n) = link.read(&mut byte) {
-            count = count.saturating_add(n as u64);
-        }
-    }
-    count
 }
 
 /// What the call of this name answers over a link that gives these bytes in pieces, and how many bytes are left.

@@ -11,10 +11,9 @@ mod replies;
 mod runs;
 
 use calls::{asked_text, called_text, failing_text};
-use cases::{Answers, try_file};
-use decimal_text::read_count;
+use cases::{Answers, Tables, number_of, repeated};
 use meetings::met_text;
-use os_io::{DiskFiles, Memory, Text};
+use os_io::{Memory, Text};
 use replies::reply_text;
 use runs::{Given, run_text};
 use std::alloc::Global;
@@ -31,27 +30,6 @@ struct CallsMet;
 /// Given a call's name, three files, what the link gives, and what fails.
 #[derive(Drop)]
 struct CallRuns;
-
-/// The number of these digits, or 0.
-fn number_of(digits: &[u8]) -> u64 {
-    read_count(digits).unwrap_or(0)
-}
-
-/// What begins so, has a part so often, and ends so.
-fn repeated(
-    alloc: Global,
-    front: &[u8],
-    part: &[u8],
-    times: u64,
-    end: &[u8],
-) -> Result<Text, Memory> {
-    let mut text = Text::from_slice(alloc, front)?;
-    for _ in 0..times {
-        text.extend(part)?;
-    }
-    text.extend(end)?;
-    Ok(text)
-}
 
 impl Answers for Client {
     fn answer(&mut self, alloc: Global, given: &[Vec<u8>]) -> Result<Text, Memory> {
@@ -114,19 +92,9 @@ impl Answers for CallRuns {
 }
 
 fn main(rt: HostRuntime) -> io::Result<()> {
-    let alloc = rt.alloc();
-    let mut files = DiskFiles::new(&rt);
-    let mut output = rt.stdout();
-    let replies = try_file(alloc, "replies.txt", &mut files, &mut Client, &mut output)?;
-    let meetings = try_file(
-        alloc,
-        "meetings.txt",
-        &mut files,
-        &mut CallsMet,
-        &mut output,
-    )?;
-    let runs = try_file(alloc, "runs.txt", &mut files, &mut CallRuns, &mut output)?;
-    let count = replies.saturating_add(meetings).saturating_add(runs);
-    println!(rt; "{count} cases")?;
-    Ok(())
+    let mut tables = Tables::new(&rt);
+    tables.try_file("replies.txt", &mut Client)?;
+    tables.try_file("meetings.txt", &mut CallsMet)?;
+    tables.try_file("runs.txt", &mut CallRuns)?;
+    tables.tell_count()
 }

@@ -7,18 +7,10 @@
 mod came;
 
 use came::{told_in_pieces, told_of_response};
-use cases::{Answers, try_file};
-use os_io::{DiskFiles, Memory, Text};
+use cases::{Answers, Tables, number_of, repeated};
+use os_io::{Memory, Text};
 use std::alloc::Global;
 use std::io;
-
-/// The number of these digits, or 0.
-fn number_of(digits: &[u8]) -> u64 {
-    match str::from_utf8(digits) {
-        Ok(text) => text.parse::<u64>().unwrap_or(0),
-        Err(_) => 0,
-    }
-}
 
 /// Given the bytes of a source, in any pieces.
 #[derive(Drop)]
@@ -41,11 +33,9 @@ impl Answers for Heads {
     fn answer(&mut self, alloc: Global, given: &[Vec<u8>]) -> Result<Text, Memory> {
         match given {
             [front, part, times, back] => {
-                let mut bytes = Text::from_slice(alloc, front.as_slice())?;
-                for _ in 0..number_of(times.as_slice()) {
-                    bytes.extend(part.as_slice())?;
-                }
-                bytes.extend(back.as_slice())?;
+                let times = number_of(times.as_slice());
+                let (front, part, back) = (front.as_slice(), part.as_slice(), back.as_slice());
+                let bytes = repeated(alloc, front, part, times, back)?;
                 told_in_pieces(alloc, bytes.as_slice(), &[9, 100])
             }
             _ => Text::from_slice(alloc, b"four fields"),
@@ -69,27 +59,9 @@ impl Answers for Responses {
 }
 
 fn main(rt: HostRuntime) -> io::Result<()> {
-    let alloc = rt.alloc();
-    let mut files = DiskFiles::new(&rt);
-    let mut output = rt.stdout();
-    let requests = try_file(
-        alloc,
-        "requests.txt",
-        &mut files,
-        &mut Requests,
-        &mut output,
-    )?;
-    let heads = try_file(alloc, "heads.txt", &mut files, &mut Heads, &mut output)?;
-    let responses = try_file(
-        alloc,
-        "responses.txt",
-        &mut files,
-        &mut Responses,
-        &mut output,
-    )?;
-    let mut count: u64 = 0;
-    for n in [requests, heads, responses] {
-        count = count.saturating_add(n);
-    }
-    println!(rt; "{count} cases")
+    let mut tables = Tables::new(&rt);
+    tables.try_file("requests.txt", &mut Requests)?;
+    tables.try_file("heads.txt", &mut Heads)?;
+    tables.try_file("responses.txt", &mut Responses)?;
+    tables.tell_count()
 }

@@ -4,8 +4,8 @@
 //! answer that is another, and how many cases there are.
 #![tactic(auto)]
 
-use cases::{Answers, try_file};
-use os_io::{DiskFiles, Memory, Text};
+use cases::{Answers, Tables};
+use os_io::{Memory, Text};
 use osrl_grammar::{Report, decode, encode, refusal_text};
 use std::alloc::Global;
 use std::io;
@@ -105,28 +105,10 @@ impl Answers for General {
 }
 
 fn main(rt: HostRuntime) -> io::Result<()> {
-    let alloc = rt.alloc();
-    let mut files = DiskFiles::new(&rt);
-    let mut output = rt.stdout();
-    let written = try_file(alloc, "written.txt", &mut files, &mut Written, &mut output)?;
-    let solutions = try_file(
-        alloc,
-        "solutions.txt",
-        &mut files,
-        &mut Solution,
-        &mut output,
-    )?;
-    let documents = try_file(
-        alloc,
-        "documents.txt",
-        &mut files,
-        &mut Document,
-        &mut output,
-    )?;
-    let texts = try_file(alloc, "texts.txt", &mut files, &mut General, &mut output)?;
-    let mut count: u64 = 0;
-    for n in [written, solutions, documents, texts] {
-        count = count.saturating_add(n);
-    }
-    println!(rt; "{count} cases")
+    let mut tables = Tables::new(&rt);
+    tables.try_file("written.txt", &mut Written)?;
+    tables.try_file("solutions.txt", &mut Solution)?;
+    tables.try_file("documents.txt", &mut Document)?;
+    tables.try_file("texts.txt", &mut General)?;
+    tables.tell_count()
 }

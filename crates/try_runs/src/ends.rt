@@ -1,10 +1,8 @@
 //! The ends of a run: files, an input, an output and links in memory, one call of which may fail.
 
-use os_io::{FileFault, Files, MemFiles, MemLink, MemListener, MemSink, MemSource, Memory, Text};
-use std::alloc::{AllocError, Global};
-
-/// The most bytes of a file.
-const MOST: u64 = 4_194_305;
+use cases::bytes_of;
+use os_io::{Files, MemFiles, MemLink, MemListener, MemSink, MemSource, Memory};
+use std::alloc::Global;
 
 /// Room for all that a run writes on its output, or on a link.
 pub(crate) const ROOM: usize = 9_000;
@@ -29,15 +27,6 @@ pub(crate) struct Fails {
     pub link: u64,
 }
 
-/// The bytes of a file, or none where it can't be read.
-pub(crate) fn bytes_of<F: Files>(alloc: Global, files: &mut F, name: &str) -> Result<Text, Memory> {
-    match files.read_all(alloc, name, MOST) {
-        Ok(text) => Ok(text),
-        Err(FileFault::Failed) => Ok(Text::new(alloc)),
-        Err(FileFault::Memory) => Err(AllocError),
-    }
-}
-
 /// The files of a run, read from the disk.
 pub(crate) fn files_of<F: Files>(
     alloc: Global,
@@ -46,7 +35,7 @@ pub(crate) fn files_of<F: Files>(
 ) -> Result<MemFiles, Memory> {
     let mut files = MemFiles::new(alloc, &[fails.file])?;
     for name in NAMES {
-        let bytes = bytes_of(alloc, disk, name)?;
+        let bytes = bytes_of(alloc, disk, name.as_bytes())?;
         files.put(alloc, name, bytes.as_slice())?;
     }
     Ok(files)

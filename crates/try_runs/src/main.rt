@@ -8,6 +8,7 @@
 mod ends;
 mod running;
 
+use cases::Tables;
 use gathered::{compare, gather};
 use os_io::DiskFiles;
 use running::{Kind, World};
@@ -23,14 +24,13 @@ const TABLES: [(&str, Kind); 4] = [
 
 fn main(rt: HostRuntime) -> io::Result<()> {
     let alloc = rt.alloc();
-    let mut tables = DiskFiles::new(&rt);
-    let mut output = rt.stdout();
+    let mut files = DiskFiles::new(&rt);
+    let mut tables = Tables::new(&rt);
     let mut world = World::new(&rt, DiskFiles::new(&rt));
-    let mut count: u64 = 0;
     for (name, kind) in TABLES {
-        let rows = gather(alloc, name, &mut tables)?;
+        let rows = gather(alloc, name, &mut files)?;
         let answers = world.answers(alloc, kind, rows.as_slice())?;
-        count = count.saturating_add(compare(alloc, name, &mut tables, answers, &mut output)?);
+        compare(&mut tables, name, answers)?;
     }
-    println!(rt; "{count} cases")
+    tables.tell_count()
 }

@@ -1,6 +1,7 @@
 //! What a case gives, and how it is answered.
 
-use crate::ends::{Fails, ROOM, bytes_of, files_of, input_of, net_of, output_of};
+use crate::ends::{Fails, ROOM, files_of, input_of, net_of, output_of};
+use cases::{bytes_of, number_of};
 use os_app::run;
 use os_io::{Files, MemListener, Memory, Text};
 use std::alloc::Global;
@@ -25,17 +26,6 @@ fn words_of(alloc: Global, field: &[u8]) -> Result<Vec<String>, Memory> {
         }
     }
     Ok(words)
-}
-
-/// A decimal number, 0 where there is none.
-fn number_of(field: &[u8]) -> u64 {
-    let mut number: u64 = 0;
-    for b in field {
-        if b.is_ascii_digit() {
-            number = number.saturating_mul(10).saturating_add((*b & 15) as u64);
-        }
-    }
-    number
 }
 
 /// What is behind a word that begins a field, if it does.
@@ -75,8 +65,7 @@ fn input_bytes<F: Files>(alloc: Global, disk: &mut F, field: &[u8]) -> Result<Te
         return Text::from_slice(alloc, field);
     };
     let mut parts = named.split(|b| *b == b' ');
-    let name = str::from_utf8(parts.next().unwrap_or(b"")).unwrap_or("");
-    let mut bytes = bytes_of(alloc, disk, name)?;
+    let mut bytes = bytes_of(alloc, disk, parts.next().unwrap_or(b""))?;
     if let Some(count) = parts.next() {
         bytes.truncate(number_of(count) as usize);
     }

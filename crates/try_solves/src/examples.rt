@@ -1,15 +1,13 @@
 //! The examples, solved, beside the results that stand with them.
 
 use crate::jobs::{put_status, solve};
+use cases::bytes_of;
 use certificate::Claim;
-use os_io::{FileFault, Files, Memory, Text};
+use os_io::{Files, Memory, Text};
 use osrl_grammar::decode;
-use std::alloc::{AllocError, Global};
+use std::alloc::Global;
 use std::sync::Wait;
 use std::thread::Threads;
-
-/// The most bytes of a file.
-const MOST: u64 = 4_194_304;
 
 /// Given an example's name: the status of `solve`, that of `check` with its line, and whether what is claimed is what the stored
 /// result claims.
@@ -25,15 +23,10 @@ impl<'r, R: Threads + Wait + Sync, F: Files> Examples<'r, R, F> {
     }
 
     /// The bytes of an example's file, or none where it can't be read.
-    fn bytes_of(&mut self, alloc: Global, name: &[u8], end: &str) -> Result<Text, Memory> {
-        let mut file = String::new(alloc);
-        file.push_str(str::from_utf8(name).unwrap_or(""))?;
-        file.push_str(end)?;
-        match self.disk.read_all(alloc, file.as_str(), MOST) {
-            Ok(text) => Ok(text),
-            Err(FileFault::Failed) => Ok(Text::new(alloc)),
-            Err(FileFault::Memory) => Err(AllocError),
-        }
+    fn bytes_of(&mut self, alloc: Global, name: &[u8], end: &[u8]) -> Result<Text, Memory> {
+        let mut file = Text::from_slice(alloc, name)?;
+        file.extend(end)?;
+        bytes_of(alloc, &mut self.disk, file.as_slice())
     }
 }
 
@@ -65,8 +58,8 @@ impl<'r, R: Threads + Wait + Sync, F: Files> Examples<'r, R, F> {
         let [name] = given else {
             return Text::from_slice(alloc, b"one field");
         };
-        let osil = self.bytes_of(alloc, name.as_slice(), ".osil")?;
-        let osrl = self.bytes_of(alloc, name.as_slice(), ".osrl")?;
+        let osil = self.bytes_of(alloc, name.as_slice(), b".osil")?;
+        let osrl = self.bytes_of(alloc, name.as_slice(), b".osrl")?;
         let solved = solve(self.rt, alloc, osil.as_slice(), b"")?;
         let mut text = Text::new(alloc);
         put_status(&mut text, solved.status)?;

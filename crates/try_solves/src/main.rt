@@ -8,6 +8,7 @@
 mod examples;
 mod jobs;
 
+use cases::Tables;
 use examples::Examples;
 use gathered::{compare, gather};
 use jobs::answer_job;
@@ -16,19 +17,18 @@ use std::io;
 
 fn main(rt: HostRuntime) -> io::Result<()> {
     let alloc = rt.alloc();
-    let mut tables = DiskFiles::new(&rt);
-    let mut output = rt.stdout();
+    let mut files = DiskFiles::new(&rt);
+    let mut tables = Tables::new(&rt);
     let mut answers = Vec::new(alloc);
-    for row in &gather(alloc, "solves.txt", &mut tables)? {
+    for row in &gather(alloc, "solves.txt", &mut files)? {
         answers.push(answer_job(&rt, alloc, row.as_slice())?)?;
     }
-    let solved = compare(alloc, "solves.txt", &mut tables, answers, &mut output)?;
+    compare(&mut tables, "solves.txt", answers)?;
     let mut examples = Examples::new(&rt, DiskFiles::new(&rt));
     let mut answers = Vec::new(alloc);
-    for row in &gather(alloc, "examples.txt", &mut tables)? {
+    for row in &gather(alloc, "examples.txt", &mut files)? {
         answers.push(examples.answer(alloc, row.as_slice())?)?;
     }
-    let compared = compare(alloc, "examples.txt", &mut tables, answers, &mut output)?;
-    let count = solved.saturating_add(compared);
-    println!(rt; "{count} cases")
+    compare(&mut tables, "examples.txt", answers)?;
+    tables.tell_count()
 }
