@@ -104,7 +104,8 @@ class Crowd:
             if self.strange:
                 return [("retrieve", self.strange[-1]), ("kill", self.strange.pop())]
             if len(self.known) > MOST_KNOWN:
-                return [("kill", self.known[0]), ("retrieve", self.known[0]), ("kill", self.known[0])]
+                old = rng.choice(self.known[:CLIENTS])  # not all clients the same one, so that as many jobs go as come
+                return [("kill", old), ("retrieve", old), ("kill", old)]
             return [(rng.choices(("send", "retrieve", "kill"), (30, 45, 25))[0], rng.choice(self.known))] if self.known else []
 
 
