@@ -22,8 +22,8 @@ import heapq
 
 ABSENT, ISSUED, WAITING, RUNNING, FINISHED, KILLED, GONE = "unknown", "issued", "waiting", "running", "finished", "killed", "gone"
 PHASES = (ABSENT, ISSUED, WAITING, RUNNING, FINISHED, KILLED, GONE)
-WIDTHS = (4, 16, 64, 256)  # how many states are kept at once: the first, and from where the search was stuck the next
-TRIES = 40  # how many changes are tried for each of them, before a call is given up
+WIDTHS = (4, 16, 64, 256, 1024)  # how many states are kept at once: the first, and from where the search was stuck the next
+TRIES = 100  # how many changes are tried for each of them, before a call is given up
 STEPS_KEPT = 200  # how many sends and answers are between the moments to which the search can go back
 NONE, NOTHING = frozenset(), {}
 
