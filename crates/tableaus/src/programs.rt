@@ -92,22 +92,22 @@ fn with_parts(
 /// The program of these rows, their ends, variables, goal and costs, if it is one.
 pub fn read_program(
     alloc: Global,
-    rows: &[u8],
-    row_ends: &[u8],
-    vars: &[u8],
-    goal: &[u8],
-    costs: &[u8],
+    rows: &Vec<u8>,
+    row_ends: &Vec<u8>,
+    vars: &Vec<u8>,
+    goal: &Vec<u8>,
+    costs: &Vec<u8>,
 ) -> Result<Option<Instance>, Memory> {
-    let Some(free) = read_tableau(alloc, rows, costs)? else {
+    let Some(free) = read_tableau(alloc, rows.as_slice(), costs.as_slice())? else {
         return Ok(None);
     };
-    let Some(row_ends) = read_vars(alloc, row_ends)? else {
+    let Some(row_ends) = read_vars(alloc, row_ends.as_slice())? else {
         return Ok(None);
     };
-    let Some(vars) = read_vars(alloc, vars)? else {
+    let Some(vars) = read_vars(alloc, vars.as_slice())? else {
         return Ok(None);
     };
-    let Some(goal) = read_goal(goal) else {
+    let Some(goal) = read_goal(goal.as_slice()) else {
         return Ok(None);
     };
     with_parts(alloc, &free, row_ends.as_slice(), vars, goal)

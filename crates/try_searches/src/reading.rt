@@ -18,15 +18,7 @@ pub fn read_case(alloc: Global, given: &[Vec<u8>]) -> Result<Option<Case>, Memor
     let [rows, row_ends, vars, goal, costs, nodes, turns, stops] = given else {
         return Ok(None);
     };
-    let program = read_program(
-        alloc,
-        rows.as_slice(),
-        row_ends.as_slice(),
-        vars.as_slice(),
-        goal.as_slice(),
-        costs.as_slice(),
-    )?;
-    let Some(instance) = program else {
+    let Some(instance) = read_program(alloc, rows, row_ends, vars, goal, costs)? else {
         return Ok(None);
     };
     let Some(nodes) = read_column(nodes.as_slice()) else {
