@@ -9,6 +9,7 @@ use Rattle.httparse.specs.Grammar.{RequestHead, ReadsRequest}
 use Rattle.httparse.specs.Spans.{name_and_value}
 use Rattle.http_link.specs.declared.refusal.Refusal.{Refusal}
 use Rattle.http_link.specs.declared.refusal.Refusal.TheVariants.{BadRequest, MethodNotAllowed, LengthRequired, ContentTooLarge, HeadTooLarge, NotImplemented}
+use Rattle.os_io.specs.Limits.{most_bytes}
 use Rattle.http_link.specs.Lines.{HeadLines, AreHeadLines, print_head, HasNoHead}
 
 -- most bytes of a head, the empty lines before it among them
@@ -21,7 +22,7 @@ most_fields = 64
 
 -- most bytes of a body
 abbrev pub most_body : ℕ
-most_body = 4194304
+most_body = most_bytes
 
 -- the greatest limit of a body that a length is held against
 abbrev pub most_counted : ℕ

@@ -9,9 +9,10 @@ ghost use Rattle.http_link.specs.Checks.{is_named, is_number, values_of, writes_
 use crate::Refusal;
 use httparse::Status;
 use httparse::spans::{EMPTY_HEADER_SPAN, HeaderSpan, parse_request};
+use os_io::MOST_BYTES;
 
 /// The most bytes of a body.
-pub const MOST_BODY: usize = 4_194_304;
+pub const MOST_BODY: usize = MOST_BYTES as usize;
 
 /// The most field lines of a head.
 pub(crate) const MOST_FIELDS: usize = 64;

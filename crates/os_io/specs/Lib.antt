@@ -1,6 +1,8 @@
+pub mod Addresses
 pub mod Files
 pub mod Kept
 pub mod Laws
+pub mod Limits
 pub mod Links
 pub mod Looks
 pub mod MemFiles

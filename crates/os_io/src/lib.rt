@@ -5,12 +5,17 @@
 //! faults rose in that call, so whoever counts can see why. Real inputs and outputs tell nothing of their bytes; the
 //! forms in memory tell all.
 //!
+//! A link that a listener gives is open until it is closed ([`Close`]), and a listener tells at which hosts and ports it listened and
+//! to which it connected, so that whoever serves can be asked to serve links that are open, where it was told to.
+//!
 //! Where one call after another writes, `Writes` says of all of them which text was written, or a first part of it at a
 //! fault, and that nothing else was touched.
 #![tactic(auto)]
 
+mod close;
 mod disk;
 mod files;
+mod limits;
 mod listener;
 mod mem_files;
 mod mem_link;
@@ -26,8 +31,10 @@ mod tests;
 mod text;
 mod watch;
 
+pub use close::Close;
 pub use disk::DiskFiles;
 pub use files::{FileFault, Files};
+pub use limits::MOST_BYTES;
 pub use listener::Listener;
 pub use mem_files::MemFiles;
 pub use mem_link::MemLink;

@@ -4,6 +4,7 @@ ghost use Rattle.os_io.specs.Memory.{IsFresh};
 ghost use Rattle.os_io.specs.declared.mem_link.Kept.{out-Kept};
 ghost use Rattle.os_io.specs.Laws.{handed_part};
 
+use crate::close::Close;
 use crate::parts::{Input, Output, Script, count};
 use crate::streams::{Failed, Link, Sink, Source, Stream};
 use crate::text::Memory;
@@ -133,3 +134,10 @@ impl Sink for MemLink {
 }
 
 impl Link for MemLink {}
+
+/// Its peer is nobody, and it stays open.
+impl Close for MemLink {
+    ghost is_open = { λ _. Unit {0} };
+
+    fn close(&mut self) {}
+}

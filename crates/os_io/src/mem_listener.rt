@@ -1,48 +1,64 @@
-ghost use Rattle.std.specs.Prelude.{◌≡◌, ◌∷◌, [], map, Some, IfOk, IfSome, IfNone, OnOk, OnErr};
+ghost use Rattle.std.specs.Prelude.{◌≡◌, ◌∷◌, ◌<◌, [], map, Some, IfOk, IfSome, IfNone, OnOk, OnErr, vec_len, vec_capacity};
 ghost use Rattle.os_io.specs.Streams.{Counts};
-ghost use Rattle.os_io.specs.Links.{IsGivenBack};
+ghost use Rattle.os_io.specs.Links.{NetTells, IsGivenBack};
 ghost use Rattle.os_io.specs.Kept.{tells_of_link, tells_kept};
+ghost use Rattle.os_io.specs.Addresses.{reached_of, reached_at};
 ghost use Rattle.os_io.specs.Memory.{IsFresh};
 
 use crate::listener::Listener;
 use crate::mem_link::{Kept, MemLink};
 use crate::parts::{Script, count};
 use crate::streams::{Failed, Stream};
-use crate::text::Memory;
+use crate::text::{Memory, Text};
 use std::alloc::Global;
 
+/// A host and a port that were listened at, or connected to.
+#[derive(Drop)]
+pub(crate) struct Address {
+    listens: bool,
+    host: Text,
+    port: u16,
+}
+
 /// A listener in memory, to which links come that were added before. It counts its calls from 1, `done` aside; the
-/// calls of given numbers fail, and so does one that finds no more links.
+/// calls of given numbers fail, and so does one that finds no more links, or no memory for
+/// the host.
 #[derive(Drop)]
 pub struct MemListener {
+    alloc: Global,
     script: Script,
     links: Vec<MemLink>,
     back: Option<Box<Kept>>,
+    reached: Vec<Address>,
     faults: u64,
 }
 
 impl MemListener {
     /// No links yet. The calls whose numbers are in `fails` fail.
     pub fn new(alloc: Global, fails: &[u64]) -> Result<MemListener, Memory>
-        ensures coming { IfOk result (λ s. ⟦<MemListener as Listener>⟧.coming s ≡ Some []) }
-        ensures given_back { IfOk result (λ s. ⟦<MemListener as Listener>⟧.given_back s ≡ Some []) }
-        ensures faults { IfOk result (λ s. ⟦<MemListener as Listener>⟧.faults s ≡ 0) }
+        ensures coming { IfOk result (λ s. (⟦<MemListener as Listener>⟧.tells s).coming ≡ Some []) }
+        ensures given_back { IfOk result (λ s. (⟦<MemListener as Listener>⟧.tells s).given_back ≡ Some []) }
+        ensures reached { IfOk result (λ s. (⟦<MemListener as Listener>⟧.tells s).reached ≡ Some []) }
+        ensures faults { IfOk result (λ s. (⟦<MemListener as Listener>⟧.tells s).faults ≡ 0) }
         ensures fails { IfOk result (λ s. IsFresh s.script fails.now) }
     {
         Ok(MemListener {
+            alloc,
             script: Script::new(alloc, fails)?,
             links: Vec::new(alloc),
             back: None,
+            reached: Vec::new(alloc),
             faults: 0,
         })
     }
 
     /// Adds a link, which comes after those that were added before. Without memory the link is lost.
     pub fn add(&mut self, link: MemLink) -> Result<(), Memory>
-        ensures coming { OnOk result (IsGivenBack (⟦<MemListener as Listener>⟧.coming self.old) (⟦<MemListener as Listener>⟧.coming self.new) (⟦<MemLink as Stream>⟧.tells link)) }
-        ensures err { OnErr result (⟦<MemListener as Listener>⟧.coming self.new ≡ ⟦<MemListener as Listener>⟧.coming self.old) }
-        ensures given_back { ⟦<MemListener as Listener>⟧.given_back self.new ≡ ⟦<MemListener as Listener>⟧.given_back self.old }
-        ensures faults { ⟦<MemListener as Listener>⟧.faults self.new ≡ ⟦<MemListener as Listener>⟧.faults self.old }
+        ensures coming { OnOk result (IsGivenBack (⟦<MemListener as Listener>⟧.tells self.old).coming (⟦<MemListener as Listener>⟧.tells self.new).coming (⟦<MemLink as Stream>⟧.tells link)) }
+        ensures err { OnErr result ((⟦<MemListener as Listener>⟧.tells self.new).coming ≡ (⟦<MemListener as Listener>⟧.tells self.old).coming) }
+        ensures given_back { (⟦<MemListener as Listener>⟧.tells self.new).given_back ≡ (⟦<MemListener as Listener>⟧.tells self.old).given_back }
+        ensures reached { (⟦<MemListener as Listener>⟧.tells self.new).reached ≡ (⟦<MemListener as Listener>⟧.tells self.old).reached }
+        ensures faults { (⟦<MemListener as Listener>⟧.tells self.new).faults ≡ (⟦<MemListener as Listener>⟧.tells self.old).faults }
     {
         self.links.push(link)?;
         Ok(())
@@ -50,7 +66,7 @@ impl MemListener {
 
     /// How often a call has failed.
     pub fn faults(&self) -> u64
-        ensures { result ≡ ⟦<MemListener as Listener>⟧.faults self.now }
+        ensures { result ≡ (⟦<MemListener as Listener>⟧.tells self.now).faults }
     {
         self.faults
     }
@@ -60,6 +76,7 @@ impl MemListener {
         ensures came { IfOk result (λ link. self.old.links.items ≡ link ∷ self.new.links.items) }
         ensures err { OnErr result (self.new.links.items ≡ self.old.links.items) }
         ensures back { self.new.back ≡ self.old.back }
+        ensures reached { self.new.reached ≡ self.old.reached }
         ensures counted { Counts result self.old.faults self.new.faults }
     {
         if self.script.fails() || self.links.is_empty() {
@@ -68,13 +85,36 @@ impl MemListener {
         Ok(self.links.remove(0))
     }
 
+    /// A host and a port that are to be reached, and room for them. Where there is no memory for that, the call fails.
+    fn prepare(&mut self, listens: bool, host: &str, port: u16) -> Result<Address, Failed>
+        ensures ok { IfOk result (λ a. reached_at a ≡ reached_of listens host.now port) }
+        ensures room { OnOk result (vec_len self.new.reached < vec_capacity self.new.reached) }
+        ensures reached { self.new.reached.items ≡ self.old.reached.items }
+        ensures links { self.new.links ≡ self.old.links }
+        ensures back { self.new.back ≡ self.old.back }
+        ensures counted { Counts result self.old.faults self.new.faults }
+    {
+        let Ok(host) = Text::from_slice(self.alloc, host.as_bytes()) else {
+            return Err(count(&mut self.faults));
+        };
+        let Ok(()) = self.reached.reserve(1) else {
+            return Err(count(&mut self.faults));
+        };
+        Ok(Address {
+            listens,
+            host,
+            port,
+        })
+    }
+
     /// Takes out the link that was given back last, if there is one.
     pub fn take_back(&mut self) -> Option<MemLink>
-        ensures last { IfSome result (λ link. IsGivenBack (⟦<MemListener as Listener>⟧.given_back self.new) (⟦<MemListener as Listener>⟧.given_back self.old) (⟦<MemLink as Stream>⟧.tells link)) }
-        ensures none { IfNone result (⟦<MemListener as Listener>⟧.given_back self.old ≡ Some []) }
-        ensures unchanged { IfNone result (⟦<MemListener as Listener>⟧.given_back self.new ≡ Some []) }
-        ensures coming { ⟦<MemListener as Listener>⟧.coming self.new ≡ ⟦<MemListener as Listener>⟧.coming self.old }
-        ensures faults { ⟦<MemListener as Listener>⟧.faults self.new ≡ ⟦<MemListener as Listener>⟧.faults self.old }
+        ensures last { IfSome result (λ link. IsGivenBack (⟦<MemListener as Listener>⟧.tells self.new).given_back (⟦<MemListener as Listener>⟧.tells self.old).given_back (⟦<MemLink as Stream>⟧.tells link)) }
+        ensures none { IfNone result ((⟦<MemListener as Listener>⟧.tells self.old).given_back ≡ Some []) }
+        ensures unchanged { IfNone result ((⟦<MemListener as Listener>⟧.tells self.new).given_back ≡ Some []) }
+        ensures coming { (⟦<MemListener as Listener>⟧.tells self.new).coming ≡ (⟦<MemListener as Listener>⟧.tells self.old).coming }
+        ensures reached { (⟦<MemListener as Listener>⟧.tells self.new).reached ≡ (⟦<MemListener as Listener>⟧.tells self.old).reached }
+        ensures faults { (⟦<MemListener as Listener>⟧.tells self.new).faults ≡ (⟦<MemListener as Listener>⟧.tells self.old).faults }
     {
         let mut place = self.back.take()?;
         self.back = place.under.take();
@@ -85,16 +125,19 @@ impl MemListener {
 impl Listener for MemListener {
     type Conn = MemLink;
 
-    ghost coming = { λ s. Some (map tells_of_link s.links.items) };
-
-    ghost given_back = { λ s. Some (tells_kept s.back) };
-
-    ghost faults = { λ s. s.faults };
+    ghost tells = { λ s. record {
+      coming = Some (map tells_of_link s.links.items);
+      given_back = Some (tells_kept s.back);
+      reached = Some (map reached_at s.reached.items);
+      faults = s.faults;
+    } };
 
     fn listen(&mut self, host: &str, port: u16) -> Result<(), Failed> {
         if self.script.fails() {
             return Err(count(&mut self.faults));
         }
+        let address = self.prepare(true, host, port)?;
+        self.reached.push_reserved(address);
         Ok(())
     }
 
@@ -103,7 +146,10 @@ impl Listener for MemListener {
     }
 
     fn connect(&mut self, host: &str, port: u16) -> Result<MemLink, Failed> {
-        self.next()
+        let address = self.prepare(false, host, port)?;
+        let link = self.next()?;
+        self.reached.push_reserved(address);
+        Ok(link)
     }
 
     fn done(&mut self, link: MemLink) {

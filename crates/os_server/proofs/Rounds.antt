@@ -4,7 +4,7 @@ use Rattle.std.specs.Prelude.{All}
 use Rattle.std.proofs.lemmas.List.Elements.{All-nil, All-push}
 use Rattle.os_io.specs.Streams.{Tells, Told, IsPart, Appends, AppendsPart, Grows, HasRisen, SameInput, SameOutput, Sends}
 use Rattle.os_io.specs.declared.streams.Failed.{Failed}
-use Rattle.os_io.proofs.Written.{grows_same, grows_on}
+use Rattle.os_io.proofs.Pieces.{grows_same, grows_on}
 use Rattle.http_link.specs.Carrying.{with_carry, tells_ahead}
 use Rattle.http_link.specs.declared.requests.Incoming.{Incoming}
 use Rattle.http_link.specs.declared.requests.Incoming.TheVariants as incoming

@@ -1,8 +1,7 @@
-ghost use Rattle.std.specs.Prelude.{◌≡◌, None, IfOk};
+ghost use Rattle.std.specs.Prelude.{◌≡◌, None, true, IfOk};
 ghost use Rattle.os_io.specs.Streams.{Tells};
 
-use closing::Close;
-use os_io::{Failed, Link, Sink, Source, StdSink, StdSource, Stream};
+use os_io::{Close, Failed, Link, Sink, Source, StdSink, StdSource, Stream};
 use std::alloc::Global;
 use std::io::{self, BufReader, BufWriter, Read};
 use std::net::{Shutdown, TcpStream};
@@ -24,6 +23,8 @@ pub struct TcpLink {
     input: StdSource<BufReader<TcpStream>>,
     output: StdSink<BufWriter<TcpStream>>,
     socket: TcpStream,
+    /// Whether its own side wasn't ended yet.
+    unended: bool,
 }
 
 impl TcpLink {
@@ -31,6 +32,7 @@ impl TcpLink {
     pub(crate) fn new(alloc: Global, stream: TcpStream) -> io::Result<TcpLink>
         ensures read_faults { IfOk result (λ l. (⟦<TcpLink as Stream>⟧.tells l).read_faults ≡ 0) }
         ensures write_faults { IfOk result (λ l. (⟦<TcpLink as Stream>⟧.tells l).write_faults ≡ 0) }
+        ensures open { IfOk result (λ l. ⟦<TcpLink as Close>⟧.is_open l) }
     {
         // What is written is gathered here already. Kept back by the system too, the end of a long text would wait for
         // the peer to acknowledge the rest (RFC 1122, 4.2.3.4). A socket that can't be told so sends it all the same.
@@ -41,6 +43,7 @@ impl TcpLink {
             input: StdSource::new(reader),
             output: StdSink::new(writer),
             socket: stream,
+            unended: true,
         })
     }
 
@@ -95,7 +98,10 @@ impl Sink for TcpLink {
 impl Link for TcpLink {}
 
 impl Close for TcpLink {
+    ghost is_open = { λ l. l.unended ≡ true };
+
     fn close(&mut self) {
+        self.unended = false;
         let _ = self
             .socket
             .set_read_timeout(Some(Duration::from_secs(PATIENCE)));

@@ -1,8 +1,8 @@
-ghost use Rattle.std.specs.Prelude.{◌≡◌, None};
+ghost use Rattle.std.specs.Prelude.{◌≡◌, None, Ok, IfOk};
 ghost use Rattle.os_io.specs.Streams.{Counts};
 
 use crate::link::TcpLink;
-use os_io::{Failed, Listener};
+use os_io::{Close, Failed, Listener};
 use std::io::{self, ErrorKind};
 use std::net::{Net, OpenListener, TcpListener, TcpStream};
 
@@ -17,7 +17,7 @@ pub struct TcpNet<R> {
 impl<R: Net<Listener = TcpListener, Stream = TcpStream> + AllocGlobal + Drop> TcpNet<R> {
     /// Links of this system, as `&rt`. It listens nowhere yet.
     pub fn new(system: R) -> TcpNet<R>
-        ensures { ⟦<TcpNet<R> as Listener>⟧.faults result ≡ 0 }
+        ensures { (⟦<TcpNet<R> as Listener>⟧.tells result).faults ≡ 0 }
     {
         TcpNet {
             system,
@@ -28,7 +28,7 @@ impl<R: Net<Listener = TcpListener, Stream = TcpStream> + AllocGlobal + Drop> Tc
 
     /// How often a call has failed.
     pub fn faults(&self) -> u64
-        ensures { result ≡ ⟦<TcpNet<R> as Listener>⟧.faults self.now }
+        ensures { result ≡ (⟦<TcpNet<R> as Listener>⟧.tells self.now).faults }
     {
         self.faults
     }
@@ -41,7 +41,8 @@ impl<R: Net<Listener = TcpListener, Stream = TcpStream> + AllocGlobal + Drop> Tc
 
     /// What std answered, where an error is a call that failed.
     fn counted<T>(&mut self, answer: io::Result<T>) -> Result<T, Failed>
-        ensures { Counts result self.old.faults self.new.faults }
+        ensures ok { IfOk result (λ value. answer ≡ Ok value) }
+        ensures counted { Counts result self.old.faults self.new.faults }
     {
         match answer {
             Ok(value) => Ok(value),
@@ -53,7 +54,9 @@ impl<R: Net<Listener = TcpListener, Stream = TcpStream> + AllocGlobal + Drop> Tc
     }
 
     /// The next link that comes.
-    fn next_link(&self) -> io::Result<TcpLink> {
+    fn next_link(&self) -> io::Result<TcpLink>
+        ensures { IfOk result (λ l. ⟦<TcpLink as Close>⟧.is_open l) }
+    {
         let Some(listener) = &self.listener else {
             return Err(io::Error::from(ErrorKind::NotConnected));
         };
@@ -61,7 +64,9 @@ impl<R: Net<Listener = TcpListener, Stream = TcpStream> + AllocGlobal + Drop> Tc
     }
 
     /// A link to the program that listens there, at the first of the host's addresses that answers.
-    fn link_to(&self, host: &str, port: u16) -> io::Result<TcpLink> {
+    fn link_to(&self, host: &str, port: u16) -> io::Result<TcpLink>
+        ensures { IfOk result (λ l. ⟦<TcpLink as Close>⟧.is_open l) }
+    {
         let stream = TcpStream::connect(&self.system, (host, port))?;
         TcpLink::new(self.system.alloc(), stream)
     }
@@ -95,11 +100,7 @@ impl<R: Net<Listener = TcpListener, Stream = TcpStream> + AllocGlobal + Drop> Li
     for TcpNet<R> {
     type Conn = TcpLink;
 
-    ghost coming = { λ _. None };
-
-    ghost given_back = { λ _. None };
-
-    ghost faults = { λ s. s.faults };
+    ghost tells = { λ s. record { coming = None; given_back = None; reached = None; faults = s.faults } };
 
     fn listen(&mut self, host: &str, port: u16) -> Result<(), Failed> {
         let listener = TcpListener::bind(&self.system, (host, port));

@@ -1,6 +1,6 @@
 use Rattle.std.proofs.Common.{◌∙◌, ◌++◌, length}
 use Rattle.std.specs.Prelude.{decimal}
-use Rattle.os_io.proofs.Written.{writes_then, writes_part, writes_same}
+use Rattle.os_io.proofs.Pieces.{writes_then, writes_part, writes_same}
 use Rattle.http_link.proofs.WrittenLemmas.{behind_parts}
 use Rattle.http_link.proofs.responses.write_behind.Goals as goal
 

@@ -1,4 +1,4 @@
-use Rattle.os_io.proofs.Written.{sends_flushed}
+use Rattle.os_io.proofs.Pieces.{sends_flushed}
 use Rattle.os_io.proofs.streams.send_all.Goals as goal
 
 pub returns : goal.returns

@@ -1,6 +1,6 @@
 use Rattle.std.proofs.Common.{arith, length-drop}
 use Rattle.std.proofs.lemmas.List.{take_rest}
-use Rattle.os_io.proofs.Written.{wrote_first, so_far_more, rest_behind}
+use Rattle.os_io.proofs.Pieces.{wrote_first, so_far_more, rest_behind}
 use Rattle.os_io.proofs.streams.write_all.Goals as goal
 
 pub loop-done-preserved : goal.loop-done-preserved

@@ -1,6 +1,6 @@
 use Rattle.std.proofs.Common.{◌-◌, ◌≤◌, length, drop}
 use Rattle.os_io.specs.declared.streams.Failed.{Failed}
-use Rattle.os_io.proofs.Written.{SoFar}
+use Rattle.os_io.proofs.Pieces.{SoFar}
 use Rattle.os_io.proofs.streams.write_all.Given as goal
 
 abbrev pub invariant-loop-done : goal.invariant-loop-done

@@ -1,4 +1,4 @@
-use Rattle.os_io.proofs.Written.{sends_flushed}
+use Rattle.os_io.proofs.Pieces.{sends_flushed}
 use Rattle.os_server.proofs.reply.send.Goals as goal
 
 pub returns : goal.returns

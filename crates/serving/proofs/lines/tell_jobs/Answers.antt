@@ -1,4 +1,4 @@
-use Rattle.os_io.proofs.Written.{sends_flushed}
+use Rattle.os_io.proofs.Pieces.{sends_flushed}
 use Rattle.serving.proofs.lines.tell_jobs.Goals as goal
 
 pub returns : goal.returns

@@ -1,6 +1,6 @@
 use Rattle.std.proofs.Common.{ap, ◌∙◌, List, ℕ, [], ◌∷◌, ◌++◌}
 use Rattle.std.specs.Prelude.{codes, decimal}
-use Rattle.os_io.proofs.Written.{writes_then, writes_part, writes_same}
+use Rattle.os_io.proofs.Pieces.{writes_then, writes_part, writes_same}
 use Rattle.serving.specs.Lines.{jobs_line}
 use Rattle.serving.proofs.lines.write_jobs.Goals as goal
 

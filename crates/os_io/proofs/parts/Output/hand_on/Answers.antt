@@ -1,5 +1,5 @@
 use Rattle.std.proofs.Common.{rules}
-use Rattle.os_io.proofs.Written.{handed_all}
+use Rattle.os_io.proofs.Pieces.{handed_all}
 use Rattle.os_io.proofs.parts.Output.hand_on.Goals as goal
 
 pub returns-clause-handed : goal.returns-clause-handed

@@ -1,4 +1,4 @@
-use Rattle.os_io.proofs.Written.{handed_if}
+use Rattle.os_io.proofs.Pieces.{handed_if}
 use Rattle.os_io.proofs.parts.Output.write.Goals as goal
 
 pub returns-clause-handed : goal.returns-clause-handed

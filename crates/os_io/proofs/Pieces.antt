@@ -5,7 +5,7 @@ use Rattle.std.proofs.Math.Seq.{take-length}
 use Rattle.std.proofs.lemmas.List.{take-append-drop, drop-drop}
 use Rattle.os_io.specs.Streams.{Tells, Told, IsPart, Appends, AppendsPart, Grows, HasRisen, Counts, SameInput, Writes, Sends}
 use Rattle.os_io.specs.Laws.{handed_part, part_whole}
-use Rattle.os_io.proofs.Told.{tells_same, tells_on, tells_map}
+use Rattle.os_io.proofs.Tellings.{tells_same, tells_on, tells_map}
 
 -- ---- first parts
 
