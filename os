@@ -1,44 +1,92 @@
 #!/bin/sh
-# Runs the program with the words given. Where its sources changed since it was built, it is proved and built first.
+# Runs the program with the words given. The program writes nothing on the standard error; this script says there how far the first
+# build is, how long a search has taken, and behind a status above 1 what happened and what to do. The output and the status are the
+# program's own. `./os help` lists the commands.
 here=$(CDPATH='' cd -- "$(dirname -- "$0")" && pwd) || exit 1
 crate=$here/crates/os_main
 program=$crate/out/os_main
-room=$crate/out/room
+commands=$here/docs/commands.txt
+child= # the process that is waited for
+caught= # the signal that came
+status=1 # of that process
 
-# The lines of crates.txt of the program and of the crates that it stands on.
-lines() {
-    awk -F: '
-        /^[a-z]/ { order[++count] = $1; below[$1] = $2; line[$1] = $0 }
-        END {
-            needed["os_main"] = 1
-            for (i = count; i > 0; i--)
-                if (order[i] in needed) { n = split(below[order[i]], names, " "); for (k = 1; k <= n; k++) needed[names[k]] = 1 }
-            for (i = 1; i <= count; i++) if (order[i] in needed) print line[order[i]]
-        }' "$here/crates.txt"
+. "$here/tools/os_words.sh"
+. "$here/tools/os_build.sh"
+
+# Hands a signal on. It goes as TERM, since what a script starts behind itself ignores INT and QUIT.
+hand_on() {
+    caught=$1
+    [ -z "$child" ] || kill -s TERM "$child" 2>/dev/null
 }
 
-# Proves them in a copy of their own: there `rt all` goes over them and no others, as many at once as there are processors, where
-# checks in one checkout would wait for each other. What it proved the build then takes over, by its text. What fails is told there.
-prove() {
-    rm -rf "$room" && mkdir -p "$room/crates" || exit 1
-    lines >"$room/crates.txt" && cp "$here/HANDLES" "$room" || exit 1
-    for name in $(cut -d: -f1 "$room/crates.txt"); do
-        mkdir "$room/crates/$name" || exit 1
-        for part in "$here/crates/$name"/*; do
-            [ "${part##*/}" = out ] || cp -R "$part" "$room/crates/$name" || exit 1
-        done
+# Waits for the child, through signals that come meanwhile, and keeps its status. One that came before there was a child ends it too.
+await() {
+    [ -z "$caught" ] || kill -s TERM "$child" 2>/dev/null
+    wait "$child" 2>/dev/null
+    status=$?
+    while [ -n "$caught" ] && kill -0 "$child" 2>/dev/null; do
+        wait "$child" 2>/dev/null
+        status=$?
     done
-    (cd "$room" && rt all check --jobs "$(nproc)") >"$crate/out/crates.log" 2>&1
+    child=
 }
 
-if [ ! -x "$program" ] || [ -n "$(find "$here/crates.txt" "$here/crates" -name out -prune -o -type f -newer "$program" -print)" ]; then
-    prove
-    # An empty input ends a session at once, with status 0.
-    if ! (cd "$crate" && rt run -- session </dev/null >out/build.log 2>&1); then
-        echo "os: not built: $crate/out/build.log says why" >&2
-        exit 1
+# Ends as whoever is ended by this signal.
+end_by() {
+    trap - "$1" 2>/dev/null
+    kill -s "$1" $$
+    exit "$status"
+}
+
+# At a terminal, from the second second on, shows how long a search has taken. The cursor goes back to where the output is to begin,
+# and what is left behind the output is cleared. It ends when it is told to, or when the script is gone.
+show_seconds() {
+    shown=
+    trap 'kill "$!" 2>/dev/null; [ -z "$shown" ] || printf "\033[K" >&2; exit' TERM
+    sleep 2 &
+    wait "$!"
+    seconds=2
+    while kill -0 $$ 2>/dev/null; do
+        printf 'os: %s, %s s\r' "$1" "$seconds" >&2
+        shown=yes
+        sleep 1 &
+        wait "$!"
+        seconds=$((seconds + 1))
+    done
+}
+
+# Runs the program, with the script's own input, and keeps its status.
+run_program() {
+    clock=
+    if [ -t 2 ] && [ "${TERM:-dumb}" != dumb ]; then
+        case $1 in
+            solve) show_seconds solving >/dev/null & clock=$! ;;
+            generate) show_seconds generating >/dev/null & clock=$! ;;
+        esac
     fi
-    rm -rf "$room"
-    touch "$program"
-fi
-exec "$program" "$@"
+    # Behind a script the input is none unless it is handed on by another number; where there is none, none is made up.
+    if (: <&0) 2>/dev/null; then
+        exec 3<&0
+        "$program" "$@" <&3 3<&- &
+    else
+        "$program" "$@" <&- &
+    fi
+    child=$!
+    await
+    if [ -n "$clock" ]; then
+        kill "$clock" 2>/dev/null
+        wait "$clock" 2>/dev/null
+    fi
+}
+
+is_command "${1-}" || answer_no_command "$@"
+for signal in HUP INT QUIT TERM; do
+    # shellcheck disable=SC2064 # the name is to stand in the trap
+    trap "hand_on $signal" "$signal"
+done
+is_built || build
+run_program "$@"
+[ -z "$caught" ] || end_by "$caught"
+[ "$status" -le 1 ] || explain "$status" "$@"
+[ "$status" -le 128 ] || end_by "$(kill -l "$status")"
+exit "$status"

@@ -1,0 +1,148 @@
+# shellcheck shell=sh disable=SC2154
+# Read by ./os: proves and builds the program where its sources changed since, and says how far that is.
+room=$crate/out/room
+proved=$crate/out/crates.log
+kept=$crate/out/kept.txt
+
+is_built() {
+    [ -x "$program" ] && [ -z "$(find "$here/crates.txt" "$here/crates" -name out -prune -o -type f -newer "$program" -print)" ]
+}
+
+# The lines of crates.txt of the program and of the crates that it stands on.
+lines() {
+    awk -F: '
+        /^[a-z]/ { order[++count] = $1; below[$1] = $2; line[$1] = $0 }
+        END {
+            needed["os_main"] = 1
+            for (i = count; i > 0; i--)
+                if (order[i] in needed) { n = split(below[order[i]], names, " "); for (k = 1; k <= n; k++) needed[names[k]] = 1 }
+            for (i = 1; i <= count; i++) if (order[i] in needed) print line[order[i]]
+        }' "$here/crates.txt"
+}
+
+# Copies a crate into the room, but for what is there already and for what is made: out/ stays, and with it what was proved.
+lay_out_crate() {
+    mkdir -p "$room/crates/$1" || return 1
+    for part in "$room/crates/$1"/*; do
+        name=${part##*/}
+        [ "$name" = out ] || [ -e "$here/crates/$1/$name" ] || rm -rf "$part"
+    done
+    for part in "$here/crates/$1"/*; do
+        name=${part##*/}
+        [ "$name" != out ] || continue
+        if ! diff -r "$part" "$room/crates/$1/$name" >/dev/null 2>&1; then
+            rm -rf "$room/crates/$1/$name" && cp -R "$part" "$room/crates/$1" || return 1
+        fi
+    done
+}
+
+# The room is a copy of the crates: there `rt all` goes over them and no others, several at once, where checks in one checkout would
+# wait for each other. What it proved the build then takes over, by its text. It also lists the crates that an earlier run has proved.
+lay_out() {
+    mkdir -p "$room/crates" && lines >"$room/crates.txt" && cp "$here/HANDLES" "$room" && : >"$kept" || return 1
+    for old in "$room/crates"/*; do
+        grep -q "^${old##*/}:" "$room/crates.txt" || rm -rf "$old"
+    done
+    for listed in $(cut -d: -f1 "$room/crates.txt"); do
+        lay_out_crate "$listed" || return 1
+        [ ! -e "$room/crates/$listed/out/rlib/stamp" ] || echo "$listed" >>"$kept"
+    done
+}
+
+# How many crates to begin. One that waits for those below it holds a place and no processor, so twice as many as there are
+# processors; and one for each 2 GB of free memory.
+places() {
+    awk -v places="$(($(nproc) * 2))" '
+        $1 == "MemAvailable:" && $2 < places * 2097152 { places = int($2 / 2097152) }
+        END { print (places < 1 ? 1 : places) }' /proc/meminfo
+}
+
+# How many crates are proved, of how many, and about how many minutes are left, by the seconds of docs/WORKING.md's table: as fast
+# as it went since the build was begun, and at first as if half of the processors were at work.
+count_crates() {
+    awk -v gone="$1" -v processors="$(nproc)" '
+        function seconds(name) { return name in cost ? cost[name] : 60 }
+        part == "times" && split($0, column, / *[|] */) > 3 { cost[column[2]] = column[3] + 0 }
+        part == "names" { sub(/:.*/, ""); count++; all += seconds($0) }
+        part == "kept" { is_kept[$1] = 1; all -= seconds($1) }
+        part == "proved" && $1 == "==" && $2 != "summary" { proved++; if (!($2 in is_kept)) done += seconds($2) }
+        END { print proved + 0, count, int((all - done) * (gone + 120) / (done + 60 * processors) / 60 + 0.5) }
+    ' part=times "$here/docs/WORKING.md" part=names "$room/crates.txt" part=kept "$kept" part=proved "$proved"
+}
+
+# One line that goes on in place at a terminal, and elsewhere a line at every tenth crate.
+tell_progress() {
+    gone=$(($(date +%s) - begun))
+    # shellcheck disable=SC2046 # three numbers
+    set -- $(count_crates "$gone")
+    text="$1 of $2 crates proved, $((gone / 60)) minutes gone, about $3 left"
+    if [ -t 2 ]; then
+        printf '\ros: %s   ' "$text" >&2
+    elif [ $(($1 / 10)) -ge "$tens" ]; then
+        say "$text"
+        tens=$(($1 / 10 + 1))
+    fi
+}
+
+# Where the build was interrupted, says so and ends.
+heed_signal() {
+    [ -n "$caught" ] || return 0
+    [ ! -t 2 ] || echo >&2
+    say "the build was interrupted; ./os goes on where it was"
+    end_by "$caught"
+}
+
+# Proves the crates. What fails is told by the build behind it.
+prove() {
+    lay_out || exit 1
+    : >"$proved"
+    (cd "$room" && exec rt all check --jobs "$(places)") >"$proved" 2>&1 9>&- &
+    child=$!
+    while [ -z "$caught" ] && kill -0 "$child" 2>/dev/null; do
+        tell_progress
+        sleep 1
+    done
+    await
+    heed_signal
+    tell_progress
+}
+
+# Builds the program, in the checkout itself. An empty input ends a session at once, with status 0.
+make_program() {
+    (cd "$crate" && exec rt run -- session) </dev/null >"$crate/out/build.log" 2>&1 9>&- &
+    child=$!
+    await
+    heed_signal
+    [ ! -t 2 ] || printf '\r%79s\r' '' >&2
+    if [ "$status" -ne 0 ]; then
+        say "not built: $crate/out/build.log says why"
+        exit 1
+    fi
+    rm -rf "$room"
+    touch "$program"
+    say "built in $((($(date +%s) - begun) / 60)) minutes"
+}
+
+build() {
+    if ! command -v rt >/dev/null; then
+        say "not built: the toolchain's command rt isn't on the PATH; README.md names the toolchain"
+        exit 1
+    fi
+    mkdir -p "$crate/out" || exit 1
+    # A second ./os waits for the first one's build, and finds it done.
+    exec 9>"$crate/out/lock"
+    if ! flock -n 9; then
+        say "another ./os builds the program; waiting for it"
+        flock 9 &
+        child=$!
+        await
+        heed_signal
+    fi
+    begun=$(date +%s)
+    tens=0
+    if ! is_built; then
+        prove
+        make_program
+    fi
+    exec 9>&-
+}

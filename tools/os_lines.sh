@@ -1,0 +1,231 @@
+#!/bin/sh
+# Tries each line that ./os says, against the words that it is to say. A small program stands in for the one that is built, and another
+# for the toolchain's rt, so this proves nothing and takes seconds. Prints what differs, and how many were as expected.
+#   sh tools/os_lines.sh
+top=$(CDPATH='' cd -- "$(dirname -- "$0")/.." && pwd) || exit 2
+room=$(mktemp -d) || exit 2
+trap 'chmod -R u+w "$room"; rm -rf "$room"' EXIT
+cd "$room" || exit 2
+usage='usage: os_app session | solve | check | serve | call | generate'
+tried=0
+failed=0
+
+# A copy of what ./os reads, with sources that are nearly empty.
+mkdir -p tools docs bin
+cp "$top/os" "$top/crates.txt" "$top/HANDLES" .
+cp "$top/tools/os_words.sh" "$top/tools/os_build.sh" tools
+cp "$top/docs/commands.txt" "$top/docs/WORKING.md" docs
+for name in $(sed -n 's/^\([a-z][a-z0-9_]*\):.*/\1/p' crates.txt); do
+    mkdir -p "crates/$name/src"
+    echo "// $name" >"crates/$name/src/lib.rt"
+done
+
+# What stands in for the program: it writes a text, waits, and ends with a status.
+make_stub() {
+    mkdir -p crates/os_main/out
+    cat >crates/os_main/out/os_main <<'STUB'
+#!/bin/sh
+echo $$ >"$STUB_PID"
+[ -z "${STUB_HANGS-}" ] || exec sleep 30
+[ "${1-}" != session ] || cat
+sleep "${STUB_SECONDS:-0}"
+printf '%s' "${STUB_TEXT-}"
+[ -z "${STUB_SIGNAL-}" ] || kill -s "$STUB_SIGNAL" $$
+exit "${STUB_STATUS:-0}"
+STUB
+    chmod +x crates/os_main/out/os_main
+}
+export STUB_PID="$room/pid"
+
+# WHAT FOUND WANTED: counts it, and says where they differ.
+expect() {
+    tried=$((tried + 1))
+    [ "$2" = "$3" ] && return
+    failed=$((failed + 1))
+    printf '%s\n  found:  %s\n  wanted: %s\n' "$1" "$2" "$3"
+}
+
+# STATUS LINE WORDS..: where the program writes a text and ends with this status, ./os writes the same and ends so, and says LINE.
+says() {
+    wanted=$1 line=$2
+    shift 2
+    STUB_TEXT=text STUB_STATUS=$wanted ./os "$@" >out 2>err </dev/null
+    expect "status of: $*" $? "$wanted"
+    expect "output of: $*" "$(cat out)" text
+    expect "line of: $*" "$(cat err)" "$line"
+}
+
+# LINE WORDS..: words that begin with no command get the usage and status 2, whether the program is built or not.
+says_no_command() {
+    line=$1
+    shift
+    ./os "$@" >out 2>err </dev/null
+    expect "status of: $*" $? 2
+    expect "output of: $*" "$(cat out)" "$usage"
+    expect "first line of: $*" "$(head -n 1 err)" "$line"
+}
+
+# Runs a command line at a terminal of its own, whose keys are this function's input, and prints what was seen there.
+at_terminal() {
+    TERM=xterm script -qec "$1" /dev/null | tr -d '\r'
+}
+
+# PATTERN TEXT: whether the text has the pattern.
+has() {
+    case $2 in
+        *"$1"*) echo yes ;;
+        *) echo "no: $2" ;;
+    esac
+}
+
+expect "the usage is the program's" "$(sed -n 's/^const USAGE.*b"\(.*\)\\n";$/\1/p' "$top"/crates/command_line/src/*.rt)" "$usage"
+expect "the README's tables" "$(sh "$top/tools/commands_table.sh" --check)" ''
+
+# ---- before the program is built
+
+all='./os solve OSIL [--options OSOL]'
+says_no_command "$all"
+says_no_command "$all" help
+says_no_command "$all" --help
+says_no_command './os check OSIL OSRL' help check
+says_no_command 'os: there is no command fly' help fly
+says_no_command 'os: there is no command fly; ./os help lists those that there are' fly away
+says_no_command 'os: there is no command -x; ./os help lists those that there are' -x
+for command in $(sed -n 's/^command //p' docs/commands.txt); do
+    ./os help "$command" >/dev/null 2>err
+    for part in takes gives ends example; do
+        expect "help $command has $part" "$(grep -c "^$part " err)" 1
+    done
+done
+if [ -e /dev/full ]; then
+    ./os fly >/dev/full 2>err
+    expect 'status of a usage that no one takes' $? 4
+    expect 'line of a usage that no one takes' "$(cat err)" "os: the output couldn't be written; see that there is room and that whoever reads it is still there"
+fi
+PATH=/bin:/usr/bin ./os generate 1 >out 2>err
+expect 'status without rt' $? 1
+expect 'line without rt' "$(cat out err)" "os: not built: the toolchain's command rt isn't on the PATH; README.md names the toolchain"
+
+# ---- the first build
+
+cat >bin/rt <<'RT'
+#!/bin/sh
+echo $$ >"$RT_PID"
+if [ "$1" = all ]; then
+    [ -z "${RT_WAITS-}" ] || exec sleep 30
+    for name in $(sed 's/:.*//' crates.txt); do
+        echo "== $name"
+        mkdir -p "crates/$name/out/rlib"
+        [ -e "crates/$name/out/rlib/stamp" ] && echo "$name was kept" >>"$RT_SEEN"
+        echo it >"crates/$name/out/rlib/stamp"
+        [ "$name" != tree_grammar ] || [ -z "${RT_STOPS-}" ] || exec sleep 30
+    done
+    sleep 2
+    printf '== summary\n'
+    exit 0
+fi
+[ -z "${RT_FAILS-}" ] || exit 1
+cp "$RT_STUB" out/os_main
+RT
+chmod +x bin/rt
+make_stub
+mv crates/os_main/out/os_main bin/stub
+export PATH="$room/bin:$PATH" RT_PID="$room/rt_pid" RT_STUB="$room/bin/stub" RT_SEEN="$room/seen"
+count=$(sh -c 'here=. crate=. program=. && . tools/os_build.sh && lines' | wc -l)
+
+RT_FAILS=yes ./os generate 1 >out 2>err
+expect 'status of a build that fails' $? 1
+expect 'output of a build that fails' "$(cat out)" ''
+expect 'line of a build that fails' "$(tail -n 1 err)" "os: not built: $room/crates/os_main/out/build.log says why"
+rm -rf crates/os_main/out
+
+RT_STOPS=yes ./os generate 1 >out 2>err &
+sleep 2.5
+kill -TERM $!
+wait $! 2>/dev/null
+expect 'status of a build that is interrupted' $? 143
+expect 'line of a build that is interrupted' "$(tail -n 1 err)" 'os: the build was interrupted; ./os goes on where it was'
+kill -0 "$(cat rt_pid)" 2>/dev/null
+expect 'an interrupted build leaves nothing behind' $? 1
+
+echo '// changed' >>crates/os_io/src/lib.rt
+STUB_TEXT=text ./os generate 1 >out 2>err
+expect 'status behind a build' $? 0
+expect 'output behind a build' "$(cat out)" text
+expect 'a build goes on where it was' "$(grep -c '^tree_grammar was kept' seen)" 1
+expect 'first line of a build' "$(sed -n 's/ about .*//p' err | head -n 1 | sed 's/^os: [0-9]* /os: N /')" "os: N of $count crates proved, 0 minutes gone,"
+expect 'last lines of a build' "$(sed 's/about [0-9]* left/about N left/' err | tail -n 2)" "os: $count of $count crates proved, 0 minutes gone, about N left
+os: built in 0 minutes"
+./os generate 1 >out 2>err
+expect 'nothing is built twice' "$(cat err)" ''
+
+echo '// changed' >>crates/os_io/src/lib.rt
+seen=$(at_terminal './os generate 1' </dev/null)
+expect 'a build at a terminal' "$(has "os: $count of $count crates proved, 0 minutes gone, about 0 left" "$seen")" yes
+expect 'a build at a terminal' "$(has 'os: built in 0 minutes' "$seen")" yes
+
+# ---- statuses
+
+make_stub
+echo it >there
+mkdir folder
+says 0 '' solve there
+says 1 '' solve there
+says 2 'os: these words are not those of solve: ./os solve OSIL [--options OSOL] (./os help solve says more)' solve there there
+says 2 'os: these words are not those of generate: ./os generate N (./os help generate says more)' generate 1001
+solve='name another file: ./os solve OSIL [--options OSOL]'
+says 3 "os: can't read nofile.osil: there is no such file; $solve" solve nofile.osil
+says 3 "os: can't read folder: it is a folder; $solve" solve --options folder there
+says 3 "os: can't read no.osol: there is no such file; $solve" solve there --options=no.osol
+says 3 "os: can't read --options: there is no such file; $solve" solve -- --options
+says 3 "os: a file couldn't be read to its end; try again" solve there
+says 3 "os: can't read no.osrl: there is no such file; name another file: ./os check OSIL OSRL" check there no.osrl
+says 3 "os: the input couldn't be read; give it another way: ./os session < FILE" session
+call='./os call NAME HOST PORT [--osil FILE] [--osol FILE] [--ospl FILE]'
+says 3 "os: can't read no.osol: there is no such file; name another file: $call" call solve a 80 --osol no.osol --osil there
+says 3 "os: the connection to a port 80 broke before the whole answer came; it may have been served: see with ./os call knock a 80" call solve a 80 --osil there
+if [ "$(id -u)" -ne 0 ]; then
+    echo it >closed
+    chmod 0 closed
+    says 3 "os: can't read closed: you have no leave to read it; $solve" solve closed
+fi
+says 4 "os: the output couldn't be written; see that there is room and that whoever reads it is still there" solve there
+says 4 "os: the call couldn't be sent to a port 80, or the output not be written; see that the server runs and that the output has room" call knock a 80
+says 5 'os: there was no memory; end other programs, or give a smaller instance' solve there
+says 5 'os: there was no memory for the server or for one of its connections; give fewer --servers and --workers, or end other programs' serve a 80
+says 6 "os: can't listen at nohost port 8080, or take more connections; HOST must be an address of this machine, as 127.0.0.1, and PORT free" serve --workers 1 nohost 8080
+says 6 "os: no one listens at a port 80; start a server there, or name another: $call" call --osol=there knock a 80
+says 7 'os: what a port 80 answered is no reply to a call; see that a server of these calls listens there' call knock a 80
+says 8 'os: the input ended inside a request; its body must have as many bytes as Content-Length says' session
+says 9 "os: the program ended with status 9, which no command has; build it anew: rm $room/crates/os_main/out/os_main" solve there
+STUB_SIGNAL=KILL ./os solve there >out 2>err &
+wait $! 2>/dev/null
+expect 'status of a program that was killed' $? 137
+expect 'line of a program that was killed' "$(cat err)" 'os: the program was killed (signal 9), as the system does where memory is short; end other programs, or give a smaller instance'
+
+# ---- input, signals and the time of a search
+
+expect 'the input is handed on' "$(printf 'a request' | ./os session)" 'a request'
+STUB_HANGS=yes ./os serve a 80 >out 2>err &
+sleep 1
+kill -TERM $!
+wait $! 2>/dev/null
+expect 'status behind TERM' $? 143
+expect 'lines behind TERM' "$(cat err)" ''
+kill -0 "$(cat pid)" 2>/dev/null
+expect 'TERM reaches the program' $? 1
+seen=$({ sleep 1; printf '\003'; sleep 1; } | at_terminal 'trap : INT; STUB_HANGS=yes ./os session; echo status $?')
+expect 'status behind Ctrl-C' "$(has 'status 130' "$seen")" yes
+kill -0 "$(cat pid)" 2>/dev/null
+expect 'Ctrl-C reaches the program' $? 1
+
+seen=$(STUB_SECONDS=3.5 STUB_TEXT=document at_terminal './os solve there; echo status $?' </dev/null)
+clear=$(printf '\033[K')
+expect 'a long search at a terminal' "$seen" "os: solving, 2 sos: solving, 3 sdocument${clear}status 0"
+seen=$(STUB_SECONDS=1 STUB_TEXT=document at_terminal './os solve there' </dev/null)
+expect 'a short search at a terminal' "$seen" document
+STUB_SECONDS=3 STUB_TEXT=document ./os solve there >out 2>err
+expect 'a long search elsewhere' "$(cat out err)" document
+
+echo "os_lines: $((tried - failed)) of $tried as expected"
+[ "$failed" -eq 0 ]

@@ -1,0 +1,165 @@
+# shellcheck shell=sh disable=SC2154
+# Read by ./os: what it says of commands and statuses. All of it goes to the standard error, but for the usage where the words are no
+# command's, which is the program's own.
+
+say() {
+    printf 'os: %s\n' "$1" >&2
+}
+
+is_command() {
+    grep -Fqx -- "command $1" "$commands"
+}
+
+# The words of a command, as a person types them.
+own_words() {
+    awk -v command="$1" '$1 == "command" { at = $2 } $1 == "words" && at == command { sub(/^words /, "./os "); print }' "$commands"
+}
+
+help_on_all() {
+    awk '
+        { line = $0; sub(/^[a-z]+ /, "", line) }
+        $1 == "words" { print "./os " line }
+        $1 == "does" { print "    " line }
+        END { print "./os help COMMAND says what a command takes, gives and ends with." }
+    ' "$commands" >&2
+}
+
+help_on() {
+    awk -v command="$1" '
+        $1 == "command" || $1 == "status" { at = $2; before = ""; next }
+        at != command { next }
+        { line = $0; sub(/^[a-z]+ /, "", line) }
+        $1 == "words" { print "./os " line; next }
+        $1 == "does" { print "    " line; next }
+        NF { printf "%-8s %s\n", ($1 == before ? "" : $1), line; before = $1 }
+    ' "$commands" >&2
+}
+
+# Words that begin with no command get what the program answers, which need not be built for it: the usage, and status 2.
+answer_no_command() {
+    if ! sed -n 's/^usage //p' "$commands" 2>/dev/null; then
+        explain 4 "$@"
+        exit 4
+    fi
+    case ${1-} in
+        '') help_on_all ;;
+        help | -h | --help)
+            if is_command "${2-}"; then
+                help_on "$2"
+            else
+                [ $# -lt 2 ] || say "there is no command $2"
+                help_on_all
+            fi
+            ;;
+        *) say "there is no command $1; ./os help lists those that there are" ;;
+    esac
+    exit 2
+}
+
+# Takes a command's words apart, as the program does: those that stand for themselves, and the texts of options.
+take_apart() {
+    first='' second='' third=''
+    unset options osil osol ospl
+    while [ $# -gt 0 ] && [ "$1" != -- ]; do
+        case $1 in
+            --*=*) keep_option "${1%%=*}" "${1#*=}" ;;
+            --*)
+                keep_option "$1" "${2-}"
+                [ $# -lt 2 ] || shift
+                ;;
+            *) keep_word "$1" ;;
+        esac
+        shift
+    done
+    [ $# -eq 0 ] || shift
+    for word; do keep_word "$word"; done
+}
+
+keep_word() {
+    if [ -z "$first" ]; then
+        first=$1
+    elif [ -z "$second" ]; then
+        second=$1
+    else
+        third=$1
+    fi
+}
+
+keep_option() {
+    case $1 in
+        --options) options=$2 ;;
+        --osil) osil=$2 ;;
+        --osol) osol=$2 ;;
+        --ospl) ospl=$2 ;;
+    esac
+}
+
+# The first of these files that can't be read is told, with why; where each can be, the answer is no.
+tell_unread() {
+    for file; do
+        if [ -d "$file" ]; then
+            why="it is a folder"
+        elif [ ! -e "$file" ]; then
+            why="there is no such file"
+        elif [ ! -r "$file" ]; then
+            why="you have no leave to read it"
+        else
+            continue
+        fi
+        say "can't read $file: $why; name another file: $own"
+        return 0
+    done
+    return 1
+}
+
+explain_read() {
+    case $1 in
+        session) say "the input couldn't be read; give it another way: ./os session < FILE" ;;
+        check) tell_unread "$first" "$second" || say "a file couldn't be read to its end; try again" ;;
+        solve) tell_unread "$first" ${options+"$options"} || say "a file couldn't be read to its end; try again" ;;
+        call)
+            tell_unread ${osil+"$osil"} ${osol+"$osol"} ${ospl+"$ospl"} \
+                || say "the connection to $second port $third broke before the whole answer came; it may have been served: see with ./os call knock $second $third"
+            ;;
+    esac
+}
+
+explain_write() {
+    case $1 in
+        call) say "the call couldn't be sent to $second port $third, or the output not be written; see that the server runs and that the output has room" ;;
+        *) say "the output couldn't be written; see that there is room and that whoever reads it is still there" ;;
+    esac
+}
+
+explain_memory() {
+    case $1 in
+        serve) say "there was no memory for the server or for one of its connections; give fewer --servers and --workers, or end other programs" ;;
+        *) say "there was no memory; end other programs, or give a smaller instance" ;;
+    esac
+}
+
+explain_network() {
+    case $1 in
+        serve) say "can't listen at $first port $second, or take more connections; HOST must be an address of this machine, as 127.0.0.1, and PORT free" ;;
+        *) say "no one listens at $second port $third; start a server there, or name another: $own" ;;
+    esac
+}
+
+# What a status above 1 means for the command whose words follow, and what to do, in one line.
+explain() {
+    ended=$1
+    shift
+    [ $# -eq 0 ] || { own=$(own_words "$1") && asked=$1 && shift; }
+    take_apart "$@"
+    case $ended in
+        2) say "these words are not those of $asked: $own (./os help $asked says more)" ;;
+        3) explain_read "$asked" ;;
+        4) explain_write "${asked-}" ;;
+        5) explain_memory "$asked" ;;
+        6) explain_network "$asked" ;;
+        7) say "what $second port $third answered is no reply to a call; see that a server of these calls listens there" ;;
+        8) say "the input ended inside a request; its body must have as many bytes as Content-Length says" ;;
+        137) say "the program was killed (signal 9), as the system does where memory is short; end other programs, or give a smaller instance" ;;
+        *) say "the program ended with status $ended, which no command has; build it anew: rm $program" ;;
+    esac
+}
