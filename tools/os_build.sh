@@ -5,7 +5,7 @@ proved=$crate/out/crates.log
 kept=$crate/out/kept.txt
 
 is_built() {
-    [ -x "$program" ] && [ -z "$(find "$here/crates.txt" "$here/crates" -name out -prune -o -type f -newer "$program" -print)" ]
+    [ -x "$program" ] && [ -z "$(find "$here/crates.txt" "$here/crates" \( -name out -o -name must-fail \) -prune -o -type f ! -name '*.md' -newer "$program" -print)" ]
 }
 
 # The lines of crates.txt of the program and of the crates that it stands on.
