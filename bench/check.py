@@ -11,7 +11,7 @@ import sys
 import tempfile
 
 RUNS = 5
-PROGRAM = os.path.abspath("os")
+PROGRAM = os.path.abspath("crates/os_main/out/os_main")
 VARIABLES = 1000
 ROW_ENTRIES = 100
 

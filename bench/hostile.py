@@ -15,7 +15,7 @@ ROUNDS = 5
 SIZES = (1_000_000, 2_000_000, 4_000_000)
 MOST = 5
 READER = os.path.abspath("crates/bench_documents/out/bench_documents")
-PROGRAM = os.path.abspath("os")
+PROGRAM = os.path.abspath("crates/os_main/out/os_main")
 
 
 def filled(head, part, tail):

@@ -43,7 +43,7 @@ def main():
                 f.write(request(body))
             with open(document, "wb") as f:
                 f.write(body)
-            ours, peak = measured([os.path.abspath("os"), "session"], call)
+            ours, peak = measured([os.path.abspath("crates/os_main/out/os_main"), "session"], call)
             peer, _ = measured(["xmllint", "--noout", document], "/dev/null")
             first = first or ours
             mb = len(body) / 1e6
