@@ -75,7 +75,7 @@ tell_progress() {
     gone=$(($(date +%s) - begun))
     # shellcheck disable=SC2046 # three numbers
     set -- $(count_crates "$gone")
-    text="$1 of $2 crates proved, $((gone / 60)) minutes gone, about $3 left"
+    text="$1 of $2 crates proved, $((gone / 60)) min gone, about $3 min left"
     if [ -t 2 ]; then
         printf '\ros: %s   ' "$text" >&2
     elif [ $(($1 / 10)) -ge "$tens" ]; then
@@ -109,6 +109,7 @@ prove() {
 
 # Builds the program, in the checkout itself. An empty input ends a session at once, with status 0.
 make_program() {
+    [ ! -t 2 ] || printf '\ros: %-75s' 'all crates proved, building the program' >&2
     (cd "$crate" && exec rt run -- session) </dev/null >"$crate/out/build.log" 2>&1 9>&- &
     child=$!
     await
@@ -120,7 +121,7 @@ make_program() {
     fi
     rm -rf "$room"
     touch "$program"
-    say "built in $((($(date +%s) - begun) / 60)) minutes"
+    say "built in $((($(date +%s) - begun) / 60)) min"
 }
 
 build() {

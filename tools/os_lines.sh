@@ -153,16 +153,17 @@ STUB_TEXT=text ./os generate 1 >out 2>err
 expect 'status behind a build' $? 0
 expect 'output behind a build' "$(cat out)" text
 expect 'a build goes on where it was' "$(grep -c '^tree_grammar was kept' seen)" 1
-expect 'first line of a build' "$(sed -n 's/ about .*//p' err | head -n 1 | sed 's/^os: [0-9]* /os: N /')" "os: N of $count crates proved, 0 minutes gone,"
-expect 'last lines of a build' "$(sed 's/about [0-9]* left/about N left/' err | tail -n 2)" "os: $count of $count crates proved, 0 minutes gone, about N left
-os: built in 0 minutes"
+expect 'first line of a build' "$(sed -n 's/ about .*//p' err | head -n 1 | sed 's/^os: [0-9]* /os: N /')" "os: N of $count crates proved, 0 min gone,"
+expect 'last lines of a build' "$(sed 's/about [0-9]* min/about N min/' err | tail -n 2)" "os: $count of $count crates proved, 0 min gone, about N min left
+os: built in 0 min"
 ./os generate 1 >out 2>err
 expect 'nothing is built twice' "$(cat err)" ''
 
 echo '// changed' >>crates/os_io/src/lib.rt
 seen=$(at_terminal './os generate 1' </dev/null)
-expect 'a build at a terminal' "$(has "os: $count of $count crates proved, 0 minutes gone, about 0 left" "$seen")" yes
-expect 'a build at a terminal' "$(has 'os: built in 0 minutes' "$seen")" yes
+expect 'a build at a terminal' "$(has "os: $count of $count crates proved, 0 min gone, about 0 min left" "$seen")" yes
+expect 'the last step at a terminal' "$(has 'os: all crates proved, building the program' "$seen")" yes
+expect 'the end of a build at a terminal' "$(has 'os: built in 0 min' "$seen")" yes
 
 # ---- statuses
 
