@@ -26,19 +26,28 @@ help_on_all() {
 
 help_on() {
     awk -v command="$1" '
+        # Puts a text behind a name of eight columns, in lines of at most 80.
+        function put(name, text, n, words, i, line) {
+            n = split(text, words, " ")
+            for (i = 1; i <= n; i++) {
+                if (line != "" && length(line words[i]) > 70) { printf "%-8s %s\n", name, line; name = line = "" }
+                line = line (line == "" ? "" : " ") words[i]
+            }
+            printf "%-8s %s\n", name, line
+        }
         $1 == "command" || $1 == "status" { at = $2; before = ""; next }
         at != command { next }
         { line = $0; sub(/^[a-z]+ /, "", line) }
         $1 == "words" { print "./os " line; next }
         $1 == "does" { print "    " line; next }
-        NF { printf "%-8s %s\n", ($1 == before ? "" : $1), line; before = $1 }
+        NF { put($1 == before ? "" : $1, line); before = $1 }
     ' "$commands" >&2
 }
 
 # Words that begin with no command get what the program answers, which need not be built for it: the usage, and status 2.
 answer_no_command() {
     if ! sed -n 's/^usage //p' "$commands" 2>/dev/null; then
-        explain 4 "$@"
+        explain 4
         exit 4
     fi
     case ${1-} in
