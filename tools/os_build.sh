@@ -11,11 +11,15 @@ is_built() {
 # The lines of crates.txt of the program and of the crates that it stands on.
 lines() {
     awk -F: '
-        /^[a-z]/ { order[++count] = $1; below[$1] = $2; line[$1] = $0 }
+        function need(name, names, n, k) {
+            if (name in needed || !(name in line)) return
+            needed[name] = 1
+            n = split(below[name], names, " ")
+            for (k = 1; k <= n; k++) need(names[k])
+        }
+        /^[a-z]/ { name = $1; sub(/ .*/, "", name); order[++count] = name; below[name] = $2; line[name] = $0 }
         END {
-            needed["os_main"] = 1
-            for (i = count; i > 0; i--)
-                if (order[i] in needed) { n = split(below[order[i]], names, " "); for (k = 1; k <= n; k++) needed[names[k]] = 1 }
+            need("os_main")
             for (i = 1; i <= count; i++) if (order[i] in needed) print line[order[i]]
         }' "$here/crates.txt"
 }
@@ -41,9 +45,9 @@ lay_out_crate() {
 lay_out() {
     mkdir -p "$room/crates" && lines >"$room/crates.txt" && cp "$here/HANDLES" "$room" && : >"$kept" || return 1
     for old in "$room/crates"/*; do
-        grep -q "^${old##*/}:" "$room/crates.txt" || rm -rf "$old"
+        grep -q "^${old##*/}[ :]" "$room/crates.txt" || rm -rf "$old"
     done
-    for listed in $(cut -d: -f1 "$room/crates.txt"); do
+    for listed in $(sed 's/[ :].*//' "$room/crates.txt"); do
         lay_out_crate "$listed" || return 1
         [ ! -e "$room/crates/$listed/out/rlib/stamp" ] || echo "$listed" >>"$kept"
     done
@@ -63,7 +67,7 @@ count_crates() {
     awk -v gone="$1" -v processors="$(nproc)" '
         function seconds(name) { return name in cost ? cost[name] : 60 }
         part == "times" && split($0, column, / *[|] */) > 3 { cost[column[2]] = column[3] + 0 }
-        part == "names" { sub(/:.*/, ""); count++; all += seconds($0) }
+        part == "names" { sub(/[ :].*/, ""); count++; all += seconds($0) }
         part == "kept" { is_kept[$1] = 1; all -= seconds($1) }
         part == "proved" && $1 == "==" && $2 != "summary" { proved++; if (!($2 in is_kept)) done += seconds($2) }
         END { print proved + 0, count, int((all - done) * (gone + 120) / (done + 60 * processors) / 60 + 0.5) }
