@@ -38,8 +38,8 @@ end_by() {
     exit "$status"
 }
 
-# At a terminal, from the second second on, shows how long a search has taken. The cursor goes back to where the output is to begin,
-# and what is left behind the output is cleared. It ends when it is told to, or when the script is gone.
+# From the second second on, shows how long a search has taken. The cursor goes back to where the output is to begin, and what is
+# then left behind the output is cleared. It ends when it is told to, or when the script is gone.
 show_seconds() {
     shown=
     trap 'kill "$!" 2>/dev/null; [ -z "$shown" ] || printf "\033[K" >&2; exit' TERM
@@ -47,7 +47,7 @@ show_seconds() {
     wait "$!"
     seconds=2
     while kill -0 $$ 2>/dev/null; do
-        printf 'os: %s, %s s\r' "$1" "$seconds" >&2
+        printf 'os: %s s\r' "$seconds" >&2
         shown=yes
         sleep 1 &
         wait "$!"
@@ -55,14 +55,21 @@ show_seconds() {
     done
 }
 
+# Whether the words ask for a search, here or at a server, and a terminal is there to show its time.
+is_watched() {
+    [ -t 2 ] && [ "${TERM:-dumb}" != dumb ] || return 1
+    case "$* " in
+        'solve '* | 'generate '* | 'call '*' solve '* | 'call solve '*) return 0 ;;
+        *) return 1 ;;
+    esac
+}
+
 # Runs the program, with the script's own input, and keeps its status.
 run_program() {
     clock=
-    if [ -t 2 ] && [ "${TERM:-dumb}" != dumb ]; then
-        case $1 in
-            solve) show_seconds solving >/dev/null & clock=$! ;;
-            generate) show_seconds generating >/dev/null & clock=$! ;;
-        esac
+    if is_watched "$@"; then
+        show_seconds >/dev/null &
+        clock=$!
     fi
     # Behind a script the input is none unless it is handed on by another number; where there is none, none is made up.
     if (: <&0) 2>/dev/null; then

@@ -136,7 +136,7 @@ build() {
     mkdir -p "$crate/out" || exit 1
     # A second ./os waits for the first one's build, and finds it done.
     exec 9>"$crate/out/lock"
-    if ! flock -n 9; then
+    if command -v flock >/dev/null && ! flock -n 9; then
         say "another ./os builds the program; waiting for it"
         flock 9 &
         child=$!

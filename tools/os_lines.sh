@@ -160,6 +160,13 @@ os: built in 0 min"
 expect 'nothing is built twice' "$(cat err)" ''
 
 echo '// changed' >>crates/os_io/src/lib.rt
+flock crates/os_main/out/lock sleep 2 &
+sleep 1
+./os generate 1 >out 2>err
+expect 'line of a second build' "$(head -n 1 err)" 'os: another ./os builds the program; waiting for it'
+expect 'last line of a second build' "$(tail -n 1 err)" 'os: built in 0 min'
+
+echo '// changed' >>crates/os_io/src/lib.rt
 seen=$(at_terminal './os generate 1' </dev/null)
 expect 'a build at a terminal' "$(has "os: $count of $count crates proved, 0 min gone, about 0 min left" "$seen")" yes
 expect 'the last step at a terminal' "$(has 'os: all crates proved, building the program' "$seen")" yes
@@ -222,7 +229,9 @@ expect 'Ctrl-C reaches the program' $? 1
 
 seen=$(STUB_SECONDS=3.5 STUB_TEXT=document at_terminal './os solve there; echo status $?' </dev/null)
 clear=$(printf '\033[K')
-expect 'a long search at a terminal' "$seen" "os: solving, 2 sos: solving, 3 sdocument${clear}status 0"
+expect 'a long search at a terminal' "$seen" "os: 2 sos: 3 sdocument${clear}status 0"
+seen=$(STUB_SECONDS=2.5 STUB_TEXT=document at_terminal './os call --osil there solve a 80' </dev/null)
+expect 'a long call at a terminal' "$seen" "os: 2 sdocument${clear}"
 seen=$(STUB_SECONDS=1 STUB_TEXT=document at_terminal './os solve there' </dev/null)
 expect 'a short search at a terminal' "$seen" document
 STUB_SECONDS=3 STUB_TEXT=document ./os solve there >out 2>err
