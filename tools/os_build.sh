@@ -3,6 +3,7 @@
 room=$crate/out/room
 proved=$crate/out/crates.log
 kept=$crate/out/kept.txt
+unwritten="can't write to $room; see that there is space, and that you may write there"
 
 is_built() {
     [ -x "$program" ] && [ -z "$(find "$here/crates.txt" "$here/crates" \( -name out -o -name must-fail \) -prune -o -type f ! -name '*.md' -newer "$program" -print)" ]
@@ -88,6 +89,12 @@ tell_progress() {
     fi
 }
 
+# Says why there is no program, and ends.
+give_up() {
+    say "not built: $1"
+    exit 1
+}
+
 # Where the build was interrupted, says so and ends.
 heed_signal() {
     [ -n "$caught" ] || return 0
@@ -98,7 +105,7 @@ heed_signal() {
 
 # Proves the crates. What fails is told by the build behind it.
 prove() {
-    lay_out || exit 1
+    lay_out 2>/dev/null || give_up "$unwritten"
     : >"$proved"
     (cd "$room" && exec rt all check --jobs "$(places)") >"$proved" 2>&1 9>&- &
     child=$!
@@ -119,21 +126,15 @@ make_program() {
     await
     heed_signal
     [ ! -t 2 ] || printf '\r%79s\r' '' >&2
-    if [ "$status" -ne 0 ]; then
-        say "not built: $crate/out/build.log says why"
-        exit 1
-    fi
+    [ "$status" -eq 0 ] || give_up "$crate/out/build.log says why"
     rm -rf "$room"
     touch "$program"
     say "built in $((($(date +%s) - begun) / 60)) min"
 }
 
 build() {
-    if ! command -v rt >/dev/null; then
-        say "not built: the toolchain's command rt isn't on the PATH; README.md names the toolchain"
-        exit 1
-    fi
-    mkdir -p "$crate/out" || exit 1
+    command -v rt >/dev/null || give_up "the toolchain's command rt isn't on the PATH; README.md names the toolchain"
+    mkdir -p "$room" 2>/dev/null || give_up "$unwritten"
     # A second ./os waits for the first one's build, and finds it done.
     exec 9>"$crate/out/lock"
     if command -v flock >/dev/null && ! flock -n 9; then

@@ -112,7 +112,6 @@ cat >bin/rt <<'RT'
 #!/bin/sh
 echo $$ >"$RT_PID"
 if [ "$1" = all ]; then
-    [ -z "${RT_WAITS-}" ] || exec sleep 30
     for name in $(sed 's/:.*//' crates.txt); do
         echo "== $name"
         mkdir -p "crates/$name/out/rlib"
@@ -148,6 +147,21 @@ expect 'line of a build that is interrupted' "$(tail -n 1 err)" 'os: the build w
 kill -0 "$(cat rt_pid)" 2>/dev/null
 expect 'an interrupted build leaves nothing behind' $? 1
 
+seen=$({ sleep 2; printf '\003'; sleep 1; } | at_terminal 'trap : INT; RT_STOPS=yes ./os generate 1; echo status $?')
+expect 'status of a build behind Ctrl-C' "$(has 'status 130' "$seen")" yes
+expect 'line of a build behind Ctrl-C' "$(has 'os: the build was interrupted; ./os goes on where it was' "$seen")" yes
+kill -0 "$(cat rt_pid)" 2>/dev/null
+expect 'Ctrl-C leaves nothing behind' $? 1
+
+mv crates/os_main/out/room crates/os_main/out/aside
+: >crates/os_main/out/room
+./os generate 1 >out 2>err
+expect 'status where nothing can be written' $? 1
+expect 'line where nothing can be written' "$(cat err)" "os: not built: can't write to $room/crates/os_main/out/room; see that there is space, and that you may write there"
+rm crates/os_main/out/room
+mv crates/os_main/out/aside crates/os_main/out/room
+
+: >seen
 echo '// changed' >>crates/os_io/src/lib.rt
 STUB_TEXT=text ./os generate 1 >out 2>err
 expect 'status behind a build' $? 0
@@ -188,15 +202,16 @@ says 3 "os: can't read no.osol: there is no such file; $solve" solve there --opt
 says 3 "os: can't read --options: there is no such file; $solve" solve -- --options
 says 3 "os: a file couldn't be read to its end; try again" solve there
 says 3 "os: can't read no.osrl: there is no such file; name another file: ./os check OSIL OSRL" check there no.osrl
+says 3 "os: a file couldn't be read to its end; try again" check there there
 says 3 "os: the input couldn't be read; give it another way: ./os session < FILE" session
 call='./os call NAME HOST PORT [--osil FILE] [--osol FILE] [--ospl FILE]'
 says 3 "os: can't read no.osol: there is no such file; name another file: $call" call solve a 80 --osol no.osol --osil there
 says 3 "os: the connection to a port 80 broke before the whole answer came; it may have been served: see with ./os call knock a 80" call solve a 80 --osil there
-if [ "$(id -u)" -ne 0 ]; then
-    echo it >closed
-    chmod 0 closed
-    says 3 "os: can't read closed: you have no leave to read it; $solve" solve closed
-fi
+chmod 755 . && echo it >closed && chmod 0 closed
+as_other=''
+[ "$(id -u)" -ne 0 ] || as_other='setpriv --reuid=65534 --regid=65534 --clear-groups'
+STUB_PID=/dev/null STUB_STATUS=3 $as_other ./os solve closed >out 2>err
+expect 'line of a file that may not be read' "$(cat err)" "os: can't read closed: you have no leave to read it; $solve"
 says 4 "os: the output couldn't be written; see that there is room and that whoever reads it is still there" solve there
 says 4 "os: the call couldn't be sent to a port 80, or the output not be written; see that the server runs and that the output has room" call knock a 80
 says 5 'os: there was no memory; end other programs, or give a smaller instance' solve there

@@ -124,8 +124,9 @@ tell_unread() {
 explain_read() {
     case $1 in
         session) say "the input couldn't be read; give it another way: ./os session < FILE" ;;
-        check) tell_unread "$first" "$second" || say "a file couldn't be read to its end; try again" ;;
-        solve) tell_unread "$first" ${options+"$options"} || say "a file couldn't be read to its end; try again" ;;
+        check | solve)
+            tell_unread "$first" ${second:+"$second"} ${options+"$options"} || say "a file couldn't be read to its end; try again"
+            ;;
         call)
             tell_unread ${osil+"$osil"} ${osol+"$osol"} ${ospl+"$ospl"} \
                 || say "the connection to $second port $third broke before the whole answer came; it may have been served: see with ./os call knock $second $third"
