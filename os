@@ -38,7 +38,7 @@ end_by() {
     exit "$status"
 }
 
-# From the second second on, shows how long a search has taken. The cursor goes back to where the output is to begin, and what is
+# Once two seconds have gone, shows how long a search takes. The cursor goes back to where the output is to begin, and what is
 # then left behind the output is cleared. It ends when it is told to, or when the script is gone.
 show_seconds() {
     shown=
