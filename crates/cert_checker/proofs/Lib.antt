@@ -11,14 +11,9 @@ pub mod Moves
 pub mod Walks
 pub mod Refusing
 pub mod Claims
-pub mod Together
-pub mod Accepted
-pub mod Apart
 pub mod Firsts
 pub mod OnePoint
 pub mod OneRay
 pub mod OneLeaf
 pub mod OneReason
-pub mod OneText
-pub mod OneAnswer
 pub mod Shown

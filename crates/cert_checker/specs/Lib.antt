@@ -9,6 +9,3 @@ pub mod Trees
 pub mod Refusals
 pub mod Cuts
 pub mod Slots
-pub mod Documents
-pub mod Grounds
-pub mod Texts

@@ -1,46 +1,14 @@
-ghost use Rattle.std.specs.Prelude.{◌≡◌, ℕ, None, Some, Result, MatchResult, List};
+ghost use Rattle.std.specs.Prelude.{◌≡◌, ℕ, None, Some, List};
 ghost use Rattle.rational.specs.Ratio.{Ratio};
 ghost use Rattle.evidence.specs.Instance.{Instance, minimising};
 ghost use Rattle.evidence.specs.Point.{IsRay};
 ghost use Rattle.evidence.specs.Cases.{Tree, Node, preorder, Shows};
 ghost use Rattle.evidence.specs.Width.{PointFits};
-ghost use Rattle.evidence.specs.Claim.{Claim, Accepts, HasValue, IsTrueOf};
+ghost use Rattle.evidence.specs.Claim.{Claim, Accepts, HasValue};
 ghost use Rattle.evidence.specs.Claim as claims;
-ghost use Rattle.instance.specs.Parts.{Parts};
-ghost use Rattle.instance.specs.Program.{program};
-ghost use Rattle.certificate.specs.declared.claims.Claim as carried;
-ghost use Rattle.certificate.specs.Means as Means;
-ghost use Rattle.osil_grammar.specs.Reading.{IsInstanceText};
-ghost use Rattle.osrl_grammar.specs.Reading.{IsReportText};
-ghost use Rattle.osrl_grammar.specs.declared.report.Report.{Report};
 ghost use Rattle.cert_checker.specs.declared.refused.Refused.{Refused};
-ghost use Rattle.cert_checker.specs.declared.refused.Refused.TheVariants.{Memory, Wide};
-ghost use Rattle.cert_checker.specs.declared.documents.Kind.{Kind};
+ghost use Rattle.cert_checker.specs.declared.refused.Refused.TheVariants.{Wide};
 ghost use Rattle.cert_checker.specs.Refusals.{IsRefused};
-ghost use Rattle.cert_checker.specs.Documents.{kind, IsAcceptedText, DocsRefuse};
-ghost use Rattle.cert_checker.specs.Texts.{IsAnswerText};
-ghost use Rattle.cert_checker.specs.Grounds.{InstancesAreOne, ReportsAreOne};
-
-use document_tags::tree_faults_have_one_text;
-use osil_grammar::{documents_are_refused_in_one_way, documents_mean_one_instance};
-use osrl_grammar::{document_has_one_refusal, document_has_one_report, report_is_not_refused};
-
-/// The laws of instances' documents.
-fn instances_are_one()
-    ensures { InstancesAreOne }
-{
-    documents_mean_one_instance();
-    documents_are_refused_in_one_way();
-}
-
-/// The laws of result documents.
-fn reports_are_one()
-    ensures { ReportsAreOne }
-{
-    document_has_one_report();
-    report_is_not_refused();
-    document_has_one_refusal();
-}
 
 /// What is refused isn't accepted.
 pub fn refused_is_not_accepted()
@@ -59,38 +27,3 @@ pub fn shown_is_refused_for_width_alone()
     ensures infeasible { (I : Instance) (nodes : List Node) (tree : Tree) (r : Refused) → nodes ≡ preorder tree → Shows I tree None → IsRefused I (claims.Infeasible nodes) r → (n : ℕ) × (r ≡ Wide n) }
     ensures unbounded { (I : Instance) (x : List Ratio) (v : Ratio) (d : List Ratio) (r : Refused) → HasValue I x v → PointFits I x → IsRay I d → IsRefused I (claims.Unbounded x v d) r → (n : ℕ) × (r ≡ Wide n) }
 {}
-
-/// Documents that are accepted aren't refused, but for want of memory.
-pub fn accepted_is_not_refused()
-    ensures { (osil osrl : List ℕ) (k : Kind) (r : Refused) → IsAcceptedText osil osrl k → DocsRefuse osil osrl r → r ≡ Memory }
-{
-    instances_are_one();
-    reports_are_one();
-}
-
-/// Documents are accepted as one kind at most.
-pub fn documents_have_one_kind()
-    ensures { (osil osrl : List ℕ) (j k : Kind) → IsAcceptedText osil osrl j → IsAcceptedText osil osrl k → j ≡ k }
-{
-    instances_are_one();
-    reports_are_one();
-}
-
-/// What accepted documents claim is true: whichever instance the first stands for, and whichever report the second is,
-/// the report's claim is of the accepted kind, and what it says holds of the instance's points.
-pub fn accepted_documents_are_true()
-    ensures kind { (osil osrl : List ℕ) (k : Kind) (report : Report) (c : carried.Claim) → IsAcceptedText osil osrl k → IsReportText osrl report → report.claim ≡ Some c → kind c ≡ Some k }
-    ensures is_true { (osil osrl : List ℕ) (k : Kind) (p : Parts) (report : Report) (c : carried.Claim) → IsAcceptedText osil osrl k → IsInstanceText osil p → IsReportText osrl report → report.claim ≡ Some c → IsTrueOf (program p) (Means.claim c) }
-{
-    instances_are_one();
-    reports_are_one();
-}
-
-/// Documents have one answer, in one text; want of memory has none.
-pub fn documents_have_one_answer()
-    ensures { (osil osrl : List ℕ) (a b : Result Kind Refused) (s t : List ℕ) → MatchResult a (IsAcceptedText osil osrl) (DocsRefuse osil osrl) → MatchResult b (IsAcceptedText osil osrl) (DocsRefuse osil osrl) → IsAnswerText a s → IsAnswerText b t → s ≡ t }
-{
-    instances_are_one();
-    reports_are_one();
-    tree_faults_have_one_text();
-}

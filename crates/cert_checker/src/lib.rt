@@ -9,14 +9,12 @@
 //! [`Scratch`] has from before, and undone on the way back. A leaf costs time in proportion to the variables and to the
 //! entries of the rows that its multipliers name. `check` takes no memory.
 //!
-//! [`check_docs`] answers the same of two documents: an instance's, and a result's that carries the claim. [`answer_text`] says
-//! its answer in words.
+//! Both are in memory here, and no document is read: `document_checker` does that.
 #![tactic(auto)]
 
 mod checking;
 mod clash;
 mod columns;
-mod documents;
 mod forms;
 mod laws;
 mod leaf;
@@ -27,16 +25,11 @@ mod refused;
 mod scratch;
 mod slots;
 mod sums;
-mod texts;
 mod walk;
 
 pub use checking::check;
-pub use documents::{Kind, check_docs};
 pub use laws::{
-    accepted_documents_are_true, accepted_is_not_refused, claims_have_one_refusal,
-    documents_have_one_answer, documents_have_one_kind, refused_is_not_accepted,
-    shown_is_refused_for_width_alone,
+    claims_have_one_refusal, refused_is_not_accepted, shown_is_refused_for_width_alone,
 };
 pub use refused::Refused;
 pub use scratch::Scratch;
-pub use texts::answer_text;

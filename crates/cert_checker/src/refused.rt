@@ -1,12 +1,7 @@
 //! Why a claim isn't accepted.
 
-use osil_grammar::OsilFault;
-use osrl_grammar::OsrlFault;
-use std::alloc::AllocError;
-
-/// Why a claim is refused. Columns are the variables and then the rows; nodes are numbered from 1 in their order. The last
-/// three are told of documents alone.
-#[derive(Debug, Drop)]
+/// Why a claim is refused. Columns are the variables and then the rows; nodes are numbered from 1 in their order.
+#[derive(Clone, Copy, PartialEq, Eq, Debug)]
 pub enum Refused {
     /// The point has another number of values than there are variables, and the column is the lesser of both numbers; or
     /// this is the first column that is out of its ends or, where it must be whole, isn't.
@@ -30,21 +25,4 @@ pub enum Refused {
     NoClaim,
     /// A sum doesn't fit: at this node, or at 0 of the point or the direction.
     Wide { node: u32 },
-    /// The instance's document is refused.
-    Instance(OsilFault),
-    /// The result document is refused.
-    Result(OsrlFault),
-    /// There was no memory.
-    Memory,
-}
-
-impl From<AllocError> for Refused {
-    ghost from_gives = { λ _ r. r ≡ Memory };
-
-    ghost use Rattle.std.specs.Prelude.{◌≡◌};
-    ghost use Rattle.cert_checker.specs.declared.refused.Refused.TheVariants.{Memory};
-
-    fn from(_e: AllocError) -> Refused {
-        Refused::Memory
-    }
 }

@@ -3,18 +3,30 @@ ghost use Rattle.std.specs.List.{All};
 ghost use Rattle.evidence.specs.Width.{ProvesWithin};
 ghost use Rattle.instance.specs.Program.{program};
 ghost use Rattle.certificate.specs.Means as Means;
-ghost use Rattle.certificate.specs.Nodes.{IsInRange};
+ghost use Rattle.certificate.specs.Nodes.{nodes_of, IsInRange};
+ghost use Rattle.cert_checker.specs.Cuts.{HasRoom};
 ghost use Rattle.cert_checker.specs.Cuts as Of;
 ghost use Rattle.cert_checker.specs.Trees.{TreeRefuses};
 
 use crate::refused::Refused;
 use crate::walk::check_tree;
 use case_tree::Branch;
-use certificate::{Cert, Node};
+use certificate::{Cert, Claim, Node};
 use fraction::{End, Frac};
 use instance::{Instance, Var};
 use std::alloc::{AllocError, Global};
 use std::marker::Model;
+
+/// The number of nodes in a claim's certificate.
+fn count_nodes(claim: &Claim) -> usize
+    ensures { result ≡ length (nodes_of claim.now) }
+{
+    match claim {
+        Claim::Optimal { cert, .. } => cert.as_slice().len(),
+        Claim::Infeasible { cert } => cert.as_slice().len(),
+        _ => 0,
+    }
+}
 
 /// Room for checks of claims of so many variables and nodes. Contracts see it as these two numbers, which no check changes.
 #[derive(Debug, Drop)]
@@ -59,6 +71,22 @@ impl Scratch {
             slots: vec![in alloc; None; n as usize]?,
             branches: vec![in alloc; branch; nodes as usize]?,
         })
+    }
+
+    /// Room for a check of this claim.
+    pub fn for_claim(
+        alloc: Global,
+        instance: &Instance,
+        claim: &Claim,
+    ) -> Result<Scratch, AllocError>
+        requires { length (nodes_of claim.now) < 2 ^ 32 }
+        ensures { IfOk result (HasRoom instance.now claim.now) }
+    {
+        Scratch::for_size(
+            alloc,
+            instance.vars().len() as u32,
+            count_nodes(claim) as u32,
+        )
     }
 
     /// How many variables there is room for.

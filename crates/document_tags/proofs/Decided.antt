@@ -10,22 +10,11 @@ clean_none Decides = All-nil (DecidesNothing Decides)
 pub clean_one : {T R : Type 0} (Decides : T → R → ℕ → Type 0) (t : T) → DecidesNothing Decides t → AreClean Decides (t ∷ [])
 clean_one Decides t clean = All-cons (DecidesNothing Decides) t [] clean (clean_none Decides)
 
-pub clean_cons : {T R : Type 0} (Decides : T → R → ℕ → Type 0) (t : T) (ts : List T) → DecidesNothing Decides t → AreClean Decides ts → AreClean Decides (t ∷ ts)
-clean_cons Decides t ts clean rest = All-cons (DecidesNothing Decides) t ts clean rest
-
 pub clean_append : {T R : Type 0} (Decides : T → R → ℕ → Type 0) (xs ys : List T) → AreClean Decides xs → AreClean Decides ys → AreClean Decides (xs ++ ys)
 clean_append Decides xs ys a b = All-append (DecidesNothing Decides) xs ys a b
 
 pub clean_same : {T R : Type 0} (Decides : T → R → ℕ → Type 0) (xs ys : List T) → xs ≡ ys → AreClean Decides ys → AreClean Decides xs
 clean_same Decides xs ys same clean = All-same (DecidesNothing Decides) xs ys same clean
-
-pub clean_front : {T R : Type 0} (Decides : T → R → ℕ → Type 0) (xs ys : List T) → AreClean Decides (xs ++ ys) → AreClean Decides xs
-clean_front Decides [] ys clean = clean_none Decides
-clean_front Decides (x ∷ xs) ys clean = clean_cons Decides x xs (All-head (DecidesNothing Decides) x (xs ++ ys) clean) (clean_front Decides xs ys (All-tail (DecidesNothing Decides) x (xs ++ ys) clean))
-
-pub clean_behind : {T R : Type 0} (Decides : T → R → ℕ → Type 0) (xs ys : List T) → AreClean Decides (xs ++ ys) → AreClean Decides ys
-clean_behind Decides [] ys clean = clean
-clean_behind Decides (x ∷ xs) ys clean = clean_behind Decides xs ys (All-tail (DecidesNothing Decides) x (xs ++ ys) clean)
 
 -- at the one tag
 pub first_one : {T R : Type 0} (Decides : T → R → ℕ → Type 0) (number : R → ℕ) (t : T) (r : R) (n : ℕ) → Decides t r n → ((q : R) (m : ℕ) → Decides t q m → number r ≤ number q) → IsFirstDecided Decides number (t ∷ []) r n

@@ -1,7 +1,9 @@
-pub mod Steps
-pub mod Content
 pub mod Passed
 pub mod Spotted
+pub mod OnlyOne
+pub mod OnlyAnswer
+pub mod ElementsLeft
+pub mod Gathering
 pub mod Told
 pub mod OneTree
 pub mod Printing

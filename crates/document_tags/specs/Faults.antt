@@ -1,7 +1,11 @@
 -- The texts of refusals, as a reply or a message tells them.
-use Rattle.std.specs.Prelude.{◌≡◌, ℕ, List, ◌∷◌, ◌++◌, codes, decimal}
+use Rattle.std.specs.Prelude.{◌≡◌, ℕ, List, ◌∷◌, ◌++◌, take, codes, decimal}
 use Rattle.doc_tree.specs.declared.fault.TreeFault.{TreeFault}
 use Rattle.doc_tree.specs.declared.fault.TreeFault.TheVariants.{Malformed, Doctype, Encoding, Deep, Long, Memory}
+
+-- the beginning of a name, as far as a refusal tells it: its first 64 bytes
+abbrev pub told_name : List ℕ → List ℕ
+told_name name = take 64 name
 
 -- a kind of document, the name of a refusal, and the ordinal of an element, the number of an item, or a place in bytes
 abbrev pub refusal_at : (document name : List ℕ) → ℕ → List ℕ

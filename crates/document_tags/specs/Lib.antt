@@ -4,6 +4,8 @@ pub mod Characters
 pub mod Elements
 pub mod Passing
 pub mod Spots
+pub mod Only
+pub mod Gathering
 pub mod Deciding
 pub mod Documents
 pub mod Writing

@@ -2,6 +2,7 @@
 use Rattle.std.specs.Prelude.{◌≡◌, ◌⊎◌, ℕ, List, []}
 use Rattle.tree_grammar.specs.Elements.{Nodes, none, chars, Element, IsShallow, IsWithin}
 use Rattle.tree_grammar.specs.Document.{Doc}
+use Rattle.os_io.specs.Limits.{most_bytes}
 
 -- characters alone, or nothing
 abbrev pub HoldsText : Nodes → List ℕ → Type 0
@@ -9,7 +10,7 @@ HoldsText content text = ((content ≡ none) × (text ≡ [])) ⊎ (content ≡ 
 
 -- the greatest length of a document in bytes
 abbrev pub document_limit : ℕ
-document_limit = 4194304
+document_limit = most_bytes
 
 -- the bytes are a document within the limits, and hold this element
 pub record IsDocument (bytes : List ℕ) (root : Element) : Type 0 where

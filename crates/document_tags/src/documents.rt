@@ -6,10 +6,8 @@ ghost use Rattle.document_tags.specs.Documents.{AreOfDocument, TreeFails};
 
 use doc_tree::{TreeFault, read};
 use element_tree::Tree;
+use os_io::MOST_BYTES;
 use std::alloc::Global;
-
-/// The most bytes of a document.
-pub const MOST_BYTES: u64 = 4_194_304;
 
 /// The tree of a document of at most [`MOST_BYTES`] bytes and of a depth of at most 32, or why the bytes are none.
 pub fn read_document(alloc: Global, bytes: &[u8]) -> Result<Tree, TreeFault>

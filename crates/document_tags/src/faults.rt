@@ -8,6 +8,20 @@ use itoa::Buffer;
 use os_io::{Memory, Text};
 use std::alloc::{AllocError, Global};
 
+/// The most bytes of a name that a refusal tells.
+const MOST_TOLD: usize = 64;
+
+/// The beginning of a name, at most 64 bytes, as far as a refusal tells it.
+pub fn told_name(alloc: Global, name: &[u8]) -> Result<Text, Memory>
+    ensures { IfOk result (λ t. t ≡ spoken.told_name name.now) }
+{
+    if name.len() <= MOST_TOLD {
+        Text::from_slice(alloc, name)
+    } else {
+        Text::from_slice(alloc, &name[..MOST_TOLD])
+    }
+}
+
 /// A kind of document and the name of a refusal.
 fn refusal_of(alloc: Global, document: &[u8], name: &[u8]) -> Result<Text, Memory>
     ensures { IfOk result (λ t. t ≡ spoken.refusal_of document.now name.now) }

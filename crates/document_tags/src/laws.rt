@@ -1,19 +1,14 @@
 //! What the definitions say together.
 
-ghost use Rattle.std.specs.Prelude.{◌≡◌, ℕ, ◌<◌, ◌++◌, ◌∷◌, List, length};
+ghost use Rattle.std.specs.Prelude.{◌≡◌, ℕ, ◌<◌, ◌++◌, ◌∷◌, List};
 ghost use Rattle.std.specs.List.{All};
 ghost use Rattle.doc_tree.specs.declared.fault.TreeFault.{TreeFault};
 ghost use Rattle.tree_grammar.specs.Characters.{IsXmlText};
 ghost use Rattle.tree_grammar.specs.Document.{Doc};
 ghost use Rattle.tree_grammar.specs.Elements.{Element};
 ghost use Rattle.document_tags.specs.Characters.{IsOfCharacters};
-ghost use Rattle.document_tags.specs.Elements.{elements_in, own_text, within};
+ghost use Rattle.document_tags.specs.Elements.{own_text, within};
 ghost use Rattle.document_tags.specs.Faults.{IsTreeText};
-
-/// Law: a document has more bytes than elements.
-pub fn documents_have_fewer_elements_than_bytes()
-    ensures { (bytes : List ℕ) (root : Element) → Doc bytes root → elements_in root.children < length bytes }
-{}
 
 /// Law: all that stands in a document is of characters of XML, and so is each element within it and its own text (XML 1.0,
 /// section 2.2).

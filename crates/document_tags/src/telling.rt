@@ -97,7 +97,7 @@ pub fn empty_after(b: &mut TreeBuilder, name: &[u8]) -> Result<(), Memory>
 }
 
 /// The tree of one element that was told.
-pub fn finished(b: TreeBuilder) -> Tree
+fn finished(b: TreeBuilder) -> Tree
     requires { IsOneElement (said b) }
     ensures { result ≡ said b }
 {

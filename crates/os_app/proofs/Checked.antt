@@ -2,11 +2,11 @@
 use Rattle.std.proofs.Common.{◌≡◌, ◌∙◌, ℕ, ◌⊎◌, List, [], ◌∷◌, ◌++◌, Ok, Err, inl, inr, arith, refl, ap, subst}
 use Rattle.os_io.specs.Files.{Held, Holds, NoFile, MayHold}
 use Rattle.os_io.specs.Streams.{HasRisen}
-use Rattle.cert_checker.specs.declared.documents.Kind.{Kind}
-use Rattle.cert_checker.specs.declared.refused.Refused.{Refused}
-use Rattle.cert_checker.specs.declared.refused.Refused.TheVariants as reasons
-use Rattle.cert_checker.specs.Documents.{IsAcceptedText, DocsRefuse}
-use Rattle.cert_checker.specs.Texts.{IsAnswerText, IsRefusedText}
+use Rattle.document_checker.specs.declared.documents.Kind.{Kind}
+use Rattle.document_checker.specs.declared.fault.CheckFault.{CheckFault as Refused}
+use Rattle.document_checker.specs.declared.fault.CheckFault.TheVariants as reasons
+use Rattle.document_checker.specs.Documents.{IsAcceptedText, DocsRefuse}
+use Rattle.document_checker.specs.Texts.{IsAnswerText, IsCheckFaultText}
 use Rattle.os_app.specs.Grounds.{AnswersAreOne}
 use Rattle.os_app.specs.Checks.{IsAnswerLine, IsAnswerTo, IsAnswerAbout, accepted, refused}
 use Rattle.os_app.specs.Ends.{in_full, unread, unwritten, unmade}
@@ -20,7 +20,7 @@ use Rattle.os_app.proofs.Telling.{EndsText, text_runs}
 
 -- want of memory is said of no files
 no_memory_text : (r : Refused) (text : List ℕ) → IsAnswerText (Err r) text → r ≡ reasons.Memory → ⊥
-no_memory_text r text says is = subst (λ (s : Refused). IsRefusedText s text) is says
+no_memory_text r text says is = subst (λ (s : Refused). IsCheckFaultText s text) is says
 
 never_memory : (r : Refused) (line : List ℕ) → IsAnswerLine (Err r) line → r ≡ reasons.Memory → ⊥
 never_memory r line says is = no_memory_text r says.text says.says is

@@ -2,9 +2,9 @@
 use Rattle.std.proofs.Common.{◌≡◌, ℕ, Bool, List, Result, Ok, Err, inl, inr, sym, ap, subst}
 use Rattle.std.specs.Prelude.{IfOk, IfErr, is_ok}
 use Rattle.os_io.specs.Files.{Held, ReadsFirst}
-use Rattle.cert_checker.specs.declared.documents.Kind.{Kind}
-use Rattle.cert_checker.specs.declared.refused.Refused.{Refused}
-use Rattle.cert_checker.specs.Documents.{IsAcceptedText, DocsRefuse, NoInstance, NoReport}
+use Rattle.document_checker.specs.declared.documents.Kind.{Kind}
+use Rattle.document_checker.specs.declared.fault.CheckFault.{CheckFault as Refused}
+use Rattle.document_checker.specs.Documents.{IsAcceptedText, DocsRefuse, NoInstance, NoReport}
 use Rattle.os_app.specs.Checks.{IsAnswerLine, IsAnswerTo, accepted, refused, IsAnswerAbout}
 use Rattle.os_app.specs.Statuses.{check_status}
 use Rattle.os_app.proofs.FirstBytes.{Shows, file_of}

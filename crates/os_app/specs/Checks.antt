@@ -1,10 +1,10 @@
 -- What a check of two files writes.
 use Rattle.std.specs.Prelude.{◌≡◌, ℕ, Result, Ok, Err, List, [], ◌∷◌, ◌++◌}
 use Rattle.os_io.specs.Files.{Held, MayHold}
-use Rattle.cert_checker.specs.declared.documents.Kind.{Kind}
-use Rattle.cert_checker.specs.declared.refused.Refused.{Refused}
-use Rattle.cert_checker.specs.Documents.{IsAcceptedText, DocsRefuse}
-use Rattle.cert_checker.specs.Texts.{IsAnswerText}
+use Rattle.document_checker.specs.declared.documents.Kind.{Kind}
+use Rattle.document_checker.specs.declared.fault.CheckFault.{CheckFault as Refused}
+use Rattle.document_checker.specs.Documents.{IsAcceptedText, DocsRefuse}
+use Rattle.document_checker.specs.Texts.{IsAnswerText}
 
 -- the answer in words, and a line feed
 pub record IsAnswerLine (answer : Result Kind Refused) (line : List ℕ) : Type 0 where

@@ -1,10 +1,10 @@
 -- What the laws of the crates below say of all pairs of documents.
 use Rattle.std.specs.Prelude.{◌≡◌, ℕ, List, Result, MatchResult}
-use Rattle.cert_checker.specs.declared.documents.Kind.{Kind}
-use Rattle.cert_checker.specs.declared.refused.Refused.{Refused}
-use Rattle.cert_checker.specs.declared.refused.Refused.TheVariants.{Memory}
-use Rattle.cert_checker.specs.Documents.{IsAcceptedText, DocsRefuse}
-use Rattle.cert_checker.specs.Texts.{IsAnswerText}
+use Rattle.document_checker.specs.declared.documents.Kind.{Kind}
+use Rattle.document_checker.specs.declared.fault.CheckFault.{CheckFault as Refused}
+use Rattle.document_checker.specs.declared.fault.CheckFault.TheVariants.{Memory}
+use Rattle.document_checker.specs.Documents.{IsAcceptedText, DocsRefuse}
+use Rattle.document_checker.specs.Texts.{IsAnswerText}
 
 -- documents are accepted as one kind, or refused in one text
 pub record AnswersAreOne : Type 0 where

@@ -6,11 +6,11 @@ use Rattle.os_server.specs.declared.serve.Served.{Served}
 use Rattle.os_server.specs.Talk.{both_ends}
 use Rattle.sessions.specs.Sessions as sessions
 use Rattle.soap_calls.specs.declared.call.CallKind.{CallKind}
-use Rattle.cert_checker.specs.declared.documents.Kind.{Kind}
-use Rattle.cert_checker.specs.declared.refused.Refused.{Refused}
-use Rattle.cert_checker.specs.declared.refused.Refused.TheVariants as reasons
-use Rattle.cert_checker.specs.Documents.{IsAcceptedText, DocsRefuse}
-use Rattle.cert_checker.specs.Texts.{IsAnswerText}
+use Rattle.document_checker.specs.declared.documents.Kind.{Kind}
+use Rattle.document_checker.specs.declared.fault.CheckFault.{CheckFault as Refused}
+use Rattle.document_checker.specs.declared.fault.CheckFault.TheVariants as reasons
+use Rattle.document_checker.specs.Documents.{IsAcceptedText, DocsRefuse}
+use Rattle.document_checker.specs.Texts.{IsAnswerText}
 use Rattle.command_answers.specs.Net.{NetTells}
 use Rattle.command_answers.specs.Sent.{IsSent, BreaksOff}
 use Rattle.calling.specs.Runs.{CallRun, CallEnds}

@@ -7,10 +7,10 @@ use Rattle.certificate.specs.declared.claims.Claim.TheVariants as claims
 use Rattle.osil_grammar.specs.Writing.{IsWrittenText}
 use Rattle.osrl_grammar.specs.declared.report.Report.{Report}
 use Rattle.osrl_grammar.specs.Reading.{IsReportText}
-use Rattle.cert_checker.specs.declared.documents.Kind.{Kind}
-use Rattle.cert_checker.specs.declared.refused.Refused.{Refused}
-use Rattle.cert_checker.specs.declared.refused.Refused.TheVariants as reasons
-use Rattle.cert_checker.specs.Documents.{IsAcceptedText, DocsRefuse}
+use Rattle.document_checker.specs.declared.documents.Kind.{Kind}
+use Rattle.document_checker.specs.declared.fault.CheckFault.{CheckFault as Refused}
+use Rattle.document_checker.specs.declared.fault.CheckFault.TheVariants as reasons
+use Rattle.document_checker.specs.Documents.{IsAcceptedText, DocsRefuse}
 use Rattle.generator.specs.Generated.{generated}
 use Rattle.generator.specs.Lines.{summary}
 use Rattle.solve_run.specs.Right.{Right}

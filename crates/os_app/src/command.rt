@@ -15,7 +15,7 @@ use crate::checking::answer_about;
 use crate::generating::generate;
 use crate::solving::solve_files;
 use calling::make_call;
-use cert_checker::{accepted_is_not_refused, documents_have_one_answer, documents_have_one_kind};
+use document_checker::{accepted_is_not_refused, documents_have_one_answer, documents_have_one_kind};
 use closing::Close;
 use command_answers::status::{
     CUT_SHORT, DONE, MISUSED, NO_LINK, NO_MEMORY, READ_FAULT, WRITE_FAULT,

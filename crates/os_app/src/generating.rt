@@ -4,7 +4,7 @@ ghost use Rattle.os_app.specs.Summaries.{IsDecided, IsSummaryAbout, IsSummaryOf,
 
 use crate::checking::status_of;
 use crate::solving::solve;
-use cert_checker::{Refused, check_docs};
+use document_checker::{CheckFault as Refused, check_docs};
 use certificate::{Cause, Claim};
 use command_answers::Answer;
 use generator::{line_of, make};

@@ -1,6 +1,7 @@
 -- What answers a call, by the last reply of the table of jobs.
 use Rattle.std.specs.Prelude.{◌≡◌, ℕ, Bool, true, false, List, [], ◌∷◌, Option, None, Some, map, codes}
 use Rattle.job_table.specs.declared.job.State.{State}
+use Rattle.job_table.specs.declared.job.State.TheVariants as states
 use Rattle.job_table.specs.declared.calls.Call.TheVariants as tables
 use Rattle.job_table.specs.declared.calls.Killing.{Killing}
 use Rattle.job_table.specs.declared.calls.Statistics as given
@@ -18,6 +19,8 @@ use Rattle.osrl_grammar.specs.declared.report.JobStatus.{JobStatus}
 use Rattle.osrl_grammar.specs.declared.report.JobStatus.TheVariants as status
 use Rattle.osrl_grammar.specs.declared.report.Report.{Report}
 use Rattle.osrl_grammar.specs.Writing.{report_text}
+use Rattle.ospl_grammar.specs.declared.process.JobState.{JobState}
+use Rattle.ospl_grammar.specs.declared.process.JobState.TheVariants as job_states
 use Rattle.ospl_grammar.specs.declared.process.StatedJob.{StatedJob}
 use Rattle.ospl_grammar.specs.declared.process.Process.{Process}
 use Rattle.ospl_grammar.specs.declared.process.Process.TheVariants.{Statistics}
@@ -50,9 +53,17 @@ shown_text (shown.Finished (Some document)) = document
 shown_text (shown.Finished None) = report_text (state_report status.Finished (Some (Unsure causes.Memory)))
 shown_text shown.Killed = report_text (state_report status.Killed None)
 
+-- how far a job has come, as a process document has it
+abbrev pub told_state : State → JobState
+told_state states.Issued = job_states.Issued
+told_state states.Waiting = job_states.Waiting
+told_state states.Running = job_states.Running
+told_state states.Finished = job_states.Finished
+told_state states.Killed = job_states.Killed
+
 -- a job by the text that names it
 abbrev pub stated : ℕ × State → StatedJob
-stated job = record { id = id_text job.0; state = job.1 }
+stated job = record { id = id_text job.0; state = told_state job.1 }
 
 -- the process document of all jobs
 abbrev pub process_of : given.Statistics → Process

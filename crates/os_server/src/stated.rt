@@ -1,13 +1,13 @@
 //! Process documents of the table's jobs.
 ghost use Rattle.std.specs.Prelude.{◌≡◌, List, map, IfOk};
 ghost use Rattle.job_table.specs.Ids.{id_text};
-ghost use Rattle.os_server.specs.Answers.{stated, process_of, job_alone, process_after};
+ghost use Rattle.os_server.specs.Answers.{told_state, stated, process_of, job_alone, process_after};
 ghost use Rattle.ospl_grammar.specs.Writing.{process_text};
 
 use items::Items;
 use job_table::{Killing, State, Statistics, write_id};
 use os_io::{Memory, Text};
-use ospl_grammar::{JobStates, Process, StatedJob, encode};
+use ospl_grammar::{JobState, JobStates, Process, StatedJob, encode};
 use std::alloc::Global;
 
 /// The text that names a job.
@@ -19,12 +19,28 @@ pub(crate) fn id_of(alloc: Global, number: u64) -> Result<Text, Memory>
     Ok(id)
 }
 
+/// How far a job has come, as a process document has it.
+fn told_state(state: State) -> JobState
+    ensures { result ≡ told_state state }
+{
+    match state {
+        State::Issued => JobState::Issued,
+        State::Waiting => JobState::Waiting,
+        State::Running => JobState::Running,
+        State::Finished => JobState::Finished,
+        State::Killed => JobState::Killed,
+    }
+}
+
 /// A job by the text that names it.
 fn stated(alloc: Global, number: u64, state: State) -> Result<StatedJob, Memory>
     ensures { IfOk result (λ job. job ≡ stated (number, state)) }
 {
     let id = id_of(alloc, number)?;
-    Ok(StatedJob { id, state })
+    Ok(StatedJob {
+        id,
+        state: told_state(state),
+    })
 }
 
 /// Jobs by the texts that name them.

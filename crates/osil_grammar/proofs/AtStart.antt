@@ -20,7 +20,7 @@ use Rattle.osil_grammar.specs.Runs.{StandsFor, StandFor}
 use Rattle.osil_grammar.specs.Deciding.{most, HasWideRow, DecidesAttribute, DecidesBound, DecidesTooBig, DecidesVarType, DecidesManyObjectives, DecidesWide}
 use Rattle.osil_grammar.specs.Refusals.{Refusal, Beyond, Number, Wide, number, Decides, IsFirstDecided}
 use Rattle.osil_grammar.specs.Parsing.{begun, IsTagOf, Tells, IsAtTag, start_only}
-use Rattle.osil_grammar.specs.Deciding.{told}
+use Rattle.document_tags.specs.Faults.{told_name}
 use Rattle.osil_grammar.proofs.Decided.{told_at, tells_more}
 use Rattle.osil_grammar.specs.Fields.{FieldsRead, IsWide, IsNumber, IsFine, EachOf}
 use Rattle.osil_grammar.proofs.Fields.{each_weaker, ordinal_is}
@@ -124,11 +124,11 @@ not_too_big t k limit m n begins at times before few (l, b, h) =
     let one = times_once t.level.node m here.0 times here.1 in let two = stand_once t.level.before n here.2 before here.3 in let great = here.4 in omega arith
 
 -- an element of a name that may not stand there
-pub foreign_decided : (around : List Level) (before : List Element) (n : ℕ) (e : Element) (p : Kind) → names around ≡ path p → is_open p ≡ false → (IsAmong e.name (content_names p) → ⊥) → Decides (start_tag around (level_of e n before)) (Beyond (told e.name)) n
+pub foreign_decided : (around : List Level) (before : List Element) (n : ℕ) (e : Element) (p : Kind) → names around ≡ path p → is_open p ≡ false → (IsAmong e.name (content_names p) → ⊥) → Decides (start_tag around (level_of e n before)) (Beyond (told_name e.name)) n
 foreign_decided around before n e p inside closed out = inl (inl (p, (refl, inside), closed, out), refl, refl)
 
 pub foreign_told : (t : StartTag) (around : List Level) (before : List Element) (n : ℕ) (e : Element) (f : OsilFault) (p : Kind) → IsTagOf t e n → names around ≡ path p → is_open p ≡ false → (IsAmong e.name (content_names p) → ⊥)
-    → Tells f (λ r m. (r ≡ Beyond (told (begun t).name)) × (m ≡ (begun t).ordinal)) → Tells f (IsFirstDecided (start_only around before n e))
+    → Tells f (λ r m. (r ≡ Beyond (told_name (begun t).name)) × (m ≡ (begun t).ordinal)) → Tells f (IsFirstDecided (start_only around before n e))
 foreign_told t around before n e f p tag inside closed out h =
-    told_here t around before n e f (Beyond (told e.name)) tag (foreign_decided around before n e p inside closed out) (least_start (start_tag around (level_of e n before)) p refl inside)
-    (tells_more f _ _ (λ r m same. (same.0 ∙ ap (λ (b : Begun). Beyond (told b.name)) tag, same.1)) h)
+    told_here t around before n e f (Beyond (told_name e.name)) tag (foreign_decided around before n e p inside closed out) (least_start (start_tag around (level_of e n before)) p refl inside)
+    (tells_more f _ _ (λ r m same. (same.0 ∙ ap (λ (b : Begun). Beyond (told_name b.name)) tag, same.1)) h)

@@ -13,7 +13,7 @@ use Rattle.osil_grammar.specs.Tags.{Level, level_of, element_of, start_tag, end_
 use Rattle.osil_grammar.specs.Kinds.{Osil, InstanceData, Coefficients, path, ordered}
 use Rattle.osil_grammar.specs.Deciding.{IsLate, IsInRow}
 use Rattle.osil_grammar.specs.Refusals.{Root, Beyond, DecidesNothing, AreClean, IsAccepted}
-use Rattle.osil_grammar.specs.Deciding.{told}
+use Rattle.document_tags.specs.Faults.{told_name}
 use Rattle.osil_grammar.specs.Parsing.{element_tags}
 use Rattle.osil_grammar.proofs.Children.{tags_then}
 use Rattle.osil_grammar.proofs.OneMatrix.{HasBoth}
@@ -140,7 +140,7 @@ single_indices around m n inside clean both =
     let h = both_stand (child_elements m.children) both.0 both.1 in
     let is = child_clean m.children around [] n h.before h.second h.after h.split clean in
     let late : IsLate (ordered Coefficients) h.before h.second.name = (1, h.named, 1, omega arith, h.first, h.stands, h.alike) in
-    starts_clean around h.before is.ordinal h.second is.clean (Beyond (told h.second.name)) is.ordinal (inl (inr (Coefficients, (refl, inside), late), refl, refl))
+    starts_clean around h.before is.ordinal h.second is.clean (Beyond (told_name h.second.name)) is.ordinal (inl (inr (Coefficients, (refl, inside), late), refl, refl))
 
 -- the first child of a name in an element of a known path
 inner_path : (around : List Level) (e : Element) (n : ℕ) (before : List Element) (outer : List (List ℕ)) (name : List ℕ) → names around ≡ outer → e.name ≡ name → names (around ++ level_of e n before ∷ []) ≡ outer ++ name ∷ []

@@ -16,7 +16,8 @@ use Rattle.osil_grammar.specs.Kinds.{Obj, Coef, Ends, path}
 use Rattle.osil_grammar.specs.Walking.{Walking, IsInside, IsBehind}
 use Rattle.osil_grammar.specs.Numbers.{decimal, IsOf, IsWideOf}
 use Rattle.osil_grammar.specs.Costs.{Cost, IsCost, cost_sum}
-use Rattle.osil_grammar.specs.Deciding.{HasWideCost, DecidesNumber, told}
+use Rattle.document_tags.specs.Faults.{told_name}
+use Rattle.osil_grammar.specs.Deciding.{HasWideCost, DecidesNumber}
 use Rattle.osil_grammar.specs.Refusals.{Refusal, Beyond, Number, Wide, DecidesNothing, AreClean, IsFirstDecided}
 use Rattle.osil_grammar.specs.Parsing.{begun, Tells, Reads, start_only, end_only, element_tags, IsUnread, unread_refusal, FirstChild, AreSummed, AddsAt, AddsCost}
 use Rattle.osil_grammar.proofs.CoefTags.{coef_begins}
@@ -52,13 +53,13 @@ module _ (walk : Walking) (t : StartTag) (e : Element) (rest : List Event) (arou
       first_one here Wide walk.ordinal (inr (inr (inl (Coef, coef_ends, (text, holds, wide)))), refl) (past_number here least (number_fine text holds (wide_is_of decimal text wide)))
 
   held_first : AreClean (start_only around before walk.ordinal e) → (r : Refusal) (m : ℕ)
-      → ((name : List ℕ) × FirstChild e.children name × (r ≡ Beyond (told name)) × (m ≡ walk.ordinal + 1)) ⊎ ((text : List ℕ) × (u : Unread) × HoldsText e.children text × IsUnread u decimal text × (r ≡ unread_refusal u) × (m ≡ t.ordinal))
+      → ((name : List ℕ) × FirstChild e.children name × (r ≡ Beyond (told_name name)) × (m ≡ walk.ordinal + 1)) ⊎ ((text : List ℕ) × (u : Unread) × HoldsText e.children text × IsUnread u decimal text × (r ≡ unread_refusal u) × (m ≡ t.ordinal))
       → IsFirstDecided (element_tags around before walk.ordinal e) r m
   held_first start r m (inl (name, first, same, at)) =
       let inner = inner_tags around before walk.ordinal e in
       first_behind (start_only around before walk.ordinal e) _ r m start
       (first_front inner _ r m
-      (subst (λ (q : Refusal). IsFirstDecided inner q m) (sym same) (subst (λ (k : ℕ). IsFirstDecided inner (Beyond (told name)) k) (sym at)
+      (subst (λ (q : Refusal). IsFirstDecided inner q m) (sym same) (subst (λ (k : ℕ). IsFirstDecided inner (Beyond (told_name name)) k) (sym at)
       (first_child_foreign Coef (around ++ level_of e walk.ordinal before ∷ []) e.children name (walk.ordinal + 1) coef_ends.1 refl (λ other among. among) first))))
   held_first start r m (inr (text, u, holds, bad, same, at)) =
       let end = end_only around before walk.ordinal e in
@@ -67,7 +68,7 @@ module _ (walk : Walking) (t : StartTag) (e : Element) (rest : List Event) (arou
       (subst (λ (q : Refusal). IsFirstDecided end q m) (sym same) (subst (λ (k : ℕ). IsFirstDecided end (unread_refusal u) k) (sym (at ∙ ordinal_is t e walk.ordinal inside.tag)) (unread_first text u holds bad))))
 
   pub held_refused : (f : OsilFault) → AreClean (start_only around before walk.ordinal e)
-      → Tells f (λ r m. ((name : List ℕ) × FirstChild e.children name × (r ≡ Beyond (told name)) × (m ≡ walk.ordinal + 1)) ⊎ ((text : List ℕ) × (u : Unread) × HoldsText e.children text × IsUnread u decimal text × (r ≡ unread_refusal u) × (m ≡ t.ordinal)))
+      → Tells f (λ r m. ((name : List ℕ) × FirstChild e.children name × (r ≡ Beyond (told_name name)) × (m ≡ walk.ordinal + 1)) ⊎ ((text : List ℕ) × (u : Unread) × HoldsText e.children text × IsUnread u decimal text × (r ≡ unread_refusal u) × (m ≡ t.ordinal)))
       → Tells f (IsFirstDecided (element_tags around before walk.ordinal e))
   held_refused f start h = tells_more f _ _ (held_first start) h
 

@@ -9,7 +9,8 @@ use Rattle.osil_grammar.specs.Tags.{Level, Tag, level_of, names}
 use Rattle.osil_grammar.specs.Kinds.{Listing, Listed, El, path}
 use Rattle.osil_grammar.specs.Numbers.{Grammar, count, mult, listing_grammar, IsOf, IsWideOf}
 use Rattle.osil_grammar.specs.Runs.{StandsFor, StandFor}
-use Rattle.osil_grammar.specs.Deciding.{told, most}
+use Rattle.document_tags.specs.Faults.{told_name}
+use Rattle.osil_grammar.specs.Deciding.{most}
 use Rattle.osil_grammar.specs.Walking.{Walking, Begun, IsInside}
 use Rattle.osil_grammar.specs.Refusals.{Refusal, Beyond, Number, TooBig, AreClean, IsFirstDecided}
 use Rattle.osil_grammar.specs.Parsing.{Tells, begun, IsAtTag, element_tags, start_only, end_only, FirstChild, IsNoTimes, IsUnread, IsFirstOf, unread_refusal}
@@ -93,12 +94,12 @@ told_here f r m n same h = subst (λ (i : ℕ). Tells f (λ q k. (q ≡ r) × (k
 
 module _ (l : Listing) (walk : Walking) (t : Begun) (e : Element) (rest : List Event) (around : List Level) (before : List Element) (inside : IsInside walk t e rest) (names_are : names around ≡ path (Listed l)) where
   -- it is no `el`
-  pub other_refused : (f : OsilFault) → (t.name ≡ codes "el" → ⊥) → Tells f (λ r n. (r ≡ Beyond (told t.name)) × (n ≡ t.ordinal)) → Tells f (IsFirstDecided (element_tags around before walk.ordinal e))
+  pub other_refused : (f : OsilFault) → (t.name ≡ codes "el" → ⊥) → Tells f (λ r n. (r ≡ Beyond (told_name t.name)) × (n ≡ t.ordinal)) → Tells f (IsFirstDecided (element_tags around before walk.ordinal e))
   other_refused f other h =
       let named = tag_name walk t e rest inside in
       refused_start f around before walk.ordinal e
-      (tells_first f (start_only around before walk.ordinal e) (Beyond (told e.name)) walk.ordinal
-      (told_here f (Beyond (told e.name)) t.ordinal walk.ordinal (tag_ordinal walk t e rest inside) (subst (λ (name : List ℕ). Tells f (λ r n. (r ≡ Beyond (told name)) × (n ≡ t.ordinal))) named h))
+      (tells_first f (start_only around before walk.ordinal e) (Beyond (told_name e.name)) walk.ordinal
+      (told_here f (Beyond (told_name e.name)) t.ordinal walk.ordinal (tag_ordinal walk t e rest inside) (subst (λ (name : List ℕ). Tells f (λ r n. (r ≡ Beyond (told_name name)) × (n ≡ t.ordinal))) named h))
       (foreign_child (Listed l) around before walk.ordinal e names_are refl (λ among. ⊎_elim (λ is. other (named ∙ is)) (λ no. no) among)))
 
   -- something at its start tag is refused
@@ -118,7 +119,7 @@ module _ (l : Listing) (walk : Walking) (t : Begun) (e : Element) (rest : List E
   text_first unread.Wide text at holds wide = text_wide_first around e walk.ordinal before l at text holds wide
 
   held_first : IsPlaced around e (Listed l) (El l) → AreClean (start_only around before walk.ordinal e) → (r : Refusal) (n : ℕ)
-      → ((name : List ℕ) × FirstChild e.children name × (r ≡ Beyond (told name)) × (n ≡ walk.ordinal + 1)) ⊎ ((text : List ℕ) × (u : Unread) × HoldsText e.children text × IsUnread u (listing_grammar l) text × (r ≡ unread_refusal u) × (n ≡ t.ordinal))
+      → ((name : List ℕ) × FirstChild e.children name × (r ≡ Beyond (told_name name)) × (n ≡ walk.ordinal + 1)) ⊎ ((text : List ℕ) × (u : Unread) × HoldsText e.children text × IsUnread u (listing_grammar l) text × (r ≡ unread_refusal u) × (n ≡ t.ordinal))
       → IsFirstDecided (element_tags around before walk.ordinal e) r n
   held_first at clean r n (inl (name, child, is, place)) =
       let first = first_child_foreign (El l) (around ++ level_of e walk.ordinal before ∷ []) e.children name (walk.ordinal + 1) (line_path around e walk.ordinal before (Listed l) (El l) at) refl (λ other no. no) child in
@@ -132,7 +133,7 @@ module _ (l : Listing) (walk : Walking) (t : Begun) (e : Element) (rest : List E
 
   -- what it holds
   pub held_refused : (f : OsilFault) → IsPlaced around e (Listed l) (El l) → AreClean (start_only around before walk.ordinal e)
-      → Tells f (λ r n. ((name : List ℕ) × FirstChild e.children name × (r ≡ Beyond (told name)) × (n ≡ walk.ordinal + 1)) ⊎ ((text : List ℕ) × (u : Unread) × HoldsText e.children text × IsUnread u (listing_grammar l) text × (r ≡ unread_refusal u) × (n ≡ t.ordinal)))
+      → Tells f (λ r n. ((name : List ℕ) × FirstChild e.children name × (r ≡ Beyond (told_name name)) × (n ≡ walk.ordinal + 1)) ⊎ ((text : List ℕ) × (u : Unread) × HoldsText e.children text × IsUnread u (listing_grammar l) text × (r ≡ unread_refusal u) × (n ≡ t.ordinal)))
       → Tells f (IsFirstDecided (element_tags around before walk.ordinal e))
   held_refused f at clean h = tells_more f _ (IsFirstDecided (element_tags around before walk.ordinal e)) (held_first at clean) h
 

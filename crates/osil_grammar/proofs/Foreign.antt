@@ -6,7 +6,7 @@ use Rattle.tree_grammar.specs.Tags.{IsAmong}
 use Rattle.document_tags.specs.Texts.{HoldsText}
 use Rattle.osil_grammar.specs.Tags.{Level, level_of, start_tag, names, node_tags}
 use Rattle.osil_grammar.specs.Kinds.{Kind, path, content_names, is_open}
-use Rattle.osil_grammar.specs.Deciding.{told}
+use Rattle.document_tags.specs.Faults.{told_name}
 use Rattle.osil_grammar.specs.Refusals.{Refusal, Root, Missing, Beyond, Attribute, Number, Wide, Count, Index, Start, VarType, Bound, ManyObjectives, TooBig, number, Decides, IsFirstDecided}
 use Rattle.osil_grammar.specs.Parsing.{start_only, element_tags, FirstChild}
 use Rattle.osil_grammar.proofs.Children.{next_of}
@@ -31,21 +31,21 @@ least_in p around l inside ManyObjectives m h = omega arith
 least_in p around l inside TooBig m h = omega arith
 
 -- an element of a name that stands nowhere in its parent
-pub foreign_child : (p : Kind) (around : List Level) (before : List Element) (n : ℕ) (e : Element) → names around ≡ path p → is_open p ≡ false → (IsAmong e.name (content_names p) → ⊥) → IsFirstDecided (start_only around before n e) (Beyond (told e.name)) n
+pub foreign_child : (p : Kind) (around : List Level) (before : List Element) (n : ℕ) (e : Element) → names around ≡ path p → is_open p ≡ false → (IsAmong e.name (content_names p) → ⊥) → IsFirstDecided (start_only around before n e) (Beyond (told_name e.name)) n
 foreign_child p around before n e inside closed foreign =
-    first_one (start_tag around (level_of e n before)) (Beyond (told e.name)) n (inl (inl (p, (refl, inside), closed, foreign), refl, refl)) (least_in p around (level_of e n before) inside)
+    first_one (start_tag around (level_of e n before)) (Beyond (told_name e.name)) n (inl (inl (p, (refl, inside), closed, foreign), refl, refl)) (least_in p around (level_of e n before) inside)
 
 -- the first child element of one that may have none
-pub first_child_foreign : (p : Kind) (around : List Level) (content : Nodes) (name : List ℕ) (n : ℕ) → names around ≡ path p → is_open p ≡ false → ((other : List ℕ) → IsAmong other (content_names p) → ⊥) → FirstChild content name → IsFirstDecided (node_tags around [] n content) (Beyond (told name)) n
+pub first_child_foreign : (p : Kind) (around : List Level) (content : Nodes) (name : List ℕ) (n : ℕ) → names around ≡ path p → is_open p ≡ false → ((other : List ℕ) → IsAmong other (content_names p) → ⊥) → FirstChild content name → IsFirstDecided (node_tags around [] n content) (Beyond (told_name name)) n
 first_child_foreign p around content name n inside closed none_stands (first, more, children, named) =
     elim (next_of content name []) [
       | inl over ↦ absurd (let left = over.none_left in cc)
       | inr h ↦
           let same : h.child.name ≡ name = let is = h.first in let one : h.child ≡ first = cc in ap (λ (c : Element). c.name) one ∙ named in
-          subst (λ (name : List ℕ). IsFirstDecided (node_tags around [] n content) (Beyond (told name)) n) same
-          (first_same _ _ (Beyond (told h.child.name)) n (h.tags around [] n)
-          (first_front (element_tags around [] n h.child) _ (Beyond (told h.child.name)) n
-          (first_front (start_only around [] n h.child) _ (Beyond (told h.child.name)) n (foreign_child p around [] n h.child inside closed (none_stands h.child.name)))))
+          subst (λ (name : List ℕ). IsFirstDecided (node_tags around [] n content) (Beyond (told_name name)) n) same
+          (first_same _ _ (Beyond (told_name h.child.name)) n (h.tags around [] n)
+          (first_front (element_tags around [] n h.child) _ (Beyond (told_name h.child.name)) n
+          (first_front (start_only around [] n h.child) _ (Beyond (told_name h.child.name)) n (foreign_child p around [] n h.child inside closed (none_stands h.child.name)))))
     ]
 
 -- no tags stand in what holds characters alone

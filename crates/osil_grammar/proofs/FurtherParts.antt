@@ -5,7 +5,7 @@ use Rattle.tree_grammar.specs.Tags.{IsAmong}
 use Rattle.osil_grammar.specs.declared.fault.OsilFault.{OsilFault}
 use Rattle.osil_grammar.specs.Tags.{Level, names, level_of, start_tag, end_tag}
 use Rattle.osil_grammar.specs.Kinds.{Kind, InstanceData, path, content_names}
-use Rattle.osil_grammar.specs.Deciding.{told}
+use Rattle.document_tags.specs.Faults.{told_name}
 use Rattle.osil_grammar.specs.Walking.{Walking, Begun, Entered, Left, IsInside, IsBehind}
 use Rattle.osil_grammar.specs.Refusals.{Refusal, Root, Missing, Beyond, Decides, AreClean, IsFirstDecided}
 use Rattle.osil_grammar.specs.Parsing.{Tells, element_tags, start_only}
@@ -48,16 +48,16 @@ module _ (old new : Walking) (t : Begun) (e : Element) (rest : List Event) (arou
       (clean_element around before old.ordinal e start_clean over.clean (clean_one end (unknown_clean end unknown (λ s root. not_root root) (end_in_place end refl))), (tt, over.behind))
 
   -- the first child element is what is refused
-  pub further_filled : (c : Begun) → Entered old new c → (f : OsilFault) → Tells f (λ r n. (r ≡ Beyond (told t.name)) × (n ≡ t.ordinal)) → Tells f (IsFirstDecided (element_tags around before old.ordinal e))
+  pub further_filled : (c : Begun) → Entered old new c → (f : OsilFault) → Tells f (λ r n. (r ≡ Beyond (told_name t.name)) × (n ≡ t.ordinal)) → Tells f (IsFirstDecided (element_tags around before old.ordinal e))
   further_filled c entered f h =
       let part = level_of e old.ordinal before in
       let inner = around ++ part ∷ [] in
       let next = enters_child old old new e rest inner [] c (begins_midway old e rest inner at.inside at.joined) entered in
       let first = start_tag inner (level_of next.child new.ordinal []) in
-      let decided : Decides first (Beyond (told e.name)) old.ordinal = inr (part, record { begins = refl; first = refl; outer = around; around = refl; inside = inside; further = further }, refl, refl) in
-      let here = first_one first (Beyond (told e.name)) old.ordinal decided (least_inside around part (level_of next.child new.ordinal [])) in
-      let named : (r : Refusal) (n : ℕ) → (r ≡ Beyond (told t.name)) × (n ≡ t.ordinal) → IsFirstDecided (start_only inner [] new.ordinal next.child) r n = λ r n same.
-      subst (λ (q : Refusal). IsFirstDecided (start_only inner [] new.ordinal next.child) q n) (sym (same.0 ∙ ap (λ (b : Begun). Beyond (told b.name)) at.tag))
-      (subst (λ (m : ℕ). IsFirstDecided (start_only inner [] new.ordinal next.child) (Beyond (told e.name)) m) (sym (same.1 ∙ ap (λ (b : Begun). b.ordinal) at.tag)) here) in
+      let decided : Decides first (Beyond (told_name e.name)) old.ordinal = inr (part, record { begins = refl; first = refl; outer = around; around = refl; inside = inside; further = further }, refl, refl) in
+      let here = first_one first (Beyond (told_name e.name)) old.ordinal decided (least_inside around part (level_of next.child new.ordinal [])) in
+      let named : (r : Refusal) (n : ℕ) → (r ≡ Beyond (told_name t.name)) × (n ≡ t.ordinal) → IsFirstDecided (start_only inner [] new.ordinal next.child) r n = λ r n same.
+      subst (λ (q : Refusal). IsFirstDecided (start_only inner [] new.ordinal next.child) q n) (sym (same.0 ∙ ap (λ (b : Begun). Beyond (told_name b.name)) at.tag))
+      (subst (λ (m : ℕ). IsFirstDecided (start_only inner [] new.ordinal next.child) (Beyond (told_name e.name)) m) (sym (same.1 ∙ ap (λ (b : Begun). b.ordinal) at.tag)) here) in
       refused_inside f around before old.ordinal e start_clean
       (tells_more f _ _ (λ r n same. next.refused r n (first_front (start_only inner [] new.ordinal next.child) _ r n (named r n same))) h)

@@ -8,7 +8,7 @@ use Rattle.document_tags.specs.Elements.{elements_in}
 use Rattle.osil_grammar.specs.Walking.{Walking, Begun, Entered, Left, IsJoined}
 use Rattle.osil_grammar.specs.Parsing.{FirstChild, Tells}
 use Rattle.osil_grammar.specs.Refusals as refusals
-use Rattle.osil_grammar.specs.Deciding.{told}
+use Rattle.document_tags.specs.Faults.{told_name}
 use Rattle.osil_grammar.specs.declared.fault.OsilFault.{OsilFault}
 use Rattle.osil_grammar.specs.declared.fault.OsilFault.TheVariants.{Tree, Refused, Memory}
 use Rattle.osil_grammar.proofs.Children.{next_of}
@@ -69,8 +69,8 @@ holds_child e rest old mid new text t at joined took entered =
 
 -- the refusal of the first child element
 pub holds_child_refusal : (e : Element) (rest : List Event) (old mid new : Walking) (text : List ℕ) (f : OsilFault) → old.events ≡ nodes_events e.children (Close e.name ∷ rest) → IsJoined e.children → Took old mid text
-    → Tells f (λ r n. (t : Begun) × Entered mid new t × (r ≡ refusals.Beyond (told t.name)) × (n ≡ t.ordinal))
-    → Tells f (λ r n. (name : List ℕ) × FirstChild e.children name × (r ≡ refusals.Beyond (told name)) × (n ≡ old.ordinal + 1))
+    → Tells f (λ r n. (t : Begun) × Entered mid new t × (r ≡ refusals.Beyond (told_name t.name)) × (n ≡ t.ordinal))
+    → Tells f (λ r n. (name : List ℕ) × FirstChild e.children name × (r ≡ refusals.Beyond (told_name name)) × (n ≡ old.ordinal + 1))
 holds_child_refusal e rest old mid new text (Tree f) at joined took h = h
 holds_child_refusal e rest old mid new text (Refused r n) at joined took (t, entered, same, ordinal) =
     let c = holds_child e rest old mid new text t at joined took entered in (t.name, c.0, same, ordinal ∙ c.1)

@@ -7,7 +7,7 @@ use Rattle.osil_grammar.specs.declared.tags.StartTag.{StartTag}
 use Rattle.osil_grammar.specs.Tags.{Level, names, level_of, start_tag, end_tag, node_tags}
 use Rattle.osil_grammar.specs.Kinds as kinds
 use Rattle.osil_grammar.specs.Kinds.{path, Begins}
-use Rattle.osil_grammar.specs.Deciding.{told}
+use Rattle.document_tags.specs.Faults.{told_name}
 use Rattle.osil_grammar.specs.Refusals.{Beyond, DecidesNothing, IsFirstDecided}
 use Rattle.osil_grammar.specs.declared.unread.Unread.{Unread}
 use Rattle.osil_grammar.specs.Fields.{IsDeclared}
@@ -34,13 +34,13 @@ item_begins Rows around before n e inside named = begins_child around before n e
 
 -- an element of another name may not stand there
 pub other_told : (w : Items) (t : StartTag) (around : List Level) (before : List Element) (n : ℕ) (e : Element) (f : OsilFault) → IsTagOf t e n → names around ≡ path (list_kind w) → (e.name ≡ item_name w → ⊥)
-    → Tells f (λ r m. (r ≡ Beyond (told (begun t).name)) × (m ≡ (begun t).ordinal)) → Tells f (IsFirstDecided (start_only around before n e))
+    → Tells f (λ r m. (r ≡ Beyond (told_name (begun t).name)) × (m ≡ (begun t).ordinal)) → Tells f (IsFirstDecided (start_only around before n e))
 other_told Variables t around before n e f tag inside other h = foreign_told t around before n e f kinds.Variables tag inside refl (λ among. elim among [ inl named ↦ other named | inr none ↦ none ]) h
 other_told Rows t around before n e f tag inside other h = foreign_told t around before n e f kinds.Constraints tag inside refl (λ among. elim among [ inl named ↦ other named | inr none ↦ none ]) h
 
 -- nor may anything stand in an item
 pub inner_told : (w : Items) (old new : Walking) (e : Element) (rest : List Event) (inner : List Level) → old.events ≡ nodes_events e.children (Close e.name ∷ rest) → IsJoined e.children → names inner ≡ path (item_kind w)
-    → (f : OsilFault) → Tells f (λ r n. (t : Begun) × Entered old new t × (r ≡ Beyond (told t.name)) × (n ≡ t.ordinal)) → Tells f (IsFirstDecided (node_tags inner [] (old.ordinal + 1) e.children))
+    → (f : OsilFault) → Tells f (λ r n. (t : Begun) × Entered old new t × (r ≡ Beyond (told_name t.name)) × (n ≡ t.ordinal)) → Tells f (IsFirstDecided (node_tags inner [] (old.ordinal + 1) e.children))
 inner_told Variables old new e rest inner at joined inside f h = child_refused old new e rest inner kinds.Var at joined inside refl refl f h
 inner_told Rows old new e rest inner at joined inside f h = child_refused old new e rest inner kinds.Con at joined inside refl refl f h
 

@@ -12,7 +12,8 @@ use Rattle.osil_grammar.specs.Tags.{Level, names, level_of, start_tag, end_tag, 
 use Rattle.osil_grammar.specs.Kinds.{Listing, Starts, RowIndices, ColumnIndices, Values, Kind, Coefficients, Listed, path, listing_name, ordered, content_names, Begins}
 use Rattle.osil_grammar.specs.Matrix.{index_name}
 use Rattle.osil_grammar.specs.Walking.{Begun}
-use Rattle.osil_grammar.specs.Deciding.{told, IsInRow, IsLate}
+use Rattle.document_tags.specs.Faults.{told_name}
+use Rattle.osil_grammar.specs.Deciding.{IsInRow, IsLate}
 use Rattle.osil_grammar.specs.Refusals.{Beyond, DecidesNothing, AreClean, IsFirstDecided}
 use Rattle.osil_grammar.specs.Parsing.{begun, IsTagOf, Tells, start_only, element_tags, AreRead, IsRead, MayFollow, InSize, parts_around}
 use Rattle.osil_grammar.proofs.AtStart.{begins_child, told_here, no_attribute, no_var_type, no_many, no_wide_row}
@@ -113,14 +114,14 @@ module _ (es : List Element) (f : Found) (read : AreRead es f) where
 
 -- what is told of an element that stands a second time, or behind one that it must stand before
 pub misplaced_told : (t : StartTag) (around : List Level) (before : List Element) (n : ℕ) (e : Element) (f : OsilFault) (p : Kind) → IsTagOf t e n → names around ≡ path p → IsLate (ordered p) before e.name
-    → Tells f (λ r m. (r ≡ Beyond (told (begun t).name)) × (m ≡ (begun t).ordinal)) → Tells f (IsFirstDecided (start_only around before n e))
+    → Tells f (λ r m. (r ≡ Beyond (told_name (begun t).name)) × (m ≡ (begun t).ordinal)) → Tells f (IsFirstDecided (start_only around before n e))
 misplaced_told t around before n e f p tag inside late h =
-    told_here t around before n e f (Beyond (told e.name)) tag (inl (inr (p, (refl, inside), late), refl, refl))
+    told_here t around before n e f (Beyond (told_name e.name)) tag (inl (inr (p, (refl, inside), late), refl, refl))
     (least_start (start_tag around (level_of e n before)) p refl inside)
-    (tells_more f _ _ (λ r m same. (same.0 ∙ ap (λ (b : Begun). Beyond (told b.name)) tag, same.1)) h)
+    (tells_more f _ _ (λ r m same. (same.0 ∙ ap (λ (b : Begun). Beyond (told_name b.name)) tag, same.1)) h)
 
 pub late_told : (t : StartTag) (around : List Level) (es before : List Element) (n : ℕ) (e : Element) (fault : OsilFault) (l : Listing) (f : Found) → IsTagOf t e n → names around ≡ path Coefficients → before ≡ es → e.name ≡ listing_name l → AreRead es f → (MayFollow l f → ⊥)
-    → Tells fault (λ r m. (r ≡ Beyond (told (begun t).name)) × (m ≡ (begun t).ordinal)) → Tells fault (IsFirstDecided (start_only around before n e))
+    → Tells fault (λ r m. (r ≡ Beyond (told_name (begun t).name)) × (m ≡ (begun t).ordinal)) → Tells fault (IsFirstDecided (start_only around before n e))
 late_told t around es before n e fault l f tag inside same named read not h =
     misplaced_told t around before n e fault Coefficients tag inside
     (subst (λ (bs : List Element). IsLate (ordered Coefficients) bs e.name) (sym same) (subst (λ (x : List ℕ). IsLate (ordered Coefficients) es x) (sym named) (is_late es f read l not))) h

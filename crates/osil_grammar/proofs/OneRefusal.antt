@@ -9,7 +9,8 @@ use Rattle.osil_grammar.specs.Reading.{IsInstanceText, IsRefusedText}
 use Rattle.document_tags.specs.Elements.{attribute}
 use Rattle.osil_grammar.specs.Tags.{Level, Tag, tags}
 use Rattle.osil_grammar.specs.Kinds.{Coef, Obj}
-use Rattle.osil_grammar.specs.Deciding.{IsForeign, IsMisplaced, IsInFurther, HasCoefFault, DecidesBeyond, DecidesAttribute, told}
+use Rattle.document_tags.specs.Faults.{told_name}
+use Rattle.osil_grammar.specs.Deciding.{IsForeign, IsMisplaced, IsInFurther, HasCoefFault, DecidesBeyond, DecidesAttribute}
 use Rattle.osil_grammar.specs.Refusals.{Refusal, Root, Missing, Beyond, Attribute, Number, Wide, Count, Index, Start, VarType, Bound, ManyObjectives, TooBig, number, Decides, IsRefused}
 use Rattle.osil_grammar.proofs.Clean.{not_both}
 use Rattle.osil_grammar.proofs.NoRefusal.{not_some}
@@ -30,7 +31,7 @@ beyond_once t a b n m (inl p) (inr q) = absurd (not_in_further t q.0 p.0 q.1)
 beyond_once t a b n m (inr p) (inl q) = absurd (not_in_further t p.0 q.0 p.1)
 beyond_once t a b n m (inr p) (inr q) =
     let part = one_part t p.0 q.0 p.1 q.1 in
-    (p.2 ∙ ap (λ (l : Level). told l.node.name) part ∙ sym q.2, p.3 ∙ ap (λ (l : Level). l.ordinal) part ∙ sym q.3)
+    (p.2 ∙ ap (λ (l : Level). told_name l.node.name) part ∙ sym q.2, p.3 ∙ ap (λ (l : Level). l.ordinal) part ∙ sym q.3)
 
 coef_once : (e : Element) (a b : List ℕ) → HasCoefFault e a → HasCoefFault e b → a ≡ b
 coef_once e a b (inl p) (inl q) = p.0 ∙ sym q.0

@@ -1,8 +1,9 @@
 -- At which tag each refusal of an OSiL document is decided.
-use Rattle.std.specs.Prelude.{◌≡◌, ◌≢◌, ◌⊎◌, ℕ, suc, ◌+◌, ◌<◌, ◌≤◌, ℤ, pos, ◌+ℤ◌, ◌*ℤ◌, ◌<ℤ◌, ◌≤ℤ◌, Bool, true, false, Option, None, Some, IsSomeAnd, Contains, List, [], ◌∷◌, ◌++◌, map, length, get_or, take, codes}
+use Rattle.std.specs.Prelude.{◌≡◌, ◌≢◌, ◌⊎◌, ℕ, suc, ◌+◌, ◌<◌, ◌≤◌, ℤ, pos, ◌+ℤ◌, ◌*ℤ◌, ◌<ℤ◌, ◌≤ℤ◌, Bool, true, false, Option, None, Some, IsSomeAnd, Contains, List, [], ◌∷◌, ◌++◌, map, length, get_or, codes}
 use Rattle.tree_grammar.specs.Elements.{Element}
 use Rattle.tree_grammar.specs.Tags.{IsAmong}
 use Rattle.document_tags.specs.Rests.{child_elements}
+use Rattle.document_tags.specs.Faults.{told_name}
 use Rattle.document_tags.specs.Texts.{HoldsText}
 use Rattle.rational.specs.Ratio.{negative}
 use Rattle.rational.specs.Width.{SumFits}
@@ -87,13 +88,9 @@ pub record IsInFurther (t : Tag) (part : Level) : Type 0 where
   pub inside : names outer ≡ path InstanceData
   pub further : IsAmong part.node.name (content_names InstanceData) → ⊥
 
--- the beginning of a name, as far as it is told
-abbrev pub told : List ℕ → List ℕ
-told name = take 64 name
-
 -- Beyond: a foreign or misplaced element, or a further part that has child elements; its name and ordinal
 abbrev pub DecidesBeyond : Tag → List ℕ → ℕ → Type 0
-DecidesBeyond t name ordinal = ((IsForeign t ⊎ IsMisplaced t) × (name ≡ told t.level.node.name) × (ordinal ≡ t.level.ordinal)) ⊎ ((part : Level) × IsInFurther t part × (name ≡ told part.node.name) × (ordinal ≡ part.ordinal))
+DecidesBeyond t name ordinal = ((IsForeign t ⊎ IsMisplaced t) × (name ≡ told_name t.level.node.name) × (ordinal ≡ t.level.ordinal)) ⊎ ((part : Level) × IsInFurther t part × (name ≡ told_name part.node.name) × (ordinal ≡ part.ordinal))
 
 -- a `coef` without `idx`, or with `mult` or `incr`; the first of these attributes
 abbrev pub HasCoefFault : Element → List ℕ → Type 0

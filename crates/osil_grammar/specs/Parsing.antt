@@ -14,7 +14,7 @@ use Rattle.decimal_text.specs.Count.{IsCount}
 use Rattle.decimal_text.specs.Whole.{IsWhole}
 use Rattle.decimal_text.specs.declared.fault.DecimalFault.{DecimalFault}
 use Rattle.decimal_text.specs.declared.fault.DecimalFault.TheVariants.{NotNumber, Wide as TooWide, NotDecimal, Memory as NoMemory}
-use Rattle.osil_grammar.specs.Deciding.{told}
+use Rattle.document_tags.specs.Faults.{told_name}
 use Rattle.osil_grammar.specs.declared.unread.Unread.{Unread}
 use Rattle.osil_grammar.specs.declared.unread.Unread.TheVariants as unread
 use Rattle.osil_grammar.specs.declared.tags.StartTag.{StartTag}
@@ -166,19 +166,19 @@ FirstChild content name = (first : Element) × (more : List Element) × (child_e
 
 -- the end of an element without child elements, or the refusal of the first of these
 abbrev pub EndsAt : {X : Type 0} → Walking → Walking → Result X OsilFault → Type 0
-EndsAt old new result = MatchResult result (λ x. Left old new) (λ f. Tells f (λ r n. (t : Begun) × Entered old new t × (r ≡ refusals.Beyond (told t.name)) × (n ≡ t.ordinal)))
+EndsAt old new result = MatchResult result (λ x. Left old new) (λ f. Tells f (λ r n. (t : Begun) × Entered old new t × (r ≡ refusals.Beyond (told_name t.name)) × (n ≡ t.ordinal)))
 
 -- the text of an element that holds characters alone, to its end tag; else the refusal of its first child element
 abbrev pub ReadsText : {X : Type 0} → Walking → Walking → Result X OsilFault → (X → List ℕ) → Type 0
 ReadsText old new result view = (e : Element) (rest : List Event) → old.events ≡ nodes_events e.children (Close e.name ∷ rest) → IsJoined e.children
     → MatchResult result (λ x. HoldsText e.children (view x) × IsBehind old new e rest)
-    (λ f. Tells f (λ r n. (name : List ℕ) × FirstChild e.children name × (r ≡ refusals.Beyond (told name)) × (n ≡ old.ordinal + 1)))
+    (λ f. Tells f (λ r n. (name : List ℕ) × FirstChild e.children name × (r ≡ refusals.Beyond (told_name name)) × (n ≡ old.ordinal + 1)))
 
 -- the number that an element holds, to its end tag; else the refusal of its first child element, or of its text
 abbrev pub ReadsHeld : {X : Type 0} → Walking → Walking → StartTag → Result X OsilFault → Grammar → (List ℕ → X → Type 0) → Type 0
 ReadsHeld old new t result g Is = (e : Element) (rest : List Event) → old.events ≡ nodes_events e.children (Close e.name ∷ rest) → IsJoined e.children
     → MatchResult result (λ x. (text : List ℕ) × HoldsText e.children text × Is text x × IsBehind old new e rest)
-    (λ f. Tells f (λ r n. ((name : List ℕ) × FirstChild e.children name × (r ≡ refusals.Beyond (told name)) × (n ≡ old.ordinal + 1))
+    (λ f. Tells f (λ r n. ((name : List ℕ) × FirstChild e.children name × (r ≡ refusals.Beyond (told_name name)) × (n ≡ old.ordinal + 1))
     ⊎ ((text : List ℕ) × (u : Unread) × HoldsText e.children text × IsUnread u g text × (r ≡ unread_refusal u) × (n ≡ t.ordinal))))
 
 -- an element that holds this whole number

@@ -15,7 +15,6 @@ ghost use Rattle.document_tags.specs.Telling.{Told, ToldAttributes, opening};
 ghost use Rattle.osil_grammar.specs.Telling.{HasNone, Writes, EndsHaveTexts, EndAttributes, GoalHasDecimals, EncodeFails};
 
 use crate::fault::EncodeFault;
-use crate::reading::MOST_BYTES;
 use crate::telling::leaf;
 use decimal_text::{DecimalFault, write_decimal};
 use document_tags::{close, empty_after, open, open_after};
@@ -23,7 +22,7 @@ use element_tree::{Tree, TreeBuilder, write};
 use fraction::{End, Entry, Frac};
 use instance::{Goal, Instance, Row, Sense, Var};
 use itoa::Buffer;
-use os_io::{Memory, Text};
+use os_io::{MOST_BYTES, Memory, Text};
 use std::alloc::Global;
 
 /// A number's text.

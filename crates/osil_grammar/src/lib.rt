@@ -30,7 +30,7 @@ pub use laws::{
     instances_are_read_back, instances_have_one_text, written_root_is_accepted,
     written_root_means_instance, written_text_is_document, written_text_is_of_one_instance,
 };
-pub use reading::{MOST_BYTES, decode};
+pub use reading::decode;
 pub use reading_laws::{
     accepted_is_not_refused, documents_are_refused_in_one_way, documents_mean_one_instance,
 };

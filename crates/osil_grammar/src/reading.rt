@@ -8,10 +8,8 @@ use crate::fault::OsilFault;
 use crate::sections::read_tree;
 use doc_tree::{TreeFault, read};
 use instance::Instance;
+use os_io::MOST_BYTES;
 use std::alloc::Global;
-
-/// The most bytes of a document.
-pub const MOST_BYTES: u64 = 4_194_304;
 
 /// The instance that an OSiL document stands for.
 ///

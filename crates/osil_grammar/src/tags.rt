@@ -1,17 +1,15 @@
 //! A way through a document's tags.
 
-ghost use Rattle.std.specs.Prelude.{◌≡◌, ◌+◌, ◌<◌, ◌≤◌, ℕ, List, ◌∷◌, [], IfSome, IfNone, IfOk, MatchOption, length, drop, take};
+ghost use Rattle.std.specs.Prelude.{◌≡◌, ◌+◌, ◌<◌, ◌≤◌, ℕ, List, ◌∷◌, [], IfSome, IfNone, MatchOption, length, drop};
 ghost use Rattle.tree_grammar.specs.Elements.{Open};
 ghost use Rattle.element_tree.specs.Items.{event_at, attributes_of};
 
 use crate::fault::{OsilFault, Refusal};
+use document_tags::told_name;
 use element_tree::{Item, Tree};
 use os_io::{Memory, Text};
 use std::alloc::Global;
 use std::marker::Model;
-
-/// The most bytes of a name that a refusal tells.
-const MOST_TOLD: usize = 64;
 
 /// A start tag: its name, its attributes and its ordinal.
 #[derive(Clone, Copy)]
@@ -46,22 +44,11 @@ impl<'t> Model for Place<'t> {
     ghost invariant = { λ p. (p.end ≡ length p.tree.now) × (p.at ≤ p.end) × (p.ordinal ≤ p.at) };
 }
 
-/// The beginning of a name, as far as it is told.
-fn told(alloc: Global, name: &[u8]) -> Result<Text, Memory>
-    ensures { IfOk result (λ t. t ≡ take 64 name.now) }
-{
-    if name.len() <= MOST_TOLD {
-        Text::from_slice(alloc, name)
-    } else {
-        Text::from_slice(alloc, &name[..MOST_TOLD])
-    }
-}
-
 impl<'t> StartTag<'t> {
     ghost use Rattle.std.specs.Prelude.{◌↔◌, IsTrue};
     ghost use Rattle.document_tags.specs.Elements.{value_of};
     ghost use Rattle.osil_grammar.specs.Refusals as refusals;
-    ghost use Rattle.osil_grammar.specs.Deciding.{told};
+    ghost use Rattle.document_tags.specs.Faults.{told_name};
     ghost use Rattle.osil_grammar.specs.Reading.{refusal};
     ghost use Rattle.osil_grammar.specs.Parsing.{begun, Tells};
 
@@ -104,9 +91,9 @@ impl<'t> StartTag<'t> {
 
     /// The refusal of this element because of where it stands.
     pub(crate) fn beyond(&self, alloc: Global) -> OsilFault
-        ensures { Tells result (λ r n. (r ≡ refusals.Beyond (told (begun self.now).name)) × (n ≡ (begun self.now).ordinal)) }
+        ensures { Tells result (λ r n. (r ≡ refusals.Beyond (told_name (begun self.now).name)) × (n ≡ (begun self.now).ordinal)) }
     {
-        match told(alloc, self.name) {
+        match told_name(alloc, self.name) {
             Ok(name) => self.refused(Refusal::Beyond { name }),
             Err(_) => OsilFault::Memory,
         }

@@ -9,7 +9,7 @@ use Rattle.ospl_grammar.specs.declared.process.Process.{Process}
 use Rattle.ospl_grammar.specs.declared.process.Process.TheVariants.{Ask}
 use Rattle.ospl_grammar.specs.Meaning.{action, IsWhole, IsFirstWhole, AskOrTell, requests, statistics, Says}
 use Rattle.ospl_grammar.specs.Refusals.{IsSilent}
-use Rattle.only_children.specs.Only.{IsOnly}
+use Rattle.document_tags.specs.Only.{IsOnly}
 use Rattle.ospl_grammar.proofs.Whole.{none_whole}
 
 -- there is a request

@@ -7,7 +7,7 @@ use Rattle.document_tags.specs.Rests.{child_elements}
 use Rattle.document_tags.specs.Writing.{bare_root}
 use Rattle.decimal_text.specs.Count.{IsCount, most_count}
 use Rattle.decimal_text.proofs.ReadBack.{count_read}
-use Rattle.only_children.proofs.One.{text_own}
+use Rattle.document_tags.proofs.OnlyOne.{text_own}
 use Rattle.ospl_grammar.specs.declared.process.StatedJob.{StatedJob}
 use Rattle.ospl_grammar.specs.declared.process.Process.{Process}
 use Rattle.ospl_grammar.specs.declared.process.Process.TheVariants.{Ask, Statistics}

@@ -10,8 +10,8 @@ use Rattle.document_tags.specs.Texts.{IsDocument}
 use Rattle.document_tags.specs.Writing.{only, text_nodes, leaf, group, bare_root}
 use Rattle.document_tags.proofs.Printing.{fixed_text, number_text}
 use Rattle.document_tags.proofs.Flat.{AreFlat, none_flat, text_flat, element_flat, still_flat, root_is_document}
-use Rattle.job_table.specs.declared.job.State.{State}
-use Rattle.job_table.specs.declared.job.State.TheVariants.{Issued, Waiting, Running, Finished, Killed}
+use Rattle.ospl_grammar.specs.declared.process.JobState.{JobState}
+use Rattle.ospl_grammar.specs.declared.process.JobState.TheVariants.{Issued, Waiting, Running, Finished, Killed}
 use Rattle.ospl_grammar.specs.declared.process.StatedJob.{StatedJob}
 use Rattle.ospl_grammar.specs.declared.process.Process.{Process}
 use Rattle.ospl_grammar.specs.declared.process.Process.TheVariants.{Ask, Statistics}
@@ -26,7 +26,7 @@ busy_xml : (busy : Bool) → IsXmlText (busy_text busy)
 busy_xml true = fixed_text (codes "busy") refl
 busy_xml false = fixed_text (codes "idle") refl
 
-state_xml : (s : State) → IsXmlText (state_text s)
+state_xml : (s : JobState) → IsXmlText (state_text s)
 state_xml Issued = fixed_text (codes "issued") refl
 state_xml Waiting = fixed_text (codes "waiting") refl
 state_xml Running = fixed_text (codes "running") refl

@@ -4,7 +4,7 @@ use Rattle.std.specs.Prelude.{IsSomeAnd, codes}
 use Rattle.tree_grammar.specs.Elements.{Element}
 use Rattle.decimal_text.specs.Count.{IsCount}
 use Rattle.decimal_text.proofs.OneNumber.{count_once}
-use Rattle.only_children.specs.Only.{only_text}
+use Rattle.document_tags.specs.Only.{only_text}
 use Rattle.ospl_grammar.specs.Meaning.{SaysNumber, SaysCurrent}
 
 once_in : (o : Option (List ℕ)) (n m : ℕ) → IsSomeAnd o (λ text. IsCount text n) → IsSomeAnd o (λ text. IsCount text m) → n ≡ m

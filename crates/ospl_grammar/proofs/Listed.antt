@@ -9,7 +9,7 @@ use Rattle.document_tags.specs.Spots.{Stands, IsSpot}
 use Rattle.document_tags.proofs.Spotted.{each_more}
 use Rattle.ospl_grammar.specs.declared.process.StatedJob.{StatedJob}
 use Rattle.ospl_grammar.specs.Meaning.{IsJob, AreJobs}
-use Rattle.only_children.specs.Only.{only_child, IsOnly}
+use Rattle.document_tags.specs.Only.{only_child, IsOnly}
 
 -- the first elements are these jobs, and these are left
 pub record AreRead (es : List Element) (jobs : List StatedJob) (rest : List Element) : Type 0 where

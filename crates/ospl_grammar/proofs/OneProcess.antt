@@ -5,7 +5,7 @@ use Rattle.std.specs.List.{AllZip}
 use Rattle.tree_grammar.specs.Elements.{Element}
 use Rattle.document_tags.specs.Elements.{children_named}
 use Rattle.document_tags.proofs.OneDocument.{document_once}
-use Rattle.only_children.specs.Only.{only_child}
+use Rattle.document_tags.specs.Only.{only_child}
 use Rattle.ospl_grammar.specs.declared.process.StatedJob.{StatedJob}
 use Rattle.ospl_grammar.specs.declared.process.Process.{Process}
 use Rattle.ospl_grammar.specs.declared.process.Process.TheVariants.{Ask, Statistics}

@@ -2,8 +2,8 @@
 use Rattle.std.proofs.Common.{◌≡◌, ◌∙◌, ℕ, ◌==◌, cond, get_or, Some, List, [], ◌∷◌, refl, ap, sym}
 use Rattle.std.specs.List.{AllZip}
 use Rattle.tree_grammar.specs.Elements.{Element}
-use Rattle.job_table.specs.declared.job.State.{State}
-use Rattle.job_table.specs.declared.job.State.TheVariants.{Issued, Waiting, Running, Finished, Killed}
+use Rattle.ospl_grammar.specs.declared.process.JobState.{JobState}
+use Rattle.ospl_grammar.specs.declared.process.JobState.TheVariants.{Issued, Waiting, Running, Finished, Killed}
 use Rattle.ospl_grammar.specs.declared.process.StatedJob.{StatedJob}
 use Rattle.ospl_grammar.specs.Words.{state_text}
 use Rattle.ospl_grammar.specs.Meaning.{IsJob}
@@ -12,13 +12,13 @@ pub same_some : {X : Type 0} (x y : X) → Some x ≡ Some y → x ≡ y
 same_some x y e = let same : x ≡ y = cc in same
 
 -- the state whose word has this fourth letter
-abbrev by_letter : ℕ → State
+abbrev by_letter : ℕ → JobState
 by_letter c = cond (c == 117) Issued (cond (c == 116) Waiting (cond (c == 110) Running (cond (c == 105) Finished Killed)))
 
 abbrev letter : List ℕ → ℕ
 letter word = get_or word 3 0
 
-state_back : (s : State) → by_letter (letter (state_text s)) ≡ s
+state_back : (s : JobState) → by_letter (letter (state_text s)) ≡ s
 state_back Issued = refl
 state_back Waiting = refl
 state_back Running = refl
@@ -26,10 +26,10 @@ state_back Finished = refl
 state_back Killed = refl
 
 -- words of states differ
-pub same_state : (s t : State) → state_text s ≡ state_text t → s ≡ t
+pub same_state : (s t : JobState) → state_text s ≡ state_text t → s ≡ t
 same_state s t e = sym (state_back s) ∙ ap (λ (word : List ℕ). by_letter (letter word)) e ∙ state_back t
 
-abbrev made : List ℕ → State → StatedJob
+abbrev made : List ℕ → JobState → StatedJob
 made id state = record { id = id; state = state }
 
 pub job_once : (e : Element) (j k : StatedJob) → IsJob e j → IsJob e k → j ≡ k

@@ -5,7 +5,7 @@ use Rattle.tree_grammar.specs.Elements.{Element}
 use Rattle.document_tags.specs.Elements.{attribute, children_named, within}
 use Rattle.document_tags.specs.Documents.{OfDocument}
 use Rattle.decimal_text.specs.Count.{IsCount}
-use Rattle.only_children.specs.Only.{only_child, only_text}
+use Rattle.document_tags.specs.Only.{only_child, only_text}
 use Rattle.ospl_grammar.specs.declared.process.StatedJob.{StatedJob}
 use Rattle.ospl_grammar.specs.declared.process.Process.{Process}
 use Rattle.ospl_grammar.specs.declared.process.Process.TheVariants.{Ask, Statistics}

@@ -5,20 +5,18 @@ ghost use Rattle.std.specs.List.{AllZip};
 ghost use Rattle.tree_grammar.specs.Elements.{Element};
 ghost use Rattle.document_tags.specs.Spots.{Stands, AreSpots};
 ghost use Rattle.ospl_grammar.specs.Meaning.{IsJob, AreJobs};
-ghost use Rattle.only_children.specs.Only.{IsOnly};
+ghost use Rattle.document_tags.specs.Only.{IsOnly};
 ghost use Rattle.ospl_grammar.specs.Reading.{SaysState};
 
-use crate::process::{JobStates, StatedJob};
+use crate::process::{JobState, JobStates, StatedJob};
 use crate::words::state_of;
-use document_tags::Spot;
+use document_tags::{Spot, only_child, only_text};
 use items::Items;
-use job_table::State;
-use only_children::{only_child, only_text};
 use os_io::{Memory, Text};
 use std::alloc::Global;
 
 /// The state of a job, if that is said by one of the five words.
-fn read_state(alloc: Global, spot: Spot<'_>) -> Result<Option<State>, Memory>
+fn read_state(alloc: Global, spot: Spot<'_>) -> Result<Option<JobState>, Memory>
     ensures { (e : Element) → Stands spot.entry e → IfOk result (IsOnly (SaysState e)) }
 {
     let Some(word) = only_text(alloc, spot, b"state")? else {

@@ -18,10 +18,9 @@ mod writing;
 
 pub use document::decode;
 pub use fault::OsplFault;
-pub use job_table::State;
 pub use laws::{
     comes_back, document_has_one_process, document_has_one_refusal, process_is_not_refused,
 };
-pub use process::{JobStates, Process, StatedJob};
+pub use process::{JobState, JobStates, Process, StatedJob};
 pub use texts::refusal_text;
 pub use writing::encode;

@@ -1,14 +1,28 @@
 //! Processes: what a process document says.
 
 use items::Items;
-use job_table::State;
 use os_io::Text;
+
+/// How far a job has come.
+#[derive(Clone, Copy, PartialEq, Eq, Debug, Drop)]
+pub enum JobState {
+    /// It has its number alone.
+    Issued,
+    /// It was sent, and nobody runs it yet.
+    Waiting,
+    /// Somebody runs it.
+    Running,
+    /// It was run.
+    Finished,
+    /// It was killed before it ran.
+    Killed,
+}
 
 /// A job by the text that names it, and how far it has come.
 #[derive(Debug, Drop)]
 pub struct StatedJob {
     pub id: Text,
-    pub state: State,
+    pub state: JobState,
 }
 
 /// Jobs in their order.

@@ -4,7 +4,7 @@ ghost use Rattle.std.specs.Prelude.{◌≡◌, ◌↔◌, IsTrue, IfOk, IfErr};
 ghost use Rattle.tree_grammar.specs.Elements.{Element};
 ghost use Rattle.document_tags.specs.Spots.{Stands};
 ghost use Rattle.ospl_grammar.specs.Meaning as meaning;
-ghost use Rattle.only_children.specs.Only.{IsOnly};
+ghost use Rattle.document_tags.specs.Only.{IsOnly};
 ghost use Rattle.ospl_grammar.specs.Reading.{Refuses};
 
 use crate::fault::OsplFault;

@@ -4,14 +4,13 @@ ghost use Rattle.std.specs.Prelude.{◌≡◌, List, IfOk};
 ghost use Rattle.tree_grammar.specs.Elements.{Element};
 ghost use Rattle.document_tags.specs.Spots.{Stands, AreSpots};
 ghost use Rattle.ospl_grammar.specs.Meaning.{SaysBusy, SaysNumber, SaysCurrent, SaysStatistics, IsFirstWhole};
-ghost use Rattle.only_children.specs.Only.{IsOnly};
+ghost use Rattle.document_tags.specs.Only.{IsOnly};
 
 use crate::jobs::read_jobs;
 use crate::process::Process;
 use crate::words::busy_of;
 use decimal_text::read_count;
-use document_tags::Spot;
-use only_children::only_text;
+use document_tags::{Spot, only_text};
 use os_io::Memory;
 use std::alloc::Global;
 

@@ -2,9 +2,9 @@
 
 ghost use Rattle.std.specs.Prelude.{◌≡◌};
 ghost use Rattle.ospl_grammar.specs.Words as words;
-ghost use Rattle.only_children.specs.Only.{IsOnly};
+ghost use Rattle.document_tags.specs.Only.{IsOnly};
 
-use job_table::State;
+use crate::process::JobState;
 
 /// The word of the state of all jobs together.
 pub(crate) fn busy_word(busy: bool) -> &'static [u8]
@@ -27,32 +27,32 @@ pub(crate) fn busy_of(word: &[u8]) -> Option<bool>
 }
 
 /// The word of a job's state.
-pub(crate) fn state_word(state: State) -> &'static [u8]
+pub(crate) fn state_word(state: JobState) -> &'static [u8]
     ensures { result.now ≡ words.state_text state }
 {
     match state {
-        State::Issued => b"issued",
-        State::Waiting => b"waiting",
-        State::Running => b"running",
-        State::Finished => b"finished",
-        State::Killed => b"killed",
+        JobState::Issued => b"issued",
+        JobState::Waiting => b"waiting",
+        JobState::Running => b"running",
+        JobState::Finished => b"finished",
+        JobState::Killed => b"killed",
     }
 }
 
 /// The job's state of this word, if there is one.
-pub(crate) fn state_of(word: &[u8]) -> Option<State>
+pub(crate) fn state_of(word: &[u8]) -> Option<JobState>
     ensures { IsOnly (λ state. word.now ≡ words.state_text state) result }
 {
-    if word == state_word(State::Issued) {
-        Some(State::Issued)
-    } else if word == state_word(State::Waiting) {
-        Some(State::Waiting)
-    } else if word == state_word(State::Running) {
-        Some(State::Running)
-    } else if word == state_word(State::Finished) {
-        Some(State::Finished)
-    } else if word == state_word(State::Killed) {
-        Some(State::Killed)
+    if word == state_word(JobState::Issued) {
+        Some(JobState::Issued)
+    } else if word == state_word(JobState::Waiting) {
+        Some(JobState::Waiting)
+    } else if word == state_word(JobState::Running) {
+        Some(JobState::Running)
+    } else if word == state_word(JobState::Finished) {
+        Some(JobState::Finished)
+    } else if word == state_word(JobState::Killed) {
+        Some(JobState::Killed)
     } else {
         None
     }

@@ -19,9 +19,9 @@ use crate::words::with_word;
 use certificate::Claim;
 use decimal_text::trim;
 use doc_tree::{TreeFault, read};
-use document_tags::{MOST_BYTES, Spot, along, first, first_within, within};
+use document_tags::{Spot, along, first, first_within, within};
 use element_tree::Tree;
-use os_io::{Memory, Text};
+use os_io::{MOST_BYTES, Memory, Text};
 use std::alloc::Global;
 
 /// Where the solutions of a document stand in its root.

@@ -9,8 +9,8 @@ use Rattle.os_io.specs.Streams.{Tells}
 use Rattle.osil_grammar.specs.Reading.{IsInstanceText}
 use Rattle.osrl_grammar.specs.declared.report.Report.{Report}
 use Rattle.osrl_grammar.specs.Writing.{report_text}
-use Rattle.cert_checker.specs.declared.documents.Kind.{Kind}
-use Rattle.cert_checker.specs.Documents.{kind, IsAcceptedText}
+use Rattle.document_checker.specs.declared.documents.Kind.{Kind}
+use Rattle.document_checker.specs.Documents.{kind, IsAcceptedText}
 use Rattle.solve_run.specs.Right.{Answers, Right}
 use Rattle.job_table.specs.Jobs.{Register, empty}
 use Rattle.job_table.specs.History.{Entry, Runs, WasBrought, WasKilled, CameRight}

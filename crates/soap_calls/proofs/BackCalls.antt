@@ -9,7 +9,7 @@ use Rattle.document_tags.specs.Texts.{document_limit, IsDocument}
 use Rattle.document_tags.specs.Writing.{text_nodes, leaf, group}
 use Rattle.document_tags.proofs.Printing.{fixed_text}
 use Rattle.document_tags.proofs.Flat.{is_tag, AreFlat, none_flat, text_flat, element_flat, still_flat, written_is_document}
-use Rattle.only_children.specs.Only.{unless_elements}
+use Rattle.document_tags.specs.Only.{unless_elements}
 use Rattle.soap_calls.specs.declared.call.CallKind.{CallKind}
 use Rattle.soap_calls.specs.declared.call.CallKind.TheVariants as kinds
 use Rattle.soap_calls.specs.declared.call.SoapCall.{SoapCall}

@@ -4,7 +4,7 @@ use Rattle.std.specs.Prelude.{IfOk, codes}
 use Rattle.tree_grammar.specs.Elements.{Element}
 use Rattle.document_tags.specs.declared.spot.Spot.{Spot}
 use Rattle.document_tags.specs.Spots.{Stands, IsSpot}
-use Rattle.only_children.specs.Only.{only_child, only_element}
+use Rattle.document_tags.specs.Only.{only_child, only_element}
 use Rattle.soap_calls.specs.Envelope.{held_in, held}
 
 -- the root has another name

@@ -3,7 +3,7 @@ use Rattle.std.proofs.Common.{◌≡◌, ◌≢◌, ◌∙◌, inl, inr, Option,
 use Rattle.std.specs.Prelude.{IfOk, IfErr, IsSomeAnd}
 use Rattle.tree_grammar.specs.Elements.{Element}
 use Rattle.doc_tree.proofs.Unambiguous.{one_tree}
-use Rattle.only_children.specs.Only.{only_element}
+use Rattle.document_tags.specs.Only.{only_element}
 use Rattle.soap_calls.specs.declared.fault.Answer.{Answer}
 use Rattle.soap_calls.specs.declared.fault.Answer.TheVariants.{Return, Fault}
 use Rattle.soap_calls.specs.declared.fault.NotReply.{NotReply}

@@ -5,21 +5,21 @@ use Rattle.tree_grammar.specs.Elements.{Element}
 use Rattle.document_tags.specs.declared.spot.Spot.{Spot}
 use Rattle.document_tags.specs.Elements.{children_named}
 use Rattle.document_tags.specs.Spots.{Stands, AreSpots, IsSpot}
-use Rattle.only_children.specs.Only.{only, plain_text}
+use Rattle.document_tags.specs.Only.{only_one, plain_text}
 use Rattle.soap_calls.specs.declared.call.CallKind.{CallKind}
 use Rattle.soap_calls.specs.declared.call.Part.{Part}
 use Rattle.soap_calls.specs.Names.{part_text, is_needed, has}
 use Rattle.soap_calls.specs.Calls.{text_among, part}
 
 -- several elements say nothing
-pub several : (needed : Bool) (spots : List Spot) (es : List Element) → length spots ≢ 0 → AreSpots spots es → IsSpot None (only es) → None ≡ text_among needed es
+pub several : (needed : Bool) (spots : List Spot) (es : List Element) → length spots ≢ 0 → AreSpots spots es → IsSpot None (only_one es) → None ≡ text_among needed es
 several needed [] es some are none = absurd (some refl)
 several needed (s ∷ spots) [] some are none = absurd are
 several needed (s ∷ spots) (e ∷ []) some are none = absurd none
 several needed (s ∷ spots) (e ∷ f ∷ es) some are none = refl
 
 -- one says its text
-pub one_text : {E : Type 0} (needed : Bool) (es : List Element) (s : Spot) (r : Result (Option (List ℕ)) E) → IsSpot (Some s) (only es) → ((e : Element) → Stands s e → IfOk r (λ t. t ≡ plain_text e)) → IfOk r (λ t. t ≡ text_among needed es)
+pub one_text : {E : Type 0} (needed : Bool) (es : List Element) (s : Spot) (r : Result (Option (List ℕ)) E) → IsSpot (Some s) (only_one es) → ((e : Element) → Stands s e → IfOk r (λ t. t ≡ plain_text e)) → IfOk r (λ t. t ≡ text_among needed es)
 one_text needed [] s r is says = absurd is
 one_text needed (e ∷ []) s r is says = says e is
 one_text needed (e ∷ f ∷ es) s r is says = absurd is

@@ -5,7 +5,7 @@ use Rattle.std.proofs.lemmas.Slice.Eq.{bytes_eq-Decides}
 use Rattle.tree_grammar.specs.Elements.{Element}
 use Rattle.document_tags.specs.declared.spot.Spot.{Spot}
 use Rattle.document_tags.specs.Spots.{Stands, IsSpot}
-use Rattle.only_children.specs.Only.{IsOnly, only_element, plain_text}
+use Rattle.document_tags.specs.Only.{IsOnly, only_element, plain_text}
 use Rattle.soap_calls.specs.declared.fault.Answer.{Answer}
 use Rattle.soap_calls.specs.declared.fault.Answer.TheVariants.{Return, Fault}
 use Rattle.soap_calls.specs.Replies.{IsValue, plain_in, plain_child, IsAnswer}

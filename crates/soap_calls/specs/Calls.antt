@@ -3,7 +3,7 @@ use Rattle.std.specs.Prelude.{◌≡◌, ℕ, Bool, Option, None, Some, IsSomeAn
 use Rattle.tree_grammar.specs.Elements.{Element}
 use Rattle.document_tags.specs.Elements.{children_named}
 use Rattle.document_tags.specs.Documents.{OfDocument}
-use Rattle.only_children.specs.Only.{plain_text}
+use Rattle.document_tags.specs.Only.{plain_text}
 use Rattle.soap_calls.specs.declared.call.CallKind.{CallKind}
 use Rattle.soap_calls.specs.declared.call.CallKind.TheVariants as kinds
 use Rattle.soap_calls.specs.declared.call.Part.{Part}

@@ -1,7 +1,8 @@
 -- Which bytes are refused as calls, and why, and which answer no call.
-use Rattle.std.specs.Prelude.{◌≡◌, ◌⊎◌, ℕ, None, IsSome, IsSomeAnd, List, take}
+use Rattle.std.specs.Prelude.{◌≡◌, ◌⊎◌, ℕ, None, IsSome, IsSomeAnd, List}
 use Rattle.tree_grammar.specs.Elements.{Element}
 use Rattle.document_tags.specs.Documents.{OfDocument}
+use Rattle.document_tags.specs.Faults.{told_name}
 use Rattle.document_tags.specs.Texts.{IsDocument}
 use Rattle.soap_calls.specs.declared.call.CallKind.{CallKind}
 use Rattle.soap_calls.specs.declared.call.Part as given
@@ -22,10 +23,10 @@ IsFirstRefused k e Osil = part k e Osil ≡ None
 IsFirstRefused k e Osol = IsSome (part k e Osil) × (part k e Osol ≡ None)
 IsFirstRefused k e Ospl = IsSome (part k e Osil) × IsSome (part k e Osol) × (part k e Ospl ≡ None)
 
--- an element is refused as a call: it has another name, of which at most 64 bytes are told, or a part
+-- an element is refused as a call: it has another name, of which the beginning is told, or a part
 abbrev pub IsElementRefused : Element → SoapFault → Type 0
 IsElementRefused e Envelope = ⊥
-IsElementRefused e (Call name) = ((k : CallKind) → e.name ≡ kind_text k → ⊥) × (name ≡ take 64 e.name)
+IsElementRefused e (Call name) = ((k : CallKind) → e.name ≡ kind_text k → ⊥) × (name ≡ told_name e.name)
 IsElementRefused e (Part p) = (k : CallKind) × (e.name ≡ kind_text k) × IsFirstRefused k e p
 IsElementRefused e Memory = ⊥
 

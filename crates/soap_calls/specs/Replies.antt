@@ -2,7 +2,7 @@
 use Rattle.std.specs.Prelude.{◌≡◌, ◌⊎◌, ℕ, Option, None, Some, IsSomeAnd, List, ◌++◌, codes}
 use Rattle.tree_grammar.specs.Elements.{Element, Event, events, IsShallow, IsWithin}
 use Rattle.tree_grammar.specs.Document.{Doc}
-use Rattle.only_children.specs.Only.{only_child, only_element, plain_text}
+use Rattle.document_tags.specs.Only.{only_child, only_element, plain_text}
 use Rattle.soap_calls.specs.declared.fault.Answer.{Answer}
 use Rattle.soap_calls.specs.declared.fault.Answer.TheVariants.{Return, Fault}
 use Rattle.soap_calls.specs.Envelope.{held}

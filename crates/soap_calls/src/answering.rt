@@ -3,13 +3,12 @@
 ghost use Rattle.std.specs.Prelude.{◌≡◌, ◌↔◌, ◌++◌, IsTrue, IfOk, bytes_eq, codes};
 ghost use Rattle.tree_grammar.specs.Elements.{Element};
 ghost use Rattle.document_tags.specs.Spots.{Stands};
-ghost use Rattle.only_children.specs.Only.{IsOnly};
+ghost use Rattle.document_tags.specs.Only.{IsOnly};
 ghost use Rattle.soap_calls.specs.Replies as replies;
 
 use crate::envelope::{held, sole};
 use crate::fault::Answer;
-use document_tags::Spot;
-use only_children::{only_child, plain_text};
+use document_tags::{Spot, only_child, plain_text};
 use os_io::{Memory, Text};
 use std::alloc::Global;
 

@@ -10,10 +10,10 @@ ghost use Rattle.soap_calls.specs.Reading.{RefusesElement, RefusesRoot};
 use crate::call::SoapCall;
 use crate::envelope::held;
 use crate::fault::SoapFault;
-use crate::kinds::{cut_name, kind_named};
+use crate::kinds::kind_named;
 use crate::parts::{call_of, read_parts};
 use doc_tree::TreeFault;
-use document_tags::{Spot, read_document};
+use document_tags::{Spot, read_document, told_name};
 use element_tree::Tree;
 use std::alloc::Global;
 
@@ -23,7 +23,7 @@ fn read_element(alloc: Global, spot: Spot<'_>) -> Result<SoapCall, SoapFault>
     ensures err { (e : Element) → Stands spot.entry e → IfErr result (RefusesElement e) }
 {
     let Some(kind) = kind_named(spot.name()) else {
-        let name = cut_name(alloc, spot.name())?;
+        let name = told_name(alloc, spot.name())?;
         return Err(SoapFault::Call { name });
     };
     match read_parts(alloc, spot, kind) {

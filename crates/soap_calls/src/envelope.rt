@@ -3,11 +3,10 @@
 ghost use Rattle.std.specs.Prelude.{◌≡◌, IfOk, bytes_eq, codes};
 ghost use Rattle.tree_grammar.specs.Elements.{Element};
 ghost use Rattle.document_tags.specs.Spots.{Stands, IsSpot};
-ghost use Rattle.only_children.specs.Only.{only_element};
+ghost use Rattle.document_tags.specs.Only.{only_element};
 ghost use Rattle.soap_calls.specs.Envelope as envelopes;
 
-use document_tags::Spot;
-use only_children::{elements, only, only_child};
+use document_tags::{Spot, child_elements, only_child, only_one};
 use os_io::Memory;
 use std::alloc::Global;
 
@@ -22,8 +21,8 @@ fn is_envelope(root: Spot<'_>) -> bool
 pub(crate) fn sole<'t>(alloc: Global, spot: Spot<'t>) -> Result<Option<Spot<'t>>, Memory>
     ensures { (e : Element) → Stands spot.entry e → IfOk result (λ r. IsSpot r (only_element e)) }
 {
-    let inside = elements(alloc, spot)?;
-    Ok(only(inside.as_slice()))
+    let inside = child_elements(alloc, spot)?;
+    Ok(only_one(inside.as_slice()))
 }
 
 /// The one element in the one body of an envelope, if there is one.

@@ -1,15 +1,10 @@
 //! The calls' names.
 
-ghost use Rattle.std.specs.Prelude.{◌≡◌, take, IfOk};
-ghost use Rattle.only_children.specs.Only.{IsOnly};
+ghost use Rattle.std.specs.Prelude.{◌≡◌};
+ghost use Rattle.document_tags.specs.Only.{IsOnly};
 ghost use Rattle.soap_calls.specs.Names as names;
 
 use crate::call::CallKind;
-use os_io::{Memory, Text};
-use std::alloc::Global;
-
-/// The most bytes of a name that is told.
-const MOST_OF_NAME: usize = 64;
 
 /// The call of this name, if there is one.
 pub(crate) fn kind_named(name: &[u8]) -> Option<CallKind>
@@ -29,16 +24,5 @@ pub(crate) fn kind_named(name: &[u8]) -> Option<CallKind>
         Some(CallKind::Kill)
     } else {
         None
-    }
-}
-
-/// The beginning of a name.
-pub(crate) fn cut_name(alloc: Global, name: &[u8]) -> Result<Text, Memory>
-    ensures { IfOk result (λ t. t ≡ take 64 name.now) }
-{
-    if name.len() <= MOST_OF_NAME {
-        Text::from_slice(alloc, name)
-    } else {
-        Text::from_slice(alloc, &name[..MOST_OF_NAME])
     }
 }

@@ -8,8 +8,7 @@ ghost use Rattle.soap_calls.specs.Reading.{RefusesParts};
 
 use crate::call::{CallKind, Part, Parts, SoapCall};
 use crate::fault::SoapFault;
-use document_tags::Spot;
-use only_children::{only, plain_text};
+use document_tags::{Spot, only_one, plain_text};
 use os_io::{Memory, Text};
 use std::alloc::Global;
 
@@ -23,7 +22,7 @@ fn text_among(alloc: Global, spots: &[Spot<'_>], is_needed: bool) -> Result<Opti
         }
         return Ok(Some(Text::new(alloc)));
     }
-    let Some(one) = only(spots) else {
+    let Some(one) = only_one(spots) else {
         return Ok(None);
     };
     plain_text(alloc, one)

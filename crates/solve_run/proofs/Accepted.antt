@@ -21,8 +21,8 @@ use Rattle.osrl_grammar.specs.declared.report.Report.{Report}
 use Rattle.osrl_grammar.specs.Writing.{report_text}
 use Rattle.osrl_grammar.specs.Reading.{IsReportText}
 use Rattle.osrl_grammar.specs.Back.{IsBareOrNone, CauseComesBack, ClaimComesBack, ComesBack}
-use Rattle.cert_checker.specs.declared.documents.Kind.{Kind}
-use Rattle.cert_checker.specs.Documents.{kind, IsAcceptedText}
+use Rattle.document_checker.specs.declared.documents.Kind.{Kind}
+use Rattle.document_checker.specs.Documents.{kind, IsAcceptedText}
 use Rattle.solve_run.specs.Closing.{claim_report, IsFinal, given_up, IsJudged, checked, IsShort, IsFitted, IsClosed}
 use Rattle.solve_run.specs.Right.{terms, Solved, IsJobOf, IsBestOf, Answers, no_options, no_instance, solved, gave_up}
 use Rattle.solve_run.proofs.Short.{IsShortName}

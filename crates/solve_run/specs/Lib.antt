@@ -9,7 +9,7 @@ pub use Rattle.osil_grammar.specs.Reading
 pub use Rattle.osrl_grammar.specs.Writing
 pub use Rattle.osrl_grammar.specs.Back
 pub use Rattle.cert_checker.specs.Refusals
-pub use Rattle.cert_checker.specs.Documents
+pub use Rattle.document_checker.specs.Documents
 pub mod Closing
 pub mod Right
 pub mod Running

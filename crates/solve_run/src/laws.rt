@@ -14,19 +14,19 @@ ghost use Rattle.osil_grammar.specs.Reading.{IsInstanceText};
 ghost use Rattle.osrl_grammar.specs.declared.report.Report.{Report};
 ghost use Rattle.osrl_grammar.specs.Writing.{report_text};
 ghost use Rattle.osrl_grammar.specs.Reading.{IsReportText};
-ghost use Rattle.cert_checker.specs.declared.documents.Kind.{Kind};
+ghost use Rattle.document_checker.specs.declared.documents.Kind.{Kind};
 ghost use Rattle.cert_checker.specs.declared.refused.Refused.{Refused};
 ghost use Rattle.cert_checker.specs.declared.refused.Refused.TheVariants.{Wide};
 ghost use Rattle.cert_checker.specs.Refusals.{IsRefused};
-ghost use Rattle.cert_checker.specs.Documents.{kind, IsAcceptedText};
+ghost use Rattle.document_checker.specs.Documents.{kind, IsAcceptedText};
 ghost use Rattle.solve_run.specs.Closing.{IsFinal, IsShort, claim_report};
 ghost use Rattle.solve_run.specs.Right.{terms, RefusesOptions, RefusesInstance, Solved, GaveUp, Answers, Right};
 ghost use Rattle.solve_run.specs.Grounds.{OptionsAreOne, InstancesAreOne, SearchesAreOne};
 
 use cert_checker::{
-    accepted_documents_are_true, claims_have_one_refusal, refused_is_not_accepted,
-    shown_is_refused_for_width_alone,
+    claims_have_one_refusal, refused_is_not_accepted, shown_is_refused_for_width_alone,
 };
+use document_checker::accepted_documents_are_true;
 use document_tags::tree_faults_have_one_text;
 use fraction::equal_fractions;
 use instance::programs_have_numbers;

@@ -13,9 +13,8 @@ ghost use Rattle.solve_run.specs.Running.{IsTold, IsTextOf, IsFittedDocument, Is
 use crate::closing::{checked, give_up, judge};
 use crate::document::Document;
 use certificate::{Cause, Claim};
-use document_tags::MOST_BYTES;
 use instance::Instance;
-use os_io::{Memory, Text};
+use os_io::{MOST_BYTES, Memory, Text};
 use osrl_grammar::{JobStatus, Report, encode};
 use std::alloc::Global;
 

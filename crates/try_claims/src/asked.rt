@@ -2,7 +2,7 @@
 
 use crate::results::{repeated_tree, result_of};
 use cases::{Answers, bytes_of, number_of};
-use cert_checker::{answer_text, check_docs};
+use document_checker::{answer_text, check_docs};
 use os_io::{Files, Memory, Text};
 use std::alloc::Global;
 

@@ -7,7 +7,7 @@
 use cases::{DocumentCases, Documents, Tables};
 use itoa::Buffer;
 use os_io::{Memory, Text};
-use ospl_grammar::{OsplFault, Process, State, StatedJob, decode, encode, refusal_text};
+use ospl_grammar::{JobState, OsplFault, Process, StatedJob, decode, encode, refusal_text};
 use std::alloc::Global;
 use std::io;
 
@@ -16,13 +16,13 @@ use std::io;
 struct Ospl;
 
 /// A state.
-fn state_name(state: State) -> &'static [u8] {
+fn state_name(state: JobState) -> &'static [u8] {
     match state {
-        State::Issued => b"Issued",
-        State::Waiting => b"Waiting",
-        State::Running => b"Running",
-        State::Finished => b"Finished",
-        State::Killed => b"Killed",
+        JobState::Issued => b"Issued",
+        JobState::Waiting => b"Waiting",
+        JobState::Running => b"Running",
+        JobState::Finished => b"Finished",
+        JobState::Killed => b"Killed",
     }
 }
 

@@ -3,9 +3,9 @@ use Rattle.std.specs.List.{AllZip}
 use Rattle.ospl_grammar.specs.declared.process.StatedJob.{StatedJob}
 use Rattle.std.proofs.lemmas.List.{drop_all}
 use Rattle.document_tags.proofs.Spotted.{from_item}
-use Rattle.only_children.proofs.Left.{leaves_all, next, passes, none_left}
+use Rattle.document_tags.proofs.ElementsLeft.{leaves_all, next, passes, none_left}
 use Rattle.ospl_grammar.specs.Meaning.{IsJob}
-use Rattle.only_children.proofs.Answered.{only_some, only_none}
+use Rattle.document_tags.proofs.OnlyAnswer.{only_some, only_none}
 use Rattle.ospl_grammar.proofs.Listed.{AreRead, none_read, one_read, all_read, not_read}
 use Rattle.ospl_grammar.proofs.jobs.read_each.Goals as goal
 

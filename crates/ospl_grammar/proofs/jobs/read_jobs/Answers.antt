@@ -1,8 +1,8 @@
 use Rattle.std.proofs.Common.{None, Some, []}
-use Rattle.only_children.specs.Only.{only_child}
+use Rattle.document_tags.specs.Only.{only_child}
 use Rattle.std.specs.Prelude.{codes}
 use Rattle.document_tags.specs.Elements.{children_named}
-use Rattle.only_children.proofs.One.{in_slice, none_yet, at_found}
+use Rattle.document_tags.proofs.OnlyOne.{in_slice, none_yet, at_found}
 use Rattle.ospl_grammar.proofs.Listed.{jobs_listed, no_list}
 use Rattle.ospl_grammar.proofs.jobs.read_jobs.Goals as goal
 

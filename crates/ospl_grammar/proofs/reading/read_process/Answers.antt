@@ -1,5 +1,5 @@
 use Rattle.std.proofs.Common.{None, Some, slice_get}
-use Rattle.only_children.proofs.One.{at_found}
+use Rattle.document_tags.proofs.OnlyOne.{at_found}
 use Rattle.ospl_grammar.specs.Meaning.{requests, statistics}
 use Rattle.ospl_grammar.proofs.Asked.{asks, tells}
 use Rattle.ospl_grammar.proofs.reading.read_process.Goals as goal

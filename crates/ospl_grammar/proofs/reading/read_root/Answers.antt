@@ -1,6 +1,6 @@
 use Rattle.std.proofs.Common.{inr}
 use Rattle.ospl_grammar.specs.Meaning.{Says}
-use Rattle.only_children.proofs.Answered.{only_some, only_none, refused}
+use Rattle.document_tags.proofs.OnlyAnswer.{only_some, only_none, refused}
 use Rattle.ospl_grammar.proofs.Asked.{silent}
 use Rattle.ospl_grammar.proofs.reading.read_root.Goals as goal
 

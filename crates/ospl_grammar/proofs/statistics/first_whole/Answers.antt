@@ -1,9 +1,9 @@
 use Rattle.std.proofs.Common.{inl}
 use Rattle.std.proofs.lemmas.List.{drop_all}
 use Rattle.document_tags.proofs.Spotted.{from_item}
-use Rattle.only_children.proofs.Left.{leaves_all, next, passes, none_left}
+use Rattle.document_tags.proofs.ElementsLeft.{leaves_all, next, passes, none_left}
 use Rattle.ospl_grammar.specs.Meaning.{SaysStatistics}
-use Rattle.only_children.proofs.Answered.{only_some, only_none}
+use Rattle.document_tags.proofs.OnlyAnswer.{only_some, only_none}
 use Rattle.ospl_grammar.proofs.Whole.{Same, all_same, passed}
 use Rattle.ospl_grammar.proofs.statistics.first_whole.Goals as goal
 

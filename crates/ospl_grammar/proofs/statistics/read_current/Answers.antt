@@ -1,7 +1,7 @@
 use Rattle.std.proofs.Common.{arith}
 use Rattle.std.specs.Prelude.{codes}
 use Rattle.ospl_grammar.specs.Meaning.{SaysNumber}
-use Rattle.only_children.proofs.Answered.{only_some, only_none}
+use Rattle.document_tags.proofs.OnlyAnswer.{only_some, only_none}
 use Rattle.ospl_grammar.proofs.Counted.{too_great}
 use Rattle.ospl_grammar.proofs.statistics.read_current.Goals as goal
 

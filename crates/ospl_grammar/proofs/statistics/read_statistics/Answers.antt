@@ -1,5 +1,5 @@
 use Rattle.ospl_grammar.specs.Meaning.{SaysBusy, SaysCurrent, SaysTotal, AreJobs}
-use Rattle.only_children.proofs.Answered.{only_some, only_none}
+use Rattle.document_tags.proofs.OnlyAnswer.{only_some, only_none}
 use Rattle.ospl_grammar.proofs.Whole.{lacks}
 use Rattle.ospl_grammar.proofs.statistics.read_statistics.Goals as goal
 

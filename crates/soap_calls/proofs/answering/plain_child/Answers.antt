@@ -1,6 +1,6 @@
 use Rattle.std.proofs.Common.{None, Some}
-use Rattle.only_children.specs.Only.{only_child}
-use Rattle.only_children.proofs.One.{at_found}
+use Rattle.document_tags.specs.Only.{only_child}
+use Rattle.document_tags.proofs.OnlyOne.{at_found}
 use Rattle.soap_calls.proofs.Replied.{plain_none, plain_some}
 use Rattle.soap_calls.proofs.answering.plain_child.Goals as goal
 

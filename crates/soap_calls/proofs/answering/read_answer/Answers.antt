@@ -1,5 +1,5 @@
 use Rattle.std.proofs.Common.{None, Some}
-use Rattle.only_children.proofs.One.{at_found}
+use Rattle.document_tags.proofs.OnlyOne.{at_found}
 use Rattle.soap_calls.specs.Envelope.{held}
 use Rattle.soap_calls.proofs.Replied.{held_answers, none_answers}
 use Rattle.soap_calls.proofs.answering.read_answer.Goals as goal

@@ -1,7 +1,7 @@
 use Rattle.std.proofs.Common.{None, Some}
-use Rattle.only_children.specs.Only.{only_element}
-use Rattle.only_children.proofs.One.{at_found}
-use Rattle.only_children.proofs.Answered.{only_some, only_none}
+use Rattle.document_tags.specs.Only.{only_element}
+use Rattle.document_tags.proofs.OnlyOne.{at_found}
+use Rattle.document_tags.proofs.OnlyAnswer.{only_some, only_none}
 use Rattle.soap_calls.specs.Replies.{IsValue}
 use Rattle.soap_calls.proofs.Replied.{no_sole, bad_value, returns_value}
 use Rattle.soap_calls.proofs.answering.read_return.Goals as goal

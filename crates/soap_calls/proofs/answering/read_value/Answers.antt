@@ -1,7 +1,7 @@
 use Rattle.std.proofs.Common.{◌∙◌, sym, subst, ◌++◌}
 use Rattle.std.specs.Prelude.{codes}
 use Rattle.soap_calls.specs.Replies.{MayReturn}
-use Rattle.only_children.proofs.Answered.{refused}
+use Rattle.document_tags.proofs.OnlyAnswer.{refused}
 use Rattle.soap_calls.proofs.Replied.{called, not_called, not_plain, same_plain}
 use Rattle.soap_calls.proofs.answering.read_value.Goals as goal
 

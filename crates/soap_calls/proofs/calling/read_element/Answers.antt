@@ -1,5 +1,6 @@
-use Rattle.std.proofs.Common.{◌≡◌, ◌∙◌, List, ℕ, inr, ap, sym, take}
-use Rattle.only_children.proofs.Answered.{only_some, only_none}
+use Rattle.std.proofs.Common.{◌≡◌, ◌∙◌, inr, ap, sym}
+use Rattle.document_tags.specs.Faults.{told_name}
+use Rattle.document_tags.proofs.OnlyAnswer.{only_some, only_none}
 use Rattle.soap_calls.specs.Names.{kind_text}
 use Rattle.soap_calls.proofs.Called.{parts_refused}
 use Rattle.soap_calls.proofs.calling.read_element.Goals as goal
@@ -7,7 +8,7 @@ use Rattle.soap_calls.proofs.calling.read_element.Goals as goal
 pub returns-in_default-clause-err : goal.returns-in_default-clause-err
 returns-in_default-clause-err c = λ e stands. inr (
   λ k named. only_none (λ kind. c.name.result.now ≡ kind_text kind) c.kind_named.result c.in_default.is c.kind_named.ensures k (c.name.ensures e stands ∙ named),
-  c.in_ok-name.ensures ∙ ap (λ (n : List ℕ). take 64 n) (c.name-in_default.ensures e stands),
+  c.in_ok-name.ensures ∙ ap told_name (c.name-in_default.ensures e stands),
 )
 
 pub returns-in-Ok-clause-ok : goal.returns-in-Ok-clause-ok

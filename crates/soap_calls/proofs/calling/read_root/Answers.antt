@@ -1,5 +1,5 @@
 use Rattle.std.proofs.Common.{inl, inr, None, Some, refl}
-use Rattle.only_children.proofs.One.{at_found}
+use Rattle.document_tags.proofs.OnlyOne.{at_found}
 use Rattle.soap_calls.specs.Envelope.{held}
 use Rattle.soap_calls.proofs.Enveloped.{holds_none}
 use Rattle.soap_calls.proofs.Called.{held_called, held_refused}

@@ -1,7 +1,7 @@
 use Rattle.std.proofs.Common.{None, Some}
 use Rattle.std.specs.Prelude.{codes}
-use Rattle.only_children.specs.Only.{only_child}
-use Rattle.only_children.proofs.One.{at_found}
+use Rattle.document_tags.specs.Only.{only_child}
+use Rattle.document_tags.proofs.OnlyOne.{at_found}
 use Rattle.soap_calls.proofs.Enveloped.{no_envelope, in_envelope, no_body, in_body}
 use Rattle.soap_calls.proofs.envelope.held.Goals as goal
 

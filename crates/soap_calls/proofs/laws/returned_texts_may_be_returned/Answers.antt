@@ -1,7 +1,7 @@
 use Rattle.std.proofs.Common.{List, ℕ, Option, None, Some}
 use Rattle.std.specs.Prelude.{IsSomeAnd}
 use Rattle.tree_grammar.specs.Elements.{Element}
-use Rattle.only_children.specs.Only.{only_element}
+use Rattle.document_tags.specs.Only.{only_element}
 use Rattle.soap_calls.specs.declared.fault.Answer.TheVariants.{Return}
 use Rattle.soap_calls.specs.Envelope.{held}
 use Rattle.soap_calls.specs.Replies.{MayReturn, IsValue, IsAnswer}

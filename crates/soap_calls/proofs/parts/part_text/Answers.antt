@@ -1,6 +1,6 @@
 use Rattle.std.proofs.Common.{[]}
 use Rattle.document_tags.specs.Elements.{children_named}
-use Rattle.only_children.proofs.One.{in_slice, none_yet}
+use Rattle.document_tags.proofs.OnlyOne.{in_slice, none_yet}
 use Rattle.soap_calls.proofs.Parted.{not_had, had}
 use Rattle.soap_calls.proofs.parts.part_text.Goals as goal
 

@@ -1,5 +1,0 @@
-use Rattle.cert_checker.proofs.Apart.{accepted_apart}
-use Rattle.cert_checker.proofs.laws.accepted_is_not_refused.Goals as goal
-
-pub returns : goal.returns
-returns c = accepted_apart c.instances_are_one.ensures c.reports_are_one.ensures

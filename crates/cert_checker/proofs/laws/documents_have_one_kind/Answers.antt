@@ -1,5 +1,0 @@
-use Rattle.cert_checker.proofs.Accepted.{one_kind}
-use Rattle.cert_checker.proofs.laws.documents_have_one_kind.Goals as goal
-
-pub returns : goal.returns
-returns c = one_kind c.instances_are_one.ensures c.reports_are_one.ensures

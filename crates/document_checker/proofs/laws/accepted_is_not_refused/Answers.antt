@@ -1,0 +1,5 @@
+use Rattle.document_checker.proofs.Apart.{accepted_apart}
+use Rattle.document_checker.proofs.laws.accepted_is_not_refused.Goals as goal
+
+pub returns : goal.returns
+returns c = accepted_apart c.instances_are_one.ensures c.reports_are_one.ensures

@@ -1,0 +1,88 @@
+-- What an instance's document and a result document say together.
+use Rattle.std.specs.Prelude.{◌≡◌, ◌⊎◌, ℕ, Option, None, Some, List}
+use Rattle.evidence.specs.Instance as Of
+use Rattle.evidence.specs.Claim.{Accepts}
+use Rattle.instance.specs.Parts.{Parts}
+use Rattle.instance.specs.Program.{program}
+use Rattle.certificate.specs.declared.claims.Claim.{Claim}
+use Rattle.certificate.specs.declared.claims.Claim.TheVariants as claims
+use Rattle.certificate.specs.Means as Means
+use Rattle.osil_grammar.specs.Reading.{IsInstanceText}
+use Rattle.osil_grammar.specs.Reading as instances
+use Rattle.osil_grammar.specs.declared.fault.OsilFault.{OsilFault}
+use Rattle.osil_grammar.specs.declared.fault.OsilFault.TheVariants as instance_faults
+use Rattle.osrl_grammar.specs.Reading.{IsReportText}
+use Rattle.osrl_grammar.specs.Reading as results
+use Rattle.osrl_grammar.specs.declared.report.Report.{Report}
+use Rattle.osrl_grammar.specs.declared.fault.OsrlFault.{OsrlFault}
+use Rattle.osrl_grammar.specs.declared.fault.OsrlFault.TheVariants as result_faults
+use Rattle.document_checker.specs.declared.documents.Kind.{Kind}
+use Rattle.document_checker.specs.declared.documents.Kind.TheVariants.{Optimal, Infeasible, Unbounded, BestSoFar}
+use Rattle.document_checker.specs.declared.fault.CheckFault.{CheckFault}
+use Rattle.document_checker.specs.declared.fault.CheckFault.TheVariants as faults
+use Rattle.cert_checker.specs.declared.refused.Refused.{Refused}
+use Rattle.cert_checker.specs.declared.refused.Refused.TheVariants.{NoClaim}
+use Rattle.cert_checker.specs.Refusals.{IsRefused}
+
+-- what a claim says; nothing where its maker wasn't sure
+abbrev pub kind : Claim → Option Kind
+kind (claims.Optimal x v ns) = Some Optimal
+kind (claims.Infeasible ns) = Some Infeasible
+kind (claims.Unbounded x v r) = Some Unbounded
+kind (claims.BestSoFar x v c) = Some BestSoFar
+kind (claims.Unsure c) = None
+
+-- the report has a claim of this kind that is accepted of the instance
+pub record ReportAccepts (p : Parts) (report : Report) (k : Kind) : Type 0 where
+  pub claim : Claim
+  pub stands : report.claim ≡ Some claim
+  pub says : kind claim ≡ Some k
+  pub accepted : Accepts (program p) (Means.claim claim)
+
+-- what a claim that stands or doesn't is refused for
+abbrev pub ClaimRefuses : Of.Instance → Option Claim → CheckFault → Type 0
+ClaimRefuses I None f = f ≡ faults.Claim NoClaim
+ClaimRefuses I (Some c) f = (r : Refused) × IsRefused I (Means.claim c) r × (f ≡ faults.Claim r)
+
+abbrev pub ReportRefuses : Parts → Report → CheckFault → Type 0
+ReportRefuses p report f = ClaimRefuses (program p) report.claim f
+
+-- the bytes are no instance's document, for this reason; want of memory is none
+pub record NoInstance (osil : List ℕ) (f : CheckFault) : Type 0 where
+  pub fault : OsilFault
+  pub is : f ≡ faults.Instance fault
+  pub told : fault ≡ instance_faults.Memory → ⊥
+  pub fails : instances.DecodeFails osil fault
+
+-- the bytes are no result document, for this reason; want of memory is none
+pub record NoReport (osrl : List ℕ) (f : CheckFault) : Type 0 where
+  pub fault : OsrlFault
+  pub is : f ≡ faults.Result fault
+  pub told : fault ≡ result_faults.Memory → ⊥
+  pub fails : results.DecodeFails osrl fault
+
+-- the documents are those of an instance and of a report whose claim, of this kind, is accepted of the instance
+pub record IsAcceptedText (osil : List ℕ) (osrl : List ℕ) (k : Kind) : Type 0 where
+  pub parts : Parts
+  pub report : Report
+  pub instance_text : IsInstanceText osil parts
+  pub report_text : IsReportText osrl report
+  pub accepts : ReportAccepts parts report k
+
+-- the first document is an instance's, and the second is no result document
+pub record ResultRefuses (osil : List ℕ) (osrl : List ℕ) (f : CheckFault) : Type 0 where
+  pub parts : Parts
+  pub instance_text : IsInstanceText osil parts
+  pub no_report : NoReport osrl f
+
+-- both documents are read, and what the second claims is refused of the instance, or it claims nothing
+pub record CheckRefuses (osil : List ℕ) (osrl : List ℕ) (f : CheckFault) : Type 0 where
+  pub parts : Parts
+  pub report : Report
+  pub instance_text : IsInstanceText osil parts
+  pub report_text : IsReportText osrl report
+  pub refuses : ReportRefuses parts report f
+
+-- why two documents aren't accepted: of the reasons the first in this order, or there was no memory to find it
+abbrev pub DocsRefuse : List ℕ → List ℕ → CheckFault → Type 0
+DocsRefuse osil osrl f = NoInstance osil f ⊎ ResultRefuses osil osrl f ⊎ CheckRefuses osil osrl f ⊎ (f ≡ faults.Memory)

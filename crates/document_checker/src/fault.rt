@@ -1,0 +1,30 @@
+//! Why what two documents say together isn't accepted.
+
+use cert_checker::Refused;
+use osil_grammar::OsilFault;
+use osrl_grammar::OsrlFault;
+use std::alloc::AllocError;
+
+/// Why two documents aren't accepted.
+#[derive(Debug, Drop)]
+pub enum CheckFault {
+    /// The instance's document is refused.
+    Instance(OsilFault),
+    /// The result document is refused.
+    Result(OsrlFault),
+    /// What the result document claims is refused of the instance, or it claims nothing.
+    Claim(Refused),
+    /// There was no memory.
+    Memory,
+}
+
+impl From<AllocError> for CheckFault {
+    ghost from_gives = { λ _ f. f ≡ Memory };
+
+    ghost use Rattle.std.specs.Prelude.{◌≡◌};
+    ghost use Rattle.document_checker.specs.declared.fault.CheckFault.TheVariants.{Memory};
+
+    fn from(_e: AllocError) -> CheckFault {
+        CheckFault::Memory
+    }
+}

@@ -1,4 +1,0 @@
-pub mod One
-pub mod Left
-pub mod Answered
-pub mod Gathered
