@@ -7,17 +7,19 @@
 //! [`DocumentCases`] answers cases for documents of a kind, which are read and written.
 //!
 //! [`try_file`] has each case of a file answered, writes a line for each whose answer is another, and counts them all.
-//! [`Tables`] are the files of a program, which says last how many cases they had. The other functions are what the
+//! [`gather`] and [`compare`] go through a table whose cases are answered together. [`Tables`] are the files of a program, which says last how many cases they had. The other functions are what the
 //! answers of many tables need.
 #![tactic(auto)]
 
 mod documents;
 mod escapes;
+mod gathered;
 mod shared;
 mod table;
 mod tables;
 
 pub use documents::{DocumentCases, Documents};
+pub use gathered::{compare, gather};
 pub use shared::{bytes_of, count_left, number_of, repeated};
 pub use table::{Answers, try_file, try_table};
 pub use tables::Tables;

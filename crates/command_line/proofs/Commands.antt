@@ -17,8 +17,8 @@ use Rattle.clap.specs.declared.error.kind.ErrorKind.TheVariants.{MissingRequired
 use Rattle.clap.proofs.FaultLemmas.{stopped_fault}
 use Rattle.clap.proofs.OnLiterals.{clap_on_literals}
 use Rattle.clap.proofs.WalkLemmas.{both, walk_stopped}
-use Rattle.command_line.specs.Calls.{AreNew, Give, Given, IsCallOf, given_in, has_name}
-use Rattle.command_line.specs.Calls as calls
+use Rattle.command_line.specs.Giving.{AreNew, Give, Given, AreWordsOf, given_in, has_name}
+use Rattle.command_line.specs.Giving as giving
 use Rattle.command_line.specs.Forms.{Form, forms, program}
 use Rattle.command_line.specs.Words.{Command, asked_by, asked_with, asks}
 use Rattle.command_line.proofs.Texts.{is_false, or_true, true_or_false}
@@ -340,15 +340,15 @@ zip_given (name ∷ names) (value ∷ values) before same = (
 )
 
 all_given : (named needed words : List Text) (given before : Given) → Give named needed words given → AreGiven (before ++ given) needed
-all_given named _ _ _ before calls.ends = tt
-all_given named _ _ _ before (calls.dashes needed values same) = zip_given needed values before same
-all_given named _ _ _ before (calls.value name word needed words given plain rest) = (
+all_given named _ _ _ before giving.ends = tt
+all_given named _ _ _ before (giving.dashes needed values same) = zip_given needed values before same
+all_given named _ _ _ before (giving.value name word needed words given plain rest) = (
   one_given before (name, word) given,
   subst (λ (g : Given). AreGiven g needed) (append_assoc before ((name, word) ∷ []) given) (all_given named needed words given (before ++ (name, word) ∷ []) rest),
 )
-all_given named _ _ _ before (calls.next name word needed words given has plain rest) =
+all_given named _ _ _ before (giving.next name word needed words given has plain rest) =
     subst (λ (g : Given). AreGiven g needed) (append_assoc before ((name, word) ∷ []) given) (all_given named needed words given (before ++ (name, word) ∷ []) rest)
-all_given named _ _ _ before (calls.joined name text needed words given has rest) =
+all_given named _ _ _ before (giving.joined name text needed words given has rest) =
     subst (λ (g : Given). AreGiven g needed) (append_assoc before ((name, text) ∷ []) given) (all_given named needed words given (before ++ (name, text) ∷ []) rest)
 
 none_refused : (faults : Kinds) (found : Option (Text × List Row)) (it : Command) → asked_with faults found ≡ Some it → faults ≡ []
@@ -376,7 +376,7 @@ module _ (f : Form) (has : HasCommand f) (name : Text) (words : List Text) where
 abbrev no_form : Form
 no_form = record { name = []; needed = []; named = [] }
 
-pub call_asks : (words : List Text) (it : Command) → IsCallOf it words → asks words ≡ Some it
+pub call_asks : (words : List Text) (it : Command) → AreWordsOf it words → asks words ≡ Some it
 call_asks words it call =
     let k = call.among.0 in
     let is : get_or forms k no_form ≡ call.form = get_or_default forms k no_form call.among.1 call.among.2 ∙ call.among.3 ∙ call.among.4 in
@@ -390,7 +390,7 @@ name_asked : (name : Text) → asks_of whole (name ∷ []) ≡ None
 unfolding clap_on_literals
 name_asked name = refl
 
-pub asks_call : (words : List Text) (it : Command) → asks words ≡ Some it → IsCallOf it words
+pub asks_call : (words : List Text) (it : Command) → asks words ≡ Some it → AreWordsOf it words
 unfolding clap_on_literals
 asks_call [] it asked = absurd (none-some it (sym nothing_asked ∙ sym (asks_is []) ∙ asked))
 asks_call (name ∷ []) it asked = absurd (none-some it (sym (name_asked name) ∙ sym (asks_is (name ∷ [])) ∙ asked))

@@ -1,6 +1,6 @@
-pub mod Told
+pub mod Forms
 pub mod Numbers
-pub mod Called
+pub mod Asks
 pub mod Texts
 pub mod Rows
 pub mod Flags

@@ -9,10 +9,11 @@ use Rattle.clap.specs.Kinds.{Kinds}
 use Rattle.clap.specs.ValueTests.{is_unsigned_in}
 use Rattle.clap.specs.declared.builder.value_parser.ValueParser.TheVariants as parsers
 use Rattle.clap.proofs.ValueTestLemmas.{accepts-Accepts}
-use Rattle.soap_calls.specs.declared.call.CallKind.{CallKind}
+use Rattle.six_calls.specs.declared.call.CallKind.{CallKind}
+use Rattle.six_calls.specs.Names.{kind_named}
 use Rattle.command_line.specs.Forms.{program}
 use Rattle.command_line.specs.Numbers.{number_in, number_or}
-use Rattle.command_line.specs.Words.{Command, Said, Session, Check, Solve, Generate, Call, Serve, IsWithin, asked_by, asked_with, asks, call_of, check_of, found_in, generate_of, kind_named, port_of, serve_of, solve_of}
+use Rattle.command_line.specs.Words.{Command, Said, Session, Check, Solve, Generate, Call, Serve, IsWithin, asked_by, asked_with, asks, call_of, check_of, found_in, generate_of, port_of, serve_of, solve_of}
 
 number_within : (least most : ℕ) (word : Text) (n : ℕ) → number_in least most word ≡ Some n → (least ≤ n) × (n ≤ most)
 number_within least most word n is = go (is_unsigned_in least most word) refl is

@@ -7,7 +7,7 @@ use Rattle.clap.specs.Kinds.{or_else}
 use Rattle.clap.specs.Walk.{Held, Row, Rule, Text, has_row, settled, used, used_by_id}
 use Rattle.clap.specs.Faults.{settle_fault, use_fault}
 use Rattle.clap.specs.declared.error.kind.ErrorKind.TheVariants.{ArgumentConflict}
-use Rattle.command_line.specs.Calls.{AreNew, Given, given_in, has_name}
+use Rattle.command_line.specs.Giving.{AreNew, Given, given_in, has_name}
 use Rattle.command_line.specs.Forms.{Form}
 use Rattle.command_line.proofs.Texts.{true_or_false}
 use Rattle.command_line.proofs.Flags.{some_fault}

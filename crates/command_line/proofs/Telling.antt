@@ -8,8 +8,8 @@ use Rattle.std.proofs.lemmas.List.{append-nil}
 use Rattle.std.proofs.lemmas.Option.{none-some}
 use Rattle.clap.specs.Walk.{Held, Rule, Text, Waiting, Walk, arg_by_long, has_long, idle, option, positional, settled, walked}
 use Rattle.clap.specs.Faults.{long_fault, option_fault, other_fault, settle_fault, stray_fault, turn_fault, use_fault, walk_fault}
-use Rattle.command_line.specs.Calls.{AreNew, Give, Given, ends, given_in, has_name, is_plain}
-use Rattle.command_line.specs.Calls as calls
+use Rattle.command_line.specs.Giving.{AreNew, Give, Given, ends, given_in, has_name, is_plain}
+use Rattle.command_line.specs.Giving as giving
 use Rattle.command_line.specs.Forms.{Form}
 use Rattle.command_line.proofs.Texts.{true_or_false}
 use Rattle.command_line.proofs.Flags.{IsLong, Tells, first_none, help_flag, is_dashes, is_long, is_value, next_none, some_fault, tells}
@@ -206,7 +206,7 @@ module _ (f : Form) (form : IsForm f) (most : ℕ) (again : IsSaid f form most) 
       let new = settle_is_new f past last own (sym (place_turn f count past last name word needed needs own plain) ∙ turn) in
       let rest = again words needed within (count + 1) (past ++ last_of last) (Some (name, word)) (needs_rest f count name needed needs) (own_needed f form count name needed needs)
       (lacks_rest f (past ++ last_of last) name word needed lacks) (ended_past f form _ _ word words (place_walked f count past last name word needed needs own plain new) ended) in
-      record { given = (name, word) ∷ rest.given; give = calls.value name word needed words rest.given plain rest.give; new = last_new f past last _ new rest.new }
+      record { given = (name, word) ∷ rest.given; give = giving.value name word needed words rest.given plain rest.give; new = last_new f past last _ new rest.new }
 
   said_name : (needed : List Text) → Needs f count needed → Lacks f (past ++ last_of last) needed → (name : Text) (text : Option Text) → has_name f.named name ≡ true → IsLong word name text
       → option_fault (rules_of f) false (option_rule name) text (held past last) ≡ [] → Said f form needed (word ∷ words) past last
@@ -219,7 +219,7 @@ module _ (f : Form) (form : IsForm f) (most : ℕ) (again : IsSaid f form most) 
         given = (name, next.word) ∷ rest.given;
         give = subst (λ (t : Text). Give f.named needed (t ∷ words) ((name, next.word) ∷ rest.given)) (sym long.is)
             (subst (λ (more : List Text). Give f.named needed ((codes "--" ++ name) ∷ more) ((name, next.word) ∷ rest.given)) (sym next.are)
-            (calls.next name next.word needed next.rest rest.given has next.plain rest.give));
+            (giving.next name next.word needed next.rest rest.given has next.plain rest.give));
         new = last_new f past last _ new rest.new;
       }
   said_name needed needs lacks name (Some text) has long none =
@@ -231,7 +231,7 @@ module _ (f : Form) (form : IsForm f) (most : ℕ) (again : IsSaid f form most) 
       (ended_past f form _ _ word words (joined_walked f count past last word name has own text long new free) ended) in
       record {
         given = (name, text) ∷ rest.given;
-        give = subst (λ (t : Text). Give f.named needed (t ∷ words) ((name, text) ∷ rest.given)) (sym long.is) (calls.joined name text needed words rest.given has rest.give);
+        give = subst (λ (t : Text). Give f.named needed (t ∷ words) ((name, text) ∷ rest.given)) (sym long.is) (giving.joined name text needed words rest.given has rest.give);
         new = last_new f past last _ new (free, rest.new);
       }
 
@@ -240,7 +240,7 @@ module _ (f : Form) (form : IsForm f) (most : ℕ) (again : IsSaid f form most) 
   said_word needed needs lacks (is_dashes is) =
       let behind_is = ended_past f form _ _ word words (ap (walked (rules_of f) [] (at count (held past last) idle false)) is ∙ dashes_walked f count (held past last) idle) ended in
       let all = behind f form words needed count past last idle needs own lacks behind_is in
-      record { given = zip needed words; give = subst (λ (t : Text). Give f.named needed (t ∷ words) (zip needed words)) (sym is) (calls.dashes needed words all.0); new = all.1 }
+      record { given = zip needed words; give = subst (λ (t : Text). Give f.named needed (t ∷ words) (zip needed words)) (sym is) (giving.dashes needed words all.0); new = all.1 }
   said_word needed needs lacks (is_long name text long none) =
       let named = option_named f form name text (held past last) none in
       said_name needed needs lacks name text named.0 long named.1

@@ -13,8 +13,8 @@ use Rattle.std.proofs.lemmas.Option.{none-some, same_Some}
 use Rattle.std.proofs.lemmas.Slice.Eq.{bytes_eq-Decides}
 use Rattle.std.specs.Str.{bytes_eq}
 use Rattle.command_line.proofs.Texts.{or_false, or_true}
-use Rattle.command_line.specs.Calls.{AreNew, Give, Given, ends, given_in, has_name, is_plain}
-use Rattle.command_line.specs.Calls as calls
+use Rattle.command_line.specs.Giving.{AreNew, Give, Given, ends, given_in, has_name, is_plain}
+use Rattle.command_line.specs.Giving as giving
 use Rattle.command_line.specs.Forms.{Form}
 use Rattle.command_line.proofs.Flags.{IsLong, IsName, bare_long, goes_to_place, joined_long, long_faults, long_meets, no_flag, passes}
 use Rattle.command_line.proofs.Rows.{rows}
@@ -268,14 +268,14 @@ module _ (f : Form) (form : IsForm f) where
       → Gives f (at count (held past last) idle false) words (past ++ last_of last ++ given)
   gives _ _ _ ends count past last needs own new =
       subst (Gives f (at count (held past last) idle false) []) (sym (append-nil (past ++ last_of last))) (gives_all f count past last idle false own (new_last f past last [] new).0)
-  gives _ _ _ (calls.dashes needed values same) count past last needs own new =
+  gives _ _ _ (giving.dashes needed values same) count past last needs own new =
       gives_more f _ _ (codes "--") values _ (dashes_turn f count (held past last) idle) (dashes_walked f count (held past last) idle) (behind_gives needed values same count past last idle needs own new)
-  gives _ _ _ (calls.value name word needed words given plain rest) count past last needs own new =
+  gives _ _ _ (giving.value name word needed words given plain rest) count past last needs own new =
       let both = new_last f past last ((name, word) ∷ given) new in
       subst (Gives f (at count (held past last) idle false) (word ∷ words)) (pushed_on f (past ++ last_of last) given (name, word))
       (gives_more f _ _ word words _ (place_turn f count past last name word needed needs own plain ∙ settle_passes f past last own both.0) (place_walked f count past last name word needed needs own plain both.0)
       (gives needed words given rest (count + 1) (past ++ last_of last) (Some (name, word)) (needs_rest f count name needed needs) (own_needed count name needed needs) both.1))
-  gives _ _ _ (calls.next name word needed words given has plain rest) count past last needs own new =
+  gives _ _ _ (giving.next name word needed words given has plain rest) count past last needs own new =
       let both = new_last f past last ((name, word) ∷ given) new in
       let long = bare_long name (form.names name has) in
       subst (Gives f (at count (held past last) idle false) ((codes "--" ++ name) ∷ word ∷ words)) (pushed_on f (past ++ last_of last) given (name, word))
@@ -283,7 +283,7 @@ module _ (f : Form) (form : IsForm f) where
       (name_walked f count past last (codes "--" ++ name) name has own long both.0)
       (gives_more f _ _ word words _ (text_turn f count (past ++ last_of last) name word has plain) (text_walked f count (past ++ last_of last) name word has plain)
       (gives needed words given rest count (past ++ last_of last) (Some (name, word)) needs (own_name f name has) both.1)))
-  gives _ _ _ (calls.joined name text needed words given has rest) count past last needs own new =
+  gives _ _ _ (giving.joined name text needed words given has rest) count past last needs own new =
       let both = new_last f past last ((name, text) ∷ given) new in
       let word = codes "--" ++ (name ++ (codes "=" ++ text)) in
       let long = joined_long name text (form.names name has) in

@@ -1,11 +1,10 @@
 -- What the words of a call ask for: what clap makes of them, where it refuses none.
-use Rattle.std.specs.Prelude.{◌≡◌, ◌≤◌, ℕ, Bool, true, false, List, [], ◌∷◌, Option, Some, None, codes, find, option_and_then, option_map, if◌then◌else◌}
+use Rattle.std.specs.Prelude.{◌≡◌, ◌≤◌, ◌||◌, ℕ, Bool, true, false, List, [], ◌∷◌, Option, Some, None, codes, is_some, option_and_then, option_map, if◌then◌else◌}
 use Rattle.std.specs.Str.{bytes_eq}
 use Rattle.clap.specs.Words.{Row, Text, fault_of, first_of, subcommand_of}
 use Rattle.clap.specs.Kinds.{Kinds}
-use Rattle.soap_calls.specs.Names.{kind_text}
-use Rattle.soap_calls.specs.declared.call.CallKind.{CallKind}
-use Rattle.soap_calls.specs.declared.call.CallKind.TheVariants as calls
+use Rattle.six_calls.specs.Names.{kind_named}
+use Rattle.six_calls.specs.declared.call.CallKind.{CallKind}
 use Rattle.command_line.specs.Forms.{program}
 use Rattle.command_line.specs.Numbers.{number_in, number_or}
 use Rattle.command_line.specs.declared.words.Asked.{Asked}
@@ -46,14 +45,6 @@ solve_of said = option_map (λ osil. Solve osil (said (codes "options"))) (said 
 -- one to a thousand variables
 abbrev pub generate_of : Said → Option Command
 generate_of said = option_map Generate (option_and_then (number_in 1 1000) (said (codes "variables")))
-
--- the calls
-abbrev pub kinds : List CallKind
-kinds = calls.Solve ∷ calls.GetJobId ∷ calls.Send ∷ calls.Retrieve ∷ calls.Knock ∷ calls.Kill ∷ []
-
--- the call of this name, if there is one
-abbrev pub kind_named : Text → Option CallKind
-kind_named name = find (λ kind. bytes_eq (kind_text kind) name) kinds
 
 -- a port of TCP (RFC 9293, section 3.1), of which 0 stands for one that the system chooses
 abbrev pub port_of : Said → Option ℕ
@@ -118,13 +109,13 @@ IsWithin (Generate variables) = (1 ≤ variables) × (variables ≤ 1000)
 IsWithin (Call kind host port osil osol ospl) = port ≤ 65535
 IsWithin (Serve host port workers servers connections) = (port ≤ 65535) × (workers ≤ 16) × ((1 ≤ servers) × (servers ≤ 64)) × ((1 ≤ connections) × (connections ≤ 1000000))
 
--- the command names files
+-- the command names files: a call does where one of its parts is in a file
 abbrev pub names_files : Command → Bool
 names_files Session = false
 names_files (Check osil osrl) = true
 names_files (Solve osil options) = true
 names_files (Generate variables) = false
-names_files (Call kind host port osil osol ospl) = true
+names_files (Call kind host port osil osol ospl) = is_some osil || (is_some osol || is_some ospl)
 names_files (Serve host port workers servers connections) = false
 
 -- the command asks for links

@@ -1,11 +1,9 @@
 //! What the words of a call ask for.
-ghost use Rattle.std.specs.Prelude.{◌≡◌, ◌↔◌, ◌≤◌, ℕ, List, Some, IfOk, IfSome, find, map, option_and_then, option_map};
-ghost use Rattle.std.specs.Str.{bytes_eq};
+ghost use Rattle.std.specs.Prelude.{◌≡◌, ◌↔◌, ◌≤◌, ℕ, List, Some, IfOk, IfSome, map, option_and_then, option_map};
 ghost use Rattle.std.specs.String.{string_bytes};
 ghost use Rattle.os_io.specs.Streams.{Sends};
 ghost use Rattle.clap.specs.Words.{first_value, found_of, subcommand_rows_of};
-ghost use Rattle.soap_calls.specs.Names.{kind_text};
-ghost use Rattle.command_line.specs.Calls.{IsCallOf};
+ghost use Rattle.command_line.specs.Giving.{AreWordsOf};
 ghost use Rattle.command_line.specs.Numbers.{number_in, number_or};
 ghost use Rattle.command_line.specs.Words as says;
 
@@ -13,7 +11,7 @@ use crate::program::program;
 use clap::ArgMatches;
 use clap::error::ErrorKind;
 use os_io::{Failed, Memory, Sink, send_all};
-use soap_calls::CallKind;
+use six_calls::CallKind;
 use std::alloc::{AllocError, Global};
 
 /// How the program is called.
@@ -96,33 +94,6 @@ fn port_of(matches: &ArgMatches) -> Option<u16>
     Some(port as u16)
 }
 
-/// The first of these calls that has this name.
-fn kind_among(kinds: &[CallKind], name: &str) -> Option<CallKind>
-    ensures { result ≡ find (λ kind. bytes_eq (kind_text kind) name.now) kinds.now }
-{
-    for kind in kinds {
-        if kind.name() == name.as_bytes() {
-            return Some(*kind);
-        }
-    }
-    None
-}
-
-/// The call of this name.
-fn kind_named(name: &str) -> Option<CallKind>
-    ensures { result ≡ says.kind_named name.now }
-{
-    let kinds = [
-        CallKind::Solve,
-        CallKind::GetJobId,
-        CallKind::Send,
-        CallKind::Retrieve,
-        CallKind::Knock,
-        CallKind::Kill,
-    ];
-    kind_among(&kinds, name)
-}
-
 /// The files that a check's words name.
 fn check_of<'w>(matches: &ArgMatches<'w>) -> Option<Asked<'w>>
     ensures { option_map says.meant result ≡ says.check_of (first_value (found_of matches.now)) }
@@ -153,7 +124,7 @@ fn generate_of<'w>(matches: &ArgMatches<'w>) -> Option<Asked<'w>>
 fn call_of<'w>(matches: &ArgMatches<'w>) -> Option<Asked<'w>>
     ensures { option_map says.meant result ≡ says.call_of (first_value (found_of matches.now)) }
 {
-    let kind = kind_named(matches.get_str("name")?)?;
+    let kind = CallKind::named(matches.get_str("name")?.as_bytes())?;
     let host = matches.get_str("host")?;
     let port = port_of(matches)?;
     let osil = matches.get_str("osil");
@@ -233,7 +204,7 @@ pub fn read<'w>(alloc: Global, words: &'w [String]) -> Result<Option<Asked<'w>>,
 /// Law: the words of a command are a name, the command's, and words that stand for what it needs and may be given. A word
 /// stands for itself where it is no flag; behind one `--`, which stands for nothing, each does.
 pub fn commands_have_their_words()
-    ensures { (words : List (List ℕ)) (it : says.Command) → (says.asks words ≡ Some it) ↔ IsCallOf it words }
+    ensures { (words : List (List ℕ)) (it : says.Command) → (says.asks words ≡ Some it) ↔ AreWordsOf it words }
 {}
 
 /// Law: the numbers of what words ask for are within their ends.

@@ -6,10 +6,10 @@ use Rattle.os_server.specs.declared.serve.Served.TheVariants.{Ended, CutShort, R
 use Rattle.serving.specs.declared.ending.Ending.{Ending}
 use Rattle.serving.specs.declared.ending.Ending.TheVariants as endings
 use Rattle.os_app.specs.Statuses.{serve_status}
-use Rattle.os_app.specs.Runs.{IsHosted, hosted}
+use Rattle.serving.specs.Serving as serving
 use Rattle.os_app.specs.Statuses.{session_status}
 use Rattle.command_line.specs.Words.{Command, Session, Check, Solve, Generate, Call, Serve, asks, asks_for_links, names_files, AsksForNoLink, IsCheck, IsNoCommand, NamesNoFile}
-use Rattle.os_app.specs.Runs.{Run, IsServed, IsUnheard, RunEnds, served, unheard, AllFilesRead, Checks, Runs}
+use Rattle.os_app.specs.Runs.{Run, ServesSession, IsUnheard, LeavesInput, RunEnds, served, hosted, unheard, AllFilesRead, Checks, Runs}
 use Rattle.os_app.specs.Runs as runs
 
 -- what is true isn't false
@@ -17,7 +17,7 @@ abbrev IsTrue : Bool → Type 0
 IsTrue true = Unit {0}
 IsTrue false = ⊥
 
-true_or_false : true ≡ false → ⊥
+pub true_or_false : true ≡ false → ⊥
 true_or_false is = subst IsTrue is tt
 
 -- words that ask for something aren't words that ask for nothing
@@ -78,11 +78,17 @@ serve_never endings.ReportFault two = absurd (omega (arith, two))
 
 -- ---- the commands over links
 
-pub session_runs : (run : Run) (how : Served) (status : ℕ) → status ≡ session_status how → IsServed how run → AllFilesRead run → Runs status run
+pub session_runs : (run : Run) (how : Served) (status : ℕ) → status ≡ session_status how → ServesSession how run → AllFilesRead run → Runs status run
 session_runs run how status is one files = command_runs status run Session one.session (served how is one) (λ two. session_never how (sym is ∙ two)) (λ none. files) (no_check status run Session one.session tt)
 
-pub serve_runs : (run : Run) (how : Ending) (status : ℕ) → status ≡ serve_status how → IsHosted how run → Runs status run
-serve_runs run how status is one = command_runs status run _ one.asked (hosted how is one) (λ two. serve_never how (sym is ∙ two)) (λ none. one.all_files_read) (no_check status run _ one.asked tt)
+pub serve_runs : (run : Run) (how : Ending) (status : ℕ) (host : List ℕ) (port workers servers connections : ℕ) → status ≡ serve_status how → asks run.words ≡ Some (Serve host port workers servers connections)
+    → serving.IsServerRun how host port workers servers connections run.net run.net_after run.output run.output_after → LeavesInput run → AllFilesRead run → Runs status run
+serve_runs run how status host port workers servers connections is asked serves input files =
+    command_runs status run (Serve host port workers servers connections) asked
+    (hosted how is (record { host = host; port = port; workers = workers; servers = servers; connections = connections; asked = asked; serves = serves; input = input; all_files_read = files }))
+    (λ two. serve_never how (sym is ∙ two))
+    (λ none. files)
+    (no_check status run _ asked tt)
 
 -- ---- no command, and none that is heard
 

@@ -3,7 +3,7 @@ pub mod Judging
 pub mod Deciding
 pub mod Running
 pub mod Telling
-pub mod Checked
-pub mod Solved
-pub mod Generated
-pub mod Called
+pub mod Checks
+pub mod Solves
+pub mod Summaries
+pub mod Calls

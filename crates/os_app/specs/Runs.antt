@@ -1,19 +1,19 @@
 -- How a run ends, by its words and by what came and went.
 use Rattle.std.specs.Prelude.{◌≡◌, ◌↔◌, ℕ, ◌⊎◌, true, Option, Some, List, [], ◌∷◌, ◌++◌, Ok, Err, option_map}
 use Rattle.os_io.specs.Files.{Held, Holds, NoFile}
+use Rattle.os_io.specs.Links.{NetTells}
 use Rattle.os_io.specs.Streams.{Tells, HasRisen}
 use Rattle.os_server.specs.declared.serve.Served.{Served}
 use Rattle.os_server.specs.Talk.{both_ends}
 use Rattle.sessions.specs.Sessions as sessions
-use Rattle.soap_calls.specs.declared.call.CallKind.{CallKind}
+use Rattle.six_calls.specs.declared.call.CallKind.{CallKind}
 use Rattle.document_checker.specs.declared.documents.Kind.{Kind}
 use Rattle.document_checker.specs.declared.fault.CheckFault.{CheckFault as Refused}
 use Rattle.document_checker.specs.declared.fault.CheckFault.TheVariants as reasons
 use Rattle.document_checker.specs.Documents.{IsAcceptedText, DocsRefuse}
 use Rattle.document_checker.specs.Texts.{IsAnswerText}
-use Rattle.command_answers.specs.Net.{NetTells}
 use Rattle.command_answers.specs.Sent.{IsSent, BreaksOff}
-use Rattle.calling.specs.Runs.{CallRun, CallEnds}
+use Rattle.os_client.specs.Runs.{CallRun, CallEnds}
 use Rattle.serving.specs.declared.ending.Ending.{Ending}
 use Rattle.serving.specs.Serving as serving
 use Rattle.os_app.specs.Checks.{IsAnswerLine, IsAnswerAbout}
@@ -41,8 +41,12 @@ abbrev pub AllFilesRead : Run → Type 0
 AllFilesRead run = run.file_faults_after ≡ run.file_faults
 
 -- nothing is told anew of the input: nothing was taken, and no read failed
+abbrev pub LeavesInput : Run → Type 0
+LeavesInput run = run.input_after ≡ run.input
+
+-- nothing is told anew of the input or of the net: nothing was taken, no link came or was given back, and nothing of them failed
 abbrev pub IsUntaken : Run → Type 0
-IsUntaken run = run.input_after ≡ run.input
+IsUntaken run = LeavesInput run × (run.net_after ≡ run.net)
 
 -- the text that a command asks for, with its status, by what names hold: a check's line, the result document of a job, or the line
 -- about a generated instance. The others ask for no text that is made beforehand
@@ -55,7 +59,7 @@ IsDue held (Call kind host port osil osol ospl) status text = ⊥
 IsDue held (Serve host port workers servers connections) status text = ⊥
 
 -- the text that the words ask for
-pub record Asks (run : Run) (status : ℕ) (text : List ℕ) : Type 0 where
+pub record AsksForText (run : Run) (status : ℕ) (text : List ℕ) : Type 0 where
   pub command : Command
   pub asked : asks run.words ≡ Some command
   pub due : IsDue run.held command status text
@@ -65,14 +69,14 @@ abbrev pub NamesFiles : List (List ℕ) → Type 0
 NamesFiles words = (it : Command) × (asks words ≡ Some it) × (names_files it ≡ true)
 
 -- a session was served, which ended so: over a table of jobs of its own its requests were answered, and each document that was shown is proved
-pub record IsServed (how : Served) (run : Run) : Type 0 where
+pub record ServesSession (how : Served) (run : Run) : Type 0 where
   pub session : IsSession run.words
   pub serves : sessions.IsSession how (both_ends run.input run.output) (both_ends run.input_after run.output_after)
 
 -- the text that was asked for was sent
 pub record IsAnswered (status : ℕ) (run : Run) : Type 0 where
   pub text : List ℕ
-  pub asked : Asks run status text
+  pub asked : AsksForText run status text
   pub sent : IsSent text run.output run.output_after
   pub untaken : IsUntaken run
   pub all_files_read : AllFilesRead run
@@ -83,7 +87,7 @@ pub record IsMisused (run : Run) : Type 0 where
   pub sent : IsSent usage run.output run.output_after
   pub untaken : IsUntaken run
 
--- a file wasn't read, and nothing was taken or written
+-- a file that the words name wasn't read, and nothing was taken or written
 pub record IsFileFault (run : Run) : Type 0 where
   pub named : NamesFiles run.words
   pub failed : HasRisen run.file_faults run.file_faults_after
@@ -98,7 +102,7 @@ pub record IsUsageDue (run : Run) (text : List ℕ) : Type 0 where
 -- what is due to words that ask for a text
 pub record IsAnswerDue (run : Run) (text : List ℕ) : Type 0 where
   pub status : ℕ
-  pub asked : Asks run status text
+  pub asked : AsksForText run status text
   pub all_files_read : AllFilesRead run
 
 -- a write or a flush failed, and a first part was written of what was due
@@ -114,10 +118,12 @@ pub record IsUnheard (run : Run) : Type 0 where
   pub unwritten : run.output_after ≡ run.output
   pub all_files_read : AllFilesRead run
 
--- what a run tells of the call that its words ask for, with the files of these names
-abbrev pub call_run : Run → CallKind → (osil osol ospl : Option (List ℕ)) → CallRun
-call_run run kind osil osol ospl = record {
+-- what a run tells of the call that its words ask for, of this host and port, with the files of these names
+abbrev pub call_run : Run → CallKind → (host : List ℕ) → (port : ℕ) → (osil osol ospl : Option (List ℕ)) → CallRun
+call_run run kind host port osil osol ospl = record {
   kind = kind;
+  host = host;
+  port = port;
   names = record { osil = osil; osol = osol; ospl = ospl };
   held = run.held;
   file_faults = run.file_faults;
@@ -137,8 +143,8 @@ pub record IsCalled (status : ℕ) (run : Run) : Type 0 where
   pub osol : Option (List ℕ)
   pub ospl : Option (List ℕ)
   pub asked : asks run.words ≡ Some (Call kind host port osil osol ospl)
-  pub ends : CallEnds status (call_run run kind osil osol ospl)
-  pub untaken : IsUntaken run
+  pub ends : CallEnds status (call_run run kind host port osil osol ospl)
+  pub input : LeavesInput run
 
 -- links were served, which ended so
 pub record IsHosted (how : Ending) (run : Run) : Type 0 where
@@ -148,13 +154,13 @@ pub record IsHosted (how : Ending) (run : Run) : Type 0 where
   pub servers : ℕ
   pub connections : ℕ
   pub asked : asks run.words ≡ Some (Serve host port workers servers connections)
-  pub serves : serving.IsServed how workers connections run.net run.net_after run.output run.output_after
-  pub untaken : IsUntaken run
+  pub serves : serving.IsServerRun how host port workers servers connections run.net run.net_after run.output run.output_after
+  pub input : LeavesInput run
   pub all_files_read : AllFilesRead run
 
 -- how a run ends, by its status
 pub data RunEnds (status : ℕ) (run : Run) : Type 0 where
-  served : (how : Served) → status ≡ session_status how → IsServed how run → RunEnds status run
+  served : (how : Served) → status ≡ session_status how → ServesSession how run → RunEnds status run
   answered : IsAnswered status run → RunEnds status run
   called : IsCalled status run → RunEnds status run
   hosted : (how : Ending) → status ≡ serve_status how → IsHosted how run → RunEnds status run

@@ -6,7 +6,7 @@ ghost use Rattle.os_app.specs.Statuses.{check_status};
 
 use document_checker::{CheckFault as Refused, Kind, answer_text, check_docs};
 use command_answers::status::{DONE, NEGATIVE};
-use command_answers::{Answer, MOST_BYTES};
+use command_answers::{Answer, MOST_READ};
 use os_io::{FileFault, Files, Memory, Text};
 use std::alloc::Global;
 
@@ -49,8 +49,8 @@ pub(crate) fn answer_about<F: Files>(
     ensures counted { CountsFiles result (F.faults files.old) (F.faults files.new) }
     ensures ok { IfOk result (λ a. IsAnswerAbout (F.held files.old osil.now) (F.held files.old osrl.now) a.status a.text) }
 {
-    let instance = files.read_all(alloc, osil, MOST_BYTES)?;
-    let result = files.read_all(alloc, osrl, MOST_BYTES)?;
+    let instance = files.read_all(alloc, osil, MOST_READ)?;
+    let result = files.read_all(alloc, osrl, MOST_READ)?;
     match answer_to(alloc, instance.as_slice(), result.as_slice()) {
         Ok(answer) => Ok(answer),
         Err(_) => Err(FileFault::Memory),

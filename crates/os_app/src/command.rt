@@ -3,7 +3,6 @@ ghost use Rattle.std.specs.Prelude.{◌≡◌, map, IfOk, OnErr};
 ghost use Rattle.std.specs.Process.{exit_status};
 ghost use Rattle.std.specs.String.{string_bytes};
 ghost use Rattle.os_io.specs.Streams.{SameInput, SameOutput};
-ghost use Rattle.command_answers.specs.Net.{net_tells};
 ghost use Rattle.command_line.specs.Words.{AsksForNoLink, NamesNoFile};
 ghost use Rattle.os_app.specs.Ends.{AnswerEnds, from_memory};
 ghost use Rattle.os_app.specs.Grounds.{AnswersAreOne};
@@ -14,17 +13,16 @@ ghost use Rattle.os_app.specs.Statuses.{session_status};
 use crate::checking::answer_about;
 use crate::generating::generate;
 use crate::solving::solve_files;
-use calling::make_call;
 use document_checker::{accepted_is_not_refused, documents_have_one_answer, documents_have_one_kind};
-use closing::Close;
 use command_answers::status::{
     CUT_SHORT, DONE, MISUSED, NO_LINK, NO_MEMORY, READ_FAULT, WRITE_FAULT,
 };
 use command_answers::{Answer, send_answer};
 use command_line::{Asked, numbers_are_within_their_ends, read, write_usage};
+use os_client::make_call;
 use os_io::{Failed, FileFault, Files, Listener, Memory, Sink, Source};
 use os_server::Served;
-use serving::{Ending, serve};
+use serving::{Ending, Limits, serve};
 use sessions::serve_session;
 use std::alloc::{AllocError, Global};
 use std::process::ExitCode;
@@ -109,8 +107,8 @@ fn documents_are_judged_once()
 /// `unchecked`, a fault, another status of HTTP, or `false`; 2 where the words are no command and the usage was written; 3
 /// where a read of the input, of a file or of the link failed; 4 where a write of the output or of the link did; 5 where there
 /// was no memory; 6 where the listener failed; 7 where the bytes that came are no reply; and 8 where the input ended inside a
-/// request. Where there was no memory to read the words or to make the text that they ask for, nothing is taken and nothing
-/// written.
+/// request. Where there was no memory to read the words or to make the text that they ask for, nothing is taken, nothing
+/// written, and no link is asked for.
 pub fn run<F: Files, I: Source, O: Sink, N: Listener, R: Threads + Wait + Sync>(
     rt: &R,
     alloc: Global,
@@ -121,7 +119,7 @@ pub fn run<F: Files, I: Source, O: Sink, N: Listener, R: Threads + Wait + Sync>(
     net: &mut N,
 ) -> u8
 where
-    N::Conn: Close + Send + Drop,
+    N::Conn: Send + Drop,
     ensures runs { Runs result (record {
       words = map string_bytes words.now;
       held = F.held files.old;
@@ -131,8 +129,8 @@ where
       input_after = I.tells input.new;
       output = O.tells output.old;
       output_after = O.tells output.new;
-      net = net_tells N.coming N.given_back N.faults net.old;
-      net_after = net_tells N.coming N.given_back N.faults net.new;
+      net = N.tells net.old;
+      net_after = N.tells net.new;
     }) }
     ensures output_of_input { SameOutput (I.tells input.old) (I.tells input.new) }
     ensures input_of_output { SameInput (O.tells output.old) (O.tells output.new) }
@@ -156,17 +154,12 @@ where
         Ok(Some(Asked::Call(call))) => make_call(alloc, call, files, output, net),
         Ok(Some(Asked::Serve(to))) => {
             numbers_are_within_their_ends();
-            let ending = serve(
-                rt,
-                alloc,
-                net,
-                output,
-                to.host,
-                to.port,
-                to.workers,
-                to.servers,
-                to.connections,
-            );
+            let limits = Limits {
+                workers: to.workers,
+                servers: to.servers,
+                connections: to.connections,
+            };
+            let ending = serve(rt, alloc, net, output, to.host, to.port, limits);
             serve_status(ending)
         }
         Ok(None) => match write_usage(output) {

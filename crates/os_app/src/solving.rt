@@ -6,7 +6,7 @@ ghost use Rattle.os_app.specs.Solves.{IsDocumentAbout};
 ghost use Rattle.os_app.specs.Statuses.{solve_status};
 
 use command_answers::status::{DONE, NEGATIVE};
-use command_answers::{Answer, MOST_BYTES, read_named};
+use command_answers::{Answer, MOST_READ, read_named};
 use os_io::{FileFault, Files, Memory, Never};
 use solve_run::{Document, answer_job};
 use std::alloc::Global;
@@ -37,7 +37,7 @@ pub(crate) fn solve_files<F: Files>(
     ensures counted { CountsFiles result (F.faults files.old) (F.faults files.new) }
     ensures ok { IfOk result (λ a. IsDocumentAbout (F.held files.old osil.now) (option_map (λ n. F.held files.old n.now) options.entry) a.status a.text) }
 {
-    let instance = files.read_all(alloc, osil, MOST_BYTES)?;
+    let instance = files.read_all(alloc, osil, MOST_READ)?;
     let options = read_named(alloc, files, options)?;
     match solve(alloc, instance.as_slice(), options.as_slice()) {
         Ok(document) => Ok(Answer {

@@ -1,2 +1,5 @@
 pub mod ReadingLemmas
 pub mod CallLemmas
+pub mod Digits
+pub mod Runs
+pub mod ServerAnswers

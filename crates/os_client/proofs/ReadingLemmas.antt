@@ -11,7 +11,7 @@ use Rattle.soap_calls.specs.Replies.{IsReplyText}
 use Rattle.soap_calls.specs.declared.fault.Answer.TheVariants.{Return, Fault}
 use Rattle.os_client.specs.declared.fault.CallFault.{CallFault}
 use Rattle.os_client.specs.declared.fault.CallFault.TheVariants.{ReadFault, WriteFault, Memory, Refused, Http, NoReply}
-use Rattle.os_client.specs.Answers.{status_of, IsAnswered, HasStatus, IsNoReply, Says}
+use Rattle.os_client.specs.Answers.{status_of, SaysAnswer, HasStatus, IsNoReply, Says}
 
 -- bytes are one reply at most
 abbrev pub OneReply : Type 0
@@ -67,13 +67,13 @@ not_said name slice f e (inr (form, none)) = none
 abbrev pub OneAnswer : Type 0
 OneAnswer = (name bytes : List ℕ) (a b : Answer) → IsReplyText name bytes a → IsReplyText name bytes b → a ≡ b
 
-answer_same : OneReply → OneAnswer → (name bytes : List ℕ) (a b : Answer) → IsAnswered name bytes a → IsAnswered name bytes b → a ≡ b
+answer_same : OneReply → OneAnswer → (name bytes : List ℕ) (a b : Answer) → SaysAnswer name bytes a → SaysAnswer name bytes b → a ≡ b
 answer_same once one name bytes a b p q =
     let same = once bytes p.0 q.0 (status_of a) (status_of b) p.1 q.1 in
     one name p.0 a b p.2 (subst (λ (t : List ℕ). IsReplyText name t b) (sym same.1) q.2)
 
 -- no answer has another status than 200 and 500
-status_apart : OneReply → (name bytes : List ℕ) (a : Answer) (status : ℕ) → IsAnswered name bytes a → HasStatus bytes status → ⊥
+status_apart : OneReply → (name bytes : List ℕ) (a : Answer) (status : ℕ) → SaysAnswer name bytes a → HasStatus bytes status → ⊥
 status_apart once name bytes (Return text) status p q = q.2 (sym (once bytes p.0 q.0 200 status p.1 q.1).0)
 status_apart once name bytes (Fault code text) status p q = q.3 (sym (once bytes p.0 q.0 500 status p.1 q.1).0)
 

@@ -13,8 +13,8 @@ status_of (Return text) = 200
 status_of (Fault code text) = 500
 
 -- the bytes are a response that has this answer to a call of this name in its body, with the answer's status
-abbrev pub IsAnswered : List ℕ → List ℕ → Answer → Type 0
-IsAnswered name bytes a = (body : List ℕ) × IsReply bytes (status_of a) body × IsReplyText name body a
+abbrev pub SaysAnswer : List ℕ → List ℕ → Answer → Type 0
+SaysAnswer name bytes a = (body : List ℕ) × IsReply bytes (status_of a) body × IsReplyText name body a
 
 -- the bytes are a response of another status
 abbrev pub HasStatus : List ℕ → ℕ → Type 0
@@ -22,13 +22,13 @@ HasStatus bytes status = (body : List ℕ) × IsReply bytes status body × (stat
 
 -- the bytes are no reply to a call of this name
 pub record IsNoReply (name bytes : List ℕ) : Type 0 where
-  pub unanswered : (a : Answer) → IsAnswered name bytes a → ⊥
+  pub unanswered : (a : Answer) → SaysAnswer name bytes a → ⊥
   pub no_status : (status : ℕ) → HasStatus bytes status → ⊥
 
 -- what the bytes that came say to a call of this name: the text that it returns, or why there is none. Bytes that are no reply are kept
 abbrev pub Says : List ℕ → List ℕ → Result (List ℕ) CallFault → Type 0
-Says name bytes (Ok text) = IsAnswered name bytes (Return text)
-Says name bytes (Err (Refused code text)) = IsAnswered name bytes (Fault code text)
+Says name bytes (Ok text) = SaysAnswer name bytes (Return text)
+Says name bytes (Err (Refused code text)) = SaysAnswer name bytes (Fault code text)
 Says name bytes (Err (Http status)) = HasStatus bytes status
 Says name bytes (Err (NoReply kept)) = (kept ≡ bytes) × IsNoReply name bytes
 Says name bytes (Err ReadFault) = ⊥

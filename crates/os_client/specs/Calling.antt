@@ -4,10 +4,11 @@ use Rattle.os_io.specs.Streams.{Tells, Told, Appends, AppendsPart, Grows, HasRis
 use Rattle.http_link.specs.Outgoing.{request_text}
 use Rattle.http_link.specs.Replies.{Comes, ComesPart, IsReplyBegun, IsReplyPart}
 use Rattle.soap_calls.specs.declared.call.SoapCall.{SoapCall}
-use Rattle.soap_calls.specs.Names.{kind_text, kind_of}
+use Rattle.six_calls.specs.Names.{kind_text}
+use Rattle.soap_calls.specs.Calls.{kind_of}
 use Rattle.soap_calls.specs.Writing.{call_text}
 use Rattle.os_client.specs.declared.fault.CallFault.{CallFault}
-use Rattle.os_client.specs.declared.fault.CallFault.TheVariants.{ReadFault, WriteFault, Memory, Refused, Http, NoReply}
+use Rattle.os_client.specs.declared.fault.CallFault.TheVariants.{ReadFault, WriteFault, Memory}
 use Rattle.os_client.specs.Answers.{Says}
 
 -- the request with this body was written and handed on

@@ -11,7 +11,7 @@ use Rattle.soap_calls.specs.declared.call.SoapCall.TheVariants as calls
 use Rattle.soap_calls.specs.declared.fault.SoapFault.{SoapFault}
 use Rattle.soap_calls.specs.declared.fault.SoapFault.TheVariants as soap
 use Rattle.soap_calls.specs.Calls.{IsCallText}
-use Rattle.soap_calls.specs.Names.{part_text}
+use Rattle.six_calls.specs.Names.{part_text}
 use Rattle.soap_calls.specs.Refusals.{CallFails}
 use Rattle.osol_grammar.specs.declared.options.Options.{Options}
 use Rattle.osol_grammar.specs.declared.fault.OsolFault.{OsolFault}

@@ -3,7 +3,7 @@ use Rattle.std.proofs.Common.{◌≡◌, ℕ, Bool, false, List, [], inl, inr, O
 use Rattle.std.specs.Prelude.{IfOk}
 use Rattle.std.specs.declared.alloc.AllocError.{AllocError}
 use Rattle.http_link.specs.Requests.{IsRequest, IsRequestPart}
-use Rattle.soap_calls.specs.declared.call.CallKind.{CallKind}
+use Rattle.six_calls.specs.declared.call.CallKind.{CallKind}
 use Rattle.job_table.specs.declared.calls.Reply as tables
 use Rattle.job_table.specs.History.{Entry}
 use Rattle.os_server.specs.declared.order.Order.{Order}

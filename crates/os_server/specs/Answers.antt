@@ -25,8 +25,8 @@ use Rattle.ospl_grammar.specs.declared.process.StatedJob.{StatedJob}
 use Rattle.ospl_grammar.specs.declared.process.Process.{Process}
 use Rattle.ospl_grammar.specs.declared.process.Process.TheVariants.{Statistics}
 use Rattle.ospl_grammar.specs.Writing.{process_text}
-use Rattle.soap_calls.specs.declared.call.CallKind.{CallKind}
-use Rattle.soap_calls.specs.Names.{kind_text}
+use Rattle.six_calls.specs.declared.call.CallKind.{CallKind}
+use Rattle.six_calls.specs.Names.{kind_text}
 use Rattle.soap_calls.specs.Writing.{reply_text, fault_text}
 use Rattle.os_server.specs.declared.order.Order.{Order}
 use Rattle.os_server.specs.declared.order.Order.TheVariants as orders

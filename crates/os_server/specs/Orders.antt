@@ -1,13 +1,13 @@
 -- What the body of a request asks of the table of jobs, or why it asks nothing (SOAP 1.1, sections 4 and 4.4, and the calls of the Optimization Services).
 use Rattle.std.specs.Prelude.{◌≡◌, ◌≢◌, ◌⊎◌, ℕ, ◌<◌, ◌^◌, List, [], ◌++◌, Option, None, Some, codes}
 use Rattle.job_table.specs.Ids.{id_text}
-use Rattle.soap_calls.specs.declared.call.CallKind.{CallKind}
-use Rattle.soap_calls.specs.declared.call.CallKind.TheVariants as kinds
-use Rattle.soap_calls.specs.declared.call.Part as given
+use Rattle.six_calls.specs.declared.call.CallKind.{CallKind}
+use Rattle.six_calls.specs.declared.call.CallKind.TheVariants as kinds
+use Rattle.six_calls.specs.declared.part.Part as given
 use Rattle.soap_calls.specs.declared.call.SoapCall.{SoapCall}
 use Rattle.soap_calls.specs.declared.call.SoapCall.TheVariants as calls
 use Rattle.soap_calls.specs.declared.fault.SoapFault.TheVariants as soap
-use Rattle.soap_calls.specs.Names.{part_text}
+use Rattle.six_calls.specs.Names.{part_text}
 use Rattle.soap_calls.specs.Calls.{IsCallText}
 use Rattle.soap_calls.specs.Refusals.{CallFails}
 use Rattle.osol_grammar.specs.declared.options.Options.{Options}

@@ -9,10 +9,10 @@ use Rattle.element_tree.specs.Writable.{IsWritable}
 use Rattle.element_tree.proofs.Documents.{written_doc}
 use Rattle.document_tags.specs.Writing.{leaf, group}
 use Rattle.document_tags.proofs.Flat.{AreFlat, none_flat, element_flat, still_flat, tag_by}
-use Rattle.soap_calls.specs.declared.call.CallKind.{CallKind}
-use Rattle.soap_calls.specs.declared.call.CallKind.TheVariants as kinds
+use Rattle.six_calls.specs.declared.call.CallKind.{CallKind}
+use Rattle.six_calls.specs.declared.call.CallKind.TheVariants as kinds
 use Rattle.soap_calls.specs.declared.fault.Answer.TheVariants.{Return, Fault}
-use Rattle.soap_calls.specs.Names.{kind_text}
+use Rattle.six_calls.specs.Names.{kind_text}
 use Rattle.soap_calls.specs.Replies.{reply_limit, MayReturn, IsReplyDocument, IsReplyText}
 use Rattle.soap_calls.specs.Writing.{soap, frame, ours_around, response_nodes, reply_text, fault_nodes, fault_text}
 use Rattle.soap_calls.proofs.BackCalls.{read_frame, bare, plain_leaf, leaf_flat, ours_flat, body_flat, soap_text}

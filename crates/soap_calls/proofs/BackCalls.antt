@@ -10,12 +10,12 @@ use Rattle.document_tags.specs.Writing.{text_nodes, leaf, group}
 use Rattle.document_tags.proofs.Printing.{fixed_text}
 use Rattle.document_tags.proofs.Flat.{is_tag, AreFlat, none_flat, text_flat, element_flat, still_flat, written_is_document}
 use Rattle.document_tags.specs.Only.{unless_elements}
-use Rattle.soap_calls.specs.declared.call.CallKind.{CallKind}
-use Rattle.soap_calls.specs.declared.call.CallKind.TheVariants as kinds
+use Rattle.six_calls.specs.declared.call.CallKind.{CallKind}
+use Rattle.six_calls.specs.declared.call.CallKind.TheVariants as kinds
 use Rattle.soap_calls.specs.declared.call.SoapCall.{SoapCall}
 use Rattle.soap_calls.specs.declared.call.SoapCall.TheVariants.{Solve, GetJobId, Send, Retrieve, Knock, Kill}
-use Rattle.soap_calls.specs.Names.{kind_text, kind_of}
-use Rattle.soap_calls.specs.Calls.{IsCallIn, IsCallText}
+use Rattle.six_calls.specs.Names.{kind_text}
+use Rattle.soap_calls.specs.Calls.{kind_of, IsCallIn, IsCallText}
 use Rattle.soap_calls.specs.Writing.{ours, frame, ours_around, part_nodes, call_text}
 use Rattle.soap_calls.specs.Back.{AreTexts}
 

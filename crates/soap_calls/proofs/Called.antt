@@ -4,11 +4,11 @@ use Rattle.std.specs.Prelude.{IfOk, IfErr, IsSomeAnd}
 use Rattle.tree_grammar.specs.Elements.{Element}
 use Rattle.document_tags.specs.declared.spot.Spot.{Spot}
 use Rattle.document_tags.specs.Spots.{Stands, IsSpot}
-use Rattle.soap_calls.specs.declared.call.CallKind.{CallKind}
+use Rattle.six_calls.specs.declared.call.CallKind.{CallKind}
 use Rattle.soap_calls.specs.declared.call.SoapCall.{SoapCall}
 use Rattle.soap_calls.specs.declared.fault.SoapFault.{SoapFault}
 use Rattle.soap_calls.specs.declared.fault.SoapFault.TheVariants.{Memory}
-use Rattle.soap_calls.specs.Names.{kind_text}
+use Rattle.six_calls.specs.Names.{kind_text}
 use Rattle.soap_calls.specs.Envelope.{held}
 use Rattle.soap_calls.specs.Calls.{IsCall}
 use Rattle.soap_calls.specs.Refusals.{IsElementRefused}

@@ -3,15 +3,15 @@ use Rattle.std.proofs.Common.{◌≡◌, ◌≢◌, ◌∙◌, ◌==◌, inl, in
 use Rattle.std.specs.Prelude.{IfOk, IfErr, IsSome, IsSomeAnd}
 use Rattle.tree_grammar.specs.Elements.{Element}
 use Rattle.document_tags.proofs.OneDocument.{document_once, documents_apart}
-use Rattle.soap_calls.specs.declared.call.CallKind.{CallKind}
-use Rattle.soap_calls.specs.declared.call.CallKind.TheVariants as kinds
-use Rattle.soap_calls.specs.declared.call.Part as given
-use Rattle.soap_calls.specs.declared.call.Part.TheVariants.{Osil, Osol, Ospl}
+use Rattle.six_calls.specs.declared.call.CallKind.{CallKind}
+use Rattle.six_calls.specs.declared.call.CallKind.TheVariants as kinds
+use Rattle.six_calls.specs.declared.part.Part as given
+use Rattle.six_calls.specs.declared.part.Part.TheVariants.{Osil, Osol, Ospl}
 use Rattle.soap_calls.specs.declared.call.Parts.{Parts}
 use Rattle.soap_calls.specs.declared.call.SoapCall.{SoapCall}
 use Rattle.soap_calls.specs.declared.fault.SoapFault.{SoapFault}
 use Rattle.soap_calls.specs.declared.fault.SoapFault.TheVariants.{Envelope, Call, Part, Memory}
-use Rattle.soap_calls.specs.Names.{kind_text}
+use Rattle.six_calls.specs.Names.{kind_text}
 use Rattle.soap_calls.specs.Envelope.{held}
 use Rattle.soap_calls.specs.Calls.{part, AreParts, call_of, IsCall, IsCallIn, IsCallText}
 use Rattle.soap_calls.specs.Refusals.{IsFirstRefused, IsElementRefused, IsRefused, CallFails}

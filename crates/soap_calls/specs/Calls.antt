@@ -4,14 +4,14 @@ use Rattle.tree_grammar.specs.Elements.{Element}
 use Rattle.document_tags.specs.Elements.{children_named}
 use Rattle.document_tags.specs.Documents.{OfDocument}
 use Rattle.document_tags.specs.Only.{plain_text}
-use Rattle.soap_calls.specs.declared.call.CallKind.{CallKind}
-use Rattle.soap_calls.specs.declared.call.CallKind.TheVariants as kinds
-use Rattle.soap_calls.specs.declared.call.Part.{Part}
-use Rattle.soap_calls.specs.declared.call.Part.TheVariants.{Osil, Osol, Ospl}
+use Rattle.six_calls.specs.declared.call.CallKind.{CallKind}
+use Rattle.six_calls.specs.declared.call.CallKind.TheVariants as kinds
+use Rattle.six_calls.specs.declared.part.Part.{Part}
+use Rattle.six_calls.specs.declared.part.Part.TheVariants.{Osil, Osol, Ospl}
 use Rattle.soap_calls.specs.declared.call.Parts.{Parts}
 use Rattle.soap_calls.specs.declared.call.SoapCall.{SoapCall}
 use Rattle.soap_calls.specs.declared.call.SoapCall.TheVariants.{Solve, GetJobId, Send, Retrieve, Knock, Kill}
-use Rattle.soap_calls.specs.Names.{kind_text, part_text, is_needed, has}
+use Rattle.six_calls.specs.Names.{kind_text, part_text, is_needed, has}
 use Rattle.soap_calls.specs.Envelope.{held}
 
 -- the text of the one of these elements, which has no element in it; where there is none, the empty text unless one is needed
@@ -38,6 +38,15 @@ call_of kinds.Send ps = Send ps.osil ps.osol
 call_of kinds.Retrieve ps = Retrieve ps.osol
 call_of kinds.Knock ps = Knock ps.ospl ps.osol
 call_of kinds.Kill ps = Kill ps.osol
+
+-- which of the six it is
+abbrev pub kind_of : SoapCall → CallKind
+kind_of (Solve osil osol) = kinds.Solve
+kind_of (GetJobId osol) = kinds.GetJobId
+kind_of (Send osil osol) = kinds.Send
+kind_of (Retrieve osol) = kinds.Retrieve
+kind_of (Knock ospl osol) = kinds.Knock
+kind_of (Kill osol) = kinds.Kill
 
 -- an element is this call: it has its name, and the call has the texts of its parts
 pub record IsCall (e : Element) (c : SoapCall) : Type 0 where

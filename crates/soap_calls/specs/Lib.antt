@@ -1,4 +1,3 @@
-pub mod Names
 pub mod Envelope
 pub mod Calls
 pub mod Replies

@@ -1,8 +1,8 @@
 -- What the reader promises on its way.
 use Rattle.std.specs.Prelude.{◌≡◌, ◌⊎◌}
 use Rattle.tree_grammar.specs.Elements.{Element}
-use Rattle.soap_calls.specs.declared.call.CallKind.{CallKind}
-use Rattle.soap_calls.specs.declared.call.Part as given
+use Rattle.six_calls.specs.declared.call.CallKind.{CallKind}
+use Rattle.six_calls.specs.declared.part.Part as given
 use Rattle.soap_calls.specs.declared.fault.SoapFault.{SoapFault}
 use Rattle.soap_calls.specs.declared.fault.SoapFault.TheVariants.{Part, Memory}
 use Rattle.soap_calls.specs.Refusals.{IsFirstRefused, IsElementRefused, IsRefused}

@@ -4,15 +4,15 @@ use Rattle.tree_grammar.specs.Elements.{Element}
 use Rattle.document_tags.specs.Documents.{OfDocument}
 use Rattle.document_tags.specs.Faults.{told_name}
 use Rattle.document_tags.specs.Texts.{IsDocument}
-use Rattle.soap_calls.specs.declared.call.CallKind.{CallKind}
-use Rattle.soap_calls.specs.declared.call.Part as given
-use Rattle.soap_calls.specs.declared.call.Part.TheVariants.{Osil, Osol, Ospl}
+use Rattle.six_calls.specs.declared.call.CallKind.{CallKind}
+use Rattle.six_calls.specs.declared.part.Part as given
+use Rattle.six_calls.specs.declared.part.Part.TheVariants.{Osil, Osol, Ospl}
 use Rattle.soap_calls.specs.declared.fault.SoapFault.{SoapFault}
 use Rattle.soap_calls.specs.declared.fault.SoapFault.TheVariants.{Envelope, Call, Part, Memory}
 use Rattle.soap_calls.specs.declared.fault.Answer.{Answer}
 use Rattle.soap_calls.specs.declared.fault.NotReply.{NotReply}
 use Rattle.soap_calls.specs.declared.fault.NotReply.TheVariants as lost
-use Rattle.soap_calls.specs.Names.{kind_text}
+use Rattle.six_calls.specs.Names.{kind_text}
 use Rattle.soap_calls.specs.Envelope.{held}
 use Rattle.soap_calls.specs.Calls.{part}
 use Rattle.soap_calls.specs.Replies.{IsReplyText}

@@ -3,11 +3,12 @@ use Rattle.std.specs.Prelude.{ℕ, List, [], ◌∷◌, ◌++◌, codes}
 use Rattle.tree_grammar.specs.Elements.{Attribute, Nodes, none, element, Element, Event, Open, Close}
 use Rattle.tree_grammar.specs.Written.{written}
 use Rattle.document_tags.specs.Writing.{only, leaf, group}
-use Rattle.soap_calls.specs.declared.call.Part.{Part}
-use Rattle.soap_calls.specs.declared.call.Part.TheVariants.{Osil, Ospl}
+use Rattle.six_calls.specs.declared.part.Part.{Part}
+use Rattle.six_calls.specs.declared.part.Part.TheVariants.{Osil, Ospl}
 use Rattle.soap_calls.specs.declared.call.SoapCall.{SoapCall}
 use Rattle.soap_calls.specs.declared.call.SoapCall.TheVariants.{Solve, GetJobId, Send, Retrieve, Knock, Kill}
-use Rattle.soap_calls.specs.Names.{kind_text, part_text, kind_of}
+use Rattle.six_calls.specs.Names.{kind_text, part_text}
+use Rattle.soap_calls.specs.Calls.{kind_of}
 
 abbrev pub soap : List Attribute
 soap = only (codes "xmlns:soap") (codes "http://schemas.xmlsoap.org/soap/envelope/")

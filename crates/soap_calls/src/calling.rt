@@ -10,11 +10,11 @@ ghost use Rattle.soap_calls.specs.Reading.{RefusesElement, RefusesRoot};
 use crate::call::SoapCall;
 use crate::envelope::held;
 use crate::fault::SoapFault;
-use crate::kinds::kind_named;
 use crate::parts::{call_of, read_parts};
 use doc_tree::TreeFault;
 use document_tags::{Spot, read_document, told_name};
 use element_tree::Tree;
+use six_calls::CallKind;
 use std::alloc::Global;
 
 /// The call that an element is, or why it is none.
@@ -22,7 +22,7 @@ fn read_element(alloc: Global, spot: Spot<'_>) -> Result<SoapCall, SoapFault>
     ensures ok { (e : Element) → Stands spot.entry e → IfOk result (IsCall e) }
     ensures err { (e : Element) → Stands spot.entry e → IfErr result (RefusesElement e) }
 {
-    let Some(kind) = kind_named(spot.name()) else {
+    let Some(kind) = CallKind::named(spot.name()) else {
         let name = told_name(alloc, spot.name())?;
         return Err(SoapFault::Call { name });
     };

@@ -1,7 +1,7 @@
 //! Why bytes are no call, and what answers a call.
 
-use crate::call::Part;
 use os_io::Text;
+use six_calls::Part;
 use std::alloc::AllocError;
 
 /// Why bytes are no call. The first of these is told, and of parts the first that is refused.

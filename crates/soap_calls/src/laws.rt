@@ -3,7 +3,7 @@
 ghost use Rattle.std.specs.Prelude.{◌≡◌, ◌≢◌, ◌++◌, ℕ, ◌≤◌, List, Result, Ok, Err, IfOk, IfErr, length, codes};
 ghost use Rattle.tree_grammar.specs.Characters.{IsXmlText};
 ghost use Rattle.document_tags.specs.Texts.{document_limit};
-ghost use Rattle.soap_calls.specs.declared.call.CallKind as kinds;
+ghost use Rattle.six_calls.specs.declared.call.CallKind as kinds;
 ghost use Rattle.soap_calls.specs.declared.call.SoapCall as given;
 ghost use Rattle.soap_calls.specs.declared.fault.SoapFault as refused;
 ghost use Rattle.soap_calls.specs.declared.fault.SoapFault.TheVariants as faults;
@@ -11,7 +11,7 @@ ghost use Rattle.soap_calls.specs.declared.fault.Answer as given_back;
 ghost use Rattle.soap_calls.specs.declared.fault.Answer.TheVariants as answers;
 ghost use Rattle.soap_calls.specs.declared.fault.NotReply as unread;
 ghost use Rattle.soap_calls.specs.declared.fault.NotReply.TheVariants as lost;
-ghost use Rattle.soap_calls.specs.Names.{kind_text};
+ghost use Rattle.six_calls.specs.Names.{kind_text};
 ghost use Rattle.soap_calls.specs.Calls.{IsCallText};
 ghost use Rattle.soap_calls.specs.Replies.{reply_limit, MayReturn, IsReplyText};
 ghost use Rattle.soap_calls.specs.Refusals.{CallFails, ReplyFails};

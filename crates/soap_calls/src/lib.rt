@@ -10,14 +10,13 @@ mod call;
 mod calling;
 mod envelope;
 mod fault;
-mod kinds;
 mod laws;
 mod parts;
 mod replies;
 mod replying;
 mod telling;
 
-pub use call::{CallKind, Part, Parts, SoapCall};
+pub use call::{Parts, SoapCall};
 pub use calling::read_call;
 pub use fault::{Answer, NotReply, SoapFault};
 pub use laws::{
@@ -28,4 +27,5 @@ pub use laws::{
 pub use parts::call_of;
 pub use replies::read_reply;
 pub use replying::{write_fault, write_reply};
+pub use six_calls::{CallKind, Part};
 pub use telling::write_call;

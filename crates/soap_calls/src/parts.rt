@@ -6,10 +6,11 @@ ghost use Rattle.document_tags.specs.Spots.{Stands, AreSpots};
 ghost use Rattle.soap_calls.specs.Calls as calls;
 ghost use Rattle.soap_calls.specs.Reading.{RefusesParts};
 
-use crate::call::{CallKind, Part, Parts, SoapCall};
+use crate::call::{Parts, SoapCall};
 use crate::fault::SoapFault;
 use document_tags::{Spot, only_one, plain_text};
 use os_io::{Memory, Text};
+use six_calls::{CallKind, Part};
 use std::alloc::Global;
 
 /// What the one of these elements says plainly, and the empty text where there is none and none is needed.

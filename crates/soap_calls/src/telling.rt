@@ -6,10 +6,11 @@ ghost use Rattle.document_tags.specs.Telling.{Told, whole, opening};
 ghost use Rattle.document_tags.specs.Writing.{leaf, only};
 ghost use Rattle.soap_calls.specs.Writing as writing;
 
-use crate::call::{Part, SoapCall};
+use crate::call::SoapCall;
 use document_tags::{close, leaf, open, open_with, told_text};
 use element_tree::TreeBuilder;
 use os_io::{Memory, Text};
+use six_calls::Part;
 use std::alloc::Global;
 
 /// Begins an envelope and its body.

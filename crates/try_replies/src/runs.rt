@@ -1,7 +1,7 @@
 //! Runs of the command `call`, told as texts.
 
 use crate::replies::{put, put_number};
-use calling::{CallWords, make_call};
+use os_client::{CallWords, make_call};
 use os_io::{MemFiles, MemLink, MemListener, MemSink, Memory, Text};
 use soap_calls::CallKind;
 use std::alloc::Global;
@@ -19,18 +19,6 @@ pub(crate) struct Given<'g> {
     pub files: [&'g [u8]; 3],
     pub bytes: &'g [u8],
     pub fails: &'g [u8],
-}
-
-/// The call of this name; `kill` for every other one.
-fn kind_of(name: &[u8]) -> CallKind {
-    match name {
-        b"solve" => CallKind::Solve,
-        b"getJobID" => CallKind::GetJobId,
-        b"send" => CallKind::Send,
-        b"retrieve" => CallKind::Retrieve,
-        b"knock" => CallKind::Knock,
-        _ => CallKind::Kill,
-    }
 }
 
 /// The number of the call that fails, where what fails is of this kind, and else 0, which no call has.
@@ -95,7 +83,7 @@ pub(crate) fn run_text(alloc: Global, given: Given<'_>) -> Result<Text, Memory> 
     let mut net = net_of(alloc, given)?;
     let mut output = MemSink::new(alloc, ROOM, &[failing(given.fails, b"output")])?;
     let words = CallWords {
-        kind: kind_of(given.name),
+        kind: CallKind::named(given.name).unwrap_or(CallKind::Kill),
         host: "host",
         port: 80,
         osil: named(given.files[0], NAMES[0]),

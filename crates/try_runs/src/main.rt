@@ -8,8 +8,7 @@
 mod ends;
 mod running;
 
-use cases::Tables;
-use gathered::{compare, gather};
+use cases::{Tables, compare, gather};
 use os_io::DiskFiles;
 use running::{Kind, World};
 use std::io;

@@ -8,9 +8,8 @@
 mod examples;
 mod jobs;
 
-use cases::Tables;
+use cases::{Tables, compare, gather};
 use examples::Examples;
-use gathered::{compare, gather};
 use jobs::answer_job;
 use os_io::DiskFiles;
 use std::io;

@@ -1,7 +1,7 @@
 use Rattle.std.proofs.Common.{[], refl}
 use Rattle.std.specs.Prelude.{map}
 use Rattle.command_line.specs.Forms.{named_word, needed_word}
-use Rattle.command_line.proofs.Told.{named, named_here, needed, needed_here, told_next}
+use Rattle.command_line.proofs.Forms.{named, named_here, needed, needed_here, told_next}
 use Rattle.command_line.proofs.program.command.Goals as goal
 
 pub loop-id-preserved : goal.loop-id-preserved

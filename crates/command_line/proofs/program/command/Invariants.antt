@@ -1,7 +1,7 @@
 use Rattle.std.proofs.Common.{◌++◌, take}
 use Rattle.std.specs.Prelude.{map}
 use Rattle.command_line.specs.Forms.{named_word, needed_word}
-use Rattle.command_line.proofs.Told.{IsTold}
+use Rattle.command_line.proofs.Forms.{IsTold}
 use Rattle.command_line.proofs.program.command.Given as goal
 
 abbrev pub invariant-loop-id : goal.invariant-loop-id

@@ -1,14 +1,14 @@
 use Rattle.std.proofs.lemmas.Result.{IfOk-weaker}
 use Rattle.std.proofs.Common.{◌∙◌, Some, ap, arith, refl}
 use Rattle.command_answers.proofs.Sending.{sent, broken}
-use Rattle.command_line.proofs.Called.{asks_it, asks_none}
+use Rattle.command_line.proofs.Asks.{asks_it, asks_none}
 use Rattle.os_app.proofs.Running.{other_fails, other_helped}
 use Rattle.os_app.proofs.Deciding.{serve_runs}
 use Rattle.os_app.proofs.Deciding.{links_none, names_none, session_runs, unheard_runs}
-use Rattle.os_app.proofs.Called.{call_runs}
-use Rattle.os_app.proofs.Checked.{check_runs}
-use Rattle.os_app.proofs.Generated.{generate_runs}
-use Rattle.os_app.proofs.Solved.{about_named, solve_runs}
+use Rattle.os_app.proofs.Calls.{call_runs, none_named}
+use Rattle.os_app.proofs.Checks.{check_runs}
+use Rattle.os_app.proofs.Summaries.{generate_runs}
+use Rattle.os_app.proofs.Solves.{about_named, solve_runs}
 use Rattle.os_app.proofs.Telling.{ends_of, made_ends, told_from}
 use Rattle.os_app.proofs.command.run.Goals as goal
 
@@ -22,7 +22,7 @@ returns-in-Ok-Some-Session-clause-runs g c =
 pub returns-in-Ok-Some-Check-clause-runs : goal.returns-in-Ok-Some-Check-clause-runs
 returns-in-Ok-Some-Check-clause-runs g c =
     check_runs c.documents_are_judged_once.ensures _ _ _ _ (asks_it _ _ _ (c.in-Ok-Some-Check.field-0-is ∙ ap Some c.in-Ok-Some-Check.field-0-0-is) c.in-Ok-Some-Check.ensures)
-    (ends_of _ _ _ _ c.answer_about.result _ _ c.answer_about.ensures.ok c.answer_about.ensures.counted c.tell.ensures.told) refl
+    (ends_of _ _ _ _ c.answer_about.result _ _ c.answer_about.ensures.ok c.answer_about.ensures.counted c.tell.ensures.told) (refl, refl)
 
 pub returns-in-Ok-Some-Solve-clause-runs : goal.returns-in-Ok-Some-Solve-clause-runs
 returns-in-Ok-Some-Solve-clause-runs g c =
@@ -30,54 +30,35 @@ returns-in-Ok-Some-Solve-clause-runs g c =
     solve_runs _ _ _ _ solve
     (ends_of _ _ _ _ c.solve_files.result _ _
     (IfOk-weaker c.solve_files.result _ _ (λ a about. about_named (g.F.Files.held c.args.files.now) _ _ a.status a.text about) c.solve_files.ensures.ok)
-    c.solve_files.ensures.counted c.tell-in-Ok-Some-Solve.ensures.told) refl
+    c.solve_files.ensures.counted c.tell-in-Ok-Some-Solve.ensures.told) (refl, refl)
 
 pub returns-in-Ok-clause-runs : goal.returns-in-Ok-clause-runs
 returns-in-Ok-clause-runs g c =
     let other = asks_none _ _ c.in-Ok-None.field-0-is c.in-Ok-None.ensures in
-    other_helped _ other refl refl (sent _ c.in-Ok.field-0 _ _ c.in-Ok.ensures)
+    other_helped _ other (refl, refl) refl (sent _ c.in-Ok.field-0 _ _ c.in-Ok.ensures)
 
 pub returns-in-Err-write_usage-clause-runs : goal.returns-in-Err-write_usage-clause-runs
 returns-in-Err-write_usage-clause-runs g c =
     let other = asks_none _ _ c.in-Ok-None.field-0-is c.in-Ok-None.ensures in
-    other_fails _ other refl refl (broken _ c.in-Err-write_usage.field-0 _ _ c.in-Err-write_usage.ensures)
+    other_fails _ other (refl, refl) refl (broken _ c.in-Err-write_usage.field-0 _ _ c.in-Err-write_usage.ensures)
 
 pub returns-in-Err-clause-runs : goal.returns-in-Err-clause-runs
-returns-in-Err-clause-runs g c = unheard_runs _ (record { untaken = refl; unwritten = refl; all_files_read = refl })
+returns-in-Err-clause-runs g c = unheard_runs _ (record { untaken = (refl, refl); unwritten = refl; all_files_read = refl })
 
 pub returns-in-Ok-Some-Generate-clause-runs : goal.returns-in-Ok-Some-Generate-clause-runs
 returns-in-Ok-Some-Generate-clause-runs g c =
     let asked = asks_it _ _ _ (c.in-Ok-Some-Generate.field-0-is ∙ ap Some c.in-Ok-Some-Generate.field-0-0-is) c.in-Ok-Some-Generate.ensures in
     generate_runs _ _ _ asked
-    (made_ends _ _ _ _ c.generate.result _ c.generate.ensures (told_from _ _ _ _ _ c.from_memory.ensures c.tell-in-Ok-Some-Generate.ensures.told)) refl
+    (made_ends _ _ _ _ c.generate.result _ c.generate.ensures (told_from _ _ _ _ _ c.from_memory.ensures c.tell-in-Ok-Some-Generate.ensures.told)) (refl, refl)
 
 pub returns-in-Ok-Some-Call-clause-runs : goal.returns-in-Ok-Some-Call-clause-runs
 returns-in-Ok-Some-Call-clause-runs g c =
-    call_runs _ _ (record {
-      kind = _;
-      host = _;
-      port = _;
-      osil = _;
-      osol = _;
-      ospl = _;
-      asked = asks_it _ _ _ (c.in-Ok-Some-Call.field-0-is ∙ ap Some c.in-Ok-Some-Call.field-0-0-is) c.in-Ok-Some-Call.ensures;
-      ends = c.make_call.ensures.ends;
-      untaken = refl;
-    })
+    call_runs _ _ _ _ _ _ _ _ (asks_it _ _ _ (c.in-Ok-Some-Call.field-0-is ∙ ap Some c.in-Ok-Some-Call.field-0-0-is) c.in-Ok-Some-Call.ensures) c.make_call.ensures.ends refl
 
 pub returns-in-Ok-Some-Serve-clause-runs : goal.returns-in-Ok-Some-Serve-clause-runs
 returns-in-Ok-Some-Serve-clause-runs g c =
-    serve_runs _ c.serve-ending.result c.serve_status.result c.serve_status.ensures (record {
-      host = _;
-      port = _;
-      workers = _;
-      servers = _;
-      connections = _;
-      asked = asks_it _ _ _ (c.in-Ok-Some-Serve.field-0-is ∙ ap Some c.in-Ok-Some-Serve.field-0-0-is) c.in-Ok-Some-Serve.ensures;
-      serves = c.serve-ending.ensures.served;
-      untaken = refl;
-      all_files_read = refl;
-    })
+    serve_runs _ c.serve-ending.result c.serve_status.result _ _ _ _ _ c.serve_status.ensures
+    (asks_it _ _ _ (c.in-Ok-Some-Serve.field-0-is ∙ ap Some c.in-Ok-Some-Serve.field-0-0-is) c.in-Ok-Some-Serve.ensures) c.serve-ending.ensures.served refl refl
 
 pub returns-in-Ok-Some-Check-clause-unread : goal.returns-in-Ok-Some-Check-clause-unread
 returns-in-Ok-Some-Check-clause-unread g c = λ none. absurd (names_none _ _ (asks_it _ _ _ (c.in-Ok-Some-Check.field-0-is ∙ ap Some c.in-Ok-Some-Check.field-0-0-is) c.in-Ok-Some-Check.ensures) refl none)
@@ -86,7 +67,7 @@ pub returns-in-Ok-Some-Solve-clause-unread : goal.returns-in-Ok-Some-Solve-claus
 returns-in-Ok-Some-Solve-clause-unread g c = λ none. absurd (names_none _ _ (asks_it _ _ _ (c.in-Ok-Some-Solve.field-0-is ∙ ap Some c.in-Ok-Some-Solve.field-0-0-is) c.in-Ok-Some-Solve.ensures) refl none)
 
 pub returns-in-Ok-Some-Call-clause-unread : goal.returns-in-Ok-Some-Call-clause-unread
-returns-in-Ok-Some-Call-clause-unread g c = λ none. absurd (names_none _ _ (asks_it _ _ _ (c.in-Ok-Some-Call.field-0-is ∙ ap Some c.in-Ok-Some-Call.field-0-0-is) c.in-Ok-Some-Call.ensures) refl none)
+returns-in-Ok-Some-Call-clause-unread g c = λ none. c.make_call.ensures.unread (none_named _ _ _ (none _ (asks_it _ _ _ (c.in-Ok-Some-Call.field-0-is ∙ ap Some c.in-Ok-Some-Call.field-0-0-is) c.in-Ok-Some-Call.ensures)))
 
 pub returns-in-Ok-Some-Call-clause-unlinked : goal.returns-in-Ok-Some-Call-clause-unlinked
 returns-in-Ok-Some-Call-clause-unlinked g c = λ none. absurd (links_none _ _ (asks_it _ _ _ (c.in-Ok-Some-Call.field-0-is ∙ ap Some c.in-Ok-Some-Call.field-0-0-is) c.in-Ok-Some-Call.ensures) refl none)

@@ -1,5 +1,5 @@
 use Rattle.std.proofs.lemmas.Result.{IfOk-weaker}
-use Rattle.os_app.proofs.Generated.{summary_is}
+use Rattle.os_app.proofs.Summaries.{summary_is}
 use Rattle.os_app.proofs.generating.generate.Goals as goal
 
 pub returns : goal.returns

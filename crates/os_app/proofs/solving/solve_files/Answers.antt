@@ -1,5 +1,5 @@
 use Rattle.command_answers.proofs.Sending.{named_still}
-use Rattle.os_app.proofs.Solved.{document_about, right_of_texts}
+use Rattle.os_app.proofs.Solves.{document_about, right_of_texts}
 use Rattle.os_app.proofs.solving.solve_files.Goals as goal
 
 pub returns-in-Ok-clause-ok : goal.returns-in-Ok-clause-ok

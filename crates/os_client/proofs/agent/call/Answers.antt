@@ -1,5 +1,5 @@
 use Rattle.std.proofs.Common.{◌∙◌, ap, refl, Err}
-use Rattle.soap_calls.specs.Names.{kind_text}
+use Rattle.six_calls.specs.Names.{kind_text}
 use Rattle.os_client.specs.declared.fault.CallFault.TheVariants.{WriteFault}
 use Rattle.os_client.proofs.CallLemmas.{asked_listened, fails_to_ask, calls_of}
 use Rattle.os_client.proofs.agent.call.Goals as goal

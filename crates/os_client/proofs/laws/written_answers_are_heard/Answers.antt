@@ -2,7 +2,7 @@ use Rattle.std.proofs.Common.{◌≢◌, [], arith}
 use Rattle.http_link.specs.declared.refusal.Refusal.{Refusal}
 use Rattle.http_link.specs.declared.refusal.Refusal.TheVariants.{BadRequest, MethodNotAllowed, LengthRequired, ContentTooLarge, HeadTooLarge, NotImplemented, ServiceUnavailable}
 use Rattle.http_link.specs.Replies.{code_of}
-use Rattle.soap_calls.specs.Names.{kind_text}
+use Rattle.six_calls.specs.Names.{kind_text}
 use Rattle.soap_calls.specs.Writing.{reply_text, fault_text}
 use Rattle.os_client.proofs.laws.written_answers_are_heard.Goals as goal
 

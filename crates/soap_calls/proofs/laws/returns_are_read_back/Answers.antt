@@ -1,5 +1,5 @@
 use Rattle.soap_calls.specs.declared.fault.Answer.TheVariants.{Return}
-use Rattle.soap_calls.specs.Names.{kind_text}
+use Rattle.six_calls.specs.Names.{kind_text}
 use Rattle.soap_calls.specs.Writing.{reply_text}
 use Rattle.soap_calls.proofs.OneAnswer.{reply_answers}
 use Rattle.soap_calls.proofs.BackAnswers.{return_is}

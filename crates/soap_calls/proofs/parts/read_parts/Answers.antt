@@ -1,5 +1,5 @@
 use Rattle.std.proofs.Common.{◌∙◌, inr, refl, sym}
-use Rattle.soap_calls.specs.declared.call.Part.TheVariants.{Osil, Osol, Ospl}
+use Rattle.six_calls.specs.declared.part.Part.TheVariants.{Osil, Osol, Ospl}
 use Rattle.soap_calls.proofs.Parted.{is_some}
 use Rattle.soap_calls.proofs.parts.read_parts.Goals as goal
 

@@ -1,7 +1,8 @@
 use Rattle.std.proofs.Common.{◌∙◌, refl, ap}
 use Rattle.std.proofs.lemmas.Result.{IfOk-weaker}
 use Rattle.document_tags.proofs.Told.{told_one, told_element}
-use Rattle.soap_calls.specs.Names.{kind_text, kind_of}
+use Rattle.six_calls.specs.Names.{kind_text}
+use Rattle.soap_calls.specs.Calls.{kind_of}
 use Rattle.soap_calls.specs.Writing.{frame, ours_around, part_nodes}
 use Rattle.soap_calls.proofs.Framed.{named_so}
 use Rattle.soap_calls.proofs.telling.write_call.Goals as goal

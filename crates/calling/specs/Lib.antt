@@ -1,5 +1,0 @@
-pub mod Laws
-pub mod Named
-pub mod Runs
-pub mod Telling
-pub mod Written
