@@ -47,7 +47,7 @@ or_memory w claim f (inl e) = inl e
 or_memory w claim f (inr h) = inr (f h)
 
 -- the run ended so, and the walk went on from there or the search ended
-module _ (p : Parts) (r : Relaxation) (w v : Walk) (d : ℕ) (end is : LpEnd) (same : end ≡ is) where
+module _ {L : _} {G : _} (p : Parts) (r : Relaxation L G) (w v : Walk) (d : ℕ) (end is : LpEnd) (same : end ≡ is) where
   pub went_on_as : {X : Type 0} (a : Result X Claim) → IfOk a (λ _. (t : Terms) (c : Clock) → GoesAt p w d t c (ended_with is r.work) (To (moment p v c))) → IfOk a (λ _. (t : Terms) (c : Clock) → GoesAt p w d t c (ended_with end r.work) (To (moment p v c)))
   went_on_as {X} a h = subst (λ (e : LpEnd). IfOk a (λ _. (t : Terms) (c : Clock) → GoesAt p w d t c (ended_with e r.work) (To (moment p v c)))) (sym same) h
 

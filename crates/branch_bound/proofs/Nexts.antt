@@ -110,7 +110,7 @@ goes_one t I J rest m n TurnsOut e = absurd (cc)
 goes_one t I J rest m n (TooWide s) e = absurd (cc)
 goes_one t I J rest m n Stopped e = absurd (cc)
 
-pub stopped_is : (e : LpEnd) (w : Work) → was_stopped e ≡ true → ended_with e w ≡ Stopped
+pub stopped_is : {L : _} {G : _} (e : LpEnd) (w : Work L G) → was_stopped e ≡ true → ended_with e w ≡ Stopped
 stopped_is (Has.Best b) w h = absurd (cc)
 stopped_is (Has.Clash c) w h = absurd (cc)
 stopped_is Has.Empty w h = absurd (cc)

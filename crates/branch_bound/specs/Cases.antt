@@ -20,18 +20,18 @@ abbrev pub terms : Limits → Option ℕ → Terms
 terms l stop = record { nodes = l.nodes; turns = l.turns; stop = stop }
 
 -- the memory has the size of the instance
-pub record HasSize (p : Parts) (r : Relaxation) : Type 0 where
+pub record HasSize {L : _} {G : _} (p : Parts) (r : Relaxation L G) : Type 0 where
   pub width : width_in r.work ≡ length p.vars
   pub height : height_in r.work ≡ length p.rows
   pub cuts : length r.cuts ≡ length p.vars
 
 -- the memory has the size of the instance, and the walk is at a case whose node has a number
-pub record IsReady (p : Parts) (r : Relaxation) (w : Walk) (d : ℕ) : Type 0 where
+pub record IsReady {L : _} {G : _} (p : Parts) (r : Relaxation L G) (w : Walk) (d : ℕ) : Type 0 where
   pub size : HasSize p r
   pub at : IsAt (length p.vars) w d
   pub within : length w.nodes < 2 ^ 32 - 1
 
-abbrev pub clock_at : Relaxation → ℕ → Clock
+abbrev pub clock_at : {L : _} {G : _} → Relaxation L G → ℕ → Clock
 clock_at r looks = record { turns = r.turns.done; looks = looks }
 
 -- the search is given up for want of memory, or else this holds

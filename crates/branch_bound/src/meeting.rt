@@ -18,12 +18,13 @@ use crate::walk::{Found, Walk};
 use certificate::{Cause, Claim, Mults, Node, Step};
 use instance::Instance;
 use std::alloc::Global;
+use std::sync::ledger::Ledger;
 
 /// Takes a point that is whole where it must be as the best, or ends the search with it.
-fn take_point(
+fn take_point<L: Ledger>(
     alloc: Global,
     instance: &Instance,
-    relaxation: &Relaxation,
+    relaxation: &Relaxation<L>,
     mults: Mults,
     walk: &mut Walk,
     depth: usize,
@@ -58,10 +59,10 @@ fn take_point(
 }
 
 /// Goes on from the run's point: splits the case, or takes the point.
-pub fn meet(
+pub fn meet<L: Ledger>(
     alloc: Global,
     instance: &Instance,
-    relaxation: &Relaxation,
+    relaxation: &Relaxation<L>,
     mults: Mults,
     walk: &mut Walk,
     depth: usize,

@@ -12,6 +12,7 @@ use crate::points::coordinate;
 use fraction::Frac;
 use instance::Var;
 use simplex::Work;
+use std::sync::ledger::Ledger;
 
 /// A whole variable whose value isn't whole, and the floor of that value.
 #[derive(Clone, Copy, PartialEq, Eq, Debug)]
@@ -29,7 +30,7 @@ fn is_open(var: Var, value: Frac) -> bool
 }
 
 /// The least whole variable whose value at the run's point isn't whole.
-pub fn first_open(work: &Work, vars: &[Var]) -> Option<Open>
+pub fn first_open<L: Ledger>(work: &Work<L>, vars: &[Var]) -> Option<Open>
     requires width { width_in work.now ≡ length vars.now }
     requires few { length vars.now ≤ 1000 }
     ensures { (p : Parts) → MatchOption result (IsWholeBelow (cut p vars.now) (point_of work.now) (Of.width (cut p vars.now))) (λ at. IsSplit (cut p vars.now) (point_of work.now) at.col at.k) }

@@ -10,9 +10,10 @@ use certificate::{Mult, Mults, Point};
 use fraction::Frac;
 use simplex::{Work, first_values_are_listed};
 use std::alloc::{AllocError, Global};
+use std::sync::ledger::Ledger;
 
 /// A variable's value at the run's point.
-pub fn coordinate(work: &Work, j: u32) -> Frac
+pub fn coordinate<L: Ledger>(work: &Work<L>, j: u32) -> Frac
     requires { j < width_in work.now }
     ensures { value_at (point_of work.now) j ≡ ratio result }
 {
@@ -21,7 +22,7 @@ pub fn coordinate(work: &Work, j: u32) -> Frac
 }
 
 /// A variable's movement along the run's direction.
-pub fn movement(work: &Work, j: u32) -> Frac
+pub fn movement<L: Ledger>(work: &Work<L>, j: u32) -> Frac
     requires { j < width_in work.now }
     ensures { value_at (ray_of work.now) j ≡ ratio result }
 {
@@ -30,7 +31,7 @@ pub fn movement(work: &Work, j: u32) -> Frac
 }
 
 /// The run's point, of so many variables.
-pub fn read_point(alloc: Global, work: &Work, width: u32) -> Result<Point, AllocError>
+pub fn read_point<L: Ledger>(alloc: Global, work: &Work<L>, width: u32) -> Result<Point, AllocError>
     requires { width ≡ width_in work.now }
     ensures count { IfOk result (λ point. length point ≡ width) }
     ensures values { IfOk result (λ point. ratios point ≡ point_of work.now) }
@@ -53,7 +54,11 @@ fn add(mults: &mut Mults, col: u32, value: Frac) -> Result<(), AllocError>
 }
 
 /// The run's multipliers that aren't 0, of so many columns.
-pub fn read_mults(alloc: Global, work: &Work, columns: u32) -> Result<Mults, AllocError>
+pub fn read_mults<L: Ledger>(
+    alloc: Global,
+    work: &Work<L>,
+    columns: u32,
+) -> Result<Mults, AllocError>
     requires { columns ≡ width_in work.now + height_in work.now }
     ensures { IfOk result (λ mults. Means.multipliers mults ≡ mults_of work.now) }
 {

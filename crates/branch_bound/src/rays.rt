@@ -13,6 +13,7 @@ use fraction::{Frac, Wide, lcm};
 use instance::Instance;
 use simplex::Work;
 use std::alloc::{AllocError, Global};
+use std::sync::ledger::Ledger;
 
 /// The factor after a variable that moves so.
 fn next_factor(is_whole: bool, movement: Frac, factor: i128) -> Result<i128, Wide>
@@ -29,7 +30,7 @@ fn next_factor(is_whole: bool, movement: Frac, factor: i128) -> Result<i128, Wid
 }
 
 /// The least number that makes the movements of all whole variables whole.
-fn factor(instance: &Instance, work: &Work) -> Result<i128, Wide>
+fn factor<L: Ledger>(instance: &Instance, work: &Work<L>) -> Result<i128, Wide>
     requires { width_in work.now ≡ length instance.now.vars }
     ensures above { IfOk result (λ f. pos 0 <ℤ f) }
     ensures ok { IfOk result (λ f. IsFactor (program instance.now) (ray_of work.now) (length instance.now.vars) (unsigned_abs f)) }
@@ -44,7 +45,11 @@ fn factor(instance: &Instance, work: &Work) -> Result<i128, Wide>
 }
 
 /// The run's direction times its factor. None where a number doesn't fit.
-pub fn read_ray(alloc: Global, instance: &Instance, work: &Work) -> Result<Option<Ray>, AllocError>
+pub fn read_ray<L: Ledger>(
+    alloc: Global,
+    instance: &Instance,
+    work: &Work<L>,
+) -> Result<Option<Ray>, AllocError>
     requires { width_in work.now ≡ length instance.now.vars }
     ensures { IfOk result (λ scaled. MatchOption scaled ((r : List Ratio) → IsScaled (program instance.now) (ray_of work.now) r → ⊥) (λ ray. IsScaled (program instance.now) (ray_of work.now) (ratios ray))) }
 {

@@ -18,8 +18,8 @@ use std::sync::ledger::Ledger;
 
 /// Memory for the runs of a search, the ends of the variables of the case at hand, and the turns of all runs.
 #[derive(Drop)]
-pub struct Relaxation {
-    pub work: Work,
+pub struct Relaxation<L: Ledger> {
+    pub work: Work<L>,
     pub cuts: Cuts,
     pub turns: Turns,
 }
@@ -46,7 +46,7 @@ fn set_cuts(cuts: &mut Cuts, vars: &[Var])
 /// Runs the case at hand without the wholeness of its variables; with `zero_goal` any point of it will do.
 pub fn run_case<W: Watch, L: Ledger>(
     instance: &Instance,
-    relaxation: &mut Relaxation,
+    relaxation: &mut Relaxation<L>,
     vars: &[Var],
     zero_goal: bool,
     watch: &mut W,
@@ -58,6 +58,7 @@ pub fn run_case<W: Watch, L: Ledger>(
     ensures size { HasSize instance.now relaxation.new }
     ensures most { relaxation.new.turns.most ≡ relaxation.old.turns.most }
     ensures run { (n : ℕ) × W.came watch.old watch.new (answers n (was_stopped result)) × ((t : Terms) (looks : ℕ) → t.turns ≡ relaxation.old.turns.most → Tells t.stop looks n (was_stopped result) → Run (cut instance.now vars.now) zero_goal t (clock_at relaxation.old looks) (ended_with result relaxation.new.work) (clock_at relaxation.new (looks_after looks n (was_stopped result)))) }
+    ensures counted { steps.old ≤ steps.new }
 {
     let _few = instance.vars();
     set_cuts(&mut relaxation.cuts, vars);

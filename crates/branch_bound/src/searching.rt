@@ -1,5 +1,5 @@
 // The search, case by case.
-ghost use Rattle.std.specs.Prelude.{◌≡◌, ℕ, ◌+◌, ◌-◌, ◌^◌, ◌<◌, Bool, Option, length, IfOk};
+ghost use Rattle.std.specs.Prelude.{◌≡◌, ℕ, ◌+◌, ◌-◌, ◌^◌, ◌<◌, ◌≤◌, Bool, Option, length, IfOk};
 ghost use Rattle.instance.specs.Program.{program};
 ghost use Rattle.simplex.specs.Answers.{was_stopped};
 ghost use Rattle.simplex_rules.specs.Looks.{answers, Tells, looks_after};
@@ -40,7 +40,7 @@ fn step<W: Watch, L: Ledger>(
     alloc: Global,
     instance: &Instance,
     limits: Limits,
-    relaxation: &mut Relaxation,
+    relaxation: &mut Relaxation<L>,
     walk: &mut Walk,
     depth: usize,
     watch: &mut W,
@@ -56,6 +56,7 @@ fn step<W: Watch, L: Ledger>(
     ensures one { IfOk result (λ _. length walk.new.nodes ≡ length walk.old.nodes + 1) }
     ensures within { IfOk result (λ _. length walk.old.nodes < limits.nodes) }
     ensures next { (n : ℕ) × (killed : Bool) × (is_killed_by result ≡ killed) × W.came watch.old watch.new (answers n killed) × ((looks : ℕ) (stop : Option ℕ) → Tells stop looks n killed → Follows instance.now (terms limits stop) (clock_at relaxation.old looks) (clock_at relaxation.new (looks_after looks n killed)) walk.old walk.new result) }
+    ensures counted { steps.old ≤ steps.new }
 {
     if walk.nodes.len() >= limits.nodes as usize {
         return Err(give_up(walk, Cause::NodeLimit(limits.nodes)));
@@ -83,7 +84,7 @@ fn explore<W: Watch, L: Ledger>(
     alloc: Global,
     instance: &Instance,
     limits: Limits,
-    relaxation: &mut Relaxation,
+    relaxation: &mut Relaxation<L>,
     mut walk: Walk,
     watch: &mut W,
     steps: &mut Steps<L>,
@@ -93,7 +94,8 @@ fn explore<W: Watch, L: Ledger>(
     requires walk { IsWalk (length instance.now.vars) walk }
     requires first { moment instance.now walk (clock_at relaxation.old 0) ≡ first (program instance.now) }
     requires stops { W.stops watch.old < 2 ^ 64 - 1 }
-    ensures { (n : ℕ) × (killed : Bool) × (is_killed result ≡ killed) × W.came watch.old watch.new (answers n killed) × ((stop : Option ℕ) → Tells stop 0 n killed → IsAnswer (program instance.now) (terms limits stop) (outcome result) (clock_at relaxation.new (looks_after 0 n killed))) }
+    ensures answer { (n : ℕ) × (killed : Bool) × (is_killed result ≡ killed) × W.came watch.old watch.new (answers n killed) × ((stop : Option ℕ) → Tells stop 0 n killed → IsAnswer (program instance.now) (terms limits stop) (outcome result) (clock_at relaxation.new (looks_after 0 n killed))) }
+    ensures counted { steps.old ≤ steps.new }
 {
     while let Some(depth) = walk.next {
         match step(
@@ -107,7 +109,11 @@ fn explore<W: Watch, L: Ledger>(
 }
 
 /// Memory for the runs of a search that begins.
-fn relax(alloc: Global, instance: &Instance, turns: u32) -> Result<Relaxation, AllocError>
+fn relax<L: Ledger>(
+    alloc: Global,
+    instance: &Instance,
+    turns: u32,
+) -> Result<Relaxation<L>, AllocError>
     ensures size { IfOk result (λ r. HasSize instance.now r) }
     ensures turns { IfOk result (λ r. r.turns ≡ record { done = 0; most = turns }) }
 {
@@ -137,7 +143,7 @@ fn begin(alloc: Global, instance: &Instance) -> Result<Walk, AllocError>
 }
 
 /// Searches an instance for a best point, within at most `nodes` cases, and `turns` turns in all runs. The watch is
-/// asked before each case and after each 64th turn; `steps` counts what the runs' dictionaries cost.
+/// asked before each case and after each 64th turn; `steps` counts each entry of the runs' dictionaries that is read or written.
 pub fn search<W: Watch, L: Ledger>(
     alloc: Global,
     instance: &Instance,
@@ -147,7 +153,8 @@ pub fn search<W: Watch, L: Ledger>(
     steps: &mut Steps<L>,
 ) -> Searched
     requires { W.stops watch.old < 2 ^ 64 - 1 }
-    ensures { (n : ℕ) × W.came watch.old watch.new (answers n (is_killed result.claim)) × ((stop : Option ℕ) → Tells stop 0 n (is_killed result.claim) → IsAnswer (program instance.now) (record { nodes = nodes; turns = turns; stop = stop }) (outcome result.claim) (record { turns = result.turns; looks = looks_after 0 n (is_killed result.claim) })) }
+    ensures answer { (n : ℕ) × W.came watch.old watch.new (answers n (is_killed result.claim)) × ((stop : Option ℕ) → Tells stop 0 n (is_killed result.claim) → IsAnswer (program instance.now) (record { nodes = nodes; turns = turns; stop = stop }) (outcome result.claim) (record { turns = result.turns; looks = looks_after 0 n (is_killed result.claim) })) }
+    ensures counted { steps.old ≤ steps.new }
 {
     let cause = Cause::Memory;
     let mut relaxation = match relax(alloc, instance, turns) {

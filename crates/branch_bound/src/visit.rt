@@ -23,12 +23,13 @@ use fraction::Frac;
 use instance::Instance;
 use simplex::LpEnd;
 use std::alloc::Global;
+use std::sync::ledger::Ledger;
 
 /// Goes on from a best point of the case at hand, whose bound may close it.
-fn at_best(
+fn at_best<L: Ledger>(
     alloc: Global,
     instance: &Instance,
-    relaxation: &Relaxation,
+    relaxation: &Relaxation<L>,
     bound: Frac,
     walk: &mut Walk,
     depth: usize,
@@ -51,10 +52,10 @@ fn at_best(
 }
 
 /// Goes on from a point from which along a direction there is no best one: its ray is kept, and any point will do.
-fn at_endless(
+fn at_endless<L: Ledger>(
     alloc: Global,
     instance: &Instance,
-    relaxation: &Relaxation,
+    relaxation: &Relaxation<L>,
     walk: &mut Walk,
     depth: usize,
 ) -> Result<(), Claim>
@@ -76,10 +77,10 @@ fn at_endless(
 }
 
 /// Closes the case at hand, which has no point, by the run's multipliers.
-fn at_empty(
+fn at_empty<L: Ledger>(
     alloc: Global,
     instance: &Instance,
-    relaxation: &Relaxation,
+    relaxation: &Relaxation<L>,
     walk: &mut Walk,
     depth: usize,
 ) -> Result<(), Claim>
@@ -97,11 +98,11 @@ fn at_empty(
 }
 
 /// Goes on from the end of the run of the case at hand.
-pub fn visit(
+pub fn visit<L: Ledger>(
     alloc: Global,
     instance: &Instance,
     limits: Limits,
-    relaxation: &Relaxation,
+    relaxation: &Relaxation<L>,
     end: LpEnd,
     walk: &mut Walk,
     depth: usize,

@@ -46,7 +46,7 @@ fresh_below n c h = rw (lt-ltb c n h) refl
 fresh_from : (n c : ℕ) → n ≤ c → is_fresh n c ≡ true
 fresh_from n c h = rw (le-ltb c n h) refl
 
-module _ (f : Dict) (A : Entries) (number : (i j : ℕ) → IsNumber (A i j)) (flag : IsTrue f.is_loaded) (filled : AreRowsOf f.width (length f.rows.items) A f.rows.items) (at_is : (c : ℕ) → c < f.width + (f.height + 1) → cols f c ≡ c) (place_is : (c : ℕ) → c < f.width + (f.height + 1) → place f c ≡ c) where
+module _ {L : _} {G : _} (f : Dict L G) (A : Entries) (number : (i j : ℕ) → IsNumber (A i j)) (flag : IsTrue f.is_loaded) (filled : AreRowsOf f.width (length f.rows.items) A f.rows.items) (at_is : (c : ℕ) → c < f.width + (f.height + 1) → cols f c ≡ c) (place_is : (c : ℕ) → c < f.width + (f.height + 1) → place f c ≡ c) where
   abbrev u : Entries
   u = entries_by f.width (place f) (rows f)
 
@@ -98,13 +98,13 @@ module _ (f : Dict) (A : Entries) (number : (i j : ℕ) → IsNumber (A i j)) (f
   pub begun_holds : Holds A f
   begun_holds = record { loaded = begun_loaded; is = begun_is }
 
-pub told_rows : (n n' m m' k k' : ℕ) (F G : ℤ) (es : List Entry) (costs : List Frac) (R S : List Row) → n ≡ n' → m ≡ m' → k ≡ k' → F ≡ G → R ≡ S → AreRowsOf n m (rows_of es costs F k) R → AreRowsOf n' m' (rows_of es costs G k') S
+pub told_rows : {L : _} (n n' m m' k k' : ℕ) (F G : ℤ) (es : List Entry) (costs : List Frac) (R S : List (Row L)) → n ≡ n' → m ≡ m' → k ≡ k' → F ≡ G → R ≡ S → AreRowsOf n m (rows_of es costs F k) R → AreRowsOf n' m' (rows_of es costs G k') S
 told_rows n n' m m' k k' F G es costs R S en em ek ef er h =
     subst (λ j. AreRowsOf j m' (rows_of es costs G k') S) en
     (subst (λ j. AreRowsOf n j (rows_of es costs G k') S) em
     (subst (λ j. AreRowsOf n m (rows_of es costs G j) S) ek
     (subst (λ (z : ℤ). AreRowsOf n m (rows_of es costs z k) S) ef
-    (subst (λ (l : List Row). AreRowsOf n m (rows_of es costs F k) l) er h))))
+    (subst (λ (l : List (Row _)). AreRowsOf n m (rows_of es costs F k) l) er h))))
 
 pub own_places : (k : ℕ) (at place : ℕ → ℕ) → ((j : ℕ) → j < k → at j ≡ j) → ((c : ℕ) → c < k → place c ≡ c) → ArePlaces k at place
 own_places k at place a p = record {

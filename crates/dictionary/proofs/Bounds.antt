@@ -68,7 +68,7 @@ module _ (T : ℕ → List Item) (p e digits : ℕ) where
       let w = weight_cost j in
       omega arith)
 
-module _ (n : ℕ) (at place to new : ℕ → ℕ) (b e : ℕ) (rows : List Row) (ex : AreExchanged n (n + length rows) at place to new b e) (over : (r : ℕ) → r < length rows → IsOver n at (entries_in rows r)) where
+module _ {L : _} (n : ℕ) (at place to new : ℕ → ℕ) (b e : ℕ) (rows : List (Row L)) (ex : AreExchanged n (n + length rows) at place to new b e) (over : (r : ℕ) → r < length rows → IsOver n at (entries_in rows r)) where
   abbrev u : Entries
   u = entries_by n place rows
 

@@ -24,26 +24,26 @@ has_true (x ∷ xs) c (inr h) = by (nat_eq x.col c) (has_true xs c h)
 pub entry_cost : (row by : List Item) (skip : ℕ) (f : Frac) → IsEntry row skip f → row_cost row by skip ≡ 3 * (length row + length by)
 entry_cost row by skip f e = ap (λ (b : Bool). cond b (3 * (length row + length by)) 0) (has_true row skip e.stands)
 
-pub entries_set : (rows : List Row) (r : ℕ) (v : Row) → r < length rows → entries_in (set rows r v) r ≡ entries_of v
+pub entries_set : {L : _} (rows : List (Row L)) (r : ℕ) (v : Row L) → r < length rows → entries_in (set rows r v) r ≡ entries_of v
 entries_set rows r v h = ap (λ (l : List (List Item)). get_or l r []) (map-set entries_of rows r v) ∙ get_or-set_same (map entries_of rows) r (entries_of v) [] (omega (arith, length-map rows entries_of))
 
-pub entries_other : (rows : List Row) (r j : ℕ) (v : Row) → (j ≡ r → ⊥) → entries_in (set rows r v) j ≡ entries_in rows j
+pub entries_other : {L : _} (rows : List (Row L)) (r j : ℕ) (v : Row L) → (j ≡ r → ⊥) → entries_in (set rows r v) j ≡ entries_in rows j
 entries_other rows r j v h = ap (λ (l : List (List Item)). get_or l j []) (map-set entries_of rows r v) ∙ get_or-set_other (map entries_of rows) r j (entries_of v) [] h
 
-pub entries_is : (rows : List Row) (r : ℕ) (v : Row) → r < length rows → v ≡ get_or rows r v → entries_of v ≡ entries_in rows r
+pub entries_is : {L : _} (rows : List (Row L)) (r : ℕ) (v : Row L) → r < length rows → v ≡ get_or rows r v → entries_of v ≡ entries_in rows r
 entries_is rows r v h e = ap entries_of e ∙ sym (get_or-map entries_of rows r v [] h)
 
-pub room_there : (rows : List Row) (r : ℕ) (v d : Row) → r < length rows → v ≡ get_or rows r d → room_of v ≡ room_in rows r
+pub room_there : {L : _} (rows : List (Row L)) (r : ℕ) (v d : Row L) → r < length rows → v ≡ get_or rows r d → room_of v ≡ room_in rows r
 room_there rows r v d h e = ap room_of e ∙ sym (get_or-map room_of rows r d 0 h)
 
-pub room_from : (n : ℕ) (rows : List Row) (r : ℕ) (d : Row) → r < length rows → RowsHaveRoom n rows → n ≤ room_of (get_or rows r d)
+pub room_from : {L : _} (n : ℕ) (rows : List (Row L)) (r : ℕ) (d : Row L) → r < length rows → RowsHaveRoom n rows → n ≤ room_of (get_or rows r d)
 room_from n rows r d l h = subst (λ k. n ≤ k) (get_or-map room_of rows r d 0 l) (h r l)
 
-pub row_room : (n : ℕ) (rows : List Row) (r : ℕ) (d v : Row) → r < length rows → room_of (get_or rows r d) ≤ room_of v → RowsHaveRoom n rows → n ≤ room_of v
+pub row_room : {L : _} (n : ℕ) (rows : List (Row L)) (r : ℕ) (d v : Row L) → r < length rows → room_of (get_or rows r d) ≤ room_of v → RowsHaveRoom n rows → n ≤ room_of v
 row_room n rows r d v l g h = let a = room_from n rows r d l h in omega arith
 
 -- a row with no less room in its place
-pub rooms_set : (n : ℕ) (rows : List Row) (r : ℕ) (v : Row) → r < length rows → n ≤ room_of v → RowsHaveRoom n rows → RowsHaveRoom n (set rows r v)
+pub rooms_set : {L : _} (n : ℕ) (rows : List (Row L)) (r : ℕ) (v : Row L) → r < length rows → n ≤ room_of v → RowsHaveRoom n rows → RowsHaveRoom n (set rows r v)
 rooms_set n rows r v l g h j i =
     let inside : j < length rows = subst (λ k. j < k) (length-set rows r v) i in
     by_eq j r
@@ -51,13 +51,13 @@ rooms_set n rows r v l g h j i =
     (λ d. subst (λ k. n ≤ k) (sym (ap (λ (l : List ℕ). get_or l j 0) (map-set room_of rows r v) ∙ get_or-set_other (map room_of rows) r j (room_of v) 0 d)) (h j inside))
 
 -- a row and another one outside change places
-pub swapped_room : (n : ℕ) (rows : List Row) (before : Row) (r : ℕ) (v after : Row) → r < length rows → HaveRoom n rows before → room_of before ≤ room_of v → room_of after ≡ room_in rows r → HaveRoom n (set rows r v) after
+pub swapped_room : {L : _} (n : ℕ) (rows : List (Row L)) (before : Row L) (r : ℕ) (v after : Row L) → r < length rows → HaveRoom n rows before → room_of before ≤ room_of v → room_of after ≡ room_in rows r → HaveRoom n (set rows r v) after
 swapped_room n rows before r v after l h g e = record {
   each = rooms_set n rows r v l (let m = h.more in omega arith) h.each;
   more = subst (λ k. n ≤ k) (sym e) (h.each r l);
 }
 
-pub changed_at : (rows : List Row) (r p skip : ℕ) (x y out v : Row) (b : Bool) → r < length rows → p < length rows → x ≡ get_or rows r x → y ≡ get_or rows p y → (r ≡ p → ⊥) → b ≡ true → IsChanged b (entries_of x) (entries_of y) skip (entries_of out) → v ≡ out → IsReplacedAt r p skip rows (set rows r v)
+pub changed_at : {L : _} (rows : List (Row L)) (r p skip : ℕ) (x y out v : Row L) (b : Bool) → r < length rows → p < length rows → x ≡ get_or rows r x → y ≡ get_or rows p y → (r ≡ p → ⊥) → b ≡ true → IsChanged b (entries_of x) (entries_of y) skip (entries_of out) → v ≡ out → IsReplacedAt r p skip rows (set rows r v)
 changed_at rows r p skip x y out v b lr lp ex ey d t h ev = record {
   count = length-set rows r v;
   row = λ _. inl (subst (λ l. Changes (entries_in rows r) (entries_in rows p) skip l) (sym (entries_set rows r v lr ∙ ap entries_of ev))
@@ -68,11 +68,11 @@ changed_at rows r p skip x y out v b lr lp ex ey d t h ev = record {
   others = λ k n. entries_other rows r k v n;
 }
 
-module _ (p skip r : ℕ) (old rows : List Row) (made : AreReplaced p skip r old rows) where
+module _ {L : _} (p skip r : ℕ) (old rows : List (Row L)) (made : AreReplaced p skip r old rows) where
   here : entries_in rows r ≡ entries_in old r
   here = made.after r (omega arith)
 
-  pub one_more : (new : List Row) → IsReplacedAt r p skip rows new → AreReplaced p skip (r + 1) old new
+  pub one_more : (new : List (Row L)) → IsReplacedAt r p skip rows new → AreReplaced p skip (r + 1) old new
   one_more new at = record {
     count = at.count ∙ made.count;
     rows = λ k l d.
@@ -110,5 +110,5 @@ cost_up T p by skip b k (suc n) h =
     (λ e. subst (λ j. others_cost T p by skip b k ≤ others_cost T p by skip b j) e (omega arith))
     (λ d. let r = cost_up T p by skip b k n (omega arith) in omega arith)
 
-pub is_there : (rows : List Row) (r : ℕ) (d : Row) → r < length rows → entries_of (get_or rows r d) ≡ entries_in rows r
+pub is_there : {L : _} (rows : List (Row L)) (r : ℕ) (d : Row L) → r < length rows → entries_of (get_or rows r d) ≡ entries_in rows r
 is_there rows r d h = sym (get_or-map entries_of rows r d [] h)

@@ -26,7 +26,7 @@ all_costs T U p by more skip b (suc n) e h =
     (subst (λ x. b + row_cost x by skip ≤ b + row_cost (T n) more skip) (sym (e n d)) (let c = one_cost (T n) by more skip h in omega arith))) in
     omega arith
 
-module _ (p basic skip : ℕ) (old mid : List Row) (s : IsSolvedAt p basic skip old mid) where
+module _ {L : _} (p basic skip : ℕ) (old mid : List (Row L)) (s : IsSolvedAt p basic skip old mid) where
   pub short : (b : ℕ) → ((r : ℕ) → r < length old → length (entries_in old r) < 2 ^ b) → p < length old → (r : ℕ) → r < length mid → length (entries_in mid r) < 2 ^ b
   short b h lp r l =
       let j = s.by in let w = j.solved in
@@ -34,7 +34,7 @@ module _ (p basic skip : ℕ) (old mid : List Row) (s : IsSolvedAt p basic skip 
       (λ e. subst (λ k. length (entries_in mid k) < 2 ^ b) (sym e) (let c = w.count in let d = h p lp in omega arith))
       (λ d. subst (λ x. length x < 2 ^ b) (sym (s.others r d)) (h r (let c = s.count in omega arith)))
 
-  pub table_pivot : (new : List Row) → AreReplaced p skip (length mid) mid new → IsTablePivot p basic skip old new
+  pub table_pivot : (new : List (Row L)) → AreReplaced p skip (length mid) mid new → IsTablePivot p basic skip old new
   table_pivot new a = record {
     pivot = let k = s.by in k.pivot;
     entry = let k = s.by in k.entry;

@@ -161,7 +161,7 @@ next_room m n k es e asc inside h is =
     let one = ap length (items_one e) in
     omega (arith, length-append (row_items e.row (take k es) ++ row_items e.row (e ∷ [])) (row_items e.row (drop (suc k) es)), length-append (row_items e.row (take k es)) (row_items e.row (e ∷ [])))
 
-pub row_rooms_push : (n : ℕ) (rows : List Row) (v : Row) → n ≤ room_of v → RowsHaveRoom n rows → RowsHaveRoom n (rows ++ v ∷ [])
+pub row_rooms_push : {L : _} (n : ℕ) (rows : List (Row L)) (v : Row L) → n ≤ room_of v → RowsHaveRoom n rows → RowsHaveRoom n (rows ++ v ∷ [])
 row_rooms_push n rows v h all r l =
     let more = length_push rows v in
     subst (λ (xs : List ℕ). n ≤ get_or xs r 0) (sym (map_push room_of rows v))
@@ -178,7 +178,7 @@ put_first f xs e = subst (λ (l : List Item). PutSoFar 0 f l) (sym e) (record { 
 pub put_at : (n j : ℕ) (F G : ℤ) (costs : List Frac) (xs : List Item) → j ≡ n → F ≡ G → PutSoFar j (λ c. times_sign F (value_at (ratios costs) c)) xs → PutSoFar n (λ c. times_sign G (value_at (ratios costs) c)) xs
 put_at n j F G costs xs e f s = subst (λ k. PutSoFar k (λ c. times_sign G (value_at (ratios costs) c)) xs) e (subst (λ (z : ℤ). PutSoFar j (λ c. times_sign z (value_at (ratios costs) c)) xs) f s)
 
-pub rows_at : (n m k : ℕ) (F G : ℤ) (es : List Entry) (costs : List Frac) (rows : List Row) → F ≡ G → AreRowsOf n m (rows_of es costs F k) rows → AreRowsOf n m (rows_of es costs G k) rows
+pub rows_at : {L : _} (n m k : ℕ) (F G : ℤ) (es : List Entry) (costs : List Frac) (rows : List (Row L)) → F ≡ G → AreRowsOf n m (rows_of es costs F k) rows → AreRowsOf n m (rows_of es costs G k) rows
 rows_at n m k F G es costs rows e h = subst (λ (z : ℤ). AreRowsOf n m (rows_of es costs z k) rows) e h
 
 -- one more cost
@@ -211,7 +211,7 @@ no_items m n r (e ∷ es) inside l =
     other_row r e es (λ h. let k = here.row in omega arith) ∙ no_items m n r es (All-tail (IsInside m n) e es inside) l
 
 -- all rows of a program
-pub filled : (rows : List Row) (v : Row) (es : List Entry) (costs : List Frac) (factor : ℤ) (m : ℕ) → length rows ≡ m → 0 < m → IsAscending es → All (IsInside (m - 1) (length costs)) es → length costs ≤ 2 ^ 32 → ((r : ℕ) → entries_in rows r ≡ row_items r es) → IsRowOf (length costs) (λ c. times_sign factor (value_at (ratios costs) c)) (entries_of v) → AreRowsOf (length costs) m (rows_of es costs factor (m - 1)) (set rows (m - 1) v)
+pub filled : {L : _} (rows : List (Row L)) (v : Row L) (es : List Entry) (costs : List Frac) (factor : ℤ) (m : ℕ) → length rows ≡ m → 0 < m → IsAscending es → All (IsInside (m - 1) (length costs)) es → length costs ≤ 2 ^ 32 → ((r : ℕ) → entries_in rows r ≡ row_items r es) → IsRowOf (length costs) (λ c. times_sign factor (value_at (ratios costs) c)) (entries_of v) → AreRowsOf (length costs) m (rows_of es costs factor (m - 1)) (set rows (m - 1) v)
 filled rows v es costs factor m count some asc inside few put goal_row =
     record {
       rows_are = λ r h. by_eq r (m - 1)

@@ -20,16 +20,16 @@ use Rattle.dictionary.proofs.Pivoted.{ArePivoted, listed, pivoted, over_after}
 use Rattle.dictionary.proofs.Widths.{own_in, own_absent, pivot_fits, pivot_wide}
 use Rattle.dictionary.proofs.Bounds.{pivot_bound}
 
-pub carry : (P : List Row → ℕ → Type 0) (R S : List Row) (p q : ℕ) → R ≡ S → p ≡ q → P S q → P R p
-carry P R S p q e f h = subst (λ (X : List Row). P X p) (sym e) (subst (λ j. P S j) (sym f) h)
+pub carry : {L : _} (P : List (Row L) → ℕ → Type 0) (R S : List (Row L)) (p q : ℕ) → R ≡ S → p ≡ q → P S q → P R p
+carry P R S p q e f h = subst (λ (X : List (Row _)). P X p) (sym e) (subst (λ j. P S j) (sym f) h)
 
-abbrev pub cols : Dict → ℕ → ℕ
+abbrev pub cols : {L : _} {G : _} → Dict L G → ℕ → ℕ
 cols d = slice_index d.columns.items
 
-abbrev pub place : Dict → ℕ → ℕ
+abbrev pub place : {L : _} {G : _} → Dict L G → ℕ → ℕ
 place d = slice_index d.places.items
 
-abbrev pub rows : Dict → List Row
+abbrev pub rows : {L : _} {G : _} → Dict L G → List (Row L)
 rows d = d.rows.items
 
 -- an element that was read
@@ -44,26 +44,26 @@ past_list [] c h = refl
 past_list (x ∷ xs) zero h = absurd (omega arith)
 past_list (x ∷ xs) (suc c) h = past_list xs c (omega arith)
 
-pub not_loaded : (d : Dict) → d.is_loaded ≡ false → IsLoaded d → ⊥
+pub not_loaded : {L : _} {G : _} (d : Dict L G) → d.is_loaded ≡ false → IsLoaded d → ⊥
 unfolding IsLoaded
 not_loaded d e h = let f : false ≡ true = subst (λ (x : Bool). IsTrue x) e h.0 in absurd (cc)
 
 -- the places that were lent, and the columns
-pub moved_there : (d : Dict) (b e : ℕ) (P C : List ℕ) (to : ℕ → ℕ) → P ≡ d.places.items → C ≡ d.columns.items → ChangePlaces (slice_index P b) (slice_index P e) (slice_index C) to → ChangePlaces (place d b) (place d e) (cols d) to
+pub moved_there : {L : _} {G : _} (d : Dict L G) (b e : ℕ) (P C : List ℕ) (to : ℕ → ℕ) → P ≡ d.places.items → C ≡ d.columns.items → ChangePlaces (slice_index P b) (slice_index P e) (slice_index C) to → ChangePlaces (place d b) (place d e) (cols d) to
 moved_there d b e P C to ep ec h = subst (λ (X : List ℕ). ChangePlaces (slice_index X b) (slice_index X e) (cols d) to) ep (subst (λ (X : List ℕ). ChangePlaces (slice_index P b) (slice_index P e) (slice_index X) to) ec h)
 
-pub all_columns : (d : Dict) → columns_of d ≡ d.width + length d.rows.items
+pub all_columns : {L : _} {G : _} (d : Dict L G) → columns_of d ≡ d.width + length d.rows.items
 unfolding width_of height_of
 all_columns d = let c = d.count in omega arith
 
-pub placed : (d : Dict) → ArePlaces (d.width + length d.rows.items) (cols d) (place d)
+pub placed : {L : _} {G : _} (d : Dict L G) → ArePlaces (d.width + length d.rows.items) (cols d) (place d)
 placed d = subst (λ k. ArePlaces (d.width + k) (cols d) (place d)) (sym d.count) d.basis
 
-pub rows_over : (d : Dict) → IsLoaded d → (r : ℕ) → r < length d.rows.items → IsOver d.width (cols d) (entries_in (rows d) r)
+pub rows_over : {L : _} {G : _} (d : Dict L G) → IsLoaded d → (r : ℕ) → r < length d.rows.items → IsOver d.width (cols d) (entries_in (rows d) r)
 unfolding IsLoaded
 rows_over d h r l = h.1 r (let c = d.count in omega arith)
 
-module _ (d : Dict) (b e : ℕ) (basic : IsBasic d b) (nonbasic : IsNonbasic d e) where
+module _ {L : _} {G : _} (d : Dict L G) (b e : ℕ) (basic : IsBasic d b) (nonbasic : IsNonbasic d e) where
   pub b_inside : b < d.width + length d.rows.items
   unfolding width_of height_of
   b_inside = let i = basic.inside in let c = d.count in omega arith
@@ -129,12 +129,12 @@ module _ (d : Dict) (b e : ℕ) (basic : IsBasic d b) (nonbasic : IsNonbasic d e
     unfolding entry_of
     never_fits = pivot_wide d.width (cols d) (place d) (with_changed (place d b) (place d e) (cols d)) (with_changed b e (place d)) b e (rows d) before (rows_over d loaded)
 
-    pub fits_there : (out : List Row) → length out ≡ length d.rows.items → IsTablePivot (place d b - d.width) b e (rows d) out → PivotFits (entry_of d) b e
+    pub fits_there : (out : List (Row L)) → length out ≡ length d.rows.items → IsTablePivot (place d b - d.width) b e (rows d) out → PivotFits (entry_of d) b e
     unfolding entry_of
     fits_there out count pivot = pivot_fits d.width (cols d) (place d) (with_changed (place d b) (place d e) (cols d)) (with_changed b e (place d)) b e (rows d) out (record { exchanged = before; past = past_places; over = rows_over d loaded; count = count; pivot = pivot })
 
     -- the rows are pivoted, and the columns have exchanged their places
-    module _ (f : Dict) (width : f.width ≡ d.width) (height : f.height ≡ d.height) (flag : IsTrue f.is_loaded) (pivot : IsTablePivot (place d b - d.width) b e (rows d) (rows f)) (moved : ChangePlaces (place d b) (place d e) (cols d) (cols f)) (new : ChangePlaces b e (place d) (place f)) where
+    module _ (f : Dict L G) (width : f.width ≡ d.width) (height : f.height ≡ d.height) (flag : IsTrue f.is_loaded) (pivot : IsTablePivot (place d b - d.width) b e (rows d) (rows f)) (moved : ChangePlaces (place d b) (place d e) (cols d) (cols f)) (new : ChangePlaces b e (place d) (place f)) where
       turned : ArePivoted d.width (cols d) (place d) (cols f) (place f) b e (rows d) (rows f)
       turned = record {
         exchanged = after (cols f) (place f) moved new;

@@ -36,33 +36,33 @@ get_or_past (x ∷ xs) zero l = absurd (omega arith)
 get_or_past (x ∷ xs) (suc i) l = get_or_past xs i (omega arith)
 
 -- no row stands past the last
-pub past_rows : (rows : List Row) (r : ℕ) → length rows ≤ r → entries_in rows r ≡ []
+pub past_rows : {L : _} (rows : List (Row L)) (r : ℕ) → length rows ≤ r → entries_in rows r ≡ []
 past_rows rows r h = get_or_past (map entries_of rows) r (omega (arith, length-map rows entries_of))
 
-pub every_row : (P : List Item → Type 0) (rows : List Row) → P [] → ((r : ℕ) → r < length rows → P (entries_in rows r)) → (r : ℕ) → P (entries_in rows r)
+pub every_row : {L : _} (P : List Item → Type 0) (rows : List (Row L)) → P [] → ((r : ℕ) → r < length rows → P (entries_in rows r)) → (r : ℕ) → P (entries_in rows r)
 every_row P rows none_left p r = by_lt r (length rows) (p r) (λ l. subst P (sym (past_rows rows r l)) none_left)
 
-pub listed : (n : ℕ) (place : ℕ → ℕ) (rows : List Row) (a c : ℕ) → n ≤ place a → entries_by n place rows a c ≡ number_in (entries_in rows (place a - n)) c
+pub listed : {L : _} (n : ℕ) (place : ℕ → ℕ) (rows : List (Row L)) (a c : ℕ) → n ≤ place a → entries_by n place rows a c ≡ number_in (entries_in rows (place a - n)) c
 listed n place rows a c h = rw (le-ltb (place a) n h) refl
 
-pub unlisted : (n : ℕ) (place : ℕ → ℕ) (rows : List Row) (a c : ℕ) → place a < n → entries_by n place rows a c ≡ none
+pub unlisted : {L : _} (n : ℕ) (place : ℕ → ℕ) (rows : List (Row L)) (a c : ℕ) → place a < n → entries_by n place rows a c ≡ none
 unlisted n place rows a c h = rw (lt-ltb (place a) n h) refl
 
-pub entries-number : (n : ℕ) (place : ℕ → ℕ) (rows : List Row) (a c : ℕ) → IsNumber (entries_by n place rows a c)
+pub entries-number : {L : _} (n : ℕ) (place : ℕ → ℕ) (rows : List (Row L)) (a c : ℕ) → IsNumber (entries_by n place rows a c)
 entries-number n place rows a c =
     by_lt (place a) n
     (λ l. subst (λ (v : Ratio). IsNumber v) (sym (unlisted n place rows a c l)) none-number)
     (λ l. subst (λ (v : Ratio). IsNumber v) (sym (listed n place rows a c l)) (row-number (entries_in rows (place a - n)) c))
 
 -- a table over its columns that is pivoted, for the rows' own column b and the entering one e
-pub record ArePivoted (n : ℕ) (at place to new : ℕ → ℕ) (b e : ℕ) (rows out : List Row) : Type 0 where
+pub record ArePivoted {L : _} (n : ℕ) (at place to new : ℕ → ℕ) (b e : ℕ) (rows out : List (Row L)) : Type 0 where
   pub exchanged : AreExchanged n (n + length rows) at place to new b e
   pub past : (c : ℕ) → n + length rows ≤ c → place c < n
   pub over : (r : ℕ) → r < length rows → IsOver n at (entries_in rows r)
   pub count : length out ≡ length rows
   pub pivot : IsTablePivot (place b - n) b e rows out
 
-module _ (n : ℕ) (place : ℕ → ℕ) (rows : List Row) (b e : ℕ) where
+module _ {L : _} (n : ℕ) (place : ℕ → ℕ) (rows : List (Row L)) (b e : ℕ) where
   abbrev u : Entries
   u = entries_by n place rows
 
@@ -88,7 +88,7 @@ module _ (n : ℕ) (place : ℕ → ℕ) (rows : List Row) (b e : ℕ) where
             (subst (λ (v : Ratio). IsSame (number_in out c) (negative (quotient (number_in (entries_in rows p) c) v))) (sym t) (s.other c ce h))));
       }
 
-module _ (n : ℕ) (at place to new : ℕ → ℕ) (b e : ℕ) (rows out : List Row) (x : ArePivoted n at place to new b e rows out) where
+module _ {L : _} (n : ℕ) (at place to new : ℕ → ℕ) (b e : ℕ) (rows out : List (Row L)) (x : ArePivoted n at place to new b e rows out) where
   abbrev k : ℕ
   k = n + length rows
 

@@ -36,12 +36,12 @@ exchange_of n k at place b e places within b_in e_in b_from e_below = record {
   placed = changed b e place (λ h. let g : place b ≡ place e = subst (λ j. place b ≡ place j) h refl in omega arith);
 }
 
-module _ (n : ℕ) (at place to new : ℕ → ℕ) (b e : ℕ) (rows : List Row) (ex : AreExchanged n (n + length rows) at place to new b e) (over : (r : ℕ) → r < length rows → IsOver n at (entries_in rows r)) where
+module _ {L : _} (n : ℕ) (at place to new : ℕ → ℕ) (b e : ℕ) (rows : List (Row L)) (ex : AreExchanged n (n + length rows) at place to new b e) (over : (r : ℕ) → r < length rows → IsOver n at (entries_in rows r)) where
   same : (xs : List Item) (c : ℕ) → HasColumn xs c ⊎ HasColumn xs c → HasColumn xs c
   same xs c (inl h) = h
   same xs c (inr h) = h
 
-  merges : (mid : List Row) → IsSolvedAt (place b - n) b e rows mid → MergesHaveRoom (place b - n) e n mid
+  merges : (mid : List (Row L)) → IsSolvedAt (place b - n) b e rows mid → MergesHaveRoom (place b - n) e n mid
   merges mid s =
       let p = place b - n in
       let by = s.by in
@@ -56,7 +56,7 @@ module _ (n : ℕ) (at place to new : ℕ → ℕ) (b e : ℕ) (rows : List Row)
             (λ xs asc sub. at_most n to xs (record { ascending = asc; columns = λ c g. joined_over n (n + length rows) at place to new b e ex (entries_in rows r) (entries_in mid (place b - n)) (over r (inside r l)) mine c (sub c g) })));
       }
 
-  pub pivot_room : (scratch : Row) → HaveRoom n rows scratch → PivotHasRoom (place b - n) b e rows scratch
+  pub pivot_room : (scratch : Row L) → HaveRoom n rows scratch → PivotHasRoom (place b - n) b e rows scratch
   pivot_room scratch room = record {
     most = n;
     room = room;

@@ -14,34 +14,35 @@ use Rattle.dictionary.specs.Row.{entries_in, number_in, HasColumn, IsOver}
 use Rattle.dictionary.specs.Value.{AreValuesAt}
 use Rattle.dictionary.specs.Steps.{nonzeros}
 use Rattle.dictionary.specs.Dict.{width_of, height_of, columns_of, column_at, place_of, basic_of, entry_of, IsLoaded, IsBasic, IsNonbasic, Rest, count_of, values_of}
+use Rattle.dictionary.proofs.Counted.{at_most}
 use Rattle.dictionary.proofs.Nonzeros.{counted, nonzeros_same}
 use Rattle.dictionary.proofs.Exchanged.{one_place, basic_below, basic_from, place_basic, place_nonbasic}
 use Rattle.dictionary.proofs.Pivoted.{listed}
 use Rattle.dictionary.proofs.Held.{cols, place, rows, rows_over}
 
 -- the goal's column stands at its place alone
-not_goal : (d : Dict) (j : ℕ) → j < d.width + d.height → cols d j < d.width + d.height
+not_goal : {L : _} {G : _} (d : Dict L G) (j : ℕ) → j < d.width + d.height → cols d j < d.width + d.height
 not_goal d j l =
     let p = d.basis in
     let i = p.inside j (omega arith) in
     by_lt (cols d j) (d.width + d.height) (λ h. h)
     (λ h. let e = one_place (d.width + (d.height + 1)) (cols d) (place d) d.basis j (d.width + d.height) (omega arith) (omega arith) (let g = d.goal in omega arith) in absurd (omega arith))
 
-pub basic_there : (d : Dict) (i : ℕ) → i < d.height → IsBasic d (cols d (d.width + i))
+pub basic_there : {L : _} {G : _} (d : Dict L G) (i : ℕ) → i < d.height → IsBasic d (cols d (d.width + i))
 unfolding width_of height_of basic_of
 basic_there d i l = record {
   inside = not_goal d (d.width + i) (omega arith);
   is = let p = d.basis in basic_from d.width (place d) (cols d (d.width + i)) (let e = p.place_at (d.width + i) (omega arith) in omega arith);
 }
 
-pub nonbasic_there : (d : Dict) (j : ℕ) → j < d.width → IsNonbasic d (cols d j)
+pub nonbasic_there : {L : _} {G : _} (d : Dict L G) (j : ℕ) → j < d.width → IsNonbasic d (cols d j)
 unfolding width_of height_of basic_of
 nonbasic_there d j l = record {
   inside = not_goal d j (omega arith);
   is = let p = d.basis in basic_below d.width (place d) (cols d j) (let e = p.place_at j (omega arith) in omega arith);
 }
 
-pub through_nonbasic : (d : Dict) → GoesThrough (width_of d) (columns_of d) (basic_of d) false (column_at d) (place_of d)
+pub through_nonbasic : {L : _} {G : _} (d : Dict L G) → GoesThrough (width_of d) (columns_of d) (basic_of d) false (column_at d) (place_of d)
 unfolding width_of height_of basic_of column_at place_of
 through_nonbasic d =
     let p = d.basis in
@@ -53,7 +54,7 @@ through_nonbasic d =
       at_place = λ c h t. p.at_place c h;
     }
 
-pub through_basic : (d : Dict) → GoesThrough (height_of d) (width_of d + height_of d) (basic_of d) true (λ i. column_at d (width_of d + i)) (λ c. place_of d c - width_of d)
+pub through_basic : {L : _} {G : _} (d : Dict L G) → GoesThrough (height_of d) (width_of d + height_of d) (basic_of d) true (λ i. column_at d (width_of d + i)) (λ c. place_of d c - width_of d)
 unfolding width_of height_of basic_of column_at place_of
 through_basic d =
     let p = d.basis in
@@ -69,15 +70,15 @@ through_basic d =
     }
 
 -- of an equation's column: a basic one's, or the goal's
-pub equation_from : (d : Dict) (b : ℕ) → basic_of d b ≡ true → d.width ≤ place d b
+pub equation_from : {L : _} {G : _} (d : Dict L G) (b : ℕ) → basic_of d b ≡ true → d.width ≤ place d b
 unfolding basic_of
 equation_from d b h = place_basic d.width (place d) b h
 
-pub equation_place : (d : Dict) (b : ℕ) → b < columns_of d → b < length d.places.items
+pub equation_place : {L : _} {G : _} (d : Dict L G) (b : ℕ) → b < columns_of d → b < length d.places.items
 unfolding width_of height_of
 equation_place d b h = let n = d.places_count in omega arith
 
-pub equation_row : (d : Dict) (b : ℕ) → b < columns_of d → place d b - d.width < length d.rows.items
+pub equation_row : {L : _} {G : _} (d : Dict L G) (b : ℕ) → b < columns_of d → place d b - d.width < length d.rows.items
 unfolding width_of height_of
 equation_row d b h =
     let p = d.basis in
@@ -85,29 +86,33 @@ equation_row d b h =
     let n = d.count in
     omega arith
 
-pub from_basic : (d : Dict) (b : ℕ) → IsBasic d b → d.width ≤ place d b
+pub from_basic : {L : _} {G : _} (d : Dict L G) (b : ℕ) → IsBasic d b → d.width ≤ place d b
 from_basic d b h = equation_from d b h.is
 
-pub place_in : (d : Dict) (b : ℕ) → IsBasic d b → b < length d.places.items
+pub place_in : {L : _} {G : _} (d : Dict L G) (b : ℕ) → IsBasic d b → b < length d.places.items
 place_in d b h = equation_place d b (let i = h.inside in omega arith)
 
-pub row_in : (d : Dict) (b : ℕ) → IsBasic d b → place d b - d.width < length d.rows.items
+pub row_in : {L : _} {G : _} (d : Dict L G) (b : ℕ) → IsBasic d b → place d b - d.width < length d.rows.items
 row_in d b h = equation_row d b (let i = h.inside in omega arith)
 
 -- the goal's column is the last row's
-pub goal_from : (d : Dict) → d.width ≤ place d (d.width + d.height)
+pub goal_from : {L : _} {G : _} (d : Dict L G) → d.width ≤ place d (d.width + d.height)
 goal_from d = let p = d.basis in let e = p.place_at (d.width + d.height) (omega arith) in let g = ap (place d) d.goal in omega arith
 
-pub goal_row : (d : Dict) → d.height ≡ place d (d.width + d.height) - d.width
+pub goal_row : {L : _} {G : _} (d : Dict L G) → d.height ≡ place d (d.width + d.height) - d.width
 goal_row d = let p = d.basis in let e = p.place_at (d.width + d.height) (omega arith) in let g = ap (place d) d.goal in omega arith
 
-module _ (d : Dict) (loaded : IsLoaded d) (b r : ℕ) (from : d.width ≤ place d b) (er : r ≡ place d b - d.width) (inside : r < length d.rows.items) where
+module _ {L : _} {G : _} (d : Dict L G) (loaded : IsLoaded d) (b r : ℕ) (from : d.width ≤ place d b) (er : r ≡ place d b - d.width) (inside : r < length d.rows.items) where
   pub over_there : IsOver d.width (cols d) (entries_in (rows d) r)
   over_there = rows_over d loaded r inside
 
   pub said_there : (c : ℕ) → number_in (entries_in (rows d) r) c ≡ entry_of d b c
   unfolding entry_of
   said_there c = ap (λ j. number_in (entries_in (rows d) j) c) er ∙ sym (listed d.width (place d) (rows d) b c from)
+
+  pub digits_there : (b : ℕ) → width_of d < 2 ^ b → length (entries_in (rows d) r) < 2 ^ b
+  unfolding width_of
+  digits_there b l = let m = at_most d.width (cols d) (entries_in (rows d) r) over_there in omega arith
 
   -- an entry's column isn't basic
   column_there : (c : ℕ) → HasColumn (entries_in (rows d) r) c → (c < d.width + d.height) × (place d c < d.width)

@@ -43,7 +43,7 @@ term_other s f x y ps pf e t =
 one_fits : ReducedFits (whole (pos 1))
 one_fits = record { number = lit< tt; form = whole (pos 1); same = refl; reduced = whole-reduced (pos 1); within = (omega arith, omega arith) }
 
-module _ (n : ℕ) (place : ℕ → ℕ) (rows : List Row) (b e : ℕ) (from : n ≤ place b) (pivot : Frac) (entry : IsEntry (entries_in rows (place b - n)) e pivot) where
+module _ {L : _} (n : ℕ) (place : ℕ → ℕ) (rows : List (Row L)) (b e : ℕ) (from : n ≤ place b) (pivot : Frac) (entry : IsEntry (entries_in rows (place b - n)) e pivot) where
   abbrev u : Entries
   u = entries_by n place rows
 
@@ -111,7 +111,7 @@ module _ (n : ℕ) (place : ℕ → ℕ) (rows : List Row) (b e : ℕ) (from : n
           subst (λ (v : Ratio). TermFits v (ratio f) (number_in out c)) (said c) (subst (λ (v : Ratio). TermFits (u a c) v (number_in out c)) (said e ∙ ef.is) t));
     }
 
-module _ (n : ℕ) (at place to new : ℕ → ℕ) (b e : ℕ) (rows out : List Row) (x : ArePivoted n at place to new b e rows out) where
+module _ {L : _} (n : ℕ) (at place to new : ℕ → ℕ) (b e : ℕ) (rows out : List (Row L)) (x : ArePivoted n at place to new b e rows out) where
   pub pivot_fits : PivotFits (entries_by n place rows) b e
   pivot_fits =
       let pv = x.pivot in
@@ -126,14 +126,14 @@ module _ (n : ℕ) (at place to new : ℕ → ℕ) (b e : ℕ) (rows out : List 
             other_fits n place rows b e ex.b_from pv.pivot pv.entry (apart n (n + length rows) at place to new b e ex) (entries_in out (place b - n)) pv.row a (place a - n) l refl (entries_in out (place a - n)) (pv.others (place a - n) i.1 (other_row n at place to new b e rows out x a l ab)) c ce);
       }
 
-module _ (n : ℕ) (at place to new : ℕ → ℕ) (b e : ℕ) (rows : List Row) (ex : AreExchanged n (n + length rows) at place to new b e) (over : (r : ℕ) → r < length rows → IsOver n at (entries_in rows r)) where
+module _ {L : _} (n : ℕ) (at place to new : ℕ → ℕ) (b e : ℕ) (rows : List (Row L)) (ex : AreExchanged n (n + length rows) at place to new b e) (over : (r : ℕ) → r < length rows → IsOver n at (entries_in rows r)) where
   pub own_in : place b - n < length rows
   own_in = let q = ex.places in let l = q.stands b ex.b_in in let f = ex.b_from in omega arith
 
   pub own_absent : HasColumn (entries_in rows (place b - n)) b → ⊥
   own_absent = no_basic n (n + length rows) at place to new b e ex (entries_in rows (place b - n)) (over (place b - n) own_in)
 
-  other_wide : (mid : List Row) → IsSolvedAt (place b - n) b e rows mid → (r : ℕ) → r < length mid → (r ≡ place b - n → ⊥) → IsWideRow (entries_in mid r) (entries_in mid (place b - n)) e → PivotFits (entries_by n place rows) b e → ⊥
+  other_wide : (mid : List (Row L)) → IsSolvedAt (place b - n) b e rows mid → (r : ℕ) → r < length mid → (r ≡ place b - n → ⊥) → IsWideRow (entries_in mid r) (entries_in mid (place b - n)) e → PivotFits (entries_by n place rows) b e → ⊥
   other_wide mid s r l d w fits =
       let by = s.by in
       let q = ex.places in

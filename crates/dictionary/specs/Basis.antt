@@ -17,7 +17,7 @@ abbrev pub basic_by : ℕ → (ℕ → ℕ) → ℕ → Bool
 basic_by n place c = cond (nat_lt (place c) n) false true
 
 -- the entry of column c in the equation of basic column b, which is the row at its place
-abbrev pub entries_by : ℕ → (ℕ → ℕ) → List Row → Entries
+abbrev pub entries_by : {L : _} → ℕ → (ℕ → ℕ) → List (Row L) → Entries
 entries_by n place rows b c = cond (nat_lt (place b) n) none (number_in (entries_in rows (place b - n)) c)
 
 -- the columns at places x and y have changed them

@@ -10,50 +10,50 @@ use Rattle.dictionary.specs.Row.{entries_in, IsOver}
 use Rattle.dictionary.specs.Basis.{basic_by, entries_by}
 
 -- how many variables and rows, and how many columns with the goal's
-unfoldable pub width_of : Dict → ℕ
+unfoldable pub width_of : {L : _} {G : _} → Dict L G → ℕ
 width_of d = d.width
 
-unfoldable pub height_of : Dict → ℕ
+unfoldable pub height_of : {L : _} {G : _} → Dict L G → ℕ
 height_of d = d.height
 
-abbrev pub columns_of : Dict → ℕ
+abbrev pub columns_of : {L : _} {G : _} → Dict L G → ℕ
 columns_of d = width_of d + (height_of d + 1)
 
 -- the columns in the order in which they stand: those that aren't basic, the rows' basic ones, the goal's
-unfoldable pub column_at : Dict → ℕ → ℕ
+unfoldable pub column_at : {L : _} {G : _} → Dict L G → ℕ → ℕ
 column_at d = slice_index d.columns.items
 
-unfoldable pub place_of : Dict → ℕ → ℕ
+unfoldable pub place_of : {L : _} {G : _} → Dict L G → ℕ → ℕ
 place_of d = slice_index d.places.items
 
 -- whether a column is basic
-unfoldable pub basic_of : Dict → ℕ → Bool
+unfoldable pub basic_of : {L : _} {G : _} → Dict L G → ℕ → Bool
 basic_of d = basic_by d.width (slice_index d.places.items)
 
 -- the entry of each column in each basic one's equation, 0 where there is none
-unfoldable pub entry_of : Dict → Entries
+unfoldable pub entry_of : {L : _} {G : _} → Dict L G → Entries
 entry_of d = entries_by d.width (slice_index d.places.items) d.rows.items
 
 -- it is loaded: each row has entries of columns that aren't basic alone
-unfoldable pub IsLoaded : Dict → Type 0
+unfoldable pub IsLoaded : {L : _} {G : _} → Dict L G → Type 0
 IsLoaded d = IsTrue d.is_loaded × ((r : ℕ) → r < d.height + 1 → IsOver d.width (slice_index d.columns.items) (entries_in d.rows.items r))
 
 -- it is loaded, and is the dictionary of its basis for these rows, the goal's being the last
-pub record Holds (A : Entries) (d : Dict) : Type 0 where
+pub record Holds {L : _} {G : _} (A : Entries) (d : Dict L G) : Type 0 where
   pub loaded : IsLoaded d
   pub is : IsDictionary (width_of d) (height_of d + 1) A (basic_of d) (entry_of d)
 
 -- a variable's or a row's column that is basic, or isn't
-pub record IsBasic (d : Dict) (c : ℕ) : Type 0 where
+pub record IsBasic {L : _} {G : _} (d : Dict L G) (c : ℕ) : Type 0 where
   pub inside : c < width_of d + height_of d
   pub is : basic_of d c ≡ true
 
-pub record IsNonbasic (d : Dict) (c : ℕ) : Type 0 where
+pub record IsNonbasic {L : _} {G : _} (d : Dict L G) (c : ℕ) : Type 0 where
   pub inside : c < width_of d + height_of d
   pub is : basic_of d c ≡ false
 
 -- as many variables and rows
-pub record HaveOneSize (d e : Dict) : Type 0 where
+pub record HaveOneSize {L : _} {G : _} (d e : Dict L G) : Type 0 where
   pub width : width_of e ≡ width_of d
   pub height : height_of e ≡ height_of d
 
@@ -65,6 +65,6 @@ unfoldable pub values_of : Places → Values
 values_of p = value_at (ratios p.values.items)
 
 -- w has the values of all columns that aren't basic
-pub record Rest (d : Dict) (p : Places) (w : Values) : Type 0 where
+pub record Rest {L : _} {G : _} (d : Dict L G) (p : Places) (w : Values) : Type 0 where
   pub numbers : (c : ℕ) → IsNumber (w c)
   pub values : (c : ℕ) → c < width_of d + height_of d → basic_of d c ≡ false → w c ≡ values_of p c

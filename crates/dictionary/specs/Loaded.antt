@@ -39,5 +39,5 @@ pub record IsRowOf (n : ℕ) (f : ℕ → Ratio) (xs : List Item) : Type 0 where
   pub numbers : (c : ℕ) → number_in xs c ≡ f c
 
 -- so has each of m rows
-pub record AreRowsOf (n m : ℕ) (A : Entries) (rows : List Row) : Type 0 where
+pub record AreRowsOf {L : _} (n m : ℕ) (A : Entries) (rows : List (Row L)) : Type 0 where
   pub rows_are : (r : ℕ) → r < m → IsRowOf n (A r) (entries_in rows r)

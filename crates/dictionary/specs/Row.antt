@@ -8,17 +8,17 @@ use Rattle.dictionary.specs.declared.row.Item.{Item}
 use Rattle.dictionary.specs.declared.row.Row.{Row}
 
 -- a row's entries, and how many it has room for
-abbrev pub entries_of : Row → List Item
+abbrev pub entries_of : {L : _} → Row L → List Item
 entries_of row = row.items.items
 
-abbrev pub room_of : Row → ℕ
+abbrev pub room_of : {L : _} → Row L → ℕ
 room_of row = vec_capacity row.items
 
 -- the same of row r of a table
-abbrev pub entries_in : List Row → ℕ → List Item
+abbrev pub entries_in : {L : _} → List (Row L) → ℕ → List Item
 entries_in rows r = slice_index_or (map entries_of rows) r []
 
-abbrev pub room_in : List Row → ℕ → ℕ
+abbrev pub room_in : {L : _} → List (Row L) → ℕ → ℕ
 room_in rows r = slice_index_or (map room_of rows) r 0
 
 -- an entry's number at a column
@@ -68,10 +68,10 @@ pub record IsOver (n : ℕ) (at : ℕ → ℕ) (xs : List Item) : Type 0 where
   pub columns : (c : ℕ) → HasColumn xs c → Stands n at c
 
 -- each row of a table has room for n entries
-abbrev pub RowsHaveRoom : ℕ → List Row → Type 0
+abbrev pub RowsHaveRoom : {L : _} → ℕ → List (Row L) → Type 0
 RowsHaveRoom n rows = (r : ℕ) → r < length rows → n ≤ room_in rows r
 
 -- and so has one more
-pub record HaveRoom (n : ℕ) (rows : List Row) (scratch : Row) : Type 0 where
+pub record HaveRoom {L : _} (n : ℕ) (rows : List (Row L)) (scratch : Row L) : Type 0 where
   pub each : RowsHaveRoom n rows
   pub more : n ≤ room_of scratch

@@ -36,7 +36,7 @@ pub record IsWideBy (row : List Item) (skip : ℕ) : Type 0 where
   pub wide : SolveFits row (ratio pivot) → ⊥
 
 -- row p of a table is solved in it, and no other row changes
-pub record IsSolvedAt (p basic skip : ℕ) (old new : List Row) : Type 0 where
+pub record IsSolvedAt {L : _} (p basic skip : ℕ) (old new : List (Row L)) : Type 0 where
   pub count : length new ≡ length old
   pub by : IsSolvedBy (entries_in old p) basic skip (entries_in new p)
   pub others : (k : ℕ) → (k ≡ p → ⊥) → entries_in new k ≡ entries_in old k
@@ -72,50 +72,50 @@ others_cost T p by skip b zero = 0
 others_cost T p by skip b (suc k) = others_cost T p by skip b k + cond (nat_eq k p) 0 (b + row_cost (T k) by skip)
 
 -- row r of a table, one of the others than p, is replaced in it, and no other row is
-pub record IsReplacedAt (r p skip : ℕ) (old new : List Row) : Type 0 where
+pub record IsReplacedAt {L : _} (r p skip : ℕ) (old new : List (Row L)) : Type 0 where
   pub count : length new ≡ length old
   pub row : (r ≡ p → ⊥) → IsReplacedRow (entries_in old r) (entries_in old p) skip (entries_in new r)
   pub own : r ≡ p → entries_in new r ≡ entries_in old r
   pub others : (k : ℕ) → (k ≡ r → ⊥) → entries_in new k ≡ entries_in old k
 
 -- each row's merge with row p has at most n entries
-pub record MergesHaveRoom (p skip n : ℕ) (rows : List Row) : Type 0 where
+pub record MergesHaveRoom {L : _} (p skip n : ℕ) (rows : List (Row L)) : Type 0 where
   pub ascending : (r : ℕ) → r < length rows → IsRow (entries_in rows r)
   pub merge : (r : ℕ) → r < length rows → HasRoom (entries_in rows r) (entries_in rows p) skip n
 
 -- each of the first rows but p is replaced, and the others are as before
-pub record AreReplaced (p skip stop : ℕ) (old new : List Row) : Type 0 where
+pub record AreReplaced {L : _} (p skip stop : ℕ) (old new : List (Row L)) : Type 0 where
   pub count : length new ≡ length old
   pub rows : (r : ℕ) → r < stop → (r ≡ p → ⊥) → IsReplacedRow (entries_in old r) (entries_in old p) skip (entries_in new r)
   pub own : entries_in new p ≡ entries_in old p
   pub after : (r : ℕ) → stop ≤ r → entries_in new r ≡ entries_in old r
 
 -- a number of one of the rows doesn't fit
-pub record IsWideTable (p skip : ℕ) (rows : List Row) : Type 0 where
+pub record IsWideTable {L : _} (p skip : ℕ) (rows : List (Row L)) : Type 0 where
   pub row : ℕ
   pub inside : row < length rows
   pub other : row ≡ p → ⊥
   pub wide : IsWideRow (entries_in rows row) (entries_in rows p) skip
 
 -- row p is solved, and it replaces the column skip in each other row
-pub record IsTablePivot (p basic skip : ℕ) (old new : List Row) : Type 0 where
+pub record IsTablePivot {L : _} (p basic skip : ℕ) (old new : List (Row L)) : Type 0 where
   pub pivot : Frac
   pub entry : IsEntry (entries_in old p) skip pivot
   pub row : SolvesRow (entries_in old p) (ratio pivot) basic skip (entries_in new p)
   pub others : (r : ℕ) → r < length old → (r ≡ p → ⊥) → IsReplacedRow (entries_in old r) (entries_in new p) skip (entries_in new r)
 
 -- a number of the pivot doesn't fit: one of its own row, or of another once that is solved
-pub record IsWideAfter (p basic skip : ℕ) (old : List Row) : Type 0 where
-  pub mid : List Row
+pub record IsWideAfter {L : _} (p basic skip : ℕ) (old : List (Row L)) : Type 0 where
+  pub mid : List (Row L)
   pub solved : IsSolvedAt p basic skip old mid
   pub wide : IsWideTable p skip mid
 
-abbrev pub IsWidePivot : ℕ → ℕ → ℕ → List Row → Type 0
+abbrev pub IsWidePivot : {L : _} → ℕ → ℕ → ℕ → List (Row L) → Type 0
 IsWidePivot p basic skip old = IsWideBy (entries_in old p) skip ⊎ IsWideAfter p basic skip old
 
 -- the rows have room for the pivot's own row, and once that is solved for the merges
-pub record PivotHasRoom (p basic skip : ℕ) (rows : List Row) (scratch : Row) : Type 0 where
+pub record PivotHasRoom {L : _} (p basic skip : ℕ) (rows : List (Row L)) (scratch : Row L) : Type 0 where
   pub most : ℕ
   pub room : HaveRoom most rows scratch
   pub own : length (entries_in rows p) ≤ most
-  pub after : (mid : List Row) → IsSolvedAt p basic skip rows mid → MergesHaveRoom p skip most mid
+  pub after : (mid : List (Row L)) → IsSolvedAt p basic skip rows mid → MergesHaveRoom p skip most mid

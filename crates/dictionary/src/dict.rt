@@ -18,14 +18,15 @@ use std::sync::ledger::Ledger;
 /// The dictionary of a basis: each basic column as a sum over the others (Chvátal, Linear Programming, 1983, chapter 2).
 ///
 /// Its columns are `width` variables, `height` rows and the goal, whose column is `width + height` and always basic. Whether
-/// it is loaded is asked by contracts alone.
+/// it is loaded is asked by contracts alone. The entries of its rows are read and written on the ledger `L` alone, so each
+/// call that does takes that ledger's [`Steps`].
 #[derive(Drop)]
-pub struct Dict {
+pub struct Dict<L: Ledger> {
     width: u32,
     height: u32,
-    rows: Vec<Row>,
-    lead: Row,
-    scratch: Row,
+    rows: Vec<Row<L>>,
+    lead: Row<L>,
+    scratch: Row<L>,
     columns: Vec<u32>,
     places: Vec<u32>,
     is_loaded: bool,
@@ -39,7 +40,11 @@ pub struct Dict {
     ghost goal: { slice_index columns.items (width + height) ≡ width + height },
 }
 
-fn make_rows(alloc: Global, width: usize, count: usize) -> Result<Vec<Row>, AllocError>
+fn make_rows<L: Ledger>(
+    alloc: Global,
+    width: usize,
+    count: usize,
+) -> Result<Vec<Row<L>>, AllocError>
     ensures count { IfOk result (λ v. length v.items ≡ count) }
     ensures room { IfOk result (λ v. RowsHaveRoom width v.items) }
 {
@@ -50,7 +55,7 @@ fn make_rows(alloc: Global, width: usize, count: usize) -> Result<Vec<Row>, Allo
     Ok(rows)
 }
 
-impl Dict {
+impl<L: Ledger> Dict<L> {
     ghost use Rattle.std.specs.Prelude.{◌≢◌, ◌-◌, pos, OnErr};
     ghost use Rattle.std.specs.List.{All};
     ghost use Rattle.rational.specs.Ratio.{IsSame};
@@ -65,7 +70,7 @@ impl Dict {
 
     /// Room for a dictionary of so many variables and rows, which isn't loaded: `width` entries for each row, the goal and
     /// one row more. The room is reserved and not written to. More columns than there are numbers of 32 bits find none.
-    pub fn with_size(alloc: Global, width: u32, height: u32) -> Result<Dict, AllocError>
+    pub fn with_size(alloc: Global, width: u32, height: u32) -> Result<Dict<L>, AllocError>
         ensures width { IfOk result (λ d. width_of d ≡ width) }
         ensures height { IfOk result (λ d. height_of d ≡ height) }
     {
@@ -92,19 +97,21 @@ impl Dict {
     }
 
     /// Makes the dictionary in which the rows of these entries are basic. The goal's row is the costs, their negatives or
-    /// 0, by the sign of `factor`.
-    pub fn load(&mut self, matrix: &[Entry], costs: &[Frac], factor: i8)
+    /// 0, by the sign of `factor`. Each entry and each cost is written at most once.
+    pub fn load(&mut self, matrix: &[Entry], costs: &[Frac], factor: i8, steps: &mut Steps<L>)
         requires costs { length costs.now ≡ width_of self.old }
         requires ascending { IsAscending matrix.now }
         requires inside { All (IsInside (height_of self.old) (width_of self.old)) matrix.now }
         ensures size { HaveOneSize self.old self.new }
         ensures holds { Holds (rows_of matrix.now costs.now factor (height_of self.old)) self.new }
         ensures basis { (c : ℕ) → c < columns_of self.old → basic_of self.new c ≡ is_fresh (width_of self.old) c }
+        ensures cost { steps.new ≤ steps.old + (length matrix.now + width_of self.old) }
+        ensures counted { steps.old ≤ steps.new }
     {
         let rows = self.rows.as_mut_slice();
         let columns = self.columns.as_mut_slice();
         let places = self.places.as_mut_slice();
-        load_rows(rows, matrix, costs, factor);
+        load_rows(rows, matrix, costs, factor, steps);
         number(columns);
         number(places);
         self.is_loaded = true;
@@ -123,12 +130,7 @@ impl Dict {
     ///
     /// [`Wide`] exactly where one of the pivot's quotients, products and sums doesn't fit; then the dictionary isn't loaded
     /// until it is loaded anew.
-    pub fn pivot<L: Ledger>(
-        &mut self,
-        basic: u32,
-        nonbasic: u32,
-        steps: &mut Steps<L>,
-    ) -> Result<(), Wide>
+    pub fn pivot(&mut self, basic: u32, nonbasic: u32, steps: &mut Steps<L>) -> Result<(), Wide>
         requires loaded { IsLoaded self.old }
         requires basic { IsBasic self.old basic }
         requires nonbasic { IsNonbasic self.old nonbasic }
@@ -141,6 +143,7 @@ impl Dict {
         ensures wide { OnErr result (PivotFits (entry_of self.old) basic nonbasic → ⊥) }
         ensures unloaded { OnErr result (IsLoaded self.new → ⊥) }
         ensures cost { (b : ℕ) → width_of self.old < 2 ^ b → steps.new ≤ steps.old + pivot_steps (columns_of self.old) (height_of self.old + 1) (entry_of self.old) basic nonbasic b }
+        ensures counted { steps.old ≤ steps.new }
     {
         self.is_loaded = false;
         let p = self.row_of(basic);
@@ -165,12 +168,7 @@ impl Dict {
     /// times their value.
     ///
     /// [`Wide`] exactly where one of the products or sums doesn't fit; terms with a factor 0 are left out.
-    pub fn value_of<L: Ledger>(
-        &self,
-        basic: u32,
-        places: &Places,
-        steps: &mut Steps<L>,
-    ) -> Result<Frac, Wide>
+    pub fn value_of(&self, basic: u32, places: &Places, steps: &mut Steps<L>) -> Result<Frac, Wide>
         requires loaded { IsLoaded self.now }
         requires basic { IsBasic self.now basic }
         requires places { width_of self.now + height_of self.now ≤ count_of places.now }
@@ -178,42 +176,56 @@ impl Dict {
         ensures fits { (w : Values) → Rest self.now places.now w → IfOk result (λ _. ValueFits (columns_of self.now) (entry_of self.now basic) w) }
         ensures wide { (w : Values) → Rest self.now places.now w → OnErr result (ValueFits (columns_of self.now) (entry_of self.now basic) w → ⊥) }
         ensures cost { steps.new ≤ steps.old + nonzeros (columns_of self.now) (entry_of self.now basic) }
+        ensures counted { steps.old ≤ steps.new }
     {
         let r = self.row_of(basic);
         sum_row(&self.rows[r], places, steps)
     }
 
-    /// The entry of a column that isn't basic in a basic one's equation.
-    pub fn entry(&self, basic: u32, nonbasic: u32) -> Frac
+    /// The entry of a column that isn't basic in a basic one's equation: a search, of as many steps at most as `width` has
+    /// binary digits.
+    pub fn entry(&self, basic: u32, nonbasic: u32, steps: &mut Steps<L>) -> Frac
         requires loaded { IsLoaded self.now }
         requires basic { IsBasic self.now basic }
         requires nonbasic { IsNonbasic self.now nonbasic }
-        ensures { ratio result ≡ entry_of self.now basic nonbasic }
+        ensures entry { ratio result ≡ entry_of self.now basic nonbasic }
+        ensures cost { (b : ℕ) → width_of self.now < 2 ^ b → steps.new ≤ steps.old + b }
+        ensures counted { steps.old ≤ steps.new }
     {
         let r = self.row_of(basic);
-        number_at(&self.rows[r], nonbasic)
+        number_at(&self.rows[r], nonbasic, steps)
     }
 
-    /// The goal's entry at a column that isn't basic.
-    pub fn cost(&self, nonbasic: u32) -> Frac
+    /// The goal's entry at a column that isn't basic, by a search too.
+    pub fn cost(&self, nonbasic: u32, steps: &mut Steps<L>) -> Frac
         requires loaded { IsLoaded self.now }
         requires nonbasic { IsNonbasic self.now nonbasic }
-        ensures { ratio result ≡ entry_of self.now (width_of self.now + height_of self.now) nonbasic }
+        ensures entry { ratio result ≡ entry_of self.now (width_of self.now + height_of self.now) nonbasic }
+        ensures cost { (b : ℕ) → width_of self.now < 2 ^ b → steps.new ≤ steps.old + b }
+        ensures counted { steps.old ≤ steps.new }
     {
-        number_at(&self.rows[self.height as usize], nonbasic)
+        number_at(&self.rows[self.height as usize], nonbasic, steps)
     }
 
     /// The entry of a column that isn't basic in the equation of a basic one, the goal's too, as the others tell it. Where columns
-    /// are asked for in ascending order, from the place 0 on, each is found at once.
-    pub fn entry_near(&self, row: u32, nonbasic: u32, place: &mut usize) -> Frac
+    /// are asked for in ascending order, from the place 0 on, each is found at once. Else there is a search after three steps.
+    pub fn entry_near(
+        &self,
+        row: u32,
+        nonbasic: u32,
+        place: &mut usize,
+        steps: &mut Steps<L>,
+    ) -> Frac
         requires loaded { IsLoaded self.now }
         requires row { row < columns_of self.now }
         requires basic { basic_of self.now row ≡ true }
         requires nonbasic { IsNonbasic self.now nonbasic }
-        ensures { ratio result ≡ entry_of self.now row nonbasic }
+        ensures entry { ratio result ≡ entry_of self.now row nonbasic }
+        ensures cost { (b : ℕ) → width_of self.now < 2 ^ b → steps.new ≤ steps.old + 3 + b }
+        ensures counted { steps.old ≤ steps.new }
     {
         let r = self.row_of(row);
-        number_near(&self.rows[r], nonbasic, place)
+        number_near(&self.rows[r], nonbasic, place, steps)
     }
 
     /// The basic columns of variables and rows in some order, each once: `i` is below `height`.

@@ -7,15 +7,15 @@ use crate::numbers::zero;
 use crate::row::Row;
 use crate::steps::Steps;
 use fraction::Frac;
-use std::marker::Brand;
-use std::sync::ledger::{Blank, Ledger};
+use std::sync::ledger::Ledger;
 
 /// The value of the entry of a column, where there is one.
-pub fn find<L: Ledger>(row: &Row, col: u32, steps: &mut Steps<L>) -> Option<Frac>
+pub fn find<L: Ledger>(row: &Row<L>, col: u32, steps: &mut Steps<L>) -> Option<Frac>
     requires { IsRow (entries_of row.now) }
     ensures found { IfSome result (IsEntry (entries_of row.now) col) }
     ensures absent { result ≡ None → HasColumn (entries_of row.now) col → ⊥ }
     ensures cost { (b : ℕ) → length (entries_of row.now) < 2 ^ b → steps.new ≤ steps.old + b }
+    ensures counted { steps.old ≤ steps.new }
 {
     let mut low = 0;
     let mut high = row.len();
@@ -35,10 +35,12 @@ pub fn find<L: Ledger>(row: &Row, col: u32, steps: &mut Steps<L>) -> Option<Frac
 }
 
 /// Whether all entries before this place are of lesser columns.
-fn is_past<L: Ledger>(row: &Row, col: u32, place: usize, steps: &mut Steps<L>) -> bool
+fn is_past<L: Ledger>(row: &Row<L>, col: u32, place: usize, steps: &mut Steps<L>) -> bool
     requires row { IsRow (entries_of row.now) }
     requires inside { place ≤ length (entries_of row.now) }
-    ensures { result ≡ true → HasColumn (take place (entries_of row.now)) col → ⊥ }
+    ensures past { result ≡ true → HasColumn (take place (entries_of row.now)) col → ⊥ }
+    ensures cost { steps.new ≤ steps.old + 1 }
+    ensures counted { steps.old ≤ steps.new }
 {
     if place == 0 {
         return true;
@@ -48,10 +50,12 @@ fn is_past<L: Ledger>(row: &Row, col: u32, place: usize, steps: &mut Steps<L>) -
 }
 
 /// Whether all entries from this place on are of greater columns.
-fn is_before<L: Ledger>(row: &Row, col: u32, place: usize, steps: &mut Steps<L>) -> bool
+fn is_before<L: Ledger>(row: &Row<L>, col: u32, place: usize, steps: &mut Steps<L>) -> bool
     requires row { IsRow (entries_of row.now) }
     requires inside { place ≤ length (entries_of row.now) }
-    ensures { result ≡ true → HasColumn (drop place (entries_of row.now)) col → ⊥ }
+    ensures before { result ≡ true → HasColumn (drop place (entries_of row.now)) col → ⊥ }
+    ensures cost { steps.new ≤ steps.old + 1 }
+    ensures counted { steps.old ≤ steps.new }
 {
     if place == row.len() {
         return true;
@@ -61,9 +65,11 @@ fn is_before<L: Ledger>(row: &Row, col: u32, place: usize, steps: &mut Steps<L>)
 }
 
 /// Whether the column's entry would stand at this place, and none does.
-fn is_gap<L: Ledger>(row: &Row, col: u32, place: usize, steps: &mut Steps<L>) -> bool
+fn is_gap<L: Ledger>(row: &Row<L>, col: u32, place: usize, steps: &mut Steps<L>) -> bool
     requires { IsRow (entries_of row.now) }
-    ensures { result ≡ true → HasColumn (entries_of row.now) col → ⊥ }
+    ensures absent { result ≡ true → HasColumn (entries_of row.now) col → ⊥ }
+    ensures cost { steps.new ≤ steps.old + 2 }
+    ensures counted { steps.old ≤ steps.new }
 {
     if place > row.len() {
         return false;
@@ -75,10 +81,17 @@ fn is_gap<L: Ledger>(row: &Row, col: u32, place: usize, steps: &mut Steps<L>) ->
 }
 
 /// The value of the entry at this place, if that is one of the column.
-fn value_there<L: Ledger>(row: &Row, col: u32, place: usize, steps: &mut Steps<L>) -> Option<Frac>
+fn value_there<L: Ledger>(
+    row: &Row<L>,
+    col: u32,
+    place: usize,
+    steps: &mut Steps<L>,
+) -> Option<Frac>
     requires { IsRow (entries_of row.now) }
     ensures found { IfSome result (IsEntry (entries_of row.now) col) }
     ensures inside { IfSome result (λ _. place < length (entries_of row.now)) }
+    ensures cost { steps.new ≤ steps.old + 1 }
+    ensures counted { steps.old ≤ steps.new }
 {
     if place >= row.len() {
         return None;
@@ -90,55 +103,39 @@ fn value_there<L: Ledger>(row: &Row, col: u32, place: usize, steps: &mut Steps<L
     Some(x.value)
 }
 
-fn number_near_by<L: Ledger>(row: &Row, col: u32, place: &mut usize, blank: Blank) -> Frac
-    requires row { IsRow (entries_of row.now) }
-    requires name { blank.name ≡ L.name }
-    requires parts { blank.parts ≡ L.parts }
-    requires some { 0 < blank.parts }
-    ensures { ratio result ≡ number_in (entries_of row.now) col }
+/// The number of a column, 0 where it has no entry. It is found at once where its entry, or the first one of a greater column,
+/// is at the place, which then becomes that of the next entry: so ascending columns are asked for from the place 0 on.
+pub fn number_near<L: Ledger>(
+    row: &Row<L>,
+    col: u32,
+    place: &mut usize,
+    steps: &mut Steps<L>,
+) -> Frac
+    requires { IsRow (entries_of row.now) }
+    ensures number { ratio result ≡ number_in (entries_of row.now) col }
+    ensures cost { (b : ℕ) → length (entries_of row.now) < 2 ^ b → steps.new ≤ steps.old + 3 + b }
+    ensures counted { steps.old ≤ steps.new }
 {
-    let mut steps = Steps::<L>::new(blank);
     let at = *place;
-    if let Some(value) = value_there(row, col, at, &mut steps) {
+    if let Some(value) = value_there(row, col, at, steps) {
         *place = at + 1;
         return value;
     }
-    if is_gap(row, col, at, &mut steps) {
+    if is_gap(row, col, at, steps) {
         return zero();
     }
-    match find(row, col, &mut steps) {
+    number_at(row, col, steps)
+}
+
+/// The number of a column, 0 where it has no entry.
+pub fn number_at<L: Ledger>(row: &Row<L>, col: u32, steps: &mut Steps<L>) -> Frac
+    requires { IsRow (entries_of row.now) }
+    ensures number { ratio result ≡ number_in (entries_of row.now) col }
+    ensures cost { (b : ℕ) → length (entries_of row.now) < 2 ^ b → steps.new ≤ steps.old + b }
+    ensures counted { steps.old ≤ steps.new }
+{
+    match find(row, col, steps) {
         Some(value) => value,
         None => zero(),
     }
-}
-
-/// The number of a column, 0 where it has no entry. It is found at once where its entry, or the first one of a greater column,
-/// is at the place, which then becomes that of the next entry: so ascending columns are asked for from the place 0 on.
-pub fn number_near(row: &Row, col: u32, place: &mut usize) -> Frac
-    requires { IsRow (entries_of row.now) }
-    ensures { ratio result ≡ number_in (entries_of row.now) col }
-{
-    number_near_by::<Brand>(row, col, place, Blank::new(1))
-}
-
-fn number_by<L: Ledger>(row: &Row, col: u32, blank: Blank) -> Frac
-    requires row { IsRow (entries_of row.now) }
-    requires name { blank.name ≡ L.name }
-    requires parts { blank.parts ≡ L.parts }
-    requires some { 0 < blank.parts }
-    ensures { ratio result ≡ number_in (entries_of row.now) col }
-{
-    let mut steps = Steps::<L>::new(blank);
-    match find(row, col, &mut steps) {
-        Some(value) => value,
-        None => zero(),
-    }
-}
-
-/// The number of a column, 0 where it has no entry. Whoever asks counts no steps.
-pub fn number_at(row: &Row, col: u32) -> Frac
-    requires { IsRow (entries_of row.now) }
-    ensures { ratio result ≡ number_in (entries_of row.now) col }
-{
-    number_by::<Brand>(row, col, Blank::new(1))
 }

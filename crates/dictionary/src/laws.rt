@@ -4,6 +4,8 @@ ghost use Rattle.bases.specs.Order.{GoesThrough};
 ghost use Rattle.dictionary.specs.declared.dict.Dict.{Dict};
 ghost use Rattle.dictionary.specs.Dict.{width_of, height_of, columns_of, column_at, place_of, basic_of};
 
+use std::sync::ledger::Ledger;
+
 /// Rows with equal entries have the same dictionaries.
 pub fn dictionaries_of_equal_rows()
     ensures { (n m : ℕ) (A B : Entries) (basic : ℕ → Bool) (u : Entries) → ((i j : ℕ) → i < m → j < n → A i j ≡ B i j) → IsDictionary n m A basic u → IsDictionary n m B basic u }
@@ -11,7 +13,7 @@ pub fn dictionaries_of_equal_rows()
 
 /// The first places go through the columns that aren't basic, goal included, and the next ones through the basic columns of
 /// variables and rows, each once.
-pub fn orders_go_through()
-    ensures nonbasic { (d : Dict) → GoesThrough (width_of d) (columns_of d) (basic_of d) false (column_at d) (place_of d) }
-    ensures basic { (d : Dict) → GoesThrough (height_of d) (width_of d + height_of d) (basic_of d) true (λ i. column_at d (width_of d + i)) (λ c. place_of d c - width_of d) }
+pub fn orders_go_through<L: Ledger>()
+    ensures nonbasic { (d : Dict L L.Ledger) → GoesThrough (width_of d) (columns_of d) (basic_of d) false (column_at d) (place_of d) }
+    ensures basic { (d : Dict L L.Ledger) → GoesThrough (height_of d) (width_of d + height_of d) (basic_of d) true (λ i. column_at d (width_of d + i)) (λ c. place_of d c - width_of d) }
 {}

@@ -14,11 +14,12 @@ use instance::add_product;
 use std::sync::ledger::Ledger;
 
 /// Puts an entry at the end, where it isn't 0 and not at `skip`.
-fn append<L: Ledger>(out: &mut Row, item: &Item, skip: u32, steps: &mut Steps<L>)
+fn append<L: Ledger>(out: &mut Row<L>, item: &Item, skip: u32, steps: &mut Steps<L>)
     requires { item.now.value.numer ≢ pos 0 → item.now.col ≢ skip → length (entries_of out.old) < room_of out.old }
     ensures is { IsAppended skip item.now (entries_of out.old) (entries_of out.new) }
     ensures room { room_of out.old ≤ room_of out.new }
     ensures cost { steps.new ≤ steps.old + 1 }
+    ensures counted { steps.old ≤ steps.new }
 {
     if item.value.numer != 0 && item.col != skip {
         out.write(*item, steps);
@@ -29,7 +30,7 @@ fn append<L: Ledger>(out: &mut Row, item: &Item, skip: u32, steps: &mut Steps<L>
 // Most entries of a long row are copied: what a product needs on the stack is then out of their way.
 #[inline(never)]
 fn append_product<L: Ledger>(
-    out: &mut Row,
+    out: &mut Row<L>,
     factor: Frac,
     y: &Item,
     skip: u32,
@@ -40,6 +41,7 @@ fn append_product<L: Ledger>(
     ensures wide { OnErr result (ReducedFits (product (ratio factor) (ratio y.now.value)) → ⊥) }
     ensures room { room_of out.old ≤ room_of out.new }
     ensures cost { steps.new ≤ steps.old + 1 }
+    ensures counted { steps.old ≤ steps.new }
 {
     let value = factor.mul(y.value)?;
     append(out, &Item { col: y.col, value }, skip, steps);
@@ -49,7 +51,7 @@ fn append_product<L: Ledger>(
 /// Puts an entry and a factor times one of the same column at the end, where the sum isn't 0 and not at `skip`.
 #[inline(never)]
 fn append_sum<L: Ledger>(
-    out: &mut Row,
+    out: &mut Row<L>,
     x: &Item,
     factor: Frac,
     y: &Item,
@@ -61,6 +63,7 @@ fn append_sum<L: Ledger>(
     ensures wide { OnErr result (TermFits (ratio x.now.value) (ratio factor) (ratio y.now.value) → ⊥) }
     ensures room { room_of out.old ≤ room_of out.new }
     ensures cost { steps.new ≤ steps.old + 1 }
+    ensures counted { steps.old ≤ steps.new }
 {
     let value = add_product(x.value, factor, y.value)?;
     append(out, &Item { col: x.col, value }, skip, steps);
@@ -76,12 +79,12 @@ struct Used {
 
 /// Puts the next entry of a merge at the end: the lesser column's, or that of both where they are one.
 fn advance<L: Ledger>(
-    row: &Row,
+    row: &Row<L>,
     factor: Frac,
-    by: &Row,
+    by: &Row<L>,
     skip: u32,
     used: Used,
-    out: &mut Row,
+    out: &mut Row<L>,
     steps: &mut Steps<L>,
 ) -> Result<Used, Wide>
     requires i { used.i ≤ length (entries_of row.now) }
@@ -95,6 +98,7 @@ fn advance<L: Ledger>(
     ensures wide { OnErr result (IsWide (ratio factor) (drop used.i (entries_of row.now)) (drop used.j (entries_of by.now))) }
     ensures room { room_of out.old ≤ room_of out.new }
     ensures cost { steps.new ≤ steps.old + 3 }
+    ensures counted { steps.old ≤ steps.new }
 {
     let Used { i, j } = used;
     if j == by.len() {
@@ -123,11 +127,11 @@ fn advance<L: Ledger>(
 
 /// A row and another times a factor, but for the column `skip`, in place of what `out` had.
 pub fn merge<L: Ledger>(
-    row: &Row,
+    row: &Row<L>,
     factor: Frac,
-    by: &Row,
+    by: &Row<L>,
     skip: u32,
-    out: &mut Row,
+    out: &mut Row<L>,
     steps: &mut Steps<L>,
 ) -> Result<(), Wide>
     requires row { IsRow (entries_of row.now) }
@@ -139,6 +143,7 @@ pub fn merge<L: Ledger>(
     ensures fits { IfOk result (λ _. MergeFits (entries_of row.now) (ratio factor) (entries_of by.now)) }
     ensures wide { OnErr result (MergeFits (entries_of row.now) (ratio factor) (entries_of by.now) → ⊥) }
     ensures cost { steps.new ≤ steps.old + 3 * (length (entries_of row.now) + length (entries_of by.now)) }
+    ensures counted { steps.old ≤ steps.new }
 {
     out.clear();
     let mut used = Used { i: 0, j: 0 };

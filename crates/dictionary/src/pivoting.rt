@@ -12,9 +12,9 @@ use std::sync::ledger::Ledger;
 
 /// Pivots in place at row `p`: `basic` is its column, and `nonbasic` comes in for it.
 pub fn pivot_rows<L: Ledger>(
-    rows: &mut [Row],
-    lead: &mut Row,
-    scratch: &mut Row,
+    rows: &mut [Row<L>],
+    lead: &mut Row<L>,
+    scratch: &mut Row<L>,
     p: usize,
     basic: u32,
     nonbasic: u32,
@@ -32,6 +32,7 @@ pub fn pivot_rows<L: Ledger>(
     ensures is { IfOk result (λ _. IsTablePivot p basic nonbasic rows.old rows.new) }
     ensures wide { OnErr result (IsWidePivot p basic nonbasic rows.old) }
     ensures cost { (b : ℕ) → ((r : ℕ) → r < length rows.old → length (entries_in rows.old r) < 2 ^ b) → steps.new ≤ steps.old + b + 3 * (1 + length (entries_in rows.old p)) + others_cost (entries_in rows.old) p (entries_in rows.old p) nonbasic b (length rows.old) }
+    ensures counted { steps.old ≤ steps.new }
 {
     solve_at(rows, lead, scratch, p, basic, nonbasic, steps)?;
     replace_others(rows, scratch, p, nonbasic, steps)

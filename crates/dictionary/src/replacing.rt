@@ -14,10 +14,10 @@ use std::sync::ledger::Ledger;
 
 /// Merges where the row has an entry at `skip`: whether it has.
 fn change<L: Ledger>(
-    row: &Row,
-    by: &Row,
+    row: &Row<L>,
+    by: &Row<L>,
     skip: u32,
-    out: &mut Row,
+    out: &mut Row<L>,
     steps: &mut Steps<L>,
 ) -> Result<bool, Wide>
     requires row { IsRow (entries_of row.now) }
@@ -27,6 +27,7 @@ fn change<L: Ledger>(
     ensures is { IfOk result (λ b. IsChanged b (entries_of row.now) (entries_of by.now) skip (entries_of out.new)) }
     ensures wide { OnErr result (IsWideRow (entries_of row.now) (entries_of by.now) skip) }
     ensures cost { (b : ℕ) → length (entries_of row.now) < 2 ^ b → steps.new ≤ steps.old + b + row_cost (entries_of row.now) (entries_of by.now) skip }
+    ensures counted { steps.old ≤ steps.new }
 {
     match find(row, skip, steps) {
         None => Ok(false),
@@ -39,8 +40,8 @@ fn change<L: Ledger>(
 
 /// Replaces the column `skip` in row `r`, another than `p`, by what row `p` says it is.
 fn replace_at<L: Ledger>(
-    rows: &mut [Row],
-    scratch: &mut Row,
+    rows: &mut [Row<L>],
+    scratch: &mut Row<L>,
     r: usize,
     p: usize,
     skip: u32,
@@ -55,6 +56,7 @@ fn replace_at<L: Ledger>(
     ensures is { IfOk result (λ _. IsReplacedAt r p skip rows.old rows.new) }
     ensures wide { OnErr result ((r ≢ p) × IsWideRow (entries_in rows.old r) (entries_in rows.old p) skip) }
     ensures cost { (b : ℕ) → length (entries_in rows.old r) < 2 ^ b → steps.new ≤ steps.old + cond (nat_eq r p) 0 (b + row_cost (entries_in rows.old r) (entries_in rows.old p) skip) }
+    ensures counted { steps.old ≤ steps.new }
 {
     if r == p {
         return Ok(());
@@ -68,8 +70,8 @@ fn replace_at<L: Ledger>(
 
 /// Replaces the column `skip` in all rows but `p` by what row `p` says it is.
 pub fn replace_others<L: Ledger>(
-    rows: &mut [Row],
-    scratch: &mut Row,
+    rows: &mut [Row<L>],
+    scratch: &mut Row<L>,
     p: usize,
     skip: u32,
     steps: &mut Steps<L>,
@@ -80,6 +82,7 @@ pub fn replace_others<L: Ledger>(
     ensures is { IfOk result (λ _. AreReplaced p skip (length rows.old) rows.old rows.new) }
     ensures wide { OnErr result (IsWideTable p skip rows.old) }
     ensures cost { (b : ℕ) → ((r : ℕ) → r < length rows.old → length (entries_in rows.old r) < 2 ^ b) → steps.new ≤ steps.old + others_cost (entries_in rows.old) p (entries_in rows.old p) skip b (length rows.old) }
+    ensures counted { steps.old ≤ steps.new }
 {
     for r in 0..rows.len() {
         replace_at(rows, scratch, r, p, skip, steps)?;

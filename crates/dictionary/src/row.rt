@@ -4,6 +4,7 @@ ghost use Rattle.std.specs.Prelude.{◌≡◌, ℕ, ◌+◌, ◌<◌, ◌≤◌,
 use crate::steps::Steps;
 use fraction::Frac;
 use std::alloc::{AllocError, Global};
+use std::marker::PhantomData;
 use std::sync::ledger::Ledger;
 
 /// An entry of a row: its column, and its value, which isn't 0.
@@ -13,21 +14,26 @@ pub struct Item {
     pub value: Frac,
 }
 
-/// The entries of a row, by ascending columns. Nothing else reads or writes one than `read` and `write`, which count it.
+/// The entries of a row, by ascending columns. Nothing else reads or writes one than `read` and `write`, which count it on the
+/// row's own ledger: whoever is lent the one count of that ledger can begin no other.
 #[derive(Drop)]
-pub struct Row {
+pub struct Row<L: Ledger> {
     items: Vec<Item>,
+    ledger: PhantomData<L>,
 }
 
-impl Row {
+impl<L: Ledger> Row<L> {
     ghost use Rattle.dictionary.specs.Row.{entries_of, room_of};
 
     /// A row without entries, and room for so many.
-    pub fn with_room(alloc: Global, room: usize) -> Result<Row, AllocError>
+    pub fn with_room(alloc: Global, room: usize) -> Result<Row<L>, AllocError>
         ensures { IfOk result (λ r. room_of r ≡ room) }
     {
         let items = Vec::with_capacity(alloc, room)?;
-        Ok(Row { items })
+        Ok(Row {
+            items,
+            ledger: PhantomData,
+        })
     }
 
     /// How many entries it has.
@@ -59,7 +65,7 @@ impl Row {
     }
 
     /// The entry at a place: one step.
-    pub fn read<L: Ledger>(&self, i: usize, steps: &mut Steps<L>) -> &Item
+    pub fn read(&self, i: usize, steps: &mut Steps<L>) -> &Item
         requires { i < length (entries_of self.now) }
         ensures item { result.now ≡ slice_index_or (entries_of self.now) i result.now }
         ensures cost { steps.new ≡ steps.old + 1 }
@@ -69,7 +75,7 @@ impl Row {
     }
 
     /// Puts an entry at the end: one step.
-    pub fn write<L: Ledger>(&mut self, item: Item, steps: &mut Steps<L>)
+    pub fn write(&mut self, item: Item, steps: &mut Steps<L>)
         requires { length (entries_of self.old) < room_of self.old }
         ensures entries { entries_of self.new ≡ entries_of self.old ++ item ∷ [] }
         ensures room { room_of self.old ≤ room_of self.new }

@@ -14,12 +14,12 @@ use std::sync::ledger::Ledger;
 
 /// Solves a row for the column `nonbasic`, whose entry is `pivot`: the merge of 1/pivot at `basic` and the row times -1/pivot.
 fn solve<L: Ledger>(
-    row: &Row,
+    row: &Row<L>,
     pivot: Frac,
     basic: u32,
     nonbasic: u32,
-    lead: &mut Row,
-    out: &mut Row,
+    lead: &mut Row<L>,
+    out: &mut Row<L>,
     steps: &mut Steps<L>,
 ) -> Result<(), Wide>
     requires row { IsRow (entries_of row.now) }
@@ -33,6 +33,7 @@ fn solve<L: Ledger>(
     ensures is { IfOk result (λ _. SolvesRow (entries_of row.now) (ratio pivot) basic nonbasic (entries_of out.new)) }
     ensures wide { OnErr result (SolveFits (entries_of row.now) (ratio pivot) → ⊥) }
     ensures cost { steps.new ≤ steps.old + 3 * (1 + length (entries_of row.now)) }
+    ensures counted { steps.old ≤ steps.new }
 {
     let value = one().div(pivot)?;
     lead.hold(Item { col: basic, value });
@@ -41,11 +42,11 @@ fn solve<L: Ledger>(
 
 /// Solves a row for the column `nonbasic`, where it has an entry.
 fn solve_from<L: Ledger>(
-    row: &Row,
+    row: &Row<L>,
     basic: u32,
     nonbasic: u32,
-    lead: &mut Row,
-    out: &mut Row,
+    lead: &mut Row<L>,
+    out: &mut Row<L>,
     steps: &mut Steps<L>,
 ) -> Result<(), Wide>
     requires row { IsRow (entries_of row.now) }
@@ -59,6 +60,7 @@ fn solve_from<L: Ledger>(
     ensures is { IfOk result (λ _. IsSolvedBy (entries_of row.now) basic nonbasic (entries_of out.new)) }
     ensures wide { OnErr result (IsWideBy (entries_of row.now) nonbasic) }
     ensures cost { (b : ℕ) → length (entries_of row.now) < 2 ^ b → steps.new ≤ steps.old + b + 3 * (1 + length (entries_of row.now)) }
+    ensures counted { steps.old ≤ steps.new }
 {
     match find(row, nonbasic, steps) {
         None => Ok(()),
@@ -68,9 +70,9 @@ fn solve_from<L: Ledger>(
 
 /// Solves row `p` for the column `nonbasic`, in place.
 pub fn solve_at<L: Ledger>(
-    rows: &mut [Row],
-    lead: &mut Row,
-    scratch: &mut Row,
+    rows: &mut [Row<L>],
+    lead: &mut Row<L>,
+    scratch: &mut Row<L>,
     p: usize,
     basic: u32,
     nonbasic: u32,
@@ -88,6 +90,7 @@ pub fn solve_at<L: Ledger>(
     ensures is { IfOk result (λ _. IsSolvedAt p basic nonbasic rows.old rows.new) }
     ensures wide { OnErr result (IsWideBy (entries_in rows.old p) nonbasic) }
     ensures cost { (b : ℕ) → length (entries_in rows.old p) < 2 ^ b → steps.new ≤ steps.old + b + 3 * (1 + length (entries_in rows.old p)) }
+    ensures counted { steps.old ≤ steps.new }
 {
     solve_from(&rows[p], basic, nonbasic, lead, scratch, steps)?;
     std::mem::swap(&mut rows[p], scratch);

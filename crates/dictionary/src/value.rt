@@ -17,13 +17,14 @@ use instance::add_product;
 use std::sync::ledger::Ledger;
 
 /// The sum, from 0, of a row's entries, each times its column's value, in ascending order.
-pub fn sum_row<L: Ledger>(row: &Row, places: &Places, steps: &mut Steps<L>) -> Result<Frac, Wide>
+pub fn sum_row<L: Ledger>(row: &Row<L>, places: &Places, steps: &mut Steps<L>) -> Result<Frac, Wide>
     requires row { IsRow (entries_of row.now) }
     requires inside { (c : ℕ) → HasColumn (entries_of row.now) c → c < count_of places.now }
     ensures ok { (k : ℕ) (w : Values) → AreValuesAt (entries_of row.now) (values_of places.now) k w → IfOk result (λ r. IsSame (ratio r) (value_by k (number_in (entries_of row.now)) w)) }
     ensures fits { (k : ℕ) (w : Values) → AreValuesAt (entries_of row.now) (values_of places.now) k w → IfOk result (λ _. ValueFits k (number_in (entries_of row.now)) w) }
     ensures wide { (k : ℕ) (w : Values) → AreValuesAt (entries_of row.now) (values_of places.now) k w → OnErr result (ValueFits k (number_in (entries_of row.now)) w → ⊥) }
     ensures cost { steps.new ≤ steps.old + length (entries_of row.now) }
+    ensures counted { steps.old ≤ steps.new }
 {
     let mut sum = zero();
     for i in 0..row.len() {

@@ -28,7 +28,7 @@ use Rattle.simplex.proofs.Found.{ranges-numbers}
 pub goal_status : (ss : List Status) (k : ℕ) → length ss ≤ k → status_at ss k ≡ Basic
 goal_status ss k h = get_or-eq_default ss Basic h
 
-module _ (d : Dict) (ss : List Status) (s : AreStatuses d ss) (u_are : AreEntries (columns_of d) (basic_of d) (entry_of d)) (es : List Ends) (I : Instance) (e : AreEndsOf I es) (size : HasSizeOf I d) (p : Places) (r : AreResting (ranges_in es) ss (values_of p)) (g : ℕ) (g_is : g ≡ length ss) where
+module _ {L : _} {G : _} (d : Dict L G) (ss : List Status) (s : AreStatuses d ss) (u_are : AreEntries (columns_of d) (basic_of d) (entry_of d)) (es : List Ends) (I : Instance) (e : AreEndsOf I es) (size : HasSizeOf I d) (p : Places) (r : AreResting (ranges_in es) ss (values_of p)) (g : ℕ) (g_is : g ≡ length ss) where
   goal_is : g ≡ goal_column I
   goal_is = let n = s.count in let w = size.width in let h = size.height in omega arith
 

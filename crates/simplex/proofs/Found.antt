@@ -37,7 +37,7 @@ ranges-numbers [] c = (tt, tt)
 ranges-numbers (e ∷ es) zero = (limit-number e.lb IsNumber (λ x. x.above), limit-number e.ub IsNumber (λ x. x.above))
 ranges-numbers (e ∷ es) (suc c) = ranges-numbers es c
 
-module _ (d : Dict) (ss : List Status) (s : AreStatuses d ss) (es : List Ends) (I : Instance) (e : AreEndsOf I es) (size : HasSizeOf I d) (p : Places) (r : AreResting (ranges_in es) ss (values_of p)) where
+module _ {L : _} {G : _} (d : Dict L G) (ss : List Status) (s : AreStatuses d ss) (es : List Ends) (I : Instance) (e : AreEndsOf I es) (size : HasSizeOf I d) (p : Places) (r : AreResting (ranges_in es) ss (values_of p)) where
   count : columns_of d ≡ columns I
   count = let w = size.width in let h = size.height in omega arith
 

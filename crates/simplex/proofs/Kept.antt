@@ -59,7 +59,7 @@ module _ (row x y : ℕ → Ratio) (m : ℕ) (pr : (c : ℕ) → IsNumber (row c
   }
 
 -- the value of a column whose equation stays, and has 0 at m
-pub column_kept : (d e : Dict) (c m : ℕ) (b : Bool) (v : Ratio) (x y : Values) → columns_of e ≡ columns_of d → ((j : ℕ) → IsNumber (entry_of d c j)) → (b ≡ true → ((entry_of d c m).num ≡ pos 0) × ((j : ℕ) → entry_of d c j ≡ entry_of e c j)) → IsNumber v → ((j : ℕ) → IsNumber (x j)) → ((j : ℕ) → IsNumber (y j)) → ((j : ℕ) → (j ≡ m → ⊥) → x j ≡ y j) → (c ≡ m → ⊥) → IsColumnValue d x b c v → IsColumnValue e y b c v
+pub column_kept : {L : _} {G : _} (d e : Dict L G) (c m : ℕ) (b : Bool) (v : Ratio) (x y : Values) → columns_of e ≡ columns_of d → ((j : ℕ) → IsNumber (entry_of d c j)) → (b ≡ true → ((entry_of d c m).num ≡ pos 0) × ((j : ℕ) → entry_of d c j ≡ entry_of e c j)) → IsNumber v → ((j : ℕ) → IsNumber (x j)) → ((j : ℕ) → IsNumber (y j)) → ((j : ℕ) → (j ≡ m → ⊥) → x j ≡ y j) → (c ≡ m → ⊥) → IsColumnValue d x b c v → IsColumnValue e y b c v
 column_kept d e c m b v x y size numbers stays pv px py same apart is = record {
   sum = λ t.
       let s = stays t in
@@ -75,13 +75,13 @@ column_kept d e c m b v x y size numbers stays pv px py same apart is = record {
 }
 
 -- what is known of a column that doesn't move with m
-pub record Stays (d e : Dict) (ss zs : List Status) (m : ℕ) (ks : List Bool) (c : ℕ) : Type 0 where
+pub record Stays {L : _} {G : _} (d e : Dict L G) (ss zs : List Status) (m : ℕ) (ks : List Bool) (c : ℕ) : Type 0 where
   pub known : known_at ks c ≡ true
   pub apart : c ≡ m → ⊥
   pub basic : basic_in zs c ≡ basic_in ss c
   pub equation : basic_in ss c ≡ true → ((entry_of d c m).num ≡ pos 0) × ((j : ℕ) → entry_of d c j ≡ entry_of e c j)
 
-pub known_kept : (d e : Dict) (p q : Places) (ss zs : List Status) (m : ℕ) (vs : List Frac) (ks ls : List Bool) → columns_of e ≡ columns_of d → ((b c : ℕ) → IsNumber (entry_of d b c)) → IsNumber (values_of p m) → length zs ≡ length ss → ((c : ℕ) → c < length ss → known_at ls c ≡ true → Stays d e ss zs m ks c) → ((c : ℕ) → c < width_of d + height_of d → basic_of d c ≡ false → (c ≡ m → ⊥) → (w : Values) → Rest e q w → w c ≡ values_of p c) → AreKnown d p ss vs ks → AreKnown e q zs vs ls
+pub known_kept : {L : _} {G : _} (d e : Dict L G) (p q : Places) (ss zs : List Status) (m : ℕ) (vs : List Frac) (ks ls : List Bool) → columns_of e ≡ columns_of d → ((b c : ℕ) → IsNumber (entry_of d b c)) → IsNumber (values_of p m) → length zs ≡ length ss → ((c : ℕ) → c < length ss → known_at ls c ≡ true → Stays d e ss zs m ks c) → ((c : ℕ) → c < width_of d + height_of d → basic_of d c ≡ false → (c ≡ m → ⊥) → (w : Values) → Rest e q w → w c ≡ values_of p c) → AreKnown d p ss vs ks → AreKnown e q zs vs ls
 known_kept d e p q ss zs m vs ks ls size numbers place long stays rests k = record {
   are = λ w r c h t.
       let l : c < length ss = omega arith in
@@ -118,11 +118,11 @@ flag_off ks c j h t =
     (n, sym (get_or-set_other ks c j false false n) ∙ t)
 
 -- nothing is known
-pub none_known : (d : Dict) (p : Places) (ss : List Status) (vs : List Frac) (ks : List Bool) → ((c : ℕ) → known_at ks c ≡ false) → AreKnown d p ss vs ks
+pub none_known : {L : _} {G : _} (d : Dict L G) (p : Places) (ss : List Status) (vs : List Frac) (ks : List Bool) → ((c : ℕ) → known_at ks c ≡ false) → AreKnown d p ss vs ks
 none_known d p ss vs ks off = record { are = λ w r c h t. let f : true ≡ false = sym t ∙ off c in absurd (cc) }
 
 -- one value more is known
-pub known_set : (d : Dict) (p : Places) (ss : List Status) (vs : List Frac) (ks : List Bool) (c : ℕ) (v : Frac) → c < length vs → ((w : Values) → Rest d p w → IsColumnValue d w (basic_in ss c) c (ratio v)) → AreKnown d p ss vs ks → AreKnown d p ss (slice_set vs c v) (slice_set ks c true)
+pub known_set : {L : _} {G : _} (d : Dict L G) (p : Places) (ss : List Status) (vs : List Frac) (ks : List Bool) (c : ℕ) (v : Frac) → c < length vs → ((w : Values) → Rest d p w → IsColumnValue d w (basic_in ss c) c (ratio v)) → AreKnown d p ss vs ks → AreKnown d p ss (slice_set vs c v) (slice_set ks c true)
 known_set d p ss vs ks c v h is k = record {
   are = λ w r j l t. by_eq j c
       (λ e.
@@ -140,7 +140,7 @@ resting_set ranges ss old new col status rest inside own others = λ c h.
     (λ n. others c n ∙ rest c l ∙ ap (rest_at (ranges c)) (sym (get_or-set_other ss col c status Basic n)))
 
 -- an equation that has 0 at the entering column stays
-pub equation_stays : (d e : Dict) (b m a : ℕ) → ((x y : ℕ) → IsReduced (entry_of d x y)) → ((entry_of d b m).num ≡ pos 0 → ⊥) → IsPivoted (entry_of d) b m (entry_of e) → (a ≡ b → ⊥) → (a ≡ m → ⊥) → (entry_of d a m).num ≡ pos 0 → (j : ℕ) → entry_of d a j ≡ entry_of e a j
+pub equation_stays : {L : _} {G : _} (d e : Dict L G) (b m a : ℕ) → ((x y : ℕ) → IsReduced (entry_of d x y)) → ((entry_of d b m).num ≡ pos 0 → ⊥) → IsPivoted (entry_of d) b m (entry_of e) → (a ≡ b → ⊥) → (a ≡ m → ⊥) → (entry_of d a m).num ≡ pos 0 → (j : ℕ) → entry_of d a j ≡ entry_of e a j
 equation_stays d e b m a reduced nonzero made ab am gone j =
     let number : (x y : ℕ) → IsNumber (entry_of d x y) = λ x y. let r = reduced x y in r.0 in
     let z : entry_of d a m ≡ none = reduced_none (entry_of d a m) (reduced a m) (zero_number (entry_of d a m) (number a m) gone).is in
@@ -156,14 +156,14 @@ equation_stays d e b m a reduced nonzero made ab am gone j =
     let l = same ⊙ near in
     sym (same_reduced (entry_of e a j) (entry_of d a j) (made.reduced a j) (reduced a j) l.is))
 
-module _ (d : Dict) (ss : List Status) (h : AreHeld d ss) (old : List Bool) (new : List Bool) (m : ℕ) (f : IsForgotten (entry_of d) ss m old new) where
+module _ {L : _} {G : _} (d : Dict L G) (ss : List Status) (h : AreHeld d ss) (old : List Bool) (new : List Bool) (m : ℕ) (f : IsForgotten (entry_of d) ss m old new) where
   reduced : (x y : ℕ) → IsReduced (entry_of d x y)
   reduced x y = let k = h.holds.is.entries in k.reduced x y
 
   number : (x y : ℕ) → IsNumber (entry_of d x y)
   number x y = let r = reduced x y in r.0
 
-  module _ (e : Dict) (zs : List Status) (s : Swap) (is : IsSwap ss (entry_of d) s) (w : IsSwapped d e ss zs s) (at : m ≡ s.nonbasic) (p q : Places) (place : IsNumber (values_of p m)) (moved : (c : ℕ) → (c ≡ s.basic → ⊥) → (c ≡ s.nonbasic → ⊥) → values_of q c ≡ values_of p c) where
+  module _ (e : Dict L G) (zs : List Status) (s : Swap) (is : IsSwap ss (entry_of d) s) (w : IsSwapped d e ss zs s) (at : m ≡ s.nonbasic) (p q : Places) (place : IsNumber (values_of p m)) (moved : (c : ℕ) → (c ≡ s.basic → ⊥) → (c ≡ s.nonbasic → ⊥) → values_of q c ≡ values_of p c) where
     pub swap_known : (vs : List Frac) → s.basic < length new → AreKnown d p ss vs old → AreKnown e q zs vs (slice_set new s.basic false)
     swap_known vs inside = known_kept d e p q ss zs m vs old (slice_set new s.basic false) size number place long stays rests
       where

@@ -22,7 +22,7 @@ leads_map I ss u w t c R S f (Has.Flip s) h = λ next p. f next (h next p)
 leads_map I ss u w t c R S f (Has.Done d) h = f _ h
 
 -- a dictionary that holds the program's rows is the one of the basis of its statuses
-pub held_dictionary : (d : Dict) (I : Instance) (zeroed : Bool) (ss : List Status) → AreStatuses d ss → HasSizeOf I d → Holds (rows_with_goal zeroed I) d → HasDictionary I zeroed ss (entry_of d)
+pub held_dictionary : {L : _} {G : _} (d : Dict L G) (I : Instance) (zeroed : Bool) (ss : List Status) → AreStatuses d ss → HasSizeOf I d → Holds (rows_with_goal zeroed I) d → HasDictionary I zeroed ss (entry_of d)
 held_dictionary d I zeroed ss s size h =
     subst (λ m. IsDictionary (width I) (m + 1) (rows_with_goal zeroed I) (basic_in ss) (entry_of d)) size.height
     (subst (λ n. IsDictionary n (height_of d + 1) (rows_with_goal zeroed I) (basic_in ss) (entry_of d)) size.width

@@ -39,7 +39,7 @@ looked_at false Came came turns h = (
 pub passes_to : (t : Terms) (c d : Clock) (ss zs : List Status) → zs ≡ ss → Passes t c ss (To (record { statuses = ss; clock = d })) → Passes t c ss (To (record { statuses = zs; clock = d }))
 passes_to t c d ss zs e p = subst (λ (z : List Status). Passes t c ss (To (record { statuses = z; clock = d }))) (sym e) p
 
-module _ (d e : Dict) (ss : List Status) (s : AreStatuses d ss) where
+module _ {L : _} {G : _} (d e : Dict L G) (ss : List Status) (s : AreStatuses d ss) where
   -- the statuses after a swap are those of the dictionary after its pivot
   pub swapped_statuses : (w : Swap) → IsSwap ss (entry_of d) w → HaveOneSize d e → ((c : ℕ) → basic_of e c ≡ exchanged (basic_of d) w.basic w.nonbasic c) → AreStatuses e (pivoted ss w.basic w.nonbasic w.status)
   swapped_statuses w is size basis = record {
@@ -61,7 +61,7 @@ module _ (d e : Dict) (ss : List Status) (s : AreStatuses d ss) where
   }
 
 -- and those after a flip are those of the same dictionary
-pub flipped_statuses : (d : Dict) (ss : List Status) (f : Flip) → AreStatuses d ss → IsFlip ss f → AreStatuses d (slice_set ss f.col f.status)
+pub flipped_statuses : {L : _} {G : _} (d : Dict L G) (ss : List Status) (f : Flip) → AreStatuses d ss → IsFlip ss f → AreStatuses d (slice_set ss f.col f.status)
 flipped_statuses d ss f s is = record {
   count = length-set ss f.col f.status ∙ s.count;
   basic = λ c h.

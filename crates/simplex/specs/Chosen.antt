@@ -33,7 +33,7 @@ pub record IsSwap (ss : List Status) (u : Entries) (s : Swap) : Type 0 where
   pub nonzero : (u s.basic s.nonbasic).num ≢ pos 0
 
 -- from the one dictionary and its statuses the swap makes the others
-pub record IsSwapped (d e : Dict) (ss zs : List Status) (s : Swap) : Type 0 where
+pub record IsSwapped {L : _} {G : _} (d e : Dict L G) (ss zs : List Status) (s : Swap) : Type 0 where
   pub size : HaveOneSize d e
   pub entries : IsPivoted (entry_of d) s.basic s.nonbasic (entry_of e)
   pub statuses : zs ≡ pivoted ss s.basic s.nonbasic s.status

@@ -67,12 +67,12 @@ KeepsAt None P = P
 KeepsAt (Some f) P = Keeps f P
 
 -- what a finish leaves in memory: all that its end is read off
-pub record IsLeft (d : Dict) (ss : List Status) (f : Finish) : Type 0 where
+pub record IsLeft {L : _} {G : _} (d : Dict L G) (ss : List Status) (f : Finish) : Type 0 where
   pub held : Keeps f (AreHeld d ss)
   pub ready : IsReady ss f
 
 -- where the run goes on, the dictionary and the statuses stand
-abbrev pub IsLeftAt : Dict → List Status → Option Finish → Type 0
+abbrev pub IsLeftAt : {L : _} {G : _} → Dict L G → List Status → Option Finish → Type 0
 IsLeftAt d ss None = AreHeld d ss
 IsLeftAt d ss (Some f) = IsLeft d ss f
 

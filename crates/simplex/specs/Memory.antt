@@ -12,32 +12,32 @@ use Rattle.simplex.specs.Held.{values_in}
 use Rattle.simplex.specs.Answers.{listed, ended}
 
 -- the variables and the rows that there is room for
-abbrev pub width_in : Work → ℕ
+abbrev pub width_in : {L : _} {G : _} → Work L G → ℕ
 width_in w = width_of w.dict
 
-abbrev pub height_in : Work → ℕ
+abbrev pub height_in : {L : _} {G : _} → Work L G → ℕ
 height_in w = height_of w.dict
 
 -- the value, the multiplier and the movement of each column
-abbrev pub point_in : Work → Values
+abbrev pub point_in : {L : _} {G : _} → Work L G → Values
 point_in w = values_in w.values.items
 
-abbrev pub factor_in : Work → Values
+abbrev pub factor_in : {L : _} {G : _} → Work L G → Values
 factor_in w = values_in w.factors.items
 
-abbrev pub movement_in : Work → Values
+abbrev pub movement_in : {L : _} {G : _} → Work L G → Values
 movement_in w = values_in w.movements.items
 
 -- the point, the multipliers that aren't 0, and the direction
-abbrev pub point_of : Work → List Ratio
+abbrev pub point_of : {L : _} {G : _} → Work L G → List Ratio
 point_of w = listed (width_in w) (point_in w)
 
-abbrev pub mults_of : Work → List Multiplier
+abbrev pub mults_of : {L : _} {G : _} → Work L G → List Multiplier
 mults_of w = collected (factor_in w) (width_in w + height_in w)
 
-abbrev pub ray_of : Work → List Ratio
+abbrev pub ray_of : {L : _} {G : _} → Work L G → List Ratio
 ray_of w = listed (width_in w) (movement_in w)
 
 -- the end of the run that answered so and left this memory
-abbrev pub ended_with : LpEnd → Work → End
+abbrev pub ended_with : {L : _} {G : _} → LpEnd → Work L G → End
 ended_with e w = ended e (point_of w) (mults_of w) (ray_of w)

@@ -14,7 +14,7 @@ use Rattle.dictionary.specs.Dict.{entry_of, columns_of, Rest}
 use Rattle.simplex.specs.Held.{values_in}
 
 -- v is the value of column c, which is basic or not; rest has the values of those that aren't
-pub record IsColumnValue (d : Dict) (rest : Values) (basic : Bool) (c : ℕ) (v : Ratio) : Type 0 where
+pub record IsColumnValue {L : _} {G : _} (d : Dict L G) (rest : Values) (basic : Bool) (c : ℕ) (v : Ratio) : Type 0 where
   pub sum : basic ≡ true → IsSame v (value_by (columns_of d) (entry_of d c) rest)
   pub fits : basic ≡ true → ValueFits (columns_of d) (entry_of d c) rest
   pub rests : basic ≡ false → v ≡ rest c
@@ -28,7 +28,7 @@ abbrev pub known_at : List Bool → ℕ → Bool
 known_at ks c = get_or ks c false
 
 -- each value that is known is its column's
-pub record AreKnown (d : Dict) (p : Places) (ss : List Status) (vs : List Frac) (ks : List Bool) : Type 0 where
+pub record AreKnown {L : _} {G : _} (d : Dict L G) (p : Places) (ss : List Status) (vs : List Frac) (ks : List Bool) : Type 0 where
   pub are : (w : Values) → Rest d p w → (c : ℕ) → c < length ss → known_at ks c ≡ true → IsColumnValue d w (basic_in ss c) c (values_in vs c)
 
 -- what is still known moves with column m no more: it isn't of m itself, nor of a basic column with an entry there

@@ -25,35 +25,45 @@ use crate::ends::Ends;
 use crate::finish::Finish;
 use crate::valued::zero;
 use certificate::Step;
-use dictionary::{Dict, Places};
+use dictionary::{Dict, Places, Steps};
 use fraction::{Frac, Wide};
 use instance::add_product;
 use simplex_rules::Status;
+use std::sync::ledger::Ledger;
 
 /// The goal's entry at a column, 0 where that is basic.
-fn cost_of(dict: &Dict, status: Status, col: u32, goal: u32, place: &mut usize) -> Frac
+fn cost_of<L: Ledger>(
+    dict: &Dict<L>,
+    status: Status,
+    col: u32,
+    goal: u32,
+    place: &mut usize,
+    steps: &mut Steps<L>,
+) -> Frac
     requires loaded { IsLoaded dict.now }
     requires goal { goal ≡ width_of dict.now + height_of dict.now }
     requires basic { basic_of dict.now goal ≡ true }
     requires col { col < goal }
     requires status { is_basic status ≡ basic_of dict.now col }
-    ensures { ratio result ≡ cond (is_basic status) none (entry_of dict.now goal col) }
+    ensures entry { ratio result ≡ cond (is_basic status) none (entry_of dict.now goal col) }
+    ensures counted { steps.old ≤ steps.new }
 {
     match status {
         Status::Basic => zero(),
-        Status::Lower => dict.entry_near(goal, col, place),
-        Status::Upper => dict.entry_near(goal, col, place),
-        Status::Zero => dict.entry_near(goal, col, place),
+        Status::Lower => dict.entry_near(goal, col, place, steps),
+        Status::Upper => dict.entry_near(goal, col, place, steps),
+        Status::Zero => dict.entry_near(goal, col, place, steps),
     }
 }
 
 /// The start and the sum of the costs, each times its column's value.
-pub fn bound(
-    dict: &Dict,
+pub fn bound<L: Ledger>(
+    dict: &Dict<L>,
     statuses: &[Status],
     rest: &Places,
     start: Frac,
     goal: u32,
+    steps: &mut Steps<L>,
 ) -> Result<Frac, Wide>
     requires loaded { IsLoaded dict.now }
     requires goal { goal ≡ length statuses.now }
@@ -63,24 +73,26 @@ pub fn bound(
     ensures ok { (a x : Values) → AreTerms (cost_in statuses.now (entry_of dict.now goal)) (values_of rest.now) goal a x → IfOk result (λ b. IsSame (ratio b) (total (ratio start) goal (λ c. product (a c) (x c)))) }
     ensures fits { (a x : Values) → AreTerms (cost_in statuses.now (entry_of dict.now goal)) (values_of rest.now) goal a x → IfOk result (λ _. StatedFits (ratio start) goal a x) }
     ensures wide { (a x : Values) → AreTerms (cost_in statuses.now (entry_of dict.now goal)) (values_of rest.now) goal a x → OnErr result (StatedFits (ratio start) goal a x → ⊥) }
+    ensures counted { steps.old ≤ steps.new }
 {
     let mut sum = start;
     let mut place = 0;
     for c in 0..goal {
-        let cost = cost_of(dict, statuses[c as usize], c, goal, &mut place);
+        let cost = cost_of(dict, statuses[c as usize], c, goal, &mut place, steps);
         sum = add_product(sum, cost, rest.at(c))?;
     }
     Ok(sum)
 }
 
 /// The best end: the bound is 0 under the goal zero, where there is no start.
-pub fn best(
-    dict: &Dict,
+pub fn best<L: Ledger>(
+    dict: &Dict<L>,
     ends: &[Ends],
     statuses: &[Status],
     rest: &Places,
     start: Option<Frac>,
     goal: u32,
+    steps: &mut Steps<L>,
 ) -> Finish
     requires loaded { IsLoaded dict.now }
     requires goal { goal ≡ length statuses.now }
@@ -90,11 +102,12 @@ pub fn best(
     ensures on { is_stop result ≡ false }
     ensures ready { IsReady statuses.now result }
     ensures next { (I : Instance) (zeroed : Bool) (w : Values) (t : Terms) (c : Clock) → AreEndsOf I ends.now → HasSizeOf I dict.now → AreEntries (columns_of dict.now) (basic_of dict.now) (entry_of dict.now) → IsStart zeroed (minimising I I.goal.constant) start → NoneHelps I statuses.now (entry_of dict.now) w (goal_column I) Way.Fall → Leads I statuses.now (entry_of dict.now) w t c (Improves I zeroed t (record { statuses = statuses.now; clock = c }) (entry_of dict.now) w) (Done result) }
+    ensures counted { steps.old ≤ steps.new }
 {
     let _ends = ends;
     match start {
         None => Finish::Best(zero()),
-        Some(s) => match bound(dict, statuses, rest, s, goal) {
+        Some(s) => match bound(dict, statuses, rest, s, goal, steps) {
             Ok(b) => Finish::Best(b),
             Err(_) => Finish::Wide(Step::Point),
         },

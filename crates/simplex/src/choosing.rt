@@ -90,7 +90,14 @@ fn way_of(rate: Frac) -> Way
 }
 
 /// The first column that is out of its ends is to come back.
-fn repair(dict: &Dict, ends: &[Ends], statuses: &[Status], out: Move, goal: u32) -> Choice
+fn repair<L: Ledger>(
+    dict: &Dict<L>,
+    ends: &[Ends],
+    statuses: &[Status],
+    out: Move,
+    goal: u32,
+    steps: &mut Steps<L>,
+) -> Choice
     requires loaded { IsLoaded dict.now }
     requires ends { length ends.now ≡ length statuses.now }
     requires statuses { AreStatuses dict.now statuses.now }
@@ -99,8 +106,9 @@ fn repair(dict: &Dict, ends: &[Ends], statuses: &[Status], out: Move, goal: u32)
     requires basic { basic_in statuses.now out.col ≡ true }
     ensures allowed { IsAllowed statuses.now (entry_of dict.now) result }
     ensures next { (I : Instance) (w : Values) (zeroed : Bool) (t : Terms) (c : Clock) → AreEndsOf I ends.now → HasSizeOf I dict.now → Leads I statuses.now (entry_of dict.now) w t c (Repairs I zeroed t (record { statuses = statuses.now; clock = c }) (entry_of dict.now) w out.col out.way) result }
+    ensures counted { steps.old ≤ steps.new }
 {
-    match first_help(dict, ends, statuses, out.col, out.way, goal) {
+    match first_help(dict, ends, statuses, out.col, out.way, goal, steps) {
         None => Choice::Done(Finish::Empty(out)),
         Some(n) => Choice::Swap(Swap {
             basic: out.col,
@@ -111,13 +119,14 @@ fn repair(dict: &Dict, ends: &[Ends], statuses: &[Status], out: Move, goal: u32)
 }
 
 /// A basic column has reached an end, and is to leave the basis.
-fn leave(
-    dict: &Dict,
+fn leave<L: Ledger>(
+    dict: &Dict<L>,
     ends: &[Ends],
     statuses: &[Status],
     basic: u32,
     moving: Move,
     goal: u32,
+    steps: &mut Steps<L>,
 ) -> Swap
     requires loaded { IsLoaded dict.now }
     requires ends { length ends.now ≡ length statuses.now }
@@ -131,8 +140,9 @@ fn leave(
     ensures nonbasic { result.nonbasic ≡ moving.col }
     ensures free { is_basic result.status ≡ false }
     ensures status { (I : Instance) → AreEndsOf I ends.now → result.status ≡ left_status I (entry_of dict.now) basic moving.col moving.way }
+    ensures counted { steps.old ≤ steps.new }
 {
-    let entry = entry_at(dict, basic, moving.col, goal);
+    let entry = entry_at(dict, basic, moving.col, goal, steps);
     let way = way_of(rate(moving.way, entry));
     Swap {
         basic,
@@ -142,13 +152,14 @@ fn leave(
 }
 
 /// A column is to move up to the first limit.
-fn move_on(
-    dict: &Dict,
+fn move_on<L: Ledger>(
+    dict: &Dict<L>,
     ends: &[Ends],
     statuses: &[Status],
     values: &[Frac],
     moving: Move,
     goal: u32,
+    steps: &mut Steps<L>,
 ) -> Choice
     requires loaded { IsLoaded dict.now }
     requires ends { length ends.now ≡ length statuses.now }
@@ -159,8 +170,9 @@ fn move_on(
     requires nonbasic { basic_in statuses.now moving.col ≡ false }
     ensures allowed { IsAllowed statuses.now (entry_of dict.now) result }
     ensures next { (I : Instance) (zeroed : Bool) (t : Terms) (c : Clock) → AreEndsOf I ends.now → HasSizeOf I dict.now → Leads I statuses.now (entry_of dict.now) (values_in values.now) t c (MovesOn I zeroed t (record { statuses = statuses.now; clock = c }) (entry_of dict.now) (values_in values.now) moving.col moving.way) result }
+    ensures counted { steps.old ≤ steps.new }
 {
-    match first_limit(dict, ends, statuses, values, moving, goal) {
+    match first_limit(dict, ends, statuses, values, moving, goal, steps) {
         Err(_) => Choice::Done(Finish::Wide(Step::Ratio)),
         Ok(None) => Choice::Done(Finish::Endless(moving)),
         Ok(Some(l)) => {
@@ -168,21 +180,22 @@ fn move_on(
                 let status = reached(moving.way, ends[l.col as usize]);
                 Choice::Flip(Flip { col: l.col, status })
             } else {
-                Choice::Swap(leave(dict, ends, statuses, l.col, moving, goal))
+                Choice::Swap(leave(dict, ends, statuses, l.col, moving, goal, steps))
             }
         }
     }
 }
 
 /// All columns are within their ends, and the goal is to fall.
-fn improve(
-    dict: &Dict,
+fn improve<L: Ledger>(
+    dict: &Dict<L>,
     ends: &[Ends],
     statuses: &[Status],
     rest: &Places,
     values: &[Frac],
     start: Option<Frac>,
     goal: u32,
+    steps: &mut Steps<L>,
 ) -> Choice
     requires loaded { IsLoaded dict.now }
     requires ends { length ends.now ≡ length statuses.now }
@@ -193,16 +206,17 @@ fn improve(
     requires goal { goal ≡ length statuses.now }
     ensures allowed { IsAllowed statuses.now (entry_of dict.now) result }
     ensures next { (I : Instance) (zeroed : Bool) (t : Terms) (c : Clock) → AreEndsOf I ends.now → HasSizeOf I dict.now → AreEntries (columns_of dict.now) (basic_of dict.now) (entry_of dict.now) → IsStart zeroed (minimising I I.goal.constant) start → Leads I statuses.now (entry_of dict.now) (values_in values.now) t c (Improves I zeroed t (record { statuses = statuses.now; clock = c }) (entry_of dict.now) (values_in values.now)) result }
+    ensures counted { steps.old ≤ steps.new }
 {
-    match first_help(dict, ends, statuses, goal, Way::Fall, goal) {
-        None => Choice::Done(best(dict, ends, statuses, rest, start, goal)),
-        Some(n) => move_on(dict, ends, statuses, values, n, goal),
+    match first_help(dict, ends, statuses, goal, Way::Fall, goal, steps) {
+        None => Choice::Done(best(dict, ends, statuses, rest, start, goal, steps)),
+        Some(n) => move_on(dict, ends, statuses, values, n, goal, steps),
     }
 }
 
 /// Chooses a turn: the first phase where a basic column is out of its ends, else the second.
 pub fn choose<L: Ledger>(
-    dict: &Dict,
+    dict: &Dict<L>,
     ends: &[Ends],
     statuses: &[Status],
     rest: &Places,
@@ -224,12 +238,13 @@ pub fn choose<L: Ledger>(
     ensures known { AreKnown dict.now rest.now statuses.now values.new known.new }
     ensures allowed { IsAllowed statuses.now (entry_of dict.now) result }
     ensures next { (I : Instance) (zeroed : Bool) (t : Terms) (c : Clock) → AreEndsOf I ends.now → HasSizeOf I dict.now → Holds (rows_with_goal zeroed I) dict.now → IsStart zeroed (minimising I I.goal.constant) start → Leads I statuses.now (entry_of dict.now) (values_in values.new) t c (IsNext I zeroed t (record { statuses = statuses.now; clock = c })) result }
+    ensures counted { steps.old ≤ steps.new }
 {
     match find_values(dict, ends, statuses, rest, values, known, goal, steps) {
         Err(_) => Choice::Done(Finish::Wide(Step::Values)),
         Ok(()) => match first_out(ends, statuses, values, goal) {
-            Some(out) => repair(dict, ends, statuses, out, goal),
-            None => improve(dict, ends, statuses, rest, values, start, goal),
+            Some(out) => repair(dict, ends, statuses, out, goal, steps),
+            None => improve(dict, ends, statuses, rest, values, start, goal, steps),
         },
     }
 }

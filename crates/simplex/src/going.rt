@@ -28,7 +28,7 @@ use std::sync::ledger::Ledger;
 
 /// From a moment to the next, or to the end of the run. None where the run goes on.
 fn make_turn<W: Watch, L: Ledger>(
-    dict: &mut Dict,
+    dict: &mut Dict<L>,
     ends: &[Ends],
     statuses: &mut [Status],
     rest: &mut Places,
@@ -59,16 +59,17 @@ fn make_turn<W: Watch, L: Ledger>(
     ensures known { result ≡ None → AreKnown dict.new rest.new statuses.new values.new known.new }
     ensures holds { (A : Entries) → Holds A dict.old → KeepsAt result (Holds A dict.new) }
     ensures turn { (n : ℕ) × W.came watch.old watch.new (answers n (stops_at result)) × ((I : Instance) (zeroed : Bool) (t : Terms) (looks : ℕ) → AreEndsOf I ends.now → HasSizeOf I dict.old → IsStart zeroed (minimising I I.goal.constant) start → Holds (rows_with_goal zeroed I) dict.old → t.turns ≡ turns.old.most → Tells t.stop looks n (stops_at result) → IsNext I zeroed t (record { statuses = statuses.old; clock = record { turns = turns.old.done; looks = looks } }) (next_at I statuses.new (entry_of dict.new) (values_in values.new) (record { turns = turns.new.done; looks = looks_after looks n (stops_at result) }) result)) }
+    ensures steps { steps.old ≤ steps.new }
 {
     match choose(
         dict, ends, statuses, rest, values, known, start, goal, steps,
     ) {
         Choice::Swap(swap) => {
-            expect_swap(dict, ends, statuses, rest, known, swap, goal);
+            expect_swap(dict, ends, statuses, rest, known, swap, goal, steps);
             swap_turn(dict, statuses, swap, turns, watch, steps)
         }
         Choice::Flip(flip) => {
-            expect_flip(dict, ends, statuses, rest, known, flip, goal);
+            expect_flip(dict, ends, statuses, rest, known, flip, goal, steps);
             flip_turn(dict, statuses, flip, turns, watch)
         }
         Choice::Done(finish) => Some(finish),
@@ -77,7 +78,7 @@ fn make_turn<W: Watch, L: Ledger>(
 
 /// The turns of a run from its first basis on.
 pub fn make_turns<W: Watch, L: Ledger>(
-    dict: &mut Dict,
+    dict: &mut Dict<L>,
     ends: &[Ends],
     statuses: &mut [Status],
     rest: &mut Places,
@@ -105,6 +106,7 @@ pub fn make_turns<W: Watch, L: Ledger>(
     ensures within { turns.old.done ≤ turns.old.most → turns.new.done ≤ turns.old.most }
     ensures left { IsLeft dict.new statuses.new result }
     ensures end { (n : ℕ) × W.came watch.old watch.new (answers n (is_stop result)) × ((I : Instance) (zeroed : Bool) (t : Terms) (looks : ℕ) → AreEndsOf I ends.now → HasSizeOf I dict.old → IsStart zeroed (minimising I I.goal.constant) start → Holds (rows_with_goal zeroed I) dict.old → IsFresh I statuses.old → t.turns ≡ turns.old.most → Tells t.stop looks n (is_stop result) → ComesTo I zeroed t (record { turns = turns.old.done; looks = looks }) (end_at I statuses.new (entry_of dict.new) (values_in values.new) result) (record { turns = turns.new.done; looks = looks_after looks n (is_stop result) })) }
+    ensures counted { steps.old ≤ steps.new }
 {
     loop {
         if let Some(finish) = make_turn(

@@ -12,60 +12,86 @@ ghost use Rattle.simplex.specs.Held.{AreStatuses};
 
 use crate::ends::{Ends, help};
 use crate::finish::Move;
-use dictionary::Dict;
+use dictionary::{Dict, Steps};
 use fraction::Frac;
 use simplex_rules::{Status, Way};
+use std::sync::ledger::Ledger;
 
 /// The entry at a nonbasic column in the row of a basic one, or in the goal's.
-pub fn entry_at(dict: &Dict, row: u32, col: u32, goal: u32) -> Frac
+pub fn entry_at<L: Ledger>(
+    dict: &Dict<L>,
+    row: u32,
+    col: u32,
+    goal: u32,
+    steps: &mut Steps<L>,
+) -> Frac
     requires loaded { IsLoaded dict.now }
     requires goal { goal ≡ width_of dict.now + height_of dict.now }
     requires row { row ≤ goal }
     requires basic { basic_of dict.now row ≡ true }
     requires col { col < goal }
     requires nonbasic { basic_of dict.now col ≡ false }
-    ensures { ratio result ≡ entry_of dict.now row col }
+    ensures entry { ratio result ≡ entry_of dict.now row col }
+    ensures counted { steps.old ≤ steps.new }
 {
     if row < goal {
-        dict.entry(row, col)
+        dict.entry(row, col, steps)
     } else {
-        dict.cost(col)
+        dict.cost(col, steps)
     }
 }
 
 /// The way in which a column helps, if it does.
-fn help_at(
-    dict: &Dict,
+fn help_at<L: Ledger>(
+    dict: &Dict<L>,
     ends: &Ends,
     status: Status,
     row: u32,
     wanted: Way,
     col: u32,
     place: &mut usize,
+    steps: &mut Steps<L>,
 ) -> Option<Way>
     requires loaded { IsLoaded dict.now }
     requires row { row < columns_of dict.now }
     requires basic { basic_of dict.now row ≡ true }
     requires col { col < width_of dict.now + height_of dict.now }
     requires status { is_basic status ≡ basic_of dict.now col }
-    ensures { MatchOption result ((v : Way) → Can v (range_of ends.now) status → Moves wanted (rate v (entry_of dict.now row col)) → ⊥) (λ v. (is_basic status ≡ false) × Can v (range_of ends.now) status × Moves wanted (rate v (entry_of dict.now row col))) }
+    ensures help { MatchOption result ((v : Way) → Can v (range_of ends.now) status → Moves wanted (rate v (entry_of dict.now row col)) → ⊥) (λ v. (is_basic status ≡ false) × Can v (range_of ends.now) status × Moves wanted (rate v (entry_of dict.now row col))) }
+    ensures counted { steps.old ≤ steps.new }
 {
     match status {
         Status::Basic => None,
-        Status::Lower => help(*ends, status, wanted, dict.entry_near(row, col, place)),
-        Status::Upper => help(*ends, status, wanted, dict.entry_near(row, col, place)),
-        Status::Zero => help(*ends, status, wanted, dict.entry_near(row, col, place)),
+        Status::Lower => help(
+            *ends,
+            status,
+            wanted,
+            dict.entry_near(row, col, place, steps),
+        ),
+        Status::Upper => help(
+            *ends,
+            status,
+            wanted,
+            dict.entry_near(row, col, place, steps),
+        ),
+        Status::Zero => help(
+            *ends,
+            status,
+            wanted,
+            dict.entry_near(row, col, place, steps),
+        ),
     }
 }
 
 /// The first column that moves the row's one as wanted.
-pub fn first_help(
-    dict: &Dict,
+pub fn first_help<L: Ledger>(
+    dict: &Dict<L>,
     ends: &[Ends],
     statuses: &[Status],
     row: u32,
     wanted: Way,
     goal: u32,
+    steps: &mut Steps<L>,
 ) -> Option<Move>
     requires loaded { IsLoaded dict.now }
     requires ends { length ends.now ≡ length statuses.now }
@@ -73,7 +99,8 @@ pub fn first_help(
     requires goal { goal ≡ length statuses.now }
     requires row { row ≤ goal }
     requires basic { basic_in statuses.now row ≡ true }
-    ensures { (I : Instance) (w : Values) → AreEndsOf I ends.now → MatchOption result (NoneHelps I statuses.now (entry_of dict.now) w row wanted) (λ m. IsFirstHelp I statuses.now (entry_of dict.now) w row wanted m.col m.way) }
+    ensures help { (I : Instance) (w : Values) → AreEndsOf I ends.now → MatchOption result (NoneHelps I statuses.now (entry_of dict.now) w row wanted) (λ m. IsFirstHelp I statuses.now (entry_of dict.now) w row wanted m.col m.way) }
+    ensures counted { steps.old ≤ steps.new }
 {
     let mut place = 0;
     for c in 0..goal {
@@ -85,6 +112,7 @@ pub fn first_help(
             wanted,
             c,
             &mut place,
+            steps,
         ) {
             return Some(Move { col: c, way });
         }

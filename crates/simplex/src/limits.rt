@@ -16,9 +16,10 @@ ghost use Rattle.simplex.specs.Limits.{IsLimit, IsBestOf};
 use crate::ends::{Ends, is_less};
 use crate::finish::Move;
 use crate::helping::entry_at;
-use dictionary::Dict;
+use dictionary::{Dict, Steps};
 use fraction::{End, Frac, Wide};
 use simplex_rules::{Status, Way};
+use std::sync::ledger::Ledger;
 
 /// How far the moving column may go, and the column that reaches an end then.
 #[derive(Clone, Copy, PartialEq, Eq, Debug)]
@@ -88,14 +89,15 @@ pub fn rate(way: Way, entry: Frac) -> Frac
 }
 
 /// How far until a column reaches an end, if it does.
-fn limit_at(
-    dict: &Dict,
+fn limit_at<L: Ledger>(
+    dict: &Dict<L>,
     ends: &Ends,
     status: Status,
     value: &Frac,
     moving: Move,
     col: u32,
     goal: u32,
+    steps: &mut Steps<L>,
 ) -> Result<Option<Frac>, Wide>
     requires loaded { IsLoaded dict.now }
     requires goal { goal ≡ width_of dict.now + height_of dict.now }
@@ -106,9 +108,10 @@ fn limit_at(
     ensures ok { IfOk result (IsLimit (limit_one (is_basic status) (nat_eq col moving.col) (range_of ends.now) (ratio value.now) (rate moving.way (entry_of dict.now col moving.col)))) }
     ensures fits { IfOk result (λ _. OneFits (is_basic status) (nat_eq col moving.col) (range_of ends.now) (ratio value.now) (rate moving.way (entry_of dict.now col moving.col))) }
     ensures wide { OnErr result (OneFits (is_basic status) (nat_eq col moving.col) (range_of ends.now) (ratio value.now) (rate moving.way (entry_of dict.now col moving.col)) → ⊥) }
+    ensures counted { steps.old ≤ steps.new }
 {
     if status == Status::Basic {
-        let entry = entry_at(dict, col, moving.col, goal);
+        let entry = entry_at(dict, col, moving.col, goal, steps);
         return until_by(*ends, *value, rate(moving.way, entry));
     }
     if col == moving.col {
@@ -137,13 +140,14 @@ fn lesser(best: Option<Limit>, col: u32, next: Option<Frac>) -> Option<Limit>
 }
 
 /// The first column with the least limit.
-pub fn first_limit(
-    dict: &Dict,
+pub fn first_limit<L: Ledger>(
+    dict: &Dict<L>,
     ends: &[Ends],
     statuses: &[Status],
     values: &[Frac],
     moving: Move,
     goal: u32,
+    steps: &mut Steps<L>,
 ) -> Result<Option<Limit>, Wide>
     requires loaded { IsLoaded dict.now }
     requires ends { length ends.now ≡ length statuses.now }
@@ -155,6 +159,7 @@ pub fn first_limit(
     ensures ok { (I : Instance) → AreEndsOf I ends.now → IfOk result (λ o. MatchOption o (NoLimit I statuses.now (entry_of dict.now) (values_in values.now) moving.col moving.way) (λ l. IsFirstLimit I statuses.now (entry_of dict.now) (values_in values.now) moving.col moving.way l.col)) }
     ensures fits { (I : Instance) → AreEndsOf I ends.now → IfOk result (λ _. LimitsFit I statuses.now (entry_of dict.now) (values_in values.now) moving.col moving.way) }
     ensures wide { (I : Instance) → AreEndsOf I ends.now → OnErr result (LimitsFit I statuses.now (entry_of dict.now) (values_in values.now) moving.col moving.way → ⊥) }
+    ensures counted { steps.old ≤ steps.new }
 {
     let mut best: Option<Limit> = None;
     for c in 0..goal {
@@ -166,6 +171,7 @@ pub fn first_limit(
             moving,
             c,
             goal,
+            steps,
         )?;
         best = lesser(best, c, next);
     }

@@ -19,9 +19,10 @@ use crate::finish::{Finish, Move};
 use crate::helping::entry_at;
 use crate::limits::rate;
 use crate::valued::zero;
-use dictionary::Dict;
+use dictionary::{Dict, Steps};
 use fraction::Frac;
 use simplex_rules::{Status, Way};
+use std::sync::ledger::Ledger;
 
 /// 1, as contracts say it.
 fn one() -> Frac
@@ -52,40 +53,43 @@ fn against(way: Way, x: Frac) -> Frac
 }
 
 /// The factor of a column where the row's one can't move as wanted.
-fn factor_at(
-    dict: &Dict,
+fn factor_at<L: Ledger>(
+    dict: &Dict<L>,
     status: Status,
     row: u32,
     wanted: Way,
     col: u32,
     place: &mut usize,
+    steps: &mut Steps<L>,
 ) -> Frac
     requires loaded { IsLoaded dict.now }
     requires row { row < columns_of dict.now }
     requires basic { basic_of dict.now row ≡ true }
     requires col { col < width_of dict.now + height_of dict.now }
     requires status { is_basic status ≡ basic_of dict.now col }
-    ensures { AreEntries (columns_of dict.now) (basic_of dict.now) (entry_of dict.now) → ratio result ≡ factor_at (entry_of dict.now) row wanted col }
+    ensures factor { AreEntries (columns_of dict.now) (basic_of dict.now) (entry_of dict.now) → ratio result ≡ factor_at (entry_of dict.now) row wanted col }
+    ensures counted { steps.old ≤ steps.new }
 {
     if col == row {
         return against(wanted, step_of(Way::Fall));
     }
     match status {
         Status::Basic => against(wanted, zero()),
-        Status::Lower => against(wanted, dict.entry_near(row, col, place)),
-        Status::Upper => against(wanted, dict.entry_near(row, col, place)),
-        Status::Zero => against(wanted, dict.entry_near(row, col, place)),
+        Status::Lower => against(wanted, dict.entry_near(row, col, place, steps)),
+        Status::Upper => against(wanted, dict.entry_near(row, col, place, steps)),
+        Status::Zero => against(wanted, dict.entry_near(row, col, place, steps)),
     }
 }
 
 /// Writes the factors of all columns.
-fn set_factors(
-    dict: &Dict,
+fn set_factors<L: Ledger>(
+    dict: &Dict<L>,
     statuses: &[Status],
     row: u32,
     wanted: Way,
     factors: &mut [Frac],
     goal: u32,
+    steps: &mut Steps<L>,
 )
     requires loaded { IsLoaded dict.now }
     requires statuses { AreStatuses dict.now statuses.now }
@@ -93,26 +97,43 @@ fn set_factors(
     requires row { row ≤ goal }
     requires basic { basic_in statuses.now row ≡ true }
     requires factors { length factors.old ≡ goal }
-    ensures { AreEntries (columns_of dict.now) (basic_of dict.now) (entry_of dict.now) → (c : ℕ) → c < goal → values_in factors.new c ≡ factor_at (entry_of dict.now) row wanted c }
+    ensures factors { AreEntries (columns_of dict.now) (basic_of dict.now) (entry_of dict.now) → (c : ℕ) → c < goal → values_in factors.new c ≡ factor_at (entry_of dict.now) row wanted c }
+    ensures counted { steps.old ≤ steps.new }
 {
     let mut place = 0;
     for c in 0..goal {
-        factors[c as usize] = factor_at(dict, statuses[c as usize], row, wanted, c, &mut place);
+        factors[c as usize] = factor_at(
+            dict,
+            statuses[c as usize],
+            row,
+            wanted,
+            c,
+            &mut place,
+            steps,
+        );
     }
 }
 
 /// How a column moves while the moving one goes on by 1.
-fn movement_at(dict: &Dict, status: Status, moving: Move, col: u32, goal: u32) -> Frac
+fn movement_at<L: Ledger>(
+    dict: &Dict<L>,
+    status: Status,
+    moving: Move,
+    col: u32,
+    goal: u32,
+    steps: &mut Steps<L>,
+) -> Frac
     requires loaded { IsLoaded dict.now }
     requires goal { goal ≡ width_of dict.now + height_of dict.now }
     requires inside { moving.col < goal }
     requires nonbasic { basic_of dict.now moving.col ≡ false }
     requires col { col < goal }
     requires status { is_basic status ≡ basic_of dict.now col }
-    ensures { ratio result ≡ cond (is_basic status) (rate moving.way (entry_of dict.now col moving.col)) (cond (nat_eq col moving.col) (step_of moving.way) none) }
+    ensures movement { ratio result ≡ cond (is_basic status) (rate moving.way (entry_of dict.now col moving.col)) (cond (nat_eq col moving.col) (step_of moving.way) none) }
+    ensures counted { steps.old ≤ steps.new }
 {
     if status == Status::Basic {
-        let entry = entry_at(dict, col, moving.col, goal);
+        let entry = entry_at(dict, col, moving.col, goal, steps);
         return rate(moving.way, entry);
     }
     if col == moving.col {
@@ -122,28 +143,37 @@ fn movement_at(dict: &Dict, status: Status, moving: Move, col: u32, goal: u32) -
 }
 
 /// Writes the movements of the variables.
-fn set_movements(dict: &Dict, statuses: &[Status], moving: Move, movements: &mut [Frac], goal: u32)
+fn set_movements<L: Ledger>(
+    dict: &Dict<L>,
+    statuses: &[Status],
+    moving: Move,
+    movements: &mut [Frac],
+    goal: u32,
+    steps: &mut Steps<L>,
+)
     requires loaded { IsLoaded dict.now }
     requires statuses { AreStatuses dict.now statuses.now }
     requires goal { goal ≡ length statuses.now }
     requires inside { moving.col < goal }
     requires nonbasic { basic_in statuses.now moving.col ≡ false }
     requires movements { length movements.old ≤ goal }
-    ensures { (c : ℕ) → c < length movements.old → values_in movements.new c ≡ movement statuses.now (entry_of dict.now) moving.col moving.way c }
+    ensures movements { (c : ℕ) → c < length movements.old → values_in movements.new c ≡ movement statuses.now (entry_of dict.now) moving.col moving.way c }
+    ensures counted { steps.old ≤ steps.new }
 {
     for c in 0..movements.len() {
-        movements[c] = movement_at(dict, statuses[c], moving, c as u32, goal);
+        movements[c] = movement_at(dict, statuses[c], moving, c as u32, goal, steps);
     }
 }
 
 /// Writes the multipliers and the direction of an end, and answers it.
-pub fn report(
-    dict: &Dict,
+pub fn report<L: Ledger>(
+    dict: &Dict<L>,
     statuses: &[Status],
     finish: Finish,
     factors: &mut [Frac],
     movements: &mut [Frac],
     goal: u32,
+    steps: &mut Steps<L>,
 ) -> LpEnd
     requires left { IsLeft dict.now statuses.now finish }
     requires goal { goal ≡ length statuses.now }
@@ -151,18 +181,19 @@ pub fn report(
     requires movements { length movements.old ≤ goal }
     ensures stopped { was_stopped result ≡ is_stop finish }
     ensures end { (I : Instance) (w : Values) → width I ≡ length movements.old → goal_column I ≡ goal → end_at I statuses.now (entry_of dict.now) w finish ≡ ended result (listed (length movements.old) w) (collected (values_in factors.new) goal) (listed (length movements.old) (values_in movements.new)) }
+    ensures counted { steps.old ≤ steps.new }
 {
     match finish {
         Finish::Empty(out) => {
-            set_factors(dict, statuses, out.col, out.way, factors, goal);
+            set_factors(dict, statuses, out.col, out.way, factors, goal, steps);
             LpEnd::Empty
         }
         Finish::Best(bound) => {
-            set_factors(dict, statuses, goal, Way::Fall, factors, goal);
+            set_factors(dict, statuses, goal, Way::Fall, factors, goal, steps);
             LpEnd::Best { bound }
         }
         Finish::Endless(moving) => {
-            set_movements(dict, statuses, moving, movements, goal);
+            set_movements(dict, statuses, moving, movements, goal, steps);
             LpEnd::Endless
         }
         Finish::TurnLimit => LpEnd::TurnLimit,

@@ -28,14 +28,15 @@ use std::sync::ledger::Ledger;
 
 /// Makes the first basis, with the dictionary of the rows and the goal; or answers the first column whose ends pass each
 /// other.
-fn begin(
-    dict: &mut Dict,
+fn begin<L: Ledger>(
+    dict: &mut Dict<L>,
     ends: &mut [Ends],
     statuses: &mut [Status],
     instance: &Instance,
     cuts: &[Ends],
     zero_goal: bool,
     goal: u32,
+    steps: &mut Steps<L>,
 ) -> Option<u32>
     requires vars { width_of dict.old ≡ length instance.now.vars }
     requires rows { height_of dict.old ≡ length instance.now.rows }
@@ -49,6 +50,7 @@ fn begin(
     ensures held { result ≡ None → AreHeld dict.new statuses.new }
     ensures fresh { result ≡ None → (I : Of.Instance) → IsCutBy instance.now cuts.now I → IsFresh I statuses.new }
     ensures holds { result ≡ None → (I : Of.Instance) → IsCutBy instance.now cuts.now I → Holds (rows_with_goal zero_goal I) dict.new }
+    ensures counted { steps.old ≤ steps.new }
 {
     set_ends(cuts, instance.rows(), ends);
     if let Some(col) = first_clash(ends, goal) {
@@ -57,13 +59,13 @@ fn begin(
     set_first(ends, cuts.len(), statuses);
     let sense = instance.goal().sense;
     let costs = instance.goal().costs.as_slice();
-    dict.load(instance.entries(), costs, factor(zero_goal, sense));
+    dict.load(instance.entries(), costs, factor(zero_goal, sense), steps);
     None
 }
 
 /// Runs an instance's program with these ends of its variables, from the first basis to its end.
 pub fn run_over<W: Watch, L: Ledger>(
-    dict: &mut Dict,
+    dict: &mut Dict<L>,
     ends: &mut [Ends],
     statuses: &mut [Status],
     rest: &mut Places,
@@ -95,9 +97,10 @@ pub fn run_over<W: Watch, L: Ledger>(
     ensures more { turns.old.done ≤ turns.new.done }
     ensures within { turns.old.done ≤ turns.old.most → turns.new.done ≤ turns.old.most }
     ensures run { (n : ℕ) × W.came watch.old watch.new (answers n (was_stopped result)) × ((I : Of.Instance) (t : Terms) (looks : ℕ) → IsCutBy instance.now cuts.now I → t.turns ≡ turns.old.most → Tells t.stop looks n (was_stopped result) → Run I zero_goal t (record { turns = turns.old.done; looks = looks }) (ended result (listed (length instance.now.vars) (values_in values.new)) (collected (values_in factors.new) (length instance.now.vars + length instance.now.rows)) (listed (length instance.now.vars) (values_in movements.new))) (record { turns = turns.new.done; looks = looks_after looks n (was_stopped result) })) }
+    ensures counted { steps.old ≤ steps.new }
 {
     let goal = (instance.vars().len() + instance.rows().len()) as u32;
-    if let Some(col) = begin(dict, ends, statuses, instance, cuts, zero_goal, goal) {
+    if let Some(col) = begin(dict, ends, statuses, instance, cuts, zero_goal, goal, steps) {
         return LpEnd::Clash { col };
     }
     set_rest(ends, statuses, rest, goal);
@@ -107,5 +110,5 @@ pub fn run_over<W: Watch, L: Ledger>(
     let finish = make_turns(
         dict, ends, statuses, rest, values, known, start, turns, watch, goal, steps,
     );
-    report(dict, statuses, finish, factors, movements, goal)
+    report(dict, statuses, finish, factors, movements, goal, steps)
 }

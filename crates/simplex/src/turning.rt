@@ -42,7 +42,7 @@ fn count_turn<W: Watch>(turns: &mut Turns, watch: &mut W) -> bool
 
 /// The basic column gets its status, and the other one enters the basis.
 fn exchange<L: Ledger>(
-    dict: &mut Dict,
+    dict: &mut Dict<L>,
     statuses: &mut [Status],
     swap: Swap,
     steps: &mut Steps<L>,
@@ -56,6 +56,7 @@ fn exchange<L: Ledger>(
     ensures entries { IfOk result (λ _. IsPivoted (entry_of dict.old) swap.basic swap.nonbasic (entry_of dict.new)) }
     ensures fits { IfOk result (λ _. PivotFits (entry_of dict.old) swap.basic swap.nonbasic) }
     ensures wide { OnErr result (PivotFits (entry_of dict.old) swap.basic swap.nonbasic → ⊥) }
+    ensures counted { steps.old ≤ steps.new }
 {
     dict.pivot(swap.basic, swap.nonbasic, steps)?;
     statuses[swap.basic as usize] = swap.status;
@@ -65,7 +66,7 @@ fn exchange<L: Ledger>(
 
 /// A turn in which two columns change places. None where the run goes on.
 pub fn swap_turn<W: Watch, L: Ledger>(
-    dict: &mut Dict,
+    dict: &mut Dict<L>,
     statuses: &mut [Status],
     swap: Swap,
     turns: &mut Turns,
@@ -83,6 +84,7 @@ pub fn swap_turn<W: Watch, L: Ledger>(
     ensures swapped { result ≡ None → IsSwapped dict.old dict.new statuses.old statuses.new swap }
     ensures holds { (A : Entries) → Holds A dict.old → KeepsAt result (Holds A dict.new) }
     ensures turn { (n : ℕ) × W.came watch.old watch.new (answers n (stops_at result)) × ((I : Instance) (u : Entries) (w : Values) (t : Terms) (looks : ℕ) → t.turns ≡ turns.old.most → Tells t.stop looks n (stops_at result) → Begins t (record { turns = turns.old.done; looks = looks }) (PivotFits (entry_of dict.old) swap.basic swap.nonbasic) (pivoted statuses.old swap.basic swap.nonbasic swap.status) (next_at I statuses.new u w (record { turns = turns.new.done; looks = looks_after looks n (stops_at result) }) result)) }
+    ensures steps { steps.old ≤ steps.new }
 {
     if turns.done >= turns.most {
         return Some(Finish::TurnLimit);
@@ -99,8 +101,8 @@ pub fn swap_turn<W: Watch, L: Ledger>(
 }
 
 /// A turn in which a column goes to its other end. None where the run goes on.
-pub fn flip_turn<W: Watch>(
-    dict: &Dict,
+pub fn flip_turn<W: Watch, L: Ledger>(
+    dict: &Dict<L>,
     statuses: &mut [Status],
     flip: Flip,
     turns: &mut Turns,

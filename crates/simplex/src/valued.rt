@@ -68,7 +68,7 @@ pub fn set_rest(ends: &[Ends], statuses: &[Status], rest: &mut Places, goal: u32
 
 /// The value of a column.
 fn value_at<L: Ledger>(
-    dict: &Dict,
+    dict: &Dict<L>,
     status: Status,
     rest: &Places,
     col: u32,
@@ -80,6 +80,7 @@ fn value_at<L: Ledger>(
     requires status { is_basic status ≡ basic_of dict.now col }
     ensures ok { (w : Values) → Rest dict.now rest.now w → IfOk result (λ v. IsColumnValue dict.now w (is_basic status) col (ratio v)) }
     ensures wide { (w : Values) → Rest dict.now rest.now w → OnErr result ((is_basic status ≡ true) × (ValueFits (columns_of dict.now) (entry_of dict.now col) w → ⊥)) }
+    ensures counted { steps.old ≤ steps.new }
 {
     match status {
         Status::Basic => dict.value_of(col, rest, steps),
@@ -91,7 +92,7 @@ fn value_at<L: Ledger>(
 
 /// Writes the value of a column, where it isn't known.
 fn find_value<L: Ledger>(
-    dict: &Dict,
+    dict: &Dict<L>,
     statuses: &[Status],
     rest: &Places,
     values: &mut [Frac],
@@ -110,6 +111,7 @@ fn find_value<L: Ledger>(
     ensures own { IfOk result (λ _. known_at known.new col ≡ true) }
     ensures others { (c : ℕ) → known_at known.old c ≡ true → known_at known.new c ≡ true }
     ensures wide { (w : Values) → Rest dict.now rest.now w → OnErr result ((basic_in statuses.now col ≡ true) × (ValueFits (columns_of dict.now) (entry_of dict.now col) w → ⊥)) }
+    ensures counted { steps.old ≤ steps.new }
 {
     let c = col as usize;
     if known[c] {
@@ -123,7 +125,7 @@ fn find_value<L: Ledger>(
 
 /// Writes the values of all columns that aren't known.
 fn all_values<L: Ledger>(
-    dict: &Dict,
+    dict: &Dict<L>,
     statuses: &[Status],
     rest: &Places,
     values: &mut [Frac],
@@ -141,6 +143,7 @@ fn all_values<L: Ledger>(
     ensures known { AreKnown dict.now rest.now statuses.now values.new known.new }
     ensures ok { (w : Values) → Rest dict.now rest.now w → IfOk result (λ _. (c : ℕ) → c < goal → IsColumnValue dict.now w (basic_in statuses.now c) c (values_in values.new c)) }
     ensures wide { (w : Values) → Rest dict.now rest.now w → OnErr result ((b : ℕ) × (b < goal) × (basic_in statuses.now b ≡ true) × (ValueFits (columns_of dict.now) (entry_of dict.now b) w → ⊥)) }
+    ensures counted { steps.old ≤ steps.new }
 {
     for c in 0..goal {
         find_value(dict, statuses, rest, values, known, c, steps)?;
@@ -150,7 +153,7 @@ fn all_values<L: Ledger>(
 
 /// The values of the columns at a basis: those that aren't known are formed.
 pub fn find_values<L: Ledger>(
-    dict: &Dict,
+    dict: &Dict<L>,
     ends: &[Ends],
     statuses: &[Status],
     rest: &Places,
@@ -172,6 +175,7 @@ pub fn find_values<L: Ledger>(
     ensures ok { (I : Instance) → AreEndsOf I ends.now → HasSizeOf I dict.now → IfOk result (λ _. HasValues I statuses.now (entry_of dict.now) (values_in values.new)) }
     ensures fits { (I : Instance) → AreEndsOf I ends.now → HasSizeOf I dict.now → IfOk result (λ _. ValuesFit I statuses.now (entry_of dict.now)) }
     ensures wide { (I : Instance) → AreEndsOf I ends.now → HasSizeOf I dict.now → OnErr result (ValuesFit I statuses.now (entry_of dict.now) → ⊥) }
+    ensures counted { steps.old ≤ steps.new }
 {
     let _ends = ends;
     all_values(dict, statuses, rest, values, known, goal, steps)

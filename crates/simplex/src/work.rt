@@ -19,10 +19,11 @@ use simplex_rules::Status;
 use std::alloc::{AllocError, Global};
 use std::sync::ledger::Ledger;
 
-/// Memory for runs of one size, and what the last of them found.
+/// Memory for runs of one size, and what the last of them found. The entries of its dictionary are read and written on the ledger
+/// `L` alone.
 #[derive(Drop)]
-pub struct Work {
-    dict: Dict,
+pub struct Work<L: Ledger> {
+    dict: Dict<L>,
     ends: Vec<Ends>,
     statuses: Vec<Status>,
     rest: Places,
@@ -39,13 +40,13 @@ pub struct Work {
     ghost movements_long: { vec_len movements ≡ width_of dict },
 }
 
-impl Work {
+impl<L: Ledger> Work<L> {
     ghost use Rattle.simplex.specs.Cuts.{IsCutBy};
     ghost use Rattle.simplex.specs.Memory.{width_in, height_in, point_in, factor_in, movement_in, ended_with};
     ghost use Rattle.simplex.specs.Answers.{was_stopped};
 
     /// Memory for runs of so many variables and rows.
-    pub fn for_size(alloc: Global, n: u32, m: u32) -> Result<Work, AllocError>
+    pub fn for_size(alloc: Global, n: u32, m: u32) -> Result<Work<L>, AllocError>
         ensures width { IfOk result (λ w. width_in w ≡ n) }
         ensures height { IfOk result (λ w. height_in w ≡ m) }
     {
@@ -82,8 +83,9 @@ impl Work {
     /// The answer is the end of the run for each program of these ends, with the point, the multipliers and the direction that
     /// [`Work::point_at`], [`Work::mult_at`] and [`Work::ray_at`] tell then. `turns.done` counts the turns of the whole search: it
     /// rises by the run's turns, at most to `turns.most`, and after each turn whose number is a multiple of 64 there is a look.
-    /// The run ends by [`LpEnd::Stopped`] exactly where one of its looks said to stop, which is then the last.
-    pub fn run<W: Watch, L: Ledger>(
+    /// The run ends by [`LpEnd::Stopped`] exactly where one of its looks said to stop, which is then the last. `steps` counts each
+    /// entry of the dictionary that is read or written.
+    pub fn run<W: Watch>(
         &mut self,
         instance: &Instance,
         cuts: &Cuts,
@@ -102,6 +104,7 @@ impl Work {
         ensures more { turns.old.done ≤ turns.new.done }
         ensures within { turns.old.done ≤ turns.old.most → turns.new.done ≤ turns.old.most }
         ensures run { (n : ℕ) × W.came watch.old watch.new (answers n (was_stopped result)) × ((I : Of.Instance) (t : Terms) (looks : ℕ) → IsCutBy instance.now cuts.now I → t.turns ≡ turns.old.most → Tells t.stop looks n (was_stopped result) → Run I zero_goal t (record { turns = turns.old.done; looks = looks }) (ended_with result self.new) (record { turns = turns.new.done; looks = looks_after looks n (was_stopped result) })) }
+        ensures counted { steps.old ≤ steps.new }
     {
         run_over(
             &mut self.dict,

@@ -6,11 +6,11 @@ use Rattle.tableaus.specs.declared.turning.Turned.{Turned}
 use Rattle.tableaus.specs.declared.turning.Turned.TheVariants.{All, Never, Wide}
 
 -- it is the dictionary of its basis for some rows
-abbrev pub IsHeld : Dict → Type 0
+abbrev pub IsHeld : {L : _} {G : _} → Dict L G → Type 0
 IsHeld d = (A : Entries) × Holds A d
 
 -- it still is, unless a number didn't fit
-abbrev pub Keeps : Turned → Dict → Type 0
+abbrev pub Keeps : {L : _} {G : _} → Turned → Dict L G → Type 0
 Keeps All d = IsHeld d
 Keeps (Never k) d = IsHeld d
 Keeps (Wide k) d = Unit {0}

@@ -4,11 +4,11 @@ ghost use Rattle.dictionary.specs.Dict.{width_of, height_of, IsLoaded, IsBasic, 
 
 use certificate::Step;
 use decimal_text::write_ratio;
-use dictionary::Dict;
+use dictionary::{Dict, Steps};
 use fraction::Frac;
 use itoa::Buffer;
 use os_io::{Memory, Text};
-use std::alloc::Global;
+use std::sync::ledger::Ledger;
 
 /// How many variables and rows a dictionary has.
 #[derive(Clone, Copy)]
@@ -41,7 +41,7 @@ pub fn step_word(step: Step) -> &'static [u8] {
 }
 
 /// Whether the column is basic.
-pub fn is_basic(dict: &Dict, size: Size, column: u32) -> bool
+pub fn is_basic<L: Ledger>(dict: &Dict<L>, size: Size, column: u32) -> bool
     requires { height_of dict.now ≡ size.height }
     ensures { IsTrue result → IsBasic dict.now column }
 {
@@ -54,7 +54,7 @@ pub fn is_basic(dict: &Dict, size: Size, column: u32) -> bool
 }
 
 /// Whether the column is one that isn't basic.
-pub fn is_nonbasic(dict: &Dict, size: Size, column: u32) -> bool
+pub fn is_nonbasic<L: Ledger>(dict: &Dict<L>, size: Size, column: u32) -> bool
     requires { width_of dict.now ≡ size.width }
     ensures { IsTrue result → IsNonbasic dict.now column }
 {
@@ -79,7 +79,13 @@ fn put_entry(text: &mut Text, column: u32, value: Frac) -> Result<(), Memory> {
 }
 
 /// Puts the equation of a basic column, by ascending columns.
-fn put_equation(text: &mut Text, dict: &Dict, size: Size, basic: u32) -> Result<(), Memory>
+fn put_equation<L: Ledger>(
+    text: &mut Text,
+    dict: &Dict<L>,
+    size: Size,
+    basic: u32,
+    steps: &mut Steps<L>,
+) -> Result<(), Memory>
     requires loaded { IsLoaded dict.now }
     requires width { width_of dict.now ≡ size.width }
     requires basic { IsBasic dict.now basic }
@@ -88,36 +94,46 @@ fn put_equation(text: &mut Text, dict: &Dict, size: Size, basic: u32) -> Result<
     text.push(b':')?;
     for column in 0..size.width + size.height {
         if is_nonbasic(dict, size, column) {
-            put_entry(text, column, dict.entry(basic, column))?;
+            put_entry(text, column, dict.entry(basic, column, steps))?;
         }
     }
     text.extend(b"; ")
 }
 
 /// Puts the goal's equation.
-pub fn put_goal(text: &mut Text, dict: &Dict, size: Size) -> Result<(), Memory>
+pub fn put_goal<L: Ledger>(
+    text: &mut Text,
+    dict: &Dict<L>,
+    size: Size,
+    steps: &mut Steps<L>,
+) -> Result<(), Memory>
     requires loaded { IsLoaded dict.now }
     requires width { width_of dict.now ≡ size.width }
 {
     text.extend(b"goal:")?;
     for column in 0..size.width + size.height {
         if is_nonbasic(dict, size, column) {
-            put_entry(text, column, dict.cost(column))?;
+            put_entry(text, column, dict.cost(column, steps))?;
         }
     }
     Ok(())
 }
 
 /// All equations, by ascending basic columns, and last the goal's.
-pub fn put_dictionary(text: &mut Text, dict: &Dict, size: Size) -> Result<(), Memory>
+pub fn put_dictionary<L: Ledger>(
+    text: &mut Text,
+    dict: &Dict<L>,
+    size: Size,
+    steps: &mut Steps<L>,
+) -> Result<(), Memory>
     requires loaded { IsLoaded dict.now }
     requires width { width_of dict.now ≡ size.width }
     requires height { height_of dict.now ≡ size.height }
 {
     for column in 0..size.width + size.height {
         if is_basic(dict, size, column) {
-            put_equation(text, dict, size, column)?;
+            put_equation(text, dict, size, column, steps)?;
         }
     }
-    put_goal(text, dict, size)
+    put_goal(text, dict, size, steps)
 }

@@ -35,7 +35,7 @@ fn size_of(instance: &Instance) -> Size
     Size { width, height }
 }
 
-fn load(dict: &mut Dict, instance: &Instance, factor: i8)
+fn load<L: Ledger>(dict: &mut Dict<L>, instance: &Instance, factor: i8, steps: &mut Steps<L>)
     requires width { width_of dict.old ≡ length instance.now.vars }
     requires height { height_of dict.old ≡ length instance.now.rows }
     ensures width { width_of dict.new ≡ width_of dict.old }
@@ -44,12 +44,12 @@ fn load(dict: &mut Dict, instance: &Instance, factor: i8)
 {
     let entries = instance.entries();
     let goal = instance.goal();
-    dict.load(entries, goal.costs.as_slice(), factor);
+    dict.load(entries, goal.costs.as_slice(), factor, steps);
 }
 
 /// One exchange: whether it is one.
 fn turn<L: Ledger>(
-    dict: &mut Dict,
+    dict: &mut Dict<L>,
     size: Size,
     basic: u32,
     nonbasic: u32,
@@ -65,7 +65,7 @@ fn turn<L: Ledger>(
     if !is_basic(dict, size, basic) || !is_nonbasic(dict, size, nonbasic) {
         return Ok(false);
     }
-    if dict.entry(basic, nonbasic).numer == 0 {
+    if dict.entry(basic, nonbasic, steps).numer == 0 {
         return Ok(false);
     }
     dict.pivot(basic, nonbasic, steps)?;
@@ -73,7 +73,7 @@ fn turn<L: Ledger>(
 }
 
 fn turn_all<L: Ledger>(
-    dict: &mut Dict,
+    dict: &mut Dict<L>,
     size: Size,
     turns: &[Exchange],
     steps: &mut Steps<L>,
@@ -98,16 +98,13 @@ fn turn_all<L: Ledger>(
 
 /// A program loaded and its columns exchanged so often, each time from the beginning, and what became of it the last time.
 fn turn_often<L: Ledger>(
-    dict: &mut Dict,
+    dict: &mut Dict<L>,
     instance: &Instance,
     factor: i8,
     turns: &[Exchange],
     rounds: u32,
-    blank: Blank,
+    steps: &mut Steps<L>,
 ) -> Turned
-    requires name { blank.name ≡ L.name }
-    requires parts { blank.parts ≡ L.parts }
-    requires some { 0 < blank.parts }
     requires width { width_of dict.old ≡ length instance.now.vars }
     requires height { height_of dict.old ≡ length instance.now.rows }
     ensures width { width_of dict.new ≡ width_of dict.old }
@@ -115,19 +112,45 @@ fn turn_often<L: Ledger>(
     ensures held { Keeps result dict.new }
 {
     let size = size_of(instance);
-    let mut steps = Steps::<L>::new(blank);
     for _ in 1..rounds {
-        load(dict, instance, factor);
-        turn_all(dict, size, turns, &mut steps);
+        load(dict, instance, factor, steps);
+        turn_all(dict, size, turns, steps);
     }
-    load(dict, instance, factor);
-    turn_all(dict, size, turns, &mut steps)
+    load(dict, instance, factor, steps);
+    turn_all(dict, size, turns, steps)
 }
 
 fn put_turned(text: &mut Text, word: &[u8], count: usize) -> Result<(), Memory> {
     text.extend(word)?;
     text.extend(Buffer::new().format(count).as_bytes())?;
     text.extend(b" then ")
+}
+
+fn tell_turned_by<L: Ledger>(
+    alloc: Global,
+    instance: &Instance,
+    factor: i8,
+    turns: &[Exchange],
+    blank: Blank,
+) -> Result<Text, Memory>
+    requires name { blank.name ≡ L.name }
+    requires parts { blank.parts ≡ L.parts }
+    requires some { 0 < blank.parts }
+{
+    let size = size_of(instance);
+    let mut steps = Steps::<L>::new(blank);
+    let mut dict = Dict::with_size(alloc, size.width, size.height)?;
+    let mut text = Text::new(alloc);
+    match turn_often(&mut dict, instance, factor, turns, 1, &mut steps) {
+        Turned::All => {}
+        Turned::Never(count) => put_turned(&mut text, b"none at ", count)?,
+        Turned::Wide(count) => {
+            put_turned(&mut text, b"wide at ", count)?;
+            load(&mut dict, instance, factor, &mut steps);
+        }
+    }
+    put_dictionary(&mut text, &dict, size, &mut steps)?;
+    Ok(text)
 }
 
 /// What the dictionary says after the exchanges. Where one can't be made, this says so; where a number doesn't fit, the
@@ -138,19 +161,7 @@ pub fn tell_turned(
     factor: i8,
     turns: &[Exchange],
 ) -> Result<Text, Memory> {
-    let size = size_of(instance);
-    let mut dict = Dict::with_size(alloc, size.width, size.height)?;
-    let mut text = Text::new(alloc);
-    match turn_often::<Brand>(&mut dict, instance, factor, turns, 1, Blank::new(1)) {
-        Turned::All => {}
-        Turned::Never(count) => put_turned(&mut text, b"none at ", count)?,
-        Turned::Wide(count) => {
-            put_turned(&mut text, b"wide at ", count)?;
-            load(&mut dict, instance, factor);
-        }
-    }
-    put_dictionary(&mut text, &dict, size)?;
-    Ok(text)
+    tell_turned_by::<Brand>(alloc, instance, factor, turns, Blank::new(1))
 }
 
 /// Values for the first columns.
@@ -170,25 +181,21 @@ fn read_places(alloc: Global, values: &[Frac]) -> Result<Places, Memory>
 
 fn put_values<L: Ledger>(
     text: &mut Text,
-    dict: &Dict,
+    dict: &Dict<L>,
     size: Size,
     places: &Places,
-    blank: Blank,
+    steps: &mut Steps<L>,
 ) -> Result<(), Memory>
-    requires name { blank.name ≡ L.name }
-    requires parts { blank.parts ≡ L.parts }
-    requires some { 0 < blank.parts }
     requires loaded { IsLoaded dict.now }
     requires width { width_of dict.now ≡ size.width }
     requires height { height_of dict.now ≡ size.height }
     requires places { size.width + size.height ≤ count_of places.now }
 {
-    let mut steps = Steps::<L>::new(blank);
     for column in 0..size.width + size.height {
         if is_basic(dict, size, column) {
             put_number(text, column)?;
             text.push(b'=')?;
-            match dict.value_of(column, places, &mut steps) {
+            match dict.value_of(column, places, steps) {
                 Ok(value) => write_ratio(value, text)?,
                 Err(_) => text.extend(b"wide")?,
             }
@@ -196,6 +203,33 @@ fn put_values<L: Ledger>(
         }
     }
     Ok(())
+}
+
+fn tell_values_by<L: Ledger>(
+    alloc: Global,
+    instance: &Instance,
+    factor: i8,
+    turns: &[Exchange],
+    values: &[Frac],
+    blank: Blank,
+) -> Result<Text, Memory>
+    requires name { blank.name ≡ L.name }
+    requires parts { blank.parts ≡ L.parts }
+    requires some { 0 < blank.parts }
+{
+    let size = size_of(instance);
+    if values.len() < (size.width + size.height) as usize {
+        return Text::from_slice(alloc, b"too few values");
+    }
+    let mut steps = Steps::<L>::new(blank);
+    let mut dict = Dict::with_size(alloc, size.width, size.height)?;
+    let places = read_places(alloc, values)?;
+    let mut text = Text::new(alloc);
+    match turn_often(&mut dict, instance, factor, turns, 1, &mut steps) {
+        Turned::All => put_values(&mut text, &dict, size, &places, &mut steps)?,
+        _ => text.extend(b"not turned")?,
+    }
+    Ok(text)
 }
 
 /// The values of the basic columns after the exchanges, where the others have these.
@@ -206,15 +240,27 @@ pub fn tell_values(
     turns: &[Exchange],
     values: &[Frac],
 ) -> Result<Text, Memory> {
+    tell_values_by::<Brand>(alloc, instance, factor, turns, values, Blank::new(1))
+}
+
+fn tell_goal_by<L: Ledger>(
+    alloc: Global,
+    instance: &Instance,
+    factor: i8,
+    turns: &[Exchange],
+    rounds: u32,
+    blank: Blank,
+) -> Result<Text, Memory>
+    requires name { blank.name ≡ L.name }
+    requires parts { blank.parts ≡ L.parts }
+    requires some { 0 < blank.parts }
+{
     let size = size_of(instance);
-    if values.len() < (size.width + size.height) as usize {
-        return Text::from_slice(alloc, b"too few values");
-    }
+    let mut steps = Steps::<L>::new(blank);
     let mut dict = Dict::with_size(alloc, size.width, size.height)?;
-    let places = read_places(alloc, values)?;
     let mut text = Text::new(alloc);
-    match turn_often::<Brand>(&mut dict, instance, factor, turns, 1, Blank::new(1)) {
-        Turned::All => put_values::<Brand>(&mut text, &dict, size, &places, Blank::new(1))?,
+    match turn_often(&mut dict, instance, factor, turns, rounds, &mut steps) {
+        Turned::All => put_goal(&mut text, &dict, size, &mut steps)?,
         _ => text.extend(b"not turned")?,
     }
     Ok(text)
@@ -228,12 +274,5 @@ pub fn tell_goal(
     turns: &[Exchange],
     rounds: u32,
 ) -> Result<Text, Memory> {
-    let size = size_of(instance);
-    let mut dict = Dict::with_size(alloc, size.width, size.height)?;
-    let mut text = Text::new(alloc);
-    match turn_often::<Brand>(&mut dict, instance, factor, turns, rounds, Blank::new(1)) {
-        Turned::All => put_goal(&mut text, &dict, size)?,
-        _ => text.extend(b"not turned")?,
-    }
-    Ok(text)
+    tell_goal_by::<Brand>(alloc, instance, factor, turns, rounds, Blank::new(1))
 }

@@ -5,10 +5,11 @@ ghost use Rattle.simplex.specs.Memory.{width_in, height_in};
 use decimal_text::write_ratio;
 use os_io::{Memory, Text};
 use simplex::{LpEnd, Work};
+use std::sync::ledger::Ledger;
 use tableaus::{put_count, step_word};
 
 /// Puts the last point.
-fn put_point(text: &mut Text, work: &Work, width: u32) -> Result<(), Memory>
+fn put_point<L: Ledger>(text: &mut Text, work: &Work<L>, width: u32) -> Result<(), Memory>
     requires { width_in work.now ≡ width }
 {
     text.extend(b" at")?;
@@ -20,7 +21,7 @@ fn put_point(text: &mut Text, work: &Work, width: u32) -> Result<(), Memory>
 }
 
 /// Puts the last direction.
-fn put_direction(text: &mut Text, work: &Work, width: u32) -> Result<(), Memory>
+fn put_direction<L: Ledger>(text: &mut Text, work: &Work<L>, width: u32) -> Result<(), Memory>
     requires { width_in work.now ≡ width }
 {
     text.extend(b" along")?;
@@ -32,7 +33,12 @@ fn put_direction(text: &mut Text, work: &Work, width: u32) -> Result<(), Memory>
 }
 
 /// Puts the last multipliers that aren't 0.
-fn put_multipliers(text: &mut Text, work: &Work, width: u32, height: u32) -> Result<(), Memory>
+fn put_multipliers<L: Ledger>(
+    text: &mut Text,
+    work: &Work<L>,
+    width: u32,
+    height: u32,
+) -> Result<(), Memory>
     requires width { width_in work.now ≡ width }
     requires height { height_in work.now ≡ height }
 {
@@ -50,10 +56,10 @@ fn put_multipliers(text: &mut Text, work: &Work, width: u32, height: u32) -> Res
 }
 
 /// Puts an end, with what the work tells of it.
-pub fn put_end(
+pub fn put_end<L: Ledger>(
     text: &mut Text,
     end: LpEnd,
-    work: &Work,
+    work: &Work<L>,
     width: u32,
     height: u32,
 ) -> Result<(), Memory>

@@ -9,23 +9,23 @@ use Rattle.branch_bound.proofs.Meets.{meets_split}
 use Rattle.branch_bound.proofs.meeting.meet.Goals as goal
 
 pub branch-walk-requires-clause-inside : goal.branch-walk-requires-clause-inside
-branch-walk-requires-clause-inside c =
+branch-walk-requires-clause-inside g c =
     let s = rw c.as_slice.ensures.value at c.in-Some.ensures c.args.instance.now in
     let n = length-map c.args.walk.now.vars.items variable in
     let b = s.branch.variable in
     omega arith
 
 pub branch-walk-requires-clause-low : goal.branch-walk-requires-clause-low
-branch-walk-requires-clause-low c = let s = c.in-Some.ensures c.args.instance.now in s.branch.low
+branch-walk-requires-clause-low g c = let s = c.in-Some.ensures c.args.instance.now in s.branch.low
 
 pub branch-walk-requires-clause-high : goal.branch-walk-requires-clause-high
-branch-walk-requires-clause-high c = let s = c.in-Some.ensures c.args.instance.now in s.branch.high
+branch-walk-requires-clause-high g c = let s = c.in-Some.ensures c.args.instance.now in s.branch.high
 
 pub take_point-requires-clause-whole : goal.take_point-requires-clause-whole
-take_point-requires-clause-whole c = rw c.as_slice.ensures.value at c.in-None.ensures c.args.instance.now
+take_point-requires-clause-whole g c = rw c.as_slice.ensures.value at c.in-None.ensures c.args.instance.now
 
 pub returns-in-Some-clause-ok : goal.returns-in-Some-clause-ok
-returns-in-Some-clause-ok c =
+returns-in-Some-clause-ok g c =
     let p = c.args.instance.now in
     let w = c.args.walk.now in
     let s = rw c.as_slice.ensures.value at c.in-Some.ensures p in

@@ -13,7 +13,7 @@ use Rattle.branch_bound.proofs.Meets.{meets_wide, meets_found}
 use Rattle.branch_bound.proofs.meeting.take_point.Goals as goal
 
 pub returns-in-Err-value_at-clause-err : goal.returns-in-Err-value_at-clause-err
-returns-in-Err-value_at-clause-err c =
+returns-in-Err-value_at-clause-err g c =
     inr (λ looks.
     let p = c.args.instance.now in
     let w = c.args.walk.now in
@@ -22,7 +22,7 @@ returns-in-Err-value_at-clause-err c =
     meets_wide (program p) (Walks.case p w) (Walks.rest p w c.args.depth) (Walks.moment p w (clock_at r looks)) (point_of r.work) (Means.multipliers c.args.mults) c.in-Ok.point c.in-Ok.ensures.values c.requires.whole (outcome c.too_wide.result) wide (c.too_wide.ensures.told p looks))
 
 pub returns-in-Ok-leaf-clause-ok : goal.returns-in-Ok-leaf-clause-ok
-returns-in-Ok-leaf-clause-ok c = λ at.
+returns-in-Ok-leaf-clause-ok g c = λ at.
     let p = c.args.instance.now in
     let w = c.args.walk.now in
     let r = c.args.relaxation.now in

@@ -11,7 +11,7 @@ use Rattle.branch_bound.proofs.Splits.{split_at, whole_more}
 use Rattle.branch_bound.proofs.open.first_open.Goals as goal
 
 pub returns-then-is_open : goal.returns-then-is_open
-returns-then-is_open c = λ p.
+returns-then-is_open g c = λ p.
     let w = c.args.work.now in
     let vs = c.args.vars.now in
     let j = c.loop-j.j in
@@ -22,13 +22,13 @@ returns-then-is_open c = λ p.
     (split_at p vs (point_of w) j c.index-vars-j.result v c.loop-j-test.true c.index-vars-j.is c.coordinate-value.ensures c.floor-k.result yes c.floor-k.ensures (c.loop-j.invariant p))
 
 pub loop-j-preserved : goal.loop-j-preserved
-loop-j-preserved c = λ p.
+loop-j-preserved g c = λ p.
     let w = c.args.work.now in
     let j = c.loop-j.j in
     whole_more p c.args.vars.now (point_of w) j c.index-vars-j.result c.coordinate-value.result c.loop-j-test.true c.index-vars-j.is c.coordinate-value.ensures (c.is_open.ensures.no c.if-is_open.false) (c.loop-j.invariant p)
 
 pub returns : goal.returns
-returns c = λ p j h t.
+returns g c = λ p j h t.
     let e = length-map c.args.vars.now variable in
     let out = c.loop-j-test.false in
     c.loop-j.invariant p j (omega arith) t

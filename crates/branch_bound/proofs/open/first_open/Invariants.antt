@@ -5,4 +5,4 @@ use Rattle.search_rules.specs.Search.{IsWholeBelow}
 use Rattle.branch_bound.proofs.open.first_open.Given as goal
 
 abbrev pub invariant-loop-j : goal.invariant-loop-j
-invariant-loop-j l = (p : Parts) → IsWholeBelow (cut p l.vars) (point_of l.work) l.j
+invariant-loop-j g l = (p : Parts) → IsWholeBelow (cut p l.vars) (point_of l.work) l.j

@@ -5,4 +5,4 @@ use Rattle.simplex_rules.specs.Reports.{collected}
 use Rattle.branch_bound.proofs.points.read_mults.Given as goal
 
 abbrev pub invariant-loop-col : goal.invariant-loop-col
-invariant-loop-col l = Means.multipliers l.mults ≡ collected (factor_in l.work) l.col
+invariant-loop-col g l = Means.multipliers l.mults ≡ collected (factor_in l.work) l.col

@@ -14,7 +14,7 @@ use Rattle.branch_bound.proofs.Places.{whole_at}
 use Rattle.branch_bound.proofs.rays.factor.Goals as goal
 
 pub returns-in_err-factor-clause-wide : goal.returns-in_err-factor-clause-wide
-returns-in_err-factor-clause-wide c =
+returns-in_err-factor-clause-wide g c =
     let p = c.args.instance.now in
     let w = c.args.work.now in
     let j = c.loop-j.j in
@@ -24,7 +24,7 @@ returns-in_err-factor-clause-wide c =
     (no_factor (program p) (ray_of w) j (length p.vars) (unsigned_abs (to_z w128 c.loop-j.factor-bits)) (slice_index_or c.vars-vars.result.now j c.index-vars-j.result).whole (ratio c.movement.result) low (whole_at p p.vars j c.index-vars-j.result low is ∙ ap (λ (v : Var). v.whole) c.index-vars-j.is) c.movement.ensures c.loop-j.invariant.is c.in_err-factor.ensures.wide)
 
 pub loop-j-preserved : goal.loop-j-preserved
-loop-j-preserved c =
+loop-j-preserved g c =
     let p = c.args.instance.now in
     let w = c.args.work.now in
     let j = c.loop-j.j in

@@ -26,7 +26,7 @@ factored b k f up e =
     record { numer = ap (λ (r : Ratio). r.num) q; by = factor_is b k q up }
 
 pub returns-in-Err-mul : goal.returns-in-Err-mul
-returns-in-Err-mul c =
+returns-in-Err-mul g c =
     let p = c.args.instance.now in
     let w = c.args.work.now in
     let j = c.loop-j.j in
@@ -39,7 +39,7 @@ returns-in-Err-mul c =
     no_ray (program p) (ray_of w) (unsigned_abs c.whole-by.result.numer) j c.movement.result c.whole-by.result least inside c.movement.ensures is.by c.in-Err-mul.ensures.wide
 
 pub loop-j-preserved : goal.loop-j-preserved
-loop-j-preserved c =
+loop-j-preserved g c =
     let p = c.args.instance.now in
     let w = c.args.work.now in
     let j = c.loop-j.j in
@@ -55,7 +55,7 @@ loop-j-preserved c =
     }
 
 pub returns : goal.returns
-returns c =
+returns g c =
     let p = c.args.instance.now in
     let w = c.args.work.now in
     let fits : SFits w128 c.in-Ok.factor = search rules in

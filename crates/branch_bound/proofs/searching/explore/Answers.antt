@@ -16,6 +16,7 @@ loop-walk-init g c = record {
   walk = c.requires.walk;
   size = c.requires.size;
   most = ap (λ t. t.most) c.requires.turns;
+  counted = omega arith;
   moments = (0, g.met.W.Watch.stays c.args.watch.now, λ stop h. subst (Comes (program c.args.instance.now) (terms c.args.limits stop)) (sym c.requires.first) begins);
 }
 
@@ -41,6 +42,7 @@ loop-walk-preserved g c =
       walk = c.in-Ok.ensures.walk;
       size = c.step.ensures.size;
       most = c.step.ensures.most;
+      counted = let a = l.invariant.counted in let b = c.step.ensures.counted in omega arith;
       moments = (
         n + k,
         subst (g.W.Watch.came a.watch.now c.step.new.watch) (answers_more n k false) (g.met.W.Watch.joined a.watch.now l.watch c.step.new.watch (went_on n) (went_on k) came came''),
@@ -53,8 +55,8 @@ loop-walk-preserved g c =
       );
     }
 
-pub returns-in-Err : goal.returns-in-Err
-returns-in-Err g c =
+pub returns-in-Err-clause-answer : goal.returns-in-Err-clause-answer
+returns-in-Err-clause-answer g c =
     let a = c.args in
     let l = c.loop-walk in
     let p = a.instance.now in
@@ -71,8 +73,8 @@ returns-in-Err g c =
           (answered (program p) t (moment p l.walk (clock_at l.relaxation n)) (outcome c.in-Err.claim) (clock_at r (looks_after n k b)) (comes stop (after_less n k b stop h)) (ends n stop (tells_less n k b stop h))),
     )
 
-pub returns : goal.returns
-returns g c =
+pub returns-clause-answer : goal.returns-clause-answer
+returns-clause-answer g c =
     let a = c.args in
     let l = c.loop-walk in
     let p = a.instance.now in

@@ -1,4 +1,4 @@
-use Rattle.std.proofs.Common.{◌≡◌, ℕ, ◌-◌, Option, length}
+use Rattle.std.proofs.Common.{◌≡◌, ℕ, ◌-◌, ◌≤◌, Option, length}
 use Rattle.instance.specs.Program.{program}
 use Rattle.simplex_rules.specs.Looks.{went_on, IsAfter}
 use Rattle.search_rules.specs.Search.{Comes}
@@ -11,6 +11,7 @@ invariant-loop-walk g l = record {
   walk : IsWalk (length l.instance.vars) l.walk;
   size : HasSize l.instance l.relaxation;
   most : l.relaxation.turns.most ≡ l.limits.turns;
+  counted : l.fn.steps ≤ l.steps;
   moments : (n : ℕ) × g.W.Watch.came l.fn.watch l.watch (went_on n) × ((stop : Option ℕ) → IsAfter n stop → Comes (program l.instance) (terms l.limits stop) (moment l.instance l.walk (clock_at l.relaxation n)));
 }
 

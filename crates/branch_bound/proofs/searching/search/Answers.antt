@@ -5,17 +5,17 @@ use Rattle.search_rules.specs.Search.{IsAnswer, begins, given_up}
 use Rattle.branch_bound.specs.Claims.{outcome, is_killed}
 use Rattle.branch_bound.proofs.searching.search.Goals as goal
 
-pub returns-in-Err : goal.returns-in-Err
-returns-in-Err g c = (0, g.met.W.Watch.stays c.args.watch.now, λ stop h. given_up begins)
+pub returns-in-Err-clause-answer : goal.returns-in-Err-clause-answer
+returns-in-Err-clause-answer g c = (0, g.met.W.Watch.stays c.args.watch.now, λ stop h. given_up begins)
 
-pub returns-in-Err-begin : goal.returns-in-Err-begin
-returns-in-Err-begin g c = (0, g.met.W.Watch.stays c.args.watch.now, λ stop h. given_up begins)
+pub returns-in-Err-begin-clause-answer : goal.returns-in-Err-begin-clause-answer
+returns-in-Err-begin-clause-answer g c = (0, g.met.W.Watch.stays c.args.watch.now, λ stop h. given_up begins)
 
-pub returns : goal.returns
-returns g c =
+pub returns-clause-answer : goal.returns-clause-answer
+returns-clause-answer g c =
     let a = c.args in
     let e = c.explore-claim in
-    let (n, b, q, came, answer) = e.ensures in
+    let (n, b, q, came, answer) = e.ensures.answer in
     let back : b ≡ is_killed e.result = sym q in (
       n,
       subst (λ (b : Bool). g.W.Watch.came a.watch.now e.new.watch (answers n b)) back came,

@@ -10,7 +10,7 @@ use Rattle.branch_bound.proofs.Meets.{if_err, or_memory}
 use Rattle.branch_bound.proofs.visit.at_best.Goals as goal
 
 pub returns-then-passes-clause-ok : goal.returns-then-passes-clause-ok
-returns-then-passes-clause-ok c =
+returns-then-passes-clause-ok g c =
     let p = c.args.instance.now in
     let w = c.args.walk.now in
     if_ok c.leaf.result
@@ -18,7 +18,7 @@ returns-then-passes-clause-ok c =
     c.leaf.ensures.ok
 
 pub returns-clause-ok : goal.returns-clause-ok
-returns-clause-ok c =
+returns-clause-ok g c =
     let p = c.args.instance.now in
     let w = c.args.walk.now in
     if_ok c.meet.result
@@ -26,7 +26,7 @@ returns-clause-ok c =
     c.meet.ensures.ok
 
 pub returns-clause-err : goal.returns-clause-err
-returns-clause-err c =
+returns-clause-err g c =
     let p = c.args.instance.now in
     let w = c.args.walk.now in
     let r = c.args.relaxation.now in

@@ -6,7 +6,7 @@ use Rattle.branch_bound.specs.Walks as Walks
 use Rattle.branch_bound.proofs.visit.at_empty.Goals as goal
 
 pub returns-in-Ok-clause-ok : goal.returns-in-Ok-clause-ok
-returns-in-Ok-clause-ok c =
+returns-in-Ok-clause-ok g c =
     let p = c.args.instance.now in
     let w = c.args.walk.now in
     if_ok c.leaf.result

@@ -7,21 +7,21 @@ use Rattle.branch_bound.proofs.Meets.{if_err, or_memory}
 use Rattle.branch_bound.proofs.visit.at_endless.Goals as goal
 
 pub returns-in-None-clause-err : goal.returns-in-None-clause-err
-returns-in-None-clause-err c =
+returns-in-None-clause-err g c =
     let p = c.args.instance.now in
     let r = c.args.relaxation.now in
     let none = rw c.in-None.is at c.in-Ok.ensures in
     inr (λ t looks. inl (none, ap (λ (o : Outcome). Out o (clock_at r looks)) (c.too_wide.ensures.told p looks)))
 
 pub returns-clause-ok : goal.returns-clause-ok
-returns-clause-ok c =
+returns-clause-ok g c =
     let scaled = rw c.in-Some.is at c.in-Ok.ensures in
     if_ok c.meet.result
     (λ x h t at. inr (ratios c.in-Some.ray, scaled, rw c.new.ensures at (h at)))
     c.meet.ensures.ok
 
 pub returns-clause-err : goal.returns-clause-err
-returns-clause-err c =
+returns-clause-err g c =
     let scaled = rw c.in-Some.is at c.in-Ok.ensures in
     if_err c.meet.result
     (λ claim. or_memory c.args.walk.now claim (λ h t looks. inr (ratios c.in-Some.ray, scaled, rw c.new.ensures at (h looks))))

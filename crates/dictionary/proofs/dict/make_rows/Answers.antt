@@ -4,7 +4,7 @@ use Rattle.dictionary.proofs.Filled.{row_rooms_push}
 use Rattle.dictionary.proofs.dict.make_rows.Goals as goal
 
 pub loop-r-preserved : goal.loop-r-preserved
-loop-r-preserved c =
+loop-r-preserved g c =
     rw c.in_ok-push.ensures.items
     (record {
       count = length_push c.loop-r.rows.items c.in_ok-with_room.field-0 ∙ omega arith;

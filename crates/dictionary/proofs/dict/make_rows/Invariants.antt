@@ -3,7 +3,7 @@ use Rattle.dictionary.specs.Row.{RowsHaveRoom}
 use Rattle.dictionary.proofs.dict.make_rows.Given as goal
 
 abbrev pub invariant-loop-r : goal.invariant-loop-r
-invariant-loop-r l = record {
+invariant-loop-r g l = record {
   count : length l.rows.items ≡ l._r;
   room : RowsHaveRoom l.width l.rows.items;
 }

@@ -24,6 +24,7 @@ loop-low-preserved-then-x-col-2 g c =
       before = subst (λ k. HasColumn (take k (entries_of c.args.row.now)) c.args.col → ⊥) (sym (add-one mid)) (not_up_to 0 (2 ^ 32) (entries_of c.args.row.now) mid x c.args.col c.requires l c.read-x.ensures.item c.if-x-col-2.true);
       after = c.loop-low.invariant.after;
       cost = probed (length (entries_of c.args.row.now)) c.loop-low.steps c.read-x.new.steps c.args.steps.now (high - low) (high - (mid + 1)) c.read-x.ensures.cost (omega arith) (omega arith) c.loop-low.invariant.cost;
+      counted = let a = c.loop-low.invariant.counted in let b = c.read-x.ensures.cost in omega arith;
     }
 
 pub loop-low-preserved : goal.loop-low-preserved
@@ -41,6 +42,7 @@ loop-low-preserved g c =
       before = c.loop-low.invariant.before;
       after = not_from 0 (2 ^ 32) (entries_of c.args.row.now) mid x c.args.col c.requires l c.read-x.ensures.item d;
       cost = probed (length (entries_of c.args.row.now)) c.loop-low.steps c.read-x.new.steps c.args.steps.now (high - low) (mid - low) c.read-x.ensures.cost (omega arith) (omega arith) c.loop-low.invariant.cost;
+      counted = let a = c.loop-low.invariant.counted in let b = c.read-x.ensures.cost in omega arith;
     }
 
 pub returns-clause-absent : goal.returns-clause-absent

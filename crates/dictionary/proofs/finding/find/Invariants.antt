@@ -9,6 +9,7 @@ invariant-loop-low g l = record {
   before : HasColumn (take l.low (entries_of l.row)) l.col → ⊥;
   after : HasColumn (drop l.high (entries_of l.row)) l.col → ⊥;
   cost : (b : ℕ) → length (entries_of l.row) < 2 ^ b → (k : ℕ) × (l.steps + k ≡ l.fn.steps + b) × (l.high - l.low < 2 ^ k);
+  counted : l.fn.steps ≤ l.steps;
 }
 
 abbrev pub decreases-loop-low : goal.decreases-loop-low

@@ -4,8 +4,8 @@ use Rattle.dictionary.specs.Row.{entries_of, HasColumn}
 use Rattle.dictionary.proofs.Found.{not_up_to}
 use Rattle.dictionary.proofs.finding.is_past.Goals as goal
 
-pub returns : goal.returns
-returns g c = λ t h.
+pub returns-clause-past : goal.returns-clause-past
+returns-clause-past g c = λ t h.
     let x = c.read-x.result.now in
     let l : c.args.place - 1 < length (entries_of c.args.row.now) = let a = c.if-place-eq0.false in let b = c.requires.inside in omega arith in
     let k : c.args.place ≡ suc (c.args.place - 1) = let a = c.if-place-eq0.false in omega arith in

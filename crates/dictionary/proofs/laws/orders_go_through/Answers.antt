@@ -2,7 +2,7 @@ use Rattle.dictionary.proofs.Told.{through_nonbasic, through_basic}
 use Rattle.dictionary.proofs.laws.orders_go_through.Goals as goal
 
 pub returns-clause-nonbasic : goal.returns-clause-nonbasic
-returns-clause-nonbasic c = through_nonbasic
+returns-clause-nonbasic g c d = through_nonbasic d
 
 pub returns-clause-basic : goal.returns-clause-basic
-returns-clause-basic c = through_basic
+returns-clause-basic g c d = through_basic d

@@ -6,7 +6,7 @@ use Rattle.dictionary.proofs.Pivoted.{past_rows}
 use Rattle.dictionary.proofs.loading.clear_rows.Goals as goal
 
 pub loop-r-preserved : goal.loop-r-preserved
-loop-r-preserved c =
+loop-r-preserved g c =
     let v = c.clear.new.self in
     let l : c.loop-r.r < length c.loop-r.rows = omega arith in
     record {
@@ -19,4 +19,4 @@ loop-r-preserved c =
     }
 
 pub returns-clause-cleared : goal.returns-clause-cleared
-returns-clause-cleared c r = by_lt r (length c.loop-r.rows) (λ h. c.loop-r.invariant.cleared r (omega arith)) (λ h. past_rows c.loop-r.rows r h)
+returns-clause-cleared g c r = by_lt r (length c.loop-r.rows) (λ h. c.loop-r.invariant.cleared r (omega arith)) (λ h. past_rows c.loop-r.rows r h)

@@ -3,7 +3,7 @@ use Rattle.dictionary.specs.Row.{entries_in, RowsHaveRoom}
 use Rattle.dictionary.proofs.loading.clear_rows.Given as goal
 
 abbrev pub invariant-loop-r : goal.invariant-loop-r
-invariant-loop-r l = record {
+invariant-loop-r g l = record {
   cleared : (r : ℕ) → r < l.r → entries_in l.rows r ≡ [];
   room : (n : ℕ) → RowsHaveRoom n l.initial.rows → RowsHaveRoom n l.rows;
 }

@@ -17,12 +17,16 @@ pub loop-j-init : goal.loop-j-init
 loop-j-init g c = record {
   put = put_first _ (entries_of c.args.row.now) c.requires.cleared;
   room = omega arith;
+  cost = omega arith;
+  counted = omega arith;
 }
 
 pub loop-j-preserved : goal.loop-j-preserved
 loop-j-preserved g c = record {
   put = put_step c.args.costs.now _ c.loop-j.j (entries_of c.loop-j.row) (entries_of c.put_cost.new.row) c.times_factor-value.result c.index-costs-j.result c.loop-j-test.true c.index-costs-j.is c.times_factor-value.ensures c.loop-j.invariant.put c.put_cost.ensures.is;
   room = let a = c.loop-j.invariant.room in let b = c.put_cost.ensures.room in omega arith;
+  cost = let a = c.loop-j.invariant.cost in let b = c.put_cost.ensures.cost in omega arith;
+  counted = let a = c.loop-j.invariant.counted in let b = c.put_cost.ensures.counted in omega arith;
 }
 
 pub returns-clause-put : goal.returns-clause-put

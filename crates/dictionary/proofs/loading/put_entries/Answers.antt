@@ -30,4 +30,5 @@ loop-k-preserved g c =
       room = λ n h.
           let before = c.loop-k.invariant.room n h in
           rooms_set n c.loop-k.rows c.index-matrix-k.result.row c.write.new.self l (row_room n c.loop-k.rows c.index-matrix-k.result.row _ c.write.new.self l c.write.ensures.room before) before;
+      cost = let a = c.loop-k.invariant.cost in let b = c.write.ensures.cost in omega arith;
     }

@@ -1,4 +1,4 @@
-use Rattle.std.proofs.Common.{◌≡◌, ℕ, take}
+use Rattle.std.proofs.Common.{◌≡◌, ◌+◌, ℕ, take}
 use Rattle.dictionary.specs.Row.{entries_in, RowsHaveRoom}
 use Rattle.dictionary.specs.Loaded.{row_items}
 use Rattle.dictionary.proofs.loading.put_entries.Given as goal
@@ -7,4 +7,5 @@ abbrev pub invariant-loop-k : goal.invariant-loop-k
 invariant-loop-k g l = record {
   put : (r : ℕ) → entries_in l.rows r ≡ row_items r (take l.k l.matrix);
   room : (n : ℕ) → RowsHaveRoom n l.initial.rows → RowsHaveRoom n l.rows;
+  cost : l.steps ≡ l.initial.steps + l.k;
 }

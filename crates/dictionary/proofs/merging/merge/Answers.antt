@@ -15,6 +15,7 @@ loop-used-init g c =
       merging = subst (λ done. Merging row by (ratio c.args.factor) c.args.skip done row by) (sym c.clear.ensures.entries) (merge_begun row by (ratio c.args.factor) c.args.factor.above c.args.skip c.requires.row c.requires.by);
       room = c.clear.ensures.room;
       cost = omega arith;
+      counted = omega arith;
     }
 
 pub advance-requires-clause-room : goal.advance-requires-clause-room
@@ -43,6 +44,7 @@ loop-used-preserved g c =
       merging = merge_more row by (ratio c.args.factor) c.args.factor.above c.args.skip (entries_of c.loop-used.out) (drop c.loop-used.used.i row) (drop c.loop-used.used.j by) t.item (entries_of c.advance.new.out) (drop c.in_ok-used.used.i row) (drop c.in_ok-used.used.j by) c.loop-used.invariant.merging t.next t.appended;
       room = let a = c.loop-used.invariant.room in let b = c.in_ok-used.ensures.room in omega arith;
       cost = let a = c.loop-used.invariant.cost in let b = c.in_ok-used.ensures.cost in let m = c.in_ok-used.ensures.more in omega arith;
+      counted = let a = c.loop-used.invariant.counted in let b = c.in_ok-used.ensures.counted in omega arith;
     }
 
 pub returns-clause-is : goal.returns-clause-is

@@ -11,6 +11,7 @@ invariant-loop-used g l = record {
   merging : Merging (entries_of l.row) (entries_of l.by) (ratio l.factor) l.skip (entries_of l.out) (drop l.used.i (entries_of l.row)) (drop l.used.j (entries_of l.by));
   room : room_of l.fn.out ≤ room_of l.out;
   cost : l.steps ≤ l.fn.steps + 3 * (l.used.i + l.used.j);
+  counted : l.fn.steps ≤ l.steps;
 }
 
 abbrev pub decreases-loop-used : goal.decreases-loop-used

@@ -31,4 +31,5 @@ loop-r-preserved g c =
       made = one_more c.args.p c.args.skip c.loop-r.r c.args.rows.now c.loop-r.rows c.loop-r.invariant.made c.replace_at.new.rows c.in_ok-replace_at.ensures.is;
       room = λ n h. c.replace_at.ensures.room n (c.loop-r.invariant.room n h);
       cost = λ b h. cost_more c.args.p c.args.skip c.loop-r.r c.args.rows.now c.loop-r.rows c.loop-r.invariant.made b c.args.steps.now c.loop-r.steps c.replace_at.new.steps (h c.loop-r.r l) (c.loop-r.invariant.cost b h) c.replace_at.ensures.cost;
+      counted = let a = c.loop-r.invariant.counted in let k = c.replace_at.ensures.counted in omega arith;
     }

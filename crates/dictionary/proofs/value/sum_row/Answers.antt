@@ -13,6 +13,7 @@ pub loop-i-init : goal.loop-i-init
 loop-i-init g c = record {
   summed = λ k w at. subst (λ (v : Ratio). Summed (entries_of c.args.row.now) (values_of c.args.places.now) k w at 0 v) (sym c.zero-sum.ensures) (summed_none (entries_of c.args.row.now) (values_of c.args.places.now) k w at c.requires.row);
   cost = omega arith;
+  counted = omega arith;
 }
 
 pub at-requires : goal.at-requires
@@ -29,6 +30,7 @@ loop-i-preserved g c =
     record {
       summed = λ k w at. summed_more (entries_of c.args.row.now) (values_of c.args.places.now) k w at c.loop-i.i c.read-x.result.now left e.stands (ratio c.loop-i.sum) c.loop-i.sum.above (c.loop-i.invariant.summed k w at) c.at.result (ratio c.in_ok-sum.sum) c.in_ok-sum.sum.above (sym c.at.ensures) c.in_ok-sum.ensures.ok c.in_ok-sum.ensures.fits;
       cost = let a = c.loop-i.invariant.cost in let b = c.read-x.ensures.cost in omega arith;
+      counted = let a = c.loop-i.invariant.counted in let b = c.read-x.ensures.cost in omega arith;
     }
 
 pub returns-in_err-sum-clause-wide : goal.returns-in_err-sum-clause-wide

@@ -11,4 +11,5 @@ abbrev pub invariant-loop-i : goal.invariant-loop-i
 invariant-loop-i g l = record {
   summed : (k : ℕ) (w : Values) (at : AreValuesAt (entries_of l.row) (values_of l.places) k w) → Summed (entries_of l.row) (values_of l.places) k w at l.i (ratio l.sum);
   cost : l.steps ≤ l.fn.steps + l.i;
+  counted : l.fn.steps ≤ l.steps;
 }

@@ -14,7 +14,7 @@ use Rattle.simplex.proofs.Bounded.{terms, sum_is, fits_more, fits_less}
 use Rattle.simplex.proofs.bounding.best.Goals as goal
 
 pub returns-in-None-clause-next : goal.returns-in-None-clause-next
-returns-in-None-clause-next c = λ I zeroed w t k e size entries starts off.
+returns-in-None-clause-next g c = λ I zeroed w t k e size entries starts off.
     let z : zeroed ≡ true = subst (λ (s : Option Frac). IsStart zeroed (minimising I I.goal.constant) s) c.in-None.is starts in
     let b : IsBoundAt zeroed I c.args.statuses.now (entry_of c.args.dict.now) (ratio c.zero.result) =
     subst (λ (y : Bool). IsBoundAt y I c.args.statuses.now (entry_of c.args.dict.now) (ratio c.zero.result)) (sym z) c.zero.ensures in
@@ -29,7 +29,7 @@ returns-in-None-clause-next c = λ I zeroed w t k e size entries starts off.
     ))
 
 pub returns-in-Ok-clause-next : goal.returns-in-Ok-clause-next
-returns-in-Ok-clause-next c = λ I zeroed w t k e size entries starts off.
+returns-in-Ok-clause-next g c = λ I zeroed w t k e size entries starts off.
     let f = subst (λ (s : Option Frac). IsStart zeroed (minimising I I.goal.constant) s) c.in-Some.is starts in
     let d = c.args.dict.now in
     let ts = terms c.args.dict.now c.args.statuses.now c.requires.statuses entries c.args.ends.now I e size c.args.rest.now c.requires.resting c.args.goal c.requires.goal in
@@ -48,7 +48,7 @@ returns-in-Ok-clause-next c = λ I zeroed w t k e size entries starts off.
     ))
 
 pub returns-in-Err-clause-next : goal.returns-in-Err-clause-next
-returns-in-Err-clause-next c = λ I zeroed w t k e size entries starts off.
+returns-in-Err-clause-next g c = λ I zeroed w t k e size entries starts off.
     let f = subst (λ (s : Option Frac). IsStart zeroed (minimising I I.goal.constant) s) c.in-Some.is starts in
     let ts = terms c.args.dict.now c.args.statuses.now c.requires.statuses entries c.args.ends.now I e size c.args.rest.now c.requires.resting c.args.goal c.requires.goal in
     inl (

@@ -19,23 +19,23 @@ use Rattle.simplex.proofs.choosing.move_on.Goals as goal
 use Rattle.simplex.proofs.choosing.move_on.Goals.{In-Ok-Some}
 
 -- the first limit, of each program of these ends
-limit : (c : In-Ok-Some) (I : Instance) → AreEndsOf I c.args.ends.now → IsFirstLimit I c.args.statuses.now (entry_of c.args.dict.now) (values_in c.args.values.now) c.args.moving.col c.args.moving.way c.in-Ok-Some.l.col
-limit c I e = limit_told I c.args.statuses.now (entry_of c.args.dict.now) (values_in c.args.values.now) c.args.moving.col c.args.moving.way c.in-Ok-Some.field-0 c.in-Ok-Some.l c.in-Ok-Some.field-0-is (c.in-Ok-Some.ensures.ok I e)
+limit : (g : _) (c : In-Ok-Some g) (I : Instance) → AreEndsOf I c.args.ends.now → IsFirstLimit I c.args.statuses.now (entry_of c.args.dict.now) (values_in c.args.values.now) c.args.moving.col c.args.moving.way c.in-Ok-Some.l.col
+limit g c I e = limit_told I c.args.statuses.now (entry_of c.args.dict.now) (values_in c.args.values.now) c.args.moving.col c.args.moving.way c.in-Ok-Some.field-0 c.in-Ok-Some.l c.in-Ok-Some.field-0-is (c.in-Ok-Some.ensures.ok I e)
 
 pub leave-requires-clause-basic_inside : goal.leave-requires-clause-basic_inside
-leave-requires-clause-basic_inside c =
-    let d = (goal.at.leave-requires-clause-basic_inside c).In-Ok-Some in
+leave-requires-clause-basic_inside g c =
+    let d = (goal.at.leave-requires-clause-basic_inside g c).In-Ok-Some in
     let e = plain_ends c.args.ends.now in
-    let p = limit d (plain c.args.ends.now) e in
+    let p = limit g d (plain c.args.ends.now) e in
     let i = p.inside in let n = e.count in let a = c.requires.ends in let g = c.requires.goal in omega arith
 
 pub leave-requires-clause-basic : goal.leave-requires-clause-basic
-leave-requires-clause-basic c =
-    let d = (goal.at.leave-requires-clause-basic c).In-Ok-Some in
-    limit_basic (plain c.args.ends.now) c.args.statuses.now (entry_of c.args.dict.now) (values_in c.args.values.now) c.args.moving.col c.args.moving.way c.in-Ok-Some.l.col (limit d (plain c.args.ends.now) (plain_ends c.args.ends.now)) c.if-l-moving.false
+leave-requires-clause-basic g c =
+    let d = (goal.at.leave-requires-clause-basic g c).In-Ok-Some in
+    limit_basic (plain c.args.ends.now) c.args.statuses.now (entry_of c.args.dict.now) (values_in c.args.values.now) c.args.moving.col c.args.moving.way c.in-Ok-Some.l.col (limit g d (plain c.args.ends.now) (plain_ends c.args.ends.now)) c.if-l-moving.false
 
 pub returns-in-Ok-None-clause-next : goal.returns-in-Ok-None-clause-next
-returns-in-Ok-None-clause-next c = λ I zeroed t k e size.
+returns-in-Ok-None-clause-next g c = λ I zeroed t k e size.
     inr (inl (
       listed (width I) (values_in c.args.values.now),
       listed (width I) (movement c.args.statuses.now (entry_of c.args.dict.now) c.args.moving.col c.args.moving.way),
@@ -47,8 +47,8 @@ returns-in-Ok-None-clause-next c = λ I zeroed t k e size.
     ))
 
 pub returns-then-l-moving-clause-next : goal.returns-then-l-moving-clause-next
-returns-then-l-moving-clause-next c = λ I zeroed t k e size next q.
-    let p = limit (goal.at.returns-then-l-moving-clause-next c).In-Ok-Some I e in
+returns-then-l-moving-clause-next g c = λ I zeroed t k e size next q.
+    let p = limit g (goal.at.returns-then-l-moving-clause-next g c).In-Ok-Some I e in
     let own : IsFirstLimit I c.args.statuses.now (entry_of c.args.dict.now) (values_in c.args.values.now) c.args.moving.col c.args.moving.way c.args.moving.col =
     subst (λ j. IsFirstLimit I c.args.statuses.now (entry_of c.args.dict.now) (values_in c.args.values.now) c.args.moving.col c.args.moving.way j) c.if-l-moving.true p in
     let h : c.in-Ok-Some.l.col < length c.args.ends.now = let i = p.inside in let n = e.count in omega arith in
@@ -59,10 +59,10 @@ returns-then-l-moving-clause-next c = λ I zeroed t k e size next q.
     inr (inr (inl (c.in-Ok-Some.ensures.fits I e, own, subst (λ (z : List Status). Begins t k (Unit {0}) z next) f q)))
 
 pub returns-else-l-moving-clause-allowed : goal.returns-else-l-moving-clause-allowed
-returns-else-l-moving-clause-allowed c =
-    let d = (goal.at.returns-else-l-moving-clause-allowed c).In-Ok-Some in
+returns-else-l-moving-clause-allowed g c =
+    let d = (goal.at.returns-else-l-moving-clause-allowed g c).In-Ok-Some in
     let e = plain_ends c.args.ends.now in
-    let p = limit d (plain c.args.ends.now) e in
+    let p = limit g d (plain c.args.ends.now) e in
     let b = limit_basic (plain c.args.ends.now) c.args.statuses.now (entry_of c.args.dict.now) (values_in c.args.values.now) c.args.moving.col c.args.moving.way c.in-Ok-Some.l.col p c.if-l-moving.false in
     let z = limit_nonzero (plain c.args.ends.now) c.args.statuses.now (entry_of c.args.dict.now) (values_in c.args.values.now) c.args.moving.col c.args.moving.way c.in-Ok-Some.l.col p c.if-l-moving.false in
     let x = c.leave.ensures.basic in
@@ -77,8 +77,8 @@ returns-else-l-moving-clause-allowed c =
     }
 
 pub returns-else-l-moving-clause-next : goal.returns-else-l-moving-clause-next
-returns-else-l-moving-clause-next c = λ I zeroed t k e size next q.
-    let p = limit (goal.at.returns-else-l-moving-clause-next c).In-Ok-Some I e in
+returns-else-l-moving-clause-next g c = λ I zeroed t k e size next q.
+    let p = limit g (goal.at.returns-else-l-moving-clause-next g c).In-Ok-Some I e in
     inr (inr (inr (
       c.in-Ok-Some.l.col,
       c.in-Ok-Some.ensures.fits I e,

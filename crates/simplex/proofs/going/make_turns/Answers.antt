@@ -9,7 +9,7 @@ use Rattle.simplex.specs.Finished.{is_stop, end_at}
 use Rattle.simplex.proofs.Looks.{answers_more, after_less, tells_less, after_more}
 use Rattle.simplex.proofs.going.make_turns.Goals as goal
 
-sized : (I : Instance) (d e : Dict) → HaveOneSize d e → HasSizeOf I d → HasSizeOf I e
+sized : {L : _} {G : _} (I : Instance) (d e : Dict L G) → HaveOneSize d e → HasSizeOf I d → HasSizeOf I e
 sized I d e s h = record { width = s.width ∙ h.width; height = s.height ∙ h.height }
 
 pub loop-finish-init : goal.loop-finish-init
@@ -22,6 +22,7 @@ loop-finish-init g c = record {
   most = refl;
   more = omega arith;
   within = λ h. h;
+  counted = omega arith;
   stops = refl;
   holds = λ A h. h;
   moments = (
@@ -48,6 +49,7 @@ loop-finish-preserved g c =
       most = c.in_default.ensures.most ∙ v.most;
       more = let a = v.more in let b = n.1 in omega arith;
       within = λ h. let a = n.0 in let b = n.1 in let d = v.most in omega arith;
+      counted = let a = v.counted in let b = c.in_default.ensures.steps in omega arith;
       stops = c.in_default.ensures.stops refl ∙ v.stops;
       holds = λ A h. c.in_default.ensures.holds A (v.holds A h);
       moments = (

@@ -23,6 +23,7 @@ invariant-loop-finish g l = record {
   most : l.turns.most ≡ l.fn.turns.most;
   more : l.fn.turns.done ≤ l.turns.done;
   within : l.fn.turns.done ≤ l.fn.turns.most → l.turns.done ≤ l.fn.turns.most;
+  counted : l.fn.steps ≤ l.steps;
   stops : g.W.Watch.stops l.watch ≡ g.W.Watch.stops l.fn.watch;
   holds : (A : Entries) → Holds A l.fn.dict → Holds A l.dict;
   moments : (n : ℕ) × g.W.Watch.came l.fn.watch l.watch (went_on n) × ((I : Instance) (zeroed : Bool) (t : Terms) (looks : ℕ) → AreEndsOf I l.ends → HasSizeOf I l.fn.dict → IsStart zeroed (minimising I I.goal.constant) l.start → Holds (rows_with_goal zeroed I) l.fn.dict → IsFresh I l.fn.statuses → t.turns ≡ l.fn.turns.most → IsAfter (looks + n) t.stop → Comes I zeroed t (record { turns = l.fn.turns.done; looks = looks }) (record { statuses = l.statuses; clock = record { turns = l.turns.done; looks = looks + n } }));

@@ -7,7 +7,7 @@ use Rattle.simplex.proofs.Kept.{resting_set, resting_number, flip_known}
 use Rattle.simplex.proofs.keeping.expect_flip.Goals as goal
 
 pub returns-clause-resting : goal.returns-clause-resting
-returns-clause-resting c =
+returns-clause-resting g c =
     let f = c.args.flip in
     let is = c.requires.flip in
     let h : f.col < length c.args.ends.now = let a = c.requires.ends in let b = is.inside in omega arith in
@@ -16,9 +16,9 @@ returns-clause-resting c =
     resting_set (ranges_in c.args.ends.now) c.args.statuses.now (values_of c.args.rest.now) (values_of c.set.new.self) f.col f.status c.requires.resting is.inside own c.set.ensures.others
 
 pub returns-clause-known : goal.returns-clause-known
-returns-clause-known c = λ vs k.
+returns-clause-known g c = λ vs k.
     let f = c.args.flip in
     let is = c.requires.flip in
-    flip_known c.args.dict.now c.args.statuses.now c.requires.held c.args.known.now c.forget.new.known f.col c.forget.ensures f refl c.args.rest.now c.set.new.self
+    flip_known c.args.dict.now c.args.statuses.now c.requires.held c.args.known.now c.forget.new.known f.col c.forget.ensures.forgotten f refl c.args.rest.now c.set.new.self
     (resting_number c.args.ends.now c.args.statuses.now (values_of c.args.rest.now) f.col c.requires.resting is.inside)
     c.set.ensures.others vs k

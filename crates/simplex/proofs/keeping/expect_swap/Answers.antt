@@ -11,7 +11,7 @@ use Rattle.simplex.proofs.Kept.{resting_set, resting_number, swap_known}
 use Rattle.simplex.proofs.keeping.expect_swap.Goals as goal
 
 pub returns-clause-resting : goal.returns-clause-resting
-returns-clause-resting c = λ d ss w.
+returns-clause-resting g c = λ d ss w.
     let s = c.args.swap in
     let is = c.requires.swap in
     let at = ranges_in c.args.ends.now in
@@ -24,10 +24,10 @@ returns-clause-resting c = λ d ss w.
     (resting_set at (slice_set c.args.statuses.now s.basic s.status) (values_of c.set.new.self) (values_of c.set-2.new.self) s.nonbasic Basic left inside (c.set-2.ensures.own ∙ c.zero.ensures) c.set-2.ensures.others)
 
 pub returns-clause-known : goal.returns-clause-known
-returns-clause-known c = λ d ss vs w k.
+returns-clause-known g c = λ d ss vs w k.
     let s = c.args.swap in
     let is = c.requires.swap in
-    swap_known c.args.dict.now c.args.statuses.now c.requires.held c.args.known.now c.forget.new.known s.nonbasic c.forget.ensures d ss s is w refl c.args.rest.now c.set-2.new.self
+    swap_known c.args.dict.now c.args.statuses.now c.requires.held c.args.known.now c.forget.new.known s.nonbasic c.forget.ensures.forgotten d ss s is w refl c.args.rest.now c.set-2.new.self
     (resting_number c.args.ends.now c.args.statuses.now (values_of c.args.rest.now) s.nonbasic c.requires.resting is.nonbasic_inside)
     (λ j nb nm. c.set-2.ensures.others j nm ∙ c.set.ensures.others j nb)
     vs (let a = is.basic_inside in let b = c.forget.auto.known in let f = c.requires.flags in let e = c.requires.goal in omega arith) k

@@ -1,8 +1,8 @@
 use Rattle.std.proofs.Common.{arith}
 use Rattle.simplex.proofs.keeping.forget.Goals as goal
 
-pub returns : goal.returns
-returns c =
+pub returns-clause-forgotten : goal.returns-clause-forgotten
+returns-clause-forgotten g c =
     let v = c.loop-c.invariant in
     let t = c.loop-c-test.false in
     record {

@@ -15,10 +15,10 @@ use Rattle.simplex.proofs.Least.{on_err, limit_known, limits_known, limit_fits}
 use Rattle.simplex.proofs.limits.first_limit.Goals as goal
 
 pub loop-c-init : goal.loop-c-init
-loop-c-init c = record { best = λ k h. absurd (omega arith); fits = λ k h. absurd (omega arith) }
+loop-c-init g c = record { best = λ k h. absurd (omega arith); fits = λ k h. absurd (omega arith); counted = omega arith }
 
 pub returns-in_err-next-clause-wide : goal.returns-in_err-next-clause-wide
-returns-in_err-next-clause-wide c = λ I e.
+returns-in_err-next-clause-wide g c = λ I e.
     let h : c.loop-c.c < length c.args.ends.now = let a = c.requires.ends in let b = c.requires.goal in omega arith in
     let hv : c.loop-c.c < length c.args.values.now = let a = c.requires.values in let b = c.requires.goal in omega arith in
     let r = read_range c.args.ends.now c.loop-c.c c.index-ends-c.result c.index-ends-c.is h in
@@ -31,7 +31,7 @@ returns-in_err-next-clause-wide c = λ I e.
     (limit_fits I c.args.ends.now e c.args.statuses.now (entry_of c.args.dict.now) (values_in c.args.values.now) c.args.moving c.loop-c.c h f))))
 
 pub loop-c-preserved : goal.loop-c-preserved
-loop-c-preserved c =
+loop-c-preserved g c =
     let h : c.loop-c.c < length c.args.ends.now = let a = c.requires.ends in let b = c.requires.goal in omega arith in
     let hv : c.loop-c.c < length c.args.values.now = let a = c.requires.values in let b = c.requires.goal in omega arith in
     let r = sym (read_range c.args.ends.now c.loop-c.c c.index-ends-c.result c.index-ends-c.is h) in
@@ -46,14 +46,15 @@ loop-c-preserved c =
           below_more (λ k. OneFits (basic_in c.args.statuses.now k) (nat_eq k c.args.moving.col) (ranges_in c.args.ends.now k) (values_in c.args.values.now k) (rate c.args.moving.way (entry_of c.args.dict.now k c.args.moving.col))) c.loop-c.c c.loop-c.invariant.fits
           (subst (λ (x : Ratio). OneFits (basic_in c.args.statuses.now c.loop-c.c) (nat_eq c.loop-c.c c.args.moving.col) (ranges_in c.args.ends.now c.loop-c.c) x (rate c.args.moving.way (entry_of c.args.dict.now c.loop-c.c c.args.moving.col))) v
           (subst (λ (x : Range). OneFits (basic_in c.args.statuses.now c.loop-c.c) (nat_eq c.loop-c.c c.args.moving.col) x (ratio c.index-values-c.result) (rate c.args.moving.way (entry_of c.args.dict.now c.loop-c.c c.args.moving.col))) r c.in_ok-next.ensures.fits));
+      counted = let a = c.loop-c.invariant.counted in let b = c.in_ok-next.ensures.counted in omega arith;
     }
 
 pub returns-clause-ok : goal.returns-clause-ok
-returns-clause-ok c = λ I e.
+returns-clause-ok g c = λ I e.
     let n : c.loop-c.c ≡ length c.args.ends.now = let a = c.requires.ends in let b = c.requires.goal in let d = c.loop-c-test.false in let f = c.loop-c.auto.c-end in omega arith in
     limit_known I c.args.ends.now e c.args.statuses.now (entry_of c.args.dict.now) (values_in c.args.values.now) c.args.moving c.loop-c.best c.loop-c.c n c.loop-c.invariant.best
 
 pub returns-clause-fits : goal.returns-clause-fits
-returns-clause-fits c = λ I e.
+returns-clause-fits g c = λ I e.
     let n : c.loop-c.c ≡ length c.args.ends.now = let a = c.requires.ends in let b = c.requires.goal in let d = c.loop-c-test.false in let f = c.loop-c.auto.c-end in omega arith in
     limits_known I c.args.ends.now e c.args.statuses.now (entry_of c.args.dict.now) (values_in c.args.values.now) c.args.moving c.loop-c.c n c.loop-c.invariant.fits

@@ -9,8 +9,8 @@ use Rattle.simplex.proofs.CutPrograms.{cut_ends, rows_loaded, factor_fits}
 use Rattle.simplex.proofs.running.begin.Goals as goal
 use Rattle.simplex.proofs.running.begin.Goals.{After-set_ends}
 
-ends : (c : After-set_ends) (I : Of.Instance) → IsCutBy c.args.instance.now c.args.cuts.now I → AreEndsOf I c.set_ends.new.ends
-ends c I cut =
+ends : (g : _) (c : After-set_ends g) (I : Of.Instance) → IsCutBy c.args.instance.now c.args.cuts.now I → AreEndsOf I c.set_ends.new.ends
+ends g c I cut =
     let r = c.rows.ensures.value in
     let a = c.set_ends.auto.ends in
     let b = c.requires.ends in
@@ -20,22 +20,22 @@ ends c I cut =
     (λ k h. c.set_ends.ensures k (omega arith) ∙ ap (λ rs. range_at c.args.cuts.now rs k) r)
 
 pub returns-in-Some-clause-ends : goal.returns-in-Some-clause-ends
-returns-in-Some-clause-ends c = ends (goal.at.returns-in-Some-clause-ends c).After-set_ends
+returns-in-Some-clause-ends g c = ends g (goal.at.returns-in-Some-clause-ends g c).After-set_ends
 
 pub returns-in-Some-clause-clash : goal.returns-in-Some-clause-clash
-returns-in-Some-clause-clash c = λ I cut. c.in-Some.ensures I (ends (goal.at.returns-in-Some-clause-clash c).After-set_ends I cut)
+returns-in-Some-clause-clash g c = λ I cut. c.in-Some.ensures I (ends g (goal.at.returns-in-Some-clause-clash g c).After-set_ends I cut)
 
 pub returns-clause-ends : goal.returns-clause-ends
-returns-clause-ends c = ends (goal.at.returns-clause-ends c).After-set_ends
+returns-clause-ends g c = ends g (goal.at.returns-clause-ends g c).After-set_ends
 
 pub returns-clause-clash : goal.returns-clause-clash
-returns-clause-clash c = λ I cut. c.in_default.ensures I (ends (goal.at.returns-clause-clash c).After-set_ends I cut)
+returns-clause-clash g c = λ I cut. c.in_default.ensures I (ends g (goal.at.returns-clause-clash g c).After-set_ends I cut)
 
 pub returns-clause-fresh : goal.returns-clause-fresh
-returns-clause-fresh c = λ _ I cut. c.set_first.ensures.fresh I (ends (goal.at.returns-clause-fresh c).After-set_ends I cut) cut.width
+returns-clause-fresh g c = λ _ I cut. c.set_first.ensures.fresh I (ends g (goal.at.returns-clause-fresh g c).After-set_ends I cut) cut.width
 
 pub returns-clause-holds : goal.returns-clause-holds
-returns-clause-holds c = λ _ I cut.
+returns-clause-holds g c = λ _ I cut.
     subst (λ (A : Entries). Holds A c.load.new.self)
     (rows_loaded c.args.instance.now c.args.cuts.now I cut c.args.zero_goal c.entries.result.now c.as_slice-costs.result.now (to_z w8 (of_z w8 c.factor.result)) _
     c.entries.ensures.value

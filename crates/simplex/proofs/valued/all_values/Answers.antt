@@ -11,6 +11,7 @@ loop-c-preserved g c =
       before = λ k h. by_eq k c.loop-c.c
           (λ e. ap (known_at c.find_value.new.known) e ∙ c.in_ok-find_value.ensures.own)
           (λ n. c.in_ok-find_value.ensures.others k (v.before k (omega arith)));
+      counted = let a = v.counted in let b = c.in_ok-find_value.ensures.counted in omega arith;
     }
 
 pub returns-clause-ok : goal.returns-clause-ok

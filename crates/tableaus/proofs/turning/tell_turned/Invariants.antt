@@ -1,4 +1,4 @@
 use Rattle.tableaus.proofs.turning.tell_turned.Given as goal
 
-abbrev pub ghosts-turn_often : goal.ghosts-turn_often
-ghosts-turn_often a = record { name = a.blank.name; parts = a.blank.parts }
+abbrev pub ghosts-tell_turned_by : goal.ghosts-tell_turned_by
+ghosts-tell_turned_by a = record { name = a.blank.name; parts = a.blank.parts }

@@ -1,7 +1,4 @@
 use Rattle.tableaus.proofs.turning.tell_values.Given as goal
 
-abbrev pub ghosts-turn_often : goal.ghosts-turn_often
-ghosts-turn_often a = record { name = a.blank.name; parts = a.blank.parts }
-
-abbrev pub ghosts-put_values : goal.ghosts-put_values
-ghosts-put_values a = record { name = a.blank.name; parts = a.blank.parts }
+abbrev pub ghosts-tell_values_by : goal.ghosts-tell_values_by
+ghosts-tell_values_by a = record { name = a.blank.name; parts = a.blank.parts }

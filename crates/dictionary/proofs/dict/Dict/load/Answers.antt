@@ -9,7 +9,7 @@ use Rattle.dictionary.proofs.Begun.{begun_holds, begun_basis, rows-number, told_
 use Rattle.dictionary.proofs.dict.Dict.load.Goals as goal
 
 pub load_rows-requires-clause-goal : goal.load_rows-requires-clause-goal
-load_rows-requires-clause-goal c =
+load_rows-requires-clause-goal g c =
     let d = c.args.self.now in
     let er : c.as_mut_slice-rows.result.now ≡ d.rows.items = c.as_mut_slice-rows.ensures.value in
     let m : length c.as_mut_slice-rows.result.now ≡ d.height + 1 = ap length er ∙ d.count in
@@ -17,7 +17,7 @@ load_rows-requires-clause-goal c =
 
 pub load_rows-requires-clause-inside : goal.load_rows-requires-clause-inside
 unfolding width_of height_of
-load_rows-requires-clause-inside c k x l =
+load_rows-requires-clause-inside g c k x l =
     let d = c.args.self.now in
     let er : c.as_mut_slice-rows.result.now ≡ d.rows.items = c.as_mut_slice-rows.ensures.value in
     let m : length c.as_mut_slice-rows.result.now ≡ d.height + 1 = ap length er ∙ d.count in
@@ -29,20 +29,20 @@ load_rows-requires-clause-inside c k x l =
 
 pub load_rows-requires-clause-few : goal.load_rows-requires-clause-few
 unfolding width_of
-load_rows-requires-clause-few c = let d = c.args.self.now in let f = d.few in let n : length c.args.costs.now ≡ d.width = c.requires.costs in omega arith
+load_rows-requires-clause-few g c = let d = c.args.self.now in let f = d.few in let n : length c.args.costs.now ≡ d.width = c.requires.costs in omega arith
 
 pub load_rows-requires-clause-room : goal.load_rows-requires-clause-room
 unfolding width_of
-load_rows-requires-clause-room c =
+load_rows-requires-clause-room g c =
     let d = c.args.self.now in
     let er : c.as_mut_slice-rows.result.now ≡ d.rows.items = c.as_mut_slice-rows.ensures.value in
     let m : length c.as_mut_slice-rows.result.now ≡ d.height + 1 = ap length er ∙ d.count in
     let n : length c.args.costs.now ≡ d.width = c.requires.costs in
     let h = d.room in
-    subst (λ (xs : List Row). RowsHaveRoom (length c.args.costs.now) xs) (sym er) (subst (λ k. RowsHaveRoom k d.rows.items) (sym n) h.each)
+    subst (λ (xs : List (Row _)). RowsHaveRoom (length c.args.costs.now) xs) (sym er) (subst (λ k. RowsHaveRoom k d.rows.items) (sym n) h.each)
 
 pub invariant_of-self : goal.invariant_of-self
-invariant_of-self c =
+invariant_of-self g c =
     let d = c.args.self.now in
     let er : c.as_mut_slice-rows.result.now ≡ d.rows.items = c.as_mut_slice-rows.ensures.value in
     let m : length c.as_mut_slice-rows.result.now ≡ d.height + 1 = ap length er ∙ d.count in
@@ -57,7 +57,7 @@ invariant_of-self c =
     record {
       count = ap length nr ∙ c.load_rows.auto.rows ∙ m;
       room = record {
-        each = subst (λ (xs : List Row). RowsHaveRoom d.width xs) (sym nr) (c.load_rows.ensures.room d.width (subst (λ (xs : List Row). RowsHaveRoom d.width xs) (sym er) h.each));
+        each = subst (λ (xs : List (Row _)). RowsHaveRoom d.width xs) (sym nr) (c.load_rows.ensures.room d.width (subst (λ (xs : List (Row _)). RowsHaveRoom d.width xs) (sym er) h.each));
         more = h.more;
       };
       lead_room = d.lead_room;
@@ -70,11 +70,11 @@ invariant_of-self c =
 
 pub returns-clause-size : goal.returns-clause-size
 unfolding width_of height_of
-returns-clause-size c = record { width = refl; height = refl }
+returns-clause-size g c = record { width = refl; height = refl }
 
 pub returns-clause-holds : goal.returns-clause-holds
 unfolding width_of height_of
-returns-clause-holds c =
+returns-clause-holds g c =
     let d = c.args.self.now in
     let er : c.as_mut_slice-rows.result.now ≡ d.rows.items = c.as_mut_slice-rows.ensures.value in
     let m : length c.as_mut_slice-rows.result.now ≡ d.height + 1 = ap length er ∙ d.count in
@@ -91,7 +91,7 @@ returns-clause-holds c =
 
 pub returns-clause-basis : goal.returns-clause-basis
 unfolding width_of height_of
-returns-clause-basis c =
+returns-clause-basis g c =
     let d = c.args.self.now in
     let er : c.as_mut_slice-rows.result.now ≡ d.rows.items = c.as_mut_slice-rows.ensures.value in
     let m : length c.as_mut_slice-rows.result.now ≡ d.height + 1 = ap length er ∙ d.count in

@@ -6,15 +6,15 @@ use Rattle.dictionary.proofs.dict.Dict.nonbasic_at.Goals as goal
 
 pub index-requires : goal.index-requires
 unfolding width_of height_of
-index-requires c = let d = c.args.self.now in let v = d.columns in let e = v.ok.0 in let l = c.requires in let n = d.columns_count in omega arith
+index-requires g c = let d = c.args.self.now in let v = d.columns in let e = v.ok.0 in let l = c.requires in let n = d.columns_count in omega arith
 
 pub returns-clause-column : goal.returns-clause-column
 unfolding width_of height_of column_at
-returns-clause-column c = let d = c.args.self.now in let l = c.requires in let n = d.columns_count in same_number d.columns.items (c.args.j) c.index.result.now (omega arith) c.index.ensures
+returns-clause-column g c = let d = c.args.self.now in let l = c.requires in let n = d.columns_count in same_number d.columns.items (c.args.j) c.index.result.now (omega arith) c.index.ensures
 
 pub returns-clause-nonbasic : goal.returns-clause-nonbasic
 unfolding width_of height_of
-returns-clause-nonbasic c =
+returns-clause-nonbasic g c =
     let d = c.args.self.now in
     let l = c.requires in
     let n = d.columns_count in

@@ -57,7 +57,7 @@ invariant_of-self-in-Break-1 g c =
     let er : c.as_mut_slice-rows.result.now ≡ d.rows.items = c.as_mut_slice-rows.ensures.value in
     let ep : c.row_of-p.result ≡ place d c.args.basic - d.width = c.row_of-p.ensures in
     let nr : (with_items d.rows c.pivot_rows.new.rows).items ≡ c.pivot_rows.new.rows = with_items_is d.rows c.pivot_rows.new.rows (c.pivot_rows.auto.rows ∙ c.as_mut_slice-rows.ensures.len) in
-    record { count = ap length nr ∙ c.pivot_rows.auto.rows ∙ ap length er ∙ d.count; room = subst (λ (X : List Row). HaveRoom d.width X c.pivot_rows.new.scratch) (sym nr) (c.pivot_rows.ensures.room d.width (subst (λ (X : List Row). HaveRoom d.width X d.scratch) (sym er) d.room)); lead_room = let l = d.lead_room in let m = c.pivot_rows.ensures.lead in omega arith; columns_count = d.columns_count; places_count = d.places_count; basis = d.basis; few = d.few; goal = d.goal }
+    record { count = ap length nr ∙ c.pivot_rows.auto.rows ∙ ap length er ∙ d.count; room = subst (λ (X : List (Row _)). HaveRoom d.width X c.pivot_rows.new.scratch) (sym nr) (c.pivot_rows.ensures.room d.width (subst (λ (X : List (Row _)). HaveRoom d.width X d.scratch) (sym er) d.room)); lead_room = let l = d.lead_room in let m = c.pivot_rows.ensures.lead in omega arith; columns_count = d.columns_count; places_count = d.places_count; basis = d.basis; few = d.few; goal = d.goal }
 
 pub returns-in_err-pivot_rows-clause-size : goal.returns-in_err-pivot_rows-clause-size
 unfolding width_of height_of
@@ -123,7 +123,7 @@ invariant_of-self-2 g c =
     subst (λ (X : List ℕ). ChangePlaces c.args.basic c.args.nonbasic (place d) (slice_index X)) (sym np) (subst (λ (X : List ℕ). ChangePlaces c.args.basic c.args.nonbasic (slice_index X) (slice_index c.exchange.new.places)) c.as_mut_slice-places.ensures.value c.exchange.ensures.places) in
     record {
       count = ap length nr ∙ c.pivot_rows.auto.rows ∙ ap length er ∙ d.count;
-      room = subst (λ (X : List Row). HaveRoom d.width X c.pivot_rows.new.scratch) (sym nr) (c.pivot_rows.ensures.room d.width (subst (λ (X : List Row). HaveRoom d.width X d.scratch) (sym er) d.room));
+      room = subst (λ (X : List (Row _)). HaveRoom d.width X c.pivot_rows.new.scratch) (sym nr) (c.pivot_rows.ensures.room d.width (subst (λ (X : List (Row _)). HaveRoom d.width X d.scratch) (sym er) d.room));
       lead_room = let l = d.lead_room in let m = c.pivot_rows.ensures.lead in omega arith;
       columns_count = ap length nc ∙ c.exchange.auto.columns ∙ ap length c.as_mut_slice-columns.ensures.value ∙ d.columns_count;
       places_count = ap length np ∙ c.exchange.auto.places ∙ ap length c.as_mut_slice-places.ensures.value ∙ d.places_count;
@@ -150,7 +150,7 @@ returns-clause-holds g c =
     subst (λ (X : List ℕ). ChangePlaces c.args.basic c.args.nonbasic (place d) (slice_index X)) (sym np) (subst (λ (X : List ℕ). ChangePlaces c.args.basic c.args.nonbasic (slice_index X) (slice_index c.exchange.new.places)) c.as_mut_slice-places.ensures.value c.exchange.ensures.places) in
     let pv : IsTablePivot (place d c.args.basic - d.width) c.args.basic c.args.nonbasic (rows d) c.pivot_rows.new.rows =
     carry (λ R p. IsTablePivot p c.args.basic c.args.nonbasic R c.pivot_rows.new.rows) (rows d) c.as_mut_slice-rows.result.now (place d c.args.basic - d.width) c.row_of-p.result (sym er) (sym ep) c.in_ok-pivot_rows.ensures.is in
-    let made = subst (λ (X : List Row). IsTablePivot (place d c.args.basic - d.width) c.args.basic c.args.nonbasic (rows d) X) (sym nr) pv in
+    let made = subst (λ (X : List (Row _)). IsTablePivot (place d c.args.basic - d.width) c.args.basic c.args.nonbasic (rows d) X) (sym nr) pv in
     turned_holds d c.args.basic c.args.nonbasic c.requires.basic c.requires.nonbasic c.requires.loaded _ refl refl refl made moved new c.requires.nonzero
 
 pub returns-clause-entries : goal.returns-clause-entries
@@ -167,7 +167,7 @@ returns-clause-entries g c =
     subst (λ (X : List ℕ). ChangePlaces c.args.basic c.args.nonbasic (place d) (slice_index X)) (sym np) (subst (λ (X : List ℕ). ChangePlaces c.args.basic c.args.nonbasic (slice_index X) (slice_index c.exchange.new.places)) c.as_mut_slice-places.ensures.value c.exchange.ensures.places) in
     let pv : IsTablePivot (place d c.args.basic - d.width) c.args.basic c.args.nonbasic (rows d) c.pivot_rows.new.rows =
     carry (λ R p. IsTablePivot p c.args.basic c.args.nonbasic R c.pivot_rows.new.rows) (rows d) c.as_mut_slice-rows.result.now (place d c.args.basic - d.width) c.row_of-p.result (sym er) (sym ep) c.in_ok-pivot_rows.ensures.is in
-    let made = subst (λ (X : List Row). IsTablePivot (place d c.args.basic - d.width) c.args.basic c.args.nonbasic (rows d) X) (sym nr) pv in
+    let made = subst (λ (X : List (Row _)). IsTablePivot (place d c.args.basic - d.width) c.args.basic c.args.nonbasic (rows d) X) (sym nr) pv in
     turned_entries d c.args.basic c.args.nonbasic c.requires.basic c.requires.nonbasic c.requires.loaded _ refl refl refl made moved new
 
 pub returns-clause-basis : goal.returns-clause-basis
@@ -184,7 +184,7 @@ returns-clause-basis g c =
     subst (λ (X : List ℕ). ChangePlaces c.args.basic c.args.nonbasic (place d) (slice_index X)) (sym np) (subst (λ (X : List ℕ). ChangePlaces c.args.basic c.args.nonbasic (slice_index X) (slice_index c.exchange.new.places)) c.as_mut_slice-places.ensures.value c.exchange.ensures.places) in
     let pv : IsTablePivot (place d c.args.basic - d.width) c.args.basic c.args.nonbasic (rows d) c.pivot_rows.new.rows =
     carry (λ R p. IsTablePivot p c.args.basic c.args.nonbasic R c.pivot_rows.new.rows) (rows d) c.as_mut_slice-rows.result.now (place d c.args.basic - d.width) c.row_of-p.result (sym er) (sym ep) c.in_ok-pivot_rows.ensures.is in
-    let made = subst (λ (X : List Row). IsTablePivot (place d c.args.basic - d.width) c.args.basic c.args.nonbasic (rows d) X) (sym nr) pv in
+    let made = subst (λ (X : List (Row _)). IsTablePivot (place d c.args.basic - d.width) c.args.basic c.args.nonbasic (rows d) X) (sym nr) pv in
     turned_basis d c.args.basic c.args.nonbasic c.requires.basic c.requires.nonbasic c.requires.loaded _ refl refl refl made moved new
 
 pub returns-clause-fits : goal.returns-clause-fits
@@ -195,7 +195,7 @@ returns-clause-fits g c =
     let nr : (with_items d.rows c.pivot_rows.new.rows).items ≡ c.pivot_rows.new.rows = with_items_is d.rows c.pivot_rows.new.rows (c.pivot_rows.auto.rows ∙ c.as_mut_slice-rows.ensures.len) in
     let pv : IsTablePivot (place d c.args.basic - d.width) c.args.basic c.args.nonbasic (rows d) c.pivot_rows.new.rows =
     carry (λ R p. IsTablePivot p c.args.basic c.args.nonbasic R c.pivot_rows.new.rows) (rows d) c.as_mut_slice-rows.result.now (place d c.args.basic - d.width) c.row_of-p.result (sym er) (sym ep) c.in_ok-pivot_rows.ensures.is in
-    let made = subst (λ (X : List Row). IsTablePivot (place d c.args.basic - d.width) c.args.basic c.args.nonbasic (rows d) X) (sym nr) pv in
+    let made = subst (λ (X : List (Row _)). IsTablePivot (place d c.args.basic - d.width) c.args.basic c.args.nonbasic (rows d) X) (sym nr) pv in
     fits_there d c.args.basic c.args.nonbasic c.requires.basic c.requires.nonbasic c.requires.loaded c.pivot_rows.new.rows (c.pivot_rows.auto.rows ∙ ap length er) pv
 
 pub returns-clause-cost : goal.returns-clause-cost

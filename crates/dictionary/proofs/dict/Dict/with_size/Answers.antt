@@ -4,8 +4,8 @@ use Rattle.dictionary.proofs.dict.Dict.with_size.Goals as goal
 
 pub returns-clause-width : goal.returns-clause-width
 unfolding width_of
-returns-clause-width c = refl
+returns-clause-width g c = refl
 
 pub returns-clause-height : goal.returns-clause-height
 unfolding height_of
-returns-clause-height c = refl
+returns-clause-height g c = refl
