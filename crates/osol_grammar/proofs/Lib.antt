@@ -1,5 +1,5 @@
 pub mod LastTags
-pub mod Limited
+pub mod LimitTable
 pub mod TagKinds
 pub mod Taken
 pub mod ReadAll

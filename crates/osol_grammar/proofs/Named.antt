@@ -1,5 +1,5 @@
 -- The job's name of options is one: characters of XML, without white space round them, at most 256 bytes.
-use Rattle.std.proofs.Common.{◌≡◌, ◌≢◌, ◌∙◌, ℕ, ◌+◌, ◌<◌, ◌≤◌, ◌==◌, ◌||◌, Bool, true, false, cond, inl, inr, Option, None, Some, List, [], ◌∷◌, ◌++◌, length, reverse, arith, refl, ap, sym, subst}
+use Rattle.std.proofs.Common.{◌≡◌, ◌∙◌, ℕ, ◌+◌, ◌<◌, ◌≤◌, ◌==◌, ◌||◌, Bool, true, false, cond, inl, inr, List, [], ◌∷◌, ◌++◌, length, reverse, arith, refl, ap, sym, subst}
 use Rattle.std.specs.List.{All}
 use Rattle.std.proofs.lemmas.Bool.{cases_lt, eqb-true}
 use Rattle.std.proofs.lemmas.List.{reverse-append, reverse-reverse}
@@ -10,16 +10,15 @@ use Rattle.tree_grammar.specs.Elements.{Nodes, none, element, chars, Element, Ev
 use Rattle.element_tree.proofs.XmlTexts.{text_append, clean_nothing}
 use Rattle.document_tags.specs.Characters.{NodesOfCharacters, IsOfCharacters}
 use Rattle.document_tags.specs.Elements.{unless_empty}
-use Rattle.document_tags.specs.Tags.{Tag, Level, ends, level_tag, begun, with_text, tags_from, tags, Place, place_of, places, places_behind}
+use Rattle.document_tags.specs.Tags.{Tag, Level, level_tag, begun, with_text, tags_from, tags, Place, place_of, places, places_behind}
 use Rattle.document_tags.specs.Deciding.{DecidesNothing, AreClean}
 use Rattle.document_tags.proofs.Placed.{places_then}
 use Rattle.decimal_text.specs.Space.{is_space, without_leading_space, trimmed}
 use Rattle.osol_grammar.specs.declared.fault.Refusal.TheVariants.{LongJob}
 use Rattle.osol_grammar.specs.declared.options.Options.{Options}
-use Rattle.osol_grammar.specs.Options.{job_path}
 use Rattle.osol_grammar.specs.Refusals.{Decides}
 use Rattle.osol_grammar.specs.Meaning.{Say, SayJob, IsOptionsText}
-use Rattle.osol_grammar.specs.Back.{IsName, IsNameOrNone}
+use Rattle.osol_grammar.specs.Back.{IsNameOrNone}
 
 no_characters : IsXmlText []
 no_characters = clean_nothing.text

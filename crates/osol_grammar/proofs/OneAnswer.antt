@@ -15,7 +15,6 @@ use Rattle.osol_grammar.specs.declared.fault.Refusal.TheVariants.{Root, JobTwice
 use Rattle.osol_grammar.specs.declared.fault.OsolFault.{OsolFault}
 use Rattle.osol_grammar.specs.declared.fault.OsolFault.TheVariants.{Tree, Refused, Memory}
 use Rattle.osol_grammar.specs.declared.limit.Limit.{Limit}
-use Rattle.osol_grammar.specs.declared.limit.Limit.TheVariants.{Nodes, Turns}
 use Rattle.osol_grammar.specs.declared.options.Options.{Options}
 use Rattle.osol_grammar.specs.Limits.{row}
 use Rattle.osol_grammar.specs.Options.{job_path, IsOption, SaysAmount, amount}
@@ -23,12 +22,7 @@ use Rattle.osol_grammar.specs.Refusals.{number, Decides, IsRefused}
 use Rattle.osol_grammar.specs.Meaning.{Say, IsOptions, IsOptionsText}
 use Rattle.osol_grammar.specs.Reading.{Refuses, DecodeFails}
 use Rattle.osol_grammar.proofs.LastTags.{last_once}
-
--- options with the same parts
-same_parts : (o p : Options) → o.job ≡ p.job → ((l : Limit) → amount o l ≡ amount p l) → o ≡ p
-same_parts o p job same =
-    let make : Option (List ℕ) → ℕ → ℕ → Options = λ j n m. record { job = j; nodes = n; turns = m } in
-    ap (λ j. make j o.nodes o.turns) job ∙ ap₂ (λ n m. make p.job n m) (same Nodes) (same Turns)
+use Rattle.osol_grammar.proofs.LimitTable.{same_options}
 
 count_by : (value : Option (List ℕ)) (n m : ℕ) → IsSomeAnd value (λ text. IsCount text n) → IsSomeAnd value (λ text. IsCount text m) → n ≡ m
 count_by None n m h k = absurd h
@@ -39,14 +33,14 @@ amount_once l t n m h k = count_by (value_of (codes "value") t.attributes) n m h
 
 pub says_once : (ts : List Tag) (o p : Options) → Say ts o → Say ts p → o ≡ p
 says_once ts o p h k =
-    same_parts o p (last_once (λ (t : Tag). ends job_path t ≡ true) (λ (t : Tag) (j : Option (List ℕ)). j ≡ unless_empty (trimmed t.text)) None ts o.job p.job (λ t u v a b. a ∙ sym b) h.job k.job)
+    same_options o p (last_once (λ (t : Tag). ends job_path t ≡ true) (λ (t : Tag) (j : Option (List ℕ)). j ≡ unless_empty (trimmed t.text)) None ts o.job p.job (λ t u v a b. a ∙ sym b) h.job k.job)
     (λ l. last_once (IsOption l) (SaysAmount l) (row l).default ts (amount o l) (amount p l) (amount_once l) (h.limits l) (k.limits l))
 
 pub options_once : (root : Element) (o p : Options) → IsOptions root o → IsOptions root p → o ≡ p
 options_once root o p h k = says_once (tags root) o p h k
 
 pub text_once : (bytes : List ℕ) (o p : Options) → IsOptionsText bytes o → IsOptionsText bytes p → o ≡ p
-text_once bytes o p (inl h) (inl k) = same_parts o p (h.1.job ∙ sym k.1.job) (λ l. h.1.limits l ∙ sym (k.1.limits l))
+text_once bytes o p (inl h) (inl k) = same_options o p (h.1.job ∙ sym k.1.job) (λ l. h.1.limits l ∙ sym (k.1.limits l))
 text_once bytes o p (inr h) (inr k) = document_once IsOptions options_once bytes o p h.1 k.1
 text_once bytes o p (inl h) (inr k) = absurd (k.0 h.0)
 text_once bytes o p (inr h) (inl k) = absurd (h.0 k.0)

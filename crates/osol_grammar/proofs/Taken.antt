@@ -9,7 +9,6 @@ use Rattle.document_tags.proofs.Placed.{clean_more}
 use Rattle.osol_grammar.specs.declared.fault.Refusal.{Refusal}
 use Rattle.osol_grammar.specs.declared.fault.Refusal.TheVariants.{Root, JobTwice, BadLimit, LongJob}
 use Rattle.osol_grammar.specs.declared.limit.Limit.{Limit}
-use Rattle.osol_grammar.specs.declared.limit.Limit.TheVariants as limits
 use Rattle.osol_grammar.specs.declared.options.Options.{Options}
 use Rattle.osol_grammar.specs.declared.reading.Reading.{Reading}
 use Rattle.osol_grammar.specs.Limits.{row}
@@ -20,7 +19,7 @@ use Rattle.osol_grammar.specs.declared.fault.OsolFault.{OsolFault}
 use Rattle.osol_grammar.specs.declared.fault.OsolFault.TheVariants.{Refused}
 use Rattle.osol_grammar.specs.Reading.{Tells, HasRead, IsLeast}
 use Rattle.osol_grammar.proofs.LastTags.{last_passed, last_new}
-use Rattle.osol_grammar.proofs.Limited.{limit_cases, option_once}
+use Rattle.osol_grammar.proofs.LimitTable.{amount_made, limit_cases, option_once}
 use Rattle.osol_grammar.proofs.TagKinds.{Excludes, nothing_by, IsRooted, no_root, no_twice, no_limit_here, no_long, option_begins, option_not_ends, job_no_option, job_not_ends, end_no_option, end_not_begins, end_rooted}
 
 abbrev IsJobEnd : Tag → Type 0
@@ -108,18 +107,13 @@ taken_begin done t old new rooted is none has same h = record {
   by BadLimit = no_limit_here done t (job_no_option t is)
   by LongJob = no_long done t (job_not_ends t is)
 
--- another job's name, and the same limits
-kept : (o : Options) (job : Option (List ℕ)) (l : Limit) → amount (record o { job = job }) l ≡ amount o l
-kept o job limits.Nodes = refl
-kept o job limits.Turns = refl
-
 -- its end tag
 pub taken_end : (done : List Tag) (t : Tag) (old new : Reading) → ends job_path t ≡ true → length (trimmed t.text) ≤ 256 → new.options.job ≡ unless_empty (trimmed t.text) → new.options ≡ record old.options { job = new.options.job } → new.has_job ≡ old.has_job → HasRead done old → HasRead (done ++ t ∷ []) new
 taken_end done t old new is short job same has h = record {
   says = record {
     clean = clean_more Decides done t h.says.clean (nothing_by done t by);
     job = last_new IsJobEnd SaysJob None done t new.options.job is job;
-    limits = λ l. limit_passed done t l (amount old.options l) (amount new.options l) (ap (λ (o : Options). amount o l) same ∙ kept old.options new.options.job l) (end_no_option t is l) (h.says.limits l);
+    limits = λ l. limit_passed done t l (amount old.options l) (amount new.options l) (ap (λ (o : Options). amount o l) same ∙ amount_made new.options.job (amount old.options) l) (end_no_option t is l) (h.says.limits l);
   };
   begun = any_passed done t old.has_job h.begun (end_not_begins t is) ∙ sym has;
 } where

@@ -1,26 +1,31 @@
 -- The text of options is a document that isn't blank.
-use Rattle.std.proofs.Common.{◌≡◌, ◌∙◌, ℕ, ◌+◌, ◌*◌, ◌≤◌, Bool, true, false, cond, Option, None, Some, List, [], ◌∷◌, ◌++◌, length, drop, reverse, refl, ap, sym, arith, lit≤}
+use Rattle.std.proofs.Common.{◌≡◌, ◌∙◌, ℕ, ◌+◌, ◌*◌, ◌≤◌, Bool, true, false, cond, Option, None, Some, List, [], ◌∷◌, ◌++◌, length, drop, reverse, leb, refl, ap, sym, arith, lit≤}
 use Rattle.std.specs.Prelude.{codes}
+use Rattle.std.specs.List.{list_all}
+use Rattle.std.proofs.lemmas.Bool.{leb-true}
 use Rattle.std.proofs.lemmas.List.{reverse-append}
 use Rattle.tree_grammar.specs.Elements as tree
 use Rattle.tree_grammar.specs.Elements.{none}
+use Rattle.element_tree.proofs.XmlTexts.{is_printable}
 use Rattle.decimal_text.specs.Space.{is_space, without_leading_space, trimmed}
 use Rattle.document_tags.specs.Texts.{document_limit, IsDocument}
 use Rattle.document_tags.specs.Writing.{text_nodes, leaf, group, bare_root}
 use Rattle.document_tags.proofs.Printing.{fixed_text, number_text}
 use Rattle.document_tags.proofs.Flat.{AreFlat, none_flat, text_flat, element_flat, still_flat, root_is_document}
 use Rattle.document_tags.proofs.Lengths.{nodes_size, decimal_size, written_short}
-use Rattle.osol_grammar.specs.declared.limit.Limit.TheVariants.{Nodes, Turns}
+use Rattle.osol_grammar.specs.declared.limit.Limit.{Limit}
 use Rattle.osol_grammar.specs.declared.options.Options.{Options}
-use Rattle.osol_grammar.specs.Limits.{row}
-use Rattle.osol_grammar.specs.Writing.{job_nodes, limit_node, limit_nodes, options_nodes, options_element, options_text}
+use Rattle.osol_grammar.specs.Limits.{all, row}
+use Rattle.osol_grammar.specs.Options.{amount}
+use Rattle.osol_grammar.specs.Writing.{job_nodes, option_nodes, limit_nodes, options_nodes, options_element, options_text}
 use Rattle.osol_grammar.specs.Back.{IsNameOrNone, ComesBack}
+use Rattle.osol_grammar.proofs.LimitTable.{each_passes}
 
-limits_flat : (o : Options) → AreFlat 1 (limit_nodes o) (limit_nodes o)
-limits_flat o =
-    let solver = fixed_text (codes "os_cert") refl in
-    let turns : AreFlat 1 (limit_node o Turns none) (limit_node o Turns none) = element_flat 0 (codes "solverOption") _ none none none none refl (fixed_text (row Turns).name refl, (number_text o.turns, (solver, tt))) (none_flat 0) (none_flat 1) in
-    element_flat 0 (codes "solverOption") _ none (limit_node o Turns none) none (limit_node o Turns none) refl (fixed_text (row Nodes).name refl, (number_text o.nodes, (solver, tt))) (none_flat 0) turns
+limits_flat : (o : Options) (ls : List Limit) → AreFlat 1 (option_nodes o ls) (option_nodes o ls)
+limits_flat o [] = none_flat 1
+limits_flat o (l ∷ more) =
+    let name = fixed_text (row l).name (each_passes (λ k. list_all is_printable (row k).name) refl l) in
+    element_flat 0 (codes "solverOption") _ none (option_nodes o more) none (option_nodes o more) refl (name, (number_text (amount o l), (fixed_text (codes "os_cert") refl, tt))) (none_flat 0) (limits_flat o more)
 
 -- what stands behind the job's name
 abbrev pub optimization : Options → tree.Nodes
@@ -28,7 +33,7 @@ optimization o = group (codes "optimization") (group (codes "solverOptions") (li
 
 optimization_flat : (o : Options) → AreFlat 3 (optimization o) (optimization o)
 optimization_flat o =
-    let inner = element_flat 1 (codes "solverOptions") [] (limit_nodes o) none (limit_nodes o) none refl tt (limits_flat o) (none_flat 2) in
+    let inner = element_flat 1 (codes "solverOptions") [] (limit_nodes o) none (limit_nodes o) none refl tt (limits_flat o all) (none_flat 2) in
     element_flat 2 (codes "optimization") [] (group (codes "solverOptions") (limit_nodes o) none) none (group (codes "solverOptions") (limit_nodes o) none) none refl tt inner (none_flat 3)
 
 job_flat : (job : Option (List ℕ)) (more : tree.Nodes) → IsNameOrNone job → AreFlat 3 more more → AreFlat 3 (job_nodes job more) (job_nodes job more)
@@ -45,13 +50,21 @@ job_size : (job : Option (List ℕ)) (more : tree.Nodes) → IsNameOrNone job �
 job_size None more is = omega arith
 job_size (Some job) more is = let text = text_size job in let short = is.short in omega (arith, text, short)
 
+-- a name of a limit has at most 50 bytes, so each option has at most 1000
+limits_size : (o : Options) (ls : List Limit) → nodes_size (option_nodes o ls) ≤ 1000 * length ls
+limits_size o [] = omega arith
+limits_size o (l ∷ more) =
+    let rest = limits_size o more in
+    let name = leb-true (length (row l).name) 50 (each_passes (λ k. leb (length (row k).name) 50) refl l) in
+    let digits = decimal_size (amount o l) in
+    omega (arith, rest, name, digits)
+
 text_short : (o : Options) → ComesBack o → length (options_text o) ≤ document_limit
 text_short o back =
-    let all = written_short (options_element o) in
+    let whole = written_short (options_element o) in
     let job = job_size o.job (optimization o) back.job in
-    let nodes = decimal_size o.nodes in
-    let turns = decimal_size o.turns in
-    omega (arith, all, job, nodes, turns)
+    let limits = limits_size o all in
+    omega (arith, whole, job, limits)
 
 pub text_document : (o : Options) → ComesBack o → IsDocument (options_text o) (bare_root (codes "osol") (options_nodes o))
 text_document o back =

@@ -1,5 +1,5 @@
 -- How much may be done for a job: the limits that options set, one row for each, with the name of its option, the least and the greatest amount, and the amount where no option says one. The names and amounts are the project's own.
-use Rattle.std.specs.Prelude.{ℕ, List, codes}
+use Rattle.std.specs.Prelude.{ℕ, List, [], ◌∷◌, codes}
 use Rattle.osol_grammar.specs.declared.limit.Limit.{Limit}
 use Rattle.osol_grammar.specs.declared.limit.Limit.TheVariants.{Nodes, Turns}
 
@@ -8,6 +8,10 @@ pub record Row : Type 0 where
   pub least : ℕ
   pub most : ℕ
   pub default : ℕ
+
+-- all limits, in the order in which their options are written
+abbrev pub all : List Limit
+all = Nodes ∷ Turns ∷ []
 
 -- nodes of the tree of cases, and turns of the simplex method
 abbrev pub row : Limit → Row

@@ -1,14 +1,13 @@
 -- The document that options are written as (Optimization Services option language), and its text.
-use Rattle.std.specs.Prelude.{ℕ, Option, None, Some, List, [], codes}
+use Rattle.std.specs.Prelude.{ℕ, Option, None, Some, List, [], ◌∷◌, codes}
 use Rattle.std.specs.Fmt.{decimal}
 use Rattle.tree_grammar.specs.Elements as tree
 use Rattle.tree_grammar.specs.Elements.{none, element, Element}
 use Rattle.tree_grammar.specs.Written.{written}
 use Rattle.document_tags.specs.Writing.{with_attribute, leaf, group, rooted}
 use Rattle.osol_grammar.specs.declared.limit.Limit.{Limit}
-use Rattle.osol_grammar.specs.declared.limit.Limit.TheVariants.{Nodes, Turns}
 use Rattle.osol_grammar.specs.declared.options.Options.{Options}
-use Rattle.osol_grammar.specs.Limits.{row}
+use Rattle.osol_grammar.specs.Limits.{all, row}
 use Rattle.osol_grammar.specs.Options.{amount}
 
 -- the job's name, if there is one, and then more
@@ -20,9 +19,14 @@ job_nodes (Some job) more = group (codes "general") (leaf (codes "jobID") job no
 abbrev pub limit_node : Options → Limit → tree.Nodes → tree.Nodes
 limit_node o l more = element (codes "solverOption") (with_attribute (codes "name") (row l).name (with_attribute (codes "value") (decimal (amount o l)) (with_attribute (codes "solver") (codes "os_cert") []))) none more
 
+-- the options of these limits
+abbrev pub option_nodes : Options → List Limit → tree.Nodes
+option_nodes o [] = none
+option_nodes o (l ∷ more) = limit_node o l (option_nodes o more)
+
 -- the option of each limit
 abbrev pub limit_nodes : Options → tree.Nodes
-limit_nodes o = limit_node o Nodes (limit_node o Turns none)
+limit_nodes o = option_nodes o all
 
 abbrev pub options_nodes : Options → tree.Nodes
 options_nodes o = job_nodes o.job (group (codes "optimization") (group (codes "solverOptions") (limit_nodes o) none) none)

@@ -7,7 +7,7 @@ ghost use Rattle.osol_grammar.specs.declared.limit.Limit as kinds;
 ghost use Rattle.osol_grammar.specs.Limits as table;
 ghost use Rattle.osol_grammar.specs.Options.{IsOption, SaysAmount};
 
-use crate::limit::Limit;
+use crate::limit::{LIMITS, Limit};
 use decimal_text::read_count;
 use document_tags::Tags;
 
@@ -18,13 +18,12 @@ const OPTION: [&[u8]; 4] = [b"osol", b"optimization", b"solverOptions", b"solver
 fn limit_named(name: &[u8]) -> Option<Limit>
     ensures { MatchOption result ((l : kinds.Limit) → name.now ≡ (table.row l).name → ⊥) (λ l. name.now ≡ (table.row l).name) }
 {
-    if name == Limit::Nodes.row().name {
-        Some(Limit::Nodes)
-    } else if name == Limit::Turns.row().name {
-        Some(Limit::Turns)
-    } else {
-        None
+    for limit in LIMITS {
+        if name == limit.row().name {
+            return Some(limit);
+        }
     }
+    None
 }
 
 /// Whether the option that comes next is meant for each solver or for this one.

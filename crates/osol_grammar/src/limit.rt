@@ -9,6 +9,9 @@ pub(crate) enum Limit {
     Turns,
 }
 
+/// All limits, in the order in which their options are written.
+pub(crate) const LIMITS: [Limit; 2] = [Limit::Nodes, Limit::Turns];
+
 /// What is known of a limit: the name of its option, the least and the greatest amount that it may have, and the amount
 /// that it has where no option says one.
 #[derive(Clone, Copy)]

@@ -5,7 +5,7 @@ ghost use Rattle.tree_grammar.specs.Elements.{none, nodes_events};
 ghost use Rattle.document_tags.specs.Telling.{Told, whole};
 ghost use Rattle.osol_grammar.specs.Writing as writing;
 
-use crate::limit::Limit;
+use crate::limit::{LIMITS, Limit};
 use crate::options::Options;
 use document_tags::{attribute, close, leaf, open, open_after, open_with, told_text};
 use element_tree::TreeBuilder;
@@ -44,8 +44,10 @@ fn tell_limits(b: &mut TreeBuilder, options: &Options) -> Result<(), Memory>
     requires { b.old.attributes ≡ [] }
     ensures { OnOk result (Told b.old b.new (nodes_events (writing.limit_nodes options.now))) }
 {
-    tell_limit(b, options, Limit::Nodes)?;
-    tell_limit(b, options, Limit::Turns)
+    for limit in LIMITS {
+        tell_limit(b, options, limit)?;
+    }
+    Ok(())
 }
 
 /// Tells a whole document.
