@@ -1,26 +1,39 @@
 -- Seats that are out, and links that are being served.
-use Rattle.std.specs.Prelude.{◌≡◌, ℕ, ◌+◌, ◌<◌, Bool, List, [], ◌∷◌, ◌++◌, length, map, Option, Result, Ok, Err}
+use Rattle.std.specs.Prelude.{◌≡◌, ℕ, ◌+◌, ◌<◌, ◌≤◌, ◌^◌, Bool, List, [], ◌∷◌, ◌++◌, length, map, Option, Result, Ok, Err}
+use Rattle.std.specs.VecDeque.{deque_len, deque_capacity}
 use Rattle.atomic_table.specs.Seated.{TableId}
 use Rattle.job_table.specs.History.{Entry as Said}
 use Rattle.os_io.specs.Streams.{Tells, HasRisen}
+use Rattle.os_io.specs.Links.{NetTells}
+use Rattle.desk.specs.declared.view.Entry.{Entry}
 use Rattle.desk.specs.declared.view.Met.{Met}
 use Rattle.desk.specs.declared.view.View.{View}
 use Rattle.desk.specs.History.{StartsWith}
 use Rattle.desk.specs.Rule.{HasMet}
-use Rattle.server_threads.specs.declared.hall.ServeFault.{ServeFault}
-use Rattle.server_threads.specs.declared.hall.ServeFault.TheVariants.{Failed}
+use Rattle.desk.specs.Asks.{IsSeatOf}
+use Rattle.server_threads.specs.declared.means.Limits.{Limits}
+use Rattle.server_threads.specs.declared.means.Room.{Room}
+use Rattle.server_threads.specs.declared.means.ServeFault.{ServeFault}
+use Rattle.server_threads.specs.declared.means.ServeFault.TheVariants.{Failed}
+use Rattle.server_threads.specs.declared.links.Before.{Before}
+use Rattle.server_threads.specs.declared.links.Running.{Running}
 use Rattle.server_threads.specs.declared.places.Place.{Place}
 use Rattle.server_threads.specs.declared.promise.Finished.{Finished}
 use Rattle.server_threads.specs.declared.promise.ToServe.{ToServe}
 use Rattle.server_threads.specs.declared.promise.ToWork.{ToWork}
 use Rattle.server_threads.specs.Talks.{DeskSeat, Talk, Shift, talk_met, shift_met, short_of, Came, GivenBack, AllTalked, AllWorked, IsShift, Acts}
 use Rattle.server_threads.specs.Promises.{promise_of, AllDue}
-use Rattle.server_threads.specs.Serving.{Stand}
+use Rattle.server_threads.specs.Serving.{Stand, stand, MayTake, Opens, AtOnce}
 
 -- each seat is one of the desk's, had made no call when it was split off, and has the next number
 abbrev pub AllOut : {J : Type 0} → TableId → ℕ → List (DeskSeat J) → Type 0
 AllOut desk n [] = Unit {0}
 AllOut desk n (s ∷ ss) = (s.table_id ≡ desk) × (s.me.0.number ≡ n) × (s.me.0.mine ≡ []) × AllOut desk (n + 1) ss
+
+-- each was split off for the next link, where as much had been seen as it knows
+abbrev pub AllOpen : {J : Type 0} → (servers : ℕ) → List Entry → List Talk → ℕ → List (DeskSeat J) → Type 0
+AllOpen servers log talks j [] = Unit {0}
+AllOpen servers log talks j (s ∷ ss) = Opens servers log talks j s.me.0.number s.me.0.seen × AllOpen servers log talks (j + 1) ss
 
 -- the first seat met these seats, and split off as many and those that are out, whose numbers begin with this one
 pub record Keeps {J : Type 0} (desk : TableId) (v w : View) (met : List Met) (n : ℕ) (out : List (DeskSeat J)) : Type 0 where
@@ -53,22 +66,33 @@ module _ {J L S : Type 0} where
     served_so p r = Acts right (λ said. talked (tells p.link.value) said (tells r.link) r.short) p.seat.value r.seat
 
     -- links came; those that were served were given back, in order, and the later ones are being served
-    pub record Going (desk : TableId) (old new : Stand) (short : ℕ) (places : List (Conversing J L S)) : Type 0 where
+    pub record Going (servers : ℕ) (desk : TableId) (old new : Stand) (short : ℕ) (places : List (Conversing J L S)) : Type 0 where
       pub talks : List Talk
       pub keeps : Keeps desk old.view new.view (map talk_met talks) (old.view.given + length talks) (seats_out places)
       pub due : AllDue served_so places
+      pub few : length places ≤ servers
+      pub waits : AllOpen servers new.view.seen talks (length talks) (seats_out places)
+      pub at_once : AtOnce servers new.view.seen talks
       pub all_talked : AllTalked talked old.view.given talks
       pub came : Came old.coming new.coming (map (λ t. t.came) talks ++ links_out places)
       pub back : GivenBack old.given_back new.given_back (map (λ t. t.back) talks)
+      pub reached : new.reached ≡ old.reached
       pub shorts : short ≡ short_of talks
 
+    -- what holds of the first seat and of the listener while links are being served
+    pub record Goes {N : Type 0} (net_tells : N → NetTells) (servers : ℕ) (desk : TableId) (before : Before J N) (seat : DeskSeat J) (net : N) (running : Running J L S) : Type 0 where
+      pub seat_is : IsSeatOf desk seat
+      pub few : seat.me.0.given ≤ before.seat.value.me.0.given + 2 ^ 32
+      pub going : Going servers desk (stand net_tells before.seat.value before.net.value) (stand net_tells seat net) running.short running.places.items
+
 -- links came, were served, each by a seat of its own, and were given back, so that none is being served any more
-pub record LinksServed (talked : Tells → List Said → Tells → Bool → Type 0) (old new : Stand) (short : ℕ) : Type 0 where
+pub record LinksServed (talked : Tells → List Said → Tells → Bool → Type 0) (servers : ℕ) (old new : Stand) : Type 0 where
   pub talks : List Talk
   pub all_talked : AllTalked talked old.view.given talks
+  pub at_once : AtOnce servers new.view.seen talks
   pub came : Came old.coming new.coming (map (λ t. t.came) talks)
   pub back : GivenBack old.given_back new.given_back (map (λ t. t.back) talks)
-  pub shorts : short ≡ short_of talks
+  pub reached : new.reached ≡ old.reached
   pub number : new.view.number ≡ old.view.number
   pub met : new.view.met ≡ old.view.met ++ map talk_met talks
   pub given : new.view.given ≡ old.view.given + length talks
@@ -76,15 +100,17 @@ pub record LinksServed (talked : Tells → List Said → Tells → Bool → Type
   pub seen : StartsWith new.view.seen old.view.seen
   pub known : HasMet new.view.seen (map talk_met talks)
 
+-- there is room for as many links and workers as these limits say
+pub record MayServe {J L S : Type 0} (limits : Limits) (room : Room J L S) : Type 0 where
+  pub may : MayTake limits room.running
+  pub none : room.shifts.items ≡ []
+  pub empty : deque_len room.shifts ≡ 0
+  pub room_is : limits.workers ≤ deque_capacity room.shifts
+
 -- so many seats more were split off, one for each link that came; or fewer, where the listener failed
 abbrev pub CameSo : {X E : Type 0} → Result X E → (connections seats seats' faults faults' : ℕ) → Type 0
 CameSo (Ok x) connections seats seats' faults faults' = (seats' ≡ seats + connections) × (faults' ≡ faults)
 CameSo (Err e) connections seats seats' faults faults' = (seats' < seats + connections) × HasRisen faults faults'
-
--- so many links came; or fewer, where the listener failed
-abbrev pub Arrive : {X E : Type 0} → Result X E → (connections : ℕ) → List Talk → (faults faults' : ℕ) → Type 0
-Arrive (Ok x) connections talks faults faults' = (length talks ≡ connections) × (faults' ≡ faults)
-Arrive (Err e) connections talks faults faults' = (length talks < connections) × HasRisen faults faults'
 
 -- what is answered where room was found
 abbrev pub ending_of : {X E : Type 0} → Result X E → ℕ → Result ℕ ServeFault

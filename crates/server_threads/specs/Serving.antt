@@ -1,12 +1,19 @@
 -- What serving does to the first seat and to the listener.
+use mathlib.Core.Option.{some}
+use lib.ListN.{get_elem?}
 use Rattle.std.specs.Prelude.{◌≡◌, ℕ, ◌+◌, ◌≤◌, ◌<◌, Bool, List, [], ◌++◌, length, map, Option, Result, Ok, Err}
+use Rattle.std.specs.VecDeque.{deque_len, deque_capacity}
 use Rattle.job_table.specs.History.{Entry as Said}
 use Rattle.os_io.specs.Streams.{Tells, HasRisen}
+use Rattle.os_io.specs.Links.{Reached, NetTells}
 use Rattle.desk.specs.declared.view.View.{View}
-use Rattle.desk.specs.History.{StartsWith}
+use Rattle.desk.specs.declared.view.Entry.{Entry}
+use Rattle.desk.specs.History.{StartsWith, by, calls_by}
 use Rattle.desk.specs.Rule.{HasMet, out_of}
-use Rattle.server_threads.specs.declared.hall.ServeFault.{ServeFault}
-use Rattle.server_threads.specs.declared.hall.ServeFault.TheVariants.{Failed, Memory}
+use Rattle.server_threads.specs.declared.links.Running.{Running}
+use Rattle.server_threads.specs.declared.means.Limits.{Limits}
+use Rattle.server_threads.specs.declared.means.ServeFault.{ServeFault}
+use Rattle.server_threads.specs.declared.means.ServeFault.TheVariants.{Failed, Memory}
 use Rattle.server_threads.specs.Talks.{DeskSeat, Talk, Shift, talk_met, shift_met, short_of, Came, GivenBack, AllTalked, AllWorked}
 
 -- what the desk's first seat knows, and what the listener tells
@@ -14,21 +21,48 @@ pub record Stand : Type 0 where
   pub view : View
   pub coming : Option (List Tells)
   pub given_back : Option (List Tells)
+  pub reached : Option (List Reached)
 
-abbrev pub stand : {J N : Type 0} → (coming given_back : N → Option (List Tells)) → DeskSeat J → N → Stand
-stand coming given_back seat net =
-    record { view = seat.me.0; coming = coming net; given_back = given_back net }
+abbrev pub stand : {J N : Type 0} → (tells : N → NetTells) → DeskSeat J → N → Stand
+stand tells seat net =
+    record { view = seat.me.0; coming = (tells net).coming; given_back = (tells net).given_back; reached = (tells net).reached }
+
+-- links may be taken: at least one at a time, none is being served, and as many as may be served at once have room
+pub record MayTake {J L S : Type 0} (limits : Limits) (running : Running J L S) : Type 0 where
+  pub some : 0 < limits.servers
+  pub fresh : running.short ≡ 0
+  pub none : running.places.items ≡ []
+  pub empty : deque_len running.places ≡ 0
+  pub room : limits.servers ≤ deque_capacity running.places
+
+-- all calls of the links that came so many before this one, or earlier, stand in this beginning of the history
+abbrev pub HasEarlier : (servers : ℕ) → List Talk → ℕ → List Entry → Type 0
+HasEarlier servers talks j seen =
+    (i : ℕ) (u : Talk) → get_elem? talks i ≡ some u → i + servers ≤ j → calls_by u.seat seen ≡ by u.seat u.said
+
+-- so much of the history had been seen when a link came: no call of its seat, and all calls of those that came so many before it
+pub record Opens (servers : ℕ) (log : List Entry) (talks : List Talk) (j seat : ℕ) (seen : List Entry) : Type 0 where
+  pub begins : StartsWith log seen
+  pub none : calls_by seat seen ≡ []
+  pub earlier : HasEarlier servers talks j seen
+
+-- at most so many links are served at once: all calls of a link come behind all calls of each that came so many before it, or earlier
+abbrev pub AtOnce : (servers : ℕ) → List Entry → List Talk → Type 0
+AtOnce servers log talks =
+    (j : ℕ) (t : Talk) → get_elem? talks j ≡ some t → (seen : List Entry) × Opens servers log talks j t.seat seen
 
 module _ (made : List ℕ → List ℕ → List Bool → Option (List ℕ) → Type 0) (talked : Tells → List Said → Tells → Bool → Type 0) where
   -- the links came and were given back in one order. The seat met one seat for each link, and at most so many workers' seats; it has seen all
   -- their calls, and made none itself
-  pub record Serves (workers : ℕ) (old new : Stand) (talks : List Talk) : Type 0 where
+  pub record Serves (servers workers : ℕ) (old new : Stand) (talks : List Talk) : Type 0 where
     pub shifts : List Shift
     pub staff : length shifts ≤ workers
     pub worked : AllWorked made old.view.given shifts
     pub all_talked : AllTalked talked (old.view.given + length shifts) talks
+    pub at_once : AtOnce servers new.view.seen talks
     pub came : Came old.coming new.coming (map (λ t. t.came) talks)
     pub back : GivenBack old.given_back new.given_back (map (λ t. t.back) talks)
+    pub reached : new.reached ≡ old.reached
     pub met : new.view.met ≡ old.view.met ++ (map talk_met talks ++ map shift_met shifts)
     pub known : HasMet new.view.seen (map talk_met talks ++ map shift_met shifts)
     pub seen : StartsWith new.view.seen old.view.seen

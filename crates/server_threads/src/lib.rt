@@ -6,13 +6,16 @@
 //! no other link has. The desk's first seat then has met these seats and those of the workers, and knows their calls.
 //!
 //! Threads of links stand in a scope inside that of the workers. The oldest is joined first, so that links are given back in the
-//! order in which they came; at most so many run at once. Each closes its link ([`closing::Close`]) when the conversation is over,
+//! order in which they came; at most so many run at once. Each closes its link ([`os_io::Close`]) when the conversation is over,
 //! so that no peer waits for the threads of others. That threads run side by side is said by no contract.
+//!
+//! The way of a link: [`serve_loop`] opens the scope of the workers, `serve_beside` that of the links, `serve_links` and `take_links`
+//! take one link after another, `begin` starts its thread, and `serve_link` serves it.
 #![tactic(auto)]
 
-mod door;
-mod hall;
 mod links;
+mod means;
+mod open;
 mod places;
 mod promise;
 mod serve;
@@ -21,6 +24,6 @@ mod staff;
 #[cfg(test)]
 mod tests;
 
-pub use hall::ServeFault;
+pub use means::{Limits, ServeFault};
 pub use serve::serve_loop;
 pub use service::Service;

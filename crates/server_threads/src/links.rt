@@ -1,23 +1,21 @@
 //! Links are accepted and served, each in a thread of its own.
 
-ghost use Rattle.std.specs.Prelude.{◌≡◌, ◌+◌, ◌<◌, ◌≤◌, ◌^◌, [], length, OnOk, OnErr};
+ghost use Rattle.std.specs.Prelude.{◌≡◌, ◌+◌, ◌<◌, ◌≤◌, ◌^◌};
 ghost use Rattle.std.specs.VecDeque.{deque_len, deque_capacity};
-ghost use Rattle.os_io.specs.Streams.{Counts};
 ghost use Rattle.desk.specs.Asks.{desk_id, IsSeatOf};
-ghost use Rattle.server_threads.specs.Talks.{Acts, one_if};
+ghost use Rattle.server_threads.specs.Talks.{Acts, one_if, short_of};
 ghost use Rattle.server_threads.specs.Promises.{promise_of, Due};
-ghost use Rattle.server_threads.specs.Serving.{stand};
-ghost use Rattle.server_threads.specs.Going.{Going, LinksServed, CameSo, served_so};
+ghost use Rattle.server_threads.specs.Serving.{stand, Ends, MayTake};
+ghost use Rattle.server_threads.specs.Going.{Goes, LinksServed, CameSo, ending_of, served_so};
 
-use crate::door::Door;
-use crate::hall::{Hall, Limits, Means};
+use crate::means::{Means, ServeFault};
+use crate::open::OpenLink;
 use crate::places::Place;
 use crate::promise::{Finished, ToServe};
 use crate::service::Service;
-use closing::Close;
 use desk::{Caller, Desk, Seat};
 use job_table::Verdicts;
-use os_io::{Failed, Listener};
+use os_io::{Close, Failed, Link, Listener};
 use std::alloc::Global;
 use std::collections::VecDeque;
 use std::marker::PhantomData;
@@ -26,11 +24,25 @@ use std::sync::Wait;
 use std::thread::{Scope, Threads};
 use workers::Wake;
 
-/// The links that are being served, in the order in which they came.
-pub(crate) type Running<J, L, S> = VecDeque<Place<Finished<Seat<J>, L>, ToServe<J, L, S>>>;
+/// The places of links, in the order in which they came.
+pub(crate) type Places<J, L, S> = VecDeque<Place<Finished<Seat<J>, L>, ToServe<J, L, S>>>;
+
+/// The links that are being served, and how many of those before them ended for want of memory.
+#[derive(Drop)]
+pub(crate) struct Running<J: Verdicts, L: Link, S: Service<J>> {
+    pub(crate) places: Places<J, L, S>,
+    pub(crate) short: u64,
+}
+
+/// The first seat and the listener as they were before the first link came.
+#[derive(Drop)]
+struct Before<J: Verdicts, N> {
+    seat: Snapshot<Seat<J>>,
+    net: Snapshot<N>,
+}
 
 /// Serves one link by calls of this seat, and tells its peer when the conversation is over.
-fn serve_by<J: Verdicts, L: Close, R: Wait, S: Service<J>>(
+fn serve_link<J: Verdicts, L: Close, R: Wait, S: Service<J>>(
     rt: &R,
     alloc: Global,
     desk: &Desk<J>,
@@ -39,7 +51,8 @@ fn serve_by<J: Verdicts, L: Close, R: Wait, S: Service<J>>(
     mut seat: Seat<J>,
     link: L,
 ) -> Finished<Seat<J>, L>
-    requires { IsSeatOf (desk_id desk.now) seat }
+    requires seat { IsSeatOf (desk_id desk.now) seat }
+    requires open { L.is_open link }
     ensures { Acts J.right (λ said. S.talked (L.tells link) said (L.tells result.link) result.short) seat result.seat }
 {
     let mut caller = Caller {
@@ -47,7 +60,8 @@ fn serve_by<J: Verdicts, L: Close, R: Wait, S: Service<J>>(
         desk,
         seat: &mut seat,
     };
-    let (short, mut link) = service.serve(rt, alloc, wake, link, &mut caller);
+    let (short, open) = service.serve(rt, alloc, wake, OpenLink::new(link), &mut caller);
+    let mut link = open.into_link();
     link.close();
     let Caller {
         rt: _,
@@ -72,7 +86,8 @@ fn begin<
     seat: Seat<J>,
     link: L,
 ) -> Place<Finished<Seat<J>, L>, ToServe<J, L, S>>
-    requires { IsSeatOf (desk_id means.now.desk.now) seat }
+    requires seat { IsSeatOf (desk_id means.now.desk.now) seat }
+    requires open { L.is_open link }
     ensures seat { (promise_of result).seat.value ≡ seat }
     ensures link { (promise_of result).link.value ≡ link }
     ensures due { Due (served_so J.right S.talked L.tells) result }
@@ -95,41 +110,13 @@ fn begin<
         service: PhantomData,
     };
     let work = move || -> Finished<Seat<J>, L>
-        requires { IsSeatOf (desk_id desk.now) seat }
+        requires { IsSeatOf (desk_id desk.now) seat × L.is_open link }
         ensures { Acts J.right (λ said. S.talked (L.tells link) said (L.tells result.link) result.short) seat result.seat }
-    { serve_by(rt, alloc, desk, wake, service, seat, link) };
+    { serve_link(rt, alloc, desk, wake, service, seat, link) };
     match scope.spawn_with(promise, work) {
         Ok(child) => Place::Thread(child),
         Err(refused) => Place::Here((refused.value)(), again),
     }
-}
-
-/// Joins the thread that was started first, takes its seat in, and gives its link back.
-fn join_oldest<J: Verdicts + Send + Sync, N: Listener, D: Door<N>, R: Threads, S: Service<J>>(
-    means: &Means<'_, J, R, S>,
-    was: &Snapshot<Hall<Seat<J>, D>>,
-    hall: &mut Hall<Seat<J>, D>,
-    running: &mut Running<J, N::Conn, S>,
-)
-    requires seat { IsSeatOf (desk_id means.now.desk.now) hall.old.seat }
-    requires going { Going J.right S.talked N.Conn.tells (desk_id means.now.desk.now) (stand N.coming N.given_back was.now.value.seat (D.net was.now.value.door)) (stand N.coming N.given_back hall.old.seat (D.net hall.old.door)) hall.old.short running.old.items }
-    requires some { 0 < deque_len running.old }
-    requires few { hall.old.seat.me.0.given ≤ was.now.value.seat.me.0.given + 2 ^ 32 }
-    ensures seat { IsSeatOf (desk_id means.now.desk.now) hall.new.seat }
-    ensures going { Going J.right S.talked N.Conn.tells (desk_id means.now.desk.now) (stand N.coming N.given_back was.now.value.seat (D.net was.now.value.door)) (stand N.coming N.given_back hall.new.seat (D.net hall.new.door)) hall.new.short running.new.items }
-    ensures given { hall.new.seat.me.0.given ≡ hall.old.seat.me.0.given }
-    ensures faults { N.faults (D.net hall.new.door) ≡ N.faults (D.net hall.old.door) }
-    ensures loan { D.loan hall.new.door ≡ D.loan hall.old.door }
-    ensures one_fewer { deque_len running.new + 1 ≡ deque_len running.old }
-    ensures room { deque_capacity running.new ≡ deque_capacity running.old }
-{
-    let Some(place) = running.pop_front() else {
-        unreachable!()
-    };
-    let Finished { seat, link, short } = place.join(means.rt);
-    means.desk.meet(&mut hall.seat, seat);
-    hall.door.done(link);
-    hall.short += number_of(short);
 }
 
 /// 1 where it is so.
@@ -140,67 +127,51 @@ fn number_of(so: bool) -> u64
     if so { 1 } else { 0 }
 }
 
-/// Joins the oldest thread where so many run that no other may be started.
-fn make_way<J: Verdicts + Send + Sync, N: Listener, D: Door<N>, R: Threads, S: Service<J>>(
+/// Joins the thread that was started first, takes its seat in, and gives its link back.
+fn join_oldest<J: Verdicts + Send + Sync, N: Listener, R: Threads, S: Service<J>>(
     means: &Means<'_, J, R, S>,
-    was: &Snapshot<Hall<Seat<J>, D>>,
-    hall: &mut Hall<Seat<J>, D>,
+    before: &Before<J, N>,
+    seat: &mut Seat<J>,
+    net: &mut N,
     running: &mut Running<J, N::Conn, S>,
-    servers: usize,
 )
-    requires seat { IsSeatOf (desk_id means.now.desk.now) hall.old.seat }
-    requires going { Going J.right S.talked N.Conn.tells (desk_id means.now.desk.now) (stand N.coming N.given_back was.now.value.seat (D.net was.now.value.door)) (stand N.coming N.given_back hall.old.seat (D.net hall.old.door)) hall.old.short running.old.items }
-    requires some { 0 < servers }
-    requires within { deque_len running.old ≤ servers }
-    requires few { hall.old.seat.me.0.given ≤ was.now.value.seat.me.0.given + 2 ^ 32 }
-    ensures seat { IsSeatOf (desk_id means.now.desk.now) hall.new.seat }
-    ensures going { Going J.right S.talked N.Conn.tells (desk_id means.now.desk.now) (stand N.coming N.given_back was.now.value.seat (D.net was.now.value.door)) (stand N.coming N.given_back hall.new.seat (D.net hall.new.door)) hall.new.short running.new.items }
-    ensures given { hall.new.seat.me.0.given ≡ hall.old.seat.me.0.given }
-    ensures faults { N.faults (D.net hall.new.door) ≡ N.faults (D.net hall.old.door) }
-    ensures loan { D.loan hall.new.door ≡ D.loan hall.old.door }
-    ensures below { deque_len running.new < servers }
-    ensures room { deque_capacity running.new ≡ deque_capacity running.old }
+    requires goes { Goes J.right S.talked N.Conn.tells N.tells means.now.limits.servers (desk_id means.now.desk.now) before.now seat.old net.old running.old }
+    requires some { 0 < deque_len running.old.places }
+    ensures goes { Goes J.right S.talked N.Conn.tells N.tells means.now.limits.servers (desk_id means.now.desk.now) before.now seat.new net.new running.new }
+    ensures given { seat.new.me.0.given ≡ seat.old.me.0.given }
+    ensures faults { (N.tells net.new).faults ≡ (N.tells net.old).faults }
+    ensures one_fewer { deque_len running.new.places + 1 ≡ deque_len running.old.places }
+    ensures room { deque_capacity running.new.places ≡ deque_capacity running.old.places }
 {
-    if running.len() >= servers {
-        join_oldest(means, was, hall, running);
-    }
+    let Some(place) = running.places.pop_front() else {
+        unreachable!()
+    };
+    let done = place.join(means.rt);
+    means.desk.meet(seat, done.seat);
+    net.done(done.link);
+    running.short += number_of(done.short);
 }
 
-/// Takes the next link that comes, and has it served by a seat of its own.
-fn take_link<
-    's,
-    E,
-    J: Verdicts + Send + Sync,
-    N: Listener,
-    D: Door<N>,
-    R: Threads + Wait + Sync,
-    S: Service<J> + Sync,
->(
-    means: &Means<'s, J, R, S>,
-    wake: &'s Wake,
-    scope: &'s Scope<'s, E>,
-    was: &Snapshot<Hall<Seat<J>, D>>,
-    hall: &mut Hall<Seat<J>, D>,
+/// Joins the oldest thread where so many run that no other may be started.
+fn make_way<J: Verdicts + Send + Sync, N: Listener, R: Threads, S: Service<J>>(
+    means: &Means<'_, J, R, S>,
+    before: &Before<J, N>,
+    seat: &mut Seat<J>,
+    net: &mut N,
     running: &mut Running<J, N::Conn, S>,
-) -> Result<(), Failed>
-where
-    N::Conn: Close + Send + Drop + 's,
-    requires seat { IsSeatOf (desk_id means.now.desk.now) hall.old.seat }
-    requires going { Going J.right S.talked N.Conn.tells (desk_id means.now.desk.now) (stand N.coming N.given_back was.now.value.seat (D.net was.now.value.door)) (stand N.coming N.given_back hall.old.seat (D.net hall.old.door)) hall.old.short running.old.items }
-    requires room { deque_len running.old < deque_capacity running.old }
-    ensures seat { IsSeatOf (desk_id means.now.desk.now) hall.new.seat }
-    ensures going { Going J.right S.talked N.Conn.tells (desk_id means.now.desk.now) (stand N.coming N.given_back was.now.value.seat (D.net was.now.value.door)) (stand N.coming N.given_back hall.new.seat (D.net hall.new.door)) hall.new.short running.new.items }
-    ensures ok { OnOk result ((hall.new.seat.me.0.given ≡ hall.old.seat.me.0.given + 1) × (deque_len running.new ≡ deque_len running.old + 1)) }
-    ensures err { OnErr result (hall.new.seat.me.0.given ≡ hall.old.seat.me.0.given) }
-    ensures counted { Counts result (N.faults (D.net hall.old.door)) (N.faults (D.net hall.new.door)) }
-    ensures loan { D.loan hall.new.door ≡ D.loan hall.old.door }
-    ensures room { deque_capacity running.new ≡ deque_capacity running.old }
+)
+    requires goes { Goes J.right S.talked N.Conn.tells N.tells means.now.limits.servers (desk_id means.now.desk.now) before.now seat.old net.old running.old }
+    requires some { 0 < means.now.limits.servers }
+    requires within { deque_len running.old.places ≤ means.now.limits.servers }
+    ensures goes { Goes J.right S.talked N.Conn.tells N.tells means.now.limits.servers (desk_id means.now.desk.now) before.now seat.new net.new running.new }
+    ensures given { seat.new.me.0.given ≡ seat.old.me.0.given }
+    ensures faults { (N.tells net.new).faults ≡ (N.tells net.old).faults }
+    ensures below { deque_len running.new.places < means.now.limits.servers }
+    ensures room { deque_capacity running.new.places ≡ deque_capacity running.old.places }
 {
-    let link = hall.door.accept()?;
-    let seat = means.desk.split(&mut hall.seat);
-    let place = begin(means, wake, scope, seat, link);
-    running.push_back_reserved(place);
-    Ok(())
+    if running.places.len() >= means.limits.servers as usize {
+        join_oldest(means, before, seat, net, running);
+    }
 }
 
 /// Takes so many links, and has each served by a seat of its own, so many at once at most.
@@ -209,61 +180,64 @@ fn take_links<
     E,
     J: Verdicts + Send + Sync,
     N: Listener,
-    D: Door<N>,
     R: Threads + Wait + Sync,
     S: Service<J> + Sync,
 >(
     means: &Means<'s, J, R, S>,
     wake: &'s Wake,
     scope: &'s Scope<'s, E>,
-    was: &Snapshot<Hall<Seat<J>, D>>,
-    hall: &mut Hall<Seat<J>, D>,
+    before: &Before<J, N>,
+    seat: &mut Seat<J>,
+    net: &mut N,
     running: &mut Running<J, N::Conn, S>,
-    limits: &Limits,
 ) -> Result<(), Failed>
 where
-    N::Conn: Close + Send + Drop + 's,
-    requires seat { IsSeatOf (desk_id means.now.desk.now) hall.old.seat }
-    requires was { was.now.value ≡ hall.old }
-    requires first { hall.old.seat.me.0.number ≡ 0 }
-    requires fresh { hall.old.short ≡ 0 }
-    requires none { running.old.items ≡ [] }
-    requires empty { deque_len running.old ≡ 0 }
-    requires some { 0 < limits.now.servers }
-    requires room { limits.now.servers ≤ deque_capacity running.old }
-    ensures seat { IsSeatOf (desk_id means.now.desk.now) hall.new.seat }
-    ensures going { Going J.right S.talked N.Conn.tells (desk_id means.now.desk.now) (stand N.coming N.given_back was.now.value.seat (D.net was.now.value.door)) (stand N.coming N.given_back hall.new.seat (D.net hall.new.door)) hall.new.short running.new.items }
-    ensures few { hall.new.seat.me.0.given ≤ was.now.value.seat.me.0.given + 2 ^ 32 }
-    ensures came { CameSo result limits.now.connections hall.old.seat.me.0.given hall.new.seat.me.0.given (N.faults (D.net hall.old.door)) (N.faults (D.net hall.new.door)) }
-    ensures loan { D.loan hall.new.door ≡ D.loan hall.old.door }
+    N::Conn: Send + Drop + 's,
+    requires goes { Goes J.right S.talked N.Conn.tells N.tells means.now.limits.servers (desk_id means.now.desk.now) before.now seat.old net.old running.old }
+    requires given { seat.old.me.0.given ≡ before.now.seat.value.me.0.given }
+    requires may { MayTake means.now.limits running.old }
+    ensures goes { Goes J.right S.talked N.Conn.tells N.tells means.now.limits.servers (desk_id means.now.desk.now) before.now seat.new net.new running.new }
+    ensures came { CameSo result means.now.limits.connections seat.old.me.0.given seat.new.me.0.given (N.tells net.old).faults (N.tells net.new).faults }
 {
-    for turn in 0..limits.connections {
-        make_way(means, was, hall, running, limits.servers);
-        take_link(means, wake, scope, was, hall, running)?;
+    for turn in 0..means.limits.connections {
+        make_way(means, before, seat, net, running);
+        let link = net.accept()?;
+        let theirs = means.desk.split(seat);
+        let place = begin(means, wake, scope, theirs, link);
+        running.places.push_back_reserved(place);
     }
     Ok(())
 }
 
-/// Joins all threads, the one that was started first before the others.
-fn join_all<J: Verdicts + Send + Sync, N: Listener, D: Door<N>, R: Threads, S: Service<J>>(
+/// Joins all threads, the one that was started first before the others, and says how many links ended for want of memory.
+fn join_all<J: Verdicts + Send + Sync, N: Listener, R: Threads, S: Service<J>>(
     means: &Means<'_, J, R, S>,
-    was: &Snapshot<Hall<Seat<J>, D>>,
-    hall: &mut Hall<Seat<J>, D>,
+    before: &Before<J, N>,
+    seat: &mut Seat<J>,
+    net: &mut N,
     mut running: Running<J, N::Conn, S>,
-)
+) -> u64
 where
     N::Conn: Drop,
-    requires seat { IsSeatOf (desk_id means.now.desk.now) hall.old.seat }
-    requires going { Going J.right S.talked N.Conn.tells (desk_id means.now.desk.now) (stand N.coming N.given_back was.now.value.seat (D.net was.now.value.door)) (stand N.coming N.given_back hall.old.seat (D.net hall.old.door)) hall.old.short running.items }
-    requires few { hall.old.seat.me.0.given ≤ was.now.value.seat.me.0.given + 2 ^ 32 }
-    ensures seat { IsSeatOf (desk_id means.now.desk.now) hall.new.seat }
-    ensures over { LinksServed S.talked (stand N.coming N.given_back was.now.value.seat (D.net was.now.value.door)) (stand N.coming N.given_back hall.new.seat (D.net hall.new.door)) hall.new.short }
-    ensures given { hall.new.seat.me.0.given ≡ hall.old.seat.me.0.given }
-    ensures faults { N.faults (D.net hall.new.door) ≡ N.faults (D.net hall.old.door) }
-    ensures loan { D.loan hall.new.door ≡ D.loan hall.old.door }
+    requires goes { Goes J.right S.talked N.Conn.tells N.tells means.now.limits.servers (desk_id means.now.desk.now) before.now seat.old net.old running }
+    ensures seat { IsSeatOf (desk_id means.now.desk.now) seat.new }
+    ensures over { (o : LinksServed S.talked means.now.limits.servers (stand N.tells before.now.seat.value before.now.net.value) (stand N.tells seat.new net.new)) × (result ≡ short_of o.talks) }
+    ensures given { seat.new.me.0.given ≡ seat.old.me.0.given }
+    ensures faults { (N.tells net.new).faults ≡ (N.tells net.old).faults }
 {
-    while running.len() > 0 {
-        join_oldest(means, was, hall, &mut running);
+    while running.places.len() > 0 {
+        join_oldest(means, before, seat, net, &mut running);
+    }
+    running.short
+}
+
+/// What is answered where room was found.
+fn ending(came: Result<(), Failed>, short: u64) -> Result<u64, ServeFault>
+    ensures { result ≡ ending_of came short }
+{
+    match came {
+        Ok(()) => Ok(short),
+        Err(Failed) => Err(ServeFault::Failed),
     }
 }
 
@@ -273,33 +247,29 @@ pub(crate) fn serve_links<
     E,
     J: Verdicts + Send + Sync,
     N: Listener,
-    D: Door<N>,
     R: Threads + Wait + Sync,
     S: Service<J> + Sync,
 >(
     means: &Means<'s, J, R, S>,
     wake: &'s Wake,
     scope: &'s Scope<'s, E>,
-    hall: &mut Hall<Seat<J>, D>,
+    mut seat: Seat<J>,
+    net: &mut N,
     mut running: Running<J, N::Conn, S>,
-    limits: &Limits,
-)
+) -> (Seat<J>, Result<u64, ServeFault>)
 where
-    N::Conn: Close + Send + Drop + 's,
-    requires seat { IsSeatOf (desk_id means.now.desk.now) hall.old.seat }
-    requires first { hall.old.seat.me.0.number ≡ 0 }
-    requires fresh { hall.old.short ≡ 0 }
-    requires none { running.items ≡ [] }
-    requires empty { deque_len running ≡ 0 }
-    requires some { 0 < limits.now.servers }
-    requires room { limits.now.servers ≤ deque_capacity running }
-    ensures seat { IsSeatOf (desk_id means.now.desk.now) hall.new.seat }
-    ensures over { LinksServed S.talked (stand N.coming N.given_back hall.old.seat (D.net hall.old.door)) (stand N.coming N.given_back hall.new.seat (D.net hall.new.door)) hall.new.short }
-    ensures came { CameSo hall.new.came limits.now.connections hall.old.seat.me.0.given hall.new.seat.me.0.given (N.faults (D.net hall.old.door)) (N.faults (D.net hall.new.door)) }
-    ensures loan { D.loan hall.new.door ≡ D.loan hall.old.door }
+    N::Conn: Send + Drop + 's,
+    requires seat { IsSeatOf (desk_id means.now.desk.now) seat }
+    requires first { seat.me.0.number ≡ 0 }
+    requires may { MayTake means.now.limits running }
+    ensures seat { IsSeatOf (desk_id means.now.desk.now) result.0 }
+    ensures served { (o : LinksServed S.talked means.now.limits.servers (stand N.tells seat net.old) (stand N.tells result.0 net.new)) × Ends result.1 means.now.limits.connections o.talks (N.tells net.old).faults (N.tells net.new).faults }
 {
-    let was = Snapshot::of(hall);
-    let came = take_links(means, wake, scope, &was, hall, &mut running, limits);
-    join_all(means, &was, hall, running);
-    hall.came = came;
+    let before = Before {
+        seat: Snapshot::of(&seat),
+        net: Snapshot::of(net),
+    };
+    let came = take_links(means, wake, scope, &before, &mut seat, net, &mut running);
+    let short = join_all(means, &before, &mut seat, net, running);
+    (seat, ending(came, short))
 }

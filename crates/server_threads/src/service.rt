@@ -21,7 +21,7 @@ pub trait Service<V: Verdicts>: Runner<V> {
     ghost talked: { Tells → List Entry → Tells → Bool → Type 0 };
 
     /// Serves a link from its first byte to its last, by calls of one caller, and gives it back. Where work is left for a worker it
-    /// rings. The answer is whether it ended for want of memory.
+    /// rings. The answer is whether it ended for want of memory. The link is open, and isn't closed here: as a mere `Link` it can't be.
     fn serve<L: Link, C: Calls<V>, R: Wait>(
         &self,
         rt: &R,

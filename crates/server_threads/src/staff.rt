@@ -3,12 +3,13 @@
 ghost use Rattle.std.specs.Prelude.{◌≡◌, ◌+◌, ◌<◌, ◌≤◌, [], ℕ, List};
 ghost use Rattle.std.specs.VecDeque.{deque_len, deque_capacity};
 ghost use Rattle.desk.specs.declared.view.Met.{Met};
+ghost use Rattle.desk.specs.History.{StartsWith};
 ghost use Rattle.desk.specs.Asks.{desk_id, IsSeatOf};
 ghost use Rattle.server_threads.specs.Talks.{Acts, IsShift};
 ghost use Rattle.server_threads.specs.Promises.{promise_of, Due};
 ghost use Rattle.server_threads.specs.Going.{Hired, Staffed, Left, worked_so};
 
-use crate::hall::Means;
+use crate::means::Means;
 use crate::places::Place;
 use crate::promise::ToWork;
 use crate::service::Service;
@@ -66,6 +67,7 @@ fn hire<'s, E, J: Verdicts + Send + Sync, R: Threads + Wait + Sync, S: Service<J
         service,
         naps,
         missing,
+        ..
     } = *means;
     let promise = ToWork {
         seat: Snapshot::of(&seat),
@@ -100,17 +102,16 @@ pub(crate) fn staff<
     scope: &'s Scope<'s, E>,
     first: &mut Seat<J>,
     shifts: &mut Shifts<J, S>,
-    workers: u32,
 )
     requires seat { IsSeatOf (desk_id means.now.desk.now) first.old }
     requires first { first.old.me.0.number ≡ 0 }
     requires none { shifts.old.items ≡ [] }
     requires empty { deque_len shifts.old ≡ 0 }
-    requires room { workers ≤ deque_capacity shifts.old }
+    requires room { means.now.limits.workers ≤ deque_capacity shifts.old }
     ensures seat { IsSeatOf (desk_id means.now.desk.now) first.new }
-    ensures hired { Hired J.right S.ran (desk_id means.now.desk.now) first.old.me.0 first.new.me.0 workers shifts.new.items }
+    ensures hired { Hired J.right S.ran (desk_id means.now.desk.now) first.old.me.0 first.new.me.0 means.now.limits.workers shifts.new.items }
 {
-    for turn in 0..workers {
+    for turn in 0..means.limits.workers {
         let seat = means.desk.split(first);
         let place = hire(means, scope, seat, u64::from(turn));
         shifts.push_back_reserved(place);
@@ -123,13 +124,13 @@ fn relieve_one<J: Verdicts + Send + Sync, R: Threads, S: Service<J>>(
     was: &Snapshot<Seat<J>>,
     first: &mut Seat<J>,
     shifts: &mut Shifts<J, S>,
-    workers: u32,
 )
     requires seat { IsSeatOf (desk_id means.now.desk.now) first.old }
     requires some { 0 < deque_len shifts.old }
-    requires staffed { (met : List Met) × Staffed J.right S.ran (desk_id means.now.desk.now) was.now.value.me.0 first.old.me.0 workers met shifts.old.items }
+    requires staffed { (met : List Met) × Staffed J.right S.ran (desk_id means.now.desk.now) was.now.value.me.0 first.old.me.0 means.now.limits.workers met shifts.old.items }
     ensures seat { IsSeatOf (desk_id means.now.desk.now) first.new }
-    ensures staffed { (met : List Met) → Staffed J.right S.ran (desk_id means.now.desk.now) was.now.value.me.0 first.old.me.0 workers met shifts.old.items → Staffed J.right S.ran (desk_id means.now.desk.now) was.now.value.me.0 first.new.me.0 workers met shifts.new.items }
+    ensures staffed { (met : List Met) → Staffed J.right S.ran (desk_id means.now.desk.now) was.now.value.me.0 first.old.me.0 means.now.limits.workers met shifts.old.items → Staffed J.right S.ran (desk_id means.now.desk.now) was.now.value.me.0 first.new.me.0 means.now.limits.workers met shifts.new.items }
+    ensures seen { StartsWith first.new.me.0.seen first.old.me.0.seen }
     ensures one_fewer { deque_len shifts.new + 1 ≡ deque_len shifts.old }
 {
     let Some(place) = shifts.pop_front() else {
@@ -145,14 +146,14 @@ pub(crate) fn relieve<J: Verdicts + Send + Sync, R: Threads, S: Service<J>>(
     was: &Snapshot<Seat<J>>,
     first: &mut Seat<J>,
     mut shifts: Shifts<J, S>,
-    workers: u32,
 )
     requires seat { IsSeatOf (desk_id means.now.desk.now) first.old }
-    requires staffed { (met : List Met) × Staffed J.right S.ran (desk_id means.now.desk.now) was.now.value.me.0 first.old.me.0 workers met shifts.items }
+    requires staffed { (met : List Met) × Staffed J.right S.ran (desk_id means.now.desk.now) was.now.value.me.0 first.old.me.0 means.now.limits.workers met shifts.items }
     ensures seat { IsSeatOf (desk_id means.now.desk.now) first.new }
-    ensures left { (met : List Met) → Staffed J.right S.ran (desk_id means.now.desk.now) was.now.value.me.0 first.old.me.0 workers met shifts.items → Left S.ran was.now.value.me.0 first.new.me.0 workers met }
+    ensures left { (met : List Met) → Staffed J.right S.ran (desk_id means.now.desk.now) was.now.value.me.0 first.old.me.0 means.now.limits.workers met shifts.items → Left S.ran was.now.value.me.0 first.new.me.0 means.now.limits.workers met }
+    ensures seen { StartsWith first.new.me.0.seen first.old.me.0.seen }
 {
     while shifts.len() > 0 {
-        relieve_one(means, was, first, &mut shifts, workers);
+        relieve_one(means, was, first, &mut shifts);
     }
 }

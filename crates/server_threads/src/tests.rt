@@ -1,4 +1,4 @@
-use crate::{Service, serve_loop};
+use crate::{Limits, Service, serve_loop};
 use desk::Desk;
 use job_runs::Runner;
 use job_table::{Call, Calls, SharedText, Verdicts};
@@ -60,7 +60,12 @@ fn links_are_served_beside_workers_and_given_back(rt: HostRuntime) -> Result<(),
     for _ in 0..3 {
         net.add(MemLink::new(rt.alloc(), b"", 0, 0, &[])?)?;
     }
-    let (seat, served) = serve_loop(&rt, rt.alloc(), &desk, seat, &mut net, &OneNumber, 2, 3, 2);
+    let limits = Limits {
+        servers: 2,
+        connections: 3,
+        workers: 2,
+    };
+    let (seat, served) = serve_loop(&rt, rt.alloc(), &desk, seat, &mut net, &OneNumber, limits);
     assert_eq!(rt; served, Ok(0));
     assert!(rt; net.take_back().is_some());
     assert_eq!(rt; desk.close(seat).issued(), 3);

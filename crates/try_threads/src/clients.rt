@@ -31,11 +31,50 @@ pub(crate) fn state_of(answer: &[u8]) -> &str {
     between(answer, "&lt;currentState&gt;", "&lt;")
 }
 
-/// A request whose envelope holds this call.
-fn request(alloc: Global, call: &str) -> Result<String, Memory> {
+/// A request with these fields, whose envelope holds this call.
+fn request_with(alloc: Global, fields: &str, call: &str) -> Result<String, Memory> {
     let body = format!(in alloc; "<Envelope><Body>{call}</Body></Envelope>")?;
     let length = body.len();
-    format!(in alloc; "POST /os HTTP/1.1\r\nHost: a\r\nContent-Length: {length}\r\n\r\n{body}")
+    format!(in alloc;
+        "POST /os HTTP/1.1\r\nHost: a\r\n{fields}Content-Length: {length}\r\n\r\n{body}"
+    )
+}
+
+/// A request whose envelope holds this call.
+fn request(alloc: Global, call: &str) -> Result<String, Memory> {
+    request_with(alloc, "", call)
+}
+
+/// Such a request, behind whose answer the connection ends.
+pub(crate) fn last_request(alloc: Global, call: &str) -> Result<String, Memory> {
+    request_with(alloc, "Connection: close\r\n", call)
+}
+
+/// A client that asks for two numbers, the second behind the first. Where its next request is wanted before it got that, it asks no
+/// more.
+#[derive(Drop)]
+pub(crate) struct Patient {
+    /// How many requests are left.
+    left: u32,
+}
+
+impl Patient {
+    pub(crate) fn new() -> Patient {
+        Patient { left: 2 }
+    }
+}
+
+impl Client for Patient {
+    fn ask(&mut self, alloc: Global, answer: &[u8]) -> Result<String, Memory> {
+        if self.left == 1 && job_of(answer).is_empty() {
+            self.left = 0;
+        }
+        if self.left == 0 {
+            return Ok(String::new(alloc));
+        }
+        self.left -= 1;
+        request(alloc, "<getJobID/>")
+    }
 }
 
 /// One of two clients that ask for a number. The one that waits asks only once the other was answered.

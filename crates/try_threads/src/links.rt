@@ -1,10 +1,9 @@
 //! Links that are clients in themselves: what a read gives depends on what was written before.
 
-ghost use Rattle.std.specs.Prelude.{◌≡◌, None};
+ghost use Rattle.std.specs.Prelude.{◌≡◌, None, false, IfOk};
 ghost use Rattle.os_io.specs.Streams.{Counts, source_tells};
 
-use closing::Close;
-use os_io::{Failed, Link, Listener, Memory, Sink, Source, Stream};
+use os_io::{Close, Failed, Link, Listener, Memory, Sink, Source, Stream};
 use std::alloc::Global;
 use std::collections::VecDeque;
 
@@ -14,7 +13,8 @@ pub(crate) trait Client {
     fn ask(&mut self, alloc: Global, answer: &[u8]) -> Result<String, Memory>;
 }
 
-/// A link on which a client asks. It tells nothing of its bytes, and doesn't fail: without memory it ends, or an answer is lost.
+/// A link on which a client asks, until it is closed. It tells nothing of its bytes, and doesn't fail: without memory it ends, or an
+/// answer is lost.
 #[derive(Drop)]
 pub(crate) struct ClientLink<C> {
     alloc: Global,
@@ -22,18 +22,26 @@ pub(crate) struct ClientLink<C> {
     request: String,
     /// How much of the request was read.
     read: usize,
-    /// What was written since it was.
+    /// What was written since it was, and not handed on yet.
+    gathered: Vec<u8>,
+    /// What was handed on since it was.
     answer: Vec<u8>,
+    /// The conversation is over: nothing comes and nothing goes any more.
+    is_over: bool,
 }
 
 impl<C> ClientLink<C> {
-    fn new(alloc: Global, client: C) -> ClientLink<C> {
+    fn new(alloc: Global, client: C) -> ClientLink<C>
+        ensures { result.is_over ≡ false }
+    {
         ClientLink {
             alloc,
             client,
             request: String::new(alloc),
             read: 0,
+            gathered: Vec::new(alloc),
             answer: Vec::new(alloc),
+            is_over: false,
         }
     }
 }
@@ -57,6 +65,9 @@ impl<C> Stream for ClientLink<C> {
 
 impl<C: Client> Source for ClientLink<C> {
     fn read(&mut self, buf: &mut [u8]) -> Result<usize, Failed> {
+        if self.is_over {
+            return Ok(0);
+        }
         if self.read >= self.request.len() {
             self.ask();
         }
@@ -71,11 +82,15 @@ impl<C: Client> Source for ClientLink<C> {
 
 impl<C> Sink for ClientLink<C> {
     fn write(&mut self, bytes: &[u8]) -> Result<usize, Failed> {
-        let _ = self.answer.extend_from_slice(bytes);
+        if !self.is_over {
+            let _ = self.gathered.extend_from_slice(bytes);
+        }
         Ok(bytes.len())
     }
 
     fn flush(&mut self) -> Result<(), Failed> {
+        let _ = self.answer.extend_from_slice(self.gathered.as_slice());
+        self.gathered.clear();
         Ok(())
     }
 
@@ -85,7 +100,11 @@ impl<C> Sink for ClientLink<C> {
 impl<C: Client> Link for ClientLink<C> {}
 
 impl<C: Client> Close for ClientLink<C> {
-    fn close(&mut self) {}
+    ghost is_open = { λ l. l.is_over ≡ false };
+
+    fn close(&mut self) {
+        self.is_over = true;
+    }
 }
 
 /// A listener to which the links of these clients come, in their order. A call that finds no more of them fails.
@@ -115,7 +134,8 @@ impl<C: Drop> Clients<C> {
 
     /// The link of the next client.
     fn next(&mut self) -> Result<ClientLink<C>, Failed>
-        ensures { Counts result self.old.faults self.new.faults }
+        ensures fresh { IfOk result (λ l. l.is_over ≡ false) }
+        ensures counted { Counts result self.old.faults self.new.faults }
     {
         match self.coming.pop_front() {
             Some(client) => Ok(ClientLink::new(self.alloc, client)),
@@ -138,11 +158,7 @@ impl<C: Drop> Clients<C> {
 impl<C: Client + Drop> Listener for Clients<C> {
     type Conn = ClientLink<C>;
 
-    ghost coming = { λ _. None };
-
-    ghost given_back = { λ _. None };
-
-    ghost faults = { λ s. s.faults };
+    ghost tells = { λ s. record { coming = None; given_back = None; reached = None; faults = s.faults } };
 
     fn listen(&mut self, _host: &str, _port: u16) -> Result<(), Failed> {
         Ok(())

@@ -1,9 +1,9 @@
 //! Servers of clients that say in which order they were answered.
 
-use crate::clients::{Asker, Knocker, job_of, state_of};
+use crate::clients::{Asker, Knocker, Patient, job_of, state_of};
 use crate::links::Clients;
 use os_io::{MemSink, Memory};
-use serving::serve;
+use serving::{Limits, serve};
 use std::alloc::Global;
 use std::sync::Wait;
 use std::sync::atomic::AtomicBool;
@@ -23,7 +23,12 @@ pub(crate) fn serve_two_links<R: Threads + Wait + Clock + Sync>(
     clients.add(Asker::new(rt, true, &one_is_answered))?;
     clients.add(Asker::new(rt, false, &one_is_answered))?;
     let mut output = MemSink::new(alloc, ROOM, &[])?;
-    let ending = serve(rt, alloc, &mut clients, &mut output, "a", 80, 0, 2, 2);
+    let limits = Limits {
+        servers: 2,
+        connections: 2,
+        workers: 0,
+    };
+    let ending = serve(rt, alloc, &mut clients, &mut output, "a", 80, limits);
     let mut told = format!(in alloc; "two links at once: {ending:?}, the first got ")?;
     told.push_str(job_of(clients.last_answer(0)))?;
     told.push_str(", the second ")?;
@@ -41,7 +46,30 @@ pub(crate) fn knock_beside_a_worker<R: Threads + Wait + Sync>(
     let mut clients = Clients::new(alloc);
     clients.add(Knocker::new())?;
     let mut output = MemSink::new(alloc, ROOM, &[])?;
-    let ending = serve(rt, alloc, &mut clients, &mut output, "a", 80, 1, 1, 1);
+    let limits = Limits {
+        servers: 1,
+        connections: 1,
+        workers: 1,
+    };
+    let ending = serve(rt, alloc, &mut clients, &mut output, "a", 80, limits);
     let state = state_of(clients.last_answer(0));
     format!(in alloc; "a link beside a worker: {ending:?}, a knock says {state}\n")
+}
+
+/// Serves a link whose second request comes only behind the answer to the first.
+pub(crate) fn answer_before_reading_on<R: Threads + Wait + Sync>(
+    rt: &R,
+    alloc: Global,
+) -> Result<String, Memory> {
+    let mut clients = Clients::new(alloc);
+    clients.add(Patient::new())?;
+    let mut output = MemSink::new(alloc, ROOM, &[])?;
+    let limits = Limits {
+        servers: 1,
+        connections: 1,
+        workers: 0,
+    };
+    let ending = serve(rt, alloc, &mut clients, &mut output, "a", 80, limits);
+    let job = job_of(clients.last_answer(0));
+    format!(in alloc; "two requests in turn: {ending:?}, the last got {job}\n")
 }

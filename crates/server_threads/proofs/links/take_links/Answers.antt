@@ -1,18 +1,27 @@
-use Rattle.std.proofs.Common.{ap, sym, refl, arith}
-use Rattle.server_threads.specs.declared.hall.Hall.{Hall}
-use Rattle.server_threads.specs.Talks.{DeskSeat}
-use Rattle.server_threads.specs.Serving.{stand}
-use Rattle.server_threads.proofs.Rounds.{going_begins}
+use Rattle.std.proofs.Common.{ap, arith, ◌∙◌}
+use Rattle.desk.specs.declared.view.View.{View}
+use Rattle.server_threads.proofs.Rounds.{going_more}
 use Rattle.server_threads.proofs.links.take_links.Goals as goal
 
-pub loop-turn-init : goal.loop-turn-init
-loop-turn-init g c =
-    let was = c.requires.was in record {
-      seat = c.requires.seat;
-      going = going_begins _ _ _ _ _ _ _ _ (ap (λ (h : Hall (DeskSeat g.row.J.Denot) g.row.D.Denot). stand g.N.Listener.coming g.N.Listener.given_back h.seat (g.D.Door.net h.door)) was) c.requires.first c.requires.fresh c.requires.none;
-      given = let same = ap (λ (h : Hall (DeskSeat g.row.J.Denot) g.row.D.Denot). h.seat.me.0.given) was in omega arith;
-      within = let none = c.requires.empty in omega arith;
-      room = c.requires.room;
-      faults = ap (λ (h : Hall (DeskSeat g.row.J.Denot) g.row.D.Denot). g.N.Listener.faults (g.D.Door.net h.door)) (sym was);
-      loan = refl;
+pub loop-turn-preserved : goal.loop-turn-preserved
+loop-turn-preserved g c =
+    let before = c.loop-turn.invariant in
+    let way = c.make_way.ensures in
+    let a = c.in_ok-link.ensures in
+    let s = c.split-theirs.ensures in
+    let p = c.begin-place.ensures in
+    let q = c.push_back_reserved.ensures in
+    let long = c.make_way.new.running.places.ok.0 in
+    let more = ap (λ (v : View). v.given) s.seat.1 in
+    let given = before.given in
+    let same = way.given in record {
+      goes = record {
+        seat_is = s.seat.0;
+        few = let below = c.loop-turn-test.true in omega arith;
+        going = going_more _ _ _ _ _ _ _ _ _ _ _ c.begin-place.result c.in_ok-link.link c.split-theirs.result way.goes.going (omega (arith, way.below, long)) a.came a.given_back a.reached s.seat.1 s.new.0 s.new.1 p.seat p.link p.due q.items;
+      };
+      given = omega arith;
+      within = omega (arith, q.len, way.below);
+      room = omega (arith, q.capacity, way.room, before.room);
+      faults = a.counted ∙ (way.faults ∙ before.faults);
     }

@@ -1,5 +1,6 @@
 use Rattle.std.proofs.Common.{arith}
-use Rattle.server_threads.proofs.Rounds.{staffed_over}
+use Rattle.desk.proofs.Histories.{starts_again}
+use Rattle.server_threads.proofs.Rounds.{staffed_over, starts_through}
 use Rattle.server_threads.proofs.staff.relieve.Goals as goal
 
 pub returns-clause-left : goal.returns-clause-left
@@ -15,4 +16,13 @@ loop-first-preserved g c =
       seat = one.seat;
       some = (before.some.0, one.staffed before.some.0 before.some.1);
       all = λ met s. one.staffed met (before.all met s);
+      seen = starts_through _ _ _ before.seen one.seen;
     }
+
+pub loop-first-init : goal.loop-first-init
+loop-first-init g c = record {
+  seat = c.requires.seat;
+  some = c.requires.staffed;
+  all = λ met s. s;
+  seen = starts_again _;
+}

@@ -9,5 +9,5 @@ invariant-loop-turn g l = record {
   seat : IsSeatOf (desk_id l.means.desk.now) l.first;
   hired : Hired g.J.Verdicts.right g.S.Runner.ran (desk_id l.means.desk.now) l.fn.first.me.0 l.first.me.0 l.turn l.shifts.items;
   long : deque_len l.shifts ≡ l.turn;
-  room : l.workers ≤ deque_capacity l.shifts;
+  room : l.means.limits.workers ≤ deque_capacity l.shifts;
 }

@@ -1,0 +1,52 @@
+//! A link that is served while it is open.
+
+ghost use Rattle.std.specs.Prelude.{◌≡◌};
+
+use os_io::{Close, Failed, Link, Sink, Source, Stream};
+
+/// A link that was open when it came here. Whoever has it can't close it, and a link that was closed doesn't come here.
+#[derive(Drop)]
+pub(crate) struct OpenLink<L> {
+    link: L,
+}
+
+impl<L: Close> OpenLink<L> {
+    /// This link, which is open.
+    pub(crate) fn new(link: L) -> OpenLink<L>
+        requires { L.is_open link }
+        ensures { ⟦<OpenLink<L> as Stream>⟧.tells result ≡ L.tells link }
+    {
+        OpenLink { link }
+    }
+
+    /// The link itself, which may be closed.
+    pub(crate) fn into_link(self) -> L
+        ensures { L.tells result ≡ ⟦<OpenLink<L> as Stream>⟧.tells self }
+    {
+        self.link
+    }
+}
+
+impl<L: Close> Stream for OpenLink<L> {
+    ghost tells = { λ o. L.tells o.link };
+}
+
+impl<L: Close> Source for OpenLink<L> {
+    fn read(&mut self, buf: &mut [u8]) -> Result<usize, Failed> {
+        self.link.read(buf)
+    }
+}
+
+impl<L: Close> Sink for OpenLink<L> {
+    fn write(&mut self, bytes: &[u8]) -> Result<usize, Failed> {
+        self.link.write(bytes)
+    }
+
+    fn flush(&mut self) -> Result<(), Failed> {
+        self.link.flush()
+    }
+
+    ghost handed_on_is_written = { λ o. L.handed_on_is_written o.link };
+}
+
+impl<L: Close> Link for OpenLink<L> {}
