@@ -5,7 +5,7 @@ use Rattle.job_table.specs.History.{Entry}
 use Rattle.os_server.specs.declared.serve.Served.{Served}
 use Rattle.os_server.specs.Talk.{Serves}
 use Rattle.os_server.proofs.Rounds.{serves_so}
-use Rattle.sessions.specs.Runs.{Makes}
+use Rattle.job_solver.specs.Runs.{Makes}
 use Rattle.serving.specs.Serving.{lacks_memory, Converses}
 
 pub converses : (did : List Entry → Type 0) (end : Served) (came back : Tells) (short : Bool) → short ≡ lacks_memory end → Serves Makes did end came back

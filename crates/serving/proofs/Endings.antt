@@ -1,83 +1,96 @@
--- How serving ends, by what its parts answered.
-use Rattle.std.proofs.Common.{◌≡◌, ℕ, ◌<◌, nat_eq, eqb-true, Bool, true, false, List, Result, Ok, Err, refl, sym, ◌∙◌, ap, subst, arith}
+-- How a server ends, by what its parts answered.
+use Rattle.std.proofs.Common.{◌≡◌, ℕ, ◌<◌, nat_eq, eqb-true, Bool, true, false, List, Result, Ok, Err, refl, sym, ◌∙◌, subst, arith}
 use Rattle.os_io.specs.Streams.{Tells, HasRisen}
+use Rattle.os_io.specs.Links.{NetTells, ListenedAt, IsReached, SameLinks}
 use Rattle.desk.specs.declared.view.Entry.{Entry}
 use Rattle.desk.specs.History.{calls}
-use Rattle.server_threads.specs.declared.hall.ServeFault.{ServeFault}
-use Rattle.server_threads.specs.declared.hall.ServeFault.TheVariants.{Failed, Memory}
+use Rattle.server_threads.specs.declared.means.ServeFault.{ServeFault}
+use Rattle.server_threads.specs.declared.means.ServeFault.TheVariants.{Failed, Memory}
 use Rattle.server_threads.specs.Talks.{Talk, short_of}
 use Rattle.server_threads.specs.Serving as threads
 use Rattle.serving.specs.declared.ending.Ending.{Ending}
 use Rattle.serving.specs.declared.ending.Ending.TheVariants.{ListenFault, AnnounceFault, NoMemory, ReportFault}
 use Rattle.serving.specs.Lines.{listening, jobs_line}
-use Rattle.command_answers.specs.Net.{NetTells}
 use Rattle.command_answers.specs.Sent.{IsSent, BreaksOff}
-use Rattle.serving.specs.Serving.{Hosts, numbers_given, Ends, done_if, ending_of, IsServed}
+use Rattle.serving.specs.Serving.{Hosts, numbers_given, ServerEnds, done_if, ending_of, IsServerRun}
 use Rattle.serving.proofs.Hosting.{hosts_none, hosts_so}
-
-false_is_not : false ≡ true → ⊥
-false_is_not e = cc
 
 some_short : (k n : ℕ) → nat_eq k 0 ≡ false → k ≡ n → 0 < n
 some_short k n other is = grind (arith, other, is)
 
--- no link came: the listener doesn't listen
-pub unheard : (workers connections : ℕ) (old new : NetTells) (output : Tells) → new.coming ≡ old.coming → new.given_back ≡ old.given_back → HasRisen old.faults new.faults
-    → IsServed ListenFault workers connections old new output output
-unheard workers connections old new output coming back risen =
-    hosts_none (λ links log. Ends connections links log old new output output ListenFault) workers old new coming back (refl, risen, refl)
+module _ (host : List ℕ) (port workers servers connections : ℕ) where
+  abbrev Run : Ending → (old new : NetTells) → (output output' : Tells) → Type 0
+  Run how old new output output' = IsServerRun how host port workers servers connections old new output output'
 
--- or the first line wasn't written whole
-pub unsaid : (workers connections : ℕ) (old new : NetTells) (output output' : Tells) → new.coming ≡ old.coming → new.given_back ≡ old.given_back → new.faults ≡ old.faults
-    → BreaksOff listening output output' → IsServed AnnounceFault workers connections old new output output'
-unsaid workers connections old new output output' coming back faults breaks =
-    hosts_none (λ links log. Ends connections links log old new output output' AnnounceFault) workers old new coming back (refl, faults, breaks)
+  -- no link came: the listener doesn't listen
+  pub unheard : (old new : NetTells) (output : Tells) → new.reached ≡ old.reached → SameLinks old new → HasRisen old.faults new.faults → Run ListenFault old new output output
+  unheard old new output reached same risen = record { listened = reached; hosts = hosts_none _ workers servers old new same (refl, risen, refl) }
 
--- or there was no memory for a desk
-pub unopened : (workers connections : ℕ) (old new : NetTells) (output output' : Tells) → new.coming ≡ old.coming → new.given_back ≡ old.given_back → new.faults ≡ old.faults
-    → IsSent listening output output' → IsServed NoMemory workers connections old new output output'
-unopened workers connections old new output output' coming back faults listens =
-    hosts_none (λ links log. Ends connections links log old new output output' NoMemory) workers old new coming back (refl, faults, listens)
+  -- the listener listens
+  module _ (first old : NetTells) (reached : IsReached first.reached old.reached (ListenedAt host port)) (same : SameLinks first old) (counted : old.faults ≡ first.faults)
+      (output said : Tells) where
+    -- no link came: the first line wasn't written whole
+    pub unsaid : BreaksOff listening output said → Run AnnounceFault first old output said
+    unsaid breaks = record { listened = reached; hosts = hosts_none _ workers servers first old same (refl, counted, breaks) }
 
-module _ (workers connections : ℕ) (first old new : NetTells) (same : old ≡ first) (output said : Tells) (listens : IsSent listening output said) where
-  -- what serving a desk's links answered
-  abbrev Answered : ℕ → Result ℕ ServeFault → Type 0
-  Answered given served = Hosts (λ links log. (given ≡ numbers_given (calls log)) × threads.Ends served connections links old.faults new.faults) workers old new
+    -- or there was no memory for a desk
+    pub unopened : IsSent listening output said → Run NoMemory first old output said
+    unopened listens = record { listened = reached; hosts = hosts_none _ workers servers first old same (refl, counted, listens) }
 
-  stayed : new.faults ≡ old.faults → new.faults ≡ first.faults
-  stayed is = is ∙ ap (λ (n : NetTells). n.faults) same
+    -- what serving a desk's links answered
+    module _ (listens : IsSent listening output said) (new : NetTells) (stayed : new.reached ≡ old.reached) where
+      abbrev Answered : ℕ → Result ℕ ServeFault → Type 0
+      Answered given served =
+          Hosts (λ links log. (given ≡ numbers_given (calls log)) × threads.Ends served connections links old.faults new.faults) workers servers old new
 
-  risen : HasRisen old.faults new.faults → HasRisen first.faults new.faults
-  risen is = subst (λ (n : NetTells). HasRisen n.faults new.faults) same is
+      still : IsReached first.reached new.reached (ListenedAt host port)
+      still = subst (λ r. IsReached first.reached r (ListenedAt host port)) (sym stayed) reached
 
-  told_so : (k given : ℕ) (output' : Tells) (none : Bool) → nat_eq k 0 ≡ none → IsSent (jobs_line given) said output' → (links : List Talk) (log : List Entry)
-      → (given ≡ numbers_given (calls log)) × threads.Ends (Ok k) connections links old.faults new.faults → Ends connections links log first new output output' (done_if none)
-  told_so k given output' true is tells links log (count, ends) =
-      ((ends.1, stayed ends.2), sym ends.0 ∙ eqb-true k 0 is, (said, listens, subst (λ (n : ℕ). IsSent (jobs_line n) said output') count tells))
-  told_so k given output' false is tells links log (count, ends) =
-      ((ends.1, stayed ends.2), some_short k (short_of links) is ends.0, (said, listens, subst (λ (n : ℕ). IsSent (jobs_line n) said output') count tells))
+      risen : HasRisen old.faults new.faults → HasRisen first.faults new.faults
+      risen is = subst (λ (n : ℕ). HasRisen n new.faults) counted is
 
-  -- all links came, and the last line was written
-  pub all_told : (how : Ending) (served : Result ℕ ServeFault) (k given : ℕ) (output' : Tells) → how ≡ done_if (nat_eq k 0) → served ≡ Ok k → IsSent (jobs_line given) said output'
-      → Answered given served → IsServed how workers connections first new output output'
-  all_told how served k given output' is answers tells h =
-      subst (λ (e : Ending). IsServed e workers connections first new output output') (sym is)
-      (hosts_so _ _ workers first old new same (told_so k given output' (nat_eq k 0) refl tells) (subst (λ (r : Result ℕ ServeFault). Answered given r) answers h))
+      told_so : (k given : ℕ) (output' : Tells) (none : Bool) → nat_eq k 0 ≡ none → IsSent (jobs_line given) said output' → Answered given (Ok k)
+          → Run (done_if none) first new output output'
+      told_so k given output' true is tells h = record {
+        listened = still;
+        hosts = hosts_so _ _ workers servers first old new same
+            (λ links log e. ((e.1.1, e.1.2 ∙ counted), sym e.1.0 ∙ eqb-true k 0 is, (said, listens, subst (λ (n : ℕ). IsSent (jobs_line n) said output') e.0 tells))) h;
+      }
+      told_so k given output' false is tells h = record {
+        listened = still;
+        hosts = hosts_so _ _ workers servers first old new same
+            (λ links log e. ((e.1.1, e.1.2 ∙ counted), some_short k (short_of links) is e.1.0, (said, listens, subst (λ (n : ℕ). IsSent (jobs_line n) said output') e.0 tells))) h;
+      }
 
-  -- or it wasn't
-  pub unreported : (served : Result ℕ ServeFault) (k given : ℕ) (output' : Tells) → served ≡ Ok k → BreaksOff (jobs_line given) said output' → Answered given served
-      → IsServed ReportFault workers connections first new output output'
-  unreported served k given output' answers breaks h = hosts_so _ _ workers first old new same
-      (λ links log e. ((e.1.1, stayed e.1.2), (said, listens, subst (λ (n : ℕ). BreaksOff (jobs_line n) said output') e.0 breaks)))
-      (subst (λ (r : Result ℕ ServeFault). Answered given r) answers h)
+      -- all links came, and the last line was written
+      pub all_told : (how : Ending) (served : Result ℕ ServeFault) (k given : ℕ) (output' : Tells) → how ≡ done_if (nat_eq k 0) → served ≡ Ok k → IsSent (jobs_line given) said output'
+          → Answered given served → Run how first new output output'
+      all_told how served k given output' is answers tells h =
+          subst (λ (e : Ending). Run e first new output output') (sym is)
+          (told_so k given output' (nat_eq k 0) refl tells (subst (λ (r : Result ℕ ServeFault). Answered given r) answers h))
 
-  -- it was broken off: the listener took no further link, or there was no memory
-  broken_so : (fault : ServeFault) (given : ℕ) → Answered given (Err fault) → IsServed (ending_of fault) workers connections first new output said
-  broken_so Failed given h = hosts_so _ _ workers first old new same (λ links log e. (e.1.0, risen e.1.1, listens)) h
-  broken_so Memory given h = hosts_so _ _ workers first old new same (λ links log e. (e.1.0, stayed e.1.1, listens)) h
+      -- or it wasn't
+      pub unreported : (served : Result ℕ ServeFault) (k given : ℕ) (output' : Tells) → served ≡ Ok k → BreaksOff (jobs_line given) said output' → Answered given served
+          → Run ReportFault first new output output'
+      unreported served k given output' answers breaks h = record {
+        listened = still;
+        hosts = hosts_so _ _ workers servers first old new same
+            (λ links log e. ((e.1.1, e.1.2 ∙ counted), (said, listens, subst (λ (n : ℕ). BreaksOff (jobs_line n) said output') e.0 breaks)))
+            (subst (λ (r : Result ℕ ServeFault). Answered given r) answers h);
+      }
 
-  pub broken_off : (how : Ending) (served : Result ℕ ServeFault) (fault : ServeFault) (given : ℕ) → how ≡ ending_of fault → served ≡ Err fault → Answered given served
-      → IsServed how workers connections first new output said
-  broken_off how served fault given is answers h =
-      subst (λ (e : Ending). IsServed e workers connections first new output said) (sym is)
-      (broken_so fault given (subst (λ (r : Result ℕ ServeFault). Answered given r) answers h))
+      -- it was broken off: the listener took no further link, or there was no memory
+      broken_so : (fault : ServeFault) (given : ℕ) → Answered given (Err fault) → Run (ending_of fault) first new output said
+      broken_so Failed given h = record {
+        listened = still;
+        hosts = hosts_so _ _ workers servers first old new same (λ links log e. (e.1.0, risen e.1.1, listens)) h;
+      }
+      broken_so Memory given h = record {
+        listened = still;
+        hosts = hosts_so _ _ workers servers first old new same (λ links log e. (e.1.0, e.1.1 ∙ counted, listens)) h;
+      }
+
+      pub broken_off : (how : Ending) (served : Result ℕ ServeFault) (fault : ServeFault) (given : ℕ) → how ≡ ending_of fault → served ≡ Err fault → Answered given served
+          → Run how first new output said
+      broken_off how served fault given is answers h =
+          subst (λ (e : Ending). Run e first new output said) (sym is) (broken_so fault given (subst (λ (r : Result ℕ ServeFault). Answered given r) answers h))

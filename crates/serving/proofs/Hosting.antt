@@ -5,27 +5,33 @@ use Rattle.std.proofs.Common.{◌≡◌, ◌≢◌, ℕ, zero, suc, ◌+◌, eqb
 use Rattle.std.specs.Prelude.{◌⊎◌, All}
 use Rattle.std.proofs.lemmas.List.Elements.{All-nil, All-cons, All-append, All-head, All-tail}
 use Rattle.os_io.specs.Streams.{Tells}
+use Rattle.os_io.specs.Links.{NetTells, SameLinks}
 use Rattle.job_table.specs.declared.calls.Call.TheVariants.{Retrieve}
 use Rattle.job_table.specs.declared.calls.Retrieved.TheVariants as shown
 use Rattle.job_table.specs.declared.calls.Reply.TheVariants as reply
-use Rattle.job_table.specs.Jobs.{Register, empty}
-use Rattle.job_table.specs.History.{Entry as Said, entry}
+use Rattle.job_table.specs.Jobs.{Register, empty, waiting_jobs}
+use Rattle.job_table.specs.History.{Entry as Said, entry, Runs}
 use Rattle.job_table.specs.Laws.{FirstFinishIsKept, NumbersAreGivenOnce}
 use Rattle.job_runs.specs.Laws.{IsKept}
 use Rattle.desk.specs.declared.view.Entry.{Entry}
 use Rattle.desk.specs.declared.view.Met.{Met}
 use Rattle.desk.specs.declared.view.View.{View}
 use Rattle.desk.specs.History.{LeadsTo, calls, calls_by, by}
-use Rattle.desk.specs.Rule.{first_view}
+use Rattle.desk.specs.Rule.{first_view, HasMet}
 use Rattle.desk.specs.Asks.{Closes}
+use Rattle.desk.specs.Asked.{Asked}
+use Rattle.desk.proofs.Histories.{starts_grown}
+use Rattle.desk.proofs.WholeHistory.{calls_by_one, calls_then, whole_history}
+use Rattle.job_runs.proofs.Histories.{runs_split}
+use Rattle.workers.specs.Shifts.{WorksThrough}
+use Rattle.workers.proofs.Shifts.{shift_leaves_none}
 use Rattle.server_threads.specs.Talks.{Talk, Shift, talk_met, shift_met, Came, GivenBack, AllTalked, IsShift, AllWorked}
 use Rattle.server_threads.specs.Serving as threads
+use Rattle.server_threads.specs.Serving.{AtOnce}
 use Rattle.solve_run.specs.Right.{Right}
-use Rattle.sessions.specs.Runs.{Makes}
-use Rattle.sessions.specs.Sessions.{ShownAreProved}
-use Rattle.sessions.proofs.Alone.{calls_by_one}
+use Rattle.job_solver.specs.Runs.{Makes}
+use Rattle.job_solver.specs.Proved.{ShownAreProved}
 use Rattle.os_server.proofs.Pieces.{talk_so}
-use Rattle.command_answers.specs.Net.{NetTells}
 use Rattle.serving.specs.Serving.{Converses, callers, IsHistory, Hosts, numbers_given}
 use Rattle.serving.proofs.Hands.{IsOrderly}
 use Rattle.serving.proofs.Beside.{kept_beside}
@@ -86,17 +92,42 @@ shifts_orderly n [] all = All-nil IsOrderlyMet
 shifts_orderly n (s ∷ ss) all =
     All-cons IsOrderlyMet (shift_met s) (map shift_met ss) (neat_met s.seat s.said (shift_so s.said all.1)) (shifts_orderly (n + 1) ss all.2)
 
+-- ---- one caller more, behind the first ones
+
+module _ {A : Type 0} (P : A → Type 0) (x : A) where
+  all_with : (xs ys : List A) → P x → All P (xs ++ ys) → All P (xs ++ x ∷ ys)
+  all_with [] ys p all = All-cons P x ys p all
+  all_with (y ∷ xs) ys p all = All-cons P y (xs ++ x ∷ ys) (All-head P y (xs ++ ys) all) (all_with xs ys p (All-tail P y (xs ++ ys) all))
+
+  all_without : (xs ys : List A) → All P (xs ++ x ∷ ys) → P x × All P (xs ++ ys)
+  all_without [] ys all = (All-head P x ys all, All-tail P x ys all)
+  all_without (y ∷ xs) ys all =
+      let (p, rest) = all_without xs ys (All-tail P y (xs ++ x ∷ ys) all) in
+      (p, All-cons P y (xs ++ ys) (All-head P y (xs ++ x ∷ ys) all) rest)
+
 -- ---- the history
 
+-- what the desk's first seat knows, and what the listener tells
+abbrev stood : View → NetTells → threads.Stand
+stood v net = record { view = v; coming = net.coming; given_back = net.given_back; reached = net.reached }
+
+-- what came behind other calls still does in a longer history
+at_once_grown : (servers : ℕ) (log more : List Entry) (talks : List Talk) → AtOnce servers log talks → AtOnce servers (log ++ more) talks
+at_once_grown servers log more talks at j t there =
+    let (seen, opens) = at j t there in
+    (seen, record { begins = starts_grown log seen more opens.begins; none = opens.none; earlier = opens.earlier })
+
 module _ (first : FirstFinishIsKept Right) (numbers : NumbersAreGivenOnce Right) (shown_proved : ShownAreProved) where
-  history_of : (links : List Talk) (staff : List Shift) (log : List Entry) (table : Register) → LeadsTo Right log table → AllWorked Makes 1 staff
-      → AllTalked Converses (1 + length staff) links → All (λ m. calls_by m.seat log ≡ m.calls) (callers links staff)
-      → ((n : ℕ) → All (λ m. m.seat ≢ n) (callers links staff) → calls_by n log ≡ []) → IsHistory links staff log
-  history_of links staff log table leads worked talked made no_others =
-      let found : (n : ℕ) → Sits (λ m. calls_by m.seat log ≡ m.calls) IsOrderlyMet n (callers links staff) → IsOrderly None (calls (calls_by n log)) =
+  history_of : (servers : ℕ) (links : List Talk) (staff : List Shift) (closer : Shift) (log : List Entry) (table : Register) → LeadsTo Right log table
+      → AllWorked Makes 0 (closer ∷ staff) → AllTalked Converses (1 + length staff) links → All (λ m. calls_by m.seat log ≡ m.calls) (callers links (closer ∷ staff))
+      → ((n : ℕ) → All (λ m. m.seat ≢ n) (callers links (closer ∷ staff)) → calls_by n log ≡ []) → AtOnce servers log links → waiting_jobs table.jobs ≡ 0
+      → IsHistory servers links staff closer log
+  history_of servers links staff closer log table leads worked talked made no_others at_once none_waits =
+      let found : (n : ℕ) → Sits (λ m. calls_by m.seat log ≡ m.calls) IsOrderlyMet n (callers links (closer ∷ staff)) → IsOrderly None (calls (calls_by n log)) =
       λ n sat. ⊎_elim (λ m. subst (λ (k : ℕ). IsOrderly None (calls (calls_by k log))) m.3 (subst (λ (es : List Entry). IsOrderly None (calls es)) (sym m.1) m.2))
       (λ none. subst (λ (es : List Entry). IsOrderly None (calls es)) (sym (no_others n none)) tt) sat in
-      let orderly = All-append IsOrderlyMet (map talk_met links) (map shift_met staff) (talks_orderly (1 + length staff) links talked) (shifts_orderly 1 staff worked) in
+      let orderly = All-append IsOrderlyMet (map talk_met links) (map shift_met (closer ∷ staff)) (talks_orderly (1 + length staff) links talked)
+      (shifts_orderly 0 (closer ∷ staff) worked) in
       record {
         table = table;
         runs = leads;
@@ -104,36 +135,47 @@ module _ (first : FirstFinishIsKept Right) (numbers : NumbersAreGivenOnce Right)
         talked = talked;
         made = made;
         no_others = no_others;
+        at_once = at_once;
         kept = kept_beside Right numbers first log table leads
-            (λ n. found n (sits (λ m. calls_by m.seat log ≡ m.calls) IsOrderlyMet n (callers links staff) made orderly));
+            (λ n. found n (sits (λ m. calls_by m.seat log ≡ m.calls) IsOrderlyMet n (callers links (closer ∷ staff)) made orderly));
         proved = shown_proved (calls log) table leads;
+        none_waits = none_waits;
       }
 
-  -- links that were served by calls of a new desk, which was closed behind them
-  pub hosts_of : (E : List Talk → List Entry → Type 0) (workers : ℕ) (old new : threads.Stand) (faults faults' : ℕ) (links : List Talk) (table : Register)
-      → (s : threads.Serves Makes Converses workers old new links) → old.view ≡ first_view → (c : Closes Right new.view table) → E links c.log
-      → Hosts E workers (record { coming = old.coming; given_back = old.given_back; faults = faults }) (record { coming = new.coming; given_back = new.given_back; faults = faults' })
-  hosts_of E workers old new faults faults' links table s fresh c ends =
-      let met : new.view.met ≡ callers links s.shifts = s.met ∙ ap (λ (v : View). v.met ++ callers links s.shifts) fresh in
-      let given : old.view.given ≡ 1 = ap (λ (v : View). v.given) fresh in
-      let nobody : calls_by 0 c.log ≡ [] = c.mine ∙ s.mine ∙ ap (λ (v : View). v.mine) fresh in
-      let not_first : (n : ℕ) (is : Bool) → eqb n 0 ≡ is → All (λ m. m.seat ≢ n) (callers links s.shifts) → calls_by n c.log ≡ [] = λ n is. elim is as (λ (b : Bool). eqb n 0 ≡ b → All (λ m. m.seat ≢ n) (callers links s.shifts) → calls_by n c.log ≡ []) [
-        | true ↦ (λ same none. ap (λ (k : ℕ). calls_by k c.log) (eqb-true n 0 same) ∙ nobody)
-        | false ↦ (λ other none. c.no_others n (λ same. false_is_not (sym other ∙ eq-eqb n 0 same))
-            (place_of_all (λ m. m.seat ≢ n) new.view.met (subst (λ (ms : List Met). All (λ m. m.seat ≢ n) ms) (sym met) none)))
-      ] in
+  -- links that were served by calls of a new desk, whose first seat worked off what waited then and closed it
+  pub hosts_of : (E : List Talk → List Entry → Type 0) (workers servers : ℕ) (old new : NetTells) (v w last : View) (links : List Talk) (own : List Said)
+      (table : Register) → (s : threads.Serves Makes Converses servers workers (stood v old) (stood w new) links) → v ≡ first_view → calls_by w.number w.seen ≡ w.mine
+      → HasMet w.seen w.met → (asked : Asked Right w last own) → WorksThrough Makes own → (c : Closes Right last table) → E links c.log
+      → Hosts E workers servers old new
+  hosts_of E workers servers old new v w last links own table s fresh stand known asked works c ends =
+      let closer : Shift = record { seat = 0; said = own } in
+      let talks = map talk_met links in
+      let shifts = map shift_met s.shifts in
+      let number : w.number ≡ 0 = s.number ∙ ap (λ (x : View). x.number) fresh in
+      let met : last.met ≡ callers links s.shifts = asked.stays.met ∙ s.met ∙ ap (λ (x : View). x.met ++ callers links s.shifts) fresh in
+      let given : v.given ≡ 1 = ap (λ (x : View). x.given) fresh in
+      let before : w.mine ≡ [] = s.mine ∙ ap (λ (x : View). x.mine) fresh in
+      let mine : calls_by 0 c.log ≡ by 0 own = c.mine ∙ asked.mine ∙ ap (λ (es : List Entry). es ++ by w.number own) before ∙ ap (λ (n : ℕ). by n own) number in
+      let whole : c.log ≡ w.seen ++ by 0 own = whole_history Right w last own asked number stand known table c in
+      let all : calls c.log ≡ calls w.seen ++ own = ap calls whole ∙ calls_then w.seen 0 own in
+      let (mid, earlier, shift) = runs_split Right empty table (calls w.seen) own (subst (λ (es : List Said). Runs Right empty es table) all c.leads) in
       record {
         links = links;
         staff = s.shifts;
+        closer = closer;
         log = c.log;
         few = s.staff;
         came = s.came;
         back = s.back;
-        history = history_of links s.shifts c.log table c.leads
-            (subst (λ (n : ℕ). AllWorked Makes n s.shifts) given s.worked)
+        history = history_of servers links s.shifts closer c.log table c.leads
+            (refl, inr works, subst (λ (n : ℕ). AllWorked Makes n s.shifts) given s.worked)
             (subst (λ (n : ℕ). AllTalked Converses (n + length s.shifts) links) given s.all_talked)
-            (subst (λ (ms : List Met). All (λ m. calls_by m.seat c.log ≡ m.calls) ms) met (all_by_place (λ m. calls_by m.seat c.log ≡ m.calls) new.view.met c.met))
-            (λ n. not_first n (eqb n 0) refl);
+            (all_with (λ m. calls_by m.seat c.log ≡ m.calls) (shift_met closer) talks shifts mine
+            (subst (λ (ms : List Met). All (λ m. calls_by m.seat c.log ≡ m.calls) ms) met (all_by_place (λ m. calls_by m.seat c.log ≡ m.calls) last.met c.met)))
+            (λ n none. let (other, rest) = all_without (λ m. m.seat ≢ n) (shift_met closer) talks shifts none in
+            c.no_others n (λ same. other (sym same)) (place_of_all (λ m. m.seat ≢ n) last.met (subst (λ (ms : List Met). All (λ m. m.seat ≢ n) ms) (sym met) rest)))
+            (subst (λ (es : List Entry). AtOnce servers es links) (sym whole) (at_once_grown servers w.seen (by 0 own) links s.at_once))
+            (shift_leaves_none Makes Right mid table own works shift);
         ends = ends;
       }
 
@@ -147,16 +189,22 @@ not_nil : (before after : List Said) (e : Said) → [] ≡ before ++ e ∷ after
 not_nil [] after e is = cc
 not_nil (x ∷ before) after e is = cc
 
-no_history : IsHistory [] [] []
-no_history = record {
+no_closer : Shift
+no_closer = record { seat = 0; said = [] }
+
+no_history : (servers : ℕ) → IsHistory servers [] [] no_closer []
+unfolding no_closer
+no_history servers = record {
   table = empty;
   runs = refl;
-  worked = tt;
+  worked = (refl, inl refl, tt);
   talked = tt;
-  made = All-nil (λ m. calls_by m.seat [] ≡ m.calls);
+  made = All-cons (λ m. calls_by m.seat [] ≡ m.calls) (shift_met no_closer) [] refl (All-nil (λ m. calls_by m.seat [] ≡ m.calls));
   no_others = λ n none. refl;
+  at_once = λ j t there. absurd (some-ne-none t (sym there));
   kept = All-nil IsKept;
   proved = λ n document before after are. absurd (not_nil before after (entry (Retrieve n) (reply.Retrieved (shown.Finished (Some document)))) are);
+  none_waits = refl;
 }
 
 none_come : (links : Option (List Tells)) → Came links links []
@@ -168,28 +216,30 @@ none_back None = tt
 none_back (Some links) = sym (append-nil links)
 
 -- nothing came and nothing was given back
-pub hosts_none : (E : List Talk → List Entry → Type 0) (workers : ℕ) (old new : NetTells) → new.coming ≡ old.coming → new.given_back ≡ old.given_back → E [] [] → Hosts E workers old new
-hosts_none E workers old new coming given_back ends = record {
+pub hosts_none : (E : List Talk → List Entry → Type 0) (workers servers : ℕ) (old new : NetTells) → SameLinks old new → E [] [] → Hosts E workers servers old new
+hosts_none E workers servers old new same ends = record {
   links = [];
   staff = [];
+  closer = no_closer;
   log = [];
   few = omega arith;
-  came = subst (λ (l : Option (List Tells)). Came old.coming l []) (sym coming) (none_come old.coming);
-  back = subst (λ (l : Option (List Tells)). GivenBack old.given_back l []) (sym given_back) (none_back old.given_back);
-  history = no_history;
+  came = subst (λ (l : Option (List Tells)). Came old.coming l []) (sym same.coming) (none_come old.coming);
+  back = subst (λ (l : Option (List Tells)). GivenBack old.given_back l []) (sym same.given_back) (none_back old.given_back);
+  history = no_history servers;
   ends = ends;
 }
 
--- what else holds of the links and the history may be said otherwise, and the listener may have told the same before
-pub hosts_so : (E F : List Talk → List Entry → Type 0) (workers : ℕ) (first old new : NetTells) → old ≡ first → ((links : List Talk) (log : List Entry) → E links log → F links log) → Hosts E workers old new
-    → Hosts F workers first new
-hosts_so E F workers first old new same so h = subst (λ (n : NetTells). Hosts F workers n new) same (record {
+-- what else holds of the links and the history may be said otherwise, and the listener may have told the same links before
+pub hosts_so : (E F : List Talk → List Entry → Type 0) (workers servers : ℕ) (first old new : NetTells) → SameLinks first old
+    → ((links : List Talk) (log : List Entry) → E links log → F links log) → Hosts E workers servers old new → Hosts F workers servers first new
+hosts_so E F workers servers first old new same so h = record {
   links = h.links;
   staff = h.staff;
+  closer = h.closer;
   log = h.log;
   few = h.few;
-  came = h.came;
-  back = h.back;
+  came = subst (λ (l : Option (List Tells)). Came l new.coming (map (λ t. t.came) h.links)) same.coming h.came;
+  back = subst (λ (l : Option (List Tells)). GivenBack l new.given_back (map (λ t. t.back) h.links)) same.given_back h.back;
   history = h.history;
   ends = so h.links h.log h.ends;
-})
+}

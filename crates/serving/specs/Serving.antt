@@ -1,26 +1,27 @@
 -- A server, from `listen` on: the links that came, the one history of the calls of the table of jobs, and the lines that were written.
-use Rattle.std.specs.Prelude.{◌≡◌, ◌≢◌, ℕ, ◌+◌, ◌<◌, ◌≤◌, Bool, true, false, List, [], ◌++◌, length, map, count_by, All, Some}
+use Rattle.std.specs.Prelude.{◌≡◌, ◌≢◌, ℕ, ◌+◌, ◌<◌, ◌≤◌, Bool, true, false, List, [], ◌∷◌, ◌++◌, length, map, count_by, All, Some}
 use Rattle.os_io.specs.Streams.{Tells, HasRisen}
+use Rattle.os_io.specs.Links.{NetTells, ListenedAt, IsReached}
 use Rattle.job_table.specs.declared.calls.Call.{Call}
 use Rattle.job_table.specs.declared.calls.Call.TheVariants.{Issue, Enter}
 use Rattle.job_table.specs.declared.calls.Reply.{Reply}
 use Rattle.job_table.specs.declared.calls.Reply.TheVariants.{Issued, Gave}
-use Rattle.job_table.specs.Jobs.{Register}
+use Rattle.job_table.specs.Jobs.{Register, waiting_jobs}
 use Rattle.job_table.specs.History.{Entry as Said}
 use Rattle.job_runs.specs.Laws.{AreKept}
 use Rattle.desk.specs.declared.view.Entry.{Entry}
 use Rattle.desk.specs.declared.view.Met.{Met}
 use Rattle.desk.specs.History.{LeadsTo, calls, calls_by}
-use Rattle.server_threads.specs.declared.hall.ServeFault.{ServeFault}
-use Rattle.server_threads.specs.declared.hall.ServeFault.TheVariants.{Failed, Memory}
+use Rattle.server_threads.specs.declared.means.ServeFault.{ServeFault}
+use Rattle.server_threads.specs.declared.means.ServeFault.TheVariants.{Failed, Memory}
 use Rattle.server_threads.specs.Talks.{Talk, Shift, talk_met, shift_met, short_of, Came, GivenBack, AllTalked, AllWorked}
+use Rattle.server_threads.specs.Serving.{AtOnce}
 use Rattle.os_server.specs.declared.serve.Served.{Served}
 use Rattle.os_server.specs.declared.serve.Served.TheVariants as served
 use Rattle.os_server.specs.Talk.{Serves}
 use Rattle.solve_run.specs.Right.{Right}
-use Rattle.sessions.specs.Runs.{Makes}
-use Rattle.sessions.specs.Sessions.{AreProved}
-use Rattle.command_answers.specs.Net.{NetTells}
+use Rattle.job_solver.specs.Runs.{Makes}
+use Rattle.job_solver.specs.Proved.{AreProved}
 use Rattle.command_answers.specs.Sent.{IsSent, BreaksOff}
 use Rattle.serving.specs.declared.ending.Ending.{Ending}
 use Rattle.serving.specs.declared.ending.Ending.TheVariants.{Done, LinkMemory, ListenFault, AnnounceFault, NoMemory, AcceptFault, ReportFault}
@@ -47,30 +48,34 @@ abbrev pub callers : List Talk → List Shift → List Met
 callers links staff = map talk_met links ++ map shift_met staff
 
 -- one history of calls of the table, step by step from the empty one. The workers have the numbers from 1 on, and their calls are those of
--- their shifts; the links have the next ones, in the order in which they came, and their calls are those of their conversations.
--- Under the number of each stand its calls, in their order, and nobody else has any. Every finish is kept, and every document that is shown is proved
-pub record IsHistory (links : List Talk) (staff : List Shift) (log : List Entry) : Type 0 where
+-- their shifts; the links have the next ones, in the order in which they came, and their calls are those of their conversations. Whoever
+-- closes the table is one worker more, with the number 0. Under the number of each stand its calls, in their order, and nobody else has any. At most so
+-- many links are served at once. Every finish is kept, every document that is shown is proved, and at the end no job waits
+pub record IsHistory (servers : ℕ) (links : List Talk) (staff : List Shift) (closer : Shift) (log : List Entry) : Type 0 where
   pub table : Register
   pub runs : LeadsTo Right log table
-  pub worked : AllWorked Makes 1 staff
+  pub worked : AllWorked Makes 0 (closer ∷ staff)
   pub talked : AllTalked Converses (1 + length staff) links
-  pub made : All (λ m. calls_by m.seat log ≡ m.calls) (callers links staff)
-  pub no_others : (n : ℕ) → All (λ m. m.seat ≢ n) (callers links staff) → calls_by n log ≡ []
+  pub made : All (λ m. calls_by m.seat log ≡ m.calls) (callers links (closer ∷ staff))
+  pub no_others : (n : ℕ) → All (λ m. m.seat ≢ n) (callers links (closer ∷ staff)) → calls_by n log ≡ []
+  pub at_once : AtOnce servers log links
   pub kept : AreKept (calls log)
   pub proved : AreProved (calls log)
+  pub none_waits : waiting_jobs table.jobs ≡ 0
 
 -- ---- what comes and goes
 
--- links came and were given back, in one order, and with at most so many workers they made one history. What else holds of the links and the
--- history is given
-pub record Hosts (Further : List Talk → List Entry → Type 0) (workers : ℕ) (old new : NetTells) : Type 0 where
+-- links came and were given back, in one order, and with at most so many workers, and so many links at once, they made one history. What else
+-- holds of the links and the history is given
+pub record Hosts (Further : List Talk → List Entry → Type 0) (workers servers : ℕ) (old new : NetTells) : Type 0 where
   pub links : List Talk
   pub staff : List Shift
+  pub closer : Shift
   pub log : List Entry
   pub few : length staff ≤ workers
   pub came : Came old.coming new.coming (map (λ t. t.came) links)
   pub back : GivenBack old.given_back new.given_back (map (λ t. t.back) links)
-  pub history : IsHistory links staff log
+  pub history : IsHistory servers links staff closer log
   pub ends : Further links log
 
 -- the call gives a number: an issue, or the enter of a job
@@ -92,18 +97,18 @@ module _ (connections : ℕ) (links : List Talk) (log : List Entry) (old new : N
 
   -- how serving so many links ended, by the links that came and their history, by how often a call of the listener failed, and by
   -- what the output tells
-  abbrev pub Ends : Ending → Type 0
-  Ends Done =
+  abbrev pub ServerEnds : Ending → Type 0
+  ServerEnds Done =
       AllCame × (short_of links ≡ 0)
       × ((said : Tells) × IsSent listening output said × IsSent (jobs_line (numbers_given (calls log))) said output')
-  Ends LinkMemory =
+  ServerEnds LinkMemory =
       AllCame × (0 < short_of links)
       × ((said : Tells) × IsSent listening output said × IsSent (jobs_line (numbers_given (calls log))) said output')
-  Ends ListenFault = (links ≡ []) × HasRisen old.faults new.faults × (output' ≡ output)
-  Ends AnnounceFault = (links ≡ []) × (new.faults ≡ old.faults) × BreaksOff listening output output'
-  Ends NoMemory = (links ≡ []) × (new.faults ≡ old.faults) × IsSent listening output output'
-  Ends AcceptFault = (length links < connections) × HasRisen old.faults new.faults × IsSent listening output output'
-  Ends ReportFault =
+  ServerEnds ListenFault = (links ≡ []) × HasRisen old.faults new.faults × (output' ≡ output)
+  ServerEnds AnnounceFault = (links ≡ []) × (new.faults ≡ old.faults) × BreaksOff listening output output'
+  ServerEnds NoMemory = (links ≡ []) × (new.faults ≡ old.faults) × IsSent listening output output'
+  ServerEnds AcceptFault = (length links < connections) × HasRisen old.faults new.faults × IsSent listening output output'
+  ServerEnds ReportFault =
       AllCame
       × ((said : Tells) × IsSent listening output said × BreaksOff (jobs_line (numbers_given (calls log))) said output')
 
@@ -117,7 +122,12 @@ abbrev pub ending_of : ServeFault → Ending
 ending_of Failed = AcceptFault
 ending_of Memory = NoMemory
 
--- a server listened, served at most so many links with at most so many workers, and ended so
-abbrev pub IsServed : Ending → (workers connections : ℕ) → (old new : NetTells) → (output output' : Tells) → Type 0
-IsServed how workers connections old new output output' =
-    Hosts (λ links log. Ends connections links log old new output output' how) workers old new
+-- what was reached: this host and port were listened at, once, and nothing else was; or the listener doesn't listen, and nothing was
+abbrev pub Listened : Ending → (host : List ℕ) → (port : ℕ) → (old new : NetTells) → Type 0
+Listened ListenFault host port old new = new.reached ≡ old.reached
+Listened how host port old new = IsReached old.reached new.reached (ListenedAt host port)
+
+-- a server listened at this host and port, served at most so many links, so many at once, with at most so many workers, and ended so
+pub record IsServerRun (how : Ending) (host : List ℕ) (port workers servers connections : ℕ) (old new : NetTells) (output output' : Tells) : Type 0 where
+  pub listened : Listened how host port old new
+  pub hosts : Hosts (λ links log. ServerEnds connections links log old new output output' how) workers servers old new

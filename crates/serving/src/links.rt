@@ -3,11 +3,11 @@ ghost use Rattle.std.specs.Prelude.{◌≡◌};
 ghost use Rattle.serving.specs.Serving.{lacks_memory};
 
 use job_runs::Runner;
+use job_solver::{SolvedJobs, Solver};
 use job_table::{Calls, SharedText};
 use os_io::{Link, Watch};
 use os_server::{Served, Server, serve_one};
 use server_threads::Service;
-use sessions::{SolvedJobs, Solver};
 use std::alloc::Global;
 use std::sync::Wait;
 use workers::Wake;
@@ -24,7 +24,7 @@ struct Bell<'a, R> {
 pub(crate) struct LinkServer<B>(pub(crate) B);
 
 impl<B> Runner<SolvedJobs> for LinkServer<B> {
-    ghost use Rattle.sessions.specs.Runs.{Makes};
+    ghost use Rattle.job_solver.specs.Runs.{Makes};
 
     ghost ran = { Makes };
 

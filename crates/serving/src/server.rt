@@ -5,54 +5,44 @@ ghost use Rattle.desk.specs.Rule.{first_view};
 ghost use Rattle.desk.specs.Asks.{desk_id, IsSeatOf};
 ghost use Rattle.desk.specs.History.{calls};
 ghost use Rattle.server_threads.specs.Serving.{Ends};
-ghost use Rattle.command_answers.specs.Net.{net_tells};
-ghost use Rattle.serving.specs.Serving.{numbers_given, Hosts, done_if, ending_of, IsServed};
+ghost use Rattle.serving.specs.Serving.{numbers_given, Hosts, done_if, ending_of, IsServerRun};
 
 use crate::ending::Ending;
 use crate::lines::{tell_jobs, tell_listening};
 use crate::links::LinkServer;
-use closing::Close;
 use desk::{Desk, Seat};
+use job_solver::{SolvedJobs, Solver, shown_documents_are_proved};
 use job_table::{first_finish_is_kept, numbers_are_given_once};
 use os_io::{Failed, Listener, Sink};
-use server_threads::{ServeFault, serve_loop};
-use sessions::{SolvedJobs, shown_documents_are_proved};
+use server_threads::{Limits, ServeFault, serve_loop};
 use std::alloc::Global;
 use std::sync::Wait;
 use std::thread::Threads;
+use workers::work_closing_shift;
 
-/// Serves so many links that come by calls of this desk, and closes it. How many numbers of jobs were given comes first.
-fn serve_desk<N: Listener, R: Threads + Wait + Sync>(
+/// Serves so many links that come by calls of this desk, works off what waits then, and closes it. How many numbers of jobs were given
+/// comes first.
+fn host_links<N: Listener, R: Threads + Wait + Sync>(
     rt: &R,
     alloc: Global,
     desk: Desk<SolvedJobs>,
     seat: Seat<SolvedJobs>,
     net: &mut N,
-    workers: u32,
-    servers: u32,
-    connections: u32,
+    limits: Limits,
 ) -> (u64, Result<u64, ServeFault>)
 where
-    N::Conn: Close + Send + Drop,
+    N::Conn: Send + Drop,
     requires seat { IsSeatOf (desk_id desk) seat }
     requires fresh { seat.me.0 ≡ first_view }
-    requires some { 0 < servers }
-    ensures { Hosts (λ links log. (result.0 ≡ numbers_given (calls log)) × Ends result.1 connections links (N.faults net.old) (N.faults net.new)) workers (net_tells N.coming N.given_back N.faults net.old) (net_tells N.coming N.given_back N.faults net.new) }
+    requires some { 0 < limits.servers }
+    ensures hosts { Hosts (λ links log. (result.0 ≡ numbers_given (calls log)) × Ends result.1 limits.connections links (N.tells net.old).faults (N.tells net.new).faults) limits.workers limits.servers (N.tells net.old) (N.tells net.new) }
+    ensures reached { (N.tells net.new).reached ≡ (N.tells net.old).reached }
 {
     first_finish_is_kept::<SolvedJobs>();
     numbers_are_given_once::<SolvedJobs>();
     shown_documents_are_proved();
-    let (seat, served) = serve_loop(
-        rt,
-        alloc,
-        &desk,
-        seat,
-        net,
-        &LinkServer(()),
-        servers,
-        connections,
-        workers,
-    );
+    let (mut seat, served) = serve_loop(rt, alloc, &desk, seat, net, &LinkServer(()), limits);
+    work_closing_shift(rt, alloc, &desk, &mut seat, &Solver);
     (desk.close(seat).issued(), served)
 }
 
@@ -77,8 +67,9 @@ fn broken_off(fault: ServeFault) -> Ending
     }
 }
 
-/// Listens to this host and port, says so on the output, and serves so many links that come, so many at once at most, beside so
-/// many workers, over a table of jobs of their own. Then it says how many numbers of jobs were given.
+/// Listens at this host and port, says so on the output, and serves as many links that come as the limits say, so many at once at
+/// most, beside so many workers, over a table of jobs of their own. Then it works off what waits, and says how many numbers of jobs
+/// were given.
 ///
 /// Workers and links have threads of their own. A worker that can't be started is missing; a link whose thread can't be
 /// started is served by the thread that accepts. `docs/rules/desk.md` and `docs/rules/conversations.md` have the rules.
@@ -89,14 +80,12 @@ pub fn serve<N: Listener, O: Sink, R: Threads + Wait + Sync>(
     output: &mut O,
     host: &str,
     port: u16,
-    workers: u32,
-    servers: u32,
-    connections: u32,
+    limits: Limits,
 ) -> Ending
 where
-    N::Conn: Close + Send + Drop,
-    requires { 0 < servers }
-    ensures served { IsServed result workers connections (net_tells N.coming N.given_back N.faults net.old) (net_tells N.coming N.given_back N.faults net.new) (O.tells output.old) (O.tells output.new) }
+    N::Conn: Send + Drop,
+    requires { 0 < limits.servers }
+    ensures served { IsServerRun result host.now port limits.workers limits.servers limits.connections (N.tells net.old) (N.tells net.new) (O.tells output.old) (O.tells output.new) }
     ensures input { SameInput (O.tells output.old) (O.tells output.new) }
 {
     let Ok(()) = net.listen(host, port) else {
@@ -108,7 +97,7 @@ where
     let Ok((desk, seat)) = Desk::<SolvedJobs>::new(alloc) else {
         return Ending::NoMemory;
     };
-    let (given, served) = serve_desk(rt, alloc, desk, seat, net, workers, servers, connections);
+    let (given, served) = host_links(rt, alloc, desk, seat, net, limits);
     match served {
         Ok(short) => match tell_jobs(output, given) {
             Ok(()) => all_told(short),

@@ -1,4 +1,4 @@
-use crate::{Ending, serve};
+use crate::{Ending, Limits, serve};
 use os_io::{MemLink, MemListener, MemSink};
 use std::test::Fail;
 
@@ -29,7 +29,12 @@ fn links_are_numbered_in_the_order_in_which_they_come(rt: HostRuntime) -> Result
     for _ in 0..2 {
         net.add(MemLink::new(rt.alloc(), REQUEST, 64, 512, &[])?)?;
     }
-    let ending = serve(&rt, rt.alloc(), &mut net, &mut output, "a", 80, 0, 1, 2);
+    let limits = Limits {
+        servers: 1,
+        connections: 2,
+        workers: 0,
+    };
+    let ending = serve(&rt, rt.alloc(), &mut net, &mut output, "a", 80, limits);
     assert_eq!(rt; ending, Ending::Done);
     assert_eq!(rt; output.as_slice(), b"listening\njobs 2\n".as_slice());
     assert!(rt; has_written(net.take_back(), SECOND));

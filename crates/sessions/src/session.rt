@@ -6,16 +6,15 @@ ghost use Rattle.desk.specs.Rule.{first_view};
 ghost use Rattle.desk.specs.Asks.{desk_id, IsSeatOf};
 ghost use Rattle.sessions.specs.Sessions.{ServesAlone, IsSession};
 
-use crate::laws::shown_documents_are_proved;
-use crate::solver::{SolvedJobs, Solver};
 use desk::{Caller, Desk, Seat};
+use job_solver::{SolvedJobs, Solver, shown_documents_are_proved};
 use os_io::{Sink, Source};
 use os_server::{Served, conversations_are_kept, serve_ends, turn_away};
 use std::alloc::Global;
 use std::sync::Wait;
 
 /// Serves the conversation by calls of a new desk, which is closed behind it.
-fn serve_desk<I: Source, O: Sink, R: Wait>(
+fn serve_alone<I: Source, O: Sink, R: Wait>(
     rt: &R,
     alloc: Global,
     desk: Desk<SolvedJobs>,
@@ -59,7 +58,7 @@ pub fn serve_session<I: Source, O: Sink, R: Wait>(
     conversations_are_kept::<SolvedJobs, Solver>();
     shown_documents_are_proved();
     match Desk::<SolvedJobs>::new(alloc) {
-        Ok((desk, seat)) => serve_desk(rt, alloc, desk, seat, input, output),
+        Ok((desk, seat)) => serve_alone(rt, alloc, desk, seat, input, output),
         Err(_) => turn_away(input, output, &Solver),
     }
 }

@@ -6,7 +6,7 @@ ghost use Rattle.job_table.specs.Steps.{wants_memory};
 use job_table::{Call, Calls, Reply, Table};
 use os_io::{MemSink, MemSource, Memory};
 use os_server::{Served, serve_ends};
-use sessions::{SolvedJobs, Solver};
+use job_solver::{SolvedJobs, Solver};
 use std::alloc::{AllocError, Global};
 
 /// Room for the answers to the other connection.

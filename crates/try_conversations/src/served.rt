@@ -5,7 +5,7 @@ use crate::conditions::Conditions;
 use cases::count_left;
 use os_io::{MemLink, MemSink, MemSource, Memory, Text};
 use os_server::{Served, serve_ends, serve_one};
-use sessions::Solver;
+use job_solver::Solver;
 use std::alloc::Global;
 
 /// The most bytes that another connection may leave.

@@ -4,7 +4,7 @@ use crate::calls::{asked_text, called_text};
 use job_table::Table;
 use os_io::{MemLink, Memory, Text};
 use os_server::serve_one;
-use sessions::{SolvedJobs, Solver};
+use job_solver::{SolvedJobs, Solver};
 use std::alloc::Global;
 
 /// The room for what a server writes.

@@ -6,7 +6,7 @@ use crate::waiting::wait_for;
 use desk::{Desk, Seat};
 use job_table::{Call, Reply, Retrieved, Twin};
 use os_io::{Memory, Text};
-use sessions::{SolvedJobs, Solver};
+use job_solver::{SolvedJobs, Solver};
 use std::alloc::Global;
 use std::sync::Wait;
 use std::sync::atomic::AtomicBool;

@@ -5,15 +5,19 @@
 //! A worker sleeps between jobs: [`wake_pair`] makes the two ends of a channel of empty tokens, [`Wake`] rings and [`Naps`]
 //! waits. A token tells nothing; that it comes, and when, is said by no contract.
 //!
+//! [`work_closing_shift`] is the shift of whoever closes the desk, who doesn't sleep: behind it no job waits.
+//!
 //! [`DeskWatch`] is what a run looks at: it asks the desk whether its job is to stop, and a [`Gate`] is passed before each look.
 #![tactic(auto)]
 
+mod closing_shift;
 mod gate;
 #[cfg(test)]
 mod tests;
 mod wake;
 mod work;
 
+pub use closing_shift::work_closing_shift;
 pub use gate::{DeskWatch, Gate, Gated, OpenGate};
 pub use wake::{Naps, Wake, wake_pair};
 pub use work::{work_loop, work_one};

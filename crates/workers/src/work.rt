@@ -127,7 +127,7 @@ fn work_and_sleep<V: Verdicts, C: Calls<V>, R: Wait, U: Runner<V>>(
 }
 
 /// Works until nothing waits.
-fn work_off<V: Verdicts, C: Calls<V>, R: Wait, U: Runner<V>>(
+pub(crate) fn work_off<V: Verdicts, C: Calls<V>, R: Wait, U: Runner<V>>(
     rt: &R,
     alloc: Global,
     calls: &mut C,
@@ -144,7 +144,7 @@ fn work_off<V: Verdicts, C: Calls<V>, R: Wait, U: Runner<V>>(
 }
 
 /// Tells the table that a worker comes or goes.
-fn tell<V: Verdicts, C: Calls<V>>(calls: &mut C, call: Call)
+pub(crate) fn tell<V: Verdicts, C: Calls<V>>(calls: &mut C, call: Call)
     requires { IsTurnout call }
     ensures { C.did calls.old calls.new (entry call Reply.Done ∷ []) }
 {

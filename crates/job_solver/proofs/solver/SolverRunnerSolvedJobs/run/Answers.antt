@@ -1,8 +1,8 @@
 use Rattle.std.proofs.Common.{List, ℕ, Some, None, sym, subst}
 use Rattle.solve_run.specs.Running.{TellsText}
 use Rattle.solve_run.specs.Right.{Right}
-use Rattle.sessions.proofs.Running.{makes}
-use Rattle.sessions.proofs.solver.SolverRunnerSolvedJobs.run.Goals as goal
+use Rattle.job_solver.proofs.Running.{makes}
+use Rattle.job_solver.proofs.solver.SolverRunnerSolvedJobs.run.Goals as goal
 
 pub returns-in-Ok-new-clause-ran : goal.returns-in-Ok-new-clause-ran
 returns-in-Ok-new-clause-ran g c =

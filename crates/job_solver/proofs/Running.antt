@@ -5,7 +5,7 @@ use Rattle.os_io.specs.Looks.{stops_of}
 use Rattle.simplex_rules.specs.Looks.{went_on, answers}
 use Rattle.job_runs.specs.Runs.{AreLooks}
 use Rattle.solve_run.specs.Running.{Ran, TellsText}
-use Rattle.sessions.specs.Runs.{Makes}
+use Rattle.job_solver.specs.Runs.{Makes}
 
 none_stopped : (n : ℕ) → stops_of (went_on n) ≡ 0
 none_stopped zero = refl

@@ -1,4 +1,4 @@
-//! What runs the jobs of a session.
+//! What runs jobs, and which documents are right.
 ghost use Rattle.std.specs.Prelude.{◌≡◌};
 
 use job_runs::Runner;
@@ -21,7 +21,7 @@ impl Verdicts for SolvedJobs {
 pub struct Solver;
 
 impl Runner<SolvedJobs> for Solver {
-    ghost use Rattle.sessions.specs.Runs.{Makes};
+    ghost use Rattle.job_solver.specs.Runs.{Makes};
 
     ghost ran = { Makes };
 

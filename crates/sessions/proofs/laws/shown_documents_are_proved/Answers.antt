@@ -1,5 +1,0 @@
-use Rattle.sessions.proofs.Proved.{shown_proved}
-use Rattle.sessions.proofs.laws.shown_documents_are_proved.Goals as goal
-
-pub returns : goal.returns
-returns c = shown_proved c.documents_come_right.ensures c.claims_are_accepted.ensures.accepted c.claims_are_accepted.ensures.is_true

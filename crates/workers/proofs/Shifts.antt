@@ -1,0 +1,56 @@
+-- Behind a shift no job waits.
+use Rattle.std.proofs.Common.{◌≡◌, ℕ, ◌+◌, Bool, true, false, cond, List, [], ◌∷◌, ◌++◌, Option, Some, None, refl, sym, ap, ◌∙◌, subst}
+use Rattle.std.proofs.lemmas.List.Sums.{sum_by-cons}
+use Rattle.job_table.specs.declared.job.Job.{Job}
+use Rattle.job_table.specs.declared.job.Phase.{Phase}
+use Rattle.job_table.specs.declared.job.Phase.TheVariants.{Issued, Waiting, Running, Finished, Killed}
+use Rattle.job_table.specs.declared.calls.Call.TheVariants.{Claim, Enlist, Leave}
+use Rattle.job_table.specs.declared.calls.Reply.TheVariants as reply
+use Rattle.job_table.specs.Jobs.{Held, Register, job, is_waiting, or_waiting, first_waiting, waiting_jobs}
+use Rattle.job_table.specs.Steps.{Step, Outcome, outcome, claims}
+use Rattle.job_table.specs.History.{Entry, entry, Runs}
+use Rattle.job_runs.proofs.Histories.{runs_split}
+use Rattle.workers.specs.Shifts.{Rests, WorksThrough}
+use Rattle.workers.proofs.Working.{Made}
+
+abbrev Right : Type 1
+Right = List ℕ → List ℕ → Bool → Option (List ℕ) → Type 0
+
+some_is_not_none : (j : Job) → Some j ≡ None → ⊥
+some_is_not_none j e = cc
+
+gave_is_not_none : (j : Job) → reply.Gave (Some j) ≡ reply.Gave None → ⊥
+gave_is_not_none j e = cc
+
+-- where no job is the first that waits, none waits
+not_waiting : (n : ℕ) (phase : Phase) (other : Option Job) → or_waiting n phase other ≡ None → (is_waiting phase ≡ false) × (other ≡ None)
+not_waiting n Issued other none = (refl, none)
+not_waiting n (Waiting osil osol) other none = absurd (some_is_not_none (job n osil osol) none)
+not_waiting n (Running osil osol marked) other none = (refl, none)
+not_waiting n (Finished document) other none = (refl, none)
+not_waiting n Killed other none = (refl, none)
+
+none_first : (jobs : Held) → first_waiting jobs ≡ None → waiting_jobs jobs ≡ 0
+none_first [] none = refl
+none_first (held ∷ jobs) none =
+    let (idle, rest) = not_waiting held.0 held.1 (first_waiting jobs) none in
+    sum_by-cons (λ (h : ℕ × Phase). cond (is_waiting h.1) 1 0) held jobs ∙ ap (λ (b : Bool). cond b 1 0 + waiting_jobs jobs) idle ∙ ap (λ (n : ℕ). 0 + n) (none_first jobs rest)
+
+-- a worker's claim that gave none found no job that waits
+claims_none : (first : Option Job) (r next : Register) → claims first r ≡ outcome (reply.Gave None) next → (first ≡ None) × (next ≡ r)
+claims_none None r next is = (refl, ap (λ (o : Outcome). o.after) (sym is))
+claims_none (Some j) r next is = absurd (gave_is_not_none j (ap (λ (o : Outcome). o.reply) is))
+
+module _ (made : Made) (right : Right) where
+  rests_idle : (r after : Register) (es : List Entry) → Rests made es → Runs right r es after → waiting_jobs after.jobs ≡ 0
+  rests_idle r after es rests runs =
+      let (mid, before, (next, step, same)) = runs_split right r after rests.before (entry (Claim true) (reply.Gave None) ∷ [])
+      (subst (λ (l : List Entry). Runs right r l after) rests.are runs) in
+      let (none, stays) = claims_none (first_waiting mid.jobs) mid next step.is in
+      ap (λ (s : Register). waiting_jobs s.jobs) (same ∙ stays) ∙ none_first mid.jobs none
+
+  pub shift_leaves_none : (r after : Register) (es : List Entry) → WorksThrough made es → Runs right r es after → waiting_jobs after.jobs ≡ 0
+  shift_leaves_none r after es works runs =
+      let (next, enlists, later) = subst (λ (l : List Entry). Runs right r l after) works.are runs in
+      let (mid, shift, (last, leaves, same)) = runs_split right next after works.shift (entry Leave reply.Done ∷ []) later in
+      ap (λ (s : Register). waiting_jobs s.jobs) same ∙ ap (λ (o : Outcome). waiting_jobs o.after.jobs) (sym leaves.is) ∙ rests_idle next mid works.shift works.rests shift
