@@ -1,18 +1,20 @@
 //! The desk.
 
-ghost use Rattle.std.specs.Prelude.{◌≡◌, [], ◌∷◌, true, None, Some, IfOk, OnErr};
+ghost use Rattle.std.specs.Prelude.{◌≡◌, [], ◌∷◌, true, None, Some, IfOk, IfSome, IfNone};
 ghost use Rattle.job_table.specs.Steps.{May, fits, wants_memory};
 ghost use Rattle.desk.specs.declared.view.Turn.TheVariants.{Idle, Waiting};
 ghost use Rattle.desk.specs.History.{IsLegal};
 ghost use Rattle.desk.specs.Rule.{first_view, with_turn, one_more, newcomer, out_of};
-ghost use Rattle.desk.specs.Asks.{desk_id, IsSeatOf, Adds, Waits, Lacks, HasTurn, IsServed, Answers, Meets, Closes};
+ghost use Rattle.desk.specs.Asks.{desk_id, IsSeatOf, Adds, Waits, Lacks, HasTurn, IsServed, IsAnswered, Answers, Meets, Closes};
 
-use crate::held::{Held, Said};
-use crate::plays::{Draw, Look, OneMore, PassOn, Settle, Skip};
+use crate::held::Held;
+use crate::plays::{Draw, Enters, Look, OneMore, PassOn, Settle, Skip};
 use crate::shape::{Desk, Locked, Seat};
-use job_table::{Call, Reply, Table, Verdicts};
+use job_table::moves::Move;
+use job_table::{Table, Verdicts};
 use os_io::Memory;
 use std::alloc::{AllocError, Global};
+use std::marker::Brand;
 use std::snapshot::Snapshot;
 use std::sync::Wait;
 use std::thread::yield_now;
@@ -34,7 +36,6 @@ impl<J: Verdicts> Desk<J> {
         let mut slots = Vec::new(alloc);
         let held = Held {
             table: Table::new(alloc),
-            said: None,
         };
         slots.push(Some(held))?;
         match atomic_table::Table::new(alloc, &[0, 0], slots, &()) {
@@ -43,20 +44,20 @@ impl<J: Verdicts> Desk<J> {
         }
     }
 
-    /// Makes a call of the table, in the seat's turn. The reply is the table's after all that the seat has then seen. Without
-    /// memory no call was made, and what the table held after all that the seat has then seen is such that this call wants some.
-    pub fn ask<R: Wait>(&self, rt: &R, me: &mut Seat<J>, call: Call) -> Result<Reply, Memory>
+    /// Makes a move of the table, in the seat's turn. The answer is the table's after all that the seat has then seen. Without
+    /// memory no move was made, and what the table held after all that the seat has then seen is such that this move wants some.
+    pub fn ask<R: Wait, M: Move<J>>(&self, rt: &R, me: &mut Seat<J>, step: M) -> M::Answer
         requires seat { IsSeatOf (desk_id self.now) me.old }
-        requires call { May J.right call }
+        requires call { May J.right (M.call step) }
         ensures seat { IsSeatOf (desk_id self.now) me.new }
-        ensures fits { IfOk result (λ reply. fits call reply ≡ true) }
-        ensures ok { IfOk result (λ reply. Adds J.right me.old.me.0 call reply me.new.me.0) }
-        ensures sure { OnErr result (Lacks J.right call me.new.me.0.seen) }
-        ensures err { OnErr result (Waits me.old.me.0 me.new.me.0) }
+        ensures fits { IfSome (M.said result) (λ reply. fits (M.call step) reply ≡ true) }
+        ensures ok { IfSome (M.said result) (λ reply. Adds J.right me.old.me.0 (M.call step) reply me.new.me.0) }
+        ensures sure { IfNone (M.said result) (Lacks J.right (M.call step) me.new.me.0.seen) }
+        ensures err { IfNone (M.said result) (Waits me.old.me.0 me.new.me.0) }
     {
         let number = self.draw(rt, me);
         let held = self.take(rt, me, number);
-        self.answer(me, number, held, call)
+        self.answer(me, number, held, step)
     }
 
     /// A further seat, which has seen as much as the first one. Only the first seat splits off others.
@@ -96,7 +97,7 @@ impl<J: Verdicts> Desk<J> {
         let mut closed = table.close_with(me);
         let slot = closed.take(SLOT);
         closed.free();
-        let Some(Held { table, said: _ }) = slot else {
+        let Some(Held { table }) = slot else {
             unreachable!()
         };
         table
@@ -143,42 +144,41 @@ impl<J: Verdicts> Desk<J> {
     }
 
     /// Asks the table, gives it back, and serves the next number.
-    fn answer(
-        &self,
-        me: &mut Seat<J>,
-        number: u64,
-        held: Held<J>,
-        call: Call,
-    ) -> Result<Reply, Memory>
+    fn answer<M: Move<J>>(&self, me: &mut Seat<J>, number: u64, held: Held<J>, step: M) -> M::Answer
         requires seat { me.old.table_id ≡ (desk_id self.now) }
         requires turn { IsServed J.right number me.old.me held }
-        requires call { May J.right call }
+        requires call { May J.right (M.call step) }
         ensures seat { me.new.table_id ≡ me.old.table_id }
-        ensures fits { IfOk result (λ reply. fits call reply ≡ true) }
-        ensures ok { IfOk result (λ reply. Answers J.right call reply me.old.me me.new.me) }
-        ensures sure { OnErr result (wants_memory call held.table ≡ true) }
-        ensures err { OnErr result (me.new.me ≡ (with_turn Idle me.old.me.0, [])) }
+        ensures fits { IfSome (M.said result) (λ reply. fits (M.call step) reply ≡ true) }
+        ensures ok { IfSome (M.said result) (λ reply. Answers J.right (M.call step) reply me.old.me me.new.me) }
+        ensures sure { IfNone (M.said result) (wants_memory (M.call step) held.table ≡ true) }
+        ensures err { IfNone (M.said result) (me.new.me ≡ (with_turn Idle me.old.me.0, [])) }
     {
-        let Held { mut table, said: _ } = held;
-        let asked = Snapshot::of(&call);
-        let Ok(reply) = table.step(call) else {
-            self.give(me, Held { table, said: None });
+        let Held { mut table } = held;
+        let asked = Snapshot::of(&step);
+        let answer = step.make(&mut table);
+        self.give(me, Held { table });
+        if M::is_made(&answer) {
+            self.pass_on::<Brand, M>(me, asked, &answer);
+        } else {
             self.table.shared.fetch_add::<Skip>(me, SERVING, 1);
-            return Err(AllocError);
-        };
-        let said = Said {
-            call: asked,
-            reply: Snapshot::of(&reply),
-        };
-        self.give(
-            me,
-            Held {
-                table,
-                said: Some(said),
-            },
-        );
-        self.table.shared.fetch_add::<PassOn>(me, SERVING, 1);
-        Ok(reply)
+        }
+        answer
+    }
+
+    /// Serves the next number, and the move that was made enters the history.
+    fn pass_on<K: Enters, M: Move<J>>(
+        &self,
+        me: &mut Seat<J>,
+        _asked: Snapshot<M>,
+        _answer: &M::Answer,
+    )
+        requires seat { me.old.table_id ≡ (desk_id self.now) }
+        requires turn { IsAnswered J.right K.call K.reply me.old.me }
+        ensures seat { me.new.table_id ≡ me.old.table_id }
+        ensures made { Answers J.right K.call K.reply me.old.me me.new.me }
+    {
+        self.table.shared.fetch_add::<PassOn<K>>(me, SERVING, 1);
     }
 
     /// Puts the table into the slot that the seat has.

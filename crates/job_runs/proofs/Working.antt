@@ -4,7 +4,6 @@ use Rattle.std.proofs.lemmas.Bool.Decides.{nat_tests}
 use Rattle.os_io.specs.Looks.{stops_of}
 use Rattle.os_io.specs.Laws.{stops_more}
 use Rattle.job_table.specs.declared.calls.Call.TheVariants.{Claim, Finish, Enter, Retrieve}
-use Rattle.job_table.specs.declared.calls.Reply.{Reply}
 use Rattle.job_table.specs.declared.calls.Reply.TheVariants as reply
 use Rattle.job_table.specs.declared.calls.Retrieved.{Retrieved}
 use Rattle.job_table.specs.declared.calls.Finish as answer
@@ -48,14 +47,10 @@ claimed_run made did did' both joins worker j claimed (run, ran, is_run) = (
 
 -- a job that was entered and run
 pub entered_run : (made : Made) (did did' both : List Entry → Type 0) → Joins did did' both
-    → (o p : List ℕ) (said : Reply) (given : Option Job) (j : Job) → said ≡ reply.Gave given → given ≡ Some j
-    → did (entry (Enter o p) said ∷ []) → ((run : List Entry) × did' run × IsRun made j run)
+    → (o p : List ℕ) (j : Job) → did (entry (Enter o p) (reply.Gave (Some j)) ∷ []) → ((run : List Entry) × did' run × IsRun made j run)
     → (entries : List Entry) × both entries × EntersAndRuns made o p j entries
-entered_run made did did' both joins o p said given j is same entered (run, ran, is_run) = (
-  entry (Enter o p) (reply.Gave (Some j)) ∷ run,
-  joins _ _ (subst (λ (r : Reply). did (entry (Enter o p) r ∷ [])) (is ∙ ap (λ g. reply.Gave g) same) entered) ran,
-  record { run = run; is_run = is_run; are = refl },
-)
+entered_run made did did' both joins o p j entered (run, ran, is_run) =
+    (entry (Enter o p) (reply.Gave (Some j)) ∷ run, joins _ _ entered ran, record { run = run; is_run = is_run; are = refl })
 
 -- and retrieved
 pub solved : (made : Made) (did did' both : List Entry → Type 0) → Joins did did' both

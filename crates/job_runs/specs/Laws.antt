@@ -20,31 +20,13 @@ kept_end ends.Other = false
 kept_end ends.Unmarked = false
 
 abbrev pub kept_reply : Reply → Bool
-kept_reply (reply.Issued n) = false
-kept_reply reply.Full = false
-kept_reply reply.Spent = false
-kept_reply (reply.Sent taken) = false
-kept_reply (reply.Gave given) = false
-kept_reply (reply.Marked marked) = false
 kept_reply (reply.Finish end) = kept_end end
-kept_reply (reply.Killing told) = false
-kept_reply (reply.Retrieved job) = false
-kept_reply (reply.Statistics told) = false
-kept_reply reply.Done = false
+kept_reply _ = false
 
 -- a call that is a finish was kept
 abbrev pub kept_if_finish : Call → Reply → Bool
-kept_if_finish calls.Issue said = true
-kept_if_finish (calls.Send n osil osol) said = true
-kept_if_finish (calls.Enter osil osol) said = true
-kept_if_finish (calls.Claim worker) said = true
-kept_if_finish (calls.Look n) said = true
 kept_if_finish (calls.Finish j asked document) said = kept_reply said
-kept_if_finish (calls.Kill n) said = true
-kept_if_finish (calls.Retrieve n) said = true
-kept_if_finish calls.Knock said = true
-kept_if_finish calls.Enlist said = true
-kept_if_finish calls.Leave said = true
+kept_if_finish _ said = true
 
 abbrev pub IsKept : Entry → Type 0
 IsKept e = kept_if_finish e.call e.reply ≡ true

@@ -12,7 +12,6 @@
 #![tactic(auto)]
 
 mod laws;
-mod replies;
 mod runner;
 mod solving;
 mod work;

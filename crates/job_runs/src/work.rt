@@ -4,7 +4,6 @@ ghost use Rattle.job_table.specs.History.{Entry, entry};
 ghost use Rattle.job_table.specs.Watching.{looks};
 ghost use Rattle.job_runs.specs.Runs.{AreLooks, IsRun, Works};
 
-use crate::replies::{claim, finish};
 use crate::runner::Runner;
 use job_table::{Calls, CallsWatch, Job, SharedText, Verdicts};
 use std::alloc::Global;
@@ -47,7 +46,7 @@ pub fn run_given<V: Verdicts, C: Calls<V>, R: Runner<V>>(
     ensures { (run : List Entry) × C.did calls.old calls.new run × IsRun R.ran job run }
 {
     let (document, asked) = run_watched(alloc, calls, runner, &job);
-    finish(calls, job, asked, document);
+    calls.finish(job, asked, document);
 }
 
 /// Claims a job that waits, runs it and finishes it. False exactly where the claim gave none. It takes no memory but what a run
@@ -60,7 +59,7 @@ pub fn work_one<V: Verdicts, C: Calls<V>, R: Runner<V>>(
 ) -> bool
     ensures { (given : Option Job) × (entries : List Entry) × C.did calls.old calls.new entries × Works R.ran worker given entries × (IsTrue result ↔ IsSome given) }
 {
-    match claim(calls, worker) {
+    match calls.claim(worker) {
         Some(job) => {
             run_given(alloc, calls, runner, job);
             true

@@ -1,4 +1,4 @@
 pub mod Held
 pub mod Kept
-pub mod Moves
+pub mod Changes
 pub mod Histories

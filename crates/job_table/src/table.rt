@@ -9,7 +9,7 @@ use crate::job::{Job, Phase};
 use crate::jobs::{Jobs, state_of};
 use crate::texts::{SharedText, Twin};
 use os_io::Memory;
-use std::alloc::{AllocError, Global};
+use std::alloc::Global;
 use std::marker::{Model, PhantomData};
 
 /// The table of jobs. Contracts see the jobs that are held, in order of issue, how many numbers were given, and how many workers
@@ -27,34 +27,6 @@ impl<V: Verdicts> Model for Table<V> {
     ghost Value = { Register };
 
     ghost view = { λ t. t.jobs };
-}
-
-/// An answer of issue as a reply.
-fn reply_of_issue(answer: Result<u64, IssueFault>) -> Result<Reply, Memory>
-    ensures ok { IfOk result (λ reply. added_reply Reply.Issued answer ≡ Some reply) }
-    ensures err { OnErr result (added_reply Reply.Issued answer ≡ None) }
-    ensures fits { IfOk result (λ reply. fits Call.Issue reply ≡ true) }
-{
-    match answer {
-        Ok(number) => Ok(Reply::Issued(number)),
-        Err(IssueFault::Full) => Ok(Reply::Full),
-        Err(IssueFault::Spent) => Ok(Reply::Spent),
-        Err(IssueFault::Memory) => Err(AllocError),
-    }
-}
-
-/// An answer of enter as a reply.
-fn reply_of_enter(answer: Result<Job, IssueFault>) -> Result<Reply, Memory>
-    ensures ok { IfOk result (λ reply. added_reply (λ job. Reply.Gave (Some job)) answer ≡ Some reply) }
-    ensures err { OnErr result (added_reply (λ job. Reply.Gave (Some job)) answer ≡ None) }
-    ensures fits { IfOk result (λ reply. (osil osol : List ℕ) → fits (Call.Enter osil osol) reply ≡ true) }
-{
-    match answer {
-        Ok(job) => Ok(Reply::Gave(Some(job))),
-        Err(IssueFault::Full) => Ok(Reply::Full),
-        Err(IssueFault::Spent) => Ok(Reply::Spent),
-        Err(IssueFault::Memory) => Err(AllocError),
-    }
 }
 
 impl<V: Verdicts> Table<V> {
@@ -240,44 +212,5 @@ impl<V: Verdicts> Table<V> {
         ensures { row Call.Leave self.old ≡ outcome Reply.Done self.new }
     {
         self.jobs.leave();
-    }
-
-    /// Makes a call that is given as a value.
-    pub fn step(&mut self, call: Call) -> Result<Reply, Memory>
-        requires { May V.right call }
-        ensures ok { IfOk result (λ reply. Step V.right self.old call reply self.new) }
-        ensures fits { IfOk result (λ reply. fits call reply ≡ true) }
-        ensures sure { OnErr result (wants_memory call self.old ≡ true) }
-        ensures err { OnErr result (self.new ≡ self.old) }
-    {
-        match call {
-            Call::Issue => reply_of_issue(self.issue()),
-            Call::Send { number, osil, osol } => Ok(Reply::Sent(self.send(number, osil, osol))),
-            Call::Enter { osil, osol } => reply_of_enter(self.enter(osil, osol)),
-            Call::Claim { worker } => Ok(Reply::Gave(self.claim(worker))),
-            Call::Look { number } => Ok(Reply::Marked(self.look(number))),
-            Call::Finish {
-                job,
-                asked,
-                document,
-            } => Ok(Reply::Finish(self.finish(job, asked, document))),
-            Call::Kill { number } => Ok(Reply::Killing(self.kill(number))),
-            Call::Retrieve { number } => match self.retrieve(number) {
-                Ok(shown) => Ok(Reply::Retrieved(shown)),
-                Err(lost) => Err(lost),
-            },
-            Call::Knock => match self.knock() {
-                Ok(told) => Ok(Reply::Statistics(told)),
-                Err(lost) => Err(lost),
-            },
-            Call::Enlist => {
-                self.enlist();
-                Ok(Reply::Done)
-            }
-            Call::Leave => {
-                self.leave();
-                Ok(Reply::Done)
-            }
-        }
     }
 }

@@ -28,6 +28,8 @@ use Rattle.ospl_grammar.specs.Writing.{process_text}
 use Rattle.six_calls.specs.declared.call.CallKind.{CallKind}
 use Rattle.six_calls.specs.Names.{kind_text}
 use Rattle.soap_calls.specs.Writing.{reply_text, fault_text}
+use Rattle.os_server.specs.declared.doing.LastReply.{LastReply}
+use Rattle.os_server.specs.declared.doing.LastReply.TheVariants as lasts
 use Rattle.os_server.specs.declared.order.Order.{Order}
 use Rattle.os_server.specs.declared.order.Order.TheVariants as orders
 use Rattle.os_server.specs.declared.fault.FaultCode.{FaultCode}
@@ -90,6 +92,16 @@ returns kind text = Some (record { fault = false; text = reply_text (kind_text k
 abbrev pub fault_said : FaultCode → List ℕ → Said
 fault_said code text = record { fault = true; text = fault_text (code_text code) text }
 
+-- the last reply of the table to what was asked
+abbrev pub reply_of : LastReply → Reply
+reply_of (lasts.Issued m) = reply.Issued m
+reply_of lasts.Full = reply.Full
+reply_of lasts.Spent = reply.Spent
+reply_of (lasts.Sent taken) = reply.Sent taken
+reply_of (lasts.Killing told) = reply.Killing told
+reply_of (lasts.Retrieved job) = reply.Retrieved job
+reply_of (lasts.Statistics told) = reply.Statistics told
+
 -- what answers the call of this kind about the job with this number, whose last reply is this; none where it isn't the last
 -- reply of a call
 abbrev pub said_by : CallKind → ℕ → Reply → Option Said
@@ -97,27 +109,10 @@ said_by kind n (reply.Issued m) = returns kind (id_text m)
 said_by kind n reply.Full = Some (fault_said codes_of.Full (codes "10000 jobs"))
 said_by kind n reply.Spent = Some (fault_said codes_of.Spent (codes "no ids"))
 said_by kind n (reply.Sent taken) = returns kind (bool_text taken)
-said_by kind n (reply.Gave given) = None
-said_by kind n (reply.Marked marked) = None
-said_by kind n (reply.Finish end) = None
 said_by kind n (reply.Killing told) = returns kind (process_text (process_after n told))
 said_by kind n (reply.Retrieved job) = returns kind (shown_text job)
 said_by kind n (reply.Statistics told) = returns kind (process_text (process_of told))
-said_by kind n reply.Done = None
-
--- the same reply answers a call
-abbrev pub is_last : Reply → Bool
-is_last (reply.Issued m) = true
-is_last reply.Full = true
-is_last reply.Spent = true
-is_last (reply.Sent taken) = true
-is_last (reply.Gave given) = false
-is_last (reply.Marked marked) = false
-is_last (reply.Finish end) = false
-is_last (reply.Killing told) = true
-is_last (reply.Retrieved job) = true
-is_last (reply.Statistics told) = true
-is_last reply.Done = false
+said_by kind n _ = None
 
 module _ (made : List ℕ → List ℕ → List Bool → Option (List ℕ) → Type 0) where
   -- the calls that do what is asked, the last of which has this reply

@@ -6,8 +6,6 @@ use Rattle.http_link.specs.Requests.{IsBegun, IsCut, EndedBetween}
 use Rattle.soap_calls.specs.declared.fault.SoapFault.TheVariants as soap
 use Rattle.soap_calls.specs.Refusals.{CallFails}
 use Rattle.job_table.specs.declared.job.Job.{Job}
-use Rattle.job_table.specs.declared.calls.Call.{Call}
-use Rattle.job_table.specs.declared.calls.Call.TheVariants as calls
 use Rattle.job_table.specs.declared.calls.Reply as tables
 use Rattle.job_table.specs.declared.calls.Reply.TheVariants as table
 use Rattle.job_table.specs.History.{Entry}
@@ -20,20 +18,6 @@ use Rattle.os_server.specs.declared.serve.Served.TheVariants.{Ended, CutShort, R
 use Rattle.os_server.specs.Orders.{kind_of, number_of}
 use Rattle.os_server.specs.Answers.{said_by, Does, BeginsToDo}
 use Rattle.os_server.specs.Talk.{Part, AtEnd, Reads, Answers, LacksMemory, IsDue, IsExchange, Ends, HandsOn, Accounts}
-
--- the calls that requests ask for, beside those of a job that is run at once
-abbrev pub is_asked : Call → Bool
-is_asked calls.Issue = true
-is_asked (calls.Send n osil osol) = true
-is_asked (calls.Enter osil osol) = false
-is_asked (calls.Claim worker) = false
-is_asked (calls.Look n) = false
-is_asked (calls.Finish j asked document) = false
-is_asked (calls.Kill n) = true
-is_asked (calls.Retrieve n) = true
-is_asked calls.Knock = true
-is_asked calls.Enlist = false
-is_asked calls.Leave = false
 
 module _ (made : List ℕ → List ℕ → List Bool → Option (List ℕ) → Type 0) where
   -- the calls that do what is asked, and the reply that says the last one's

@@ -1,38 +1,31 @@
 //! What is asked is done by calls of the table.
-ghost use Rattle.std.specs.Prelude.{◌≡◌, List, [], ◌∷◌, true, IfOk, OnErr};
-ghost use Rattle.job_table.specs.History.{Entry, entry};
-ghost use Rattle.job_table.specs.Steps.{May};
-ghost use Rattle.os_server.specs.Answers.{is_last, Does, BeginsToDo};
-ghost use Rattle.os_server.specs.Serving.{is_asked};
+ghost use Rattle.std.specs.Prelude.{List, IfOk, OnErr};
+ghost use Rattle.job_table.specs.History.{Entry};
+ghost use Rattle.os_server.specs.Answers.{reply_of, Does, BeginsToDo};
 
 use crate::order::Order;
 use job_runs::{Runner, solve};
-use job_table::{Call, Calls, Reply, Twin, Verdicts};
+use job_table::{Calls, IssueFault, Killing, Retrieved, Statistics, Twin, Verdicts};
 use os_io::Memory;
-use std::alloc::Global;
+use std::alloc::{AllocError, Global};
 
-/// Makes one of the calls that requests ask for.
-fn ask<V: Verdicts, C: Calls<V>>(calls: &mut C, call: Call) -> Result<Reply, Memory>
-    requires { is_asked call ≡ true }
-    ensures ok { IfOk result (λ last. C.did calls.old calls.new (entry call last ∷ [])) }
-    ensures last { IfOk result (λ last. is_last last ≡ true) }
-    ensures err { OnErr result (C.did calls.old calls.new []) }
-{
-    calls.call(call)
-}
-
-/// Sends a job its texts.
-fn send<V: Verdicts, C: Calls<V>>(
-    calls: &mut C,
-    number: u64,
-    osil: Twin,
-    osol: Twin,
-) -> Result<Reply, Memory>
-    ensures ok { IfOk result (λ last. C.did calls.old calls.new (entry (Call.Send number osil osol) last ∷ [])) }
-    ensures last { IfOk result (λ last. is_last last ≡ true) }
-    ensures err { OnErr result (C.did calls.old calls.new []) }
-{
-    ask(calls, Call::Send { number, osil, osol })
+/// The last reply of the table to what was asked.
+#[derive(Drop)]
+pub enum LastReply {
+    /// The new job's number.
+    Issued(u64),
+    /// Too many jobs are held.
+    Full,
+    /// No number is left.
+    Spent,
+    /// Whether the texts were taken.
+    Sent(bool),
+    /// What stands after a kill.
+    Killing(Killing),
+    /// What is shown of a job.
+    Retrieved(Retrieved),
+    /// How far all jobs have come.
+    Statistics(Statistics),
 }
 
 /// Does what is asked, and gives the last reply.
@@ -41,25 +34,40 @@ pub(crate) fn make<V: Verdicts, C: Calls<V>, R: Runner<V>>(
     calls: &mut C,
     runner: &R,
     order: Order,
-) -> Result<Reply, Memory>
-    ensures ok { IfOk result (λ last. (own : List Entry) × C.did calls.old calls.new own × Does R.ran order last own) }
-    ensures last { IfOk result (λ last. is_last last ≡ true) }
+) -> Result<LastReply, Memory>
+    ensures ok { IfOk result (λ last. (own : List Entry) × C.did calls.old calls.new own × Does R.ran order (reply_of last) own) }
     ensures err { OnErr result ((own : List Entry) × C.did calls.old calls.new own × BeginsToDo R.ran order own) }
 {
     match order {
-        Order::Issue => ask(calls, Call::Issue),
+        Order::Issue => match calls.issue() {
+            Ok(number) => Ok(LastReply::Issued(number)),
+            Err(IssueFault::Full) => Ok(LastReply::Full),
+            Err(IssueFault::Spent) => Ok(LastReply::Spent),
+            Err(IssueFault::Memory) => Err(AllocError),
+        },
         Order::Solve { osil, osol } => {
             let osil = Twin::new(alloc, osil)?;
             let osol = Twin::new(alloc, osol)?;
-            solve(alloc, calls, runner, osil, osol)
+            match solve(alloc, calls, runner, osil, osol) {
+                Ok(shown) => Ok(LastReply::Retrieved(shown)),
+                Err(IssueFault::Full) => Ok(LastReply::Full),
+                Err(IssueFault::Spent) => Ok(LastReply::Spent),
+                Err(IssueFault::Memory) => Err(AllocError),
+            }
         }
         Order::Send { number, osil, osol } => {
             let osil = Twin::new(alloc, osil)?;
             let osol = Twin::new(alloc, osol)?;
-            send(calls, number, osil, osol)
+            Ok(LastReply::Sent(calls.send(number, osil, osol)))
         }
-        Order::Retrieve { number } => ask(calls, Call::Retrieve { number }),
-        Order::Knock => ask(calls, Call::Knock),
-        Order::Kill { number } => ask(calls, Call::Kill { number }),
+        Order::Retrieve { number } => match calls.retrieve(number) {
+            Ok(shown) => Ok(LastReply::Retrieved(shown)),
+            Err(lost) => Err(lost),
+        },
+        Order::Knock => match calls.knock() {
+            Ok(told) => Ok(LastReply::Statistics(told)),
+            Err(lost) => Err(lost),
+        },
+        Order::Kill { number } => Ok(LastReply::Killing(calls.kill(number))),
     }
 }

@@ -3,11 +3,12 @@ ghost use Rattle.std.specs.Prelude.{◌≡◌, List, true};
 ghost use Rattle.job_table.specs.declared.calls.Reply.TheVariants as table;
 ghost use Rattle.os_io.specs.Streams.{Writes, Sends};
 ghost use Rattle.job_table.specs.History.{Entry};
+ghost use Rattle.os_server.specs.Answers.{reply_of};
 ghost use Rattle.os_server.specs.Talk.{text_of_reply, response_text};
 ghost use Rattle.os_server.specs.Serving.{IsReplied, IsOrdered, Comes};
 
 use crate::asking::read_order;
-use crate::doing::make;
+use crate::doing::{LastReply, make};
 use crate::fault::NoOrder;
 use crate::order::Order;
 use crate::saying::{Said, said_fault, say};
@@ -17,7 +18,7 @@ use http_link::{
     Incoming, LinkFault, Refusal, part_is_of_the_first_request, read_request, write_answer,
     write_fault_answer, write_refusal,
 };
-use job_table::{self, Calls, Verdicts};
+use job_table::{Calls, Verdicts};
 use os_io::{Failed, Sink, Source};
 use std::alloc::Global;
 
@@ -38,18 +39,18 @@ pub enum Reply {
 }
 
 /// Whether texts were taken.
-fn was_taken(last: &job_table::Reply) -> bool
-    ensures { result ≡ true → last.now ≡ table.Sent true }
+fn was_taken(last: &LastReply) -> bool
+    ensures { result ≡ true → reply_of last.now ≡ table.Sent true }
 {
     match last {
-        job_table::Reply::Sent(taken) => *taken,
+        LastReply::Sent(taken) => *taken,
         _ => false,
     }
 }
 
 /// Whether the job behind the answer is claimed as a worker claims one: texts were taken, and nobody took over that a job waits.
-fn works_after<V: Verdicts, S: Server<V>>(server: &S, last: &job_table::Reply) -> bool
-    ensures { result ≡ true → last.now ≡ table.Sent true }
+fn works_after<V: Verdicts, S: Server<V>>(server: &S, last: &LastReply) -> bool
+    ensures { result ≡ true → reply_of last.now ≡ table.Sent true }
 {
     was_taken(last) && !server.wake()
 }

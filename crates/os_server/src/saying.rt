@@ -1,11 +1,12 @@
 //! What answers a call.
-ghost use Rattle.std.specs.Prelude.{◌≡◌, true, Some, IfOk};
-ghost use Rattle.os_server.specs.Answers.{said_by, fault_said, is_last, bool_text, returns, shown_text};
+ghost use Rattle.std.specs.Prelude.{◌≡◌, Some, IfOk};
+ghost use Rattle.os_server.specs.Answers.{said_by, fault_said, reply_of, bool_text, returns, shown_text};
 
+use crate::doing::LastReply;
 use crate::fault::FaultCode;
 use crate::shown::reply_of_shown;
 use crate::stated::{id_of, text_after_kill, text_of_all};
-use job_table::{Reply, Retrieved};
+use job_table::Retrieved;
 use os_io::{Memory, Text};
 use soap_calls::{CallKind, write_fault, write_reply};
 use std::alloc::Global;
@@ -48,30 +49,30 @@ fn returned_job(alloc: Global, kind: CallKind, shown: &Retrieved) -> Result<Said
 }
 
 /// What answers the call of this kind about the job of this number, by the last reply of the table.
-pub(crate) fn say(alloc: Global, kind: CallKind, number: u64, last: &Reply) -> Result<Said, Memory>
-    requires { is_last last.now ≡ true }
-    ensures { IfOk result (λ said. said_by kind number last.now ≡ Some said) }
+pub(crate) fn say(
+    alloc: Global,
+    kind: CallKind,
+    number: u64,
+    last: &LastReply,
+) -> Result<Said, Memory>
+    ensures { IfOk result (λ said. said_by kind number (reply_of last.now) ≡ Some said) }
 {
     match last {
-        Reply::Issued(given) => {
+        LastReply::Issued(given) => {
             let id = id_of(alloc, *given)?;
             returned(alloc, kind, id.as_slice())
         }
-        Reply::Full => said_fault(alloc, FaultCode::Full, b"10000 jobs"),
-        Reply::Spent => said_fault(alloc, FaultCode::Spent, b"no ids"),
-        Reply::Sent(taken) => returned(alloc, kind, word_of(*taken)),
-        Reply::Killing(told) => {
+        LastReply::Full => said_fault(alloc, FaultCode::Full, b"10000 jobs"),
+        LastReply::Spent => said_fault(alloc, FaultCode::Spent, b"no ids"),
+        LastReply::Sent(taken) => returned(alloc, kind, word_of(*taken)),
+        LastReply::Killing(told) => {
             let text = text_after_kill(alloc, number, told)?;
             returned(alloc, kind, text.as_slice())
         }
-        Reply::Retrieved(shown) => returned_job(alloc, kind, shown),
-        Reply::Statistics(told) => {
+        LastReply::Retrieved(shown) => returned_job(alloc, kind, shown),
+        LastReply::Statistics(told) => {
             let text = text_of_all(alloc, told)?;
             returned(alloc, kind, text.as_slice())
         }
-        Reply::Gave(_) => unreachable!(),
-        Reply::Marked(_) => unreachable!(),
-        Reply::Finish(_) => unreachable!(),
-        Reply::Done => unreachable!(),
     }
 }

@@ -1,7 +1,7 @@
 use crate::{Limits, Service, serve_loop};
 use desk::Desk;
 use job_runs::Runner;
-use job_table::{Call, Calls, SharedText, Verdicts};
+use job_table::{Calls, SharedText, Verdicts};
 use os_io::{Link, MemLink, MemListener, Watch};
 use std::alloc::Global;
 use std::sync::Wait;
@@ -46,7 +46,7 @@ impl Service<AnyDocument> for OneNumber {
         link: L,
         calls: &mut C,
     ) -> (bool, L) {
-        match calls.call(Call::Issue) {
+        match calls.issue() {
             Ok(_) => (false, link),
             Err(_) => (true, link),
         }

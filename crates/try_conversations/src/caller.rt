@@ -1,9 +1,6 @@
 //! One who makes calls of a table of jobs, beside whom another connection may be served.
-ghost use Rattle.std.specs.Prelude.{◌≡◌, true};
-ghost use Rattle.job_table.specs.Jobs.{empty};
-ghost use Rattle.job_table.specs.Steps.{wants_memory};
-
-use job_table::{Call, Calls, Reply, Table};
+use job_table::moves::Move;
+use job_table::{Calls, IssueFault, Job, Statistics, Table, Twin};
 use os_io::{MemSink, MemSource, Memory};
 use os_server::{Served, serve_ends};
 use job_solver::{SolvedJobs, Solver};
@@ -35,18 +32,6 @@ pub(crate) struct Caller {
     pub other: Option<Other>,
 }
 
-/// Whether a call may want memory, whatever the table holds.
-fn may_want(call: &Call) -> bool
-    ensures { result ≡ true → wants_memory call.now empty ≡ true }
-{
-    match call {
-        Call::Issue => true,
-        Call::Knock => true,
-        Call::Enter { .. } => true,
-        _ => false,
-    }
-}
-
 impl Caller {
     pub(crate) fn new(alloc: Global, lacks: u64) -> Caller {
         Caller {
@@ -71,6 +56,14 @@ impl Caller {
         Ok(())
     }
 
+    /// Counts a call, before which the other connection may be served. True where the call finds no memory, if it is one that may.
+    fn begin_call(&mut self) -> bool {
+        self.made = self.made.saturating_add(1);
+        let made = self.made;
+        self.serve_other(made);
+        made == self.lacks
+    }
+
     /// Serves the other connection, if it comes before this call; 0 is none.
     pub(crate) fn serve_other(&mut self, call: u64) {
         if let Some(other) = &mut self.other {
@@ -89,14 +82,30 @@ impl Calls<SolvedJobs> for Caller {
 
     ghost left = { λ _ _. Unit {0} };
 
-    fn call(&mut self, call: Call) -> Result<Reply, Memory> {
-        self.made = self.made.saturating_add(1);
-        let made = self.made;
-        self.serve_other(made);
-        if made == self.lacks && may_want(&call) {
+    fn make<M: Move<SolvedJobs>>(&mut self, step: M) -> M::Answer {
+        self.begin_call();
+        step.make(&mut self.table)
+    }
+
+    fn issue(&mut self) -> Result<u64, IssueFault> {
+        if self.begin_call() {
+            return Err(IssueFault::Memory);
+        }
+        self.table.issue()
+    }
+
+    fn enter(&mut self, osil: Twin, osol: Twin) -> Result<Job, IssueFault> {
+        if self.begin_call() {
+            return Err(IssueFault::Memory);
+        }
+        self.table.enter(osil, osol)
+    }
+
+    fn knock(&mut self) -> Result<Statistics, Memory> {
+        if self.begin_call() {
             return Err(AllocError);
         }
-        self.table.step(call)
+        self.table.knock()
     }
 
     ghost stays = { λ _. tt };

@@ -4,10 +4,11 @@ ghost use Rattle.desk.specs.Asks.{desk_id, IsSeatOf};
 
 use crate::waiting::wait_for;
 use desk::{Desk, Seat};
-use job_table::{Call, Reply, Retrieved, Twin};
+use job_table::moves::{Issue, Kill, Knock, Retrieve, Send};
+use job_table::{Retrieved, Statistics, Twin};
 use os_io::{Memory, Text};
 use job_solver::{SolvedJobs, Solver};
-use std::alloc::Global;
+use std::alloc::{AllocError, Global};
 use std::sync::Wait;
 use std::sync::atomic::AtomicBool;
 use std::sync::atomic::Ordering::SeqCst;
@@ -45,24 +46,22 @@ impl<'a, R: Clock> Gate for HeldGate<'a, R> {
     ghost joins = { λ _ _ _ _ _ _ _. tt };
 }
 
-/// What is replied, in a line.
-fn line_of(alloc: Global, reply: Reply) -> Result<String, Memory> {
-    match reply {
-        Reply::Statistics(told) => {
-            let state = if told.busy { "busy" } else { "idle" };
-            let current = told.current;
-            let jobs = told.jobs.as_slice();
-            format!(in alloc; "knock: {state}, {current} current, {jobs:?}\n")
-        }
-        Reply::Killing(told) => {
-            let state = told.state;
-            format!(in alloc; "kill: {state:?}\n")
-        }
-        Reply::Retrieved(Retrieved::Finished(Some(document))) => {
+/// What a knock tells, in a line.
+fn line_of_all(alloc: Global, told: &Statistics) -> Result<String, Memory> {
+    let state = if told.busy { "busy" } else { "idle" };
+    let current = told.current;
+    let jobs = told.jobs.as_slice();
+    format!(in alloc; "knock: {state}, {current} current, {jobs:?}\n")
+}
+
+/// What a job is shown as, in a line.
+fn line_of_shown(alloc: Global, shown: &Retrieved) -> Result<String, Memory> {
+    match shown {
+        Retrieved::Finished(Some(document)) => {
             let text = str::from_utf8(document.as_slice()).unwrap_or("");
             format!(in alloc; "retrieve: {text}\n")
         }
-        _ => "another reply\n".to_string(alloc),
+        _ => "another job\n".to_string(alloc),
     }
 }
 
@@ -78,16 +77,11 @@ fn send<R: Wait>(
 {
     let osil = Twin::new(alloc, Text::from_slice(alloc, HALVES)?)?;
     let osol = Twin::new(alloc, Text::new(alloc))?;
-    desk.ask(rt, seat, Call::Issue)?;
-    desk.ask(
-        rt,
-        seat,
-        Call::Send {
-            number: 1,
-            osil,
-            osol,
-        },
-    )?;
+    let number = match desk.ask(rt, seat, Issue) {
+        Ok(number) => number,
+        Err(_) => return Err(AllocError),
+    };
+    desk.ask(rt, seat, Send { number, osil, osol });
     Ok(())
 }
 
@@ -114,9 +108,9 @@ fn knock_and_kill<R: Wait>(
     requires { IsSeatOf (desk_id desk.now) seat.old }
     ensures { IsSeatOf (desk_id desk.now) seat.new }
 {
-    let mut lines = line_of(alloc, desk.ask(rt, seat, Call::Knock)?)?;
-    let killed = desk.ask(rt, seat, Call::Kill { number: 1 })?;
-    lines.push_str(line_of(alloc, killed)?.as_str())?;
+    let mut lines = line_of_all(alloc, &desk.ask(rt, seat, Knock)?)?;
+    let state = desk.ask(rt, seat, Kill { number: 1 }).state;
+    lines.push_str(format!(in alloc; "kill: {state:?}\n")?.as_str())?;
     Ok(lines)
 }
 
@@ -159,9 +153,9 @@ pub(crate) fn kill_beside_a_worker<R: Threads + Wait + Clock + Sync>(
         || kill_at_the_gate(rt, alloc, &desk, seat, &is_reached, &is_open),
     );
     let mut lines = lines?;
-    let shown = desk.ask(rt, &mut seat, Call::Retrieve { number: 1 })?;
-    lines.push_str(line_of(alloc, shown)?.as_str())?;
-    let after = desk.ask(rt, &mut seat, Call::Knock)?;
-    lines.push_str(line_of(alloc, after)?.as_str())?;
+    let shown = desk.ask(rt, &mut seat, Retrieve { number: 1 })?;
+    lines.push_str(line_of_shown(alloc, &shown)?.as_str())?;
+    let after = desk.ask(rt, &mut seat, Knock)?;
+    lines.push_str(line_of_all(alloc, &after)?.as_str())?;
     Ok(lines)
 }

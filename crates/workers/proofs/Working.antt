@@ -1,44 +1,20 @@
 -- Rounds of a worker, one after another.
 use Rattle.std.proofs.Common.{◌≡◌, ℕ, Bool, true, false, List, [], ◌∷◌, ◌++◌, Option, Some, None, refl, sym, ap, ◌∙◌, subst, append_assoc, append-nil, IsTrue, ◌↔◌, IsSome}
 use Rattle.job_table.specs.declared.job.Job.{Job}
-use Rattle.job_table.specs.declared.calls.Call.{Call}
 use Rattle.job_table.specs.declared.calls.Call.TheVariants.{Claim, Enlist, Leave}
-use Rattle.job_table.specs.declared.calls.Reply.{Reply}
 use Rattle.job_table.specs.declared.calls.Reply.TheVariants as reply
-use Rattle.job_table.specs.Jobs.{Register}
-use Rattle.job_table.specs.Steps.{May, fits, wants_memory}
 use Rattle.job_table.specs.History.{Entry, entry}
 use Rattle.job_runs.specs.Runs.{Works}
-use Rattle.workers.specs.Shifts.{IsTurnout, WorkOff, Rests, WorksThrough}
+use Rattle.workers.specs.Shifts.{WorkOff, Rests, WorksThrough}
 
 abbrev pub Made : Type 1
 Made = List ℕ → List ℕ → List Bool → Option (List ℕ) → Type 0
-
-abbrev Right : Type 1
-Right = List ℕ → List ℕ → Bool → Option (List ℕ) → Type 0
 
 false_is_not : false ≡ true → ⊥
 false_is_not e = cc
 
 some_is_not_none : (j : Job) → Some j ≡ None → ⊥
 some_is_not_none j e = cc
-
-pub turnout_may : (right : Right) (call : Call) → IsTurnout call → May right call
-turnout_may right Enlist is = tt
-turnout_may right Leave is = tt
-turnout_may right call is = absurd is
-
-pub turnout_wants_none : (call : Call) (r : Register) → IsTurnout call → wants_memory call r ≡ true → ⊥
-turnout_wants_none Enlist r is wants = false_is_not wants
-turnout_wants_none Leave r is wants = false_is_not wants
-turnout_wants_none call r is wants = is
-
-pub turnout_is_done : (call : Call) (said : Reply) → IsTurnout call → fits call said ≡ true → said ≡ reply.Done
-turnout_is_done Enlist reply.Done is fit = refl
-turnout_is_done Enlist said is fit = absurd (false_is_not fit)
-turnout_is_done Leave reply.Done is fit = refl
-turnout_is_done Leave said is fit = absurd (false_is_not fit)
-turnout_is_done call said is fit = absurd is
 
 -- a round that found nothing had a claim that gave none
 pub none_given : (worked : Bool) (given : Option Job) → worked ≡ false → (IsTrue worked ↔ IsSome given) → given ≡ None

@@ -2,42 +2,44 @@
 use Rattle.std.specs.Prelude.{◌≡◌, ℕ, List, [], ◌∷◌, ◌++◌}
 use Rattle.std.proofs.Common.{refl, sym, ◌∙◌, ap, subst, append_assoc}
 use Rattle.os_io.specs.Looks.{next_call}
-use Rattle.job_table.specs.declared.calls.Call.{Call}
-use Rattle.job_table.specs.declared.calls.Call.TheVariants.{Enter, Claim, Look}
+use Rattle.job_table.specs.declared.moves.MoveKind.{MoveKind}
+use Rattle.job_table.specs.declared.moves.MoveKind.TheVariants.{Looks, Gives, Else}
+use Rattle.job_table.specs.Steps.{kind_of}
 use Rattle.job_table.specs.History.{Entry}
 
--- how many looks at a job there are with one more call: a claim and an enter, which give jobs, begin to count anew
-abbrev pub looks_with : ℕ → Call → ℕ
-looks_with n (Look j) = next_call n
-looks_with n (Claim worker) = 0
-looks_with n (Enter osil osol) = 0
-looks_with n _ = n
+-- how many looks at a job there are with one more call: one that gives a job begins to count anew
+abbrev pub looks_with : ℕ → MoveKind → ℕ
+looks_with n Looks = next_call n
+looks_with n Gives = 0
+looks_with n Else = n
 
 -- the number of a look, and nothing of another call
-abbrev pub number_of : ℕ → Call → List ℕ
-number_of n (Look j) = n ∷ []
-number_of n _ = []
+abbrev pub number_of : ℕ → MoveKind → List ℕ
+number_of n Looks = n ∷ []
+number_of n Gives = []
+number_of n Else = []
 
 -- the numbers of the looks among these calls, after so many
 abbrev pub numbered : ℕ → List Entry → List ℕ
 numbered n [] = []
-numbered n (e ∷ es) = number_of (looks_with n e.call) e.call ++ numbered (looks_with n e.call) es
+numbered n (e ∷ es) =
+    let kind = kind_of e.call in let m = looks_with n kind in number_of m kind ++ numbered m es
 
 -- how many there are after them
 abbrev pub counted : ℕ → List Entry → ℕ
 counted n [] = n
-counted n (e ∷ es) = counted (looks_with n e.call) es
+counted n (e ∷ es) = counted (looks_with n (kind_of e.call)) es
 
 numbered-append : (n : ℕ) (a b : List Entry) → numbered n (a ++ b) ≡ numbered n a ++ numbered (counted n a) b
 numbered-append n [] b = refl
 numbered-append n (e ∷ es) b =
-    let m : ℕ = looks_with n e.call in
-    ap (λ (l : List ℕ). number_of m e.call ++ l) (numbered-append m es b)
-    ∙ sym (append_assoc (number_of m e.call) (numbered m es) (numbered (counted m es) b))
+    let m : ℕ = looks_with n (kind_of e.call) in
+    ap (λ (l : List ℕ). number_of m (kind_of e.call) ++ l) (numbered-append m es b)
+    ∙ sym (append_assoc (number_of m (kind_of e.call)) (numbered m es) (numbered (counted m es) b))
 
 counted-append : (n : ℕ) (a b : List Entry) → counted n (a ++ b) ≡ counted (counted n a) b
 counted-append n [] b = refl
-counted-append n (e ∷ es) b = counted-append (looks_with n e.call) es b
+counted-append n (e ∷ es) b = counted-append (looks_with n (kind_of e.call)) es b
 
 -- a gate that is passed before calls, and then before others, is passed before both
 pub passed_then : (passed passed' both : List ℕ → Type 0) → ((a b : List ℕ) → passed a → passed' b → both (a ++ b))

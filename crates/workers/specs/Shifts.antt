@@ -1,17 +1,10 @@
 -- What a worker does from its coming to its leaving, as calls.
 use Rattle.std.specs.Prelude.{◌≡◌, ℕ, Bool, true, List, [], ◌∷◌, ◌++◌, Option, None}
 use Rattle.job_table.specs.declared.job.Job.{Job}
-use Rattle.job_table.specs.declared.calls.Call.{Call}
 use Rattle.job_table.specs.declared.calls.Call.TheVariants.{Claim, Enlist, Leave}
 use Rattle.job_table.specs.declared.calls.Reply.TheVariants as reply
 use Rattle.job_table.specs.History.{Entry, entry}
 use Rattle.job_runs.specs.Runs.{Works}
-
--- a worker comes or goes
-abbrev pub IsTurnout : Call → Type 0
-IsTurnout Enlist = Unit {0}
-IsTurnout Leave = Unit {0}
-IsTurnout _ = ⊥
 
 -- which looks a run of a job's texts makes, with their answers, and which document comes of it, is given
 module _ (made : List ℕ → List ℕ → List Bool → Option (List ℕ) → Type 0) where

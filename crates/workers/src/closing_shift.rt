@@ -6,10 +6,10 @@ ghost use Rattle.desk.specs.Asks.{desk_id, IsSeatOf};
 ghost use Rattle.desk.specs.Asked.{Asked};
 ghost use Rattle.workers.specs.Shifts.{WorksThrough};
 
-use crate::work::{tell, work_off};
+use crate::work::work_off;
 use desk::{Caller, Desk, Seat};
 use job_runs::Runner;
-use job_table::{Call, Calls, Verdicts};
+use job_table::{Calls, Verdicts};
 use std::alloc::Global;
 use std::sync::Wait;
 
@@ -44,7 +44,7 @@ fn work_shift<V: Verdicts, C: Calls<V>, R: Wait, U: Runner<V>>(
 )
     ensures { (own : List Entry) × C.did calls.old calls.new own × WorksThrough U.ran own }
 {
-    tell(calls, Call::Enlist);
+    calls.enlist();
     work_off(rt, alloc, calls, runner);
-    tell(calls, Call::Leave);
+    calls.leave();
 }

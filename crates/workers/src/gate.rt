@@ -4,8 +4,8 @@ ghost use Rattle.std.specs.Prelude.{◌≡◌};
 ghost use Rattle.workers.specs.Gates.{looks_with, number_of};
 
 use desk::Caller;
-use job_table::{Call, Calls, CallsWatch, Reply, Verdicts};
-use os_io::Memory;
+use job_table::moves::{Move, MoveKind};
+use job_table::{Calls, CallsWatch, Verdicts};
 use std::marker::PhantomData;
 
 /// Is passed before each look at whether a job is to stop.
@@ -52,30 +52,22 @@ pub struct Gated<'a, V: Verdicts, C: Calls<V>, G> {
 /// A watch that asks a desk for one job, with a gate before each look.
 pub type DeskWatch<'a, 'b, J, R, G> = CallsWatch<'a, J, Gated<'b, J, Caller<'b, J, R>, G>>;
 
-/// How many looks at a job there are with this call.
-fn count_with(looks: u64, call: &Call) -> u64
-    ensures { result ≡ looks_with looks call.now }
+/// How many looks at a job there are with a move of this kind.
+fn count_with(looks: u64, kind: MoveKind) -> u64
+    ensures { result ≡ looks_with looks kind }
 {
-    match call {
-        Call::Look { .. } => looks.saturating_add(1),
-        Call::Claim { .. } => 0,
-        Call::Enter { .. } => 0,
-        Call::Issue => looks,
-        Call::Send { .. } => looks,
-        Call::Finish { .. } => looks,
-        Call::Kill { .. } => looks,
-        Call::Retrieve { .. } => looks,
-        Call::Knock => looks,
-        Call::Enlist => looks,
-        Call::Leave => looks,
+    match kind {
+        MoveKind::Looks => looks.saturating_add(1),
+        MoveKind::Gives => 0,
+        MoveKind::Else => looks,
     }
 }
 
-/// Passes the gate, where the call is a look.
-fn pass_before<G: Gate>(gate: &mut G, look: u64, call: &Call)
-    ensures { G.passed gate.old gate.new (number_of look call.now) }
+/// Passes the gate, where the move is a look.
+fn pass_before<G: Gate>(gate: &mut G, look: u64, kind: MoveKind)
+    ensures { G.passed gate.old gate.new (number_of look kind) }
 {
-    if let Call::Look { .. } = call {
+    if let MoveKind::Looks = kind {
         gate.pass(look);
     }
 }
@@ -90,12 +82,15 @@ impl<'a, V: Verdicts, C: Calls<V>, G: Gate> Calls<V> for Gated<'a, V, C, G> {
 
     ghost left = { λ x r. C.left x.calls r };
 
-    fn call(&mut self, call: Call) -> Result<Reply, Memory> {
-        let looks = count_with(self.looks, &call);
-        pass_before(&mut *self.gate, looks, &call);
-        let reply = self.calls.call(call)?;
-        self.looks = looks;
-        Ok(reply)
+    fn make<M: Move<V>>(&mut self, step: M) -> M::Answer {
+        let kind = step.kind();
+        let looks = count_with(self.looks, kind);
+        pass_before(&mut *self.gate, looks, kind);
+        let answer = self.calls.make(step);
+        if M::is_made(&answer) {
+            self.looks = looks;
+        }
+        answer
     }
 
     ghost stays = { λ x. (refl, C.stays x.calls, G.stays x.gate.now, refl) };

@@ -3,9 +3,10 @@ ghost use Rattle.desk.specs.Asks.{desk_id, IsSeatOf};
 use crate::{Gate, OpenGate, Wake, wake_pair, work_loop, work_one};
 use desk::{Desk, Seat};
 use job_runs::Runner;
-use job_table::{Call, Reply, Retrieved, SharedText, Twin, Verdicts};
+use job_table::moves::{Issue, Retrieve, Send};
+use job_table::{Retrieved, SharedText, Twin, Verdicts};
 use os_io::{Memory, Text, Watch};
-use std::alloc::Global;
+use std::alloc::{AllocError, Global};
 use std::sync::Wait;
 use std::test::Fail;
 
@@ -59,8 +60,8 @@ fn twin(alloc: Global, bytes: &[u8]) -> Result<Twin, Memory> {
     Twin::new(alloc, Text::from_slice(alloc, bytes)?)
 }
 
-fn send(alloc: Global, number: u64) -> Result<Call, Memory> {
-    Ok(Call::Send {
+fn send(alloc: Global, number: u64) -> Result<Send, Memory> {
+    Ok(Send {
         number,
         osil: twin(alloc, b"osil")?,
         osol: twin(alloc, b"osol")?,
@@ -80,8 +81,10 @@ fn queue<R: Wait>(
     ensures { IsSeatOf (desk_id desk.now) seat.new }
 {
     let call = send(alloc, number)?;
-    desk.ask(rt, seat, Call::Issue)?;
-    desk.ask(rt, seat, call)?;
+    if desk.ask(rt, seat, Issue).is_err() {
+        return Err(AllocError);
+    }
+    desk.ask(rt, seat, call);
     wake.ring(rt)
 }
 
@@ -109,7 +112,7 @@ fn workers_run_what_waits_and_leave_at_the_end(rt: HostRuntime) -> Result<(), Fa
         &Echo,
         &mut OpenGate,
     );
-    let shown = desk.ask(&rt, &mut seat, Call::Retrieve { number: 2 })?;
-    assert!(rt; matches!(shown, Reply::Retrieved(Retrieved::Finished(Some(_)))));
+    let shown = desk.ask(&rt, &mut seat, Retrieve { number: 2 })?;
+    assert!(rt; matches!(shown, Retrieved::Finished(Some(_))));
     Ok(())
 }

@@ -1,19 +1,19 @@
 //! Jobs are claimed, run and finished.
 
-ghost use Rattle.std.specs.Prelude.{◌≡◌, List, [], ◌∷◌, IsTrue, ◌↔◌, IsSome, Option};
+ghost use Rattle.std.specs.Prelude.{◌≡◌, List, IsTrue, ◌↔◌, IsSome, Option};
 ghost use Rattle.job_table.specs.declared.job.Job.{Job};
-ghost use Rattle.job_table.specs.History.{Entry, entry};
+ghost use Rattle.job_table.specs.History.{Entry};
 ghost use Rattle.job_runs.specs.Runs.{Works};
 ghost use Rattle.desk.specs.Asks.{desk_id, IsSeatOf};
 ghost use Rattle.desk.specs.Asked.{Asked};
-ghost use Rattle.workers.specs.Shifts.{IsTurnout, Rests, WorksThrough};
+ghost use Rattle.workers.specs.Shifts.{Rests, WorksThrough};
 ghost use Rattle.workers.specs.Gates.{numbered};
 
 use crate::gate::{Gate, Gated};
 use crate::wake::Naps;
 use desk::{Caller, Desk, Seat};
 use job_runs::Runner;
-use job_table::{Call, Calls, Reply, Verdicts};
+use job_table::{Calls, Verdicts};
 use std::alloc::Global;
 use std::marker::PhantomData;
 use std::sync::Wait;
@@ -100,9 +100,9 @@ fn work_through<V: Verdicts, C: Calls<V>, R: Wait, U: Runner<V>>(
 )
     ensures { (own : List Entry) × C.did calls.old calls.new own × WorksThrough U.ran own }
 {
-    tell(calls, Call::Enlist);
+    calls.enlist();
     work_and_sleep(rt, alloc, calls, naps, runner);
-    tell(calls, Call::Leave);
+    calls.leave();
 }
 
 /// Works until nothing waits, and again after each token, until the channel is closed and nothing waits.
@@ -141,15 +141,4 @@ pub(crate) fn work_off<V: Verdicts, C: Calls<V>, R: Wait, U: Runner<V>>(
         }
     }
     unreachable!()
-}
-
-/// Tells the table that a worker comes or goes.
-pub(crate) fn tell<V: Verdicts, C: Calls<V>>(calls: &mut C, call: Call)
-    requires { IsTurnout call }
-    ensures { C.did calls.old calls.new (entry call Reply.Done ∷ []) }
-{
-    match calls.call(call) {
-        Ok(_) => {}
-        Err(_) => unreachable!(),
-    }
 }

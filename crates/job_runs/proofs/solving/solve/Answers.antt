@@ -1,18 +1,16 @@
 use Rattle.job_runs.proofs.Working.{entered_run, solved, unsolved}
 use Rattle.job_runs.proofs.solving.solve.Goals as goal
 
-pub returns-in-Ok-clause-ok : goal.returns-in-Ok-clause-ok
-returns-in-Ok-clause-ok g c =
+pub returns-in-Ok-retrieve-clause-ok : goal.returns-in-Ok-retrieve-clause-ok
+returns-in-Ok-retrieve-clause-ok g c =
     solved g.R.Runner.ran (g.C.Calls.did c.args.calls.now c.run_given.new.calls) _ _ (λ a b. g.met.C.Calls.joins _ _ _ a b)
-    c.args.osil c.args.osol c.in-Ok-Gave-Some.job c.in-Ok.shown
-    (entered_run g.R.Runner.ran _ _ _ (λ a b. g.met.C.Calls.joins _ _ _ a b) c.args.osil c.args.osol c.in-Ok-Gave-Some.field-0 _
-    c.in-Ok-Gave-Some.job c.in-Ok-Gave-Some.field-0-is c.in-Ok-Gave-Some.field-0-0-is c.in-Ok-Gave-Some.ensures.ok c.run_given.ensures)
-    c.in-Ok.ensures.ok
+    c.args.osil c.args.osol c.in-Ok.job c.in-Ok-retrieve.shown
+    (entered_run g.R.Runner.ran _ _ _ (λ a b. g.met.C.Calls.joins _ _ _ a b) c.args.osil c.args.osol c.in-Ok.job c.in-Ok.ensures.did c.run_given.ensures)
+    c.in-Ok-retrieve.ensures.did
 
 pub returns-in-Err-retrieve-clause-err : goal.returns-in-Err-retrieve-clause-err
 returns-in-Err-retrieve-clause-err g c =
     unsolved g.R.Runner.ran (g.C.Calls.did c.args.calls.now c.run_given.new.calls) _ _ (λ a b. g.met.C.Calls.joins _ _ _ a b)
-    c.args.osil c.args.osol c.in-Ok-Gave-Some.job
-    (entered_run g.R.Runner.ran _ _ _ (λ a b. g.met.C.Calls.joins _ _ _ a b) c.args.osil c.args.osol c.in-Ok-Gave-Some.field-0 _
-    c.in-Ok-Gave-Some.job c.in-Ok-Gave-Some.field-0-is c.in-Ok-Gave-Some.field-0-0-is c.in-Ok-Gave-Some.ensures.ok c.run_given.ensures)
-    c.in-Err-retrieve.ensures.err
+    c.args.osil c.args.osol c.in-Ok.job
+    (entered_run g.R.Runner.ran _ _ _ (λ a b. g.met.C.Calls.joins _ _ _ a b) c.args.osil c.args.osol c.in-Ok.job c.in-Ok.ensures.did c.run_given.ensures)
+    c.in-Err-retrieve.ensures.did

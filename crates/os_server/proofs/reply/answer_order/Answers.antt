@@ -1,5 +1,5 @@
 use Rattle.std.proofs.Common.{◌∙◌, sym, refl}
-use Rattle.os_server.specs.Answers.{said_by}
+use Rattle.os_server.specs.Answers.{said_by, reply_of}
 use Rattle.os_server.proofs.reply.answer_order.Goals as goal
 
 pub returns-in-Ok-say : goal.returns-in-Ok-say
@@ -9,9 +9,9 @@ returns-in-Ok-say g c =
       does.1,
       (
         refl,
-        c.in-Ok.last,
+        reply_of c.in-Ok.last,
         does.2,
-        (λ i. said_by (sym c.kind-kind.ensures i) (sym c.number-number.ensures i) c.in-Ok.last) ∙ c.in-Ok-say.ensures,
+        (λ i. said_by (sym c.kind-kind.ensures i) (sym c.number-number.ensures i) (reply_of c.in-Ok.last)) ∙ c.in-Ok-say.ensures,
         c.works_after-as_worker.ensures,
       ),
     )

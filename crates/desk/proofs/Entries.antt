@@ -1,0 +1,42 @@
+-- A call of one seat that was made, or wasn't, as a list of calls.
+use Rattle.std.proofs.Common.{◌≡◌, ℕ, Bool, true, false, List, [], ◌∷◌, ◌++◌, Option, Some, None, refl, sym, ap, ◌∙◌, append_assoc, append-nil, IfSome, IfNone, IsSome, IsTrue, ◌↔◌}
+use Rattle.job_table.specs.declared.calls.Call.{Call}
+use Rattle.job_table.specs.declared.calls.Reply.{Reply}
+use Rattle.job_table.specs.History.{entry_if}
+use Rattle.desk.specs.declared.view.Entry.{Entry}
+use Rattle.desk.specs.declared.view.View.{View}
+use Rattle.desk.specs.History.{calls_by, entry}
+use Rattle.desk.specs.Plays.{Sat}
+use Rattle.desk.specs.Asks.{IsReady, Adds, Waits, Lacks}
+use Rattle.desk.specs.Asked.{Asked}
+use Rattle.desk.proofs.Keeps.{false_is_not}
+
+-- a call that wasn't made has no reply
+pub not_made : (made : Bool) (said : Option Reply) (P : Type 0) → made ≡ false → (IsTrue made ↔ IsSome said) → IfNone said P → P
+not_made made None P is same p = p
+not_made made (Some reply) P is same p = absurd (false_is_not (sym (same.1 refl) ∙ is))
+
+module _ (right : List ℕ → List ℕ → Bool → Option (List ℕ) → Type 0) {J : Type 0} where
+  -- what a call does to a seat is what a list of one call does, or of none
+  pub asked_if : (call : Call) (said : Option Reply) (me me' : Sat J) → IsReady {J = J} me → IsReady {J = J} me'
+      → IfSome said (λ reply. Adds right me.0 call reply me'.0) → IfNone said (Lacks right call me'.0.seen) → IfNone said (Waits me.0 me'.0)
+      → Asked right me.0 me'.0 (entry_if call said)
+  asked_if call (Some reply) me me' old new adds lacks waits =
+      let e : Entry = entry me.0.number call reply in record {
+        mine = adds.mine;
+        seen = (adds.between ++ e ∷ [], adds.seen ∙ append_assoc me.0.seen adds.between (e ∷ []));
+        stand = new.stand ∙ adds.mine ∙ ap (λ (l : List Entry). l ++ e ∷ []) (sym old.stand);
+        legal = λ _. adds.legal;
+        made_legal = λ _. adds.legal;
+        known = λ _. new.known;
+        stays = adds.stays;
+      }
+  asked_if call None me me' old new adds lacks waits = record {
+    mine = waits.mine ∙ sym (append-nil me.0.mine);
+    seen = waits.seen;
+    stand = new.stand ∙ waits.mine ∙ sym old.stand ∙ sym (append-nil (calls_by me.0.number me.0.seen));
+    legal = λ _. (lacks.held, lacks.leads);
+    made_legal = λ some. absurd (some refl);
+    known = λ _. new.known;
+    stays = waits.stays;
+  }
