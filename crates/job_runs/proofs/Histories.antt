@@ -1,4 +1,4 @@
--- Runs and retrieved documents in a history.
+-- Runs in a history.
 use Rattle.std.proofs.Common.{◌≡◌, ℕ, Bool, true, List, [], ◌∷◌, ◌++◌, Option, Some, refl, sym, ◌∙◌, ap, subst, inl, inr}
 use Rattle.std.proofs.lemmas.List.Elements.{All-nil, All-cons, All-append}
 use Rattle.job_table.specs.declared.job.Job.{Job}
@@ -10,10 +10,10 @@ use Rattle.job_table.specs.declared.calls.Reply.{Reply}
 use Rattle.job_table.specs.declared.calls.Reply.TheVariants as reply
 use Rattle.job_table.specs.Jobs.{Register, empty}
 use Rattle.job_table.specs.History.{Entry, entry, Runs, NoFinish, WasTold, IsGiving}
-use Rattle.job_table.specs.Laws.{FirstFinishIsKept, RetrievedDocumentsAreRight}
+use Rattle.job_table.specs.Laws.{FirstFinishIsKept}
 use Rattle.job_table.specs.Watching.{looks}
 use Rattle.job_runs.specs.Runs.{stop_if, IsRun}
-use Rattle.job_runs.specs.Laws.{IsKept, AreKept, RunsAreKept, DocumentsComeRight}
+use Rattle.job_runs.specs.Laws.{IsKept, AreKept, RunsAreKept}
 
 abbrev Made : Type 1
 Made = List ℕ → List ℕ → List Bool → Option (List ℕ) → Type 0
@@ -64,9 +64,3 @@ run_kept made right law j call before run now giving r runs =
     subst (λ (es : List Entry). AreKept es) (sym r.are)
     (All-append IsKept (looks j.number r.answers) (entry (Finish j r.asked r.document) (reply.Finish r.end) ∷ []) (looks_kept j.number r.answers)
     (All-cons IsKept (entry (Finish j r.asked r.document) (reply.Finish r.end)) [] (subst (λ (end : answer.Finish). IsKept (entry (Finish j r.asked r.document) (reply.Finish end))) (sym kept) refl) (All-nil IsKept)))
-
--- a document that is retrieved came right
-pub came_right : (right : Right) → RetrievedDocumentsAreRight right → DocumentsComeRight right
-came_right right law n document before after now runs =
-    let (mid, first, (next, step, rest)) = runs_split right empty now before _ runs in
-    law n document before mid next first step

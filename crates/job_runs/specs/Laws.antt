@@ -1,15 +1,14 @@
--- What holds of runs, and of documents that are retrieved, in every history from the empty table on.
+-- What holds of runs in every history from the empty table on.
 use Rattle.std.specs.Prelude.{◌≡◌, ℕ, Bool, true, false, All, List, ◌∷◌, ◌++◌, Option, Some}
 use Rattle.job_table.specs.declared.job.Job.{Job}
 use Rattle.job_table.specs.declared.calls.Call.{Call}
 use Rattle.job_table.specs.declared.calls.Call.TheVariants as calls
 use Rattle.job_table.specs.declared.calls.Finish as answer
 use Rattle.job_table.specs.declared.calls.Finish.TheVariants as ends
-use Rattle.job_table.specs.declared.calls.Retrieved.TheVariants as shown
 use Rattle.job_table.specs.declared.calls.Reply.{Reply}
 use Rattle.job_table.specs.declared.calls.Reply.TheVariants as reply
 use Rattle.job_table.specs.Jobs.{Register, empty}
-use Rattle.job_table.specs.History.{Entry, entry, Runs, IsGiving, CameRight}
+use Rattle.job_table.specs.History.{Entry, entry, Runs, IsGiving}
 use Rattle.job_runs.specs.Runs.{IsRun}
 
 -- a finish was kept
@@ -40,11 +39,3 @@ abbrev pub RunsAreKept : (List ℕ → List ℕ → List Bool → Option (List �
 RunsAreKept made right =
     (j : Job) (call : Call) (before run : List Entry) (now : Register) → IsGiving call → IsRun made j run
     → Runs right empty (before ++ entry call (reply.Gave (Some j)) ∷ run) now → AreKept run
-
-module _ (right : List ℕ → List ℕ → Bool → Option (List ℕ) → Type 0) where
-  -- a document that is retrieved came before with a finish that was kept: it is right for the texts brought under its number
-  abbrev pub DocumentsComeRight : Type 0
-  DocumentsComeRight =
-      (n : ℕ) (document : Option (List ℕ)) (before after : List Entry) (now : Register)
-      → Runs right empty (before ++ entry (calls.Retrieve n) (reply.Retrieved (shown.Finished document)) ∷ after) now
-      → CameRight right n document before

@@ -8,7 +8,7 @@
 //! What runs a job is a [`Runner`], which looks at a watch of the caller's and makes no call itself. What makes the calls is
 //! anyone who may (`job_table::Calls`).
 //!
-//! Two laws hold of every history: [`finishes_are_kept`] and [`documents_come_right`].
+//! In every history [`finishes_are_kept`].
 #![tactic(auto)]
 
 mod laws;
@@ -16,7 +16,7 @@ mod runner;
 mod solving;
 mod work;
 
-pub use laws::{documents_come_right, finishes_are_kept};
+pub use laws::finishes_are_kept;
 pub use runner::Runner;
 pub use solving::solve;
 pub use work::{run_given, work_one};

@@ -4,9 +4,9 @@ ghost use Rattle.os_io.specs.Files.{CountsFiles};
 ghost use Rattle.os_app.specs.Checks.{IsAnswerAbout, IsAnswerLine, IsAnswerTo};
 ghost use Rattle.os_app.specs.Statuses.{check_status};
 
-use document_checker::{CheckFault as Refused, Kind, answer_text, check_docs};
 use command_answers::status::{DONE, NEGATIVE};
 use command_answers::{Answer, MOST_READ};
+use document_checker::{CheckFault as Refused, Kind, answer_text, check_docs};
 use os_io::{FileFault, Files, Memory, Text};
 use std::alloc::Global;
 

@@ -13,12 +13,14 @@ ghost use Rattle.os_app.specs.Statuses.{session_status};
 use crate::checking::answer_about;
 use crate::generating::generate;
 use crate::solving::solve_files;
-use document_checker::{accepted_is_not_refused, documents_have_one_answer, documents_have_one_kind};
 use command_answers::status::{
     CUT_SHORT, DONE, MISUSED, NO_LINK, NO_MEMORY, READ_FAULT, WRITE_FAULT,
 };
 use command_answers::{Answer, send_answer};
 use command_line::{Asked, numbers_are_within_their_ends, read, write_usage};
+use document_checker::{
+    accepted_is_not_refused, documents_have_one_answer, documents_have_one_kind,
+};
 use os_client::make_call;
 use os_io::{Failed, FileFault, Files, Listener, Memory, Sink, Source};
 use os_server::Served;

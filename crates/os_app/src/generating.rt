@@ -4,9 +4,9 @@ ghost use Rattle.os_app.specs.Summaries.{IsDecided, IsSummaryAbout, IsSummaryOf,
 
 use crate::checking::status_of;
 use crate::solving::solve;
-use document_checker::{CheckFault as Refused, check_docs};
 use certificate::{Cause, Claim};
 use command_answers::Answer;
+use document_checker::{CheckFault as Refused, check_docs};
 use generator::{line_of, make};
 use os_io::Memory;
 use osil_grammar::encode;

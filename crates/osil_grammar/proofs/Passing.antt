@@ -1,12 +1,18 @@
 -- A way to the end of an element, past all that is in it.
-use Rattle.std.proofs.Common.{◌≡◌, ℕ, ◌+◌, ◌-◌, ◌<◌, ◌≤◌, zero, suc, List, ◌∷◌, length, drop, refl, ap, sym, ◌∙◌, subst, arith, inl, inr, length-drop}
-use Rattle.tree_grammar.specs.Elements.{Nodes, Event, Close, nodes_events}
+use Rattle.std.proofs.Common.{◌≡◌, ℕ, ◌+◌, ◌-◌, ◌<◌, ◌≤◌, zero, suc, List, [], ◌∷◌, length, drop, refl, ap, sym, ◌∙◌, subst, arith, inl, inr, length-drop}
+use Rattle.tree_grammar.specs.Elements.{Nodes, Event, Open, Chars, Close, nodes_events}
 use Rattle.document_tags.specs.Rests.{after_text}
-use Rattle.document_tags.proofs.Content.{length-after_text}
 use Rattle.document_tags.specs.Elements.{elements_in}
 use Rattle.osil_grammar.specs.Walking.{Walking, Begun, Entered, Left, GoesOn}
 use Rattle.osil_grammar.proofs.Children.{next_of}
 use Rattle.osil_grammar.proofs.Steps.{is_walking}
+
+-- passing over characters leaves no more
+length-after_text : (es : List Event) → length (after_text es) ≤ length es
+length-after_text [] = omega arith
+length-after_text (Open name attributes ∷ more) = omega arith
+length-after_text (Chars text ∷ more) = omega (arith, length-after_text more)
+length-after_text (Close name ∷ more) = omega arith
 
 -- so many elements are to end before the one whose end this rest comes behind, and so many are to begin
 abbrev pub IsAhead : ℕ → List Event → List Event → ℕ → Type 0

@@ -5,7 +5,7 @@ use Rattle.tree_grammar.specs.Elements.{Element}
 use Rattle.document_tags.specs.declared.spot.Spot.{Spot}
 use Rattle.document_tags.specs.Elements.{children_named}
 use Rattle.document_tags.specs.Spots.{Stands, AreSpots, IsSpot}
-use Rattle.document_tags.specs.Only.{only, plain_text}
+use Rattle.document_tags.specs.Only.{only_one, plain_text}
 use Rattle.six_calls.specs.declared.call.CallKind.{CallKind}
 use Rattle.six_calls.specs.declared.part.Part.{Part}
 use Rattle.six_calls.specs.Names.{part_text, is_needed, has}

@@ -1,9 +1,9 @@
 //! One who makes calls of a table of jobs, beside whom another connection may be served.
+use job_solver::{SolvedJobs, Solver};
 use job_table::moves::Move;
 use job_table::{Calls, IssueFault, Job, Statistics, Table, Twin};
 use os_io::{MemSink, MemSource, Memory};
 use os_server::{Served, serve_ends};
-use job_solver::{SolvedJobs, Solver};
 use std::alloc::{AllocError, Global};
 
 /// Room for the answers to the other connection.
@@ -91,21 +91,34 @@ impl Calls<SolvedJobs> for Caller {
         if self.begin_call() {
             return Err(IssueFault::Memory);
         }
-        self.table.issue()
+        match self.table.issue() {
+            Ok(given) => Ok(given),
+            Err(IssueFault::Full) => Err(IssueFault::Full),
+            Err(IssueFault::Spent) => Err(IssueFault::Spent),
+            Err(IssueFault::Memory) => Err(IssueFault::Memory),
+        }
     }
 
     fn enter(&mut self, osil: Twin, osol: Twin) -> Result<Job, IssueFault> {
         if self.begin_call() {
             return Err(IssueFault::Memory);
         }
-        self.table.enter(osil, osol)
+        match self.table.enter(osil, osol) {
+            Ok(given) => Ok(given),
+            Err(IssueFault::Full) => Err(IssueFault::Full),
+            Err(IssueFault::Spent) => Err(IssueFault::Spent),
+            Err(IssueFault::Memory) => Err(IssueFault::Memory),
+        }
     }
 
     fn knock(&mut self) -> Result<Statistics, Memory> {
         if self.begin_call() {
             return Err(AllocError);
         }
-        self.table.knock()
+        match self.table.knock() {
+            Ok(statistics) => Ok(statistics),
+            Err(AllocError) => Err(AllocError),
+        }
     }
 
     ghost stays = { λ _. tt };

@@ -3,9 +3,9 @@
 use crate::caller::Caller;
 use crate::conditions::Conditions;
 use cases::count_left;
+use job_solver::Solver;
 use os_io::{MemLink, MemSink, MemSource, Memory, Text};
 use os_server::{Served, serve_ends, serve_one};
-use job_solver::Solver;
 use std::alloc::Global;
 
 /// The most bytes that another connection may leave.

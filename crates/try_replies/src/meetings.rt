@@ -1,10 +1,10 @@
 //! Calls of a client that a server answers, told as texts.
 
 use crate::calls::{asked_text, called_text};
+use job_solver::{SolvedJobs, Solver};
 use job_table::Table;
 use os_io::{MemLink, Memory, Text};
 use os_server::serve_one;
-use job_solver::{SolvedJobs, Solver};
 use std::alloc::Global;
 
 /// The room for what a server writes.

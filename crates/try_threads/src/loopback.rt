@@ -3,7 +3,7 @@
 use crate::clients::{job_of, last_request};
 use crate::waiting::wait_for;
 use os_io::{Failed, Listener, MemSink, Memory};
-use serving::{Limits, serve};
+use serving::{Ending, Limits, serve};
 use std::alloc::Global;
 use std::io::{self, Read, Write};
 use std::net::{Net, TcpListener, TcpStream};
@@ -34,7 +34,8 @@ struct NoticedNet<'a, N> {
     notice: &'a Notice,
 }
 
-impl<'a, N: Net<Listener = TcpListener, Stream = TcpStream> + AllocGlobal + Drop> Listener for NoticedNet<'a, N> {
+impl<'a, N: Net<Listener = TcpListener, Stream = TcpStream> + AllocGlobal + Drop> Listener
+    for NoticedNet<'a, N> {
     type Conn = TcpLink;
 
     ghost tells = { λ s. ⟦<TcpNet<N> as Listener>⟧.tells s.net };
@@ -99,9 +100,32 @@ fn ask_in_turn<R: Net<Stream = TcpStream> + Clock>(
     }
 }
 
+/// Serves two links, both at once.
+fn serve_two<N: Listener, R: Threads + Wait + Sync>(
+    rt: &R,
+    alloc: Global,
+    net: &mut N,
+    output: &mut MemSink,
+) -> Ending
+where
+    N::Conn: Send + Drop,
+{
+    let limits = Limits {
+        servers: 2,
+        connections: 2,
+        workers: 0,
+    };
+    serve(rt, alloc, net, output, HOST, 0, limits)
+}
+
 /// Serves two links over TCP, of which the first brings its request only once the second ended.
 pub(crate) fn serve_over_loopback<
-    R: Threads + Wait + Clock + Sync + Net<Listener = TcpListener, Stream = TcpStream> + AllocGlobal,
+    R: Threads
+        + Wait
+        + Clock
+        + Sync
+        + Net<Listener = TcpListener, Stream = TcpStream>
+        + AllocGlobal,
 >(rt: &R, alloc: Global) -> Result<String, Memory> {
     let notice = Notice {
         port: AtomicU64::new(0),
@@ -112,14 +136,9 @@ pub(crate) fn serve_over_loopback<
         notice: &notice,
     };
     let mut output = MemSink::new(alloc, 64, &[])?;
-    let limits = Limits {
-        servers: 2,
-        connections: 2,
-        workers: 0,
-    };
     let (ending, told) = join(
         rt,
-        || serve(rt, alloc, &mut net, &mut output, HOST, 0, limits),
+        || serve_two(rt, alloc, &mut net, &mut output),
         || ask_in_turn(rt, alloc, &notice),
     );
     let told = told?;

@@ -4,10 +4,10 @@ ghost use Rattle.desk.specs.Asks.{desk_id, IsSeatOf};
 
 use crate::waiting::wait_for;
 use desk::{Desk, Seat};
+use job_solver::{SolvedJobs, Solver};
 use job_table::moves::{Issue, Kill, Knock, Retrieve, Send};
 use job_table::{Retrieved, Statistics, Twin};
 use os_io::{Memory, Text};
-use job_solver::{SolvedJobs, Solver};
 use std::alloc::{AllocError, Global};
 use std::sync::Wait;
 use std::sync::atomic::AtomicBool;
