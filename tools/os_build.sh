@@ -41,8 +41,8 @@ lay_out_crate() {
     done
 }
 
-# The room is a copy of the crates: there `rt all` goes over them and no others, several at once, where checks in one checkout would
-# wait for each other. What it proved the build then takes over, by its text. It also lists the crates that an earlier run has proved.
+# The room is a copy of the crates, in which what was proved stays: so a build that was interrupted goes on, and behind a change only the
+# crate and those above it are proved again. It also lists the crates that an earlier run has proved.
 lay_out() {
     mkdir -p "$room/crates" && lines >"$room/crates.txt" && cp "$here/HANDLES" "$room" && : >"$kept" || return 1
     for old in "$room/crates"/*; do
@@ -50,16 +50,8 @@ lay_out() {
     done
     for listed in $(sed 's/[ :].*//' "$room/crates.txt"); do
         lay_out_crate "$listed" || return 1
-        [ ! -e "$room/crates/$listed/out/rlib/stamp" ] || echo "$listed" >>"$kept"
+        [ ! -e "$room/crates/$listed/out/proved" ] || echo "$listed" >>"$kept"
     done
-}
-
-# How many crates to begin. One that waits for those below it holds a place and no processor, so twice as many as there are
-# processors; and one for each 2 GB of free memory.
-places() {
-    awk -v places="$(($(nproc) * 2))" '
-        $1 == "MemAvailable:" && $2 < places * 2097152 { places = int($2 / 2097152) }
-        END { print (places < 1 ? 1 : places) }' /proc/meminfo
 }
 
 # How many crates are proved, of how many, and about how many minutes are left, by the seconds of docs/WORKING.md's table: as fast
@@ -75,7 +67,7 @@ count_crates() {
     ' part=times "$here/docs/WORKING.md" part=names "$room/crates.txt" part=kept "$kept" part=proved "$proved"
 }
 
-# One line that goes on in place at a terminal, and elsewhere a line at every tenth crate.
+# One line that goes on in place at a terminal, and elsewhere a line at every tenth crate and at the last one.
 tell_progress() {
     gone=$(($(date +%s) - begun))
     # shellcheck disable=SC2046 # three numbers
@@ -83,8 +75,9 @@ tell_progress() {
     text="$1 of $2 crates proved, $((gone / 60)) min gone, about $3 min left"
     if [ -t 2 ]; then
         printf '\ros: %s   ' "$text" >&2
-    elif [ $(($1 / 10)) -ge "$tens" ]; then
+    elif [ "$1" != "$told" ] && { [ $(($1 / 10)) -ge "$tens" ] || [ "$1" = "$2" ]; }; then
         say "$text"
+        told=$1
         tens=$(($1 / 10 + 1))
     fi
 }
@@ -107,7 +100,7 @@ heed_signal() {
 prove() {
     lay_out 2>/dev/null || give_up "$unwritten"
     : >"$proved"
-    (cd "$room" && exec rt all check --jobs "$(places)") >"$proved" 2>&1 9>&- &
+    python3 "$here/tools/os_build.py" "$room" "$here/docs/WORKING.md" >"$proved" 2>&1 9>&- &
     child=$!
     while [ -z "$caught" ] && kill -0 "$child" 2>/dev/null; do
         tell_progress
@@ -118,17 +111,18 @@ prove() {
     tell_progress
 }
 
-# Builds the program, in the checkout itself. An empty input ends a session at once, with status 0.
+# Builds the program. An empty input ends a session at once, with status 0.
 make_program() {
     [ ! -t 2 ] || printf '\ros: %-75s' 'all crates proved, building the program' >&2
-    (cd "$crate" && exec rt run -- session) </dev/null >"$crate/out/build.log" 2>&1 9>&- &
+    (cd "$room/crates/os_main" && exec rt run -- session) </dev/null >"$crate/out/build.log" 2>&1 9>&- &
     child=$!
     await
     heed_signal
     [ ! -t 2 ] || printf '\r%79s\r' '' >&2
     [ "$status" -eq 0 ] || give_up "$crate/out/build.log says why"
-    rm -rf "$room"
-    touch "$program"
+    # What is kept of a check, beside what it proved, is of use to who changes that crate.
+    rm -rf "$room"/crates/*/out/incremental "$program"
+    cp "$room/crates/os_main/out/os_main" "$program" || give_up "$unwritten"
     say "built in $((($(date +%s) - begun) / 60)) min"
 }
 
@@ -146,6 +140,7 @@ build() {
     fi
     begun=$(date +%s)
     tens=0
+    told=
     if ! is_built; then
         prove
         make_program
