@@ -22,7 +22,12 @@ fn is_empty(ends: Row) -> bool
 }
 
 /// Whether there is such a column, and its ends exclude each other.
-pub fn check_clash(instance: &Instance, vars: &[Var], col: u32, node: u32) -> Result<(), Refused>
+pub(crate) fn check_clash(
+    instance: &Instance,
+    vars: &[Var],
+    col: u32,
+    node: u32,
+) -> Result<(), Refused>
     requires { length vars.now ≡ length instance.now.vars }
     ensures ok { OnOk result (ClashHolds (cut instance.now vars.now) col) }
     ensures err { IfErr result (ClashRefuses (cut instance.now vars.now) col node) }

@@ -8,8 +8,8 @@ ghost use Rattle.case_tree.specs.Cuts.{cut};
 use fraction::{End, Frac};
 use instance::{Instance, Row, Var};
 
-/// The lower and the upper end of a column.
-pub fn ends_of(instance: &Instance, vars: &[Var], col: usize) -> Row
+/// The lower and the upper end of a column: first the variables, with their ends as they are cut, and then the rows.
+pub(crate) fn ends_of(instance: &Instance, vars: &[Var], col: usize) -> Row
     requires { col < length vars.now + length instance.now.rows }
     ensures { row result ≡ column_at (cut instance.now vars.now) col }
 {
@@ -25,7 +25,7 @@ pub fn ends_of(instance: &Instance, vars: &[Var], col: usize) -> Row
 }
 
 /// The end that a multiplier bounds its column by: the lower one, or the upper one where it is below 0.
-pub fn end_by(ends: Row, by: Frac) -> End
+pub(crate) fn end_by(ends: Row, by: Frac) -> End
     ensures { limit result ≡ end_by by.numer (row ends) }
 {
     if by.numer < 0 { ends.ub } else { ends.lb }

@@ -74,8 +74,9 @@ fn compare(
     Ok(())
 }
 
-/// Whether the sum of the multiplied columns is, at each variable, what it should be.
-pub fn check_forms(
+/// Whether the sum of the multiplied columns is, at each variable, what it should be. The slots have this sum afterwards, variable
+/// by variable, none where it doesn't fit.
+pub(crate) fn check_forms(
     instance: &Instance,
     vars: &[Var],
     slots: &mut [Option<Frac>],

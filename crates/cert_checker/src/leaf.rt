@@ -14,7 +14,7 @@ use fraction::Frac;
 use instance::{Instance, Var};
 
 /// Whether the multipliers show that no point is better than the value that is aimed at; without one, that none is feasible.
-pub fn check_leaf(
+pub(crate) fn check_leaf(
     instance: &Instance,
     vars: &[Var],
     slots: &mut [Option<Frac>],

@@ -44,7 +44,7 @@ fn is_pair(instance: &Instance, vars: &[Var], mults: &[Mult], k: usize) -> bool
 }
 
 /// The column of the first multiplier that isn't legal.
-pub fn first_illegal(instance: &Instance, vars: &[Var], mults: &[Mult]) -> Option<u32>
+pub(crate) fn first_illegal(instance: &Instance, vars: &[Var], mults: &[Mult]) -> Option<u32>
     requires { length vars.now ≡ length instance.now.vars }
     ensures { MatchOption result (IsLegal (cut instance.now vars.now) (multipliers mults.now)) (IsFirstIllegal (cut instance.now vars.now) (multipliers mults.now)) }
 {

@@ -33,7 +33,7 @@ fn check_value(instance: &Instance, point: &[Frac], value: Frac) -> Result<(), R
 }
 
 /// Whether the point is feasible, and its objective the value.
-pub fn check_point(instance: &Instance, point: &[Frac], value: Frac) -> Result<(), Refused>
+pub(crate) fn check_point(instance: &Instance, point: &[Frac], value: Frac) -> Result<(), Refused>
     ensures value { OnOk result (HasValue (program instance.now) (ratios point.now) (ratio value)) }
     ensures fits { OnOk result (PointFits (program instance.now) (ratios point.now)) }
     ensures err { IfErr result (PointRefuses (program instance.now) (ratios point.now) (ratio value)) }

@@ -103,7 +103,7 @@ fn check_slope(instance: &Instance, ray: &[Frac]) -> Result<(), Refused>
 }
 
 /// Whether the direction is one without end, along which points become better.
-pub fn check_ray(instance: &Instance, ray: &[Frac]) -> Result<(), Refused>
+pub(crate) fn check_ray(instance: &Instance, ray: &[Frac]) -> Result<(), Refused>
     ensures ok { OnOk result (IsRay (program instance.now) (ratios ray.now)) }
     ensures fits { OnOk result (RayFits (program instance.now) (ratios ray.now)) }
     ensures err { IfErr result (RayRefuses (program instance.now) (ratios ray.now)) }

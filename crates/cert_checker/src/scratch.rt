@@ -73,7 +73,7 @@ impl Scratch {
         })
     }
 
-    /// Room for a check of this claim.
+    /// Room for a check of this claim, whose certificate has fewer than 2^32 nodes.
     pub fn for_claim(
         alloc: Global,
         instance: &Instance,

@@ -27,7 +27,7 @@ fn plus(slot: Option<Frac>, a: Frac, x: Frac) -> Option<Frac>
 }
 
 /// Makes each sum 0.
-pub fn clear(slots: &mut [Option<Frac>])
+pub(crate) fn clear(slots: &mut [Option<Frac>])
     ensures { (j : ℕ) → j < length slots.old → (f : Frac) × (slot_at slots.new j ≡ Some f) × (ratio f ≡ none) }
 {
     for j in 0..slots.len() {
@@ -59,7 +59,7 @@ fn add_variable(slots: &mut [Option<Frac>], j: usize, by: Frac)
 }
 
 /// Adds a column times its multiplier.
-pub fn add_column(instance: &Instance, vars: &[Var], slots: &mut [Option<Frac>], mult: Mult)
+pub(crate) fn add_column(instance: &Instance, vars: &[Var], slots: &mut [Option<Frac>], mult: Mult)
     requires count { length vars.now ≡ length instance.now.vars }
     requires room { length slots.old ≡ length vars.now }
     requires column { mult.col < length vars.now + length instance.now.rows }

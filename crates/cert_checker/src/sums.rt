@@ -67,7 +67,7 @@ fn reaches(aim: Option<Frac>, sum: Frac) -> bool
 }
 
 /// Whether the sum of the multiplied ends reaches what it should.
-pub fn check_sum(
+pub(crate) fn check_sum(
     instance: &Instance,
     vars: &[Var],
     mults: &[Mult],

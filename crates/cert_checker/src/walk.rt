@@ -64,7 +64,7 @@ fn step(
 
 /// Whether the nodes are those of a tree that shows that no point is better than the value that is aimed at; without one, that
 /// none is feasible.
-pub fn check_tree(
+pub(crate) fn check_tree(
     instance: &Instance,
     nodes: &[Node],
     aim: Option<Frac>,

@@ -56,7 +56,8 @@ pub fn one_reply_comes_first()
     ensures { (came other rest more : List ℕ) → EndsReading came (rest ≡ []) → EndsReading other (more ≡ []) → came ++ rest ≡ other ++ more → came ≡ other }
 {}
 
-/// Law: the bytes that a client reads, and what has only begun, are a first part of them, or all.
+/// Law: bytes behind which a client reads no more, and bytes behind which it reads on, are a first part of those that it reads, or all
+/// of them.
 pub fn what_came_is_a_part()
     ensures done { (bytes : List ℕ) → IsDone bytes → IsReplyPart bytes }
     ensures begun { (bytes : List ℕ) → IsReplyBegun bytes → IsReplyPart bytes }
