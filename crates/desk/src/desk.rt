@@ -14,9 +14,12 @@ use job_table::moves::Move;
 use job_table::{Table, Verdicts};
 use os_io::Memory;
 use std::alloc::{AllocError, Global};
+use std::hint::spin_loop;
 use std::marker::Brand;
 use std::snapshot::Snapshot;
 use std::sync::Wait;
+use std::sync::atomic::AtomicU64;
+use std::sync::atomic::Ordering::SeqCst;
 use std::thread::yield_now;
 
 /// The word of the next number to be drawn.
@@ -27,6 +30,18 @@ const SERVING: usize = 1;
 
 /// The slot of the table.
 const SLOT: usize = 0;
+
+/// How often a caller tries to draw at once: a move of the table takes about as long.
+const AT_ONCE: u32 = 40;
+
+/// How often it tries in all before it sleeps. Behind the first ones it lets others run.
+const AWAKE: u32 = 48;
+
+/// What the bell says where nobody sleeps.
+const QUIET: u64 = 0;
+
+/// What the bell says where somebody may sleep.
+const LISTEN: u64 = 1;
 
 impl<J: Verdicts> Desk<J> {
     /// A desk on the empty table, and its first seat.
@@ -39,7 +54,10 @@ impl<J: Verdicts> Desk<J> {
         };
         slots.push(Some(held))?;
         match atomic_table::Table::new(alloc, &[0, 0], slots, &()) {
-            Ok((table, seat)) => Ok((Locked { table }, seat)),
+            Ok((table, seat)) => {
+                let bell = AtomicU64::new(QUIET);
+                Ok((Locked { table, bell }, seat))
+            }
             Err(_) => Err(AllocError),
         }
     }
@@ -93,7 +111,7 @@ impl<J: Verdicts> Desk<J> {
         requires alone { out_of me.me.0 ≡ 0 }
         ensures { Closes J.right me.me.0 result }
     {
-        let Locked { table } = self;
+        let Locked { table, bell: _ } = self;
         let mut closed = table.close_with(me);
         let slot = closed.take(SLOT);
         closed.free();
@@ -103,13 +121,14 @@ impl<J: Verdicts> Desk<J> {
         table
     }
 
-    /// Draws a number. Where all were given, it waits forever.
+    /// Draws the number that is served, so that nobody waits with a number. Where all were given, it waits forever.
     fn draw<R: Wait>(&self, rt: &R, me: &mut Seat<J>) -> u64
         requires { IsSeatOf (desk_id self.now) me.old }
         ensures { (me.new.table_id ≡ me.old.table_id) × (me.new.me ≡ (with_turn (Waiting result) me.old.me.0, [])) }
     {
-        let mut guess = 0;
+        let mut tries: u32 = 0;
         for _ in rt.forever() {
+            let guess = self.table.shared.peek(SERVING);
             if guess < u64::MAX {
                 let found = self
                     .table
@@ -118,10 +137,37 @@ impl<J: Verdicts> Desk<J> {
                 if found == guess {
                     return guess;
                 }
-                guess = found;
             }
+            tries = self.rest(rt, tries);
         }
         unreachable!()
+    }
+
+    /// What a caller does behind so many tries that failed, and how many are counted then. Before it sleeps until the bell rings it
+    /// says that it listens, and tries once more; when it wakes it says so again, for others who may sleep.
+    fn rest<R: Wait>(&self, rt: &R, tries: u32) -> u32 {
+        if tries < AT_ONCE {
+            spin_loop();
+            return tries + 1;
+        }
+        if tries < AWAKE {
+            yield_now();
+            return tries + 1;
+        }
+        if tries == AWAKE {
+            self.bell.store(LISTEN, SeqCst);
+            return tries + 1;
+        }
+        self.bell.park(rt, LISTEN as u32);
+        self.bell.store(LISTEN, SeqCst);
+        0
+    }
+
+    /// Wakes one caller, where somebody may sleep.
+    fn ring(&self) {
+        if self.bell.load(SeqCst) == LISTEN && self.bell.swap(QUIET, SeqCst) == LISTEN {
+            self.bell.wake_one();
+        }
     }
 
     /// Waits until the number is served, and takes the table.
@@ -163,6 +209,7 @@ impl<J: Verdicts> Desk<J> {
         } else {
             self.table.shared.fetch_add::<Skip>(me, SERVING, 1);
         }
+        self.ring();
         answer
     }
 
