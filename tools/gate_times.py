@@ -57,7 +57,10 @@ def task_of(pid):
 def run(names, folder):
     """Runs the gate there; its status, and the ticks of each task."""
     words = [name for name in names if name != KEPT]
-    gate = subprocess.Popen(["rt", "ci", *([] if KEPT in names else ["--anew"]), *words], cwd=folder, stdout=sys.stderr)
+    told = subprocess.run(["rt", "help"], stdout=subprocess.PIPE, stderr=subprocess.STDOUT, text=True, check=False).stdout
+    # Only a toolchain that keeps what a gate passed has to be asked for all anew.
+    anew = ["--anew"] if KEPT not in names and "--anew" in told else []
+    gate = subprocess.Popen(["rt", "ci", *anew, *words], cwd=folder, stdout=sys.stderr)
     ticks, tasks = {}, {}
     while gate.poll() is None:
         found = processes()
