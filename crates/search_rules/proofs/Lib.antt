@@ -5,4 +5,4 @@ pub mod Scaled
 mod Holding
 mod Outcomes
 mod OneOutcome
-mod Plain
+pub mod Plain

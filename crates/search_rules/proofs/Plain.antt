@@ -8,7 +8,7 @@ use Rattle.search_rules.specs.Search.{Moment, To, IsSplit, Meets, Goes, IsNext, 
 use Rattle.search_rules.specs.Shown.{IsPlain}
 
 -- the instance itself is still to be searched, or nothing is
-abbrev IsEither : Instance → Moment → Type 0
+abbrev pub IsEither : Instance → Moment → Type 0
 IsEither I m = (m.waiting ≡ I ∷ []) ⊎ (m.waiting ≡ [])
 
 module _ (I : Instance) (plain : IsPlain I) where
@@ -33,19 +33,20 @@ module _ (I : Instance) (plain : IsPlain I) where
   goes_plain t m n Stopped e = absurd (cc)
 
   module _ (t : Terms) where
-    next_plain : (m n : Moment) → IsEither I m → IsNext I t m (To n) → IsEither I n
-    next_plain m n h (inl (e, f)) = absurd (cc)
-    next_plain m n h (inr (inl (e, f, g))) = absurd (cc)
-    next_plain m n h (inr (inr (inl (e, f, s, g)))) = absurd (cc)
-    next_plain m n (inr e) (inr (inr (inr v))) = let q = v.visit.is in absurd (cc)
-    next_plain m n (inl e) (inr (inr (inr v))) =
+    -- the one case is searched once
+    pub next_closed : (m n : Moment) → IsEither I m → IsNext I t m (To n) → n.waiting ≡ []
+    next_closed m n h (inl (e, f)) = absurd (cc)
+    next_closed m n h (inr (inl (e, f, g))) = absurd (cc)
+    next_closed m n h (inr (inr (inl (e, f, s, g)))) = absurd (cc)
+    next_closed m n (inr e) (inr (inr (inr v))) = let q = v.visit.is in absurd (cc)
+    next_closed m n (inl e) (inr (inr (inr v))) =
         let l : v.visit.case ∷ v.visit.rest ≡ I ∷ [] = sym v.visit.is ∙ e in
         let p : v.visit.case ≡ I = cc in
         let q : v.visit.rest ≡ [] = cc in
         let g = subst (λ J. Goes t I J v.visit.rest (record m { clock = v.clock }) v.end (To n)) p v.goes in
         let g = subst (λ r. Goes t I I r (record m { clock = v.clock }) v.end (To n)) q g in
-        inr (goes_plain t (record m { clock = v.clock }) n v.end g)
+        goes_plain t (record m { clock = v.clock }) n v.end g
 
     pub comes_plain : (m : Moment) → Comes I t m → IsEither I m
     comes_plain m begins = inl refl
-    comes_plain m (goes_on {m = before} c next) = next_plain before m (comes_plain before c) next
+    comes_plain m (goes_on {m = before} c next) = inr (next_closed before m (comes_plain before c) next)

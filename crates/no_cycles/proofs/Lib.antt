@@ -1,0 +1,14 @@
+pub mod Signs
+pub mod Ways
+pub mod Moves
+pub mod Compared
+pub mod Limits
+pub mod Turned
+pub mod Choices
+pub mod Cycle
+pub mod Repeats
+pub mod Feasible
+pub mod Counting
+pub mod Bounded
+pub mod Begun
+pub mod Searched

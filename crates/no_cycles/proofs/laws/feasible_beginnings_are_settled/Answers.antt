@@ -1,0 +1,5 @@
+use Rattle.no_cycles.proofs.Begun.{settled_first}
+use Rattle.no_cycles.proofs.laws.feasible_beginnings_are_settled.Goals as goal
+
+pub returns : goal.returns
+returns c = settled_first
