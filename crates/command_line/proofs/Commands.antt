@@ -21,7 +21,9 @@ use Rattle.command_line.specs.Giving.{AreNew, Give, Given, AreWordsOf, given_in,
 use Rattle.command_line.specs.Giving as giving
 use Rattle.command_line.specs.Forms.{Form, forms, program}
 use Rattle.command_line.specs.Words.{Command, asked_by, asked_with, asks}
-use Rattle.command_line.proofs.Texts.{is_false, or_true, true_or_false}
+use Rattle.std.proofs.Math.Bool.{or-true}
+use Rattle.clap.proofs.SimpleLemmas.{is_false}
+use Rattle.command_line.proofs.Texts.{true_or_false}
 use Rattle.command_line.proofs.Flags.{HasHelpAlone, IsName, Tells, dashes, first_none, goes_to_place, help_flag, is_dashes, is_long, is_value, next_none, no_flag, some_fault, tells}
 use Rattle.command_line.proofs.Rows.{first_is, is_given_is, rows}
 use Rattle.command_line.proofs.Rules.{leaf, option_rule, options, place_rule, places, rules_of}
@@ -94,7 +96,7 @@ module _ (f : Form) (fit : is_fit f ≡ true) where
 
 module _ (a : Rule) (bare : a.defaults ≡ []) (all : List Row) where
   default_passes : default_fault all a ≡ []
-  default_passes = ap (λ (texts : List Text). cond (has_row a.id all || is_empty texts) [] (given_default_fault a texts)) bare ∙ ap (λ (b : Bool). cond b [] (given_default_fault a [])) (or_true (has_row a.id all))
+  default_passes = ap (λ (texts : List Text). cond (has_row a.id all || is_empty texts) [] (given_default_fault a texts)) bare ∙ ap (λ (b : Bool). cond b [] (given_default_fault a [])) (or-true (has_row a.id all))
 
   default_adds : with_default all a ≡ all
   default_adds = ap (λ (texts : List Text). cond (has_row a.id all) all (default_rows a.id (reading_by a) texts all)) bare ∙ same_either (has_row a.id all)
@@ -103,30 +105,23 @@ module _ (a : Rule) (bare : a.defaults ≡ []) (all : List Row) where
       same_either true = refl
       same_either false = refl
 
-  none_more : (rest : List Rule) → fold with_default all rest ≡ all → fold with_default all (a ∷ rest) ≡ all
-  none_more rest after = ap (λ (rs : List Row). fold with_default rs rest) default_adds ∙ after
+-- words that have no text of their own: where they aren't said, none is added, and that is no fault
+record AreBare (all : List Row) (rules : List Rule) : Type 0 where
+  added : fold with_default all rules ≡ all
+  faults : defaults_fault all rules ≡ []
 
-  none_fails : (rest : List Rule) → defaults_fault all rest ≡ [] → defaults_fault all (a ∷ rest) ≡ []
-  unfolding defaults_fault
-  none_fails rest after = ap₂ or_else default_passes (ap (λ (rs : List Row). defaults_fault rs rest) default_adds ∙ after)
-
-no_options_more : (named : List Text) (all : List Row) → fold with_default all (options named) ≡ all
-no_options_more [] all = none_more help_flag refl all [] refl
-no_options_more (n ∷ named) all = none_more (option_rule n) refl all (options named) (no_options_more named all)
-
--- they have no text
-no_more : (ns named : List Text) (k : ℕ) (all : List Row) → fold with_default all (places k ns ++ options named) ≡ all
-no_more [] named k all = no_options_more named all
-no_more (n ∷ ns) named k all = none_more (place_rule k n) refl all (places (k + 1) ns ++ options named) (no_more ns named (k + 1) all)
-
-no_option_fails : (named : List Text) (all : List Row) → defaults_fault all (options named) ≡ []
+bare_more : (all : List Row) (a : Rule) (rules : List Rule) → a.defaults ≡ [] → AreBare all rules → AreBare all (a ∷ rules)
 unfolding defaults_fault
-no_option_fails [] all = none_fails help_flag refl all [] refl
-no_option_fails (n ∷ named) all = none_fails (option_rule n) refl all (options named) (no_option_fails named all)
+bare_more all a rules bare rest = record {
+  added = ap (λ (rs : List Row). fold with_default rs rules) (default_adds a bare all) ∙ rest.added;
+  faults = ap₂ or_else (default_passes a bare all) (ap (λ (rs : List Row). defaults_fault rs rules) (default_adds a bare all) ∙ rest.faults);
+}
 
-no_default_fails : (ns named : List Text) (k : ℕ) (all : List Row) → defaults_fault all (places k ns ++ options named) ≡ []
-no_default_fails [] named k all = no_option_fails named all
-no_default_fails (n ∷ ns) named k all = none_fails (place_rule k n) refl all (places (k + 1) ns ++ options named) (no_default_fails ns named (k + 1) all)
+are_bare : (all : List Row) (ns named : List Text) (k : ℕ) → AreBare all (places k ns ++ options named)
+unfolding defaults_fault
+are_bare all [] [] k = bare_more all help_flag [] refl (record { added = refl; faults = refl })
+are_bare all [] (n ∷ named) k = bare_more all (option_rule n) (options named) refl (are_bare all [] named k)
+are_bare all (n ∷ ns) named k = bare_more all (place_rule k n) (places (k + 1) ns ++ options named) refl (are_bare all ns named (k + 1))
 
 missing_false : (b : Bool) → cond b (MissingRequiredArgument ∷ []) [] ≡ [] → b ≡ false
 missing_false true none = absurd (some_fault _ _ none)
@@ -136,12 +131,9 @@ missing_false false none = refl
 abbrev are_missing : List Row → List Text → Bool
 are_missing all names = list_any (λ n. not (is_given n all)) names
 
-no_option_missing : (named : List Text) (all : List Row) → list_any (λ (a : Rule). a.required && not (is_given a.id all)) (options named) ≡ false
-no_option_missing [] all = refl
-no_option_missing (n ∷ named) all = no_option_missing named all
-
 missing_is : (ns named : List Text) (k : ℕ) (all : List Row) → list_any (λ (a : Rule). a.required && not (is_given a.id all)) (places k ns ++ options named) ≡ are_missing all ns
-missing_is [] named k all = no_option_missing named all
+missing_is [] [] k all = refl
+missing_is [] (n ∷ named) k all = missing_is [] named k all
 missing_is (n ∷ ns) named k all = ap (λ (b : Bool). not (is_given n all) || b) (missing_is ns named (k + 1) all)
 
 given_of : (all : Given) (names : List Text) → are_missing (rows all) names ≡ false → AreGiven all names
@@ -170,7 +162,7 @@ module _ (f : Form) where
   check_is all = ap (λ (b : Bool). cond b (MissingRequiredArgument ∷ []) []) (missing_is f.needed f.named 1 all)
 
   end_rows : (words : List Text) → rows_after (rules_of f) [] words ≡ (settled (rules_of f) (end f (at 0 (held [] None) idle false) words).held).rows
-  end_rows words = no_more f.needed f.named 1 _
+  end_rows words = (are_bare _ f.needed f.named 1).added
 
   ended_of : (form : IsForm f) (words : List Text) → level words ≡ [] → Ended f form (at 0 (held [] None) idle false) words
   ended_of form words none =
@@ -186,7 +178,7 @@ module _ (f : Form) where
   level_of words given gives complete =
       let found : rows_after (rules_of f) [] words ≡ rows given = end_rows words ∙ ap (λ (h : Held). h.rows) gives.settled in (
         ap₂ (λ (a b : Kinds). or_else a (or_else [] (or_else b (or_else (defaults_fault (settled (rules_of f) (end f (at 0 (held [] None) idle false) words).held).rows (rules_of f)) (check_fault (leaf f) (rows_after (rules_of f) [] words) false))))) gives.faults gives.passes
-            ∙ ap (λ (k : Kinds). or_else k (check_fault (leaf f) (rows_after (rules_of f) [] words) false)) (no_default_fails f.needed f.named 1 (settled (rules_of f) (end f (at 0 (held [] None) idle false) words).held).rows)
+            ∙ ap (λ (k : Kinds). or_else k (check_fault (leaf f) (rows_after (rules_of f) [] words) false)) (are_bare (settled (rules_of f) (end f (at 0 (held [] None) idle false) words).held).rows f.needed f.named 1).faults
             ∙ ap (λ (rs : List Row). check_fault (leaf f) rs false) found ∙ check_is (rows given) ∙ ap (λ (b : Bool). cond b (MissingRequiredArgument ∷ []) []) (missing_of given f.needed complete),
         found,
       )

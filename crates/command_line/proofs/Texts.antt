@@ -13,18 +13,6 @@ IsTrue false = ⊥
 pub true_or_false : true ≡ false → ⊥
 true_or_false e = subst IsTrue e tt
 
-pub or_true : (b : Bool) → (b || true) ≡ true
-or_true true = refl
-or_true false = refl
-
-pub or_false : (b : Bool) → (b || false) ≡ b
-or_false true = refl
-or_false false = refl
-
-pub is_false : (b : Bool) → not b ≡ true → b ≡ false
-is_false true e = sym e
-is_false false e = refl
-
 -- the byte is this one
 abbrev is_byte : ℕ → ℕ → Bool
 is_byte c x = x == c

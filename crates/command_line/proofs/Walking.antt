@@ -12,7 +12,7 @@ use Rattle.std.proofs.lemmas.List.{append_assoc, append-nil}
 use Rattle.std.proofs.lemmas.Option.{none-some, same_Some}
 use Rattle.std.proofs.lemmas.Slice.Eq.{bytes_eq-Decides}
 use Rattle.std.specs.Str.{bytes_eq}
-use Rattle.command_line.proofs.Texts.{or_false, or_true}
+use Rattle.std.proofs.Math.Bool.{or-false, or-true}
 use Rattle.command_line.specs.Giving.{AreNew, Give, Given, ends, given_in, has_name, is_plain}
 use Rattle.command_line.specs.Giving as giving
 use Rattle.command_line.specs.Forms.{Form}
@@ -79,7 +79,7 @@ module _ (f : Form) where
       ap (λ (b : Bool). pushed name word (cond b h (settled (rules_of f) h))) (and_false (is_pending a h.pending)) ∙ ap (pushed name word) (settles f past last own new) in
       let position : min (1 + count + 1) 18446744073709551615 ≡ 1 + (count + 1) = omega (arith, needs.few) in
       ap (λ (b : Option Rule). to_positional (rules_of f) b word (at count h waiting is_trailing) h) (place_of count (name ∷ needed) needs)
-      ∙ (λ i. record { held = now i; waiting = idle; position = position i; is_trailing = or_false is_trailing i; stopped = None })
+      ∙ (λ i. record { held = now i; waiting = idle; position = position i; is_trailing = or-false is_trailing i; stopped = None })
 
   -- ---- words before `--`
 
@@ -124,7 +124,7 @@ module _ (f : Form) where
 
   -- the walk behind a name that waits, and behind a name with its text
   pub own_name : (name : Text) → has_name f.named name ≡ true → (has_name f.needed name || has_name f.named name) ≡ true
-  own_name name has = ap (λ (b : Bool). has_name f.needed name || b) has ∙ or_true (has_name f.needed name)
+  own_name name has = ap (λ (b : Bool). has_name f.needed name || b) has ∙ or-true (has_name f.needed name)
 
   -- ---- the end of the words
 
@@ -245,7 +245,7 @@ pub record IsForm (f : Form) : Type 0 where
 has_at : (names : List Text) (i : ℕ) (name : Text) → slice_get names i ≡ Some name → has_name names name ≡ true
 has_at [] i name is = absurd (none-some name is)
 has_at (n ∷ names) zero name is = ap (λ (b : Bool). b || has_name names name) ((bytes_eq-Decides n name).1 (same_Some n name is))
-has_at (n ∷ names) (suc i) name is = ap (λ (b : Bool). bytes_eq n name || b) (has_at names i name is) ∙ or_true (bytes_eq n name)
+has_at (n ∷ names) (suc i) name is = ap (λ (b : Bool). bytes_eq n name || b) (has_at names i name is) ∙ or-true (bytes_eq n name)
 
 module _ (f : Form) (form : IsForm f) where
   pub own_needed : (count : ℕ) (name : Text) (needed : List Text) → Needs f count (name ∷ needed) → (has_name f.needed name || has_name f.named name) ≡ true
