@@ -6,3 +6,5 @@ pub mod Wholes
 pub mod LineFeeds
 pub mod Results
 pub mod Finished
+pub mod Hearing
+pub mod Trees

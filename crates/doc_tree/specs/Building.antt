@@ -28,7 +28,15 @@ IsApart (Open name attributes ∷ more) = IsApart more
 IsApart (Chars text ∷ more) = (text ≢ []) × NoCharsFirst more × IsApart more
 IsApart (Close name ∷ more) = IsApart more
 
--- What was told is apart. Where no attribute waits, characters may come next.
+-- What was told is apart, characters may come next, and no attribute waits.
 pub record IsReady (b : Building) : Type 0 where
   pub apart : IsApart (said b)
-  pub run_begins : b.attributes ≡ [] → NoCharsLast b.events
+  pub run_begins : NoCharsLast b.events
+  pub none_waits : b.attributes ≡ []
+
+-- Some first marks of those that wait are told, and the others wait.
+pub record HandsOn (old new : Building) (had : List Mark → Type 0) : Type 0 where
+  pub told : List Mark
+  pub has : had told
+  pub rest : spread (said old) ≡ told ++ spread (said new)
+  pub waits : new.attributes ≡ old.attributes

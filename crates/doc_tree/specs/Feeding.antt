@@ -43,10 +43,31 @@ pub record IsTaken (f : Feeding) (bytes : List ℕ) : Type 0 where
 abbrev pub WasFed : Feeding → List ℕ → Type 0
 WasFed f bytes = MatchOption f.refusal (IsTaken f bytes) (Refused f.limit bytes)
 
+-- The same reader, where these marks were told before those that wait.
+abbrev pub behind : List Mark → Feeding → Feeding
+behind told f = record f { state = record f.state { marks = told ++ f.state.marks } }
+
+-- Some marks were told, those that the bytes say but for the marks that wait.
+pub record Heard (had : List Mark → Type 0) (f : Feeding) (bytes : List ℕ) : Type 0 where
+  pub told : List Mark
+  pub has : had told
+  pub taken : IsTaken (behind told f) bytes
+
+-- These bytes were fed, and what they say was told or waits.
+abbrev pub WasHeard : (List Mark → Type 0) → Feeding → List ℕ → Type 0
+WasHeard had f bytes = MatchOption f.refusal (Heard had f bytes) (Refused f.limit bytes)
+
 -- Behind any such bytes, a reader is refused so at this one.
 abbrev pub Refuses : Feeding → ℕ → TreeFault → Type 0
-Refuses f b fault = (bytes : List ℕ) → IsTaken f bytes → Refused f.limit (bytes ++ b ∷ []) fault
+Refuses f b fault = (told : List Mark) (bytes : List ℕ) → IsTaken (behind told f) bytes → Refused f.limit (bytes ++ b ∷ []) fault
 
 -- A reader that takes more stands at a place of the machine that some document has.
 abbrev pub CanGoOn : Feeding → Type 0
 CanGoOn f = MatchOption f.refusal (Good f.state.place f.state) (λ fault. Unit {0})
+
+-- Some first marks of those that wait are told, and nothing else changes.
+pub record HandedOn (old new : Feeding) (had : List Mark → Type 0) : Type 0 where
+  pub told : List Mark
+  pub has : had told
+  pub rest : old.state.marks ≡ told ++ new.state.marks
+  pub same : new ≡ record old { state = record old.state { marks = new.state.marks } }

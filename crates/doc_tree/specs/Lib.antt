@@ -9,3 +9,6 @@ pub mod Rests
 pub mod Completes
 pub mod LineEnds
 pub mod Utf8
+pub mod Relieved
+pub mod Whole
+pub mod Gathered

@@ -20,15 +20,21 @@
 mod builder;
 mod characters;
 mod declaration;
+mod events;
 mod fault;
+mod gathering;
 mod keys;
 mod laws;
 mod lines;
 mod machine;
 mod names;
 mod reader;
+mod reading;
+mod visitor;
 
-pub use element_tree::{Tree, escape, write, write_to};
+pub use element_tree::{Attributes, Tree, escape, write, write_to};
+pub use events::Events;
 pub use fault::TreeFault;
 pub use laws::{documents_have_one_tree, refusals_are_one};
 pub use reader::{Reader, read};
+pub use visitor::Visitor;

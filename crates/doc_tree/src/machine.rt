@@ -1,9 +1,7 @@
 //! The reader's state, and its step over a byte whose line ends are normal.
 
-ghost use Rattle.std.specs.Prelude.{◌≡◌, ◌↔◌, [], List, IsTrue, OnOk, IfOk, IsErrOf, MatchBool, MatchOption};
-ghost use Rattle.element_tree.specs.Building.{said};
-ghost use Rattle.element_tree.specs.Nesting.{IsOneElement};
-ghost use Rattle.doc_tree.specs.Building.{IsApart};
+ghost use Rattle.std.specs.Prelude.{◌≡◌, ◌↔◌, [], ◌∷◌, List, IsTrue, OnOk, IfOk, IsErrOf, MatchBool, MatchOption};
+ghost use Rattle.doc_tree.specs.Relieved.{Relieved};
 ghost use Rattle.doc_tree.specs.Marks.{Mark};
 ghost use Rattle.doc_tree.specs.Rests.{Terms};
 ghost use Rattle.doc_tree.specs.Completes.{view, Good, GoodGoal, Rests, Reaches, Follows, Stuck, Reached, Runs, Completes, IsDeep, IsOther, IsDoctype, IsPlain};
@@ -21,7 +19,7 @@ use crate::declaration::{Field, is_encoding, is_utf8_name};
 use crate::fault::StepFault;
 use crate::keys::Keys;
 use crate::names::{Part, is_name_start};
-use element_tree::Tree;
+use crate::visitor::Visitor;
 use os_io::Memory;
 use std::alloc::{AllocError, Global};
 use tree_grammar::DEPTH;
@@ -171,6 +169,23 @@ pub(crate) struct Machine {
     builder: Telling,
 }
 
+/// Puts bytes in place of those that stand in a buffer, in its room.
+fn refill(buffer: &mut Vec<u8>, bytes: &[u8]) -> Result<(), AllocError>
+    ensures { OnOk result (buffer.new.items ≡ bytes.now) }
+{
+    buffer.clear();
+    buffer.extend_from_slice(bytes)
+}
+
+/// Puts one byte in place of those that stand in a buffer, in its room.
+fn restart(buffer: &mut Vec<u8>, b: u8) -> Result<(), AllocError>
+    ensures { OnOk result (buffer.new.items ≡ b ∷ []) }
+{
+    buffer.clear();
+    buffer.push(b)?;
+    Ok(())
+}
+
 impl Machine {
     pub(crate) fn new(alloc: Global) -> Self
         ensures { Runs (view result) [] }
@@ -206,12 +221,23 @@ impl Machine {
         matches!(self.place, Place::Epilog)
     }
 
-    /// The tree of what was told, if that is one element; want of memory, if there was none before.
-    pub(crate) fn tree(self) -> Result<Option<Tree>, Memory>
-        ensures apart { IfOk result (λ r. IsApart (said self.builder)) }
-        ensures tree { IfOk result (λ r. MatchOption r (IsOneElement (said self.builder) → ⊥) (λ t. t ≡ said self.builder)) }
+    /// Tells a visitor what waits, where no tag is begun.
+    pub(crate) fn hand_on<V: Visitor>(&mut self, visitor: &mut V) -> Result<(), Memory>
+        ensures { OnOk result (Relieved (view self.old) (view self.new) (V.had visitor.old visitor.new)) }
     {
-        self.builder.finish()
+        self.builder.hand_on(visitor)
+    }
+
+    /// Whether enough waits to be told.
+    pub(crate) fn is_full(&self) -> bool {
+        self.builder.is_full()
+    }
+
+    /// Tells a visitor all that waits.
+    pub(crate) fn hand_over<V: Visitor>(self, visitor: &mut V) -> Result<(), Memory>
+        ensures { OnOk result (V.had visitor.old visitor.new (view self).marks) }
+    {
+        self.builder.hand_over(visitor)
     }
 
     /// Takes a byte.
@@ -312,11 +338,18 @@ impl Machine {
     fn expect(&mut self, word: &[u8], goal: Goal) -> Result<(), AllocError>
         ensures { OnOk result (view self.new ≡ record (view self.old) { place = Place.Word; left = word.now; goal = goal }) }
     {
-        self.word = Vec::from_slice(self.alloc, word)?;
+        refill(&mut self.word, word)?;
+        self.await_word(goal);
+        Ok(())
+    }
+
+    /// Goes on with the fixed text that was set, from its start.
+    fn await_word(&mut self, goal: Goal)
+        ensures { view self.new ≡ record (view self.old) { place = Place.Word; left = self.old.word.items; goal = goal } }
+    {
         self.matched = 0;
         self.goal = goal;
         self.place = Place::Word;
-        Ok(())
     }
 
     fn word(&mut self, b: u8) -> Result<(), StepFault>

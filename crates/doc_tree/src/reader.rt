@@ -1,14 +1,13 @@
-//! What reads documents: whole ones, and such as come in pieces.
+//! What reads documents into trees: whole ones, and such as come in pieces.
 
-ghost use Rattle.std.specs.Prelude.{◌≡◌, ◌<◌, ◌++◌, ◌∷◌, [], List, ℕ, OnOk, IfOk, IfErr, MatchOption, Some, None, Ok, Err};
-ghost use Rattle.doc_tree.specs.Completes.{IsPlain};
-ghost use Rattle.doc_tree.specs.Reading.{Reads, ReadsOnly, Refused, Ends};
+ghost use Rattle.std.specs.Prelude.{◌≡◌, ◌++◌, [], List, ℕ, IfOk, IfErr, MatchOption, Some, None, Ok, Err};
+ghost use Rattle.doc_tree.specs.Reading.{Reads, ReadsOnly, Ends};
 ghost use Rattle.doc_tree.specs.declared.fault.TreeFault.{TreeFault};
-ghost use Rattle.doc_tree.specs.Feeding.{IsTaken, WasFed, Refuses};
+ghost use Rattle.doc_tree.specs.Feeding.{WasFed};
 
-use crate::characters::{Awaited, is_whole, next_awaited};
-use crate::fault::{StepFault, TreeFault};
-use crate::lines::Lines;
+use crate::events::Events;
+use crate::fault::TreeFault;
+use crate::gathering::Gathering;
 use element_tree::Tree;
 use std::alloc::Global;
 use std::marker::Model;
@@ -26,29 +25,21 @@ pub fn read(alloc: Global, bytes: &[u8], limit: u64) -> Result<Tree, TreeFault>
     }
 }
 
-/// Reads a document of at most `limit` bytes and of a depth of at most 32, piece by piece.
+/// Reads a document of at most `limit` bytes and of a depth of at most 32, piece by piece: [`Events`] that tell a tree.
 ///
 /// Contracts say which bytes it was fed (`WasFed`), and why it takes no more, if it doesn't.
 #[derive(Debug, Drop)]
 pub struct Reader {
-    lines: Lines,
-    awaited: Awaited,
-    limit: u64,
-    count: u64,
-    /// Why no byte more is taken.
-    refusal: Option<TreeFault>,
+    events: Events<Gathering>,
 }
 
 impl Model for Reader {
-    ghost use Rattle.doc_tree.specs.Feeding.{Feeding, CanGoOn};
+    ghost use Rattle.doc_tree.specs.Feeding.{Feeding};
+    ghost use Rattle.doc_tree.specs.Gathered.{whole};
 
     ghost Value = { Feeding };
 
-    ghost use Rattle.doc_tree.specs.Standing.{feeding};
-
-    ghost view = { feeding };
-
-    ghost invariant = { λ r. CanGoOn (feeding r) };
+    ghost view = { λ r. whole r.events.reading r.events.visitor };
 }
 
 impl Reader {
@@ -59,11 +50,7 @@ impl Reader {
         ensures refusal { result.refusal ≡ None }
     {
         Reader {
-            lines: Lines::new(alloc),
-            awaited: Awaited::First,
-            limit,
-            count: 0,
-            refusal: None,
+            events: Events::new(alloc, limit, Gathering::new(alloc)),
         }
     }
 
@@ -75,13 +62,7 @@ impl Reader {
         ensures answers { MatchOption self.new.refusal (result ≡ Ok tt) (λ fault. result ≡ Err fault) }
         ensures fed { (bytes : List ℕ) → WasFed self.old bytes → WasFed self.new (bytes ++ piece.now) }
     {
-        if let Some(fault) = self.refusal {
-            return Err(fault);
-        }
-        for b in piece {
-            self.take(*b)?;
-        }
-        Ok(())
+        self.events.feed(piece)
     }
 
     /// The tree of the document that was fed, or why there is none.
@@ -91,77 +72,14 @@ impl Reader {
         ensures only { IfOk result (λ tree. (bytes : List ℕ) → WasFed self bytes → ReadsOnly bytes tree) }
         ensures refuses { IfErr result (λ fault. (bytes : List ℕ) → WasFed self bytes → Ends self.limit bytes fault) }
     {
-        if let Some(fault) = self.refusal {
-            return Err(fault);
+        let at = self.events.reading.count();
+        match self.events.finish() {
+            Ok(gathering) => match gathering.finish() {
+                Ok(Some(tree)) => Ok(tree),
+                Ok(None) => Err(TreeFault::Malformed { at }),
+                Err(_) => Err(TreeFault::Memory),
+            },
+            Err(fault) => Err(fault),
         }
-        let at = self.count;
-        if !is_whole(self.awaited) {
-            return Err(TreeFault::Malformed { at });
-        }
-        if !self.lines.machine.is_over() {
-            return Err(TreeFault::Malformed { at });
-        }
-        match self.lines.machine.tree() {
-            Ok(Some(tree)) => Ok(tree),
-            Ok(None) => Err(TreeFault::Malformed { at }),
-            Err(_) => Err(TreeFault::Memory),
-        }
-    }
-
-    /// Takes a byte where none was refused.
-    fn take(&mut self, b: u8) -> Result<(), TreeFault>
-        requires { self.old.refusal ≡ None }
-        ensures limit { self.new.limit ≡ self.old.limit }
-        ensures stays { OnOk result (self.new.refusal ≡ None) }
-        ensures taken { OnOk result ((bytes : List ℕ) → IsTaken self.old bytes → IsTaken self.new (bytes ++ b ∷ [])) }
-        ensures holds { IfErr result (λ fault. self.new.refusal ≡ Some fault) }
-        ensures refused { IfErr result (Refuses self.old b) }
-    {
-        if let Some(fault) = self.bound(b) {
-            self.refusal = Some(fault);
-            return Err(fault);
-        }
-        let fault = TreeFault::Malformed { at: self.count };
-        match self.lines.step(b) {
-            Ok(()) => {}
-            Err(StepFault::Memory) => {
-                self.refusal = Some(TreeFault::Memory);
-                return Err(TreeFault::Memory);
-            }
-            Err(StepFault::Refused) => {
-                self.refusal = Some(fault);
-                return Err(fault);
-            }
-        }
-        match next_awaited(self.awaited, b) {
-            Some(awaited) => self.awaited = awaited,
-            None => {
-                self.refusal = Some(fault);
-                return Err(fault);
-            }
-        }
-        self.count += 1;
-        Ok(())
-    }
-
-    /// Why the byte is refused before the machine is asked, if it is.
-    fn bound(&self, b: u8) -> Option<TreeFault>
-        ensures { MatchOption result ((self.now.count < self.now.limit) × IsPlain self.now.state b) (Refuses self.now b) }
-    {
-        if self.count >= self.limit {
-            return Some(TreeFault::Long);
-        }
-        if self.lines.machine.is_deep(b) {
-            let at = self.count.saturating_sub(1);
-            return Some(TreeFault::Deep { at });
-        }
-        if self.lines.machine.is_doctype(b) {
-            let at = self.count.saturating_sub(2);
-            return Some(TreeFault::Doctype { at });
-        }
-        if self.lines.machine.is_other(b) {
-            return Some(TreeFault::Encoding);
-        }
-        None
     }
 }

@@ -1,6 +1,6 @@
 -- What all the bytes say, or why they are no document.
 use Rattle.std.proofs.Common.{◌≡◌, ℕ, ◌+◌, ◌<◌, inl, inr, ◌↔◌, List, [], ◌∷◌, ◌++◌, false, length, take, drop, get_or, Option, Some, None, MatchOption, Result, Ok, Err, IfOk, refl, arith, ap, sym, ◌∙◌, subst, append_assoc, append-nil}
-use Rattle.tree_grammar.specs.Elements.{Event}
+use Rattle.tree_grammar.specs.Elements.{Event, Open, Chars, Close}
 use Rattle.std.specs.Prelude.{codes}
 use Rattle.std.specs.Char.{encode_utf8}
 use Rattle.tree_grammar.specs.Characters.{IsXmlText, normal_lines}
@@ -13,26 +13,32 @@ use Rattle.doc_tree.specs.declared.characters.Awaited.TheVariants as awaits
 use Rattle.doc_tree.specs.declared.fault.TreeFault.{TreeFault}
 use Rattle.doc_tree.specs.declared.fault.TreeFault.TheVariants as faults
 use Rattle.doc_tree.specs.Building.{IsApart}
-use Rattle.doc_tree.specs.Marks.{Mark, spread}
+use Rattle.doc_tree.specs.Marks.{Mark, Start, Char, Finish, spread, join, gather}
 use Rattle.doc_tree.specs.Rests.{Terms, Whole}
 use Rattle.doc_tree.specs.Completes.{Completes}
 use Rattle.doc_tree.specs.LineEnds.{bounds, Continues}
-use Rattle.doc_tree.specs.Reading.{Reads, ReadsOnly, NoneWithin, Refused, Ends}
+use Rattle.doc_tree.specs.Reading.{Reads, ReadsOnly, Visits, NoneWithin, Refused, Ends}
 use Rattle.doc_tree.specs.Refusals.{IsText}
 use Rattle.doc_tree.specs.Utf8.{CharacterRest, Spells}
-use Rattle.doc_tree.specs.Feeding.{named, Feeding, IsTaken, WasFed}
-use Rattle.doc_tree.proofs.Told.LineFeeds.{over_none, over_whole, over_only, continues_end}
+use Rattle.doc_tree.specs.Feeding.{named, Feeding, IsTaken, behind, Heard, WasHeard}
+use Rattle.doc_tree.proofs.Told.LineFeeds.{over_none, over_whole, continues_end}
 use Rattle.doc_tree.proofs.Viability.Refused.{as_deep, as_deep_allowed, text_whole, refused_on, clean_start, clean_short}
-use Rattle.doc_tree.proofs.Told.Results.{split_at, none_refuses, text_refuses, read_so, read_tree, only_tree, some_tree, none_tree, reads_only, no_element}
+use Rattle.doc_tree.proofs.Told.Results.{split_at, none_refuses, text_refuses, read_so}
 use Rattle.doc_tree.proofs.Utf8.{low_char, spells_start, spells_whole, spells_cut}
 use Rattle.doc_tree.proofs.Told.Wholes.{whole_of, document_marks}
 
 -- whether they were all taken
-pub fed_taken : (f : Feeding) (bytes : List ℕ) → f.refusal ≡ None → WasFed f bytes → IsTaken f bytes
-fed_taken f bytes e h = subst (λ z. MatchOption z (IsTaken f bytes) (Refused f.limit bytes)) e h
+pub fed_taken : (had : List Mark → Type 0) (f : Feeding) (bytes : List ℕ) → f.refusal ≡ None → WasHeard had f bytes → Heard had f bytes
+fed_taken had f bytes e h = subst (λ z. MatchOption z (Heard had f bytes) (Refused f.limit bytes)) e h
 
-pub fed_refused : (f : Feeding) (bytes : List ℕ) (fault : TreeFault) → f.refusal ≡ Some fault → WasFed f bytes → Refused f.limit bytes fault
-fed_refused f bytes fault e h = subst (λ z. MatchOption z (IsTaken f bytes) (Refused f.limit bytes)) e h
+pub taken_fed : (had : List Mark → Type 0) (f : Feeding) (bytes : List ℕ) → f.refusal ≡ None → Heard had f bytes → WasHeard had f bytes
+taken_fed had f bytes e h = subst (λ z. MatchOption z (Heard had f bytes) (Refused f.limit bytes)) (sym e) h
+
+pub fed_refused : (A : Type 0) (f : Feeding) (bytes : List ℕ) (fault : TreeFault) → f.refusal ≡ Some fault → MatchOption f.refusal A (Refused f.limit bytes) → Refused f.limit bytes fault
+fed_refused A f bytes fault e h = subst (λ z. MatchOption z A (Refused f.limit bytes)) e h
+
+pub refused_fed : (had : List Mark → Type 0) (f : Feeding) (bytes : List ℕ) (fault : TreeFault) → f.refusal ≡ Some fault → Refused f.limit bytes fault → WasHeard had f bytes
+refused_fed had f bytes fault e h = subst (λ z. MatchOption z (Heard had f bytes) (Refused f.limit bytes)) (sym e) h
 
 -- a refusal that came before the end stays
 pub refused_ends : (limit : ℕ) (bytes : List ℕ) (fault : TreeFault) → Refused limit bytes fault → Ends limit bytes fault
@@ -57,18 +63,9 @@ module _ (f : Feeding) (bytes : List ℕ) (t : IsTaken f bytes) where
     all_read : Reads f.limit bytes told
     all_read = read_so f.limit bytes told (spells_whole f.awaited bytes whole t.spells) (clean_short f.limit bytes t.clean) (subst (λ z. Whole bounds (normal_lines bytes) z) says (over_whole f.state f.returned bytes t.continues over)) apart
 
-    pub tree_read : (N : Type 0) (o : Option (List Event)) (tree : List Event) → MatchOption o N (λ z. z ≡ told) → o ≡ Some tree → Reads f.limit bytes tree
-    tree_read N o tree m e = read_tree f.limit bytes told tree (some_tree told N o tree m e) all_read
-
-    pub tree_only : (N : Type 0) (o : Option (List Event)) (tree : List Event) → MatchOption o N (λ z. z ≡ told) → o ≡ Some tree → ReadsOnly bytes tree
-    tree_only N o tree m e = only_tree bytes told tree (some_tree told N o tree m e) (reads_only bytes told apart (λ u a marks w. over_only f.state f.returned bytes t.continues over u a marks w ∙ says))
-
-    pub no_tree : (o : Option (List Event)) → MatchOption o (IsOneElement told → ⊥) (λ z. z ≡ told) → o ≡ None → ⊥
-    no_tree o m e = no_element f.limit bytes told all_read (none_tree told (IsOneElement told → ⊥) o m e)
-
 -- bytes that come behind a refusal, and those behind the byte that is refused
-pub fed_on : (f : Feeding) (bytes more : List ℕ) (fault : TreeFault) → f.refusal ≡ Some fault → WasFed f bytes → WasFed f (bytes ++ more)
-fed_on f bytes more fault e h = subst (λ z. MatchOption z (IsTaken f (bytes ++ more)) (Refused f.limit (bytes ++ more))) (sym e) (refused_on f.limit bytes more fault (fed_refused f bytes fault e h))
+pub fed_on : (had more_had : List Mark → Type 0) (f : Feeding) (bytes more : List ℕ) (fault : TreeFault) → f.refusal ≡ Some fault → WasHeard had f bytes → WasHeard more_had f (bytes ++ more)
+fed_on had more_had f bytes more fault e h = refused_fed more_had f (bytes ++ more) fault e (refused_on f.limit bytes more fault (fed_refused _ f bytes fault e h))
 
 pub fed_up_to : (limit : ℕ) (bytes piece : List ℕ) (at : ℕ) (fault : TreeFault) → at < length piece → Refused limit ((bytes ++ take at piece) ++ (get_or piece at 0 ∷ [])) fault → Refused limit (bytes ++ piece) fault
 fed_up_to limit bytes piece at fault l r =
@@ -107,16 +104,33 @@ start_taken f c e n = record {
   clean = clean_start f.limit;
 }
 
--- where a reader says that it was refused, and what it then says of the bytes
-pub answers_refused : {A : Type 0} (o : Option TreeFault) (r : Result A TreeFault) (ok : A) (fault : TreeFault) → MatchOption o (r ≡ Ok ok) (λ f. r ≡ Err f) → r ≡ Err fault → o ≡ Some fault
-answers_refused {A} None r ok fault m e = let h : ◌≡◌ {A = Result A TreeFault} (Ok ok) (Err fault) = sym m ∙ e in absurd (cc)
-answers_refused {A} (Some f) r ok fault m e = let h : ◌≡◌ {A = Result A TreeFault} (Err f) (Err fault) = sym m ∙ e in let k : f ≡ fault = cc in ap Some k
+-- What was told is what an element says that the bytes hold.
+join_apart : (c : ℕ) (es : List Event) → IsApart es → IsApart (join c es)
+join_apart c [] a = ((λ e. cc), tt, tt)
+join_apart c (Open name attributes ∷ more) a = ((λ e. cc), tt, a)
+join_apart c (Chars text ∷ more) a = ((λ e. cc), a.1, a.2)
+join_apart c (Close name ∷ more) a = ((λ e. cc), tt, a)
 
--- What was fed ends so where the last piece was refused.
-pub feed_ends : {A : Type 0} (f : Feeding) (limit : ℕ) (bytes : List ℕ) (r : Result A TreeFault) (ok : A) (fault : TreeFault) → f.limit ≡ limit → WasFed f bytes → MatchOption f.refusal (r ≡ Ok ok) (λ x. r ≡ Err x) → r ≡ Err fault → Ends limit bytes fault
-feed_ends f limit bytes r ok fault l h m e = subst (λ z. Ends z bytes fault) l (refused_ends f.limit bytes fault (fed_refused f bytes fault (answers_refused f.refusal r ok fault m e) h))
+pub gather_apart : (marks : List Mark) → IsApart (gather marks)
+gather_apart [] = tt
+gather_apart (Start name attributes ∷ more) = gather_apart more
+gather_apart (Char c ∷ more) = join_apart c (gather more) (gather_apart more)
+gather_apart (Finish name ∷ more) = gather_apart more
 
--- what is said of all bytes that a reader was fed is said of these
-pub at_ok : {A : Type 0} (r : Result A TreeFault) (f : Feeding) (bytes : List ℕ) (P : List ℕ → A → Type 0) → IfOk r (λ a. (x : List ℕ) → WasFed f x → P x a) → WasFed f bytes → IfOk r (P bytes)
-at_ok (Ok a) f bytes P h w = h bytes w
-at_ok (Err e) f bytes P h w = h
+spread_join : (c : ℕ) (es : List Event) → spread (join c es) ≡ Char c ∷ spread es
+spread_join c [] = refl
+spread_join c (Open name attributes ∷ more) = refl
+spread_join c (Chars text ∷ more) = refl
+spread_join c (Close name ∷ more) = refl
+
+gather_spreads : (marks : List Mark) → spread (gather marks) ≡ marks
+gather_spreads [] = refl
+gather_spreads (Start name attributes ∷ more) = ap (λ z. Start name attributes ∷ z) (gather_spreads more)
+gather_spreads (Char c ∷ more) = spread_join c (gather more) ∙ ap (λ z. Char c ∷ z) (gather_spreads more)
+gather_spreads (Finish name ∷ more) = ap (λ z. Finish name ∷ z) (gather_spreads more)
+
+pub visited : (had : List Mark → Type 0) (f : Feeding) (bytes : List ℕ) → IsTaken f bytes → f.awaited ≡ awaits.First → ((u : Terms) (marks : List Mark) → Completes f.state u [] marks ↔ (marks ≡ f.state.marks)) → had f.state.marks → Visits had f.limit bytes
+visited had f bytes t whole over has =
+    let says : f.state.marks ≡ spread (gather f.state.marks) = sym (gather_spreads f.state.marks) in
+    let r : Reads f.limit bytes (gather f.state.marks) = all_read f bytes t whole (gather f.state.marks) says over (gather_apart f.state.marks) in
+    record { element = r.element; told = subst had (says ∙ ap spread r.same) has; document = r.document; within = r.within; shallow = r.shallow }

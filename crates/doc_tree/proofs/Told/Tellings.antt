@@ -1,13 +1,16 @@
 -- What a builder is told, and that no characters touch in it.
 use Rattle.std.proofs.Common.{◌≡◌, ◌≢◌, ℕ, ◌⊎◌, inl, inr, Bool, IsTrue, List, [], ◌∷◌, ◌++◌, map, refl, ap, sym, ◌∙◌, subst, append_assoc}
 use Rattle.std.proofs.lemmas.List.{append-nil, map-append}
-use Rattle.tree_grammar.specs.Elements.{Event, Open, Chars, Close}
+use Rattle.tree_grammar.specs.Elements.{Attribute, Event, Open, Chars, Close}
 use Rattle.element_tree.specs.Building.{Building, with_run, said}
-use Rattle.doc_tree.specs.Marks.{Start, Char, Finish, spread}
-use Rattle.doc_tree.specs.Building.{Tells, NoCharsFirst, NoCharsLast, IsApart, IsReady}
+use Rattle.std.proofs.Common.{◌+◌, ◌<◌, length, take, get_or}
+use Rattle.std.proofs.lemmas.List.{take_more}
+use Rattle.element_tree.specs.Items.{event_at}
+use Rattle.doc_tree.specs.Marks.{Mark, Start, Char, Finish, spread}
+use Rattle.doc_tree.specs.Building.{Tells, HandsOn, NoCharsFirst, NoCharsLast, IsApart, IsReady}
 
 -- marks of events
-spread_more : (es fs : List Event) → spread (es ++ fs) ≡ spread es ++ spread fs
+pub spread_more : (es fs : List Event) → spread (es ++ fs) ≡ spread es ++ spread fs
 spread_more [] fs = refl
 spread_more (Open name attributes ∷ es) fs = ap (λ z. Start name attributes ∷ z) (spread_more es fs)
 spread_more (Chars text ∷ es) fs = ap (λ z. map Char text ++ z) (spread_more es fs) ∙ sym (append_assoc (map Char text) (spread es) (spread fs))
@@ -81,20 +84,22 @@ text_told old new text e = subst (λ z. Tells old (map Char text) old.attributes
   waits = refl;
 })
 
-pub text_ready : (old new : Building) (text : List ℕ) → new ≡ record old { text = old.text ++ text } → old.attributes ≡ [] → IsReady old → IsReady new
-text_ready old new text e a r = subst IsReady (sym e) (record {
-  apart = run_apart old.events (old.text ++ text) (run_before old.events old.text r.apart) (r.run_begins a);
+pub text_ready : (old new : Building) (text : List ℕ) → new ≡ record old { text = old.text ++ text } → IsReady old → IsReady new
+text_ready old new text e r = subst IsReady (sym e) (record {
+  apart = run_apart old.events (old.text ++ text) (run_before old.events old.text r.apart) r.run_begins;
   run_begins = r.run_begins;
+  none_waits = r.none_waits;
 })
 
 -- an element is begun
 pub open_told : (old new : Building) (name : List ℕ) → new ≡ record { events = said old ++ (Open name old.attributes ∷ []); attributes = []; text = [] } → Tells old (Start name old.attributes ∷ []) [] new
 open_told old new name e = subst (λ z. Tells old (Start name old.attributes ∷ []) [] z) (sym e) (record { says = spread_more (said old) (Open name old.attributes ∷ []); waits = refl })
 
-pub open_ready : (old new : Building) (name : List ℕ) → new ≡ record { events = said old ++ (Open name old.attributes ∷ []); attributes = []; text = [] } → IsReady old → IsReady new
-open_ready old new name e r = subst IsReady (sym e) (record {
-  apart = apart_put (said old) (Open name old.attributes) r.apart tt;
-  run_begins = λ _. last_put (said old) (Open name old.attributes) tt;
+pub open_ready : (old new : Building) (name : List ℕ) (attributes : List Attribute) → new ≡ record { events = said old ++ (Open name attributes ∷ []); attributes = []; text = [] } → IsReady old → IsReady new
+open_ready old new name attributes e r = subst IsReady (sym e) (record {
+  apart = apart_put (said old) (Open name attributes) r.apart tt;
+  run_begins = last_put (said old) (Open name attributes) tt;
+  none_waits = refl;
 })
 
 -- an element is ended
@@ -104,10 +109,35 @@ close_told old new name e = subst (λ z. Tells old (Finish name ∷ []) old.attr
 pub close_ready : (old new : Building) (name : List ℕ) → new ≡ record old { events = said old ++ (Close name ∷ []); text = [] } → IsReady old → IsReady new
 close_ready old new name e r = subst IsReady (sym e) (record {
   apart = apart_put (said old) (Close name) r.apart tt;
-  run_begins = λ _. last_put (said old) (Close name) tt;
+  run_begins = last_put (said old) (Close name) tt;
+  none_waits = r.none_waits;
 })
 
 -- unless memory was wanted
 pub unless_wanted : {A B : Type 0} (wanted : Bool) → (A → B) → IsTrue wanted ⊎ A → IsTrue wanted ⊎ B
 unless_wanted wanted f (inl w) = inl w
 unless_wanted wanted f (inr a) = inr (f a)
+
+-- an attribute is told
+pub attribute_told : (old new : Building) (attributes : List Attribute) → new ≡ record { events = said old; attributes = attributes; text = [] } → Tells old [] attributes new
+attribute_told old new attributes e = subst (λ z. Tells old [] attributes z) (sym e) (record { says = sym (append-nil (spread (said old))); waits = refl })
+
+-- one event more is told
+pub one_more : (es : List Event) (i : ℕ) → i < length es → spread (take (i + 1) es) ≡ spread (take i es) ++ spread (event_at es i ∷ [])
+one_more es i l = ap spread (take_more es i (Close []) l) ∙ spread_more (take i es) (event_at es i ∷ [])
+
+-- what waits is told
+pub handed_none : (had : List Mark → Type 0) (b : Building) → had [] → HandsOn b b had
+handed_none had b h = record { told = []; has = h; rest = refl; waits = refl }
+
+pub handed_all : (had : List Mark → Type 0) (old mid new : Building) → mid ≡ record old { events = said old; text = [] } → old.attributes ≡ [] → new ≡ record { events = []; attributes = []; text = [] } → had (spread mid.events) → HandsOn old new had
+handed_all had old mid new m a e h = subst (λ z. HandsOn old z had) (sym e) (record { told = spread (said old); has = subst (λ z. had (spread z.events)) m h; rest = sym (append-nil (spread (said old))); waits = sym a })
+
+-- a start tag is told at once
+pub tag_told : (old new : Building) (name : List ℕ) (attributes : List Attribute) → new ≡ record { events = said old ++ (Open name attributes ∷ []); attributes = []; text = [] } → spread (said new) ≡ spread (said old) ++ (Start name attributes ∷ [])
+tag_told old new name attributes e = ap (λ z. spread (said z)) e ∙ spread_more (said old) (Open name attributes ∷ [])
+
+-- unless memory was wanted, no attribute waits
+pub none_waits : (wanted : Bool) (b : Building) → (IsTrue wanted → ⊥) → IsTrue wanted ⊎ IsReady b → b.attributes ≡ []
+none_waits wanted b n (inl w) = absurd (n w)
+none_waits wanted b n (inr r) = r.none_waits

@@ -1,0 +1,11 @@
+use Rattle.std.proofs.Common.{◌≡◌, ◌∷◌, [], subst, ap, sym, ◌∙◌, refl}
+use Rattle.doc_tree.specs.Marks.{Start}
+use Rattle.doc_tree.specs.Gathered.{Gathers}
+use Rattle.doc_tree.proofs.Told.Tellings.{tag_told, open_ready, none_waits, unless_wanted}
+use Rattle.doc_tree.proofs.gathering.GatheringVisitor.enter.Goals as goal
+
+pub invariant_of-self : goal.invariant_of-self
+invariant_of-self c = unless_wanted c.self.inside.wanted (open_ready c.self.inside.builder c.begin.new.builder _ _ c.in-Ok.ensures) c.self.invariant
+
+pub returns-in-Ok : goal.returns-in-Ok
+returns-in-Ok c = subst (λ z. Gathers z c.begin.new.builder (Start c.args.name.now c.args.attributes.now ∷ [])) c.self.view_is (tag_told c.self.inside.builder c.begin.new.builder c.args.name.now c.args.attributes.now c.in-Ok.ensures)

@@ -1,0 +1,9 @@
+use Rattle.std.proofs.Common.{◌≡◌, take}
+use Rattle.element_tree.specs.Building.{said}
+use Rattle.doc_tree.proofs.gathering.begin.Given as goal
+
+abbrev pub invariant-loop-k : goal.invariant-loop-k
+invariant-loop-k l = record {
+  said : said l.builder ≡ said l.fn.builder;
+  waits : l.builder.attributes ≡ take l.k l.attributes;
+}
