@@ -1,5 +1,5 @@
 -- What all the bytes say, or why they are no document.
-use Rattle.std.proofs.Common.{◌≡◌, ℕ, ◌+◌, ◌<◌, inl, inr, ◌↔◌, List, [], ◌∷◌, ◌++◌, false, length, take, drop, get_or, Option, Some, None, MatchOption, Result, Ok, Err, IfOk, refl, arith, ap, sym, ◌∙◌, subst, append_assoc, append-nil}
+use Rattle.std.proofs.Common.{◌≡◌, ℕ, ◌+◌, ◌<◌, inl, inr, ◌↔◌, List, [], ◌∷◌, ◌++◌, false, length, take, drop, get_or, Some, None, MatchOption, refl, arith, ap, sym, ◌∙◌, subst, append_assoc, append-nil}
 use Rattle.tree_grammar.specs.Elements.{Event, Open, Chars, Close}
 use Rattle.std.specs.Prelude.{codes}
 use Rattle.std.specs.Char.{encode_utf8}
@@ -8,7 +8,6 @@ use Rattle.tree_grammar.specs.Tags.{no_attribute}
 use Rattle.tree_grammar.specs.Content.{closed, misc_over}
 use Rattle.tree_grammar.specs.Declaration.{no_declaration}
 use Rattle.tree_grammar.specs.Document.{Document}
-use Rattle.element_tree.specs.Nesting.{IsOneElement}
 use Rattle.doc_tree.specs.declared.characters.Awaited.TheVariants as awaits
 use Rattle.doc_tree.specs.declared.fault.TreeFault.{TreeFault}
 use Rattle.doc_tree.specs.declared.fault.TreeFault.TheVariants as faults
@@ -17,10 +16,10 @@ use Rattle.doc_tree.specs.Marks.{Mark, Start, Char, Finish, spread, join, gather
 use Rattle.doc_tree.specs.Rests.{Terms, Whole}
 use Rattle.doc_tree.specs.Completes.{Completes}
 use Rattle.doc_tree.specs.LineEnds.{bounds, Continues}
-use Rattle.doc_tree.specs.Reading.{Reads, ReadsOnly, Visits, NoneWithin, Refused, Ends}
+use Rattle.doc_tree.specs.Reading.{Reads, Visits, NoneWithin, Refused, Ends}
 use Rattle.doc_tree.specs.Refusals.{IsText}
 use Rattle.doc_tree.specs.Utf8.{CharacterRest, Spells}
-use Rattle.doc_tree.specs.Feeding.{named, Feeding, IsTaken, behind, Heard, WasHeard}
+use Rattle.doc_tree.specs.Feeding.{named, Feeding, IsTaken, Heard, WasHeard}
 use Rattle.doc_tree.proofs.Told.LineFeeds.{over_none, over_whole, continues_end}
 use Rattle.doc_tree.proofs.Viability.Refused.{as_deep, as_deep_allowed, text_whole, refused_on, clean_start, clean_short}
 use Rattle.doc_tree.proofs.Told.Results.{split_at, none_refuses, text_refuses, read_so}

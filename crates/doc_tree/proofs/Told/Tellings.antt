@@ -3,7 +3,7 @@ use Rattle.std.proofs.Common.{◌≡◌, ◌≢◌, ℕ, ◌⊎◌, inl, inr, Bo
 use Rattle.std.proofs.lemmas.List.{append-nil, map-append}
 use Rattle.tree_grammar.specs.Elements.{Attribute, Event, Open, Chars, Close}
 use Rattle.element_tree.specs.Building.{Building, with_run, said}
-use Rattle.std.proofs.Common.{◌+◌, ◌<◌, length, take, get_or}
+use Rattle.std.proofs.Common.{◌+◌, ◌<◌, length, take}
 use Rattle.std.proofs.lemmas.List.{take_more}
 use Rattle.element_tree.specs.Items.{event_at}
 use Rattle.doc_tree.specs.Marks.{Mark, Start, Char, Finish, spread}

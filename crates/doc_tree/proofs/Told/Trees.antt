@@ -1,11 +1,11 @@
 -- A reader that tells a tree.
-use Rattle.std.proofs.Common.{◌≡◌, ℕ, List, [], ◌++◌, Option, Some, None, MatchOption, Result, Ok, Err, IfOk, refl, ap, sym, ◌∙◌, subst}
+use Rattle.std.proofs.Common.{◌≡◌, ℕ, List, [], Option, Some, None, MatchOption, Result, Ok, Err, IfOk, refl, ap, sym, ◌∙◌, subst}
 use Rattle.tree_grammar.specs.Elements.{Element, Event, events}
 use Rattle.tree_grammar.specs.Document.{Document, Doc}
 use Rattle.element_tree.specs.Building.{Building, said}
 use Rattle.element_tree.specs.Nesting.{IsOneElement}
 use Rattle.doc_tree.specs.Building.{IsApart}
-use Rattle.doc_tree.specs.Marks.{Mark, spread, gather}
+use Rattle.doc_tree.specs.Marks.{spread, gather}
 use Rattle.doc_tree.specs.Reading.{Reads, ReadsOnly, Visits, Refused, Ends}
 use Rattle.doc_tree.specs.Feeding.{Feeding, IsTaken, WasFed, behind, Heard, WasHeard}
 use Rattle.doc_tree.specs.Gathered.{Gathers, whole}

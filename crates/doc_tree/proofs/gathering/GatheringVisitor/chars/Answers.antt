@@ -1,4 +1,4 @@
-use Rattle.std.proofs.Common.{◌≡◌, map, subst}
+use Rattle.std.proofs.Common.{map, subst}
 use Rattle.doc_tree.specs.Marks.{Char}
 use Rattle.doc_tree.specs.Gathered.{Gathers}
 use Rattle.doc_tree.proofs.Told.Tellings.{text_told, text_ready, unless_wanted}

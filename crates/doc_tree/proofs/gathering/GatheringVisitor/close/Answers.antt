@@ -1,4 +1,4 @@
-use Rattle.std.proofs.Common.{◌≡◌, ◌∷◌, [], subst}
+use Rattle.std.proofs.Common.{◌∷◌, [], subst}
 use Rattle.doc_tree.specs.Marks.{Finish}
 use Rattle.doc_tree.specs.Gathered.{Gathers}
 use Rattle.doc_tree.proofs.Told.Tellings.{close_told, close_ready, unless_wanted}
