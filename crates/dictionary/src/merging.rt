@@ -9,8 +9,8 @@ ghost use Rattle.dictionary.specs.Merge.{MergeFits, IsMerged, HasRoom, HasRoomFo
 
 use crate::row::{Item, Row};
 use crate::steps::Steps;
+use common_rows::{plus_product, times};
 use fraction::{Frac, Wide};
-use instance::add_product;
 use std::sync::ledger::Ledger;
 
 /// Puts an entry at the end, where it isn't 0 and not at `skip`.
@@ -43,7 +43,7 @@ fn append_product<L: Ledger>(
     ensures cost { steps.new ≤ steps.old + 1 }
     ensures counted { steps.old ≤ steps.new }
 {
-    let value = factor.mul(y.value)?;
+    let value = times(factor, y.value)?;
     append(out, &Item { col: y.col, value }, skip, steps);
     Ok(())
 }
@@ -65,7 +65,7 @@ fn append_sum<L: Ledger>(
     ensures cost { steps.new ≤ steps.old + 1 }
     ensures counted { steps.old ≤ steps.new }
 {
-    let value = add_product(x.value, factor, y.value)?;
+    let value = plus_product(x.value, factor, y.value)?;
     append(out, &Item { col: x.col, value }, skip, steps);
     Ok(())
 }

@@ -58,10 +58,7 @@ impl<L: Ledger> Row<L> {
         ensures room { room_of self.old ≤ room_of self.new }
     {
         self.items.clear();
-        match self.items.push(item) {
-            Ok(()) => {}
-            Err(_) => unreachable!(),
-        }
+        self.items.push_reserved(item);
     }
 
     /// The entry at a place: one step.
@@ -82,9 +79,6 @@ impl<L: Ledger> Row<L> {
         ensures cost { steps.new ≡ steps.old + 1 }
     {
         steps.tick();
-        match self.items.push(item) {
-            Ok(()) => {}
-            Err(_) => unreachable!(),
-        }
+        self.items.push_reserved(item);
     }
 }

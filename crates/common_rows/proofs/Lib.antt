@@ -1,0 +1,5 @@
+pub mod Sizes
+pub mod Written
+pub mod Changed
+pub mod Fitting
+pub mod Wholes

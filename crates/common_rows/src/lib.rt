@@ -1,0 +1,16 @@
+//! Rows of fractions over one denominator, in numbers of 64 bits.
+//!
+//! A row whose numbers fit is changed by another one with two products, a sum and one exact quotient an entry, and nothing
+//! that is stated of its fractions passes 128 bits ([`changes_are_stated`]). Over the denominator 1, which is that of whole
+//! numbers, [`plus_product`] and [`times`] do it for one entry, and answer as the fractions' own operations do.
+#![tactic(auto)]
+
+mod change;
+mod divisor;
+mod laws;
+mod whole;
+
+pub use change::Change;
+pub use divisor::Divisor;
+pub use laws::changes_are_stated;
+pub use whole::{plus_product, times};

@@ -1,0 +1,74 @@
+// Whole numbers: rows over the denominator 1.
+ghost use Rattle.std.specs.Prelude.{◌≡◌, ◌≤◌, ◌+ℤ◌, ◌*ℤ◌, unsigned_abs, IfSome, IfOk, OnErr};
+ghost use Rattle.rational.specs.Ratio.{sum, product, IsSame};
+ghost use Rattle.rational.specs.Width.{most, ReducedFits};
+ghost use Rattle.fraction.specs.Frac.{ratio};
+ghost use Rattle.evidence.specs.Width.{TermFits};
+
+use fraction::{Frac, Wide};
+use instance::add_product;
+
+/// The number, where the fraction is whole and it has 64 bits.
+#[inline]
+fn narrow(x: Frac) -> Option<i64>
+    ensures whole { IfSome result (λ _. x.denom ≡ 1) }
+    ensures number { IfSome result (λ n. n ≡ x.numer) }
+{
+    if x.denom != 1 {
+        return None;
+    }
+    i64::try_from(x.numer).ok()
+}
+
+/// A whole number.
+#[inline]
+fn whole(numer: i128) -> Frac
+    requires { unsigned_abs numer ≤ most }
+    ensures numer { result.numer ≡ numer }
+    ensures denom { result.denom ≡ 1 }
+{
+    Frac { numer, denom: 1 }
+}
+
+/// A number and a product.
+#[inline]
+fn total(n: i64, k: i64, m: i64) -> i128
+    ensures value { result ≡ n +ℤ k *ℤ m }
+    ensures size { unsigned_abs result ≤ most }
+{
+    n as i128 + crate::change::product(k, m)
+}
+
+/// `start` and a product, as [`add_product`] has them.
+#[inline]
+pub fn plus_product(start: Frac, a: Frac, x: Frac) -> Result<Frac, Wide>
+    ensures ok { IfOk result (λ r. IsSame (ratio r) (sum (ratio start) (product (ratio a) (ratio x)))) }
+    ensures fits { IfOk result (λ _. TermFits (ratio start) (ratio a) (ratio x)) }
+    ensures wide { OnErr result (TermFits (ratio start) (ratio a) (ratio x) → ⊥) }
+{
+    let Some(n) = narrow(start) else {
+        return add_product(start, a, x);
+    };
+    let Some(k) = narrow(a) else {
+        return add_product(start, a, x);
+    };
+    let Some(m) = narrow(x) else {
+        return add_product(start, a, x);
+    };
+    Ok(whole(total(n, k, m)))
+}
+
+/// A product, as [`Frac::mul`] has it.
+#[inline]
+pub fn times(a: Frac, x: Frac) -> Result<Frac, Wide>
+    ensures ok { IfOk result (λ r. IsSame (ratio r) (product (ratio a) (ratio x))) }
+    ensures wide { OnErr result (ReducedFits (product (ratio a) (ratio x)) → ⊥) }
+{
+    let Some(k) = narrow(a) else {
+        return a.mul(x);
+    };
+    let Some(m) = narrow(x) else {
+        return a.mul(x);
+    };
+    Ok(whole(crate::change::product(k, m)))
+}
