@@ -1,5 +1,5 @@
--- A run of a job: which looks it makes, and which document comes of it.
-use Rattle.std.specs.Prelude.{◌≡◌, ℕ, Bool, List, Option, IfSome}
+-- A run of a job: which looks it makes, and which document comes of it; and who is told that a job waits.
+use Rattle.std.specs.Prelude.{◌≡◌, ℕ, Bool, false, List, Option, IfSome}
 use Rattle.simplex_rules.specs.Looks.{answers}
 use Rattle.solve_run.specs.Running.{AreLooks, TellsText}
 
@@ -8,3 +8,7 @@ use Rattle.solve_run.specs.Running.{AreLooks, TellsText}
 abbrev pub Makes : (osil osol : List ℕ) → List Bool → Option (List ℕ) → Type 0
 Makes osil osol looks document =
     (n : ℕ) × (killed : Bool) × (looks ≡ answers n killed) × AreLooks osil osol n killed × IfSome document (TellsText osil osol n killed)
+
+-- nobody is ever woken: whoever serves is alone
+abbrev pub WakesNobody : Bool → Type 0
+WakesNobody woken = woken ≡ false

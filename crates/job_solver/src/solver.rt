@@ -43,6 +43,10 @@ impl Runner<SolvedJobs> for Solver {
 }
 
 impl Server<SolvedJobs> for Solver {
+    ghost use Rattle.job_solver.specs.Runs.{WakesNobody};
+
+    ghost wakes = { WakesNobody };
+
     fn wake(&self) -> bool {
         false
     }

@@ -1,5 +1,5 @@
 -- Bytes are cut into requests in one way.
-use Rattle.std.proofs.Common.{◌≡◌, ◌≢◌, ℕ, suc, ◌+◌, ◌<◌, Bool, true, false, List, [], ◌∷◌, ◌++◌, length, refl, sym, ◌∙◌, ap, subst, inl, inr, ◌⊎◌, arith, append_assoc, append-nil, Err, Option}
+use Rattle.std.proofs.Common.{◌≡◌, ◌≢◌, ℕ, suc, ◌+◌, ◌<◌, Bool, true, false, List, [], ◌∷◌, ◌++◌, length, refl, sym, ◌∙◌, ap, subst, inl, inr, ◌⊎◌, arith, append_assoc, append-nil, Err}
 use Rattle.std.specs.Prelude.{All}
 use Rattle.std.proofs.lemmas.List.{append_cancel_left}
 use Rattle.std.proofs.lemmas.List.Elements.{All-head, All-tail}
@@ -17,9 +17,7 @@ use Rattle.os_server.specs.declared.serve.Served.TheVariants.{Ended, CutShort, R
 use Rattle.os_server.specs.Orders.{Faults}
 use Rattle.os_server.specs.Talk.{Part, part, all_of, then, most_requests, Answers, IsRefusedAs, IsExchange, IsSilent, IsRefused, Ends, IsLast, Talk}
 use Rattle.os_server.specs.Laws.{HasNoFault, takens}
-
-abbrev Made : Type 1
-Made = List ℕ → List ℕ → List Bool → Option (List ℕ) → Type 0
+use Rattle.os_server.proofs.Pieces.{Made, Wakes}
 
 -- what stands at the front of bytes: a request that is answered, one that is refused, the end between requests, or inside one
 pub data Front : Type 0 where
@@ -116,13 +114,13 @@ faults_call by body codes_of.Process text (call, is, refuses) none =
 faults_call by body codes_of.Full text p none = p
 faults_call by body codes_of.Spent text p none = p
 
-module _ (made : Made) where
+module _ (made : Made) (wakes : Wakes) where
   -- what a front brings
   abbrev pub Brings : Front → Part → Type 0
-  Brings (Whole close) p = IsExchange made close p
-  Brings Refuses p = IsRefused made p
-  Brings Between p = IsSilent made p
-  Brings Inside p = IsSilent made p
+  Brings (Whole close) p = IsExchange made wakes close p
+  Brings Refuses p = IsRefused made wakes p
+  Brings Between p = IsSilent made wakes p
+  Brings Inside p = IsSilent made wakes p
 
   -- the last part of a conversation without a fault
   abbrev pub ShowsLast : Served → ℕ → Part → List ℕ → Type 0
@@ -130,19 +128,19 @@ module _ (made : Made) where
       ((count < most_requests) × (k : Front) × (k ≢ Whole false) × (end ≡ end_of k) × Shows k l.taken rest × Brings k l)
       ⊎ ((end ≡ Ended) × (count ≡ most_requests) × (l ≡ part [] [] []))
 
-module _ (made : Made) (by : Requests) (says : Bodies) where
-  answers_call : (body : List ℕ) (own : List Entry) (said : Said) (as_worker : Bool) → Answers made body own said as_worker
+module _ (made : Made) (wakes : Wakes) (by : Requests) (says : Bodies) where
+  answers_call : (body : List ℕ) (own : List Entry) (said : Said) (as_worker : Bool) → Answers made wakes body own said as_worker
       → CallFails body soap.Envelope → ⊥
   answers_call body own said as_worker (inl d) none =
       let same : soap.Envelope ≡ soap.Memory = says.apart body d.asks.call soap.Envelope d.asks.is_call none in cc
   answers_call body own said as_worker (inr f) none = faults_call says body f.code f.text f.faults none
 
-  exchange_shows : (close : Bool) (p : Part) (rest : List ℕ) → IsExchange made close p → Shows (Whole close) p.taken rest
+  exchange_shows : (close : Bool) (p : Part) (rest : List ℕ) → IsExchange made wakes close p → Shows (Whole close) p.taken rest
   exchange_shows close p rest x =
       (x.answered.0, x.answered.1, answers_call x.answered.0 x.own x.said x.as_worker x.answered.2)
 
-  ends_show : (end : Served) (count : ℕ) (l : Part) (rest : List ℕ) → HasNoFault end → count < most_requests → Ends made end (rest ≡ []) l
-      → ShowsLast made end count l rest
+  ends_show : (end : Served) (count : ℕ) (l : Part) (rest : List ℕ) → HasNoFault end → count < most_requests → Ends made wakes end (rest ≡ []) l
+      → ShowsLast made wakes end count l rest
   ends_show Ended count l rest free few (inl (ended, silence, at)) = inl (few, Between, (λ e. cc), refl, (ended, at), silence)
   ends_show Ended count l rest free few (inr (inl x)) = inl (few, Whole true, (λ e. cc), refl, exchange_shows true l rest x, x)
   ends_show Ended count l rest free few (inr (inr (refusal, is_due, out))) = inl (few, Refuses, (λ e. cc), refl, (refusal, is_due.0), (refusal, is_due, out))
@@ -151,25 +149,25 @@ module _ (made : Made) (by : Requests) (says : Bodies) where
   ends_show WriteFault count l rest free few p = absurd free
   ends_show Memory count l rest free few p = absurd free
 
-  pub last_shows : (end : Served) (count : ℕ) (l : Part) (rest : List ℕ) → HasNoFault end → IsLast made end count (rest ≡ []) l
-      → ShowsLast made end count l rest
+  pub last_shows : (end : Served) (count : ℕ) (l : Part) (rest : List ℕ) → HasNoFault end → IsLast made wakes end count (rest ≡ []) l
+      → ShowsLast made wakes end count l rest
   last_shows end count l rest free (inl (few, ends)) = ends_show end count l rest free few ends
   last_shows end count l rest free (inr full) = inr full
 
   -- a last part and a request after which the next comes
-  never_last : (end : Served) (count other : ℕ) (l q : Part) (rest more : List ℕ) → ShowsLast made end count l rest → count < other
-      → (other < most_requests) ⊎ (other ≡ most_requests) → IsExchange made false q → l.taken ++ rest ≡ q.taken ++ more → ⊥
+  never_last : (end : Served) (count other : ℕ) (l q : Part) (rest more : List ℕ) → ShowsLast made wakes end count l rest → count < other
+      → (other < most_requests) ⊎ (other ≡ most_requests) → IsExchange made wakes false q → l.taken ++ rest ≡ q.taken ++ more → ⊥
   never_last end count other l q rest more (inl (few, k, another, is, shows, brings)) less most x e =
       another (shows_once by k (Whole false) l.taken q.taken rest more shows (exchange_shows false q more x) e).0
   never_last end count other l q rest more (inr (is, full, none)) less (inl most) x e = omega (arith, full, less, most)
   never_last end count other l q rest more (inr (is, full, none)) less (inr most) x e = omega (arith, full, less, most)
 
-  few_or_full : (end : Served) (count : ℕ) (l : Part) (rest : List ℕ) → ShowsLast made end count l rest
+  few_or_full : (end : Served) (count : ℕ) (l : Part) (rest : List ℕ) → ShowsLast made wakes end count l rest
       → (count < most_requests) ⊎ (count ≡ most_requests)
   few_or_full end count l rest (inl p) = inl p.0
   few_or_full end count l rest (inr p) = inr p.1
 
-  lasts_once : (end other : Served) (count : ℕ) (l m : Part) (x y : List ℕ) → ShowsLast made end count l x → ShowsLast made other count m y
+  lasts_once : (end other : Served) (count : ℕ) (l m : Part) (x y : List ℕ) → ShowsLast made wakes end count l x → ShowsLast made wakes other count m y
       → l.taken ++ x ≡ m.taken ++ y → (end ≡ other) × (l.taken ≡ m.taken)
   lasts_once end other count l m x y (inl (few, k, another, is, shows, brings)) (inl (few', k', another', is', shows', brings')) e =
       let once = shows_once by k k' l.taken m.taken x y shows shows' e in (is ∙ ap end_of once.0 ∙ sym is', once.1)
@@ -183,30 +181,30 @@ module _ (made : Made) (by : Requests) (says : Bodies) where
   regroup a b l x = append_assoc a b (l ++ x)
 
   cut_once : (n : ℕ) (ps qs : List Part) (end other : Served) (l m : Part) (x y : List ℕ)
-      → All (IsExchange made false) ps → All (IsExchange made false) qs
-      → ShowsLast made end (n + length ps) l x → ShowsLast made other (n + length qs) m y
+      → All (IsExchange made wakes false) ps → All (IsExchange made wakes false) qs
+      → ShowsLast made wakes end (n + length ps) l x → ShowsLast made wakes other (n + length qs) m y
       → (all_of ps).taken ++ (l.taken ++ x) ≡ (all_of qs).taken ++ (m.taken ++ y)
       → (end ≡ other) × (takens ps ≡ takens qs) × (l.taken ≡ m.taken)
   cut_once n [] [] end other l m x y es fs s t e =
       let once = lasts_once end other (n + 0) l m x y s t e in (once.0, refl, once.1)
   cut_once n [] (q ∷ qs) end other l m x y es fs s t e =
       absurd (never_last end (n + 0) (n + suc (length qs)) l q x ((all_of qs).taken ++ (m.taken ++ y)) s (omega arith)
-      (few_or_full other (n + suc (length qs)) m y t) (All-head (IsExchange made false) q qs fs)
+      (few_or_full other (n + suc (length qs)) m y t) (All-head (IsExchange made wakes false) q qs fs)
       (e ∙ regroup q.taken (all_of qs).taken m.taken y))
   cut_once n (p ∷ ps) [] end other l m x y es fs s t e =
       absurd (never_last other (n + 0) (n + suc (length ps)) m p y ((all_of ps).taken ++ (l.taken ++ x)) t (omega arith)
-      (few_or_full end (n + suc (length ps)) l x s) (All-head (IsExchange made false) p ps es)
+      (few_or_full end (n + suc (length ps)) l x s) (All-head (IsExchange made wakes false) p ps es)
       (sym e ∙ regroup p.taken (all_of ps).taken l.taken x))
   cut_once n (p ∷ ps) (q ∷ qs) end other l m x y es fs s t e =
       let bytes : p.taken ++ ((all_of ps).taken ++ (l.taken ++ x)) ≡ q.taken ++ ((all_of qs).taken ++ (m.taken ++ y)) =
       sym (regroup p.taken (all_of ps).taken l.taken x) ∙ e ∙ regroup q.taken (all_of qs).taken m.taken y in
       let once = both_whole by false false p.taken q.taken _ _
-      (exchange_shows false p ((all_of ps).taken ++ (l.taken ++ x)) (All-head (IsExchange made false) p ps es))
-      (exchange_shows false q ((all_of qs).taken ++ (m.taken ++ y)) (All-head (IsExchange made false) q qs fs)) bytes in
+      (exchange_shows false p ((all_of ps).taken ++ (l.taken ++ x)) (All-head (IsExchange made wakes false) p ps es))
+      (exchange_shows false q ((all_of qs).taken ++ (m.taken ++ y)) (All-head (IsExchange made wakes false) q qs fs)) bytes in
       let rests = append_cancel_left p.taken ((all_of ps).taken ++ (l.taken ++ x)) ((all_of qs).taken ++ (m.taken ++ y))
       (bytes ∙ ap (λ a. a ++ ((all_of qs).taken ++ (m.taken ++ y))) (sym once.1)) in
-      let more = cut_once (n + 1) ps qs end other l m x y (All-tail (IsExchange made false) p ps es) (All-tail (IsExchange made false) q qs fs)
-      (subst (λ (c : ℕ). ShowsLast made end c l x) (omega arith) s) (subst (λ (c : ℕ). ShowsLast made other c m y) (omega arith) t) rests in
+      let more = cut_once (n + 1) ps qs end other l m x y (All-tail (IsExchange made wakes false) p ps es) (All-tail (IsExchange made wakes false) q qs fs)
+      (subst (λ (c : ℕ). ShowsLast made wakes end c l x) (omega arith) s) (subst (λ (c : ℕ). ShowsLast made wakes other c m y) (omega arith) t) rests in
       (more.0, (λ i. once.1 i ∷ more.1 i), more.2)
 
   -- the bytes of a conversation, and what is left
@@ -216,11 +214,11 @@ module _ (made : Made) (by : Requests) (says : Bodies) where
       e ∙ ap (λ q. (q.taken ++ past) ++ left) is ∙ append_assoc (d.taken ++ l.taken) past left ∙ append_assoc d.taken l.taken (past ++ left)
 
   pub cut_one_way : (end other : Served) (bytes past behind left rest : List ℕ) (p q : Part)
-      (t : Talk made end (past ++ left ≡ []) p) (u : Talk made other (behind ++ rest ≡ []) q)
+      (t : Talk made wakes end (past ++ left ≡ []) p) (u : Talk made wakes other (behind ++ rest ≡ []) q)
       → HasNoFault end → HasNoFault other → bytes ≡ (p.taken ++ past) ++ left → bytes ≡ (q.taken ++ behind) ++ rest
       → (end ≡ other) × (takens t.done ≡ takens u.done) × (t.last.taken ≡ u.last.taken)
   cut_one_way end other bytes past behind left rest p q t u free free' e f =
       cut_once 0 t.done u.done end other t.last u.last (past ++ left) (behind ++ rest) t.exchanges u.exchanges
-      (subst (λ (c : ℕ). ShowsLast made end c t.last (past ++ left)) (omega arith) (last_shows end (length t.done) t.last (past ++ left) free t.ends))
-      (subst (λ (c : ℕ). ShowsLast made other c u.last (behind ++ rest)) (omega arith) (last_shows other (length u.done) u.last (behind ++ rest) free' u.ends))
+      (subst (λ (c : ℕ). ShowsLast made wakes end c t.last (past ++ left)) (omega arith) (last_shows end (length t.done) t.last (past ++ left) free t.ends))
+      (subst (λ (c : ℕ). ShowsLast made wakes other c u.last (behind ++ rest)) (omega arith) (last_shows other (length u.done) u.last (behind ++ rest) free' u.ends))
       (sym (whole_bytes bytes past left p (all_of t.done) t.last t.whole e) ∙ whole_bytes bytes behind rest q (all_of u.done) u.last u.whole f)

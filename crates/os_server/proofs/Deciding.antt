@@ -42,10 +42,8 @@ use Rattle.os_server.specs.Answers.{said_by, fault_said, Does}
 use Rattle.os_server.specs.Talk.{Part, all_of, Answers, IsRefusedAs, IsExchange, response_text, Talk}
 use Rattle.os_server.specs.Laws.{HasNoFault, takens, replies}
 use Rattle.os_server.specs.Once.{Requests, Bodies}
+use Rattle.os_server.proofs.Pieces.{Made, Wakes}
 use Rattle.os_server.proofs.Cutting.{Front, Whole, Refuses, Between, Inside, Brings, ShowsLast, shows_once, last_shows, cut_one_way, whole_bytes}
-
-abbrev Made : Type 1
-Made = List ℕ → List ℕ → List Bool → Option (List ℕ) → Type 0
 
 -- what a body asks
 
@@ -311,13 +309,13 @@ all_taken_once (p ∷ ps) (q ∷ qs) e =
     let there : takens ps ≡ takens qs = cc in
     ap (λ t. t ++ (all_of ps).taken) here ∙ ap (λ t. q.taken ++ t) (all_taken_once ps qs there)
 
-module _ (made : Made) (by : Requests) (says : Bodies) where
+module _ (made : Made) (wakes : Wakes) (by : Requests) (says : Bodies) where
   some_once : (a b : Said) → Some a ≡ Some b → a ≡ b
   some_once a b e = cc
 
   -- an answer and the calls for it
-  past_answer : (body : List ℕ) (own again : List Entry) (s t : Said) (w v : Bool) (x y : List Reply) → Answers made body own s w
-      → Answers made body again t v → replies own ++ x ≡ replies again ++ y → (s ≡ t) × (x ≡ y)
+  past_answer : (body : List ℕ) (own again : List Entry) (s t : Said) (w v : Bool) (x y : List Reply) → Answers made wakes body own s w
+      → Answers made wakes body again t v → replies own ++ x ≡ replies again ++ y → (s ≡ t) × (x ≡ y)
   past_answer body own again s t w v x y (inl p) (inl q) e =
       let same = asks_once says body q.order p.order q.asks p.asks in
       let past = past_order made p.order p.last q.last own again x y p.does
@@ -336,12 +334,12 @@ module _ (made : Made) (by : Requests) (says : Bodies) where
     sym (replies_of own [] x p.none) ∙ e ∙ replies_of again [] y q.none,
   )
 
-  past_exchange : (c d : Bool) (p q : Part) (x y : List Reply) → IsExchange made c p → IsExchange made d q → p.taken ≡ q.taken
+  past_exchange : (c d : Bool) (p q : Part) (x y : List Reply) → IsExchange made wakes c p → IsExchange made wakes d q → p.taken ≡ q.taken
       → replies p.entries ++ x ≡ replies q.entries ++ y → (p.out ≡ q.out) × (x ≡ y)
   past_exchange c d p q x y f g same e =
       let body = by.bodies p.taken q.taken [] [] f.answered.0 g.answered.0 c d f.answered.1 g.answered.1 (ap (λ t. t ++ []) same) in
       let past = past_answer f.answered.0 f.own g.own f.said g.said f.as_worker g.as_worker (replies f.after ++ x) (replies g.after ++ y)
-      f.answered.2 (subst (λ (b : List ℕ). Answers made b g.own g.said g.as_worker) (sym body) g.answered.2)
+      f.answered.2 (subst (λ (b : List ℕ). Answers made wakes b g.own g.said g.as_worker) (sym body) g.answered.2)
       (sym (replies_then f.own f.after x) ∙ sym (replies_of p.entries (f.own ++ f.after) x f.entries) ∙ e
       ∙ replies_of q.entries (g.own ++ g.after) y g.entries ∙ replies_then g.own g.after y) in (
         f.out ∙ ap response_text past.0 ∙ sym g.out,
@@ -358,7 +356,7 @@ module _ (made : Made) (by : Requests) (says : Bodies) where
   refusal_once a b r s same (inr (close, body, request, fails, is)) (inr (shut, text, again, fails', is')) = is ∙ sym is'
 
   -- what one front brings is written
-  brings_once : (k : Front) (l m : Part) → Brings made k l → Brings made k m → l.taken ≡ m.taken → replies l.entries ≡ replies m.entries
+  brings_once : (k : Front) (l m : Part) → Brings made wakes k l → Brings made wakes k m → l.taken ≡ m.taken → replies l.entries ≡ replies m.entries
       → l.out ≡ m.out
   brings_once (Whole close) l m p q same e =
       (past_exchange close close l m [] [] p q same (ap (λ r. r ++ []) e)).0
@@ -367,19 +365,19 @@ module _ (made : Made) (by : Requests) (says : Bodies) where
   brings_once Between l m p q same e = p.1 ∙ sym q.1
   brings_once Inside l m p q same e = p.1 ∙ sym q.1
 
-  last_once : (end other : Served) (n : ℕ) (l m : Part) (x y : List ℕ) → ShowsLast made end n l x → ShowsLast made other n m y
+  last_once : (end other : Served) (n : ℕ) (l m : Part) (x y : List ℕ) → ShowsLast made wakes end n l x → ShowsLast made wakes other n m y
       → l.taken ++ x ≡ m.taken ++ y → replies l.entries ≡ replies m.entries → l.out ≡ m.out
   last_once end other n l m x y (inl (few, k, another, is, shows, brings)) (inl (few', k', another', is', shows', brings')) e h =
       let once = shows_once by k k' l.taken m.taken x y shows shows' e in
-      brings_once k l m brings (subst (λ (f : Front). Brings made f m) (sym once.0) brings') once.1 h
+      brings_once k l m brings (subst (λ (f : Front). Brings made wakes f m) (sym once.0) brings') once.1 h
   last_once end other n l m x y (inl (few, k, another, is, shows, brings)) (inr (is', full, none)) e h = absurd (omega (arith, few, full))
   last_once end other n l m x y (inr (is, full, none)) (inl (few, k, another, is', shows, brings)) e h = absurd (omega (arith, few, full))
   last_once end other n l m x y (inr (is, full, none)) (inr (is', full', none')) e h = ap (λ p. p.out) none ∙ sym (ap (λ p. p.out) none')
 
   -- all parts, one after another
   outs_once : (n : ℕ) (ps qs : List Part) (end other : Served) (l m : Part) (x y : List ℕ)
-      → All (IsExchange made false) ps → All (IsExchange made false) qs
-      → ShowsLast made end (n + length ps) l x → ShowsLast made other (n + length qs) m y → takens ps ≡ takens qs
+      → All (IsExchange made wakes false) ps → All (IsExchange made wakes false) qs
+      → ShowsLast made wakes end (n + length ps) l x → ShowsLast made wakes other (n + length qs) m y → takens ps ≡ takens qs
       → l.taken ++ x ≡ m.taken ++ y → replies ((all_of ps).entries ++ l.entries) ≡ replies ((all_of qs).entries ++ m.entries)
       → (all_of ps).out ++ l.out ≡ (all_of qs).out ++ m.out
   outs_once n [] [] end other l m x y es fs s t cut e h = last_once end other (n + 0) l m x y s t e h
@@ -389,28 +387,28 @@ module _ (made : Made) (by : Requests) (says : Bodies) where
       let here : p.taken ≡ q.taken = cc in
       let there : takens ps ≡ takens qs = cc in
       let past = past_exchange false false p q (replies ((all_of ps).entries ++ l.entries)) (replies ((all_of qs).entries ++ m.entries))
-      (All-head (IsExchange made false) p ps es) (All-head (IsExchange made false) q qs fs) here
+      (All-head (IsExchange made wakes false) p ps es) (All-head (IsExchange made wakes false) q qs fs) here
       (sym (regrouped p.entries (all_of ps).entries l.entries) ∙ h ∙ regrouped q.entries (all_of qs).entries m.entries) in
       append_assoc p.out (all_of ps).out l.out
       ∙ ap (λ o. o ++ ((all_of ps).out ++ l.out)) past.0
       ∙ ap (λ o. q.out ++ o)
-      (outs_once (n + 1) ps qs end other l m x y (All-tail (IsExchange made false) p ps es) (All-tail (IsExchange made false) q qs fs)
-      (subst (λ (c : ℕ). ShowsLast made end c l x) (omega arith) s) (subst (λ (c : ℕ). ShowsLast made other c m y) (omega arith) t) there e past.1)
+      (outs_once (n + 1) ps qs end other l m x y (All-tail (IsExchange made wakes false) p ps es) (All-tail (IsExchange made wakes false) q qs fs)
+      (subst (λ (c : ℕ). ShowsLast made wakes end c l x) (omega arith) s) (subst (λ (c : ℕ). ShowsLast made wakes other c m y) (omega arith) t) there e past.1)
       ∙ sym (append_assoc q.out (all_of qs).out m.out)
 
   pub written_once : (end other : Served) (bytes past behind left rest : List ℕ) (p q : Part)
-      (t : Talk made end (past ++ left ≡ []) p) (u : Talk made other (behind ++ rest ≡ []) q)
+      (t : Talk made wakes end (past ++ left ≡ []) p) (u : Talk made wakes other (behind ++ rest ≡ []) q)
       → HasNoFault end → HasNoFault other → bytes ≡ (p.taken ++ past) ++ left → bytes ≡ (q.taken ++ behind) ++ rest
       → replies p.entries ≡ replies q.entries → p.out ≡ q.out
   written_once end other bytes past behind left rest p q t u free free' e f h =
-      let cut = cut_one_way made by says end other bytes past behind left rest p q t u free free' e f in
+      let cut = cut_one_way made wakes by says end other bytes past behind left rest p q t u free free' e f in
       ap (λ k. k.out) t.whole
       ∙ outs_once 0 t.done u.done end other t.last u.last (past ++ left) (behind ++ rest) t.exchanges u.exchanges
-      (subst (λ (c : ℕ). ShowsLast made end c t.last (past ++ left)) (omega arith) (last_shows made by says end (length t.done) t.last (past ++ left) free t.ends))
-      (subst (λ (c : ℕ). ShowsLast made other c u.last (behind ++ rest)) (omega arith) (last_shows made by says other (length u.done) u.last (behind ++ rest) free' u.ends))
+      (subst (λ (c : ℕ). ShowsLast made wakes end c t.last (past ++ left)) (omega arith) (last_shows made wakes by says end (length t.done) t.last (past ++ left) free t.ends))
+      (subst (λ (c : ℕ). ShowsLast made wakes other c u.last (behind ++ rest)) (omega arith) (last_shows made wakes by says other (length u.done) u.last (behind ++ rest) free' u.ends))
       cut.1
       (append_cancel_left (all_of t.done).taken (t.last.taken ++ (past ++ left)) (u.last.taken ++ (behind ++ rest))
-      (sym (whole_bytes made by says bytes past left p (all_of t.done) t.last t.whole e) ∙ whole_bytes made by says bytes behind rest q (all_of u.done) u.last u.whole f
+      (sym (whole_bytes made wakes by says bytes past left p (all_of t.done) t.last t.whole e) ∙ whole_bytes made wakes by says bytes behind rest q (all_of u.done) u.last u.whole f
       ∙ ap (λ a. a ++ (u.last.taken ++ (behind ++ rest))) (sym (all_taken_once t.done u.done cut.1))))
       (ap (λ k. replies k.entries) (sym t.whole) ∙ h ∙ ap (λ k. replies k.entries) u.whole)
       ∙ sym (ap (λ k. k.out) u.whole)

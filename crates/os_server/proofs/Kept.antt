@@ -1,5 +1,5 @@
 -- The finishes of a conversation are kept.
-use Rattle.std.proofs.Common.{◌≡◌, ℕ, Bool, true, false, List, [], ◌∷◌, ◌++◌, Option, Some, refl, sym, ◌∙◌, ap, subst, append_assoc}
+use Rattle.std.proofs.Common.{◌≡◌, ℕ, Bool, true, false, List, [], ◌++◌, Option, Some, refl, sym, subst, append_assoc}
 use Rattle.std.proofs.lemmas.List.Elements.{All-nil, All-cons, All-append}
 use Rattle.job_table.specs.declared.job.Job.{Job}
 use Rattle.job_table.specs.declared.calls.Call.{Call}
@@ -8,12 +8,11 @@ use Rattle.job_table.specs.declared.calls.Reply as tables
 use Rattle.job_table.specs.declared.calls.Reply.TheVariants as reply
 use Rattle.job_table.specs.Jobs.{Register, empty}
 use Rattle.job_table.specs.History.{Entry, entry, Runs, IsGiving}
-use Rattle.job_runs.specs.Runs.{IsRun}
 use Rattle.job_runs.specs.Laws.{kept_if_finish, IsKept, AreKept, RunsAreKept}
 use Rattle.job_runs.proofs.Histories.{runs_split}
 use Rattle.os_server.specs.declared.serve.Served.{Served}
 use Rattle.os_server.specs.Talk.{Part, Talk}
-use Rattle.os_server.proofs.Pieces.{Made, is_plain, Builds, talk_so}
+use Rattle.os_server.proofs.Pieces.{Made, Wakes, is_plain, Builds, talk_so}
 
 abbrev Right : Type 1
 Right = List ℕ → List ℕ → Bool → Option (List ℕ) → Type 0
@@ -49,5 +48,5 @@ module _ (made : Made) (right : Right) (law : RunsAreKept made right) where
   }
 
   -- every finish of a conversation
-  pub talk_kept : (end : Served) (A : Type 0) (p : Part) → Talk made end A p → Keeps p.entries
-  talk_kept end A p t = talk_so made Keeps keeps end A p t
+  pub talk_kept : (wakes : Wakes) (end : Served) (A : Type 0) (p : Part) → Talk made wakes end A p → Keeps p.entries
+  talk_kept wakes end A p t = talk_so made Keeps keeps wakes end A p t

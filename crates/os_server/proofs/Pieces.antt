@@ -23,6 +23,9 @@ use Rattle.os_server.specs.Talk.{Part, all_of, Answers, IsDue, IsExchange, Ends,
 abbrev pub Made : Type 1
 Made = List ℕ → List ℕ → List Bool → Option (List ℕ) → Type 0
 
+abbrev pub Wakes : Type 1
+Wakes = Bool → Type 0
+
 abbrev gives_none : tables.Reply → Bool
 gives_none (reply.Gave (Some j)) = false
 gives_none said = true
@@ -80,40 +83,41 @@ module _ (made : Made) (Holds : List Entry → Type 0) (b : Builds made Holds) w
   begins_so orders.Knock own none = no_calls own none
   begins_so (orders.Kill n) own none = no_calls own none
 
-  answers_so : (body : List ℕ) (own : List Entry) (said : Said) (as_worker : Bool) → Answers made body own said as_worker → Holds own
-  answers_so body own said as_worker (inl d) = does_so d.order d.last own d.does
-  answers_so body own said as_worker (inr f) = no_calls own f.none
+  module _ (wakes : Wakes) where
+    answers_so : (body : List ℕ) (own : List Entry) (said : Said) (as_worker : Bool) → Answers made wakes body own said as_worker → Holds own
+    answers_so body own said as_worker (inl d) = does_so d.order d.last own d.does
+    answers_so body own said as_worker (inr f) = no_calls own f.none
 
-  due_so : (taken : List ℕ) (own : List Entry) (r : Reply) → IsDue made taken own r → Holds own
-  due_so taken own (Answer said close as_worker) (body, request, answers) = answers_so body own said as_worker answers
-  due_so taken own (Refused refusal) (refused, none) = no_calls own none
-  due_so taken own NoMemory (inl (request, none)) = no_calls own none
-  due_so taken own NoMemory (inr (close, body, request, (order, asks, inl begins))) = begins_so order own begins
-  due_so taken own NoMemory (inr (close, body, request, (order, asks, inr does))) = does_so order does.0 own does.1
+    due_so : (taken : List ℕ) (own : List Entry) (r : Reply) → IsDue made wakes taken own r → Holds own
+    due_so taken own (Answer said close as_worker) (body, request, answers) = answers_so body own said as_worker answers
+    due_so taken own (Refused refusal) (refused, none) = no_calls own none
+    due_so taken own NoMemory (inl (request, none)) = no_calls own none
+    due_so taken own NoMemory (inr (close, body, request, (order, asks, inl begins))) = begins_so order own begins
+    due_so taken own NoMemory (inr (close, body, request, (order, asks, inr does))) = does_so order does.0 own does.1
 
-  exchange_so : (close : Bool) (p : Part) → IsExchange made close p → Holds p.entries
-  exchange_so close p x =
-      subst Holds (sym x.entries) (b.both x.own x.after (answers_so x.answered.0 x.own x.said x.as_worker x.answered.2) (works_so x.as_worker x.given x.after x.works))
+    exchange_so : (close : Bool) (p : Part) → IsExchange made wakes close p → Holds p.entries
+    exchange_so close p x =
+        subst Holds (sym x.entries) (b.both x.own x.after (answers_so x.answered.0 x.own x.said x.as_worker x.answered.2) (works_so x.as_worker x.given x.after x.works))
 
-  last_so : (end : Served) (A : Type 0) (p : Part) → Ends made end A p → Holds p.entries
-  last_so Ended A p (inl (ended, silence, at)) = no_calls p.entries silence.0
-  last_so Ended A p (inr (inl x)) = exchange_so true p x
-  last_so Ended A p (inr (inr (refusal, is_due, out))) = due_so p.taken p.entries (Refused refusal) is_due
-  last_so CutShort A p (cut, silence, at) = no_calls p.entries silence.0
-  last_so ReadFault A p (begun, silence) = no_calls p.entries silence.0
-  last_so WriteFault A p (r, is_due, out) = due_so p.taken p.entries r is_due
-  last_so Memory A p (is_due, out) = due_so p.taken p.entries NoMemory is_due
+    last_so : (end : Served) (A : Type 0) (p : Part) → Ends made wakes end A p → Holds p.entries
+    last_so Ended A p (inl (ended, silence, at)) = no_calls p.entries silence.0
+    last_so Ended A p (inr (inl x)) = exchange_so true p x
+    last_so Ended A p (inr (inr (refusal, is_due, out))) = due_so p.taken p.entries (Refused refusal) is_due
+    last_so CutShort A p (cut, silence, at) = no_calls p.entries silence.0
+    last_so ReadFault A p (begun, silence) = no_calls p.entries silence.0
+    last_so WriteFault A p (r, is_due, out) = due_so p.taken p.entries r is_due
+    last_so Memory A p (is_due, out) = due_so p.taken p.entries NoMemory is_due
 
-  end_so : (end : Served) (count : ℕ) (A : Type 0) (p : Part) → IsLast made end count A p → Holds p.entries
-  end_so end count A p (inl (few, ends)) = last_so end A p ends
-  end_so end count A p (inr (is, full, none)) = no_calls p.entries (ap (λ q. q.entries) none)
+    end_so : (end : Served) (count : ℕ) (A : Type 0) (p : Part) → IsLast made wakes end count A p → Holds p.entries
+    end_so end count A p (inl (few, ends)) = last_so end A p ends
+    end_so end count A p (inr (is, full, none)) = no_calls p.entries (ap (λ q. q.entries) none)
 
-  all_so : (ps : List Part) → All (IsExchange made false) ps → Holds (all_of ps).entries
-  all_so [] xs = b.none
-  all_so (p ∷ ps) xs =
-      b.both p.entries (all_of ps).entries (exchange_so false p (All-head (IsExchange made false) p ps xs)) (all_so ps (All-tail (IsExchange made false) p ps xs))
+    all_so : (ps : List Part) → All (IsExchange made wakes false) ps → Holds (all_of ps).entries
+    all_so [] xs = b.none
+    all_so (p ∷ ps) xs =
+        b.both p.entries (all_of ps).entries (exchange_so false p (All-head (IsExchange made wakes false) p ps xs)) (all_so ps (All-tail (IsExchange made wakes false) p ps xs))
 
-  -- of all calls of a conversation
-  pub talk_so : (end : Served) (A : Type 0) (p : Part) → Talk made end A p → Holds p.entries
-  talk_so end A p t =
-      subst Holds (sym (ap (λ q. q.entries) t.whole)) (b.both (all_of t.done).entries t.last.entries (all_so t.done t.exchanges) (end_so end (length t.done) A t.last t.ends))
+    -- of all calls of a conversation
+    pub talk_so : (end : Served) (A : Type 0) (p : Part) → Talk made wakes end A p → Holds p.entries
+    talk_so end A p t =
+        subst Holds (sym (ap (λ q. q.entries) t.whole)) (b.both (all_of t.done).entries t.last.entries (all_so t.done t.exchanges) (end_so end (length t.done) A t.last t.ends))

@@ -17,9 +17,7 @@ use Rattle.os_server.specs.Orders.{Asks, Faults, AsksNothing}
 use Rattle.os_server.specs.Answers.{said_by, fault_said, returns}
 use Rattle.os_server.specs.Talk.{IsDue}
 use Rattle.os_server.specs.Serving.{IsOrdered, IsReplied}
-
-abbrev Made : Type 1
-Made = List ℕ → List ℕ → List Bool → Option (List ℕ) → Type 0
+use Rattle.os_server.proofs.Pieces.{Made, Wakes}
 
 abbrev Bytes : Type 0
 Bytes = Option (List ℕ)
@@ -36,34 +34,34 @@ returned_as kind n last text (Ok s) is e = is ∙ e
 returned_as kind n last text (Err lost) is e = tt
 
 -- what is ordered is what a body is replied that asks it
-pub replied : (made : Made) (body : List ℕ) (order : Order) (close : Bool) (own : List Entry) (r : Reply) → Asks body order
-    → IsOrdered made order close own r → IsReplied made body close own r
-replied made body order close own (Answer said closes as_worker) asks (same, last, does, says, woken) =
+pub replied : (made : Made) (wakes : Wakes) (body : List ℕ) (order : Order) (close : Bool) (own : List Entry) (r : Reply) → Asks body order
+    → IsOrdered made wakes order close own r → IsReplied made wakes body close own r
+replied made wakes body order close own (Answer said closes as_worker) asks (same, last, does, says, woken) =
     (same, inl (record { order = order; last = last; asks = asks; does = does; says = says; woken = woken }))
-replied made body order close own (Refused refusal) asks p = absurd p
-replied made body order close own NoMemory asks p = inr (order, asks, p)
+replied made wakes body order close own (Refused refusal) asks p = absurd p
+replied made wakes body order close own NoMemory asks p = inr (order, asks, p)
 
-faulted : (made : Made) (body : List ℕ) (close : Bool) (code : FaultCode) (text : List ℕ) (said : Said) → Faults body code text
-    → said ≡ fault_said code text → IsReplied made body close [] (Answer said close false)
-faulted made body close code text said faults is =
+faulted : (made : Made) (wakes : Wakes) (body : List ℕ) (close : Bool) (code : FaultCode) (text : List ℕ) (said : Said) → Faults body code text
+    → said ≡ fault_said code text → IsReplied made wakes body close [] (Answer said close false)
+faulted made wakes body close code text said faults is =
     (refl, inr (record { code = code; text = text; faults = faults; none = refl; says = is; alone = refl }))
 
 -- a fault of a call that is refused
-pub refused : (made : Made) (body : List ℕ) (close : Bool) (n : NoOrder) (code : FaultCode) (text lent : List ℕ) (said : Said)
+pub refused : (made : Made) (wakes : Wakes) (body : List ℕ) (close : Bool) (n : NoOrder) (code : FaultCode) (text lent : List ℕ) (said : Said)
     → n ≡ none.Fault code text → lent ≡ text → AsksNothing body n → said ≡ fault_said code lent
-    → IsReplied made body close [] (Answer said close false)
-refused made body close n code text lent said is lent_is nothing says =
-    faulted made body close code text said (subst (λ (m : NoOrder). AsksNothing body m) is nothing) (says ∙ ap (fault_said code) lent_is)
+    → IsReplied made wakes body close [] (Answer said close false)
+refused made wakes body close n code text lent said is lent_is nothing says =
+    faulted made wakes body close code text said (subst (λ (m : NoOrder). AsksNothing body m) is nothing) (says ∙ ap (fault_said code) lent_is)
 
 -- a request is a part of one
 abbrev pub WholesArePart : Type 0
 WholesArePart = (bytes body : List ℕ) (close : Bool) → IsRequest bytes close body → IsRequestPart bytes
 
 -- a reply to a body is due to its request
-pub due : (made : Made) (wholes : WholesArePart) (taken body : List ℕ) (close : Bool) (own : List Entry) (r : Reply) → IsRequest taken close body
-    → IsReplied made body close own r → IsDue made taken own r
-due made wholes taken body close own (Answer said closes as_worker) request (same, answers) =
+pub due : (made : Made) (wakes : Wakes) (wholes : WholesArePart) (taken body : List ℕ) (close : Bool) (own : List Entry) (r : Reply) → IsRequest taken close body
+    → IsReplied made wakes body close own r → IsDue made wakes taken own r
+due made wakes wholes taken body close own (Answer said closes as_worker) request (same, answers) =
     (body, subst (λ (c : Bool). IsRequest taken c body) (sym same) request, answers)
-due made wholes taken body close own (Refused refusal) request (fails, is, alone) = (inr (close, body, request, fails, is), alone)
-due made wholes taken body close own NoMemory request (inl alone) = inl (wholes taken body close request, alone)
-due made wholes taken body close own NoMemory request (inr lacks) = inr (close, body, request, lacks)
+due made wakes wholes taken body close own (Refused refusal) request (fails, is, alone) = (inr (close, body, request, fails, is), alone)
+due made wakes wholes taken body close own NoMemory request (inl alone) = inl (wholes taken body close request, alone)
+due made wakes wholes taken body close own NoMemory request (inr lacks) = inr (close, body, request, lacks)

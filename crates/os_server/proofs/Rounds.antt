@@ -1,5 +1,5 @@
 -- One request after another.
-use Rattle.std.proofs.Common.{◌≡◌, ℕ, ◌+◌, ◌<◌, Bool, true, false, List, [], ◌∷◌, ◌++◌, length, Option, Some, None, Result, Ok, Err, refl, sym, ◌∙◌, ap, subst, inl, inr, length-append, append-nil, append_assoc}
+use Rattle.std.proofs.Common.{◌≡◌, ℕ, ◌+◌, ◌<◌, true, false, List, [], ◌∷◌, ◌++◌, length, Option, Some, None, Result, Ok, Err, refl, sym, ◌∙◌, ap, subst, inl, inr, length-append, append-nil, append_assoc}
 use Rattle.std.specs.Prelude.{All}
 use Rattle.std.proofs.lemmas.List.Elements.{All-nil, All-push}
 use Rattle.os_io.specs.Streams.{Tells, Told, IsPart, Appends, AppendsPart, Grows, HasRisen, SameInput, SameOutput, Sends}
@@ -19,11 +19,9 @@ use Rattle.os_server.specs.declared.serve.Served.{Served}
 use Rattle.os_server.specs.declared.serve.Served.TheVariants.{Ended, CutShort, ReadFault, WriteFault, Memory}
 use Rattle.os_server.specs.Talk.{Part, part, then, all_of, Reads, AtEnd, most_requests, text_of_reply, IsDue, IsExchange, Ends, IsLast, HandsOn, Accounts, Serves, ServesWhole, both_ends}
 use Rattle.os_server.specs.Serving.{IsReplied, AnswersOne, Follows, Came, Comes, AccountsOne, ServesOne}
+use Rattle.os_server.proofs.Pieces.{Made, Wakes}
 use Rattle.os_server.proofs.Steps.{read_then, wrote_then, at_end_then, read_none, wrote_none, read_whole, read_of, hands_then, then_none, all_more}
 use Rattle.os_server.proofs.Replies.{WholesArePart, due}
-
-abbrev Made : Type 1
-Made = List ℕ → List ℕ → List Bool → Option (List ℕ) → Type 0
 
 abbrev Bytes : Type 0
 Bytes = Option (List ℕ)
@@ -34,13 +32,13 @@ Joins did did' both = (a b : List Entry) → did a → did' b → both (a ++ b)
 
 -- ---- what came
 
-whole_came : (made : Made) (wholes : WholesArePart) (did : List Entry → Type 0) (r : Request) (reply : Reply) (old new : Tells)
+whole_came : (made : Made) (wakes : Wakes) (wholes : WholesArePart) (did : List Entry → Type 0) (r : Request) (reply : Reply) (old new : Tells)
     → Reading (Ok (incoming.Whole r)) old.left new.left → new.read_faults ≡ old.read_faults → SameOutput old new
-    → ((own : List Entry) × did own × IsReplied made r.body r.close own reply) → Comes made did (Ok reply) old new
-whole_came made wholes did r reply old new (taken, request, took) counted output (own, calls, is) = record {
+    → ((own : List Entry) × did own × IsReplied made wakes r.body r.close own reply) → Comes made wakes did (Ok reply) old new
+whole_came made wakes wholes did r reply old new (taken, request, took) counted output (own, calls, is) = record {
   taken = taken;
   own = own;
-  shows = due made wholes taken r.body r.close own reply request is;
+  shows = due made wakes wholes taken r.body r.close own reply request is;
   calls = calls;
   read = read_of _ old.left new.left taken took;
   counted = counted;
@@ -48,16 +46,16 @@ whole_came made wholes did r reply old new (taken, request, took) counted output
 }
 
 -- a request that is whole
-pub whole_comes : (made : Made) (wholes : WholesArePart) (did : List Entry → Type 0) (i : Incoming) (r : Request) (lent : List ℕ) (reply : Reply) (old new : Tells)
+pub whole_comes : (made : Made) (wakes : Wakes) (wholes : WholesArePart) (did : List Entry → Type 0) (i : Incoming) (r : Request) (lent : List ℕ) (reply : Reply) (old new : Tells)
     → i ≡ incoming.Whole r → lent ≡ r.body → Reading (Ok i) old.left new.left → new.read_faults ≡ old.read_faults → SameOutput old new
-    → ((own : List Entry) × did own × IsReplied made lent r.close own reply) → Comes made did (Ok reply) old new
-whole_comes made wholes did i r lent reply old new is lent_is came counted output replied =
-    whole_came made wholes did r reply old new (subst (λ (j : Incoming). Reading (Ok j) old.left new.left) is came) counted output
-    (subst (λ (b : List ℕ). (own : List Entry) × did own × IsReplied made b r.close own reply) lent_is replied)
+    → ((own : List Entry) × did own × IsReplied made wakes lent r.close own reply) → Comes made wakes did (Ok reply) old new
+whole_comes made wakes wholes did i r lent reply old new is lent_is came counted output replied =
+    whole_came made wakes wholes did r reply old new (subst (λ (j : Incoming). Reading (Ok j) old.left new.left) is came) counted output
+    (subst (λ (b : List ℕ). (own : List Entry) × did own × IsReplied made wakes b r.close own reply) lent_is replied)
 
-lost_came : (made : Made) (did : List Entry → Type 0) (old new : Tells) → did [] → Reading (Err lost.Memory) old.left new.left
-    → new.read_faults ≡ old.read_faults → SameOutput old new → Comes made did (Ok NoMemory) old new
-lost_came made did old new stays (taken, request, took) counted output = record {
+lost_came : (made : Made) (wakes : Wakes) (did : List Entry → Type 0) (old new : Tells) → did [] → Reading (Err lost.Memory) old.left new.left
+    → new.read_faults ≡ old.read_faults → SameOutput old new → Comes made wakes did (Ok NoMemory) old new
+lost_came made wakes did old new stays (taken, request, took) counted output = record {
   taken = taken;
   own = [];
   shows = inl (request, refl);
@@ -68,27 +66,27 @@ lost_came made did old new stays (taken, request, took) counted output = record 
 }
 
 -- a request for which there was no memory
-pub lost_comes : (made : Made) (did : List Entry → Type 0) (fault : LinkFault) (old new : Tells) → fault ≡ lost.Memory → did []
+pub lost_comes : (made : Made) (wakes : Wakes) (did : List Entry → Type 0) (fault : LinkFault) (old new : Tells) → fault ≡ lost.Memory → did []
     → Reading (Err fault) old.left new.left → CountsFault {X = Incoming} (Err fault) old.read_faults new.read_faults → SameOutput old new
-    → Comes made did (Ok NoMemory) old new
-lost_comes made did fault old new is stays came counted output =
-    lost_came made did old new stays (subst (λ (f : LinkFault). Reading (Err f) old.left new.left) is came)
+    → Comes made wakes did (Ok NoMemory) old new
+lost_comes made wakes did fault old new is stays came counted output =
+    lost_came made wakes did old new stays (subst (λ (f : LinkFault). Reading (Err f) old.left new.left) is came)
     (subst (λ (f : LinkFault). CountsFault {X = Incoming} (Err f) old.read_faults new.read_faults) is counted) output
 
 -- ---- one request
 
 -- no calls after these
-without_more : (made : Made) (taken : List ℕ) (own after : List Entry) (reply : Reply) → after ≡ [] → IsDue made taken own reply
-    → IsDue made taken (own ++ after) reply
-without_more made taken own after reply none is_due =
-    subst (λ (es : List Entry). IsDue made taken es reply) (sym (ap (λ s. own ++ s) none ∙ append-nil own)) is_due
+without_more : (made : Made) (wakes : Wakes) (taken : List ℕ) (own after : List Entry) (reply : Reply) → after ≡ [] → IsDue made wakes taken own reply
+    → IsDue made wakes taken (own ++ after) reply
+without_more made wakes taken own after reply none is_due =
+    subst (λ (es : List Entry). IsDue made wakes taken es reply) (sym (ap (λ s. own ++ s) none ∙ append-nil own)) is_due
 
 -- a reply that was written, and what followed
-answered : (made : Made) (AtEnd : Type 0) (reply : Reply) (end : Option Served) (taken : List ℕ) (own after : List Entry)
-    → IsDue made taken own reply → Follows made reply after end
-    → AnswersOne made end AtEnd (part taken (own ++ after) (text_of_reply reply))
-answered made AtEnd (Answer said true as_worker) end taken own after is_due (works, end_is) =
-    subst (λ (e : Option Served). AnswersOne made e AtEnd (part taken (own ++ after) (text_of_reply (Answer said true as_worker)))) (sym end_is)
+answered : (made : Made) (wakes : Wakes) (AtEnd : Type 0) (reply : Reply) (end : Option Served) (taken : List ℕ) (own after : List Entry)
+    → IsDue made wakes taken own reply → Follows made wakes reply after end
+    → AnswersOne made wakes end AtEnd (part taken (own ++ after) (text_of_reply reply))
+answered made wakes AtEnd (Answer said true as_worker) end taken own after is_due (works, end_is) =
+    subst (λ (e : Option Served). AnswersOne made wakes e AtEnd (part taken (own ++ after) (text_of_reply (Answer said true as_worker)))) (sym end_is)
     (inr (inl (record {
       said = said;
       as_worker = as_worker;
@@ -100,8 +98,8 @@ answered made AtEnd (Answer said true as_worker) end taken own after is_due (wor
       entries = refl;
       out = refl;
     })))
-answered made AtEnd (Answer said false as_worker) end taken own after is_due (works, end_is) =
-    subst (λ (e : Option Served). AnswersOne made e AtEnd (part taken (own ++ after) (text_of_reply (Answer said false as_worker)))) (sym end_is)
+answered made wakes AtEnd (Answer said false as_worker) end taken own after is_due (works, end_is) =
+    subst (λ (e : Option Served). AnswersOne made wakes e AtEnd (part taken (own ++ after) (text_of_reply (Answer said false as_worker)))) (sym end_is)
     (record {
       said = said;
       as_worker = as_worker;
@@ -113,35 +111,35 @@ answered made AtEnd (Answer said false as_worker) end taken own after is_due (wo
       entries = refl;
       out = refl;
     })
-answered made AtEnd (Refused refusal) end taken own after is_due (none, end_is) =
-    subst (λ (e : Option Served). AnswersOne made e AtEnd (part taken (own ++ after) (text_of_reply (Refused refusal)))) (sym end_is)
-    (inr (inr (refusal, without_more made taken own after (Refused refusal) none is_due, refl)))
-answered made AtEnd NoMemory end taken own after is_due (none, end_is) =
-    subst (λ (e : Option Served). AnswersOne made e AtEnd (part taken (own ++ after) (text_of_reply NoMemory))) (sym end_is)
-    (without_more made taken own after NoMemory none is_due, refl)
+answered made wakes AtEnd (Refused refusal) end taken own after is_due (none, end_is) =
+    subst (λ (e : Option Served). AnswersOne made wakes e AtEnd (part taken (own ++ after) (text_of_reply (Refused refusal)))) (sym end_is)
+    (inr (inr (refusal, without_more made wakes taken own after (Refused refusal) none is_due, refl)))
+answered made wakes AtEnd NoMemory end taken own after is_due (none, end_is) =
+    subst (λ (e : Option Served). AnswersOne made wakes e AtEnd (part taken (own ++ after) (text_of_reply NoMemory))) (sym end_is)
+    (without_more made wakes taken own after NoMemory none is_due, refl)
 
 -- no count rose, and what was written is handed on
 abbrev WentWell : Tells → Tells → Type 0
 WentWell old new = (new.read_faults ≡ old.read_faults) × (new.write_faults ≡ old.write_faults) × HandsOn old new
 
-settled : (made : Made) (reply : Reply) (end : Option Served) (after : List Entry) (old new : Tells) → Follows made reply after end
+settled : (made : Made) (wakes : Wakes) (reply : Reply) (end : Option Served) (after : List Entry) (old new : Tells) → Follows made wakes reply after end
     → WentWell old new → AccountsOne end old new
-settled made (Answer said true as_worker) end after old new f w = subst (λ (e : Option Served). AccountsOne e old new) (sym f.1) w
-settled made (Answer said false as_worker) end after old new f w = subst (λ (e : Option Served). AccountsOne e old new) (sym f.1) w
-settled made (Refused refusal) end after old new f w = subst (λ (e : Option Served). AccountsOne e old new) (sym f.1) w
-settled made NoMemory end after old new f w = subst (λ (e : Option Served). AccountsOne e old new) (sym f.1) w
+settled made wakes (Answer said true as_worker) end after old new f w = subst (λ (e : Option Served). AccountsOne e old new) (sym f.1) w
+settled made wakes (Answer said false as_worker) end after old new f w = subst (λ (e : Option Served). AccountsOne e old new) (sym f.1) w
+settled made wakes (Refused refusal) end after old new f w = subst (λ (e : Option Served). AccountsOne e old new) (sym f.1) w
+settled made wakes NoMemory end after old new f w = subst (λ (e : Option Served). AccountsOne e old new) (sym f.1) w
 
 -- a reply that was sent, and what followed
-pub followed : (made : Made) (did did' both : List Entry → Type 0) (reply : Reply) (end : Option Served) (x : Unit {0}) (old mid new : Tells)
-    → Joins did did' both → Comes made did (Ok reply) old mid → Sends {X = Unit {0}} {E = Failed} (Ok x) (text_of_reply reply) mid new
-    → ((after : List Entry) × did' after × Follows made reply after end) → ServesOne made both end old new
-followed made did did' both reply end x old mid new joins came sent (after, calls, follows) = record {
+pub followed : (made : Made) (wakes : Wakes) (did did' both : List Entry → Type 0) (reply : Reply) (end : Option Served) (x : Unit {0}) (old mid new : Tells)
+    → Joins did did' both → Comes made wakes did (Ok reply) old mid → Sends {X = Unit {0}} {E = Failed} (Ok x) (text_of_reply reply) mid new
+    → ((after : List Entry) × did' after × Follows made wakes reply after end) → ServesOne made wakes both end old new
+followed made wakes did did' both reply end x old mid new joins came sent (after, calls, follows) = record {
   part = part came.taken (came.own ++ after) (text_of_reply reply);
-  answers = answered made (AtEnd [] old.left new.left) reply end came.taken came.own after came.shows follows;
+  answers = answered made wakes (AtEnd [] old.left new.left) reply end came.taken came.own after came.shows follows;
   calls = joins came.own after came.calls calls;
   read = subst (λ (b : Bytes). Reads came.taken old.left b) (sym sent.writes.input.left) came.read;
   wrote = subst (λ (b : Bytes). Told b new.written (Appends (text_of_reply reply))) came.output.written sent.writes.written;
-  accounts = settled made reply end after old new follows
+  accounts = settled made wakes reply end after old new follows
       (sent.writes.input.read_faults ∙ came.counted, sent.writes.counted ∙ came.output.write_faults, inl sent.handed_on);
   grew = subst (λ (b : Bytes). Grows b new.handed_on) came.output.handed_on sent.writes.handed_on;
 }
@@ -153,10 +151,10 @@ part_written (Some x) None text p = absurd p
 part_written (Some x) (Some y) text (out, is, wrote) = (out, is, wrote)
 
 -- a reply of which a first part was written
-pub unwritten : (made : Made) (did : List Entry → Type 0) (reply : Reply) (e : Failed) (old mid new : Tells)
-    → Comes made did (Ok reply) old mid → Sends {X = Unit {0}} {E = Failed} (Err e) (text_of_reply reply) mid new
-    → ServesOne made did (Some WriteFault) old new
-unwritten made did reply e old mid new came sent =
+pub unwritten : (made : Made) (wakes : Wakes) (did : List Entry → Type 0) (reply : Reply) (e : Failed) (old mid new : Tells)
+    → Comes made wakes did (Ok reply) old mid → Sends {X = Unit {0}} {E = Failed} (Err e) (text_of_reply reply) mid new
+    → ServesOne made wakes did (Some WriteFault) old new
+unwritten made wakes did reply e old mid new came sent =
     let (out, is_part, wrote) = part_written mid.written new.written (text_of_reply reply) sent.writes.written in
     let grew = subst (λ (b : Bytes). Grows b new.handed_on) came.output.handed_on sent.writes.handed_on in
     record {
@@ -173,32 +171,32 @@ unwritten made did reply e old mid new came sent =
       grew = grew;
     }
 
-ended_with : (made : Made) (end : Served) (A : Type 0) (taken : List ℕ) (own : List Entry) → Came made (Err end) A taken own
-    → AnswersOne made (Some end) A (part taken own [])
-ended_with made Ended A taken own (ended, none, at) = inl (ended, (none, refl), at)
-ended_with made CutShort A taken own (cut, none, at) = (cut, (none, refl), at)
-ended_with made ReadFault A taken own (begun, none) = (begun, (none, refl))
-ended_with made WriteFault A taken own p = absurd p
-ended_with made Memory A taken own p = absurd p
+ended_with : (made : Made) (wakes : Wakes) (end : Served) (A : Type 0) (taken : List ℕ) (own : List Entry) → Came made wakes (Err end) A taken own
+    → AnswersOne made wakes (Some end) A (part taken own [])
+ended_with made wakes Ended A taken own (ended, none, at) = inl (ended, (none, refl), at)
+ended_with made wakes CutShort A taken own (cut, none, at) = (cut, (none, refl), at)
+ended_with made wakes ReadFault A taken own (begun, none) = (begun, (none, refl))
+ended_with made wakes WriteFault A taken own p = absurd p
+ended_with made wakes Memory A taken own p = absurd p
 
-silent_accounts : (made : Made) (did : List Entry → Type 0) (end : Served) (old new : Tells) → Comes made did (Err end) old new
+silent_accounts : (made : Made) (wakes : Wakes) (did : List Entry → Type 0) (end : Served) (old new : Tells) → Comes made wakes did (Err end) old new
     → Accounts end old new
-silent_accounts made did Ended old new came = (came.counted, came.output.write_faults, inr (came.output.written, came.output.handed_on))
-silent_accounts made did CutShort old new came = (came.counted, came.output.write_faults, inr (came.output.written, came.output.handed_on))
-silent_accounts made did ReadFault old new came = (came.counted, came.output.write_faults, inr (came.output.written, came.output.handed_on))
-silent_accounts made did WriteFault old new came = absurd came.counted
-silent_accounts made did Memory old new came = absurd came.counted
+silent_accounts made wakes did Ended old new came = (came.counted, came.output.write_faults, inr (came.output.written, came.output.handed_on))
+silent_accounts made wakes did CutShort old new came = (came.counted, came.output.write_faults, inr (came.output.written, came.output.handed_on))
+silent_accounts made wakes did ReadFault old new came = (came.counted, came.output.write_faults, inr (came.output.written, came.output.handed_on))
+silent_accounts made wakes did WriteFault old new came = absurd came.counted
+silent_accounts made wakes did Memory old new came = absurd came.counted
 
 -- no request came, and nothing was written
-pub silent : (made : Made) (did : List Entry → Type 0) (end : Served) (old new : Tells) → Comes made did (Err end) old new
-    → ServesOne made did (Some end) old new
-silent made did end old new came = record {
+pub silent : (made : Made) (wakes : Wakes) (did : List Entry → Type 0) (end : Served) (old new : Tells) → Comes made wakes did (Err end) old new
+    → ServesOne made wakes did (Some end) old new
+silent made wakes did end old new came = record {
   part = part came.taken came.own [];
-  answers = ended_with made end (AtEnd [] old.left new.left) came.taken came.own came.shows;
+  answers = ended_with made wakes end (AtEnd [] old.left new.left) came.taken came.own came.shows;
   calls = came.calls;
   read = came.read;
   wrote = subst (λ (b : Bytes). Told old.written b (Appends [])) (sym came.output.written) (wrote_none old.written);
-  accounts = silent_accounts made did end old new came;
+  accounts = silent_accounts made wakes did end old new came;
   grew = subst (λ (b : Bytes). Grows old.handed_on b) (sym came.output.handed_on) (grows_same old.handed_on);
 }
 
@@ -216,9 +214,9 @@ pub input_then : (a b c : Tells) → SameInput a b → SameInput b c → SameInp
 input_then a b c p q = record { left = q.left ∙ p.left; read_faults = q.read_faults ∙ p.read_faults }
 
 -- what came on an input that is one of two ends
-pub comes_between : (made : Made) (did : List Entry → Type 0) (came : Result Reply Served) (i j o : Tells) → Comes made did came i j
-    → Comes made did came (both_ends i o) (both_ends j o)
-comes_between made did came i j o c = record {
+pub comes_between : (made : Made) (wakes : Wakes) (did : List Entry → Type 0) (came : Result Reply Served) (i j o : Tells) → Comes made wakes did came i j
+    → Comes made wakes did came (both_ends i o) (both_ends j o)
+comes_between made wakes did came i j o c = record {
   taken = c.taken;
   own = c.own;
   shows = c.shows;
@@ -244,9 +242,9 @@ sends_between r text i o p s = record {
 -- ---- many requests
 
 -- the requests so far, all of which were answered
-pub record SoFar (made : Made) (did : List Entry → Type 0) (count : ℕ) (old new : Tells) : Type 0 where
+pub record SoFar (made : Made) (wakes : Wakes) (did : List Entry → Type 0) (count : ℕ) (old new : Tells) : Type 0 where
   pub done : List Part
-  pub exchanges : All (IsExchange made false) done
+  pub exchanges : All (IsExchange made wakes false) done
   pub length_is : length done ≡ count
   pub calls : did (all_of done).entries
   pub read : Reads (all_of done).taken old.left new.left
@@ -254,10 +252,10 @@ pub record SoFar (made : Made) (did : List Entry → Type 0) (count : ℕ) (old 
   pub accounts : WentWell old new
   pub grew : Grows old.handed_on new.handed_on
 
-pub none_yet : (made : Made) (did : List Entry → Type 0) (t : Tells) → did [] → SoFar made did 0 t t
-none_yet made did t stays = record {
+pub none_yet : (made : Made) (wakes : Wakes) (did : List Entry → Type 0) (t : Tells) → did [] → SoFar made wakes did 0 t t
+none_yet made wakes did t stays = record {
   done = [];
-  exchanges = All-nil (IsExchange made false);
+  exchanges = All-nil (IsExchange made wakes false);
   length_is = refl;
   calls = stays;
   read = read_none t.left;
@@ -269,11 +267,11 @@ none_yet made did t stays = record {
 well_then : (a b c : Tells) → WentWell a b → WentWell b c → WentWell a c
 well_then a b c p q = (q.0 ∙ p.0, q.1 ∙ p.1, hands_then a b c p.2 q.2)
 
-pub one_more : (made : Made) (did did' both : List Entry → Type 0) (count : ℕ) (a b c : Tells) → Joins did did' both
-    → SoFar made did count a b → ServesOne made did' None b c → SoFar made both (count + 1) a c
-one_more made did did' both count a b c joins s r = record {
+pub one_more : (made : Made) (wakes : Wakes) (did did' both : List Entry → Type 0) (count : ℕ) (a b c : Tells) → Joins did did' both
+    → SoFar made wakes did count a b → ServesOne made wakes did' None b c → SoFar made wakes both (count + 1) a c
+one_more made wakes did did' both count a b c joins s r = record {
   done = s.done ++ r.part ∷ [];
-  exchanges = All-push (IsExchange made false) s.done r.part s.exchanges r.answers;
+  exchanges = All-push (IsExchange made wakes false) s.done r.part s.exchanges r.answers;
   length_is = length-append s.done (r.part ∷ []) ∙ ap (λ n. n + 1) s.length_is;
   calls = subst (λ (p : Part). both p.entries) (sym (all_more s.done r.part)) (joins _ _ s.calls r.calls);
   read = subst (λ (p : Part). Reads p.taken a.left c.left) (sym (all_more s.done r.part)) (read_then a.left b.left c.left _ _ s.read r.read);
@@ -283,13 +281,13 @@ one_more made did did' both count a b c joins s r = record {
 }
 
 -- the input's end is that of the whole
-ends_at : (made : Made) (end : Served) (A B : Type 0) (p : Part) → (A → B) → Ends made end A p → Ends made end B p
-ends_at made Ended A B p f (inl (ended, silence, at)) = inl (ended, silence, f at)
-ends_at made Ended A B p f (inr e) = inr e
-ends_at made CutShort A B p f (cut, silence, at) = (cut, silence, f at)
-ends_at made ReadFault A B p f e = e
-ends_at made WriteFault A B p f e = e
-ends_at made Memory A B p f e = e
+ends_at : (made : Made) (wakes : Wakes) (end : Served) (A B : Type 0) (p : Part) → (A → B) → Ends made wakes end A p → Ends made wakes end B p
+ends_at made wakes Ended A B p f (inl (ended, silence, at)) = inl (ended, silence, f at)
+ends_at made wakes Ended A B p f (inr e) = inr e
+ends_at made wakes CutShort A B p f (cut, silence, at) = (cut, silence, f at)
+ends_at made wakes ReadFault A B p f e = e
+ends_at made wakes WriteFault A B p f e = e
+ends_at made wakes Memory A B p f e = e
 
 accounts_then : (end : Served) (a b c : Tells) → WentWell a b → Grows a.handed_on b.handed_on → Accounts end b c → Accounts end a c
 accounts_then Ended a b c w grew q = well_then a b c w q
@@ -303,10 +301,10 @@ accounts_then WriteFault a b c w grew q = (
 )
 accounts_then Memory a b c w grew q = well_then a b c w q
 
-pub last_whole : (made : Made) (did did' both : List Entry → Type 0) (end : Served) (count : ℕ) (a b c : Tells)
+pub last_whole : (made : Made) (wakes : Wakes) (did did' both : List Entry → Type 0) (end : Served) (count : ℕ) (a b c : Tells)
     → Joins did did' both → count < most_requests
-    → SoFar made did count a b → ServesOne made did' (Some end) b c → ServesWhole made both end a c
-last_whole made did did' both end count a b c joins most s r = (
+    → SoFar made wakes did count a b → ServesOne made wakes did' (Some end) b c → ServesWhole made wakes both end a c
+last_whole made wakes did did' both end count a b c joins most s r = (
   record {
     part = then (all_of s.done) r.part;
     past = [];
@@ -316,7 +314,7 @@ last_whole made did did' both end count a b c joins most s r = (
       exchanges = s.exchanges;
       ends = inl (
         subst (λ (n : ℕ). n < most_requests) (sym s.length_is) most,
-        ends_at made end _ _ r.part (at_end_then a.left b.left c.left _ s.read) r.answers,
+        ends_at made wakes end _ _ r.part (at_end_then a.left b.left c.left _ s.read) r.answers,
       );
       whole = refl;
     };
@@ -328,9 +326,9 @@ last_whole made did did' both end count a b c joins most s r = (
   refl,
 )
 
-pub done_whole : (made : Made) (did : List Entry → Type 0) (count : ℕ) (a b : Tells) → count ≡ most_requests
-    → SoFar made did count a b → ServesWhole made did Ended a b
-done_whole made did count a b full s = (
+pub done_whole : (made : Made) (wakes : Wakes) (did : List Entry → Type 0) (count : ℕ) (a b : Tells) → count ≡ most_requests
+    → SoFar made wakes did count a b → ServesWhole made wakes did Ended a b
+done_whole made wakes did count a b full s = (
   record {
     part = all_of s.done;
     past = [];
@@ -349,19 +347,19 @@ done_whole made did count a b full s = (
   refl,
 )
 
-pub last_one : (made : Made) (did did' both : List Entry → Type 0) (end : Served) (count : ℕ) (a b c : Tells)
+pub last_one : (made : Made) (wakes : Wakes) (did did' both : List Entry → Type 0) (end : Served) (count : ℕ) (a b c : Tells)
     → Joins did did' both → count < most_requests
-    → SoFar made did count a b → ServesOne made did' (Some end) b c → Serves made both end a c
-last_one made did did' both end count a b c joins most s r = (last_whole made did did' both end count a b c joins most s r).0
+    → SoFar made wakes did count a b → ServesOne made wakes did' (Some end) b c → Serves made wakes both end a c
+last_one made wakes did did' both end count a b c joins most s r = (last_whole made wakes did did' both end count a b c joins most s r).0
 
-pub all_done : (made : Made) (did : List Entry → Type 0) (count : ℕ) (a b : Tells) → count ≡ most_requests
-    → SoFar made did count a b → Serves made did Ended a b
-all_done made did count a b full s = (done_whole made did count a b full s).0
+pub all_done : (made : Made) (wakes : Wakes) (did : List Entry → Type 0) (count : ℕ) (a b : Tells) → count ≡ most_requests
+    → SoFar made wakes did count a b → Serves made wakes did Ended a b
+all_done made wakes did count a b full s = (done_whole made wakes did count a b full s).0
 
 -- of the calls of a conversation something else may be said
-abbrev pub serves_so : (made : Made) (did said : List Entry → Type 0) (end : Served) (old new : Tells) → (s : Serves made did end old new)
-    → said s.part.entries → Serves made said end old new
-serves_so made did said end old new s is = record {
+abbrev pub serves_so : (made : Made) (wakes : Wakes) (did said : List Entry → Type 0) (end : Served) (old new : Tells) → (s : Serves made wakes did end old new)
+    → said s.part.entries → Serves made wakes said end old new
+serves_so made wakes did said end old new s is = record {
   part = s.part;
   past = s.past;
   talk = s.talk;
@@ -378,9 +376,9 @@ at_end_of None y past carry p = tt
 at_end_of (Some x) None past carry p = absurd p
 at_end_of (Some x) (Some y) past carry p = append_assoc past carry y ∙ p
 
-last_at : (made : Made) (end : Served) (count : ℕ) (A B : Type 0) (p : Part) → (A → B) → IsLast made end count A p → IsLast made end count B p
-last_at made end count A B p f (inl (few, ends)) = inl (few, ends_at made end A B p f ends)
-last_at made end count A B p f (inr full) = inr full
+last_at : (made : Made) (wakes : Wakes) (end : Served) (count : ℕ) (A B : Type 0) (p : Part) → (A → B) → IsLast made wakes end count A p → IsLast made wakes end count B p
+last_at made wakes end count A B p f (inl (few, ends)) = inl (few, ends_at made wakes end A B p f ends)
+last_at made wakes end count A B p f (inr full) = inr full
 
 read_past : (x y : Bytes) (taken past carry : List ℕ) → Reads (taken ++ past) (with_carry [] x) (with_carry carry y)
     → Reads (taken ++ (past ++ carry)) x y
@@ -396,16 +394,16 @@ accounts_of ReadFault first carry a b p = p
 accounts_of WriteFault first carry a b p = p
 accounts_of Memory first carry a b p = p
 
-serves_from : (made : Made) (did : List Entry → Type 0) (end : Served) (a b : Tells) (carry : List ℕ)
-    → Serves made did end (tells_ahead [] a) (tells_ahead carry b) → Serves made did end a b
-serves_from made did end a b carry s = record {
+serves_from : (made : Made) (wakes : Wakes) (did : List Entry → Type 0) (end : Served) (a b : Tells) (carry : List ℕ)
+    → Serves made wakes did end (tells_ahead [] a) (tells_ahead carry b) → Serves made wakes did end a b
+serves_from made wakes did end a b carry s = record {
   part = s.part;
   past = s.past ++ carry;
   talk = record {
     done = s.talk.done;
     last = s.talk.last;
     exchanges = s.talk.exchanges;
-    ends = last_at made end (length s.talk.done) _ _ s.talk.last (at_end_of a.left b.left s.past carry) s.talk.ends;
+    ends = last_at made wakes end (length s.talk.done) _ _ s.talk.last (at_end_of a.left b.left s.past carry) s.talk.ends;
     whole = s.talk.whole;
   };
   calls = s.calls;
@@ -415,17 +413,17 @@ serves_from made did end a b carry s = record {
 }
 
 -- what is carried at the end was read past it
-serves_link : (made : Made) (did : List Entry → Type 0) (end : Served) (a b : Tells) (first carry : List ℕ) → first ≡ []
-    → Serves made did end (tells_ahead first a) (tells_ahead carry b) → Serves made did end a b
-serves_link made did end a b first carry none s =
-    serves_from made did end a b carry (subst (λ (c : List ℕ). Serves made did end (tells_ahead c a) (tells_ahead carry b)) none s)
+serves_link : (made : Made) (wakes : Wakes) (did : List Entry → Type 0) (end : Served) (a b : Tells) (first carry : List ℕ) → first ≡ []
+    → Serves made wakes did end (tells_ahead first a) (tells_ahead carry b) → Serves made wakes did end a b
+serves_link made wakes did end a b first carry none s =
+    serves_from made wakes did end a b carry (subst (λ (c : List ℕ). Serves made wakes did end (tells_ahead c a) (tells_ahead carry b)) none s)
 
 -- the same of a link that was owned meanwhile and given back
-pub serves_owned : {L : Type 0} (tells : L → Tells) (made : Made) (did : List Entry → Type 0) (end : Served) (link owned kept given : L)
+pub serves_owned : {L : Type 0} (tells : L → Tells) (made : Made) (wakes : Wakes) (did : List Entry → Type 0) (end : Served) (link owned kept given : L)
     (first carry : List ℕ) → owned ≡ link → given ≡ kept → first ≡ []
-    → Serves made did end (tells_ahead first (tells owned)) (tells_ahead carry (tells kept))
-    → Serves made did end (tells link) (tells given)
-serves_owned {L} tells made did end link owned kept given first carry owned_is given_is none s =
-    subst (λ (l : L). Serves made did end (tells link) (tells l)) (sym given_is)
-    (subst (λ (l : L). Serves made did end (tells l) (tells kept)) owned_is
-    (serves_link made did end (tells owned) (tells kept) first carry none s))
+    → Serves made wakes did end (tells_ahead first (tells owned)) (tells_ahead carry (tells kept))
+    → Serves made wakes did end (tells link) (tells given)
+serves_owned {L} tells made wakes did end link owned kept given first carry owned_is given_is none s =
+    subst (λ (l : L). Serves made wakes did end (tells link) (tells l)) (sym given_is)
+    (subst (λ (l : L). Serves made wakes did end (tells l) (tells kept)) owned_is
+    (serves_link made wakes did end (tells owned) (tells kept) first carry none s))

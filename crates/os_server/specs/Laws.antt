@@ -25,18 +25,18 @@ abbrev pub replies : List Entry → List Reply
 replies entries = map (λ e. e.reply) entries
 
 -- where a table's history is that of one who makes calls, every finish of a conversation is kept
-abbrev pub ConversationsAreKept : (List ℕ → List ℕ → List Bool → Option (List ℕ) → Type 0) → (List ℕ → List ℕ → Bool → Option (List ℕ) → Type 0) → Type 0
-ConversationsAreKept made right =
+abbrev pub ConversationsAreKept : (List ℕ → List ℕ → List Bool → Option (List ℕ) → Type 0) → (Bool → Type 0) → (List ℕ → List ℕ → Bool → Option (List ℕ) → Type 0) → Type 0
+ConversationsAreKept made wakes right =
     (end : Served) (past : List ℕ) (left left' : Option (List ℕ)) (p : Part) (before : List Entry) (now : Register)
-    → Talk made end (AtEnd past left left') p → Runs right empty (before ++ p.entries) now → AreKept p.entries
+    → Talk made wakes end (AtEnd past left left') p → Runs right empty (before ++ p.entries) now → AreKept p.entries
 
-module _ (made : List ℕ → List ℕ → List Bool → Option (List ℕ) → Type 0) where
+module _ (made : List ℕ → List ℕ → List Bool → Option (List ℕ) → Type 0) (wakes : Bool → Type 0) where
   -- without a fault, and with memory, the bytes to come are cut into requests and a last part in one way, which says how the
   -- conversation ends
   abbrev pub BytesAreCutOneWay : Type 0
   BytesAreCutOneWay =
       (end other : Served) (bytes past behind left rest : List ℕ) (p q : Part)
-      (t : Talk made end (AtEnd past (Some bytes) (Some left)) p) (u : Talk made other (AtEnd behind (Some bytes) (Some rest)) q)
+      (t : Talk made wakes end (AtEnd past (Some bytes) (Some left)) p) (u : Talk made wakes other (AtEnd behind (Some bytes) (Some rest)) q)
       → HasNoFault end → HasNoFault other
       → Reads (p.taken ++ past) (Some bytes) (Some left) → Reads (q.taken ++ behind) (Some bytes) (Some rest)
       → (end ≡ other) × (takens t.done ≡ takens u.done) × (t.last.taken ≡ u.last.taken)
@@ -45,7 +45,7 @@ module _ (made : List ℕ → List ℕ → List Bool → Option (List ℕ) → T
   abbrev pub RepliesDecide : Type 0
   RepliesDecide =
       (end other : Served) (bytes past behind left rest : List ℕ) (p q : Part)
-      (t : Talk made end (AtEnd past (Some bytes) (Some left)) p) (u : Talk made other (AtEnd behind (Some bytes) (Some rest)) q)
+      (t : Talk made wakes end (AtEnd past (Some bytes) (Some left)) p) (u : Talk made wakes other (AtEnd behind (Some bytes) (Some rest)) q)
       → HasNoFault end → HasNoFault other
       → Reads (p.taken ++ past) (Some bytes) (Some left) → Reads (q.taken ++ behind) (Some bytes) (Some rest)
       → replies p.entries ≡ replies q.entries → p.out ≡ q.out

@@ -7,7 +7,6 @@ use Rattle.soap_calls.specs.declared.fault.SoapFault.TheVariants as soap
 use Rattle.soap_calls.specs.Refusals.{CallFails}
 use Rattle.job_table.specs.declared.job.Job.{Job}
 use Rattle.job_table.specs.declared.calls.Reply as tables
-use Rattle.job_table.specs.declared.calls.Reply.TheVariants as table
 use Rattle.job_table.specs.History.{Entry}
 use Rattle.job_runs.specs.Runs.{Works}
 use Rattle.os_server.specs.declared.order.Order.{Order}
@@ -17,26 +16,26 @@ use Rattle.os_server.specs.declared.serve.Served.{Served}
 use Rattle.os_server.specs.declared.serve.Served.TheVariants.{Ended, CutShort, ReadFault, WriteFault, Memory}
 use Rattle.os_server.specs.Orders.{kind_of, number_of}
 use Rattle.os_server.specs.Answers.{said_by, Does, BeginsToDo}
-use Rattle.os_server.specs.Talk.{Part, AtEnd, Reads, Answers, LacksMemory, IsDue, IsExchange, Ends, HandsOn, Accounts}
+use Rattle.os_server.specs.Talk.{Part, was_taken, IsRung, AtEnd, Reads, Answers, LacksMemory, IsDue, IsExchange, Ends, HandsOn, Accounts}
 
-module _ (made : List ℕ → List ℕ → List Bool → Option (List ℕ) → Type 0) where
+module _ (made : List ℕ → List ℕ → List Bool → Option (List ℕ) → Type 0) (wakes : Bool → Type 0) where
   -- the calls that do what is asked, and the reply that says the last one's
   abbrev pub IsOrdered : Order → Bool → List Entry → Reply → Type 0
   IsOrdered order close own (Answer said closes as_worker) =
       (closes ≡ close) × (last : tables.Reply) × Does made order last own × (said_by (kind_of order) (number_of order) last ≡ Some said)
-      × (as_worker ≡ true → last ≡ table.Sent true)
+      × IsRung wakes (was_taken last) as_worker
   IsOrdered order close own (Refused refusal) = ⊥
   IsOrdered order close own NoMemory = BeginsToDo made order own ⊎ ((last : tables.Reply) × Does made order last own)
 
   -- the calls for a body, and the reply that it is due after them
   abbrev pub IsReplied : List ℕ → Bool → List Entry → Reply → Type 0
-  IsReplied body close own (Answer said closes as_worker) = (closes ≡ close) × Answers made body own said as_worker
+  IsReplied body close own (Answer said closes as_worker) = (closes ≡ close) × Answers made wakes body own said as_worker
   IsReplied body close own (Refused refusal) = CallFails body soap.Envelope × (refusal ≡ BadRequest) × (own ≡ [])
-  IsReplied body close own NoMemory = (own ≡ []) ⊎ LacksMemory made body own
+  IsReplied body close own NoMemory = (own ≡ []) ⊎ LacksMemory made wakes body own
 
   -- what came on the link and what is due to it, by what was taken, the calls and the answer
   abbrev pub Came : Result Reply Served → Type 0 → List ℕ → List Entry → Type 0
-  Came (Ok reply) AtEnd taken own = IsDue made taken own reply
+  Came (Ok reply) AtEnd taken own = IsDue made wakes taken own reply
   Came (Err Ended) AtEnd taken own = EndedBetween taken × (own ≡ []) × AtEnd
   Came (Err CutShort) AtEnd taken own = IsCut taken × (own ≡ []) × AtEnd
   Came (Err ReadFault) AtEnd taken own = IsBegun taken × (own ≡ [])
@@ -45,8 +44,8 @@ module _ (made : List ℕ → List ℕ → List Bool → Option (List ℕ) → T
 
   -- one request, after which the next comes or the conversation ends
   abbrev pub AnswersOne : Option Served → Type 0 → Part → Type 0
-  AnswersOne None AtEnd p = IsExchange made false p
-  AnswersOne (Some end) AtEnd p = Ends made end AtEnd p
+  AnswersOne None AtEnd p = IsExchange made wakes false p
+  AnswersOne (Some end) AtEnd p = Ends made wakes end AtEnd p
 
   -- what follows a reply that was written: a claim with the run of the job that it gave, and the next request or the end
   abbrev pub Follows : Reply → List Entry → Option Served → Type 0
@@ -67,10 +66,10 @@ CountsCame (Err WriteFault) before after = ⊥
 CountsCame (Err Memory) before after = ⊥
 
 -- what was read of the link, and the calls for it
-pub record Comes (made : List ℕ → List ℕ → List Bool → Option (List ℕ) → Type 0) (did : List Entry → Type 0) (came : Result Reply Served) (old new : Tells) : Type 0 where
+pub record Comes (made : List ℕ → List ℕ → List Bool → Option (List ℕ) → Type 0) (wakes : Bool → Type 0) (did : List Entry → Type 0) (came : Result Reply Served) (old new : Tells) : Type 0 where
   pub taken : List ℕ
   pub own : List Entry
-  pub shows : Came made came (AtEnd [] old.left new.left) taken own
+  pub shows : Came made wakes came (AtEnd [] old.left new.left) taken own
   pub calls : did own
   pub read : Reads taken old.left new.left
   pub counted : CountsCame came old.read_faults new.read_faults
@@ -83,9 +82,9 @@ AccountsOne None old new =
 AccountsOne (Some end) old new = Accounts end old new
 
 -- one request of a link and of one who makes calls, and what follows
-pub record ServesOne (made : List ℕ → List ℕ → List Bool → Option (List ℕ) → Type 0) (did : List Entry → Type 0) (end : Option Served) (old new : Tells) : Type 0 where
+pub record ServesOne (made : List ℕ → List ℕ → List Bool → Option (List ℕ) → Type 0) (wakes : Bool → Type 0) (did : List Entry → Type 0) (end : Option Served) (old new : Tells) : Type 0 where
   pub part : Part
-  pub answers : AnswersOne made end (AtEnd [] old.left new.left) part
+  pub answers : AnswersOne made wakes end (AtEnd [] old.left new.left) part
   pub calls : did part.entries
   pub read : Reads part.taken old.left new.left
   pub wrote : Told old.written new.written (Appends part.out)

@@ -1,5 +1,5 @@
 -- A conversation on one connection: the bytes read, the calls made with their replies, the bytes written, and its end (RFC 9112, sections 2, 6 and 9; SOAP 1.1, section 6).
-use Rattle.std.specs.Prelude.{◌≡◌, ℕ, ◌<◌, ◌⊎◌, Bool, true, false, List, [], ◌∷◌, ◌++◌, All, length, Option, Some, Err}
+use Rattle.std.specs.Prelude.{◌≡◌, ℕ, ◌<◌, ◌⊎◌, Bool, true, false, not, List, [], ◌∷◌, ◌++◌, All, length, Option, Some, Err}
 use Rattle.os_io.specs.Streams.{Tells, Told, HasRisen, IsPart, Appends, Grows}
 use Rattle.http_link.specs.declared.refusal.Refusal.{Refusal}
 use Rattle.http_link.specs.declared.refusal.Refusal.TheVariants.{BadRequest, ServiceUnavailable}
@@ -64,16 +64,28 @@ IsRefusedAs taken refusal =
     Head taken (Err refusal)
     ⊎ ((close : Bool) × (body : List ℕ) × IsRequest taken close body × CallFails body soap.Envelope × (refusal ≡ BadRequest))
 
-module _ (made : List ℕ → List ℕ → List Bool → Option (List ℕ) → Type 0) where
+-- texts were sent and taken, by the last reply of the table to what was asked
+abbrev pub was_taken : tables.Reply → Bool
+was_taken (table.Sent taken) = taken
+was_taken _ = false
+
+-- how a waiting job is claimed behind an answer, by whether texts were taken for it. Where they were, the bell is rung, and the claim is a worker's
+-- exactly where nobody was woken; else it isn't. What a ring may answer is given
+abbrev pub IsRung : (Bool → Type 0) → Bool → Bool → Type 0
+IsRung wakes true as_worker = wakes (not as_worker)
+IsRung wakes false as_worker = as_worker ≡ false
+
+-- which looks a run of a job's texts makes, with the document that comes of it, and what a ring may answer are given
+module _ (made : List ℕ → List ℕ → List Bool → Option (List ℕ) → Type 0) (wakes : Bool → Type 0) where
   -- a body asks something of the table, these calls do it, and the reply of the last one is said. A waiting job is then claimed
-  -- as a worker claims one behind a send alone that was taken
+  -- as a worker claims one behind a send alone that was taken, where nobody was woken
   pub record IsDone (body : List ℕ) (own : List Entry) (said : Said) (as_worker : Bool) : Type 0 where
     pub order : Order
     pub last : tables.Reply
     pub asks : Asks body order
     pub does : Does made order last own
     pub says : said_by (kind_of order) (number_of order) last ≡ Some said
-    pub woken : as_worker ≡ true → last ≡ table.Sent true
+    pub woken : IsRung wakes (was_taken last) as_worker
 
   -- a body is an envelope whose call is refused, no call of the table is made, and the fault is said
   pub record IsFaulted (body : List ℕ) (own : List Entry) (said : Said) (as_worker : Bool) : Type 0 where
@@ -192,15 +204,15 @@ Accounts Memory old new =
     (new.read_faults ≡ old.read_faults) × (new.write_faults ≡ old.write_faults) × HandsOn old new
 
 -- a conversation of a link and of one who makes calls, from before to after. More may have been read than it has
-pub record Serves (made : List ℕ → List ℕ → List Bool → Option (List ℕ) → Type 0) (did : List Entry → Type 0) (end : Served) (old new : Tells) : Type 0 where
+pub record Serves (made : List ℕ → List ℕ → List Bool → Option (List ℕ) → Type 0) (wakes : Bool → Type 0) (did : List Entry → Type 0) (end : Served) (old new : Tells) : Type 0 where
   pub part : Part
   pub past : List ℕ
-  pub talk : Talk made end (AtEnd past old.left new.left) part
+  pub talk : Talk made wakes end (AtEnd past old.left new.left) part
   pub calls : did part.entries
   pub read : Reads (part.taken ++ past) old.left new.left
   pub wrote : Told old.written new.written (Appends part.out)
   pub accounts : Accounts end old new
 
 -- the same, and no byte past it was read
-abbrev pub ServesWhole : (List ℕ → List ℕ → List Bool → Option (List ℕ) → Type 0) → (List Entry → Type 0) → Served → Tells → Tells → Type 0
-ServesWhole made did end old new = (s : Serves made did end old new) × (s.past ≡ [])
+abbrev pub ServesWhole : (List ℕ → List ℕ → List Bool → Option (List ℕ) → Type 0) → (Bool → Type 0) → (List Entry → Type 0) → Served → Tells → Tells → Type 0
+ServesWhole made wakes did end old new = (s : Serves made wakes did end old new) × (s.past ≡ [])

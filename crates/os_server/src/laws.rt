@@ -2,20 +2,21 @@
 ghost use Rattle.os_server.specs.Once.{Requests, Bodies};
 ghost use Rattle.os_server.specs.Laws.{ConversationsAreKept, BytesAreCutOneWay, RepliesDecide};
 
+use crate::server::Server;
 use document_tags::tree_faults_have_one_text;
 use http_link::{
     cut_input_holds_no_request, ended_input_holds_no_request, one_head_comes_first,
     one_request_comes_first,
 };
-use job_runs::{Runner, finishes_are_kept};
+use job_runs::finishes_are_kept;
 use job_table::Verdicts;
 use soap_calls::{bytes_have_one_refusal, bytes_say_one_call, calls_are_not_refused};
 
 /// Law: where a conversation's calls are those of the whole history from some moment on, every finish among them is kept.
-pub fn conversations_are_kept<V: Verdicts, R: Runner<V>>()
-    ensures { ConversationsAreKept R.ran V.right }
+pub fn conversations_are_kept<V: Verdicts, S: Server<V>>()
+    ensures { ConversationsAreKept S.ran S.wakes V.right }
 {
-    finishes_are_kept::<V, R>();
+    finishes_are_kept::<V, S>();
 }
 
 /// Law: bytes are requests in one way.
@@ -45,8 +46,8 @@ fn bodies_are_read_one_way()
 
 /// Law: without a fault, and with memory, the bytes to come alone decide how they are cut into requests, and how the conversation
 /// ends.
-pub fn bytes_are_cut_one_way<V: Verdicts, R: Runner<V>>()
-    ensures { BytesAreCutOneWay R.ran }
+pub fn bytes_are_cut_one_way<V: Verdicts, S: Server<V>>()
+    ensures { BytesAreCutOneWay S.ran S.wakes }
 {
     requests_are_read_one_way();
     bodies_are_read_one_way();
@@ -54,8 +55,8 @@ pub fn bytes_are_cut_one_way<V: Verdicts, R: Runner<V>>()
 
 /// Law: without a fault, and with memory, the bytes to come and the table's replies to the calls decide the bytes written: two
 /// conversations over the same bytes whose calls had the same replies, one after another, wrote the same.
-pub fn bytes_and_replies_decide_the_answers<V: Verdicts, R: Runner<V>>()
-    ensures { RepliesDecide R.ran }
+pub fn bytes_and_replies_decide_the_answers<V: Verdicts, S: Server<V>>()
+    ensures { RepliesDecide S.ran S.wakes }
 {
     requests_are_read_one_way();
     bodies_are_read_one_way();

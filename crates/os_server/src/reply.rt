@@ -1,10 +1,9 @@
 //! What a request is replied.
-ghost use Rattle.std.specs.Prelude.{◌≡◌, List, true};
-ghost use Rattle.job_table.specs.declared.calls.Reply.TheVariants as table;
+ghost use Rattle.std.specs.Prelude.{◌≡◌, List};
 ghost use Rattle.os_io.specs.Streams.{Writes, Sends};
 ghost use Rattle.job_table.specs.History.{Entry};
 ghost use Rattle.os_server.specs.Answers.{reply_of};
-ghost use Rattle.os_server.specs.Talk.{text_of_reply, response_text};
+ghost use Rattle.os_server.specs.Talk.{was_taken, IsRung, text_of_reply, response_text};
 ghost use Rattle.os_server.specs.Serving.{IsReplied, IsOrdered, Comes};
 
 use crate::asking::read_order;
@@ -38,9 +37,9 @@ pub enum Reply {
     NoMemory,
 }
 
-/// Whether texts were taken.
+/// Whether texts were sent and taken.
 fn was_taken(last: &LastReply) -> bool
-    ensures { result ≡ true → reply_of last.now ≡ table.Sent true }
+    ensures { result ≡ was_taken (reply_of last.now) }
 {
     match last {
         LastReply::Sent(taken) => *taken,
@@ -50,7 +49,7 @@ fn was_taken(last: &LastReply) -> bool
 
 /// Whether the job behind the answer is claimed as a worker claims one: texts were taken, and nobody took over that a job waits.
 fn works_after<V: Verdicts, S: Server<V>>(server: &S, last: &LastReply) -> bool
-    ensures { result ≡ true → reply_of last.now ≡ table.Sent true }
+    ensures { IsRung S.wakes (was_taken (reply_of last.now)) result }
 {
     was_taken(last) && !server.wake()
 }
@@ -63,7 +62,7 @@ fn answer_order<V: Verdicts, C: Calls<V>, S: Server<V>>(
     order: Order,
     close: bool,
 ) -> Reply
-    ensures { (own : List Entry) × C.did calls.old calls.new own × IsOrdered S.ran order close own result }
+    ensures { (own : List Entry) × C.did calls.old calls.new own × IsOrdered S.ran S.wakes order close own result }
 {
     let kind = order.kind();
     let number = order.number();
@@ -91,7 +90,7 @@ fn reply_to<V: Verdicts, C: Calls<V>, S: Server<V>>(
     body: &[u8],
     close: bool,
 ) -> Reply
-    ensures { (own : List Entry) × C.did calls.old calls.new own × IsReplied S.ran body.now close own result }
+    ensures { (own : List Entry) × C.did calls.old calls.new own × IsReplied S.ran S.wakes body.now close own result }
 {
     match read_order(alloc, body) {
         Ok(order) => answer_order(alloc, calls, server, order, close),
@@ -115,7 +114,7 @@ pub(crate) fn next_reply<I: Source, V: Verdicts, C: Calls<V>, S: Server<V>>(
     calls: &mut C,
     server: &S,
 ) -> Result<Reply, Served>
-    ensures { Comes S.ran (C.did calls.old calls.new) result (I.tells input.old) (I.tells input.new) }
+    ensures { Comes S.ran S.wakes (C.did calls.old calls.new) result (I.tells input.old) (I.tells input.new) }
 {
     match read_request(alloc, input) {
         Ok(Incoming::Whole(request)) => {

@@ -39,7 +39,7 @@ fn follow<V: Verdicts, C: Calls<V>, S: Server<V>>(
     server: &S,
     reply: &Reply,
 ) -> Option<Served>
-    ensures { (after : List Entry) × C.did calls.old calls.new after × Follows S.ran reply.now after result }
+    ensures { (after : List Entry) × C.did calls.old calls.new after × Follows S.ran S.wakes reply.now after result }
 {
     match reply {
         Reply::Answer {
@@ -63,7 +63,7 @@ fn serve_request<L: Link, V: Verdicts, C: Calls<V>, S: Server<V>>(
     calls: &mut C,
     server: &S,
 ) -> Option<Served>
-    ensures { ServesOne S.ran (C.did calls.old calls.new) result (L.tells link.old) (L.tells link.new) }
+    ensures { ServesOne S.ran S.wakes (C.did calls.old calls.new) result (L.tells link.old) (L.tells link.new) }
 {
     match next_reply(alloc, link, calls, server) {
         Ok(reply) => match send(link, &reply) {
@@ -81,7 +81,7 @@ fn serve_all<L: Link, V: Verdicts, C: Calls<V>, S: Server<V>>(
     calls: &mut C,
     server: &S,
 ) -> Served
-    ensures { Serves S.ran (C.did calls.old calls.new) result (L.tells link.old) (L.tells link.new) }
+    ensures { Serves S.ran S.wakes (C.did calls.old calls.new) result (L.tells link.old) (L.tells link.new) }
 {
     for _ in 0..MOST_REQUESTS {
         match serve_request(alloc, link, calls, server) {
@@ -100,7 +100,7 @@ fn serve_next<I: Source, O: Sink, V: Verdicts, C: Calls<V>, S: Server<V>>(
     calls: &mut C,
     server: &S,
 ) -> Option<Served>
-    ensures serves { ServesOne S.ran (C.did calls.old calls.new) result (both_ends (I.tells input.old) (O.tells output.old)) (both_ends (I.tells input.new) (O.tells output.new)) }
+    ensures serves { ServesOne S.ran S.wakes (C.did calls.old calls.new) result (both_ends (I.tells input.old) (O.tells output.old)) (both_ends (I.tells input.new) (O.tells output.new)) }
     ensures output_of_input { SameOutput (I.tells input.old) (I.tells input.new) }
     ensures input_of_output { SameInput (O.tells output.old) (O.tells output.new) }
 {
@@ -122,7 +122,7 @@ pub fn serve_ends<I: Source, O: Sink, V: Verdicts, C: Calls<V>, S: Server<V>>(
     calls: &mut C,
     server: &S,
 ) -> Served
-    ensures serves { ServesWhole S.ran (C.did calls.old calls.new) result (both_ends (I.tells input.old) (O.tells output.old)) (both_ends (I.tells input.new) (O.tells output.new)) }
+    ensures serves { ServesWhole S.ran S.wakes (C.did calls.old calls.new) result (both_ends (I.tells input.old) (O.tells output.old)) (both_ends (I.tells input.new) (O.tells output.new)) }
     ensures output_of_input { SameOutput (I.tells input.old) (I.tells input.new) }
     ensures input_of_output { SameInput (O.tells output.old) (O.tells output.new) }
 {
@@ -141,7 +141,7 @@ pub fn turn_away<I: Source, O: Sink, V: Verdicts, S: Server<V>>(
     output: &mut O,
     _server: &S,
 ) -> Served
-    ensures serves { ServesWhole S.ran (λ made. made ≡ []) result (both_ends (I.tells _input.now) (O.tells output.old)) (both_ends (I.tells _input.now) (O.tells output.new)) }
+    ensures serves { ServesWhole S.ran S.wakes (λ made. made ≡ []) result (both_ends (I.tells _input.now) (O.tells output.old)) (both_ends (I.tells _input.now) (O.tells output.new)) }
     ensures input_of_output { SameInput (O.tells output.old) (O.tells output.new) }
 {
     match send(output, &Reply::NoMemory) {
@@ -159,7 +159,7 @@ pub fn serve_one<L: Link, V: Verdicts, C: Calls<V>, S: Server<V>>(
     calls: &mut C,
     server: &S,
 ) -> (Served, L)
-    ensures { Serves S.ran (C.did calls.old calls.new) result.0 (L.tells link) (L.tells result.1) }
+    ensures { Serves S.ran S.wakes (C.did calls.old calls.new) result.0 (L.tells link) (L.tells result.1) }
 {
     let mut carried = Carried::new(link);
     let served = serve_all(alloc, &mut carried, calls, server);

@@ -16,7 +16,7 @@ use Rattle.os_server.specs.Laws.{ConversationsAreKept}
 use Rattle.os_server.specs.Talk.{ServesWhole}
 use Rattle.os_server.proofs.Rounds.{serves_so}
 use Rattle.solve_run.specs.Right.{Right}
-use Rattle.job_solver.specs.Runs.{Makes}
+use Rattle.job_solver.specs.Runs.{Makes, WakesNobody}
 use Rattle.job_solver.specs.Proved.{ShownAreProved}
 use Rattle.sessions.specs.Sessions.{ServesAlone, IsSession}
 
@@ -39,22 +39,22 @@ module _ (first v : View) (fresh : first ≡ first_view) (said : List Entry) (as
       subst (λ (es : List Entry). Runs Right empty es table) (ap calls log ∙ calls_then first.seen 0 said ∙ ap (λ (f : View). calls f.seen ++ said) fresh) c.leads
 
 -- a conversation by calls of a new desk, which was closed
-pub served_alone : (did : List Entry → Type 0) (end : Served) (old new : Tells) (table : Register) → (s : ServesWhole Makes did end old new)
+pub served_alone : (did : List Entry → Type 0) (end : Served) (old new : Tells) (table : Register) → (s : ServesWhole Makes WakesNobody did end old new)
     → Runs Right empty s.0.part.entries table → ServesAlone end old new
-served_alone did end old new table (s, whole) runs = (table, (serves_so Makes did (λ made. Runs Right empty made table) end old new s runs, whole))
+served_alone did end old new table (s, whole) runs = (table, (serves_so Makes WakesNobody did (λ made. Runs Right empty made table) end old new s runs, whole))
 
 -- a conversation without a call
-pub served_without : (end : Served) (old new : Tells) → ServesWhole Makes (λ made. made ≡ []) end old new → ServesAlone end old new
+pub served_without : (end : Served) (old new : Tells) → ServesWhole Makes WakesNobody (λ made. made ≡ []) end old new → ServesAlone end old new
 served_without end old new s =
     served_alone (λ made. made ≡ []) end old new empty s (subst (λ (es : List Entry). Runs Right empty es empty) (sym s.0.calls) refl)
 
 -- a conversation whose calls were all that were made is a session
-pub session_of : ConversationsAreKept Makes Right → ShownAreProved → (end : Served) (old new : Tells) → ServesAlone end old new → IsSession end old new
+pub session_of : ConversationsAreKept Makes WakesNobody Right → ShownAreProved → (end : Served) (old new : Tells) → ServesAlone end old new → IsSession end old new
 session_of kept shown end old new (table, (s, whole)) = record {
   entries = s.part.entries;
   table = table;
   runs = s.calls;
-  serves = (serves_so Makes (λ made. Runs Right empty made table) (λ made. made ≡ s.part.entries) end old new s refl, whole);
+  serves = (serves_so Makes WakesNobody (λ made. Runs Right empty made table) (λ made. made ≡ s.part.entries) end old new s refl, whole);
   kept = kept end s.past old.left new.left s.part [] table s.talk s.calls;
   proved = shown s.part.entries table s.calls;
 }

@@ -3,15 +3,15 @@ use Rattle.os_server.proofs.Rounds.{none_yet, one_more, last_one, all_done}
 use Rattle.os_server.proofs.serve.serve_all.Goals as goal
 
 pub loop-init : goal.loop-init
-loop-init g c = none_yet g.S.Runner.ran _ _ (g.met.C.Calls.stays c.args.calls.now)
+loop-init g c = none_yet g.S.Runner.ran g.S.Server.wakes _ _ (g.met.C.Calls.stays c.args.calls.now)
 
 pub loop-preserved : goal.loop-preserved
 loop-preserved g c =
-    one_more g.S.Runner.ran _ _ _ _ _ _ _ (λ a b. g.met.C.Calls.joins _ _ _ a b) c.loop.invariant c.in-None.ensures
+    one_more g.S.Runner.ran g.S.Server.wakes _ _ _ _ _ _ _ (λ a b. g.met.C.Calls.joins _ _ _ a b) c.loop.invariant c.in-None.ensures
 
 pub returns-in-Some : goal.returns-in-Some
 returns-in-Some g c =
-    last_one g.S.Runner.ran _ _ _ _ _ _ _ _ (λ a b. g.met.C.Calls.joins _ _ _ a b) (omega (arith, c.loop-test.true)) c.loop.invariant c.in-Some.ensures
+    last_one g.S.Runner.ran g.S.Server.wakes _ _ _ _ _ _ _ _ (λ a b. g.met.C.Calls.joins _ _ _ a b) (omega (arith, c.loop-test.true)) c.loop.invariant c.in-Some.ensures
 
 pub returns : goal.returns
-returns g c = all_done g.S.Runner.ran _ _ _ _ (omega (arith, c.loop-test.false)) c.loop.invariant
+returns g c = all_done g.S.Runner.ran g.S.Server.wakes _ _ _ _ (omega (arith, c.loop-test.false)) c.loop.invariant
