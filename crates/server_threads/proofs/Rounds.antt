@@ -169,9 +169,9 @@ opens_new servers desk w talks j seat known fits new = subst (λ (v : View). Ope
   earlier = λ i u at far. known i (talk_met u) (at_map talk_met talks i u at);
 }
 
-module _ {J L S : Type 0} (right : List ℕ → List ℕ → Bool → Option (List ℕ) → Type 0) (talked : Tells → List Said → Tells → Bool → Type 0) (tells : L → Tells) (servers : ℕ) (desk : TableId) (old : Stand) where
-  pub going_begins : (now : Stand) (short : ℕ) (items : List (Conversing J L S)) → old ≡ now → now.view.number ≡ 0 → short ≡ 0 → items ≡ [] → Going right talked tells servers desk old now short items
-  going_begins now short items same first none empty = subst (λ (z : Stand × List (Conversing J L S)). Going right talked tells servers desk old z.0 short z.1) (λ i. (same i, sym empty i)) record {
+module _ {J L S B : Type 0} (right : List ℕ → List ℕ → Bool → Option (List ℕ) → Type 0) (talked : Tells → List Said → Tells → Bool → Type 0) (tells : L → Tells) (servers : ℕ) (desk : TableId) (old : Stand) where
+  pub going_begins : (now : Stand) (short : ℕ) (items : List (Conversing J L S B)) → old ≡ now → now.view.number ≡ 0 → short ≡ 0 → items ≡ [] → Going right talked tells servers desk old now short items
+  going_begins now short items same first none empty = subst (λ (z : Stand × List (Conversing J L S B)). Going right talked tells servers desk old z.0 short z.1) (λ i. (same i, sym empty i)) record {
     talks = [];
     keeps = keeps_new desk old.view (old.view.given + 0) (ap (λ (s : Stand). s.view.number) same ∙ first);
     due = tt;
@@ -186,7 +186,7 @@ module _ {J L S : Type 0} (right : List ℕ → List ℕ → Bool → Option (Li
   }
 
   -- a link came, a seat was split off for it, and it is being served
-  pub going_more : (now after : Stand) (short : ℕ) (places items : List (Conversing J L S)) (place : Conversing J L S) (link : L) (seat : DeskSeat J) → Going right talked tells servers desk old now short places → length places < servers
+  pub going_more : (now after : Stand) (short : ℕ) (places items : List (Conversing J L S B)) (place : Conversing J L S B) (link : L) (seat : DeskSeat J) → Going right talked tells servers desk old now short places → length places < servers
       → Comes now.coming after.coming (tells link) → after.given_back ≡ now.given_back → after.reached ≡ now.reached → after.view ≡ one_more now.view → IsSeatOf desk seat → seat.me.0 ≡ newcomer now.view
       → (promised place).seat.value ≡ seat → (promised place).link.value ≡ link → Due (served_so right talked tells) place → items ≡ places ++ place ∷ [] → Going right talked tells servers desk old after short items
   going_more now after short places items place link seat g room comes back reached is fits new seat_is link_is due are =
@@ -195,10 +195,10 @@ module _ {J L S : Type 0} (right : List ℕ → List ℕ → Bool → Option (Li
       opens_new servers desk now.view g.talks (length g.talks + length places) (promised place).seat.value g.keeps.known (subst (λ (s : DeskSeat J). IsSeatOf desk s) (sym seat_is) fits) (ap (λ (s : DeskSeat J). s.me.0) seat_is ∙ new) in
       let its : Tells = tells (promised place).link.value in
       let before : List Tells = map (λ (t : Talk). t.came) g.talks in
-      let out : List Tells = links_out {S = S} right talked tells places in
-      let seats : seats_out (places ++ place ∷ []) ≡ seats_out places ++ (promised place).seat.value ∷ [] = map-append (λ (p : Conversing J L S). (promised p).seat.value) places (place ∷ []) in
-      let links : links_out {S = S} right talked tells (places ++ place ∷ []) ≡ out ++ its ∷ [] = map-append (λ (p : Conversing J L S). tells (promised p).link.value) places (place ∷ []) in
-      subst (λ (l : List (Conversing J L S)). Going right talked tells servers desk old after short l) (sym are) record {
+      let out : List Tells = links_out {S = S} {B = B} right talked tells places in
+      let seats : seats_out (places ++ place ∷ []) ≡ seats_out places ++ (promised place).seat.value ∷ [] = map-append (λ (p : Conversing J L S B). (promised p).seat.value) places (place ∷ []) in
+      let links : links_out {S = S} {B = B} right talked tells (places ++ place ∷ []) ≡ out ++ its ∷ [] = map-append (λ (p : Conversing J L S B). tells (promised p).link.value) places (place ∷ []) in
+      subst (λ (l : List (Conversing J L S B)). Going right talked tells servers desk old after short l) (sym are) record {
         talks = g.talks;
         keeps = subst (λ (ss : List (DeskSeat J)). Keeps desk old.view after.view (map talk_met g.talks) (old.view.given + length g.talks) ss) (sym seats)
             (keeps_split desk old.view now.view after.view (map talk_met g.talks) (old.view.given + length g.talks) (seats_out places) (promised place).seat.value g.keeps
@@ -206,7 +206,7 @@ module _ {J L S : Type 0} (right : List ℕ → List ℕ → Bool → Option (Li
         due = due_snoc (served_so right talked tells) places place g.due due;
         few = let longer = length-append places (place ∷ []) in omega arith;
         waits = subst (λ (z : List Entry × List (DeskSeat J)). AllOpen servers z.0 g.talks (length g.talks) z.1) (λ i. (sym seen i, sym seats i))
-            (all_open_snoc servers now.view.seen g.talks (length g.talks) (length g.talks + length places) (seats_out places) (promised place).seat.value (let many = length-map places (λ (p : Conversing J L S). (promised p).seat.value) in omega arith) g.waits opens);
+            (all_open_snoc servers now.view.seen g.talks (length g.talks) (length g.talks + length places) (seats_out places) (promised place).seat.value (let many = length-map places (λ (p : Conversing J L S B). (promised p).seat.value) in omega arith) g.waits opens);
         at_once = subst (λ (l : List Entry). AtOnce servers l g.talks) (sym seen) g.at_once;
         all_talked = g.all_talked;
         came = subst (λ (l : List Tells). Came old.coming after.coming l) (append_assoc before out (its ∷ []) ∙ ap (λ (l : List Tells). before ++ l) (sym links))
@@ -217,23 +217,23 @@ module _ {J L S : Type 0} (right : List ℕ → List ℕ → Bool → Option (Li
       }
 
   -- how many links ended for want of memory is below the number of those that came
-  pub going_few : (now : Stand) (short : ℕ) (items : List (Conversing J L S)) → Going right talked tells servers desk old now short items → now.view.given ≤ old.view.given + 4294967296 → short ≤ 4294967296
+  pub going_few : (now : Stand) (short : ℕ) (items : List (Conversing J L S B)) → Going right talked tells servers desk old now short items → now.view.given ≤ old.view.given + 4294967296 → short ≤ 4294967296
   going_few now short items g few =
       let all = g.keeps.given in let same = length-map g.talks talk_met in let least = short_fits g.talks in let is = g.shorts in omega arith
 
   -- the seat that was promised back is the desk's
-  pub oldest_of_desk : (now : Stand) (short : ℕ) (items rest : List (Conversing J L S)) (place : Conversing J L S) (holds : List Said → Type 0) (seat : DeskSeat J) → Going right talked tells servers desk old now short items
+  pub oldest_of_desk : (now : Stand) (short : ℕ) (items rest : List (Conversing J L S B)) (place : Conversing J L S B) (holds : List Said → Type 0) (seat : DeskSeat J) → Going right talked tells servers desk old now short items
       → items ≡ place ∷ rest → Acts right holds (promised place).seat.value seat → IsSeatOf desk seat
   oldest_of_desk now short items rest place holds seat g is a =
-      let went = subst (λ (l : List (Conversing J L S)). Going right talked tells servers desk old now short l) is g in
+      let went = subst (λ (l : List (Conversing J L S B)). Going right talked tells servers desk old now short l) is g in
       subst (λ (d : TableId). IsSeatOf d seat) went.keeps.waits.0 a.desk_is
 
   -- the oldest link was served as was promised, its seat was met, and it was given back
-  pub going_met : (now after : Stand) (short short' : ℕ) (items places : List (Conversing J L S)) (place : Conversing J L S) (done : Finished (DeskSeat J) L) → Going right talked tells servers desk old now short items
-      → items ≡ place ∷ places → served_so {S = S} right talked tells (promised place) done → Meets now.view done.seat.me.0 after.view → IsGivenBack now.given_back after.given_back (tells done.link)
+  pub going_met : (now after : Stand) (short short' : ℕ) (items places : List (Conversing J L S B)) (place : Conversing J L S B) (done : Finished (DeskSeat J) L) → Going right talked tells servers desk old now short items
+      → items ≡ place ∷ places → served_so {S = S} {B = B} right talked tells (promised place) done → Meets now.view done.seat.me.0 after.view → IsGivenBack now.given_back after.given_back (tells done.link)
       → after.coming ≡ now.coming → after.reached ≡ now.reached → short' ≡ short + one_if done.short → Going right talked tells servers desk old after short' places
   going_met now after short short' items places place done all is a met back coming reached counted =
-      let g = subst (λ (l : List (Conversing J L S)). Going right talked tells servers desk old now short l) is all in
+      let g = subst (λ (l : List (Conversing J L S B)). Going right talked tells servers desk old now short l) is all in
       let n : ℕ = old.view.given + length g.talks in
       let t : Talk = record { came = tells (promised place).link.value; back = tells done.link; seat = n; said = a.said; short = done.short } in
       let k = keeps_met desk right (λ said. talked (tells (promised place).link.value) said (tells done.link) done.short) old.view now.view after.view (map talk_met g.talks) n (promised place).seat.value done.seat (seats_out places) g.keeps a met in
@@ -242,7 +242,7 @@ module _ {J L S : Type 0} (right : List ℕ → List ℕ → Bool → Option (Li
       let more : n + 1 ≡ old.view.given + length (g.talks ++ t ∷ []) = omega arith in
       let later : StartsWith after.view.seen now.view.seen = met.begins.0 in
       let few : length places + 1 ≤ servers = let all = g.few in omega arith in
-      let many = length-map places (λ (p : Conversing J L S). (promised p).seat.value) in
+      let many = length-map places (λ (p : Conversing J L S B). (promised p).seat.value) in
       let opened = opens_on servers now.view.seen after.view.seen g.talks later t (length g.talks) (promised place).seat.value.me.0.number (promised place).seat.value.me.0.seen (omega arith) g.waits.0 in record {
         talks = g.talks ++ t ∷ [];
         keeps = subst (λ (z : List Met × ℕ). Keeps desk old.view after.view z.0 z.1 (seats_out places)) (λ i. (sym mets i, more i)) k;
@@ -258,7 +258,7 @@ module _ {J L S : Type 0} (right : List ℕ → List ℕ → Bool → Option (Li
             (at_end g.talks t u j at);
         all_talked = all_talked_snoc talked old.view.given g.talks t g.all_talked refl a.held;
         came = subst (λ (z : Option (List Tells) × List Tells). Came old.coming z.0 z.1)
-            (λ i. (sym coming i, (sym (ap (λ (l : List Tells). l ++ links_out {S = S} right talked tells places) (map-append (λ (u : Talk). u.came) g.talks (t ∷ [])) ∙ append_assoc (map (λ (u : Talk). u.came) g.talks) (t.came ∷ []) (links_out {S = S} right talked tells places))) i))
+            (λ i. (sym coming i, (sym (ap (λ (l : List Tells). l ++ links_out {S = S} {B = B} right talked tells places) (map-append (λ (u : Talk). u.came) g.talks (t ∷ [])) ∙ append_assoc (map (λ (u : Talk). u.came) g.talks) (t.came ∷ []) (links_out {S = S} {B = B} right talked tells places))) i))
             g.came;
         back = subst (λ (l : List Tells). GivenBack old.given_back after.given_back l) (sym (map-append (λ (u : Talk). u.back) g.talks (t ∷ [])))
             (back_more old.given_back now.given_back after.given_back _ _ g.back back);
@@ -267,9 +267,9 @@ module _ {J L S : Type 0} (right : List ℕ → List ℕ → Bool → Option (Li
       }
 
   -- none is being served any more
-  pub going_over : (now : Stand) (short : ℕ) (items : List (Conversing J L S)) → Going right talked tells servers desk old now short items → length items ≡ 0 → (o : LinksServed talked servers old now) × (short ≡ short_of o.talks)
+  pub going_over : (now : Stand) (short : ℕ) (items : List (Conversing J L S B)) → Going right talked tells servers desk old now short items → length items ≡ 0 → (o : LinksServed talked servers old now) × (short ≡ short_of o.talks)
   going_over now short items all none =
-      let g = subst (λ (l : List (Conversing J L S)). Going right talked tells servers desk old now short l) (empty_list items none) all in (
+      let g = subst (λ (l : List (Conversing J L S B)). Going right talked tells servers desk old now short l) (empty_list items none) all in (
         record {
           talks = g.talks;
           all_talked = g.all_talked;

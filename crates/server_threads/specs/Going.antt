@@ -10,8 +10,9 @@ use Rattle.desk.specs.declared.view.Met.{Met}
 use Rattle.desk.specs.declared.view.View.{View}
 use Rattle.desk.specs.History.{StartsWith}
 use Rattle.desk.specs.Rule.{HasMet}
-use Rattle.desk.specs.Asks.{IsSeatOf}
+use Rattle.desk.specs.Asks.{desk_id, IsSeatOf}
 use Rattle.server_threads.specs.declared.means.Limits.{Limits}
+use Rattle.server_threads.specs.declared.means.Means.{Means}
 use Rattle.server_threads.specs.declared.means.Room.{Room}
 use Rattle.server_threads.specs.declared.means.ServeFault.{ServeFault}
 use Rattle.server_threads.specs.declared.means.ServeFault.TheVariants.{Failed}
@@ -23,7 +24,7 @@ use Rattle.server_threads.specs.declared.promise.ToServe.{ToServe}
 use Rattle.server_threads.specs.declared.promise.ToWork.{ToWork}
 use Rattle.server_threads.specs.Talks.{DeskSeat, Talk, Shift, talk_met, shift_met, short_of, Came, GivenBack, AllTalked, AllWorked, IsShift, Acts}
 use Rattle.server_threads.specs.Promises.{promise_of, AllDue}
-use Rattle.server_threads.specs.Serving.{Stand, stand, MayTake, Opens, AtOnce}
+use Rattle.server_threads.specs.Serving.{Stand, stand, MayTake, Opens, AtOnce, Ends}
 
 -- each seat is one of the desk's, had made no call when it was split off, and has the next number
 abbrev pub AllOut : {J : Type 0} → TableId → ℕ → List (DeskSeat J) → Type 0
@@ -47,26 +48,26 @@ pub record Keeps {J : Type 0} (desk : TableId) (v w : View) (met : List Met) (n 
   pub known : HasMet w.seen met
 
 -- what is done for a link
-abbrev pub Conversing : Type 0 → Type 0 → Type 0 → Type 0
-Conversing J L S = Place (Finished (DeskSeat J) L) (ToServe J L S)
+abbrev pub Conversing : Type 0 → Type 0 → Type 0 → Type 0 → Type 0
+Conversing J L S B = Place (Finished (DeskSeat J) L) (ToServe J L S B)
 
-module _ {J L S : Type 0} where
-  abbrev pub promised : Conversing J L S → ToServe J L S
-  promised place = promise_of {P = ToServe J L S} place
+module _ {J L S B : Type 0} where
+  abbrev pub promised : Conversing J L S B → ToServe J L S B
+  promised place = promise_of {P = ToServe J L S B} place
 
-  abbrev pub seats_out : List (Conversing J L S) → List (DeskSeat J)
+  abbrev pub seats_out : List (Conversing J L S B) → List (DeskSeat J)
   seats_out places = map (λ place. (promised place).seat.value) places
 
   module _ (right : List ℕ → List ℕ → Bool → Option (List ℕ) → Type 0) (talked : Tells → List Said → Tells → Bool → Type 0) (tells : L → Tells) where
-    abbrev pub links_out : List (Conversing J L S) → List Tells
+    abbrev pub links_out : List (Conversing J L S B) → List Tells
     links_out places = map (λ place. tells (promised place).link.value) places
 
     -- a link was served as was promised
-    abbrev pub served_so : ToServe J L S → Finished (DeskSeat J) L → Type 0
+    abbrev pub served_so : ToServe J L S B → Finished (DeskSeat J) L → Type 0
     served_so p r = Acts right (λ said. talked (tells p.link.value) said (tells r.link) r.short) p.seat.value r.seat
 
     -- links came; those that were served were given back, in order, and the later ones are being served
-    pub record Going (servers : ℕ) (desk : TableId) (old new : Stand) (short : ℕ) (places : List (Conversing J L S)) : Type 0 where
+    pub record Going (servers : ℕ) (desk : TableId) (old new : Stand) (short : ℕ) (places : List (Conversing J L S B)) : Type 0 where
       pub talks : List Talk
       pub keeps : Keeps desk old.view new.view (map talk_met talks) (old.view.given + length talks) (seats_out places)
       pub due : AllDue served_so places
@@ -79,11 +80,11 @@ module _ {J L S : Type 0} where
       pub reached : new.reached ≡ old.reached
       pub shorts : short ≡ short_of talks
 
-    -- what holds of the first seat and of the listener while links are being served
-    pub record Goes {N : Type 0} (net_tells : N → NetTells) (servers : ℕ) (desk : TableId) (before : Before J N) (seat : DeskSeat J) (net : N) (running : Running J L S) : Type 0 where
-      pub seat_is : IsSeatOf desk seat
+    -- what holds of the first seat and of the listener while links are being served by these means
+    pub record Goes {N R : Type 0} (net_tells : N → NetTells) (means : Means J R S) (before : Before J N) (seat : DeskSeat J) (net : N) (running : Running J L S B) : Type 0 where
+      pub seat_is : IsSeatOf (desk_id means.desk.now) seat
       pub few : seat.me.0.given ≤ before.seat.value.me.0.given + 2 ^ 32
-      pub going : Going servers desk (stand net_tells before.seat.value before.net.value) (stand net_tells seat net) running.short running.places.items
+      pub going : Going means.limits.servers (desk_id means.desk.now) (stand net_tells before.seat.value before.net.value) (stand net_tells seat net) running.short running.places.items
 
 -- links came, were served, each by a seat of its own, and were given back, so that none is being served any more
 pub record LinksServed (talked : Tells → List Said → Tells → Bool → Type 0) (servers : ℕ) (old new : Stand) : Type 0 where
@@ -99,6 +100,11 @@ pub record LinksServed (talked : Tells → List Said → Tells → Bool → Type
   pub mine : new.view.mine ≡ old.view.mine
   pub seen : StartsWith new.view.seen old.view.seen
   pub known : HasMet new.view.seen (map talk_met talks)
+
+-- links were served beside the workers: from this seat and listener to those, with this answer
+abbrev pub HasServedLinks : {J N : Type 0} → (talked : Tells → List Said → Tells → Bool → Type 0) → (N → NetTells) → Limits → (seat seat' : DeskSeat J) → (net net' : N) → Result ℕ ServeFault → Type 0
+HasServedLinks talked tells limits seat seat' net net' answer =
+    (o : LinksServed talked limits.servers (stand tells seat net) (stand tells seat' net')) × Ends answer limits.connections o.talks (tells net).faults (tells net').faults
 
 -- there is room for as many links and workers as these limits say
 pub record MayServe {J L S : Type 0} (limits : Limits) (room : Room J L S) : Type 0 where

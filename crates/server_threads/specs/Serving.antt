@@ -28,7 +28,7 @@ stand tells seat net =
     record { view = seat.me.0; coming = (tells net).coming; given_back = (tells net).given_back; reached = (tells net).reached }
 
 -- links may be taken: at least one at a time, none is being served, and as many as may be served at once have room
-pub record MayTake {J L S : Type 0} (limits : Limits) (running : Running J L S) : Type 0 where
+pub record MayTake {J L S B : Type 0} (limits : Limits) (running : Running J L S B) : Type 0 where
   pub some : 0 < limits.servers
   pub fresh : running.short ≡ 0
   pub none : running.places.items ≡ []
@@ -76,3 +76,9 @@ abbrev pub Ends : Result ℕ ServeFault → (connections : ℕ) → List Talk �
 Ends (Ok k) connections talks faults faults' = (k ≡ short_of talks) × (length talks ≡ connections) × (faults' ≡ faults)
 Ends (Err Failed) connections talks faults faults' = (length talks < connections) × HasRisen faults faults'
 Ends (Err Memory) connections talks faults faults' = (talks ≡ []) × (faults' ≡ faults)
+
+-- links and workers served: from this seat and listener to those, within these limits, with this answer
+abbrev pub HasServed : {J N : Type 0} → (made : List ℕ → List ℕ → List Bool → Option (List ℕ) → Type 0) → (talked : Tells → List Said → Tells → Bool → Type 0) → (N → NetTells) → Limits → (seat seat' : DeskSeat J) → (net net' : N)
+    → Result ℕ ServeFault → Type 0
+HasServed made talked tells limits seat seat' net net' answer =
+    (talks : List Talk) × Serves made talked limits.servers limits.workers (stand tells seat net) (stand tells seat' net') talks × Ends answer limits.connections talks (tells net).faults (tells net').faults

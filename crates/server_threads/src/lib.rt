@@ -2,15 +2,18 @@
 //!
 //! [`serve_loop`] accepts links and has each served in a thread of its own, by calls of a seat of its own of one desk, beside
 //! workers that run the jobs of the desk's table. All links that came are given back, in their order, and of each a conversation is
-//! known ([`Service`]): between what the link told when it came and when it was given back stand the calls of one seat, whose number
+//! known: between what the link told when it came and when it was given back stand the calls of one seat, whose number
 //! no other link has. The desk's first seat then has met these seats and those of the workers, and knows their calls.
+//!
+//! Who has the conversation is handed in, as a [`Service`]: it serves an [`OpenLink`], which only a link that is open can become, and
+//! gives it back.
 //!
 //! Threads of links stand in a scope inside that of the workers. The oldest is joined first, so that links are given back in the
 //! order in which they came; at most so many run at once. Each closes its link ([`os_io::Close`]) when the conversation is over,
 //! so that no peer waits for the threads of others. That threads run side by side is said by no contract.
 //!
-//! The way of a link: [`serve_loop`] opens the scope of the workers, `serve_beside` that of the links, `serve_links` and `take_links`
-//! take one link after another, `begin` starts its thread, and `serve_link` serves it.
+//! The way of a link: [`serve_loop`] opens the scope of the workers and `serve_beside` that of the links, `take_links` takes one link
+//! after another, and `serve_link` serves each in a thread: the one place where a link is served.
 #![tactic(auto)]
 
 mod links;
@@ -25,5 +28,6 @@ mod staff;
 mod tests;
 
 pub use means::{Limits, ServeFault};
+pub use open::OpenLink;
 pub use serve::serve_loop;
 pub use service::Service;

@@ -5,7 +5,7 @@ ghost use Rattle.std.specs.VecDeque.{deque_len, deque_capacity};
 ghost use Rattle.desk.specs.Asks.{desk_id, IsSeatOf};
 ghost use Rattle.server_threads.specs.Talks.{Acts, one_if, short_of};
 ghost use Rattle.server_threads.specs.Promises.{promise_of, Due};
-ghost use Rattle.server_threads.specs.Serving.{stand, Ends, MayTake};
+ghost use Rattle.server_threads.specs.Serving.{stand, MayTake};
 ghost use Rattle.server_threads.specs.Going.{Goes, LinksServed, CameSo, ending_of, served_so};
 
 use crate::means::{Means, ServeFault};
@@ -22,75 +22,60 @@ use std::marker::PhantomData;
 use std::snapshot::Snapshot;
 use std::sync::Wait;
 use std::thread::{Scope, Threads};
-use workers::Wake;
+use workers::Bell;
 
 /// The places of links, in the order in which they came.
-pub(crate) type Places<J, L, S> = VecDeque<Place<Finished<Seat<J>, L>, ToServe<J, L, S>>>;
+pub(crate) type Places<J, L, S, B> = VecDeque<Place<Finished<Seat<J>, L>, ToServe<J, L, S, B>>>;
 
 /// The links that are being served, and how many of those before them ended for want of memory.
 #[derive(Drop)]
-pub(crate) struct Running<J: Verdicts, L: Link, S: Service<J>> {
-    pub(crate) places: Places<J, L, S>,
+pub(crate) struct Running<J: Verdicts, L: Link, S: Service<J>, B: Bell> {
+    pub(crate) places: Places<J, L, S, B>,
     pub(crate) short: u64,
 }
 
 /// The first seat and the listener as they were before the first link came.
 #[derive(Drop)]
-struct Before<J: Verdicts, N> {
+pub(crate) struct Before<J: Verdicts, N> {
     seat: Snapshot<Seat<J>>,
     net: Snapshot<N>,
 }
 
-/// Serves one link by calls of this seat, and tells its peer when the conversation is over.
-fn serve_link<J: Verdicts, L: Close, R: Wait, S: Service<J>>(
-    rt: &R,
-    alloc: Global,
-    desk: &Desk<J>,
-    wake: &Wake,
-    service: &S,
-    mut seat: Seat<J>,
-    link: L,
-) -> Finished<Seat<J>, L>
-    requires seat { IsSeatOf (desk_id desk.now) seat }
-    requires open { L.is_open link }
-    ensures { Acts J.right (λ said. S.talked (L.tells link) said (L.tells result.link) result.short) seat result.seat }
-{
-    let mut caller = Caller {
-        rt,
-        desk,
-        seat: &mut seat,
-    };
-    let (short, open) = service.serve(rt, alloc, wake, OpenLink::new(link), &mut caller);
-    let mut link = open.into_link();
-    link.close();
-    let Caller {
-        rt: _,
-        desk: _,
-        seat: _seat,
-    } = caller;
-    Finished { seat, link, short }
+impl<J: Verdicts, N> Before<J, N> {
+    /// As they are now.
+    pub(crate) fn of(seat: &Seat<J>, net: &N) -> Before<J, N>
+        ensures seat { result.seat.value ≡ seat.now }
+        ensures net { result.net.value ≡ net.now }
+    {
+        Before {
+            seat: Snapshot::of(seat),
+            net: Snapshot::of(net),
+        }
+    }
 }
 
-/// Starts a thread that serves a link by calls of this seat. Where that can't be, the link is served here.
-fn begin<
+/// Serves a link in a thread of its own, by calls of this seat, and closes it when the conversation is over, so that its peer reads the
+/// end. Where no thread can be started, it is served here.
+fn serve_link<
     's,
     E,
     J: Verdicts + Send + Sync,
     L: Close + Send + Drop + 's,
     R: Threads + Wait + Sync,
     S: Service<J> + Sync,
+    B: Bell + Sync,
 >(
     means: &Means<'s, J, R, S>,
-    wake: &'s Wake,
+    bell: &'s B,
     scope: &'s Scope<'s, E>,
     seat: Seat<J>,
     link: L,
-) -> Place<Finished<Seat<J>, L>, ToServe<J, L, S>>
+) -> Place<Finished<Seat<J>, L>, ToServe<J, L, S, B>>
     requires seat { IsSeatOf (desk_id means.now.desk.now) seat }
     requires open { L.is_open link }
     ensures seat { (promise_of result).seat.value ≡ seat }
     ensures link { (promise_of result).link.value ≡ link }
-    ensures due { Due (served_so J.right S.talked L.tells) result }
+    ensures due { Due (served_so J.right (S.talked B.rang) L.tells) result }
 {
     let Means {
         rt,
@@ -99,20 +84,29 @@ fn begin<
         service,
         ..
     } = *means;
-    let promise = ToServe {
-        seat: Snapshot::of(&seat),
-        link: Snapshot::of(&link),
-        service: PhantomData,
-    };
-    let again = ToServe {
-        seat: Snapshot::of(&seat),
-        link: Snapshot::of(&link),
-        service: PhantomData,
-    };
+    let promise = ToServe::of(&seat, &link);
+    let again = ToServe::of(&seat, &link);
     let work = move || -> Finished<Seat<J>, L>
         requires { IsSeatOf (desk_id desk.now) seat × L.is_open link }
-        ensures { Acts J.right (λ said. S.talked (L.tells link) said (L.tells result.link) result.short) seat result.seat }
-    { serve_link(rt, alloc, desk, wake, service, seat, link) };
+        ensures { Acts J.right (λ said. S.talked B.rang (L.tells link) said (L.tells result.link) result.short) seat result.seat }
+    {
+        let mut seat = seat;
+        let mut caller = Caller {
+            rt,
+            desk,
+            seat: &mut seat,
+        };
+        let open = OpenLink::new(link);
+        let (short, open) = service.serve(rt, alloc, bell, open, &mut caller);
+        let mut link = open.into_link();
+        link.close();
+        let Caller {
+            rt: _,
+            desk: _,
+            seat: _seat,
+        } = caller;
+        Finished { seat, link, short }
+    };
     match scope.spawn_with(promise, work) {
         Ok(child) => Place::Thread(child),
         Err(refused) => Place::Here((refused.value)(), again),
@@ -128,16 +122,16 @@ fn number_of(so: bool) -> u64
 }
 
 /// Joins the thread that was started first, takes its seat in, and gives its link back.
-fn join_oldest<J: Verdicts + Send + Sync, N: Listener, R: Threads, S: Service<J>>(
+fn join_oldest<J: Verdicts + Send + Sync, N: Listener, R: Threads, S: Service<J>, B: Bell>(
     means: &Means<'_, J, R, S>,
     before: &Before<J, N>,
     seat: &mut Seat<J>,
     net: &mut N,
-    running: &mut Running<J, N::Conn, S>,
+    running: &mut Running<J, N::Conn, S, B>,
 )
-    requires goes { Goes J.right S.talked N.Conn.tells N.tells means.now.limits.servers (desk_id means.now.desk.now) before.now seat.old net.old running.old }
+    requires goes { Goes J.right (S.talked B.rang) N.Conn.tells N.tells means.now before.now seat.old net.old running.old }
     requires some { 0 < deque_len running.old.places }
-    ensures goes { Goes J.right S.talked N.Conn.tells N.tells means.now.limits.servers (desk_id means.now.desk.now) before.now seat.new net.new running.new }
+    ensures goes { Goes J.right (S.talked B.rang) N.Conn.tells N.tells means.now before.now seat.new net.new running.new }
     ensures given { seat.new.me.0.given ≡ seat.old.me.0.given }
     ensures faults { (N.tells net.new).faults ≡ (N.tells net.old).faults }
     ensures one_fewer { deque_len running.new.places + 1 ≡ deque_len running.old.places }
@@ -153,17 +147,17 @@ fn join_oldest<J: Verdicts + Send + Sync, N: Listener, R: Threads, S: Service<J>
 }
 
 /// Joins the oldest thread where so many run that no other may be started.
-fn make_way<J: Verdicts + Send + Sync, N: Listener, R: Threads, S: Service<J>>(
+fn make_way<J: Verdicts + Send + Sync, N: Listener, R: Threads, S: Service<J>, B: Bell>(
     means: &Means<'_, J, R, S>,
     before: &Before<J, N>,
     seat: &mut Seat<J>,
     net: &mut N,
-    running: &mut Running<J, N::Conn, S>,
+    running: &mut Running<J, N::Conn, S, B>,
 )
-    requires goes { Goes J.right S.talked N.Conn.tells N.tells means.now.limits.servers (desk_id means.now.desk.now) before.now seat.old net.old running.old }
+    requires goes { Goes J.right (S.talked B.rang) N.Conn.tells N.tells means.now before.now seat.old net.old running.old }
     requires some { 0 < means.now.limits.servers }
     requires within { deque_len running.old.places ≤ means.now.limits.servers }
-    ensures goes { Goes J.right S.talked N.Conn.tells N.tells means.now.limits.servers (desk_id means.now.desk.now) before.now seat.new net.new running.new }
+    ensures goes { Goes J.right (S.talked B.rang) N.Conn.tells N.tells means.now before.now seat.new net.new running.new }
     ensures given { seat.new.me.0.given ≡ seat.old.me.0.given }
     ensures faults { (N.tells net.new).faults ≡ (N.tells net.old).faults }
     ensures below { deque_len running.new.places < means.now.limits.servers }
@@ -175,53 +169,54 @@ fn make_way<J: Verdicts + Send + Sync, N: Listener, R: Threads, S: Service<J>>(
 }
 
 /// Takes so many links, and has each served by a seat of its own, so many at once at most.
-fn take_links<
+pub(crate) fn take_links<
     's,
     E,
     J: Verdicts + Send + Sync,
     N: Listener,
     R: Threads + Wait + Sync,
     S: Service<J> + Sync,
+    B: Bell + Sync,
 >(
     means: &Means<'s, J, R, S>,
-    wake: &'s Wake,
+    bell: &'s B,
     scope: &'s Scope<'s, E>,
     before: &Before<J, N>,
     seat: &mut Seat<J>,
     net: &mut N,
-    running: &mut Running<J, N::Conn, S>,
+    running: &mut Running<J, N::Conn, S, B>,
 ) -> Result<(), Failed>
 where
     N::Conn: Send + Drop + 's,
-    requires goes { Goes J.right S.talked N.Conn.tells N.tells means.now.limits.servers (desk_id means.now.desk.now) before.now seat.old net.old running.old }
+    requires goes { Goes J.right (S.talked B.rang) N.Conn.tells N.tells means.now before.now seat.old net.old running.old }
     requires given { seat.old.me.0.given ≡ before.now.seat.value.me.0.given }
     requires may { MayTake means.now.limits running.old }
-    ensures goes { Goes J.right S.talked N.Conn.tells N.tells means.now.limits.servers (desk_id means.now.desk.now) before.now seat.new net.new running.new }
+    ensures goes { Goes J.right (S.talked B.rang) N.Conn.tells N.tells means.now before.now seat.new net.new running.new }
     ensures came { CameSo result means.now.limits.connections seat.old.me.0.given seat.new.me.0.given (N.tells net.old).faults (N.tells net.new).faults }
 {
     for turn in 0..means.limits.connections {
         make_way(means, before, seat, net, running);
         let link = net.accept()?;
         let theirs = means.desk.split(seat);
-        let place = begin(means, wake, scope, theirs, link);
+        let place = serve_link(means, bell, scope, theirs, link);
         running.places.push_back_reserved(place);
     }
     Ok(())
 }
 
 /// Joins all threads, the one that was started first before the others, and says how many links ended for want of memory.
-fn join_all<J: Verdicts + Send + Sync, N: Listener, R: Threads, S: Service<J>>(
+pub(crate) fn join_all<J: Verdicts + Send + Sync, N: Listener, R: Threads, S: Service<J>, B: Bell>(
     means: &Means<'_, J, R, S>,
     before: &Before<J, N>,
     seat: &mut Seat<J>,
     net: &mut N,
-    mut running: Running<J, N::Conn, S>,
+    mut running: Running<J, N::Conn, S, B>,
 ) -> u64
 where
     N::Conn: Drop,
-    requires goes { Goes J.right S.talked N.Conn.tells N.tells means.now.limits.servers (desk_id means.now.desk.now) before.now seat.old net.old running }
+    requires goes { Goes J.right (S.talked B.rang) N.Conn.tells N.tells means.now before.now seat.old net.old running }
     ensures seat { IsSeatOf (desk_id means.now.desk.now) seat.new }
-    ensures over { (o : LinksServed S.talked means.now.limits.servers (stand N.tells before.now.seat.value before.now.net.value) (stand N.tells seat.new net.new)) × (result ≡ short_of o.talks) }
+    ensures over { (o : LinksServed (S.talked B.rang) means.now.limits.servers (stand N.tells before.now.seat.value before.now.net.value) (stand N.tells seat.new net.new)) × (result ≡ short_of o.talks) }
     ensures given { seat.new.me.0.given ≡ seat.old.me.0.given }
     ensures faults { (N.tells net.new).faults ≡ (N.tells net.old).faults }
 {
@@ -232,44 +227,11 @@ where
 }
 
 /// What is answered where room was found.
-fn ending(came: Result<(), Failed>, short: u64) -> Result<u64, ServeFault>
+pub(crate) fn ending(came: Result<(), Failed>, short: u64) -> Result<u64, ServeFault>
     ensures { result ≡ ending_of came short }
 {
     match came {
         Ok(()) => Ok(short),
         Err(Failed) => Err(ServeFault::Failed),
     }
-}
-
-/// Takes so many links, has each served by a seat of its own, and gives all back.
-pub(crate) fn serve_links<
-    's,
-    E,
-    J: Verdicts + Send + Sync,
-    N: Listener,
-    R: Threads + Wait + Sync,
-    S: Service<J> + Sync,
->(
-    means: &Means<'s, J, R, S>,
-    wake: &'s Wake,
-    scope: &'s Scope<'s, E>,
-    mut seat: Seat<J>,
-    net: &mut N,
-    mut running: Running<J, N::Conn, S>,
-) -> (Seat<J>, Result<u64, ServeFault>)
-where
-    N::Conn: Send + Drop + 's,
-    requires seat { IsSeatOf (desk_id means.now.desk.now) seat }
-    requires first { seat.me.0.number ≡ 0 }
-    requires may { MayTake means.now.limits running }
-    ensures seat { IsSeatOf (desk_id means.now.desk.now) result.0 }
-    ensures served { (o : LinksServed S.talked means.now.limits.servers (stand N.tells seat net.old) (stand N.tells result.0 net.new)) × Ends result.1 means.now.limits.connections o.talks (N.tells net.old).faults (N.tells net.new).faults }
-{
-    let before = Before {
-        seat: Snapshot::of(&seat),
-        net: Snapshot::of(net),
-    };
-    let came = take_links(means, wake, scope, &before, &mut seat, net, &mut running);
-    let short = join_all(means, &before, &mut seat, net, running);
-    (seat, ending(came, short))
 }

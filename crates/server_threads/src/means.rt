@@ -12,7 +12,7 @@ use os_io::{Link, Memory};
 use std::alloc::Global;
 use std::collections::VecDeque;
 use std::sync::atomic::AtomicU64;
-use workers::Naps;
+use workers::{Naps, Wake, wake_pair};
 
 /// Serving ended before all links were served.
 #[derive(Clone, Copy, PartialEq, Eq, Debug, Drop)]
@@ -47,22 +47,31 @@ pub(crate) struct Means<'s, J: Verdicts, R, S> {
     pub(crate) limits: Limits,
 }
 
-/// Room for the links that are served at once, and for the workers.
+/// Room for the links that are served at once, and for the workers, with what wakes these.
 #[derive(Drop)]
 pub(crate) struct Room<J: Verdicts, L: Link, S: Service<J>> {
-    pub(crate) running: Running<J, L, S>,
+    pub(crate) running: Running<J, L, S, Wake>,
     pub(crate) shifts: Shifts<J, S>,
+    pub(crate) wake: Wake,
 }
 
 impl<J: Verdicts, L: Link + Drop, S: Service<J>> Room<J, L, S> {
-    /// Takes as much room as is needed.
-    pub(crate) fn new(alloc: Global, limits: &Limits) -> Result<Room<J, L, S>, Memory>
+    /// Takes as much room as is needed. What workers sleep on comes with it.
+    pub(crate) fn new(alloc: Global, limits: &Limits) -> Result<(Room<J, L, S>, Naps), Memory>
         requires { 0 < limits.now.servers }
-        ensures { IfOk result (λ room. MayServe limits.now room) }
+        ensures { IfOk result (λ r. MayServe limits.now r.0) }
     {
         let places = VecDeque::with_capacity(alloc, limits.servers as usize)?;
         let shifts = VecDeque::with_capacity(alloc, limits.workers as usize)?;
+        let (wake, naps) = wake_pair(alloc)?;
         let running = Running { places, short: 0 };
-        Ok(Room { running, shifts })
+        Ok((
+            Room {
+                running,
+                shifts,
+                wake,
+            },
+            naps,
+        ))
     }
 }

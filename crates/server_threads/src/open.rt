@@ -1,25 +1,28 @@
 //! A link that is served while it is open.
+//!
+//! Whoever serves a link is handed an [`OpenLink`]. Only [`OpenLink::new`] makes one, of a link of which it is known that it is open:
+//! that it came from a listener, and that nobody closed it ([`os_io::Close`]). So a link that may be closed already can't be served.
 
 ghost use Rattle.std.specs.Prelude.{◌≡◌};
 
 use os_io::{Close, Failed, Link, Sink, Source, Stream};
 
-/// A link that was open when it came here. Whoever has it can't close it, and a link that was closed doesn't come here.
+/// A link that is open. It is a link itself, to be read and written, but whoever has it can't close it.
 #[derive(Drop)]
-pub(crate) struct OpenLink<L> {
+pub struct OpenLink<L> {
     link: L,
 }
 
 impl<L: Close> OpenLink<L> {
     /// This link, which is open.
-    pub(crate) fn new(link: L) -> OpenLink<L>
+    pub fn new(link: L) -> OpenLink<L>
         requires { L.is_open link }
         ensures { ⟦<OpenLink<L> as Stream>⟧.tells result ≡ L.tells link }
     {
         OpenLink { link }
     }
 
-    /// The link itself, which may be closed.
+    /// The link itself, to be closed and given back.
     pub(crate) fn into_link(self) -> L
         ensures { L.tells result ≡ ⟦<OpenLink<L> as Stream>⟧.tells self }
     {

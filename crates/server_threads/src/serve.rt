@@ -1,12 +1,12 @@
 //! Links are served beside workers.
 
-ghost use Rattle.std.specs.Prelude.{◌≡◌, ◌<◌, List};
+ghost use Rattle.std.specs.Prelude.{◌≡◌, ◌<◌};
 ghost use Rattle.desk.specs.Asks.{desk_id, IsSeatOf};
-ghost use Rattle.server_threads.specs.Talks.{Talk};
-ghost use Rattle.server_threads.specs.Serving.{stand, Serves, Ends, MayTake};
-ghost use Rattle.server_threads.specs.Going.{LinksServed, MayServe};
+ghost use Rattle.workers.specs.Bells.{Untold};
+ghost use Rattle.server_threads.specs.Serving.{HasServed, MayTake};
+ghost use Rattle.server_threads.specs.Going.{HasServedLinks, MayServe};
 
-use crate::links::serve_links;
+use crate::links::{Before, ending, join_all, take_links};
 use crate::means::{Limits, Means, Room, ServeFault};
 use crate::service::Service;
 use crate::staff::{relieve, staff};
@@ -19,7 +19,6 @@ use std::sync::Wait;
 use std::sync::atomic::AtomicU64;
 use std::thread;
 use std::thread::{Scope, Threads};
-use workers::{Wake, wake_pair};
 
 /// The workers come, the links are served in a scope of their own, and the workers finish what waits and leave.
 fn serve_beside<
@@ -31,7 +30,6 @@ fn serve_beside<
     S: Service<J> + Sync,
 >(
     means: &Means<'s, J, R, S>,
-    wake: Wake,
     scope: &'s Scope<'s, E>,
     mut seat: Seat<J>,
     net: &mut N,
@@ -43,24 +41,28 @@ where
     requires first { seat.me.0.number ≡ 0 }
     requires room { MayServe means.now.limits room }
     ensures seat { IsSeatOf (desk_id means.now.desk.now) result.0 }
-    ensures served { (talks : List Talk) × Serves S.ran S.talked means.now.limits.servers means.now.limits.workers (stand N.tells seat net.old) (stand N.tells result.0 net.new) talks × Ends result.1 means.now.limits.connections talks (N.tells net.old).faults (N.tells net.new).faults }
+    ensures served { HasServed S.ran (S.talked Untold) N.tells means.now.limits seat result.0 net.old net.new result.1 }
 {
     let Room {
         running,
         mut shifts,
+        wake,
     } = room;
     let was = Snapshot::of(&seat);
     staff(means, scope, &mut seat, &mut shifts);
-    let ringing = &wake;
+    let bell = &wake;
     let (mut seat, net, served) = thread::scope(
         thread::scope_env(),
         means.rt,
         move |scope| -> (Seat<J>, &mut N, Result<u64, ServeFault>)
             requires { IsSeatOf (desk_id means.now.desk.now) seat × (seat.me.0.number ≡ 0) × MayTake means.now.limits running }
-            ensures { (result.1.ghost_name ≡ net.entry.ghost_name) × IsSeatOf (desk_id means.entry.now.desk.now) result.0 × ((o : LinksServed S.talked means.entry.now.limits.servers (stand N.tells seat net.entry.now) (stand N.tells result.0 result.1.now)) × Ends result.2 means.entry.now.limits.connections o.talks (N.tells net.entry.now).faults (N.tells result.1.now).faults) }
+            ensures { (result.1.ghost_name ≡ net.entry.ghost_name) × IsSeatOf (desk_id means.entry.now.desk.now) result.0 × HasServedLinks (S.talked Untold) N.tells means.entry.now.limits seat result.0 net.entry.now result.1.now result.2 }
         {
-            let (seat, served) = serve_links(means, ringing, scope, seat, net, running);
-            (seat, net, served)
+            let (mut first, mut running) = (seat, running);
+            let before = Before::of(&first, net);
+            let came = take_links(means, bell, scope, &before, &mut first, net, &mut running);
+            let short = join_all(means, &before, &mut first, net, running);
+            (first, net, ending(came, short))
         },
     );
     let _net = net;
@@ -96,12 +98,9 @@ where
     requires first { seat.me.0.number ≡ 0 }
     requires some { 0 < limits.servers }
     ensures seat { IsSeatOf (desk_id desk.now) result.0 }
-    ensures served { (talks : List Talk) × Serves S.ran S.talked limits.servers limits.workers (stand N.tells seat net.old) (stand N.tells result.0 net.new) talks × Ends result.1 limits.connections talks (N.tells net.old).faults (N.tells net.new).faults }
+    ensures served { HasServed S.ran (S.talked Untold) N.tells limits seat result.0 net.old net.new result.1 }
 {
-    let Ok(room) = Room::new(alloc, &limits) else {
-        return (seat, Err(ServeFault::Memory));
-    };
-    let Ok((wake, naps)) = wake_pair(alloc) else {
+    let Ok((room, naps)) = Room::new(alloc, &limits) else {
         return (seat, Err(ServeFault::Memory));
     };
     let missing = AtomicU64::new(u64::MAX);
@@ -120,9 +119,9 @@ where
         rt,
         move |scope| -> (Seat<J>, &mut N, Result<u64, ServeFault>)
             requires { IsSeatOf (desk_id means.now.desk.now) seat × (seat.me.0.number ≡ 0) × MayServe means.now.limits room }
-            ensures { (result.1.ghost_name ≡ lent.entry.ghost_name) × IsSeatOf (desk_id means.entry.now.desk.now) result.0 × ((talks : List Talk) × Serves S.ran S.talked means.entry.now.limits.servers means.entry.now.limits.workers (stand N.tells seat lent.entry.now) (stand N.tells result.0 result.1.now) talks × Ends result.2 means.entry.now.limits.connections talks (N.tells lent.entry.now).faults (N.tells result.1.now).faults) }
+            ensures { (result.1.ghost_name ≡ lent.entry.ghost_name) × IsSeatOf (desk_id means.entry.now.desk.now) result.0 × HasServed S.ran (S.talked Untold) N.tells means.entry.now.limits seat result.0 lent.entry.now result.1.now result.2 }
         {
-            let (seat, served) = serve_beside(means, wake, scope, seat, lent, room);
+            let (seat, served) = serve_beside(means, scope, seat, lent, room);
             (seat, lent, served)
         },
     );

@@ -1,12 +1,12 @@
-use crate::{Limits, Service, serve_loop};
+use crate::{Limits, OpenLink, Service, serve_loop};
 use desk::Desk;
 use job_runs::Runner;
 use job_table::{Calls, SharedText, Verdicts};
-use os_io::{Link, MemLink, MemListener, Watch};
+use os_io::{Close, MemLink, MemListener, Watch};
 use std::alloc::Global;
 use std::sync::Wait;
 use std::test::Fail;
-use workers::Wake;
+use workers::Bell;
 
 /// Any document is right.
 struct AnyDocument;
@@ -36,16 +36,16 @@ impl Runner<AnyDocument> for OneNumber {
 }
 
 impl Service<AnyDocument> for OneNumber {
-    ghost talked = { λ _ _ _ _. Unit {0} };
+    ghost talked = { λ _ _ _ _ _. Unit {0} };
 
-    fn serve<L: Link, C: Calls<AnyDocument>, R: Wait>(
+    fn serve<L: Close, C: Calls<AnyDocument>, R: Wait, B: Bell>(
         &self,
         _rt: &R,
         _alloc: Global,
-        _wake: &Wake,
-        link: L,
+        _bell: &B,
+        link: OpenLink<L>,
         calls: &mut C,
-    ) -> (bool, L) {
+    ) -> (bool, OpenLink<L>) {
         match calls.issue() {
             Ok(_) => (false, link),
             Err(_) => (true, link),

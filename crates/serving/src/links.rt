@@ -5,18 +5,18 @@ ghost use Rattle.serving.specs.Serving.{lacks_memory};
 use job_runs::Runner;
 use job_solver::{SolvedJobs, Solver};
 use job_table::{Calls, SharedText};
-use os_io::{Link, Watch};
+use os_io::{Close, Watch};
 use os_server::{Served, Server, serve_one};
-use server_threads::Service;
+use server_threads::{OpenLink, Service};
 use std::alloc::Global;
 use std::sync::Wait;
-use workers::Wake;
+use workers::Bell;
 
-/// Rings for the workers.
+/// A bell, with what ringing it may wait by.
 #[derive(Drop)]
-struct Bell<'a, R> {
+struct Ringing<'a, R, B> {
     rt: &'a R,
-    wake: &'a Wake,
+    bell: &'a B,
 }
 
 /// Serves links by what is asked on them, and runs jobs by what solves them. While it serves a link, it has a bell.
@@ -39,9 +39,9 @@ impl<B> Runner<SolvedJobs> for LinkServer<B> {
     }
 }
 
-impl<'a, R: Wait> Server<SolvedJobs> for LinkServer<Bell<'a, R>> {
+impl<'a, R: Wait, B: Bell> Server<SolvedJobs> for LinkServer<Ringing<'a, R, B>> {
     fn wake(&self) -> bool {
-        self.0.wake.ring(self.0.rt).is_ok()
+        self.0.bell.ring(self.0.rt)
     }
 }
 
@@ -58,17 +58,17 @@ fn lacks_memory(served: Served) -> bool
 impl Service<SolvedJobs> for LinkServer<()> {
     ghost use Rattle.serving.specs.Serving.{Converses};
 
-    ghost talked = { Converses };
+    ghost talked = { λ _. Converses };
 
-    fn serve<L: Link, C: Calls<SolvedJobs>, R: Wait>(
+    fn serve<L: Close, C: Calls<SolvedJobs>, R: Wait, B: Bell>(
         &self,
         rt: &R,
         alloc: Global,
-        wake: &Wake,
-        link: L,
+        bell: &B,
+        link: OpenLink<L>,
         calls: &mut C,
-    ) -> (bool, L) {
-        let ringing = LinkServer(Bell { rt, wake });
+    ) -> (bool, OpenLink<L>) {
+        let ringing = LinkServer(Ringing { rt, bell });
         let (served, link) = serve_one(alloc, link, calls, &ringing);
         (lacks_memory(served), link)
     }

@@ -3,7 +3,8 @@
 //! [`work_one`] claims one job that waits, runs it and finishes it, by calls of one seat; [`work_loop`] does so until there is
 //! nothing to wait for. Each says of the seat's calls that they are these and no others (`job_runs::Works`, [`WorksThrough`]).
 //! A worker sleeps between jobs: [`wake_pair`] makes the two ends of a channel of empty tokens, [`Wake`] rings and [`Naps`]
-//! waits. A token tells nothing; that it comes, and when, is said by no contract.
+//! waits. A token tells nothing; that it comes, and when, is said by no contract. Whether one was sent is known by the answer of a
+//! ring alone ([`Bell`]).
 //!
 //! [`work_closing_shift`] is the shift of whoever closes the desk, who doesn't sleep: behind it no job waits.
 //!
@@ -19,5 +20,5 @@ mod work;
 
 pub use closing_shift::work_closing_shift;
 pub use gate::{DeskWatch, Gate, Gated, OpenGate};
-pub use wake::{Naps, Wake, wake_pair};
+pub use wake::{Bell, Naps, Wake, wake_pair};
 pub use work::{work_loop, work_one};

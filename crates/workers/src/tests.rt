@@ -1,6 +1,6 @@
 ghost use Rattle.desk.specs.Asks.{desk_id, IsSeatOf};
 
-use crate::{Gate, OpenGate, Wake, wake_pair, work_loop, work_one};
+use crate::{Bell, Gate, OpenGate, Wake, wake_pair, work_loop, work_one};
 use desk::{Desk, Seat};
 use job_runs::Runner;
 use job_table::moves::{Issue, Retrieve, Send};
@@ -85,7 +85,11 @@ fn queue<R: Wait>(
         return Err(AllocError);
     }
     desk.ask(rt, seat, call);
-    wake.ring(rt)
+    if wake.ring(rt) {
+        Ok(())
+    } else {
+        Err(AllocError)
+    }
 }
 
 /// Something that threads may share.
@@ -114,5 +118,14 @@ fn workers_run_what_waits_and_leave_at_the_end(rt: HostRuntime) -> Result<(), Fa
     );
     let shown = desk.ask(&rt, &mut seat, Retrieve { number: 2 })?;
     assert!(rt; matches!(shown, Retrieved::Finished(Some(_))));
+    Ok(())
+}
+
+#[test]
+fn bell_that_nobody_can_hear_says_so(rt: HostRuntime) -> Result<(), Fail> {
+    let (wake, naps) = wake_pair(rt.alloc())?;
+    assert!(rt; wake.ring(&rt));
+    drop(naps);
+    assert!(rt; !wake.ring(&rt));
     Ok(())
 }

@@ -1,12 +1,11 @@
 use Rattle.std.proofs.Common.{◌≡◌}
 use Rattle.std.specs.VecDeque.{deque_len}
-use Rattle.desk.specs.Asks.{desk_id}
 use Rattle.server_threads.specs.Going.{Goes}
 use Rattle.server_threads.proofs.links.join_all.Given as goal
 
 abbrev pub invariant-loop-seat : goal.invariant-loop-seat
 invariant-loop-seat g l = record {
-  goes : Goes g.J.Verdicts.right g.S.Service.talked g.N.Conn.Stream.tells g.N.Listener.tells l.means.limits.servers (desk_id l.means.desk.now) l.before l.seat l.net l.running;
+  goes : Goes g.J.Verdicts.right (g.S.Service.talked g.B.Bell.rang) g.N.Conn.Stream.tells g.N.Listener.tells l.means l.before l.seat l.net l.running;
   given : l.seat.me.0.given ≡ l.fn.seat.me.0.given;
   faults : (g.N.Listener.tells l.net).faults ≡ (g.N.Listener.tells l.fn.net).faults;
 }

@@ -1,12 +1,11 @@
 use Rattle.std.proofs.Common.{◌≡◌, ◌+◌, ◌≤◌}
 use Rattle.std.specs.VecDeque.{deque_len, deque_capacity}
-use Rattle.desk.specs.Asks.{desk_id}
 use Rattle.server_threads.specs.Going.{Goes}
 use Rattle.server_threads.proofs.links.take_links.Given as goal
 
 abbrev pub invariant-loop-turn : goal.invariant-loop-turn
 invariant-loop-turn g l = record {
-  goes : Goes g.J.Verdicts.right g.S.Service.talked g.N.Conn.Stream.tells g.N.Listener.tells l.means.limits.servers (desk_id l.means.desk.now) l.before l.seat l.net l.running;
+  goes : Goes g.J.Verdicts.right (g.S.Service.talked g.B.Bell.rang) g.N.Conn.Stream.tells g.N.Listener.tells l.means l.before l.seat l.net l.running;
   given : l.seat.me.0.given ≡ l.before.seat.value.me.0.given + l.turn;
   within : deque_len l.running.places ≤ l.means.limits.servers;
   room : l.means.limits.servers ≤ deque_capacity l.running.places;

@@ -4,6 +4,3 @@ use Rattle.server_threads.proofs.serve.serve_loop.Goals as goal
 
 pub returns-in_default-clause-served : goal.returns-in_default-clause-served
 returns-in_default-clause-served g c = ([], serves_none _ _ _ _ _, (refl, refl))
-
-pub returns-in_default-wake_pair-clause-served : goal.returns-in_default-wake_pair-clause-served
-returns-in_default-wake_pair-clause-served g c = ([], serves_none _ _ _ _ _, (refl, refl))
