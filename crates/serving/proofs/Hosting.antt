@@ -1,7 +1,7 @@
 -- What a desk's history is behind the serving of links.
 use mathlib.Core.Option.{some, some-injective, some-ne-none}
 use lib.ListN.{get_elem?}
-use Rattle.std.proofs.Common.{◌≡◌, ◌≢◌, ℕ, zero, suc, ◌+◌, eqb, eq-eqb, eqb-true, Bool, true, false, length, List, [], ◌∷◌, ◌++◌, map, Option, None, Some, refl, sym, ◌∙◌, ap, subst, inl, inr, ⊎_elim, append-nil, arith}
+use Rattle.std.proofs.Common.{◌≡◌, ◌≢◌, ℕ, zero, suc, ◌+◌, eqb, eq-eqb, eqb-true, Bool, true, false, length, List, [], ◌∷◌, ◌++◌, map, Option, None, Some, Result, refl, sym, ◌∙◌, ap, subst, inl, inr, ⊎_elim, append-nil, arith}
 use Rattle.std.specs.Prelude.{◌⊎◌, All}
 use Rattle.std.proofs.lemmas.List.Elements.{All-nil, All-cons, All-append, All-head, All-tail}
 use Rattle.os_io.specs.Streams.{Tells}
@@ -25,6 +25,7 @@ use Rattle.desk.proofs.WholeHistory.{calls_by_one, calls_then, whole_history}
 use Rattle.job_runs.proofs.Histories.{runs_split}
 use Rattle.workers.specs.Shifts.{WorksThrough}
 use Rattle.workers.proofs.Shifts.{shift_leaves_none}
+use Rattle.server_threads.specs.declared.means.ServeFault.{ServeFault}
 use Rattle.server_threads.specs.Talks.{Talk, Shift, talk_met, shift_met, Came, GivenBack, AllTalked, IsShift, AllWorked}
 use Rattle.server_threads.specs.Serving as threads
 use Rattle.server_threads.specs.Serving.{AtOnce}
@@ -32,7 +33,7 @@ use Rattle.solve_run.specs.Right.{Right}
 use Rattle.job_solver.specs.Runs.{Makes}
 use Rattle.job_solver.specs.Proved.{ShownAreProved}
 use Rattle.os_server.proofs.Pieces.{talk_so}
-use Rattle.serving.specs.Serving.{Converses, callers, IsHistory, Hosts, numbers_given}
+use Rattle.serving.specs.Serving.{Converses, callers, WorksLast, IsHistory, Hosts, numbers_given}
 use Rattle.serving.proofs.Hands.{IsOrderly}
 use Rattle.serving.proofs.Beside.{kept_beside}
 use Rattle.serving.proofs.Orderly.{IsNeat, neat, shift_neat}
@@ -120,9 +121,9 @@ at_once_grown servers log more talks at j t there =
 module _ (first : FirstFinishIsKept Right) (numbers : NumbersAreGivenOnce Right) (shown_proved : ShownAreProved) where
   history_of : (servers : ℕ) (links : List Talk) (staff : List Shift) (closer : Shift) (log : List Entry) (table : Register) → LeadsTo Right log table
       → AllWorked Makes 0 (closer ∷ staff) → AllTalked Converses (1 + length staff) links → All (λ m. calls_by m.seat log ≡ m.calls) (callers links (closer ∷ staff))
-      → ((n : ℕ) → All (λ m. m.seat ≢ n) (callers links (closer ∷ staff)) → calls_by n log ≡ []) → AtOnce servers log links → waiting_jobs table.jobs ≡ 0
-      → IsHistory servers links staff closer log
-  history_of servers links staff closer log table leads worked talked made no_others at_once none_waits =
+      → ((n : ℕ) → All (λ m. m.seat ≢ n) (callers links (closer ∷ staff)) → calls_by n log ≡ []) → WorksLast closer log → AtOnce servers log links
+      → waiting_jobs table.jobs ≡ 0 → IsHistory servers links staff closer log
+  history_of servers links staff closer log table leads worked talked made no_others last at_once none_waits =
       let found : (n : ℕ) → Sits (λ m. calls_by m.seat log ≡ m.calls) IsOrderlyMet n (callers links (closer ∷ staff)) → IsOrderly None (calls (calls_by n log)) =
       λ n sat. ⊎_elim (λ m. subst (λ (k : ℕ). IsOrderly None (calls (calls_by k log))) m.3 (subst (λ (es : List Entry). IsOrderly None (calls es)) (sym m.1) m.2))
       (λ none. subst (λ (es : List Entry). IsOrderly None (calls es)) (sym (no_others n none)) tt) sat in
@@ -135,6 +136,7 @@ module _ (first : FirstFinishIsKept Right) (numbers : NumbersAreGivenOnce Right)
         talked = talked;
         made = made;
         no_others = no_others;
+        closes = inr last;
         at_once = at_once;
         kept = kept_beside Right numbers first log table leads
             (λ n. found n (sits (λ m. calls_by m.seat log ≡ m.calls) IsOrderlyMet n (callers links (closer ∷ staff)) made orderly));
@@ -143,7 +145,7 @@ module _ (first : FirstFinishIsKept Right) (numbers : NumbersAreGivenOnce Right)
       }
 
   -- links that were served by calls of a new desk, whose first seat worked off what waited then and closed it
-  pub hosts_of : (E : List Talk → List Entry → Type 0) (workers servers : ℕ) (old new : NetTells) (v w last : View) (links : List Talk) (own : List Said)
+  hosts_of : (E : List Talk → List Entry → Type 0) (workers servers : ℕ) (old new : NetTells) (v w last : View) (links : List Talk) (own : List Said)
       (table : Register) → (s : threads.Serves Makes Converses servers workers (stood v old) (stood w new) links) → v ≡ first_view → calls_by w.number w.seen ≡ w.mine
       → HasMet w.seen w.met → (asked : Asked Right w last own) → WorksThrough Makes own → (c : Closes Right last table) → E links c.log
       → Hosts E workers servers old new
@@ -174,14 +176,20 @@ module _ (first : FirstFinishIsKept Right) (numbers : NumbersAreGivenOnce Right)
             (subst (λ (ms : List Met). All (λ m. calls_by m.seat c.log ≡ m.calls) ms) met (all_by_place (λ m. calls_by m.seat c.log ≡ m.calls) last.met c.met)))
             (λ n none. let (other, rest) = all_without (λ m. m.seat ≢ n) (shift_met closer) talks shifts none in
             c.no_others n (λ same. other (sym same)) (place_of_all (λ m. m.seat ≢ n) last.met (subst (λ (ms : List Met). All (λ m. m.seat ≢ n) ms) (sym met) rest)))
+            (record { others = w.seen; worked = works; none = subst (λ (n : ℕ). calls_by n w.seen ≡ []) number (stand ∙ before); last = whole })
             (subst (λ (es : List Entry). AtOnce servers es links) (sym whole) (at_once_grown servers w.seen (by 0 own) links s.at_once))
             (shift_leaves_none Makes Right mid table own works shift);
         ends = ends;
       }
 
--- how many numbers the table gave that was closed
-pub closed_count : (v : View) (table : Register) (c : Closes Right v table) → table.issued ≡ numbers_given (calls c.log)
-closed_count v table c = all_counted Right table (calls c.log) c.leads
+  -- the same of what serving answered, and of how many numbers the table gave that was closed
+  pub hosted : (workers servers connections given : ℕ) (served : Result ℕ ServeFault) (old new : NetTells) (v w last : View) (own : List Said) (table : Register)
+      → (o : (links : List Talk) × threads.Serves Makes Converses servers workers (stood v old) (stood w new) links × threads.Ends served connections links old.faults new.faults) → v ≡ first_view → calls_by w.number w.seen ≡ w.mine
+      → HasMet w.seen w.met → Asked Right w last own → WorksThrough Makes own → Closes Right last table → given ≡ table.issued
+      → Hosts (λ links log. (given ≡ numbers_given (calls log)) × threads.Ends served connections links old.faults new.faults) workers servers old new
+  hosted workers servers connections given served old new v w last own table o fresh stand known asked works c is =
+      hosts_of (λ links log. (given ≡ numbers_given (calls log)) × threads.Ends served connections links old.faults new.faults) workers servers old new v w last o.0 own table o.1
+      fresh stand known asked works c (is ∙ all_counted Right table (calls c.log) c.leads, o.2)
 
 -- ---- where no link came
 
@@ -201,6 +209,7 @@ no_history servers = record {
   talked = tt;
   made = All-cons (λ m. calls_by m.seat [] ≡ m.calls) (shift_met no_closer) [] refl (All-nil (λ m. calls_by m.seat [] ≡ m.calls));
   no_others = λ n none. refl;
+  closes = inl refl;
   at_once = λ j t there. absurd (some-ne-none t (sym there));
   kept = All-nil IsKept;
   proved = λ n document before after are. absurd (not_nil before after (entry (Retrieve n) (reply.Retrieved (shown.Finished (Some document)))) are);

@@ -1,5 +1,5 @@
 -- A server, from `listen` on: the links that came, the one history of the calls of the table of jobs, and the lines that were written.
-use Rattle.std.specs.Prelude.{◌≡◌, ◌≢◌, ℕ, ◌+◌, ◌<◌, ◌≤◌, Bool, true, false, List, [], ◌∷◌, ◌++◌, length, map, count_by, All, Some}
+use Rattle.std.specs.Prelude.{◌≡◌, ◌≢◌, ◌⊎◌, ℕ, ◌+◌, ◌<◌, ◌≤◌, Bool, true, false, List, [], ◌∷◌, ◌++◌, length, map, count_by, All, Some}
 use Rattle.os_io.specs.Streams.{Tells, HasRisen}
 use Rattle.os_io.specs.Links.{NetTells, ListenedAt, IsReached}
 use Rattle.job_table.specs.declared.calls.Call.{Call}
@@ -11,7 +11,8 @@ use Rattle.job_table.specs.History.{Entry as Said}
 use Rattle.job_runs.specs.Laws.{AreKept}
 use Rattle.desk.specs.declared.view.Entry.{Entry}
 use Rattle.desk.specs.declared.view.Met.{Met}
-use Rattle.desk.specs.History.{LeadsTo, calls, calls_by}
+use Rattle.desk.specs.History.{LeadsTo, calls, calls_by, by}
+use Rattle.workers.specs.Shifts.{WorksThrough}
 use Rattle.server_threads.specs.declared.means.ServeFault.{ServeFault}
 use Rattle.server_threads.specs.declared.means.ServeFault.TheVariants.{Failed, Memory}
 use Rattle.server_threads.specs.Talks.{Talk, Shift, talk_met, shift_met, short_of, Came, GivenBack, AllTalked, AllWorked}
@@ -47,10 +48,18 @@ Converses came said back short =
 abbrev pub callers : List Talk → List Shift → List Met
 callers links staff = map talk_met links ++ map shift_met staff
 
+-- whoever closes the table worked a whole shift, and its calls stand last: before them stand the calls of others alone
+pub record WorksLast (closer : Shift) (log : List Entry) : Type 0 where
+  pub others : List Entry
+  pub worked : WorksThrough Makes closer.said
+  pub none : calls_by closer.seat others ≡ []
+  pub last : log ≡ others ++ by closer.seat closer.said
+
 -- one history of calls of the table, step by step from the empty one. The workers have the numbers from 1 on, and their calls are those of
 -- their shifts; the links have the next ones, in the order in which they came, and their calls are those of their conversations. Whoever
--- closes the table is one worker more, with the number 0. Under the number of each stand its calls, in their order, and nobody else has any. At most so
--- many links are served at once. Every finish is kept, every document that is shown is proved, and at the end no job waits
+-- closes the table is one worker more, with the number 0, whose shift stands last; or no table was opened, and there are no calls. Under the number
+-- of each stand its calls, in their order, and nobody else has any. At most so many links are served at once. Every finish is kept, every document
+-- that is shown is proved, and at the end no job waits
 pub record IsHistory (servers : ℕ) (links : List Talk) (staff : List Shift) (closer : Shift) (log : List Entry) : Type 0 where
   pub table : Register
   pub runs : LeadsTo Right log table
@@ -58,6 +67,7 @@ pub record IsHistory (servers : ℕ) (links : List Talk) (staff : List Shift) (c
   pub talked : AllTalked Converses (1 + length staff) links
   pub made : All (λ m. calls_by m.seat log ≡ m.calls) (callers links (closer ∷ staff))
   pub no_others : (n : ℕ) → All (λ m. m.seat ≢ n) (callers links (closer ∷ staff)) → calls_by n log ≡ []
+  pub closes : (log ≡ []) ⊎ WorksLast closer log
   pub at_once : AtOnce servers log links
   pub kept : AreKept (calls log)
   pub proved : AreProved (calls log)

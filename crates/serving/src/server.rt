@@ -1,16 +1,12 @@
 //! A server, from `listen` to its last line.
 ghost use Rattle.std.specs.Prelude.{◌≡◌, ◌<◌, nat_eq};
 ghost use Rattle.os_io.specs.Streams.{SameInput};
-ghost use Rattle.desk.specs.Rule.{first_view};
-ghost use Rattle.desk.specs.Asks.{desk_id, IsSeatOf};
-ghost use Rattle.desk.specs.History.{calls};
-ghost use Rattle.server_threads.specs.Serving.{Ends};
-ghost use Rattle.serving.specs.Serving.{numbers_given, Hosts, done_if, ending_of, IsServerRun};
+ghost use Rattle.serving.specs.Serving.{done_if, ending_of, IsServerRun};
 
 use crate::ending::Ending;
 use crate::lines::{tell_jobs, tell_listening};
 use crate::links::LinkServer;
-use desk::{Desk, Seat};
+use desk::Desk;
 use job_solver::{SolvedJobs, Solver, shown_documents_are_proved};
 use job_table::{first_finish_is_kept, numbers_are_given_once};
 use os_io::{Failed, Listener, Sink};
@@ -19,32 +15,6 @@ use std::alloc::Global;
 use std::sync::Wait;
 use std::thread::Threads;
 use workers::work_closing_shift;
-
-/// Serves so many links that come by calls of this desk, works off what waits then, and closes it. How many numbers of jobs were given
-/// comes first.
-fn host_links<N: Listener, R: Threads + Wait + Sync>(
-    rt: &R,
-    alloc: Global,
-    desk: Desk<SolvedJobs>,
-    seat: Seat<SolvedJobs>,
-    net: &mut N,
-    limits: Limits,
-) -> (u64, Result<u64, ServeFault>)
-where
-    N::Conn: Send + Drop,
-    requires seat { IsSeatOf (desk_id desk) seat }
-    requires fresh { seat.me.0 ≡ first_view }
-    requires some { 0 < limits.servers }
-    ensures hosts { Hosts (λ links log. (result.0 ≡ numbers_given (calls log)) × Ends result.1 limits.connections links (N.tells net.old).faults (N.tells net.new).faults) limits.workers limits.servers (N.tells net.old) (N.tells net.new) }
-    ensures reached { (N.tells net.new).reached ≡ (N.tells net.old).reached }
-{
-    first_finish_is_kept::<SolvedJobs>();
-    numbers_are_given_once::<SolvedJobs>();
-    shown_documents_are_proved();
-    let (mut seat, served) = serve_loop(rt, alloc, &desk, seat, net, &LinkServer(()), limits);
-    work_closing_shift(rt, alloc, &desk, &mut seat, &Solver);
-    (desk.close(seat).issued(), served)
-}
 
 /// How serving ended whose links all came and whose lines were written, so many links ending for want of memory.
 fn all_told(short: u64) -> Ending
@@ -97,7 +67,12 @@ where
     let Ok((desk, seat)) = Desk::<SolvedJobs>::new(alloc) else {
         return Ending::NoMemory;
     };
-    let (given, served) = host_links(rt, alloc, desk, seat, net, limits);
+    first_finish_is_kept::<SolvedJobs>();
+    numbers_are_given_once::<SolvedJobs>();
+    shown_documents_are_proved();
+    let (mut seat, served) = serve_loop(rt, alloc, &desk, seat, net, &LinkServer(()), limits);
+    work_closing_shift(rt, alloc, &desk, &mut seat, &Solver);
+    let given = desk.close(seat).issued();
     match served {
         Ok(short) => match tell_jobs(output, given) {
             Ok(()) => all_told(short),
