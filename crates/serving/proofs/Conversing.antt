@@ -8,7 +8,7 @@ use Rattle.os_server.proofs.Rounds.{serves_so}
 use Rattle.job_solver.specs.Runs.{Makes}
 use Rattle.serving.specs.Serving.{lacks_memory, Converses}
 
-pub converses : (did : List Entry → Type 0) (end : Served) (came back : Tells) (short : Bool) → short ≡ lacks_memory end → Serves Makes did end came back
-    → (own : List Entry) × did own × Converses came own back short
-converses did end came back short is s =
-    (s.part.entries, s.calls, (end, serves_so Makes did (λ made. made ≡ s.part.entries) end came back s refl, is))
+pub converses : (rang : Bool → Type 0) (did : List Entry → Type 0) (end : Served) (came back : Tells) (short : Bool) → short ≡ lacks_memory end → Serves Makes rang did end came back
+    → (own : List Entry) × did own × Converses rang came own back short
+converses rang did end came back short is s =
+    (s.part.entries, s.calls, (end, serves_so Makes rang did (λ made. made ≡ s.part.entries) end came back s refl, is))

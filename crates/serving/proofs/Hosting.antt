@@ -24,6 +24,7 @@ use Rattle.desk.proofs.Histories.{starts_grown}
 use Rattle.desk.proofs.WholeHistory.{calls_by_one, calls_then, whole_history}
 use Rattle.job_runs.proofs.Histories.{runs_split}
 use Rattle.workers.specs.Shifts.{WorksThrough}
+use Rattle.workers.specs.Bells.{Untold}
 use Rattle.workers.proofs.Shifts.{shift_leaves_none}
 use Rattle.server_threads.specs.declared.means.ServeFault.{ServeFault}
 use Rattle.server_threads.specs.Talks.{Talk, Shift, talk_met, shift_met, Came, GivenBack, AllTalked, IsShift, AllWorked}
@@ -76,14 +77,14 @@ IsOrderlyMet m = IsOrderly None (calls m.calls)
 neat_met : (n : ℕ) (said : List Said) → IsNeat said → IsOrderly None (calls (by n said))
 neat_met n said is = subst (λ (es : List Said). IsOrderly None es) (sym (calls_by_one n said)) is.0
 
-conversation_neat : (came back : Tells) (said : List Said) (short : Bool) → Converses came said back short → IsNeat said
-conversation_neat came back said short (end, s, is) = subst IsNeat s.calls (talk_so Makes IsNeat (neat Makes) end _ s.part s.talk)
+conversation_neat : (came back : Tells) (said : List Said) (short : Bool) → Converses Untold came said back short → IsNeat said
+conversation_neat came back said short (end, s, is) = subst IsNeat s.calls (talk_so Makes IsNeat (neat Makes) Untold end _ s.part s.talk)
 
 shift_so : (said : List Said) → IsShift Makes said → IsNeat said
 shift_so said (inl none) = subst IsNeat (sym none) (tt, refl)
 shift_so said (inr works) = shift_neat Makes said works
 
-talks_orderly : (n : ℕ) (links : List Talk) → AllTalked Converses n links → All IsOrderlyMet (map talk_met links)
+talks_orderly : (n : ℕ) (links : List Talk) → AllTalked (Converses Untold) n links → All IsOrderlyMet (map talk_met links)
 talks_orderly n [] all = All-nil IsOrderlyMet
 talks_orderly n (t ∷ ts) all =
     All-cons IsOrderlyMet (talk_met t) (map talk_met ts) (neat_met t.seat t.said (conversation_neat t.came t.back t.said t.short all.1)) (talks_orderly (n + 1) ts all.2)
@@ -120,7 +121,7 @@ at_once_grown servers log more talks at j t there =
 
 module _ (first : FirstFinishIsKept Right) (numbers : NumbersAreGivenOnce Right) (shown_proved : ShownAreProved) where
   history_of : (servers : ℕ) (links : List Talk) (staff : List Shift) (closer : Shift) (log : List Entry) (table : Register) → LeadsTo Right log table
-      → AllWorked Makes 0 (closer ∷ staff) → AllTalked Converses (1 + length staff) links → All (λ m. calls_by m.seat log ≡ m.calls) (callers links (closer ∷ staff))
+      → AllWorked Makes 0 (closer ∷ staff) → AllTalked (Converses Untold) (1 + length staff) links → All (λ m. calls_by m.seat log ≡ m.calls) (callers links (closer ∷ staff))
       → ((n : ℕ) → All (λ m. m.seat ≢ n) (callers links (closer ∷ staff)) → calls_by n log ≡ []) → WorksLast closer log → AtOnce servers log links
       → waiting_jobs table.jobs ≡ 0 → IsHistory servers links staff closer log
   history_of servers links staff closer log table leads worked talked made no_others last at_once none_waits =
@@ -146,7 +147,7 @@ module _ (first : FirstFinishIsKept Right) (numbers : NumbersAreGivenOnce Right)
 
   -- links that were served by calls of a new desk, whose first seat worked off what waited then and closed it
   hosts_of : (E : List Talk → List Entry → Type 0) (workers servers : ℕ) (old new : NetTells) (v w last : View) (links : List Talk) (own : List Said)
-      (table : Register) → (s : threads.Serves Makes Converses servers workers (stood v old) (stood w new) links) → v ≡ first_view → calls_by w.number w.seen ≡ w.mine
+      (table : Register) → (s : threads.Serves Makes (Converses Untold) servers workers (stood v old) (stood w new) links) → v ≡ first_view → calls_by w.number w.seen ≡ w.mine
       → HasMet w.seen w.met → (asked : Asked Right w last own) → WorksThrough Makes own → (c : Closes Right last table) → E links c.log
       → Hosts E workers servers old new
   hosts_of E workers servers old new v w last links own table s fresh stand known asked works c ends =
@@ -171,7 +172,7 @@ module _ (first : FirstFinishIsKept Right) (numbers : NumbersAreGivenOnce Right)
         back = s.back;
         history = history_of servers links s.shifts closer c.log table c.leads
             (refl, inr works, subst (λ (n : ℕ). AllWorked Makes n s.shifts) given s.worked)
-            (subst (λ (n : ℕ). AllTalked Converses (n + length s.shifts) links) given s.all_talked)
+            (subst (λ (n : ℕ). AllTalked (Converses Untold) (n + length s.shifts) links) given s.all_talked)
             (all_with (λ m. calls_by m.seat c.log ≡ m.calls) (shift_met closer) talks shifts mine
             (subst (λ (ms : List Met). All (λ m. calls_by m.seat c.log ≡ m.calls) ms) met (all_by_place (λ m. calls_by m.seat c.log ≡ m.calls) last.met c.met)))
             (λ n none. let (other, rest) = all_without (λ m. m.seat ≢ n) (shift_met closer) talks shifts none in
@@ -184,7 +185,7 @@ module _ (first : FirstFinishIsKept Right) (numbers : NumbersAreGivenOnce Right)
 
   -- the same of what serving answered, and of how many numbers the table gave that was closed
   pub hosted : (workers servers connections given : ℕ) (served : Result ℕ ServeFault) (old new : NetTells) (v w last : View) (own : List Said) (table : Register)
-      → (o : (links : List Talk) × threads.Serves Makes Converses servers workers (stood v old) (stood w new) links × threads.Ends served connections links old.faults new.faults) → v ≡ first_view → calls_by w.number w.seen ≡ w.mine
+      → (o : (links : List Talk) × threads.Serves Makes (Converses Untold) servers workers (stood v old) (stood w new) links × threads.Ends served connections links old.faults new.faults) → v ≡ first_view → calls_by w.number w.seen ≡ w.mine
       → HasMet w.seen w.met → Asked Right w last own → WorksThrough Makes own → Closes Right last table → given ≡ table.issued
       → Hosts (λ links log. (given ≡ numbers_given (calls log)) × threads.Ends served connections links old.faults new.faults) workers servers old new
   hosted workers servers connections given served old new v w last own table o fresh stand known asked works c is =

@@ -13,6 +13,7 @@ use Rattle.desk.specs.declared.view.Entry.{Entry}
 use Rattle.desk.specs.declared.view.Met.{Met}
 use Rattle.desk.specs.History.{LeadsTo, calls, calls_by, by}
 use Rattle.workers.specs.Shifts.{WorksThrough}
+use Rattle.workers.specs.Bells.{Untold}
 use Rattle.server_threads.specs.declared.means.ServeFault.{ServeFault}
 use Rattle.server_threads.specs.declared.means.ServeFault.TheVariants.{Failed, Memory}
 use Rattle.server_threads.specs.Talks.{Talk, Shift, talk_met, shift_met, short_of, Came, GivenBack, AllTalked, AllWorked}
@@ -38,11 +39,11 @@ lacks_memory served.ReadFault = false
 lacks_memory served.WriteFault = false
 lacks_memory served.Memory = true
 
--- a conversation, by what its link told before it, the calls that were made for it, what its link told after it, and whether it ended for
--- want of memory
-abbrev pub Converses : Tells → List Said → Tells → Bool → Type 0
-Converses came said back short =
-    (end : Served) × Serves Makes (λ made. made ≡ said) end came back × (short ≡ lacks_memory end)
+-- a conversation, by what a ring of the bell may answer, what its link told before it, the calls that were made for it, what its link told
+-- after it, and whether it ended for want of memory
+abbrev pub Converses : (Bool → Type 0) → Tells → List Said → Tells → Bool → Type 0
+Converses rang came said back short =
+    (end : Served) × Serves Makes rang (λ made. made ≡ said) end came back × (short ≡ lacks_memory end)
 
 -- who made calls: the links that came, and the workers, each with its number and its calls
 abbrev pub callers : List Talk → List Shift → List Met
@@ -64,7 +65,7 @@ pub record IsHistory (servers : ℕ) (links : List Talk) (staff : List Shift) (c
   pub table : Register
   pub runs : LeadsTo Right log table
   pub worked : AllWorked Makes 0 (closer ∷ staff)
-  pub talked : AllTalked Converses (1 + length staff) links
+  pub talked : AllTalked (Converses Untold) (1 + length staff) links
   pub made : All (λ m. calls_by m.seat log ≡ m.calls) (callers links (closer ∷ staff))
   pub no_others : (n : ℕ) → All (λ m. m.seat ≢ n) (callers links (closer ∷ staff)) → calls_by n log ≡ []
   pub closes : (log ≡ []) ⊎ WorksLast closer log

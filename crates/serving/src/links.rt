@@ -40,6 +40,8 @@ impl<B> Runner<SolvedJobs> for LinkServer<B> {
 }
 
 impl<'a, R: Wait, B: Bell> Server<SolvedJobs> for LinkServer<Ringing<'a, R, B>> {
+    ghost wakes = { B.rang };
+
     fn wake(&self) -> bool {
         self.0.bell.ring(self.0.rt)
     }
@@ -58,7 +60,7 @@ fn lacks_memory(served: Served) -> bool
 impl Service<SolvedJobs> for LinkServer<()> {
     ghost use Rattle.serving.specs.Serving.{Converses};
 
-    ghost talked = { λ _. Converses };
+    ghost talked = { Converses };
 
     fn serve<L: Close, C: Calls<SolvedJobs>, R: Wait, B: Bell>(
         &self,
