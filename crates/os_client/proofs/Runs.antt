@@ -1,12 +1,10 @@
 -- How a run of `call` ends.
-use Rattle.std.proofs.Common.{◌≡◌, ◌∙◌, ℕ, ◌≤◌, Bool, true, false, List, Result, Ok, Err, inl, inr, arith, refl, sym, ap, subst}
+use Rattle.std.proofs.Common.{◌≡◌, ℕ, ◌≤◌, Bool, true, false, List, Result, Ok, Err, inl, inr, arith, refl, sym, ap, subst}
 use Rattle.std.specs.Prelude.{◌&&◌, if◌then◌else◌, bytes_eq, codes}
 use Rattle.os_io.specs.Streams.{Tells}
 use Rattle.command_answers.specs.Sent.{IsTold}
 use Rattle.six_calls.specs.declared.call.CallKind.{CallKind}
-use Rattle.six_calls.specs.declared.call.CallKind.TheVariants as kinds
 use Rattle.soap_calls.specs.declared.call.SoapCall.{SoapCall}
-use Rattle.soap_calls.specs.Calls.{call_of, kind_of}
 use Rattle.six_calls.specs.Names.{kind_text}
 use Rattle.soap_calls.specs.Writing.{call_text}
 use Rattle.os_client.specs.declared.fault.CallFault.{CallFault}
@@ -21,19 +19,11 @@ Outcome = Result (List ℕ) CallFault
 
 -- ---- a whole run
 
-kind_of_call : (k : CallKind) (osil osol ospl : List ℕ) → kind_of (call_of k (record { osil = osil; osol = osol; ospl = ospl })) ≡ k
-kind_of_call kinds.Solve osil osol ospl = refl
-kind_of_call kinds.GetJobId osil osol ospl = refl
-kind_of_call kinds.Send osil osol ospl = refl
-kind_of_call kinds.Retrieve osil osol ospl = refl
-kind_of_call kinds.Knock osil osol ospl = refl
-kind_of_call kinds.Kill osil osol ospl = refl
-
 module _ (run : CallRun) (call : SoapCall) (brought : Brings run call) (link link_after : Tells) (links : Links run.host run.port run.net run.net_after link link_after) where
-  same_name : kind_text (kind_of call) ≡ kind_text run.kind
-  same_name = ap (λ (c : SoapCall). kind_text (kind_of c)) brought.call_of.is ∙ ap kind_text (kind_of_call run.kind brought.call_of.osil brought.call_of.osol brought.call_of.ospl)
+  same_name : kind_text call.kind ≡ kind_text run.kind
+  same_name = ap (λ (c : SoapCall). kind_text c.kind) brought.call_of.is
 
-  hearing : (outcome : Outcome) → Asks (call_text call) link link_after × Hears (kind_text (kind_of call)) outcome link link_after → Hearing outcome run
+  hearing : (outcome : Outcome) → Asks (call_text call) link link_after × Hears (kind_text call.kind) outcome link link_after → Hearing outcome run
   hearing outcome (asks, hears) = record {
     call = call;
     brought = brought;
@@ -48,7 +38,7 @@ module _ (run : CallRun) (call : SoapCall) (brought : Brings run call) (link lin
   making outcome calls = record { call = call; brought = brought; link = link; link_after = link_after; links = links; calls = calls }
 
   -- what is due was sent, or not whole
-  told_due : (status would : ℕ) (outcome : Outcome) (due : List ℕ) → Asks (call_text call) link link_after × Hears (kind_text (kind_of call)) outcome link link_after → IsDue run.kind outcome would due → IsTold would due status run.output run.output_after
+  told_due : (status would : ℕ) (outcome : Outcome) (due : List ℕ) → Asks (call_text call) link link_after × Hears (kind_text call.kind) outcome link link_after → IsDue run.kind outcome would due → IsTold would due status run.output run.output_after
       → CallEnds status run
   told_due status would outcome due heard is (inl (same, sent)) =
       answered outcome due (hearing outcome heard) (subst (λ (s : ℕ). IsDue run.kind outcome s due) (sym same) is) sent

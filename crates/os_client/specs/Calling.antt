@@ -3,9 +3,9 @@ use Rattle.std.specs.Prelude.{◌≡◌, ◌⊎◌, ℕ, Bool, true, false, List
 use Rattle.os_io.specs.Streams.{Tells, Told, Appends, AppendsPart, Grows, HasRisen, SameInput, SameOutput}
 use Rattle.http_link.specs.Outgoing.{request_text}
 use Rattle.http_link.specs.Replies.{Comes, ComesPart, IsReplyBegun, IsReplyPart}
+use Rattle.six_calls.specs.declared.call.CallKind.{CallKind}
 use Rattle.soap_calls.specs.declared.call.SoapCall.{SoapCall}
 use Rattle.six_calls.specs.Names.{kind_text}
-use Rattle.soap_calls.specs.Calls.{kind_of}
 use Rattle.soap_calls.specs.Writing.{call_text}
 use Rattle.os_client.specs.declared.fault.CallFault.{CallFault}
 use Rattle.os_client.specs.declared.fault.CallFault.TheVariants.{ReadFault, WriteFault, Memory}
@@ -58,9 +58,13 @@ CallsWith name body (Err WriteFault) old new = FailsToAsk body old new
 CallsWith name body (Err Memory) old new = Keeps old new ⊎ (Asks body old new × Loses old new)
 CallsWith name body result old new = Asks body old new × Listens name result old new
 
+-- the call with these texts of its instance, its options and its process
+abbrev pub calling : CallKind → (osil osol ospl : List ℕ) → SoapCall
+calling kind osil osol ospl = record { kind = kind; parts = record { osil = osil; osol = osol; ospl = ospl } }
+
 -- what comes of a call
 abbrev pub Calls : SoapCall → Result (List ℕ) CallFault → Tells → Tells → Type 0
-Calls call result old new = CallsWith (kind_text (kind_of call)) (call_text call) result old new
+Calls call result old new = CallsWith (kind_text call.kind) (call_text call) result old new
 
 -- the text that says yes or no
 abbrev pub bool_text : Bool → List ℕ

@@ -1,18 +1,13 @@
 -- What is written of what a call answered, and with which status.
-use Rattle.std.specs.Prelude.{◌≡◌, ℕ, ◌+◌, ◌/◌, ◌%◌, Bool, true, false, ◌&&◌, if◌then◌else◌, List, [], ◌∷◌, ◌++◌, bytes_eq, codes, Result, Ok, Err}
+use Rattle.std.specs.Prelude.{◌≡◌, ℕ, ◌+◌, ◌/◌, ◌%◌, Bool, ◌&&◌, if◌then◌else◌, List, [], ◌∷◌, ◌++◌, bytes_eq, codes, Result, Ok, Err}
 use Rattle.six_calls.specs.declared.call.CallKind.{CallKind}
-use Rattle.six_calls.specs.declared.call.CallKind.TheVariants as kinds
+use Rattle.six_calls.specs.Names.{kind_text}
 use Rattle.os_client.specs.declared.fault.CallFault.{CallFault}
 use Rattle.os_client.specs.declared.fault.CallFault.TheVariants.{ReadFault, WriteFault, Memory, Refused, Http, NoReply}
 
 -- the call that returns `true` or `false`
 abbrev pub is_send : CallKind → Bool
-is_send kinds.Solve = false
-is_send kinds.GetJobId = false
-is_send kinds.Send = true
-is_send kinds.Retrieve = false
-is_send kinds.Knock = false
-is_send kinds.Kill = false
+is_send kind = bytes_eq (kind_text kind) (codes "send")
 
 -- 1 where `send` returns `false`, and else 0
 abbrev pub returned_status : CallKind → List ℕ → ℕ

@@ -1,16 +1,16 @@
 //! The six calls.
 
-ghost use Rattle.std.specs.Prelude.{◌≡◌};
+ghost use Rattle.std.specs.Prelude.{◌≡◌, []};
 ghost use Rattle.os_io.specs.Streams.{Sends, SameOutput};
 ghost use Rattle.http_link.specs.Outgoing.{request_text};
-ghost use Rattle.soap_calls.specs.declared.call.SoapCall.TheVariants.{Solve, GetJobId, Send, Retrieve, Knock, Kill};
-ghost use Rattle.os_client.specs.Calling.{Listens, Calls, CallsBool};
+ghost use Rattle.six_calls.specs.declared.call.CallKind.TheVariants as kinds;
+ghost use Rattle.os_client.specs.Calling.{Listens, calling, Calls, CallsBool};
 
 use crate::fault::CallFault;
 use crate::reading::reading;
 use http_link::{LinkFault, read_response, what_came_is_a_part, write_request};
 use os_io::{Failed, Link, Text};
-use soap_calls::{SoapCall, returned_texts_may_be_returned, write_call};
+use soap_calls::{CallKind, Parts, SoapCall, returned_texts_may_be_returned, write_call};
 use std::alloc::Global;
 
 /// Writes the request with this body, and hands it on.
@@ -42,9 +42,27 @@ pub fn call<L: Link>(alloc: Global, link: &mut L, call: &SoapCall) -> Result<Tex
         return Err(CallFault::Memory);
     };
     match ask(link, body.as_slice()) {
-        Ok(()) => listen(alloc, link, call.kind().name()),
+        Ok(()) => listen(alloc, link, call.kind.name()),
         Err(_) => Err(CallFault::WriteFault),
     }
+}
+
+/// Makes the call of this kind with these texts of its parts.
+fn call_parts<L: Link>(
+    alloc: Global,
+    link: &mut L,
+    kind: CallKind,
+    osil: &[u8],
+    osol: &[u8],
+    ospl: &[u8],
+) -> Result<Text, CallFault>
+    ensures { Calls (calling kind osil.now osol.now ospl.now) result (L.tells link.old) (L.tells link.new) }
+{
+    let osil = Text::from_slice(alloc, osil)?;
+    let osol = Text::from_slice(alloc, osol)?;
+    let ospl = Text::from_slice(alloc, ospl)?;
+    let parts = Parts { osil, osol, ospl };
+    call(alloc, link, &SoapCall { kind, parts })
 }
 
 /// Asks a server to solve an instance: the text of its result document.
@@ -54,19 +72,16 @@ pub fn call_solve<L: Link>(
     osil: &[u8],
     osol: &[u8],
 ) -> Result<Text, CallFault>
-    ensures { Calls (Solve osil.now osol.now) result (L.tells link.old) (L.tells link.new) }
+    ensures { Calls (calling kinds.Solve osil.now osol.now []) result (L.tells link.old) (L.tells link.new) }
 {
-    let osil = Text::from_slice(alloc, osil)?;
-    let osol = Text::from_slice(alloc, osol)?;
-    call(alloc, link, &SoapCall::Solve { osil, osol })
+    call_parts(alloc, link, CallKind::Solve, osil, osol, b"")
 }
 
 /// Asks for a new job: the text that names it.
 pub fn call_get_job_id<L: Link>(alloc: Global, link: &mut L, osol: &[u8]) -> Result<Text, CallFault>
-    ensures { Calls (GetJobId osol.now) result (L.tells link.old) (L.tells link.new) }
+    ensures { Calls (calling kinds.GetJobId [] osol.now []) result (L.tells link.old) (L.tells link.new) }
 {
-    let osol = Text::from_slice(alloc, osol)?;
-    call(alloc, link, &SoapCall::GetJobId { osol })
+    call_parts(alloc, link, CallKind::GetJobId, b"", osol, b"")
 }
 
 /// Sends an instance for the job that the options name: whether it was taken.
@@ -76,35 +91,20 @@ pub fn call_send<L: Link>(
     osil: &[u8],
     osol: &[u8],
 ) -> Result<bool, CallFault>
-    ensures { CallsBool (Send osil.now osol.now) result (L.tells link.old) (L.tells link.new) }
+    ensures { CallsBool (calling kinds.Send osil.now osol.now []) result (L.tells link.old) (L.tells link.new) }
 {
     returned_texts_may_be_returned();
-    match send_text(alloc, link, osil, osol) {
+    match call_parts(alloc, link, CallKind::Send, osil, osol, b"") {
         Ok(text) => Ok(text.as_slice() == b"true".as_slice()),
         Err(fault) => Err(fault),
     }
 }
 
-/// The text that a call of `send` returns.
-fn send_text<L: Link>(
-    alloc: Global,
-    link: &mut L,
-    osil: &[u8],
-    osol: &[u8],
-) -> Result<Text, CallFault>
-    ensures { Calls (Send osil.now osol.now) result (L.tells link.old) (L.tells link.new) }
-{
-    let osil = Text::from_slice(alloc, osil)?;
-    let osol = Text::from_slice(alloc, osol)?;
-    call(alloc, link, &SoapCall::Send { osil, osol })
-}
-
 /// Asks for the result of the job that the options name: the text of its result document.
 pub fn call_retrieve<L: Link>(alloc: Global, link: &mut L, osol: &[u8]) -> Result<Text, CallFault>
-    ensures { Calls (Retrieve osol.now) result (L.tells link.old) (L.tells link.new) }
+    ensures { Calls (calling kinds.Retrieve [] osol.now []) result (L.tells link.old) (L.tells link.new) }
 {
-    let osol = Text::from_slice(alloc, osol)?;
-    call(alloc, link, &SoapCall::Retrieve { osol })
+    call_parts(alloc, link, CallKind::Retrieve, b"", osol, b"")
 }
 
 /// Asks what a server does: the text of its process document.
@@ -114,17 +114,14 @@ pub fn call_knock<L: Link>(
     ospl: &[u8],
     osol: &[u8],
 ) -> Result<Text, CallFault>
-    ensures { Calls (Knock ospl.now osol.now) result (L.tells link.old) (L.tells link.new) }
+    ensures { Calls (calling kinds.Knock [] osol.now ospl.now) result (L.tells link.old) (L.tells link.new) }
 {
-    let ospl = Text::from_slice(alloc, ospl)?;
-    let osol = Text::from_slice(alloc, osol)?;
-    call(alloc, link, &SoapCall::Knock { ospl, osol })
+    call_parts(alloc, link, CallKind::Knock, b"", osol, ospl)
 }
 
 /// Asks a server to stop the job that the options name: the text of its process document.
 pub fn call_kill<L: Link>(alloc: Global, link: &mut L, osol: &[u8]) -> Result<Text, CallFault>
-    ensures { Calls (Kill osol.now) result (L.tells link.old) (L.tells link.new) }
+    ensures { Calls (calling kinds.Kill [] osol.now []) result (L.tells link.old) (L.tells link.new) }
 {
-    let osol = Text::from_slice(alloc, osol)?;
-    call(alloc, link, &SoapCall::Kill { osol })
+    call_parts(alloc, link, CallKind::Kill, b"", osol, b"")
 }

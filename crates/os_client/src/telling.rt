@@ -16,7 +16,7 @@ use std::alloc::Global;
 fn returned_status(kind: CallKind, text: &[u8]) -> u8
     ensures { result ≡ written.returned_status kind text.now }
 {
-    if matches!(kind, CallKind::Send) && text == b"false".as_slice() {
+    if kind.name() == b"send".as_slice() && text == b"false".as_slice() {
         NEGATIVE
     } else {
         DONE

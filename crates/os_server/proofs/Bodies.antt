@@ -1,27 +1,15 @@
 -- What a body asks, by what its parts say.
-use Rattle.std.proofs.Common.{◌≡◌, ◌≢◌, ◌==◌, ℕ, Bool, true, false, List, [], Result, length, sym, ◌∙◌, ap, subst}
-use Rattle.std.specs.Prelude.{IfErr}
+use Rattle.std.proofs.Common.{◌≡◌, ◌≢◌, ◌==◌, ℕ, Bool, true, false, List, [], length, ap}
 use Rattle.soap_calls.specs.declared.call.SoapCall as types
-use Rattle.soap_calls.specs.declared.call.SoapCall.TheVariants as calls
 use Rattle.soap_calls.specs.Calls.{IsCallText}
 use Rattle.osol_grammar.specs.declared.options.Options.{Options}
-use Rattle.osol_grammar.specs.Meaning.{IsOptionsText}
 use Rattle.os_server.specs.declared.fault.FaultCode.TheVariants as code
 use Rattle.os_server.specs.declared.fault.NoOrder as none
 use Rattle.os_server.specs.declared.fault.NoOrder.TheVariants as no
-use Rattle.os_server.specs.Orders.{options_of, OrdersNothing, AsksNothing}
+use Rattle.os_server.specs.Orders.{OrdersNothing, AsksNothing}
 
 pub not_empty : (text : List ℕ) (b : Bool) → b ≡ (length text == 0) → b ≡ false → text ≢ []
 not_empty text b is isnt e = let full : (length text == 0) ≡ true = ap (λ t. length t == 0) e in cc
-
--- a knock whose process is refused
-pub knocked : (call : types.SoapCall) (options : Options) (r : Result (Unit {0}) none.NoOrder) (process osol lent : List ℕ)
-    → call ≡ calls.Knock process osol → lent ≡ process → IsOptionsText (options_of call) options
-    → ((text : List ℕ) (said : Options) → IsOptionsText text said → IfErr r (OrdersNothing (calls.Knock lent text)))
-    → IfErr r (OrdersNothing call)
-knocked call options r process osol lent is same says refuses =
-    subst (λ (c : types.SoapCall). IfErr r (OrdersNothing c)) (ap (λ p. calls.Knock p osol) same ∙ sym is)
-    (refuses osol options (subst (λ (c : types.SoapCall). IsOptionsText (options_of c) options) is says))
 
 -- a call that was read and asks nothing
 pub asks_nothing : (body : List ℕ) (call : types.SoapCall) (n : none.NoOrder) → IsCallText body call → OrdersNothing call n → AsksNothing body n

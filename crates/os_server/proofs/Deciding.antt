@@ -7,7 +7,6 @@ use Rattle.std.proofs.lemmas.Fmt.{decimal_injective}
 use Rattle.http_link.specs.declared.refusal.Refusal.{Refusal}
 use Rattle.http_link.specs.Responses.{refusal_text}
 use Rattle.soap_calls.specs.declared.call.SoapCall.{SoapCall}
-use Rattle.soap_calls.specs.declared.call.SoapCall.TheVariants as calls
 use Rattle.soap_calls.specs.declared.fault.SoapFault.{SoapFault}
 use Rattle.soap_calls.specs.declared.fault.SoapFault.TheVariants as soap
 use Rattle.soap_calls.specs.Calls.{IsCallText}
@@ -32,13 +31,12 @@ use Rattle.job_table.specs.History.{Entry, entry}
 use Rattle.job_runs.specs.Runs.{IsRun, RunsGiven, Works}
 use Rattle.job_runs.specs.Solving.{IsRetrieved, Solves}
 use Rattle.os_server.specs.declared.order.Order.{Order}
-use Rattle.os_server.specs.declared.order.Order.TheVariants as orders
 use Rattle.os_server.specs.declared.fault.FaultCode.{FaultCode}
 use Rattle.os_server.specs.declared.fault.FaultCode.TheVariants as codes_of
 use Rattle.os_server.specs.declared.saying.Said.{Said}
 use Rattle.os_server.specs.declared.serve.Served.{Served}
-use Rattle.os_server.specs.Orders.{options_of, Names, name_in, SaysProcess, MayKnock, IsAsked, Orders, Asks, RefusesOptions, RefusesProcess, RefusesKnock, Faults, kind_of, number_of}
-use Rattle.os_server.specs.Answers.{said_by, fault_said, Does}
+use Rattle.os_server.specs.Orders.{Names, name_in, order_of, SaysProcess, IsAsked, Orders, Asks, RefusesOptions, RefusesProcess, Faults}
+use Rattle.os_server.specs.Answers.{said_by, fault_said, Doing, Moves, RunsAtOnce, doing_of, DoesSo, Does}
 use Rattle.os_server.specs.Talk.{Part, all_of, Answers, IsRefusedAs, IsExchange, response_text, Talk}
 use Rattle.os_server.specs.Laws.{HasNoFault, takens, replies}
 use Rattle.os_server.specs.Once.{Requests, Bodies}
@@ -55,15 +53,8 @@ names_once id n m (inr (none, unnamed)) (inl (small, is)) = absurd (unnamed m sm
 names_once id n m (inr (none, unnamed)) (inr (none', unnamed')) = none ∙ sym none'
 
 asked_once : (call : SoapCall) (o p : Options) (x y : Order) → p ≡ o → IsAsked call o x → IsAsked call p y → x ≡ y
-asked_once (calls.Solve osil text) o p x y same is is' = is ∙ sym is'
-asked_once (calls.GetJobId text) o p x y same is is' = is ∙ sym is'
-asked_once (calls.Send osil text) o p x y same (n, named, is) (m, named', is') =
-    is ∙ ap (λ k. orders.Send k osil text) (names_once (name_in o.job) n m named (subst (λ (q : Options). Names (name_in q.job) m) same named')) ∙ sym is'
-asked_once (calls.Retrieve text) o p x y same (n, named, is) (m, named', is') =
-    is ∙ ap (λ k. orders.Retrieve k) (names_once (name_in o.job) n m named (subst (λ (q : Options). Names (name_in q.job) m) same named')) ∙ sym is'
-asked_once (calls.Knock process text) o p x y same is is' = is ∙ sym is'
-asked_once (calls.Kill text) o p x y same (n, named, is) (m, named', is') =
-    is ∙ ap (λ k. orders.Kill k) (names_once (name_in o.job) n m named (subst (λ (q : Options). Names (name_in q.job) m) same named')) ∙ sym is'
+asked_once call o p x y same (n, named, is) (m, named', is') =
+    is ∙ ap (order_of call) (names_once (name_in o.job) n m named (subst (λ (q : Options). Names (name_in q.job) m) same named')) ∙ sym is'
 
 -- why a body asks nothing: it is refused as a call, or its call is refused
 abbrev said_of : SoapFault → FaultCode × List ℕ
@@ -77,7 +68,7 @@ IsUnread body said = (f : SoapFault) × (f ≢ soap.Memory) × CallFails body f 
 
 abbrev IsRefusedCall : SoapCall → FaultCode × List ℕ → Type 0
 IsRefusedCall call said =
-    ((said.0 ≡ codes_of.Options) × RefusesOptions call said.1) ⊎ ((said.0 ≡ codes_of.Process) × RefusesKnock call said.1)
+    ((said.0 ≡ codes_of.Options) × RefusesOptions call said.1) ⊎ ((said.0 ≡ codes_of.Process) × RefusesProcess call said.1)
 
 why : (body : List ℕ) (code : FaultCode) (text : List ℕ) → Faults body code text
     → IsUnread body (code, text) ⊎ ((call : SoapCall) × IsCallText body call × IsRefusedCall call (code, text))
@@ -98,7 +89,7 @@ has_ospl_text t f is e = subst (λ (g : OsplFault). ospl_texts.IsFaultText g t) 
 module _ (says : Bodies) where
   orders_once : (call : SoapCall) (x y : Order) → Orders call x → Orders call y → x ≡ y
   orders_once call x y p q =
-      asked_once call p.options q.options x y (says.options_read (options_of call) q.options p.options q.said p.said) p.asked q.asked
+      asked_once call p.options q.options x y (says.options_read call.parts.osol q.options p.options q.said p.said) p.asked q.asked
 
   asks_once : (body : List ℕ) (x y : Order) → Asks body x → Asks body y → x ≡ y
   asks_once body x y p q =
@@ -118,46 +109,25 @@ module _ (says : Bodies) where
 
   options_once : (call : SoapCall) (t u : List ℕ) → RefusesOptions call t → RefusesOptions call u → t ≡ u
   options_once call t u (f, fails, is) (g, fails', is') =
-      let same = says.options_refusals (options_of call) f g (has_osol_text t f is) (has_osol_text u g is') fails fails' in
+      let same = says.options_refusals call.parts.osol f g (has_osol_text t f is) (has_osol_text u g is') fails fails' in
       osol_text_once t u f is (subst (λ (h : OsolFault). osol_texts.IsFaultText h u) (sym same) is')
 
-  process_once : (process options t u : List ℕ) → RefusesProcess process options t → RefusesProcess process options u → t ≡ u
-  process_once process options t u p q =
-      let same = says.process_refusals process p.fault q.fault (has_ospl_text t p.fault p.told) (has_ospl_text u q.fault q.told) p.fails q.fails in
+  process_once : (call : SoapCall) (t u : List ℕ) → RefusesProcess call t → RefusesProcess call u → t ≡ u
+  process_once call t u p q =
+      let same = says.process_refusals call.parts.ospl p.fault q.fault (has_ospl_text t p.fault p.told) (has_ospl_text u q.fault q.told) p.fails q.fails in
       ospl_text_once t u p.fault p.told (subst (λ (h : OsplFault). ospl_texts.IsFaultText h u) (sym same) q.told)
 
-  knock_once : (call : SoapCall) (t u : List ℕ) → RefusesKnock call t → RefusesKnock call u → t ≡ u
-  knock_once (calls.Solve osil text) t u p q = absurd p
-  knock_once (calls.GetJobId text) t u p q = absurd p
-  knock_once (calls.Send osil text) t u p q = absurd p
-  knock_once (calls.Retrieve text) t u p q = absurd p
-  knock_once (calls.Knock process text) t u p q = process_once process text t u p q
-  knock_once (calls.Kill text) t u p q = absurd p
-
   -- options that are read aren't refused, and neither is a process
-  no_options : (call : SoapCall) (o : Options) (t : List ℕ) → IsOptionsText (options_of call) o → RefusesOptions call t → ⊥
-  no_options call o t said (f, fails, is) = has_osol_text t f is (says.options_apart (options_of call) o f said fails)
+  no_options : (call : SoapCall) (o : Options) (t : List ℕ) → IsOptionsText call.parts.osol o → RefusesOptions call t → ⊥
+  no_options call o t said (f, fails, is) = has_osol_text t f is (says.options_apart call.parts.osol o f said fails)
 
-  no_process : (process options t : List ℕ) → SaysProcess process → RefusesProcess process options t → ⊥
-  no_process process options t (inl none) p = p.full none
-  no_process process options t (inr (q, is)) p = has_ospl_text t p.fault p.told (says.process_apart process q p.fault is p.fails)
+  no_process : (call : SoapCall) (t : List ℕ) → SaysProcess call.parts.ospl → RefusesProcess call t → ⊥
+  no_process call t (inl none) p = p.full none
+  no_process call t (inr (q, is)) p = has_ospl_text t p.fault p.told (says.process_apart call.parts.ospl q p.fault is p.fails)
 
-  no_knock : (call : SoapCall) (t : List ℕ) → MayKnock call → RefusesKnock call t → ⊥
-  no_knock (calls.Solve osil text) t may p = p
-  no_knock (calls.GetJobId text) t may p = p
-  no_knock (calls.Send osil text) t may p = p
-  no_knock (calls.Retrieve text) t may p = p
-  no_knock (calls.Knock process text) t may p = no_process process text t may p
-  no_knock (calls.Kill text) t may p = p
-
-  -- a knock whose options are refused isn't one whose process is
-  not_both : (call : SoapCall) (t u : List ℕ) → RefusesOptions call t → RefusesKnock call u → ⊥
-  not_both (calls.Solve osil text) t u p q = q
-  not_both (calls.GetJobId text) t u p q = q
-  not_both (calls.Send osil text) t u p q = q
-  not_both (calls.Retrieve text) t u p q = q
-  not_both (calls.Knock process text) t u p q = no_options (calls.Knock process text) q.said t q.says p
-  not_both (calls.Kill text) t u p q = q
+  -- a call whose options are refused isn't one whose process is
+  not_both : (call : SoapCall) (t u : List ℕ) → RefusesOptions call t → RefusesProcess call u → ⊥
+  not_both call t u p q = no_options call q.said t q.says p
 
   both : (x y : FaultCode × List ℕ) (code : FaultCode) → x.0 ≡ code → y.0 ≡ code → x.1 ≡ y.1 → x ≡ y
   both (c, t) (d, u) code p q e = ap (λ k. (k, t)) (p ∙ sym q) ∙ ap (λ v. (d, v)) e
@@ -166,7 +136,7 @@ module _ (says : Bodies) where
   refused_once call x y (inl (is, p)) (inl (is', q)) = both x y codes_of.Options is is' (options_once call x.1 y.1 p q)
   refused_once call x y (inl (is, p)) (inr (is', q)) = absurd (not_both call x.1 y.1 p q)
   refused_once call x y (inr (is, p)) (inl (is', q)) = absurd (not_both call y.1 x.1 q p)
-  refused_once call x y (inr (is, p)) (inr (is', q)) = both x y codes_of.Process is is' (knock_once call x.1 y.1 p q)
+  refused_once call x y (inr (is, p)) (inr (is', q)) = both x y codes_of.Process is is' (process_once call x.1 y.1 p q)
 
   abbrev Why : List ℕ → FaultCode × List ℕ → Type 0
   Why body said = IsUnread body said ⊎ ((call : SoapCall) × IsCallText body call × IsRefusedCall call said)
@@ -183,7 +153,7 @@ module _ (says : Bodies) where
   -- what asks something isn't refused
   not_asked : (call : SoapCall) (o : Order) (said : FaultCode × List ℕ) → Orders call o → IsRefusedCall call said → ⊥
   not_asked call o said p (inl (is, refuses)) = no_options call p.options said.1 p.said refuses
-  not_asked call o said p (inr (is, refuses)) = no_knock call said.1 p.process refuses
+  not_asked call o said p (inr (is, refuses)) = no_process call said.1 p.process refuses
 
   why_not : (body : List ℕ) (o : Order) (said : FaultCode × List ℕ) → Asks body o → Why body said → ⊥
   why_not body o said p (inl (f, some, fails, is)) = some (says.apart body p.call f p.is_call fails)
@@ -286,14 +256,10 @@ module _ (made : Made) where
         (sym (solved_replies l own p x) ∙ e ∙ solved_replies m again q y)).1)
 
   -- the calls that do what is asked
-  past_order : (o : Order) (l m : Reply) (own again : List Entry) (x y : List Reply) → Does made o l own → Does made o m again
+  past_doing : (d : Doing) (l m : Reply) (own again : List Entry) (x y : List Reply) → DoesSo made d l own → DoesSo made d m again
       → replies own ++ x ≡ replies again ++ y → (l ≡ m) × (x ≡ y)
-  past_order orders.Issue l m own again x y p q e = past_one tables.Issue tables.Issue l m own again x y p q e
-  past_order (orders.Solve osil osol) l m own again x y p q e = past_solve osil osol l m own again x y p q e
-  past_order (orders.Send n osil osol) l m own again x y p q e = past_one (tables.Send n osil osol) (tables.Send n osil osol) l m own again x y p q e
-  past_order (orders.Retrieve n) l m own again x y p q e = past_one (tables.Retrieve n) (tables.Retrieve n) l m own again x y p q e
-  past_order orders.Knock l m own again x y p q e = past_one tables.Knock tables.Knock l m own again x y p q e
-  past_order (orders.Kill n) l m own again x y p q e = past_one (tables.Kill n) (tables.Kill n) l m own again x y p q e
+  past_doing (Moves call) l m own again x y p q e = past_one call call l m own again x y p q e
+  past_doing (RunsAtOnce osil osol) l m own again x y p q e = past_solve osil osol l m own again x y p q e
 
 -- the replies of one part before the rest
 regrouped : (a b l : List Entry) → replies ((a ++ b) ++ l) ≡ replies a ++ replies (b ++ l)
@@ -318,10 +284,10 @@ module _ (made : Made) (wakes : Wakes) (by : Requests) (says : Bodies) where
       → Answers made wakes body again t v → replies own ++ x ≡ replies again ++ y → (s ≡ t) × (x ≡ y)
   past_answer body own again s t w v x y (inl p) (inl q) e =
       let same = asks_once says body q.order p.order q.asks p.asks in
-      let past = past_order made p.order p.last q.last own again x y p.does
+      let past = past_doing made (doing_of p.order) p.last q.last own again x y p.does
       (subst (λ (o : Order). Does made o q.last again) same q.does) e in (
-        some_once s t (sym p.says ∙ ap (λ r. said_by (kind_of p.order) (number_of p.order) r) past.0
-            ∙ subst (λ (o : Order). said_by (kind_of o) (number_of o) q.last ≡ Some t) same q.says),
+        some_once s t (sym p.says ∙ ap (λ r. said_by p.order.kind p.order.number r) past.0
+            ∙ subst (λ (o : Order). said_by o.kind o.number q.last ≡ Some t) same q.says),
         past.1,
       )
   past_answer body own again s t w v x y (inl p) (inr q) e =

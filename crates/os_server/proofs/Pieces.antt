@@ -2,6 +2,8 @@
 use Rattle.std.proofs.Common.{◌≡◌, ℕ, Bool, true, false, length, List, [], ◌∷◌, ◌++◌, Option, Some, None, refl, sym, ◌∙◌, ap, subst, inl, inr}
 use Rattle.std.specs.Prelude.{All, ◌⊎◌}
 use Rattle.std.proofs.lemmas.List.Elements.{All-head, All-tail}
+use Rattle.six_calls.specs.declared.call.CallKind.{CallKind}
+use Rattle.six_calls.proofs.Named.{each_passes}
 use Rattle.job_table.specs.declared.job.Job.{Job}
 use Rattle.job_table.specs.declared.calls.Call.{Call}
 use Rattle.job_table.specs.declared.calls.Call.TheVariants as calls
@@ -11,13 +13,12 @@ use Rattle.job_table.specs.History.{Entry, entry, IsGiving}
 use Rattle.job_runs.specs.Runs.{IsRun, Works}
 use Rattle.job_runs.specs.Solving.{EntersAndRuns}
 use Rattle.os_server.specs.declared.order.Order.{Order}
-use Rattle.os_server.specs.declared.order.Order.TheVariants as orders
 use Rattle.os_server.specs.declared.saying.Said.{Said}
 use Rattle.os_server.specs.declared.reply.Reply.{Reply}
 use Rattle.os_server.specs.declared.reply.Reply.TheVariants.{Answer, Refused, NoMemory}
 use Rattle.os_server.specs.declared.serve.Served.{Served}
 use Rattle.os_server.specs.declared.serve.Served.TheVariants.{Ended, CutShort, ReadFault, WriteFault, Memory}
-use Rattle.os_server.specs.Answers.{Does, BeginsToDo}
+use Rattle.os_server.specs.Answers.{Doing, Moves, RunsAtOnce, doing, doing_of, DoesSo, Does, BeginsSo}
 use Rattle.os_server.specs.Talk.{Part, all_of, Answers, IsDue, IsExchange, Ends, IsLast, Talk}
 
 abbrev pub Made : Type 1
@@ -37,6 +38,29 @@ is_plain (calls.Claim worker) said = gives_none said
 is_plain (calls.Look n) said = false
 is_plain (calls.Finish j asked document) said = false
 is_plain call said = true
+
+-- nor may it, whatever it is replied
+abbrev never_gives : Call → Bool
+never_gives (calls.Enter o p) = false
+never_gives (calls.Claim worker) = false
+never_gives (calls.Look n) = false
+never_gives (calls.Finish j asked document) = false
+never_gives call = true
+
+abbrev moves_plainly : Doing → Bool
+moves_plainly (Moves call) = never_gives call
+moves_plainly (RunsAtOnce osil osol) = true
+
+-- what is done for a call is a plain move, or a run
+done_plainly : (k : CallKind) (n : ℕ) (osil osol : List ℕ) → moves_plainly (doing k n osil osol) ≡ true
+done_plainly k n osil osol = each_passes (λ kind. moves_plainly (doing kind n osil osol)) refl k
+
+plain_then : (call : Call) (said : tables.Reply) → never_gives call ≡ true → is_plain call said ≡ true
+plain_then (calls.Enter o p) said never = cc
+plain_then (calls.Claim worker) said never = cc
+plain_then (calls.Look n) said never = never
+plain_then (calls.Finish j asked document) said never = never
+plain_then call said never = refl
 
 -- this holds of no calls, of calls after calls, of a plain call, and of a call that gives a job with the job's run
 pub record Builds (made : Made) (Holds : List Entry → Type 0) : Type 0 where
@@ -64,24 +88,19 @@ module _ (made : Made) (Holds : List Entry → Type 0) (b : Builds made Holds) w
   turned_away said (inl full) = subst (λ (s : tables.Reply). gives_none s ≡ true) (sym full) refl
   turned_away said (inr spent) = subst (λ (s : tables.Reply). gives_none s ≡ true) (sym spent) refl
 
-  does_so : (order : Order) (last : tables.Reply) (own : List Entry) → Does made order last own → Holds own
-  does_so orders.Issue last own is = one_call calls.Issue last own is refl
-  does_so (orders.Solve o p) last own (inl away) = one_call (calls.Enter o p) last own away.0 (turned_away last away.1)
-  does_so (orders.Solve o p) last own (inr r) =
+  doing_so : (d : Doing) (last : tables.Reply) (own : List Entry) → moves_plainly d ≡ true → DoesSo made d last own → Holds own
+  doing_so (Moves call) last own plain is = one_call call last own is (plain_then call last plain)
+  doing_so (RunsAtOnce o p) last own plain (inl away) = one_call (calls.Enter o p) last own away.0 (turned_away last away.1)
+  doing_so (RunsAtOnce o p) last own plain (inr r) =
       subst Holds (sym r.are) (b.both r.run (entry (calls.Retrieve r.job.number) last ∷ []) (entered o p r.job r.run r.ran) (b.plain (calls.Retrieve r.job.number) last refl))
-  does_so (orders.Send n o p) last own is = one_call (calls.Send n o p) last own is refl
-  does_so (orders.Retrieve n) last own is = one_call (calls.Retrieve n) last own is refl
-  does_so orders.Knock last own is = one_call calls.Knock last own is refl
-  does_so (orders.Kill n) last own is = one_call (calls.Kill n) last own is refl
 
-  begins_so : (order : Order) (own : List Entry) → BeginsToDo made order own → Holds own
-  begins_so orders.Issue own none = no_calls own none
-  begins_so (orders.Solve o p) own (inl none) = no_calls own none
-  begins_so (orders.Solve o p) own (inr (j, e)) = entered o p j own e
-  begins_so (orders.Send n o p) own none = no_calls own none
-  begins_so (orders.Retrieve n) own none = no_calls own none
-  begins_so orders.Knock own none = no_calls own none
-  begins_so (orders.Kill n) own none = no_calls own none
+  does_so : (order : Order) (last : tables.Reply) (own : List Entry) → Does made order last own → Holds own
+  does_so order last own does = doing_so (doing_of order) last own (done_plainly order.kind order.number order.osil order.osol) does
+
+  begun_so : (d : Doing) (own : List Entry) → BeginsSo made d own → Holds own
+  begun_so (Moves call) own none = no_calls own none
+  begun_so (RunsAtOnce o p) own (inl none) = no_calls own none
+  begun_so (RunsAtOnce o p) own (inr (j, e)) = entered o p j own e
 
   module _ (wakes : Wakes) where
     answers_so : (body : List ℕ) (own : List Entry) (said : Said) (as_worker : Bool) → Answers made wakes body own said as_worker → Holds own
@@ -92,7 +111,7 @@ module _ (made : Made) (Holds : List Entry → Type 0) (b : Builds made Holds) w
     due_so taken own (Answer said close as_worker) (body, request, answers) = answers_so body own said as_worker answers
     due_so taken own (Refused refusal) (refused, none) = no_calls own none
     due_so taken own NoMemory (inl (request, none)) = no_calls own none
-    due_so taken own NoMemory (inr (close, body, request, (order, asks, inl begins))) = begins_so order own begins
+    due_so taken own NoMemory (inr (close, body, request, (order, asks, inl begins))) = begun_so (doing_of order) own begins
     due_so taken own NoMemory (inr (close, body, request, (order, asks, inr does))) = does_so order does.0 own does.1
 
     exchange_so : (close : Bool) (p : Part) → IsExchange made wakes close p → Holds p.entries

@@ -2,6 +2,7 @@
 use Rattle.std.specs.Prelude.{◌≡◌, ℕ, Bool, true, false, List, [], ◌∷◌, Option, None, Some, map, codes}
 use Rattle.job_table.specs.declared.job.State.{State}
 use Rattle.job_table.specs.declared.job.State.TheVariants as states
+use Rattle.job_table.specs.declared.calls.Call.{Call}
 use Rattle.job_table.specs.declared.calls.Call.TheVariants as tables
 use Rattle.job_table.specs.declared.calls.Killing.{Killing}
 use Rattle.job_table.specs.declared.calls.Statistics as given
@@ -26,12 +27,12 @@ use Rattle.ospl_grammar.specs.declared.process.Process.{Process}
 use Rattle.ospl_grammar.specs.declared.process.Process.TheVariants.{Statistics}
 use Rattle.ospl_grammar.specs.Writing.{process_text}
 use Rattle.six_calls.specs.declared.call.CallKind.{CallKind}
+use Rattle.six_calls.specs.declared.call.CallKind.TheVariants as kinds
 use Rattle.six_calls.specs.Names.{kind_text}
 use Rattle.soap_calls.specs.Writing.{reply_text, fault_text}
 use Rattle.os_server.specs.declared.doing.LastReply.{LastReply}
 use Rattle.os_server.specs.declared.doing.LastReply.TheVariants as lasts
 use Rattle.os_server.specs.declared.order.Order.{Order}
-use Rattle.os_server.specs.declared.order.Order.TheVariants as orders
 use Rattle.os_server.specs.declared.fault.FaultCode.{FaultCode}
 use Rattle.os_server.specs.declared.fault.FaultCode.TheVariants as codes_of
 use Rattle.os_server.specs.declared.saying.Said.{Said}
@@ -114,21 +115,36 @@ said_by kind n (reply.Retrieved job) = returns kind (shown_text job)
 said_by kind n (reply.Statistics told) = returns kind (process_text (process_of told))
 said_by kind n _ = None
 
+-- what is done for a call: one move of the table, or a job with these texts is entered and run at once
+pub data Doing : Type 0 where
+  Moves : Call → Doing
+  RunsAtOnce : (osil osol : List ℕ) → Doing
+
+-- one row for each call, of the job with this number and with these texts
+abbrev pub doing : CallKind → ℕ → (osil osol : List ℕ) → Doing
+doing kinds.Solve n osil osol = RunsAtOnce osil osol
+doing kinds.GetJobId n osil osol = Moves tables.Issue
+doing kinds.Send n osil osol = Moves (tables.Send n osil osol)
+doing kinds.Retrieve n osil osol = Moves (tables.Retrieve n)
+doing kinds.Knock n osil osol = Moves tables.Knock
+doing kinds.Kill n osil osol = Moves (tables.Kill n)
+
+abbrev pub doing_of : Order → Doing
+doing_of order = doing order.kind order.number order.osil order.osol
+
 module _ (made : List ℕ → List ℕ → List Bool → Option (List ℕ) → Type 0) where
+  abbrev pub DoesSo : Doing → Reply → List Entry → Type 0
+  DoesSo (Moves call) last own = own ≡ entry call last ∷ []
+  DoesSo (RunsAtOnce osil osol) last own = Solves made osil osol last own
+
   -- the calls that do what is asked, the last of which has this reply
   abbrev pub Does : Order → Reply → List Entry → Type 0
-  Does orders.Issue last own = own ≡ entry tables.Issue last ∷ []
-  Does (orders.Solve osil osol) last own = Solves made osil osol last own
-  Does (orders.Send n osil osol) last own = own ≡ entry (tables.Send n osil osol) last ∷ []
-  Does (orders.Retrieve n) last own = own ≡ entry (tables.Retrieve n) last ∷ []
-  Does orders.Knock last own = own ≡ entry tables.Knock last ∷ []
-  Does (orders.Kill n) last own = own ≡ entry (tables.Kill n) last ∷ []
+  Does order last own = DoesSo (doing_of order) last own
+
+  abbrev pub BeginsSo : Doing → List Entry → Type 0
+  BeginsSo (Moves call) own = own ≡ []
+  BeginsSo (RunsAtOnce osil osol) own = BeginsToSolve made osil osol own
 
   -- the calls until one found no memory
   abbrev pub BeginsToDo : Order → List Entry → Type 0
-  BeginsToDo orders.Issue own = own ≡ []
-  BeginsToDo (orders.Solve osil osol) own = BeginsToSolve made osil osol own
-  BeginsToDo (orders.Send n osil osol) own = own ≡ []
-  BeginsToDo (orders.Retrieve n) own = own ≡ []
-  BeginsToDo orders.Knock own = own ≡ []
-  BeginsToDo (orders.Kill n) own = own ≡ []
+  BeginsToDo order own = BeginsSo (doing_of order) own

@@ -1,11 +1,8 @@
 -- What the body of a request asks of the table of jobs, or why it asks nothing (SOAP 1.1, sections 4 and 4.4, and the calls of the Optimization Services).
 use Rattle.std.specs.Prelude.{◌≡◌, ◌≢◌, ◌⊎◌, ℕ, ◌<◌, ◌^◌, List, [], ◌++◌, Option, None, Some, codes}
 use Rattle.job_table.specs.Ids.{id_text}
-use Rattle.six_calls.specs.declared.call.CallKind.{CallKind}
-use Rattle.six_calls.specs.declared.call.CallKind.TheVariants as kinds
 use Rattle.six_calls.specs.declared.part.Part as given
 use Rattle.soap_calls.specs.declared.call.SoapCall.{SoapCall}
-use Rattle.soap_calls.specs.declared.call.SoapCall.TheVariants as calls
 use Rattle.soap_calls.specs.declared.fault.SoapFault.TheVariants as soap
 use Rattle.six_calls.specs.Names.{part_text}
 use Rattle.soap_calls.specs.Calls.{IsCallText}
@@ -21,20 +18,10 @@ use Rattle.ospl_grammar.specs.Meaning.{IsProcessText}
 use Rattle.ospl_grammar.specs.Refusals as ospl
 use Rattle.ospl_grammar.specs.Texts as ospl_texts
 use Rattle.os_server.specs.declared.order.Order.{Order}
-use Rattle.os_server.specs.declared.order.Order.TheVariants as orders
 use Rattle.os_server.specs.declared.fault.FaultCode.{FaultCode}
 use Rattle.os_server.specs.declared.fault.FaultCode.TheVariants as codes_of
 use Rattle.os_server.specs.declared.fault.NoOrder.{NoOrder}
 use Rattle.os_server.specs.declared.fault.NoOrder.TheVariants as no
-
--- the text of a call's options
-abbrev pub options_of : SoapCall → List ℕ
-options_of (calls.Solve osil osol) = osol
-options_of (calls.GetJobId osol) = osol
-options_of (calls.Send osil osol) = osol
-options_of (calls.Retrieve osol) = osol
-options_of (calls.Knock ospl osol) = osol
-options_of (calls.Kill osol) = osol
 
 -- a text names the job with this number; one that names none stands for 0, which is no job's number
 abbrev pub Names : List ℕ → ℕ → Type 0
@@ -50,33 +37,23 @@ name_in (Some id) = id
 abbrev pub NamesJob : Options → ℕ → Type 0
 NamesJob o n = Names (name_in o.job) n
 
--- a call with these options asks this
-abbrev pub IsAsked : SoapCall → Options → Order → Type 0
-IsAsked (calls.Solve osil osol) o order = order ≡ orders.Solve osil osol
-IsAsked (calls.GetJobId osol) o order = order ≡ orders.Issue
-IsAsked (calls.Send osil osol) o order = (n : ℕ) × NamesJob o n × (order ≡ orders.Send n osil osol)
-IsAsked (calls.Retrieve osol) o order = (n : ℕ) × NamesJob o n × (order ≡ orders.Retrieve n)
-IsAsked (calls.Knock ospl osol) o order = order ≡ orders.Knock
-IsAsked (calls.Kill osol) o order = (n : ℕ) × NamesJob o n × (order ≡ orders.Kill n)
+-- what a call asks of the job with this number
+abbrev pub order_of : SoapCall → ℕ → Order
+order_of call n = record { kind = call.kind; number = n; osil = call.parts.osil; osol = call.parts.osol }
 
--- the text of a knock's process is empty, or says one, whatever it asks
+-- a call with these options asks this, of the job that they name
+abbrev pub IsAsked : SoapCall → Options → Order → Type 0
+IsAsked call o order = (n : ℕ) × NamesJob o n × (order ≡ order_of call n)
+
+-- the text of a process is empty, as that of each call is that has none, or says one, whatever it asks
 abbrev pub SaysProcess : List ℕ → Type 0
 SaysProcess text = (text ≡ []) ⊎ ((p : Process) × IsProcessText text p)
-
--- a call's process, where it has one, may stand there
-abbrev pub MayKnock : SoapCall → Type 0
-MayKnock (calls.Solve osil osol) = Unit {0}
-MayKnock (calls.GetJobId osol) = Unit {0}
-MayKnock (calls.Send osil osol) = Unit {0}
-MayKnock (calls.Retrieve osol) = Unit {0}
-MayKnock (calls.Knock ospl osol) = SaysProcess ospl
-MayKnock (calls.Kill osol) = Unit {0}
 
 -- a call asks this: its options and its process are read, and nothing of them is refused
 pub record Orders (call : SoapCall) (order : Order) : Type 0 where
   pub options : Options
-  pub said : IsOptionsText (options_of call) options
-  pub process : MayKnock call
+  pub said : IsOptionsText call.parts.osol options
+  pub process : SaysProcess call.parts.ospl
   pub asked : IsAsked call options order
 
 -- a body asks this
@@ -97,32 +74,23 @@ code_text codes_of.Spent = codes "Server.Spent"
 -- a call's options are refused, and this text says why
 abbrev pub RefusesOptions : SoapCall → List ℕ → Type 0
 RefusesOptions call text =
-    (f : OsolFault) × osol_reading.DecodeFails (options_of call) f × osol_texts.IsFaultText f text
+    (f : OsolFault) × osol_reading.DecodeFails call.parts.osol f × osol_texts.IsFaultText f text
 
--- the options of a knock are read, its process isn't empty and is refused, and this text says why
-pub record RefusesProcess (process options text : List ℕ) : Type 0 where
+-- the options of a call are read, its process isn't empty and is refused, and this text says why
+pub record RefusesProcess (call : SoapCall) (text : List ℕ) : Type 0 where
   pub said : Options
-  pub says : IsOptionsText options said
-  pub full : process ≢ []
+  pub says : IsOptionsText call.parts.osol said
+  pub full : call.parts.ospl ≢ []
   pub fault : OsplFault
-  pub fails : ospl.DecodeFails process fault
+  pub fails : ospl.DecodeFails call.parts.ospl fault
   pub told : ospl_texts.IsFaultText fault text
 
--- a call is a knock whose process is refused
-abbrev pub RefusesKnock : SoapCall → List ℕ → Type 0
-RefusesKnock (calls.Solve osil osol) text = ⊥
-RefusesKnock (calls.GetJobId osol) text = ⊥
-RefusesKnock (calls.Send osil osol) text = ⊥
-RefusesKnock (calls.Retrieve osol) text = ⊥
-RefusesKnock (calls.Knock process options) text = RefusesProcess process options text
-RefusesKnock (calls.Kill osol) text = ⊥
-
--- the options of a call are refused, or else the process of a knock
+-- the options of a call are refused, or else its process
 abbrev pub RefusesCall : SoapCall → FaultCode → List ℕ → Type 0
 RefusesCall call codes_of.Call text = ⊥
 RefusesCall call codes_of.Part text = ⊥
 RefusesCall call codes_of.Options text = RefusesOptions call text
-RefusesCall call codes_of.Process text = RefusesKnock call text
+RefusesCall call codes_of.Process text = RefusesProcess call text
 RefusesCall call codes_of.Full text = ⊥
 RefusesCall call codes_of.Spent text = ⊥
 
@@ -148,21 +116,3 @@ abbrev pub OrdersNothing : SoapCall → NoOrder → Type 0
 OrdersNothing call no.Envelope = ⊥
 OrdersNothing call (no.Fault code text) = RefusesCall call code text
 OrdersNothing call no.Memory = Unit {0}
-
--- the call that asks this
-abbrev pub kind_of : Order → CallKind
-kind_of orders.Issue = kinds.GetJobId
-kind_of (orders.Solve osil osol) = kinds.Solve
-kind_of (orders.Send n osil osol) = kinds.Send
-kind_of (orders.Retrieve n) = kinds.Retrieve
-kind_of orders.Knock = kinds.Knock
-kind_of (orders.Kill n) = kinds.Kill
-
--- the job that is asked for, and 0 where none is
-abbrev pub number_of : Order → ℕ
-number_of orders.Issue = 0
-number_of (orders.Solve osil osol) = 0
-number_of (orders.Send n osil osol) = n
-number_of (orders.Retrieve n) = n
-number_of orders.Knock = 0
-number_of (orders.Kill n) = n

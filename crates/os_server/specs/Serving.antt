@@ -14,7 +14,6 @@ use Rattle.os_server.specs.declared.reply.Reply.{Reply}
 use Rattle.os_server.specs.declared.reply.Reply.TheVariants.{Answer, Refused, NoMemory}
 use Rattle.os_server.specs.declared.serve.Served.{Served}
 use Rattle.os_server.specs.declared.serve.Served.TheVariants.{Ended, CutShort, ReadFault, WriteFault, Memory}
-use Rattle.os_server.specs.Orders.{kind_of, number_of}
 use Rattle.os_server.specs.Answers.{said_by, Does, BeginsToDo}
 use Rattle.os_server.specs.Talk.{Part, was_taken, IsRung, AtEnd, Reads, Answers, LacksMemory, IsDue, IsExchange, Ends, HandsOn, Accounts}
 
@@ -22,7 +21,7 @@ module _ (made : List ℕ → List ℕ → List Bool → Option (List ℕ) → T
   -- the calls that do what is asked, and the reply that says the last one's
   abbrev pub IsOrdered : Order → Bool → List Entry → Reply → Type 0
   IsOrdered order close own (Answer said closes as_worker) =
-      (closes ≡ close) × (last : tables.Reply) × Does made order last own × (said_by (kind_of order) (number_of order) last ≡ Some said)
+      (closes ≡ close) × (last : tables.Reply) × Does made order last own × (said_by order.kind order.number last ≡ Some said)
       × IsRung wakes (was_taken last) as_worker
   IsOrdered order close own (Refused refusal) = ⊥
   IsOrdered order close own NoMemory = BeginsToDo made order own ⊎ ((last : tables.Reply) × Does made order last own)

@@ -20,7 +20,7 @@ use Rattle.os_server.specs.declared.reply.Reply.{Reply}
 use Rattle.os_server.specs.declared.reply.Reply.TheVariants.{Answer, Refused, NoMemory}
 use Rattle.os_server.specs.declared.serve.Served.{Served}
 use Rattle.os_server.specs.declared.serve.Served.TheVariants.{Ended, CutShort, ReadFault, WriteFault, Memory}
-use Rattle.os_server.specs.Orders.{Asks, Faults, kind_of, number_of}
+use Rattle.os_server.specs.Orders.{Asks, Faults}
 use Rattle.os_server.specs.Answers.{said_by, fault_said, Does, BeginsToDo}
 
 -- most requests of one connection
@@ -84,7 +84,7 @@ module _ (made : List ℕ → List ℕ → List Bool → Option (List ℕ) → T
     pub last : tables.Reply
     pub asks : Asks body order
     pub does : Does made order last own
-    pub says : said_by (kind_of order) (number_of order) last ≡ Some said
+    pub says : said_by order.kind order.number last ≡ Some said
     pub woken : IsRung wakes (was_taken last) as_worker
 
   -- a body is an envelope whose call is refused, no call of the table is made, and the fault is said

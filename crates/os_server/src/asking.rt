@@ -1,13 +1,12 @@
 //! What the body of a request asks.
 ghost use Rattle.std.specs.Prelude.{◌≡◌, ◌++◌, ◌≢◌, [], ℕ, List, Result, Ok, Err, IfOk, OnOk, IfErr};
-ghost use Rattle.soap_calls.specs.declared.call.SoapCall.TheVariants as calls;
 ghost use Rattle.soap_calls.specs.declared.call.SoapCall as call_types;
 ghost use Rattle.soap_calls.specs.Refusals.{CallFails};
 ghost use Rattle.osol_grammar.specs.declared.options.Options as options_types;
 ghost use Rattle.osol_grammar.specs.Reading.{DecodeFails};
 ghost use Rattle.ospl_grammar.specs.Refusals as ospl;
 ghost use Rattle.osol_grammar.specs.Meaning.{IsOptionsText};
-ghost use Rattle.os_server.specs.Orders.{options_of, NamesJob, Names, SaysProcess, MayKnock, Orders, Asks, AsksNothing, OrdersNothing, RefusesOptions, IsAsked};
+ghost use Rattle.os_server.specs.Orders.{NamesJob, Names, SaysProcess, Orders, Asks, AsksNothing, OrdersNothing, IsAsked};
 
 use crate::fault::{FaultCode, NoOrder};
 use crate::order::Order;
@@ -15,7 +14,7 @@ use job_table::read_id;
 use os_io::{Memory, Text};
 use osol_grammar::{Options, OsolFault};
 use ospl_grammar::OsplFault;
-use soap_calls::{SoapCall, SoapFault, read_call};
+use soap_calls::{Parts, SoapCall, SoapFault, read_call};
 use std::alloc::Global;
 
 /// One text behind another.
@@ -53,7 +52,7 @@ fn refused_call(alloc: Global, fault: SoapFault) -> NoOrder
 
 /// Why options that are refused leave a call without an order.
 fn refused_options(alloc: Global, fault: OsolFault) -> NoOrder
-    ensures { (call : call_types.SoapCall) → DecodeFails (options_of call) fault → OrdersNothing call result }
+    ensures { (call : call_types.SoapCall) → DecodeFails call.parts.osol fault → OrdersNothing call result }
 {
     match osol_grammar::refusal_text(alloc, fault) {
         Ok(text) => NoOrder::Fault {
@@ -64,9 +63,9 @@ fn refused_options(alloc: Global, fault: OsolFault) -> NoOrder
     }
 }
 
-/// Why a process that is refused leaves a knock without an order.
+/// Why a process that is refused leaves a call without an order.
 fn refused_process(alloc: Global, fault: OsplFault) -> NoOrder
-    ensures { (process options : List ℕ) (said : options_types.Options) → IsOptionsText options said → (process ≢ []) → ospl.DecodeFails process fault → OrdersNothing (calls.Knock process options) result }
+    ensures { (call : call_types.SoapCall) (said : options_types.Options) → IsOptionsText call.parts.osol said → call.parts.ospl ≢ [] → ospl.DecodeFails call.parts.ospl fault → OrdersNothing call result }
 {
     match ospl_grammar::refusal_text(alloc, fault) {
         Ok(text) => NoOrder::Fault {
@@ -74,20 +73,6 @@ fn refused_process(alloc: Global, fault: OsplFault) -> NoOrder
             text,
         },
         Err(_) => NoOrder::Memory,
-    }
-}
-
-/// The text of a call's options.
-fn options_text(call: &SoapCall) -> &Text
-    ensures { result.now ≡ options_of call.now }
-{
-    match call {
-        SoapCall::Solve { osol, .. } => osol,
-        SoapCall::GetJobId { osol } => osol,
-        SoapCall::Send { osol, .. } => osol,
-        SoapCall::Retrieve { osol } => osol,
-        SoapCall::Knock { osol, .. } => osol,
-        SoapCall::Kill { osol } => osol,
     }
 }
 
@@ -113,20 +98,22 @@ fn number_of_id(id: &[u8]) -> u64
 
 /// Reads the options of a call.
 fn read_options(alloc: Global, call: &SoapCall) -> Result<Options, NoOrder>
-    ensures ok { IfOk result (IsOptionsText (options_of call.now)) }
+    ensures ok { IfOk result (IsOptionsText call.now.parts.osol) }
     ensures err { IfErr result (OrdersNothing call.now) }
 {
-    match osol_grammar::decode(alloc, options_text(call).as_slice()) {
+    match osol_grammar::decode(alloc, call.parts.osol.as_slice()) {
         Ok(options) => Ok(options),
         Err(fault) => Err(refused_options(alloc, fault)),
     }
 }
 
-/// Reads the process of a knock, which may be empty.
-fn check_knock(alloc: Global, process: &[u8]) -> Result<(), NoOrder>
-    ensures ok { OnOk result (SaysProcess process.now) }
-    ensures err { (options : List ℕ) (said : options_types.Options) → IsOptionsText options said → IfErr result (OrdersNothing (calls.Knock process.now options)) }
+/// Reads the process of a call with these options. It may be empty, as it is where the call has none.
+fn check_process(alloc: Global, call: &SoapCall, options: &Options) -> Result<(), NoOrder>
+    requires { IsOptionsText call.now.parts.osol options.now }
+    ensures ok { OnOk result (SaysProcess call.now.parts.ospl) }
+    ensures err { IfErr result (OrdersNothing call.now) }
 {
+    let process = call.parts.ospl.as_slice();
     if process.is_empty() {
         return Ok(());
     }
@@ -136,41 +123,21 @@ fn check_knock(alloc: Global, process: &[u8]) -> Result<(), NoOrder>
     }
 }
 
-/// Reads the process of a call, where it is one that may have one.
-fn check_process(alloc: Global, call: &SoapCall, options: &Options) -> Result<(), NoOrder>
-    requires { IsOptionsText (options_of call.now) options.now }
-    ensures ok { OnOk result (MayKnock call.now) }
-    ensures err { IfErr result (OrdersNothing call.now) }
-{
-    match call {
-        SoapCall::Knock { ospl, osol: _ } => check_knock(alloc, ospl.as_slice()),
-        SoapCall::Solve { .. } => Ok(()),
-        SoapCall::GetJobId { .. } => Ok(()),
-        SoapCall::Send { .. } => Ok(()),
-        SoapCall::Retrieve { .. } => Ok(()),
-        SoapCall::Kill { .. } => Ok(()),
-    }
-}
-
 /// What a call with these options asks.
 fn asked_by(call: SoapCall, options: &Options) -> Order
     ensures { IsAsked call options.now result }
 {
-    match call {
-        SoapCall::Solve { osil, osol } => Order::Solve { osil, osol },
-        SoapCall::GetJobId { osol: _ } => Order::Issue,
-        SoapCall::Send { osil, osol } => Order::Send {
-            number: number_in(options),
-            osil,
-            osol,
-        },
-        SoapCall::Retrieve { osol: _ } => Order::Retrieve {
-            number: number_in(options),
-        },
-        SoapCall::Knock { ospl: _, osol: _ } => Order::Knock,
-        SoapCall::Kill { osol: _ } => Order::Kill {
-            number: number_in(options),
-        },
+    let SoapCall { kind, parts } = call;
+    let Parts {
+        osil,
+        osol,
+        ospl: _,
+    } = parts;
+    Order {
+        kind,
+        number: number_in(options),
+        osil,
+        osol,
     }
 }
 

@@ -7,6 +7,7 @@ use crate::order::Order;
 use job_runs::{Runner, solve};
 use job_table::{Calls, IssueFault, Killing, Retrieved, Statistics, Twin, Verdicts};
 use os_io::Memory;
+use soap_calls::CallKind;
 use std::alloc::{AllocError, Global};
 
 /// The last reply of the table to what was asked.
@@ -38,14 +39,20 @@ pub(crate) fn make<V: Verdicts, C: Calls<V>, R: Runner<V>>(
     ensures ok { IfOk result (λ last. (own : List Entry) × C.did calls.old calls.new own × Does R.ran order (reply_of last) own) }
     ensures err { OnErr result ((own : List Entry) × C.did calls.old calls.new own × BeginsToDo R.ran order own) }
 {
-    match order {
-        Order::Issue => match calls.issue() {
+    let Order {
+        kind,
+        number,
+        osil,
+        osol,
+    } = order;
+    match kind {
+        CallKind::GetJobId => match calls.issue() {
             Ok(number) => Ok(LastReply::Issued(number)),
             Err(IssueFault::Full) => Ok(LastReply::Full),
             Err(IssueFault::Spent) => Ok(LastReply::Spent),
             Err(IssueFault::Memory) => Err(AllocError),
         },
-        Order::Solve { osil, osol } => {
+        CallKind::Solve => {
             let osil = Twin::new(alloc, osil)?;
             let osol = Twin::new(alloc, osol)?;
             match solve(alloc, calls, runner, osil, osol) {
@@ -55,19 +62,19 @@ pub(crate) fn make<V: Verdicts, C: Calls<V>, R: Runner<V>>(
                 Err(IssueFault::Memory) => Err(AllocError),
             }
         }
-        Order::Send { number, osil, osol } => {
+        CallKind::Send => {
             let osil = Twin::new(alloc, osil)?;
             let osol = Twin::new(alloc, osol)?;
             Ok(LastReply::Sent(calls.send(number, osil, osol)))
         }
-        Order::Retrieve { number } => match calls.retrieve(number) {
+        CallKind::Retrieve => match calls.retrieve(number) {
             Ok(shown) => Ok(LastReply::Retrieved(shown)),
             Err(lost) => Err(lost),
         },
-        Order::Knock => match calls.knock() {
+        CallKind::Knock => match calls.knock() {
             Ok(told) => Ok(LastReply::Statistics(told)),
             Err(lost) => Err(lost),
         },
-        Order::Kill { number } => Ok(LastReply::Killing(calls.kill(number))),
+        CallKind::Kill => Ok(LastReply::Killing(calls.kill(number))),
     }
 }

@@ -64,8 +64,8 @@ fn answer_order<V: Verdicts, C: Calls<V>, S: Server<V>>(
 ) -> Reply
     ensures { (own : List Entry) × C.did calls.old calls.new own × IsOrdered S.ran S.wakes order close own result }
 {
-    let kind = order.kind();
-    let number = order.number();
+    let kind = order.kind;
+    let number = order.number;
     match make(alloc, calls, server, order) {
         Ok(last) => match say(alloc, kind, number, &last) {
             Ok(said) => {

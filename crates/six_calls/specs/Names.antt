@@ -1,4 +1,4 @@
--- The six calls of the Optimization Services and their parts, by their names.
+-- The six calls of the Optimization Services and their parts, one row for each call.
 use Rattle.std.specs.Prelude.{ℕ, Bool, true, false, List, [], ◌∷◌, Option, codes, find}
 use Rattle.std.specs.Str.{bytes_eq}
 use Rattle.six_calls.specs.declared.call.CallKind.{CallKind}
@@ -6,17 +6,26 @@ use Rattle.six_calls.specs.declared.call.CallKind.TheVariants as kinds
 use Rattle.six_calls.specs.declared.part.Part.{Part}
 use Rattle.six_calls.specs.declared.part.Part.TheVariants.{Osil, Osol, Ospl}
 
-abbrev pub kind_text : CallKind → List ℕ
-kind_text kinds.Solve = codes "solve"
-kind_text kinds.GetJobId = codes "getJobID"
-kind_text kinds.Send = codes "send"
-kind_text kinds.Retrieve = codes "retrieve"
-kind_text kinds.Knock = codes "knock"
-kind_text kinds.Kill = codes "kill"
+-- a call's name, and which of the parts it has that not every call has
+pub record Row : Type 0 where
+  pub name : List ℕ
+  pub osil : Bool
+  pub ospl : Bool
+
+abbrev pub row : CallKind → Row
+row kinds.Solve = record { name = codes "solve"; osil = true; ospl = false }
+row kinds.GetJobId = record { name = codes "getJobID"; osil = false; ospl = false }
+row kinds.Send = record { name = codes "send"; osil = true; ospl = false }
+row kinds.Retrieve = record { name = codes "retrieve"; osil = false; ospl = false }
+row kinds.Knock = record { name = codes "knock"; osil = false; ospl = true }
+row kinds.Kill = record { name = codes "kill"; osil = false; ospl = false }
 
 -- the calls
 abbrev pub all_kinds : List CallKind
 all_kinds = kinds.Solve ∷ kinds.GetJobId ∷ kinds.Send ∷ kinds.Retrieve ∷ kinds.Knock ∷ kinds.Kill ∷ []
+
+abbrev pub kind_text : CallKind → List ℕ
+kind_text kind = (row kind).name
 
 -- the call of this name, if there is one
 abbrev pub kind_named : List ℕ → Option CallKind
@@ -33,26 +42,8 @@ is_needed Osil = true
 is_needed Osol = false
 is_needed Ospl = false
 
--- the calls that bring an instance
-abbrev pub brings_instance : CallKind → Bool
-brings_instance kinds.Solve = true
-brings_instance kinds.GetJobId = false
-brings_instance kinds.Send = true
-brings_instance kinds.Retrieve = false
-brings_instance kinds.Knock = false
-brings_instance kinds.Kill = false
-
--- the call that brings a process document
-abbrev pub brings_process : CallKind → Bool
-brings_process kinds.Solve = false
-brings_process kinds.GetJobId = false
-brings_process kinds.Send = false
-brings_process kinds.Retrieve = false
-brings_process kinds.Knock = true
-brings_process kinds.Kill = false
-
 -- the call has this part
 abbrev pub has : CallKind → Part → Bool
-has k Osil = brings_instance k
-has k Osol = true
-has k Ospl = brings_process k
+has kind Osil = (row kind).osil
+has kind Osol = true
+has kind Ospl = (row kind).ospl

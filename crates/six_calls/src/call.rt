@@ -22,19 +22,60 @@ pub enum CallKind {
     Kill,
 }
 
+/// What is known of a call: its name, and which of the parts it has that not every call has.
+#[derive(Clone, Copy)]
+struct Row {
+    name: &'static [u8],
+    osil: bool,
+    ospl: bool,
+}
+
 impl CallKind {
+    /// What is known of it.
+    fn row(self) -> Row
+        ensures name { result.name.now ≡ (names.row self).name }
+        ensures osil { result.osil ≡ (names.row self).osil }
+        ensures ospl { result.ospl ≡ (names.row self).ospl }
+    {
+        match self {
+            CallKind::Solve => Row {
+                name: b"solve",
+                osil: true,
+                ospl: false,
+            },
+            CallKind::GetJobId => Row {
+                name: b"getJobID",
+                osil: false,
+                ospl: false,
+            },
+            CallKind::Send => Row {
+                name: b"send",
+                osil: true,
+                ospl: false,
+            },
+            CallKind::Retrieve => Row {
+                name: b"retrieve",
+                osil: false,
+                ospl: false,
+            },
+            CallKind::Knock => Row {
+                name: b"knock",
+                osil: false,
+                ospl: true,
+            },
+            CallKind::Kill => Row {
+                name: b"kill",
+                osil: false,
+                ospl: false,
+            },
+        }
+    }
+
     /// Its name.
     pub fn name(self) -> &'static [u8]
         ensures { result.now ≡ names.kind_text self }
     {
-        match self {
-            CallKind::Solve => b"solve",
-            CallKind::GetJobId => b"getJobID",
-            CallKind::Send => b"send",
-            CallKind::Retrieve => b"retrieve",
-            CallKind::Knock => b"knock",
-            CallKind::Kill => b"kill",
-        }
+        self.row().name
     }
 
     /// The call of this name, if there is one.
@@ -63,9 +104,9 @@ impl CallKind {
         ensures { result ≡ names.has self part }
     {
         match part {
-            Part::Osil => matches!(self, CallKind::Solve | CallKind::Send),
+            Part::Osil => self.row().osil,
             Part::Osol => true,
-            Part::Ospl => matches!(self, CallKind::Knock),
+            Part::Ospl => self.row().ospl,
         }
     }
 }

@@ -10,12 +10,11 @@ use Rattle.element_tree.proofs.Documents.{written_doc}
 use Rattle.document_tags.specs.Writing.{leaf, group}
 use Rattle.document_tags.proofs.Flat.{AreFlat, none_flat, element_flat, still_flat, tag_by}
 use Rattle.six_calls.specs.declared.call.CallKind.{CallKind}
-use Rattle.six_calls.specs.declared.call.CallKind.TheVariants as kinds
 use Rattle.soap_calls.specs.declared.fault.Answer.TheVariants.{Return, Fault}
 use Rattle.six_calls.specs.Names.{kind_text}
 use Rattle.soap_calls.specs.Replies.{reply_limit, MayReturn, IsReplyDocument, IsReplyText}
-use Rattle.soap_calls.specs.Writing.{soap, frame, ours_around, response_nodes, reply_text, fault_nodes, fault_text}
-use Rattle.soap_calls.proofs.BackCalls.{read_frame, bare, plain_leaf, leaf_flat, ours_flat, body_flat, soap_text}
+use Rattle.soap_calls.specs.Writing.{soap, frame, response_nodes, reply_text, fault_nodes, fault_text}
+use Rattle.soap_calls.proofs.BackCalls.{read_frame, bare, plain_leaf, leaf_flat, plain_kind, named_flat, body_flat, soap_text}
 
 -- an envelope that is short enough is a reply's document
 frame_document : (inside kept : Nodes) → AreFlat 30 inside kept → length (written (frame inside)) ≤ reply_limit → IsReplyDocument (written (frame inside)) (read_frame kept)
@@ -26,29 +25,17 @@ frame_document inside kept flat short =
     let doc : Doc (written (frame inside)) (read_frame kept) = subst (λ (c : Nodes). Doc (written (frame inside)) (root c)) body.here (written_doc (frame inside) writable) in
     record { document = doc; short = short; shallow = let low = body.low in omega (arith, low) }
 
--- a response, and the value in it
-value_flat : (k : CallKind) (text : List ℕ) → IsXmlText text → AreFlat 1 (leaf (kind_text k ++ codes "Return") text none) (leaf (kind_text k ++ codes "Return") text none)
-value_flat kinds.Solve text xml = leaf_flat 0 (kind_text kinds.Solve ++ codes "Return") text none refl refl xml (none_flat 1)
-value_flat kinds.GetJobId text xml = leaf_flat 0 (kind_text kinds.GetJobId ++ codes "Return") text none refl refl xml (none_flat 1)
-value_flat kinds.Send text xml = leaf_flat 0 (kind_text kinds.Send ++ codes "Return") text none refl refl xml (none_flat 1)
-value_flat kinds.Retrieve text xml = leaf_flat 0 (kind_text kinds.Retrieve ++ codes "Return") text none refl refl xml (none_flat 1)
-value_flat kinds.Knock text xml = leaf_flat 0 (kind_text kinds.Knock ++ codes "Return") text none refl refl xml (none_flat 1)
-value_flat kinds.Kill text xml = leaf_flat 0 (kind_text kinds.Kill ++ codes "Return") text none refl refl xml (none_flat 1)
-
-response_flat : (k : CallKind) (inside : Nodes) → AreFlat 1 inside inside → AreFlat 2 (ours_around (kind_text k ++ codes "Response") inside) (bare (kind_text k ++ codes "Response") inside)
-response_flat kinds.Solve inside flat = ours_flat 1 (kind_text kinds.Solve ++ codes "Response") inside refl refl flat
-response_flat kinds.GetJobId inside flat = ours_flat 1 (kind_text kinds.GetJobId ++ codes "Response") inside refl refl flat
-response_flat kinds.Send inside flat = ours_flat 1 (kind_text kinds.Send ++ codes "Response") inside refl refl flat
-response_flat kinds.Retrieve inside flat = ours_flat 1 (kind_text kinds.Retrieve ++ codes "Response") inside refl refl flat
-response_flat kinds.Knock inside flat = ours_flat 1 (kind_text kinds.Knock ++ codes "Response") inside refl refl flat
-response_flat kinds.Kill inside flat = ours_flat 1 (kind_text kinds.Kill ++ codes "Response") inside refl refl flat
-
 pub return_is : (k : CallKind) (text : List ℕ) → IsXmlText text → MayReturn (kind_text k) text → length (reply_text (kind_text k) text) ≤ reply_limit → IsReplyText (kind_text k) (reply_text (kind_text k) text) (Return text)
-return_is k text xml may short = record {
-  root = read_frame (bare (kind_text k ++ codes "Response") (leaf (kind_text k ++ codes "Return") text none));
-  document = frame_document (response_nodes (kind_text k ++ codes "Response") (kind_text k ++ codes "Return") text) _ (still_flat 2 30 _ _ (lit≤ tt) (response_flat k _ (value_flat k text xml))) short;
-  is = (refl, record { named = refl; plain = plain_leaf text; may = may });
-}
+return_is k text xml may short =
+    let value = plain_kind (λ name. name ++ codes "Return") refl k in
+    let response = plain_kind (λ name. name ++ codes "Response") refl k in
+    let flat = leaf_flat 0 (kind_text k ++ codes "Return") text none value.bare value.local xml (none_flat 1) in
+    record {
+      root = read_frame (bare (kind_text k ++ codes "Response") (leaf (kind_text k ++ codes "Return") text none));
+      document = frame_document (response_nodes (kind_text k ++ codes "Response") (kind_text k ++ codes "Return") text) _
+          (still_flat 2 30 _ _ (lit≤ tt) (named_flat 1 (kind_text k ++ codes "Response") _ response flat)) short;
+      is = (refl, record { named = refl; plain = plain_leaf text; may = may });
+    }
 
 fault_flat : (code text : List ℕ) → IsXmlText code → IsXmlText text → AreFlat 2 (fault_nodes code text) (group (codes "Fault") (leaf (codes "faultcode") code (leaf (codes "faultstring") text none)) none)
 fault_flat code text xml xml_text =

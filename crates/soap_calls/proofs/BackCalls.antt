@@ -1,9 +1,11 @@
 -- The envelope that a call is written as is that call's.
-use Rattle.std.proofs.Common.{◌≡◌, ℕ, suc, ◌≤◌, true, Some, List, [], ◌∷◌, length, append-nil, refl, ap, subst, lit≤}
+use Rattle.std.proofs.Common.{◌≡◌, ℕ, suc, ◌≤◌, Bool, true, false, cond, bytes_eq, Some, List, [], ◌∷◌, length, append-nil, refl, ap, sym, subst, lit≤}
 use Rattle.std.specs.Prelude.{codes}
+use Rattle.std.specs.List.{list_all}
+use Rattle.std.proofs.lemmas.Slice.Eq.{bytes_eq-Decides}
 use Rattle.tree_grammar.specs.Characters.{IsXmlText, local_part}
 use Rattle.tree_grammar.specs.Elements.{Nodes, none, element, Element}
-use Rattle.document_tags.specs.Elements.{characters}
+use Rattle.document_tags.specs.Elements.{characters, children_named}
 use Rattle.document_tags.specs.Rests.{child_elements}
 use Rattle.document_tags.specs.Texts.{document_limit, IsDocument}
 use Rattle.document_tags.specs.Writing.{text_nodes, leaf, group}
@@ -11,12 +13,14 @@ use Rattle.document_tags.proofs.Printing.{fixed_text}
 use Rattle.document_tags.proofs.Flat.{is_tag, AreFlat, none_flat, text_flat, element_flat, still_flat, written_is_document}
 use Rattle.document_tags.specs.Only.{unless_elements}
 use Rattle.six_calls.specs.declared.call.CallKind.{CallKind}
-use Rattle.six_calls.specs.declared.call.CallKind.TheVariants as kinds
+use Rattle.six_calls.specs.declared.part.Part.{Part}
+use Rattle.six_calls.specs.declared.part.Part.TheVariants.{Osil, Osol, Ospl}
+use Rattle.soap_calls.specs.declared.call.Parts.{Parts}
 use Rattle.soap_calls.specs.declared.call.SoapCall.{SoapCall}
-use Rattle.soap_calls.specs.declared.call.SoapCall.TheVariants.{Solve, GetJobId, Send, Retrieve, Knock, Kill}
-use Rattle.six_calls.specs.Names.{kind_text}
-use Rattle.soap_calls.specs.Calls.{kind_of, IsCallIn, IsCallText}
-use Rattle.soap_calls.specs.Writing.{ours, frame, ours_around, part_nodes, call_text}
+use Rattle.six_calls.specs.Names.{kind_text, part_text, has, all_kinds}
+use Rattle.six_calls.proofs.Named.{each_passes}
+use Rattle.soap_calls.specs.Calls.{text_among, text_of, IsCallIn, IsCallText}
+use Rattle.soap_calls.specs.Writing.{ours, frame, ours_around, part_node, part_nodes, call_text}
 use Rattle.soap_calls.specs.Back.{AreTexts}
 
 -- the envelope that is read, without prefixes and namespaces
@@ -50,37 +54,89 @@ body_flat n inside kept flat = element_flat n (codes "soap:Body") [] inside none
 pub soap_text : IsXmlText (codes "http://schemas.xmlsoap.org/soap/envelope/")
 soap_text = fixed_text (codes "http://schemas.xmlsoap.org/soap/envelope/") refl
 
-one_flat : (osol : List ℕ) → IsXmlText osol → AreFlat 1 (leaf (codes "osol") osol none) (leaf (codes "osol") osol none)
-one_flat osol xml = leaf_flat 0 (codes "osol") osol none refl refl xml (none_flat 1)
+-- the name of a part, and the name of a call or of what answers one, are those of elements, without a prefix
+abbrev is_plain : List ℕ → Bool
+is_plain name = cond (is_tag name []) (cond (is_tag name ours) (bytes_eq (local_part name) name) false) false
 
-parts_flat : (c : SoapCall) → AreTexts c → AreFlat 1 (part_nodes c) (part_nodes c)
-parts_flat (Solve osil osol) xml = leaf_flat 0 (codes "osil") osil (leaf (codes "osol") osol none) refl refl xml.0 (one_flat osol xml.1)
-parts_flat (GetJobId osol) xml = one_flat osol xml
-parts_flat (Send osil osol) xml = leaf_flat 0 (codes "osil") osil (leaf (codes "osol") osol none) refl refl xml.0 (one_flat osol xml.1)
-parts_flat (Retrieve osol) xml = one_flat osol xml
-parts_flat (Knock ospl osol) xml = leaf_flat 0 (codes "ospl") ospl (leaf (codes "osol") osol none) refl refl xml.0 (one_flat osol xml.1)
-parts_flat (Kill osol) xml = one_flat osol xml
+pub record IsPlain (name : List ℕ) : Type 0 where
+  pub bare : is_tag name [] ≡ true
+  pub named : is_tag name ours ≡ true
+  pub local : local_part name ≡ name
 
-named_flat : (k : CallKind) (inside : Nodes) → AreFlat 1 inside inside → AreFlat 2 (ours_around (kind_text k) inside) (bare (kind_text k) inside)
-named_flat kinds.Solve inside flat = ours_flat 1 (kind_text kinds.Solve) inside refl refl flat
-named_flat kinds.GetJobId inside flat = ours_flat 1 (kind_text kinds.GetJobId) inside refl refl flat
-named_flat kinds.Send inside flat = ours_flat 1 (kind_text kinds.Send) inside refl refl flat
-named_flat kinds.Retrieve inside flat = ours_flat 1 (kind_text kinds.Retrieve) inside refl refl flat
-named_flat kinds.Knock inside flat = ours_flat 1 (kind_text kinds.Knock) inside refl refl flat
-named_flat kinds.Kill inside flat = ours_flat 1 (kind_text kinds.Kill) inside refl refl flat
+both : (a b : Bool) → cond a b false ≡ true → (a ≡ true) × (b ≡ true)
+both true b is = (refl, is)
+both false b is = cc
 
-call_document : (c : SoapCall) → AreTexts c → length (call_text c) ≤ document_limit → IsDocument (call_text c) (read_frame (bare (kind_text (kind_of c)) (part_nodes c)))
-call_document c xml short =
-    written_is_document (frame (ours_around (kind_text (kind_of c)) (part_nodes c))) (group (codes "Body") (bare (kind_text (kind_of c)) (part_nodes c)) none) refl (soap_text, tt)
-    (still_flat 3 31 _ _ (lit≤ tt) (body_flat 2 _ _ (named_flat (kind_of c) (part_nodes c) (parts_flat c xml)))) short
+plain : (name : List ℕ) → is_plain name ≡ true → IsPlain name
+plain name is =
+    let a = both (is_tag name []) (cond (is_tag name ours) (bytes_eq (local_part name) name) false) is in
+    let b = both (is_tag name ours) (bytes_eq (local_part name) name) a.1 in
+    record { bare = a.0; named = b.0; local = (bytes_eq-Decides (local_part name) name).0 b.1 }
 
-call_said : (c : SoapCall) → IsCallIn (read_frame (bare (kind_text (kind_of c)) (part_nodes c))) c
-call_said (Solve osil osol) = record { kind = kinds.Solve; parts = record { osil = osil; osol = osol; ospl = [] }; named = refl; are = record { osil = plain_leaf osil; osol = plain_leaf osol; ospl = refl }; is = refl }
-call_said (GetJobId osol) = record { kind = kinds.GetJobId; parts = record { osil = []; osol = osol; ospl = [] }; named = refl; are = record { osil = refl; osol = plain_leaf osol; ospl = refl }; is = refl }
-call_said (Send osil osol) = record { kind = kinds.Send; parts = record { osil = osil; osol = osol; ospl = [] }; named = refl; are = record { osil = plain_leaf osil; osol = plain_leaf osol; ospl = refl }; is = refl }
-call_said (Retrieve osol) = record { kind = kinds.Retrieve; parts = record { osil = []; osol = osol; ospl = [] }; named = refl; are = record { osil = refl; osol = plain_leaf osol; ospl = refl }; is = refl }
-call_said (Knock ospl osol) = record { kind = kinds.Knock; parts = record { osil = []; osol = osol; ospl = ospl }; named = refl; are = record { osil = refl; osol = plain_leaf osol; ospl = plain_leaf ospl }; is = refl }
-call_said (Kill osol) = record { kind = kinds.Kill; parts = record { osil = []; osol = osol; ospl = [] }; named = refl; are = record { osil = refl; osol = plain_leaf osol; ospl = refl }; is = refl }
+plain_part : (p : Part) → IsPlain (part_text p)
+plain_part Osil = plain (part_text Osil) refl
+plain_part Osol = plain (part_text Osol) refl
+plain_part Ospl = plain (part_text Ospl) refl
+
+-- what stands behind a call's name is given
+pub plain_kind : (behind : List ℕ → List ℕ) → list_all (λ k. is_plain (behind (kind_text k))) all_kinds ≡ true → (k : CallKind) → IsPlain (behind (kind_text k))
+plain_kind behind is k = plain (behind (kind_text k)) (each_passes (λ k. is_plain (behind (kind_text k))) is k)
+
+pub named_flat : (n : ℕ) (name : List ℕ) (inside : Nodes) → IsPlain name → AreFlat n inside inside → AreFlat (suc n) (ours_around name inside) (bare name inside)
+named_flat n name inside is flat = ours_flat n name inside is.named is.local flat
+
+-- ---- the parts
+
+module _ (c : SoapCall) (texts : AreTexts c) where
+  part_flat : (p : Part) (more : Nodes) → AreFlat 1 more more → AreFlat 1 (part_node c p more) (part_node c p more)
+  part_flat p more rest =
+      elim (has c.kind p) as (λ b. AreFlat 1 (cond b (leaf (part_text p) (text_of c.parts p) more) more) (cond b (leaf (part_text p) (text_of c.parts p) more) more)) [
+        | true ↦ leaf_flat 0 (part_text p) (text_of c.parts p) more (plain_part p).bare (plain_part p).local (texts.xml p) rest
+        | false ↦ rest
+      ]
+
+  parts_flat : AreFlat 1 (part_nodes c) (part_nodes c)
+  parts_flat = part_flat Osil (part_node c Ospl (part_node c Osol none)) (part_flat Ospl (part_node c Osol none) (part_flat Osol none (none_flat 1)))
+
+  call_document : length (call_text c) ≤ document_limit → IsDocument (call_text c) (read_frame (bare (kind_text c.kind) (part_nodes c)))
+  call_document short =
+      written_is_document (frame (ours_around (kind_text c.kind) (part_nodes c))) (group (codes "Body") (bare (kind_text c.kind) (part_nodes c)) none) refl (soap_text, tt)
+      (still_flat 3 31 _ _ (lit≤ tt) (body_flat 2 _ _ (named_flat 1 (kind_text c.kind) (part_nodes c) (plain_kind (λ name. name) refl c.kind) parts_flat))) short
+
+-- the parts of a call that has an instance, or a process, or not
+abbrev nodes_by : Bool → Bool → Parts → Nodes
+nodes_by osil ospl ps = cond osil (leaf (codes "osil") ps.osil (cond ospl (leaf (codes "ospl") ps.ospl (leaf (codes "osol") ps.osol none)) (leaf (codes "osol") ps.osol none)))
+    (cond ospl (leaf (codes "ospl") ps.ospl (leaf (codes "osol") ps.osol none)) (leaf (codes "osol") ps.osol none))
+
+abbrev holds : List ℕ → Nodes → Element
+holds name inside = record { name = name; attributes = []; children = inside }
+
+module _ (name : List ℕ) (ps : Parts) where
+  osil_said : (osil ospl : Bool) → (osil ≡ false → ps.osil ≡ []) → cond osil (text_among true (children_named (codes "osil") (holds name (nodes_by osil ospl ps)))) (Some []) ≡ Some ps.osil
+  osil_said true true own = plain_leaf ps.osil
+  osil_said true false own = plain_leaf ps.osil
+  osil_said false ospl own = ap (λ (t : List ℕ). Some t) (sym (own refl))
+
+  osol_said : (osil ospl : Bool) → text_among false (children_named (codes "osol") (holds name (nodes_by osil ospl ps))) ≡ Some ps.osol
+  osol_said true true = plain_leaf ps.osol
+  osol_said true false = plain_leaf ps.osol
+  osol_said false true = plain_leaf ps.osol
+  osol_said false false = plain_leaf ps.osol
+
+  ospl_said : (osil ospl : Bool) → (ospl ≡ false → ps.ospl ≡ []) → cond ospl (text_among false (children_named (codes "ospl") (holds name (nodes_by osil ospl ps)))) (Some []) ≡ Some ps.ospl
+  ospl_said true true own = plain_leaf ps.ospl
+  ospl_said false true own = plain_leaf ps.ospl
+  ospl_said osil false own = ap (λ (t : List ℕ). Some t) (sym (own refl))
+
+call_said : (c : SoapCall) → AreTexts c → IsCallIn (read_frame (bare (kind_text c.kind) (part_nodes c))) c
+call_said c texts = record {
+  named = refl;
+  are = record {
+    osil = osil_said (kind_text c.kind) c.parts (has c.kind Osil) (has c.kind Ospl) (texts.own Osil);
+    osol = osol_said (kind_text c.kind) c.parts (has c.kind Osil) (has c.kind Ospl);
+    ospl = ospl_said (kind_text c.kind) c.parts (has c.kind Osil) (has c.kind Ospl) (texts.own Ospl);
+  };
+}
 
 pub call_is : (c : SoapCall) → AreTexts c → length (call_text c) ≤ document_limit → IsCallText (call_text c) c
-call_is c xml short = record { root = read_frame (bare (kind_text (kind_of c)) (part_nodes c)); document = call_document c xml short; is = call_said c }
+call_is c texts short = record { root = read_frame (bare (kind_text c.kind) (part_nodes c)); document = call_document c texts short; is = call_said c texts }

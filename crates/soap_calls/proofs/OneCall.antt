@@ -1,10 +1,9 @@
 -- Bytes are one call, or refused in one way.
-use Rattle.std.proofs.Common.{◌≡◌, ◌≢◌, ◌∙◌, ◌==◌, inl, inr, ℕ, cond, get_or, Option, None, Some, Result, Ok, Err, List, refl, ap, sym, subst}
+use Rattle.std.proofs.Common.{◌≡◌, ◌≢◌, ◌∙◌, inl, inr, ℕ, Option, None, Some, Result, Ok, Err, List, refl, ap, sym, subst}
 use Rattle.std.specs.Prelude.{IfOk, IfErr, IsSome, IsSomeAnd}
 use Rattle.tree_grammar.specs.Elements.{Element}
 use Rattle.document_tags.proofs.OneDocument.{document_once, documents_apart}
 use Rattle.six_calls.specs.declared.call.CallKind.{CallKind}
-use Rattle.six_calls.specs.declared.call.CallKind.TheVariants as kinds
 use Rattle.six_calls.specs.declared.part.Part as given
 use Rattle.six_calls.specs.declared.part.Part.TheVariants.{Osil, Osol, Ospl}
 use Rattle.soap_calls.specs.declared.call.Parts.{Parts}
@@ -12,28 +11,10 @@ use Rattle.soap_calls.specs.declared.call.SoapCall.{SoapCall}
 use Rattle.soap_calls.specs.declared.fault.SoapFault.{SoapFault}
 use Rattle.soap_calls.specs.declared.fault.SoapFault.TheVariants.{Envelope, Call, Part, Memory}
 use Rattle.six_calls.specs.Names.{kind_text}
+use Rattle.six_calls.proofs.Named.{named_once}
 use Rattle.soap_calls.specs.Envelope.{held}
-use Rattle.soap_calls.specs.Calls.{part, AreParts, call_of, IsCall, IsCallIn, IsCallText}
+use Rattle.soap_calls.specs.Calls.{part, AreParts, IsCall, IsCallIn, IsCallText}
 use Rattle.soap_calls.specs.Refusals.{IsFirstRefused, IsElementRefused, IsRefused, CallFails}
-
--- the call whose name has this fourth letter
-abbrev by_letter : ℕ → CallKind
-by_letter c = cond (c == 118) kinds.Solve (cond (c == 74) kinds.GetJobId (cond (c == 100) kinds.Send (cond (c == 114) kinds.Retrieve (cond (c == 99) kinds.Knock kinds.Kill))))
-
-abbrev letter : List ℕ → ℕ
-letter word = get_or word 3 0
-
-kind_back : (k : CallKind) → by_letter (letter (kind_text k)) ≡ k
-kind_back kinds.Solve = refl
-kind_back kinds.GetJobId = refl
-kind_back kinds.Send = refl
-kind_back kinds.Retrieve = refl
-kind_back kinds.Knock = refl
-kind_back kinds.Kill = refl
-
--- names of calls differ
-pub same_kind : (j k : CallKind) → kind_text j ≡ kind_text k → j ≡ k
-same_kind j k e = sym (kind_back j) ∙ ap (λ (word : List ℕ). by_letter (letter word)) e ∙ kind_back k
 
 same_some : {X : Type 0} (x y : X) → Some x ≡ Some y → x ≡ y
 same_some x y e = let same : x ≡ y = cc in same
@@ -50,13 +31,13 @@ parts_once k e p q a b =
     same
 
 kinds_are : (e : Element) (j k : CallKind) → e.name ≡ kind_text j → e.name ≡ kind_text k → j ≡ k
-kinds_are e j k a b = same_kind j k (sym a ∙ b)
+kinds_are e j k a b = named_once j k (sym a ∙ b)
 
 call_once : (e : Element) (c d : SoapCall) → IsCall e c → IsCall e d → c ≡ d
 call_once e c d a b =
-    let kind : a.kind ≡ b.kind = kinds_are e a.kind b.kind a.named b.named in
-    let parts : a.parts ≡ b.parts = parts_once b.kind e a.parts b.parts (subst (λ (k : CallKind). AreParts k e a.parts) kind a.are) b.are in
-    a.is ∙ ap (λ (k : CallKind). call_of k a.parts) kind ∙ ap (call_of b.kind) parts ∙ sym b.is
+    let kind : c.kind ≡ d.kind = kinds_are e c.kind d.kind a.named b.named in
+    let parts : c.parts ≡ d.parts = parts_once d.kind e c.parts d.parts (subst (λ (k : CallKind). AreParts k e c.parts) kind a.are) b.are in
+    λ i. record { kind = kind i; parts = parts i }
 
 once_in : (o : Option Element) (c d : SoapCall) → IsSomeAnd o (λ e. IsCall e c) → IsSomeAnd o (λ e. IsCall e d) → c ≡ d
 once_in None c d a b = absurd a
@@ -126,8 +107,8 @@ first_apart k e Ospl ps are a = let clash : None ≡ Some ps.ospl = sym a.2 ∙ 
 element_apart : (e : Element) (c : SoapCall) (f : SoapFault) → IsCall e c → IsElementRefused e f → ⊥
 element_apart e c Envelope is h = h
 element_apart e c Memory is h = h
-element_apart e c (Call n) is h = h.0 is.kind is.named
-element_apart e c (Part p) is (k, named, first) = first_apart k e p is.parts (subst (λ (i : CallKind). AreParts i e is.parts) (kinds_are e is.kind k is.named named) is.are) first
+element_apart e c (Call n) is h = h.0 c.kind is.named
+element_apart e c (Part p) is (k, named, first) = first_apart k e p c.parts (subst (λ (i : CallKind). AreParts i e c.parts) (kinds_are e c.kind k is.named named) is.are) first
 
 apart_in : (o : Option Element) (c : SoapCall) (f : SoapFault) → IsSomeAnd o (λ e. IsCall e c) → IsSomeAnd o (λ e. IsElementRefused e f) → ⊥
 apart_in None c f is h = is

@@ -5,12 +5,10 @@ use Rattle.document_tags.specs.Elements.{children_named}
 use Rattle.document_tags.specs.Documents.{OfDocument}
 use Rattle.document_tags.specs.Only.{plain_text}
 use Rattle.six_calls.specs.declared.call.CallKind.{CallKind}
-use Rattle.six_calls.specs.declared.call.CallKind.TheVariants as kinds
 use Rattle.six_calls.specs.declared.part.Part.{Part}
 use Rattle.six_calls.specs.declared.part.Part.TheVariants.{Osil, Osol, Ospl}
 use Rattle.soap_calls.specs.declared.call.Parts.{Parts}
 use Rattle.soap_calls.specs.declared.call.SoapCall.{SoapCall}
-use Rattle.soap_calls.specs.declared.call.SoapCall.TheVariants.{Solve, GetJobId, Send, Retrieve, Knock, Kill}
 use Rattle.six_calls.specs.Names.{kind_text, part_text, is_needed, has}
 use Rattle.soap_calls.specs.Envelope.{held}
 
@@ -30,31 +28,24 @@ pub record AreParts (k : CallKind) (call : Element) (ps : Parts) : Type 0 where
   pub osol : part k call Osol ≡ Some ps.osol
   pub ospl : part k call Ospl ≡ Some ps.ospl
 
--- the call with these texts
-abbrev pub call_of : CallKind → Parts → SoapCall
-call_of kinds.Solve ps = Solve ps.osil ps.osol
-call_of kinds.GetJobId ps = GetJobId ps.osol
-call_of kinds.Send ps = Send ps.osil ps.osol
-call_of kinds.Retrieve ps = Retrieve ps.osol
-call_of kinds.Knock ps = Knock ps.ospl ps.osol
-call_of kinds.Kill ps = Kill ps.osol
+-- the text of a part
+abbrev pub text_of : Parts → Part → List ℕ
+text_of ps Osil = ps.osil
+text_of ps Osol = ps.osol
+text_of ps Ospl = ps.ospl
 
--- which of the six it is
-abbrev pub kind_of : SoapCall → CallKind
-kind_of (Solve osil osol) = kinds.Solve
-kind_of (GetJobId osol) = kinds.GetJobId
-kind_of (Send osil osol) = kinds.Send
-kind_of (Retrieve osol) = kinds.Retrieve
-kind_of (Knock ospl osol) = kinds.Knock
-kind_of (Kill osol) = kinds.Kill
+-- a text that stands for a part, emptied where the call doesn't have it
+abbrev pub kept : CallKind → Part → List ℕ → List ℕ
+kept k p text = cond (has k p) text []
+
+-- the call with these texts, of which those are dropped that it has no part for
+abbrev pub call_of : CallKind → Parts → SoapCall
+call_of k ps = record { kind = k; parts = record { osil = kept k Osil ps.osil; osol = kept k Osol ps.osol; ospl = kept k Ospl ps.ospl } }
 
 -- an element is this call: it has its name, and the call has the texts of its parts
 pub record IsCall (e : Element) (c : SoapCall) : Type 0 where
-  pub kind : CallKind
-  pub parts : Parts
-  pub named : e.name ≡ kind_text kind
-  pub are : AreParts kind e parts
-  pub is : c ≡ call_of kind parts
+  pub named : e.name ≡ kind_text c.kind
+  pub are : AreParts c.kind e c.parts
 
 -- this call stands in the envelope
 abbrev pub IsCallIn : Element → SoapCall → Type 0

@@ -1,14 +1,13 @@
 -- The envelopes that calls and answers are written as (SOAP 1.1, sections 4 and 7), and their texts.
-use Rattle.std.specs.Prelude.{ℕ, List, [], ◌∷◌, ◌++◌, codes}
+use Rattle.std.specs.Prelude.{ℕ, cond, List, [], ◌∷◌, ◌++◌, codes}
 use Rattle.tree_grammar.specs.Elements.{Attribute, Nodes, none, element, Element, Event, Open, Close}
 use Rattle.tree_grammar.specs.Written.{written}
 use Rattle.document_tags.specs.Writing.{only, leaf, group}
 use Rattle.six_calls.specs.declared.part.Part.{Part}
-use Rattle.six_calls.specs.declared.part.Part.TheVariants.{Osil, Ospl}
+use Rattle.six_calls.specs.declared.part.Part.TheVariants.{Osil, Osol, Ospl}
 use Rattle.soap_calls.specs.declared.call.SoapCall.{SoapCall}
-use Rattle.soap_calls.specs.declared.call.SoapCall.TheVariants.{Solve, GetJobId, Send, Retrieve, Knock, Kill}
-use Rattle.six_calls.specs.Names.{kind_text, part_text}
-use Rattle.soap_calls.specs.Calls.{kind_of}
+use Rattle.six_calls.specs.Names.{kind_text, part_text, has}
+use Rattle.soap_calls.specs.Calls.{text_of}
 
 abbrev pub soap : List Attribute
 soap = only (codes "xmlns:soap") (codes "http://schemas.xmlsoap.org/soap/envelope/")
@@ -32,21 +31,17 @@ frame_closing behind = Close (codes "soap:Body") ∷ Close (codes "soap:Envelope
 abbrev pub ours_around : List ℕ → Nodes → Nodes
 ours_around name inside = element name ours inside none
 
-abbrev pub two_parts : Part → List ℕ → List ℕ → Nodes
-two_parts p text osol = leaf (part_text p) text (leaf (codes "osol") osol none)
+-- a part, where the call has it, an empty one too, and then more
+abbrev pub part_node : SoapCall → Part → Nodes → Nodes
+part_node c p more = cond (has c.kind p) (leaf (part_text p) (text_of c.parts p) more) more
 
 -- all parts of a call, in the order in which it takes them
 abbrev pub part_nodes : SoapCall → Nodes
-part_nodes (Solve osil osol) = two_parts Osil osil osol
-part_nodes (GetJobId osol) = leaf (codes "osol") osol none
-part_nodes (Send osil osol) = two_parts Osil osil osol
-part_nodes (Retrieve osol) = leaf (codes "osol") osol none
-part_nodes (Knock ospl osol) = two_parts Ospl ospl osol
-part_nodes (Kill osol) = leaf (codes "osol") osol none
+part_nodes c = part_node c Osil (part_node c Ospl (part_node c Osol none))
 
 -- the text of a call
 abbrev pub call_text : SoapCall → List ℕ
-call_text c = written (frame (ours_around (kind_text (kind_of c)) (part_nodes c)))
+call_text c = written (frame (ours_around (kind_text c.kind) (part_nodes c)))
 
 -- a response of this name, whose one element has that name and this text
 abbrev pub response_nodes : List ℕ → List ℕ → List ℕ → Nodes

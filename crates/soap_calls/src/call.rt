@@ -1,42 +1,36 @@
 //! Calls.
 
 ghost use Rattle.std.specs.Prelude.{◌≡◌};
-ghost use Rattle.soap_calls.specs.Calls.{kind_of};
+ghost use Rattle.soap_calls.specs.Calls as calls;
 
 use os_io::Text;
-use six_calls::CallKind;
-
-/// A call with the texts of its parts. A part that wasn't said is the empty text.
-#[derive(Debug, Drop)]
-pub enum SoapCall {
-    Solve { osil: Text, osol: Text },
-    GetJobId { osol: Text },
-    Send { osil: Text, osol: Text },
-    Retrieve { osol: Text },
-    Knock { ospl: Text, osol: Text },
-    Kill { osol: Text },
-}
+use six_calls::{CallKind, Part};
 
 /// The texts of all parts, empty where the call doesn't have one.
-#[derive(Drop)]
+#[derive(Debug, Drop)]
 pub struct Parts {
     pub osil: Text,
     pub osol: Text,
     pub ospl: Text,
 }
 
-impl SoapCall {
-    /// Which of the six it is.
-    pub fn kind(&self) -> CallKind
-        ensures { result ≡ kind_of self.now }
+impl Parts {
+    /// The text of a part.
+    pub fn text(&self, part: Part) -> &Text
+        ensures { result.now ≡ calls.text_of self.now part }
     {
-        match self {
-            SoapCall::Solve { .. } => CallKind::Solve,
-            SoapCall::GetJobId { .. } => CallKind::GetJobId,
-            SoapCall::Send { .. } => CallKind::Send,
-            SoapCall::Retrieve { .. } => CallKind::Retrieve,
-            SoapCall::Knock { .. } => CallKind::Knock,
-            SoapCall::Kill { .. } => CallKind::Kill,
+        match part {
+            Part::Osil => &self.osil,
+            Part::Osol => &self.osol,
+            Part::Ospl => &self.ospl,
         }
     }
+}
+
+/// A call with the texts of its parts. A part that wasn't said is the empty text, and so is one that the call doesn't have.
+#[derive(Debug, Drop)]
+pub struct SoapCall {
+    /// Which of the six it is.
+    pub kind: CallKind,
+    pub parts: Parts,
 }

@@ -10,7 +10,7 @@ ghost use Rattle.soap_calls.specs.Reading.{RefusesElement, RefusesRoot};
 use crate::call::SoapCall;
 use crate::envelope::held;
 use crate::fault::SoapFault;
-use crate::parts::{call_of, read_parts};
+use crate::parts::read_parts;
 use doc_tree::TreeFault;
 use document_tags::{Spot, read_document, told_name};
 use element_tree::Tree;
@@ -27,7 +27,7 @@ fn read_element(alloc: Global, spot: Spot<'_>) -> Result<SoapCall, SoapFault>
         return Err(SoapFault::Call { name });
     };
     match read_parts(alloc, spot, kind) {
-        Ok(parts) => Ok(call_of(kind, parts)),
+        Ok(parts) => Ok(SoapCall { kind, parts }),
         Err(fault) => Err(fault),
     }
 }

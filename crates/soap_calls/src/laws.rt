@@ -44,8 +44,8 @@ pub fn returned_texts_may_be_returned()
 {}
 
 /// Law: what [`read_call`](crate::read_call) answers of the text that [`write_call`](crate::write_call) writes of a call, by
-/// its contract, is that call, but for want of memory; its texts are to be characters of XML, and the text within the limit
-/// of a request's body.
+/// its contract, is that call, but for want of memory; its texts are to be characters of XML, empty where the call doesn't have
+/// the part, and the envelope within the limit of a request's body.
 pub fn calls_are_read_back()
     ensures call { (c : given.SoapCall) → AreTexts c → length (call_text c) ≤ document_limit → IsCallText (call_text c) c }
     ensures read { (c : given.SoapCall) (r : Result given.SoapCall refused.SoapFault) → AreTexts c → length (call_text c) ≤ document_limit

@@ -63,17 +63,25 @@ pub(crate) fn read_parts(alloc: Global, call: Spot<'_>, kind: CallKind) -> Resul
     Ok(Parts { osil, osol, ospl })
 }
 
+/// A text that stands for a part, emptied where the call doesn't have it.
+fn kept(kind: CallKind, part: Part, mut text: Text) -> Text
+    ensures { result ≡ calls.kept kind part text }
+{
+    if !kind.has(part) {
+        text.truncate(0);
+    }
+    text
+}
+
 /// The call with these texts, of which those are dropped that it has no part for.
 pub fn call_of(kind: CallKind, parts: Parts) -> SoapCall
     ensures { result ≡ calls.call_of kind parts }
 {
     let Parts { osil, osol, ospl } = parts;
-    match kind {
-        CallKind::Solve => SoapCall::Solve { osil, osol },
-        CallKind::GetJobId => SoapCall::GetJobId { osol },
-        CallKind::Send => SoapCall::Send { osil, osol },
-        CallKind::Retrieve => SoapCall::Retrieve { osol },
-        CallKind::Knock => SoapCall::Knock { ospl, osol },
-        CallKind::Kill => SoapCall::Kill { osol },
-    }
+    let parts = Parts {
+        osil: kept(kind, Part::Osil, osil),
+        osol: kept(kind, Part::Osol, osol),
+        ospl: kept(kind, Part::Ospl, ospl),
+    };
+    SoapCall { kind, parts }
 }

@@ -44,13 +44,15 @@ pub(crate) fn open_ours(b: &mut TreeBuilder, name: &[u8]) -> Result<(), Memory>
     open_with(b, name, b"xmlns", b"os.optimizationservices.org")
 }
 
-/// Tells a part and the options.
-fn tell_two(b: &mut TreeBuilder, part: Part, text: &[u8], osol: &[u8]) -> Result<(), Memory>
+/// Tells a part, where the call has it.
+fn tell_part(b: &mut TreeBuilder, call: &SoapCall, part: Part) -> Result<(), Memory>
     requires { b.old.attributes ≡ [] }
-    ensures { OnOk result (Told b.old b.new (nodes_events (writing.two_parts part text.now osol.now))) }
+    ensures { OnOk result (Told b.old b.new (nodes_events (writing.part_node call.now part none))) }
 {
-    leaf(b, part.name(), text)?;
-    leaf(b, b"osol", osol)
+    if !call.kind.has(part) {
+        return Ok(());
+    }
+    leaf(b, part.name(), call.parts.text(part).as_slice())
 }
 
 /// Tells the parts of a call.
@@ -58,14 +60,9 @@ fn tell_parts(b: &mut TreeBuilder, call: &SoapCall) -> Result<(), Memory>
     requires { b.old.attributes ≡ [] }
     ensures { OnOk result (Told b.old b.new (nodes_events (writing.part_nodes call.now))) }
 {
-    match call {
-        SoapCall::Solve { osil, osol } => tell_two(b, Part::Osil, osil.as_slice(), osol.as_slice()),
-        SoapCall::GetJobId { osol } => leaf(b, b"osol", osol.as_slice()),
-        SoapCall::Send { osil, osol } => tell_two(b, Part::Osil, osil.as_slice(), osol.as_slice()),
-        SoapCall::Retrieve { osol } => leaf(b, b"osol", osol.as_slice()),
-        SoapCall::Knock { ospl, osol } => tell_two(b, Part::Ospl, ospl.as_slice(), osol.as_slice()),
-        SoapCall::Kill { osol } => leaf(b, b"osol", osol.as_slice()),
-    }
+    tell_part(b, call, Part::Osil)?;
+    tell_part(b, call, Part::Ospl)?;
+    tell_part(b, call, Part::Osol)
 }
 
 /// Tells the envelope of a call.
@@ -85,6 +82,6 @@ pub fn write_call(alloc: Global, call: &SoapCall) -> Result<Text, Memory>
     ensures { IfOk result (λ text. text ≡ writing.call_text call.now) }
 {
     let mut b = TreeBuilder::new(alloc);
-    tell_call(&mut b, call, call.kind().name())?;
+    tell_call(&mut b, call, call.kind.name())?;
     told_text(alloc, b)
 }

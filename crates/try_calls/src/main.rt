@@ -7,7 +7,7 @@
 use cases::{Answers, Tables, number_of, repeated};
 use os_io::{Memory, Text};
 use soap_calls::{
-    Answer, NotReply, SoapCall, SoapFault, read_call, read_reply, write_call, write_fault,
+    Answer, NotReply, Part, SoapCall, SoapFault, read_call, read_reply, write_call, write_fault,
     write_reply,
 };
 use std::alloc::{AllocError, Global};
@@ -27,20 +27,14 @@ fn put(text: &mut Text, word: &[u8], said: &[u8]) -> Result<(), Memory> {
 
 /// A call with its parts.
 fn call_text(alloc: Global, call: &SoapCall) -> Result<Text, Memory> {
-    let mut text = Text::from_slice(alloc, call.kind().name())?;
-    match call {
-        SoapCall::Solve { osil, osol } | SoapCall::Send { osil, osol } => {
-            put(&mut text, b" osil", osil.as_slice())?;
-            put(&mut text, b" osol", osol.as_slice())?;
-        }
-        SoapCall::Knock { ospl, osol } => {
-            put(&mut text, b" ospl", ospl.as_slice())?;
-            put(&mut text, b" osol", osol.as_slice())?;
-        }
-        SoapCall::GetJobId { osol } | SoapCall::Retrieve { osol } | SoapCall::Kill { osol } => {
-            put(&mut text, b" osol", osol.as_slice())?;
-        }
+    let mut text = Text::from_slice(alloc, call.kind.name())?;
+    if call.kind.has(Part::Osil) {
+        put(&mut text, b" osil", call.parts.osil.as_slice())?;
     }
+    if call.kind.has(Part::Ospl) {
+        put(&mut text, b" ospl", call.parts.ospl.as_slice())?;
+    }
+    put(&mut text, b" osol", call.parts.osol.as_slice())?;
     Ok(text)
 }
 

@@ -1,6 +1,19 @@
-use Rattle.os_server.proofs.Bodies.{knocked}
+use Rattle.std.proofs.Common.{◌∙◌, List, ℕ, Result, sym, subst}
+use Rattle.std.specs.Prelude.{IfErr}
+use Rattle.ospl_grammar.specs.Refusals.{DecodeFails}
+use Rattle.os_server.specs.declared.fault.NoOrder as none
+use Rattle.os_server.specs.Orders.{OrdersNothing}
+use Rattle.os_server.proofs.Bodies.{not_empty}
 use Rattle.os_server.proofs.asking.check_process.Goals as goal
+use Rattle.os_server.proofs.asking.check_process.Goals.{in-Ok, in-Err}
 
-pub returns-in-Knock-clause-err : goal.returns-in-Knock-clause-err
-returns-in-Knock-clause-err c =
-    knocked c.args.call.now c.args.options.now c.check_knock.result c.in-Knock.ospl c.in-Knock.osol _ c.in-Knock.is c.as_slice.ensures c.requires c.check_knock.ensures.err
+pub returns-clause-err : goal.returns-clause-err
+returns-clause-err c =
+    elim c.match-decode.branch [
+      | in-Ok w ↦ subst (λ (r : Result (Unit {0}) none.NoOrder). IfErr r (OrdersNothing c.args.call.now)) (sym w.result-is) tt
+      | in-Err w ↦
+          subst (λ (r : Result (Unit {0}) none.NoOrder). IfErr r (OrdersNothing c.args.call.now)) (sym w.result-is)
+          (w.refused_process.ensures c.args.call.now c.args.options.now c.requires
+          (λ empty. not_empty c.as_slice-process.result.now c.is_empty.result c.is_empty.ensures c.if-is_empty.false (c.as_slice-process.ensures ∙ empty))
+          (subst (λ (t : List ℕ). DecodeFails t w.in-Err.fault) c.as_slice-process.ensures w.in-Err.ensures.err))
+    ]

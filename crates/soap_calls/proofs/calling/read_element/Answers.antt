@@ -1,4 +1,4 @@
-use Rattle.std.proofs.Common.{◌≡◌, ◌∙◌, inr, ap, sym}
+use Rattle.std.proofs.Common.{◌∙◌, inr, ap, sym}
 use Rattle.std.proofs.lemmas.Option.{none-some}
 use Rattle.document_tags.specs.Faults.{told_name}
 use Rattle.six_calls.proofs.Named.{is_named}
@@ -13,11 +13,8 @@ returns-in_default-clause-err c = λ e stands. inr (
 
 pub returns-in-Ok-clause-ok : goal.returns-in-Ok-clause-ok
 returns-in-Ok-clause-ok c = λ e stands. record {
-  kind = c.in-Some.kind;
-  parts = c.in-Ok.parts;
   named = sym (c.name.ensures e stands) ∙ (is_named c.name.result.now c.in-Some.kind).0 (sym c.named.ensures ∙ c.in-Some.is);
   are = c.in-Ok.ensures.ok e stands;
-  is = c.call_of.ensures;
 }
 
 pub returns-in-Err-clause-err : goal.returns-in-Err-clause-err
