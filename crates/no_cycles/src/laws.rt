@@ -22,7 +22,7 @@ pub fn turns_are_few()
     ensures { (I : Instance) (zeroed : Bool) (t : Terms) (c : Clock) (at : ℕ → Moment) (k : ℕ) → IsInstance I → HasRoom I → Comes I zeroed t c (at 0) → AreTurns I zeroed t at k → k < 4 ^ goal_column I }
 {}
 
-/// Law: a turn of the second phase keeps each column within its ends, and where no column is out the next turn is one of the
+/// Law: a turn of the second phase keeps each basic column within its ends, and where no column is out the next turn is one of the
 /// second phase.
 pub fn second_phase_stays()
     ensures settles { (I : Instance) (zeroed : Bool) (t : Terms) (c : Clock) (m n : Moment) → IsInstance I → HasRoom I → Comes I zeroed t c m → IsTurn I zeroed t m n → IsSettled I zeroed n.statuses }
