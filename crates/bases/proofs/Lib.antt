@@ -1,5 +1,5 @@
 pub mod Lists
 pub mod Forms
 pub mod Order
-pub mod Fresh
+pub mod OwnColumns
 pub mod Pivots

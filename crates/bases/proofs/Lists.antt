@@ -2,7 +2,7 @@
 use Rattle.std.proofs.Common.{◌≡◌, ℕ, ◌+◌, ◌<◌, Bool, true, false, pos, refl, sym, ◌∙◌, ap, subst}
 use Rattle.rational.specs.Ratio.{Ratio, product, IsNumber, IsSame}
 use Rattle.rational.specs.Width.{IsReduced}
-use Rattle.rational.proofs.Reduced.{same_reduced}
+use Rattle.rational.proofs.ReducedForms.{same_reduced}
 use Rattle.evidence.specs.Sums.{none, unit_at}
 use Rattle.evidence.proofs.Numbers.{◌≈◌, ≈-refl, ≈-from, ≈-sym, ◌⊙◌, product-number, product-none}
 use Rattle.evidence.proofs.Totals.{total-number, total-≈}

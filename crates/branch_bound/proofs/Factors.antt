@@ -11,7 +11,7 @@ use Rattle.evidence.specs.Instance.{Instance, variable_at}
 use Rattle.evidence.specs.Point.{value_at}
 use Rattle.evidence.proofs.Columns.{by_lt}
 use Rattle.search_rules.specs.Rays.{IsNextFactor, IsFactor}
-use Rattle.search_rules.proofs.Scaled.{one_factor}
+use Rattle.search_rules.proofs.Rays.{one_factor}
 
 pub next_whole : (b : Bool) (x : Ratio) (f g : ℕ) → b ≡ true → IsLcm f x.den g → g ≤ most → IsNextFactor b x f g
 next_whole b x f g e h low = rw e (h, low)

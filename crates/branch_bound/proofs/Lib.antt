@@ -5,6 +5,6 @@ mod Factors
 mod Places
 mod Splits
 mod Multiples
-mod Meets
-mod Nexts
+mod PointSteps
+mod CaseSteps
 mod Looks

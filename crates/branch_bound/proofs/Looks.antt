@@ -1,7 +1,7 @@
 -- Answers of looks, one list after another.
 use Rattle.std.proofs.Common.{◌≡◌, ℕ, zero, suc, ◌+◌, Bool, true, false, Option, None, Some, [], ◌∷◌, ◌++◌, append_assoc, arith, refl, sym, ◌∙◌, ap}
 use Rattle.os_io.specs.Looks.{stops_of}
-use Rattle.simplex_rules.specs.Looks.{went_on, answers, IsAfter, Tells, looks_after}
+use Rattle.simplex_rules.specs.Looks.{went_on, answers, IsAfter, AgreesWith, looks_after}
 
 pub no_stops : (n : ℕ) → stops_of (went_on n) ≡ 0
 no_stops zero = refl
@@ -15,13 +15,13 @@ pub answers_more : (n k : ℕ) (b : Bool) → went_on n ++ answers k b ≡ answe
 answers_more n k false = went_more n k
 answers_more n k true = sym (append_assoc (went_on n) (went_on k) (true ∷ [])) ∙ ap (λ l. l ++ true ∷ []) (went_more n k)
 
-pub after_less : (n k : ℕ) (b : Bool) (stop : Option ℕ) → Tells stop 0 (n + k) b → IsAfter n stop
+pub after_less : (n k : ℕ) (b : Bool) (stop : Option ℕ) → AgreesWith stop 0 (n + k) b → IsAfter n stop
 after_less n k false None h = tt
 after_less n k false (Some q) h = omega arith
 after_less n k true None h = tt
 after_less n k true (Some q) h = let p : q ≡ 0 + (n + k) + 1 = cc in omega arith
 
-pub tells_less : (n k : ℕ) (b : Bool) (stop : Option ℕ) → Tells stop 0 (n + k) b → Tells stop n k b
+pub tells_less : (n k : ℕ) (b : Bool) (stop : Option ℕ) → AgreesWith stop 0 (n + k) b → AgreesWith stop n k b
 tells_less n k false None h = tt
 tells_less n k false (Some q) h = omega arith
 tells_less n k true stop h = h ∙ ap Some (omega arith)

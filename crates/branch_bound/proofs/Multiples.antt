@@ -15,7 +15,7 @@ use Rattle.evidence.specs.Point.{value_at}
 use Rattle.evidence.proofs.Numbers.{product-number}
 use Rattle.evidence.proofs.Columns.{by_lt}
 use Rattle.search_rules.specs.Rays.{IsFactor, IsMultiple, IsScaled}
-use Rattle.search_rules.proofs.Scaled.{one_factor}
+use Rattle.search_rules.proofs.Rays.{one_factor}
 
 above_is : (k : ℤ) → pos 0 <ℤ k → k ≡ pos (unsigned_abs k)
 above_is (pos n) h = refl

@@ -9,11 +9,11 @@ use Rattle.certificate.specs.declared.causes.Cause.TheVariants.{Memory}
 use Rattle.certificate.specs.declared.claims.Claim.{Claim}
 use Rattle.simplex_rules.specs.Ends.{Terms, Clock, End}
 use Rattle.simplex.specs.Memory.{width_in, height_in}
-use Rattle.search_rules.specs.Search.{Moment, Outcome, Next, To, Out, Meets, Goes, IsNext, IsCaseRun, early}
+use Rattle.search_rules.specs.Search.{Moment, Outcome, Next, To, Out, MeetsPoint, GoesFrom, IsNext, IsCaseRun, early}
 use Rattle.branch_bound.specs.declared.relaxation.Relaxation.{Relaxation}
 use Rattle.branch_bound.specs.declared.limits.Limits.{Limits}
 use Rattle.branch_bound.specs.declared.walk.Walk.{Walk}
-use Rattle.branch_bound.specs.Claims.{outcome, is_killed}
+use Rattle.branch_bound.specs.Claims.{claimed_outcome, is_killed}
 use Rattle.branch_bound.specs.Walks.{best, case, rest, moment, IsAt}
 
 abbrev pub terms : Limits → Option ℕ → Terms
@@ -26,7 +26,7 @@ pub record HasSize {L : _} {G : _} (p : Parts) (r : Relaxation L G) : Type 0 whe
   pub cuts : length r.cuts ≡ length p.vars
 
 -- the memory has the size of the instance, and the walk is at a case whose node has a number
-pub record IsReady {L : _} {G : _} (p : Parts) (r : Relaxation L G) (w : Walk) (d : ℕ) : Type 0 where
+pub record IsWalkReady {L : _} {G : _} (p : Parts) (r : Relaxation L G) (w : Walk) (d : ℕ) : Type 0 where
   pub size : HasSize p r
   pub at : IsAt (length p.vars) w d
   pub within : length w.nodes < 2 ^ 32 - 1
@@ -36,25 +36,25 @@ clock_at r looks = record { turns = r.turns.done; looks = looks }
 
 -- the search is given up for want of memory, or else this holds
 abbrev pub OrMemory : Walk → Claim → Type 0 → Type 0
-OrMemory w claim P = (outcome claim ≡ early (best w.best) Memory) ⊎ P
+OrMemory w claim P = (claimed_outcome claim ≡ early (best w.best) Memory) ⊎ P
 
 -- from this point of the case at hand on
 abbrev pub MeetsAt : Parts → Walk → ℕ → Clock → List Ratio → List Multiplier → Next → Type 0
-MeetsAt p w d c x ms next = Meets (program p) (case p w) (rest p w d) (moment p w c) x ms next
+MeetsAt p w d c x ms next = MeetsPoint (program p) (case p w) (rest p w d) (moment p w c) x ms next
 
 -- from this end of the run of the case at hand on
 abbrev pub GoesAt : Parts → Walk → ℕ → Terms → Clock → End → Next → Type 0
-GoesAt p w d t c e next = Goes t (program p) (case p w) (rest p w d) (moment p w c) e next
+GoesAt p w d t c e next = GoesFrom t (program p) (case p w) (rest p w d) (moment p w c) e next
 
 -- a search that is at a moment ends so, or is given up once the next case was run
-abbrev pub Ends : Instance → Terms → Moment → Outcome → Clock → Type 0
-Ends I t m o c = ((e : End) × IsCaseRun I t m e c × (o ≡ early m.best Memory)) ⊎ IsNext I t m (Out o c)
+abbrev pub EndsSearch : Instance → Terms → Moment → Outcome → Clock → Type 0
+EndsSearch I t m o c = ((e : End) × IsCaseRun I t m e c × (o ≡ early m.best Memory)) ⊎ IsNext I t m (Out o c)
 
 abbrev pub is_killed_by : Result (Unit {0}) Claim → Bool
 is_killed_by (Ok x) = false
 is_killed_by (Err claim) = is_killed claim
 
 -- what a step makes of a search: its next moment, or its end
-abbrev pub Follows : Parts → Terms → Clock → Clock → Walk → Walk → Result (Unit {0}) Claim → Type 0
-Follows p t before after w v (Ok x) = IsNext (program p) t (moment p w before) (To (moment p v after))
-Follows p t before after w v (Err claim) = Ends (program p) t (moment p w before) (outcome claim) after
+abbrev pub FollowsStep : Parts → Terms → Clock → Clock → Walk → Walk → Result (Unit {0}) Claim → Type 0
+FollowsStep p t before after w v (Ok x) = IsNext (program p) t (moment p w before) (To (moment p v after))
+FollowsStep p t before after w v (Err claim) = EndsSearch (program p) t (moment p w before) (claimed_outcome claim) after

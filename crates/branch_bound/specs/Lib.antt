@@ -1,7 +1,7 @@
 pub use Rattle.rational.specs.Ratio
 pub use Rattle.evidence.specs.Instance
 pub use Rattle.instance.specs.Program
-pub use Rattle.certificate.specs.Means
+pub use Rattle.certificate.specs.Meanings
 pub use Rattle.simplex_rules.specs.Ends
 pub use Rattle.simplex_rules.specs.Looks
 pub use Rattle.search_rules.specs.Search

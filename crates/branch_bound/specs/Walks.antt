@@ -5,7 +5,7 @@ use Rattle.fraction.specs.Frac.{ratio, ratios}
 use Rattle.fraction.specs.declared.frac.Frac.{Frac}
 use Rattle.evidence.specs.Instance.{Instance}
 use Rattle.instance.specs.Parts.{Parts}
-use Rattle.certificate.specs.Means as Means
+use Rattle.certificate.specs.Meanings as Means
 use Rattle.case_tree.specs.Cuts.{cut, pending, cases, AreBranches}
 use Rattle.simplex_rules.specs.Ends.{Clock}
 use Rattle.search_rules.specs.Search.{Found, Moment}

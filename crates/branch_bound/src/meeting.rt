@@ -1,13 +1,13 @@
 // From a point of the case at hand on.
 ghost use Rattle.std.specs.Prelude.{◌≡◌, ℕ, false, length, IfOk, IfErr};
 ghost use Rattle.evidence.specs.Instance as Of;
-ghost use Rattle.certificate.specs.Means as Means;
+ghost use Rattle.certificate.specs.Meanings as Means;
 ghost use Rattle.simplex.specs.Memory.{point_of};
 ghost use Rattle.simplex_rules.specs.Ends.{Clock};
 ghost use Rattle.search_rules.specs.Search.{To, Out, IsWholeBelow};
-ghost use Rattle.branch_bound.specs.Claims.{outcome, is_killed};
+ghost use Rattle.branch_bound.specs.Claims.{claimed_outcome, is_killed};
 ghost use Rattle.branch_bound.specs.Walks.{case, moment, IsWalk};
-ghost use Rattle.branch_bound.specs.Cases.{IsReady, clock_at, OrMemory, MeetsAt};
+ghost use Rattle.branch_bound.specs.Cases.{IsWalkReady, clock_at, OrMemory, MeetsAt};
 
 use crate::claims::{branch, give_up, leaf, too_wide};
 use crate::open::first_open;
@@ -29,11 +29,11 @@ fn take_point<L: Ledger>(
     walk: &mut Walk,
     depth: usize,
 ) -> Result<(), Claim>
-    requires ready { IsReady instance.now relaxation.now walk.old depth }
+    requires ready { IsWalkReady instance.now relaxation.now walk.old depth }
     requires whole { IsWholeBelow (case instance.now walk.old) (point_of relaxation.now.work) (Of.width (case instance.now walk.old)) }
     ensures walk { IfOk result (λ _. IsWalk (length instance.now.vars) walk.new) }
     ensures ok { IfOk result (λ _. (c : Clock) → MeetsAt instance.now walk.old depth c (point_of relaxation.now.work) (Means.multipliers mults) (To (moment instance.now walk.new c))) }
-    ensures err { IfErr result (λ claim. OrMemory walk.old claim ((looks : ℕ) → let c = clock_at relaxation.now looks in MeetsAt instance.now walk.old depth c (point_of relaxation.now.work) (Means.multipliers mults) (Out (outcome claim) c))) }
+    ensures err { IfErr result (λ claim. OrMemory walk.old claim ((looks : ℕ) → let c = clock_at relaxation.now looks in MeetsAt instance.now walk.old depth c (point_of relaxation.now.work) (Means.multipliers mults) (Out (claimed_outcome claim) c))) }
     ensures went_on { IfErr result (λ claim. is_killed claim ≡ false) }
 {
     let width = instance.vars().len() as u32;
@@ -67,10 +67,10 @@ pub fn meet<L: Ledger>(
     walk: &mut Walk,
     depth: usize,
 ) -> Result<(), Claim>
-    requires { IsReady instance.now relaxation.now walk.old depth }
+    requires { IsWalkReady instance.now relaxation.now walk.old depth }
     ensures walk { IfOk result (λ _. IsWalk (length instance.now.vars) walk.new) }
     ensures ok { IfOk result (λ _. (c : Clock) → MeetsAt instance.now walk.old depth c (point_of relaxation.now.work) (Means.multipliers mults) (To (moment instance.now walk.new c))) }
-    ensures err { IfErr result (λ claim. OrMemory walk.old claim ((looks : ℕ) → let c = clock_at relaxation.now looks in MeetsAt instance.now walk.old depth c (point_of relaxation.now.work) (Means.multipliers mults) (Out (outcome claim) c))) }
+    ensures err { IfErr result (λ claim. OrMemory walk.old claim ((looks : ℕ) → let c = clock_at relaxation.now looks in MeetsAt instance.now walk.old depth c (point_of relaxation.now.work) (Means.multipliers mults) (Out (claimed_outcome claim) c))) }
     ensures went_on { IfErr result (λ claim. is_killed claim ≡ false) }
 {
     let _few = instance.vars();

@@ -2,7 +2,7 @@
 ghost use Rattle.std.specs.Prelude.{◌≡◌, ◌+◌, ◌<◌, ◌++◌, length, IfOk};
 ghost use Rattle.fraction.specs.Frac.{ratio, ratios};
 ghost use Rattle.evidence.specs.Point.{value_at};
-ghost use Rattle.certificate.specs.Means as Means;
+ghost use Rattle.certificate.specs.Meanings as Means;
 ghost use Rattle.simplex_rules.specs.Reports.{one_of};
 ghost use Rattle.simplex.specs.Memory.{width_in, height_in, point_of, mults_of, ray_of};
 

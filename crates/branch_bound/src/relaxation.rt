@@ -7,7 +7,7 @@ ghost use Rattle.simplex.specs.Answers.{was_stopped};
 ghost use Rattle.simplex.specs.Memory.{ended_with};
 ghost use Rattle.simplex_rules.specs.Ends.{Terms};
 ghost use Rattle.simplex_rules.specs.Runs.{Run};
-ghost use Rattle.simplex_rules.specs.Looks.{answers, Tells, looks_after};
+ghost use Rattle.simplex_rules.specs.Looks.{answers, AgreesWith, looks_after};
 ghost use Rattle.branch_bound.specs.Cases.{HasSize, clock_at};
 
 use dictionary::Steps;
@@ -57,7 +57,7 @@ pub fn run_case<W: Watch, L: Ledger>(
     requires stops { W.stops watch.old < 2 ^ 64 - 1 }
     ensures size { HasSize instance.now relaxation.new }
     ensures most { relaxation.new.turns.most ≡ relaxation.old.turns.most }
-    ensures run { (n : ℕ) × W.came watch.old watch.new (answers n (was_stopped result)) × ((t : Terms) (looks : ℕ) → t.turns ≡ relaxation.old.turns.most → Tells t.stop looks n (was_stopped result) → Run (cut instance.now vars.now) zero_goal t (clock_at relaxation.old looks) (ended_with result relaxation.new.work) (clock_at relaxation.new (looks_after looks n (was_stopped result)))) }
+    ensures run { (n : ℕ) × W.came watch.old watch.new (answers n (was_stopped result)) × ((t : Terms) (looks : ℕ) → t.turns ≡ relaxation.old.turns.most → AgreesWith t.stop looks n (was_stopped result) → Run (cut instance.now vars.now) zero_goal t (clock_at relaxation.old looks) (ended_with result relaxation.new.work) (clock_at relaxation.new (looks_after looks n (was_stopped result)))) }
     ensures counted { steps.old ≤ steps.new }
 {
     let _few = instance.vars();

@@ -2,11 +2,11 @@
 ghost use Rattle.std.specs.Prelude.{◌≡◌, ℕ, ◌+◌, ◌-◌, ◌^◌, ◌<◌, ◌≤◌, Bool, Option, length, IfOk};
 ghost use Rattle.instance.specs.Program.{program};
 ghost use Rattle.simplex.specs.Answers.{was_stopped};
-ghost use Rattle.simplex_rules.specs.Looks.{answers, Tells, looks_after};
-ghost use Rattle.search_rules.specs.Search.{IsAnswer, first};
-ghost use Rattle.branch_bound.specs.Claims.{outcome, is_killed};
+ghost use Rattle.simplex_rules.specs.Looks.{answers, AgreesWith, looks_after};
+ghost use Rattle.search_rules.specs.Search.{IsSearchAnswer, first};
+ghost use Rattle.branch_bound.specs.Claims.{claimed_outcome, is_killed};
 ghost use Rattle.branch_bound.specs.Walks.{moment, IsWalk, IsAt};
-ghost use Rattle.branch_bound.specs.Cases.{terms, HasSize, clock_at, is_killed_by, Follows};
+ghost use Rattle.branch_bound.specs.Cases.{terms, HasSize, clock_at, is_killed_by, FollowsStep};
 
 use crate::claims::{all_closed, give_up};
 use crate::limits::Limits;
@@ -55,7 +55,7 @@ fn step<W: Watch, L: Ledger>(
     ensures walk { IfOk result (λ _. IsWalk (length instance.now.vars) walk.new) }
     ensures one { IfOk result (λ _. length walk.new.nodes ≡ length walk.old.nodes + 1) }
     ensures within { IfOk result (λ _. length walk.old.nodes < limits.nodes) }
-    ensures next { (n : ℕ) × (killed : Bool) × (is_killed_by result ≡ killed) × W.came watch.old watch.new (answers n killed) × ((looks : ℕ) (stop : Option ℕ) → Tells stop looks n killed → Follows instance.now (terms limits stop) (clock_at relaxation.old looks) (clock_at relaxation.new (looks_after looks n killed)) walk.old walk.new result) }
+    ensures next { (n : ℕ) × (killed : Bool) × (is_killed_by result ≡ killed) × W.came watch.old watch.new (answers n killed) × ((looks : ℕ) (stop : Option ℕ) → AgreesWith stop looks n killed → FollowsStep instance.now (terms limits stop) (clock_at relaxation.old looks) (clock_at relaxation.new (looks_after looks n killed)) walk.old walk.new result) }
     ensures counted { steps.old ≤ steps.new }
 {
     if walk.nodes.len() >= limits.nodes as usize {
@@ -94,7 +94,7 @@ fn explore<W: Watch, L: Ledger>(
     requires walk { IsWalk (length instance.now.vars) walk }
     requires first { moment instance.now walk (clock_at relaxation.old 0) ≡ first (program instance.now) }
     requires stops { W.stops watch.old < 2 ^ 64 - 1 }
-    ensures answer { (n : ℕ) × (killed : Bool) × (is_killed result ≡ killed) × W.came watch.old watch.new (answers n killed) × ((stop : Option ℕ) → Tells stop 0 n killed → IsAnswer (program instance.now) (terms limits stop) (outcome result) (clock_at relaxation.new (looks_after 0 n killed))) }
+    ensures answer { (n : ℕ) × (killed : Bool) × (is_killed result ≡ killed) × W.came watch.old watch.new (answers n killed) × ((stop : Option ℕ) → AgreesWith stop 0 n killed → IsSearchAnswer (program instance.now) (terms limits stop) (claimed_outcome result) (clock_at relaxation.new (looks_after 0 n killed))) }
     ensures counted { steps.old ≤ steps.new }
 {
     while let Some(depth) = walk.next {
@@ -153,7 +153,7 @@ pub fn search<W: Watch, L: Ledger>(
     steps: &mut Steps<L>,
 ) -> Searched
     requires { W.stops watch.old < 2 ^ 64 - 1 }
-    ensures answer { (n : ℕ) × W.came watch.old watch.new (answers n (is_killed result.claim)) × ((stop : Option ℕ) → Tells stop 0 n (is_killed result.claim) → IsAnswer (program instance.now) (record { nodes = nodes; turns = turns; stop = stop }) (outcome result.claim) (record { turns = result.turns; looks = looks_after 0 n (is_killed result.claim) })) }
+    ensures answer { (n : ℕ) × W.came watch.old watch.new (answers n (is_killed result.claim)) × ((stop : Option ℕ) → AgreesWith stop 0 n (is_killed result.claim) → IsSearchAnswer (program instance.now) (record { nodes = nodes; turns = turns; stop = stop }) (claimed_outcome result.claim) (record { turns = result.turns; looks = looks_after 0 n (is_killed result.claim) })) }
     ensures counted { steps.old ≤ steps.new }
 {
     let cause = Cause::Memory;

@@ -6,9 +6,9 @@ ghost use Rattle.simplex_rules.specs.Ends.{Terms, Clock, Empty, Best, Endless};
 ghost use Rattle.simplex.specs.Answers.{was_stopped};
 ghost use Rattle.certificate.specs.declared.causes.Cause.TheVariants.{Memory};
 ghost use Rattle.search_rules.specs.Search.{To, Out, early as early_of};
-ghost use Rattle.branch_bound.specs.Claims.{outcome, is_killed};
+ghost use Rattle.branch_bound.specs.Claims.{claimed_outcome, is_killed};
 ghost use Rattle.branch_bound.specs.Walks.{best as best_of, moment, IsWalk};
-ghost use Rattle.branch_bound.specs.Cases.{IsReady, clock_at, OrMemory, GoesAt};
+ghost use Rattle.branch_bound.specs.Cases.{IsWalkReady, clock_at, OrMemory, GoesAt};
 
 use crate::claims::{give_up, leaf, too_wide};
 use crate::limits::Limits;
@@ -34,10 +34,10 @@ fn at_best<L: Ledger>(
     walk: &mut Walk,
     depth: usize,
 ) -> Result<(), Claim>
-    requires { IsReady instance.now relaxation.now walk.old depth }
+    requires { IsWalkReady instance.now relaxation.now walk.old depth }
     ensures walk { IfOk result (λ _. IsWalk (length instance.now.vars) walk.new) }
     ensures ok { IfOk result (λ _. (t : Terms) (c : Clock) → GoesAt instance.now walk.old depth t c (Best (ratio bound) (point_of relaxation.now.work) (mults_of relaxation.now.work)) (To (moment instance.now walk.new c))) }
-    ensures err { IfErr result (λ claim. OrMemory walk.old claim ((t : Terms) (looks : ℕ) → let c = clock_at relaxation.now looks in GoesAt instance.now walk.old depth t c (Best (ratio bound) (point_of relaxation.now.work) (mults_of relaxation.now.work)) (Out (outcome claim) c))) }
+    ensures err { IfErr result (λ claim. OrMemory walk.old claim ((t : Terms) (looks : ℕ) → let c = clock_at relaxation.now looks in GoesAt instance.now walk.old depth t c (Best (ratio bound) (point_of relaxation.now.work) (mults_of relaxation.now.work)) (Out (claimed_outcome claim) c))) }
     ensures went_on { IfErr result (λ claim. is_killed claim ≡ false) }
 {
     let columns = (instance.vars().len() + instance.rows().len()) as u32;
@@ -59,10 +59,10 @@ fn at_endless<L: Ledger>(
     walk: &mut Walk,
     depth: usize,
 ) -> Result<(), Claim>
-    requires { IsReady instance.now relaxation.now walk.old depth }
+    requires { IsWalkReady instance.now relaxation.now walk.old depth }
     ensures walk { IfOk result (λ _. IsWalk (length instance.now.vars) walk.new) }
     ensures ok { IfOk result (λ _. (t : Terms) (c : Clock) → GoesAt instance.now walk.old depth t c (Endless (point_of relaxation.now.work) (ray_of relaxation.now.work)) (To (moment instance.now walk.new c))) }
-    ensures err { IfErr result (λ claim. OrMemory walk.old claim ((t : Terms) (looks : ℕ) → let c = clock_at relaxation.now looks in GoesAt instance.now walk.old depth t c (Endless (point_of relaxation.now.work) (ray_of relaxation.now.work)) (Out (outcome claim) c))) }
+    ensures err { IfErr result (λ claim. OrMemory walk.old claim ((t : Terms) (looks : ℕ) → let c = clock_at relaxation.now looks in GoesAt instance.now walk.old depth t c (Endless (point_of relaxation.now.work) (ray_of relaxation.now.work)) (Out (claimed_outcome claim) c))) }
     ensures went_on { IfErr result (λ claim. is_killed claim ≡ false) }
 {
     let scaled = match read_ray(alloc, instance, &relaxation.work) {
@@ -84,10 +84,10 @@ fn at_empty<L: Ledger>(
     walk: &mut Walk,
     depth: usize,
 ) -> Result<(), Claim>
-    requires { IsReady instance.now relaxation.now walk.old depth }
+    requires { IsWalkReady instance.now relaxation.now walk.old depth }
     ensures walk { IfOk result (λ _. IsWalk (length instance.now.vars) walk.new) }
     ensures ok { IfOk result (λ _. (t : Terms) (c : Clock) → GoesAt instance.now walk.old depth t c (Empty (mults_of relaxation.now.work)) (To (moment instance.now walk.new c))) }
-    ensures err { IfErr result (λ claim. outcome claim ≡ early_of (best_of walk.old.best) Memory) }
+    ensures err { IfErr result (λ claim. claimed_outcome claim ≡ early_of (best_of walk.old.best) Memory) }
     ensures went_on { IfErr result (λ claim. is_killed claim ≡ false) }
 {
     let columns = (instance.vars().len() + instance.rows().len()) as u32;
@@ -107,11 +107,11 @@ pub fn visit<L: Ledger>(
     walk: &mut Walk,
     depth: usize,
 ) -> Result<(), Claim>
-    requires ready { IsReady instance.now relaxation.now walk.old depth }
+    requires ready { IsWalkReady instance.now relaxation.now walk.old depth }
     requires went_on { was_stopped end ≡ false }
     ensures walk { IfOk result (λ _. IsWalk (length instance.now.vars) walk.new) }
     ensures ok { IfOk result (λ _. (t : Terms) (c : Clock) → GoesAt instance.now walk.old depth t c (ended_with end relaxation.now.work) (To (moment instance.now walk.new c))) }
-    ensures err { IfErr result (λ claim. OrMemory walk.old claim ((t : Terms) (looks : ℕ) → t.turns ≡ limits.turns → let c = clock_at relaxation.now looks in GoesAt instance.now walk.old depth t c (ended_with end relaxation.now.work) (Out (outcome claim) c))) }
+    ensures err { IfErr result (λ claim. OrMemory walk.old claim ((t : Terms) (looks : ℕ) → t.turns ≡ limits.turns → let c = clock_at relaxation.now looks in GoesAt instance.now walk.old depth t c (ended_with end relaxation.now.work) (Out (claimed_outcome claim) c))) }
     ensures went_on { IfErr result (λ claim. is_killed claim ≡ false) }
 {
     match end {

@@ -3,10 +3,10 @@ ghost use Rattle.std.specs.Prelude.{◌≡◌, ℕ, ◌+◌, ◌<◌, ◌≤◌,
 ghost use Rattle.rational.specs.Width.{most};
 ghost use Rattle.instance.specs.Parts.{Parts};
 ghost use Rattle.instance.specs.declared.parts.Var.{Var as OneVar};
-ghost use Rattle.certificate.specs.Means as Means;
+ghost use Rattle.certificate.specs.Meanings as Means;
 ghost use Rattle.case_tree.specs.Cuts.{pending, AreBranches};
 ghost use Rattle.simplex_rules.specs.Ends.{Clock};
-ghost use Rattle.search_rules.specs.Search.{leaf, branch};
+ghost use Rattle.search_rules.specs.Search.{closed_by_leaf, branch};
 ghost use Rattle.branch_bound.specs.Walks.{case, rest, moment, IsWalk, IsAt};
 
 use case_tree::{Branch, back, cases_come_of_branches_above, enter};
@@ -37,7 +37,7 @@ pub struct Walk {
 /// Closes the case at hand by a leaf, and goes to the next one.
 pub fn close(walk: &mut Walk, depth: usize, node: Node) -> Result<(), AllocError>
     requires { IsAt (length walk.old.vars.items) walk.old depth }
-    ensures ok { IfOk result (λ _. (p : Parts) (c : Clock) → moment p walk.new c ≡ leaf (moment p walk.old c) (rest p walk.old depth) (Means.node node)) }
+    ensures ok { IfOk result (λ _. (p : Parts) (c : Clock) → moment p walk.new c ≡ closed_by_leaf (moment p walk.old c) (rest p walk.old depth) (Means.node node)) }
     ensures walk { IfOk result (λ _. IsWalk (length walk.old.vars.items) walk.new) }
     ensures err { OnErr result (walk.new.best ≡ walk.old.best) }
 {

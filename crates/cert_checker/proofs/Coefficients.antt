@@ -16,7 +16,7 @@ use Rattle.instance.specs.Program.{entries}
 use Rattle.instance.proofs.RowSums.{row_of, entries_filter}
 use Rattle.case_tree.specs.Cuts.{cut}
 use Rattle.cert_checker.specs.Slots.{slot_at, IsStep}
-use Rattle.cert_checker.proofs.Adding.{set_apart, nothing}
+use Rattle.cert_checker.proofs.Additions.{set_apart, nothing}
 use Rattle.cert_checker.proofs.Widths.{width_is}
 
 pub of_one_row : (es row : List Entry) (i : ℕ) → row ≡ row_of es i → All (λ e. e.row ≡ i) row

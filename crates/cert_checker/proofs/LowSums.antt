@@ -14,12 +14,12 @@ use Rattle.instance.specs.declared.parts.Var.{Var}
 use Rattle.instance.specs.Parts.{Parts}
 use Rattle.instance.proofs.Numbers.{program-instance}
 use Rattle.certificate.specs.declared.lists.Mult.{Mult}
-use Rattle.certificate.specs.Means.{multipliers}
+use Rattle.certificate.specs.Meanings.{multipliers}
 use Rattle.case_tree.specs.Cuts.{cut}
 use Rattle.cert_checker.specs.Cuts.{aim}
 use Rattle.cert_checker.specs.declared.refused.Refused.TheVariants.{Sum, Wide}
-use Rattle.cert_checker.specs.Leaves.{start, Reaches, HasSum, SumRefuses}
-use Rattle.cert_checker.proofs.Holding.{factors-number}
+use Rattle.cert_checker.specs.Leaves.{start, ReachesBound, HasSum, SumRefuses}
+use Rattle.cert_checker.proofs.ColumnSums.{factors-number}
 
 or_none-number : (o : Option Ratio) → IfSome o IsNumber → IsNumber (or_none o)
 or_none-number None p = none-number
@@ -35,7 +35,7 @@ ends-number p vs ms k =
     (column-numbers (cut p vs) (program-instance (record p { vars = vs })) (multiplier_at (multipliers ms) k).column)
 
 -- a sum of the same value reaches the same
-pub reaches_same : (z : Option Ratio) (s t : Ratio) → IfSome z IsNumber → s ≈ t → Reaches z s → Reaches z t
+pub reaches_same : (z : Option Ratio) (s t : Ratio) → IfSome z IsNumber → s ≈ t → ReachesBound z s → ReachesBound z t
 reaches_same None s t n e r =
     let a : none ⋖ s = record { left = none-number; right = e.left; is = r } in
     let b = ⋖-≲ a (≲-from e) in
@@ -63,10 +63,10 @@ module _ (p : Parts) (vs : List Var) (ms : List Mult) (z : Option Frac) (f s : F
   fits_start : LowFits (cut p vs) (start (cut p vs) (aim z)) (multipliers ms)
   fits_start = subst (λ t. LowFits (cut p vs) t (multipliers ms)) ef fits
 
-  pub has_sum : Reaches (aim z) (ratio s) → HasSum (cut p vs) (multipliers ms) (aim z)
+  pub has_sum : ReachesBound (aim z) (ratio s) → HasSum (cut p vs) (multipliers ms) (aim z)
   has_sum r = record { fits = fits_start; reaches = reaches_same (aim z) (ratio s) (low_sum (cut p vs) (start (cut p vs) (aim z)) (multipliers ms)) (aim-number z) near r }
 
-  pub lacks_sum : (node : ℕ) → (Reaches (aim z) (ratio s) → ⊥) → SumRefuses (cut p vs) (multipliers ms) (aim z) node (Sum node)
+  pub lacks_sum : (node : ℕ) → (ReachesBound (aim z) (ratio s) → ⊥) → SumRefuses (cut p vs) (multipliers ms) (aim z) node (Sum node)
   lacks_sum node fails = inr (fits_start, λ r. fails (reaches_same (aim z) (low_sum (cut p vs) (start (cut p vs) (aim z)) (multipliers ms)) (ratio s) (aim-number z) (≈-sym near) r), refl)
 
 -- the start doesn't matter to how the refusal is written

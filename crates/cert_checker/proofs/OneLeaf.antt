@@ -2,20 +2,20 @@
 use Rattle.std.proofs.Common.{◌≡◌, ◌∙◌, inl, inr, ℕ, ◌+◌, ◌<◌, Option, List, ap, sym}
 use Rattle.rational.specs.Ratio.{Ratio, IsSame}
 use Rattle.evidence.specs.Instance.{Instance, width, height, column_at}
-use Rattle.evidence.specs.Cases.{Multiplier, multiplier_at, IsLegal, IsEmpty, form, low_sum}
+use Rattle.evidence.specs.Cases.{Multiplier, multiplier_at, AreLegal, IsEmpty, form, low_sum}
 use Rattle.evidence.specs.Width.{FormFits, LowFits}
 use Rattle.cert_checker.specs.declared.refused.Refused.{Refused}
 use Rattle.cert_checker.specs.declared.refused.Refused.TheVariants.{Sign, Form, Sum, Wide}
-use Rattle.cert_checker.specs.Leaves.{IsPair, wanted, start, Reaches, FormsBelow, SignRefuses, FormRefuses, SumRefuses, LeafRefuses, ClashRefuses}
+use Rattle.cert_checker.specs.Leaves.{IsPair, wanted, start, ReachesBound, FormsBelow, SignRefuses, FormRefuses, SumRefuses, LeafRefuses, ClashRefuses}
 use Rattle.cert_checker.proofs.Firsts.{first_once, Staged, stage_once, twofold_once, AtFirst, place_once}
-use Rattle.cert_checker.proofs.Legal.{pair_of}
+use Rattle.cert_checker.proofs.Multipliers.{pair_of}
 
 sign_once : (I : Instance) (ms : List Multiplier) (n : ℕ) (r s : Refused) → SignRefuses I ms n r → SignRefuses I ms n s → r ≡ s
 sign_once I ms n r s (c, h, e) (d, k, f) =
     let same : h.at ≡ k.at = first_once (IsPair I ms) h.at k.at (record { below = h.below; fails = h.out }) (record { below = k.below; fails = k.out }) in
     e ∙ ap (Sign n) (h.is ∙ ap (λ (i : ℕ). (multiplier_at ms i).column) same ∙ sym k.is) ∙ sym f
 
-not_legal : (I : Instance) (ms : List Multiplier) (n : ℕ) (r : Refused) → SignRefuses I ms n r → IsLegal I ms → ⊥
+not_legal : (I : Instance) (ms : List Multiplier) (n : ℕ) (r : Refused) → SignRefuses I ms n r → AreLegal I ms → ⊥
 not_legal I ms n r (c, h, e) legal = h.out (pair_of I ms legal h.at h.inside)
 
 abbrev IsWanted : Instance → List Multiplier → Option Ratio → ℕ → Type 0
@@ -35,16 +35,16 @@ not_forms I ms z n r (inr (j, h, e)) forms = h.wide (forms j h.inside).fits
 abbrev ThenSum : Instance → List Multiplier → Option Ratio → ℕ → Refused → Type 0
 ThenSum I ms z n r = Staged (FormsBelow I ms z (width I)) (FormRefuses I ms z n) (SumRefuses I ms z n) r
 
-staged : (I : Instance) (ms : List Multiplier) (z : Option Ratio) (n : ℕ) (r : Refused) → LeafRefuses I ms z n r → Staged (IsLegal I ms) (SignRefuses I ms n) (ThenSum I ms z n) r
+staged : (I : Instance) (ms : List Multiplier) (z : Option Ratio) (n : ℕ) (r : Refused) → LeafRefuses I ms z n r → Staged (AreLegal I ms) (SignRefuses I ms n) (ThenSum I ms z n) r
 staged I ms z n r (inl h) = inl (not_legal I ms n r h, h)
 staged I ms z n r (inr (inl (l, h))) = inr (l, inl (not_forms I ms z n r h, h))
 staged I ms z n r (inr (inr (l, f, h))) = inr (l, inr (f, h))
 
 pub leaf_once : (I : Instance) (ms : List Multiplier) (z : Option Ratio) (n : ℕ) (r s : Refused) → LeafRefuses I ms z n r → LeafRefuses I ms z n s → r ≡ s
 leaf_once I ms z n r s h k =
-    stage_once (IsLegal I ms) (SignRefuses I ms n) (ThenSum I ms z n) r s (sign_once I ms n r s)
+    stage_once (AreLegal I ms) (SignRefuses I ms n) (ThenSum I ms z n) r s (sign_once I ms n r s)
     (stage_once (FormsBelow I ms z (width I)) (FormRefuses I ms z n) (SumRefuses I ms z n) r s (form_once I ms z n r s)
-    (twofold_once (LowFits I (start I z) ms) (Reaches z (low_sum I (start I z) ms)) (Wide n) (Sum n) r s))
+    (twofold_once (LowFits I (start I z) ms) (ReachesBound z (low_sum I (start I z) ms)) (Wide n) (Sum n) r s))
     (staged I ms z n r h) (staged I ms z n s k)
 
 pub clash_once : (I : Instance) (c n : ℕ) (r s : Refused) → ClashRefuses I c n r → ClashRefuses I c n s → r ≡ s

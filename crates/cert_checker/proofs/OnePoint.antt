@@ -5,7 +5,7 @@ use Rattle.evidence.specs.Instance.{Instance, width, height, variable_at, row_at
 use Rattle.evidence.specs.Point.{value_at, activity, objective, IsBetween}
 use Rattle.evidence.specs.Width.{RowFits, GoalFits}
 use Rattle.evidence.specs.Columns.{Keeps, KeepsBelow, IsFirstOut, IsFirstWide}
-use Rattle.instance.specs.Feasible.{IsFeasibleWithin}
+use Rattle.instance.specs.Feasibility.{IsFeasibleWithin}
 use Rattle.cert_checker.specs.declared.refused.Refused.{Refused}
 use Rattle.cert_checker.specs.declared.refused.Refused.TheVariants.{NotFeasible, Value, Wide}
 use Rattle.cert_checker.specs.Points.{IsMiscounted, ValueRefuses, PointRefuses}

@@ -11,9 +11,9 @@ use Rattle.cert_checker.specs.Points.{PointRefuses}
 use Rattle.cert_checker.specs.Rays.{RayRefuses}
 use Rattle.cert_checker.specs.Leaves.{LeafHolds, LeafRefuses, ClashHolds, ClashRefuses}
 use Rattle.cert_checker.specs.Trees.{TreeRefuses}
-use Rattle.cert_checker.specs.Refusals.{IsRefused}
+use Rattle.cert_checker.specs.Refusals.{IsRefusedFor}
 use Rattle.cert_checker.proofs.Firsts.{Staged, stage_once}
-use Rattle.cert_checker.proofs.Refusing.{not_point, not_leaf, not_clash}
+use Rattle.cert_checker.proofs.Refusals.{not_point, not_leaf, not_clash}
 use Rattle.cert_checker.proofs.OnePoint.{point_once}
 use Rattle.cert_checker.proofs.OneRay.{ray_once}
 use Rattle.cert_checker.proofs.OneLeaf.{leaf_once, clash_once}
@@ -47,7 +47,7 @@ then I x v Next r (inr (has, fits, h)) = inr ((has, fits), h)
 with_point : (I : Instance) (x : List Ratio) (v : Ratio) (Next : Refused → Type 0) (r s : Refused) → (Next r → Next s → r ≡ s) → PointRefuses I x v r ⊎ (HasValue I x v × PointFits I x × Next r) → PointRefuses I x v s ⊎ (HasValue I x v × PointFits I x × Next s) → r ≡ s
 with_point I x v Next r s next h k = stage_once (HasPoint I x v) (PointRefuses I x v) Next r s (point_once I x v r s) next (then I x v Next r h) (then I x v Next s k)
 
-pub reason_once : (I : Instance) (claim : Claim) (r s : Refused) → IsRefused I claim r → IsRefused I claim s → r ≡ s
+pub reason_once : (I : Instance) (claim : Claim) (r s : Refused) → IsRefusedFor I claim r → IsRefusedFor I claim s → r ≡ s
 reason_once I (Optimal x v ns) r s h k = with_point I x v (TreeRefuses (I ∷ []) ns (Some (minimising I v)) 1) r s (tree_once (I ∷ []) ns (Some (minimising I v)) 1 r s) h k
 reason_once I (Infeasible ns) r s h k = tree_once (I ∷ []) ns None 1 r s h k
 reason_once I (Unbounded x v d) r s h k = with_point I x v (RayRefuses I d) r s (ray_once I d r s) h k

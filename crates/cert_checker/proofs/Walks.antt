@@ -8,9 +8,9 @@ use Rattle.evidence.specs.Sums.{none}
 use Rattle.evidence.specs.Instance.{Instance, minimising}
 use Rattle.evidence.specs.Cases.{Multiplier, Node, ClashAt, FarkasBy, BoundBy, SplitAt, IsBranch, IsFarkas, IsBound, at_most, at_least}
 use Rattle.evidence.specs.Width.{LeafFits, ProvesWithin}
-use Rattle.evidence.specs.Pending.{ShowsAll}
-use Rattle.evidence.proofs.Pending.{start, clash_step, farkas_step, bound_step, split_step}
-use Rattle.certificate.specs.Means as Means
+use Rattle.evidence.specs.PendingNodes.{ShowsAll}
+use Rattle.evidence.proofs.PendingNodes.{start, clash_step, farkas_step, bound_step, split_step}
+use Rattle.certificate.specs.Meanings as Means
 use Rattle.certificate.specs.declared.lists.Mult.{Mult}
 use Rattle.certificate.specs.declared.nodes.Node as Has
 use Rattle.certificate.specs.declared.nodes.Node.TheVariants.{Farkas, Bound}
@@ -22,7 +22,7 @@ use Rattle.cert_checker.specs.declared.refused.Refused.TheVariants.{Tree as Miss
 use Rattle.case_tree.specs.Cuts.{cases}
 use Rattle.cert_checker.specs.Cuts.{aim}
 use Rattle.cert_checker.specs.Leaves.{LeafHolds, LeafRefuses, ClashHolds}
-use Rattle.cert_checker.specs.Trees.{TreeRefuses, Leads}
+use Rattle.cert_checker.specs.Trees.{TreeRefuses, LeadsThrough}
 
 pub farkas_of : (I : Instance) (ms : List Multiplier) → LeafHolds I ms None → IsFarkas I ms × LeafFits I none ms
 farkas_of I ms h = (
@@ -51,32 +51,32 @@ bound_from I ms z b w = record {
 }
 
 module _ (I : Instance) (js after : List Instance) (n : ℕ) (z : Option Ratio) (rest : List Node) where
-  pub clash_leads : (c : ℕ) → ClashHolds I c → after ≡ js → Leads (I ∷ js) (ClashAt c ∷ rest) n after rest (n + 1) z
+  pub clash_leads : (c : ℕ) → ClashHolds I c → after ≡ js → LeadsThrough (I ∷ js) (ClashAt c ∷ rest) n after rest (n + 1) z
   clash_leads c h e = record {
     shown = λ s. (clash_step I js c rest z).1 (h, subst (λ l. ShowsAll l rest z) e s);
     refused = λ r q. inr (h, subst (λ l. TreeRefuses l rest z (n + 1) r) e q);
   }
 
-  farkas_leads : (ms : List Multiplier) → LeafHolds I ms None → after ≡ js → Leads (I ∷ js) (FarkasBy ms ∷ rest) n after rest (n + 1) z
+  farkas_leads : (ms : List Multiplier) → LeafHolds I ms None → after ≡ js → LeadsThrough (I ∷ js) (FarkasBy ms ∷ rest) n after rest (n + 1) z
   farkas_leads ms h e = record {
     shown = λ s. let f = farkas_of I ms h in (farkas_step I js ms rest z).1 (f.0, f.1, subst (λ l. ShowsAll l rest z) e s);
     refused = λ r q. inr (h, subst (λ l. TreeRefuses l rest z (n + 1) r) e q);
   }
 
-  pub split_leads : (j : ℕ) (k : ℤ) → IsBranch I j k → after ≡ at_most I j k ∷ at_least I j (k +ℤ pos 1) ∷ js → Leads (I ∷ js) (SplitAt j k ∷ rest) n after rest (n + 1) z
+  pub split_leads : (j : ℕ) (k : ℤ) → IsBranch I j k → after ≡ at_most I j k ∷ at_least I j (k +ℤ pos 1) ∷ js → LeadsThrough (I ∷ js) (SplitAt j k ∷ rest) n after rest (n + 1) z
   split_leads j k b e = record {
     shown = λ s. (split_step I js j k rest z).1 (b, subst (λ l. ShowsAll l rest z) e s);
     refused = λ r q. inr (b, subst (λ l. TreeRefuses l rest z (n + 1) r) e q);
   }
 
 module _ (I : Instance) (js after : List Instance) (n : ℕ) (rest : List Node) (ms : List Multiplier) where
-  bound_some : (z : Ratio) → LeafHolds I ms (Some z) → after ≡ js → Leads (I ∷ js) (BoundBy ms ∷ rest) n after rest (n + 1) (Some z)
+  bound_some : (z : Ratio) → LeafHolds I ms (Some z) → after ≡ js → LeadsThrough (I ∷ js) (BoundBy ms ∷ rest) n after rest (n + 1) (Some z)
   bound_some z h e = record {
     shown = λ s. let b = bound_of I ms z h in (bound_step I js ms rest z).1 (b.0, b.1, subst (λ l. ShowsAll l rest (Some z)) e s);
     refused = λ r q. inr (h, subst (λ l. TreeRefuses l rest (Some z) (n + 1) r) e q);
   }
 
-  bound_leads : (a : Option Frac) → (a ≡ None → ⊥) → LeafHolds I ms (aim a) → after ≡ js → Leads (I ∷ js) (BoundBy ms ∷ rest) n after rest (n + 1) (aim a)
+  bound_leads : (a : Option Frac) → (a ≡ None → ⊥) → LeafHolds I ms (aim a) → after ≡ js → LeadsThrough (I ∷ js) (BoundBy ms ∷ rest) n after rest (n + 1) (aim a)
   bound_leads None ne h e = absurd (ne refl)
   bound_leads (Some f) ne h e = bound_some _ h e
 
@@ -89,17 +89,17 @@ module _ (I : Instance) (js after : List Instance) (n : ℕ) (z : Option Ratio) 
   node_is : Means.node x ≡ FarkasBy (Means.multipliers lent)
   node_is = ap Means.node is ∙ ap (λ l. FarkasBy (Means.multipliers l)) (sym le)
 
-  pub farkas_node_leads : LeafHolds I (Means.multipliers lent) None → after ≡ js → Leads (I ∷ js) (Means.node x ∷ rest) n after rest (n + 1) z
-  farkas_node_leads h e = subst (λ y. Leads (I ∷ js) (y ∷ rest) n after rest (n + 1) z) (sym node_is) (farkas_leads I js after n z rest (Means.multipliers lent) h e)
+  pub farkas_node_leads : LeafHolds I (Means.multipliers lent) None → after ≡ js → LeadsThrough (I ∷ js) (Means.node x ∷ rest) n after rest (n + 1) z
+  farkas_node_leads h e = subst (λ y. LeadsThrough (I ∷ js) (y ∷ rest) n after rest (n + 1) z) (sym node_is) (farkas_leads I js after n z rest (Means.multipliers lent) h e)
 
 pub farkas_refused : (I : Instance) (js : List Instance) (n : ℕ) (z : Option Ratio) (rest : List Node) (x : Has.Node) (ms lent : List Mult) (is : x ≡ Farkas ms) (le : lent ≡ ms) (r : Refused) → LeafRefuses I (Means.multipliers lent) None n r → TreeRefuses (I ∷ js) (Means.node x ∷ rest) z n r
 farkas_refused I js n z rest x ms lent is le r q =
     subst (λ y. TreeRefuses (I ∷ js) (y ∷ rest) z n r) (sym (ap Means.node is ∙ ap (λ l. FarkasBy (Means.multipliers l)) (sym le))) (inl q)
 
 module _ (I : Instance) (js after : List Instance) (n : ℕ) (rest : List Node) (x : Has.Node) (ms lent : List Mult) (is : x ≡ Bound ms) (le : lent ≡ ms) (a : Option Frac) (ne : a ≡ None → ⊥) where
-  pub bound_node_leads : LeafHolds I (Means.multipliers lent) (aim a) → after ≡ js → Leads (I ∷ js) (Means.node x ∷ rest) n after rest (n + 1) (aim a)
+  pub bound_node_leads : LeafHolds I (Means.multipliers lent) (aim a) → after ≡ js → LeadsThrough (I ∷ js) (Means.node x ∷ rest) n after rest (n + 1) (aim a)
   bound_node_leads h e =
-      subst (λ y. Leads (I ∷ js) (y ∷ rest) n after rest (n + 1) (aim a)) (sym (ap Means.node is ∙ ap (λ l. BoundBy (Means.multipliers l)) (sym le)))
+      subst (λ y. LeadsThrough (I ∷ js) (y ∷ rest) n after rest (n + 1) (aim a)) (sym (ap Means.node is ∙ ap (λ l. BoundBy (Means.multipliers l)) (sym le)))
       (bound_leads I js after n rest (Means.multipliers lent) a ne h e)
 
 pub bound_refused : (I : Instance) (js : List Instance) (n : ℕ) (rest : List Node) (x : Has.Node) (ms lent : List Mult) (is : x ≡ Bound ms) (le : lent ≡ ms) (a : Option Frac) (ne : a ≡ None → ⊥) (r : Refused) → LeafRefuses I (Means.multipliers lent) (aim a) n r → TreeRefuses (I ∷ js) (Means.node x ∷ rest) (aim a) n r
@@ -107,7 +107,7 @@ bound_refused I js n rest x ms lent is le a ne r q =
     subst (λ y. TreeRefuses (I ∷ js) (y ∷ rest) (aim a) n r) (sym (ap Means.node is ∙ ap (λ l. BoundBy (Means.multipliers l)) (sym le)))
     (bound_refuses I js js n rest (Means.multipliers lent) a ne r q)
 
-pub leads_on : (Is Js Ks : List Instance) (a b c : List Node) (n m l : ℕ) (z : Option Ratio) → Leads Is a n Js b m z → Leads Js b m Ks c l z → Leads Is a n Ks c l z
+pub leads_on : (Is Js Ks : List Instance) (a b c : List Node) (n m l : ℕ) (z : Option Ratio) → LeadsThrough Is a n Js b m z → LeadsThrough Js b m Ks c l z → LeadsThrough Is a n Ks c l z
 leads_on Is Js Ks a b c n m l z f g = record { shown = λ s. f.shown (g.shown s); refused = λ r q. f.refused r (g.refused r q) }
 
 pub drop_node : (ns : List Has.Node) (i : ℕ) (x : Has.Node) → i < length ns → x ≡ slice_index_or ns i x → drop i (Means.nodes ns) ≡ Means.node x ∷ drop (i + 1) (Means.nodes ns)
@@ -117,12 +117,12 @@ drop_node ns i x h is =
     drop-cons (Means.nodes ns) i d (omega arith) ∙ ap₂ (λ y l. y ∷ l) (get_or-map Means.node ns i x d h ∙ sym (ap Means.node is)) (ap (λ k. drop k (Means.nodes ns)) (sym (add-one i)))
 
 -- the leads so far, with the node at hand first
-pub leads_here : (Is : List Instance) (ns : List Has.Node) (p : Parts) (vs : List Var) (bs : List Branch) (o : Option ℕ) (d i : ℕ) (z : Option Ratio) (x : Has.Node) → o ≡ Some d → i < length ns → x ≡ slice_index_or ns i x → Leads Is (Means.nodes ns) 1 (cases p vs bs o) (drop i (Means.nodes ns)) (i + 1) z → Leads Is (Means.nodes ns) 1 (cases p vs bs (Some d)) (Means.node x ∷ drop (i + 1) (Means.nodes ns)) (i + 1) z
+pub leads_here : (Is : List Instance) (ns : List Has.Node) (p : Parts) (vs : List Var) (bs : List Branch) (o : Option ℕ) (d i : ℕ) (z : Option Ratio) (x : Has.Node) → o ≡ Some d → i < length ns → x ≡ slice_index_or ns i x → LeadsThrough Is (Means.nodes ns) 1 (cases p vs bs o) (drop i (Means.nodes ns)) (i + 1) z → LeadsThrough Is (Means.nodes ns) 1 (cases p vs bs (Some d)) (Means.node x ∷ drop (i + 1) (Means.nodes ns)) (i + 1) z
 leads_here Is ns p vs bs o d i z x e h is f =
-    subst (λ l. Leads Is (Means.nodes ns) 1 (cases p vs bs (Some d)) l (i + 1) z) (drop_node ns i x h is)
-    (subst (λ o. Leads Is (Means.nodes ns) 1 (cases p vs bs o) (drop i (Means.nodes ns)) (i + 1) z) e f)
+    subst (λ l. LeadsThrough Is (Means.nodes ns) 1 (cases p vs bs (Some d)) l (i + 1) z) (drop_node ns i x h is)
+    (subst (λ o. LeadsThrough Is (Means.nodes ns) 1 (cases p vs bs o) (drop i (Means.nodes ns)) (i + 1) z) e f)
 
-pub leads_first : (Is : List Instance) (ns : List Node) (z : Option Ratio) → Leads Is ns 1 Is (drop 0 ns) (0 + 1) z
+pub leads_first : (Is : List Instance) (ns : List Node) (z : Option Ratio) → LeadsThrough Is ns 1 Is (drop 0 ns) (0 + 1) z
 leads_first Is ns z = record { shown = λ s. s; refused = λ r q. q }
 
 -- all nodes are read
@@ -133,13 +133,13 @@ drop_all ns n e = ap (λ k. drop k ns) e ∙ none_left ns
     none_left [] = refl
     none_left (x ∷ ns) = none_left ns
 
-pub all_shown : (I : Instance) (ns : List Node) (i : ℕ) (z : Option Ratio) → i ≡ length ns → Leads (I ∷ []) ns 1 [] (drop i ns) (i + 1) z → ProvesWithin I ns z
+pub all_shown : (I : Instance) (ns : List Node) (i : ℕ) (z : Option Ratio) → i ≡ length ns → LeadsThrough (I ∷ []) ns 1 [] (drop i ns) (i + 1) z → ProvesWithin I ns z
 all_shown I ns i z e f = (start I ns z).1 (f.shown (drop_all ns i e))
 
-pub one_missing : (I J : Instance) (js : List Instance) (ns : List Node) (i : ℕ) (z : Option Ratio) → i ≡ length ns → Leads (I ∷ []) ns 1 (J ∷ js) (drop i ns) (i + 1) z → TreeRefuses (I ∷ []) ns z 1 (Missing (i + 1))
+pub one_missing : (I J : Instance) (js : List Instance) (ns : List Node) (i : ℕ) (z : Option Ratio) → i ≡ length ns → LeadsThrough (I ∷ []) ns 1 (J ∷ js) (drop i ns) (i + 1) z → TreeRefuses (I ∷ []) ns z 1 (Missing (i + 1))
 one_missing I J js ns i z e f = f.refused (Missing (i + 1)) (subst (λ l. TreeRefuses (J ∷ js) l z (i + 1) (Missing (i + 1))) (sym (drop_all ns i e)) refl)
 
-pub one_more : (I : Instance) (ns : List Has.Node) (i : ℕ) (x : Has.Node) (z : Option Ratio) → i < length ns → x ≡ slice_index_or ns i x → Leads (I ∷ []) (Means.nodes ns) 1 [] (drop i (Means.nodes ns)) (i + 1) z → TreeRefuses (I ∷ []) (Means.nodes ns) z 1 (Missing (i + 1))
+pub one_more : (I : Instance) (ns : List Has.Node) (i : ℕ) (x : Has.Node) (z : Option Ratio) → i < length ns → x ≡ slice_index_or ns i x → LeadsThrough (I ∷ []) (Means.nodes ns) 1 [] (drop i (Means.nodes ns)) (i + 1) z → TreeRefuses (I ∷ []) (Means.nodes ns) z 1 (Missing (i + 1))
 one_more I ns i x z h is f = f.refused (Missing (i + 1)) (subst (λ l. TreeRefuses [] l z (i + 1) (Missing (i + 1))) (sym (drop_node ns i x h is)) refl)
 
 pub some_weaker : {X : Type 0} {P Q : X → Type 0} (o : Option X) → ((x : X) → P x → Q x) → IfSome o P → IfSome o Q

@@ -6,7 +6,7 @@ use Rattle.fraction.specs.Frac.{ratio, ratios}
 use Rattle.fraction.specs.declared.frac.Frac.{Frac}
 use Rattle.evidence.specs.Instance.{width, height, cost_at}
 use Rattle.evidence.specs.Sums.{none}
-use Rattle.evidence.specs.Cases.{Multiplier, IsLegal}
+use Rattle.evidence.specs.Cases.{Multiplier, AreLegal}
 use Rattle.evidence.specs.Point.{value_at, objective}
 use Rattle.evidence.proofs.Numbers.{product-number}
 use Rattle.evidence.proofs.Totals.{total-number}
@@ -15,7 +15,7 @@ use Rattle.instance.specs.Parts.{Parts}
 use Rattle.instance.specs.Program.{variable, row, program}
 use Rattle.instance.proofs.Terms.{ratios-number}
 use Rattle.certificate.specs.declared.lists.Mult.{Mult}
-use Rattle.certificate.specs.Means.{multiplier, multipliers}
+use Rattle.certificate.specs.Meanings.{multiplier, multipliers}
 use Rattle.case_tree.specs.Cuts.{cut}
 use Rattle.cert_checker.proofs.Lists.{mult_read}
 
@@ -37,7 +37,7 @@ objective-number p x =
     (λ j. product-number (cost_at (program p) j) (value_at (ratios x) j) (ratios-number p.goal.costs j) (ratios-number x j))
 
 -- a legal multiplier has a column
-pub legal_column : (p : Parts) (vs : List Var) (ms : List Mult) (k : ℕ) (m : Mult) → IsLegal (cut p vs) (multipliers ms) → k < length ms → m ≡ slice_index_or ms k m → m.col < length vs + length p.rows
+pub legal_column : (p : Parts) (vs : List Var) (ms : List Mult) (k : ℕ) (m : Mult) → AreLegal (cut p vs) (multipliers ms) → k < length ms → m ≡ slice_index_or ms k m → m.col < length vs + length p.rows
 legal_column p vs ms k m legal h e =
     let n = length-map ms multiplier in
     let c = legal.columns k (record { column = 0; by = none }) (omega arith) in

@@ -3,7 +3,7 @@ use Rattle.std.specs.Prelude.{◌≡◌, ℕ, ◌+◌, ◌<◌, ◌⊎◌, pos, 
 use Rattle.rational.specs.Ratio.{Ratio, IsSame, IsBelow, IsAtMost}
 use Rattle.evidence.specs.Sums.{none}
 use Rattle.evidence.specs.Instance.{Instance, width, height, column_at, cost_at, minimising}
-use Rattle.evidence.specs.Cases.{Multiplier, multiplier_at, end_of, IsLegal, IsEmpty, form, low_sum}
+use Rattle.evidence.specs.Cases.{Multiplier, multiplier_at, end_of, AreLegal, IsEmpty, form, low_sum}
 use Rattle.evidence.specs.Width.{FormFits, LowFits}
 use Rattle.cert_checker.specs.declared.refused.Refused.{Refused}
 use Rattle.cert_checker.specs.declared.refused.Refused.TheVariants.{Sign, Form, Sum, Wide}
@@ -36,9 +36,9 @@ abbrev pub start : Instance → Option Ratio → Ratio
 start I None = none
 start I (Some z) = minimising I I.goal.constant
 
-abbrev pub Reaches : Option Ratio → Ratio → Type 0
-Reaches None s = IsBelow none s
-Reaches (Some z) s = IsAtMost z s
+abbrev pub ReachesBound : Option Ratio → Ratio → Type 0
+ReachesBound None s = IsBelow none s
+ReachesBound (Some z) s = IsAtMost z s
 
 -- the sum of columns at variable j fits, and is the one that is wanted
 pub record HasForm (I : Instance) (ms : List Multiplier) (z : Option Ratio) (j : ℕ) : Type 0 where
@@ -69,23 +69,23 @@ FormRefuses I ms z node r = ((j : ℕ) × IsFirstOther I ms z j × (r ≡ Form n
 abbrev pub SumRefuses : Instance → List Multiplier → Option Ratio → ℕ → Refused → Type 0
 SumRefuses I ms z node r =
     ((LowFits I (start I z) ms → ⊥) × (r ≡ Wide node))
-    ⊎ (LowFits I (start I z) ms × (Reaches z (low_sum I (start I z) ms) → ⊥) × (r ≡ Sum node))
+    ⊎ (LowFits I (start I z) ms × (ReachesBound z (low_sum I (start I z) ms) → ⊥) × (r ≡ Sum node))
 
 -- the sum of the multipliers' ends fits, and reaches what is to be shown
 pub record HasSum (I : Instance) (ms : List Multiplier) (z : Option Ratio) : Type 0 where
   pub fits : LowFits I (start I z) ms
-  pub reaches : Reaches z (low_sum I (start I z) ms)
+  pub reaches : ReachesBound z (low_sum I (start I z) ms)
 
 -- the multipliers show it, by sums that fit
 pub record LeafHolds (I : Instance) (ms : List Multiplier) (z : Option Ratio) : Type 0 where
-  pub legal : IsLegal I ms
+  pub legal : AreLegal I ms
   pub forms : FormsBelow I ms z (width I)
   pub sum : HasSum I ms z
 
 -- what multipliers are refused for: the first that isn't legal, the first variable's sum, and then the sum of their ends
 abbrev pub LeafRefuses : Instance → List Multiplier → Option Ratio → ℕ → Refused → Type 0
 LeafRefuses I ms z node r =
-    SignRefuses I ms node r ⊎ (IsLegal I ms × FormRefuses I ms z node r) ⊎ (IsLegal I ms × FormsBelow I ms z (width I) × SumRefuses I ms z node r)
+    SignRefuses I ms node r ⊎ (AreLegal I ms × FormRefuses I ms z node r) ⊎ (AreLegal I ms × FormsBelow I ms z (width I) × SumRefuses I ms z node r)
 
 -- the column's ends exclude each other
 abbrev pub ClashHolds : Instance → ℕ → Type 0

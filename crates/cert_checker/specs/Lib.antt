@@ -1,7 +1,7 @@
 pub use Rattle.evidence.specs.Instance
 pub use Rattle.evidence.specs.Claim
 pub use Rattle.instance.specs.Program
-pub use Rattle.certificate.specs.Means
+pub use Rattle.certificate.specs.Meanings
 pub mod Points
 pub mod Rays
 pub mod Leaves

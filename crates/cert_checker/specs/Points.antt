@@ -5,7 +5,7 @@ use Rattle.evidence.specs.Instance.{Instance, width}
 use Rattle.evidence.specs.Point.{objective}
 use Rattle.evidence.specs.Width.{GoalFits}
 use Rattle.evidence.specs.Columns.{IsFirstOut, IsFirstWide}
-use Rattle.instance.specs.Feasible.{IsFeasibleWithin}
+use Rattle.instance.specs.Feasibility.{IsFeasibleWithin}
 use Rattle.cert_checker.specs.declared.refused.Refused.{Refused}
 use Rattle.cert_checker.specs.declared.refused.Refused.TheVariants.{NotFeasible, Value, Wide}
 

@@ -10,9 +10,9 @@ use Rattle.cert_checker.specs.Rays.{RayRefuses}
 use Rattle.cert_checker.specs.Trees.{TreeRefuses}
 
 -- the point before the nodes or the direction; nodes are numbered from 1
-abbrev pub IsRefused : Instance → Claim → Refused → Type 0
-IsRefused I (Optimal x v nodes) r = PointRefuses I x v r ⊎ (HasValue I x v × PointFits I x × TreeRefuses (I ∷ []) nodes (Some (minimising I v)) 1 r)
-IsRefused I (Infeasible nodes) r = TreeRefuses (I ∷ []) nodes None 1 r
-IsRefused I (Unbounded x v d) r = PointRefuses I x v r ⊎ (HasValue I x v × PointFits I x × RayRefuses I d r)
-IsRefused I (BestSoFar x v) r = PointRefuses I x v r
-IsRefused I Unsure r = r ≡ NoClaim
+abbrev pub IsRefusedFor : Instance → Claim → Refused → Type 0
+IsRefusedFor I (Optimal x v nodes) r = PointRefuses I x v r ⊎ (HasValue I x v × PointFits I x × TreeRefuses (I ∷ []) nodes (Some (minimising I v)) 1 r)
+IsRefusedFor I (Infeasible nodes) r = TreeRefuses (I ∷ []) nodes None 1 r
+IsRefusedFor I (Unbounded x v d) r = PointRefuses I x v r ⊎ (HasValue I x v × PointFits I x × RayRefuses I d r)
+IsRefusedFor I (BestSoFar x v) r = PointRefuses I x v r
+IsRefusedFor I Unsure r = r ≡ NoClaim

@@ -21,8 +21,8 @@ IsStep None a x new = new ≡ None
 IsStep (Some s) a x new = Added (ratio s) a x new
 
 -- the sum of the first n multipliers, each times its column's coefficient at variable j
-abbrev pub Holds : Instance → List Multiplier → ℕ → ℕ → Option Frac → Type 0
-Holds I ms j n None = StatedFits none n (λ k. (multiplier_at ms k).by) (λ k. coefficient_at I (multiplier_at ms k).column j) → ⊥
-Holds I ms j n (Some r) =
+abbrev pub HoldsSum : Instance → List Multiplier → ℕ → ℕ → Option Frac → Type 0
+HoldsSum I ms j n None = StatedFits none n (λ k. (multiplier_at ms k).by) (λ k. coefficient_at I (multiplier_at ms k).column j) → ⊥
+HoldsSum I ms j n (Some r) =
     StatedFits none n (λ k. (multiplier_at ms k).by) (λ k. coefficient_at I (multiplier_at ms k).column j)
     × IsSame (ratio r) (total none n (λ k. product (multiplier_at ms k).by (coefficient_at I (multiplier_at ms k).column j)))

@@ -3,7 +3,7 @@ use Rattle.std.specs.Prelude.{◌≡◌, ℕ, ◌+◌, ◌⊎◌, pos, ◌+ℤ�
 use Rattle.rational.specs.Ratio.{Ratio}
 use Rattle.evidence.specs.Instance.{Instance}
 use Rattle.evidence.specs.Cases.{Node, ClashAt, FarkasBy, BoundBy, SplitAt, IsBranch, at_most, at_least}
-use Rattle.evidence.specs.Pending.{ShowsAll}
+use Rattle.evidence.specs.PendingNodes.{ShowsAll}
 use Rattle.cert_checker.specs.declared.refused.Refused.{Refused}
 use Rattle.cert_checker.specs.declared.refused.Refused.TheVariants.{Tree}
 use Rattle.cert_checker.specs.Leaves.{LeafHolds, LeafRefuses, ClashHolds, ClashRefuses}
@@ -22,6 +22,6 @@ TreeRefuses (I ∷ cases) (SplitAt j k ∷ nodes) z number r =
     ((IsBranch I j k → ⊥) × (r ≡ Tree number)) ⊎ (IsBranch I j k × TreeRefuses (at_most I j k ∷ at_least I j (k +ℤ pos 1) ∷ cases) nodes z (number + 1) r)
 
 -- if the rest shows what is still to show, then all nodes show all; and the first refusal of the rest is that of all
-pub record Leads (before : List Instance) (nodes : List Node) (number : ℕ) (after : List Instance) (rest : List Node) (next : ℕ) (z : Option Ratio) : Type 0 where
+pub record LeadsThrough (before : List Instance) (nodes : List Node) (number : ℕ) (after : List Instance) (rest : List Node) (next : ℕ) (z : Option Ratio) : Type 0 where
   pub shown : ShowsAll after rest z → ShowsAll before nodes z
   pub refused : (r : Refused) → TreeRefuses after rest z next r → TreeRefuses before nodes z number r

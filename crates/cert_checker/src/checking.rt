@@ -2,9 +2,9 @@ ghost use Rattle.std.specs.Prelude.{◌≡◌, ◌≤◌, length, OnOk, IfErr};
 ghost use Rattle.std.specs.List.{All};
 ghost use Rattle.evidence.specs.Claim.{Accepts};
 ghost use Rattle.instance.specs.Program.{program};
-ghost use Rattle.certificate.specs.Means as Means;
+ghost use Rattle.certificate.specs.Meanings as Means;
 ghost use Rattle.certificate.specs.Nodes.{nodes_of, IsInRange};
-ghost use Rattle.cert_checker.specs.Refusals.{IsRefused};
+ghost use Rattle.cert_checker.specs.Refusals.{IsRefusedFor};
 
 use crate::point::check_point;
 use crate::ray::check_ray;
@@ -23,7 +23,7 @@ pub fn check(instance: &Instance, claim: &Claim, scratch: &mut Scratch) -> Resul
     requires range { All IsInRange (nodes_of claim.now) }
     ensures room { scratch.new ≡ scratch.old }
     ensures ok { OnOk result (Accepts (program instance.now) (Means.claim claim.now)) }
-    ensures err { IfErr result (IsRefused (program instance.now) (Means.claim claim.now)) }
+    ensures err { IfErr result (IsRefusedFor (program instance.now) (Means.claim claim.now)) }
 {
     match claim {
         Claim::Optimal { point, value, cert } => {

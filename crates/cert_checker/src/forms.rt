@@ -1,13 +1,13 @@
 // The sums of multiplied columns, compared with what they should be.
 ghost use Rattle.std.specs.Prelude.{◌≡◌, ◌<◌, ℕ, length, OnOk, IfErr};
 ghost use Rattle.fraction.specs.Frac.{ratio};
-ghost use Rattle.evidence.specs.Cases.{IsLegal};
-ghost use Rattle.certificate.specs.Means.{multipliers};
+ghost use Rattle.evidence.specs.Cases.{AreLegal};
+ghost use Rattle.certificate.specs.Meanings.{multipliers};
 ghost use Rattle.case_tree.specs.Cuts.{cut};
 ghost use Rattle.cert_checker.specs.Cuts as Of;
 ghost use Rattle.cert_checker.specs.Leaves.{FormsBelow, FormRefuses};
 ghost use Rattle.cert_checker.specs.Leaves as Leaf;
-ghost use Rattle.cert_checker.specs.Slots.{slot_at, Holds};
+ghost use Rattle.cert_checker.specs.Slots.{slot_at, HoldsSum};
 
 use crate::refused::Refused;
 use crate::slots::{add_column, clear};
@@ -20,8 +20,8 @@ use instance::{Instance, Var};
 fn add_columns(instance: &Instance, vars: &[Var], slots: &mut [Option<Frac>], mults: &[Mult])
     requires count { length vars.now ≡ length instance.now.vars }
     requires room { length slots.old ≡ length vars.now }
-    requires legal { IsLegal (cut instance.now vars.now) (multipliers mults.now) }
-    ensures { (j : ℕ) → j < length vars.now → Holds (cut instance.now vars.now) (multipliers mults.now) j (length mults.now) (slot_at slots.new j) }
+    requires legal { AreLegal (cut instance.now vars.now) (multipliers mults.now) }
+    ensures { (j : ℕ) → j < length vars.now → HoldsSum (cut instance.now vars.now) (multipliers mults.now) j (length mults.now) (slot_at slots.new j) }
 {
     clear(slots);
     for k in 0..mults.len() {
@@ -53,7 +53,7 @@ fn compare(
 ) -> Result<(), Refused>
     requires count { length vars.now ≡ length instance.now.vars }
     requires room { length slots.now ≡ length vars.now }
-    requires sums { (j : ℕ) → j < length vars.now → Holds (cut instance.now vars.now) (multipliers mults.now) j (length mults.now) (slot_at slots.now j) }
+    requires sums { (j : ℕ) → j < length vars.now → HoldsSum (cut instance.now vars.now) (multipliers mults.now) j (length mults.now) (slot_at slots.now j) }
     ensures ok { OnOk result (FormsBelow (cut instance.now vars.now) (multipliers mults.now) (Of.aim aim) (length vars.now)) }
     ensures err { IfErr result (FormRefuses (cut instance.now vars.now) (multipliers mults.now) (Of.aim aim) node) }
 {
@@ -86,7 +86,7 @@ pub(crate) fn check_forms(
 ) -> Result<(), Refused>
     requires count { length vars.now ≡ length instance.now.vars }
     requires room { length slots.old ≡ length vars.now }
-    requires legal { IsLegal (cut instance.now vars.now) (multipliers mults.now) }
+    requires legal { AreLegal (cut instance.now vars.now) (multipliers mults.now) }
     ensures ok { OnOk result (FormsBelow (cut instance.now vars.now) (multipliers mults.now) (Of.aim aim) (length vars.now)) }
     ensures err { IfErr result (FormRefuses (cut instance.now vars.now) (multipliers mults.now) (Of.aim aim) node) }
 {

@@ -1,6 +1,6 @@
 // Whether multipliers show what a leaf should.
 ghost use Rattle.std.specs.Prelude.{◌≡◌, length, OnOk, IfErr};
-ghost use Rattle.certificate.specs.Means.{multipliers};
+ghost use Rattle.certificate.specs.Meanings.{multipliers};
 ghost use Rattle.case_tree.specs.Cuts.{cut};
 ghost use Rattle.cert_checker.specs.Cuts as Of;
 ghost use Rattle.cert_checker.specs.Leaves.{LeafHolds, LeafRefuses};

@@ -1,7 +1,7 @@
 // Whether multipliers are legal.
 ghost use Rattle.std.specs.Prelude.{◌≡◌, ◌↔◌, ◌+◌, ◌<◌, ℕ, length, IsTrue, IsSome, MatchOption};
-ghost use Rattle.evidence.specs.Cases.{multiplier_at, end_of, IsLegal};
-ghost use Rattle.certificate.specs.Means.{multipliers};
+ghost use Rattle.evidence.specs.Cases.{multiplier_at, end_of, AreLegal};
+ghost use Rattle.certificate.specs.Meanings.{multipliers};
 ghost use Rattle.case_tree.specs.Cuts.{cut};
 ghost use Rattle.cert_checker.specs.Leaves.{IsPair, IsFirstIllegal};
 
@@ -46,7 +46,7 @@ fn is_pair(instance: &Instance, vars: &[Var], mults: &[Mult], k: usize) -> bool
 /// The column of the first multiplier that isn't legal.
 pub(crate) fn first_illegal(instance: &Instance, vars: &[Var], mults: &[Mult]) -> Option<u32>
     requires { length vars.now ≡ length instance.now.vars }
-    ensures { MatchOption result (IsLegal (cut instance.now vars.now) (multipliers mults.now)) (IsFirstIllegal (cut instance.now vars.now) (multipliers mults.now)) }
+    ensures { MatchOption result (AreLegal (cut instance.now vars.now) (multipliers mults.now)) (IsFirstIllegal (cut instance.now vars.now) (multipliers mults.now)) }
 {
     for k in 0..mults.len() {
         if !is_pair(instance, vars, mults, k) {

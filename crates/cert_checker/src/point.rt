@@ -4,7 +4,7 @@ ghost use Rattle.fraction.specs.Frac.{ratio, ratios};
 ghost use Rattle.evidence.specs.Claim.{HasValue};
 ghost use Rattle.evidence.specs.Width.{PointFits};
 ghost use Rattle.instance.specs.Program.{program};
-ghost use Rattle.instance.specs.Feasible.{IsFeasibleWithin};
+ghost use Rattle.instance.specs.Feasibility.{IsFeasibleWithin};
 ghost use Rattle.cert_checker.specs.Points.{PointRefuses, ValueRefuses};
 
 use crate::refused::Refused;

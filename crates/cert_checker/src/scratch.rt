@@ -2,7 +2,7 @@ ghost use Rattle.std.specs.Prelude.{◌≡◌, ◌+◌, ◌-◌, ◌<◌, ◌≤
 ghost use Rattle.std.specs.List.{All};
 ghost use Rattle.evidence.specs.Width.{ProvesWithin};
 ghost use Rattle.instance.specs.Program.{program};
-ghost use Rattle.certificate.specs.Means as Means;
+ghost use Rattle.certificate.specs.Meanings as Means;
 ghost use Rattle.certificate.specs.Nodes.{nodes_of, IsInRange};
 ghost use Rattle.cert_checker.specs.Cuts.{HasRoom};
 ghost use Rattle.cert_checker.specs.Cuts as Of;

@@ -2,9 +2,9 @@
 ghost use Rattle.std.specs.Prelude.{◌≡◌, ◌↔◌, ◌<◌, length, IsTrue, IfOk, OnOk, OnErr, IfErr};
 ghost use Rattle.rational.specs.Ratio.{IsSame};
 ghost use Rattle.fraction.specs.Frac.{ratio};
-ghost use Rattle.evidence.specs.Cases.{multiplier_at, end_of, or_none, IsLegal, low_sum};
+ghost use Rattle.evidence.specs.Cases.{multiplier_at, end_of, or_none, AreLegal, low_sum};
 ghost use Rattle.evidence.specs.Width.{LowFits};
-ghost use Rattle.certificate.specs.Means.{multipliers};
+ghost use Rattle.certificate.specs.Meanings.{multipliers};
 ghost use Rattle.case_tree.specs.Cuts.{cut};
 ghost use Rattle.cert_checker.specs.Cuts as Of;
 ghost use Rattle.cert_checker.specs.Leaves as Leaf;
@@ -19,7 +19,7 @@ use instance::{Instance, Var, add_product};
 /// The end that the multiplier bounds its column by.
 fn end_at(instance: &Instance, vars: &[Var], mults: &[Mult], k: usize) -> Frac
     requires place { k < length mults.now }
-    requires legal { IsLegal (cut instance.now vars.now) (multipliers mults.now) }
+    requires legal { AreLegal (cut instance.now vars.now) (multipliers mults.now) }
     ensures { ratio result ≡ or_none (end_of (cut instance.now vars.now) (multiplier_at (multipliers mults.now) k)) }
 {
     let mult = mults[k];
@@ -32,7 +32,7 @@ fn end_at(instance: &Instance, vars: &[Var], mults: &[Mult], k: usize) -> Frac
 
 /// A start, and the multipliers, each times its end.
 fn low_sum(instance: &Instance, vars: &[Var], mults: &[Mult], start: Frac) -> Result<Frac, Wide>
-    requires { IsLegal (cut instance.now vars.now) (multipliers mults.now) }
+    requires { AreLegal (cut instance.now vars.now) (multipliers mults.now) }
     ensures ok { IfOk result (λ r. IsSame (ratio r) (low_sum (cut instance.now vars.now) (ratio start) (multipliers mults.now))) }
     ensures fits { IfOk result (λ _. LowFits (cut instance.now vars.now) (ratio start) (multipliers mults.now)) }
     ensures wide { OnErr result (LowFits (cut instance.now vars.now) (ratio start) (multipliers mults.now) → ⊥) }
@@ -58,7 +58,7 @@ fn start_of(instance: &Instance, vars: &[Var], aim: Option<Frac>) -> Frac
 
 /// Whether the sum is at least the value that is aimed at; without one, whether it is above 0.
 fn reaches(aim: Option<Frac>, sum: Frac) -> bool
-    ensures { IsTrue result ↔ Leaf.Reaches (Of.aim aim) (ratio sum) }
+    ensures { IsTrue result ↔ Leaf.ReachesBound (Of.aim aim) (ratio sum) }
 {
     match aim {
         Some(value) => is_at_most(value, sum),
@@ -74,7 +74,7 @@ pub(crate) fn check_sum(
     aim: Option<Frac>,
     node: u32,
 ) -> Result<(), Refused>
-    requires { IsLegal (cut instance.now vars.now) (multipliers mults.now) }
+    requires { AreLegal (cut instance.now vars.now) (multipliers mults.now) }
     ensures ok { OnOk result (Leaf.HasSum (cut instance.now vars.now) (multipliers mults.now) (Of.aim aim)) }
     ensures err { IfErr result (Leaf.SumRefuses (cut instance.now vars.now) (multipliers mults.now) (Of.aim aim) node) }
 {

@@ -4,11 +4,11 @@ ghost use Rattle.std.specs.List.{All};
 ghost use Rattle.evidence.specs.Cases as Cases;
 ghost use Rattle.evidence.specs.Width.{ProvesWithin};
 ghost use Rattle.instance.specs.Program.{program};
-ghost use Rattle.certificate.specs.Means as Means;
+ghost use Rattle.certificate.specs.Meanings as Means;
 ghost use Rattle.certificate.specs.Nodes.{IsInRange};
 ghost use Rattle.case_tree.specs.Cuts.{cases, AreBranches};
 ghost use Rattle.cert_checker.specs.Cuts as Of;
-ghost use Rattle.cert_checker.specs.Trees.{TreeRefuses, Leads};
+ghost use Rattle.cert_checker.specs.Trees.{TreeRefuses, LeadsThrough};
 
 use crate::clash::check_clash;
 use crate::leaf::check_leaf;
@@ -37,7 +37,7 @@ fn step(
     requires range { IsInRange node.now }
     ensures depth { IfOk result (λ next. IfSome next (λ d. d ≤ depth + 1)) }
     ensures above { IfOk result (λ next. IfSome next (λ d. AreBranches (length vars.old) branches.new d)) }
-    ensures ok { IfOk result (λ next. (rest : List Cases.Node) → Leads (cases instance.now vars.old branches.old (Some depth)) (Means.node node.now ∷ rest) number (cases instance.now vars.new branches.new next) rest (number + 1) (Of.aim aim)) }
+    ensures ok { IfOk result (λ next. (rest : List Cases.Node) → LeadsThrough (cases instance.now vars.old branches.old (Some depth)) (Means.node node.now ∷ rest) number (cases instance.now vars.new branches.new next) rest (number + 1) (Of.aim aim)) }
     ensures err { IfErr result (λ r. (rest : List Cases.Node) → TreeRefuses (cases instance.now vars.old branches.old (Some depth)) (Means.node node.now ∷ rest) (Of.aim aim) number r) }
 {
     match node {

@@ -2,5 +2,5 @@ pub use Rattle.rational.specs.Ratio
 pub use Rattle.fraction.specs.Frac
 pub use Rattle.evidence.specs.Cases
 pub use Rattle.evidence.specs.Claim
-pub mod Means
+pub mod Meanings
 pub mod Nodes

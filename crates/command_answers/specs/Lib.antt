@@ -1,2 +1,2 @@
-pub mod Named
-pub mod Sent
+pub mod FileNames
+pub mod Outputs

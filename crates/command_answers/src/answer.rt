@@ -1,7 +1,7 @@
 //! Answers that are written.
 
 ghost use Rattle.os_io.specs.Streams.{SameInput};
-ghost use Rattle.command_answers.specs.Sent.{IsTold};
+ghost use Rattle.command_answers.specs.Outputs.{IsTold};
 
 use crate::status::WRITE_FAULT;
 use os_io::{Failed, Sink, Text, send_all};

@@ -2,7 +2,7 @@
 
 ghost use Rattle.std.specs.Prelude.{◌≡◌, option_map, IfOk, IsOk, None};
 ghost use Rattle.os_io.specs.Files.{CountsFiles};
-ghost use Rattle.command_answers.specs.Named.{ReadsNamed};
+ghost use Rattle.command_answers.specs.FileNames.{ReadsNamed};
 
 use os_io::{FileFault, Files, MOST_BYTES, Text};
 use std::alloc::Global;

@@ -17,9 +17,9 @@ use Rattle.clap.specs.declared.error.kind.ErrorKind.TheVariants.{MissingRequired
 use Rattle.clap.proofs.FaultLemmas.{stopped_fault}
 use Rattle.clap.proofs.OnLiterals.{clap_on_literals}
 use Rattle.clap.proofs.WalkLemmas.{both, walk_stopped}
-use Rattle.command_line.specs.Giving.{AreNew, Give, Given, AreWordsOf, given_in, has_name}
-use Rattle.command_line.specs.Giving as giving
-use Rattle.command_line.specs.Forms.{Form, forms, program}
+use Rattle.command_line.specs.CommandWords.{AreNew, Give, Given, AreWordsOf, given_in, has_name}
+use Rattle.command_line.specs.CommandWords as giving
+use Rattle.command_line.specs.Forms.{Form, forms, program_form}
 use Rattle.command_line.specs.Words.{Command, asked_by, asked_with, asks}
 use Rattle.std.proofs.Math.Bool.{or-true}
 use Rattle.clap.proofs.SimpleLemmas.{is_false}
@@ -27,9 +27,9 @@ use Rattle.command_line.proofs.Texts.{true_or_false}
 use Rattle.command_line.proofs.Flags.{HasHelpAlone, IsName, Tells, dashes, first_none, goes_to_place, help_flag, is_dashes, is_long, is_value, next_none, no_flag, some_fault, tells}
 use Rattle.command_line.proofs.Rows.{first_is, is_given_is, rows}
 use Rattle.command_line.proofs.Rules.{leaf, option_rule, options, place_rule, places, rules_of}
-use Rattle.command_line.proofs.Settling.{held}
-use Rattle.command_line.proofs.Walking.{Gives, IsForm, Needs, at, end, gives}
-use Rattle.command_line.proofs.Telling.{AreApart, AreFree, AreGiven, Ended, IsApart, Lacks, said}
+use Rattle.command_line.proofs.TextUses.{held}
+use Rattle.command_line.proofs.Walks.{Gives, IsForm, Needs, at, end, gives}
+use Rattle.command_line.proofs.TextsGiven.{AreApart, AreFree, AreGiven, Ended, IsApart, Lacks, said}
 
 -- ---- the names of a form
 
@@ -192,7 +192,7 @@ program_shape = record (new_shape (codes "os_app")) { rules = help_flag ∷ []; 
 abbrev whole : App
 whole = record { top = program_shape; subs = map leaf forms ++ built_leaf (inherited program_shape help_shape) ∷ [] }
 
-whole_is : built program ≡ whole
+whole_is : built program_form ≡ whole
 whole_is = refl
 
 abbrev subcommands : Names

@@ -16,7 +16,7 @@ use Rattle.clap.specs.Faults.{bundle_fault, bundle_step_fault, flags_fault, flag
 use Rattle.clap.specs.declared.error.kind.ErrorKind.{ErrorKind}
 use Rattle.clap.proofs.FaultLemmas.{fault_ends}
 use Rattle.clap.proofs.WalkLemmas.{bundle_ends}
-use Rattle.command_line.specs.Giving.{is_plain}
+use Rattle.command_line.specs.CommandWords.{is_plain}
 
 -- ---- kinds of faults
 

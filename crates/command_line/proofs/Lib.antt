@@ -1,12 +1,12 @@
 pub mod Forms
 pub mod Numbers
-pub mod Asks
+pub mod Meanings
 pub mod Texts
 pub mod Rows
 pub mod Flags
 pub mod Rules
-pub mod Settling
-pub mod Walking
-pub mod Telling
+pub mod TextUses
+pub mod Walks
+pub mod TextsGiven
 pub mod Commands
 pub mod Ranges

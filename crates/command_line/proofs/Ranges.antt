@@ -11,11 +11,11 @@ use Rattle.clap.specs.declared.builder.value_parser.ValueParser.TheVariants as p
 use Rattle.clap.proofs.ValueTestLemmas.{accepts-Accepts}
 use Rattle.six_calls.specs.declared.call.CallKind.{CallKind}
 use Rattle.six_calls.specs.Names.{kind_named}
-use Rattle.command_line.specs.Forms.{program}
-use Rattle.command_line.specs.Numbers.{number_in, number_or}
-use Rattle.command_line.specs.Words.{Command, Said, Session, Check, Solve, Generate, Call, Serve, IsWithin, asked_by, asked_with, asks, call_of, check_of, found_in, generate_of, port_of, serve_of, solve_of}
+use Rattle.command_line.specs.Forms.{program_form}
+use Rattle.command_line.specs.Numbers.{number_between, number_or}
+use Rattle.command_line.specs.Words.{Command, Said, Session, Check, Solve, Generate, Call, Serve, AreNumbersWithin, asked_by, asked_with, asks, called_command, check_of, found_in, generate_of, port_of, serve_of, solve_of}
 
-number_within : (least most : ℕ) (word : Text) (n : ℕ) → number_in least most word ≡ Some n → (least ≤ n) × (n ≤ most)
+number_within : (least most : ℕ) (word : Text) (n : ℕ) → number_between least most word ≡ Some n → (least ≤ n) × (n ≤ most)
 number_within least most word n is = go (is_unsigned_in least most word) refl is
   where
     go : (b : Bool) → is_unsigned_in least most word ≡ b → cond b (Some (digits_value 10 (without_leading_plus word))) None ≡ Some n → (least ≤ n) × (n ≤ most)
@@ -29,68 +29,68 @@ or_within default least most None n low high is = subst (λ (m : ℕ). (least �
 or_within default least most (Some word) n low high is = number_within least most word n is
 
 module _ (said : Said) (it : Command) where
-  check_within : (osil osrl : Option Text) → option_and_then (λ (a : Text). option_map (Check a) osrl) osil ≡ Some it → IsWithin it
+  check_within : (osil osrl : Option Text) → option_and_then (λ (a : Text). option_map (Check a) osrl) osil ≡ Some it → AreNumbersWithin it
   check_within None osrl is = absurd (none-some it is)
   check_within (Some osil) None is = absurd (none-some it is)
-  check_within (Some osil) (Some osrl) is = subst IsWithin (same_Some (Check osil osrl) it is) tt
+  check_within (Some osil) (Some osrl) is = subst AreNumbersWithin (same_Some (Check osil osrl) it is) tt
 
-  solve_within : (osil options : Option Text) → option_map (λ (a : Text). Solve a options) osil ≡ Some it → IsWithin it
+  solve_within : (osil options : Option Text) → option_map (λ (a : Text). Solve a options) osil ≡ Some it → AreNumbersWithin it
   solve_within None options is = absurd (none-some it is)
-  solve_within (Some osil) options is = subst IsWithin (same_Some (Solve osil options) it is) tt
+  solve_within (Some osil) options is = subst AreNumbersWithin (same_Some (Solve osil options) it is) tt
 
   -- a number that a word is, if one is there
-  read_within : (least most : ℕ) (word : Option Text) (n : ℕ) → option_and_then (number_in least most) word ≡ Some n → (least ≤ n) × (n ≤ most)
+  read_within : (least most : ℕ) (word : Option Text) (n : ℕ) → option_and_then (number_between least most) word ≡ Some n → (least ≤ n) × (n ≤ most)
   read_within least most None n is = absurd (none-some n is)
   read_within least most (Some word) n is = number_within least most word n is
 
-  generate_within : (variables : Option ℕ) → option_and_then (number_in 1 1000) (said (codes "variables")) ≡ variables → option_map Generate variables ≡ Some it → IsWithin it
+  generate_within : (variables : Option ℕ) → option_and_then (number_between 1 1000) (said (codes "variables")) ≡ variables → option_map Generate variables ≡ Some it → AreNumbersWithin it
   generate_within None read is = absurd (none-some it is)
-  generate_within (Some variables) read is = subst IsWithin (same_Some (Generate variables) it is) (read_within 1 1000 (said (codes "variables")) variables read)
+  generate_within (Some variables) read is = subst AreNumbersWithin (same_Some (Generate variables) it is) (read_within 1 1000 (said (codes "variables")) variables read)
 
   call_within : (kind : Option CallKind) (host : Option Text) (port : Option ℕ) → port_of said ≡ port
-      → option_and_then (λ (k : CallKind). option_and_then (λ (h : Text). option_map (λ (p : ℕ). Call k h p (said (codes "osil")) (said (codes "osol")) (said (codes "ospl"))) port) host) kind ≡ Some it → IsWithin it
+      → option_and_then (λ (k : CallKind). option_and_then (λ (h : Text). option_map (λ (p : ℕ). Call k h p (said (codes "osil")) (said (codes "osol")) (said (codes "ospl"))) port) host) kind ≡ Some it → AreNumbersWithin it
   call_within None host port read is = absurd (none-some it is)
   call_within (Some kind) None port read is = absurd (none-some it is)
   call_within (Some kind) (Some host) None read is = absurd (none-some it is)
-  call_within (Some kind) (Some host) (Some port) read is = subst IsWithin (same_Some _ it is) (read_within 0 65535 (said (codes "port")) port read).1
+  call_within (Some kind) (Some host) (Some port) read is = subst AreNumbersWithin (same_Some _ it is) (read_within 0 65535 (said (codes "port")) port read).1
 
   serve_within : (host : Option Text) (port workers servers connections : Option ℕ) → port_of said ≡ port → number_or 2 0 16 (said (codes "workers")) ≡ workers
       → number_or 8 1 64 (said (codes "servers")) ≡ servers → number_or 1000000 1 1000000 (said (codes "connections")) ≡ connections
-      → option_and_then (λ (h : Text). option_and_then (λ (p : ℕ). option_and_then (λ (w : ℕ). option_and_then (λ (s : ℕ). option_map (λ (c : ℕ). Serve h p w s c) connections) servers) workers) port) host ≡ Some it → IsWithin it
+      → option_and_then (λ (h : Text). option_and_then (λ (p : ℕ). option_and_then (λ (w : ℕ). option_and_then (λ (s : ℕ). option_map (λ (c : ℕ). Serve h p w s c) connections) servers) workers) port) host ≡ Some it → AreNumbersWithin it
   serve_within None port workers servers connections p w s c is = absurd (none-some it is)
   serve_within (Some host) None workers servers connections p w s c is = absurd (none-some it is)
   serve_within (Some host) (Some port) None servers connections p w s c is = absurd (none-some it is)
   serve_within (Some host) (Some port) (Some workers) None connections p w s c is = absurd (none-some it is)
   serve_within (Some host) (Some port) (Some workers) (Some servers) None p w s c is = absurd (none-some it is)
   serve_within (Some host) (Some port) (Some workers) (Some servers) (Some connections) p w s c is =
-      let within : IsWithin (Serve host port workers servers connections) = (
+      let within : AreNumbersWithin (Serve host port workers servers connections) = (
         (read_within 0 65535 (said (codes "port")) port p).1,
         (or_within 2 0 16 (said (codes "workers")) workers (omega arith) (omega arith) w).1,
         or_within 8 1 64 (said (codes "servers")) servers (omega arith) (omega arith) s,
         or_within 1000000 1 1000000 (said (codes "connections")) connections (omega arith) (omega arith) c,
       ) in
-      subst IsWithin (same_Some (Serve host port workers servers connections) it is) within
+      subst AreNumbersWithin (same_Some (Serve host port workers servers connections) it is) within
 
   by_name : (session check solve generate call serve : Bool)
-      → cond session (Some Session) (cond check (check_of said) (cond solve (solve_of said) (cond generate (generate_of said) (cond call (call_of said) (cond serve (serve_of said) None))))) ≡ Some it → IsWithin it
-  by_name true check solve generate call serve is = subst IsWithin (same_Some Session it is) tt
+      → cond session (Some Session) (cond check (check_of said) (cond solve (solve_of said) (cond generate (generate_of said) (cond call (called_command said) (cond serve (serve_of said) None))))) ≡ Some it → AreNumbersWithin it
+  by_name true check solve generate call serve is = subst AreNumbersWithin (same_Some Session it is) tt
   by_name false true solve generate call serve is = check_within (said (codes "osil")) (said (codes "osrl")) is
   by_name false false true generate call serve is = solve_within (said (codes "osil")) (said (codes "options")) is
-  by_name false false false true call serve is = generate_within (option_and_then (number_in 1 1000) (said (codes "variables"))) refl is
+  by_name false false false true call serve is = generate_within (option_and_then (number_between 1 1000) (said (codes "variables"))) refl is
   by_name false false false false true serve is = call_within (option_and_then kind_named (said (codes "name"))) (said (codes "host")) (port_of said) refl is
   by_name false false false false false true is = serve_within (said (codes "host")) (port_of said) (number_or 2 0 16 (said (codes "workers"))) (number_or 8 1 64 (said (codes "servers"))) (number_or 1000000 1 1000000 (said (codes "connections"))) refl refl refl refl is
   by_name false false false false false false is = absurd (none-some it is)
 
-asked_within : (faults : Kinds) (found : Option (Text × List Row)) (it : Command) → asked_with faults found ≡ Some it → IsWithin it
+asked_within : (faults : Kinds) (found : Option (Text × List Row)) (it : Command) → asked_with faults found ≡ Some it → AreNumbersWithin it
 asked_within [] found it is =
     by found is
   where
-    by : (found : Option (Text × List Row)) → option_and_then (λ (f : Text × List Row). asked_by f.0 (found_in f.1)) found ≡ Some it → IsWithin it
+    by : (found : Option (Text × List Row)) → option_and_then (λ (f : Text × List Row). asked_by f.0 (found_in f.1)) found ≡ Some it → AreNumbersWithin it
     by None is = absurd (none-some it is)
     by (Some f) is = by_name (found_in f.1) it (bytes_eq f.0 (codes "session")) (bytes_eq f.0 (codes "check")) (bytes_eq f.0 (codes "solve")) (bytes_eq f.0 (codes "generate")) (bytes_eq f.0 (codes "call"))
         (bytes_eq f.0 (codes "serve")) is
 asked_within (fault ∷ faults) found it is = absurd (none-some it is)
 
-pub asks_within : (words : List Text) (it : Command) → asks words ≡ Some it → IsWithin it
+pub asks_within : (words : List Text) (it : Command) → asks words ≡ Some it → AreNumbersWithin it
 unfolding asks
-asks_within words it is = asked_within (fault_of program words) (subcommand_of program words) it is
+asks_within words it is = asked_within (fault_of program_form words) (subcommand_of program_form words) it is

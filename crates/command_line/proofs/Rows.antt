@@ -10,7 +10,7 @@ use Rattle.clap.specs.Facts.{explicit_source}
 use Rattle.clap.specs.Takes.{is_given}
 use Rattle.clap.specs.declared.builder.value_parser.Reading.TheVariants.{AsWritten}
 use Rattle.clap.specs.declared.parser.matches.ValueSource.TheVariants.{CommandLine}
-use Rattle.command_line.specs.Giving.{Given, given_in}
+use Rattle.command_line.specs.CommandWords.{Given, given_in}
 use Rattle.command_line.proofs.Texts.{true_or_false}
 
 -- what is found of a text

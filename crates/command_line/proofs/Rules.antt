@@ -6,7 +6,7 @@ use Rattle.std.proofs.lemmas.Bool.{eq-eqb, ne_eqb}
 use Rattle.std.proofs.lemmas.Slice.Eq.{bytes_eq-Decides}
 use Rattle.clap.specs.Walk.{Rule, Text, arg_by_id, arg_by_index, arg_by_long, arg_by_short, has_long, has_short}
 use Rattle.clap.specs.Simple.{Shape, filled, with_index}
-use Rattle.command_line.specs.Giving.{has_name}
+use Rattle.command_line.specs.CommandWords.{has_name}
 use Rattle.command_line.specs.Forms.{Form, named_word, needed_word, shape}
 use Rattle.command_line.proofs.Texts.{true_or_false}
 use Rattle.command_line.proofs.Flags.{HasHelpAlone, help_flag}

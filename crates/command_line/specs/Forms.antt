@@ -36,5 +36,5 @@ abbrev pub needing_subcommand : Shape → Shape
 needing_subcommand command = record command { subcommand_required = true }
 
 -- the program's command line: it is called by one of the commands
-abbrev pub program : App
-program = fold with_subcommand (on_top needing_subcommand (new_app (codes "os_app"))) (map shape forms)
+abbrev pub program_form : App
+program_form = fold with_subcommand (on_top needing_subcommand (new_app (codes "os_app"))) (map shape forms)

@@ -5,8 +5,8 @@ use Rattle.clap.specs.Words.{Row, Text, fault_of, first_of, subcommand_of}
 use Rattle.clap.specs.Kinds.{Kinds}
 use Rattle.six_calls.specs.Names.{kind_named}
 use Rattle.six_calls.specs.declared.call.CallKind.{CallKind}
-use Rattle.command_line.specs.Forms.{program}
-use Rattle.command_line.specs.Numbers.{number_in, number_or}
+use Rattle.command_line.specs.Forms.{program_form}
+use Rattle.command_line.specs.Numbers.{number_between, number_or}
 use Rattle.command_line.specs.declared.words.Asked.{Asked}
 use Rattle.command_line.specs.declared.words.Asked.TheVariants as asked
 
@@ -44,14 +44,14 @@ solve_of said = option_map (λ osil. Solve osil (said (codes "options"))) (said 
 
 -- one to a thousand variables
 abbrev pub generate_of : Said → Option Command
-generate_of said = option_map Generate (option_and_then (number_in 1 1000) (said (codes "variables")))
+generate_of said = option_map Generate (option_and_then (number_between 1 1000) (said (codes "variables")))
 
 -- a port of TCP (RFC 9293, section 3.1), of which 0 stands for one that the system chooses
 abbrev pub port_of : Said → Option ℕ
-port_of said = option_and_then (number_in 0 65535) (said (codes "port"))
+port_of said = option_and_then (number_between 0 65535) (said (codes "port"))
 
-abbrev pub call_of : Said → Option Command
-call_of said = option_and_then (λ kind. option_and_then (λ host. option_map (λ port. Call kind host port (said (codes "osil")) (said (codes "osol")) (said (codes "ospl"))) (port_of said)) (said (codes "host"))) (option_and_then kind_named (said (codes "name")))
+abbrev pub called_command : Said → Option Command
+called_command said = option_and_then (λ kind. option_and_then (λ host. option_map (λ port. Call kind host port (said (codes "osil")) (said (codes "osol")) (said (codes "ospl"))) (port_of said)) (said (codes "host"))) (option_and_then kind_named (said (codes "name")))
 
 -- no worker to 16, two where none are said; one to 64 conversations at once, eight where none are said; one to 1,000,000
 -- connections, all of them where none are said
@@ -66,7 +66,7 @@ asked_by name said = if bytes_eq name (codes "session") then Some Session
     else (if bytes_eq name (codes "check") then check_of said
     else (if bytes_eq name (codes "solve") then solve_of said
     else (if bytes_eq name (codes "generate") then generate_of said
-    else (if bytes_eq name (codes "call") then call_of said
+    else (if bytes_eq name (codes "call") then called_command said
     else (if bytes_eq name (codes "serve") then serve_of said else None)))))
 
 -- ---- what the words ask for
@@ -82,11 +82,11 @@ asked_with (fault ∷ faults) found = None
 
 -- what the words ask for, the first of which is the program's name; nothing where they are refused, or ask for help
 unfoldable pub asks : List Text → Option Command
-asks words = asked_with (fault_of program words) (subcommand_of program words)
+asks words = asked_with (fault_of program_form words) (subcommand_of program_form words)
 
 -- the words are `session`'s
-abbrev pub IsSession : List Text → Type 0
-IsSession words = asks words ≡ Some Session
+abbrev pub AsksSession : List Text → Type 0
+AsksSession words = asks words ≡ Some Session
 
 -- the words are no command's
 abbrev pub IsNoCommand : List Text → Type 0
@@ -101,13 +101,13 @@ abbrev pub IsSolve : List Text → (osil : Text) → (options : Option Text) →
 IsSolve words osil options = asks words ≡ Some (Solve osil options)
 
 -- a command's numbers are within their ends
-abbrev pub IsWithin : Command → Type 0
-IsWithin Session = Unit {0}
-IsWithin (Check osil osrl) = Unit {0}
-IsWithin (Solve osil options) = Unit {0}
-IsWithin (Generate variables) = (1 ≤ variables) × (variables ≤ 1000)
-IsWithin (Call kind host port osil osol ospl) = port ≤ 65535
-IsWithin (Serve host port workers servers connections) = (port ≤ 65535) × (workers ≤ 16) × ((1 ≤ servers) × (servers ≤ 64)) × ((1 ≤ connections) × (connections ≤ 1000000))
+abbrev pub AreNumbersWithin : Command → Type 0
+AreNumbersWithin Session = Unit {0}
+AreNumbersWithin (Check osil osrl) = Unit {0}
+AreNumbersWithin (Solve osil options) = Unit {0}
+AreNumbersWithin (Generate variables) = (1 ≤ variables) × (variables ≤ 1000)
+AreNumbersWithin (Call kind host port osil osol ospl) = port ≤ 65535
+AreNumbersWithin (Serve host port workers servers connections) = (port ≤ 65535) × (workers ≤ 16) × ((1 ≤ servers) × (servers ≤ 64)) × ((1 ≤ connections) × (connections ≤ 1000000))
 
 -- the command names files: a call does where one of its parts is in a file
 abbrev pub names_files : Command → Bool

@@ -1,8 +1,8 @@
 //! The program's command line, as `clap` is told it.
 ghost use Rattle.std.specs.Prelude.{◌≡◌, map, IfOk};
 ghost use Rattle.clap.specs.Words.{app_of};
-ghost use Rattle.command_line.specs.Forms.{program};
-ghost use Rattle.command_line.specs.Told.{IsToldForm};
+ghost use Rattle.command_line.specs.Forms.{program_form};
+ghost use Rattle.command_line.specs.CommandTellings.{IsToldForm};
 
 use clap::{Arg, Command};
 use os_io::Memory;
@@ -33,7 +33,7 @@ fn command<'a>(
 
 /// The program's command line.
 pub(crate) fn program<'a>(alloc: Global) -> Result<Command<'a>, Memory>
-    ensures { IfOk result (λ command. app_of command ≡ program) }
+    ensures { IfOk result (λ command. app_of command ≡ program_form) }
 {
     let session = command(alloc, "session", &[], &[])?;
     let check = command(alloc, "check", &["osil", "osrl"], &[])?;

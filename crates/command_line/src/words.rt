@@ -3,8 +3,8 @@ ghost use Rattle.std.specs.Prelude.{◌≡◌, ◌↔◌, ◌≤◌, ℕ, List, 
 ghost use Rattle.std.specs.String.{string_bytes};
 ghost use Rattle.os_io.specs.Streams.{Sends};
 ghost use Rattle.clap.specs.Words.{first_value, found_of, subcommand_rows_of};
-ghost use Rattle.command_line.specs.Giving.{AreWordsOf};
-ghost use Rattle.command_line.specs.Numbers.{number_in, number_or};
+ghost use Rattle.command_line.specs.CommandWords.{AreWordsOf};
+ghost use Rattle.command_line.specs.Numbers.{number_between, number_or};
 ghost use Rattle.command_line.specs.Words as says;
 
 use crate::program::program;
@@ -67,7 +67,7 @@ pub enum Asked<'w> {
 
 /// The number that a word is, if it is one within these ends.
 fn number_in(word: &str, least: u32, most: u32) -> Option<u32>
-    ensures number { result ≡ number_in least most word.now }
+    ensures number { result ≡ number_between least most word.now }
     ensures within { IfSome result (λ n. n ≤ most) }
 {
     match word.parse::<u32>() {
@@ -122,7 +122,7 @@ fn generate_of<'w>(matches: &ArgMatches<'w>) -> Option<Asked<'w>>
 
 /// The call, the server and the files that `call`'s words name.
 fn call_of<'w>(matches: &ArgMatches<'w>) -> Option<Asked<'w>>
-    ensures { option_map says.meant result ≡ says.call_of (first_value (found_of matches.now)) }
+    ensures { option_map says.meant result ≡ says.called_command (first_value (found_of matches.now)) }
 {
     let kind = CallKind::named(matches.get_str("name")?.as_bytes())?;
     let host = matches.get_str("host")?;
@@ -209,7 +209,7 @@ pub fn commands_have_their_words()
 
 /// Law: the numbers of what words ask for are within their ends.
 pub fn numbers_are_within_their_ends()
-    ensures { (words : List (List ℕ)) (it : says.Command) → says.asks words ≡ Some it → says.IsWithin it }
+    ensures { (words : List (List ℕ)) (it : says.Command) → says.asks words ≡ Some it → says.AreNumbersWithin it }
 {}
 
 /// Writes how the program is called.

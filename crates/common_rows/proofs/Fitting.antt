@@ -7,10 +7,10 @@ use Rattle.std.proofs.lemmas.Int.{ints, unsigned_abs-mul}
 use Rattle.std.proofs.lemmas.Nat.Gcd.{le_of_dvd}
 use Rattle.rational.specs.Ratio.{Ratio, product, IsSame, IsNumber}
 use Rattle.rational.specs.Width.{left_term, right_term, AreFourWithin, SumFits, ReducedFits, IsReduced, most}
-use Rattle.rational.proofs.Coprime.{coprime_swap, coprime_from_IsGcd, divides_other}
-use Rattle.rational.proofs.Reduced.{reduce, quotient_above}
+use Rattle.rational.proofs.CommonDivisors.{coprime_swap, coprime_from_IsGcd, divides_other}
+use Rattle.rational.proofs.ReducedForms.{reduce, quotient_above}
 use Rattle.rational.proofs.Scaling.{add-times, times-times, same_multiple, IsSame-trans}
-use Rattle.rational.proofs.Signed.{sizes_cross}
+use Rattle.rational.proofs.Signs.{sizes_cross}
 use Rattle.fraction.proofs.Multiples.{lcm_by_gcd}
 use Rattle.evidence.specs.Width.{TermFits}
 use Rattle.common_rows.specs.Row.{over}

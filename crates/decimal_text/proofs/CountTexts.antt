@@ -8,9 +8,9 @@ use Rattle.std.proofs.lemmas.Str.Parse.{digit_from_value}
 use Rattle.decimal_text.specs.Head.{HasNoDigit, DoesNotBegin}
 use Rattle.decimal_text.specs.Sign.{optional}
 use Rattle.decimal_text.specs.Count.{CountText, CountGrammar}
-use Rattle.decimal_text.specs.Prefix.{Begins, LeavesAt}
+use Rattle.decimal_text.specs.Prefix.{BeginsText, LeavesAt}
 use Rattle.decimal_text.proofs.Numerals.{AllDigits-append}
-use Rattle.decimal_text.proofs.Leaving.{Reads, leaves}
+use Rattle.decimal_text.proofs.Machines.{Reads, leaves}
 use Rattle.decimal_text.proofs.Counts.{start, dead, next, accepts, AreSigns, IsSign, HasNoSign, reads, stops}
 
 abbrev pub is_plus : ℕ → Bool
@@ -42,7 +42,7 @@ count_reads = record {
 pub numeral_onward : (ds : List ℕ) → AllDigits 10 ds → IsNumeral 10 (ds ++ 48 ∷ [])
 numeral_onward ds h = (omega (arith, length-append ds (48 ∷ [])), AllDigits-append ds (48 ∷ []) h (omega arith, tt))
 
-count_begins : (plus : Bool) (ds : List ℕ) → AllDigits 10 ds → Begins CountGrammar (optional 43 plus ++ ds)
+count_begins : (plus : Bool) (ds : List ℕ) → AllDigits 10 ds → BeginsText CountGrammar (optional 43 plus ++ ds)
 count_begins plus ds h = (
   48 ∷ [],
   (

@@ -5,7 +5,7 @@ use Rattle.std.specs.Char.{digit_value}
 use Rattle.std.specs.Str.Parse.{AllDigits, IsNumeral}
 use Rattle.std.proofs.lemmas.Bool.{lt-ltb, le-ltb}
 use Rattle.decimal_text.specs.Head.{HasNoDigit}
-use Rattle.decimal_text.proofs.Leaving.{run, run-digits, Stops}
+use Rattle.decimal_text.proofs.Machines.{run, run-digits, Stops}
 
 pub data State : Type 0 where
   start : State

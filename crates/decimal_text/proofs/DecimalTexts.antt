@@ -7,22 +7,22 @@ use Rattle.decimal_text.specs.Sign.{Sign, sign_text, is_minus}
 use Rattle.decimal_text.specs.Decimal.{Mantissa, plain, pointed, mantissa_text, mantissa_digits, power, exponent_text, DecimalText, DecimalGrammar, powered}
 use Rattle.decimal_text.specs.Bound.{BoundGrammar, EndsInfinity, InfinityStop}
 use Rattle.std.proofs.lemmas.Bool.{ne_eqb}
-use Rattle.decimal_text.specs.Prefix.{Begins, LeavesAt}
+use Rattle.decimal_text.specs.Prefix.{BeginsText, LeavesAt}
 use Rattle.decimal_text.specs.Parts.{MantissaSplit, EndsMantissa, MantissaMissing, PowerMissing, PowerBroken, UnsignedStop, UnsignedSplit}
 use Rattle.decimal_text.proofs.Numerals.{AllDigits-append}
-use Rattle.decimal_text.proofs.Leaving.{run, run-append, Stops, leaves}
+use Rattle.decimal_text.proofs.Machines.{run, run-append, Stops, leaves}
 use Rattle.decimal_text.proofs.Counts as tail
 use Rattle.decimal_text.proofs.WholeTexts.{is_sign, signs_apart, sign_is_sign, behind_sign}
 use Rattle.decimal_text.proofs.Decimals.{next, start, dead, accepts, first, front, has_sign, after, wrap, Grammar, decimal_reads, IsFinite, after_sign, after_mantissa, after_letter, run_wrap, stops_front, stops_point, stops_after, stops_wrap, begins_as, begins_mantissa, begins_power, first_point}
 
 -- a grammar is left behind the part of a text that was read
-stopped : (bound : Bool) (s p rest : List ℕ) (at left : ℕ) → s ≡ p ++ rest → left ≡ length rest → at ≡ length s - left → Begins (Grammar bound) p → Stops (next bound) dead accepts (run (next bound) start p) rest → LeavesAt (Grammar bound) s at
+stopped : (bound : Bool) (s p rest : List ℕ) (at left : ℕ) → s ≡ p ++ rest → left ≡ length rest → at ≡ length s - left → BeginsText (Grammar bound) p → Stops (next bound) dead accepts (run (next bound) start p) rest → LeavesAt (Grammar bound) s at
 stopped bound s p rest at left e l place b stop =
     let here : at ≡ length p = omega (arith, ap length e, length-append p rest) in
     let done : LeavesAt (Grammar bound) (p ++ rest) (length p) = leaves (next bound) start dead accepts (Grammar bound) (decimal_reads bound) p rest b stop in
     subst (λ n. LeavesAt (Grammar bound) s n) (sym here) (subst (λ x. LeavesAt (Grammar bound) x (length p)) (sym e) done)
 
-at_end : (bound : Bool) (s p rest : List ℕ) (at left : ℕ) → s ≡ p ++ rest → left ≡ length rest → at ≡ length s - left → Begins DecimalGrammar p → Stops (next bound) dead accepts (run (next bound) start p) rest → LeavesAt (Grammar bound) s at
+at_end : (bound : Bool) (s p rest : List ℕ) (at left : ℕ) → s ≡ p ++ rest → left ≡ length rest → at ≡ length s - left → BeginsText DecimalGrammar p → Stops (next bound) dead accepts (run (next bound) start p) rest → LeavesAt (Grammar bound) s at
 at_end bound s p rest at left e l place b stop = stopped bound s p rest at left e l place (begins_as bound p b) stop
 
 joined : (s u m rest : List ℕ) (sign : Sign) → s ≡ sign_text sign ++ u → u ≡ m ++ rest → s ≡ (sign_text sign ++ m) ++ rest
@@ -98,7 +98,7 @@ front_first true = refl
 front_first false = refl
 
 -- as much of `INF` as there is begins one
-begins_infinity : (sign : Sign) (read rest : List ℕ) → read ++ rest ≡ 78 ∷ 70 ∷ [] → Begins BoundGrammar (sign_text sign ++ 73 ∷ read)
+begins_infinity : (sign : Sign) (read rest : List ℕ) → read ++ rest ≡ 78 ∷ 70 ∷ [] → BeginsText BoundGrammar (sign_text sign ++ 73 ∷ read)
 begins_infinity sign read rest e = (rest, inr (sign, append_assoc (sign_text sign) (73 ∷ read) rest ∙ ap (λ x. sign_text sign ++ 73 ∷ x) e))
 
 stops_infinity : (read rest : List ℕ) → EndsInfinity read rest → Stops (next true) dead accepts (run (next true) first read) rest

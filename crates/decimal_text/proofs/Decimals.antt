@@ -9,10 +9,10 @@ use Rattle.decimal_text.specs.Head.{HasNoDigit, DoesNotBegin, IsBehind}
 use Rattle.decimal_text.specs.Sign.{Sign, absent, plus, minus, sign_text}
 use Rattle.decimal_text.specs.Decimal.{Mantissa, plain, pointed, mantissa_text, mantissa_digits, Exponent, none, power, exponent_text, IsExponent, decimal_value, DecimalGrammar}
 use Rattle.decimal_text.specs.Bound.{infinity, BoundGrammar}
-use Rattle.decimal_text.specs.Prefix.{Begins}
+use Rattle.decimal_text.specs.Prefix.{BeginsText}
 use Rattle.decimal_text.specs.Parts.{EndsMantissa}
 use Rattle.decimal_text.proofs.Numerals.{AllDigits-split}
-use Rattle.decimal_text.proofs.Leaving.{run, run-append, run-digits, Reads, Stops}
+use Rattle.decimal_text.proofs.Machines.{run, run-append, run-digits, Reads, Stops}
 use Rattle.decimal_text.proofs.Counts as tail
 use Rattle.decimal_text.proofs.CountTexts.{numeral_onward}
 use Rattle.decimal_text.proofs.WholeTexts.{is_sign, signs_apart, sign_is_sign}
@@ -217,11 +217,11 @@ with_zero_digits : (m : Mantissa) → AllDigits 10 (mantissa_digits m) → IsNum
 with_zero_digits (plain ds) h = numeral_onward ds h
 with_zero_digits (pointed ds es) h = subst (λ x. IsNumeral 10 x) (append_assoc ds es (48 ∷ [])) (numeral_onward (ds ++ es) h)
 
-pub begins_as : (bound : Bool) (p : List ℕ) → Begins DecimalGrammar p → Begins (Grammar bound) p
+pub begins_as : (bound : Bool) (p : List ℕ) → BeginsText DecimalGrammar p → BeginsText (Grammar bound) p
 begins_as false p b = b
 begins_as true p b = (b.0, inl b.1)
 
-pub begins_mantissa : (sign : Sign) (m : Mantissa) → AllDigits 10 (mantissa_digits m) → Begins DecimalGrammar (sign_text sign ++ mantissa_text m)
+pub begins_mantissa : (sign : Sign) (m : Mantissa) → AllDigits 10 (mantissa_digits m) → BeginsText DecimalGrammar (sign_text sign ++ mantissa_text m)
 begins_mantissa sign m h = (
   48 ∷ [],
   (
@@ -238,7 +238,7 @@ begins_mantissa sign m h = (
   ),
 )
 
-pub begins_power : (sign : Sign) (m : Mantissa) (capital : Bool) (e : Sign) (ds : List ℕ) → IsNumeral 10 (mantissa_digits m) → AllDigits 10 ds → Begins DecimalGrammar (sign_text sign ++ (mantissa_text m ++ exponent_text (power capital e ds)))
+pub begins_power : (sign : Sign) (m : Mantissa) (capital : Bool) (e : Sign) (ds : List ℕ) → IsNumeral 10 (mantissa_digits m) → AllDigits 10 ds → BeginsText DecimalGrammar (sign_text sign ++ (mantissa_text m ++ exponent_text (power capital e ds)))
 begins_power sign m capital e ds h k = (
   48 ∷ [],
   (

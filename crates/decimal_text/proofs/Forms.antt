@@ -5,7 +5,7 @@ use Rattle.rational.specs.Ratio.{Ratio, IsNumber, IsSame}
 use Rattle.rational.specs.Width.{most}
 use Rattle.rational.specs.Whole.{signed}
 use Rattle.rational.proofs.Scaling.{IsSame-trans}
-use Rattle.rational.proofs.Signed.{same_form, unsigned_abs-signed}
+use Rattle.rational.proofs.Signs.{same_form, unsigned_abs-signed}
 use Rattle.decimal_text.specs.Decimal.{powered, scientific, ShortestForm, HasFit, HasNoFit}
 use Rattle.decimal_text.proofs.Powers.{ten_power}
 

@@ -1,5 +1,5 @@
 pub mod Numerals
-pub mod Leaving
+pub mod Machines
 pub mod Counts
 pub mod CountTexts
 pub mod WholeTexts
@@ -12,12 +12,12 @@ pub mod Decimals
 pub mod DecimalTexts
 pub mod Ratios
 pub mod RatioTexts
-pub mod Cutting
-pub mod Expanding
+pub mod Cuts
+pub mod Expansions
 pub mod Tens
-pub mod Written
-pub mod Reading
-pub mod Once
+pub mod WholeDecimals
+pub mod OneRatio
+pub mod OneDecimal
 pub mod OneNumber
 pub mod PlainTexts
-pub mod ReadBack
+pub mod RoundTrips

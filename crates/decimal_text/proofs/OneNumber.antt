@@ -13,11 +13,11 @@ use Rattle.decimal_text.specs.declared.fault.DecimalFault.TheVariants.{Wide}
 use Rattle.decimal_text.specs.Sign.{Sign, absent, plus, minus, sign_text, is_minus, optional}
 use Rattle.decimal_text.specs.Space.{trimmed}
 use Rattle.decimal_text.specs.Count.{CountText, IsCount, IsWideCount}
-use Rattle.decimal_text.specs.Whole.{WholeText, IsWhole, IsWideWhole}
+use Rattle.decimal_text.specs.Whole.{WholeText, IsWholeText, IsWideWhole}
 use Rattle.decimal_text.specs.Decimal.{Mantissa, plain, pointed, mantissa_text, mantissa_digits, exponent_text, DecimalText, IsDecimal, IsWideDecimal}
-use Rattle.decimal_text.specs.Bound.{IsBound, infinity}
-use Rattle.decimal_text.proofs.Once.{sign_once, signless_digits, signless_mantissa, decimal_refused}
-use Rattle.decimal_text.proofs.Reading.{heads}
+use Rattle.decimal_text.specs.Bound.{SaysEnd, infinity}
+use Rattle.decimal_text.proofs.OneDecimal.{sign_once, signless_digits, signless_mantissa, decimal_refused}
+use Rattle.decimal_text.proofs.OneRatio.{heads}
 
 whole_text_once : (s : List ℕ) (y z : ℤ) → WholeText s y → WholeText s z → y ≡ z
 whole_text_once s y z a b =
@@ -26,10 +26,10 @@ whole_text_once s y z a b =
     let digits : a.digits ≡ b.digits = sym (append-nil a.digits) ∙ (both.1 ∙ append-nil b.digits) in
     a.value ∙ (ap (λ n. signed n (digits_value 10 a.digits)) both.0 ∙ (ap (λ ds. signed (is_minus b.sign) (digits_value 10 ds)) digits ∙ sym b.value))
 
-pub whole_once : (text : List ℕ) (y z : ℤ) → IsWhole text y → IsWhole text z → y ≡ z
+pub whole_once : (text : List ℕ) (y z : ℤ) → IsWholeText text y → IsWholeText text z → y ≡ z
 whole_once text y z a b = whole_text_once (trimmed text) y z a.0 b.0
 
-pub whole_fits : (text : List ℕ) (z : ℤ) → IsWhole text z → IsWideWhole text → ⊥
+pub whole_fits : (text : List ℕ) (z : ℤ) → IsWholeText text z → IsWideWhole text → ⊥
 whole_fits text z a (y, wide) = let same = whole_text_once (trimmed text) z y a.0 wide.0 in let sizes = ap unsigned_abs same in let small = a.1 in let great = wide.1 in omega (arith, sizes, small, great)
 
 -- a count is a whole number
@@ -66,7 +66,7 @@ not_decimal s q x e d =
     let both = sign_once d.sign q (mantissa_text d.mantissa ++ exponent_text d.exponent) infinity (signless_mantissa d.mantissa (exponent_text d.exponent) d.numeral) ((λ z. omega (arith, z)), (λ z. omega (arith, z))) (sym d.text ∙ e) in
     no_mantissa d.mantissa (exponent_text d.exponent) (78 ∷ 70 ∷ []) d.numeral both.1
 
-pub bound_fits : (text : List ℕ) (x : End) → IsBound text x → IsWideDecimal text → ⊥
+pub bound_fits : (text : List ℕ) (x : End) → SaysEnd text x → IsWideDecimal text → ⊥
 bound_fits text NegInf a wide = not_decimal (trimmed text) minus wide.written a wide.read
 bound_fits text (At x) a wide = decimal_fits text x a wide
 bound_fits text Inf a wide = not_decimal (trimmed text) a.0 wide.written a.1.1 wide.read
@@ -77,12 +77,12 @@ plus_is_no_minus plus positive e = let z = heads 43 45 infinity infinity e in om
 plus_is_no_minus minus positive e = absurd (cc)
 
 -- a text is one of the infinities, or neither
-pub only_inf : (text : List ℕ) (x : End) → IsBound text x → IsBound text Inf → x ≡ Inf
+pub only_inf : (text : List ℕ) (x : End) → SaysEnd text x → SaysEnd text Inf → x ≡ Inf
 only_inf text NegInf a b = absurd (plus_is_no_minus b.0 b.1.0 (sym b.1.1 ∙ a))
 only_inf text (At x) a b = absurd (not_decimal (trimmed text) b.0 a.written b.1.1 a.read)
 only_inf text Inf a b = refl
 
-pub only_neg_inf : (text : List ℕ) (x : End) → IsBound text x → IsBound text NegInf → x ≡ NegInf
+pub only_neg_inf : (text : List ℕ) (x : End) → SaysEnd text x → SaysEnd text NegInf → x ≡ NegInf
 only_neg_inf text NegInf a b = refl
 only_neg_inf text (At x) a b = absurd (not_decimal (trimmed text) minus a.written b a.read)
 only_neg_inf text Inf a b = absurd (plus_is_no_minus a.0 a.1.0 (sym a.1.1 ∙ b))

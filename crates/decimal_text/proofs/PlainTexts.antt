@@ -13,14 +13,14 @@ use Rattle.std.proofs.lemmas.Str.{digit_value_digit}
 use Rattle.std.proofs.lemmas.Str.Parse.{digit_from_value}
 use Rattle.rational.specs.Width.{most}
 use Rattle.rational.specs.Whole.{signed}
-use Rattle.rational.proofs.Signed.{signed-mul, sizes_cross, unsigned_abs-signed}
+use Rattle.rational.proofs.Signs.{signed-mul, sizes_cross, unsigned_abs-signed}
 use Rattle.fraction.specs.declared.frac.Frac.{Frac}
 use Rattle.fraction.specs.Frac.{ratio}
 use Rattle.decimal_text.specs.Sign.{optional}
 use Rattle.decimal_text.specs.Plain.{PlainText, point_text}
 use Rattle.decimal_text.proofs.Numerals.{number_more, is_digit}
 use Rattle.decimal_text.proofs.Powers.{ten_power, ten_more}
-use Rattle.decimal_text.proofs.Written.{after_split}
+use Rattle.decimal_text.proofs.WholeDecimals.{after_split}
 
 -- a whole part is no greater than the numerator's size
 whole_small : (whole power v den size : ℕ) → 0 < power → 0 < den → (whole * power + v) * den ≡ size * power → size ≤ most → whole < 10 ^ 64

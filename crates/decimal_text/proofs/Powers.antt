@@ -3,7 +3,7 @@ use Rattle.std.proofs.Common.{◌≡◌, ◌≢◌, ℕ, zero, suc, ◌+◌, ◌
 use Rattle.std.proofs.Math.Nat.{pow-le-pow_right, one-le-pow, le-mul_of_pos_right}
 use Rattle.std.proofs.lemmas.Nat.{pow-add, mod-mul-add}
 use Rattle.rational.specs.Width.{most}
-use Rattle.decimal_text.specs.Parts.{IsKept, IsSignificand}
+use Rattle.decimal_text.specs.Parts.{IsKeptSize, IsSignificand}
 
 pub ten_power : (k : ℕ) → 0 < 10 ^ k
 ten_power k = omega (arith, one-le-pow k 10 (lit< tt))
@@ -51,7 +51,7 @@ digit_last n zeros digit up h e =
     let last : (n * 10 ^ zeros * 10 + digit) % 10 ≡ digit = mod-mul-add (n * 10 ^ zeros) 10 digit h in
     omega (arith, sym (ap (λ x. (x + digit) % 10) same) ∙ e, last, ap (λ x. (x + digit) % 10) same)
 
-pub next_digit : (v zeros m digit : ℕ) (kept : Option ℕ) → 0 < digit → digit < 10 → IsSignificand v (Some m) zeros → IsKept (m * 10 ^ (zeros + 1) + digit) kept → IsSignificand (v * 10 + digit) kept 0
+pub next_digit : (v zeros m digit : ℕ) (kept : Option ℕ) → 0 < digit → digit < 10 → IsSignificand v (Some m) zeros → IsKeptSize (m * 10 ^ (zeros + 1) + digit) kept → IsSignificand (v * 10 + digit) kept 0
 next_digit v zeros m digit kept up h s k = record {
   size = m * 10 ^ (zeros + 1) + digit;
   value = omega (arith, s.value ∙ ap (λ n. n * 10 ^ zeros) (sym s.keeps.0), ap (λ x. m * x) (ten_more zeros));

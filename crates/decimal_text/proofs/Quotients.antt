@@ -8,9 +8,9 @@ use Rattle.std.proofs.Math.Nat.{dvd-mul_right}
 use Rattle.std.proofs.lemmas.Nat.Gcd.{le_of_dvd}
 use Rattle.rational.specs.Ratio.{Ratio, IsSame, IsNumber, whole, quotient}
 use Rattle.rational.specs.Width.{IsWithin, IsReduced, ReducedFits, most}
-use Rattle.rational.proofs.Reduced.{reduce}
-use Rattle.rational.proofs.Coprime.{coprime_from_IsGcd, coprime_swap, divides_other}
-use Rattle.rational.proofs.Signed.{sizes_cross}
+use Rattle.rational.proofs.ReducedForms.{reduce}
+use Rattle.rational.proofs.CommonDivisors.{coprime_from_IsGcd, coprime_swap, divides_other}
+use Rattle.rational.proofs.Signs.{sizes_cross}
 
 -- the parts of the reduced form of a number divide those of each form
 top_divides : (x y : Ratio) → IsReduced y → IsSame y x → unsigned_abs y.num ∣ unsigned_abs x.num

@@ -7,9 +7,9 @@ use Rattle.std.proofs.lemmas.Str.Parse.{digit_from_value}
 use Rattle.rational.specs.Ratio.{Ratio, IsSame}
 use Rattle.rational.specs.Width.{most, IsReduced}
 use Rattle.rational.specs.Whole.{signed}
-use Rattle.rational.proofs.Signed.{unsigned_abs-signed}
+use Rattle.rational.proofs.Signs.{unsigned_abs-signed}
 use Rattle.rational.proofs.Scaling.{same_multiple}
-use Rattle.rational.proofs.Reduced.{same_reduced}
+use Rattle.rational.proofs.ReducedForms.{same_reduced}
 use Rattle.decimal_text.specs.Head.{DoesNotBegin, PositiveSplit}
 use Rattle.decimal_text.specs.Sign.{optional}
 use Rattle.decimal_text.specs.Exact.{IsPositive, under_of, under_value, IsUnder, RatioText, RatioGrammar, UnderSplit, UnderStop, IsWideRatio, IsUnreduced}

@@ -12,9 +12,9 @@ use Rattle.rational.specs.Whole.{signed}
 use Rattle.decimal_text.specs.Head.{HasNoDigit, DoesNotBegin, EndsPositive}
 use Rattle.decimal_text.specs.Sign.{optional}
 use Rattle.decimal_text.specs.Exact.{IsPositive, Under, absent, over, under_text, IsUnder, under_value, RatioGrammar, UnderStop}
-use Rattle.decimal_text.specs.Prefix.{Begins, LeavesAt}
+use Rattle.decimal_text.specs.Prefix.{BeginsText, LeavesAt}
 use Rattle.decimal_text.proofs.Numerals.{AllDigits-append}
-use Rattle.decimal_text.proofs.Leaving.{run, run-append, run-digits, Reads, Stops, leaves}
+use Rattle.decimal_text.proofs.Machines.{run, run-append, run-digits, Reads, Stops, leaves}
 use Rattle.decimal_text.proofs.CountTexts.{not_a_digit}
 
 pub data State : Type 0 where
@@ -162,20 +162,20 @@ begins_with is_negative digits under s e h k = (
   }),
 )
 
-begins_front : (is_negative : Bool) → Begins RatioGrammar (optional 45 is_negative)
+begins_front : (is_negative : Bool) → BeginsText RatioGrammar (optional 45 is_negative)
 begins_front is_negative = (49 ∷ [], begins_with is_negative (49 ∷ []) absent (optional 45 is_negative ++ 49 ∷ []) refl ((omega arith, (omega arith, tt)), λ k. omega (arith, k)) tt)
 
-begins_top : (is_negative : Bool) (ds : List ℕ) → IsPositive ds → Begins RatioGrammar (optional 45 is_negative ++ ds)
+begins_top : (is_negative : Bool) (ds : List ℕ) → IsPositive ds → BeginsText RatioGrammar (optional 45 is_negative ++ ds)
 begins_top is_negative ds h = ([], begins_with is_negative ds absent ((optional 45 is_negative ++ ds) ++ []) (append_assoc (optional 45 is_negative) ds []) h tt)
 
 onward : (ds : List ℕ) → AllDigits 10 ds → DoesNotBegin 48 ds → IsUnder (over (ds ++ 50 ∷ []))
 onward [] h n = (((omega arith, (omega arith, tt)), λ k. omega (arith, k)), omega arith)
 onward (d ∷ ds) h n = (((omega arith, AllDigits-append (d ∷ ds) (50 ∷ []) h (omega arith, tt)), n), let k : digits_value 10 ((d ∷ ds) ++ 50 ∷ []) ≡ digits_value 10 (d ∷ ds) * 10 + 2 = digits_value_push 10 (d ∷ ds) 50 in omega (arith, k))
 
-begins_line : (is_negative : Bool) (ds bs : List ℕ) → IsPositive ds → AllDigits 10 bs → DoesNotBegin 48 bs → Begins RatioGrammar (optional 45 is_negative ++ (ds ++ 47 ∷ bs))
+begins_line : (is_negative : Bool) (ds bs : List ℕ) → IsPositive ds → AllDigits 10 bs → DoesNotBegin 48 bs → BeginsText RatioGrammar (optional 45 is_negative ++ (ds ++ 47 ∷ bs))
 begins_line is_negative ds bs h k n = (50 ∷ [], begins_with is_negative ds (over (bs ++ 50 ∷ [])) _ (simp append_assoc) h (onward bs k n))
 
-stopped : (s p rest : List ℕ) (at left : ℕ) → s ≡ p ++ rest → left ≡ length rest → at ≡ length s - left → Begins RatioGrammar p → Stops next dead accepts (run next start p) rest → LeavesAt RatioGrammar s at
+stopped : (s p rest : List ℕ) (at left : ℕ) → s ≡ p ++ rest → left ≡ length rest → at ≡ length s - left → BeginsText RatioGrammar p → Stops next dead accepts (run next start p) rest → LeavesAt RatioGrammar s at
 stopped s p rest at left e l place b stop =
     let here : at ≡ length p = omega (arith, ap length e, length-append p rest) in
     let done : LeavesAt RatioGrammar (p ++ rest) (length p) = leaves next start dead accepts RatioGrammar ratio_reads p rest b stop in

@@ -6,8 +6,8 @@ use Rattle.std.proofs.lemmas.Nat.{div-add-mod'}
 use Rattle.std.proofs.lemmas.Nat.Gcd.{mod-eq-zero_of_dvd}
 use Rattle.std.proofs.lemmas.Bool.Decides.{leb_tells}
 use Rattle.rational.specs.Width.{most}
-use Rattle.rational.proofs.Coprime.{coprime_from_IsGcd, coprime_swap, divides_other}
-use Rattle.decimal_text.specs.Parts.{IsKept}
+use Rattle.rational.proofs.CommonDivisors.{coprime_from_IsGcd, coprime_swap, divides_other}
+use Rattle.decimal_text.specs.Parts.{IsKeptSize}
 use Rattle.decimal_text.specs.Places.{HasPlaces}
 use Rattle.decimal_text.proofs.Powers.{far, ten_more}
 
@@ -32,7 +32,7 @@ least_short size denom (suc q) n g before e =
     let less : size * 10 ^ q ≡ n / 10 * denom = omega (arith, e, ap (λ x. x * denom) exact, ap (λ x. size * x) (ten_more q), ap (λ k. size * 10 ^ k) (let s : suc q ≡ q + 1 = omega arith in s)) in
     before q (omega arith) (power_divided size denom (n / 10) q g less))
 
-pub found_places : (size denom p : ℕ) (kept : Option ℕ) → IsGcd size denom 1 → p ≤ 38 → ((j : ℕ) → j < p → 10 ^ j % denom ≡ 0 → ⊥) → 10 ^ p % denom ≡ 0 → IsKept (size * (10 ^ p / denom)) kept → is_some kept ≡ true → HasPlaces size denom
+pub found_places : (size denom p : ℕ) (kept : Option ℕ) → IsGcd size denom 1 → p ≤ 38 → ((j : ℕ) → j < p → 10 ^ j % denom ≡ 0 → ⊥) → 10 ^ p % denom ≡ 0 → IsKeptSize (size * (10 ^ p / denom)) kept → is_some kept ≡ true → HasPlaces size denom
 found_places size denom p None g near before h k s = cc
 found_places size denom p (Some m) g near before h k s =
     let same : size * 10 ^ p ≡ m * denom = numerator size denom p h ∙ ap (λ x. x * denom) (sym k.0) in
@@ -41,7 +41,7 @@ found_places size denom p (Some m) g near before h k s =
 pub not_before : (size denom p : ℕ) → IsGcd size denom 1 → ((j : ℕ) → j < p → 10 ^ j % denom ≡ 0 → ⊥) → (n j : ℕ) → size * 10 ^ j ≡ n * denom → j < p → ⊥
 not_before size denom p g before n j e h = before j h (power_divided size denom n j g e)
 
-pub too_great : (size denom p : ℕ) (kept : Option ℕ) → IsGcd size denom 1 → 0 < denom → ((j : ℕ) → j < p → 10 ^ j % denom ≡ 0 → ⊥) → 10 ^ p % denom ≡ 0 → IsKept (size * (10 ^ p / denom)) kept → is_some kept ≡ false → (n j : ℕ) → n ≤ most → size * 10 ^ j ≡ n * denom → ⊥
+pub too_great : (size denom p : ℕ) (kept : Option ℕ) → IsGcd size denom 1 → 0 < denom → ((j : ℕ) → j < p → 10 ^ j % denom ≡ 0 → ⊥) → 10 ^ p % denom ≡ 0 → IsKeptSize (size * (10 ^ p / denom)) kept → is_some kept ≡ false → (n j : ℕ) → n ≤ most → size * 10 ^ j ≡ n * denom → ⊥
 too_great size denom p (Some m) g up before h k s n j small e = cc
 too_great size denom p None g up before h k s n j small e =
     elim (leb_tells p j) [

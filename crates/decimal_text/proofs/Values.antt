@@ -7,7 +7,7 @@ use Rattle.std.proofs.lemmas.Nat.{pow-add}
 use Rattle.rational.specs.Ratio.{IsSame}
 use Rattle.rational.specs.Width.{most}
 use Rattle.rational.specs.Whole.{signed}
-use Rattle.rational.proofs.Signed.{same_form}
+use Rattle.rational.proofs.Signs.{same_form}
 use Rattle.decimal_text.specs.Decimal.{powered, HasFit, HasNoFit}
 use Rattle.decimal_text.specs.Parts.{IsSignificand}
 use Rattle.decimal_text.proofs.Numerals.{after-append}

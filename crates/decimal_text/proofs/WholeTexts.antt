@@ -7,8 +7,8 @@ use Rattle.rational.specs.Whole.{signed}
 use Rattle.decimal_text.specs.Head.{HasNoDigit, IsBehind}
 use Rattle.decimal_text.specs.Sign.{Sign, absent, plus, minus, sign_text, is_minus}
 use Rattle.decimal_text.specs.Whole.{WholeText, WholeGrammar}
-use Rattle.decimal_text.specs.Prefix.{Begins, LeavesAt}
-use Rattle.decimal_text.proofs.Leaving.{Reads, leaves}
+use Rattle.decimal_text.specs.Prefix.{BeginsText, LeavesAt}
+use Rattle.decimal_text.proofs.Machines.{Reads, leaves}
 use Rattle.decimal_text.proofs.Counts.{start, dead, next, accepts, AreSigns, IsSign, HasNoSign, reads, stops}
 use Rattle.decimal_text.proofs.CountTexts.{not_a_digit, numeral_onward, no_more}
 
@@ -36,7 +36,7 @@ whole_reads = record {
   refuses = refl;
 }
 
-whole_begins : (sign : Sign) (ds : List ℕ) → AllDigits 10 ds → Begins WholeGrammar (sign_text sign ++ ds)
+whole_begins : (sign : Sign) (ds : List ℕ) → AllDigits 10 ds → BeginsText WholeGrammar (sign_text sign ++ ds)
 whole_begins sign ds h = (
   48 ∷ [],
   (

@@ -17,10 +17,10 @@ abbrev pub BoundGrammar : List ℕ → Type 0
 BoundGrammar s = DecimalGrammar s ⊎ ((sign : Sign) × (s ≡ sign_text sign ++ infinity))
 
 -- the text, with white space round it dropped, is this end, which fits where it is a number
-abbrev pub IsBound : List ℕ → End → Type 0
-IsBound text NegInf = trimmed text ≡ sign_text minus ++ infinity
-IsBound text (At x) = IsDecimal text (ratio x)
-IsBound text Inf = (sign : Sign) × ((is_minus sign ≡ false) × (trimmed text ≡ sign_text sign ++ infinity))
+abbrev pub SaysEnd : List ℕ → End → Type 0
+SaysEnd text NegInf = trimmed text ≡ sign_text minus ++ infinity
+SaysEnd text (At x) = IsDecimal text (ratio x)
+SaysEnd text Inf = (sign : Sign) × ((is_minus sign ≡ false) × (trimmed text ≡ sign_text sign ++ infinity))
 
 -- what stands behind as much of `NF` as there is
 abbrev pub EndsInfinity : List ℕ → List ℕ → Type 0

@@ -6,11 +6,11 @@ use Rattle.decimal_text.specs.Prefix.{LeavesAt}
 use Rattle.decimal_text.specs.Exact.{RatioGrammar, IsWideRatio, IsUnreduced}
 
 -- s is no text of the grammar, or its number is too great
-abbrev pub Refuses : (List ℕ → Type 0) → Type 0 → List ℕ → DecimalFault → Type 0
-Refuses grammar wide s (NotNumber at) = LeavesAt grammar s at
-Refuses grammar wide s Wide = wide
-Refuses grammar wide s NotDecimal = ⊥
-Refuses grammar wide s Memory = ⊥
+abbrev pub RefusesText : (List ℕ → Type 0) → Type 0 → List ℕ → DecimalFault → Type 0
+RefusesText grammar wide s (NotNumber at) = LeavesAt grammar s at
+RefusesText grammar wide s Wide = wide
+RefusesText grammar wide s NotDecimal = ⊥
+RefusesText grammar wide s Memory = ⊥
 
 -- the same of a ratio, which is also refused at its length where it isn't in lowest terms
 abbrev pub RefusesRatio : List ℕ → DecimalFault → Type 0

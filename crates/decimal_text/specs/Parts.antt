@@ -85,12 +85,12 @@ abbrev pub UnsignedStop : List ℕ → ℕ → Type 0
 UnsignedStop text left = MantissaMissing text left ⊎ MantissaFollowed text left
 
 -- the size, or nothing where it passes the width
-abbrev pub IsKept : ℕ → Option ℕ → Type 0
-IsKept n kept = MatchOption kept (most < n) (λ m. (m ≡ n) × (m ≤ most))
+abbrev pub IsKeptSize : ℕ → Option ℕ → Type 0
+IsKeptSize n kept = MatchOption kept (most < n) (λ m. (m ≡ n) × (m ≤ most))
 
 -- v as a size that is no multiple of ten, and zeros behind it
 pub record IsSignificand (v : ℕ) (kept : Option ℕ) (zeros : ℕ) : Type 0 where
   pub size : ℕ
   pub value : v ≡ size * 10 ^ zeros
   pub short : (size % 10 ≢ 0) ⊎ ((size ≡ 0) × (zeros ≡ 0))
-  pub keeps : IsKept size kept
+  pub keeps : IsKeptSize size kept

@@ -31,7 +31,7 @@ abbrev pub cut12 : Ratio → Ratio
 cut12 x = record { num = cut12_of x.num x.den; den = 10 ^ 12 }
 
 -- what is written after a text
-pub record Appends (old new : List ℕ) (x : Ratio) : Type 0 where
+pub record AppendsNumber (old new : List ℕ) (x : Ratio) : Type 0 where
   pub written : List ℕ
   pub after : new ≡ old ++ written
   pub plain : PlainText written x

@@ -19,8 +19,8 @@ abbrev pub WholeGrammar : List ℕ → Type 0
 WholeGrammar s = (z : ℤ) × WholeText s z
 
 -- the text, with white space round it dropped, is the whole number z, whose size is at most the greatest count
-abbrev pub IsWhole : List ℕ → ℤ → Type 0
-IsWhole text z = WholeText (trimmed text) z × (unsigned_abs z ≤ most_count)
+abbrev pub IsWholeText : List ℕ → ℤ → Type 0
+IsWholeText text z = WholeText (trimmed text) z × (unsigned_abs z ≤ most_count)
 
 -- the text is a whole number of too great a size
 abbrev pub IsWideWhole : List ℕ → Type 0

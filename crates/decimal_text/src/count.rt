@@ -1,7 +1,7 @@
 ghost use Rattle.std.specs.Prelude.{IfOk, IfErr};
 ghost use Rattle.decimal_text.specs.Space.{trimmed};
 ghost use Rattle.decimal_text.specs.Count.{CountGrammar, IsCount, IsWideCount};
-ghost use Rattle.decimal_text.specs.Fault.{Refuses};
+ghost use Rattle.decimal_text.specs.Fault.{RefusesText};
 
 use crate::digits::{number, split_digits, strip};
 use crate::fault::DecimalFault;
@@ -14,7 +14,7 @@ pub const MOST_COUNT: u128 = (1 << 63) - 1;
 /// nonNegativeInteger). `Wide` above `2^63 - 1`.
 pub fn read_count(text: &[u8]) -> Result<u64, DecimalFault>
     ensures ok { IfOk result (λ n. IsCount text.now n) }
-    ensures err { IfErr result (Refuses CountGrammar (IsWideCount text.now) (trimmed text.now)) }
+    ensures err { IfErr result (RefusesText CountGrammar (IsWideCount text.now) (trimmed text.now)) }
 {
     let core = trim(text);
     let (_, unsigned) = strip(core, b'+');

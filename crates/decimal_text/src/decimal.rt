@@ -1,8 +1,8 @@
 ghost use Rattle.std.specs.Prelude.{◌≡◌, ◌∷◌, [], length, IfOk, IfErr, MatchOption};
 ghost use Rattle.fraction.specs.Frac.{ratio};
-ghost use Rattle.decimal_text.specs.Bound.{BoundGrammar, IsBound, InfinityStop};
+ghost use Rattle.decimal_text.specs.Bound.{BoundGrammar, SaysEnd, InfinityStop};
 ghost use Rattle.decimal_text.specs.Decimal.{DecimalGrammar, FittingText, WideText, IsDecimal, IsWideDecimal};
-ghost use Rattle.decimal_text.specs.Fault.{Refuses};
+ghost use Rattle.decimal_text.specs.Fault.{RefusesText};
 ghost use Rattle.decimal_text.specs.Head.{DoesNotBegin, SignSplit};
 ghost use Rattle.decimal_text.specs.Space.{trimmed};
 
@@ -17,8 +17,8 @@ use fraction::{End, Frac};
 fn finite(core: &[u8], is_negative: bool, unsigned: &[u8]) -> Result<Frac, DecimalFault>
     requires { SignSplit core.now is_negative unsigned.now }
     ensures ok { IfOk result (λ x. FittingText core.now (ratio x)) }
-    ensures err { IfErr result (Refuses DecimalGrammar (WideText core.now) core.now) }
-    ensures bound { IfErr result (λ e. DoesNotBegin 73 unsigned.now → Refuses BoundGrammar (WideText core.now) core.now e) }
+    ensures err { IfErr result (RefusesText DecimalGrammar (WideText core.now) core.now) }
+    ensures bound { IfErr result (λ e. DoesNotBegin 73 unsigned.now → RefusesText BoundGrammar (WideText core.now) core.now e) }
 {
     let parts = match split_unsigned(unsigned) {
         Ok(parts) => parts,
@@ -40,7 +40,7 @@ fn finite(core: &[u8], is_negative: bool, unsigned: &[u8]) -> Result<Frac, Decim
 /// the value does.
 pub fn read_decimal(text: &[u8]) -> Result<Frac, DecimalFault>
     ensures ok { IfOk result (λ x. IsDecimal text.now (ratio x)) }
-    ensures err { IfErr result (Refuses DecimalGrammar (IsWideDecimal text.now) (trimmed text.now)) }
+    ensures err { IfErr result (RefusesText DecimalGrammar (IsWideDecimal text.now) (trimmed text.now)) }
 {
     let core = trim(text);
     let (is_negative, unsigned) = split_sign(core);
@@ -69,8 +69,8 @@ fn infinity_left(behind: &[u8]) -> Option<usize>
 /// The end that the text writes: a decimal, `INF`, `+INF` or `-INF`, white space round it dropped. `Wide` as of
 /// [`read_decimal`].
 pub fn read_bound(text: &[u8]) -> Result<End, DecimalFault>
-    ensures ok { IfOk result (λ e. IsBound text.now e) }
-    ensures err { IfErr result (Refuses BoundGrammar (IsWideDecimal text.now) (trimmed text.now)) }
+    ensures ok { IfOk result (λ e. SaysEnd text.now e) }
+    ensures err { IfErr result (RefusesText BoundGrammar (IsWideDecimal text.now) (trimmed text.now)) }
 {
     let core = trim(text);
     let (is_negative, unsigned) = split_sign(core);

@@ -1,7 +1,7 @@
 ghost use Rattle.std.specs.Prelude.{◌≡◌, IfOk, IfErr};
 ghost use Rattle.fraction.specs.Frac.{ratio};
 ghost use Rattle.decimal_text.specs.Exact.{RatioText, UnderSplit, UnderStop, IsUnder, under_of, under_value};
-ghost use Rattle.decimal_text.specs.Parts.{IsKept};
+ghost use Rattle.decimal_text.specs.Parts.{IsKeptSize};
 ghost use Rattle.decimal_text.specs.Fault.{RefusesRatio};
 ghost use Rattle.decimal_text.specs.Head.{DoesNotBegin, PositiveSplit};
 
@@ -46,7 +46,7 @@ fn split_under(text: &[u8]) -> Result<&[u8], usize>
 /// The denominator that the digits write, 1 where there are none.
 fn denominator(bottom: &[u8]) -> Option<u128>
     requires { IsUnder (under_of bottom.now) }
-    ensures { IsKept (under_value (under_of bottom.now)) result }
+    ensures { IsKeptSize (under_value (under_of bottom.now)) result }
 {
     if bottom.is_empty() {
         return Some(1);

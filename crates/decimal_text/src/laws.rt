@@ -6,10 +6,10 @@ ghost use Rattle.decimal_text.specs.declared.fault.DecimalFault.{DecimalFault};
 ghost use Rattle.decimal_text.specs.Count.{CountGrammar, IsCount, IsWideCount, most_count};
 ghost use Rattle.decimal_text.specs.Decimal.{DecimalGrammar, IsDecimal, IsWideDecimal};
 ghost use Rattle.decimal_text.specs.Exact.{RatioText, ratio_text};
-ghost use Rattle.decimal_text.specs.Fault.{Refuses, RefusesRatio};
+ghost use Rattle.decimal_text.specs.Fault.{RefusesText, RefusesRatio};
 ghost use Rattle.decimal_text.specs.Plain.{PlainText};
 ghost use Rattle.decimal_text.specs.Space.{trimmed};
-ghost use Rattle.decimal_text.specs.Whole.{WholeGrammar, IsWhole, IsWideWhole};
+ghost use Rattle.decimal_text.specs.Whole.{WholeGrammar, IsWholeText, IsWideWhole};
 
 /// A ratio is read as it was written: [`read_ratio`](crate::read_ratio) of what [`write_ratio`](crate::write_ratio)
 /// wrote answers, by its contract, the ratio.
@@ -20,21 +20,21 @@ pub fn ratios_are_read_back()
 /// A text is read as its one value: [`read_decimal`](crate::read_decimal) of a text that is a decimal with this value,
 /// as is what [`write_decimal`](crate::write_decimal) wrote of it, answers, by its contract, the value.
 pub fn decimals_are_read_back()
-    ensures { (x : Frac) (text : List ℕ) (r : Result Frac DecimalFault) → IsDecimal text (ratio x) → IfOk r (λ y. IsDecimal text (ratio y)) → IfErr r (Refuses DecimalGrammar (IsWideDecimal text) (trimmed text)) → r ≡ Ok x }
+    ensures { (x : Frac) (text : List ℕ) (r : Result Frac DecimalFault) → IsDecimal text (ratio x) → IfOk r (λ y. IsDecimal text (ratio y)) → IfErr r (RefusesText DecimalGrammar (IsWideDecimal text) (trimmed text)) → r ≡ Ok x }
 {}
 
 /// A count is read as it was written: the digits of a number up to the greatest count are its text, and
 /// [`read_count`](crate::read_count) of them answers, by its contract, the number.
 pub fn counts_are_read_back()
     ensures text { (n : ℕ) → n ≤ most_count → IsCount (decimal n) n }
-    ensures back { (n : ℕ) (r : Result ℕ DecimalFault) → n ≤ most_count → IfOk r (λ m. IsCount (decimal n) m) → IfErr r (Refuses CountGrammar (IsWideCount (decimal n)) (trimmed (decimal n))) → r ≡ Ok n }
+    ensures back { (n : ℕ) (r : Result ℕ DecimalFault) → n ≤ most_count → IfOk r (λ m. IsCount (decimal n) m) → IfErr r (RefusesText CountGrammar (IsWideCount (decimal n)) (trimmed (decimal n))) → r ≡ Ok n }
 {}
 
 /// A whole number is read as it was written: its digits behind a sign where it is below 0, up to the size of the
 /// greatest count, are its text, and [`read_whole`](crate::read_whole) of them answers, by its contract, the number.
 pub fn wholes_are_read_back()
-    ensures text { (z : ℤ) → unsigned_abs z ≤ most_count → IsWhole (signed_decimal z) z }
-    ensures back { (z : ℤ) (r : Result ℤ DecimalFault) → unsigned_abs z ≤ most_count → IfOk r (λ y. IsWhole (signed_decimal z) y) → IfErr r (Refuses WholeGrammar (IsWideWhole (signed_decimal z)) (trimmed (signed_decimal z))) → r ≡ Ok z }
+    ensures text { (z : ℤ) → unsigned_abs z ≤ most_count → IsWholeText (signed_decimal z) z }
+    ensures back { (z : ℤ) (r : Result ℤ DecimalFault) → unsigned_abs z ≤ most_count → IfOk r (λ y. IsWholeText (signed_decimal z) y) → IfErr r (RefusesText WholeGrammar (IsWideWhole (signed_decimal z)) (trimmed (signed_decimal z))) → r ≡ Ok z }
 {}
 
 /// A decimal is written in one way, without an exponent, and what is written is a decimal of the value where the value

@@ -1,6 +1,6 @@
 ghost use Rattle.std.specs.Prelude.{◌≡◌, ◌++◌, ◌⊎◌, ◌<ℤ◌, ◌≤ℤ◌, pos, true, false, unsigned_abs, length, take, decimal, OnOk, OnErr};
 ghost use Rattle.fraction.specs.Frac.{ratio};
-ghost use Rattle.decimal_text.specs.Plain.{Appends, cut12, point_text};
+ghost use Rattle.decimal_text.specs.Plain.{AppendsNumber, cut12, point_text};
 ghost use Rattle.decimal_text.specs.Sign.{optional};
 
 use crate::expand::expand;
@@ -11,7 +11,7 @@ use os_io::{Memory, Text};
 /// Writes the fraction cut towards zero to twelve decimals, without zeros at the end: `7`, `-0.5`, `0.666666666666`.
 /// After [`Memory`] the text is as before.
 pub fn write_cut12(value: Frac, out: &mut Text) -> Result<(), Memory>
-    ensures ok { OnOk result (Appends out.old out.new (cut12 (ratio value))) }
+    ensures ok { OnOk result (AppendsNumber out.old out.new (cut12 (ratio value))) }
     ensures err { OnErr result (out.new ≡ out.old) }
 {
     let size = size(value);

@@ -6,7 +6,7 @@ ghost use Rattle.rational.specs.Width.{most};
 ghost use Rattle.rational.specs.Whole.{signed};
 ghost use Rattle.fraction.specs.Frac.{ratio};
 ghost use Rattle.decimal_text.specs.Decimal.{powered, HasFit, HasNoFit};
-ghost use Rattle.decimal_text.specs.Parts.{IsKept, IsSignificand};
+ghost use Rattle.decimal_text.specs.Parts.{IsKeptSize, IsSignificand};
 
 use crate::digits::number;
 use crate::parts::Parts;
@@ -17,7 +17,7 @@ const MOST_POWER: u128 = 1 << 100;
 
 /// Ten to this, where it is within the width.
 pub fn power_of_ten(places: u128) -> Option<u128>
-    ensures { IsKept (10 ^ places) result }
+    ensures { IsKeptSize (10 ^ places) result }
 {
     if places > 38 {
         return None;
@@ -27,7 +27,7 @@ pub fn power_of_ten(places: u128) -> Option<u128>
 
 /// The product, where it is within the width.
 pub fn times(a: u128, b: u128) -> Option<u128>
-    ensures { IsKept (a * b) result }
+    ensures { IsKeptSize (a * b) result }
 {
     let product = a.checked_mul(b)?;
     if product <= MAX as u128 {
@@ -40,7 +40,7 @@ pub fn times(a: u128, b: u128) -> Option<u128>
 /// The size times ten to this, where it is within the width.
 fn raised(size: u128, places: u128) -> Option<u128>
     requires { 0 < size }
-    ensures { IsKept (size * 10 ^ places) result }
+    ensures { IsKeptSize (size * 10 ^ places) result }
 {
     times(size, power_of_ten(places)?)
 }
@@ -49,7 +49,7 @@ fn raised(size: u128, places: u128) -> Option<u128>
 fn lengthened(size: u128, zeros: u128, digit: u8) -> Option<u128>
     requires above { 0 < size }
     requires digit { digit < 10 }
-    ensures { IsKept (size * 10 ^ zeros + digit) result }
+    ensures { IsKeptSize (size * 10 ^ zeros + digit) result }
 {
     let sum = raised(size, zeros)?.checked_add(u128::from(digit))?;
     if sum <= MAX as u128 { Some(sum) } else { None }

@@ -1,7 +1,7 @@
 ghost use Rattle.std.specs.Prelude.{IfOk, IfErr};
 ghost use Rattle.decimal_text.specs.Space.{trimmed};
-ghost use Rattle.decimal_text.specs.Whole.{WholeGrammar, IsWhole, IsWideWhole};
-ghost use Rattle.decimal_text.specs.Fault.{Refuses};
+ghost use Rattle.decimal_text.specs.Whole.{WholeGrammar, IsWholeText, IsWideWhole};
+ghost use Rattle.decimal_text.specs.Fault.{RefusesText};
 
 use crate::count::MOST_COUNT;
 use crate::digits::{number, split_digits, split_sign};
@@ -12,8 +12,8 @@ use fraction::signed;
 /// The whole number that the text writes: an optional sign and digits, white space round them dropped (XML Schema
 /// part 2, integer). `Wide` where its size passes `2^63 - 1`.
 pub fn read_whole(text: &[u8]) -> Result<i64, DecimalFault>
-    ensures ok { IfOk result (λ z. IsWhole text.now z) }
-    ensures err { IfErr result (Refuses WholeGrammar (IsWideWhole text.now) (trimmed text.now)) }
+    ensures ok { IfOk result (λ z. IsWholeText text.now z) }
+    ensures err { IfErr result (RefusesText WholeGrammar (IsWideWhole text.now) (trimmed text.now)) }
 {
     let core = trim(text);
     let (is_negative, unsigned) = split_sign(core);

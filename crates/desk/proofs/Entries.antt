@@ -5,11 +5,11 @@ use Rattle.job_table.specs.declared.calls.Reply.{Reply}
 use Rattle.job_table.specs.History.{entry_if}
 use Rattle.desk.specs.declared.view.Entry.{Entry}
 use Rattle.desk.specs.declared.view.View.{View}
-use Rattle.desk.specs.History.{calls_by, entry}
-use Rattle.desk.specs.Plays.{Sat}
-use Rattle.desk.specs.Asks.{IsReady, Adds, Waits, Lacks}
-use Rattle.desk.specs.Asked.{Asked}
-use Rattle.desk.proofs.Keeps.{false_is_not}
+use Rattle.desk.specs.History.{calls_by, entry_of_seat}
+use Rattle.desk.specs.Steps.{Sat}
+use Rattle.desk.specs.SeatMoves.{IsSeatReady, AddsEntry, Waits, Lacks}
+use Rattle.desk.specs.SeatHistory.{Asked}
+use Rattle.desk.proofs.Steps.{false_is_not}
 
 -- a call that wasn't made has no reply
 pub not_made : (made : Bool) (said : Option Reply) (P : Type 0) → made ≡ false → (IsTrue made ↔ IsSome said) → IfNone said P → P
@@ -18,11 +18,11 @@ not_made made (Some reply) P is same p = absurd (false_is_not (sym (same.1 refl)
 
 module _ (right : List ℕ → List ℕ → Bool → Option (List ℕ) → Type 0) {J : Type 0} where
   -- what a call does to a seat is what a list of one call does, or of none
-  pub asked_if : (call : Call) (said : Option Reply) (me me' : Sat J) → IsReady {J = J} me → IsReady {J = J} me'
-      → IfSome said (λ reply. Adds right me.0 call reply me'.0) → IfNone said (Lacks right call me'.0.seen) → IfNone said (Waits me.0 me'.0)
+  pub asked_if : (call : Call) (said : Option Reply) (me me' : Sat J) → IsSeatReady {J = J} me → IsSeatReady {J = J} me'
+      → IfSome said (λ reply. AddsEntry right me.0 call reply me'.0) → IfNone said (Lacks right call me'.0.seen) → IfNone said (Waits me.0 me'.0)
       → Asked right me.0 me'.0 (entry_if call said)
   asked_if call (Some reply) me me' old new adds lacks waits =
-      let e : Entry = entry me.0.number call reply in record {
+      let e : Entry = entry_of_seat me.0.number call reply in record {
         mine = adds.mine;
         seen = (adds.between ++ e ∷ [], adds.seen ∙ append_assoc me.0.seen adds.between (e ∷ []));
         stand = new.stand ∙ adds.mine ∙ ap (λ (l : List Entry). l ++ e ∷ []) (sym old.stand);

@@ -11,8 +11,8 @@ use Rattle.desk.specs.declared.view.Met.{Met}
 use Rattle.desk.specs.declared.view.View.{View}
 use Rattle.desk.specs.History.{calls, calls_by, by}
 use Rattle.desk.specs.Rule.{HasMet}
-use Rattle.desk.specs.Asks.{Closes}
-use Rattle.desk.specs.Asked.{Asked}
+use Rattle.desk.specs.SeatMoves.{Closes}
+use Rattle.desk.specs.SeatHistory.{Asked}
 use Rattle.desk.proofs.Histories.{calls_append, none_before, none_behind}
 
 false_is_not : false ≡ true → ⊥
@@ -29,7 +29,7 @@ calls_by_one n (s ∷ ss) = ap (λ (l : List table.Entry). s ∷ l) (calls_by_on
 
 pub calls_then : (log : List Entry) (n : ℕ) (said : List table.Entry) → calls (log ++ by n said) ≡ calls log ++ said
 calls_then log n said =
-    map-append (λ (e : Entry). table.entry e.call e.reply) log (by n said) ∙ ap (λ (es : List table.Entry). calls log ++ es) (calls_by_one n said)
+    map-append (λ (e : Entry). table.entry_of_move e.call e.reply) log (by n said) ∙ ap (λ (es : List table.Entry). calls log ++ es) (calls_by_one n said)
 
 -- nobody but the first seat made calls
 abbrev Nobody : List Entry → Type 0

@@ -5,7 +5,7 @@ ghost use Rattle.job_table.specs.Steps.{May, fits, wants_memory};
 ghost use Rattle.desk.specs.declared.view.Turn.TheVariants.{Idle, Waiting};
 ghost use Rattle.desk.specs.History.{IsLegal};
 ghost use Rattle.desk.specs.Rule.{first_view, with_turn, one_more, newcomer, out_of};
-ghost use Rattle.desk.specs.Asks.{desk_id, IsSeatOf, Adds, Waits, Lacks, HasTurn, IsServed, IsAnswered, Answers, Meets, Closes};
+ghost use Rattle.desk.specs.SeatMoves.{desk_id, IsSeatOf, AddsEntry, Waits, Lacks, HasTurn, IsServed, IsMoveAnswered, AnswersMove, Meets, Closes};
 
 use crate::held::Held;
 use crate::plays::{Draw, Enters, Look, OneMore, PassOn, Settle, Skip};
@@ -69,7 +69,7 @@ impl<J: Verdicts> Desk<J> {
         requires call { May J.right (M.call step) }
         ensures seat { IsSeatOf (desk_id self.now) me.new }
         ensures fits { IfSome (M.said result) (λ reply. fits (M.call step) reply ≡ true) }
-        ensures ok { IfSome (M.said result) (λ reply. Adds J.right me.old.me.0 (M.call step) reply me.new.me.0) }
+        ensures ok { IfSome (M.said result) (λ reply. AddsEntry J.right me.old.me.0 (M.call step) reply me.new.me.0) }
         ensures sure { IfNone (M.said result) (Lacks J.right (M.call step) me.new.me.0.seen) }
         ensures err { IfNone (M.said result) (Waits me.old.me.0 me.new.me.0) }
     {
@@ -196,7 +196,7 @@ impl<J: Verdicts> Desk<J> {
         requires call { May J.right (M.call step) }
         ensures seat { me.new.table_id ≡ me.old.table_id }
         ensures fits { IfSome (M.said result) (λ reply. fits (M.call step) reply ≡ true) }
-        ensures ok { IfSome (M.said result) (λ reply. Answers J.right (M.call step) reply me.old.me me.new.me) }
+        ensures ok { IfSome (M.said result) (λ reply. AnswersMove J.right (M.call step) reply me.old.me me.new.me) }
         ensures sure { IfNone (M.said result) (wants_memory (M.call step) held.table ≡ true) }
         ensures err { IfNone (M.said result) (me.new.me ≡ (with_turn Idle me.old.me.0, [])) }
     {
@@ -221,9 +221,9 @@ impl<J: Verdicts> Desk<J> {
         _answer: &M::Answer,
     )
         requires seat { me.old.table_id ≡ (desk_id self.now) }
-        requires turn { IsAnswered J.right K.call K.reply me.old.me }
+        requires turn { IsMoveAnswered J.right K.call K.reply me.old.me }
         ensures seat { me.new.table_id ≡ me.old.table_id }
-        ensures made { Answers J.right K.call K.reply me.old.me me.new.me }
+        ensures made { AnswersMove J.right K.call K.reply me.old.me me.new.me }
     {
         self.table.shared.fetch_add::<PassOn<K>>(me, SERVING, 1);
     }

@@ -11,11 +11,11 @@ use Rattle.dictionary.specs.Table.{row_cost, others_cost}
 use Rattle.dictionary.specs.Basis.{entries_by}
 use Rattle.dictionary.specs.Steps.{nonzeros, count_all, touched, pivot_steps}
 use Rattle.dictionary.proofs.Rows.{number_rest, number_head, has_above}
-use Rattle.dictionary.proofs.Changed.{has_true}
-use Rattle.dictionary.proofs.Counted.{at_most}
-use Rattle.dictionary.proofs.Exchanged.{AreExchanged, one_place}
+use Rattle.dictionary.proofs.RowChanges.{has_true}
+use Rattle.dictionary.proofs.EntryCounts.{at_most}
+use Rattle.dictionary.proofs.Exchanges.{AreExchanged, one_place}
 use Rattle.dictionary.proofs.Nonzeros.{unless_not, nonzeros_same, counted, some_of_all, all_most}
-use Rattle.dictionary.proofs.Pivoted.{listed}
+use Rattle.dictionary.proofs.RowPivots.{listed}
 use Rattle.dictionary.proofs.Widths.{own_in}
 
 has_nonzero : (low high : ℕ) (xs : List Item) (c : ℕ) → IsFrom low high xs → HasColumn xs c → (number_in xs c).num ≡ pos 0 → ⊥

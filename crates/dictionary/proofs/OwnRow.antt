@@ -9,7 +9,7 @@ use Rattle.rational.specs.Ratio.{Ratio, whole, sum, product, quotient, negative,
 use Rattle.rational.specs.Width.{most, ReducedFits}
 use Rattle.rational.proofs.Integers.{neg-times}
 use Rattle.rational.proofs.Scaling.{same_multiple}
-use Rattle.rational.proofs.Reduced.{one_number}
+use Rattle.rational.proofs.ReducedForms.{one_number}
 use Rattle.fraction.specs.Frac.{ratio}
 use Rattle.fraction.specs.declared.frac.Frac.{Frac}
 use Rattle.evidence.specs.Sums.{none}
@@ -17,13 +17,13 @@ use Rattle.evidence.specs.Width.{TermFits}
 use Rattle.evidence.proofs.Fits.{reduced_same}
 use Rattle.evidence.proofs.Numbers.{◌≈◌, ≈-refl, ≈-from, ≈-sym, ◌⊙◌, ◌▹◌, sum-≈, product-≈, product-number, product-one, product_swap, sum-none, none-sum, times_none}
 use Rattle.dictionary.specs.declared.row.Item.{Item}
-use Rattle.dictionary.specs.Row.{number_in, joined, IsRow, HasColumn, IsEntry}
+use Rattle.dictionary.specs.Row.{number_in, combined, IsSparseRow, HasColumn, IsEntry}
 use Rattle.evidence.proofs.Inverses.{inverse-number, negative-≈, negative-negative}
 use Rattle.dictionary.proofs.Rows.{made_fits, has_or_none, none_there, term_fits, term_none, term_first, own_item, number_rest}
 use Rattle.dictionary.proofs.Sums.{row-number, joined-number}
-use Rattle.dictionary.specs.Merge.{MergeFits, IsMerged, HasRoom}
+use Rattle.dictionary.specs.Merge.{MergeFits, IsMerged, HasRowRoom}
 use Rattle.dictionary.specs.Table.{SolveFits, SolvesRow}
-use Rattle.dictionary.proofs.Counted.{one_for_one}
+use Rattle.dictionary.proofs.EntryCounts.{one_for_one}
 
 pub both_ok : {T E : Type 0} {P Q R : T → Type 0} (r : Result T E) → ((x : T) → P x → Q x → R x) → IfOk r P → IfOk r Q → IfOk r R
 both_ok (Ok x) f p q = f x p q
@@ -61,7 +61,7 @@ pub record IsLed (row : List Item) (t : Ratio) (basic skip : ℕ) (o : Ratio) (i
   pub lead_is : lead.value ≡ i
   pub absent : HasColumn row basic → ⊥
   pub apart : basic ≡ skip → ⊥
-  pub ascending : IsRow row
+  pub ascending : IsSparseRow row
   pub stands : HasColumn row skip
 
 module _ (row : List Item) (t : Ratio) (basic skip : ℕ) (o : Ratio) (i f : Frac) (lead : Item) (led : IsLed row t basic skip o i f lead) where
@@ -76,8 +76,8 @@ module _ (row : List Item) (t : Ratio) (basic skip : ℕ) (o : Ratio) (i f : Fra
       let n = near in
       inverse_nonzero t.num t.den led.number (same_multiple (inverse t).num (pos 0) i.denom i.above (sym n.is ∙ ap (λ (z : ℤ). z *ℤ pos (inverse t).den) e ∙ zero-*ℤ (pos (inverse t).den) ∙ sym (zero-*ℤ (pos i.denom))))
 
-  pub lead_row : (xs : List Item) → xs ≡ lead ∷ [] → basic < 2 ^ 32 → IsRow xs
-  lead_row xs e l = subst (λ (ys : List Item). IsRow ys) (sym e) (let a = led.at_lead in (omega arith, (λ z. lead_nonzero (ap (λ (v : Frac). v.numer) (sym led.lead_is) ∙ z)), omega arith))
+  pub lead_row : (xs : List Item) → xs ≡ lead ∷ [] → basic < 2 ^ 32 → IsSparseRow xs
+  lead_row xs e l = subst (λ (ys : List Item). IsSparseRow ys) (sym e) (let a = led.at_lead in (omega arith, (λ z. lead_nonzero (ap (λ (v : Frac). v.numer) (sym led.lead_is) ∙ z)), omega arith))
 
   pub factor_nonzero : f.numer ≡ pos 0 → ⊥
   factor_nonzero e = lead_nonzero (let k : f.numer ≡ neg_ℤ i.numer = ap (λ (v : Ratio). v.num) led.factor_is in omega (arith, ints))
@@ -103,7 +103,7 @@ module _ (row : List Item) (t : Ratio) (basic skip : ℕ) (o : Ratio) (i f : Fra
   known c (inl (inr h)) = absurd h
   known c (inr h) = inr h
 
-  pub solve_room : (room : ℕ) → length row ≤ room → HasRoom (lead ∷ []) row skip room
+  pub solve_room : (room : ℕ) → length row ≤ room → HasRowRoom (lead ∷ []) row skip room
   solve_room room l xs h sub = let k = one_for_one basic skip xs row h led.ascending led.stands (λ c g. let s = sub c g in (s.0, known c s.1)) in omega arith
 
   alone : (c : ℕ) → (c ≡ basic → ⊥) → number_in (lead ∷ []) c ≡ none
@@ -116,11 +116,11 @@ module _ (row : List Item) (t : Ratio) (basic skip : ℕ) (o : Ratio) (i f : Fra
   solved out m fits = record {
     ascending = m.ascending;
     own =
-        let a : number_in out basic ≈ joined (lead ∷ []) (ratio f) row basic = record { left = row-number out basic; right = joined-number (lead ∷ []) (ratio f) row basic f.above; is = m.value basic led.apart } in
+        let a : number_in out basic ≈ combined (lead ∷ []) (ratio f) row basic = record { left = row-number out basic; right = joined-number (lead ∷ []) (ratio f) row basic f.above; is = m.value basic led.apart } in
         let b = a ▹ ap₂ (λ v w. sum v (product (ratio f) w)) alone_own (none_there row basic led.absent) ⊙ sum-≈ (≈-refl i.above) (times_none (ratio f) f.above) ▹ sum-none (ratio i) ⊙ near ▹ sym (product-one (inverse t)) in
         b.is;
     other = λ c d n.
-        let a : number_in out c ≈ joined (lead ∷ []) (ratio f) row c = record { left = row-number out c; right = joined-number (lead ∷ []) (ratio f) row c f.above; is = m.value c d } in
+        let a : number_in out c ≈ combined (lead ∷ []) (ratio f) row c = record { left = row-number out c; right = joined-number (lead ∷ []) (ratio f) row c f.above; is = m.value c d } in
         let b = a ▹ ap (λ v. sum v (product (ratio f) (number_in row c))) (alone c n) ▹ none-sum (product (ratio f) (number_in row c)) ⊙ scaled (number_in row c) (row-number row c) in
         b.is;
     columns = λ c h. let k = m.columns c h in (k.0, known c k.1);
@@ -140,7 +140,7 @@ module _ (row : List Item) (t : Ratio) (basic skip : ℕ) (o : Ratio) (i f : Fra
           (term_first (ratio f) (number_in row c) (to_product (number_in row c) (row-number row c) (fits.terms c h)))
       which c (inr e) = subst (λ v. TermFits (number_in (lead ∷ []) c) (ratio f) v) (sym e) (term_none (number_in (lead ∷ []) c) (ratio f))
 
-pub led_of : (row : List Item) (pivot value factor one : Frac) (basic skip : ℕ) → IsRow row → IsEntry row skip pivot → (HasColumn row basic → ⊥) → (basic ≡ skip → ⊥) → one.numer ≡ pos 1 → one.denom ≡ 1 → IsSame (ratio value) (quotient (ratio one) (ratio pivot)) → ratio factor ≡ negative (ratio value) → IsLed row (ratio pivot) basic skip (ratio one) value factor (record { col = basic; value = value })
+pub led_of : (row : List Item) (pivot value factor one : Frac) (basic skip : ℕ) → IsSparseRow row → IsEntry row skip pivot → (HasColumn row basic → ⊥) → (basic ≡ skip → ⊥) → one.numer ≡ pos 1 → one.denom ≡ 1 → IsSame (ratio value) (quotient (ratio one) (ratio pivot)) → ratio factor ≡ negative (ratio value) → IsLed row (ratio pivot) basic skip (ratio one) value factor (record { col = basic; value = value })
 led_of row pivot value factor one basic skip asc entry absent apart en ed ei ef = record {
   number = pivot.above;
   nonzero = entry.nonzero;

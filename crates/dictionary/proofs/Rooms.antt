@@ -5,12 +5,12 @@ use Rattle.fraction.specs.Frac.{ratio}
 use Rattle.evidence.proofs.Columns.{by_eq}
 use Rattle.dictionary.specs.declared.row.Item.{Item}
 use Rattle.dictionary.specs.declared.row.Row.{Row}
-use Rattle.dictionary.specs.Row.{entries_in, IsRow, HasColumn, IsOver, HaveRoom}
-use Rattle.dictionary.specs.Merge.{HasRoom}
+use Rattle.dictionary.specs.Row.{entries_in, IsSparseRow, HasColumn, IsOver, HaveRoom}
+use Rattle.dictionary.specs.Merge.{HasRowRoom}
 use Rattle.dictionary.specs.Table.{IsSolvedAt, PivotHasRoom, MergesHaveRoom}
 use Rattle.dictionary.specs.Basis.{ArePlaces, ChangePlaces}
-use Rattle.dictionary.proofs.Counted.{at_most}
-use Rattle.dictionary.proofs.Exchanged.{AreExchanged, solved_over, joined_over}
+use Rattle.dictionary.proofs.EntryCounts.{at_most}
+use Rattle.dictionary.proofs.Exchanges.{AreExchanged, solved_over, joined_over}
 use Rattle.dictionary.proofs.Widths.{own_in}
 
 abbrev pub with_changed : ℕ → ℕ → (ℕ → ℕ) → ℕ → ℕ
@@ -49,10 +49,10 @@ module _ {L : _} (n : ℕ) (at place to new : ℕ → ℕ) (b e : ℕ) (rows : L
       let mine : IsOver n to (entries_in mid (place b - n)) = solved_over n (n + length rows) at place to new b e ex (entries_in rows (place b - n)) (entries_in mid (place b - n)) (ratio pivot) (over (place b - n) (own_in n at place to new b e rows ex over)) by.solved in
       let inside : (r : ℕ) → r < length mid → r < length rows = λ r l. (let c = s.count in omega arith) in
       record {
-        ascending = λ r l. by_eq r (place b - n) (λ h. subst (λ j. IsRow (entries_in mid j)) (sym h) mine.ascending) (λ d. subst (λ (y : List Item). IsRow y) (sym (s.others r d)) (let o = over r (inside r l) in o.ascending));
+        ascending = λ r l. by_eq r (place b - n) (λ h. subst (λ j. IsSparseRow (entries_in mid j)) (sym h) mine.ascending) (λ d. subst (λ (y : List Item). IsSparseRow y) (sym (s.others r d)) (let o = over r (inside r l) in o.ascending));
         merge = λ r l. by_eq r (place b - n)
             (λ h xs asc sub. at_most n to xs (record { ascending = asc; columns = λ c g. let k = sub c g in mine.columns c (same (entries_in mid (place b - n)) c (subst (λ j. HasColumn (entries_in mid j) c ⊎ HasColumn (entries_in mid (place b - n)) c) h k.1)) }))
-            (λ d. subst (λ (y : List Item). HasRoom y (entries_in mid (place b - n)) e n) (sym (s.others r d))
+            (λ d. subst (λ (y : List Item). HasRowRoom y (entries_in mid (place b - n)) e n) (sym (s.others r d))
             (λ xs asc sub. at_most n to xs (record { ascending = asc; columns = λ c g. joined_over n (n + length rows) at place to new b e ex (entries_in rows r) (entries_in mid (place b - n)) (over r (inside r l)) mine c (sub c g) })));
       }
 

@@ -9,7 +9,7 @@ use Rattle.std.proofs.lemmas.Int.{ints}
 use Rattle.rational.specs.Ratio.{Ratio, whole, sum, product, IsNumber, IsSame}
 use Rattle.rational.specs.Width.{most, IsWithin, ReducedFits, SumFits, AreFourWithin}
 use Rattle.rational.proofs.Scaling.{IsSame-trans}
-use Rattle.rational.proofs.Reduced.{same_reduced}
+use Rattle.rational.proofs.ReducedForms.{same_reduced}
 use Rattle.fraction.specs.Frac.{ratio}
 use Rattle.fraction.specs.declared.frac.Frac.{Frac}
 use Rattle.evidence.specs.Sums.{none}
@@ -19,7 +19,7 @@ use Rattle.evidence.proofs.Fits.{whole-reduced}
 use Rattle.evidence.proofs.Numbers.{sum-none, none-sum, product-number}
 use Rattle.dictionary.specs.declared.row.Item.{Item}
 use Rattle.dictionary.specs.Row.{item_at, number_in, IsFrom, HasColumn}
-use Rattle.dictionary.specs.Merge.{IsBefore}
+use Rattle.dictionary.specs.Merge.{IsBeforeItems}
 
 -- a fraction's number fits, in each of its forms
 pub made_fits : (f : Frac) (x : Ratio) → IsNumber x → IsSame (ratio f) x → ReducedFits x
@@ -80,7 +80,7 @@ pub from_append : (low mid : ℕ) (xs : List Item) (z : Item) → mid ≤ z.col 
 from_append low mid [] z l n h = (omega arith, n, omega arith)
 from_append low mid (x ∷ xs) z l n h = (h.0, h.1, from_append (x.col + 1) mid xs z l n h.2)
 
-pub before_from : (c low high : ℕ) (xs : List Item) → c < high → IsBefore c xs → IsFrom low high xs → IsFrom (c + 1) high xs
+pub before_from : (c low high : ℕ) (xs : List Item) → c < high → IsBeforeItems c xs → IsFrom low high xs → IsFrom (c + 1) high xs
 before_from c low high [] l b h = omega arith
 before_from c low high (x ∷ xs) l b h = (omega arith, h.1, h.2)
 

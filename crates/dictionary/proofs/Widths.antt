@@ -24,8 +24,8 @@ use Rattle.dictionary.specs.Basis.{entries_by}
 use Rattle.dictionary.proofs.Rows.{has_or_none, none_there, term_none, term_zero, zero_fit}
 use Rattle.dictionary.proofs.Sums.{row-number}
 use Rattle.dictionary.proofs.OwnRow.{neg_fits}
-use Rattle.dictionary.proofs.Exchanged.{AreExchanged, apart, no_basic}
-use Rattle.dictionary.proofs.Pivoted.{ArePivoted, listed, unlisted, entries-number, own_entry, solved_entry, inside_of, other_row}
+use Rattle.dictionary.proofs.Exchanges.{AreExchanged, apart, no_basic}
+use Rattle.dictionary.proofs.RowPivots.{ArePivoted, listed, unlisted, entries-number, own_entry, solved_entry, inside_of, other_row}
 
 zero_same : (x y : Ratio) → IsNumber x → IsSame x y → x.num ≡ pos 0 → y.num ≡ pos 0
 zero_same x y p e z = same_multiple y.num (pos 0) x.den p (sym e ∙ ap (λ (n : ℤ). n *ℤ pos y.den) z ∙ zero-*ℤ (pos y.den) ∙ sym (zero-*ℤ (pos x.den)))

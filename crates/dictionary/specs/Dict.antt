@@ -20,11 +20,11 @@ abbrev pub columns_of : {L : _} {G : _} → Dict L G → ℕ
 columns_of d = width_of d + (height_of d + 1)
 
 -- the columns in the order in which they stand: those that aren't basic, the rows' basic ones, the goal's
-unfoldable pub column_at : {L : _} {G : _} → Dict L G → ℕ → ℕ
-column_at d = slice_index d.columns.items
+unfoldable pub column_standing : {L : _} {G : _} → Dict L G → ℕ → ℕ
+column_standing d = slice_index d.columns.items
 
-unfoldable pub place_of : {L : _} {G : _} → Dict L G → ℕ → ℕ
-place_of d = slice_index d.places.items
+unfoldable pub place_of_column : {L : _} {G : _} → Dict L G → ℕ → ℕ
+place_of_column d = slice_index d.places.items
 
 -- whether a column is basic
 unfoldable pub basic_of : {L : _} {G : _} → Dict L G → ℕ → Bool
@@ -61,10 +61,10 @@ pub record HaveOneSize {L : _} {G : _} (d e : Dict L G) : Type 0 where
 unfoldable pub count_of : Places → ℕ
 count_of p = length p.values.items
 
-unfoldable pub values_of : Places → Values
-values_of p = value_at (ratios p.values.items)
+unfoldable pub place_values : Places → Values
+place_values p = value_at (ratios p.values.items)
 
 -- w has the values of all columns that aren't basic
 pub record Rest {L : _} {G : _} (d : Dict L G) (p : Places) (w : Values) : Type 0 where
   pub numbers : (c : ℕ) → IsNumber (w c)
-  pub values : (c : ℕ) → c < width_of d + height_of d → basic_of d c ≡ false → w c ≡ values_of p c
+  pub values : (c : ℕ) → c < width_of d + height_of d → basic_of d c ≡ false → w c ≡ place_values p c

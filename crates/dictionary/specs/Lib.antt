@@ -8,7 +8,7 @@ pub mod Row
 pub mod Merge
 pub mod Table
 pub mod Basis
-pub mod Loaded
+pub mod ProgramRows
 pub mod Value
 pub mod Steps
 pub mod Dict

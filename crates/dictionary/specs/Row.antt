@@ -18,8 +18,8 @@ room_of row = vec_capacity row.items
 abbrev pub entries_in : {L : _} → List (Row L) → ℕ → List Item
 entries_in rows r = slice_index_or (map entries_of rows) r []
 
-abbrev pub room_in : {L : _} → List (Row L) → ℕ → ℕ
-room_in rows r = slice_index_or (map room_of rows) r 0
+abbrev pub room_at : {L : _} → List (Row L) → ℕ → ℕ
+room_at rows r = slice_index_or (map room_of rows) r 0
 
 -- an entry's number at a column
 abbrev pub item_at : Item → ℕ → Ratio
@@ -30,16 +30,16 @@ number_in [] c = none
 number_in (x ∷ xs) c = sum (item_at x c) (number_in xs c)
 
 -- a row and another times a factor
-abbrev pub joined : List Item → Ratio → List Item → ℕ → Ratio
-joined row f by c = sum (number_in row c) (product f (number_in by c))
+abbrev pub combined : List Item → Ratio → List Item → ℕ → Ratio
+combined row f by c = sum (number_in row c) (product f (number_in by c))
 
 -- ascending columns from low to before high, no entry 0
 abbrev pub IsFrom : ℕ → ℕ → List Item → Type 0
 IsFrom low high [] = low ≤ high
 IsFrom low high (x ∷ xs) = (low ≤ x.col) × (x.value.numer ≡ pos 0 → ⊥) × IsFrom (x.col + 1) high xs
 
-abbrev pub IsRow : List Item → Type 0
-IsRow xs = IsFrom 0 (2 ^ 32) xs
+abbrev pub IsSparseRow : List Item → Type 0
+IsSparseRow xs = IsFrom 0 (2 ^ 32) xs
 
 -- an entry stands at the column
 abbrev pub HasColumn : List Item → ℕ → Type 0
@@ -57,19 +57,19 @@ pub record IsEntry (xs : List Item) (c : ℕ) (value : Frac) : Type 0 where
   pub nonzero : value.numer ≡ pos 0 → ⊥
 
 -- the column stands at a place below n
-pub record Stands (n : ℕ) (at : ℕ → ℕ) (c : ℕ) : Type 0 where
+pub record StandsBelow (n : ℕ) (at : ℕ → ℕ) (c : ℕ) : Type 0 where
   pub place : ℕ
   pub inside : place < n
   pub is : at place ≡ c
 
 -- a row whose columns all stand below n
 pub record IsOver (n : ℕ) (at : ℕ → ℕ) (xs : List Item) : Type 0 where
-  pub ascending : IsRow xs
-  pub columns : (c : ℕ) → HasColumn xs c → Stands n at c
+  pub ascending : IsSparseRow xs
+  pub columns : (c : ℕ) → HasColumn xs c → StandsBelow n at c
 
 -- each row of a table has room for n entries
 abbrev pub RowsHaveRoom : {L : _} → ℕ → List (Row L) → Type 0
-RowsHaveRoom n rows = (r : ℕ) → r < length rows → n ≤ room_in rows r
+RowsHaveRoom n rows = (r : ℕ) → r < length rows → n ≤ room_at rows r
 
 -- and so has one more
 pub record HaveRoom {L : _} (n : ℕ) (rows : List (Row L)) (scratch : Row L) : Type 0 where

@@ -6,8 +6,8 @@ use Rattle.fraction.specs.Frac.{ratio}
 use Rattle.fraction.specs.declared.frac.Frac.{Frac}
 use Rattle.dictionary.specs.declared.row.Item.{Item}
 use Rattle.dictionary.specs.declared.row.Row.{Row}
-use Rattle.dictionary.specs.Row.{entries_in, number_in, IsRow, HasColumn, IsEntry, has_column, HaveRoom}
-use Rattle.dictionary.specs.Merge.{MergeFits, IsMerged, HasRoom}
+use Rattle.dictionary.specs.Row.{entries_in, number_in, IsSparseRow, HasColumn, IsEntry, has_column, HaveRoom}
+use Rattle.dictionary.specs.Merge.{MergeFits, IsMerged, HasRowRoom}
 
 -- the quotients by the pivot fit
 pub record SolveFits (row : List Item) (pivot : Ratio) : Type 0 where
@@ -16,7 +16,7 @@ pub record SolveFits (row : List Item) (pivot : Ratio) : Type 0 where
 
 -- out is the row solved for the column skip: column basic comes in for it
 pub record SolvesRow (row : List Item) (pivot : Ratio) (basic skip : ℕ) (out : List Item) : Type 0 where
-  pub ascending : IsRow out
+  pub ascending : IsSparseRow out
   pub own : IsSame (number_in out basic) (quotient (whole (pos 1)) pivot)
   pub other : (c : ℕ) → (c ≡ skip → ⊥) → (c ≡ basic → ⊥) → IsSame (number_in out c) (negative (quotient (number_in row c) pivot))
   pub columns : (c : ℕ) → HasColumn out c → (c ≡ skip → ⊥) × ((c ≡ basic) ⊎ HasColumn row c)
@@ -80,8 +80,8 @@ pub record IsReplacedAt {L : _} (r p skip : ℕ) (old new : List (Row L)) : Type
 
 -- each row's merge with row p has at most n entries
 pub record MergesHaveRoom {L : _} (p skip n : ℕ) (rows : List (Row L)) : Type 0 where
-  pub ascending : (r : ℕ) → r < length rows → IsRow (entries_in rows r)
-  pub merge : (r : ℕ) → r < length rows → HasRoom (entries_in rows r) (entries_in rows p) skip n
+  pub ascending : (r : ℕ) → r < length rows → IsSparseRow (entries_in rows r)
+  pub merge : (r : ℕ) → r < length rows → HasRowRoom (entries_in rows r) (entries_in rows p) skip n
 
 -- each of the first rows but p is replaced, and the others are as before
 pub record AreReplaced {L : _} (p skip stop : ℕ) (old new : List (Row L)) : Type 0 where

@@ -64,9 +64,9 @@ impl<L: Ledger> Dict<L> {
     ghost use Rattle.bases.specs.Dictionary.{Entries, Values, value_by};
     ghost use Rattle.bases.specs.Program.{is_fresh};
     ghost use Rattle.bases.specs.Pivot.{exchanged, IsPivoted, PivotFits, ValueFits};
-    ghost use Rattle.dictionary.specs.Loaded.{rows_of};
+    ghost use Rattle.dictionary.specs.ProgramRows.{program_rows};
     ghost use Rattle.dictionary.specs.Steps.{nonzeros, pivot_steps};
-    ghost use Rattle.dictionary.specs.Dict.{width_of, height_of, columns_of, column_at, place_of, basic_of, entry_of, IsLoaded, Holds, IsBasic, IsNonbasic, HaveOneSize, count_of, Rest};
+    ghost use Rattle.dictionary.specs.Dict.{width_of, height_of, columns_of, column_standing, place_of_column, basic_of, entry_of, IsLoaded, Holds, IsBasic, IsNonbasic, HaveOneSize, count_of, Rest};
 
     /// Room for a dictionary of so many variables and rows, which isn't loaded: `width` entries for each row, the goal and
     /// one row more. The room is reserved and not written to. More columns than there are numbers of 32 bits find none.
@@ -103,7 +103,7 @@ impl<L: Ledger> Dict<L> {
         requires ascending { IsAscending matrix.now }
         requires inside { All (IsInside (height_of self.old) (width_of self.old)) matrix.now }
         ensures size { HaveOneSize self.old self.new }
-        ensures holds { Holds (rows_of matrix.now costs.now factor (height_of self.old)) self.new }
+        ensures holds { Holds (program_rows matrix.now costs.now factor (height_of self.old)) self.new }
         ensures basis { (c : ℕ) → c < columns_of self.old → basic_of self.new c ≡ is_fresh (width_of self.old) c }
         ensures cost { steps.new ≤ steps.old + (length matrix.now + width_of self.old) }
         ensures counted { steps.old ≤ steps.new }
@@ -231,7 +231,7 @@ impl<L: Ledger> Dict<L> {
     /// The basic columns of variables and rows in some order, each once: `i` is below `height`.
     pub fn basic_at(&self, i: u32) -> u32
         requires { i < height_of self.now }
-        ensures column { result ≡ column_at self.now (width_of self.now + i) }
+        ensures column { result ≡ column_standing self.now (width_of self.now + i) }
         ensures basic { IsBasic self.now result }
     {
         self.columns[self.width as usize + i as usize]
@@ -240,7 +240,7 @@ impl<L: Ledger> Dict<L> {
     /// The columns that aren't basic in some order, each once: `j` is below `width`.
     pub fn nonbasic_at(&self, j: u32) -> u32
         requires { j < width_of self.now }
-        ensures column { result ≡ column_at self.now j }
+        ensures column { result ≡ column_standing self.now j }
         ensures nonbasic { IsNonbasic self.now result }
     {
         self.columns[j as usize]

@@ -1,7 +1,7 @@
 // Finding an entry by the order of the columns.
 ghost use Rattle.std.specs.Prelude.{◌≡◌, ℕ, ◌+◌, ◌<◌, ◌≤◌, ◌^◌, true, length, take, drop, None, IfSome};
 ghost use Rattle.fraction.specs.Frac.{ratio};
-ghost use Rattle.dictionary.specs.Row.{entries_of, IsRow, HasColumn, IsEntry, number_in};
+ghost use Rattle.dictionary.specs.Row.{entries_of, IsSparseRow, HasColumn, IsEntry, number_in};
 
 use crate::numbers::zero;
 use crate::row::Row;
@@ -11,7 +11,7 @@ use std::sync::ledger::Ledger;
 
 /// The value of the entry of a column, where there is one.
 pub fn find<L: Ledger>(row: &Row<L>, col: u32, steps: &mut Steps<L>) -> Option<Frac>
-    requires { IsRow (entries_of row.now) }
+    requires { IsSparseRow (entries_of row.now) }
     ensures found { IfSome result (IsEntry (entries_of row.now) col) }
     ensures absent { result ≡ None → HasColumn (entries_of row.now) col → ⊥ }
     ensures cost { (b : ℕ) → length (entries_of row.now) < 2 ^ b → steps.new ≤ steps.old + b }
@@ -36,7 +36,7 @@ pub fn find<L: Ledger>(row: &Row<L>, col: u32, steps: &mut Steps<L>) -> Option<F
 
 /// Whether all entries before this place are of lesser columns.
 fn is_past<L: Ledger>(row: &Row<L>, col: u32, place: usize, steps: &mut Steps<L>) -> bool
-    requires row { IsRow (entries_of row.now) }
+    requires row { IsSparseRow (entries_of row.now) }
     requires inside { place ≤ length (entries_of row.now) }
     ensures past { result ≡ true → HasColumn (take place (entries_of row.now)) col → ⊥ }
     ensures cost { steps.new ≤ steps.old + 1 }
@@ -51,7 +51,7 @@ fn is_past<L: Ledger>(row: &Row<L>, col: u32, place: usize, steps: &mut Steps<L>
 
 /// Whether all entries from this place on are of greater columns.
 fn is_before<L: Ledger>(row: &Row<L>, col: u32, place: usize, steps: &mut Steps<L>) -> bool
-    requires row { IsRow (entries_of row.now) }
+    requires row { IsSparseRow (entries_of row.now) }
     requires inside { place ≤ length (entries_of row.now) }
     ensures before { result ≡ true → HasColumn (drop place (entries_of row.now)) col → ⊥ }
     ensures cost { steps.new ≤ steps.old + 1 }
@@ -66,7 +66,7 @@ fn is_before<L: Ledger>(row: &Row<L>, col: u32, place: usize, steps: &mut Steps<
 
 /// Whether the column's entry would stand at this place, and none does.
 fn is_gap<L: Ledger>(row: &Row<L>, col: u32, place: usize, steps: &mut Steps<L>) -> bool
-    requires { IsRow (entries_of row.now) }
+    requires { IsSparseRow (entries_of row.now) }
     ensures absent { result ≡ true → HasColumn (entries_of row.now) col → ⊥ }
     ensures cost { steps.new ≤ steps.old + 2 }
     ensures counted { steps.old ≤ steps.new }
@@ -87,7 +87,7 @@ fn value_there<L: Ledger>(
     place: usize,
     steps: &mut Steps<L>,
 ) -> Option<Frac>
-    requires { IsRow (entries_of row.now) }
+    requires { IsSparseRow (entries_of row.now) }
     ensures found { IfSome result (IsEntry (entries_of row.now) col) }
     ensures inside { IfSome result (λ _. place < length (entries_of row.now)) }
     ensures cost { steps.new ≤ steps.old + 1 }
@@ -111,7 +111,7 @@ pub fn number_near<L: Ledger>(
     place: &mut usize,
     steps: &mut Steps<L>,
 ) -> Frac
-    requires { IsRow (entries_of row.now) }
+    requires { IsSparseRow (entries_of row.now) }
     ensures number { ratio result ≡ number_in (entries_of row.now) col }
     ensures cost { (b : ℕ) → length (entries_of row.now) < 2 ^ b → steps.new ≤ steps.old + 3 + b }
     ensures counted { steps.old ≤ steps.new }
@@ -129,7 +129,7 @@ pub fn number_near<L: Ledger>(
 
 /// The number of a column, 0 where it has no entry.
 pub fn number_at<L: Ledger>(row: &Row<L>, col: u32, steps: &mut Steps<L>) -> Frac
-    requires { IsRow (entries_of row.now) }
+    requires { IsSparseRow (entries_of row.now) }
     ensures number { ratio result ≡ number_in (entries_of row.now) col }
     ensures cost { (b : ℕ) → length (entries_of row.now) < 2 ^ b → steps.new ≤ steps.old + b }
     ensures counted { steps.old ≤ steps.new }

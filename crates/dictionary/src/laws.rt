@@ -2,7 +2,7 @@ ghost use Rattle.std.specs.Prelude.{◌≡◌, ℕ, ◌+◌, ◌-◌, ◌<◌, B
 ghost use Rattle.bases.specs.Dictionary.{Entries, IsDictionary};
 ghost use Rattle.bases.specs.Order.{GoesThrough};
 ghost use Rattle.dictionary.specs.declared.dict.Dict.{Dict};
-ghost use Rattle.dictionary.specs.Dict.{width_of, height_of, columns_of, column_at, place_of, basic_of};
+ghost use Rattle.dictionary.specs.Dict.{width_of, height_of, columns_of, column_standing, place_of_column, basic_of};
 
 use std::sync::ledger::Ledger;
 
@@ -14,6 +14,6 @@ pub fn dictionaries_of_equal_rows()
 /// The first places go through the columns that aren't basic, goal included, and the next ones through the basic columns of
 /// variables and rows, each once.
 pub fn orders_go_through<L: Ledger>()
-    ensures nonbasic { (d : Dict L L.Ledger) → GoesThrough (width_of d) (columns_of d) (basic_of d) false (column_at d) (place_of d) }
-    ensures basic { (d : Dict L L.Ledger) → GoesThrough (height_of d) (width_of d + height_of d) (basic_of d) true (λ i. column_at d (width_of d + i)) (λ c. place_of d c - width_of d) }
+    ensures nonbasic { (d : Dict L L.Ledger) → GoesThrough (width_of d) (columns_of d) (basic_of d) false (column_standing d) (place_of_column d) }
+    ensures basic { (d : Dict L L.Ledger) → GoesThrough (height_of d) (width_of d + height_of d) (basic_of d) true (λ i. column_standing d (width_of d + i)) (λ c. place_of_column d c - width_of d) }
 {}

@@ -5,7 +5,7 @@ ghost use Rattle.fraction.specs.Frac.{ratio, ratios};
 ghost use Rattle.evidence.specs.Point.{value_at};
 ghost use Rattle.instance.specs.Parts.{IsAscending, IsInside};
 ghost use Rattle.dictionary.specs.Row.{entries_of, room_of, entries_in, RowsHaveRoom};
-ghost use Rattle.dictionary.specs.Loaded.{times_sign, rows_of, row_items, IsPut, IsRowOf, AreRowsOf};
+ghost use Rattle.dictionary.specs.ProgramRows.{times_sign, program_rows, row_items, IsPut, IsRowOf, AreRowsOf};
 
 use crate::numbers::zero;
 use crate::row::{Item, Row};
@@ -97,7 +97,7 @@ pub fn load_rows<L: Ledger>(
     requires inside { All (IsInside (length rows.old - 1) (length costs.now)) matrix.now }
     requires few { length costs.now ≤ 2 ^ 32 }
     requires room { RowsHaveRoom (length costs.now) rows.old }
-    ensures rows { AreRowsOf (length costs.now) (length rows.old) (rows_of matrix.now costs.now factor (length rows.old - 1)) rows.new }
+    ensures rows { AreRowsOf (length costs.now) (length rows.old) (program_rows matrix.now costs.now factor (length rows.old - 1)) rows.new }
     ensures room { (n : ℕ) → RowsHaveRoom n rows.old → RowsHaveRoom n rows.new }
     ensures cost { steps.new ≤ steps.old + (length matrix.now + length costs.now) }
     ensures counted { steps.old ≤ steps.new }

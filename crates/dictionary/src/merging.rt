@@ -3,9 +3,9 @@ ghost use Rattle.std.specs.Prelude.{◌≡◌, ◌≢◌, ℕ, ◌+◌, ◌*◌,
 ghost use Rattle.rational.specs.Ratio.{product};
 ghost use Rattle.rational.specs.Width.{ReducedFits};
 ghost use Rattle.fraction.specs.Frac.{ratio};
-ghost use Rattle.dictionary.specs.Row.{entries_of, room_of, IsRow};
+ghost use Rattle.dictionary.specs.Row.{entries_of, room_of, IsSparseRow};
 ghost use Rattle.evidence.specs.Width.{TermFits};
-ghost use Rattle.dictionary.specs.Merge.{MergeFits, IsMerged, HasRoom, HasRoomFor, HasRoomForNext, IsProduct, IsSum, Takes, IsWide, IsAppended, IsNextAppended};
+ghost use Rattle.dictionary.specs.Merge.{MergeFits, IsMerged, HasRowRoom, HasRoomFor, HasRoomForNext, IsProduct, IsSum, TakesNext, IsMergeWide, IsAppended, IsNextAppended};
 
 use crate::row::{Item, Row};
 use crate::steps::Steps;
@@ -94,8 +94,8 @@ fn advance<L: Ledger>(
     ensures i { IfOk result (λ n. n.i ≤ length (entries_of row.now)) }
     ensures j { IfOk result (λ n. n.j ≤ length (entries_of by.now)) }
     ensures more { IfOk result (λ n. used.i + used.j < n.i + n.j) }
-    ensures takes { IfOk result (λ n. IsNextAppended (λ z. Takes (ratio factor) (drop used.i (entries_of row.now)) (drop used.j (entries_of by.now)) z (drop n.i (entries_of row.now)) (drop n.j (entries_of by.now))) skip (entries_of out.old) (entries_of out.new)) }
-    ensures wide { OnErr result (IsWide (ratio factor) (drop used.i (entries_of row.now)) (drop used.j (entries_of by.now))) }
+    ensures takes { IfOk result (λ n. IsNextAppended (λ z. TakesNext (ratio factor) (drop used.i (entries_of row.now)) (drop used.j (entries_of by.now)) z (drop n.i (entries_of row.now)) (drop n.j (entries_of by.now))) skip (entries_of out.old) (entries_of out.new)) }
+    ensures wide { OnErr result (IsMergeWide (ratio factor) (drop used.i (entries_of row.now)) (drop used.j (entries_of by.now))) }
     ensures room { room_of out.old ≤ room_of out.new }
     ensures cost { steps.new ≤ steps.old + 3 }
     ensures counted { steps.old ≤ steps.new }
@@ -134,10 +134,10 @@ pub fn merge<L: Ledger>(
     out: &mut Row<L>,
     steps: &mut Steps<L>,
 ) -> Result<(), Wide>
-    requires row { IsRow (entries_of row.now) }
-    requires by { IsRow (entries_of by.now) }
+    requires row { IsSparseRow (entries_of row.now) }
+    requires by { IsSparseRow (entries_of by.now) }
     requires factor { factor.numer ≢ pos 0 }
-    requires room { HasRoom (entries_of row.now) (entries_of by.now) skip (room_of out.old) }
+    requires room { HasRowRoom (entries_of row.now) (entries_of by.now) skip (room_of out.old) }
     ensures room { room_of out.old ≤ room_of out.new }
     ensures is { IfOk result (λ _. IsMerged (entries_of row.now) (ratio factor) (entries_of by.now) skip (entries_of out.new)) }
     ensures fits { IfOk result (λ _. MergeFits (entries_of row.now) (ratio factor) (entries_of by.now)) }

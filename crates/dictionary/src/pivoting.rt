@@ -1,6 +1,6 @@
 // A pivot of all rows of a table.
 ghost use Rattle.std.specs.Prelude.{◌≡◌, ◌≢◌, ℕ, ◌+◌, ◌*◌, ◌^◌, ◌<◌, ◌≤◌, length, IfOk, OnErr};
-ghost use Rattle.dictionary.specs.Row.{room_of, entries_in, IsRow, HasColumn, HaveRoom};
+ghost use Rattle.dictionary.specs.Row.{room_of, entries_in, IsSparseRow, HasColumn, HaveRoom};
 ghost use Rattle.dictionary.specs.Table.{IsTablePivot, IsWidePivot, PivotHasRoom, others_cost};
 
 use crate::replacing::replace_others;
@@ -21,7 +21,7 @@ pub fn pivot_rows<L: Ledger>(
     steps: &mut Steps<L>,
 ) -> Result<(), Wide>
     requires p { p < length rows.old }
-    requires row { IsRow (entries_in rows.old p) }
+    requires row { IsSparseRow (entries_in rows.old p) }
     requires stands { HasColumn (entries_in rows.old p) nonbasic }
     requires absent { HasColumn (entries_in rows.old p) basic → ⊥ }
     requires apart { basic ≢ nonbasic }

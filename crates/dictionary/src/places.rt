@@ -13,12 +13,12 @@ pub struct Places {
 }
 
 impl Places {
-    ghost use Rattle.dictionary.specs.Dict.{count_of, values_of};
+    ghost use Rattle.dictionary.specs.Dict.{count_of, place_values};
 
     /// The value 0 for each of so many columns.
     pub fn with_size(alloc: Global, count: usize) -> Result<Places, AllocError>
         ensures count { IfOk result (λ p. count_of p ≡ count) }
-        ensures zeros { IfOk result (λ p. (c : ℕ) → c < count → values_of p c ≡ none) }
+        ensures zeros { IfOk result (λ p. (c : ℕ) → c < count → place_values p c ≡ none) }
     {
         let values = vec![in alloc; Frac::ZERO; count]?;
         Ok(Places { values })
@@ -28,8 +28,8 @@ impl Places {
     pub fn set(&mut self, column: u32, value: Frac)
         requires { column < count_of self.old }
         ensures count { count_of self.new ≡ count_of self.old }
-        ensures own { values_of self.new column ≡ ratio value }
-        ensures others { (c : ℕ) → c ≢ column → values_of self.new c ≡ values_of self.old c }
+        ensures own { place_values self.new column ≡ ratio value }
+        ensures others { (c : ℕ) → c ≢ column → place_values self.new c ≡ place_values self.old c }
     {
         self.values[column as usize] = value;
     }
@@ -37,7 +37,7 @@ impl Places {
     /// The value of a column.
     pub fn at(&self, column: u32) -> Frac
         requires { column < count_of self.now }
-        ensures { ratio result ≡ values_of self.now column }
+        ensures { ratio result ≡ place_values self.now column }
     {
         self.values[column as usize]
     }

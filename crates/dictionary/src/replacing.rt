@@ -1,8 +1,8 @@
 // A pivot's work on the rows that aren't its own.
 ghost use Rattle.std.specs.Prelude.{◌≡◌, ◌≢◌, ℕ, ◌+◌, ◌*◌, ◌^◌, ◌<◌, ◌≤◌, length, cond, nat_eq, IfOk, OnErr};
 ghost use Rattle.fraction.specs.Frac.{ratio};
-ghost use Rattle.dictionary.specs.Row.{entries_of, room_of, entries_in, IsRow, HaveRoom};
-ghost use Rattle.dictionary.specs.Merge.{HasRoom};
+ghost use Rattle.dictionary.specs.Row.{entries_of, room_of, entries_in, IsSparseRow, HaveRoom};
+ghost use Rattle.dictionary.specs.Merge.{HasRowRoom};
 ghost use Rattle.dictionary.specs.Table.{IsChanged, IsWideRow, IsReplacedAt, AreReplaced, MergesHaveRoom, IsWideTable, row_cost, others_cost};
 
 use crate::finding::find;
@@ -20,9 +20,9 @@ fn change<L: Ledger>(
     out: &mut Row<L>,
     steps: &mut Steps<L>,
 ) -> Result<bool, Wide>
-    requires row { IsRow (entries_of row.now) }
-    requires by { IsRow (entries_of by.now) }
-    requires room { HasRoom (entries_of row.now) (entries_of by.now) skip (room_of out.old) }
+    requires row { IsSparseRow (entries_of row.now) }
+    requires by { IsSparseRow (entries_of by.now) }
+    requires room { HasRowRoom (entries_of row.now) (entries_of by.now) skip (room_of out.old) }
     ensures room { room_of out.old ≤ room_of out.new }
     ensures is { IfOk result (λ b. IsChanged b (entries_of row.now) (entries_of by.now) skip (entries_of out.new)) }
     ensures wide { OnErr result (IsWideRow (entries_of row.now) (entries_of by.now) skip) }
@@ -49,9 +49,9 @@ fn replace_at<L: Ledger>(
 ) -> Result<(), Wide>
     requires r { r < length rows.old }
     requires p { p < length rows.old }
-    requires row { IsRow (entries_in rows.old r) }
-    requires by { IsRow (entries_in rows.old p) }
-    requires room { HasRoom (entries_in rows.old r) (entries_in rows.old p) skip (room_of scratch.old) }
+    requires row { IsSparseRow (entries_in rows.old r) }
+    requires by { IsSparseRow (entries_in rows.old p) }
+    requires room { HasRowRoom (entries_in rows.old r) (entries_in rows.old p) skip (room_of scratch.old) }
     ensures room { (n : ℕ) → HaveRoom n rows.old scratch.old → HaveRoom n rows.new scratch.new }
     ensures is { IfOk result (λ _. IsReplacedAt r p skip rows.old rows.new) }
     ensures wide { OnErr result ((r ≢ p) × IsWideRow (entries_in rows.old r) (entries_in rows.old p) skip) }

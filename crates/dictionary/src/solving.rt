@@ -1,7 +1,7 @@
 // The pivot's own row.
 ghost use Rattle.std.specs.Prelude.{◌≡◌, ◌≢◌, ℕ, ◌+◌, ◌*◌, ◌^◌, ◌<◌, ◌≤◌, pos, length, IfOk, OnErr};
 ghost use Rattle.fraction.specs.Frac.{ratio};
-ghost use Rattle.dictionary.specs.Row.{entries_of, room_of, entries_in, IsRow, HasColumn, IsEntry, HaveRoom};
+ghost use Rattle.dictionary.specs.Row.{entries_of, room_of, entries_in, IsSparseRow, HasColumn, IsEntry, HaveRoom};
 ghost use Rattle.dictionary.specs.Table.{SolveFits, SolvesRow, IsSolvedBy, IsWideBy, IsSolvedAt};
 
 use crate::finding::find;
@@ -22,7 +22,7 @@ fn solve<L: Ledger>(
     out: &mut Row<L>,
     steps: &mut Steps<L>,
 ) -> Result<(), Wide>
-    requires row { IsRow (entries_of row.now) }
+    requires row { IsSparseRow (entries_of row.now) }
     requires entry { IsEntry (entries_of row.now) nonbasic pivot }
     requires absent { HasColumn (entries_of row.now) basic → ⊥ }
     requires apart { basic ≢ nonbasic }
@@ -49,7 +49,7 @@ fn solve_from<L: Ledger>(
     out: &mut Row<L>,
     steps: &mut Steps<L>,
 ) -> Result<(), Wide>
-    requires row { IsRow (entries_of row.now) }
+    requires row { IsSparseRow (entries_of row.now) }
     requires stands { HasColumn (entries_of row.now) nonbasic }
     requires absent { HasColumn (entries_of row.now) basic → ⊥ }
     requires apart { basic ≢ nonbasic }
@@ -79,7 +79,7 @@ pub fn solve_at<L: Ledger>(
     steps: &mut Steps<L>,
 ) -> Result<(), Wide>
     requires p { p < length rows.old }
-    requires row { IsRow (entries_in rows.old p) }
+    requires row { IsSparseRow (entries_in rows.old p) }
     requires stands { HasColumn (entries_in rows.old p) nonbasic }
     requires absent { HasColumn (entries_in rows.old p) basic → ⊥ }
     requires apart { basic ≢ nonbasic }

@@ -4,7 +4,7 @@ use Rattle.element_tree.specs.Building.{Building, said}
 use Rattle.doc_tree.specs.Marks.{Mark, spread}
 
 -- How the builder goes on: with these marks said, and these attributes of the tag to come.
-pub record Tells (old : Building) (marks : List Mark) (attributes : List Attribute) (new : Building) : Type 0 where
+pub record TellsMarks (old : Building) (marks : List Mark) (attributes : List Attribute) (new : Building) : Type 0 where
   pub says : spread (said new) ≡ spread (said old) ++ marks
   pub waits : new.attributes ≡ attributes
 
@@ -29,7 +29,7 @@ IsApart (Chars text ∷ more) = (text ≢ []) × NoCharsFirst more × IsApart mo
 IsApart (Close name ∷ more) = IsApart more
 
 -- What was told is apart, characters may come next, and no attribute waits.
-pub record IsReady (b : Building) : Type 0 where
+pub record IsBuildingReady (b : Building) : Type 0 where
   pub apart : IsApart (said b)
   pub run_begins : NoCharsLast b.events
   pub none_waits : b.attributes ≡ []

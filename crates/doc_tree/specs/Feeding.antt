@@ -3,7 +3,7 @@ use Rattle.std.specs.Prelude.{◌≡◌, ℕ, Bool, List, [], ◌∷◌, ◌++�
 use Rattle.tree_grammar.specs.declared.TheConstants.{DEPTH}
 use Rattle.doc_tree.specs.Marks.{Mark}
 use Rattle.doc_tree.specs.Rests.{Terms, any}
-use Rattle.doc_tree.specs.Completes.{State, Good}
+use Rattle.doc_tree.specs.Completions.{State, Good}
 use Rattle.doc_tree.specs.LineEnds.{Finishes, Continues}
 use Rattle.doc_tree.specs.Reading.{Refused}
 use Rattle.doc_tree.specs.Refusals.{IsClean}
@@ -12,8 +12,8 @@ use Rattle.doc_tree.specs.declared.characters.Awaited.{Awaited}
 use Rattle.doc_tree.specs.declared.fault.TreeFault.{TreeFault}
 
 -- A document of any encoding that isn't too deep.
-abbrev pub named : Terms
-named = record { depth = DEPTH; aim = any }
+abbrev pub any_encoding : Terms
+any_encoding = record { depth = DEPTH; aim = any }
 
 -- Where a reader stands in a document, in a line's end and in a character; how many bytes it took of how many; and why it takes no more.
 pub record Feeding : Type 0 where
@@ -25,17 +25,17 @@ pub record Feeding : Type 0 where
   pub refusal : Option TreeFault
 
 -- Some bytes complete the character and the document at once.
-pub record Meets (awaited : Awaited) (s : State) (returned : Bool) : Type 0 where
+pub record MeetsBoth (awaited : Awaited) (s : State) (returned : Bool) : Type 0 where
   pub rest : List ℕ
   pub character : CharacterRest awaited rest
   pub says : List Mark
-  pub document : Finishes s returned named rest says
+  pub document : Finishes s returned any_encoding rest says
 
 -- The bytes have been taken, and none of them decides a refusal.
 pub record IsTaken (f : Feeding) (bytes : List ℕ) : Type 0 where
   pub continues : Continues f.state f.returned bytes
   pub spells : Spells f.awaited bytes
-  pub meets : Meets f.awaited f.state f.returned
+  pub meets : MeetsBoth f.awaited f.state f.returned
   pub counted : f.count ≡ length bytes
   pub clean : IsClean f.limit bytes
 
@@ -58,8 +58,8 @@ abbrev pub WasHeard : (List Mark → Type 0) → Feeding → List ℕ → Type 0
 WasHeard had f bytes = MatchOption f.refusal (Heard had f bytes) (Refused f.limit bytes)
 
 -- Behind any such bytes, a reader is refused so at this one.
-abbrev pub Refuses : Feeding → ℕ → TreeFault → Type 0
-Refuses f b fault = (told : List Mark) (bytes : List ℕ) → IsTaken (behind told f) bytes → Refused f.limit (bytes ++ b ∷ []) fault
+abbrev pub RefusesByte : Feeding → ℕ → TreeFault → Type 0
+RefusesByte f b fault = (told : List Mark) (bytes : List ℕ) → IsTaken (behind told f) bytes → Refused f.limit (bytes ++ b ∷ []) fault
 
 -- A reader that takes more stands at a place of the machine that some document has.
 abbrev pub CanGoOn : Feeding → Type 0

@@ -1,12 +1,12 @@
 pub mod Reading
 pub mod Refusals
 pub mod Feeding
-pub mod Standing
+pub mod Places
 pub mod Building
-pub mod Keeping
+pub mod TagNames
 pub mod Marks
 pub mod Rests
-pub mod Completes
+pub mod Completions
 pub mod LineEnds
 pub mod Utf8
 pub mod Relieved

@@ -23,13 +23,13 @@ pub(crate) struct Gathering {
 impl Model for Gathering {
     ghost use Rattle.std.specs.Prelude.{◌⊎◌, IsTrue};
     ghost use Rattle.element_tree.specs.Building.{Building};
-    ghost use Rattle.doc_tree.specs.Building.{IsReady};
+    ghost use Rattle.doc_tree.specs.Building.{IsBuildingReady};
 
     ghost Value = { Building };
 
     ghost view = { λ t. t.builder };
 
-    ghost invariant = { λ t. IsTrue t.wanted ⊎ IsReady t.builder };
+    ghost invariant = { λ t. IsTrue t.wanted ⊎ IsBuildingReady t.builder };
 }
 
 /// Begins an element with these attributes, where none waits.

@@ -4,7 +4,7 @@ ghost use Rattle.std.specs.Prelude.{◌≡◌, ◌↔◌, [], ◌∷◌, List, I
 ghost use Rattle.doc_tree.specs.Relieved.{Relieved};
 ghost use Rattle.doc_tree.specs.Marks.{Mark};
 ghost use Rattle.doc_tree.specs.Rests.{Terms};
-ghost use Rattle.doc_tree.specs.Completes.{view, Good, GoodGoal, Rests, Reaches, Follows, Stuck, Reached, Runs, Completes, IsDeep, IsOther, IsDoctype, IsPlain};
+ghost use Rattle.doc_tree.specs.Completions.{view, Good, GoodGoal, RestsAt, ReachesGoal, FollowsByte, Stuck, ReachesState, RunsOn, Completes, IsDeep, IsOther, IsDoctype, IsPlainByte};
 
 mod asides;
 mod attributes;
@@ -188,7 +188,7 @@ fn restart(buffer: &mut Vec<u8>, b: u8) -> Result<(), AllocError>
 
 impl Machine {
     pub(crate) fn new(alloc: Global) -> Self
-        ensures { Runs (view result) [] }
+        ensures { RunsOn (view result) [] }
     {
         Machine {
             alloc,
@@ -243,9 +243,9 @@ impl Machine {
     /// Takes a byte.
     pub(crate) fn step(&mut self, b: u8) -> Result<(), StepFault>
         requires good { Good self.old.place (view self.old) }
-        requires plain { IsPlain (view self.old) b }
-        ensures follows { OnOk result (Follows (view self.old).marks (Rests self.old.place (view self.old)) b (view self.new)) }
-        ensures stuck { IsErrOf result StepFault.Refused → Stuck (Rests self.old.place (view self.old)) b }
+        requires plain { IsPlainByte (view self.old) b }
+        ensures follows { OnOk result (FollowsByte (view self.old).marks (RestsAt self.old.place (view self.old)) b (view self.new)) }
+        ensures stuck { IsErrOf result StepFault.Refused → Stuck (RestsAt self.old.place (view self.old)) b }
     {
         match self.place {
             Place::Start => self.start(b),
@@ -355,8 +355,8 @@ impl Machine {
     fn word(&mut self, b: u8) -> Result<(), StepFault>
         requires place { self.old.place ≡ Place.Word }
         requires good { Good Place.Word (view self.old) }
-        ensures follows { OnOk result (Follows (view self.old).marks (Rests Place.Word (view self.old)) b (view self.new)) }
-        ensures stuck { IsErrOf result StepFault.Refused → Stuck (Rests Place.Word (view self.old)) b }
+        ensures follows { OnOk result (FollowsByte (view self.old).marks (RestsAt Place.Word (view self.old)) b (view self.new)) }
+        ensures stuck { IsErrOf result StepFault.Refused → Stuck (RestsAt Place.Word (view self.old)) b }
     {
         if self.matched >= self.word.len() {
             return Err(StepFault::Refused);
@@ -375,7 +375,7 @@ impl Machine {
     /// The fixed text is whole.
     fn reach(&mut self) -> Result<(), AllocError>
         requires { GoodGoal self.old.goal (view self.old) }
-        ensures { OnOk result (Reached (view self.old).marks (Reaches self.old.goal (view self.old)) (view self.new)) }
+        ensures { OnOk result (ReachesState (view self.old).marks (ReachesGoal self.old.goal (view self.old)) (view self.new)) }
     {
         match self.goal {
             Goal::Marked => self.place = Place::Marked,

@@ -1,7 +1,7 @@
 //! What reads documents into trees: whole ones, and such as come in pieces.
 
 ghost use Rattle.std.specs.Prelude.{◌≡◌, ◌++◌, [], List, ℕ, IfOk, IfErr, MatchOption, Some, None, Ok, Err};
-ghost use Rattle.doc_tree.specs.Reading.{Reads, ReadsOnly, Ends};
+ghost use Rattle.doc_tree.specs.Reading.{ReadsDocument, ReadsOnly, ReadingFails};
 ghost use Rattle.doc_tree.specs.declared.fault.TreeFault.{TreeFault};
 ghost use Rattle.doc_tree.specs.Feeding.{WasFed};
 
@@ -14,9 +14,9 @@ use std::marker::Model;
 
 /// Reads a document of at most `limit` bytes and of a depth of at most 32 (`tree_grammar::DEPTH`).
 pub fn read(alloc: Global, bytes: &[u8], limit: u64) -> Result<Tree, TreeFault>
-    ensures reads { IfOk result (Reads limit bytes.now) }
+    ensures reads { IfOk result (ReadsDocument limit bytes.now) }
     ensures only { IfOk result (ReadsOnly bytes.now) }
-    ensures refusal { IfErr result (Ends limit bytes.now) }
+    ensures refusal { IfErr result (ReadingFails limit bytes.now) }
 {
     let mut reader = Reader::new(alloc, limit);
     match reader.feed(bytes) {
@@ -68,9 +68,9 @@ impl Reader {
     /// The tree of the document that was fed, or why there is none.
     pub fn finish(self) -> Result<Tree, TreeFault>
         ensures again { (fault : TreeFault) → self.refusal ≡ Some fault → result ≡ Err fault }
-        ensures reads { IfOk result (λ tree. (bytes : List ℕ) → WasFed self bytes → Reads self.limit bytes tree) }
+        ensures reads { IfOk result (λ tree. (bytes : List ℕ) → WasFed self bytes → ReadsDocument self.limit bytes tree) }
         ensures only { IfOk result (λ tree. (bytes : List ℕ) → WasFed self bytes → ReadsOnly bytes tree) }
-        ensures refuses { IfErr result (λ fault. (bytes : List ℕ) → WasFed self bytes → Ends self.limit bytes fault) }
+        ensures refuses { IfErr result (λ fault. (bytes : List ℕ) → WasFed self bytes → ReadingFails self.limit bytes fault) }
     {
         let at = self.events.reading.count();
         match self.events.finish() {

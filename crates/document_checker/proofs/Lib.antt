@@ -1,5 +1,5 @@
-pub mod Together
-pub mod Accepted
-pub mod Apart
+pub mod Pairs
+pub mod Acceptance
+pub mod Exclusion
 pub mod OneText
 pub mod OneAnswer

@@ -5,7 +5,7 @@ use Rattle.evidence.specs.Instance as Of
 use Rattle.instance.specs.Parts.{Parts}
 use Rattle.instance.specs.Program.{program}
 use Rattle.certificate.specs.declared.claims.Claim.{Claim}
-use Rattle.certificate.specs.Means as Means
+use Rattle.certificate.specs.Meanings as Means
 use Rattle.osrl_grammar.specs.declared.report.Report.{Report}
 use Rattle.document_checker.specs.declared.documents.Kind.{Kind}
 use Rattle.document_checker.specs.declared.fault.CheckFault.{CheckFault}
@@ -13,8 +13,8 @@ use Rattle.document_checker.specs.declared.fault.CheckFault.TheVariants as fault
 use Rattle.document_checker.specs.Documents.{ClaimRefuses, NoInstance, NoReport, CheckRefuses, IsAcceptedText, DocsRefuse}
 use Rattle.document_checker.specs.Texts.{kind_name, IsCheckFaultText, IsAnswerText}
 use Rattle.document_checker.specs.Grounds.{InstancesAreOne, ReportsAreOne, TreeFaultsAreToldOnce}
-use Rattle.document_checker.proofs.Accepted.{one_kind}
-use Rattle.document_checker.proofs.Apart.{no_instance, no_report, accepted_apart}
+use Rattle.document_checker.proofs.Acceptance.{one_kind}
+use Rattle.document_checker.proofs.Exclusion.{no_instance, no_report, accepted_apart}
 use Rattle.cert_checker.proofs.OneReason.{reason_once}
 use Rattle.document_checker.proofs.OneText.{same_quote, fault_told}
 

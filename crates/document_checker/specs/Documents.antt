@@ -6,7 +6,7 @@ use Rattle.instance.specs.Parts.{Parts}
 use Rattle.instance.specs.Program.{program}
 use Rattle.certificate.specs.declared.claims.Claim.{Claim}
 use Rattle.certificate.specs.declared.claims.Claim.TheVariants as claims
-use Rattle.certificate.specs.Means as Means
+use Rattle.certificate.specs.Meanings as Means
 use Rattle.osil_grammar.specs.Reading.{IsInstanceText}
 use Rattle.osil_grammar.specs.Reading as instances
 use Rattle.osil_grammar.specs.declared.fault.OsilFault.{OsilFault}
@@ -22,7 +22,7 @@ use Rattle.document_checker.specs.declared.fault.CheckFault.{CheckFault}
 use Rattle.document_checker.specs.declared.fault.CheckFault.TheVariants as faults
 use Rattle.cert_checker.specs.declared.refused.Refused.{Refused}
 use Rattle.cert_checker.specs.declared.refused.Refused.TheVariants.{NoClaim}
-use Rattle.cert_checker.specs.Refusals.{IsRefused}
+use Rattle.cert_checker.specs.Refusals.{IsRefusedFor}
 
 -- what a claim says; nothing where its maker wasn't sure
 abbrev pub kind : Claim → Option Kind
@@ -42,7 +42,7 @@ pub record ReportAccepts (p : Parts) (report : Report) (k : Kind) : Type 0 where
 -- what a claim that stands or doesn't is refused for
 abbrev pub ClaimRefuses : Of.Instance → Option Claim → CheckFault → Type 0
 ClaimRefuses I None f = f ≡ faults.Claim NoClaim
-ClaimRefuses I (Some c) f = (r : Refused) × IsRefused I (Means.claim c) r × (f ≡ faults.Claim r)
+ClaimRefuses I (Some c) f = (r : Refused) × IsRefusedFor I (Means.claim c) r × (f ≡ faults.Claim r)
 
 abbrev pub ReportRefuses : Parts → Report → CheckFault → Type 0
 ReportRefuses p report f = ClaimRefuses (program p) report.claim f

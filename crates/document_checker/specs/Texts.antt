@@ -16,30 +16,30 @@ kind_name Unbounded = codes "unbounded"
 kind_name BestSoFar = codes "bestSoFar"
 
 -- a reason's name alone, with a number, and with two; one space between
-abbrev pub named : (name : List ℕ) → List ℕ
-named name = codes "refused " ++ name
+abbrev pub reason_named : (name : List ℕ) → List ℕ
+reason_named name = codes "refused " ++ name
 
-abbrev pub numbered : (name : List ℕ) → ℕ → List ℕ
-numbered name n = named name ++ (32 ∷ decimal n)
+abbrev pub reason_numbered : (name : List ℕ) → ℕ → List ℕ
+reason_numbered name n = reason_named name ++ (32 ∷ decimal n)
 
-abbrev pub placed : (name : List ℕ) → ℕ → ℕ → List ℕ
-placed name n m = numbered name n ++ (32 ∷ decimal m)
+abbrev pub reason_placed : (name : List ℕ) → ℕ → ℕ → List ℕ
+reason_placed name n m = reason_numbered name n ++ (32 ∷ decimal m)
 
 -- a document's name, and what its own text says
 abbrev pub quoted : (name : List ℕ) → List ℕ → List ℕ
-quoted name told = named name ++ (32 ∷ told)
+quoted name told = reason_named name ++ (32 ∷ told)
 
 -- the text of a reason for which a claim is refused
 abbrev pub refused_text : Refused → List ℕ
-refused_text (NotFeasible c) = numbered (codes "NotFeasible") c
-refused_text (Tree n) = numbered (codes "Tree") n
-refused_text (Sign n c) = placed (codes "Sign") n c
-refused_text (Form n c) = placed (codes "Form") n c
-refused_text (Sum n) = numbered (codes "Sum") n
-refused_text Value = named (codes "Value")
-refused_text (Direction c) = numbered (codes "Direction") c
-refused_text NoClaim = named (codes "NoClaim")
-refused_text (Wide n) = numbered (codes "Wide") n
+refused_text (NotFeasible c) = reason_numbered (codes "NotFeasible") c
+refused_text (Tree n) = reason_numbered (codes "Tree") n
+refused_text (Sign n c) = reason_placed (codes "Sign") n c
+refused_text (Form n c) = reason_placed (codes "Form") n c
+refused_text (Sum n) = reason_numbered (codes "Sum") n
+refused_text Value = reason_named (codes "Value")
+refused_text (Direction c) = reason_numbered (codes "Direction") c
+refused_text NoClaim = reason_named (codes "NoClaim")
+refused_text (Wide n) = reason_numbered (codes "Wide") n
 
 -- the text of why documents aren't accepted; want of memory has none
 abbrev pub IsCheckFaultText : CheckFault → List ℕ → Type 0

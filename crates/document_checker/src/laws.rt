@@ -3,7 +3,7 @@ ghost use Rattle.evidence.specs.Claim.{IsTrueOf};
 ghost use Rattle.instance.specs.Parts.{Parts};
 ghost use Rattle.instance.specs.Program.{program};
 ghost use Rattle.certificate.specs.declared.claims.Claim as carried;
-ghost use Rattle.certificate.specs.Means as Means;
+ghost use Rattle.certificate.specs.Meanings as Means;
 ghost use Rattle.osil_grammar.specs.Reading.{IsInstanceText};
 ghost use Rattle.osrl_grammar.specs.Reading.{IsReportText};
 ghost use Rattle.osrl_grammar.specs.declared.report.Report.{Report};

@@ -32,7 +32,7 @@ fn put_number(text: &mut Text, n: u32) -> Result<(), Memory>
 
 /// `refused` and a name.
 fn named(alloc: Global, name: &[u8]) -> Result<Text, Memory>
-    ensures { IfOk result (λ t. t ≡ spoken.named name.now) }
+    ensures { IfOk result (λ t. t ≡ spoken.reason_named name.now) }
 {
     let mut text = Text::from_slice(alloc, b"refused ")?;
     text.extend(name)?;
@@ -41,7 +41,7 @@ fn named(alloc: Global, name: &[u8]) -> Result<Text, Memory>
 
 /// The same, and a number.
 fn numbered(alloc: Global, name: &[u8], n: u32) -> Result<Text, Memory>
-    ensures { IfOk result (λ t. t ≡ spoken.numbered name.now n) }
+    ensures { IfOk result (λ t. t ≡ spoken.reason_numbered name.now n) }
 {
     let mut text = named(alloc, name)?;
     put_number(&mut text, n)?;
@@ -50,7 +50,7 @@ fn numbered(alloc: Global, name: &[u8], n: u32) -> Result<Text, Memory>
 
 /// The same, and a second number.
 fn placed(alloc: Global, name: &[u8], n: u32, m: u32) -> Result<Text, Memory>
-    ensures { IfOk result (λ t. t ≡ spoken.placed name.now n m) }
+    ensures { IfOk result (λ t. t ≡ spoken.reason_placed name.now n m) }
 {
     let mut text = numbered(alloc, name, n)?;
     put_number(&mut text, m)?;

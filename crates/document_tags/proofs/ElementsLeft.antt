@@ -2,7 +2,7 @@
 use Rattle.std.proofs.Common.{◌≡◌, List, [], ◌∷◌, subst}
 use Rattle.tree_grammar.specs.Elements.{Element}
 use Rattle.document_tags.specs.declared.spot.Spot.{Spot}
-use Rattle.document_tags.specs.Spots.{Stands, AreSpots}
+use Rattle.document_tags.specs.Spots.{StandsAt, AreSpots}
 
 -- the elements that are left, and what is known of them
 pub record Leaves (left : List Spot) (Is : List Element → Type 0) : Type 0 where
@@ -17,7 +17,7 @@ leaves_all spots Is es are is = record { rest = es; behind = are; is = is }
 pub record Next (s : Spot) (more : List Spot) (Is : List Element → Type 0) : Type 0 where
   pub first : Element
   pub rest : List Element
-  pub stands : Stands s first
+  pub stands : StandsAt s first
   pub behind : AreSpots more rest
   pub is : Is (first ∷ rest)
 
@@ -29,7 +29,7 @@ pub next : (s : Spot) (left more : List Spot) (Is : List Element → Type 0) →
 next s left more Is e h = next_by s more Is h.rest (subst (λ (l : List Spot). AreSpots l h.rest) e h.behind) h.is
 
 -- behind the first
-pub passes : (s : Spot) (more : List Spot) (Is Now : List Element → Type 0) → ((e : Element) (rest : List Element) → Stands s e → Is (e ∷ rest) → Now rest) → Next s more Is → Leaves more Now
+pub passes : (s : Spot) (more : List Spot) (Is Now : List Element → Type 0) → ((e : Element) (rest : List Element) → StandsAt s e → Is (e ∷ rest) → Now rest) → Next s more Is → Leaves more Now
 passes s more Is Now step n = record { rest = n.rest; behind = n.behind; is = step n.first n.rest n.stands n.is }
 
 none_by : (Is : List Element → Type 0) (rest : List Element) → AreSpots [] rest → Is rest → Is []

@@ -3,7 +3,7 @@ use Rattle.std.proofs.Common.{ℕ, zero, suc, ◌+◌, ◌*◌, ◌/◌, ◌%◌
 use Rattle.std.specs.Prelude.{flat_map, decimal}
 use Rattle.std.specs.Fmt.{digits, digits_onto, digit_glyph}
 use Rattle.tree_grammar.specs.Elements.{Attribute, Nodes, none, element, chars, Element}
-use Rattle.tree_grammar.specs.Written.{escaped_char, escaped_value_char, escaped, escaped_value, written_attributes, children_begin, children_end, written_nodes, written_element, written_declaration, written}
+use Rattle.tree_grammar.specs.WrittenText.{escaped_char, escaped_value_char, escaped, escaped_value, written_attributes, children_begin, children_end, written_nodes, written_element, written_declaration, written}
 
 onto_by : (b : Bool) (one more : List ℕ) (n : ℕ) → length one ≤ n → length more ≤ n → length (cond b one more) ≤ n
 onto_by true one more n h k = h

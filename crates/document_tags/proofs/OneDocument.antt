@@ -3,7 +3,7 @@ use Rattle.std.proofs.Common.{◌≡◌, ◌∙◌, inl, inr, ℕ, List, ap, sym
 use Rattle.tree_grammar.specs.Elements.{Element}
 use Rattle.doc_tree.specs.declared.fault.TreeFault.{TreeFault}
 use Rattle.doc_tree.proofs.OneRefusal.{one_refusal}
-use Rattle.doc_tree.proofs.Unambiguous.{one_tree}
+use Rattle.doc_tree.proofs.OneTree.{one_tree}
 use Rattle.document_tags.specs.Texts.{document_limit, IsDocument}
 use Rattle.document_tags.specs.Documents.{OfDocument, Fails}
 

@@ -73,5 +73,5 @@ abbrev pub places_behind : List Tag → List Tag → List Place
 places_behind before [] = []
 places_behind before (t ∷ ts) = place_of before t ∷ places_behind (before ++ t ∷ []) ts
 
-abbrev pub places : List Tag → List Place
-places ts = places_behind [] ts
+abbrev pub tag_places : List Tag → List Place
+tag_places ts = places_behind [] ts

@@ -26,5 +26,5 @@ abbrev pub marked : List ℕ → List Attribute → List ℕ → List Event → 
 marked name attributes text behind = Open name attributes ∷ nodes_events (text_nodes text) (Close name ∷ behind)
 
 -- a whole element
-abbrev pub whole : Element → List Event → List Event
-whole e behind = Open e.name e.attributes ∷ nodes_events e.children (Close e.name ∷ behind)
+abbrev pub whole_element : Element → List Event → List Event
+whole_element e behind = Open e.name e.attributes ∷ nodes_events e.children (Close e.name ∷ behind)

@@ -32,8 +32,8 @@ abbrev pub typed : (name type : List ℕ) → Nodes → Nodes
 typed name type more = element name (only (codes "type") type) none more
 
 -- an element with a count of what stands in it, and then more
-abbrev pub counted : (name count_name : List ℕ) → ℕ → Nodes → Nodes → Nodes
-counted name count_name n children more = element name (only count_name (decimal n)) children more
+abbrev pub counted_element : (name count_name : List ℕ) → ℕ → Nodes → Nodes → Nodes
+counted_element name count_name n children more = element name (only count_name (decimal n)) children more
 
 -- the root of a document, with the namespace of the Optimization Services
 abbrev pub rooted : (name : List ℕ) → Nodes → Element

@@ -2,8 +2,8 @@
 
 ghost use Rattle.std.specs.Prelude.{◌≡◌, List, Some, None, IfOk};
 ghost use Rattle.tree_grammar.specs.Elements.{Element};
-ghost use Rattle.document_tags.specs.Spots.{Stands, AreSpots, IsSpot};
-ghost use Rattle.document_tags.specs.Only as elements;
+ghost use Rattle.document_tags.specs.Spots.{StandsAt, AreSpots, IsSpot};
+ghost use Rattle.document_tags.specs.OneChild as elements;
 
 use crate::spot::Spot;
 use os_io::{Memory, Text};
@@ -26,7 +26,7 @@ pub fn only_child<'t>(
     spot: Spot<'t>,
     name: &[u8],
 ) -> Result<Option<Spot<'t>>, Memory>
-    ensures { (e : Element) → Stands spot.entry e → IfOk result (λ r. IsSpot r (elements.only_child e name.now)) }
+    ensures { (e : Element) → StandsAt spot.entry e → IfOk result (λ r. IsSpot r (elements.only_child e name.now)) }
 {
     let mut found = Vec::new(alloc);
     spot.push_children(name, &mut found)?;
@@ -35,7 +35,7 @@ pub fn only_child<'t>(
 
 /// The characters that stand in the one child element of this name, and not in an element in it, if there is exactly one.
 pub fn only_text(alloc: Global, spot: Spot<'_>, name: &[u8]) -> Result<Option<Text>, Memory>
-    ensures { (e : Element) → Stands spot.entry e → IfOk result (λ r. r ≡ elements.only_text e name.now) }
+    ensures { (e : Element) → StandsAt spot.entry e → IfOk result (λ r. r ≡ elements.only_text e name.now) }
 {
     let Some(child) = only_child(alloc, spot, name)? else {
         return Ok(None);

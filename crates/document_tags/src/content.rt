@@ -3,9 +3,9 @@
 ghost use Rattle.std.specs.Prelude.{◌≡◌, ◌+◌, ◌^◌, ◌<◌, ◌≤◌, IfOk, IfSome, MatchOption, length, drop};
 ghost use Rattle.tree_grammar.specs.Elements.{Element};
 ghost use Rattle.document_tags.specs.Rests.{child_elements};
-ghost use Rattle.document_tags.specs.Spots.{Stands, AreSpots};
-ghost use Rattle.document_tags.specs.Only as said;
-ghost use Rattle.document_tags.specs.Gathering.{Gathers, AreGathered};
+ghost use Rattle.document_tags.specs.Spots.{StandsAt, AreSpots};
+ghost use Rattle.document_tags.specs.OneChild as said;
+ghost use Rattle.document_tags.specs.ChildElements.{Gathers, AreGathered};
 
 use crate::spot::Spot;
 use element_tree::{Item, Tree};
@@ -46,7 +46,7 @@ fn pass<'t>(
 
 /// The child elements, whatever their names.
 pub fn child_elements<'t>(alloc: Global, spot: Spot<'t>) -> Result<Vec<Spot<'t>>, Memory>
-    ensures { (e : Element) → Stands spot.entry e → IfOk result (λ r. AreSpots r.items (child_elements e.children)) }
+    ensures { (e : Element) → StandsAt spot.entry e → IfOk result (λ r. AreSpots r.items (child_elements e.children)) }
 {
     let tree = spot.tree;
     let mut out = Vec::new(alloc);
@@ -64,7 +64,7 @@ pub fn child_elements<'t>(alloc: Global, spot: Spot<'t>) -> Result<Vec<Spot<'t>>
 
 /// The characters that stand in an element, if no element does.
 pub fn plain_text(alloc: Global, spot: Spot<'_>) -> Result<Option<Text>, Memory>
-    ensures { (e : Element) → Stands spot.entry e → IfOk result (λ r. r ≡ said.plain_text e) }
+    ensures { (e : Element) → StandsAt spot.entry e → IfOk result (λ r. r ≡ said.plain_text e) }
 {
     let inside = child_elements(alloc, spot)?;
     if inside.len() > 0 {

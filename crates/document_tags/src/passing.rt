@@ -3,7 +3,7 @@
 ghost use Rattle.std.specs.Prelude.{◌≡◌, ◌+◌, ◌^◌, ◌<◌, ◌≤◌, ℕ, List, ◌∷◌, [], MatchOption, IfSome, length, drop};
 ghost use Rattle.tree_grammar.specs.Elements.{Element, Event, Nodes, Open, Close, nodes_events};
 ghost use Rattle.document_tags.specs.Rests.{child_elements};
-ghost use Rattle.document_tags.specs.Passing.{Pending, IsChild};
+ghost use Rattle.document_tags.specs.Passages.{Pending, IsChild};
 
 use element_tree::{Item, Tree};
 

@@ -3,7 +3,7 @@
 ghost use Rattle.std.specs.Prelude.{◌≡◌, List, [], ◌∷◌, IfOk, OnOk, slice_get, flat_map, map};
 ghost use Rattle.tree_grammar.specs.Elements.{Element};
 ghost use Rattle.document_tags.specs.Elements as elements;
-ghost use Rattle.document_tags.specs.Spots.{Stands, AreSpots, IsSpot};
+ghost use Rattle.document_tags.specs.Spots.{StandsAt, AreSpots, IsSpot};
 
 use crate::spot::Spot;
 use os_io::Memory;
@@ -37,7 +37,7 @@ pub fn along<'t>(
 
 /// The elements to which these names lead from this one.
 pub fn within<'t>(alloc: Global, spot: Spot<'t>, names: &[&[u8]]) -> Result<Vec<Spot<'t>>, Memory>
-    ensures { (e : Element) → Stands spot.entry e → IfOk result (λ r. AreSpots r.items (elements.within e (map (λ n. n.now) names.now))) }
+    ensures { (e : Element) → StandsAt spot.entry e → IfOk result (λ r. AreSpots r.items (elements.within e (map (λ n. n.now) names.now))) }
 {
     let mut start = Vec::new(alloc);
     start.push(spot)?;
@@ -60,7 +60,7 @@ pub fn first_within<'t>(
     spot: Spot<'t>,
     names: &[&[u8]],
 ) -> Result<Option<Spot<'t>>, Memory>
-    ensures { (e : Element) → Stands spot.entry e → IfOk result (λ r. IsSpot r (elements.first_within e (map (λ n. n.now) names.now))) }
+    ensures { (e : Element) → StandsAt spot.entry e → IfOk result (λ r. IsSpot r (elements.first_within e (map (λ n. n.now) names.now))) }
 {
     let found = within(alloc, spot, names)?;
     Ok(first(found.as_slice()))

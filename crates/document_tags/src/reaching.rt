@@ -3,7 +3,7 @@
 ghost use Rattle.std.specs.Prelude.{◌≡◌, ◌↔◌, ◌<◌, ◌≤◌, [], ◌∷◌, IsTrue, OnOk, IfOk, length, drop, map};
 ghost use Rattle.element_tree.specs.Items.{event_at, attributes_of};
 ghost use Rattle.document_tags.specs.Tags.{begun, with_text, tags_from, path_eq};
-ghost use Rattle.document_tags.specs.Coming.{levels_of, left, to_come};
+ghost use Rattle.document_tags.specs.NextTags.{levels_of, left, to_come};
 
 use crate::place::{Opened, Reached};
 use element_tree::{Item, Tree};

@@ -21,11 +21,11 @@ impl<'t> Spot<'t> {
     ghost use Rattle.std.specs.Prelude.{◌≡◌, ◌++◌, [], ◌∷◌, List, None, Some, IfOk, OnOk, MatchOption, IfSome, IsSome};
     ghost use Rattle.tree_grammar.specs.Elements.{Element, events};
     ghost use Rattle.document_tags.specs.Elements as elements;
-    ghost use Rattle.document_tags.specs.Spots.{Stands, AreSpots};
+    ghost use Rattle.document_tags.specs.Spots.{StandsAt, AreSpots};
 
     /// A tree's root; none where there are no events, as there are in each tree.
     pub fn root(tree: &'t Tree) -> Option<Spot<'t>>
-        ensures stands { (e : Element) → tree.now ≡ events e → IfSome result (λ s. Stands s e) }
+        ensures stands { (e : Element) → tree.now ≡ events e → IfSome result (λ s. StandsAt s e) }
         ensures some { (e : Element) → tree.now ≡ events e → IsSome result }
     {
         if tree.len() > 0 {
@@ -37,7 +37,7 @@ impl<'t> Spot<'t> {
 
     /// The element's name.
     pub fn name(&self) -> &'t [u8]
-        ensures { (e : Element) → Stands self.now e → result.now ≡ e.name }
+        ensures { (e : Element) → StandsAt self.now e → result.now ≡ e.name }
     {
         match self.tree.event(self.at) {
             Item::Open { name } => name,
@@ -47,14 +47,14 @@ impl<'t> Spot<'t> {
 
     /// The value of the attribute of this name, if there is one.
     pub fn attribute(&self, name: &[u8]) -> Option<&'t [u8]>
-        ensures { (e : Element) → Stands self.now e → MatchOption result (elements.attribute e name.now ≡ None) (λ v. elements.attribute e name.now ≡ Some v.now) }
+        ensures { (e : Element) → StandsAt self.now e → MatchOption result (elements.attribute e name.now ≡ None) (λ v. elements.attribute e name.now ≡ Some v.now) }
     {
         value_at(self.tree, self.at, name)
     }
 
     /// The characters that stand in the element, and not in an element in it.
     pub fn own_text(&self, alloc: Global) -> Result<Text, Memory>
-        ensures { (e : Element) → Stands self.now e → IfOk result (λ t. t ≡ elements.own_text e) }
+        ensures { (e : Element) → StandsAt self.now e → IfOk result (λ t. t ≡ elements.own_text e) }
     {
         let mut out = Text::new(alloc);
         let mut at = self.at + 1;
@@ -73,7 +73,7 @@ impl<'t> Spot<'t> {
 
     /// Adds this element, if it has this name.
     fn push_named(&self, name: &[u8], out: &mut Vec<Spot<'t>>) -> Result<(), Memory>
-        ensures { (e : Element) (es : List Element) → Stands self.now e → AreSpots out.old.items es → OnOk result (AreSpots out.new.items (es ++ elements.named name.now (e ∷ []))) }
+        ensures { (e : Element) (es : List Element) → StandsAt self.now e → AreSpots out.old.items es → OnOk result (AreSpots out.new.items (es ++ elements.named name.now (e ∷ []))) }
     {
         if self.name() == name {
             out.push(*self)?;
@@ -83,7 +83,7 @@ impl<'t> Spot<'t> {
 
     /// Adds the child elements of this name.
     pub fn push_children(&self, name: &[u8], out: &mut Vec<Spot<'t>>) -> Result<(), Memory>
-        ensures { (e : Element) (es : List Element) → Stands self.now e → AreSpots out.old.items es → OnOk result (AreSpots out.new.items (es ++ elements.children_named name.now e)) }
+        ensures { (e : Element) (es : List Element) → StandsAt self.now e → AreSpots out.old.items es → OnOk result (AreSpots out.new.items (es ++ elements.children_named name.now e)) }
     {
         let tree = self.tree;
         let mut start = self.at + 1;

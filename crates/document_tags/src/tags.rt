@@ -3,7 +3,7 @@
 ghost use Rattle.std.specs.Prelude.{◌≡◌, ◌↔◌, ◌<◌, IsTrue, None, Some, MatchOption, OnOk, IfOk, Bool, List, [], length, drop, map};
 ghost use Rattle.document_tags.specs.Elements.{value_of};
 ghost use Rattle.document_tags.specs.Tags.{Level, level_tag, tags_from, path_eq, begins, ends};
-ghost use Rattle.document_tags.specs.Coming.{level_of, coming};
+ghost use Rattle.document_tags.specs.NextTags.{level_of, coming};
 
 use crate::attributes::value_at;
 use crate::place::Opened;
@@ -31,7 +31,7 @@ pub struct Tags<'t> {
 impl<'t> Model for Tags<'t> {
     ghost use Rattle.std.specs.Prelude.{List, ◌≤◌, drop, length};
     ghost use Rattle.document_tags.specs.Tags.{Tag};
-    ghost use Rattle.document_tags.specs.Coming.{levels_of, to_come};
+    ghost use Rattle.document_tags.specs.NextTags.{levels_of, to_come};
 
     ghost Value = { List Tag };
 

@@ -2,7 +2,7 @@
 
 ghost use Rattle.std.specs.Prelude.{◌≡◌, ◌++◌, [], OnOk, IfOk};
 ghost use Rattle.tree_grammar.specs.Elements.{Element, events};
-ghost use Rattle.tree_grammar.specs.Written.{written};
+ghost use Rattle.tree_grammar.specs.WrittenText.{written};
 ghost use Rattle.element_tree.specs.Building.{said};
 ghost use Rattle.element_tree.specs.Nesting.{IsOneElement};
 ghost use Rattle.document_tags.specs.Writing.{with_attribute, only};

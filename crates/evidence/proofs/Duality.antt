@@ -4,7 +4,7 @@ use Rattle.rational.specs.Ratio.{Ratio, sum, product, negative, IsNumber, IsAtMo
 use Rattle.evidence.specs.Sums.{none, total}
 use Rattle.evidence.specs.Instance.{Range, Instance, IsInstance, HasNumbers, Sense, Minimum, Maximum, width, cost_at, coefficient_at, column_at, minimising, minimising_by}
 use Rattle.evidence.specs.Point.{value_at, objective, IsBetween, IsFeasible}
-use Rattle.evidence.specs.Cases.{Multiplier, multiplier_at, end_by, end_of, or_none, form, low_sum, IsLegal, IsEmpty, IsFarkas, IsBound}
+use Rattle.evidence.specs.Cases.{Multiplier, multiplier_at, end_by, end_of, or_none, form, low_sum, AreLegal, IsEmpty, IsFarkas, IsBound}
 use Rattle.evidence.proofs.Numbers.{◌≈◌, ◌≲◌, ◌⋖◌, ≈-refl, ≈-from, ≈-sym, ◌⊙◌, ◌▹◌, ≲-is, ≲-from, ≲-trans, ⋖-absurd, sum-≈, product-≈, product_up, product_down, product-number, product-none, product_swap, product_assoc, sum-none, negative-product}
 use Rattle.evidence.proofs.Totals.{total-number, total-≈, total-≲, total_swap, total-none, product-total, total-start, total-same, total-negative}
 use Rattle.evidence.proofs.Columns.{none-number, value-number, All-anywhere, coefficient-number, column-numbers, column_value, column_value-number, between, column_sum}
@@ -22,7 +22,7 @@ by_sign : (n : ℤ) (d : ℕ) → 0 < d → (r : Range) → HasNumbers r → (v 
 by_sign (pos n) d up r h v p b s = product_up n d up (above_low r.lb v s h.0 p b.low)
 by_sign (negsuc n) d up r h v p b s = product_down n d up (below_high r.ub v s h.1 p b.high)
 
-module _ (I : Instance) (good : IsInstance I) (x : List Ratio) (f : IsFeasible I x) (ms : List Multiplier) (legal : IsLegal I ms) where
+module _ (I : Instance) (good : IsInstance I) (x : List Ratio) (f : IsFeasible I x) (ms : List Multiplier) (legal : AreLegal I ms) where
   abbrev y : ℕ → Ratio
   y k = (multiplier_at ms k).by
 

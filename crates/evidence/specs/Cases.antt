@@ -31,7 +31,7 @@ abbrev pub end_of : Instance → Multiplier → Option Ratio
 end_of I m = end_by m.by.num (column_at I m.column)
 
 -- multipliers by ascending columns, none 0, each with a finite end on its side: their sum of columns is then at least that of the ends
-pub record IsLegal (I : Instance) (ms : List Multiplier) : Type 0 where
+pub record AreLegal (I : Instance) (ms : List Multiplier) : Type 0 where
   pub numbers : All (λ m. IsNumber m.by) ms
   pub columns : All (λ m. m.column < width I + height I) ms
   pub ascending : (k : ℕ) → k + 1 < length ms → (multiplier_at ms k).column < (multiplier_at ms (k + 1)).column
@@ -57,13 +57,13 @@ IsEmpty r = (l u : Ratio) × (r.lb ≡ Some l) × (r.ub ≡ Some u) × IsBelow u
 
 -- no point is feasible: the sum of its columns would be 0, and above 0 (Farkas)
 pub record IsFarkas (I : Instance) (ms : List Multiplier) : Type 0 where
-  pub legal : IsLegal I ms
+  pub legal : AreLegal I ms
   pub vanishes : (j : ℕ) → j < width I → IsSame (form I ms j) none
   pub above : IsBelow none (low_sum I none ms)
 
 -- no point's minimising objective is below z: it is the sum of its columns, which is at least z (weak duality)
 pub record IsBound (I : Instance) (ms : List Multiplier) (z : Ratio) : Type 0 where
-  pub legal : IsLegal I ms
+  pub legal : AreLegal I ms
   pub costs : (j : ℕ) → j < width I → IsSame (form I ms j) (minimising I (cost_at I j))
   pub reaches : IsAtMost z (low_sum I (minimising I I.goal.constant) ms)
 

@@ -27,8 +27,8 @@ abbrev pub half_a_proof : Claim
 half_a_proof = Optimal (whole (pos 2) ∷ []) (whole (pos 2)) (SplitAt 0 (pos 2) ∷ BoundBy (times 0 (negsuc 0) ∷ []) ∷ [])
 
 -- the greatest whole x with 2 x = 3 y
-abbrev pub slope : Instance
-slope = record {
+abbrev pub slope_example : Instance
+slope_example = record {
   variables = record { range = record { lb = Some none; ub = None }; whole = true } ∷ record { range = record { lb = Some none; ub = None }; whole = true } ∷ [];
   rows = record { lb = Some none; ub = Some none } ∷ [];
   entries = record { row = 0; variable = 0; value = whole (pos 2) } ∷ record { row = 0; variable = 1; value = whole (negsuc 2) } ∷ [];

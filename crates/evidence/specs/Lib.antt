@@ -5,7 +5,7 @@ pub mod Point
 pub mod Cases
 pub mod Claim
 pub mod Width
-pub mod Pending
+pub mod PendingNodes
 pub mod OneDenominator
 pub mod Examples
 pub mod Columns

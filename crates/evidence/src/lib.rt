@@ -18,8 +18,8 @@ ghost use Rattle.evidence.specs.OneDenominator.{IsCommon, denominators, IsOverOn
 ghost use Rattle.evidence.specs.Cases.{Tree, Node, Multiplier, preorder, ClashAt, FarkasBy, BoundBy, SplitAt, IsEmpty, IsFarkas, IsBound, IsBranch, at_most, at_least};
 ghost use Rattle.evidence.specs.Width.{LeafFits, ProvesWithin};
 ghost use Rattle.evidence.specs.Claim.{Claim, Accepts, IsTrueOf};
-ghost use Rattle.evidence.specs.Pending.{ShowsAll};
-ghost use Rattle.evidence.specs.Examples.{halves, two, half_a_proof, slope, upwards};
+ghost use Rattle.evidence.specs.PendingNodes.{ShowsAll};
+ghost use Rattle.evidence.specs.Examples.{halves, two, half_a_proof, slope_example, upwards};
 ghost use Rattle.std.specs.Prelude.{◌≡◌, Option, None, Some, [], ◌∷◌, ◌+◌, ◌<◌, pos, ◌+ℤ◌, ◌↔◌, ℕ, ℤ, List};
 ghost use Rattle.std.specs.List.{All};
 
@@ -33,7 +33,7 @@ pub fn accepted_is_true()
 pub fn some_claims_are_accepted()
     ensures branching { Accepts halves two }
     ensures half { Accepts halves half_a_proof → ⊥ }
-    ensures direction { Accepts slope upwards }
+    ensures direction { Accepts slope_example upwards }
 {}
 
 /// Feasible points may be read as lists of ratios or as whole numbers over one denominator, once the program's

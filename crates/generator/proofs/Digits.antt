@@ -10,9 +10,9 @@ use Rattle.fraction.specs.Frac.{ratio}
 use Rattle.decimal_text.specs.Plain.{PlainText, point_text}
 use Rattle.decimal_text.specs.Places.{HasPlaces}
 use Rattle.decimal_text.specs.Sign.{optional}
-use Rattle.decimal_text.proofs.Written.{reads_back, exact_same}
+use Rattle.decimal_text.proofs.WholeDecimals.{reads_back, exact_same}
 use Rattle.osil_grammar.specs.Writing.{HasDecimal}
-use Rattle.generator.specs.Generated.{natural}
+use Rattle.generator.specs.Instances.{natural}
 
 -- a whole number has no places
 places_of : (k : ℕ) → k ≤ most → HasPlaces k 1

@@ -1,5 +1,5 @@
 pub mod Naturals
 pub mod Digits
 pub mod Sizes
-pub mod Valid
+pub mod Validity
 pub mod Texts

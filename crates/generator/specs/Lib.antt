@@ -1,3 +1,3 @@
 pub use Rattle.fraction.specs.Frac
-pub mod Generated
+pub mod Instances
 pub mod Lines

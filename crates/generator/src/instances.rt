@@ -1,7 +1,7 @@
 //! Makes the instances.
 
 ghost use Rattle.std.specs.Prelude.{◌≡◌, ◌+◌, ◌-◌, ◌/◌, ◌≤◌, IfOk, replicate};
-ghost use Rattle.generator.specs.Generated.{variable, cost, entry, limit, group_count, each, generated};
+ghost use Rattle.generator.specs.Instances.{group_variable, cost, group_entry, row_limit, group_count, each, generated};
 
 use case_tree::whole;
 use fraction::{End, Entry, Frac};
@@ -14,7 +14,7 @@ const GROUP: u32 = 4;
 
 /// Variable `j`.
 fn variable(j: u32) -> Var
-    ensures { result ≡ variable j }
+    ensures { result ≡ group_variable j }
 {
     Var {
         lb: End::At(whole(0)),
@@ -32,7 +32,7 @@ fn cost(j: u32) -> Frac
 
 /// The entry of variable `j`.
 fn entry(j: u32) -> Entry
-    ensures { result ≡ entry j }
+    ensures { result ≡ group_entry j }
 {
     Entry {
         row: j / GROUP,
@@ -43,7 +43,7 @@ fn entry(j: u32) -> Entry
 
 /// The row of a group.
 fn limit() -> Row
-    ensures { result ≡ limit }
+    ensures { result ≡ row_limit }
 {
     Row {
         lb: End::NegInf,
@@ -53,7 +53,7 @@ fn limit() -> Row
 
 /// The variables.
 fn variables(alloc: Global, n: u32) -> Result<Vec<Var>, Memory>
-    ensures { IfOk result (λ v. v.items ≡ each n variable) }
+    ensures { IfOk result (λ v. v.items ≡ each n group_variable) }
 {
     (0..n).map(|j| variable(j)).collect(alloc)
 }
@@ -67,14 +67,14 @@ fn costs(alloc: Global, n: u32) -> Result<Vec<Frac>, Memory>
 
 /// The entries of the variables.
 fn entries(alloc: Global, n: u32) -> Result<Vec<Entry>, Memory>
-    ensures { IfOk result (λ v. v.items ≡ each n entry) }
+    ensures { IfOk result (λ v. v.items ≡ each n group_entry) }
 {
     (0..n).map(|j| entry(j)).collect(alloc)
 }
 
 /// The rows of so many groups.
 fn rows(alloc: Global, count: u32) -> Result<Vec<Row>, Memory>
-    ensures { IfOk result (λ v. v.items ≡ replicate count limit) }
+    ensures { IfOk result (λ v. v.items ≡ replicate count row_limit) }
 {
     vec![in alloc; limit(); count as usize]
 }

@@ -9,7 +9,7 @@ ghost use Rattle.osil_grammar.specs.declared.fault.EncodeFault.TheVariants as wr
 ghost use Rattle.osil_grammar.specs.Reading.{IsInstanceText, DecodeFails};
 ghost use Rattle.osil_grammar.specs.Telling.{EncodeFails};
 ghost use Rattle.osil_grammar.specs.Writing.{HasDecimals, IsWrittenText};
-ghost use Rattle.generator.specs.Generated.{generated};
+ghost use Rattle.generator.specs.Instances.{generated};
 
 use decimal_text::decimals_have_one_text;
 use osil_grammar::{instances_are_read_back, written_text_is_of_one_instance};

@@ -33,8 +33,8 @@ abbrev pub is_named : List ℕ → List ℕ × List ℕ → Bool
 is_named name field = str_eq_ignore_ascii_case field.0 name
 
 -- the values of the fields of that name, without the white space round them
-abbrev pub values_of : List ℕ → List (List ℕ × List ℕ) → List (List ℕ)
-values_of name fields = map (λ field. field.1) (filter (is_named name) fields)
+abbrev pub field_values : List ℕ → List (List ℕ × List ℕ) → List (List ℕ)
+field_values name fields = map (λ field. field.1) (filter (is_named name) fields)
 
 -- Content-Length = 1*DIGIT
 abbrev pub is_number : List ℕ → Bool
@@ -64,14 +64,14 @@ length_by most (value ∷ values) =
     else Err BadRequest
 
 -- without the white space round it, which in a head's values is of spaces and tabs alone
-abbrev pub trimmed : List ℕ → List ℕ
-trimmed item =
+abbrev pub trimmed_value : List ℕ → List ℕ
+trimmed_value item =
     let behind = drop (prefix_len is_ascii_whitespace item) item in
     take (length behind - suffix_len is_ascii_whitespace behind) behind
 
 -- an item without the white space round it is `close`, whatever the case
 abbrev pub is_close : List ℕ → Bool
-is_close item = str_eq_ignore_ascii_case (trimmed item) (codes "close")
+is_close item = str_eq_ignore_ascii_case (trimmed_value item) (codes "close")
 
 -- a list of items, which commas part, has `close` among them
 abbrev pub lists_close : List ℕ → Bool
@@ -79,7 +79,7 @@ lists_close value = list_any is_close (slice_split (λ b. b == 44) value)
 
 -- the connection is to close behind the request: HTTP/1.0 asks so, and a Connection field that lists `close`
 abbrev pub asks_to_close : ℕ → List (List ℕ × List ℕ) → Bool
-asks_to_close minor fields = (minor == 0) || list_any lists_close (values_of (codes "connection") fields)
+asks_to_close minor fields = (minor == 0) || list_any lists_close (field_values (codes "connection") fields)
 
 -- what a head that is accepted says: the body's length, and whether the connection is to close behind it
 abbrev pub accepted : ℕ → Bool → Accepted
@@ -96,7 +96,7 @@ outcome_of_parts method minor fields =
     if has_bad_host minor fields then Err BadRequest
     else (if bytes_eq method (codes "POST")
     then (if nat_lt 0 (count_by (is_named (codes "transfer-encoding")) fields) then Err NotImplemented
-    else accepted_if (length_by most_body (values_of (codes "content-length") fields)) (asks_to_close minor fields))
+    else accepted_if (length_by most_body (field_values (codes "content-length") fields)) (asks_to_close minor fields))
     else Err MethodNotAllowed)
 
 -- the same of a head of the grammar
@@ -114,8 +114,8 @@ ReadsWithin most bytes outcome =
     ⊎ ((h : RequestHead) × ReadsRequest bytes h [] × (length h.fields ≤ most) × (outcome ≡ outcome_of h))
 
 -- what comes of the bytes of a head that isn't too large
-abbrev pub Reads : List ℕ → Result Accepted Refusal → Type 0
-Reads bytes outcome =
+abbrev pub ReadsHead : List ℕ → Result Accepted Refusal → Type 0
+ReadsHead bytes outcome =
     (((h : RequestHead) → ¬ (ReadsRequest bytes h [])) × (outcome ≡ Err BadRequest))
     ⊎ ((h : RequestHead) × ReadsRequest bytes h [] × (outcome ≡ outcome_of h))
 
@@ -123,7 +123,7 @@ Reads bytes outcome =
 abbrev pub ReadsLines : ℕ → List ℕ → Result Accepted Refusal → Type 0
 ReadsLines lines bytes outcome =
     ((most_fields < lines) × (outcome ≡ Err HeadTooLarge))
-    ⊎ ((lines ≤ most_fields) × Reads bytes outcome)
+    ⊎ ((lines ≤ most_fields) × ReadsHead bytes outcome)
 
 -- what comes of a head: what it says, or a refusal. Where its end isn't among as many bytes as a head may have, those bytes are taken for it
 abbrev pub Head : List ℕ → Result Accepted Refusal → Type 0

@@ -4,4 +4,4 @@ pub mod Requests
 pub mod Responses
 pub mod Replies
 pub mod Outgoing
-pub mod Carrying
+pub mod Carry

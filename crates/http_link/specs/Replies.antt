@@ -2,7 +2,7 @@
 use Rattle.std.specs.Prelude.{◌≡◌, ℕ, ◌+◌, ◌<◌, ◌≤◌, ◌⊎◌, Bool, ◌==◌, ◌||◌, nat_lt, nat_le, IsTrue, List, [], ◌++◌, length, map, count_by, if◌then◌else◌, codes, Option, None, Some, Result, Ok, Err}
 use Rattle.httparse.specs.Grammar.{ResponseHead, ReadsResponse, status_code}
 use Rattle.httparse.specs.Spans.{name_and_value}
-use Rattle.os_io.specs.Streams.{Told}
+use Rattle.os_io.specs.Streams.{BothTold}
 use Rattle.http_link.specs.declared.refusal.Refusal.{Refusal}
 use Rattle.http_link.specs.declared.refusal.Refusal.TheVariants.{BadRequest, MethodNotAllowed, LengthRequired, ContentTooLarge, HeadTooLarge, NotImplemented, ServiceUnavailable}
 use Rattle.http_link.specs.declared.requests.LinkFault.{LinkFault}
@@ -11,7 +11,7 @@ use Rattle.http_link.specs.declared.replies.ReplyHead.{ReplyHead}
 use Rattle.http_link.specs.declared.replies.Response.{Response}
 use Rattle.http_link.specs.declared.replies.Came.{Came}
 use Rattle.http_link.specs.Lines.{HeadLines, AreHeadLines, print_head, HasNoHead}
-use Rattle.http_link.specs.Checks.{most_head, most_fields, is_named, values_of, length_by}
+use Rattle.http_link.specs.Checks.{most_head, most_fields, is_named, field_values, length_by}
 use Rattle.http_link.specs.Requests.{IsHeadBegun, IsHeadPart}
 
 -- most bytes of a response's body
@@ -28,7 +28,7 @@ says_by status (Err refusal) = None
 abbrev pub says_of_parts : ℕ → List (List ℕ × List ℕ) → Option ReplyHead
 says_of_parts status fields =
     if nat_lt 0 (count_by (is_named (codes "transfer-encoding")) fields) then None
-    else says_by status (length_by most_reply (values_of (codes "content-length") fields))
+    else says_by status (length_by most_reply (field_values (codes "content-length") fields))
 
 -- the same of a head of the grammar
 abbrev pub says_of : ResponseHead → Option ReplyHead
@@ -73,8 +73,8 @@ abbrev pub is_whole : ReplyHead → ℕ → Bool
 is_whole says count = if has_body says.status then fills says.len count else (count == 0)
 
 -- a head that isn't refused, and bytes behind it, so many as stands to the most that are read
-abbrev pub Behind : (ℕ → ℕ → Type 0) → List ℕ → Type 0
-Behind Stands bytes =
+abbrev pub HeadAndMore : (ℕ → ℕ → Type 0) → List ℕ → Type 0
+HeadAndMore Stands bytes =
     (head : List ℕ) × (body : List ℕ) × (says : ReplyHead) × HeadSays head (Some says) × (bytes ≡ head ++ body)
     × Stands (length body) (most_of says)
 
@@ -85,34 +85,34 @@ IsReply bytes status body =
     × (status ≡ says.status) × IsTrue (is_whole says (length body))
 
 -- bytes after which nothing is read, whatever follows: a head that is refused, or one with as much behind it as is read
-abbrev pub IsDone : List ℕ → Type 0
-IsDone bytes = HeadSays bytes None ⊎ Behind (λ count most. count ≡ most) bytes
+abbrev pub IsReadWhole : List ℕ → Type 0
+IsReadWhole bytes = HeadSays bytes None ⊎ HeadAndMore (λ count most. count ≡ most) bytes
 
 -- bytes after which more is read
 abbrev pub IsReplyBegun : List ℕ → Type 0
-IsReplyBegun bytes = IsHeadBegun bytes ⊎ Behind (λ count most. count < most) bytes
+IsReplyBegun bytes = IsHeadBegun bytes ⊎ HeadAndMore (λ count most. count < most) bytes
 
 -- a first part of the bytes that are read, or all of them
 abbrev pub IsReplyPart : List ℕ → Type 0
-IsReplyPart bytes = IsHeadPart bytes ⊎ Behind (λ count most. count ≤ most) bytes
+IsReplyPart bytes = IsHeadPart bytes ⊎ HeadAndMore (λ count most. count ≤ most) bytes
 
 -- these bytes are read of all that come: nothing is read behind them, or nothing comes
 abbrev pub EndsReading : List ℕ → Type 0 → Type 0
-EndsReading bytes Ended = IsDone bytes ⊎ (IsReplyBegun bytes × Ended)
+EndsReading bytes Ended = IsReadWhole bytes ⊎ (IsReplyBegun bytes × Ended)
 
 -- these bytes came, by the bytes to come before and after them, where they are told
-pub record Comes (bytes : List ℕ) (left left' : Option (List ℕ)) : Type 0 where
-  pub taken : Told left left' (λ before after. before ≡ bytes ++ after)
-  pub ends : EndsReading bytes (Told left left' (λ before after. after ≡ []))
+pub record BytesCome (bytes : List ℕ) (left left' : Option (List ℕ)) : Type 0 where
+  pub taken : BothTold left left' (λ before after. before ≡ bytes ++ after)
+  pub ends : EndsReading bytes (BothTold left left' (λ before after. after ≡ []))
 
 -- a part of these came, where the reading failed
 abbrev pub ComesPart : (List ℕ → Type 0) → Option (List ℕ) → Option (List ℕ) → Type 0
 ComesPart IsPart left left' =
-    (taken : List ℕ) × IsPart taken × Told left left' (λ before after. before ≡ taken ++ after)
+    (taken : List ℕ) × IsPart taken × BothTold left left' (λ before after. before ≡ taken ++ after)
 
 -- what came, or what of it was lost
 abbrev pub Brings : Result Came LinkFault → Option (List ℕ) → Option (List ℕ) → Type 0
-Brings (Ok came) left left' = Comes came.bytes left left'
+Brings (Ok came) left left' = BytesCome came.bytes left left'
 Brings (Err ReadFault) left left' = ComesPart IsReplyBegun left left'
 Brings (Err Memory) left left' = ComesPart IsReplyPart left left'
 

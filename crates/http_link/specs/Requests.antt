@@ -1,6 +1,6 @@
 -- Requests in a stream of bytes (RFC 9112, sections 2 and 6).
 use Rattle.std.specs.Prelude.{◌≡◌, ℕ, ◌<◌, ◌≤◌, ◌⊎◌, Bool, List, [], ◌∷◌, ◌++◌, length, Option, None, Some, Result, Ok, Err, ⊤}
-use Rattle.os_io.specs.Streams.{Told, HasRisen}
+use Rattle.os_io.specs.Streams.{BothTold, HasRisen}
 use Rattle.http_link.specs.declared.refusal.Refusal.{Refusal}
 use Rattle.http_link.specs.declared.requests.Incoming.{Incoming}
 use Rattle.http_link.specs.declared.requests.Incoming.TheVariants.{Whole as WholeRequest, Refused, Cut, Ended}
@@ -58,13 +58,13 @@ pub record EndedBetween (bytes : List ℕ) : Type 0 where
   pub fits : length bytes < most_head
 
 -- what the bytes that an answer took from the input are
-abbrev pub Shows : Result Incoming LinkFault → List ℕ → Type 0
-Shows (Ok (WholeRequest request)) taken = IsRequest taken request.close request.body
-Shows (Ok (Refused refusal)) taken = Head taken (Err refusal)
-Shows (Ok Cut) taken = IsCut taken
-Shows (Ok Ended) taken = EndedBetween taken
-Shows (Err ReadFault) taken = IsBegun taken
-Shows (Err Memory) taken = IsRequestPart taken
+abbrev pub ShowsTaken : Result Incoming LinkFault → List ℕ → Type 0
+ShowsTaken (Ok (WholeRequest request)) taken = IsRequest taken request.close request.body
+ShowsTaken (Ok (Refused refusal)) taken = Head taken (Err refusal)
+ShowsTaken (Ok Cut) taken = IsCut taken
+ShowsTaken (Ok Ended) taken = EndedBetween taken
+ShowsTaken (Err ReadFault) taken = IsBegun taken
+ShowsTaken (Err Memory) taken = IsRequestPart taken
 
 -- the input ended, where the answer says so
 abbrev pub EndsWith : Result Incoming LinkFault → List ℕ → Type 0
@@ -75,10 +75,10 @@ EndsWith (Ok Ended) rest = rest ≡ []
 EndsWith (Err fault) rest = ⊤
 
 -- an answer, by the bytes to come before and after it, where they are told
-abbrev pub Answers : Result Incoming LinkFault → Option (List ℕ) → Option (List ℕ) → Type 0
-Answers answer left left' =
-    (taken : List ℕ) × Shows answer taken
-    × Told left left' (λ before after. (before ≡ taken ++ after) × EndsWith answer after)
+abbrev pub AnswersTaken : Result Incoming LinkFault → Option (List ℕ) → Option (List ℕ) → Type 0
+AnswersTaken answer left left' =
+    (taken : List ℕ) × ShowsTaken answer taken
+    × BothTold left left' (λ before after. (before ≡ taken ++ after) × EndsWith answer after)
 
 -- a fault in reading is counted, and nothing else is
 abbrev pub CountsFault : {X : Type 0} → Result X LinkFault → ℕ → ℕ → Type 0
@@ -108,7 +108,7 @@ HeadEnds (Err fault) rest = ⊤
 abbrev pub AnswersHead : Result HeadRead LinkFault → Option (List ℕ) → Option (List ℕ) → Type 0
 AnswersHead answer left left' =
     (taken : List ℕ) × ShowsHead answer taken
-    × Told left left' (λ before after. (before ≡ taken ++ after) × HeadEnds answer after)
+    × BothTold left left' (λ before after. (before ≡ taken ++ after) × HeadEnds answer after)
 
 -- the next byte is taken, or the input has ended
 abbrev pub TakesByte : Option ℕ → List ℕ → List ℕ → Type 0
@@ -119,12 +119,12 @@ TakesByte (Some byte) before after = before ≡ byte ∷ after
 abbrev pub AddsPiece : Option (List ℕ) → Option (List ℕ) → List ℕ → List ℕ → ℕ → ℕ → Type 0
 AddsPiece left left' body body' most count =
     (piece : List ℕ) × (body' ≡ body ++ piece) × (length piece ≡ count) × (count ≤ most)
-    × Told left left' (λ before after. (before ≡ piece ++ after) × (count ≡ 0 → after ≡ []))
+    × BothTold left left' (λ before after. (before ≡ piece ++ after) × (count ≡ 0 → after ≡ []))
 
 -- some bytes were taken, and no more than so many
 abbrev pub LosesPiece : Option (List ℕ) → Option (List ℕ) → ℕ → Type 0
 LosesPiece left left' most =
-    (piece : List ℕ) × (length piece ≤ most) × Told left left' (λ before after. (before ≡ piece ++ after) × ⊤)
+    (piece : List ℕ) × (length piece ≤ most) × BothTold left left' (λ before after. (before ≡ piece ++ after) × ⊤)
 
 -- what the bytes are that the reading of a body took
 abbrev pub ShowsBody : ℕ → Result BodyRead LinkFault → List ℕ → Type 0
@@ -143,7 +143,7 @@ BodyEnds (Err fault) rest = ⊤
 abbrev pub AnswersBody : ℕ → Result BodyRead LinkFault → Option (List ℕ) → Option (List ℕ) → Type 0
 AnswersBody len answer left left' =
     (taken : List ℕ) × ShowsBody len answer taken
-    × Told left left' (λ before after. (before ≡ taken ++ after) × BodyEnds answer after)
+    × BothTold left left' (λ before after. (before ≡ taken ++ after) × BodyEnds answer after)
 
 -- the bytes begin with a request
 abbrev pub BeginsWithRequest : List ℕ → Type 0

@@ -40,6 +40,6 @@ allowed_by NotImplemented = []
 allowed_by ServiceUnavailable = []
 
 -- a refusal, which has no body and closes the connection
-abbrev pub refusal_text : Refusal → List ℕ
-refusal_text refusal =
+abbrev pub refusal_bytes : Refusal → List ℕ
+refusal_bytes refusal =
     codes "HTTP/1.1 " ++ (code_and_phrase refusal ++ (codes "\r\n" ++ (allowed_by refusal ++ codes "Connection: close\r\nContent-Length: 0\r\n\r\n")))

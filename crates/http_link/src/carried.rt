@@ -1,7 +1,7 @@
 //! A link with bytes that were read ahead of it.
 ghost use Rattle.std.specs.Prelude.{◌≡◌, ℕ, ◌≤◌, ◌<◌, ◌++◌, [], length, IsTrue, ◌↔◌, OnOk, OnErr, None, Some};
-ghost use Rattle.os_io.specs.Streams.{Tells, Told, Takes, Counts, SameOutput};
-ghost use Rattle.http_link.specs.Carrying.{with_carry, tells_ahead};
+ghost use Rattle.os_io.specs.Streams.{Tells, BothTold, Takes, Counts, SameOutput};
+ghost use Rattle.http_link.specs.Carry.{with_carry, tells_ahead};
 
 use os_io::{Failed, Link, Sink, Source, Stream};
 use std::marker::Model;
@@ -62,8 +62,8 @@ impl Carry {
     /// Reads some bytes. None are carried then where the input is at its end.
     fn fill<S: Source>(&mut self, source: &mut S) -> Result<(), Failed>
         requires { self.old ≡ [] }
-        ensures ok { OnOk result (Told (S.tells source.old).left (S.tells source.new).left (λ before after. before ≡ self.new ++ after)) }
-        ensures end { OnOk result (self.new ≡ [] → Told (S.tells source.old).left (S.tells source.new).left (λ before after. before ≡ [])) }
+        ensures ok { OnOk result (BothTold (S.tells source.old).left (S.tells source.new).left (λ before after. before ≡ self.new ++ after)) }
+        ensures end { OnOk result (self.new ≡ [] → BothTold (S.tells source.old).left (S.tells source.new).left (λ before after. before ≡ [])) }
         ensures err { OnErr result ((self.new ≡ []) × ((S.tells source.new).left ≡ (S.tells source.old).left)) }
         ensures counted { Counts result (S.tells source.old).read_faults (S.tells source.new).read_faults }
         ensures output { SameOutput (S.tells source.old) (S.tells source.new) }
@@ -112,7 +112,7 @@ impl<L: Stream> Carried<L> {
 }
 
 impl<L: Stream> Stream for Carried<L> {
-    ghost use Rattle.http_link.specs.Carrying.{tells_ahead};
+    ghost use Rattle.http_link.specs.Carry.{tells_ahead};
 
     ghost tells = { λ c. tells_ahead c.carry (L.tells c.link) };
 }
@@ -120,8 +120,8 @@ impl<L: Stream> Stream for Carried<L> {
 impl<L: Source> Carried<L> {
     /// Reads ahead where nothing is carried. Nothing is then only at the end of the input.
     fn refill(&mut self) -> Result<(), Failed>
-        ensures same { OnOk result (Told (with_carry self.old.carry (L.tells self.old.link).left) (with_carry self.new.carry (L.tells self.new.link).left) (λ before after. before ≡ after)) }
-        ensures end { OnOk result (self.new.carry ≡ [] → Told (with_carry self.old.carry (L.tells self.old.link).left) (with_carry self.new.carry (L.tells self.new.link).left) (λ before after. before ≡ [])) }
+        ensures same { OnOk result (BothTold (with_carry self.old.carry (L.tells self.old.link).left) (with_carry self.new.carry (L.tells self.new.link).left) (λ before after. before ≡ after)) }
+        ensures end { OnOk result (self.new.carry ≡ [] → BothTold (with_carry self.old.carry (L.tells self.old.link).left) (with_carry self.new.carry (L.tells self.new.link).left) (λ before after. before ≡ [])) }
         ensures err { OnErr result (with_carry self.new.carry (L.tells self.new.link).left ≡ with_carry self.old.carry (L.tells self.old.link).left) }
         ensures counted { Counts result (L.tells self.old.link).read_faults (L.tells self.new.link).read_faults }
         ensures output { SameOutput (L.tells self.old.link) (L.tells self.new.link) }

@@ -4,7 +4,7 @@ ghost use Rattle.std.specs.Char.{is_ascii_digit};
 ghost use Rattle.std.specs.Option.{option_copied};
 ghost use Rattle.std.specs.Str.Parse.{digits_value};
 ghost use Rattle.httparse.specs.Spans.{header_bytes, IsHeaderWithin};
-ghost use Rattle.http_link.specs.Checks.{is_named, is_number, values_of, writes_number, most_body, most_counted, has_bad_host, asks_to_close, lists_close, is_close, outcome_of_parts, length_by, without_zeros, ReadsWithin};
+ghost use Rattle.http_link.specs.Checks.{is_named, is_number, field_values, writes_number, most_body, most_counted, has_bad_host, asks_to_close, lists_close, is_close, outcome_of_parts, length_by, without_zeros, ReadsWithin};
 
 use crate::Refusal;
 use httparse::Status;
@@ -84,7 +84,7 @@ fn asks_to_close(head: &[u8], minor: u8, headers: &[HeaderSpan]) -> bool
 /// Whether a `Connection` field lists `close`.
 fn any_lists_close(head: &[u8], headers: &[HeaderSpan]) -> bool
     requires { All (IsHeaderWithin (length head.now)) headers.now }
-    ensures { result ≡ list_any lists_close (values_of (codes "connection") (map (header_bytes head.now) headers.now)) }
+    ensures { result ≡ list_any lists_close (field_values (codes "connection") (map (header_bytes head.now) headers.now)) }
 {
     for header in headers {
         if has_name(head, header, b"connection") && lists_close(header.value.of(head)) {
@@ -116,7 +116,7 @@ pub(crate) fn body_length(
 ) -> Result<usize, Refusal>
     requires within { All (IsHeaderWithin (length head.now)) headers.now }
     requires counted { most ≤ most_counted }
-    ensures { result ≡ length_by most (values_of (codes "content-length") (map (header_bytes head.now) headers.now)) }
+    ensures { result ≡ length_by most (field_values (codes "content-length") (map (header_bytes head.now) headers.now)) }
 {
     let Some(value) = first_value(head, headers, b"content-length") else {
         return Err(Refusal::LengthRequired);
@@ -152,7 +152,7 @@ pub(crate) fn count_named(head: &[u8], headers: &[HeaderSpan], name: &[u8]) -> u
 /// The value of the first header of that name.
 fn first_value<'b>(head: &'b [u8], headers: &[HeaderSpan], name: &[u8]) -> Option<&'b [u8]>
     requires { All (IsHeaderWithin (length head.now)) headers.now }
-    ensures { option_copied result ≡ slice_get (values_of name.now (map (header_bytes head.now) headers.now)) 0 }
+    ensures { option_copied result ≡ slice_get (field_values name.now (map (header_bytes head.now) headers.now)) 0 }
 {
     for header in headers {
         if has_name(head, header, name) {
@@ -166,7 +166,7 @@ fn first_value<'b>(head: &'b [u8], headers: &[HeaderSpan], name: &[u8]) -> Optio
 fn all_write(head: &[u8], headers: &[HeaderSpan], name: &[u8], value: &[u8]) -> bool
     requires within { All (IsHeaderWithin (length head.now)) headers.now }
     requires number { IsTrue (is_number value.now) }
-    ensures { result ≡ list_all (writes_number (digits_value 10 value.now)) (values_of name.now (map (header_bytes head.now) headers.now)) }
+    ensures { result ≡ list_all (writes_number (digits_value 10 value.now)) (field_values name.now (map (header_bytes head.now) headers.now)) }
 {
     for header in headers {
         if has_name(head, header, name) && !writes_same(header.value.of(head), value) {

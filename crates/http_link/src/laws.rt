@@ -5,8 +5,8 @@ ghost use Rattle.http_link.specs.declared.checks.Accepted.{Accepted};
 ghost use Rattle.http_link.specs.Checks.{most_body, Head};
 ghost use Rattle.http_link.specs.Outgoing.{request_text};
 ghost use Rattle.http_link.specs.Requests.{IsRequest, IsBegun, IsRequestPart, IsCut, EndedBetween};
-ghost use Rattle.http_link.specs.Responses.{answer_text, fault_answer_text, refusal_text};
-ghost use Rattle.http_link.specs.Replies.{most_reply, code_of, IsReply, IsDone, IsReplyBegun, IsReplyPart, EndsReading};
+ghost use Rattle.http_link.specs.Responses.{answer_text, fault_answer_text, refusal_bytes};
+ghost use Rattle.http_link.specs.Replies.{most_reply, code_of, IsReply, IsReadWhole, IsReplyBegun, IsReplyPart, EndsReading};
 ghost use Rattle.http_link.specs.declared.refusal.Refusal.{Refusal};
 
 /// Law: bytes begin with one head at most, and one thing comes of it: what it says, or a refusal.
@@ -59,7 +59,7 @@ pub fn one_reply_comes_first()
 /// Law: bytes behind which a client reads no more, and bytes behind which it reads on, are a first part of those that it reads, or all
 /// of them.
 pub fn what_came_is_a_part()
-    ensures done { (bytes : List ℕ) → IsDone bytes → IsReplyPart bytes }
+    ensures done { (bytes : List ℕ) → IsReadWhole bytes → IsReplyPart bytes }
     ensures begun { (bytes : List ℕ) → IsReplyBegun bytes → IsReplyPart bytes }
 {}
 
@@ -76,13 +76,13 @@ pub fn bytes_are_one_reply()
 /// Law: what [`write_answer`](crate::write_answer) writes is a whole reply with 200 and that body, and what
 /// [`write_fault_answer`](crate::write_fault_answer) writes is one with 500, where the body is within the limit of a client.
 pub fn answers_are_read_back()
-    ensures answer { (body : List ℕ) → length body ≤ most_reply → IsReply (answer_text body) 200 body × IsDone (answer_text body) }
-    ensures fault { (body : List ℕ) → length body ≤ most_reply → IsReply (fault_answer_text body) 500 body × IsDone (fault_answer_text body) }
+    ensures answer { (body : List ℕ) → length body ≤ most_reply → IsReply (answer_text body) 200 body × IsReadWhole (answer_text body) }
+    ensures fault { (body : List ℕ) → length body ≤ most_reply → IsReply (fault_answer_text body) 500 body × IsReadWhole (fault_answer_text body) }
 {}
 
 /// Law: what [`write_refusal`](crate::write_refusal) writes is a whole reply with its status.
 pub fn refusals_are_read_back()
-    ensures { (refusal : Refusal) → IsReply (refusal_text refusal) (code_of refusal) [] × IsDone (refusal_text refusal) }
+    ensures { (refusal : Refusal) → IsReply (refusal_bytes refusal) (code_of refusal) [] × IsReadWhole (refusal_bytes refusal) }
 {}
 
 /// Law: what [`write_request`](crate::write_request) writes is a request with that body, behind which the connection is to

@@ -1,10 +1,10 @@
 //! Requests on a source.
 ghost use Rattle.std.specs.Prelude.{◌≡◌, ◌≤◌, ◌<◌, ◌++◌, [], ℕ, List, length, Ok, Err, IfOk, OnOk, OnErr, IfErr};
 ghost use Rattle.http_link.specs.declared.requests.LinkFault.TheVariants.{ReadFault};
-ghost use Rattle.os_io.specs.Streams.{Told, Counts, SameOutput};
+ghost use Rattle.os_io.specs.Streams.{BothTold, Counts, SameOutput};
 ghost use Rattle.http_link.specs.Checks.{most_head, Head};
 ghost use Rattle.http_link.specs.Lines.{IsWholeHead};
-ghost use Rattle.http_link.specs.Requests.{Answers, AnswersHead, AnswersBody, AddsPiece, LosesPiece, CountsFault, TakesByte};
+ghost use Rattle.http_link.specs.Requests.{AnswersTaken, AnswersHead, AnswersBody, AddsPiece, LosesPiece, CountsFault, TakesByte};
 
 use crate::Refusal;
 use crate::checks::{Accepted, MOST_FIELDS, head_outcome};
@@ -84,7 +84,7 @@ const PIECE: usize = 4096;
 
 /// Reads the next byte, or finds the input at its end.
 fn read_byte<S: Source>(source: &mut S) -> Result<Option<u8>, Failed>
-    ensures byte { IfOk result (λ got. Told (S.tells source.old).left (S.tells source.new).left (TakesByte got)) }
+    ensures byte { IfOk result (λ got. BothTold (S.tells source.old).left (S.tells source.new).left (TakesByte got)) }
     ensures err { OnErr result ((S.tells source.new).left ≡ (S.tells source.old).left) }
     ensures counted { Counts result (S.tells source.old).read_faults (S.tells source.new).read_faults }
     ensures output { SameOutput (S.tells source.old) (S.tells source.new) }
@@ -177,7 +177,7 @@ pub(crate) fn read_body<S: Source>(
 /// The head is taken byte by byte, so a source with costly reads wants a buffer of its own. Where a read fails or there is
 /// no memory, what was taken is lost: a first part of one request, or all of it where there was no memory.
 pub fn read_request<S: Source>(alloc: Global, source: &mut S) -> Result<Incoming, LinkFault>
-    ensures answer { Answers result (S.tells source.old).left (S.tells source.new).left }
+    ensures answer { AnswersTaken result (S.tells source.old).left (S.tells source.new).left }
     ensures counted { CountsFault result (S.tells source.old).read_faults (S.tells source.new).read_faults }
     ensures output { SameOutput (S.tells source.old) (S.tells source.new) }
 {

@@ -1,7 +1,7 @@
 //! Responses on a sink.
 ghost use Rattle.std.specs.Prelude.{◌≡◌};
 ghost use Rattle.os_io.specs.Streams.{Writes};
-ghost use Rattle.http_link.specs.Responses.{behind, answer_text, fault_answer_text, refusal_text};
+ghost use Rattle.http_link.specs.Responses.{behind, answer_text, fault_answer_text, refusal_bytes};
 
 use crate::Refusal;
 use itoa::Buffer;
@@ -43,14 +43,14 @@ pub(crate) fn write_behind<S: Sink>(
 
 /// Writes a refusal, which has no body and closes the connection. Takes no memory, and doesn't flush.
 pub fn write_refusal<S: Sink>(sink: &mut S, refusal: Refusal) -> Result<(), Failed>
-    ensures { Writes result (refusal_text refusal) (S.tells sink.old) (S.tells sink.new) }
+    ensures { Writes result (refusal_bytes refusal) (S.tells sink.old) (S.tells sink.new) }
 {
     write_all(sink, text_of(refusal))
 }
 
 /// The bytes of a refusal.
 fn text_of(refusal: Refusal) -> &'static [u8]
-    ensures { result.now ≡ refusal_text refusal }
+    ensures { result.now ≡ refusal_bytes refusal }
 {
     match refusal {
         Refusal::BadRequest =>

@@ -16,7 +16,7 @@ use Rattle.instance.specs.declared.parts.Var.{Var}
 use Rattle.instance.specs.declared.parts.Row.{Row}
 use Rattle.instance.specs.Parts.{Parts}
 use Rattle.instance.specs.Program.{variable, row, program}
-use Rattle.instance.specs.Feasible.{KeptBelow, RowsKeptBelow, IsFirstRowWide, IsFeasibleWithin}
+use Rattle.instance.specs.Feasibility.{KeptBelow, RowsKeptBelow, IsFirstRowWide, IsFeasibleWithin}
 use Rattle.instance.proofs.Numbers.{range-numbers, program-instance}
 
 point-numbers : (x : List Frac) → All IsNumber (ratios x)

@@ -8,4 +8,4 @@ pub use Rattle.evidence.specs.Width
 pub use Rattle.evidence.specs.Columns
 pub mod Parts
 pub mod Program
-pub mod Feasible
+pub mod Feasibility

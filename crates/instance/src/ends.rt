@@ -5,7 +5,7 @@ ghost use Rattle.fraction.specs.Frac.{ratio};
 ghost use Rattle.evidence.specs.Point.{IsBetween};
 ghost use Rattle.evidence.specs.Columns.{Keeps};
 ghost use Rattle.instance.specs.Program.{limit, range, variable};
-ghost use Rattle.instance.specs.Feasible.{KeptBelow, IsFirstUnkept};
+ghost use Rattle.instance.specs.Feasibility.{KeptBelow, IsFirstUnkept};
 
 use crate::parts::Var;
 use fraction::{End, Frac};

@@ -47,7 +47,7 @@ impl Model for Instance {
 impl Instance {
     ghost use Rattle.instance.specs.Parts.{IsValid, IsAscending};
     ghost use Rattle.instance.specs.Program.{program};
-    ghost use Rattle.instance.specs.Feasible.{RowsKeptBelow, IsFirstRowOut, IsFirstRowWide, Tells};
+    ghost use Rattle.instance.specs.Feasibility.{RowsKeptBelow, IsFirstRowOut, IsFirstRowWide, TellsFeasible};
 
     /// The instance of these parts.
     ///
@@ -164,7 +164,7 @@ impl Instance {
     /// [`Wide`] exactly where the first check that fails is a row's whose sum doesn't fit.
     pub fn feasible(&self, point: &[Frac]) -> Result<Feas, Wide>
         requires { length point.now ≡ length self.now.vars }
-        ensures found { IfOk result (Tells (program self.now) (ratios point.now)) }
+        ensures found { IfOk result (TellsFeasible (program self.now) (ratios point.now)) }
         ensures wide { OnErr result (IsFirstWide (program self.now) (ratios point.now)) }
     {
         let vars = self.vars();

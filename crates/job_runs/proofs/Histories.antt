@@ -9,11 +9,11 @@ use Rattle.job_table.specs.declared.calls.Finish.TheVariants as ends
 use Rattle.job_table.specs.declared.calls.Reply.{Reply}
 use Rattle.job_table.specs.declared.calls.Reply.TheVariants as reply
 use Rattle.job_table.specs.Jobs.{Register, empty}
-use Rattle.job_table.specs.History.{Entry, entry, Runs, NoFinish, WasTold, IsGiving}
+use Rattle.job_table.specs.History.{Entry, entry_of_move, LeadsStepwise, NoFinish, WasTold, IsGiving}
 use Rattle.job_table.specs.Laws.{FirstFinishIsKept}
-use Rattle.job_table.specs.Watching.{looks}
-use Rattle.job_runs.specs.Runs.{stop_if, IsRun}
-use Rattle.job_runs.specs.Laws.{IsKept, AreKept, RunsAreKept}
+use Rattle.job_table.specs.Looks.{looks}
+use Rattle.job_runs.specs.Runs.{stop_if, IsJobRun}
+use Rattle.job_runs.specs.Laws.{IsFinishKept, AreKept, RunsAreKept}
 
 abbrev Made : Type 1
 Made = List ℕ → List ℕ → List Bool → Option (List ℕ) → Type 0
@@ -22,8 +22,8 @@ abbrev Right : Type 1
 Right = List ℕ → List ℕ → Bool → Option (List ℕ) → Type 0
 
 -- what stands between two parts of a history
-pub runs_split : (right : Right) (r t : Register) (a b : List Entry) → Runs right r (a ++ b) t
-    → (s : Register) × Runs right r a s × Runs right s b t
+pub runs_split : (right : Right) (r t : Register) (a b : List Entry) → LeadsStepwise right r (a ++ b) t
+    → (s : Register) × LeadsStepwise right r a s × LeadsStepwise right s b t
 runs_split right r t [] b runs = (r, refl, runs)
 runs_split right r t (e ∷ es) b (next, step, rest) =
     let found = runs_split right next t es b rest in (found.0, (next, step, found.1), found.2)
@@ -37,19 +37,19 @@ told_last n [] = inl refl
 told_last n (b ∷ before) = inr (told_last n before)
 
 looks_kept : (n : ℕ) (answers : List Bool) → AreKept (looks n answers)
-looks_kept n [] = All-nil IsKept
-looks_kept n (a ∷ answers) = All-cons IsKept _ _ refl (looks_kept n answers)
+looks_kept n [] = All-nil IsFinishKept
+looks_kept n (a ∷ answers) = All-cons IsFinishKept _ _ refl (looks_kept n answers)
 
 same_end : (a b : answer.Finish) → ◌≡◌ {A = Reply} (reply.Finish a) (reply.Finish b) → a ≡ b
 same_end a b e = cc
 
 end_kept : (made : Made) (right : Right) → FirstFinishIsKept right → (j : Job) (call : Call) (before run : List Entry) (now : Register) → IsGiving call
-    → (r : IsRun made j run) → Runs right empty (before ++ entry call (reply.Gave (Some j)) ∷ run) now → r.end ≡ ends.Kept
+    → (r : IsJobRun made j run) → LeadsStepwise right empty (before ++ entry_of_move call (reply.Gave (Some j)) ∷ run) now → r.end ≡ ends.Kept
 end_kept made right law j call before run now giving r runs =
-    let (old, first, (new, gave, rest)) = runs_split right empty now before (entry call (reply.Gave (Some j)) ∷ run) runs in
+    let (old, first, (new, gave, rest)) = runs_split right empty now before (entry_of_move call (reply.Gave (Some j)) ∷ run) runs in
     let (mid, looked, (after, finish, over)) =
-    runs_split right new now (looks j.number r.answers) (entry (Finish j r.asked r.document) (reply.Finish r.end) ∷ [])
-    (subst (λ (es : List Entry). Runs right new es now) r.are rest) in
+    runs_split right new now (looks j.number r.answers) (entry_of_move (Finish j r.asked r.document) (reply.Finish r.end) ∷ [])
+    (subst (λ (es : List Entry). LeadsStepwise right new es now) r.are rest) in
     same_end r.end ends.Kept (law j before (looks j.number r.answers) mid after r.asked r.document (reply.Finish r.end)
     (record { old = old; new = new; call = call; runs = first; giving = giving; gave = gave; rest = looked })
     (no_finish j.number r.answers)
@@ -62,5 +62,5 @@ pub run_kept : (made : Made) (right : Right) → FirstFinishIsKept right → Run
 run_kept made right law j call before run now giving r runs =
     let kept = end_kept made right law j call before run now giving r runs in
     subst (λ (es : List Entry). AreKept es) (sym r.are)
-    (All-append IsKept (looks j.number r.answers) (entry (Finish j r.asked r.document) (reply.Finish r.end) ∷ []) (looks_kept j.number r.answers)
-    (All-cons IsKept (entry (Finish j r.asked r.document) (reply.Finish r.end)) [] (subst (λ (end : answer.Finish). IsKept (entry (Finish j r.asked r.document) (reply.Finish end))) (sym kept) refl) (All-nil IsKept)))
+    (All-append IsFinishKept (looks j.number r.answers) (entry_of_move (Finish j r.asked r.document) (reply.Finish r.end) ∷ []) (looks_kept j.number r.answers)
+    (All-cons IsFinishKept (entry_of_move (Finish j r.asked r.document) (reply.Finish r.end)) [] (subst (λ (end : answer.Finish). IsFinishKept (entry_of_move (Finish j r.asked r.document) (reply.Finish end))) (sym kept) refl) (All-nil IsFinishKept)))

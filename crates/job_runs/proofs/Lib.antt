@@ -1,2 +1,2 @@
-pub mod Working
+pub mod Runs
 pub mod Histories

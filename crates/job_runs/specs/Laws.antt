@@ -8,8 +8,8 @@ use Rattle.job_table.specs.declared.calls.Finish.TheVariants as ends
 use Rattle.job_table.specs.declared.calls.Reply.{Reply}
 use Rattle.job_table.specs.declared.calls.Reply.TheVariants as reply
 use Rattle.job_table.specs.Jobs.{Register, empty}
-use Rattle.job_table.specs.History.{Entry, entry, Runs, IsGiving}
-use Rattle.job_runs.specs.Runs.{IsRun}
+use Rattle.job_table.specs.History.{Entry, entry_of_move, LeadsStepwise, IsGiving}
+use Rattle.job_runs.specs.Runs.{IsJobRun}
 
 -- a finish was kept
 abbrev pub kept_end : answer.Finish → Bool
@@ -27,15 +27,15 @@ abbrev pub kept_if_finish : Call → Reply → Bool
 kept_if_finish (calls.Finish j asked document) said = kept_reply said
 kept_if_finish _ said = true
 
-abbrev pub IsKept : Entry → Type 0
-IsKept e = kept_if_finish e.call e.reply ≡ true
+abbrev pub IsFinishKept : Entry → Type 0
+IsFinishKept e = kept_if_finish e.call e.reply ≡ true
 
 -- every finish among these calls was kept
 abbrev pub AreKept : List Entry → Type 0
-AreKept entries = All IsKept entries
+AreKept entries = All IsFinishKept entries
 
 -- the finish of a run that follows the claim or the enter that gave the job is kept
 abbrev pub RunsAreKept : (List ℕ → List ℕ → List Bool → Option (List ℕ) → Type 0) → (List ℕ → List ℕ → Bool → Option (List ℕ) → Type 0) → Type 0
 RunsAreKept made right =
-    (j : Job) (call : Call) (before run : List Entry) (now : Register) → IsGiving call → IsRun made j run
-    → Runs right empty (before ++ entry call (reply.Gave (Some j)) ∷ run) now → AreKept run
+    (j : Job) (call : Call) (before run : List Entry) (now : Register) → IsGiving call → IsJobRun made j run
+    → LeadsStepwise right empty (before ++ entry_of_move call (reply.Gave (Some j)) ∷ run) now → AreKept run

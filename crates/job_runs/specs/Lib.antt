@@ -1,3 +1,3 @@
 pub mod Runs
-pub mod Solving
+pub mod Solves
 pub mod Laws

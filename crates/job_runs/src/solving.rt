@@ -2,7 +2,7 @@
 ghost use Rattle.std.specs.Prelude.{◌≡◌, List, IfSome, IfNone};
 ghost use Rattle.job_table.specs.History.{Entry};
 ghost use Rattle.job_table.specs.Steps.{added_reply};
-ghost use Rattle.job_runs.specs.Solving.{Solves, BeginsToSolve};
+ghost use Rattle.job_runs.specs.Solves.{Solves, BeginsToSolve};
 
 use crate::runner::Runner;
 use crate::work::run_given;

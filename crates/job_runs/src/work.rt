@@ -1,8 +1,8 @@
 //! A job that was given is run and finished.
 ghost use Rattle.std.specs.Prelude.{◌≡◌, ◌<◌, ◌-◌, ◌^◌, List, Bool, [], ◌∷◌, IsTrue, ◌↔◌, Some, None, IsSome, Option};
-ghost use Rattle.job_table.specs.History.{Entry, entry};
-ghost use Rattle.job_table.specs.Watching.{looks};
-ghost use Rattle.job_runs.specs.Runs.{AreLooks, IsRun, Works};
+ghost use Rattle.job_table.specs.History.{Entry, entry_of_move};
+ghost use Rattle.job_table.specs.Looks.{looks};
+ghost use Rattle.job_runs.specs.Runs.{AreLooks, IsJobRun, Works};
 
 use crate::runner::Runner;
 use job_table::{Calls, CallsWatch, Job, SharedText, Verdicts};
@@ -43,7 +43,7 @@ pub fn run_given<V: Verdicts, C: Calls<V>, R: Runner<V>>(
     runner: &R,
     job: Job,
 )
-    ensures { (run : List Entry) × C.did calls.old calls.new run × IsRun R.ran job run }
+    ensures { (run : List Entry) × C.did calls.old calls.new run × IsJobRun R.ran job run }
 {
     let (document, asked) = run_watched(alloc, calls, runner, &job);
     calls.finish(job, asked, document);

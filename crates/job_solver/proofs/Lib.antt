@@ -1,2 +1,2 @@
-pub mod Running
-pub mod Proved
+pub mod Runs
+pub mod ProvedDocuments

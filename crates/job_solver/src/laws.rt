@@ -1,5 +1,5 @@
 //! What holds of every history of jobs that are solved.
-ghost use Rattle.job_solver.specs.Proved.{ShownAreProved};
+ghost use Rattle.job_solver.specs.ProvedDocuments.{ShownAreProved};
 
 use crate::solver::SolvedJobs;
 use job_table::documents_are_right;

@@ -12,7 +12,7 @@ use std::alloc::Global;
 pub struct SolvedJobs;
 
 impl Verdicts for SolvedJobs {
-    ghost use Rattle.solve_run.specs.Right.{Right};
+    ghost use Rattle.solve_run.specs.JobAnswers.{Right};
 
     ghost right = { Right };
 }

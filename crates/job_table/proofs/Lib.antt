@@ -1,4 +1,4 @@
-pub mod Held
-pub mod Kept
+pub mod JobLists
+pub mod WaitingJobs
 pub mod Changes
 pub mod Histories

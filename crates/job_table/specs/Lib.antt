@@ -1,7 +1,7 @@
 pub mod Jobs
-pub mod Waiting
+pub mod WaitingJobs
 pub mod Steps
 pub mod History
 pub mod Laws
-pub mod Watching
+pub mod Looks
 pub mod Ids

@@ -4,8 +4,8 @@ ghost use Rattle.std.specs.Prelude.{◌≡◌, ℕ, List, ◌+◌, ◌-◌, ◌<
 ghost use Rattle.std.specs.Option.{option_copied};
 ghost use Rattle.job_table.specs.declared.calls.Reply.{Reply};
 ghost use Rattle.job_table.specs.declared.job.Phase.TheVariants.{Running};
-ghost use Rattle.job_table.specs.Jobs.{Register, empty, Rise, phase_of, with_phase, without, state_of, is_waiting, is_running, states, waiting_jobs, running_jobs, first_waiting, IsFirst, Below};
-ghost use Rattle.job_table.specs.Steps.{most_jobs, last_number, with_new, moved, forgotten, adds, added_reply, Leads, claims, kills, outcome};
+ghost use Rattle.job_table.specs.Jobs.{Register, empty, Rise, phase_of, with_phase, without, state_of, is_waiting, is_running, states, waiting_jobs, running_jobs, first_waiting, IsFirstWaiting, Below};
+ghost use Rattle.job_table.specs.Steps.{most_jobs, last_number, with_new, moved, forgotten, adds, added_reply, LeadsBy, claims, kills, outcome};
 
 use crate::calls::{IssueFault, JobStates};
 use crate::job::{Job, Phase, State};
@@ -37,7 +37,7 @@ pub(crate) struct Jobs {
 impl Model for Jobs {
     ghost use Rattle.std.specs.VecDeque.{deque_capacity};
     ghost use Rattle.job_table.specs.Jobs.{Register};
-    ghost use Rattle.job_table.specs.Waiting.{IsKept};
+    ghost use Rattle.job_table.specs.WaitingJobs.{IsKept};
 
     ghost Value = { Register };
 
@@ -167,7 +167,7 @@ impl Jobs {
 
     /// The number of the first job that waits.
     fn first_waiting(&self) -> Option<u64>
-        ensures some { IfSome result (λ number. IsFirst number self.now.jobs) }
+        ensures some { IfSome result (λ number. IsFirstWaiting number self.now.jobs) }
         ensures none { IfNone result (first_waiting self.now.jobs ≡ None) }
     {
         match self.waiting.front() {
@@ -194,7 +194,7 @@ impl Jobs {
     pub(crate) fn add(&mut self, phase: Phase) -> Result<u64, IssueFault>
         requires { is_waiting phase ≡ false }
         ensures number { IfOk result (λ number. number ≡ self.old.issued + 1) }
-        ensures added { (said : Reply) → Leads (adds phase said self.old) self.old (added_reply (λ _. said) result) self.new }
+        ensures added { (said : Reply) → LeadsBy (adds phase said self.old) self.old (added_reply (λ _. said) result) self.new }
     {
         let held = self.phases.len();
         if held >= MOST_JOBS {
@@ -251,7 +251,7 @@ impl Jobs {
 
     /// Runs the first job that waits, which has this number.
     fn run(&mut self, number: u64) -> Job
-        requires { IsFirst number self.old.jobs }
+        requires { IsFirstWaiting number self.old.jobs }
         ensures given { first_waiting self.old.jobs ≡ Some result }
         ensures runs { self.new ≡ moved result.number (Running result.osil result.osol false) self.old }
     {

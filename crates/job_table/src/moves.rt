@@ -27,7 +27,7 @@ pub trait Move<V: Verdicts> {
     ghost use Rattle.std.specs.Prelude.{Option, true, IfSome, IfNone, IsTrue, ◌↔◌, IsSome};
     ghost use Rattle.job_table.specs.declared.calls.Call.{Call};
     ghost use Rattle.job_table.specs.declared.calls.Reply.{Reply};
-    ghost use Rattle.job_table.specs.Steps.{May, Step, fits, wants_memory, kind_of};
+    ghost use Rattle.job_table.specs.Steps.{May, Step, fits, wants_memory, move_kind};
 
     /// What is answered.
     type Answer;
@@ -40,7 +40,7 @@ pub trait Move<V: Verdicts> {
 
     /// What it does to the looks at a job.
     fn kind(&self) -> MoveKind
-        ensures { result ≡ kind_of (call self.now) };
+        ensures { result ≡ move_kind (call self.now) };
 
     /// Whether the move was made: false where there was no memory.
     fn is_made(answer: &Self::Answer) -> bool

@@ -2,7 +2,7 @@
 
 ghost use Rattle.std.specs.Prelude.{◌≡◌, List, ℕ, Some, None, true, IfOk, OnErr, IsSome};
 ghost use Rattle.job_table.specs.Jobs.{Register, empty, phase_of};
-ghost use Rattle.job_table.specs.Steps.{May, Step, Follows, fits, has_document, wants_memory, row, outcome, added_reply, kills, is_marked};
+ghost use Rattle.job_table.specs.Steps.{May, Step, Follows, fits, has_document, wants_memory, row_of_move, outcome, added_reply, kills, is_marked};
 
 use crate::calls::{Call, Finish, IssueFault, Killing, Reply, Retrieved, Statistics, Verdicts};
 use crate::job::{Job, Phase};
@@ -57,7 +57,7 @@ impl<V: Verdicts> Table<V> {
 
     /// Sends texts to a job that has its number alone; true where they were taken. It takes no memory.
     pub fn send(&mut self, number: u64, osil: Twin, osol: Twin) -> bool
-        ensures { row (Call.Send number osil osol) self.old ≡ outcome (Reply.Sent result) self.new }
+        ensures { row_of_move (Call.Send number osil osol) self.old ≡ outcome (Reply.Sent result) self.new }
     {
         match self.jobs.phase(number) {
             Some(Phase::Issued) => {}
@@ -91,7 +91,7 @@ impl<V: Verdicts> Table<V> {
     /// The first job that waits, which the caller runs from then on. None where no job waits, or where the caller is no worker
     /// and a worker is enlisted. It takes no memory.
     pub fn claim(&mut self, worker: bool) -> Option<Job>
-        ensures { row (Call.Claim worker) self.old ≡ outcome (Reply.Gave result) self.new }
+        ensures { row_of_move (Call.Claim worker) self.old ≡ outcome (Reply.Gave result) self.new }
     {
         if !worker && self.jobs.workers() > 0 {
             return None;
@@ -101,7 +101,7 @@ impl<V: Verdicts> Table<V> {
 
     /// Whether a job runs and was asked to stop. It takes no memory.
     pub fn look(&self, number: u64) -> bool
-        ensures { row (Call.Look number) self.now ≡ outcome (Reply.Marked result) self.now }
+        ensures { row_of_move (Call.Look number) self.now ≡ outcome (Reply.Marked result) self.now }
     {
         match self.jobs.phase(number) {
             Some(Phase::Running { marked, .. }) => *marked,
@@ -117,7 +117,7 @@ impl<V: Verdicts> Table<V> {
     /// No document stands for want of memory. It takes no memory, and lets go of what isn't kept.
     pub fn finish(&mut self, job: Job, asked: bool, document: Option<SharedText>) -> Finish
         requires { V.right job.osil job.osol asked document }
-        ensures { row (Call.Finish job asked document) self.old ≡ outcome (Reply.Finish result) self.new }
+        ensures { row_of_move (Call.Finish job asked document) self.old ≡ outcome (Reply.Finish result) self.new }
     {
         let Job { number, osil, osol } = job;
         match self.jobs.phase(number) {
@@ -151,7 +151,7 @@ impl<V: Verdicts> Table<V> {
     /// Kills a job that doesn't run yet, asks one that runs to stop, and gives up the record of one that is over. The answer
     /// tells what stands afterwards. It takes no memory.
     pub fn kill(&mut self, number: u64) -> Killing
-        ensures { row (Call.Kill number) self.old ≡ outcome (Reply.Killing result) self.new }
+        ensures { row_of_move (Call.Kill number) self.old ≡ outcome (Reply.Killing result) self.new }
     {
         self.jobs.stop(number);
         let state = match self.jobs.phase(number) {
@@ -168,7 +168,7 @@ impl<V: Verdicts> Table<V> {
 
     /// How far a job has come, with a further owner of its document, which alone needs memory.
     pub fn retrieve(&self, number: u64) -> Result<Retrieved, Memory>
-        ensures ok { IfOk result (λ shown. row (Call.Retrieve number) self.now ≡ outcome (Reply.Retrieved shown) self.now) }
+        ensures ok { IfOk result (λ shown. row_of_move (Call.Retrieve number) self.now ≡ outcome (Reply.Retrieved shown) self.now) }
         ensures err { OnErr result (has_document (phase_of number self.now.jobs) ≡ true) }
     {
         match self.jobs.phase(number) {
@@ -187,7 +187,7 @@ impl<V: Verdicts> Table<V> {
 
     /// How far all jobs have come. It goes over the jobs that are held.
     pub fn knock(&self) -> Result<Statistics, Memory>
-        ensures { IfOk result (λ told. row Call.Knock self.now ≡ outcome (Reply.Statistics told) self.now) }
+        ensures { IfOk result (λ told. row_of_move Call.Knock self.now ≡ outcome (Reply.Statistics told) self.now) }
     {
         match self.jobs.states(self.alloc) {
             Ok(jobs) => Ok(Statistics {
@@ -202,14 +202,14 @@ impl<V: Verdicts> Table<V> {
 
     /// One more worker, up to 4,294,967,295. It takes no memory.
     pub fn enlist(&mut self)
-        ensures { row Call.Enlist self.old ≡ outcome Reply.Done self.new }
+        ensures { row_of_move Call.Enlist self.old ≡ outcome Reply.Done self.new }
     {
         self.jobs.enlist();
     }
 
     /// One worker less, down to none. It takes no memory.
     pub fn leave(&mut self)
-        ensures { row Call.Leave self.old ≡ outcome Reply.Done self.new }
+        ensures { row_of_move Call.Leave self.old ≡ outcome Reply.Done self.new }
     {
         self.jobs.leave();
     }

@@ -11,9 +11,9 @@ use Rattle.bases.specs.Dictionary.{Entries, Values, value_by}
 use Rattle.bases.specs.Program.{rows_with_goal}
 use Rattle.bases.proofs.Lists.{value_by-number}
 use Rattle.simplex_rules.specs.declared.columns.Status.{Status}
-use Rattle.simplex_rules.specs.Statuses.{status_at, is_basic, basic_in, first_status, rest_at, resting, HasDictionary, HasValues, IsFresh}
+use Rattle.simplex_rules.specs.Statuses.{status_at, is_basic, basic_in, first_status, rest_at, resting, HasDictionary, HasValues, IsFirstBasis}
 use Rattle.simplex_rules.specs.Turns.{NoneOut}
-use Rattle.simplex_rules.specs.Runs.{HasRoom}
+use Rattle.simplex_rules.specs.Runs.{HasNoClash}
 use Rattle.simplex_rules.proofs.Moments.{fresh_placed}
 use Rattle.no_cycles.specs.Phase.{BeginsSettled}
 use Rattle.no_cycles.specs.Beginning.{first_value, first_activity, BeginsFeasible}
@@ -27,7 +27,7 @@ first_nonbasic (Some l) hi = refl
 first_nonbasic None (Some h) = refl
 first_nonbasic None None = refl
 
-module _ (I : Instance) (zeroed : Bool) (good : IsInstance I) (room : HasRoom I) (ss : List Status) (fresh : IsFresh I ss) (u : Entries) (dict : HasDictionary I zeroed ss u) where
+module _ (I : Instance) (zeroed : Bool) (good : IsInstance I) (room : HasNoClash I) (ss : List Status) (fresh : IsFirstBasis I ss) (u : Entries) (dict : HasDictionary I zeroed ss u) where
   abbrev n : ℕ
   n = width I
 
@@ -71,5 +71,5 @@ module _ (I : Instance) (zeroed : Bool) (good : IsInstance I) (room : HasRoom I)
       let value : w k ≈ first_activity I (k - width I) = known I good zeroed room ss u dict (fresh_placed I ss fresh) w values k h ⊙ subst (λ c. full I good zeroed room ss u dict c ≈ first_activity I (k - width I)) e (row_is (k - width I) i) in
       not_out (column_at I k) (w k) (first_activity I (k - width I)) (column-numbers I good k) value (subst (λ r. IsBetween r (first_activity I (k - width I))) (sym range) (feasible (k - width I) i)) way out.misses)
 
-pub settled_first : (I : Instance) (zeroed : Bool) → IsInstance I → HasRoom I → BeginsFeasible I → BeginsSettled I zeroed
+pub settled_first : (I : Instance) (zeroed : Bool) → IsInstance I → HasNoClash I → BeginsFeasible I → BeginsSettled I zeroed
 settled_first I zeroed good room feasible ss fresh u w dict values = begun I zeroed good room ss fresh u dict feasible w values

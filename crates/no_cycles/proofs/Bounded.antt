@@ -8,16 +8,16 @@ use Rattle.bases.specs.Dictionary.{Entries, Values}
 use Rattle.bases.specs.Program.{goal_column}
 use Rattle.simplex_rules.specs.declared.columns.Status.{Status}
 use Rattle.simplex_rules.specs.declared.columns.Way.{Way}
-use Rattle.simplex_rules.specs.Statuses.{status_at, IsFresh}
+use Rattle.simplex_rules.specs.Statuses.{status_at, IsFirstBasis}
 use Rattle.simplex_rules.specs.Ends.{Terms, Clock, TurnsOut}
-use Rattle.simplex_rules.specs.Runs.{Moment, To, Out, Passes, Begins, MovesOn, IsNext, Comes, begins, goes_on, HasRoom, Run}
+use Rattle.simplex_rules.specs.Runs.{Moment, To, Out, PassesTurn, BeginsTurn, MovesOn, IsNext, ComesInRun, begins, goes_on, HasNoClash, Run}
 use Rattle.simplex_rules.proofs.Moments.{comes_placed}
 use Rattle.no_cycles.specs.Phase.{IsTurn, AreTurns, IsSettled, BeginsSettled, HasNoneTwice, came_through}
 use Rattle.no_cycles.proofs.Repeats.{is_next, taken, once}
 use Rattle.no_cycles.proofs.Feasible.{stays_settled}
 use Rattle.no_cycles.proofs.Counting.{pigeons, code, code_below, code_one}
 
-pub few : (I : Instance) (zeroed : Bool) (t : Terms) (c : Clock) (at : ℕ → Moment) (k : ℕ) → IsInstance I → HasRoom I → Comes I zeroed t c (at 0) → AreTurns I zeroed t at k → k < 4 ^ goal_column I
+pub few : (I : Instance) (zeroed : Bool) (t : Terms) (c : Clock) (at : ℕ → Moment) (k : ℕ) → IsInstance I → HasNoClash I → ComesInRun I zeroed t c (at 0) → AreTurns I zeroed t at k → k < 4 ^ goal_column I
 few I zeroed t c at k good room first turns =
     pigeons (4 ^ goal_column I) (λ i. code (at i).statuses (goal_column I)) k
     (λ i h. code_below (at i).statuses (goal_column I))
@@ -35,19 +35,19 @@ settled_turn I zeroed t m n s (u, d, inl (f, e)) = absurd (cc)
 settled_turn I zeroed t m n s (u, d, inr (w, f, v, inl (b, wanted, out, r))) = absurd (s u w d v b out.inside wanted out.out)
 settled_turn I zeroed t m n s (u, d, inr (w, f, v, inr (none_out, r))) = record { entries = u; dictionary = d; columns = w; fit = f; values = v; none_out = none_out; improves = r }
 
-pub turn_settles : (I : Instance) (zeroed : Bool) (t : Terms) (c : Clock) (m n : Moment) → IsInstance I → HasRoom I → Comes I zeroed t c m → IsTurn I zeroed t m n → IsSettled I zeroed n.statuses
+pub turn_settles : (I : Instance) (zeroed : Bool) (t : Terms) (c : Clock) (m n : Moment) → IsInstance I → HasNoClash I → ComesInRun I zeroed t c m → IsTurn I zeroed t m n → IsSettled I zeroed n.statuses
 turn_settles I zeroed t c m n good room first turn u w d v =
     let x = taken I zeroed t m n turn in
     let y = x.1 in
     stays_settled I good zeroed room m.statuses x.0 n.statuses u y.0 d (comes_placed first) (comes_placed (goes_on first (is_next turn))) y.1 w v
 
 -- one more turn on the clock
-passes_clock : (t : Terms) (c : Clock) (ss : List Status) (n : Moment) → Passes t c ss (To n) → n.clock.turns ≡ c.turns
+passes_clock : (t : Terms) (c : Clock) (ss : List Status) (n : Moment) → PassesTurn t c ss (To n) → n.clock.turns ≡ c.turns
 passes_clock t c ss n (inl (a, e)) = let f : n ≡ record { statuses = ss; clock = c } = cc in ap (λ (x : Moment). x.clock.turns) f
 passes_clock t c ss n (inr (inl (a, b, e))) = absurd (cc)
 passes_clock t c ss n (inr (inr (a, b, e))) = let f : n ≡ record { statuses = ss; clock = record c { looks = c.looks + 1 } } = cc in ap (λ (x : Moment). x.clock.turns) f
 
-begins_clock : (t : Terms) (c : Clock) (F : Type 0) (ss : List Status) (n : Moment) → Begins t c F ss (To n) → n.clock.turns ≡ c.turns + 1
+begins_clock : (t : Terms) (c : Clock) (F : Type 0) (ss : List Status) (n : Moment) → BeginsTurn t c F ss (To n) → n.clock.turns ≡ c.turns + 1
 begins_clock t c F ss n (inl (a, e)) = absurd (cc)
 begins_clock t c F ss n (inr (inl (a, b, e))) = absurd (cc)
 begins_clock t c F ss n (inr (inr (a, b, e))) = passes_clock t _ ss n e
@@ -67,7 +67,7 @@ next_clock I zeroed t m n (u, x, inr (w, f, v, inr (none_out, inr (inl (b, y, of
 next_clock I zeroed t m n (u, x, inr (w, f, v, inr (none_out, inr (inr (e, way, help, g))))) = moves_clock I zeroed t m n u w e way g
 
 -- as many bases as turns, and the first
-all_clocked : {I : Instance} {zeroed : Bool} {t : Terms} {c : Clock} {m : Moment} (comes : Comes I zeroed t c m) → m.clock.turns + 1 ≡ c.turns + length (came_through comes)
+all_clocked : {I : Instance} {zeroed : Bool} {t : Terms} {c : Clock} {m : Moment} (comes : ComesInRun I zeroed t c m) → m.clock.turns + 1 ≡ c.turns + length (came_through comes)
 all_clocked {I} {zeroed} {t} {c} (begins {ss} f) = omega arith
 all_clocked {I} {zeroed} {t} {c} (goes_on {m} {n} before next) =
     let past = all_clocked before in
@@ -80,14 +80,14 @@ record Since (I : Instance) (zeroed : Bool) (t : Terms) (c : Clock) (i : ℕ) (p
   turns : ℕ
   count : i + turns + 1 ≡ length past
   at : ℕ → Moment
-  first : Comes I zeroed t c (at 0)
+  first : ComesInRun I zeroed t c (at 0)
   each : AreTurns I zeroed t at turns
   last : at turns ≡ m
   places : (k : ℕ) → k ≤ turns → (at k).statuses ≡ get_or past (i + k) []
   settled : IsSettled I zeroed m.statuses
 
 -- the moment itself, at the last place
-here : {I : Instance} {zeroed : Bool} {t : Terms} {c : Clock} {m : Moment} (i : ℕ) (past : List (List Status)) → Comes I zeroed t c m → IsSettled I zeroed m.statuses → i + 1 ≡ length past → m.statuses ≡ get_or past i [] → Since I zeroed t c i past m
+here : {I : Instance} {zeroed : Bool} {t : Terms} {c : Clock} {m : Moment} (i : ℕ) (past : List (List Status)) → ComesInRun I zeroed t c m → IsSettled I zeroed m.statuses → i + 1 ≡ length past → m.statuses ≡ get_or past i [] → Since I zeroed t c i past m
 here {I} {zeroed} {t} {c} {m} i past comes settled count is = record {
   turns = 0;
   count = omega arith;
@@ -100,7 +100,7 @@ here {I} {zeroed} {t} {c} {m} i past comes settled count is = record {
 }
 
 -- and one more, by a turn of the second phase
-further : {I : Instance} {zeroed : Bool} {t : Terms} {c : Clock} {m : Moment} (n : Moment) (i : ℕ) (past : List (List Status)) → IsInstance I → HasRoom I → Comes I zeroed t c m → IsNext I zeroed t m (To n) → Since I zeroed t c i past m → Since I zeroed t c i (past ++ n.statuses ∷ []) n
+further : {I : Instance} {zeroed : Bool} {t : Terms} {c : Clock} {m : Moment} (n : Moment) (i : ℕ) (past : List (List Status)) → IsInstance I → HasNoClash I → ComesInRun I zeroed t c m → IsNext I zeroed t m (To n) → Since I zeroed t c i past m → Since I zeroed t c i (past ++ n.statuses ∷ []) n
 further {I} {zeroed} {t} {c} {m} n i past good room before next h =
     let k : ℕ = h.turns in
     let turn = settled_turn I zeroed t m n h.settled next in
@@ -113,7 +113,7 @@ further {I} {zeroed} {t} {c} {m} n i past good room before next h =
       turns = suc h.turns;
       count = omega arith;
       at = at;
-      first = subst (Comes I zeroed t c) (old 0 (omega arith)) h.first;
+      first = subst (ComesInRun I zeroed t c) (old 0 (omega arith)) h.first;
       each = λ j l.
           by_eq j h.turns
           (λ e.
@@ -134,7 +134,7 @@ further {I} {zeroed} {t} {c} {m} n i past good room before next h =
       settled = turn_settles I zeroed t c m n good room before turn;
     }
 
-since : {I : Instance} {zeroed : Bool} {t : Terms} {c : Clock} {m : Moment} → IsInstance I → HasRoom I → (comes : Comes I zeroed t c m) (i : ℕ) → i < length (came_through comes) → IsSettled I zeroed (get_or (came_through comes) i []) → Since I zeroed t c i (came_through comes) m
+since : {I : Instance} {zeroed : Bool} {t : Terms} {c : Clock} {m : Moment} → IsInstance I → HasNoClash I → (comes : ComesInRun I zeroed t c m) (i : ℕ) → i < length (came_through comes) → IsSettled I zeroed (get_or (came_through comes) i []) → Since I zeroed t c i (came_through comes) m
 since {I} {zeroed} {t} {c} good room (begins {ss} f) i within s =
     let z : i ≡ 0 = omega arith in
     let is : ss ≡ get_or (ss ∷ []) i [] = ap (λ j. get_or (ss ∷ []) j []) (sym z) in
@@ -151,7 +151,7 @@ since {I} {zeroed} {t} {c} good room (goes_on {m} {n} before next) i within s =
     further n i (came_through before) good room before next (since good room before i l (subst (IsSettled I zeroed) (get_or_append_left (came_through before) (n.statuses ∷ []) [] i l) s)))
 
 -- of the bases that a run came through
-pub none_twice : {I : Instance} {zeroed : Bool} {t : Terms} {c : Clock} {m : Moment} → IsInstance I → HasRoom I → (comes : Comes I zeroed t c m) → HasNoneTwice I zeroed (came_through comes)
+pub none_twice : {I : Instance} {zeroed : Bool} {t : Terms} {c : Clock} {m : Moment} → IsInstance I → HasNoClash I → (comes : ComesInRun I zeroed t c m) → HasNoneTwice I zeroed (came_through comes)
 none_twice {I} {zeroed} {t} {c} good room comes i j h l s same =
     let x = since good room comes i (omega arith) s in
     let count = x.count in
@@ -162,15 +162,15 @@ none_twice {I} {zeroed} {t} {c} good room comes i j h l s same =
     once I zeroed t c x.at x.turns good room x.first x.each 0 (j - i) (omega arith) (omega arith) (λ e g. ap (λ ss. status_at ss e) a ∙ same e g ∙ sym (ap (λ ss. status_at ss e) b))
 
 -- the first basis is the first of them
-first_is : {I : Instance} {zeroed : Bool} {t : Terms} {c : Clock} {m : Moment} (comes : Comes I zeroed t c m) → (0 < length (came_through comes)) × IsFresh I (get_or (came_through comes) 0 [])
+first_is : {I : Instance} {zeroed : Bool} {t : Terms} {c : Clock} {m : Moment} (comes : ComesInRun I zeroed t c m) → (0 < length (came_through comes)) × IsFirstBasis I (get_or (came_through comes) 0 [])
 first_is {I} {zeroed} {t} {c} (begins {ss} f) = (omega arith, f)
 first_is {I} {zeroed} {t} {c} (goes_on {m} {n} before next) =
     let first = first_is before in
     let long = length-append (came_through before) (n.statuses ∷ []) in
-    (omega (arith, first.0), subst (IsFresh I) (sym (get_or_append_left (came_through before) (n.statuses ∷ []) [] 0 first.0)) first.1)
+    (omega (arith, first.0), subst (IsFirstBasis I) (sym (get_or_append_left (came_through before) (n.statuses ∷ []) [] 0 first.0)) first.1)
 
 -- the limit of turns comes where as many were done
-begins_out : (t : Terms) (c : Clock) (F : Type 0) (ss : List Status) (d : Clock) → Begins t c F ss (Out TurnsOut d) → t.turns ≤ c.turns
+begins_out : (t : Terms) (c : Clock) (F : Type 0) (ss : List Status) (d : Clock) → BeginsTurn t c F ss (Out TurnsOut d) → t.turns ≤ c.turns
 begins_out t c F ss d (inl (a, e)) = a
 begins_out t c F ss d (inr (inl (a, b, e))) = absurd (cc)
 begins_out t c F ss d (inr (inr (a, b, inl (f, e)))) = absurd (cc)
@@ -191,7 +191,7 @@ out_of_turns I zeroed t m d (u, x, inr (w, f, v, inr (none_out, inl (off, z, g, 
 out_of_turns I zeroed t m d (u, x, inr (w, f, v, inr (none_out, inr (inl (b, y, off, g, p, q, e))))) = absurd (cc)
 out_of_turns I zeroed t m d (u, x, inr (w, f, v, inr (none_out, inr (inr (n, way, help, e))))) = moves_out I zeroed t m d u w n way e
 
-pub never_out : (I : Instance) (zeroed : Bool) (t : Terms) (c d : Clock) → IsInstance I → (HasRoom I → BeginsSettled I zeroed) → c.turns + 4 ^ (width I + height I) ≤ t.turns → Run I zeroed t c TurnsOut d → ⊥
+pub never_out : (I : Instance) (zeroed : Bool) (t : Terms) (c d : Clock) → IsInstance I → (HasNoClash I → BeginsSettled I zeroed) → c.turns + 4 ^ (width I + height I) ≤ t.turns → Run I zeroed t c TurnsOut d → ⊥
 never_out I zeroed t c d good s enough (inl (k, f, e, g)) = cc
 never_out I zeroed t c d good s enough (inr r) =
     let first = first_is r.comes in

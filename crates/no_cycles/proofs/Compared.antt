@@ -21,10 +21,10 @@ use Rattle.simplex_rules.specs.declared.columns.Way.TheVariants.{Fall}
 use Rattle.simplex_rules.specs.Statuses.{status_at, is_basic, basic_in, resting, HasDictionary, HasValues}
 use Rattle.simplex_rules.specs.Turns.{rate, Moves, Can, IsFirstHelp, IsFirstLimit, limit_at, until_by}
 use Rattle.simplex_rules.specs.Reports.{movement, step_of}
-use Rattle.simplex_rules.specs.Runs.{HasRoom}
+use Rattle.simplex_rules.specs.Runs.{HasNoClash}
 use Rattle.simplex_rules.proofs.Core.{value_≈, unit_step, unit_step-number, unit_value, rate-number}
 use Rattle.simplex_rules.proofs.Facts.{at_least_none, below_none, rest-number}
-use Rattle.simplex_rules.proofs.Sound.{IsPlaced}
+use Rattle.simplex_rules.proofs.Soundness.{IsPlaced}
 use Rattle.no_cycles.proofs.Ways.{GoesOn, can_go, no_help, zero_limit, limit_up, limit_down, enters_and_leaves, zero_left, zero_right}
 
 -- numbers of the program
@@ -59,7 +59,7 @@ zeros_apart a b h k l =
     let f : b.num *ℤ pos a.den ≡ pos 0 = ap (λ z. z *ℤ pos a.den) k ∙ zero-*ℤ (pos a.den) in
     omega (arith, ints)
 
-module _ (I : Instance) (good : IsInstance I) (zeroed : Bool) (room : HasRoom I) where
+module _ (I : Instance) (good : IsInstance I) (zeroed : Bool) (room : HasNoClash I) where
   abbrev goal : ℕ
   goal = goal_column I
 

@@ -16,10 +16,10 @@ use Rattle.simplex_rules.specs.declared.columns.Way.{Way}
 use Rattle.simplex_rules.specs.declared.columns.Way.TheVariants.{Rise, Fall}
 use Rattle.simplex_rules.specs.Statuses.{is_basic, basic_in, resting, has_room, HasDictionary, HasValues}
 use Rattle.simplex_rules.specs.Turns.{rate, NoneOut, IsFirstHelp, IsFirstLimit, reached_status, left_status, flipped, pivoted}
-use Rattle.simplex_rules.specs.Runs.{HasRoom}
+use Rattle.simplex_rules.specs.Runs.{HasNoClash}
 use Rattle.simplex_rules.proofs.Core.{rate-number}
 use Rattle.simplex_rules.proofs.Facts.{at_most_none}
-use Rattle.simplex_rules.proofs.Sound.{IsPlaced}
+use Rattle.simplex_rules.proofs.Soundness.{IsPlaced}
 use Rattle.no_cycles.proofs.Compared.{compared, leaving_basic}
 use Rattle.no_cycles.proofs.Turned.{IsMove, full, full-number, full_other, full_alike, known, flip_limit, flip_moves, swap_moves, pivoted_other, pivoted_entering, pivoted_leaving}
 use Rattle.no_cycles.proofs.Choices.{greatest, given_up}
@@ -88,7 +88,7 @@ left_nonbasic : (w : Way) (r : Range) → is_basic (reached_status w r) ≡ fals
 left_nonbasic Rise r = by_bool (has_room r) (λ b. rw b refl) (λ b. rw b refl)
 left_nonbasic Fall r = refl
 
-module _ (I : Instance) (good : IsInstance I) (zeroed : Bool) (room : HasRoom I) where
+module _ (I : Instance) (good : IsInstance I) (zeroed : Bool) (room : HasNoClash I) where
   pub outcome : (ss : List Status) (x : Taken) (ts : List Status) (v : Entries) (dict : HasDictionary I zeroed ss x.u) (next : HasDictionary I zeroed ts v) → IsPlaced I ss → IsPlaced I ts → IsTaken I ss x ts → Outcome I ss x ts (full I good zeroed room ss x.u dict) (full I good zeroed room ts v next)
   outcome ss x ts v dict next placed ts_placed t = by t.goes
     where

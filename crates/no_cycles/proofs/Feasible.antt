@@ -21,10 +21,10 @@ use Rattle.simplex_rules.specs.declared.columns.Way.TheVariants.{Rise, Fall}
 use Rattle.simplex_rules.specs.Statuses.{status_at, is_basic, basic_in, resting, rest_at, HasDictionary, HasValues}
 use Rattle.simplex_rules.specs.Turns.{rate, Can, Misses, NoneOut, IsFirstHelp, IsFirstLimit, IsFirstLeast, limit_at, until_by, across, left_status, flipped, pivoted}
 use Rattle.simplex_rules.specs.Reports.{step_of}
-use Rattle.simplex_rules.specs.Runs.{HasRoom}
+use Rattle.simplex_rules.specs.Runs.{HasNoClash}
 use Rattle.simplex_rules.proofs.Core.{rate-number}
 use Rattle.simplex_rules.proofs.Facts.{HasPlace, has_number, or_is, if_some, at_least_none, rest_between, kept_between}
-use Rattle.simplex_rules.proofs.Sound.{IsPlaced}
+use Rattle.simplex_rules.proofs.Soundness.{IsPlaced}
 use Rattle.no_cycles.proofs.Signs.{both_up, reach, at_end}
 use Rattle.no_cycles.proofs.Compared.{leaving_basic}
 use Rattle.no_cycles.proofs.Limits.{if_is, gap_up, gap_down}
@@ -171,7 +171,7 @@ not_out r x y hn s b Fall (l, e, k) =
     let c : y ≲ l = record { left = s.right; right = pl; is = if_is r.ub (λ z. IsAtMost y z) l b.high e } in
     ⋖-absurd a (≲-trans (≲-from s) c)
 
-module _ (I : Instance) (good : IsInstance I) (zeroed : Bool) (room : HasRoom I) (ss : List Status) (u : Entries) (dict : HasDictionary I zeroed ss u) (placed : IsPlaced I ss) (w : Values) (values : HasValues I ss u w) (none_out : NoneOut I ss u w) (e : ℕ) (way : Way) (help : IsFirstHelp I ss u w (goal_column I) Fall e way) (first : ℕ) (limit : IsFirstLimit I ss u w e way first) (number : IsNumber limit.limit) (up : pos 0 ≤ℤ limit.limit.num) where
+module _ (I : Instance) (good : IsInstance I) (zeroed : Bool) (room : HasNoClash I) (ss : List Status) (u : Entries) (dict : HasDictionary I zeroed ss u) (placed : IsPlaced I ss) (w : Values) (values : HasValues I ss u w) (none_out : NoneOut I ss u w) (e : ℕ) (way : Way) (help : IsFirstHelp I ss u w (goal_column I) Fall e way) (first : ℕ) (limit : IsFirstLimit I ss u w e way first) (number : IsNumber limit.limit) (up : pos 0 ≤ℤ limit.limit.num) where
   abbrev goal : ℕ
   goal = goal_column I
 
@@ -220,7 +220,7 @@ module _ (I : Instance) (good : IsInstance I) (zeroed : Bool) (room : HasRoom I)
       within (inr f) = subst (λ j. IsBetween (column_at I j) (to j)) (sym f) within_own
 
 -- a turn keeps all columns within their ends
-module _ (I : Instance) (good : IsInstance I) (zeroed : Bool) (room : HasRoom I) where
+module _ (I : Instance) (good : IsInstance I) (zeroed : Bool) (room : HasNoClash I) where
   pub stays_settled : (ss : List Status) (x : Taken) (ts : List Status) (v : Entries) (dict : HasDictionary I zeroed ss x.u) (next : HasDictionary I zeroed ts v) → IsPlaced I ss → IsPlaced I ts → IsTaken I ss x ts → (y : Values) → HasValues I ts v y → NoneOut I ts v y
   stays_settled ss x ts v dict next placed ts_placed t = by t.goes
     where

@@ -11,19 +11,19 @@ use Rattle.simplex_rules.specs.declared.columns.Way.TheVariants.{Rise, Fall}
 use Rattle.simplex_rules.specs.Statuses.{HasDictionary}
 use Rattle.simplex_rules.specs.Turns.{IsFirstHelp}
 use Rattle.simplex_rules.specs.Ends.{Terms, Clock}
-use Rattle.simplex_rules.specs.Runs.{Moment, To, Passes, Begins, MovesOn, Improves, IsNext, Comes, goes_on, HasRoom}
-use Rattle.simplex_rules.proofs.Sound.{IsPlaced}
+use Rattle.simplex_rules.specs.Runs.{Moment, To, PassesTurn, BeginsTurn, MovesOn, Improves, IsNext, ComesInRun, goes_on, HasNoClash}
+use Rattle.simplex_rules.proofs.Soundness.{IsPlaced}
 use Rattle.simplex_rules.proofs.Moments.{comes_placed}
 use Rattle.no_cycles.specs.Phase.{IsTurn, AreTurns, AreSame}
 use Rattle.no_cycles.proofs.Choices.{chosen}
 use Rattle.no_cycles.proofs.Cycle.{Taken, IsTaken, no_cycle}
 
-passes_to : (t : Terms) (c : Clock) (ss : List Status) (n : Moment) → Passes t c ss (To n) → n.statuses ≡ ss
+passes_to : (t : Terms) (c : Clock) (ss : List Status) (n : Moment) → PassesTurn t c ss (To n) → n.statuses ≡ ss
 passes_to t c ss n (inl (a, e)) = cc
 passes_to t c ss n (inr (inl (a, b, e))) = absurd (cc)
 passes_to t c ss n (inr (inr (a, b, e))) = cc
 
-pub begins_to : (t : Terms) (c : Clock) (F : Type 0) (ss : List Status) (n : Moment) → Begins t c F ss (To n) → n.statuses ≡ ss
+pub begins_to : (t : Terms) (c : Clock) (F : Type 0) (ss : List Status) (n : Moment) → BeginsTurn t c F ss (To n) → n.statuses ≡ ss
 begins_to t c F ss n (inl (a, e)) = absurd (cc)
 begins_to t c F ss n (inr (inl (a, b, e))) = absurd (cc)
 begins_to t c F ss n (inr (inr (a, b, e))) = passes_to t _ ss n e
@@ -54,7 +54,7 @@ taken I zeroed t m n x = by x.improves
     by (inr (inl (b, v, off, f, p, q, e))) = absurd (cc)
     by (inr (inr (e, way, help, f))) = moves e way help f
 
-pub all_come : (I : Instance) (zeroed : Bool) (t : Terms) (c : Clock) (at : ℕ → Moment) (k : ℕ) → Comes I zeroed t c (at 0) → AreTurns I zeroed t at k → (i : ℕ) → i ≤ k → Comes I zeroed t c (at i)
+pub all_come : (I : Instance) (zeroed : Bool) (t : Terms) (c : Clock) (at : ℕ → Moment) (k : ℕ) → ComesInRun I zeroed t c (at 0) → AreTurns I zeroed t at k → (i : ℕ) → i ≤ k → ComesInRun I zeroed t c (at i)
 all_come I zeroed t c at k first turns zero h = first
 all_come I zeroed t c at k first turns (suc i) h = goes_on (all_come I zeroed t c at k first turns i (omega arith)) (is_next (turns i (omega arith)))
 
@@ -63,7 +63,7 @@ pub one_list : (I : Instance) (ss ts : List Status) → IsPlaced I ss → IsPlac
 one_list I ss ts p q same = ext_get_or Basic ss ts (p.count ∙ sym q.count) (λ c h. let n = p.count in same c (omega arith))
 
 -- turns that come back to where they began
-comes_back : (I : Instance) (zeroed : Bool) (s : ℕ → List Status) (k : ℕ) → IsInstance I → HasRoom I → 0 < k → ((i : ℕ) → i ≤ k → IsPlaced I (s i)) → ((i : ℕ) → i < k → (x : Taken) × IsTakenAt I zeroed (s i) x (s (suc i))) → s 0 ≡ s k → ⊥
+comes_back : (I : Instance) (zeroed : Bool) (s : ℕ → List Status) (k : ℕ) → IsInstance I → HasNoClash I → 0 < k → ((i : ℕ) → i ≤ k → IsPlaced I (s i)) → ((i : ℕ) → i < k → (x : Taken) × IsTakenAt I zeroed (s i) x (s (suc i))) → s 0 ≡ s k → ⊥
 comes_back I zeroed s k good room some placed turn closed =
     let none : Taken = record { u = (turn 0 some).0.u; w = (turn 0 some).0.w; entering = 0; way = Rise; first = 0 } in
     let P : ℕ → Taken → Type 0 = λ i x. HasDictionary I zeroed (s i) x.u × (i < k → IsTaken I (s i) x (s (suc i))) in
@@ -79,7 +79,7 @@ comes_back I zeroed s k good room some placed turn closed =
     (a.0, (b.0, λ l. b.1)))) in
     no_cycle I good zeroed room k s x (λ i h. let a = all i (omega arith) in a.0) placed (λ i h. let a = all i (omega arith) in a.1 h) closed some
 
-pub once : (I : Instance) (zeroed : Bool) (t : Terms) (c : Clock) (at : ℕ → Moment) (k : ℕ) → IsInstance I → HasRoom I → Comes I zeroed t c (at 0) → AreTurns I zeroed t at k → (i j : ℕ) → i < j → j ≤ k → AreSame I (at i).statuses (at j).statuses → ⊥
+pub once : (I : Instance) (zeroed : Bool) (t : Terms) (c : Clock) (at : ℕ → Moment) (k : ℕ) → IsInstance I → HasNoClash I → ComesInRun I zeroed t c (at 0) → AreTurns I zeroed t at k → (i j : ℕ) → i < j → j ≤ k → AreSame I (at i).statuses (at j).statuses → ⊥
 once I zeroed t c at k good room first turns i j h l same =
     let placed : (a : ℕ) → a ≤ k → IsPlaced I (at a).statuses = λ a g. comes_placed (all_come I zeroed t c at k first turns a g) in
     let z : i + 0 ≡ i = omega arith in

@@ -5,10 +5,10 @@ use Rattle.evidence.specs.Instance.{Instance, IsInstance, width, height}
 use Rattle.evidence.specs.Cases.{Multiplier, Node}
 use Rattle.certificate.specs.declared.causes.Cause.{Cause}
 use Rattle.simplex_rules.specs.Ends.{Terms, Clock, End, Clash, Empty, Best, Endless, TurnsOut, TooWide, Stopped}
-use Rattle.simplex_rules.specs.Runs.{Run, looked}
-use Rattle.search_rules.specs.Search.{Found, Moment, Outcome, Out, Meets, Goes, IsNext, IsVisit, Comes, begins, goes_on, IsAnswer, searched, given_up, given_up_after, first, closed, early}
-use Rattle.search_rules.specs.Shown.{IsPlain}
-use Rattle.search_rules.proofs.Plain.{comes_plain, next_closed}
+use Rattle.simplex_rules.specs.Runs.{Run, looked_once}
+use Rattle.search_rules.specs.Search.{Found, Moment, Outcome, Out, MeetsPoint, GoesFrom, IsNext, IsVisit, ComesInSearch, begins, goes_on, IsSearchAnswer, searched, given_up, given_up_after, first, closed, early}
+use Rattle.search_rules.specs.Outcomes.{IsPlain}
+use Rattle.search_rules.proofs.PlainSearches.{comes_plain, next_closed}
 use Rattle.no_cycles.specs.Beginning.{BeginsFeasible}
 use Rattle.no_cycles.specs.Searches.{is_turn_limit, is_out_of_turns}
 use Rattle.no_cycles.proofs.Bounded.{never_out}
@@ -27,13 +27,13 @@ told : {o p : Outcome} {c d : Clock} → Out o c ≡ Out p d → is_out_of_turns
 told {o} {p} {c} {d} e within = let f : o ≡ p = cc in ap is_out_of_turns f ∙ within
 
 module _ (I : Instance) (t : Terms) where
-  meets_within : (J : Instance) (rest : List Instance) (m : Moment) (x : List Ratio) (ms : List Multiplier) (o : Outcome) (c : Clock) → Meets I J rest m x ms (Out o c) → is_out_of_turns o ≡ false
+  meets_within : (J : Instance) (rest : List Instance) (m : Moment) (x : List Ratio) (ms : List Multiplier) (o : Outcome) (c : Clock) → MeetsPoint I J rest m x ms (Out o c) → is_out_of_turns o ≡ false
   meets_within J rest m x ms o c (inl (j, k, s, e)) = absurd (cc)
   meets_within J rest m x ms o c (inr (inl (w, f, e))) = told e (early_is m.best _ refl)
   meets_within J rest m x ms o c (inr (inr (inl (v, w, f, g, r, e)))) = absurd (cc)
   meets_within J rest m x ms o c (inr (inr (inr (v, s, w, f, g, r, e)))) = told e refl
 
-  goes_within : (J : Instance) (rest : List Instance) (m : Moment) (e : End) (o : Outcome) (c : Clock) → (e ≡ TurnsOut → ⊥) → Goes t I J rest m e (Out o c) → is_out_of_turns o ≡ false
+  goes_within : (J : Instance) (rest : List Instance) (m : Moment) (e : End) (o : Outcome) (c : Clock) → (e ≡ TurnsOut → ⊥) → GoesFrom t I J rest m e (Out o c) → is_out_of_turns o ≡ false
   goes_within J rest m (Clash k) o c off e = absurd (cc)
   goes_within J rest m (Empty ms) o c off e = absurd (cc)
   goes_within J rest m (Best b x ms) o c off (inl (p, e)) = absurd (cc)
@@ -46,7 +46,7 @@ module _ (I : Instance) (t : Terms) where
 
   module _ (plain : IsPlain I) where
     -- the first moment, or one at which no case is left
-    whole_or_closed : (m : Moment) → Comes I t m → (m ≡ first I) ⊎ (m.waiting ≡ [])
+    whole_or_closed : (m : Moment) → ComesInSearch I t m → (m ≡ first I) ⊎ (m.waiting ≡ [])
     whole_or_closed m begins = inl refl
     whole_or_closed m (goes_on {m = before} c next) = inr (next_closed I plain t before m (comes_plain I plain t before c) next)
 
@@ -55,9 +55,9 @@ module _ (I : Instance) (t : Terms) where
       visit_within o c v =
           let same : I ∷ [] ≡ v.visit.case ∷ v.visit.rest = v.visit.is in
           let case : v.visit.case ≡ I = cc in
-          let run : Run I false t (looked (first I).clock) v.end v.clock = subst (λ J. Run J false t (looked (first I).clock) v.end v.clock) case v.visit.run in
+          let run : Run I false t (looked_once (first I).clock) v.end v.clock = subst (λ J. Run J false t (looked_once (first I).clock) v.end v.clock) case v.visit.run in
           goes_within v.visit.case v.visit.rest (record (first I) { clock = v.clock }) v.end o c
-          (λ e. never_out I false t (looked (first I).clock) v.clock good (λ room. settled_first I false good room feasible) (omega (arith, enough)) (subst (λ x. Run I false t (looked (first I).clock) x v.clock) e run)) v.goes
+          (λ e. never_out I false t (looked_once (first I).clock) v.clock good (λ room. settled_first I false good room feasible) (omega (arith, enough)) (subst (λ x. Run I false t (looked_once (first I).clock) x v.clock) e run)) v.goes
 
       next_within : (m : Moment) (o : Outcome) (c : Clock) → (m ≡ first I) ⊎ (m.waiting ≡ []) → IsNext I t m (Out o c) → is_out_of_turns o ≡ false
       next_within m o c where_at (inl (e, f)) = told f (closed_is m.best m.nodes)
@@ -66,7 +66,7 @@ module _ (I : Instance) (t : Terms) where
       next_within m o c (inl e) (inr (inr (inr v))) = visit_within o c (subst (λ x. IsVisit I t x (Out o c)) e v)
       next_within m o c (inr e) (inr (inr (inr v))) = let q = v.visit.is in absurd (cc)
 
-      pub within_turns : (o : Outcome) (c : Clock) → IsAnswer I t o c → is_out_of_turns o ≡ false
+      pub within_turns : (o : Outcome) (c : Clock) → IsSearchAnswer I t o c → is_out_of_turns o ≡ false
       within_turns o c (searched s) = next_within s.last o c (whole_or_closed s.last s.comes) s.ends
       within_turns o c (given_up {m} comes) = early_is m.best _ refl
       within_turns o c (given_up_after {m} comes run) = early_is m.best _ refl

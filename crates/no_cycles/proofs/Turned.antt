@@ -18,10 +18,10 @@ use Rattle.simplex_rules.specs.declared.columns.Way.TheVariants.{Rise, Fall}
 use Rattle.simplex_rules.specs.Statuses.{status_at, is_basic, basic_in, resting, rest_at, HasDictionary, HasValues}
 use Rattle.simplex_rules.specs.Turns.{rate, NoneOut, IsFirstHelp, IsFirstLimit, limit_at, across, reached_status, left_status, flipped, pivoted}
 use Rattle.simplex_rules.specs.Reports.{step_of}
-use Rattle.simplex_rules.specs.Runs.{HasRoom}
+use Rattle.simplex_rules.specs.Runs.{HasNoClash}
 use Rattle.simplex_rules.proofs.Core.{rate-number}
 use Rattle.simplex_rules.proofs.Facts.{rest-number, kept_between, zero_times}
-use Rattle.simplex_rules.proofs.Sound.{IsPlaced}
+use Rattle.simplex_rules.proofs.Soundness.{IsPlaced}
 use Rattle.no_cycles.proofs.Moves as Moves
 use Rattle.no_cycles.proofs.Moves.{pinned}
 use Rattle.no_cycles.proofs.Compared.{rows-number, goal_is_basic, before_goal, leaving_basic, leaving_limit}
@@ -49,7 +49,7 @@ pivoted_entering ss b e s h = status_set_same (slice_set ss b s) e Basic (let n 
 pub pivoted_leaving : (ss : List Status) (b e : ℕ) (s : Status) → b < length ss → (b ≡ e → ⊥) → status_at (pivoted ss b e s) b ≡ s
 pivoted_leaving ss b e s h d = status_set_other (slice_set ss b s) e b Basic d ∙ status_set_same ss b s h
 
-module _ (I : Instance) (good : IsInstance I) (zeroed : Bool) (room : HasRoom I) where
+module _ (I : Instance) (good : IsInstance I) (zeroed : Bool) (room : HasNoClash I) where
   abbrev goal : ℕ
   goal = goal_column I
 

@@ -4,11 +4,11 @@ use Rattle.evidence.specs.Instance.{Instance}
 use Rattle.bases.specs.Dictionary.{Entries, Values}
 use Rattle.bases.specs.Program.{goal_column}
 use Rattle.simplex_rules.specs.declared.columns.Status.{Status}
-use Rattle.simplex_rules.specs.Statuses.{status_at, HasDictionary, HasValues, IsFresh}
+use Rattle.simplex_rules.specs.Statuses.{status_at, HasDictionary, HasValues, IsFirstBasis}
 use Rattle.simplex_rules.specs.Turns.{NoneOut}
 use Rattle.simplex_rules.specs.Widths.{ValuesFit}
 use Rattle.simplex_rules.specs.Ends.{Terms, Clock}
-use Rattle.simplex_rules.specs.Runs.{Moment, To, Improves, Comes, begins, goes_on}
+use Rattle.simplex_rules.specs.Runs.{Moment, To, Improves, ComesInRun, begins, goes_on}
 
 -- n comes after m by a turn of the second phase
 pub record IsTurn (I : Instance) (zeroed : Bool) (t : Terms) (m n : Moment) : Type 0 where
@@ -34,10 +34,10 @@ IsSettled I zeroed ss = (u : Entries) (w : Values) → HasDictionary I zeroed ss
 
 -- at the first basis no column is out of its ends
 abbrev pub BeginsSettled : Instance → Bool → Type 0
-BeginsSettled I zeroed = (ss : List Status) → IsFresh I ss → IsSettled I zeroed ss
+BeginsSettled I zeroed = (ss : List Status) → IsFirstBasis I ss → IsSettled I zeroed ss
 
 -- the bases with their places that a run came through up to a moment, in their order
-abbrev pub came_through : {I : Instance} {zeroed : Bool} {t : Terms} {c : Clock} {m : Moment} → Comes I zeroed t c m → List (List Status)
+abbrev pub came_through : {I : Instance} {zeroed : Bool} {t : Terms} {c : Clock} {m : Moment} → ComesInRun I zeroed t c m → List (List Status)
 came_through (begins {ss} first) = ss ∷ []
 came_through (goes_on {m} {n} before next) = came_through before ++ n.statuses ∷ []
 

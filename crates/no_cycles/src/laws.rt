@@ -3,9 +3,9 @@ ghost use Rattle.std.specs.Prelude.{◌≡◌, ℕ, ◌+◌, ◌^◌, ◌<◌, �
 ghost use Rattle.evidence.specs.Instance.{Instance, IsInstance, width, height};
 ghost use Rattle.bases.specs.Program.{goal_column};
 ghost use Rattle.simplex_rules.specs.Ends.{Terms, Clock, End, TurnsOut};
-ghost use Rattle.simplex_rules.specs.Runs.{Moment, To, IsNext, HasRoom, Comes, Run, IsRun};
-ghost use Rattle.search_rules.specs.Search.{Outcome, IsAnswer};
-ghost use Rattle.search_rules.specs.Shown.{IsPlain};
+ghost use Rattle.simplex_rules.specs.Runs.{Moment, To, IsNext, HasNoClash, ComesInRun, Run, IsRun};
+ghost use Rattle.search_rules.specs.Search.{Outcome, IsSearchAnswer};
+ghost use Rattle.search_rules.specs.Outcomes.{IsPlain};
 ghost use Rattle.no_cycles.specs.Phase.{IsTurn, AreTurns, AreSame, IsSettled, BeginsSettled, HasNoneTwice, came_through};
 ghost use Rattle.no_cycles.specs.Beginning.{BeginsFeasible};
 ghost use Rattle.no_cycles.specs.Searches.{is_out_of_turns};
@@ -13,25 +13,25 @@ ghost use Rattle.no_cycles.specs.Searches.{is_out_of_turns};
 /// Law: in the second phase no basis comes twice with the same places: not in turns of it one after the other, and not among
 /// all the bases that a run came through (Bland, 1977).
 pub fn no_basis_twice()
-    ensures turns { (I : Instance) (zeroed : Bool) (t : Terms) (c : Clock) (at : ℕ → Moment) (k : ℕ) → IsInstance I → HasRoom I → Comes I zeroed t c (at 0) → AreTurns I zeroed t at k → (i j : ℕ) → i < j → j ≤ k → AreSame I (at i).statuses (at j).statuses → ⊥ }
+    ensures turns { (I : Instance) (zeroed : Bool) (t : Terms) (c : Clock) (at : ℕ → Moment) (k : ℕ) → IsInstance I → HasNoClash I → ComesInRun I zeroed t c (at 0) → AreTurns I zeroed t at k → (i j : ℕ) → i < j → j ≤ k → AreSame I (at i).statuses (at j).statuses → ⊥ }
     ensures runs { (I : Instance) (zeroed : Bool) (t : Terms) (c d : Clock) (e : End) → IsInstance I → (run : IsRun I zeroed t c e d) → HasNoneTwice I zeroed (came_through run.comes) }
 {}
 
 /// Law: the second phase has fewer turns than there are ways for each column to be basic or to have one of three places.
 pub fn turns_are_few()
-    ensures { (I : Instance) (zeroed : Bool) (t : Terms) (c : Clock) (at : ℕ → Moment) (k : ℕ) → IsInstance I → HasRoom I → Comes I zeroed t c (at 0) → AreTurns I zeroed t at k → k < 4 ^ goal_column I }
+    ensures { (I : Instance) (zeroed : Bool) (t : Terms) (c : Clock) (at : ℕ → Moment) (k : ℕ) → IsInstance I → HasNoClash I → ComesInRun I zeroed t c (at 0) → AreTurns I zeroed t at k → k < 4 ^ goal_column I }
 {}
 
 /// Law: a turn of the second phase keeps each basic column within its ends, and where no column is out the next turn is one of the
 /// second phase.
 pub fn second_phase_stays()
-    ensures settles { (I : Instance) (zeroed : Bool) (t : Terms) (c : Clock) (m n : Moment) → IsInstance I → HasRoom I → Comes I zeroed t c m → IsTurn I zeroed t m n → IsSettled I zeroed n.statuses }
+    ensures settles { (I : Instance) (zeroed : Bool) (t : Terms) (c : Clock) (m n : Moment) → IsInstance I → HasNoClash I → ComesInRun I zeroed t c m → IsTurn I zeroed t m n → IsSettled I zeroed n.statuses }
     ensures goes_on { (I : Instance) (zeroed : Bool) (t : Terms) (m n : Moment) → IsSettled I zeroed m.statuses → IsNext I zeroed t m (To n) → IsTurn I zeroed t m n }
 {}
 
 /// Law: where each row is between its ends at the variables' first values, no column is out at the first basis.
 pub fn feasible_beginnings_are_settled()
-    ensures { (I : Instance) (zeroed : Bool) → IsInstance I → HasRoom I → BeginsFeasible I → BeginsSettled I zeroed }
+    ensures { (I : Instance) (zeroed : Bool) → IsInstance I → HasNoClash I → BeginsFeasible I → BeginsSettled I zeroed }
 {}
 
 /// Law: where no column is out at the first basis, and the limit of turns leaves room for as many as are enough, a run
@@ -43,5 +43,5 @@ pub fn limit_never_comes()
 /// Law: a search without whole variables whose first values keep each row between its ends isn't given up for its turns, where the
 /// limit is as many as are enough.
 pub fn plain_searches_stay_within_turns()
-    ensures { (I : Instance) (t : Terms) (o : Outcome) (c : Clock) → IsInstance I → IsPlain I → BeginsFeasible I → 4 ^ (width I + height I) ≤ t.turns → IsAnswer I t o c → is_out_of_turns o ≡ false }
+    ensures { (I : Instance) (t : Terms) (o : Outcome) (c : Clock) → IsInstance I → IsPlain I → BeginsFeasible I → 4 ^ (width I + height I) ≤ t.turns → IsSearchAnswer I t o c → is_out_of_turns o ≡ false }
 {}

@@ -6,7 +6,7 @@ use Rattle.command_line.specs.Words.{Call, asks}
 use Rattle.os_client.specs.Runs.{CallEnds, NamesNone}
 use Rattle.os_client.proofs.Runs.{never_misused, none_failed}
 use Rattle.os_app.specs.Runs.{Run, LeavesInput, Runs, call_run, called}
-use Rattle.os_app.proofs.Deciding.{command_runs, no_check, true_or_false}
+use Rattle.os_app.proofs.Words.{command_runs, no_check, true_or_false}
 
 -- a call that names no file
 pub none_named : (osil osol ospl : Option (List ℕ)) → (is_some osil || (is_some osol || is_some ospl)) ≡ false → NamesNone (record { osil = osil; osol = osol; ospl = ospl })

@@ -11,10 +11,10 @@ use Rattle.os_app.specs.Grounds.{AnswersAreOne}
 use Rattle.os_app.specs.Checks.{IsAnswerLine, IsAnswerTo, IsAnswerAbout, accepted, refused}
 use Rattle.os_app.specs.Ends.{in_full, unread, unwritten, unmade}
 use Rattle.command_line.specs.Words.{Command, Session, Check, Solve, Generate, Call, Serve, IsCheck}
-use Rattle.os_app.specs.Runs.{Run, Checks, IsUntaken, IsFileFault, IsUnheard, MayBeThere, IsJudged, Runs}
+use Rattle.os_app.specs.Runs.{Run, Checks, IsUntaken, IsFileFault, IsUnheard, MayBeThere, IsPairJudged, Runs}
 use Rattle.os_app.specs.Runs as runs
-use Rattle.os_app.proofs.Deciding.{one_command}
-use Rattle.os_app.proofs.Telling.{EndsText, text_runs}
+use Rattle.os_app.proofs.Words.{one_command}
+use Rattle.os_app.proofs.Ends.{EndsText, text_runs}
 
 -- ---- what is said of two files, by what they say together
 
@@ -82,10 +82,10 @@ no_memory status run osil_name osrl_name c files same = record { untaken = c.unt
 
 -- what the bytes decide
 judged_by : AnswersAreOne → (status : ℕ) (run : Run) (osil_name osrl_name osil osrl : List ℕ) → Checking status run osil_name osrl_name
-    → run.held osil_name ≡ Holds osil → run.held osrl_name ≡ Holds osrl → IsJudged status run osil osrl
+    → run.held osil_name ≡ Holds osil → run.held osrl_name ≡ Holds osrl → IsPairJudged status run osil osrl
 judged_by one status run osil_name osrl_name osil osrl c first second = go c.ends
   where
-    go : EndsCheck status run osil_name osrl_name → IsJudged status run osil osrl
+    go : EndsCheck status run osil_name osrl_name → IsPairJudged status run osil osrl
     go (in_full line about files sent) =
         let answers = about_told (run.held osil_name) (run.held osrl_name) status line osil osrl about first second in
         record {

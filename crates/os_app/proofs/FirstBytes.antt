@@ -7,7 +7,7 @@ use Rattle.tree_grammar.specs.Elements.{Element}
 use Rattle.document_tags.specs.Texts.{IsDocument, document_limit}
 use Rattle.doc_tree.specs.declared.fault.TreeFault.{TreeFault}
 use Rattle.doc_tree.specs.declared.fault.TreeFault.TheVariants as trees
-use Rattle.doc_tree.specs.Refusals.{IsRefusal, IsRefusedIn, IsCut}
+use Rattle.doc_tree.specs.Refusals.{IsRefusal, IsRefusedIn, EndsEarly}
 use Rattle.instance.specs.Parts.{Parts}
 use Rattle.osil_grammar.specs.declared.fault.OsilFault.{OsilFault}
 use Rattle.osil_grammar.specs.declared.fault.OsilFault.TheVariants as instances
@@ -52,7 +52,7 @@ one_byte (b ∷ []) one = (b, refl)
 one_byte (b ∷ c ∷ rest) one = absurd (omega (arith, one))
 
 -- bytes past the limit aren't clean
-too_many : (limit : ℕ) (bytes : List ℕ) (f : TreeFault) → limit < length bytes → IsCut limit (front limit bytes) f → ⊥
+too_many : (limit : ℕ) (bytes : List ℕ) (f : TreeFault) → limit < length bytes → EndsEarly limit (front limit bytes) f → ⊥
 too_many limit bytes f many cut =
     let all = front limit bytes in
     let size : length all ≡ limit + 1 = length-take-le (limit + 1) bytes (omega (arith, many)) in
@@ -63,7 +63,7 @@ too_many limit bytes f many cut =
 refusal : (limit : ℕ) (bytes : List ℕ) (f : TreeFault) → IsRefusal limit (front limit bytes) f → IsRefusal limit bytes f
 refusal limit bytes f (inl r) = inl (refused_in limit bytes f r)
 refusal limit bytes f (inr cut) = elim (cases_lt limit (length bytes)) [
-  | inr few ↦ inr (subst (λ (b : List ℕ). IsCut limit b f) (few_are_all limit bytes few) cut)
+  | inr few ↦ inr (subst (λ (b : List ℕ). EndsEarly limit b f) (few_are_all limit bytes few) cut)
   | inl many ↦ absurd (too_many limit bytes f many cut)
 ]
 

@@ -1,8 +1,8 @@
 pub mod FirstBytes
-pub mod Judging
-pub mod Deciding
-pub mod Running
-pub mod Telling
+pub mod Verdicts
+pub mod Words
+pub mod OtherWords
+pub mod Ends
 pub mod Checks
 pub mod Solves
 pub mod Summaries

@@ -7,25 +7,25 @@ use Rattle.certificate.specs.declared.causes.Cause.TheVariants.{Memory}
 use Rattle.certificate.specs.declared.claims.Claim.TheVariants.{Unsure}
 use Rattle.osrl_grammar.specs.declared.report.Report.{Report}
 use Rattle.solve_run.specs.declared.document.Document.{Document}
-use Rattle.solve_run.specs.Right.{Given, IsBestOf, Answers, no_options, no_instance, solved, gave_up}
-use Rattle.solve_run.specs.Running.{IsRight}
-use Rattle.command_answers.specs.Named.{ReadsNamed}
-use Rattle.command_answers.proofs.Sending.{held_by}
+use Rattle.solve_run.specs.JobAnswers.{AreJobTexts, IsBestOfSearch, AnswersJob, no_options, no_instance, solved, gave_up}
+use Rattle.solve_run.specs.Runs.{IsRight}
+use Rattle.command_answers.specs.FileNames.{ReadsNamed}
+use Rattle.command_answers.proofs.Outputs.{held_by}
 use Rattle.os_app.specs.Solves.{IsDocumentAbout}
 use Rattle.os_app.specs.Statuses.{solve_status}
 use Rattle.os_app.specs.Runs.{Run, IsUntaken, Runs}
 use Rattle.command_line.specs.Words.{IsSolve, Solve}
 use Rattle.os_app.proofs.FirstBytes.{Shows, file_of}
-use Rattle.os_app.proofs.Deciding.{no_check}
-use Rattle.os_app.proofs.Telling.{EndsText, text_runs}
+use Rattle.os_app.proofs.Words.{no_check}
+use Rattle.os_app.proofs.Ends.{EndsText, text_runs}
 
 -- ---- what answers the first bytes of an instance's file answers the file
 
 module _ (a osil osol : List ℕ) (shows : Shows a osil) where
-  abbrev given_file : Given a osol → Given osil osol
+  abbrev given_file : AreJobTexts a osol → AreJobTexts osil osol
   given_file g = record { options = g.options; options_text = g.options_text; parts = g.parts; valid = g.valid; instance_text = shows.instance g.parts g.instance_text }
 
-  answers_file : (asked : Bool) (r : Report) → Answers a osol asked r → Answers osil osol asked r
+  answers_file : (asked : Bool) (r : Report) → AnswersJob a osol asked r → AnswersJob osil osol asked r
   answers_file asked r (no_options h) = no_options h
   answers_file asked r (no_instance h) = no_instance (record {
     options = h.options;
@@ -48,7 +48,7 @@ module _ (a osil osol : List ℕ) (shows : Shows a osil) where
   })
   answers_file asked r (gave_up g) = gave_up (record { job = g.job; whose = g.whose; claim = g.claim; claims = by g.claims; is = g.is })
     where
-      by : (g.claim ≡ Unsure Memory) ⊎ IsBestOf a osol g.claim → (g.claim ≡ Unsure Memory) ⊎ IsBestOf osil osol g.claim
+      by : (g.claim ≡ Unsure Memory) ⊎ IsBestOfSearch a osol g.claim → (g.claim ≡ Unsure Memory) ⊎ IsBestOfSearch osil osol g.claim
       by (inl unsure) = inl unsure
       by (inr b) = inr (record { given = given_file b.given; moment = b.moment; comes = b.comes; is = b.is })
 

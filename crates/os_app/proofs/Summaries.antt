@@ -2,15 +2,15 @@
 use Rattle.std.proofs.Common.{◌≡◌, ℕ, false, List, [], Some, subst}
 use Rattle.instance.specs.Parts.{Parts}
 use Rattle.osil_grammar.specs.Writing.{IsWrittenText}
-use Rattle.generator.specs.Generated.{generated}
+use Rattle.generator.specs.Instances.{generated}
 use Rattle.solve_run.specs.declared.document.Document.{Document}
-use Rattle.solve_run.specs.Right.{Right}
-use Rattle.solve_run.specs.Running.{IsRight}
+use Rattle.solve_run.specs.JobAnswers.{Right}
+use Rattle.solve_run.specs.Runs.{IsRight}
 use Rattle.command_line.specs.Words.{Generate, asks}
 use Rattle.os_app.specs.Summaries.{IsSummaryAbout, IsSummaryOf}
 use Rattle.os_app.specs.Runs.{Run, IsUntaken, Runs}
-use Rattle.os_app.proofs.Deciding.{no_check}
-use Rattle.os_app.proofs.Telling.{EndsText, text_runs}
+use Rattle.os_app.proofs.Words.{no_check}
+use Rattle.os_app.proofs.Ends.{EndsText, text_runs}
 
 -- a document that answers a job, by its text
 right_text : (osil osol : List ℕ) (doc : Document) → IsRight osil osol false doc → Right osil osol false (Some doc.text)

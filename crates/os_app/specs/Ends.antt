@@ -4,7 +4,7 @@ use Rattle.os_io.specs.declared.files.FileFault.{FileFault}
 use Rattle.os_io.specs.declared.files.FileFault.TheVariants.{Failed, Memory}
 use Rattle.os_io.specs.Streams.{Tells, HasRisen}
 use Rattle.command_answers.specs.declared.answer.Answer.{Answer}
-use Rattle.command_answers.specs.Sent.{IsSent, BreaksOff, IsTold}
+use Rattle.command_answers.specs.Outputs.{IsSent, BreaksOff, IsTold}
 
 -- what becomes of an answer: its text is sent, with its status, or a write fails; where there is none, nothing is written
 abbrev pub AnswerEnds : Result Answer FileFault → (status : ℕ) → (output output_after : Tells) → Type 0

@@ -12,7 +12,7 @@ use Rattle.document_checker.specs.declared.fault.CheckFault.{CheckFault as Refus
 use Rattle.document_checker.specs.declared.fault.CheckFault.TheVariants as reasons
 use Rattle.document_checker.specs.Documents.{IsAcceptedText, DocsRefuse}
 use Rattle.document_checker.specs.Texts.{IsAnswerText}
-use Rattle.command_answers.specs.Sent.{IsSent, BreaksOff}
+use Rattle.command_answers.specs.Outputs.{IsSent, BreaksOff}
 use Rattle.os_client.specs.Runs.{CallRun, CallEnds}
 use Rattle.serving.specs.declared.ending.Ending.{Ending}
 use Rattle.serving.specs.Serving as serving
@@ -21,7 +21,7 @@ use Rattle.os_app.specs.Solves.{IsDocumentAbout}
 use Rattle.os_app.specs.Summaries.{IsSummaryOf}
 use Rattle.os_app.specs.Statuses.{serve_status}
 use Rattle.os_app.specs.Statuses.{session_status}
-use Rattle.command_line.specs.Words.{Command, Session, Check, Solve, Generate, Call, Serve, asks, names_files, IsSession, IsCheck, NamesNoFile, IsNoCommand, usage}
+use Rattle.command_line.specs.Words.{Command, Session, Check, Solve, Generate, Call, Serve, asks, names_files, AsksSession, IsCheck, NamesNoFile, IsNoCommand, usage}
 
 -- a run's words, what names hold, and what its files, its input, its output and its net tell before and after it
 pub record Run : Type 0 where
@@ -70,11 +70,11 @@ NamesFiles words = (it : Command) × (asks words ≡ Some it) × (names_files it
 
 -- a session was served, which ended so: over a table of jobs of its own its requests were answered, and each document that was shown is proved
 pub record ServesSession (how : Served) (run : Run) : Type 0 where
-  pub session : IsSession run.words
+  pub session : AsksSession run.words
   pub serves : sessions.IsSession how (both_ends run.input run.output) (both_ends run.input_after run.output_after)
 
 -- the text that was asked for was sent
-pub record IsAnswered (status : ℕ) (run : Run) : Type 0 where
+pub record IsTextSent (status : ℕ) (run : Run) : Type 0 where
   pub text : List ℕ
   pub asked : AsksForText run status text
   pub sent : IsSent text run.output run.output_after
@@ -161,7 +161,7 @@ pub record IsHosted (how : Ending) (run : Run) : Type 0 where
 -- how a run ends, by its status
 pub data RunEnds (status : ℕ) (run : Run) : Type 0 where
   served : (how : Served) → status ≡ session_status how → ServesSession how run → RunEnds status run
-  answered : IsAnswered status run → RunEnds status run
+  answered : IsTextSent status run → RunEnds status run
   called : IsCalled status run → RunEnds status run
   hosted : (how : Ending) → status ≡ serve_status how → IsHosted how run → RunEnds status run
   misused : status ≡ 2 → IsMisused run → RunEnds status run
@@ -178,7 +178,7 @@ pub data Gives (due : ℕ) (MayBe : List ℕ → Type 0) (status : ℕ) (run : R
 
 -- what the bytes of two files decide of a check: it says that the claim is accepted exactly where it is, and why something is
 -- refused exactly where that is
-pub record IsJudged (status : ℕ) (run : Run) (osil osrl : List ℕ) : Type 0 where
+pub record IsPairJudged (status : ℕ) (run : Run) (osil osrl : List ℕ) : Type 0 where
   pub accepted : (k : Kind) → IsAcceptedText osil osrl k → Gives 0 (IsAnswerLine (Ok k)) status run
   pub accepted_only : status ≡ 0 → (k : Kind) × IsAcceptedText osil osrl k
   pub refused : (r : Refused) (text : List ℕ) → DocsRefuse osil osrl r → IsAnswerText (Err r) text → Gives 1 (λ line. line ≡ text ++ (10 ∷ [])) status run
@@ -191,7 +191,7 @@ MayBeThere run name = run.held name ≡ NoFile → ⊥
 -- how a check of the files of these names ends: their bytes, where they are told, decide it, and it answers only where neither is told
 -- to be absent
 pub record Checks (status : ℕ) (run : Run) (osil_name osrl_name : List ℕ) : Type 0 where
-  pub judged : (osil osrl : List ℕ) → run.held osil_name ≡ Holds osil → run.held osrl_name ≡ Holds osrl → IsJudged status run osil osrl
+  pub judged : (osil osrl : List ℕ) → run.held osil_name ≡ Holds osil → run.held osrl_name ≡ Holds osrl → IsPairJudged status run osil osrl
   pub there : (status ≡ 0) ⊎ (status ≡ 1) → MayBeThere run osil_name × MayBeThere run osrl_name
 
 -- a run ends in one of these ways. What the bytes to come decide of a session follows by the laws of `os_server`. Status 2

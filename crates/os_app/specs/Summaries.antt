@@ -11,9 +11,9 @@ use Rattle.document_checker.specs.declared.documents.Kind.{Kind}
 use Rattle.document_checker.specs.declared.fault.CheckFault.{CheckFault as Refused}
 use Rattle.document_checker.specs.declared.fault.CheckFault.TheVariants as reasons
 use Rattle.document_checker.specs.Documents.{IsAcceptedText, DocsRefuse}
-use Rattle.generator.specs.Generated.{generated}
+use Rattle.generator.specs.Instances.{generated}
 use Rattle.generator.specs.Lines.{summary}
-use Rattle.solve_run.specs.Right.{Right}
+use Rattle.solve_run.specs.JobAnswers.{Right}
 use Rattle.os_app.specs.Statuses.{check_status}
 
 -- there was no memory
@@ -26,12 +26,12 @@ is_memory causes.Length = false
 is_memory causes.Memory = true
 
 -- the search stopped for want of memory
-abbrev pub wants_memory : Claim → Bool
-wants_memory (claims.Optimal x v ns) = false
-wants_memory (claims.Infeasible ns) = false
-wants_memory (claims.Unbounded x v r) = false
-wants_memory (claims.BestSoFar x v c) = is_memory c
-wants_memory (claims.Unsure c) = is_memory c
+abbrev pub wanted_memory : Claim → Bool
+wanted_memory (claims.Optimal x v ns) = false
+wanted_memory (claims.Infeasible ns) = false
+wanted_memory (claims.Unbounded x v r) = false
+wanted_memory (claims.BestSoFar x v c) = is_memory c
+wanted_memory (claims.Unsure c) = is_memory c
 
 -- the checker accepts what the documents claim, or it doesn't; want of memory decides neither
 abbrev pub IsDecided : (osil osrl : List ℕ) → (is_accepted : Bool) → Type 0
@@ -45,7 +45,7 @@ pub record IsSummaryAbout (n : ℕ) (osil osrl : List ℕ) (status : ℕ) (line 
   pub says : IsReportText osrl report
   pub claim : Claim
   pub claims : report.claim ≡ Some claim
-  pub goes_on : wants_memory claim ≡ false
+  pub goes_on : wanted_memory claim ≡ false
   pub is_accepted : Bool
   pub decided : IsDecided osil osrl is_accepted
   pub line_is : line ≡ summary n claim is_accepted

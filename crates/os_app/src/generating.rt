@@ -1,6 +1,6 @@
 //! Solves an instance that is generated, and checks its document.
 ghost use Rattle.std.specs.Prelude.{◌≡◌, ◌≤◌, IfOk};
-ghost use Rattle.os_app.specs.Summaries.{IsDecided, IsSummaryAbout, IsSummaryOf, wants_memory};
+ghost use Rattle.os_app.specs.Summaries.{IsDecided, IsSummaryAbout, IsSummaryOf, wanted_memory};
 
 use crate::checking::status_of;
 use crate::solving::solve;
@@ -15,7 +15,7 @@ use std::alloc::{AllocError, Global};
 
 /// Whether the search stopped for want of memory.
 fn wants_memory(claim: &Claim) -> bool
-    ensures { result ≡ wants_memory claim.now }
+    ensures { result ≡ wanted_memory claim.now }
 {
     matches!(
         claim,

@@ -1,7 +1,7 @@
 //! Solves jobs that nobody stops.
 ghost use Rattle.std.specs.Prelude.{◌≡◌, false, option_map, IfOk};
 ghost use Rattle.os_io.specs.Files.{CountsFiles};
-ghost use Rattle.solve_run.specs.Running.{IsRight};
+ghost use Rattle.solve_run.specs.Runs.{IsRight};
 ghost use Rattle.os_app.specs.Solves.{IsDocumentAbout};
 ghost use Rattle.os_app.specs.Statuses.{solve_status};
 

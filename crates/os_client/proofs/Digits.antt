@@ -7,7 +7,7 @@ use Rattle.std.proofs.lemmas.Str.{digit_value_digit}
 use Rattle.std.proofs.lemmas.Bool.{leb-true}
 use Rattle.std.proofs.Math.Nat.{zero-add}
 use Rattle.httparse.specs.Grammar.{AllPass}
-use Rattle.os_client.specs.Written.{three_digits}
+use Rattle.os_client.specs.Outputs.{three_digits}
 
 -- three digits by their values
 three_of : (n a b c : ℕ) → n ≡ (a * 10 + b) * 10 + c → a ≤ 9 → b ≤ 9 → c ≤ 9 → three_digits n ≡ (48 + a) ∷ (48 + b) ∷ (48 + c) ∷ []

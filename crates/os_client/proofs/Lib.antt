@@ -1,5 +1,5 @@
-pub mod ReadingLemmas
-pub mod CallLemmas
+pub mod Readings
+pub mod CallSteps
 pub mod Digits
 pub mod Runs
 pub mod ServerAnswers

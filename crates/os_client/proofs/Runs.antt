@@ -2,28 +2,28 @@
 use Rattle.std.proofs.Common.{◌≡◌, ℕ, ◌≤◌, Bool, true, false, List, Result, Ok, Err, inl, inr, arith, refl, sym, ap, subst}
 use Rattle.std.specs.Prelude.{◌&&◌, if◌then◌else◌, bytes_eq, codes}
 use Rattle.os_io.specs.Streams.{Tells}
-use Rattle.command_answers.specs.Sent.{IsTold}
+use Rattle.command_answers.specs.Outputs.{IsTold}
 use Rattle.six_calls.specs.declared.call.CallKind.{CallKind}
 use Rattle.soap_calls.specs.declared.call.SoapCall.{SoapCall}
 use Rattle.six_calls.specs.Names.{kind_text}
 use Rattle.soap_calls.specs.Writing.{call_text}
 use Rattle.os_client.specs.declared.fault.CallFault.{CallFault}
 use Rattle.os_client.specs.declared.fault.CallFault.TheVariants.{ReadFault, WriteFault, Memory, Refused, Http, NoReply}
-use Rattle.os_client.specs.Calling.{Asks, Hears, Calls}
-use Rattle.os_client.specs.Written.{IsDue, is_send, returned_status, fault_line, http_line}
+use Rattle.os_client.specs.LinkCalls.{SendsRequest, Hears, Calls}
+use Rattle.os_client.specs.Outputs.{IsOutputDue, is_send, returned_status, fault_line, http_line}
 use Rattle.os_client.specs.Telling.{EndsSilent, TellsOf}
-use Rattle.os_client.specs.Runs.{CallRun, NamesNone, Brings, Links, Hearing, Making, MayLackMemory, CallEnds, answered, unsent, unheard, unasked, no_file, no_link, no_memory}
+use Rattle.os_client.specs.Runs.{CallRun, NamesNone, ReadsCall, Links, Hearing, Making, MayLackMemory, CallEnds, answered, unsent, unheard, unasked, no_file, no_link, no_memory}
 
 abbrev Outcome : Type 0
 Outcome = Result (List ℕ) CallFault
 
 -- ---- a whole run
 
-module _ (run : CallRun) (call : SoapCall) (brought : Brings run call) (link link_after : Tells) (links : Links run.host run.port run.net run.net_after link link_after) where
+module _ (run : CallRun) (call : SoapCall) (brought : ReadsCall run call) (link link_after : Tells) (links : Links run.host run.port run.net run.net_after link link_after) where
   same_name : kind_text call.kind ≡ kind_text run.kind
   same_name = ap (λ (c : SoapCall). kind_text c.kind) brought.call_of.is
 
-  hearing : (outcome : Outcome) → Asks (call_text call) link link_after × Hears (kind_text call.kind) outcome link link_after → Hearing outcome run
+  hearing : (outcome : Outcome) → SendsRequest (call_text call) link link_after × Hears (kind_text call.kind) outcome link link_after → Hearing outcome run
   hearing outcome (asks, hears) = record {
     call = call;
     brought = brought;
@@ -38,10 +38,10 @@ module _ (run : CallRun) (call : SoapCall) (brought : Brings run call) (link lin
   making outcome calls = record { call = call; brought = brought; link = link; link_after = link_after; links = links; calls = calls }
 
   -- what is due was sent, or not whole
-  told_due : (status would : ℕ) (outcome : Outcome) (due : List ℕ) → Asks (call_text call) link link_after × Hears (kind_text call.kind) outcome link link_after → IsDue run.kind outcome would due → IsTold would due status run.output run.output_after
+  told_due : (status would : ℕ) (outcome : Outcome) (due : List ℕ) → SendsRequest (call_text call) link link_after × Hears (kind_text call.kind) outcome link link_after → IsOutputDue run.kind outcome would due → IsTold would due status run.output run.output_after
       → CallEnds status run
   told_due status would outcome due heard is (inl (same, sent)) =
-      answered outcome due (hearing outcome heard) (subst (λ (s : ℕ). IsDue run.kind outcome s due) (sym same) is) sent
+      answered outcome due (hearing outcome heard) (subst (λ (s : ℕ). IsOutputDue run.kind outcome s due) (sym same) is) sent
   told_due status would outcome due heard is (inr (four, off)) = unsent outcome would due four (hearing outcome heard) is off
 
   lacking : (status : ℕ) (outcome : Outcome) → MayLackMemory outcome → Calls call outcome link link_after → EndsSilent 5 status run.output run.output_after → CallEnds status run
@@ -66,7 +66,7 @@ at_most_one : (b : Bool) → (if b then 1 else 0) ≤ 1
 at_most_one true = omega arith
 at_most_one false = omega arith
 
-due_status : (kind : CallKind) (outcome : Outcome) (status : ℕ) (due : List ℕ) → IsDue kind outcome status due → (status ≡ 2) → ⊥
+due_status : (kind : CallKind) (outcome : Outcome) (status : ℕ) (due : List ℕ) → IsOutputDue kind outcome status due → (status ≡ 2) → ⊥
 due_status kind (Ok text) status due (is, same) two = omega (arith, is, two, at_most_one (is_send kind && bytes_eq text (codes "false")))
 due_status kind (Err (Refused code text)) status due (is, same) two = omega (arith, is, two)
 due_status kind (Err (Http came)) status due (is, same) two = omega (arith, is, two)

@@ -26,11 +26,11 @@ pub record IsNoReply (name bytes : List ℕ) : Type 0 where
   pub no_status : (status : ℕ) → HasStatus bytes status → ⊥
 
 -- what the bytes that came say to a call of this name: the text that it returns, or why there is none. Bytes that are no reply are kept
-abbrev pub Says : List ℕ → List ℕ → Result (List ℕ) CallFault → Type 0
-Says name bytes (Ok text) = SaysAnswer name bytes (Return text)
-Says name bytes (Err (Refused code text)) = SaysAnswer name bytes (Fault code text)
-Says name bytes (Err (Http status)) = HasStatus bytes status
-Says name bytes (Err (NoReply kept)) = (kept ≡ bytes) × IsNoReply name bytes
-Says name bytes (Err ReadFault) = ⊥
-Says name bytes (Err WriteFault) = ⊥
-Says name bytes (Err Memory) = ⊥
+abbrev pub SaysToCall : List ℕ → List ℕ → Result (List ℕ) CallFault → Type 0
+SaysToCall name bytes (Ok text) = SaysAnswer name bytes (Return text)
+SaysToCall name bytes (Err (Refused code text)) = SaysAnswer name bytes (Fault code text)
+SaysToCall name bytes (Err (Http status)) = HasStatus bytes status
+SaysToCall name bytes (Err (NoReply kept)) = (kept ≡ bytes) × IsNoReply name bytes
+SaysToCall name bytes (Err ReadFault) = ⊥
+SaysToCall name bytes (Err WriteFault) = ⊥
+SaysToCall name bytes (Err Memory) = ⊥

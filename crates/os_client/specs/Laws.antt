@@ -1,7 +1,7 @@
 -- What a run of `call` tells of what a server wrote.
 use Rattle.std.specs.Prelude.{◌≡◌, ◌⊎◌, ℕ, List, ◌∷◌, ◌++◌, Some}
 use Rattle.os_io.specs.Streams.{Tells}
-use Rattle.command_answers.specs.Sent.{IsSent}
+use Rattle.command_answers.specs.Outputs.{IsSent}
 use Rattle.os_client.specs.Runs.{CallRun}
 
 -- the next link of the net gives these bytes first

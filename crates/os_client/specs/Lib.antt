@@ -1,6 +1,6 @@
 pub mod Answers
-pub mod Calling
-pub mod Written
+pub mod LinkCalls
+pub mod Outputs
 pub mod Telling
 pub mod Runs
 pub mod Laws

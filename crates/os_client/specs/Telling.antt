@@ -2,11 +2,11 @@
 use Rattle.std.specs.Prelude.{◌≡◌, ◌⊎◌, ℕ, List, Result, Ok, Err}
 use Rattle.std.specs.declared.alloc.AllocError.{AllocError}
 use Rattle.os_io.specs.Streams.{Tells}
-use Rattle.command_answers.specs.Sent.{IsTold}
+use Rattle.command_answers.specs.Outputs.{IsTold}
 use Rattle.six_calls.specs.declared.call.CallKind.{CallKind}
 use Rattle.os_client.specs.declared.fault.CallFault.{CallFault}
 use Rattle.os_client.specs.declared.fault.CallFault.TheVariants.{ReadFault, WriteFault, Memory, Refused, Http, NoReply}
-use Rattle.os_client.specs.Written.{returned_status, fault_line, http_line}
+use Rattle.os_client.specs.Outputs.{returned_status, fault_line, http_line}
 
 -- nothing is written, and the run ends with this status
 abbrev pub EndsSilent : (due status : ℕ) → (old new : Tells) → Type 0

@@ -4,7 +4,7 @@ ghost use Rattle.std.specs.Prelude.{◌≡◌, []};
 ghost use Rattle.os_io.specs.Streams.{Sends, SameOutput};
 ghost use Rattle.http_link.specs.Outgoing.{request_text};
 ghost use Rattle.six_calls.specs.declared.call.CallKind.TheVariants as kinds;
-ghost use Rattle.os_client.specs.Calling.{Listens, calling, Calls, CallsBool};
+ghost use Rattle.os_client.specs.LinkCalls.{Listens, calling, Calls, CallsBool};
 
 use crate::fault::CallFault;
 use crate::reading::reading;

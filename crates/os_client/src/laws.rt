@@ -6,7 +6,7 @@ ghost use Rattle.http_link.specs.declared.refusal.Refusal as refusals;
 ghost use Rattle.http_link.specs.Checks.{most_body};
 ghost use Rattle.http_link.specs.Requests.{IsRequest};
 ghost use Rattle.http_link.specs.Outgoing.{request_text};
-ghost use Rattle.http_link.specs.Responses.{answer_text, fault_answer_text, refusal_text};
+ghost use Rattle.http_link.specs.Responses.{answer_text, fault_answer_text, refusal_bytes};
 ghost use Rattle.http_link.specs.Replies.{most_reply, code_of};
 ghost use Rattle.six_calls.specs.declared.call.CallKind as kinds;
 ghost use Rattle.soap_calls.specs.declared.call.SoapCall as given;
@@ -17,9 +17,9 @@ ghost use Rattle.soap_calls.specs.Writing.{call_text, reply_text, fault_text};
 ghost use Rattle.soap_calls.specs.Back.{AreTexts};
 ghost use Rattle.os_client.specs.declared.fault.CallFault as faults;
 ghost use Rattle.os_client.specs.declared.fault.CallFault.TheVariants.{Refused, Http};
-ghost use Rattle.os_client.specs.Answers.{Says};
+ghost use Rattle.os_client.specs.Answers.{SaysToCall};
 ghost use Rattle.httparse.specs.Grammar.{ResponseHead, IsResponseHead, status_code};
-ghost use Rattle.os_client.specs.Written.{returned_status, fault_line, http_line, three_digits};
+ghost use Rattle.os_client.specs.Outputs.{returned_status, fault_line, http_line, three_digits};
 ghost use Rattle.os_client.specs.Runs.{CallRun, CallEnds};
 ghost use Rattle.os_client.specs.Laws.{GivesFirst, Prints};
 
@@ -33,7 +33,7 @@ use soap_calls::{
 
 /// Law: bytes say one thing to a call.
 pub fn bytes_have_one_answer()
-    ensures { (name bytes : List ℕ) (r s : Result (List ℕ) faults.CallFault) → Says name bytes r → Says name bytes s → r ≡ s }
+    ensures { (name bytes : List ℕ) (r s : Result (List ℕ) faults.CallFault) → SaysToCall name bytes r → SaysToCall name bytes s → r ≡ s }
 {
     bytes_are_one_reply();
     bytes_say_one_answer();
@@ -54,10 +54,10 @@ pub fn requests_are_calls()
 /// `send` returns is to be `true` or `false`.
 pub fn written_answers_are_heard()
     ensures returned { (k : kinds.CallKind) (text : List ℕ) → IsXmlText text → MayReturn (kind_text k) text → length (reply_text (kind_text k) text) ≤ most_reply
-        → Says (kind_text k) (answer_text (reply_text (kind_text k) text)) (Ok text) }
+        → SaysToCall (kind_text k) (answer_text (reply_text (kind_text k) text)) (Ok text) }
     ensures fault { (name code text : List ℕ) → IsXmlText code → IsXmlText text → length (fault_text code text) ≤ most_reply
-        → Says name (fault_answer_text (fault_text code text)) (Err (Refused (codes "soap:" ++ code) text)) }
-    ensures refused { (name : List ℕ) (refusal : refusals.Refusal) → Says name (refusal_text refusal) (Err (Http (code_of refusal))) }
+        → SaysToCall name (fault_answer_text (fault_text code text)) (Err (Refused (codes "soap:" ++ code) text)) }
+    ensures refused { (name : List ℕ) (refusal : refusals.Refusal) → SaysToCall name (refusal_bytes refusal) (Err (Http (code_of refusal))) }
 {
     answers_are_read_back();
     refusals_are_read_back();
@@ -78,7 +78,7 @@ pub fn written_answers_are_told()
         → GivesFirst run (answer_text (reply_text (kind_text run.kind) text)) → CallEnds status run → Prints (returned_status run.kind text) text status run }
     ensures fault { (status : ℕ) (run : CallRun) (code text : List ℕ) → IsXmlText code → IsXmlText text → length (fault_text code text) ≤ most_reply
         → GivesFirst run (fault_answer_text (fault_text code text)) → CallEnds status run → Prints 1 (fault_line (codes "soap:" ++ code) text) status run }
-    ensures refused { (status : ℕ) (run : CallRun) (refusal : refusals.Refusal) → GivesFirst run (refusal_text refusal) → CallEnds status run → Prints 1 (http_line (code_of refusal)) status run }
+    ensures refused { (status : ℕ) (run : CallRun) (refusal : refusals.Refusal) → GivesFirst run (refusal_bytes refusal) → CallEnds status run → Prints 1 (http_line (code_of refusal)) status run }
 {
     answers_are_read_back();
     refusals_are_read_back();

@@ -5,7 +5,7 @@ ghost use Rattle.http_link.specs.Replies.{IsReply, Replies};
 ghost use Rattle.soap_calls.specs.declared.fault.Answer as answers;
 ghost use Rattle.soap_calls.specs.Replies.{IsReplyText};
 ghost use Rattle.os_client.specs.declared.fault.CallFault.TheVariants.{Memory};
-ghost use Rattle.os_client.specs.Answers.{status_of, IsNoReply, Says};
+ghost use Rattle.os_client.specs.Answers.{status_of, IsNoReply, SaysToCall};
 
 use crate::fault::CallFault;
 use http_link::{Came, bytes_are_one_reply};
@@ -31,7 +31,7 @@ fn has_answer(status: u16) -> bool
 /// What the bytes that came say to the call of this name.
 pub(crate) fn reading(alloc: Global, name: &[u8], came: Came) -> Result<Text, CallFault>
     requires { Replies came.bytes came.reply }
-    ensures { (result ≡ Err Memory) ⊎ Says name.now came.bytes result }
+    ensures { (result ≡ Err Memory) ⊎ SaysToCall name.now came.bytes result }
 {
     unanswered_is_no_reply();
     bytes_say_one_answer();

@@ -2,7 +2,7 @@
 
 ghost use Rattle.std.specs.Prelude.{◌≡◌, ℕ, ◌+◌, ◌/◌, ◌%◌, ◌++◌, OnErr, OnOk, IfOk};
 ghost use Rattle.os_io.specs.Streams.{SameInput};
-ghost use Rattle.os_client.specs.Written as written;
+ghost use Rattle.os_client.specs.Outputs as written;
 ghost use Rattle.os_client.specs.Telling.{TellsLine, TellsOf};
 
 use crate::fault::CallFault;

@@ -3,7 +3,7 @@ use Rattle.std.proofs.Common.{◌≡◌, ℕ, zero, suc, ◌+◌, List, [], ◌�
 use Rattle.std.specs.Prelude.{IsErrAnd, OnOk, if◌then◌else◌}
 use Rattle.std.proofs.Math.Seq.{take-length}
 use Rattle.std.proofs.lemmas.List.{take-append-drop, drop-drop}
-use Rattle.os_io.specs.Streams.{Tells, Told, IsPart, Appends, AppendsPart, Grows, HasRisen, Counts, SameInput, Writes, Sends}
+use Rattle.os_io.specs.Streams.{Tells, BothTold, IsPart, Appends, AppendsPart, Grows, HasRisen, Counts, SameInput, Writes, Sends}
 use Rattle.os_io.specs.Laws.{handed_part, part_whole}
 use Rattle.os_io.proofs.Tellings.{tells_same, tells_on, tells_map}
 
@@ -127,7 +127,7 @@ module _ {X Y E : Type 0} where
   pub sends_flushed : (y : Y) (result : Result X E) (t : List ℕ) {a b c : Tells} → Writes {X = Y} {E = E} (Ok y) t a b → c.written ≡ b.written → OnOk result (c.handed_on ≡ c.written) → Grows b.handed_on c.handed_on → Counts result b.write_faults c.write_faults → SameInput b c → Sends result t a c
   sends_flushed y (Ok x) t {a} {b} {c} w same all grows counted input = record {
     writes = record {
-      written = subst (λ k. Told a.written k (Appends t)) (sym same) w.written;
+      written = subst (λ k. BothTold a.written k (Appends t)) (sym same) w.written;
       handed_on = grows_on a.handed_on b.handed_on c.handed_on w.handed_on grows;
       counted = counted ∙ w.counted;
       input = input_on a b c w.input input;
@@ -136,7 +136,7 @@ module _ {X Y E : Type 0} where
   }
   sends_flushed y (Err e) t {a} {b} {c} w same all grows counted input = record {
     writes = record {
-      written = tells_map _ _ (Appends t) (AppendsPart t) (λ m n p. (t, part_whole t, p)) (subst (λ k. Told a.written k (Appends t)) (sym same) w.written);
+      written = tells_map _ _ (Appends t) (AppendsPart t) (λ m n p. (t, part_whole t, p)) (subst (λ k. BothTold a.written k (Appends t)) (sym same) w.written);
       handed_on = grows_on a.handed_on b.handed_on c.handed_on w.handed_on grows;
       counted = subst (λ n. HasRisen n c.write_faults) w.counted counted;
       input = input_on a b c w.input input;
@@ -186,14 +186,14 @@ module _ {X Y E : Type 0} where
 
 module _ {X E : Type 0} where
   -- a first part was written
-  pub wrote_first : (x : X) (t : List ℕ) {a b : Tells} → Told a.written b.written (Appends t) → Grows a.handed_on b.handed_on → b.write_faults ≡ a.write_faults → SameInput a b → Writes {X = X} {E = E} (Ok x) t a b
+  pub wrote_first : (x : X) (t : List ℕ) {a b : Tells} → BothTold a.written b.written (Appends t) → Grows a.handed_on b.handed_on → b.write_faults ≡ a.write_faults → SameInput a b → Writes {X = X} {E = E} (Ok x) t a b
   wrote_first x t written grows counted input =
       record { written = written; handed_on = grows; counted = counted; input = input }
 
   -- nothing was written
   pub wrote_none : (e : E) (t : List ℕ) {a b : Tells} → b.written ≡ a.written → Grows a.handed_on b.handed_on → HasRisen a.write_faults b.write_faults → SameInput a b → Writes {X = X} {E = E} (Err e) t a b
   wrote_none e t {a} {b} same grows counted input = record {
-    written = subst (λ k. Told a.written k (AppendsPart t)) (sym same) (tells_same a.written (AppendsPart t) (λ m. ([], part_none t, sym (append-nil m))));
+    written = subst (λ k. BothTold a.written k (AppendsPart t)) (sym same) (tells_same a.written (AppendsPart t) (λ m. ([], part_none t, sym (append-nil m))));
     handed_on = grows;
     counted = counted;
     input = input;

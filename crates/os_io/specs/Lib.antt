@@ -1,6 +1,6 @@
 pub mod Addresses
 pub mod Files
-pub mod Kept
+pub mod MemLinks
 pub mod Laws
 pub mod Limits
 pub mod Links

@@ -1,6 +1,6 @@
 -- What a listener tells: links in the order in which they come and are given back, and the hosts and ports that were reached.
 use Rattle.std.specs.Prelude.{◌≡◌, ℕ, List, ◌∷◌, ◌++◌, [], Option, Result, Ok, Err}
-use Rattle.os_io.specs.Streams.{Tells, Told}
+use Rattle.os_io.specs.Streams.{Tells, BothTold}
 
 -- where links come from or go to: a host, as its text, and a port
 pub data Reached : Type 0 where
@@ -17,15 +17,15 @@ pub record NetTells : Type 0 where
 
 -- the link is the first of those to come, and comes no more
 abbrev pub Comes : Option (List Tells) → Option (List Tells) → Tells → Type 0
-Comes old new link = Told old new (λ before after. before ≡ link ∷ after)
+Comes old new link = BothTold old new (λ before after. before ≡ link ∷ after)
 
 -- the link is the last of those given back
 abbrev pub IsGivenBack : Option (List Tells) → Option (List Tells) → Tells → Type 0
-IsGivenBack old new link = Told old new (λ before after. after ≡ before ++ link ∷ [])
+IsGivenBack old new link = BothTold old new (λ before after. after ≡ before ++ link ∷ [])
 
 -- this was reached, and nothing else
 abbrev pub IsReached : Option (List Reached) → Option (List Reached) → Reached → Type 0
-IsReached old new one = Told old new (λ before after. after ≡ before ++ one ∷ [])
+IsReached old new one = BothTold old new (λ before after. after ≡ before ++ one ∷ [])
 
 -- this was reached, and nothing where the call failed
 abbrev pub Reaches : {X E : Type 0} → Result X E → Reached → Option (List Reached) → Option (List Reached) → Type 0

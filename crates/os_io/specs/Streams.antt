@@ -21,10 +21,10 @@ sink_tells written handed_on faults =
     record { left = None; written = written; handed_on = handed_on; read_faults = 0; write_faults = faults }
 
 -- what was told before is told after, and both stand so
-abbrev pub Told : {X : Type 0} → Option X → Option X → (X → X → Type 0) → Type 0
-Told None after R = Unit {0}
-Told (Some before) None R = ⊥
-Told (Some before) (Some after) R = R before after
+abbrev pub BothTold : {X : Type 0} → Option X → Option X → (X → X → Type 0) → Type 0
+BothTold None after R = Unit {0}
+BothTold (Some before) None R = ⊥
+BothTold (Some before) (Some after) R = R before after
 
 -- the first n of the bytes to come were taken, and stand at the buffer's front
 abbrev pub Takes : List ℕ → ℕ → List ℕ → List ℕ → Type 0
@@ -49,7 +49,7 @@ Adds (Err e) text before after = AppendsPart text before after
 
 -- what stood before stands, and more may follow
 abbrev pub Grows : Option (List ℕ) → Option (List ℕ) → Type 0
-Grows old new = Told old new (λ before after. IsPart after before)
+Grows old new = BothTold old new (λ before after. IsPart after before)
 
 -- a count that rose, or stands at its greatest
 abbrev pub HasRisen : ℕ → ℕ → Type 0
@@ -74,7 +74,7 @@ pub record SameOutput (old new : Tells) : Type 0 where
 
 -- the text was written, or a first part of it where a fault was counted; what was handed on stays, and nothing else is touched
 pub record Writes {X E : Type 0} (result : Result X E) (text : List ℕ) (old new : Tells) : Type 0 where
-  pub written : Told old.written new.written (Adds result text)
+  pub written : BothTold old.written new.written (Adds result text)
   pub handed_on : Grows old.handed_on new.handed_on
   pub counted : Counts result old.write_faults new.write_faults
   pub input : SameInput old new

@@ -1,5 +1,5 @@
 ghost use Rattle.std.specs.Prelude.{◌≡◌, [], Some, IfOk, max, vec_capacity};
-ghost use Rattle.os_io.specs.Kept.{tells_of_link};
+ghost use Rattle.os_io.specs.MemLinks.{tells_of_link};
 ghost use Rattle.os_io.specs.Memory.{IsFresh};
 ghost use Rattle.os_io.specs.declared.mem_link.Kept.{out-Kept};
 ghost use Rattle.os_io.specs.Laws.{handed_part};

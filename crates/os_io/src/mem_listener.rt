@@ -1,7 +1,7 @@
 ghost use Rattle.std.specs.Prelude.{◌≡◌, ◌∷◌, ◌<◌, [], map, Some, IfOk, IfSome, IfNone, OnOk, OnErr, vec_len, vec_capacity};
 ghost use Rattle.os_io.specs.Streams.{Counts};
 ghost use Rattle.os_io.specs.Links.{NetTells, IsGivenBack};
-ghost use Rattle.os_io.specs.Kept.{tells_of_link, tells_kept};
+ghost use Rattle.os_io.specs.MemLinks.{tells_of_link, tells_kept};
 ghost use Rattle.os_io.specs.Addresses.{reached_of, reached_at};
 ghost use Rattle.os_io.specs.Memory.{IsFresh};
 

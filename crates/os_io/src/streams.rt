@@ -1,5 +1,5 @@
 ghost use Rattle.std.specs.Prelude.{◌≡◌, ℕ, ◌<◌, ◌≤◌, [], length, take, IfOk, OnErr, OnOk};
-ghost use Rattle.os_io.specs.Streams.{Tells, Told, Takes, Appends, Grows, Counts, SameInput, SameOutput, Writes, Sends};
+ghost use Rattle.os_io.specs.Streams.{Tells, BothTold, Takes, Appends, Grows, Counts, SameInput, SameOutput, Writes, Sends};
 
 /// A call failed, and its object's count of faults rose, or stands at 2^64 - 1.
 #[derive(Clone, Copy, PartialEq, Eq, Debug, Drop)]
@@ -17,8 +17,8 @@ pub trait Source: Stream {
     /// that isn't empty is the end. A read that fails takes nothing.
     fn read(&mut self, buf: &mut [u8]) -> Result<usize, Failed>
         ensures within { IfOk result (λ n. n ≤ length buf.old) }
-        ensures taken { IfOk result (λ n. Told (Self.tells self.old).left (Self.tells self.new).left (Takes buf.new n)) }
-        ensures end { IfOk result (λ n. n ≡ 0 → 0 < length buf.old → Told (Self.tells self.old).left (Self.tells self.new).left (λ before after. before ≡ [])) }
+        ensures taken { IfOk result (λ n. BothTold (Self.tells self.old).left (Self.tells self.new).left (Takes buf.new n)) }
+        ensures end { IfOk result (λ n. n ≡ 0 → 0 < length buf.old → BothTold (Self.tells self.old).left (Self.tells self.new).left (λ before after. before ≡ [])) }
         ensures err { OnErr result ((Self.tells self.new).left ≡ (Self.tells self.old).left) }
         ensures counted { Counts result (Self.tells self.old).read_faults (Self.tells self.new).read_faults }
         ensures output { SameOutput (Self.tells self.old) (Self.tells self.new) };
@@ -30,7 +30,7 @@ pub trait Sink: Stream {
     fn write(&mut self, bytes: &[u8]) -> Result<usize, Failed>
         ensures within { IfOk result (λ n. n ≤ length bytes.now) }
         ensures some { IfOk result (λ n. 0 < length bytes.now → 0 < n) }
-        ensures added { IfOk result (λ n. Told (Self.tells self.old).written (Self.tells self.new).written (Appends (take n bytes.now))) }
+        ensures added { IfOk result (λ n. BothTold (Self.tells self.old).written (Self.tells self.new).written (Appends (take n bytes.now))) }
         ensures err { OnErr result ((Self.tells self.new).written ≡ (Self.tells self.old).written) }
         ensures handed_on { Grows (Self.tells self.old).handed_on (Self.tells self.new).handed_on }
         ensures counted { Counts result (Self.tells self.old).write_faults (Self.tells self.new).write_faults }

@@ -2,8 +2,8 @@ pub mod Bodies
 pub mod Steps
 pub mod Replies
 pub mod Rounds
-pub mod Away
+pub mod NoMemory
 pub mod Pieces
-pub mod Kept
-pub mod Cutting
-pub mod Deciding
+pub mod Finishes
+pub mod RequestCuts
+pub mod OneOutput

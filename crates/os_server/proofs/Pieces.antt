@@ -3,15 +3,15 @@ use Rattle.std.proofs.Common.{◌≡◌, ℕ, Bool, true, false, length, List, [
 use Rattle.std.specs.Prelude.{All, ◌⊎◌}
 use Rattle.std.proofs.lemmas.List.Elements.{All-head, All-tail}
 use Rattle.six_calls.specs.declared.call.CallKind.{CallKind}
-use Rattle.six_calls.proofs.Named.{each_passes}
+use Rattle.six_calls.proofs.Names.{each_passes}
 use Rattle.job_table.specs.declared.job.Job.{Job}
 use Rattle.job_table.specs.declared.calls.Call.{Call}
 use Rattle.job_table.specs.declared.calls.Call.TheVariants as calls
 use Rattle.job_table.specs.declared.calls.Reply as tables
 use Rattle.job_table.specs.declared.calls.Reply.TheVariants as reply
-use Rattle.job_table.specs.History.{Entry, entry, IsGiving}
-use Rattle.job_runs.specs.Runs.{IsRun, Works}
-use Rattle.job_runs.specs.Solving.{EntersAndRuns}
+use Rattle.job_table.specs.History.{Entry, entry_of_move, IsGiving}
+use Rattle.job_runs.specs.Runs.{IsJobRun, Works}
+use Rattle.job_runs.specs.Solves.{EntersAndRuns}
 use Rattle.os_server.specs.declared.order.Order.{Order}
 use Rattle.os_server.specs.declared.saying.Said.{Said}
 use Rattle.os_server.specs.declared.reply.Reply.{Reply}
@@ -19,7 +19,7 @@ use Rattle.os_server.specs.declared.reply.Reply.TheVariants.{Answer, Refused, No
 use Rattle.os_server.specs.declared.serve.Served.{Served}
 use Rattle.os_server.specs.declared.serve.Served.TheVariants.{Ended, CutShort, ReadFault, WriteFault, Memory}
 use Rattle.os_server.specs.Answers.{Doing, Moves, RunsAtOnce, doing, doing_of, DoesSo, Does, BeginsSo}
-use Rattle.os_server.specs.Talk.{Part, all_of, Answers, IsDue, IsExchange, Ends, IsLast, Talk}
+use Rattle.os_server.specs.Talk.{Part, all_of, IsBodyAnswered, IsReplyDue, IsExchange, EndsTalk, IsLastPart, Talk}
 
 abbrev pub Made : Type 1
 Made = List ℕ → List ℕ → List Bool → Option (List ℕ) → Type 0
@@ -66,14 +66,14 @@ plain_then call said never = refl
 pub record Builds (made : Made) (Holds : List Entry → Type 0) : Type 0 where
   pub none : Holds []
   pub both : (a b : List Entry) → Holds a → Holds b → Holds (a ++ b)
-  pub plain : (call : Call) (said : tables.Reply) → is_plain call said ≡ true → Holds (entry call said ∷ [])
-  pub given : (j : Job) (call : Call) (run : List Entry) → IsGiving call → IsRun made j run → Holds (entry call (reply.Gave (Some j)) ∷ run)
+  pub plain : (call : Call) (said : tables.Reply) → is_plain call said ≡ true → Holds (entry_of_move call said ∷ [])
+  pub given : (j : Job) (call : Call) (run : List Entry) → IsGiving call → IsJobRun made j run → Holds (entry_of_move call (reply.Gave (Some j)) ∷ run)
 
 module _ (made : Made) (Holds : List Entry → Type 0) (b : Builds made Holds) where
   no_calls : (own : List Entry) → own ≡ [] → Holds own
   no_calls own none = subst Holds (sym none) b.none
 
-  one_call : (call : Call) (said : tables.Reply) (own : List Entry) → own ≡ entry call said ∷ [] → is_plain call said ≡ true → Holds own
+  one_call : (call : Call) (said : tables.Reply) (own : List Entry) → own ≡ entry_of_move call said ∷ [] → is_plain call said ≡ true → Holds own
   one_call call said own is plain = subst Holds (sym is) (b.plain call said plain)
 
   entered : (o p : List ℕ) (j : Job) (own : List Entry) → EntersAndRuns made o p j own → Holds own
@@ -81,7 +81,7 @@ module _ (made : Made) (Holds : List Entry → Type 0) (b : Builds made Holds) w
 
   pub works_so : (as_worker : Bool) (given : Option Job) (own : List Entry) → Works made as_worker given own → Holds own
   works_so as_worker None own w =
-      one_call (calls.Claim as_worker) (reply.Gave None) own (w.are ∙ ap (λ es. entry (calls.Claim as_worker) (reply.Gave None) ∷ es) w.ran) refl
+      one_call (calls.Claim as_worker) (reply.Gave None) own (w.are ∙ ap (λ es. entry_of_move (calls.Claim as_worker) (reply.Gave None) ∷ es) w.ran) refl
   works_so as_worker (Some j) own w = subst Holds (sym w.are) (b.given j (calls.Claim as_worker) w.run tt w.ran)
 
   turned_away : (said : tables.Reply) → (said ≡ reply.Full) ⊎ (said ≡ reply.Spent) → gives_none said ≡ true
@@ -92,7 +92,7 @@ module _ (made : Made) (Holds : List Entry → Type 0) (b : Builds made Holds) w
   doing_so (Moves call) last own plain is = one_call call last own is (plain_then call last plain)
   doing_so (RunsAtOnce o p) last own plain (inl away) = one_call (calls.Enter o p) last own away.0 (turned_away last away.1)
   doing_so (RunsAtOnce o p) last own plain (inr r) =
-      subst Holds (sym r.are) (b.both r.run (entry (calls.Retrieve r.job.number) last ∷ []) (entered o p r.job r.run r.ran) (b.plain (calls.Retrieve r.job.number) last refl))
+      subst Holds (sym r.are) (b.both r.run (entry_of_move (calls.Retrieve r.job.number) last ∷ []) (entered o p r.job r.run r.ran) (b.plain (calls.Retrieve r.job.number) last refl))
 
   does_so : (order : Order) (last : tables.Reply) (own : List Entry) → Does made order last own → Holds own
   does_so order last own does = doing_so (doing_of order) last own (done_plainly order.kind order.number order.osil order.osol) does
@@ -103,11 +103,11 @@ module _ (made : Made) (Holds : List Entry → Type 0) (b : Builds made Holds) w
   begun_so (RunsAtOnce o p) own (inr (j, e)) = entered o p j own e
 
   module _ (wakes : Wakes) where
-    answers_so : (body : List ℕ) (own : List Entry) (said : Said) (as_worker : Bool) → Answers made wakes body own said as_worker → Holds own
+    answers_so : (body : List ℕ) (own : List Entry) (said : Said) (as_worker : Bool) → IsBodyAnswered made wakes body own said as_worker → Holds own
     answers_so body own said as_worker (inl d) = does_so d.order d.last own d.does
     answers_so body own said as_worker (inr f) = no_calls own f.none
 
-    due_so : (taken : List ℕ) (own : List Entry) (r : Reply) → IsDue made wakes taken own r → Holds own
+    due_so : (taken : List ℕ) (own : List Entry) (r : Reply) → IsReplyDue made wakes taken own r → Holds own
     due_so taken own (Answer said close as_worker) (body, request, answers) = answers_so body own said as_worker answers
     due_so taken own (Refused refusal) (refused, none) = no_calls own none
     due_so taken own NoMemory (inl (request, none)) = no_calls own none
@@ -118,7 +118,7 @@ module _ (made : Made) (Holds : List Entry → Type 0) (b : Builds made Holds) w
     exchange_so close p x =
         subst Holds (sym x.entries) (b.both x.own x.after (answers_so x.answered.0 x.own x.said x.as_worker x.answered.2) (works_so x.as_worker x.given x.after x.works))
 
-    last_so : (end : Served) (A : Type 0) (p : Part) → Ends made wakes end A p → Holds p.entries
+    last_so : (end : Served) (A : Type 0) (p : Part) → EndsTalk made wakes end A p → Holds p.entries
     last_so Ended A p (inl (ended, silence, at)) = no_calls p.entries silence.0
     last_so Ended A p (inr (inl x)) = exchange_so true p x
     last_so Ended A p (inr (inr (refusal, is_due, out))) = due_so p.taken p.entries (Refused refusal) is_due
@@ -127,7 +127,7 @@ module _ (made : Made) (Holds : List Entry → Type 0) (b : Builds made Holds) w
     last_so WriteFault A p (r, is_due, out) = due_so p.taken p.entries r is_due
     last_so Memory A p (is_due, out) = due_so p.taken p.entries NoMemory is_due
 
-    end_so : (end : Served) (count : ℕ) (A : Type 0) (p : Part) → IsLast made wakes end count A p → Holds p.entries
+    end_so : (end : Served) (count : ℕ) (A : Type 0) (p : Part) → IsLastPart made wakes end count A p → Holds p.entries
     end_so end count A p (inl (few, ends)) = last_so end A p ends
     end_so end count A p (inr (is, full, none)) = no_calls p.entries (ap (λ q. q.entries) none)
 

@@ -15,7 +15,7 @@ use Rattle.os_server.specs.declared.reply.Reply.{Reply}
 use Rattle.os_server.specs.declared.reply.Reply.TheVariants.{Answer, Refused, NoMemory}
 use Rattle.os_server.specs.Orders.{Asks, Faults, AsksNothing}
 use Rattle.os_server.specs.Answers.{said_by, fault_said, returns}
-use Rattle.os_server.specs.Talk.{IsDue}
+use Rattle.os_server.specs.Talk.{IsReplyDue}
 use Rattle.os_server.specs.Serving.{IsOrdered, IsReplied}
 use Rattle.os_server.proofs.Pieces.{Made, Wakes}
 
@@ -59,7 +59,7 @@ WholesArePart = (bytes body : List ℕ) (close : Bool) → IsRequest bytes close
 
 -- a reply to a body is due to its request
 pub due : (made : Made) (wakes : Wakes) (wholes : WholesArePart) (taken body : List ℕ) (close : Bool) (own : List Entry) (r : Reply) → IsRequest taken close body
-    → IsReplied made wakes body close own r → IsDue made wakes taken own r
+    → IsReplied made wakes body close own r → IsReplyDue made wakes taken own r
 due made wakes wholes taken body close own (Answer said closes as_worker) request (same, answers) =
     (body, subst (λ (c : Bool). IsRequest taken c body) (sym same) request, answers)
 due made wakes wholes taken body close own (Refused refusal) request (fails, is, alone) = (inr (close, body, request, fails, is), alone)

@@ -2,23 +2,23 @@
 use Rattle.std.proofs.Common.{◌≡◌, ℕ, ◌+◌, ◌<◌, true, false, List, [], ◌∷◌, ◌++◌, length, Option, Some, None, Result, Ok, Err, refl, sym, ◌∙◌, ap, subst, inl, inr, length-append, append-nil, append_assoc}
 use Rattle.std.specs.Prelude.{All}
 use Rattle.std.proofs.lemmas.List.Elements.{All-nil, All-push}
-use Rattle.os_io.specs.Streams.{Tells, Told, IsPart, Appends, AppendsPart, Grows, HasRisen, SameInput, SameOutput, Sends}
+use Rattle.os_io.specs.Streams.{Tells, BothTold, IsPart, Appends, AppendsPart, Grows, HasRisen, SameInput, SameOutput, Sends}
 use Rattle.os_io.specs.declared.streams.Failed.{Failed}
 use Rattle.os_io.proofs.Pieces.{grows_same, grows_on}
-use Rattle.http_link.specs.Carrying.{with_carry, tells_ahead}
+use Rattle.http_link.specs.Carry.{with_carry, tells_ahead}
 use Rattle.http_link.specs.declared.requests.Incoming.{Incoming}
 use Rattle.http_link.specs.declared.requests.Incoming.TheVariants as incoming
 use Rattle.http_link.specs.declared.requests.Request.{Request}
 use Rattle.http_link.specs.declared.requests.LinkFault.{LinkFault}
 use Rattle.http_link.specs.declared.requests.LinkFault.TheVariants as lost
-use Rattle.http_link.specs.Requests.{CountsFault, Answers as Reading}
+use Rattle.http_link.specs.Requests.{CountsFault, AnswersTaken as Reading}
 use Rattle.job_table.specs.History.{Entry}
 use Rattle.os_server.specs.declared.reply.Reply.{Reply}
 use Rattle.os_server.specs.declared.reply.Reply.TheVariants.{Answer, Refused, NoMemory}
 use Rattle.os_server.specs.declared.serve.Served.{Served}
 use Rattle.os_server.specs.declared.serve.Served.TheVariants.{Ended, CutShort, ReadFault, WriteFault, Memory}
-use Rattle.os_server.specs.Talk.{Part, part, then, all_of, Reads, AtEnd, most_requests, text_of_reply, IsDue, IsExchange, Ends, IsLast, HandsOn, Accounts, Serves, ServesWhole, both_ends}
-use Rattle.os_server.specs.Serving.{IsReplied, AnswersOne, Follows, Came, Comes, AccountsOne, ServesOne}
+use Rattle.os_server.specs.Talk.{Part, part, then, all_of, ReadsBytes, AtEnd, most_requests, text_of_reply, IsReplyDue, IsExchange, EndsTalk, IsLastPart, HandsOn, Accounts, Serves, ServesWhole, both_ends}
+use Rattle.os_server.specs.Serving.{IsReplied, AnswersOne, FollowsReply, CameWithDue, ComesOnLink, AccountsOne, ServesOne}
 use Rattle.os_server.proofs.Pieces.{Made, Wakes}
 use Rattle.os_server.proofs.Steps.{read_then, wrote_then, at_end_then, read_none, wrote_none, read_whole, read_of, hands_then, then_none, all_more}
 use Rattle.os_server.proofs.Replies.{WholesArePart, due}
@@ -34,7 +34,7 @@ Joins did did' both = (a b : List Entry) → did a → did' b → both (a ++ b)
 
 whole_came : (made : Made) (wakes : Wakes) (wholes : WholesArePart) (did : List Entry → Type 0) (r : Request) (reply : Reply) (old new : Tells)
     → Reading (Ok (incoming.Whole r)) old.left new.left → new.read_faults ≡ old.read_faults → SameOutput old new
-    → ((own : List Entry) × did own × IsReplied made wakes r.body r.close own reply) → Comes made wakes did (Ok reply) old new
+    → ((own : List Entry) × did own × IsReplied made wakes r.body r.close own reply) → ComesOnLink made wakes did (Ok reply) old new
 whole_came made wakes wholes did r reply old new (taken, request, took) counted output (own, calls, is) = record {
   taken = taken;
   own = own;
@@ -48,13 +48,13 @@ whole_came made wakes wholes did r reply old new (taken, request, took) counted 
 -- a request that is whole
 pub whole_comes : (made : Made) (wakes : Wakes) (wholes : WholesArePart) (did : List Entry → Type 0) (i : Incoming) (r : Request) (lent : List ℕ) (reply : Reply) (old new : Tells)
     → i ≡ incoming.Whole r → lent ≡ r.body → Reading (Ok i) old.left new.left → new.read_faults ≡ old.read_faults → SameOutput old new
-    → ((own : List Entry) × did own × IsReplied made wakes lent r.close own reply) → Comes made wakes did (Ok reply) old new
+    → ((own : List Entry) × did own × IsReplied made wakes lent r.close own reply) → ComesOnLink made wakes did (Ok reply) old new
 whole_comes made wakes wholes did i r lent reply old new is lent_is came counted output replied =
     whole_came made wakes wholes did r reply old new (subst (λ (j : Incoming). Reading (Ok j) old.left new.left) is came) counted output
     (subst (λ (b : List ℕ). (own : List Entry) × did own × IsReplied made wakes b r.close own reply) lent_is replied)
 
 lost_came : (made : Made) (wakes : Wakes) (did : List Entry → Type 0) (old new : Tells) → did [] → Reading (Err lost.Memory) old.left new.left
-    → new.read_faults ≡ old.read_faults → SameOutput old new → Comes made wakes did (Ok NoMemory) old new
+    → new.read_faults ≡ old.read_faults → SameOutput old new → ComesOnLink made wakes did (Ok NoMemory) old new
 lost_came made wakes did old new stays (taken, request, took) counted output = record {
   taken = taken;
   own = [];
@@ -68,7 +68,7 @@ lost_came made wakes did old new stays (taken, request, took) counted output = r
 -- a request for which there was no memory
 pub lost_comes : (made : Made) (wakes : Wakes) (did : List Entry → Type 0) (fault : LinkFault) (old new : Tells) → fault ≡ lost.Memory → did []
     → Reading (Err fault) old.left new.left → CountsFault {X = Incoming} (Err fault) old.read_faults new.read_faults → SameOutput old new
-    → Comes made wakes did (Ok NoMemory) old new
+    → ComesOnLink made wakes did (Ok NoMemory) old new
 lost_comes made wakes did fault old new is stays came counted output =
     lost_came made wakes did old new stays (subst (λ (f : LinkFault). Reading (Err f) old.left new.left) is came)
     (subst (λ (f : LinkFault). CountsFault {X = Incoming} (Err f) old.read_faults new.read_faults) is counted) output
@@ -76,14 +76,14 @@ lost_comes made wakes did fault old new is stays came counted output =
 -- ---- one request
 
 -- no calls after these
-without_more : (made : Made) (wakes : Wakes) (taken : List ℕ) (own after : List Entry) (reply : Reply) → after ≡ [] → IsDue made wakes taken own reply
-    → IsDue made wakes taken (own ++ after) reply
+without_more : (made : Made) (wakes : Wakes) (taken : List ℕ) (own after : List Entry) (reply : Reply) → after ≡ [] → IsReplyDue made wakes taken own reply
+    → IsReplyDue made wakes taken (own ++ after) reply
 without_more made wakes taken own after reply none is_due =
-    subst (λ (es : List Entry). IsDue made wakes taken es reply) (sym (ap (λ s. own ++ s) none ∙ append-nil own)) is_due
+    subst (λ (es : List Entry). IsReplyDue made wakes taken es reply) (sym (ap (λ s. own ++ s) none ∙ append-nil own)) is_due
 
 -- a reply that was written, and what followed
 answered : (made : Made) (wakes : Wakes) (AtEnd : Type 0) (reply : Reply) (end : Option Served) (taken : List ℕ) (own after : List Entry)
-    → IsDue made wakes taken own reply → Follows made wakes reply after end
+    → IsReplyDue made wakes taken own reply → FollowsReply made wakes reply after end
     → AnswersOne made wakes end AtEnd (part taken (own ++ after) (text_of_reply reply))
 answered made wakes AtEnd (Answer said true as_worker) end taken own after is_due (works, end_is) =
     subst (λ (e : Option Served). AnswersOne made wakes e AtEnd (part taken (own ++ after) (text_of_reply (Answer said true as_worker)))) (sym end_is)
@@ -122,7 +122,7 @@ answered made wakes AtEnd NoMemory end taken own after is_due (none, end_is) =
 abbrev WentWell : Tells → Tells → Type 0
 WentWell old new = (new.read_faults ≡ old.read_faults) × (new.write_faults ≡ old.write_faults) × HandsOn old new
 
-settled : (made : Made) (wakes : Wakes) (reply : Reply) (end : Option Served) (after : List Entry) (old new : Tells) → Follows made wakes reply after end
+settled : (made : Made) (wakes : Wakes) (reply : Reply) (end : Option Served) (after : List Entry) (old new : Tells) → FollowsReply made wakes reply after end
     → WentWell old new → AccountsOne end old new
 settled made wakes (Answer said true as_worker) end after old new f w = subst (λ (e : Option Served). AccountsOne e old new) (sym f.1) w
 settled made wakes (Answer said false as_worker) end after old new f w = subst (λ (e : Option Served). AccountsOne e old new) (sym f.1) w
@@ -131,28 +131,28 @@ settled made wakes NoMemory end after old new f w = subst (λ (e : Option Served
 
 -- a reply that was sent, and what followed
 pub followed : (made : Made) (wakes : Wakes) (did did' both : List Entry → Type 0) (reply : Reply) (end : Option Served) (x : Unit {0}) (old mid new : Tells)
-    → Joins did did' both → Comes made wakes did (Ok reply) old mid → Sends {X = Unit {0}} {E = Failed} (Ok x) (text_of_reply reply) mid new
-    → ((after : List Entry) × did' after × Follows made wakes reply after end) → ServesOne made wakes both end old new
+    → Joins did did' both → ComesOnLink made wakes did (Ok reply) old mid → Sends {X = Unit {0}} {E = Failed} (Ok x) (text_of_reply reply) mid new
+    → ((after : List Entry) × did' after × FollowsReply made wakes reply after end) → ServesOne made wakes both end old new
 followed made wakes did did' both reply end x old mid new joins came sent (after, calls, follows) = record {
   part = part came.taken (came.own ++ after) (text_of_reply reply);
   answers = answered made wakes (AtEnd [] old.left new.left) reply end came.taken came.own after came.shows follows;
   calls = joins came.own after came.calls calls;
-  read = subst (λ (b : Bytes). Reads came.taken old.left b) (sym sent.writes.input.left) came.read;
-  wrote = subst (λ (b : Bytes). Told b new.written (Appends (text_of_reply reply))) came.output.written sent.writes.written;
+  read = subst (λ (b : Bytes). ReadsBytes came.taken old.left b) (sym sent.writes.input.left) came.read;
+  wrote = subst (λ (b : Bytes). BothTold b new.written (Appends (text_of_reply reply))) came.output.written sent.writes.written;
   accounts = settled made wakes reply end after old new follows
       (sent.writes.input.read_faults ∙ came.counted, sent.writes.counted ∙ came.output.write_faults, inl sent.handed_on);
   grew = subst (λ (b : Bytes). Grows b new.handed_on) came.output.handed_on sent.writes.handed_on;
 }
 
-part_written : (x y : Bytes) (text : List ℕ) → Told x y (AppendsPart text)
-    → (out : List ℕ) × IsPart text out × Told x y (Appends out)
+part_written : (x y : Bytes) (text : List ℕ) → BothTold x y (AppendsPart text)
+    → (out : List ℕ) × IsPart text out × BothTold x y (Appends out)
 part_written None y text p = ([], (text, refl), tt)
 part_written (Some x) None text p = absurd p
 part_written (Some x) (Some y) text (out, is, wrote) = (out, is, wrote)
 
 -- a reply of which a first part was written
 pub unwritten : (made : Made) (wakes : Wakes) (did : List Entry → Type 0) (reply : Reply) (e : Failed) (old mid new : Tells)
-    → Comes made wakes did (Ok reply) old mid → Sends {X = Unit {0}} {E = Failed} (Err e) (text_of_reply reply) mid new
+    → ComesOnLink made wakes did (Ok reply) old mid → Sends {X = Unit {0}} {E = Failed} (Err e) (text_of_reply reply) mid new
     → ServesOne made wakes did (Some WriteFault) old new
 unwritten made wakes did reply e old mid new came sent =
     let (out, is_part, wrote) = part_written mid.written new.written (text_of_reply reply) sent.writes.written in
@@ -161,8 +161,8 @@ unwritten made wakes did reply e old mid new came sent =
       part = part came.taken came.own out;
       answers = (reply, came.shows, is_part);
       calls = came.calls;
-      read = subst (λ (b : Bytes). Reads came.taken old.left b) (sym sent.writes.input.left) came.read;
-      wrote = subst (λ (b : Bytes). Told b new.written (Appends out)) came.output.written wrote;
+      read = subst (λ (b : Bytes). ReadsBytes came.taken old.left b) (sym sent.writes.input.left) came.read;
+      wrote = subst (λ (b : Bytes). BothTold b new.written (Appends out)) came.output.written wrote;
       accounts = (
         sent.writes.input.read_faults ∙ came.counted,
         subst (λ (n : ℕ). HasRisen n new.write_faults) came.output.write_faults sent.writes.counted,
@@ -171,7 +171,7 @@ unwritten made wakes did reply e old mid new came sent =
       grew = grew;
     }
 
-ended_with : (made : Made) (wakes : Wakes) (end : Served) (A : Type 0) (taken : List ℕ) (own : List Entry) → Came made wakes (Err end) A taken own
+ended_with : (made : Made) (wakes : Wakes) (end : Served) (A : Type 0) (taken : List ℕ) (own : List Entry) → CameWithDue made wakes (Err end) A taken own
     → AnswersOne made wakes (Some end) A (part taken own [])
 ended_with made wakes Ended A taken own (ended, none, at) = inl (ended, (none, refl), at)
 ended_with made wakes CutShort A taken own (cut, none, at) = (cut, (none, refl), at)
@@ -179,7 +179,7 @@ ended_with made wakes ReadFault A taken own (begun, none) = (begun, (none, refl)
 ended_with made wakes WriteFault A taken own p = absurd p
 ended_with made wakes Memory A taken own p = absurd p
 
-silent_accounts : (made : Made) (wakes : Wakes) (did : List Entry → Type 0) (end : Served) (old new : Tells) → Comes made wakes did (Err end) old new
+silent_accounts : (made : Made) (wakes : Wakes) (did : List Entry → Type 0) (end : Served) (old new : Tells) → ComesOnLink made wakes did (Err end) old new
     → Accounts end old new
 silent_accounts made wakes did Ended old new came = (came.counted, came.output.write_faults, inr (came.output.written, came.output.handed_on))
 silent_accounts made wakes did CutShort old new came = (came.counted, came.output.write_faults, inr (came.output.written, came.output.handed_on))
@@ -188,14 +188,14 @@ silent_accounts made wakes did WriteFault old new came = absurd came.counted
 silent_accounts made wakes did Memory old new came = absurd came.counted
 
 -- no request came, and nothing was written
-pub silent : (made : Made) (wakes : Wakes) (did : List Entry → Type 0) (end : Served) (old new : Tells) → Comes made wakes did (Err end) old new
+pub silent : (made : Made) (wakes : Wakes) (did : List Entry → Type 0) (end : Served) (old new : Tells) → ComesOnLink made wakes did (Err end) old new
     → ServesOne made wakes did (Some end) old new
 silent made wakes did end old new came = record {
   part = part came.taken came.own [];
   answers = ended_with made wakes end (AtEnd [] old.left new.left) came.taken came.own came.shows;
   calls = came.calls;
   read = came.read;
-  wrote = subst (λ (b : Bytes). Told old.written b (Appends [])) (sym came.output.written) (wrote_none old.written);
+  wrote = subst (λ (b : Bytes). BothTold old.written b (Appends [])) (sym came.output.written) (wrote_none old.written);
   accounts = silent_accounts made wakes did end old new came;
   grew = subst (λ (b : Bytes). Grows old.handed_on b) (sym came.output.handed_on) (grows_same old.handed_on);
 }
@@ -214,8 +214,8 @@ pub input_then : (a b c : Tells) → SameInput a b → SameInput b c → SameInp
 input_then a b c p q = record { left = q.left ∙ p.left; read_faults = q.read_faults ∙ p.read_faults }
 
 -- what came on an input that is one of two ends
-pub comes_between : (made : Made) (wakes : Wakes) (did : List Entry → Type 0) (came : Result Reply Served) (i j o : Tells) → Comes made wakes did came i j
-    → Comes made wakes did came (both_ends i o) (both_ends j o)
+pub comes_between : (made : Made) (wakes : Wakes) (did : List Entry → Type 0) (came : Result Reply Served) (i j o : Tells) → ComesOnLink made wakes did came i j
+    → ComesOnLink made wakes did came (both_ends i o) (both_ends j o)
 comes_between made wakes did came i j o c = record {
   taken = c.taken;
   own = c.own;
@@ -247,8 +247,8 @@ pub record SoFar (made : Made) (wakes : Wakes) (did : List Entry → Type 0) (co
   pub exchanges : All (IsExchange made wakes false) done
   pub length_is : length done ≡ count
   pub calls : did (all_of done).entries
-  pub read : Reads (all_of done).taken old.left new.left
-  pub wrote : Told old.written new.written (Appends (all_of done).out)
+  pub read : ReadsBytes (all_of done).taken old.left new.left
+  pub wrote : BothTold old.written new.written (Appends (all_of done).out)
   pub accounts : WentWell old new
   pub grew : Grows old.handed_on new.handed_on
 
@@ -274,14 +274,14 @@ one_more made wakes did did' both count a b c joins s r = record {
   exchanges = All-push (IsExchange made wakes false) s.done r.part s.exchanges r.answers;
   length_is = length-append s.done (r.part ∷ []) ∙ ap (λ n. n + 1) s.length_is;
   calls = subst (λ (p : Part). both p.entries) (sym (all_more s.done r.part)) (joins _ _ s.calls r.calls);
-  read = subst (λ (p : Part). Reads p.taken a.left c.left) (sym (all_more s.done r.part)) (read_then a.left b.left c.left _ _ s.read r.read);
-  wrote = subst (λ (p : Part). Told a.written c.written (Appends p.out)) (sym (all_more s.done r.part)) (wrote_then a.written b.written c.written _ _ s.wrote r.wrote);
+  read = subst (λ (p : Part). ReadsBytes p.taken a.left c.left) (sym (all_more s.done r.part)) (read_then a.left b.left c.left _ _ s.read r.read);
+  wrote = subst (λ (p : Part). BothTold a.written c.written (Appends p.out)) (sym (all_more s.done r.part)) (wrote_then a.written b.written c.written _ _ s.wrote r.wrote);
   accounts = well_then a b c s.accounts r.accounts;
   grew = grows_on a.handed_on b.handed_on c.handed_on s.grew r.grew;
 }
 
 -- the input's end is that of the whole
-ends_at : (made : Made) (wakes : Wakes) (end : Served) (A B : Type 0) (p : Part) → (A → B) → Ends made wakes end A p → Ends made wakes end B p
+ends_at : (made : Made) (wakes : Wakes) (end : Served) (A B : Type 0) (p : Part) → (A → B) → EndsTalk made wakes end A p → EndsTalk made wakes end B p
 ends_at made wakes Ended A B p f (inl (ended, silence, at)) = inl (ended, silence, f at)
 ends_at made wakes Ended A B p f (inr e) = inr e
 ends_at made wakes CutShort A B p f (cut, silence, at) = (cut, silence, f at)
@@ -376,12 +376,12 @@ at_end_of None y past carry p = tt
 at_end_of (Some x) None past carry p = absurd p
 at_end_of (Some x) (Some y) past carry p = append_assoc past carry y ∙ p
 
-last_at : (made : Made) (wakes : Wakes) (end : Served) (count : ℕ) (A B : Type 0) (p : Part) → (A → B) → IsLast made wakes end count A p → IsLast made wakes end count B p
+last_at : (made : Made) (wakes : Wakes) (end : Served) (count : ℕ) (A B : Type 0) (p : Part) → (A → B) → IsLastPart made wakes end count A p → IsLastPart made wakes end count B p
 last_at made wakes end count A B p f (inl (few, ends)) = inl (few, ends_at made wakes end A B p f ends)
 last_at made wakes end count A B p f (inr full) = inr full
 
-read_past : (x y : Bytes) (taken past carry : List ℕ) → Reads (taken ++ past) (with_carry [] x) (with_carry carry y)
-    → Reads (taken ++ (past ++ carry)) x y
+read_past : (x y : Bytes) (taken past carry : List ℕ) → ReadsBytes (taken ++ past) (with_carry [] x) (with_carry carry y)
+    → ReadsBytes (taken ++ (past ++ carry)) x y
 read_past None y taken past carry p = tt
 read_past (Some x) None taken past carry p = absurd p
 read_past (Some x) (Some y) taken past carry p =

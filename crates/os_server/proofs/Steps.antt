@@ -1,52 +1,52 @@
 -- Parts of a conversation, one after another.
 use Rattle.std.proofs.Common.{◌≡◌, ℕ, List, [], ◌∷◌, ◌++◌, inl, inr, Option, Some, None, refl, sym, ◌∙◌, ap, append_assoc, append-nil}
-use Rattle.os_io.specs.Streams.{Tells, Told, Appends}
-use Rattle.os_server.specs.Talk.{Part, part, then, all_of, Reads, AtEnd, HandsOn}
+use Rattle.os_io.specs.Streams.{Tells, BothTold, Appends}
+use Rattle.os_server.specs.Talk.{Part, part, then, all_of, ReadsBytes, AtEnd, HandsOn}
 
 abbrev Bytes : Type 0
 Bytes = Option (List ℕ)
 
-pub read_then : (x y z : Bytes) (a b : List ℕ) → Reads a x y → Reads b y z → Reads (a ++ b) x z
+pub read_then : (x y z : Bytes) (a b : List ℕ) → ReadsBytes a x y → ReadsBytes b y z → ReadsBytes (a ++ b) x z
 read_then None y z a b p q = tt
 read_then (Some x) None z a b p q = absurd p
 read_then (Some x) (Some y) None a b p q = absurd q
 read_then (Some x) (Some y) (Some z) a b p q = p ∙ ap (λ s. a ++ s) q ∙ sym (append_assoc a b z)
 
-pub wrote_then : (x y z : Bytes) (a b : List ℕ) → Told x y (Appends a) → Told y z (Appends b) → Told x z (Appends (a ++ b))
+pub wrote_then : (x y z : Bytes) (a b : List ℕ) → BothTold x y (Appends a) → BothTold y z (Appends b) → BothTold x z (Appends (a ++ b))
 wrote_then None y z a b p q = tt
 wrote_then (Some x) None z a b p q = absurd p
 wrote_then (Some x) (Some y) None a b p q = absurd q
 wrote_then (Some x) (Some y) (Some z) a b p q = q ∙ ap (λ s. s ++ b) p ∙ append_assoc x a b
 
-pub at_end_then : (x y z : Bytes) (a : List ℕ) → Reads a x y → AtEnd [] y z → AtEnd [] x z
+pub at_end_then : (x y z : Bytes) (a : List ℕ) → ReadsBytes a x y → AtEnd [] y z → AtEnd [] x z
 at_end_then None y z a p q = tt
 at_end_then (Some x) None z a p q = absurd p
 at_end_then (Some x) (Some y) None a p q = absurd q
 at_end_then (Some x) (Some y) (Some z) a p q = q
 
-pub read_none : (x : Bytes) → Reads [] x x
+pub read_none : (x : Bytes) → ReadsBytes [] x x
 read_none None = tt
 read_none (Some x) = refl
 
-pub wrote_none : (x : Bytes) → Told x x (Appends [])
+pub wrote_none : (x : Bytes) → BothTold x x (Appends [])
 wrote_none None = tt
 wrote_none (Some x) = sym (append-nil x)
 
 -- nothing was read past a part
-pub read_whole : (x y : Bytes) (a : List ℕ) → Reads a x y → Reads (a ++ []) x y
+pub read_whole : (x y : Bytes) (a : List ℕ) → ReadsBytes a x y → ReadsBytes (a ++ []) x y
 read_whole None y a p = tt
 read_whole (Some x) None a p = absurd p
 read_whole (Some x) (Some y) a p = p ∙ ap (λ s. s ++ y) (sym (append-nil a))
 
 -- the read bytes, of which more was known
-pub read_of : (P : List ℕ → Type 0) (x y : Bytes) (taken : List ℕ) → Told x y (λ before after. (before ≡ taken ++ after) × P after)
-    → Reads taken x y
+pub read_of : (P : List ℕ → Type 0) (x y : Bytes) (taken : List ℕ) → BothTold x y (λ before after. (before ≡ taken ++ after) × P after)
+    → ReadsBytes taken x y
 read_of P None y taken p = tt
 read_of P (Some x) None taken p = absurd p
 read_of P (Some x) (Some y) taken p = p.0
 
 -- and of which the end of the input was known
-pub end_of : (x y : Bytes) (taken : List ℕ) → Told x y (λ before after. (before ≡ taken ++ after) × (after ≡ []))
+pub end_of : (x y : Bytes) (taken : List ℕ) → BothTold x y (λ before after. (before ≡ taken ++ after) × (after ≡ []))
     → AtEnd [] x y
 end_of None y taken p = tt
 end_of (Some x) None taken p = absurd p

@@ -11,8 +11,8 @@ use Rattle.job_table.specs.declared.calls.Retrieved.TheVariants as shown
 use Rattle.job_table.specs.declared.calls.Reply.{Reply}
 use Rattle.job_table.specs.declared.calls.Reply.TheVariants as reply
 use Rattle.job_table.specs.Ids.{id_text}
-use Rattle.job_table.specs.History.{Entry, entry}
-use Rattle.job_runs.specs.Solving.{Solves, BeginsToSolve}
+use Rattle.job_table.specs.History.{Entry, entry_of_move}
+use Rattle.job_runs.specs.Solves.{Solves, BeginsToSolve}
 use Rattle.certificate.specs.declared.causes.Cause.TheVariants as causes
 use Rattle.certificate.specs.declared.claims.Claim.{Claim}
 use Rattle.certificate.specs.declared.claims.Claim.TheVariants.{Unsure}
@@ -134,7 +134,7 @@ doing_of order = doing order.kind order.number order.osil order.osol
 
 module _ (made : List ℕ → List ℕ → List Bool → Option (List ℕ) → Type 0) where
   abbrev pub DoesSo : Doing → Reply → List Entry → Type 0
-  DoesSo (Moves call) last own = own ≡ entry call last ∷ []
+  DoesSo (Moves call) last own = own ≡ entry_of_move call last ∷ []
   DoesSo (RunsAtOnce osil osol) last own = Solves made osil osol last own
 
   -- the calls that do what is asked, the last of which has this reply

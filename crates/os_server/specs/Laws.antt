@@ -2,11 +2,11 @@
 use Rattle.std.specs.Prelude.{◌≡◌, ℕ, Bool, List, ◌++◌, Option, Some, map, ⊤}
 use Rattle.job_table.specs.declared.calls.Reply.{Reply}
 use Rattle.job_table.specs.Jobs.{Register, empty}
-use Rattle.job_table.specs.History.{Entry, Runs}
+use Rattle.job_table.specs.History.{Entry, LeadsStepwise}
 use Rattle.job_runs.specs.Laws.{AreKept}
 use Rattle.os_server.specs.declared.serve.Served.{Served}
 use Rattle.os_server.specs.declared.serve.Served.TheVariants.{Ended, CutShort, ReadFault, WriteFault, Memory}
-use Rattle.os_server.specs.Talk.{Part, AtEnd, Reads, Talk}
+use Rattle.os_server.specs.Talk.{Part, AtEnd, ReadsBytes, Talk}
 
 -- so ended, no read and no write failed, and there was memory
 abbrev pub HasNoFault : Served → Type 0
@@ -28,7 +28,7 @@ replies entries = map (λ e. e.reply) entries
 abbrev pub ConversationsAreKept : (List ℕ → List ℕ → List Bool → Option (List ℕ) → Type 0) → (Bool → Type 0) → (List ℕ → List ℕ → Bool → Option (List ℕ) → Type 0) → Type 0
 ConversationsAreKept made wakes right =
     (end : Served) (past : List ℕ) (left left' : Option (List ℕ)) (p : Part) (before : List Entry) (now : Register)
-    → Talk made wakes end (AtEnd past left left') p → Runs right empty (before ++ p.entries) now → AreKept p.entries
+    → Talk made wakes end (AtEnd past left left') p → LeadsStepwise right empty (before ++ p.entries) now → AreKept p.entries
 
 module _ (made : List ℕ → List ℕ → List Bool → Option (List ℕ) → Type 0) (wakes : Bool → Type 0) where
   -- without a fault, and with memory, the bytes to come are cut into requests and a last part in one way, which says how the
@@ -38,7 +38,7 @@ module _ (made : List ℕ → List ℕ → List Bool → Option (List ℕ) → T
       (end other : Served) (bytes past behind left rest : List ℕ) (p q : Part)
       (t : Talk made wakes end (AtEnd past (Some bytes) (Some left)) p) (u : Talk made wakes other (AtEnd behind (Some bytes) (Some rest)) q)
       → HasNoFault end → HasNoFault other
-      → Reads (p.taken ++ past) (Some bytes) (Some left) → Reads (q.taken ++ behind) (Some bytes) (Some rest)
+      → ReadsBytes (p.taken ++ past) (Some bytes) (Some left) → ReadsBytes (q.taken ++ behind) (Some bytes) (Some rest)
       → (end ≡ other) × (takens t.done ≡ takens u.done) × (t.last.taken ≡ u.last.taken)
 
   -- without a fault, and with memory, the bytes to come and what the calls were replied decide the bytes written
@@ -47,5 +47,5 @@ module _ (made : List ℕ → List ℕ → List Bool → Option (List ℕ) → T
       (end other : Served) (bytes past behind left rest : List ℕ) (p q : Part)
       (t : Talk made wakes end (AtEnd past (Some bytes) (Some left)) p) (u : Talk made wakes other (AtEnd behind (Some bytes) (Some rest)) q)
       → HasNoFault end → HasNoFault other
-      → Reads (p.taken ++ past) (Some bytes) (Some left) → Reads (q.taken ++ behind) (Some bytes) (Some rest)
+      → ReadsBytes (p.taken ++ past) (Some bytes) (Some left) → ReadsBytes (q.taken ++ behind) (Some bytes) (Some rest)
       → replies p.entries ≡ replies q.entries → p.out ≡ q.out

@@ -2,5 +2,5 @@ pub mod Orders
 pub mod Answers
 pub mod Talk
 pub mod Serving
-pub mod Once
+pub mod OneReading
 pub mod Laws

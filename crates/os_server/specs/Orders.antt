@@ -72,8 +72,8 @@ code_text codes_of.Full = codes "Server.Full"
 code_text codes_of.Spent = codes "Server.Spent"
 
 -- a call's options are refused, and this text says why
-abbrev pub RefusesOptions : SoapCall → List ℕ → Type 0
-RefusesOptions call text =
+abbrev pub SaysOptionsRefused : SoapCall → List ℕ → Type 0
+SaysOptionsRefused call text =
     (f : OsolFault) × osol_reading.DecodeFails call.parts.osol f × osol_texts.IsFaultText f text
 
 -- the options of a call are read, its process isn't empty and is refused, and this text says why
@@ -89,7 +89,7 @@ pub record RefusesProcess (call : SoapCall) (text : List ℕ) : Type 0 where
 abbrev pub RefusesCall : SoapCall → FaultCode → List ℕ → Type 0
 RefusesCall call codes_of.Call text = ⊥
 RefusesCall call codes_of.Part text = ⊥
-RefusesCall call codes_of.Options text = RefusesOptions call text
+RefusesCall call codes_of.Options text = SaysOptionsRefused call text
 RefusesCall call codes_of.Process text = RefusesProcess call text
 RefusesCall call codes_of.Full text = ⊥
 RefusesCall call codes_of.Spent text = ⊥

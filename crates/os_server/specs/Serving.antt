@@ -1,6 +1,6 @@
 -- What the parts of the server promise on the way.
 use Rattle.std.specs.Prelude.{◌≡◌, ℕ, ◌⊎◌, Bool, true, false, List, [], Option, None, Some, Result, Ok, Err}
-use Rattle.os_io.specs.Streams.{Tells, Told, Appends, Grows, HasRisen, SameOutput}
+use Rattle.os_io.specs.Streams.{Tells, BothTold, Appends, Grows, HasRisen, SameOutput}
 use Rattle.http_link.specs.declared.refusal.Refusal.TheVariants.{BadRequest}
 use Rattle.http_link.specs.Requests.{IsBegun, IsCut, EndedBetween}
 use Rattle.soap_calls.specs.declared.fault.SoapFault.TheVariants as soap
@@ -15,7 +15,7 @@ use Rattle.os_server.specs.declared.reply.Reply.TheVariants.{Answer, Refused, No
 use Rattle.os_server.specs.declared.serve.Served.{Served}
 use Rattle.os_server.specs.declared.serve.Served.TheVariants.{Ended, CutShort, ReadFault, WriteFault, Memory}
 use Rattle.os_server.specs.Answers.{said_by, Does, BeginsToDo}
-use Rattle.os_server.specs.Talk.{Part, was_taken, IsRung, AtEnd, Reads, Answers, LacksMemory, IsDue, IsExchange, Ends, HandsOn, Accounts}
+use Rattle.os_server.specs.Talk.{Part, was_taken, IsRung, AtEnd, ReadsBytes, IsBodyAnswered, LacksMemory, IsReplyDue, IsExchange, EndsTalk, HandsOn, Accounts}
 
 module _ (made : List ℕ → List ℕ → List Bool → Option (List ℕ) → Type 0) (wakes : Bool → Type 0) where
   -- the calls that do what is asked, and the reply that says the last one's
@@ -28,32 +28,32 @@ module _ (made : List ℕ → List ℕ → List Bool → Option (List ℕ) → T
 
   -- the calls for a body, and the reply that it is due after them
   abbrev pub IsReplied : List ℕ → Bool → List Entry → Reply → Type 0
-  IsReplied body close own (Answer said closes as_worker) = (closes ≡ close) × Answers made wakes body own said as_worker
+  IsReplied body close own (Answer said closes as_worker) = (closes ≡ close) × IsBodyAnswered made wakes body own said as_worker
   IsReplied body close own (Refused refusal) = CallFails body soap.Envelope × (refusal ≡ BadRequest) × (own ≡ [])
   IsReplied body close own NoMemory = (own ≡ []) ⊎ LacksMemory made wakes body own
 
   -- what came on the link and what is due to it, by what was taken, the calls and the answer
-  abbrev pub Came : Result Reply Served → Type 0 → List ℕ → List Entry → Type 0
-  Came (Ok reply) AtEnd taken own = IsDue made wakes taken own reply
-  Came (Err Ended) AtEnd taken own = EndedBetween taken × (own ≡ []) × AtEnd
-  Came (Err CutShort) AtEnd taken own = IsCut taken × (own ≡ []) × AtEnd
-  Came (Err ReadFault) AtEnd taken own = IsBegun taken × (own ≡ [])
-  Came (Err WriteFault) AtEnd taken own = ⊥
-  Came (Err Memory) AtEnd taken own = ⊥
+  abbrev pub CameWithDue : Result Reply Served → Type 0 → List ℕ → List Entry → Type 0
+  CameWithDue (Ok reply) AtEnd taken own = IsReplyDue made wakes taken own reply
+  CameWithDue (Err Ended) AtEnd taken own = EndedBetween taken × (own ≡ []) × AtEnd
+  CameWithDue (Err CutShort) AtEnd taken own = IsCut taken × (own ≡ []) × AtEnd
+  CameWithDue (Err ReadFault) AtEnd taken own = IsBegun taken × (own ≡ [])
+  CameWithDue (Err WriteFault) AtEnd taken own = ⊥
+  CameWithDue (Err Memory) AtEnd taken own = ⊥
 
   -- one request, after which the next comes or the conversation ends
   abbrev pub AnswersOne : Option Served → Type 0 → Part → Type 0
   AnswersOne None AtEnd p = IsExchange made wakes false p
-  AnswersOne (Some end) AtEnd p = Ends made wakes end AtEnd p
+  AnswersOne (Some end) AtEnd p = EndsTalk made wakes end AtEnd p
 
   -- what follows a reply that was written: a claim with the run of the job that it gave, and the next request or the end
-  abbrev pub Follows : Reply → List Entry → Option Served → Type 0
-  Follows (Answer said true as_worker) after end =
+  abbrev pub FollowsReply : Reply → List Entry → Option Served → Type 0
+  FollowsReply (Answer said true as_worker) after end =
       ((given : Option Job) × Works made as_worker given after) × (end ≡ Some Ended)
-  Follows (Answer said false as_worker) after end =
+  FollowsReply (Answer said false as_worker) after end =
       ((given : Option Job) × Works made as_worker given after) × (end ≡ None)
-  Follows (Refused refusal) after end = (after ≡ []) × (end ≡ Some Ended)
-  Follows NoMemory after end = (after ≡ []) × (end ≡ Some Memory)
+  FollowsReply (Refused refusal) after end = (after ≡ []) × (end ≡ Some Ended)
+  FollowsReply NoMemory after end = (after ≡ []) × (end ≡ Some Memory)
 
 -- how often reads failed where a request came or didn't
 abbrev pub CountsCame : Result Reply Served → ℕ → ℕ → Type 0
@@ -65,12 +65,12 @@ CountsCame (Err WriteFault) before after = ⊥
 CountsCame (Err Memory) before after = ⊥
 
 -- what was read of the link, and the calls for it
-pub record Comes (made : List ℕ → List ℕ → List Bool → Option (List ℕ) → Type 0) (wakes : Bool → Type 0) (did : List Entry → Type 0) (came : Result Reply Served) (old new : Tells) : Type 0 where
+pub record ComesOnLink (made : List ℕ → List ℕ → List Bool → Option (List ℕ) → Type 0) (wakes : Bool → Type 0) (did : List Entry → Type 0) (came : Result Reply Served) (old new : Tells) : Type 0 where
   pub taken : List ℕ
   pub own : List Entry
-  pub shows : Came made wakes came (AtEnd [] old.left new.left) taken own
+  pub shows : CameWithDue made wakes came (AtEnd [] old.left new.left) taken own
   pub calls : did own
-  pub read : Reads taken old.left new.left
+  pub read : ReadsBytes taken old.left new.left
   pub counted : CountsCame came old.read_faults new.read_faults
   pub output : SameOutput old new
 
@@ -85,7 +85,7 @@ pub record ServesOne (made : List ℕ → List ℕ → List Bool → Option (Lis
   pub part : Part
   pub answers : AnswersOne made wakes end (AtEnd [] old.left new.left) part
   pub calls : did part.entries
-  pub read : Reads part.taken old.left new.left
-  pub wrote : Told old.written new.written (Appends part.out)
+  pub read : ReadsBytes part.taken old.left new.left
+  pub wrote : BothTold old.written new.written (Appends part.out)
   pub accounts : AccountsOne end old new
   pub grew : Grows old.handed_on new.handed_on

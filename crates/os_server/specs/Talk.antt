@@ -1,11 +1,11 @@
 -- A conversation on one connection: the bytes read, the calls made with their replies, the bytes written, and its end (RFC 9112, sections 2, 6 and 9; SOAP 1.1, section 6).
 use Rattle.std.specs.Prelude.{◌≡◌, ℕ, ◌<◌, ◌⊎◌, Bool, true, false, not, List, [], ◌∷◌, ◌++◌, All, length, Option, Some, Err}
-use Rattle.os_io.specs.Streams.{Tells, Told, HasRisen, IsPart, Appends, Grows}
+use Rattle.os_io.specs.Streams.{Tells, BothTold, HasRisen, IsPart, Appends, Grows}
 use Rattle.http_link.specs.declared.refusal.Refusal.{Refusal}
 use Rattle.http_link.specs.declared.refusal.Refusal.TheVariants.{BadRequest, ServiceUnavailable}
 use Rattle.http_link.specs.Checks.{Head}
 use Rattle.http_link.specs.Requests.{IsRequest, IsBegun, IsRequestPart, IsCut, EndedBetween}
-use Rattle.http_link.specs.Responses.{answer_text, fault_answer_text, refusal_text}
+use Rattle.http_link.specs.Responses.{answer_text, fault_answer_text, refusal_bytes}
 use Rattle.soap_calls.specs.declared.fault.SoapFault.TheVariants as soap
 use Rattle.soap_calls.specs.Refusals.{CallFails}
 use Rattle.job_table.specs.declared.job.Job.{Job}
@@ -55,8 +55,8 @@ response_text said = response_with said.fault said.text
 -- what a reply is written as
 abbrev pub text_of_reply : Reply → List ℕ
 text_of_reply (Answer said close as_worker) = response_text said
-text_of_reply (Refused refusal) = refusal_text refusal
-text_of_reply NoMemory = refusal_text ServiceUnavailable
+text_of_reply (Refused refusal) = refusal_bytes refusal
+text_of_reply NoMemory = refusal_bytes ServiceUnavailable
 
 -- the bytes are a head that is refused so, or a request whose body is no envelope of a call
 abbrev pub IsRefusedAs : List ℕ → Refusal → Type 0
@@ -97,8 +97,8 @@ module _ (made : List ℕ → List ℕ → List Bool → Option (List ℕ) → T
     pub alone : as_worker ≡ false
 
   -- what a body is answered by these calls, and whether a waiting job is then claimed as a worker claims one
-  abbrev pub Answers : List ℕ → List Entry → Said → Bool → Type 0
-  Answers body own said as_worker = IsDone body own said as_worker ⊎ IsFaulted body own said as_worker
+  abbrev pub IsBodyAnswered : List ℕ → List Entry → Said → Bool → Type 0
+  IsBodyAnswered body own said as_worker = IsDone body own said as_worker ⊎ IsFaulted body own said as_worker
 
   -- a body asks something of the table, and these calls were made until there was no memory: for one of them, or for the answer
   abbrev pub LacksMemory : List ℕ → List Entry → Type 0
@@ -108,7 +108,7 @@ module _ (made : List ℕ → List ℕ → List Bool → Option (List ℕ) → T
   -- the bytes are a request whose body is answered so
   abbrev pub IsAnswered : List ℕ → List Entry → Said → Bool → Bool → Type 0
   IsAnswered taken own said close as_worker =
-      (body : List ℕ) × IsRequest taken close body × Answers body own said as_worker
+      (body : List ℕ) × IsRequest taken close body × IsBodyAnswered body own said as_worker
 
   -- the bytes are a first part of a request, or all of one, and there was no memory for it or for what it asks
   abbrev pub IsUnanswered : List ℕ → List Entry → Type 0
@@ -117,10 +117,10 @@ module _ (made : List ℕ → List ℕ → List Bool → Option (List ℕ) → T
       ⊎ ((close : Bool) × (body : List ℕ) × IsRequest taken close body × LacksMemory body own)
 
   -- the bytes, the calls made for them, and the reply that they are due
-  abbrev pub IsDue : List ℕ → List Entry → Reply → Type 0
-  IsDue taken own (Answer said close as_worker) = IsAnswered taken own said close as_worker
-  IsDue taken own (Refused refusal) = IsRefusedAs taken refusal × (own ≡ [])
-  IsDue taken own NoMemory = IsUnanswered taken own
+  abbrev pub IsReplyDue : List ℕ → List Entry → Reply → Type 0
+  IsReplyDue taken own (Answer said close as_worker) = IsAnswered taken own said close as_worker
+  IsReplyDue taken own (Refused refusal) = IsRefusedAs taken refusal × (own ≡ [])
+  IsReplyDue taken own NoMemory = IsUnanswered taken own
 
   -- one request that was answered, with the calls for it, and then one claim with the run of the job that it gave
   pub record IsExchange (close : Bool) (p : Part) : Type 0 where
@@ -135,45 +135,45 @@ module _ (made : List ℕ → List ℕ → List Bool → Option (List ℕ) → T
     pub out : p.out ≡ response_text said
 
   -- nothing is asked and nothing answered
-  abbrev pub IsSilent : Part → Type 0
-  IsSilent p = (p.entries ≡ []) × (p.out ≡ [])
+  abbrev pub IsSilentPart : Part → Type 0
+  IsSilentPart p = (p.entries ≡ []) × (p.out ≡ [])
 
   -- a request that was refused
-  abbrev pub IsRefused : Part → Type 0
-  IsRefused p = (refusal : Refusal) × IsDue p.taken p.entries (Refused refusal) × (p.out ≡ refusal_text refusal)
+  abbrev pub IsRefusedRequest : Part → Type 0
+  IsRefusedRequest p = (refusal : Refusal) × IsReplyDue p.taken p.entries (Refused refusal) × (p.out ≡ refusal_bytes refusal)
 
   -- the last part of a conversation that ended so. Whether the input was then at its end is given
-  abbrev pub Ends : Served → Type 0 → Part → Type 0
-  Ends Ended AtEnd p = (EndedBetween p.taken × IsSilent p × AtEnd) ⊎ (IsExchange true p ⊎ IsRefused p)
-  Ends CutShort AtEnd p = IsCut p.taken × IsSilent p × AtEnd
-  Ends ReadFault AtEnd p = IsBegun p.taken × IsSilent p
-  Ends WriteFault AtEnd p =
-      (reply : Reply) × IsDue p.taken p.entries reply × IsPart (text_of_reply reply) p.out
-  Ends Memory AtEnd p = IsDue p.taken p.entries NoMemory × (p.out ≡ text_of_reply NoMemory)
+  abbrev pub EndsTalk : Served → Type 0 → Part → Type 0
+  EndsTalk Ended AtEnd p = (EndedBetween p.taken × IsSilentPart p × AtEnd) ⊎ (IsExchange true p ⊎ IsRefusedRequest p)
+  EndsTalk CutShort AtEnd p = IsCut p.taken × IsSilentPart p × AtEnd
+  EndsTalk ReadFault AtEnd p = IsBegun p.taken × IsSilentPart p
+  EndsTalk WriteFault AtEnd p =
+      (reply : Reply) × IsReplyDue p.taken p.entries reply × IsPart (text_of_reply reply) p.out
+  EndsTalk Memory AtEnd p = IsReplyDue p.taken p.entries NoMemory × (p.out ≡ text_of_reply NoMemory)
 
   -- as many requests were answered as may be, and nothing follows
   abbrev pub IsFull : Served → ℕ → Part → Type 0
   IsFull end count p = (end ≡ Ended) × (count ≡ most_requests) × (p ≡ part [] [] [])
 
   -- the last part, after so many requests that were answered
-  abbrev pub IsLast : Served → ℕ → Type 0 → Part → Type 0
-  IsLast end count AtEnd p = ((count < most_requests) × Ends end AtEnd p) ⊎ IsFull end count p
+  abbrev pub IsLastPart : Served → ℕ → Type 0 → Part → Type 0
+  IsLastPart end count AtEnd p = ((count < most_requests) × EndsTalk end AtEnd p) ⊎ IsFull end count p
 
   -- a whole conversation: requests that were answered, one after another, and the last part
   pub record Talk (end : Served) (AtEnd : Type 0) (p : Part) : Type 0 where
     pub done : List Part
     pub last : Part
     pub exchanges : All (IsExchange false) done
-    pub ends : IsLast end (length done) AtEnd last
+    pub ends : IsLastPart end (length done) AtEnd last
     pub whole : p ≡ then (all_of done) last
 
 -- the input was at its end then: nothing is left, and nothing was read past what was taken
 abbrev pub AtEnd : List ℕ → Option (List ℕ) → Option (List ℕ) → Type 0
-AtEnd past left left' = Told left left' (λ before after. past ++ after ≡ [])
+AtEnd past left left' = BothTold left left' (λ before after. past ++ after ≡ [])
 
 -- these bytes were read
-abbrev pub Reads : List ℕ → Option (List ℕ) → Option (List ℕ) → Type 0
-Reads taken left left' = Told left left' (λ before after. before ≡ taken ++ after)
+abbrev pub ReadsBytes : List ℕ → Option (List ℕ) → Option (List ℕ) → Type 0
+ReadsBytes taken left left' = BothTold left left' (λ before after. before ≡ taken ++ after)
 
 -- what two ends tell together: the way in of one, and the way out of the other
 abbrev pub both_ends : Tells → Tells → Tells
@@ -209,8 +209,8 @@ pub record Serves (made : List ℕ → List ℕ → List Bool → Option (List �
   pub past : List ℕ
   pub talk : Talk made wakes end (AtEnd past old.left new.left) part
   pub calls : did part.entries
-  pub read : Reads (part.taken ++ past) old.left new.left
-  pub wrote : Told old.written new.written (Appends part.out)
+  pub read : ReadsBytes (part.taken ++ past) old.left new.left
+  pub wrote : BothTold old.written new.written (Appends part.out)
   pub accounts : Accounts end old new
 
 -- the same, and no byte past it was read

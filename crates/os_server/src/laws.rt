@@ -1,5 +1,5 @@
 //! What holds of every conversation.
-ghost use Rattle.os_server.specs.Once.{Requests, Bodies};
+ghost use Rattle.os_server.specs.OneReading.{Requests, Bodies};
 ghost use Rattle.os_server.specs.Laws.{ConversationsAreKept, BytesAreCutOneWay, RepliesDecide};
 
 use crate::server::Server;

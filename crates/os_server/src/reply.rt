@@ -4,7 +4,7 @@ ghost use Rattle.os_io.specs.Streams.{Writes, Sends};
 ghost use Rattle.job_table.specs.History.{Entry};
 ghost use Rattle.os_server.specs.Answers.{reply_of};
 ghost use Rattle.os_server.specs.Talk.{was_taken, IsRung, text_of_reply, response_text};
-ghost use Rattle.os_server.specs.Serving.{IsReplied, IsOrdered, Comes};
+ghost use Rattle.os_server.specs.Serving.{IsReplied, IsOrdered, ComesOnLink};
 
 use crate::asking::read_order;
 use crate::doing::{LastReply, make};
@@ -114,7 +114,7 @@ pub(crate) fn next_reply<I: Source, V: Verdicts, C: Calls<V>, S: Server<V>>(
     calls: &mut C,
     server: &S,
 ) -> Result<Reply, Served>
-    ensures { Comes S.ran S.wakes (C.did calls.old calls.new) result (I.tells input.old) (I.tells input.new) }
+    ensures { ComesOnLink S.ran S.wakes (C.did calls.old calls.new) result (I.tells input.old) (I.tells input.new) }
 {
     match read_request(alloc, input) {
         Ok(Incoming::Whole(request)) => {

@@ -3,7 +3,7 @@ ghost use Rattle.std.specs.Prelude.{◌≡◌, List, []};
 ghost use Rattle.job_table.specs.History.{Entry};
 ghost use Rattle.os_io.specs.Streams.{SameInput, SameOutput};
 ghost use Rattle.os_server.specs.Talk.{Serves, ServesWhole, both_ends};
-ghost use Rattle.os_server.specs.Serving.{Follows, ServesOne};
+ghost use Rattle.os_server.specs.Serving.{FollowsReply, ServesOne};
 
 use crate::reply::{Reply, next_reply, send};
 use crate::server::Server;
@@ -39,7 +39,7 @@ fn follow<V: Verdicts, C: Calls<V>, S: Server<V>>(
     server: &S,
     reply: &Reply,
 ) -> Option<Served>
-    ensures { (after : List Entry) × C.did calls.old calls.new after × Follows S.ran S.wakes reply.now after result }
+    ensures { (after : List Entry) × C.did calls.old calls.new after × FollowsReply S.ran S.wakes reply.now after result }
 {
     match reply {
         Reply::Answer {

@@ -7,7 +7,7 @@ use Rattle.std.proofs.lemmas.Bool.{ne_eqb}
 use Rattle.std.proofs.lemmas.List.Elements.{All-nil, All-head, All-tail, All-push, All-weaker}
 use Rattle.tree_grammar.specs.Elements.{Attribute, Nodes, none, chars, Element}
 use Rattle.tree_grammar.specs.Tags.{IsAmong}
-use Rattle.element_tree.specs.Writable.{local_nodes}
+use Rattle.element_tree.specs.WritableElements.{local_nodes}
 use Rattle.document_tags.specs.Rests.{child_elements}
 use Rattle.document_tags.specs.Texts.{HoldsText}
 use Rattle.rational.specs.Ratio.{Ratio}
@@ -22,27 +22,27 @@ use Rattle.instance.specs.declared.parts.Sense.{Sense}
 use Rattle.instance.specs.declared.parts.Sense.TheVariants.{Min, Max}
 use Rattle.osil_grammar.specs.Tags.{Level, Tag, level_of, element_of, names, node_tags, start_tag, end_tag}
 use Rattle.osil_grammar.specs.Kinds.{Variables, Objectives, Obj, Coef, Constraints, Coefficients, path}
-use Rattle.osil_grammar.specs.Numbers.{count, decimal, fields, IsOf, IsWideOf}
+use Rattle.osil_grammar.specs.Numbers.{count, decimal, fields, IsOfGrammar, IsWideOf}
 use Rattle.osil_grammar.specs.Runs.{ItemsStandFor}
 use Rattle.osil_grammar.specs.Costs.{Cost, IsCost, AreCosts, cost_sum}
 use Rattle.osil_grammar.specs.Deciding.{senses, HasCoefFault, HasWideCost, DecidesIndex, DecidesCount, DecidesManyObjectives, Differs}
 use Rattle.osil_grammar.specs.Refusals.{DecidesNothing, AreClean}
 use Rattle.document_tags.specs.Writing.{with_attribute}
 use Rattle.osil_grammar.specs.Writing.{HasDecimal, WriteCosts, CountsCosts, WritesGoal, sense_text}
-use Rattle.osil_grammar.proofs.AtStart.{no_var_type, no_many, no_wide_row}
-use Rattle.osil_grammar.proofs.Decided.{clean_none}
+use Rattle.osil_grammar.proofs.StartRefusals.{no_var_type, no_many, no_wide_row}
+use Rattle.osil_grammar.proofs.FirstRefusals.{clean_none}
 use Rattle.osil_grammar.proofs.Documents.{counts_few}
 use Rattle.osil_grammar.proofs.EndTags.{ends_once, not_missing, end_number, end_wide, end_count, no_range}
 use Rattle.osil_grammar.specs.Fields.{EachOf, IsFine}
 use Rattle.osil_grammar.proofs.Fields.{IsReadBy, fine_one, times_fine}
-use Rattle.osil_grammar.proofs.Foreign.{text_once}
-use Rattle.osil_grammar.proofs.Joining.{none_fits}
+use Rattle.osil_grammar.proofs.ForeignElements.{text_once}
+use Rattle.osil_grammar.proofs.EntrySums.{none_fits}
 use Rattle.osil_grammar.proofs.NoRefusal.{IsInPlace, element_then, it_begins, it_ends, start_fine, end_fine}
 use Rattle.decimal_text.proofs.OneNumber.{count_once, count_fits, decimal_fits}
-use Rattle.osil_grammar.proofs.Once.{times_once}
+use Rattle.osil_grammar.proofs.OneCount.{times_once}
 use Rattle.osil_grammar.proofs.StartEnds.{no_ends_but, no_limit}
-use Rattle.osil_grammar.proofs.SummedCosts.{cost_once, costs_once, costs_more}
-use Rattle.osil_grammar.proofs.ReadBack.{plain_decimal, count_read}
+use Rattle.osil_grammar.proofs.CostSums.{cost_once, costs_once, costs_more}
+use Rattle.osil_grammar.proofs.RoundTrips.{plain_decimal, count_read}
 use Rattle.osil_grammar.proofs.RowTags.{decimal_is}
 use Rattle.osil_grammar.proofs.StartTags.{begins_once, no_index}
 use Rattle.osil_grammar.proofs.WholeEls.{items_once}
@@ -127,7 +127,7 @@ module _ (l0 l1 l2 l3 : Level) (before : List Element) (n w j : ℕ) (c : Frac) 
       let ends = it_ends outer before n this Obj Coef coef_place in
       end_fine t refl (record {
         missing = not_missing t Coef ends ((λ z. absurd (cc)), (λ z. absurd (cc)), (λ z. absurd (cc)));
-        number = end_number t Coef ends (λ h. h.2 (subst (λ (s : List ℕ). IsOf decimal s) (same_text h.0 h.1) (reads.written, reads.read)));
+        number = end_number t Coef ends (λ h. h.2 (subst (λ (s : List ℕ). IsOfGrammar decimal s) (same_text h.0 h.1) (reads.written, reads.read)));
         wide = end_wide t Coef ends (λ h. decimal_fits text c reads (subst (λ (s : List ℕ). IsWideOf decimal s) (sym (same_text h.0 h.1)) h.2)) (λ same. absurd (cc)) (λ same. own_fits) (λ same. absurd (cc));
         count = end_count t Coef ends ((λ z. absurd (cc)), (λ z. absurd (cc)), (λ z. absurd (cc)), (λ z. absurd (cc)), (λ z. absurd (cc)));
         index = no_range t Coef ends (λ l z. absurd (cc));

@@ -6,7 +6,7 @@ use Rattle.std.specs.Fmt.{decimal as digits}
 use Rattle.std.proofs.lemmas.List.{length-map}
 use Rattle.std.proofs.lemmas.List.Elements.{All-map, All-weaker, All-contains}
 use Rattle.tree_grammar.specs.Elements.{Attribute, Nodes, none, element, Element}
-use Rattle.element_tree.specs.Writable.{local_nodes}
+use Rattle.element_tree.specs.WritableElements.{local_nodes}
 use Rattle.document_tags.specs.Rests.{child_elements}
 use Rattle.rational.specs.Ratio.{Ratio, sum}
 use Rattle.rational.specs.Width.{SumFits}
@@ -19,7 +19,7 @@ use Rattle.instance.specs.Parts.{IsBefore, IsAscending, IsInside}
 use Rattle.instance.specs.Program.{entry, entries}
 use Rattle.document_tags.specs.Elements.{elements_in}
 use Rattle.osil_grammar.specs.Tags.{Level, Tag, level_of, element_of, names, node_tags, start_tag, end_tag}
-use Rattle.osil_grammar.specs.Kinds.{Listing, Starts, ColumnIndices, Values, Osil, InstanceData, Variables, Objectives, Obj, Constraints, Coefficients, Listed, path, listing_name, ordered, Ends}
+use Rattle.osil_grammar.specs.Kinds.{Listing, Starts, ColumnIndices, Values, Osil, InstanceData, Variables, Objectives, Obj, Constraints, Coefficients, Listed, path, listing_name, ordered, IsEndTagOf}
 use Rattle.osil_grammar.specs.Numbers.{count}
 use Rattle.osil_grammar.specs.Runs.{StandFor, ItemsStandFor, AreWholes}
 use Rattle.osil_grammar.specs.Matrix.{Lists, AreLists, IsDivision, stored, place_sum, HasWidePlace}
@@ -27,23 +27,23 @@ use Rattle.osil_grammar.specs.Deciding.{IsLate, HasOtherValues, HasOtherIndices,
 use Rattle.osil_grammar.specs.Refusals.{DecidesNothing, AreClean}
 use Rattle.document_tags.specs.Writing.{with_attribute}
 use Rattle.osil_grammar.specs.Writing.{HasDecimal, WriteLists, WriteValues, counts_nodes, entries_below, row_starts}
-use Rattle.osil_grammar.proofs.Ascending.{Rises, rises, below_rises, all_before, none_first}
+use Rattle.osil_grammar.proofs.RowEntries.{Rises, rises, below_rises, all_before, none_first}
 use Rattle.osil_grammar.proofs.ChildTags.{same_heads, same_rests}
 use Rattle.osil_grammar.proofs.CleanGoal.{count_is}
 use Rattle.osil_grammar.proofs.CleanMatrix.{counts_clean, values_clean, counts_stand, values_stand}
-use Rattle.osil_grammar.proofs.Decided.{clean_none}
+use Rattle.osil_grammar.proofs.FirstRefusals.{clean_none}
 use Rattle.osil_grammar.proofs.Documents.{starts_small}
 use Rattle.osil_grammar.proofs.EndTags.{ends_once, plain_end, end_number, end_wide, no_range}
 use Rattle.osil_grammar.proofs.Fields.{fine_one}
-use Rattle.osil_grammar.proofs.Joining.{apart, none_fits}
+use Rattle.osil_grammar.proofs.EntrySums.{apart, none_fits}
 use Rattle.osil_grammar.proofs.Lines.{Divides, division}
-use Rattle.osil_grammar.proofs.MatrixMeans.{lists_of, stored_are, wholes_said, values_said, columns_are}
+use Rattle.osil_grammar.proofs.MatrixMeaning.{lists_of, stored_are, wholes_said, values_said, columns_are}
 use Rattle.osil_grammar.proofs.NoRefusal.{IsInPlace, element_then, it_ends, plain_start, end_fine, not_late}
 use Rattle.decimal_text.proofs.OneNumber.{count_once}
-use Rattle.osil_grammar.proofs.Once.{stand_once}
+use Rattle.osil_grammar.proofs.OneCount.{stand_once}
 use Rattle.osil_grammar.proofs.OneMatrix.{HasBoth, lists_once, no_lists}
 use Rattle.osil_grammar.proofs.Places.{is_at}
-use Rattle.osil_grammar.proofs.ReadBack.{count_read}
+use Rattle.osil_grammar.proofs.RoundTrips.{count_read}
 
 -- the starts of rows
 starts_long : (es : List Entry) (i m : ℕ) → length (row_starts es i m) ≡ m + 1
@@ -140,7 +140,7 @@ module _ (l0 l1 : Level) (before : List Element) (n w h m : ℕ) (content : Node
   abbrev pub last : Tag
   last = end_tag around (level_of this n before)
 
-  pub matrix_ends_so : Ends last Coefficients
+  pub matrix_ends_so : IsEndTagOf last Coefficients
   matrix_ends_so = it_ends around before n this InstanceData Coefficients matrix_place
 
   only_count : (HasOtherValues last → ⊥) → (HasOtherIndices last → ⊥) → DecidesCount last → ⊥
@@ -166,7 +166,7 @@ module _ (l0 l1 : Level) (before : List Element) (n w h : ℕ) (at : StandsIn l0
   empty_ends : DecidesNothing (end_tag (l0 ∷ l1 ∷ []) (level_of (matrix_element 0 none) n before))
   empty_ends =
       let t : Tag = end_tag (l0 ∷ l1 ∷ []) (level_of (matrix_element 0 none) n before) in
-      let ends : Ends t Coefficients = matrix_ends_so l0 l1 before n w h 0 none at (omega arith) in
+      let ends : IsEndTagOf t Coefficients = matrix_ends_so l0 l1 before n w h 0 none at (omega arith) in
       matrix_ends l0 l1 before n w h 0 none at (omega arith)
       (λ d. ⊎_elim (λ other. absurd (let same = ends_once t Coefficients Osil ends other.0 in cc))
       (λ d. ⊎_elim (λ other. absurd (let same = ends_once t Coefficients InstanceData ends other.0 in cc))
@@ -257,7 +257,7 @@ module _ (l0 l1 : Level) (before : List Element) (n w h : ℕ) (at : StandsIn l0
   same_lists : (l : Lists) → AreLists matrix l → l ≡ lists_of h es
   same_lists l are = lists_once matrix l (lists_of h es) single are own_are
 
-  ends_so : Ends (end_tag (l0 ∷ l1 ∷ []) l2) Coefficients
+  ends_so : IsEndTagOf (end_tag (l0 ∷ l1 ∷ []) l2) Coefficients
   ends_so = matrix_ends_so l0 l1 before n w h (length es) content at fine.few
 
   full : DecidesMissing (end_tag (l0 ∷ l1 ∷ []) l2) → ⊥

@@ -6,7 +6,7 @@ use Rattle.std.specs.Fmt.{decimal as digits}
 use Rattle.std.proofs.lemmas.Int.{ints}
 use Rattle.std.proofs.lemmas.List.Elements.{All-head, All-tail}
 use Rattle.tree_grammar.specs.Elements.{Nodes, none, chars, Element}
-use Rattle.element_tree.specs.Writable.{local_nodes}
+use Rattle.element_tree.specs.WritableElements.{local_nodes}
 use Rattle.document_tags.specs.Rests.{child_elements}
 use Rattle.fraction.specs.Frac.{ratio}
 use Rattle.fraction.specs.declared.frac.Frac.{Frac}
@@ -14,22 +14,22 @@ use Rattle.fraction.specs.declared.ends.Entry.{Entry}
 use Rattle.decimal_text.specs.Decimal.{IsDecimal}
 use Rattle.osil_grammar.specs.Tags.{Level, level_of, element_of, names, node_tags, start_tag, end_tag}
 use Rattle.osil_grammar.specs.Kinds.{Listing, Values, Listed, El, path}
-use Rattle.osil_grammar.specs.Numbers.{Grammar, listing_grammar, IsOf, IsWideOf}
+use Rattle.osil_grammar.specs.Numbers.{Grammar, listing_grammar, IsOfGrammar, IsWideOf}
 use Rattle.osil_grammar.specs.Runs.{StandFor, IsWholeRun, IsRatioRun}
-use Rattle.osil_grammar.specs.Deciding.{most}
+use Rattle.osil_grammar.specs.Deciding.{most_items}
 use Rattle.osil_grammar.specs.Refusals.{DecidesNothing, AreClean}
-use Rattle.osil_grammar.specs.Parsing.{IsLimitOf, IsBelow, start_only, end_only}
+use Rattle.osil_grammar.specs.Parsing.{IsLimitOf, IsBelowLimit, start_only, end_only}
 use Rattle.osil_grammar.specs.Writing.{HasDecimal, WriteValues, counts_nodes}
-use Rattle.osil_grammar.proofs.AtTags.{IsPlaced}
-use Rattle.osil_grammar.proofs.Decided.{clean_none}
-use Rattle.osil_grammar.proofs.ElRead.{IsBegun, start_clean, end_clean}
-use Rattle.osil_grammar.proofs.ListsRead.{stand_push}
-use Rattle.osil_grammar.proofs.Means.{nothing}
+use Rattle.osil_grammar.proofs.KindTags.{IsPlaced}
+use Rattle.osil_grammar.proofs.FirstRefusals.{clean_none}
+use Rattle.osil_grammar.proofs.ElReads.{IsBegun, start_clean, end_clean}
+use Rattle.osil_grammar.proofs.NumberLists.{stand_push}
+use Rattle.osil_grammar.proofs.PartMeanings.{nothing}
 use Rattle.osil_grammar.proofs.NoRefusal.{element_then}
 use Rattle.decimal_text.proofs.OneNumber.{decimal_fits}
 use Rattle.osil_grammar.proofs.RatioEls.{all_fit, no_limit}
-use Rattle.osil_grammar.proofs.ReadBack.{plain_decimal, whole_read}
-use Rattle.osil_grammar.proofs.Running.{at_step}
+use Rattle.osil_grammar.proofs.RoundTrips.{plain_decimal, whole_read}
+use Rattle.osil_grammar.proofs.RunSteps.{at_step}
 use Rattle.osil_grammar.proofs.WholeEls.{whole_listing, not_values, all_inside}
 use Rattle.osil_grammar.proofs.Wholes.{whole_fits}
 
@@ -37,7 +37,7 @@ use Rattle.osil_grammar.proofs.Wholes.{whole_fits}
 abbrev el_element : List ℕ → Element
 el_element text = element_of (codes "el") [] (chars text none)
 
-module _ (l : Listing) (around : List Level) (before : List Element) (n i limit : ℕ) (text : List ℕ) (inside : names around ≡ path (Listed l)) (stand : StandFor before i) (most_is : most (El l) ≡ Some limit) (few : i + 1 ≤ limit) where
+module _ (l : Listing) (around : List Level) (before : List Element) (n i limit : ℕ) (text : List ℕ) (inside : names around ≡ path (Listed l)) (stand : StandFor before i) (most_is : most_items (El l) ≡ Some limit) (few : i + 1 ≤ limit) where
   el_place : IsPlaced around (el_element text) (Listed l) (El l)
   el_place = record { inside = inside; own = refl }
 
@@ -48,7 +48,7 @@ module _ (l : Listing) (around : List Level) (before : List Element) (n i limit 
       All-head DecidesNothing (start_tag around (level_of (el_element text) n before)) [] clean
 
 -- of whole numbers
-only_first : (m k bound : ℕ) → m < bound → k < 1 → IsBelow (at_step (pos m) (pos 0) k) bound
+only_first : (m k bound : ℕ) → m < bound → k < 1 → IsBelowLimit (at_step (pos m) (pos 0) k) bound
 only_first m k bound less short =
     let same : m + k * 0 ≡ m = omega arith in
     let here : at_step (pos m) (pos 0) k ≡ pos m = ap pos same in
@@ -58,8 +58,8 @@ module _ (l : Listing) (around : List Level) (before : List Element) (n m bound 
   abbrev count_el : Element
   count_el = el_element (digits m)
 
-  of_count : IsOf (listing_grammar l) (digits m)
-  of_count = subst (λ (g : Grammar). IsOf g (digits m)) (sym (whole_listing l bound around limited)) (pos m, (whole_read m small).0)
+  of_count : IsOfGrammar (listing_grammar l) (digits m)
+  of_count = subst (λ (g : Grammar). IsOfGrammar g (digits m)) (sym (whole_listing l bound around limited)) (pos m, (whole_read m small).0)
 
   narrow_count : IsWideOf (listing_grammar l) (digits m) → ⊥
   narrow_count wide = whole_fits (digits m) (pos m) (whole_read m small) (subst (λ (g : Grammar). IsWideOf g (digits m)) (whole_listing l bound around limited) wide)
@@ -74,7 +74,7 @@ module _ (l : Listing) (around : List Level) (before : List Element) (n m bound 
       (all_inside l around before count_el n (pos m) (pos 0) 1 bound inside limited count_run (λ k short. only_first m k bound less short)) in
       All-head DecidesNothing (end_tag around (level_of count_el n before)) [] clean
 
-pub counts_clean : (l : Listing) (around : List Level) (before : List Element) (n i limit bound : ℕ) (ms : List ℕ) → names around ≡ path (Listed l) → IsLimitOf l bound around → most (El l) ≡ Some limit → StandFor before i → i + length ms ≤ limit → All (λ m. m < bound) ms → All (λ m. m ≤ 100000) ms → AreClean (node_tags around before n (local_nodes (counts_nodes ms)))
+pub counts_clean : (l : Listing) (around : List Level) (before : List Element) (n i limit bound : ℕ) (ms : List ℕ) → names around ≡ path (Listed l) → IsLimitOf l bound around → most_items (El l) ≡ Some limit → StandFor before i → i + length ms ≤ limit → All (λ m. m < bound) ms → All (λ m. m ≤ 100000) ms → AreClean (node_tags around before n (local_nodes (counts_nodes ms)))
 counts_clean l around before n i limit bound [] inside limited most_is stand few low small = clean_none
 counts_clean l around before n i limit bound (m ∷ ms) inside limited most_is stand few low small =
     let e : Element = el_element (digits m) in

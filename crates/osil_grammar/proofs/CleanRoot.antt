@@ -5,7 +5,7 @@ use Rattle.std.specs.Fmt.{decimal as digits}
 use Rattle.std.proofs.lemmas.List.Elements.{All-cons, All-append}
 use Rattle.tree_grammar.specs.Elements.{Nodes, none, element, Element}
 use Rattle.tree_grammar.specs.Tags.{IsAmong}
-use Rattle.element_tree.specs.Writable.{local_element, local_nodes}
+use Rattle.element_tree.specs.WritableElements.{local_element, local_nodes}
 use Rattle.document_tags.specs.Rests.{child_elements}
 use Rattle.decimal_text.specs.Count.{IsCount}
 use Rattle.instance.specs.declared.parts.Var.{Var}
@@ -15,28 +15,28 @@ use Rattle.instance.specs.Parts.{Parts, IsValid}
 use Rattle.document_tags.specs.Elements.{attribute}
 use Rattle.document_tags.specs.Elements.{elements_in}
 use Rattle.osil_grammar.specs.Tags.{Level, Tag, level_of, element_of, names, node_tags, start_tag, end_tag}
-use Rattle.osil_grammar.specs.Kinds.{Kind, Osil, InstanceData, Variables, Objectives, Constraints, Coefficients, Values, path, ordered, content_names, Ends}
+use Rattle.osil_grammar.specs.Kinds.{Kind, Osil, InstanceData, Variables, Objectives, Constraints, Coefficients, Values, path, ordered, content_names, IsEndTagOf}
 use Rattle.osil_grammar.specs.Numbers.{Field, count, fields, text_grammar}
 use Rattle.osil_grammar.specs.Runs.{StandFor}
 use Rattle.osil_grammar.specs.Deciding.{IsLate, HasOtherCount}
 use Rattle.osil_grammar.specs.Refusals.{DecidesNothing, AreClean, IsAccepted}
-use Rattle.document_tags.specs.Writing.{counted, with_attribute}
+use Rattle.document_tags.specs.Writing.{counted_element, with_attribute}
 use Rattle.osil_grammar.specs.Writing.{HasDecimals, WriteVars, WriteRows, WritesGoal, WritesInstance}
 use Rattle.osil_grammar.proofs.CleanGoal.{count_is, goal_clean}
 use Rattle.osil_grammar.proofs.CleanLists.{StandsIn, AreFine, matrix_clean}
 use Rattle.osil_grammar.proofs.CleanVars.{vars_clean, rows_clean}
-use Rattle.osil_grammar.proofs.Counted.{IsCounted, variables_counted, objectives_counted, rows_counted}
+use Rattle.osil_grammar.proofs.PartCounts.{IsCounted, variables_counted, objectives_counted, rows_counted}
 use Rattle.osil_grammar.proofs.DataTags.{data_start, data_end, root_start, root_end}
-use Rattle.osil_grammar.proofs.Decided.{clean_none}
+use Rattle.osil_grammar.proofs.FirstRefusals.{clean_none}
 use Rattle.osil_grammar.proofs.EndTags.{ends_once, not_missing, end_number, end_wide, no_range}
 use Rattle.osil_grammar.specs.Fields.{EachOf, IsFine}
 use Rattle.osil_grammar.proofs.Fields.{fine_one}
 use Rattle.osil_grammar.proofs.NoRefusal.{IsInPlace, element_then, it_ends, is_plain, plain_start, end_fine, not_some, not_late}
 use Rattle.decimal_text.proofs.OneNumber.{count_once}
-use Rattle.osil_grammar.proofs.Once.{stand_once}
+use Rattle.osil_grammar.proofs.OneCount.{stand_once}
 use Rattle.osil_grammar.proofs.OpenPlaces.{NoKind, unknown_clean, in_open, in_root_path, late_in_root, end_in_place}
 use Rattle.osil_grammar.proofs.OneValue.{texts_apart}
-use Rattle.osil_grammar.proofs.ReadBack.{count_read}
+use Rattle.osil_grammar.proofs.RoundTrips.{count_read}
 
 -- how many items parts hold
 vars_stand : (vs : List Var) (nodes : Nodes) → WriteVars vs nodes → StandFor (child_elements (local_nodes nodes)) (length vs)
@@ -61,7 +61,7 @@ module _ (k : Kind) (name key : List ℕ) (part : IsCounted k name key) (plain :
   part_place : IsInPlace (l0 ∷ l1 ∷ []) before this InstanceData k
   part_place = record { placed = record { inside = inside; own = part.whole }; in_order = in_order }
 
-  part_ends : Ends last k
+  part_ends : IsEndTagOf last k
   part_ends = it_ends (l0 ∷ l1 ∷ []) before n this InstanceData k part_place
 
   part_fields : EachOf (IsFine this) (fields k)
@@ -98,10 +98,10 @@ header_other (inr nothing) = nothing
 -- the nodes of the parts, and the root with them
 abbrev parts_of : (p : Parts) (root : Element) → WritesInstance p root → Nodes
 parts_of p root is =
-    counted (codes "variables") (codes "numberOfVariables") (length p.vars) is.vars (
-    counted (codes "objectives") (codes "numberOfObjectives") 1 is.goal (
-    counted (codes "constraints") (codes "numberOfConstraints") (length p.rows) is.rows (
-    counted (codes "linearConstraintCoefficients") (codes "numberOfValues") (length p.entries) is.lists none)))
+    counted_element (codes "variables") (codes "numberOfVariables") (length p.vars) is.vars (
+    counted_element (codes "objectives") (codes "numberOfObjectives") 1 is.goal (
+    counted_element (codes "constraints") (codes "numberOfConstraints") (length p.rows) is.rows (
+    counted_element (codes "linearConstraintCoefficients") (codes "numberOfValues") (length p.entries) is.lists none)))
 
 abbrev header : Element
 header = element_of (codes "instanceHeader") [] none
@@ -142,9 +142,9 @@ module _ (p : Parts) (root : Element) (valid : IsValid p) (has : HasDecimals p) 
       let b : ℕ = n + 1 + elements_in vars in
       let c : ℕ = b + 1 + elements_in goal in
       let d : ℕ = c + 1 + elements_in rows in
-      let lists : Nodes = counted (codes "linearConstraintCoefficients") (codes "numberOfValues") (length p.entries) is.lists none in
-      let from_rows : Nodes = counted (codes "constraints") (codes "numberOfConstraints") (length p.rows) is.rows lists in
-      let from_goal : Nodes = counted (codes "objectives") (codes "numberOfObjectives") 1 is.goal from_rows in
+      let lists : Nodes = counted_element (codes "linearConstraintCoefficients") (codes "numberOfValues") (length p.entries) is.lists none in
+      let from_rows : Nodes = counted_element (codes "constraints") (codes "numberOfConstraints") (length p.rows) is.rows lists in
+      let from_goal : Nodes = counted_element (codes "objectives") (codes "numberOfObjectives") 1 is.goal from_rows in
       let first : Level = level_of variables n [] in
       let second : Level = level_of objectives b (variables ∷ []) in
       let third : Level = level_of constraints c (variables ∷ objectives ∷ []) in

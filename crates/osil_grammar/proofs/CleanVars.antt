@@ -7,10 +7,10 @@ use Rattle.std.proofs.lemmas.Int.{ints}
 use Rattle.std.proofs.lemmas.List.Elements.{All-head, All-tail}
 use Rattle.tree_grammar.specs.Elements.{Attribute, Nodes, none, Element}
 use Rattle.tree_grammar.specs.Tags.{IsAmong}
-use Rattle.element_tree.specs.Writable.{local_nodes}
+use Rattle.element_tree.specs.WritableElements.{local_nodes}
 use Rattle.rational.specs.Ratio.{Ratio, negative}
 use Rattle.rational.specs.Width.{left_term, right_term, most, AreFourWithin, SumFits}
-use Rattle.rational.proofs.Coprime.{one_divides}
+use Rattle.rational.proofs.CommonDivisors.{one_divides}
 use Rattle.evidence.specs.Sums as evidence
 use Rattle.evidence.proofs.Fits.{whole-reduced}
 use Rattle.fraction.specs.Frac.{ratio}
@@ -18,7 +18,7 @@ use Rattle.fraction.specs.declared.frac.Frac.{Frac}
 use Rattle.fraction.specs.declared.ends.End.{End}
 use Rattle.fraction.specs.declared.ends.End.TheVariants.{NegInf, At, Inf}
 use Rattle.fraction.proofs.Sums.{sum_fits}
-use Rattle.decimal_text.specs.Bound.{IsBound}
+use Rattle.decimal_text.specs.Bound.{SaysEnd}
 use Rattle.instance.specs.declared.parts.Var.{Var}
 use Rattle.instance.specs.declared.parts.Row.{Row}
 use Rattle.instance.specs.Parts.{AreEnds}
@@ -32,15 +32,15 @@ use Rattle.osil_grammar.specs.Refusals.{DecidesNothing, AreClean}
 use Rattle.osil_grammar.specs.Parsing.{IsNear}
 use Rattle.document_tags.specs.Writing.{with_attribute}
 use Rattle.osil_grammar.specs.Writing.{EndHasText, WriteVars, WriteRows, type_text}
-use Rattle.osil_grammar.proofs.AtStart.{no_attribute, no_var_type, no_many, no_wide_row, no_bound, not_too_big}
-use Rattle.osil_grammar.proofs.Decided.{clean_none}
+use Rattle.osil_grammar.proofs.StartRefusals.{no_attribute, no_var_type, no_many, no_wide_row, no_bound, not_too_big}
+use Rattle.osil_grammar.proofs.FirstRefusals.{clean_none}
 use Rattle.osil_grammar.proofs.EndTags.{plain_end}
 use Rattle.osil_grammar.specs.Fields.{EachOf, IsFine}
 use Rattle.osil_grammar.proofs.Fields.{fine_one, times_fine}
-use Rattle.osil_grammar.proofs.ListsRead.{stand_push}
-use Rattle.osil_grammar.proofs.Means.{nothing}
+use Rattle.osil_grammar.proofs.NumberLists.{stand_push}
+use Rattle.osil_grammar.proofs.PartMeanings.{nothing}
 use Rattle.osil_grammar.proofs.NoRefusal.{IsInPlace, element_then, it_begins, it_ends, start_fine}
-use Rattle.osil_grammar.proofs.ReadBack.{end_bound}
+use Rattle.osil_grammar.proofs.RoundTrips.{end_bound}
 use Rattle.osil_grammar.proofs.RowTags.{decimal_is, end_fits}
 use Rattle.osil_grammar.proofs.StartTags.{no_index}
 use Rattle.osil_grammar.proofs.Vars.{bound_is}
@@ -89,7 +89,7 @@ type_known : (whole : Bool) → (IsAmong (type_text whole) types → ⊥) → �
 type_known true out = out (inr (inr (inl refl)))
 type_known false out = out (inl refl)
 
-module _ (around : List Level) (before : List Element) (n i : ℕ) (v : Var) (lb ub : List ℕ) (inside : names around ≡ path Variables) (low : IsBound lb v.lb) (high : IsBound ub v.ub) (ends : AreEnds v.lb v.ub) (stand : StandFor before i) (few : i + 1 ≤ 1000) where
+module _ (around : List Level) (before : List Element) (n i : ℕ) (v : Var) (lb ub : List ℕ) (inside : names around ≡ path Variables) (low : SaysEnd lb v.lb) (high : SaysEnd ub v.ub) (ends : AreEnds v.lb v.ub) (stand : StandFor before i) (few : i + 1 ≤ 1000) where
   abbrev this : Element
   this = var_element v lb ub
 
@@ -98,9 +98,9 @@ module _ (around : List Level) (before : List Element) (n i : ℕ) (v : Var) (lb
 
   var_fields : EachOf (IsFine this) (fields kinds.Var)
   var_fields = (
-    fine_one (codes "lb") bound (λ (x : End). Any x) IsBound refl bound_is this v.lb (Some lb) refl low,
+    fine_one (codes "lb") bound (λ (x : End). Any x) SaysEnd refl bound_is this v.lb (Some lb) refl low,
     (
-      fine_one (codes "ub") bound (λ (x : End). Any x) IsBound refl bound_is this v.ub (Some ub) refl high,
+      fine_one (codes "ub") bound (λ (x : End). Any x) SaysEnd refl bound_is this v.ub (Some ub) refl high,
       (times_fine this 1 None refl (lit< tt) refl, tt),
     ),
   )
@@ -143,7 +143,7 @@ row_attributes lb ub = with_attribute (codes "lb") lb (with_attribute (codes "ub
 abbrev row_element : List ℕ → List ℕ → Element
 row_element lb ub = element_of (codes "con") (row_attributes lb ub) none
 
-module _ (around : List Level) (before : List Element) (n i : ℕ) (r : Row) (lb ub : List ℕ) (inside : names around ≡ path Constraints) (low : IsBound lb r.lb) (high : IsBound ub r.ub) (ends : AreEnds r.lb r.ub) (stand : StandFor before i) (few : i + 1 ≤ 1000) where
+module _ (around : List Level) (before : List Element) (n i : ℕ) (r : Row) (lb ub : List ℕ) (inside : names around ≡ path Constraints) (low : SaysEnd lb r.lb) (high : SaysEnd ub r.ub) (ends : AreEnds r.lb r.ub) (stand : StandFor before i) (few : i + 1 ≤ 1000) where
   abbrev that : Element
   that = row_element lb ub
 
@@ -152,9 +152,9 @@ module _ (around : List Level) (before : List Element) (n i : ℕ) (r : Row) (lb
 
   row_fields : EachOf (IsFine that) (fields Con)
   row_fields = (
-    fine_one (codes "lb") bound (λ (x : End). Any x) IsBound refl bound_is that r.lb (Some lb) refl low,
+    fine_one (codes "lb") bound (λ (x : End). Any x) SaysEnd refl bound_is that r.lb (Some lb) refl low,
     (
-      fine_one (codes "ub") bound (λ (x : End). Any x) IsBound refl bound_is that r.ub (Some ub) refl high,
+      fine_one (codes "ub") bound (λ (x : End). Any x) SaysEnd refl bound_is that r.ub (Some ub) refl high,
       (
         fine_one (codes "constant") decimal (λ (x : Frac). Any x) _ refl decimal_is that nothing None refl tt,
         (times_fine that 1 None refl (lit< tt) refl, tt),

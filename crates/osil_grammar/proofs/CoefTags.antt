@@ -9,17 +9,17 @@ use Rattle.osil_grammar.specs.declared.tags.StartTag.{StartTag}
 use Rattle.osil_grammar.specs.declared.fault.OsilFault.{OsilFault}
 use Rattle.document_tags.specs.Elements.{attribute}
 use Rattle.osil_grammar.specs.Tags.{Level, names, start_tag, level_of, parts_before, element_of}
-use Rattle.osil_grammar.specs.Kinds.{Obj, Coef, Begins, path}
+use Rattle.osil_grammar.specs.Kinds.{Obj, Coef, IsStartTagOf, path}
 use Rattle.osil_grammar.specs.Walking.{Begun}
 use Rattle.osil_grammar.specs.Numbers.{count, fields}
 use Rattle.osil_grammar.specs.Runs.{ItemsStandFor}
 use Rattle.osil_grammar.specs.Deciding.{HasAttribute, HasCoefFault, DecidesAttribute, DecidesIndex, VariablesBefore}
 use Rattle.osil_grammar.specs.Refusals.{Attribute, Index, DecidesNothing, IsFirstDecided}
-use Rattle.osil_grammar.specs.Parsing.{begun, Tells, IsAtTag, start_only, IsTagOf, ReadsField, InWidth, IsCoefFault, HasIndex, parts_around}
-use Rattle.osil_grammar.proofs.AtStart.{told_here, begins_child, fields_refused, fields_fine, past_fields, no_wide_but_row, no_wide_row, no_var_type, no_many}
+use Rattle.osil_grammar.specs.Parsing.{begun_tag, TellsRefusal, IsAtTag, start_only, IsTagOf, ReadsField, InWidth, IsCoefFault, HasIndex, parts_around}
+use Rattle.osil_grammar.proofs.StartRefusals.{told_here, begins_child, fields_refused, fields_fine, past_fields, no_wide_but_row, no_wide_row, no_var_type, no_many}
 use Rattle.osil_grammar.specs.Fields.{IsDeclared, Declares}
-use Rattle.osil_grammar.proofs.Counted.{declared_is}
-use Rattle.osil_grammar.proofs.ElRead.{some_both}
+use Rattle.osil_grammar.proofs.PartCounts.{declared_is}
+use Rattle.osil_grammar.proofs.ElReads.{some_both}
 use Rattle.osil_grammar.specs.Fields.{EachOf, IsFine, FieldsRead}
 use Rattle.osil_grammar.proofs.Fields.{field_read}
 use Rattle.decimal_text.proofs.OneNumber.{count_once}
@@ -39,45 +39,45 @@ declared_none x None nothing says = refl
 declared_none x (Some t) nothing says = absurd (let some = says.1 in cc)
 
 module _ (t : StartTag) (around : List Level) (before : List Element) (n : ℕ) (e : Element) (tag : IsTagOf t e n) (inside : names around ≡ path Obj) (named : e.name ≡ codes "coef") where
-  pub coef_begins : Begins (start_tag around (level_of e n before)) Coef
+  pub coef_begins : IsStartTagOf (start_tag around (level_of e n before)) Coef
   coef_begins = begins_child around before n e Obj Coef (codes "coef") inside named refl
 
   coef_place : AtLeast 4 (start_tag around (level_of e n before))
   coef_place = known_place (start_tag around (level_of e n before)) Obj refl inside (inl named) (λ late. late.1)
 
   -- the attributes that the code holds are the element's
-  pub fault_told : (f : OsilFault) (name : List ℕ) → IsCoefFault (begun t) (Some name) → Tells f (λ r m. (r ≡ Attribute name) × (m ≡ t.ordinal)) → Tells f (IsFirstDecided (start_only around before n e))
+  pub fault_told : (f : OsilFault) (name : List ℕ) → IsCoefFault (begun_tag t) (Some name) → TellsRefusal f (λ r m. (r ≡ Attribute name) × (m ≡ t.ordinal)) → TellsRefusal f (IsFirstDecided (start_only around before n e))
   fault_told f name fault h =
       let own : HasCoefFault e name = subst (λ (b : Begun). HasCoefFault (element_of b.name b.attributes none) name) tag fault in
       told_here t around before n e f (Attribute name) tag (inl (coef_begins, own), refl) coef_place h
 
-  faultless : IsCoefFault (begun t) None → (name : List ℕ) → HasCoefFault e name → ⊥
+  faultless : IsCoefFault (begun_tag t) None → (name : List ℕ) → HasCoefFault e name → ⊥
   faultless no_fault name fault = no_fault name (subst (λ (b : Begun). HasCoefFault (element_of b.name b.attributes none) name) (sym tag) fault)
 
-  attribute_fine : IsCoefFault (begun t) None → (name : List ℕ) → DecidesAttribute (start_tag around (level_of e n before)) name → ⊥
+  attribute_fine : IsCoefFault (begun_tag t) None → (name : List ℕ) → DecidesAttribute (start_tag around (level_of e n before)) name → ⊥
   attribute_fine no_fault name (inl h) = faultless no_fault name h.1
   attribute_fine no_fault name (inr h) = absurd (let same = begins_once (start_tag around (level_of e n before)) Coef Obj coef_begins h.0 in cc)
 
-  pub coef_least : IsCoefFault (begun t) None → AtLeast 5 (start_tag around (level_of e n before))
+  pub coef_least : IsCoefFault (begun_tag t) None → AtLeast 5 (start_tag around (level_of e n before))
   coef_least no_fault = past_attribute (start_tag around (level_of e n before)) coef_place (attribute_fine no_fault)
 
   index_fields : (read : Result (Option ℕ) Unread) → ReadsField t (codes "idx") count read (λ x. x ≡ None) IsDeclared → FieldsRead e (fields Coef) read (Declares e (codes "idx"))
   index_fields read h = field_read t e n (codes "idx") count read (λ x. x ≡ None) IsDeclared tag refl declared_is h
 
-  pub index_refused : (read : Result (Option ℕ) Unread) (f : OsilFault) → IsCoefFault (begun t) None → ReadsField t (codes "idx") count read (λ x. x ≡ None) IsDeclared → IsAtTag t read (Err f) → Tells f (IsFirstDecided (start_only around before n e))
+  pub index_refused : (read : Result (Option ℕ) Unread) (f : OsilFault) → IsCoefFault (begun_tag t) None → ReadsField t (codes "idx") count read (λ x. x ≡ None) IsDeclared → IsAtTag t read (Err f) → TellsRefusal f (IsFirstDecided (start_only around before n e))
   index_refused read f no_fault h at = fields_refused t around before n e Coef tag coef_begins (coef_least no_fault) read (Declares e (codes "idx")) f (index_fields read h) at
 
-  pub index_fine : (read : Result (Option ℕ) Unread) (x : Option ℕ) → IsCoefFault (begun t) None → ReadsField t (codes "idx") count read (λ x. x ≡ None) IsDeclared → IsAtTag t read (Ok x) → Declares e (codes "idx") x × EachOf (IsFine e) (fields Coef)
+  pub index_fine : (read : Result (Option ℕ) Unread) (x : Option ℕ) → IsCoefFault (begun_tag t) None → ReadsField t (codes "idx") count read (λ x. x ≡ None) IsDeclared → IsAtTag t read (Ok x) → Declares e (codes "idx") x × EachOf (IsFine e) (fields Coef)
   index_fine read x no_fault h at = fields_fine t around before n e Coef tag coef_begins (coef_least no_fault) read (Declares e (codes "idx")) x (index_fields read h) at
 
-  index_least : IsCoefFault (begun t) None → EachOf (IsFine e) (fields Coef) → AtLeast 8 (start_tag around (level_of e n before))
+  index_least : IsCoefFault (begun_tag t) None → EachOf (IsFine e) (fields Coef) → AtLeast 8 (start_tag around (level_of e n before))
   index_least no_fault fine =
       let s = start_tag around (level_of e n before) in
       past_count s (past_wide s (past_fields around before n e Coef coef_begins (coef_least no_fault) fine)
       (no_wide_but_row around before n e Coef coef_begins fine (no_wide_row s Coef coef_begins (λ z. absurd (cc))))) (no_count s refl)
 
   -- an index that is wanting is a fault
-  pub index_there : (x : Option ℕ) → IsCoefFault (begun t) None → Declares e (codes "idx") x → x ≡ None → ⊥
+  pub index_there : (x : Option ℕ) → IsCoefFault (begun_tag t) None → Declares e (codes "idx") x → x ≡ None → ⊥
   index_there x no_fault says nothing = faultless no_fault (codes "idx") (inl (refl, declared_none x (attribute e (codes "idx")) nothing says))
 
   index_decided : (d width : ℕ) → Declares e (codes "idx") (Some d) → InWidth width around → width ≤ d → DecidesIndex (start_tag around (level_of e n before))
@@ -85,7 +85,7 @@ module _ (t : StartTag) (around : List Level) (before : List Element) (n : ℕ) 
       let own : ItemsStandFor (codes "variables") (parts_before (start_tag around (level_of e n before))) width = subst (λ (parts : List Element). ItemsStandFor (codes "variables") parts width) (sym (parts_kept Obj around (level_of e n before) inside (lit≤ tt))) wide in
       inl (coef_begins, declared_has e (codes "idx") d _ (λ text is. (d, is, width, own, past)) (attribute e (codes "idx")) refl says)
 
-  pub index_told : (f : OsilFault) (d width : ℕ) → IsCoefFault (begun t) None → Declares e (codes "idx") (Some d) → EachOf (IsFine e) (fields Coef) → InWidth width around → width ≤ d → Tells f (λ r m. (r ≡ Index) × (m ≡ t.ordinal)) → Tells f (IsFirstDecided (start_only around before n e))
+  pub index_told : (f : OsilFault) (d width : ℕ) → IsCoefFault (begun_tag t) None → Declares e (codes "idx") (Some d) → EachOf (IsFine e) (fields Coef) → InWidth width around → width ≤ d → TellsRefusal f (λ r m. (r ≡ Index) × (m ≡ t.ordinal)) → TellsRefusal f (IsFirstDecided (start_only around before n e))
   index_told f d width no_fault says fine wide past h = told_here t around before n e f Index tag (index_decided d width says wide past, refl) (index_least no_fault fine) h
 
   index_inside : (d width : ℕ) → Declares e (codes "idx") (Some d) → InWidth width around → d < width → DecidesIndex (start_tag around (level_of e n before)) → ⊥
@@ -98,7 +98,7 @@ module _ (t : StartTag) (around : List Level) (before : List Element) (n : ℕ) 
       let same : width ≡ far.2 = items_once (codes "variables") (parts_around around) width far.2 wide own in
       let past = far.4 in omega arith
 
-  pub index_clean : (d width : ℕ) → IsCoefFault (begun t) None → Declares e (codes "idx") (Some d) → EachOf (IsFine e) (fields Coef) → InWidth width around → d < width → DecidesNothing (start_tag around (level_of e n before))
+  pub index_clean : (d width : ℕ) → IsCoefFault (begun_tag t) None → Declares e (codes "idx") (Some d) → EachOf (IsFine e) (fields Coef) → InWidth width around → d < width → DecidesNothing (start_tag around (level_of e n before))
   index_clean d width no_fault says fine wide small =
       let s = start_tag around (level_of e n before) in
       start_clean s Coef coef_begins refl

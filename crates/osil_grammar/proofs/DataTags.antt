@@ -6,27 +6,27 @@ use Rattle.document_tags.specs.Rests.{child_elements}
 use Rattle.osil_grammar.specs.declared.tags.StartTag.{StartTag}
 use Rattle.osil_grammar.specs.declared.fault.OsilFault.{OsilFault}
 use Rattle.osil_grammar.specs.Tags.{Tag, Level, names, level_of, start_tag, end_tag, first_named}
-use Rattle.osil_grammar.specs.Kinds.{Kind, Osil, InstanceData, Coefficients, Var, Con, Obj, Coef, path, ordered, Begins, Ends}
+use Rattle.osil_grammar.specs.Kinds.{Kind, Osil, InstanceData, Coefficients, Var, Con, Obj, Coef, path, ordered, IsStartTagOf, IsEndTagOf}
 use Rattle.osil_grammar.specs.Numbers.{Field, fields}
-use Rattle.osil_grammar.specs.Deciding.{IsLate, HasChild, DecidesMissing, most}
+use Rattle.osil_grammar.specs.Deciding.{IsLate, HasChild, DecidesMissing, most_items}
 use Rattle.osil_grammar.specs.Refusals.{Refusal, Root, Missing, Beyond, number, DecidesNothing, IsFirstDecided}
-use Rattle.osil_grammar.specs.Parsing.{IsTagOf, Tells, end_only, start_only}
-use Rattle.osil_grammar.proofs.AtStart.{begins_child, no_attribute, no_var_type, no_many, no_wide_row}
-use Rattle.osil_grammar.proofs.Decided.{first_one}
+use Rattle.osil_grammar.specs.Parsing.{IsTagOf, TellsRefusal, end_only, start_only}
+use Rattle.osil_grammar.proofs.StartRefusals.{begins_child, no_attribute, no_var_type, no_many, no_wide_row}
+use Rattle.osil_grammar.proofs.FirstRefusals.{first_one}
 use Rattle.osil_grammar.proofs.EndPlaces.{told_end, least_end, full_end}
 use Rattle.osil_grammar.proofs.EndTags.{ends_once}
-use Rattle.osil_grammar.specs.Fields.{EachOf, IsNumber, IsWide}
-use Rattle.osil_grammar.proofs.FirstNamed.{none_there, is_among, not_among}
+use Rattle.osil_grammar.specs.Fields.{EachOf, IsFieldNumber, IsFieldWide}
+use Rattle.osil_grammar.proofs.FirstOfName.{none_there, is_among, not_among}
 use Rattle.osil_grammar.proofs.Paths.{names_append}
 use Rattle.osil_grammar.proofs.StartEnds.{past_ends, start_clean}
 use Rattle.osil_grammar.proofs.StartTags.{AtLeast, known_place, not_ended, path_some, past_attribute, past_number, past_wide, past_count, past_index, past_start, past_var_type, no_number, no_wide, no_count, no_index, no_starts}
 
 -- the start tag of a kind without numbers, in its place
-bare_start : (t : Tag) (k : Kind) → Begins t k → AtLeast 4 t → fields k ≡ [] → most k ≡ None → (k ≡ Coef → ⊥) → (k ≡ Obj → ⊥) → (k ≡ Con → ⊥) → (k ≡ Var → ⊥) → DecidesNothing t
+bare_start : (t : Tag) (k : Kind) → IsStartTagOf t k → AtLeast 4 t → fields k ≡ [] → most_items k ≡ None → (k ≡ Coef → ⊥) → (k ≡ Obj → ⊥) → (k ≡ Con → ⊥) → (k ≡ Var → ⊥) → DecidesNothing t
 bare_start t k begins least bare any no_coef no_obj no_con no_var =
     let five = past_attribute t least (no_attribute t k begins no_coef no_obj) in
-    let six = past_number t five (no_number t k begins (subst (λ (fs : List Field). EachOf (IsNumber t.level.node) fs) (sym bare) tt)) in
-    let seven = past_wide t six (no_wide t k begins (subst (λ (fs : List Field). EachOf (λ f. IsWide t.level.node f → ⊥) fs) (sym bare) tt) (no_wide_row t k begins no_con)) in
+    let six = past_number t five (no_number t k begins (subst (λ (fs : List Field). EachOf (IsFieldNumber t.level.node) fs) (sym bare) tt)) in
+    let seven = past_wide t six (no_wide t k begins (subst (λ (fs : List Field). EachOf (λ f. IsFieldWide t.level.node f → ⊥) fs) (sym bare) tt) (no_wide_row t k begins no_con)) in
     let ten = past_start t (past_index t (past_count t seven (no_count t begins.0)) (no_index t k begins no_coef)) (no_starts t begins.0) in
     start_clean t k begins any (past_ends t k begins no_var no_con (past_var_type t ten (no_var_type t k begins no_var))) (no_many t k begins no_obj)
 
@@ -37,7 +37,7 @@ first_in_place before name none (r, row, zero, le, e, there, inr nothing) = noth
 first_in_place before name none (r, row, suc q, le, e, there, nothing) = nothing
 
 module _ (around : List Level) (before : List Element) (n : ℕ) (e : Element) (inside : names around ≡ path Osil) (named : e.name ≡ codes "instanceData") where
-  pub data_begins : Begins (start_tag around (level_of e n before)) InstanceData
+  pub data_begins : IsStartTagOf (start_tag around (level_of e n before)) InstanceData
   data_begins = begins_child around before n e Osil InstanceData (codes "instanceData") inside named refl
 
   pub data_start : first_named (codes "instanceData") before ≡ None → DecidesNothing (start_tag around (level_of e n before))
@@ -45,7 +45,7 @@ module _ (around : List Level) (before : List Element) (n : ℕ) (e : Element) (
       bare_start (start_tag around (level_of e n before)) InstanceData data_begins (known_place (start_tag around (level_of e n before)) Osil refl inside (inl named) (first_in_place before e.name none)) refl refl
       (λ z. absurd (cc)) (λ z. absurd (cc)) (λ z. absurd (cc)) (λ z. absurd (cc))
 
-  data_ends : Ends (end_tag around (level_of e n before)) InstanceData
+  data_ends : IsEndTagOf (end_tag around (level_of e n before)) InstanceData
   data_ends = (refl, data_begins.1)
 
   has_variables : HasChild e (codes "variables") → DecidesMissing (end_tag around (level_of e n before)) → ⊥
@@ -59,7 +59,7 @@ module _ (around : List Level) (before : List Element) (n : ℕ) (e : Element) (
       full_end (end_tag around (level_of e n before)) InstanceData data_ends (has_variables (is_among (codes "variables") (child_elements e.children) vars there))
       (λ z. absurd (cc), λ z. absurd (cc), λ z. absurd (cc), λ z. absurd (cc), λ z. absurd (cc)) refl (λ l z. absurd (cc)) (λ z. absurd (cc))
 
-  pub data_lacks : (t : StartTag) (f : OsilFault) → IsTagOf t e n → first_named (codes "variables") (child_elements e.children) ≡ None → Tells f (λ r m. (r ≡ Missing) × (m ≡ t.ordinal)) → Tells f (IsFirstDecided (end_only around before n e))
+  pub data_lacks : (t : StartTag) (f : OsilFault) → IsTagOf t e n → first_named (codes "variables") (child_elements e.children) ≡ None → TellsRefusal f (λ r m. (r ≡ Missing) × (m ≡ t.ordinal)) → TellsRefusal f (IsFirstDecided (end_only around before n e))
   data_lacks t f tag none h =
       told_end t around before n e f Missing tag (inr (inl (data_ends, not_among (codes "variables") (child_elements e.children) none)), refl) (least_end (end_tag around (level_of e n before)) refl) h
 
@@ -75,7 +75,7 @@ module _ (e : Element) where
   root_least_of named (Beyond name) m (inr h) = absurd (let nothing : [] ≡ names h.1.outer ++ h.0.node.name ∷ [] = ap names h.1.around ∙ names_append h.1.outer h.0 in let inner = h.1.inside in cc)
   root_least_of named q m d = omega arith
 
-  root_begins : e.name ≡ codes "osil" → Begins (start_tag [] (level_of e 1 [])) Osil
+  root_begins : e.name ≡ codes "osil" → IsStartTagOf (start_tag [] (level_of e 1 [])) Osil
   root_begins named = (refl, ap (λ (x : List ℕ). x ∷ []) named)
 
   pub root_start : e.name ≡ codes "osil" → DecidesNothing (start_tag [] (level_of e 1 []))
@@ -88,7 +88,7 @@ module _ (e : Element) where
   pub root_other : (e.name ≡ codes "osil" → ⊥) → IsFirstDecided (start_only [] [] 1 e) Root 1
   root_other other = first_one (start_tag [] (level_of e 1 [])) Root 1 ((refl, refl, other), refl) (λ q m d. some_number q)
 
-  root_ends : e.name ≡ codes "osil" → Ends (end_tag [] (level_of e 1 [])) Osil
+  root_ends : e.name ≡ codes "osil" → IsEndTagOf (end_tag [] (level_of e 1 [])) Osil
   root_ends named = (refl, ap (λ (x : List ℕ). x ∷ []) named)
 
   has_data : e.name ≡ codes "osil" → HasChild e (codes "instanceData") → DecidesMissing (end_tag [] (level_of e 1 [])) → ⊥

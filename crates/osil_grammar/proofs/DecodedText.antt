@@ -13,19 +13,19 @@ use Rattle.osil_grammar.specs.Walking.{IsJoined}
 use Rattle.osil_grammar.specs.Meaning.{Means}
 use Rattle.osil_grammar.specs.Refusals.{IsFirstDecided}
 use Rattle.osil_grammar.specs.Reading.{DecodeFails}
-use Rattle.osil_grammar.specs.Parsing.{Reads, Tells}
-use Rattle.osil_grammar.proofs.JoinedRoots.{root_joined}
+use Rattle.osil_grammar.specs.Parsing.{ReadsTags, TellsRefusal}
+use Rattle.osil_grammar.proofs.RootJoins.{root_joined}
 
-told_of : (bytes : List ℕ) (root : Element) (f : OsilFault) → IsDocument bytes root → Tells f (IsFirstDecided (tags root)) → DecodeFails bytes f
+told_of : (bytes : List ℕ) (root : Element) (f : OsilFault) → IsDocument bytes root → TellsRefusal f (IsFirstDecided (tags root)) → DecodeFails bytes f
 told_of bytes root (Tree f) doc told = absurd told
 told_of bytes root (Refused r at) doc told = record { root = root; document = doc; refused = told }
 told_of bytes root Memory doc told = tt
 
-answer : (bytes : List ℕ) (root : Element) (r : Result Parts OsilFault) → IsDocument bytes root → Reads r (tags root) (λ p. Means root p) → IfOk r (λ p. IsInstanceText bytes p) × IfErr r (DecodeFails bytes)
+answer : (bytes : List ℕ) (root : Element) (r : Result Parts OsilFault) → IsDocument bytes root → ReadsTags r (tags root) (λ p. Means root p) → IfOk r (λ p. IsInstanceText bytes p) × IfErr r (DecodeFails bytes)
 answer bytes root (Ok p) doc h = (record { root = root; document = doc; accepted = h.0; means = h.1 }, tt)
 answer bytes root (Err f) doc h = (tt, told_of bytes root f doc h)
 
 -- what the tree of the bytes reads as
-pub tree_read : (bytes : List ℕ) (told : List Event) (result : Result Parts OsilFault) → document.Reads document_limit bytes told → ((e : Element) → told ≡ events e → IsJoined e.children → Reads result (tags e) (λ p. Means e p)) → IfOk result (λ p. IsInstanceText bytes p) × IfErr result (DecodeFails bytes)
+pub tree_read : (bytes : List ℕ) (told : List Event) (result : Result Parts OsilFault) → document.ReadsDocument document_limit bytes told → ((e : Element) → told ≡ events e → IsJoined e.children → ReadsTags result (tags e) (λ p. Means e p)) → IfOk result (λ p. IsInstanceText bytes p) × IfErr result (DecodeFails bytes)
 tree_read bytes told result tree reads =
     answer bytes tree.element result (record { document = tree.document; short = tree.within; shallow = tree.shallow }) (reads tree.element tree.same (root_joined bytes tree.element tree.document))

@@ -6,7 +6,7 @@ use Rattle.std.specs.List.{All}
 use Rattle.std.proofs.lemmas.List.Elements.{All-nil, All-cons, All-map, All-weaker}
 use Rattle.tree_grammar.specs.Characters.{IsXmlText}
 use Rattle.tree_grammar.specs.Elements.{Attribute, Nodes, none, element, Element}
-use Rattle.element_tree.specs.Writable.{IsWritable, local_element}
+use Rattle.element_tree.specs.WritableElements.{IsWritable, local_element}
 use Rattle.element_tree.proofs.Documents.{written_doc}
 use Rattle.document_tags.specs.Texts.{IsDocument, document_limit}
 use Rattle.tree_grammar.specs.Document.{Doc}
@@ -16,12 +16,12 @@ use Rattle.instance.specs.declared.parts.Goal.{Goal}
 use Rattle.instance.specs.declared.parts.Sense.{Sense}
 use Rattle.instance.specs.declared.parts.Sense.TheVariants.{Min, Max}
 use Rattle.instance.specs.Parts.{Parts, IsValid}
-use Rattle.document_tags.specs.Writing.{counted, with_attribute}
+use Rattle.document_tags.specs.Writing.{counted_element, with_attribute}
 use Rattle.osil_grammar.specs.Writing.{CountsCosts, WriteLists, WritesGoal, WritesInstance, IsWrittenText, counts_nodes, entries_below, row_starts, sense_text}
-use Rattle.document_tags.proofs.Flat.{IsTag, is_tag, tag_by}
-use Rattle.document_tags.proofs.Printing.{fixed_text, number_text}
-use Rattle.osil_grammar.proofs.Shown.{plain_shown}
-use Rattle.osil_grammar.proofs.Flat.{AreLow, none_low, element_low, still_low, shown_text, vars_flat, rows_flat, costs_flat, counts_flat, values_flat}
+use Rattle.document_tags.proofs.XmlNodes.{IsTag, is_tag, tag_by}
+use Rattle.document_tags.proofs.PrintableTexts.{fixed_text, number_text}
+use Rattle.osil_grammar.proofs.PrintableTexts.{plain_shown}
+use Rattle.osil_grammar.proofs.XmlNodes.{AreLow, none_low, element_low, still_low, shown_text, vars_flat, rows_flat, costs_flat, counts_flat, values_flat}
 
 -- what an instance counts is far below the most that a text can say
 pub few : (n : ℕ) → n ≤ 100000 → n < 10 ^ 64
@@ -67,7 +67,7 @@ goal_low g nodes is =
     subst (AreLow 2) (sym is.says) (element_low 1 (codes "obj") attributes is.costs none tag (costs_flat 0 g.costs is.costs is.are_costs) (none_low 2))
 
 -- a part of `instanceData`, and then more
-part_low : (name key : List ℕ) (n : ℕ) (inner more : Nodes) → is_tag name (with_attribute key (decimal n) []) ≡ true → AreLow 2 inner → AreLow 3 more → AreLow 3 (counted name key n inner more)
+part_low : (name key : List ℕ) (n : ℕ) (inner more : Nodes) → is_tag name (with_attribute key (decimal n) []) ≡ true → AreLow 2 inner → AreLow 3 more → AreLow 3 (counted_element name key n inner more)
 part_low name key n inner more is inside rest = element_low 2 name (with_attribute key (decimal n) []) inner more (tag_by name (with_attribute key (decimal n) []) is (number_text n, tt)) inside rest
 
 abbrev place : List ℕ

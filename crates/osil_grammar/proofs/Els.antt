@@ -8,22 +8,22 @@ use Rattle.decimal_text.specs.Count.{IsCount}
 use Rattle.document_tags.specs.Elements.{attribute}
 use Rattle.osil_grammar.specs.Tags.{Level, Tag, level_of, start_tag, end_tag}
 use Rattle.osil_grammar.specs.Kinds.{Listing, Values, Kind, Osil, InstanceData, Variables, Var, Objectives, Obj, Coef, Constraints, Con, Coefficients, Listed, El}
-use Rattle.osil_grammar.specs.Numbers.{Field, mult, field, fields, text_grammar, listing_grammar, IsOf, IsWideOf}
+use Rattle.osil_grammar.specs.Numbers.{Field, mult, field, fields, text_grammar, listing_grammar, IsOfGrammar, IsWideOf}
 use Rattle.osil_grammar.specs.Runs.{StandsFor, StandFor}
-use Rattle.osil_grammar.specs.Deciding.{HasAttribute, HasWideRun, LeavesRange, most}
+use Rattle.osil_grammar.specs.Deciding.{HasAttribute, HasWideRun, LeavesRange, most_items}
 use Rattle.osil_grammar.specs.Refusals.{Refusal, Root, Missing, Beyond, Attribute, Number, Wide, Count, Index, Start, VarType, Bound, ManyObjectives, TooBig, Decides}
-use Rattle.osil_grammar.proofs.AtTags.{IsPlaced, only_kind, not_root, not_beyond, number_at_start, wide_at_start, too_big_at_start, one_of_two}
+use Rattle.osil_grammar.proofs.KindTags.{IsPlaced, only_kind, not_root, not_beyond, number_at_start, wide_at_start, too_big_at_start, one_of_two}
 
 -- what is wrong at its start tag
 abbrev pub StartFault : Listing → Element → List Element → Refusal → Type 0
-StartFault l e before Number = HasAttribute e (codes "mult") (λ text. (IsOf mult.grammar text → ⊥) ⊎ IsCount text 0) ⊎ HasAttribute e (codes "incr") (λ text. IsOf (listing_grammar l) text → ⊥)
+StartFault l e before Number = HasAttribute e (codes "mult") (λ text. (IsOfGrammar mult.grammar text → ⊥) ⊎ IsCount text 0) ⊎ HasAttribute e (codes "incr") (λ text. IsOfGrammar (listing_grammar l) text → ⊥)
 StartFault l e before Wide = HasAttribute e (codes "mult") (λ text. IsWideOf mult.grammar text) ⊎ HasAttribute e (codes "incr") (λ text. IsWideOf (listing_grammar l) text)
-StartFault l e before TooBig = IsSomeAnd (most (El l)) (λ limit. (m : ℕ) × StandsFor e m × (n : ℕ) × StandFor before n × (limit < n + m))
+StartFault l e before TooBig = IsSomeAnd (most_items (El l)) (λ limit. (m : ℕ) × StandsFor e m × (n : ℕ) × StandFor before n × (limit < n + m))
 StartFault l e before r = ⊥
 
 -- and at its end tag
 abbrev pub EndFault : Listing → Tag → Element → Refusal → Type 0
-EndFault l t e Number = (text : List ℕ) × HoldsText e.children text × (IsOf (listing_grammar l) text → ⊥)
+EndFault l t e Number = (text : List ℕ) × HoldsText e.children text × (IsOfGrammar (listing_grammar l) text → ⊥)
 EndFault l t e Wide = ((text : List ℕ) × HoldsText e.children text × IsWideOf (listing_grammar l) text) ⊎ ((l ≡ Values) × HasWideRun e)
 EndFault l t e Index = LeavesRange t l
 EndFault l t e r = ⊥
@@ -34,14 +34,14 @@ some_more None P Q more h = h
 some_more (Some x) P Q more h = more x h
 
 module _ (around : List Level) (e : Element) (n : ℕ) (before : List Element) (l : Listing) (at : IsPlaced around e (Listed l) (El l)) where
-  not_number : ((f : Field) × Contains (fields (El l)) f × HasAttribute e f.name (λ text. IsOf f.grammar text → ⊥)) ⊎ (Contains (fields (El l)) mult × HasAttribute e (codes "mult") (λ text. IsCount text 0)) → StartFault l e before Number
+  not_number : ((f : Field) × Contains (fields (El l)) f × HasAttribute e f.name (λ text. IsOfGrammar f.grammar text → ⊥)) ⊎ (Contains (fields (El l)) mult × HasAttribute e (codes "mult") (λ text. IsCount text 0)) → StartFault l e before Number
   not_number h =
       ⊎_elim
       (λ no. ⊎_elim
-      (λ is. inl (some_more (attribute e (codes "mult")) (λ text. IsOf mult.grammar text → ⊥) (λ text. (IsOf mult.grammar text → ⊥) ⊎ IsCount text 0) (λ text w. inl w) (subst (λ (f : Field). HasAttribute e f.name (λ text. IsOf f.grammar text → ⊥)) (sym is) no.2)))
-      (λ is. inr (subst (λ (f : Field). HasAttribute e f.name (λ text. IsOf f.grammar text → ⊥)) (sym is) no.2))
+      (λ is. inl (some_more (attribute e (codes "mult")) (λ text. IsOfGrammar mult.grammar text → ⊥) (λ text. (IsOfGrammar mult.grammar text → ⊥) ⊎ IsCount text 0) (λ text w. inl w) (subst (λ (f : Field). HasAttribute e f.name (λ text. IsOfGrammar f.grammar text → ⊥)) (sym is) no.2)))
+      (λ is. inr (subst (λ (f : Field). HasAttribute e f.name (λ text. IsOfGrammar f.grammar text → ⊥)) (sym is) no.2))
       (one_of_two mult (field (codes "incr") (listing_grammar l)) no.0 no.1))
-      (λ none. inl (some_more (attribute e (codes "mult")) (λ text. IsCount text 0) (λ text. (IsOf mult.grammar text → ⊥) ⊎ IsCount text 0) (λ text w. inr w) none.1)) h
+      (λ none. inl (some_more (attribute e (codes "mult")) (λ text. IsCount text 0) (λ text. (IsOfGrammar mult.grammar text → ⊥) ⊎ IsCount text 0) (λ text w. inr w) none.1)) h
 
   too_wide : ((f : Field) × Contains (fields (El l)) f × HasAttribute e f.name (λ text. IsWideOf f.grammar text)) ⊎ (Con ≡ El l) → StartFault l e before Wide
   too_wide h =
@@ -80,7 +80,7 @@ module _ (around : List Level) (e : Element) (n : ℕ) (before : List Element) (
   end_decides Number m h =
       ⊎_elim (λ w. absurd (false≢true w.1.0))
       (λ more. ⊎_elim (λ w. absurd (false≢true w.1.0))
-      (λ w. subst (λ (k : Kind). IsSomeAnd (text_grammar k) (λ g. (text : List ℕ) × HoldsText e.children text × (IsOf g text → ⊥))) (only_kind around e n before (Listed l) (El l) at w.0 w.1.1) w.2) more) h.0
+      (λ w. subst (λ (k : Kind). IsSomeAnd (text_grammar k) (λ g. (text : List ℕ) × HoldsText e.children text × (IsOfGrammar g text → ⊥))) (only_kind around e n before (Listed l) (El l) at w.0 w.1.1) w.2) more) h.0
   end_decides Wide m h =
       ⊎_elim (λ w. absurd (false≢true w.1.0))
       (λ more. ⊎_elim (λ w. absurd (false≢true w.0.0))

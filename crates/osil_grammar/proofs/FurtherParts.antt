@@ -6,11 +6,11 @@ use Rattle.osil_grammar.specs.declared.fault.OsilFault.{OsilFault}
 use Rattle.osil_grammar.specs.Tags.{Level, names, level_of, start_tag, end_tag}
 use Rattle.osil_grammar.specs.Kinds.{Kind, InstanceData, path, content_names}
 use Rattle.document_tags.specs.Faults.{told_name}
-use Rattle.osil_grammar.specs.Walking.{Walking, Begun, Entered, Left, IsInside, IsBehind}
+use Rattle.osil_grammar.specs.Walking.{Walking, Begun, Entered, LeavesElement, IsInElement, IsBehindElement}
 use Rattle.osil_grammar.specs.Refusals.{Refusal, Root, Missing, Beyond, Decides, AreClean, IsFirstDecided}
-use Rattle.osil_grammar.specs.Parsing.{Tells, element_tags, start_only}
-use Rattle.osil_grammar.proofs.Decided.{first_one, first_front, tells_more, clean_element, clean_one, refused_inside}
-use Rattle.osil_grammar.proofs.Midway.{begins_midway, enters_child, leaves_children}
+use Rattle.osil_grammar.specs.Parsing.{TellsRefusal, element_tags, start_only}
+use Rattle.osil_grammar.proofs.FirstRefusals.{first_one, first_front, tells_more, clean_element, clean_one, refused_inside}
+use Rattle.osil_grammar.proofs.ChildWalks.{begins_midway, enters_child, leaves_children}
 use Rattle.osil_grammar.proofs.OpenPlaces.{NoKind, unknown_clean, end_in_place, in_open, late_in_data}
 use Rattle.osil_grammar.proofs.Paths.{names_append}
 use Rattle.osil_grammar.proofs.StartTags.{AtLeast, no_further_part, not_ended}
@@ -26,7 +26,7 @@ least_inside around l m Missing n (inr (inl h), at) = absurd (not_ended (start_t
 least_inside around l m Missing n (inr (inr h), at) = absurd (not_ended (start_tag (around ++ l ∷ []) m) kinds.Coefficients refl h.0)
 least_inside around l m q n d = omega arith
 
-module _ (old new : Walking) (t : Begun) (e : Element) (rest : List Event) (around : List Level) (before : List Element) (at : IsInside old t e rest) (inside : names around ≡ path InstanceData) (further : IsAmong e.name (content_names InstanceData) → ⊥) where
+module _ (old new : Walking) (t : Begun) (e : Element) (rest : List Event) (around : List Level) (before : List Element) (at : IsInElement old t e rest) (inside : names around ≡ path InstanceData) (further : IsAmong e.name (content_names InstanceData) → ⊥) where
   unknown : NoKind (names (around ++ level_of e old.ordinal before ∷ []))
   unknown k is = further (no_further_part k e.name (sym is ∙ names_append around (level_of e old.ordinal before) ∙ ap (λ (ns : List (List ℕ)). ns ++ e.name ∷ []) inside))
 
@@ -40,7 +40,7 @@ module _ (old new : Walking) (t : Begun) (e : Element) (rest : List Event) (arou
       (in_open (start_tag around (level_of e old.ordinal before)) InstanceData inside refl further (late_in_data before e.name)))
 
   -- without a child element nothing is refused
-  pub further_empty : Left old new → AreClean (element_tags around before old.ordinal e) × (Unit {0} × IsBehind old new e rest)
+  pub further_empty : LeavesElement old new → AreClean (element_tags around before old.ordinal e) × (Unit {0} × IsBehindElement old new e rest)
   further_empty left =
       let inner = around ++ level_of e old.ordinal before ∷ [] in
       let over = leaves_children old old new e rest inner [] (begins_midway old e rest inner at.inside at.joined) left in
@@ -48,7 +48,7 @@ module _ (old new : Walking) (t : Begun) (e : Element) (rest : List Event) (arou
       (clean_element around before old.ordinal e start_clean over.clean (clean_one end (unknown_clean end unknown (λ s root. not_root root) (end_in_place end refl))), (tt, over.behind))
 
   -- the first child element is what is refused
-  pub further_filled : (c : Begun) → Entered old new c → (f : OsilFault) → Tells f (λ r n. (r ≡ Beyond (told_name t.name)) × (n ≡ t.ordinal)) → Tells f (IsFirstDecided (element_tags around before old.ordinal e))
+  pub further_filled : (c : Begun) → Entered old new c → (f : OsilFault) → TellsRefusal f (λ r n. (r ≡ Beyond (told_name t.name)) × (n ≡ t.ordinal)) → TellsRefusal f (IsFirstDecided (element_tags around before old.ordinal e))
   further_filled c entered f h =
       let part = level_of e old.ordinal before in
       let inner = around ++ part ∷ [] in

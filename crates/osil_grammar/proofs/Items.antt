@@ -5,8 +5,8 @@ use Rattle.std.specs.Prelude.{replicate}
 use Rattle.tree_grammar.specs.Elements.{Element}
 use Rattle.osil_grammar.specs.Runs.{StandsFor, StandFor}
 use Rattle.osil_grammar.specs.Meaning.{Expand}
-use Rattle.osil_grammar.specs.Parsing.{Adds}
-use Rattle.osil_grammar.proofs.Once.{stand_append}
+use Rattle.osil_grammar.specs.Parsing.{AddsItems}
+use Rattle.osil_grammar.proofs.OneCount.{stand_append}
 
 -- one element more
 pub expand_append : {X : Type 0} (Is : Element → X → Type 0) (es : List Element) (e : Element) (xs : List X) (x : X) (m : ℕ) → Expand Is es xs → Is e x → StandsFor e m → Expand Is (es ++ e ∷ []) (xs ++ replicate m x)
@@ -22,7 +22,7 @@ ItemsOf Is es xs = Expand Is es xs × StandFor es (length xs)
 pub no_items : {X : Type 0} (Is : Element → X → Type 0) (xs : List X) → xs ≡ [] → ItemsOf Is [] xs
 no_items {X} Is xs none = (none, ap (λ (ys : List X). length ys) none)
 
-pub one_more_item : {X : Type 0} (Is : Element → X → Type 0) (es : List Element) (e : Element) (old new : List X) → ItemsOf Is es old → Adds Is old new e → ItemsOf Is (es ++ e ∷ []) new
+pub one_more_item : {X : Type 0} (Is : Element → X → Type 0) (es : List Element) (e : Element) (old new : List X) → ItemsOf Is es old → AddsItems Is old new e → ItemsOf Is (es ++ e ∷ []) new
 one_more_item {X} Is es e old new items (x, m, is, times, added) =
     subst (λ (ys : List X). ItemsOf Is (es ++ e ∷ []) ys) (sym added) (
       expand_append Is es e old x m items.0 is times,

@@ -12,7 +12,7 @@ use Rattle.osil_grammar.specs.Kinds.{Listing, Starts, RowIndices, ColumnIndices,
 use Rattle.osil_grammar.specs.Matrix.{index_name}
 use Rattle.osil_grammar.specs.Deciding.{IsInRow}
 use Rattle.osil_grammar.specs.declared.matrix.Found.{Found}
-use Rattle.osil_grammar.specs.Parsing.{AreRead, IsRead, MayFollow}
+use Rattle.osil_grammar.specs.Parsing.{AreListsRead, IsListRead, MayFollow}
 
 -- where no element of a name is found, none has it
 pub first_none : (name : List ℕ) (es : List Element) → first_named name es ≡ None → All (λ e. e.name ≡ name → ⊥) es
@@ -24,24 +24,24 @@ first_none name (e ∷ es) none =
     (cases_Bool (bytes_eq e.name name))
 
 -- what was not read doesn't stand there
-pub not_read : {X : Type 0} (es : List Element) (name : List ℕ) (found : Option X) (Holds : Element → X → Type 0) → IsRead es name found Holds → found ≡ None → first_named name es ≡ None
+pub not_read : {X : Type 0} (es : List Element) (name : List ℕ) (found : Option X) (Holds : Element → X → Type 0) → IsListRead es name found Holds → found ≡ None → first_named name es ≡ None
 not_read es name None Holds h none = h
 not_read es name (Some x) Holds h none = absurd (cc)
 
 pub record NoneStand (es : List Element) (name : List ℕ) : Type 0 where
   pub none : All (λ e. e.name ≡ name → ⊥) es
 
-no_starts : (es : List Element) (f : Found) → AreRead es f → f.starts ≡ None → NoneStand es (codes "start")
+no_starts : (es : List Element) (f : Found) → AreListsRead es f → f.starts ≡ None → NoneStand es (codes "start")
 no_starts es f read none = record { none = first_none (codes "start") es (not_read es (codes "start") f.starts _ read.starts none) }
 
-no_values : (es : List Element) (f : Found) → AreRead es f → f.values ≡ None → NoneStand es (codes "value")
+no_values : (es : List Element) (f : Found) → AreListsRead es f → f.values ≡ None → NoneStand es (codes "value")
 no_values es f read none = record { none = first_none (codes "value") es (not_read es (codes "value") f.values _ read.values none) }
 
 indices_by : (b : Bool) (es : List Element) → NoneStand es (index_name b) → NoneStand es (index_name (not b)) → NoneStand es (codes "rowIdx") × NoneStand es (codes "colIdx")
 indices_by true es own other = (own, other)
 indices_by false es own other = (other, own)
 
-no_indices : (es : List Element) (f : Found) → AreRead es f → f.indices ≡ None → NoneStand es (codes "rowIdx") × NoneStand es (codes "colIdx")
+no_indices : (es : List Element) (f : Found) → AreListsRead es f → f.indices ≡ None → NoneStand es (codes "rowIdx") × NoneStand es (codes "colIdx")
 no_indices es f read none =
     indices_by f.by_columns es (record { none = first_none (index_name f.by_columns) es (not_read es (index_name f.by_columns) f.indices _ read.indices none) }) (record { none = first_none (index_name (not f.by_columns)) es read.others })
 
@@ -52,7 +52,7 @@ not_there es name e stand there = All-contains (λ e. e.name ≡ name → ⊥) e
 abbrev StandsFrom : ℕ → List Element → Type 0
 StandsFrom r es = (q : ℕ) × (r ≤ q) × (e : Element) × Contains es e × IsInRow (ordered Coefficients) q e.name
 
-in_rows : (es : List Element) (f : Found) → AreRead es f → (e : Element) → Contains es e → (q : ℕ) → IsInRow (ordered Coefficients) q e.name → ((q ≡ 0) × (f.starts ≡ None → ⊥)) ⊎ (((q ≡ 1) × (f.indices ≡ None → ⊥)) ⊎ ((q ≡ 2) × (f.values ≡ None → ⊥)))
+in_rows : (es : List Element) (f : Found) → AreListsRead es f → (e : Element) → Contains es e → (q : ℕ) → IsInRow (ordered Coefficients) q e.name → ((q ≡ 0) × (f.starts ≡ None → ⊥)) ⊎ (((q ≡ 1) × (f.indices ≡ None → ⊥)) ⊎ ((q ≡ 2) × (f.values ≡ None → ⊥)))
 in_rows es f read e there zero row = inl (refl, λ none. ⊎_elim (λ is. not_there es (codes "start") e (no_starts es f read none) there is) (λ no. no) row)
 in_rows es f read e there (suc zero) row =
     inr (inl (refl, λ none. ⊎_elim (λ is. not_there es (codes "rowIdx") e (no_indices es f read none).0 there is) (λ more. ⊎_elim (λ is. not_there es (codes "colIdx") e (no_indices es f read none).1 there is) (λ no. no) more) row))
@@ -67,7 +67,7 @@ row_of ColumnIndices = 1
 row_of Values = 2
 
 -- nothing stands that a list must stand before, nor the list itself, where it may follow
-pub none_behind : (es : List Element) (f : Found) → AreRead es f → (l : Listing) → MayFollow l f → StandsFrom (row_of l) es → ⊥
+pub none_behind : (es : List Element) (f : Found) → AreListsRead es f → (l : Listing) → MayFollow l f → StandsFrom (row_of l) es → ⊥
 none_behind es f read Starts may (q, le, e, there, row) =
     ⊎_elim (λ w. w.1 may.0) (λ w. ⊎_elim (λ v. v.1 may.1) (λ v. v.1 may.2) w) (in_rows es f read e there q row)
 none_behind es f read RowIndices may (q, le, e, there, row) =

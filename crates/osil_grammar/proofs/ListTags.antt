@@ -9,17 +9,17 @@ use Rattle.osil_grammar.specs.declared.tags.StartTag.{StartTag}
 use Rattle.osil_grammar.specs.declared.fault.OsilFault.{OsilFault}
 use Rattle.osil_grammar.specs.declared.matrix.Found.{Found}
 use Rattle.osil_grammar.specs.Tags.{Level, names, level_of, start_tag, end_tag, first_named}
-use Rattle.osil_grammar.specs.Kinds.{Listing, Starts, RowIndices, ColumnIndices, Values, Kind, Coefficients, Listed, path, listing_name, ordered, content_names, Begins}
+use Rattle.osil_grammar.specs.Kinds.{Listing, Starts, RowIndices, ColumnIndices, Values, Kind, Coefficients, Listed, path, listing_name, ordered, content_names, IsStartTagOf}
 use Rattle.osil_grammar.specs.Matrix.{index_name}
 use Rattle.osil_grammar.specs.Walking.{Begun}
 use Rattle.document_tags.specs.Faults.{told_name}
 use Rattle.osil_grammar.specs.Deciding.{IsInRow, IsLate}
 use Rattle.osil_grammar.specs.Refusals.{Beyond, DecidesNothing, AreClean, IsFirstDecided}
-use Rattle.osil_grammar.specs.Parsing.{begun, IsTagOf, Tells, start_only, element_tags, AreRead, IsRead, MayFollow, InSize, parts_around}
-use Rattle.osil_grammar.proofs.AtStart.{begins_child, told_here, no_attribute, no_var_type, no_many, no_wide_row}
-use Rattle.osil_grammar.proofs.Decided.{tells_more, inner_tags, clean_one, clean_element, refused_inside}
+use Rattle.osil_grammar.specs.Parsing.{begun_tag, IsTagOf, TellsRefusal, start_only, element_tags, AreListsRead, IsListRead, MayFollow, InSize, parts_around}
+use Rattle.osil_grammar.proofs.StartRefusals.{begins_child, told_here, no_attribute, no_var_type, no_many, no_wide_row}
+use Rattle.osil_grammar.proofs.FirstRefusals.{tells_more, inner_tags, clean_one, clean_element, refused_inside}
 use Rattle.osil_grammar.proofs.EndTags.{plain_end}
-use Rattle.osil_grammar.proofs.FirstNamed.{first_there}
+use Rattle.osil_grammar.proofs.FirstOfName.{first_there}
 use Rattle.osil_grammar.proofs.ListPlaces.{row_of, none_behind}
 use Rattle.osil_grammar.proofs.PartsBefore.{parts_kept}
 use Rattle.osil_grammar.proofs.StartEnds.{past_ends, start_clean}
@@ -50,7 +50,7 @@ row_least Values (suc zero) row = elim row [ inl is ↦ absurd (apart (codes "va
 row_least Values (suc (suc r)) row = omega arith
 
 -- where it may follow, it is not late
-pub not_late : (l : Listing) (es : List Element) (f : Found) (name : List ℕ) → AreRead es f → MayFollow l f → name ≡ listing_name l → IsLate (ordered Coefficients) es name → ⊥
+pub not_late : (l : Listing) (es : List Element) (f : Found) (name : List ℕ) → AreListsRead es f → MayFollow l f → name ≡ listing_name l → IsLate (ordered Coefficients) es name → ⊥
 not_late l es f name read may named (r, row, q, le, e, there, in_row) =
     let least = row_least l r (subst (λ (n : List ℕ). IsInRow (ordered Coefficients) r n) named row) in
     none_behind es f read l may (q, omega arith, e, there, in_row)
@@ -79,14 +79,14 @@ pub there_is : (o : Option Element) (P : Element → Type 0) → IsSomeAnd o P �
 there_is None P h = absurd h
 there_is (Some e) P h = (e, refl)
 
-read_or_none : {X : Type 0} (es : List Element) (name : List ℕ) (found : Option X) (Holds : Element → X → Type 0) → IsRead es name found Holds → (found ≡ None) ⊎ Stands es name
+read_or_none : {X : Type 0} (es : List Element) (name : List ℕ) (found : Option X) (Holds : Element → X → Type 0) → IsListRead es name found Holds → (found ≡ None) ⊎ Stands es name
 read_or_none es name None Holds h = inl refl
 read_or_none es name (Some x) Holds h = let there = there_is (first_named name es) (λ e. Holds e x) h in let at = first_there name es there.0 there.1 in inr (there.0, at.0, at.1)
 
 late_behind : (l : Listing) (q : ℕ) (es : List Element) (other : List ℕ) → row_of l ≤ q → Stands es other → IsInRow (ordered Coefficients) q other → IsLate (ordered Coefficients) es (listing_name l)
 late_behind l q es other le (e, there, named) row = (row_of l, own_row l, q, le, e, there, subst (λ (n : List ℕ). IsInRow (ordered Coefficients) q n) (sym named) row)
 
-module _ (es : List Element) (f : Found) (read : AreRead es f) where
+module _ (es : List Element) (f : Found) (read : AreListsRead es f) where
   behind_values : (l : Listing) → (f.values ≡ None → ⊥) → IsLate (ordered Coefficients) es (listing_name l)
   behind_values l some =
       elim (read_or_none es (codes "value") f.values _ read.values) [
@@ -114,20 +114,20 @@ module _ (es : List Element) (f : Found) (read : AreRead es f) where
 
 -- what is told of an element that stands a second time, or behind one that it must stand before
 pub misplaced_told : (t : StartTag) (around : List Level) (before : List Element) (n : ℕ) (e : Element) (f : OsilFault) (p : Kind) → IsTagOf t e n → names around ≡ path p → IsLate (ordered p) before e.name
-    → Tells f (λ r m. (r ≡ Beyond (told_name (begun t).name)) × (m ≡ (begun t).ordinal)) → Tells f (IsFirstDecided (start_only around before n e))
+    → TellsRefusal f (λ r m. (r ≡ Beyond (told_name (begun_tag t).name)) × (m ≡ (begun_tag t).ordinal)) → TellsRefusal f (IsFirstDecided (start_only around before n e))
 misplaced_told t around before n e f p tag inside late h =
     told_here t around before n e f (Beyond (told_name e.name)) tag (inl (inr (p, (refl, inside), late), refl, refl))
     (least_start (start_tag around (level_of e n before)) p refl inside)
     (tells_more f _ _ (λ r m same. (same.0 ∙ ap (λ (b : Begun). Beyond (told_name b.name)) tag, same.1)) h)
 
-pub late_told : (t : StartTag) (around : List Level) (es before : List Element) (n : ℕ) (e : Element) (fault : OsilFault) (l : Listing) (f : Found) → IsTagOf t e n → names around ≡ path Coefficients → before ≡ es → e.name ≡ listing_name l → AreRead es f → (MayFollow l f → ⊥)
-    → Tells fault (λ r m. (r ≡ Beyond (told_name (begun t).name)) × (m ≡ (begun t).ordinal)) → Tells fault (IsFirstDecided (start_only around before n e))
+pub late_told : (t : StartTag) (around : List Level) (es before : List Element) (n : ℕ) (e : Element) (fault : OsilFault) (l : Listing) (f : Found) → IsTagOf t e n → names around ≡ path Coefficients → before ≡ es → e.name ≡ listing_name l → AreListsRead es f → (MayFollow l f → ⊥)
+    → TellsRefusal fault (λ r m. (r ≡ Beyond (told_name (begun_tag t).name)) × (m ≡ (begun_tag t).ordinal)) → TellsRefusal fault (IsFirstDecided (start_only around before n e))
 late_told t around es before n e fault l f tag inside same named read not h =
     misplaced_told t around before n e fault Coefficients tag inside
     (subst (λ (bs : List Element). IsLate (ordered Coefficients) bs e.name) (sym same) (subst (λ (x : List ℕ). IsLate (ordered Coefficients) es x) (sym named) (is_late es f read l not))) h
 
 module _ (l : Listing) (around : List Level) (before : List Element) (n : ℕ) (e : Element) (inside : names around ≡ path Coefficients) (named : e.name ≡ listing_name l) where
-  pub list_begins : Begins (start_tag around (level_of e n before)) (Listed l)
+  pub list_begins : IsStartTagOf (start_tag around (level_of e n before)) (Listed l)
   list_begins = begins_child around before n e Coefficients (Listed l) (listing_name l) inside named refl
 
   pub list_start : (IsLate (ordered Coefficients) before e.name → ⊥) → DecidesNothing (start_tag around (level_of e n before))
@@ -145,11 +145,11 @@ module _ (l : Listing) (around : List Level) (before : List Element) (n : ℕ) (
       plain_end (end_tag around (level_of e n before)) (Listed l) (refl, list_begins.1) (λ z. absurd (cc), λ z. absurd (cc), λ z. absurd (cc)) (λ z. absurd (cc), λ z. absurd (cc), λ z. absurd (cc), λ z. absurd (cc), λ z. absurd (cc)) refl (λ m z. absurd (cc)) (λ z. absurd (cc))
 
 -- of a list that may follow, whatever is in it
-module _ (l : Listing) (around : List Level) (es before : List Element) (n : ℕ) (e : Element) (f : Found) (inside : names around ≡ path Coefficients) (same : before ≡ es) (named : e.name ≡ listing_name l) (read : AreRead es f) (may : MayFollow l f) where
+module _ (l : Listing) (around : List Level) (es before : List Element) (n : ℕ) (e : Element) (f : Found) (inside : names around ≡ path Coefficients) (same : before ≡ es) (named : e.name ≡ listing_name l) (read : AreListsRead es f) (may : MayFollow l f) where
   list_starts : AreClean (start_only around before n e)
   list_starts = clean_one (start_tag around (level_of e n before)) (list_start l around before n e inside named (λ late. not_late l es f e.name read may named (subst (λ (bs : List Element). IsLate (ordered Coefficients) bs e.name) same late)))
 
-  pub list_refused : (fault : OsilFault) → Tells fault (IsFirstDecided (inner_tags around before n e)) → Tells fault (IsFirstDecided (element_tags around before n e))
+  pub list_refused : (fault : OsilFault) → TellsRefusal fault (IsFirstDecided (inner_tags around before n e)) → TellsRefusal fault (IsFirstDecided (element_tags around before n e))
   list_refused fault h = refused_inside fault around before n e list_starts h
 
   pub list_clean : AreClean (inner_tags around before n e) → AreClean (element_tags around before n e)

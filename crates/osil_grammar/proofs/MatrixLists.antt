@@ -21,10 +21,10 @@ use Rattle.osil_grammar.specs.Matrix.{index_name, IsDivision, AreLists, lines_fr
 use Rattle.osil_grammar.specs.Meaning.{AreEntriesOf, IsMatrix}
 use Rattle.osil_grammar.specs.Deciding.{HasList, HasLists, HasItems, HasWideEntry, LinesBefore, AreDivided}
 use Rattle.osil_grammar.specs.Refusals.{Refusal, Wide, Count, AreClean, IsFirstDecided}
-use Rattle.osil_grammar.specs.Parsing.{IsTagOf, Tells, end_only, wholes, lists_of, AreSame, HoldsWholes, HoldsRatios, HoldsLists, HasLines, IsRightMatrix, AreStored, IsListsFault}
-use Rattle.osil_grammar.proofs.Decided.{clean_one, tells_more}
-use Rattle.osil_grammar.proofs.FirstNamed.{is_among}
-use Rattle.osil_grammar.proofs.ListsRead.{length-same}
+use Rattle.osil_grammar.specs.Parsing.{IsTagOf, TellsRefusal, end_only, wholes, lists_of, AreSame, HoldsWholes, HoldsRatios, HoldsLists, HasLines, IsRightMatrix, AreStored, IsListsFault}
+use Rattle.osil_grammar.proofs.FirstRefusals.{clean_one, tells_more}
+use Rattle.osil_grammar.proofs.FirstOfName.{is_among}
+use Rattle.osil_grammar.proofs.NumberLists.{length-same}
 use Rattle.osil_grammar.proofs.ListTags.{there_is}
 use Rattle.osil_grammar.proofs.MatrixTags.{declares, matrix_ends, end_seven, end_nine, end_nothing, wide_told, start_told, HasCounts, count_told, indices_told, all_counted}
 use Rattle.osil_grammar.proofs.OneMatrix.{HasBoth, lists_once, values_numbers}
@@ -153,20 +153,20 @@ module _ (t : StartTag) (around : List Level) (before : List Element) (n : ℕ) 
       (subst (λ (m : matrix.Lists). HasWidePlace (stored m)) (are_once w.lists w.are_lists) w.wide))
 
   -- a count that is another
-  counted_told : (f : OsilFault) (found : ℕ) → found ≡ length l.values.items → (HasWideEntry (end_tag around (level_of e n before)) → ⊥) → IsSomeAnd declared (λ m. (m ≢ found) × Tells f (λ r k. (r ≡ Count) × (k ≡ t.ordinal))) → Tells f (IsFirstDecided (end_only around before n e))
+  counted_told : (f : OsilFault) (found : ℕ) → found ≡ length l.values.items → (HasWideEntry (end_tag around (level_of e n before)) → ⊥) → IsSomeAnd declared (λ m. (m ≢ found) × TellsRefusal f (λ r k. (r ≡ Count) × (k ≡ t.ordinal))) → TellsRefusal f (IsFirstDecided (end_only around before n e))
   counted_told f found is narrow h =
       count_told t around before n e tag inside here.0 (length l.values.items) (length l.indices.items) (lists_counted e l here.1) declared (declares e declared here.3) f
       (end_seven t around before n e tag inside here.0 whole narrow)
-      (subst (λ (v : ℕ). IsSomeAnd declared (λ m. (m ≢ v) × Tells f (λ r k. (r ≡ Count) × (k ≡ t.ordinal)))) is h)
+      (subst (λ (v : ℕ). IsSomeAnd declared (λ m. (m ≢ v) × TellsRefusal f (λ r k. (r ≡ Count) × (k ≡ t.ordinal)))) is h)
 
-  pub fault_counted : (why : Refusal) → IsListsFault l lines why → (f : OsilFault) (found : ℕ) → found ≡ length l.values.items → IsSomeAnd declared (λ m. (m ≢ found) × Tells f (λ r k. (r ≡ Count) × (k ≡ t.ordinal))) → Tells f (IsFirstDecided (end_only around before n e))
+  pub fault_counted : (why : Refusal) → IsListsFault l lines why → (f : OsilFault) (found : ℕ) → found ≡ length l.values.items → IsSomeAnd declared (λ m. (m ≢ found) × TellsRefusal f (λ r k. (r ≡ Count) × (k ≡ t.ordinal))) → TellsRefusal f (IsFirstDecided (end_only around before n e))
   fault_counted why fault f found is h = counted_told f found is (narrow_fault why fault) h
 
-  pub sums_counted : (HasWidePlace (stored (lists_of l)) → ⊥) → (f : OsilFault) (found : ℕ) → found ≡ length l.values.items → IsSomeAnd declared (λ m. (m ≢ found) × Tells f (λ r k. (r ≡ Count) × (k ≡ t.ordinal))) → Tells f (IsFirstDecided (end_only around before n e))
+  pub sums_counted : (HasWidePlace (stored (lists_of l)) → ⊥) → (f : OsilFault) (found : ℕ) → found ≡ length l.values.items → IsSomeAnd declared (λ m. (m ≢ found) × TellsRefusal f (λ r k. (r ≡ Count) × (k ≡ t.ordinal))) → TellsRefusal f (IsFirstDecided (end_only around before n e))
   sums_counted narrow f found is h = counted_told f found is (narrow_sums narrow) h
 
   -- lists that store no matrix
-  pub fault_told : (why : Refusal) → IsListsFault l lines why → (f : OsilFault) (found : ℕ) → found ≡ length l.values.items → IfSome declared (λ m. m ≡ found) → Tells f (λ r k. (r ≡ why) × (k ≡ t.ordinal)) → Tells f (IsFirstDecided (end_only around before n e))
+  pub fault_told : (why : Refusal) → IsListsFault l lines why → (f : OsilFault) (found : ℕ) → found ≡ length l.values.items → IfSome declared (λ m. m ≡ found) → TellsRefusal f (λ r k. (r ≡ why) × (k ≡ t.ordinal)) → TellsRefusal f (IsFirstDecided (end_only around before n e))
   fault_told why (inl (is, other)) f found size same h =
       indices_told t around before n e tag inside here.0 (length l.values.items) (length l.indices.items) (lists_counted e l here.1) declared (declares e declared here.3) f
       (end_seven t around before n e tag inside here.0 whole (narrow_fault why (inl (is, other)))) other
@@ -178,7 +178,7 @@ module _ (t : StartTag) (around : List Level) (before : List Element) (n : ℕ) 
       (matrix_ends t around before n e tag inside here.0, with_values l (has_run e l here.1).run, (has_run e l here.1).are, λ divided. undivided (division_of divided))
       (tells_more f _ _ (λ r k told. (told.0 ∙ is, told.1)) h)
 
-  pub sum_told : AreStored l lines → HasWidePlace (stored (lists_of l)) → (f : OsilFault) → Tells f (λ r k. (r ≡ Wide) × (k ≡ t.ordinal)) → Tells f (IsFirstDecided (end_only around before n e))
+  pub sum_told : AreStored l lines → HasWidePlace (stored (lists_of l)) → (f : OsilFault) → TellsRefusal f (λ r k. (r ≡ Wide) × (k ≡ t.ordinal)) → TellsRefusal f (IsFirstDecided (end_only around before n e))
   sum_told h wide f tells =
       let run = has_run e l here.1 in
       wide_told t around before n e tag inside here.0 f whole

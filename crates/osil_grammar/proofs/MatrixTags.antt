@@ -10,15 +10,15 @@ use Rattle.osil_grammar.specs.declared.tags.StartTag.{StartTag}
 use Rattle.osil_grammar.specs.declared.fault.OsilFault.{OsilFault}
 use Rattle.document_tags.specs.Elements.{attribute}
 use Rattle.osil_grammar.specs.Tags.{Level, names, level_of, start_tag, end_tag}
-use Rattle.osil_grammar.specs.Kinds.{Osil, InstanceData, Variables, Objectives, Obj, Constraints, Coefficients, El, path, ordered, Begins, Ends}
+use Rattle.osil_grammar.specs.Kinds.{Osil, InstanceData, Variables, Objectives, Obj, Constraints, Coefficients, El, path, ordered, IsStartTagOf, IsEndTagOf}
 use Rattle.osil_grammar.specs.Numbers.{count, fields}
 use Rattle.osil_grammar.specs.Deciding.{IsLate, HasList, HasLists, HasWideEntry, HasItems, HasOtherValues, HasOtherIndices, DecidesCount, DecidesIndex, DecidesStart, DecidesBound, Differs}
 use Rattle.osil_grammar.specs.Refusals.{Refusal, Root, Missing, Beyond, Attribute, Wide, Count, Start, number, Decides, DecidesNothing, IsFirstDecided}
-use Rattle.osil_grammar.specs.Parsing.{IsTagOf, ReadsField, IsAtTag, Tells, start_only, end_only}
-use Rattle.osil_grammar.proofs.AtStart.{begins_child, no_attribute, no_var_type, no_many, no_wide_row, fields_refused, fields_fine, past_fields, no_wide_but_row}
+use Rattle.osil_grammar.specs.Parsing.{IsTagOf, ReadsField, IsAtTag, TellsRefusal, start_only, end_only}
+use Rattle.osil_grammar.proofs.StartRefusals.{begins_child, no_attribute, no_var_type, no_many, no_wide_row, fields_refused, fields_fine, past_fields, no_wide_but_row}
 use Rattle.osil_grammar.specs.Fields.{IsDeclared, Declares}
-use Rattle.osil_grammar.proofs.Counted.{declared_is, declared_differs, declared_same}
-use Rattle.osil_grammar.proofs.Decided.{first_one, tells_more}
+use Rattle.osil_grammar.proofs.PartCounts.{declared_is, declared_differs, declared_same}
+use Rattle.osil_grammar.proofs.FirstRefusals.{first_one, tells_more}
 use Rattle.osil_grammar.proofs.EndTags.{ends_once, end_number, end_wide}
 use Rattle.osil_grammar.specs.Fields.{FieldsRead}
 use Rattle.osil_grammar.proofs.Fields.{field_read, ordinal_is}
@@ -49,7 +49,7 @@ declared_so e declared h = declared_in (attribute e (codes "numberOfValues")) de
 
 -- what is told at an end tag, where no other refusal comes before
 told_at_end : (t : StartTag) (around : List Level) (before : List Element) (n : ℕ) (e : Element) (f : OsilFault) (why : Refusal) → IsTagOf t e n → Decides (end_tag around (level_of e n before)) why n → AtLeast (number why) (end_tag around (level_of e n before))
-    → Tells f (λ r m. (r ≡ why) × (m ≡ t.ordinal)) → Tells f (IsFirstDecided (end_only around before n e))
+    → TellsRefusal f (λ r m. (r ≡ why) × (m ≡ t.ordinal)) → TellsRefusal f (IsFirstDecided (end_only around before n e))
 told_at_end t around before n e f why tag decided least h =
     tells_more f _ _
     (λ r m told. subst (λ (q : Refusal). IsFirstDecided (end_only around before n e) q m) (sym told.0)
@@ -57,7 +57,7 @@ told_at_end t around before n e f why tag decided least h =
     (first_one (end_tag around (level_of e n before)) why n decided least))) h
 
 module _ (t : StartTag) (around : List Level) (before : List Element) (n : ℕ) (e : Element) (tag : IsTagOf t e n) (inside : names around ≡ path InstanceData) (named : e.name ≡ matrix_name) where
-  pub matrix_begins : Begins (start_tag around (level_of e n before)) Coefficients
+  pub matrix_begins : IsStartTagOf (start_tag around (level_of e n before)) Coefficients
   matrix_begins = begins_child around before n e InstanceData Coefficients matrix_name inside named refl
 
   matrix_least : (IsLate (ordered InstanceData) before e.name → ⊥) → AtLeast 5 (start_tag around (level_of e n before))
@@ -68,7 +68,7 @@ module _ (t : StartTag) (around : List Level) (before : List Element) (n : ℕ) 
   count_read : (read : Result (Option ℕ) Unread) → ReadsField t (codes "numberOfValues") count read (λ x. x ≡ None) IsDeclared → FieldsRead e (fields Coefficients) read (λ x. Declares e (codes "numberOfValues") x)
   count_read read h = field_read t e n (codes "numberOfValues") count read (λ x. x ≡ None) IsDeclared tag refl declared_is h
 
-  pub matrix_refused : (IsLate (ordered InstanceData) before e.name → ⊥) → (read : Result (Option ℕ) Unread) (result : Result (Option ℕ) OsilFault) (f : OsilFault) → ReadsField t (codes "numberOfValues") count read (λ x. x ≡ None) IsDeclared → IsAtTag t read result → result ≡ Err f → Tells f (IsFirstDecided (start_only around before n e))
+  pub matrix_refused : (IsLate (ordered InstanceData) before e.name → ⊥) → (read : Result (Option ℕ) Unread) (result : Result (Option ℕ) OsilFault) (f : OsilFault) → ReadsField t (codes "numberOfValues") count read (λ x. x ≡ None) IsDeclared → IsAtTag t read result → result ≡ Err f → TellsRefusal f (IsFirstDecided (start_only around before n e))
   matrix_refused in_place read result f h at failed =
       fields_refused t around before n e Coefficients tag matrix_begins (matrix_least in_place) read (λ x. Declares e (codes "numberOfValues") x) f (count_read read h) (subst (λ (x : Result (Option ℕ) OsilFault). IsAtTag t read x) failed at)
 
@@ -84,7 +84,7 @@ module _ (t : StartTag) (around : List Level) (before : List Element) (n : ℕ) 
       (fine.0, start_clean s Coefficients begins refl (past_ends s Coefficients begins (λ z. absurd (cc)) (λ z. absurd (cc)) typed) (no_many s Coefficients begins (λ z. absurd (cc))))
 
   -- at its end tag
-  pub matrix_ends : Ends (end_tag around (level_of e n before)) Coefficients
+  pub matrix_ends : IsEndTagOf (end_tag around (level_of e n before)) Coefficients
   matrix_ends = (refl, matrix_begins.1)
 
   end_two : AtLeast 2 (end_tag around (level_of e n before))
@@ -129,16 +129,16 @@ module _ (t : StartTag) (around : List Level) (before : List Element) (n : ℕ) 
       past_all s (past_too_big s (past_many s (past_bound s (past_var_type s (past_start s least divided) (λ h. false≢true h.0.0)) no_bound) (λ h. false≢true h.0.0)) (λ h. false≢true h.1.0))
 
   -- what is told there
-  pub missing_told : (f : OsilFault) → HasList e → (HasLists e → ⊥) → Tells f (λ r m. (r ≡ Missing) × (m ≡ t.ordinal)) → Tells f (IsFirstDecided (end_only around before n e))
+  pub missing_told : (f : OsilFault) → HasList e → (HasLists e → ⊥) → TellsRefusal f (λ r m. (r ≡ Missing) × (m ≡ t.ordinal)) → TellsRefusal f (IsFirstDecided (end_only around before n e))
   missing_told f some partial h = told_at_end t around before n e f Missing tag (inr (inr (matrix_ends, some, partial)), refl) end_two h
 
-  pub wide_told : (f : OsilFault) → (HasList e → (HasLists e → ⊥) → ⊥) → HasWideEntry (end_tag around (level_of e n before)) → Tells f (λ r m. (r ≡ Wide) × (m ≡ t.ordinal)) → Tells f (IsFirstDecided (end_only around before n e))
+  pub wide_told : (f : OsilFault) → (HasList e → (HasLists e → ⊥) → ⊥) → HasWideEntry (end_tag around (level_of e n before)) → TellsRefusal f (λ r m. (r ≡ Wide) × (m ≡ t.ordinal)) → TellsRefusal f (IsFirstDecided (end_only around before n e))
   wide_told f whole wide h = told_at_end t around before n e f Wide tag (inr (inr (inr (inr (inr (matrix_ends, wide))))), refl) (end_six whole) h
 
-  pub start_told : (f : OsilFault) → AtLeast 9 (end_tag around (level_of e n before)) → DecidesStart (end_tag around (level_of e n before)) → Tells f (λ r m. (r ≡ Start) × (m ≡ t.ordinal)) → Tells f (IsFirstDecided (end_only around before n e))
+  pub start_told : (f : OsilFault) → AtLeast 9 (end_tag around (level_of e n before)) → DecidesStart (end_tag around (level_of e n before)) → TellsRefusal f (λ r m. (r ≡ Start) × (m ≡ t.ordinal)) → TellsRefusal f (IsFirstDecided (end_only around before n e))
   start_told f least decided h = told_at_end t around before n e f Start tag (decided, refl) least h
 
-told_of : (t : StartTag) (values : ℕ) (f : OsilFault) (o : Option ℕ) → IsSomeAnd o (λ m. (m ≢ values) × Tells f (λ r k. (r ≡ Count) × (k ≡ t.ordinal))) → IsSomeAnd o (λ m. m ≢ values) × Tells f (λ r k. (r ≡ Count) × (k ≡ t.ordinal))
+told_of : (t : StartTag) (values : ℕ) (f : OsilFault) (o : Option ℕ) → IsSomeAnd o (λ m. (m ≢ values) × TellsRefusal f (λ r k. (r ≡ Count) × (k ≡ t.ordinal))) → IsSomeAnd o (λ m. m ≢ values) × TellsRefusal f (λ r k. (r ≡ Count) × (k ≡ t.ordinal))
 told_of t values f None h = absurd h
 told_of t values f (Some m) h = h
 
@@ -159,13 +159,13 @@ module _ (t : StartTag) (around : List Level) (before : List Element) (n : ℕ) 
   values_counted (inr (inr (inr (inl a)))) = absurd (let z = ends_once (end_tag around (level_of e n before)) Coefficients Constraints (matrix_ends t around before n e tag inside named) a.0 in cc)
   values_counted (inr (inr (inr (inr h)))) = h
 
-  pub count_told : (f : OsilFault) → AtLeast 7 (end_tag around (level_of e n before)) → IsSomeAnd declared (λ m. (m ≢ values) × Tells f (λ r k. (r ≡ Count) × (k ≡ t.ordinal))) → Tells f (IsFirstDecided (end_only around before n e))
+  pub count_told : (f : OsilFault) → AtLeast 7 (end_tag around (level_of e n before)) → IsSomeAnd declared (λ m. (m ≢ values) × TellsRefusal f (λ r k. (r ≡ Count) × (k ≡ t.ordinal))) → TellsRefusal f (IsFirstDecided (end_only around before n e))
   count_told f least h =
       let both = told_of t values f declared h in
       told_at_end t around before n e f Count tag
       (inr (inr (inr (inr (inl (matrix_ends t around before n e tag inside named, values, counts.in_values, declared_differs e (codes "numberOfValues") values declared (attribute e (codes "numberOfValues")) refl says both.0))))), refl) least both.1
 
-  pub indices_told : (f : OsilFault) → AtLeast 7 (end_tag around (level_of e n before)) → (indices ≡ values → ⊥) → Tells f (λ r k. (r ≡ Count) × (k ≡ t.ordinal)) → Tells f (IsFirstDecided (end_only around before n e))
+  pub indices_told : (f : OsilFault) → AtLeast 7 (end_tag around (level_of e n before)) → (indices ≡ values → ⊥) → TellsRefusal f (λ r k. (r ≡ Count) × (k ≡ t.ordinal)) → TellsRefusal f (IsFirstDecided (end_only around before n e))
   indices_told f least other h =
       told_at_end t around before n e f Count tag
       (inr (inr (inr (inr (inr (matrix_ends t around before n e tag inside named, values, counts.in_values, counts.rows, counts.in_rows, counts.columns, counts.in_columns, λ same. other (sym counts.sum ∙ same)))))), refl) least h

@@ -9,14 +9,14 @@ use Rattle.tree_grammar.specs.Elements.{Nodes, element, Element}
 use Rattle.tree_grammar.specs.Tags.{IsAmong}
 use Rattle.document_tags.specs.Elements.{elements_in}
 use Rattle.osil_grammar.specs.Tags.{Level, Tag, names, level_of, element_of, start_tag, end_tag, node_tags}
-use Rattle.osil_grammar.specs.Kinds.{Kind, Var, Obj, Coef, Con, El, Begins, Ends, ordered}
+use Rattle.osil_grammar.specs.Kinds.{Kind, Var, Obj, Coef, Con, El, IsStartTagOf, IsEndTagOf, ordered}
 use Rattle.osil_grammar.specs.Numbers.{fields}
-use Rattle.osil_grammar.specs.Deciding.{IsInRow, IsLate, HasWideRow, DecidesMissing, DecidesAttribute, DecidesNumber, DecidesWide, DecidesCount, DecidesIndex, DecidesStart, DecidesVarType, DecidesBound, DecidesManyObjectives, DecidesTooBig, most}
+use Rattle.osil_grammar.specs.Deciding.{IsInRow, IsLate, HasWideRow, DecidesMissing, DecidesAttribute, DecidesNumber, DecidesWide, DecidesCount, DecidesIndex, DecidesStart, DecidesVarType, DecidesBound, DecidesManyObjectives, DecidesTooBig, most_items}
 use Rattle.osil_grammar.specs.Refusals.{DecidesNothing, AreClean}
-use Rattle.osil_grammar.proofs.AtStart.{no_attribute, no_var_type, no_many, no_wide_row}
-use Rattle.osil_grammar.proofs.AtTags.{IsPlaced, line_path}
+use Rattle.osil_grammar.proofs.StartRefusals.{no_attribute, no_var_type, no_many, no_wide_row}
+use Rattle.osil_grammar.proofs.KindTags.{IsPlaced, line_path}
 use Rattle.osil_grammar.proofs.EndTags.{end_least_of, not_begun}
-use Rattle.osil_grammar.specs.Fields.{EachOf, IsWide, IsFine, IsNumber}
+use Rattle.osil_grammar.specs.Fields.{EachOf, IsFieldWide, IsFine, IsFieldNumber}
 use Rattle.osil_grammar.proofs.Fields.{each_weaker}
 use Rattle.osil_grammar.proofs.Parents.{child_of}
 use Rattle.osil_grammar.proofs.StartEnds.{no_ends_but, no_limit}
@@ -42,11 +42,11 @@ pub record StartsFine (t : Tag) : Type 0 where
   pub many : DecidesManyObjectives t → ⊥
   pub big : DecidesTooBig t → ⊥
 
-start_by : (t : Tag) (k : Kind) → Begins t k → AtLeast 4 t → EachOf (IsFine t.level.node) (fields k) → StartsFine t → DecidesNothing t
+start_by : (t : Tag) (k : Kind) → IsStartTagOf t k → AtLeast 4 t → EachOf (IsFine t.level.node) (fields k) → StartsFine t → DecidesNothing t
 start_by t k begins least fine rest =
     let named = past_attribute t least rest.attribute in
-    let numbers = past_number t named (no_number t k begins (each_weaker (IsFine t.level.node) (IsNumber t.level.node) (λ f one. one.0) (fields k) fine)) in
-    let narrow = past_wide t numbers (no_wide t k begins (each_weaker (IsFine t.level.node) (λ f. IsWide t.level.node f → ⊥) (λ f one. one.1) (fields k) fine) rest.row) in
+    let numbers = past_number t named (no_number t k begins (each_weaker (IsFine t.level.node) (IsFieldNumber t.level.node) (λ f one. one.0) (fields k) fine)) in
+    let narrow = past_wide t numbers (no_wide t k begins (each_weaker (IsFine t.level.node) (λ f. IsFieldWide t.level.node f → ⊥) (λ f one. one.1) (fields k) fine) rest.row) in
     let starts = past_start t (past_index t (past_count t narrow (no_count t begins.0)) rest.index) (no_starts t begins.0) in
     past_all t (past_too_big t (past_many t (past_bound t (past_var_type t starts rest.var_type) rest.bound) rest.many) rest.big)
 
@@ -56,10 +56,10 @@ pub record IsInPlace (around : List Level) (before : List Element) (e : Element)
   pub in_order : IsLate (ordered p) before e.name → ⊥
 
 module _ (around : List Level) (before : List Element) (n : ℕ) (e : Element) (p k : Kind) (at : IsInPlace around before e p k) where
-  pub it_begins : Begins (start_tag around (level_of e n before)) k
+  pub it_begins : IsStartTagOf (start_tag around (level_of e n before)) k
   it_begins = (refl, line_path around e n before p k at.placed)
 
-  pub it_ends : Ends (end_tag around (level_of e n before)) k
+  pub it_ends : IsEndTagOf (end_tag around (level_of e n before)) k
   it_ends = (refl, line_path around e n before p k at.placed)
 
   pub start_fine : EachOf (IsFine e) (fields k) → StartsFine (start_tag around (level_of e n before)) → DecidesNothing (start_tag around (level_of e n before))
@@ -78,7 +78,7 @@ module _ (k : Kind) (plain : is_plain k ≡ true) where
   other_kind : (j : Kind) → is_plain j ≡ false → k ≡ j → ⊥
   other_kind j off same = true≢false (sym plain ∙ ap is_plain same ∙ off)
 
-plain_most : (k : Kind) → is_plain k ≡ true → most k ≡ None
+plain_most : (k : Kind) → is_plain k ≡ true → most_items k ≡ None
 plain_most Var plain = absurd (true≢false (sym plain))
 plain_most Con plain = absurd (true≢false (sym plain))
 plain_most Obj plain = refl
@@ -90,7 +90,7 @@ pub not_some : {X : Type 0} (o : Option X) (P : X → Type 0) → o ≡ None →
 not_some None P none h = h
 not_some (Some x) P none h = let clash : Some x ≡ None = none in absurd (cc)
 
-pub plain_fine : (t : Tag) (k : Kind) → Begins t k → is_plain k ≡ true → StartsFine t
+pub plain_fine : (t : Tag) (k : Kind) → IsStartTagOf t k → is_plain k ≡ true → StartsFine t
 plain_fine t k begins plain = record {
   attribute = no_attribute t k begins (other_kind k plain Coef refl) (other_kind k plain Obj refl);
   row = no_wide_row t k begins (other_kind k plain Con refl);

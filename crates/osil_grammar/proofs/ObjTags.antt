@@ -14,21 +14,21 @@ use Rattle.osil_grammar.specs.declared.tags.StartTag.{StartTag}
 use Rattle.osil_grammar.specs.declared.fault.OsilFault.{OsilFault}
 use Rattle.document_tags.specs.Elements.{value_of, attribute}
 use Rattle.osil_grammar.specs.Tags.{Level, names, level_of, start_tag, end_tag}
-use Rattle.osil_grammar.specs.Kinds.{Variables, Objectives, Obj, Coef, Constraints, Coefficients, Begins, Ends, path}
-use Rattle.osil_grammar.specs.Numbers.{fields, Says, IsOf, IsWideOf}
+use Rattle.osil_grammar.specs.Kinds.{Variables, Objectives, Obj, Coef, Constraints, Coefficients, IsStartTagOf, IsEndTagOf, path}
+use Rattle.osil_grammar.specs.Numbers.{fields, SaysAttribute, IsOfGrammar, IsWideOf}
 use Rattle.osil_grammar.specs.Runs.{StandsFor}
 use Rattle.osil_grammar.specs.Meaning.{IsSense}
 use Rattle.osil_grammar.specs.Deciding.{senses, DecidesAttribute, DecidesCount, DecidesManyObjectives, Differs}
 use Rattle.osil_grammar.specs.Refusals.{Attribute as BadAttribute, Count, ManyObjectives, DecidesNothing, IsFirstDecided}
-use Rattle.osil_grammar.specs.Parsing.{Tells, IsAtTag, start_only, end_only, IsTagOf, AreObjs, ReadsSense, IsObjHead}
-use Rattle.osil_grammar.proofs.AtStart.{told_here, begins_child, fields_refused, fields_fine, past_fields, no_wide_but_row, no_wide_row, no_var_type}
+use Rattle.osil_grammar.specs.Parsing.{TellsRefusal, IsAtTag, start_only, end_only, IsTagOf, AreObjs, ReadsSense, IsObjHead}
+use Rattle.osil_grammar.proofs.StartRefusals.{told_here, begins_child, fields_refused, fields_fine, past_fields, no_wide_but_row, no_wide_row, no_var_type}
 use Rattle.osil_grammar.specs.Fields.{IsDeclared}
-use Rattle.osil_grammar.proofs.Counted.{declared_differs, declared_same}
-use Rattle.osil_grammar.proofs.Decided.{told_at}
+use Rattle.osil_grammar.proofs.PartCounts.{declared_differs, declared_same}
+use Rattle.osil_grammar.proofs.FirstRefusals.{told_at}
 use Rattle.osil_grammar.proofs.EndTags.{HoldsSo, ends_once, end_least, end_number, end_wide, end_clean}
 use Rattle.osil_grammar.specs.Fields.{EachOf, IsFine, FieldsRead}
 use Rattle.osil_grammar.proofs.Fields.{attributes_are, ordinal_is}
-use Rattle.osil_grammar.proofs.Once.{times_once}
+use Rattle.osil_grammar.proofs.OneCount.{times_once}
 use Rattle.osil_grammar.proofs.StartEnds.{past_ends, start_clean}
 use Rattle.osil_grammar.proofs.StartTags.{AtLeast, known_place, begins_once, past_attribute, past_number, past_wide, past_count, past_index, past_start, past_var_type, no_count, no_index, no_starts}
 
@@ -50,16 +50,16 @@ says_declared (Some t) None says = absurd says
 says_declared (Some t) (Some n) says = (says, refl)
 
 abbrev pub SaysSense : Element → Sense → Type 0
-SaysSense e s = Says e (codes "maxOrMin") (λ (x : Sense). x ≡ Min) IsSense s
+SaysSense e s = SaysAttribute e (codes "maxOrMin") (λ (x : Sense). x ≡ Min) IsSense s
 
 module _ (t : StartTag) (around : List Level) (before : List Element) (n : ℕ) (e : Element) (tag : IsTagOf t e n) (inside : names around ≡ path Objectives) (named : e.name ≡ codes "obj") where
-  pub obj_begins : Begins (start_tag around (level_of e n before)) Obj
+  pub obj_begins : IsStartTagOf (start_tag around (level_of e n before)) Obj
   obj_begins = begins_child around before n e Objectives Obj (codes "obj") inside named refl
 
   obj_place : AtLeast 4 (start_tag around (level_of e n before))
   obj_place = known_place (start_tag around (level_of e n before)) Objectives refl inside (inl named) (λ late. late.1)
 
-  pub sense_refused : (r : Result Sense OsilFault) (f : OsilFault) → ReadsSense t r → r ≡ Err f → Tells f (IsFirstDecided (start_only around before n e))
+  pub sense_refused : (r : Result Sense OsilFault) (f : OsilFault) → ReadsSense t r → r ≡ Err f → TellsRefusal f (IsFirstDecided (start_only around before n e))
   sense_refused r f h failed =
       let told = subst (λ (x : Result Sense OsilFault). ReadsSense t x) failed h in
       let none = subst (λ (attrs : List Attribute). IsSomeAnd (value_of (codes "maxOrMin") attrs) (λ text. IsAmong text senses → ⊥)) (attributes_are t e n tag) told.0 in
@@ -77,7 +77,7 @@ module _ (t : StartTag) (around : List Level) (before : List Element) (n : ℕ) 
   obj_least : (s : Sense) → SaysSense e s → AtLeast 5 (start_tag around (level_of e n before))
   obj_least s said = past_attribute (start_tag around (level_of e n before)) obj_place (attribute_fine s said)
 
-  pub obj_refused : (s : Sense) → SaysSense e s → (read : Result ((Frac × Option ℕ) × ℕ) Unread) (f : OsilFault) → FieldsRead e (fields Obj) read (ObjSays e) → IsAtTag t read (Err f) → Tells f (IsFirstDecided (start_only around before n e))
+  pub obj_refused : (s : Sense) → SaysSense e s → (read : Result ((Frac × Option ℕ) × ℕ) Unread) (f : OsilFault) → FieldsRead e (fields Obj) read (ObjSays e) → IsAtTag t read (Err f) → TellsRefusal f (IsFirstDecided (start_only around before n e))
   obj_refused s said read f r at = fields_refused t around before n e Obj tag obj_begins (obj_least s said) read (ObjSays e) f r at
 
   pub obj_fine : (s : Sense) → SaysSense e s → (read : Result ((Frac × Option ℕ) × ℕ) Unread) (x : (Frac × Option ℕ) × ℕ) → FieldsRead e (fields Obj) read (ObjSays e) → IsAtTag t read (Ok x) → ObjSays e x × EachOf (IsFine e) (fields Obj)
@@ -96,10 +96,10 @@ module _ (t : StartTag) (around : List Level) (before : List Element) (n : ℕ) 
   second_decided [] m same (many, all) some = absurd (omega (arith, many, some))
   second_decided (x ∷ more) m same (many, all) some = (obj_begins, inl (subst (λ (es : List Element). IsAmong (codes "obj") (map (λ c. c.name) es)) (sym same) (inl (sym (all 0 x (omega arith))))))
 
-  pub second_told : (f : OsilFault) (s : Sense) (m : ℕ) → SaysSense e s → EachOf (IsFine e) (fields Obj) → AreObjs before m → 0 < m → Tells f (λ r k. (r ≡ ManyObjectives) × (k ≡ t.ordinal)) → Tells f (IsFirstDecided (start_only around before n e))
+  pub second_told : (f : OsilFault) (s : Sense) (m : ℕ) → SaysSense e s → EachOf (IsFine e) (fields Obj) → AreObjs before m → 0 < m → TellsRefusal f (λ r k. (r ≡ ManyObjectives) × (k ≡ t.ordinal)) → TellsRefusal f (IsFirstDecided (start_only around before n e))
   second_told f s m said fine objs some h = told_here t around before n e f ManyObjectives tag (second_decided before m refl objs some, refl) (obj_least_many s said fine) h
 
-  pub several_told : (f : OsilFault) (s : Sense) (m : ℕ) → SaysSense e s → EachOf (IsFine e) (fields Obj) → StandsFor e m → 1 < m → Tells f (λ r k. (r ≡ ManyObjectives) × (k ≡ t.ordinal)) → Tells f (IsFirstDecided (start_only around before n e))
+  pub several_told : (f : OsilFault) (s : Sense) (m : ℕ) → SaysSense e s → EachOf (IsFine e) (fields Obj) → StandsFor e m → 1 < m → TellsRefusal f (λ r k. (r ≡ ManyObjectives) × (k ≡ t.ordinal)) → TellsRefusal f (IsFirstDecided (start_only around before n e))
   several_told f s m said fine stands several h = told_here t around before n e f ManyObjectives tag ((obj_begins, inr (m, stands, several)), refl) (obj_least_many s said fine) h
 
   alone : (es : List Element) → before ≡ es → AreObjs es 0 → StandsFor e 1 → DecidesManyObjectives (start_tag around (level_of e n before)) → ⊥
@@ -114,15 +114,15 @@ module _ (t : StartTag) (around : List Level) (before : List Element) (n : ℕ) 
   obj_head s x said says = (said, says.0.0, says_count (attribute e (codes "numberOfObjCoef")) x.0.1 says.0.1)
 
 -- and at its end tag
-module _ (t : StartTag) (around : List Level) (before : List Element) (n : ℕ) (e : Element) (tag : IsTagOf t e n) (begins : Begins (start_tag around (level_of e n before)) Obj) where
-  obj_ends : Ends (end_tag around (level_of e n before)) Obj
+module _ (t : StartTag) (around : List Level) (before : List Element) (n : ℕ) (e : Element) (tag : IsTagOf t e n) (begins : IsStartTagOf (start_tag around (level_of e n before)) Obj) where
+  obj_ends : IsEndTagOf (end_tag around (level_of e n before)) Obj
   obj_ends = (refl, begins.1)
 
   obj_end_least : AtLeast 7 (end_tag around (level_of e n before))
   obj_end_least =
       let here = end_tag around (level_of e n before) in
       past_wide here (past_number here (end_least here Obj obj_ends (λ z. absurd (cc), λ z. absurd (cc), λ z. absurd (cc)))
-      (end_number here Obj obj_ends (λ (h : HoldsSo here Obj (λ g text. IsOf g text → ⊥)). h)))
+      (end_number here Obj obj_ends (λ (h : HoldsSo here Obj (λ g text. IsOfGrammar g text → ⊥)). h)))
       (end_wide here Obj obj_ends (λ (h : HoldsSo here Obj IsWideOf). h) (λ z run. absurd (cc)) (λ z wide. absurd (cc)) (λ z entry. absurd (cc)))
 
   -- only its own count is compared
@@ -136,7 +136,7 @@ module _ (t : StartTag) (around : List Level) (before : List Element) (n : ℕ) 
 
   -- its count is another than the number of its costs, or that
   pub costs_miscounted : (f : OsilFault) (declared : Option ℕ) (found : ℕ) → MatchOption (attribute e (codes "numberOfObjCoef")) (declared ≡ None) (λ text. IsSomeAnd declared (λ m. IsCount text m)) → found ≡ length (child_elements e.children)
-      → IsSomeAnd declared (λ m. (m ≢ found) × Tells f (λ r k. (r ≡ Count) × (k ≡ t.ordinal))) → Tells f (IsFirstDecided (end_only around before n e))
+      → IsSomeAnd declared (λ m. (m ≢ found) × TellsRefusal f (λ r k. (r ≡ Count) × (k ≡ t.ordinal))) → TellsRefusal f (IsFirstDecided (end_only around before n e))
   costs_miscounted f None found says items h = absurd h
   costs_miscounted f (Some d) found says items h =
       let here = end_tag around (level_of e n before) in

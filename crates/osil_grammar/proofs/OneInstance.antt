@@ -3,7 +3,7 @@ use Rattle.std.proofs.Common.{◌≡◌, ◌∙◌, ℕ, List, [], length, refl,
 use Rattle.std.specs.Prelude.{Option, None, Some, MatchOption, codes}
 use Rattle.tree_grammar.specs.Elements.{Element}
 use Rattle.document_tags.specs.Rests.{child_elements}
-use Rattle.doc_tree.proofs.Unambiguous.{one_tree}
+use Rattle.doc_tree.proofs.OneTree.{one_tree}
 use Rattle.fraction.specs.declared.ends.Entry.{Entry}
 use Rattle.instance.specs.declared.parts.Var.{Var}
 use Rattle.instance.specs.declared.parts.Row.{Row}

@@ -22,8 +22,8 @@ use Rattle.osil_grammar.specs.Tags.{first_named}
 use Rattle.osil_grammar.specs.Runs.{ratio_run, AreWholes, AreRatios}
 use Rattle.osil_grammar.specs.Matrix.{Lists, AreLists, ItemsOf, index_name, lines_from, placed, placed_all, stored, place_sum}
 use Rattle.osil_grammar.specs.Meaning.{AreEntriesOf, IsMatrix}
-use Rattle.osil_grammar.proofs.Ascending.{Rises, rises}
-use Rattle.osil_grammar.proofs.Ordering.{before_trans}
+use Rattle.osil_grammar.proofs.RowEntries.{Rises, rises}
+use Rattle.osil_grammar.proofs.EntryOrder.{before_trans}
 use Rattle.osil_grammar.proofs.Places.{is_at, is_at-own, is_at-same, entry_at-nowhere, number_either}
 use Rattle.osil_grammar.proofs.OneValue.{none_number}
 use Rattle.osil_grammar.proofs.WholeEls as whole_els

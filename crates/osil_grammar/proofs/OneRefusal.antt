@@ -1,9 +1,9 @@
 -- A document is refused in one way.
 use Rattle.std.proofs.Common.{◌≡◌, ◌∙◌, ℕ, ◌⊎◌, inl, inr, List, refl, ap, sym, subst, arith}
 use Rattle.std.specs.Prelude.{codes}
-use Rattle.document_tags.proofs.Decided.{first_once}
+use Rattle.document_tags.proofs.FirstRefusals.{first_once}
 use Rattle.tree_grammar.specs.Elements.{Element}
-use Rattle.doc_tree.proofs.Unambiguous.{one_tree}
+use Rattle.doc_tree.proofs.OneTree.{one_tree}
 use Rattle.instance.specs.Parts.{Parts}
 use Rattle.osil_grammar.specs.Reading.{IsInstanceText, IsRefusedText}
 use Rattle.document_tags.specs.Elements.{attribute}
@@ -12,7 +12,7 @@ use Rattle.osil_grammar.specs.Kinds.{Coef, Obj}
 use Rattle.document_tags.specs.Faults.{told_name}
 use Rattle.osil_grammar.specs.Deciding.{IsForeign, IsMisplaced, IsInFurther, HasCoefFault, DecidesBeyond, DecidesAttribute}
 use Rattle.osil_grammar.specs.Refusals.{Refusal, Root, Missing, Beyond, Attribute, Number, Wide, Count, Index, Start, VarType, Bound, ManyObjectives, TooBig, number, Decides, IsRefused}
-use Rattle.osil_grammar.proofs.Clean.{not_both}
+use Rattle.osil_grammar.proofs.CleanDocument.{not_both}
 use Rattle.osil_grammar.proofs.NoRefusal.{not_some}
 use Rattle.osil_grammar.proofs.Parents.{same_ends}
 use Rattle.osil_grammar.proofs.StartTags.{begins_once, no_further}

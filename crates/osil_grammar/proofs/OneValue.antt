@@ -13,7 +13,7 @@ use Rattle.fraction.specs.declared.ends.End.{End}
 use Rattle.fraction.specs.declared.ends.End.TheVariants.{NegInf, At, Inf}
 use Rattle.fraction.specs.Frac.{ratio, ratios}
 use Rattle.fraction.proofs.Order.{same_fraction}
-use Rattle.decimal_text.specs.Bound.{IsBound}
+use Rattle.decimal_text.specs.Bound.{SaysEnd}
 use Rattle.instance.specs.declared.parts.Var.{Var}
 use Rattle.instance.specs.declared.parts.Row.{Row}
 use Rattle.instance.specs.declared.parts.Goal.{Goal}
@@ -23,11 +23,11 @@ use Rattle.document_tags.specs.Elements.{attribute}
 use Rattle.osil_grammar.specs.Costs.{Cost, cost_sum}
 use Rattle.osil_grammar.specs.Meaning.{IsEndAt, raised, lowered, IsContinuous, IsBinary, IsOfType, IsVar, IsLess, IsRow, Expand, IsSense, AreSums, IsObjective}
 use Rattle.decimal_text.proofs.OneNumber.{only_inf, only_neg_inf}
-use Rattle.osil_grammar.proofs.Once.{times_once}
+use Rattle.osil_grammar.proofs.OneCount.{times_once}
 use Rattle.osil_grammar.proofs.RatioEls.{decimal_once}
 use Rattle.osil_grammar.proofs.Places.{number_either}
 use Rattle.osil_grammar.proofs.RowTags.{constant_once}
-use Rattle.osil_grammar.proofs.SummedCosts.{costs_once, sum_number}
+use Rattle.osil_grammar.proofs.CostSums.{costs_once, sum_number}
 
 -- texts that a test tells apart
 pub texts_apart : (s t : List ℕ) → bytes_eq s s ≡ true → bytes_eq s t ≡ false → s ≡ t → ⊥
@@ -41,7 +41,7 @@ says_once : {X : Type 0} (Default : X → Type 0) (Is : List ℕ → X → Type 
 says_once Default Is one read None x y a b = one x y a b
 says_once Default Is one read (Some t) x y a b = read t x y a b
 
-bound_once : (text : List ℕ) (x y : End) → IsBound text x → IsBound text y → x ≡ y
+bound_once : (text : List ℕ) (x y : End) → SaysEnd text x → SaysEnd text y → x ≡ y
 bound_once text x NegInf a b = only_neg_inf text x a b
 bound_once text x Inf a b = only_inf text x a b
 bound_once text NegInf (At y) a b = sym (only_neg_inf text (At y) b a)
@@ -101,8 +101,8 @@ typed_once (Some t) lb ub v w a b = type_once t lb ub v w a b
 
 pub var_once : (e : Element) (v w : Var) → IsVar e v → IsVar e w → v ≡ w
 var_once e v w a b =
-    let low = says_once (λ (x : End). IsEndAt x evidence.none) IsBound (end_at_once evidence.none none_number) bound_once (attribute e (codes "lb")) a.lb b.lb a.low b.low in
-    let high = says_once (λ (x : End). x ≡ Inf) IsBound (λ x y p q. p ∙ sym q) bound_once (attribute e (codes "ub")) a.ub b.ub a.high b.high in
+    let low = says_once (λ (x : End). IsEndAt x evidence.none) SaysEnd (end_at_once evidence.none none_number) bound_once (attribute e (codes "lb")) a.lb b.lb a.low b.low in
+    let high = says_once (λ (x : End). x ≡ Inf) SaysEnd (λ x y p q. p ∙ sym q) bound_once (attribute e (codes "ub")) a.ub b.ub a.high b.high in
     let first : Typed (attribute e (codes "type")) b.lb a.ub v = subst (λ (x : End). Typed (attribute e (codes "type")) x a.ub v) low a.type in
     typed_once (attribute e (codes "type")) b.lb b.ub v w (subst (λ (x : End). Typed (attribute e (codes "type")) b.lb x v) high first) b.type
 
@@ -122,8 +122,8 @@ less_same end other c d x y p q a b = less_once other d x y (subst (λ (z : Frac
 
 pub row_once : (e : Element) (r s : Row) → IsRow e r → IsRow e s → r ≡ s
 row_once e r s a b =
-    let low = says_once (λ (x : End). x ≡ NegInf) IsBound (λ x y p q. p ∙ sym q) bound_once (attribute e (codes "lb")) a.lb b.lb a.low b.low in
-    let high = says_once (λ (x : End). x ≡ Inf) IsBound (λ x y p q. p ∙ sym q) bound_once (attribute e (codes "ub")) a.ub b.ub a.high b.high in
+    let low = says_once (λ (x : End). x ≡ NegInf) SaysEnd (λ x y p q. p ∙ sym q) bound_once (attribute e (codes "lb")) a.lb b.lb a.low b.low in
+    let high = says_once (λ (x : End). x ≡ Inf) SaysEnd (λ x y p q. p ∙ sym q) bound_once (attribute e (codes "ub")) a.ub b.ub a.high b.high in
     let constant = constant_once e a.constant b.constant a.has_constant b.has_constant in
     same_row r s (less_same a.lb b.lb a.constant b.constant r.lb s.lb low constant a.less_low b.less_low) (less_same a.ub b.ub a.constant b.constant r.ub s.ub high constant a.less_high b.less_high)
 

@@ -9,7 +9,7 @@ use Rattle.osil_grammar.specs.Tags.{Level, Tag, line, names, level_of, start_tag
 use Rattle.osil_grammar.specs.Kinds.{Values, Kind, Osil, InstanceData, Variables, Var, Objectives, Obj, Coef, Constraints, Con, Coefficients, Listed, El, path, ordered, content_names, is_open}
 use Rattle.osil_grammar.specs.Deciding.{IsLate, IsForeign, IsMisplaced, DecidesMissing, DecidesBeyond, DecidesAttribute, DecidesNumber, DecidesWide, DecidesCount, DecidesIndex, DecidesBound}
 use Rattle.osil_grammar.specs.Refusals.{Root, Missing, Beyond, Attribute, Number, Wide, Count, Index, Start, VarType, Bound, ManyObjectives, TooBig, DecidesNothing, AreClean}
-use Rattle.osil_grammar.proofs.Decided.{clean_none, clean_append}
+use Rattle.osil_grammar.proofs.FirstRefusals.{clean_none, clean_append}
 use Rattle.osil_grammar.proofs.Paths.{path_once, names_append}
 use Rattle.osil_grammar.proofs.StartTags.{no_further}
 

@@ -5,12 +5,12 @@ use Rattle.tree_grammar.specs.Elements.{Element}
 use Rattle.osil_grammar.specs.Tags.{Level, first_named}
 use Rattle.osil_grammar.specs.Kinds.{InstanceData, ordered}
 use Rattle.osil_grammar.specs.Deciding.{IsInRow, IsLate}
-use Rattle.osil_grammar.specs.Parsing.{AreFound, IsRead, IsPartNamed}
-use Rattle.osil_grammar.specs.PartsRead.{name_of, MayStand, IsNextPart}
+use Rattle.osil_grammar.specs.Parsing.{AreFound, IsListRead, IsPartNamed}
+use Rattle.osil_grammar.specs.PartialParts.{name_of, MayStand, IsNextPart}
 use Rattle.osil_grammar.specs.declared.sections.Sections.{Sections}
 use Rattle.osil_grammar.specs.declared.sections.PartName.{PartName}
 use Rattle.osil_grammar.specs.declared.sections.PartName.TheVariants.{Variables, Objectives, Constraints, Coefficients}
-use Rattle.osil_grammar.proofs.FirstNamed.{first_there, none_there}
+use Rattle.osil_grammar.proofs.FirstOfName.{first_there, none_there}
 use Rattle.osil_grammar.proofs.ListPlaces.{not_read}
 
 -- the row in which a part of this name stands
@@ -87,7 +87,7 @@ found_element {X} (Some e) (Some x) Holds h = inr (e, refl)
 found_element {X} None (Some x) Holds h = absurd h
 
 -- an element of this name, if such a part was read
-part_there : {X : Type 0} (es : List Element) (name : List ℕ) (found : Option X) (Holds : Element → X → Type 0) → IsRead es name found Holds → (found ≡ None) ⊎ ((e : Element) × Contains es e × (e.name ≡ name))
+part_there : {X : Type 0} (es : List Element) (name : List ℕ) (found : Option X) (Holds : Element → X → Type 0) → IsListRead es name found Holds → (found ≡ None) ⊎ ((e : Element) × Contains es e × (e.name ≡ name))
 part_there {X} es name found Holds h =
     elim (found_element (first_named name es) found Holds h) [
       | inl none ↦ inl none

@@ -10,11 +10,11 @@ use Rattle.decimal_text.specs.Plain.{PlainText}
 use Rattle.instance.specs.declared.parts.Var.{Var}
 use Rattle.instance.specs.declared.parts.Row.{Row}
 use Rattle.instance.specs.declared.parts.Goal.{Goal}
-use Rattle.document_tags.specs.Writing.{counted, with_attribute}
+use Rattle.document_tags.specs.Writing.{counted_element, with_attribute}
 use Rattle.osil_grammar.specs.Writing.{WriteVars, WriteRows, WriteCosts, CountsCosts, WritesGoal, holding, sense_text, type_text}
 use Rattle.document_tags.specs.Telling.{Told, ToldAttributes, opening, closing}
 use Rattle.osil_grammar.specs.Telling.{EndAttributes}
-use Rattle.document_tags.proofs.Told.{content_told, told_around}
+use Rattle.document_tags.proofs.Tellings.{content_told, told_around}
 
 -- an attribute was told
 abbrev pub told_attribute : Building → (name value : List ℕ) → Building
@@ -49,7 +49,7 @@ cost_told j x a b c key text waits is some plain indexed tells =
     (holding (codes "coef") all text none, inr (some, text, none, plain, refl, refl), content_told a b c (codes "coef") b.attributes all (chars text none) (ap said indexed) held tells)
 
 -- an element with a count of what stands in it
-pub counted_told : (a b c d : Building) (name key : List ℕ) (n : ℕ) (inner : Nodes) → a.attributes ≡ [] → Told a b (opening name (a.attributes ++ with_attribute key (decimal n) [])) → Told b c (nodes_events inner) → Told c d (closing name) → Told a d (nodes_events (counted name key n inner none))
+pub counted_told : (a b c d : Building) (name key : List ℕ) (n : ℕ) (inner : Nodes) → a.attributes ≡ [] → Told a b (opening name (a.attributes ++ with_attribute key (decimal n) [])) → Told b c (nodes_events inner) → Told c d (closing name) → Told a d (nodes_events (counted_element name key n inner none))
 counted_told a b c d name key n inner waits begins inside ends =
     content_told a a d name (a.attributes ++ with_attribute key (decimal n) []) (with_attribute key (decimal n) []) inner refl (ap (λ (l : List Attribute). l ++ with_attribute key (decimal n) []) waits) (told_around a b c d name (a.attributes ++ with_attribute key (decimal n) []) inner begins inside ends)
 

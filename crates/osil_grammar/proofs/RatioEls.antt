@@ -8,15 +8,15 @@ use Rattle.evidence.specs.Sums as evidence
 use Rattle.fraction.specs.Frac.{ratio}
 use Rattle.fraction.specs.declared.frac.Frac.{Frac}
 use Rattle.decimal_text.specs.Decimal.{IsDecimal}
-use Rattle.decimal_text.proofs.Once.{decimal_read_back}
+use Rattle.decimal_text.proofs.OneDecimal.{decimal_read_back}
 use Rattle.document_tags.specs.Elements.{attribute}
 use Rattle.osil_grammar.specs.Tags.{Level, end_tag}
 use Rattle.osil_grammar.specs.Kinds.{Values}
 use Rattle.osil_grammar.specs.Numbers.{HoldsDecimal}
 use Rattle.osil_grammar.specs.Runs.{IsRatioRun, ratio_at}
 use Rattle.osil_grammar.specs.Deciding.{HasWideRun, LeavesRange}
-use Rattle.osil_grammar.proofs.Foreign.{text_once}
-use Rattle.osil_grammar.proofs.Once.{times_once}
+use Rattle.osil_grammar.proofs.ForeignElements.{text_once}
+use Rattle.osil_grammar.proofs.OneCount.{times_once}
 
 -- a text is one fraction
 pub decimal_once : (text : List ℕ) (x y : Frac) → IsDecimal text (ratio x) → IsDecimal text (ratio y) → x ≡ y

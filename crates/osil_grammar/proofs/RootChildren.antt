@@ -12,9 +12,9 @@ use Rattle.osil_grammar.specs.Deciding.{IsLate}
 use Rattle.osil_grammar.specs.Refusals.{AreClean}
 use Rattle.osil_grammar.specs.Meaning.{SayParts}
 use Rattle.osil_grammar.specs.Parsing.{element_tags, IsDataRead}
-use Rattle.osil_grammar.proofs.Decided.{clean_element, clean_one}
-use Rattle.osil_grammar.proofs.FirstNamed.{first_other, first_here, first_there}
-use Rattle.osil_grammar.proofs.FoundMore.{part_kept, part_new, differs}
+use Rattle.osil_grammar.proofs.FirstRefusals.{clean_element, clean_one}
+use Rattle.osil_grammar.proofs.FirstOfName.{first_other, first_here, first_there}
+use Rattle.osil_grammar.proofs.PartSteps.{part_kept, part_new, differs}
 use Rattle.osil_grammar.proofs.OpenPlaces.{NoKind, unknown_clean, end_in_place, in_open, late_in_root, in_root_path, other_clean}
 use Rattle.osil_grammar.proofs.Paths.{names_append}
 

@@ -4,7 +4,7 @@ use Rattle.std.specs.Prelude.{unsigned_abs, ◌&&◌}
 use Rattle.std.specs.List.{All}
 use Rattle.std.proofs.lemmas.List.Elements.{All-nil, All-cons, All-head, All-tail}
 use Rattle.rational.specs.Ratio.{Ratio, IsNumber, IsSame, sum}
-use Rattle.rational.proofs.Alike.{sums_alike}
+use Rattle.rational.proofs.Forms.{sums_alike}
 use Rattle.rational.proofs.Scaling.{IsSame-trans}
 use Rattle.evidence.specs.Sums as evidence
 use Rattle.evidence.specs.Instance as Of

@@ -9,14 +9,14 @@ use Rattle.instance.specs.declared.parts.Var.{Var}
 use Rattle.instance.specs.declared.parts.Row.{Row}
 use Rattle.instance.specs.declared.parts.Goal.{Goal}
 use Rattle.instance.specs.Parts.{AreEnds, IsInside}
-use Rattle.osil_grammar.specs.PartsRead.{items_of, vars_of, rows_of, AreWithin, IsSound}
+use Rattle.osil_grammar.specs.PartialParts.{part_items, vars_of, section_rows, AreWithin, IsSound}
 use Rattle.osil_grammar.specs.declared.sections.Sections.{Sections}
 
 no_entries_within : (rows cols : ℕ) → AreWithin rows cols []
 no_entries_within rows cols = record { few = omega arith; ascending = λ k d inside. absurd (omega (arith, inside)); inside = All-nil (IsInside rows cols) }
 
-none_within : (rows cols : ℕ) (found : Option (Vec Entry Global)) → found ≡ None → AreWithin rows cols (items_of (λ xs. xs.items) found)
-none_within rows cols found none = subst (λ (o : Option (Vec Entry Global)). AreWithin rows cols (items_of (λ xs. xs.items) o)) (sym none) (no_entries_within rows cols)
+none_within : (rows cols : ℕ) (found : Option (Vec Entry Global)) → found ≡ None → AreWithin rows cols (part_items (λ xs. xs.items) found)
+none_within rows cols found none = subst (λ (o : Option (Vec Entry Global)). AreWithin rows cols (part_items (λ xs. xs.items) o)) (sym none) (no_entries_within rows cols)
 
 -- nothing was read
 pub sound_none : IsSound (record { vars = None; goal = None; rows = None; entries = None })
@@ -37,7 +37,7 @@ module _ (s : Sections) (sound : IsSound s) where
     var_ends = ends;
     row_ends = sound.row_ends;
     costs = subst (λ (o : Option Goal). IfSome o (λ g. length g.costs ≡ length x.items)) (sym no_goal) tt;
-    entries = none_within (length (rows_of s)) (length x.items) s.entries no_entries;
+    entries = none_within (length (section_rows s)) (length x.items) s.entries no_entries;
   }
 
   pub sound_goal : (x : Goal) → length x.costs ≡ length (vars_of s) → IsSound (record { vars = s.vars; goal = Some x; rows = s.rows; entries = s.entries })
@@ -60,7 +60,7 @@ module _ (s : Sections) (sound : IsSound s) where
     entries = none_within (length x.items) (length (vars_of s)) s.entries no_entries;
   }
 
-  pub sound_entries : (x : Vec Entry Global) → AreWithin (length (rows_of s)) (length (vars_of s)) x.items → IsSound (record { vars = s.vars; goal = s.goal; rows = s.rows; entries = Some x })
+  pub sound_entries : (x : Vec Entry Global) → AreWithin (length (section_rows s)) (length (vars_of s)) x.items → IsSound (record { vars = s.vars; goal = s.goal; rows = s.rows; entries = Some x })
   sound_entries x within = record {
     few_vars = sound.few_vars;
     few_rows = sound.few_rows;

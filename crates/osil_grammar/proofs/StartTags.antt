@@ -3,12 +3,12 @@ use Rattle.std.proofs.Common.{◌≡◌, ℕ, ◌+◌, ◌≤◌, inl, inr, true
 use Rattle.std.specs.Prelude.{Contains, codes}
 use Rattle.tree_grammar.specs.Tags.{IsAmong}
 use Rattle.osil_grammar.specs.Tags.{Tag, Level, line, names}
-use Rattle.osil_grammar.specs.Kinds.{Values, Kind, Osil, InstanceData, Variables, Var, Objectives, Obj, Coef, Constraints, Con, Coefficients, Listed, El, path, Begins, Ends, ordered, content_names}
+use Rattle.osil_grammar.specs.Kinds.{Values, Kind, Osil, InstanceData, Variables, Var, Objectives, Obj, Coef, Constraints, Con, Coefficients, Listed, El, path, IsStartTagOf, IsEndTagOf, ordered, content_names}
 use Rattle.osil_grammar.specs.Numbers.{Field, mult, fields}
 use Rattle.osil_grammar.specs.Deciding.{IsForeign, IsMisplaced, IsInFurther, IsLate, HasWideRow, DecidesBeyond, DecidesAttribute, DecidesNumber, DecidesWide, DecidesCount, DecidesIndex, DecidesStart, DecidesVarType, DecidesBound, DecidesManyObjectives, DecidesTooBig}
 use Rattle.osil_grammar.specs.Refusals.{Refusal, Root, Missing, Beyond, Attribute, Number, Wide, Count, Index, Start, VarType, Bound, ManyObjectives, TooBig, number, Decides, DecidesNothing}
 use Rattle.osil_grammar.proofs.Paths.{path_once, names_append}
-use Rattle.osil_grammar.specs.Fields.{OneOf, EachOf, IsBad, IsWide, IsNumber}
+use Rattle.osil_grammar.specs.Fields.{OneOf, EachOf, IsBad, IsFieldWide, IsFieldNumber}
 use Rattle.osil_grammar.proofs.Fields.{contains_one, at_each}
 
 -- nothing is decided that stands before this place in the list of refusals
@@ -103,7 +103,7 @@ at_most q = omega arith
 pub past_all : (t : Tag) → AtLeast 14 t → DecidesNothing t
 past_all t least q m d = let few = at_most q in let many = least q m d in omega arith
 
-pub not_ended : (t : Tag) (k : Kind) → t.is_start ≡ true → Ends t k → ⊥
+pub not_ended : (t : Tag) (k : Kind) → t.is_start ≡ true → IsEndTagOf t k → ⊥
 not_ended t k starts ends = let no_start = ends.0 in absurd (cc)
 
 pub path_some : (k : Kind) → path k ≡ [] → ⊥
@@ -154,10 +154,10 @@ pub known_place : (t : Tag) (p : Kind) → t.is_start ≡ true → names t.aroun
 known_place t p starts inside known in_place = past_beyond t (least_start t p starts inside) (not_beyond t p inside known in_place)
 
 -- the start tag of one kind is that of no other
-pub begins_once : (t : Tag) (k l : Kind) → Begins t k → Begins t l → k ≡ l
+pub begins_once : (t : Tag) (k l : Kind) → IsStartTagOf t k → IsStartTagOf t l → k ≡ l
 begins_once t k l a b = path_once k l (names (line t)) a.1 b.1
 
-module _ (t : Tag) (k : Kind) (begins : Begins t k) where
+module _ (t : Tag) (k : Kind) (begins : IsStartTagOf t k) where
   bad_number : (f : Field) × Contains (fields k) f × IsBad t.level.node f → DecidesNumber t
   bad_number (f, inside, inl bad) = inl (k, begins, f, inside, bad)
   bad_number (f, inside, inr none) = inr (inl (k, begins, subst (λ (g : Field). Contains (fields k) g) none.0 inside, none.1))
@@ -165,17 +165,17 @@ module _ (t : Tag) (k : Kind) (begins : Begins t k) where
   pub number_decided : OneOf (IsBad t.level.node) (fields k) → DecidesNumber t
   number_decided one = bad_number (contains_one (IsBad t.level.node) (fields k) one)
 
-  pub no_number : EachOf (IsNumber t.level.node) (fields k) → DecidesNumber t → ⊥
-  no_number each (inl (l, b, f, inside, bad)) = at_each (IsNumber t.level.node) (fields k) f each (subst (λ (j : Kind). Contains (fields j) f) (sym (begins_once t k l begins b)) inside) (inl bad)
-  no_number each (inr (inl (l, b, inside, none))) = at_each (IsNumber t.level.node) (fields k) mult each (subst (λ (j : Kind). Contains (fields j) mult) (sym (begins_once t k l begins b)) inside) (inr (refl, none))
+  pub no_number : EachOf (IsFieldNumber t.level.node) (fields k) → DecidesNumber t → ⊥
+  no_number each (inl (l, b, f, inside, bad)) = at_each (IsFieldNumber t.level.node) (fields k) f each (subst (λ (j : Kind). Contains (fields j) f) (sym (begins_once t k l begins b)) inside) (inl bad)
+  no_number each (inr (inl (l, b, inside, none))) = at_each (IsFieldNumber t.level.node) (fields k) mult each (subst (λ (j : Kind). Contains (fields j) mult) (sym (begins_once t k l begins b)) inside) (inr (refl, none))
   no_number each (inr (inr (l, ends, h))) = not_ended t l begins.0 ends
 
-  pub wide_decided : OneOf (IsWide t.level.node) (fields k) → DecidesWide t
-  wide_decided one = let w = contains_one (IsWide t.level.node) (fields k) one in inl (k, begins, w.0, w.1, w.2)
+  pub wide_decided : OneOf (IsFieldWide t.level.node) (fields k) → DecidesWide t
+  wide_decided one = let w = contains_one (IsFieldWide t.level.node) (fields k) one in inl (k, begins, w.0, w.1, w.2)
 
   -- a number that doesn't fit is none of the attributes
-  pub no_wide : EachOf (λ f. IsWide t.level.node f → ⊥) (fields k) → (HasWideRow t → ⊥) → DecidesWide t → ⊥
-  no_wide each no_row (inl (l, b, f, inside, wide)) = at_each (λ f. IsWide t.level.node f → ⊥) (fields k) f each (subst (λ (j : Kind). Contains (fields j) f) (sym (begins_once t k l begins b)) inside) wide
+  pub no_wide : EachOf (λ f. IsFieldWide t.level.node f → ⊥) (fields k) → (HasWideRow t → ⊥) → DecidesWide t → ⊥
+  no_wide each no_row (inl (l, b, f, inside, wide)) = at_each (λ f. IsFieldWide t.level.node f → ⊥) (fields k) f each (subst (λ (j : Kind). Contains (fields j) f) (sym (begins_once t k l begins b)) inside) wide
   no_wide each no_row (inr (inl row)) = no_row row
   no_wide each no_row (inr (inr (inl (l, ends, h)))) = not_ended t l begins.0 ends
   no_wide each no_row (inr (inr (inr (inl h)))) = not_ended t (El Values) begins.0 h.0
@@ -194,6 +194,6 @@ no_count t starts (inr (inr (inr (inr (inr h))))) = not_ended t Coefficients sta
 pub no_starts : (t : Tag) → t.is_start ≡ true → DecidesStart t → ⊥
 no_starts t starts h = not_ended t Coefficients starts h.0
 
-pub no_index : (t : Tag) (k : Kind) → Begins t k → (k ≡ Coef → ⊥) → DecidesIndex t → ⊥
+pub no_index : (t : Tag) (k : Kind) → IsStartTagOf t k → (k ≡ Coef → ⊥) → DecidesIndex t → ⊥
 no_index t k begins other (inl h) = other (begins_once t k Coef begins h.0)
 no_index t k begins other (inr (l, ends, h)) = not_ended t (El l) begins.0 ends

@@ -3,19 +3,19 @@ use Rattle.std.proofs.Common.{◌≡◌, ℕ, ◌<◌, Some, None, ℤ, pos, ◌
 use Rattle.std.specs.Prelude.{Option, MatchOption, codes}
 use Rattle.tree_grammar.specs.Elements.{Element}
 use Rattle.document_tags.specs.Rests.{child_elements}
-use Rattle.decimal_text.specs.Whole.{IsWhole}
+use Rattle.decimal_text.specs.Whole.{IsWholeText}
 use Rattle.document_tags.specs.Elements.{attribute}
 use Rattle.osil_grammar.specs.Tags.{Level, level_of, end_tag, names, no_element, first_named}
 use Rattle.osil_grammar.specs.Kinds.{Listing, Starts, RowIndices, ColumnIndices, Values, Listed, path}
 use Rattle.osil_grammar.specs.Numbers.{whole, listing_grammar}
 use Rattle.osil_grammar.specs.Runs.{StandFor, ItemsStandFor, IsWholeRun}
-use Rattle.osil_grammar.specs.Deciding.{IsLimit, LeavesRange}
-use Rattle.osil_grammar.specs.Parsing.{IsLimitOf, IsBelow, parts_around}
-use Rattle.osil_grammar.proofs.Foreign.{text_once}
+use Rattle.osil_grammar.specs.Deciding.{IsListLimit, LeavesRange}
+use Rattle.osil_grammar.specs.Parsing.{IsLimitOf, IsBelowLimit, parts_around}
+use Rattle.osil_grammar.proofs.ForeignElements.{text_once}
 use Rattle.osil_grammar.proofs.Wholes.{whole_once}
-use Rattle.osil_grammar.proofs.Once.{times_once, stand_once}
+use Rattle.osil_grammar.proofs.OneCount.{times_once, stand_once}
 use Rattle.osil_grammar.proofs.PartsBefore.{parts_kept}
-use Rattle.osil_grammar.proofs.Running.{at_step}
+use Rattle.osil_grammar.proofs.RunSteps.{at_step}
 
 -- a list with a limit is one of whole numbers
 pub whole_listing : (l : Listing) (limit : ℕ) (around : List Level) → IsLimitOf l limit around → listing_grammar l ≡ whole
@@ -42,20 +42,20 @@ items_once name parts m n a b = found_once (first_named name parts) m n a b
 pub same_parts : (l : Listing) (around : List Level) (last : Level) → names around ≡ path (Listed l) → (get_or (around ++ last ∷ []) 2 (level_of no_element 0 [])).before ≡ parts_around around
 same_parts l around last inside = parts_kept (Listed l) around last inside (lit≤ tt)
 
-pub limit_once : (l : Listing) (around : List Level) (v : Level) (m n : ℕ) → names around ≡ path (Listed l) → IsLimitOf l m around → IsLimit (end_tag around v) l n → m ≡ n
+pub limit_once : (l : Listing) (around : List Level) (v : Level) (m n : ℕ) → names around ≡ path (Listed l) → IsLimitOf l m around → IsListLimit (end_tag around v) l n → m ≡ n
 limit_once Starts around v m n inside a b = a ∙ sym b
 limit_once RowIndices around v m n inside a b = items_once (codes "constraints") (parts_around around) m n a (subst (λ (parts : List Element). ItemsStandFor (codes "constraints") parts n) (same_parts RowIndices around v inside) b)
 limit_once ColumnIndices around v m n inside a b = items_once (codes "variables") (parts_around around) m n a (subst (λ (parts : List Element). ItemsStandFor (codes "variables") parts n) (same_parts ColumnIndices around v inside) b)
 limit_once Values around v m n inside a b = absurd a
 
-pub limit_there : (l : Listing) (around : List Level) (v : Level) (m : ℕ) → names around ≡ path (Listed l) → IsLimitOf l m around → IsLimit (end_tag around v) l m
+pub limit_there : (l : Listing) (around : List Level) (v : Level) (m : ℕ) → names around ≡ path (Listed l) → IsLimitOf l m around → IsListLimit (end_tag around v) l m
 limit_there Starts around v m inside a = a
 limit_there RowIndices around v m inside a = subst (λ (parts : List Element). ItemsStandFor (codes "constraints") parts m) (sym (same_parts RowIndices around v inside)) a
 limit_there ColumnIndices around v m inside a = subst (λ (parts : List Element). ItemsStandFor (codes "variables") parts m) (sym (same_parts ColumnIndices around v inside)) a
 limit_there Values around v m inside a = a
 
 -- an `el` is one run
-step_once : (o : Option (List ℕ)) (x y : ℤ) → MatchOption o (x ≡ pos 0) (λ text. IsWhole text x) → MatchOption o (y ≡ pos 0) (λ text. IsWhole text y) → x ≡ y
+step_once : (o : Option (List ℕ)) (x y : ℤ) → MatchOption o (x ≡ pos 0) (λ text. IsWholeText text x) → MatchOption o (y ≡ pos 0) (λ text. IsWholeText text y) → x ≡ y
 step_once None x y a b = a ∙ sym b
 step_once (Some text) x y a b = whole_once text x y a b
 
@@ -66,13 +66,13 @@ pub record IsSameRun (a b c d : ℤ) (m n : ℕ) : Type 0 where
 
 pub run_once : (e : Element) (first other step its : ℤ) (m n : ℕ) → IsWholeRun e first step m → IsWholeRun e other its n → IsSameRun first other step its m n
 run_once e first other step its m n a b = record {
-  first = whole_once a.text first other a.begins (subst (λ (t : List ℕ). IsWhole t other) (text_once e.children b.text a.text b.holds a.holds) b.begins);
+  first = whole_once a.text first other a.begins (subst (λ (t : List ℕ). IsWholeText t other) (text_once e.children b.text a.text b.holds a.holds) b.begins);
   step = step_once (attribute e (codes "incr")) step its a.steps b.steps;
   times = times_once e m n a.times b.times;
 }
 
 -- all numbers of the run are in range
-pub all_inside : (l : Listing) (around : List Level) (before : List Element) (e : Element) (n : ℕ) (first step : ℤ) (m limit : ℕ) → names around ≡ path (Listed l) → IsLimitOf l limit around → IsWholeRun e first step m → ((k : ℕ) → k < m → IsBelow (at_step first step k) limit) → LeavesRange (end_tag around (level_of e n before)) l → ⊥
+pub all_inside : (l : Listing) (around : List Level) (before : List Element) (e : Element) (n : ℕ) (first step : ℤ) (m limit : ℕ) → names around ≡ path (Listed l) → IsLimitOf l limit around → IsWholeRun e first step m → ((k : ℕ) → k < m → IsBelowLimit (at_step first step k) limit) → LeavesRange (end_tag around (level_of e n before)) l → ⊥
 all_inside l around before e n first step m limit inside at run within leaves =
     let same = run_once e leaves.first first leaves.step step leaves.m m leaves.run run in
     let one : limit ≡ leaves.limit = limit_once l around (level_of e n before) limit leaves.limit inside at leaves.is_limit in
@@ -82,6 +82,6 @@ all_inside l around before e n first step m limit inside at run within leaves =
     leaves.out (subst (λ (z : ℤ). pos 0 ≤ℤ z) (sym place) here.0) (subst (λ (i : ℕ). at_step leaves.first leaves.step leaves.k <ℤ pos i) one (subst (λ (z : ℤ). z <ℤ pos limit) (sym place) here.1))
 
 -- or one is not
-pub one_outside : (l : Listing) (around : List Level) (before : List Element) (e : Element) (n : ℕ) (first step : ℤ) (m limit k : ℕ) → names around ≡ path (Listed l) → IsLimitOf l limit around → IsWholeRun e first step m → k < m → (IsBelow (at_step first step k) limit → ⊥) → LeavesRange (end_tag around (level_of e n before)) l
+pub one_outside : (l : Listing) (around : List Level) (before : List Element) (e : Element) (n : ℕ) (first step : ℤ) (m limit k : ℕ) → names around ≡ path (Listed l) → IsLimitOf l limit around → IsWholeRun e first step m → k < m → (IsBelowLimit (at_step first step k) limit → ⊥) → LeavesRange (end_tag around (level_of e n before)) l
 one_outside l around before e n first step m limit k inside at run short out =
     record { first = first; step = step; m = m; run = run; limit = limit; is_limit = limit_there l around (level_of e n before) limit inside at; k = k; inside = short; out = λ low high. out (low, high) }

@@ -12,19 +12,19 @@ use Rattle.instance.specs.Parts.{Parts, IsValid}
 use Rattle.osil_grammar.specs.Tags.{first_named}
 use Rattle.osil_grammar.specs.Meaning.{Expand, IsVar, IsRow, IsMatrix, IsObjective, SayParts}
 use Rattle.osil_grammar.specs.Parsing.{AreFound, HaveVariables, HoldsAll, HoldsGoal}
-use Rattle.osil_grammar.specs.PartsRead.{items_of, vars_of, rows_of, entries_of, IsSound, IsGoalOrNone}
+use Rattle.osil_grammar.specs.PartialParts.{part_items, vars_of, section_rows, section_entries, IsSound, IsGoalOrNone}
 use Rattle.osil_grammar.specs.declared.sections.Sections.{Sections}
-use Rattle.osil_grammar.proofs.FoundMore.{have_variables}
+use Rattle.osil_grammar.proofs.PartSteps.{have_variables}
 use Rattle.osil_grammar.proofs.WholeEls.{items_once}
 
 say_items : {X : Type 0} (Is : Element → X → Type 0) (o : Option Element) (found : Option (Vec X Global)) → MatchOption found (o ≡ None) (λ xs. IsSomeAnd o (λ e. HoldsAll Is e xs.items))
-    → MatchOption o (Expand Is [] (items_of (λ xs. xs.items) found)) (λ e. Expand Is (child_elements e.children) (items_of (λ xs. xs.items) found))
+    → MatchOption o (Expand Is [] (part_items (λ xs. xs.items) found)) (λ e. Expand Is (child_elements e.children) (part_items (λ xs. xs.items) found))
 say_items {X} Is None None h = refl
 say_items {X} Is (Some e) None h = absurd (cc)
 say_items {X} Is None (Some xs) h = absurd h
 say_items {X} Is (Some e) (Some xs) h = h.0
 
-say_matrix : (o : Option Element) (found : Option (Vec Entry Global)) → MatchOption found (o ≡ None) (λ xs. IsSomeAnd o (λ e. IsMatrix e xs.items)) → MatchOption o (items_of (λ xs. xs.items) found ≡ []) (λ e. IsMatrix e (items_of (λ xs. xs.items) found))
+say_matrix : (o : Option Element) (found : Option (Vec Entry Global)) → MatchOption found (o ≡ None) (λ xs. IsSomeAnd o (λ e. IsMatrix e xs.items)) → MatchOption o (part_items (λ xs. xs.items) found ≡ []) (λ e. IsMatrix e (part_items (λ xs. xs.items) found))
 say_matrix None None h = refl
 say_matrix (Some e) None h = absurd (cc)
 say_matrix None (Some xs) h = absurd h
@@ -39,7 +39,7 @@ say_goal es width have (Some e) (Some x) g h goal =
     subst (λ (y : Goal). IsObjective width (child_elements e.children) y) (sym goal)
     (subst (λ (n : ℕ). IsObjective n (child_elements e.children) x) (items_once (codes "variables") es h.0 width h.1 have) h.2)
 
-pub say_parts : (es : List Element) (s : Sections) (p : Parts) → AreFound es s → p.vars ≡ vars_of s → p.rows ≡ rows_of s → p.entries ≡ entries_of s → IsGoalOrNone (length (vars_of s)) s.goal p.goal → SayParts es p
+pub say_parts : (es : List Element) (s : Sections) (p : Parts) → AreFound es s → p.vars ≡ vars_of s → p.rows ≡ section_rows s → p.entries ≡ section_entries s → IsGoalOrNone (length (vars_of s)) s.goal p.goal → SayParts es p
 say_parts es s p found vars rows matrix goal = record {
   variables = subst (λ (vs : List Var). MatchOption (first_named (codes "variables") es) (Expand IsVar [] vs) (λ e. Expand IsVar (child_elements e.children) vs)) (sym vars) (say_items IsVar (first_named (codes "variables") es) s.vars found.vars);
   rows = subst (λ (rs : List Row). MatchOption (first_named (codes "constraints") es) (Expand IsRow [] rs) (λ e. Expand IsRow (child_elements e.children) rs)) (sym rows) (say_items IsRow (first_named (codes "constraints") es) s.rows found.rows);
@@ -56,13 +56,13 @@ abbrev with_parts : List Var → List Row → List Entry → Goal → Parts
 with_parts vs rs xs g = record { vars = vs; rows = rs; entries = xs; goal = g }
 
 abbrev parts_of : Sections → Goal → Parts
-parts_of s g = with_parts (vars_of s) (rows_of s) (entries_of s) g
+parts_of s g = with_parts (vars_of s) (section_rows s) (section_entries s) g
 
-same_parts : (s : Sections) (p : Parts) → p.vars ≡ vars_of s → p.rows ≡ rows_of s → p.entries ≡ entries_of s → p ≡ parts_of s p.goal
+same_parts : (s : Sections) (p : Parts) → p.vars ≡ vars_of s → p.rows ≡ section_rows s → p.entries ≡ section_entries s → p ≡ parts_of s p.goal
 same_parts s p vars rows matrix =
-    ap (λ (vs : List Var). with_parts vs p.rows p.entries p.goal) vars ∙ ap (λ (rs : List Row). with_parts (vars_of s) rs p.entries p.goal) rows ∙ ap (λ (xs : List Entry). with_parts (vars_of s) (rows_of s) xs p.goal) matrix
+    ap (λ (vs : List Var). with_parts vs p.rows p.entries p.goal) vars ∙ ap (λ (rs : List Row). with_parts (vars_of s) rs p.entries p.goal) rows ∙ ap (λ (xs : List Entry). with_parts (vars_of s) (section_rows s) xs p.goal) matrix
 
-pub valid_parts : (s : Sections) (p : Parts) → IsSound s → p.vars ≡ vars_of s → p.rows ≡ rows_of s → p.entries ≡ entries_of s → IsGoalOrNone (length (vars_of s)) s.goal p.goal → IsValid p
+pub valid_parts : (s : Sections) (p : Parts) → IsSound s → p.vars ≡ vars_of s → p.rows ≡ section_rows s → p.entries ≡ section_entries s → IsGoalOrNone (length (vars_of s)) s.goal p.goal → IsValid p
 valid_parts s p sound vars rows matrix goal =
     subst IsValid (sym (same_parts s p vars rows matrix)) (record {
       few_vars = sound.few_vars;

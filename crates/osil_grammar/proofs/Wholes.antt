@@ -7,10 +7,10 @@ use Rattle.rational.specs.Ratio.{Ratio}
 use Rattle.rational.specs.Whole.{signed}
 use Rattle.decimal_text.specs.Sign.{sign_text, is_minus}
 use Rattle.decimal_text.specs.Space.{trimmed}
-use Rattle.decimal_text.specs.Whole.{WholeText, IsWhole, IsWideWhole}
+use Rattle.decimal_text.specs.Whole.{WholeText, IsWholeText, IsWideWhole}
 use Rattle.decimal_text.specs.Decimal.{plain, none, DecimalText, decimal_value}
-use Rattle.decimal_text.proofs.Once.{decimal_once}
-use Rattle.osil_grammar.specs.Numbers.{Grammar, count, whole, decimal, bound, IsOf, IsWideOf}
+use Rattle.decimal_text.proofs.OneDecimal.{decimal_once}
+use Rattle.osil_grammar.specs.Numbers.{Grammar, count, whole, decimal, bound, IsOfGrammar, IsWideOf}
 
 -- it is a decimal too
 as_decimal : (s : List ℕ) (z : ℤ) → (w : WholeText s z) → DecimalText s (decimal_value w.sign (plain w.digits) none)
@@ -31,14 +31,14 @@ pub whole_text_once : (s : List ℕ) (y z : ℤ) → WholeText s y → WholeText
 whole_text_once s y z a b =
     sym (value_of_whole s y a) ∙ ap (λ (x : Ratio). x.num) (decimal_once s (decimal_value a.sign (plain a.digits) none) (decimal_value b.sign (plain b.digits) none) (as_decimal s y a) (as_decimal s z b)) ∙ value_of_whole s z b
 
-pub whole_once : (text : List ℕ) (y z : ℤ) → IsWhole text y → IsWhole text z → y ≡ z
+pub whole_once : (text : List ℕ) (y z : ℤ) → IsWholeText text y → IsWholeText text z → y ≡ z
 whole_once text y z a b = whole_text_once (trimmed text) y z a.0 b.0
 
-pub whole_fits : (text : List ℕ) (z : ℤ) → IsWhole text z → IsWideWhole text → ⊥
+pub whole_fits : (text : List ℕ) (z : ℤ) → IsWholeText text z → IsWideWhole text → ⊥
 whole_fits text z a (y, wide) = let same = whole_text_once (trimmed text) y z wide.0 a.0 in let small = a.1 in let great = wide.1 in omega (arith, ap unsigned_abs same)
 
 -- a number that is too great is of the grammar
-pub wide_is_of : (g : Grammar) (text : List ℕ) → IsWideOf g text → IsOf g text
+pub wide_is_of : (g : Grammar) (text : List ℕ) → IsWideOf g text → IsOfGrammar g text
 wide_is_of count text w = (w.0, w.1.0)
 wide_is_of whole text w = (w.0, w.1.0)
 wide_is_of decimal text w = (w.written, w.read)

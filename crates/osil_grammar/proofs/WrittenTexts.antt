@@ -11,7 +11,7 @@ use Rattle.osil_grammar.proofs.CleanRoot.{root_clean}
 use Rattle.osil_grammar.proofs.Documents.{written_document}
 use Rattle.osil_grammar.proofs.OneFault.{never_both}
 use Rattle.osil_grammar.proofs.OneInstance.{text_means_once}
-use Rattle.osil_grammar.proofs.RootMeans.{root_means}
+use Rattle.osil_grammar.proofs.RootMeaning.{root_means}
 
 pub text_is_own : (p : Parts) (text : List ℕ) → IsValid p → HasDecimals p → IsWrittenText p text → length text ≤ document_limit → IsInstanceText text p
 text_is_own p text valid has is short =

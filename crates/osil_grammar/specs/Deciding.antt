@@ -13,12 +13,12 @@ use Rattle.fraction.specs.declared.frac.Frac.{Frac}
 use Rattle.fraction.specs.declared.ends.End.TheVariants.{NegInf, At, Inf}
 use Rattle.decimal_text.specs.Count.{IsCount}
 use Rattle.decimal_text.specs.Decimal.{IsDecimal}
-use Rattle.decimal_text.specs.Bound.{IsBound}
+use Rattle.decimal_text.specs.Bound.{SaysEnd}
 use Rattle.document_tags.specs.Elements.{attribute}
 use Rattle.osil_grammar.specs.Tags.{Level, Tag, parts_before}
-use Rattle.osil_grammar.specs.Kinds.{Listing, Starts, RowIndices, ColumnIndices, Values, Kind, Osil, InstanceData, Variables, Var, Objectives, Obj, Coef, Constraints, Con, Coefficients, El, Begins, Ends, BeginsIn, ordered, content_names, is_open, path}
+use Rattle.osil_grammar.specs.Kinds.{Listing, Starts, RowIndices, ColumnIndices, Values, Kind, Osil, InstanceData, Variables, Var, Objectives, Obj, Coef, Constraints, Con, Coefficients, El, IsStartTagOf, IsEndTagOf, BeginsIn, ordered, content_names, is_open, path}
 use Rattle.osil_grammar.specs.Tags.{names}
-use Rattle.osil_grammar.specs.Numbers.{Field, mult, fields, text_grammar, IsOf, IsWideOf, Says}
+use Rattle.osil_grammar.specs.Numbers.{Field, mult, fields, text_grammar, IsOfGrammar, IsWideOf, SaysAttribute}
 use Rattle.osil_grammar.specs.Runs.{StandsFor, StandFor, ItemsStandFor, IsWholeRun, IsRatioRun, ratio_at}
 use Rattle.osil_grammar.specs.Matrix.{Lists, AreLists, IsDivision, stored, HasWidePlace}
 use Rattle.osil_grammar.specs.Costs.{Cost, IsCost, AreCosts, cost_sum}
@@ -61,7 +61,7 @@ HasLists e = HasChild e (codes "start") × HasIndices e × HasChild e (codes "va
 
 -- Missing: `osil` ends without `instanceData`, that without `variables`, or the matrix with one or two of its three lists
 abbrev pub DecidesMissing : Tag → Type 0
-DecidesMissing t = (Ends t Osil × (HasChild t.level.node (codes "instanceData") → ⊥)) ⊎ ((Ends t InstanceData × (HasChild t.level.node (codes "variables") → ⊥)) ⊎ (Ends t Coefficients × HasList t.level.node × (HasLists t.level.node → ⊥)))
+DecidesMissing t = (IsEndTagOf t Osil × (HasChild t.level.node (codes "instanceData") → ⊥)) ⊎ ((IsEndTagOf t InstanceData × (HasChild t.level.node (codes "variables") → ⊥)) ⊎ (IsEndTagOf t Coefficients × HasList t.level.node × (HasLists t.level.node → ⊥)))
 
 -- the name stands in this row
 abbrev pub IsInRow : List (List (List ℕ)) → ℕ → List ℕ → Type 0
@@ -102,19 +102,19 @@ senses = codes "min" ∷ codes "max" ∷ []
 
 -- Attribute: such a `coef`, or a `maxOrMin` that is neither `min` nor `max`
 abbrev pub DecidesAttribute : Tag → List ℕ → Type 0
-DecidesAttribute t name = (Begins t Coef × HasCoefFault t.level.node name) ⊎ (Begins t Obj × (name ≡ codes "maxOrMin") × HasAttribute t.level.node (codes "maxOrMin") (λ text. IsAmong text senses → ⊥))
+DecidesAttribute t name = (IsStartTagOf t Coef × HasCoefFault t.level.node name) ⊎ (IsStartTagOf t Obj × (name ≡ codes "maxOrMin") × HasAttribute t.level.node (codes "maxOrMin") (λ text. IsAmong text senses → ⊥))
 
 -- a field that isn't of its grammar
 abbrev pub HasNoNumber : Tag → Type 0
-HasNoNumber t = (kind : Kind) × Begins t kind × (f : Field) × Contains (fields kind) f × HasAttribute t.level.node f.name (λ text. IsOf f.grammar text → ⊥)
+HasNoNumber t = (kind : Kind) × IsStartTagOf t kind × (f : Field) × Contains (fields kind) f × HasAttribute t.level.node f.name (λ text. IsOfGrammar f.grammar text → ⊥)
 
 -- it stands for no element at all
 abbrev pub StandsForNone : Tag → Type 0
-StandsForNone t = (kind : Kind) × Begins t kind × Contains (fields kind) mult × HasAttribute t.level.node (codes "mult") (λ text. IsCount text 0)
+StandsForNone t = (kind : Kind) × IsStartTagOf t kind × Contains (fields kind) mult × HasAttribute t.level.node (codes "mult") (λ text. IsCount text 0)
 
 -- its text isn't of its grammar
 abbrev pub HoldsNoNumber : Tag → Type 0
-HoldsNoNumber t = (kind : Kind) × Ends t kind × IsSomeAnd (text_grammar kind) (λ g. (text : List ℕ) × HoldsText t.level.node.children text × (IsOf g text → ⊥))
+HoldsNoNumber t = (kind : Kind) × IsEndTagOf t kind × IsSomeAnd (text_grammar kind) (λ g. (text : List ℕ) × HoldsText t.level.node.children text × (IsOfGrammar g text → ⊥))
 
 -- Number: an attribute or a text that isn't of its grammar, or a `mult` of 0
 abbrev pub DecidesNumber : Tag → Type 0
@@ -122,26 +122,26 @@ DecidesNumber t = HasNoNumber t ⊎ (StandsForNone t ⊎ HoldsNoNumber t)
 
 -- a field that is too great
 abbrev pub HasWideNumber : Tag → Type 0
-HasWideNumber t = (kind : Kind) × Begins t kind × (f : Field) × Contains (fields kind) f × HasAttribute t.level.node f.name (λ text. IsWideOf f.grammar text)
+HasWideNumber t = (kind : Kind) × IsStartTagOf t kind × (f : Field) × Contains (fields kind) f × HasAttribute t.level.node f.name (λ text. IsWideOf f.grammar text)
 
 -- its text is too great
 abbrev pub HoldsWideNumber : Tag → Type 0
-HoldsWideNumber t = (kind : Kind) × Ends t kind × IsSomeAnd (text_grammar kind) (λ g. (text : List ℕ) × HoldsText t.level.node.children text × IsWideOf g text)
+HoldsWideNumber t = (kind : Kind) × IsEndTagOf t kind × IsSomeAnd (text_grammar kind) (λ g. (text : List ℕ) × HoldsText t.level.node.children text × IsWideOf g text)
 
 -- a row's constant, 0 by default
 abbrev pub HasConstant : Element → Frac → Type 0
-HasConstant e x = Says e (codes "constant") (λ c. ratio c ≡ evidence.none) (λ text c. IsDecimal text (ratio c)) x
+HasConstant e x = SaysAttribute e (codes "constant") (λ c. ratio c ≡ evidence.none) (λ text c. IsDecimal text (ratio c)) x
 
 -- a row's end less its constant doesn't fit
 pub record HasWideEnd (e : Element) (name : List ℕ) : Type 0 where
   pub constant : Frac
   pub end : Frac
   pub has_constant : HasConstant e constant
-  pub has_end : HasAttribute e name (λ text. IsBound text (At end))
+  pub has_end : HasAttribute e name (λ text. SaysEnd text (At end))
   pub wide : SumFits (ratio end) (negative (ratio constant)) → ⊥
 
 abbrev pub HasWideRow : Tag → Type 0
-HasWideRow t = Begins t Con × (HasWideEnd t.level.node (codes "lb") ⊎ HasWideEnd t.level.node (codes "ub"))
+HasWideRow t = IsStartTagOf t Con × (HasWideEnd t.level.node (codes "lb") ⊎ HasWideEnd t.level.node (codes "ub"))
 
 -- a number of a run of decimals doesn't fit
 pub record HasWideRun (e : Element) : Type 0 where
@@ -180,7 +180,7 @@ pub record HasWideEntry (t : Tag) : Type 0 where
 
 -- Wide: an attribute, a text, a row's end less its constant, a number of a run, a cost's sum or an entry's sum is too great
 abbrev pub DecidesWide : Tag → Type 0
-DecidesWide t = HasWideNumber t ⊎ (HasWideRow t ⊎ (HoldsWideNumber t ⊎ ((Ends t (El Values) × HasWideRun t.level.node) ⊎ ((Ends t Coef × HasWideCost t.level) ⊎ (Ends t Coefficients × HasWideEntry t)))))
+DecidesWide t = HasWideNumber t ⊎ (HasWideRow t ⊎ (HoldsWideNumber t ⊎ ((IsEndTagOf t (El Values) × HasWideRun t.level.node) ⊎ ((IsEndTagOf t Coef × HasWideCost t.level) ⊎ (IsEndTagOf t Coefficients × HasWideEntry t)))))
 
 -- an attribute is another count than this number
 abbrev pub Differs : Element → List ℕ → ℕ → Type 0
@@ -196,26 +196,26 @@ HasItems e name n = ItemsStandFor name (child_elements e.children) n
 
 -- the number of items is another
 abbrev pub HasOtherCount : Tag → Kind → List ℕ → Type 0
-HasOtherCount t kind name = Ends t kind × (n : ℕ) × HoldsItems t.level.node n × Differs t.level.node name n
+HasOtherCount t kind name = IsEndTagOf t kind × (n : ℕ) × HoldsItems t.level.node n × Differs t.level.node name n
 
 -- `numberOfValues`
 abbrev pub HasOtherValues : Tag → Type 0
-HasOtherValues t = Ends t Coefficients × (n : ℕ) × HasItems t.level.node (codes "value") n × Differs t.level.node (codes "numberOfValues") n
+HasOtherValues t = IsEndTagOf t Coefficients × (n : ℕ) × HasItems t.level.node (codes "value") n × Differs t.level.node (codes "numberOfValues") n
 
 -- as many indices as values
 abbrev pub HasOtherIndices : Tag → Type 0
-HasOtherIndices t = Ends t Coefficients × (n : ℕ) × HasItems t.level.node (codes "value") n × (rows : ℕ) × HasItems t.level.node (codes "rowIdx") rows × (columns : ℕ) × HasItems t.level.node (codes "colIdx") columns × (rows + columns ≢ n)
+HasOtherIndices t = IsEndTagOf t Coefficients × (n : ℕ) × HasItems t.level.node (codes "value") n × (rows : ℕ) × HasItems t.level.node (codes "rowIdx") rows × (columns : ℕ) × HasItems t.level.node (codes "colIdx") columns × (rows + columns ≢ n)
 
 -- Count: a count attribute isn't the number of its items, or there are not as many indices as values
 abbrev pub DecidesCount : Tag → Type 0
-DecidesCount t = HasOtherCount t Variables (codes "numberOfVariables") ⊎ (HasOtherCount t Objectives (codes "numberOfObjectives") ⊎ ((Ends t Obj × Differs t.level.node (codes "numberOfObjCoef") (length (child_elements t.level.node.children))) ⊎ (HasOtherCount t Constraints (codes "numberOfConstraints") ⊎ (HasOtherValues t ⊎ HasOtherIndices t))))
+DecidesCount t = HasOtherCount t Variables (codes "numberOfVariables") ⊎ (HasOtherCount t Objectives (codes "numberOfObjectives") ⊎ ((IsEndTagOf t Obj × Differs t.level.node (codes "numberOfObjCoef") (length (child_elements t.level.node.children))) ⊎ (HasOtherCount t Constraints (codes "numberOfConstraints") ⊎ (HasOtherValues t ⊎ HasOtherIndices t))))
 
 -- the numbers of a list are below this limit: starts are at most 100,000, indices those of variables or rows that stand before
-abbrev pub IsLimit : Tag → Listing → ℕ → Type 0
-IsLimit t Starts n = n ≡ 100001
-IsLimit t RowIndices n = RowsBefore t n
-IsLimit t ColumnIndices n = VariablesBefore t n
-IsLimit t Values n = ⊥
+abbrev pub IsListLimit : Tag → Listing → ℕ → Type 0
+IsListLimit t Starts n = n ≡ 100001
+IsListLimit t RowIndices n = RowsBefore t n
+IsListLimit t ColumnIndices n = VariablesBefore t n
+IsListLimit t Values n = ⊥
 
 -- a number of a run of whole numbers is below 0 or not below the limit
 pub record LeavesRange (t : Tag) (l : Listing) : Type 0 where
@@ -224,18 +224,18 @@ pub record LeavesRange (t : Tag) (l : Listing) : Type 0 where
   pub m : ℕ
   pub run : IsWholeRun t.level.node first step m
   pub limit : ℕ
-  pub is_limit : IsLimit t l limit
+  pub is_limit : IsListLimit t l limit
   pub k : ℕ
   pub inside : k < m
   pub out : (pos 0 ≤ℤ (first +ℤ pos k *ℤ step)) → ((first +ℤ pos k *ℤ step) <ℤ pos limit) → ⊥
 
 -- Index: the variable of a `coef`, or a number of a run, is out of range
 abbrev pub DecidesIndex : Tag → Type 0
-DecidesIndex t = (Begins t Coef × HasAttribute t.level.node (codes "idx") (λ text. (j : ℕ) × IsCount text j × (n : ℕ) × VariablesBefore t n × (n ≤ j))) ⊎ ((l : Listing) × Ends t (El l) × LeavesRange t l)
+DecidesIndex t = (IsStartTagOf t Coef × HasAttribute t.level.node (codes "idx") (λ text. (j : ℕ) × IsCount text j × (n : ℕ) × VariablesBefore t n × (n ≤ j))) ⊎ ((l : Listing) × IsEndTagOf t (El l) × LeavesRange t l)
 
 -- Start: the starts don't divide the values into the lines
 abbrev pub DecidesStart : Tag → Type 0
-DecidesStart t = Ends t Coefficients × (l : Lists) × AreLists t.level.node l × (AreDivided t l → ⊥)
+DecidesStart t = IsEndTagOf t Coefficients × (l : Lists) × AreLists t.level.node l × (AreDivided t l → ⊥)
 
 -- continuous, binary, integer
 abbrev pub types : List (List ℕ)
@@ -243,24 +243,24 @@ types = codes "C" ∷ codes "B" ∷ codes "I" ∷ []
 
 -- VarType: a type that is none of these
 abbrev pub DecidesVarType : Tag → Type 0
-DecidesVarType t = Begins t Var × HasAttribute t.level.node (codes "type") (λ text. IsAmong text types → ⊥)
+DecidesVarType t = IsStartTagOf t Var × HasAttribute t.level.node (codes "type") (λ text. IsAmong text types → ⊥)
 
 -- Bound: a lower end of infinity, or an upper one of minus infinity
 abbrev pub DecidesBound : Tag → Type 0
-DecidesBound t = (Begins t Var ⊎ Begins t Con) × (HasAttribute t.level.node (codes "lb") (λ text. IsBound text Inf) ⊎ HasAttribute t.level.node (codes "ub") (λ text. IsBound text NegInf))
+DecidesBound t = (IsStartTagOf t Var ⊎ IsStartTagOf t Con) × (HasAttribute t.level.node (codes "lb") (λ text. SaysEnd text Inf) ⊎ HasAttribute t.level.node (codes "ub") (λ text. SaysEnd text NegInf))
 
 -- ManyObjectives: a second `obj`, or one that stands for several
 abbrev pub DecidesManyObjectives : Tag → Type 0
-DecidesManyObjectives t = Begins t Obj × (IsAmong (codes "obj") (map (λ e. e.name) t.level.before) ⊎ ((m : ℕ) × StandsFor t.level.node m × (1 < m)))
+DecidesManyObjectives t = IsStartTagOf t Obj × (IsAmong (codes "obj") (map (λ e. e.name) t.level.before) ⊎ ((m : ℕ) × StandsFor t.level.node m × (1 < m)))
 
 -- the most items of a list
-abbrev pub most : Kind → Option ℕ
-most Var = Some 1000
-most Con = Some 1000
-most (El Starts) = Some 1001
-most (El l) = Some 100000
-most kind = None
+abbrev pub most_items : Kind → Option ℕ
+most_items Var = Some 1000
+most_items Con = Some 1000
+most_items (El Starts) = Some 1001
+most_items (El l) = Some 100000
+most_items kind = None
 
 -- TooBig: an element takes the items of its list past the most that there may be
 abbrev pub DecidesTooBig : Tag → Type 0
-DecidesTooBig t = (kind : Kind) × Begins t kind × IsSomeAnd (most kind) (λ limit. (m : ℕ) × StandsFor t.level.node m × (n : ℕ) × StandFor t.level.before n × (limit < n + m))
+DecidesTooBig t = (kind : Kind) × IsStartTagOf t kind × IsSomeAnd (most_items kind) (λ limit. (m : ℕ) × StandsFor t.level.node m × (n : ℕ) × StandFor t.level.before n × (limit < n + m))

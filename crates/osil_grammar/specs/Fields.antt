@@ -6,12 +6,12 @@ use Rattle.fraction.specs.declared.frac.Frac.{Frac}
 use Rattle.fraction.specs.declared.ends.End.{End}
 use Rattle.fraction.specs.declared.ends.End.TheVariants.{NegInf, Inf}
 use Rattle.decimal_text.specs.Count.{IsCount}
-use Rattle.decimal_text.specs.Bound.{IsBound}
+use Rattle.decimal_text.specs.Bound.{SaysEnd}
 use Rattle.osil_grammar.specs.declared.unread.Unread.{Unread}
 use Rattle.osil_grammar.specs.declared.unread.Unread.TheVariants as unread
 use Rattle.osil_grammar.specs.declared.tags.StartTag.{StartTag}
 use Rattle.osil_grammar.specs.Kinds.{Kind}
-use Rattle.osil_grammar.specs.Numbers.{Field, mult, fields, IsOf, IsWideOf, Says}
+use Rattle.osil_grammar.specs.Numbers.{Field, mult, fields, IsOfGrammar, IsWideOf, SaysAttribute}
 use Rattle.osil_grammar.specs.Runs.{StandsFor}
 use Rattle.osil_grammar.specs.Meaning.{IsEndAt}
 use Rattle.osil_grammar.specs.Deciding.{HasAttribute, HasConstant}
@@ -28,29 +28,29 @@ EachOf P (f ∷ fs) = P f × EachOf P fs
 
 -- a field isn't of its grammar, or stands for no element; it is too great; neither
 abbrev pub IsBad : Element → Field → Type 0
-IsBad e f = HasAttribute e f.name (λ text. IsOf f.grammar text → ⊥) ⊎ ((f ≡ mult) × HasAttribute e (codes "mult") (λ text. IsCount text 0))
+IsBad e f = HasAttribute e f.name (λ text. IsOfGrammar f.grammar text → ⊥) ⊎ ((f ≡ mult) × HasAttribute e (codes "mult") (λ text. IsCount text 0))
 
-abbrev pub IsWide : Element → Field → Type 0
-IsWide e f = HasAttribute e f.name (λ text. IsWideOf f.grammar text)
+abbrev pub IsFieldWide : Element → Field → Type 0
+IsFieldWide e f = HasAttribute e f.name (λ text. IsWideOf f.grammar text)
 
-abbrev pub IsNumber : Element → Field → Type 0
-IsNumber e f = IsBad e f → ⊥
+abbrev pub IsFieldNumber : Element → Field → Type 0
+IsFieldNumber e f = IsBad e f → ⊥
 
 abbrev pub IsFine : Element → Field → Type 0
-IsFine e f = (IsBad e f → ⊥) × (IsWide e f → ⊥)
+IsFine e f = (IsBad e f → ⊥) × (IsFieldWide e f → ⊥)
 
 -- these fields were read: all are fine, or what is told of them is so
 abbrev pub FieldsRead : {X : Type 0} → Element → List Field → Result X Unread → (X → Type 0) → Type 0
 FieldsRead e fs (Ok x) P = P x × EachOf (IsFine e) fs
 FieldsRead e fs (Err unread.NotNumber) P = OneOf (IsBad e) fs
-FieldsRead e fs (Err unread.Wide) P = OneOf (IsWide e) fs × EachOf (IsNumber e) fs
+FieldsRead e fs (Err unread.Wide) P = OneOf (IsFieldWide e) fs × EachOf (IsFieldNumber e) fs
 
 -- a count that may be wanting
 abbrev pub IsDeclared : List ℕ → Option ℕ → Type 0
 IsDeclared text x = IfSome x (λ n. IsCount text n) × IsSome x
 
 abbrev pub Declares : Element → List ℕ → Option ℕ → Type 0
-Declares e name x = Says e name (λ (y : Option ℕ). y ≡ None) IsDeclared x
+Declares e name x = SaysAttribute e name (λ (y : Option ℕ). y ≡ None) IsDeclared x
 
 -- the numbers of a start tag of this kind were read, and say so
 abbrev pub ReadsNumbers : {X : Type 0} → StartTag → Result X Unread → Kind → (Element → X → Type 0) → Type 0
@@ -65,14 +65,14 @@ IsHigh x = x ≡ Inf
 
 -- the ends of a variable, and for how many it stands
 abbrev pub VarSays : Element → (End × End) × ℕ → Type 0
-VarSays e x = (Says e (codes "lb") IsLow IsBound x.0.0 × Says e (codes "ub") IsHigh IsBound x.0.1) × ((0 < x.1) × StandsFor e x.1)
+VarSays e x = (SaysAttribute e (codes "lb") IsLow SaysEnd x.0.0 × SaysAttribute e (codes "ub") IsHigh SaysEnd x.0.1) × ((0 < x.1) × StandsFor e x.1)
 
 -- those of a row
 abbrev pub LowSays : Element → End → Type 0
-LowSays e x = Says e (codes "lb") (λ (y : End). y ≡ NegInf) IsBound x
+LowSays e x = SaysAttribute e (codes "lb") (λ (y : End). y ≡ NegInf) SaysEnd x
 
 abbrev pub HighSays : Element → End → Type 0
-HighSays e x = Says e (codes "ub") (λ (y : End). y ≡ Inf) IsBound x
+HighSays e x = SaysAttribute e (codes "ub") (λ (y : End). y ≡ Inf) SaysEnd x
 
 -- its ends, its constant, and for how many it stands
 abbrev pub RowSays : Element → (End × End) × (Frac × ℕ) → Type 0

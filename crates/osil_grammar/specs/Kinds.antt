@@ -49,11 +49,11 @@ path (Listed l) = in_data (codes "linearConstraintCoefficients" ∷ listing_name
 path (El l) = in_data (codes "linearConstraintCoefficients" ∷ listing_name l ∷ codes "el" ∷ [])
 
 -- the start tag, and the end tag, of an element of this kind
-abbrev pub Begins : Tag → Kind → Type 0
-Begins t kind = (t.is_start ≡ true) × (names (line t) ≡ path kind)
+abbrev pub IsStartTagOf : Tag → Kind → Type 0
+IsStartTagOf t kind = (t.is_start ≡ true) × (names (line t) ≡ path kind)
 
-abbrev pub Ends : Tag → Kind → Type 0
-Ends t kind = (t.is_start ≡ false) × (names (line t) ≡ path kind)
+abbrev pub IsEndTagOf : Tag → Kind → Type 0
+IsEndTagOf t kind = (t.is_start ≡ false) × (names (line t) ≡ path kind)
 
 -- the start tag of a child element of one of this kind
 abbrev pub BeginsIn : Tag → Kind → Type 0
@@ -76,13 +76,13 @@ repeated (Listed l) = codes "el" ∷ []
 repeated kind = []
 
 -- all these rows in one list
-abbrev pub joined : List (List (List ℕ)) → List (List ℕ)
-joined [] = []
-joined (row ∷ rows) = row ++ joined rows
+abbrev pub rows_joined : List (List (List ℕ)) → List (List ℕ)
+rows_joined [] = []
+rows_joined (row ∷ rows) = row ++ rows_joined rows
 
 -- all that may stand in it
 abbrev pub content_names : Kind → List (List ℕ)
-content_names kind = joined (ordered kind) ++ repeated kind
+content_names kind = rows_joined (ordered kind) ++ repeated kind
 
 -- elements of other names may stand in it too
 abbrev pub is_open : Kind → Bool

@@ -15,5 +15,5 @@ pub mod Orders
 pub mod Parsing
 pub mod Fields
 pub mod ItemLists
-pub mod PartsRead
+pub mod PartialParts
 pub mod Telling

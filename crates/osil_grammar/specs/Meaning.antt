@@ -10,7 +10,7 @@ use Rattle.fraction.specs.Frac.{ratio, ratios}
 use Rattle.fraction.specs.declared.frac.Frac.{Frac}
 use Rattle.fraction.specs.declared.ends.End.{End}
 use Rattle.fraction.specs.declared.ends.End.TheVariants.{NegInf, At, Inf}
-use Rattle.decimal_text.specs.Bound.{IsBound}
+use Rattle.decimal_text.specs.Bound.{SaysEnd}
 use Rattle.fraction.specs.declared.ends.Entry.{Entry}
 use Rattle.instance.specs.declared.parts.Var.{Var}
 use Rattle.instance.specs.declared.parts.Row.{Row}
@@ -21,7 +21,7 @@ use Rattle.instance.specs.Parts.{Parts, IsAscending}
 use Rattle.instance.specs.Program.{entries}
 use Rattle.document_tags.specs.Elements.{attribute}
 use Rattle.osil_grammar.specs.Tags.{first_named}
-use Rattle.osil_grammar.specs.Numbers.{Says}
+use Rattle.osil_grammar.specs.Numbers.{SaysAttribute}
 use Rattle.osil_grammar.specs.Runs.{StandsFor}
 use Rattle.osil_grammar.specs.Matrix.{Lists, AreLists, stored, place_sum}
 use Rattle.osil_grammar.specs.Costs.{Cost, AreCosts, cost_sum}
@@ -65,8 +65,8 @@ IsOfType type lb ub v = ((type ≡ codes "C") × IsContinuous lb ub v) ⊎ (((ty
 pub record IsVar (e : Element) (v : Var) : Type 0 where
   pub lb : End
   pub ub : End
-  pub low : Says e (codes "lb") (λ x. IsEndAt x evidence.none) IsBound lb
-  pub high : Says e (codes "ub") (λ x. x ≡ Inf) IsBound ub
+  pub low : SaysAttribute e (codes "lb") (λ x. IsEndAt x evidence.none) SaysEnd lb
+  pub high : SaysAttribute e (codes "ub") (λ x. x ≡ Inf) SaysEnd ub
   pub type : MatchOption (attribute e (codes "type")) (IsContinuous lb ub v) (λ type. IsOfType type lb ub v)
 
 -- an end less a constant
@@ -80,8 +80,8 @@ pub record IsRow (e : Element) (r : Row) : Type 0 where
   pub lb : End
   pub ub : End
   pub constant : Frac
-  pub low : Says e (codes "lb") (λ x. x ≡ NegInf) IsBound lb
-  pub high : Says e (codes "ub") (λ x. x ≡ Inf) IsBound ub
+  pub low : SaysAttribute e (codes "lb") (λ x. x ≡ NegInf) SaysEnd lb
+  pub high : SaysAttribute e (codes "ub") (λ x. x ≡ Inf) SaysEnd ub
   pub has_constant : HasConstant e constant
   pub less_low : IsLess lb constant r.lb
   pub less_high : IsLess ub constant r.ub
@@ -103,7 +103,7 @@ pub record AreSums (n : ℕ) (costs : List Cost) (sums : List Frac) : Type 0 whe
 
 -- an `obj`
 pub record IsGoal (n : ℕ) (e : Element) (g : Goal) : Type 0 where
-  pub sense : Says e (codes "maxOrMin") (λ s. s ≡ Min) IsSense g.sense
+  pub sense : SaysAttribute e (codes "maxOrMin") (λ s. s ≡ Min) IsSense g.sense
   pub constant : HasConstant e g.constant
   pub costs : List Cost
   pub are_costs : AreCosts (child_elements e.children) costs
@@ -130,16 +130,16 @@ abbrev pub IsMatrix : Element → List Entry → Type 0
 IsMatrix e es = ((child_elements e.children ≡ []) × (es ≡ [])) ⊎ ((l : Lists) × AreLists e l × AreEntriesOf (stored l) es)
 
 -- the items of a part, none where there is no such part
-abbrev pub HasPart : List ℕ → List Element → (List Element → Type 0) → Type 0
-HasPart name parts P = MatchOption (first_named name parts) (P []) (λ e. P (child_elements e.children))
+abbrev pub HasPartItems : List ℕ → List Element → (List Element → Type 0) → Type 0
+HasPartItems name parts P = MatchOption (first_named name parts) (P []) (λ e. P (child_elements e.children))
 
 -- the parts of `instanceData` say this
 pub record SayParts (parts : List Element) (p : Parts) : Type 0 where
-  pub variables : HasPart (codes "variables") parts (λ es. Expand IsVar es p.vars)
-  pub rows : HasPart (codes "constraints") parts (λ es. Expand IsRow es p.rows)
-  pub goal : HasPart (codes "objectives") parts (λ es. IsObjective (length p.vars) es p.goal)
+  pub variables : HasPartItems (codes "variables") parts (λ es. Expand IsVar es p.vars)
+  pub rows : HasPartItems (codes "constraints") parts (λ es. Expand IsRow es p.rows)
+  pub goal : HasPartItems (codes "objectives") parts (λ es. IsObjective (length p.vars) es p.goal)
   pub matrix : MatchOption (first_named (codes "linearConstraintCoefficients") parts) (p.entries ≡ []) (λ e. IsMatrix e p.entries)
 
 -- the root stands for this instance
 abbrev pub Means : Element → Parts → Type 0
-Means root p = HasPart (codes "instanceData") (child_elements root.children) (λ parts. SayParts parts p)
+Means root p = HasPartItems (codes "instanceData") (child_elements root.children) (λ parts. SayParts parts p)

@@ -19,11 +19,11 @@ pub data Grammar : Type 0 where
   bound : Grammar
 
 -- the text is of the grammar, whatever the number's size
-abbrev pub IsOf : Grammar → List ℕ → Type 0
-IsOf count text = CountGrammar (trimmed text)
-IsOf whole text = WholeGrammar (trimmed text)
-IsOf decimal text = DecimalGrammar (trimmed text)
-IsOf bound text = BoundGrammar (trimmed text)
+abbrev pub IsOfGrammar : Grammar → List ℕ → Type 0
+IsOfGrammar count text = CountGrammar (trimmed text)
+IsOfGrammar whole text = WholeGrammar (trimmed text)
+IsOfGrammar decimal text = DecimalGrammar (trimmed text)
+IsOfGrammar bound text = BoundGrammar (trimmed text)
 
 -- it is, and the number is too great
 abbrev pub IsWideOf : Grammar → List ℕ → Type 0
@@ -68,8 +68,8 @@ text_grammar (El l) = Some (listing_grammar l)
 text_grammar kind = None
 
 -- the element's attribute of this name says so; where it has none, the value is as by default
-abbrev pub Says : {X : Type 0} → Element → List ℕ → (X → Type 0) → (List ℕ → X → Type 0) → X → Type 0
-Says e name Default Reads x = MatchOption (attribute e name) (Default x) (λ text. Reads text x)
+abbrev pub SaysAttribute : {X : Type 0} → Element → List ℕ → (X → Type 0) → (List ℕ → X → Type 0) → X → Type 0
+SaysAttribute e name Default Reads x = MatchOption (attribute e name) (Default x) (λ text. Reads text x)
 
 -- the element's text is this decimal
 pub record HoldsDecimal (e : Element) (x : Frac) : Type 0 where

@@ -11,7 +11,7 @@ use Rattle.document_tags.specs.Rests.{child_elements}
 use Rattle.document_tags.specs.Texts.{HoldsText}
 use Rattle.fraction.specs.Frac.{ratio, ratios}
 use Rattle.decimal_text.specs.Count.{IsCount}
-use Rattle.decimal_text.specs.Whole.{IsWhole}
+use Rattle.decimal_text.specs.Whole.{IsWholeText}
 use Rattle.decimal_text.specs.declared.fault.DecimalFault.{DecimalFault}
 use Rattle.decimal_text.specs.declared.fault.DecimalFault.TheVariants.{NotNumber, Wide as TooWide, NotDecimal, Memory as NoMemory}
 use Rattle.document_tags.specs.Faults.{told_name}
@@ -22,15 +22,15 @@ use Rattle.instance.specs.declared.parts.Goal.{Goal}
 use Rattle.fraction.specs.declared.frac.Frac.{Frac}
 use Rattle.osil_grammar.specs.declared.fault.OsilFault.{OsilFault}
 use Rattle.osil_grammar.specs.declared.fault.OsilFault.TheVariants.{Tree, Refused, Memory}
-use Rattle.osil_grammar.specs.Walking.{Walking, Begun, Entered, Left, IsJoined, IsInside, IsBehind}
+use Rattle.osil_grammar.specs.Walking.{Walking, Begun, Entered, LeavesElement, IsJoined, IsInElement, IsBehindElement}
 use Rattle.document_tags.specs.Elements.{value_of, attribute}
 use Rattle.osil_grammar.specs.Tags.{Level, Tag, level_of, start_tag, end_tag, node_tags, names, no_element, element_of}
 use Rattle.osil_grammar.specs.Kinds.{Kind, InstanceData, Coefficients, path, ordered, content_names}
-use Rattle.osil_grammar.specs.Numbers.{Grammar, count, IsOf, IsWideOf, Says}
+use Rattle.osil_grammar.specs.Numbers.{Grammar, count, IsOfGrammar, IsWideOf, SaysAttribute}
 use Rattle.osil_grammar.specs.Kinds.{Listing, Starts, RowIndices, ColumnIndices, Values, El}
 use Rattle.osil_grammar.specs.Runs.{StandsFor, StandFor, ItemsStandFor, IsWholeRun, IsRatioRun, whole_run, ratio_run, ratio_at, AreWholes, AreRatios}
 use Rattle.osil_grammar.specs.Costs.{Cost, IsCost, AreCosts}
-use Rattle.osil_grammar.specs.Deciding.{IsLate, most, senses, HasCoefFault, HasConstant}
+use Rattle.osil_grammar.specs.Deciding.{IsLate, most_items, senses, HasCoefFault, HasConstant}
 use Rattle.osil_grammar.specs.Meaning.{IsContinuous, IsInteger, IsBinary, Expand, IsSense, AreSums, IsObjective, AreEntriesOf, IsVar, IsRow, IsMatrix, SayParts}
 use Rattle.osil_grammar.specs.declared.variables.Domain.{Domain}
 use Rattle.osil_grammar.specs.declared.variables.Domain.TheVariants.{Continuous, Integer, Binary}
@@ -42,7 +42,7 @@ use Rattle.rational.specs.Width.{SumFits}
 use Rattle.osil_grammar.specs.Refusals as refusals
 use Rattle.osil_grammar.specs.Matrix as matrix
 use Rattle.osil_grammar.specs.Matrix.{index_name, IsDivision, placed_all, place_sum, HasWidePlace}
-use Rattle.osil_grammar.specs.Reading.{refusal}
+use Rattle.osil_grammar.specs.Reading.{told_refusal}
 use Rattle.osil_grammar.specs.Tags.{first_named}
 use Rattle.osil_grammar.specs.declared.entries.Lists.{Lists}
 use Rattle.osil_grammar.specs.declared.matrix.Found.{Found}
@@ -69,22 +69,22 @@ abbrev pub end_only : List Level → List Element → ℕ → Element → List T
 end_only around before n e = end_tag around (level_of e n before) ∷ []
 
 -- the fault is a refusal of which this holds, and of its ordinal; or there was no memory
-abbrev pub Tells : OsilFault → (refusals.Refusal → ℕ → Type 0) → Type 0
-Tells (Tree f) P = ⊥
-Tells (Refused r at) P = P (refusal r) at
-Tells Memory P = Unit {0}
+abbrev pub TellsRefusal : OsilFault → (refusals.Refusal → ℕ → Type 0) → Type 0
+TellsRefusal (Tree f) P = ⊥
+TellsRefusal (Refused r at) P = P (told_refusal r) at
+TellsRefusal Memory P = Unit {0}
 
 -- nothing is refused at these tags, and the answer is so; or what is refused first is told
-abbrev pub Reads : {X : Type 0} → Result X OsilFault → List Tag → (X → Type 0) → Type 0
-Reads result ts P = MatchResult result (λ x. AreClean ts × P x) (λ f. Tells f (IsFirstDecided ts))
+abbrev pub ReadsTags : {X : Type 0} → Result X OsilFault → List Tag → (X → Type 0) → Type 0
+ReadsTags result ts P = MatchResult result (λ x. AreClean ts × P x) (λ f. TellsRefusal f (IsFirstDecided ts))
 
 -- the start tag that the code holds
-abbrev pub begun : StartTag → Begun
-begun t = record { name = t.name.now; attributes = attributes_of (event_at t.tree.now t.at); ordinal = t.ordinal }
+abbrev pub begun_tag : StartTag → Begun
+begun_tag t = record { name = t.name.now; attributes = attributes_of (event_at t.tree.now t.at); ordinal = t.ordinal }
 
 -- it is that of this element, with this ordinal
 abbrev pub IsTagOf : StartTag → Element → ℕ → Type 0
-IsTagOf t e n = begun t ≡ record { name = e.name; attributes = e.attributes; ordinal = n }
+IsTagOf t e n = begun_tag t ≡ record { name = e.name; attributes = e.attributes; ordinal = n }
 
 -- so many variables, and rows, stand before, among the siblings of the third element
 abbrev pub HaveVariables : List Element → ℕ → Type 0
@@ -99,39 +99,39 @@ parts_around around = (get_or around 2 (level_of no_element 0 [])).before
 -- an element of which the start tag was gone past, in one of this kind; it is read to its end
 abbrev pub ReadsElement : {X : Type 0} → Walking → Walking → StartTag → Result X OsilFault → Kind → (List Level → List Element → Element → Type 0) → (Element → X → Type 0) → Type 0
 ReadsElement old new t result kind Where P = (e : Element) (rest : List Event) (around : List Level) (before : List Element)
-    → IsInside old (begun t) e rest → names around ≡ path kind → Where around before e
-    → Reads result (element_tags around before old.ordinal e) (λ x. P e x × IsBehind old new e rest)
+    → IsInElement old (begun_tag t) e rest → names around ≡ path kind → Where around before e
+    → ReadsTags result (element_tags around before old.ordinal e) (λ x. P e x × IsBehindElement old new e rest)
 
 -- what is in an element that the walk has gone into, up to its end tag, which is gone past
 abbrev pub ReadsContent : {X : Type 0} → Walking → Walking → Result X OsilFault → Kind → (List Level → Type 0) → (Element → X → Type 0) → Type 0
 ReadsContent old new result kind Where P = (e : Element) (rest : List Event) (around : List Level)
     → old.events ≡ nodes_events e.children (Close e.name ∷ rest) → IsJoined e.children → names around ≡ path kind → Where around
-    → Reads result (node_tags around [] (old.ordinal + 1) e.children) (λ x. P e x × IsBehind old new e rest)
+    → ReadsTags result (node_tags around [] (old.ordinal + 1) e.children) (λ x. P e x × IsBehindElement old new e rest)
 
 -- what is decided at the start tag alone
 abbrev pub ReadsStart : {X : Type 0} → StartTag → Result X OsilFault → Kind → (List Level → List Element → Element → Type 0) → (Element → X → Type 0) → Type 0
 ReadsStart t result kind Where P = (e : Element) (n : ℕ) (around : List Level) (before : List Element)
     → IsTagOf t e n → names around ≡ path kind → Where around before e
-    → Reads result (start_only around before n e) (λ x. P e x)
+    → ReadsTags result (start_only around before n e) (λ x. P e x)
 
 -- and at the end tag alone
 abbrev pub ReadsEnd : {X : Type 0} → StartTag → Result X OsilFault → Kind → (List Level → List Element → Element → Type 0) → (Element → X → Type 0) → Type 0
 ReadsEnd t result kind Where P = (e : Element) (n : ℕ) (around : List Level) (before : List Element)
     → IsTagOf t e n → names around ≡ path kind → Where around before e
-    → Reads result (end_only around before n e) (λ x. P e x)
+    → ReadsTags result (end_only around before n e) (λ x. P e x)
 
 -- why a text isn't read by its grammar
 abbrev pub IsUnread : Unread → Grammar → List ℕ → Type 0
-IsUnread unread.NotNumber g text = IsOf g text → ⊥
+IsUnread unread.NotNumber g text = IsOfGrammar g text → ⊥
 IsUnread unread.Wide g text = IsWideOf g text
 
 -- an attribute is read by its grammar, or has a default
 abbrev pub ReadsField : {X : Type 0} → StartTag → List ℕ → Grammar → Result X Unread → (X → Type 0) → (List ℕ → X → Type 0) → Type 0
-ReadsField t name g result Default Is = MatchResult result (λ x. MatchOption (value_of name (begun t).attributes) (Default x) (λ text. Is text x)) (λ u. IsSomeAnd (value_of name (begun t).attributes) (IsUnread u g))
+ReadsField t name g result Default Is = MatchResult result (λ x. MatchOption (value_of name (begun_tag t).attributes) (Default x) (λ text. Is text x)) (λ u. IsSomeAnd (value_of name (begun_tag t).attributes) (IsUnread u g))
 
 -- why `mult` isn't read: it may not be 0 either
 abbrev pub IsNoTimes : Unread → List ℕ → Type 0
-IsNoTimes unread.NotNumber text = (IsOf count text → ⊥) ⊎ IsCount text 0
+IsNoTimes unread.NotNumber text = (IsOfGrammar count text → ⊥) ⊎ IsCount text 0
 IsNoTimes unread.Wide text = IsWideOf count text
 
 -- what is told of two: the first kind where one is of it, else the second
@@ -151,14 +151,14 @@ reason TooWide = unread.Wide
 reason NotDecimal = unread.NotNumber
 reason NoMemory = unread.NotNumber
 
-abbrev pub number : {X : Type 0} → Result X DecimalFault → Result X Unread
-number (Ok x) = Ok x
-number (Err f) = Err (reason f)
+abbrev pub number_or_unread : {X : Type 0} → Result X DecimalFault → Result X Unread
+number_or_unread (Ok x) = Ok x
+number_or_unread (Err f) = Err (reason f)
 
 -- what was read at a tag, or its refusal
 abbrev pub IsAtTag : {X : Type 0} → StartTag → Result X Unread → Result X OsilFault → Type 0
 IsAtTag t (Ok x) result = result ≡ Ok x
-IsAtTag t (Err u) result = MatchResult result (λ x. ⊥) (λ f. Tells f (λ r n. (r ≡ unread_refusal u) × (n ≡ t.ordinal)))
+IsAtTag t (Err u) result = MatchResult result (λ x. ⊥) (λ f. TellsRefusal f (λ r n. (r ≡ unread_refusal u) × (n ≡ t.ordinal)))
 
 -- the first child element has this name
 abbrev pub FirstChild : Nodes → List ℕ → Type 0
@@ -166,24 +166,24 @@ FirstChild content name = (first : Element) × (more : List Element) × (child_e
 
 -- the end of an element without child elements, or the refusal of the first of these
 abbrev pub EndsAt : {X : Type 0} → Walking → Walking → Result X OsilFault → Type 0
-EndsAt old new result = MatchResult result (λ x. Left old new) (λ f. Tells f (λ r n. (t : Begun) × Entered old new t × (r ≡ refusals.Beyond (told_name t.name)) × (n ≡ t.ordinal)))
+EndsAt old new result = MatchResult result (λ x. LeavesElement old new) (λ f. TellsRefusal f (λ r n. (t : Begun) × Entered old new t × (r ≡ refusals.Beyond (told_name t.name)) × (n ≡ t.ordinal)))
 
 -- the text of an element that holds characters alone, to its end tag; else the refusal of its first child element
 abbrev pub ReadsText : {X : Type 0} → Walking → Walking → Result X OsilFault → (X → List ℕ) → Type 0
 ReadsText old new result view = (e : Element) (rest : List Event) → old.events ≡ nodes_events e.children (Close e.name ∷ rest) → IsJoined e.children
-    → MatchResult result (λ x. HoldsText e.children (view x) × IsBehind old new e rest)
-    (λ f. Tells f (λ r n. (name : List ℕ) × FirstChild e.children name × (r ≡ refusals.Beyond (told_name name)) × (n ≡ old.ordinal + 1)))
+    → MatchResult result (λ x. HoldsText e.children (view x) × IsBehindElement old new e rest)
+    (λ f. TellsRefusal f (λ r n. (name : List ℕ) × FirstChild e.children name × (r ≡ refusals.Beyond (told_name name)) × (n ≡ old.ordinal + 1)))
 
 -- the number that an element holds, to its end tag; else the refusal of its first child element, or of its text
 abbrev pub ReadsHeld : {X : Type 0} → Walking → Walking → StartTag → Result X OsilFault → Grammar → (List ℕ → X → Type 0) → Type 0
 ReadsHeld old new t result g Is = (e : Element) (rest : List Event) → old.events ≡ nodes_events e.children (Close e.name ∷ rest) → IsJoined e.children
-    → MatchResult result (λ x. (text : List ℕ) × HoldsText e.children text × Is text x × IsBehind old new e rest)
-    (λ f. Tells f (λ r n. ((name : List ℕ) × FirstChild e.children name × (r ≡ refusals.Beyond (told_name name)) × (n ≡ old.ordinal + 1))
+    → MatchResult result (λ x. (text : List ℕ) × HoldsText e.children text × Is text x × IsBehindElement old new e rest)
+    (λ f. TellsRefusal f (λ r n. ((name : List ℕ) × FirstChild e.children name × (r ≡ refusals.Beyond (told_name name)) × (n ≡ old.ordinal + 1))
     ⊎ ((text : List ℕ) × (u : Unread) × HoldsText e.children text × IsUnread u g text × (r ≡ unread_refusal u) × (n ≡ t.ordinal))))
 
 -- an element that holds this whole number
 abbrev pub HoldsWhole : Element → ℤ → Type 0
-HoldsWhole e z = (text : List ℕ) × HoldsText e.children text × IsWhole text z
+HoldsWhole e z = (text : List ℕ) × HoldsText e.children text × IsWholeText text z
 
 -- what is wanted of an item of a list, so many standing before it
 abbrev pub StandBefore : ℕ → List Level → List Element → Element → Type 0
@@ -193,8 +193,8 @@ StandBefore n around before e = StandFor before n
 abbrev pub Anywhere : List Level → List Element → Element → Type 0
 Anywhere around before e = Unit {0}
 
-abbrev pub IsNamed : List ℕ → List Level → List Element → Element → Type 0
-IsNamed name around before e = e.name ≡ name
+abbrev pub IsElementNamed : List ℕ → List Level → List Element → Element → Type 0
+IsElementNamed name around before e = e.name ≡ name
 
 -- a part of `instanceData` of this name, before which no part stands that it must stand before, nor one of its own name
 abbrev pub IsPartNamed : List ℕ → List Level → List Element → Element → Type 0
@@ -205,8 +205,8 @@ abbrev pub IsNamedAfter : List ℕ → ℕ → List Level → List Element → E
 IsNamedAfter name n around before e = (e.name ≡ name) × StandFor before n
 
 -- the items were added, as often as the element stands for
-abbrev pub Adds : {X : Type 0} → (Element → X → Type 0) → List X → List X → Element → Type 0
-Adds {X} Is old new e = (x : X) × (m : ℕ) × Is e x × StandsFor e m × (new ≡ old ++ replicate m x)
+abbrev pub AddsItems : {X : Type 0} → (Element → X → Type 0) → List X → List X → Element → Type 0
+AddsItems {X} Is old new e = (x : X) × (m : ℕ) × Is e x × StandsFor e m × (new ≡ old ++ replicate m x)
 
 -- the child elements stand for these items
 abbrev pub HoldsAll : {X : Type 0} → (Element → X → Type 0) → Element → List X → Type 0
@@ -260,11 +260,11 @@ IsLimitOf Values limit around = ⊥
 
 -- what a list of whole numbers may hold: numbers below a limit, and so many of them
 abbrev pub ListLimits : Listing → ℕ → ℕ → List Level → Type 0
-ListLimits l limit many around = IsLimitOf l limit around × (most (El l) ≡ Some many)
+ListLimits l limit many around = IsLimitOf l limit around × (most_items (El l) ≡ Some many)
 
 -- at least 0 and below a limit
-abbrev pub IsBelow : ℤ → ℕ → Type 0
-IsBelow z limit = (pos 0 ≤ℤ z) × (z <ℤ pos limit)
+abbrev pub IsBelowLimit : ℤ → ℕ → Type 0
+IsBelowLimit z limit = (pos 0 ≤ℤ z) × (z <ℤ pos limit)
 
 -- whole numbers as the code has them
 abbrev pub wholes : List ℕ → List ℤ
@@ -312,7 +312,7 @@ IsCoefFault t (Some name) = HasCoefFault (element_of t.name t.attributes none) n
 -- a cost is added at this place, or the sum is too great
 abbrev pub AddsAt : {X : Type 0} → StartTag → Result X OsilFault → List Frac → List Frac → ℕ → Frac → Type 0
 AddsAt t result old new j x = MatchResult result (λ _. (y : Frac) × (new ≡ set old j y) × IsSame (ratio y) (sum (get_or (ratios old) j evidence.none) (ratio x)) × SumFits (get_or (ratios old) j evidence.none) (ratio x))
-    (λ f. Tells f (λ r n. (r ≡ refusals.Wide) × (n ≡ t.ordinal)) × (SumFits (get_or (ratios old) j evidence.none) (ratio x) → ⊥))
+    (λ f. TellsRefusal f (λ r n. (r ≡ refusals.Wide) × (n ≡ t.ordinal)) × (SumFits (get_or (ratios old) j evidence.none) (ratio x) → ⊥))
 
 -- a `coef` is added to the costs
 abbrev pub AddsCost : List Frac → List Frac → Element → Type 0
@@ -324,8 +324,8 @@ HoldsCosts width e sums n = (costs : List Cost) × AreCosts (child_elements e.ch
 
 -- what `maxOrMin` says, or that it says neither
 abbrev pub ReadsSense : StartTag → Result Sense OsilFault → Type 0
-ReadsSense t result = MatchResult result (λ s. MatchOption (value_of (codes "maxOrMin") (begun t).attributes) (s ≡ Min) (λ text. IsSense text s))
-    (λ f. IsSomeAnd (value_of (codes "maxOrMin") (begun t).attributes) (λ text. IsAmong text senses → ⊥) × Tells f (λ r n. (r ≡ refusals.Attribute (codes "maxOrMin")) × (n ≡ t.ordinal)))
+ReadsSense t result = MatchResult result (λ s. MatchOption (value_of (codes "maxOrMin") (begun_tag t).attributes) (s ≡ Min) (λ text. IsSense text s))
+    (λ f. IsSomeAnd (value_of (codes "maxOrMin") (begun_tag t).attributes) (λ text. IsAmong text senses → ⊥) × TellsRefusal f (λ r n. (r ≡ refusals.Attribute (codes "maxOrMin")) × (n ≡ t.ordinal)))
 
 -- so many `obj` elements
 abbrev pub AreObjs : List Element → ℕ → Type 0
@@ -337,12 +337,12 @@ IsObjAt n around before e = (e.name ≡ codes "obj") × AreObjs before n
 
 -- what its start tag says
 abbrev pub IsObjHead : Element → Sense → Frac → Option ℕ → Type 0
-IsObjHead e s c declared = Says e (codes "maxOrMin") (λ x. x ≡ Min) IsSense s × HasConstant e c
+IsObjHead e s c declared = SaysAttribute e (codes "maxOrMin") (λ x. x ≡ Min) IsSense s × HasConstant e c
     × MatchOption (attribute e (codes "numberOfObjCoef")) (declared ≡ None) (λ text. IsSomeAnd declared (λ n. IsCount text n))
 
 -- an element in `objectives` behind so many, where there are so many variables
-abbrev pub IsAfter : ℕ → ℕ → List Level → List Element → Element → Type 0
-IsAfter n width around before e = AreObjs before n × InWidth width around
+abbrev pub IsObjectiveAfter : ℕ → ℕ → List Level → List Element → Element → Type 0
+IsObjectiveAfter n width around before e = AreObjs before n × InWidth width around
 
 -- a part of this name, where there are so many variables
 abbrev pub IsNamedIn : List ℕ → ℕ → List Level → List Element → Element → Type 0
@@ -359,13 +359,13 @@ abbrev pub IsListedValue : ℕ → List Level → List Element → Element → T
 IsListedValue n around before e = StandFor before n
 
 -- there is room for so many more, or the refusal
-abbrev pub HasRoom : {X : Type 0} → StartTag → Result X OsilFault → ℕ → ℕ → ℕ → Type 0
-HasRoom t result times before many = MatchResult result (λ x. before + times ≤ many) (λ f. (many < before + times) × Tells f (λ r n. (r ≡ refusals.TooBig) × (n ≡ t.ordinal)))
+abbrev pub HasRoomOrFails : {X : Type 0} → StartTag → Result X OsilFault → ℕ → ℕ → ℕ → Type 0
+HasRoomOrFails t result times before many = MatchResult result (λ x. before + times ≤ many) (λ f. (many < before + times) × TellsRefusal f (λ r n. (r ≡ refusals.TooBig) × (n ≡ t.ordinal)))
 
 -- the numbers of a run are added, or one is too great
 abbrev pub ReadsRun : {X : Type 0} → StartTag → Result X OsilFault → List Frac → List Frac → Frac → Frac → ℕ → Type 0
 ReadsRun t result old new first step m = MatchResult result (λ x. (added : List Frac) × (new ≡ old ++ added) × AreSame (ratios added) (ratio_run (ratio first) (ratio step) m) × ((k : ℕ) → suc k < m → SumFits (ratio_at (ratio first) (ratio step) k) (ratio step)))
-    (λ f. Tells f (λ r n. (r ≡ refusals.Wide) × (n ≡ t.ordinal) × (k : ℕ) × (suc k < m) × (SumFits (ratio_at (ratio first) (ratio step) k) (ratio step) → ⊥)))
+    (λ f. TellsRefusal f (λ r n. (r ≡ refusals.Wide) × (n ≡ t.ordinal) × (k : ℕ) × (suc k < m) × (SumFits (ratio_at (ratio first) (ratio step) k) (ratio step) → ⊥)))
 
 -- the lists of a matrix as the definitions have them
 abbrev pub lists_of : Lists → matrix.Lists
@@ -400,15 +400,15 @@ abbrev pub SumsOrWide : {V : Type 0} → Result V TooGreat → (V → List Entry
 SumsOrWide r view l = MatchResult r (λ es. AreEntriesOf l (view es) × (HasWidePlace l → ⊥)) (λ w. HasWidePlace l)
 
 -- a list that was read so far, among these elements
-abbrev pub IsRead : {X : Type 0} → List Element → List ℕ → Option X → (Element → X → Type 0) → Type 0
-IsRead es name found Holds = MatchOption found (first_named name es ≡ None) (λ x. IsSomeAnd (first_named name es) (λ e. Holds e x))
+abbrev pub IsListRead : {X : Type 0} → List Element → List ℕ → Option X → (Element → X → Type 0) → Type 0
+IsListRead es name found Holds = MatchOption found (first_named name es ≡ None) (λ x. IsSomeAnd (first_named name es) (λ e. Holds e x))
 
 -- the lists that were read so far are those of these elements, and nothing else stands among them
-pub record AreRead (es : List Element) (f : Found) : Type 0 where
-  pub starts : IsRead es (codes "start") f.starts (λ e ns. HoldsWholes e ns.items)
-  pub indices : IsRead es (index_name f.by_columns) f.indices (λ e ns. HoldsWholes e ns.items)
+pub record AreListsRead (es : List Element) (f : Found) : Type 0 where
+  pub starts : IsListRead es (codes "start") f.starts (λ e ns. HoldsWholes e ns.items)
+  pub indices : IsListRead es (index_name f.by_columns) f.indices (λ e ns. HoldsWholes e ns.items)
   pub others : first_named (index_name (not f.by_columns)) es ≡ None
-  pub values : IsRead es (codes "value") f.values (λ e xs. HoldsRatios e xs.items)
+  pub values : IsListRead es (codes "value") f.values (λ e xs. HoldsRatios e xs.items)
   pub lists : All (λ e. IsAmong e.name (content_names Coefficients)) es
 
 -- whatever document they are read of, they fit a matrix of so many columns and rows
@@ -439,27 +439,27 @@ InSize width height before = HaveVariables before width × HaveRows before heigh
 
 -- the matrix with these lists and this count
 abbrev pub IsMatrixAt : ℕ → ℕ → Found → Option ℕ → List Level → List Element → Element → Type 0
-IsMatrixAt width height f declared around before e = (e.name ≡ codes "linearConstraintCoefficients") × InSize width height before × AreRead (child_elements e.children) f
+IsMatrixAt width height f declared around before e = (e.name ≡ codes "linearConstraintCoefficients") × InSize width height before × AreListsRead (child_elements e.children) f
     × MatchOption (attribute e (codes "numberOfValues")) (declared ≡ None) (λ text. IsSomeAnd declared (λ n. IsCount text n))
 
 -- a part that was read so far, among these
-abbrev pub IsPart : {X : Type 0} → List Element → List ℕ → Option X → (Element → X → Type 0) → Type 0
-IsPart es name found Holds = IsRead es name found Holds
+abbrev pub IsPartRead : {X : Type 0} → List Element → List ℕ → Option X → (Element → X → Type 0) → Type 0
+IsPartRead es name found Holds = IsListRead es name found Holds
 
 -- the parts that were read so far are these
 pub record AreFound (es : List Element) (s : Sections) : Type 0 where
-  pub vars : IsPart es (codes "variables") s.vars (λ e vs. HoldsAll IsVar e vs.items)
-  pub goal : IsPart es (codes "objectives") s.goal (λ e g. (n : ℕ) × HaveVariables es n × HoldsGoal n e g)
-  pub rows : IsPart es (codes "constraints") s.rows (λ e rs. HoldsAll IsRow e rs.items)
-  pub entries : IsPart es (codes "linearConstraintCoefficients") s.entries (λ e xs. IsMatrix e xs.items)
+  pub vars : IsPartRead es (codes "variables") s.vars (λ e vs. HoldsAll IsVar e vs.items)
+  pub goal : IsPartRead es (codes "objectives") s.goal (λ e g. (n : ℕ) × HaveVariables es n × HoldsGoal n e g)
+  pub rows : IsPartRead es (codes "constraints") s.rows (λ e rs. HoldsAll IsRow e rs.items)
+  pub entries : IsPartRead es (codes "linearConstraintCoefficients") s.entries (λ e xs. IsMatrix e xs.items)
 
 -- the sums of entries that stand in order, or one of them doesn't fit
 abbrev pub JoinedOrWide : {V : Type 0} → Result V TooGreat → (V → List Entry) → List Of.Entry → Type 0
 JoinedOrWide r view l = MatchResult r (λ es. AreSumsAt l (view es) × (HasWidePlace l → ⊥)) (λ w. HasWidePlace l)
 
 -- the elements that stand before
-abbrev pub IsNext : List Element → List Level → List Element → Element → Type 0
-IsNext es around before e = before ≡ es
+abbrev pub IsNextChild : List Element → List Level → List Element → Element → Type 0
+IsNextChild es around before e = before ≡ es
 
 -- a list of the matrix behind these, where there are so many variables and rows
 abbrev pub IsListAt : ℕ → ℕ → List Element → List Level → List Element → Element → Type 0

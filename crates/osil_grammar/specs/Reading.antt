@@ -34,31 +34,31 @@ pub record IsRefusedText (bytes : List ℕ) (r : refusals.Refusal) (n : ℕ) : T
   pub refused : IsRefused root r n
 
 -- the refusal that is told
-abbrev pub refusal : Refusal → refusals.Refusal
-refusal Root = refusals.Root
-refusal Missing = refusals.Missing
-refusal (Beyond name) = refusals.Beyond name
-refusal (Attribute name) = refusals.Attribute name.now
-refusal Number = refusals.Number
-refusal Wide = refusals.Wide
-refusal Count = refusals.Count
-refusal Index = refusals.Index
-refusal Start = refusals.Start
-refusal VarType = refusals.VarType
-refusal Bound = refusals.Bound
-refusal ManyObjectives = refusals.ManyObjectives
-refusal TooBig = refusals.TooBig
+abbrev pub told_refusal : Refusal → refusals.Refusal
+told_refusal Root = refusals.Root
+told_refusal Missing = refusals.Missing
+told_refusal (Beyond name) = refusals.Beyond name
+told_refusal (Attribute name) = refusals.Attribute name.now
+told_refusal Number = refusals.Number
+told_refusal Wide = refusals.Wide
+told_refusal Count = refusals.Count
+told_refusal Index = refusals.Index
+told_refusal Start = refusals.Start
+told_refusal VarType = refusals.VarType
+told_refusal Bound = refusals.Bound
+told_refusal ManyObjectives = refusals.ManyObjectives
+told_refusal TooBig = refusals.TooBig
 
 -- why bytes aren't read: they are refused before they are a document, at the byte that is told, or are one that is refused
 abbrev pub DecodeFails : List ℕ → OsilFault → Type 0
 DecodeFails bytes (Tree f) = IsRefusal document_limit bytes f × ((root : Element) → IsDocument bytes root → ⊥)
-DecodeFails bytes (Refused r at) = IsRefusedText bytes (refusal r) at
+DecodeFails bytes (Refused r at) = IsRefusedText bytes (told_refusal r) at
 DecodeFails bytes Memory = Unit {0}
 
 -- two faults say the same: names that a refusal holds by reference are compared by their bytes
 abbrev pub AreAlike : OsilFault → OsilFault → Type 0
 AreAlike (Tree f) (Tree g) = f ≡ g
-AreAlike (Refused r n) (Refused q m) = (refusal r ≡ refusal q) × (n ≡ m)
+AreAlike (Refused r n) (Refused q m) = (told_refusal r ≡ told_refusal q) × (n ≡ m)
 AreAlike Memory Memory = Unit {0}
 AreAlike f g = ⊥
 
@@ -69,5 +69,5 @@ IsTreeText f text = spoken.IsTreeText (codes "osil") f text
 -- the text of a fault; want of memory has none
 abbrev pub IsFaultText : OsilFault → List ℕ → Type 0
 IsFaultText (Tree f) text = IsTreeText f text
-IsFaultText (Refused r at) text = text ≡ refusal_text (refusal r) at
+IsFaultText (Refused r at) text = text ≡ refusal_text (told_refusal r) at
 IsFaultText Memory text = ⊥

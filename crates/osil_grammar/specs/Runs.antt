@@ -8,14 +8,14 @@ use Rattle.evidence.specs.Sums as evidence
 use Rattle.fraction.specs.Frac.{ratio}
 use Rattle.fraction.specs.declared.frac.Frac.{Frac}
 use Rattle.decimal_text.specs.Count.{IsCount}
-use Rattle.decimal_text.specs.Whole.{IsWhole}
+use Rattle.decimal_text.specs.Whole.{IsWholeText}
 use Rattle.decimal_text.specs.Decimal.{IsDecimal}
 use Rattle.osil_grammar.specs.Tags.{first_named}
-use Rattle.osil_grammar.specs.Numbers.{Says, HoldsDecimal}
+use Rattle.osil_grammar.specs.Numbers.{SaysAttribute, HoldsDecimal}
 
 -- for how many the element stands: one by default
 abbrev pub StandsFor : Element → ℕ → Type 0
-StandsFor e m = Says e (codes "mult") (λ n. n ≡ 1) IsCount m
+StandsFor e m = SaysAttribute e (codes "mult") (λ n. n ≡ 1) IsCount m
 
 -- for how many they stand together
 abbrev pub StandFor : List Element → ℕ → Type 0
@@ -46,14 +46,14 @@ pub record IsWholeRun (e : Element) (first step : ℤ) (m : ℕ) : Type 0 where
   pub times : StandsFor e m
   pub text : List ℕ
   pub holds : HoldsText e.children text
-  pub begins : IsWhole text first
-  pub steps : Says e (codes "incr") (λ d. d ≡ pos 0) IsWhole step
+  pub begins : IsWholeText text first
+  pub steps : SaysAttribute e (codes "incr") (λ d. d ≡ pos 0) IsWholeText step
 
 -- an `el` of decimals
 pub record IsRatioRun (e : Element) (first step : Frac) (m : ℕ) : Type 0 where
   pub times : StandsFor e m
   pub begins : HoldsDecimal e first
-  pub steps : Says e (codes "incr") (λ d. ratio d ≡ evidence.none) (λ text d. IsDecimal text (ratio d)) step
+  pub steps : SaysAttribute e (codes "incr") (λ d. ratio d ≡ evidence.none) (λ text d. IsDecimal text (ratio d)) step
 
 -- the whole numbers that these elements stand for, in their order
 abbrev pub AreWholes : List Element → List ℤ → Type 0

@@ -19,8 +19,8 @@ HasNone P Long = ⊥
 HasNone P Memory = Unit {0}
 
 -- these nodes were told, for which there are decimals; or there are none
-abbrev pub Writes : {X : Type 0} → Result X EncodeFault → Building → Building → Type 0 → (Nodes → Type 0) → Type 0
-Writes result old new P Q = MatchResult result (λ x. P × (nodes : Nodes) × Q nodes × Told old new (nodes_events nodes)) (HasNone P)
+abbrev pub WritesNodes : {X : Type 0} → Result X EncodeFault → Building → Building → Type 0 → (Nodes → Type 0) → Type 0
+WritesNodes result old new P Q = MatchResult result (λ x. P × (nodes : Nodes) × Q nodes × Told old new (nodes_events nodes)) (HasNone P)
 
 -- the ends have texts
 abbrev pub EndsHaveTexts : End → End → Type 0

@@ -1,7 +1,7 @@
 -- A way through a document's tags: what is still to come, and which start tag was the last.
 use Rattle.std.specs.Prelude.{◌≡◌, ℕ, ◌+◌, ◌≤◌, List, ◌∷◌, drop, length}
 use Rattle.tree_grammar.specs.Elements.{Attribute, Nodes, none, element, chars, Element, Event, Open, Close, nodes_events}
-use Rattle.element_tree.specs.Writable.{BeginsApart}
+use Rattle.element_tree.specs.WritableElements.{BeginsApart}
 use Rattle.document_tags.specs.Rests.{after_text}
 use Rattle.document_tags.specs.Elements.{elements_in}
 
@@ -23,17 +23,17 @@ IsJoined (element name attributes children more) = IsJoined children × IsJoined
 IsJoined (chars text more) = BeginsApart more × IsJoined more
 
 -- the walk has gone into this element by this start tag, and this comes behind it
-pub record IsInside (walk : Walking) (t : Begun) (e : Element) (rest : List Event) : Type 0 where
+pub record IsInElement (walk : Walking) (t : Begun) (e : Element) (rest : List Event) : Type 0 where
   pub tag : t ≡ record { name = e.name; attributes = e.attributes; ordinal = walk.ordinal }
   pub inside : walk.events ≡ nodes_events e.children (Close e.name ∷ rest)
   pub joined : IsJoined e.children
 
 -- it is behind that element
-abbrev pub IsBehind : Walking → Walking → Element → List Event → Type 0
-IsBehind old new e rest = new ≡ record { events = rest; ordinal = old.ordinal + elements_in e.children }
+abbrev pub IsBehindElement : Walking → Walking → Element → List Event → Type 0
+IsBehindElement old new e rest = new ≡ record { events = rest; ordinal = old.ordinal + elements_in e.children }
 
 -- the walk went past a start tag, which came next
-pub record Begins (old new : Walking) (t : Begun) : Type 0 where
+pub record PassesStartTag (old new : Walking) (t : Begun) : Type 0 where
   pub opens : old.events ≡ Open t.name t.attributes ∷ new.events
   pub counted : new.ordinal ≡ old.ordinal + 1
   pub ordinal : t.ordinal ≡ new.ordinal
@@ -45,7 +45,7 @@ pub record Entered (old new : Walking) (t : Begun) : Type 0 where
   pub ordinal : t.ordinal ≡ new.ordinal
 
 -- no start tag came next, behind characters, and the walk went past what did: an end tag, if anything
-pub record Left (old new : Walking) : Type 0 where
+pub record LeavesElement (old new : Walking) : Type 0 where
   pub no_start : (name : List ℕ) (attributes : List Attribute) (rest : List Event) → after_text old.events ≡ Open name attributes ∷ rest → ⊥
   pub behind : new.events ≡ drop 1 (after_text old.events)
   pub counted : new.ordinal ≡ old.ordinal

@@ -3,9 +3,9 @@ use Rattle.std.specs.Prelude.{◌≡◌, ◌⊎◌, ℕ, zero, suc, ◌+◌, ◌
 use Rattle.std.specs.List.{All}
 use Rattle.std.specs.Fmt.{decimal}
 use Rattle.tree_grammar.specs.Elements.{Attribute, Nodes, none, element, chars, Element}
-use Rattle.tree_grammar.specs.Written.{written}
+use Rattle.tree_grammar.specs.WrittenText.{written}
 use Rattle.document_tags.specs.Texts.{document_limit}
-use Rattle.document_tags.specs.Writing.{with_attribute, counted}
+use Rattle.document_tags.specs.Writing.{with_attribute, counted_element}
 use Rattle.fraction.specs.Frac.{ratio}
 use Rattle.fraction.specs.declared.frac.Frac.{Frac}
 use Rattle.fraction.specs.declared.ends.End.{End}
@@ -121,10 +121,10 @@ pub record WritesInstance (p : Parts) (root : Element) : Type 0 where
     name = codes "osil";
     attributes = with_attribute (codes "xmlns") (codes "os.optimizationservices.org") [];
     children = element (codes "instanceHeader") [] none (element (codes "instanceData") [] (
-        counted (codes "variables") (codes "numberOfVariables") (length p.vars) vars (
-        counted (codes "objectives") (codes "numberOfObjectives") 1 goal (
-        counted (codes "constraints") (codes "numberOfConstraints") (length p.rows) rows (
-        counted (codes "linearConstraintCoefficients") (codes "numberOfValues") (length p.entries) lists none)))) none);
+        counted_element (codes "variables") (codes "numberOfVariables") (length p.vars) vars (
+        counted_element (codes "objectives") (codes "numberOfObjectives") 1 goal (
+        counted_element (codes "constraints") (codes "numberOfConstraints") (length p.rows) rows (
+        counted_element (codes "linearConstraintCoefficients") (codes "numberOfValues") (length p.entries) lists none)))) none);
   }
 
 -- the instance's text

@@ -9,10 +9,10 @@ ghost use Rattle.fraction.specs.Frac.{ratio};
 ghost use Rattle.decimal_text.specs.Plain.{PlainText};
 ghost use Rattle.instance.specs.Parts.{IsAscending};
 ghost use Rattle.element_tree.specs.Building.{said};
-ghost use Rattle.document_tags.specs.Writing.{counted, with_attribute};
+ghost use Rattle.document_tags.specs.Writing.{counted_element, with_attribute};
 ghost use Rattle.osil_grammar.specs.Writing.{HasDecimal, EndHasText, IsEndText, WriteVars, WriteRows, WriteCosts, CountsCosts, WritesGoal, WriteValues, WriteLists, WritesInstance, HasDecimals, IsWrittenText, counts_nodes, entries_below, row_starts, sense_text, type_text};
 ghost use Rattle.document_tags.specs.Telling.{Told, ToldAttributes, opening};
-ghost use Rattle.osil_grammar.specs.Telling.{HasNone, Writes, EndsHaveTexts, EndAttributes, GoalHasDecimals, EncodeFails};
+ghost use Rattle.osil_grammar.specs.Telling.{HasNone, WritesNodes, EndsHaveTexts, EndAttributes, GoalHasDecimals, EncodeFails};
 
 use crate::fault::EncodeFault;
 use crate::telling::leaf;
@@ -69,7 +69,7 @@ fn type_of(whole: bool) -> &'static [u8]
 /// Tells a variable.
 fn tell_var(alloc: Global, b: &mut TreeBuilder, var: Var) -> Result<(), EncodeFault>
     requires { b.old.attributes ≡ [] }
-    ensures { Writes result b.old b.new (EndsHaveTexts var.lb var.ub) (WriteVars (var ∷ [])) }
+    ensures { WritesNodes result b.old b.new (EndsHaveTexts var.lb var.ub) (WriteVars (var ∷ [])) }
 {
     b.attribute(b"type", type_of(var.whole))?;
     tell_ends(alloc, b, var.lb, var.ub)?;
@@ -80,7 +80,7 @@ fn tell_var(alloc: Global, b: &mut TreeBuilder, var: Var) -> Result<(), EncodeFa
 /// Tells the variables.
 fn tell_vars(alloc: Global, b: &mut TreeBuilder, vars: &[Var]) -> Result<(), EncodeFault>
     requires { b.old.attributes ≡ [] }
-    ensures { Writes result b.old b.new (All (λ v. EndsHaveTexts v.lb v.ub) vars.now) (λ nodes. (inner : Nodes) × WriteVars vars.now inner × (nodes ≡ counted (codes "variables") (codes "numberOfVariables") (length vars.now) inner none)) }
+    ensures { WritesNodes result b.old b.new (All (λ v. EndsHaveTexts v.lb v.ub) vars.now) (λ nodes. (inner : Nodes) × WriteVars vars.now inner × (nodes ≡ counted_element (codes "variables") (codes "numberOfVariables") (length vars.now) inner none)) }
 {
     open_counted(b, b"variables", b"numberOfVariables", vars.len())?;
     for var in vars {
@@ -100,7 +100,7 @@ fn open_counted(b: &mut TreeBuilder, name: &[u8], key: &[u8], n: usize) -> Resul
 /// Tells a row.
 fn tell_row(alloc: Global, b: &mut TreeBuilder, row: Row) -> Result<(), EncodeFault>
     requires { b.old.attributes ≡ [] }
-    ensures { Writes result b.old b.new (EndsHaveTexts row.lb row.ub) (WriteRows (row ∷ [])) }
+    ensures { WritesNodes result b.old b.new (EndsHaveTexts row.lb row.ub) (WriteRows (row ∷ [])) }
 {
     tell_ends(alloc, b, row.lb, row.ub)?;
     empty_after(b, b"con")?;
@@ -110,7 +110,7 @@ fn tell_row(alloc: Global, b: &mut TreeBuilder, row: Row) -> Result<(), EncodeFa
 /// Tells the rows.
 fn tell_rows(alloc: Global, b: &mut TreeBuilder, rows: &[Row]) -> Result<(), EncodeFault>
     requires { b.old.attributes ≡ [] }
-    ensures { Writes result b.old b.new (All (λ r. EndsHaveTexts r.lb r.ub) rows.now) (λ nodes. (inner : Nodes) × WriteRows rows.now inner × (nodes ≡ counted (codes "constraints") (codes "numberOfConstraints") (length rows.now) inner none)) }
+    ensures { WritesNodes result b.old b.new (All (λ r. EndsHaveTexts r.lb r.ub) rows.now) (λ nodes. (inner : Nodes) × WriteRows rows.now inner × (nodes ≡ counted_element (codes "constraints") (codes "numberOfConstraints") (length rows.now) inner none)) }
 {
     open_counted(b, b"constraints", b"numberOfConstraints", rows.len())?;
     for row in rows {
@@ -142,7 +142,7 @@ fn count_costs(costs: &[Frac]) -> usize
 /// Tells the cost of variable `j`, unless it is 0.
 fn tell_cost(alloc: Global, b: &mut TreeBuilder, j: usize, cost: Frac) -> Result<(), EncodeFault>
     requires { b.old.attributes ≡ [] }
-    ensures { Writes result b.old b.new (HasDecimal cost) (WriteCosts j (cost ∷ [])) }
+    ensures { WritesNodes result b.old b.new (HasDecimal cost) (WriteCosts j (cost ∷ [])) }
 {
     if cost.numer == 0 {
         return Ok(());
@@ -156,7 +156,7 @@ fn tell_cost(alloc: Global, b: &mut TreeBuilder, j: usize, cost: Frac) -> Result
 /// Tells the costs that aren't 0.
 fn tell_costs(alloc: Global, b: &mut TreeBuilder, costs: &[Frac]) -> Result<(), EncodeFault>
     requires { b.old.attributes ≡ [] }
-    ensures { Writes result b.old b.new (All HasDecimal costs.now) (WriteCosts 0 costs.now) }
+    ensures { WritesNodes result b.old b.new (All HasDecimal costs.now) (WriteCosts 0 costs.now) }
 {
     for j in 0..costs.len() {
         tell_cost(alloc, b, j, costs[j])?;
@@ -177,7 +177,7 @@ fn sense_of(sense: Sense) -> &'static [u8]
 /// Tells the objective.
 fn tell_objective(alloc: Global, b: &mut TreeBuilder, goal: &Goal) -> Result<(), EncodeFault>
     requires { b.old.attributes ≡ [] }
-    ensures { Writes result b.old b.new (GoalHasDecimals goal.now) (WritesGoal goal.now) }
+    ensures { WritesNodes result b.old b.new (GoalHasDecimals goal.now) (WritesGoal goal.now) }
 {
     let costs = goal.costs.as_slice();
     let constant = decimal(alloc, goal.constant)?;
@@ -192,7 +192,7 @@ fn tell_objective(alloc: Global, b: &mut TreeBuilder, goal: &Goal) -> Result<(),
 /// Tells the goal.
 fn tell_goal(alloc: Global, b: &mut TreeBuilder, goal: &Goal) -> Result<(), EncodeFault>
     requires { b.old.attributes ≡ [] }
-    ensures { Writes result b.old b.new (GoalHasDecimals goal.now) (λ nodes. (inner : Nodes) × WritesGoal goal.now inner × (nodes ≡ counted (codes "objectives") (codes "numberOfObjectives") 1 inner none)) }
+    ensures { WritesNodes result b.old b.new (GoalHasDecimals goal.now) (λ nodes. (inner : Nodes) × WritesGoal goal.now inner × (nodes ≡ counted_element (codes "objectives") (codes "numberOfObjectives") 1 inner none)) }
 {
     open_counted(b, b"objectives", b"numberOfObjectives", 1)?;
     tell_objective(alloc, b, goal)?;
@@ -245,7 +245,7 @@ fn tell_columns(b: &mut TreeBuilder, entries: &[Entry]) -> Result<(), Memory>
 /// Tells the value of an entry.
 fn tell_value(alloc: Global, b: &mut TreeBuilder, entry: &Entry) -> Result<(), EncodeFault>
     requires { b.old.attributes ≡ [] }
-    ensures { Writes result b.old b.new (HasDecimal entry.now.value) (WriteValues (entry.now ∷ [])) }
+    ensures { WritesNodes result b.old b.new (HasDecimal entry.now.value) (WriteValues (entry.now ∷ [])) }
 {
     let text = decimal(alloc, entry.value)?;
     leaf(b, b"el", text.as_slice())?;
@@ -255,7 +255,7 @@ fn tell_value(alloc: Global, b: &mut TreeBuilder, entry: &Entry) -> Result<(), E
 /// Tells the value of each entry.
 fn tell_values(alloc: Global, b: &mut TreeBuilder, entries: &[Entry]) -> Result<(), EncodeFault>
     requires { b.old.attributes ≡ [] }
-    ensures { Writes result b.old b.new (All (λ e. HasDecimal e.value) entries.now) (λ nodes. (inner : Nodes) × WriteValues entries.now inner × (nodes ≡ tree.element (codes "value") [] inner none)) }
+    ensures { WritesNodes result b.old b.new (All (λ e. HasDecimal e.value) entries.now) (λ nodes. (inner : Nodes) × WriteValues entries.now inner × (nodes ≡ tree.element (codes "value") [] inner none)) }
 {
     open(b, b"value")?;
     for entry in entries {
@@ -274,7 +274,7 @@ fn tell_lists(
 ) -> Result<(), EncodeFault>
     requires waiting { b.old.attributes ≡ [] }
     requires order { IsAscending entries.now }
-    ensures { Writes result b.old b.new (All (λ e. HasDecimal e.value) entries.now) (WriteLists rows entries.now) }
+    ensures { WritesNodes result b.old b.new (All (λ e. HasDecimal e.value) entries.now) (WriteLists rows entries.now) }
 {
     if entries.is_empty() {
         return Ok(());
@@ -294,7 +294,7 @@ fn tell_matrix(
 ) -> Result<(), EncodeFault>
     requires waiting { b.old.attributes ≡ [] }
     requires order { IsAscending entries.now }
-    ensures { Writes result b.old b.new (All (λ e. HasDecimal e.value) entries.now) (λ nodes. (inner : Nodes) × WriteLists rows entries.now inner × (nodes ≡ counted (codes "linearConstraintCoefficients") (codes "numberOfValues") (length entries.now) inner none)) }
+    ensures { WritesNodes result b.old b.new (All (λ e. HasDecimal e.value) entries.now) (λ nodes. (inner : Nodes) × WriteLists rows entries.now inner × (nodes ≡ counted_element (codes "linearConstraintCoefficients") (codes "numberOfValues") (length entries.now) inner none)) }
 {
     let name = b"linearConstraintCoefficients";
     open_counted(b, name, b"numberOfValues", entries.len())?;

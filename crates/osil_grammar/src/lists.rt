@@ -7,7 +7,7 @@ ghost use Rattle.osil_grammar.specs.Kinds.{InstanceData};
 ghost use Rattle.osil_grammar.specs.ItemLists.{Items, list_kind, item_name, list_name, count_name};
 ghost use Rattle.osil_grammar.specs.Runs.{StandsFor};
 ghost use Rattle.osil_grammar.specs.Walking.{GoesOn};
-ghost use Rattle.osil_grammar.specs.Parsing.{ReadsElement, ReadsContent, ReadsStart, StandBefore, IsPartNamed, IsNamedAfter, Adds, HoldsAll, NoMemoryAlone};
+ghost use Rattle.osil_grammar.specs.Parsing.{ReadsElement, ReadsContent, ReadsStart, StandBefore, IsPartNamed, IsNamedAfter, AddsItems, HoldsAll, NoMemoryAlone};
 
 use crate::fault::OsilFault;
 use crate::numbers::{at_tag, check_count, count, end};
@@ -60,7 +60,7 @@ fn read_item<T: Listed>(
     items: &mut Vec<T>,
 ) -> Result<(), OsilFault>
     requires { vec_len items.old ≤ 1000 }
-    ensures reads { ReadsElement place.old place.new tag.entry result (list_kind T.which) (StandBefore (vec_len items.old)) (λ e _. Adds T.says items.old.items items.new.items e) }
+    ensures reads { ReadsElement place.old place.new tag.entry result (list_kind T.which) (StandBefore (vec_len items.old)) (λ e _. AddsItems T.says items.old.items items.new.items e) }
     ensures few { OnOk result (vec_len items.new ≤ 1000) }
     ensures ends { All T.has_ends items.old.items → OnOk result (All T.has_ends items.new.items) }
     ensures on { OnOk result (GoesOn place.old place.new) }

@@ -5,10 +5,10 @@ ghost use Rattle.tree_grammar.specs.Elements.{Element};
 ghost use Rattle.document_tags.specs.Rests.{child_elements};
 ghost use Rattle.osil_grammar.specs.Kinds.{Listing, InstanceData, Coefficients, listing_name};
 ghost use Rattle.osil_grammar.specs.Walking.{GoesOn};
-ghost use Rattle.osil_grammar.specs.PartsRead.{AreWithin};
+ghost use Rattle.osil_grammar.specs.PartialParts.{AreWithin};
 ghost use Rattle.osil_grammar.specs.Meaning.{IsMatrix};
-ghost use Rattle.osil_grammar.specs.Reading.{refusal};
-ghost use Rattle.osil_grammar.specs.Parsing.{ReadsElement, ReadsContent, ReadsEnd, AreRead, IsMatrixAt, IsListAt, IsMatrixNamed, InSizeAround, IsRightMatrix, HasNoList, LacksList, AreListsOf, AreStored, IsListsFault, FitsSize, FitsMatrix, begun, listing, MayFollow};
+ghost use Rattle.osil_grammar.specs.Reading.{told_refusal};
+ghost use Rattle.osil_grammar.specs.Parsing.{ReadsElement, ReadsContent, ReadsEnd, AreListsRead, IsMatrixAt, IsListAt, IsMatrixNamed, InSizeAround, IsRightMatrix, HasNoList, LacksList, AreListsOf, AreStored, IsListsFault, FitsSize, FitsMatrix, begun_tag, listing, MayFollow};
 
 use crate::entries::{Lists, entries, is_division};
 use crate::fault::{OsilFault, Refusal};
@@ -42,7 +42,7 @@ enum ListName {
 
 /// Which list the element is, if it is one.
 fn list_name(tag: StartTag<'_>) -> Option<ListName>
-    ensures { MatchOption result ((l : Listing) → (begun tag.entry).name ≡ listing_name l → ⊥) (λ n. (begun tag.entry).name ≡ listing_name (listing n)) }
+    ensures { MatchOption result ((l : Listing) → (begun_tag tag.entry).name ≡ listing_name l → ⊥) (λ n. (begun_tag tag.entry).name ≡ listing_name (listing n)) }
 {
     if tag.is(b"start") {
         return Some(ListName::Starts);
@@ -81,7 +81,7 @@ fn read_list(
     found: &mut Found,
 ) -> Result<(), OsilFault>
     requires { (size.0 ≤ 1000) × (size.1 ≤ 1000) }
-    ensures reads { (es : List Element) → AreRead es found.old → ReadsElement place.old place.new tag.entry result Coefficients (IsListAt size.0 size.1 es) (λ e _. AreRead (es ++ e ∷ []) found.new) }
+    ensures reads { (es : List Element) → AreListsRead es found.old → ReadsElement place.old place.new tag.entry result Coefficients (IsListAt size.0 size.1 es) (λ e _. AreListsRead (es ++ e ∷ []) found.new) }
     ensures inside { FitsSize size.0 size.1 found.old → OnOk result (FitsSize size.0 size.1 found.new) }
     ensures on { OnOk result (GoesOn place.old place.new) }
 {
@@ -152,7 +152,7 @@ fn line_count(by_columns: bool, size: (u32, u32)) -> u32
 /// starts don't divide the values into the lines.
 fn lists_fault(lists: &Lists, lines: usize) -> Option<Refusal>
     requires { lines ≤ 1000 }
-    ensures { MatchOption result (AreStored lists.now lines) (λ r. IsListsFault lists.now lines (refusal r)) }
+    ensures { MatchOption result (AreStored lists.now lines) (λ r. IsListsFault lists.now lines (told_refusal r)) }
 {
     let count = lists.values.len();
     if lists.indices.len() != count {
@@ -216,7 +216,7 @@ fn close_matrix(
 /// Reads what stands in the matrix, which the place has gone into, to its end.
 fn read_lists(alloc: Global, place: &mut Place<'_>, size: (u32, u32)) -> Result<Found, OsilFault>
     requires { (size.0 ≤ 1000) × (size.1 ≤ 1000) }
-    ensures reads { ReadsContent place.old place.new result Coefficients (InSizeAround size.0 size.1) (λ e f. AreRead (child_elements e.children) f) }
+    ensures reads { ReadsContent place.old place.new result Coefficients (InSizeAround size.0 size.1) (λ e f. AreListsRead (child_elements e.children) f) }
     ensures inside { IfOk result (FitsSize size.0 size.1) }
     ensures on { OnOk result (GoesOn place.old place.new) }
 {

@@ -5,15 +5,15 @@ ghost use Rattle.rational.specs.Ratio.{Ratio};
 ghost use Rattle.evidence.specs.Sums as evidence;
 ghost use Rattle.fraction.specs.Frac.{ratio};
 ghost use Rattle.decimal_text.specs.Count.{IsCount};
-ghost use Rattle.decimal_text.specs.Whole.{IsWhole};
+ghost use Rattle.decimal_text.specs.Whole.{IsWholeText};
 ghost use Rattle.decimal_text.specs.Decimal.{IsDecimal};
-ghost use Rattle.decimal_text.specs.Bound.{IsBound};
+ghost use Rattle.decimal_text.specs.Bound.{SaysEnd};
 ghost use Rattle.document_tags.specs.Elements.{value_of};
-ghost use Rattle.osil_grammar.specs.Numbers.{Grammar, count as count_grammar, whole as whole_grammar, decimal as decimal_grammar, bound as bound_grammar, IsOf, IsWideOf, HoldsDecimal};
+ghost use Rattle.osil_grammar.specs.Numbers.{Grammar, count as count_grammar, whole as whole_grammar, decimal as decimal_grammar, bound as bound_grammar, IsOfGrammar, IsWideOf, HoldsDecimal};
 ghost use Rattle.osil_grammar.specs.Walking.{GoesOn};
 ghost use Rattle.osil_grammar.specs.Reading as promised;
 ghost use Rattle.osil_grammar.specs.Parsing as reading;
-ghost use Rattle.osil_grammar.specs.Parsing.{Tells, IsUnread, IsNoTimes, IsFirstOf, ReadsField, unread_refusal, HoldsWhole, ReadsText, EndsAt};
+ghost use Rattle.osil_grammar.specs.Parsing.{TellsRefusal, IsUnread, IsNoTimes, IsFirstOf, ReadsField, unread_refusal, HoldsWhole, ReadsText, EndsAt};
 ghost use Rattle.osil_grammar.specs.Refusals as refusals;
 
 use crate::fault::{OsilFault, Refusal};
@@ -35,7 +35,7 @@ fn reason(fault: DecimalFault) -> Unread
 
 /// The number that was read of a text.
 fn number<T>(read: Result<T, DecimalFault>) -> Result<T, Unread>
-    ensures { result ≡ reading.number read }
+    ensures { result ≡ reading.number_or_unread read }
 {
     match read {
         Ok(x) => Ok(x),
@@ -60,7 +60,7 @@ pub(crate) fn both<A: Drop, B: Drop>(
 
 /// The refusal for a number that isn't read.
 fn refusal(unread: Unread) -> Refusal
-    ensures { promised.refusal result ≡ unread_refusal unread }
+    ensures { promised.told_refusal result ≡ unread_refusal unread }
 {
     match unread {
         Unread::NotNumber => Refusal::Number,
@@ -93,7 +93,7 @@ pub(crate) fn count(tag: StartTag<'_>, name: &[u8]) -> Result<Option<u64>, Unrea
 
 /// For how many items an element stands: its attribute `mult`, 1 without it.
 pub(crate) fn times(tag: StartTag<'_>) -> Result<u64, Unread>
-    ensures { MatchResult result (λ m. (0 < m) × MatchOption (value_of (codes "mult") (reading.begun tag.entry).attributes) (m ≡ 1) (λ text. IsCount text m)) (λ u. IsSomeAnd (value_of (codes "mult") (reading.begun tag.entry).attributes) (IsNoTimes u)) }
+    ensures { MatchResult result (λ m. (0 < m) × MatchOption (value_of (codes "mult") (reading.begun_tag tag.entry).attributes) (m ≡ 1) (λ text. IsCount text m)) (λ u. IsSomeAnd (value_of (codes "mult") (reading.begun_tag tag.entry).attributes) (IsNoTimes u)) }
 {
     match count(tag, b"mult")? {
         None => Ok(1),
@@ -104,7 +104,7 @@ pub(crate) fn times(tag: StartTag<'_>) -> Result<u64, Unread>
 
 /// An attribute that is a bound, or an end where it isn't there.
 pub(crate) fn bound(tag: StartTag<'_>, name: &[u8], default: End) -> Result<End, Unread>
-    ensures { ReadsField tag.entry name.now bound_grammar result (λ x. x ≡ default) IsBound }
+    ensures { ReadsField tag.entry name.now bound_grammar result (λ x. x ≡ default) SaysEnd }
 {
     match tag.attribute(name) {
         None => Ok(default),
@@ -124,7 +124,7 @@ pub(crate) fn decimal(tag: StartTag<'_>, name: &[u8]) -> Result<Frac, Unread>
 
 /// An attribute that is a whole number, 0 without it.
 pub(crate) fn whole(tag: StartTag<'_>, name: &[u8]) -> Result<i64, Unread>
-    ensures { ReadsField tag.entry name.now whole_grammar result (λ x. x ≡ pos 0) IsWhole }
+    ensures { ReadsField tag.entry name.now whole_grammar result (λ x. x ≡ pos 0) IsWholeText }
 {
     match tag.attribute(name) {
         None => Ok(0),
@@ -172,7 +172,7 @@ pub(crate) fn held_whole(
     place: &mut Place<'_>,
     tag: StartTag<'_>,
 ) -> Result<i64, OsilFault>
-    ensures reads { reading.ReadsHeld place.old place.new tag.entry result whole_grammar IsWhole }
+    ensures reads { reading.ReadsHeld place.old place.new tag.entry result whole_grammar IsWholeText }
     ensures on { OnOk result (GoesOn place.old place.new) }
 {
     let text = text_of(alloc, place)?;
@@ -185,7 +185,7 @@ pub(crate) fn check_count(
     declared: Option<u64>,
     found: u64,
 ) -> Result<(), OsilFault>
-    ensures { MatchResult result (λ _. IfSome declared (λ n. n ≡ found)) (λ f. IsSomeAnd declared (λ n. (n ≢ found) × Tells f (λ r n. (r ≡ refusals.Count) × (n ≡ (reading.begun tag.entry).ordinal)))) }
+    ensures { MatchResult result (λ _. IfSome declared (λ n. n ≡ found)) (λ f. IsSomeAnd declared (λ n. (n ≢ found) × TellsRefusal f (λ r n. (r ≡ refusals.Count) × (n ≡ (reading.begun_tag tag.entry).ordinal)))) }
 {
     match declared {
         Some(n) if n != found => Err(tag.refused(Refusal::Count)),

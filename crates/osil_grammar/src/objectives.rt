@@ -15,7 +15,7 @@ ghost use Rattle.osil_grammar.specs.Runs.{StandsFor, StandFor};
 ghost use Rattle.osil_grammar.specs.Walking.{GoesOn};
 ghost use Rattle.osil_grammar.specs.Meaning.{IsNoGoal, IsGoal};
 ghost use Rattle.osil_grammar.specs.Parsing as reading;
-ghost use Rattle.osil_grammar.specs.Parsing.{begun, NoMemoryAlone, ReadsElement, ReadsContent, ReadsStart, InWidth, IsNextCost, IsCoefAt, HasIndex, IsObjAt, IsObjHead, AddsCost, HoldsCosts, IsGoalOf, HoldsGoal, IsNamedIn, IsAfter, IsCoefFault};
+ghost use Rattle.osil_grammar.specs.Parsing.{begun_tag, NoMemoryAlone, ReadsElement, ReadsContent, ReadsStart, InWidth, IsNextCost, IsCoefAt, HasIndex, IsObjAt, IsObjHead, AddsCost, HoldsCosts, IsGoalOf, HoldsGoal, IsNamedIn, IsObjectiveAfter, IsCoefFault};
 
 use crate::fault::{OsilFault, Refusal};
 use crate::numbers::{at_tag, both, check_count, count, decimal, held_decimal, times};
@@ -59,7 +59,7 @@ pub(crate) fn no_goal(alloc: Global, width: usize) -> Result<Goal, OsilFault>
 
 /// The attribute that may not stand at a `coef`, or is wanting.
 fn coef_fault(tag: StartTag<'_>) -> Option<&'static [u8]>
-    ensures { MatchOption result (IsCoefFault (begun tag.entry) None) (λ name. IsCoefFault (begun tag.entry) (Some name.now)) }
+    ensures { MatchOption result (IsCoefFault (begun_tag tag.entry) None) (λ name. IsCoefFault (begun_tag tag.entry) (Some name.now)) }
 {
     if tag.attribute(b"idx").is_none() {
         return Some(b"idx");
@@ -188,7 +188,7 @@ fn read_goal(
     before: u64,
     width: usize,
 ) -> Result<Goal, OsilFault>
-    ensures reads { ReadsElement place.old place.new tag.entry result Objectives (IsAfter before width) (λ e g. IsGoal width e g × (e.name ≡ codes "obj") × StandsFor e 1) }
+    ensures reads { ReadsElement place.old place.new tag.entry result Objectives (IsObjectiveAfter before width) (λ e g. IsGoal width e g × (e.name ≡ codes "obj") × StandsFor e 1) }
     ensures first { OnOk result (before ≡ 0) }
     ensures costs { IfOk result (λ g. length g.costs ≡ width) }
     ensures on { OnOk result (GoesOn place.old place.new) }

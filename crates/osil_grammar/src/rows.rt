@@ -9,7 +9,7 @@ ghost use Rattle.osil_grammar.specs.Fields.{ReadsNumbers, RowSays};
 ghost use Rattle.osil_grammar.specs.Runs.{StandsFor};
 ghost use Rattle.osil_grammar.specs.Walking.{GoesOn};
 ghost use Rattle.osil_grammar.specs.Meaning.{IsLess, IsRow};
-ghost use Rattle.osil_grammar.specs.Parsing.{ReadsElement, ReadsContent, ReadsStart, StandBefore, IsPartNamed, IsNamedAfter, Adds, HoldsAll, IsNear, IsTooFar};
+ghost use Rattle.osil_grammar.specs.Parsing.{ReadsElement, ReadsContent, ReadsStart, StandBefore, IsPartNamed, IsNamedAfter, AddsItems, HoldsAll, IsNear, IsTooFar};
 
 use crate::fault::{OsilFault, Refusal};
 use crate::lists::Listed;

@@ -6,7 +6,7 @@ ghost use Rattle.osil_grammar.specs.Kinds.{Listing, Values, Listed};
 ghost use Rattle.osil_grammar.specs.Runs.{StandsFor, whole_run};
 ghost use Rattle.osil_grammar.specs.Walking.{GoesOn};
 ghost use Rattle.osil_grammar.specs.Parsing as reading;
-ghost use Rattle.osil_grammar.specs.Parsing.{wholes, NoMemoryAlone, ReadsElement, ReadsContent, ListLimits, IsListed, IsListedValue, AddsWholes, AddsRatios, HoldsWholes, HoldsRatios, ReadsRun, HasRoom, IsBelow};
+ghost use Rattle.osil_grammar.specs.Parsing.{wholes, NoMemoryAlone, ReadsElement, ReadsContent, ListLimits, IsListed, IsListedValue, AddsWholes, AddsRatios, HoldsWholes, HoldsRatios, ReadsRun, HasRoomOrFails, IsBelowLimit};
 
 use crate::fault::{OsilFault, Refusal};
 use crate::numbers::{at_tag, both, decimal, held_decimal, held_whole, times, whole};
@@ -17,7 +17,7 @@ use std::alloc::Global;
 /// Refuses an element that takes a list past the most items that it may have.
 fn check_room(tag: StartTag<'_>, times: u64, before: usize, most: usize) -> Result<(), OsilFault>
     requires { before ≤ most }
-    ensures { HasRoom tag.entry result times before most }
+    ensures { HasRoomOrFails tag.entry result times before most }
 {
     if times > (most - before) as u64 {
         Err(tag.refused(Refusal::TooBig))
@@ -46,7 +46,7 @@ fn steps(step: i64, count: u64) -> i128
 /// Whether the number at this place of a run is at least 0 and below the limit.
 fn is_inside(first: i64, step: i64, place: u64, limit: u32) -> bool
     requires { place ≤ 100000 }
-    ensures { IsTrue result ↔ IsBelow (first +ℤ pos place *ℤ step) limit }
+    ensures { IsTrue result ↔ IsBelowLimit (first +ℤ pos place *ℤ step) limit }
 {
     let number = number_at(first, step, place);
     0 <= number && number < i128::from(limit)
@@ -56,7 +56,7 @@ fn is_inside(first: i64, step: i64, place: u64, limit: u32) -> bool
 fn is_in_range(first: i64, step: i64, times: u64, limit: u32) -> bool
     requires some { 0 < times }
     requires few { times ≤ 100000 }
-    ensures { MatchBool result ((k : ℕ) → k < times → IsBelow (first +ℤ pos k *ℤ step) limit) ((k : ℕ) × (k < times) × (IsBelow (first +ℤ pos k *ℤ step) limit → ⊥)) }
+    ensures { MatchBool result ((k : ℕ) → k < times → IsBelowLimit (first +ℤ pos k *ℤ step) limit) ((k : ℕ) × (k < times) × (IsBelowLimit (first +ℤ pos k *ℤ step) limit → ⊥)) }
 {
     if !is_inside(first, step, 0, limit) {
         return false;
@@ -67,7 +67,7 @@ fn is_in_range(first: i64, step: i64, times: u64, limit: u32) -> bool
 /// Adds the numbers of a run that is in range.
 fn push_wholes(list: &mut Vec<u32>, first: i64, step: i64, times: u64) -> Result<(), OsilFault>
     requires few { times ≤ 100000 }
-    requires inside { (k : ℕ) → k < times → IsBelow (first +ℤ pos k *ℤ step) 100001 }
+    requires inside { (k : ℕ) → k < times → IsBelowLimit (first +ℤ pos k *ℤ step) 100001 }
     ensures ok { OnOk result (wholes list.new.items ≡ wholes list.old.items ++ whole_run first step times) }
     ensures len { OnOk result (vec_len list.new ≡ vec_len list.old + times) }
     ensures err { NoMemoryAlone result }

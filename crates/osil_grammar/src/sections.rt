@@ -8,10 +8,10 @@ ghost use Rattle.osil_grammar.specs.Tags.{tags};
 ghost use Rattle.osil_grammar.specs.Kinds.{Osil, InstanceData, content_names};
 ghost use Rattle.osil_grammar.specs.Meaning.{SayParts, Means};
 ghost use Rattle.osil_grammar.specs.Walking.{IsJoined, GoesOn};
-ghost use Rattle.osil_grammar.specs.PartsRead.{items_of, IsGoalOrNone, vars_of, rows_of, name_of, MayStand, IsSound, IsNextPart, IsFirstData};
+ghost use Rattle.osil_grammar.specs.PartialParts.{part_items, IsGoalOrNone, vars_of, section_rows, name_of, MayStand, IsSound, IsNextPart, IsFirstData};
 ghost use Rattle.osil_grammar.specs.Reading as promised;
 ghost use Rattle.osil_grammar.specs.Parsing as reading;
-ghost use Rattle.osil_grammar.specs.Parsing.{begun, Reads, ReadsElement, ReadsContent, ReadsEnd, AreFound, IsFurther, IsNext, AreAll, NoMemoryAlone};
+ghost use Rattle.osil_grammar.specs.Parsing.{begun_tag, ReadsTags, ReadsElement, ReadsContent, ReadsEnd, AreFound, IsFurther, IsNextChild, AreAll, NoMemoryAlone};
 
 use crate::fault::{OsilFault, Refusal};
 use crate::lists::read_list;
@@ -45,7 +45,7 @@ impl Sections {
 
     /// How many rows stand so far.
     fn height(&self) -> usize
-        ensures { result ≡ length (rows_of self.now) }
+        ensures { result ≡ length (section_rows self.now) }
     {
         match &self.rows {
             None => 0,
@@ -65,7 +65,7 @@ enum PartName {
 
 /// Which part the element is; a further one is none of them.
 fn part_name(tag: StartTag<'_>) -> Option<PartName>
-    ensures { MatchOption result (IsAmong (begun tag.entry).name (content_names InstanceData) → ⊥) (λ part. (begun tag.entry).name ≡ name_of part) }
+    ensures { MatchOption result (IsAmong (begun_tag tag.entry).name (content_names InstanceData) → ⊥) (λ part. (begun_tag tag.entry).name ≡ name_of part) }
 {
     if tag.is(b"variables") {
         return Some(PartName::Variables);
@@ -145,7 +145,7 @@ fn read_section(
     found: &mut Sections,
 ) -> Result<(), OsilFault>
     requires { IsSound found.old }
-    ensures reads { (es : List Element) → AreFound es found.old → ReadsElement place.old place.new tag.entry result InstanceData (IsNext es) (λ e _. AreFound (es ++ e ∷ []) found.new) }
+    ensures reads { (es : List Element) → AreFound es found.old → ReadsElement place.old place.new tag.entry result InstanceData (IsNextChild es) (λ e _. AreFound (es ++ e ∷ []) found.new) }
     ensures sound { OnOk result (IsSound found.new) }
     ensures on { OnOk result (GoesOn place.old place.new) }
 {
@@ -160,7 +160,7 @@ fn read_section(
 
 /// The items of a part, none where there is no such part.
 fn items_or_none<T: Drop>(alloc: Global, part: Option<Vec<T>>) -> Vec<T>
-    ensures { result.items ≡ items_of (λ v. v.items) part }
+    ensures { result.items ≡ part_items (λ v. v.items) part }
 {
     match part {
         Some(items) => items,
@@ -236,7 +236,7 @@ fn read_child(
     tag: StartTag<'_>,
     found: &mut Option<Instance>,
 ) -> Result<(), OsilFault>
-    ensures reads { (es : List Element) → reading.IsDataRead es found.old → ReadsElement place.old place.new tag.entry result Osil (IsNext es) (λ e _. reading.IsDataRead (es ++ e ∷ []) found.new) }
+    ensures reads { (es : List Element) → reading.IsDataRead es found.old → ReadsElement place.old place.new tag.entry result Osil (IsNextChild es) (λ e _. reading.IsDataRead (es ++ e ∷ []) found.new) }
     ensures on { OnOk result (GoesOn place.old place.new) }
 {
     if !tag.is(b"instanceData") {
@@ -263,14 +263,14 @@ fn read_root(alloc: Global, place: &mut Place<'_>) -> Result<Option<Instance>, O
 
 /// The refusal of the root.
 fn refused_root(refusal: Refusal) -> OsilFault
-    ensures { reading.Tells result (λ r n. (r ≡ promised.refusal refusal) × (n ≡ 1)) }
+    ensures { reading.TellsRefusal result (λ r n. (r ≡ promised.told_refusal refusal) × (n ≡ 1)) }
 {
     OsilFault::Refused { refusal, at: 1 }
 }
 
 /// The instance that a document's tree stands for.
 pub(crate) fn read_tree(alloc: Global, tree: &Tree) -> Result<Instance, OsilFault>
-    ensures { (e : Element) → tree.now ≡ events e → IsJoined e.children → Reads result (tags e) (λ p. Means e p) }
+    ensures { (e : Element) → tree.now ≡ events e → IsJoined e.children → ReadsTags result (tags e) (λ p. Means e p) }
 {
     let mut place = Place::before(tree);
     match place.child() {

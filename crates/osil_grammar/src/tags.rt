@@ -49,26 +49,26 @@ impl<'t> StartTag<'t> {
     ghost use Rattle.document_tags.specs.Elements.{value_of};
     ghost use Rattle.osil_grammar.specs.Refusals as refusals;
     ghost use Rattle.document_tags.specs.Faults.{told_name};
-    ghost use Rattle.osil_grammar.specs.Reading.{refusal};
-    ghost use Rattle.osil_grammar.specs.Parsing.{begun, Tells};
+    ghost use Rattle.osil_grammar.specs.Reading.{told_refusal};
+    ghost use Rattle.osil_grammar.specs.Parsing.{begun_tag, TellsRefusal};
 
     /// The element's name.
     pub(crate) fn name(&self) -> &'t [u8]
-        ensures { result.now ≡ (begun self.now).name }
+        ensures { result.now ≡ (begun_tag self.now).name }
     {
         self.name
     }
 
     /// Whether the element has this name.
     pub(crate) fn is(&self, name: &[u8]) -> bool
-        ensures { IsTrue result ↔ ((begun self.now).name ≡ name.now) }
+        ensures { IsTrue result ↔ ((begun_tag self.now).name ≡ name.now) }
     {
         self.name == name
     }
 
     /// The value of the attribute of this name, if there is one.
     pub(crate) fn attribute(&self, name: &[u8]) -> Option<&'t [u8]>
-        ensures { MatchOption result (value_of name.now (begun self.now).attributes ≡ None) (λ text. value_of name.now (begun self.now).attributes ≡ Some text.now) }
+        ensures { MatchOption result (value_of name.now (begun_tag self.now).attributes ≡ None) (λ text. value_of name.now (begun_tag self.now).attributes ≡ Some text.now) }
     {
         for k in 0..self.tree.attribute_count(self.at) {
             let (found, value) = self.tree.attribute(self.at, k);
@@ -81,7 +81,7 @@ impl<'t> StartTag<'t> {
 
     /// The refusal of this element.
     pub(crate) fn refused(&self, why: Refusal) -> OsilFault
-        ensures { Tells result (λ r n. (r ≡ refusal why) × (n ≡ (begun self.now).ordinal)) }
+        ensures { TellsRefusal result (λ r n. (r ≡ told_refusal why) × (n ≡ (begun_tag self.now).ordinal)) }
     {
         OsilFault::Refused {
             refusal: why,
@@ -91,7 +91,7 @@ impl<'t> StartTag<'t> {
 
     /// The refusal of this element because of where it stands.
     pub(crate) fn beyond(&self, alloc: Global) -> OsilFault
-        ensures { Tells result (λ r n. (r ≡ refusals.Beyond (told_name (begun self.now).name)) × (n ≡ (begun self.now).ordinal)) }
+        ensures { TellsRefusal result (λ r n. (r ≡ refusals.Beyond (told_name (begun_tag self.now).name)) × (n ≡ (begun_tag self.now).ordinal)) }
     {
         match told_name(alloc, self.name) {
             Ok(name) => self.refused(Refusal::Beyond { name }),
@@ -101,12 +101,12 @@ impl<'t> StartTag<'t> {
 }
 
 impl<'t> Place<'t> {
-    ghost use Rattle.element_tree.specs.Items.{Shows};
+    ghost use Rattle.element_tree.specs.Items.{ShowsEvent};
     ghost use Rattle.tree_grammar.specs.Elements.{Attribute, Event, Nodes, Chars, Close, nodes_events};
     ghost use Rattle.document_tags.specs.Rests.{after_text};
     ghost use Rattle.document_tags.specs.Elements.{elements_in};
-    ghost use Rattle.osil_grammar.specs.Walking.{Walking, Begins, Entered, Left, GoesOn};
-    ghost use Rattle.osil_grammar.specs.Parsing.{begun};
+    ghost use Rattle.osil_grammar.specs.Walking.{Walking, PassesStartTag, Entered, LeavesElement, GoesOn};
+    ghost use Rattle.osil_grammar.specs.Parsing.{begun_tag};
 
     /// The place before the root's start tag.
     pub(crate) fn before(tree: &'t Tree) -> Self
@@ -122,7 +122,7 @@ impl<'t> Place<'t> {
 
     /// The event that comes next.
     fn next(&self) -> Option<Item<'t>>
-        ensures some { IfSome result (λ item. (event : Event) × (rest : List Event) × (self.now.events ≡ event ∷ rest) × Shows item event) }
+        ensures some { IfSome result (λ item. (event : Event) × (rest : List Event) × (self.now.events ≡ event ∷ rest) × ShowsEvent item event) }
         ensures none { IfNone result (self.now.events ≡ []) }
     {
         if self.at < self.end {
@@ -144,7 +144,7 @@ impl<'t> Place<'t> {
     /// Goes past the start tag that comes next, which has this name.
     fn begin(&mut self, name: &'t [u8]) -> StartTag<'t>
         requires { (attributes : List Attribute) × (rest : List Event) × (self.old.events ≡ Open name.now attributes ∷ rest) }
-        ensures { Begins self.old self.new (begun result) }
+        ensures { PassesStartTag self.old self.new (begun_tag result) }
     {
         let at = self.at;
         self.at += 1;
@@ -184,8 +184,8 @@ impl<'t> Place<'t> {
     /// Goes past the next tag, and characters before it: the start tag of a child element, or the end tag of the
     /// element that the place is in.
     pub(crate) fn child(&mut self) -> Option<StartTag<'t>>
-        ensures some { IfSome result (λ t. Entered self.old self.new (begun t)) }
-        ensures none { IfNone result (Left self.old self.new) }
+        ensures some { IfSome result (λ t. Entered self.old self.new (begun_tag t)) }
+        ensures none { IfNone result (LeavesElement self.old self.new) }
     {
         self.skip_text();
         match self.next() {

@@ -2,7 +2,7 @@
 
 ghost use Rattle.std.specs.Prelude.{◌≡◌, ◌++◌, IfOk, OnOk};
 ghost use Rattle.osil_grammar.specs.Texts as spoken;
-ghost use Rattle.osil_grammar.specs.Reading.{refusal, IsFaultText};
+ghost use Rattle.osil_grammar.specs.Reading.{told_refusal, IsFaultText};
 
 use crate::fault::{OsilFault, Refusal};
 use document_tags::{refusal_at, tree_fault_text};
@@ -11,7 +11,7 @@ use std::alloc::{AllocError, Global};
 
 /// The name of a refusal.
 fn refusal_name(why: &Refusal) -> &'static [u8]
-    ensures { result.now ≡ spoken.refusal_name (refusal why.now) }
+    ensures { result.now ≡ spoken.refusal_name (told_refusal why.now) }
 {
     match why {
         Refusal::Root => b"Root",
@@ -32,7 +32,7 @@ fn refusal_name(why: &Refusal) -> &'static [u8]
 
 /// Appends the name of the element or the attribute that a refusal is about, where it tells one.
 fn put_subject(text: &mut Text, why: &Refusal) -> Result<(), Memory>
-    ensures { OnOk result (text.new ≡ text.old ++ spoken.subject (refusal why.now)) }
+    ensures { OnOk result (text.new ≡ text.old ++ spoken.subject (told_refusal why.now)) }
 {
     match why {
         Refusal::Beyond { name } => {

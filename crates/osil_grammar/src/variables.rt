@@ -13,7 +13,7 @@ ghost use Rattle.osil_grammar.specs.Deciding.{types};
 ghost use Rattle.document_tags.specs.Elements.{value_of};
 ghost use Rattle.osil_grammar.specs.Meaning as meaning;
 ghost use Rattle.osil_grammar.specs.Meaning.{IsEndAt, IsVar};
-ghost use Rattle.osil_grammar.specs.Parsing.{begun, ReadsElement, ReadsContent, ReadsStart, StandBefore, IsPartNamed, IsNamedAfter, Adds, HoldsAll, IsSaid, IsVariableOf, NoMemoryAlone};
+ghost use Rattle.osil_grammar.specs.Parsing.{begun_tag, ReadsElement, ReadsContent, ReadsStart, StandBefore, IsPartNamed, IsNamedAfter, AddsItems, HoldsAll, IsSaid, IsVariableOf, NoMemoryAlone};
 
 use crate::fault::{OsilFault, Refusal};
 use crate::lists::Listed;
@@ -34,7 +34,7 @@ enum Domain {
 
 /// The type that a variable's start tag names.
 fn type_of(tag: StartTag<'_>) -> Option<Domain>
-    ensures { MatchOption result (IsSomeAnd (value_of (codes "type") (begun tag.entry).attributes) (λ t. IsAmong t types → ⊥)) (λ kind. IsSaid kind (value_of (codes "type") (begun tag.entry).attributes)) }
+    ensures { MatchOption result (IsSomeAnd (value_of (codes "type") (begun_tag tag.entry).attributes) (λ t. IsAmong t types → ⊥)) (λ kind. IsSaid kind (value_of (codes "type") (begun_tag tag.entry).attributes)) }
 {
     match tag.attribute(b"type") {
         None => Some(Domain::Continuous),

@@ -6,25 +6,25 @@ use Rattle.tree_grammar.specs.Elements.{Attribute}
 use Rattle.std.proofs.lemmas.Bool.{leb-true}
 use Rattle.decimal_text.specs.Count.{most_count}
 use Rattle.decimal_text.specs.Space.{trimmed}
-use Rattle.decimal_text.proofs.ReadBack.{count_read}
+use Rattle.decimal_text.proofs.RoundTrips.{count_read}
 use Rattle.document_tags.specs.Elements.{unless_empty}
 use Rattle.document_tags.specs.Tags.{Tag, begins, ends, tags}
 use Rattle.document_tags.specs.Writing.{with_attribute, bare_root}
-use Rattle.document_tags.proofs.Decided.{clean_none}
+use Rattle.document_tags.proofs.FirstRefusals.{clean_none}
 use Rattle.osol_grammar.specs.declared.limit.Limit.{Limit}
 use Rattle.osol_grammar.specs.declared.options.Options.{Options}
 use Rattle.osol_grammar.specs.declared.reading.Reading.{Reading}
-use Rattle.osol_grammar.specs.Limits.{all, row}
+use Rattle.osol_grammar.specs.Limits.{all, limit_row}
 use Rattle.osol_grammar.specs.Options.{root_path, job_path, option_path, IsOption, SaysAmount, amount}
 use Rattle.osol_grammar.specs.Refusals.{Decides}
 use Rattle.osol_grammar.specs.Meaning.{Say, IsOptionsText}
 use Rattle.osol_grammar.specs.Reading.{HasRead}
 use Rattle.osol_grammar.specs.Writing.{options_nodes, options_text}
-use Rattle.osol_grammar.specs.Back.{IsName, IsNameOrNone, ComesBack}
+use Rattle.osol_grammar.specs.Back.{IsJobName, IsNameOrNone, ComesBack}
 use Rattle.osol_grammar.proofs.LastTags.{last_none}
 use Rattle.osol_grammar.proofs.LimitTable.{made, amount_made, each_passes, put, put_own, put_others}
 use Rattle.osol_grammar.proofs.TagKinds.{IsRooted}
-use Rattle.osol_grammar.proofs.Taken.{taken_passed, taken_limit, taken_begin, taken_end}
+use Rattle.osol_grammar.proofs.TagSteps.{taken_passed, taken_limit, taken_begin, taken_end}
 use Rattle.osol_grammar.proofs.WrittenText.{text_document, text_not_blank}
 
 abbrev reading : Options → Bool → Reading
@@ -34,12 +34,12 @@ abbrev tag : Bool → List (List ℕ) → ℕ → List Attribute → List ℕ �
 tag is_start path n attributes text = record { is_start = is_start; path = path; ordinal = n; attributes = attributes; text = text }
 
 abbrev default : Limit → ℕ
-default l = (row l).default
+default l = (limit_row l).default
 
 -- nothing was read
 nothing_read : HasRead [] (reading (made None default) false)
 nothing_read = record {
-  says = record { clean = clean_none Decides; job = last_none (λ (t : Tag). ends job_path t ≡ true) (λ (t : Tag) (j : Option (List ℕ)). j ≡ unless_empty (trimmed t.text)) None None refl; limits = λ l. last_none (IsOption l) (SaysAmount l) (row l).default _ (amount_made None default l) };
+  says = record { clean = clean_none Decides; job = last_none (λ (t : Tag). ends job_path t ≡ true) (λ (t : Tag) (j : Option (List ℕ)). j ≡ unless_empty (trimmed t.text)) None None refl; limits = λ l. last_none (IsOption l) (SaysAmount l) (limit_row l).default _ (amount_made None default l) };
   begun = refl;
 }
 
@@ -67,15 +67,15 @@ abbrev general_path : List (List ℕ)
 general_path = in_osol (codes "general" ∷ [])
 
 abbrev option_of : Limit → ℕ → List Attribute
-option_of l n = with_attribute (codes "name") (row l).name (with_attribute (codes "value") (decimal n) (with_attribute (codes "solver") (codes "os_cert") []))
+option_of l n = with_attribute (codes "name") (limit_row l).name (with_attribute (codes "value") (decimal n) (with_attribute (codes "solver") (codes "os_cert") []))
 
 -- an option of a limit
 option_is : (l : Limit) (n k : ℕ) → IsOption l (tag true option_path k (option_of l n) [])
 option_is l n k = record { starts = refl; named = refl; meant = refl }
 
-amount_is : (l : Limit) (n k : ℕ) → (row l).least ≤ n → n ≤ (row l).most → SaysAmount l (tag true option_path k (option_of l n) []) n
+amount_is : (l : Limit) (n k : ℕ) → (limit_row l).least ≤ n → n ≤ (limit_row l).most → SaysAmount l (tag true option_path k (option_of l n) []) n
 amount_is l n k above below =
-    let most = leb-true (row l).most most_count (each_passes (λ m. leb (row m).most most_count) refl l) in
+    let most = leb-true (limit_row l).most most_count (each_passes (λ m. leb (limit_row m).most most_count) refl l) in
     (count_read n (omega (arith, below, most)), above, below)
 
 abbrev behind : List Tag → Tag → List Tag
@@ -94,7 +94,7 @@ with_amounts amounts o (l ∷ more) = with_amounts (put amounts l (amount o l)) 
 
 -- the amounts of these options may be
 abbrev AreWithin : Options → Type 0
-AreWithin o = (l : Limit) → ((row l).least ≤ amount o l) × (amount o l ≤ (row l).most)
+AreWithin o = (l : Limit) → ((limit_row l).least ≤ amount o l) × (amount o l ≤ (limit_row l).most)
 
 options_read : (ls : List Limit) (done : List Tag) (k : ℕ) (o : Options) (job : Option (List ℕ)) (amounts : Limit → ℕ) (has_job : Bool) → 0 < k → AreWithin o
     → HasRead done (reading (made job amounts) has_job) → HasRead (with_options done k o ls) (reading (made job (with_amounts amounts o ls)) has_job)
@@ -123,7 +123,7 @@ root_read : HasRead (tag true root_path 1 [] [] ∷ []) (reading (made None defa
 root_read = passed [] (tag true root_path 1 [] []) _ (λ root. let other = root.other in cc) refl refl refl nothing_read
 
 -- the job's name
-job_read : (name : List ℕ) → IsName name → HasRead (tag true root_path 1 [] [] ∷ tag true general_path 2 [] [] ∷ tag true job_path 3 [] [] ∷ tag false job_path 3 [] name ∷ tag false general_path 2 [] [] ∷ []) (reading (made (Some name) default) true)
+job_read : (name : List ℕ) → IsJobName name → HasRead (tag true root_path 1 [] [] ∷ tag true general_path 2 [] [] ∷ tag true job_path 3 [] [] ∷ tag false job_path 3 [] name ∷ tag false general_path 2 [] [] ∷ []) (reading (made (Some name) default) true)
 job_read name is =
     let a = passed _ (tag true general_path 2 [] []) _ (later _ 2 [] [] (lit< tt)) refl refl refl root_read in
     let b = taken_begin _ (tag true job_path 3 [] []) _ (reading (made None default) true) (later _ 3 [] [] (lit< tt)) refl refl refl refl a in

@@ -2,8 +2,8 @@
 use Rattle.std.proofs.Common.{◌≡◌, ◌∙◌, inl, inr, List, [], ◌∷◌, ◌++◌, refl, ap, sym, subst, append_assoc}
 use Rattle.std.proofs.lemmas.List.Elements.{All-nil, All-cons, All-append}
 use Rattle.document_tags.specs.Tags.{Tag}
-use Rattle.document_tags.proofs.Decided.{all_middle}
-use Rattle.osol_grammar.specs.Lasts.{AreOthers, LastSays}
+use Rattle.document_tags.proofs.FirstRefusals.{all_middle}
+use Rattle.osol_grammar.specs.LastTags.{AreOthers, LastSays}
 
 abbrev Other : (Tag → Type 0) → Tag → Type 0
 Other Is t = Is t → ⊥

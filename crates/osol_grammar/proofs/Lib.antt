@@ -1,10 +1,10 @@
 pub mod LastTags
 pub mod LimitTable
 pub mod TagKinds
-pub mod Taken
-pub mod ReadAll
+pub mod TagSteps
+pub mod AllTags
 pub mod WrittenLimits
 pub mod OneAnswer
 pub mod WrittenText
 pub mod BackTags
-pub mod Named
+pub mod JobName

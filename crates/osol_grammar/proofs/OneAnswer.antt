@@ -7,8 +7,8 @@ use Rattle.decimal_text.specs.Count.{IsCount}
 use Rattle.decimal_text.specs.Space.{trimmed}
 use Rattle.decimal_text.proofs.OneNumber.{count_once}
 use Rattle.document_tags.specs.Elements.{value_of, unless_empty}
-use Rattle.document_tags.specs.Tags.{Tag, ends, Place, tags, places}
-use Rattle.document_tags.proofs.Decided.{first_once, not_clean}
+use Rattle.document_tags.specs.Tags.{Tag, ends, Place, tags, tag_places}
+use Rattle.document_tags.proofs.FirstRefusals.{first_once, not_clean}
 use Rattle.document_tags.proofs.OneDocument.{document_once, fails_once, fails_apart}
 use Rattle.osol_grammar.specs.declared.fault.Refusal.{Refusal}
 use Rattle.osol_grammar.specs.declared.fault.Refusal.TheVariants.{Root, JobTwice, BadLimit, LongJob}
@@ -16,7 +16,7 @@ use Rattle.osol_grammar.specs.declared.fault.OsolFault.{OsolFault}
 use Rattle.osol_grammar.specs.declared.fault.OsolFault.TheVariants.{Tree, Refused, Memory}
 use Rattle.osol_grammar.specs.declared.limit.Limit.{Limit}
 use Rattle.osol_grammar.specs.declared.options.Options.{Options}
-use Rattle.osol_grammar.specs.Limits.{row}
+use Rattle.osol_grammar.specs.Limits.{limit_row}
 use Rattle.osol_grammar.specs.Options.{job_path, IsOption, SaysAmount, amount}
 use Rattle.osol_grammar.specs.Refusals.{number, Decides, IsRefused}
 use Rattle.osol_grammar.specs.Meaning.{Say, IsOptions, IsOptionsText}
@@ -34,7 +34,7 @@ amount_once l t n m h k = count_by (value_of (codes "value") t.attributes) n m h
 pub says_once : (ts : List Tag) (o p : Options) → Say ts o → Say ts p → o ≡ p
 says_once ts o p h k =
     same_options o p (last_once (λ (t : Tag). ends job_path t ≡ true) (λ (t : Tag) (j : Option (List ℕ)). j ≡ unless_empty (trimmed t.text)) None ts o.job p.job (λ t u v a b. a ∙ sym b) h.job k.job)
-    (λ l. last_once (IsOption l) (SaysAmount l) (row l).default ts (amount o l) (amount p l) (amount_once l) (h.limits l) (k.limits l))
+    (λ l. last_once (IsOption l) (SaysAmount l) (limit_row l).default ts (amount o l) (amount p l) (amount_once l) (h.limits l) (k.limits l))
 
 pub options_once : (root : Element) (o p : Options) → IsOptions root o → IsOptions root p → o ≡ p
 options_once root o p h k = says_once (tags root) o p h k
@@ -54,7 +54,7 @@ decided_once p LongJob LongJob n m same h k = (refl, h.1 ∙ sym k.1)
 decided_once p r q n m same h k = absurd (omega (arith, same))
 
 pub refused_once : (root : Element) (r q : Refusal) (n m : ℕ) → IsRefused root r n → IsRefused root q m → (r ≡ q) × (n ≡ m)
-refused_once root r q n m h k = first_once Decides number decided_once (places (tags root)) r q n m h k
+refused_once root r q n m h k = first_once Decides number decided_once (tag_places (tags root)) r q n m h k
 
 faults_once : (root : Element) (f g : OsolFault) → Refuses root f → Refuses root g → f ≡ g
 faults_once root (Refused r n) (Refused q m) h k = let one = refused_once root r q n m h k in ap₂ (λ (x : Refusal) (y : ℕ). Refused x y) one.0 one.1
@@ -69,7 +69,7 @@ refusal_once bytes f g other another (inr h) (inl k) = absurd (another k)
 refusal_once bytes f g other another (inr h) (inr k) = fails_once (λ (t : TreeFault). Tree t) Refuses faults_once bytes f g h.1 k.1
 
 pub root_apart : (root : Element) (o : Options) (r : Refusal) (n : ℕ) → IsOptions root o → IsRefused root r n → ⊥
-root_apart root o r n h k = not_clean Decides number (places (tags root)) r n h.clean k
+root_apart root o r n h k = not_clean Decides number (tag_places (tags root)) r n h.clean k
 
 fault_apart : (root : Element) (o : Options) (f : OsolFault) → IsOptions root o → Refuses root f → ⊥
 fault_apart root o (Tree t) h k = k

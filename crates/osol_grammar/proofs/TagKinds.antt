@@ -2,7 +2,7 @@
 use Rattle.std.proofs.Common.{◌≡◌, ℕ, true, false, List, refl}
 use Rattle.document_tags.specs.Tags.{Tag, begins, ends, place_of}
 use Rattle.document_tags.specs.Deciding.{DecidesNothing}
-use Rattle.document_tags.proofs.Apart.{begins_one, begins_not_ends, ends_not_begins, ends_not_start}
+use Rattle.document_tags.proofs.TagPaths.{begins_one, begins_not_ends, ends_not_begins, ends_not_start}
 use Rattle.osol_grammar.specs.declared.fault.Refusal.{Refusal}
 use Rattle.osol_grammar.specs.declared.fault.Refusal.TheVariants.{Root, JobTwice, BadLimit, LongJob}
 use Rattle.osol_grammar.specs.declared.limit.Limit.{Limit}

@@ -10,12 +10,12 @@ use Rattle.element_tree.proofs.XmlTexts.{is_printable}
 use Rattle.decimal_text.specs.Space.{is_space, without_leading_space, trimmed}
 use Rattle.document_tags.specs.Texts.{document_limit, IsDocument}
 use Rattle.document_tags.specs.Writing.{text_nodes, leaf, group, bare_root}
-use Rattle.document_tags.proofs.Printing.{fixed_text, number_text}
-use Rattle.document_tags.proofs.Flat.{AreFlat, none_flat, text_flat, element_flat, still_flat, root_is_document}
+use Rattle.document_tags.proofs.PrintableTexts.{fixed_text, number_text}
+use Rattle.document_tags.proofs.XmlNodes.{AreFlat, none_flat, text_flat, element_flat, still_flat, root_is_document}
 use Rattle.document_tags.proofs.Lengths.{nodes_size, decimal_size, written_short}
 use Rattle.osol_grammar.specs.declared.limit.Limit.{Limit}
 use Rattle.osol_grammar.specs.declared.options.Options.{Options}
-use Rattle.osol_grammar.specs.Limits.{all, row}
+use Rattle.osol_grammar.specs.Limits.{all, limit_row}
 use Rattle.osol_grammar.specs.Options.{amount}
 use Rattle.osol_grammar.specs.Writing.{job_nodes, option_nodes, limit_nodes, options_nodes, options_element, options_text}
 use Rattle.osol_grammar.specs.Back.{IsNameOrNone, ComesBack}
@@ -24,7 +24,7 @@ use Rattle.osol_grammar.proofs.LimitTable.{each_passes}
 limits_flat : (o : Options) (ls : List Limit) → AreFlat 1 (option_nodes o ls) (option_nodes o ls)
 limits_flat o [] = none_flat 1
 limits_flat o (l ∷ more) =
-    let name = fixed_text (row l).name (each_passes (λ k. list_all is_printable (row k).name) refl l) in
+    let name = fixed_text (limit_row l).name (each_passes (λ k. list_all is_printable (limit_row k).name) refl l) in
     element_flat 0 (codes "solverOption") _ none (option_nodes o more) none (option_nodes o more) refl (name, (number_text (amount o l), (fixed_text (codes "os_cert") refl, tt))) (none_flat 0) (limits_flat o more)
 
 -- what stands behind the job's name
@@ -55,7 +55,7 @@ limits_size : (o : Options) (ls : List Limit) → nodes_size (option_nodes o ls)
 limits_size o [] = omega arith
 limits_size o (l ∷ more) =
     let rest = limits_size o more in
-    let name = leb-true (length (row l).name) 50 (each_passes (λ k. leb (length (row k).name) 50) refl l) in
+    let name = leb-true (length (limit_row l).name) 50 (each_passes (λ k. leb (length (limit_row k).name) 50) refl l) in
     let digits = decimal_size (amount o l) in
     omega (arith, rest, name, digits)
 

@@ -4,11 +4,11 @@ use Rattle.tree_grammar.specs.Characters.{IsXmlText}
 use Rattle.decimal_text.specs.Space.{trimmed}
 use Rattle.osol_grammar.specs.declared.limit.Limit.{Limit}
 use Rattle.osol_grammar.specs.declared.options.Options.{Options}
-use Rattle.osol_grammar.specs.Limits.{row}
+use Rattle.osol_grammar.specs.Limits.{limit_row}
 use Rattle.osol_grammar.specs.Options.{amount}
 
 -- a job's name: characters of XML, one at least and of at most 256 bytes, with no white space round them
-pub record IsName (job : List ℕ) : Type 0 where
+pub record IsJobName (job : List ℕ) : Type 0 where
   pub some : job ≢ []
   pub short : length job ≤ 256
   pub bare : trimmed job ≡ job
@@ -16,10 +16,10 @@ pub record IsName (job : List ℕ) : Type 0 where
 
 abbrev pub IsNameOrNone : Option (List ℕ) → Type 0
 IsNameOrNone None = Unit {0}
-IsNameOrNone (Some job) = IsName job
+IsNameOrNone (Some job) = IsJobName job
 
 -- there is no job's name or it is one, and each limit is one that it may be
 pub record ComesBack (o : Options) : Type 0 where
   pub job : IsNameOrNone o.job
-  pub above : (l : Limit) → (row l).least ≤ amount o l
-  pub below : (l : Limit) → amount o l ≤ (row l).most
+  pub above : (l : Limit) → (limit_row l).least ≤ amount o l
+  pub below : (l : Limit) → amount o l ≤ (limit_row l).most

@@ -1,6 +1,6 @@
 pub mod Limits
 pub mod Options
-pub mod Lasts
+pub mod LastTags
 pub mod Refusals
 pub mod Meaning
 pub mod Texts

@@ -14,6 +14,6 @@ abbrev pub all : List Limit
 all = Nodes ∷ Turns ∷ []
 
 -- nodes of the tree of cases, and turns of the simplex method
-abbrev pub row : Limit → Row
-row Nodes = record { name = codes "nodeLimit"; least = 1; most = 1000000; default = 10000 }
-row Turns = record { name = codes "pivotLimit"; least = 1; most = 100000000; default = 1000000 }
+abbrev pub limit_row : Limit → Row
+limit_row Nodes = record { name = codes "nodeLimit"; least = 1; most = 1000000; default = 10000 }
+limit_row Turns = record { name = codes "pivotLimit"; least = 1; most = 100000000; default = 1000000 }

@@ -2,15 +2,15 @@
 use Rattle.std.specs.Prelude.{◌≡◌, ◌⊎◌, ℕ, true, Option, None, List, []}
 use Rattle.tree_grammar.specs.Elements.{Element}
 use Rattle.document_tags.specs.Elements.{unless_empty}
-use Rattle.document_tags.specs.Tags.{Tag, ends, tags, places}
+use Rattle.document_tags.specs.Tags.{Tag, ends, tags, tag_places}
 use Rattle.document_tags.specs.Deciding.{AreClean}
 use Rattle.document_tags.specs.Documents.{OfDocument}
 use Rattle.decimal_text.specs.Space.{trimmed}
 use Rattle.osol_grammar.specs.declared.limit.Limit.{Limit}
 use Rattle.osol_grammar.specs.declared.options.Options.{Options}
-use Rattle.osol_grammar.specs.Limits.{row}
+use Rattle.osol_grammar.specs.Limits.{limit_row}
 use Rattle.osol_grammar.specs.Options.{job_path, IsOption, SaysAmount, amount}
-use Rattle.osol_grammar.specs.Lasts.{LastSays}
+use Rattle.osol_grammar.specs.LastTags.{LastSays}
 use Rattle.osol_grammar.specs.Refusals.{Decides}
 
 -- the job's name that these tags say, without the white space round it; none where it is empty
@@ -19,11 +19,11 @@ SayJob ts job = LastSays (λ t. ends job_path t ≡ true) (λ t j. j ≡ unless_
 
 -- the amount that these tags say of a limit
 abbrev pub SayLimit : List Tag → Limit → ℕ → Type 0
-SayLimit ts l n = LastSays (IsOption l) (SaysAmount l) (row l).default ts n
+SayLimit ts l n = LastSays (IsOption l) (SaysAmount l) (limit_row l).default ts n
 
 -- nothing of these tags is refused, and they say these options
 pub record Say (ts : List Tag) (o : Options) : Type 0 where
-  pub clean : AreClean Decides (places ts)
+  pub clean : AreClean Decides (tag_places ts)
   pub job : SayJob ts o.job
   pub limits : (l : Limit) → SayLimit ts l (amount o l)
 
@@ -34,7 +34,7 @@ IsOptions root o = Say (tags root) o
 -- no options: no job's name, and each limit by default
 pub record IsNoOptions (o : Options) : Type 0 where
   pub job : o.job ≡ None
-  pub limits : (l : Limit) → amount o l ≡ (row l).default
+  pub limits : (l : Limit) → amount o l ≡ (limit_row l).default
 
 -- white space alone, or nothing
 abbrev pub IsBlank : List ℕ → Type 0

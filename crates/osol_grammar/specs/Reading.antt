@@ -2,7 +2,7 @@
 use Rattle.std.specs.Prelude.{◌≡◌, ◌⊎◌, ℕ, ◌≤◌, Result, MatchResult, List, [], ◌∷◌, ◌++◌}
 use Rattle.std.specs.List.{list_any}
 use Rattle.tree_grammar.specs.Elements.{Element}
-use Rattle.document_tags.specs.Tags.{Tag, begins, Place, place_of, places}
+use Rattle.document_tags.specs.Tags.{Tag, begins, Place, place_of, tag_places}
 use Rattle.document_tags.specs.Deciding.{IsFirstDecided}
 use Rattle.document_tags.specs.Documents.{Fails}
 use Rattle.osol_grammar.specs.declared.fault.Refusal.{Refusal}
@@ -15,10 +15,10 @@ use Rattle.osol_grammar.specs.Refusals.{number, Decides, IsRefused}
 use Rattle.osol_grammar.specs.Meaning.{Say, IsBlank}
 
 -- the fault is a refusal of which this holds, and of its ordinal; or there was no memory
-abbrev pub Tells : OsolFault → (Refusal → ℕ → Type 0) → Type 0
-Tells (Tree f) P = ⊥
-Tells (Refused r n) P = P r n
-Tells Memory P = Unit {0}
+abbrev pub TellsRefusal : OsolFault → (Refusal → ℕ → Type 0) → Type 0
+TellsRefusal (Tree f) P = ⊥
+TellsRefusal (Refused r n) P = P r n
+TellsRefusal Memory P = Unit {0}
 
 -- the fault is the refusal of the document with this root
 abbrev pub Refuses : Element → OsolFault → Type 0
@@ -41,9 +41,9 @@ pub record IsLeast (p : Place) (r : Refusal) (n : ℕ) : Type 0 where
   pub least : (q : Refusal) (m : ℕ) → Decides p q m → number r ≤ number q
 
 -- whatever tags were read before, this one was read too; or what is decided at it is told
-abbrev pub Takes : {X : Type 0} → Result X OsolFault → Tag → Reading → Reading → Type 0
-Takes {X} result t old new = (done : List Tag) → HasRead done old → MatchResult result (λ x. HasRead (done ++ t ∷ []) new) (λ f. Tells f (IsLeast (place_of done t)))
+abbrev pub TakesTag : {X : Type 0} → Result X OsolFault → Tag → Reading → Reading → Type 0
+TakesTag {X} result t old new = (done : List Tag) → HasRead done old → MatchResult result (λ x. HasRead (done ++ t ∷ []) new) (λ f. TellsRefusal f (IsLeast (place_of done t)))
 
 -- these tags say these options, or what is decided first is told
 abbrev pub ReadsAll : Result Options OsolFault → List Tag → Type 0
-ReadsAll result ts = MatchResult result (Say ts) (λ f. Tells f (IsFirstDecided Decides number (places ts)))
+ReadsAll result ts = MatchResult result (Say ts) (λ f. TellsRefusal f (IsFirstDecided Decides number (tag_places ts)))

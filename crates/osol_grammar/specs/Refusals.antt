@@ -2,7 +2,7 @@
 use Rattle.std.specs.Prelude.{◌≡◌, ℕ, ◌<◌, true, false, length}
 use Rattle.std.specs.List.{list_any}
 use Rattle.tree_grammar.specs.Elements.{Element}
-use Rattle.document_tags.specs.Tags.{Tag, begins, ends, tags, Place, places}
+use Rattle.document_tags.specs.Tags.{Tag, begins, ends, tags, Place, tag_places}
 use Rattle.document_tags.specs.Deciding.{IsFirstDecided}
 use Rattle.decimal_text.specs.Space.{trimmed}
 use Rattle.osol_grammar.specs.declared.fault.Refusal.{Refusal}
@@ -46,4 +46,4 @@ Decides p LongJob n = DecidesLongJob p.tag × (n ≡ p.tag.ordinal)
 
 -- the document with this root is refused, at the element with this ordinal
 abbrev pub IsRefused : Element → Refusal → ℕ → Type 0
-IsRefused root r n = IsFirstDecided Decides number (places (tags root)) r n
+IsRefused root r n = IsFirstDecided Decides number (tag_places (tags root)) r n

@@ -3,11 +3,11 @@ use Rattle.std.specs.Prelude.{ℕ, Option, None, Some, List, [], ◌∷◌, code
 use Rattle.std.specs.Fmt.{decimal}
 use Rattle.tree_grammar.specs.Elements as tree
 use Rattle.tree_grammar.specs.Elements.{none, element, Element}
-use Rattle.tree_grammar.specs.Written.{written}
+use Rattle.tree_grammar.specs.WrittenText.{written}
 use Rattle.document_tags.specs.Writing.{with_attribute, leaf, group, rooted}
 use Rattle.osol_grammar.specs.declared.limit.Limit.{Limit}
 use Rattle.osol_grammar.specs.declared.options.Options.{Options}
-use Rattle.osol_grammar.specs.Limits.{all, row}
+use Rattle.osol_grammar.specs.Limits.{all, limit_row}
 use Rattle.osol_grammar.specs.Options.{amount}
 
 -- the job's name, if there is one, and then more
@@ -17,7 +17,7 @@ job_nodes (Some job) more = group (codes "general") (leaf (codes "jobID") job no
 
 -- the option of a limit, and then more
 abbrev pub limit_node : Options → Limit → tree.Nodes → tree.Nodes
-limit_node o l more = element (codes "solverOption") (with_attribute (codes "name") (row l).name (with_attribute (codes "value") (decimal (amount o l)) (with_attribute (codes "solver") (codes "os_cert") []))) none more
+limit_node o l more = element (codes "solverOption") (with_attribute (codes "name") (limit_row l).name (with_attribute (codes "value") (decimal (amount o l)) (with_attribute (codes "solver") (codes "os_cert") []))) none more
 
 -- the options of these limits
 abbrev pub option_nodes : Options → List Limit → tree.Nodes

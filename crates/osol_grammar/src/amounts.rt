@@ -2,7 +2,7 @@
 
 ghost use Rattle.std.specs.Prelude.{◌≡◌, ◌↔◌, ◌<◌, ℕ, IsTrue, IfSome, MatchOption, codes, length};
 ghost use Rattle.document_tags.specs.Elements.{value_of};
-ghost use Rattle.document_tags.specs.Coming.{coming};
+ghost use Rattle.document_tags.specs.NextTags.{coming};
 ghost use Rattle.osol_grammar.specs.declared.limit.Limit as kinds;
 ghost use Rattle.osol_grammar.specs.Limits as table;
 ghost use Rattle.osol_grammar.specs.Options.{IsOption, SaysAmount};
@@ -16,7 +16,7 @@ const OPTION: [&[u8]; 4] = [b"osol", b"optimization", b"solverOptions", b"solver
 
 /// The limit whose option has this name, if there is one.
 fn limit_named(name: &[u8]) -> Option<Limit>
-    ensures { MatchOption result ((l : kinds.Limit) → name.now ≡ (table.row l).name → ⊥) (λ l. name.now ≡ (table.row l).name) }
+    ensures { MatchOption result ((l : kinds.Limit) → name.now ≡ (table.limit_row l).name → ⊥) (λ l. name.now ≡ (table.limit_row l).name) }
 {
     for limit in LIMITS {
         if name == limit.row().name {

@@ -28,10 +28,10 @@ impl Limit {
 
     /// What is known of it.
     pub(crate) fn row(self) -> Row
-        ensures name { result.name.now ≡ (table.row self).name }
-        ensures least { result.least ≡ (table.row self).least }
-        ensures most { result.most ≡ (table.row self).most }
-        ensures default { result.default ≡ (table.row self).default }
+        ensures name { result.name.now ≡ (table.limit_row self).name }
+        ensures least { result.least ≡ (table.limit_row self).least }
+        ensures most { result.most ≡ (table.limit_row self).most }
+        ensures default { result.default ≡ (table.limit_row self).default }
     {
         match self {
             Limit::Nodes => Row {

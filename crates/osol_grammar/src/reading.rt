@@ -3,11 +3,11 @@
 ghost use Rattle.std.specs.Prelude.{◌≡◌, ◌↔◌, ◌<◌, IsTrue, IfOk, true, [], length};
 ghost use Rattle.document_tags.specs.Elements.{unless_empty};
 ghost use Rattle.document_tags.specs.Tags.{begins, ends};
-ghost use Rattle.document_tags.specs.Coming.{coming};
+ghost use Rattle.document_tags.specs.NextTags.{coming};
 ghost use Rattle.osol_grammar.specs.declared.fault.OsolFault.TheVariants as faults;
 ghost use Rattle.osol_grammar.specs.Options.{job_path, IsOption};
 ghost use Rattle.osol_grammar.specs.Refusals.{DecidesRoot};
-ghost use Rattle.osol_grammar.specs.Reading.{HasRead, Takes, ReadsAll};
+ghost use Rattle.osol_grammar.specs.Reading.{HasRead, TakesTag, ReadsAll};
 
 use crate::amounts::{amount_of, limit_of};
 use crate::fault::{OsolFault, Refusal};
@@ -67,7 +67,7 @@ fn take_limit(tags: &Tags<'_>, limit: Limit, reading: &mut Reading) -> Result<()
     requires some { 0 < length tags.now }
     requires root { DecidesRoot (coming tags.now) → ⊥ }
     requires option { IsOption limit (coming tags.now) }
-    ensures { Takes result (coming tags.now) reading.old reading.new }
+    ensures { TakesTag result (coming tags.now) reading.old reading.new }
 {
     match amount_of(tags, limit) {
         Some(amount) => {
@@ -83,7 +83,7 @@ fn begin_job(tags: &Tags<'_>, reading: &mut Reading) -> Result<(), OsolFault>
     requires some { 0 < length tags.now }
     requires root { DecidesRoot (coming tags.now) → ⊥ }
     requires job { begins job_path (coming tags.now) ≡ true }
-    ensures { Takes result (coming tags.now) reading.old reading.new }
+    ensures { TakesTag result (coming tags.now) reading.old reading.new }
 {
     if reading.has_job {
         return Err(refused(tags, Refusal::JobTwice));
@@ -106,7 +106,7 @@ fn copied(alloc: Global, text: &[u8]) -> Result<Option<Text>, Memory>
 fn end_job(alloc: Global, tags: &Tags<'_>, reading: &mut Reading) -> Result<(), OsolFault>
     requires some { 0 < length tags.now }
     requires job { ends job_path (coming tags.now) ≡ true }
-    ensures { Takes result (coming tags.now) reading.old reading.new }
+    ensures { TakesTag result (coming tags.now) reading.old reading.new }
 {
     let name = trim(tags.own_text());
     if name.len() > MOST_OF_JOB {
@@ -120,7 +120,7 @@ fn end_job(alloc: Global, tags: &Tags<'_>, reading: &mut Reading) -> Result<(), 
 /// Takes the tag that comes next.
 fn take(alloc: Global, tags: &Tags<'_>, reading: &mut Reading) -> Result<(), OsolFault>
     requires { 0 < length tags.now }
-    ensures { Takes result (coming tags.now) reading.old reading.new }
+    ensures { TakesTag result (coming tags.now) reading.old reading.new }
 {
     if is_other_root(tags) {
         return Err(refused(tags, Refusal::Root));

@@ -2,7 +2,7 @@
 
 ghost use Rattle.std.specs.Prelude.{◌≡◌, [], OnOk, IfOk};
 ghost use Rattle.tree_grammar.specs.Elements.{none, nodes_events};
-ghost use Rattle.document_tags.specs.Telling.{Told, whole};
+ghost use Rattle.document_tags.specs.Telling.{Told, whole_element};
 ghost use Rattle.osol_grammar.specs.Writing as writing;
 
 use crate::limit::{LIMITS, Limit};
@@ -53,7 +53,7 @@ fn tell_limits(b: &mut TreeBuilder, options: &Options) -> Result<(), Memory>
 /// Tells a whole document.
 fn tell_options(b: &mut TreeBuilder, options: &Options) -> Result<(), Memory>
     requires { b.old.attributes ≡ [] }
-    ensures { OnOk result (Told b.old b.new (whole (writing.options_element options.now))) }
+    ensures { OnOk result (Told b.old b.new (whole_element (writing.options_element options.now))) }
 {
     open_with(b, b"osol", b"xmlns", b"os.optimizationservices.org")?;
     tell_job(b, &options.job)?;

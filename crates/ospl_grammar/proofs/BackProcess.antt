@@ -6,25 +6,25 @@ use Rattle.document_tags.specs.Elements.{named}
 use Rattle.document_tags.specs.Rests.{child_elements}
 use Rattle.document_tags.specs.Writing.{bare_root}
 use Rattle.decimal_text.specs.Count.{IsCount, most_count}
-use Rattle.decimal_text.proofs.ReadBack.{count_read}
-use Rattle.document_tags.proofs.OnlyOne.{text_own}
+use Rattle.decimal_text.proofs.RoundTrips.{count_read}
+use Rattle.document_tags.proofs.OneChild.{text_own}
 use Rattle.ospl_grammar.specs.declared.process.StatedJob.{StatedJob}
 use Rattle.ospl_grammar.specs.declared.process.Process.{Process}
 use Rattle.ospl_grammar.specs.declared.process.Process.TheVariants.{Ask, Statistics}
 use Rattle.ospl_grammar.specs.Words.{busy_text, state_text}
 use Rattle.ospl_grammar.specs.Meaning.{IsJob, Says, IsProcessText}
-use Rattle.ospl_grammar.specs.Writing.{job_nodes, process_nodes, process_text}
-use Rattle.ospl_grammar.specs.Back.{IsReadable, ComesBack}
+use Rattle.ospl_grammar.specs.Writing.{jobs_nodes, process_nodes, process_text}
+use Rattle.ospl_grammar.specs.Back.{IsReadableProcess, ComesBack}
 use Rattle.ospl_grammar.proofs.BackText.{text_document}
 
-jobs_said : (jobs : List StatedJob) → AllZip IsJob (named (codes "job") (child_elements (job_nodes jobs))) jobs
+jobs_said : (jobs : List StatedJob) → AllZip IsJob (named (codes "job") (child_elements (jobs_nodes jobs))) jobs
 jobs_said [] = tt
 jobs_said (j ∷ more) = (record { id = refl; state = ap (λ (t : List ℕ). Some t) (text_own (state_text j.state)) }, jobs_said more)
 
 number_said : (n : ℕ) → n ≤ most_count → IsCount (decimal n) n
 number_said n few = count_read n few
 
-process_said : (p : Process) → IsReadable p → Says (bare_root (codes "ospl") (process_nodes p)) p
+process_said : (p : Process) → IsReadableProcess p → Says (bare_root (codes "ospl") (process_nodes p)) p
 process_said (Ask text) is = refl
 process_said (Statistics busy current total jobs) is =
     let low = is.0 in

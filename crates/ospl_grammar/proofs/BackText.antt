@@ -8,16 +8,16 @@ use Rattle.tree_grammar.specs.Elements as tree
 use Rattle.tree_grammar.specs.Elements.{none, element}
 use Rattle.document_tags.specs.Texts.{IsDocument}
 use Rattle.document_tags.specs.Writing.{only, text_nodes, leaf, group, bare_root}
-use Rattle.document_tags.proofs.Printing.{fixed_text, number_text}
-use Rattle.document_tags.proofs.Flat.{AreFlat, none_flat, text_flat, element_flat, still_flat, root_is_document}
+use Rattle.document_tags.proofs.PrintableTexts.{fixed_text, number_text}
+use Rattle.document_tags.proofs.XmlNodes.{AreFlat, none_flat, text_flat, element_flat, still_flat, root_is_document}
 use Rattle.ospl_grammar.specs.declared.process.JobState.{JobState}
 use Rattle.ospl_grammar.specs.declared.process.JobState.TheVariants.{Issued, Waiting, Running, Finished, Killed}
 use Rattle.ospl_grammar.specs.declared.process.StatedJob.{StatedJob}
 use Rattle.ospl_grammar.specs.declared.process.Process.{Process}
 use Rattle.ospl_grammar.specs.declared.process.Process.TheVariants.{Ask, Statistics}
 use Rattle.ospl_grammar.specs.Words.{busy_text, state_text}
-use Rattle.ospl_grammar.specs.Writing.{number_leaf, job_nodes, statistics_nodes, process_nodes, process_text}
-use Rattle.ospl_grammar.specs.Back.{IsReadable, ComesBack}
+use Rattle.ospl_grammar.specs.Writing.{number_leaf, jobs_nodes, statistics_nodes, process_nodes, process_text}
+use Rattle.ospl_grammar.specs.Back.{IsReadableProcess, ComesBack}
 
 abbrev Flat : ℕ → tree.Nodes → Type 0
 Flat n nodes = AreFlat n nodes nodes
@@ -33,21 +33,21 @@ state_xml Running = fixed_text (codes "running") refl
 state_xml Finished = fixed_text (codes "finished") refl
 state_xml Killed = fixed_text (codes "killed") refl
 
-jobs_flat : (jobs : List StatedJob) → All (λ j. IsXmlText j.id) jobs → Flat 2 (job_nodes jobs)
+jobs_flat : (jobs : List StatedJob) → All (λ j. IsXmlText j.id) jobs → Flat 2 (jobs_nodes jobs)
 jobs_flat [] xml = none_flat 2
 jobs_flat (j ∷ more) xml =
     let state : Flat 1 (leaf (codes "state") (state_text j.state) none) = element_flat 0 (codes "state") [] (text_nodes (state_text j.state)) none (text_nodes (state_text j.state)) none refl tt (text_flat 0 (state_text j.state) (state_xml j.state)) (none_flat 1) in
-    element_flat 1 (codes "job") (only (codes "jobID") j.id) (leaf (codes "state") (state_text j.state) none) (job_nodes more) (leaf (codes "state") (state_text j.state) none) (job_nodes more) refl (All-head (λ i. IsXmlText i.id) j more xml, tt) state
+    element_flat 1 (codes "job") (only (codes "jobID") j.id) (leaf (codes "state") (state_text j.state) none) (jobs_nodes more) (leaf (codes "state") (state_text j.state) none) (jobs_nodes more) refl (All-head (λ i. IsXmlText i.id) j more xml, tt) state
     (jobs_flat more (All-tail (λ i. IsXmlText i.id) j more xml))
 
 statistics_flat : (busy : Bool) (current total : ℕ) (jobs : List StatedJob) → All (λ j. IsXmlText j.id) jobs → Flat 3 (statistics_nodes busy current total jobs)
 statistics_flat busy current total jobs xml =
-    let listed : Flat 3 (group (codes "jobs") (job_nodes jobs) none) = element_flat 2 (codes "jobs") [] (job_nodes jobs) none (job_nodes jobs) none refl tt (jobs_flat jobs xml) (none_flat 3) in
-    let so_far : Flat 3 (number_leaf (codes "totalJobsSoFar") total (group (codes "jobs") (job_nodes jobs) none)) = element_flat 2 (codes "totalJobsSoFar") [] (text_nodes (decimal total)) _ (text_nodes (decimal total)) _ refl tt (text_flat 2 (decimal total) (number_text total)) listed in
-    let now : Flat 3 (number_leaf (codes "currentJobCount") current (number_leaf (codes "totalJobsSoFar") total (group (codes "jobs") (job_nodes jobs) none))) = element_flat 2 (codes "currentJobCount") [] (text_nodes (decimal current)) _ (text_nodes (decimal current)) _ refl tt (text_flat 2 (decimal current) (number_text current)) so_far in
+    let listed : Flat 3 (group (codes "jobs") (jobs_nodes jobs) none) = element_flat 2 (codes "jobs") [] (jobs_nodes jobs) none (jobs_nodes jobs) none refl tt (jobs_flat jobs xml) (none_flat 3) in
+    let so_far : Flat 3 (number_leaf (codes "totalJobsSoFar") total (group (codes "jobs") (jobs_nodes jobs) none)) = element_flat 2 (codes "totalJobsSoFar") [] (text_nodes (decimal total)) _ (text_nodes (decimal total)) _ refl tt (text_flat 2 (decimal total) (number_text total)) listed in
+    let now : Flat 3 (number_leaf (codes "currentJobCount") current (number_leaf (codes "totalJobsSoFar") total (group (codes "jobs") (jobs_nodes jobs) none))) = element_flat 2 (codes "currentJobCount") [] (text_nodes (decimal current)) _ (text_nodes (decimal current)) _ refl tt (text_flat 2 (decimal current) (number_text current)) so_far in
     element_flat 2 (codes "currentState") [] (text_nodes (busy_text busy)) _ (text_nodes (busy_text busy)) _ refl tt (text_flat 2 (busy_text busy) (busy_xml busy)) now
 
-process_flat : (p : Process) → IsReadable p → Flat 5 (process_nodes p)
+process_flat : (p : Process) → IsReadableProcess p → Flat 5 (process_nodes p)
 process_flat (Ask text) is =
     let request : Flat 4 (element (codes "request") (only (codes "action") text) none none) = element_flat 3 (codes "request") (only (codes "action") text) none none none none refl (is, tt) (none_flat 3) (none_flat 4) in
     element_flat 4 (codes "processHeader") [] _ none _ none refl tt request (none_flat 5)

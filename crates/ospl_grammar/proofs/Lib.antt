@@ -1,8 +1,8 @@
-pub mod Stated
-pub mod Counted
-pub mod Listed
-pub mod Whole
-pub mod Asked
+pub mod OneJob
+pub mod Numbers
+pub mod JobLists
+pub mod WholeStatistics
+pub mod Roots
 pub mod OneProcess
 pub mod OneRefusal
 pub mod BackText

@@ -5,14 +5,14 @@ use Rattle.std.specs.List.{AllZip}
 use Rattle.tree_grammar.specs.Elements.{Element}
 use Rattle.document_tags.specs.Elements.{children_named}
 use Rattle.document_tags.proofs.OneDocument.{document_once}
-use Rattle.document_tags.specs.Only.{only_child}
+use Rattle.document_tags.specs.OneChild.{only_child}
 use Rattle.ospl_grammar.specs.declared.process.StatedJob.{StatedJob}
 use Rattle.ospl_grammar.specs.declared.process.Process.{Process}
 use Rattle.ospl_grammar.specs.declared.process.Process.TheVariants.{Ask, Statistics}
 use Rattle.ospl_grammar.specs.Words.{busy_text}
 use Rattle.ospl_grammar.specs.Meaning.{IsJob, SaysStatistics, IsFirstWhole, AskOrTell, requests, statistics, IsProcess, IsProcessText}
-use Rattle.ospl_grammar.proofs.Stated.{same_some, jobs_once}
-use Rattle.ospl_grammar.proofs.Counted.{number_once}
+use Rattle.ospl_grammar.proofs.OneJob.{same_some, jobs_once}
+use Rattle.ospl_grammar.proofs.Numbers.{number_once}
 
 busy_back : (busy : Bool) → bytes_eq (busy_text busy) (codes "busy") ≡ busy
 busy_back true = refl

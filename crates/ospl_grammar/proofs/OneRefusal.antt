@@ -7,9 +7,9 @@ use Rattle.document_tags.proofs.OneDocument.{fails_once, fails_apart}
 use Rattle.ospl_grammar.specs.declared.fault.OsplFault.{OsplFault}
 use Rattle.ospl_grammar.specs.declared.fault.OsplFault.TheVariants.{Tree, Root, Missing, Memory}
 use Rattle.ospl_grammar.specs.declared.process.Process.{Process}
-use Rattle.ospl_grammar.specs.Meaning.{IsWhole, AskOrTell, requests, statistics, IsProcess, IsProcessText}
+use Rattle.ospl_grammar.specs.Meaning.{AreWhole, AskOrTell, requests, statistics, IsProcess, IsProcessText}
 use Rattle.ospl_grammar.specs.Refusals.{IsRefused, DecodeFails}
-use Rattle.ospl_grammar.proofs.Whole.{whole_among}
+use Rattle.ospl_grammar.proofs.WholeStatistics.{whole_among}
 use Rattle.ospl_grammar.proofs.OneProcess.{process_text_once}
 
 pub refused_once : (root : Element) (f g : OsplFault) → IsRefused root f → IsRefused root g → f ≡ g
@@ -24,7 +24,7 @@ refused_once root Missing Memory a b = absurd b
 refused_once root Missing Root a b = absurd (b a.0)
 refused_once root Missing Missing a b = refl
 
-silent_says : (rs ds : List Element) (p : Process) → rs ≡ [] → All (λ e. IsWhole e → ⊥) ds → AskOrTell rs ds p → ⊥
+silent_says : (rs ds : List Element) (p : Process) → rs ≡ [] → All (λ e. AreWhole e → ⊥) ds → AskOrTell rs ds p → ⊥
 silent_says [] ds p none never says = whole_among ds p never says
 silent_says (r ∷ more) ds p none never says = cc
 

@@ -9,11 +9,11 @@ use Rattle.ospl_grammar.specs.declared.process.Process.TheVariants.{Ask, Statist
 use Rattle.ospl_grammar.specs.Writing.{process_text}
 
 -- texts are characters of XML, and numbers within their limits
-abbrev pub IsReadable : Process → Type 0
-IsReadable (Ask text) = IsXmlText text
-IsReadable (Statistics busy current total jobs) = (current < 2 ^ 32) × (total ≤ most_count) × All (λ j. IsXmlText j.id) jobs
+abbrev pub IsReadableProcess : Process → Type 0
+IsReadableProcess (Ask text) = IsXmlText text
+IsReadableProcess (Statistics busy current total jobs) = (current < 2 ^ 32) × (total ≤ most_count) × All (λ j. IsXmlText j.id) jobs
 
 -- and the text isn't too long
 pub record ComesBack (p : Process) : Type 0 where
-  pub readable : IsReadable p
+  pub readable : IsReadableProcess p
   pub short : length (process_text p) ≤ document_limit

@@ -5,7 +5,7 @@ use Rattle.tree_grammar.specs.Elements.{Element}
 use Rattle.document_tags.specs.Elements.{attribute, children_named, within}
 use Rattle.document_tags.specs.Documents.{OfDocument}
 use Rattle.decimal_text.specs.Count.{IsCount}
-use Rattle.document_tags.specs.Only.{only_child, only_text}
+use Rattle.document_tags.specs.OneChild.{only_child, only_text}
 use Rattle.ospl_grammar.specs.declared.process.StatedJob.{StatedJob}
 use Rattle.ospl_grammar.specs.declared.process.Process.{Process}
 use Rattle.ospl_grammar.specs.declared.process.Process.TheVariants.{Ask, Statistics}
@@ -58,13 +58,13 @@ abbrev pub SaysStatistics : Element → Process → Type 0
 SaysStatistics e (Ask text) = ⊥
 SaysStatistics e (Statistics busy current total jobs) = SaysBusy e busy × SaysCurrent e current × SaysTotal e total × AreJobs e jobs
 
-abbrev pub IsWhole : Element → Type 0
-IsWhole e = (p : Process) × SaysStatistics e p
+abbrev pub AreWhole : Element → Type 0
+AreWhole e = (p : Process) × SaysStatistics e p
 
 -- the first of these statistics that are whole say this
 abbrev pub IsFirstWhole : List Element → Process → Type 0
 IsFirstWhole [] p = ⊥
-IsFirstWhole (e ∷ more) p = SaysStatistics e p ⊎ ((IsWhole e → ⊥) × IsFirstWhole more p)
+IsFirstWhole (e ∷ more) p = SaysStatistics e p ⊎ ((AreWhole e → ⊥) × IsFirstWhole more p)
 
 -- the first of these requests, if there is one, and else the first whole statistics
 abbrev pub AskOrTell : List Element → List Element → Process → Type 0

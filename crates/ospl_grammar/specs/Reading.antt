@@ -2,7 +2,7 @@
 use Rattle.std.specs.Prelude.{◌≡◌, ◌⊎◌, Some, codes}
 use Rattle.tree_grammar.specs.Elements.{Element}
 use Rattle.ospl_grammar.specs.declared.process.JobState.{JobState}
-use Rattle.document_tags.specs.Only.{only_text}
+use Rattle.document_tags.specs.OneChild.{only_text}
 use Rattle.ospl_grammar.specs.declared.fault.OsplFault.{OsplFault}
 use Rattle.ospl_grammar.specs.declared.fault.OsplFault.TheVariants.{Memory}
 use Rattle.ospl_grammar.specs.Words.{state_text}

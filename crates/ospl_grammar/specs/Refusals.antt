@@ -5,12 +5,12 @@ use Rattle.tree_grammar.specs.Elements.{Element}
 use Rattle.document_tags.specs.Documents.{Fails}
 use Rattle.ospl_grammar.specs.declared.fault.OsplFault.{OsplFault}
 use Rattle.ospl_grammar.specs.declared.fault.OsplFault.TheVariants.{Tree, Root, Missing, Memory}
-use Rattle.ospl_grammar.specs.Meaning.{IsNamed, requests, statistics, IsWhole}
+use Rattle.ospl_grammar.specs.Meaning.{IsNamed, requests, statistics, AreWhole}
 
 -- nothing is asked, and no statistics are whole
 pub record IsSilent (root : Element) : Type 0 where
   pub asks : requests root ≡ []
-  pub tells : All (λ e. IsWhole e → ⊥) (statistics root)
+  pub tells : All (λ e. AreWhole e → ⊥) (statistics root)
 
 -- the document with this root is refused; the tree's own refusals come before, and want of memory is none
 abbrev pub IsRefused : Element → OsplFault → Type 0

@@ -2,7 +2,7 @@
 use Rattle.std.specs.Prelude.{ℕ, Bool, List, [], ◌∷◌, codes, decimal}
 use Rattle.tree_grammar.specs.Elements as tree
 use Rattle.tree_grammar.specs.Elements.{none, element, Element}
-use Rattle.tree_grammar.specs.Written.{written}
+use Rattle.tree_grammar.specs.WrittenText.{written}
 use Rattle.document_tags.specs.Writing.{only, leaf, group, rooted}
 use Rattle.ospl_grammar.specs.declared.process.StatedJob.{StatedJob}
 use Rattle.ospl_grammar.specs.declared.process.Process.{Process}
@@ -14,13 +14,13 @@ abbrev pub number_leaf : List ℕ → ℕ → tree.Nodes → tree.Nodes
 number_leaf name n more = leaf name (decimal n) more
 
 -- jobs, each with its name and its state
-abbrev pub job_nodes : List StatedJob → tree.Nodes
-job_nodes [] = none
-job_nodes (j ∷ more) = element (codes "job") (only (codes "jobID") j.id) (leaf (codes "state") (state_text j.state) none) (job_nodes more)
+abbrev pub jobs_nodes : List StatedJob → tree.Nodes
+jobs_nodes [] = none
+jobs_nodes (j ∷ more) = element (codes "job") (only (codes "jobID") j.id) (leaf (codes "state") (state_text j.state) none) (jobs_nodes more)
 
 -- the four parts of statistics
 abbrev pub statistics_nodes : Bool → ℕ → ℕ → List StatedJob → tree.Nodes
-statistics_nodes busy current total jobs = leaf (codes "currentState") (busy_text busy) (number_leaf (codes "currentJobCount") current (number_leaf (codes "totalJobsSoFar") total (group (codes "jobs") (job_nodes jobs) none)))
+statistics_nodes busy current total jobs = leaf (codes "currentState") (busy_text busy) (number_leaf (codes "currentJobCount") current (number_leaf (codes "totalJobsSoFar") total (group (codes "jobs") (jobs_nodes jobs) none)))
 
 -- what stands in the root
 abbrev pub process_nodes : Process → tree.Nodes

@@ -3,9 +3,9 @@
 ghost use Rattle.std.specs.Prelude.{◌≡◌, List, IfOk, codes};
 ghost use Rattle.std.specs.List.{AllZip};
 ghost use Rattle.tree_grammar.specs.Elements.{Element};
-ghost use Rattle.document_tags.specs.Spots.{Stands, AreSpots};
+ghost use Rattle.document_tags.specs.Spots.{StandsAt, AreSpots};
 ghost use Rattle.ospl_grammar.specs.Meaning.{IsJob, AreJobs};
-ghost use Rattle.document_tags.specs.Only.{IsOnly};
+ghost use Rattle.document_tags.specs.OneChild.{IsOnly};
 ghost use Rattle.ospl_grammar.specs.Reading.{SaysState};
 
 use crate::process::{JobState, JobStates, StatedJob};
@@ -17,7 +17,7 @@ use std::alloc::Global;
 
 /// The state of a job, if that is said by one of the five words.
 fn read_state(alloc: Global, spot: Spot<'_>) -> Result<Option<JobState>, Memory>
-    ensures { (e : Element) → Stands spot.entry e → IfOk result (IsOnly (SaysState e)) }
+    ensures { (e : Element) → StandsAt spot.entry e → IfOk result (IsOnly (SaysState e)) }
 {
     let Some(word) = only_text(alloc, spot, b"state")? else {
         return Ok(None);
@@ -27,7 +27,7 @@ fn read_state(alloc: Global, spot: Spot<'_>) -> Result<Option<JobState>, Memory>
 
 /// A job, if the element says one.
 fn read_job(alloc: Global, spot: Spot<'_>) -> Result<Option<StatedJob>, Memory>
-    ensures { (e : Element) → Stands spot.entry e → IfOk result (IsOnly (IsJob e)) }
+    ensures { (e : Element) → StandsAt spot.entry e → IfOk result (IsOnly (IsJob e)) }
 {
     let Some(id) = spot.attribute(b"jobID") else {
         return Ok(None);
@@ -55,7 +55,7 @@ fn read_each(alloc: Global, spots: &[Spot<'_>]) -> Result<Option<JobStates>, Mem
 
 /// The jobs of statistics, if they stand in one element that says them.
 pub(crate) fn read_jobs(alloc: Global, spot: Spot<'_>) -> Result<Option<JobStates>, Memory>
-    ensures { (e : Element) → Stands spot.entry e → IfOk result (IsOnly (AreJobs e)) }
+    ensures { (e : Element) → StandsAt spot.entry e → IfOk result (IsOnly (AreJobs e)) }
 {
     let Some(list) = only_child(alloc, spot, b"jobs")? else {
         return Ok(None);

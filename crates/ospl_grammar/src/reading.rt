@@ -2,9 +2,9 @@
 
 ghost use Rattle.std.specs.Prelude.{◌≡◌, ◌↔◌, IsTrue, IfOk, IfErr};
 ghost use Rattle.tree_grammar.specs.Elements.{Element};
-ghost use Rattle.document_tags.specs.Spots.{Stands};
+ghost use Rattle.document_tags.specs.Spots.{StandsAt};
 ghost use Rattle.ospl_grammar.specs.Meaning as meaning;
-ghost use Rattle.document_tags.specs.Only.{IsOnly};
+ghost use Rattle.document_tags.specs.OneChild.{IsOnly};
 ghost use Rattle.ospl_grammar.specs.Reading.{Refuses};
 
 use crate::fault::OsplFault;
@@ -22,7 +22,7 @@ const STATISTICS: [&[u8]; 2] = [b"processData", b"statistics"];
 
 /// What a request asks.
 fn read_action(alloc: Global, request: Spot<'_>) -> Result<Text, Memory>
-    ensures { (e : Element) → Stands request.entry e → IfOk result (λ t. t ≡ meaning.action e) }
+    ensures { (e : Element) → StandsAt request.entry e → IfOk result (λ t. t ≡ meaning.action e) }
 {
     match request.attribute(b"action") {
         Some(action) => Text::from_slice(alloc, action),
@@ -32,7 +32,7 @@ fn read_action(alloc: Global, request: Spot<'_>) -> Result<Text, Memory>
 
 /// The first whole statistics of a root, if there are some.
 fn read_data(alloc: Global, root: Spot<'_>) -> Result<Option<Process>, Memory>
-    ensures { (e : Element) → Stands root.entry e → IfOk result (IsOnly (meaning.IsFirstWhole (meaning.statistics e))) }
+    ensures { (e : Element) → StandsAt root.entry e → IfOk result (IsOnly (meaning.IsFirstWhole (meaning.statistics e))) }
 {
     let statistics = within(alloc, root, &STATISTICS)?;
     first_whole(alloc, statistics.as_slice())
@@ -40,7 +40,7 @@ fn read_data(alloc: Global, root: Spot<'_>) -> Result<Option<Process>, Memory>
 
 /// What a root says, if it says something.
 fn read_process(alloc: Global, root: Spot<'_>) -> Result<Option<Process>, Memory>
-    ensures { (e : Element) → Stands root.entry e → IfOk result (IsOnly (meaning.Says e)) }
+    ensures { (e : Element) → StandsAt root.entry e → IfOk result (IsOnly (meaning.Says e)) }
 {
     let Some(request) = first_within(alloc, root, &REQUESTS)? else {
         return read_data(alloc, root);
@@ -51,15 +51,15 @@ fn read_process(alloc: Global, root: Spot<'_>) -> Result<Option<Process>, Memory
 
 /// Whether a root has its name.
 fn is_named(root: Spot<'_>) -> bool
-    ensures { (e : Element) → Stands root.entry e → IsTrue result ↔ meaning.IsNamed e }
+    ensures { (e : Element) → StandsAt root.entry e → IsTrue result ↔ meaning.IsNamed e }
 {
     root.name() == b"ospl".as_slice()
 }
 
 /// The process that a root says, or why it is refused.
 pub(crate) fn read_root(alloc: Global, root: Spot<'_>) -> Result<Process, OsplFault>
-    ensures ok { (e : Element) → Stands root.entry e → IfOk result (meaning.IsProcess e) }
-    ensures err { (e : Element) → Stands root.entry e → IfErr result (Refuses e) }
+    ensures ok { (e : Element) → StandsAt root.entry e → IfOk result (meaning.IsProcess e) }
+    ensures err { (e : Element) → StandsAt root.entry e → IfErr result (Refuses e) }
 {
     if !is_named(root) {
         return Err(OsplFault::Root);

@@ -2,9 +2,9 @@
 
 ghost use Rattle.std.specs.Prelude.{◌≡◌, List, IfOk};
 ghost use Rattle.tree_grammar.specs.Elements.{Element};
-ghost use Rattle.document_tags.specs.Spots.{Stands, AreSpots};
+ghost use Rattle.document_tags.specs.Spots.{StandsAt, AreSpots};
 ghost use Rattle.ospl_grammar.specs.Meaning.{SaysBusy, SaysNumber, SaysCurrent, SaysStatistics, IsFirstWhole};
-ghost use Rattle.document_tags.specs.Only.{IsOnly};
+ghost use Rattle.document_tags.specs.OneChild.{IsOnly};
 
 use crate::jobs::read_jobs;
 use crate::process::Process;
@@ -16,7 +16,7 @@ use std::alloc::Global;
 
 /// Whether a job runs, if that is said by one of the two words.
 fn read_busy(alloc: Global, spot: Spot<'_>) -> Result<Option<bool>, Memory>
-    ensures { (e : Element) → Stands spot.entry e → IfOk result (IsOnly (SaysBusy e)) }
+    ensures { (e : Element) → StandsAt spot.entry e → IfOk result (IsOnly (SaysBusy e)) }
 {
     let Some(word) = only_text(alloc, spot, b"currentState")? else {
         return Ok(None);
@@ -26,7 +26,7 @@ fn read_busy(alloc: Global, spot: Spot<'_>) -> Result<Option<bool>, Memory>
 
 /// The number that a part of this name says, if it says one.
 fn read_number(alloc: Global, spot: Spot<'_>, name: &[u8]) -> Result<Option<u64>, Memory>
-    ensures { (e : Element) → Stands spot.entry e → IfOk result (IsOnly (SaysNumber e name.now)) }
+    ensures { (e : Element) → StandsAt spot.entry e → IfOk result (IsOnly (SaysNumber e name.now)) }
 {
     let Some(text) = only_text(alloc, spot, name)? else {
         return Ok(None);
@@ -36,7 +36,7 @@ fn read_number(alloc: Global, spot: Spot<'_>, name: &[u8]) -> Result<Option<u64>
 
 /// How many jobs wait or run, if that is said.
 fn read_current(alloc: Global, spot: Spot<'_>) -> Result<Option<u32>, Memory>
-    ensures { (e : Element) → Stands spot.entry e → IfOk result (IsOnly (SaysCurrent e)) }
+    ensures { (e : Element) → StandsAt spot.entry e → IfOk result (IsOnly (SaysCurrent e)) }
 {
     let Some(number) = read_number(alloc, spot, b"currentJobCount")? else {
         return Ok(None);
@@ -49,7 +49,7 @@ fn read_current(alloc: Global, spot: Spot<'_>) -> Result<Option<u32>, Memory>
 
 /// Statistics, if they are whole.
 fn read_statistics(alloc: Global, spot: Spot<'_>) -> Result<Option<Process>, Memory>
-    ensures { (e : Element) → Stands spot.entry e → IfOk result (IsOnly (SaysStatistics e)) }
+    ensures { (e : Element) → StandsAt spot.entry e → IfOk result (IsOnly (SaysStatistics e)) }
 {
     let Some(busy) = read_busy(alloc, spot)? else {
         return Ok(None);

@@ -2,7 +2,7 @@
 
 ghost use Rattle.std.specs.Prelude.{◌≡◌};
 ghost use Rattle.ospl_grammar.specs.Words as words;
-ghost use Rattle.document_tags.specs.Only.{IsOnly};
+ghost use Rattle.document_tags.specs.OneChild.{IsOnly};
 
 use crate::process::JobState;
 

@@ -2,7 +2,7 @@
 
 ghost use Rattle.std.specs.Prelude.{◌≡◌, [], ◌∷◌, OnOk, IfOk, codes};
 ghost use Rattle.tree_grammar.specs.Elements.{none, nodes_events};
-ghost use Rattle.document_tags.specs.Telling.{Told, whole};
+ghost use Rattle.document_tags.specs.Telling.{Told, whole_element};
 ghost use Rattle.ospl_grammar.specs.declared.process.Process.TheVariants.{Ask, Statistics};
 ghost use Rattle.document_tags.specs.Writing as nodes;
 ghost use Rattle.ospl_grammar.specs.Words as words;
@@ -29,7 +29,7 @@ fn tell_ask(b: &mut TreeBuilder, action: &[u8]) -> Result<(), Memory>
 /// Tells a job.
 fn tell_job(b: &mut TreeBuilder, job: &StatedJob) -> Result<(), Memory>
     requires { b.old.attributes ≡ [] }
-    ensures { OnOk result (Told b.old b.new (nodes_events (writing.job_nodes (job.now ∷ [])))) }
+    ensures { OnOk result (Told b.old b.new (nodes_events (writing.jobs_nodes (job.now ∷ [])))) }
 {
     open_with(b, b"job", b"jobID", job.id.as_slice())?;
     leaf(b, b"state", state_word(job.state))?;
@@ -39,7 +39,7 @@ fn tell_job(b: &mut TreeBuilder, job: &StatedJob) -> Result<(), Memory>
 /// Tells jobs.
 fn tell_jobs(b: &mut TreeBuilder, jobs: &[StatedJob]) -> Result<(), Memory>
     requires { b.old.attributes ≡ [] }
-    ensures { OnOk result (Told b.old b.new (nodes_events (writing.job_nodes jobs.now))) }
+    ensures { OnOk result (Told b.old b.new (nodes_events (writing.jobs_nodes jobs.now))) }
 {
     for job in jobs {
         tell_job(b, job)?;
@@ -114,7 +114,7 @@ fn tell_content(b: &mut TreeBuilder, process: &Process) -> Result<(), Memory>
 /// Tells a whole document.
 fn tell_process(b: &mut TreeBuilder, process: &Process) -> Result<(), Memory>
     requires { b.old.attributes ≡ [] }
-    ensures { OnOk result (Told b.old b.new (whole (writing.process_element process.now))) }
+    ensures { OnOk result (Told b.old b.new (whole_element (writing.process_element process.now))) }
 {
     open_with(b, b"ospl", b"xmlns", b"os.optimizationservices.org")?;
     tell_content(b, process)?;

@@ -14,17 +14,17 @@ use Rattle.certificate.specs.declared.claims.Claim.{Claim}
 use Rattle.certificate.specs.declared.claims.Claim.TheVariants.{Optimal, Infeasible, Unbounded, BestSoFar, Unsure}
 use Rattle.osrl_grammar.specs.declared.parts.Part.{Part}
 use Rattle.osrl_grammar.specs.declared.parts.Part.TheVariants.{Point, Value, Ray, Tree, Cause}
-use Rattle.osrl_grammar.specs.Numbers.{Exact, IsRead}
-use Rattle.osrl_grammar.specs.Items.{Item, Number, IsOfPart, IsReadable}
+use Rattle.osrl_grammar.specs.Numbers.{Exact, IsFieldRead}
+use Rattle.osrl_grammar.specs.Items.{Item, Number, IsOfPart, IsReadableItem}
 use Rattle.osrl_grammar.specs.Values.{IsFraction, IsNode, IsCause}
 use Rattle.osrl_grammar.specs.Parts.{item_texts, items_of}
-use Rattle.osrl_grammar.specs.Refusals.{MayHold, IsPartCounted}
+use Rattle.osrl_grammar.specs.Refusals.{MayHoldItems, IsPartCounted}
 use Rattle.osrl_grammar.specs.Meaning.{SaysClaim}
 use Rattle.osrl_grammar.specs.Writing.{node_text, cause_text, fraction_texts}
 use Rattle.osrl_grammar.specs.Back.{NodeComesBack, CauseComesBack, TreeComesBack, ClaimComesBack}
-use Rattle.osrl_grammar.proofs.Fielded.{alone}
-use Rattle.osrl_grammar.proofs.Faulted.{node_readable, cause_readable}
-use Rattle.osrl_grammar.proofs.Parted.{counted}
+use Rattle.osrl_grammar.proofs.Fields.{alone}
+use Rattle.osrl_grammar.proofs.ItemFaults.{node_readable, cause_readable}
+use Rattle.osrl_grammar.proofs.ReportParts.{counted}
 use Rattle.osrl_grammar.proofs.BackNumbers.{fraction_back}
 use Rattle.osrl_grammar.proofs.BackItems.{node_back, cause_back, fractions_back, nodes_back}
 use Rattle.osrl_grammar.proofs.BackParts.{part_element, texts_are, part_readable, parts_of, solution_of, has_part, holds_texts}
@@ -61,10 +61,10 @@ claim_said (Unsure w) back = let c : Claim = Unsure w in (refl, has_part c Cause
 
 -- items of a part
 abbrev Reads : Part → List ℕ → Type 0
-Reads p text = let i : Item = record { part = p; text = text } in IsReadable i
+Reads p text = let i : Item = record { part = p; text = text } in IsReadableItem i
 
 number_reads : (p : Part) (x : Frac) → IsOfPart p (Number (ratio_text (ratio x))) → Reads p (ratio_text (ratio x))
-number_reads p x belongs = (Number (ratio_text (ratio x)), (refl, belongs), alone IsRead (record { kind = Exact; text = ratio_text (ratio x) }) (ratio x, fraction_back x))
+number_reads p x belongs = (Number (ratio_text (ratio x)), (refl, belongs), alone IsFieldRead (record { kind = Exact; text = ratio_text (ratio x) }) (ratio x, fraction_back x))
 
 numbers_read : (p : Part) (xs : List Frac) → ((text : List ℕ) → IsOfPart p (Number text)) → All (Reads p) (fraction_texts xs)
 numbers_read p [] belongs = All-nil (Reads p)
@@ -75,29 +75,29 @@ nodes_read [] back = All-nil (Reads Tree)
 nodes_read (n ∷ ns) back =
     All-cons (Reads Tree) (node_text n) (map node_text ns) (node_readable (node_text n) n (node_back n (All-head NodeComesBack n ns back))) (nodes_read ns (All-tail NodeComesBack n ns back))
 
-point_reads : (x : List Frac) → All IsReadable (items_of (part_element Point (fraction_texts x)))
+point_reads : (x : List Frac) → All IsReadableItem (items_of (part_element Point (fraction_texts x)))
 point_reads x = part_readable Point (fraction_texts x) refl (numbers_read Point x (λ text. tt))
 
-value_reads : (v : Frac) → All IsReadable (items_of (part_element Value (fraction_texts (v ∷ []))))
+value_reads : (v : Frac) → All IsReadableItem (items_of (part_element Value (fraction_texts (v ∷ []))))
 value_reads v = part_readable Value (fraction_texts (v ∷ [])) refl (numbers_read Value (v ∷ []) (λ text. tt))
 
-ray_reads : (r : List Frac) → All IsReadable (items_of (part_element Ray (fraction_texts r)))
+ray_reads : (r : List Frac) → All IsReadableItem (items_of (part_element Ray (fraction_texts r)))
 ray_reads r = part_readable Ray (fraction_texts r) refl (numbers_read Ray r (λ text. tt))
 
-tree_reads : (ns : List Node) → TreeComesBack ns → All IsReadable (items_of (part_element Tree (map node_text ns)))
+tree_reads : (ns : List Node) → TreeComesBack ns → All IsReadableItem (items_of (part_element Tree (map node_text ns)))
 tree_reads ns back = part_readable Tree (map node_text ns) refl (nodes_read ns back.1)
 
-cause_reads : (c : why.Cause) → CauseComesBack c → All IsReadable (items_of (part_element Cause (cause_text c ∷ [])))
+cause_reads : (c : why.Cause) → CauseComesBack c → All IsReadableItem (items_of (part_element Cause (cause_text c ∷ [])))
 cause_reads c back = part_readable Cause (cause_text c ∷ []) refl (alone (Reads Cause) (cause_text c) (cause_readable (cause_text c) c (cause_back c back)))
 
-three : (a b c : Element) → All IsReadable (items_of a) → All IsReadable (items_of b) → All IsReadable (items_of c) → All IsReadable (flat_map items_of (a ∷ b ∷ c ∷ []))
-three a b c h k l = All-append IsReadable (items_of a) (flat_map items_of (b ∷ c ∷ [])) h (All-append IsReadable (items_of b) (flat_map items_of (c ∷ [])) k (All-append IsReadable (items_of c) [] l (All-nil IsReadable)))
+three : (a b c : Element) → All IsReadableItem (items_of a) → All IsReadableItem (items_of b) → All IsReadableItem (items_of c) → All IsReadableItem (flat_map items_of (a ∷ b ∷ c ∷ []))
+three a b c h k l = All-append IsReadableItem (items_of a) (flat_map items_of (b ∷ c ∷ [])) h (All-append IsReadableItem (items_of b) (flat_map items_of (c ∷ [])) k (All-append IsReadableItem (items_of c) [] l (All-nil IsReadableItem)))
 
-one : (a : Element) → All IsReadable (items_of a) → All IsReadable (flat_map items_of (a ∷ []))
-one a h = All-append IsReadable (items_of a) [] h (All-nil IsReadable)
+one : (a : Element) → All IsReadableItem (items_of a) → All IsReadableItem (flat_map items_of (a ∷ []))
+one a h = All-append IsReadableItem (items_of a) [] h (All-nil IsReadableItem)
 
 -- all of them are readable
-pub claim_readable : (c : Claim) → ClaimComesBack (Some c) → All IsReadable (flat_map items_of (parts_of c))
+pub claim_readable : (c : Claim) → ClaimComesBack (Some c) → All IsReadableItem (flat_map items_of (parts_of c))
 claim_readable (Optimal x v ns) back = three (part_element Point (fraction_texts x)) (part_element Value (fraction_texts (v ∷ []))) (part_element Tree (map node_text ns)) (point_reads x) (value_reads v) (tree_reads ns back)
 claim_readable (Infeasible ns) back = one (part_element Tree (map node_text ns)) (tree_reads ns back)
 claim_readable (Unbounded x v r) back = three (part_element Point (fraction_texts x)) (part_element Value (fraction_texts (v ∷ []))) (part_element Ray (fraction_texts r)) (point_reads x) (value_reads v) (ray_reads r)
@@ -105,7 +105,7 @@ claim_readable (BestSoFar x v c) back = three (part_element Point (fraction_text
 claim_readable (Unsure c) back = one (part_element Cause (cause_text c ∷ [])) (cause_reads c back)
 
 -- a tree has as many items as nodes
-tree_holds : (ns : List Node) → TreeComesBack ns → MayHold Tree (length (item_texts (part_element Tree (map node_text ns))))
+tree_holds : (ns : List Node) → TreeComesBack ns → MayHoldItems Tree (length (item_texts (part_element Tree (map node_text ns))))
 tree_holds ns back =
     let same : length (item_texts (part_element Tree (map node_text ns))) ≡ length ns = ap length (texts_are Tree (map node_text ns)) ∙ length-map ns node_text in
     let some = back.0 in

@@ -12,7 +12,7 @@ use Rattle.certificate.specs.declared.nodes.Node.{Node}
 use Rattle.certificate.specs.declared.nodes.Node.TheVariants as nodes
 use Rattle.certificate.specs.declared.causes.Cause as why
 use Rattle.certificate.specs.declared.causes.Cause.TheVariants as causes
-use Rattle.osrl_grammar.specs.Items.{Pair, IsPair, pair_text, Split, Clash, Farkas, Bound, Killed, NodeLimit, TurnLimit, Wide, Length, Memory}
+use Rattle.osrl_grammar.specs.Items.{Pair, IsPairText, pair_text, Split, Clash, Farkas, Bound, Killed, NodeLimit, TurnLimit, Wide, Length, Memory}
 use Rattle.osrl_grammar.specs.Values.{IsMult, IsFraction, IsNode, IsCause}
 use Rattle.osrl_grammar.specs.Writing.{mult_text, node_text, cause_text, fraction_texts}
 use Rattle.osrl_grammar.specs.Back.{HaveColumns, NodeComesBack, CauseComesBack}
@@ -26,9 +26,9 @@ pairs_text : (ms : List Mult) → flat_map mult_text ms ≡ flat_map pair_text (
 pairs_text [] = refl
 pairs_text (m ∷ ms) = ap (λ (l : List ℕ). mult_text m ++ l) (pairs_text ms)
 
-are_pairs : (ms : List Mult) → All IsPair (map pair_of ms)
-are_pairs [] = All-nil IsPair
-are_pairs (m ∷ ms) = All-cons IsPair (pair_of m) (map pair_of ms) (decimal_spaceless m.col, decimal_colonless m.col, ratio_spaceless (ratio m.value)) (are_pairs ms)
+are_pairs : (ms : List Mult) → All IsPairText (map pair_of ms)
+are_pairs [] = All-nil IsPairText
+are_pairs (m ∷ ms) = All-cons IsPairText (pair_of m) (map pair_of ms) (decimal_spaceless m.col, decimal_colonless m.col, ratio_spaceless (ratio m.value)) (are_pairs ms)
 
 mults_back : (ms : List Mult) → HaveColumns ms → AllZip IsMult (map pair_of ms) ms
 mults_back [] columns = tt

@@ -23,9 +23,9 @@ use Rattle.osrl_grammar.specs.Parts.{part_name}
 use Rattle.osrl_grammar.specs.Refusals.{claiming_text}
 use Rattle.document_tags.specs.Writing.{only, text_nodes, leaf, group, typed}
 use Rattle.osrl_grammar.specs.Writing.{indexed, variable_values, row_values, values_part, values_part_unless_none, point_values, dual_values, node_text, cause_text, item_nodes, certificate_part, fraction_texts, point_parts, ray_part, tree_part, cause_part, solution, claim_nodes}
-use Rattle.element_tree.specs.Writable.{kept_attributes}
-use Rattle.document_tags.proofs.Printing.{printable_text, decimal_printable}
-use Rattle.document_tags.proofs.Flat.{is_tag, AreTexts, AreFlat, none_flat, text_flat, element_flat}
+use Rattle.element_tree.specs.WritableElements.{kept_attributes}
+use Rattle.document_tags.proofs.PrintableTexts.{printable_text, decimal_printable}
+use Rattle.document_tags.proofs.XmlNodes.{is_tag, AreTexts, AreFlat, none_flat, text_flat, element_flat}
 use Rattle.osrl_grammar.proofs.BackTexts.{cut_printable, cause_printable, fractions_xml, nodes_xml}
 
 -- nodes of XML without prefixes, of which at most so many stand in one another

@@ -10,12 +10,12 @@ use Rattle.rational.specs.Width.{most, IsReduced, IsWithin}
 use Rattle.fraction.specs.Frac.{ratio}
 use Rattle.fraction.specs.declared.frac.Frac.{Frac}
 use Rattle.decimal_text.specs.Exact.{ratio_text, RatioText}
-use Rattle.decimal_text.proofs.Reading.{written_ratio}
+use Rattle.decimal_text.proofs.OneRatio.{written_ratio}
 use Rattle.osrl_grammar.specs.Items.{IsFree}
-use Rattle.osrl_grammar.specs.Numbers.{Index, Turn, Whole, IsNumber}
+use Rattle.osrl_grammar.specs.Numbers.{Index, Turn, Whole, IsNumberText}
 use Rattle.osrl_grammar.specs.Values.{IsFraction}
-use Rattle.osrl_grammar.proofs.Exact.{exact_read}
-use Rattle.document_tags.proofs.Printing.{decimal_each, signed_each}
+use Rattle.osrl_grammar.proofs.ItemRatios.{exact_read}
+use Rattle.document_tags.proofs.PrintableTexts.{decimal_each, signed_each}
 use Rattle.osrl_grammar.proofs.BackTexts.{ratio_each}
 
 pub fraction_back : (x : Frac) → IsFraction (ratio_text (ratio x)) x
@@ -31,15 +31,15 @@ one_within k small = (small, lit≤ tt)
 whole_text : (k : ℤ) → unsigned_abs k ≤ most → RatioText (signed_decimal k) (whole k)
 whole_text k small = subst (λ (text : List ℕ). RatioText text (whole k)) (append-nil (signed_decimal k)) (written_ratio (whole k) (one_reduced k) (one_within k small))
 
-pub whole_back : (k : ℤ) → unsigned_abs k ≤ most → IsNumber Whole (signed_decimal k) (whole k)
+pub whole_back : (k : ℤ) → unsigned_abs k ≤ most → IsNumberText Whole (signed_decimal k) (whole k)
 whole_back k small = (record { form = whole_text k small; of_kind = refl; reduced = λ within. one_reduced k }, one_within k small)
 
-pub index_back : (n : ℕ) → n < 2 ^ 32 → IsNumber Index (decimal n) (whole (pos n))
+pub index_back : (n : ℕ) → n < 2 ^ 32 → IsNumberText Index (decimal n) (whole (pos n))
 index_back n small =
     let top : 2 ^ 32 ≤ most = lit≤ tt in
     (record { form = whole_text (pos n) (omega (arith, small, top)); of_kind = (n, refl); reduced = λ within. one_reduced (pos n) }, small)
 
-pub turn_back : (n : ℕ) → n < 2 ^ 64 → IsNumber Turn (decimal n) (whole (pos n))
+pub turn_back : (n : ℕ) → n < 2 ^ 64 → IsNumberText Turn (decimal n) (whole (pos n))
 turn_back n small =
     let top : 2 ^ 64 ≤ most = lit≤ tt in
     (record { form = whole_text (pos n) (omega (arith, small, top)); of_kind = (n, refl); reduced = λ within. one_reduced (pos n) }, small)

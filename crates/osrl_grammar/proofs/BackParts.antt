@@ -12,12 +12,12 @@ use Rattle.certificate.specs.declared.claims.Claim.TheVariants.{Optimal, Infeasi
 use Rattle.osrl_grammar.specs.declared.parts.Part.{Part}
 use Rattle.osrl_grammar.specs.declared.parts.Part.TheVariants as parts
 use Rattle.document_tags.specs.Elements.{named, children_named, characters, own_text}
-use Rattle.osrl_grammar.specs.Items.{Item, IsReadable}
+use Rattle.osrl_grammar.specs.Items.{Item, IsReadableItem}
 use Rattle.osrl_grammar.specs.Parts.{part_name, is_part, of_part, item_texts, items_among, items_of, results}
-use Rattle.osrl_grammar.specs.Meaning.{HasPart}
+use Rattle.osrl_grammar.specs.Meaning.{HasSolutionPart}
 use Rattle.document_tags.specs.Writing.{only, text_nodes, group}
 use Rattle.osrl_grammar.specs.Writing.{row_values, values_part_unless_none, dual_values, item_nodes, node_text, cause_text, fraction_texts, point_parts, tree_part, claim_nodes}
-use Rattle.osrl_grammar.proofs.Parted.{items_of_part}
+use Rattle.osrl_grammar.proofs.ReportParts.{items_of_part}
 
 -- what an element says that holds a text
 pub text_own : (text : List ℕ) → characters (text_nodes text) ≡ text
@@ -44,17 +44,17 @@ pub texts_are : (p : Part) (texts : List (List ℕ)) → item_texts (part_elemen
 texts_are p texts = ap (λ (l : List Element). map own_text l) (items_named texts) ∙ texts_own texts
 
 -- and are readable if the texts are
-among_readable : (p : Part) (texts : List (List ℕ)) → All (λ text. IsReadable (record { part = p; text = text })) texts → All IsReadable (items_among p (map item_element texts))
-among_readable p [] h = All-nil IsReadable
+among_readable : (p : Part) (texts : List (List ℕ)) → All (λ text. IsReadableItem (record { part = p; text = text })) texts → All IsReadableItem (items_among p (map item_element texts))
+among_readable p [] h = All-nil IsReadableItem
 among_readable p (text ∷ more) h =
-    let Reads : List ℕ → Type 0 = λ t. let i : Item = record { part = p; text = t } in IsReadable i in
-    All-cons IsReadable (record { part = p; text = own_text (item_element text) }) (items_among p (map item_element more))
+    let Reads : List ℕ → Type 0 = λ t. let i : Item = record { part = p; text = t } in IsReadableItem i in
+    All-cons IsReadableItem (record { part = p; text = own_text (item_element text) }) (items_among p (map item_element more))
     (subst Reads (sym (text_own text)) (All-head Reads text more h)) (among_readable p more (All-tail Reads text more h))
 
-pub part_readable : (p : Part) (texts : List (List ℕ)) → is_part p (part_element p texts) ≡ true → All (λ text. IsReadable (record { part = p; text = text })) texts → All IsReadable (items_of (part_element p texts))
+pub part_readable : (p : Part) (texts : List (List ℕ)) → is_part p (part_element p texts) ≡ true → All (λ text. IsReadableItem (record { part = p; text = text })) texts → All IsReadableItem (items_of (part_element p texts))
 part_readable p texts is h =
     let e = part_element p texts in
-    subst (λ (l : List Item). All IsReadable l) (sym (items_of_part p e is ∙ ap (items_among p) (items_named texts))) (among_readable p texts h)
+    subst (λ (l : List Item). All IsReadableItem l) (sym (items_of_part p e is ∙ ap (items_among p) (items_named texts))) (among_readable p texts h)
 
 -- the parts of a claim's certificate
 abbrev pub parts_of : Claim → List Element
@@ -97,7 +97,7 @@ results_are (BestSoFar x v c) = refl
 results_are (Unsure c) = refl
 
 -- the part that stands among them
-pub has_part : {X : Type 0} (c : Claim) (p : Part) (Is : List ℕ → X → Type 0) (xs : List X) → IsSomeAnd (slice_get (of_part p (parts_of c)) 0) (λ e. AllZip Is (item_texts e) xs) → HasPart (solution_of c) p Is xs
+pub has_part : {X : Type 0} (c : Claim) (p : Part) (Is : List ℕ → X → Type 0) (xs : List X) → IsSomeAnd (slice_get (of_part p (parts_of c)) 0) (λ e. AllZip Is (item_texts e) xs) → HasSolutionPart (solution_of c) p Is xs
 has_part c p Is xs h = subst (λ (l : List Element). IsSomeAnd (slice_get (of_part p l) 0) (λ e. AllZip Is (item_texts e) xs)) (sym (results_are c)) h
 
 pub holds_texts : {X : Type 0} (p : Part) (Is : List ℕ → X → Type 0) (texts : List (List ℕ)) (xs : List X) → AllZip Is texts xs → AllZip Is (item_texts (part_element p texts)) xs

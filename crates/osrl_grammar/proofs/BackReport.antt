@@ -10,15 +10,15 @@ use Rattle.osrl_grammar.specs.declared.report.JobStatus.{JobStatus}
 use Rattle.osrl_grammar.specs.declared.report.Report.{Report}
 use Rattle.osrl_grammar.specs.declared.parts.Part.{Part}
 use Rattle.document_tags.specs.Elements.{attribute, characters, first_within, own_text, unless_empty}
-use Rattle.osrl_grammar.specs.Items.{IsReadable}
+use Rattle.osrl_grammar.specs.Items.{IsReadableItem}
 use Rattle.osrl_grammar.specs.Parts.{items_of, results, solutions, all_results}
 use Rattle.osrl_grammar.specs.Refusals.{IsPartCounted, general_path, job_path, status_text}
 use Rattle.osrl_grammar.specs.Meaning.{text_in, SayClaim, IsReport}
 use Rattle.osrl_grammar.specs.Reading.{IsReportText}
 use Rattle.document_tags.specs.Writing.{text_nodes, group, typed}
-use Rattle.osrl_grammar.specs.Writing.{leaf_of, optimization, general_type, job_nodes, report_text}
+use Rattle.osrl_grammar.specs.Writing.{leaf_of, optimization, general_type, status_nodes, report_text}
 use Rattle.osrl_grammar.specs.Back.{IsBare, IsBareOrNone, ClaimComesBack, ComesBack}
-use Rattle.osrl_grammar.proofs.Parted.{counted}
+use Rattle.osrl_grammar.proofs.ReportParts.{counted}
 use Rattle.osrl_grammar.proofs.BackText.{root_of, text_document}
 use Rattle.osrl_grammar.proofs.BackParts.{text_own, parts_of, solution_of, results_are}
 use Rattle.osrl_grammar.proofs.BackClaim.{claim_said, claim_readable, claim_counted}
@@ -28,7 +28,7 @@ abbrev general_of : Bool → (job message : Option (List ℕ)) → Nodes
 general_of error job message = typed (codes "generalStatus") (general_type error) (leaf_of (codes "jobID") job (leaf_of (codes "message") message none))
 
 abbrev root_with : (general : Nodes) → JobStatus → Option Claim → Element
-root_with general s o = record { name = codes "osrl"; attributes = []; children = group (codes "general") general (job_nodes s (optimization o)) }
+root_with general s o = record { name = codes "osrl"; attributes = []; children = group (codes "general") general (status_nodes s (optimization o)) }
 
 error_said : (b : Bool) → IsTrue b ↔ (Some (general_type b) ≡ Some (codes "error"))
 error_said true = (λ h. refl, λ h. refl)
@@ -76,8 +76,8 @@ results_in : (general : Nodes) (s : JobStatus) (o : Option Claim) → all_result
 results_in general s None = refl
 results_in general s (Some c) = append-nil (results (solution_of c)) ∙ results_are c
 
-parts_readable : (o : Option Claim) → ClaimComesBack o → All IsReadable (flat_map items_of (parts_in o))
-parts_readable None back = All-nil IsReadable
+parts_readable : (o : Option Claim) → ClaimComesBack o → All IsReadableItem (flat_map items_of (parts_in o))
+parts_readable None back = All-nil IsReadableItem
 parts_readable (Some c) back = claim_readable c back
 
 parts_counted : (o : Option Claim) → ClaimComesBack o → (p : Part) → IsPartCounted p (parts_in o)
@@ -94,7 +94,7 @@ root_reports r back =
     let all = results_in general r.status r.claim in
     record {
       named = refl;
-      readable = subst (λ (l : List Element). All IsReadable (flat_map items_of l)) (sym all) (parts_readable r.claim back.claim);
+      readable = subst (λ (l : List Element). All IsReadableItem (flat_map items_of l)) (sym all) (parts_readable r.claim back.claim);
       counted = record { once = one_solution general r.status r.claim; each = λ p. subst (λ (l : List Element). IsPartCounted p l) (sym all) (parts_counted r.claim back.claim p) };
       says = record {
         error = general_said r.error r.job r.message r.status r.claim;

@@ -6,15 +6,15 @@ use Rattle.tree_grammar.specs.Elements.{Nodes, none, Element}
 use Rattle.element_tree.proofs.XmlTexts.{Printable, list_printable}
 use Rattle.document_tags.specs.Texts.{IsDocument}
 use Rattle.document_tags.specs.Writing.{bare_root}
-use Rattle.document_tags.proofs.Printing.{printable_text}
-use Rattle.document_tags.proofs.Flat.{none_flat, still_flat, root_is_document}
+use Rattle.document_tags.proofs.PrintableTexts.{printable_text}
+use Rattle.document_tags.proofs.XmlNodes.{none_flat, still_flat, root_is_document}
 use Rattle.certificate.specs.declared.claims.Claim.{Claim}
 use Rattle.osrl_grammar.specs.declared.report.JobStatus.{JobStatus}
 use Rattle.osrl_grammar.specs.declared.report.JobStatus.TheVariants as statuses
 use Rattle.osrl_grammar.specs.declared.report.Report.{Report}
 use Rattle.osrl_grammar.specs.Refusals.{status_text}
 use Rattle.document_tags.specs.Writing.{leaf, group}
-use Rattle.osrl_grammar.specs.Writing.{leaf_of, claim_nodes, optimization, general_type, general_nodes, job_nodes, report_element, report_text}
+use Rattle.osrl_grammar.specs.Writing.{leaf_of, claim_nodes, optimization, general_type, general_nodes, status_nodes, report_element, report_text}
 use Rattle.osrl_grammar.specs.Back.{IsBareOrNone, ComesBack}
 use Rattle.osrl_grammar.proofs.BackNodes.{Flat, leaf_flat, group_flat, typed_flat, claim_flat}
 
@@ -48,7 +48,7 @@ children_flat : (r : Report) → ComesBack r → Flat 5 (report_element r).child
 children_flat r back =
     let status = leaf_flat 3 (codes "status") (status_text r.status) none refl refl (printable_text (status_text r.status) (status_printable r.status)) (none_flat 4) in
     let job = group_flat 4 (codes "job") (leaf (codes "status") (status_text r.status) none) (optimization r.claim) refl refl status (optimization_flat r.claim) in
-    group_flat 4 (codes "general") (general_nodes r) (job_nodes r.status (optimization r.claim)) refl refl (general_flat r back) job
+    group_flat 4 (codes "general") (general_nodes r) (status_nodes r.status (optimization r.claim)) refl refl (general_flat r back) job
 
 -- the root that is read, which has no attribute
 abbrev pub root_of : Report → Element

@@ -23,7 +23,7 @@ use Rattle.certificate.specs.declared.causes.Step.TheVariants as steps
 use Rattle.osrl_grammar.specs.Cuts.{without_zeros, decimals, cut_size, has_sign, cut_text}
 use Rattle.osrl_grammar.specs.Items.{step_text}
 use Rattle.osrl_grammar.specs.Writing.{mult_text, node_text, cause_text, fraction_texts}
-use Rattle.document_tags.proofs.Printing.{HoldsOfDigits, decimal_each, signed_each, digits_printable, decimal_printable, signed_printable, printable_text}
+use Rattle.document_tags.proofs.PrintableTexts.{HoldsOfDigits, decimal_each, signed_each, digits_printable, decimal_printable, signed_printable, printable_text}
 
 denominator_each : (P : ℕ → Type 0) → HoldsOfDigits P → P 47 → (b : Bool) (d : ℕ) → Each P (cond b [] (47 ∷ decimal d))
 denominator_each P of_digits over true d = tt

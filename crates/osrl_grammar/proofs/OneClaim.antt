@@ -3,7 +3,7 @@ use Rattle.std.proofs.Common.{◌≡◌, ◌∙◌, ℕ, ℤ, pos, List, [], ◌
 use Rattle.std.specs.Prelude.{codes}
 use Rattle.tree_grammar.specs.Elements.{Element}
 use Rattle.rational.specs.Ratio.{Ratio, whole}
-use Rattle.decimal_text.proofs.Reading.{ratio_once}
+use Rattle.decimal_text.proofs.OneRatio.{ratio_once}
 use Rattle.fraction.specs.declared.frac.Frac.{Frac}
 use Rattle.certificate.specs.declared.lists.Mult.{Mult}
 use Rattle.certificate.specs.declared.nodes.Node.{Node}
@@ -16,21 +16,21 @@ use Rattle.certificate.specs.declared.claims.Claim.{Claim}
 use Rattle.certificate.specs.declared.claims.Claim.TheVariants.{Optimal, Infeasible, Unbounded, BestSoFar, Unsure}
 use Rattle.osrl_grammar.specs.declared.parts.Part.{Part}
 use Rattle.osrl_grammar.specs.declared.parts.Part.TheVariants as parts
-use Rattle.osrl_grammar.specs.Numbers.{Kind, Index, Turn, Whole, IsNumber}
+use Rattle.osrl_grammar.specs.Numbers.{Kind, Index, Turn, Whole, IsNumberText}
 use Rattle.osrl_grammar.specs.Items.{Pair, Shape, Split, Clash, Farkas, Bound, NodeLimit, TurnLimit, Wide}
 use Rattle.std.specs.List.{AllZip}
 use Rattle.osrl_grammar.specs.Values.{IsFraction, IsMult, SaysNode, SaysCause, IsNode, IsCause}
 use Rattle.osrl_grammar.specs.Parts.{results}
-use Rattle.osrl_grammar.specs.Meaning.{HasNumbers, HasTree, HasCause, HasPoint, SaysClaim}
-use Rattle.osrl_grammar.proofs.Shaped.{word, unlike}
-use Rattle.osrl_grammar.proofs.Once.{node_once, cause_once}
-use Rattle.osrl_grammar.proofs.Claimed.{fraction_once, each_once, of_once, kind, says_kind, claims_apart}
+use Rattle.osrl_grammar.specs.Meaning.{HasFractions, HasTree, HasCause, HasPoint, SaysClaim}
+use Rattle.osrl_grammar.proofs.Shapes.{word, unlike}
+use Rattle.osrl_grammar.proofs.OneNode.{node_once, cause_once}
+use Rattle.osrl_grammar.proofs.ClaimParts.{fraction_once, each_once, of_once, kind, says_kind, claims_apart}
 
 -- a text is one whole number
-whole_once : (k : Kind) (s t : List ℕ) (a b : ℤ) → s ≡ t → IsNumber k s (whole a) → IsNumber k t (whole b) → a ≡ b
-whole_once k s t a b same h g = ap (λ (r : Ratio). r.num) (ratio_once t (whole a) (whole b) (subst (λ (x : List ℕ). IsNumber k x (whole a)) same h).0.form g.0.form)
+whole_once : (k : Kind) (s t : List ℕ) (a b : ℤ) → s ≡ t → IsNumberText k s (whole a) → IsNumberText k t (whole b) → a ≡ b
+whole_once k s t a b same h g = ap (λ (r : Ratio). r.num) (ratio_once t (whole a) (whole b) (subst (λ (x : List ℕ). IsNumberText k x (whole a)) same h).0.form g.0.form)
 
-count_once : (k : Kind) (s t : List ℕ) (n m : ℕ) → s ≡ t → IsNumber k s (whole (pos n)) → IsNumber k t (whole (pos m)) → n ≡ m
+count_once : (k : Kind) (s t : List ℕ) (n m : ℕ) → s ≡ t → IsNumberText k s (whole (pos n)) → IsNumberText k t (whole (pos m)) → n ≡ m
 count_once k s t n m same h g = let e : pos n ≡ pos m = whole_once k s t (pos n) (pos m) same h g in cc
 
 mult_once : (p : Pair) (m n : Mult) → IsMult p m → IsMult p n → m ≡ n
@@ -112,7 +112,7 @@ cause_said_once : (text : List ℕ) (a b : why.Cause) → IsCause text a → IsC
 cause_said_once text a b (s, has, h) (t, other, k) = same_cause a b t (subst (λ (x : Shape). SaysCause a x) (cause_once text s t has other) h) k
 
 -- the parts of a solution
-numbers_once : (e : Element) (p : Part) (xs ys : List Frac) → HasNumbers e p xs → HasNumbers e p ys → xs ≡ ys
+numbers_once : (e : Element) (p : Part) (xs ys : List Frac) → HasFractions e p xs → HasFractions e p ys → xs ≡ ys
 numbers_once e p xs ys h k = of_once p IsFraction (results e) xs ys fraction_once h k
 
 tree_once : (e : Element) (ns ms : List Node) → HasTree e ns → HasTree e ms → ns ≡ ms

@@ -7,11 +7,11 @@ use Rattle.osrl_grammar.specs.declared.parts.Part.{Part}
 use Rattle.osrl_grammar.specs.declared.parts.Part.TheVariants.{Point, Value, Ray, Tree, Cause}
 use Rattle.osrl_grammar.specs.declared.parts.Unread.{Unread}
 use Rattle.osrl_grammar.specs.declared.parts.Unread.TheVariants.{NoShape, NoNumber, TooGreat}
-use Rattle.osrl_grammar.specs.Numbers.{IsWritten, IsRead}
-use Rattle.osrl_grammar.specs.Items.{Shape, Number, shape_text, fields, IsNumberShape, Item, HasShape, IsUnread, IsReadable}
-use Rattle.osrl_grammar.specs.Refusals.{IsFirstUnread, refusal, RefusesItem}
-use Rattle.osrl_grammar.proofs.Fielded.{all_right, written}
-use Rattle.osrl_grammar.proofs.Once.{node_once, cause_once}
+use Rattle.osrl_grammar.specs.Numbers.{IsWritten, IsFieldRead}
+use Rattle.osrl_grammar.specs.Items.{Shape, Number, shape_text, item_fields, IsNumberShape, Item, HasShape, IsItemUnread, IsReadableItem}
+use Rattle.osrl_grammar.specs.Refusals.{IsFirstUnread, item_refusal, RefusesItem}
+use Rattle.osrl_grammar.proofs.Fields.{all_right, written}
+use Rattle.osrl_grammar.proofs.OneNode.{node_once, cause_once}
 
 number_once : (text : List ℕ) (s t : Shape) → IsNumberShape s → IsNumberShape t → text ≡ shape_text s → text ≡ shape_text t → s ≡ t
 number_once text (Number a) (Number b) h k e d = ap (λ (x : List ℕ). Number x) (sym e ∙ d)
@@ -33,12 +33,12 @@ same_shape : (i : Item) (P : Shape → Type 0) (s t : Shape) → HasShape i s �
 same_shape i P s t h k p = subst P (shape_once i s t h k) p
 
 abbrev HasWritten : Shape → Type 0
-HasWritten s = All IsWritten (fields s)
+HasWritten s = All IsWritten (item_fields s)
 
 abbrev HasRead : Shape → Type 0
-HasRead s = All IsRead (fields s)
+HasRead s = All IsFieldRead (item_fields s)
 
-unread_once : (i : Item) (u v : Unread) → IsUnread i u → IsUnread i v → u ≡ v
+unread_once : (i : Item) (u v : Unread) → IsItemUnread i u → IsItemUnread i v → u ≡ v
 unread_once i NoShape NoShape h k = refl
 unread_once i NoShape v h k = absurd (h k.0 k.1)
 unread_once i u NoShape h k = absurd (k h.0 h.1)
@@ -47,9 +47,9 @@ unread_once i TooGreat TooGreat h k = refl
 unread_once i NoNumber TooGreat h k = absurd (h.2 (same_shape i HasWritten k.0 h.0 k.1 h.1 k.2))
 unread_once i TooGreat NoNumber h k = absurd (k.2 (same_shape i HasWritten h.0 k.0 h.1 k.1 h.2))
 
-pub readable_apart : (i : Item) (u : Unread) → IsReadable i → IsUnread i u → ⊥
+pub readable_apart : (i : Item) (u : Unread) → IsReadableItem i → IsItemUnread i u → ⊥
 readable_apart i NoShape h k = k h.0 h.1
-readable_apart i NoNumber h k = k.2 (same_shape i HasWritten h.0 k.0 h.1 k.1 (written (fields h.0) h.2))
+readable_apart i NoNumber h k = k.2 (same_shape i HasWritten h.0 k.0 h.1 k.1 (written (item_fields h.0) h.2))
 readable_apart i TooGreat h k = k.3 (same_shape i HasRead h.0 k.0 h.1 k.1 h.2)
 
 -- the first of a list that isn't as the others stands at one place
@@ -63,19 +63,19 @@ same_first P Q apart (a ∷ before) (b ∷ others) x y after more e h k p q =
     (ap suc same.0, same.1)
 
 abbrev IsBad : Item → Type 0
-IsBad i = (u : Unread) × IsUnread i u
+IsBad i = (u : Unread) × IsItemUnread i u
 
 first_once : (is : List Item) (n m : ℕ) (u v : Unread) → IsFirstUnread is n u → IsFirstUnread is m v → (u ≡ v) × (n ≡ m)
 first_once is n m u v a b =
-    let same = same_first IsReadable IsBad (λ i h k. readable_apart i k.0 h k.1) a.before b.before a.item b.item a.after b.after (sym a.split ∙ b.split) a.readable b.readable (u, a.unread) (v, b.unread) in
-    (unread_once b.item u v (subst (λ (i : Item). IsUnread i u) same.1 a.unread) b.unread, a.ordinal ∙ ap suc same.0 ∙ sym b.ordinal)
+    let same = same_first IsReadableItem IsBad (λ i h k. readable_apart i k.0 h k.1) a.before b.before a.item b.item a.after b.after (sym a.split ∙ b.split) a.readable b.readable (u, a.unread) (v, b.unread) in
+    (unread_once b.item u v (subst (λ (i : Item). IsItemUnread i u) same.1 a.unread) b.unread, a.ordinal ∙ ap suc same.0 ∙ sym b.ordinal)
 
 pub item_once : (is : List Item) (f g : OsrlFault) → RefusesItem is f → RefusesItem is g → f ≡ g
 item_once is f g (u, n, e, a) (v, m, d, b) =
     let same = first_once is n m u v a b in
-    e ∙ ap₂ refusal same.0 same.1 ∙ sym d
+    e ∙ ap₂ item_refusal same.0 same.1 ∙ sym d
 
-pub none_refused : (is : List Item) (f : OsrlFault) → All IsReadable is → RefusesItem is f → ⊥
+pub none_refused : (is : List Item) (f : OsrlFault) → All IsReadableItem is → RefusesItem is f → ⊥
 none_refused is f all (u, n, e, a) =
-    let rest = all_right IsReadable a.before (a.item ∷ a.after) (subst (λ (l : List Item). All IsReadable l) a.split all) in
-    readable_apart a.item u (All-head IsReadable a.item a.after rest) a.unread
+    let rest = all_right IsReadableItem a.before (a.item ∷ a.after) (subst (λ (l : List Item). All IsReadableItem l) a.split all) in
+    readable_apart a.item u (All-head IsReadableItem a.item a.after rest) a.unread

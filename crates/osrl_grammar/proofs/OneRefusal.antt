@@ -6,18 +6,18 @@ use Rattle.osrl_grammar.specs.declared.report.Report.{Report}
 use Rattle.osrl_grammar.specs.declared.fault.OsrlFault.{OsrlFault}
 use Rattle.osrl_grammar.specs.declared.fault.OsrlFault.TheVariants.{Tree, Root, Missing, Item, Count, Number, Wide, Memory}
 use Rattle.osrl_grammar.specs.declared.parts.Unread.TheVariants.{NoShape, NoNumber, TooGreat}
-use Rattle.osrl_grammar.specs.Items.{IsReadable}
+use Rattle.osrl_grammar.specs.Items.{IsReadableItem}
 use Rattle.osrl_grammar.specs.Parts.{items}
-use Rattle.osrl_grammar.specs.Refusals.{IsNamed, IsCounted, IsComplete, RefusesItem, IsRefused}
+use Rattle.osrl_grammar.specs.Refusals.{IsNamed, HasCountedParts, IsComplete, RefusesItem, IsRefused}
 use Rattle.osrl_grammar.specs.Meaning.{IsReport}
 use Rattle.osrl_grammar.specs.Reading.{IsReportText, DecodeFails}
 use Rattle.document_tags.proofs.OneDocument.{fails_once, fails_apart}
 use Rattle.osrl_grammar.proofs.OneItem.{item_once, none_refused}
-use Rattle.osrl_grammar.proofs.Completed.{says_complete}
+use Rattle.osrl_grammar.proofs.Roots.{says_complete}
 
 -- where the items are read, what else is refused
 abbrev IsLate : Element → OsrlFault → Type 0
-IsLate root f = All IsReadable (items root) × (((f ≡ Count) × (IsCounted root → ⊥)) ⊎ ((f ≡ Missing) × IsCounted root × (IsComplete root → ⊥)))
+IsLate root f = All IsReadableItem (items root) × (((f ≡ Count) × (HasCountedParts root → ⊥)) ⊎ ((f ≡ Missing) × HasCountedParts root × (IsComplete root → ⊥)))
 
 -- the root, an item, or what is late
 abbrev IsWay : Element → OsrlFault → Type 0

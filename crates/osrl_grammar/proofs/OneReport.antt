@@ -12,7 +12,7 @@ use Rattle.osrl_grammar.specs.Refusals.{general_path, job_path, status_text}
 use Rattle.osrl_grammar.specs.Meaning.{SayClaim, Says, IsReport}
 use Rattle.osrl_grammar.specs.Reading.{IsReportText}
 use Rattle.document_tags.proofs.OneDocument.{document_once}
-use Rattle.osrl_grammar.proofs.Shaped.{unlike}
+use Rattle.osrl_grammar.proofs.Shapes.{unlike}
 use Rattle.osrl_grammar.proofs.OneClaim.{claim_once}
 
 -- two facts of what is there are of one

@@ -11,7 +11,7 @@ use Rattle.std.proofs.lemmas.Str.Parse.{digit_from_value}
 use Rattle.rational.specs.Ratio.{Ratio, whole}
 use Rattle.rational.specs.Width.{most}
 use Rattle.rational.specs.Whole.{signed}
-use Rattle.rational.proofs.Reduced.{one_number}
+use Rattle.rational.proofs.ReducedForms.{one_number}
 use Rattle.fraction.specs.Frac.{ratio}
 use Rattle.fraction.specs.declared.frac.Frac.{Frac}
 use Rattle.decimal_text.specs.Sign.{optional}
@@ -19,7 +19,7 @@ use Rattle.decimal_text.specs.Exact.{IsPositive, Under, absent, over, under_text
 use Rattle.osrl_grammar.specs.declared.parts.Unread.{Unread}
 use Rattle.osrl_grammar.specs.declared.parts.Unread.TheVariants.{NoShape, NoNumber, TooGreat}
 use Rattle.osrl_grammar.specs.Items.{IsFree}
-use Rattle.osrl_grammar.specs.Numbers.{Kind, Index, Turn, Whole, Exact, IsOf, Fits, Writes, IsNumber}
+use Rattle.osrl_grammar.specs.Numbers.{Kind, Index, Turn, Whole, Exact, IsOfKind, FitsKind, WritesNumber, IsNumberText}
 use Rattle.osrl_grammar.specs.Fields.{IsNot}
 
 -- no byte
@@ -110,10 +110,10 @@ free_size text x (inr q) free =
     own_size x.num (digits_value 10 q.digits) (q.num ∙ no_minus q.is_negative (digits_value 10 q.digits) (q.digits ++ under_text q.under) (subst (λ (t : List ℕ). IsFree 45 t) q.text free))
 
 -- a fraction without `/` is a whole number
-pub whole_read : (text : List ℕ) (x : Frac) → IsNumber Exact text (ratio x) → IsFree 47 text → IsNumber Whole text (whole x.numer)
+pub whole_read : (text : List ℕ) (x : Frac) → IsNumberText Exact text (ratio x) → IsFree 47 text → IsNumberText Whole text (whole x.numer)
 whole_read text x h free =
     let same : ratio x ≡ whole x.numer = one_number (ratio x) (whole x.numer) refl (free_whole text (ratio x) h.0.form free) in
-    let e = subst (λ (y : Ratio). IsNumber Exact text y) same h in
+    let e = subst (λ (y : Ratio). IsNumberText Exact text y) same h in
     (record { form = e.0.form; of_kind = refl; reduced = e.0.reduced }, e.1)
 
 -- a text with `/` is none
@@ -127,21 +127,21 @@ whole_unread text NoNumber h free = λ x w. h x (record { form = w.form; of_kind
 whole_unread text TooGreat (x, w, over_width) free = (x, record { form = w.form; of_kind = free_whole text x w.form free; reduced = w.reduced }, over_width)
 
 -- a whole number without `-` is from 0 on
-pub size_read : (text : List ℕ) (k : ℤ) → IsNumber Whole text (whole k) → IsFree 45 text → Writes Index text (whole (pos (unsigned_abs k)))
+pub size_read : (text : List ℕ) (k : ℤ) → IsNumberText Whole text (whole k) → IsFree 45 text → WritesNumber Index text (whole (pos (unsigned_abs k)))
 size_read text k h free =
     let same : whole k ≡ whole (pos (unsigned_abs k)) = ap whole (free_size text (whole k) h.0.form free) in
-    let w = subst (λ (y : Ratio). Writes Whole text y) same h.0 in
+    let w = subst (λ (y : Ratio). WritesNumber Whole text y) same h.0 in
     record { form = w.form; of_kind = (unsigned_abs k, refl); reduced = w.reduced }
 
 -- the numbers from 0 on as turns
-pub as_turn : (text : List ℕ) (x : Ratio) → Writes Index text x → Writes Turn text x
+pub as_turn : (text : List ℕ) (x : Ratio) → WritesNumber Index text x → WritesNumber Turn text x
 as_turn text x w = record { form = w.form; of_kind = w.of_kind; reduced = w.reduced }
 
 -- a kind of numbers from 0 on, all of which are within the width
 pub record IsSizes (kind : Kind) : Type 0 where
-  pub sized : (x : Ratio) → IsOf kind x → (n : ℕ) × (x ≡ whole (pos n))
-  pub every : (n : ℕ) → IsOf kind (whole (pos n))
-  pub narrow : (x : Ratio) → Fits kind x → unsigned_abs x.num ≤ most
+  pub sized : (x : Ratio) → IsOfKind kind x → (n : ℕ) × (x ≡ whole (pos n))
+  pub every : (n : ℕ) → IsOfKind kind (whole (pos n))
+  pub narrow : (x : Ratio) → FitsKind kind x → unsigned_abs x.num ≤ most
 
 pub index_sizes : IsSizes Index
 index_sizes = record { sized = λ x h. h; every = λ n. (n, refl); narrow = λ x h. let top : 2 ^ 32 ≤ most = lit≤ tt in omega (arith, h, top) }
@@ -159,7 +159,7 @@ size_unread kind text NoShape sizes h free = h
 size_unread kind text NoNumber sizes h free = λ x w. h x (record { form = w.form; of_kind = ap (λ (y : Ratio). y.den) (sizes.sized x w.of_kind).1; reduced = w.reduced })
 size_unread kind text TooGreat sizes (x, w, wide) free =
     let same : x ≡ whole (pos (unsigned_abs x.num)) = one_number x (whole (pos (unsigned_abs x.num))) (free_size text x w.form free) w.of_kind in
-    let of_kind : IsOf kind x = subst (λ (y : Ratio). IsOf kind y) (sym same) (sizes.every (unsigned_abs x.num)) in
+    let of_kind : IsOfKind kind x = subst (λ (y : Ratio). IsOfKind kind y) (sym same) (sizes.every (unsigned_abs x.num)) in
     let one : 1 ≤ most = lit≤ tt in
     (x, record { form = w.form; of_kind = of_kind; reduced = w.reduced }, λ fits. wide (sizes.narrow x fits, subst (λ d. d ≤ most) (sym w.of_kind) one))
 

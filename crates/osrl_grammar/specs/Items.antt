@@ -7,7 +7,7 @@ use Rattle.osrl_grammar.specs.declared.parts.Part.{Part}
 use Rattle.osrl_grammar.specs.declared.parts.Part.TheVariants.{Point, Value, Ray, Tree, Cause}
 use Rattle.osrl_grammar.specs.declared.parts.Unread.{Unread}
 use Rattle.osrl_grammar.specs.declared.parts.Unread.TheVariants.{NoShape, NoNumber, TooGreat}
-use Rattle.osrl_grammar.specs.Numbers.{Index, Turn, Whole, Exact, Field, IsWritten, IsRead}
+use Rattle.osrl_grammar.specs.Numbers.{Index, Turn, Whole, Exact, Field, IsWritten, IsFieldRead}
 
 -- a text without this byte
 abbrev pub IsFree : ℕ → List ℕ → Type 0
@@ -61,30 +61,30 @@ shape_text Memory = codes "memory"
 abbrev pub pair_fields : Pair → List Field
 pair_fields p = record { kind = Index; text = p.column } ∷ record { kind = Exact; text = p.factor } ∷ []
 
-abbrev pub fields : Shape → List Field
-fields (Number text) = record { kind = Exact; text = text } ∷ []
-fields (Split column bound) = record { kind = Index; text = column } ∷ record { kind = Whole; text = bound } ∷ []
-fields (Clash column) = record { kind = Index; text = column } ∷ []
-fields (Farkas pairs) = flat_map pair_fields pairs
-fields (Bound pairs) = flat_map pair_fields pairs
-fields Killed = []
-fields (NodeLimit limit) = record { kind = Index; text = limit } ∷ []
-fields (TurnLimit limit) = record { kind = Index; text = limit } ∷ []
-fields (Wide node turn step) = record { kind = Index; text = node } ∷ record { kind = Turn; text = turn } ∷ []
-fields Length = []
-fields Memory = []
+abbrev pub item_fields : Shape → List Field
+item_fields (Number text) = record { kind = Exact; text = text } ∷ []
+item_fields (Split column bound) = record { kind = Index; text = column } ∷ record { kind = Whole; text = bound } ∷ []
+item_fields (Clash column) = record { kind = Index; text = column } ∷ []
+item_fields (Farkas pairs) = flat_map pair_fields pairs
+item_fields (Bound pairs) = flat_map pair_fields pairs
+item_fields Killed = []
+item_fields (NodeLimit limit) = record { kind = Index; text = limit } ∷ []
+item_fields (TurnLimit limit) = record { kind = Index; text = limit } ∷ []
+item_fields (Wide node turn step) = record { kind = Index; text = node } ∷ record { kind = Turn; text = turn } ∷ []
+item_fields Length = []
+item_fields Memory = []
 
 -- a pair parts at its first colon
-abbrev pub IsPair : Pair → Type 0
-IsPair p = IsFree 32 p.column × IsFree 58 p.column × IsFree 32 p.factor
+abbrev pub IsPairText : Pair → Type 0
+IsPairText p = IsFree 32 p.column × IsFree 58 p.column × IsFree 32 p.factor
 
 -- nodes, and causes, with one space between their pieces; a piece may be empty
 abbrev pub IsNodeShape : Shape → Type 0
 IsNodeShape (Number text) = ⊥
 IsNodeShape (Split column bound) = IsFree 32 column × IsFree 32 bound
 IsNodeShape (Clash column) = IsFree 32 column
-IsNodeShape (Farkas pairs) = All IsPair pairs
-IsNodeShape (Bound pairs) = All IsPair pairs
+IsNodeShape (Farkas pairs) = All IsPairText pairs
+IsNodeShape (Bound pairs) = All IsPairText pairs
 IsNodeShape Killed = ⊥
 IsNodeShape (NodeLimit limit) = ⊥
 IsNodeShape (TurnLimit limit) = ⊥
@@ -135,11 +135,11 @@ abbrev pub HasShape : Item → Shape → Type 0
 HasShape i s = (i.text ≡ shape_text s) × IsOfPart i.part s
 
 -- what is wrong with an item: it isn't of its shape, a text in it isn't a number, or a number is too great
-abbrev pub IsUnread : Item → Unread → Type 0
-IsUnread i NoShape = (s : Shape) → HasShape i s → ⊥
-IsUnread i NoNumber = (s : Shape) × HasShape i s × (All IsWritten (fields s) → ⊥)
-IsUnread i TooGreat = (s : Shape) × HasShape i s × All IsWritten (fields s) × (All IsRead (fields s) → ⊥)
+abbrev pub IsItemUnread : Item → Unread → Type 0
+IsItemUnread i NoShape = (s : Shape) → HasShape i s → ⊥
+IsItemUnread i NoNumber = (s : Shape) × HasShape i s × (All IsWritten (item_fields s) → ⊥)
+IsItemUnread i TooGreat = (s : Shape) × HasShape i s × All IsWritten (item_fields s) × (All IsFieldRead (item_fields s) → ⊥)
 
 -- nothing is wrong with it
-abbrev pub IsReadable : Item → Type 0
-IsReadable i = (s : Shape) × HasShape i s × All IsRead (fields s)
+abbrev pub IsReadableItem : Item → Type 0
+IsReadableItem i = (s : Shape) × HasShape i s × All IsFieldRead (item_fields s)

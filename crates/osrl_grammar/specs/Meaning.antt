@@ -13,10 +13,10 @@ use Rattle.document_tags.specs.Elements.{attribute, first_within, own_text, unle
 use Rattle.osrl_grammar.specs.declared.parts.Part.{Part}
 use Rattle.osrl_grammar.specs.declared.parts.Part.TheVariants as parts
 use Rattle.osrl_grammar.specs.declared.parts.Claiming.TheVariants as claiming
-use Rattle.osrl_grammar.specs.Items.{IsReadable}
+use Rattle.osrl_grammar.specs.Items.{IsReadableItem}
 use Rattle.osrl_grammar.specs.Values.{IsFraction, IsNode, IsCause}
 use Rattle.osrl_grammar.specs.Parts.{first_part, item_texts, solutions, items}
-use Rattle.osrl_grammar.specs.Refusals.{IsNamed, IsCounted, general_path, job_path, status_text, Claims}
+use Rattle.osrl_grammar.specs.Refusals.{IsNamed, HasCountedParts, general_path, job_path, status_text, Claims}
 
 -- what an element says, without the white space round it, if there is one that says anything
 abbrev pub text_in : Option Element → Option (List ℕ)
@@ -24,27 +24,27 @@ text_in None = None
 text_in (Some e) = unless_empty (trimmed (own_text e))
 
 -- the items of a solution's part are these
-abbrev pub HasPart : {X : Type 0} → Element → Part → (List ℕ → X → Type 0) → List X → Type 0
-HasPart solution p Is xs = IsSomeAnd (first_part p solution) (λ e. AllZip Is (item_texts e) xs)
+abbrev pub HasSolutionPart : {X : Type 0} → Element → Part → (List ℕ → X → Type 0) → List X → Type 0
+HasSolutionPart solution p Is xs = IsSomeAnd (first_part p solution) (λ e. AllZip Is (item_texts e) xs)
 
-abbrev pub HasNumbers : Element → Part → List Frac → Type 0
-HasNumbers solution p xs = HasPart solution p IsFraction xs
+abbrev pub HasFractions : Element → Part → List Frac → Type 0
+HasFractions solution p xs = HasSolutionPart solution p IsFraction xs
 
 abbrev pub HasTree : Element → List Node → Type 0
-HasTree solution ns = HasPart solution parts.Tree IsNode ns
+HasTree solution ns = HasSolutionPart solution parts.Tree IsNode ns
 
 abbrev pub HasCause : Element → Cause → Type 0
-HasCause solution c = HasPart solution parts.Cause IsCause (c ∷ [])
+HasCause solution c = HasSolutionPart solution parts.Cause IsCause (c ∷ [])
 
 -- a point and its value
 abbrev pub HasPoint : Element → List Frac → Frac → Type 0
-HasPoint solution x v = HasNumbers solution parts.Point x × HasNumbers solution parts.Value (v ∷ [])
+HasPoint solution x v = HasFractions solution parts.Point x × HasFractions solution parts.Value (v ∷ [])
 
 -- a solution claims this; its status says which parts are read
 abbrev pub SaysClaim : Element → Claim → Type 0
 SaysClaim solution (Optimal x v ns) = Claims solution claiming.Optimal × HasPoint solution x v × HasTree solution ns
 SaysClaim solution (Infeasible ns) = Claims solution claiming.Infeasible × HasTree solution ns
-SaysClaim solution (Unbounded x v r) = Claims solution claiming.Unbounded × HasPoint solution x v × HasNumbers solution parts.Ray r
+SaysClaim solution (Unbounded x v r) = Claims solution claiming.Unbounded × HasPoint solution x v × HasFractions solution parts.Ray r
 SaysClaim solution (BestSoFar x v c) = Claims solution claiming.BestSoFar × HasPoint solution x v × HasCause solution c
 SaysClaim solution (Unsure c) = Claims solution claiming.Unsure × HasCause solution c
 
@@ -66,6 +66,6 @@ pub record Says (root : Element) (r : Report) : Type 0 where
 -- the document with this root is a report
 pub record IsReport (root : Element) (r : Report) : Type 0 where
   pub named : IsNamed root
-  pub readable : All IsReadable (items root)
-  pub counted : IsCounted root
+  pub readable : All IsReadableItem (items root)
+  pub counted : HasCountedParts root
   pub says : Says root r

@@ -11,28 +11,28 @@ pub data Kind : Type 0 where
   Exact : Kind
 
 -- the numbers of a kind, of any size: from 0 on and whole, whole, or all
-abbrev pub IsOf : Kind → Ratio → Type 0
-IsOf Index x = (n : ℕ) × (x ≡ whole (pos n))
-IsOf Turn x = (n : ℕ) × (x ≡ whole (pos n))
-IsOf Whole x = x.den ≡ 1
-IsOf Exact x = Unit {0}
+abbrev pub IsOfKind : Kind → Ratio → Type 0
+IsOfKind Index x = (n : ℕ) × (x ≡ whole (pos n))
+IsOfKind Turn x = (n : ℕ) × (x ≡ whole (pos n))
+IsOfKind Whole x = x.den ≡ 1
+IsOfKind Exact x = Unit {0}
 
 -- it isn't too great for its kind
-abbrev pub Fits : Kind → Ratio → Type 0
-Fits Index x = unsigned_abs x.num < 2 ^ 32
-Fits Turn x = unsigned_abs x.num < 2 ^ 64
-Fits Whole x = IsWithin x
-Fits Exact x = IsWithin x
+abbrev pub FitsKind : Kind → Ratio → Type 0
+FitsKind Index x = unsigned_abs x.num < 2 ^ 32
+FitsKind Turn x = unsigned_abs x.num < 2 ^ 64
+FitsKind Whole x = IsWithin x
+FitsKind Exact x = IsWithin x
 
 -- the text writes a number of this kind, of any size; one within the width in lowest terms
-pub record Writes (kind : Kind) (text : List ℕ) (x : Ratio) : Type 0 where
+pub record WritesNumber (kind : Kind) (text : List ℕ) (x : Ratio) : Type 0 where
   pub form : RatioText text x
-  pub of_kind : IsOf kind x
+  pub of_kind : IsOfKind kind x
   pub reduced : IsWithin x → IsReduced x
 
 -- the text is this number
-abbrev pub IsNumber : Kind → List ℕ → Ratio → Type 0
-IsNumber kind text x = Writes kind text x × Fits kind x
+abbrev pub IsNumberText : Kind → List ℕ → Ratio → Type 0
+IsNumberText kind text x = WritesNumber kind text x × FitsKind kind x
 
 -- a text in place of a number
 pub record Field : Type 0 where
@@ -41,8 +41,8 @@ pub record Field : Type 0 where
 
 -- the text is of the grammar of its kind
 abbrev pub IsWritten : Field → Type 0
-IsWritten f = (x : Ratio) × Writes f.kind f.text x
+IsWritten f = (x : Ratio) × WritesNumber f.kind f.text x
 
 -- it is a number
-abbrev pub IsRead : Field → Type 0
-IsRead f = (x : Ratio) × IsNumber f.kind f.text x
+abbrev pub IsFieldRead : Field → Type 0
+IsFieldRead f = (x : Ratio) × IsNumberText f.kind f.text x

@@ -7,7 +7,7 @@ use Rattle.osrl_grammar.specs.declared.parts.Part.TheVariants.{Tree, Cause}
 use Rattle.osrl_grammar.specs.declared.parts.Unread.{Unread}
 use Rattle.osrl_grammar.specs.declared.parts.Unread.TheVariants.{NoShape, NoNumber, TooGreat}
 use Rattle.osrl_grammar.specs.Fields.{AreNot}
-use Rattle.osrl_grammar.specs.Items.{Pair, Item, IsFree, IsPair, pair_text, pair_fields}
+use Rattle.osrl_grammar.specs.Items.{Pair, Item, IsFree, IsPairText, pair_text, pair_fields}
 use Rattle.osrl_grammar.specs.Values.{IsMult}
 
 -- the text is two with this byte between them, and the first is without it
@@ -25,7 +25,7 @@ tail (Some text) = 32 ∷ text.now
 
 -- the text is these pairs, each behind a space
 abbrev pub HasPairs : List ℕ → List Pair → Type 0
-HasPairs text pairs = (text ≡ flat_map pair_text pairs) × All IsPair pairs
+HasPairs text pairs = (text ≡ flat_map pair_text pairs) × All IsPairText pairs
 
 -- no multiplier is wrong so far, or something is wrong with the texts of the pairs
 abbrev pub SoFar : List Pair → List Mult → Option Unread → Type 0

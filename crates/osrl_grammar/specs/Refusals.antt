@@ -8,7 +8,7 @@ use Rattle.osrl_grammar.specs.declared.fault.OsrlFault.{OsrlFault}
 use Rattle.osrl_grammar.specs.declared.fault.OsrlFault.TheVariants.{Tree, Root, Missing, Item, Count, Number, Wide, Memory}
 use Rattle.document_tags.specs.Elements.{attribute, first_within, own_text}
 use Rattle.osrl_grammar.specs.Items as shapes
-use Rattle.osrl_grammar.specs.Items.{IsUnread, IsReadable}
+use Rattle.osrl_grammar.specs.Items.{IsItemUnread, IsReadableItem}
 use Rattle.osrl_grammar.specs.declared.parts.Part.{Part}
 use Rattle.osrl_grammar.specs.declared.parts.Part.TheVariants as parts
 use Rattle.osrl_grammar.specs.declared.parts.Unread.{Unread}
@@ -46,21 +46,21 @@ abbrev pub IsNamed : Element → Type 0
 IsNamed root = root.name ≡ codes "osrl"
 
 -- so many items may stand in a part
-abbrev pub MayHold : Part → ℕ → Type 0
-MayHold parts.Point n = Unit {0}
-MayHold parts.Value n = n ≡ 1
-MayHold parts.Ray n = Unit {0}
-MayHold parts.Tree n = 0 < n
-MayHold parts.Cause n = n ≡ 1
+abbrev pub MayHoldItems : Part → ℕ → Type 0
+MayHoldItems parts.Point n = Unit {0}
+MayHoldItems parts.Value n = n ≡ 1
+MayHoldItems parts.Ray n = Unit {0}
+MayHoldItems parts.Tree n = 0 < n
+MayHoldItems parts.Cause n = n ≡ 1
 
 -- a part stands at most once, and holds as many items as it may
 pub record IsPartCounted (p : Part) (es : List Element) : Type 0 where
   pub once : length (of_part p es) ≤ 1
-  pub holds : All (λ e. MayHold p (length (item_texts e))) (of_part p es)
+  pub holds : All (λ e. MayHoldItems p (length (item_texts e))) (of_part p es)
 
 -- the part stands once among these results and holds as many items as it may, or not at all
 abbrev pub WasSeen : Part → Bool → List Element → Type 0
-WasSeen p true es = (e : Element) × (of_part p es ≡ e ∷ []) × MayHold p (length (item_texts e))
+WasSeen p true es = (e : Element) × (of_part p es ≡ e ∷ []) × MayHoldItems p (length (item_texts e))
 WasSeen p false es = of_part p es ≡ []
 
 -- with one result more it does, or however many follow the part isn't as it may be
@@ -69,7 +69,7 @@ SeesNext p before e None = (rest : List Element) → IsPartCounted p (before ++ 
 SeesNext p before e (Some seen) = WasSeen p seen (before ++ e ∷ [])
 
 -- at most one solution, and parts as they may be
-pub record IsCounted (root : Element) : Type 0 where
+pub record HasCountedParts (root : Element) : Type 0 where
   pub once : length (solutions root) ≤ 1
   pub each : (p : Part) → IsPartCounted p (all_results root)
 
@@ -101,18 +101,18 @@ pub record IsFirstUnread (is : List shapes.Item) (n : ℕ) (u : Unread) : Type 0
   pub after : List shapes.Item
   pub split : is ≡ before ++ item ∷ after
   pub ordinal : n ≡ suc (length before)
-  pub readable : All IsReadable before
-  pub unread : IsUnread item u
+  pub readable : All IsReadableItem before
+  pub unread : IsItemUnread item u
 
 -- the refusal of the n-th item for this reason
-abbrev pub refusal : Unread → ℕ → OsrlFault
-refusal NoShape n = Item n
-refusal NoNumber n = Number n
-refusal TooGreat n = Wide n
+abbrev pub item_refusal : Unread → ℕ → OsrlFault
+item_refusal NoShape n = Item n
+item_refusal NoNumber n = Number n
+item_refusal TooGreat n = Wide n
 
 -- this is the refusal of the first of these items that isn't read
 abbrev pub RefusesItem : List shapes.Item → OsrlFault → Type 0
-RefusesItem is f = (u : Unread) × (n : ℕ) × (f ≡ refusal u n) × IsFirstUnread is n u
+RefusesItem is f = (u : Unread) × (n : ℕ) × (f ≡ item_refusal u n) × IsFirstUnread is n u
 
 -- the document with this root is refused; the tree's own refusals come before, and want of memory is none
 abbrev pub IsRefused : Element → OsrlFault → Type 0
@@ -121,6 +121,6 @@ IsRefused root Root = IsNamed root → ⊥
 IsRefused root (Item n) = IsNamed root × IsFirstUnread (items root) n NoShape
 IsRefused root (Number n) = IsNamed root × IsFirstUnread (items root) n NoNumber
 IsRefused root (Wide n) = IsNamed root × IsFirstUnread (items root) n TooGreat
-IsRefused root Count = IsNamed root × All IsReadable (items root) × (IsCounted root → ⊥)
-IsRefused root Missing = IsNamed root × All IsReadable (items root) × IsCounted root × (IsComplete root → ⊥)
+IsRefused root Count = IsNamed root × All IsReadableItem (items root) × (HasCountedParts root → ⊥)
+IsRefused root Missing = IsNamed root × All IsReadableItem (items root) × HasCountedParts root × (IsComplete root → ⊥)
 IsRefused root Memory = ⊥

@@ -2,7 +2,7 @@
 use Rattle.std.specs.Prelude.{ℕ, ◌+◌, ◌-◌, Bool, true, false, Option, None, Some, nat_lt, cond, List, [], ◌∷◌, ◌++◌, map, flat_map, length, codes, decimal}
 use Rattle.std.specs.Fmt.{signed_decimal}
 use Rattle.tree_grammar.specs.Elements.{Nodes, none, element, chars, Element}
-use Rattle.tree_grammar.specs.Written.{written}
+use Rattle.tree_grammar.specs.WrittenText.{written}
 use Rattle.document_tags.specs.Writing.{only, text_nodes, leaf, group, typed, rooted}
 use Rattle.fraction.specs.Frac.{ratio}
 use Rattle.fraction.specs.declared.frac.Frac.{Frac}
@@ -139,12 +139,12 @@ abbrev pub general_nodes : Report → Nodes
 general_nodes r = typed (codes "generalStatus") (general_type r.error) (leaf_of (codes "jobID") r.job (leaf_of (codes "message") r.message none))
 
 -- how far the job is, and then more
-abbrev pub job_nodes : JobStatus → Nodes → Nodes
-job_nodes status more = group (codes "job") (leaf (codes "status") (status_text status) none) more
+abbrev pub status_nodes : JobStatus → Nodes → Nodes
+status_nodes status more = group (codes "job") (leaf (codes "status") (status_text status) none) more
 
 -- the root that a report is written as
 abbrev pub report_element : Report → Element
-report_element r = rooted (codes "osrl") (group (codes "general") (general_nodes r) (job_nodes r.status (optimization r.claim)))
+report_element r = rooted (codes "osrl") (group (codes "general") (general_nodes r) (status_nodes r.status (optimization r.claim)))
 
 -- the text of a report
 abbrev pub report_text : Report → List ℕ

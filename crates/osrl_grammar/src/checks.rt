@@ -8,8 +8,8 @@ ghost use Rattle.osrl_grammar.specs.declared.parts.Unread.{Unread};
 ghost use Rattle.osrl_grammar.specs.Parts as named;
 ghost use Rattle.osrl_grammar.specs.Items as shapes;
 ghost use Rattle.osrl_grammar.specs.Refusals as says;
-ghost use Rattle.document_tags.specs.Spots.{Stands, AreSpots, IsSpot};
-ghost use Rattle.osrl_grammar.specs.Spots.{IsEntry, AreItems};
+ghost use Rattle.document_tags.specs.Spots.{StandsAt, AreSpots, IsSpot};
+ghost use Rattle.osrl_grammar.specs.Spots.{IsItemEntry, AreItems};
 
 use crate::fault::OsrlFault;
 use crate::item_reading::item_fault;
@@ -30,7 +30,7 @@ pub(crate) struct Entry<'t> {
 
 /// Whether a result is this part.
 pub(crate) fn is_part(part: Part, spot: Spot<'_>) -> bool
-    ensures { (e : Element) → Stands spot.entry e → result ≡ named.is_part part e }
+    ensures { (e : Element) → StandsAt spot.entry e → result ≡ named.is_part part e }
 {
     match spot.attribute(b"name") {
         Some(name) => name == part_name(part),
@@ -40,7 +40,7 @@ pub(crate) fn is_part(part: Part, spot: Spot<'_>) -> bool
 
 /// The part that a result is, if it is one.
 fn part_of(spot: Spot<'_>) -> Option<Part>
-    ensures { (e : Element) → Stands spot.entry e → MatchOption result ((p : Part) → named.is_part p e ≡ false) (λ p. named.is_part p e ≡ true) }
+    ensures { (e : Element) → StandsAt spot.entry e → MatchOption result ((p : Part) → named.is_part p e ≡ false) (λ p. named.is_part p e ≡ true) }
 {
     for part in PARTS {
         if is_part(part, spot) {
@@ -74,7 +74,7 @@ fn push_entries<'t>(part: Part, spots: &[Spot<'t>], out: &mut Vec<Entry<'t>>) ->
 
 /// Adds the items of a result.
 fn push_items<'t>(alloc: Global, found: Spot<'t>, out: &mut Vec<Entry<'t>>) -> Result<(), Memory>
-    ensures { (e : Element) (is : List shapes.Item) → Stands found.entry e → AreItems out.old.items is → OnOk result (AreItems out.new.items (is ++ named.items_of e)) }
+    ensures { (e : Element) (is : List shapes.Item) → StandsAt found.entry e → AreItems out.old.items is → OnOk result (AreItems out.new.items (is ++ named.items_of e)) }
 {
     let Some(part) = part_of(found) else {
         return Ok(());
@@ -96,7 +96,7 @@ fn items_of<'t>(alloc: Global, results: &[Spot<'t>]) -> Result<Vec<Entry<'t>>, M
 
 /// The refusal of the n-th item.
 fn refusal(unread: Unread, n: u64) -> OsrlFault
-    ensures { result ≡ says.refusal unread n }
+    ensures { result ≡ says.item_refusal unread n }
 {
     match unread {
         Unread::NoShape => OsrlFault::Item { n },
@@ -107,7 +107,7 @@ fn refusal(unread: Unread, n: u64) -> OsrlFault
 
 /// What is wrong with an item, if anything is.
 fn entry_fault(alloc: Global, entry: Entry<'_>) -> Result<Option<Unread>, Memory>
-    ensures { (i : shapes.Item) → IsEntry entry.entry i → IfOk result (λ fault. MatchOption fault (shapes.IsReadable i) (shapes.IsUnread i)) }
+    ensures { (i : shapes.Item) → IsItemEntry entry.entry i → IfOk result (λ fault. MatchOption fault (shapes.IsReadableItem i) (shapes.IsItemUnread i)) }
 {
     let text = entry.spot.own_text(alloc)?;
     item_fault(alloc, entry.part, text.as_slice())
@@ -115,7 +115,7 @@ fn entry_fault(alloc: Global, entry: Entry<'_>) -> Result<Option<Unread>, Memory
 
 /// The refusal of the first of these items that isn't read, if there is one.
 fn first_fault(alloc: Global, items: &[Entry<'_>]) -> Result<Option<OsrlFault>, Memory>
-    ensures { (is : List shapes.Item) → AreItems items.now is → IfOk result (λ fault. MatchOption fault (All shapes.IsReadable is) (says.RefusesItem is)) }
+    ensures { (is : List shapes.Item) → AreItems items.now is → IfOk result (λ fault. MatchOption fault (All shapes.IsReadableItem is) (says.RefusesItem is)) }
 {
     for (i, item) in items.iter().enumerate() {
         if let Some(unread) = entry_fault(alloc, *item)? {
@@ -127,7 +127,7 @@ fn first_fault(alloc: Global, items: &[Entry<'_>]) -> Result<Option<OsrlFault>, 
 
 /// The refusal of the first item of these results that isn't read, if there is one.
 pub(crate) fn items_fault(alloc: Global, results: &[Spot<'_>]) -> Result<Option<OsrlFault>, Memory>
-    ensures { (es : List Element) → AreSpots results.now es → IfOk result (λ fault. MatchOption fault (All shapes.IsReadable (flat_map named.items_of es)) (says.RefusesItem (flat_map named.items_of es))) }
+    ensures { (es : List Element) → AreSpots results.now es → IfOk result (λ fault. MatchOption fault (All shapes.IsReadableItem (flat_map named.items_of es)) (says.RefusesItem (flat_map named.items_of es))) }
 {
     let items = items_of(alloc, results)?;
     first_fault(alloc, items.as_slice())
@@ -135,7 +135,7 @@ pub(crate) fn items_fault(alloc: Global, results: &[Spot<'_>]) -> Result<Option<
 
 /// Whether so many items may stand in a part.
 fn may_hold(part: Part, count: usize) -> bool
-    ensures { IsTrue result ↔ says.MayHold part count }
+    ensures { IsTrue result ↔ says.MayHoldItems part count }
 {
     match part {
         Part::Point | Part::Ray => true,
@@ -146,7 +146,7 @@ fn may_hold(part: Part, count: usize) -> bool
 
 /// Whether the part was seen, with one result more; none where it stands twice, or may not hold so many items.
 fn seen_with(alloc: Global, part: Part, seen: bool, found: Spot<'_>) -> Result<Option<bool>, Memory>
-    ensures { (before : List Element) (e : Element) → Stands found.entry e → says.WasSeen part seen before → IfOk result (says.SeesNext part before e) }
+    ensures { (before : List Element) (e : Element) → StandsAt found.entry e → says.WasSeen part seen before → IfOk result (says.SeesNext part before e) }
 {
     if !is_part(part, found) {
         return Ok(Some(seen));

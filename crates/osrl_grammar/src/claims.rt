@@ -10,7 +10,7 @@ ghost use Rattle.std.specs.List.{AllZip};
 ghost use Rattle.osrl_grammar.specs.Values.{IsFraction, IsNode, IsCause};
 ghost use Rattle.osrl_grammar.specs.Meaning as meaning;
 ghost use Rattle.osrl_grammar.specs.Claiming.{IsOnly, AreOf};
-ghost use Rattle.document_tags.specs.Spots.{Stands, AreSpots};
+ghost use Rattle.document_tags.specs.Spots.{StandsAt, AreSpots};
 ghost use Rattle.osrl_grammar.specs.declared.parts.Part.TheVariants as kinds;
 ghost use Rattle.osrl_grammar.specs.declared.parts.Claiming.TheVariants as claiming;
 
@@ -46,7 +46,7 @@ fn claiming_of(word: &[u8]) -> Option<Claiming>
 
 /// What a solution's status claims, if it has one of the five.
 fn read_claiming(alloc: Global, solution: Spot<'_>) -> Result<Option<Claiming>, Memory>
-    ensures { (e : Element) → Stands solution.entry e → IfOk result (IsOnly (words.Claims e)) }
+    ensures { (e : Element) → StandsAt solution.entry e → IfOk result (IsOnly (words.Claims e)) }
 {
     let Some(status) = first_within(alloc, solution, &[b"status"])? else {
         return Ok(None);
@@ -249,7 +249,7 @@ fn read_unsure(alloc: Global, results: &[Spot<'_>]) -> Result<Option<Claim>, Mem
 
 /// The claim of a solution, if it has a status of the five and the parts that this needs.
 pub(crate) fn read_claim(alloc: Global, solution: Spot<'_>) -> Result<Option<Claim>, Memory>
-    ensures { (e : Element) → Stands solution.entry e → IfOk result (IsOnly (meaning.SaysClaim e)) }
+    ensures { (e : Element) → StandsAt solution.entry e → IfOk result (IsOnly (meaning.SaysClaim e)) }
 {
     let Some(claiming) = read_claiming(alloc, solution)? else {
         return Ok(None);

@@ -6,7 +6,7 @@ ghost use Rattle.certificate.specs.declared.claims.Claim.TheVariants.{Optimal, I
 ghost use Rattle.document_tags.specs.Writing as nodes;
 ghost use Rattle.osrl_grammar.specs.Writing as writing;
 ghost use Rattle.osrl_grammar.specs.Refusals as words;
-ghost use Rattle.document_tags.specs.Telling.{Told, whole};
+ghost use Rattle.document_tags.specs.Telling.{Told, whole_element};
 
 use crate::certificates::{tell_cause, tell_numbers, tell_point, tell_tree};
 use crate::parts::{Claiming, Part};
@@ -188,7 +188,7 @@ fn tell_general(b: &mut TreeBuilder, report: &Report) -> Result<(), Memory>
 /// Tells how far the job is.
 fn tell_job(b: &mut TreeBuilder, status: JobStatus) -> Result<(), Memory>
     requires { b.old.attributes ≡ [] }
-    ensures { OnOk result (Told b.old b.new (λ k. nodes_events (writing.job_nodes status none) k)) }
+    ensures { OnOk result (Told b.old b.new (λ k. nodes_events (writing.status_nodes status none) k)) }
 {
     open(b, b"job")?;
     leaf(b, b"status", status.word())?;
@@ -198,7 +198,7 @@ fn tell_job(b: &mut TreeBuilder, status: JobStatus) -> Result<(), Memory>
 /// Tells a whole report.
 fn tell_report(alloc: Global, b: &mut TreeBuilder, report: &Report) -> Result<(), Memory>
     requires { b.old.attributes ≡ [] }
-    ensures { OnOk result (Told b.old b.new (whole (writing.report_element report.now))) }
+    ensures { OnOk result (Told b.old b.new (whole_element (writing.report_element report.now))) }
 {
     open_with(b, b"osrl", b"xmlns", b"os.optimizationservices.org")?;
     open(b, b"general")?;

@@ -3,10 +3,10 @@
 ghost use Rattle.std.specs.Prelude.{◌≡◌, ◌++◌, ◌∷◌, [], ℕ, List, Ok, IfOk, IfErr, MatchOption, OnOk, codes, pos};
 ghost use Rattle.std.specs.List.{All};
 ghost use Rattle.certificate.specs.declared.causes.Cause.TheVariants as causes;
-ghost use Rattle.osrl_grammar.specs.Numbers.{Field, IsRead};
-ghost use Rattle.osrl_grammar.specs.Items.{Pair, IsFree, IsUnread, IsReadable, step_text, pair_fields};
+ghost use Rattle.osrl_grammar.specs.Numbers.{Field, IsFieldRead};
+ghost use Rattle.osrl_grammar.specs.Items.{Pair, IsFree, IsItemUnread, IsReadableItem, step_text, pair_fields};
 ghost use Rattle.osrl_grammar.specs.Values.{IsMult, IsNode, IsCause};
-ghost use Rattle.osrl_grammar.specs.Fields.{AreNot, AreRead};
+ghost use Rattle.osrl_grammar.specs.Fields.{AreNot, AreFieldsRead};
 ghost use Rattle.osrl_grammar.specs.Claiming.{IsOnly};
 ghost use Rattle.osrl_grammar.specs.Pieces.{SoFar, IsPairRead, ArePairsRead, tail, node_item, cause_item};
 
@@ -31,7 +31,7 @@ fn worse(a: Unread, b: Unread) -> Unread
 /// Both, or the fault that is told.
 fn both<A: Copy, B: Copy>(a: Result<A, Unread>, b: Result<B, Unread>) -> Result<(A, B), Unread>
     ensures ok { IfOk result (λ p. (a ≡ Ok p.0) × (b ≡ Ok p.1)) }
-    ensures read { (fs gs : List Field) → AreRead fs a → AreRead gs b → AreRead (fs ++ gs) result }
+    ensures read { (fs gs : List Field) → AreFieldsRead fs a → AreFieldsRead gs b → AreFieldsRead (fs ++ gs) result }
 {
     match a {
         Ok(x) => match b {
@@ -58,7 +58,7 @@ fn read_mult(column: &[u8], factor: &[u8]) -> Result<Mult, Unread>
 
 /// The fault so far with that of one pair more.
 fn with_fault(fault: Option<Unread>, unread: Unread) -> Unread
-    ensures { (fs gs : List Field) → MatchOption fault (All IsRead fs) (AreNot fs) → AreNot gs unread → AreNot (fs ++ gs) result }
+    ensures { (fs gs : List Field) → MatchOption fault (All IsFieldRead fs) (AreNot fs) → AreNot gs unread → AreNot (fs ++ gs) result }
 {
     match fault {
         Some(before) => worse(before, unread),
@@ -107,7 +107,7 @@ fn read_mults(alloc: Global, pairs: Option<&[u8]>) -> Result<Result<Mults, Unrea
 /// A split behind its word.
 fn read_split(rest: &[u8]) -> Result<Node, Unread>
     ensures ok { IfOk result (IsNode (codes "split " ++ rest.now)) }
-    ensures err { IfErr result (IsUnread (node_item (codes "split " ++ rest.now))) }
+    ensures err { IfErr result (IsItemUnread (node_item (codes "split " ++ rest.now))) }
 {
     let Some((column, bound)) = two_pieces(rest) else {
         return Err(Unread::NoShape);
@@ -121,7 +121,7 @@ fn read_split(rest: &[u8]) -> Result<Node, Unread>
 /// A clash behind its word.
 fn read_clash(rest: &[u8]) -> Result<Node, Unread>
     ensures ok { IfOk result (IsNode (codes "clash " ++ rest.now)) }
-    ensures err { IfErr result (IsUnread (node_item (codes "clash " ++ rest.now))) }
+    ensures err { IfErr result (IsItemUnread (node_item (codes "clash " ++ rest.now))) }
 {
     if !is_free(rest, b' ') {
         return Err(Unread::NoShape);
@@ -135,7 +135,7 @@ fn read_clash(rest: &[u8]) -> Result<Node, Unread>
 /// Multipliers by which no point is feasible.
 fn farkas(mults: Result<Mults, Unread>) -> Result<Node, Unread>
     ensures ok { (text : List ℕ) → ArePairsRead text mults → IfOk result (IsNode (codes "farkas" ++ text)) }
-    ensures err { (text : List ℕ) → ArePairsRead text mults → IfErr result (IsUnread (node_item (codes "farkas" ++ text))) }
+    ensures err { (text : List ℕ) → ArePairsRead text mults → IfErr result (IsItemUnread (node_item (codes "farkas" ++ text))) }
 {
     match mults {
         Ok(mults) => Ok(Node::Farkas(mults)),
@@ -146,7 +146,7 @@ fn farkas(mults: Result<Mults, Unread>) -> Result<Node, Unread>
 /// Multipliers by which no point is better.
 fn bound(mults: Result<Mults, Unread>) -> Result<Node, Unread>
     ensures ok { (text : List ℕ) → ArePairsRead text mults → IfOk result (IsNode (codes "bound" ++ text)) }
-    ensures err { (text : List ℕ) → ArePairsRead text mults → IfErr result (IsUnread (node_item (codes "bound" ++ text))) }
+    ensures err { (text : List ℕ) → ArePairsRead text mults → IfErr result (IsItemUnread (node_item (codes "bound" ++ text))) }
 {
     match mults {
         Ok(mults) => Ok(Node::Bound(mults)),
@@ -157,7 +157,7 @@ fn bound(mults: Result<Mults, Unread>) -> Result<Node, Unread>
 /// The node that an item is.
 pub(crate) fn read_node(alloc: Global, text: &[u8]) -> Result<Result<Node, Unread>, Memory>
     ensures ok { IfOk result (λ r. IfOk r (IsNode text.now)) }
-    ensures err { IfOk result (λ r. IfErr r (IsUnread (node_item text.now))) }
+    ensures err { IfOk result (λ r. IfErr r (IsItemUnread (node_item text.now))) }
 {
     let (word, rest) = cut(text, b' ');
     if word == b"farkas".as_slice() {
@@ -198,7 +198,7 @@ fn step_of(word: &[u8]) -> Option<Step>
 /// The place of a number that was too wide, behind its word.
 fn read_place(rest: &[u8]) -> Result<Place, Unread>
     ensures ok { IfOk result (λ place. IsCause (codes "wide " ++ rest.now) (causes.Wide place)) }
-    ensures err { IfErr result (IsUnread (cause_item (codes "wide " ++ rest.now))) }
+    ensures err { IfErr result (IsItemUnread (cause_item (codes "wide " ++ rest.now))) }
 {
     let Some((node, rest)) = parted(rest, b' ') else {
         return Err(Unread::NoShape);
@@ -219,8 +219,8 @@ fn read_place(rest: &[u8]) -> Result<Place, Unread>
 fn read_limit(rest: &[u8]) -> Result<u32, Unread>
     ensures nodes { IfOk result (λ n. IsCause (codes "nodeLimit " ++ rest.now) (causes.NodeLimit n)) }
     ensures turns { IfOk result (λ n. IsCause (codes "turnLimit " ++ rest.now) (causes.TurnLimit n)) }
-    ensures no_nodes { IfErr result (IsUnread (cause_item (codes "nodeLimit " ++ rest.now))) }
-    ensures no_turns { IfErr result (IsUnread (cause_item (codes "turnLimit " ++ rest.now))) }
+    ensures no_nodes { IfErr result (IsItemUnread (cause_item (codes "nodeLimit " ++ rest.now))) }
+    ensures no_turns { IfErr result (IsItemUnread (cause_item (codes "turnLimit " ++ rest.now))) }
 {
     if is_free(rest, b' ') {
         read_index(rest)
@@ -233,7 +233,7 @@ fn read_limit(rest: &[u8]) -> Result<u32, Unread>
 fn read_counted(word: &[u8], rest: &[u8]) -> Result<Cause, Unread>
     requires { IsFree 32 word.now }
     ensures ok { IfOk result (IsCause (word.now ++ 32 ∷ rest.now)) }
-    ensures err { IfErr result (IsUnread (cause_item (word.now ++ 32 ∷ rest.now))) }
+    ensures err { IfErr result (IsItemUnread (cause_item (word.now ++ 32 ∷ rest.now))) }
 {
     if word == b"wide".as_slice() {
         match read_place(rest) {
@@ -258,7 +258,7 @@ fn read_counted(word: &[u8], rest: &[u8]) -> Result<Cause, Unread>
 /// The cause that an item is.
 pub(crate) fn read_cause(text: &[u8]) -> Result<Cause, Unread>
     ensures ok { IfOk result (IsCause text.now) }
-    ensures err { IfErr result (IsUnread (cause_item text.now)) }
+    ensures err { IfErr result (IsItemUnread (cause_item text.now)) }
 {
     let (word, rest) = cut(text, b' ');
     if let Some(rest) = rest {
@@ -277,7 +277,7 @@ pub(crate) fn read_cause(text: &[u8]) -> Result<Cause, Unread>
 
 /// What is wrong with an item, if anything is.
 pub(crate) fn item_fault(alloc: Global, part: Part, text: &[u8]) -> Result<Option<Unread>, Memory>
-    ensures { IfOk result (λ fault. MatchOption fault (IsReadable (record { part = part; text = text.now })) (IsUnread (record { part = part; text = text.now }))) }
+    ensures { IfOk result (λ fault. MatchOption fault (IsReadableItem (record { part = part; text = text.now })) (IsItemUnread (record { part = part; text = text.now }))) }
 {
     match part {
         Part::Tree => Ok(read_node(alloc, text)?.err()),

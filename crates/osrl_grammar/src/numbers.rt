@@ -4,7 +4,7 @@ ghost use Rattle.std.specs.Prelude.{ℕ, List, IfOk, IfErr, pos};
 ghost use Rattle.rational.specs.Ratio.{whole};
 ghost use Rattle.fraction.specs.Frac.{ratio};
 ghost use Rattle.decimal_text.specs.Fault.{RefusesRatio};
-ghost use Rattle.osrl_grammar.specs.Numbers.{Index, Turn, Whole, Exact, IsNumber, Writes};
+ghost use Rattle.osrl_grammar.specs.Numbers.{Index, Turn, Whole, Exact, IsNumberText, WritesNumber};
 ghost use Rattle.osrl_grammar.specs.Fields.{IsNot};
 
 use crate::parts::Unread;
@@ -25,7 +25,7 @@ fn unread(fault: DecimalFault) -> Unread
 
 /// The fraction that the text is.
 pub(crate) fn read_exact(text: &[u8]) -> Result<Frac, Unread>
-    ensures ok { IfOk result (λ x. IsNumber Exact text.now (ratio x)) }
+    ensures ok { IfOk result (λ x. IsNumberText Exact text.now (ratio x)) }
     ensures err { IfErr result (IsNot Exact text.now) }
 {
     match read_ratio(text) {
@@ -36,7 +36,7 @@ pub(crate) fn read_exact(text: &[u8]) -> Result<Frac, Unread>
 
 /// The whole number that the text is. One with a `/` is none, however great.
 pub(crate) fn read_whole(text: &[u8]) -> Result<i128, Unread>
-    ensures ok { IfOk result (λ k. IsNumber Whole text.now (whole k)) }
+    ensures ok { IfOk result (λ k. IsNumberText Whole text.now (whole k)) }
     ensures err { IfErr result (IsNot Whole text.now) }
 {
     if !is_free(text, b'/') {
@@ -50,7 +50,7 @@ pub(crate) fn read_whole(text: &[u8]) -> Result<i128, Unread>
 
 /// The whole number from 0 on that the text is.
 fn read_size(text: &[u8]) -> Result<u128, Unread>
-    ensures ok { IfOk result (λ n. Writes Index text.now (whole (pos n))) }
+    ensures ok { IfOk result (λ n. WritesNumber Index text.now (whole (pos n))) }
     ensures index { IfErr result (IsNot Index text.now) }
     ensures turn { IfErr result (IsNot Turn text.now) }
 {
@@ -65,7 +65,7 @@ fn read_size(text: &[u8]) -> Result<u128, Unread>
 
 /// The column, node or limit that the text is.
 pub(crate) fn read_index(text: &[u8]) -> Result<u32, Unread>
-    ensures ok { IfOk result (λ n. IsNumber Index text.now (whole (pos n))) }
+    ensures ok { IfOk result (λ n. IsNumberText Index text.now (whole (pos n))) }
     ensures err { IfErr result (IsNot Index text.now) }
 {
     match read_size(text) {
@@ -77,7 +77,7 @@ pub(crate) fn read_index(text: &[u8]) -> Result<u32, Unread>
 
 /// The turn that the text is.
 pub(crate) fn read_turn(text: &[u8]) -> Result<u64, Unread>
-    ensures ok { IfOk result (λ n. IsNumber Turn text.now (whole (pos n))) }
+    ensures ok { IfOk result (λ n. IsNumberText Turn text.now (whole (pos n))) }
     ensures err { IfErr result (IsNot Turn text.now) }
 {
     match read_size(text) {

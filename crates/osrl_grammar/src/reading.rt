@@ -6,7 +6,7 @@ ghost use Rattle.document_tags.specs.Elements as elements;
 ghost use Rattle.osrl_grammar.specs.Parts as named;
 ghost use Rattle.osrl_grammar.specs.Refusals as words;
 ghost use Rattle.osrl_grammar.specs.Claiming.{IsOnly};
-ghost use Rattle.document_tags.specs.Spots.{Stands, AreSpots};
+ghost use Rattle.document_tags.specs.Spots.{StandsAt, AreSpots};
 ghost use Rattle.osrl_grammar.specs.Roots.{SaysError, SaysStatus, Refuses};
 ghost use Rattle.osrl_grammar.specs.Meaning.{text_in, SayClaim, Says, IsReport};
 ghost use Rattle.osrl_grammar.specs.Reading.{IsReportText, DecodeFails};
@@ -39,7 +39,7 @@ const STATUSES: [JobStatus; 6] = [
 
 /// A text of the general part, without the white space round it, unless it is empty or there is none.
 fn read_text(alloc: Global, root: Spot<'_>, name: &[u8]) -> Result<Option<Text>, Memory>
-    ensures { (e : Element) → Stands root.entry e → IfOk result (λ t. t ≡ text_in (elements.first_within e (words.general_path name.now))) }
+    ensures { (e : Element) → StandsAt root.entry e → IfOk result (λ t. t ≡ text_in (elements.first_within e (words.general_path name.now))) }
 {
     let Some(spot) = first_within(alloc, root, &[b"general", name])? else {
         return Ok(None);
@@ -54,7 +54,7 @@ fn read_text(alloc: Global, root: Spot<'_>, name: &[u8]) -> Result<Option<Text>,
 
 /// Whether the general status is that of an error, if there is one.
 fn read_error(alloc: Global, root: Spot<'_>) -> Result<Option<bool>, Memory>
-    ensures { (e : Element) → Stands root.entry e → IfOk result (IsOnly (SaysError e)) }
+    ensures { (e : Element) → StandsAt root.entry e → IfOk result (IsOnly (SaysError e)) }
 {
     let Some(status) = first_within(alloc, root, &[b"general", b"generalStatus"])? else {
         return Ok(None);
@@ -74,7 +74,7 @@ fn status_of(word: &[u8]) -> Option<JobStatus>
 
 /// How far the job is, if that is said by one of the six words.
 fn read_status(alloc: Global, root: Spot<'_>) -> Result<Option<JobStatus>, Memory>
-    ensures { (e : Element) → Stands root.entry e → IfOk result (IsOnly (SaysStatus e)) }
+    ensures { (e : Element) → StandsAt root.entry e → IfOk result (IsOnly (SaysStatus e)) }
 {
     let Some(status) = first_within(alloc, root, &[b"job", b"status"])? else {
         return Ok(None);
@@ -102,7 +102,7 @@ fn read_report(
     root: Spot<'_>,
     solutions: &[Spot<'_>],
 ) -> Result<Option<Report>, Memory>
-    ensures { (e : Element) → Stands root.entry e → AreSpots solutions.now (named.solutions e) → IfOk result (IsOnly (Says e)) }
+    ensures { (e : Element) → StandsAt root.entry e → AreSpots solutions.now (named.solutions e) → IfOk result (IsOnly (Says e)) }
 {
     let Some(error) = read_error(alloc, root)? else {
         return Ok(None);
@@ -126,7 +126,7 @@ fn read_report(
 
 /// The results of all solutions.
 fn read_results<'t>(alloc: Global, root: Spot<'t>) -> Result<Vec<Spot<'t>>, Memory>
-    ensures { (e : Element) → Stands root.entry e → IfOk result (λ r. AreSpots r.items (named.all_results e)) }
+    ensures { (e : Element) → StandsAt root.entry e → IfOk result (λ r. AreSpots r.items (named.all_results e)) }
 {
     let solutions = within(alloc, root, &SOLUTIONS)?;
     along(alloc, solutions, &RESULTS)
@@ -138,7 +138,7 @@ fn is_root_counted(
     solutions: &[Spot<'_>],
     results: &[Spot<'_>],
 ) -> Result<bool, Memory>
-    ensures { (e : Element) → AreSpots solutions.now (named.solutions e) → AreSpots results.now (named.all_results e) → IfOk result (λ r. IsTrue r ↔ words.IsCounted e) }
+    ensures { (e : Element) → AreSpots solutions.now (named.solutions e) → AreSpots results.now (named.all_results e) → IfOk result (λ r. IsTrue r ↔ words.HasCountedParts e) }
 {
     if solutions.len() > 1 {
         return Ok(false);
@@ -148,8 +148,8 @@ fn is_root_counted(
 
 /// The report that a root is, or why it is refused.
 fn read_root(alloc: Global, root: Spot<'_>) -> Result<Report, OsrlFault>
-    ensures ok { (e : Element) → Stands root.entry e → IfOk result (IsReport e) }
-    ensures err { (e : Element) → Stands root.entry e → IfErr result (Refuses e) }
+    ensures ok { (e : Element) → StandsAt root.entry e → IfOk result (IsReport e) }
+    ensures err { (e : Element) → StandsAt root.entry e → IfErr result (Refuses e) }
 {
     if root.name() != b"osrl".as_slice() {
         return Err(OsrlFault::Root);

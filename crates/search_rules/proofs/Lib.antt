@@ -1,8 +1,8 @@
-mod Proving
-mod Narrower
-mod Relaxed
-pub mod Scaled
-mod Holding
+mod Nodes
+mod Cases
+mod RelaxedPoints
+pub mod Rays
+mod Moments
 mod Outcomes
 mod OneOutcome
-pub mod Plain
+pub mod PlainSearches

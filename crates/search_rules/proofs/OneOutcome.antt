@@ -5,7 +5,7 @@ use Rattle.std.proofs.lemmas.Int.{ints}
 use Rattle.rational.specs.Ratio.{Ratio, product, IsFloor, IsNumber}
 use Rattle.rational.proofs.Integers.{below-from_times}
 use Rattle.rational.proofs.Scaling.{IsSame-trans}
-use Rattle.rational.proofs.Reduced.{same_reduced}
+use Rattle.rational.proofs.ReducedForms.{same_reduced}
 use Rattle.evidence.specs.Instance.{Instance, IsInstance, width, cost_at}
 use Rattle.evidence.specs.Point.{value_at, objective}
 use Rattle.evidence.specs.Cases.{Multiplier}
@@ -13,12 +13,12 @@ use Rattle.evidence.proofs.Columns.{by_lt, value-number}
 use Rattle.evidence.proofs.Numbers.{product-number}
 use Rattle.evidence.proofs.Totals.{total-number}
 use Rattle.simplex_rules.specs.Ends.{Terms, Clock, End, Shown, Clash, Empty, Best, Endless, TurnsOut, TooWide, Stopped}
-use Rattle.search_rules.specs.Search.{Found, Moment, Outcome, Next, To, Out, first, branch, IsPassed, IsHopeful, IsSplit, IsWholeBelow, IsValue, Meets, Goes, IsVisit, IsNext, Comes, begins, goes_on, Search}
-use Rattle.simplex_rules.specs.Runs.{Run, looked}
+use Rattle.search_rules.specs.Search.{Found, Moment, Outcome, Next, To, Out, first, branch, IsPassed, IsHopeful, IsSplit, IsWholeBelow, IsValue, MeetsPoint, GoesFrom, IsVisit, IsNext, ComesInSearch, begins, goes_on, Search}
+use Rattle.simplex_rules.specs.Runs.{Run, looked_once}
 use Rattle.simplex_rules.proofs.Moments.{run_true}
 use Rattle.simplex_rules.proofs.OneEnd.{run_once}
-use Rattle.search_rules.proofs.Scaled.{one_ray}
-use Rattle.search_rules.proofs.Holding.{Holds, holds_first, this, next_holds}
+use Rattle.search_rules.proofs.Rays.{one_ray}
+use Rattle.search_rules.proofs.Moments.{Holds, holds_first, this, next_holds}
 
 one_floor : (x : Ratio) (k l : ℤ) → IsFloor x k → IsFloor x l → k ≡ l
 one_floor x k l f g =
@@ -48,7 +48,7 @@ not_whole : (J : Instance) (x : List Ratio) (j : ℕ) (k : ℤ) → IsSplit J x 
 not_whole J x j k s w = s.other (w j s.branch.variable s.branch.whole)
 
 module _ (I J : Instance) (good : IsInstance I) (rest : List Instance) (m : Moment) (x : List Ratio) (ms : List Multiplier) where
-  meets_once : (a b : Next) → Meets I J rest m x ms a → Meets I J rest m x ms b → a ≡ b
+  meets_once : (a b : Next) → MeetsPoint I J rest m x ms a → MeetsPoint I J rest m x ms b → a ≡ b
   meets_once a b (inl (i, k, s, e)) (inl (j, l, t, f)) =
       let p : i ≡ j = one_variable J x i j k l s t in
       let q : k ≡ l = one_split J x i j k l s t in
@@ -73,7 +73,7 @@ not_both : (I : Instance) (best : Option Found) (b : Ratio) → IsPassed I best 
 not_both I best b p h = let q = h p.found p.is in let r = p.passed in omega (arith, ints)
 
 module _ (t : Terms) (zeroed : Bool) (I J : Instance) (good : IsInstance I) (rest : List Instance) (m : Moment) where
-  goes_once : (e : End) (a b : Next) → Shown zeroed J e → Goes t I J rest m e a → Goes t I J rest m e b → a ≡ b
+  goes_once : (e : End) (a b : Next) → Shown zeroed J e → GoesFrom t I J rest m e a → GoesFrom t I J rest m e b → a ≡ b
   goes_once (Clash c) a b shown p q = p ∙ sym q
   goes_once (Empty ms) a b shown p q = p ∙ sym q
   goes_once (Best c x ms) a b shown (inl (p, e)) (inl (q, f)) = e ∙ sym f
@@ -85,7 +85,7 @@ module _ (t : Terms) (zeroed : Bool) (I J : Instance) (good : IsInstance I) (res
   goes_once (Endless x d) a b shown (inr (r, s, f)) (inl (p, e)) = absurd (p r s)
   goes_once (Endless x d) a b shown (inr (r, s, e)) (inr (q, u, f)) =
       let g : r ≡ q = one_ray I d (let h = shown.2 in h.numbers) r q s u in
-      meets_once I J good rest (record m { ray = Some q }) x [] a b (subst (λ r. Meets I J rest (record m { ray = Some r }) x [] a) g e) f
+      meets_once I J good rest (record m { ray = Some q }) x [] a b (subst (λ r. MeetsPoint I J rest (record m { ray = Some r }) x [] a) g e) f
   goes_once TurnsOut a b shown p q = p ∙ sym q
   goes_once (TooWide s) a b shown p q = p ∙ sym q
   goes_once Stopped a b shown p q = p ∙ sym q
@@ -97,12 +97,12 @@ module _ (I : Instance) (t : Terms) (good : IsInstance I) where
       let j : v.visit.case ≡ w.visit.case = cc in
       let k : v.visit.rest ≡ w.visit.rest = cc in
       let n : IsInstance w.visit.case = let c = this I w.visit.case w.visit.rest m w.visit.is h in c.numbers in
-      let r = run_once w.visit.case (is_some m.ray) t (looked m.clock) v.end w.end v.clock w.clock n (subst (λ J. Run J (is_some m.ray) t (looked m.clock) v.end v.clock) j v.visit.run) w.visit.run in
-      let g = subst (λ J. Goes t I J v.visit.rest (record m { clock = v.clock }) v.end a) j v.goes in
-      let g = subst (λ l. Goes t I w.visit.case l (record m { clock = v.clock }) v.end a) k g in
-      let g = subst (λ e. Goes t I w.visit.case w.visit.rest (record m { clock = v.clock }) e a) r.0 g in
-      let g = subst (λ c. Goes t I w.visit.case w.visit.rest (record m { clock = c }) w.end a) r.1 g in
-      goes_once t (is_some m.ray) I w.visit.case good w.visit.rest (record m { clock = w.clock }) w.end a b (run_true w.visit.case (is_some m.ray) t (looked m.clock) w.end w.clock n w.visit.run) g w.goes
+      let r = run_once w.visit.case (is_some m.ray) t (looked_once m.clock) v.end w.end v.clock w.clock n (subst (λ J. Run J (is_some m.ray) t (looked_once m.clock) v.end v.clock) j v.visit.run) w.visit.run in
+      let g = subst (λ J. GoesFrom t I J v.visit.rest (record m { clock = v.clock }) v.end a) j v.goes in
+      let g = subst (λ l. GoesFrom t I w.visit.case l (record m { clock = v.clock }) v.end a) k g in
+      let g = subst (λ e. GoesFrom t I w.visit.case w.visit.rest (record m { clock = v.clock }) e a) r.0 g in
+      let g = subst (λ c. GoesFrom t I w.visit.case w.visit.rest (record m { clock = c }) w.end a) r.1 g in
+      goes_once t (is_some m.ray) I w.visit.case good w.visit.rest (record m { clock = w.clock }) w.end a b (run_true w.visit.case (is_some m.ray) t (looked_once m.clock) w.end w.clock n w.visit.run) g w.goes
 
   waits : (m : Moment) (J : Instance) (rest : List Instance) → m.waiting ≡ J ∷ rest → m.waiting ≡ [] → ⊥
   waits m J rest e f = cc
@@ -130,7 +130,7 @@ module _ (I : Instance) (t : Terms) (good : IsInstance I) where
     now : {m : Moment} {o : Outcome} {c : Clock} → IsNext I t m (Out o c) → Halts m o c
     later : {m n : Moment} {o : Outcome} {c : Clock} → IsNext I t m (To n) → Halts n o c → Halts m o c
 
-  from_first : (m : Moment) (o : Outcome) (c : Clock) → Comes I t m → Halts m o c → Halts (first I) o c
+  from_first : (m : Moment) (o : Outcome) (c : Clock) → ComesInSearch I t m → Halts m o c → Halts (first I) o c
   from_first m o c begins h = h
   from_first m o c (goes_on {m = before} p next) h = from_first before o c p (later next h)
 

@@ -7,12 +7,12 @@ use Rattle.evidence.specs.Point.{IsRay}
 use Rattle.evidence.specs.Cases.{Multiplier}
 use Rattle.certificate.specs.declared.causes.Cause.{Cause}
 use Rattle.simplex_rules.specs.Ends.{Terms, Clock, End, Clash, Empty, Best, Endless, TurnsOut, TooWide, Stopped, Shown, IsRelaxed}
-use Rattle.search_rules.specs.Search.{Found, Moment, Outcome, Out, closed, early, Meets, Goes, IsNext, Search, IsAnswer, searched, given_up, given_up_after}
-use Rattle.search_rules.specs.Shown.{IsPoint, IsShown}
+use Rattle.search_rules.specs.Search.{Found, Moment, Outcome, Out, closed, early, MeetsPoint, GoesFrom, IsNext, Search, IsSearchAnswer, searched, given_up, given_up_after}
+use Rattle.search_rules.specs.Outcomes.{IsPoint, IsShown}
 use Rattle.simplex_rules.proofs.Moments.{run_true}
-use Rattle.search_rules.proofs.Proving.{Leads, leads_out, at_most-same}
-use Rattle.search_rules.proofs.Narrower.{IsCase, feasible}
-use Rattle.search_rules.proofs.Holding.{Holds, this, clocked, ray_at_first, comes_holds}
+use Rattle.search_rules.proofs.Nodes.{Leads, leads_out, at_most-same}
+use Rattle.search_rules.proofs.Cases.{IsCase, feasible}
+use Rattle.search_rules.proofs.Moments.{Holds, this, clocked, ray_at_first, comes_holds}
 
 -- the best point, where there is one
 early_shown : (I : Instance) (best : Option Found) (c : Cause) → ((f : Found) → best ≡ Some f → IsPoint I f) → IsShown I (early best c)
@@ -23,13 +23,13 @@ out_is : {o p : Outcome} {c d : Clock} → Out o c ≡ Out p d → p ≡ o
 out_is e = cc
 
 module _ (I J : Instance) (rest : List Instance) (m : Moment) (is : m.waiting ≡ J ∷ rest) (h : Holds I m) (c : IsCase I J) where
-  meets_shown : (x : List Ratio) (ms : List Multiplier) (r : Option (List Ratio)) (o : Outcome) (d : Clock) → ((s : List Ratio) → r ≡ Some s → IsRay I s) → IsRelaxed J x → Meets I J rest (record m { ray = r }) x ms (Out o d) → IsShown I o
+  meets_shown : (x : List Ratio) (ms : List Multiplier) (r : Option (List Ratio)) (o : Outcome) (d : Clock) → ((s : List Ratio) → r ≡ Some s → IsRay I s) → IsRelaxed J x → MeetsPoint I J rest (record m { ray = r }) x ms (Out o d) → IsShown I o
   meets_shown x ms r o d rays relaxed (inl (j, k, s, e)) = absurd (cc)
   meets_shown x ms r o d rays relaxed (inr (inl (w, f, e))) = subst (IsShown I) (out_is e) (early_shown I m.best _ h.best)
   meets_shown x ms r o d rays relaxed (inr (inr (inl (v, w, f, g, none, e)))) = absurd (cc)
   meets_shown x ms r o d rays relaxed (inr (inr (inr (v, s, w, f, g, some, e)))) = subst (IsShown I) (out_is e) (record { feasible = feasible I J x c relaxed w; value = g; fits = f }, rays s some)
 
-  goes_shown : (t : Terms) (e : End) (o : Outcome) (d : Clock) → Shown (is_some m.ray) J e → Goes t I J rest m e (Out o d) → IsShown I o
+  goes_shown : (t : Terms) (e : End) (o : Outcome) (d : Clock) → Shown (is_some m.ray) J e → GoesFrom t I J rest m e (Out o d) → IsShown I o
   goes_shown t (Clash k) o d s g = absurd (cc)
   goes_shown t (Empty ms) o d s g = absurd (cc)
   goes_shown t (Best b x ms) o d s (inl (p, e)) = absurd (cc)
@@ -63,7 +63,7 @@ outcome_shown I t o d n s = by s.ends
         goes_shown I v.visit.case v.visit.rest (record s.last { clock = v.clock }) v.visit.is (clocked I s.last v.clock h) c t v.end o d (run_true v.visit.case (is_some s.last.ray) t _ v.end v.clock c.numbers v.visit.run) v.goes
 
 -- and so is the point that is answered where memory is wanting
-pub answer_shown : (I : Instance) (t : Terms) (o : Outcome) (d : Clock) → IsInstance I → IsAnswer I t o d → IsShown I o
+pub answer_shown : (I : Instance) (t : Terms) (o : Outcome) (d : Clock) → IsInstance I → IsSearchAnswer I t o d → IsShown I o
 answer_shown I t o d n (searched s) = outcome_shown I t o d n s
 answer_shown I t o d n (given_up {m} c) = let h = comes_holds I t n m c in early_shown I m.best _ h.best
 answer_shown I t o d n (given_up_after {m} c r) = let h = comes_holds I t n m c in early_shown I m.best _ h.best

@@ -14,7 +14,7 @@ use Rattle.certificate.specs.declared.causes.Step.TheVariants.{Point, Ray}
 use Rattle.certificate.specs.declared.causes.Cause.{Cause}
 use Rattle.certificate.specs.declared.causes.Cause.TheVariants.{Killed, NodeLimit, TurnLimit, Wide, Memory}
 use Rattle.simplex_rules.specs.Ends.{Terms, Clock, End, Clash, Empty, Best, Endless, TurnsOut, TooWide, Stopped}
-use Rattle.simplex_rules.specs.Runs.{Run, looked}
+use Rattle.simplex_rules.specs.Runs.{Run, looked_once}
 use Rattle.search_rules.specs.Rays.{IsScaled}
 
 -- a point with its value of the goal
@@ -56,8 +56,8 @@ abbrev pub too_wide : Moment → Step → Outcome
 too_wide m s = early m.best (Wide (record { node = length m.nodes + 1; turn = m.clock.turns; step = s }))
 
 -- a leaf closes the case before the rest
-abbrev pub leaf : Moment → List Instance → Node → Moment
-leaf m rest n = record m { waiting = rest; nodes = m.nodes ++ n ∷ [] }
+abbrev pub closed_by_leaf : Moment → List Instance → Node → Moment
+closed_by_leaf m rest n = record m { waiting = rest; nodes = m.nodes ++ n ∷ [] }
 
 -- two cases come in place of case J: variable j is at most k, or at least k + 1
 abbrev pub branch : Moment → Instance → List Instance → ℕ → ℤ → Moment
@@ -96,24 +96,24 @@ pub data Next : Type 0 where
   Out : Outcome → Clock → Next
 
 -- from point x of case J on: at a whole variable whose value isn't whole the case is split; else the sums of the point don't fit; or it becomes the best point, and multipliers ms close the case; or, where there is a ray, the search ends with it
-abbrev pub Meets : Instance → Instance → List Instance → Moment → List Ratio → List Multiplier → Next → Type 0
-Meets I J rest m x ms next =
+abbrev pub MeetsPoint : Instance → Instance → List Instance → Moment → List Ratio → List Multiplier → Next → Type 0
+MeetsPoint I J rest m x ms next =
     ((j : ℕ) × (k : ℤ) × IsSplit J x j k × (next ≡ To (branch m J rest j k)))
     ⊎ (IsWholeBelow J x (width J) × (PointFits I x → ⊥) × (next ≡ Out (too_wide m Point) m.clock))
-    ⊎ ((v : Ratio) × IsWholeBelow J x (width J) × PointFits I x × IsValue I x v × (m.ray ≡ None) × (next ≡ To (leaf (record m { best = Some (record { point = x; value = v }) }) rest (BoundBy ms))))
+    ⊎ ((v : Ratio) × IsWholeBelow J x (width J) × PointFits I x × IsValue I x v × (m.ray ≡ None) × (next ≡ To (closed_by_leaf (record m { best = Some (record { point = x; value = v }) }) rest (BoundBy ms))))
     ⊎ ((v : Ratio) × (r : List Ratio) × IsWholeBelow J x (width J) × PointFits I x × IsValue I x v × (m.ray ≡ Some r) × (next ≡ Out (Unbounded x v r) m.clock))
 
 -- from the end of the run of case J on, with m's clock then: a clash or multipliers close the case, and so does a bound that isn't better than the best value; a direction gives the ray, and the goal is zero from then on
-abbrev pub Goes : Terms → Instance → Instance → List Instance → Moment → End → Next → Type 0
-Goes t I J rest m (Clash c) next = next ≡ To (leaf m rest (ClashAt c))
-Goes t I J rest m (Empty ms) next = next ≡ To (leaf m rest (FarkasBy ms))
-Goes t I J rest m (Best b x ms) next =
-    (IsPassed I m.best b × (next ≡ To (leaf m rest (BoundBy ms)))) ⊎ (IsHopeful I m.best b × Meets I J rest m x ms next)
-Goes t I J rest m (Endless x d) next =
-    (((r : List Ratio) → IsScaled I d r → ⊥) × (next ≡ Out (too_wide m Ray) m.clock)) ⊎ ((r : List Ratio) × IsScaled I d r × Meets I J rest (record m { ray = Some r }) x [] next)
-Goes t I J rest m TurnsOut next = next ≡ Out (early m.best (TurnLimit t.turns)) m.clock
-Goes t I J rest m (TooWide s) next = next ≡ Out (too_wide m s) m.clock
-Goes t I J rest m Stopped next = next ≡ Out (early m.best Killed) m.clock
+abbrev pub GoesFrom : Terms → Instance → Instance → List Instance → Moment → End → Next → Type 0
+GoesFrom t I J rest m (Clash c) next = next ≡ To (closed_by_leaf m rest (ClashAt c))
+GoesFrom t I J rest m (Empty ms) next = next ≡ To (closed_by_leaf m rest (FarkasBy ms))
+GoesFrom t I J rest m (Best b x ms) next =
+    (IsPassed I m.best b × (next ≡ To (closed_by_leaf m rest (BoundBy ms)))) ⊎ (IsHopeful I m.best b × MeetsPoint I J rest m x ms next)
+GoesFrom t I J rest m (Endless x d) next =
+    (((r : List Ratio) → IsScaled I d r → ⊥) × (next ≡ Out (too_wide m Ray) m.clock)) ⊎ ((r : List Ratio) × IsScaled I d r × MeetsPoint I J rest (record m { ray = Some r }) x [] next)
+GoesFrom t I J rest m TurnsOut next = next ≡ Out (early m.best (TurnLimit t.turns)) m.clock
+GoesFrom t I J rest m (TooWide s) next = next ≡ Out (too_wide m s) m.clock
+GoesFrom t I J rest m Stopped next = next ≡ Out (early m.best Killed) m.clock
 
 -- the look before the next case stops the search
 abbrev pub IsStop : Terms → Moment → Type 0
@@ -128,36 +128,36 @@ module _ (I : Instance) (t : Terms) where
     pub is : m.waiting ≡ case ∷ rest
     pub within : length m.nodes < t.nodes
     pub goes_on : IsStop t m → ⊥
-    pub run : Run case (is_some m.ray) t (looked m.clock) e c
+    pub run : Run case (is_some m.ray) t (looked_once m.clock) e c
 
   -- the search goes by the end of that run
   pub record IsVisit (m : Moment) (next : Next) : Type 0 where
     pub end : End
     pub clock : Clock
     pub visit : IsCaseRun m end clock
-    pub goes : Goes t I visit.case visit.rest (record m { clock = clock }) end next
+    pub goes : GoesFrom t I visit.case visit.rest (record m { clock = clock }) end next
 
   -- what comes after a moment, in this order: the end where no case is left, that at the limit of nodes, that by a look, or what the next case brings
   abbrev pub IsNext : Moment → Next → Type 0
   IsNext m next =
       ((m.waiting ≡ []) × (next ≡ Out (closed m.best m.nodes) m.clock))
       ⊎ ((m.waiting ≡ [] → ⊥) × (t.nodes ≤ length m.nodes) × (next ≡ Out (early m.best (NodeLimit t.nodes)) m.clock))
-      ⊎ ((m.waiting ≡ [] → ⊥) × (length m.nodes < t.nodes) × IsStop t m × (next ≡ Out (early m.best Killed) (looked m.clock)))
+      ⊎ ((m.waiting ≡ [] → ⊥) × (length m.nodes < t.nodes) × IsStop t m × (next ≡ Out (early m.best Killed) (looked_once m.clock)))
       ⊎ IsVisit m next
 
   -- the moments of the search
-  pub data Comes : Moment → Type 0 where
-    begins : Comes (first I)
-    goes_on : {m n : Moment} → Comes m → IsNext m (To n) → Comes n
+  pub data ComesInSearch : Moment → Type 0 where
+    begins : ComesInSearch (first I)
+    goes_on : {m n : Moment} → ComesInSearch m → IsNext m (To n) → ComesInSearch n
 
   -- the search ends so, with this clock
   pub record Search (o : Outcome) (c : Clock) : Type 0 where
     pub last : Moment
-    pub comes : Comes last
+    pub comes : ComesInSearch last
     pub ends : IsNext last (Out o c)
 
   -- what may be answered of the search once the clock is this: its outcome; or want of memory at a moment, or where the run after it has ended, with the moment's best point
-  pub data IsAnswer : Outcome → Clock → Type 0 where
-    searched : {o : Outcome} {c : Clock} → Search o c → IsAnswer o c
-    given_up : {m : Moment} → Comes m → IsAnswer (early m.best Memory) m.clock
-    given_up_after : {m : Moment} {e : End} {c : Clock} → Comes m → IsCaseRun m e c → IsAnswer (early m.best Memory) c
+  pub data IsSearchAnswer : Outcome → Clock → Type 0 where
+    searched : {o : Outcome} {c : Clock} → Search o c → IsSearchAnswer o c
+    given_up : {m : Moment} → ComesInSearch m → IsSearchAnswer (early m.best Memory) m.clock
+    given_up_after : {m : Moment} {e : End} {c : Clock} → ComesInSearch m → IsCaseRun m e c → IsSearchAnswer (early m.best Memory) c

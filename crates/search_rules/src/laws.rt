@@ -4,8 +4,8 @@ ghost use Rattle.evidence.specs.Instance.{Instance, IsInstance};
 ghost use Rattle.evidence.specs.Point.{IsRay};
 ghost use Rattle.simplex_rules.specs.Ends.{Terms, Clock, IsDirection};
 ghost use Rattle.search_rules.specs.Rays.{IsScaled};
-ghost use Rattle.search_rules.specs.Search.{Outcome, Moment, Comes, Search, IsAnswer};
-ghost use Rattle.search_rules.specs.Shown.{IsShown, IsPlain};
+ghost use Rattle.search_rules.specs.Search.{Outcome, Moment, ComesInSearch, Search, IsSearchAnswer};
+ghost use Rattle.search_rules.specs.Outcomes.{IsShown, IsPlain};
 
 /// What a search ends with is shown: the nodes are those of a tree of cases that proves that no point is better, or that
 /// none is feasible; each point is feasible, with its value; and a ray is one.
@@ -15,7 +15,7 @@ pub fn outcomes_are_shown()
 
 /// The point that is answered where memory is wanting is feasible too, with its value.
 pub fn answers_are_shown()
-    ensures { (I : Instance) (t : Terms) (o : Outcome) (c : Clock) → IsInstance I → IsAnswer I t o c → IsShown I o }
+    ensures { (I : Instance) (t : Terms) (o : Outcome) (c : Clock) → IsInstance I → IsSearchAnswer I t o c → IsShown I o }
 {}
 
 /// A search has one outcome, no other point, value, nodes, ray or cause, after one number of turns and of looks.
@@ -31,5 +31,5 @@ pub fn directions_have_rays()
 
 /// Without whole variables nothing but the instance itself is searched.
 pub fn plain_searches_have_one_case()
-    ensures { (I : Instance) (t : Terms) (m : Moment) → IsPlain I → Comes I t m → (m.waiting ≡ I ∷ []) ⊎ (m.waiting ≡ []) }
+    ensures { (I : Instance) (t : Terms) (m : Moment) → IsPlain I → ComesInSearch I t m → (m.waiting ≡ I ∷ []) ⊎ (m.waiting ≡ []) }
 {}

@@ -12,17 +12,17 @@ use Rattle.desk.specs.declared.view.Met.{Met}
 use Rattle.desk.specs.declared.view.View.{View}
 use Rattle.desk.specs.History.{StartsWith, by, calls_by}
 use Rattle.desk.proofs.Histories.{starts_again}
-use Rattle.desk.proofs.Keeps.{length_above}
+use Rattle.desk.proofs.Steps.{length_above}
 use Rattle.atomic_table.proofs.Lists.{at_map}
 use Rattle.desk.specs.Rule.{HasMet, one_more, newcomer, met_as}
-use Rattle.desk.specs.Asks.{IsSeatOf, Meets}
+use Rattle.desk.specs.SeatMoves.{IsSeatOf, Meets}
 use Rattle.server_threads.specs.declared.means.ServeFault.{ServeFault}
 use Rattle.server_threads.specs.declared.promise.Finished.{Finished}
-use Rattle.server_threads.specs.Talks.{DeskSeat, Talk, Shift, talk_met, shift_met, one_if, short_of, Came, GivenBack, AllTalked, AllWorked, IsShift, Acts}
+use Rattle.server_threads.specs.Talks.{DeskSeat, LinkTalk, Shift, talk_met, shift_met, one_if, short_of, Came, GivenBack, AllTalked, AllWorked, IsShift, Acts}
 use Rattle.server_threads.specs.declared.places.Place.{Place}
 use Rattle.server_threads.specs.Promises.{Due, AllDue}
-use Rattle.server_threads.specs.Serving.{Stand, Opens, AtOnce, Serves, Ends}
-use Rattle.server_threads.specs.Going.{AllOut, AllOpen, Keeps, Conversing, promised, seats_out, links_out, served_so, Going, Working, shift_promised, workers_out, worked_so, Hired, Staffed, LinksServed, Left, CameSo, ending_of}
+use Rattle.server_threads.specs.Serving.{Stand, Opens, AtOnce, ServesLinks, EndsServing}
+use Rattle.server_threads.specs.OpenLinks.{AllOut, AllOpen, KeepsSeats, Conversing, promised, seats_out, links_out, served_so, Going, Working, shift_promised, workers_out, worked_so, Hired, Staffed, LinksServed, HaveLeft, CameSo, served_result}
 
 pub starts_through : (a b c : List Entry) → StartsWith b a → StartsWith c b → StartsWith c a
 starts_through a b c ab bc = (ab.0 ++ bc.0, bc.1 ∙ (ap (λ l. l ++ bc.0) ab.1 ∙ append_assoc a ab.0 bc.0))
@@ -37,7 +37,7 @@ module _ {J : Type 0} (desk : TableId) where
   all_out_snoc n [] s all fits is none = (fits, omega arith, none, tt)
   all_out_snoc n (x ∷ xs) s all fits is none = (all.0, all.1, all.2, all_out_snoc (n + 1) xs s all.3 fits (omega arith) none)
 
-  pub keeps_new : (v : View) (n : ℕ) → v.number ≡ 0 → Keeps {J = J} desk v v [] n []
+  pub keeps_new : (v : View) (n : ℕ) → v.number ≡ 0 → KeepsSeats {J = J} desk v v [] n []
   keeps_new v n first = record {
     first = first;
     number = refl;
@@ -50,8 +50,8 @@ module _ {J : Type 0} (desk : TableId) where
   }
 
   -- a seat was split off
-  pub keeps_split : (v w after : View) (met : List Met) (n : ℕ) (out : List (DeskSeat J)) (seat : DeskSeat J) → Keeps desk v w met n out → n + length out ≡ w.given
-      → after ≡ one_more w → seat.table_id ≡ desk → seat.me.0 ≡ newcomer w → Keeps desk v after met n (out ++ seat ∷ [])
+  pub keeps_split : (v w after : View) (met : List Met) (n : ℕ) (out : List (DeskSeat J)) (seat : DeskSeat J) → KeepsSeats desk v w met n out → n + length out ≡ w.given
+      → after ≡ one_more w → seat.table_id ≡ desk → seat.me.0 ≡ newcomer w → KeepsSeats desk v after met n (out ++ seat ∷ [])
   keeps_split v w after met n out seat k next is fits new = record {
     first = ap (λ (u : View). u.number) is ∙ k.first;
     number = ap (λ (u : View). u.number) is ∙ k.number;
@@ -65,7 +65,7 @@ module _ {J : Type 0} (desk : TableId) where
 
   -- the oldest of the seats that are out was met
   pub keeps_met : (right : List ℕ → List ℕ → Bool → Option (List ℕ) → Type 0) (holds : List Said → Type 0) (v w after : View) (met : List Met) (n : ℕ) (s other : DeskSeat J) (out : List (DeskSeat J))
-      → Keeps desk v w met n (s ∷ out) → (a : Acts right holds s other) → Meets w other.me.0 after → Keeps desk v after (met ++ record { seat = n; calls = by n a.said } ∷ []) (n + 1) out
+      → KeepsSeats desk v w met n (s ∷ out) → (a : Acts right holds s other) → Meets w other.me.0 after → KeepsSeats desk v after (met ++ record { seat = n; calls = by n a.said } ∷ []) (n + 1) out
   keeps_met right holds v w after met n s other out k a m =
       let new : Met = record { seat = n; calls = by n a.said } in
       let number : other.me.0.number ≡ n = a.asked.stays.number ∙ k.waits.1 in
@@ -111,7 +111,7 @@ back_none : (a : Option (List Tells)) → GivenBack a a []
 back_none None = tt
 back_none (Some a) = sym (append-nil a)
 
-short_snoc : (ts : List Talk) (t : Talk) → short_of (ts ++ t ∷ []) ≡ short_of ts + one_if t.short
+short_snoc : (ts : List LinkTalk) (t : LinkTalk) → short_of (ts ++ t ∷ []) ≡ short_of ts + one_if t.short
 short_snoc [] t = omega arith
 short_snoc (x ∷ xs) t = omega (arith, short_snoc xs t)
 
@@ -119,12 +119,12 @@ one_or_none : (b : Bool) → one_if b ≤ 1
 one_or_none true = omega arith
 one_or_none false = omega arith
 
-pub short_fits : (ts : List Talk) → short_of ts ≤ length ts
+pub short_fits : (ts : List LinkTalk) → short_of ts ≤ length ts
 short_fits [] = omega arith
 short_fits (t ∷ ts) = omega (arith, short_fits ts, one_or_none t.short)
 
 module _ (talked : Tells → List Said → Tells → Bool → Type 0) where
-  all_talked_snoc : (n : ℕ) (ts : List Talk) (t : Talk) → AllTalked talked n ts → t.seat ≡ n + length ts → talked t.came t.said t.back t.short → AllTalked talked n (ts ++ t ∷ [])
+  all_talked_snoc : (n : ℕ) (ts : List LinkTalk) (t : LinkTalk) → AllTalked talked n ts → t.seat ≡ n + length ts → talked t.came t.said t.back t.short → AllTalked talked n (ts ++ t ∷ [])
   all_talked_snoc n [] t all is one = (omega arith, one, tt)
   all_talked_snoc n (x ∷ xs) t all is one = (all.0, all.1, all_talked_snoc (n + 1) xs t all.2 (omega arith) one)
 
@@ -135,7 +135,7 @@ at_end [] a b (suc j) e = absurd (some-ne-none b (sym e))
 at_end (x ∷ xs) a b zero e = inl e
 at_end (x ∷ xs) a b (suc j) e = ⊎_elim (λ before. inl before) (λ last. let is = last.0 in inr (omega arith, last.1)) (at_end xs a b j e)
 
-module _ (servers : ℕ) (log log' : List Entry) (talks : List Talk) (later : StartsWith log' log) where
+module _ (servers : ℕ) (log log' : List Entry) (talks : List LinkTalk) (later : StartsWith log' log) where
   -- more of the history was made
   opens_later : (j seat : ℕ) (seen : List Entry) → Opens servers log talks j seat seen → Opens servers log' talks j seat seen
   opens_later j seat seen o = record {
@@ -145,24 +145,24 @@ module _ (servers : ℕ) (log log' : List Entry) (talks : List Talk) (later : St
   }
 
   -- and one link more was given back, which came less than so many before this one
-  opens_on : (t : Talk) (j seat : ℕ) (seen : List Entry) → j < length talks + servers → Opens servers log talks j seat seen → Opens servers log' (talks ++ t ∷ []) j seat seen
+  opens_on : (t : LinkTalk) (j seat : ℕ) (seen : List Entry) → j < length talks + servers → Opens servers log talks j seat seen → Opens servers log' (talks ++ t ∷ []) j seat seen
   opens_on t j seat seen near o = record {
     begins = starts_through seen log log' o.begins later;
     none = o.none;
     earlier = λ i u at far. ⊎_elim (λ before. o.earlier i u before far) (λ last. let is = last.0 in absurd (omega arith)) (at_end talks t u i at);
   }
 
-  all_open_on : {J : Type 0} (t : Talk) (n : ℕ) (ss : List (DeskSeat J)) → n + length ss ≤ length talks + servers → AllOpen servers log talks n ss → AllOpen servers log' (talks ++ t ∷ []) n ss
+  all_open_on : {J : Type 0} (t : LinkTalk) (n : ℕ) (ss : List (DeskSeat J)) → n + length ss ≤ length talks + servers → AllOpen servers log talks n ss → AllOpen servers log' (talks ++ t ∷ []) n ss
   all_open_on t n [] near all = tt
   all_open_on t n (s ∷ ss) near all = (opens_on t n s.me.0.number s.me.0.seen (omega arith) all.0, all_open_on t (n + 1) ss (omega arith) all.1)
 
-all_open_snoc : {J : Type 0} (servers : ℕ) (log : List Entry) (talks : List Talk) (n j : ℕ) (ss : List (DeskSeat J)) (s : DeskSeat J) → j ≡ n + length ss → AllOpen servers log talks n ss
+all_open_snoc : {J : Type 0} (servers : ℕ) (log : List Entry) (talks : List LinkTalk) (n j : ℕ) (ss : List (DeskSeat J)) (s : DeskSeat J) → j ≡ n + length ss → AllOpen servers log talks n ss
     → Opens servers log talks j s.me.0.number s.me.0.seen → AllOpen servers log talks n (ss ++ s ∷ [])
 all_open_snoc servers log talks n j [] s is all one = (subst (λ (k : ℕ). Opens servers log talks k s.me.0.number s.me.0.seen) (omega arith) one, tt)
 all_open_snoc servers log talks n j (x ∷ xs) s is all one = (all.0, all_open_snoc servers log talks (n + 1) j xs s (omega arith) all.1 one)
 
 -- a seat that was just split off has made no call, and has seen all calls of the seats that were met
-opens_new : {J : Type 0} (servers : ℕ) (desk : TableId) (w : View) (talks : List Talk) (j : ℕ) (seat : DeskSeat J) → HasMet w.seen (map talk_met talks) → IsSeatOf desk seat → seat.me.0 ≡ newcomer w → Opens servers w.seen talks j seat.me.0.number seat.me.0.seen
+opens_new : {J : Type 0} (servers : ℕ) (desk : TableId) (w : View) (talks : List LinkTalk) (j : ℕ) (seat : DeskSeat J) → HasMet w.seen (map talk_met talks) → IsSeatOf desk seat → seat.me.0 ≡ newcomer w → Opens servers w.seen talks j seat.me.0.number seat.me.0.seen
 opens_new servers desk w talks j seat known fits new = subst (λ (v : View). Opens servers w.seen talks j v.number v.seen) (sym new) record {
   begins = starts_again w.seen;
   none = subst (λ (v : View). calls_by v.number v.seen ≡ v.mine) new fits.ready.stand;
@@ -194,13 +194,13 @@ module _ {J L S B : Type 0} (right : List ℕ → List ℕ → Bool → Option (
       let opens : Opens servers now.view.seen g.talks (length g.talks + length places) (promised place).seat.value.me.0.number (promised place).seat.value.me.0.seen =
       opens_new servers desk now.view g.talks (length g.talks + length places) (promised place).seat.value g.keeps.known (subst (λ (s : DeskSeat J). IsSeatOf desk s) (sym seat_is) fits) (ap (λ (s : DeskSeat J). s.me.0) seat_is ∙ new) in
       let its : Tells = tells (promised place).link.value in
-      let before : List Tells = map (λ (t : Talk). t.came) g.talks in
+      let before : List Tells = map (λ (t : LinkTalk). t.came) g.talks in
       let out : List Tells = links_out {S = S} {B = B} right talked tells places in
       let seats : seats_out (places ++ place ∷ []) ≡ seats_out places ++ (promised place).seat.value ∷ [] = map-append (λ (p : Conversing J L S B). (promised p).seat.value) places (place ∷ []) in
       let links : links_out {S = S} {B = B} right talked tells (places ++ place ∷ []) ≡ out ++ its ∷ [] = map-append (λ (p : Conversing J L S B). tells (promised p).link.value) places (place ∷ []) in
       subst (λ (l : List (Conversing J L S B)). Going right talked tells servers desk old after short l) (sym are) record {
         talks = g.talks;
-        keeps = subst (λ (ss : List (DeskSeat J)). Keeps desk old.view after.view (map talk_met g.talks) (old.view.given + length g.talks) ss) (sym seats)
+        keeps = subst (λ (ss : List (DeskSeat J)). KeepsSeats desk old.view after.view (map talk_met g.talks) (old.view.given + length g.talks) ss) (sym seats)
             (keeps_split desk old.view now.view after.view (map talk_met g.talks) (old.view.given + length g.talks) (seats_out places) (promised place).seat.value g.keeps
             (let all = g.keeps.given in let same = length-map g.talks talk_met in omega arith) is (ap (λ (s : DeskSeat J). s.table_id) seat_is ∙ fits.desk_is) (ap (λ (s : DeskSeat J). s.me.0) seat_is ∙ new));
         due = due_snoc (served_so right talked tells) places place g.due due;
@@ -211,7 +211,7 @@ module _ {J L S B : Type 0} (right : List ℕ → List ℕ → Bool → Option (
         all_talked = g.all_talked;
         came = subst (λ (l : List Tells). Came old.coming after.coming l) (append_assoc before out (its ∷ []) ∙ ap (λ (l : List Tells). before ++ l) (sym links))
             (came_more old.coming now.coming after.coming (before ++ out) its g.came (subst (λ (x : L). Comes now.coming after.coming (tells x)) (sym link_is) comes));
-        back = subst (λ (l : Option (List Tells)). GivenBack old.given_back l (map (λ (t : Talk). t.back) g.talks)) (sym back) g.back;
+        back = subst (λ (l : Option (List Tells)). GivenBack old.given_back l (map (λ (t : LinkTalk). t.back) g.talks)) (sym back) g.back;
         reached = reached ∙ g.reached;
         shorts = g.shorts;
       }
@@ -235,7 +235,7 @@ module _ {J L S B : Type 0} (right : List ℕ → List ℕ → Bool → Option (
   going_met now after short short' items places place done all is a met back coming reached counted =
       let g = subst (λ (l : List (Conversing J L S B)). Going right talked tells servers desk old now short l) is all in
       let n : ℕ = old.view.given + length g.talks in
-      let t : Talk = record { came = tells (promised place).link.value; back = tells done.link; seat = n; said = a.said; short = done.short } in
+      let t : LinkTalk = record { came = tells (promised place).link.value; back = tells done.link; seat = n; said = a.said; short = done.short } in
       let k = keeps_met desk right (λ said. talked (tells (promised place).link.value) said (tells done.link) done.short) old.view now.view after.view (map talk_met g.talks) n (promised place).seat.value done.seat (seats_out places) g.keeps a met in
       let mets : map talk_met (g.talks ++ t ∷ []) ≡ map talk_met g.talks ++ talk_met t ∷ [] = map-append talk_met g.talks (t ∷ []) in
       let longer = length-append g.talks (t ∷ []) in
@@ -245,7 +245,7 @@ module _ {J L S B : Type 0} (right : List ℕ → List ℕ → Bool → Option (
       let many = length-map places (λ (p : Conversing J L S B). (promised p).seat.value) in
       let opened = opens_on servers now.view.seen after.view.seen g.talks later t (length g.talks) (promised place).seat.value.me.0.number (promised place).seat.value.me.0.seen (omega arith) g.waits.0 in record {
         talks = g.talks ++ t ∷ [];
-        keeps = subst (λ (z : List Met × ℕ). Keeps desk old.view after.view z.0 z.1 (seats_out places)) (λ i. (sym mets i, more i)) k;
+        keeps = subst (λ (z : List Met × ℕ). KeepsSeats desk old.view after.view z.0 z.1 (seats_out places)) (λ i. (sym mets i, more i)) k;
         due = g.due.1;
         few = omega arith;
         waits = subst (λ (k : ℕ). AllOpen servers after.view.seen (g.talks ++ t ∷ []) k (seats_out places)) (omega arith) (all_open_on servers now.view.seen after.view.seen g.talks later t (length g.talks + 1) (seats_out places) (omega arith) g.waits.1);
@@ -253,14 +253,14 @@ module _ {J L S B : Type 0} (right : List ℕ → List ℕ → Bool → Option (
             (λ before. let o = g.at_once j u before in (o.0, opens_on servers now.view.seen after.view.seen g.talks later t j u.seat o.0 (let below = length_above g.talks j u before in omega arith) o.1))
             (λ last. (
               (promised place).seat.value.me.0.seen,
-              subst (λ (z : ℕ × ℕ). Opens servers after.view.seen (g.talks ++ t ∷ []) z.0 z.1 (promised place).seat.value.me.0.seen) (λ i. (sym last.0 i, (g.keeps.waits.1 ∙ ap (λ (x : Talk). x.seat) last.1) i)) opened,
+              subst (λ (z : ℕ × ℕ). Opens servers after.view.seen (g.talks ++ t ∷ []) z.0 z.1 (promised place).seat.value.me.0.seen) (λ i. (sym last.0 i, (g.keeps.waits.1 ∙ ap (λ (x : LinkTalk). x.seat) last.1) i)) opened,
             ))
             (at_end g.talks t u j at);
         all_talked = all_talked_snoc talked old.view.given g.talks t g.all_talked refl a.held;
         came = subst (λ (z : Option (List Tells) × List Tells). Came old.coming z.0 z.1)
-            (λ i. (sym coming i, (sym (ap (λ (l : List Tells). l ++ links_out {S = S} {B = B} right talked tells places) (map-append (λ (u : Talk). u.came) g.talks (t ∷ [])) ∙ append_assoc (map (λ (u : Talk). u.came) g.talks) (t.came ∷ []) (links_out {S = S} {B = B} right talked tells places))) i))
+            (λ i. (sym coming i, (sym (ap (λ (l : List Tells). l ++ links_out {S = S} {B = B} right talked tells places) (map-append (λ (u : LinkTalk). u.came) g.talks (t ∷ [])) ∙ append_assoc (map (λ (u : LinkTalk). u.came) g.talks) (t.came ∷ []) (links_out {S = S} {B = B} right talked tells places))) i))
             g.came;
-        back = subst (λ (l : List Tells). GivenBack old.given_back after.given_back l) (sym (map-append (λ (u : Talk). u.back) g.talks (t ∷ [])))
+        back = subst (λ (l : List Tells). GivenBack old.given_back after.given_back l) (sym (map-append (λ (u : LinkTalk). u.back) g.talks (t ∷ [])))
             (back_more old.given_back now.given_back after.given_back _ _ g.back back);
         reached = reached ∙ g.reached;
         shorts = counted ∙ ap (λ (k : ℕ). k + one_if done.short) g.shorts ∙ sym (short_snoc g.talks t);
@@ -274,7 +274,7 @@ module _ {J L S B : Type 0} (right : List ℕ → List ℕ → Bool → Option (
           talks = g.talks;
           all_talked = g.all_talked;
           at_once = g.at_once;
-          came = subst (λ (l : List Tells). Came old.coming now.coming l) (append-nil (map (λ (t : Talk). t.came) g.talks)) g.came;
+          came = subst (λ (l : List Tells). Came old.coming now.coming l) (append-nil (map (λ (t : LinkTalk). t.came) g.talks)) g.came;
           back = g.back;
           reached = g.reached;
           number = g.keeps.number;
@@ -306,7 +306,7 @@ module _ {J S : Type 0} (right : List ℕ → List ℕ → Bool → Option (List
   hired_more w after count places items place h is fits new due are =
       let seats : workers_out (places ++ place ∷ []) ≡ workers_out places ++ (shift_promised place).seat.value ∷ [] = map-append (λ (p : Working J S). (shift_promised p).seat.value) places (place ∷ []) in
       subst (λ (l : List (Working J S)). Hired right made desk v after (count + 1) l) (sym are) record {
-        keeps = subst (λ (out : List (DeskSeat J)). Keeps desk v after [] v.given out) (sym seats)
+        keeps = subst (λ (out : List (DeskSeat J)). KeepsSeats desk v after [] v.given out) (sym seats)
             (keeps_split desk v w after [] v.given (workers_out places) (shift_promised place).seat.value h.keeps (let all = h.keeps.given in omega arith) is fits new);
         due = due_snoc (worked_so right made) places place h.due due;
         counted = let before = h.counted in let longer = length-append places (place ∷ []) in omega arith;
@@ -353,14 +353,14 @@ module _ {J S : Type 0} (right : List ℕ → List ℕ → Bool → Option (List
       let longer = length-append s.shifts (t ∷ []) in
       let more : n + 1 ≡ v.given + length (s.shifts ++ t ∷ []) = omega arith in record {
         shifts = s.shifts ++ t ∷ [];
-        keeps = subst (λ (z : List Met × ℕ). Keeps desk v after z.0 z.1 (workers_out places)) (λ i. (mets i, more i)) k;
+        keeps = subst (λ (z : List Met × ℕ). KeepsSeats desk v after z.0 z.1 (workers_out places)) (λ i. (mets i, more i)) k;
         due = s.due.1;
         worked = all_worked_snoc made v.given s.shifts t s.worked refl a.held;
         counted = let before = s.counted in omega arith;
       }
 
   -- all workers have left
-  pub staffed_over : (w : View) (count : ℕ) (met : List Met) (items : List (Working J S)) → Staffed right made desk v w count met items → length items ≡ 0 → Left made v w count met
+  pub staffed_over : (w : View) (count : ℕ) (met : List Met) (items : List (Working J S)) → Staffed right made desk v w count met items → length items ≡ 0 → HaveLeft made v w count met
   staffed_over w count met items all none =
       let s = subst (λ (l : List (Working J S)). Staffed right made desk v w count met l) (empty_list items none) all in record {
         shifts = s.shifts;
@@ -380,17 +380,17 @@ module _ {J S : Type 0} (right : List ℕ → List ℕ → Bool → Option (List
 -- workers came, links were served, and the workers left
 pub serves : {J S : Type 0} (right : List ℕ → List ℕ → Bool → Option (List ℕ) → Type 0) (made : List ℕ → List ℕ → List Bool → Option (List ℕ) → Type 0) (talked : Tells → List Said → Tells → Bool → Type 0) (desk : TableId) (v : View) (servers : ℕ) (old staffed served new : Stand) (count : ℕ) (places : List (Working J S))
     → v ≡ old.view → Hired right made desk old.view staffed.view count places → staffed.coming ≡ old.coming → staffed.given_back ≡ old.given_back → staffed.reached ≡ old.reached → (o : LinksServed talked servers staffed served)
-    → Left made v new.view count (map talk_met o.talks) → StartsWith new.view.seen served.view.seen → new.coming ≡ served.coming → new.given_back ≡ served.given_back → new.reached ≡ served.reached → Serves made talked servers count old new o.talks
+    → HaveLeft made v new.view count (map talk_met o.talks) → StartsWith new.view.seen served.view.seen → new.coming ≡ served.coming → new.given_back ≡ served.given_back → new.reached ≡ served.reached → ServesLinks made talked servers count old new o.talks
 serves {J} {S} right made talked desk v servers old staffed served new count places is h coming back reached o left later coming' back' reached' =
-    let l = subst (λ (u : View). Left made u new.view count (map talk_met o.talks)) is left in record {
+    let l = subst (λ (u : View). HaveLeft made u new.view count (map talk_met o.talks)) is left in record {
       shifts = l.shifts;
       staff = let all = l.counted in omega arith;
       worked = l.worked;
       all_talked = subst (λ (n : ℕ). AllTalked talked n o.talks)
           (let given = h.keeps.given in let many = h.counted in let all = l.counted in let same = length-map places (λ (p : Working J S). (shift_promised p).seat.value) in omega arith) o.all_talked;
       at_once = λ j t at. let opened = o.at_once j t at in (opened.0, opens_later servers served.view.seen new.view.seen o.talks later j t.seat opened.0 opened.1);
-      came = subst (λ (z : Option (List Tells) × Option (List Tells)). Came z.0 z.1 (map (λ (t : Talk). t.came) o.talks)) (λ i. (coming i, sym coming' i)) o.came;
-      back = subst (λ (z : Option (List Tells) × Option (List Tells)). GivenBack z.0 z.1 (map (λ (t : Talk). t.back) o.talks)) (λ i. (back i, sym back' i)) o.back;
+      came = subst (λ (z : Option (List Tells) × Option (List Tells)). Came z.0 z.1 (map (λ (t : LinkTalk). t.came) o.talks)) (λ i. (coming i, sym coming' i)) o.came;
+      back = subst (λ (z : Option (List Tells) × Option (List Tells)). GivenBack z.0 z.1 (map (λ (t : LinkTalk). t.back) o.talks)) (λ i. (back i, sym back' i)) o.back;
       reached = reached' ∙ (o.reached ∙ reached);
       met = l.met_is;
       known = l.known;
@@ -407,23 +407,23 @@ serves {J} {S} right made talked desk v servers old staffed served new count pla
 
 -- of the links that were served it is known how many they are, by the seats that were split off
 ends : {X E : Type 0} (talked : Tells → List Said → Tells → Bool → Type 0) (servers : ℕ) (old served : Stand) (came : Result X E) (short connections faults faults' : ℕ) → (o : LinksServed talked servers old served) → short ≡ short_of o.talks
-    → CameSo came connections old.view.given served.view.given faults faults' → Ends (ending_of came short) connections o.talks faults faults'
+    → CameSo came connections old.view.given served.view.given faults faults' → EndsServing (served_result came short) connections o.talks faults faults'
 ends talked servers old served (Ok x) short connections faults faults' o shorts c = (shorts, (let all = o.given in let is = c.0 in omega arith), c.1)
 ends talked servers old served (Err e) short connections faults faults' o shorts c = (let all = o.given in let is = c.0 in omega arith, c.1)
 
 -- all links that came were served
 pub links_served : {X E : Type 0} (talked : Tells → List Said → Tells → Bool → Type 0) (servers : ℕ) (begun old served : Stand) (came : Result X E) (short connections seats faults faults' faults'' : ℕ) (answer : Result ℕ ServeFault) → begun ≡ old
-    → (over : (o : LinksServed talked servers begun served) × (short ≡ short_of o.talks)) → CameSo came connections old.view.given seats faults faults' → served.view.given ≡ seats → faults'' ≡ faults' → answer ≡ ending_of came short
-    → (o : LinksServed talked servers old served) × Ends answer connections o.talks faults faults''
+    → (over : (o : LinksServed talked servers begun served) × (short ≡ short_of o.talks)) → CameSo came connections old.view.given seats faults faults' → served.view.given ≡ seats → faults'' ≡ faults' → answer ≡ served_result came short
+    → (o : LinksServed talked servers old served) × EndsServing answer connections o.talks faults faults''
 links_served talked servers begun old served came short connections seats faults faults' faults'' answer start over c given same is =
     let went : CameSo came connections begun.view.given served.view.given faults faults'' = subst (λ (z : ℕ × ℕ × ℕ). CameSo came connections z.0 z.1 faults z.2) (λ i. ((sym start i).view.given, sym given i, sym same i)) c in
-    subst (λ (z : Stand). (o : LinksServed talked servers z served) × Ends answer connections o.talks faults faults'') start (
+    subst (λ (z : Stand). (o : LinksServed talked servers z served) × EndsServing answer connections o.talks faults faults'') start (
       over.0,
-      subst (λ (a : Result ℕ ServeFault). Ends a connections over.0.talks faults faults'') (sym is) (ends talked servers begun served came short connections faults faults'' over.0 over.1 went),
+      subst (λ (a : Result ℕ ServeFault). EndsServing a connections over.0.talks faults faults'') (sym is) (ends talked servers begun served came short connections faults faults'' over.0 over.1 went),
     )
 
 -- where there was no room, nothing was served
-pub serves_none : (made : List ℕ → List ℕ → List Bool → Option (List ℕ) → Type 0) (talked : Tells → List Said → Tells → Bool → Type 0) (servers count : ℕ) (old : Stand) → Serves made talked servers count old old []
+pub serves_none : (made : List ℕ → List ℕ → List Bool → Option (List ℕ) → Type 0) (talked : Tells → List Said → Tells → Bool → Type 0) (servers count : ℕ) (old : Stand) → ServesLinks made talked servers count old old []
 serves_none made talked servers count old = record {
   shifts = [];
   staff = omega arith;

@@ -1,4 +1,4 @@
 pub mod Talks
 pub mod Promises
 pub mod Serving
-pub mod Going
+pub mod OpenLinks

@@ -14,7 +14,7 @@ use Rattle.server_threads.specs.declared.links.Running.{Running}
 use Rattle.server_threads.specs.declared.means.Limits.{Limits}
 use Rattle.server_threads.specs.declared.means.ServeFault.{ServeFault}
 use Rattle.server_threads.specs.declared.means.ServeFault.TheVariants.{Failed, Memory}
-use Rattle.server_threads.specs.Talks.{DeskSeat, Talk, Shift, talk_met, shift_met, short_of, Came, GivenBack, AllTalked, AllWorked}
+use Rattle.server_threads.specs.Talks.{DeskSeat, LinkTalk, Shift, talk_met, shift_met, short_of, Came, GivenBack, AllTalked, AllWorked}
 
 -- what the desk's first seat knows, and what the listener tells
 pub record Stand : Type 0 where
@@ -36,25 +36,25 @@ pub record MayTake {J L S B : Type 0} (limits : Limits) (running : Running J L S
   pub room : limits.servers ≤ deque_capacity running.places
 
 -- all calls of the links that came so many before this one, or earlier, stand in this beginning of the history
-abbrev pub HasEarlier : (servers : ℕ) → List Talk → ℕ → List Entry → Type 0
+abbrev pub HasEarlier : (servers : ℕ) → List LinkTalk → ℕ → List Entry → Type 0
 HasEarlier servers talks j seen =
-    (i : ℕ) (u : Talk) → get_elem? talks i ≡ some u → i + servers ≤ j → calls_by u.seat seen ≡ by u.seat u.said
+    (i : ℕ) (u : LinkTalk) → get_elem? talks i ≡ some u → i + servers ≤ j → calls_by u.seat seen ≡ by u.seat u.said
 
 -- so much of the history had been seen when a link came: no call of its seat, and all calls of those that came so many before it
-pub record Opens (servers : ℕ) (log : List Entry) (talks : List Talk) (j seat : ℕ) (seen : List Entry) : Type 0 where
+pub record Opens (servers : ℕ) (log : List Entry) (talks : List LinkTalk) (j seat : ℕ) (seen : List Entry) : Type 0 where
   pub begins : StartsWith log seen
   pub none : calls_by seat seen ≡ []
   pub earlier : HasEarlier servers talks j seen
 
 -- at most so many links are served at once: all calls of a link come behind all calls of each that came so many before it, or earlier
-abbrev pub AtOnce : (servers : ℕ) → List Entry → List Talk → Type 0
+abbrev pub AtOnce : (servers : ℕ) → List Entry → List LinkTalk → Type 0
 AtOnce servers log talks =
-    (j : ℕ) (t : Talk) → get_elem? talks j ≡ some t → (seen : List Entry) × Opens servers log talks j t.seat seen
+    (j : ℕ) (t : LinkTalk) → get_elem? talks j ≡ some t → (seen : List Entry) × Opens servers log talks j t.seat seen
 
 module _ (made : List ℕ → List ℕ → List Bool → Option (List ℕ) → Type 0) (talked : Tells → List Said → Tells → Bool → Type 0) where
   -- the links came and were given back in one order. The seat met one seat for each link, and at most so many workers' seats; it has seen all
   -- their calls, and made none itself
-  pub record Serves (servers workers : ℕ) (old new : Stand) (talks : List Talk) : Type 0 where
+  pub record ServesLinks (servers workers : ℕ) (old new : Stand) (talks : List LinkTalk) : Type 0 where
     pub shifts : List Shift
     pub staff : length shifts ≤ workers
     pub worked : AllWorked made old.view.given shifts
@@ -72,13 +72,13 @@ module _ (made : List ℕ → List ℕ → List Bool → Option (List ℕ) → T
 
 -- how serving so many links ends: with the number of those that ended for want of memory; with a fault of the listener, before all came; or for
 -- want of memory, before any came
-abbrev pub Ends : Result ℕ ServeFault → (connections : ℕ) → List Talk → (faults faults' : ℕ) → Type 0
-Ends (Ok k) connections talks faults faults' = (k ≡ short_of talks) × (length talks ≡ connections) × (faults' ≡ faults)
-Ends (Err Failed) connections talks faults faults' = (length talks < connections) × HasRisen faults faults'
-Ends (Err Memory) connections talks faults faults' = (talks ≡ []) × (faults' ≡ faults)
+abbrev pub EndsServing : Result ℕ ServeFault → (connections : ℕ) → List LinkTalk → (faults faults' : ℕ) → Type 0
+EndsServing (Ok k) connections talks faults faults' = (k ≡ short_of talks) × (length talks ≡ connections) × (faults' ≡ faults)
+EndsServing (Err Failed) connections talks faults faults' = (length talks < connections) × HasRisen faults faults'
+EndsServing (Err Memory) connections talks faults faults' = (talks ≡ []) × (faults' ≡ faults)
 
 -- links and workers served: from this seat and listener to those, within these limits, with this answer
 abbrev pub HasServed : {J N : Type 0} → (made : List ℕ → List ℕ → List Bool → Option (List ℕ) → Type 0) → (talked : Tells → List Said → Tells → Bool → Type 0) → (N → NetTells) → Limits → (seat seat' : DeskSeat J) → (net net' : N)
     → Result ℕ ServeFault → Type 0
 HasServed made talked tells limits seat seat' net net' answer =
-    (talks : List Talk) × Serves made talked limits.servers limits.workers (stand tells seat net) (stand tells seat' net') talks × Ends answer limits.connections talks (tells net).faults (tells net').faults
+    (talks : List LinkTalk) × ServesLinks made talked limits.servers limits.workers (stand tells seat net) (stand tells seat' net') talks × EndsServing answer limits.connections talks (tells net).faults (tells net').faults

@@ -2,13 +2,13 @@
 use Rattle.std.specs.Prelude.{◌≡◌, ℕ, ◌+◌, Bool, true, false, List, [], ◌∷◌, ◌++◌, ◌⊎◌, Option}
 use Rattle.atomic_table.specs.declared.shared.Seat.{Seat}
 use Rattle.job_table.specs.History.{Entry as Said}
-use Rattle.os_io.specs.Streams.{Tells, Told}
+use Rattle.os_io.specs.Streams.{Tells, BothTold}
 use Rattle.desk.specs.declared.held.Held.{Held}
 use Rattle.desk.specs.declared.view.Met.{Met}
 use Rattle.desk.specs.declared.view.View.{View}
 use Rattle.desk.specs.History.{by}
-use Rattle.desk.specs.Asks.{IsSeatOf}
-use Rattle.desk.specs.Asked.{Asked}
+use Rattle.desk.specs.SeatMoves.{IsSeatOf}
+use Rattle.desk.specs.SeatHistory.{Asked}
 use Rattle.workers.specs.Shifts.{WorksThrough}
 
 abbrev pub DeskSeat : Type 0 → Type 0
@@ -16,7 +16,7 @@ DeskSeat J = Seat (Option (Held J)) View
 
 -- one link that was served: what it told when it came and when it was given back, the number of the seat that served it, the calls of that
 -- seat, and whether the conversation ended for want of memory
-pub record Talk : Type 0 where
+pub record LinkTalk : Type 0 where
   pub came : Tells
   pub back : Tells
   pub seat : ℕ
@@ -29,7 +29,7 @@ pub record Shift : Type 0 where
   pub said : List Said
 
 -- a link's seat as the first seat knows it
-abbrev pub talk_met : Talk → Met
+abbrev pub talk_met : LinkTalk → Met
 talk_met t = record { seat = t.seat; calls = by t.seat t.said }
 
 -- a worker's seat as the first seat knows it
@@ -41,21 +41,21 @@ one_if true = 1
 one_if false = 0
 
 -- how many ended for want of memory
-abbrev pub short_of : List Talk → ℕ
+abbrev pub short_of : List LinkTalk → ℕ
 short_of [] = 0
 short_of (t ∷ ts) = one_if t.short + short_of ts
 
 -- the links came in this order, and come no more
 abbrev pub Came : Option (List Tells) → Option (List Tells) → List Tells → Type 0
-Came old new links = Told old new (λ before after. before ≡ links ++ after)
+Came old new links = BothTold old new (λ before after. before ≡ links ++ after)
 
 -- the links were given back in this order
 abbrev pub GivenBack : Option (List Tells) → Option (List Tells) → List Tells → Type 0
-GivenBack old new links = Told old new (λ before after. after ≡ before ++ links)
+GivenBack old new links = BothTold old new (λ before after. after ≡ before ++ links)
 
 -- each link was served by a seat of its own, with numbers from this one on, and this holds of what it told when it came, of its seat's calls,
 -- of what it told when it was given back, and of whether memory was wanting
-abbrev pub AllTalked : (Tells → List Said → Tells → Bool → Type 0) → ℕ → List Talk → Type 0
+abbrev pub AllTalked : (Tells → List Said → Tells → Bool → Type 0) → ℕ → List LinkTalk → Type 0
 AllTalked talked n [] = Unit {0}
 AllTalked talked n (t ∷ ts) = (t.seat ≡ n) × talked t.came t.said t.back t.short × AllTalked talked (n + 1) ts
 

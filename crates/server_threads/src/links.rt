@@ -2,11 +2,11 @@
 
 ghost use Rattle.std.specs.Prelude.{◌≡◌, ◌+◌, ◌<◌, ◌≤◌, ◌^◌};
 ghost use Rattle.std.specs.VecDeque.{deque_len, deque_capacity};
-ghost use Rattle.desk.specs.Asks.{desk_id, IsSeatOf};
+ghost use Rattle.desk.specs.SeatMoves.{desk_id, IsSeatOf};
 ghost use Rattle.server_threads.specs.Talks.{Acts, one_if, short_of};
 ghost use Rattle.server_threads.specs.Promises.{promise_of, Due};
 ghost use Rattle.server_threads.specs.Serving.{stand, MayTake};
-ghost use Rattle.server_threads.specs.Going.{Goes, LinksServed, CameSo, ending_of, served_so};
+ghost use Rattle.server_threads.specs.OpenLinks.{Goes, LinksServed, CameSo, served_result, served_so};
 
 use crate::means::{Means, ServeFault};
 use crate::open::OpenLink;
@@ -228,7 +228,7 @@ where
 
 /// What is answered where room was found.
 pub(crate) fn ending(came: Result<(), Failed>, short: u64) -> Result<u64, ServeFault>
-    ensures { result ≡ ending_of came short }
+    ensures { result ≡ served_result came short }
 {
     match came {
         Ok(()) => Ok(short),

@@ -1,7 +1,7 @@
 //! What serving uses, how much is served, and why it ends early.
 
 ghost use Rattle.std.specs.Prelude.{◌<◌, IfOk};
-ghost use Rattle.server_threads.specs.Going.{MayServe};
+ghost use Rattle.server_threads.specs.OpenLinks.{MayServe};
 
 use crate::links::Running;
 use crate::service::Service;

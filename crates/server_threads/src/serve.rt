@@ -1,10 +1,10 @@
 //! Links are served beside workers.
 
 ghost use Rattle.std.specs.Prelude.{◌≡◌, ◌<◌};
-ghost use Rattle.desk.specs.Asks.{desk_id, IsSeatOf};
+ghost use Rattle.desk.specs.SeatMoves.{desk_id, IsSeatOf};
 ghost use Rattle.workers.specs.Bells.{Untold};
 ghost use Rattle.server_threads.specs.Serving.{HasServed, MayTake};
-ghost use Rattle.server_threads.specs.Going.{HasServedLinks, MayServe};
+ghost use Rattle.server_threads.specs.OpenLinks.{HasServedLinks, MayServe};
 
 use crate::links::{Before, ending, join_all, take_links};
 use crate::means::{Limits, Means, Room, ServeFault};

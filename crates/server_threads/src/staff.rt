@@ -4,10 +4,10 @@ ghost use Rattle.std.specs.Prelude.{◌≡◌, ◌+◌, ◌<◌, ◌≤◌, [], 
 ghost use Rattle.std.specs.VecDeque.{deque_len, deque_capacity};
 ghost use Rattle.desk.specs.declared.view.Met.{Met};
 ghost use Rattle.desk.specs.History.{StartsWith};
-ghost use Rattle.desk.specs.Asks.{desk_id, IsSeatOf};
+ghost use Rattle.desk.specs.SeatMoves.{desk_id, IsSeatOf};
 ghost use Rattle.server_threads.specs.Talks.{Acts, IsShift};
 ghost use Rattle.server_threads.specs.Promises.{promise_of, Due};
-ghost use Rattle.server_threads.specs.Going.{Hired, Staffed, Left, worked_so};
+ghost use Rattle.server_threads.specs.OpenLinks.{Hired, Staffed, HaveLeft, worked_so};
 
 use crate::means::Means;
 use crate::places::Place;
@@ -150,7 +150,7 @@ pub(crate) fn relieve<J: Verdicts + Send + Sync, R: Threads, S: Service<J>>(
     requires seat { IsSeatOf (desk_id means.now.desk.now) first.old }
     requires staffed { (met : List Met) × Staffed J.right S.ran (desk_id means.now.desk.now) was.now.value.me.0 first.old.me.0 means.now.limits.workers met shifts.items }
     ensures seat { IsSeatOf (desk_id means.now.desk.now) first.new }
-    ensures left { (met : List Met) → Staffed J.right S.ran (desk_id means.now.desk.now) was.now.value.me.0 first.old.me.0 means.now.limits.workers met shifts.items → Left S.ran was.now.value.me.0 first.new.me.0 means.now.limits.workers met }
+    ensures left { (met : List Met) → Staffed J.right S.ran (desk_id means.now.desk.now) was.now.value.me.0 first.old.me.0 means.now.limits.workers met shifts.items → HaveLeft S.ran was.now.value.me.0 first.new.me.0 means.now.limits.workers met }
     ensures seen { StartsWith first.new.me.0.seen first.old.me.0.seen }
 {
     while shifts.len() > 0 {

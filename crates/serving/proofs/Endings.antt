@@ -6,14 +6,14 @@ use Rattle.desk.specs.declared.view.Entry.{Entry}
 use Rattle.desk.specs.History.{calls}
 use Rattle.server_threads.specs.declared.means.ServeFault.{ServeFault}
 use Rattle.server_threads.specs.declared.means.ServeFault.TheVariants.{Failed, Memory}
-use Rattle.server_threads.specs.Talks.{Talk, short_of}
+use Rattle.server_threads.specs.Talks.{LinkTalk, short_of}
 use Rattle.server_threads.specs.Serving as threads
 use Rattle.serving.specs.declared.ending.Ending.{Ending}
 use Rattle.serving.specs.declared.ending.Ending.TheVariants.{ListenFault, AnnounceFault, NoMemory, ReportFault}
 use Rattle.serving.specs.Lines.{listening, jobs_line}
-use Rattle.command_answers.specs.Sent.{IsSent, BreaksOff}
+use Rattle.command_answers.specs.Outputs.{IsSent, BreaksOff}
 use Rattle.serving.specs.Serving.{Hosts, numbers_given, ServerEnds, done_if, ending_of, IsServerRun}
-use Rattle.serving.proofs.Hosting.{hosts_none, hosts_so}
+use Rattle.serving.proofs.Histories.{hosts_none, hosts_so}
 
 some_short : (k n : ℕ) → nat_eq k 0 ≡ false → k ≡ n → 0 < n
 some_short k n other is = grind (arith, other, is)
@@ -41,7 +41,7 @@ module _ (host : List ℕ) (port workers servers connections : ℕ) where
     module _ (listens : IsSent listening output said) (new : NetTells) (stayed : new.reached ≡ old.reached) where
       abbrev Answered : ℕ → Result ℕ ServeFault → Type 0
       Answered given served =
-          Hosts (λ links log. (given ≡ numbers_given (calls log)) × threads.Ends served connections links old.faults new.faults) workers servers old new
+          Hosts (λ links log. (given ≡ numbers_given (calls log)) × threads.EndsServing served connections links old.faults new.faults) workers servers old new
 
       still : IsReached first.reached new.reached (ListenedAt host port)
       still = subst (λ r. IsReached first.reached r (ListenedAt host port)) (sym stayed) reached

@@ -1,7 +1,7 @@
-pub mod Conversing
+pub mod Conversations
 pub mod Hands
-pub mod Beside
-pub mod Orderly
-pub mod Counting
-pub mod Hosting
+pub mod Finishes
+pub mod Order
+pub mod NumberCounts
+pub mod Histories
 pub mod Endings

@@ -16,15 +16,15 @@ use Rattle.workers.specs.Shifts.{WorksThrough}
 use Rattle.workers.specs.Bells.{Untold}
 use Rattle.server_threads.specs.declared.means.ServeFault.{ServeFault}
 use Rattle.server_threads.specs.declared.means.ServeFault.TheVariants.{Failed, Memory}
-use Rattle.server_threads.specs.Talks.{Talk, Shift, talk_met, shift_met, short_of, Came, GivenBack, AllTalked, AllWorked}
+use Rattle.server_threads.specs.Talks.{LinkTalk, Shift, talk_met, shift_met, short_of, Came, GivenBack, AllTalked, AllWorked}
 use Rattle.server_threads.specs.Serving.{AtOnce}
 use Rattle.os_server.specs.declared.serve.Served.{Served}
 use Rattle.os_server.specs.declared.serve.Served.TheVariants as served
 use Rattle.os_server.specs.Talk.{Serves}
-use Rattle.solve_run.specs.Right.{Right}
+use Rattle.solve_run.specs.JobAnswers.{Right}
 use Rattle.job_solver.specs.Runs.{Makes}
-use Rattle.job_solver.specs.Proved.{AreProved}
-use Rattle.command_answers.specs.Sent.{IsSent, BreaksOff}
+use Rattle.job_solver.specs.ProvedDocuments.{AreProved}
+use Rattle.command_answers.specs.Outputs.{IsSent, BreaksOff}
 use Rattle.serving.specs.declared.ending.Ending.{Ending}
 use Rattle.serving.specs.declared.ending.Ending.TheVariants.{Done, LinkMemory, ListenFault, AnnounceFault, NoMemory, AcceptFault, ReportFault}
 use Rattle.serving.specs.Lines.{listening, jobs_line}
@@ -46,7 +46,7 @@ Converses rang came said back short =
     (end : Served) × Serves Makes rang (λ made. made ≡ said) end came back × (short ≡ lacks_memory end)
 
 -- who made calls: the links that came, and the workers, each with its number and its calls
-abbrev pub callers : List Talk → List Shift → List Met
+abbrev pub callers : List LinkTalk → List Shift → List Met
 callers links staff = map talk_met links ++ map shift_met staff
 
 -- whoever closes the table worked a whole shift, and its calls stand last: before them stand the calls of others alone
@@ -61,7 +61,7 @@ pub record WorksLast (closer : Shift) (log : List Entry) : Type 0 where
 -- closes the table is one worker more, with the number 0, whose shift stands last; or no table was opened, and there are no calls. Under the number
 -- of each stand its calls, in their order, and nobody else has any. At most so many links are served at once. Every finish is kept, every document
 -- that is shown is proved, and at the end no job waits
-pub record IsHistory (servers : ℕ) (links : List Talk) (staff : List Shift) (closer : Shift) (log : List Entry) : Type 0 where
+pub record IsHistory (servers : ℕ) (links : List LinkTalk) (staff : List Shift) (closer : Shift) (log : List Entry) : Type 0 where
   pub table : Register
   pub runs : LeadsTo Right log table
   pub worked : AllWorked Makes 0 (closer ∷ staff)
@@ -78,8 +78,8 @@ pub record IsHistory (servers : ℕ) (links : List Talk) (staff : List Shift) (c
 
 -- links came and were given back, in one order, and with at most so many workers, and so many links at once, they made one history. What else
 -- holds of the links and the history is given
-pub record Hosts (Further : List Talk → List Entry → Type 0) (workers servers : ℕ) (old new : NetTells) : Type 0 where
-  pub links : List Talk
+pub record Hosts (Further : List LinkTalk → List Entry → Type 0) (workers servers : ℕ) (old new : NetTells) : Type 0 where
+  pub links : List LinkTalk
   pub staff : List Shift
   pub closer : Shift
   pub log : List Entry
@@ -101,7 +101,7 @@ numbers_given said = count_by (λ e. gives_number e.call e.reply) said
 
 -- ---- how it ends
 
-module _ (connections : ℕ) (links : List Talk) (log : List Entry) (old new : NetTells) (output output' : Tells) where
+module _ (connections : ℕ) (links : List LinkTalk) (log : List Entry) (old new : NetTells) (output output' : Tells) where
   -- so many links came, and no call of the listener failed
   abbrev pub AllCame : Type 0
   AllCame = (length links ≡ connections) × (new.faults ≡ old.faults)

@@ -3,7 +3,7 @@ ghost use Rattle.std.specs.Prelude.{◌≡◌};
 ghost use Rattle.os_io.specs.Streams.{SameInput, SameOutput};
 ghost use Rattle.os_server.specs.Talk.{both_ends};
 ghost use Rattle.desk.specs.Rule.{first_view};
-ghost use Rattle.desk.specs.Asks.{desk_id, IsSeatOf};
+ghost use Rattle.desk.specs.SeatMoves.{desk_id, IsSeatOf};
 ghost use Rattle.sessions.specs.Sessions.{ServesAlone, IsSession};
 
 use desk::{Caller, Desk, Seat};

@@ -18,8 +18,8 @@ use Rattle.instance.specs.Parts.{Parts}
 use Rattle.instance.specs.Program.{program, row, sense, entries}
 use Rattle.bases.specs.Program.{goal_row, rows_with_goal}
 use Rattle.simplex.specs.declared.ends.Ends.{Ends}
-use Rattle.dictionary.specs.Loaded.{rows_of, times_sign}
-use Rattle.simplex.specs.Loading.{factor_of, IsStart}
+use Rattle.dictionary.specs.ProgramRows.{program_rows, times_sign}
+use Rattle.simplex.specs.Loads.{factor_of, IsStart}
 use Rattle.simplex.specs.Cuts.{range_of, ranges_in, range_at, IsCutBy, AreEndsOf}
 
 pub factor_fits : (z : Bool) (s : Sense) → to_z w8 (of_z w8 (factor_of z s)) ≡ factor_of z s
@@ -75,15 +75,15 @@ module _ (p : Parts) (cs : List Ends) (I : Instance) (cut : IsCutBy p cs I) wher
   goal_is true j = refl
   goal_is false j = signed p.goal.sense (value_at (ratios p.goal.costs) j)
 
-  own_rows : (z : Bool) → rows_of p.entries p.goal.costs (factor_of z p.goal.sense) (length p.rows) ≡ rows_with_goal z I
+  own_rows : (z : Bool) → program_rows p.entries p.goal.costs (factor_of z p.goal.sense) (length p.rows) ≡ rows_with_goal z I
   own_rows z = fun_ext (λ r. fun_ext (λ j.
       ap₂ (λ k x. cond (nat_lt r k) (entry_at (entries p.entries) r j) x) (sym rows_count) (goal_is z j ∙ goal_cut z j)
       ∙ ap (λ es. cond (nat_lt r (height I)) (entry_at es r j) (goal_row z I j)) (sym cut.entries)))
 
   -- the rows and the goal's, as they are loaded
-  pub rows_loaded : (z : Bool) (es : List Entry) (costs : List Frac) (k : ℤ) (m : ℕ) → es ≡ p.entries → costs ≡ p.goal.costs → k ≡ factor_of z p.goal.sense → m ≡ length p.rows → rows_of es costs k m ≡ rows_with_goal z I
+  pub rows_loaded : (z : Bool) (es : List Entry) (costs : List Frac) (k : ℤ) (m : ℕ) → es ≡ p.entries → costs ≡ p.goal.costs → k ≡ factor_of z p.goal.sense → m ≡ length p.rows → program_rows es costs k m ≡ rows_with_goal z I
   rows_loaded z es costs k m e f g h =
-      ap₂ (λ a b. rows_of a b k m) e f ∙ ap₂ (λ a b. rows_of p.entries p.goal.costs a b) g h ∙ own_rows z
+      ap₂ (λ a b. program_rows a b k m) e f ∙ ap₂ (λ a b. program_rows p.entries p.goal.costs a b) g h ∙ own_rows z
 
   pub start_cut : (z : Bool) (s : Option Frac) → IsStart z (minimising_by (sense p.goal.sense) (ratio p.goal.constant)) s → IsStart z (minimising I I.goal.constant) s
   start_cut z s h = subst (λ x. IsStart z x s) (ap (λ (g : Goal). minimising_by g.sense g.constant) (sym cut.goal)) h

@@ -7,11 +7,11 @@ pub use Rattle.simplex_rules.specs.Reports
 pub use Rattle.simplex_rules.specs.Runs
 pub use Rattle.simplex_rules.specs.Looks
 pub mod Cuts
-pub mod Held
+pub mod Tables
 pub mod Answers
 pub mod Memory
-pub mod Finished
-pub mod Chosen
-pub mod Valued
+pub mod Finishes
+pub mod Choices
+pub mod Values
 pub mod Limits
-pub mod Loading
+pub mod Loads

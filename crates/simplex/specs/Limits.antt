@@ -7,20 +7,20 @@ use Rattle.simplex.specs.declared.limits.Limit.{Limit}
 use Rattle.simplex_rules.specs.Turns.{IsFirstLeast}
 
 -- the number that a limit is
-pub record IsTold (l : Ratio) (q : Frac) : Type 0 where
+pub record IsLimitTold (l : Ratio) (q : Frac) : Type 0 where
   pub number : IsNumber l
   pub same : IsSame (ratio q) l
 
 abbrev pub IsLimit : Option Ratio → Option Frac → Type 0
 IsLimit o None = o ≡ None
-IsLimit o (Some q) = (l : Ratio) × (o ≡ Some l) × IsTold l q
+IsLimit o (Some q) = (l : Ratio) × (o ≡ Some l) × IsLimitTold l q
 
 -- the first of the least limits below n
 pub record IsFirst (f : ℕ → Option Ratio) (n : ℕ) (b : Limit) : Type 0 where
   pub least : IsFirstLeast f n b.col
-  pub told : IsTold least.limit b.quotient
+  pub told : IsLimitTold least.limit b.quotient
   pub numbers : (k : ℕ) → k < n → (q : Ratio) → f k ≡ Some q → IsNumber q
 
-abbrev pub IsBestOf : (ℕ → Option Ratio) → ℕ → Option Limit → Type 0
-IsBestOf f n None = (k : ℕ) → k < n → f k ≡ None
-IsBestOf f n (Some b) = IsFirst f n b
+abbrev pub IsLeastOf : (ℕ → Option Ratio) → ℕ → Option Limit → Type 0
+IsLeastOf f n None = (k : ℕ) → k < n → f k ≡ None
+IsLeastOf f n (Some b) = IsFirst f n b

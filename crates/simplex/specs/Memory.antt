@@ -8,7 +8,7 @@ use Rattle.simplex_rules.specs.Reports.{collected}
 use Rattle.simplex.specs.declared.answer.LpEnd.{LpEnd}
 use Rattle.simplex.specs.declared.work.Work.{Work}
 use Rattle.dictionary.specs.Dict.{width_of, height_of}
-use Rattle.simplex.specs.Held.{values_in}
+use Rattle.simplex.specs.Tables.{values_in}
 use Rattle.simplex.specs.Answers.{listed, ended}
 
 -- the variables and the rows that there is room for

@@ -6,10 +6,10 @@ ghost use Rattle.instance.specs.Program.{limit};
 ghost use Rattle.instance.specs.Program as Programs;
 ghost use Rattle.bases.specs.Program.{is_fresh};
 ghost use Rattle.simplex_rules.specs.declared.columns.Status.{Status};
-ghost use Rattle.simplex_rules.specs.Statuses.{first_status, basic_in, IsFresh};
-ghost use Rattle.simplex_rules.specs.Runs.{HasRoom, IsFirstEmpty};
+ghost use Rattle.simplex_rules.specs.Statuses.{first_status, basic_in, IsFirstBasis};
+ghost use Rattle.simplex_rules.specs.Runs.{HasNoClash, IsFirstEmpty};
 ghost use Rattle.simplex.specs.Cuts.{AreEndsOf, range_of, ranges_in, range_at};
-ghost use Rattle.simplex.specs.Loading.{factor_of, IsStart};
+ghost use Rattle.simplex.specs.Loads.{factor_of, IsStart};
 
 use crate::ends::{Ends, is_empty};
 use fraction::{End, Frac};
@@ -45,7 +45,7 @@ pub fn set_ends(cuts: &[Ends], rows: &[Row], ends: &mut [Ends])
 /// The first column whose lower end is above its upper one.
 pub fn first_clash(ends: &[Ends], goal: u32) -> Option<u32>
     requires { goal ≡ length ends.now }
-    ensures { (I : Instance) → AreEndsOf I ends.now → MatchOption result (HasRoom I) (IsFirstEmpty I) }
+    ensures { (I : Instance) → AreEndsOf I ends.now → MatchOption result (HasNoClash I) (IsFirstEmpty I) }
 {
     for c in 0..goal {
         if is_empty(ends[c as usize]) {
@@ -75,7 +75,7 @@ fn first_at(e: Ends, is_variable: bool) -> Status
 pub fn set_first(ends: &[Ends], vars: usize, statuses: &mut [Status])
     requires ends { length ends.now ≡ length statuses.old }
     requires vars { vars ≤ length statuses.old }
-    ensures fresh { (I : Instance) → AreEndsOf I ends.now → width I ≡ vars → IsFresh I statuses.new }
+    ensures fresh { (I : Instance) → AreEndsOf I ends.now → width I ≡ vars → IsFirstBasis I statuses.new }
     ensures basic { (c : ℕ) → basic_in statuses.new c ≡ is_fresh vars c }
 {
     for c in 0..statuses.len() {

@@ -5,7 +5,7 @@ ghost use Rattle.fraction.specs.Frac.{ratio};
 ghost use Rattle.evidence.specs.Sums.{none, total};
 ghost use Rattle.evidence.specs.Width.{StatedFits};
 ghost use Rattle.evidence.specs.Instance.{Instance, minimising};
-ghost use Rattle.simplex.specs.Loading.{IsStart};
+ghost use Rattle.simplex.specs.Loads.{IsStart};
 ghost use Rattle.bases.specs.Dictionary.{Values, AreEntries};
 ghost use Rattle.bases.specs.Program.{goal_column};
 ghost use Rattle.simplex_rules.specs.declared.columns.Way.{Way};
@@ -13,12 +13,12 @@ ghost use Rattle.simplex_rules.specs.Statuses.{is_basic, basic_in};
 ghost use Rattle.simplex_rules.specs.Turns.{NoneHelps};
 ghost use Rattle.simplex_rules.specs.Ends.{Terms, Clock};
 ghost use Rattle.simplex_rules.specs.Runs.{Improves};
-ghost use Rattle.dictionary.specs.Dict.{IsLoaded, width_of, height_of, columns_of, basic_of, entry_of, count_of, values_of};
+ghost use Rattle.dictionary.specs.Dict.{IsLoaded, width_of, height_of, columns_of, basic_of, entry_of, count_of, place_values};
 ghost use Rattle.simplex.specs.Cuts.{AreEndsOf, ranges_in};
-ghost use Rattle.simplex.specs.Held.{AreStatuses, HasSizeOf};
-ghost use Rattle.simplex.specs.Valued.{cost_in, AreTerms, AreResting};
-ghost use Rattle.simplex.specs.Chosen.{Leads};
-ghost use Rattle.simplex.specs.Finished.{is_stop, IsReady};
+ghost use Rattle.simplex.specs.Tables.{AreStatuses, HasSizeOf};
+ghost use Rattle.simplex.specs.Values.{cost_in, AreTerms, AreResting};
+ghost use Rattle.simplex.specs.Choices.{LeadsOn};
+ghost use Rattle.simplex.specs.Finishes.{is_stop, IsFinishReady};
 ghost use Rattle.simplex.specs.declared.choosing.Choice.TheVariants.{Done};
 
 use crate::ends::Ends;
@@ -70,9 +70,9 @@ pub fn bound<L: Ledger>(
     requires statuses { AreStatuses dict.now statuses.now }
     requires basic { basic_of dict.now goal ≡ true }
     requires rest { goal ≤ count_of rest.now }
-    ensures ok { (a x : Values) → AreTerms (cost_in statuses.now (entry_of dict.now goal)) (values_of rest.now) goal a x → IfOk result (λ b. IsSame (ratio b) (total (ratio start) goal (λ c. product (a c) (x c)))) }
-    ensures fits { (a x : Values) → AreTerms (cost_in statuses.now (entry_of dict.now goal)) (values_of rest.now) goal a x → IfOk result (λ _. StatedFits (ratio start) goal a x) }
-    ensures wide { (a x : Values) → AreTerms (cost_in statuses.now (entry_of dict.now goal)) (values_of rest.now) goal a x → OnErr result (StatedFits (ratio start) goal a x → ⊥) }
+    ensures ok { (a x : Values) → AreTerms (cost_in statuses.now (entry_of dict.now goal)) (place_values rest.now) goal a x → IfOk result (λ b. IsSame (ratio b) (total (ratio start) goal (λ c. product (a c) (x c)))) }
+    ensures fits { (a x : Values) → AreTerms (cost_in statuses.now (entry_of dict.now goal)) (place_values rest.now) goal a x → IfOk result (λ _. StatedFits (ratio start) goal a x) }
+    ensures wide { (a x : Values) → AreTerms (cost_in statuses.now (entry_of dict.now goal)) (place_values rest.now) goal a x → OnErr result (StatedFits (ratio start) goal a x → ⊥) }
     ensures counted { steps.old ≤ steps.new }
 {
     let mut sum = start;
@@ -98,10 +98,10 @@ pub fn best<L: Ledger>(
     requires goal { goal ≡ length statuses.now }
     requires statuses { AreStatuses dict.now statuses.now }
     requires rest { goal ≤ count_of rest.now }
-    requires resting { AreResting (ranges_in ends.now) statuses.now (values_of rest.now) }
+    requires resting { AreResting (ranges_in ends.now) statuses.now (place_values rest.now) }
     ensures on { is_stop result ≡ false }
-    ensures ready { IsReady statuses.now result }
-    ensures next { (I : Instance) (zeroed : Bool) (w : Values) (t : Terms) (c : Clock) → AreEndsOf I ends.now → HasSizeOf I dict.now → AreEntries (columns_of dict.now) (basic_of dict.now) (entry_of dict.now) → IsStart zeroed (minimising I I.goal.constant) start → NoneHelps I statuses.now (entry_of dict.now) w (goal_column I) Way.Fall → Leads I statuses.now (entry_of dict.now) w t c (Improves I zeroed t (record { statuses = statuses.now; clock = c }) (entry_of dict.now) w) (Done result) }
+    ensures ready { IsFinishReady statuses.now result }
+    ensures next { (I : Instance) (zeroed : Bool) (w : Values) (t : Terms) (c : Clock) → AreEndsOf I ends.now → HasSizeOf I dict.now → AreEntries (columns_of dict.now) (basic_of dict.now) (entry_of dict.now) → IsStart zeroed (minimising I I.goal.constant) start → NoneHelps I statuses.now (entry_of dict.now) w (goal_column I) Way.Fall → LeadsOn I statuses.now (entry_of dict.now) w t c (Improves I zeroed t (record { statuses = statuses.now; clock = c }) (entry_of dict.now) w) (Done result) }
     ensures counted { steps.old ≤ steps.new }
 {
     let _ends = ends;

@@ -1,18 +1,18 @@
 // What is done at a moment.
 ghost use Rattle.std.specs.Prelude.{◌≡◌, ◌≢◌, ℕ, ◌+◌, ◌<◌, ◌≤◌, pos, Bool, true, false, length};
 ghost use Rattle.evidence.specs.Instance.{Instance, minimising};
-ghost use Rattle.simplex.specs.Loading.{IsStart};
+ghost use Rattle.simplex.specs.Loads.{IsStart};
 ghost use Rattle.bases.specs.Dictionary.{Values, AreEntries};
 ghost use Rattle.bases.specs.Program.{rows_with_goal};
 ghost use Rattle.simplex_rules.specs.Statuses.{is_basic, basic_in, upper_status};
 ghost use Rattle.simplex_rules.specs.Turns.{missed_status, reached_status, left_status, way_of};
 ghost use Rattle.simplex_rules.specs.Ends.{Terms, Clock};
 ghost use Rattle.simplex_rules.specs.Runs.{Repairs, MovesOn, Improves, IsNext};
-ghost use Rattle.dictionary.specs.Dict.{IsLoaded, Holds, columns_of, basic_of, entry_of, count_of, values_of};
+ghost use Rattle.dictionary.specs.Dict.{IsLoaded, Holds, columns_of, basic_of, entry_of, count_of, place_values};
 ghost use Rattle.simplex.specs.Cuts.{AreEndsOf, range_of, ranges_in};
-ghost use Rattle.simplex.specs.Held.{AreStatuses, HasSizeOf, values_in};
-ghost use Rattle.simplex.specs.Valued.{AreResting, AreKnown};
-ghost use Rattle.simplex.specs.Chosen.{Leads, IsAllowed};
+ghost use Rattle.simplex.specs.Tables.{AreStatuses, HasSizeOf, values_in};
+ghost use Rattle.simplex.specs.Values.{AreResting, AreKnown};
+ghost use Rattle.simplex.specs.Choices.{LeadsOn, IsChoiceAllowed};
 
 use crate::bounding::best;
 use crate::ends::{Ends, has_room};
@@ -104,8 +104,8 @@ fn repair<L: Ledger>(
     requires goal { goal ≡ length statuses.now }
     requires inside { out.col < goal }
     requires basic { basic_in statuses.now out.col ≡ true }
-    ensures allowed { IsAllowed statuses.now (entry_of dict.now) result }
-    ensures next { (I : Instance) (w : Values) (zeroed : Bool) (t : Terms) (c : Clock) → AreEndsOf I ends.now → HasSizeOf I dict.now → Leads I statuses.now (entry_of dict.now) w t c (Repairs I zeroed t (record { statuses = statuses.now; clock = c }) (entry_of dict.now) w out.col out.way) result }
+    ensures allowed { IsChoiceAllowed statuses.now (entry_of dict.now) result }
+    ensures next { (I : Instance) (w : Values) (zeroed : Bool) (t : Terms) (c : Clock) → AreEndsOf I ends.now → HasSizeOf I dict.now → LeadsOn I statuses.now (entry_of dict.now) w t c (Repairs I zeroed t (record { statuses = statuses.now; clock = c }) (entry_of dict.now) w out.col out.way) result }
     ensures counted { steps.old ≤ steps.new }
 {
     match first_help(dict, ends, statuses, out.col, out.way, goal, steps) {
@@ -168,8 +168,8 @@ fn move_on<L: Ledger>(
     requires goal { goal ≡ length statuses.now }
     requires nonbasic_inside { moving.col < goal }
     requires nonbasic { basic_in statuses.now moving.col ≡ false }
-    ensures allowed { IsAllowed statuses.now (entry_of dict.now) result }
-    ensures next { (I : Instance) (zeroed : Bool) (t : Terms) (c : Clock) → AreEndsOf I ends.now → HasSizeOf I dict.now → Leads I statuses.now (entry_of dict.now) (values_in values.now) t c (MovesOn I zeroed t (record { statuses = statuses.now; clock = c }) (entry_of dict.now) (values_in values.now) moving.col moving.way) result }
+    ensures allowed { IsChoiceAllowed statuses.now (entry_of dict.now) result }
+    ensures next { (I : Instance) (zeroed : Bool) (t : Terms) (c : Clock) → AreEndsOf I ends.now → HasSizeOf I dict.now → LeadsOn I statuses.now (entry_of dict.now) (values_in values.now) t c (MovesOn I zeroed t (record { statuses = statuses.now; clock = c }) (entry_of dict.now) (values_in values.now) moving.col moving.way) result }
     ensures counted { steps.old ≤ steps.new }
 {
     match first_limit(dict, ends, statuses, values, moving, goal, steps) {
@@ -201,11 +201,11 @@ fn improve<L: Ledger>(
     requires ends { length ends.now ≡ length statuses.now }
     requires values { length values.now ≡ length statuses.now }
     requires rest { goal ≤ count_of rest.now }
-    requires resting { AreResting (ranges_in ends.now) statuses.now (values_of rest.now) }
+    requires resting { AreResting (ranges_in ends.now) statuses.now (place_values rest.now) }
     requires statuses { AreStatuses dict.now statuses.now }
     requires goal { goal ≡ length statuses.now }
-    ensures allowed { IsAllowed statuses.now (entry_of dict.now) result }
-    ensures next { (I : Instance) (zeroed : Bool) (t : Terms) (c : Clock) → AreEndsOf I ends.now → HasSizeOf I dict.now → AreEntries (columns_of dict.now) (basic_of dict.now) (entry_of dict.now) → IsStart zeroed (minimising I I.goal.constant) start → Leads I statuses.now (entry_of dict.now) (values_in values.now) t c (Improves I zeroed t (record { statuses = statuses.now; clock = c }) (entry_of dict.now) (values_in values.now)) result }
+    ensures allowed { IsChoiceAllowed statuses.now (entry_of dict.now) result }
+    ensures next { (I : Instance) (zeroed : Bool) (t : Terms) (c : Clock) → AreEndsOf I ends.now → HasSizeOf I dict.now → AreEntries (columns_of dict.now) (basic_of dict.now) (entry_of dict.now) → IsStart zeroed (minimising I I.goal.constant) start → LeadsOn I statuses.now (entry_of dict.now) (values_in values.now) t c (Improves I zeroed t (record { statuses = statuses.now; clock = c }) (entry_of dict.now) (values_in values.now)) result }
     ensures counted { steps.old ≤ steps.new }
 {
     match first_help(dict, ends, statuses, goal, Way::Fall, goal, steps) {
@@ -231,13 +231,13 @@ pub fn choose<L: Ledger>(
     requires values { length values.old ≡ goal }
     requires flags { length known.old ≡ goal }
     requires rest { goal ≤ count_of rest.now }
-    requires resting { AreResting (ranges_in ends.now) statuses.now (values_of rest.now) }
+    requires resting { AreResting (ranges_in ends.now) statuses.now (place_values rest.now) }
     requires known { AreKnown dict.now rest.now statuses.now values.old known.old }
     requires statuses { AreStatuses dict.now statuses.now }
     requires goal { goal ≡ length statuses.now }
     ensures known { AreKnown dict.now rest.now statuses.now values.new known.new }
-    ensures allowed { IsAllowed statuses.now (entry_of dict.now) result }
-    ensures next { (I : Instance) (zeroed : Bool) (t : Terms) (c : Clock) → AreEndsOf I ends.now → HasSizeOf I dict.now → Holds (rows_with_goal zeroed I) dict.now → IsStart zeroed (minimising I I.goal.constant) start → Leads I statuses.now (entry_of dict.now) (values_in values.new) t c (IsNext I zeroed t (record { statuses = statuses.now; clock = c })) result }
+    ensures allowed { IsChoiceAllowed statuses.now (entry_of dict.now) result }
+    ensures next { (I : Instance) (zeroed : Bool) (t : Terms) (c : Clock) → AreEndsOf I ends.now → HasSizeOf I dict.now → Holds (rows_with_goal zeroed I) dict.now → IsStart zeroed (minimising I I.goal.constant) start → LeadsOn I statuses.now (entry_of dict.now) (values_in values.new) t c (IsNext I zeroed t (record { statuses = statuses.now; clock = c })) result }
     ensures counted { steps.old ≤ steps.new }
 {
     match find_values(dict, ends, statuses, rest, values, known, goal, steps) {

@@ -1,18 +1,18 @@
 // The turns of a run, one after the other.
 ghost use Rattle.std.specs.Prelude.{◌≡◌, ℕ, ◌+◌, ◌-◌, ◌^◌, ◌<◌, ◌≤◌, Bool, None, Some, length};
 ghost use Rattle.evidence.specs.Instance.{Instance, minimising};
-ghost use Rattle.simplex.specs.Loading.{IsStart};
+ghost use Rattle.simplex.specs.Loads.{IsStart};
 ghost use Rattle.bases.specs.Dictionary.{Entries};
 ghost use Rattle.bases.specs.Program.{rows_with_goal};
-ghost use Rattle.simplex_rules.specs.Statuses.{IsFresh};
+ghost use Rattle.simplex_rules.specs.Statuses.{IsFirstBasis};
 ghost use Rattle.simplex_rules.specs.Ends.{Terms};
 ghost use Rattle.simplex_rules.specs.Runs.{IsNext};
-ghost use Rattle.simplex_rules.specs.Looks.{answers, Tells, looks_after};
-ghost use Rattle.dictionary.specs.Dict.{Holds, HaveOneSize, entry_of, count_of, values_of};
+ghost use Rattle.simplex_rules.specs.Looks.{answers, AgreesWith, looks_after};
+ghost use Rattle.dictionary.specs.Dict.{Holds, HaveOneSize, entry_of, count_of, place_values};
 ghost use Rattle.simplex.specs.Cuts.{AreEndsOf, ranges_in};
-ghost use Rattle.simplex.specs.Held.{AreHeld, HasSizeOf, values_in};
-ghost use Rattle.simplex.specs.Valued.{AreResting, AreKnown};
-ghost use Rattle.simplex.specs.Finished.{stops_at, is_stop, next_at, end_at, IsLeft, IsLeftAt, IsCounted, KeepsAt, ComesTo};
+ghost use Rattle.simplex.specs.Tables.{AreHeld, HasSizeOf, values_in};
+ghost use Rattle.simplex.specs.Values.{AreResting, AreKnown};
+ghost use Rattle.simplex.specs.Finishes.{stops_at, is_stop, next_at, end_at, IsLeft, IsLeftAt, IsCounted, KeepsAt, ComesTo};
 
 use crate::answer::Turns;
 use crate::choosing::{Choice, choose};
@@ -45,7 +45,7 @@ fn make_turn<W: Watch, L: Ledger>(
     requires values { length values.old ≡ goal }
     requires flags { length known.old ≡ goal }
     requires rest { goal ≤ count_of rest.old }
-    requires resting { AreResting (ranges_in ends.now) statuses.old (values_of rest.old) }
+    requires resting { AreResting (ranges_in ends.now) statuses.old (place_values rest.old) }
     requires known { AreKnown dict.old rest.old statuses.old values.old known.old }
     requires goal { goal ≡ length statuses.old }
     requires stops { W.stops watch.old < 2 ^ 64 - 1 }
@@ -55,10 +55,10 @@ fn make_turn<W: Watch, L: Ledger>(
     ensures counted { IsCounted turns.old turns.new result }
     ensures stops { result ≡ None → W.stops watch.new ≡ W.stops watch.old }
     ensures left { IsLeftAt dict.new statuses.new result }
-    ensures resting { result ≡ None → AreResting (ranges_in ends.now) statuses.new (values_of rest.new) }
+    ensures resting { result ≡ None → AreResting (ranges_in ends.now) statuses.new (place_values rest.new) }
     ensures known { result ≡ None → AreKnown dict.new rest.new statuses.new values.new known.new }
     ensures holds { (A : Entries) → Holds A dict.old → KeepsAt result (Holds A dict.new) }
-    ensures turn { (n : ℕ) × W.came watch.old watch.new (answers n (stops_at result)) × ((I : Instance) (zeroed : Bool) (t : Terms) (looks : ℕ) → AreEndsOf I ends.now → HasSizeOf I dict.old → IsStart zeroed (minimising I I.goal.constant) start → Holds (rows_with_goal zeroed I) dict.old → t.turns ≡ turns.old.most → Tells t.stop looks n (stops_at result) → IsNext I zeroed t (record { statuses = statuses.old; clock = record { turns = turns.old.done; looks = looks } }) (next_at I statuses.new (entry_of dict.new) (values_in values.new) (record { turns = turns.new.done; looks = looks_after looks n (stops_at result) }) result)) }
+    ensures turn { (n : ℕ) × W.came watch.old watch.new (answers n (stops_at result)) × ((I : Instance) (zeroed : Bool) (t : Terms) (looks : ℕ) → AreEndsOf I ends.now → HasSizeOf I dict.old → IsStart zeroed (minimising I I.goal.constant) start → Holds (rows_with_goal zeroed I) dict.old → t.turns ≡ turns.old.most → AgreesWith t.stop looks n (stops_at result) → IsNext I zeroed t (record { statuses = statuses.old; clock = record { turns = turns.old.done; looks = looks } }) (next_at I statuses.new (entry_of dict.new) (values_in values.new) (record { turns = turns.new.done; looks = looks_after looks n (stops_at result) }) result)) }
     ensures steps { steps.old ≤ steps.new }
 {
     match choose(
@@ -95,7 +95,7 @@ pub fn make_turns<W: Watch, L: Ledger>(
     requires values { length values.old ≡ goal }
     requires flags { length known.old ≡ goal }
     requires rest { goal ≤ count_of rest.old }
-    requires resting { AreResting (ranges_in ends.now) statuses.old (values_of rest.old) }
+    requires resting { AreResting (ranges_in ends.now) statuses.old (place_values rest.old) }
     requires known { AreKnown dict.old rest.old statuses.old values.old known.old }
     requires goal { goal ≡ length statuses.old }
     requires stops { W.stops watch.old < 2 ^ 64 - 1 }
@@ -105,7 +105,7 @@ pub fn make_turns<W: Watch, L: Ledger>(
     ensures more { turns.old.done ≤ turns.new.done }
     ensures within { turns.old.done ≤ turns.old.most → turns.new.done ≤ turns.old.most }
     ensures left { IsLeft dict.new statuses.new result }
-    ensures end { (n : ℕ) × W.came watch.old watch.new (answers n (is_stop result)) × ((I : Instance) (zeroed : Bool) (t : Terms) (looks : ℕ) → AreEndsOf I ends.now → HasSizeOf I dict.old → IsStart zeroed (minimising I I.goal.constant) start → Holds (rows_with_goal zeroed I) dict.old → IsFresh I statuses.old → t.turns ≡ turns.old.most → Tells t.stop looks n (is_stop result) → ComesTo I zeroed t (record { turns = turns.old.done; looks = looks }) (end_at I statuses.new (entry_of dict.new) (values_in values.new) result) (record { turns = turns.new.done; looks = looks_after looks n (is_stop result) })) }
+    ensures end { (n : ℕ) × W.came watch.old watch.new (answers n (is_stop result)) × ((I : Instance) (zeroed : Bool) (t : Terms) (looks : ℕ) → AreEndsOf I ends.now → HasSizeOf I dict.old → IsStart zeroed (minimising I I.goal.constant) start → Holds (rows_with_goal zeroed I) dict.old → IsFirstBasis I statuses.old → t.turns ≡ turns.old.most → AgreesWith t.stop looks n (is_stop result) → ComesTo I zeroed t (record { turns = turns.old.done; looks = looks }) (end_at I statuses.new (entry_of dict.new) (values_in values.new) result) (record { turns = turns.new.done; looks = looks_after looks n (is_stop result) })) }
     ensures counted { steps.old ≤ steps.new }
 {
     loop {

@@ -8,7 +8,7 @@ ghost use Rattle.simplex_rules.specs.declared.columns.Way.{Way};
 ghost use Rattle.simplex_rules.specs.Statuses.{is_basic, basic_in};
 ghost use Rattle.simplex_rules.specs.Turns.{Can, Moves, rate, NoneHelps, IsFirstHelp};
 ghost use Rattle.simplex.specs.Cuts.{AreEndsOf, range_of};
-ghost use Rattle.simplex.specs.Held.{AreStatuses};
+ghost use Rattle.simplex.specs.Tables.{AreStatuses};
 
 use crate::ends::{Ends, help};
 use crate::finish::Move;

@@ -4,11 +4,11 @@ ghost use Rattle.fraction.specs.declared.frac.Frac as numbers;
 ghost use Rattle.simplex_rules.specs.declared.columns.Status as Columns;
 ghost use Rattle.simplex_rules.specs.Statuses.{is_basic, basic_in};
 ghost use Rattle.dictionary.specs.declared.dict.Dict as dictionaries;
-ghost use Rattle.dictionary.specs.Dict.{IsLoaded, width_of, height_of, basic_of, entry_of, count_of, values_of};
+ghost use Rattle.dictionary.specs.Dict.{IsLoaded, width_of, height_of, basic_of, entry_of, count_of, place_values};
 ghost use Rattle.simplex.specs.Cuts.{ranges_in};
-ghost use Rattle.simplex.specs.Held.{AreStatuses, AreHeld};
-ghost use Rattle.simplex.specs.Chosen.{IsSwap, IsFlip, IsSwapped};
-ghost use Rattle.simplex.specs.Valued.{AreResting, AreKnown, IsForgotten, known_at};
+ghost use Rattle.simplex.specs.Tables.{AreStatuses, AreHeld};
+ghost use Rattle.simplex.specs.Choices.{IsSwap, IsFlip, IsSwapped};
+ghost use Rattle.simplex.specs.Values.{AreResting, AreKnown, IsForgotten, known_at};
 
 use crate::choosing::{Flip, Swap};
 use crate::ends::Ends;
@@ -98,10 +98,10 @@ pub fn expect_swap<L: Ledger>(
     requires rest { goal ≤ count_of rest.old }
     requires flags { length known.old ≡ goal }
     requires goal { goal ≡ length statuses.now }
-    requires resting { AreResting (ranges_in ends.now) statuses.now (values_of rest.old) }
+    requires resting { AreResting (ranges_in ends.now) statuses.now (place_values rest.old) }
     requires swap { IsSwap statuses.now (entry_of dict.now) swap }
     ensures count { count_of rest.new ≡ count_of rest.old }
-    ensures resting { (d : dictionaries.Dict L L.Ledger) (ss : List Columns.Status) → IsSwapped dict.now d statuses.now ss swap → AreResting (ranges_in ends.now) ss (values_of rest.new) }
+    ensures resting { (d : dictionaries.Dict L L.Ledger) (ss : List Columns.Status) → IsSwapped dict.now d statuses.now ss swap → AreResting (ranges_in ends.now) ss (place_values rest.new) }
     ensures known { (d : dictionaries.Dict L L.Ledger) (ss : List Columns.Status) (vs : List numbers.Frac) → IsSwapped dict.now d statuses.now ss swap → AreKnown dict.now rest.old statuses.now vs known.old → AreKnown d rest.new ss vs known.new }
     ensures counted { steps.old ≤ steps.new }
 {
@@ -128,10 +128,10 @@ pub fn expect_flip<L: Ledger>(
     requires rest { goal ≤ count_of rest.old }
     requires flags { length known.old ≡ goal }
     requires goal { goal ≡ length statuses.now }
-    requires resting { AreResting (ranges_in ends.now) statuses.now (values_of rest.old) }
+    requires resting { AreResting (ranges_in ends.now) statuses.now (place_values rest.old) }
     requires flip { IsFlip statuses.now flip }
     ensures count { count_of rest.new ≡ count_of rest.old }
-    ensures resting { AreResting (ranges_in ends.now) (slice_set statuses.now flip.col flip.status) (values_of rest.new) }
+    ensures resting { AreResting (ranges_in ends.now) (slice_set statuses.now flip.col flip.status) (place_values rest.new) }
     ensures known { (vs : List numbers.Frac) → AreKnown dict.now rest.old statuses.now vs known.old → AreKnown dict.now rest.new (slice_set statuses.now flip.col flip.status) vs known.new }
     ensures counted { steps.old ≤ steps.new }
 {

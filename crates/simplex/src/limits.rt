@@ -10,8 +10,8 @@ ghost use Rattle.simplex_rules.specs.Statuses.{is_basic, basic_in};
 ghost use Rattle.simplex_rules.specs.Turns.{rate, until_end, until_by, across, limit_one, NoLimit, IsFirstLimit};
 ghost use Rattle.simplex_rules.specs.Widths.{EndFits, ByFits, AcrossFits, OneFits, LimitsFit};
 ghost use Rattle.simplex.specs.Cuts.{AreEndsOf, range_of};
-ghost use Rattle.simplex.specs.Held.{AreStatuses, values_in};
-ghost use Rattle.simplex.specs.Limits.{IsLimit, IsBestOf};
+ghost use Rattle.simplex.specs.Tables.{AreStatuses, values_in};
+ghost use Rattle.simplex.specs.Limits.{IsLimit, IsLeastOf};
 
 use crate::ends::{Ends, is_less};
 use crate::finish::Move;
@@ -122,7 +122,7 @@ fn limit_at<L: Ledger>(
 
 /// The lesser limit, of equal ones the first.
 fn lesser(best: Option<Limit>, col: u32, next: Option<Frac>) -> Option<Limit>
-    ensures { (f : ℕ → Option Ratio) → IsBestOf f col best → IsLimit (f col) next → IsBestOf f (col + 1) result }
+    ensures { (f : ℕ → Option Ratio) → IsLeastOf f col best → IsLimit (f col) next → IsLeastOf f (col + 1) result }
 {
     match next {
         None => best,

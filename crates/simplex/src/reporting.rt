@@ -10,9 +10,9 @@ ghost use Rattle.simplex_rules.specs.Statuses.{is_basic, basic_in};
 ghost use Rattle.simplex_rules.specs.Turns.{rate};
 ghost use Rattle.simplex_rules.specs.Reports.{against, factor_at, step_of, movement, collected};
 ghost use Rattle.dictionary.specs.Dict.{IsLoaded, width_of, height_of, basic_of, entry_of, columns_of};
-ghost use Rattle.simplex.specs.Held.{AreStatuses, values_in};
+ghost use Rattle.simplex.specs.Tables.{AreStatuses, values_in};
 ghost use Rattle.simplex.specs.Answers.{listed, ended, was_stopped};
-ghost use Rattle.simplex.specs.Finished.{end_at, is_stop, IsLeft};
+ghost use Rattle.simplex.specs.Finishes.{end_at, is_stop, IsLeft};
 
 use crate::answer::LpEnd;
 use crate::finish::{Finish, Move};

@@ -2,14 +2,14 @@
 ghost use Rattle.std.specs.Prelude.{◌≡◌, ℕ, ◌+◌, ◌-◌, ◌^◌, ◌<◌, ◌≤◌, Option, None, length, MatchOption};
 ghost use Rattle.evidence.specs.Instance as Of;
 ghost use Rattle.bases.specs.Program.{rows_with_goal};
-ghost use Rattle.simplex_rules.specs.Statuses.{IsFresh};
+ghost use Rattle.simplex_rules.specs.Statuses.{IsFirstBasis};
 ghost use Rattle.simplex_rules.specs.Ends.{Terms};
-ghost use Rattle.simplex_rules.specs.Runs.{HasRoom, IsFirstEmpty, Run};
+ghost use Rattle.simplex_rules.specs.Runs.{HasNoClash, IsFirstEmpty, Run};
 ghost use Rattle.simplex_rules.specs.Reports.{collected};
-ghost use Rattle.simplex_rules.specs.Looks.{answers, Tells, looks_after};
+ghost use Rattle.simplex_rules.specs.Looks.{answers, AgreesWith, looks_after};
 ghost use Rattle.dictionary.specs.Dict.{width_of, height_of, count_of, HaveOneSize, Holds};
 ghost use Rattle.simplex.specs.Cuts.{IsCutBy, AreEndsOf};
-ghost use Rattle.simplex.specs.Held.{AreHeld, values_in};
+ghost use Rattle.simplex.specs.Tables.{AreHeld, values_in};
 ghost use Rattle.simplex.specs.Answers.{listed, ended, was_stopped};
 
 use crate::answer::{LpEnd, Turns};
@@ -46,9 +46,9 @@ fn begin<L: Ledger>(
     requires statuses { length statuses.old ≡ goal }
     ensures size { HaveOneSize dict.old dict.new }
     ensures ends { (I : Of.Instance) → IsCutBy instance.now cuts.now I → AreEndsOf I ends.new }
-    ensures clash { (I : Of.Instance) → IsCutBy instance.now cuts.now I → MatchOption result (HasRoom I) (IsFirstEmpty I) }
+    ensures clash { (I : Of.Instance) → IsCutBy instance.now cuts.now I → MatchOption result (HasNoClash I) (IsFirstEmpty I) }
     ensures held { result ≡ None → AreHeld dict.new statuses.new }
-    ensures fresh { result ≡ None → (I : Of.Instance) → IsCutBy instance.now cuts.now I → IsFresh I statuses.new }
+    ensures fresh { result ≡ None → (I : Of.Instance) → IsCutBy instance.now cuts.now I → IsFirstBasis I statuses.new }
     ensures holds { result ≡ None → (I : Of.Instance) → IsCutBy instance.now cuts.now I → Holds (rows_with_goal zero_goal I) dict.new }
     ensures counted { steps.old ≤ steps.new }
 {
@@ -96,7 +96,7 @@ pub fn run_over<W: Watch, L: Ledger>(
     ensures most { turns.new.most ≡ turns.old.most }
     ensures more { turns.old.done ≤ turns.new.done }
     ensures within { turns.old.done ≤ turns.old.most → turns.new.done ≤ turns.old.most }
-    ensures run { (n : ℕ) × W.came watch.old watch.new (answers n (was_stopped result)) × ((I : Of.Instance) (t : Terms) (looks : ℕ) → IsCutBy instance.now cuts.now I → t.turns ≡ turns.old.most → Tells t.stop looks n (was_stopped result) → Run I zero_goal t (record { turns = turns.old.done; looks = looks }) (ended result (listed (length instance.now.vars) (values_in values.new)) (collected (values_in factors.new) (length instance.now.vars + length instance.now.rows)) (listed (length instance.now.vars) (values_in movements.new))) (record { turns = turns.new.done; looks = looks_after looks n (was_stopped result) })) }
+    ensures run { (n : ℕ) × W.came watch.old watch.new (answers n (was_stopped result)) × ((I : Of.Instance) (t : Terms) (looks : ℕ) → IsCutBy instance.now cuts.now I → t.turns ≡ turns.old.most → AgreesWith t.stop looks n (was_stopped result) → Run I zero_goal t (record { turns = turns.old.done; looks = looks }) (ended result (listed (length instance.now.vars) (values_in values.new)) (collected (values_in factors.new) (length instance.now.vars + length instance.now.rows)) (listed (length instance.now.vars) (values_in movements.new))) (record { turns = turns.new.done; looks = looks_after looks n (was_stopped result) })) }
     ensures counted { steps.old ≤ steps.new }
 {
     let goal = (instance.vars().len() + instance.rows().len()) as u32;

@@ -7,12 +7,12 @@ ghost use Rattle.simplex_rules.specs.declared.columns.Status as Columns;
 ghost use Rattle.simplex_rules.specs.Statuses.{is_basic, basic_in};
 ghost use Rattle.simplex_rules.specs.Turns.{pivoted};
 ghost use Rattle.simplex_rules.specs.Ends.{Terms};
-ghost use Rattle.simplex_rules.specs.Runs.{Begins, Passes};
-ghost use Rattle.simplex_rules.specs.Looks.{answers, Tells, looks_after};
+ghost use Rattle.simplex_rules.specs.Runs.{BeginsTurn, PassesTurn};
+ghost use Rattle.simplex_rules.specs.Looks.{answers, AgreesWith, looks_after};
 ghost use Rattle.dictionary.specs.Dict.{Holds, HaveOneSize, entry_of};
-ghost use Rattle.simplex.specs.Held.{AreHeld};
-ghost use Rattle.simplex.specs.Finished.{stops_at, passed, next_at, IsLeftAt, IsCounted, KeepsAt};
-ghost use Rattle.simplex.specs.Chosen.{IsSwap, IsFlip, IsSwapped};
+ghost use Rattle.simplex.specs.Tables.{AreHeld};
+ghost use Rattle.simplex.specs.Finishes.{stops_at, after_turn, next_at, IsLeftAt, IsCounted, KeepsAt};
+ghost use Rattle.simplex.specs.Choices.{IsSwap, IsFlip, IsSwapped};
 
 use crate::answer::Turns;
 use crate::choosing::{Flip, Swap};
@@ -31,7 +31,7 @@ fn count_turn<W: Watch>(turns: &mut Turns, watch: &mut W) -> bool
     ensures most { turns.new.most ≡ turns.old.most }
     ensures done { turns.new.done ≡ turns.old.done + 1 }
     ensures stops { result ≡ false → W.stops watch.new ≡ W.stops watch.old }
-    ensures passes { (n : ℕ) × W.came watch.old watch.new (answers n result) × ((t : Terms) (looks : ℕ) (ss : List Columns.Status) → Tells t.stop looks n result → Passes t (record { turns = turns.old.done + 1; looks = looks }) ss (passed result ss (record { turns = turns.new.done; looks = looks_after looks n result }))) }
+    ensures passes { (n : ℕ) × W.came watch.old watch.new (answers n result) × ((t : Terms) (looks : ℕ) (ss : List Columns.Status) → AgreesWith t.stop looks n result → PassesTurn t (record { turns = turns.old.done + 1; looks = looks }) ss (after_turn result ss (record { turns = turns.new.done; looks = looks_after looks n result }))) }
 {
     turns.done += 1;
     if turns.done % 64 == 0 {
@@ -83,7 +83,7 @@ pub fn swap_turn<W: Watch, L: Ledger>(
     ensures left { IsLeftAt dict.new statuses.new result }
     ensures swapped { result ≡ None → IsSwapped dict.old dict.new statuses.old statuses.new swap }
     ensures holds { (A : Entries) → Holds A dict.old → KeepsAt result (Holds A dict.new) }
-    ensures turn { (n : ℕ) × W.came watch.old watch.new (answers n (stops_at result)) × ((I : Instance) (u : Entries) (w : Values) (t : Terms) (looks : ℕ) → t.turns ≡ turns.old.most → Tells t.stop looks n (stops_at result) → Begins t (record { turns = turns.old.done; looks = looks }) (PivotFits (entry_of dict.old) swap.basic swap.nonbasic) (pivoted statuses.old swap.basic swap.nonbasic swap.status) (next_at I statuses.new u w (record { turns = turns.new.done; looks = looks_after looks n (stops_at result) }) result)) }
+    ensures turn { (n : ℕ) × W.came watch.old watch.new (answers n (stops_at result)) × ((I : Instance) (u : Entries) (w : Values) (t : Terms) (looks : ℕ) → t.turns ≡ turns.old.most → AgreesWith t.stop looks n (stops_at result) → BeginsTurn t (record { turns = turns.old.done; looks = looks }) (PivotFits (entry_of dict.old) swap.basic swap.nonbasic) (pivoted statuses.old swap.basic swap.nonbasic swap.status) (next_at I statuses.new u w (record { turns = turns.new.done; looks = looks_after looks n (stops_at result) }) result)) }
     ensures steps { steps.old ≤ steps.new }
 {
     if turns.done >= turns.most {
@@ -116,7 +116,7 @@ pub fn flip_turn<W: Watch, L: Ledger>(
     ensures stops { result ≡ None → W.stops watch.new ≡ W.stops watch.old }
     ensures left { IsLeftAt dict.now statuses.new result }
     ensures flipped { result ≡ None → statuses.new ≡ slice_set statuses.old flip.col flip.status }
-    ensures turn { (n : ℕ) × W.came watch.old watch.new (answers n (stops_at result)) × ((I : Instance) (u : Entries) (w : Values) (t : Terms) (looks : ℕ) → t.turns ≡ turns.old.most → Tells t.stop looks n (stops_at result) → Begins t (record { turns = turns.old.done; looks = looks }) (Unit {0}) (slice_set statuses.old flip.col flip.status) (next_at I statuses.new u w (record { turns = turns.new.done; looks = looks_after looks n (stops_at result) }) result)) }
+    ensures turn { (n : ℕ) × W.came watch.old watch.new (answers n (stops_at result)) × ((I : Instance) (u : Entries) (w : Values) (t : Terms) (looks : ℕ) → t.turns ≡ turns.old.most → AgreesWith t.stop looks n (stops_at result) → BeginsTurn t (record { turns = turns.old.done; looks = looks }) (Unit {0}) (slice_set statuses.old flip.col flip.status) (next_at I statuses.new u w (record { turns = turns.new.done; looks = looks_after looks n (stops_at result) }) result)) }
 {
     let _dict = dict;
     if turns.done >= turns.most {

@@ -9,12 +9,12 @@ ghost use Rattle.bases.specs.Dictionary.{Entries, Values};
 ghost use Rattle.bases.specs.Pivot.{ValueFits};
 ghost use Rattle.simplex_rules.specs.declared.columns.Way.{Way};
 ghost use Rattle.simplex_rules.specs.Statuses.{is_basic, basic_in, rest_at, HasValues};
-ghost use Rattle.simplex_rules.specs.Turns.{Misses, NoneOut, IsFirstOut};
+ghost use Rattle.simplex_rules.specs.Turns.{Misses, NoneOut, IsLeastOut};
 ghost use Rattle.simplex_rules.specs.Widths.{ValuesFit};
-ghost use Rattle.dictionary.specs.Dict.{IsLoaded, width_of, height_of, columns_of, basic_of, entry_of, Rest, count_of, values_of};
+ghost use Rattle.dictionary.specs.Dict.{IsLoaded, width_of, height_of, columns_of, basic_of, entry_of, Rest, count_of, place_values};
 ghost use Rattle.simplex.specs.Cuts.{AreEndsOf, range_of, ranges_in};
-ghost use Rattle.simplex.specs.Held.{AreStatuses, HasSizeOf, values_in};
-ghost use Rattle.simplex.specs.Valued.{IsColumnValue, AreResting, AreKnown, known_at};
+ghost use Rattle.simplex.specs.Tables.{AreStatuses, HasSizeOf, values_in};
+ghost use Rattle.simplex.specs.Values.{IsColumnValue, AreResting, AreKnown, known_at};
 
 use crate::ends::{Ends, is_less};
 use crate::finish::Move;
@@ -58,7 +58,7 @@ pub fn set_rest(ends: &[Ends], statuses: &[Status], rest: &mut Places, goal: u32
     requires rest { goal ≤ count_of rest.old }
     requires goal { goal ≡ length statuses.now }
     ensures count { count_of rest.new ≡ count_of rest.old }
-    ensures values { AreResting (ranges_in ends.now) statuses.now (values_of rest.new) }
+    ensures values { AreResting (ranges_in ends.now) statuses.now (place_values rest.new) }
 {
     for c in 0..goal {
         let value = rest_value(&ends[c as usize], statuses[c as usize]);
@@ -166,7 +166,7 @@ pub fn find_values<L: Ledger>(
     requires statuses { AreStatuses dict.now statuses.now }
     requires ends { length ends.now ≡ length statuses.now }
     requires rest { goal ≤ count_of rest.now }
-    requires resting { AreResting (ranges_in ends.now) statuses.now (values_of rest.now) }
+    requires resting { AreResting (ranges_in ends.now) statuses.now (place_values rest.now) }
     requires values { length values.old ≡ goal }
     requires flags { length known.old ≡ goal }
     requires goal { goal ≡ length statuses.now }
@@ -215,7 +215,7 @@ pub fn first_out(ends: &[Ends], statuses: &[Status], values: &[Frac], goal: u32)
     requires ends { length ends.now ≡ length statuses.now }
     requires values { length values.now ≡ length statuses.now }
     requires goal { goal ≡ length statuses.now }
-    ensures { (I : Instance) (u : Entries) → AreEndsOf I ends.now → MatchOption result (NoneOut I statuses.now u (values_in values.now)) (λ m. IsFirstOut I statuses.now u (values_in values.now) m.col m.way) }
+    ensures { (I : Instance) (u : Entries) → AreEndsOf I ends.now → MatchOption result (NoneOut I statuses.now u (values_in values.now)) (λ m. IsLeastOut I statuses.now u (values_in values.now) m.col m.way) }
 {
     for c in 0..goal {
         if let Some(way) = out_at(&ends[c as usize], statuses[c as usize], &values[c as usize]) {

@@ -4,7 +4,7 @@ ghost use Rattle.evidence.specs.Instance as Of;
 ghost use Rattle.dictionary.specs.Dict.{width_of, height_of, count_of};
 ghost use Rattle.simplex_rules.specs.Ends.{Terms};
 ghost use Rattle.simplex_rules.specs.Runs.{Run};
-ghost use Rattle.simplex_rules.specs.Looks.{answers, Tells, looks_after};
+ghost use Rattle.simplex_rules.specs.Looks.{answers, AgreesWith, looks_after};
 
 use crate::answer::{LpEnd, Turns};
 use crate::cuts::Cuts;
@@ -103,7 +103,7 @@ impl<L: Ledger> Work<L> {
         ensures most { turns.new.most ≡ turns.old.most }
         ensures more { turns.old.done ≤ turns.new.done }
         ensures within { turns.old.done ≤ turns.old.most → turns.new.done ≤ turns.old.most }
-        ensures run { (n : ℕ) × W.came watch.old watch.new (answers n (was_stopped result)) × ((I : Of.Instance) (t : Terms) (looks : ℕ) → IsCutBy instance.now cuts.now I → t.turns ≡ turns.old.most → Tells t.stop looks n (was_stopped result) → Run I zero_goal t (record { turns = turns.old.done; looks = looks }) (ended_with result self.new) (record { turns = turns.new.done; looks = looks_after looks n (was_stopped result) })) }
+        ensures run { (n : ℕ) × W.came watch.old watch.new (answers n (was_stopped result)) × ((I : Of.Instance) (t : Terms) (looks : ℕ) → IsCutBy instance.now cuts.now I → t.turns ≡ turns.old.most → AgreesWith t.stop looks n (was_stopped result) → Run I zero_goal t (record { turns = turns.old.done; looks = looks }) (ended_with result self.new) (record { turns = turns.new.done; looks = looks_after looks n (was_stopped result) })) }
         ensures counted { steps.old ≤ steps.new }
     {
         run_over(

@@ -1,6 +1,6 @@
 pub mod Core
-pub mod Collected
+pub mod MultiplierLists
 pub mod Facts
-pub mod Sound
+pub mod Soundness
 pub mod Moments
 pub mod OneEnd

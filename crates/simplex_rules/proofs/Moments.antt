@@ -13,13 +13,13 @@ use Rattle.simplex_rules.specs.declared.columns.Status.{Status}
 use Rattle.simplex_rules.specs.declared.columns.Status.TheVariants.{Basic}
 use Rattle.simplex_rules.specs.declared.columns.Way.{Way}
 use Rattle.simplex_rules.specs.declared.columns.Way.TheVariants.{Rise, Fall}
-use Rattle.simplex_rules.specs.Statuses.{status_at, basic_in, has_room, less, first_status, upper_status, IsFresh, HasDictionary, HasValues}
+use Rattle.simplex_rules.specs.Statuses.{status_at, basic_in, has_room, less, first_status, upper_status, IsFirstBasis, HasDictionary, HasValues}
 use Rattle.simplex_rules.specs.Turns.{rate, Moves, Can, Misses, missed_status, reached_status, NoneOut, IsFirstHelp, NoneHelps, until_by, until_end, across, way_of, left_status}
 use Rattle.simplex_rules.specs.Ends.{Terms, Clock, End, Empty, Best, Endless, TurnsOut, TooWide, Stopped, Shown}
-use Rattle.simplex_rules.specs.Reports.{IsBoundAt, multipliers}
-use Rattle.simplex_rules.specs.Runs.{HasRoom, Moment, To, Out, Passes, Begins, MovesOn, Chooses, IsNext, Comes, begins, goes_on, Run}
+use Rattle.simplex_rules.specs.Reports.{IsBoundAt, multipliers_of}
+use Rattle.simplex_rules.specs.Runs.{HasNoClash, Moment, To, Out, PassesTurn, BeginsTurn, MovesOn, Chooses, IsNext, ComesInRun, begins, goes_on, Run}
 use Rattle.simplex_rules.proofs.Facts.{HasPlace, some_is, has_number}
-use Rattle.simplex_rules.proofs.Sound.{IsPlaced, end_missed, IsMissed, farkas, basic_is, relaxed, best, direction, not_zeroed}
+use Rattle.simplex_rules.proofs.Soundness.{IsPlaced, end_missed, IsMissed, farkas, basic_is, relaxed, best, direction, not_zeroed}
 
 -- the first places
 first_place : (lo hi : Option Ratio) (r : Range) → r.lb ≡ lo → r.ub ≡ hi → HasPlace r (first_status lo hi)
@@ -27,7 +27,7 @@ first_place (Some l) hi r e f = some_is e
 first_place None (Some h) r e f = (some_is f, rw e refl)
 first_place None None r e f = (e, f)
 
-pub fresh_placed : (I : Instance) (ss : List Status) → IsFresh I ss → IsPlaced I ss
+pub fresh_placed : (I : Instance) (ss : List Status) → IsFirstBasis I ss → IsPlaced I ss
 fresh_placed I ss f = record {
   count = f.count;
   places = λ c h.
@@ -88,12 +88,12 @@ flipped_place : (w : Way) (r : Range) (q : Ratio) → across r.lb r.ub ≡ Some 
 flipped_place Rise r q e = let p = across_some r.lb r.ub q e in upper_place r p.1
 flipped_place Fall r q e = let p = across_some r.lb r.ub q e in p.0
 
-passes_on : (P : List Status → Type 0) (t : Terms) (c : Clock) (ss : List Status) (n : Moment) → P ss → Passes t c ss (To n) → P n.statuses
+passes_on : (P : List Status → Type 0) (t : Terms) (c : Clock) (ss : List Status) (n : Moment) → P ss → PassesTurn t c ss (To n) → P n.statuses
 passes_on P t c ss n p (inl (a, e)) = subst P (let f : ss ≡ n.statuses = cc in f) p
 passes_on P t c ss n p (inr (inl (a, b, e))) = absurd (cc)
 passes_on P t c ss n p (inr (inr (a, b, e))) = subst P (let f : ss ≡ n.statuses = cc in f) p
 
-turns_on : (P : List Status → Type 0) (t : Terms) (c : Clock) (F : Type 0) (ss : List Status) (n : Moment) → P ss → Begins t c F ss (To n) → P n.statuses
+turns_on : (P : List Status → Type 0) (t : Terms) (c : Clock) (F : Type 0) (ss : List Status) (n : Moment) → P ss → BeginsTurn t c F ss (To n) → P n.statuses
 turns_on P t c F ss n p (inl (a, e)) = absurd (cc)
 turns_on P t c F ss n p (inr (inl (a, b, e))) = absurd (cc)
 turns_on P t c F ss n p (inr (inr (a, b, e))) = passes_on P t _ ss n p e
@@ -132,7 +132,7 @@ pub next_placed : (I : Instance) (zeroed : Bool) (t : Terms) (m n : Moment) → 
 next_placed I zeroed t m n p (u, d, inl (f, e)) = absurd (cc)
 next_placed I zeroed t m n p (u, d, inr (w, f, v, s)) = steps_placed I zeroed t m u w p n s
 
-pub comes_placed : {I : Instance} {zeroed : Bool} {t : Terms} {c : Clock} {m : Moment} → Comes I zeroed t c m → IsPlaced I m.statuses
+pub comes_placed : {I : Instance} {zeroed : Bool} {t : Terms} {c : Clock} {m : Moment} → ComesInRun I zeroed t c m → IsPlaced I m.statuses
 comes_placed {I} {zeroed} {t} {c} (begins {ss} f) = fresh_placed I ss f
 comes_placed {I} {zeroed} {t} {c} (goes_on {m} {n} before next) = next_placed I zeroed t m n (comes_placed before) next
 
@@ -141,16 +141,16 @@ misses_end : (w : Way) (r : Range) (x : Ratio) → Misses w r x → (e : Ratio) 
 misses_end Rise r x h = h
 misses_end Fall r x h = h
 
-module _ (I : Instance) (good : IsInstance I) (zeroed : Bool) (t : Terms) (m : Moment) (u : Entries) (w : Values) (dict : HasDictionary I zeroed m.statuses u) (values : HasValues I m.statuses u w) (placed : IsPlaced I m.statuses) (room : HasRoom I) where
+module _ (I : Instance) (good : IsInstance I) (zeroed : Bool) (t : Terms) (m : Moment) (u : Entries) (w : Values) (dict : HasDictionary I zeroed m.statuses u) (values : HasValues I m.statuses u w) (placed : IsPlaced I m.statuses) (room : HasNoClash I) where
   abbrev IsTrueOf : End → Type 0
   IsTrueOf e = Shown zeroed I e
 
-  passes_true : (c : Clock) (ss : List Status) (e : End) (d : Clock) → Passes t c ss (Out e d) → IsTrueOf e
+  passes_true : (c : Clock) (ss : List Status) (e : End) (d : Clock) → PassesTurn t c ss (Out e d) → IsTrueOf e
   passes_true c ss e d (inl (a, f)) = absurd (cc)
   passes_true c ss e d (inr (inl (a, b, f))) = subst IsTrueOf (let g : Stopped ≡ e = cc in g) tt
   passes_true c ss e d (inr (inr (a, b, f))) = absurd (cc)
 
-  turns_true : (c : Clock) (F : Type 0) (ss : List Status) (e : End) (d : Clock) → Begins t c F ss (Out e d) → IsTrueOf e
+  turns_true : (c : Clock) (F : Type 0) (ss : List Status) (e : End) (d : Clock) → BeginsTurn t c F ss (Out e d) → IsTrueOf e
   turns_true c F ss e d (inl (a, f)) = subst IsTrueOf (let g : TurnsOut ≡ e = cc in g) tt
   turns_true c F ss e d (inr (inl (a, b, f))) = subst IsTrueOf (let g : TooWide At.Pivot ≡ e = cc in g) tt
   turns_true c F ss e d (inr (inr (a, b, f))) = passes_true _ ss e d f
@@ -173,7 +173,7 @@ module _ (I : Instance) (good : IsInstance I) (zeroed : Bool) (t : Terms) (m : M
   steps_true e d (inl (b, wanted, out, inl (off, f))) =
       let k = misses_end wanted (column_at I b) (w b) out.out.misses in
       let hn = column-numbers I good b in
-      subst IsTrueOf (let g : Empty (multipliers I u b wanted) ≡ e = cc in g)
+      subst IsTrueOf (let g : Empty (multipliers_of I u b wanted) ≡ e = cc in g)
       (farkas I good zeroed m.statuses u dict placed room b wanted k.0 (w b) out.inside out.out.basic k.1 (missed_number wanted (column_at I b) k.0 hn k.1) k.2 (basic_is I good zeroed m.statuses u dict placed room w values b out.inside out.out.basic) (off_helps b wanted off))
     where
       missed_number : (w : Way) (r : Range) (e : Ratio) → HasNumbers r → end_missed w r ≡ Some e → IsNumber e
@@ -182,14 +182,14 @@ module _ (I : Instance) (good : IsInstance I) (zeroed : Bool) (t : Terms) (m : M
   steps_true e d (inl (b, wanted, out, inr (c, way, help, f))) = turns_true m.clock _ _ e d f
   steps_true e d (inr (none_out, inl (off, z, f, g))) = subst IsTrueOf (let k : TooWide At.Point ≡ e = cc in k) tt
   steps_true e d (inr (none_out, inr (inl (b, x, off, f, p, q, g)))) =
-      subst IsTrueOf (let k : Best b x (multipliers I u (goal_column I) Fall) ≡ e = cc in k) (
+      subst IsTrueOf (let k : Best b x (multipliers_of I u (goal_column I) Fall) ≡ e = cc in k) (
         relaxed I good zeroed m.statuses u dict placed room w values x q none_out,
         λ z. let r = subst (λ y. IsBoundAt y I m.statuses u b) z p in
             best I good zeroed m.statuses u dict placed room w values x q z none_out (off_helps (goal_column I) Fall off) b r.0 r.1,
       )
   steps_true e d (inr (none_out, inr (inr (c, way, help, f)))) = limits_true c way e d none_out help f
 
-next_true : (I : Instance) (good : IsInstance I) (zeroed : Bool) (t : Terms) (m : Moment) (e : End) (d : Clock) → IsPlaced I m.statuses → HasRoom I → IsNext I zeroed t m (Out e d) → Shown zeroed I e
+next_true : (I : Instance) (good : IsInstance I) (zeroed : Bool) (t : Terms) (m : Moment) (e : End) (d : Clock) → IsPlaced I m.statuses → HasNoClash I → IsNext I zeroed t m (Out e d) → Shown zeroed I e
 next_true I good zeroed t m e d p room (u, dict, inl (f, g)) = subst (Shown zeroed I) (let k : TooWide At.Values ≡ e = cc in k) tt
 next_true I good zeroed t m e d p room (u, dict, inr (w, f, v, s)) = steps_true I good zeroed t m u w dict v p room e d s
 

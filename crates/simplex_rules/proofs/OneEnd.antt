@@ -5,7 +5,7 @@ use Rattle.std.proofs.lemmas.List.{ext_get_or}
 use Rattle.std.proofs.lemmas.Int.{ints}
 use Rattle.rational.specs.Ratio.{Ratio, IsNumber, IsSame, IsBelow}
 use Rattle.rational.specs.Width.{IsReduced}
-use Rattle.rational.proofs.Reduced.{same_reduced}
+use Rattle.rational.proofs.ReducedForms.{same_reduced}
 use Rattle.rational.proofs.Scaling.{IsSame-trans}
 use Rattle.evidence.specs.Sums.{none}
 use Rattle.evidence.specs.Instance.{Range, Instance, IsInstance, HasNumbers, width, height, column_at}
@@ -20,23 +20,23 @@ use Rattle.simplex_rules.specs.declared.columns.Status.{Status}
 use Rattle.simplex_rules.specs.declared.columns.Status.TheVariants.{Basic}
 use Rattle.simplex_rules.specs.declared.columns.Way.{Way}
 use Rattle.simplex_rules.specs.declared.columns.Way.TheVariants.{Rise, Fall}
-use Rattle.simplex_rules.specs.Statuses.{status_at, basic_in, resting, basic_value, IsFresh, HasDictionary, HasValues}
-use Rattle.simplex_rules.specs.Turns.{rate, Moves, Misses, IsFirstOut, IsFirstHelp, IsFirstLimit, NoLimit, pivoted, missed_status, left_status}
+use Rattle.simplex_rules.specs.Statuses.{status_at, basic_in, resting, basic_value, IsFirstBasis, HasDictionary, HasValues}
+use Rattle.simplex_rules.specs.Turns.{rate, Moves, Misses, IsLeastOut, IsFirstHelp, IsFirstLimit, NoLimit, pivoted, missed_status, left_status}
 use Rattle.simplex_rules.specs.Widths.{ValuesFit}
 use Rattle.simplex_rules.specs.Ends.{Terms, Clock, End, Clash, TooWide}
 use Rattle.simplex_rules.specs.Reports.{AreValues, movement, IsBoundAt, bound_sum}
-use Rattle.simplex_rules.specs.Runs.{HasRoom, Moment, Next, To, Out, Passes, Begins, MovesOn, Repairs, Improves, Chooses, IsNext, Comes, begins, goes_on, IsRun, Run}
+use Rattle.simplex_rules.specs.Runs.{HasNoClash, Moment, Next, To, Out, PassesTurn, BeginsTurn, MovesOn, Repairs, Improves, Chooses, IsNext, ComesInRun, begins, goes_on, IsRun, Run}
 use Rattle.bases.proofs.Lists as Lists
 use Rattle.bases.proofs.Lists.{value_by-number}
 use Rattle.simplex_rules.proofs.Facts.{has_number}
-use Rattle.simplex_rules.proofs.Sound.{IsPlaced, rest_number, u_number, bound_number}
+use Rattle.simplex_rules.proofs.Soundness.{IsPlaced, rest_number, u_number, bound_number}
 use Rattle.simplex_rules.proofs.Moments.{comes_placed, fresh_placed, next_placed}
 
 one_reduced : (x y z : Ratio) → IsNumber z → IsReduced x → IsReduced y → IsSame x z → IsSame y z → x ≡ y
 one_reduced x y z p r s e f = same_reduced x y r s (IsSame-trans x z y p e (sym f))
 
 -- one dictionary, and one value of each column
-module _ (I : Instance) (good : IsInstance I) (zeroed : Bool) (ss : List Status) (placed : IsPlaced I ss) (room : HasRoom I) where
+module _ (I : Instance) (good : IsInstance I) (zeroed : Bool) (ss : List Status) (placed : IsPlaced I ss) (room : HasNoClash I) where
   one_dictionary : (u v : Entries) → HasDictionary I zeroed ss u → HasDictionary I zeroed ss v → u ≡ v
   one_dictionary u v d e = fun_ext (λ b. fun_ext (λ c. Lists.one_dictionary (width I) (height I + 1) (rows_with_goal zeroed I) (basic_in ss) u v d e b c))
 
@@ -55,7 +55,7 @@ one_point : (I : Instance) (w : Values) (x y : List Ratio) → AreValues I w x �
 one_point I w x y p q =
     ext_get_or none x y (p.count ∙ sym q.count) (λ j h. let k : j < width I = let n = p.count in omega arith in p.values j k ∙ sym (q.values j k))
 
-one_fresh : (I : Instance) (ss ts : List Status) → IsFresh I ss → IsFresh I ts → ss ≡ ts
+one_fresh : (I : Instance) (ss ts : List Status) → IsFirstBasis I ss → IsFirstBasis I ts → ss ≡ ts
 one_fresh I ss ts f g =
     ext_get_or Basic ss ts (f.count ∙ sym g.count)
     (λ c h. let n = f.count in by_lt c (width I)
@@ -89,7 +89,7 @@ moves_once Fall x Rise Fall a b = let k : neg_ℤ x.num <ℤ pos 0 = b in absurd
 moves_once Rise x Fall Rise a b = let k : pos 0 <ℤ neg_ℤ x.num = a in absurd (omega (arith, ints))
 moves_once Fall x Fall Rise a b = let k : neg_ℤ x.num <ℤ pos 0 = a in absurd (omega (arith, ints))
 
-passes_once : (t : Terms) (c : Clock) (ss : List Status) (a b : Next) → Passes t c ss a → Passes t c ss b → a ≡ b
+passes_once : (t : Terms) (c : Clock) (ss : List Status) (a b : Next) → PassesTurn t c ss a → PassesTurn t c ss b → a ≡ b
 passes_once t c ss a b (inl (e, f)) (inl (g, h)) = f ∙ sym h
 passes_once t c ss a b (inl (e, f)) (inr (inl (g, h, i))) = absurd (e g)
 passes_once t c ss a b (inl (e, f)) (inr (inr (g, h, i))) = absurd (e g)
@@ -100,7 +100,7 @@ passes_once t c ss a b (inr (inr (g, h, i))) (inl (e, f)) = absurd (e g)
 passes_once t c ss a b (inr (inr (g, h, i))) (inr (inl (j, k, l))) = absurd (h k)
 passes_once t c ss a b (inr (inr (g, h, i))) (inr (inr (j, k, l))) = i ∙ sym l
 
-turns_once : (t : Terms) (c : Clock) (F : Type 0) (ss : List Status) (a b : Next) → Begins t c F ss a → Begins t c F ss b → a ≡ b
+turns_once : (t : Terms) (c : Clock) (F : Type 0) (ss : List Status) (a b : Next) → BeginsTurn t c F ss a → BeginsTurn t c F ss b → a ≡ b
 turns_once t c F ss a b (inl (e, f)) (inl (g, h)) = f ∙ sym h
 turns_once t c F ss a b (inl (e, f)) (inr (inl (g, h, i))) = absurd (omega arith)
 turns_once t c F ss a b (inl (e, f)) (inr (inr (g, h, i))) = absurd (omega arith)
@@ -111,7 +111,7 @@ turns_once t c F ss a b (inr (inr (g, h, i))) (inl (e, f)) = absurd (omega arith
 turns_once t c F ss a b (inr (inr (g, h, i))) (inr (inl (j, k, l))) = absurd (k h)
 turns_once t c F ss a b (inr (inr (g, h, i))) (inr (inr (j, k, l))) = passes_once t _ ss a b i l
 
-module _ (I : Instance) (good : IsInstance I) (zeroed : Bool) (t : Terms) (m : Moment) (placed : IsPlaced I m.statuses) (room : HasRoom I) (u : Entries) (dict : HasDictionary I zeroed m.statuses u) (w : Values) (values : HasValues I m.statuses u w) where
+module _ (I : Instance) (good : IsInstance I) (zeroed : Bool) (t : Terms) (m : Moment) (placed : IsPlaced I m.statuses) (room : HasNoClash I) (u : Entries) (dict : HasDictionary I zeroed m.statuses u) (w : Values) (values : HasValues I m.statuses u w) where
   abbrev ss : List Status
   ss = m.statuses
 
@@ -124,10 +124,10 @@ module _ (I : Instance) (good : IsInstance I) (zeroed : Bool) (t : Terms) (m : M
   one_way : (g : ℕ) (wanted : Way) (c : ℕ) (v x : Way) → IsFirstHelp I ss u w g wanted c v → IsFirstHelp I ss u w g wanted c x → v ≡ x
   one_way g wanted c v x p q = moves_once wanted (u g c) v x p.helps.moves q.helps.moves
 
-  one_out : (b c : ℕ) (v x : Way) → IsFirstOut I ss u w b v → IsFirstOut I ss u w c x → b ≡ c
+  one_out : (b c : ℕ) (v x : Way) → IsLeastOut I ss u w b v → IsLeastOut I ss u w c x → b ≡ c
   one_out b c v x p q = by_lt b c (λ h. absurd (q.before b h v p.out)) (λ h. by_lt c b (λ k. absurd (p.before c k x q.out)) (λ k. omega arith))
 
-  one_wanted : (b : ℕ) (v x : Way) → IsFirstOut I ss u w b v → IsFirstOut I ss u w b x → v ≡ x
+  one_wanted : (b : ℕ) (v x : Way) → IsLeastOut I ss u w b v → IsLeastOut I ss u w b x → v ≡ x
   one_wanted b v x p q = misses_once (column_at I b) (w b) (column-numbers I good b) (let r = values.reduced b in r.0) (room b p.inside) v x p.out.misses q.out.misses
 
   one_limit : (n : ℕ) (way : Way) (b c : ℕ) → IsFirstLimit I ss u w n way b → IsFirstLimit I ss u w n way c → b ≡ c
@@ -161,7 +161,7 @@ module _ (I : Instance) (good : IsInstance I) (zeroed : Bool) (t : Terms) (m : M
   limits_once n way a b (inr (inr (inr (c, i, j, d, k)))) (inr (inr (inl (g, l, h)))) = absurd (d (one_limit n way c n j l))
   limits_once n way a b (inr (inr (inr (c, i, j, d, k)))) (inr (inr (inr (e, f, g, h, l)))) =
       let q : c ≡ e = one_limit n way c e j g in
-      turns_once t m.clock _ _ a b (subst (λ z. Begins t m.clock (PivotFits u z n) (pivoted ss z n (left_status I u z n way)) a) q k) l
+      turns_once t m.clock _ _ a b (subst (λ z. BeginsTurn t m.clock (PivotFits u z n) (pivoted ss z n (left_status I u z n way)) a) q k) l
 
   repairs_once : (g : ℕ) (wanted : Way) (a b : Next) → Repairs I zeroed t m u w g wanted a → Repairs I zeroed t m u w g wanted b → a ≡ b
   repairs_once g wanted a b (inl (f, e)) (inl (h, i)) = e ∙ sym i
@@ -169,7 +169,7 @@ module _ (I : Instance) (good : IsInstance I) (zeroed : Bool) (t : Terms) (m : M
   repairs_once g wanted a b (inr (c, v, h, i)) (inl (f, e)) = absurd (f c h.inside v h.helps)
   repairs_once g wanted a b (inr (c, v, h, i)) (inr (d, x, k, l)) =
       let q : c ≡ d = one_help g wanted c d v x h k in
-      turns_once t m.clock _ _ a b (subst (λ z. Begins t m.clock (PivotFits u g z) (pivoted ss g z (missed_status wanted (column_at I g))) a) q i) l
+      turns_once t m.clock _ _ a b (subst (λ z. BeginsTurn t m.clock (PivotFits u g z) (pivoted ss g z (missed_status wanted (column_at I g))) a) q i) l
 
   one_bound : (z : Bool) (x y : Ratio) → IsBoundAt z I ss u x → IsBoundAt z I ss u y → x ≡ y
   one_bound true x y p q = p ∙ sym q
@@ -196,7 +196,7 @@ module _ (I : Instance) (good : IsInstance I) (zeroed : Bool) (t : Terms) (m : M
   steps_once : (a b : Next) → Chooses I zeroed t m u w a → Chooses I zeroed t m u w b → a ≡ b
   steps_once a b (inl (c, v, p, e)) (inl (d, x, q, f)) =
       let k : c ≡ d = one_out c d v x p q in
-      let p' : IsFirstOut I ss u w d v = subst (λ z. IsFirstOut I ss u w z v) k p in
+      let p' : IsLeastOut I ss u w d v = subst (λ z. IsLeastOut I ss u w z v) k p in
       let r : v ≡ x = one_wanted d v x p' q in
       let e' : Repairs I zeroed t m u w d v a = subst (λ z. Repairs I zeroed t m u w z v a) k e in
       repairs_once d x a b (subst (λ z. Repairs I zeroed t m u w d z a) r e') f
@@ -205,7 +205,7 @@ module _ (I : Instance) (good : IsInstance I) (zeroed : Bool) (t : Terms) (m : M
   steps_once a b (inr (f, g)) (inr (h, i)) = improves_once a b g i
 
 -- each moment has one next
-pub next_once : (I : Instance) → IsInstance I → (zeroed : Bool) (t : Terms) (m : Moment) → IsPlaced I m.statuses → HasRoom I → (a b : Next) → IsNext I zeroed t m a → IsNext I zeroed t m b → a ≡ b
+pub next_once : (I : Instance) → IsInstance I → (zeroed : Bool) (t : Terms) (m : Moment) → IsPlaced I m.statuses → HasNoClash I → (a b : Next) → IsNext I zeroed t m a → IsNext I zeroed t m b → a ≡ b
 next_once I good zeroed t m placed room a b (u, d, x) (v, e, y) =
     same (subst (λ z. ((ValuesFit I m.statuses z → ⊥) × (a ≡ Out (TooWide At.Values) m.clock)) ⊎ ((w : Values) × ValuesFit I m.statuses z × HasValues I m.statuses z w × Chooses I zeroed t m z w a)) (one_dictionary I good zeroed m.statuses placed room u v d e) x) y
   where
@@ -217,7 +217,7 @@ next_once I good zeroed t m placed room a b (u, d, x) (v, e, y) =
         let q : w ≡ x = one_values I good zeroed m.statuses placed room v w x e i l in
         steps_once I good zeroed t m placed room v e x l a b (subst (λ z. Chooses I zeroed t m v z a) q j) n
 
-module _ (I : Instance) (good : IsInstance I) (room : HasRoom I) (zeroed : Bool) (t : Terms) where
+module _ (I : Instance) (good : IsInstance I) (room : HasNoClash I) (zeroed : Bool) (t : Terms) where
   -- the moments from one on, to the end
   data Halts : Moment → End → Clock → Type 0 where
     now : {m : Moment} {e : End} {d : Clock} → IsNext I zeroed t m (Out e d) → Halts m e d
@@ -225,10 +225,10 @@ module _ (I : Instance) (good : IsInstance I) (room : HasRoom I) (zeroed : Bool)
 
   record Begun (c : Clock) (e : End) (d : Clock) : Type 0 where
     statuses : List Status
-    fresh : IsFresh I statuses
+    fresh : IsFirstBasis I statuses
     halts : Halts (record { statuses = statuses; clock = c }) e d
 
-  from_first : (c : Clock) (m : Moment) (e : End) (d : Clock) → Comes I zeroed t c m → Halts m e d → Begun c e d
+  from_first : (c : Clock) (m : Moment) (e : End) (d : Clock) → ComesInRun I zeroed t c m → Halts m e d → Begun c e d
   from_first c m e d (begins {ss} f) h = record { statuses = ss; fresh = f; halts = h }
   from_first c m e d (goes_on {m = before} k next) h = from_first c before e d k (later next h)
 
@@ -256,5 +256,5 @@ run_once I zeroed t c e f d b good (inl (k, p, g, h)) (inr r) = absurd (r.room k
 run_once I zeroed t c e f d b good (inr r) (inl (k, p, g, h)) = absurd (r.room k p.inside p.empty)
 run_once I zeroed t c e f d b good (inr p) (inr q) = runs_once I good p.room zeroed t c e f d b p q
 
-pub comes_once : (I : Instance) (zeroed : Bool) (t : Terms) (c : Clock) (m : Moment) (a b : Next) → IsInstance I → HasRoom I → Comes I zeroed t c m → IsNext I zeroed t m a → IsNext I zeroed t m b → a ≡ b
+pub comes_once : (I : Instance) (zeroed : Bool) (t : Terms) (c : Clock) (m : Moment) (a b : Next) → IsInstance I → HasNoClash I → ComesInRun I zeroed t c m → IsNext I zeroed t m a → IsNext I zeroed t m b → a ≡ b
 comes_once I zeroed t c m a b good room k = next_once I good zeroed t m (comes_placed k) room a b

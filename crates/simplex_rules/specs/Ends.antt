@@ -62,13 +62,13 @@ Shown zeroed I (TooWide s) = Unit {0}
 Shown zeroed I Stopped = Unit {0}
 
 -- the runs of programs: the program, whether the goal is zero, the terms, the clock at the beginning, the end, and the clock then
-abbrev pub Runs : Type 1
-Runs = Instance → Bool → Terms → Clock → End → Clock → Type 0
+abbrev pub ProgramRuns : Type 1
+ProgramRuns = Instance → Bool → Terms → Clock → End → Clock → Type 0
 
 -- each end says something true of its program
-abbrev pub AreSound : Runs → Type 0
+abbrev pub AreSound : ProgramRuns → Type 0
 AreSound R = (I : Instance) (zeroed : Bool) (t : Terms) (c : Clock) (e : End) (d : Clock) → IsInstance I → R I zeroed t c e d → Shown zeroed I e
 
 -- a run has one end
-abbrev pub HaveOneEnd : Runs → Type 0
+abbrev pub HaveOneEnd : ProgramRuns → Type 0
 HaveOneEnd R = (I : Instance) (zeroed : Bool) (t : Terms) (c : Clock) (e f : End) (d b : Clock) → IsInstance I → R I zeroed t c e d → R I zeroed t c f b → (e ≡ f) × (d ≡ b)

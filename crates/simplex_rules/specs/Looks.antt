@@ -25,9 +25,9 @@ abbrev pub IsAfter : ℕ → Option ℕ → Type 0
 IsAfter n stop = IfSome stop (λ k. n < k)
 
 -- the stop agrees with these looks: after the first ones n went on, and the next one stopped where one did
-abbrev pub Tells : Option ℕ → ℕ → ℕ → Bool → Type 0
-Tells stop looks n false = IsAfter (looks + n) stop
-Tells stop looks n true = stop ≡ Some (looks + n + 1)
+abbrev pub AgreesWith : Option ℕ → ℕ → ℕ → Bool → Type 0
+AgreesWith stop looks n false = IsAfter (looks + n) stop
+AgreesWith stop looks n true = stop ≡ Some (looks + n + 1)
 
 abbrev pub looks_after : ℕ → ℕ → Bool → ℕ
 looks_after looks n false = looks + n

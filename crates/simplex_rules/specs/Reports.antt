@@ -38,8 +38,8 @@ against Fall x = x
 abbrev pub factor_at : Entries → ℕ → Way → ℕ → Ratio
 factor_at u g wanted c = against wanted (base (u g) g c)
 
-abbrev pub multipliers : Instance → Entries → ℕ → Way → List Multiplier
-multipliers I u g wanted = collected (factor_at u g wanted) (goal_column I)
+abbrev pub multipliers_of : Instance → Entries → ℕ → Way → List Multiplier
+multipliers_of I u g wanted = collected (factor_at u g wanted) (goal_column I)
 
 -- x has the variables' values, or their movements
 pub record AreValues (I : Instance) (w : Values) (x : List Ratio) : Type 0 where

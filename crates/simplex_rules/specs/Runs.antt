@@ -10,11 +10,11 @@ use Rattle.bases.specs.Pivot.{PivotFits}
 use Rattle.simplex_rules.specs.declared.columns.Status.{Status}
 use Rattle.simplex_rules.specs.declared.columns.Way.{Way}
 use Rattle.simplex_rules.specs.declared.columns.Way.TheVariants.{Fall}
-use Rattle.simplex_rules.specs.Statuses.{HasDictionary, HasValues, IsFresh}
-use Rattle.simplex_rules.specs.Turns.{IsFirstOut, NoneOut, IsFirstHelp, NoneHelps, IsFirstLimit, NoLimit, flipped, pivoted, missed_status, left_status}
+use Rattle.simplex_rules.specs.Statuses.{HasDictionary, HasValues, IsFirstBasis}
+use Rattle.simplex_rules.specs.Turns.{IsLeastOut, NoneOut, IsFirstHelp, NoneHelps, IsFirstLimit, NoLimit, flipped, pivoted, missed_status, left_status}
 use Rattle.simplex_rules.specs.Widths.{ValuesFit, LimitsFit, BoundFits}
 use Rattle.simplex_rules.specs.Ends.{Terms, Clock, End, Clash, Empty, Best, Endless, TurnsOut, TooWide, Stopped}
-use Rattle.simplex_rules.specs.Reports.{multipliers, AreValues, movement, IsBoundAt}
+use Rattle.simplex_rules.specs.Reports.{multipliers_of, AreValues, movement, IsBoundAt}
 
 -- a basis with the places of the other columns, and the clock
 pub record Moment : Type 0 where
@@ -33,22 +33,22 @@ is_checked turns = turns % 64 ≡ 0
 abbrev pub turned : Clock → Clock
 turned c = record c { turns = c.turns + 1 }
 
-abbrev pub looked : Clock → Clock
-looked c = record c { looks = c.looks + 1 }
+abbrev pub looked_once : Clock → Clock
+looked_once c = record c { looks = c.looks + 1 }
 
 -- a turn was done, with these statuses: after each 64th there is a look, which may stop the run
-abbrev pub Passes : Terms → Clock → List Status → Next → Type 0
-Passes t c ss next =
+abbrev pub PassesTurn : Terms → Clock → List Status → Next → Type 0
+PassesTurn t c ss next =
     ((is_checked c.turns → ⊥) × (next ≡ To (record { statuses = ss; clock = c })))
-    ⊎ (is_checked c.turns × (t.stop ≡ Some (c.looks + 1)) × (next ≡ Out Stopped (looked c)))
-    ⊎ (is_checked c.turns × (t.stop ≡ Some (c.looks + 1) → ⊥) × (next ≡ To (record { statuses = ss; clock = looked c })))
+    ⊎ (is_checked c.turns × (t.stop ≡ Some (c.looks + 1)) × (next ≡ Out Stopped (looked_once c)))
+    ⊎ (is_checked c.turns × (t.stop ≡ Some (c.looks + 1) → ⊥) × (next ≡ To (record { statuses = ss; clock = looked_once c })))
 
 -- a turn is begun, to these statuses: as many as the limit were done, or its numbers don't fit, or it is done
-abbrev pub Begins : Terms → Clock → Type 0 → List Status → Next → Type 0
-Begins t c Fits ss next =
+abbrev pub BeginsTurn : Terms → Clock → Type 0 → List Status → Next → Type 0
+BeginsTurn t c Fits ss next =
     ((t.turns ≤ c.turns) × (next ≡ Out TurnsOut c))
     ⊎ ((c.turns < t.turns) × (Fits → ⊥) × (next ≡ Out (TooWide At.Pivot) c))
-    ⊎ ((c.turns < t.turns) × Fits × Passes t (turned c) ss next)
+    ⊎ ((c.turns < t.turns) × Fits × PassesTurn t (turned c) ss next)
 
 -- m is a moment of the run, u its dictionary, and w has its values
 module _ (I : Instance) (zeroed : Bool) (t : Terms) (m : Moment) (u : Entries) (w : Values) where
@@ -63,26 +63,26 @@ module _ (I : Instance) (zeroed : Bool) (t : Terms) (m : Moment) (u : Entries) (
   MovesOn n way next =
       ((LimitsFit I ss u w n way → ⊥) × (next ≡ Out (TooWide At.Ratio) m.clock))
       ⊎ ((x d : List Ratio) × LimitsFit I ss u w n way × NoLimit I ss u w n way × AreValues I w x × AreValues I (movement ss u n way) d × (next ≡ Out (Endless x d) m.clock))
-      ⊎ (LimitsFit I ss u w n way × IsFirstLimit I ss u w n way n × Begins t m.clock (Unit {0}) (flipped I ss n way) next)
-      ⊎ ((b : ℕ) × LimitsFit I ss u w n way × IsFirstLimit I ss u w n way b × (b ≡ n → ⊥) × Begins t m.clock (PivotFits u b n) (pivoted ss b n (left_status I u b n way)) next)
+      ⊎ (LimitsFit I ss u w n way × IsFirstLimit I ss u w n way n × BeginsTurn t m.clock (Unit {0}) (flipped I ss n way) next)
+      ⊎ ((b : ℕ) × LimitsFit I ss u w n way × IsFirstLimit I ss u w n way b × (b ≡ n → ⊥) × BeginsTurn t m.clock (PivotFits u b n) (pivoted ss b n (left_status I u b n way)) next)
 
   -- the first phase: the first column that is out of its ends leaves the basis at the end that it missed, for the first one that helps; where none does, no point is feasible
   abbrev pub Repairs : ℕ → Way → Next → Type 0
   Repairs b wanted next =
-      (NoneHelps I ss u w b wanted × (next ≡ Out (Empty (multipliers I u b wanted)) m.clock))
-      ⊎ ((n : ℕ) × (way : Way) × IsFirstHelp I ss u w b wanted n way × Begins t m.clock (PivotFits u b n) (pivoted ss b n (missed_status wanted (column_at I b))) next)
+      (NoneHelps I ss u w b wanted × (next ≡ Out (Empty (multipliers_of I u b wanted)) m.clock))
+      ⊎ ((n : ℕ) × (way : Way) × IsFirstHelp I ss u w b wanted n way × BeginsTurn t m.clock (PivotFits u b n) (pivoted ss b n (missed_status wanted (column_at I b))) next)
 
   -- the second phase: the first column moves by which the goal falls; where there is none, the point is best, and its bound may not fit
   abbrev pub Improves : Next → Type 0
   Improves next =
       (NoneHelps I ss u w goal Fall × (zeroed ≡ false) × (BoundFits I ss u → ⊥) × (next ≡ Out (TooWide At.Point) m.clock))
-      ⊎ ((b : Ratio) × (x : List Ratio) × NoneHelps I ss u w goal Fall × (zeroed ≡ false → BoundFits I ss u) × IsBoundAt zeroed I ss u b × AreValues I w x × (next ≡ Out (Best b x (multipliers I u goal Fall)) m.clock))
+      ⊎ ((b : Ratio) × (x : List Ratio) × NoneHelps I ss u w goal Fall × (zeroed ≡ false → BoundFits I ss u) × IsBoundAt zeroed I ss u b × AreValues I w x × (next ≡ Out (Best b x (multipliers_of I u goal Fall)) m.clock))
       ⊎ ((n : ℕ) × (way : Way) × IsFirstHelp I ss u w goal Fall n way × MovesOn n way next)
 
   -- the first phase where a basic column is out of its ends, else the second
   abbrev pub Chooses : Next → Type 0
   Chooses next =
-      ((b : ℕ) × (wanted : Way) × IsFirstOut I ss u w b wanted × Repairs b wanted next)
+      ((b : ℕ) × (wanted : Way) × IsLeastOut I ss u w b wanted × Repairs b wanted next)
       ⊎ (NoneOut I ss u w × Improves next)
 
 -- what comes after a moment, read off the dictionary of its basis: the values don't fit, or a phase goes on
@@ -93,12 +93,12 @@ IsNext I zeroed t m next =
     ⊎ ((w : Values) × ValuesFit I m.statuses u × HasValues I m.statuses u w × Chooses I zeroed t m u w next))
 
 -- the moments of the run that begins at this clock, with the first basis
-pub data Comes (I : Instance) (zeroed : Bool) (t : Terms) (c : Clock) : Moment → Type 0 where
-  begins : {ss : List Status} → IsFresh I ss → Comes I zeroed t c (record { statuses = ss; clock = c })
-  goes_on : {m n : Moment} → Comes I zeroed t c m → IsNext I zeroed t m (To n) → Comes I zeroed t c n
+pub data ComesInRun (I : Instance) (zeroed : Bool) (t : Terms) (c : Clock) : Moment → Type 0 where
+  begins : {ss : List Status} → IsFirstBasis I ss → ComesInRun I zeroed t c (record { statuses = ss; clock = c })
+  goes_on : {m n : Moment} → ComesInRun I zeroed t c m → IsNext I zeroed t m (To n) → ComesInRun I zeroed t c n
 
-abbrev pub HasRoom : Instance → Type 0
-HasRoom I = (k : ℕ) → k < goal_column I → IsEmpty (column_at I k) → ⊥
+abbrev pub HasNoClash : Instance → Type 0
+HasNoClash I = (k : ℕ) → k < goal_column I → IsEmpty (column_at I k) → ⊥
 
 -- column c is the first whose lower end passes its upper one
 pub record IsFirstEmpty (I : Instance) (c : ℕ) : Type 0 where
@@ -108,9 +108,9 @@ pub record IsFirstEmpty (I : Instance) (c : ℕ) : Type 0 where
 
 -- no column's ends pass each other, and the run comes to a moment with this end
 pub record IsRun (I : Instance) (zeroed : Bool) (t : Terms) (c : Clock) (e : End) (d : Clock) : Type 0 where
-  pub room : HasRoom I
+  pub room : HasNoClash I
   pub last : Moment
-  pub comes : Comes I zeroed t c last
+  pub comes : ComesInRun I zeroed t c last
   pub ends : IsNext I zeroed t last (Out e d)
 
 -- the run of a program from one clock to another: at once at an end where a column clashes, else by its moments

@@ -69,7 +69,7 @@ abbrev pub upper_status : Range → Status
 upper_status r = cond (has_room r) Upper Lower
 
 -- the first basis: the rows are basic, and each variable stands at an end or at 0
-pub record IsFresh (I : Instance) (ss : List Status) : Type 0 where
+pub record IsFirstBasis (I : Instance) (ss : List Status) : Type 0 where
   pub count : length ss ≡ goal_column I
   pub variables : (j : ℕ) → j < width I → status_at ss j ≡ first_status (column_at I j).lb (column_at I j).ub
   pub rows : (i : ℕ) → width I + i < goal_column I → status_at ss (width I + i) ≡ Basic

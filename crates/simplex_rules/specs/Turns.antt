@@ -99,7 +99,7 @@ module _ (I : Instance) (ss : List Status) (u : Entries) (w : Values) where
     pub misses : Misses way (column_at I c) (w c)
 
   -- the least such column
-  pub record IsFirstOut (c : ℕ) (way : Way) : Type 0 where
+  pub record IsLeastOut (c : ℕ) (way : Way) : Type 0 where
     pub inside : c < goal_column I
     pub out : IsOut c way
     pub before : (k : ℕ) → k < c → (v : Way) → IsOut k v → ⊥

@@ -9,16 +9,16 @@ use Rattle.document_tags.specs.Elements.{characters, children_named}
 use Rattle.document_tags.specs.Rests.{child_elements}
 use Rattle.document_tags.specs.Texts.{document_limit, IsDocument}
 use Rattle.document_tags.specs.Writing.{text_nodes, leaf, group}
-use Rattle.document_tags.proofs.Printing.{fixed_text}
-use Rattle.document_tags.proofs.Flat.{is_tag, AreFlat, none_flat, text_flat, element_flat, still_flat, written_is_document}
-use Rattle.document_tags.specs.Only.{unless_elements}
+use Rattle.document_tags.proofs.PrintableTexts.{fixed_text}
+use Rattle.document_tags.proofs.XmlNodes.{is_tag, AreFlat, none_flat, text_flat, element_flat, still_flat, written_is_document}
+use Rattle.document_tags.specs.OneChild.{unless_elements}
 use Rattle.six_calls.specs.declared.call.CallKind.{CallKind}
 use Rattle.six_calls.specs.declared.part.Part.{Part}
 use Rattle.six_calls.specs.declared.part.Part.TheVariants.{Osil, Osol, Ospl}
 use Rattle.soap_calls.specs.declared.call.Parts.{Parts}
 use Rattle.soap_calls.specs.declared.call.SoapCall.{SoapCall}
 use Rattle.six_calls.specs.Names.{kind_text, part_text, has, all_kinds}
-use Rattle.six_calls.proofs.Named.{each_passes}
+use Rattle.six_calls.proofs.Names.{each_passes}
 use Rattle.soap_calls.specs.Calls.{text_among, text_of, IsCallIn, IsCallText}
 use Rattle.soap_calls.specs.Writing.{ours, frame, ours_around, part_node, part_nodes, call_text}
 use Rattle.soap_calls.specs.Back.{AreTexts}

@@ -1,9 +1,9 @@
-pub mod Enveloped
-pub mod Parted
-pub mod Called
-pub mod Replied
+pub mod Envelopes
+pub mod CallParts
+pub mod Calls
+pub mod AnswerEnvelopes
 pub mod OneCall
 pub mod OneAnswer
-pub mod Framed
+pub mod Frames
 pub mod BackCalls
 pub mod BackAnswers

@@ -2,21 +2,21 @@
 use Rattle.std.proofs.Common.{◌≡◌, ◌≢◌, ◌∙◌, inl, inr, Option, None, Some, Result, Ok, Err, List, ℕ, ap, sym, subst}
 use Rattle.std.specs.Prelude.{IfOk, IfErr, IsSomeAnd}
 use Rattle.tree_grammar.specs.Elements.{Element}
-use Rattle.doc_tree.proofs.Unambiguous.{one_tree}
-use Rattle.document_tags.specs.Only.{only_element}
+use Rattle.doc_tree.proofs.OneTree.{one_tree}
+use Rattle.document_tags.specs.OneChild.{only_element}
 use Rattle.soap_calls.specs.declared.fault.Answer.{Answer}
 use Rattle.soap_calls.specs.declared.fault.Answer.TheVariants.{Return, Fault}
 use Rattle.soap_calls.specs.declared.fault.NotReply.{NotReply}
 use Rattle.soap_calls.specs.declared.fault.NotReply.TheVariants.{Memory}
 use Rattle.soap_calls.specs.Envelope.{held}
-use Rattle.soap_calls.specs.Replies.{IsValue, IsAnswer, IsAnswerIn, IsReplyDocument, IsReplyText}
+use Rattle.soap_calls.specs.Replies.{IsReturnedText, IsAnswer, IsAnswerIn, IsReplyDocument, IsReplyText}
 use Rattle.soap_calls.specs.Refusals.{ReplyFails}
-use Rattle.soap_calls.proofs.Replied.{response_no_fault}
+use Rattle.soap_calls.proofs.AnswerEnvelopes.{response_no_fault}
 
 same_some : {X : Type 0} (x y : X) → Some x ≡ Some y → x ≡ y
 same_some x y e = let same : x ≡ y = cc in same
 
-values_once : (name : List ℕ) (o : Option Element) (s t : List ℕ) → IsSomeAnd o (λ v. IsValue name v s) → IsSomeAnd o (λ v. IsValue name v t) → s ≡ t
+values_once : (name : List ℕ) (o : Option Element) (s t : List ℕ) → IsSomeAnd o (λ v. IsReturnedText name v s) → IsSomeAnd o (λ v. IsReturnedText name v t) → s ≡ t
 values_once name None s t a b = absurd a
 values_once name (Some v) s t a b = same_some s t (sym a.plain ∙ b.plain)
 

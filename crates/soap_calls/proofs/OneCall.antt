@@ -11,9 +11,9 @@ use Rattle.soap_calls.specs.declared.call.SoapCall.{SoapCall}
 use Rattle.soap_calls.specs.declared.fault.SoapFault.{SoapFault}
 use Rattle.soap_calls.specs.declared.fault.SoapFault.TheVariants.{Envelope, Call, Part, Memory}
 use Rattle.six_calls.specs.Names.{kind_text}
-use Rattle.six_calls.proofs.Named.{named_once}
+use Rattle.six_calls.proofs.Names.{named_once}
 use Rattle.soap_calls.specs.Envelope.{held}
-use Rattle.soap_calls.specs.Calls.{part, AreParts, IsCall, IsCallIn, IsCallText}
+use Rattle.soap_calls.specs.Calls.{part_of_call, AreParts, IsCall, IsCallIn, IsCallText}
 use Rattle.soap_calls.specs.Refusals.{IsFirstRefused, IsElementRefused, IsRefused, CallFails}
 
 same_some : {X : Type 0} (x y : X) → Some x ≡ Some y → x ≡ y
@@ -54,12 +54,12 @@ first_once : (k : CallKind) (e : Element) (p q : given.Part) → IsFirstRefused 
 first_once k e Osil Osil a b = refl
 first_once k e Osol Osol a b = refl
 first_once k e Ospl Ospl a b = refl
-first_once k e Osil Osol a b = absurd (unread (part k e Osil) b.0 a)
-first_once k e Osil Ospl a b = absurd (unread (part k e Osil) b.0 a)
-first_once k e Osol Osil a b = absurd (unread (part k e Osil) a.0 b)
-first_once k e Ospl Osil a b = absurd (unread (part k e Osil) a.0 b)
-first_once k e Osol Ospl a b = absurd (unread (part k e Osol) b.1 a.1)
-first_once k e Ospl Osol a b = absurd (unread (part k e Osol) a.1 b.1)
+first_once k e Osil Osol a b = absurd (unread (part_of_call k e Osil) b.0 a)
+first_once k e Osil Ospl a b = absurd (unread (part_of_call k e Osil) b.0 a)
+first_once k e Osol Osil a b = absurd (unread (part_of_call k e Osil) a.0 b)
+first_once k e Ospl Osil a b = absurd (unread (part_of_call k e Osil) a.0 b)
+first_once k e Osol Ospl a b = absurd (unread (part_of_call k e Osol) b.1 a.1)
+first_once k e Ospl Osol a b = absurd (unread (part_of_call k e Osol) a.1 b.1)
 
 parts_refused_once : (e : Element) (p q : given.Part) → IsElementRefused e (Part p) → IsElementRefused e (Part q) → p ≡ q
 parts_refused_once e p q (j, named, a) (k, called, b) = first_once k e p q (subst (λ (i : CallKind). IsFirstRefused i e p) (kinds_are e j k named called) a) b

@@ -3,7 +3,7 @@ use Rattle.std.specs.Prelude.{◌≡◌, ℕ, Bool, Option, None, Some, IsSomeAn
 use Rattle.tree_grammar.specs.Elements.{Element}
 use Rattle.document_tags.specs.Elements.{children_named}
 use Rattle.document_tags.specs.Documents.{OfDocument}
-use Rattle.document_tags.specs.Only.{plain_text}
+use Rattle.document_tags.specs.OneChild.{plain_text}
 use Rattle.six_calls.specs.declared.call.CallKind.{CallKind}
 use Rattle.six_calls.specs.declared.part.Part.{Part}
 use Rattle.six_calls.specs.declared.part.Part.TheVariants.{Osil, Osol, Ospl}
@@ -19,14 +19,14 @@ text_among is_needed (e ∷ []) = plain_text e
 text_among is_needed (e ∷ f ∷ more) = None
 
 -- the text of a call's part, if it stands there as it may; a part that the call doesn't have is passed over
-abbrev pub part : CallKind → Element → Part → Option (List ℕ)
-part k call p = cond (has k p) (text_among (is_needed p) (children_named (part_text p) call)) (Some [])
+abbrev pub part_of_call : CallKind → Element → Part → Option (List ℕ)
+part_of_call k call p = cond (has k p) (text_among (is_needed p) (children_named (part_text p) call)) (Some [])
 
 -- all parts stand as they may, and these are their texts
 pub record AreParts (k : CallKind) (call : Element) (ps : Parts) : Type 0 where
-  pub osil : part k call Osil ≡ Some ps.osil
-  pub osol : part k call Osol ≡ Some ps.osol
-  pub ospl : part k call Ospl ≡ Some ps.ospl
+  pub osil : part_of_call k call Osil ≡ Some ps.osil
+  pub osol : part_of_call k call Osol ≡ Some ps.osol
+  pub ospl : part_of_call k call Ospl ≡ Some ps.ospl
 
 -- the text of a part
 abbrev pub text_of : Parts → Part → List ℕ

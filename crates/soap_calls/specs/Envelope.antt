@@ -1,7 +1,7 @@
 -- Envelopes (SOAP 1.1, section 4).
 use Rattle.std.specs.Prelude.{Option, None, Some, cond, bytes_eq, codes}
 use Rattle.tree_grammar.specs.Elements.{Element}
-use Rattle.document_tags.specs.Only.{only_child, only_element}
+use Rattle.document_tags.specs.OneChild.{only_child, only_element}
 
 -- the one element in a body, if there is one body
 abbrev pub held_in : Option Element → Option Element

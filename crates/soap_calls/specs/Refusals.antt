@@ -14,14 +14,14 @@ use Rattle.soap_calls.specs.declared.fault.NotReply.{NotReply}
 use Rattle.soap_calls.specs.declared.fault.NotReply.TheVariants as lost
 use Rattle.six_calls.specs.Names.{kind_text}
 use Rattle.soap_calls.specs.Envelope.{held}
-use Rattle.soap_calls.specs.Calls.{part}
+use Rattle.soap_calls.specs.Calls.{part_of_call}
 use Rattle.soap_calls.specs.Replies.{IsReplyText}
 
 -- the first part that doesn't stand as it may, in the order instance, options, process
 abbrev pub IsFirstRefused : CallKind → Element → given.Part → Type 0
-IsFirstRefused k e Osil = part k e Osil ≡ None
-IsFirstRefused k e Osol = IsSome (part k e Osil) × (part k e Osol ≡ None)
-IsFirstRefused k e Ospl = IsSome (part k e Osil) × IsSome (part k e Osol) × (part k e Ospl ≡ None)
+IsFirstRefused k e Osil = part_of_call k e Osil ≡ None
+IsFirstRefused k e Osol = IsSome (part_of_call k e Osil) × (part_of_call k e Osol ≡ None)
+IsFirstRefused k e Ospl = IsSome (part_of_call k e Osil) × IsSome (part_of_call k e Osol) × (part_of_call k e Ospl ≡ None)
 
 -- an element is refused as a call: it has another name, of which the beginning is told, or a part
 abbrev pub IsElementRefused : Element → SoapFault → Type 0

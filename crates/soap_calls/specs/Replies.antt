@@ -1,8 +1,8 @@
 -- What an envelope answers (SOAP 1.1, sections 4.4 and 7.1: faults, and the response of a call).
 use Rattle.std.specs.Prelude.{◌≡◌, ◌⊎◌, ℕ, Option, None, Some, IsSomeAnd, List, ◌++◌, codes}
-use Rattle.tree_grammar.specs.Elements.{Element, Event, events, IsShallow, IsWithin}
+use Rattle.tree_grammar.specs.Elements.{Element, Event, events, IsShallow, IsTextWithin}
 use Rattle.tree_grammar.specs.Document.{Doc}
-use Rattle.document_tags.specs.Only.{only_child, only_element, plain_text}
+use Rattle.document_tags.specs.OneChild.{only_child, only_element, plain_text}
 use Rattle.soap_calls.specs.declared.fault.Answer.{Answer}
 use Rattle.soap_calls.specs.declared.fault.Answer.TheVariants.{Return, Fault}
 use Rattle.soap_calls.specs.Envelope.{held}
@@ -12,7 +12,7 @@ abbrev pub MayReturn : List ℕ → List ℕ → Type 0
 MayReturn name text = name ≡ codes "send" → (text ≡ codes "true") ⊎ (text ≡ codes "false")
 
 -- what a call of this name returns is this text
-pub record IsValue (name : List ℕ) (e : Element) (text : List ℕ) : Type 0 where
+pub record IsReturnedText (name : List ℕ) (e : Element) (text : List ℕ) : Type 0 where
   pub named : e.name ≡ name ++ codes "Return"
   pub plain : plain_text e ≡ Some text
   pub may : MayReturn name text
@@ -27,7 +27,7 @@ plain_child e name = plain_in (only_child e name)
 
 -- an element answers a call of this name: by its response, or by a fault
 abbrev pub IsAnswer : List ℕ → Element → Answer → Type 0
-IsAnswer name e (Return text) = (e.name ≡ name ++ codes "Response") × IsSomeAnd (only_element e) (λ v. IsValue name v text)
+IsAnswer name e (Return text) = (e.name ≡ name ++ codes "Response") × IsSomeAnd (only_element e) (λ v. IsReturnedText name v text)
 IsAnswer name e (Fault code text) = (e.name ≡ codes "Fault") × (plain_child e (codes "faultcode") ≡ Some code) × (plain_child e (codes "faultstring") ≡ Some text)
 
 -- this answer stands in the envelope
@@ -41,7 +41,7 @@ reply_limit = 25165824
 -- the bytes are a document within the limits of a reply
 pub record IsReplyDocument (bytes : List ℕ) (root : Element) : Type 0 where
   pub document : Doc bytes root
-  pub short : IsWithin reply_limit bytes
+  pub short : IsTextWithin reply_limit bytes
   pub shallow : IsShallow root
 
 abbrev pub NoReplyDocument : List ℕ → Type 0

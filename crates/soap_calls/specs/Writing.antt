@@ -1,7 +1,7 @@
 -- The envelopes that calls and answers are written as (SOAP 1.1, sections 4 and 7), and their texts.
 use Rattle.std.specs.Prelude.{ℕ, cond, List, [], ◌∷◌, ◌++◌, codes}
 use Rattle.tree_grammar.specs.Elements.{Attribute, Nodes, none, element, Element, Event, Open, Close}
-use Rattle.tree_grammar.specs.Written.{written}
+use Rattle.tree_grammar.specs.WrittenText.{written}
 use Rattle.document_tags.specs.Writing.{only, leaf, group}
 use Rattle.six_calls.specs.declared.part.Part.{Part}
 use Rattle.six_calls.specs.declared.part.Part.TheVariants.{Osil, Osol, Ospl}

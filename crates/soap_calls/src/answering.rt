@@ -2,8 +2,8 @@
 
 ghost use Rattle.std.specs.Prelude.{◌≡◌, ◌↔◌, ◌++◌, IsTrue, IfOk, bytes_eq, codes};
 ghost use Rattle.tree_grammar.specs.Elements.{Element};
-ghost use Rattle.document_tags.specs.Spots.{Stands};
-ghost use Rattle.document_tags.specs.Only.{IsOnly};
+ghost use Rattle.document_tags.specs.Spots.{StandsAt};
+ghost use Rattle.document_tags.specs.OneChild.{IsOnly};
 ghost use Rattle.soap_calls.specs.Replies as replies;
 
 use crate::envelope::{held, sole};
@@ -23,7 +23,7 @@ pub(crate) fn joined(alloc: Global, front: &[u8], end: &[u8]) -> Result<Text, Me
 
 /// Whether an element's name is this one with that end.
 fn is_called(alloc: Global, spot: Spot<'_>, name: &[u8], end: &[u8]) -> Result<bool, Memory>
-    ensures { (e : Element) → Stands spot.entry e → IfOk result (λ r. r ≡ bytes_eq e.name (name.now ++ end.now)) }
+    ensures { (e : Element) → StandsAt spot.entry e → IfOk result (λ r. r ≡ bytes_eq e.name (name.now ++ end.now)) }
 {
     let wanted = joined(alloc, name, end)?;
     Ok(spot.name() == wanted.as_slice())
@@ -38,7 +38,7 @@ fn may_return(name: &[u8], text: &[u8]) -> bool
 
 /// The text that an element returns, if it returns one.
 fn read_value(alloc: Global, name: &[u8], value: Spot<'_>) -> Result<Option<Text>, Memory>
-    ensures { (e : Element) → Stands value.entry e → IfOk result (IsOnly (replies.IsValue name.now e)) }
+    ensures { (e : Element) → StandsAt value.entry e → IfOk result (IsOnly (replies.IsReturnedText name.now e)) }
 {
     if !is_called(alloc, value, name, b"Return")? {
         return Ok(None);
@@ -55,7 +55,7 @@ fn read_value(alloc: Global, name: &[u8], value: Spot<'_>) -> Result<Option<Text
 
 /// The answer that an element returns, if it returns a text.
 fn read_return(alloc: Global, name: &[u8], spot: Spot<'_>) -> Result<Option<Answer>, Memory>
-    ensures { (e : Element) → Stands spot.entry e → e.name ≡ name.now ++ codes "Response" → IfOk result (IsOnly (replies.IsAnswer name.now e)) }
+    ensures { (e : Element) → StandsAt spot.entry e → e.name ≡ name.now ++ codes "Response" → IfOk result (IsOnly (replies.IsAnswer name.now e)) }
 {
     let Some(value) = sole(alloc, spot)? else {
         return Ok(None);
@@ -68,7 +68,7 @@ fn read_return(alloc: Global, name: &[u8], spot: Spot<'_>) -> Result<Option<Answ
 
 /// What the one child element of this name says plainly.
 fn plain_child(alloc: Global, spot: Spot<'_>, name: &[u8]) -> Result<Option<Text>, Memory>
-    ensures { (e : Element) → Stands spot.entry e → IfOk result (λ r. r ≡ replies.plain_child e name.now) }
+    ensures { (e : Element) → StandsAt spot.entry e → IfOk result (λ r. r ≡ replies.plain_child e name.now) }
 {
     let Some(child) = only_child(alloc, spot, name)? else {
         return Ok(None);
@@ -78,7 +78,7 @@ fn plain_child(alloc: Global, spot: Spot<'_>, name: &[u8]) -> Result<Option<Text
 
 /// The fault that an element is, if it is one.
 fn read_fault(alloc: Global, name: &[u8], spot: Spot<'_>) -> Result<Option<Answer>, Memory>
-    ensures { (e : Element) → Stands spot.entry e → e.name ≡ codes "Fault" → IfOk result (IsOnly (replies.IsAnswer name.now e)) }
+    ensures { (e : Element) → StandsAt spot.entry e → e.name ≡ codes "Fault" → IfOk result (IsOnly (replies.IsAnswer name.now e)) }
 {
     let Some(code) = plain_child(alloc, spot, b"faultcode")? else {
         return Ok(None);
@@ -91,7 +91,7 @@ fn read_fault(alloc: Global, name: &[u8], spot: Spot<'_>) -> Result<Option<Answe
 
 /// The answer that an element is, if it is one.
 fn read_element(alloc: Global, name: &[u8], spot: Spot<'_>) -> Result<Option<Answer>, Memory>
-    ensures { (e : Element) → Stands spot.entry e → IfOk result (IsOnly (replies.IsAnswer name.now e)) }
+    ensures { (e : Element) → StandsAt spot.entry e → IfOk result (IsOnly (replies.IsAnswer name.now e)) }
 {
     if is_called(alloc, spot, b"Fault", b"")? {
         return read_fault(alloc, name, spot);
@@ -108,7 +108,7 @@ pub(crate) fn read_answer(
     name: &[u8],
     root: Spot<'_>,
 ) -> Result<Option<Answer>, Memory>
-    ensures { (e : Element) → Stands root.entry e → IfOk result (IsOnly (replies.IsAnswerIn name.now e)) }
+    ensures { (e : Element) → StandsAt root.entry e → IfOk result (IsOnly (replies.IsAnswerIn name.now e)) }
 {
     let Some(spot) = held(alloc, root)? else {
         return Ok(None);

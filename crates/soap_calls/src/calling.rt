@@ -2,7 +2,7 @@
 
 ghost use Rattle.std.specs.Prelude.{◌≡◌, IfOk, IfErr};
 ghost use Rattle.tree_grammar.specs.Elements.{Element, events};
-ghost use Rattle.document_tags.specs.Spots.{Stands};
+ghost use Rattle.document_tags.specs.Spots.{StandsAt};
 ghost use Rattle.soap_calls.specs.Calls.{IsCall, IsCallIn, IsCallText};
 ghost use Rattle.soap_calls.specs.Refusals.{CallFails};
 ghost use Rattle.soap_calls.specs.Reading.{RefusesElement, RefusesRoot};
@@ -19,8 +19,8 @@ use std::alloc::Global;
 
 /// The call that an element is, or why it is none.
 fn read_element(alloc: Global, spot: Spot<'_>) -> Result<SoapCall, SoapFault>
-    ensures ok { (e : Element) → Stands spot.entry e → IfOk result (IsCall e) }
-    ensures err { (e : Element) → Stands spot.entry e → IfErr result (RefusesElement e) }
+    ensures ok { (e : Element) → StandsAt spot.entry e → IfOk result (IsCall e) }
+    ensures err { (e : Element) → StandsAt spot.entry e → IfErr result (RefusesElement e) }
 {
     let Some(kind) = CallKind::named(spot.name()) else {
         let name = told_name(alloc, spot.name())?;
@@ -34,8 +34,8 @@ fn read_element(alloc: Global, spot: Spot<'_>) -> Result<SoapCall, SoapFault>
 
 /// The call in an envelope, or why there is none.
 fn read_root(alloc: Global, root: Spot<'_>) -> Result<SoapCall, SoapFault>
-    ensures ok { (e : Element) → Stands root.entry e → IfOk result (IsCallIn e) }
-    ensures err { (e : Element) → Stands root.entry e → IfErr result (RefusesRoot e) }
+    ensures ok { (e : Element) → StandsAt root.entry e → IfOk result (IsCallIn e) }
+    ensures err { (e : Element) → StandsAt root.entry e → IfErr result (RefusesRoot e) }
 {
     let Some(call) = held(alloc, root)? else {
         return Err(SoapFault::Envelope);

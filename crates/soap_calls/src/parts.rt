@@ -2,7 +2,7 @@
 
 ghost use Rattle.std.specs.Prelude.{◌≡◌, List, IfOk, IfErr};
 ghost use Rattle.tree_grammar.specs.Elements.{Element};
-ghost use Rattle.document_tags.specs.Spots.{Stands, AreSpots};
+ghost use Rattle.document_tags.specs.Spots.{StandsAt, AreSpots};
 ghost use Rattle.soap_calls.specs.Calls as calls;
 ghost use Rattle.soap_calls.specs.Reading.{RefusesParts};
 
@@ -36,7 +36,7 @@ fn part_text(
     kind: CallKind,
     part: Part,
 ) -> Result<Option<Text>, Memory>
-    ensures { (e : Element) → Stands call.entry e → IfOk result (λ r. r ≡ calls.part kind e part) }
+    ensures { (e : Element) → StandsAt call.entry e → IfOk result (λ r. r ≡ calls.part_of_call kind e part) }
 {
     if !kind.has(part) {
         return Ok(Some(Text::new(alloc)));
@@ -48,8 +48,8 @@ fn part_text(
 
 /// The texts of all parts, or the first that is refused.
 pub(crate) fn read_parts(alloc: Global, call: Spot<'_>, kind: CallKind) -> Result<Parts, SoapFault>
-    ensures ok { (e : Element) → Stands call.entry e → IfOk result (calls.AreParts kind e) }
-    ensures err { (e : Element) → Stands call.entry e → IfErr result (RefusesParts kind e) }
+    ensures ok { (e : Element) → StandsAt call.entry e → IfOk result (calls.AreParts kind e) }
+    ensures err { (e : Element) → StandsAt call.entry e → IfErr result (RefusesParts kind e) }
 {
     let Some(osil) = part_text(alloc, call, kind, Part::Osil)? else {
         return Err(SoapFault::Part { part: Part::Osil });

@@ -3,7 +3,7 @@
 ghost use Rattle.std.specs.Prelude.{◌≡◌, ◌⊎◌, IfOk, IfErr};
 ghost use Rattle.tree_grammar.specs.Elements.{Element, events};
 ghost use Rattle.doc_tree.specs.declared.fault.TreeFault.TheVariants as trees;
-ghost use Rattle.document_tags.specs.Only.{IsOnly};
+ghost use Rattle.document_tags.specs.OneChild.{IsOnly};
 ghost use Rattle.soap_calls.specs.Replies.{IsAnswerIn, IsReplyText, AreOfReply, NoReplyDocument};
 ghost use Rattle.soap_calls.specs.Refusals.{ReplyFails};
 

@@ -1,7 +1,7 @@
 //! Writes what answers a call.
 
 ghost use Rattle.std.specs.Prelude.{◌≡◌, ◌++◌, [], OnOk, IfOk, codes};
-ghost use Rattle.document_tags.specs.Telling.{Told, whole};
+ghost use Rattle.document_tags.specs.Telling.{Told, whole_element};
 ghost use Rattle.soap_calls.specs.Writing as writing;
 
 use crate::answering::joined;
@@ -19,7 +19,7 @@ fn tell_response(
     text: &[u8],
 ) -> Result<(), Memory>
     requires { b.old.attributes ≡ [] }
-    ensures { OnOk result (Told b.old b.new (whole (writing.frame (writing.response_nodes response.now value.now text.now)))) }
+    ensures { OnOk result (Told b.old b.new (whole_element (writing.frame (writing.response_nodes response.now value.now text.now)))) }
 {
     open_frame(b)?;
     open_ours(b, response)?;
@@ -42,7 +42,7 @@ pub fn write_reply(alloc: Global, name: &[u8], text: &[u8]) -> Result<Text, Memo
 /// Tells the envelope of a fault with this code and this text.
 fn tell_fault(b: &mut TreeBuilder, code: &[u8], text: &[u8]) -> Result<(), Memory>
     requires { b.old.attributes ≡ [] }
-    ensures { OnOk result (Told b.old b.new (whole (writing.frame (writing.fault_nodes code.now text.now)))) }
+    ensures { OnOk result (Told b.old b.new (whole_element (writing.frame (writing.fault_nodes code.now text.now)))) }
 {
     open_frame(b)?;
     open(b, b"soap:Fault")?;

@@ -2,7 +2,7 @@
 
 ghost use Rattle.std.specs.Prelude.{◌≡◌, [], OnOk, IfOk, codes};
 ghost use Rattle.tree_grammar.specs.Elements.{none, nodes_events};
-ghost use Rattle.document_tags.specs.Telling.{Told, whole, opening};
+ghost use Rattle.document_tags.specs.Telling.{Told, whole_element, opening};
 ghost use Rattle.document_tags.specs.Writing.{leaf, only};
 ghost use Rattle.soap_calls.specs.Writing as writing;
 
@@ -68,7 +68,7 @@ fn tell_parts(b: &mut TreeBuilder, call: &SoapCall) -> Result<(), Memory>
 /// Tells the envelope of a call.
 fn tell_call(b: &mut TreeBuilder, call: &SoapCall, name: &[u8]) -> Result<(), Memory>
     requires { b.old.attributes ≡ [] }
-    ensures { OnOk result (Told b.old b.new (whole (writing.frame (writing.ours_around name.now (writing.part_nodes call.now))))) }
+    ensures { OnOk result (Told b.old b.new (whole_element (writing.frame (writing.ours_around name.now (writing.part_nodes call.now))))) }
 {
     open_frame(b)?;
     open_ours(b, name)?;

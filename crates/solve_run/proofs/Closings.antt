@@ -7,13 +7,13 @@ use Rattle.certificate.specs.declared.causes.Cause.{Cause}
 use Rattle.certificate.specs.declared.causes.Cause.TheVariants as causes
 use Rattle.certificate.specs.declared.claims.Claim.{Claim}
 use Rattle.certificate.specs.declared.claims.Claim.TheVariants.{Optimal, Infeasible, Unbounded, BestSoFar, Unsure}
-use Rattle.search_rules.specs.Shown.{IsShown}
-use Rattle.branch_bound.specs.Claims.{outcome}
+use Rattle.search_rules.specs.Outcomes.{IsShown}
+use Rattle.branch_bound.specs.Claims.{claimed_outcome}
 use Rattle.osrl_grammar.specs.Back.{CauseComesBack, ClaimComesBack}
 use Rattle.solve_run.specs.declared.document.Document.{Document}
-use Rattle.solve_run.specs.Closing.{given_up, wide_check, IsJudged, checked, IsFitted}
-use Rattle.solve_run.specs.Running.{HasCauses, IsFittedDocument, IsTold}
-use Rattle.solve_run.proofs.Shown.{shown_back}
+use Rattle.solve_run.specs.Closings.{given_up, wide_check, IsJudged, checked, IsFitted}
+use Rattle.solve_run.specs.Runs.{HasCauses, IsFittedDocument, IsClaimTold}
+use Rattle.solve_run.proofs.WidthRefusals.{shown_back}
 
 given_back : (c : Claim) (cause : Cause) → CauseComesBack cause → ClaimComesBack (Some (given_up c cause))
 given_back (Optimal x v ns) cause h = h
@@ -32,8 +32,8 @@ fitted_back job c told (inr (long, same)) h = subst (λ (d : Claim). ClaimComesB
 
 -- a claim that is shown, checked and fitted is told
 pub told : (p : Parts) (job : Option (List ℕ)) (turns : ℕ) (found : Claim) (width : Option ℕ) (doc : Document)
-    → IsValid p → IsShown (program p) (outcome found) → HasCauses found → turns < 2 ^ 64 → IfSome width (λ n. n < 2 ^ 32)
-    → IsJudged (program p) found width → IsFittedDocument job (checked found turns width) doc → IsTold p job turns found doc
+    → IsValid p → IsShown (program p) (claimed_outcome found) → HasCauses found → turns < 2 ^ 64 → IfSome width (λ n. n < 2 ^ 32)
+    → IsJudged (program p) found width → IsFittedDocument job (checked found turns width) doc → IsClaimTold p job turns found doc
 told p job turns found width doc valid shown causes few node judged (inl (c, fitted, is)) = inl (record {
   told = c;
   closed = record { width = width; judged = judged; fitted = fitted };

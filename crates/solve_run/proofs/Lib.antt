@@ -1,10 +1,10 @@
 pub mod Numbers
-pub mod Shown
-pub mod Short
+pub mod WidthRefusals
+pub mod Lengths
 pub mod Names
 pub mod Closings
-pub mod Ran
+pub mod Runs
 pub mod OneClaim
 pub mod OneAnswer
-pub mod Accepted
+pub mod Acceptance
 pub mod Texts

@@ -2,7 +2,7 @@
 use Rattle.std.proofs.Common.{ℕ, Option, None, Some, List}
 use Rattle.osol_grammar.specs.Back.{IsNameOrNone}
 use Rattle.osrl_grammar.specs.Back.{IsBareOrNone}
-use Rattle.solve_run.proofs.Short.{IsShortName}
+use Rattle.solve_run.proofs.Lengths.{IsShortName}
 
 pub short_name : (job : Option (List ℕ)) → IsNameOrNone job → IsShortName job
 short_name None is = tt

@@ -13,7 +13,7 @@ use Rattle.evidence.specs.Cases.{Multiplier, Tree, preorder, Shows, lesser_end, 
 use Rattle.certificate.specs.declared.lists.Mult.{Mult}
 use Rattle.certificate.specs.declared.nodes.Node.{Node}
 use Rattle.certificate.specs.declared.nodes.Node.TheVariants.{Split, Clash, Farkas, Bound}
-use Rattle.certificate.specs.Means.{multiplier, multipliers, node, nodes}
+use Rattle.certificate.specs.Meanings.{multiplier, multipliers, node, nodes}
 use Rattle.certificate.specs.Nodes.{IsInRange}
 use Rattle.osrl_grammar.specs.Back.{HaveColumns, NodeComesBack, TreeComesBack}
 

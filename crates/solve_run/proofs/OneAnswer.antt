@@ -2,13 +2,13 @@
 use Rattle.std.proofs.Common.{◌≡◌, ◌≢◌, ◌∙◌, ℕ, ◌⊎◌, inl, inr, false, Option, None, Some, List, refl, ap, ap₂, sym, subst}
 use Rattle.instance.specs.Parts.{Parts}
 use Rattle.instance.specs.Program.{program}
-use Rattle.certificate.specs.Means as Means
+use Rattle.certificate.specs.Meanings as Means
 use Rattle.certificate.specs.declared.claims.Claim.{Claim}
 use Rattle.simplex_rules.specs.Ends.{Clock}
 use Rattle.search_rules.specs.Search.{Search}
-use Rattle.branch_bound.specs.Claims.{outcome}
+use Rattle.branch_bound.specs.Claims.{claimed_outcome}
 use Rattle.cert_checker.specs.declared.refused.Refused.TheVariants as reasons
-use Rattle.cert_checker.specs.Refusals.{IsRefused}
+use Rattle.cert_checker.specs.Refusals.{IsRefusedFor}
 use Rattle.osol_grammar.specs.declared.options.Options.{Options}
 use Rattle.osol_grammar.specs.declared.fault.OsolFault.{OsolFault}
 use Rattle.osol_grammar.specs.declared.fault.OsolFault.TheVariants as options_faults
@@ -19,8 +19,8 @@ use Rattle.osil_grammar.specs.declared.fault.OsilFault.TheVariants as instance_f
 use Rattle.osil_grammar.specs.Reading.{IsInstanceText}
 use Rattle.osil_grammar.specs.Reading as instances
 use Rattle.osrl_grammar.specs.declared.report.Report.{Report}
-use Rattle.solve_run.specs.Closing.{error_report, claim_report, IsJudged, checked, IsShort, IsFitted, IsClosed}
-use Rattle.solve_run.specs.Right.{terms, RefusesOptions, RefusesInstance, Given, Solved, GaveUp, MayStop, Answers, no_options, no_instance, solved, gave_up}
+use Rattle.solve_run.specs.Closings.{error_report, claim_report, IsJudged, checked, IsShort, IsFitted, IsClosed}
+use Rattle.solve_run.specs.JobAnswers.{job_terms, RefusesOptions, RefusesInstance, AreJobTexts, Solved, GaveUp, MayStop, AnswersJob, no_options, no_instance, solved, gave_up}
 use Rattle.solve_run.specs.Grounds.{OptionsAreOne, InstancesAreOne, SearchesAreOne}
 use Rattle.solve_run.proofs.OneClaim.{claim_once}
 
@@ -88,7 +88,7 @@ module _ (laws : SearchesAreOne) where
   record Ended (o : Options) (p : Parts) (stop : Option ℕ) (looks : ℕ) (r : Report) : Type 0 where
     turns : ℕ
     found : Claim
-    ends : Search (program p) (terms o stop) (outcome found) (record { turns = turns; looks = looks })
+    ends : Search (program p) (job_terms o stop) (claimed_outcome found) (record { turns = turns; looks = looks })
     told : Claim
     closed : IsClosed p o.job turns found told
     is : r ≡ claim_report o.job told
@@ -98,7 +98,7 @@ module _ (laws : SearchesAreOne) where
 
   ended_once : (o : Options) (p : Parts) (stop : Option ℕ) (looks more : ℕ) (r s : Report) → Ended o p stop looks r → Ended o p stop more s → (r ≡ s) × (looks ≡ more)
   ended_once o p stop looks more r s a b =
-      let both = laws.once (program p) (terms o stop) (outcome a.found) (outcome b.found) _ _ (laws.numbers p) a.ends b.ends in
+      let both = laws.once (program p) (job_terms o stop) (claimed_outcome a.found) (claimed_outcome b.found) _ _ (laws.numbers p) a.ends b.ends in
       let found = claim_once laws.fractions a.found b.found both.0 in
       let turns = ap (λ (c : Clock). c.turns) both.1 in
       let closed : IsClosed p o.job b.turns b.found a.told = subst (λ (t : ℕ). IsClosed p o.job t b.found a.told) turns (subst (λ (c : Claim). IsClosed p o.job a.turns c a.told) found a.closed) in
@@ -106,7 +106,7 @@ module _ (laws : SearchesAreOne) where
       (a.is ∙ ap (claim_report o.job) told ∙ sym b.is, ap (λ (c : Clock). c.looks) both.1)
 
   module _ (options : OptionsAreOne) (instances_one : InstancesAreOne) where
-    moved : (osil osol : List ℕ) (g h : Given osil osol) (stop : Option ℕ) (looks : ℕ) (r : Report) → Ended g.options g.parts stop looks r → Ended h.options h.parts stop looks r
+    moved : (osil osol : List ℕ) (g h : AreJobTexts osil osol) (stop : Option ℕ) (looks : ℕ) (r : Report) → Ended g.options g.parts stop looks r → Ended h.options h.parts stop looks r
     moved osil osol g h stop looks r e =
         subst (λ (o : Options). Ended o h.parts stop looks r) (options.once osol g.options h.options g.options_text h.options_text)
         (subst (λ (p : Parts). Ended g.options p stop looks r) (instances_one.once osil g.parts h.parts g.instance_text h.instance_text) e)
@@ -116,13 +116,13 @@ module _ (laws : SearchesAreOne) where
         ended_once b.given.options b.given.parts stop looks more r s (moved osil osol a.given b.given stop looks r (ended osil osol stop looks r a)) (ended osil osol stop more s b)
 
     -- a search that ends with a claim that is refused for no width, and isn't too long, is told
-    complete : (osil osol : List ℕ) (o : Options) (p : Parts) (found : Claim) (c : Clock) (r : Report) → IsOptionsText osol o → IsInstanceText osil p → Search (program p) (terms o None) (outcome found) c
-        → ((n : ℕ) → IsRefused (program p) (Means.claim found) (reasons.Wide n) → ⊥) → IsShort o.job found → (looks : ℕ) → Solved osil osol None looks r → r ≡ claim_report o.job found
+    complete : (osil osol : List ℕ) (o : Options) (p : Parts) (found : Claim) (c : Clock) (r : Report) → IsOptionsText osol o → IsInstanceText osil p → Search (program p) (job_terms o None) (claimed_outcome found) c
+        → ((n : ℕ) → IsRefusedFor (program p) (Means.claim found) (reasons.Wide n) → ⊥) → IsShort o.job found → (looks : ℕ) → Solved osil osol None looks r → r ≡ claim_report o.job found
     complete osil osol o p found c r options_text instance_text ends fits short looks s =
         let here = ended osil osol None looks r s in
         let moved_here = subst (λ (x : Options). Ended x p None looks r) (options.once osol s.given.options o s.given.options_text options_text)
         (subst (λ (q : Parts). Ended s.given.options q None looks r) (instances_one.once osil s.given.parts p s.given.instance_text instance_text) here) in
-        let both = laws.once (program p) (terms o None) (outcome moved_here.found) (outcome found) _ c (laws.numbers p) moved_here.ends ends in
+        let both = laws.once (program p) (job_terms o None) (claimed_outcome moved_here.found) (claimed_outcome found) _ c (laws.numbers p) moved_here.ends ends in
         let same = claim_once laws.fractions moved_here.found found both.0 in
         let closed : IsClosed p o.job moved_here.turns found moved_here.told = subst (λ (x : Claim). IsClosed p o.job moved_here.turns x moved_here.told) same moved_here.closed in
         moved_here.is ∙ ap (claim_report o.job) (by moved_here.turns moved_here.told closed.width closed.judged closed.fitted)
@@ -132,7 +132,7 @@ module _ (laws : SearchesAreOne) where
         by turns told None judged (inr (long, same)) = absurd (long short)
         by turns told (Some n) judged fitted = absurd (fits n judged.1)
 
-    pub told_at_end : (osil osol : List ℕ) (o : Options) (p : Parts) (found : Claim) (c : Clock) (r : Report) → IsOptionsText osol o → IsInstanceText osil p → Search (program p) (terms o None) (outcome found) c → ((n : ℕ) → IsRefused (program p) (Means.claim found) (reasons.Wide n) → ⊥) → IsShort o.job found → Answers osil osol false r
+    pub told_at_end : (osil osol : List ℕ) (o : Options) (p : Parts) (found : Claim) (c : Clock) (r : Report) → IsOptionsText osol o → IsInstanceText osil p → Search (program p) (job_terms o None) (claimed_outcome found) c → ((n : ℕ) → IsRefusedFor (program p) (Means.claim found) (reasons.Wide n) → ⊥) → IsShort o.job found → AnswersJob osil osol false r
         → (r ≡ claim_report o.job found) ⊎ GaveUp osil osol r
     told_at_end osil osol o p found c r options_text instance_text ends fits short (no_options a) = absurd (no_options_given options instances_one osol o r a options_text)
     told_at_end osil osol o p found c r options_text instance_text ends fits short (no_instance a) = absurd (no_instance_given options instances_one osil osol p r a instance_text)

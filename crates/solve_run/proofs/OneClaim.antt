@@ -9,9 +9,9 @@ use Rattle.certificate.specs.declared.nodes.Node.{Node}
 use Rattle.certificate.specs.declared.nodes.Node.TheVariants.{Split, Clash, Farkas, Bound}
 use Rattle.certificate.specs.declared.claims.Claim.{Claim}
 use Rattle.certificate.specs.declared.claims.Claim.TheVariants as Has
-use Rattle.certificate.specs.Means.{multiplier, multipliers, node, nodes}
+use Rattle.certificate.specs.Meanings.{multiplier, multipliers, node, nodes}
 use Rattle.search_rules.specs.Search.{Optimal, Infeasible, Unbounded, BestSoFar, Unsure}
-use Rattle.branch_bound.specs.Claims.{outcome}
+use Rattle.branch_bound.specs.Claims.{claimed_outcome}
 
 -- members that are told by what they mean make lists that are
 each_once : {A B : Type 0} (f : A → B) → ((x y : A) → f x ≡ f y → x ≡ y) → (xs ys : List A) → map f xs ≡ map f ys → xs ≡ ys
@@ -58,7 +58,7 @@ module _ (fractions : (x y : Frac) → IsSame (ratio x) (ratio y) → x ≡ y) w
   nodes_once : (ns ms : List Node) → nodes ns ≡ nodes ms → ns ≡ ms
   nodes_once ns ms e = each_once node node_once ns ms e
 
-  pub claim_once : (c d : Claim) → outcome c ≡ outcome d → c ≡ d
+  pub claim_once : (c d : Claim) → claimed_outcome c ≡ claimed_outcome d → c ≡ d
   claim_once (Has.Optimal x v ns) (Has.Optimal y w ms) e =
       let all : Optimal (ratios x) (ratio v) (nodes ns) ≡ Optimal (ratios y) (ratio w) (nodes ms) = e in
       let p : x ≡ y = points_once x y (cc) in

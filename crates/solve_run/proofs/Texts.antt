@@ -6,8 +6,8 @@ use Rattle.certificate.specs.declared.claims.Claim.{Claim}
 use Rattle.osrl_grammar.specs.declared.report.Report.{Report}
 use Rattle.osrl_grammar.specs.Writing.{report_text}
 use Rattle.solve_run.specs.declared.document.Document.{Document}
-use Rattle.solve_run.specs.Closing.{error_report, claim_report, given_up, IsShort}
-use Rattle.solve_run.specs.Running.{IsDocumentOf, IsTextOf, IsMemoryDocument, IsRefusal, IsFittedDocument}
+use Rattle.solve_run.specs.Closings.{error_report, claim_report, given_up, IsShort}
+use Rattle.solve_run.specs.Runs.{IsDocumentOf, IsTextOf, IsMemoryDocument, IsErrorDocument, IsFittedDocument}
 
 -- of the same report
 pub same_document : (r s : Report) (doc : Document) → r ≡ s → IsDocumentOf r doc → IsDocumentOf s doc
@@ -16,10 +16,10 @@ same_document r s doc same is = subst (λ (q : Report). IsDocumentOf q doc) same
 same_text : (r s : Report) (doc : Document) → r ≡ s → IsTextOf r doc → IsTextOf s doc
 same_text r s doc same is = subst (λ (q : Report). IsTextOf q doc) same is
 
-pub refusal_of : {E : Type 0} (r : Report) (job : Option (List ℕ)) (message : Result (List ℕ) E) (m : List ℕ) (doc : Document) → r ≡ error_report job m → message ≡ Ok m → IsTextOf r doc → IsRefusal job message doc
+pub refusal_of : {E : Type 0} (r : Report) (job : Option (List ℕ)) (message : Result (List ℕ) E) (m : List ℕ) (doc : Document) → r ≡ error_report job m → message ≡ Ok m → IsTextOf r doc → IsErrorDocument job message doc
 refusal_of {E} r job message m doc is said told = by (same_text r (error_report job m) doc is told)
   where
-    by : IsTextOf (error_report job m) doc → IsRefusal job message doc
+    by : IsTextOf (error_report job m) doc → IsErrorDocument job message doc
     by (inl written) = inl (m, said, written)
     by (inr memory) = inr memory
 

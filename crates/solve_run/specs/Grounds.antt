@@ -11,7 +11,7 @@ use Rattle.instance.specs.Program.{program}
 use Rattle.simplex_rules.specs.Ends.{Terms, Clock}
 use Rattle.search_rules.specs.Search.{Outcome, Search}
 use Rattle.cert_checker.specs.declared.refused.Refused.{Refused}
-use Rattle.cert_checker.specs.Refusals.{IsRefused}
+use Rattle.cert_checker.specs.Refusals.{IsRefusedFor}
 use Rattle.osol_grammar.specs.declared.options.Options.{Options}
 use Rattle.osol_grammar.specs.declared.fault.OsolFault.{OsolFault}
 use Rattle.osol_grammar.specs.declared.fault.OsolFault.TheVariants as options_faults
@@ -41,5 +41,5 @@ pub record SearchesAreOne : Type 0 where
   pub numbers : (p : Parts) → IsInstance (program p)
   pub once : (I : Instance) (t : Terms) (o p : Outcome) (c d : Clock) → IsInstance I → Search I t o c → Search I t p d → (o ≡ p) × (c ≡ d)
   pub fractions : (x y : Frac) → IsSame (ratio x) (ratio y) → x ≡ y
-  pub refusal : (I : Instance) (claim : Says.Claim) (r s : Refused) → IsRefused I claim r → IsRefused I claim s → r ≡ s
-  pub apart : (I : Instance) (claim : Says.Claim) (r : Refused) → IsRefused I claim r → Accepts I claim → ⊥
+  pub refusal : (I : Instance) (claim : Says.Claim) (r s : Refused) → IsRefusedFor I claim r → IsRefusedFor I claim s → r ≡ s
+  pub apart : (I : Instance) (claim : Says.Claim) (r : Refused) → IsRefusedFor I claim r → Accepts I claim → ⊥

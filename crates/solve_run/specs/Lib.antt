@@ -1,6 +1,6 @@
 pub use Rattle.evidence.specs.Claim
 pub use Rattle.instance.specs.Program
-pub use Rattle.certificate.specs.Means
+pub use Rattle.certificate.specs.Meanings
 pub use Rattle.simplex_rules.specs.Looks
 pub use Rattle.search_rules.specs.Search
 pub use Rattle.branch_bound.specs.Claims
@@ -10,7 +10,7 @@ pub use Rattle.osrl_grammar.specs.Writing
 pub use Rattle.osrl_grammar.specs.Back
 pub use Rattle.cert_checker.specs.Refusals
 pub use Rattle.document_checker.specs.Documents
-pub mod Closing
-pub mod Right
-pub mod Running
+pub mod Closings
+pub mod JobAnswers
+pub mod Runs
 pub mod Grounds

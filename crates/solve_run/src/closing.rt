@@ -3,10 +3,10 @@ ghost use Rattle.std.specs.Prelude.{◌≡◌, ℕ, ◌<◌, ◌≤◌, ◌^◌,
 ghost use Rattle.instance.specs.Parts.{IsValid};
 ghost use Rattle.instance.specs.Program.{program};
 ghost use Rattle.certificate.specs.Nodes.{nodes_of};
-ghost use Rattle.search_rules.specs.Shown.{IsShown};
-ghost use Rattle.branch_bound.specs.Claims.{outcome};
+ghost use Rattle.search_rules.specs.Outcomes.{IsShown};
+ghost use Rattle.branch_bound.specs.Claims.{claimed_outcome};
 ghost use Rattle.cert_checker.specs.declared.refused.Refused.TheVariants.{Wide};
-ghost use Rattle.solve_run.specs.Closing as specs;
+ghost use Rattle.solve_run.specs.Closings as specs;
 
 use cert_checker::{Refused, Scratch, check, shown_is_refused_for_width_alone};
 use certificate::{Cause, Claim, Place, Step};
@@ -54,7 +54,7 @@ fn wide_node(refused: Refused) -> u32
 /// nothing else.
 fn judge_in(instance: &Instance, claim: &Claim, scratch: &mut Scratch) -> Option<u32>
     requires valid { IsValid instance.now }
-    requires shown { IsShown (program instance.now) (outcome claim.now) }
+    requires shown { IsShown (program instance.now) (claimed_outcome claim.now) }
     requires is_final { specs.IsFinal claim.now }
     requires vars { length instance.now.vars ≤ scratch.old.vars }
     requires nodes { length (nodes_of claim.now) ≤ scratch.old.nodes }
@@ -83,7 +83,7 @@ fn count_nodes(claim: &Claim) -> Option<usize>
 /// Checks a claim that a search has shown, where it is one that is checked.
 pub fn judge(alloc: Global, instance: &Instance, claim: &Claim) -> Result<Option<u32>, Memory>
     requires valid { IsValid instance.now }
-    requires shown { IsShown (program instance.now) (outcome claim.now) }
+    requires shown { IsShown (program instance.now) (claimed_outcome claim.now) }
     ensures judged { IfOk result (specs.IsJudged (program instance.now) claim.now) }
     ensures few { IfOk result (λ width. IfSome width (λ n. n < 2 ^ 32)) }
 {

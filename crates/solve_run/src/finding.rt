@@ -1,10 +1,10 @@
 // The search of a job's instance.
 ghost use Rattle.std.specs.Prelude.{◌≡◌, ℕ, ◌-◌, ◌^◌, ◌<◌, Option};
 ghost use Rattle.instance.specs.Program.{program};
-ghost use Rattle.simplex_rules.specs.Looks.{answers, Tells, looks_after};
-ghost use Rattle.search_rules.specs.Search.{IsAnswer};
-ghost use Rattle.branch_bound.specs.Claims.{outcome, is_killed};
-ghost use Rattle.solve_run.specs.Right.{terms};
+ghost use Rattle.simplex_rules.specs.Looks.{answers, AgreesWith, looks_after};
+ghost use Rattle.search_rules.specs.Search.{IsSearchAnswer};
+ghost use Rattle.branch_bound.specs.Claims.{claimed_outcome, is_killed};
+ghost use Rattle.solve_run.specs.JobAnswers.{job_terms};
 
 use branch_bound::{Searched, search};
 use dictionary::Steps;
@@ -27,7 +27,7 @@ fn find_on<W: Watch, L: Ledger>(
     requires parts { blank.parts ≡ L.parts }
     requires some { 0 < blank.parts }
     requires stops { W.stops watch.old < 2 ^ 64 - 1 }
-    ensures { (n : ℕ) × W.came watch.old watch.new (answers n (is_killed result.claim)) × ((stop : Option ℕ) → Tells stop 0 n (is_killed result.claim) → IsAnswer (program instance.now) (terms options.now stop) (outcome result.claim) (record { turns = result.turns; looks = looks_after 0 n (is_killed result.claim) })) }
+    ensures { (n : ℕ) × W.came watch.old watch.new (answers n (is_killed result.claim)) × ((stop : Option ℕ) → AgreesWith stop 0 n (is_killed result.claim) → IsSearchAnswer (program instance.now) (job_terms options.now stop) (claimed_outcome result.claim) (record { turns = result.turns; looks = looks_after 0 n (is_killed result.claim) })) }
 {
     let mut steps = Steps::<L>::new(blank);
     search(
@@ -48,7 +48,7 @@ pub fn find<W: Watch>(
     watch: &mut W,
 ) -> Searched
     requires { W.stops watch.old < 2 ^ 64 - 1 }
-    ensures { (n : ℕ) × W.came watch.old watch.new (answers n (is_killed result.claim)) × ((stop : Option ℕ) → Tells stop 0 n (is_killed result.claim) → IsAnswer (program instance.now) (terms options.now stop) (outcome result.claim) (record { turns = result.turns; looks = looks_after 0 n (is_killed result.claim) })) }
+    ensures { (n : ℕ) × W.came watch.old watch.new (answers n (is_killed result.claim)) × ((stop : Option ℕ) → AgreesWith stop 0 n (is_killed result.claim) → IsSearchAnswer (program instance.now) (job_terms options.now stop) (claimed_outcome result.claim) (record { turns = result.turns; looks = looks_after 0 n (is_killed result.claim) })) }
 {
     find_on::<W, Brand>(alloc, instance, options, watch, Blank::new(1))
 }

@@ -3,11 +3,11 @@ ghost use Rattle.std.specs.Prelude.{◌≡◌, ◌⊎◌, ℕ, Bool, false, Opti
 ghost use Rattle.evidence.specs.Claim.{IsTrueOf};
 ghost use Rattle.instance.specs.Parts.{Parts};
 ghost use Rattle.instance.specs.Program.{program};
-ghost use Rattle.certificate.specs.Means as Means;
+ghost use Rattle.certificate.specs.Meanings as Means;
 ghost use Rattle.certificate.specs.declared.claims.Claim.{Claim};
 ghost use Rattle.simplex_rules.specs.Ends.{Terms, Clock};
 ghost use Rattle.search_rules.specs.Search.{Search};
-ghost use Rattle.branch_bound.specs.Claims.{outcome};
+ghost use Rattle.branch_bound.specs.Claims.{claimed_outcome};
 ghost use Rattle.osol_grammar.specs.declared.options.Options as kinds;
 ghost use Rattle.osol_grammar.specs.Meaning.{IsOptionsText};
 ghost use Rattle.osil_grammar.specs.Reading.{IsInstanceText};
@@ -17,10 +17,10 @@ ghost use Rattle.osrl_grammar.specs.Reading.{IsReportText};
 ghost use Rattle.document_checker.specs.declared.documents.Kind.{Kind};
 ghost use Rattle.cert_checker.specs.declared.refused.Refused.{Refused};
 ghost use Rattle.cert_checker.specs.declared.refused.Refused.TheVariants.{Wide};
-ghost use Rattle.cert_checker.specs.Refusals.{IsRefused};
+ghost use Rattle.cert_checker.specs.Refusals.{IsRefusedFor};
 ghost use Rattle.document_checker.specs.Documents.{kind, IsAcceptedText};
-ghost use Rattle.solve_run.specs.Closing.{IsFinal, IsShort, claim_report};
-ghost use Rattle.solve_run.specs.Right.{terms, RefusesOptions, RefusesInstance, Solved, GaveUp, Answers, Right};
+ghost use Rattle.solve_run.specs.Closings.{IsFinal, IsShort, claim_report};
+ghost use Rattle.solve_run.specs.JobAnswers.{job_terms, RefusesOptions, RefusesInstance, Solved, GaveUp, AnswersJob, Right};
 ghost use Rattle.solve_run.specs.Grounds.{OptionsAreOne, InstancesAreOne, SearchesAreOne};
 
 use cert_checker::{
@@ -92,7 +92,7 @@ pub fn answers_are_one()
 /// Law: a claim that a search finds, that a point is optimal, that none is feasible or that points have no best value, is refused
 /// by the checker for width alone.
 pub fn found_claims_are_refused_for_width_alone()
-    ensures { (p : Parts) (t : Terms) (found : Claim) (c : Clock) (r : Refused) → Search (program p) t (outcome found) c → IsFinal found → IsRefused (program p) (Means.claim found) r → (n : ℕ) × (r ≡ Wide n) }
+    ensures { (p : Parts) (t : Terms) (found : Claim) (c : Clock) (r : Refused) → Search (program p) t (claimed_outcome found) c → IsFinal found → IsRefusedFor (program p) (Means.claim found) r → (n : ℕ) × (r ≡ Wide n) }
 {
     programs_have_numbers();
     outcomes_are_shown();
@@ -103,7 +103,7 @@ pub fn found_claims_are_refused_for_width_alone()
 /// isn't too long, the job's answer tells it, or memory is wanting. Such is each claim that a point is optimal, that none is
 /// feasible or that points have no best value, and that the checker accepts.
 pub fn ended_searches_are_told()
-    ensures { (osil osol : List ℕ) (o : kinds.Options) (p : Parts) (found : Claim) (c : Clock) (r : Report) → IsOptionsText osol o → IsInstanceText osil p → Search (program p) (terms o None) (outcome found) c → ((n : ℕ) → IsRefused (program p) (Means.claim found) (Wide n) → ⊥) → IsShort o.job found → Answers osil osol false r → (r ≡ claim_report o.job found) ⊎ GaveUp osil osol r }
+    ensures { (osil osol : List ℕ) (o : kinds.Options) (p : Parts) (found : Claim) (c : Clock) (r : Report) → IsOptionsText osol o → IsInstanceText osil p → Search (program p) (job_terms o None) (claimed_outcome found) c → ((n : ℕ) → IsRefusedFor (program p) (Means.claim found) (Wide n) → ⊥) → IsShort o.job found → AnswersJob osil osol false r → (r ≡ claim_report o.job found) ⊎ GaveUp osil osol r }
 {
     options_are_one();
     instances_are_one();
@@ -113,9 +113,9 @@ pub fn ended_searches_are_told()
 /// Law: what an answer claims, be it that a point is optimal, that none is feasible, that points have no best value, or a
 /// point, is read from its document as it was told, is accepted by the checker of documents from their bytes, and is true.
 pub fn claims_are_accepted()
-    ensures read { (osil osol : List ℕ) (asked : Bool) (r : Report) (c : Claim) (k : Kind) → Answers osil osol asked r → r.claim ≡ Some c → kind c ≡ Some k → IsReportText (report_text r) r }
-    ensures accepted { (osil osol : List ℕ) (asked : Bool) (r : Report) (c : Claim) (k : Kind) → Answers osil osol asked r → r.claim ≡ Some c → kind c ≡ Some k → IsAcceptedText osil (report_text r) k }
-    ensures is_true { (osil osol : List ℕ) (asked : Bool) (p : Parts) (r : Report) (c : Claim) (k : Kind) → IsInstanceText osil p → Answers osil osol asked r → r.claim ≡ Some c → kind c ≡ Some k → IsTrueOf (program p) (Means.claim c) }
+    ensures read { (osil osol : List ℕ) (asked : Bool) (r : Report) (c : Claim) (k : Kind) → AnswersJob osil osol asked r → r.claim ≡ Some c → kind c ≡ Some k → IsReportText (report_text r) r }
+    ensures accepted { (osil osol : List ℕ) (asked : Bool) (r : Report) (c : Claim) (k : Kind) → AnswersJob osil osol asked r → r.claim ≡ Some c → kind c ≡ Some k → IsAcceptedText osil (report_text r) k }
+    ensures is_true { (osil osol : List ℕ) (asked : Bool) (p : Parts) (r : Report) (c : Claim) (k : Kind) → IsInstanceText osil p → AnswersJob osil osol asked r → r.claim ≡ Some c → kind c ≡ Some k → IsTrueOf (program p) (Means.claim c) }
 {
     options_have_names();
     programs_have_numbers();

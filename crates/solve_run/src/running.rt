@@ -3,8 +3,8 @@ ghost use Rattle.std.specs.Prelude.{◌≡◌, ℕ, ◌-◌, ◌^◌, ◌<◌, B
 ghost use Rattle.instance.specs.Parts.{IsValid};
 ghost use Rattle.osol_grammar.specs.Meaning.{IsOptionsText};
 ghost use Rattle.osil_grammar.specs.Reading.{IsInstanceText};
-ghost use Rattle.solve_run.specs.Right.{Right};
-ghost use Rattle.solve_run.specs.Running.{Ran, IsRight, TellsDocument, TellsText};
+ghost use Rattle.solve_run.specs.JobAnswers.{Right};
+ghost use Rattle.solve_run.specs.Runs.{Ran, IsRight, TellsDocument, TellsText};
 
 use crate::document::Document;
 use crate::finding::find;

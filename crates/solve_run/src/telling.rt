@@ -4,11 +4,11 @@ ghost use Rattle.instance.specs.Parts.{IsValid};
 ghost use Rattle.instance.specs.Program.{program};
 ghost use Rattle.certificate.specs.declared.causes.Cause.TheVariants as causes;
 ghost use Rattle.certificate.specs.declared.claims.Claim.{Claim as OneClaim};
-ghost use Rattle.search_rules.specs.Shown.{IsShown};
-ghost use Rattle.branch_bound.specs.Claims.{outcome};
+ghost use Rattle.search_rules.specs.Outcomes.{IsShown};
+ghost use Rattle.branch_bound.specs.Claims.{claimed_outcome};
 ghost use Rattle.osrl_grammar.specs.Back.{CauseComesBack};
-ghost use Rattle.solve_run.specs.Closing as specs;
-ghost use Rattle.solve_run.specs.Running.{IsTold, IsTextOf, IsFittedDocument, IsMemoryDocument, IsRefusal, HasCauses};
+ghost use Rattle.solve_run.specs.Closings as specs;
+ghost use Rattle.solve_run.specs.Runs.{IsClaimTold, IsTextOf, IsFittedDocument, IsMemoryDocument, IsErrorDocument, HasCauses};
 
 use crate::closing::{checked, give_up, judge};
 use crate::document::Document;
@@ -75,7 +75,7 @@ pub fn refusal(
     job: Option<Text>,
     message: Result<Text, Memory>,
 ) -> Result<Document, Memory>
-    ensures { IfOk result (IsRefusal job message) }
+    ensures { IfOk result (IsErrorDocument job message) }
 {
     let Ok(message) = message else {
         return memory_document(alloc, job);
@@ -148,8 +148,8 @@ pub fn found_document(
     turns: u64,
 ) -> Result<Document, Memory>
     requires valid { IsValid instance.now }
-    requires shown { IsShown (program instance.now) (outcome found) }
-    ensures { IfOk result (IsTold instance.now job turns found) }
+    requires shown { IsShown (program instance.now) (claimed_outcome found) }
+    ensures { IfOk result (IsClaimTold instance.now job turns found) }
 {
     read_causes(&found);
     match judge(alloc, instance, &found) {

@@ -2,7 +2,7 @@
 ghost use Rattle.std.specs.Prelude.{◌≡◌, ℕ, ◌+◌, ◌≤◌, ◌<◌, length, IfOk, IfSome};
 ghost use Rattle.bases.specs.Dictionary.{Entries};
 ghost use Rattle.dictionary.specs.Dict.{width_of, height_of, count_of, IsLoaded, Holds, IsBasic, IsNonbasic};
-ghost use Rattle.tableaus.specs.Held.{IsHeld, Keeps};
+ghost use Rattle.tableaus.specs.Dictionaries.{IsHeld, KeepsProgram};
 
 use crate::reading::Exchange;
 use crate::telling::{Size, is_basic, is_nonbasic, put_dictionary, put_goal, put_number};
@@ -83,7 +83,7 @@ fn turn_all<L: Ledger>(
     requires held { IsHeld dict.old }
     ensures width { width_of dict.new ≡ width_of dict.old }
     ensures height { height_of dict.new ≡ height_of dict.old }
-    ensures held { Keeps result dict.new }
+    ensures held { KeepsProgram result dict.new }
 {
     for k in 0..turns.len() {
         let it = turns[k];
@@ -109,7 +109,7 @@ fn turn_often<L: Ledger>(
     requires height { height_of dict.old ≡ length instance.now.rows }
     ensures width { width_of dict.new ≡ width_of dict.old }
     ensures height { height_of dict.new ≡ height_of dict.old }
-    ensures held { Keeps result dict.new }
+    ensures held { KeepsProgram result dict.new }
 {
     let size = size_of(instance);
     for _ in 1..rounds {

@@ -1,7 +1,7 @@
 -- The written text of an element is that of its events.
 use Rattle.std.proofs.Common.{◌≡◌, ℕ, List, [], ◌∷◌, ◌++◌, refl, ap, ◌∙◌, false, true}
 use Rattle.tree_grammar.specs.Elements.{Attribute, Nodes, none, element, chars, Element, Event, Close, nodes_events, events}
-use Rattle.tree_grammar.specs.Written.{escaped, written_attributes, children_begin, children_end, written_nodes, written_element, written_events}
+use Rattle.tree_grammar.specs.WrittenText.{escaped, written_attributes, children_begin, children_end, written_nodes, written_element, written_events}
 
 -- Both ways to stand before nodes: no start tag is open, or that of the element whose children they are.
 pub record InOrder (nodes : Nodes) : Type 0 where

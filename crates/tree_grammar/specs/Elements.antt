@@ -50,5 +50,5 @@ abbrev pub IsShallow : Element → Type 0
 IsShallow e = depth e ≤ DEPTH
 
 -- The text has at most so many bytes.
-abbrev pub IsWithin : ℕ → List ℕ → Type 0
-IsWithin limit bytes = length bytes ≤ limit
+abbrev pub IsTextWithin : ℕ → List ℕ → Type 0
+IsTextWithin limit bytes = length bytes ≤ limit

@@ -4,4 +4,4 @@ pub mod Tags
 pub mod Content
 pub mod Declaration
 pub mod Document
-pub mod Written
+pub mod WrittenText

@@ -64,16 +64,16 @@ IsAmong name [] = ⊥
 IsAmong name (n ∷ names) = (name ≡ n) ⊎ IsAmong name names
 
 -- Well-formedness constraint "Unique Att Spec": no qualified name comes twice, nor one of those before.
-abbrev pub IsFresh : List (List ℕ) → Attributes → Type 0
-IsFresh before no_attribute = Unit {0}
-IsFresh before (attribute space name s n e quote q v more) = (IsAmong name before → ⊥) × IsFresh (before ++ (name ∷ [])) more
+abbrev pub AreUniqueNames : List (List ℕ) → Attributes → Type 0
+AreUniqueNames before no_attribute = Unit {0}
+AreUniqueNames before (attribute space name s n e quote q v more) = (IsAmong name before → ⊥) × AreUniqueNames (before ++ (name ∷ [])) more
 
 -- Productions 40 and 44 between `<` and `>` or `/>`: a qualified name, attributes, white space.
 pub record Tag : Type 0 where
   pub name : List ℕ
   pub named : IsQName name
   pub attributes : Attributes
-  pub fresh : IsFresh [] attributes
+  pub fresh : AreUniqueNames [] attributes
   pub space : List ℕ
   pub spaced : Each IsSpace space
 

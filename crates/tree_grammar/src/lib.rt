@@ -8,7 +8,7 @@
 
 ghost use Rattle.std.specs.Prelude.{◌≡◌, List, [], ◌++◌, false};
 ghost use Rattle.tree_grammar.specs.Elements.{Element, Event, events};
-ghost use Rattle.tree_grammar.specs.Written.{written_element, written_events};
+ghost use Rattle.tree_grammar.specs.WrittenText.{written_element, written_events};
 
 /// The most elements that may stand in one another; the root counts as one.
 pub const DEPTH: usize = 32;

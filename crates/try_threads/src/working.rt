@@ -1,6 +1,6 @@
 //! A job that is killed while a worker runs it.
 
-ghost use Rattle.desk.specs.Asks.{desk_id, IsSeatOf};
+ghost use Rattle.desk.specs.SeatMoves.{desk_id, IsSeatOf};
 
 use crate::waiting::wait_for;
 use desk::{Desk, Seat};

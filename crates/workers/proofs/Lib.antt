@@ -1,3 +1,3 @@
-pub mod Working
+pub mod Rounds
 pub mod Shifts
 pub mod Gates

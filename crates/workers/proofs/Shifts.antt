@@ -6,12 +6,12 @@ use Rattle.job_table.specs.declared.job.Phase.{Phase}
 use Rattle.job_table.specs.declared.job.Phase.TheVariants.{Issued, Waiting, Running, Finished, Killed}
 use Rattle.job_table.specs.declared.calls.Call.TheVariants.{Claim, Enlist, Leave}
 use Rattle.job_table.specs.declared.calls.Reply.TheVariants as reply
-use Rattle.job_table.specs.Jobs.{Held, Register, job, is_waiting, or_waiting, first_waiting, waiting_jobs}
+use Rattle.job_table.specs.Jobs.{HeldJobs, Register, job, is_waiting, or_waiting, first_waiting, waiting_jobs}
 use Rattle.job_table.specs.Steps.{Step, Outcome, outcome, claims}
-use Rattle.job_table.specs.History.{Entry, entry, Runs}
+use Rattle.job_table.specs.History.{Entry, entry_of_move, LeadsStepwise}
 use Rattle.job_runs.proofs.Histories.{runs_split}
 use Rattle.workers.specs.Shifts.{Rests, WorksThrough}
-use Rattle.workers.proofs.Working.{Made}
+use Rattle.workers.proofs.Rounds.{Made}
 
 abbrev Right : Type 1
 Right = List ℕ → List ℕ → Bool → Option (List ℕ) → Type 0
@@ -30,7 +30,7 @@ not_waiting n (Running osil osol marked) other none = (refl, none)
 not_waiting n (Finished document) other none = (refl, none)
 not_waiting n Killed other none = (refl, none)
 
-none_first : (jobs : Held) → first_waiting jobs ≡ None → waiting_jobs jobs ≡ 0
+none_first : (jobs : HeldJobs) → first_waiting jobs ≡ None → waiting_jobs jobs ≡ 0
 none_first [] none = refl
 none_first (held ∷ jobs) none =
     let (idle, rest) = not_waiting held.0 held.1 (first_waiting jobs) none in
@@ -42,15 +42,15 @@ claims_none None r next is = (refl, ap (λ (o : Outcome). o.after) (sym is))
 claims_none (Some j) r next is = absurd (gave_is_not_none j (ap (λ (o : Outcome). o.reply) is))
 
 module _ (made : Made) (right : Right) where
-  rests_idle : (r after : Register) (es : List Entry) → Rests made es → Runs right r es after → waiting_jobs after.jobs ≡ 0
+  rests_idle : (r after : Register) (es : List Entry) → Rests made es → LeadsStepwise right r es after → waiting_jobs after.jobs ≡ 0
   rests_idle r after es rests runs =
-      let (mid, before, (next, step, same)) = runs_split right r after rests.before (entry (Claim true) (reply.Gave None) ∷ [])
-      (subst (λ (l : List Entry). Runs right r l after) rests.are runs) in
+      let (mid, before, (next, step, same)) = runs_split right r after rests.before (entry_of_move (Claim true) (reply.Gave None) ∷ [])
+      (subst (λ (l : List Entry). LeadsStepwise right r l after) rests.are runs) in
       let (none, stays) = claims_none (first_waiting mid.jobs) mid next step.is in
       ap (λ (s : Register). waiting_jobs s.jobs) (same ∙ stays) ∙ none_first mid.jobs none
 
-  pub shift_leaves_none : (r after : Register) (es : List Entry) → WorksThrough made es → Runs right r es after → waiting_jobs after.jobs ≡ 0
+  pub shift_leaves_none : (r after : Register) (es : List Entry) → WorksThrough made es → LeadsStepwise right r es after → waiting_jobs after.jobs ≡ 0
   shift_leaves_none r after es works runs =
-      let (next, enlists, later) = subst (λ (l : List Entry). Runs right r l after) works.are runs in
-      let (mid, shift, (last, leaves, same)) = runs_split right next after works.shift (entry Leave reply.Done ∷ []) later in
+      let (next, enlists, later) = subst (λ (l : List Entry). LeadsStepwise right r l after) works.are runs in
+      let (mid, shift, (last, leaves, same)) = runs_split right next after works.shift (entry_of_move Leave reply.Done ∷ []) later in
       ap (λ (s : Register). waiting_jobs s.jobs) same ∙ ap (λ (o : Outcome). waiting_jobs o.after.jobs) (sym leaves.is) ∙ rests_idle next mid works.shift works.rests shift

@@ -4,7 +4,7 @@ use Rattle.std.proofs.Common.{refl, sym, ◌∙◌, ap, subst, append_assoc}
 use Rattle.os_io.specs.Looks.{next_call}
 use Rattle.job_table.specs.declared.moves.MoveKind.{MoveKind}
 use Rattle.job_table.specs.declared.moves.MoveKind.TheVariants.{Looks, Gives, Else}
-use Rattle.job_table.specs.Steps.{kind_of}
+use Rattle.job_table.specs.Steps.{move_kind}
 use Rattle.job_table.specs.History.{Entry}
 
 -- how many looks at a job there are with one more call: one that gives a job begins to count anew
@@ -14,39 +14,39 @@ looks_with n Gives = 0
 looks_with n Else = n
 
 -- the number of a look, and nothing of another call
-abbrev pub number_of : ℕ → MoveKind → List ℕ
-number_of n Looks = n ∷ []
-number_of n Gives = []
-number_of n Else = []
+abbrev pub look_number : ℕ → MoveKind → List ℕ
+look_number n Looks = n ∷ []
+look_number n Gives = []
+look_number n Else = []
 
 -- the numbers of the looks among these calls, after so many
-abbrev pub numbered : ℕ → List Entry → List ℕ
-numbered n [] = []
-numbered n (e ∷ es) =
-    let kind = kind_of e.call in let m = looks_with n kind in number_of m kind ++ numbered m es
+abbrev pub look_numbers : ℕ → List Entry → List ℕ
+look_numbers n [] = []
+look_numbers n (e ∷ es) =
+    let kind = move_kind e.call in let m = looks_with n kind in look_number m kind ++ look_numbers m es
 
 -- how many there are after them
-abbrev pub counted : ℕ → List Entry → ℕ
-counted n [] = n
-counted n (e ∷ es) = counted (looks_with n (kind_of e.call)) es
+abbrev pub looks_counted : ℕ → List Entry → ℕ
+looks_counted n [] = n
+looks_counted n (e ∷ es) = looks_counted (looks_with n (move_kind e.call)) es
 
-numbered-append : (n : ℕ) (a b : List Entry) → numbered n (a ++ b) ≡ numbered n a ++ numbered (counted n a) b
+numbered-append : (n : ℕ) (a b : List Entry) → look_numbers n (a ++ b) ≡ look_numbers n a ++ look_numbers (looks_counted n a) b
 numbered-append n [] b = refl
 numbered-append n (e ∷ es) b =
-    let m : ℕ = looks_with n (kind_of e.call) in
-    ap (λ (l : List ℕ). number_of m (kind_of e.call) ++ l) (numbered-append m es b)
-    ∙ sym (append_assoc (number_of m (kind_of e.call)) (numbered m es) (numbered (counted m es) b))
+    let m : ℕ = looks_with n (move_kind e.call) in
+    ap (λ (l : List ℕ). look_number m (move_kind e.call) ++ l) (numbered-append m es b)
+    ∙ sym (append_assoc (look_number m (move_kind e.call)) (look_numbers m es) (look_numbers (looks_counted m es) b))
 
-counted-append : (n : ℕ) (a b : List Entry) → counted n (a ++ b) ≡ counted (counted n a) b
+counted-append : (n : ℕ) (a b : List Entry) → looks_counted n (a ++ b) ≡ looks_counted (looks_counted n a) b
 counted-append n [] b = refl
-counted-append n (e ∷ es) b = counted-append (looks_with n (kind_of e.call)) es b
+counted-append n (e ∷ es) b = counted-append (looks_with n (move_kind e.call)) es b
 
 -- a gate that is passed before calls, and then before others, is passed before both
 pub passed_then : (passed passed' both : List ℕ → Type 0) → ((a b : List ℕ) → passed a → passed' b → both (a ++ b))
-    → (m n : ℕ) (a b : List Entry) → n ≡ counted m a → passed (numbered m a) → passed' (numbered n b) → both (numbered m (a ++ b))
+    → (m n : ℕ) (a b : List Entry) → n ≡ looks_counted m a → passed (look_numbers m a) → passed' (look_numbers n b) → both (look_numbers m (a ++ b))
 passed_then passed passed' both joins m n a b same p q =
-    subst both (ap (λ (k : ℕ). numbered m a ++ numbered k b) same ∙ sym (numbered-append m a b)) (joins (numbered m a) (numbered n b) p q)
+    subst both (ap (λ (k : ℕ). look_numbers m a ++ look_numbers k b) same ∙ sym (numbered-append m a b)) (joins (look_numbers m a) (look_numbers n b) p q)
 
 -- and so the count goes on
-pub counted_then : (l m n : ℕ) (a b : List Entry) → m ≡ counted l a → n ≡ counted m b → n ≡ counted l (a ++ b)
-counted_then l m n a b p q = q ∙ ap (λ (k : ℕ). counted k b) p ∙ sym (counted-append l a b)
+pub looks_counted_then : (l m n : ℕ) (a b : List Entry) → m ≡ looks_counted l a → n ≡ looks_counted m b → n ≡ looks_counted l (a ++ b)
+looks_counted_then l m n a b p q = q ∙ ap (λ (k : ℕ). looks_counted k b) p ∙ sym (counted-append l a b)

@@ -3,7 +3,7 @@ use Rattle.std.specs.Prelude.{◌≡◌, ℕ, Bool, true, List, [], ◌∷◌, �
 use Rattle.job_table.specs.declared.job.Job.{Job}
 use Rattle.job_table.specs.declared.calls.Call.TheVariants.{Claim, Enlist, Leave}
 use Rattle.job_table.specs.declared.calls.Reply.TheVariants as reply
-use Rattle.job_table.specs.History.{Entry, entry}
+use Rattle.job_table.specs.History.{Entry, entry_of_move}
 use Rattle.job_runs.specs.Runs.{Works}
 
 -- which looks a run of a job's texts makes, with their answers, and which document comes of it, is given
@@ -19,10 +19,10 @@ module _ (made : List ℕ → List ℕ → List Bool → Option (List ℕ) → T
     pub given : List (Option Job)
     pub before : List Entry
     pub worked : WorkOff given before
-    pub are : entries ≡ before ++ entry (Claim true) (reply.Gave None) ∷ []
+    pub are : entries ≡ before ++ entry_of_move (Claim true) (reply.Gave None) ∷ []
 
   -- a worker enlists, works until a claim gives none, and leaves
   pub record WorksThrough (entries : List Entry) : Type 0 where
     pub shift : List Entry
     pub rests : Rests shift
-    pub are : entries ≡ entry Enlist reply.Done ∷ shift ++ entry Leave reply.Done ∷ []
+    pub are : entries ≡ entry_of_move Enlist reply.Done ∷ shift ++ entry_of_move Leave reply.Done ∷ []

@@ -2,8 +2,8 @@
 
 ghost use Rattle.std.specs.Prelude.{List};
 ghost use Rattle.job_table.specs.History.{Entry};
-ghost use Rattle.desk.specs.Asks.{desk_id, IsSeatOf};
-ghost use Rattle.desk.specs.Asked.{Asked};
+ghost use Rattle.desk.specs.SeatMoves.{desk_id, IsSeatOf};
+ghost use Rattle.desk.specs.SeatHistory.{Asked};
 ghost use Rattle.workers.specs.Shifts.{WorksThrough};
 
 use crate::work::work_off;

@@ -1,7 +1,7 @@
 //! What is passed before each look.
 
 ghost use Rattle.std.specs.Prelude.{◌≡◌};
-ghost use Rattle.workers.specs.Gates.{looks_with, number_of};
+ghost use Rattle.workers.specs.Gates.{looks_with, look_number};
 
 use desk::Caller;
 use job_table::moves::{Move, MoveKind};
@@ -65,7 +65,7 @@ fn count_with(looks: u64, kind: MoveKind) -> u64
 
 /// Passes the gate, where the move is a look.
 fn pass_before<G: Gate>(gate: &mut G, look: u64, kind: MoveKind)
-    ensures { G.passed gate.old gate.new (number_of look kind) }
+    ensures { G.passed gate.old gate.new (look_number look kind) }
 {
     if let MoveKind::Looks = kind {
         gate.pass(look);
@@ -75,10 +75,10 @@ fn pass_before<G: Gate>(gate: &mut G, look: u64, kind: MoveKind)
 impl<'a, V: Verdicts, C: Calls<V>, G: Gate> Calls<V> for Gated<'a, V, C, G> {
     ghost use Rattle.std.specs.Prelude.{◌≡◌};
     ghost use Rattle.std.proofs.Common.{refl, ◌∙◌};
-    ghost use Rattle.workers.specs.Gates.{numbered, counted, passed_then, counted_then};
+    ghost use Rattle.workers.specs.Gates.{look_numbers, looks_counted, passed_then, looks_counted_then};
 
     /// The same gate is lent, these calls were made, and the gate was passed before each look among them.
-    ghost did = { λ x y es. (y.gate.ghost_name ≡ x.gate.ghost_name) × C.did x.calls y.calls es × G.passed x.gate.now y.gate.now (numbered x.looks es) × (y.looks ≡ counted x.looks es) };
+    ghost did = { λ x y es. (y.gate.ghost_name ≡ x.gate.ghost_name) × C.did x.calls y.calls es × G.passed x.gate.now y.gate.now (look_numbers x.looks es) × (y.looks ≡ looks_counted x.looks es) };
 
     ghost left = { λ x r. C.left x.calls r };
 
@@ -95,5 +95,5 @@ impl<'a, V: Verdicts, C: Calls<V>, G: Gate> Calls<V> for Gated<'a, V, C, G> {
 
     ghost stays = { λ x. (refl, C.stays x.calls, G.stays x.gate.now, refl) };
 
-    ghost joins = { λ x y z a b p q. (q.0 ∙ p.0, C.joins x.calls y.calls z.calls a b p.1 q.1, passed_then (G.passed x.gate.now y.gate.now) (G.passed y.gate.now z.gate.now) (G.passed x.gate.now z.gate.now) (G.joins x.gate.now y.gate.now z.gate.now) x.looks y.looks a b p.3 p.2 q.2, counted_then x.looks y.looks z.looks a b p.3 q.3) };
+    ghost joins = { λ x y z a b p q. (q.0 ∙ p.0, C.joins x.calls y.calls z.calls a b p.1 q.1, passed_then (G.passed x.gate.now y.gate.now) (G.passed y.gate.now z.gate.now) (G.passed x.gate.now z.gate.now) (G.joins x.gate.now y.gate.now z.gate.now) x.looks y.looks a b p.3 p.2 q.2, looks_counted_then x.looks y.looks z.looks a b p.3 q.3) };
 }

@@ -1,4 +1,4 @@
-ghost use Rattle.desk.specs.Asks.{desk_id, IsSeatOf};
+ghost use Rattle.desk.specs.SeatMoves.{desk_id, IsSeatOf};
 
 use crate::{Bell, Gate, OpenGate, Wake, wake_pair, work_loop, work_one};
 use desk::{Desk, Seat};

@@ -4,10 +4,10 @@ ghost use Rattle.std.specs.Prelude.{◌≡◌, List, IsTrue, ◌↔◌, IsSome, 
 ghost use Rattle.job_table.specs.declared.job.Job.{Job};
 ghost use Rattle.job_table.specs.History.{Entry};
 ghost use Rattle.job_runs.specs.Runs.{Works};
-ghost use Rattle.desk.specs.Asks.{desk_id, IsSeatOf};
-ghost use Rattle.desk.specs.Asked.{Asked};
+ghost use Rattle.desk.specs.SeatMoves.{desk_id, IsSeatOf};
+ghost use Rattle.desk.specs.SeatHistory.{Asked};
 ghost use Rattle.workers.specs.Shifts.{Rests, WorksThrough};
-ghost use Rattle.workers.specs.Gates.{numbered};
+ghost use Rattle.workers.specs.Gates.{look_numbers};
 
 use crate::gate::{Gate, Gated};
 use crate::wake::Naps;
@@ -30,7 +30,7 @@ pub fn work_one<J: Verdicts, R: Wait, U: Runner<J>, G: Gate>(
 ) -> bool
     requires { IsSeatOf (desk_id desk.now) seat.old }
     ensures seat { IsSeatOf (desk_id desk.now) seat.new }
-    ensures worked { (given : Option Job) × (own : List Entry) × Asked J.right seat.old.me.0 seat.new.me.0 own × Works U.ran as_worker given own × (IsTrue result ↔ IsSome given) × G.passed gate.old gate.new (numbered 0 own) }
+    ensures worked { (given : Option Job) × (own : List Entry) × Asked J.right seat.old.me.0 seat.new.me.0 own × Works U.ran as_worker given own × (IsTrue result ↔ IsSome given) × G.passed gate.old gate.new (look_numbers 0 own) }
 {
     let caller = Caller { rt, desk, seat };
     let mut gated = Gated {
@@ -67,7 +67,7 @@ pub fn work_loop<J: Verdicts, R: Wait, U: Runner<J>, G: Gate>(
 )
     requires { IsSeatOf (desk_id desk.now) seat.old }
     ensures seat { IsSeatOf (desk_id desk.now) seat.new }
-    ensures worked { (own : List Entry) × Asked J.right seat.old.me.0 seat.new.me.0 own × WorksThrough U.ran own × G.passed gate.old gate.new (numbered 0 own) }
+    ensures worked { (own : List Entry) × Asked J.right seat.old.me.0 seat.new.me.0 own × WorksThrough U.ran own × G.passed gate.old gate.new (look_numbers 0 own) }
 {
     let caller = Caller { rt, desk, seat };
     let mut gated = Gated {

@@ -1,4 +1,4 @@
-use Rattle.evidence.proofs.Pending.{start, none_left, one_more, clash_step, farkas_step, bound_step, no_bound, split_step}
+use Rattle.evidence.proofs.PendingNodes.{start, none_left, one_more, clash_step, farkas_step, bound_step, no_bound, split_step}
 use Rattle.evidence.proofs.lists_are_read.Goals as goal
 
 pub returns-clause-start : goal.returns-clause-start

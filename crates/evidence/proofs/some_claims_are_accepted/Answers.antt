@@ -1,4 +1,4 @@
-use Rattle.evidence.proofs.Tried.{branches, half, rays}
+use Rattle.evidence.proofs.Examples.{branches, half, rays}
 use Rattle.evidence.proofs.some_claims_are_accepted.Goals as goal
 
 pub returns-clause-branching : goal.returns-clause-branching

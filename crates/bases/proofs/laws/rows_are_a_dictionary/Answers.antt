@@ -1,4 +1,4 @@
-use Rattle.bases.proofs.Fresh.{fresh_dictionary}
+use Rattle.bases.proofs.OwnColumns.{fresh_dictionary}
 use Rattle.bases.proofs.laws.rows_are_a_dictionary.Goals as goal
 
 pub returns : goal.returns

@@ -1,11 +1,11 @@
 use Rattle.std.proofs.Common.{arith}
 use Rattle.std.proofs.lemmas.List.{length-map}
-use Rattle.certificate.specs.Means as Means
+use Rattle.certificate.specs.Meanings as Means
 use Rattle.instance.specs.Program.{program, variable}
 use Rattle.simplex.specs.Memory.{point_of}
 use Rattle.branch_bound.specs.Walks as Walks
 use Rattle.instance.proofs.Terms.{if_ok}
-use Rattle.branch_bound.proofs.Meets.{meets_split}
+use Rattle.branch_bound.proofs.PointSteps.{meets_split}
 use Rattle.branch_bound.proofs.meeting.meet.Goals as goal
 
 pub branch-walk-requires-clause-inside : goal.branch-walk-requires-clause-inside

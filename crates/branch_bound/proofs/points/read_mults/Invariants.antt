@@ -1,5 +1,5 @@
 use Rattle.std.proofs.Common.{◌≡◌}
-use Rattle.certificate.specs.Means as Means
+use Rattle.certificate.specs.Meanings as Means
 use Rattle.simplex.specs.Memory.{factor_in}
 use Rattle.simplex_rules.specs.Reports.{collected}
 use Rattle.branch_bound.proofs.points.read_mults.Given as goal

@@ -1,14 +1,14 @@
 use Rattle.std.proofs.Common.{rules, ◌≡◌, ◌+◌, inl, Bool, None, false, arith, sym, ◌∙◌, ap, subst}
-use Rattle.certificate.specs.Means as Means
+use Rattle.certificate.specs.Meanings as Means
 use Rattle.instance.specs.Program.{program}
 use Rattle.case_tree.specs.Cuts.{cases}
-use Rattle.simplex_rules.specs.Looks.{went_on, answers, IsAfter, Tells, looks_after}
-use Rattle.search_rules.specs.Search.{Outcome, To, Out, closed, IsNext, Comes, begins, goes_on, IsAnswer, searched}
-use Rattle.branch_bound.specs.Claims.{outcome}
+use Rattle.simplex_rules.specs.Looks.{went_on, answers, IsAfter, AgreesWith, looks_after}
+use Rattle.search_rules.specs.Search.{Outcome, To, Out, closed, IsNext, ComesInSearch, begins, goes_on, IsSearchAnswer, searched}
+use Rattle.branch_bound.specs.Claims.{claimed_outcome}
 use Rattle.branch_bound.specs.Walks.{best, moment}
 use Rattle.branch_bound.specs.Cases.{terms, clock_at}
 use Rattle.branch_bound.proofs.Looks.{no_stops, answers_more, after_less, tells_less, looks_more}
-use Rattle.branch_bound.proofs.Nexts.{answered}
+use Rattle.branch_bound.proofs.CaseSteps.{answered}
 use Rattle.branch_bound.proofs.searching.explore.Goals as goal
 
 pub loop-walk-init : goal.loop-walk-init
@@ -17,7 +17,7 @@ loop-walk-init g c = record {
   size = c.requires.size;
   most = ap (λ t. t.most) c.requires.turns;
   counted = omega arith;
-  moments = (0, g.met.W.Watch.stays c.args.watch.now, λ stop h. subst (Comes (program c.args.instance.now) (terms c.args.limits stop)) (sym c.requires.first) begins);
+  moments = (0, g.met.W.Watch.stays c.args.watch.now, λ stop h. subst (ComesInSearch (program c.args.instance.now) (terms c.args.limits stop)) (sym c.requires.first) begins);
 }
 
 pub step-requires-clause-stops : goal.step-requires-clause-stops
@@ -48,8 +48,8 @@ loop-walk-preserved g c =
         subst (g.W.Watch.came a.watch.now c.step.new.watch) (answers_more n k false) (g.met.W.Watch.joined a.watch.now l.watch c.step.new.watch (went_on n) (went_on k) came came''),
         λ stop h.
             let t = terms a.limits stop in
-            let s : Tells stop 0 (n + k) false = subst (λ i. IsAfter i stop) (omega arith) h in
-            let later : Tells stop n k b = subst (Tells stop n k) (sym went) (tells_less n k false stop s) in
+            let s : AgreesWith stop 0 (n + k) false = subst (λ i. IsAfter i stop) (omega arith) h in
+            let later : AgreesWith stop n k b = subst (AgreesWith stop n k) (sym went) (tells_less n k false stop s) in
             goes_on (comes stop (after_less n k false stop s))
             (subst (λ (b : Bool). IsNext (program p) t (moment p l.walk (clock_at l.relaxation n)) (To (moment p c.step.new.walk (clock_at r (looks_after n k b))))) went (on n stop later)),
       );
@@ -69,8 +69,8 @@ returns-in-Err-clause-answer g c =
       subst (g.W.Watch.came a.watch.now c.step.new.watch) (answers_more n k b) (g.met.W.Watch.joined a.watch.now l.watch c.step.new.watch (went_on n) (answers k b) came came'),
       λ stop h.
           let t = terms a.limits stop in
-          subst (λ i. IsAnswer (program p) t (outcome c.in-Err.claim) (clock_at r i)) (looks_more n k b)
-          (answered (program p) t (moment p l.walk (clock_at l.relaxation n)) (outcome c.in-Err.claim) (clock_at r (looks_after n k b)) (comes stop (after_less n k b stop h)) (ends n stop (tells_less n k b stop h))),
+          subst (λ i. IsSearchAnswer (program p) t (claimed_outcome c.in-Err.claim) (clock_at r i)) (looks_more n k b)
+          (answered (program p) t (moment p l.walk (clock_at l.relaxation n)) (claimed_outcome c.in-Err.claim) (clock_at r (looks_after n k b)) (comes stop (after_less n k b stop h)) (ends n stop (tells_less n k b stop h))),
     )
 
 pub returns-clause-answer : goal.returns-clause-answer

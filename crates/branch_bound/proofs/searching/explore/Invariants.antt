@@ -1,7 +1,7 @@
 use Rattle.std.proofs.Common.{◌≡◌, ℕ, ◌-◌, ◌≤◌, Option, length}
 use Rattle.instance.specs.Program.{program}
 use Rattle.simplex_rules.specs.Looks.{went_on, IsAfter}
-use Rattle.search_rules.specs.Search.{Comes}
+use Rattle.search_rules.specs.Search.{ComesInSearch}
 use Rattle.branch_bound.specs.Walks.{moment, IsWalk}
 use Rattle.branch_bound.specs.Cases.{terms, HasSize, clock_at}
 use Rattle.branch_bound.proofs.searching.explore.Given as goal
@@ -12,7 +12,7 @@ invariant-loop-walk g l = record {
   size : HasSize l.instance l.relaxation;
   most : l.relaxation.turns.most ≡ l.limits.turns;
   counted : l.fn.steps ≤ l.steps;
-  moments : (n : ℕ) × g.W.Watch.came l.fn.watch l.watch (went_on n) × ((stop : Option ℕ) → IsAfter n stop → Comes (program l.instance) (terms l.limits stop) (moment l.instance l.walk (clock_at l.relaxation n)));
+  moments : (n : ℕ) × g.W.Watch.came l.fn.watch l.watch (went_on n) × ((stop : Option ℕ) → IsAfter n stop → ComesInSearch (program l.instance) (terms l.limits stop) (moment l.instance l.walk (clock_at l.relaxation n)));
 }
 
 abbrev pub decreases-loop-walk : goal.decreases-loop-walk

@@ -1,8 +1,8 @@
 use Rattle.std.proofs.Common.{◌≡◌, Bool, sym, subst}
 use Rattle.instance.specs.Program.{program}
-use Rattle.simplex_rules.specs.Looks.{answers, Tells, looks_after}
-use Rattle.search_rules.specs.Search.{IsAnswer, begins, given_up}
-use Rattle.branch_bound.specs.Claims.{outcome, is_killed}
+use Rattle.simplex_rules.specs.Looks.{answers, AgreesWith, looks_after}
+use Rattle.search_rules.specs.Search.{IsSearchAnswer, begins, given_up}
+use Rattle.branch_bound.specs.Claims.{claimed_outcome, is_killed}
 use Rattle.branch_bound.proofs.searching.search.Goals as goal
 
 pub returns-in-Err-clause-answer : goal.returns-in-Err-clause-answer
@@ -20,6 +20,6 @@ returns-clause-answer g c =
       n,
       subst (λ (b : Bool). g.W.Watch.came a.watch.now e.new.watch (answers n b)) back came,
       λ stop h.
-          subst (λ (b : Bool). IsAnswer (program a.instance.now) (record { nodes = a.nodes; turns = a.turns; stop = stop }) (outcome e.result) (record { turns = e.new.relaxation.turns.done; looks = looks_after 0 n b })) back
-          (answer stop (subst (Tells stop 0 n) q h)),
+          subst (λ (b : Bool). IsSearchAnswer (program a.instance.now) (record { nodes = a.nodes; turns = a.turns; stop = stop }) (claimed_outcome e.result) (record { turns = e.new.relaxation.turns.done; looks = looks_after 0 n b })) back
+          (answer stop (subst (AgreesWith stop 0 n) q h)),
     )

@@ -3,17 +3,17 @@ use Rattle.std.specs.Option.{is_some}
 use Rattle.std.proofs.lemmas.List.{length-map}
 use Rattle.instance.specs.Program.{program}
 use Rattle.instance.proofs.Terms.{if_ok}
-use Rattle.certificate.specs.Means as Means
+use Rattle.certificate.specs.Meanings as Means
 use Rattle.case_tree.specs.Cuts.{cases}
 use Rattle.simplex.specs.Answers.{was_stopped}
 use Rattle.simplex.specs.Memory.{ended_with}
 use Rattle.simplex_rules.specs.Ends as Ends
 use Rattle.simplex_rules.specs.Looks.{went_on}
-use Rattle.branch_bound.specs.Claims.{outcome}
+use Rattle.branch_bound.specs.Claims.{claimed_outcome}
 use Rattle.branch_bound.specs.Walks as Walks
 use Rattle.branch_bound.specs.Cases.{terms, clock_at}
-use Rattle.branch_bound.proofs.Meets.{if_err, or_memory}
-use Rattle.branch_bound.proofs.Nexts.{ray_is_some, after_one, next_on, ends_on, next_stopped, goes_one, stopped_is, not_killed, follows, at_limit, at_look}
+use Rattle.branch_bound.proofs.PointSteps.{if_err, or_memory}
+use Rattle.branch_bound.proofs.CaseSteps.{ray_is_some, after_one, next_on, ends_on, next_stopped, goes_one, stopped_is, not_killed, follows, at_limit, at_look}
 use Rattle.branch_bound.proofs.searching.step.Goals as goal
 
 pub returns-then-len-limits-clause-next : goal.returns-then-len-limits-clause-next
@@ -27,7 +27,7 @@ returns-then-len-limits-clause-next g c =
       false,
       c.give_up.ensures.killed,
       g.met.W.Watch.stays a.watch.now,
-      λ looks stop h. at_limit (program p) (terms a.limits stop) (Walks.moment p w (clock_at a.relaxation.now looks)) (Walks.case p w) (Walks.rest p w a.depth) (ap (cases p w.vars.items w.branches.items) c.requires.at.next) (outcome c.give_up.result) (omega arith) c.give_up.ensures.told,
+      λ looks stop h. at_limit (program p) (terms a.limits stop) (Walks.moment p w (clock_at a.relaxation.now looks)) (Walks.case p w) (Walks.rest p w a.depth) (ap (cases p w.vars.items w.branches.items) c.requires.at.next) (claimed_outcome c.give_up.result) (omega arith) c.give_up.ensures.told,
     )
 
 pub returns-then-look-clause-next : goal.returns-then-look-clause-next
@@ -41,7 +41,7 @@ returns-then-look-clause-next g c =
       true,
       c.give_up-then-look.ensures.killed,
       subst (λ b. g.W.Watch.came a.watch.now c.look.new.self (b ∷ [])) c.if-look.true c.look.ensures.came,
-      λ looks stop h. at_look (program p) (terms a.limits stop) (Walks.moment p w (clock_at a.relaxation.now looks)) (Walks.case p w) (Walks.rest p w a.depth) (ap (cases p w.vars.items w.branches.items) c.requires.at.next) (outcome c.give_up-then-look.result) (omega arith) h c.give_up-then-look.ensures.told,
+      λ looks stop h. at_look (program p) (terms a.limits stop) (Walks.moment p w (clock_at a.relaxation.now looks)) (Walks.case p w) (Walks.rest p w a.depth) (ap (cases p w.vars.items w.branches.items) c.requires.at.next) (claimed_outcome c.give_up-then-look.result) (omega arith) h c.give_up-then-look.ensures.told,
     )
 
 pub returns-then-is_stop-clause-next : goal.returns-then-is_stop-clause-next
@@ -61,7 +61,7 @@ returns-then-is_stop-clause-next g c =
       true,
       c.give_up-then-is_stop.ensures.killed,
       g.met.W.Watch.joined a.watch.now c.look.new.self c.run_case-end.new.watch (false ∷ []) (went_on k ++ true ∷ []) first came,
-      λ looks stop h. inr (next_stopped (program p) (terms a.limits stop) (Walks.moment p w (clock_at a.relaxation.now looks)) (Walks.case p w) (Walks.rest p w a.depth) (ap (cases p w.vars.items w.branches.items) c.requires.at.next) (omega arith) c.is_some-zero_goal.result z r.turns.done k h (run (terms a.limits stop) (looks + 1) (sym c.requires.most) (h ∙ ap Some (omega arith))) (outcome c.give_up-then-is_stop.result) c.give_up-then-is_stop.ensures.told),
+      λ looks stop h. inr (next_stopped (program p) (terms a.limits stop) (Walks.moment p w (clock_at a.relaxation.now looks)) (Walks.case p w) (Walks.rest p w a.depth) (ap (cases p w.vars.items w.branches.items) c.requires.at.next) (omega arith) c.is_some-zero_goal.result z r.turns.done k h (run (terms a.limits stop) (looks + 1) (sym c.requires.most) (h ∙ ap Some (omega arith))) (claimed_outcome c.give_up-then-is_stop.result) c.give_up-then-is_stop.ensures.told),
     )
 
 pub returns-clause-next : goal.returns-clause-next

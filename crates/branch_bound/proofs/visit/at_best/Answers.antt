@@ -2,11 +2,11 @@ use Rattle.std.proofs.Common.{inl, inr, List, ap, subst, ◌∙◌}
 use Rattle.evidence.specs.Cases.{Multiplier, BoundBy}
 use Rattle.instance.proofs.Terms.{if_ok}
 use Rattle.simplex.specs.Memory.{point_of}
-use Rattle.search_rules.specs.Search.{To, Out, leaf as leaf_of}
-use Rattle.branch_bound.specs.Claims.{outcome}
+use Rattle.search_rules.specs.Search.{To, Out, closed_by_leaf as leaf_of}
+use Rattle.branch_bound.specs.Claims.{claimed_outcome}
 use Rattle.branch_bound.specs.Walks as Walks
 use Rattle.branch_bound.specs.Cases.{clock_at, MeetsAt}
-use Rattle.branch_bound.proofs.Meets.{if_err, or_memory}
+use Rattle.branch_bound.proofs.PointSteps.{if_err, or_memory}
 use Rattle.branch_bound.proofs.visit.at_best.Goals as goal
 
 pub returns-then-passes-clause-ok : goal.returns-then-passes-clause-ok
@@ -31,5 +31,5 @@ returns-clause-err g c =
     let w = c.args.walk.now in
     let r = c.args.relaxation.now in
     if_err c.meet.result
-    (λ claim. or_memory w claim (λ h t looks. inr (c.passes.ensures.no c.if-passes.false, subst (λ (ms : List Multiplier). MeetsAt p w c.args.depth (clock_at r looks) (point_of r.work) ms (Out (outcome claim) (clock_at r looks))) c.in-Ok.ensures (h looks))))
+    (λ claim. or_memory w claim (λ h t looks. inr (c.passes.ensures.no c.if-passes.false, subst (λ (ms : List Multiplier). MeetsAt p w c.args.depth (clock_at r looks) (point_of r.work) ms (Out (claimed_outcome claim) (clock_at r looks))) c.in-Ok.ensures (h looks))))
     c.meet.ensures.err

@@ -1,7 +1,7 @@
 use Rattle.std.proofs.Common.{List, ap, ◌∙◌}
 use Rattle.evidence.specs.Cases.{Multiplier, FarkasBy}
 use Rattle.instance.proofs.Terms.{if_ok}
-use Rattle.search_rules.specs.Search.{To, leaf as leaf_of}
+use Rattle.search_rules.specs.Search.{To, closed_by_leaf as leaf_of}
 use Rattle.branch_bound.specs.Walks as Walks
 use Rattle.branch_bound.proofs.visit.at_empty.Goals as goal
 

@@ -3,7 +3,7 @@ use Rattle.fraction.specs.Frac.{ratios}
 use Rattle.instance.proofs.Terms.{if_ok}
 use Rattle.search_rules.specs.Search.{Outcome, Out}
 use Rattle.branch_bound.specs.Cases.{clock_at}
-use Rattle.branch_bound.proofs.Meets.{if_err, or_memory}
+use Rattle.branch_bound.proofs.PointSteps.{if_err, or_memory}
 use Rattle.branch_bound.proofs.visit.at_endless.Goals as goal
 
 pub returns-in-None-clause-err : goal.returns-in-None-clause-err

@@ -2,7 +2,7 @@ use Rattle.std.proofs.Common.{◌≤◌, ℤ, subst, sym, arith}
 use Rattle.std.specs.Prelude.{unsigned_abs}
 use Rattle.std.proofs.Math.Facts.{to_z-of_z}
 use Rattle.rational.specs.Width.{most}
-use Rattle.rational.proofs.Coprime.{one_divides}
+use Rattle.rational.proofs.CommonDivisors.{one_divides}
 use Rattle.case_tree.proofs.Sizes.{size_within}
 use Rattle.case_tree.proofs.numbers.whole.Goals as goal
 

@@ -5,7 +5,7 @@ use Rattle.case_tree.specs.Cuts.{cut}
 use Rattle.cert_checker.specs.Slots.{slot_at, IsStep}
 use Rattle.cert_checker.proofs.Lists.{mult_read}
 use Rattle.cert_checker.proofs.Widths.{legal_column}
-use Rattle.cert_checker.proofs.Holding.{holds_first, holds_next}
+use Rattle.cert_checker.proofs.ColumnSums.{holds_first, holds_next}
 use Rattle.cert_checker.proofs.forms.add_columns.Goals as goal
 
 pub loop-k-init : goal.loop-k-init

@@ -1,12 +1,12 @@
 use Rattle.std.proofs.Common.{◌≡◌, ◌<◌, None, Some, IsTrue, false, length, arith, refl, ap, ◌∙◌, inl, inr, below_more}
-use Rattle.certificate.specs.Means.{multipliers}
+use Rattle.certificate.specs.Meanings.{multipliers}
 use Rattle.case_tree.specs.Cuts as Tree
 use Rattle.cert_checker.specs.Cuts as Of
 use Rattle.cert_checker.specs.Leaves.{HasForm}
 use Rattle.cert_checker.specs.Slots.{slot_at}
 use Rattle.std.proofs.lemmas.List.{get_or_default}
 use Rattle.cert_checker.proofs.Widths.{width_is}
-use Rattle.cert_checker.proofs.Holding.{unfit_form, fits_form, has_form, other_form}
+use Rattle.cert_checker.proofs.ColumnSums.{unfit_form, fits_form, has_form, other_form}
 use Rattle.cert_checker.proofs.forms.compare.Goals as goal
 
 pub returns-in-None-clause-err : goal.returns-in-None-clause-err

@@ -1,4 +1,4 @@
-use Rattle.certificate.specs.Means.{multipliers}
+use Rattle.certificate.specs.Meanings.{multipliers}
 use Rattle.case_tree.specs.Cuts as Tree
 use Rattle.cert_checker.specs.Cuts as Of
 use Rattle.cert_checker.specs.Leaves.{FormsBelow}

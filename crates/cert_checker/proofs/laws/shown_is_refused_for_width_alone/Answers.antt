@@ -1,4 +1,4 @@
-use Rattle.cert_checker.proofs.Shown.{optimal_wide, infeasible_wide, unbounded_wide}
+use Rattle.cert_checker.proofs.WidthRefusals.{optimal_wide, infeasible_wide, unbounded_wide}
 use Rattle.cert_checker.proofs.laws.shown_is_refused_for_width_alone.Goals as goal
 
 pub returns-clause-optimal : goal.returns-clause-optimal

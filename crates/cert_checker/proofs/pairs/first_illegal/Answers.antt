@@ -1,11 +1,11 @@
 use Rattle.std.proofs.Common.{◌≡◌, IsTrue, false, length, arith, refl, sym, ap, below_more, subst}
 use Rattle.std.proofs.lemmas.List.{length-map}
 use Rattle.evidence.specs.Cases.{Multiplier}
-use Rattle.certificate.specs.Means.{multiplier, multipliers}
+use Rattle.certificate.specs.Meanings.{multiplier, multipliers}
 use Rattle.case_tree.specs.Cuts.{cut}
 use Rattle.cert_checker.specs.Leaves.{IsPair, PairsBelow}
 use Rattle.cert_checker.proofs.Lists.{mult_is}
-use Rattle.cert_checker.proofs.Legal.{legal_from}
+use Rattle.cert_checker.proofs.Multipliers.{legal_from}
 use Rattle.cert_checker.proofs.pairs.first_illegal.Goals as goal
 
 pub returns-then-not-is_pair : goal.returns-then-not-is_pair

@@ -1,4 +1,4 @@
-use Rattle.certificate.specs.Means.{multipliers}
+use Rattle.certificate.specs.Meanings.{multipliers}
 use Rattle.case_tree.specs.Cuts.{cut}
 use Rattle.cert_checker.specs.Leaves.{PairsBelow}
 use Rattle.cert_checker.proofs.pairs.first_illegal.Given as goal

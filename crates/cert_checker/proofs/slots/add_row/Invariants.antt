@@ -1,5 +1,5 @@
 use Rattle.fraction.specs.Frac.{ratio}
-use Rattle.cert_checker.proofs.Adding.{IsAdded}
+use Rattle.cert_checker.proofs.Additions.{IsAdded}
 use Rattle.cert_checker.proofs.slots.add_row.Given as goal
 
 abbrev pub invariant-loop-k : goal.invariant-loop-k

@@ -2,7 +2,7 @@ use Rattle.std.proofs.Common.{◌≡◌, Option, Some, refl, arith}
 use Rattle.fraction.specs.Frac.{ratio}
 use Rattle.fraction.specs.declared.frac.Frac.{Frac}
 use Rattle.evidence.specs.Sums.{none}
-use Rattle.cert_checker.proofs.Adding.{set_next}
+use Rattle.cert_checker.proofs.Additions.{set_next}
 use Rattle.cert_checker.proofs.slots.clear.Goals as goal
 
 pub loop-j-preserved : goal.loop-j-preserved

@@ -4,10 +4,10 @@ use Rattle.fraction.specs.Frac.{ratio}
 use Rattle.evidence.specs.Cases.{Multiplier, multiplier_at, end_of, or_none}
 use Rattle.evidence.proofs.Steps.{more, wide}
 use Rattle.instance.proofs.Terms.{at_err}
-use Rattle.certificate.specs.Means.{multiplier, multipliers}
+use Rattle.certificate.specs.Meanings.{multiplier, multipliers}
 use Rattle.case_tree.specs.Cuts.{cut}
 use Rattle.cert_checker.proofs.Lists.{mult_is}
-use Rattle.cert_checker.proofs.Holding.{factors-number}
+use Rattle.cert_checker.proofs.ColumnSums.{factors-number}
 use Rattle.cert_checker.proofs.LowSums.{ends-number}
 use Rattle.cert_checker.proofs.sums.low_sum.Goals as goal
 

@@ -1,7 +1,7 @@
 use Rattle.fraction.specs.Frac.{ratio}
 use Rattle.evidence.specs.Cases.{multiplier_at, end_of, or_none}
 use Rattle.evidence.proofs.Steps.{IsSum}
-use Rattle.certificate.specs.Means.{multipliers}
+use Rattle.certificate.specs.Meanings.{multipliers}
 use Rattle.case_tree.specs.Cuts.{cut}
 use Rattle.cert_checker.proofs.sums.low_sum.Given as goal
 

@@ -1,14 +1,14 @@
 use Rattle.std.proofs.Common.{◌+◌, ◌≤◌, IfSome, [], ◌∷◌, length, drop}
 use Rattle.instance.specs.Program.{program}
-use Rattle.certificate.specs.Means as Means
+use Rattle.certificate.specs.Meanings as Means
 use Rattle.case_tree.specs.Cuts as Tree
 use Rattle.cert_checker.specs.Cuts as Of
-use Rattle.cert_checker.specs.Trees.{Leads}
+use Rattle.cert_checker.specs.Trees.{LeadsThrough}
 use Rattle.cert_checker.proofs.walk.check_tree.Given as goal
 
 abbrev pub invariant-loop-i : goal.invariant-loop-i
 invariant-loop-i l = record {
   above : IfSome l.next (λ d. Tree.AreBranches (length l.vars) l.branches d);
   depth : IfSome l.next (λ d. d ≤ l.i);
-  leads : Leads (program l.instance ∷ []) (Means.nodes l.nodes) 1 (Tree.cases l.instance l.vars l.branches l.next) (drop l.i (Means.nodes l.nodes)) (l.i + 1) (Of.aim l.aim);
+  leads : LeadsThrough (program l.instance ∷ []) (Means.nodes l.nodes) 1 (Tree.cases l.instance l.vars l.branches l.next) (drop l.i (Means.nodes l.nodes)) (l.i + 1) (Of.aim l.aim);
 }

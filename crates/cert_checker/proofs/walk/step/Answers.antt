@@ -5,11 +5,11 @@ use Rattle.std.proofs.Math.Facts.{to_z-of_z}
 use Rattle.cert_checker.proofs.Sizes.{not_none}
 use Rattle.std.proofs.lemmas.Result.{err_from_is_err_and}
 use Rattle.evidence.specs.Cases as Cases
-use Rattle.certificate.specs.Means as Means
+use Rattle.certificate.specs.Meanings as Means
 use Rattle.certificate.specs.declared.nodes.Node.{Node}
 use Rattle.case_tree.specs.Cuts as Tree
 use Rattle.cert_checker.specs.Cuts as Of
-use Rattle.cert_checker.specs.Trees.{Leads}
+use Rattle.cert_checker.specs.Trees.{LeadsThrough}
 use Rattle.cert_checker.proofs.Walks.{split_leads, clash_leads, farkas_node_leads, bound_node_leads, farkas_refused, bound_refused}
 use Rattle.cert_checker.proofs.walk.step.Goals.{in-Clash+in_ok-check_clash-in-Clash, in-Farkas+in_ok-check_leaf-in-Farkas, in-Bound+else-is_none+in_ok-check_leaf-in-Bound}
 use Rattle.cert_checker.proofs.walk.step.Goals as goal
@@ -24,7 +24,7 @@ returns-in-Split-clause-ok c = λ rest.
     let k = c.in-Split.k in
     let f : SFits w128 k = search rules in
     let same : to_z w128 (of_z w128 k) ≡ k = to_z-of_z f in
-    subst (λ (n : Node). Leads (I ∷ js) (Means.node n ∷ rest) c.args.number after rest (c.args.number + 1) (Of.aim c.args.aim)) (sym c.in-Split.is)
+    subst (λ (n : Node). LeadsThrough (I ∷ js) (Means.node n ∷ rest) c.args.number after rest (c.args.number + 1) (Of.aim c.args.aim)) (sym c.in-Split.is)
     (split_leads I js after c.args.number (Of.aim c.args.aim) rest j k (subst (λ (z : ℤ). Cases.IsBranch I j z) same (c.if-not-is_branch.ensures.0 refl))
     (subst (λ (z : ℤ). after ≡ Cases.at_most I j z ∷ Cases.at_least I j (z +ℤ pos 1) ∷ js) same (c.enter.ensures.cases p)))
 
@@ -48,7 +48,7 @@ returns-clause-ok c = λ rest.
     let after = Tree.cases p c.back.new.vars c.back.new.branches c.back.result in
     elim c.match-node.branch [
       | in-Clash+in_ok-check_clash-in-Clash w ↦
-          subst (λ (n : Node). Leads (I ∷ js) (Means.node n ∷ rest) c.args.number after rest (c.args.number + 1) (Of.aim c.args.aim)) (sym w.in-Clash.is)
+          subst (λ (n : Node). LeadsThrough (I ∷ js) (Means.node n ∷ rest) c.args.number after rest (c.args.number + 1) (Of.aim c.args.aim)) (sym w.in-Clash.is)
           (clash_leads I js after c.args.number (Of.aim c.args.aim) rest w.in-Clash.col w.in_ok-check_clash-in-Clash.ensures.ok (c.back.ensures.cases p))
       | in-Farkas+in_ok-check_leaf-in-Farkas w ↦
           farkas_node_leads I js after c.args.number (Of.aim c.args.aim) rest c.args.node.now w.in-Farkas.mults w.as_slice.result.now w.in-Farkas.is w.as_slice.ensures w.in_ok-check_leaf-in-Farkas.ensures.ok (c.back.ensures.cases p)

@@ -1,5 +1,5 @@
 use Rattle.clap.specs.Words.{found_of}
-use Rattle.command_line.proofs.Asks.{asked_by_found}
+use Rattle.command_line.proofs.Meanings.{asked_by_found}
 use Rattle.command_line.proofs.words.asked_by.Goals as goal
 
 pub returns : goal.returns

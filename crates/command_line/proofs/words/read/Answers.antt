@@ -1,5 +1,5 @@
 use Rattle.std.proofs.Common.{◌∙◌}
-use Rattle.command_line.proofs.Asks.{asks_by_subcommand, asks_nothing}
+use Rattle.command_line.proofs.Meanings.{asks_by_subcommand, asks_nothing}
 use Rattle.command_line.proofs.words.read.Goals as goal
 
 pub returns-in-Ok : goal.returns-in-Ok

@@ -1,6 +1,6 @@
 use Rattle.std.proofs.Common.{ℕ}
 use Rattle.std.specs.Int.{IsGcd}
-use Rattle.rational.proofs.Coprime.{one_divides}
+use Rattle.rational.proofs.CommonDivisors.{one_divides}
 use Rattle.common_rows.proofs.whole.whole.Goals as goal
 
 over_one : (k : ℕ) → IsGcd k 1 1

@@ -1,6 +1,6 @@
 use Rattle.std.proofs.Common.{◌≡◌, ◌+◌, ◌<◌, ◌++◌, ◌∷◌, [], length, take, slice_set, arith, ◌∙◌}
 use Rattle.std.proofs.lemmas.List.{take_more_set, length-take-le, length-set}
-use Rattle.decimal_text.proofs.Expanding.{another_at, a_zero}
+use Rattle.decimal_text.proofs.Expansions.{another_at, a_zero}
 use Rattle.decimal_text.proofs.expand.expand.Goals as goal
 use Rattle.decimal_text.proofs.expand.expand.Goals.{then-digit-ne0, else-digit-ne0}
 

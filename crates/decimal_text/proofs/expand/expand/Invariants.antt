@@ -1,5 +1,5 @@
 use Rattle.std.proofs.Common.{◌≡◌, ◌≤◌, length, take}
-use Rattle.decimal_text.proofs.Expanding.{Expanded}
+use Rattle.decimal_text.proofs.Expansions.{Expanded}
 use Rattle.decimal_text.proofs.expand.expand.Given as goal
 
 abbrev pub invariant-loop-i : goal.invariant-loop-i

@@ -1,4 +1,4 @@
-use Rattle.decimal_text.proofs.ReadBack.{count_read, count_read_back}
+use Rattle.decimal_text.proofs.RoundTrips.{count_read, count_read_back}
 use Rattle.decimal_text.proofs.laws.counts_are_read_back.Goals as goal
 
 pub returns-clause-text : goal.returns-clause-text

@@ -1,4 +1,4 @@
-use Rattle.decimal_text.proofs.Once.{decimal_read_back}
+use Rattle.decimal_text.proofs.OneDecimal.{decimal_read_back}
 use Rattle.decimal_text.proofs.laws.decimals_are_read_back.Goals as goal
 
 pub returns : goal.returns

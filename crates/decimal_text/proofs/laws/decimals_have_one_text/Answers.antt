@@ -1,5 +1,5 @@
 use Rattle.decimal_text.proofs.PlainTexts.{plain_once}
-use Rattle.decimal_text.proofs.ReadBack.{plain_decimal}
+use Rattle.decimal_text.proofs.RoundTrips.{plain_decimal}
 use Rattle.decimal_text.proofs.laws.decimals_have_one_text.Goals as goal
 
 pub returns-clause-one : goal.returns-clause-one

@@ -1,4 +1,4 @@
-use Rattle.decimal_text.proofs.Reading.{ratio_read_back}
+use Rattle.decimal_text.proofs.OneRatio.{ratio_read_back}
 use Rattle.decimal_text.proofs.laws.ratios_are_read_back.Goals as goal
 
 pub returns : goal.returns

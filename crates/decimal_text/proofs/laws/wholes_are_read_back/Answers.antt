@@ -1,4 +1,4 @@
-use Rattle.decimal_text.proofs.ReadBack.{whole_read, whole_read_back}
+use Rattle.decimal_text.proofs.RoundTrips.{whole_read, whole_read_back}
 use Rattle.decimal_text.proofs.laws.wholes_are_read_back.Goals as goal
 
 pub returns-clause-text : goal.returns-clause-text

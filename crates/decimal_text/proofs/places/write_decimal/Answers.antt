@@ -6,8 +6,8 @@ use Rattle.rational.specs.Ratio.{Ratio}
 use Rattle.rational.specs.Width.{most}
 use Rattle.rational.specs.Whole.{signed}
 use Rattle.fraction.specs.Frac.{ratio}
-use Rattle.decimal_text.proofs.Cutting.{AllDigits-take}
-use Rattle.decimal_text.proofs.Written.{no_text, exact_size, whole_low, plain_of, reads_back}
+use Rattle.decimal_text.proofs.Cuts.{AllDigits-take}
+use Rattle.decimal_text.proofs.WholeDecimals.{no_text, exact_size, whole_low, plain_of, reads_back}
 use Rattle.decimal_text.proofs.places.write_decimal.Goals as goal
 
 pub has_decimal-requires-clause-reduced : goal.has_decimal-requires-clause-reduced

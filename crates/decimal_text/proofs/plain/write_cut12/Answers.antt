@@ -1,7 +1,7 @@
 use Rattle.std.proofs.Common.{◌≡◌, ◌≤◌, take, length, arith, refl}
 use Rattle.std.proofs.lemmas.List.{length-take-le}
 use Rattle.std.proofs.lemmas.Result.{on_ok_weaker}
-use Rattle.decimal_text.proofs.Cutting.{AllDigits-take, cut_parts, cut_same, cut_below_zero}
+use Rattle.decimal_text.proofs.Cuts.{AllDigits-take, cut_parts, cut_same, cut_below_zero}
 use Rattle.decimal_text.proofs.plain.write_cut12.Goals as goal
 
 pub returns-clause-ok : goal.returns-clause-ok

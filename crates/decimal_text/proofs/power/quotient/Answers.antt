@@ -3,7 +3,7 @@ use Rattle.std.specs.Int.{w128}
 use Rattle.std.specs.Prelude.{unsigned_abs}
 use Rattle.std.proofs.lemmas.Int.{to_z-of_z}
 use Rattle.rational.specs.Width.{most}
-use Rattle.rational.proofs.Signed.{unsigned_abs-signed}
+use Rattle.rational.proofs.Signs.{unsigned_abs-signed}
 use Rattle.decimal_text.proofs.Quotients.{quotient_within, no_err}
 use Rattle.decimal_text.proofs.power.quotient.Goals as goal
 

@@ -2,7 +2,7 @@ use Rattle.std.proofs.Common.{◌-◌, ◌<◌, length, arith, sym, ap, subst, �
 use Rattle.std.proofs.lemmas.Bool.{eqb-true, eqb-false}
 use Rattle.std.specs.Str.Parse.{digits_value}
 use Rattle.rational.specs.Whole.{signed}
-use Rattle.rational.proofs.Signed.{unsigned_abs-signed}
+use Rattle.rational.proofs.Signs.{unsigned_abs-signed}
 use Rattle.decimal_text.specs.Count.{most_count}
 use Rattle.decimal_text.specs.Sign.{is_minus}
 use Rattle.decimal_text.proofs.WholeTexts.{whole_leaves, whole_made}

@@ -1,6 +1,6 @@
 use Rattle.std.proofs.Common.{arith, ◌∙◌}
 use Rattle.std.proofs.lemmas.List.{length_push}
-use Rattle.dictionary.proofs.Filled.{row_rooms_push}
+use Rattle.dictionary.proofs.ProgramRows.{row_rooms_push}
 use Rattle.dictionary.proofs.dict.make_rows.Goals as goal
 
 pub loop-r-preserved : goal.loop-r-preserved

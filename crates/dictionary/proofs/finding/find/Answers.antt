@@ -1,6 +1,6 @@
 use Rattle.std.proofs.Common.{◌≡◌, ◌<◌, ◌+◌, ◌-◌, ◌/◌, ◌^◌, length, take, drop, arith, sym, subst, add-one}
 use Rattle.dictionary.specs.Row.{entries_of, HasColumn, IsEntry}
-use Rattle.dictionary.proofs.Found.{entry_is, not_up_to, not_from, not_in_parts, probed}
+use Rattle.dictionary.proofs.EntryPlaces.{entry_is, not_up_to, not_from, not_in_parts, probed}
 use Rattle.dictionary.proofs.finding.find.Goals as goal
 
 pub returns-then-x-col-clause-found : goal.returns-then-x-col-clause-found

@@ -1,7 +1,7 @@
 use Rattle.std.proofs.Common.{◌^◌, ◌<◌, length, arith}
 use Rattle.std.proofs.lemmas.Bool.{ltb-true}
 use Rattle.dictionary.specs.Row.{entries_of}
-use Rattle.dictionary.proofs.Found.{not_from}
+use Rattle.dictionary.proofs.EntryPlaces.{not_from}
 use Rattle.dictionary.proofs.finding.is_before.Goals as goal
 
 pub returns-clause-before : goal.returns-clause-before

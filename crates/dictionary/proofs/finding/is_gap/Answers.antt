@@ -1,6 +1,6 @@
 use Rattle.std.proofs.Common.{refl}
 use Rattle.dictionary.specs.Row.{entries_of}
-use Rattle.dictionary.proofs.Found.{not_in_parts}
+use Rattle.dictionary.proofs.EntryPlaces.{not_in_parts}
 use Rattle.dictionary.proofs.finding.is_gap.Goals as goal
 
 pub returns-then-is_past-clause-absent : goal.returns-then-is_past-clause-absent

@@ -1,7 +1,7 @@
 use Rattle.std.proofs.Common.{suc, ◌≡◌, ◌-◌, ◌^◌, ◌<◌, length, take, arith, subst}
 use Rattle.std.proofs.lemmas.Bool.{ltb-true}
 use Rattle.dictionary.specs.Row.{entries_of, HasColumn}
-use Rattle.dictionary.proofs.Found.{not_up_to}
+use Rattle.dictionary.proofs.EntryPlaces.{not_up_to}
 use Rattle.dictionary.proofs.finding.is_past.Goals as goal
 
 pub returns-clause-past : goal.returns-clause-past

@@ -1,6 +1,6 @@
 use Rattle.std.proofs.Common.{◌^◌, ◌<◌, length, subst, arith}
 use Rattle.dictionary.specs.Row.{entries_of, IsEntry}
-use Rattle.dictionary.proofs.Found.{entry_is}
+use Rattle.dictionary.proofs.EntryPlaces.{entry_is}
 use Rattle.dictionary.proofs.finding.value_there.Goals as goal
 
 pub returns-clause-found : goal.returns-clause-found

@@ -1,4 +1,4 @@
-use Rattle.dictionary.proofs.Told.{through_nonbasic, through_basic}
+use Rattle.dictionary.proofs.DictColumns.{through_nonbasic, through_basic}
 use Rattle.dictionary.proofs.laws.orders_go_through.Goals as goal
 
 pub returns-clause-nonbasic : goal.returns-clause-nonbasic

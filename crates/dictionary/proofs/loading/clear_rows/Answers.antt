@@ -1,8 +1,8 @@
 use Rattle.std.proofs.Common.{◌<◌, length, set, arith, ◌∙◌, ap}
 use Rattle.evidence.proofs.Columns.{by_eq, by_lt}
 use Rattle.dictionary.specs.Row.{entries_in}
-use Rattle.dictionary.proofs.Changed.{entries_set, entries_other, rooms_set, row_room}
-use Rattle.dictionary.proofs.Pivoted.{past_rows}
+use Rattle.dictionary.proofs.RowChanges.{entries_set, entries_other, rooms_set, row_room}
+use Rattle.dictionary.proofs.RowPivots.{past_rows}
 use Rattle.dictionary.proofs.loading.clear_rows.Goals as goal
 
 pub loop-r-preserved : goal.loop-r-preserved

@@ -1,7 +1,7 @@
 use Rattle.std.proofs.Common.{◌-◌, ◌<◌, length, w8, arith, ◌∙◌}
 use Rattle.std.proofs.lemmas.Int.{to_z-of_z}
-use Rattle.dictionary.proofs.Changed.{is_there, room_from, row_room, rooms_set}
-use Rattle.dictionary.proofs.Filled.{no_items, filled, rows_at}
+use Rattle.dictionary.proofs.RowChanges.{is_there, room_from, row_room, rooms_set}
+use Rattle.dictionary.proofs.ProgramRows.{no_items, filled, rows_at}
 use Rattle.dictionary.proofs.loading.load_rows.Goals as goal
 
 pub put_costs-requires-clause-cleared : goal.put_costs-requires-clause-cleared

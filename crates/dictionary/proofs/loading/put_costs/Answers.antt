@@ -1,7 +1,7 @@
 use Rattle.std.proofs.Common.{length, w8, arith}
 use Rattle.std.proofs.lemmas.Int.{to_z-of_z}
 use Rattle.dictionary.specs.Row.{entries_of}
-use Rattle.dictionary.proofs.Filled.{put_first, put_at, put_step, put_all, from_length}
+use Rattle.dictionary.proofs.ProgramRows.{put_first, put_at, put_step, put_all, from_length}
 use Rattle.dictionary.proofs.loading.put_costs.Goals as goal
 
 pub put_cost-requires : goal.put_cost-requires

@@ -2,8 +2,8 @@ use Rattle.std.proofs.Common.{◌≤◌, ◌+◌}
 use Rattle.fraction.specs.Frac.{ratios}
 use Rattle.evidence.specs.Point.{value_at}
 use Rattle.dictionary.specs.Row.{entries_of, room_of}
-use Rattle.dictionary.specs.Loaded.{times_sign}
-use Rattle.dictionary.proofs.Filled.{PutSoFar}
+use Rattle.dictionary.specs.ProgramRows.{times_sign}
+use Rattle.dictionary.proofs.ProgramRows.{PutSoFar}
 use Rattle.dictionary.proofs.loading.put_costs.Given as goal
 
 abbrev pub invariant-loop-j : goal.invariant-loop-j

@@ -2,9 +2,9 @@ use Rattle.std.proofs.Common.{◌+◌, ◌-◌, ◌<◌, ◌++◌, ◌∷◌, []
 use Rattle.evidence.proofs.Columns.{by_eq}
 use Rattle.dictionary.specs.declared.row.Item.{Item}
 use Rattle.dictionary.specs.Row.{entries_in}
-use Rattle.dictionary.specs.Loaded.{row_items}
-use Rattle.dictionary.proofs.Changed.{is_there, entries_set, entries_other, rooms_set, row_room, room_from}
-use Rattle.dictionary.proofs.Filled.{next_room, entry_row, items_next, items_stay}
+use Rattle.dictionary.specs.ProgramRows.{row_items}
+use Rattle.dictionary.proofs.RowChanges.{is_there, entries_set, entries_other, rooms_set, row_room, room_from}
+use Rattle.dictionary.proofs.ProgramRows.{next_room, entry_row, items_next, items_stay}
 use Rattle.dictionary.proofs.loading.put_entries.Goals as goal
 
 pub write-requires : goal.write-requires

@@ -1,6 +1,6 @@
 use Rattle.std.proofs.Common.{◌≡◌, ◌+◌, ℕ, take}
 use Rattle.dictionary.specs.Row.{entries_in, RowsHaveRoom}
-use Rattle.dictionary.specs.Loaded.{row_items}
+use Rattle.dictionary.specs.ProgramRows.{row_items}
 use Rattle.dictionary.proofs.loading.put_entries.Given as goal
 
 abbrev pub invariant-loop-k : goal.invariant-loop-k

@@ -2,7 +2,7 @@ use Rattle.std.proofs.Common.{◌≡◌, ◌<◌, ◌+◌, length, drop, arith}
 use Rattle.fraction.specs.Frac.{ratio}
 use Rattle.instance.proofs.Terms.{at_err}
 use Rattle.dictionary.specs.Row.{entries_of}
-use Rattle.dictionary.proofs.Next.{before_ended, before_next, takes_own, takes_product, takes_sum, wide_product, wide_sum, widened}
+use Rattle.dictionary.proofs.NextEntries.{before_ended, before_next, takes_own, takes_product, takes_sum, wide_product, wide_sum, widened}
 use Rattle.dictionary.proofs.merging.advance.Goals as goal
 
 pub append-requires : goal.append-requires

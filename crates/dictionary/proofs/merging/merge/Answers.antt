@@ -2,7 +2,7 @@ use Rattle.std.proofs.Common.{◌≤◌, ◌++◌, ◌∷◌, [], length, drop, 
 use Rattle.fraction.specs.Frac.{ratio}
 use Rattle.instance.proofs.Terms.{at_err}
 use Rattle.dictionary.specs.Row.{entries_of, room_of}
-use Rattle.dictionary.proofs.Merged.{Merging, merge_begun, merge_more, merge_room, merge_wide, merge_ended, merge_fits}
+use Rattle.dictionary.proofs.Merges.{Merging, merge_begun, merge_more, merge_room, merge_wide, merge_ended, merge_fits}
 use Rattle.dictionary.proofs.merging.merge.Goals as goal
 
 pub loop-used-init : goal.loop-used-init

@@ -1,7 +1,7 @@
 use Rattle.std.proofs.Common.{◌≤◌, ◌+◌, ◌-◌, ◌*◌, length, drop}
 use Rattle.fraction.specs.Frac.{ratio}
 use Rattle.dictionary.specs.Row.{entries_of, room_of}
-use Rattle.dictionary.proofs.Merged.{Merging}
+use Rattle.dictionary.proofs.Merges.{Merging}
 use Rattle.dictionary.proofs.merging.merge.Given as goal
 
 abbrev pub invariant-loop-used : goal.invariant-loop-used

@@ -1,7 +1,7 @@
 use Rattle.std.proofs.Common.{arith}
 use Rattle.instance.proofs.Terms.{at_err}
 use Rattle.dictionary.specs.Row.{entries_of}
-use Rattle.dictionary.proofs.Changed.{entry_cost}
+use Rattle.dictionary.proofs.RowChanges.{entry_cost}
 use Rattle.dictionary.proofs.replacing.change.Goals as goal
 
 pub returns-in_err-merge-in-Some-clause-wide : goal.returns-in_err-merge-in-Some-clause-wide

@@ -1,6 +1,6 @@
 use Rattle.std.proofs.Common.{◌≤◌, sym, subst}
 use Rattle.dictionary.specs.Row.{room_of}
-use Rattle.dictionary.proofs.Changed.{changed_at, room_there, swapped_room}
+use Rattle.dictionary.proofs.RowChanges.{changed_at, room_there, swapped_room}
 use Rattle.dictionary.proofs.replacing.replace_at.Goals as goal
 
 pub returns-then-is_changed-clause-room : goal.returns-then-is_changed-clause-room

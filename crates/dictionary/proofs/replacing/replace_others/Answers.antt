@@ -1,7 +1,7 @@
 use Rattle.std.proofs.Common.{◌<◌, ◌+◌, length, arith}
 use Rattle.instance.proofs.Terms.{at_err}
 use Rattle.dictionary.specs.Row.{room_of, entries_in}
-use Rattle.dictionary.proofs.Changed.{one_more, room_here, wide_here, cost_more, cost_up}
+use Rattle.dictionary.proofs.RowChanges.{one_more, room_here, wide_here, cost_more, cost_up}
 use Rattle.dictionary.proofs.replacing.replace_others.Goals as goal
 
 pub replace_at-requires-clause-room : goal.replace_at-requires-clause-room

@@ -3,7 +3,7 @@ use Rattle.fraction.specs.Frac.{ratio}
 use Rattle.instance.proofs.Terms.{on_err}
 use Rattle.dictionary.specs.declared.row.Item.{Item}
 use Rattle.dictionary.specs.Row.{entries_of, room_of}
-use Rattle.dictionary.specs.Merge.{MergeFits, IsMerged, HasRoom}
+use Rattle.dictionary.specs.Merge.{MergeFits, IsMerged, HasRowRoom}
 use Rattle.dictionary.proofs.OwnRow.{led_of, lead_row, factor_nonzero, solve_room, solved, solve_wide, both_ok}
 use Rattle.dictionary.proofs.solving.solve.Goals as goal
 
@@ -20,7 +20,7 @@ merge-requires-clause-factor g c =
 pub merge-requires-clause-room : goal.merge-requires-clause-room
 merge-requires-clause-room g c =
     let led = led_of (entries_of c.args.row.now) c.args.pivot c.in_ok-value.value c.neg.result c.one.result c.args.basic c.args.nonbasic c.requires.row c.requires.entry c.requires.absent c.requires.apart c.one.ensures.numer c.one.ensures.denom c.in_ok-value.ensures.ok c.neg.ensures in
-    subst (λ (l : List Item). HasRoom l (entries_of c.args.row.now) c.args.nonbasic (room_of c.args.out.now)) (sym c.hold.ensures.entries) (solve_room (entries_of c.args.row.now) (ratio c.args.pivot) c.args.basic c.args.nonbasic (ratio c.one.result) c.in_ok-value.value c.neg.result (record { col = c.args.basic; value = c.in_ok-value.value }) led (room_of c.args.out.now) c.requires.room)
+    subst (λ (l : List Item). HasRowRoom l (entries_of c.args.row.now) c.args.nonbasic (room_of c.args.out.now)) (sym c.hold.ensures.entries) (solve_room (entries_of c.args.row.now) (ratio c.args.pivot) c.args.basic c.args.nonbasic (ratio c.one.result) c.in_ok-value.value c.neg.result (record { col = c.args.basic; value = c.in_ok-value.value }) led (room_of c.args.out.now) c.requires.room)
 
 pub returns-clause-is : goal.returns-clause-is
 returns-clause-is g c =

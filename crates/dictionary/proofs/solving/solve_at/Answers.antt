@@ -3,7 +3,7 @@ use Rattle.dictionary.specs.declared.row.Item.{Item}
 use Rattle.std.proofs.Math.ListN.{length-set}
 use Rattle.dictionary.specs.Row.{room_of, entries_of, entries_in}
 use Rattle.dictionary.specs.Table.{IsSolvedBy}
-use Rattle.dictionary.proofs.Changed.{is_there, room_there, swapped_room, entries_set, entries_other}
+use Rattle.dictionary.proofs.RowChanges.{is_there, room_there, swapped_room, entries_set, entries_other}
 use Rattle.dictionary.proofs.solving.solve_at.Goals as goal
 
 pub returns-clause-room : goal.returns-clause-room

@@ -3,7 +3,7 @@ use Rattle.std.proofs.lemmas.List.{take_more, take_all}
 use Rattle.std.proofs.lemmas.Option.{get_or_from_slice_get}
 use Rattle.tree_grammar.specs.Elements.{Attribute, Open}
 use Rattle.element_tree.specs.Building.{Building, said}
-use Rattle.doc_tree.proofs.Stepwise.Answering.{OnOk-map}
+use Rattle.doc_tree.proofs.MachineSteps.Outcomes.{OnOk-map}
 use Rattle.doc_tree.proofs.gathering.begin.Goals as goal
 
 pub loop-k-preserved : goal.loop-k-preserved

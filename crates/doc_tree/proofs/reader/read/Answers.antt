@@ -1,6 +1,6 @@
 use Rattle.std.proofs.Common.{[], ◌∙◌}
 use Rattle.doc_tree.specs.Reading.{ReadsOnly}
-use Rattle.doc_tree.proofs.Told.Trees.{feed_ends, at_ok}
+use Rattle.doc_tree.proofs.TextTrees.Trees.{feed_ends, at_ok}
 use Rattle.doc_tree.proofs.reader.read.Goals as goal
 
 pub returns-in-Ok-clause-only : goal.returns-in-Ok-clause-only

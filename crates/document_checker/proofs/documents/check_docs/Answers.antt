@@ -3,7 +3,7 @@ use Rattle.std.proofs.lemmas.Result.{MatchResult-weaker, err_from_is_err_and}
 use Rattle.std.specs.Result.{IfErr}
 use Rattle.certificate.specs.Nodes.{nodes_of}
 use Rattle.document_checker.specs.Documents.{DocsRefuse}
-use Rattle.document_checker.proofs.Together.{accepted_text, report_refused, result_refused, read_fits}
+use Rattle.document_checker.proofs.Pairs.{accepted_text, report_refused, result_refused, read_fits}
 use Rattle.document_checker.proofs.documents.check_docs.Goals as goal
 
 pub returns-in_err-report-clause-err : goal.returns-in_err-report-clause-err

@@ -1,4 +1,4 @@
-use Rattle.document_checker.proofs.Accepted.{own_kind, documents_true}
+use Rattle.document_checker.proofs.Acceptance.{own_kind, documents_true}
 use Rattle.document_checker.proofs.laws.accepted_documents_are_true.Goals as goal
 
 pub returns-clause-kind : goal.returns-clause-kind

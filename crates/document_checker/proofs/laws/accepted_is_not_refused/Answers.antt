@@ -1,4 +1,4 @@
-use Rattle.document_checker.proofs.Apart.{accepted_apart}
+use Rattle.document_checker.proofs.Exclusion.{accepted_apart}
 use Rattle.document_checker.proofs.laws.accepted_is_not_refused.Goals as goal
 
 pub returns : goal.returns

@@ -1,4 +1,4 @@
-use Rattle.document_checker.proofs.Accepted.{one_kind}
+use Rattle.document_checker.proofs.Acceptance.{one_kind}
 use Rattle.document_checker.proofs.laws.documents_have_one_kind.Goals as goal
 
 pub returns : goal.returns

@@ -1,6 +1,6 @@
 use Rattle.std.proofs.Common.{◌∙◌, sym}
 use Rattle.element_tree.specs.Items.{event_at, attributes_of}
-use Rattle.document_tags.proofs.Spotted.{value_found, value_passed}
+use Rattle.document_tags.proofs.Spots.{value_found, value_passed}
 use Rattle.document_tags.proofs.attributes.value_at.Goals as goal
 
 pub returns-then-eq : goal.returns-then-eq

@@ -1,6 +1,6 @@
 use Rattle.std.proofs.Common.{[]}
 use Rattle.document_tags.specs.Elements.{children_named}
-use Rattle.document_tags.proofs.OnlyOne.{in_slice, none_yet}
+use Rattle.document_tags.proofs.OneChild.{in_slice, none_yet}
 use Rattle.document_tags.proofs.children.only_child.Goals as goal
 
 pub returns : goal.returns

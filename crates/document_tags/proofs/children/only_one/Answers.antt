@@ -1,4 +1,4 @@
-use Rattle.document_tags.proofs.OnlyOne.{none_only}
+use Rattle.document_tags.proofs.OneChild.{none_only}
 use Rattle.document_tags.proofs.children.only_one.Goals as goal
 
 pub returns-else-spots-eq1 : goal.returns-else-spots-eq1

@@ -1,6 +1,6 @@
 use Rattle.std.proofs.Common.{arith}
 use Rattle.std.proofs.lemmas.List.{drop_all}
-use Rattle.document_tags.proofs.Gathering.{gathers_none, never_over, gathered_none, gathered_some, depth_near}
+use Rattle.document_tags.proofs.ChildElements.{gathers_none, never_over, gathered_none, gathered_some, depth_near}
 use Rattle.document_tags.proofs.content.child_elements.Goals as goal
 
 pub overflow_add-at : goal.overflow_add-at

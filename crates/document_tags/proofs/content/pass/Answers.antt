@@ -1,5 +1,5 @@
-use Rattle.document_tags.proofs.Passed.{from_event, step_open, step_close}
-use Rattle.document_tags.proofs.Gathering.{deeper, at_own_start, chars_pass, at_own_end}
+use Rattle.document_tags.proofs.Passages.{from_event, step_open, step_close}
+use Rattle.document_tags.proofs.ChildElements.{deeper, at_own_start, chars_pass, at_own_end}
 use Rattle.document_tags.proofs.content.pass.Goals as goal
 
 pub returns-then-depth-gt0-clause-passes : goal.returns-then-depth-gt0-clause-passes

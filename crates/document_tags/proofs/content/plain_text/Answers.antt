@@ -1,7 +1,7 @@
 use Rattle.std.proofs.Common.{arith}
 use Rattle.document_tags.specs.Elements.{own_text}
 use Rattle.document_tags.specs.Rests.{child_elements}
-use Rattle.document_tags.proofs.OnlyOne.{some_inside}
+use Rattle.document_tags.proofs.OneChild.{some_inside}
 use Rattle.document_tags.proofs.content.plain_text.Goals as goal
 
 pub returns-then-len-gt0 : goal.returns-then-len-gt0

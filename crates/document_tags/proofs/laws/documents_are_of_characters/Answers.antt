@@ -1,4 +1,4 @@
-use Rattle.document_tags.proofs.OfCharacters.{document_of, within_of, own_of}
+use Rattle.document_tags.proofs.CharacterTexts.{document_of, within_of, own_of}
 use Rattle.document_tags.proofs.laws.documents_are_of_characters.Goals as goal
 
 pub returns : goal.returns

@@ -1,5 +1,5 @@
 use Rattle.std.proofs.Common.{arith}
-use Rattle.document_tags.proofs.Passed.{over_end}
+use Rattle.document_tags.proofs.Passages.{over_end}
 use Rattle.document_tags.proofs.passing.behind.Goals as goal
 
 pub returns-else-at-len-clause-behind : goal.returns-else-at-len-clause-behind

@@ -1,6 +1,6 @@
 use Rattle.std.proofs.Common.{◌≡◌, ℕ, ◌-◌, ◌≤◌, List, ◌∷◌, length, drop}
 use Rattle.tree_grammar.specs.Elements.{Nodes, Event, Close, nodes_events}
-use Rattle.document_tags.specs.Passing.{Pending}
+use Rattle.document_tags.specs.Passages.{Pending}
 use Rattle.document_tags.proofs.passing.behind.Given as goal
 
 abbrev pub invariant-loop-depth : goal.invariant-loop-depth

@@ -1,5 +1,5 @@
 use Rattle.std.proofs.Common.{arith}
-use Rattle.document_tags.proofs.Passed.{step_open, step_chars, step_close}
+use Rattle.document_tags.proofs.Passages.{step_open, step_chars, step_close}
 use Rattle.document_tags.proofs.passing.depth_behind.Goals as goal
 
 pub overflow_add-result : goal.overflow_add-result

@@ -1,6 +1,6 @@
 use Rattle.std.proofs.Common.{arith}
 use Rattle.std.proofs.lemmas.List.{drop_all}
-use Rattle.document_tags.proofs.Passed.{from_event, child_begins, content_ends, past_chars, remains_some}
+use Rattle.document_tags.proofs.Passages.{from_event, child_begins, content_ends, past_chars, remains_some}
 use Rattle.document_tags.proofs.passing.next_child.Goals as goal
 
 pub returns-in-Open-clause-next : goal.returns-in-Open-clause-next

@@ -1,6 +1,6 @@
 use Rattle.std.proofs.Common.{◌≡◌, ℕ, ◌-◌, ◌≤◌, List, ◌∷◌, length, drop}
 use Rattle.tree_grammar.specs.Elements.{Nodes, Event, Close, nodes_events}
-use Rattle.document_tags.specs.Passing.{Remains}
+use Rattle.document_tags.specs.Passages.{Remains}
 use Rattle.document_tags.proofs.passing.next_child.Given as goal
 
 abbrev pub invariant-loop-at : goal.invariant-loop-at

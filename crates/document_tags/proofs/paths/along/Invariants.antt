@@ -1,7 +1,7 @@
 use Rattle.std.proofs.Common.{List, drop, map}
 use Rattle.tree_grammar.specs.Elements.{Element}
 use Rattle.document_tags.specs.Spots.{AreSpots}
-use Rattle.document_tags.proofs.Spotted.{Leads}
+use Rattle.document_tags.proofs.Spots.{Leads}
 use Rattle.document_tags.proofs.paths.along.Given as goal
 
 abbrev pub invariant-loop-name : goal.invariant-loop-name

@@ -1,5 +1,5 @@
 use Rattle.document_tags.specs.Elements.{children_named}
-use Rattle.document_tags.proofs.Spotted.{steps_none, steps_more, from_item}
+use Rattle.document_tags.proofs.Spots.{steps_none, steps_more, from_item}
 use Rattle.document_tags.proofs.paths.step.Goals as goal
 
 pub loop-spot-init : goal.loop-spot-init

@@ -1,8 +1,8 @@
 use Rattle.std.proofs.Common.{ℕ, List, ◌∷◌, ◌∙◌, ap}
 use Rattle.element_tree.specs.Items.{event_at, attributes_of}
 use Rattle.document_tags.specs.Tags.{Level}
-use Rattle.document_tags.specs.Coming.{levels_of}
-use Rattle.document_tags.proofs.Coming.{levels_pushed}
+use Rattle.document_tags.specs.NextTags.{levels_of}
+use Rattle.document_tags.proofs.NextTags.{levels_pushed}
 use Rattle.document_tags.proofs.reaching.add_element.Goals as goal
 
 pub returns : goal.returns

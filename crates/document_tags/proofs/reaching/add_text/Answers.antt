@@ -1,7 +1,7 @@
 use Rattle.std.proofs.Common.{◌∙◌, ◌∷◌, ap, sym}
 use Rattle.document_tags.specs.Tags.{with_text}
-use Rattle.document_tags.specs.Coming.{level_of, levels_of}
-use Rattle.document_tags.proofs.Coming.{levels_pushed, popped}
+use Rattle.document_tags.specs.NextTags.{level_of, levels_of}
+use Rattle.document_tags.proofs.NextTags.{levels_pushed, popped}
 use Rattle.document_tags.proofs.reaching.add_text.Goals as goal
 
 pub returns-in_ok-push : goal.returns-in_ok-push

@@ -1,6 +1,6 @@
 use Rattle.std.proofs.Common.{◌∙◌, Bool, ap, sym, arith}
-use Rattle.document_tags.specs.Coming.{levels_of, left}
-use Rattle.document_tags.proofs.Coming.{left_popped}
+use Rattle.document_tags.specs.NextTags.{levels_of, left}
+use Rattle.document_tags.proofs.NextTags.{left_popped}
 use Rattle.document_tags.proofs.reaching.leave.Goals as goal
 
 pub returns-then-not-is_start : goal.returns-then-not-is_start

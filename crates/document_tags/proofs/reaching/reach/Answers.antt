@@ -1,8 +1,8 @@
 use Rattle.std.proofs.Common.{◌≡◌, ◌∙◌, ap, sym, true, arith}
 use Rattle.document_tags.specs.Tags.{tags_from}
-use Rattle.document_tags.specs.Coming.{levels_of}
-use Rattle.document_tags.proofs.Passed.{from_event}
-use Rattle.document_tags.proofs.Coming.{close_comes, opened_some}
+use Rattle.document_tags.specs.NextTags.{levels_of}
+use Rattle.document_tags.proofs.Passages.{from_event}
+use Rattle.document_tags.proofs.NextTags.{close_comes, opened_some}
 use Rattle.document_tags.proofs.reaching.reach.Goals as goal
 
 pub returns-then-not-is_none-clause-comes : goal.returns-then-not-is_none-clause-comes

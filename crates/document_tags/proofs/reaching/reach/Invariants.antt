@@ -1,6 +1,6 @@
 use Rattle.std.proofs.Common.{◌≡◌, ◌-◌, ◌≤◌, length, drop}
 use Rattle.document_tags.specs.Tags.{tags_from}
-use Rattle.document_tags.specs.Coming.{levels_of}
+use Rattle.document_tags.specs.NextTags.{levels_of}
 use Rattle.document_tags.proofs.reaching.reach.Given as goal
 
 abbrev pub invariant-loop-at : goal.invariant-loop-at

@@ -1,7 +1,7 @@
 use Rattle.std.proofs.Common.{◌∙◌, sym, subst}
 use Rattle.std.proofs.lemmas.Bool.{false≢true}
 use Rattle.instance.specs.Parts.{IsValid}
-use Rattle.generator.proofs.Valid.{valid, made_parts}
+use Rattle.generator.proofs.Validity.{valid, made_parts}
 use Rattle.generator.proofs.instances.make.Goals as goal
 
 pub unreachable-requires : goal.unreachable-requires

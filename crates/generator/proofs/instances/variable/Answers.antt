@@ -2,7 +2,7 @@ use Rattle.std.proofs.Common.{nat_lt, ◌∙◌, ap, lit≤}
 use Rattle.fraction.specs.declared.frac.Frac.{Frac}
 use Rattle.fraction.specs.declared.ends.End.TheVariants.{At}
 use Rattle.instance.specs.declared.parts.Var.{Var}
-use Rattle.generator.specs.Generated.{natural}
+use Rattle.generator.specs.Instances.{natural}
 use Rattle.generator.proofs.Naturals.{is_natural}
 use Rattle.generator.proofs.instances.variable.Goals as goal
 

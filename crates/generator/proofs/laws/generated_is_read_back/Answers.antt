@@ -1,5 +1,5 @@
 use Rattle.std.proofs.Common.{arith}
-use Rattle.generator.specs.Generated.{generated}
+use Rattle.generator.specs.Instances.{generated}
 use Rattle.generator.proofs.laws.generated_is_read_back.Goals as goal
 
 pub returns-clause-own : goal.returns-clause-own

@@ -1,4 +1,4 @@
-use Rattle.http_link.proofs.NumberLemmas.{past_most}
+use Rattle.http_link.proofs.Numbers.{past_most}
 use Rattle.http_link.proofs.checks.number_within.Goals as goal
 
 pub returns-then-number-most : goal.returns-then-number-most

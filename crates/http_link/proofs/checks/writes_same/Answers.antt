@@ -1,7 +1,7 @@
 use Rattle.std.proofs.Common.{◌≡◌, rules}
 use Rattle.std.specs.Str.{bytes_eq}
 use Rattle.http_link.specs.Checks.{without_zeros}
-use Rattle.http_link.proofs.NumberLemmas.{same_by_digits}
+use Rattle.http_link.proofs.Numbers.{same_by_digits}
 use Rattle.http_link.proofs.checks.writes_same.Goals as goal
 
 pub returns-then-is_number : goal.returns-then-is_number

@@ -1,6 +1,6 @@
 use Rattle.std.proofs.Common.{refl, arith}
 use Rattle.std.specs.Prelude.{codes}
-use Rattle.http_link.proofs.BackLemmas.{answer_back}
+use Rattle.http_link.proofs.ReadBacks.{answer_back}
 use Rattle.http_link.proofs.laws.answers_are_read_back.Goals as goal
 
 pub returns-clause-answer : goal.returns-clause-answer

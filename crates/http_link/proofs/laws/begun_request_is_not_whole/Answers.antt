@@ -1,4 +1,4 @@
-use Rattle.http_link.proofs.OnceLemmas.{begun_no_request, begun_not_refused}
+use Rattle.http_link.proofs.OneRequest.{begun_no_request, begun_not_refused}
 use Rattle.http_link.proofs.laws.begun_request_is_not_whole.Goals as goal
 
 pub returns-clause-request : goal.returns-clause-request

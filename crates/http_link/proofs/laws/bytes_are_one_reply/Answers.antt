@@ -1,4 +1,4 @@
-use Rattle.http_link.proofs.ReplyOnceLemmas.{reply_once}
+use Rattle.http_link.proofs.OneReply.{reply_once}
 use Rattle.http_link.proofs.laws.bytes_are_one_reply.Goals as goal
 
 pub returns : goal.returns

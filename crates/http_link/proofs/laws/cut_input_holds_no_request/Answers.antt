@@ -1,4 +1,4 @@
-use Rattle.http_link.proofs.OnceLemmas.{begun_no_request, begun_not_refused}
+use Rattle.http_link.proofs.OneRequest.{begun_no_request, begun_not_refused}
 use Rattle.http_link.proofs.laws.cut_input_holds_no_request.Goals as goal
 
 pub returns-clause-request : goal.returns-clause-request

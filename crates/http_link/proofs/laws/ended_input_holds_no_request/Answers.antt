@@ -1,4 +1,4 @@
-use Rattle.http_link.proofs.OnceLemmas.{begun_no_request, begun_not_refused, ended_begun}
+use Rattle.http_link.proofs.OneRequest.{begun_no_request, begun_not_refused, ended_begun}
 use Rattle.http_link.proofs.laws.ended_input_holds_no_request.Goals as goal
 
 pub returns-clause-request : goal.returns-clause-request

@@ -1,4 +1,4 @@
-use Rattle.http_link.proofs.OnceLemmas.{head_once}
+use Rattle.http_link.proofs.OneRequest.{head_once}
 use Rattle.http_link.proofs.laws.one_head_comes_first.Goals as goal
 
 pub returns-clause-bytes : goal.returns-clause-bytes

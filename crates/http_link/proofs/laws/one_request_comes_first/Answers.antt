@@ -1,4 +1,4 @@
-use Rattle.http_link.proofs.OnceLemmas.{request_once, request_not_refused}
+use Rattle.http_link.proofs.OneRequest.{request_once, request_not_refused}
 use Rattle.http_link.proofs.laws.one_request_comes_first.Goals as goal
 
 pub returns-clause-bytes : goal.returns-clause-bytes

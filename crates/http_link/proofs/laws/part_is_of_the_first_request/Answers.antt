@@ -1,4 +1,4 @@
-use Rattle.http_link.proofs.OnceLemmas.{part_of_request, part_of_refused, begun_part, request_part}
+use Rattle.http_link.proofs.OneRequest.{part_of_request, part_of_refused, begun_part, request_part}
 use Rattle.http_link.proofs.laws.part_is_of_the_first_request.Goals as goal
 
 pub returns-clause-request : goal.returns-clause-request

@@ -1,4 +1,4 @@
-use Rattle.http_link.proofs.BackLemmas.{refusal_back}
+use Rattle.http_link.proofs.ReadBacks.{refusal_back}
 use Rattle.http_link.proofs.laws.refusals_are_read_back.Goals as goal
 
 pub returns : goal.returns

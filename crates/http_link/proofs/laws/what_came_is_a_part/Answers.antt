@@ -1,4 +1,4 @@
-use Rattle.http_link.proofs.ReplyOnceLemmas.{done_part, begun_part}
+use Rattle.http_link.proofs.OneReply.{done_part, begun_part}
 use Rattle.http_link.proofs.laws.what_came_is_a_part.Goals as goal
 
 pub returns-clause-done : goal.returns-clause-done

@@ -1,6 +1,6 @@
 use Rattle.std.proofs.Common.{◌≡◌, ◌++◌, arith, rules, false, sym, ◌∙◌}
 use Rattle.http_link.specs.Replies.{is_whole}
-use Rattle.http_link.proofs.ReplyOnceLemmas.{short_no_reply}
+use Rattle.http_link.proofs.OneReply.{short_no_reply}
 use Rattle.http_link.proofs.replies.join.Goals as goal
 
 pub returns-else-is_whole-clause-reply : goal.returns-else-is_whole-clause-reply

@@ -1,9 +1,9 @@
 use Rattle.std.proofs.Common.{◌≡◌, None, Some, refl, sym, ap, length, ◌∙◌, arith}
 use Rattle.http_link.specs.declared.requests.HeadRead.TheVariants as heads
 use Rattle.http_link.specs.declared.requests.BodyRead.TheVariants.{Whole, Cut}
-use Rattle.http_link.proofs.RequestLemmas.{head_at}
-use Rattle.http_link.proofs.ReplyLemmas.{head_says, large_says, cut_begun, blank_begun, comes_refused, comes_large, comes_cut, comes_blank, comes_whole, comes_short, brings_body_fault, brings_head_fault, brings_joined, reads_of, body_of, fault_of}
-use Rattle.http_link.proofs.ReplyOnceLemmas.{refused_no_reply, begun_no_reply}
+use Rattle.http_link.proofs.RequestSteps.{head_at}
+use Rattle.http_link.proofs.ReplySteps.{head_says, large_says, cut_begun, blank_begun, comes_refused, comes_large, comes_cut, comes_blank, comes_whole, comes_short, brings_body_fault, brings_head_fault, brings_joined, reads_of, body_of, fault_of}
+use Rattle.http_link.proofs.OneReply.{refused_no_reply, begun_no_reply}
 use Rattle.http_link.proofs.replies.read_response.Goals as goal
 
 pub returns-in_default-clause-came : goal.returns-in_default-clause-came

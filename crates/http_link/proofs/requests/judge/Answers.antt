@@ -1,4 +1,4 @@
-use Rattle.http_link.proofs.HeadLemmas.{judged}
+use Rattle.http_link.proofs.Heads.{judged}
 use Rattle.http_link.proofs.requests.judge.Goals as goal
 
 pub returns : goal.returns

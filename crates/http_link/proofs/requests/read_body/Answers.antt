@@ -1,5 +1,5 @@
 use Rattle.std.proofs.Common.{arith}
-use Rattle.http_link.proofs.RequestLemmas.{body_fault}
+use Rattle.http_link.proofs.RequestSteps.{body_fault}
 use Rattle.http_link.proofs.requests.read_body.Goals as goal
 
 pub returns-in-Err-clause-answer : goal.returns-in-Err-clause-answer

@@ -1,6 +1,6 @@
 use Rattle.std.proofs.Common.{◌≡◌, ◌∷◌, [], Some, length, ap, arith, rules, true, false, length-append}
-use Rattle.http_link.proofs.ToldLemmas.{took_more}
-use Rattle.http_link.proofs.RequestLemmas.{head_fault, head_cut, head_large, head_found, head_lost, end_at, byte_at, pushed_at, took_as}
+use Rattle.http_link.proofs.LinkReads.{took_more}
+use Rattle.http_link.proofs.RequestSteps.{head_fault, head_cut, head_large, head_found, head_lost, end_at, byte_at, pushed_at, took_as}
 use Rattle.http_link.proofs.requests.read_head.Goals as goal
 
 pub returns-in_default-clause-answer : goal.returns-in_default-clause-answer

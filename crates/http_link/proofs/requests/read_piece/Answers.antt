@@ -1,5 +1,5 @@
 use Rattle.std.proofs.Common.{rules, arith}
-use Rattle.http_link.proofs.ToldLemmas.{lost_piece}
+use Rattle.http_link.proofs.LinkReads.{lost_piece}
 use Rattle.http_link.proofs.requests.read_piece.Goals as goal
 
 pub returns-in-Err-clause-fault : goal.returns-in-Err-clause-fault

@@ -2,7 +2,7 @@ use Rattle.std.proofs.Common.{Ok, List, ℕ, subst}
 use Rattle.http_link.specs.Checks.{Head}
 use Rattle.http_link.specs.declared.requests.BodyRead.TheVariants as bodies
 use Rattle.http_link.specs.declared.requests.HeadRead.TheVariants.{Whole}
-use Rattle.http_link.proofs.RequestLemmas.{answer_body, answer_cut, answer_fault, head_at, body_at}
+use Rattle.http_link.proofs.RequestSteps.{answer_body, answer_cut, answer_fault, head_at, body_at}
 use Rattle.http_link.proofs.requests.read_request.Goals as goal
 
 pub returns-in-Ok-Whole-read_body-clause-answer : goal.returns-in-Ok-Whole-read_body-clause-answer

@@ -1,7 +1,7 @@
 use Rattle.std.proofs.Common.{◌∙◌, ◌++◌, length}
 use Rattle.std.specs.Prelude.{decimal}
 use Rattle.os_io.proofs.Pieces.{writes_then, writes_part, writes_same}
-use Rattle.http_link.proofs.WrittenLemmas.{behind_parts}
+use Rattle.http_link.proofs.Bodies.{behind_parts}
 use Rattle.http_link.proofs.responses.write_behind.Goals as goal
 
 pub returns-in_err-write_all : goal.returns-in_err-write_all

@@ -5,7 +5,7 @@ use Rattle.evidence.specs.Instance as Of
 use Rattle.evidence.specs.Point.{value_at}
 use Rattle.evidence.specs.Columns.{Keeps}
 use Rattle.instance.specs.Program.{variable}
-use Rattle.instance.specs.Feasible.{variable_of}
+use Rattle.instance.specs.Feasibility.{variable_of}
 use Rattle.instance.proofs.Terms.{read}
 use Rattle.instance.proofs.ends.first_out.Goals as goal
 

@@ -1,4 +1,4 @@
-use Rattle.job_runs.proofs.Working.{entered_run, solved, unsolved}
+use Rattle.job_runs.proofs.Runs.{entered_run, solved, unsolved}
 use Rattle.job_runs.proofs.solving.solve.Goals as goal
 
 pub returns-in-Ok-retrieve-clause-ok : goal.returns-in-Ok-retrieve-clause-ok

@@ -1,4 +1,4 @@
-use Rattle.job_runs.proofs.Working.{run_of}
+use Rattle.job_runs.proofs.Runs.{run_of}
 use Rattle.job_runs.proofs.work.run_given.Goals as goal
 
 pub returns : goal.returns

@@ -1,5 +1,5 @@
 use Rattle.std.proofs.Common.{rules, sym}
-use Rattle.job_runs.proofs.Working.{watched, none_stopped}
+use Rattle.job_runs.proofs.Runs.{watched, none_stopped}
 use Rattle.job_runs.proofs.work.run_watched.Goals as goal
 
 pub returns-clause-ran : goal.returns-clause-ran

@@ -1,4 +1,4 @@
-use Rattle.job_runs.proofs.Working.{claimed_run}
+use Rattle.job_runs.proofs.Runs.{claimed_run}
 use Rattle.job_runs.proofs.work.work_one.Goals as goal
 
 pub returns-in-Some : goal.returns-in-Some

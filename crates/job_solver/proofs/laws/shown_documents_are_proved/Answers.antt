@@ -1,4 +1,4 @@
-use Rattle.job_solver.proofs.Proved.{shown_proved}
+use Rattle.job_solver.proofs.ProvedDocuments.{shown_proved}
 use Rattle.job_solver.proofs.laws.shown_documents_are_proved.Goals as goal
 
 pub returns : goal.returns

@@ -1,4 +1,4 @@
-use Rattle.os_app.proofs.Judging.{answer_about_files, answer_of_texts, held_still}
+use Rattle.os_app.proofs.Verdicts.{answer_about_files, answer_of_texts, held_still}
 use Rattle.os_app.proofs.checking.answer_about.Goals as goal
 
 pub returns-in-Ok-clause-ok : goal.returns-in-Ok-clause-ok

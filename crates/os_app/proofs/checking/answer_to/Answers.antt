@@ -1,4 +1,4 @@
-use Rattle.os_app.proofs.Judging.{answer_to, status_same}
+use Rattle.os_app.proofs.Verdicts.{answer_to, status_same}
 use Rattle.os_app.proofs.checking.answer_to.Goals as goal
 
 pub returns : goal.returns

@@ -1,15 +1,15 @@
 use Rattle.std.proofs.lemmas.Result.{IfOk-weaker}
 use Rattle.std.proofs.Common.{◌∙◌, Some, ap, arith, refl}
-use Rattle.command_answers.proofs.Sending.{sent, broken}
-use Rattle.command_line.proofs.Asks.{asks_it, asks_none}
-use Rattle.os_app.proofs.Running.{other_fails, other_helped}
-use Rattle.os_app.proofs.Deciding.{serve_runs}
-use Rattle.os_app.proofs.Deciding.{links_none, names_none, session_runs, unheard_runs}
+use Rattle.command_answers.proofs.Outputs.{sent, broken}
+use Rattle.command_line.proofs.Meanings.{asks_it, asks_none}
+use Rattle.os_app.proofs.OtherWords.{other_fails, other_helped}
+use Rattle.os_app.proofs.Words.{serve_runs}
+use Rattle.os_app.proofs.Words.{links_none, names_none, session_runs, unheard_runs}
 use Rattle.os_app.proofs.Calls.{call_runs, none_named}
 use Rattle.os_app.proofs.Checks.{check_runs}
 use Rattle.os_app.proofs.Summaries.{generate_runs}
 use Rattle.os_app.proofs.Solves.{about_named, solve_runs}
-use Rattle.os_app.proofs.Telling.{ends_of, made_ends, told_from}
+use Rattle.os_app.proofs.Ends.{ends_of, made_ends, told_from}
 use Rattle.os_app.proofs.command.run.Goals as goal
 
 pub returns-in-Ok-Some-Session-clause-runs : goal.returns-in-Ok-Some-Session-clause-runs

@@ -1,4 +1,4 @@
-use Rattle.os_app.proofs.Telling.{told_of}
+use Rattle.os_app.proofs.Ends.{told_of}
 use Rattle.os_app.proofs.command.tell.Goals as goal
 
 pub returns-in-Ok-clause-told : goal.returns-in-Ok-clause-told

@@ -1,4 +1,4 @@
-use Rattle.command_answers.proofs.Sending.{named_still}
+use Rattle.command_answers.proofs.Outputs.{named_still}
 use Rattle.os_app.proofs.Solves.{document_about, right_of_texts}
 use Rattle.os_app.proofs.solving.solve_files.Goals as goal
 

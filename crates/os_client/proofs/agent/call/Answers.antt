@@ -1,6 +1,6 @@
 use Rattle.std.proofs.Common.{◌∙◌, refl, Err}
 use Rattle.os_client.specs.declared.fault.CallFault.TheVariants.{WriteFault}
-use Rattle.os_client.proofs.CallLemmas.{asked_listened, fails_to_ask, calls_of}
+use Rattle.os_client.proofs.CallSteps.{asked_listened, fails_to_ask, calls_of}
 use Rattle.os_client.proofs.agent.call.Goals as goal
 
 pub returns-in-Ok-ask : goal.returns-in-Ok-ask

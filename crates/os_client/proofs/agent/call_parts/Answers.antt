@@ -1,5 +1,5 @@
-use Rattle.os_client.specs.Calling.{calling}
-use Rattle.os_client.proofs.CallLemmas.{calls_as}
+use Rattle.os_client.specs.LinkCalls.{calling}
+use Rattle.os_client.proofs.CallSteps.{calls_as}
 use Rattle.os_client.proofs.agent.call_parts.Goals as goal
 
 pub returns : goal.returns

@@ -1,4 +1,4 @@
-use Rattle.os_client.proofs.CallLemmas.{listened}
+use Rattle.os_client.proofs.CallSteps.{listened}
 use Rattle.os_client.proofs.agent.listen.Goals as goal
 
 pub returns-in-Ok-clause-came : goal.returns-in-Ok-clause-came

@@ -1,4 +1,4 @@
-use Rattle.os_client.proofs.ReadingLemmas.{said_once}
+use Rattle.os_client.proofs.Readings.{said_once}
 use Rattle.os_client.proofs.laws.bytes_have_one_answer.Goals as goal
 
 pub returns : goal.returns

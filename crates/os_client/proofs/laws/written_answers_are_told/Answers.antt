@@ -1,10 +1,10 @@
 use Rattle.std.proofs.Common.{◌++◌, Ok, Err, codes}
 use Rattle.http_link.specs.Replies.{code_of}
-use Rattle.http_link.specs.Responses.{answer_text, fault_answer_text, refusal_text}
+use Rattle.http_link.specs.Responses.{answer_text, fault_answer_text, refusal_bytes}
 use Rattle.six_calls.specs.Names.{kind_text}
 use Rattle.soap_calls.specs.Writing.{reply_text, fault_text}
 use Rattle.os_client.specs.declared.fault.CallFault.TheVariants.{Refused, Http}
-use Rattle.os_client.specs.Written.{returned_status, fault_line, http_line}
+use Rattle.os_client.specs.Outputs.{returned_status, fault_line, http_line}
 use Rattle.os_client.proofs.ServerAnswers.{told_of, due_is}
 use Rattle.os_client.proofs.laws.written_answers_are_told.Goals as goal
 
@@ -25,6 +25,6 @@ returns-clause-fault c status run code text xml xml_text short gives ends which 
 
 pub returns-clause-refused : goal.returns-clause-refused
 returns-clause-refused c status run refusal gives ends which =
-    let told = told_of c.bytes_have_one_answer.ensures c.one_reply_comes_first.ensures status run (refusal_text refusal) (Err (Http (code_of refusal)))
+    let told = told_of c.bytes_have_one_answer.ensures c.one_reply_comes_first.ensures status run (refusal_bytes refusal) (Err (Http (code_of refusal)))
     (c.refusals_are_read_back.ensures refusal).1 (c.written_answers_are_heard.ensures.refused (kind_text run.kind) refusal) gives ends which in
     due_is status 1 (http_line (code_of refusal)) told.0 run.output run.output_after told.1 told.2

@@ -2,7 +2,7 @@ use Rattle.std.proofs.Common.{inr, refl, subst, Option}
 use Rattle.http_link.specs.Replies.{Replies}
 use Rattle.http_link.specs.declared.replies.Response.{Response}
 use Rattle.soap_calls.specs.declared.fault.Answer.TheVariants.{Return, Fault}
-use Rattle.os_client.proofs.ReadingLemmas.{no_response, response_of, of_other_status, said_of, none_said, not_said}
+use Rattle.os_client.proofs.Readings.{no_response, response_of, of_other_status, said_of, none_said, not_said}
 use Rattle.os_client.proofs.reading.reading.Goals as goal
 
 pub returns-in_default : goal.returns-in_default

@@ -1,4 +1,4 @@
-use Rattle.os_client.proofs.ReadingLemmas.{unanswered}
+use Rattle.os_client.proofs.Readings.{unanswered}
 use Rattle.os_client.proofs.reading.unanswered_is_no_reply.Goals as goal
 
 pub returns : goal.returns

@@ -1,4 +1,4 @@
-use Rattle.os_server.proofs.Deciding.{written_once}
+use Rattle.os_server.proofs.OneOutput.{written_once}
 use Rattle.os_server.proofs.laws.bytes_and_replies_decide_the_answers.Goals as goal
 
 pub returns : goal.returns

@@ -1,4 +1,4 @@
-use Rattle.os_server.proofs.Cutting.{cut_one_way}
+use Rattle.os_server.proofs.RequestCuts.{cut_one_way}
 use Rattle.os_server.proofs.laws.bytes_are_cut_one_way.Goals as goal
 
 pub returns : goal.returns

@@ -1,5 +1,5 @@
 use Rattle.os_server.specs.Talk.{AtEnd}
-use Rattle.os_server.proofs.Kept.{talk_kept}
+use Rattle.os_server.proofs.Finishes.{talk_kept}
 use Rattle.os_server.proofs.laws.conversations_are_kept.Goals as goal
 
 pub returns : goal.returns

@@ -1,4 +1,4 @@
-use Rattle.os_server.proofs.Away.{turned, cut_off}
+use Rattle.os_server.proofs.NoMemory.{turned, cut_off}
 use Rattle.os_server.proofs.serve.turn_away.Goals as goal
 
 pub returns-in-Ok-clause-serves : goal.returns-in-Ok-clause-serves

@@ -1,5 +1,5 @@
 use Rattle.std.proofs.Common.{arith}
-use Rattle.osil_grammar.proofs.Counting.{counts_next, counts_all}
+use Rattle.osil_grammar.proofs.CostCounts.{counts_next, counts_all}
 use Rattle.osil_grammar.proofs.document.count_costs.Goals as goal
 
 pub loop-cost-preserved : goal.loop-cost-preserved

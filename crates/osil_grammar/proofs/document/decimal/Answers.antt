@@ -1,7 +1,7 @@
 use Rattle.std.proofs.Common.{◌≡◌, ◌∙◌, ◌++◌, List, ℕ, ap, subst, sym}
 use Rattle.fraction.specs.Frac.{ratio}
 use Rattle.decimal_text.specs.Plain.{PlainText}
-use Rattle.osil_grammar.proofs.NotEmpty.{decimal_not_empty}
+use Rattle.osil_grammar.proofs.NonemptyTexts.{decimal_not_empty}
 use Rattle.osil_grammar.proofs.document.decimal.Goals as goal
 
 pub returns-in-Ok : goal.returns-in-Ok

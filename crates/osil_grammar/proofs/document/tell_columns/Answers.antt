@@ -5,9 +5,9 @@ use Rattle.tree_grammar.specs.Elements.{Nodes, nodes_events}
 use Rattle.fraction.specs.declared.ends.Entry.{Entry}
 use Rattle.osil_grammar.specs.Writing.{counts_nodes}
 use Rattle.document_tags.specs.Telling.{Told}
-use Rattle.document_tags.proofs.Told.{told_around}
-use Rattle.osil_grammar.proofs.Told.{one_told, all_told}
-use Rattle.osil_grammar.proofs.Joined.{WriteColumns, columns_join}
+use Rattle.document_tags.proofs.Tellings.{told_around}
+use Rattle.osil_grammar.proofs.Tellings.{one_told, all_told}
+use Rattle.osil_grammar.proofs.NodeJoins.{WriteColumns, columns_join}
 use Rattle.osil_grammar.proofs.document.tell_columns.Goals as goal
 
 pub loop-entry-preserved : goal.loop-entry-preserved

@@ -1,6 +1,6 @@
 use Rattle.fraction.specs.declared.ends.Entry.{Entry}
-use Rattle.osil_grammar.proofs.Told.{ToldFirst}
-use Rattle.osil_grammar.proofs.Joined.{WriteColumns}
+use Rattle.osil_grammar.proofs.Tellings.{ToldFirst}
+use Rattle.osil_grammar.proofs.NodeJoins.{WriteColumns}
 use Rattle.osil_grammar.proofs.document.tell_columns.Given as goal
 
 abbrev pub invariant-loop-entry : goal.invariant-loop-entry

@@ -1,5 +1,5 @@
 use Rattle.osil_grammar.specs.Writing.{HasDecimal, WriteCosts}
-use Rattle.osil_grammar.proofs.Told.{ToldFirst}
+use Rattle.osil_grammar.proofs.Tellings.{ToldFirst}
 use Rattle.osil_grammar.proofs.document.tell_costs.Given as goal
 
 abbrev pub invariant-loop-j : goal.invariant-loop-j

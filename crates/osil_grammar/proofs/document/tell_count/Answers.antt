@@ -1,5 +1,5 @@
 use Rattle.std.proofs.Common.{◌∙◌, ◌<◌, ◌^◌, sym, arith}
-use Rattle.osil_grammar.proofs.NotEmpty.{count_not_empty}
+use Rattle.osil_grammar.proofs.NonemptyTexts.{count_not_empty}
 use Rattle.osil_grammar.proofs.document.tell_count.Goals as goal
 
 pub leaf-requires : goal.leaf-requires

@@ -8,9 +8,9 @@ use Rattle.instance.specs.declared.parts.Row.{Row}
 use Rattle.instance.specs.declared.parts.Goal.{Goal}
 use Rattle.osil_grammar.specs.Writing.{HasDecimal, HasDecimals, WriteVars, WriteRows, WritesGoal, WriteLists}
 use Rattle.osil_grammar.specs.Telling.{GoalHasDecimals, EndsHaveTexts}
-use Rattle.osil_grammar.proofs.Told.{none_of}
+use Rattle.osil_grammar.proofs.Tellings.{none_of}
 use Rattle.osil_grammar.proofs.Parts.{ToldSome}
-use Rattle.osil_grammar.proofs.Whole.{IsPart, whole_told}
+use Rattle.osil_grammar.proofs.WholeInstance.{IsPart, whole_told}
 use Rattle.osil_grammar.proofs.document.tell_instance.Goals as goal
 
 pub returns-in_err-tell_goal : goal.returns-in_err-tell_goal

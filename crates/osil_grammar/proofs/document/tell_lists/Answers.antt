@@ -1,5 +1,5 @@
 use Rattle.std.proofs.Common.{◌≡◌, []}
-use Rattle.osil_grammar.proofs.Whole.{lists_told, not_empty}
+use Rattle.osil_grammar.proofs.WholeInstance.{lists_told, not_empty}
 use Rattle.osil_grammar.proofs.document.tell_lists.Goals as goal
 
 pub returns : goal.returns

@@ -1,7 +1,7 @@
 use Rattle.std.proofs.Common.{refl, length}
 use Rattle.std.specs.Prelude.{codes}
 use Rattle.tree_grammar.specs.Elements.{none}
-use Rattle.document_tags.specs.Writing.{counted}
+use Rattle.document_tags.specs.Writing.{counted_element}
 use Rattle.osil_grammar.proofs.Parts.{counted_told}
 use Rattle.osil_grammar.proofs.document.tell_matrix.Goals as goal
 
@@ -9,4 +9,4 @@ pub returns : goal.returns
 returns c =
     let one = c.in_ok-tell_lists.ensures in
     let n = length c.args.entries.now in
-    (one.0, counted (codes "linearConstraintCoefficients") (codes "numberOfValues") n one.1 none, (one.1, one.2, refl), counted_told _ _ _ _ (codes "linearConstraintCoefficients") (codes "numberOfValues") n one.1 c.requires.waiting c.in_ok-open_counted.ensures one.3 c.in_ok-close.ensures)
+    (one.0, counted_element (codes "linearConstraintCoefficients") (codes "numberOfValues") n one.1 none, (one.1, one.2, refl), counted_told _ _ _ _ (codes "linearConstraintCoefficients") (codes "numberOfValues") n one.1 c.requires.waiting c.in_ok-open_counted.ensures one.3 c.in_ok-close.ensures)

@@ -6,7 +6,7 @@ use Rattle.fraction.specs.declared.frac.Frac.{Frac}
 use Rattle.decimal_text.specs.Plain.{PlainText}
 use Rattle.osil_grammar.specs.Writing.{HasDecimal, CountsCosts, WriteCosts}
 use Rattle.osil_grammar.specs.Telling.{GoalHasDecimals}
-use Rattle.osil_grammar.proofs.Told.{none_of}
+use Rattle.osil_grammar.proofs.Tellings.{none_of}
 use Rattle.osil_grammar.proofs.Parts.{objective_told}
 use Rattle.osil_grammar.proofs.document.tell_objective.Goals as goal
 

@@ -2,11 +2,11 @@ use Rattle.std.proofs.Common.{refl, arith, length}
 use Rattle.std.specs.Prelude.{codes}
 use Rattle.tree_grammar.specs.Elements.{none}
 use Rattle.instance.specs.declared.parts.Row.{Row}
-use Rattle.document_tags.specs.Writing.{counted}
+use Rattle.document_tags.specs.Writing.{counted_element}
 use Rattle.osil_grammar.specs.Writing.{WriteRows}
 use Rattle.osil_grammar.specs.Telling.{EndsHaveTexts}
-use Rattle.osil_grammar.proofs.Told.{one_told, all_told}
-use Rattle.osil_grammar.proofs.Joined.{rows_join}
+use Rattle.osil_grammar.proofs.Tellings.{one_told, all_told}
+use Rattle.osil_grammar.proofs.NodeJoins.{rows_join}
 use Rattle.osil_grammar.proofs.Parts.{counted_told}
 use Rattle.osil_grammar.proofs.document.tell_rows.Goals as goal
 
@@ -18,4 +18,4 @@ loop-row-preserved c =
 pub returns : goal.returns
 returns c =
     let all = all_told (λ (r : Row). EndsHaveTexts r.lb r.ub) (λ i. WriteRows) _ _ c.args.rows.now c.loop-row.row-index (omega arith) refl c.loop-row.invariant in
-    (all.0, counted (codes "constraints") (codes "numberOfConstraints") (length c.args.rows.now) all.1 none, (all.1, all.2, refl), counted_told _ _ _ _ (codes "constraints") (codes "numberOfConstraints") (length c.args.rows.now) all.1 c.requires c.in_ok-open_counted.ensures all.3 c.in_ok-close.ensures)
+    (all.0, counted_element (codes "constraints") (codes "numberOfConstraints") (length c.args.rows.now) all.1 none, (all.1, all.2, refl), counted_told _ _ _ _ (codes "constraints") (codes "numberOfConstraints") (length c.args.rows.now) all.1 c.requires c.in_ok-open_counted.ensures all.3 c.in_ok-close.ensures)

@@ -4,9 +4,9 @@ use Rattle.std.proofs.lemmas.Result.{err_from_is_err_and}
 use Rattle.tree_grammar.specs.Elements.{none, element}
 use Rattle.fraction.specs.declared.ends.Entry.{Entry}
 use Rattle.osil_grammar.specs.Writing.{HasDecimal, WriteValues}
-use Rattle.document_tags.proofs.Told.{told_around}
-use Rattle.osil_grammar.proofs.Told.{none_at, one_told, all_told}
-use Rattle.osil_grammar.proofs.Joined.{values_join}
+use Rattle.document_tags.proofs.Tellings.{told_around}
+use Rattle.osil_grammar.proofs.Tellings.{none_at, one_told, all_told}
+use Rattle.osil_grammar.proofs.NodeJoins.{values_join}
 use Rattle.osil_grammar.proofs.document.tell_values.Goals as goal
 
 pub returns-in_err-tell_value : goal.returns-in_err-tell_value

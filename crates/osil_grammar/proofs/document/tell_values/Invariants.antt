@@ -1,6 +1,6 @@
 use Rattle.fraction.specs.declared.ends.Entry.{Entry}
 use Rattle.osil_grammar.specs.Writing.{HasDecimal, WriteValues}
-use Rattle.osil_grammar.proofs.Told.{ToldFirst}
+use Rattle.osil_grammar.proofs.Tellings.{ToldFirst}
 use Rattle.osil_grammar.proofs.document.tell_values.Given as goal
 
 abbrev pub invariant-loop-entry : goal.invariant-loop-entry

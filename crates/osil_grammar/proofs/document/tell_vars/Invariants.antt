@@ -1,7 +1,7 @@
 use Rattle.instance.specs.declared.parts.Var.{Var}
 use Rattle.osil_grammar.specs.Writing.{WriteVars}
 use Rattle.osil_grammar.specs.Telling.{EndsHaveTexts}
-use Rattle.osil_grammar.proofs.Told.{ToldFirst}
+use Rattle.osil_grammar.proofs.Tellings.{ToldFirst}
 use Rattle.osil_grammar.proofs.document.tell_vars.Given as goal
 
 abbrev pub invariant-loop-var : goal.invariant-loop-var

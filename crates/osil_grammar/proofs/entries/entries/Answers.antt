@@ -9,7 +9,7 @@ use Rattle.instance.specs.Program.{entries as entries_of}
 use Rattle.osil_grammar.specs.Matrix.{HasWidePlace}
 use Rattle.osil_grammar.specs.Meaning.{AreEntriesOf}
 use Rattle.osil_grammar.specs.Parsing.{AreSumsAt}
-use Rattle.osil_grammar.proofs.Sorting.{place, by_place, in_order, wide_before, wide_after, sums_before, kept_entries, is_nonzero}
+use Rattle.osil_grammar.proofs.SortedEntries.{place, by_place, in_order, wide_before, wide_after, sums_before, kept_entries, is_nonzero}
 use Rattle.osil_grammar.proofs.entries.entries.Goals as goal
 
 pub joined-requires : goal.joined-requires

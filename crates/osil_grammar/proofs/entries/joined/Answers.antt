@@ -4,7 +4,7 @@ use Rattle.evidence.specs.Sums as evidence
 use Rattle.instance.specs.Program.{entries as entries_of}
 use Rattle.osil_grammar.specs.Parsing.{AreSumsAt}
 use Rattle.osil_grammar.proofs.Places.{IsWideFrom, wide_from_place}
-use Rattle.osil_grammar.proofs.Joining.{next_in_order, wide_place, more_sums, more_fit}
+use Rattle.osil_grammar.proofs.EntrySums.{next_in_order, wide_place, more_sums, more_fit}
 use Rattle.osil_grammar.proofs.entries.joined.Goals as goal
 
 pub returns-in-Err : goal.returns-in-Err

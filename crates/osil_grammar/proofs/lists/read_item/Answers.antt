@@ -1,13 +1,13 @@
 use Rattle.std.proofs.Common.{◌≡◌, ◌∙◌, ℕ, ap, sym, subst, ◌++◌, ◌∷◌, []}
-use Rattle.osil_grammar.specs.Walking.{Begun, IsBehind}
-use Rattle.osil_grammar.specs.Parsing.{Adds, element_tags}
+use Rattle.osil_grammar.specs.Walking.{Begun, IsBehindElement}
+use Rattle.osil_grammar.specs.Parsing.{AddsItems, element_tags}
 use Rattle.osil_grammar.specs.Tags.{level_of, end_tag}
 use Rattle.osil_grammar.specs.ItemLists.{item_name}
 use Rattle.osil_grammar.specs.Runs.{StandFor}
-use Rattle.osil_grammar.proofs.Decided.{refused_start, refused_inside, clean_element, clean_one}
+use Rattle.osil_grammar.proofs.FirstRefusals.{refused_start, refused_inside, clean_element, clean_one}
 use Rattle.osil_grammar.proofs.Exits.{handed_on, unless_memory}
 use Rattle.osil_grammar.proofs.ItemTags.{item_begins, other_told, inner_told, item_end}
-use Rattle.osil_grammar.proofs.Midway.{begins_midway, leaves_children}
+use Rattle.osil_grammar.proofs.ChildWalks.{begins_midway, leaves_children}
 use Rattle.osil_grammar.proofs.lists.read_item.Goals as goal
 
 pub returns-then-not-is-clause-reads : goal.returns-then-not-is-clause-reads
@@ -41,6 +41,6 @@ returns-clause-reads g c e rest around before at inside here =
     let start = c.in_ok-item.ensures.reads e n around before at.tag inside (named, subst (λ (k : ℕ). StandFor before k) (sym c.len.ensures) here) in
     let inner = around ++ level_of e n before ∷ [] in
     let over = leaves_children c.args.place.now c.args.place.now c.end.new.place e rest inner [] (begins_midway c.args.place.now e rest inner at.inside at.joined) c.in_ok-end.ensures.ends in
-    unless_memory c.push_times.result (element_tags around before n e) _ (λ x. Adds g.T.Listed.says c.args.items.now.items c.push_times.new.items.items e × IsBehind c.args.place.now c.end.new.place e rest) c.push_times.ensures.ok c.push_times.ensures.err
+    unless_memory c.push_times.result (element_tags around before n e) _ (λ x. AddsItems g.T.Listed.says c.args.items.now.items c.push_times.new.items.items e × IsBehindElement c.args.place.now c.end.new.place e rest) c.push_times.ensures.ok c.push_times.ensures.err
     (clean_element around before n e start.0 over.clean (clean_one (end_tag around (level_of e n before)) (item_end g.T.Listed.which around before n e begins)))
     (λ x added. ((c.in_ok-item.item, c.in_ok-item.times, start.1.0, start.1.1, added), over.behind))

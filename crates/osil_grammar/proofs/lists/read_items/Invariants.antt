@@ -7,7 +7,7 @@ use Rattle.osil_grammar.specs.Kinds.{path}
 use Rattle.osil_grammar.specs.ItemLists.{list_kind}
 use Rattle.osil_grammar.specs.Walking.{IsJoined, GoesOn}
 use Rattle.osil_grammar.proofs.Items.{ItemsOf}
-use Rattle.osil_grammar.proofs.Midway.{Midway}
+use Rattle.osil_grammar.proofs.ChildWalks.{Midway}
 use Rattle.osil_grammar.proofs.lists.read_items.Given as goal
 
 -- the child elements that were gone past, and their items

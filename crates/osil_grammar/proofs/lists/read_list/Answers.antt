@@ -3,8 +3,8 @@ use Rattle.document_tags.specs.Rests.{child_elements}
 use Rattle.osil_grammar.specs.Tags.{level_of, start_tag, end_tag}
 use Rattle.osil_grammar.specs.ItemLists.{list_kind, list_name, count_name}
 use Rattle.osil_grammar.specs.Runs.{StandFor}
-use Rattle.osil_grammar.proofs.Counted.{part_begins, part_refused, part_fine, part_miscounted, part_counted}
-use Rattle.osil_grammar.proofs.Decided.{refused_start, refused_inside, refused_end, clean_element, clean_one}
+use Rattle.osil_grammar.proofs.PartCounts.{part_begins, part_refused, part_fine, part_miscounted, part_counted}
+use Rattle.osil_grammar.proofs.FirstRefusals.{refused_start, refused_inside, refused_end, clean_element, clean_one}
 use Rattle.osil_grammar.proofs.Exits.{handed_on}
 use Rattle.osil_grammar.proofs.ItemTags.{list_counted, declared_as}
 use Rattle.osil_grammar.proofs.lists.read_list.Goals as goal

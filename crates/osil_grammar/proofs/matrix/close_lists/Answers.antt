@@ -1,7 +1,7 @@
 use Rattle.std.proofs.Common.{◌≡◌, length, arith}
 use Rattle.osil_grammar.specs.declared.fault.OsilFault.TheVariants.{Memory}
 use Rattle.osil_grammar.proofs.Exits.{handed_on}
-use Rattle.osil_grammar.proofs.EntriesWithin.{lists_within}
+use Rattle.osil_grammar.proofs.EntryBounds.{lists_within}
 use Rattle.osil_grammar.proofs.MatrixLists.{fault_counted, fault_told, sum_told, sums_counted, lists_clean, lists_mean}
 use Rattle.osil_grammar.proofs.matrix.close_lists.Goals as goal
 

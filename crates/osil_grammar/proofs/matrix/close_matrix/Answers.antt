@@ -1,8 +1,8 @@
 use Rattle.std.proofs.Common.{inl}
 use Rattle.osil_grammar.specs.Parsing.{HasNoList}
 use Rattle.osil_grammar.proofs.Exits.{handed_on}
-use Rattle.osil_grammar.proofs.EntriesWithin.{nothing_within, fits_lists}
-use Rattle.osil_grammar.proofs.MatrixFound.{none_told, none_clean, no_children, wanting_told}
+use Rattle.osil_grammar.proofs.EntryBounds.{nothing_within, fits_lists}
+use Rattle.osil_grammar.proofs.MatrixEnds.{none_told, none_clean, no_children, wanting_told}
 use Rattle.osil_grammar.proofs.matrix.close_matrix.Goals as goal
 
 pub returns-in_err-check_count-clause-reads : goal.returns-in_err-check_count-clause-reads

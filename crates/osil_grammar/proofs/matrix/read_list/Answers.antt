@@ -1,17 +1,17 @@
 use Rattle.std.proofs.Common.{◌≡◌, ◌∙◌, ◌++◌, ◌∷◌, [], true, false, ap, sym, subst, refl, arith}
 use Rattle.tree_grammar.specs.Tags.{IsAmong}
 use Rattle.osil_grammar.specs.Tags.{level_of}
-use Rattle.osil_grammar.specs.Walking.{Walking, Begun, IsBehind}
+use Rattle.osil_grammar.specs.Walking.{Walking, Begun, IsBehindElement}
 use Rattle.osil_grammar.specs.Kinds.{Starts, RowIndices, ColumnIndices, Values, Coefficients, content_names, listing_name}
-use Rattle.osil_grammar.specs.Parsing.{MayFollow, AreRead, FitsSize, listing}
+use Rattle.osil_grammar.specs.Parsing.{MayFollow, AreListsRead, FitsSize, listing}
 use Rattle.osil_grammar.specs.declared.matrix.ListName.{ListName}
 use Rattle.osil_grammar.specs.declared.matrix.Found.{Found}
-use Rattle.osil_grammar.proofs.AtStart.{foreign_told}
-use Rattle.osil_grammar.proofs.Decided.{refused_start}
+use Rattle.osil_grammar.proofs.StartRefusals.{foreign_told}
+use Rattle.osil_grammar.proofs.FirstRefusals.{refused_start}
 use Rattle.osil_grammar.proofs.Exits.{handed_on}
 use Rattle.osil_grammar.proofs.ListPlaces.{no_list}
 use Rattle.osil_grammar.proofs.ListTags.{late_told, list_refused, list_clean, list_begins, size_inside}
-use Rattle.osil_grammar.proofs.ListsSoFar.{read_starts, read_indices, read_values}
+use Rattle.osil_grammar.proofs.ListSteps.{read_starts, read_indices, read_values}
 use Rattle.osil_grammar.proofs.matrix.read_list.Goals as goal
 use Rattle.osil_grammar.proofs.matrix.read_list.Goals.{in-Starts+in_ok-read_wholes-in-Starts+in-Some-1, in-Starts+in_ok-read_wholes-in-Starts+in-None-1, in-RowIndices+in_ok-read_wholes-in-RowIndices, in-ColumnIndices+in_ok-read_wholes-in-ColumnIndices, in-Values+in_ok-read_decimals-in-Values+in-Some-1, in-Values+in_ok-read_decimals-in-Values+in-None-1}
 
@@ -80,8 +80,8 @@ returns-clause-reads c es read e rest around before at inside here =
           let in_list = w.in_ok-read_wholes-in-Starts.ensures.reads Starts e rest (around ++ level_of e n before ∷ []) at.inside at.joined (list_begins Starts around before n e inside named).1 (refl, refl) in (
             list_clean Starts around es before n e f inside here.0 named read may in_list.0,
             (
-              subst (λ (g : Found). AreRead (es ++ e ∷ []) g) (sym w.found-is) (read_starts es e f _ read may.0 named in_list.1.0 refl refl refl),
-              subst (λ (p : Walking). IsBehind c.args.place.now p e rest) (sym w.place-is) in_list.1.1,
+              subst (λ (g : Found). AreListsRead (es ++ e ∷ []) g) (sym w.found-is) (read_starts es e f _ read may.0 named in_list.1.0 refl refl refl),
+              subst (λ (p : Walking). IsBehindElement c.args.place.now p e rest) (sym w.place-is) in_list.1.1,
             ),
           )
       | in-Starts+in_ok-read_wholes-in-Starts+in-None-1 w ↦
@@ -90,8 +90,8 @@ returns-clause-reads c es read e rest around before at inside here =
           let in_list = w.in_ok-read_wholes-in-Starts.ensures.reads Starts e rest (around ++ level_of e n before ∷ []) at.inside at.joined (list_begins Starts around before n e inside named).1 (refl, refl) in (
             list_clean Starts around es before n e f inside here.0 named read may in_list.0,
             (
-              subst (λ (g : Found). AreRead (es ++ e ∷ []) g) (sym w.found-is) (read_starts es e f _ read may.0 named in_list.1.0 refl refl refl),
-              subst (λ (p : Walking). IsBehind c.args.place.now p e rest) (sym w.place-is) in_list.1.1,
+              subst (λ (g : Found). AreListsRead (es ++ e ∷ []) g) (sym w.found-is) (read_starts es e f _ read may.0 named in_list.1.0 refl refl refl),
+              subst (λ (p : Walking). IsBehindElement c.args.place.now p e rest) (sym w.place-is) in_list.1.1,
             ),
           )
       | in-RowIndices+in_ok-read_wholes-in-RowIndices w ↦
@@ -100,8 +100,8 @@ returns-clause-reads c es read e rest around before at inside here =
           let in_list = w.in_ok-read_wholes-in-RowIndices.ensures.reads RowIndices e rest (around ++ level_of e n before ∷ []) at.inside at.joined (list_begins RowIndices around before n e inside named).1 (size.1, refl) in (
             list_clean RowIndices around es before n e f inside here.0 named read may in_list.0,
             (
-              subst (λ (g : Found). AreRead (es ++ e ∷ []) g) (sym w.found-is) (read_indices es e f _ read true RowIndices refl may.0 named in_list.1.0 refl refl refl),
-              subst (λ (p : Walking). IsBehind c.args.place.now p e rest) (sym w.place-is) in_list.1.1,
+              subst (λ (g : Found). AreListsRead (es ++ e ∷ []) g) (sym w.found-is) (read_indices es e f _ read true RowIndices refl may.0 named in_list.1.0 refl refl refl),
+              subst (λ (p : Walking). IsBehindElement c.args.place.now p e rest) (sym w.place-is) in_list.1.1,
             ),
           )
       | in-ColumnIndices+in_ok-read_wholes-in-ColumnIndices w ↦
@@ -110,8 +110,8 @@ returns-clause-reads c es read e rest around before at inside here =
           let in_list = w.in_ok-read_wholes-in-ColumnIndices.ensures.reads ColumnIndices e rest (around ++ level_of e n before ∷ []) at.inside at.joined (list_begins ColumnIndices around before n e inside named).1 (size.0, refl) in (
             list_clean ColumnIndices around es before n e f inside here.0 named read may in_list.0,
             (
-              subst (λ (g : Found). AreRead (es ++ e ∷ []) g) (sym w.found-is) (read_indices es e f _ read false ColumnIndices refl may.0 named in_list.1.0 refl refl refl),
-              subst (λ (p : Walking). IsBehind c.args.place.now p e rest) (sym w.place-is) in_list.1.1,
+              subst (λ (g : Found). AreListsRead (es ++ e ∷ []) g) (sym w.found-is) (read_indices es e f _ read false ColumnIndices refl may.0 named in_list.1.0 refl refl refl),
+              subst (λ (p : Walking). IsBehindElement c.args.place.now p e rest) (sym w.place-is) in_list.1.1,
             ),
           )
       | in-Values+in_ok-read_decimals-in-Values+in-Some-1 w ↦
@@ -120,8 +120,8 @@ returns-clause-reads c es read e rest around before at inside here =
           let in_list = w.in_ok-read_decimals-in-Values.ensures.reads e rest (around ++ level_of e n before ∷ []) at.inside at.joined (list_begins Values around before n e inside named).1 tt in (
             list_clean Values around es before n e f inside here.0 named read may in_list.0,
             (
-              subst (λ (g : Found). AreRead (es ++ e ∷ []) g) (sym w.found-is) (read_values es e f _ read may named in_list.1.0 refl refl refl),
-              subst (λ (p : Walking). IsBehind c.args.place.now p e rest) (sym w.place-is) in_list.1.1,
+              subst (λ (g : Found). AreListsRead (es ++ e ∷ []) g) (sym w.found-is) (read_values es e f _ read may named in_list.1.0 refl refl refl),
+              subst (λ (p : Walking). IsBehindElement c.args.place.now p e rest) (sym w.place-is) in_list.1.1,
             ),
           )
       | in-Values+in_ok-read_decimals-in-Values+in-None-1 w ↦
@@ -130,8 +130,8 @@ returns-clause-reads c es read e rest around before at inside here =
           let in_list = w.in_ok-read_decimals-in-Values.ensures.reads e rest (around ++ level_of e n before ∷ []) at.inside at.joined (list_begins Values around before n e inside named).1 tt in (
             list_clean Values around es before n e f inside here.0 named read may in_list.0,
             (
-              subst (λ (g : Found). AreRead (es ++ e ∷ []) g) (sym w.found-is) (read_values es e f _ read may named in_list.1.0 refl refl refl),
-              subst (λ (p : Walking). IsBehind c.args.place.now p e rest) (sym w.place-is) in_list.1.1,
+              subst (λ (g : Found). AreListsRead (es ++ e ∷ []) g) (sym w.found-is) (read_values es e f _ read may named in_list.1.0 refl refl refl),
+              subst (λ (p : Walking). IsBehindElement c.args.place.now p e rest) (sym w.place-is) in_list.1.1,
             ),
           )
     ]

@@ -1,7 +1,7 @@
 use Rattle.std.proofs.Common.{◌++◌, ◌∷◌, [], sym, subst}
 use Rattle.osil_grammar.specs.Tags.{level_of, start_tag}
 use Rattle.osil_grammar.specs.Parsing.{InSize}
-use Rattle.osil_grammar.proofs.Decided.{refused_start, refused_inside, clean_one}
+use Rattle.osil_grammar.proofs.FirstRefusals.{refused_start, refused_inside, clean_one}
 use Rattle.osil_grammar.proofs.Exits.{handed_on, end_read}
 use Rattle.osil_grammar.proofs.MatrixTags.{matrix_begins, matrix_refused, matrix_fine, declared_so}
 use Rattle.osil_grammar.proofs.PartsBefore.{parts_here}

@@ -1,4 +1,4 @@
-use Rattle.osil_grammar.proofs.Passing.{left_on}
+use Rattle.osil_grammar.proofs.WaysOut.{left_on}
 use Rattle.osil_grammar.proofs.numbers.end.Goals as goal
 
 pub returns-in-None-clause-on : goal.returns-in-None-clause-on

@@ -1,6 +1,6 @@
 use Rattle.osil_grammar.proofs.Exits.{handed_on}
-use Rattle.osil_grammar.proofs.Held.{holds_text, holds_child_refusal}
-use Rattle.osil_grammar.proofs.Passing.{both_on}
+use Rattle.osil_grammar.proofs.ElementContents.{holds_text, holds_child_refusal}
+use Rattle.osil_grammar.proofs.WaysOut.{both_on}
 use Rattle.osil_grammar.proofs.numbers.text_of.Goals as goal
 
 pub returns-in_err-end-clause-reads : goal.returns-in_err-end-clause-reads

@@ -6,11 +6,11 @@ use Rattle.osil_grammar.specs.Costs.{IsCost}
 use Rattle.osil_grammar.specs.Kinds as kinds
 use Rattle.osil_grammar.specs.Kinds.{content_names}
 use Rattle.osil_grammar.specs.Parsing.{InWidth}
-use Rattle.osil_grammar.proofs.AtStart.{foreign_told}
+use Rattle.osil_grammar.proofs.StartRefusals.{foreign_told}
 use Rattle.osil_grammar.proofs.CoefEnds.{held_refused, cost_added}
-use Rattle.osil_grammar.proofs.Decided.{refused_start}
+use Rattle.osil_grammar.proofs.FirstRefusals.{refused_start}
 use Rattle.osil_grammar.proofs.Exits.{handed_on}
-use Rattle.osil_grammar.proofs.SummedCosts.{cost}
+use Rattle.osil_grammar.proofs.CostSums.{cost}
 use Rattle.osil_grammar.proofs.objectives.read_coef.Goals as goal
 
 pub returns-then-not-is-clause-reads : goal.returns-then-not-is-clause-reads

@@ -3,13 +3,13 @@ use Rattle.std.specs.Vec.{vec_len}
 use Rattle.tree_grammar.specs.Elements.{Element}
 use Rattle.osil_grammar.specs.Costs.{Cost, AreCosts}
 use Rattle.osil_grammar.specs.Meaning.{AreSums}
-use Rattle.osil_grammar.specs.Parsing.{begun, InWidth, AreSummed, HoldsCosts}
-use Rattle.osil_grammar.proofs.Decided.{tells_more}
+use Rattle.osil_grammar.specs.Parsing.{begun_tag, InWidth, AreSummed, HoldsCosts}
+use Rattle.osil_grammar.proofs.FirstRefusals.{tells_more}
 use Rattle.osil_grammar.proofs.Exits.{handed_on}
-use Rattle.osil_grammar.proofs.Midway.{begins_midway, enters_child, leaves_children}
+use Rattle.osil_grammar.proofs.ChildWalks.{begins_midway, enters_child, leaves_children}
 use Rattle.osil_grammar.proofs.NoCosts.{no_sums}
-use Rattle.osil_grammar.proofs.Passing.{fewer_entered, both_on, entered_on, left_on, stays_on}
-use Rattle.osil_grammar.proofs.SummedCosts.{summed_more}
+use Rattle.osil_grammar.proofs.WaysOut.{fewer_entered, both_on, entered_on, left_on, stays_on}
+use Rattle.osil_grammar.proofs.CostSums.{summed_more}
 use Rattle.osil_grammar.proofs.objectives.read_costs.Goals as goal
 
 pub loop-child-init : goal.loop-child-init
@@ -27,17 +27,17 @@ loop-child-init c = record {
 
 pub loop-child-smaller : goal.loop-child-smaller
 loop-child-smaller c =
-    let on = c.in_ok-read_coef.ensures.on in omega (arith, fewer_entered c.loop-child.place c.child.new.self (begun c.in-Some.child) c.in-Some.ensures.some, on.shorter)
+    let on = c.in_ok-read_coef.ensures.on in omega (arith, fewer_entered c.loop-child.place c.child.new.self (begun_tag c.in-Some.child) c.in-Some.ensures.some, on.shorter)
 
 pub loop-child-preserved : goal.loop-child-preserved
 loop-child-preserved c =
     let entered = c.in-Some.ensures.some in let counted = entered.counted in let later = c.in_ok-read_coef.ensures.on in let more = later.counted in record {
       len = c.in_ok-read_coef.ensures.len ∙ c.loop-child.invariant.len;
-      on = both_on (both_on c.loop-child.invariant.on (entered_on c.loop-child.place c.child.new.self (begun c.in-Some.child) entered)) later;
+      on = both_on (both_on c.loop-child.invariant.on (entered_on c.loop-child.place c.child.new.self (begun_tag c.in-Some.child) entered)) later;
       few = omega (arith, c.loop-child.invariant.few);
       at = λ e rest around at joined inside wide.
           let here = c.loop-child.invariant.at e rest around at joined inside wide in
-          let next = enters_child c.args.place.now c.loop-child.place c.child.new.self e rest around here.0 (begun c.in-Some.child) here.1 entered in
+          let next = enters_child c.args.place.now c.loop-child.place c.child.new.self e rest around here.0 (begun_tag c.in-Some.child) here.1 entered in
           let width : c.args.width ≡ vec_len c.loop-child.costs = sym c.loop-child.invariant.len in
           let read = c.in_ok-read_coef.ensures.reads next.child next.behind around here.0 next.inside inside
           (subst (λ (w : ℕ). InWidth w around) width wide, subst (λ (w : ℕ). AreSummed w c.loop-child.costs.items here.0) width here.2) in (
@@ -51,7 +51,7 @@ loop-child-preserved c =
 pub returns-in_err-read_coef-clause-reads : goal.returns-in_err-read_coef-clause-reads
 returns-in_err-read_coef-clause-reads c e rest around at joined inside wide =
     let here = c.loop-child.invariant.at e rest around at joined inside wide in
-    let next = enters_child c.args.place.now c.loop-child.place c.child.new.self e rest around here.0 (begun c.in-Some.child) here.1 c.in-Some.ensures.some in
+    let next = enters_child c.args.place.now c.loop-child.place c.child.new.self e rest around here.0 (begun_tag c.in-Some.child) here.1 c.in-Some.ensures.some in
     let width : c.args.width ≡ vec_len c.loop-child.costs = sym c.loop-child.invariant.len in
     handed_on c.from_residual-in_err-read_coef.result c.in_err-read_coef.field-0.0 _ _ c.from_residual-in_err-read_coef.ensures.1
     (tells_more c.in_err-read_coef.field-0.0 _ _ (λ r n first. next.refused r n first)

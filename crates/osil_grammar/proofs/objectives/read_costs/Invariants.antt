@@ -5,7 +5,7 @@ use Rattle.osil_grammar.specs.Tags.{Level, names}
 use Rattle.osil_grammar.specs.Kinds.{Obj, path}
 use Rattle.osil_grammar.specs.Walking.{IsJoined, GoesOn}
 use Rattle.osil_grammar.specs.Parsing.{InWidth, AreSummed}
-use Rattle.osil_grammar.proofs.Midway.{Midway}
+use Rattle.osil_grammar.proofs.ChildWalks.{Midway}
 use Rattle.osil_grammar.proofs.objectives.read_costs.Given as goal
 
 -- the `coef` elements that were gone past, and the sums of their costs

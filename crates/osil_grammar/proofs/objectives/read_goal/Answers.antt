@@ -9,8 +9,8 @@ use Rattle.osil_grammar.specs.Kinds as kinds
 use Rattle.osil_grammar.specs.Kinds.{content_names}
 use Rattle.osil_grammar.specs.Meaning.{AreSums}
 use Rattle.osil_grammar.specs.Parsing.{HaveVariables}
-use Rattle.osil_grammar.proofs.AtStart.{foreign_told}
-use Rattle.osil_grammar.proofs.Decided.{refused_start, refused_inside, refused_end, clean_element, clean_one}
+use Rattle.osil_grammar.proofs.StartRefusals.{foreign_told}
+use Rattle.osil_grammar.proofs.FirstRefusals.{refused_start, refused_inside, refused_end, clean_element, clean_one}
 use Rattle.osil_grammar.proofs.Exits.{handed_on}
 use Rattle.osil_grammar.proofs.ObjTags.{obj_begins, costs_miscounted, costs_counted}
 use Rattle.osil_grammar.proofs.PartsBefore.{parts_kept}

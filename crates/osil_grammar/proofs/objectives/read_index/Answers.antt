@@ -3,7 +3,7 @@ use Rattle.std.specs.Prelude.{Option, codes}
 use Rattle.osil_grammar.specs.Tags.{level_of, start_tag}
 use Rattle.osil_grammar.proofs.CoefTags.{fault_told, index_refused, index_fine, index_there, index_told, index_clean, has_index}
 use Rattle.osil_grammar.specs.Fields.{Declares}
-use Rattle.osil_grammar.proofs.Decided.{clean_one}
+use Rattle.osil_grammar.proofs.FirstRefusals.{clean_one}
 use Rattle.osil_grammar.proofs.Exits.{handed_on}
 use Rattle.osil_grammar.proofs.objectives.read_index.Goals.{in_default-2-via-in-Some-2+else-index-width, in_default-2-via-in_default-2}
 use Rattle.osil_grammar.proofs.objectives.read_index.Goals as goal

@@ -7,7 +7,7 @@ use Rattle.osil_grammar.specs.Numbers.{count, decimal, field, mult}
 use Rattle.osil_grammar.specs.Runs.{StandsFor}
 use Rattle.osil_grammar.specs.Deciding.{HasConstant}
 use Rattle.osil_grammar.specs.Fields.{Declares, IsDeclared}
-use Rattle.osil_grammar.proofs.Counted.{declared_is}
+use Rattle.osil_grammar.proofs.PartCounts.{declared_is}
 use Rattle.osil_grammar.proofs.Fields.{field_read, both_read, times_read}
 use Rattle.osil_grammar.proofs.RowTags.{decimal_is}
 use Rattle.osil_grammar.proofs.objectives.read_numbers.Goals as goal

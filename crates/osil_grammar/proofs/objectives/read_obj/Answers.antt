@@ -2,7 +2,7 @@ use Rattle.std.proofs.Common.{◌≡◌, ℕ, inl, inr, subst, arith}
 use Rattle.osil_grammar.specs.Tags.{level_of, start_tag}
 use Rattle.osil_grammar.specs.Runs.{StandsFor}
 use Rattle.osil_grammar.specs.Parsing.{AreObjs}
-use Rattle.osil_grammar.proofs.Decided.{clean_one}
+use Rattle.osil_grammar.proofs.FirstRefusals.{clean_one}
 use Rattle.osil_grammar.proofs.Exits.{handed_on}
 use Rattle.osil_grammar.proofs.ObjTags.{sense_refused, sense_said, obj_refused, obj_fine, second_told, several_told, obj_clean, obj_head}
 use Rattle.osil_grammar.proofs.objectives.read_obj.Goals as goal

@@ -5,8 +5,8 @@ use Rattle.osil_grammar.specs.Parsing.{HaveVariables}
 use Rattle.osil_grammar.proofs.PartsBefore.{parts_here}
 use Rattle.osil_grammar.specs.Tags.{level_of, start_tag, end_tag}
 use Rattle.osil_grammar.specs.Kinds as kinds
-use Rattle.osil_grammar.proofs.Counted.{objectives_counted, part_begins, part_refused, part_fine, part_miscounted, part_counted}
-use Rattle.osil_grammar.proofs.Decided.{refused_start, refused_inside, refused_end, clean_element, clean_one}
+use Rattle.osil_grammar.proofs.PartCounts.{objectives_counted, part_begins, part_refused, part_fine, part_miscounted, part_counted}
+use Rattle.osil_grammar.proofs.FirstRefusals.{refused_start, refused_inside, refused_end, clean_element, clean_one}
 use Rattle.osil_grammar.proofs.Exits.{handed_on}
 use Rattle.osil_grammar.proofs.objectives.read_objectives.Goals as goal
 

@@ -1,11 +1,11 @@
 use Rattle.std.proofs.Common.{List, [], ◌∷◌, ◌++◌, sym, subst, arith}
 use Rattle.tree_grammar.specs.Elements.{Element}
-use Rattle.osil_grammar.specs.Parsing.{begun}
-use Rattle.osil_grammar.proofs.Decided.{tells_more}
+use Rattle.osil_grammar.specs.Parsing.{begun_tag}
+use Rattle.osil_grammar.proofs.FirstRefusals.{tells_more}
 use Rattle.osil_grammar.proofs.Exits.{handed_on}
-use Rattle.osil_grammar.proofs.Midway.{begins_midway, enters_child, leaves_children}
+use Rattle.osil_grammar.proofs.ChildWalks.{begins_midway, enters_child, leaves_children}
 use Rattle.osil_grammar.proofs.Objs.{ObjsOf, no_objs, first_obj}
-use Rattle.osil_grammar.proofs.Passing.{fewer_entered, both_on, entered_on, left_on, stays_on}
+use Rattle.osil_grammar.proofs.WaysOut.{fewer_entered, both_on, entered_on, left_on, stays_on}
 use Rattle.osil_grammar.proofs.objectives.read_objs.Goals as goal
 
 pub loop-child-init : goal.loop-child-init
@@ -17,16 +17,16 @@ loop-child-init c = record {
 
 pub loop-child-smaller : goal.loop-child-smaller
 loop-child-smaller c =
-    let on = c.in_ok-goal-2.ensures.on in omega (arith, fewer_entered c.loop-child.place c.child.new.self (begun c.in-Some.child) c.in-Some.ensures.some, on.shorter)
+    let on = c.in_ok-goal-2.ensures.on in omega (arith, fewer_entered c.loop-child.place c.child.new.self (begun_tag c.in-Some.child) c.in-Some.ensures.some, on.shorter)
 
 pub loop-child-preserved : goal.loop-child-preserved
 loop-child-preserved c =
     let entered = c.in-Some.ensures.some in record {
       costs = c.in_ok-goal-2.ensures.costs;
-      on = both_on (both_on c.loop-child.invariant.on (entered_on c.loop-child.place c.child.new.self (begun c.in-Some.child) entered)) c.in_ok-goal-2.ensures.on;
+      on = both_on (both_on c.loop-child.invariant.on (entered_on c.loop-child.place c.child.new.self (begun_tag c.in-Some.child) entered)) c.in_ok-goal-2.ensures.on;
       at = λ e rest around at joined inside wide.
           let here = c.loop-child.invariant.at e rest around at joined inside wide in
-          let next = enters_child c.args.place.now c.loop-child.place c.child.new.self e rest around here.0 (begun c.in-Some.child) here.1 entered in
+          let next = enters_child c.args.place.now c.loop-child.place c.child.new.self e rest around here.0 (begun_tag c.in-Some.child) here.1 entered in
           let read = c.in_ok-goal-2.ensures.reads next.child next.behind around here.0 next.inside inside (here.2.1, wide) in
           (here.0 ++ next.child ∷ [], next.goes_on c.read_goal.new.place read.0 read.1.1, first_obj c.args.width here.0 next.child c.in_ok-goal-2.goal c.loop-child.found c.in_ok-goal-2.ensures.first here.2.1 read.1.0.0 read.1.0.1 read.1.0.2);
     }
@@ -34,7 +34,7 @@ loop-child-preserved c =
 pub returns-in_err-goal-2-clause-reads : goal.returns-in_err-goal-2-clause-reads
 returns-in_err-goal-2-clause-reads c e rest around at joined inside wide =
     let here = c.loop-child.invariant.at e rest around at joined inside wide in
-    let next = enters_child c.args.place.now c.loop-child.place c.child.new.self e rest around here.0 (begun c.in-Some.child) here.1 c.in-Some.ensures.some in
+    let next = enters_child c.args.place.now c.loop-child.place c.child.new.self e rest around here.0 (begun_tag c.in-Some.child) here.1 c.in-Some.ensures.some in
     handed_on c.from_residual-in_err-goal-2.result c.in_err-goal-2.field-0.0 _ _ c.from_residual-in_err-goal-2.ensures.1
     (tells_more c.in_err-goal-2.field-0.0 _ _ (λ r n first. next.refused r n first)
     (c.in_err-goal-2.ensures.reads next.child next.behind around here.0 next.inside inside (here.2.1, wide)))

@@ -4,7 +4,7 @@ use Rattle.osil_grammar.specs.Tags.{Level, names}
 use Rattle.osil_grammar.specs.Kinds.{Objectives, path}
 use Rattle.osil_grammar.specs.Walking.{IsJoined, GoesOn}
 use Rattle.osil_grammar.specs.Parsing.{InWidth}
-use Rattle.osil_grammar.proofs.Midway.{Midway}
+use Rattle.osil_grammar.proofs.ChildWalks.{Midway}
 use Rattle.osil_grammar.proofs.Objs.{ObjsOf}
 use Rattle.osil_grammar.proofs.objectives.read_objs.Given as goal
 

@@ -1,4 +1,4 @@
-use Rattle.osil_grammar.proofs.Clean.{not_both}
+use Rattle.osil_grammar.proofs.CleanDocument.{not_both}
 use Rattle.osil_grammar.proofs.reading_laws.accepted_is_not_refused.Goals as goal
 
 pub returns : goal.returns

@@ -8,8 +8,8 @@ use Rattle.osil_grammar.specs.Tags.{start_tag, level_of}
 use Rattle.osil_grammar.specs.Kinds as kinds
 use Rattle.osil_grammar.specs.Refusals.{Bound, TooBig}
 use Rattle.osil_grammar.specs.Parsing.{IsAtTag}
-use Rattle.osil_grammar.proofs.AtStart.{told_here, bound_decided, too_big, not_too_big}
-use Rattle.osil_grammar.proofs.Decided.{clean_one}
+use Rattle.osil_grammar.proofs.StartRefusals.{told_here, bound_decided, too_big, not_too_big}
+use Rattle.osil_grammar.proofs.FirstRefusals.{clean_one}
 use Rattle.osil_grammar.proofs.Exits.{handed_on}
 use Rattle.osil_grammar.proofs.StartTags.{past_too_big, past_all}
 use Rattle.osil_grammar.proofs.RowTags.{row_begins, row_refused, row_fine, ends_refused, ends_fine, row_least_bound, row_least_big}

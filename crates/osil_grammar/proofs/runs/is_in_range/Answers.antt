@@ -1,6 +1,6 @@
 use Rattle.std.proofs.Common.{w64}
 use Rattle.std.proofs.lemmas.Int.{to_z-of_z}
-use Rattle.osil_grammar.proofs.Running.{place_out, range_answer}
+use Rattle.osil_grammar.proofs.RunSteps.{place_out, range_answer}
 use Rattle.osil_grammar.proofs.runs.is_in_range.Goals as goal
 
 pub returns-then-not-is_inside : goal.returns-then-not-is_inside

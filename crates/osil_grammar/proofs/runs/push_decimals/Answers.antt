@@ -2,7 +2,7 @@ use Rattle.std.proofs.Common.{◌≡◌, ℕ, ◌-◌, ◌+◌, suc, arith, subs
 use Rattle.fraction.specs.Frac.{ratio, ratios}
 use Rattle.osil_grammar.specs.Runs.{ratio_run}
 use Rattle.osil_grammar.specs.Parsing.{AreSame}
-use Rattle.osil_grammar.proofs.Decided.{tells_more}
+use Rattle.osil_grammar.proofs.FirstRefusals.{tells_more}
 use Rattle.osil_grammar.proofs.RatioRuns.{HasRun, run_more, run_wide}
 use Rattle.osil_grammar.proofs.runs.push_decimals.Goals as goal
 

@@ -2,7 +2,7 @@ use Rattle.std.proofs.Common.{◌≡◌, ◌+◌, ◌-◌, ◌++◌}
 use Rattle.std.specs.Prelude.{vec_len}
 use Rattle.osil_grammar.specs.Runs.{whole_run}
 use Rattle.osil_grammar.specs.Parsing.{wholes}
-use Rattle.osil_grammar.proofs.Running.{at_step}
+use Rattle.osil_grammar.proofs.RunSteps.{at_step}
 use Rattle.osil_grammar.proofs.runs.push_wholes.Given as goal
 
 abbrev pub invariant-loop-place : goal.invariant-loop-place

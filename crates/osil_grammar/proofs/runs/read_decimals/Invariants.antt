@@ -4,7 +4,7 @@ use Rattle.tree_grammar.specs.Elements.{Element, Event, Close, nodes_events}
 use Rattle.osil_grammar.specs.Tags.{Level, names}
 use Rattle.osil_grammar.specs.Kinds.{Values, Listed, path}
 use Rattle.osil_grammar.specs.Walking.{IsJoined, GoesOn}
-use Rattle.osil_grammar.proofs.ListsRead.{RatiosSoFar}
+use Rattle.osil_grammar.proofs.NumberLists.{RatiosSoFar}
 use Rattle.osil_grammar.proofs.runs.read_decimals.Given as goal
 
 abbrev pub invariant-loop-child : goal.invariant-loop-child

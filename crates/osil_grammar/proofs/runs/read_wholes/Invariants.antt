@@ -6,7 +6,7 @@ use Rattle.osil_grammar.specs.Tags.{Level, names}
 use Rattle.osil_grammar.specs.Kinds.{Listing, Listed, path}
 use Rattle.osil_grammar.specs.Walking.{IsJoined, GoesOn}
 use Rattle.osil_grammar.specs.Parsing.{ListLimits}
-use Rattle.osil_grammar.proofs.ListsRead.{WholesSoFar}
+use Rattle.osil_grammar.proofs.NumberLists.{WholesSoFar}
 use Rattle.osil_grammar.proofs.runs.read_wholes.Given as goal
 
 abbrev pub invariant-loop-child : goal.invariant-loop-child

@@ -8,10 +8,10 @@ use Rattle.instance.specs.Parts.{Parts}
 use Rattle.osil_grammar.specs.Meaning.{IsVar}
 use Rattle.osil_grammar.specs.Refusals.{AreClean}
 use Rattle.osil_grammar.specs.Tags.{level_of, end_tag, first_named}
-use Rattle.osil_grammar.specs.PartsRead.{items_of, vars_of, rows_of, entries_of, IsGoalOrNone}
+use Rattle.osil_grammar.specs.PartialParts.{part_items, vars_of, section_rows, section_entries, IsGoalOrNone}
 use Rattle.osil_grammar.specs.Parsing.{HoldsAll}
 use Rattle.osil_grammar.proofs.DataTags.{data_end, data_lacks}
-use Rattle.osil_grammar.proofs.Decided.{clean_one}
+use Rattle.osil_grammar.proofs.FirstRefusals.{clean_one}
 use Rattle.osil_grammar.proofs.ListPlaces.{not_read}
 use Rattle.osil_grammar.proofs.PartPlaces.{found_element}
 use Rattle.osil_grammar.proofs.WholeParts.{say_parts}
@@ -25,10 +25,10 @@ returns-in_default c e n around before tag inside all =
 pub returns : goal.returns
 returns c e n around before tag inside all =
     let parts = c.in-Some-of.ensures.parts in
-    let same : c.in-Some.vars.items ≡ vars_of c.args.found = sym (ap (λ (o : Option (Vec Var Global)). items_of (λ vs. vs.items) o) c.in-Some.is) in
+    let same : c.in-Some.vars.items ≡ vars_of c.args.found = sym (ap (λ (o : Option (Vec Var Global)). part_items (λ vs. vs.items) o) c.in-Some.is) in
     let vars : c.in-Some-of.instance.vars ≡ vars_of c.args.found = ap (λ (p : Parts). p.vars) parts ∙ same in
-    let rows : c.in-Some-of.instance.rows ≡ rows_of c.args.found = ap (λ (p : Parts). p.rows) parts ∙ c.items_or_none-rows.ensures in
-    let entries : c.in-Some-of.instance.entries ≡ entries_of c.args.found = ap (λ (p : Parts). p.entries) parts ∙ c.items_or_none-entries.ensures in
+    let rows : c.in-Some-of.instance.rows ≡ section_rows c.args.found = ap (λ (p : Parts). p.rows) parts ∙ c.items_or_none-rows.ensures in
+    let entries : c.in-Some-of.instance.entries ≡ section_entries c.args.found = ap (λ (p : Parts). p.entries) parts ∙ c.items_or_none-entries.ensures in
     let count : c.len.result ≡ length c.in-Some.vars.items = omega (arith, c.len.ensures, c.in-Some.vars.ok.0) in
     let width : c.len.result ≡ length (vars_of c.args.found) = count ∙ ap length same in
     let goal : IsGoalOrNone (length (vars_of c.args.found)) c.args.found.goal c.in-Some-of.instance.goal =

@@ -4,7 +4,7 @@ use Rattle.tree_grammar.specs.Elements.{Element}
 use Rattle.osil_grammar.specs.Tags.{first_named}
 use Rattle.osil_grammar.specs.Walking.{Begun}
 use Rattle.osil_grammar.specs.Kinds.{Osil}
-use Rattle.osil_grammar.proofs.Decided.{refused_start}
+use Rattle.osil_grammar.proofs.FirstRefusals.{refused_start}
 use Rattle.osil_grammar.proofs.LatePlaces.{late_told}
 use Rattle.osil_grammar.proofs.RootChildren.{passed_clean, passed_read, data_read, again_late, not_yet}
 use Rattle.osil_grammar.proofs.sections.read_child.Goals as goal

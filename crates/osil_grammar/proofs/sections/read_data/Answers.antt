@@ -1,7 +1,7 @@
 use Rattle.std.proofs.Common.{[], ◌∷◌, ◌++◌}
 use Rattle.osil_grammar.specs.Tags.{level_of, start_tag}
 use Rattle.osil_grammar.proofs.DataTags.{data_begins, data_start}
-use Rattle.osil_grammar.proofs.Decided.{refused_inside, clean_one}
+use Rattle.osil_grammar.proofs.FirstRefusals.{refused_inside, clean_one}
 use Rattle.osil_grammar.proofs.Exits.{handed_on, end_read}
 use Rattle.osil_grammar.proofs.sections.read_data.Goals as goal
 

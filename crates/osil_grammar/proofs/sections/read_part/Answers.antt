@@ -1,14 +1,14 @@
 use Rattle.std.proofs.Common.{◌≡◌, ◌∙◌, ℕ, List, [], ◌∷◌, ◌++◌, length, sym, subst, arith}
 use Rattle.std.specs.Prelude.{codes}
 use Rattle.tree_grammar.specs.Elements.{Element}
-use Rattle.osil_grammar.specs.Walking.{Walking, IsBehind}
-use Rattle.osil_grammar.specs.PartsRead.{vars_of, MayStand, IsSound, AreWithin}
+use Rattle.osil_grammar.specs.Walking.{Walking, IsBehindElement}
+use Rattle.osil_grammar.specs.PartialParts.{vars_of, MayStand, IsSound, AreWithin}
 use Rattle.osil_grammar.specs.Parsing.{AreFound, HaveVariables, HaveRows}
 use Rattle.osil_grammar.specs.declared.sections.Sections.{Sections}
 use Rattle.osil_grammar.specs.declared.sections.PartName.{PartName}
 use Rattle.osil_grammar.specs.declared.sections.PartName.TheVariants.{Variables, Objectives, Constraints, Coefficients}
 use Rattle.osil_grammar.proofs.Exits.{handed_on}
-use Rattle.osil_grammar.proofs.FoundMore.{found_vars, found_goal, found_rows, found_entries, have_variables, have_rows}
+use Rattle.osil_grammar.proofs.PartSteps.{found_vars, found_goal, found_rows, found_entries, have_variables, have_rows}
 use Rattle.osil_grammar.proofs.PartPlaces.{part_here}
 use Rattle.osil_grammar.proofs.SoundParts.{sound_vars, sound_goal, sound_rows, sound_entries}
 use Rattle.osil_grammar.proofs.sections.read_part.Goals as goal
@@ -41,42 +41,42 @@ returns-clause-reads c es found e rest around before at inside next =
           let may : MayStand Variables c.args.found.now = subst (λ (p : PartName). MayStand p c.args.found.now) w.in-Variables.is c.requires.stands in
           let named : e.name ≡ codes "variables" = (part_here es c.args.found.now found c.args.part Variables w.in-Variables.is c.requires.stands around before e next).0 in
           let read = w.in_ok-read_list-in-Variables.ensures.reads e rest around before at inside (part_here es c.args.found.now found c.args.part Variables w.in-Variables.is c.requires.stands around before e next) in
-          (read.0, (subst (λ (s : Sections). AreFound (es ++ e ∷ []) s) (sym w.found-is) (found_vars es e c.args.found.now found _ named may.0 may.1 read.1.0), subst (λ (p : Walking). IsBehind c.args.place.now p e rest) (sym w.place-is) read.1.1))
+          (read.0, (subst (λ (s : Sections). AreFound (es ++ e ∷ []) s) (sym w.found-is) (found_vars es e c.args.found.now found _ named may.0 may.1 read.1.0), subst (λ (p : Walking). IsBehindElement c.args.place.now p e rest) (sym w.place-is) read.1.1))
       | in-Variables+in_ok-read_list-in-Variables+in-None-1 w ↦
           let may : MayStand Variables c.args.found.now = subst (λ (p : PartName). MayStand p c.args.found.now) w.in-Variables.is c.requires.stands in
           let named : e.name ≡ codes "variables" = (part_here es c.args.found.now found c.args.part Variables w.in-Variables.is c.requires.stands around before e next).0 in
           let read = w.in_ok-read_list-in-Variables.ensures.reads e rest around before at inside (part_here es c.args.found.now found c.args.part Variables w.in-Variables.is c.requires.stands around before e next) in
-          (read.0, (subst (λ (s : Sections). AreFound (es ++ e ∷ []) s) (sym w.found-is) (found_vars es e c.args.found.now found _ named may.0 may.1 read.1.0), subst (λ (p : Walking). IsBehind c.args.place.now p e rest) (sym w.place-is) read.1.1))
+          (read.0, (subst (λ (s : Sections). AreFound (es ++ e ∷ []) s) (sym w.found-is) (found_vars es e c.args.found.now found _ named may.0 may.1 read.1.0), subst (λ (p : Walking). IsBehindElement c.args.place.now p e rest) (sym w.place-is) read.1.1))
       | in-Objectives+in_ok-read_objectives-in-Objectives+in-Some-1 w ↦
           let may : MayStand Objectives c.args.found.now = subst (λ (p : PartName). MayStand p c.args.found.now) w.in-Objectives.is c.requires.stands in
           let named : e.name ≡ codes "objectives" = (part_here es c.args.found.now found c.args.part Objectives w.in-Objectives.is c.requires.stands around before e next).0 in
           let read = w.in_ok-read_objectives-in-Objectives.ensures.reads e rest around before at inside (part_here es c.args.found.now found c.args.part Objectives w.in-Objectives.is c.requires.stands around before e next, subst (λ (bs : List Element). HaveVariables bs w.width-width.result) (sym next.0) (subst (λ (k : ℕ). HaveVariables es k) (sym w.width-width.ensures) (have_variables es c.args.found.now found))) in
-          (read.0, (subst (λ (s : Sections). AreFound (es ++ e ∷ []) s) (sym w.found-is) (found_goal es e c.args.found.now found _ w.width-width.result named may.0 (subst (λ (k : ℕ). HaveVariables es k) (sym w.width-width.ensures) (have_variables es c.args.found.now found)) read.1.0), subst (λ (p : Walking). IsBehind c.args.place.now p e rest) (sym w.place-is) read.1.1))
+          (read.0, (subst (λ (s : Sections). AreFound (es ++ e ∷ []) s) (sym w.found-is) (found_goal es e c.args.found.now found _ w.width-width.result named may.0 (subst (λ (k : ℕ). HaveVariables es k) (sym w.width-width.ensures) (have_variables es c.args.found.now found)) read.1.0), subst (λ (p : Walking). IsBehindElement c.args.place.now p e rest) (sym w.place-is) read.1.1))
       | in-Objectives+in_ok-read_objectives-in-Objectives+in-None-1 w ↦
           let may : MayStand Objectives c.args.found.now = subst (λ (p : PartName). MayStand p c.args.found.now) w.in-Objectives.is c.requires.stands in
           let named : e.name ≡ codes "objectives" = (part_here es c.args.found.now found c.args.part Objectives w.in-Objectives.is c.requires.stands around before e next).0 in
           let read = w.in_ok-read_objectives-in-Objectives.ensures.reads e rest around before at inside (part_here es c.args.found.now found c.args.part Objectives w.in-Objectives.is c.requires.stands around before e next, subst (λ (bs : List Element). HaveVariables bs w.width-width.result) (sym next.0) (subst (λ (k : ℕ). HaveVariables es k) (sym w.width-width.ensures) (have_variables es c.args.found.now found))) in
-          (read.0, (subst (λ (s : Sections). AreFound (es ++ e ∷ []) s) (sym w.found-is) (found_goal es e c.args.found.now found _ w.width-width.result named may.0 (subst (λ (k : ℕ). HaveVariables es k) (sym w.width-width.ensures) (have_variables es c.args.found.now found)) read.1.0), subst (λ (p : Walking). IsBehind c.args.place.now p e rest) (sym w.place-is) read.1.1))
+          (read.0, (subst (λ (s : Sections). AreFound (es ++ e ∷ []) s) (sym w.found-is) (found_goal es e c.args.found.now found _ w.width-width.result named may.0 (subst (λ (k : ℕ). HaveVariables es k) (sym w.width-width.ensures) (have_variables es c.args.found.now found)) read.1.0), subst (λ (p : Walking). IsBehindElement c.args.place.now p e rest) (sym w.place-is) read.1.1))
       | in-Constraints+in_ok-read_list-in-Constraints+in-Some-1 w ↦
           let may : MayStand Constraints c.args.found.now = subst (λ (p : PartName). MayStand p c.args.found.now) w.in-Constraints.is c.requires.stands in
           let named : e.name ≡ codes "constraints" = (part_here es c.args.found.now found c.args.part Constraints w.in-Constraints.is c.requires.stands around before e next).0 in
           let read = w.in_ok-read_list-in-Constraints.ensures.reads e rest around before at inside (part_here es c.args.found.now found c.args.part Constraints w.in-Constraints.is c.requires.stands around before e next) in
-          (read.0, (subst (λ (s : Sections). AreFound (es ++ e ∷ []) s) (sym w.found-is) (found_rows es e c.args.found.now found _ named may.0 read.1.0), subst (λ (p : Walking). IsBehind c.args.place.now p e rest) (sym w.place-is) read.1.1))
+          (read.0, (subst (λ (s : Sections). AreFound (es ++ e ∷ []) s) (sym w.found-is) (found_rows es e c.args.found.now found _ named may.0 read.1.0), subst (λ (p : Walking). IsBehindElement c.args.place.now p e rest) (sym w.place-is) read.1.1))
       | in-Constraints+in_ok-read_list-in-Constraints+in-None-1 w ↦
           let may : MayStand Constraints c.args.found.now = subst (λ (p : PartName). MayStand p c.args.found.now) w.in-Constraints.is c.requires.stands in
           let named : e.name ≡ codes "constraints" = (part_here es c.args.found.now found c.args.part Constraints w.in-Constraints.is c.requires.stands around before e next).0 in
           let read = w.in_ok-read_list-in-Constraints.ensures.reads e rest around before at inside (part_here es c.args.found.now found c.args.part Constraints w.in-Constraints.is c.requires.stands around before e next) in
-          (read.0, (subst (λ (s : Sections). AreFound (es ++ e ∷ []) s) (sym w.found-is) (found_rows es e c.args.found.now found _ named may.0 read.1.0), subst (λ (p : Walking). IsBehind c.args.place.now p e rest) (sym w.place-is) read.1.1))
+          (read.0, (subst (λ (s : Sections). AreFound (es ++ e ∷ []) s) (sym w.found-is) (found_rows es e c.args.found.now found _ named may.0 read.1.0), subst (λ (p : Walking). IsBehindElement c.args.place.now p e rest) (sym w.place-is) read.1.1))
       | in-Coefficients+in_ok-read_matrix-in-Coefficients+in-Some-1 w ↦
           let may : MayStand Coefficients c.args.found.now = subst (λ (p : PartName). MayStand p c.args.found.now) w.in-Coefficients.is c.requires.stands in
           let named : e.name ≡ codes "linearConstraintCoefficients" = (part_here es c.args.found.now found c.args.part Coefficients w.in-Coefficients.is c.requires.stands around before e next).0 in
           let read = w.in_ok-read_matrix-in-Coefficients.ensures.reads e rest around before at inside (part_here es c.args.found.now found c.args.part Coefficients w.in-Coefficients.is c.requires.stands around before e next, (subst (λ (bs : List Element). HaveVariables bs w.width.result) (sym next.0) (subst (λ (k : ℕ). HaveVariables es k) (sym w.width.ensures) (have_variables es c.args.found.now found)), subst (λ (bs : List Element). HaveRows bs w.height.result) (sym next.0) (subst (λ (k : ℕ). HaveRows es k) (sym w.height.ensures) (have_rows es c.args.found.now found)))) in
-          (read.0, (subst (λ (s : Sections). AreFound (es ++ e ∷ []) s) (sym w.found-is) (found_entries es e c.args.found.now found _ named may read.1.0), subst (λ (p : Walking). IsBehind c.args.place.now p e rest) (sym w.place-is) read.1.1))
+          (read.0, (subst (λ (s : Sections). AreFound (es ++ e ∷ []) s) (sym w.found-is) (found_entries es e c.args.found.now found _ named may read.1.0), subst (λ (p : Walking). IsBehindElement c.args.place.now p e rest) (sym w.place-is) read.1.1))
       | in-Coefficients+in_ok-read_matrix-in-Coefficients+in-None-1 w ↦
           let may : MayStand Coefficients c.args.found.now = subst (λ (p : PartName). MayStand p c.args.found.now) w.in-Coefficients.is c.requires.stands in
           let named : e.name ≡ codes "linearConstraintCoefficients" = (part_here es c.args.found.now found c.args.part Coefficients w.in-Coefficients.is c.requires.stands around before e next).0 in
           let read = w.in_ok-read_matrix-in-Coefficients.ensures.reads e rest around before at inside (part_here es c.args.found.now found c.args.part Coefficients w.in-Coefficients.is c.requires.stands around before e next, (subst (λ (bs : List Element). HaveVariables bs w.width.result) (sym next.0) (subst (λ (k : ℕ). HaveVariables es k) (sym w.width.ensures) (have_variables es c.args.found.now found)), subst (λ (bs : List Element). HaveRows bs w.height.result) (sym next.0) (subst (λ (k : ℕ). HaveRows es k) (sym w.height.ensures) (have_rows es c.args.found.now found)))) in
-          (read.0, (subst (λ (s : Sections). AreFound (es ++ e ∷ []) s) (sym w.found-is) (found_entries es e c.args.found.now found _ named may read.1.0), subst (λ (p : Walking). IsBehind c.args.place.now p e rest) (sym w.place-is) read.1.1))
+          (read.0, (subst (λ (s : Sections). AreFound (es ++ e ∷ []) s) (sym w.found-is) (found_entries es e c.args.found.now found _ named may read.1.0), subst (λ (p : Walking). IsBehindElement c.args.place.now p e rest) (sym w.place-is) read.1.1))
     ]
 
 pub returns-clause-sound : goal.returns-clause-sound

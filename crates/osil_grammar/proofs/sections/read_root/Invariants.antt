@@ -4,7 +4,7 @@ use Rattle.osil_grammar.specs.Tags.{Level, names}
 use Rattle.osil_grammar.specs.Kinds.{Osil, path}
 use Rattle.osil_grammar.specs.Walking.{IsJoined}
 use Rattle.osil_grammar.specs.Parsing.{IsDataRead}
-use Rattle.osil_grammar.proofs.Midway.{Midway}
+use Rattle.osil_grammar.proofs.ChildWalks.{Midway}
 use Rattle.osil_grammar.proofs.sections.read_root.Given as goal
 
 -- the child elements that were gone past, and the first `instanceData` among them

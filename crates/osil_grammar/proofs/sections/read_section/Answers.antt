@@ -3,12 +3,12 @@ use Rattle.tree_grammar.specs.Elements.{Element}
 use Rattle.tree_grammar.specs.Tags.{IsAmong}
 use Rattle.osil_grammar.specs.Kinds.{InstanceData, content_names, ordered}
 use Rattle.osil_grammar.specs.Deciding.{IsLate}
-use Rattle.osil_grammar.specs.PartsRead.{name_of, MayStand}
+use Rattle.osil_grammar.specs.PartialParts.{name_of, MayStand}
 use Rattle.osil_grammar.specs.Walking.{Begun}
 use Rattle.osil_grammar.specs.Parsing.{element_tags}
-use Rattle.osil_grammar.proofs.Decided.{refused_start}
+use Rattle.osil_grammar.proofs.FirstRefusals.{refused_start}
 use Rattle.osil_grammar.proofs.Exits.{reads_more}
-use Rattle.osil_grammar.proofs.FoundMore.{found_further}
+use Rattle.osil_grammar.proofs.PartSteps.{found_further}
 use Rattle.osil_grammar.proofs.LatePlaces.{late_told}
 use Rattle.osil_grammar.proofs.PartPlaces.{late}
 use Rattle.osil_grammar.proofs.sections.read_section.Goals as goal

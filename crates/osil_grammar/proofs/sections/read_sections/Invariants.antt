@@ -3,9 +3,9 @@ use Rattle.tree_grammar.specs.Elements.{Element, Event, Close, nodes_events}
 use Rattle.osil_grammar.specs.Tags.{Level, names}
 use Rattle.osil_grammar.specs.Kinds.{InstanceData, path}
 use Rattle.osil_grammar.specs.Walking.{IsJoined, GoesOn}
-use Rattle.osil_grammar.specs.PartsRead.{IsSound}
+use Rattle.osil_grammar.specs.PartialParts.{IsSound}
 use Rattle.osil_grammar.specs.Parsing.{AreFound}
-use Rattle.osil_grammar.proofs.Midway.{Midway}
+use Rattle.osil_grammar.proofs.ChildWalks.{Midway}
 use Rattle.osil_grammar.proofs.sections.read_sections.Given as goal
 
 -- the parts that were gone past, and what they say

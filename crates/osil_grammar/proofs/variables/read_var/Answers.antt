@@ -9,8 +9,8 @@ use Rattle.osil_grammar.specs.Kinds as kinds
 use Rattle.osil_grammar.specs.Deciding.{types}
 use Rattle.osil_grammar.specs.Refusals.{VarType, Bound, TooBig}
 use Rattle.osil_grammar.specs.Parsing.{IsSaid}
-use Rattle.osil_grammar.proofs.AtStart.{told_here, bound_decided, too_big, not_too_big}
-use Rattle.osil_grammar.proofs.Decided.{clean_one}
+use Rattle.osil_grammar.proofs.StartRefusals.{told_here, bound_decided, too_big, not_too_big}
+use Rattle.osil_grammar.proofs.FirstRefusals.{clean_one}
 use Rattle.osil_grammar.proofs.Exits.{handed_on}
 use Rattle.osil_grammar.proofs.Fields.{attributes_are}
 use Rattle.osil_grammar.proofs.StartTags.{past_too_big, past_all}

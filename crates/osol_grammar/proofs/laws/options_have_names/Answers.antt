@@ -1,4 +1,4 @@
-use Rattle.osol_grammar.proofs.Named.{text_name}
+use Rattle.osol_grammar.proofs.JobName.{text_name}
 use Rattle.osol_grammar.proofs.laws.options_have_names.Goals as goal
 
 pub returns : goal.returns

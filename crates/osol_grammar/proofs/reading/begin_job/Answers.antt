@@ -1,6 +1,6 @@
 use Rattle.std.proofs.Common.{◌∙◌, refl}
-use Rattle.document_tags.specs.Coming.{coming}
-use Rattle.osol_grammar.proofs.Taken.{taken_begin, least_twice, tells}
+use Rattle.document_tags.specs.NextTags.{coming}
+use Rattle.osol_grammar.proofs.TagSteps.{taken_begin, least_twice, tells}
 use Rattle.osol_grammar.proofs.reading.begin_job.Goals as goal
 
 pub returns-then-reading : goal.returns-then-reading

@@ -1,8 +1,8 @@
 use Rattle.std.proofs.Common.{◌<◌, ◌≤◌, ◌∙◌, ℕ, List, length, refl, ap, subst}
 use Rattle.decimal_text.specs.Space.{trimmed}
 use Rattle.document_tags.specs.Elements.{unless_empty}
-use Rattle.document_tags.specs.Coming.{coming}
-use Rattle.osol_grammar.proofs.Taken.{taken_end, least_long, tells}
+use Rattle.document_tags.specs.NextTags.{coming}
+use Rattle.osol_grammar.proofs.TagSteps.{taken_end, least_long, tells}
 use Rattle.osol_grammar.proofs.reading.end_job.Goals as goal
 
 pub returns-then-name-gt-MOST_OF_JOB : goal.returns-then-name-gt-MOST_OF_JOB

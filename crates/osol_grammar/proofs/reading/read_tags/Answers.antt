@@ -1,5 +1,5 @@
 use Rattle.std.proofs.Common.{◌≡◌, true}
-use Rattle.osol_grammar.proofs.ReadAll.{refused_here, handed_on, some_come}
+use Rattle.osol_grammar.proofs.AllTags.{refused_here, handed_on, some_come}
 use Rattle.osol_grammar.proofs.reading.read_tags.Goals as goal
 
 pub returns-in_err-take : goal.returns-in_err-take

@@ -1,6 +1,6 @@
 use Rattle.std.proofs.Common.{◌≡◌, ◌∙◌, true, sym}
-use Rattle.document_tags.specs.Coming.{coming}
-use Rattle.osol_grammar.proofs.Taken.{taken_passed, least_root, tells}
+use Rattle.document_tags.specs.NextTags.{coming}
+use Rattle.osol_grammar.proofs.TagSteps.{taken_passed, least_root, tells}
 use Rattle.osol_grammar.proofs.reading.take.Goals as goal
 
 pub returns-then-is_other_root : goal.returns-then-is_other_root

@@ -1,6 +1,6 @@
 use Rattle.std.proofs.Common.{refl}
-use Rattle.document_tags.specs.Coming.{coming}
-use Rattle.osol_grammar.proofs.Taken.{taken_limit, least_limit, tells}
+use Rattle.document_tags.specs.NextTags.{coming}
+use Rattle.osol_grammar.proofs.TagSteps.{taken_limit, least_limit, tells}
 use Rattle.osol_grammar.proofs.reading.take_limit.Goals as goal
 
 pub returns-in-Some : goal.returns-in-Some

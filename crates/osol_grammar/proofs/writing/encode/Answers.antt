@@ -1,7 +1,7 @@
 use Rattle.std.proofs.Common.{refl}
 use Rattle.std.proofs.lemmas.Result.{IfOk-weaker}
 use Rattle.osol_grammar.specs.Writing as writing
-use Rattle.document_tags.proofs.Told.{told_one, told_element}
+use Rattle.document_tags.proofs.Tellings.{told_one, told_element}
 use Rattle.osol_grammar.proofs.writing.encode.Goals as goal
 
 pub told_text-requires : goal.told_text-requires

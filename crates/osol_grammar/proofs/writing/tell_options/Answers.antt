@@ -2,7 +2,7 @@ use Rattle.std.proofs.Common.{List, ◌∷◌, ap}
 use Rattle.std.specs.Prelude.{codes}
 use Rattle.tree_grammar.specs.Elements.{Event, Open, Close, none}
 use Rattle.document_tags.specs.Writing.{only, group}
-use Rattle.document_tags.proofs.Told.{told_then, ends_told, ok_told_as}
+use Rattle.document_tags.proofs.Tellings.{told_then, ends_told, ok_told_as}
 use Rattle.osol_grammar.specs.Writing.{limit_nodes}
 use Rattle.osol_grammar.proofs.WrittenLimits.{job_then}
 use Rattle.osol_grammar.proofs.writing.tell_options.Goals as goal

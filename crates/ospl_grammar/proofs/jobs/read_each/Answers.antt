@@ -2,11 +2,11 @@ use Rattle.std.proofs.Common.{List, sym, subst}
 use Rattle.std.specs.List.{AllZip}
 use Rattle.ospl_grammar.specs.declared.process.StatedJob.{StatedJob}
 use Rattle.std.proofs.lemmas.List.{drop_all}
-use Rattle.document_tags.proofs.Spotted.{from_item}
+use Rattle.document_tags.proofs.Spots.{from_item}
 use Rattle.document_tags.proofs.ElementsLeft.{leaves_all, next, passes, none_left}
 use Rattle.ospl_grammar.specs.Meaning.{IsJob}
-use Rattle.document_tags.proofs.OnlyAnswer.{only_some, only_none}
-use Rattle.ospl_grammar.proofs.Listed.{AreRead, none_read, one_read, all_read, not_read}
+use Rattle.document_tags.proofs.OneAnswer.{only_some, only_none}
+use Rattle.ospl_grammar.proofs.JobLists.{AreRead, none_read, one_read, all_read, not_read}
 use Rattle.ospl_grammar.proofs.jobs.read_each.Goals as goal
 
 pub loop-spot-init : goal.loop-spot-init

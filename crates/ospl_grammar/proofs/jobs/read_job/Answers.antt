@@ -1,6 +1,6 @@
 use Rattle.std.proofs.Common.{◌∙◌, ap, sym, Some, List, ℕ}
 use Rattle.ospl_grammar.specs.Reading.{SaysState}
-use Rattle.document_tags.proofs.OnlyAnswer.{only_some, only_none}
+use Rattle.document_tags.proofs.OneAnswer.{only_some, only_none}
 use Rattle.ospl_grammar.proofs.jobs.read_job.Goals as goal
 
 pub returns-in_default-2 : goal.returns-in_default-2

@@ -1,9 +1,9 @@
 use Rattle.std.proofs.Common.{None, Some, []}
-use Rattle.document_tags.specs.Only.{only_child}
+use Rattle.document_tags.specs.OneChild.{only_child}
 use Rattle.std.specs.Prelude.{codes}
 use Rattle.document_tags.specs.Elements.{children_named}
-use Rattle.document_tags.proofs.OnlyOne.{in_slice, none_yet, at_found}
-use Rattle.ospl_grammar.proofs.Listed.{jobs_listed, no_list}
+use Rattle.document_tags.proofs.OneChild.{in_slice, none_yet, at_found}
+use Rattle.ospl_grammar.proofs.JobLists.{jobs_listed, no_list}
 use Rattle.ospl_grammar.proofs.jobs.read_jobs.Goals as goal
 
 pub returns-in_default : goal.returns-in_default

@@ -1,5 +1,5 @@
 use Rattle.std.specs.Prelude.{codes}
-use Rattle.document_tags.proofs.OnlyOne.{has_name}
+use Rattle.document_tags.proofs.OneChild.{has_name}
 use Rattle.ospl_grammar.proofs.reading.is_named.Goals as goal
 
 pub returns : goal.returns

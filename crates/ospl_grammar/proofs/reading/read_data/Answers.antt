@@ -1,4 +1,4 @@
-use Rattle.document_tags.proofs.OnlyOne.{in_slice}
+use Rattle.document_tags.proofs.OneChild.{in_slice}
 use Rattle.ospl_grammar.specs.Meaning.{statistics}
 use Rattle.ospl_grammar.proofs.reading.read_data.Goals as goal
 

@@ -1,7 +1,7 @@
 use Rattle.std.proofs.Common.{None, Some, slice_get}
-use Rattle.document_tags.proofs.OnlyOne.{at_found}
+use Rattle.document_tags.proofs.OneChild.{at_found}
 use Rattle.ospl_grammar.specs.Meaning.{requests, statistics}
-use Rattle.ospl_grammar.proofs.Asked.{asks, tells}
+use Rattle.ospl_grammar.proofs.Roots.{asks, tells}
 use Rattle.ospl_grammar.proofs.reading.read_process.Goals as goal
 
 pub returns-in_default : goal.returns-in_default

@@ -1,7 +1,7 @@
 use Rattle.std.proofs.Common.{inr}
 use Rattle.ospl_grammar.specs.Meaning.{Says}
-use Rattle.document_tags.proofs.OnlyAnswer.{only_some, only_none, refused}
-use Rattle.ospl_grammar.proofs.Asked.{silent}
+use Rattle.document_tags.proofs.OneAnswer.{only_some, only_none, refused}
+use Rattle.ospl_grammar.proofs.Roots.{silent}
 use Rattle.ospl_grammar.proofs.reading.read_root.Goals as goal
 
 pub returns-then-not-is_named-clause-err : goal.returns-then-not-is_named-clause-err

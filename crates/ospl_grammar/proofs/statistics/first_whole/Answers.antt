@@ -1,10 +1,10 @@
 use Rattle.std.proofs.Common.{inl}
 use Rattle.std.proofs.lemmas.List.{drop_all}
-use Rattle.document_tags.proofs.Spotted.{from_item}
+use Rattle.document_tags.proofs.Spots.{from_item}
 use Rattle.document_tags.proofs.ElementsLeft.{leaves_all, next, passes, none_left}
 use Rattle.ospl_grammar.specs.Meaning.{SaysStatistics}
-use Rattle.document_tags.proofs.OnlyAnswer.{only_some, only_none}
-use Rattle.ospl_grammar.proofs.Whole.{Same, all_same, passed}
+use Rattle.document_tags.proofs.OneAnswer.{only_some, only_none}
+use Rattle.ospl_grammar.proofs.WholeStatistics.{Same, all_same, passed}
 use Rattle.ospl_grammar.proofs.statistics.first_whole.Goals as goal
 
 pub loop-spot-init : goal.loop-spot-init

@@ -1,8 +1,8 @@
 use Rattle.std.proofs.Common.{arith}
 use Rattle.std.specs.Prelude.{codes}
 use Rattle.ospl_grammar.specs.Meaning.{SaysNumber}
-use Rattle.document_tags.proofs.OnlyAnswer.{only_some, only_none}
-use Rattle.ospl_grammar.proofs.Counted.{too_great}
+use Rattle.document_tags.proofs.OneAnswer.{only_some, only_none}
+use Rattle.ospl_grammar.proofs.Numbers.{too_great}
 use Rattle.ospl_grammar.proofs.statistics.read_current.Goals as goal
 
 pub returns-in_default : goal.returns-in_default

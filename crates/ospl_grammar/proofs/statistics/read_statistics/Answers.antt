@@ -1,6 +1,6 @@
 use Rattle.ospl_grammar.specs.Meaning.{SaysBusy, SaysCurrent, SaysTotal, AreJobs}
-use Rattle.document_tags.proofs.OnlyAnswer.{only_some, only_none}
-use Rattle.ospl_grammar.proofs.Whole.{lacks}
+use Rattle.document_tags.proofs.OneAnswer.{only_some, only_none}
+use Rattle.ospl_grammar.proofs.WholeStatistics.{lacks}
 use Rattle.ospl_grammar.proofs.statistics.read_statistics.Goals as goal
 
 pub returns-in_default : goal.returns-in_default

@@ -1,6 +1,6 @@
 use Rattle.std.proofs.Common.{refl}
 use Rattle.std.proofs.lemmas.Result.{IfOk-weaker}
-use Rattle.document_tags.proofs.Told.{told_one, told_element}
+use Rattle.document_tags.proofs.Tellings.{told_one, told_element}
 use Rattle.ospl_grammar.specs.Writing.{process_element}
 use Rattle.ospl_grammar.proofs.writing.encode.Goals as goal
 

@@ -1,5 +1,5 @@
 use Rattle.std.proofs.Common.{◌∙◌}
-use Rattle.document_tags.proofs.Told.{told_then, ends_told}
+use Rattle.document_tags.proofs.Tellings.{told_then, ends_told}
 use Rattle.osrl_grammar.proofs.certificates.tell_cause.Goals as goal
 
 pub returns : goal.returns

@@ -1,7 +1,7 @@
 use Rattle.std.proofs.Common.{refl, below_more}
 use Rattle.osrl_grammar.specs.Refusals.{IsPartCounted}
 use Rattle.osrl_grammar.proofs.Wholes.{accepted}
-use Rattle.osrl_grammar.proofs.Parted.{each_part}
+use Rattle.osrl_grammar.proofs.ReportParts.{each_part}
 use Rattle.osrl_grammar.proofs.checks.are_counted.Goals as goal
 
 pub loop-part-preserved : goal.loop-part-preserved

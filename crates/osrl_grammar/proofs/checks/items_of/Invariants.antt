@@ -3,10 +3,10 @@ use Rattle.std.specs.Prelude.{flat_map}
 use Rattle.tree_grammar.specs.Elements.{Element}
 use Rattle.document_tags.specs.declared.spot.Spot.{Spot}
 use Rattle.osrl_grammar.specs.Parts.{items_of}
-use Rattle.document_tags.specs.Spots.{Stands, AreSpots}
+use Rattle.document_tags.specs.Spots.{StandsAt, AreSpots}
 use Rattle.osrl_grammar.specs.Spots.{AreItems}
-use Rattle.osrl_grammar.proofs.Walked.{Walks}
+use Rattle.osrl_grammar.proofs.ListWalks.{Walks}
 use Rattle.osrl_grammar.proofs.checks.items_of.Given as goal
 
 abbrev pub invariant-loop-result : goal.invariant-loop-result
-invariant-loop-result l = (es : List Element) → AreSpots l.results es → Walks Spot Element Stands es (drop l.result-index l.results) (λ before. AreItems l.out.items (flat_map items_of before))
+invariant-loop-result l = (es : List Element) → AreSpots l.results es → Walks Spot Element StandsAt es (drop l.result-index l.results) (λ before. AreItems l.out.items (flat_map items_of before))

@@ -1,4 +1,4 @@
-use Rattle.osrl_grammar.proofs.Parted.{nothing_added}
+use Rattle.osrl_grammar.proofs.ReportParts.{nothing_added}
 use Rattle.osrl_grammar.proofs.checks.push_items.Goals as goal
 
 pub returns-in_default : goal.returns-in_default

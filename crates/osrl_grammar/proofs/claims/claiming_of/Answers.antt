@@ -1,6 +1,6 @@
 use Rattle.std.proofs.Common.{◌≡◌}
 use Rattle.osrl_grammar.specs.Refusals.{claiming_text}
-use Rattle.osrl_grammar.proofs.Found.{only_among, all_claimings, each_claiming}
+use Rattle.osrl_grammar.proofs.WordValues.{only_among, all_claimings, each_claiming}
 use Rattle.osrl_grammar.proofs.claims.claiming_of.Goals as goal
 
 pub returns : goal.returns

@@ -1,5 +1,5 @@
 use Rattle.std.proofs.Common.{◌∙◌}
-use Rattle.osrl_grammar.proofs.Claimed.{not_one, one_spot, no_cause}
+use Rattle.osrl_grammar.proofs.ClaimParts.{not_one, one_spot, no_cause}
 use Rattle.osrl_grammar.proofs.claims.one_cause.Goals as goal
 
 pub returns-then-items-ne1 : goal.returns-then-items-ne1

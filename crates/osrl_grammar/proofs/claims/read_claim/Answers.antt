@@ -1,7 +1,7 @@
 use Rattle.osrl_grammar.specs.Parts.{results}
 use Rattle.osrl_grammar.specs.Refusals.{Claims}
 use Rattle.osrl_grammar.specs.declared.parts.Claiming.TheVariants.{Optimal, Infeasible, Unbounded, BestSoFar, Unsure}
-use Rattle.osrl_grammar.proofs.Claimed.{kind, says_kind, only_none, claims_as, in_slice}
+use Rattle.osrl_grammar.proofs.ClaimParts.{kind, says_kind, only_none, claims_as, in_slice}
 use Rattle.osrl_grammar.proofs.claims.read_claim.Goals as goal
 
 pub returns-in_default : goal.returns-in_default

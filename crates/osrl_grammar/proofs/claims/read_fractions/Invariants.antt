@@ -4,9 +4,9 @@ use Rattle.document_tags.specs.declared.spot.Spot.{Spot}
 use Rattle.document_tags.specs.Elements.{own_text}
 use Rattle.std.specs.List.{AllZip}
 use Rattle.osrl_grammar.specs.Values.{IsFraction}
-use Rattle.document_tags.specs.Spots.{Stands, AreSpots}
-use Rattle.osrl_grammar.proofs.Walked.{Walks}
+use Rattle.document_tags.specs.Spots.{StandsAt, AreSpots}
+use Rattle.osrl_grammar.proofs.ListWalks.{Walks}
 use Rattle.osrl_grammar.proofs.claims.read_fractions.Given as goal
 
 abbrev pub invariant-loop-item : goal.invariant-loop-item
-invariant-loop-item l = (es : List Element) → AreSpots l.items es → Walks Spot Element Stands es (drop l.item-index l.items) (λ before. AllZip IsFraction (map own_text before) l.numbers.items)
+invariant-loop-item l = (es : List Element) → AreSpots l.items es → Walks Spot Element StandsAt es (drop l.item-index l.items) (λ before. AllZip IsFraction (map own_text before) l.numbers.items)

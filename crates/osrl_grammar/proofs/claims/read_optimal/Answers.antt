@@ -1,5 +1,5 @@
 use Rattle.osrl_grammar.specs.Parts.{results}
-use Rattle.osrl_grammar.proofs.Claimed.{no_point, no_optimal}
+use Rattle.osrl_grammar.proofs.ClaimParts.{no_point, no_optimal}
 use Rattle.osrl_grammar.proofs.claims.read_optimal.Goals as goal
 
 pub returns-in_default : goal.returns-in_default

@@ -3,8 +3,8 @@ use Rattle.fraction.specs.declared.frac.Frac.{Frac}
 use Rattle.osrl_grammar.specs.declared.parts.Part.TheVariants.{Value}
 use Rattle.osrl_grammar.specs.Values.{IsFraction}
 use Rattle.osrl_grammar.specs.Claiming.{AreOf}
-use Rattle.osrl_grammar.proofs.Parted.{at_some}
-use Rattle.osrl_grammar.proofs.Claimed.{one_value}
+use Rattle.osrl_grammar.proofs.ReportParts.{at_some}
+use Rattle.osrl_grammar.proofs.ClaimParts.{one_value}
 use Rattle.osrl_grammar.proofs.claims.read_value.Goals as goal
 
 pub returns-in-Some : goal.returns-in-Some

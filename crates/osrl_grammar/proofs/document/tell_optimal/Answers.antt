@@ -4,8 +4,8 @@ use Rattle.osrl_grammar.specs.declared.parts.Claiming.TheVariants as claiming
 use Rattle.osrl_grammar.specs.Refusals.{claiming_text}
 use Rattle.document_tags.specs.Writing.{group, typed}
 use Rattle.osrl_grammar.specs.Writing.{point_values, point_parts, tree_part, dual_values}
-use Rattle.document_tags.proofs.Told.{told_then, ends_told, ok_told_as}
-use Rattle.osrl_grammar.proofs.Listed.{duals_then}
+use Rattle.document_tags.proofs.Tellings.{told_then, ends_told, ok_told_as}
+use Rattle.osrl_grammar.proofs.ItemLists.{duals_then}
 use Rattle.osrl_grammar.proofs.document.tell_optimal.Goals as goal
 
 pub returns : goal.returns

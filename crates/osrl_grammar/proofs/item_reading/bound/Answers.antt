@@ -1,4 +1,4 @@
-use Rattle.osrl_grammar.proofs.Worded.{at_pairs, bound_node, bound_unread}
+use Rattle.osrl_grammar.proofs.ItemWords.{at_pairs, bound_node, bound_unread}
 use Rattle.osrl_grammar.proofs.item_reading.bound.Goals as goal
 
 pub returns-in-Ok-clause-ok : goal.returns-in-Ok-clause-ok

@@ -1,4 +1,4 @@
-use Rattle.osrl_grammar.proofs.Worded.{at_pairs, farkas_node, farkas_unread}
+use Rattle.osrl_grammar.proofs.ItemWords.{at_pairs, farkas_node, farkas_unread}
 use Rattle.osrl_grammar.proofs.item_reading.farkas.Goals as goal
 
 pub returns-in-Ok-clause-ok : goal.returns-in-Ok-clause-ok

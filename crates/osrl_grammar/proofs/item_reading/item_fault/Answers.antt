@@ -1,6 +1,6 @@
 use Rattle.osrl_grammar.specs.declared.parts.Part.TheVariants.{Tree, Cause}
 use Rattle.osrl_grammar.specs.Values.{IsNode, IsCause}
-use Rattle.osrl_grammar.proofs.Faulted.{part_found, number_found, node_readable, cause_readable}
+use Rattle.osrl_grammar.proofs.ItemFaults.{part_found, number_found, node_readable, cause_readable}
 use Rattle.osrl_grammar.proofs.item_reading.item_fault.Goals as goal
 
 pub returns-in_ok-read_node-in-Tree : goal.returns-in_ok-read_node-in-Tree

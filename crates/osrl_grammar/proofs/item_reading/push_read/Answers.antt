@@ -3,7 +3,7 @@ use Rattle.std.specs.Prelude.{flat_map}
 use Rattle.osrl_grammar.specs.Numbers.{Field}
 use Rattle.osrl_grammar.specs.Items.{pair_fields}
 use Rattle.osrl_grammar.specs.Fields.{AreNot}
-use Rattle.osrl_grammar.proofs.Fielded.{pushed, faulted, fields_more, at_pair}
+use Rattle.osrl_grammar.proofs.Fields.{pushed, faulted, fields_more, at_pair}
 use Rattle.osrl_grammar.proofs.item_reading.push_read.Goals as goal
 
 pub returns-in_ok-push-in-Ok : goal.returns-in_ok-push-in-Ok

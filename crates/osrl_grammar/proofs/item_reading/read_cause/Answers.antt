@@ -1,6 +1,6 @@
 use Rattle.std.specs.Prelude.{codes}
-use Rattle.osrl_grammar.proofs.Shaped.{all_cut}
-use Rattle.osrl_grammar.proofs.Worded.{other_word, no_plain}
+use Rattle.osrl_grammar.proofs.Shapes.{all_cut}
+use Rattle.osrl_grammar.proofs.ItemWords.{other_word, no_plain}
 use Rattle.osrl_grammar.proofs.item_reading.read_cause.Goals as goal
 
 pub returns-else-eq-3-clause-err : goal.returns-else-eq-3-clause-err

@@ -1,8 +1,8 @@
 use Rattle.osrl_grammar.specs.Items.{IsFree}
 use Rattle.osrl_grammar.specs.Numbers.{Index}
 use Rattle.osrl_grammar.proofs.Wholes.{accepted}
-use Rattle.osrl_grammar.proofs.Fielded.{one_unread}
-use Rattle.osrl_grammar.proofs.Worded.{clash_node, clash_unread}
+use Rattle.osrl_grammar.proofs.Fields.{one_unread}
+use Rattle.osrl_grammar.proofs.ItemWords.{clash_node, clash_unread}
 use Rattle.osrl_grammar.proofs.item_reading.read_clash.Goals as goal
 
 pub returns-in-Ok-clause-ok : goal.returns-in-Ok-clause-ok

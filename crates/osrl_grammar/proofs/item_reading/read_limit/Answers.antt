@@ -1,6 +1,6 @@
 use Rattle.osrl_grammar.specs.Items.{IsFree}
 use Rattle.osrl_grammar.proofs.Wholes.{accepted}
-use Rattle.osrl_grammar.proofs.Worded.{limit_ok, limit_err, node_limit_cause, turn_limit_cause, node_limit_unread, turn_limit_unread}
+use Rattle.osrl_grammar.proofs.ItemWords.{limit_ok, limit_err, node_limit_cause, turn_limit_cause, node_limit_unread, turn_limit_unread}
 use Rattle.osrl_grammar.proofs.item_reading.read_limit.Goals as goal
 
 pub returns-then-is_free-clause-nodes : goal.returns-then-is_free-clause-nodes

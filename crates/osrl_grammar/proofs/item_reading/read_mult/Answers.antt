@@ -2,7 +2,7 @@ use Rattle.std.proofs.Common.{pos, [], ◌∷◌}
 use Rattle.rational.specs.Ratio.{whole}
 use Rattle.fraction.specs.Frac.{ratio}
 use Rattle.osrl_grammar.specs.Numbers.{Index, Exact}
-use Rattle.osrl_grammar.proofs.Fielded.{one_read}
+use Rattle.osrl_grammar.proofs.Fields.{one_read}
 use Rattle.osrl_grammar.proofs.item_reading.read_mult.Goals as goal
 
 pub returns-in-Err-clause-err : goal.returns-in-Err-clause-err

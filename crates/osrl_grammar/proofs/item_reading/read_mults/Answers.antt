@@ -1,6 +1,6 @@
 use Rattle.osrl_grammar.specs.Pieces.{tail}
-use Rattle.osrl_grammar.proofs.Fielded.{pair_read}
-use Rattle.osrl_grammar.proofs.Shaped.{begins_more, no_pairs, cut_tail, tail_follows, shrinks, at_rest}
+use Rattle.osrl_grammar.proofs.Fields.{pair_read}
+use Rattle.osrl_grammar.proofs.Shapes.{begins_more, no_pairs, cut_tail, tail_follows, shrinks, at_rest}
 use Rattle.osrl_grammar.proofs.item_reading.read_mults.Goals as goal
 
 pub returns-in_default-parted : goal.returns-in_default-parted

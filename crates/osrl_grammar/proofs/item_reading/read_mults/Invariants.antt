@@ -1,6 +1,6 @@
 use Rattle.std.proofs.Common.{length}
 use Rattle.osrl_grammar.specs.Pieces.{tail}
-use Rattle.osrl_grammar.proofs.Shaped.{Begins}
+use Rattle.osrl_grammar.proofs.Shapes.{Begins}
 use Rattle.osrl_grammar.proofs.item_reading.read_mults.Given as goal
 
 abbrev pub invariant-loop-rest : goal.invariant-loop-rest

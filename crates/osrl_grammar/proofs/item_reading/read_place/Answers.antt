@@ -1,8 +1,8 @@
 use Rattle.std.proofs.Common.{[], ◌∷◌, pos}
 use Rattle.rational.specs.Ratio.{whole}
-use Rattle.osrl_grammar.specs.Numbers.{Index, Turn, IsNumber}
-use Rattle.osrl_grammar.proofs.Fielded.{one_read}
-use Rattle.osrl_grammar.proofs.Worded.{at_ok, no_place, no_step, place_behind, place_is, wide_cause, wide_unread}
+use Rattle.osrl_grammar.specs.Numbers.{Index, Turn, IsNumberText}
+use Rattle.osrl_grammar.proofs.Fields.{one_read}
+use Rattle.osrl_grammar.proofs.ItemWords.{at_ok, no_place, no_step, place_behind, place_is, wide_cause, wide_unread}
 use Rattle.osrl_grammar.proofs.item_reading.read_place.Goals as goal
 
 pub returns-in_default-clause-err : goal.returns-in_default-clause-err
@@ -19,8 +19,8 @@ returns-in_default-step_of-clause-err c = λ s h.
 
 pub returns-in-Ok-clause-ok : goal.returns-in-Ok-clause-ok
 returns-in-Ok-clause-ok c =
-    let node = at_ok c.read_index.result c.in-Ok.node (λ n. IsNumber Index c.in-Some.node.now (whole (pos n))) c.in-Ok.ensures.ok.0 c.read_index.ensures.ok in
-    let turn = at_ok c.read_turn.result c.in-Ok.turn (λ n. IsNumber Turn c.in-Some-two_pieces.turn.now (whole (pos n))) c.in-Ok.ensures.ok.1 c.read_turn.ensures.ok in
+    let node = at_ok c.read_index.result c.in-Ok.node (λ n. IsNumberText Index c.in-Some.node.now (whole (pos n))) c.in-Ok.ensures.ok.0 c.read_index.ensures.ok in
+    let turn = at_ok c.read_turn.result c.in-Ok.turn (λ n. IsNumberText Turn c.in-Some-two_pieces.turn.now (whole (pos n))) c.in-Ok.ensures.ok.1 c.read_turn.ensures.ok in
     wide_cause c.args.rest.now c.in-Some.node.now c.in-Some-two_pieces.turn.now (record { node = c.in-Ok.node; turn = c.in-Ok.turn; step = c.in-Some-step_of.step })
     (place_is c.args.rest.now c.in-Some.node.now c.in-Some.rest.now c.in-Some-two_pieces.turn.now c.in-Some-two_pieces.word.now c.in-Some-step_of.step c.in-Some.ensures.0 c.in-Some-two_pieces.ensures c.in-Some-step_of.ensures)
     c.in-Some.ensures.1 c.in-Some-two_pieces.ensures.1 node turn

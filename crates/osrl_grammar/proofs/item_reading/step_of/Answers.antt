@@ -1,6 +1,6 @@
 use Rattle.std.proofs.Common.{◌≡◌}
 use Rattle.osrl_grammar.specs.Items.{step_text}
-use Rattle.osrl_grammar.proofs.Found.{only_among, all_steps, each_step}
+use Rattle.osrl_grammar.proofs.WordValues.{only_among, all_steps, each_step}
 use Rattle.osrl_grammar.proofs.item_reading.step_of.Goals as goal
 
 pub returns : goal.returns

@@ -1,4 +1,4 @@
-use Rattle.osrl_grammar.proofs.Fielded.{some_fault, no_fault, read_then}
+use Rattle.osrl_grammar.proofs.Fields.{some_fault, no_fault, read_then}
 use Rattle.osrl_grammar.proofs.item_reading.with_fault.Goals as goal
 
 pub returns-in-Some : goal.returns-in-Some

@@ -1,4 +1,4 @@
-use Rattle.osrl_grammar.proofs.Fielded.{at_fault, great_then, other_then}
+use Rattle.osrl_grammar.proofs.Fields.{at_fault, great_then, other_then}
 use Rattle.osrl_grammar.proofs.item_reading.worse.Goals as goal
 
 pub returns-in-TooGreat : goal.returns-in-TooGreat

@@ -1,4 +1,4 @@
-use Rattle.osrl_grammar.proofs.ReadAgain.{reads_again}
+use Rattle.osrl_grammar.proofs.RoundTrips.{reads_again}
 use Rattle.osrl_grammar.proofs.laws.reports_are_read_back.Goals as goal
 
 pub returns : goal.returns

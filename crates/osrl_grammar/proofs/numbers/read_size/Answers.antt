@@ -3,7 +3,7 @@ use Rattle.std.specs.Prelude.{unsigned_abs}
 use Rattle.std.proofs.Math.Facts.{to_z-of_z}
 use Rattle.rational.specs.Ratio.{whole}
 use Rattle.osrl_grammar.specs.Items.{IsFree}
-use Rattle.osrl_grammar.specs.Numbers.{Index, Turn, Writes}
+use Rattle.osrl_grammar.specs.Numbers.{Index, Turn, WritesNumber}
 use Rattle.osrl_grammar.proofs.Wholes.{not_size, size_read, size_unread, index_sizes, turn_sizes, fits_signed, accepted, refused}
 use Rattle.osrl_grammar.proofs.numbers.read_size.Goals as goal
 
@@ -18,7 +18,7 @@ returns-in-Ok-clause-ok c =
     let h = c.in-Ok.ensures.ok in
     let same : c.unsigned_abs.result ≡ unsigned_abs c.in-Ok.k = c.unsigned_abs.ensures.value ∙ ap (λ (z : ℤ). unsigned_abs z) (to_z-of_z (fits_signed c.in-Ok.k h.1.0)) in
     let free = accepted c.is_free.result (IsFree 45 c.args.text.now) c.is_free.ensures c.if-not-is_free.false in
-    subst (λ n. Writes Index c.args.text.now (whole (pos n))) (sym same) (size_read c.args.text.now c.in-Ok.k h free)
+    subst (λ n. WritesNumber Index c.args.text.now (whole (pos n))) (sym same) (size_read c.args.text.now c.in-Ok.k h free)
 
 pub returns-in-Err-clause-index : goal.returns-in-Err-clause-index
 returns-in-Err-clause-index c = size_unread Index c.args.text.now c.in-Err.unread index_sizes c.in-Err.ensures.err (accepted c.is_free.result (IsFree 45 c.args.text.now) c.is_free.ensures c.if-not-is_free.false)

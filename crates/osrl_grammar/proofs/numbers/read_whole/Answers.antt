@@ -4,7 +4,7 @@ use Rattle.std.proofs.Common.{◌≡◌, ◌∙◌, ap, ℤ, sym, subst}
 use Rattle.std.proofs.Math.Facts.{to_z-of_z}
 use Rattle.rational.specs.Ratio.{whole}
 use Rattle.osrl_grammar.specs.Items.{IsFree}
-use Rattle.osrl_grammar.specs.Numbers.{Whole, IsNumber}
+use Rattle.osrl_grammar.specs.Numbers.{Whole, IsNumberText}
 use Rattle.osrl_grammar.proofs.Wholes.{not_whole, whole_read, whole_unread, fits_signed, accepted, refused}
 use Rattle.osrl_grammar.proofs.numbers.read_whole.Goals as goal
 
@@ -15,7 +15,7 @@ pub returns-in-Ok-clause-ok : goal.returns-in-Ok-clause-ok
 returns-in-Ok-clause-ok c =
     let same : to_z w128 (of_z w128 c.numer.result) ≡ c.in-Ok.x.numer = ap (λ (z : ℤ). to_z w128 (of_z w128 z)) c.numer.ensures ∙ to_z-of_z (fits_signed c.in-Ok.x.numer c.in-Ok.x.numer_within) in
     let free = accepted c.is_free.result (IsFree 47 c.args.text.now) c.is_free.ensures c.if-not-is_free.false in
-    subst (λ (z : ℤ). IsNumber Whole c.args.text.now (whole z)) (sym same) (whole_read c.args.text.now c.in-Ok.x c.in-Ok.ensures.ok free)
+    subst (λ (z : ℤ). IsNumberText Whole c.args.text.now (whole z)) (sym same) (whole_read c.args.text.now c.in-Ok.x c.in-Ok.ensures.ok free)
 
 pub returns-in-Err-clause-err : goal.returns-in-Err-clause-err
 returns-in-Err-clause-err c = whole_unread c.args.text.now c.in-Err.unread c.in-Err.ensures.err (accepted c.is_free.result (IsFree 47 c.args.text.now) c.is_free.ensures c.if-not-is_free.false)

@@ -1,4 +1,4 @@
-use Rattle.osrl_grammar.proofs.Exact.{exact_refused}
+use Rattle.osrl_grammar.proofs.ItemRatios.{exact_refused}
 use Rattle.osrl_grammar.proofs.numbers.unread.Goals as goal
 
 pub returns-in-NotNumber : goal.returns-in-NotNumber

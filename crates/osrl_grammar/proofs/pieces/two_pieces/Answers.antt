@@ -1,6 +1,6 @@
 use Rattle.osrl_grammar.specs.Items.{IsFree}
 use Rattle.osrl_grammar.proofs.Wholes.{refused}
-use Rattle.osrl_grammar.proofs.Shaped.{no_two, not_two}
+use Rattle.osrl_grammar.proofs.Shapes.{no_two, not_two}
 use Rattle.osrl_grammar.proofs.pieces.two_pieces.Goals as goal
 
 pub returns-in_default : goal.returns-in_default

@@ -1,5 +1,5 @@
 use Rattle.osrl_grammar.specs.Parts.{all_results}
-use Rattle.osrl_grammar.proofs.Reported.{several_solutions, root_counted}
+use Rattle.osrl_grammar.proofs.Reports.{several_solutions, root_counted}
 use Rattle.osrl_grammar.proofs.reading.is_root_counted.Goals as goal
 
 pub returns-then-solutions-gt1 : goal.returns-then-solutions-gt1

@@ -1,6 +1,6 @@
 use Rattle.osrl_grammar.specs.Meaning.{SaysClaim}
-use Rattle.osrl_grammar.proofs.Claimed.{only_none}
-use Rattle.osrl_grammar.proofs.Reported.{only_some, no_solution, first_claims, first_silent}
+use Rattle.osrl_grammar.proofs.ClaimParts.{only_none}
+use Rattle.osrl_grammar.proofs.Reports.{only_some, no_solution, first_claims, first_silent}
 use Rattle.osrl_grammar.proofs.reading.read_claims.Goals as goal
 
 pub returns-in_default : goal.returns-in_default

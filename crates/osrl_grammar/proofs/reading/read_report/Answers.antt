@@ -1,8 +1,8 @@
 use Rattle.osrl_grammar.specs.Parts.{solutions}
 use Rattle.osrl_grammar.specs.Meaning.{SayClaim}
 use Rattle.osrl_grammar.specs.Roots.{SaysError, SaysStatus}
-use Rattle.osrl_grammar.proofs.Claimed.{only_none}
-use Rattle.osrl_grammar.proofs.Reported.{only_some}
+use Rattle.osrl_grammar.proofs.ClaimParts.{only_none}
+use Rattle.osrl_grammar.proofs.Reports.{only_some}
 use Rattle.osrl_grammar.proofs.reading.read_report.Goals as goal
 
 pub returns-in_default : goal.returns-in_default

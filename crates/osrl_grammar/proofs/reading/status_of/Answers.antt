@@ -1,6 +1,6 @@
 use Rattle.std.proofs.Common.{◌≡◌}
 use Rattle.osrl_grammar.specs.Refusals.{status_text}
-use Rattle.osrl_grammar.proofs.Found.{only_among, all_statuses, each_status}
+use Rattle.osrl_grammar.proofs.WordValues.{only_among, all_statuses, each_status}
 use Rattle.osrl_grammar.proofs.reading.status_of.Goals as goal
 
 pub returns : goal.returns

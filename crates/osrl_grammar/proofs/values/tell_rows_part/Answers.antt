@@ -1,5 +1,5 @@
-use Rattle.document_tags.proofs.Told.{told_then, ends_told, ok_told_as}
-use Rattle.osrl_grammar.proofs.Listed.{rows_shown}
+use Rattle.document_tags.proofs.Tellings.{told_then, ends_told, ok_told_as}
+use Rattle.osrl_grammar.proofs.ItemLists.{rows_shown}
 use Rattle.osrl_grammar.proofs.values.tell_rows_part.Goals as goal
 
 pub returns : goal.returns

@@ -1,4 +1,4 @@
-use Rattle.search_rules.proofs.Scaled.{ray_of, one_ray}
+use Rattle.search_rules.proofs.Rays.{ray_of, one_ray}
 use Rattle.search_rules.proofs.laws.directions_have_rays.Goals as goal
 
 pub returns-clause-rays : goal.returns-clause-rays

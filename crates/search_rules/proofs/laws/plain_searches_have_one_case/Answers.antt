@@ -1,4 +1,4 @@
-use Rattle.search_rules.proofs.Plain.{comes_plain}
+use Rattle.search_rules.proofs.PlainSearches.{comes_plain}
 use Rattle.search_rules.proofs.laws.plain_searches_have_one_case.Goals as goal
 
 pub returns : goal.returns

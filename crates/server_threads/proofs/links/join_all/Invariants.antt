@@ -1,6 +1,6 @@
 use Rattle.std.proofs.Common.{◌≡◌}
 use Rattle.std.specs.VecDeque.{deque_len}
-use Rattle.server_threads.specs.Going.{Goes}
+use Rattle.server_threads.specs.OpenLinks.{Goes}
 use Rattle.server_threads.proofs.links.join_all.Given as goal
 
 abbrev pub invariant-loop-seat : goal.invariant-loop-seat

@@ -1,6 +1,6 @@
 use Rattle.std.proofs.Common.{◌≡◌, ◌+◌, ◌≤◌}
 use Rattle.std.specs.VecDeque.{deque_len, deque_capacity}
-use Rattle.server_threads.specs.Going.{Goes}
+use Rattle.server_threads.specs.OpenLinks.{Goes}
 use Rattle.server_threads.proofs.links.take_links.Given as goal
 
 abbrev pub invariant-loop-turn : goal.invariant-loop-turn

@@ -2,8 +2,8 @@ use Rattle.std.proofs.Common.{List}
 use Rattle.std.specs.VecDeque.{deque_len}
 use Rattle.desk.specs.declared.view.Met.{Met}
 use Rattle.desk.specs.History.{StartsWith}
-use Rattle.desk.specs.Asks.{desk_id, IsSeatOf}
-use Rattle.server_threads.specs.Going.{Staffed}
+use Rattle.desk.specs.SeatMoves.{desk_id, IsSeatOf}
+use Rattle.server_threads.specs.OpenLinks.{Staffed}
 use Rattle.server_threads.proofs.staff.relieve.Given as goal
 
 abbrev pub invariant-loop-first : goal.invariant-loop-first

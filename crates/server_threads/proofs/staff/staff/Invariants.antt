@@ -1,7 +1,7 @@
 use Rattle.std.proofs.Common.{◌≡◌, ◌≤◌}
 use Rattle.std.specs.VecDeque.{deque_len, deque_capacity}
-use Rattle.desk.specs.Asks.{desk_id, IsSeatOf}
-use Rattle.server_threads.specs.Going.{Hired}
+use Rattle.desk.specs.SeatMoves.{desk_id, IsSeatOf}
+use Rattle.server_threads.specs.OpenLinks.{Hired}
 use Rattle.server_threads.proofs.staff.staff.Given as goal
 
 abbrev pub invariant-loop-turn : goal.invariant-loop-turn

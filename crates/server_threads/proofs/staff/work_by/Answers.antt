@@ -1,6 +1,6 @@
 use Rattle.std.proofs.Common.{[], refl, sym, subst, inl}
-use Rattle.desk.specs.Asks.{IsSeatOf}
-use Rattle.desk.specs.Asked.{asked_none}
+use Rattle.desk.specs.SeatMoves.{IsSeatOf}
+use Rattle.desk.specs.SeatHistory.{asked_none}
 use Rattle.server_threads.proofs.staff.work_by.Goals as goal
 
 pub returns-then-load-number : goal.returns-then-load-number

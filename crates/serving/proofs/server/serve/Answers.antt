@@ -1,6 +1,6 @@
-use Rattle.command_answers.proofs.Sending.{sent, broken}
+use Rattle.command_answers.proofs.Outputs.{sent, broken}
 use Rattle.serving.proofs.Endings.{unheard, unsaid, unopened, all_told, unreported, broken_off}
-use Rattle.serving.proofs.Hosting.{hosted}
+use Rattle.serving.proofs.Histories.{hosted}
 use Rattle.serving.proofs.server.serve.Goals as goal
 
 pub returns-in_default-clause-served : goal.returns-in_default-clause-served

@@ -1,7 +1,7 @@
-use Rattle.sessions.proofs.Alone.{served_alone, closed_runs}
+use Rattle.sessions.proofs.OneSeat.{served_alone, closed_runs}
 use Rattle.std.proofs.Common.{◌≡◌, sym, subst}
-use Rattle.desk.specs.Asks.{Closes}
-use Rattle.solve_run.specs.Right.{Right}
+use Rattle.desk.specs.SeatMoves.{Closes}
+use Rattle.solve_run.specs.JobAnswers.{Right}
 use Rattle.sessions.proofs.session.serve_alone.Goals as goal
 
 pub returns-clause-serves : goal.returns-clause-serves

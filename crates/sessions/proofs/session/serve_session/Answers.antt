@@ -1,4 +1,4 @@
-use Rattle.sessions.proofs.Alone.{served_without, session_of}
+use Rattle.sessions.proofs.OneSeat.{served_without, session_of}
 use Rattle.sessions.proofs.session.serve_session.Goals as goal
 
 pub returns-in-Ok-clause-session : goal.returns-in-Ok-clause-session

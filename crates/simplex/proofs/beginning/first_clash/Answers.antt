@@ -1,7 +1,7 @@
 use Rattle.std.proofs.Common.{◌<◌, length, below_more, subst, sym, ◌∙◌, arith}
 use Rattle.evidence.specs.Cases.{IsEmpty}
 use Rattle.simplex.specs.Cuts.{ranges_in}
-use Rattle.simplex.proofs.EndsRead.{read_range}
+use Rattle.simplex.proofs.ColumnEnds.{read_range}
 use Rattle.simplex.proofs.beginning.first_clash.Goals as goal
 
 pub returns-then-is_empty : goal.returns-then-is_empty

@@ -2,7 +2,7 @@ use Rattle.std.proofs.Common.{sym, ◌∙◌, ap, arith}
 use Rattle.std.specs.Prelude.{slice_set}
 use Rattle.evidence.proofs.Columns.{by_eq}
 use Rattle.simplex.specs.Cuts.{ranges_in, range_at}
-use Rattle.simplex.proofs.Begun.{range_set, range_other}
+use Rattle.simplex.proofs.Starts.{range_set, range_other}
 use Rattle.simplex.proofs.beginning.set_ends.Goals as goal
 
 pub loop-c-preserved : goal.loop-c-preserved

@@ -5,8 +5,8 @@ use Rattle.evidence.specs.Instance.{Range}
 use Rattle.evidence.proofs.Columns.{by_eq}
 use Rattle.simplex_rules.specs.declared.columns.Status.TheVariants.{Basic}
 use Rattle.simplex_rules.specs.Statuses.{status_at, first_status}
-use Rattle.simplex.proofs.EndsRead.{read_range}
-use Rattle.simplex.proofs.Begun.{first_of, first_fresh, first_basic}
+use Rattle.simplex.proofs.ColumnEnds.{read_range}
+use Rattle.simplex.proofs.Starts.{first_of, first_fresh, first_basic}
 use Rattle.simplex.proofs.beginning.set_first.Goals as goal
 
 pub loop-c-preserved : goal.loop-c-preserved

@@ -8,9 +8,9 @@ use Rattle.simplex_rules.specs.Statuses.{resting}
 use Rattle.simplex_rules.specs.Reports.{IsBoundAt}
 use Rattle.dictionary.specs.Dict.{entry_of}
 use Rattle.simplex.specs.Answers.{listed}
-use Rattle.simplex.specs.Loading.{IsStart}
-use Rattle.simplex.proofs.Listing.{listed_values}
-use Rattle.simplex.proofs.Bounded.{terms, sum_is, fits_more, fits_less}
+use Rattle.simplex.specs.Loads.{IsStart}
+use Rattle.simplex.proofs.ValueLists.{listed_values}
+use Rattle.simplex.proofs.Bounds.{terms, sum_is, fits_more, fits_less}
 use Rattle.simplex.proofs.bounding.best.Goals as goal
 
 pub returns-in-None-clause-next : goal.returns-in-None-clause-next

@@ -2,9 +2,9 @@ use Rattle.std.proofs.Common.{inl, inr, refl, arith}
 use Rattle.evidence.specs.Sums.{none}
 use Rattle.simplex_rules.specs.Runs.{Repairs, Improves, IsNext}
 use Rattle.dictionary.specs.Dict.{entry_of}
-use Rattle.simplex.specs.Held.{values_in}
-use Rattle.simplex.proofs.Plain.{plain, plain_ends}
-use Rattle.simplex.proofs.Leading.{leads_map, held_dictionary}
+use Rattle.simplex.specs.Tables.{values_in}
+use Rattle.simplex.proofs.PlainPrograms.{plain, plain_ends}
+use Rattle.simplex.proofs.Choices.{leads_map, held_dictionary}
 use Rattle.simplex.proofs.choosing.choose.Goals as goal
 
 pub returns-in-Err-clause-next : goal.returns-in-Err-clause-next

@@ -5,9 +5,9 @@ use Rattle.simplex_rules.specs.declared.columns.Way.TheVariants.{Fall}
 use Rattle.simplex_rules.specs.Turns.{NoneHelps, IsFirstHelp}
 use Rattle.simplex_rules.specs.Runs.{MovesOn, Improves}
 use Rattle.dictionary.specs.Dict.{entry_of}
-use Rattle.simplex.specs.Held.{values_in}
-use Rattle.simplex.proofs.Plain.{plain, plain_ends}
-use Rattle.simplex.proofs.Leading.{leads_map}
+use Rattle.simplex.specs.Tables.{values_in}
+use Rattle.simplex.proofs.PlainPrograms.{plain, plain_ends}
+use Rattle.simplex.proofs.Choices.{leads_map}
 use Rattle.simplex.proofs.choosing.improve.Goals as goal
 
 pub move_on-requires-clause-nonbasic_inside : goal.move_on-requires-clause-nonbasic_inside

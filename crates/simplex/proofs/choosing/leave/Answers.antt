@@ -4,7 +4,7 @@ use Rattle.evidence.specs.Instance.{Range, column_at}
 use Rattle.simplex_rules.specs.declared.columns.Way.{Way}
 use Rattle.simplex_rules.specs.Turns.{rate, reached_status, way_of}
 use Rattle.dictionary.specs.Dict.{entry_of}
-use Rattle.simplex.proofs.EndsRead.{read_range}
+use Rattle.simplex.proofs.ColumnEnds.{read_range}
 use Rattle.simplex.proofs.choosing.leave.Goals as goal
 
 pub returns-clause-status : goal.returns-clause-status

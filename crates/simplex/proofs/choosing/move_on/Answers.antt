@@ -6,15 +6,15 @@ use Rattle.simplex_rules.specs.Statuses.{basic_in}
 use Rattle.simplex_rules.specs.Turns.{flipped, reached_status, pivoted, NoLimit, IsFirstLimit}
 use Rattle.simplex_rules.specs.Reports.{movement}
 use Rattle.bases.specs.Pivot.{PivotFits}
-use Rattle.simplex_rules.specs.Runs.{Begins}
+use Rattle.simplex_rules.specs.Runs.{BeginsTurn}
 use Rattle.dictionary.specs.Dict.{entry_of}
-use Rattle.simplex.specs.Held.{values_in}
+use Rattle.simplex.specs.Tables.{values_in}
 use Rattle.simplex.specs.Cuts.{AreEndsOf}
 use Rattle.simplex.specs.Answers.{listed}
-use Rattle.simplex.proofs.Listing.{listed_values}
-use Rattle.simplex.proofs.EndsRead.{read_range}
-use Rattle.simplex.proofs.Plain.{plain, plain_ends, of_none}
-use Rattle.simplex.proofs.Leaving.{limit_told, limit_basic, limit_nonzero}
+use Rattle.simplex.proofs.ValueLists.{listed_values}
+use Rattle.simplex.proofs.ColumnEnds.{read_range}
+use Rattle.simplex.proofs.PlainPrograms.{plain, plain_ends, of_none}
+use Rattle.simplex.proofs.FirstLimit.{limit_told, limit_basic, limit_nonzero}
 use Rattle.simplex.proofs.choosing.move_on.Goals as goal
 use Rattle.simplex.proofs.choosing.move_on.Goals.{In-Ok-Some}
 
@@ -56,7 +56,7 @@ returns-then-l-moving-clause-next g c = λ I zeroed t k e size next q.
     let s : c.reached-status.result ≡ reached_status c.args.moving.way (column_at I c.args.moving.col) =
     c.reached-status.ensures.is ∙ ap (λ (j : Range). reached_status c.args.moving.way j) (sym r) ∙ ap (λ j. reached_status c.args.moving.way (column_at I j)) c.if-l-moving.true in
     let f : slice_set c.args.statuses.now c.in-Ok-Some.l.col c.reached-status.result ≡ flipped I c.args.statuses.now c.args.moving.col c.args.moving.way = ap₂ (λ j (z : Status). slice_set c.args.statuses.now j z) c.if-l-moving.true s in
-    inr (inr (inl (c.in-Ok-Some.ensures.fits I e, own, subst (λ (z : List Status). Begins t k (Unit {0}) z next) f q)))
+    inr (inr (inl (c.in-Ok-Some.ensures.fits I e, own, subst (λ (z : List Status). BeginsTurn t k (Unit {0}) z next) f q)))
 
 pub returns-else-l-moving-clause-allowed : goal.returns-else-l-moving-clause-allowed
 returns-else-l-moving-clause-allowed g c =
@@ -84,7 +84,7 @@ returns-else-l-moving-clause-next g c = λ I zeroed t k e size next q.
       c.in-Ok-Some.ensures.fits I e,
       p,
       c.if-l-moving.false,
-      subst (λ (z : Status). Begins t k (PivotFits (entry_of c.args.dict.now) c.in-Ok-Some.l.col c.args.moving.col) (pivoted c.args.statuses.now c.in-Ok-Some.l.col c.args.moving.col z) next) (c.leave.ensures.status I e)
-          (subst (λ j. Begins t k (PivotFits (entry_of c.args.dict.now) c.in-Ok-Some.l.col j) (pivoted c.args.statuses.now c.in-Ok-Some.l.col j c.leave.result.status) next) c.leave.ensures.nonbasic
-          (subst (λ i. Begins t k (PivotFits (entry_of c.args.dict.now) i c.leave.result.nonbasic) (pivoted c.args.statuses.now i c.leave.result.nonbasic c.leave.result.status) next) c.leave.ensures.basic q)),
+      subst (λ (z : Status). BeginsTurn t k (PivotFits (entry_of c.args.dict.now) c.in-Ok-Some.l.col c.args.moving.col) (pivoted c.args.statuses.now c.in-Ok-Some.l.col c.args.moving.col z) next) (c.leave.ensures.status I e)
+          (subst (λ j. BeginsTurn t k (PivotFits (entry_of c.args.dict.now) c.in-Ok-Some.l.col j) (pivoted c.args.statuses.now c.in-Ok-Some.l.col j c.leave.result.status) next) c.leave.ensures.nonbasic
+          (subst (λ i. BeginsTurn t k (PivotFits (entry_of c.args.dict.now) i c.leave.result.nonbasic) (pivoted c.args.statuses.now i c.leave.result.nonbasic c.leave.result.status) next) c.leave.ensures.basic q)),
     )))

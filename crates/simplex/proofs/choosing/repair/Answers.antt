@@ -4,10 +4,10 @@ use Rattle.evidence.specs.Instance.{column_at}
 use Rattle.bases.specs.Pivot.{PivotFits}
 use Rattle.simplex_rules.specs.declared.columns.Status.{Status}
 use Rattle.simplex_rules.specs.Turns.{pivoted, missed_status}
-use Rattle.simplex_rules.specs.Runs.{Begins}
+use Rattle.simplex_rules.specs.Runs.{BeginsTurn}
 use Rattle.dictionary.specs.Dict.{entry_of}
-use Rattle.simplex.proofs.EndsRead.{read_range}
-use Rattle.simplex.proofs.Plain.{plain, plain_ends, moves_nonzero}
+use Rattle.simplex.proofs.ColumnEnds.{read_range}
+use Rattle.simplex.proofs.PlainPrograms.{plain, plain_ends, moves_nonzero}
 use Rattle.simplex.proofs.choosing.repair.Goals as goal
 
 pub returns-in-None-clause-next : goal.returns-in-None-clause-next
@@ -35,5 +35,5 @@ returns-in-Some-clause-next g c = λ I w zeroed t k e size next p.
       c.in-Some.n.col,
       c.in-Some.n.way,
       c.in-Some.ensures.help I w e,
-      subst (λ (z : Status). Begins t k (PivotFits (entry_of c.args.dict.now) c.args.out.col c.in-Some.n.col) (pivoted c.args.statuses.now c.args.out.col c.in-Some.n.col z) next) s p,
+      subst (λ (z : Status). BeginsTurn t k (PivotFits (entry_of c.args.dict.now) c.args.out.col c.in-Some.n.col) (pivoted c.args.statuses.now c.args.out.col c.in-Some.n.col z) next) s p,
     )

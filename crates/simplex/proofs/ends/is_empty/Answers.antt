@@ -1,4 +1,4 @@
-use Rattle.simplex.proofs.Begun.{crossed, crossed_back}
+use Rattle.simplex.proofs.Starts.{crossed, crossed_back}
 use Rattle.simplex.proofs.ends.is_empty.Goals as goal
 
 pub returns-in-At-ub : goal.returns-in-At-ub

@@ -2,8 +2,8 @@ use Rattle.std.proofs.Common.{◌≡◌, ℕ, ◌+◌, Bool, sym, ◌∙◌, ap,
 use Rattle.simplex_rules.specs.Runs.{Out, IsNext}
 use Rattle.simplex_rules.specs.Looks.{answers, looks_after}
 use Rattle.dictionary.specs.Dict.{entry_of}
-use Rattle.simplex.specs.Held.{values_in}
-use Rattle.simplex.specs.Finished.{stops_at, next_at, end_at}
+use Rattle.simplex.specs.Tables.{values_in}
+use Rattle.simplex.specs.Finishes.{stops_at, next_at, end_at}
 use Rattle.simplex.proofs.going.make_turn.Goals as goal
 
 pub returns-in-Swap-clause-turn : goal.returns-in-Swap-clause-turn

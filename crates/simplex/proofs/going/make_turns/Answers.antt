@@ -1,11 +1,11 @@
 use Rattle.std.proofs.Common.{◌≡◌, ℕ, ◌+◌, Bool, false, List, refl, sym, ◌∙◌, subst, arith}
 use Rattle.evidence.specs.Instance.{Instance}
-use Rattle.simplex_rules.specs.Runs.{Out, Comes, begins, goes_on, IsNext}
+use Rattle.simplex_rules.specs.Runs.{Out, ComesInRun, begins, goes_on, IsNext}
 use Rattle.simplex_rules.specs.Looks.{went_on, answers}
 use Rattle.dictionary.specs.declared.dict.Dict.{Dict}
 use Rattle.dictionary.specs.Dict.{entry_of, HaveOneSize}
-use Rattle.simplex.specs.Held.{values_in, HasSizeOf}
-use Rattle.simplex.specs.Finished.{is_stop, end_at}
+use Rattle.simplex.specs.Tables.{values_in, HasSizeOf}
+use Rattle.simplex.specs.Finishes.{is_stop, end_at}
 use Rattle.simplex.proofs.Looks.{answers_more, after_less, tells_less, after_more}
 use Rattle.simplex.proofs.going.make_turns.Goals as goal
 
@@ -30,7 +30,7 @@ loop-finish-init g c = record {
     g.met.W.Watch.stays c.args.watch.now,
     (λ I zeroed t looks e size starts holds fresh most after.
         let k : looks ≡ looks + 0 = omega arith in
-        subst (λ j. Comes I zeroed t (record { turns = c.args.turns.now.done; looks = looks }) (record { statuses = c.args.statuses.now; clock = record { turns = c.args.turns.now.done; looks = j } })) k (begins fresh)),
+        subst (λ j. ComesInRun I zeroed t (record { turns = c.args.turns.now.done; looks = looks }) (record { statuses = c.args.statuses.now; clock = record { turns = c.args.turns.now.done; looks = j } })) k (begins fresh)),
   );
 }
 
@@ -58,7 +58,7 @@ loop-finish-preserved g c =
         (λ I zeroed t looks e size starts holds fresh most after.
             let here = m.2 I zeroed t looks e size starts holds fresh most (after_less looks m.0 p.0 false t.stop after) in
             let next = p.2 I zeroed t (looks + m.0) e (sized I c.args.dict.now c.loop-finish.dict v.size size) starts (v.holds _ holds) (most ∙ sym v.most) (tells_less looks m.0 p.0 false t.stop after) in
-            subst (λ (j : ℕ). Comes I zeroed t (record { turns = c.args.turns.now.done; looks = looks }) (record { statuses = c.make_turn.new.statuses; clock = record { turns = c.make_turn.new.turns.done; looks = j } })) (after_more looks m.0 p.0 false)
+            subst (λ (j : ℕ). ComesInRun I zeroed t (record { turns = c.args.turns.now.done; looks = looks }) (record { statuses = c.make_turn.new.statuses; clock = record { turns = c.make_turn.new.turns.done; looks = j } })) (after_more looks m.0 p.0 false)
             (goes_on here next)),
       );
     }

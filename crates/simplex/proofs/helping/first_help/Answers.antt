@@ -4,7 +4,7 @@ use Rattle.simplex_rules.specs.Statuses.{status_at}
 use Rattle.simplex_rules.specs.Turns.{Can, Moves, rate}
 use Rattle.dictionary.specs.Dict.{entry_of}
 use Rattle.simplex.specs.Cuts.{ranges_in}
-use Rattle.simplex.proofs.EndsRead.{read_range}
+use Rattle.simplex.proofs.ColumnEnds.{read_range}
 use Rattle.simplex.proofs.helping.first_help.Goals as goal
 
 pub loop-c-init : goal.loop-c-init

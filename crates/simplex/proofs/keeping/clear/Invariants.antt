@@ -1,5 +1,5 @@
 use Rattle.std.proofs.Common.{◌≡◌, ℕ, ◌<◌, false}
-use Rattle.simplex.specs.Valued.{known_at}
+use Rattle.simplex.specs.Values.{known_at}
 use Rattle.simplex.proofs.keeping.clear.Given as goal
 
 abbrev pub invariant-loop-c : goal.invariant-loop-c

@@ -3,11 +3,11 @@ use Rattle.std.specs.Prelude.{slice_set}
 use Rattle.simplex_rules.specs.declared.columns.Status.{Status}
 use Rattle.simplex_rules.specs.declared.columns.Status.TheVariants.{Basic}
 use Rattle.simplex_rules.specs.Statuses.{rest_at}
-use Rattle.dictionary.specs.Dict.{values_of}
+use Rattle.dictionary.specs.Dict.{place_values}
 use Rattle.simplex.specs.Cuts.{ranges_in}
-use Rattle.simplex.specs.Valued.{AreResting}
-use Rattle.simplex.proofs.EndsRead.{read_range}
-use Rattle.simplex.proofs.Kept.{resting_set, resting_number, swap_known}
+use Rattle.simplex.specs.Values.{AreResting}
+use Rattle.simplex.proofs.ColumnEnds.{read_range}
+use Rattle.simplex.proofs.KnownValues.{resting_set, resting_number, swap_known}
 use Rattle.simplex.proofs.keeping.expect_swap.Goals as goal
 
 pub returns-clause-resting : goal.returns-clause-resting
@@ -16,18 +16,18 @@ returns-clause-resting g c = λ d ss w.
     let is = c.requires.swap in
     let at = ranges_in c.args.ends.now in
     let h : s.basic < length c.args.ends.now = let a = c.requires.ends in let b = is.basic_inside in omega arith in
-    let own : values_of c.set.new.self s.basic ≡ rest_at (ranges_in c.args.ends.now s.basic) s.status =
+    let own : place_values c.set.new.self s.basic ≡ rest_at (ranges_in c.args.ends.now s.basic) s.status =
     c.set.ensures.own ∙ c.rest_value-value.ensures ∙ ap (λ z. rest_at z s.status) (sym (read_range c.args.ends.now s.basic c.index-ends-swap.result c.index-ends-swap.is h)) in
-    let left = resting_set at c.args.statuses.now (values_of c.args.rest.now) (values_of c.set.new.self) s.basic s.status c.requires.resting is.basic_inside own c.set.ensures.others in
+    let left = resting_set at c.args.statuses.now (place_values c.args.rest.now) (place_values c.set.new.self) s.basic s.status c.requires.resting is.basic_inside own c.set.ensures.others in
     let inside : s.nonbasic < length (slice_set c.args.statuses.now s.basic s.status) = let a = is.nonbasic_inside in omega (arith, length-set c.args.statuses.now s.basic s.status) in
-    subst (λ (z : List Status). AreResting at z (values_of c.set-2.new.self)) (sym w.statuses)
-    (resting_set at (slice_set c.args.statuses.now s.basic s.status) (values_of c.set.new.self) (values_of c.set-2.new.self) s.nonbasic Basic left inside (c.set-2.ensures.own ∙ c.zero.ensures) c.set-2.ensures.others)
+    subst (λ (z : List Status). AreResting at z (place_values c.set-2.new.self)) (sym w.statuses)
+    (resting_set at (slice_set c.args.statuses.now s.basic s.status) (place_values c.set.new.self) (place_values c.set-2.new.self) s.nonbasic Basic left inside (c.set-2.ensures.own ∙ c.zero.ensures) c.set-2.ensures.others)
 
 pub returns-clause-known : goal.returns-clause-known
 returns-clause-known g c = λ d ss vs w k.
     let s = c.args.swap in
     let is = c.requires.swap in
     swap_known c.args.dict.now c.args.statuses.now c.requires.held c.args.known.now c.forget.new.known s.nonbasic c.forget.ensures.forgotten d ss s is w refl c.args.rest.now c.set-2.new.self
-    (resting_number c.args.ends.now c.args.statuses.now (values_of c.args.rest.now) s.nonbasic c.requires.resting is.nonbasic_inside)
+    (resting_number c.args.ends.now c.args.statuses.now (place_values c.args.rest.now) s.nonbasic c.requires.resting is.nonbasic_inside)
     (λ j nb nm. c.set-2.ensures.others j nm ∙ c.set.ensures.others j nb)
     vs (let a = is.basic_inside in let b = c.forget.auto.known in let f = c.requires.flags in let e = c.requires.goal in omega arith) k

@@ -1,7 +1,7 @@
 use Rattle.std.proofs.Common.{◌≡◌, ℕ, ◌<◌, ◌≤◌, pos, true}
 use Rattle.simplex_rules.specs.Statuses.{basic_in}
 use Rattle.dictionary.specs.Dict.{entry_of}
-use Rattle.simplex.specs.Valued.{known_at}
+use Rattle.simplex.specs.Values.{known_at}
 use Rattle.simplex.proofs.keeping.forget.Given as goal
 
 abbrev pub invariant-loop-c : goal.invariant-loop-c

@@ -9,9 +9,9 @@ use Rattle.simplex_rules.specs.Widths.{OneFits}
 use Rattle.simplex.specs.Limits.{IsLimit}
 use Rattle.dictionary.specs.Dict.{entry_of}
 use Rattle.simplex.specs.Cuts.{ranges_in, range_of}
-use Rattle.simplex.specs.Held.{values_in}
-use Rattle.simplex.proofs.EndsRead.{read_range}
-use Rattle.simplex.proofs.Least.{on_err, limit_known, limits_known, limit_fits}
+use Rattle.simplex.specs.Tables.{values_in}
+use Rattle.simplex.proofs.ColumnEnds.{read_range}
+use Rattle.simplex.proofs.LeastLimits.{on_err, limit_known, limits_known, limit_fits}
 use Rattle.simplex.proofs.limits.first_limit.Goals as goal
 
 pub loop-c-init : goal.loop-c-init

@@ -3,7 +3,7 @@ use Rattle.rational.specs.Ratio.{sum, negative, quotient}
 use Rattle.fraction.specs.Frac.{ratio}
 use Rattle.instance.specs.Program.{limit}
 use Rattle.simplex_rules.specs.Widths.{EndFits}
-use Rattle.simplex.proofs.Least.{on_err, until_told, until_fits, until_wide}
+use Rattle.simplex.proofs.LeastLimits.{on_err, until_told, until_fits, until_wide}
 use Rattle.simplex.proofs.limits.until_end.Goals as goal
 
 pub returns-in_err-quotient-in-At-clause-wide : goal.returns-in_err-quotient-in-At-clause-wide

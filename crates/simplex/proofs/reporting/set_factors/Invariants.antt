@@ -2,7 +2,7 @@ use Rattle.std.proofs.Common.{◌≡◌, ℕ, ◌<◌, ◌≤◌}
 use Rattle.bases.specs.Dictionary.{AreEntries}
 use Rattle.simplex_rules.specs.Reports.{factor_at}
 use Rattle.dictionary.specs.Dict.{columns_of, basic_of, entry_of}
-use Rattle.simplex.specs.Held.{values_in}
+use Rattle.simplex.specs.Tables.{values_in}
 use Rattle.simplex.proofs.reporting.set_factors.Given as goal
 
 abbrev pub invariant-loop-c : goal.invariant-loop-c

@@ -3,7 +3,7 @@ use Rattle.std.specs.Prelude.{slice_set}
 use Rattle.evidence.proofs.Columns.{by_eq}
 use Rattle.simplex_rules.specs.Reports.{movement}
 use Rattle.dictionary.specs.Dict.{entry_of}
-use Rattle.simplex.specs.Held.{values_in}
+use Rattle.simplex.specs.Tables.{values_in}
 use Rattle.simplex.proofs.Slots.{value_set, value_other}
 use Rattle.simplex.proofs.reporting.set_movements.Goals as goal
 

@@ -1,7 +1,7 @@
 use Rattle.std.proofs.Common.{◌≡◌, ℕ, ◌<◌, ◌≤◌}
 use Rattle.simplex_rules.specs.Reports.{movement}
 use Rattle.dictionary.specs.Dict.{entry_of}
-use Rattle.simplex.specs.Held.{values_in}
+use Rattle.simplex.specs.Tables.{values_in}
 use Rattle.simplex.proofs.reporting.set_movements.Given as goal
 
 abbrev pub invariant-loop-c : goal.invariant-loop-c

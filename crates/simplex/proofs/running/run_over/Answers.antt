@@ -8,15 +8,15 @@ use Rattle.instance.specs.declared.parts.Row.{Row}
 use Rattle.instance.specs.Program.{sense}
 use Rattle.bases.specs.Program.{goal_column}
 use Rattle.simplex_rules.specs.Reports.{collected}
-use Rattle.simplex_rules.specs.Looks.{answers, Tells, looks_after}
+use Rattle.simplex_rules.specs.Looks.{answers, AgreesWith, looks_after}
 use Rattle.dictionary.specs.Dict.{entry_of}
-use Rattle.simplex.specs.Held.{values_in, HasSizeOf}
+use Rattle.simplex.specs.Tables.{values_in, HasSizeOf}
 use Rattle.simplex.specs.Answers.{listed, ended, was_stopped}
-use Rattle.simplex.specs.Finished.{is_stop, end_at}
-use Rattle.simplex.specs.Loading.{IsStart}
+use Rattle.simplex.specs.Finishes.{is_stop, end_at}
+use Rattle.simplex.specs.Loads.{IsStart}
 use Rattle.simplex.proofs.CutPrograms.{start_cut, rows_count}
-use Rattle.simplex.proofs.Finishing.{finish_run}
-use Rattle.simplex.proofs.Kept.{none_known}
+use Rattle.simplex.proofs.Finishes.{finish_run}
+use Rattle.simplex.proofs.KnownValues.{none_known}
 use Rattle.simplex.proofs.running.run_over.Goals as goal
 
 pub returns-clause-run : goal.returns-clause-run
@@ -36,7 +36,7 @@ returns-clause-run g c =
           let start = start_cut c.args.instance.now c.args.cuts.now I cut c.args.zero_goal c.start-start.result
           (subst (λ (o : Goal). IsStart c.args.zero_goal (minimising_by (sense o.sense) (ratio o.constant)) c.start-start.result) c.goal-own.ensures.value c.start-start.ensures) in
           let r = m.2 I c.args.zero_goal t looks (c.in_default.ensures.ends I cut) size start (c.in_default.ensures.holds refl I cut) (c.in_default.ensures.fresh refl I cut) most
-          (subst (λ (b : Bool). Tells t.stop looks m.0 b) e tells) in
+          (subst (λ (b : Bool). AgreesWith t.stop looks m.0 b) e tells) in
           let wide : Of.width I ≡ length c.args.movements.now = cut.width ∙ c.requires.cuts ∙ sym c.requires.movements in
           let high : goal_column I ≡ length c.vars.result.now + length c.rows.result.now =
           ap₂ (λ (a b : ℕ). a + b) (cut.width ∙ c.requires.cuts ∙ sym vars) (rows_count c.args.instance.now c.args.cuts.now I cut ∙ sym rows) in

@@ -1,5 +1,5 @@
 use Rattle.std.proofs.Common.{◌+◌}
-use Rattle.simplex.proofs.Turned.{looked_at}
+use Rattle.simplex.proofs.TurnSteps.{looked_at}
 use Rattle.simplex.proofs.turning.count_turn.Goals as goal
 
 pub returns-then-turns-eq0-clause-passes : goal.returns-then-turns-eq0-clause-passes

@@ -1,4 +1,4 @@
-use Rattle.simplex.proofs.Turned.{swapped_statuses}
+use Rattle.simplex.proofs.TurnSteps.{swapped_statuses}
 use Rattle.simplex.proofs.turning.exchange.Goals as goal
 
 pub returns-clause-held : goal.returns-clause-held

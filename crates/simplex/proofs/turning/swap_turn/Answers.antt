@@ -3,7 +3,7 @@ use Rattle.simplex_rules.specs.Turns.{pivoted}
 use Rattle.simplex_rules.specs.Ends.{TooWide}
 use Rattle.simplex_rules.specs.Runs.{Out}
 use Rattle.certificate.specs.declared.causes.Step.TheVariants.{Pivot}
-use Rattle.simplex.proofs.Turned.{passes_to}
+use Rattle.simplex.proofs.TurnSteps.{passes_to}
 use Rattle.simplex.proofs.turning.swap_turn.Goals as goal
 
 pub returns-in-Err-clause-turn : goal.returns-in-Err-clause-turn

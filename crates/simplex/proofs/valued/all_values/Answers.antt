@@ -1,6 +1,6 @@
 use Rattle.std.proofs.Common.{◌∙◌, ap, arith}
 use Rattle.evidence.proofs.Columns.{by_eq}
-use Rattle.simplex.specs.Valued.{known_at}
+use Rattle.simplex.specs.Values.{known_at}
 use Rattle.simplex.proofs.valued.all_values.Goals as goal
 
 pub loop-c-preserved : goal.loop-c-preserved

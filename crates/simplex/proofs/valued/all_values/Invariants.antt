@@ -1,5 +1,5 @@
 use Rattle.std.proofs.Common.{◌≡◌, ℕ, ◌<◌, ◌≤◌, true}
-use Rattle.simplex.specs.Valued.{AreKnown, known_at}
+use Rattle.simplex.specs.Values.{AreKnown, known_at}
 use Rattle.simplex.proofs.valued.all_values.Given as goal
 
 abbrev pub invariant-loop-c : goal.invariant-loop-c

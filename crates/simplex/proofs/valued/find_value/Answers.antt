@@ -1,5 +1,5 @@
 use Rattle.std.proofs.Common.{arith}
-use Rattle.simplex.proofs.Kept.{known_set}
+use Rattle.simplex.proofs.KnownValues.{known_set}
 use Rattle.simplex.proofs.valued.find_value.Goals as goal
 
 pub returns-clause-known : goal.returns-clause-known

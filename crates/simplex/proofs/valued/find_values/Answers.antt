@@ -1,7 +1,7 @@
 use Rattle.std.proofs.Common.{◌<◌, length, ◌∙◌, arith}
 use Rattle.simplex_rules.specs.Statuses.{resting}
-use Rattle.simplex.proofs.Least.{ok_map, err_map}
-use Rattle.simplex.proofs.Found.{rest_is, values_found, fits_found, wide_found}
+use Rattle.simplex.proofs.LeastLimits.{ok_map, err_map}
+use Rattle.simplex.proofs.Values.{rest_is, values_found, fits_found, wide_found}
 use Rattle.simplex.proofs.valued.find_values.Goals as goal
 
 pub returns-clause-ok : goal.returns-clause-ok

@@ -7,8 +7,8 @@ use Rattle.simplex_rules.specs.declared.columns.Way.{Way}
 use Rattle.simplex_rules.specs.Statuses.{basic_in}
 use Rattle.simplex_rules.specs.Turns.{Misses}
 use Rattle.simplex.specs.Cuts.{ranges_in, range_of}
-use Rattle.simplex.specs.Held.{values_in}
-use Rattle.simplex.proofs.EndsRead.{read_range}
+use Rattle.simplex.specs.Tables.{values_in}
+use Rattle.simplex.proofs.ColumnEnds.{read_range}
 use Rattle.simplex.proofs.valued.first_out.Goals as goal
 
 pub loop-c-init : goal.loop-c-init

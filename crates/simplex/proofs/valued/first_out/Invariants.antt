@@ -3,7 +3,7 @@ use Rattle.simplex_rules.specs.declared.columns.Way.{Way}
 use Rattle.simplex_rules.specs.Statuses.{basic_in}
 use Rattle.simplex_rules.specs.Turns.{Misses}
 use Rattle.simplex.specs.Cuts.{ranges_in}
-use Rattle.simplex.specs.Held.{values_in}
+use Rattle.simplex.specs.Tables.{values_in}
 use Rattle.simplex.proofs.valued.first_out.Given as goal
 
 abbrev pub invariant-loop-c : goal.invariant-loop-c

@@ -3,8 +3,8 @@ use Rattle.evidence.specs.Instance.{Range}
 use Rattle.evidence.proofs.Columns.{by_eq}
 use Rattle.simplex_rules.specs.Statuses.{status_at, rest_at}
 use Rattle.simplex.specs.Cuts.{ranges_in}
-use Rattle.dictionary.specs.Dict.{values_of}
-use Rattle.simplex.proofs.EndsRead.{read_range}
+use Rattle.dictionary.specs.Dict.{place_values}
+use Rattle.simplex.proofs.ColumnEnds.{read_range}
 use Rattle.simplex.proofs.valued.set_rest.Goals as goal
 
 pub loop-c-init : goal.loop-c-init
@@ -18,6 +18,6 @@ loop-c-preserved c =
     record {
       count = c.set.ensures.count ∙ c.loop-c.invariant.count;
       before = λ k l. by_eq k c.loop-c.c
-          (λ e. ap (values_of c.set.new.self) e ∙ c.set.ensures.own ∙ c.rest_value-value.ensures ∙ ap (λ (z : Range). rest_at z (status_at c.args.statuses.now c.loop-c.c)) (sym r) ∙ ap (λ j. rest_at (ranges_in c.args.ends.now j) (status_at c.args.statuses.now j)) (sym e))
+          (λ e. ap (place_values c.set.new.self) e ∙ c.set.ensures.own ∙ c.rest_value-value.ensures ∙ ap (λ (z : Range). rest_at z (status_at c.args.statuses.now c.loop-c.c)) (sym r) ∙ ap (λ j. rest_at (ranges_in c.args.ends.now j) (status_at c.args.statuses.now j)) (sym e))
           (λ d. c.set.ensures.others k d ∙ c.loop-c.invariant.before k (omega arith));
     }

@@ -1,7 +1,7 @@
 use Rattle.std.proofs.Common.{None, Some}
-use Rattle.document_tags.specs.Only.{only_child}
-use Rattle.document_tags.proofs.OnlyOne.{at_found}
-use Rattle.soap_calls.proofs.Replied.{plain_none, plain_some}
+use Rattle.document_tags.specs.OneChild.{only_child}
+use Rattle.document_tags.proofs.OneChild.{at_found}
+use Rattle.soap_calls.proofs.AnswerEnvelopes.{plain_none, plain_some}
 use Rattle.soap_calls.proofs.answering.plain_child.Goals as goal
 
 pub returns-in_default : goal.returns-in_default

@@ -1,7 +1,7 @@
 use Rattle.std.proofs.Common.{None, Some}
-use Rattle.document_tags.proofs.OnlyOne.{at_found}
+use Rattle.document_tags.proofs.OneChild.{at_found}
 use Rattle.soap_calls.specs.Envelope.{held}
-use Rattle.soap_calls.proofs.Replied.{held_answers, none_answers}
+use Rattle.soap_calls.proofs.AnswerEnvelopes.{held_answers, none_answers}
 use Rattle.soap_calls.proofs.answering.read_answer.Goals as goal
 
 pub returns-in_default : goal.returns-in_default

@@ -1,6 +1,6 @@
 use Rattle.std.proofs.Common.{◌++◌}
 use Rattle.std.specs.Prelude.{codes}
-use Rattle.soap_calls.proofs.Replied.{called, not_called, no_answer}
+use Rattle.soap_calls.proofs.AnswerEnvelopes.{called, not_called, no_answer}
 use Rattle.soap_calls.proofs.answering.read_element.Goals as goal
 
 pub returns-then-branch : goal.returns-then-branch

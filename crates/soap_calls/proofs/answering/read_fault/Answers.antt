@@ -1,5 +1,5 @@
 use Rattle.std.proofs.Common.{◌∙◌, sym}
-use Rattle.soap_calls.proofs.Replied.{no_code, no_text}
+use Rattle.soap_calls.proofs.AnswerEnvelopes.{no_code, no_text}
 use Rattle.soap_calls.proofs.answering.read_fault.Goals as goal
 
 pub returns-in_default : goal.returns-in_default

@@ -1,8 +1,8 @@
 use Rattle.std.proofs.Common.{◌∙◌, sym, subst, ◌++◌}
 use Rattle.std.specs.Prelude.{codes}
 use Rattle.soap_calls.specs.Replies.{MayReturn}
-use Rattle.document_tags.proofs.OnlyAnswer.{refused}
-use Rattle.soap_calls.proofs.Replied.{called, not_called, not_plain, same_plain}
+use Rattle.document_tags.proofs.OneAnswer.{refused}
+use Rattle.soap_calls.proofs.AnswerEnvelopes.{called, not_called, not_plain, same_plain}
 use Rattle.soap_calls.proofs.answering.read_value.Goals as goal
 
 pub returns-then-not-branch : goal.returns-then-not-branch

@@ -1,8 +1,8 @@
 use Rattle.std.proofs.Common.{◌∙◌, inr, ap, sym}
 use Rattle.std.proofs.lemmas.Option.{none-some}
 use Rattle.document_tags.specs.Faults.{told_name}
-use Rattle.six_calls.proofs.Named.{is_named}
-use Rattle.soap_calls.proofs.Called.{parts_refused}
+use Rattle.six_calls.proofs.Names.{is_named}
+use Rattle.soap_calls.proofs.Calls.{parts_refused}
 use Rattle.soap_calls.proofs.calling.read_element.Goals as goal
 
 pub returns-in_default-clause-err : goal.returns-in_default-clause-err

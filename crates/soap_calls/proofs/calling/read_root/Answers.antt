@@ -1,8 +1,8 @@
 use Rattle.std.proofs.Common.{inl, inr, None, Some, refl}
-use Rattle.document_tags.proofs.OnlyOne.{at_found}
+use Rattle.document_tags.proofs.OneChild.{at_found}
 use Rattle.soap_calls.specs.Envelope.{held}
-use Rattle.soap_calls.proofs.Enveloped.{holds_none}
-use Rattle.soap_calls.proofs.Called.{held_called, held_refused}
+use Rattle.soap_calls.proofs.Envelopes.{holds_none}
+use Rattle.soap_calls.proofs.Calls.{held_called, held_refused}
 use Rattle.soap_calls.proofs.calling.read_root.Goals as goal
 
 pub returns-in_default-clause-err : goal.returns-in_default-clause-err

@@ -1,8 +1,8 @@
 use Rattle.std.proofs.Common.{None, Some}
 use Rattle.std.specs.Prelude.{codes}
-use Rattle.document_tags.specs.Only.{only_child}
-use Rattle.document_tags.proofs.OnlyOne.{at_found}
-use Rattle.soap_calls.proofs.Enveloped.{no_envelope, in_envelope, no_body, in_body}
+use Rattle.document_tags.specs.OneChild.{only_child}
+use Rattle.document_tags.proofs.OneChild.{at_found}
+use Rattle.soap_calls.proofs.Envelopes.{no_envelope, in_envelope, no_body, in_body}
 use Rattle.soap_calls.proofs.envelope.held.Goals as goal
 
 pub returns-then-not-is_envelope : goal.returns-then-not-is_envelope

@@ -1,5 +1,5 @@
 use Rattle.document_tags.specs.Rests.{child_elements}
-use Rattle.document_tags.proofs.OnlyOne.{in_slice}
+use Rattle.document_tags.proofs.OneChild.{in_slice}
 use Rattle.soap_calls.proofs.envelope.sole.Goals as goal
 
 pub returns : goal.returns

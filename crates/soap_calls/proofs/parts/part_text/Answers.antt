@@ -1,7 +1,7 @@
 use Rattle.std.proofs.Common.{[]}
 use Rattle.document_tags.specs.Elements.{children_named}
-use Rattle.document_tags.proofs.OnlyOne.{in_slice, none_yet}
-use Rattle.soap_calls.proofs.Parted.{not_had, had}
+use Rattle.document_tags.proofs.OneChild.{in_slice, none_yet}
+use Rattle.soap_calls.proofs.CallParts.{not_had, had}
 use Rattle.soap_calls.proofs.parts.part_text.Goals as goal
 
 pub returns-then-not-has : goal.returns-then-not-has

@@ -1,6 +1,6 @@
 use Rattle.std.proofs.Common.{◌∙◌, inr, refl, sym}
 use Rattle.six_calls.specs.declared.part.Part.TheVariants.{Osil, Osol, Ospl}
-use Rattle.soap_calls.proofs.Parted.{is_some}
+use Rattle.soap_calls.proofs.CallParts.{is_some}
 use Rattle.soap_calls.proofs.parts.read_parts.Goals as goal
 
 pub returns-in_default-clause-err : goal.returns-in_default-clause-err

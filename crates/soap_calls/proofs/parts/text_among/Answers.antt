@@ -1,7 +1,7 @@
 use Rattle.std.proofs.Common.{None, Some}
-use Rattle.document_tags.specs.Only.{only_one}
-use Rattle.document_tags.proofs.OnlyOne.{at_found}
-use Rattle.soap_calls.proofs.Parted.{several, one_text}
+use Rattle.document_tags.specs.OneChild.{only_one}
+use Rattle.document_tags.proofs.OneChild.{at_found}
+use Rattle.soap_calls.proofs.CallParts.{several, one_text}
 use Rattle.soap_calls.proofs.parts.text_among.Goals as goal
 
 pub returns-in_default : goal.returns-in_default

@@ -1,6 +1,6 @@
 use Rattle.std.proofs.Common.{inr, refl, subst}
 use Rattle.tree_grammar.specs.Elements.{Element}
-use Rattle.document_tags.proofs.OnlyAnswer.{only_none}
+use Rattle.document_tags.proofs.OneAnswer.{only_none}
 use Rattle.soap_calls.specs.Replies.{IsAnswerIn}
 use Rattle.soap_calls.proofs.OneAnswer.{one_reply_root}
 use Rattle.soap_calls.proofs.replies.read_reply.Goals as goal

@@ -1,4 +1,4 @@
-use Rattle.document_tags.proofs.Told.{told_then, ends_told}
+use Rattle.document_tags.proofs.Tellings.{told_then, ends_told}
 use Rattle.soap_calls.proofs.replying.tell_fault.Goals as goal
 
 pub returns : goal.returns

@@ -1,9 +1,9 @@
 use Rattle.std.proofs.Common.{◌∙◌, ◌++◌, refl}
 use Rattle.std.specs.Prelude.{codes}
 use Rattle.std.proofs.lemmas.Result.{IfOk-weaker}
-use Rattle.document_tags.proofs.Told.{told_one, told_element}
+use Rattle.document_tags.proofs.Tellings.{told_one, told_element}
 use Rattle.soap_calls.specs.Writing.{frame, fault_nodes}
-use Rattle.soap_calls.proofs.Framed.{fails_so}
+use Rattle.soap_calls.proofs.Frames.{fails_so}
 use Rattle.soap_calls.proofs.replying.write_fault.Goals as goal
 
 pub told_text-requires : goal.told_text-requires

@@ -1,9 +1,9 @@
 use Rattle.std.proofs.Common.{◌∙◌, ◌++◌, refl}
 use Rattle.std.specs.Prelude.{codes}
 use Rattle.std.proofs.lemmas.Result.{IfOk-weaker}
-use Rattle.document_tags.proofs.Told.{told_one, told_element}
+use Rattle.document_tags.proofs.Tellings.{told_one, told_element}
 use Rattle.soap_calls.specs.Writing.{frame, response_nodes}
-use Rattle.soap_calls.proofs.Framed.{responds_so}
+use Rattle.soap_calls.proofs.Frames.{responds_so}
 use Rattle.soap_calls.proofs.replying.write_reply.Goals as goal
 
 pub told_text-requires : goal.told_text-requires

@@ -1,4 +1,4 @@
-use Rattle.document_tags.proofs.Told.{ends_told}
+use Rattle.document_tags.proofs.Tellings.{ends_told}
 use Rattle.soap_calls.proofs.telling.open_frame.Goals as goal
 
 pub returns : goal.returns

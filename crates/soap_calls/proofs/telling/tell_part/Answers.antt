@@ -1,5 +1,5 @@
 use Rattle.std.proofs.Common.{◌∙◌}
-use Rattle.soap_calls.proofs.Framed.{part_passed, part_told}
+use Rattle.soap_calls.proofs.Frames.{part_passed, part_told}
 use Rattle.soap_calls.proofs.telling.tell_part.Goals as goal
 
 pub returns-then-not-has : goal.returns-then-not-has

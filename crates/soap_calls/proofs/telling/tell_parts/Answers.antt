@@ -1,5 +1,5 @@
-use Rattle.document_tags.proofs.Told.{told_then, ends_told, ok_told_as}
-use Rattle.soap_calls.proofs.Framed.{parts_told}
+use Rattle.document_tags.proofs.Tellings.{told_then, ends_told, ok_told_as}
+use Rattle.soap_calls.proofs.Frames.{parts_told}
 use Rattle.soap_calls.proofs.telling.tell_parts.Goals as goal
 
 pub returns : goal.returns

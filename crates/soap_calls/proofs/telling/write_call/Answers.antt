@@ -1,9 +1,9 @@
 use Rattle.std.proofs.Common.{refl}
 use Rattle.std.proofs.lemmas.Result.{IfOk-weaker}
-use Rattle.document_tags.proofs.Told.{told_one, told_element}
+use Rattle.document_tags.proofs.Tellings.{told_one, told_element}
 use Rattle.six_calls.specs.Names.{kind_text}
 use Rattle.soap_calls.specs.Writing.{frame, ours_around, part_nodes}
-use Rattle.soap_calls.proofs.Framed.{named_so}
+use Rattle.soap_calls.proofs.Frames.{named_so}
 use Rattle.soap_calls.proofs.telling.write_call.Goals as goal
 
 pub told_text-requires : goal.told_text-requires

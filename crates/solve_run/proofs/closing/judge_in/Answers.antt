@@ -1,9 +1,9 @@
 use Rattle.std.proofs.Common.{subst}
 use Rattle.instance.specs.Program.{program}
-use Rattle.certificate.specs.Means as Means
+use Rattle.certificate.specs.Meanings as Means
 use Rattle.cert_checker.specs.declared.refused.Refused.{Refused}
-use Rattle.cert_checker.specs.Refusals.{IsRefused}
-use Rattle.solve_run.proofs.Shown.{shown_range, width_alone}
+use Rattle.cert_checker.specs.Refusals.{IsRefusedFor}
+use Rattle.solve_run.proofs.WidthRefusals.{shown_range, width_alone}
 use Rattle.solve_run.proofs.closing.judge_in.Goals as goal
 
 pub check-requires-clause-range : goal.check-requires-clause-range
@@ -15,4 +15,4 @@ wide_node-requires c =
     width_alone (record { optimal = laws.optimal; infeasible = laws.infeasible; unbounded = laws.unbounded }) (program c.args.instance.now) c.args.claim.now c.in-Err.refused c.requires.is_final c.requires.shown c.in-Err.ensures.err
 
 pub returns-in-Err-clause-judged : goal.returns-in-Err-clause-judged
-returns-in-Err-clause-judged c = (c.requires.is_final, subst (λ (r : Refused). IsRefused (program c.args.instance.now) (Means.claim c.args.claim.now) r) c.wide_node.ensures c.in-Err.ensures.err)
+returns-in-Err-clause-judged c = (c.requires.is_final, subst (λ (r : Refused). IsRefusedFor (program c.args.instance.now) (Means.claim c.args.claim.now) r) c.wide_node.ensures c.in-Err.ensures.err)

@@ -1,4 +1,4 @@
-use Rattle.solve_run.proofs.Accepted.{answer_read, answer_accepted}
+use Rattle.solve_run.proofs.Acceptance.{answer_read, answer_accepted}
 use Rattle.solve_run.proofs.laws.claims_are_accepted.Goals as goal
 
 pub returns-clause-read : goal.returns-clause-read

@@ -1,4 +1,4 @@
-use Rattle.solve_run.proofs.Ran.{right_documents}
+use Rattle.solve_run.proofs.Runs.{right_documents}
 use Rattle.solve_run.proofs.running.answer_job.Goals as goal
 
 pub returns-clause-right : goal.returns-clause-right

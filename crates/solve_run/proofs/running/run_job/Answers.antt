@@ -1,4 +1,4 @@
-use Rattle.solve_run.proofs.Ran.{right_text, text_of}
+use Rattle.solve_run.proofs.Runs.{right_text, text_of}
 use Rattle.solve_run.proofs.running.run_job.Goals as goal
 
 pub returns-in-Ok-clause-ran : goal.returns-in-Ok-clause-ran

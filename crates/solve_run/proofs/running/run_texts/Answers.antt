@@ -1,5 +1,5 @@
 use Rattle.std.proofs.Common.{None, inl, refl}
-use Rattle.solve_run.proofs.Ran.{quiet_memory, quiet_options}
+use Rattle.solve_run.proofs.Runs.{quiet_memory, quiet_options}
 use Rattle.solve_run.proofs.running.run_texts.Goals as goal
 
 pub returns-in-Ok : goal.returns-in-Ok

@@ -1,7 +1,7 @@
 use Rattle.std.proofs.Common.{inr, arith, subst}
 use Rattle.std.proofs.lemmas.Result.{IfOk-weaker}
 use Rattle.certificate.specs.declared.claims.Claim.{Claim}
-use Rattle.solve_run.specs.Running.{IsFittedDocument}
+use Rattle.solve_run.specs.Runs.{IsFittedDocument}
 use Rattle.solve_run.proofs.Closings.{told}
 use Rattle.solve_run.proofs.telling.found_document.Goals as goal
 

@@ -1,6 +1,6 @@
 use Rattle.std.proofs.Common.{◌≡◌}
 use Rattle.dictionary.specs.Dict.{width_of, height_of}
-use Rattle.tableaus.specs.Held.{IsHeld}
+use Rattle.tableaus.specs.Dictionaries.{IsHeld}
 use Rattle.tableaus.proofs.turning.turn_all.Given as goal
 
 abbrev pub invariant-loop-k : goal.invariant-loop-k

@@ -1,4 +1,4 @@
-use Rattle.workers.proofs.Working.{rest_again}
+use Rattle.workers.proofs.Rounds.{rest_again}
 use Rattle.workers.proofs.work.work_and_sleep.Goals as goal
 
 pub returns-then-not-woken : goal.returns-then-not-woken

@@ -1,4 +1,4 @@
-use Rattle.workers.proofs.Working.{Rested}
+use Rattle.workers.proofs.Rounds.{Rested}
 use Rattle.workers.proofs.work.work_and_sleep.Given as goal
 
 -- nothing waited when it last worked

@@ -1,5 +1,5 @@
 use Rattle.std.proofs.Common.{rules}
-use Rattle.workers.proofs.Working.{none_given, round_more, round_last}
+use Rattle.workers.proofs.Rounds.{none_given, round_more, round_last}
 use Rattle.workers.proofs.work.work_off.Goals as goal
 
 pub returns-then-not-work_one : goal.returns-then-not-work_one

@@ -1,4 +1,4 @@
-use Rattle.workers.proofs.Working.{Claimed}
+use Rattle.workers.proofs.Rounds.{Claimed}
 use Rattle.workers.proofs.work.work_off.Given as goal
 
 -- rounds so far

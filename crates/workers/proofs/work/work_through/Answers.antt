@@ -1,4 +1,4 @@
-use Rattle.workers.proofs.Working.{comes_and_goes}
+use Rattle.workers.proofs.Rounds.{comes_and_goes}
 use Rattle.workers.proofs.work.work_through.Goals as goal
 
 pub returns : goal.returns

@@ -1,4 +1,4 @@
-use Rattle.desk.specs.Asks.{reply_in}
+use Rattle.desk.specs.SeatMoves.{reply_in}
 use Rattle.desk.proofs.desk.Desk+J.answer.Given as goal
 
 -- the move that was made, with its answer

@@ -1,5 +1,5 @@
 use Rattle.std.proofs.Common.{rules}
-use Rattle.desk.proofs.Keeps.{passes, passed_tells}
+use Rattle.desk.proofs.Steps.{passes, passed_tells}
 use Rattle.desk.proofs.desk.Desk+J.pass_on.Goals as goal
 
 pub fetch_add-requires : goal.fetch_add-requires

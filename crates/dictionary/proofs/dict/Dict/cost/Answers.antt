@@ -1,9 +1,9 @@
 use Rattle.std.proofs.Common.{◌+◌, ◌<◌, ◌^◌, length, List, arith, sym, ◌∙◌, ap, subst}
 use Rattle.dictionary.specs.declared.row.Item.{Item}
-use Rattle.dictionary.specs.Row.{number_in, IsRow}
+use Rattle.dictionary.specs.Row.{number_in, IsSparseRow}
 use Rattle.dictionary.specs.Dict.{width_of, height_of}
-use Rattle.dictionary.proofs.Changed.{entries_is}
-use Rattle.dictionary.proofs.Told.{goal_from, goal_row, over_there, said_there, digits_there}
+use Rattle.dictionary.proofs.RowChanges.{entries_is}
+use Rattle.dictionary.proofs.DictColumns.{goal_from, goal_row, over_there, said_there, digits_there}
 use Rattle.dictionary.proofs.dict.Dict.cost.Goals as goal
 
 pub index-requires : goal.index-requires
@@ -15,7 +15,7 @@ number_at-requires g c =
     let inside : d.height < length d.rows.items = let e = d.count in omega arith in
     let is = entries_is d.rows.items d.height c.index.result.now inside c.index.ensures in
     let o = over_there d c.requires.loaded (d.width + d.height) d.height (goal_from d) (goal_row d) inside in
-    subst (λ (l : List Item). IsRow l) (sym is) o.ascending
+    subst (λ (l : List Item). IsSparseRow l) (sym is) o.ascending
 
 pub returns-clause-entry : goal.returns-clause-entry
 unfolding width_of height_of

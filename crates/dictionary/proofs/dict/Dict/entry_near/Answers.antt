@@ -1,8 +1,8 @@
 use Rattle.std.proofs.Common.{◌<◌, ◌^◌, length, List, arith, sym, ◌∙◌, ap, subst}
 use Rattle.dictionary.specs.declared.row.Item.{Item}
-use Rattle.dictionary.specs.Row.{number_in, IsRow}
-use Rattle.dictionary.proofs.Changed.{entries_is}
-use Rattle.dictionary.proofs.Told.{equation_from, equation_place, equation_row, over_there, said_there, digits_there}
+use Rattle.dictionary.specs.Row.{number_in, IsSparseRow}
+use Rattle.dictionary.proofs.RowChanges.{entries_is}
+use Rattle.dictionary.proofs.DictColumns.{equation_from, equation_place, equation_row, over_there, said_there, digits_there}
 use Rattle.dictionary.proofs.dict.Dict.entry_near.Goals as goal
 
 pub row_of-r-requires : goal.row_of-r-requires
@@ -19,7 +19,7 @@ number_near-requires g c =
     let inside : c.row_of-r.result < length d.rows.items = let i = equation_row d c.args.row c.requires.row in let e = c.row_of-r.ensures in omega arith in
     let is = entries_is d.rows.items c.row_of-r.result c.index.result.now inside c.index.ensures in
     let o = over_there d c.requires.loaded c.args.row c.row_of-r.result from c.row_of-r.ensures inside in
-    subst (λ (l : List Item). IsRow l) (sym is) o.ascending
+    subst (λ (l : List Item). IsSparseRow l) (sym is) o.ascending
 
 pub returns-clause-entry : goal.returns-clause-entry
 returns-clause-entry g c =

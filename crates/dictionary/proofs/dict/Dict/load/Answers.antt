@@ -5,7 +5,7 @@ use Rattle.std.proofs.lemmas.Int.{to_z-of_z}
 use Rattle.dictionary.specs.declared.row.Row.{Row}
 use Rattle.dictionary.specs.Row.{RowsHaveRoom}
 use Rattle.dictionary.specs.Dict.{width_of, height_of}
-use Rattle.dictionary.proofs.Begun.{begun_holds, begun_basis, rows-number, told_rows, own_places}
+use Rattle.dictionary.proofs.FirstDictionary.{begun_holds, begun_basis, rows-number, told_rows, own_places}
 use Rattle.dictionary.proofs.dict.Dict.load.Goals as goal
 
 pub load_rows-requires-clause-goal : goal.load_rows-requires-clause-goal

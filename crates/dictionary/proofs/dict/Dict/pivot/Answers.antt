@@ -3,11 +3,11 @@ use Rattle.std.specs.Vec.{with_items}
 use Rattle.std.proofs.lemmas.List.{with_items_is}
 use Rattle.instance.proofs.Terms.{at_err}
 use Rattle.dictionary.specs.declared.row.Row.{Row}
-use Rattle.dictionary.specs.Row.{entries_in, IsRow, HasColumn, HaveRoom}
+use Rattle.dictionary.specs.Row.{entries_in, IsSparseRow, HasColumn, HaveRoom}
 use Rattle.dictionary.specs.Table.{IsTablePivot, IsWidePivot, PivotHasRoom, others_cost}
 use Rattle.dictionary.specs.Basis.{ChangePlaces}
 use Rattle.dictionary.specs.Dict.{width_of, height_of}
-use Rattle.dictionary.proofs.Held.{carry, b_inside, e_inside, row_inside, row_is, row_stands, row_absent, room_there, b_apart, place, cols, rows, placed, places_kept, goal_kept, not_loaded, moved_there, never_fits, fits_there, bounded, turned_basis, turned_entries, turned_holds}
+use Rattle.dictionary.proofs.DictPivots.{carry, b_inside, e_inside, row_inside, row_is, row_stands, row_absent, room_there, b_apart, place, cols, rows, placed, places_kept, goal_kept, not_loaded, moved_there, never_fits, fits_there, bounded, turned_basis, turned_entries, turned_holds}
 use Rattle.dictionary.proofs.dict.Dict.pivot.Goals as goal
 
 pub row_of-p-requires : goal.row_of-p-requires
@@ -25,7 +25,7 @@ pivot_rows-requires-clause-row g c =
     let d = c.args.self.now in
     let er : c.as_mut_slice-rows.result.now ≡ d.rows.items = c.as_mut_slice-rows.ensures.value in
     let ep : c.row_of-p.result ≡ place d c.args.basic - d.width = c.row_of-p.ensures in
-    carry (λ R p. IsRow (entries_in R p)) c.as_mut_slice-rows.result.now d.rows.items c.row_of-p.result (place d c.args.basic - d.width) er ep (row_is d c.args.basic c.args.nonbasic c.requires.basic c.requires.nonbasic c.requires.loaded)
+    carry (λ R p. IsSparseRow (entries_in R p)) c.as_mut_slice-rows.result.now d.rows.items c.row_of-p.result (place d c.args.basic - d.width) er ep (row_is d c.args.basic c.args.nonbasic c.requires.basic c.requires.nonbasic c.requires.loaded)
 
 pub pivot_rows-requires-clause-stands : goal.pivot_rows-requires-clause-stands
 pivot_rows-requires-clause-stands g c =

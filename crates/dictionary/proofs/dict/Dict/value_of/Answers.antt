@@ -5,11 +5,11 @@ use Rattle.instance.proofs.Terms.{if_ok, on_err}
 use Rattle.bases.specs.Dictionary.{Values, value_by}
 use Rattle.bases.specs.Pivot.{ValueFits}
 use Rattle.dictionary.specs.declared.row.Item.{Item}
-use Rattle.dictionary.specs.Row.{number_in, IsRow, HasColumn}
+use Rattle.dictionary.specs.Row.{number_in, IsSparseRow, HasColumn}
 use Rattle.dictionary.specs.Value.{AreValuesAt}
-use Rattle.dictionary.specs.Dict.{columns_of, count_of, values_of}
-use Rattle.dictionary.proofs.Changed.{entries_is}
-use Rattle.dictionary.proofs.Told.{from_basic, place_in, row_in, over_there, count_there, columns_counted, values_there, sum_there, fits_on, fits_off}
+use Rattle.dictionary.specs.Dict.{columns_of, count_of, place_values}
+use Rattle.dictionary.proofs.RowChanges.{entries_is}
+use Rattle.dictionary.proofs.DictColumns.{from_basic, place_in, row_in, over_there, count_there, columns_counted, values_there, sum_there, fits_on, fits_off}
 use Rattle.dictionary.proofs.dict.Dict.value_of.Goals as goal
 
 pub row_of-r-requires : goal.row_of-r-requires
@@ -26,7 +26,7 @@ sum_row-requires-clause-row g c =
     let inside : c.row_of-r.result < length d.rows.items = let i = row_in d c.args.basic c.requires.basic in let e = c.row_of-r.ensures in omega arith in
     let is = entries_is d.rows.items c.row_of-r.result c.index.result.now inside c.index.ensures in
     let o = over_there d c.requires.loaded c.args.basic c.row_of-r.result from c.row_of-r.ensures inside in
-    subst (λ (l : List Item). IsRow l) (sym is) o.ascending
+    subst (λ (l : List Item). IsSparseRow l) (sym is) o.ascending
 
 pub sum_row-requires-clause-inside : goal.sum_row-requires-clause-inside
 sum_row-requires-clause-inside g c =
@@ -44,7 +44,7 @@ returns-clause-ok g c w rest =
     let from = from_basic d c.args.basic c.requires.basic in
     let inside : c.row_of-r.result < length d.rows.items = let i = row_in d c.args.basic c.requires.basic in let e = c.row_of-r.ensures in omega arith in
     let is = entries_is d.rows.items c.row_of-r.result c.index.result.now inside c.index.ensures in
-    let told = subst (λ (l : List Item). (k : ℕ) (w : Values) → AreValuesAt l (values_of c.args.places.now) k w → IfOk c.sum_row.result (λ x. IsSame (ratio x) (value_by k (number_in l) w))) is c.sum_row.ensures.ok in
+    let told = subst (λ (l : List Item). (k : ℕ) (w : Values) → AreValuesAt l (place_values c.args.places.now) k w → IfOk c.sum_row.result (λ x. IsSame (ratio x) (value_by k (number_in l) w))) is c.sum_row.ensures.ok in
     if_ok c.sum_row.result (λ x e. subst (λ (v : Ratio). IsSame (ratio x) v) (sum_there d c.requires.loaded c.args.basic c.row_of-r.result from c.row_of-r.ensures inside c.args.places.now w rest) e) (told (columns_of d) w (values_there d c.requires.loaded c.args.basic c.row_of-r.result from c.row_of-r.ensures inside c.args.places.now w rest))
 
 pub returns-clause-fits : goal.returns-clause-fits
@@ -54,7 +54,7 @@ returns-clause-fits g c w rest =
     let from = from_basic d c.args.basic c.requires.basic in
     let inside : c.row_of-r.result < length d.rows.items = let i = row_in d c.args.basic c.requires.basic in let e = c.row_of-r.ensures in omega arith in
     let is = entries_is d.rows.items c.row_of-r.result c.index.result.now inside c.index.ensures in
-    let told = subst (λ (l : List Item). (k : ℕ) (w : Values) → AreValuesAt l (values_of c.args.places.now) k w → IfOk c.sum_row.result (λ _. ValueFits k (number_in l) w)) is c.sum_row.ensures.fits in
+    let told = subst (λ (l : List Item). (k : ℕ) (w : Values) → AreValuesAt l (place_values c.args.places.now) k w → IfOk c.sum_row.result (λ _. ValueFits k (number_in l) w)) is c.sum_row.ensures.fits in
     if_ok c.sum_row.result (λ x. fits_on d c.requires.loaded c.args.basic c.row_of-r.result from c.row_of-r.ensures inside c.args.places.now w rest) (told (columns_of d) w (values_there d c.requires.loaded c.args.basic c.row_of-r.result from c.row_of-r.ensures inside c.args.places.now w rest))
 
 pub returns-clause-wide : goal.returns-clause-wide
@@ -64,7 +64,7 @@ returns-clause-wide g c w rest =
     let from = from_basic d c.args.basic c.requires.basic in
     let inside : c.row_of-r.result < length d.rows.items = let i = row_in d c.args.basic c.requires.basic in let e = c.row_of-r.ensures in omega arith in
     let is = entries_is d.rows.items c.row_of-r.result c.index.result.now inside c.index.ensures in
-    let told = subst (λ (l : List Item). (k : ℕ) (w : Values) → AreValuesAt l (values_of c.args.places.now) k w → OnErr c.sum_row.result (ValueFits k (number_in l) w → ⊥)) is c.sum_row.ensures.wide in
+    let told = subst (λ (l : List Item). (k : ℕ) (w : Values) → AreValuesAt l (place_values c.args.places.now) k w → OnErr c.sum_row.result (ValueFits k (number_in l) w → ⊥)) is c.sum_row.ensures.wide in
     on_err c.sum_row.result (λ unfit f. unfit (fits_off d c.requires.loaded c.args.basic c.row_of-r.result from c.row_of-r.ensures inside c.args.places.now w rest f)) (told (columns_of d) w (values_there d c.requires.loaded c.args.basic c.row_of-r.result from c.row_of-r.ensures inside c.args.places.now w rest))
 
 pub returns-clause-cost : goal.returns-clause-cost

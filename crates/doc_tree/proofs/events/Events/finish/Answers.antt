@@ -1,8 +1,8 @@
 use Rattle.std.proofs.Common.{sym, subst, ◌∙◌}
-use Rattle.doc_tree.specs.Reading.{Ends}
+use Rattle.doc_tree.specs.Reading.{ReadingFails}
 use Rattle.doc_tree.specs.declared.fault.TreeFault.TheVariants as faults
-use Rattle.doc_tree.proofs.Told.Finished.{fed_taken, fed_refused, refused_ends}
-use Rattle.doc_tree.proofs.Told.Hearing.{told_whole}
+use Rattle.doc_tree.proofs.TextTrees.Verdicts.{fed_taken, fed_refused, refused_ends}
+use Rattle.doc_tree.proofs.TextTrees.Hearing.{told_whole}
 use Rattle.doc_tree.proofs.events.Events.finish.Goals as goal
 
 pub returns-in-Some-clause-refuses : goal.returns-in-Some-clause-refuses
@@ -11,7 +11,7 @@ returns-in-Some-clause-refuses g c = λ first bytes h. refused_ends c.args.self.
 pub returns-then-not-is_end-clause-refuses : goal.returns-then-not-is_end-clause-refuses
 returns-then-not-is_end-clause-refuses g c = λ first bytes h.
     let k = fed_taken (g.V.Visitor.had first c.args.self.visitor) c.args.self.reading bytes (sym c.refusal.ensures ∙ c.in_default.is) h in
-    subst (λ z. Ends c.args.self.reading.limit bytes (faults.Malformed z)) (sym c.count.ensures) (c.if-not-is_end.ensures k.told bytes k.taken)
+    subst (λ z. ReadingFails c.args.self.reading.limit bytes (faults.Malformed z)) (sym c.count.ensures) (c.if-not-is_end.ensures k.told bytes k.taken)
 
 pub returns-in-Ok-clause-visits : goal.returns-in-Ok-clause-visits
 returns-in-Ok-clause-visits g c = λ first bytes h.

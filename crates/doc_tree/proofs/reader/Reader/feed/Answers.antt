@@ -1,7 +1,7 @@
 use Rattle.std.proofs.Common.{subst, ℕ, List, ◌++◌}
 use Rattle.doc_tree.specs.Feeding.{WasFed}
 use Rattle.doc_tree.specs.Gathered.{whole}
-use Rattle.doc_tree.proofs.Told.Trees.{of_heard, to_heard, none}
+use Rattle.doc_tree.proofs.TextTrees.Trees.{of_heard, to_heard, none}
 use Rattle.doc_tree.proofs.reader.Reader.feed.Goals as goal
 
 pub returns-clause-fed : goal.returns-clause-fed

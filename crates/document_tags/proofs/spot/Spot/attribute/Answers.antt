@@ -2,7 +2,7 @@ use Rattle.std.proofs.Common.{List, None, Some, subst}
 use Rattle.std.specs.Prelude.{◌≡◌, MatchOption}
 use Rattle.tree_grammar.specs.Elements.{Attribute}
 use Rattle.document_tags.specs.Elements.{value_of}
-use Rattle.document_tags.proofs.Spotted.{stands_attributes}
+use Rattle.document_tags.proofs.Spots.{stands_attributes}
 use Rattle.document_tags.proofs.spot.Spot.attribute.Goals as goal
 
 pub returns : goal.returns

@@ -1,7 +1,7 @@
 use Rattle.std.proofs.Common.{arith}
 use Rattle.std.proofs.lemmas.List.{drop_all}
-use Rattle.document_tags.proofs.Passed.{from_event}
-use Rattle.document_tags.proofs.Spotted.{collects_none, collects_child, collects_chars, collects_end, collects_some}
+use Rattle.document_tags.proofs.Passages.{from_event}
+use Rattle.document_tags.proofs.Spots.{collects_none, collects_child, collects_chars, collects_end, collects_some}
 use Rattle.document_tags.proofs.spot.Spot.own_text.Goals as goal
 
 pub overflow_add-at : goal.overflow_add-at

@@ -1,5 +1,5 @@
 use Rattle.std.proofs.Common.{arith}
-use Rattle.document_tags.proofs.Spotted.{finds_none, finds_more, finds_all, behind_event}
+use Rattle.document_tags.proofs.Spots.{finds_none, finds_more, finds_all, behind_event}
 use Rattle.document_tags.proofs.spot.Spot.push_children.Goals as goal
 
 pub overflow_add-start : goal.overflow_add-start

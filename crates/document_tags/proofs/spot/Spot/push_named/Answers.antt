@@ -1,5 +1,5 @@
 use Rattle.std.proofs.Common.{◌∙◌, List, ℕ, ap, sym, bytes_eq}
-use Rattle.document_tags.proofs.Spotted.{kept, passed_over}
+use Rattle.document_tags.proofs.Spots.{kept, passed_over}
 use Rattle.document_tags.proofs.spot.Spot.push_named.Goals as goal
 
 pub returns-in_ok-push : goal.returns-in_ok-push

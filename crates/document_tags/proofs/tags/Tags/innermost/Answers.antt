@@ -1,7 +1,7 @@
 use Rattle.std.proofs.Common.{◌≡◌, ◌<◌, ◌-◌, ◌∙◌, ℕ, List, length, get_or, ap, sym, subst, arith}
 use Rattle.document_tags.specs.Tags.{Tag}
-use Rattle.document_tags.specs.Coming.{coming, levels_of}
-use Rattle.document_tags.proofs.Coming.{coming_innermost, last_of, some_left}
+use Rattle.document_tags.specs.NextTags.{coming, levels_of}
+use Rattle.document_tags.proofs.NextTags.{coming_innermost, last_of, some_left}
 use Rattle.document_tags.proofs.tags.Tags.innermost.Goals as goal
 
 pub returns : goal.returns

@@ -1,8 +1,8 @@
 use Rattle.std.proofs.Common.{◌<◌, ◌∙◌, ℕ, List, Bor, length, map, ap, sym, subst}
 use Rattle.document_tags.specs.declared.place.Opened.{Opened}
 use Rattle.document_tags.specs.Tags.{Tag, path_eq}
-use Rattle.document_tags.specs.Coming.{coming}
-use Rattle.document_tags.proofs.Coming.{coming_path}
+use Rattle.document_tags.specs.NextTags.{coming}
+use Rattle.document_tags.proofs.NextTags.{coming_path}
 use Rattle.document_tags.proofs.tags.Tags.is_at.Goals as goal
 
 pub returns : goal.returns

@@ -1,5 +1,5 @@
 use Rattle.std.proofs.Common.{◌∙◌, sym}
-use Rattle.document_tags.proofs.Coming.{over_left, left_over}
+use Rattle.document_tags.proofs.NextTags.{over_left, left_over}
 use Rattle.document_tags.proofs.tags.Tags.is_over.Goals as goal
 
 pub returns : goal.returns

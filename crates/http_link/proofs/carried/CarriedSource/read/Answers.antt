@@ -1,4 +1,4 @@
-use Rattle.http_link.proofs.Carrying.{carry_taken}
+use Rattle.http_link.proofs.CarriedBytes.{carry_taken}
 use Rattle.http_link.proofs.carried.CarriedSource.read.Goals as goal
 
 pub returns-in-Ok-clause-taken : goal.returns-in-Ok-clause-taken

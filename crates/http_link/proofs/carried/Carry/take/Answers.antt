@@ -1,5 +1,5 @@
 use Rattle.std.proofs.Common.{sym, ◌-◌, ◌∙◌}
-use Rattle.http_link.proofs.Carrying.{took, took_room}
+use Rattle.http_link.proofs.CarriedBytes.{took, took_room}
 use Rattle.http_link.proofs.carried.Carry.take.Goals as goal
 
 pub returns-clause-taken : goal.returns-clause-taken

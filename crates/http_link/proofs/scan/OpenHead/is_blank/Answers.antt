@@ -1,6 +1,6 @@
 use Rattle.std.proofs.Common.{inl, arith}
 use Rattle.std.proofs.lemmas.Bool.Decides.{Decides-eqb}
-use Rattle.http_link.proofs.LineLemmas.{open_is_blank, open_not_blank}
+use Rattle.http_link.proofs.Lines.{open_is_blank, open_not_blank}
 use Rattle.http_link.proofs.scan.OpenHead.is_blank.Goals as goal
 
 pub returns-then-self-eq0 : goal.returns-then-self-eq0

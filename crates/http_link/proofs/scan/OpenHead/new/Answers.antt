@@ -1,4 +1,4 @@
-use Rattle.http_link.proofs.LineLemmas.{open_none}
+use Rattle.http_link.proofs.Lines.{open_none}
 use Rattle.http_link.proofs.scan.OpenHead.new.Goals as goal
 
 pub returns-clause-begun : goal.returns-clause-begun

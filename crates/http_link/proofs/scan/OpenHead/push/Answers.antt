@@ -1,5 +1,5 @@
 use Rattle.std.proofs.Common.{◌≡◌, true, false, refl, arith}
-use Rattle.http_link.proofs.LineLemmas.{open_count, push_byte, push_full, push_empty, push_whole}
+use Rattle.http_link.proofs.Lines.{open_count, push_byte, push_full, push_empty, push_whole}
 use Rattle.http_link.proofs.scan.OpenHead.push.Goals as goal
 
 pub overflow_add-self : goal.overflow_add-self

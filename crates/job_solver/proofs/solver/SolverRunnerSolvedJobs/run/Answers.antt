@@ -1,7 +1,7 @@
 use Rattle.std.proofs.Common.{List, ℕ, Some, None, sym, subst}
-use Rattle.solve_run.specs.Running.{TellsText}
-use Rattle.solve_run.specs.Right.{Right}
-use Rattle.job_solver.proofs.Running.{makes}
+use Rattle.solve_run.specs.Runs.{TellsText}
+use Rattle.solve_run.specs.JobAnswers.{Right}
+use Rattle.job_solver.proofs.Runs.{makes}
 use Rattle.job_solver.proofs.solver.SolverRunnerSolvedJobs.run.Goals as goal
 
 pub returns-in-Ok-new-clause-ran : goal.returns-in-Ok-new-clause-ran

@@ -1,7 +1,7 @@
 use Rattle.std.proofs.Common.{◌+◌, refl, arith}
-use Rattle.osil_grammar.specs.Parsing.{begun}
+use Rattle.osil_grammar.specs.Parsing.{begun_tag}
 use Rattle.document_tags.specs.Elements.{elements_in}
-use Rattle.osil_grammar.proofs.Passing.{deeper_by, higher_by, out_by, fewer_entered, fewer_left, both_on, entered_on, left_on, stays_on}
+use Rattle.osil_grammar.proofs.WaysOut.{deeper_by, higher_by, out_by, fewer_entered, fewer_left, both_on, entered_on, left_on, stays_on}
 use Rattle.osil_grammar.proofs.tags.Place.pass.Goals as goal
 
 pub loop-depth-init : goal.loop-depth-init
@@ -12,14 +12,14 @@ loop-depth-init c = record {
 }
 
 pub loop-depth-smaller-in-Some : goal.loop-depth-smaller-in-Some
-loop-depth-smaller-in-Some c = omega (arith, fewer_entered c.loop-depth.self c.child.new.self (begun c.in-Some.field-0) c.in-Some.ensures.some)
+loop-depth-smaller-in-Some c = omega (arith, fewer_entered c.loop-depth.self c.child.new.self (begun_tag c.in-Some.field-0) c.in-Some.ensures.some)
 
 pub loop-depth-preserved-in-Some : goal.loop-depth-preserved-in-Some
 loop-depth-preserved-in-Some c =
     let entered = c.in-Some.ensures.some in let counted = entered.counted in record {
       few = omega (arith, c.loop-depth.invariant.few);
-      on = both_on c.loop-depth.invariant.on (entered_on c.loop-depth.self c.child.new.self (begun c.in-Some.field-0) entered);
-      ahead = λ name content rest e. deeper_by c.loop-depth.depth c.loop-depth.self c.child.new.self (begun c.in-Some.field-0) rest (c.args.self.now.ordinal + elements_in content) entered (c.loop-depth.invariant.ahead name content rest e);
+      on = both_on c.loop-depth.invariant.on (entered_on c.loop-depth.self c.child.new.self (begun_tag c.in-Some.field-0) entered);
+      ahead = λ name content rest e. deeper_by c.loop-depth.depth c.loop-depth.self c.child.new.self (begun_tag c.in-Some.field-0) rest (c.args.self.now.ordinal + elements_in content) entered (c.loop-depth.invariant.ahead name content rest e);
     }
 
 pub returns-in-None-clause-on : goal.returns-in-None-clause-on

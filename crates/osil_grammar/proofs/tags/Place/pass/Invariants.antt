@@ -2,7 +2,7 @@ use Rattle.std.proofs.Common.{◌≡◌, ◌+◌, ◌*◌, ◌≤◌, ℕ, List,
 use Rattle.tree_grammar.specs.Elements.{Event, Nodes, Close, nodes_events}
 use Rattle.document_tags.specs.Elements.{elements_in}
 use Rattle.osil_grammar.specs.Walking.{GoesOn}
-use Rattle.osil_grammar.proofs.Passing.{IsAhead}
+use Rattle.osil_grammar.proofs.WaysOut.{IsAhead}
 use Rattle.osil_grammar.proofs.tags.Place.pass.Given as goal
 
 -- so many elements began in the content and didn't end yet

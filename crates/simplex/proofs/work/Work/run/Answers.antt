@@ -8,7 +8,7 @@ use Rattle.dictionary.specs.Dict.{width_of, height_of}
 use Rattle.simplex.specs.declared.ends.Ends.{Ends}
 use Rattle.simplex.specs.Cuts.{IsCutBy}
 use Rattle.simplex.specs.Answers.{was_stopped}
-use Rattle.simplex.proofs.Finishing.{ended_same}
+use Rattle.simplex.proofs.Finishes.{ended_same}
 use Rattle.simplex.proofs.work.Work.run.Goals as goal
 
 pub returns-clause-run : goal.returns-clause-run

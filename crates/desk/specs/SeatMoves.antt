@@ -1,0 +1,127 @@
+-- What a call of the desk does to a seat.
+use mathlib.Core.Option.{some}
+use lib.ListN.{get_elem?}
+use Rattle.std.specs.Prelude.{◌≡◌, ◌≢◌, ℕ, ◌+◌, true, List, [], ◌∷◌, ◌++◌, Option, None, Some, Bool}
+use Rattle.atomic_table.specs.Seated.{TableId}
+use Rattle.atomic_table.specs.declared.shared.Seat.{Seat}
+use Rattle.job_table.specs.Jobs.{Register}
+use Rattle.job_table.specs.Steps.{wants_memory, Step}
+use Rattle.job_table.specs.declared.calls.Call.{Call}
+use Rattle.job_table.specs.declared.calls.Reply.{Reply}
+use Rattle.job_table.specs.declared.calls.Reply.TheVariants as replies
+use Rattle.desk.specs.declared.shape.Locked.{Locked}
+use Rattle.desk.specs.declared.held.Held.{Held}
+use Rattle.desk.specs.declared.view.Entry.{Entry}
+use Rattle.desk.specs.declared.view.Met.{Met}
+use Rattle.desk.specs.declared.view.View.{View}
+use Rattle.desk.specs.declared.view.Turn.TheVariants.{Idle, Served}
+use Rattle.desk.specs.History.{LeadsTo, IsLegal, StartsWith, entry_of_seat, calls_by}
+use Rattle.desk.specs.Steps.{Sat}
+use Rattle.desk.specs.Rule.{with_seen, longer_of, met_as, out_of, HasMet, StandsInSeen}
+
+-- the seat is live, has no number of a turn, and no slot. All of its own calls stand in what it has seen, and so do all calls of the
+-- seats that it met
+pub record IsSeatReady {J : Type 0} (me : Sat J) : Type 0 where
+  pub idle : me.0.turn ≡ Idle
+  pub live : me.0.live ≡ true
+  pub bare : me.1 ≡ []
+  pub stand : calls_by me.0.number me.0.seen ≡ me.0.mine
+  pub known : HasMet me.0.seen me.0.met
+
+-- which desk it is
+abbrev pub desk_id : {S V Q A : Type 0} → Locked S V Q A → TableId
+desk_id d = d.table.shared.table_id
+
+-- the seat is one of that desk, and is ready to ask
+pub record IsSeatOf {J : Type 0} (desk : TableId) (seat : Seat (Option (Held J)) View) : Type 0 where
+  pub desk_is : seat.table_id ≡ desk
+  pub ready : IsSeatReady seat.me
+
+-- what changes only where seats are split off and met
+pub record Stays (v w : View) : Type 0 where
+  pub number : w.number ≡ v.number
+  pub given : w.given ≡ v.given
+  pub met : w.met ≡ v.met
+
+-- the reply of a call that was made, and any of one that wasn't
+abbrev pub reply_in : Option Reply → Reply
+reply_in None = replies.Done
+reply_in (Some reply) = reply
+
+-- the seat may have seen more, and made no call
+pub record Waits (v w : View) : Type 0 where
+  pub seen : StartsWith w.seen v.seen
+  pub mine : w.mine ≡ v.mine
+  pub stays : Stays v w
+
+-- a seat was met: the first one knows its number and its calls, and has seen the longer of what both had seen, which begins with
+-- both and has the known calls of each seat that was met
+pub record Meets (v w after : View) : Type 0 where
+  pub seen : after.seen ≡ longer_of v.seen w.seen
+  pub begins : StartsWith after.seen v.seen × StartsWith after.seen w.seen
+  pub mine : after.mine ≡ v.mine
+  pub number : after.number ≡ v.number
+  pub given : after.given ≡ v.given
+  pub met : after.met ≡ v.met ++ met_as w ∷ []
+  pub known : HasMet after.seen after.met
+  pub out : out_of after + 1 ≡ out_of v
+
+module _ (right : List ℕ → List ℕ → Bool → Option (List ℕ) → Type 0) where
+  -- a call was made: the history after it is legal, begins with all that had been seen, and ends with the call, which is one more
+  -- of the seat's own and the only one behind what had been seen
+  pub record AddsEntry (v : View) (call : Call) (reply : Reply) (w : View) : Type 0 where
+    pub between : List Entry
+    pub seen : w.seen ≡ (v.seen ++ between) ++ entry_of_seat v.number call reply ∷ []
+    pub others : calls_by v.number between ≡ []
+    pub legal : IsLegal right w.seen
+    pub mine : w.mine ≡ v.mine ++ entry_of_seat v.number call reply ∷ []
+    pub stays : Stays v w
+
+  -- what was seen leads to this
+  pub record Lacks (call : Call) (seen : List Entry) : Type 0 where
+    pub held : Register
+    pub leads : LeadsTo right seen held
+    pub wants : wants_memory call held ≡ true
+
+  -- it is the turn of this number, and the table is the one after all that the seat has now seen
+  pub record HasTurn {J : Type 0} (number : ℕ) (v : View) (me : Sat J) (held : Held J) : Type 0 where
+    pub seen : List Entry
+    pub now : me ≡ (with_seen (Served number) seen v.mine v, (0, None) ∷ [])
+    pub begins : StartsWith seen v.seen
+    pub leads : LeadsTo right seen held.table
+    pub stands : StandsInSeen (with_seen (Served number) seen v.mine v)
+
+  -- it is the seat's turn, and the table that it took is the one after all that it has seen
+  pub record IsServed {J : Type 0} (number : ℕ) (me : Sat J) (held : Held J) : Type 0 where
+    pub turn : me.0.turn ≡ Served number
+    pub live : me.0.live ≡ true
+    pub taken : me.1 ≡ (0, None) ∷ []
+    pub leads : LeadsTo right me.0.seen held.table
+    pub stands : StandsInSeen me.0
+
+  -- it is the seat's turn, and it gave the table back, which is the one after all that the seat has seen and this call
+  pub record IsMoveAnswered {J : Type 0} (call : Call) (reply : Reply) (me : Sat J) : Type 0 where
+    pub number : ℕ
+    pub before : Register
+    pub held : Held J
+    pub turn : me.0.turn ≡ Served number
+    pub live : me.0.live ≡ true
+    pub given : me.1 ≡ (0, Some held) ∷ []
+    pub leads : LeadsTo right me.0.seen before
+    pub answers : Step right before call reply held.table
+
+  -- the call is the last of the history, which is legal, the seat is idle, and all of its own calls stand there
+  abbrev pub AnswersMove : {J : Type 0} → Call → Reply → Sat J → Sat J → Type 0
+  AnswersMove call reply m m' =
+      (m' ≡ (with_seen Idle (m.0.seen ++ entry_of_seat m.0.number call reply ∷ []) (m.0.mine ++ entry_of_seat m.0.number call reply ∷ []) m.0, []))
+      × IsLegal right (m.0.seen ++ entry_of_seat m.0.number call reply ∷ []) × StandsInSeen m'.0
+
+  -- the table is the one after a history that begins with all that the first seat had seen. Its entries are the seat's own calls
+  -- and those of the seats that it met, and no others
+  pub record Closes (v : View) (table : Register) : Type 0 where
+    pub log : List Entry
+    pub leads : LeadsTo right log table
+    pub begins : StartsWith log v.seen
+    pub mine : calls_by 0 log ≡ v.mine
+    pub met : HasMet log v.met
+    pub no_others : (k : ℕ) → k ≢ 0 → ((i : ℕ) (m : Met) → get_elem? v.met i ≡ some m → m.seat ≢ k) → calls_by k log ≡ []

@@ -1,0 +1,201 @@
+-- Steps of states in comments, instructions and CDATA sections.
+use Rattle.std.proofs.Common.{◌≡◌, ◌≢◌, ℕ, zero, suc, ◌+◌, ◌<◌, ◌≤◌, inl, inr, ◌↔◌, List, [], ◌∷◌, ◌++◌, map, refl, ap, sym, ◌∙◌, subst, arith}
+use Rattle.std.specs.Prelude.{codes}
+use Rattle.std.specs.Char.{to_ascii_lowercase}
+use Rattle.tree_grammar.specs.Elements.{Attribute}
+use Rattle.tree_grammar.specs.Characters.{IsSpace, IsNameStart, IsNameChar}
+use Rattle.doc_tree.specs.Marks.{Mark, Char}
+use Rattle.doc_tree.specs.Rests.{Terms, Word, Saying, CommentRest, SectionRest, pending_brackets, PiOver, PiRest, FirstOver, Before, RootOrType, After, Never, IsSpecial, IsNameRest}
+use Rattle.doc_tree.specs.declared.declaration.Field.TheVariants as fields
+use Rattle.doc_tree.specs.declared.machine.Goal.TheVariants as goals
+use Rattle.doc_tree.specs.declared.names.Part.TheVariants as parts
+use Rattle.doc_tree.specs.declared.machine.Round.{Round}
+use Rattle.doc_tree.specs.declared.machine.Round.TheVariants as rounds
+use Rattle.doc_tree.specs.declared.machine.Place.{Place}
+use Rattle.doc_tree.specs.declared.machine.Place.TheVariants as places
+use Rattle.doc_tree.specs.Completions.{State, RestsAt, ReachesGoal, Good, GoodGoal, GoodRound, InElement, IsInMark, Insides, Around, PiNamed, QuestionAt, FollowsByte, Stuck, ReachesState}
+use Rattle.doc_tree.proofs.MachineSteps.Moves.{moves, moves_at, moves_word, follows_reached, follows_saying, stays}
+use Rattle.doc_tree.proofs.MachineSteps.Steps.{at_byte, at_place}
+use Rattle.doc_tree.proofs.Viability.Printables.{printable_text}
+use Rattle.doc_tree.proofs.ByteGrammar.Keys.{name_next, name_over}
+use Rattle.doc_tree.proofs.ByteGrammar.Contents.{content_dash, content_square, content_bang, content_question}
+use Rattle.doc_tree.proofs.ByteGrammar.Rounds.{round_dash, round_bang, round_question}
+use Rattle.doc_tree.proofs.ByteGrammar.Prologs.{before_round, after_round, no_type, marked_question, first_over_high, first_declares, first_instructs}
+use Rattle.doc_tree.proofs.ByteGrammar.Asides.{comment_plain_byte, comment_dash_byte, comment_end, pi_plain, pi_end, pi_mark, pi_over_end, pi_over_space, pi_over_stuck, pi_over_high, name_first, name_none, section_end, section_none, section_one, section_two, section_three}
+
+-- behind `<!` and `<?`, wherever they stand
+module _ (u : Terms) where
+  pub around_dash : (round : Round) (names : List (List ℕ)) (x : List ℕ) (es : List Mark) → Around round names u (60 ∷ 33 ∷ 45 ∷ x) es ↔ Word (45 ∷ []) (CommentRest (Around round names u)) x es
+  around_dash rounds.Prolog names x es = round_dash (Before u) (RootOrType u) (before_round u) x es
+  around_dash rounds.Content names x es = content_dash u names x es
+  around_dash rounds.Epilog names x es = round_dash (After u) Never (after_round u) x es
+
+  pub around_no : (round : Round) (names : List (List ℕ)) (b : ℕ) (x : List ℕ) (es : List Mark) → b ≢ 45 → b ≢ 91 → (round ≡ rounds.Prolog → b ≡ 68 → IsSpecial u.aim → ⊥) → Around round names u (60 ∷ 33 ∷ b ∷ x) es → ⊥
+  around_no rounds.Prolog names b x es n m k h = round_bang (Before u) (RootOrType u) (before_round u) b x es n (no_type u b x es (k refl)) h
+  around_no rounds.Content names b x es n m k h = content_bang u names b x es n m h
+  around_no rounds.Epilog names b x es n m k h = round_bang (After u) Never (after_round u) b x es n (λ z. z) h
+
+  around_outside : (round : Round) (names : List (List ℕ)) (x : List ℕ) (es : List Mark) → round ≢ rounds.Content → Around round names u (60 ∷ 33 ∷ 91 ∷ x) es → ⊥
+  around_outside rounds.Prolog names x es n h = round_bang (Before u) (RootOrType u) (before_round u) 91 x es (λ e. omega arith) (no_type u 91 x es (λ e i. omega arith)) h
+  around_outside rounds.Content names x es n h = n refl
+  around_outside rounds.Epilog names x es n h = round_bang (After u) Never (after_round u) 91 x es (λ e. omega arith) (λ z. z) h
+
+  pub around_mark : (round : Round) (names : List (List ℕ)) (x : List ℕ) (es : List Mark) → Around round names u (60 ∷ 63 ∷ x) es ↔ PiRest (Around round names u) x es
+  around_mark rounds.Prolog names x es = round_question (Before u) (RootOrType u) (before_round u) x es
+  around_mark rounds.Content names x es = content_question u names x es
+  around_mark rounds.Epilog names x es = round_question (After u) Never (after_round u) x es
+
+pub bang_dash : (s : State) (b : ℕ) (new : State) → b ≡ 45 → Good places.Bang s → new ≡ record s { place = places.Word; left = 45 ∷ []; goal = goals.Comment } → FollowsByte s.marks (RestsAt places.Bang s) b new
+bang_dash s b new e g q = at_byte s.marks (RestsAt places.Bang s) b 45 new e (moves_word s.marks (RestsAt places.Bang s) 45 s goals.Comment (45 ∷ []) new q refl (λ l h. h) (λ z. cc) (printable_text (45 ∷ []) refl) g (λ u d x es. around_dash u s.round s.names x es))
+
+pub bang_square : (s : State) (b : ℕ) (new : State) → b ≡ 91 → s.round ≡ rounds.Content → Good places.Bang s → new ≡ record s { place = places.Word; left = 67 ∷ 68 ∷ 65 ∷ 84 ∷ 65 ∷ 91 ∷ []; goal = goals.Section } → FollowsByte s.marks (RestsAt places.Bang s) b new
+bang_square s b new e r g q =
+    let k : InElement s.names s.kept = subst (λ z. GoodRound z s.names s.kept) r g in
+    at_byte s.marks (RestsAt places.Bang s) b 91 new e (moves_word s.marks (RestsAt places.Bang s) 91 s goals.Section (67 ∷ 68 ∷ 65 ∷ 84 ∷ 65 ∷ 91 ∷ []) new q refl (λ l h. h) (λ z. cc) (printable_text (67 ∷ 68 ∷ 65 ∷ 84 ∷ 65 ∷ 91 ∷ []) refl) k (λ u d x es. subst (λ z. Around z s.names u (60 ∷ 33 ∷ 91 ∷ x) es ↔ Word (67 ∷ 68 ∷ 65 ∷ 84 ∷ 65 ∷ 91 ∷ []) (SectionRest 0 (Insides 0 s.names u)) x es) (sym r) (content_square u s.names x es)))
+
+pub bang_no : (u : Terms) (s : State) (b : ℕ) → b ≢ 45 → b ≢ 91 → (s.round ≡ rounds.Prolog → b ≡ 68 → IsSpecial u.aim → ⊥) → (x : List ℕ) (es : List Mark) → RestsAt places.Bang s u (b ∷ x) es → ⊥
+bang_no u s b n m k x es h = around_no u s.round s.names b x es n m k h
+
+pub bang_outside : (s : State) (b : ℕ) → b ≡ 91 → s.round ≢ rounds.Content → Stuck (RestsAt places.Bang s) b
+bang_outside s b e n = subst (λ z. Stuck (RestsAt places.Bang s) z) (sym e) (λ u d x es h. around_outside u s.round s.names x es n h)
+
+-- comments
+pub comment_stays : (s : State) (b : ℕ) → s.place ≡ places.Comment → Good places.Comment s → b ≢ 45 → FollowsByte s.marks (RestsAt places.Comment s) b s
+comment_stays s b p g n = moves_at s.marks (RestsAt places.Comment s) b s places.Comment p refl (λ l h. h) g (λ u d x es. comment_plain_byte (Around s.round s.names u) b x es n)
+
+pub comment_dashes : (s : State) (b : ℕ) (new : State) → b ≡ 45 → Good places.CommentDash s → new ≡ record s { place = places.Word; left = 62 ∷ []; goal = goals.Around } → FollowsByte s.marks (RestsAt places.CommentDash s) b new
+comment_dashes s b new e g q = at_byte s.marks (RestsAt places.CommentDash s) b 45 new e (moves_word s.marks (RestsAt places.CommentDash s) 45 s goals.Around (62 ∷ []) new q refl (λ l h. h) (λ z. cc) (printable_text (62 ∷ []) refl) g (λ u d x es. comment_end (Around s.round s.names u) x es))
+
+pub comment_back : (s : State) (b : ℕ) → Good places.CommentDash s → b ≢ 45 → FollowsByte s.marks (RestsAt places.CommentDash s) b (record s { place = places.Comment })
+comment_back s b g n = moves s.marks (RestsAt places.CommentDash s) b (record s { place = places.Comment }) refl (λ l h. h) g (λ u d x es. comment_dash_byte (Around s.round s.names u) b x es n)
+
+-- behind a comment, an instruction or a section
+pub around_prolog : (s : State) → s.round ≡ rounds.Prolog → GoodRound s.round s.names s.kept → ReachesState s.marks (Around s.round s.names) (record s { place = places.Prolog })
+around_prolog s r g = subst (λ z. ReachesState s.marks (Around z s.names) (record s { place = places.Prolog })) (sym r) (stays s.marks (Around rounds.Prolog s.names) (record s { place = places.Prolog }) refl (λ h. h) (subst (λ z. GoodRound z s.names s.kept) r g) (λ u d x es. (λ h. h, λ h. h)))
+
+pub around_content : (s : State) → s.round ≡ rounds.Content → GoodRound s.round s.names s.kept → ReachesState s.marks (Around s.round s.names) (record s { place = places.Content; count = 0 })
+around_content s r g = subst (λ z. ReachesState s.marks (Around z s.names) (record s { place = places.Content; count = 0 })) (sym r) (stays s.marks (Around rounds.Content s.names) (record s { place = places.Content; count = 0 }) refl (λ h. h) (subst (λ z. GoodRound z s.names s.kept) r g) (λ u d x es. (λ h. h, λ h. h)))
+
+pub around_epilog : (s : State) → s.round ≡ rounds.Epilog → ReachesState s.marks (Around s.round s.names) (record s { place = places.Epilog })
+around_epilog s r = subst (λ z. ReachesState s.marks (Around z s.names) (record s { place = places.Epilog })) (sym r) (stays s.marks (Around rounds.Epilog s.names) (record s { place = places.Epilog }) refl (λ h. h) tt (λ u d x es. (λ h. h, λ h. h)))
+
+-- a section
+pending_more : (n : ℕ) (x : List ℕ) → pending_brackets n (93 ∷ x) ≡ pending_brackets (suc n) x
+pending_more zero x = refl
+pending_more (suc n) x = ap (λ z. 93 ∷ z) (pending_more n x)
+
+abbrev S : State → ℕ → Terms → List ℕ → List Mark → Type 0
+S s n u bytes = SectionRest 0 (Insides 0 s.names u) (pending_brackets n bytes)
+
+at_count : (s : State) (n : ℕ) (b : ℕ) (new : State) → s.count ≡ n → FollowsByte s.marks (S s n) b new → FollowsByte s.marks (RestsAt places.Section s) b new
+at_count s n b new e h = subst (λ z. FollowsByte s.marks (S s z) b new) (sym e) h
+
+pub section_waits : (s : State) (count : ℕ) → count ≡ s.count + 1 → s.count < 2 → s.place ≡ places.Section → Good places.Section s → FollowsByte s.marks (RestsAt places.Section s) 93 (record s { count = count })
+section_waits s count e l p g =
+    let k : suc s.count ≡ count = omega arith in
+    moves_at s.marks (RestsAt places.Section s) 93 (record s { count = count }) places.Section p refl (λ l h. h) (g.0, omega arith) (λ u d x es. subst (λ z. SectionRest 0 (Insides 0 s.names u) (pending_brackets s.count (93 ∷ x)) es ↔ SectionRest 0 (Insides 0 s.names u) z es) (pending_more s.count x ∙ ap (λ z. pending_brackets z x) k) (λ h. h, λ h. h))
+
+pub section_over : (s : State) (b : ℕ) → b ≡ 62 → 2 ≤ s.count → Good places.Section s → FollowsByte s.marks (RestsAt places.Section s) b (record s { count = 0; place = places.Content })
+section_over s b e l g =
+    let k = g.1 in
+    let T : State = record s { count = 0; place = places.Content } in
+    at_byte s.marks (RestsAt places.Section s) b 62 T e (at_count s 2 62 T (omega arith) (moves s.marks (S s 2) 62 T refl (λ l h. h) g.0 (λ u d x es. section_end (Insides 0 s.names u) x es)))
+
+section_here : (t : State) (n : ℕ) → t.place ≡ places.Section → t.count ≡ n → n ≤ 2 → InElement t.names t.kept → ReachesState t.marks (S t n) t
+section_here t n p c l k = stays t.marks (S t n) t refl (λ h. subst (λ z. IsInMark z t.goal) p h) (at_place (λ z. Good z t) t.place places.Section p (k, subst (λ z. z ≤ 2) (sym c) l)) (λ u d x es. at_place (λ z. S t n u x es ↔ RestsAt z t u x es) t.place places.Section p (subst (λ z. S t n u x es ↔ S t z u x es) (sym c) (λ h. h, λ h. h)))
+
+-- what is told goes on in the section
+says_on : (s : State) (n m b : ℕ) (text : List ℕ) (marks : List Mark) (kept : List Attribute) → s.count ≡ n → m ≤ 2 → marks ≡ s.marks ++ map Char text → InElement s.names kept → s.place ≡ places.Section → ((u : Terms) (x : List ℕ) (es : List Mark) → S s n u (b ∷ x) es ↔ Saying (map Char text) (S s m u) x es) → FollowsByte s.marks (RestsAt places.Section s) b (record s { count = m; kept = kept; marks = marks })
+says_on s n m b text marks kept c l e k p f =
+    let t : State = record s { count = m; kept = kept; marks = marks } in
+    at_count s n b t c (follows_saying s.marks (map Char text) (S s n) (S s m) b t (λ u d x es. f u x es) (subst (λ z. ReachesState z (S s m) t) e (section_here t m p refl l k)))
+
+pub section_third : (s : State) (marks : List Mark) (kept : List Attribute) → marks ≡ s.marks ++ map Char (93 ∷ []) → InElement s.names kept → (s.count < 2 → ⊥) → s.place ≡ places.Section → Good places.Section s → FollowsByte s.marks (RestsAt places.Section s) 93 (record s { kept = kept; marks = marks })
+section_third s marks kept e k n p g =
+    let l = g.1 in let c : s.count ≡ 2 = omega arith in
+    let t : State = record s { kept = kept; marks = marks } in
+    at_count s 2 93 t c (follows_saying s.marks (map Char (93 ∷ [])) (S s 2) (S s 2) 93 t (λ u d x es. let k = section_three (Insides 0 s.names u) x es in (λ h. let a = k.0 h in record { later = a.later; says = a.says; after = a.after }, λ h. k.1 (record { later = h.later; says = h.says; after = h.after }))) (subst (λ z. ReachesState z (S s 2) t) e (section_here t 2 p c (omega arith) k)))
+
+pub section_said : (s : State) (b : ℕ) (marks : List Mark) (kept : List Attribute) → marks ≡ s.marks ++ map Char (b ∷ []) → InElement s.names kept → s.count ≡ 0 → s.place ≡ places.Section → b ≢ 93 → FollowsByte s.marks (RestsAt places.Section s) b (record s { kept = kept; marks = marks })
+section_said s b marks kept e k c p n =
+    let t : State = record s { kept = kept; marks = marks } in
+    at_count s 0 b t c (follows_saying s.marks (map Char (b ∷ [])) (S s 0) (S s 0) b t (λ u d x es. section_none (Insides 0 s.names u) b x es n) (subst (λ z. ReachesState z (S s 0) t) e (section_here t 0 p c (omega arith) k)))
+
+pub section_said_one : (s : State) (b : ℕ) (marks : List Mark) (kept : List Attribute) → marks ≡ s.marks ++ map Char (93 ∷ b ∷ []) → InElement s.names kept → s.count ≡ 1 → s.place ≡ places.Section → b ≢ 93 → FollowsByte s.marks (RestsAt places.Section s) b (record s { count = 0; kept = kept; marks = marks })
+section_said_one s b marks kept e k c p n = says_on s 1 0 b (93 ∷ b ∷ []) marks kept c (omega arith) e k p (λ u x es. section_one (Insides 0 s.names u) b x es n)
+
+pub section_said_two : (s : State) (b : ℕ) (marks : List Mark) (kept : List Attribute) → marks ≡ s.marks ++ map Char (93 ∷ 93 ∷ b ∷ []) → InElement s.names kept → s.count ≡ 2 → s.place ≡ places.Section → b ≢ 93 → b ≢ 62 → FollowsByte s.marks (RestsAt places.Section s) b (record s { count = 0; kept = kept; marks = marks })
+section_said_two s b marks kept e k c p n m = says_on s 2 0 b (93 ∷ 93 ∷ b ∷ []) marks kept c (omega arith) e k p (λ u x es. section_two (Insides 0 s.names u) b x es n m)
+
+-- the first byte of an instruction's name
+pub question_goes : (s : State) (to : Place) (b : ℕ) (name : List ℕ) → name ≡ b ∷ [] → QuestionAt s to → IsNameStart b → FollowsByte s.marks (RestsAt s.place s) b (record s { name = name; place = to })
+question_goes s to b name e (inl p) i =
+    let N : List ℕ → State = λ n. record s { name = n; place = to } in
+    subst (λ n. FollowsByte s.marks (RestsAt s.place s) b (N n)) (sym e) (at_place (λ z. FollowsByte s.marks (RestsAt z s) b (N (b ∷ []))) s.place places.FirstQuestion p.0 (moves_at s.marks (RestsAt places.FirstQuestion s) b (N (b ∷ [])) places.FirstName p.1 refl (λ l h. h) p.2 (λ u d x es.
+    let a = marked_question u (b ∷ x) es in let c = name_first (λ n. FirstOver n u) b x es i in (λ h. c.0 (a.0 h), λ h. a.1 (c.1 h)))))
+question_goes s to b name e (inr p) i =
+    let N : List ℕ → State = λ n. record s { name = n; place = to } in
+    subst (λ n. FollowsByte s.marks (RestsAt s.place s) b (N n)) (sym e) (at_place (λ z. FollowsByte s.marks (RestsAt z s) b (N (b ∷ []))) s.place places.Question p.0 (moves_at s.marks (RestsAt places.Question s) b (N (b ∷ [])) places.PiName p.1 refl (λ l h. h) p.2 (λ u d x es.
+    let a = around_mark u s.round s.names (b ∷ x) es in let c = name_first (λ n. PiOver n (Around s.round s.names u)) b x es i in (λ h. c.0 (a.0 h), λ h. a.1 (c.1 h)))))
+
+pub question_no : (s : State) (to : Place) (b : ℕ) → QuestionAt s to → (IsNameStart b → ⊥) → Stuck (RestsAt s.place s) b
+question_no s to b (inl p) n = at_place (λ z. Stuck (RestsAt z s) b) s.place places.FirstQuestion p.0 (λ u d x es h. name_none (λ m. FirstOver m u) b x es n ((marked_question u (b ∷ x) es).0 h))
+question_no s to b (inr p) n = at_place (λ z. Stuck (RestsAt z s) b) s.place places.Question p.0 (λ u d x es h. name_none (λ m. PiOver m (Around s.round s.names u)) b x es n ((around_mark u s.round s.names (b ∷ x) es).0 h))
+
+-- a name goes on, or is over
+local_more : (b : ℕ) → IsNameChar b → (run : List ℕ) → IsNameRest parts.Local (b ∷ run) ↔ IsNameRest parts.Local run
+local_more b i run = (λ h. h.1, λ h. (i, h))
+
+local_none : (b : ℕ) → (IsNameChar b → ⊥) → (run : List ℕ) → IsNameRest parts.Local (b ∷ run) → ⊥
+local_none b n run h = n h.0
+
+pub first_more : (s : State) (b : ℕ) (name : List ℕ) → name ≡ s.name ++ (b ∷ []) → s.place ≡ places.FirstName → Good places.FirstName s → IsNameChar b → FollowsByte s.marks (RestsAt places.FirstName s) b (record s { name = name })
+first_more s b name e p g i = subst (λ z. FollowsByte s.marks (RestsAt places.FirstName s) b (record s { name = z })) (sym e) (moves_at s.marks (RestsAt places.FirstName s) b (record s { name = s.name ++ (b ∷ []) }) places.FirstName p refl (λ l h. h) g (λ u d x es. name_next (λ m. FirstOver m u) s.name parts.Local parts.Local b x es (local_more b i) (λ m y fs k h. first_over_high u b m y fs k h)))
+
+pub first_xml : (u : Terms) (s : State) (b : ℕ) (x : List ℕ) (es : List Mark) → (IsNameChar b → ⊥) → s.name ≡ codes "xml" → RestsAt places.FirstName s u (b ∷ x) es ↔ RestsAt places.FieldGap (record s { field = fields.Before }) u (b ∷ x) es
+first_xml u s b x es n e = let a = name_over (λ m. FirstOver m u) s.name parts.Local b x es (local_none b n) tt in let c = first_declares u s.name (b ∷ x) es e in (λ h. c.0 (a.0 h), λ h. a.1 (c.1 h))
+
+pub first_other : (u : Terms) (s : State) (b : ℕ) (x : List ℕ) (es : List Mark) → (IsNameChar b → ⊥) → s.name ≢ codes "xml" → RestsAt places.FirstName s u (b ∷ x) es ↔ PiNamed (record s { round = rounds.Prolog }) u (b ∷ x) es
+first_other u s b x es n m = let a = name_over (λ m. FirstOver m u) s.name parts.Local b x es (local_none b n) tt in let c = first_instructs u s.name (b ∷ x) es m in (λ h. c.0 (a.0 h), λ h. a.1 (c.1 h))
+
+pub pi_more : (s : State) (b : ℕ) (name : List ℕ) → name ≡ s.name ++ (b ∷ []) → s.place ≡ places.PiName → Good places.PiName s → IsNameChar b → FollowsByte s.marks (RestsAt places.PiName s) b (record s { name = name })
+pi_more s b name e p g i = subst (λ z. FollowsByte s.marks (RestsAt places.PiName s) b (record s { name = z })) (sym e) (moves_at s.marks (RestsAt places.PiName s) b (record s { name = s.name ++ (b ∷ []) }) places.PiName p refl (λ l h. h) g (λ u d x es. name_next (λ m. PiOver m (Around s.round s.names u)) s.name parts.Local parts.Local b x es (local_more b i) (λ m y fs k h. pi_over_high (Around s.round s.names u) b m y fs k h)))
+
+pub pi_over : (u : Terms) (s : State) (b : ℕ) (x : List ℕ) (es : List Mark) → (IsNameChar b → ⊥) → RestsAt places.PiName s u (b ∷ x) es ↔ PiNamed s u (b ∷ x) es
+pi_over u s b x es n = name_over (λ m. PiOver m (Around s.round s.names u)) s.name parts.Local b x es (local_none b n) tt
+
+-- behind an instruction's name
+pub named_xml : (s : State) (b : ℕ) → map to_ascii_lowercase s.name ≡ codes "xml" → Stuck (PiNamed s) b
+named_xml s b e = λ u d x es h. h.other e
+
+pub named_ends : (s : State) (b : ℕ) (new : State) → b ≡ 63 → map to_ascii_lowercase s.name ≢ codes "xml" → GoodRound s.round s.names s.kept → new ≡ record s { place = places.Word; left = 62 ∷ []; goal = goals.Around } → FollowsByte s.marks (PiNamed s) b new
+named_ends s b new e o g q = at_byte s.marks (PiNamed s) b 63 new e (moves_word s.marks (PiNamed s) 63 s goals.Around (62 ∷ []) new q refl (λ l h. h) (λ z. cc) (printable_text (62 ∷ []) refl) g (λ u d x es. pi_over_end (Around s.round s.names u) s.name x es o))
+
+pub named_spaced : (s : State) (b : ℕ) → map to_ascii_lowercase s.name ≢ codes "xml" → GoodRound s.round s.names s.kept → IsSpace b → FollowsByte s.marks (PiNamed s) b (record s { place = places.PiText })
+named_spaced s b o g i = moves s.marks (PiNamed s) b (record s { place = places.PiText }) refl (λ l h. h) g (λ u d x es. pi_over_space (Around s.round s.names u) s.name b x es o i)
+
+pub named_no : (s : State) (b : ℕ) → (IsSpace b → ⊥) → b ≢ 63 → Stuck (PiNamed s) b
+named_no s b n m = λ u d x es h. pi_over_stuck (Around s.round s.names u) s.name b x es n m h
+
+-- an instruction's text
+pub text_stays : (s : State) (b : ℕ) → s.place ≡ places.PiText → Good places.PiText s → b ≢ 63 → FollowsByte s.marks (RestsAt places.PiText s) b s
+text_stays s b p g n = moves_at s.marks (RestsAt places.PiText s) b s places.PiText p refl (λ l h. h) g (λ u d x es. pi_plain (Around s.round s.names u) b x es n)
+
+pub mark_stays : (s : State) (b : ℕ) → b ≡ 63 → s.place ≡ places.PiMark → Good places.PiMark s → FollowsByte s.marks (RestsAt places.PiMark s) b s
+mark_stays s b e p g = at_byte s.marks (RestsAt places.PiMark s) b 63 s e (moves_at s.marks (RestsAt places.PiMark s) 63 s places.PiMark p refl (λ l h. h) g (λ u d x es. pi_mark (Around s.round s.names u) 63 x es (λ z. omega arith)))
+
+pub mark_ends : (s : State) (b : ℕ) (new : State) → b ≡ 62 → ReachesState s.marks (Around s.round s.names) new → FollowsByte s.marks (RestsAt places.PiMark s) b new
+mark_ends s b new e r = at_byte s.marks (RestsAt places.PiMark s) b 62 new e (follows_reached s.marks (RestsAt places.PiMark s) (Around s.round s.names) 62 new (λ u d x es. pi_end (Around s.round s.names u) x es) r)
+
+pub mark_back : (s : State) (b : ℕ) → b ≢ 63 → b ≢ 62 → Good places.PiMark s → FollowsByte s.marks (RestsAt places.PiMark s) b (record s { place = places.PiText })
+mark_back s b n m g = moves s.marks (RestsAt places.PiMark s) b (record s { place = places.PiText }) refl (λ l h. h) g (λ u d x es. let a = pi_mark (Around s.round s.names u) b x es m in let c = pi_plain (Around s.round s.names u) b x es n in (λ h. c.0 (a.0 h), λ h. a.1 (c.1 h)))
+
+-- goals that are reached
+pub reach_section : (s : State) → s.goal ≡ goals.Section → GoodGoal s.goal s → ReachesState s.marks (ReachesGoal s.goal s) (record s { count = 0; place = places.Section })
+reach_section s e k =
+    let t : State = record s { count = 0; place = places.Section } in
+    let g : InElement s.names s.kept = subst (λ z. GoodGoal z s) e k in
+    subst (λ z. ReachesState s.marks (ReachesGoal z s) t) (sym e) (stays s.marks (ReachesGoal goals.Section s) t refl (λ h. h) (g, omega arith) (λ u d x es. (λ h. h, λ h. h)))
+
+pub reach_around : (s new : State) → s.goal ≡ goals.Around → ReachesState s.marks (Around s.round s.names) new → ReachesState s.marks (ReachesGoal s.goal s) new
+reach_around s new e r = subst (λ z. ReachesState s.marks (ReachesGoal z s) new) (sym e) r

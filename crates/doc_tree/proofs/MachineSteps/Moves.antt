@@ -1,0 +1,101 @@
+-- What a step owes, from what completes it before and after.
+use Rattle.std.proofs.Common.{◌≡◌, ◌≢◌, ℕ, ◌<◌, ◌↔◌, List, [], ◌∷◌, ◌++◌, refl, ap, sym, subst, ◌∙◌, append_assoc}
+use Rattle.doc_tree.specs.Marks.{Mark}
+use Rattle.doc_tree.specs.Rests.{Terms, Word, Saying}
+use Rattle.doc_tree.specs.declared.machine.Goal.{Goal}
+use Rattle.doc_tree.specs.declared.machine.Place.{Place}
+use Rattle.doc_tree.specs.declared.machine.Place.TheVariants as places
+use Rattle.doc_tree.specs.Completions.{State, RestsAt, ReachesGoal, GoesBehind, Good, GoodGoal, IsFixed, IsInMark, IsDepthAllowed, FollowsByte, Stuck, ReachesState}
+
+module _ (before : List Mark) (A B : List ℕ → List Mark → Type 0) where
+  pub goes_map : (x y : List ℕ) (says : List Mark) → ((es : List Mark) → A x es → B y es) → GoesBehind before A x says → GoesBehind before B y says
+  goes_map x y says f h = record { later = h.later; whole = h.whole; rest = f h.later h.rest }
+
+module _ (before : List Mark) (A B : Terms → List ℕ → List Mark → Type 0) where
+  -- a tail call
+  pub follows_from : (b : ℕ) (new : State) → ((t : Terms) → IsDepthAllowed t → (x : List ℕ) (es : List Mark) → A t (b ∷ x) es ↔ B t (b ∷ x) es) → FollowsByte before B b new → FollowsByte before A b new
+  follows_from b new f h = record {
+    good = h.good;
+    unmarked = h.unmarked;
+    same = λ t l x says. (
+      λ g. (h.same t l x says).0 (goes_map before (A t) (B t) (b ∷ x) (b ∷ x) says (λ es. (f t l x es).0) g),
+      λ g. let k : GoesBehind before (B t) (b ∷ x) says = (h.same t l x says).1 g in record { later = k.later; whole = k.whole; rest = (f t l x k.later).1 k.rest },
+    );
+  }
+
+  pub stuck_from : (b : ℕ) → ((t : Terms) → IsDepthAllowed t → (x : List ℕ) (es : List Mark) → A t (b ∷ x) es → B t (b ∷ x) es) → Stuck B b → Stuck A b
+  stuck_from b f s = λ t l x es h. s t l x es (f t l x es h)
+
+  -- a byte before what is reached
+  pub follows_reached : (b : ℕ) (new : State) → ((t : Terms) → IsDepthAllowed t → (x : List ℕ) (es : List Mark) → A t (b ∷ x) es ↔ B t x es) → ReachesState before B new → FollowsByte before A b new
+  follows_reached b new f h = record {
+    good = h.good;
+    unmarked = λ l. h.unmarked;
+    same = λ t l x says. (
+      λ g. (h.same t l x says).0 (goes_map before (A t) (B t) (b ∷ x) x says (λ es. (f t l x es).0) g),
+      λ g. let k : GoesBehind before (B t) x says = (h.same t l x says).1 g in record { later = k.later; whole = k.whole; rest = (f t l x k.later).1 k.rest },
+    );
+  }
+
+  pub reached_from : (new : State) → ((t : Terms) → IsDepthAllowed t → (x : List ℕ) (es : List Mark) → A t x es ↔ B t x es) → ReachesState before B new → ReachesState before A new
+  reached_from new f h = record {
+    good = h.good;
+    unmarked = h.unmarked;
+    same = λ t l x says. (
+      λ g. (h.same t l x says).0 (goes_map before (A t) (B t) x x says (λ es. (f t l x es).0) g),
+      λ g. let k : GoesBehind before (B t) x says = (h.same t l x says).1 g in record { later = k.later; whole = k.whole; rest = (f t l x k.later).1 k.rest },
+    );
+  }
+
+module _ (before : List Mark) (A : Terms → List ℕ → List Mark → Type 0) where
+  -- a byte that says nothing
+  pub moves : (b : ℕ) (new : State) → before ≡ new.marks → (b < 128 → IsInMark new.place new.goal → ⊥) → Good new.place new → ((t : Terms) → IsDepthAllowed t → (x : List ℕ) (es : List Mark) → A t (b ∷ x) es ↔ RestsAt new.place new t x es) → FollowsByte before A b new
+  moves b new e u good f = record {
+    good = good;
+    unmarked = u;
+    same = λ t l x says. (
+      λ g. record { later = g.later; whole = g.whole ∙ ap (λ z. z ++ g.later) e; rest = (f t l x g.later).0 g.rest },
+      λ g. record { later = g.later; whole = g.whole ∙ ap (λ z. z ++ g.later) (sym e); rest = (f t l x g.later).1 g.rest },
+    );
+  }
+
+  -- the same where the place is known by an equation
+  pub moves_at : (b : ℕ) (new : State) (p : Place) → new.place ≡ p → before ≡ new.marks → (b < 128 → IsInMark p new.goal → ⊥) → Good p new → ((t : Terms) → IsDepthAllowed t → (x : List ℕ) (es : List Mark) → A t (b ∷ x) es ↔ RestsAt p new t x es) → FollowsByte before A b new
+  moves_at b new p e m u good f = moves b new m (λ l h. u l (subst (λ z. IsInMark z new.goal) e h)) (subst (λ z. Good z new) (sym e) good) (subst (λ z. (t : Terms) → IsDepthAllowed t → (x : List ℕ) (es : List Mark) → A t (b ∷ x) es ↔ RestsAt z new t x es) (sym e) f)
+
+  -- before a fixed text
+  pub moves_word : (b : ℕ) (s : State) (goal : Goal) (word : List ℕ) (new : State) → new ≡ record s { place = places.Word; left = word; goal = goal } → before ≡ s.marks → (b < 128 → IsInMark places.Word goal → ⊥) → word ≢ [] → IsFixed goal word → GoodGoal goal (record s { place = places.Word; left = word; goal = goal }) → ((t : Terms) → IsDepthAllowed t → (x : List ℕ) (es : List Mark) → A t (b ∷ x) es ↔ Word word (ReachesGoal goal (record s { place = places.Word; left = word; goal = goal }) t) x es) → FollowsByte before A b new
+  moves_word b s goal word new e m u n i good f = subst (λ z. FollowsByte before A b z) (sym e) (moves b (record s { place = places.Word; left = word; goal = goal }) m u (n, i, good) f)
+
+  -- nothing is read or said
+  pub stays : (new : State) → before ≡ new.marks → (IsInMark new.place new.goal → ⊥) → Good new.place new → ((t : Terms) → IsDepthAllowed t → (x : List ℕ) (es : List Mark) → A t x es ↔ RestsAt new.place new t x es) → ReachesState before A new
+  stays new e u good f = record {
+    good = good;
+    unmarked = u;
+    same = λ t l x says. (
+      λ g. record { later = g.later; whole = g.whole ∙ ap (λ z. z ++ g.later) e; rest = (f t l x g.later).0 g.rest },
+      λ g. record { later = g.later; whole = g.whole ∙ ap (λ z. z ++ g.later) (sym e); rest = (f t l x g.later).1 g.rest },
+    );
+  }
+
+module _ (before said : List Mark) (A B : Terms → List ℕ → List Mark → Type 0) where
+  -- marks are said, and then K goes on
+  pub reached_saying : (new : State) → ((t : Terms) → IsDepthAllowed t → (x : List ℕ) (es : List Mark) → A t x es ↔ Saying said (B t) x es) → ReachesState (before ++ said) B new → ReachesState before A new
+  reached_saying new f h = record {
+    good = h.good;
+    unmarked = h.unmarked;
+    same = λ t l x says. (
+      λ g. let k : Saying said (B t) x g.later = (f t l x g.later).0 g.rest in (h.same t l x says).0 (record { later = k.later; whole = g.whole ∙ ap (λ z. before ++ z) k.says ∙ sym (append_assoc before said k.later); rest = k.after }),
+      λ g. let k : GoesBehind (before ++ said) (B t) x says = (h.same t l x says).1 g in record { later = said ++ k.later; whole = k.whole ∙ append_assoc before said k.later; rest = (f t l x (said ++ k.later)).1 (record { later = k.later; says = refl; after = k.rest }) },
+    );
+  }
+
+  pub follows_saying : (b : ℕ) (new : State) → ((t : Terms) → IsDepthAllowed t → (x : List ℕ) (es : List Mark) → A t (b ∷ x) es ↔ Saying said (B t) x es) → ReachesState (before ++ said) B new → FollowsByte before A b new
+  follows_saying b new f h = let r = reached_saying new in record {
+    good = h.good;
+    unmarked = λ l. h.unmarked;
+    same = λ t l x says. (
+      λ g. let k : Saying said (B t) x g.later = (f t l x g.later).0 g.rest in (h.same t l x says).0 (record { later = k.later; whole = g.whole ∙ ap (λ z. before ++ z) k.says ∙ sym (append_assoc before said k.later); rest = k.after }),
+      λ g. let k : GoesBehind (before ++ said) (B t) x says = (h.same t l x says).1 g in record { later = said ++ k.later; whole = k.whole ∙ append_assoc before said k.later; rest = (f t l x (said ++ k.later)).1 (record { later = k.later; says = refl; after = k.rest }) },
+    );
+  }

@@ -1,0 +1,157 @@
+-- Fixed texts, references and attributes that are whole; and the machine's ends.
+use Rattle.std.proofs.Common.{◌≡◌, ◌≢◌, ℕ, ◌+◌, ◌<◌, inl, inr, Bool, true, false, cond, length, map, drop, drop-cons, get_or, ◌↔◌, List, [], ◌∷◌, ◌++◌, refl, ap, sym, ◌∙◌, subst, arith}
+use Rattle.std.specs.Prelude.{encode_utf8}
+use Rattle.std.proofs.lemmas.List.{append-nil}
+use Rattle.tree_grammar.specs.Tags.{is_kept}
+use Rattle.tree_grammar.specs.Characters.{IsXmlChar}
+use Rattle.tree_grammar.specs.Elements.{Attribute}
+use Rattle.doc_tree.specs.Marks.{Mark, Char}
+use Rattle.tree_grammar.specs.Content.{misc_over}
+use Rattle.doc_tree.specs.Rests.{Terms, Word, After, keep, Whole}
+use Rattle.doc_tree.specs.declared.machine.Goal.{Goal}
+use Rattle.doc_tree.specs.declared.machine.Goal.TheVariants as goals
+use Rattle.doc_tree.specs.declared.machine.Place.{Place}
+use Rattle.doc_tree.specs.declared.machine.Place.TheVariants as places
+use Rattle.doc_tree.specs.Completions.{State, RestsAt, ReachesGoal, Insides, Good, GoodReference, GoodGoal, GoodTag, IsFixed, InElement, IsInMark, IsRadix, Behind, BehindReference, BehindValue, HoldsKey, Completes, FollowsByte, Stuck, ReachesState, RunsOn}
+use Rattle.doc_tree.proofs.MachineSteps.Moves.{moves_at, follows_reached, reached_from, reached_saying, stays}
+use Rattle.doc_tree.proofs.ByteGrammar.Spans.{word_first, word_back, word_last}
+use Rattle.doc_tree.proofs.MachineSteps.Steps.{at_byte, at_here}
+use Rattle.doc_tree.proofs.MachineSteps.Loops.{drop_at}
+use Rattle.doc_tree.proofs.ByteGrammar.Numbers.{digit_end, digit_end_stuck}
+
+-- an attribute is whole
+attribute_over : (s : State) → GoodTag s → (kept : List Attribute) (marks : List Mark) → kept ≡ keep s.key s.value s.kept → s.marks ≡ marks → ReachesState s.marks (BehindValue s s.value) (record s { place = places.TagAfter; keys = s.keys ++ (s.key ∷ []); key = []; kept = kept; marks = marks })
+attribute_over s g kept marks f m =
+    let T : List Attribute → State = λ ats. record s { place = places.TagAfter; keys = s.keys ++ (s.key ∷ []); key = []; kept = ats; marks = marks } in
+    subst (λ z. ReachesState s.marks (BehindValue s s.value) (T z)) (sym f) (stays s.marks (BehindValue s s.value) (T (keep s.key s.value s.kept)) m (λ h. h) g (λ u d x es. (λ h. h, λ h. h)))
+
+pub kept_is : (key value : List ℕ) (kept new : List Attribute) → true ≡ is_kept key → new ≡ kept ++ (record { name = key; value = value } ∷ []) → new ≡ keep key value kept
+kept_is key value kept new e f = f ∙ ap (λ z. kept ++ cond z (record { name = key; value = value } ∷ []) []) e
+
+pub kept_not : (key value : List ℕ) (kept : List Attribute) → false ≡ is_kept key → kept ≡ keep key value kept
+kept_not key value kept e = sym (append-nil kept) ∙ ap (λ z. kept ++ cond z (record { name = key; value = value } ∷ []) []) e
+
+-- what is left of a fixed text
+fixed_left : (g : Goal) (b : ℕ) (left : List ℕ) → left ≢ [] → IsFixed g (b ∷ left) → IsFixed g left
+fixed_left goals.Marked b left n (inl e) = inr (cc)
+fixed_left goals.Marked b left n (inr e) = absurd (n (cc))
+fixed_left goals.Comment b left n h = h.1
+fixed_left goals.Section b left n h = h.1
+fixed_left goals.Around b left n h = h.1
+fixed_left goals.Field b left n h = h.1
+fixed_left goals.Prolog b left n h = h.1
+fixed_left goals.EmptyTag b left n h = h.1
+fixed_left goals.EndName b left n h = h.1
+fixed_left goals.Entity b left n h = h.1
+
+-- in the byte order mark no byte is of ASCII
+fixed_high : (g : Goal) (b : ℕ) (left : List ℕ) → left ≢ [] → IsFixed g (b ∷ left) → b < 128 → IsInMark places.Word g → ⊥
+fixed_high goals.Marked b left n (inl e) l h = let k : b ≡ 187 = cc in omega arith
+fixed_high goals.Marked b left n (inr e) l h = n (cc)
+fixed_high goals.Comment b left n f l h = h
+fixed_high goals.Section b left n f l h = h
+fixed_high goals.Around b left n f l h = h
+fixed_high goals.Field b left n f l h = h
+fixed_high goals.Prolog b left n f l h = h
+fixed_high goals.EmptyTag b left n f l h = h
+fixed_high goals.EndName b left n f l h = h
+fixed_high goals.Entity b left n f l h = h
+
+-- a fixed text
+pub word_stays : (s : State) (b : ℕ) (left : List ℕ) → s.left ≡ b ∷ left → left ≢ [] → s.place ≡ places.Word → IsFixed s.goal s.left → GoodGoal s.goal (record s { left = left }) → ((u : Terms) (x : List ℕ) (es : List Mark) → ReachesGoal s.goal s u x es ↔ ReachesGoal s.goal (record s { left = left }) u x es) → FollowsByte s.marks (RestsAt places.Word s) b (record s { left = left })
+word_stays s b left e n p i k f =
+    let t : State = record s { left = left } in
+    moves_at s.marks (RestsAt places.Word s) b t places.Word p refl (fixed_high s.goal b left n (subst (IsFixed s.goal) e i)) (n, fixed_left s.goal b left n (subst (IsFixed s.goal) e i), k) (λ u d x es. subst (λ z. Word z (ReachesGoal s.goal s u) (b ∷ x) es ↔ Word left (ReachesGoal s.goal t u) x es) (sym e) (
+      (λ h. let w = (word_first (ReachesGoal s.goal s u) b left b x es h).1 in record { behind = w.behind; text = w.text; after = (f u w.behind es).0 w.after }),
+      (λ h. word_back (ReachesGoal s.goal s u) b left x es (record { behind = h.behind; text = h.text; after = (f u h.behind es).1 h.after })),
+    ))
+
+pub word_ends : (s : State) (b : ℕ) (new : State) → s.left ≡ b ∷ [] → ReachesState s.marks (ReachesGoal s.goal s) new → FollowsByte s.marks (RestsAt places.Word s) b new
+word_ends s b new e r = follows_reached s.marks (RestsAt places.Word s) (ReachesGoal s.goal s) b new (λ u d x es. subst (λ z. Word z (ReachesGoal s.goal s u) (b ∷ x) es ↔ ReachesGoal s.goal s u x es) (sym e) (word_last (ReachesGoal s.goal s u) b x es)) r
+
+pub word_stuck : (s : State) (b w : ℕ) (left : List ℕ) → s.left ≡ w ∷ left → w ≢ b → Stuck (RestsAt places.Word s) b
+word_stuck s b w left e n = λ u d x es h. n (sym (word_first (ReachesGoal s.goal s u) w left b x es (subst (λ z. Word z (ReachesGoal s.goal s u) (b ∷ x) es) e h)).0)
+
+-- what a goal asks for doesn't depend on how much of the text is left
+pub reaches_same : (g : Goal) (s : State) (left : List ℕ) (u : Terms) (x : List ℕ) (es : List Mark) → ReachesGoal g s u x es ↔ ReachesGoal g (record s { left = left }) u x es
+reaches_same goals.Marked s left u x es = (λ h. h, λ h. h)
+reaches_same goals.Comment s left u x es = (λ h. h, λ h. h)
+reaches_same goals.Section s left u x es = (λ h. h, λ h. h)
+reaches_same goals.Around s left u x es = (λ h. h, λ h. h)
+reaches_same goals.Field s left u x es = (λ h. h, λ h. h)
+reaches_same goals.Prolog s left u x es = (λ h. h, λ h. h)
+reaches_same goals.EmptyTag s left u x es = (λ h. h, λ h. h)
+reaches_same goals.EndName s left u x es = (λ h. h, λ h. h)
+reaches_same goals.Entity s left u x es = behind_left u s.in_value s left (encode_utf8 s.number) x es
+  where
+    behind_left : (u : Terms) (v : Bool) (s : State) (left cs x : List ℕ) (es : List Mark) → Behind v s u cs x es ↔ Behind v (record s { left = left }) u cs x es
+    behind_left u true s left cs x es = (λ h. h, λ h. h)
+    behind_left u false s left cs x es = (λ h. h, λ h. h)
+
+-- a reference to a number
+pub number_ends : (s : State) (b : ℕ) (new : State) → b ≡ 59 → IsRadix s.radix → IsXmlChar s.number → ReachesState s.marks (BehindReference s (encode_utf8 s.number)) new → FollowsByte s.marks (RestsAt places.Digit s) b new
+number_ends s b new e i c r = at_byte s.marks (RestsAt places.Digit s) b 59 new e (follows_reached s.marks (RestsAt places.Digit s) (BehindReference s (encode_utf8 s.number)) 59 new (λ u d x es. digit_end s.radix s.number (Behind s.in_value s u) x es i c) r)
+
+pub number_stuck : (s : State) (b : ℕ) → b ≡ 59 → IsRadix s.radix → (IsXmlChar s.number → ⊥) → Stuck (RestsAt places.Digit s) b
+number_stuck s b e i n = subst (λ z. Stuck (RestsAt places.Digit s) z) (sym e) (λ u d x es h. digit_end_stuck s.radix s.number (Behind s.in_value s u) x es i n h)
+
+-- the start
+pub runs_start : (s : State) → s.place ≡ places.Start → s.marks ≡ [] → Good places.Start s → RunsOn s []
+runs_start s p m g = record {
+  good = subst (λ z. Good z s) (sym p) g;
+  same = λ u d rest says. (
+    (λ h. record { later = says; whole = ap (λ z. z ++ says) (sym m); rest = subst (λ z. RestsAt z s u rest says) (sym p) h }),
+    (λ h. let k : Whole u rest h.later = subst (λ z. RestsAt z s u rest h.later) p h.rest in subst (λ z. Whole u rest z) (sym (h.whole ∙ ap (λ z. z ++ h.later) m)) k),
+  );
+}
+
+pub attribute_done : (s t new : State) → GoodTag s → t.kept ≡ keep s.key s.value s.kept → s.marks ≡ t.marks → t ≡ record s { kept = t.kept; marks = t.marks } → HoldsKey t new → ReachesState s.marks (BehindValue s s.value) new
+attribute_done s t new g f m e q = subst (λ z. ReachesState s.marks (BehindValue s s.value) z) (sym (q ∙ ap {A = State} (λ z. record z { place = places.TagAfter; keys = z.keys ++ (z.key ∷ []); key = [] }) e)) (attribute_over s g t.kept t.marks f m)
+
+-- a goal that only moves on
+pub reach_place : (s : State) (g : Goal) (p : Place) → s.goal ≡ g → GoodGoal s.goal s → (GoodGoal g s → Good p (record s { place = p })) → (IsInMark p s.goal → ⊥) → ((u : Terms) (x : List ℕ) (es : List Mark) → ReachesGoal g s u x es ↔ RestsAt p (record s { place = p }) u x es) → ReachesState s.marks (ReachesGoal s.goal s) (record s { place = p })
+reach_place s g p e k f n h = subst (λ z. ReachesState s.marks (ReachesGoal z s) (record s { place = p })) (sym e) (stays s.marks (ReachesGoal g s) (record s { place = p }) refl n (f (subst (λ z. GoodGoal z s) e k)) (λ u d. h u))
+
+-- a reference in a value
+pub emit_value : (s : State) (cs v : List ℕ) → v ≡ s.value ++ cs → s.in_value ≡ true → GoodReference s.in_value s → ReachesState s.marks (BehindReference s cs) (record s { place = places.Value; value = v })
+emit_value s cs v e i g = subst (λ z. ReachesState s.marks (BehindReference s cs) (record s { place = places.Value; value = z })) (sym e) (subst (λ z. ReachesState s.marks (λ u. Behind z s u cs) (record s { place = places.Value; value = s.value ++ cs })) (sym i) (stays s.marks (λ u. Behind true s u cs) (record s { place = places.Value; value = s.value ++ cs }) refl (λ h. h) (subst (λ z. GoodReference z s) i g) (λ u d x es. (λ h. h, λ h. h))))
+
+-- a reference in content
+pub emit_said : (s : State) (cs : List ℕ) (kept : List Attribute) (marks : List Mark) → marks ≡ s.marks ++ map Char cs → InElement s.names kept → s.in_value ≡ false → ReachesState s.marks (BehindReference s cs) (record s { place = places.Content; count = 0; kept = kept; marks = marks })
+emit_said s cs kept marks m k i = let T : State = record s { place = places.Content; count = 0; kept = kept; marks = marks } in
+    subst (λ z. ReachesState s.marks (λ u. Behind z s u cs) T) (sym i) (reached_saying s.marks (map Char cs) (λ u. Behind false s u cs) (Insides 0 s.names) T (λ u d x es. (λ h. h, λ h. h)) (subst (λ z. ReachesState z (Insides 0 s.names) T) m (at_here T refl k)))
+
+-- the document is whole
+pub finish_whole : (s : State) → s.place ≡ places.Epilog → (u : Terms) (says : List Mark) → Completes s u [] says ↔ (says ≡ s.marks)
+finish_whole s e u says = (
+  (λ h. let a : After u [] h.later = subst (λ z. RestsAt z s u [] h.later) e h.rest in h.whole ∙ ap (λ z. s.marks ++ z) a.says ∙ append-nil s.marks),
+  (λ q. let a : After u [] [] = record { misc = misc_over; text = refl; says = refl } in record { later = []; whole = q ∙ sym (append-nil s.marks); rest = subst (λ z. RestsAt z s u [] []) (sym e) a }),
+)
+
+-- the goal's own condition doesn't either
+goal_same : (g : Goal) (s : State) (left : List ℕ) → GoodGoal g s → GoodGoal g (record s { left = left })
+goal_same goals.Marked s left h = h
+goal_same goals.Comment s left h = h
+goal_same goals.Section s left h = h
+goal_same goals.Around s left h = h
+goal_same goals.Field s left h = h
+goal_same goals.Prolog s left h = h
+goal_same goals.EmptyTag s left h = h
+goal_same goals.EndName s left h = h
+goal_same goals.Entity s left h = (value_same s.in_value s left h.0, h.1)
+  where
+    value_same : (v : Bool) (s : State) (left : List ℕ) → GoodReference v s → GoodReference v (record s { left = left })
+    value_same true s left h = h
+    value_same false s left h = h
+
+pub word_goes : (s : State) (b : ℕ) (left : List ℕ) → s.left ≡ b ∷ left → left ≢ [] → s.place ≡ places.Word → IsFixed s.goal s.left → GoodGoal s.goal s → FollowsByte s.marks (RestsAt places.Word s) b (record s { left = left })
+word_goes s b left e n p i g = word_stays s b left e n p i (goal_same s.goal s left g) (λ u x es. reaches_same s.goal s left u x es)
+
+pub left_at : (ws : List ℕ) (m x b : ℕ) → m < length ws → x ≡ get_or ws m x → x ≡ b → drop m ws ≡ b ∷ drop (m + 1) ws
+left_at ws m x b l e q = drop_at ws m x l e ∙ ap (λ z. z ∷ drop (m + 1) ws) q
+
+pub drop_some : (xs : List ℕ) (i : ℕ) → i < length xs → drop i xs ≢ []
+drop_some xs i l e = let d = drop-cons xs i 0 l in cc
+
+pub word_reaches : (s : State) (b : ℕ) (left : List ℕ) (new : State) → s.left ≡ b ∷ left → left ≡ [] → ReachesState s.marks (ReachesGoal s.goal (record s { left = left })) new → FollowsByte s.marks (RestsAt places.Word s) b new
+word_reaches s b left new e n r = word_ends s b new (e ∙ ap (λ z. b ∷ z) n) (reached_from s.marks (ReachesGoal s.goal s) (ReachesGoal s.goal (record s { left = left })) new (λ u d x es. reaches_same s.goal s left u x es) r)

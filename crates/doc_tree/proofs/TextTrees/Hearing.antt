@@ -1,0 +1,76 @@
+-- What a visitor was told, and what waits.
+use Rattle.std.proofs.Common.{◌≡◌, ℕ, Bool, true, false, MatchBool, List, [], ◌∷◌, ◌++◌, Option, Some, None, MatchOption, Result, Ok, Err, inl, refl, ap, sym, ◌∙◌, subst, append_assoc}
+use Rattle.doc_tree.specs.Marks.{Mark}
+use Rattle.doc_tree.specs.declared.fault.TreeFault.{TreeFault}
+use Rattle.doc_tree.specs.declared.fault.TreeFault.TheVariants as faults
+use Rattle.doc_tree.specs.Completions.{State, Good}
+use Rattle.doc_tree.specs.Relieved.{Relieved}
+use Rattle.doc_tree.specs.Reading.{Refused, ReadingFails, Visits}
+use Rattle.doc_tree.specs.Whole.{IsEnd}
+use Rattle.doc_tree.specs.Feeding.{Feeding, IsTaken, CanGoOn, behind, Heard, WasHeard, HandedOn, RefusesByte}
+use Rattle.doc_tree.proofs.Behind.{good_marked, over_after}
+use Rattle.doc_tree.proofs.TextTrees.Verdicts.{refused_fed, visited}
+
+-- a machine that is relieved
+pub relieved : (had : List Mark → Type 0) (s new : State) (told : List Mark) → had told → s.marks ≡ told ++ new.marks → new ≡ record s { marks = new.marks } → Relieved s new had
+relieved had s new told h r e = record { told = told; has = h; rest = r; same = e }
+
+handed_by : (had : List Mark → Type 0) (f : Feeding) (s : State) → Relieved f.state s had → HandedOn f (record f { state = s }) had
+handed_by had f s r = record { told = r.told; has = r.has; rest = r.rest; same = ap (λ z. record f { state = z }) r.same }
+
+pub handed : (had : List Mark → Type 0) (f v : Feeding) (s : State) → f ≡ v → Relieved f.state s had → HandedOn v (record f { state = s }) had
+handed had f v s e r = subst (λ z. HandedOn z (record f { state = s }) had) e (handed_by had f s r)
+
+pub handed_nothing : (had : List Mark → Type 0) (f : Feeding) → had [] → HandedOn f f had
+handed_nothing had f h = record { told = []; has = h; rest = refl; same = refl }
+
+on_option : (o : Option TreeFault) (A B : Type 0) → (A → B) → MatchOption o A (λ fault. Unit {0}) → MatchOption o B (λ fault. Unit {0})
+on_option None A B f h = f h
+on_option (Some x) A B f h = tt
+
+pub relieved_good : (had : List Mark → Type 0) (f : Feeding) (s : State) → Relieved f.state s had → CanGoOn f → CanGoOn (record f { state = s })
+relieved_good had f s r h = on_option f.refusal (Good f.state.place f.state) (Good s.place s) (λ g. subst (λ z. Good z.place z) (sym r.same) (good_marked f.state s.marks g)) h
+
+-- more marks are told
+abbrev with_marks : Feeding → List Mark → Feeding
+with_marks f m = record f { state = record f.state { marks = m } }
+
+told_on : (had : List Mark → Type 0) (mid new : Feeding) (h : HandedOn mid new had) (told : List Mark) → behind (told ++ h.told) new ≡ behind told mid
+told_on had mid new h told =
+    let m : (told ++ h.told) ++ new.state.marks ≡ told ++ mid.state.marks = append_assoc told h.told new.state.marks ∙ ap (λ z. told ++ z) (sym h.rest) in
+    ap {A = Feeding} {B = Feeding} (λ z. with_marks z ((told ++ h.told) ++ new.state.marks)) h.same ∙ ap {A = List Mark} {B = Feeding} (with_marks mid) m
+
+module _ (had step now : List Mark → Type 0) (joined : (a b : List Mark) → had a → step b → now (a ++ b)) where
+  pub heard_on : (mid new : Feeding) (bytes : List ℕ) → HandedOn mid new step → Heard had mid bytes → Heard now new bytes
+  heard_on mid new bytes h k = record { told = k.told ++ h.told; has = joined k.told h.told k.has h.has; taken = subst (λ z. IsTaken z bytes) (sym (told_on step mid new h k.told)) k.taken }
+
+pub handed_refusal : (had : List Mark → Type 0) (mid new : Feeding) → HandedOn mid new had → mid.refusal ≡ None → new.refusal ≡ None
+handed_refusal had mid new h e = ap (λ z. z.refusal) h.same ∙ e
+
+-- a byte is taken, or refused
+pub heard_byte : (had : List Mark → Type 0) (old mid : Feeding) (bytes : List ℕ) (b : ℕ) → ((told : List Mark) (x : List ℕ) → IsTaken (behind told old) x → IsTaken (behind told mid) (x ++ b ∷ [])) → Heard had old bytes → Heard had mid (bytes ++ b ∷ [])
+heard_byte had old mid bytes b f k = record { told = k.told; has = k.has; taken = f k.told bytes k.taken }
+
+pub byte_refused : (had now : List Mark → Type 0) (old mid : Feeding) (bytes : List ℕ) (b : ℕ) (fault : TreeFault) → RefusesByte old b fault → mid.limit ≡ old.limit → mid.refusal ≡ Some fault → Heard had old bytes → WasHeard now mid (bytes ++ b ∷ [])
+byte_refused had now old mid bytes b fault f l e k = refused_fed now mid (bytes ++ b ∷ []) fault e (subst (λ z. Refused z (bytes ++ b ∷ []) fault) (sym l) (f k.told bytes k.taken))
+
+pub memory_refused : (now : List Mark → Type 0) (new : Feeding) (bytes : List ℕ) → new.refusal ≡ Some faults.Memory → WasHeard now new bytes
+memory_refused now new bytes e = refused_fed now new bytes faults.Memory e (inl refl)
+
+-- a yes or a no that says as much
+pub match_map : {A B C D : Type 0} (r : Bool) → (A → C) → (B → D) → MatchBool r A B → MatchBool r C D
+match_map true f g m = f m
+match_map false f g m = g m
+
+-- the bytes end too early
+abbrev pub Cut : Feeding → Type 0
+Cut f = (told : List Mark) (bytes : List ℕ) → IsTaken (behind told f) bytes → ReadingFails f.limit bytes (faults.Malformed f.count)
+
+-- where a reader says that it was refused
+pub answers_err : {A : Type 0} (o : Option TreeFault) (r : Result A TreeFault) (ok : A) (fault : TreeFault) → MatchOption o (r ≡ Ok ok) (λ f. r ≡ Err f) → r ≡ Err fault → o ≡ Some fault
+answers_err {A} None r ok fault m e = let h : ◌≡◌ {A = Result A TreeFault} (Ok ok) (Err fault) = sym m ∙ e in absurd (cc)
+answers_err {A} (Some f) r ok fault m e = let h : ◌≡◌ {A = Result A TreeFault} (Err f) (Err fault) = sym m ∙ e in let k : f ≡ fault = cc in ap Some k
+
+-- at the end all is told, and the bytes hold an element
+pub told_whole : (had step now : List Mark → Type 0) → ((a b : List Mark) → had a → step b → now (a ++ b)) → (f : Feeding) (bytes : List ℕ) → IsEnd f → step f.state.marks → Heard had f bytes → Visits now f.limit bytes
+told_whole had step now joined f bytes e s k = visited now (behind k.told f) bytes k.taken e.whole (over_after k.told f.state e.over) (joined k.told f.state.marks k.has s)

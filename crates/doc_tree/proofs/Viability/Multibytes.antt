@@ -1,0 +1,276 @@
+-- The machine behind the first bytes of a character of more than one.
+use Rattle.std.proofs.Common.{◌≡◌, ◌≢◌, ℕ, ◌≤◌, ◌<◌, ◌⊎◌, ◌↔◌, inl, inr, Bool, List, [], ◌∷◌, ◌++◌, refl, ap, sym, ◌∙◌, subst, arith}
+use Rattle.std.proofs.lemmas.Bool.Decides.{eqb_tells, leb_tells}
+use Rattle.tree_grammar.specs.Characters.{Each, IsXmlText}
+use Rattle.doc_tree.specs.Marks.{Mark}
+use Rattle.doc_tree.specs.Rests.{Terms, Word, Marked, Whole}
+use Rattle.doc_tree.specs.declared.machine.Goal.{Goal}
+use Rattle.doc_tree.specs.declared.machine.Goal.TheVariants as goals
+use Rattle.doc_tree.specs.declared.machine.Place.{Place}
+use Rattle.doc_tree.specs.declared.machine.Place.TheVariants as places
+use Rattle.doc_tree.specs.Completions.{State, RestsAt, ReachesGoal, Good, IsFixed, IsInMark, IsPrintable}
+use Rattle.doc_tree.specs.LineEnds.{Finishes, PassesByte}
+use Rattle.doc_tree.proofs.Viability.HighBytes.{Absorbs, absorbs, high_space}
+use Rattle.doc_tree.proofs.Viability.PrintableEnds.{wide, marked}
+use Rattle.doc_tree.proofs.ByteGrammar.Bytes.{IsMultibyte}
+use Rattle.doc_tree.proofs.Viability.Completions.{Completion}
+use Rattle.doc_tree.proofs.Viability.Printables.{each_both}
+use Rattle.doc_tree.proofs.ByteGrammar.Prologs.{marked_stuck, whole_mark, whole_plain}
+use Rattle.doc_tree.proofs.Viability.Prefixes.{IsSteady, steady, printable_steady, mark_steady, multibyte_steady, printable_xml, Open, open_here, open_mark}
+
+-- Whatever bytes from 128 on come, printable ones end a document behind them.
+abbrev pub OpenText : State → Bool → Type 0
+OpenText s r = (more : List ℕ) → Each IsMultibyte more → Open 32 s r more
+
+abbrev t : Terms
+t = wide 32
+
+in_mark : (p : Place) (g : Goal) → (IsInMark p g → ⊥) ⊎ ((p ≡ places.Word) × (g ≡ goals.Marked))
+in_mark places.Word goals.Marked = inr (refl, refl)
+in_mark _ _ = inl (λ h. h)
+
+at_start : (p : Place) → (p ≡ places.Start) ⊎ (p ≢ places.Start)
+at_start places.Start = inl refl
+at_start _ = inr (λ e. cc)
+
+is_mark : (p : Place) (g : Goal) → p ≡ places.Word → g ≡ goals.Marked → IsInMark p g
+is_mark p g e f = subst (λ z. IsInMark z g) (sym e) (subst (λ z. IsInMark places.Word z) (sym f) tt)
+
+mark_left : (s : State) → Good s.place s → s.place ≡ places.Word → s.goal ≡ goals.Marked → IsFixed goals.Marked s.left
+mark_left s g p q = let k : Good places.Word s = subst (λ z. Good z s) p g in subst (λ z. IsFixed z s.left) q k.1
+
+pub mark_fixed : (s : State) → Good s.place s → IsInMark s.place s.goal → IsFixed goals.Marked s.left
+mark_fixed s g m = elim (in_mark s.place s.goal) [ inl n ↦ absurd (n m) | inr q ↦ mark_left s g q.0 q.1 ]
+
+-- what follows in the mark
+mark_text : (s : State) → s.place ≡ places.Word → s.goal ≡ goals.Marked → (x : List ℕ) (es : List Mark) → RestsAt s.place s t x es → Word s.left (Marked t) x es
+mark_text s p q x es h = let k : Word s.left (ReachesGoal s.goal s t) x es = subst (λ z. RestsAt z s t x es) p h in subst (λ z. Word s.left (ReachesGoal z s t) x es) q k
+
+pub mark_says : (s : State) → Good s.place s → IsInMark s.place s.goal → (x : List ℕ) (es : List Mark) → RestsAt s.place s t x es → Word s.left (Marked t) x es
+mark_says s g m x es h = elim (in_mark s.place s.goal) [ inl n ↦ absurd (n m) | inr q ↦ mark_text s q.0 q.1 x es h ]
+
+fixed_first : (left x y : List ℕ) (b : ℕ) → IsFixed goals.Marked left → b ∷ x ≡ left ++ y → (b ≡ 187) ⊎ (b ≡ 191)
+fixed_first left x y b (inl e) f = let k : b ∷ x ≡ (187 ∷ 191 ∷ []) ++ y = f ∙ ap (λ z. z ++ y) e in inl (cc)
+fixed_first left x y b (inr e) f = let k : b ∷ x ≡ (191 ∷ []) ++ y = f ∙ ap (λ z. z ++ y) e in inr (cc)
+
+fixed_some : (left y : List ℕ) → IsFixed goals.Marked left → [] ≡ left ++ y → ⊥
+fixed_some left y (inl e) f = let k : [] ≡ (187 ∷ 191 ∷ []) ++ y = f ∙ ap (λ z. z ++ y) e in absurd (cc)
+fixed_some left y (inr e) f = let k : [] ≡ (191 ∷ []) ++ y = f ∙ ap (λ z. z ++ y) e in absurd (cc)
+
+-- printable bytes don't
+printable_fixed : (left x y : List ℕ) → IsFixed goals.Marked left → Each IsPrintable x → x ≡ left ++ y → ⊥
+printable_fixed left [] y i h e = fixed_some left y i e
+printable_fixed left (b ∷ x) y i h e = let l = h.0.1 in elim (fixed_first left x y b i e) [ inl k ↦ omega arith | inr k ↦ omega arith ]
+
+-- bytes that are no line ends, before and behind the layer
+rests_of : (s : State) (r : Bool) (x : List ℕ) (es : List Mark) → Each IsSteady x → Finishes s r t x es → (later : List Mark) × (es ≡ s.marks ++ later) × RestsAt s.place s t x later
+rests_of s r x es h f = (f.later, f.whole, subst (λ z. RestsAt s.place s t z f.later) (steady r x h) f.rest)
+
+finishes_of : (s : State) (r : Bool) (x : List ℕ) (later : List Mark) → Each IsSteady x → RestsAt s.place s t x later → Finishes s r t x (s.marks ++ later)
+finishes_of s r x later h k = record { later = later; whole = refl; rest = subst (λ z. RestsAt s.place s t z later) (sym (steady r x h)) k }
+
+open_steady : (s : State) (r : Bool) (more : List ℕ) (o : Open 32 s r more) → Each IsSteady more → Each IsSteady (more ++ o.bytes)
+open_steady s r more o h = each_both IsSteady more o.bytes h (printable_steady o.bytes o.printable)
+
+-- Between characters the machine isn't in the mark.
+pub open_unmarked : (s : State) (r : Bool) → Good s.place s → Open 32 s r [] → IsInMark s.place s.goal → ⊥
+open_unmarked s r g o m = elim (in_mark s.place s.goal) [
+  | inl n ↦ n m
+  | inr p ↦ (
+      let k = rests_of s r o.bytes o.marks (printable_steady o.bytes o.printable) o.rest in
+      let w = mark_text s p.0 p.1 o.bytes k.0 k.2 in
+      printable_fixed s.left o.bytes w.behind (mark_left s g p.0 p.1) o.printable w.text)
+]
+
+-- A byte is taken that stands first.
+pub open_goes : (s : State) (r : Bool) (b : ℕ) (new : State) (returns : Bool) (more : List ℕ) → PassesByte s r b new returns → Open 32 s r (b ∷ more) → Open 32 new returns more
+open_goes s r b new returns more p o = record { bytes = o.bytes; printable = o.printable; marks = o.marks; rest = (p.same t (omega arith) (more ++ o.bytes) o.marks).0 o.rest }
+
+pub text_goes : (s : State) (r : Bool) (b : ℕ) (new : State) (returns : Bool) → 128 ≤ b → PassesByte s r b new returns → OpenText s r → OpenText new returns
+text_goes s r b new returns l p o more h = open_goes s r b new returns more p (o (b ∷ more) (l, h))
+
+-- what the old state finishes where the new one does
+back : (s : State) (r : Bool) (b : ℕ) (new : State) (returns : Bool) (more : List ℕ) → 128 ≤ b → Each IsSteady more → PassesByte s r b new returns → (o : Open 32 new returns more) → (later : List Mark) × (o.marks ≡ s.marks ++ later) × RestsAt s.place s t (b ∷ (more ++ o.bytes)) later
+back s r b new returns more l h p o = rests_of s r (b ∷ (more ++ o.bytes)) o.marks (omega arith, open_steady new returns more o h) ((p.same t (omega arith) (more ++ o.bytes) o.marks).1 o.rest)
+
+module _ (s : State) (r : Bool) (b : ℕ) (new : State) (returns : Bool) (l : 128 ≤ b) (p : PassesByte s r b new returns) where
+  -- any others may come
+  others : Absorbs (RestsAt s.place s t) b → Open 32 new returns [] → OpenText new returns
+  others a o more h =
+      let k = back s r b new returns [] l tt p o in
+      let m = a o.bytes k.0 k.2 more h in
+      let e : Each IsSteady (b ∷ (more ++ o.bytes)) = (omega arith, each_both IsSteady more o.bytes (multibyte_steady more h) (printable_steady o.bytes o.printable)) in
+      record { bytes = o.bytes; printable = o.printable; marks = s.marks ++ m.0; rest = (p.same t (omega arith) (more ++ o.bytes) (s.marks ++ m.0)).0 (finishes_of s r (b ∷ (more ++ o.bytes)) m.0 e m.1) }
+
+  -- the mark takes no others
+  not_others : Absorbs (RestsAt s.place s t) b → new.place ≡ places.Word → new.goal ≡ goals.Marked → ⊥
+  not_others a e f =
+      let i = mark_left new p.good e f in
+      let o : Open 32 new returns new.left = open_mark 32 (omega arith) new returns p.good e f in
+      let k = back s r b new returns new.left l (mark_steady new.left i) p o in
+      let x : List ℕ = new.left ++ o.bytes in
+      let hx : Each IsSteady x = open_steady new returns new.left o (mark_steady new.left i) in
+      let m = a x k.0 k.2 (200 ∷ []) (omega arith, tt) in
+      let n : Finishes new returns t (200 ∷ x) (s.marks ++ m.0) = (p.same t (omega arith) (200 ∷ x) (s.marks ++ m.0)).0 (finishes_of s r (b ∷ 200 ∷ x) m.0 (omega arith, (omega arith, hx)) m.1) in
+      let q = rests_of new returns (200 ∷ x) (s.marks ++ m.0) (omega arith, hx) n in
+      let w = mark_text new e f (200 ∷ x) q.0 q.2 in
+      elim (fixed_first new.left x w.behind 200 i w.text) [ inl z ↦ omega arith | inr z ↦ omega arith ]
+
+  begun_other : Absorbs (RestsAt s.place s t) b → OpenText new returns
+  begun_other a = elim (in_mark new.place new.goal) [
+    | inl n ↦ others a (open_here 32 (omega arith) new returns p.good n)
+    | inr q ↦ absurd (not_others a q.0 q.1)
+  ]
+
+  -- the first byte of all
+  start_first : s.place ≡ places.Start → (x : List ℕ) (es : List Mark) → RestsAt s.place s t (b ∷ x) es → (b ≡ 239) × Word (187 ∷ 191 ∷ []) (Marked t) x es
+  start_first e x es h =
+      let w : Whole t (b ∷ x) es = subst (λ z. RestsAt z s t (b ∷ x) es) e h in
+      elim (eqb_tells b 239) [
+        | inl q ↦ (q.1, (whole_mark t x es).0 (subst (λ z. Whole t (z ∷ x) es) q.1 w))
+        | inr q ↦ absurd (marked_stuck t b x es (high_space b l) (λ f. omega arith) ((whole_plain t b x es q.1).0 w))
+      ]
+
+  start_mark : s.place ≡ places.Start → new.place ≡ places.Word → new.goal ≡ goals.Marked → (b ≡ 239) × (new.left ≡ 187 ∷ 191 ∷ [])
+  start_mark e f g =
+      let i = mark_left new p.good f g in
+      let o : Open 32 new returns new.left = open_mark 32 (omega arith) new returns p.good f g in
+      let k = back s r b new returns new.left l (mark_steady new.left i) p o in
+      let w = start_first e (new.left ++ o.bytes) k.0 k.2 in
+      let m : new.left ++ o.bytes ≡ 187 ∷ 191 ∷ w.1.behind = w.1.text in
+      (w.0, elim i [ inl j ↦ j | inr j ↦ (let n : 191 ∷ o.bytes ≡ 187 ∷ 191 ∷ w.1.behind = sym (ap (λ z. z ++ o.bytes) j) ∙ m in let z : ◌≡◌ {A = ℕ} 191 187 = cc in absurd (omega arith)) ])
+
+  start_not : s.place ≡ places.Start → (IsInMark new.place new.goal → ⊥) → ⊥
+  start_not e n =
+      let o : Open 32 new returns [] = open_here 32 (omega arith) new returns p.good n in
+      let k = back s r b new returns [] l tt p o in
+      let w = start_first e o.bytes k.0 k.2 in
+      printable_fixed (187 ∷ 191 ∷ []) o.bytes w.1.behind (inl refl) o.printable w.1.text
+
+  -- The first byte of a character: any others are taken, or it is the mark's.
+  pub begun : Good s.place s → (IsInMark s.place s.goal → ⊥) → OpenText new returns ⊎ ((b ≡ 239) × (new.left ≡ 187 ∷ 191 ∷ []) × IsInMark new.place new.goal)
+  begun g n = elim (at_start s.place) [
+    | inl e ↦ elim (in_mark new.place new.goal) [
+      | inl m ↦ absurd (start_not e m)
+      | inr q ↦ (let k = start_mark e q.0 q.1 in inr (k.0, k.1, is_mark new.place new.goal q.0 q.1))
+    ]
+    | inr e ↦ inl (begun_other (absorbs t b l s.place s e g n))
+  ]
+
+  -- The mark goes on with its own bytes alone.
+  mark_back : s.place ≡ places.Word → s.goal ≡ goals.Marked → (x : List ℕ) (es : List Mark) → Word s.left (Marked t) x es → RestsAt s.place s t x es
+  mark_back e f x es h =
+      let k : Word s.left (ReachesGoal s.goal s t) x es = subst (λ z. Word s.left (ReachesGoal z s t) x es) (sym f) h in
+      subst (λ z. RestsAt z s t x es) (sym e) k
+
+  mark_over : s.place ≡ places.Word → s.goal ≡ goals.Marked → s.left ≡ b ∷ [] → new.place ≡ places.Word → new.goal ≡ goals.Marked → ⊥
+  mark_over e f m g h =
+      let c : Completion (Marked t) = marked 32 (omega arith) in
+      let k : RestsAt s.place s t (b ∷ c.bytes) c.marks = mark_back e f (b ∷ c.bytes) c.marks (record { behind = c.bytes; text = ap (λ z. z ++ c.bytes) (sym m); after = c.rest }) in
+      let hc : Each IsSteady c.bytes = printable_steady c.bytes c.printable in
+      let n : Finishes new returns t c.bytes (s.marks ++ c.marks) = (p.same t (omega arith) c.bytes (s.marks ++ c.marks)).0 (finishes_of s r (b ∷ c.bytes) c.marks (omega arith, hc) k) in
+      let q = rests_of new returns c.bytes (s.marks ++ c.marks) hc n in
+      let w = mark_text new g h c.bytes q.0 q.2 in
+      printable_fixed new.left c.bytes w.behind (mark_left new p.good g h) c.printable w.text
+
+  abbrev pub MarkOn : Type 0
+  MarkOn = ((s.left ≡ b ∷ []) × (IsInMark new.place new.goal → ⊥)) ⊎ ((s.left ≡ b ∷ new.left) × IsInMark new.place new.goal)
+
+  mark_here : s.place ≡ places.Word → s.goal ≡ goals.Marked → Good s.place s → (IsInMark new.place new.goal → ⊥) → MarkOn
+  mark_here e f g n =
+      let o : Open 32 new returns [] = open_here 32 (omega arith) new returns p.good n in
+      let k = back s r b new returns [] l tt p o in
+      let w = mark_text s e f (b ∷ o.bytes) k.0 k.2 in
+      let m : b ∷ o.bytes ≡ s.left ++ w.behind = w.text in
+      elim (mark_left s g e f) [
+        | inl j ↦ (let q : b ∷ o.bytes ≡ 187 ∷ 191 ∷ w.behind = m ∙ ap (λ z. z ++ w.behind) j in absurd (printable_fixed (191 ∷ []) o.bytes w.behind (inr refl) o.printable (cc)))
+        | inr j ↦ (let q : b ∷ o.bytes ≡ 191 ∷ w.behind = m ∙ ap (λ z. z ++ w.behind) j in let a : b ≡ 191 = cc in inl (j ∙ ap (λ z. z ∷ []) (sym a), n))
+      ]
+
+  mark_still : s.place ≡ places.Word → s.goal ≡ goals.Marked → Good s.place s → new.place ≡ places.Word → new.goal ≡ goals.Marked → MarkOn
+  mark_still e f g d h =
+      let i = mark_left new p.good d h in
+      let o : Open 32 new returns new.left = open_mark 32 (omega arith) new returns p.good d h in
+      let k = back s r b new returns new.left l (mark_steady new.left i) p o in
+      let w = mark_text s e f (b ∷ (new.left ++ o.bytes)) k.0 k.2 in
+      let m : b ∷ (new.left ++ o.bytes) ≡ s.left ++ w.behind = w.text in
+      elim (mark_left s g e f) [
+        | inl j ↦ (
+            let q : b ∷ (new.left ++ o.bytes) ≡ 187 ∷ 191 ∷ w.behind = m ∙ ap (λ z. z ++ w.behind) j in
+            let a : b ≡ 187 = cc in
+            let c : new.left ++ o.bytes ≡ 191 ∷ w.behind = cc in
+            elim i [
+              | inl x ↦ (let y : 187 ∷ 191 ∷ o.bytes ≡ 191 ∷ w.behind = sym (ap (λ z. z ++ o.bytes) x) ∙ c in let v : ◌≡◌ {A = ℕ} 187 191 = cc in absurd (omega arith))
+              | inr x ↦ inr (j ∙ ap (λ z. z ∷ 191 ∷ []) (sym a) ∙ ap (λ z. b ∷ z) (sym x), is_mark new.place new.goal d h)
+            ])
+        | inr j ↦ (
+            let q : b ∷ (new.left ++ o.bytes) ≡ 191 ∷ w.behind = m ∙ ap (λ z. z ++ w.behind) j in
+            let a : b ≡ 191 = cc in
+            absurd (mark_over e f (j ∙ ap (λ z. z ∷ []) (sym a)) d h))
+      ]
+
+  pub mark_goes : Good s.place s → IsInMark s.place s.goal → MarkOn
+  mark_goes g m = elim (in_mark s.place s.goal) [
+    | inl n ↦ absurd (n m)
+    | inr q ↦ elim (in_mark new.place new.goal) [
+      | inl n ↦ mark_here q.0 q.1 g n
+      | inr d ↦ mark_still q.0 q.1 g d.0 d.1
+    ]
+  ]
+
+-- Some bytes complete a character, in whatever way, and a document at once.
+pub record Met (C : List ℕ → Type 0) (s : State) (r : Bool) : Type 0 where
+  pub rest : List ℕ
+  pub character : C rest
+  pub says : List Mark
+  pub document : Finishes s r (wide 32) rest says
+
+-- these bytes complete the character, whatever characters follow
+abbrev pub Fills : (List ℕ → Type 0) → List ℕ → Type 0
+Fills C more = (x : List ℕ) → IsXmlText x → C (more ++ x)
+
+met_of : (C : List ℕ → Type 0) (s : State) (r : Bool) (more : List ℕ) → Open 32 s r more → Fills C more → Met C s r
+met_of C s r more o f = record { rest = more ++ o.bytes; character = f o.bytes (printable_xml o.bytes o.printable); says = o.marks; document = o.rest }
+
+-- In the mark, its own bytes complete the character.
+abbrev pub Marks : (List ℕ → Type 0) → State → Type 0
+Marks C s = IsInMark s.place s.goal → Fills C s.left
+
+-- A byte that the machine and the characters take: the character before it is completed by W, that behind it by V.
+module _ (W V : List ℕ → Type 0) (s : State) (r : Bool) (b : ℕ) (new : State) (returns : Bool) (follows : (x : List ℕ) → W (b ∷ x) ↔ V x) (p : PassesByte s r b new returns) (g : Good s.place s) where
+  abbrev Goes : Type 0
+  Goes = Met V new returns × Marks V new
+
+  goes_plain : (IsInMark new.place new.goal → ⊥) → Fills V [] → Goes
+  goes_plain n f = (met_of V new returns [] (open_here 32 (omega arith) new returns p.good n) f, λ m. absurd (n m))
+
+  goes_mark : IsInMark new.place new.goal → Fills V new.left → Goes
+  goes_mark m f = elim (in_mark new.place new.goal) [
+    | inl n ↦ absurd (n m)
+    | inr q ↦ (met_of V new returns new.left (open_mark 32 (omega arith) new returns p.good q.0 q.1) f, λ k. f)
+  ]
+
+  -- behind the mark's own bytes
+  goes_left : (left : List ℕ) → s.left ≡ b ∷ left → Fills W s.left → Fills V left
+  goes_left left e f x h = (follows (left ++ x)).0 (subst (λ z. W (z ++ x)) e (f x h))
+
+  goes_longer : 128 ≤ b → (IsInMark s.place s.goal → ⊥) → (more : List ℕ) → Each IsMultibyte more → Fills V more → (b ≡ 239 → Fills V (187 ∷ 191 ∷ [])) → Goes
+  goes_longer l n more h f first = elim (begun s r b new returns l p g n) [
+    | inl o ↦ (met_of V new returns more (o more h) f, λ m. absurd (open_unmarked new returns p.good (o [] tt) m))
+    | inr q ↦ goes_mark q.2 (subst (Fills V) (sym q.1) (first q.0))
+  ]
+
+  -- It leaves something to complete both, if it leaves bytes from 128 on that complete the character, or none.
+  pub meets : Marks W s → (IsInMark s.place s.goal → 128 ≤ b) → (more : List ℕ) → Each IsMultibyte more → Fills V more → (b < 128 → Fills V []) → (b ≡ 239 → Fills V (187 ∷ 191 ∷ [])) → Goes
+  meets m high more h f low first = elim (in_mark s.place s.goal) [
+    | inl n ↦ elim (leb_tells 128 b) [
+      | inl l ↦ goes_longer l.1 n more h f first
+      | inr l ↦ goes_plain (p.unmarked l.1 n) (low l.1)
+    ]
+    | inr q ↦ (
+        let k : IsInMark s.place s.goal = is_mark s.place s.goal q.0 q.1 in
+        elim (mark_goes s r b new returns (high k) p g k) [
+          | inl e ↦ goes_plain e.1 (goes_left [] e.0 (m k))
+          | inr e ↦ goes_mark e.1 (goes_left new.left e.0 (m k))
+        ])
+  ]

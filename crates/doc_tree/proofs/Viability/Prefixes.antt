@@ -1,0 +1,196 @@
+-- Documents go on behind what the machine has taken, and none behind what it refuses.
+use Rattle.std.proofs.Common.{◌≡◌, ℕ, suc, ◌+◌, ◌-◌, ◌≤◌, ◌<◌, inl, inr, Bool, true, false, List, [], ◌∷◌, ◌++◌, length, refl, ap, sym, ◌∙◌, subst, arith, append_assoc}
+use Rattle.std.specs.Prelude.{encode_utf8_all}
+use Rattle.std.proofs.lemmas.Str.{encode_ascii, encodes-append}
+use Rattle.std.proofs.lemmas.List.{append-nil}
+use Rattle.tree_grammar.specs.Elements.{nodes_depth}
+use Rattle.tree_grammar.specs.Characters.{Each, IsXmlChar, IsXmlText, IsNameStart, normal_lines}
+use Rattle.tree_grammar.specs.Content.{body_nodes}
+use Rattle.tree_grammar.specs.Declaration.{Declaration, no_declaration, declared, no_encoding, encoded}
+use Rattle.doc_tree.specs.Marks.{Mark}
+use Rattle.doc_tree.specs.Rests.{Terms, any, Word, TagRest, Between, IsDeclarationRead, Marked, Whole, depth_left}
+use Rattle.doc_tree.specs.declared.machine.Goal.TheVariants as goals
+use Rattle.doc_tree.specs.declared.machine.Place.TheVariants as places
+use Rattle.doc_tree.specs.Completions.{State, RestsAt, ReachesGoal, Completes, Insides, Good, IsFixed, IsInMark, IsPrintable, IsDeep}
+use Rattle.doc_tree.specs.LineEnds.{unread, Finishes, Blocks, Continues}
+use Rattle.doc_tree.specs.Refusals.{IsText, IsViable, IsShallowlyViable, IsDeepAt, IsMalformedAt}
+use Rattle.doc_tree.proofs.TextTrees.Wholes.{Held, held_of, whole_of, document_marks}
+use Rattle.doc_tree.proofs.TextTrees.LineFeeds.{continues_end}
+use Rattle.doc_tree.proofs.MachineSteps.Specials.{plain_line, deep_stuck}
+use Rattle.doc_tree.proofs.ByteGrammar.Bytes.{IsMultibyte, start_high}
+use Rattle.doc_tree.proofs.MachineSteps.Steps.{content_tag_any}
+use Rattle.doc_tree.proofs.Viability.Printables.{each_both, each_map, start_printable}
+use Rattle.doc_tree.proofs.Viability.Completions.{Completion, completes_map, completes_tag, completes_between}
+use Rattle.doc_tree.proofs.Viability.PrintableEnds.{wide, alive, marked}
+
+-- no line end
+abbrev pub IsSteady : ℕ → Type 0
+IsSteady c = 32 ≤ c
+
+pub steady : (r : Bool) (bytes : List ℕ) → Each IsSteady bytes → normal_lines (unread r bytes) ≡ bytes
+steady true [] h = refl
+steady false [] h = refl
+steady r (c ∷ cs) h = let l : 32 ≤ c = h.0 in plain_line r c cs (omega arith) ∙ ap (λ z. c ∷ z) (steady false cs h.1)
+
+pub printable_steady : (bytes : List ℕ) → Each IsPrintable bytes → Each IsSteady bytes
+printable_steady bytes h = each_map IsPrintable IsSteady (λ c p. p.0) bytes h
+
+pub multibyte_steady : (bytes : List ℕ) → Each IsMultibyte bytes → Each IsSteady bytes
+multibyte_steady bytes h = each_map IsMultibyte IsSteady (λ c (p : 128 ≤ c). omega arith) bytes h
+
+-- characters of XML
+printable_encoded : (bytes : List ℕ) → Each IsPrintable bytes → bytes ≡ encode_utf8_all bytes
+printable_encoded [] h = refl
+printable_encoded (c ∷ cs) h = let l = h.0.1 in ap (λ z. c ∷ z) (printable_encoded cs h.1) ∙ ap (λ z. z ++ encode_utf8_all cs) (sym (encode_ascii c (omega arith)))
+
+pub printable_xml : (bytes : List ℕ) → Each IsPrintable bytes → IsXmlText bytes
+printable_xml bytes h = record {
+  characters = bytes;
+  each = each_map IsPrintable IsXmlChar (λ c p. (let l = p.1 in inr (inr (inr (inl (p.0, omega arith)))))) bytes h;
+  encoded = printable_encoded bytes h;
+}
+
+pub xml_both : (a b : List ℕ) → IsXmlText a → IsXmlText b → IsXmlText (a ++ b)
+xml_both a b p q = record {
+  characters = p.characters ++ q.characters;
+  each = each_both IsXmlChar p.characters q.characters p.each q.each;
+  encoded = ap (λ z. z ++ b) p.encoded ∙ ap (λ z. encode_utf8_all p.characters ++ z) q.encoded ∙ sym (encodes-append p.characters q.characters);
+}
+
+-- Behind these bytes, printable ones end a document of at most this depth.
+pub record Open (depth : ℕ) (s : State) (returned : Bool) (more : List ℕ) : Type 0 where
+  pub bytes : List ℕ
+  pub printable : Each IsPrintable bytes
+  pub marks : List Mark
+  pub rest : Finishes s returned (wide depth) (more ++ bytes) marks
+
+open_of : (depth : ℕ) (s : State) (r : Bool) (more : List ℕ) → Each IsSteady more → Completion (λ x. RestsAt s.place s (wide depth) (more ++ x)) → Open depth s r more
+open_of depth s r more h c = record {
+  bytes = c.bytes;
+  printable = c.printable;
+  marks = s.marks ++ c.marks;
+  rest = record { later = c.marks; whole = refl; rest = subst (λ z. RestsAt s.place s (wide depth) z c.marks) (sym (steady r (more ++ c.bytes) (each_both IsSteady more c.bytes h (printable_steady c.bytes c.printable)))) c.rest };
+}
+
+-- the machine between characters
+pub open_here : (depth : ℕ) → 1 ≤ depth → (s : State) (r : Bool) → Good s.place s → (IsInMark s.place s.goal → ⊥) → Open depth s r []
+open_here depth l s r g n = open_of depth s r [] tt (alive depth l s.place s g n)
+
+-- in the byte order mark
+pub mark_steady : (left : List ℕ) → IsFixed goals.Marked left → Each IsSteady left
+mark_steady left (inl e) = subst (Each IsSteady) (sym e) (omega arith, (omega arith, tt))
+mark_steady left (inr e) = subst (Each IsSteady) (sym e) (omega arith, tt)
+
+pub open_mark : (depth : ℕ) → 1 ≤ depth → (s : State) (r : Bool) → Good s.place s → s.place ≡ places.Word → s.goal ≡ goals.Marked → Open depth s r s.left
+open_mark depth l s r g p q =
+    let t : Terms = wide depth in
+    let k : Good places.Word s = subst (λ z. Good z s) p g in
+    let c : Completion (Marked t) = marked depth l in
+    let d : Completion (λ x. Word s.left (Marked t) (s.left ++ x)) = completes_map (Marked t) (λ x. Word s.left (Marked t) (s.left ++ x)) (λ x es h. record { behind = x; text = refl; after = h }) c in
+    let e : Completion (λ x. Word s.left (ReachesGoal s.goal s t) (s.left ++ x)) = subst (λ z. Completion (λ x. Word s.left (ReachesGoal z s t) (s.left ++ x))) (sym q) d in
+    open_of depth s r s.left (mark_steady s.left (subst (λ z. IsFixed z s.left) q k.1)) (subst (λ z. Completion (λ x. RestsAt z s t (s.left ++ x))) (sym p) e)
+
+-- what was taken, these bytes, and the end
+abbrev pub IsWithinDepth : ℕ → List ℕ → Type 0
+IsWithinDepth depth bytes = (w : IsText bytes) × (suc (nodes_depth (body_nodes w.document.body)) ≤ depth)
+
+ended : (depth : ℕ) → 32 ≤ depth → (s : State) (r : Bool) (seen rest : List ℕ) (says : List Mark) → Continues s r seen → Finishes s r (wide depth) rest says → IsXmlText (seen ++ rest) → IsWithinDepth depth (seen ++ rest)
+ended depth l s r seen rest says c f x =
+    let t : Terms = wide depth in
+    let d : Held t (normal_lines (seen ++ rest)) says = held_of t (normal_lines (seen ++ rest)) says (λ z. z) ((c.same t l rest says).1 f) in
+    let deep = d.deep in
+    (record { characters = x; document = d.document; text = d.same }, omega arith)
+
+-- What completes characters and document is such an end.
+pub viable_so : (s : State) (r : Bool) (seen rest : List ℕ) (says : List Mark) → Continues s r seen → Finishes s r (wide 32) rest says → IsXmlText (seen ++ rest) → IsShallowlyViable seen
+viable_so s r seen rest says c f x = let w = ended 32 (omega arith) s r seen rest says c f x in record { rest = rest; whole = w.0; shallow = w.1 }
+
+open_xml : (depth : ℕ) (s : State) (r : Bool) (seen more : List ℕ) (o : Open depth s r more) → IsXmlText (seen ++ more) → IsXmlText (seen ++ (more ++ o.bytes))
+open_xml depth s r seen more o x = subst IsXmlText (append_assoc seen more o.bytes) (xml_both (seen ++ more) o.bytes x (printable_xml o.bytes o.printable))
+
+-- Some document that isn't too deep goes on so.
+pub viable : (s : State) (r : Bool) (seen more : List ℕ) → Continues s r seen → Open 32 s r more → IsXmlText (seen ++ more) → IsShallowlyViable seen
+viable s r seen more c o x = viable_so s r seen (more ++ o.bytes) o.marks c o.rest (open_xml 32 s r seen more o x)
+
+pub viable_any : (seen : List ℕ) → IsShallowlyViable seen → IsViable seen
+viable_any seen v = record { rest = v.rest; whole = v.whole }
+
+-- behind whole characters
+pub viable_here : (s : State) (r : Bool) (seen : List ℕ) → Continues s r seen → (IsInMark s.place s.goal → ⊥) → IsXmlText seen → IsShallowlyViable seen
+viable_here s r seen c n x = viable s r seen [] c (open_here 32 (omega arith) s r c.good n) (subst IsXmlText (sym (append-nil seen)) x)
+
+-- Nothing goes on with a byte that is refused.
+any_read : (d : Declaration) → IsDeclarationRead any d
+any_read no_declaration = tt
+any_read (declared v no_encoding s space sp) = tt
+any_read (declared v (encoded b p e quote i name n) s space sp) = tt
+
+text_whole : (depth : ℕ) (bytes : List ℕ) (w : IsText bytes) → suc (nodes_depth (body_nodes w.document.body)) ≤ depth → Whole (wide depth) (normal_lines bytes) (document_marks w.document)
+text_whole depth bytes w l = subst (λ z. Whole (wide depth) z (document_marks w.document)) (sym w.text) (whole_of (wide depth) w.document (omega arith) (omega arith) (any_read w.document.declaration))
+
+text_finishes : (depth : ℕ) → 32 ≤ depth → (s : State) (r : Bool) (seen : List ℕ) (b : ℕ) (rest : List ℕ) (w : IsText ((seen ++ (b ∷ [])) ++ rest)) → suc (nodes_depth (body_nodes w.document.body)) ≤ depth → Continues s r seen → Finishes s r (wide depth) (b ∷ rest) (document_marks w.document)
+text_finishes depth l s r seen b rest w m c =
+    let says : List Mark = document_marks w.document in
+    let k : Whole (wide depth) (normal_lines (seen ++ (b ∷ rest))) says = subst (λ z. Whole (wide depth) (normal_lines z) says) (append_assoc seen (b ∷ []) rest) (text_whole depth ((seen ++ (b ∷ [])) ++ rest) w m) in
+    (c.same (wide depth) l (b ∷ rest) says).0 k
+
+pub refused : (s : State) (r : Bool) (seen : List ℕ) (b : ℕ) → Continues s r seen → Blocks s r b → IsViable (seen ++ (b ∷ [])) → ⊥
+refused s r seen b c f v =
+    let w : IsText ((seen ++ (b ∷ [])) ++ v.rest) = v.whole in
+    let depth : ℕ = 32 + suc (nodes_depth (body_nodes w.document.body)) in
+    f (wide depth) (omega arith) v.rest (document_marks w.document) (text_finishes depth (omega arith) s r seen b v.rest w (omega arith) c)
+
+-- an element of depth 33 begins
+deep_tag : (depth : ℕ) (s : State) (b : ℕ) → Good places.ContentLess s → IsNameStart b → length s.names < depth → Completion (λ x. RestsAt places.ContentLess s (wide depth) (b ∷ x))
+deep_tag depth s b g i l =
+    let t : Terms = wide depth in
+    let high = start_high b i in
+    let c : Completion (TagRest (depth_left t s.names - 1) (b ∷ []) [] [] (Between 0 s.names t)) = completes_tag (depth_left t s.names - 1) (b ∷ []) (Between 0 s.names t) (completes_between t 0 s.names g.2) [] [] in
+    completes_map (TagRest (depth_left t s.names - 1) (b ∷ []) [] [] (Between 0 s.names t)) (λ x. Insides 0 s.names t (60 ∷ b ∷ x)) (λ x es k. (content_tag_any t s.names b x es g.1 (λ e. omega arith) (λ e. omega arith) (λ e. omega arith)).1 (record { room = omega arith; rest = record { run = b ∷ []; is = (i, tt); behind = x; text = refl; after = k } })) c
+
+deep_open : (s : State) (r : Bool) (b : ℕ) → Good s.place s → IsDeep s b → Open (suc (length s.names)) s r (b ∷ [])
+deep_open s r b g d =
+    let depth : ℕ = suc (length s.names) in
+    let high = start_high b d.2 in
+    open_of depth s r (b ∷ []) (omega arith, tt) (subst (λ z. Completion (λ x. RestsAt z s (wide depth) (b ∷ x))) (sym d.0) (deep_tag depth s b (subst (λ z. Good z s) d.0 g) d.2 (omega arith)))
+
+deep_viable : (s : State) (r : Bool) (seen : List ℕ) (b : ℕ) → Continues s r seen → IsXmlText seen → IsDeep s b → IsViable (seen ++ (b ∷ []))
+deep_viable s r seen b c x d =
+    let l = d.1 in
+    let o : Open (suc (length s.names)) s r (b ∷ []) = deep_open s r b c.good d in
+    let y : IsXmlText (seen ++ (b ∷ [])) = xml_both seen (b ∷ []) x (printable_xml (b ∷ []) (start_printable b d.2, tt)) in
+    let w : IsWithinDepth (suc (length s.names)) (seen ++ (b ∷ o.bytes)) = ended (suc (length s.names)) (omega arith) s r seen (b ∷ o.bytes) o.marks c o.rest (open_xml (suc (length s.names)) s r seen (b ∷ []) o y) in
+    record { rest = o.bytes; whole = subst IsText (sym (append_assoc seen (b ∷ []) o.bytes)) w.0 }
+
+deep_not : (s : State) (r : Bool) (seen : List ℕ) (b : ℕ) → Continues s r seen → IsDeep s b → IsShallowlyViable (seen ++ (b ∷ [])) → ⊥
+deep_not s r seen b c d v =
+    let high = start_high b d.2 in
+    let f : Finishes s r (wide 32) (b ∷ v.rest) (document_marks v.whole.document) = text_finishes 32 (omega arith) s r seen b v.rest v.whole v.shallow c in
+    deep_stuck (wide 32) (omega arith) s b d (normal_lines v.rest) f.later (subst (λ z. RestsAt s.place s (wide 32) z f.later) (plain_line r b v.rest (omega arith)) f.rest)
+
+less_not_mark : (s : State) → s.place ≡ places.ContentLess → IsInMark s.place s.goal → ⊥
+less_not_mark s e h = subst (λ z. IsInMark z s.goal) e h
+
+pub deep : (s : State) (r : Bool) (seen : List ℕ) (b : ℕ) → Continues s r seen → IsXmlText seen → IsDeep s b → IsDeepAt seen b
+deep s r seen b c x d = record {
+  before = viable_here s r seen c (less_not_mark s d.0) x;
+  viable = deep_viable s r seen b c x d;
+  deep = deep_not s r seen b c d;
+}
+
+-- a byte that is refused
+pub malformed : (s : State) (r : Bool) (seen : List ℕ) (b : ℕ) → Continues s r seen → Blocks s r b → IsShallowlyViable seen → IsMalformedAt seen b
+malformed s r seen b c f v = record { before = viable_any seen v; none = refused s r seen b c f }
+
+-- a byte that is taken
+pub taken_not_deep : (seen : List ℕ) (b : ℕ) → IsShallowlyViable (seen ++ (b ∷ [])) → IsDeepAt seen b → ⊥
+taken_not_deep seen b v d = d.deep v
+
+pub taken_not_malformed : (seen : List ℕ) (b : ℕ) → IsShallowlyViable (seen ++ (b ∷ [])) → IsMalformedAt seen b → ⊥
+taken_not_malformed seen b v m = m.none (viable_any (seen ++ (b ∷ [])) v)
+
+-- The bytes end where no document does.
+pub cut : (s : State) (r : Bool) (bytes : List ℕ) → Continues s r bytes → ((t : Terms) (says : List Mark) → Completes s t [] says → ⊥) → IsText bytes → ⊥
+cut s r bytes c n w =
+    let depth : ℕ = 32 + suc (nodes_depth (body_nodes w.document.body)) in
+    n (wide depth) (document_marks w.document) ((continues_end s r bytes c (wide depth) (omega arith) (document_marks w.document)).0 (text_whole depth bytes w (omega arith)))

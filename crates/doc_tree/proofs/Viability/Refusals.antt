@@ -1,0 +1,339 @@
+-- Which refusal a byte decides, and that one that is taken decides none.
+use Rattle.std.proofs.Common.{◌≡◌, ℕ, suc, ◌+◌, ◌-◌, ◌<◌, ◌≤◌, inl, inr, Bool, true, false, cond, ◌==◌, List, [], ◌∷◌, ◌++◌, length, refl, ap, sym, ◌∙◌, subst, arith, append_assoc, length-append, take, drop, get_or}
+use Rattle.std.proofs.lemmas.Bool.{cases_lt}
+use Rattle.std.proofs.lemmas.List.{length-take-le}
+use Rattle.std.specs.Prelude.{codes}
+use Rattle.std.specs.Char.{encode_utf8}
+use Rattle.tree_grammar.specs.Elements.{nodes_depth}
+use Rattle.tree_grammar.specs.Characters.{IsNameStart, IsQName, IsXmlText, begins_with_line_feed, normal_lines}
+use Rattle.tree_grammar.specs.Tags.{IsQuote}
+use Rattle.tree_grammar.specs.Content.{body_nodes}
+use Rattle.tree_grammar.specs.Declaration.{Declaration, no_declaration, declared, no_encoding, encoded}
+use Rattle.tree_grammar.specs.Document.{Document}
+use Rattle.doc_tree.specs.declared.characters.Awaited.{Awaited}
+use Rattle.doc_tree.specs.declared.characters.Awaited.TheVariants as awaits
+use Rattle.doc_tree.specs.declared.fault.TreeFault.{TreeFault}
+use Rattle.doc_tree.specs.declared.fault.TreeFault.TheVariants as faults
+use Rattle.doc_tree.specs.declared.machine.Place.TheVariants as at
+use Rattle.doc_tree.specs.Marks.{Mark}
+use Rattle.doc_tree.specs.Rests.{Terms, any, IsDeclarationRead, TagFirst, Whole}
+use Rattle.doc_tree.specs.Completions.{State, RestsAt, Insides, IsDeep, IsOther, IsDoctype, IsDepthAllowed}
+use Rattle.doc_tree.specs.LineEnds.{bounds, Finishes, PassesByte, Blocks, Continues}
+use Rattle.doc_tree.specs.Reading.{NoneWithin, NoneBegins, Refused}
+use Rattle.doc_tree.specs.Refusals.{IsText, IsViable, IsShallowlyViable, IsDeepAt, IsDoctypeAt, IsEncodingAt, IsMalformedAt, Decides, rank, IsClean, IsRefusedIn}
+use Rattle.doc_tree.specs.Utf8.{CharacterRest, CharacterFollows, CharacterStuck, Spells}
+use Rattle.doc_tree.specs.Feeding.{any_encoding, Feeding, MeetsBoth, IsTaken}
+use Rattle.doc_tree.proofs.ByteGrammar.Bytes.{start_high, not_space}
+use Rattle.doc_tree.proofs.ByteGrammar.Contents.{content_tag}
+use Rattle.doc_tree.proofs.TextTrees.LineFeeds.{allowed, BlocksHere, continues_on, continues_blocked}
+use Rattle.doc_tree.proofs.ByteGrammar.Prologs.{marked_stuck, whole_plain}
+use Rattle.doc_tree.proofs.MachineSteps.Specials.{plain_line, quote_high, deep_blocks, doctype_blocks, other_blocks}
+use Rattle.doc_tree.proofs.OneRefusal.{Places, same, before, behind, places}
+use Rattle.doc_tree.proofs.TextTrees.Results.{split_at, none_refuses, long_refuses, text_refuses}
+use Rattle.doc_tree.proofs.Utf8.{low_char, first_one, BeginsInside, first_or_inside, spells_on, spells_whole}
+use Rattle.doc_tree.proofs.TextTrees.Wholes.{Held, held_of, whole_of, document_marks}
+use Rattle.doc_tree.proofs.MachineSteps.DocumentTypes.{doctype_at, encoding_at, encoding_goes, doctype_long, IsShownAt, taken_plain, refused_plain}
+use Rattle.doc_tree.proofs.MachineSteps.Specials.{doctype_blocked}
+use Rattle.doc_tree.proofs.Viability.Prefixes.{deep}
+use Rattle.doc_tree.proofs.Viability.CommonEnds.{fed_on}
+
+read_any : (d : Declaration) → IsDeclarationRead any d
+read_any no_declaration = tt
+read_any (declared v no_encoding s space sp) = tt
+read_any (declared v (encoded b p e quote i name n) s space sp) = tt
+
+named_allowed : IsDepthAllowed any_encoding
+named_allowed = omega arith
+
+-- the bytes behind one, after those before it
+behind_one : (seen : List ℕ) (b : ℕ) (rest : List ℕ) → (seen ++ (b ∷ [])) ++ rest ≡ seen ++ (b ∷ rest)
+behind_one seen b rest = append_assoc seen (b ∷ []) rest
+
+-- A document is a whole at some terms.
+abbrev pub as_deep : Document → Terms
+as_deep d = record { depth = 32 + nodes_depth (body_nodes d.body); aim = any }
+
+pub as_deep_allowed : (d : Document) → IsDepthAllowed (as_deep d)
+as_deep_allowed d = omega arith
+
+pub text_whole : (bytes : List ℕ) (i : IsText bytes) → Whole (as_deep i.document) (normal_lines bytes) (document_marks i.document)
+text_whole bytes i =
+    let d : Document = i.document in
+    subst (λ z. Whole (as_deep d) z (document_marks d)) (sym i.text) (whole_of (as_deep d) d (omega arith) (omega arith) (read_any d.declaration))
+
+-- what completes the bytes makes them viable
+shallow_of : (seen rest : List ℕ) (says : List Mark) → Whole any_encoding (normal_lines (seen ++ rest)) says → IsXmlText (seen ++ rest) → IsShallowlyViable seen
+shallow_of seen rest says w t =
+    let h : Held any_encoding (normal_lines (seen ++ rest)) says = held_of any_encoding (normal_lines (seen ++ rest)) says (λ i. i) w in
+    let deep = h.deep in
+    record { rest = rest; whole = record { characters = t; document = h.document; text = h.same }; shallow = omega arith }
+
+module _ (s : State) (returned : Bool) (seen : List ℕ) (c : Continues s returned seen) where
+  -- what goes on with the byte completes the state
+  viable_finishes : (b : ℕ) (v : IsViable (seen ++ (b ∷ []))) → Finishes s returned (as_deep v.whole.document) (b ∷ v.rest) (document_marks v.whole.document)
+  viable_finishes b v =
+      let d : Document = v.whole.document in
+      let w : Whole (as_deep d) (normal_lines (seen ++ (b ∷ v.rest))) (document_marks d) = subst (λ z. Whole (as_deep d) (normal_lines z) (document_marks d)) (behind_one seen b v.rest) (text_whole ((seen ++ (b ∷ [])) ++ v.rest) v.whole) in
+      (c.same (as_deep d) (as_deep_allowed d) (b ∷ v.rest) (document_marks d)).0 w
+
+  blocked_none : (b : ℕ) → Blocks s returned b → IsViable (seen ++ (b ∷ [])) → ⊥
+  blocked_none b n v = let d : Document = v.whole.document in n (as_deep d) (as_deep_allowed d) v.rest (document_marks d) (viable_finishes b v)
+
+  doctype_none : (b : ℕ) → IsDoctype s b → IsViable (seen ++ (b ∷ [])) → ⊥
+  doctype_none b o v = let d : Document = v.whole.document in doctype_blocked s returned b o (record { depth = 32 + nodes_depth (body_nodes d.body); aim = any }) (λ i. i) v.rest (document_marks d) (viable_finishes b v)
+
+  meets_shallow : (w : Awaited) → Spells w seen → MeetsBoth w s returned → IsShallowlyViable seen
+  meets_shallow w p m = shallow_of seen m.rest m.says ((c.same any_encoding named_allowed m.rest m.says).1 m.document) ((p m.rest).1 m.character)
+
+shallow_viable : (seen : List ℕ) → IsShallowlyViable seen → IsViable seen
+shallow_viable seen v = record { rest = v.rest; whole = v.whole }
+
+-- which refusals a byte decides, where it isn't one too many
+module _ (limit : ℕ) (seen : List ℕ) (b : ℕ) (short : length seen < limit) where
+  least_deep : (other : TreeFault) → Decides limit seen b other → 1 ≤ rank other
+  least_deep faults.Memory d = absurd d
+  least_deep faults.Long d = absurd (omega arith)
+  least_deep (faults.Deep at) d = omega arith
+  least_deep (faults.Doctype at) d = omega arith
+  least_deep faults.Encoding d = omega arith
+  least_deep (faults.Malformed at) d = omega arith
+
+  least_doctype : (IsDeepAt seen b → ⊥) → (other : TreeFault) → Decides limit seen b other → 2 ≤ rank other
+  least_doctype n faults.Memory d = absurd d
+  least_doctype n faults.Long d = absurd (omega arith)
+  least_doctype n (faults.Deep at) d = absurd (n d.0)
+  least_doctype n (faults.Doctype at) d = omega arith
+  least_doctype n faults.Encoding d = omega arith
+  least_doctype n (faults.Malformed at) d = omega arith
+
+  least_encoding : (IsDeepAt seen b → ⊥) → (IsDoctypeAt seen b → ⊥) → (other : TreeFault) → Decides limit seen b other → 3 ≤ rank other
+  least_encoding n m faults.Memory d = absurd d
+  least_encoding n m faults.Long d = absurd (omega arith)
+  least_encoding n m (faults.Deep at) d = absurd (n d.0)
+  least_encoding n m (faults.Doctype at) d = absurd (m d.0)
+  least_encoding n m faults.Encoding d = omega arith
+  least_encoding n m (faults.Malformed at) d = omega arith
+
+  least_malformed : (IsDeepAt seen b → ⊥) → (IsShownAt seen b → ⊥) → (other : TreeFault) → Decides limit seen b other → 4 ≤ rank other
+  least_malformed n m faults.Memory d = absurd d
+  least_malformed n m faults.Long d = absurd (omega arith)
+  least_malformed n m (faults.Deep at) d = absurd (n d.0)
+  least_malformed n m (faults.Doctype at) d = absurd (m (inl d.0))
+  least_malformed n m faults.Encoding d = absurd (m (inr d))
+  least_malformed n m (faults.Malformed at) d = omega arith
+
+  none_decided : IsShallowlyViable (seen ++ (b ∷ [])) → (IsShownAt seen b → ⊥) → (other : TreeFault) → Decides limit seen b other → ⊥
+  none_decided v m faults.Memory d = d
+  none_decided v m faults.Long d = omega arith
+  none_decided v m (faults.Deep at) d = let h = d.0 in h.deep v
+  none_decided v m (faults.Doctype at) d = m (inl d.0)
+  none_decided v m faults.Encoding d = m (inr d)
+  none_decided v m (faults.Malformed at) d = let h = d.0 in h.none (shallow_viable (seen ++ (b ∷ [])) v)
+
+-- the byte that is refused is the last
+refused_last : (limit : ℕ) (seen : List ℕ) (b : ℕ) (fault : TreeFault) → IsClean limit seen → Decides limit seen b fault → ((other : TreeFault) → Decides limit seen b other → rank fault ≤ rank other) → IsRefusedIn limit (seen ++ (b ∷ [])) fault
+refused_last limit seen b fault c d l = record { seen = seen; byte = b; more = []; text = refl; clean = c; decides = d; least = l }
+
+-- bytes that come behind a refusal change nothing
+pub refused_more : (limit : ℕ) (bytes more : List ℕ) (fault : TreeFault) → IsRefusedIn limit bytes fault → IsRefusedIn limit (bytes ++ more) fault
+refused_more limit bytes more fault r = record {
+  seen = r.seen;
+  byte = r.byte;
+  more = r.more ++ more;
+  text = ap (λ z. z ++ more) r.text ∙ append_assoc r.seen (r.byte ∷ r.more) more;
+  clean = r.clean;
+  decides = r.decides;
+  least = r.least;
+}
+
+pub none_more : (limit : ℕ) (bytes more : List ℕ) → NoneBegins limit bytes → NoneBegins limit (bytes ++ more)
+none_more limit bytes more n = λ rest. subst (NoneWithin limit) (sym (append_assoc bytes more rest)) (n (more ++ rest))
+
+pub refused_on : (limit : ℕ) (bytes more : List ℕ) (fault : TreeFault) → Refused limit bytes fault → Refused limit (bytes ++ more) fault
+refused_on limit bytes more fault (inl e) = inl e
+refused_on limit bytes more fault (inr r) = inr (refused_more limit bytes more fault r.0, none_more limit bytes more r.1)
+
+-- a byte that decides nothing leaves the bytes clean
+last_longer : (bytes seen k more : List ℕ) (b byte : ℕ) → bytes ++ (b ∷ []) ≡ seen ++ (byte ∷ more) → seen ≡ bytes ++ (b ∷ k) → ⊥
+last_longer bytes seen k more b byte e f =
+    let p = ap length e in
+    let q = ap length f in
+    omega (arith, p, q, length-append bytes (b ∷ []), length-append seen (byte ∷ more), length-append bytes (b ∷ k))
+
+last_cases : (P : List ℕ → ℕ → Type 0) (bytes : List ℕ) (b : ℕ) (seen : List ℕ) (byte : ℕ) (more : List ℕ) → bytes ++ (b ∷ []) ≡ seen ++ (byte ∷ more) → ((k : List ℕ) → bytes ≡ seen ++ (byte ∷ k) → P seen byte) → P bytes b → Places bytes b seen byte → P seen byte
+last_cases P bytes b seen byte more e f p (same g h) = subst (λ z. P z byte) g (subst (P bytes) h p)
+last_cases P bytes b seen byte more e f p (before k g) = absurd (last_longer bytes seen k more b byte e g)
+last_cases P bytes b seen byte more e f p (behind k g) = f k g
+
+clean_on : (limit : ℕ) (bytes : List ℕ) (b : ℕ) → IsClean limit bytes → ((fault : TreeFault) → Decides limit bytes b fault → ⊥) → IsClean limit (bytes ++ (b ∷ []))
+clean_on limit bytes b c n seen byte more fault e d = last_cases (λ a z. Decides limit a z fault → ⊥) bytes b seen byte more e (λ k q. c seen byte k fault q) (n fault) (places bytes b [] seen byte more e) d
+
+pub clean_start : (limit : ℕ) → IsClean limit []
+clean_start limit [] byte more fault e d = cc
+clean_start limit (x ∷ seen) byte more fault e d = cc
+
+-- clean bytes aren't too many
+pub clean_short : (limit : ℕ) (bytes : List ℕ) → IsClean limit bytes → length bytes ≤ limit
+clean_short limit bytes c =
+    elim (cases_lt limit (length bytes)) [
+      | inl l ↦ absurd (c (take limit bytes) (get_or bytes limit 0) (drop (limit + 1) bytes) faults.Long (split_at bytes limit 0 l) (length-take-le limit bytes (omega arith)))
+      | inr k ↦ k
+    ]
+
+start_low : (c : ℕ) → IsNameStart c → c ≤ 122
+start_low c n = grind arith
+
+-- the first byte of an element's name isn't the first of all
+deep_some : (seen : List ℕ) (b : ℕ) → IsNameStart b → IsViable (seen ++ (b ∷ [])) → 1 ≤ length seen
+deep_some [] b n v =
+    let d : Document = v.whole.document in
+    let l = start_high b n in
+    let m = start_low b n in
+    let w : Whole (as_deep d) (normal_lines (b ∷ v.rest)) (document_marks d) = text_whole (b ∷ v.rest) v.whole in
+    let w2 : Whole (as_deep d) (b ∷ normal_lines v.rest) (document_marks d) = subst (λ z. Whole (as_deep d) z (document_marks d)) (plain_line false b v.rest (omega arith)) w in
+    absurd (marked_stuck (as_deep d) b (normal_lines v.rest) (document_marks d) (λ s. not_space b (omega arith) s) (λ e. omega arith) ((whole_plain (as_deep d) b (normal_lines v.rest) (document_marks d) (λ e. omega arith)).0 w2))
+deep_some (x ∷ seen) b n v = omega arith
+
+-- normal line ends make the bytes no more
+cond_short : (p q : Bool) (x y z : List ℕ) (n : ℕ) → length x ≤ n → length y ≤ n → length z ≤ n → length (cond p (cond q x y) z) ≤ n
+cond_short true true x y z n a b c = a
+cond_short true false x y z n a b c = b
+cond_short false q x y z n a b c = c
+
+lines_short : (bytes : List ℕ) → length (normal_lines bytes) ≤ length bytes
+lines_short [] = omega arith
+lines_short (c ∷ cs) = let h = lines_short cs in cond_short (c == 13) (begins_with_line_feed cs) (normal_lines cs) (10 ∷ normal_lines cs) (c ∷ normal_lines cs) (suc (length cs)) (omega arith) (omega arith) (omega arith)
+
+quote_no_letter : (b : ℕ) → IsQuote b → b ≡ 68 → ⊥
+quote_no_letter b q e = grind arith
+
+name_low : (b : ℕ) (x run later : List ℕ) → 128 ≤ b → IsQName run → b ∷ x ≡ run ++ later → ⊥
+name_low b x [] later l n e = n
+name_low b x (c ∷ cs) later l n e = let h : b ≡ c = cc in let k = start_low c n.0 in omega arith
+
+tag_first_low : (b : ℕ) (names : List (List ℕ)) (t : Terms) (x : List ℕ) (es : List Mark) → 128 ≤ b → TagFirst names t (b ∷ x) es → ⊥
+tag_first_low b names t x es l h = let r = h.rest in name_low b x r.run r.behind l r.is r.text
+
+-- Behind a `<` no character is cut.
+less_inside : (s : State) (returned : Bool) (rest : List ℕ) (says : List Mark) → s.place ≡ at.ContentLess → BeginsInside rest → Finishes s returned any_encoding rest says → ⊥
+less_inside s returned [] says e i h = i
+less_inside s returned (b ∷ rest) says e i h =
+    let l : 128 ≤ b = i in
+    let r : RestsAt s.place s any_encoding (b ∷ normal_lines rest) h.later = subst (λ z. RestsAt s.place s any_encoding z h.later) (plain_line returned b rest (omega arith)) h.rest in
+    let k : Insides 0 s.names any_encoding (60 ∷ b ∷ normal_lines rest) h.later = subst (λ z. RestsAt z s any_encoding (b ∷ normal_lines rest) h.later) e r in
+    let g : TagFirst s.names any_encoding (b ∷ normal_lines rest) h.later = content_tag any_encoding s.names b (normal_lines rest) h.later (λ q. omega arith) (λ q. omega arith) (λ q. omega arith) k in
+    tag_first_low b s.names any_encoding (normal_lines rest) h.later l g
+
+less_whole : (s : State) (returned : Bool) (w : Awaited) → s.place ≡ at.ContentLess → MeetsBoth w s returned → w ≡ awaits.First
+less_whole s returned w e m = elim (first_or_inside w m.rest m.character) [ inl q ↦ q | inr i ↦ absurd (less_inside s returned m.rest m.says e i m.document) ]
+
+-- behind the quote of an encoding that isn't read goes a document of a small depth
+low_quote : (b : ℕ) → IsQuote b → b < 128
+low_quote b (inl e) = omega arith
+low_quote b (inr e) = omega arith
+
+-- what ends a declaration, and a small root
+small_text : IsXmlText (codes "?><a/>")
+unfolding encode_utf8
+small_text = record { characters = codes "?><a/>"; each = (low_char 63 (omega arith) (omega arith), (low_char 62 (omega arith) (omega arith), (low_char 60 (omega arith) (omega arith), (low_char 97 (omega arith) (omega arith), (low_char 47 (omega arith) (omega arith), (low_char 62 (omega arith) (omega arith), tt)))))); encoded = refl }
+
+quote_text : (b : ℕ) → IsQuote b → IsXmlText (b ∷ codes "?><a/>")
+quote_text b q = let l = low_quote b q in let h = quote_high b q in (first_one b (low_char b (omega arith) (omega arith)) l (codes "?><a/>")).1 small_text
+
+quote_first : (w : Awaited) (b : ℕ) (rest : List ℕ) → IsQuote b → CharacterRest w (b ∷ rest) → w ≡ awaits.First
+quote_first w b rest q h = let l = low_quote b q in elim (first_or_inside w (b ∷ rest) h) [ inl e ↦ e | inr i ↦ (let k : 128 ≤ b = i in absurd (omega arith)) ]
+
+other_shallow : (s : State) (returned : Bool) (seen : List ℕ) → Continues s returned seen → (b : ℕ) → IsOther s b → IsEncodingAt seen b → (w : Awaited) → Spells w seen → IsViable (seen ++ (b ∷ [])) → IsShallowlyViable (seen ++ (b ∷ []))
+other_shallow s returned seen c b o e w p v =
+    let inside : CharacterRest w (b ∷ v.rest) = (p (b ∷ v.rest)).0 (subst IsXmlText (behind_one seen b v.rest) v.whole.characters) in
+    let first : w ≡ awaits.First = quote_first w b v.rest e.quoted inside in
+    let text : IsXmlText (seen ++ (b ∷ codes "?><a/>")) = (p (b ∷ codes "?><a/>")).1 (subst (λ z. CharacterRest z (b ∷ codes "?><a/>")) (sym first) (quote_text b e.quoted)) in
+    let g = encoding_goes s returned seen b o c in
+    let back : seen ++ (b ∷ codes "?><a/>") ≡ (seen ++ (b ∷ [])) ++ codes "?><a/>" = sym (behind_one seen b (codes "?><a/>")) in
+    shallow_of (seen ++ (b ∷ [])) (codes "?><a/>") g.0 (subst (λ z. Whole any_encoding (normal_lines z) g.0) back g.1) (subst IsXmlText back text)
+
+-- what decides a refusal with the byte, and what stands behind it is none
+module _ (f : Feeding) (bytes : List ℕ) (b : ℕ) (t : IsTaken f bytes) where
+  abbrev now : List ℕ
+  now = bytes ++ (b ∷ [])
+
+  blocks_begin : BlocksHere f.state f.returned b → NoneBegins f.limit now
+  blocks_begin n = λ more. none_refuses f.limit (now ++ more) (continues_blocked f.state f.returned bytes b more (now ++ more) (behind_one bytes b more) t.continues n)
+
+  pub long_refused : f.limit ≤ f.count → Refused f.limit now faults.Long
+  long_refused l =
+      let n = t.counted in
+      let m = clean_short f.limit bytes t.clean in
+      inr (
+        refused_last f.limit bytes b faults.Long t.clean (omega arith) (λ other d. omega arith),
+        λ more. long_refuses f.limit (now ++ more) (λ k. omega (arith, length-append bytes (b ∷ []), length-append now more)),
+      )
+
+  module _ (short : f.count < f.limit) where
+    fits : length bytes < f.limit
+    fits = let n = t.counted in omega arith
+
+    deep_whole : IsDeep f.state b → f.awaited ≡ awaits.First
+    deep_whole d = less_whole f.state f.returned f.awaited d.0 t.meets
+
+    pub deep_refused : (place : ℕ) → place ≡ f.count - 1 → IsDeep f.state b → Refused f.limit now (faults.Deep place)
+    deep_refused place e d =
+        let text : IsXmlText bytes = spells_whole f.awaited bytes (deep_whole d) t.spells in
+        let is_deep : IsDeepAt bytes b = deep f.state f.returned bytes b t.continues text d in
+        let n = t.counted in
+        let some = deep_some bytes b d.2 is_deep.viable in
+        inr (
+          refused_last f.limit bytes b (faults.Deep place) t.clean (is_deep, omega arith) (least_deep f.limit bytes b fits),
+          blocks_begin (deep_blocks f.state f.returned b d),
+        )
+
+    pub doctype_refused : (place : ℕ) → place ≡ f.count - 2 → IsDoctype f.state b → Refused f.limit now (faults.Doctype place)
+    doctype_refused place e d =
+        let type : IsDoctypeAt bytes b = doctype_at f.state f.returned bytes b d t.continues in
+        let n = t.counted in
+        let some = doctype_long bytes b type in
+        let less = lines_short bytes in
+        let none : IsDeepAt bytes b → ⊥ = λ h. doctype_none f.state f.returned bytes t.continues b d h.viable in
+        inr (
+          refused_last f.limit bytes b (faults.Doctype place) t.clean (type, omega arith) (least_doctype f.limit bytes b fits none),
+          blocks_begin (doctype_blocks f.state f.returned b d),
+        )
+
+    pub encoding_refused : IsOther f.state b → Refused f.limit now faults.Encoding
+    encoding_refused o =
+        let encoding : IsEncodingAt bytes b = encoding_at f.state f.returned bytes b o t.continues in
+        let none : IsDeepAt bytes b → ⊥ = λ h. h.deep (other_shallow f.state f.returned bytes t.continues b o encoding f.awaited t.spells h.viable) in
+        inr (
+          refused_last f.limit bytes b faults.Encoding t.clean encoding (least_encoding f.limit bytes b fits none (λ h. quote_no_letter b encoding.quoted h.letter)),
+          blocks_begin (other_blocks f.state f.returned b o t.continues.good),
+        )
+
+    -- where no document goes on with the byte
+    malformed : (IsViable now → ⊥) → (IsShownAt bytes b → ⊥) → NoneBegins f.limit now → Refused f.limit now (faults.Malformed f.count)
+    malformed none plain never =
+        let n = t.counted in
+        let shallow : IsShallowlyViable bytes = meets_shallow f.state f.returned bytes t.continues f.awaited t.spells t.meets in
+        let bad : IsMalformedAt bytes b = record { before = shallow_viable bytes shallow; none = none } in
+        inr (refused_last f.limit bytes b (faults.Malformed f.count) t.clean (bad, omega arith) (least_malformed f.limit bytes b fits (λ h. none h.viable) plain), never)
+
+    pub blocked_refused : Blocks f.state f.returned b → Refused f.limit now (faults.Malformed f.count)
+    blocked_refused n = malformed (blocked_none f.state f.returned bytes t.continues b n) (refused_plain f.state f.returned bytes b t.continues n) (blocks_begin (λ rest says h. n bounds allowed rest says h))
+
+    pub character_refused : (s : State) (returns : Bool) → PassesByte f.state f.returned b s returns → CharacterStuck f.awaited b → Refused f.limit now (faults.Malformed f.count)
+    character_refused s returns p n =
+        let never : (more : List ℕ) → IsXmlText (now ++ more) → ⊥ = λ more i. n more ((t.spells (b ∷ more)).0 (subst IsXmlText (behind_one bytes b more) i)) in
+        malformed (λ v. never v.rest v.whole.characters) (taken_plain s returns bytes b (continues_on f.state f.returned bytes b s returns t.continues p)) (λ more. text_refuses f.limit (now ++ more) (never more))
+
+    pub taken : (new : Feeding) → PassesByte f.state f.returned b new.state new.returned → CharacterFollows f.awaited b new.awaited → new.count ≡ f.count + 1 → new.limit ≡ f.limit → IsTaken new now
+    taken new p c count limit =
+        let on : Continues new.state new.returned now = continues_on f.state f.returned bytes b new.state new.returned t.continues p in
+        let spells : Spells new.awaited now = spells_on f.awaited new.awaited bytes b t.spells c in
+        let meets : MeetsBoth new.awaited new.state new.returned = fed_on f.state f.returned f.awaited bytes b new.state new.returned new.awaited t.continues t.spells t.meets p c in
+        let n = t.counted in
+        record {
+          continues = on;
+          spells = spells;
+          meets = meets;
+          counted = omega (arith, length-append bytes (b ∷ []));
+          clean = subst (λ z. IsClean z now) (sym limit) (clean_on f.limit bytes b t.clean (none_decided f.limit bytes b fits (meets_shallow new.state new.returned now on new.awaited spells meets) (taken_plain new.state new.returned bytes b on)));
+        }

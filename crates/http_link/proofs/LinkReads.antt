@@ -1,0 +1,98 @@
+-- What reads one after another took.
+use Rattle.std.proofs.Common.{◌≡◌, ◌≢◌, ℕ, ◌≤◌, List, [], ◌∷◌, ◌++◌, length, take, drop, get_or, arith, Option, Some, None, refl, sym, ◌∙◌, ap, subst, append_assoc}
+use Rattle.std.specs.Prelude.{⊤}
+use Rattle.std.proofs.lemmas.List.{take-append-drop, length-take}
+use Rattle.os_io.specs.Streams.{BothTold, Takes}
+use Rattle.http_link.specs.Requests.{LosesPiece}
+
+-- nothing was taken yet
+pub took_none : (x : Option (List ℕ)) → BothTold x x (λ before after. before ≡ [] ++ after)
+took_none None = tt
+took_none (Some x) = refl
+
+single : (buffer : List ℕ) (n : ℕ) → length buffer ≡ 1 → n ≤ 1 → n ≢ 0 → take n buffer ≡ get_or buffer 0 0 ∷ []
+single [] n size most some = absurd (omega arith)
+single (b ∷ []) n size most some =
+    let one : n ≡ 1 = omega (arith, most, some) in ap (λ k. take k (b ∷ [])) one
+single (b ∷ (c ∷ buffer)) n size most some = absurd (omega arith)
+
+-- a read of one byte
+pub took_byte : (x y : Option (List ℕ)) (buffer : List ℕ) (n : ℕ) → length buffer ≡ 1 → n ≤ 1 → n ≢ 0
+    → BothTold x y (Takes buffer n) → BothTold x y (λ before after. before ≡ get_or buffer 0 0 ∷ after)
+took_byte None y buffer n size most some q = tt
+took_byte (Some x) None buffer n size most some q = absurd q
+took_byte (Some x) (Some y) buffer n size most some q =
+    sym (take-append-drop n x) ∙ (λ i. sym q.0 i ++ sym q.1 i) ∙ ap (λ s. s ++ y) (single buffer n size most some)
+
+-- the end of the input
+pub took_end : (x y : Option (List ℕ)) (buffer : List ℕ) (n : ℕ) → n ≡ 0 → BothTold x y (Takes buffer n)
+    → BothTold x y (λ before after. before ≡ []) → BothTold x y (λ before after. (before ≡ []) × (after ≡ []))
+took_end None y buffer n none q end = tt
+took_end (Some x) None buffer n none q end = absurd q
+took_end (Some x) (Some y) buffer n none q end = (end, q.1 ∙ ap (λ k. drop k x) none ∙ end)
+
+-- one byte after those before it
+pub took_more : (x y z : Option (List ℕ)) (taken : List ℕ) (b : ℕ)
+    → BothTold x y (λ before after. before ≡ taken ++ after) → BothTold y z (λ before after. before ≡ b ∷ after)
+    → BothTold x z (λ before after. before ≡ (taken ++ b ∷ []) ++ after)
+took_more None y z taken b p q = tt
+took_more (Some x) None z taken b p q = absurd p
+took_more (Some x) (Some y) None taken b p q = absurd q
+took_more (Some x) (Some y) (Some z) taken b p q =
+    p ∙ ap (λ s. taken ++ s) q ∙ sym (append_assoc taken (b ∷ []) z)
+
+-- a piece of the input, which is empty at its end alone
+pub took_piece : (x y : Option (List ℕ)) (buffer : List ℕ) (n : ℕ) → BothTold x y (Takes buffer n)
+    → (n ≡ 0 → BothTold x y (λ before after. before ≡ []))
+    → BothTold x y (λ before after. (before ≡ take n buffer ++ after) × (n ≡ 0 → after ≡ []))
+took_piece None y buffer n q end = tt
+took_piece (Some x) None buffer n q end = absurd q
+took_piece (Some x) (Some y) buffer n q end = (
+  sym (take-append-drop n x) ∙ (λ i. sym q.0 i ++ sym q.1 i),
+  λ none. q.1 ∙ ap (λ k. drop k x) none ∙ end none,
+)
+
+-- the same bytes, and a fact of the rest
+pub took_with : (x y : Option (List ℕ)) (taken : List ℕ) → BothTold x y (λ before after. before ≡ taken ++ after)
+    → BothTold x y (λ before after. (before ≡ taken ++ after) × ⊤)
+took_with None y taken p = tt
+took_with (Some x) None taken p = absurd p
+took_with (Some x) (Some y) taken p = (p, tt)
+
+-- the input ended
+pub took_all : (x y z : Option (List ℕ)) (taken : List ℕ) → BothTold x y (λ before after. before ≡ taken ++ after)
+    → BothTold y z (λ before after. (before ≡ []) × (after ≡ []))
+    → BothTold x z (λ before after. (before ≡ taken ++ after) × (after ≡ []))
+took_all None y z taken p end = tt
+took_all (Some x) None z taken p end = absurd p
+took_all (Some x) (Some y) None taken p end = absurd end
+took_all (Some x) (Some y) (Some z) taken p end =
+    (p ∙ ap (λ s. taken ++ s) (end.0 ∙ sym end.1), end.1)
+
+-- nothing more was taken
+pub took_same : (x y z : Option (List ℕ)) (taken : List ℕ) → BothTold x y (λ before after. before ≡ taken ++ after)
+    → z ≡ y → BothTold x z (λ before after. (before ≡ taken ++ after) × ⊤)
+took_same x y z taken p same = took_with x z taken (subst (λ (w : Option (List ℕ)). BothTold x w (λ before after. before ≡ taken ++ after)) (sym same) p)
+
+-- one reading after another
+pub took_both : (x y z : Option (List ℕ)) (first second : List ℕ) (P Q : List ℕ → Type 0)
+    → BothTold x y (λ before after. (before ≡ first ++ after) × P after)
+    → BothTold y z (λ before after. (before ≡ second ++ after) × Q after)
+    → BothTold x z (λ before after. (before ≡ (first ++ second) ++ after) × Q after)
+took_both None y z first second P Q p q = tt
+took_both (Some x) None z first second P Q p q = absurd p
+took_both (Some x) (Some y) None first second P Q p q = absurd q
+took_both (Some x) (Some y) (Some z) first second P Q p q =
+    (p.0 ∙ ap (λ s. first ++ s) q.0 ∙ sym (append_assoc first second z), q.1)
+
+took_lost : (x y : Option (List ℕ)) (buffer : List ℕ) (n : ℕ) → BothTold x y (Takes buffer n)
+    → BothTold x y (λ before after. (before ≡ take n buffer ++ after) × ⊤)
+took_lost None y buffer n q = tt
+took_lost (Some x) None buffer n q = absurd q
+took_lost (Some x) (Some y) buffer n q = (sym (take-append-drop n x) ∙ (λ i. sym q.0 i ++ sym q.1 i), tt)
+
+-- a piece of the input, of no more bytes than so many
+pub lost_piece : (x y : Option (List ℕ)) (buffer : List ℕ) (n most : ℕ) → n ≤ most → BothTold x y (Takes buffer n)
+    → LosesPiece x y most
+lost_piece x y buffer n most fits q =
+    (take n buffer, omega (arith, fits, length-take n buffer), took_lost x y buffer n q)

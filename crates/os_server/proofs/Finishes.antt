@@ -1,0 +1,52 @@
+-- The finishes of a conversation are kept.
+use Rattle.std.proofs.Common.{◌≡◌, ℕ, Bool, true, false, List, [], ◌++◌, Option, Some, refl, sym, subst, append_assoc}
+use Rattle.std.proofs.lemmas.List.Elements.{All-nil, All-cons, All-append}
+use Rattle.job_table.specs.declared.job.Job.{Job}
+use Rattle.job_table.specs.declared.calls.Call.{Call}
+use Rattle.job_table.specs.declared.calls.Call.TheVariants as calls
+use Rattle.job_table.specs.declared.calls.Reply as tables
+use Rattle.job_table.specs.declared.calls.Reply.TheVariants as reply
+use Rattle.job_table.specs.Jobs.{Register, empty}
+use Rattle.job_table.specs.History.{Entry, entry_of_move, LeadsStepwise, IsGiving}
+use Rattle.job_runs.specs.Laws.{kept_if_finish, IsFinishKept, AreKept, RunsAreKept}
+use Rattle.job_runs.proofs.Histories.{runs_split}
+use Rattle.os_server.specs.declared.serve.Served.{Served}
+use Rattle.os_server.specs.Talk.{Part, Talk}
+use Rattle.os_server.proofs.Pieces.{Made, Wakes, is_plain, Builds, talk_so}
+
+abbrev Right : Type 1
+Right = List ℕ → List ℕ → Bool → Option (List ℕ) → Type 0
+
+false_is_not : false ≡ true → ⊥
+false_is_not e = cc
+
+plain_kept : (call : Call) (said : tables.Reply) → is_plain call said ≡ true → kept_if_finish call said ≡ true
+plain_kept (calls.Finish j asked document) said plain = absurd (false_is_not plain)
+plain_kept call said plain = refl
+
+given_kept : (call : Call) (j : Job) → IsGiving call → kept_if_finish call (reply.Gave (Some j)) ≡ true
+given_kept (calls.Enter o p) j giving = refl
+given_kept (calls.Claim worker) j giving = refl
+given_kept call j giving = absurd giving
+
+module _ (made : Made) (right : Right) (law : RunsAreKept made right) where
+  -- these calls are kept wherever they stand in a history
+  abbrev Keeps : List Entry → Type 0
+  Keeps own = (before : List Entry) (now : Register) → LeadsStepwise right empty (before ++ own) now → AreKept own
+
+  both_kept : (a b : List Entry) → Keeps a → Keeps b → Keeps (a ++ b)
+  both_kept a b p q before now runs =
+      let whole : LeadsStepwise right empty ((before ++ a) ++ b) now = subst (λ (es : List Entry). LeadsStepwise right empty es now) (sym (append_assoc before a b)) runs in
+      let found = runs_split right empty now (before ++ a) b whole in All-append IsFinishKept a b (p before found.0 found.1) (q (before ++ a) now whole)
+
+  keeps : Builds made Keeps
+  keeps = record {
+    none = λ before now runs. All-nil IsFinishKept;
+    both = both_kept;
+    plain = λ call said plain before now runs. All-cons IsFinishKept (entry_of_move call said) [] (plain_kept call said plain) (All-nil IsFinishKept);
+    given = λ j call run giving is_run before now runs. All-cons IsFinishKept (entry_of_move call (reply.Gave (Some j))) run (given_kept call j giving) (law j call before run now giving is_run runs);
+  }
+
+  -- every finish of a conversation
+  pub talk_kept : (wakes : Wakes) (end : Served) (A : Type 0) (p : Part) → Talk made wakes end A p → Keeps p.entries
+  talk_kept wakes end A p t = talk_so made Keeps keeps wakes end A p t

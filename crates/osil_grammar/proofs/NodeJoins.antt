@@ -1,0 +1,57 @@
+-- The nodes of one variable, row, cost, index or value may stand before those of the rest.
+use Rattle.std.proofs.Common.{◌≡◌, ◌∙◌, ℕ, List, [], map, ap, sym, refl, inl, inr}
+use Rattle.std.specs.Prelude.{codes}
+use Rattle.std.specs.Fmt.{decimal}
+use Rattle.tree_grammar.specs.Elements.{Attribute, Nodes, none, element, chars, Event, nodes_events}
+use Rattle.fraction.specs.declared.ends.Entry.{Entry}
+use Rattle.document_tags.specs.Writing.{with_attribute}
+use Rattle.osil_grammar.specs.Writing.{WriteVars, WriteRows, WriteCosts, WriteValues, counts_nodes, type_text}
+use Rattle.osil_grammar.proofs.Tellings.{CanJoin}
+
+-- a single element, and then the rest
+single_before : (name : List ℕ) (attributes : List Attribute) (children rest first end : Nodes) → end ≡ none → first ≡ element name attributes children end → (k : List Event) → nodes_events (element name attributes children rest) k ≡ nodes_events first (nodes_events rest k)
+single_before name attributes children rest first end last is k = ap (λ (n : Nodes). nodes_events n (nodes_events rest k)) (sym (is ∙ ap (λ (n : Nodes). element name attributes children n) last))
+
+pub vars_join : CanJoin (λ i. WriteVars)
+vars_join i v vs first rest one more = record {
+  nodes = element (codes "var") (with_attribute (codes "type") (type_text v.whole) (with_attribute (codes "lb") one.0 (with_attribute (codes "ub") one.1 []))) none rest;
+  writes = (one.0, one.1, rest, one.3, one.4, more, refl);
+  same = single_before (codes "var") (with_attribute (codes "type") (type_text v.whole) (with_attribute (codes "lb") one.0 (with_attribute (codes "ub") one.1 []))) none rest first one.2 one.5 one.6;
+}
+
+pub rows_join : CanJoin (λ i. WriteRows)
+rows_join i r rs first rest one more = record {
+  nodes = element (codes "con") (with_attribute (codes "lb") one.0 (with_attribute (codes "ub") one.1 [])) none rest;
+  writes = (one.0, one.1, rest, one.3, one.4, more, refl);
+  same = single_before (codes "con") (with_attribute (codes "lb") one.0 (with_attribute (codes "ub") one.1 [])) none rest first one.2 one.5 one.6;
+}
+
+pub costs_join : CanJoin WriteCosts
+costs_join i c cs first rest (inl zero_cost) more = record {
+  nodes = rest;
+  writes = inl (zero_cost.0, more);
+  same = λ k. ap (λ (n : Nodes). nodes_events n (nodes_events rest k)) (sym zero_cost.1);
+}
+costs_join i c cs first rest (inr one) more = record {
+  nodes = element (codes "coef") (with_attribute (codes "idx") (decimal i) []) (chars one.1 none) rest;
+  writes = inr (one.0, one.1, rest, one.3, more, refl);
+  same = single_before (codes "coef") (with_attribute (codes "idx") (decimal i) []) (chars one.1 none) rest first one.2 one.4 one.5;
+}
+
+pub values_join : CanJoin (λ i. WriteValues)
+values_join i e es first rest one more = record {
+  nodes = element (codes "el") [] (chars one.0 none) rest;
+  writes = (one.0, rest, one.2, more, refl);
+  same = single_before (codes "el") [] (chars one.0 none) rest first one.1 one.3 one.4;
+}
+
+-- the columns of these entries
+abbrev pub WriteColumns : ℕ → List Entry → Nodes → Type 0
+WriteColumns i es nodes = nodes ≡ counts_nodes (map (λ e. e.col) es)
+
+pub columns_join : CanJoin WriteColumns
+columns_join i e es first rest one more = record {
+  nodes = element (codes "el") [] (chars (decimal e.col) none) rest;
+  writes = ap (λ (n : Nodes). element (codes "el") [] (chars (decimal e.col) none) n) more;
+  same = single_before (codes "el") [] (chars (decimal e.col) none) rest first none refl one;
+}

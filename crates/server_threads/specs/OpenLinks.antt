@@ -1,0 +1,166 @@
+-- Seats that are out, and links that are being served.
+use Rattle.std.specs.Prelude.{◌≡◌, ℕ, ◌+◌, ◌<◌, ◌≤◌, ◌^◌, Bool, List, [], ◌∷◌, ◌++◌, length, map, Option, Result, Ok, Err}
+use Rattle.std.specs.VecDeque.{deque_len, deque_capacity}
+use Rattle.atomic_table.specs.Seated.{TableId}
+use Rattle.job_table.specs.History.{Entry as Said}
+use Rattle.os_io.specs.Streams.{Tells, HasRisen}
+use Rattle.os_io.specs.Links.{NetTells}
+use Rattle.desk.specs.declared.view.Entry.{Entry}
+use Rattle.desk.specs.declared.view.Met.{Met}
+use Rattle.desk.specs.declared.view.View.{View}
+use Rattle.desk.specs.History.{StartsWith}
+use Rattle.desk.specs.Rule.{HasMet}
+use Rattle.desk.specs.SeatMoves.{desk_id, IsSeatOf}
+use Rattle.server_threads.specs.declared.means.Limits.{Limits}
+use Rattle.server_threads.specs.declared.means.Means.{Means}
+use Rattle.server_threads.specs.declared.means.Room.{Room}
+use Rattle.server_threads.specs.declared.means.ServeFault.{ServeFault}
+use Rattle.server_threads.specs.declared.means.ServeFault.TheVariants.{Failed}
+use Rattle.server_threads.specs.declared.links.Before.{Before}
+use Rattle.server_threads.specs.declared.links.Running.{Running}
+use Rattle.server_threads.specs.declared.places.Place.{Place}
+use Rattle.server_threads.specs.declared.promise.Finished.{Finished}
+use Rattle.server_threads.specs.declared.promise.ToServe.{ToServe}
+use Rattle.server_threads.specs.declared.promise.ToWork.{ToWork}
+use Rattle.server_threads.specs.Talks.{DeskSeat, LinkTalk, Shift, talk_met, shift_met, short_of, Came, GivenBack, AllTalked, AllWorked, IsShift, Acts}
+use Rattle.server_threads.specs.Promises.{promise_of, AllDue}
+use Rattle.server_threads.specs.Serving.{Stand, stand, MayTake, Opens, AtOnce, EndsServing}
+
+-- each seat is one of the desk's, had made no call when it was split off, and has the next number
+abbrev pub AllOut : {J : Type 0} → TableId → ℕ → List (DeskSeat J) → Type 0
+AllOut desk n [] = Unit {0}
+AllOut desk n (s ∷ ss) = (s.table_id ≡ desk) × (s.me.0.number ≡ n) × (s.me.0.mine ≡ []) × AllOut desk (n + 1) ss
+
+-- each was split off for the next link, where as much had been seen as it knows
+abbrev pub AllOpen : {J : Type 0} → (servers : ℕ) → List Entry → List LinkTalk → ℕ → List (DeskSeat J) → Type 0
+AllOpen servers log talks j [] = Unit {0}
+AllOpen servers log talks j (s ∷ ss) = Opens servers log talks j s.me.0.number s.me.0.seen × AllOpen servers log talks (j + 1) ss
+
+-- the first seat met these seats, and split off as many and those that are out, whose numbers begin with this one
+pub record KeepsSeats {J : Type 0} (desk : TableId) (v w : View) (met : List Met) (n : ℕ) (out : List (DeskSeat J)) : Type 0 where
+  pub first : w.number ≡ 0
+  pub number : w.number ≡ v.number
+  pub met_is : w.met ≡ v.met ++ met
+  pub given : w.given ≡ v.given + (length met + length out)
+  pub waits : AllOut desk n out
+  pub mine : w.mine ≡ v.mine
+  pub seen : StartsWith w.seen v.seen
+  pub known : HasMet w.seen met
+
+-- what is done for a link
+abbrev pub Conversing : Type 0 → Type 0 → Type 0 → Type 0 → Type 0
+Conversing J L S B = Place (Finished (DeskSeat J) L) (ToServe J L S B)
+
+module _ {J L S B : Type 0} where
+  abbrev pub promised : Conversing J L S B → ToServe J L S B
+  promised place = promise_of {P = ToServe J L S B} place
+
+  abbrev pub seats_out : List (Conversing J L S B) → List (DeskSeat J)
+  seats_out places = map (λ place. (promised place).seat.value) places
+
+  module _ (right : List ℕ → List ℕ → Bool → Option (List ℕ) → Type 0) (talked : Tells → List Said → Tells → Bool → Type 0) (tells : L → Tells) where
+    abbrev pub links_out : List (Conversing J L S B) → List Tells
+    links_out places = map (λ place. tells (promised place).link.value) places
+
+    -- a link was served as was promised
+    abbrev pub served_so : ToServe J L S B → Finished (DeskSeat J) L → Type 0
+    served_so p r = Acts right (λ said. talked (tells p.link.value) said (tells r.link) r.short) p.seat.value r.seat
+
+    -- links came; those that were served were given back, in order, and the later ones are being served
+    pub record Going (servers : ℕ) (desk : TableId) (old new : Stand) (short : ℕ) (places : List (Conversing J L S B)) : Type 0 where
+      pub talks : List LinkTalk
+      pub keeps : KeepsSeats desk old.view new.view (map talk_met talks) (old.view.given + length talks) (seats_out places)
+      pub due : AllDue served_so places
+      pub few : length places ≤ servers
+      pub waits : AllOpen servers new.view.seen talks (length talks) (seats_out places)
+      pub at_once : AtOnce servers new.view.seen talks
+      pub all_talked : AllTalked talked old.view.given talks
+      pub came : Came old.coming new.coming (map (λ t. t.came) talks ++ links_out places)
+      pub back : GivenBack old.given_back new.given_back (map (λ t. t.back) talks)
+      pub reached : new.reached ≡ old.reached
+      pub shorts : short ≡ short_of talks
+
+    -- what holds of the first seat and of the listener while links are being served by these means
+    pub record Goes {N R : Type 0} (net_tells : N → NetTells) (means : Means J R S) (before : Before J N) (seat : DeskSeat J) (net : N) (running : Running J L S B) : Type 0 where
+      pub seat_is : IsSeatOf (desk_id means.desk.now) seat
+      pub few : seat.me.0.given ≤ before.seat.value.me.0.given + 2 ^ 32
+      pub going : Going means.limits.servers (desk_id means.desk.now) (stand net_tells before.seat.value before.net.value) (stand net_tells seat net) running.short running.places.items
+
+-- links came, were served, each by a seat of its own, and were given back, so that none is being served any more
+pub record LinksServed (talked : Tells → List Said → Tells → Bool → Type 0) (servers : ℕ) (old new : Stand) : Type 0 where
+  pub talks : List LinkTalk
+  pub all_talked : AllTalked talked old.view.given talks
+  pub at_once : AtOnce servers new.view.seen talks
+  pub came : Came old.coming new.coming (map (λ t. t.came) talks)
+  pub back : GivenBack old.given_back new.given_back (map (λ t. t.back) talks)
+  pub reached : new.reached ≡ old.reached
+  pub number : new.view.number ≡ old.view.number
+  pub met : new.view.met ≡ old.view.met ++ map talk_met talks
+  pub given : new.view.given ≡ old.view.given + length talks
+  pub mine : new.view.mine ≡ old.view.mine
+  pub seen : StartsWith new.view.seen old.view.seen
+  pub known : HasMet new.view.seen (map talk_met talks)
+
+-- links were served beside the workers: from this seat and listener to those, with this answer
+abbrev pub HasServedLinks : {J N : Type 0} → (talked : Tells → List Said → Tells → Bool → Type 0) → (N → NetTells) → Limits → (seat seat' : DeskSeat J) → (net net' : N) → Result ℕ ServeFault → Type 0
+HasServedLinks talked tells limits seat seat' net net' answer =
+    (o : LinksServed talked limits.servers (stand tells seat net) (stand tells seat' net')) × EndsServing answer limits.connections o.talks (tells net).faults (tells net').faults
+
+-- there is room for as many links and workers as these limits say
+pub record MayServe {J L S : Type 0} (limits : Limits) (room : Room J L S) : Type 0 where
+  pub may : MayTake limits room.running
+  pub none : room.shifts.items ≡ []
+  pub empty : deque_len room.shifts ≡ 0
+  pub room_is : limits.workers ≤ deque_capacity room.shifts
+
+-- so many seats more were split off, one for each link that came; or fewer, where the listener failed
+abbrev pub CameSo : {X E : Type 0} → Result X E → (connections seats seats' faults faults' : ℕ) → Type 0
+CameSo (Ok x) connections seats seats' faults faults' = (seats' ≡ seats + connections) × (faults' ≡ faults)
+CameSo (Err e) connections seats seats' faults faults' = (seats' < seats + connections) × HasRisen faults faults'
+
+-- what is answered where room was found
+abbrev pub served_result : {X E : Type 0} → Result X E → ℕ → Result ℕ ServeFault
+served_result (Ok x) short = Ok short
+served_result (Err e) short = Err Failed
+
+-- what is done by a worker
+abbrev pub Working : Type 0 → Type 0 → Type 0
+Working J S = Place (DeskSeat J) (ToWork J S)
+
+module _ {J S : Type 0} where
+  abbrev pub shift_promised : Working J S → ToWork J S
+  shift_promised place = promise_of {P = ToWork J S} place
+
+  abbrev pub workers_out : List (Working J S) → List (DeskSeat J)
+  workers_out places = map (λ place. (shift_promised place).seat.value) places
+
+  module _ (right : List ℕ → List ℕ → Bool → Option (List ℕ) → Type 0) (made : List ℕ → List ℕ → List Bool → Option (List ℕ) → Type 0) where
+    -- a worker worked as was promised
+    abbrev pub worked_so : ToWork J S → DeskSeat J → Type 0
+    worked_so p seat = Acts right (IsShift made) p.seat.value seat
+
+    -- so many workers came, and are at work
+    pub record Hired (desk : TableId) (v w : View) (count : ℕ) (places : List (Working J S)) : Type 0 where
+      pub keeps : KeepsSeats desk v w [] v.given (workers_out places)
+      pub due : AllDue worked_so places
+      pub counted : length places ≡ count
+
+    -- so many workers came, of whom some have left and were met behind other seats, and the others are at work
+    pub record Staffed (desk : TableId) (v w : View) (count : ℕ) (met : List Met) (places : List (Working J S)) : Type 0 where
+      pub shifts : List Shift
+      pub keeps : KeepsSeats desk v w (met ++ map shift_met shifts) (v.given + length shifts) (workers_out places)
+      pub due : AllDue worked_so places
+      pub worked : AllWorked made v.given shifts
+      pub counted : length shifts + length places ≡ count
+
+-- so many workers came, were met behind other seats, and have left
+pub record HaveLeft (made : List ℕ → List ℕ → List Bool → Option (List ℕ) → Type 0) (v w : View) (count : ℕ) (met : List Met) : Type 0 where
+  pub shifts : List Shift
+  pub worked : AllWorked made v.given shifts
+  pub counted : length shifts ≡ count
+  pub number : w.number ≡ v.number
+  pub met_is : w.met ≡ v.met ++ (met ++ map shift_met shifts)
+  pub given : w.given ≡ v.given + (length met + length shifts)
+  pub mine : w.mine ≡ v.mine
+  pub seen : StartsWith w.seen v.seen
+  pub known : HasMet w.seen (met ++ map shift_met shifts)

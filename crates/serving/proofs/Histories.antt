@@ -1,0 +1,255 @@
+-- What a desk's history is behind the serving of links.
+use mathlib.Core.Option.{some, some-injective, some-ne-none}
+use lib.ListN.{get_elem?}
+use Rattle.std.proofs.Common.{◌≡◌, ◌≢◌, ℕ, zero, suc, ◌+◌, eqb, eq-eqb, eqb-true, Bool, true, false, length, List, [], ◌∷◌, ◌++◌, map, Option, None, Some, Result, refl, sym, ◌∙◌, ap, subst, inl, inr, ⊎_elim, append-nil, arith}
+use Rattle.std.specs.Prelude.{◌⊎◌, All}
+use Rattle.std.proofs.lemmas.List.Elements.{All-nil, All-cons, All-append, All-head, All-tail}
+use Rattle.os_io.specs.Streams.{Tells}
+use Rattle.os_io.specs.Links.{NetTells, SameLinks}
+use Rattle.job_table.specs.declared.calls.Call.TheVariants.{Retrieve}
+use Rattle.job_table.specs.declared.calls.Retrieved.TheVariants as shown
+use Rattle.job_table.specs.declared.calls.Reply.TheVariants as reply
+use Rattle.job_table.specs.Jobs.{Register, empty, waiting_jobs}
+use Rattle.job_table.specs.History.{Entry as Said, entry_of_move, LeadsStepwise}
+use Rattle.job_table.specs.Laws.{FirstFinishIsKept, NumbersAreGivenOnce}
+use Rattle.job_runs.specs.Laws.{IsFinishKept}
+use Rattle.desk.specs.declared.view.Entry.{Entry}
+use Rattle.desk.specs.declared.view.Met.{Met}
+use Rattle.desk.specs.declared.view.View.{View}
+use Rattle.desk.specs.History.{LeadsTo, calls, calls_by, by}
+use Rattle.desk.specs.Rule.{first_view, HasMet}
+use Rattle.desk.specs.SeatMoves.{Closes}
+use Rattle.desk.specs.SeatHistory.{Asked}
+use Rattle.desk.proofs.Histories.{starts_grown}
+use Rattle.desk.proofs.WholeHistory.{calls_by_one, calls_then, whole_history}
+use Rattle.job_runs.proofs.Histories.{runs_split}
+use Rattle.workers.specs.Shifts.{WorksThrough}
+use Rattle.workers.specs.Bells.{Untold}
+use Rattle.workers.proofs.Shifts.{shift_leaves_none}
+use Rattle.server_threads.specs.declared.means.ServeFault.{ServeFault}
+use Rattle.server_threads.specs.Talks.{LinkTalk, Shift, talk_met, shift_met, Came, GivenBack, AllTalked, IsShift, AllWorked}
+use Rattle.server_threads.specs.Serving as threads
+use Rattle.server_threads.specs.Serving.{AtOnce}
+use Rattle.solve_run.specs.JobAnswers.{Right}
+use Rattle.job_solver.specs.Runs.{Makes}
+use Rattle.job_solver.specs.ProvedDocuments.{ShownAreProved}
+use Rattle.os_server.proofs.Pieces.{talk_so}
+use Rattle.serving.specs.Serving.{Converses, callers, WorksLast, IsHistory, Hosts, numbers_given}
+use Rattle.serving.proofs.Hands.{IsOrderly}
+use Rattle.serving.proofs.Finishes.{kept_beside}
+use Rattle.serving.proofs.Order.{IsNeat, neat, shift_neat}
+use Rattle.serving.proofs.NumberCounts.{all_counted}
+
+false_is_not : false ≡ true → ⊥
+false_is_not e = cc
+
+-- ---- lists, place by place
+
+module _ {A : Type 0} (P : A → Type 0) where
+  all_by_place : (xs : List A) → ((i : ℕ) (x : A) → get_elem? xs i ≡ some x → P x) → All P xs
+  all_by_place [] at = All-nil P
+  all_by_place (x ∷ xs) at = All-cons P x xs (at zero x refl) (all_by_place xs (λ i y there. at (suc i) y there))
+
+  place_of_all : (xs : List A) → All P xs → (i : ℕ) (x : A) → get_elem? xs i ≡ some x → P x
+  place_of_all [] all i x there = absurd (some-ne-none x (sym there))
+  place_of_all (y ∷ ys) all zero x there = subst P (some-injective y x there) (All-head P y ys all)
+  place_of_all (y ∷ ys) all (suc i) x there = place_of_all ys (All-tail P y ys all) i x there
+
+-- the one with that number, or none has it
+module _ (P Q : Met → Type 0) (n : ℕ) where
+  abbrev Sits : List Met → Type 0
+  Sits ms = ((m : Met) × P m × Q m × (m.seat ≡ n)) ⊎ All (λ m. m.seat ≢ n) ms
+
+  sits_more : (m : Met) (ms : List Met) (is : Bool) → eqb m.seat n ≡ is → P m → Q m → Sits ms → Sits (m ∷ ms)
+  sits_more m ms true same p q rest = inl (m, p, q, eqb-true m.seat n same)
+  sits_more m ms false other p q (inl found) = inl found
+  sits_more m ms false other p q (inr none) = inr (All-cons (λ m. m.seat ≢ n) m ms (λ same. false_is_not (sym other ∙ eq-eqb m.seat n same)) none)
+
+  sits : (ms : List Met) → All P ms → All Q ms → Sits ms
+  sits [] p q = inr (All-nil (λ m. m.seat ≢ n))
+  sits (m ∷ ms) p q = sits_more m ms (eqb m.seat n) refl (All-head P m ms p) (All-head Q m ms q) (sits ms (All-tail P m ms p) (All-tail Q m ms q))
+
+-- ---- the calls of each are orderly
+
+abbrev IsOrderlyMet : Met → Type 0
+IsOrderlyMet m = IsOrderly None (calls m.calls)
+
+neat_met : (n : ℕ) (said : List Said) → IsNeat said → IsOrderly None (calls (by n said))
+neat_met n said is = subst (λ (es : List Said). IsOrderly None es) (sym (calls_by_one n said)) is.0
+
+conversation_neat : (came back : Tells) (said : List Said) (short : Bool) → Converses Untold came said back short → IsNeat said
+conversation_neat came back said short (end, s, is) = subst IsNeat s.calls (talk_so Makes IsNeat (neat Makes) Untold end _ s.part s.talk)
+
+shift_so : (said : List Said) → IsShift Makes said → IsNeat said
+shift_so said (inl none) = subst IsNeat (sym none) (tt, refl)
+shift_so said (inr works) = shift_neat Makes said works
+
+talks_orderly : (n : ℕ) (links : List LinkTalk) → AllTalked (Converses Untold) n links → All IsOrderlyMet (map talk_met links)
+talks_orderly n [] all = All-nil IsOrderlyMet
+talks_orderly n (t ∷ ts) all =
+    All-cons IsOrderlyMet (talk_met t) (map talk_met ts) (neat_met t.seat t.said (conversation_neat t.came t.back t.said t.short all.1)) (talks_orderly (n + 1) ts all.2)
+
+shifts_orderly : (n : ℕ) (staff : List Shift) → AllWorked Makes n staff → All IsOrderlyMet (map shift_met staff)
+shifts_orderly n [] all = All-nil IsOrderlyMet
+shifts_orderly n (s ∷ ss) all =
+    All-cons IsOrderlyMet (shift_met s) (map shift_met ss) (neat_met s.seat s.said (shift_so s.said all.1)) (shifts_orderly (n + 1) ss all.2)
+
+-- ---- one caller more, behind the first ones
+
+module _ {A : Type 0} (P : A → Type 0) (x : A) where
+  all_with : (xs ys : List A) → P x → All P (xs ++ ys) → All P (xs ++ x ∷ ys)
+  all_with [] ys p all = All-cons P x ys p all
+  all_with (y ∷ xs) ys p all = All-cons P y (xs ++ x ∷ ys) (All-head P y (xs ++ ys) all) (all_with xs ys p (All-tail P y (xs ++ ys) all))
+
+  all_without : (xs ys : List A) → All P (xs ++ x ∷ ys) → P x × All P (xs ++ ys)
+  all_without [] ys all = (All-head P x ys all, All-tail P x ys all)
+  all_without (y ∷ xs) ys all =
+      let (p, rest) = all_without xs ys (All-tail P y (xs ++ x ∷ ys) all) in
+      (p, All-cons P y (xs ++ ys) (All-head P y (xs ++ x ∷ ys) all) rest)
+
+-- ---- the history
+
+-- what the desk's first seat knows, and what the listener tells
+abbrev stood : View → NetTells → threads.Stand
+stood v net = record { view = v; coming = net.coming; given_back = net.given_back; reached = net.reached }
+
+-- what came behind other calls still does in a longer history
+at_once_grown : (servers : ℕ) (log more : List Entry) (talks : List LinkTalk) → AtOnce servers log talks → AtOnce servers (log ++ more) talks
+at_once_grown servers log more talks at j t there =
+    let (seen, opens) = at j t there in
+    (seen, record { begins = starts_grown log seen more opens.begins; none = opens.none; earlier = opens.earlier })
+
+module _ (first : FirstFinishIsKept Right) (numbers : NumbersAreGivenOnce Right) (shown_proved : ShownAreProved) where
+  history_of : (servers : ℕ) (links : List LinkTalk) (staff : List Shift) (closer : Shift) (log : List Entry) (table : Register) → LeadsTo Right log table
+      → AllWorked Makes 0 (closer ∷ staff) → AllTalked (Converses Untold) (1 + length staff) links → All (λ m. calls_by m.seat log ≡ m.calls) (callers links (closer ∷ staff))
+      → ((n : ℕ) → All (λ m. m.seat ≢ n) (callers links (closer ∷ staff)) → calls_by n log ≡ []) → WorksLast closer log → AtOnce servers log links
+      → waiting_jobs table.jobs ≡ 0 → IsHistory servers links staff closer log
+  history_of servers links staff closer log table leads worked talked made no_others last at_once none_waits =
+      let found : (n : ℕ) → Sits (λ m. calls_by m.seat log ≡ m.calls) IsOrderlyMet n (callers links (closer ∷ staff)) → IsOrderly None (calls (calls_by n log)) =
+      λ n sat. ⊎_elim (λ m. subst (λ (k : ℕ). IsOrderly None (calls (calls_by k log))) m.3 (subst (λ (es : List Entry). IsOrderly None (calls es)) (sym m.1) m.2))
+      (λ none. subst (λ (es : List Entry). IsOrderly None (calls es)) (sym (no_others n none)) tt) sat in
+      let orderly = All-append IsOrderlyMet (map talk_met links) (map shift_met (closer ∷ staff)) (talks_orderly (1 + length staff) links talked)
+      (shifts_orderly 0 (closer ∷ staff) worked) in
+      record {
+        table = table;
+        runs = leads;
+        worked = worked;
+        talked = talked;
+        made = made;
+        no_others = no_others;
+        closes = inr last;
+        at_once = at_once;
+        kept = kept_beside Right numbers first log table leads
+            (λ n. found n (sits (λ m. calls_by m.seat log ≡ m.calls) IsOrderlyMet n (callers links (closer ∷ staff)) made orderly));
+        proved = shown_proved (calls log) table leads;
+        none_waits = none_waits;
+      }
+
+  -- links that were served by calls of a new desk, whose first seat worked off what waited then and closed it
+  hosts_of : (E : List LinkTalk → List Entry → Type 0) (workers servers : ℕ) (old new : NetTells) (v w last : View) (links : List LinkTalk) (own : List Said)
+      (table : Register) → (s : threads.ServesLinks Makes (Converses Untold) servers workers (stood v old) (stood w new) links) → v ≡ first_view → calls_by w.number w.seen ≡ w.mine
+      → HasMet w.seen w.met → (asked : Asked Right w last own) → WorksThrough Makes own → (c : Closes Right last table) → E links c.log
+      → Hosts E workers servers old new
+  hosts_of E workers servers old new v w last links own table s fresh stand known asked works c ends =
+      let closer : Shift = record { seat = 0; said = own } in
+      let talks = map talk_met links in
+      let shifts = map shift_met s.shifts in
+      let number : w.number ≡ 0 = s.number ∙ ap (λ (x : View). x.number) fresh in
+      let met : last.met ≡ callers links s.shifts = asked.stays.met ∙ s.met ∙ ap (λ (x : View). x.met ++ callers links s.shifts) fresh in
+      let given : v.given ≡ 1 = ap (λ (x : View). x.given) fresh in
+      let before : w.mine ≡ [] = s.mine ∙ ap (λ (x : View). x.mine) fresh in
+      let mine : calls_by 0 c.log ≡ by 0 own = c.mine ∙ asked.mine ∙ ap (λ (es : List Entry). es ++ by w.number own) before ∙ ap (λ (n : ℕ). by n own) number in
+      let whole : c.log ≡ w.seen ++ by 0 own = whole_history Right w last own asked number stand known table c in
+      let all : calls c.log ≡ calls w.seen ++ own = ap calls whole ∙ calls_then w.seen 0 own in
+      let (mid, earlier, shift) = runs_split Right empty table (calls w.seen) own (subst (λ (es : List Said). LeadsStepwise Right empty es table) all c.leads) in
+      record {
+        links = links;
+        staff = s.shifts;
+        closer = closer;
+        log = c.log;
+        few = s.staff;
+        came = s.came;
+        back = s.back;
+        history = history_of servers links s.shifts closer c.log table c.leads
+            (refl, inr works, subst (λ (n : ℕ). AllWorked Makes n s.shifts) given s.worked)
+            (subst (λ (n : ℕ). AllTalked (Converses Untold) (n + length s.shifts) links) given s.all_talked)
+            (all_with (λ m. calls_by m.seat c.log ≡ m.calls) (shift_met closer) talks shifts mine
+            (subst (λ (ms : List Met). All (λ m. calls_by m.seat c.log ≡ m.calls) ms) met (all_by_place (λ m. calls_by m.seat c.log ≡ m.calls) last.met c.met)))
+            (λ n none. let (other, rest) = all_without (λ m. m.seat ≢ n) (shift_met closer) talks shifts none in
+            c.no_others n (λ same. other (sym same)) (place_of_all (λ m. m.seat ≢ n) last.met (subst (λ (ms : List Met). All (λ m. m.seat ≢ n) ms) (sym met) rest)))
+            (record { others = w.seen; worked = works; none = subst (λ (n : ℕ). calls_by n w.seen ≡ []) number (stand ∙ before); last = whole })
+            (subst (λ (es : List Entry). AtOnce servers es links) (sym whole) (at_once_grown servers w.seen (by 0 own) links s.at_once))
+            (shift_leaves_none Makes Right mid table own works shift);
+        ends = ends;
+      }
+
+  -- the same of what serving answered, and of how many numbers the table gave that was closed
+  pub hosted : (workers servers connections given : ℕ) (served : Result ℕ ServeFault) (old new : NetTells) (v w last : View) (own : List Said) (table : Register)
+      → (o : (links : List LinkTalk) × threads.ServesLinks Makes (Converses Untold) servers workers (stood v old) (stood w new) links × threads.EndsServing served connections links old.faults new.faults) → v ≡ first_view → calls_by w.number w.seen ≡ w.mine
+      → HasMet w.seen w.met → Asked Right w last own → WorksThrough Makes own → Closes Right last table → given ≡ table.issued
+      → Hosts (λ links log. (given ≡ numbers_given (calls log)) × threads.EndsServing served connections links old.faults new.faults) workers servers old new
+  hosted workers servers connections given served old new v w last own table o fresh stand known asked works c is =
+      hosts_of (λ links log. (given ≡ numbers_given (calls log)) × threads.EndsServing served connections links old.faults new.faults) workers servers old new v w last o.0 own table o.1
+      fresh stand known asked works c (is ∙ all_counted Right table (calls c.log) c.leads, o.2)
+
+-- ---- where no link came
+
+not_nil : (before after : List Said) (e : Said) → [] ≡ before ++ e ∷ after → ⊥
+not_nil [] after e is = cc
+not_nil (x ∷ before) after e is = cc
+
+no_closer : Shift
+no_closer = record { seat = 0; said = [] }
+
+no_history : (servers : ℕ) → IsHistory servers [] [] no_closer []
+unfolding no_closer
+no_history servers = record {
+  table = empty;
+  runs = refl;
+  worked = (refl, inl refl, tt);
+  talked = tt;
+  made = All-cons (λ m. calls_by m.seat [] ≡ m.calls) (shift_met no_closer) [] refl (All-nil (λ m. calls_by m.seat [] ≡ m.calls));
+  no_others = λ n none. refl;
+  closes = inl refl;
+  at_once = λ j t there. absurd (some-ne-none t (sym there));
+  kept = All-nil IsFinishKept;
+  proved = λ n document before after are. absurd (not_nil before after (entry_of_move (Retrieve n) (reply.Retrieved (shown.Finished (Some document)))) are);
+  none_waits = refl;
+}
+
+none_come : (links : Option (List Tells)) → Came links links []
+none_come None = tt
+none_come (Some links) = refl
+
+none_back : (links : Option (List Tells)) → GivenBack links links []
+none_back None = tt
+none_back (Some links) = sym (append-nil links)
+
+-- nothing came and nothing was given back
+pub hosts_none : (E : List LinkTalk → List Entry → Type 0) (workers servers : ℕ) (old new : NetTells) → SameLinks old new → E [] [] → Hosts E workers servers old new
+hosts_none E workers servers old new same ends = record {
+  links = [];
+  staff = [];
+  closer = no_closer;
+  log = [];
+  few = omega arith;
+  came = subst (λ (l : Option (List Tells)). Came old.coming l []) (sym same.coming) (none_come old.coming);
+  back = subst (λ (l : Option (List Tells)). GivenBack old.given_back l []) (sym same.given_back) (none_back old.given_back);
+  history = no_history servers;
+  ends = ends;
+}
+
+-- what else holds of the links and the history may be said otherwise, and the listener may have told the same links before
+pub hosts_so : (E F : List LinkTalk → List Entry → Type 0) (workers servers : ℕ) (first old new : NetTells) → SameLinks first old
+    → ((links : List LinkTalk) (log : List Entry) → E links log → F links log) → Hosts E workers servers old new → Hosts F workers servers first new
+hosts_so E F workers servers first old new same so h = record {
+  links = h.links;
+  staff = h.staff;
+  closer = h.closer;
+  log = h.log;
+  few = h.few;
+  came = subst (λ (l : Option (List Tells)). Came l new.coming (map (λ t. t.came) h.links)) same.coming h.came;
+  back = subst (λ (l : Option (List Tells)). GivenBack l new.given_back (map (λ t. t.back) h.links)) same.given_back h.back;
+  history = h.history;
+  ends = so h.links h.log h.ends;
+}

@@ -1,0 +1,79 @@
+-- How many numbers a table has given is how often a call gave one.
+use Rattle.std.proofs.Common.{◌≡◌, ℕ, ◌+◌, ◌&&◌, not, nat_lt, nat_le, bytes_eq, length, Bool, true, false, cond, List, [], ◌∷◌, Option, Some, None, refl, sym, ◌∙◌, ap, subst, arith}
+use Rattle.std.proofs.lemmas.List.Sums.{sum_by-cons}
+use Rattle.job_table.specs.declared.job.Job.{Job}
+use Rattle.job_table.specs.declared.job.Phase.{Phase}
+use Rattle.job_table.specs.declared.job.Phase.TheVariants.{Issued, Waiting, Running, Finished, Killed}
+use Rattle.job_table.specs.declared.calls.Call.{Call}
+use Rattle.job_table.specs.declared.calls.Call.TheVariants as calls
+use Rattle.job_table.specs.declared.calls.Reply.{Reply}
+use Rattle.job_table.specs.declared.calls.Reply.TheVariants as reply
+use Rattle.job_table.specs.Jobs.{Register, empty, phase_of, first_waiting, job}
+use Rattle.job_table.specs.Steps.{Outcome, outcome, most_jobs, last_number, with_new, sends, claims, finishes, kills, row_of_move}
+use Rattle.job_table.specs.History.{Entry, LeadsStepwise}
+use Rattle.serving.specs.Serving.{gives_number, numbers_given}
+
+-- the count after an outcome, by whether its reply gives a number
+abbrev Counted : (Reply → Bool) → Register → Outcome → Type 0
+Counted gives r o = o.after.issued ≡ cond (gives o.reply) (1 + r.issued) r.issued
+
+one_more : (n : ℕ) → n + 1 ≡ 1 + n
+one_more n = omega arith
+
+adds_counted : (gives : Reply → Bool) (phase : Phase) (said : Reply) (r : Register) (full spent : Bool) → gives reply.Full ≡ false → gives reply.Spent ≡ false → gives said ≡ true
+    → Counted gives r (cond full (outcome reply.Full r) (cond spent (outcome reply.Spent r) (outcome said (with_new phase r))))
+adds_counted gives phase said r true spent is_full is_spent is_said = ap (λ (b : Bool). cond b (1 + r.issued) r.issued) (sym is_full)
+adds_counted gives phase said r false true is_full is_spent is_said = ap (λ (b : Bool). cond b (1 + r.issued) r.issued) (sym is_spent)
+adds_counted gives phase said r false false is_full is_spent is_said = one_more r.issued ∙ ap (λ (b : Bool). cond b (1 + r.issued) r.issued) (sym is_said)
+
+sends_none : (n : ℕ) (o p : List ℕ) (phase : Option Phase) (r : Register) → (sends n o p phase r).after.issued ≡ r.issued
+sends_none n o p (Some Issued) r = refl
+sends_none n o p phase r = refl
+
+claims_none : (alone : Bool) (j : Option Job) (r : Register) → (cond alone (outcome (reply.Gave None) r) (claims j r)).after.issued ≡ r.issued
+claims_none true j r = refl
+claims_none false None r = refl
+claims_none false (Some j) r = refl
+
+kills_none : (n : ℕ) (phase : Option Phase) (r : Register) → (kills n phase r).issued ≡ r.issued
+kills_none n None r = refl
+kills_none n (Some Issued) r = refl
+kills_none n (Some (Waiting o p)) r = refl
+kills_none n (Some (Running o p marked)) r = refl
+kills_none n (Some (Finished document)) r = refl
+kills_none n (Some Killed) r = refl
+
+if_none : (test : Bool) (a b : Outcome) (n : ℕ) → a.after.issued ≡ n → b.after.issued ≡ n → (cond test a b).after.issued ≡ n
+if_none true a b n p q = p
+if_none false a b n p q = q
+
+finishes_none : (j : Job) (asked : Bool) (document : Option (List ℕ)) (phase : Option Phase) (r : Register) → (finishes j asked document phase r).after.issued ≡ r.issued
+finishes_none j asked document (Some (Running o p marked)) r =
+    if_none (bytes_eq j.osil o && bytes_eq j.osol p) _ _ r.issued (if_none (asked && not marked) _ _ r.issued refl refl) refl
+finishes_none j asked document phase r = refl
+
+row_counted : (call : Call) (r : Register) → Counted (gives_number call) r (row_of_move call r)
+row_counted calls.Issue r = adds_counted (gives_number calls.Issue) Issued (reply.Issued (r.issued + 1)) r (nat_le most_jobs (length r.jobs)) (nat_le last_number r.issued) refl refl refl
+row_counted (calls.Enter o p) r =
+    adds_counted (gives_number (calls.Enter o p)) (Running o p false) (reply.Gave (Some (job (r.issued + 1) o p))) r (nat_le most_jobs (length r.jobs)) (nat_le last_number r.issued) refl refl refl
+row_counted (calls.Send n o p) r = sends_none n o p (phase_of n r.jobs) r
+row_counted (calls.Claim worker) r = claims_none (not worker && nat_lt 0 r.workers) (first_waiting r.jobs) r
+row_counted (calls.Kill n) r = kills_none n (phase_of n r.jobs) r
+row_counted (calls.Finish j asked document) r = finishes_none j asked document (phase_of j.number r.jobs) r
+row_counted call r = refl
+
+first_counted : (gives : Bool) (n next rest : ℕ) → next ≡ cond gives (1 + n) n → next + rest ≡ n + (cond gives 1 0 + rest)
+first_counted true n next rest is = omega (arith, is)
+first_counted false n next rest is = omega (arith, is)
+
+runs_counted : (right : List ℕ → List ℕ → Bool → Option (List ℕ) → Type 0) (r after : Register) (es : List Entry) → LeadsStepwise right r es after → after.issued ≡ r.issued + numbers_given es
+runs_counted right r after [] runs = ap (λ (s : Register). s.issued) runs ∙ omega arith
+runs_counted right r after (e ∷ es) (next, step, runs) =
+    let one : next.issued ≡ cond (gives_number e.call e.reply) (1 + r.issued) r.issued =
+    subst (λ (o : Outcome). Counted (gives_number e.call) r o) step.is (row_counted e.call r) in
+    runs_counted right next after es runs ∙ first_counted (gives_number e.call e.reply) r.issued next.issued (numbers_given es) one
+    ∙ ap (λ (n : ℕ). r.issued + n) (sym (sum_by-cons (λ (x : Entry). cond (gives_number x.call x.reply) 1 0) e es))
+
+-- from the empty table on
+pub all_counted : (right : List ℕ → List ℕ → Bool → Option (List ℕ) → Type 0) (after : Register) (es : List Entry) → LeadsStepwise right empty es after → after.issued ≡ numbers_given es
+all_counted right after es runs = runs_counted right empty after es runs ∙ omega arith

@@ -1,0 +1,169 @@
+-- The document of a claim that is given up isn't too long.
+use Rattle.std.proofs.Common.{ℕ, suc, ◌+◌, ◌*◌, ◌/◌, ◌%◌, ◌^◌, ◌≤◌, ◌==◌, ℤ, pos, negsuc, Bool, true, false, cond, Option, None, Some, List, [], ◌∷◌, ◌++◌, drop, length, length-append, length-drop, arith}
+use Rattle.std.specs.Prelude.{IfSome, codes, decimal, reverse}
+use Rattle.std.specs.Fmt.{signed_decimal}
+use Rattle.std.proofs.lemmas.List.{length-reverse}
+use Rattle.rational.specs.Ratio.{Ratio}
+use Rattle.fraction.specs.Frac.{ratio}
+use Rattle.fraction.specs.declared.frac.Frac.{Frac}
+use Rattle.document_tags.specs.Writing.{text_nodes}
+use Rattle.document_tags.proofs.Lengths.{decimal_size, nodes_size, written_short}
+use Rattle.decimal_text.specs.Sign.{optional}
+use Rattle.decimal_text.specs.Plain.{point_text}
+use Rattle.decimal_text.specs.Exact.{ratio_text, denominator_text}
+use Rattle.certificate.specs.declared.causes.Step.{Step}
+use Rattle.certificate.specs.declared.causes.Step.TheVariants as steps
+use Rattle.certificate.specs.declared.causes.Cause.{Cause}
+use Rattle.certificate.specs.declared.causes.Cause.TheVariants as causes
+use Rattle.certificate.specs.declared.claims.Claim.{Claim}
+use Rattle.certificate.specs.declared.claims.Claim.TheVariants.{BestSoFar, Unsure}
+use Rattle.osrl_grammar.specs.Cuts.{cut_size, without_zeros, decimals, has_sign, cut_text}
+use Rattle.osrl_grammar.specs.Items.{step_text}
+use Rattle.osrl_grammar.specs.Writing.{variable_values, cause_text, item_nodes, fraction_texts, report_element, claim_nodes}
+use Rattle.solve_run.specs.Closings.{claim_report, IsShort}
+
+-- a job's name, if there is one, has at most 256 bytes
+abbrev pub IsShortName : Option (List ℕ) → Type 0
+IsShortName job = IfSome job (λ name. length name ≤ 256)
+
+text_size : (text : List ℕ) → nodes_size (text_nodes text) ≤ 6 * length text
+text_size [] = omega arith
+text_size (c ∷ cs) = omega arith
+
+-- ---- numbers
+
+sign_size : (b : Bool) → length (optional 45 b) ≤ 1
+sign_size true = omega arith
+sign_size false = omega arith
+
+zeros_size : (ds : List ℕ) → length (without_zeros ds) ≤ length ds
+zeros_size [] = omega arith
+zeros_size (c ∷ cs) = by (c == 48) (zeros_size cs)
+  where
+    by : (b : Bool) → length (without_zeros cs) ≤ length cs → length (cond b (without_zeros cs) (c ∷ cs)) ≤ suc (length cs)
+    by true rest = omega (arith, rest)
+    by false rest = omega arith
+
+decimals_size : (n : ℕ) → length (decimals n) ≤ 64
+decimals_size n =
+    let digits = drop 1 (decimal (10 ^ 12 + n)) in
+    let a = decimal_size (10 ^ 12 + n) in
+    let b = length-drop 1 (decimal (10 ^ 12 + n)) in
+    let c = length-reverse digits in
+    let d = zeros_size (reverse digits) in
+    let e = length-reverse (without_zeros (reverse digits)) in
+    omega (arith, a, b, c, d, e)
+
+point_size : (ds : List ℕ) → length (point_text ds) ≤ 1 + length ds
+point_size [] = omega arith
+point_size (d ∷ ds) = omega arith
+
+cut_text_size : (x : Ratio) → length (cut_text x) ≤ 130
+cut_text_size x =
+    let sign = optional 45 (has_sign x.num (cut_size x)) in
+    let whole = decimal (cut_size x / 10 ^ 12) in
+    let point = point_text (decimals (cut_size x % 10 ^ 12)) in
+    let a = sign_size (has_sign x.num (cut_size x)) in
+    let b = decimal_size (cut_size x / 10 ^ 12) in
+    let c = point_size (decimals (cut_size x % 10 ^ 12)) in
+    let d = decimals_size (cut_size x % 10 ^ 12) in
+    omega (arith, a, b, c, d, length-append sign (whole ++ point), length-append whole point)
+
+signed_size : (z : ℤ) → length (signed_decimal z) ≤ 65
+signed_size (pos n) = let a = decimal_size n in omega (arith, a)
+signed_size (negsuc n) = let a = decimal_size (suc n) in omega (arith, a)
+
+under_size : (d : ℕ) → length (denominator_text d) ≤ 65
+under_size d = by (d == 1)
+  where
+    by : (b : Bool) → length (cond b [] (47 ∷ decimal d)) ≤ 65
+    by true = omega arith
+    by false = let a = decimal_size d in omega (arith, a)
+
+ratio_size : (x : Ratio) → length (ratio_text x) ≤ 130
+ratio_size x =
+    let a = signed_size x.num in
+    let b = under_size x.den in
+    omega (arith, a, b, length-append (signed_decimal x.num) (denominator_text x.den))
+
+step_size : (s : Step) → length (step_text s) ≤ 6
+step_size steps.Values = omega arith
+step_size steps.Ratio = omega arith
+step_size steps.Pivot = omega arith
+step_size steps.Point = omega arith
+step_size steps.Ray = omega arith
+step_size steps.Check = omega arith
+
+cause_size : (c : Cause) → length (cause_text c) ≤ 150
+cause_size causes.Killed = omega arith
+cause_size (causes.NodeLimit n) = let a = decimal_size n in omega (arith, a, length-append (codes "nodeLimit ") (decimal n))
+cause_size (causes.TurnLimit n) = let a = decimal_size n in omega (arith, a, length-append (codes "turnLimit ") (decimal n))
+cause_size (causes.Wide p) =
+    let a = decimal_size p.node in
+    let b = decimal_size p.turn in
+    let c = step_size p.step in
+    let last = 32 ∷ step_text p.step in
+    let turn = 32 ∷ (decimal p.turn ++ last) in
+    omega (arith, a, b, c, length-append (codes "wide ") (decimal p.node ++ turn), length-append (decimal p.node) turn, length-append (decimal p.turn) last)
+cause_size causes.Length = omega arith
+cause_size causes.Memory = omega arith
+
+-- ---- parts of a document
+
+values_size : (j : ℕ) (xs : List Frac) → nodes_size (variable_values j xs) ≤ 1200 * length xs
+values_size j [] = omega arith
+values_size j (x ∷ xs) =
+    let rest = values_size (j + 1) xs in
+    let index = decimal_size j in
+    let text = text_size (cut_text (ratio x)) in
+    let cut = cut_text_size (ratio x) in
+    omega (arith, rest, index, text, cut)
+
+items_size : (xs : List Frac) → nodes_size (item_nodes (fraction_texts xs)) ≤ 800 * length xs
+items_size [] = omega arith
+items_size (x ∷ xs) =
+    let rest = items_size xs in
+    let text = text_size (ratio_text (ratio x)) in
+    let one = ratio_size (ratio x) in
+    omega (arith, rest, text, one)
+
+name_size : (job : Option (List ℕ)) → IsShortName job → (c : Claim) → length (report_element (claim_report job c)).name ≤ 4
+name_size job short c = omega arith
+
+module _ (job : Option (List ℕ)) (short : IsShortName job) where
+  -- the document is its claim's nodes and little more
+  around : (c : Claim) → nodes_size (report_element (claim_report job c)).children ≤ 3000 + nodes_size (claim_nodes c)
+  around c = by job short
+    where
+      by : (j : Option (List ℕ)) → IsShortName j → nodes_size (report_element (claim_report j c)).children ≤ 3000 + nodes_size (claim_nodes c)
+      by None s = omega arith
+      by (Some name) s = let text = text_size name in omega (arith, text, s)
+
+  whole_size : (c : Claim) → nodes_size (claim_nodes c) ≤ 4000000 → IsShort job c
+  whole_size c few =
+      let all = written_short (report_element (claim_report job c)) in
+      let most = around c in
+      omega (arith, all, most, few)
+
+  unsure_size : (c : Cause) → nodes_size (claim_nodes (Unsure c)) ≤ 4000000
+  unsure_size c =
+      let text = text_size (cause_text c) in
+      let cause = cause_size c in
+      omega (arith, text, cause)
+
+  best_size : (x : List Frac) (v : Frac) (c : Cause) → length x ≤ 1000 → nodes_size (claim_nodes (BestSoFar x v c)) ≤ 4000000
+  best_size x v c few =
+      let text = text_size (cause_text c) in
+      let cause = cause_size c in
+      let values = values_size 0 x in
+      let items = items_size x in
+      let value = items_size (v ∷ []) in
+      let goal = text_size (cut_text (ratio v)) in
+      let cut = cut_text_size (ratio v) in
+      omega (arith, text, cause, values, items, value, goal, cut, few)
+
+  pub unsure_short : (c : Cause) → IsShort job (Unsure c)
+  unsure_short c = whole_size (Unsure c) (unsure_size c)
+
+  pub best_short : (x : List Frac) (v : Frac) (c : Cause) → length x ≤ 1000 → IsShort job (BestSoFar x v c)
+  best_short x v c few = whole_size (BestSoFar x v c) (best_size x v c few)

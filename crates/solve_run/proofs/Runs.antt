@@ -1,0 +1,250 @@
+-- What the run of a job tells.
+use Rattle.std.proofs.Common.{◌≡◌, ◌∙◌, ℕ, zero, suc, ◌+◌, inl, inr, Bool, true, false, Option, None, Some, Result, Ok, List, [], ◌∷◌, ◌++◌, arith, refl, ap, sym, subst}
+use Rattle.std.specs.Prelude.{IfOk}
+use Rattle.std.proofs.lemmas.Result.{IfOk-weaker}
+use Rattle.std.proofs.lemmas.List.{length-map}
+use Rattle.os_io.specs.Looks.{stops_of}
+use Rattle.evidence.specs.Instance.{Instance, IsInstance}
+use Rattle.instance.specs.Parts.{Parts, IsValid}
+use Rattle.instance.specs.Program.{program, variable}
+use Rattle.fraction.specs.Frac.{ratio}
+use Rattle.certificate.specs.declared.causes.Cause.TheVariants.{Memory}
+use Rattle.certificate.specs.declared.claims.Claim.{Claim}
+use Rattle.certificate.specs.declared.claims.Claim.TheVariants as Has
+use Rattle.simplex_rules.specs.Ends.{Terms, Clock}
+use Rattle.simplex_rules.specs.Looks.{answers, went_on, AgreesWith as Agrees, looks_after}
+use Rattle.search_rules.specs.Search.{Found, Outcome, Moment, ComesInSearch, Search, IsSearchAnswer, early, searched, given_up as given_up_at, given_up_after}
+use Rattle.search_rules.specs.Outcomes.{IsShown}
+use Rattle.branch_bound.specs.Claims.{claimed_outcome, is_kill, is_killed}
+use Rattle.osol_grammar.specs.declared.options.Options.{Options}
+use Rattle.osol_grammar.specs.declared.fault.OsolFault.{OsolFault}
+use Rattle.osol_grammar.specs.Meaning.{IsOptionsText}
+use Rattle.osol_grammar.specs.Back.{IsNameOrNone}
+use Rattle.osol_grammar.specs.Reading as options
+use Rattle.osol_grammar.specs.Texts as options_texts
+use Rattle.osil_grammar.specs.declared.fault.OsilFault.{OsilFault}
+use Rattle.osil_grammar.specs.Reading.{IsInstanceText}
+use Rattle.osil_grammar.specs.Reading as instances
+use Rattle.osrl_grammar.specs.declared.report.Report.{Report}
+use Rattle.solve_run.specs.declared.document.Document.{Document}
+use Rattle.solve_run.specs.Closings.{claim_report, error_report, IsFinal, IsJudged, IsShort, IsFitted, checked, IsClosed}
+use Rattle.solve_run.specs.JobAnswers.{job_terms, AreJobTexts, IsJobOf, MayStop, AnswersJob, Right}
+use Rattle.solve_run.specs.JobAnswers as right
+use Rattle.solve_run.specs.Runs.{stop_after, Reports, no_options, no_instance, solved, gave_up, TellsOutcome, TellsText, TellsDocument, IsRight, Ran, ClosesClaim, IsClaimTold, IsMemoryDocument, IsErrorDocument}
+use Rattle.solve_run.proofs.Lengths.{IsShortName, best_short, unsure_short}
+use Rattle.solve_run.proofs.Names.{short_name}
+
+-- the stop that the looks tell agrees with them
+agrees : (n : ℕ) (killed : Bool) → Agrees (stop_after n killed) 0 n killed
+agrees n false = tt
+agrees n true = ap Some (omega arith)
+
+-- ---- claims that are given up
+
+-- the document of a claim that isn't final isn't too long
+pub claim_short : (p : Parts) (job : Option (List ℕ)) (c : Claim) → IsValid p → IsShortName job → IsShown (program p) (claimed_outcome c) → (IsFinal c → ⊥) → IsShort job c
+claim_short p job (Has.Optimal x v ns) valid name s other = absurd (other tt)
+claim_short p job (Has.Infeasible ns) valid name s other = absurd (other tt)
+claim_short p job (Has.Unbounded x v r) valid name s other = absurd (other tt)
+claim_short p job (Has.BestSoFar x v c) valid name s other =
+    let count = s.feasible.count in
+    let few = valid.few_vars in
+    best_short job name x v c (omega (arith, count, few, length-map x ratio, length-map p.vars variable))
+claim_short p job (Has.Unsure c) valid name s other = unsure_short job name c
+
+-- what is told of it is the claim itself
+kept : (p : Parts) (job : Option (List ℕ)) (turns : ℕ) (found told : Claim) → (IsFinal found → ⊥) → IsShort job found → IsClosed p job turns found told → told ≡ found
+kept p job turns found told other short c = by c.width c.judged c.fitted
+  where
+    by : (width : Option ℕ) → IsJudged (program p) found width → IsFitted job (checked found turns width) told → told ≡ found
+    by None judged (inl (s, same)) = same
+    by None judged (inr (long, same)) = absurd (long short)
+    by (Some n) judged fitted = absurd (other judged.0)
+
+-- a claim for want of memory isn't final, and no look stopped the search
+pub record IsWanting (c : Claim) : Type 0 where
+  pub other : IsFinal c → ⊥
+  pub went_on : is_killed c ≡ false
+
+pub wanting : (c : Claim) (best : Option Found) → claimed_outcome c ≡ early best Memory → IsWanting c
+wanting (Has.Optimal x v ns) None e = absurd (cc)
+wanting (Has.Optimal x v ns) (Some f) e = absurd (cc)
+wanting (Has.Infeasible ns) None e = absurd (cc)
+wanting (Has.Infeasible ns) (Some f) e = absurd (cc)
+wanting (Has.Unbounded x v r) None e = absurd (cc)
+wanting (Has.Unbounded x v r) (Some f) e = absurd (cc)
+wanting (Has.BestSoFar x v c) None e = absurd (cc)
+wanting (Has.BestSoFar x v c) (Some f) e = let same : c ≡ Memory = cc in record { other = λ f. f; went_on = ap is_kill same }
+wanting (Has.Unsure c) None e = let same : c ≡ Memory = cc in record { other = λ f. f; went_on = ap is_kill same }
+wanting (Has.Unsure c) (Some f) e = absurd (cc)
+
+-- ---- what is reported
+
+abbrev clock_after : (turns n : ℕ) (killed : Bool) → Clock
+clock_after turns n killed = record { turns = turns; looks = looks_after 0 n killed }
+
+module _ (osil osol : List ℕ) (o : Options) (p : Parts) (valid : IsValid p) (options_text : IsOptionsText osol o) (name : IsNameOrNone o.job) (instance_text : IsInstanceText osil p) where
+  abbrev given : AreJobTexts osil osol
+  given = record { options = o; options_text = options_text; parts = p; valid = valid; instance_text = instance_text }
+
+  module _ (found : Claim) (turns n : ℕ) (doc : Document) where
+    -- memory was wanting in the search: the claim of its moment is told
+    wanted : (m : Moment) → IsShown (program p) (claimed_outcome found) → ComesInSearch (program p) (job_terms o (stop_after n (is_killed found))) m → claimed_outcome found ≡ early m.best Memory → ClosesClaim p o.job turns found doc → TellsOutcome osil osol n (is_killed found) doc
+    wanted m shown comes is closes =
+        let want = wanting found m.best is in
+        let same = kept p o.job turns found closes.told want.other (claim_short p o.job found valid (short_name o.job name) shown want.other) closes.closed in
+        record {
+          report = claim_report o.job closes.told;
+          reports = gave_up (record {
+            job = o.job;
+            whose = inr (o, options_text, refl);
+            claim = closes.told;
+            claims = inr (record {
+              given = given;
+              moment = m;
+              comes = subst (λ (k : Bool). ComesInSearch (program p) (job_terms o (stop_after n k)) m) want.went_on comes;
+              is = ap claimed_outcome same ∙ is;
+            });
+            is = refl;
+          });
+          is = closes.is;
+        }
+
+    ended : Search (program p) (job_terms o (stop_after n (is_killed found))) (claimed_outcome found) (clock_after turns n (is_killed found)) → ClosesClaim p o.job turns found doc → TellsOutcome osil osol n (is_killed found) doc
+    ended ends closes = record {
+      report = claim_report o.job closes.told;
+      reports = solved (record {
+        given = given;
+        turns = turns;
+        found = found;
+        ends = ends;
+        told = closes.told;
+        closed = closes.closed;
+        numbers = closes.numbers;
+        is = refl;
+      });
+      is = closes.is;
+    }
+
+    answered : (oc : Outcome) (d : Clock) → oc ≡ claimed_outcome found → d ≡ clock_after turns n (is_killed found) → IsShown (program p) (claimed_outcome found) → IsSearchAnswer (program p) (job_terms o (stop_after n (is_killed found))) oc d → ClosesClaim p o.job turns found doc → TellsOutcome osil osol n (is_killed found) doc
+    answered oc d e f shown (searched s) closes =
+        ended (subst (λ (x : Outcome). Search (program p) (job_terms o (stop_after n (is_killed found))) x (clock_after turns n (is_killed found))) e
+        (subst (λ (x : Clock). Search (program p) (job_terms o (stop_after n (is_killed found))) oc x) f s)) closes
+    answered oc d e f shown (given_up_at {m} c) closes = wanted m shown c (sym e) closes
+    answered oc d e f shown (given_up_after {m} c r) closes = wanted m shown c (sym e) closes
+
+-- nothing is told for want of memory, of this job
+untold : (osil osol : List ℕ) (n : ℕ) (killed : Bool) (job : Option (List ℕ)) (doc : Document) → IsJobOf osol job → IsMemoryDocument job doc → TellsOutcome osil osol n killed doc
+untold osil osol n killed job doc whose is = record {
+  report = claim_report job (Has.Unsure Memory);
+  reports = gave_up (record { job = job; whose = whose; claim = Has.Unsure Memory; claims = inl refl; is = refl });
+  is = is;
+}
+
+-- the run of an instance
+pub ran : {E : Type 0} (Came : List Bool → Type 0) (osil osol : List ℕ) (o : Options) (p : Parts) (found : Claim) (turns n : ℕ) (result : Result Document E)
+    → IsValid p → IsNameOrNone o.job → IsOptionsText osol o → IsInstanceText osil p
+    → ((t : Terms) (c : Clock) → IsSearchAnswer (program p) t (claimed_outcome found) c → IsShown (program p) (claimed_outcome found))
+    → Came (answers n (is_killed found))
+    → ((stop : Option ℕ) → Agrees stop 0 n (is_killed found) → IsSearchAnswer (program p) (job_terms o stop) (claimed_outcome found) (clock_after turns n (is_killed found)))
+    → IfOk result (IsClaimTold p o.job turns found) → Ran Came osil osol (TellsDocument osil osol result)
+ran {E} Came osil osol o p found turns n result valid name options_text instance_text shows came answer told =
+    let is = answer (stop_after n (is_killed found)) (agrees n (is_killed found)) in
+    let all = given osil osol o p valid options_text name instance_text in
+    record {
+      went_on = n;
+      killed = is_killed found;
+      came = came;
+      looks = inr (record { given = all; turns = turns; outcome = claimed_outcome found; answers = is });
+      tells = IfOk-weaker result (IsClaimTold p o.job turns found) (TellsOutcome osil osol n (is_killed found)) (by is) told;
+    }
+  where
+    by : IsSearchAnswer (program p) (job_terms o (stop_after n (is_killed found))) (claimed_outcome found) (clock_after turns n (is_killed found)) → (doc : Document) → IsClaimTold p o.job turns found doc → TellsOutcome osil osol n (is_killed found) doc
+    by is doc (inl closes) = answered osil osol o p valid options_text name instance_text found turns n doc (claimed_outcome found) (clock_after turns n (is_killed found)) refl refl (shows _ _ is) is closes
+    by is doc (inr memory) = untold osil osol n (is_killed found) o.job doc (inr (o, options_text, refl)) memory
+
+-- what was found is shown
+pub shown_by : ((I : Instance) (t : Terms) (oc : Outcome) (c : Clock) → IsInstance I → IsSearchAnswer I t oc c → IsShown I oc) → ((q : Parts) → IsInstance (program q))
+    → (p : Parts) (o : Options) (found : Claim) (turns n : ℕ) → ((stop : Option ℕ) → Agrees stop 0 n (is_killed found) → IsSearchAnswer (program p) (job_terms o stop) (claimed_outcome found) (clock_after turns n (is_killed found))) → IsShown (program p) (claimed_outcome found)
+shown_by shows numbers p o found turns n answer =
+    shows (program p) _ (claimed_outcome found) _ (numbers p) (answer (stop_after n (is_killed found)) (agrees n (is_killed found)))
+
+-- ---- no search
+
+-- without looks
+pub quiet : {E : Type 0} (Came : List Bool → Type 0) (osil osol : List ℕ) (result : Result Document E) → Came [] → IfOk result (TellsOutcome osil osol 0 false) → Ran Came osil osol (TellsDocument osil osol result)
+quiet {E} Came osil osol result came tells = record { went_on = 0; killed = false; came = came; looks = inl (refl, refl); tells = tells }
+
+pub quiet_memory : {E : Type 0} (Came : List Bool → Type 0) (osil osol : List ℕ) (job : Option (List ℕ)) (result : Result Document E) → Came [] → IsJobOf osol job → IfOk result (IsMemoryDocument job) → Ran Came osil osol (TellsDocument osil osol result)
+quiet_memory {E} Came osil osol job result came whose is =
+    quiet Came osil osol result came (IfOk-weaker result (IsMemoryDocument job) (TellsOutcome osil osol 0 false) (λ doc memory. untold osil osol 0 false job doc whose memory) is)
+
+message_of : {E : Type 0} (message : Result (List ℕ) E) (P : List ℕ → Type 0) (m : List ℕ) → message ≡ Ok m → IfOk message P → P m
+message_of {E} message P m is h = subst (λ (r : Result (List ℕ) E). IfOk r P) is h
+
+pub quiet_options : {E : Type 0} (Came : List Bool → Type 0) (osil osol : List ℕ) (fault : OsolFault) (message : Result (List ℕ) E) (result : Result Document E) → Came [] → options.DecodeFails osol fault → IfOk message (options_texts.IsFaultText fault) → IfOk result (IsErrorDocument None message) → Ran Came osil osol (TellsDocument osil osol result)
+quiet_options {E} Came osil osol fault message result came fails says is =
+    quiet Came osil osol result came (IfOk-weaker result (IsErrorDocument None message) (TellsOutcome osil osol 0 false) by is)
+  where
+    by : (doc : Document) → IsErrorDocument None message doc → TellsOutcome osil osol 0 false doc
+    by doc (inl (m, same, written)) = record {
+      report = error_report None m;
+      reports = no_options (record { fault = fault; fails = fails; message = m; says = message_of message (options_texts.IsFaultText fault) m same says; is = refl });
+      is = written;
+    }
+    by doc (inr memory) = untold osil osol 0 false None doc (inl refl) memory
+
+pub quiet_instance : {E : Type 0} (Came : List Bool → Type 0) (osil osol : List ℕ) (o : Options) (fault : OsilFault) (message : Result (List ℕ) E) (result : Result Document E) → Came [] → IsOptionsText osol o → instances.DecodeFails osil fault → IfOk message (instances.IsFaultText fault) → IfOk result (IsErrorDocument o.job message) → Ran Came osil osol (TellsDocument osil osol result)
+quiet_instance {E} Came osil osol o fault message result came options_text fails says is =
+    quiet Came osil osol result came (IfOk-weaker result (IsErrorDocument o.job message) (TellsOutcome osil osol 0 false) by is)
+  where
+    by : (doc : Document) → IsErrorDocument o.job message doc → TellsOutcome osil osol 0 false doc
+    by doc (inl (m, same, written)) = record {
+      report = error_report o.job m;
+      reports = no_instance (record { options = o; options_text = options_text; fault = fault; fails = fails; message = m; says = message_of message (instances.IsFaultText fault) m same says; is = refl });
+      is = written;
+    }
+    by doc (inr memory) = untold osil osol 0 false o.job doc (inr (o, options_text, refl)) memory
+
+-- ---- the verdict
+
+one_stop : (n : ℕ) → stops_of (went_on n ++ true ∷ []) ≡ 1
+one_stop zero = refl
+one_stop (suc n) = one_stop n
+
+abbrev Asked : (killed asked : Bool) → Type 0
+Asked killed asked = killed ≡ true → asked ≡ true
+
+answers_right : (osil osol : List ℕ) (n : ℕ) (killed asked : Bool) (r : Report) → Asked killed asked → Reports osil osol n killed r → AnswersJob osil osol asked r
+answers_right osil osol n killed asked r only (no_options h) = right.no_options h
+answers_right osil osol n killed asked r only (no_instance h) = right.no_instance h
+answers_right osil osol n killed asked r only (solved h) = right.solved (stop_after n killed) (looks_after 0 n killed) (stops killed only) h
+  where
+    stops : (k : Bool) → Asked k asked → MayStop asked (stop_after n k) (looks_after 0 n k)
+    stops false only = inl refl
+    stops true only = inr (only refl, ap Some (omega arith))
+answers_right osil osol n killed asked r only (gave_up h) = right.gave_up h
+
+-- only a look that says so asks a job to stop
+only_asked : (Came : List Bool → Type 0) (before after n : ℕ) → ((answers : List Bool) → Came answers → after ≡ before + stops_of answers)
+    → (killed : Bool) → Came (answers n killed) → (asked : Bool) → (asked ≡ false → after ≡ before) → Asked killed asked
+only_asked Came before after n counts k came true same e = refl
+only_asked Came before after n counts true came false same e = let one = one_stop n in let all = counts (answers n true) came in let still = same refl in absurd (omega (arith, one, all, still))
+only_asked Came before after n counts false came false same e = absurd (cc)
+
+-- a document is right, the job being asked to stop where a look said so
+pub right_documents : {E : Type 0} (Came : List Bool → Type 0) (osil osol : List ℕ) (result : Result Document E) (before after : ℕ) → ((answers : List Bool) → Came answers → after ≡ before + stops_of answers)
+    → Ran Came osil osol (TellsDocument osil osol result) → (asked : Bool) → (asked ≡ false → after ≡ before) → IfOk result (IsRight osil osol asked)
+right_documents {E} Came osil osol result before after counts ran asked stayed =
+    IfOk-weaker result (TellsOutcome osil osol ran.went_on ran.killed) (IsRight osil osol asked) (λ doc t. (t.report, answers_right osil osol ran.went_on ran.killed asked t.report only t.reports, t.is)) ran.tells
+  where
+    only : Asked ran.killed asked
+    only = only_asked Came before after ran.went_on counts ran.killed ran.came asked stayed
+
+-- and so is its text
+pub right_text : (osil osol : List ℕ) (asked : Bool) (doc : Document) → IsRight osil osol asked doc → Right osil osol asked (Some doc.text)
+right_text osil osol asked doc (r, answers, is) = (r, answers, is.text)
+
+-- a run that tells a document tells its text
+pub text_of : (Came : List Bool → Type 0) (osil osol : List ℕ) (doc : Document) → Ran Came osil osol (λ n killed. TellsOutcome osil osol n killed doc) → Ran Came osil osol (λ n killed. TellsText osil osol n killed doc.text)
+text_of Came osil osol doc ran = record { went_on = ran.went_on; killed = ran.killed; came = ran.came; looks = ran.looks; tells = (doc.is_error, ran.tells) }

@@ -1,0 +1,98 @@
+-- Which documents answer a job: the texts of its instance and its options decide it, but for want of memory and for the look that stops the search.
+use Rattle.std.specs.Prelude.{◌≡◌, ◌⊎◌, ℕ, Bool, true, Option, None, Some, List}
+use Rattle.instance.specs.Parts.{Parts, IsValid}
+use Rattle.instance.specs.Program.{program}
+use Rattle.certificate.specs.declared.causes.Cause.TheVariants.{Memory}
+use Rattle.certificate.specs.declared.claims.Claim.{Claim}
+use Rattle.certificate.specs.declared.claims.Claim.TheVariants.{Unsure}
+use Rattle.simplex_rules.specs.Ends.{Terms}
+use Rattle.search_rules.specs.Search.{Moment, ComesInSearch, Search, early}
+use Rattle.branch_bound.specs.Claims.{claimed_outcome}
+use Rattle.osol_grammar.specs.declared.options.Options.{Options}
+use Rattle.osol_grammar.specs.declared.fault.OsolFault.{OsolFault}
+use Rattle.osol_grammar.specs.Meaning.{IsOptionsText}
+use Rattle.osol_grammar.specs.Reading as options
+use Rattle.osol_grammar.specs.Texts as options_texts
+use Rattle.osil_grammar.specs.declared.fault.OsilFault.{OsilFault}
+use Rattle.osil_grammar.specs.Reading.{IsInstanceText}
+use Rattle.osil_grammar.specs.Reading as instances
+use Rattle.osrl_grammar.specs.declared.report.Report.{Report}
+use Rattle.osrl_grammar.specs.Writing.{report_text}
+use Rattle.osrl_grammar.specs.Back.{ClaimComesBack}
+use Rattle.solve_run.specs.Closings.{error_report, claim_report, IsClosed}
+
+-- a search within the options' limits, stopped by this look, if by one
+abbrev pub job_terms : Options → (stop : Option ℕ) → Terms
+job_terms o stop = record { nodes = o.nodes; turns = o.turns; stop = stop }
+
+-- the options are refused: the report is an error's of no job, and says why
+pub record RefusesOptions (osol : List ℕ) (r : Report) : Type 0 where
+  pub fault : OsolFault
+  pub fails : options.DecodeFails osol fault
+  pub message : List ℕ
+  pub says : options_texts.IsFaultText fault message
+  pub is : r ≡ error_report None message
+
+-- the instance is refused: the report is an error's of the options' job, and says why
+pub record RefusesInstance (osil osol : List ℕ) (r : Report) : Type 0 where
+  pub options : Options
+  pub options_text : IsOptionsText osol options
+  pub fault : OsilFault
+  pub fails : instances.DecodeFails osil fault
+  pub message : List ℕ
+  pub says : instances.IsFaultText fault message
+  pub is : r ≡ error_report options.job message
+
+-- the texts are those of options and of an instance
+pub record AreJobTexts (osil osol : List ℕ) : Type 0 where
+  pub options : Options
+  pub options_text : IsOptionsText osol options
+  pub parts : Parts
+  pub valid : IsValid parts
+  pub instance_text : IsInstanceText osil parts
+
+-- the search of the instance within the options' limits ends after so many looks, of which the given one stops it, and the report tells what it found; the claim's numbers are those of their types
+pub record Solved (osil osol : List ℕ) (stop : Option ℕ) (looks : ℕ) (r : Report) : Type 0 where
+  pub given : AreJobTexts osil osol
+  pub turns : ℕ
+  pub found : Claim
+  pub ends : Search (program given.parts) (job_terms given.options stop) (claimed_outcome found) (record { turns = turns; looks = looks })
+  pub told : Claim
+  pub closed : IsClosed given.parts given.options.job turns found told
+  pub numbers : ClaimComesBack (Some told)
+  pub is : r ≡ claim_report given.options.job told
+
+-- a job's name that is told: none, or that of the options
+abbrev pub IsJobOf : List ℕ → Option (List ℕ) → Type 0
+IsJobOf osol job = (job ≡ None) ⊎ ((o : Options) × IsOptionsText osol o × (job ≡ o.job))
+
+-- the claim has the best point of some moment of the search
+pub record IsBestOfSearch (osil osol : List ℕ) (c : Claim) : Type 0 where
+  pub given : AreJobTexts osil osol
+  pub moment : Moment
+  pub comes : ComesInSearch (program given.parts) (job_terms given.options None) moment
+  pub is : claimed_outcome c ≡ early moment.best Memory
+
+-- memory was wanting: nothing is claimed, or the best point of some moment of the search
+pub record GaveUp (osil osol : List ℕ) (r : Report) : Type 0 where
+  pub job : Option (List ℕ)
+  pub whose : IsJobOf osol job
+  pub claim : Claim
+  pub claims : (claim ≡ Unsure Memory) ⊎ IsBestOfSearch osil osol claim
+  pub is : r ≡ claim_report job claim
+
+-- no look stops the search, or, only where the job was asked to stop, its last one
+abbrev pub MayStop : (asked : Bool) → (stop : Option ℕ) → (looks : ℕ) → Type 0
+MayStop asked stop looks = (stop ≡ None) ⊎ ((asked ≡ true) × (stop ≡ Some looks))
+
+-- the report answers a job with these texts
+pub data AnswersJob (osil osol : List ℕ) (asked : Bool) (r : Report) : Type 0 where
+  no_options : RefusesOptions osol r → AnswersJob osil osol asked r
+  no_instance : RefusesInstance osil osol r → AnswersJob osil osol asked r
+  solved : (stop : Option ℕ) (looks : ℕ) → MayStop asked stop looks → Solved osil osol stop looks r → AnswersJob osil osol asked r
+  gave_up : GaveUp osil osol r → AnswersJob osil osol asked r
+
+-- the document answers a job with these texts, which was asked to stop or wasn't; for want of memory there may be none
+abbrev pub Right : (osil osol : List ℕ) → (asked : Bool) → (doc : Option (List ℕ)) → Type 0
+Right osil osol asked None = Unit {0}
+Right osil osol asked (Some doc) = (r : Report) × AnswersJob osil osol asked r × (doc ≡ report_text r)

@@ -1,0 +1,104 @@
+-- What the run of a job answers after its looks, of which the last may have stopped it.
+use Rattle.std.specs.Prelude.{◌≡◌, ◌⊎◌, ℕ, ◌+◌, Bool, true, false, Option, None, Some, Result, Ok, IfOk, List}
+use Rattle.instance.specs.Parts.{Parts}
+use Rattle.instance.specs.Program.{program}
+use Rattle.certificate.specs.declared.causes.Cause.TheVariants.{Memory}
+use Rattle.certificate.specs.declared.claims.Claim.{Claim}
+use Rattle.certificate.specs.declared.claims.Claim.TheVariants.{Optimal, Infeasible, Unbounded, BestSoFar, Unsure}
+use Rattle.simplex_rules.specs.Looks.{answers, looks_after}
+use Rattle.search_rules.specs.Search.{Outcome, IsSearchAnswer}
+use Rattle.osrl_grammar.specs.declared.report.Report.{Report}
+use Rattle.osrl_grammar.specs.Writing.{report_text}
+use Rattle.osrl_grammar.specs.Back.{CauseComesBack, ClaimComesBack}
+use Rattle.solve_run.specs.Closings.{claim_report, error_report, IsFitted, IsClosed}
+use Rattle.solve_run.specs.declared.document.Document.{Document}
+use Rattle.solve_run.specs.JobAnswers.{job_terms, RefusesOptions, RefusesInstance, AreJobTexts, Solved, GaveUp, AnswersJob}
+
+-- the number of the look that stopped, after n that went on
+abbrev pub stop_after : ℕ → Bool → Option ℕ
+stop_after n false = None
+stop_after n true = Some (n + 1)
+
+-- the looks are those of the search of the instance, up to its end or to where memory was wanting
+pub record AreSearched (osil osol : List ℕ) (n : ℕ) (killed : Bool) : Type 0 where
+  pub given : AreJobTexts osil osol
+  pub turns : ℕ
+  pub outcome : Outcome
+  pub answers : IsSearchAnswer (program given.parts) (job_terms given.options (stop_after n killed)) outcome (record { turns = turns; looks = looks_after 0 n killed })
+
+-- there were no looks, or those of the search
+abbrev pub AreSearchLooks : (osil osol : List ℕ) → ℕ → Bool → Type 0
+AreSearchLooks osil osol n killed = ((n ≡ 0) × (killed ≡ false)) ⊎ AreSearched osil osol n killed
+
+-- the report that is answered after n looks that went on, and one more where it stopped the search
+pub data Reports (osil osol : List ℕ) (n : ℕ) (killed : Bool) (r : Report) : Type 0 where
+  no_options : RefusesOptions osol r → Reports osil osol n killed r
+  no_instance : RefusesInstance osil osol r → Reports osil osol n killed r
+  solved : Solved osil osol (stop_after n killed) (looks_after 0 n killed) r → Reports osil osol n killed r
+  gave_up : GaveUp osil osol r → Reports osil osol n killed r
+
+-- the document is this report's, and says whether it reports an error
+pub record IsDocumentOf (r : Report) (doc : Document) : Type 0 where
+  pub text : doc.text ≡ report_text r
+  pub error : doc.is_error ≡ r.error
+
+-- the document that is answered then
+pub record TellsOutcome (osil osol : List ℕ) (n : ℕ) (killed : Bool) (doc : Document) : Type 0 where
+  pub report : Report
+  pub reports : Reports osil osol n killed report
+  pub is : IsDocumentOf report doc
+
+-- the document answers a job with these texts, which was asked to stop or wasn't
+abbrev pub IsRight : (osil osol : List ℕ) → (asked : Bool) → Document → Type 0
+IsRight osil osol asked doc = (r : Report) × AnswersJob osil osol asked r × IsDocumentOf r doc
+
+-- and its text
+abbrev pub TellsText : (osil osol : List ℕ) → ℕ → Bool → (text : List ℕ) → Type 0
+TellsText osil osol n killed text = (is_error : Bool) × TellsOutcome osil osol n killed (record { text = text; is_error = is_error })
+
+-- a job ran: a watch came by these looks, and after them this is told
+pub record Ran (Came : List Bool → Type 0) (osil osol : List ℕ) (Told : ℕ → Bool → Type 0) : Type 0 where
+  pub went_on : ℕ
+  pub killed : Bool
+  pub came : Came (answers went_on killed)
+  pub looks : AreSearchLooks osil osol went_on killed
+  pub tells : Told went_on killed
+
+-- a document, if there was memory for one, tells what was found
+abbrev pub TellsDocument : {E : Type 0} → (osil osol : List ℕ) → Result Document E → ℕ → Bool → Type 0
+TellsDocument {E} osil osol result n killed = IfOk result (TellsOutcome osil osol n killed)
+
+-- the document claims nothing for want of memory
+abbrev pub IsMemoryDocument : (job : Option (List ℕ)) → Document → Type 0
+IsMemoryDocument job doc = IsDocumentOf (claim_report job (Unsure Memory)) doc
+
+-- the document of a report, or for want of memory of one that claims nothing of the same job
+abbrev pub IsTextOf : Report → Document → Type 0
+IsTextOf r doc = IsDocumentOf r doc ⊎ IsMemoryDocument r.job doc
+
+-- the document of a report of an error with this message, or memory was wanting
+abbrev pub IsErrorDocument : {E : Type 0} → (job : Option (List ℕ)) → (message : Result (List ℕ) E) → Document → Type 0
+IsErrorDocument {E} job message doc = ((m : List ℕ) × (message ≡ Ok m) × IsDocumentOf (error_report job m) doc) ⊎ IsMemoryDocument job doc
+
+-- the document of a report with this claim, or with what is told of it where that is too long, or memory was wanting
+abbrev pub IsFittedDocument : (job : Option (List ℕ)) → Claim → Document → Type 0
+IsFittedDocument job c doc = ((told : Claim) × IsFitted job c told × IsDocumentOf (claim_report job told) doc) ⊎ IsMemoryDocument job doc
+
+-- the numbers of a claim's cause are those of their types
+abbrev pub HasCauses : Claim → Type 0
+HasCauses (Optimal x v ns) = Unit {0}
+HasCauses (Infeasible ns) = Unit {0}
+HasCauses (Unbounded x v r) = Unit {0}
+HasCauses (BestSoFar x v c) = CauseComesBack c
+HasCauses (Unsure c) = CauseComesBack c
+
+-- what is told of a claim that was found, closed
+pub record ClosesClaim (p : Parts) (job : Option (List ℕ)) (turns : ℕ) (found : Claim) (doc : Document) : Type 0 where
+  pub told : Claim
+  pub closed : IsClosed p job turns found told
+  pub numbers : ClaimComesBack (Some told)
+  pub is : IsDocumentOf (claim_report job told) doc
+
+-- the document tells what was found, or memory was wanting
+abbrev pub IsClaimTold : (p : Parts) (job : Option (List ℕ)) (turns : ℕ) (found : Claim) → Document → Type 0
+IsClaimTold p job turns found doc = ClosesClaim p job turns found doc ⊎ IsMemoryDocument job doc
