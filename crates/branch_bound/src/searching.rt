@@ -1,9 +1,12 @@
 // The search, case by case.
-ghost use Rattle.std.specs.Prelude.{◌≡◌, ℕ, ◌+◌, ◌-◌, ◌^◌, ◌<◌, ◌≤◌, Bool, Option, length, IfOk};
+ghost use Rattle.std.specs.Prelude.{◌≡◌, ℕ, ◌+◌, ◌-◌, ◌^◌, ◌<◌, ◌≤◌, Bool, false, Option, length, IfOk};
 ghost use Rattle.instance.specs.Program.{program};
 ghost use Rattle.simplex.specs.Answers.{was_stopped};
 ghost use Rattle.simplex_rules.specs.Looks.{answers, AgreesWith, looks_after};
 ghost use Rattle.search_rules.specs.Search.{IsSearchAnswer, first};
+ghost use Rattle.search_rules.specs.Outcomes.{IsPlain};
+ghost use Rattle.no_cycles.specs.Beginning.{BeginsFeasible};
+ghost use Rattle.no_cycles.specs.Searches.{is_out_of_turns};
 ghost use Rattle.branch_bound.specs.Claims.{claimed_outcome, is_killed};
 ghost use Rattle.branch_bound.specs.Walks.{moment, IsWalk, IsAt};
 ghost use Rattle.branch_bound.specs.Cases.{terms, HasSize, clock_at, is_killed_by, FollowsStep};
@@ -144,6 +147,9 @@ fn begin(alloc: Global, instance: &Instance) -> Result<Walk, AllocError>
 
 /// Searches an instance for a best point, within at most `nodes` cases, and `turns` turns in all runs. The watch is
 /// asked before each case and after each 64th turn; `steps` counts each entry of the runs' dictionaries that is read or written.
+///
+/// Where no variable is whole, and the variables' first values keep each row between its ends, a limit of as many turns as there
+/// are ways for each column to be basic or to have one of three places is never what the search is given up for (Bland, 1977).
 pub fn search<W: Watch, L: Ledger>(
     alloc: Global,
     instance: &Instance,
@@ -154,6 +160,7 @@ pub fn search<W: Watch, L: Ledger>(
 ) -> Searched
     requires { W.stops watch.old < 2 ^ 64 - 1 }
     ensures answer { (n : ℕ) × W.came watch.old watch.new (answers n (is_killed result.claim)) × ((stop : Option ℕ) → AgreesWith stop 0 n (is_killed result.claim) → IsSearchAnswer (program instance.now) (record { nodes = nodes; turns = turns; stop = stop }) (claimed_outcome result.claim) (record { turns = result.turns; looks = looks_after 0 n (is_killed result.claim) })) }
+    ensures enough { IsPlain (program instance.now) → BeginsFeasible (program instance.now) → 4 ^ (length instance.now.vars + length instance.now.rows) ≤ turns → is_out_of_turns (claimed_outcome result.claim) ≡ false }
     ensures counted { steps.old ≤ steps.new }
 {
     let cause = Cause::Memory;

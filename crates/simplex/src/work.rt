@@ -1,9 +1,10 @@
-ghost use Rattle.std.specs.Prelude.{◌≡◌, ℕ, ◌+◌, ◌-◌, ◌^◌, ◌<◌, ◌≤◌, length, vec_len, IfOk};
+ghost use Rattle.std.specs.Prelude.{◌≡◌, ◌≢◌, ℕ, ◌+◌, ◌-◌, ◌^◌, ◌<◌, ◌≤◌, length, vec_len, IfOk};
 ghost use Rattle.fraction.specs.Frac.{ratio};
 ghost use Rattle.evidence.specs.Instance as Of;
 ghost use Rattle.dictionary.specs.Dict.{width_of, height_of, count_of};
-ghost use Rattle.simplex_rules.specs.Ends.{Terms};
-ghost use Rattle.simplex_rules.specs.Runs.{Run};
+ghost use Rattle.simplex_rules.specs.Ends.{Terms, Clock};
+ghost use Rattle.simplex_rules.specs.Runs.{Run, IsRun};
+ghost use Rattle.no_cycles.specs.Phase.{BeginsSettled, HasNoneTwice, came_through};
 ghost use Rattle.simplex_rules.specs.Looks.{answers, AgreesWith, looks_after};
 
 use crate::answer::{LpEnd, Turns};
@@ -44,6 +45,7 @@ impl<L: Ledger> Work<L> {
     ghost use Rattle.simplex.specs.Cuts.{IsCutBy};
     ghost use Rattle.simplex.specs.Memory.{width_in, height_in, point_in, factor_in, movement_in, ended_with};
     ghost use Rattle.simplex.specs.Answers.{was_stopped};
+    ghost use Rattle.simplex.specs.declared.answer.LpEnd.TheVariants as Has;
 
     /// Memory for runs of so many variables and rows.
     pub fn for_size(alloc: Global, n: u32, m: u32) -> Result<Work<L>, AllocError>
@@ -85,6 +87,10 @@ impl<L: Ledger> Work<L> {
     /// rises by the run's turns, at most to `turns.most`, and after each turn whose number is a multiple of 64 there is a look.
     /// The run ends by [`LpEnd::Stopped`] exactly where one of its looks said to stop, which is then the last. `steps` counts each
     /// entry of the dictionary that is read or written.
+    ///
+    /// While it improves the goal it comes to no basis twice with the same places (Bland, 1977). So where no column is out at the
+    /// first basis, and as many turns are left as there are ways for each column to be basic or to have one of three places, it
+    /// doesn't end by [`LpEnd::TurnLimit`].
     pub fn run<W: Watch>(
         &mut self,
         instance: &Instance,
@@ -104,6 +110,8 @@ impl<L: Ledger> Work<L> {
         ensures more { turns.old.done ≤ turns.new.done }
         ensures within { turns.old.done ≤ turns.old.most → turns.new.done ≤ turns.old.most }
         ensures run { (n : ℕ) × W.came watch.old watch.new (answers n (was_stopped result)) × ((I : Of.Instance) (t : Terms) (looks : ℕ) → IsCutBy instance.now cuts.now I → t.turns ≡ turns.old.most → AgreesWith t.stop looks n (was_stopped result) → Run I zero_goal t (record { turns = turns.old.done; looks = looks }) (ended_with result self.new) (record { turns = turns.new.done; looks = looks_after looks n (was_stopped result) })) }
+        ensures once { (I : Of.Instance) (t : Terms) (c d : Clock) → Of.IsInstance I → IsCutBy instance.now cuts.now I → (run : IsRun I zero_goal t c (ended_with result self.new) d) → HasNoneTwice I zero_goal (came_through run.comes) }
+        ensures enough { (I : Of.Instance) → Of.IsInstance I → IsCutBy instance.now cuts.now I → BeginsSettled I zero_goal → turns.old.done + 4 ^ (Of.width I + Of.height I) ≤ turns.old.most → result ≢ Has.TurnLimit }
         ensures counted { steps.old ≤ steps.new }
     {
         run_over(

@@ -1,5 +1,5 @@
 -- The looks of a run: what they answered, and which stop that agrees with.
-use Rattle.std.specs.Prelude.{◌≡◌, ℕ, zero, suc, ◌+◌, ◌<◌, Bool, true, false, Option, Some, List, [], ◌∷◌, ◌++◌, IfSome}
+use Rattle.std.specs.Prelude.{◌≡◌, ℕ, zero, suc, ◌+◌, ◌<◌, Bool, true, false, Option, None, Some, List, [], ◌∷◌, ◌++◌, IfSome}
 use Rattle.simplex_rules.specs.Ends.{End, Clash, Empty, Best, Endless, TurnsOut, TooWide, Stopped}
 
 abbrev pub is_stopped : End → Bool
@@ -28,6 +28,11 @@ IsAfter n stop = IfSome stop (λ k. n < k)
 abbrev pub AgreesWith : Option ℕ → ℕ → ℕ → Bool → Type 0
 AgreesWith stop looks n false = IsAfter (looks + n) stop
 AgreesWith stop looks n true = stop ≡ Some (looks + n + 1)
+
+-- the stop that so many looks of a search tell
+abbrev pub stop_after : ℕ → Bool → Option ℕ
+stop_after n false = None
+stop_after n true = Some (n + 1)
 
 abbrev pub looks_after : ℕ → ℕ → Bool → ℕ
 looks_after looks n false = looks + n

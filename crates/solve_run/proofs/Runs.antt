@@ -12,7 +12,8 @@ use Rattle.certificate.specs.declared.causes.Cause.TheVariants.{Memory}
 use Rattle.certificate.specs.declared.claims.Claim.{Claim}
 use Rattle.certificate.specs.declared.claims.Claim.TheVariants as Has
 use Rattle.simplex_rules.specs.Ends.{Terms, Clock}
-use Rattle.simplex_rules.specs.Looks.{answers, went_on, AgreesWith as Agrees, looks_after}
+use Rattle.simplex_rules.specs.Looks.{answers, went_on, AgreesWith as Agrees, looks_after, stop_after}
+use Rattle.simplex_rules.proofs.Looks.{agrees}
 use Rattle.search_rules.specs.Search.{Found, Outcome, Moment, ComesInSearch, Search, IsSearchAnswer, early, searched, given_up as given_up_at, given_up_after}
 use Rattle.search_rules.specs.Outcomes.{IsShown}
 use Rattle.branch_bound.specs.Claims.{claimed_outcome, is_kill, is_killed}
@@ -30,14 +31,9 @@ use Rattle.solve_run.specs.declared.document.Document.{Document}
 use Rattle.solve_run.specs.Closings.{claim_report, error_report, IsFinal, IsJudged, IsShort, IsFitted, checked, IsClosed}
 use Rattle.solve_run.specs.JobAnswers.{job_terms, AreJobTexts, IsJobOf, MayStop, AnswersJob, Right}
 use Rattle.solve_run.specs.JobAnswers as right
-use Rattle.solve_run.specs.Runs.{stop_after, Reports, no_options, no_instance, solved, gave_up, TellsOutcome, TellsText, TellsDocument, IsRight, Ran, ClosesClaim, IsClaimTold, IsMemoryDocument, IsErrorDocument}
+use Rattle.solve_run.specs.Runs.{Reports, no_options, no_instance, solved, gave_up, TellsOutcome, TellsText, TellsDocument, IsRight, Ran, ClosesClaim, IsClaimTold, IsMemoryDocument, IsErrorDocument}
 use Rattle.solve_run.proofs.Lengths.{IsShortName, best_short, unsure_short}
 use Rattle.solve_run.proofs.Names.{short_name}
-
--- the stop that the looks tell agrees with them
-agrees : (n : ℕ) (killed : Bool) → Agrees (stop_after n killed) 0 n killed
-agrees n false = tt
-agrees n true = ap Some (omega arith)
 
 -- ---- claims that are given up
 

@@ -5,7 +5,7 @@ use Rattle.instance.specs.Program.{program}
 use Rattle.certificate.specs.declared.causes.Cause.TheVariants.{Memory}
 use Rattle.certificate.specs.declared.claims.Claim.{Claim}
 use Rattle.certificate.specs.declared.claims.Claim.TheVariants.{Optimal, Infeasible, Unbounded, BestSoFar, Unsure}
-use Rattle.simplex_rules.specs.Looks.{answers, looks_after}
+use Rattle.simplex_rules.specs.Looks.{answers, looks_after, stop_after}
 use Rattle.search_rules.specs.Search.{Outcome, IsSearchAnswer}
 use Rattle.osrl_grammar.specs.declared.report.Report.{Report}
 use Rattle.osrl_grammar.specs.Writing.{report_text}
@@ -13,11 +13,6 @@ use Rattle.osrl_grammar.specs.Back.{CauseComesBack, ClaimComesBack}
 use Rattle.solve_run.specs.Closings.{claim_report, error_report, IsFitted, IsClosed}
 use Rattle.solve_run.specs.declared.document.Document.{Document}
 use Rattle.solve_run.specs.JobAnswers.{job_terms, RefusesOptions, RefusesInstance, AreJobTexts, Solved, GaveUp, AnswersJob}
-
--- the number of the look that stopped, after n that went on
-abbrev pub stop_after : ℕ → Bool → Option ℕ
-stop_after n false = None
-stop_after n true = Some (n + 1)
 
 -- the looks are those of the search of the instance, up to its end or to where memory was wanting
 pub record AreSearched (osil osol : List ℕ) (n : ℕ) (killed : Bool) : Type 0 where

@@ -1,7 +1,12 @@
-use Rattle.std.proofs.Common.{◌≡◌, Bool, sym, subst}
+use Rattle.std.proofs.Common.{◌≡◌, ℕ, ◌+◌, ◌^◌, ◌≤◌, Bool, arith, refl, sym, subst}
+use Rattle.std.proofs.lemmas.List.{length-map}
 use Rattle.instance.specs.Program.{program}
-use Rattle.simplex_rules.specs.Looks.{answers, AgreesWith, looks_after}
+use Rattle.instance.specs.Program.{variable, row}
+use Rattle.instance.proofs.Numbers.{program-instance}
+use Rattle.simplex_rules.specs.Looks.{answers, AgreesWith, looks_after, stop_after}
+use Rattle.simplex_rules.proofs.Looks.{agrees}
 use Rattle.search_rules.specs.Search.{IsSearchAnswer, begins, given_up}
+use Rattle.no_cycles.proofs.Searched.{within_turns}
 use Rattle.branch_bound.specs.Claims.{claimed_outcome, is_killed}
 use Rattle.branch_bound.proofs.searching.search.Goals as goal
 
@@ -23,3 +28,18 @@ returns-clause-answer g c =
           subst (λ (b : Bool). IsSearchAnswer (program a.instance.now) (record { nodes = a.nodes; turns = a.turns; stop = stop }) (claimed_outcome e.result) (record { turns = e.new.relaxation.turns.done; looks = looks_after 0 n b })) back
           (answer stop (subst (AgreesWith stop 0 n) q h)),
     )
+
+pub returns-in-Err-clause-enough : goal.returns-in-Err-clause-enough
+returns-in-Err-clause-enough g c = λ plain feasible enough. refl
+
+pub returns-in-Err-begin-clause-enough : goal.returns-in-Err-begin-clause-enough
+returns-in-Err-begin-clause-enough g c = λ plain feasible enough. refl
+
+pub returns-clause-enough : goal.returns-clause-enough
+returns-clause-enough g c = λ plain feasible enough.
+    let p = c.args.instance.now in
+    let (n, came, answer) = returns-clause-answer g c in
+    let killed = is_killed c.explore-claim.result in
+    within_turns (program p) _ plain (program-instance p) feasible
+    (subst (λ (k : ℕ). 4 ^ k ≤ c.args.turns) (let v = length-map p.vars variable in let r = length-map p.rows row in omega arith) enough)
+    _ _ (answer (stop_after n killed) (agrees n killed))

@@ -1,14 +1,16 @@
-use Rattle.std.proofs.Common.{List, length, sym, ◌∙◌, subst}
+use Rattle.std.proofs.Common.{List, length, refl, sym, ◌∙◌, subst}
 use Rattle.std.specs.Vec.{with_items}
 use Rattle.std.proofs.lemmas.List.{with_items_is}
-use Rattle.simplex_rules.specs.Ends.{End}
-use Rattle.simplex_rules.specs.Looks.{looks_after}
+use Rattle.simplex_rules.specs.Ends.{Terms, Clock, End}
+use Rattle.simplex_rules.specs.Looks.{looks_after, stop_after}
+use Rattle.simplex_rules.proofs.Looks.{agrees}
 use Rattle.simplex_rules.specs.Runs.{Run}
+use Rattle.no_cycles.proofs.Bounded.{none_twice}
 use Rattle.dictionary.specs.Dict.{width_of, height_of}
 use Rattle.simplex.specs.declared.ends.Ends.{Ends}
 use Rattle.simplex.specs.Cuts.{IsCutBy}
 use Rattle.simplex.specs.Answers.{was_stopped}
-use Rattle.simplex.proofs.Finishes.{ended_same}
+use Rattle.simplex.proofs.Finishes.{ended_same, never_limited}
 use Rattle.simplex.proofs.work.Work.run.Goals as goal
 
 pub returns-clause-run : goal.returns-clause-run
@@ -28,3 +30,15 @@ returns-clause-run g c =
           subst (λ (e : End). Run I c.args.zero_goal t (record { turns = c.args.turns.now.done; looks = looks }) e (record { turns = c.run_over.new.turns.done; looks = looks_after looks p.0 (was_stopped c.run_over.result) })) same
           (p.2 I t looks (subst (λ (cs : List Ends). IsCutBy c.args.instance.now cs I) (sym c.as_slice.ensures) cut) most tells)),
     )
+
+pub returns-clause-once : goal.returns-clause-once
+returns-clause-once g c = λ I t b d good cut run. none_twice good run.room run.comes
+
+pub returns-clause-enough : goal.returns-clause-enough
+returns-clause-enough g c = λ I good cut settled enough out.
+    let (n, came, ran) = c.run_over.ensures.run in
+    let stopped = was_stopped c.run_over.result in
+    let t : Terms = record { nodes = 0; turns = c.args.turns.now.most; stop = stop_after n stopped } in
+    let first : Clock = record { turns = c.args.turns.now.done; looks = 0 } in
+    never_limited I c.args.zero_goal t first _ c.run_over.result _ _ _ good settled enough
+    (ran I t 0 (subst (λ (cs : List Ends). IsCutBy c.args.instance.now cs I) (sym c.as_slice.ensures) cut) refl (agrees n stopped)) out
