@@ -7,7 +7,8 @@ use Rattle.search_rules.specs.Search.{Outcome, To, Out, closed, IsNext, ComesInS
 use Rattle.branch_bound.specs.Claims.{claimed_outcome}
 use Rattle.branch_bound.specs.Walks.{best, moment}
 use Rattle.branch_bound.specs.Cases.{terms, clock_at}
-use Rattle.branch_bound.proofs.Looks.{no_stops, answers_more, after_less, tells_less, looks_more}
+use Rattle.simplex.proofs.Looks.{answers_more}
+use Rattle.branch_bound.proofs.Looks.{no_stops, after_less, tells_less, looks_more}
 use Rattle.branch_bound.proofs.CaseSteps.{answered}
 use Rattle.branch_bound.proofs.searching.explore.Goals as goal
 
