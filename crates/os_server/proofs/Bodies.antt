@@ -2,7 +2,6 @@
 use Rattle.std.proofs.Common.{◌≡◌, ◌≢◌, ◌==◌, ℕ, Bool, true, false, List, [], length, ap}
 use Rattle.soap_calls.specs.declared.call.SoapCall as types
 use Rattle.soap_calls.specs.Calls.{IsCallText}
-use Rattle.osol_grammar.specs.declared.options.Options.{Options}
 use Rattle.os_server.specs.declared.fault.FaultCode.TheVariants as code
 use Rattle.os_server.specs.declared.fault.NoOrder as none
 use Rattle.os_server.specs.declared.fault.NoOrder.TheVariants as no

@@ -30,7 +30,7 @@ given_kept (calls.Claim worker) j giving = refl
 given_kept call j giving = absurd giving
 
 module _ (made : Made) (right : Right) (law : RunsAreKept made right) where
-  -- these calls are kept wherever they stand in a history
+  -- these moves are kept wherever they stand in a history
   abbrev Keeps : List Entry → Type 0
   Keeps own = (before : List Entry) (now : Register) → LeadsStepwise right empty (before ++ own) now → AreKept own
 

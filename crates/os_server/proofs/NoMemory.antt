@@ -14,7 +14,7 @@ use Rattle.os_server.proofs.Steps.{read_none}
 use Rattle.os_server.proofs.Pieces.{Made, Wakes}
 use Rattle.os_server.proofs.Rounds.{followed, unwritten, sends_between, none_yet, last_whole}
 
--- no call was made wakes
+-- no move was made
 abbrev None : List Entry → Type 0
 None es = es ≡ []
 

@@ -1,4 +1,4 @@
--- The bytes to come and the replies to the calls decide the bytes written.
+-- The bytes to come and the replies to the moves decide the bytes written.
 use Rattle.std.proofs.Common.{◌≡◌, ◌≢◌, ℕ, ◌+◌, Bool, false, List, [], ◌∷◌, ◌++◌, length, refl, sym, ◌∙◌, ap, subst, inl, inr, ◌⊎◌, arith, append_assoc, Option, None, Some, Err, codes, decimal}
 use Rattle.std.specs.Prelude.{All}
 use Rattle.std.proofs.lemmas.List.{append_cancel_left, map-append}
@@ -6,6 +6,7 @@ use Rattle.std.proofs.lemmas.List.Elements.{All-head, All-tail}
 use Rattle.std.proofs.lemmas.Fmt.{decimal_injective}
 use Rattle.http_link.specs.declared.refusal.Refusal.{Refusal}
 use Rattle.http_link.specs.Responses.{refusal_bytes}
+use Rattle.http_link.proofs.Lines.{cons_same}
 use Rattle.soap_calls.specs.declared.call.SoapCall.{SoapCall}
 use Rattle.soap_calls.specs.declared.fault.SoapFault.{SoapFault}
 use Rattle.soap_calls.specs.declared.fault.SoapFault.TheVariants as soap
@@ -169,28 +170,17 @@ replies_of own es x is = ap (λ k. replies k ++ x) is
 replies_then : (a b : List Entry) (x : List Reply) → replies (a ++ b) ++ x ≡ replies a ++ (replies b ++ x)
 replies_then a b x = ap (λ r. r ++ x) (map-append (λ (e : Entry). e.reply) a b) ∙ append_assoc (replies a) (replies b) x
 
-abbrev first : Reply → List Reply → Reply
-first d [] = d
-first d (x ∷ xs) = x
-
-abbrev behind : List Reply → List Reply
-behind [] = []
-behind (x ∷ xs) = xs
-
-heads : (a b : Reply) (x y : List Reply) → a ∷ x ≡ b ∷ y → (a ≡ b) × (x ≡ y)
-heads a b x y e = (ap (first a) e, ap behind e)
-
 -- looks and a finish end at one place
 past_looks : (n m : ℕ) (s t : List Bool) (e f : Finish) (x y : List Reply)
     → replies (looks n s) ++ (reply.Finish e ∷ x) ≡ replies (looks m t) ++ (reply.Finish f ∷ y) → x ≡ y
-past_looks n m [] [] e f x y h = (heads (reply.Finish e) (reply.Finish f) x y h).1
+past_looks n m [] [] e f x y h = (cons_same (reply.Finish e) (reply.Finish f) x y h).1
 past_looks n m [] (b ∷ t) e f x y h =
-    let same = (heads (reply.Finish e) (reply.Marked b) x (replies (looks m t) ++ (reply.Finish f ∷ y)) h).0 in cc
+    let same = (cons_same (reply.Finish e) (reply.Marked b) x (replies (looks m t) ++ (reply.Finish f ∷ y)) h).0 in cc
 past_looks n m (a ∷ s) [] e f x y h =
-    let same = (heads (reply.Marked a) (reply.Finish f) (replies (looks n s) ++ (reply.Finish e ∷ x)) y h).0 in cc
+    let same = (cons_same (reply.Marked a) (reply.Finish f) (replies (looks n s) ++ (reply.Finish e ∷ x)) y h).0 in cc
 past_looks n m (a ∷ s) (b ∷ t) e f x y h =
     past_looks n m s t e f x y
-    (heads (reply.Marked a) (reply.Marked b) (replies (looks n s) ++ (reply.Finish e ∷ x)) (replies (looks m t) ++ (reply.Finish f ∷ y)) h).1
+    (cons_same (reply.Marked a) (reply.Marked b) (replies (looks n s) ++ (reply.Finish e ∷ x)) (replies (looks m t) ++ (reply.Finish f ∷ y)) h).1
 
 module _ (made : Made) where
   run_replies : (j : Job) (run : List Entry) (r : IsJobRun made j run) (x : List Reply)
@@ -215,7 +205,7 @@ module _ (made : Made) where
   past_work : (w v : Bool) (g h : Option Job) (a b : List Entry) (x y : List Reply) → Works made w g a → Works made v h b
       → replies a ++ x ≡ replies b ++ y → x ≡ y
   past_work w v g h a b x y p q e =
-      let same = heads (reply.Gave g) (reply.Gave h) (replies p.run ++ x) (replies q.run ++ y)
+      let same = cons_same (reply.Gave g) (reply.Gave h) (replies p.run ++ x) (replies q.run ++ y)
       (sym (replies_of a (entry_of_move (tables.Claim w) (reply.Gave g) ∷ p.run) x p.are) ∙ e ∙ replies_of b (entry_of_move (tables.Claim v) (reply.Gave h) ∷ q.run) y q.are) in
       let given : g ≡ h = let gave = same.0 in cc in
       past_given g h p.run q.run x y p.ran q.ran given same.1
@@ -223,7 +213,7 @@ module _ (made : Made) where
   past_one : (c d : Call) (l m : Reply) (own again : List Entry) (x y : List Reply) → own ≡ entry_of_move c l ∷ [] → again ≡ entry_of_move d m ∷ []
       → replies own ++ x ≡ replies again ++ y → (l ≡ m) × (x ≡ y)
   past_one c d l m own again x y p q e =
-      heads l m x y (sym (replies_of own (entry_of_move c l ∷ []) x p) ∙ e ∙ replies_of again (entry_of_move d m ∷ []) y q)
+      cons_same l m x y (sym (replies_of own (entry_of_move c l ∷ []) x p) ∙ e ∙ replies_of again (entry_of_move d m ∷ []) y q)
 
   module _ (osil osol : List ℕ) where
     solved_replies : (said : Reply) (own : List Entry) (r : IsRetrieved made osil osol said own) (x : List Reply)
@@ -243,19 +233,19 @@ module _ (made : Made) where
     past_solve l m own again x y (inl p) (inl q) e = past_one (tables.Enter osil osol) (tables.Enter osil osol) l m own again x y p.0 q.0 e
     past_solve l m own again x y (inl p) (inr q) e =
         absurd (no_job l q.job p.1
-        (heads l (reply.Gave (Some q.job)) x (replies q.ran.run ++ (m ∷ y))
+        (cons_same l (reply.Gave (Some q.job)) x (replies q.ran.run ++ (m ∷ y))
         (sym (replies_of own (entry_of_move (tables.Enter osil osol) l ∷ []) x p.0) ∙ e ∙ solved_replies m again q y)).0)
     past_solve l m own again x y (inr p) (inl q) e =
         absurd (no_job m p.job q.1
-        (sym (heads (reply.Gave (Some p.job)) m (replies p.ran.run ++ (l ∷ x)) y
+        (sym (cons_same (reply.Gave (Some p.job)) m (replies p.ran.run ++ (l ∷ x)) y
         (sym (solved_replies l own p x) ∙ e ∙ replies_of again (entry_of_move (tables.Enter osil osol) m ∷ []) y q.0)).0))
     past_solve l m own again x y (inr p) (inr q) e =
-        heads l m x y
+        cons_same l m x y
         (past_run p.job q.job p.ran.run q.ran.run (l ∷ x) (m ∷ y) p.ran.is_run q.ran.is_run
-        (heads (reply.Gave (Some p.job)) (reply.Gave (Some q.job)) (replies p.ran.run ++ (l ∷ x)) (replies q.ran.run ++ (m ∷ y))
+        (cons_same (reply.Gave (Some p.job)) (reply.Gave (Some q.job)) (replies p.ran.run ++ (l ∷ x)) (replies q.ran.run ++ (m ∷ y))
         (sym (solved_replies l own p x) ∙ e ∙ solved_replies m again q y)).1)
 
-  -- the calls that do what is asked
+  -- the moves that do what is asked
   past_doing : (d : Doing) (l m : Reply) (own again : List Entry) (x y : List Reply) → DoesSo made d l own → DoesSo made d m again
       → replies own ++ x ≡ replies again ++ y → (l ≡ m) × (x ≡ y)
   past_doing (Moves call) l m own again x y p q e = past_one call call l m own again x y p q e
@@ -279,7 +269,7 @@ module _ (made : Made) (wakes : Wakes) (by : Requests) (says : Bodies) where
   some_once : (a b : Said) → Some a ≡ Some b → a ≡ b
   some_once a b e = cc
 
-  -- an answer and the calls for it
+  -- an answer and the moves for it
   past_answer : (body : List ℕ) (own again : List Entry) (s t : Said) (w v : Bool) (x y : List Reply) → IsBodyAnswered made wakes body own s w
       → IsBodyAnswered made wakes body again t v → replies own ++ x ≡ replies again ++ y → (s ≡ t) × (x ≡ y)
   past_answer body own again s t w v x y (inl p) (inl q) e =

@@ -1,4 +1,4 @@
--- What holds of the pieces of a conversation's calls holds of all of them.
+-- What holds of the pieces of a conversation's moves holds of all of them.
 use Rattle.std.proofs.Common.{◌≡◌, ℕ, Bool, true, false, length, List, [], ◌∷◌, ◌++◌, Option, Some, None, refl, sym, ◌∙◌, ap, subst, inl, inr}
 use Rattle.std.specs.Prelude.{All, ◌⊎◌}
 use Rattle.std.proofs.lemmas.List.Elements.{All-head, All-tail}
@@ -31,7 +31,7 @@ abbrev gives_none : tables.Reply → Bool
 gives_none (reply.Gave (Some j)) = false
 gives_none said = true
 
--- the call gives no job, looks at none and finishes none
+-- the move gives no job, looks at none and finishes none
 abbrev pub is_plain : Call → tables.Reply → Bool
 is_plain (calls.Enter o p) said = gives_none said
 is_plain (calls.Claim worker) said = gives_none said
@@ -62,7 +62,7 @@ plain_then (calls.Look n) said never = never
 plain_then (calls.Finish j asked document) said never = never
 plain_then call said never = refl
 
--- this holds of no calls, of calls after calls, of a plain call, and of a call that gives a job with the job's run
+-- this holds of no moves, of moves after moves, of a plain move, and of a move that gives a job with the job's run
 pub record Builds (made : Made) (Holds : List Entry → Type 0) : Type 0 where
   pub none : Holds []
   pub both : (a b : List Entry) → Holds a → Holds b → Holds (a ++ b)
@@ -136,7 +136,7 @@ module _ (made : Made) (Holds : List Entry → Type 0) (b : Builds made Holds) w
     all_so (p ∷ ps) xs =
         b.both p.entries (all_of ps).entries (exchange_so false p (All-head (IsExchange made wakes false) p ps xs)) (all_so ps (All-tail (IsExchange made wakes false) p ps xs))
 
-    -- of all calls of a conversation
+    -- of all moves of a conversation
     pub talk_so : (end : Served) (A : Type 0) (p : Part) → Talk made wakes end A p → Holds p.entries
     talk_so end A p t =
         subst Holds (sym (ap (λ q. q.entries) t.whole)) (b.both (all_of t.done).entries t.last.entries (all_so t.done t.exchanges) (end_so end (length t.done) A t.last t.ends))

@@ -1,4 +1,4 @@
--- What a request is replied, by the calls that it asks.
+-- What a request is replied, by the moves that it asks.
 use Rattle.std.proofs.Common.{◌≡◌, ℕ, Bool, false, List, [], inl, inr, Option, Some, Result, Ok, Err, refl, sym, ◌∙◌, ap, subst}
 use Rattle.std.specs.Prelude.{IfOk}
 use Rattle.std.specs.declared.alloc.AllocError.{AllocError}

@@ -26,7 +26,7 @@ use Rattle.os_server.proofs.Replies.{WholesArePart, due}
 abbrev Bytes : Type 0
 Bytes = Option (List ℕ)
 
--- calls after calls are both
+-- moves after moves are both
 abbrev Joins : (List Entry → Type 0) → (List Entry → Type 0) → (List Entry → Type 0) → Type 0
 Joins did did' both = (a b : List Entry) → did a → did' b → both (a ++ b)
 
@@ -75,7 +75,7 @@ lost_comes made wakes did fault old new is stays came counted output =
 
 -- ---- one request
 
--- no calls after these
+-- no moves after these
 without_more : (made : Made) (wakes : Wakes) (taken : List ℕ) (own after : List Entry) (reply : Reply) → after ≡ [] → IsReplyDue made wakes taken own reply
     → IsReplyDue made wakes taken (own ++ after) reply
 without_more made wakes taken own after reply none is_due =
@@ -356,7 +356,7 @@ pub all_done : (made : Made) (wakes : Wakes) (did : List Entry → Type 0) (coun
     → SoFar made wakes did count a b → Serves made wakes did Ended a b
 all_done made wakes did count a b full s = (done_whole made wakes did count a b full s).0
 
--- of the calls of a conversation something else may be said
+-- of the moves of a conversation something else may be said
 abbrev pub serves_so : (made : Made) (wakes : Wakes) (did said : List Entry → Type 0) (end : Served) (old new : Tells) → (s : Serves made wakes did end old new)
     → said s.part.entries → Serves made wakes said end old new
 serves_so made wakes did said end old new s is = record {
@@ -412,18 +412,18 @@ serves_from made wakes did end a b carry s = record {
   accounts = accounts_of end [] carry a b s.accounts;
 }
 
--- what is carried at the end was read past it
-serves_link : (made : Made) (wakes : Wakes) (did : List Entry → Type 0) (end : Served) (a b : Tells) (first carry : List ℕ) → first ≡ []
-    → Serves made wakes did end (tells_ahead first a) (tells_ahead carry b) → Serves made wakes did end a b
-serves_link made wakes did end a b first carry none s =
-    serves_from made wakes did end a b carry (subst (λ (c : List ℕ). Serves made wakes did end (tells_ahead c a) (tells_ahead carry b)) none s)
+-- a link that is owned, with nothing read ahead of it yet
+pub none_of_owned : {L : Type 0} (tells : L → Tells) (made : Made) (wakes : Wakes) (did : List Entry → Type 0) (link owned : L) (carry : List ℕ)
+    → owned ≡ link → carry ≡ [] → did [] → SoFar made wakes did 0 (tells_ahead [] (tells link)) (tells_ahead carry (tells owned))
+none_of_owned {L} tells made wakes did link owned carry owned_is none stays =
+    subst (λ (l : L). SoFar made wakes did 0 (tells_ahead [] (tells link)) (tells_ahead carry (tells l))) (sym owned_is)
+    (subst (λ (c : List ℕ). SoFar made wakes did 0 (tells_ahead [] (tells link)) (tells_ahead c (tells link))) (sym none)
+    (none_yet made wakes did (tells_ahead [] (tells link)) stays))
 
--- the same of a link that was owned meanwhile and given back
-pub serves_owned : {L : Type 0} (tells : L → Tells) (made : Made) (wakes : Wakes) (did : List Entry → Type 0) (end : Served) (link owned kept given : L)
-    (first carry : List ℕ) → owned ≡ link → given ≡ kept → first ≡ []
-    → Serves made wakes did end (tells_ahead first (tells owned)) (tells_ahead carry (tells kept))
+-- a link that was owned meanwhile is given back: what is carried at the end was read past it
+pub serves_owned : {L : Type 0} (tells : L → Tells) (made : Made) (wakes : Wakes) (did : List Entry → Type 0) (end : Served) (link kept given : L)
+    (carry : List ℕ) → given ≡ kept → Serves made wakes did end (tells_ahead [] (tells link)) (tells_ahead carry (tells kept))
     → Serves made wakes did end (tells link) (tells given)
-serves_owned {L} tells made wakes did end link owned kept given first carry owned_is given_is none s =
+serves_owned {L} tells made wakes did end link kept given carry given_is s =
     subst (λ (l : L). Serves made wakes did end (tells link) (tells l)) (sym given_is)
-    (subst (λ (l : L). Serves made wakes did end (tells l) (tells kept)) owned_is
-    (serves_link made wakes did end (tells owned) (tells kept) first carry none s))
+    (serves_from made wakes did end (tells link) (tells kept) carry s)

@@ -137,7 +137,7 @@ module _ (made : List ℕ → List ℕ → List Bool → Option (List ℕ) → T
   DoesSo (Moves call) last own = own ≡ entry_of_move call last ∷ []
   DoesSo (RunsAtOnce osil osol) last own = Solves made osil osol last own
 
-  -- the calls that do what is asked, the last of which has this reply
+  -- the moves that do what is asked, the last of which has this reply
   abbrev pub Does : Order → Reply → List Entry → Type 0
   Does order last own = DoesSo (doing_of order) last own
 
@@ -145,6 +145,6 @@ module _ (made : List ℕ → List ℕ → List Bool → Option (List ℕ) → T
   BeginsSo (Moves call) own = own ≡ []
   BeginsSo (RunsAtOnce osil osol) own = BeginsToSolve made osil osol own
 
-  -- the calls until one found no memory
+  -- the moves until one found no memory
   abbrev pub BeginsToDo : Order → List Entry → Type 0
   BeginsToDo order own = BeginsSo (doing_of order) own

@@ -20,11 +20,11 @@ HasNoFault Memory = ⊥
 abbrev pub takens : List Part → List (List ℕ)
 takens parts = map (λ p. p.taken) parts
 
--- what the calls were replied
+-- what the moves were replied
 abbrev pub replies : List Entry → List Reply
 replies entries = map (λ e. e.reply) entries
 
--- where a table's history is that of one who makes calls, every finish of a conversation is kept
+-- where a table's history is that of one who makes moves, every finish of a conversation is kept
 abbrev pub ConversationsAreKept : (List ℕ → List ℕ → List Bool → Option (List ℕ) → Type 0) → (Bool → Type 0) → (List ℕ → List ℕ → Bool → Option (List ℕ) → Type 0) → Type 0
 ConversationsAreKept made wakes right =
     (end : Served) (past : List ℕ) (left left' : Option (List ℕ)) (p : Part) (before : List Entry) (now : Register)
@@ -41,7 +41,7 @@ module _ (made : List ℕ → List ℕ → List Bool → Option (List ℕ) → T
       → ReadsBytes (p.taken ++ past) (Some bytes) (Some left) → ReadsBytes (q.taken ++ behind) (Some bytes) (Some rest)
       → (end ≡ other) × (takens t.done ≡ takens u.done) × (t.last.taken ≡ u.last.taken)
 
-  -- without a fault, and with memory, the bytes to come and what the calls were replied decide the bytes written
+  -- without a fault, and with memory, the bytes to come and what the moves were replied decide the bytes written
   abbrev pub RepliesDecide : Type 0
   RepliesDecide =
       (end other : Served) (bytes past behind left rest : List ℕ) (p q : Part)

@@ -18,7 +18,7 @@ use Rattle.os_server.specs.Answers.{said_by, Does, BeginsToDo}
 use Rattle.os_server.specs.Talk.{Part, was_taken, IsRung, AtEnd, ReadsBytes, IsBodyAnswered, LacksMemory, IsReplyDue, IsExchange, EndsTalk, HandsOn, Accounts}
 
 module _ (made : List ℕ → List ℕ → List Bool → Option (List ℕ) → Type 0) (wakes : Bool → Type 0) where
-  -- the calls that do what is asked, and the reply that says the last one's
+  -- the moves that do what is asked, and the reply that says the last one's
   abbrev pub IsOrdered : Order → Bool → List Entry → Reply → Type 0
   IsOrdered order close own (Answer said closes as_worker) =
       (closes ≡ close) × (last : tables.Reply) × Does made order last own × (said_by order.kind order.number last ≡ Some said)
@@ -26,13 +26,13 @@ module _ (made : List ℕ → List ℕ → List Bool → Option (List ℕ) → T
   IsOrdered order close own (Refused refusal) = ⊥
   IsOrdered order close own NoMemory = BeginsToDo made order own ⊎ ((last : tables.Reply) × Does made order last own)
 
-  -- the calls for a body, and the reply that it is due after them
+  -- the moves for a body, and the reply that it is due after them
   abbrev pub IsReplied : List ℕ → Bool → List Entry → Reply → Type 0
   IsReplied body close own (Answer said closes as_worker) = (closes ≡ close) × IsBodyAnswered made wakes body own said as_worker
   IsReplied body close own (Refused refusal) = CallFails body soap.Envelope × (refusal ≡ BadRequest) × (own ≡ [])
   IsReplied body close own NoMemory = (own ≡ []) ⊎ LacksMemory made wakes body own
 
-  -- what came on the link and what is due to it, by what was taken, the calls and the answer
+  -- what came on the link and what is due to it, by what was taken, the moves and the answer
   abbrev pub CameWithDue : Result Reply Served → Type 0 → List ℕ → List Entry → Type 0
   CameWithDue (Ok reply) AtEnd taken own = IsReplyDue made wakes taken own reply
   CameWithDue (Err Ended) AtEnd taken own = EndedBetween taken × (own ≡ []) × AtEnd
@@ -64,7 +64,7 @@ CountsCame (Err ReadFault) before after = HasRisen before after
 CountsCame (Err WriteFault) before after = ⊥
 CountsCame (Err Memory) before after = ⊥
 
--- what was read of the link, and the calls for it
+-- what was read of the link, and the moves for it
 pub record ComesOnLink (made : List ℕ → List ℕ → List Bool → Option (List ℕ) → Type 0) (wakes : Bool → Type 0) (did : List Entry → Type 0) (came : Result Reply Served) (old new : Tells) : Type 0 where
   pub taken : List ℕ
   pub own : List Entry
@@ -80,7 +80,7 @@ AccountsOne None old new =
     (new.read_faults ≡ old.read_faults) × (new.write_faults ≡ old.write_faults) × HandsOn old new
 AccountsOne (Some end) old new = Accounts end old new
 
--- one request of a link and of one who makes calls, and what follows
+-- one request of a link and of one who makes moves, and what follows
 pub record ServesOne (made : List ℕ → List ℕ → List Bool → Option (List ℕ) → Type 0) (wakes : Bool → Type 0) (did : List Entry → Type 0) (end : Option Served) (old new : Tells) : Type 0 where
   pub part : Part
   pub answers : AnswersOne made wakes end (AtEnd [] old.left new.left) part

@@ -1,4 +1,4 @@
--- A conversation on one connection: the bytes read, the calls made with their replies, the bytes written, and its end (RFC 9112, sections 2, 6 and 9; SOAP 1.1, section 6).
+-- A conversation on one connection: the bytes read, the moves made with their replies, the bytes written, and its end (RFC 9112, sections 2, 6 and 9; SOAP 1.1, section 6).
 use Rattle.std.specs.Prelude.{◌≡◌, ℕ, ◌<◌, ◌⊎◌, Bool, true, false, not, List, [], ◌∷◌, ◌++◌, All, length, Option, Some, Err}
 use Rattle.os_io.specs.Streams.{Tells, BothTold, HasRisen, IsPart, Appends, Grows}
 use Rattle.http_link.specs.declared.refusal.Refusal.{Refusal}
@@ -27,7 +27,7 @@ use Rattle.os_server.specs.Answers.{said_by, fault_said, Does, BeginsToDo}
 abbrev pub most_requests : ℕ
 most_requests = 1000000
 
--- a part of a conversation: bytes read, calls with their replies, bytes written
+-- a part of a conversation: bytes read, moves with their replies, bytes written
 pub record Part : Type 0 where
   pub taken : List ℕ
   pub entries : List Entry
@@ -77,7 +77,7 @@ IsRung wakes false as_worker = as_worker ≡ false
 
 -- which looks a run of a job's texts makes, with the document that comes of it, and what a ring may answer are given
 module _ (made : List ℕ → List ℕ → List Bool → Option (List ℕ) → Type 0) (wakes : Bool → Type 0) where
-  -- a body asks something of the table, these calls do it, and the reply of the last one is said. A waiting job is then claimed
+  -- a body asks something of the table, these moves do it, and the reply of the last one is said. A waiting job is then claimed
   -- as a worker claims one behind a send alone that was taken, where nobody was woken
   pub record IsDone (body : List ℕ) (own : List Entry) (said : Said) (as_worker : Bool) : Type 0 where
     pub order : Order
@@ -87,7 +87,7 @@ module _ (made : List ℕ → List ℕ → List Bool → Option (List ℕ) → T
     pub says : said_by order.kind order.number last ≡ Some said
     pub woken : IsRung wakes (was_taken last) as_worker
 
-  -- a body is an envelope whose call is refused, no call of the table is made, and the fault is said
+  -- a body is an envelope whose call is refused, no move of the table is made, and the fault is said
   pub record IsFaulted (body : List ℕ) (own : List Entry) (said : Said) (as_worker : Bool) : Type 0 where
     pub code : FaultCode
     pub text : List ℕ
@@ -96,11 +96,11 @@ module _ (made : List ℕ → List ℕ → List Bool → Option (List ℕ) → T
     pub says : said ≡ fault_said code text
     pub alone : as_worker ≡ false
 
-  -- what a body is answered by these calls, and whether a waiting job is then claimed as a worker claims one
+  -- what a body is answered by these moves, and whether a waiting job is then claimed as a worker claims one
   abbrev pub IsBodyAnswered : List ℕ → List Entry → Said → Bool → Type 0
   IsBodyAnswered body own said as_worker = IsDone body own said as_worker ⊎ IsFaulted body own said as_worker
 
-  -- a body asks something of the table, and these calls were made until there was no memory: for one of them, or for the answer
+  -- a body asks something of the table, and these moves were made until there was no memory: for one of them, or for the answer
   abbrev pub LacksMemory : List ℕ → List Entry → Type 0
   LacksMemory body own =
       (order : Order) × Asks body order × (BeginsToDo made order own ⊎ ((last : tables.Reply) × Does made order last own))
@@ -116,13 +116,13 @@ module _ (made : List ℕ → List ℕ → List Bool → Option (List ℕ) → T
       (IsRequestPart taken × (own ≡ []))
       ⊎ ((close : Bool) × (body : List ℕ) × IsRequest taken close body × LacksMemory body own)
 
-  -- the bytes, the calls made for them, and the reply that they are due
+  -- the bytes, the moves made for them, and the reply that they are due
   abbrev pub IsReplyDue : List ℕ → List Entry → Reply → Type 0
   IsReplyDue taken own (Answer said close as_worker) = IsAnswered taken own said close as_worker
   IsReplyDue taken own (Refused refusal) = IsRefusedAs taken refusal × (own ≡ [])
   IsReplyDue taken own NoMemory = IsUnanswered taken own
 
-  -- one request that was answered, with the calls for it, and then one claim with the run of the job that it gave
+  -- one request that was answered, with the moves for it, and then one claim with the run of the job that it gave
   pub record IsExchange (close : Bool) (p : Part) : Type 0 where
     pub said : Said
     pub as_worker : Bool
@@ -203,7 +203,7 @@ Accounts WriteFault old new =
 Accounts Memory old new =
     (new.read_faults ≡ old.read_faults) × (new.write_faults ≡ old.write_faults) × HandsOn old new
 
--- a conversation of a link and of one who makes calls, from before to after. More may have been read than it has
+-- a conversation of a link and of one who makes moves, from before to after. More may have been read than it has
 pub record Serves (made : List ℕ → List ℕ → List Bool → Option (List ℕ) → Type 0) (wakes : Bool → Type 0) (did : List Entry → Type 0) (end : Served) (old new : Tells) : Type 0 where
   pub part : Part
   pub past : List ℕ

@@ -1,4 +1,4 @@
-//! What is asked is done by calls of the table.
+//! What is asked is done by moves of the table.
 ghost use Rattle.std.specs.Prelude.{List, IfOk, OnErr};
 ghost use Rattle.job_table.specs.History.{Entry};
 ghost use Rattle.os_server.specs.Answers.{reply_of, Does, BeginsToDo};

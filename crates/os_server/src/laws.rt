@@ -12,7 +12,7 @@ use job_runs::finishes_are_kept;
 use job_table::Verdicts;
 use soap_calls::{bytes_have_one_refusal, bytes_say_one_call, calls_are_not_refused};
 
-/// Law: where a conversation's calls are those of the whole history from some moment on, every finish among them is kept.
+/// Law: where a conversation's moves are those of the whole history from some moment on, every finish among them is kept.
 pub fn conversations_are_kept<V: Verdicts, S: Server<V>>()
     ensures { ConversationsAreKept S.ran S.wakes V.right }
 {
@@ -53,8 +53,8 @@ pub fn bytes_are_cut_one_way<V: Verdicts, S: Server<V>>()
     bodies_are_read_one_way();
 }
 
-/// Law: without a fault, and with memory, the bytes to come and the table's replies to the calls decide the bytes written: two
-/// conversations over the same bytes whose calls had the same replies, one after another, wrote the same.
+/// Law: without a fault, and with memory, the bytes to come and the table's replies to the moves decide the bytes written: two
+/// conversations over the same bytes whose moves had the same replies, one after another, wrote the same.
 pub fn bytes_and_replies_decide_the_answers<V: Verdicts, S: Server<V>>()
     ensures { RepliesDecide S.ran S.wakes }
 {

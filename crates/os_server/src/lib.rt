@@ -2,13 +2,13 @@
 //!
 //! [`serve_one`] reads the requests of a link one after another, [`serve_ends`] those of an input, and [`turn_away`] answers where there is
 //! no memory to begin. Their contract is one definition, `Talk`: the bytes read are
-//! requests and a last part, the calls made of the table of jobs are those that the requests ask, in their order, and the
+//! requests and a last part, the moves of the table of jobs that are made are those that the requests ask, in their order, and the
 //! bytes written are the answers, each a function of its request and of the table's replies. Behind each answer that is 200
 //! or 500 a job that waits is claimed and run. Each way in which a conversation ends comes exactly where the definition says; but
 //! where a read of a link fails, the definition lets requests that were read ahead be left without an answer.
 //! Without a fault, and with memory, the bytes that come decide how they are cut into requests, and with the table's replies they
 //! decide the bytes written; laws say so.
-//! Whoever makes the calls may be a table's owner or one of many who share it, and whatever runs the jobs is a [`Server`].
+//! Whoever makes the moves may be a table's owner or one of many who share it, and whatever runs the jobs is a [`Server`].
 //!
 //! The rules are in `docs/rules/conversations.md`.
 #![tactic(auto)]

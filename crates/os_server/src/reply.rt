@@ -107,7 +107,7 @@ fn reply_to<V: Verdicts, C: Calls<V>, S: Server<V>>(
     }
 }
 
-/// Reads a request and makes its calls.
+/// Reads a request and makes its moves.
 pub(crate) fn next_reply<I: Source, V: Verdicts, C: Calls<V>, S: Server<V>>(
     alloc: Global,
     input: &mut I,

@@ -74,24 +74,6 @@ fn serve_request<L: Link, V: Verdicts, C: Calls<V>, S: Server<V>>(
     }
 }
 
-/// Serves the requests of a link, one after another, until its end.
-fn serve_all<L: Link, V: Verdicts, C: Calls<V>, S: Server<V>>(
-    alloc: Global,
-    link: &mut L,
-    calls: &mut C,
-    server: &S,
-) -> Served
-    ensures { Serves S.ran S.wakes (C.did calls.old calls.new) result (L.tells link.old) (L.tells link.new) }
-{
-    for _ in 0..MOST_REQUESTS {
-        match serve_request(alloc, link, calls, server) {
-            None => {}
-            Some(served) => return served,
-        }
-    }
-    Served::Ended
-}
-
 /// Serves one request of an input and an output, and says whether the conversation ends with it.
 fn serve_next<I: Source, O: Sink, V: Verdicts, C: Calls<V>, S: Server<V>>(
     alloc: Global,
@@ -150,7 +132,7 @@ pub fn turn_away<I: Source, O: Sink, V: Verdicts, S: Server<V>>(
     }
 }
 
-/// Serves a link, and gives it back: its requests are read and answered one after another, each by the calls that it asks, and
+/// Serves a link, and gives it back: its requests are read and answered one after another, each by the moves that it asks, and
 /// behind each answer that is 200 or 500 a job that waits is run. The link is read ahead in large pieces, and what was read past
 /// the conversation's end is given up.
 pub fn serve_one<L: Link, V: Verdicts, C: Calls<V>, S: Server<V>>(
@@ -162,6 +144,11 @@ pub fn serve_one<L: Link, V: Verdicts, C: Calls<V>, S: Server<V>>(
     ensures { Serves S.ran S.wakes (C.did calls.old calls.new) result.0 (L.tells link) (L.tells result.1) }
 {
     let mut carried = Carried::new(link);
-    let served = serve_all(alloc, &mut carried, calls, server);
-    (served, carried.into_link())
+    for _ in 0..MOST_REQUESTS {
+        match serve_request(alloc, &mut carried, calls, server) {
+            None => {}
+            Some(served) => return (served, carried.into_link()),
+        }
+    }
+    (Served::Ended, carried.into_link())
 }

@@ -1,8 +1,22 @@
-use Rattle.os_server.proofs.Rounds.{serves_owned}
+use Rattle.std.proofs.Common.{arith}
+use Rattle.os_server.proofs.Rounds.{none_of_owned, one_more, last_one, all_done, serves_owned}
 use Rattle.os_server.proofs.serve.serve_one.Goals as goal
+
+pub loop-init : goal.loop-init
+loop-init g c =
+    none_of_owned g.L.Stream.tells g.S.Runner.ran g.S.Server.wakes _ c.args.link _ _ c.new-carried.ensures.0 c.new-carried.ensures.1
+    (g.met.C.Calls.stays c.args.calls.now)
+
+pub loop-preserved : goal.loop-preserved
+loop-preserved g c =
+    one_more g.S.Runner.ran g.S.Server.wakes _ _ _ _ _ _ _ (λ a b. g.met.C.Calls.joins _ _ _ a b) c.loop.invariant c.in-None.ensures
+
+pub returns-in-Some : goal.returns-in-Some
+returns-in-Some g c =
+    serves_owned g.L.Stream.tells g.S.Runner.ran g.S.Server.wakes _ _ c.args.link _ _ _ c.into_link.ensures
+    (last_one g.S.Runner.ran g.S.Server.wakes _ _ _ _ _ _ _ _ (λ a b. g.met.C.Calls.joins _ _ _ a b) (omega (arith, c.loop-test.true)) c.loop.invariant c.in-Some.ensures)
 
 pub returns : goal.returns
 returns g c =
-    serves_owned g.L.Stream.tells g.S.Runner.ran g.S.Server.wakes _ c.serve_all-served.result c.args.link c.new-carried.result.link
-    c.serve_all-served.new.link.link c.into_link.result c.new-carried.result.carry c.serve_all-served.new.link.carry
-    c.new-carried.ensures.0 c.into_link.ensures c.new-carried.ensures.1 c.serve_all-served.ensures
+    serves_owned g.L.Stream.tells g.S.Runner.ran g.S.Server.wakes _ _ c.args.link _ _ _ c.into_link-2.ensures
+    (all_done g.S.Runner.ran g.S.Server.wakes _ _ _ _ (omega (arith, c.loop-test.false)) c.loop.invariant)
