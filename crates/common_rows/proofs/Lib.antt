@@ -3,3 +3,4 @@ pub mod Written
 pub mod Changed
 pub mod Fitting
 pub mod Wholes
+pub mod Accumulators

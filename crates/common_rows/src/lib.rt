@@ -2,14 +2,18 @@
 //!
 //! A row whose numbers fit is changed by another one with two products, a sum and one exact quotient an entry, and nothing
 //! that is stated of its fractions passes 128 bits ([`changes_are_stated`]). Over the denominator 1, which is that of whole
-//! numbers, [`plus_product`] and [`times`] do it for one entry, and answer as the fractions' own operations do.
+//! numbers, [`plus_product`] and [`times`] do it for one entry, and answer as the fractions' own operations do. An [`Accumulator`]
+//! adds up products over a common denominator of their terms, and reduces their sum once.
 #![tactic(auto)]
 
+mod accumulator;
 mod change;
 mod divisor;
+mod form;
 mod laws;
 mod whole;
 
+pub use accumulator::Accumulator;
 pub use change::Change;
 pub use divisor::Divisor;
 pub use laws::changes_are_stated;

@@ -8,16 +8,24 @@ ghost use Rattle.evidence.specs.Width.{TermFits};
 use fraction::{Frac, Wide};
 use instance::add_product;
 
+/// The number, where it has 64 bits.
+#[inline]
+pub fn narrowed(n: i128) -> Option<i64>
+    ensures { IfSome result (λ k. k ≡ n) }
+{
+    i64::try_from(n).ok()
+}
+
 /// The number, where the fraction is whole and it has 64 bits.
 #[inline]
-fn narrow(x: Frac) -> Option<i64>
+pub fn narrow(x: Frac) -> Option<i64>
     ensures whole { IfSome result (λ _. x.denom ≡ 1) }
     ensures number { IfSome result (λ n. n ≡ x.numer) }
 {
     if x.denom != 1 {
         return None;
     }
-    i64::try_from(x.numer).ok()
+    narrowed(x.numer)
 }
 
 /// A whole number.
@@ -32,7 +40,7 @@ fn whole(numer: i128) -> Frac
 
 /// A number and a product.
 #[inline]
-fn total(n: i64, k: i64, m: i64) -> i128
+pub fn total(n: i64, k: i64, m: i64) -> i128
     ensures value { result ≡ n +ℤ k *ℤ m }
     ensures size { unsigned_abs result ≤ most }
 {

@@ -39,7 +39,15 @@ impl Places {
         requires { column < count_of self.now }
         ensures { ratio result ≡ place_values self.now column }
     {
-        self.values[column as usize]
+        *self.value(column)
+    }
+
+    /// The value of a column.
+    pub fn value(&self, column: u32) -> &Frac
+        requires { column < count_of self.now }
+        ensures { ratio result.now ≡ place_values self.now column }
+    {
+        &self.values[column as usize]
     }
 
     /// How many columns have a value.

@@ -8,12 +8,11 @@ ghost use Rattle.dictionary.specs.Row.{entries_of, number_in, IsSparseRow, HasCo
 ghost use Rattle.dictionary.specs.Dict.{count_of, place_values};
 ghost use Rattle.dictionary.specs.Value.{AreValuesAt};
 
-use crate::numbers::zero;
 use crate::places::Places;
 use crate::row::Row;
 use crate::steps::Steps;
+use common_rows::Accumulator;
 use fraction::{Frac, Wide};
-use instance::add_product;
 use std::sync::ledger::Ledger;
 
 /// The sum, from 0, of a row's entries, each times its column's value, in ascending order.
@@ -26,10 +25,10 @@ pub fn sum_row<L: Ledger>(row: &Row<L>, places: &Places, steps: &mut Steps<L>) -
     ensures cost { steps.new ≤ steps.old + length (entries_of row.now) }
     ensures counted { steps.old ≤ steps.new }
 {
-    let mut sum = zero();
+    let mut sum = Accumulator::zero();
     for i in 0..row.len() {
         let x = row.read(i, steps);
-        sum = add_product(sum, x.value, places.at(x.col))?;
+        sum = sum.plus(&x.value, places.value(x.col))?;
     }
-    Ok(sum)
+    Ok(sum.fraction())
 }

@@ -1,7 +1,7 @@
 use Rattle.std.proofs.Common.{arith, sym}
 use Rattle.instance.proofs.Terms.{read}
 use Rattle.dictionary.specs.Dict.{count_of, place_values}
-use Rattle.dictionary.proofs.places.Places.at.Goals as goal
+use Rattle.dictionary.proofs.places.Places.value.Goals as goal
 
 pub index-requires : goal.index-requires
 unfolding count_of

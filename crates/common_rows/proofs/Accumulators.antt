@@ -1,0 +1,102 @@
+-- Sums over a common denominator.
+use Rattle.std.proofs.Common.{◌≡◌, ℕ, ◌*◌, ◌/◌, ◌^◌, ◌<◌, ◌≤◌, ℤ, pos, ◌+ℤ◌, ◌*ℤ◌, FitsSigned, w64, arith, refl, sym, ◌∙◌, ap, ap₂, subst}
+use Rattle.std.specs.Prelude.{unsigned_abs}
+use Rattle.std.specs.Int.{◌∣◌}
+use Rattle.std.proofs.Math.Nat.{div-mul_cancel}
+use Rattle.std.proofs.lemmas.Int.{ints}
+use Rattle.rational.specs.Ratio.{Ratio, whole, sum, product, quotient, IsSame, IsNumber}
+use Rattle.rational.specs.Width.{most, ReducedFits, SumFits}
+use Rattle.rational.proofs.Scaling.{add-times, times-times}
+use Rattle.rational.proofs.ReducedForms.{one_number}
+use Rattle.fraction.specs.Frac.{ratio}
+use Rattle.fraction.specs.declared.frac.Frac.{Frac}
+use Rattle.evidence.specs.Width.{TermFits}
+use Rattle.evidence.proofs.Numbers.{◌≈◌, ◌⊙◌, ≈-refl, sum-≈, sum-number, product-number}
+use Rattle.evidence.proofs.Fits.{sums_same, term_same}
+use Rattle.common_rows.specs.Row.{over}
+use Rattle.common_rows.proofs.Fitting.{sum_fits_over, reduced_fits}
+use Rattle.common_rows.proofs.Sizes.{size_within, product_within}
+
+-- a number over a multiple of its denominator
+pub multiple_same : (n r k : ℤ) (d c : ℕ) → d ∣ c → k ≡ pos (c / d) → r ≡ n *ℤ k → IsSame (over n d) (over r c)
+multiple_same n r k d c div e is =
+    ap (λ x. n *ℤ pos x) (sym (div-mul_cancel d div))
+    ∙ sym (times-times n (c / d) d)
+    ∙ ap (λ z. z *ℤ pos d) (sym (is ∙ ap (λ z. n *ℤ z) e))
+
+-- numbers over one denominator
+both_over : (a b : ℤ) (c : ℕ) → IsSame (over (a +ℤ b) c) (sum (over a c) (over b c))
+both_over a b c =
+    sym (times-times (a +ℤ b) c c)
+    ∙ ap (λ z. z *ℤ pos c) (add-times a b c)
+
+module _ (x y : Ratio) (a b : ℤ) (c : ℕ) (nx : IsNumber x) (ny : IsNumber y) (up : 0 < c) (sx : IsSame x (over a c)) (sy : IsSame y (over b c)) where
+  pub sum_over : IsSame (over (a +ℤ b) c) (sum x y)
+  sum_over =
+      let first : over (a +ℤ b) c ≈ sum (over a c) (over b c) = record { left = up; right = sum-number (over a c) (over b c) up up; is = both_over a b c } in
+      let left : over a c ≈ x = record { left = up; right = nx; is = sym sx } in
+      let right : over b c ≈ y = record { left = up; right = ny; is = sym sy } in
+      let all = first ⊙ sum-≈ left right in
+      all.is
+
+-- the same sums with a term in another form
+module _ (s t p : Ratio) (ns : IsNumber s) (nt : IsNumber t) (np : IsNumber p) (same : IsSame t p) where
+  pub joined : (r : Ratio) → IsNumber r → IsSame r (sum s t) → IsSame r (sum s p)
+  joined r nr e =
+      let first : r ≈ sum s t = record { left = nr; right = sum-number s t ns nt; is = e } in
+      let term : t ≈ p = record { left = nt; right = np; is = same } in
+      let all = first ⊙ sum-≈ (≈-refl ns) term in
+      all.is
+
+  pub joined_fits : SumFits s t → SumFits s p
+  joined_fits f = sums_same s t s p ns np refl same f
+
+-- the same sums from a start in another form
+module _ (f s a x : Ratio) (nf : IsNumber f) (ns : IsNumber s) (na : IsNumber a) (nx : IsNumber x) (same : IsSame f s) where
+  pub begun : (r : Ratio) → IsNumber r → IsSame r (sum f (product a x)) → IsSame r (sum s (product a x))
+  begun r nr e =
+      let p = product-number a x na nx in
+      let first : r ≈ sum f (product a x) = record { left = nr; right = sum-number f (product a x) nf p; is = e } in
+      let start : f ≈ s = record { left = nf; right = ns; is = same } in
+      let all = first ⊙ sum-≈ start (≈-refl p) in
+      all.is
+
+  pub begun_fits : TermFits f a x → TermFits s a x
+  begun_fits = term_same f s a x (record { left = nf; right = ns; is = same }) (product-number a x na nx)
+
+  pub begun_wide : (TermFits f a x → ⊥) → TermFits s a x → ⊥
+  begun_wide unfit fits = unfit (term_same s f a x (record { left = ns; right = nf; is = sym same }) (product-number a x na nx) fits)
+
+-- a number over a denominator as a quotient
+times_one : (n : ℤ) → n *ℤ pos 1 ≡ n
+times_one n = omega (arith, ints)
+
+pub quotient_over : (n : ℤ) (d : ℕ) → IsSame (quotient (whole n) (whole (pos d))) (over n d)
+quotient_over n d = times-times n 1 d ∙ ap (λ k. n *ℤ pos k) (let e : 1 * d ≡ 1 * d = refl in e)
+
+pub quotient_fits : (n : ℤ) (d : ℕ) → 0 < d → unsigned_abs n ≤ most → d ≤ most → ReducedFits (quotient (whole n) (whole (pos d)))
+quotient_fits n d up ln ld = reduced_fits (quotient (whole n) (whole (pos d))) (omega (arith, up)) (subst (λ k. k ≤ most) (sym (ap unsigned_abs (times_one n))) ln) (omega (arith, ld))
+
+-- a product of numbers of 64 bits
+pub product_small : (a x : Frac) (k m : ℤ) → FitsSigned w64 k → FitsSigned w64 m → k ≡ a.numer → m ≡ x.numer → x.denom ≡ 1 → ReducedFits (product (ratio a) (ratio x))
+product_small a x k m fk fm ek em one =
+    let size = product_within (k *ℤ m) k m refl fk fm in
+    let num : unsigned_abs (a.numer *ℤ x.numer) ≤ 2 ^ 126 = subst (λ z. unsigned_abs z ≤ 2 ^ 126) (ap₂ (λ y z. y *ℤ z) ek em) size in
+    let den : a.denom * x.denom ≡ a.denom = ap (λ d. a.denom * d) one ∙ (omega arith) in
+    let within = a.denom_within in
+    reduced_fits (product (ratio a) (ratio x)) (product-number (ratio a) (ratio x) a.above x.above) (omega (arith, num)) (omega (arith, den, within))
+
+-- what the sum of two forms states, over a denominator of both
+pub form_fits : (x y : Ratio) (a n k t : ℤ) (c : ℕ) → IsNumber x → IsNumber y → 0 < c → IsSame x (over a c) → IsSame y (over (n *ℤ k) c) → FitsSigned w64 a → FitsSigned w64 n → FitsSigned w64 k → t ≡ a +ℤ n *ℤ k → unsigned_abs t ≤ most → c < 2 ^ 64 → SumFits x y
+form_fits x y a n k t c nx ny up sx sy fa fn fk e lt lc =
+    let la = size_within a fa in
+    let lb = product_within (n *ℤ k) n k refl fn fk in
+    sum_fits_over x y a (n *ℤ k) c nx ny up sx sy (omega (arith, la)) (omega (arith, lb)) (subst (λ z. unsigned_abs z ≤ most) e lt) (omega (arith, lc))
+
+-- the same sums from a start that is told by its parts
+module _ (s t p : Ratio) (ns : IsNumber s) (nt : IsNumber t) (np : IsNumber p) (same : IsSame t p) (n : ℤ) (d : ℕ) (en : n ≡ s.num) (ed : d ≡ s.den) where
+  pub parts_joined : (r : Ratio) → IsNumber r → IsSame r (sum (over n d) t) → IsSame r (sum s p)
+  parts_joined r nr e = joined s t p ns nt np same r nr (subst (λ (z : Ratio). IsSame r (sum z t)) (one_number (over n d) s en ed) e)
+
+  pub parts_fit : SumFits (over n d) t → SumFits s p
+  parts_fit f = joined_fits s t p ns nt np same (subst (λ (z : Ratio). SumFits z t) (one_number (over n d) s en ed) f)
