@@ -1,6 +1,6 @@
 -- What `clap` was told of a command.
 use Rattle.std.specs.Prelude.{◌≡◌, false}
-use Rattle.clap.specs.Words.{shape_of}
+use Rattle.clap.specs.Words.{app_of, shape_of, with_subcommand}
 use Rattle.clap.specs.declared.builder.command.Command.TheViews.{out-Command as fields_of}
 use Rattle.clap.specs.declared.builder.command.Command.{Command}
 use Rattle.command_line.specs.Forms.{Form, shape}
@@ -9,3 +9,7 @@ use Rattle.command_line.specs.Forms.{Form, shape}
 pub record IsToldForm (form : Form) (command : Command) : Type 0 where
   pub words : shape_of command ≡ shape form
   pub local : (fields_of command).has_globals ≡ false
+
+-- it is what it was before, with the command of this form behind those that it had
+pub record HasNext (before : Command) (form : Form) (after : Command) : Type 0 where
+  pub is : app_of after ≡ with_subcommand (app_of before) (shape form)

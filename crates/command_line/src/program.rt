@@ -2,7 +2,7 @@
 ghost use Rattle.std.specs.Prelude.{◌≡◌, map, IfOk};
 ghost use Rattle.clap.specs.Words.{app_of};
 ghost use Rattle.command_line.specs.Forms.{program_form};
-ghost use Rattle.command_line.specs.CommandTellings.{IsToldForm};
+ghost use Rattle.command_line.specs.CommandTellings.{HasNext, IsToldForm};
 
 use clap::{Arg, Command};
 use os_io::Memory;
@@ -31,32 +31,45 @@ fn command<'a>(
     Ok(command)
 }
 
+/// The program with one more command, of this name and with these words, as [`command`] takes them.
+fn with_command<'a>(
+    program: Command<'a>,
+    alloc: Global,
+    name: &'a str,
+    needed: &[&'a str],
+    named: &[&'a str],
+) -> Result<Command<'a>, Memory>
+    ensures { IfOk result (HasNext program.entry (record {
+      name = name.now;
+      needed = map (λ id. id.now) needed.now;
+      named = map (λ id. id.now) named.now;
+    })) }
+{
+    let added = command(alloc, name, needed, named)?;
+    program.subcommand(added)
+}
+
 /// The program's command line.
 pub(crate) fn program<'a>(alloc: Global) -> Result<Command<'a>, Memory>
     ensures { IfOk result (λ command. app_of command ≡ program_form) }
 {
-    let session = command(alloc, "session", &[], &[])?;
-    let check = command(alloc, "check", &["osil", "osrl"], &[])?;
-    let solve = command(alloc, "solve", &["osil"], &["options"])?;
-    let generate = command(alloc, "generate", &["variables"], &[])?;
-    let call = command(
+    let program = Command::new(alloc, "os_app").subcommand_required(true);
+    let program = with_command(program, alloc, "session", &[], &[])?;
+    let program = with_command(program, alloc, "check", &["osil", "osrl"], &[])?;
+    let program = with_command(program, alloc, "solve", &["osil"], &["options"])?;
+    let program = with_command(program, alloc, "generate", &["variables"], &[])?;
+    let program = with_command(
+        program,
         alloc,
         "call",
         &["name", "host", "port"],
         &["osil", "osol", "ospl"],
     )?;
-    let serve = command(
+    with_command(
+        program,
         alloc,
         "serve",
         &["host", "port"],
         &["workers", "servers", "connections"],
-    )?;
-    Command::new(alloc, "os_app")
-        .subcommand_required(true)
-        .subcommand(session)?
-        .subcommand(check)?
-        .subcommand(solve)?
-        .subcommand(generate)?
-        .subcommand(call)?
-        .subcommand(serve)
+    )
 }
