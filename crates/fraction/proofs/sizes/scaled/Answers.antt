@@ -1,0 +1,34 @@
+use Rattle.std.proofs.Common.{◌≤◌, ◌∙◌, pos, ◌*ℤ◌, sym, ap}
+use Rattle.std.specs.Int.{w128}
+use Rattle.std.specs.Prelude.{unsigned_abs}
+use Rattle.std.proofs.lemmas.Int.{to_z-of_z, unsigned_abs-mul}
+use Rattle.rational.specs.Width.{most}
+use Rattle.rational.proofs.Signs.{signed-mul, unsigned_abs-signed}
+use Rattle.fraction.proofs.Forms.{on_err}
+use Rattle.fraction.proofs.Wholes.{kept}
+use Rattle.fraction.proofs.sizes.scaled.Goals as goal
+
+pub returns-in_err-size-clause-wide : goal.returns-in_err-size-clause-wide
+returns-in_err-size-clause-wide c =
+    let same = to_z-of_z w128 c.args.a c.ranges.a in
+    let past = rw (c.size_of.ensures, same) at c.in_err-size.ensures.wide in
+    on_err c.from_residual.result (rw (unsigned_abs-mul c.args.a (pos c.args.by)) past)
+
+pub returns-clause-value : goal.returns-clause-value
+returns-clause-value c =
+    let same = to_z-of_z w128 c.args.a c.ranges.a in
+    let form = rw same at c.is_negative.ensures in
+    let size = rw (c.size_of.ensures, same) at c.in_ok-size.ensures.value in
+    let whole = rw size at c.signed.ensures in
+    let small : unsigned_abs c.signed.result ≤ most =
+    rw (c.signed.ensures, unsigned_abs-signed c.is_negative.result c.in_ok-size.size) c.in_ok-size.ensures.small in
+    kept c.signed.result small
+    ∙ whole
+    ∙ sym (signed-mul c.is_negative.result (unsigned_abs c.args.a) c.args.by)
+    ∙ ap (λ z. z *ℤ pos c.args.by) (sym form)
+
+pub returns-clause-small : goal.returns-clause-small
+returns-clause-small c =
+    let small : unsigned_abs c.signed.result ≤ most =
+    rw (c.signed.ensures, unsigned_abs-signed c.is_negative.result c.in_ok-size.size) c.in_ok-size.ensures.small in
+    rw (kept c.signed.result small) small
