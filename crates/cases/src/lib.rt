@@ -23,38 +23,3 @@ pub use gathered::{compare, gather};
 pub use shared::{bytes_of, count_left, number_of, repeated};
 pub use table::{Answers, try_file, try_table};
 pub use tables::Tables;
-
-#[cfg(test)]
-mod tests {
-    use super::*;
-    use os_io::{Memory, Text};
-    use std::alloc::Global;
-    use std::test::Fail;
-
-    /// Answers what it is given, all together.
-    #[derive(Drop)]
-    struct Echo;
-
-    impl Answers for Echo {
-        fn answer(&mut self, alloc: Global, given: &[Vec<u8>]) -> Result<Text, Memory> {
-            let mut text = Text::new(alloc);
-            for field in given {
-                text.extend(field.as_slice())?;
-            }
-            Ok(text)
-        }
-    }
-
-    #[test]
-    fn tells_other_answers(rt: HostRuntime) -> Result<(), Fail> {
-        let table: &[u8] =
-            b"# none\n\na\\n\\x41\tb\ta\\nAb\nx\ty\n\\q\t\n\\x4\t4\n\\\\\t\\\\\t\\\\\\\\\nalone\n";
-        let mut output = Vec::new(rt.alloc());
-        let count = try_table(rt.alloc(), "t", table, &mut Echo, &mut output)?;
-        assert_eq!(rt; count, 6);
-        let wanted: &[u8] =
-            b"t 4: answers `x`, not `y`\nt 5: is no case\nt 6: is no case\nt 8: is no case\n";
-        assert!(rt; output.as_slice() == wanted);
-        Ok(())
-    }
-}

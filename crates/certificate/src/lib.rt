@@ -13,8 +13,6 @@ mod causes;
 mod claims;
 mod lists;
 mod nodes;
-#[cfg(test)]
-mod tests;
 
 pub use causes::{Cause, Place, Step};
 pub use claims::Claim;

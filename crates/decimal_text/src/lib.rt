@@ -23,8 +23,6 @@ mod plain;
 mod power;
 mod ratio;
 mod space;
-#[cfg(test)]
-mod tests;
 mod whole;
 
 pub use count::read_count;

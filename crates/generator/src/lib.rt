@@ -10,8 +10,6 @@
 mod instances;
 mod laws;
 mod lines;
-#[cfg(test)]
-mod tests;
 
 pub use instances::make;
 pub use laws::{generated_is_encoded, generated_is_read_back, generated_is_valid};

@@ -42,6 +42,3 @@ pub use refusal::Refusal;
 pub use replies::{Came, Response, read_response};
 pub use requests::{Incoming, LinkFault, Request, read_request};
 pub use responses::{write_answer, write_fault_answer, write_refusal};
-
-#[cfg(test)]
-mod tests;

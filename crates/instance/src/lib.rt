@@ -18,8 +18,6 @@ mod laws;
 mod parts;
 mod rows;
 mod sums;
-#[cfg(test)]
-mod tests;
 
 pub use feasible::Feas;
 pub use instance::{Instance, MAX_ENTRIES, MAX_ROWS, MAX_VARS};

@@ -25,8 +25,6 @@ mod jobs;
 mod laws;
 pub mod moves;
 mod table;
-#[cfg(test)]
-mod tests;
 mod texts;
 mod waiting;
 mod watch;

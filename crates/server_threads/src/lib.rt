@@ -24,8 +24,6 @@ mod promise;
 mod serve;
 mod service;
 mod staff;
-#[cfg(test)]
-mod tests;
 
 pub use means::{Limits, ServeFault};
 pub use open::OpenLink;

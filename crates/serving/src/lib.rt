@@ -16,8 +16,6 @@ mod ending;
 mod lines;
 mod links;
 mod server;
-#[cfg(test)]
-mod tests;
 
 pub use ending::Ending;
 pub use server::serve;

@@ -2,14 +2,16 @@
 //!
 //! The tables' answers come from the rules (XML 1.0, Namespaces in XML 1.0, and this project's profile of them, in
 //! `docs/rules/trees.md`). Each document is read whole, byte by byte, and in two pieces at every place. A tree is told
-//! by its written text, without the declaration. The output is a line for each answer that is another, and how many
-//! cases there are.
+//! by its written text, without the declaration. Texts and attributes' values are escaped. The output is a line for each
+//! answer that is another, and how many cases there are. Such lines are there for one table alone, whose answers are
+//! wrong: they show what is told of a wrong answer.
 #![tactic(auto)]
 
 mod reading;
 
 use cases::{Answers, Tables, number_of, repeated};
 use doc_tree::TreeFault;
+use element_tree::{escape, escape_value};
 use os_io::{Memory, Text};
 use reading::{answer_text, in_two, told_in_pieces, told_whole};
 use std::alloc::Global;
@@ -84,6 +86,24 @@ impl Answers for Repeated {
     }
 }
 
+/// Given `text` or `value`, and what is escaped as such.
+#[derive(Drop)]
+struct Escaped;
+
+impl Answers for Escaped {
+    fn answer(&mut self, alloc: Global, given: &[Vec<u8>]) -> Result<Text, Memory> {
+        let mut text = Text::new(alloc);
+        match given {
+            [kind, bytes] => match kind.as_slice() {
+                b"text" => escape(bytes.as_slice(), &mut text)?,
+                _ => escape_value(bytes.as_slice(), &mut text)?,
+            },
+            _ => text.extend(b"two fields")?,
+        }
+        Ok(text)
+    }
+}
+
 fn main(rt: HostRuntime) -> io::Result<()> {
     let mut tables = Tables::new(&rt);
     tables.try_file("read.txt", &mut InPieces)?;
@@ -91,5 +111,7 @@ fn main(rt: HostRuntime) -> io::Result<()> {
     tables.try_file("limits.txt", &mut Limited)?;
     tables.try_file("beginnings.txt", &mut Beginnings)?;
     tables.try_file("repeated.txt", &mut Repeated)?;
+    tables.try_file("escaped.txt", &mut Escaped)?;
+    tables.try_file("wrong.txt", &mut InPieces)?;
     tables.tell_count()
 }

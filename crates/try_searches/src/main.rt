@@ -24,7 +24,7 @@ use telling::put_claim;
 #[derive(Drop)]
 struct Searches;
 
-/// What is claimed of a case, the turns done then, and the looks.
+/// What is claimed of a case, as a copy of the claim has it, the turns done then, and the looks.
 fn tell<L: Ledger>(alloc: Global, case: Case, blank: Blank) -> Result<Text, Memory>
     requires name { blank.name ≡ L.name }
     requires parts { blank.parts ≡ L.parts }
@@ -40,8 +40,9 @@ fn tell<L: Ledger>(alloc: Global, case: Case, blank: Blank) -> Result<Text, Memo
         &mut watch,
         &mut steps,
     );
+    let copy = found.claim.try_copy(alloc)?;
     let mut text = Text::new(alloc);
-    put_claim(&mut text, &found.claim)?;
+    put_claim(&mut text, &copy)?;
     text.extend(b" after ")?;
     put_count(&mut text, found.turns)?;
     text.extend(b" with ")?;
