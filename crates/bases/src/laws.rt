@@ -30,7 +30,7 @@ pub fn rows_are_a_dictionary()
     ensures { (n m : ℕ) (A u : Entries) → ((i j : ℕ) → IsNumber (A i j)) → AreEntries (n + m) (is_fresh n) u → ((i j : ℕ) → i < m → j < n → IsSame (u (n + i) j) (A i j)) → IsDictionary n m A (is_fresh n) u }
 {}
 
-/// Where a basic column and another one, whose entry isn't 0, change places, the dictionary's entries become that of the
+/// Where a basic column and another one, whose entry isn't 0, change places, the dictionary's entries become those of the
 /// new basis.
 pub fn pivots_are_dictionaries()
     ensures { (n m : ℕ) (A : Entries) (basic : ℕ → Bool) (u v : Entries) (b e : ℕ) → b < n + m → e < n + m → basic b ≡ true → basic e ≡ false → ((u b e).num ≡ pos 0 → ⊥) → IsPivoted u b e v → IsDictionary n m A basic u → IsDictionary n m A (exchanged basic b e) v }

@@ -62,7 +62,7 @@ pub fn leaf(b: &mut TreeBuilder, name: &[u8], text: &[u8]) -> Result<(), Memory>
     b.end(name)
 }
 
-/// Tells an element with one attribute that holds this text.
+/// Tells an element that has one attribute and holds this text.
 pub fn leaf_with(
     b: &mut TreeBuilder,
     name: &[u8],

@@ -9,7 +9,7 @@ pub fn given_jobs_run<V: Verdicts>()
     ensures { GivenJobsRun V.right }
 {}
 
-/// Law: no number is given twice by claims and enters.
+/// Law: no job is given to be run twice: neither two claims nor a claim and an enter give the same number.
 pub fn numbers_are_given_once<V: Verdicts>()
     ensures { NumbersAreGivenOnce V.right }
 {}

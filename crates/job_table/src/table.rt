@@ -114,7 +114,7 @@ impl<V: Verdicts> Table<V> {
     }
 
     /// Keeps the document of a job that runs with these texts, which may say that the job was asked to stop only where it was.
-    /// No document stands for want of memory. It takes no memory, and lets go of what isn't kept.
+    /// `None` stands for want of memory. It takes no memory, and lets go of what isn't kept.
     pub fn finish(&mut self, job: Job, asked: bool, document: Option<SharedText>) -> Finish
         requires { V.right job.osil job.osol asked document }
         ensures { row_of_move (Call.Finish job asked document) self.old ≡ outcome (Reply.Finish result) self.new }

@@ -27,7 +27,7 @@ use Rattle.server_threads.specs.OpenLinks.{AllOut, AllOpen, KeepsSeats, Conversi
 pub starts_through : (a b c : List Entry) → StartsWith b a → StartsWith c b → StartsWith c a
 starts_through a b c ab bc = (ab.0 ++ bc.0, bc.1 ∙ (ap (λ l. l ++ bc.0) ab.1 ∙ append_assoc a ab.0 bc.0))
 
--- the calls of the later ones of those that were met
+-- the moves of the later ones of those that were met
 met_suffix : (log : List Entry) (a b : List Met) → HasMet log (a ++ b) → HasMet log b
 met_suffix log [] b all = all
 met_suffix log (x ∷ xs) b all = met_suffix log xs b (λ i m at. all (suc i) m at)
@@ -161,7 +161,7 @@ all_open_snoc : {J : Type 0} (servers : ℕ) (log : List Entry) (talks : List Li
 all_open_snoc servers log talks n j [] s is all one = (subst (λ (k : ℕ). Opens servers log talks k s.me.0.number s.me.0.seen) (omega arith) one, tt)
 all_open_snoc servers log talks n j (x ∷ xs) s is all one = (all.0, all_open_snoc servers log talks (n + 1) j xs s (omega arith) all.1 one)
 
--- a seat that was just split off has made no call, and has seen all calls of the seats that were met
+-- a seat that was just split off has made no move, and has seen all moves of the seats that were met
 opens_new : {J : Type 0} (servers : ℕ) (desk : TableId) (w : View) (talks : List LinkTalk) (j : ℕ) (seat : DeskSeat J) → HasMet w.seen (map talk_met talks) → IsSeatOf desk seat → seat.me.0 ≡ newcomer w → Opens servers w.seen talks j seat.me.0.number seat.me.0.seen
 opens_new servers desk w talks j seat known fits new = subst (λ (v : View). Opens servers w.seen talks j v.number v.seen) (sym new) record {
   begins = starts_again w.seen;

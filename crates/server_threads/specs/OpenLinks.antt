@@ -26,7 +26,7 @@ use Rattle.server_threads.specs.Talks.{DeskSeat, LinkTalk, Shift, talk_met, shif
 use Rattle.server_threads.specs.Promises.{promise_of, AllDue}
 use Rattle.server_threads.specs.Serving.{Stand, stand, MayTake, Opens, AtOnce, EndsServing}
 
--- each seat is one of the desk's, had made no call when it was split off, and has the next number
+-- each seat is one of the desk's, had made no move when it was split off, and has the next number
 abbrev pub AllOut : {J : Type 0} → TableId → ℕ → List (DeskSeat J) → Type 0
 AllOut desk n [] = Unit {0}
 AllOut desk n (s ∷ ss) = (s.table_id ≡ desk) × (s.me.0.number ≡ n) × (s.me.0.mine ≡ []) × AllOut desk (n + 1) ss

@@ -35,25 +35,25 @@ pub record MayTake {J L S B : Type 0} (limits : Limits) (running : Running J L S
   pub empty : deque_len running.places ≡ 0
   pub room : limits.servers ≤ deque_capacity running.places
 
--- all calls of the links that came so many before this one, or earlier, stand in this beginning of the history
+-- all moves of the links that came so many before this one, or earlier, stand in this beginning of the history
 abbrev pub HasEarlier : (servers : ℕ) → List LinkTalk → ℕ → List Entry → Type 0
 HasEarlier servers talks j seen =
     (i : ℕ) (u : LinkTalk) → get_elem? talks i ≡ some u → i + servers ≤ j → calls_by u.seat seen ≡ by u.seat u.said
 
--- so much of the history had been seen when a link came: no call of its seat, and all calls of those that came so many before it
+-- so much of the history had been seen when a link came: no move of its seat, and all moves of those that came so many before it
 pub record Opens (servers : ℕ) (log : List Entry) (talks : List LinkTalk) (j seat : ℕ) (seen : List Entry) : Type 0 where
   pub begins : StartsWith log seen
   pub none : calls_by seat seen ≡ []
   pub earlier : HasEarlier servers talks j seen
 
--- at most so many links are served at once: all calls of a link come behind all calls of each that came so many before it, or earlier
+-- at most so many links are served at once: all moves of a link come behind all moves of each that came so many before it, or earlier
 abbrev pub AtOnce : (servers : ℕ) → List Entry → List LinkTalk → Type 0
 AtOnce servers log talks =
     (j : ℕ) (t : LinkTalk) → get_elem? talks j ≡ some t → (seen : List Entry) × Opens servers log talks j t.seat seen
 
 module _ (made : List ℕ → List ℕ → List Bool → Option (List ℕ) → Type 0) (talked : Tells → List Said → Tells → Bool → Type 0) where
   -- the links came and were given back in one order. The seat met one seat for each link, and at most so many workers' seats; it has seen all
-  -- their calls, and made none itself
+  -- their moves, and made none itself
   pub record ServesLinks (servers workers : ℕ) (old new : Stand) (talks : List LinkTalk) : Type 0 where
     pub shifts : List Shift
     pub staff : length shifts ≤ workers

@@ -14,7 +14,7 @@ use Rattle.workers.specs.Shifts.{WorksThrough}
 abbrev pub DeskSeat : Type 0 → Type 0
 DeskSeat J = Seat (Option (Held J)) View
 
--- one link that was served: what it told when it came and when it was given back, the number of the seat that served it, the calls of that
+-- one link that was served: what it told when it came and when it was given back, the number of the seat that served it, the moves of that
 -- seat, and whether the conversation ended for want of memory
 pub record LinkTalk : Type 0 where
   pub came : Tells
@@ -23,7 +23,7 @@ pub record LinkTalk : Type 0 where
   pub said : List Said
   pub short : Bool
 
--- one worker: the number of its seat, and that seat's calls
+-- one worker: the number of its seat, and that seat's moves
 pub record Shift : Type 0 where
   pub seat : ℕ
   pub said : List Said
@@ -53,7 +53,7 @@ Came old new links = BothTold old new (λ before after. before ≡ links ++ afte
 abbrev pub GivenBack : Option (List Tells) → Option (List Tells) → List Tells → Type 0
 GivenBack old new links = BothTold old new (λ before after. after ≡ before ++ links)
 
--- each link was served by a seat of its own, with numbers from this one on, and this holds of what it told when it came, of its seat's calls,
+-- each link was served by a seat of its own, with numbers from this one on, and this holds of what it told when it came, of its seat's moves,
 -- of what it told when it was given back, and of whether memory was wanting
 abbrev pub AllTalked : (Tells → List Said → Tells → Bool → Type 0) → ℕ → List LinkTalk → Type 0
 AllTalked talked n [] = Unit {0}
@@ -61,7 +61,7 @@ AllTalked talked n (t ∷ ts) = (t.seat ≡ n) × talked t.came t.said t.back t.
 
 -- which looks a run of a job's texts makes, with their answers, and which document comes of it, is given
 module _ (made : List ℕ → List ℕ → List Bool → Option (List ℕ) → Type 0) where
-  -- the calls of a worker, from its coming to its leaving; or none, where it couldn't be started
+  -- the moves of a worker, from its coming to its leaving; or none, where it couldn't be started
   abbrev pub IsShift : List Said → Type 0
   IsShift said = (said ≡ []) ⊎ WorksThrough made said
 
@@ -71,7 +71,7 @@ module _ (made : List ℕ → List ℕ → List Bool → Option (List ℕ) → T
   AllWorked n (s ∷ ss) = (s.seat ≡ n) × IsShift s.said × AllWorked (n + 1) ss
 
 module _ (right : List ℕ → List ℕ → Bool → Option (List ℕ) → Type 0) where
-  -- calls were made on this seat, and of these calls this holds
+  -- moves were made on this seat, and of these moves this holds
   pub record Acts {J : Type 0} (holds : List Said → Type 0) (was seat : DeskSeat J) : Type 0 where
     pub desk_is : IsSeatOf was.table_id seat
     pub said : List Said

@@ -1,9 +1,9 @@
 //! A server of links, in threads.
 //!
-//! [`serve_loop`] accepts links and has each served in a thread of its own, by calls of a seat of its own of one desk, beside
+//! [`serve_loop`] accepts links and has each served in a thread of its own, by moves of a seat of its own of one desk, beside
 //! workers that run the jobs of the desk's table. All links that came are given back, in their order, and of each a conversation is
-//! known: between what the link told when it came and when it was given back stand the calls of one seat, whose number
-//! no other link has. The desk's first seat then has met these seats and those of the workers, and knows their calls.
+//! known: between what the link told when it came and when it was given back stand the moves of one seat, whose number
+//! no other link has. The desk's first seat then has met these seats and those of the workers, and knows their moves.
 //!
 //! Who has the conversation is handed in, as a [`Service`]: it serves an [`OpenLink`], which only a link that is open can become, and
 //! gives it back.

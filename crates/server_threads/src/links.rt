@@ -54,7 +54,7 @@ impl<J: Verdicts, N> Before<J, N> {
     }
 }
 
-/// Serves a link in a thread of its own, by calls of this seat, and closes it when the conversation is over, so that its peer reads the
+/// Serves a link in a thread of its own, by moves of this seat, and closes it when the conversation is over, so that its peer reads the
 /// end. Where no thread can be started, it is served here.
 fn serve_link<
     's,

@@ -20,7 +20,7 @@ pub(crate) struct Finished<S, L> {
     pub(crate) short: bool,
 }
 
-/// The promise to serve this link by calls of this seat.
+/// The promise to serve this link by moves of this seat.
 #[derive(Drop)]
 pub(crate) struct ToServe<J: Verdicts, L, S, B> {
     pub(crate) seat: Snapshot<Seat<J>>,

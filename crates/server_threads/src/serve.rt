@@ -71,7 +71,7 @@ where
     (seat, served)
 }
 
-/// Serves so many links that come to the listener, each in a thread of its own by calls of a seat of its own, so many at once at
+/// Serves so many links that come to the listener, each in a thread of its own by moves of a seat of its own, so many at once at
 /// most, beside so many workers, and gives them back in the order in which they came. Behind the last one, and where the listener
 /// fails, the workers finish what waits and leave. The answer is how many links ended for want of memory.
 ///

@@ -17,11 +17,11 @@ pub trait Service<V: Verdicts>: Runner<V> {
     ghost use Rattle.job_table.specs.History.{Entry};
     ghost use Rattle.os_io.specs.Streams.{Tells};
 
-    /// What one conversation may be: how a bell answers that is rung, what the link told before it, the calls that were made for it, what
+    /// What one conversation may be: how a bell answers that is rung, what the link told before it, the moves that were made for it, what
     /// the link told after it, and whether it ended for want of memory.
     ghost talked: { (Bool → Type 0) → Tells → List Entry → Tells → Bool → Type 0 };
 
-    /// Serves an open link from its first byte to its last, by calls of one caller, and gives it back. Where work is left for a worker
+    /// Serves an open link from its first byte to its last, by moves of one caller, and gives it back. Where work is left for a worker
     /// it rings. The answer is whether it ended for want of memory.
     fn serve<L: Close, C: Calls<V>, R: Wait, B: Bell>(
         &self,

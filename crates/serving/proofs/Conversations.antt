@@ -1,4 +1,4 @@
--- A conversation over whoever makes calls is one of exactly the calls that were made.
+-- A conversation over whoever makes moves is one of exactly the moves that were made.
 use Rattle.std.proofs.Common.{◌≡◌, Bool, List, refl}
 use Rattle.os_io.specs.Streams.{Tells}
 use Rattle.job_table.specs.History.{Entry}

@@ -29,7 +29,7 @@ abbrev number_in : Option Hand → ℕ
 number_in None = 0
 number_in (Some h) = h.job.number
 
--- ---- one more call
+-- ---- one more move
 
 no_finish_more : (n : ℕ) (es : List Said) (e : Said) → NoFinish n es → is_finish_of n e.call ≡ false → NoFinish n (es ++ e ∷ [])
 no_finish_more n [] e none other = (other, tt)
@@ -103,7 +103,7 @@ module _ (right : Right) where
     look_holds n said None is holds step = absurd is
     look_holds n said (Some h) is holds step = holds_more now next h (Look n) said holds step refl
 
-    -- who makes a call holds then what it has in hand
+    -- who makes a move holds then what it has in hand
     call_holds : (call : Call) (said : replies.Reply) (h : Option Hand) → Allows h call → HoldsAny now h → Step right now call said next → HoldsAny next (then_in_hand call said h)
     call_holds (Enter o p) said h is holds step = gave_holds (Enter o p) said h tt (λ n. refl) holds step
     call_holds (Claim w) said h is holds step = gave_holds (Claim w) said h tt (λ n. refl) holds step
@@ -121,14 +121,14 @@ module _ (right : Right) where
           subst (λ (s : replies.Reply). kept_if_finish (Finish j asked document) s ≡ true) (sym kept) refl
       finish_kept call said h is holds step = refl
 
-  -- a call of another finishes another job
+  -- a move of another finishes another job
   finishes_another : (call : Call) (mine : Option Hand) (h : Hand) → Allows mine call → ((i : Hand) → mine ≡ Some i → h.job.number ≢ i.job.number) → is_finish_of h.job.number call ≡ false
   finishes_another (Finish j asked document) None h is apart = absurd is
   finishes_another (Finish j asked document) (Some i) h is apart = ne_eqb h.job.number j.number (λ same. apart i refl (same ∙ ap (λ (k : Job). k.number) is.0))
   finishes_another call mine h is apart = refl
 
   module _ (numbers : NumbersAreGivenOnce right) where
-    -- what is in hand after a call is another job than that of someone else
+    -- what is in hand after a move is another job than that of someone else
     gave_another : (now next : Register) (call : Call) (said : replies.Reply) (mine : Option Hand) (h i : Hand) → IsGiving call → after_gave said mine ≡ Some h → Holds now i → Step right now call said next
         → ((k : Hand) → mine ≡ Some k → k.job.number ≢ i.job.number) → h.job.number ≢ i.job.number
     gave_another now next call (reply.Gave (Some j)) mine h i giving is holds step apart = λ same.
@@ -145,7 +145,7 @@ module _ (right : Right) where
     call_another now next (Finish j asked document) said mine h i is holds step apart = absurd (none_is_not_some h is)
     call_another now next call said mine h i is holds step apart = apart h is
 
-    -- what is in everybody's hands after a call
+    -- what is in everybody's hands after a move
     hands_after : Entry → (ℕ → Option Hand) → ℕ → Option Hand
     hands_after e hands k = cond (eqb e.seat k) (then_in_hand e.call e.reply (hands e.seat)) (hands k)
 
@@ -187,7 +187,7 @@ module _ (right : Right) where
         apart = λ k m h i other at at'. every_apart k m h i (eqb e.seat k) (eqb e.seat m) refl refl other at at';
       }
 
-    -- what is still to come of somebody's calls
+    -- what is still to come of somebody's moves
     head_allowed : (h : Option Hand) (e : Entry) (es : List Entry) (own : Bool) → own ≡ true → IsOrderly h (calls (cond own (e ∷ es) es)) → Allows h e.call
     head_allowed h e es true own is = is.0
     head_allowed h e es false own is = absurd (false_is_not own)

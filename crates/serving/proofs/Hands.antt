@@ -25,7 +25,7 @@ abbrev pub after_look : Reply → Option Hand → Option Hand
 after_look (Marked true) (Some h) = Some (hand h.job true)
 after_look said h = h
 
--- what one who makes this call, and gets this reply, has in hand then
+-- what one who makes this move, and gets this reply, has in hand then
 abbrev pub then_in_hand : Call → Reply → Option Hand → Option Hand
 then_in_hand (Enter osil osol) said h = after_gave said h
 then_in_hand (Claim worker) said h = after_gave said h
@@ -41,7 +41,7 @@ Allows None (Finish j asked document) = ⊥
 Allows (Some h) (Finish j asked document) = (j ≡ h.job) × (asked ≡ true → h.told ≡ true)
 Allows h call = Unit {0}
 
--- so are all of these calls, by one who has this in hand before them
+-- so are all of these moves, by one who has this in hand before them
 abbrev pub IsOrderly : Option Hand → List Entry → Type 0
 IsOrderly h [] = Unit {0}
 IsOrderly h (e ∷ es) = Allows h e.call × IsOrderly (then_in_hand e.call e.reply h) es

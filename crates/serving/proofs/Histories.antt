@@ -69,7 +69,7 @@ module _ (P Q : Met → Type 0) (n : ℕ) where
   sits [] p q = inr (All-nil (λ m. m.seat ≢ n))
   sits (m ∷ ms) p q = sits_more m ms (eqb m.seat n) refl (All-head P m ms p) (All-head Q m ms q) (sits ms (All-tail P m ms p) (All-tail Q m ms q))
 
--- ---- the calls of each are orderly
+-- ---- the moves of each are orderly
 
 abbrev IsOrderlyMet : Met → Type 0
 IsOrderlyMet m = IsOrderly None (calls m.calls)
@@ -113,7 +113,7 @@ module _ {A : Type 0} (P : A → Type 0) (x : A) where
 abbrev stood : View → NetTells → threads.Stand
 stood v net = record { view = v; coming = net.coming; given_back = net.given_back; reached = net.reached }
 
--- what came behind other calls still does in a longer history
+-- what came behind other moves still does in a longer history
 at_once_grown : (servers : ℕ) (log more : List Entry) (talks : List LinkTalk) → AtOnce servers log talks → AtOnce servers (log ++ more) talks
 at_once_grown servers log more talks at j t there =
     let (seen, opens) = at j t there in
@@ -145,7 +145,7 @@ module _ (first : FirstFinishIsKept Right) (numbers : NumbersAreGivenOnce Right)
         none_waits = none_waits;
       }
 
-  -- links that were served by calls of a new desk, whose first seat worked off what waited then and closed it
+  -- links that were served by moves of a new desk, whose first seat worked off what waited then and closed it
   hosts_of : (E : List LinkTalk → List Entry → Type 0) (workers servers : ℕ) (old new : NetTells) (v w last : View) (links : List LinkTalk) (own : List Said)
       (table : Register) → (s : threads.ServesLinks Makes (Converses Untold) servers workers (stood v old) (stood w new) links) → v ≡ first_view → calls_by w.number w.seen ≡ w.mine
       → HasMet w.seen w.met → (asked : Asked Right w last own) → WorksThrough Makes own → (c : Closes Right last table) → E links c.log

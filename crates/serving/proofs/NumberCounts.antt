@@ -1,4 +1,4 @@
--- How many numbers a table has given is how often a call gave one.
+-- How many numbers a table has given is how often a move gave one.
 use Rattle.std.proofs.Common.{◌≡◌, ℕ, ◌+◌, ◌&&◌, not, nat_lt, nat_le, bytes_eq, length, Bool, true, false, cond, List, [], ◌∷◌, Option, Some, None, refl, sym, ◌∙◌, ap, subst, arith}
 use Rattle.std.proofs.lemmas.List.Sums.{sum_by-cons}
 use Rattle.job_table.specs.declared.job.Job.{Job}

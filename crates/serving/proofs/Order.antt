@@ -1,4 +1,4 @@
--- The calls of a conversation and those of a shift are orderly, and leave nothing in hand.
+-- The moves of a conversation and those of a shift are orderly, and leave nothing in hand.
 use Rattle.std.proofs.Common.{◌≡◌, Bool, true, false, List, [], ◌∷◌, ◌++◌, Option, Some, None, refl, sym, ◌∙◌, ap, subst}
 use Rattle.job_table.specs.declared.job.Job.{Job}
 use Rattle.job_table.specs.declared.calls.Call.{Call}
@@ -15,7 +15,7 @@ use Rattle.serving.proofs.Hands.{Hand, hand, after_gave, then_in_hand, IsOrderly
 false_is_not : false ≡ true → ⊥
 false_is_not e = cc
 
--- calls are orderly from empty hands to empty hands
+-- moves are orderly from empty hands to empty hands
 abbrev pub IsNeat : List Entry → Type 0
 IsNeat es = IsOrderly None es × (in_hand_after None es ≡ None)
 
@@ -99,7 +99,7 @@ module _ (made : Made) where
   work_off_neat (g ∷ later) es (own, rest, worked, off, are) =
       subst IsNeat (sym are) (neat_then own rest (works_so made IsNeat neat true g own worked) (work_off_neat later rest off))
 
-  -- of all calls of a worker
+  -- of all moves of a worker
   pub shift_neat : (es : List Entry) → WorksThrough made es → IsNeat es
   shift_neat es w =
       let r = w.rests in

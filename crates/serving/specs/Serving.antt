@@ -1,4 +1,4 @@
--- A server, from `listen` on: the links that came, the one history of the calls of the table of jobs, and the lines that were written.
+-- A server, from `listen` on: the links that came, the one history of the moves of the table of jobs, and the lines that were written.
 use Rattle.std.specs.Prelude.{◌≡◌, ◌≢◌, ◌⊎◌, ℕ, ◌+◌, ◌<◌, ◌≤◌, Bool, true, false, List, [], ◌∷◌, ◌++◌, length, map, count_by, All, Some}
 use Rattle.os_io.specs.Streams.{Tells, HasRisen}
 use Rattle.os_io.specs.Links.{NetTells, ListenedAt, IsReached}
@@ -39,27 +39,27 @@ lacks_memory served.ReadFault = false
 lacks_memory served.WriteFault = false
 lacks_memory served.Memory = true
 
--- a conversation, by what a ring of the bell may answer, what its link told before it, the calls that were made for it, what its link told
+-- a conversation, by what a ring of the bell may answer, what its link told before it, the moves that were made for it, what its link told
 -- after it, and whether it ended for want of memory
 abbrev pub Converses : (Bool → Type 0) → Tells → List Said → Tells → Bool → Type 0
 Converses rang came said back short =
     (end : Served) × Serves Makes rang (λ made. made ≡ said) end came back × (short ≡ lacks_memory end)
 
--- who made calls: the links that came, and the workers, each with its number and its calls
+-- who made moves: the links that came, and the workers, each with its number and its moves
 abbrev pub callers : List LinkTalk → List Shift → List Met
 callers links staff = map talk_met links ++ map shift_met staff
 
--- whoever closes the table worked a whole shift, and its calls stand last: before them stand the calls of others alone
+-- whoever closes the table worked a whole shift, and its moves stand last: before them stand the moves of others alone
 pub record WorksLast (closer : Shift) (log : List Entry) : Type 0 where
   pub others : List Entry
   pub worked : WorksThrough Makes closer.said
   pub none : calls_by closer.seat others ≡ []
   pub last : log ≡ others ++ by closer.seat closer.said
 
--- one history of calls of the table, step by step from the empty one. The workers have the numbers from 1 on, and their calls are those of
--- their shifts; the links have the next ones, in the order in which they came, and their calls are those of their conversations. Whoever
--- closes the table is one worker more, with the number 0, whose shift stands last; or no table was opened, and there are no calls. Under the number
--- of each stand its calls, in their order, and nobody else has any. At most so many links are served at once. Every finish is kept, every document
+-- one history of moves of the table, step by step from the empty one. The workers have the numbers from 1 on, and their moves are those of
+-- their shifts; the links have the next ones, in the order in which they came, and their moves are those of their conversations. Whoever
+-- closes the table is one worker more, with the number 0, whose shift stands last; or no table was opened, and there are no moves. Under the number
+-- of each stand its moves, in their order, and nobody else has any. At most so many links are served at once. Every finish is kept, every document
 -- that is shown is proved, and at the end no job waits
 pub record IsHistory (servers : ℕ) (links : List LinkTalk) (staff : List Shift) (closer : Shift) (log : List Entry) : Type 0 where
   pub table : Register
@@ -89,13 +89,13 @@ pub record Hosts (Further : List LinkTalk → List Entry → Type 0) (workers se
   pub history : IsHistory servers links staff closer log
   pub ends : Further links log
 
--- the call gives a number: an issue, or the enter of a job
+-- the move gives a number: an issue, or the enter of a job
 abbrev pub gives_number : Call → Reply → Bool
 gives_number Issue (Issued n) = true
 gives_number (Enter osil osol) (Gave (Some j)) = true
 gives_number call said = false
 
--- how many numbers these calls gave
+-- how many numbers these moves gave
 abbrev pub numbers_given : List Said → ℕ
 numbers_given said = count_by (λ e. gives_number e.call e.reply) said
 

@@ -1,4 +1,4 @@
--- A session's desk, of which one seat alone made calls.
+-- A session's desk, of which one seat alone made moves.
 use Rattle.std.proofs.Common.{◌≡◌, ℕ, ◌-◌, ◌+◌, length, List, [], ◌++◌, refl, sym, ◌∙◌, ap, subst}
 use mathlib.Core.Option.{some-ne-none}
 use Rattle.os_io.specs.Streams.{Tells}
@@ -30,7 +30,7 @@ module _ (first v : View) (fresh : first ≡ first_view) (said : List Entry) (as
       let given : v.given ≡ 1 = asked.stays.given ∙ ap (λ (w : View). w.given) fresh in
       (asked.stays.number ∙ ap (λ (w : View). w.number) fresh, ap (λ (g : ℕ). g - (length v.met + 1)) given ∙ ap (λ (ms : List Met). 1 - (length ms + 1)) met)
 
-  -- its history is these calls
+  -- its history is these moves
   pub closed_runs : (table : Register) → Closes Right v table → LeadsStepwise Right empty said table
   closed_runs table c =
       let stand : calls_by first.number first.seen ≡ first.mine = subst (λ (f : View). calls_by f.number f.seen ≡ f.mine) (sym fresh) refl in
@@ -38,17 +38,17 @@ module _ (first v : View) (fresh : first ≡ first_view) (said : List Entry) (as
       let log : c.log ≡ _ = whole_history Right first v said asked (ap (λ (f : View). f.number) fresh) stand known table c in
       subst (λ (es : List Entry). LeadsStepwise Right empty es table) (ap calls log ∙ calls_then first.seen 0 said ∙ ap (λ (f : View). calls f.seen ++ said) fresh) c.leads
 
--- a conversation by calls of a new desk, which was closed
+-- a conversation by moves of a new desk, which was closed
 pub served_alone : (did : List Entry → Type 0) (end : Served) (old new : Tells) (table : Register) → (s : ServesWhole Makes WakesNobody did end old new)
     → LeadsStepwise Right empty s.0.part.entries table → ServesAlone end old new
 served_alone did end old new table (s, whole) runs = (table, (serves_so Makes WakesNobody did (λ made. LeadsStepwise Right empty made table) end old new s runs, whole))
 
--- a conversation without a call
+-- a conversation without a move
 pub served_without : (end : Served) (old new : Tells) → ServesWhole Makes WakesNobody (λ made. made ≡ []) end old new → ServesAlone end old new
 served_without end old new s =
     served_alone (λ made. made ≡ []) end old new empty s (subst (λ (es : List Entry). LeadsStepwise Right empty es empty) (sym s.0.calls) refl)
 
--- a conversation whose calls were all that were made is a session
+-- a conversation whose moves were all that were made is a session
 pub session_of : ConversationsAreKept Makes WakesNobody Right → ShownAreProved → (end : Served) (old new : Tells) → ServesAlone end old new → IsSession end old new
 session_of kept shown end old new (table, (s, whole)) = record {
   entries = s.part.entries;

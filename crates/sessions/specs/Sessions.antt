@@ -10,12 +10,12 @@ use Rattle.job_solver.specs.ProvedDocuments.{AreProved}
 use Rattle.os_server.specs.declared.serve.Served.{Served}
 use Rattle.os_server.specs.Talk.{ServesWhole}
 
--- a conversation that ended so, from before to after, and no others made calls of its table: step by step from the empty one, they
+-- a conversation that ended so, from before to after, and no others made moves of its table: step by step from the empty one, they
 -- are this conversation's
 abbrev pub ServesAlone : Served → Tells → Tells → Type 0
 ServesAlone end old new = (table : Register) × ServesWhole Makes WakesNobody (λ made. LeadsStepwise Right empty made table) end old new
 
--- a session that ended so, from before to after: calls of the table, step by step from the empty one, which are this
+-- a session that ended so, from before to after: moves of the table, step by step from the empty one, which are this
 -- conversation's and no other's; every finish among them is kept, and every document that is shown is proved
 pub record IsSession (end : Served) (old new : Tells) : Type 0 where
   pub entries : List Entry

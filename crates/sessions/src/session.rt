@@ -13,7 +13,7 @@ use os_server::{Served, conversations_are_kept, serve_ends, turn_away};
 use std::alloc::Global;
 use std::sync::Wait;
 
-/// Serves the conversation by calls of a new desk, which is closed behind it.
+/// Serves the conversation by moves of a new desk, which is closed behind it.
 fn serve_alone<I: Source, O: Sink, R: Wait>(
     rt: &R,
     alloc: Global,
@@ -43,7 +43,7 @@ fn serve_alone<I: Source, O: Sink, R: Wait>(
     served
 }
 
-/// Serves a session: the requests that come on an input, with the answers on an output, by calls of a desk of its own. Where there
+/// Serves a session: the requests that come on an input, with the answers on an output, by moves of a desk of its own. Where there
 /// is no memory for one, 503 is answered and nothing read.
 pub fn serve_session<I: Source, O: Sink, R: Wait>(
     rt: &R,

@@ -6,7 +6,7 @@ ghost use Rattle.six_calls.specs.Names as names;
 /// A part of a call.
 #[derive(Clone, Copy, PartialEq, Eq, Debug, Drop)]
 pub enum Part {
-    /// The instance's text. A call that has it needs it.
+    /// The instance's text. A call of which it is a part can't be made without it.
     Osil,
     /// The options' text.
     Osol,
@@ -26,7 +26,7 @@ impl Part {
         }
     }
 
-    /// Whether a call that has it needs it.
+    /// Whether a call of which it is a part can't be made without it.
     pub fn is_needed(self) -> bool
         ensures { result ≡ names.is_needed self }
     {
