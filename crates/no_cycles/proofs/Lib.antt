@@ -12,3 +12,4 @@ pub mod Counting
 pub mod Bounded
 pub mod Begun
 pub mod Searched
+pub mod SafeLimits

@@ -1,5 +1,5 @@
 //! What is known of runs and of searches.
-ghost use Rattle.std.specs.Prelude.{◌≡◌, ℕ, ◌+◌, ◌^◌, ◌<◌, ◌≤◌, Bool, false};
+ghost use Rattle.std.specs.Prelude.{◌≡◌, ℕ, ◌+◌, ◌^◌, ◌<◌, ◌≤◌, Bool, false, Some};
 ghost use Rattle.evidence.specs.Instance.{Instance, IsInstance, width, height};
 ghost use Rattle.bases.specs.Program.{goal_column};
 ghost use Rattle.simplex_rules.specs.Ends.{Terms, Clock, End, TurnsOut};
@@ -9,6 +9,7 @@ ghost use Rattle.search_rules.specs.Outcomes.{IsPlain};
 ghost use Rattle.no_cycles.specs.Phase.{IsTurn, AreTurns, AreSame, IsSettled, BeginsSettled, HasNoneTwice, came_through};
 ghost use Rattle.no_cycles.specs.Beginning.{BeginsFeasible};
 ghost use Rattle.no_cycles.specs.Searches.{is_out_of_turns};
+ghost use Rattle.no_cycles.specs.Limit.{safe_limit};
 
 /// Law: in the second phase no basis comes twice with the same places: not in turns of it one after the other, and not among
 /// all the bases that a run came through (Bland, 1977).
@@ -44,4 +45,9 @@ pub fn limit_never_comes()
 /// limit is as many as are enough.
 pub fn plain_searches_stay_within_turns()
     ensures { (I : Instance) (t : Terms) (o : Outcome) (c : Clock) → IsInstance I → IsPlain I → BeginsFeasible I → 4 ^ (width I + height I) ≤ t.turns → IsSearchAnswer I t o c → is_out_of_turns o ≡ false }
+{}
+
+/// Law: nor is such a search where the limit is at least the safe one of its program.
+pub fn safe_limits_are_enough()
+    ensures { (I : Instance) (t : Terms) (o : Outcome) (c : Clock) (l : ℕ) → IsInstance I → IsPlain I → BeginsFeasible I → safe_limit (width I) (height I) ≡ Some l → l ≤ t.turns → IsSearchAnswer I t o c → is_out_of_turns o ≡ false }
 {}

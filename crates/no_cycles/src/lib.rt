@@ -17,6 +17,6 @@ mod limit;
 
 pub use laws::{
     feasible_beginnings_are_settled, limit_never_comes, no_basis_twice,
-    plain_searches_stay_within_turns, second_phase_stays, turns_are_few,
+    plain_searches_stay_within_turns, safe_limits_are_enough, second_phase_stays, turns_are_few,
 };
 pub use limit::safe_limit;
