@@ -83,7 +83,7 @@ expect "the README's tables" "$(sh "$top/tools/commands_table.sh" --check)" ''
 
 # ---- before the program is built
 
-all='./os solve OSIL [--options OSOL]'
+all='./os solve OSIL [--options OSOL] [--safe]'
 says_no_command "$all"
 says_no_command "$all" help
 says_no_command "$all" --help
@@ -199,11 +199,16 @@ make_stub
 echo it >there
 mkdir folder
 says 0 '' solve there
+says 0 '' solve there --safe
 says 1 '' solve there
-says 2 'os: these words are not those of solve: ./os solve OSIL [--options OSOL] (./os help solve says more)' solve there there
+says 2 'os: these words are not those of solve: ./os solve OSIL [--options OSOL] [--safe] (./os help solve says more)' solve there there
+says 2 'os: these words are not those of solve: ./os solve OSIL [--options OSOL] [--safe] (./os help solve says more)' solve there --safe=1
 says 2 'os: these words are not those of generate: ./os generate N (./os help generate says more)' generate 1001
-solve='name another file: ./os solve OSIL [--options OSOL]'
+solve='name another file: ./os solve OSIL [--options OSOL] [--safe]'
 says 3 "os: can't read nofile.osil: there is no such file; $solve" solve nofile.osil
+says 3 "os: can't read nofile.osil: there is no such file; $solve" solve --safe nofile.osil
+says 3 "os: can't read no.osol: there is no such file; $solve" solve there --safe --options no.osol
+says 3 "os: can't read --safe: there is no such file; $solve" solve -- --safe
 says 3 "os: can't read folder: it is a folder; $solve" solve --options folder there
 says 3 "os: can't read no.osol: there is no such file; $solve" solve there --options=no.osol
 says 3 "os: can't read --options: there is no such file; $solve" solve -- --options

@@ -65,12 +65,14 @@ answer_no_command() {
     exit 2
 }
 
-# Takes a command's words apart, as the program does: those that stand for themselves, and the texts of options.
+# Takes a command's words apart, as the program does: those that stand for themselves, and the texts of options. A word that stands alone
+# has no text.
 take_apart() {
     first='' second='' third=''
     unset options osil osol ospl
     while [ $# -gt 0 ] && [ "$1" != -- ]; do
         case $1 in
+            --safe) ;;
             --*=*) keep_option "${1%%=*}" "${1#*=}" ;;
             --*)
                 keep_option "$1" "${2-}"

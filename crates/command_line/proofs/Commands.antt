@@ -22,13 +22,14 @@ use Rattle.command_line.specs.CommandWords as giving
 use Rattle.command_line.specs.Forms.{Form, forms, program_form}
 use Rattle.command_line.specs.Words.{Command, asked_by, asked_with, asks}
 use Rattle.std.proofs.Math.Bool.{or-true}
+use Rattle.std.proofs.lemmas.List.Folds.{list_any-append}
 use Rattle.clap.proofs.SimpleLemmas.{is_false}
 use Rattle.command_line.proofs.Texts.{true_or_false}
 use Rattle.command_line.proofs.Flags.{HasHelpAlone, IsName, Tells, dashes, first_none, goes_to_place, help_flag, is_dashes, is_long, is_value, next_none, no_flag, some_fault, tells}
 use Rattle.command_line.proofs.Rows.{first_is, is_given_is, rows}
-use Rattle.command_line.proofs.Rules.{leaf, option_rule, options, place_rule, places, rules_of}
+use Rattle.command_line.proofs.Rules.{flag_rule, leaf, option_rule, options, place_rule, places, rules_of}
 use Rattle.command_line.proofs.TextUses.{held}
-use Rattle.command_line.proofs.Walks.{Gives, IsForm, Needs, at, end, gives}
+use Rattle.command_line.proofs.Walks.{Gives, IsForm, Needs, at, end, gives, may_give}
 use Rattle.command_line.proofs.TextsGiven.{AreApart, AreFree, AreGiven, Ended, IsApart, Lacks, said}
 
 -- ---- the names of a form
@@ -45,7 +46,7 @@ are_apart [] = true
 are_apart (name ∷ names) = is_apart name names && are_apart names
 
 abbrev pub is_fit : Form → Bool
-is_fit f = list_all is_name f.named && (list_all (λ n. is_apart n f.needed) f.named && (are_apart f.needed && nat_le (length f.needed) 15))
+is_fit f = list_all is_name (f.named ++ f.flags) && (list_all (λ n. is_apart n f.needed) (f.named ++ f.flags) && (list_all (λ n. not (has_name f.named n)) f.flags && (are_apart f.needed && nat_le (length f.needed) 15)))
 
 name_of : (name : Text) → is_name name ≡ true → IsName name
 name_of [] is = absurd (true_or_false (sym is))
@@ -74,10 +75,18 @@ none_given [] = tt
 none_given (name ∷ names) = (refl, none_given names)
 
 module _ (f : Form) (fit : is_fit f ≡ true) where
+  among : (name : Text) → may_give f name ≡ true → has_name (f.named ++ f.flags) name ≡ true
+  among name may = list_any-append (λ n. bytes_eq n name) f.named f.flags ∙ may
+
   form_is : IsForm f
   form_is =
       let parts = both _ _ fit in
-      record { names = λ name has. name_of name (all_named is_name f.named name parts.0 has); few = leb-true (length f.needed) 15 (both _ _ (both _ _ parts.1).1).1 }
+      let more = both _ _ (both _ _ parts.1).1 in
+      record {
+        names = λ name may. name_of name (all_named is_name (f.named ++ f.flags) name parts.0 (among name may));
+        apart = λ name has. is_false _ (all_named (λ n. not (has_name f.named n)) f.flags name more.0 has);
+        few = leb-true (length f.needed) 15 (both _ _ more.1).1;
+      }
 
   needs_all : Needs f 0 f.needed
   needs_all = record { rest = λ i. let same : 0 + i ≡ i = omega arith in ap (slice_get f.needed) same; few = omega (arith, form_is.few) }
@@ -86,8 +95,8 @@ module _ (f : Form) (fit : is_fit f ≡ true) where
   lacks_all =
       let parts = both _ _ (both _ _ fit).1 in
       record {
-        apart = all_apart f.needed (both _ _ parts.1).0;
-        named = λ name has. apart_of name f.needed (all_named (λ n. is_apart n f.needed) f.named name parts.0 has);
+        apart = all_apart f.needed (both _ _ (both _ _ parts.1).1).0;
+        named = λ name may. apart_of name f.needed (all_named (λ n. is_apart n f.needed) (f.named ++ f.flags) name parts.0 (among name may));
         free = none_given f.needed;
         among = λ all given. given;
       }
@@ -117,11 +126,12 @@ bare_more all a rules bare rest = record {
   faults = ap₂ or_else (default_passes a bare all) (ap (λ (rs : List Row). defaults_fault rs rules) (default_adds a bare all) ∙ rest.faults);
 }
 
-are_bare : (all : List Row) (ns named : List Text) (k : ℕ) → AreBare all (places k ns ++ options named)
+are_bare : (all : List Row) (ns named flags : List Text) (k : ℕ) → AreBare all (places k ns ++ options named flags)
 unfolding defaults_fault
-are_bare all [] [] k = bare_more all help_flag [] refl (record { added = refl; faults = refl })
-are_bare all [] (n ∷ named) k = bare_more all (option_rule n) (options named) refl (are_bare all [] named k)
-are_bare all (n ∷ ns) named k = bare_more all (place_rule k n) (places (k + 1) ns ++ options named) refl (are_bare all ns named (k + 1))
+are_bare all [] [] [] k = bare_more all help_flag [] refl (record { added = refl; faults = refl })
+are_bare all [] [] (n ∷ flags) k = bare_more all (flag_rule n) (options [] flags) refl (are_bare all [] [] flags k)
+are_bare all [] (n ∷ named) flags k = bare_more all (option_rule n) (options named flags) refl (are_bare all [] named flags k)
+are_bare all (n ∷ ns) named flags k = bare_more all (place_rule k n) (places (k + 1) ns ++ options named flags) refl (are_bare all ns named flags (k + 1))
 
 missing_false : (b : Bool) → cond b (MissingRequiredArgument ∷ []) [] ≡ [] → b ≡ false
 missing_false true none = absurd (some_fault _ _ none)
@@ -131,10 +141,11 @@ missing_false false none = refl
 abbrev are_missing : List Row → List Text → Bool
 are_missing all names = list_any (λ n. not (is_given n all)) names
 
-missing_is : (ns named : List Text) (k : ℕ) (all : List Row) → list_any (λ (a : Rule). a.required && not (is_given a.id all)) (places k ns ++ options named) ≡ are_missing all ns
-missing_is [] [] k all = refl
-missing_is [] (n ∷ named) k all = missing_is [] named k all
-missing_is (n ∷ ns) named k all = ap (λ (b : Bool). not (is_given n all) || b) (missing_is ns named (k + 1) all)
+missing_is : (ns named flags : List Text) (k : ℕ) (all : List Row) → list_any (λ (a : Rule). a.required && not (is_given a.id all)) (places k ns ++ options named flags) ≡ are_missing all ns
+missing_is [] [] [] k all = refl
+missing_is [] [] (n ∷ flags) k all = missing_is [] [] flags k all
+missing_is [] (n ∷ named) flags k all = missing_is [] named flags k all
+missing_is (n ∷ ns) named flags k all = ap (λ (b : Bool). not (is_given n all) || b) (missing_is ns named flags (k + 1) all)
 
 given_of : (all : Given) (names : List Text) → are_missing (rows all) names ≡ false → AreGiven all names
 given_of all [] none = tt
@@ -159,10 +170,10 @@ module _ (f : Form) where
   level words = level_fault (leaf f) [] nothing_held words false []
 
   check_is : (all : List Row) → check_fault (leaf f) all false ≡ cond (are_missing all f.needed) (MissingRequiredArgument ∷ []) []
-  check_is all = ap (λ (b : Bool). cond b (MissingRequiredArgument ∷ []) []) (missing_is f.needed f.named 1 all)
+  check_is all = ap (λ (b : Bool). cond b (MissingRequiredArgument ∷ []) []) (missing_is f.needed f.named f.flags 1 all)
 
   end_rows : (words : List Text) → rows_after (rules_of f) [] words ≡ (settled (rules_of f) (end f (at 0 (held [] None) idle false) words).held).rows
-  end_rows words = (are_bare _ f.needed f.named 1).added
+  end_rows words = (are_bare _ f.needed f.named f.flags 1).added
 
   ended_of : (form : IsForm f) (words : List Text) → level words ≡ [] → Ended f form (at 0 (held [] None) idle false) words
   ended_of form words none =
@@ -178,7 +189,7 @@ module _ (f : Form) where
   level_of words given gives complete =
       let found : rows_after (rules_of f) [] words ≡ rows given = end_rows words ∙ ap (λ (h : Held). h.rows) gives.settled in (
         ap₂ (λ (a b : Kinds). or_else a (or_else [] (or_else b (or_else (defaults_fault (settled (rules_of f) (end f (at 0 (held [] None) idle false) words).held).rows (rules_of f)) (check_fault (leaf f) (rows_after (rules_of f) [] words) false))))) gives.faults gives.passes
-            ∙ ap (λ (k : Kinds). or_else k (check_fault (leaf f) (rows_after (rules_of f) [] words) false)) (are_bare (settled (rules_of f) (end f (at 0 (held [] None) idle false) words).held).rows f.needed f.named 1).faults
+            ∙ ap (λ (k : Kinds). or_else k (check_fault (leaf f) (rows_after (rules_of f) [] words) false)) (are_bare (settled (rules_of f) (end f (at 0 (held [] None) idle false) words).held).rows f.needed f.named f.flags 1).faults
             ∙ ap (λ (rs : List Row). check_fault (leaf f) rs false) found ∙ check_is (rows given) ∙ ap (λ (b : Bool). cond b (MissingRequiredArgument ∷ []) []) (missing_of given f.needed complete),
         found,
       )
@@ -248,7 +259,7 @@ no_command word none =
     by (is_long name text long refused) = absurd (long_is_refused name (has_long help_flag name) text refused)
 
 -- help is refused
-help_or_none : (help : Bool) (word : Text) → turn_with (option_map (λ (s : Text × List Text). s.0) (cond help (Some (label (record { name = codes "help"; needed = []; named = [] }))) None)) word ≡ [] → word ≡ dashes
+help_or_none : (help : Bool) (word : Text) → turn_with (option_map (λ (s : Text × List Text). s.0) (cond help (Some (label (record { name = codes "help"; needed = []; named = []; flags = [] }))) None)) word ≡ [] → word ≡ dashes
 help_or_none true word none = absurd (some_fault _ _ none)
 help_or_none false word none = no_command word none
 
@@ -261,7 +272,7 @@ first_word : (word : Text) (words : List Text) (d : Form) → built_fault whole 
 unfolding clap_on_literals
 first_word word words d none =
     let turn : turn_with (option_map (λ (s : Text × List Text). s.0) (find (answers_to word) subcommands)) word ≡ [] = first_none _ _ (first_none _ _ none) in
-    elim (which_form forms (label (record { name = codes "help"; needed = []; named = [] }) ∷ []) word d) [
+    elim (which_form forms (label (record { name = codes "help"; needed = []; named = []; flags = [] }) ∷ []) word d) [
       | inl form ↦ form
       | inr same ↦
           let is = help_or_none (bytes_eq (codes "help") word || false) word (subst (λ (f : Option (Text × List Text)). turn_with (option_map (λ (s : Text × List Text). s.0) f) word ≡ []) same turn) in
@@ -331,17 +342,19 @@ zip_given (name ∷ names) (value ∷ values) before same = (
   subst (λ (g : Given). AreGiven g names) (append_assoc before ((name, value) ∷ []) (zip names values)) (zip_given names values (before ++ (name, value) ∷ []) (omega (arith, same))),
 )
 
-all_given : (named needed words : List Text) (given before : Given) → Give named needed words given → AreGiven (before ++ given) needed
-all_given named _ _ _ before giving.ends = tt
-all_given named _ _ _ before (giving.dashes needed values same) = zip_given needed values before same
-all_given named _ _ _ before (giving.value name word needed words given plain rest) = (
+all_given : (named flags needed words : List Text) (given before : Given) → Give named flags needed words given → AreGiven (before ++ given) needed
+all_given named flags _ _ _ before giving.ends = tt
+all_given named flags _ _ _ before (giving.dashes needed values same) = zip_given needed values before same
+all_given named flags _ _ _ before (giving.value name word needed words given plain rest) = (
   one_given before (name, word) given,
-  subst (λ (g : Given). AreGiven g needed) (append_assoc before ((name, word) ∷ []) given) (all_given named needed words given (before ++ (name, word) ∷ []) rest),
+  subst (λ (g : Given). AreGiven g needed) (append_assoc before ((name, word) ∷ []) given) (all_given named flags needed words given (before ++ (name, word) ∷ []) rest),
 )
-all_given named _ _ _ before (giving.next name word needed words given has plain rest) =
-    subst (λ (g : Given). AreGiven g needed) (append_assoc before ((name, word) ∷ []) given) (all_given named needed words given (before ++ (name, word) ∷ []) rest)
-all_given named _ _ _ before (giving.joined name text needed words given has rest) =
-    subst (λ (g : Given). AreGiven g needed) (append_assoc before ((name, text) ∷ []) given) (all_given named needed words given (before ++ (name, text) ∷ []) rest)
+all_given named flags _ _ _ before (giving.next name word needed words given has plain rest) =
+    subst (λ (g : Given). AreGiven g needed) (append_assoc before ((name, word) ∷ []) given) (all_given named flags needed words given (before ++ (name, word) ∷ []) rest)
+all_given named flags _ _ _ before (giving.joined name text needed words given has rest) =
+    subst (λ (g : Given). AreGiven g needed) (append_assoc before ((name, text) ∷ []) given) (all_given named flags needed words given (before ++ (name, text) ∷ []) rest)
+all_given named flags _ _ _ before (giving.alone name needed words given has rest) =
+    subst (λ (g : Given). AreGiven g needed) (append_assoc before ((name, name) ∷ []) given) (all_given named flags needed words given (before ++ (name, name) ∷ []) rest)
 
 none_refused : (faults : Kinds) (found : Option (Text × List Row)) (it : Command) → asked_with faults found ≡ Some it → faults ≡ []
 none_refused [] found it asked = refl
@@ -349,13 +362,13 @@ none_refused (fault ∷ faults) found it asked = absurd (none-some it asked)
 
 module _ (f : Form) (has : HasCommand f) (name : Text) (words : List Text) where
   -- words that give texts ask for what these mean
-  given_asks : (given : Given) → Give f.named f.needed words given → AreNew [] given → asks (name ∷ f.name ∷ words) ≡ asked_by f.name (given_in given)
+  given_asks : (given : Given) → Give f.named f.flags f.needed words given → AreNew [] given → asks (name ∷ f.name ∷ words) ≡ asked_by f.name (given_in given)
   given_asks given give new =
-      let found = level_of f words given (gives f (form_is f has.fit) f.needed words given give 0 [] None (needs_all f has.fit) tt new) (all_given f.named f.needed words given [] give) in
+      let found = level_of f words given (gives f (form_is f has.fit) f.needed words given give 0 [] None (needs_all f has.fit) tt new) (all_given f.named f.flags f.needed words given [] give) in
       has.heard name words ∙ ap₂ (heard_by f.name) found.0 found.1 ∙ ap (asked_by f.name) (λ i id. first_is given id i)
 
   -- and words that ask for something do
-  asks_given : (it : Command) → asks (name ∷ f.name ∷ words) ≡ Some it → (given : Given) × Give f.named f.needed words given × AreNew [] given × (asked_by f.name (given_in given) ≡ Some it)
+  asks_given : (it : Command) → asks (name ∷ f.name ∷ words) ≡ Some it → (given : Given) × Give f.named f.flags f.needed words given × AreNew [] given × (asked_by f.name (given_in given) ≡ Some it)
   asks_given it asked =
       let none : level f words ≡ [] = first_none _ _ (none_refused _ _ it (sym (has.heard name words) ∙ asked)) in
       let form = form_is f has.fit in
@@ -366,7 +379,7 @@ module _ (f : Form) (has : HasCommand f) (name : Text) (words : List Text) where
 
 -- any form
 abbrev no_form : Form
-no_form = record { name = []; needed = []; named = [] }
+no_form = record { name = []; needed = []; named = []; flags = [] }
 
 pub call_asks : (words : List Text) (it : Command) → AreWordsOf it words → asks words ≡ Some it
 call_asks words it call =

@@ -1,6 +1,6 @@
 -- The numbers of a command are within their ends.
 use Rattle.std.proofs.Common.{◌≡◌, ◌≤◌, ℕ, Bool, true, false, cond, List, [], ◌∷◌, Option, Some, None, refl, subst, arith}
-use Rattle.std.specs.Prelude.{codes, option_and_then, option_map}
+use Rattle.std.specs.Prelude.{codes, is_some, option_and_then, option_map}
 use Rattle.std.specs.Str.{bytes_eq}
 use Rattle.std.specs.Str.Parse.{digits_value, without_leading_plus}
 use Rattle.std.proofs.lemmas.Option.{none-some, same_Some}
@@ -34,9 +34,9 @@ module _ (said : Said) (it : Command) where
   check_within (Some osil) None is = absurd (none-some it is)
   check_within (Some osil) (Some osrl) is = subst AreNumbersWithin (same_Some (Check osil osrl) it is) tt
 
-  solve_within : (osil options : Option Text) → option_map (λ (a : Text). Solve a options) osil ≡ Some it → AreNumbersWithin it
-  solve_within None options is = absurd (none-some it is)
-  solve_within (Some osil) options is = subst AreNumbersWithin (same_Some (Solve osil options) it is) tt
+  solve_within : (osil options : Option Text) (safe : Bool) → option_map (λ (a : Text). Solve a options safe) osil ≡ Some it → AreNumbersWithin it
+  solve_within None options safe is = absurd (none-some it is)
+  solve_within (Some osil) options safe is = subst AreNumbersWithin (same_Some (Solve osil options safe) it is) tt
 
   -- a number that a word is, if one is there
   read_within : (least most : ℕ) (word : Option Text) (n : ℕ) → option_and_then (number_between least most) word ≡ Some n → (least ≤ n) × (n ≤ most)
@@ -75,7 +75,7 @@ module _ (said : Said) (it : Command) where
       → cond session (Some Session) (cond check (check_of said) (cond solve (solve_of said) (cond generate (generate_of said) (cond call (called_command said) (cond serve (serve_of said) None))))) ≡ Some it → AreNumbersWithin it
   by_name true check solve generate call serve is = subst AreNumbersWithin (same_Some Session it is) tt
   by_name false true solve generate call serve is = check_within (said (codes "osil")) (said (codes "osrl")) is
-  by_name false false true generate call serve is = solve_within (said (codes "osil")) (said (codes "options")) is
+  by_name false false true generate call serve is = solve_within (said (codes "osil")) (said (codes "options")) (is_some (said (codes "safe"))) is
   by_name false false false true call serve is = generate_within (option_and_then (number_between 1 1000) (said (codes "variables"))) refl is
   by_name false false false false true serve is = call_within (option_and_then kind_named (said (codes "name"))) (said (codes "host")) (port_of said) refl is
   by_name false false false false false true is = serve_within (said (codes "host")) (port_of said) (number_or 2 0 16 (said (codes "workers"))) (number_or 8 1 64 (said (codes "servers"))) (number_or 1000000 1 1000000 (said (codes "connections"))) refl refl refl refl is

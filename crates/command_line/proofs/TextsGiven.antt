@@ -14,9 +14,9 @@ use Rattle.command_line.specs.Forms.{Form}
 use Rattle.command_line.proofs.Texts.{true_or_false}
 use Rattle.command_line.proofs.Flags.{IsLong, Tells, first_none, help_flag, is_dashes, is_long, is_value, next_none, some_fault, tells}
 use Rattle.command_line.proofs.Rows.{rows}
-use Rattle.command_line.proofs.Rules.{TakesText, ByName, at_place, behind_name, by_name, help_alone, is_help, is_option, leaf, option_rule, rules_of}
-use Rattle.command_line.proofs.TextUses.{IsOwn, Last, held, last_of, own_word, settle_is_new, settles, use_is_new}
-use Rattle.command_line.proofs.Walks.{Needs, at, asking, behind_turn, behind_walked, dashes_walked, end, joined_walked, last_new, name_walked, needs_rest, own_name, place_turn, place_walked, stray_turn, text_walked, value_faults, IsForm, own_needed}
+use Rattle.command_line.proofs.Rules.{TakesText, ByName, at_place, behind_name, by_name, flag_rule, help_alone, is_flag, is_help, is_option, leaf, option_rule, rules_of}
+use Rattle.command_line.proofs.TextUses.{IsOwn, Last, held, last_of, own_word, settle_is_new, settles}
+use Rattle.command_line.proofs.Walks.{Needs, at, asking, behind_turn, behind_walked, dashes_walked, end, GivesOne, alone_one, joined_one, last_new, may_give, may_name, may_stand, name_walked, one_is_new, one_walked, needs_rest, own_name, place_turn, place_walked, stray_turn, text_walked, value_faults, IsForm, own_needed}
 
 -- ---- names that no text is given for yet
 
@@ -57,7 +57,7 @@ still_free given p (name ∷ names) apart free = (one_more_free given p name apa
 -- what is still needed: no name is another word's, and what has a text for all that is needed has one for these
 pub record Lacks (f : Form) (given : Given) (needed : List Text) : Type 0 where
   pub apart : AreApart needed
-  pub named : (name : Text) → has_name f.named name ≡ true → IsApart name needed
+  pub named : (name : Text) → may_give f name ≡ true → IsApart name needed
   pub free : AreFree given needed
   pub among : (all : Given) → AreGiven all f.needed → AreGiven all needed
 
@@ -69,7 +69,7 @@ lacks_rest f given name word needed lacks = record {
   among = λ all given. (lacks.among all given).1;
 }
 
-lacks_still : (f : Form) (given : Given) (name word : Text) (needed : List Text) → has_name f.named name ≡ true → Lacks f given needed → Lacks f (given ++ (name, word) ∷ []) needed
+lacks_still : (f : Form) (given : Given) (name word : Text) (needed : List Text) → may_give f name ≡ true → Lacks f given needed → Lacks f (given ++ (name, word) ∷ []) needed
 lacks_still f given name word needed has lacks = record {
   apart = lacks.apart;
   named = lacks.named;
@@ -100,7 +100,7 @@ module _ (f : Form) (form : IsForm f) where
   -- the texts that words give, which are new
   pub record Said (needed words : List Text) (past : Given) (last : Last) : Type 0 where
     pub given : Given
-    pub give : Give f.named needed words given
+    pub give : Give f.named f.flags needed words given
     pub new : AreNew past (last_of last ++ given)
 
   -- ---- behind `--`
@@ -132,23 +132,32 @@ module _ (f : Form) (form : IsForm f) where
       by _ (at_place k) none = some_fault _ _ none
       by _ behind_name none = some_fault _ _ none
 
-  -- a long word that has no fault is a name that may be given
-  option_named : (name : Text) (text : Option Text) (h : Held) → long_fault (rules_of f) false (arg_by_long (rules_of f) name) text h ≡ []
-      → (has_name f.named name ≡ true) × (option_fault (rules_of f) false (option_rule name) text h ≡ [])
-  option_named name text h none = by (by_name f name)
+  -- a long word that has no fault is a name that may be given, or one that stands alone
+  data IsOwnName (name : Text) (text : Option Text) (h : Held) : Type 0 where
+    is_named : has_name f.named name ≡ true → option_fault (rules_of f) false (option_rule name) text h ≡ [] → IsOwnName name text h
+    is_alone : text ≡ None → has_name f.flags name ≡ true → settle_fault (rules_of f) false h ≡ [] → IsOwnName name text h
+
+  own_named : (name : Text) (text : Option Text) (h : Held) → long_fault (rules_of f) false (arg_by_long (rules_of f) name) text h ≡ [] → IsOwnName name text h
+  own_named name text h none = by (by_name f name)
     where
       help_refused : (found : Bool) (text : Option Text) → long_fault (rules_of f) false (cond found (Some help_flag) None) text h ≡ [] → ⊥
       help_refused false text none = some_fault _ _ none
       help_refused true (Some text) none = some_fault _ _ none
       help_refused true None none = some_fault _ _ (next_none (settle_fault (rules_of f) false h) _ none)
 
-      by : ByName f.named name (arg_by_long (rules_of f) name) → (has_name f.named name ≡ true) × (option_fault (rules_of f) false (option_rule name) text h ≡ [])
-      by (is_option has found) = (has, subst (λ (a : Option Rule). long_fault (rules_of f) false a text h ≡ []) found none)
+      alone : (text : Option Text) → has_name f.flags name ≡ true → long_fault (rules_of f) false (Some (flag_rule name)) text h ≡ [] → IsOwnName name text h
+      alone None has none = is_alone refl has (first_none _ _ none)
+      alone (Some text) has none = absurd (some_fault _ _ none)
+
+      by : ByName f name (arg_by_long (rules_of f) name) → IsOwnName name text h
+      by (is_option has found) = is_named has (subst (λ (a : Option Rule). long_fault (rules_of f) false a text h ≡ []) found none)
+      by (is_flag has found) = alone text has (subst (λ (a : Option Rule). long_fault (rules_of f) false a text h ≡ []) found none)
       by (is_help found) = absurd (help_refused (has_long help_flag name) text (subst (λ (a : Option Rule). long_fault (rules_of f) false a text h ≡ []) found none))
 
-  option_settles : (name : Text) (text : Option Text) (h : Held) → option_fault (rules_of f) false (option_rule name) text h ≡ [] → settle_fault (rules_of f) false h ≡ []
-  option_settles name None h none = none
-  option_settles name (Some text) h none = first_none _ _ none
+  own_settles : (name : Text) (text : Option Text) (h : Held) → IsOwnName name text h → settle_fault (rules_of f) false h ≡ []
+  own_settles name None h (is_named has none) = none
+  own_settles name (Some text) h (is_named has none) = first_none _ _ none
+  own_settles name text h (is_alone is has none) = none
 
   -- no word behind `--` comes to its aid
   no_text_behind : (count : ℕ) (past : Given) (name : Text) (needed words : List Text) → Needs f count needed → has_name f.named name ≡ true
@@ -186,8 +195,7 @@ module _ (f : Form) (form : IsForm f) where
       by (is_dashes is) = absurd (no_text_behind count past name needed words needs has
           (ended_past _ _ word words (ap (walked (rules_of f) [] (at count (asking past name) (option name) false)) is ∙ dashes_walked f count (asking past name) (option name)) ended))
       by (is_long other text long none) =
-          let named = option_named other text (asking past name) none in
-          absurd (asks_text past name has (option_settles other text (asking past name) named.1))
+          absurd (asks_text past name has (own_settles other text (asking past name) (own_named other text (asking past name) none)))
 
 -- words that have no fault give texts, each a new one
 abbrev pub IsSaid : (f : Form) → IsForm f → ℕ → Type 0
@@ -208,42 +216,50 @@ module _ (f : Form) (form : IsForm f) (most : ℕ) (again : IsSaid f form most) 
       (lacks_rest f (past ++ last_of last) name word needed lacks) (ended_past f form _ _ word words (place_walked f count past last name word needed needs own plain new) ended) in
       record { given = (name, word) ∷ rest.given; give = giving.value name word needed words rest.given plain rest.give; new = last_new f past last _ new rest.new }
 
-  said_name : (needed : List Text) → Needs f count needed → Lacks f (past ++ last_of last) needed → (name : Text) (text : Option Text) → has_name f.named name ≡ true → IsLong word name text
-      → option_fault (rules_of f) false (option_rule name) text (held past last) ≡ [] → Said f form needed (word ∷ words) past last
-  said_name needed needs lacks name None has long none =
+  -- a name, and the word behind it
+  said_name : (needed : List Text) → Needs f count needed → Lacks f (past ++ last_of last) needed → (name : Text) → has_name f.named name ≡ true → IsLong word name None
+      → settle_fault (rules_of f) false (held past last) ≡ [] → Said f form needed (word ∷ words) past last
+  said_name needed needs lacks name has long none =
       let new = settle_is_new f past last own none in
       let next = text_of f form words needed count (past ++ last_of last) name needs has (ended_past f form _ _ word words (name_walked f count past last word name has own long new) ended) in
       let rest = again next.rest needed (omega (arith, within, ap length next.are)) count (past ++ last_of last) (Some (name, next.word)) needs (own_name f name has)
-      (lacks_still f (past ++ last_of last) name next.word needed has lacks) next.ended in
+      (lacks_still f (past ++ last_of last) name next.word needed (may_name f name has) lacks) next.ended in
       record {
         given = (name, next.word) ∷ rest.given;
-        give = subst (λ (t : Text). Give f.named needed (t ∷ words) ((name, next.word) ∷ rest.given)) (sym long.is)
-            (subst (λ (more : List Text). Give f.named needed ((codes "--" ++ name) ∷ more) ((name, next.word) ∷ rest.given)) (sym next.are)
+        give = subst (λ (t : Text). Give f.named f.flags needed (t ∷ words) ((name, next.word) ∷ rest.given)) (sym long.is)
+            (subst (λ (more : List Text). Give f.named f.flags needed ((codes "--" ++ name) ∷ more) ((name, next.word) ∷ rest.given)) (sym next.are)
             (giving.next name next.word needed next.rest rest.given has next.plain rest.give));
         new = last_new f past last _ new rest.new;
       }
-  said_name needed needs lacks name (Some text) has long none =
-      let new = settle_is_new f past last own (first_none _ _ none) in
-      let free = use_is_new (past ++ last_of last) (name, text) (option_rule name) behind_name
-      (sym (ap (λ (h : Held). use_fault false (option_rule name) (text ∷ []) h.rows) (settles f past last own new)) ∙ next_none _ _ none) in
+
+  -- a word that gives a text by itself
+  said_one : (needed : List Text) → Needs f count needed → Lacks f (past ++ last_of last) needed → (name text : Text) → GivesOne f word (name, text) → may_give f name ≡ true
+      → ((given : Given) → Give f.named f.flags needed words given → Give f.named f.flags needed (word ∷ words) ((name, text) ∷ given)) → Said f form needed (word ∷ words) past last
+  said_one needed needs lacks name text one may gives =
+      let free = one_is_new f count past last word (name, text) one own turn in
       let rest = again words needed within count (past ++ last_of last ++ (name, text) ∷ []) None needs tt
-      (subst (λ (g : Given). Lacks f g needed) (sym (append-nil (past ++ last_of last ++ (name, text) ∷ []))) (lacks_still f (past ++ last_of last) name text needed has lacks))
-      (ended_past f form _ _ word words (joined_walked f count past last word name has own text long new free) ended) in
-      record {
-        given = (name, text) ∷ rest.given;
-        give = subst (λ (t : Text). Give f.named needed (t ∷ words) ((name, text) ∷ rest.given)) (sym long.is) (giving.joined name text needed words rest.given has rest.give);
-        new = last_new f past last _ new (free, rest.new);
-      }
+      (subst (λ (g : Given). Lacks f g needed) (sym (append-nil (past ++ last_of last ++ (name, text) ∷ []))) (lacks_still f (past ++ last_of last) name text needed may lacks))
+      (ended_past f form _ _ word words (one_walked f count past last word (name, text) one own free.0 free.1) ended) in
+      record { given = (name, text) ∷ rest.given; give = gives rest.given rest.give; new = last_new f past last _ free.0 (free.1, rest.new) }
+
+  said_long : (needed : List Text) → Needs f count needed → Lacks f (past ++ last_of last) needed → (name : Text) (text : Option Text) → IsLong word name text → IsOwnName f form name text (held past last) → Said f form needed (word ∷ words) past last
+  said_long needed needs lacks name None long (is_named has none) = said_name needed needs lacks name has long none
+  said_long needed needs lacks name (Some text) long (is_named has none) =
+      said_one needed needs lacks name text (joined_one f word name text long has) (may_name f name has)
+      (λ given rest. subst (λ (t : Text). Give f.named f.flags needed (t ∷ words) ((name, text) ∷ given)) (sym long.is) (giving.joined name text needed words given has rest))
+  said_long needed needs lacks name None long (is_alone is has none) =
+      said_one needed needs lacks name name (alone_one f word name long (form.apart name has) has) (may_stand f name has)
+      (λ given rest. subst (λ (t : Text). Give f.named f.flags needed (t ∷ words) ((name, name) ∷ given)) (sym long.is) (giving.alone name needed words given has rest))
+  said_long needed needs lacks name (Some text) long (is_alone is has none) = absurd (none-some text (sym is))
 
   said_word : (needed : List Text) → Needs f count needed → Lacks f (past ++ last_of last) needed → Tells (leaf f) (held past last) word → Said f form needed (word ∷ words) past last
   said_word needed needs lacks (is_value plain) = said_value needed needs lacks plain
   said_word needed needs lacks (is_dashes is) =
       let behind_is = ended_past f form _ _ word words (ap (walked (rules_of f) [] (at count (held past last) idle false)) is ∙ dashes_walked f count (held past last) idle) ended in
       let all = behind f form words needed count past last idle needs own lacks behind_is in
-      record { given = zip needed words; give = subst (λ (t : Text). Give f.named needed (t ∷ words) (zip needed words)) (sym is) (giving.dashes needed words all.0); new = all.1 }
+      record { given = zip needed words; give = subst (λ (t : Text). Give f.named f.flags needed (t ∷ words) (zip needed words)) (sym is) (giving.dashes needed words all.0); new = all.1 }
   said_word needed needs lacks (is_long name text long none) =
-      let named = option_named f form name text (held past last) none in
-      said_name needed needs lacks name text named.0 long named.1
+      said_long needed needs lacks name text long (own_named f form name text (held past last) none)
 
   pub said_more : (needed : List Text) → Needs f count needed → Lacks f (past ++ last_of last) needed → Said f form needed (word ∷ words) past last
   said_more needed needs lacks = said_word needed needs lacks (tells (leaf f) (help_alone f) (held past last) refl word (other_of_turn f form count (held past last) idle word turn))
@@ -252,7 +268,7 @@ pub said : (f : Form) (form : IsForm f) (most : ℕ) → IsSaid f form most
 said f form most [] needed within count past last needs own lacks ended =
     let new = settle_is_new f past last own ended.settle in
     let none = none_needed f form (past ++ last_of last) needed lacks (ended.complete _ (settles f past last own new)) in
-    record { given = []; give = subst (λ (ns : List Text). Give f.named ns [] []) (sym none) ends; new = subst (AreNew past) (sym (append-nil (last_of last))) new }
+    record { given = []; give = subst (λ (ns : List Text). Give f.named f.flags ns [] []) (sym none) ends; new = subst (AreNew past) (sym (append-nil (last_of last))) new }
 said f form zero (word ∷ words) needed within count past last needs own lacks ended = absurd (omega (arith, within))
 said f form (suc most) (word ∷ words) needed within count past last needs own lacks ended =
     said_more f form most (said f form most) word words (omega (arith, within)) count past last own ended needed needs lacks

@@ -7,7 +7,7 @@ use Rattle.clap.specs.Kinds.{Kinds, or_else}
 use Rattle.clap.specs.Walk.{Held, Row, Rule, Step, Text, Waiting, Walk, after_flag, after_step, arg_by_index, arg_by_long, idle, is_pending, long_met, option, option_met, option_word, plain_word, positional, pushed, settled, subcommand_or_other, to_positional, used, value, walked, word_met}
 use Rattle.clap.specs.Walk as walk
 use Rattle.clap.specs.Simple.{Shape}
-use Rattle.clap.specs.Faults.{long_fault, option_fault, other_fault, use_fault, positional_fault, settle_fault, step_fault, stray_fault, turn_fault, walk_fault}
+use Rattle.clap.specs.Faults.{long_fault, other_fault, use_fault, positional_fault, settle_fault, step_fault, stray_fault, turn_fault, walk_fault}
 use Rattle.std.proofs.lemmas.List.{append_assoc, append-nil}
 use Rattle.std.proofs.lemmas.Option.{none-some, same_Some}
 use Rattle.std.proofs.lemmas.Slice.Eq.{bytes_eq-Decides}
@@ -16,10 +16,10 @@ use Rattle.std.proofs.Math.Bool.{or-false, or-true}
 use Rattle.command_line.specs.CommandWords.{AreNew, Give, Given, ends, given_in, has_name, is_plain}
 use Rattle.command_line.specs.CommandWords as giving
 use Rattle.command_line.specs.Forms.{Form}
-use Rattle.command_line.proofs.Flags.{IsLong, IsName, bare_long, goes_to_place, joined_long, long_faults, long_meets, no_flag, passes}
+use Rattle.command_line.proofs.Flags.{IsLong, IsName, bare_long, first_none, goes_to_place, joined_long, long_faults, long_meets, next_none, no_flag, passes}
 use Rattle.command_line.proofs.Rows.{rows}
-use Rattle.command_line.proofs.Rules.{TakesText, at_place, behind_name, leaf, named_rule, option_rule, place_at, place_rule, rules_of}
-use Rattle.command_line.proofs.TextUses.{IsOwn, Last, held, own_word, last_of, settle_passes, settles, use_passes, used_rows}
+use Rattle.command_line.proofs.Rules.{TakesText, alone_rule, at_place, behind_name, flag_rule, leaf, named_rule, option_rule, place_at, place_rule, rules_of}
+use Rattle.command_line.proofs.TextUses.{IsOwn, IsUse, Last, flag_use, held, own_word, last_of, settle_is_new, settle_passes, settles, text_use, use_is_new, use_passes, used_rows}
 
 -- ---- where a walk stands
 
@@ -47,7 +47,7 @@ module _ (f : Form) where
   s = leaf f
 
   place_of : (count : ℕ) (needed : List Text) → Needs f count needed → arg_by_index (rules_of f) (1 + count) ≡ option_map (place_rule (1 + count)) (slice_get needed 0)
-  place_of count needed needs = place_at f.needed f.named 1 count (1 + count) refl
+  place_of count needed needs = place_at f.needed f.named f.flags 1 count (1 + count) refl
       ∙ ap (option_map (place_rule (1 + count))) (let same : count ≡ count + 0 = omega arith in ap (slice_get f.needed) same ∙ needs.rest 0)
 
   and_false : (b : Bool) → (b && false) ≡ false
@@ -113,13 +113,13 @@ module _ (f : Form) where
     met = no_subcommand waiting count word h ∙ goes_to_place s word h unskipped waiting (1 + count) (no_flag word plain);
   }
 
-  long_met_is : (count : ℕ) (h : Held) (waiting : Waiting) (word name : Text) (text : Option Text) → IsLong word name text → has_name f.named name ≡ true
-      → IsMet count h waiting word (option_fault (rules_of f) false (option_rule name) text h)
-      (after_flag (rules_of f) waiting word (option_met (rules_of f) (option_rule name) text h).0 (option_met (rules_of f) (option_rule name) text h).1)
-  long_met_is count h waiting word name text is has = record {
-    faults_are = long_faults s word name text is h ∙ ap (λ (a : Option Rule). long_fault (rules_of f) false a text h) (named_rule f name has);
+  long_met_is : (count : ℕ) (h : Held) (waiting : Waiting) (word name : Text) (text : Option Text) (a : Rule) → IsLong word name text → arg_by_long (rules_of f) name ≡ Some a
+      → IsMet count h waiting word (long_fault (rules_of f) false (Some a) text h)
+      (after_flag (rules_of f) waiting word (long_met (rules_of f) (Some a) text h).0 (long_met (rules_of f) (Some a) text h).1)
+  long_met_is count h waiting word name text a is found = record {
+    faults_are = long_faults s word name text is h ∙ ap (λ (b : Option Rule). long_fault (rules_of f) false b text h) found;
     met = no_subcommand waiting count word h ∙ long_meets s word name text is h waiting (1 + count)
-        ∙ ap (λ (a : Option Rule). after_flag (rules_of f) waiting word (long_met (rules_of f) a text h).0 (long_met (rules_of f) a text h).1) (named_rule f name has);
+        ∙ ap (λ (b : Option Rule). after_flag (rules_of f) waiting word (long_met (rules_of f) b text h).0 (long_met (rules_of f) b text h).1) found;
   }
 
   -- the walk behind a name that waits, and behind a name with its text
@@ -201,21 +201,58 @@ module _ (f : Form) where
   -- a name, and the word behind it
   module _ (count : ℕ) (past : Given) (last : Last) (word name : Text) (has : has_name f.named name ≡ true) (own : IsOwn f last) where
     pub name_turn : IsLong word name None → turn_fault s [] (at count (held past last) idle false) word ≡ or_else (settle_fault (rules_of f) false (held past last)) []
-    name_turn is = met_turn count (held past last) idle word _ _ (long_met_is count (held past last) idle word name None is has)
+    name_turn is = met_turn count (held past last) idle word _ _ (long_met_is count (held past last) idle word name None (option_rule name) is (named_rule f name has))
 
     pub name_walked : IsLong word name None → AreNew past (last_of last) → walked (rules_of f) [] (at count (held past last) idle false) word ≡ at count (asking (past ++ last_of last) name) (option name) false
-    name_walked is new = met_walked count (held past last) idle word _ _ (long_met_is count (held past last) idle word name None is has)
+    name_walked is new = met_walked count (held past last) idle word _ _ (long_met_is count (held past last) idle word name None (option_rule name) is (named_rule f name has))
         ∙ ap (λ (h : Held). at count (record h { pending = Some (name, []) }) (option name) false) (settles f past last own new)
 
-    pub joined_turn : (text : Text) → IsLong word name (Some text)
-        → turn_fault s [] (at count (held past last) idle false) word ≡ or_else (or_else (settle_fault (rules_of f) false (held past last)) (use_fault false (option_rule name) (text ∷ []) (settled (rules_of f) (held past last)).rows)) []
-    joined_turn text is = met_turn count (held past last) idle word _ _ (long_met_is count (held past last) idle word name (Some text) is has)
+  -- a word that gives a text by itself: a name with its text, or one that stands alone
+  pub record GivesOne (word : Text) (p : Text × Text) : Type 0 where
+    rule : Rule
+    values : List Text
+    uses : IsUse p values rule
+    met : (count : ℕ) (h : Held) → IsMet count h idle word (or_else (settle_fault (rules_of f) false h) (use_fault false rule values (settled (rules_of f) h).rows)) (record h { rows = used rule values (settled (rules_of f) h).rows; pending = None }, walk.next idle)
 
-    pub joined_walked : (text : Text) → IsLong word name (Some text) → AreNew past (last_of last) → given_in (past ++ last_of last) name ≡ None
-        → walked (rules_of f) [] (at count (held past last) idle false) word ≡ at count (held (past ++ last_of last ++ (name, text) ∷ []) None) idle false
-    joined_walked text is new free = met_walked count (held past last) idle word _ _ (long_met_is count (held past last) idle word name (Some text) is has)
-        ∙ ap (λ (h : Held). at count (record h { rows = used (option_rule name) (text ∷ []) h.rows; pending = None }) idle false) (settles f past last own new)
-        ∙ ap (λ (all : List Row). at count (record (held past None) { rows = all }) idle false) (used_rows (past ++ last_of last) (name, text) (option_rule name) behind_name free)
+  pub joined_one : (word name text : Text) → IsLong word name (Some text) → has_name f.named name ≡ true → GivesOne word (name, text)
+  joined_one word name text is has = record {
+    rule = option_rule name;
+    values = text ∷ [];
+    uses = text_use name text (option_rule name) behind_name;
+    met = λ count h. long_met_is count h idle word name (Some text) (option_rule name) is (named_rule f name has);
+  }
+
+  pub alone_one : (word name : Text) → IsLong word name None → has_name f.named name ≡ false → has_name f.flags name ≡ true → GivesOne word (name, name)
+  alone_one word name is other has = record {
+    rule = flag_rule name;
+    values = [];
+    uses = flag_use name;
+    met = λ count h. long_met_is count h idle word name None (flag_rule name) is (alone_rule f name other has);
+  }
+
+  module _ (count : ℕ) (past : Given) (last : Last) (word : Text) (p : Text × Text) (one : GivesOne word p) (own : IsOwn f last) where
+    pub one_turn : turn_fault s [] (at count (held past last) idle false) word ≡ or_else (or_else (settle_fault (rules_of f) false (held past last)) (use_fault false one.rule one.values (settled (rules_of f) (held past last)).rows)) []
+    one_turn = met_turn count (held past last) idle word _ _ (one.met count (held past last))
+
+    pub one_walked : AreNew past (last_of last) → given_in (past ++ last_of last) p.0 ≡ None → walked (rules_of f) [] (at count (held past last) idle false) word ≡ at count (held (past ++ last_of last ++ p ∷ []) None) idle false
+    one_walked new free = met_walked count (held past last) idle word _ _ (one.met count (held past last))
+        ∙ ap (λ (h : Held). at count (record h { rows = used one.rule one.values h.rows; pending = None }) idle false) (settles f past last own new)
+        ∙ ap (λ (all : List Row). at count (record (held past None) { rows = all }) idle false) (used_rows (past ++ last_of last) p one.values one.rule one.uses free)
+
+    -- it passes where it is new, and only there
+    pub one_passes : AreNew past (last_of last) → given_in (past ++ last_of last) p.0 ≡ None → turn_fault s [] (at count (held past last) idle false) word ≡ []
+    one_passes new free = one_turn
+        ∙ ap (λ (k : Kinds). or_else (or_else k (use_fault false one.rule one.values (settled (rules_of f) (held past last)).rows)) []) (settle_passes f past last own new)
+        ∙ ap (λ (h : Held). or_else (use_fault false one.rule one.values h.rows) []) (settles f past last own new)
+        ∙ ap (λ (k : Kinds). or_else k []) (use_passes (past ++ last_of last) p one.values one.rule one.uses free)
+
+    pub one_is_new : turn_fault s [] (at count (held past last) idle false) word ≡ [] → AreNew past (last_of last) × (given_in (past ++ last_of last) p.0 ≡ None)
+    one_is_new none =
+        let both = first_none _ _ (sym one_turn ∙ none) in
+        let new = settle_is_new f past last own (first_none _ _ both) in (
+          new,
+          use_is_new (past ++ last_of last) p one.values one.rule one.uses (sym (ap (λ (h : Held). use_fault false one.rule one.values h.rows) (settles f past last own new)) ∙ next_none _ _ both),
+        )
 
   module _ (count : ℕ) (past : Given) (name word : Text) (has : has_name f.named name ≡ true) (plain : is_plain word ≡ true) where
     text_met : ◌≡◌ {A = Held × Step} (plain_word (rules_of f) (option name) word (asking past name)) (held past (Some (name, word)), walk.next idle)
@@ -237,9 +274,20 @@ module _ (f : Form) where
 
 -- ---- words that give texts are read as these
 
+-- a name that may be given, or stand alone
+abbrev pub may_give : Form → Text → Bool
+may_give f name = has_name f.named name || has_name f.flags name
+
+pub may_name : (f : Form) (name : Text) → has_name f.named name ≡ true → may_give f name ≡ true
+may_name f name has = ap (λ (b : Bool). b || has_name f.flags name) has
+
+pub may_stand : (f : Form) (name : Text) → has_name f.flags name ≡ true → may_give f name ≡ true
+may_stand f name has = ap (λ (b : Bool). has_name f.named name || b) has ∙ or-true (has_name f.named name)
+
 -- the names that may be given are names, and no name is another word's
 pub record IsForm (f : Form) : Type 0 where
-  pub names : (name : Text) → has_name f.named name ≡ true → IsName name
+  pub names : (name : Text) → may_give f name ≡ true → IsName name
+  pub apart : (name : Text) → has_name f.flags name ≡ true → has_name f.named name ≡ false
   pub few : length f.needed ≤ 15
 
 has_at : (names : List Text) (i : ℕ) (name : Text) → slice_get names i ≡ Some name → has_name names name ≡ true
@@ -264,7 +312,16 @@ module _ (f : Form) (form : IsForm f) where
       (gives_more f _ _ word values _ (behind_turn f count past last name word needed needs own waiting ∙ settle_passes f past last own both.0) (behind_walked f count past last name word needed needs own waiting both.0)
       (behind_gives needed values (omega (arith, same)) (count + 1) (past ++ last_of last) (Some (name, word)) idle (needs_rest f count name needed needs) (own_needed count name needed needs) both.1))
 
-  pub gives : (needed words : List Text) (given : Given) → Give f.named needed words given → (count : ℕ) (past : Given) (last : Last) → Needs f count needed → IsOwn f last → AreNew past (last_of last ++ given)
+  -- a word that gives a text by itself, and then others
+  gives_one : (words : List Text) (given : Given) (word : Text) (p : Text × Text) → GivesOne f word p → (count : ℕ) (past : Given) (last : Last) → IsOwn f last → AreNew past (last_of last ++ (p ∷ given))
+      → (AreNew (past ++ last_of last ++ p ∷ []) given → Gives f (at count (held (past ++ last_of last ++ p ∷ []) None) idle false) words (past ++ last_of last ++ p ∷ [] ++ [] ++ given))
+      → Gives f (at count (held past last) idle false) (word ∷ words) (past ++ last_of last ++ (p ∷ given))
+  gives_one words given word p one count past last own new rest =
+      let both = new_last f past last (p ∷ given) new in
+      subst (Gives f (at count (held past last) idle false) (word ∷ words)) (ap (λ (g : Given). g ++ given) (append-nil (past ++ last_of last ++ p ∷ [])) ∙ pushed_on f (past ++ last_of last) given p)
+      (gives_more f _ _ word words _ (one_passes f count past last word p one own both.0 both.1.0) (one_walked f count past last word p one own both.0 both.1.0) (rest both.1.1))
+
+  pub gives : (needed words : List Text) (given : Given) → Give f.named f.flags needed words given → (count : ℕ) (past : Given) (last : Last) → Needs f count needed → IsOwn f last → AreNew past (last_of last ++ given)
       → Gives f (at count (held past last) idle false) words (past ++ last_of last ++ given)
   gives _ _ _ ends count past last needs own new =
       subst (Gives f (at count (held past last) idle false) []) (sym (append-nil (past ++ last_of last))) (gives_all f count past last idle false own (new_last f past last [] new).0)
@@ -277,19 +334,15 @@ module _ (f : Form) (form : IsForm f) where
       (gives needed words given rest (count + 1) (past ++ last_of last) (Some (name, word)) (needs_rest f count name needed needs) (own_needed count name needed needs) both.1))
   gives _ _ _ (giving.next name word needed words given has plain rest) count past last needs own new =
       let both = new_last f past last ((name, word) ∷ given) new in
-      let long = bare_long name (form.names name has) in
+      let long = bare_long name (form.names name (may_name f name has)) in
       subst (Gives f (at count (held past last) idle false) ((codes "--" ++ name) ∷ word ∷ words)) (pushed_on f (past ++ last_of last) given (name, word))
       (gives_more f _ _ (codes "--" ++ name) (word ∷ words) _ (name_turn f count past last (codes "--" ++ name) name has own long ∙ ap (λ (k : Kinds). or_else k []) (settle_passes f past last own both.0))
       (name_walked f count past last (codes "--" ++ name) name has own long both.0)
       (gives_more f _ _ word words _ (text_turn f count (past ++ last_of last) name word has plain) (text_walked f count (past ++ last_of last) name word has plain)
       (gives needed words given rest count (past ++ last_of last) (Some (name, word)) needs (own_name f name has) both.1)))
   gives _ _ _ (giving.joined name text needed words given has rest) count past last needs own new =
-      let both = new_last f past last ((name, text) ∷ given) new in
-      let word = codes "--" ++ (name ++ (codes "=" ++ text)) in
-      let long = joined_long name text (form.names name has) in
-      let passes = ap (λ (k : Kinds). or_else (or_else k (use_fault false (option_rule name) (text ∷ []) (settled (rules_of f) (held past last)).rows)) []) (settle_passes f past last own both.0)
-      ∙ ap (λ (h : Held). or_else (use_fault false (option_rule name) (text ∷ []) h.rows) []) (settles f past last own both.0)
-      ∙ ap (λ (k : Kinds). or_else k []) (use_passes (past ++ last_of last) (name, text) (option_rule name) behind_name both.1.0) in
-      subst (Gives f (at count (held past last) idle false) (word ∷ words)) (ap (λ (g : Given). g ++ given) (append-nil (past ++ last_of last ++ (name, text) ∷ [])) ∙ pushed_on f (past ++ last_of last) given (name, text))
-      (gives_more f _ _ word words _ (joined_turn f count past last word name has own text long ∙ passes) (joined_walked f count past last word name has own text long both.0 both.1.0)
-      (gives needed words given rest count (past ++ last_of last ++ (name, text) ∷ []) None needs tt both.1.1))
+      gives_one words given _ (name, text) (joined_one f _ name text (joined_long name text (form.names name (may_name f name has))) has) count past last own new
+      (gives needed words given rest count (past ++ last_of last ++ (name, text) ∷ []) None needs tt)
+  gives _ _ _ (giving.alone name needed words given has rest) count past last needs own new =
+      gives_one words given _ (name, name) (alone_one f _ name (bare_long name (form.names name (may_stand f name has))) (form.apart name has) has) count past last own new
+      (gives needed words given rest count (past ++ last_of last ++ (name, name) ∷ []) None needs tt)

@@ -22,16 +22,18 @@ Given = List (Text × Text)
 
 -- the words give these texts: for each name that is needed, in their order, a word that is no flag; for names that may be given, a text
 -- behind `--` and the name, as the next word, where it is no flag, or behind a `=`. Behind a word `--`, which gives nothing, the words
--- are all that is still needed, whatever they are (POSIX.1, XBD 12.2, guideline 10)
-pub data Give (named : List Text) : (needed words : List Text) → Given → Type 0 where
-  ends : Give named [] [] []
-  dashes : (needed values : List Text) → length values ≡ length needed → Give named needed (codes "--" ∷ values) (zip needed values)
-  value : (name word : Text) (needed words : List Text) (given : Given) → is_plain word ≡ true → Give named needed words given
-      → Give named (name ∷ needed) (word ∷ words) ((name, word) ∷ given)
-  next : (name word : Text) (needed words : List Text) (given : Given) → has_name named name ≡ true → is_plain word ≡ true → Give named needed words given
-      → Give named needed ((codes "--" ++ name) ∷ word ∷ words) ((name, word) ∷ given)
-  joined : (name text : Text) (needed words : List Text) (given : Given) → has_name named name ≡ true → Give named needed words given
-      → Give named needed ((codes "--" ++ (name ++ (codes "=" ++ text))) ∷ words) ((name, text) ∷ given)
+-- are all that is still needed, whatever they are (POSIX.1, XBD 12.2, guideline 10). A name that stands alone behind `--` gives itself
+pub data Give (named flags : List Text) : (needed words : List Text) → Given → Type 0 where
+  ends : Give named flags [] [] []
+  dashes : (needed values : List Text) → length values ≡ length needed → Give named flags needed (codes "--" ∷ values) (zip needed values)
+  value : (name word : Text) (needed words : List Text) (given : Given) → is_plain word ≡ true → Give named flags needed words given
+      → Give named flags (name ∷ needed) (word ∷ words) ((name, word) ∷ given)
+  next : (name word : Text) (needed words : List Text) (given : Given) → has_name named name ≡ true → is_plain word ≡ true → Give named flags needed words given
+      → Give named flags needed ((codes "--" ++ name) ∷ word ∷ words) ((name, word) ∷ given)
+  joined : (name text : Text) (needed words : List Text) (given : Given) → has_name named name ≡ true → Give named flags needed words given
+      → Give named flags needed ((codes "--" ++ (name ++ (codes "=" ++ text))) ∷ words) ((name, text) ∷ given)
+  alone : (name : Text) (needed words : List Text) (given : Given) → has_name flags name ≡ true → Give named flags needed words given
+      → Give named flags needed ((codes "--" ++ name) ∷ words) ((name, name) ∷ given)
 
 -- the text that is given for a name, if one is
 abbrev pub given_in : Given → Said
@@ -51,6 +53,6 @@ pub record AreWordsOf (it : Command) (words : List Text) : Type 0 where
   pub given : Given
   pub among : Any (λ f. f ≡ form) forms
   pub are : words ≡ name ∷ form.name ∷ rest
-  pub give : Give form.named form.needed rest given
+  pub give : Give form.named form.flags form.needed rest given
   pub once : AreNew [] given
   pub means : asked_by form.name (given_in given) ≡ Some it

@@ -2,21 +2,23 @@
 use Rattle.std.specs.Prelude.{true, List, [], ◌∷◌, ◌++◌, Some, codes, fold, map}
 use Rattle.clap.specs.Words.{App, Rule, Text, new_app, new_rule, with_subcommand}
 use Rattle.clap.specs.Simple.{Shape, new_shape, on_top}
+use Rattle.clap.specs.declared.builder.action.ArgAction.TheVariants.{Set}
 
--- a command: its name, the names of the words that it needs, in their order, and of those that may be given behind their names
+-- a command: its name, the names of the words that it needs, in their order, of those that may be given behind their names, and of those that may stand alone
 pub record Form : Type 0 where
   pub name : Text
   pub needed : List Text
   pub named : List Text
+  pub flags : List Text
 
 -- the commands
 abbrev pub forms : List Form
-forms = record { name = codes "session"; needed = []; named = [] }
-    ∷ record { name = codes "check"; needed = codes "osil" ∷ codes "osrl" ∷ []; named = [] }
-    ∷ record { name = codes "solve"; needed = codes "osil" ∷ []; named = codes "options" ∷ [] }
-    ∷ record { name = codes "generate"; needed = codes "variables" ∷ []; named = [] }
-    ∷ record { name = codes "call"; needed = codes "name" ∷ codes "host" ∷ codes "port" ∷ []; named = codes "osil" ∷ codes "osol" ∷ codes "ospl" ∷ [] }
-    ∷ record { name = codes "serve"; needed = codes "host" ∷ codes "port" ∷ []; named = codes "workers" ∷ codes "servers" ∷ codes "connections" ∷ [] }
+forms = record { name = codes "session"; needed = []; named = []; flags = [] }
+    ∷ record { name = codes "check"; needed = codes "osil" ∷ codes "osrl" ∷ []; named = []; flags = [] }
+    ∷ record { name = codes "solve"; needed = codes "osil" ∷ []; named = codes "options" ∷ []; flags = codes "safe" ∷ [] }
+    ∷ record { name = codes "generate"; needed = codes "variables" ∷ []; named = []; flags = [] }
+    ∷ record { name = codes "call"; needed = codes "name" ∷ codes "host" ∷ codes "port" ∷ []; named = codes "osil" ∷ codes "osol" ∷ codes "ospl" ∷ []; flags = [] }
+    ∷ record { name = codes "serve"; needed = codes "host" ∷ codes "port" ∷ []; named = codes "workers" ∷ codes "servers" ∷ codes "connections" ∷ []; flags = [] }
     ∷ []
 
 -- a word that must be given
@@ -27,9 +29,13 @@ needed_word id = record (new_rule id) { required = true }
 abbrev pub named_word : Text → Rule
 named_word id = record (new_rule id) { long = Some id }
 
+-- a word that may stand alone, as `--` and its name; its text is then the name
+abbrev pub flag_word : Text → Rule
+flag_word id = record (new_rule id) { long = Some id; action = Some Set; range = Some (record { start_inclusive = 0; end_inclusive = 0 }); missing = id ∷ [] }
+
 -- what `clap` is told of a command
 abbrev pub shape : Form → Shape
-shape form = record (new_shape form.name) { rules = map needed_word form.needed ++ map named_word form.named }
+shape form = record (new_shape form.name) { rules = map needed_word form.needed ++ map named_word form.named ++ map flag_word form.flags }
 
 -- a command that is called by one of its subcommands
 abbrev pub needing_subcommand : Shape → Shape

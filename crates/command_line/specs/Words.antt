@@ -11,12 +11,12 @@ use Rattle.command_line.specs.declared.words.Asked.{Asked}
 use Rattle.command_line.specs.declared.words.Asked.TheVariants as asked
 
 -- what words may ask for: a session; a check of the files of these names; the result of an instance's file with the options of
--- another file, if one is named; the instance of so many variables, solved; a call of the server at a host's port, with the
+-- another file, if one is named, and with or without the safe limit of turns; the instance of so many variables, solved; a call of the server at a host's port, with the
 -- files of its parts; or a server there, with so many workers, so many conversations at once, up to so many connections
 pub data Command : Type 0 where
   Session : Command
   Check : (osil osrl : Text) → Command
-  Solve : (osil : Text) → (options : Option Text) → Command
+  Solve : (osil : Text) → (options : Option Text) → (safe : Bool) → Command
   Generate : (variables : ℕ) → Command
   Call : (kind : CallKind) → (host : Text) → (port : ℕ) → (osil osol ospl : Option Text) → Command
   Serve : (host : Text) → (port workers servers connections : ℕ) → Command
@@ -25,7 +25,7 @@ pub data Command : Type 0 where
 abbrev pub meant : Asked → Command
 meant asked.Session = Session
 meant (asked.Check osil osrl) = Check osil.now osrl.now
-meant (asked.Solve osil options) = Solve osil.now (option_map (λ name. name.now) options)
+meant (asked.Solve osil options safe) = Solve osil.now (option_map (λ name. name.now) options) safe
 meant (asked.Generate variables) = Generate variables
 meant (asked.Call words) = Call words.kind words.host.now words.port (option_map (λ name. name.now) words.osil) (option_map (λ name. name.now) words.osol) (option_map (λ name. name.now) words.ospl)
 meant (asked.Serve words) = Serve words.host.now words.port words.workers words.servers words.connections
@@ -40,7 +40,7 @@ abbrev pub check_of : Said → Option Command
 check_of said = option_and_then (λ osil. option_map (Check osil) (said (codes "osrl"))) (said (codes "osil"))
 
 abbrev pub solve_of : Said → Option Command
-solve_of said = option_map (λ osil. Solve osil (said (codes "options"))) (said (codes "osil"))
+solve_of said = option_map (λ osil. Solve osil (said (codes "options")) (is_some (said (codes "safe")))) (said (codes "osil"))
 
 -- one to a thousand variables
 abbrev pub generate_of : Said → Option Command
@@ -96,15 +96,15 @@ IsNoCommand words = asks words ≡ None
 abbrev pub IsCheck : List Text → (osil osrl : Text) → Type 0
 IsCheck words osil osrl = asks words ≡ Some (Check osil osrl)
 
--- the words are `solve`'s, and name this file, and one of options, if any
-abbrev pub IsSolve : List Text → (osil : Text) → (options : Option Text) → Type 0
-IsSolve words osil options = asks words ≡ Some (Solve osil options)
+-- the words are `solve`'s, and name this file, and one of options, if any, with or without the safe limit
+abbrev pub IsSolve : List Text → (osil : Text) → (options : Option Text) → (safe : Bool) → Type 0
+IsSolve words osil options safe = asks words ≡ Some (Solve osil options safe)
 
 -- a command's numbers are within their ends
 abbrev pub AreNumbersWithin : Command → Type 0
 AreNumbersWithin Session = Unit {0}
 AreNumbersWithin (Check osil osrl) = Unit {0}
-AreNumbersWithin (Solve osil options) = Unit {0}
+AreNumbersWithin (Solve osil options safe) = Unit {0}
 AreNumbersWithin (Generate variables) = (1 ≤ variables) × (variables ≤ 1000)
 AreNumbersWithin (Call kind host port osil osol ospl) = port ≤ 65535
 AreNumbersWithin (Serve host port workers servers connections) = (port ≤ 65535) × (workers ≤ 16) × ((1 ≤ servers) × (servers ≤ 64)) × ((1 ≤ connections) × (connections ≤ 1000000))
@@ -113,7 +113,7 @@ AreNumbersWithin (Serve host port workers servers connections) = (port ≤ 65535
 abbrev pub names_files : Command → Bool
 names_files Session = false
 names_files (Check osil osrl) = true
-names_files (Solve osil options) = true
+names_files (Solve osil options safe) = true
 names_files (Generate variables) = false
 names_files (Call kind host port osil osol ospl) = is_some osil || (is_some osol || is_some ospl)
 names_files (Serve host port workers servers connections) = false
@@ -122,7 +122,7 @@ names_files (Serve host port workers servers connections) = false
 abbrev pub asks_for_links : Command → Bool
 asks_for_links Session = false
 asks_for_links (Check osil osrl) = false
-asks_for_links (Solve osil options) = false
+asks_for_links (Solve osil options safe) = false
 asks_for_links (Generate variables) = false
 asks_for_links (Call kind host port osil osol ospl) = true
 asks_for_links (Serve host port workers servers connections) = true

@@ -1,6 +1,6 @@
 //! The words that the program is called with, and the usage that is written where they are no command.
 //!
-//! [`read`] says what the words ask for: `session`, `check OSIL OSRL`, `solve OSIL [--options OSOL]`, `generate N`,
+//! [`read`] says what the words ask for: `session`, `check OSIL OSRL`, `solve OSIL [--options OSOL] [--safe]`, `generate N`,
 //! `call NAME HOST PORT [--osil F] [--osol F] [--ospl F]`, or
 //! `serve HOST PORT [--workers W] [--servers S] [--connections C]`. They are read by `clap`, and what it makes of them is
 //! stated exactly (`specs/Words.antt`). The laws say which words are a command's

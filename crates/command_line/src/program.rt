@@ -1,24 +1,39 @@
 //! The program's command line, as `clap` is told it.
-ghost use Rattle.std.specs.Prelude.{◌≡◌, map, IfOk};
-ghost use Rattle.clap.specs.Words.{app_of};
-ghost use Rattle.command_line.specs.Forms.{program_form};
+ghost use Rattle.std.specs.Prelude.{◌≡◌, false, map, IfOk};
+ghost use Rattle.clap.specs.Words.{app_of, rule_of};
+ghost use Rattle.command_line.specs.Forms.{flag_word, program_form};
 ghost use Rattle.command_line.specs.CommandTellings.{HasNext, IsToldForm};
 
-use clap::{Arg, Command};
+use clap::{Arg, ArgAction, Command};
 use os_io::Memory;
 use std::alloc::Global;
 
-/// The command of this name, with the words that it needs, in their order, and those that may be given behind their names.
+/// A word that may stand alone.
+fn flag<'a>(alloc: Global, id: &'a str) -> Arg<'a>
+    ensures rule { rule_of result ≡ flag_word id.now }
+    ensures local { result.global ≡ false }
+{
+    Arg::new(alloc, id)
+        .long(id)
+        .num_args(0_usize)
+        .default_missing_value(id)
+        .action(ArgAction::Set)
+}
+
+/// The command of this name, with the words that it needs, in their order, those that may be given behind their names, and
+/// those that may stand alone.
 fn command<'a>(
     alloc: Global,
     name: &'a str,
     needed: &[&'a str],
     named: &[&'a str],
+    flags: &[&'a str],
 ) -> Result<Command<'a>, Memory>
     ensures { IfOk result (IsToldForm (record {
       name = name.now;
       needed = map (λ id. id.now) needed.now;
       named = map (λ id. id.now) named.now;
+      flags = map (λ id. id.now) flags.now;
     })) }
 {
     let mut command = Command::new(alloc, name);
@@ -27,6 +42,9 @@ fn command<'a>(
     }
     for id in named {
         command = command.arg(Arg::new(alloc, id).long(id))?;
+    }
+    for id in flags {
+        command = command.arg(flag(alloc, id))?;
     }
     Ok(command)
 }
@@ -38,14 +56,16 @@ fn with_command<'a>(
     name: &'a str,
     needed: &[&'a str],
     named: &[&'a str],
+    flags: &[&'a str],
 ) -> Result<Command<'a>, Memory>
     ensures { IfOk result (HasNext program.entry (record {
       name = name.now;
       needed = map (λ id. id.now) needed.now;
       named = map (λ id. id.now) named.now;
+      flags = map (λ id. id.now) flags.now;
     })) }
 {
-    let added = command(alloc, name, needed, named)?;
+    let added = command(alloc, name, needed, named, flags)?;
     program.subcommand(added)
 }
 
@@ -54,16 +74,17 @@ pub(crate) fn program<'a>(alloc: Global) -> Result<Command<'a>, Memory>
     ensures { IfOk result (λ command. app_of command ≡ program_form) }
 {
     let program = Command::new(alloc, "os_app").subcommand_required(true);
-    let program = with_command(program, alloc, "session", &[], &[])?;
-    let program = with_command(program, alloc, "check", &["osil", "osrl"], &[])?;
-    let program = with_command(program, alloc, "solve", &["osil"], &["options"])?;
-    let program = with_command(program, alloc, "generate", &["variables"], &[])?;
+    let program = with_command(program, alloc, "session", &[], &[], &[])?;
+    let program = with_command(program, alloc, "check", &["osil", "osrl"], &[], &[])?;
+    let program = with_command(program, alloc, "solve", &["osil"], &["options"], &["safe"])?;
+    let program = with_command(program, alloc, "generate", &["variables"], &[], &[])?;
     let program = with_command(
         program,
         alloc,
         "call",
         &["name", "host", "port"],
         &["osil", "osol", "ospl"],
+        &[],
     )?;
     with_command(
         program,
@@ -71,5 +92,6 @@ pub(crate) fn program<'a>(alloc: Global) -> Result<Command<'a>, Memory>
         "serve",
         &["host", "port"],
         &["workers", "servers", "connections"],
+        &[],
     )
 }

@@ -49,10 +49,12 @@ pub enum Asked<'w> {
         osil: &'w str,
         osrl: &'w str,
     },
-    /// To solve the instance in a file, with the options in another one, if it is named.
+    /// To solve the instance in a file, with the options in another one, if it is named; with the limit of turns that is
+    /// enough for the program, if that is asked for and there is one.
     Solve {
         osil: &'w str,
         options: Option<&'w str>,
+        safe: bool,
     },
     /// To make, to solve and to check the instance of 1 to 1,000 variables.
     Generate {
@@ -103,13 +105,18 @@ fn check_of<'w>(matches: &ArgMatches<'w>) -> Option<Asked<'w>>
     Some(Asked::Check { osil, osrl })
 }
 
-/// The files that `solve`'s words name.
+/// The files that `solve`'s words name, and whether its turns are to be enough.
 fn solve_of<'w>(matches: &ArgMatches<'w>) -> Option<Asked<'w>>
     ensures { option_map says.meant result ≡ says.solve_of (first_value (found_of matches.now)) }
 {
     let osil = matches.get_str("osil")?;
     let options = matches.get_str("options");
-    Some(Asked::Solve { osil, options })
+    let safe = matches.get_str("safe").is_some();
+    Some(Asked::Solve {
+        osil,
+        options,
+        safe,
+    })
 }
 
 /// How many variables `generate`'s words ask for.
@@ -202,7 +209,8 @@ pub fn read<'w>(alloc: Global, words: &'w [String]) -> Result<Option<Asked<'w>>,
 }
 
 /// Law: the words of a command are a name, the command's, and words that stand for what it needs and may be given. A word
-/// stands for itself where it is no flag; behind one `--`, which stands for nothing, each does.
+/// stands for itself where it is no flag; behind one `--`, which stands for nothing, each does. A name that stands alone
+/// gives itself.
 pub fn commands_have_their_words()
     ensures { (words : List (List ℕ)) (it : says.Command) → (says.asks words ≡ Some it) ↔ AreWordsOf it words }
 {}

@@ -146,7 +146,7 @@ check_runs one status run osil_name osrl_name check ends untaken =
     ChecksOf : Command → Type 0
     ChecksOf (Check a b) = Checks status run a b
     ChecksOf Session = Unit {0}
-    ChecksOf (Solve osil options) = Unit {0}
+    ChecksOf (Solve osil options safe) = Unit {0}
     ChecksOf (Generate variables) = Unit {0}
     ChecksOf (Call kind host port osil osol ospl) = Unit {0}
     ChecksOf (Serve host port workers servers connections) = Unit {0}

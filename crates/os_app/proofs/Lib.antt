@@ -5,5 +5,6 @@ pub mod OtherWords
 pub mod Ends
 pub mod Checks
 pub mod Solves
+pub mod WithinTurns
 pub mod Summaries
 pub mod Calls

@@ -1,5 +1,5 @@
 -- How a run ends that solves the job of files.
-use Rattle.std.proofs.Common.{◌≡◌, ◌∙◌, ℕ, ◌⊎◌, inl, inr, Bool, false, Option, List, ap, subst}
+use Rattle.std.proofs.Common.{◌≡◌, ◌∙◌, ℕ, ◌⊎◌, inl, inr, Bool, true, false, Option, List, ap, subst}
 use Rattle.std.specs.Prelude.{option_map}
 use Rattle.std.specs.Borrow.{Bor}
 use Rattle.os_io.specs.Files.{Held, ReadsFirst}
@@ -11,7 +11,9 @@ use Rattle.solve_run.specs.JobAnswers.{AreJobTexts, IsBestOfSearch, AnswersJob, 
 use Rattle.solve_run.specs.Runs.{IsRight}
 use Rattle.command_answers.specs.FileNames.{ReadsNamed}
 use Rattle.command_answers.proofs.Outputs.{held_by}
-use Rattle.os_app.specs.Solves.{IsDocumentAbout}
+use Rattle.os_app.specs.Safe.{IsSafeText, HasNoSafeText, Takes}
+use Rattle.os_app.specs.Safe as safe
+use Rattle.os_app.specs.Solves.{IsDocumentAbout, IsRightWith}
 use Rattle.os_app.specs.Statuses.{solve_status}
 use Rattle.os_app.specs.Runs.{Run, IsUntaken, Runs}
 use Rattle.command_line.specs.Words.{IsSolve, Solve}
@@ -52,10 +54,24 @@ module _ (a osil osol : List ℕ) (shows : Shows a osil) where
       by (inl unsure) = inl unsure
       by (inr b) = inr (record { given = given_file b.given; moment = b.moment; comes = b.comes; is = b.is })
 
+-- and what is taken for what was read
+safe_file : (a osil osol : List ℕ) (shows : Shows a osil) (text : List ℕ) → IsSafeText a osol text → IsSafeText osil osol text
+safe_file a osil osol shows text s = record { options = s.options; said = s.said; parts = s.parts; instance = shows.instance s.parts s.instance; limit = s.limit; enough = s.enough; is = s.is }
+
+no_safe_file : (a osil osol : List ℕ) (shows : Shows a osil) → HasNoSafeText a osol → HasNoSafeText osil osol
+no_safe_file a osil osol shows (safe.no_options f other fails) = safe.no_options f other fails
+no_safe_file a osil osol shows (safe.no_instance f other fails) = safe.no_instance f other (shows.no_instance f fails)
+no_safe_file a osil osol shows (safe.no_limit p text none) = safe.no_limit p (shows.instance p text) none
+
+takes_file : (a osil osol : List ℕ) (shows : Shows a osil) (safe : Bool) (taken : List ℕ) → Takes safe a osol taken → Takes safe osil osol taken
+takes_file a osil osol shows false taken is = is
+takes_file a osil osol shows true taken (inl s) = inl (safe_file a osil osol shows taken s)
+takes_file a osil osol shows true taken (inr (none, is)) = inr (no_safe_file a osil osol shows none, is)
+
 -- the document that answers what was read is one about the files
-pub document_about : (instance : Held) (options : Option Held) (a osol : List ℕ) (status : ℕ) (doc : Document) → ReadsFirst 4194305 instance a → ReadsNamed options osol → status ≡ solve_status doc.is_error
-    → IsRight a osol false doc → IsDocumentAbout instance options status doc.text
-document_about instance options a osol status doc first second is (r, answers, written) =
+pub document_about : (instance : Held) (options : Option Held) (safe : Bool) (a osol : List ℕ) (status : ℕ) (doc : Document) → ReadsFirst 4194305 instance a → ReadsNamed options osol → status ≡ solve_status doc.is_error
+    → IsRightWith safe a osol doc → IsDocumentAbout instance options safe status doc.text
+document_about instance options safe a osol status doc first second is (taken, takes, (r, answers, written)) =
     let file = file_of instance a first in
     record {
       osil = file.0;
@@ -63,24 +79,26 @@ document_about instance options a osol status doc first second is (r, answers, w
       instance_file = file.1;
       options_file = second;
       report = r;
-      answers = answers_file a file.0 osol file.2 false r answers;
+      taken = taken;
+      takes = takes_file a file.0 osol file.2 safe taken takes;
+      answers = answers_file a file.0 taken file.2 false r answers;
       written = written.text;
       status_is = is ∙ ap solve_status written.error;
     }
 
 -- the same texts by other names
-pub right_of_texts : (a b x y : List ℕ) (doc : Document) → x ≡ a → y ≡ b → IsRight x y false doc → IsRight a b false doc
-right_of_texts a b x y doc first second right =
-    subst (λ (t : List ℕ). IsRight t b false doc) first (subst (λ (t : List ℕ). IsRight x t false doc) second right)
+pub right_of_texts : (safe : Bool) (a b x y : List ℕ) (doc : Document) → x ≡ a → y ≡ b → IsRightWith safe x y doc → IsRightWith safe a b doc
+right_of_texts safe a b x y doc first second right =
+    subst (λ (t : List ℕ). IsRightWith safe t b doc) first (subst (λ (t : List ℕ). IsRightWith safe x t doc) second right)
 
 -- what names that may be given hold
-pub about_named : (held : List ℕ → Held) (instance : Held) (name : Option (Bor (List ℕ))) (status : ℕ) (text : List ℕ) → IsDocumentAbout instance (option_map (λ n. held n.now) name) status text
-    → IsDocumentAbout instance (option_map held (option_map (λ n. n.now) name)) status text
-about_named held instance name status text about = subst (λ (o : Option Held). IsDocumentAbout instance o status text) (held_by held name) about
+pub about_named : (held : List ℕ → Held) (instance : Held) (name : Option (Bor (List ℕ))) (safe : Bool) (status : ℕ) (text : List ℕ) → IsDocumentAbout instance (option_map (λ n. held n.now) name) safe status text
+    → IsDocumentAbout instance (option_map held (option_map (λ n. n.now) name)) safe status text
+about_named held instance name safe status text about = subst (λ (o : Option Held). IsDocumentAbout instance o safe status text) (held_by held name) about
 
 -- ---- a run
 
-pub solve_runs : (status : ℕ) (run : Run) (osil_name : List ℕ) (options_name : Option (List ℕ)) → IsSolve run.words osil_name options_name
-    → EndsText status run (Solve osil_name options_name) → IsUntaken run → Runs status run
-solve_runs status run osil_name options_name solve ends untaken =
-    text_runs status run (Solve osil_name options_name) solve ends untaken (no_check status run (Solve osil_name options_name) solve tt)
+pub solve_runs : (status : ℕ) (run : Run) (osil_name : List ℕ) (options_name : Option (List ℕ)) (safe : Bool) → IsSolve run.words osil_name options_name safe
+    → EndsText status run (Solve osil_name options_name safe) → IsUntaken run → Runs status run
+solve_runs status run osil_name options_name safe solve ends untaken =
+    text_runs status run (Solve osil_name options_name safe) solve ends untaken (no_check status run (Solve osil_name options_name safe) solve tt)

@@ -32,7 +32,7 @@ one_command asked a b first second = same_Some a b (sym first ∙ second)
 abbrev pub IsOther : Command → Type 0
 IsOther (Check osil osrl) = ⊥
 IsOther Session = Unit {0}
-IsOther (Solve osil options) = Unit {0}
+IsOther (Solve osil options safe) = Unit {0}
 IsOther (Generate variables) = Unit {0}
 IsOther (Call kind host port osil osol ospl) = Unit {0}
 IsOther (Serve host port workers servers connections) = Unit {0}

@@ -1,4 +1,5 @@
 pub mod Checks
+pub mod Safe
 pub mod Solves
 pub mod Summaries
 pub mod Ends

@@ -1,5 +1,5 @@
 -- How a run ends, by its words and by what came and went.
-use Rattle.std.specs.Prelude.{◌≡◌, ◌↔◌, ℕ, ◌⊎◌, true, Option, Some, List, [], ◌∷◌, ◌++◌, Ok, Err, option_map}
+use Rattle.std.specs.Prelude.{false, ◌≡◌, ◌↔◌, ℕ, ◌⊎◌, true, Option, Some, List, [], ◌∷◌, ◌++◌, Ok, Err, option_map}
 use Rattle.os_io.specs.Files.{Held, Holds, NoFile}
 use Rattle.os_io.specs.Links.{NetTells}
 use Rattle.os_io.specs.Streams.{Tells, HasRisen}
@@ -19,6 +19,9 @@ use Rattle.serving.specs.Serving as serving
 use Rattle.os_app.specs.Checks.{IsAnswerLine, IsAnswerAbout}
 use Rattle.os_app.specs.Solves.{IsDocumentAbout}
 use Rattle.os_app.specs.Summaries.{IsSummaryOf}
+use Rattle.osrl_grammar.specs.declared.report.Report.{Report}
+use Rattle.osrl_grammar.specs.Writing.{report_text}
+use Rattle.os_app.specs.Safe.{says_turn_limit}
 use Rattle.os_app.specs.Statuses.{serve_status}
 use Rattle.os_app.specs.Statuses.{session_status}
 use Rattle.command_line.specs.Words.{Command, Session, Check, Solve, Generate, Call, Serve, asks, names_files, AsksSession, IsCheck, NamesNoFile, IsNoCommand, usage}
@@ -52,7 +55,7 @@ IsUntaken run = LeavesInput run × (run.net_after ≡ run.net)
 -- about a generated instance. The others ask for no text that is made beforehand
 abbrev pub IsDue : (List ℕ → Held) → Command → (status : ℕ) → (text : List ℕ) → Type 0
 IsDue held (Check osil osrl) status text = IsAnswerAbout (held osil) (held osrl) status text
-IsDue held (Solve osil options) status text = IsDocumentAbout (held osil) (option_map held options) status text
+IsDue held (Solve osil options safe) status text = IsDocumentAbout (held osil) (option_map held options) safe status text
 IsDue held (Generate variables) status text = IsSummaryOf variables status text
 IsDue held Session status text = ⊥
 IsDue held (Call kind host port osil osol ospl) status text = ⊥
@@ -202,3 +205,9 @@ pub record Runs (status : ℕ) (run : Run) : Type 0 where
   pub files : NamesNoFile run.words → AllFilesRead run
   pub misused : (status ≡ 2) ↔ (IsNoCommand run.words × (status ≡ 4 → ⊥) × (status ≡ 5 → ⊥))
   pub checks : (osil_name osrl_name : List ℕ) → IsCheck run.words osil_name osrl_name → Checks status run osil_name osrl_name
+
+-- what was sent is the text of a report that doesn't name the limit of turns
+pub record TellsWithinTurns (run : Run) : Type 0 where
+  pub report : Report
+  pub sent : IsSent (report_text report) run.output run.output_after
+  pub within : says_turn_limit report.claim ≡ false

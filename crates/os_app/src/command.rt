@@ -102,7 +102,7 @@ fn documents_are_judged_once()
 /// requests that come on the input, over a table of jobs of its own, and writes the answers to the output. `check` reads two
 /// files, an instance's document and a result document, and writes `accepted` and what is accepted, or `refused` and why, in
 /// a line. `solve` reads an instance's file, and one of options where it is named, and writes the result document that
-/// answers them. `generate` solves and checks a generated instance, and writes a line about it. `call` makes one of the six
+/// answers them, with the safe limit of turns in place of theirs where it is asked for. `generate` solves and checks a generated instance, and writes a line about it. `call` makes one of the six
 /// calls over a link, and writes what answers it. `serve` serves links that come.
 ///
 /// The status is 0 where all was written and handed on; 1 where what was written says no: `refused`, the document of an error,
@@ -146,8 +146,12 @@ where
             documents_are_judged_once();
             tell(output, answer_about(alloc, files, osil, osrl))
         }
-        Ok(Some(Asked::Solve { osil, options })) => {
-            tell(output, solve_files(alloc, files, osil, options))
+        Ok(Some(Asked::Solve {
+            osil,
+            options,
+            safe,
+        })) => {
+            tell(output, solve_files(alloc, files, osil, options, safe))
         }
         Ok(Some(Asked::Generate { variables })) => {
             numbers_are_within_their_ends();

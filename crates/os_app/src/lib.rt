@@ -3,7 +3,8 @@
 //!
 //! `session` serves the requests that come on the input, over a table of jobs of its own, and writes the answers to the
 //! output. `check OSIL OSRL` reads an instance and a result from two files and says whether what is claimed is shown.
-//! `solve OSIL [--options OSOL]` reads an instance and options from files and writes the result document that answers them.
+//! `solve OSIL [--options OSOL] [--safe]` reads an instance and options from files and writes the result document that answers them;
+//! `--safe` puts the limit of turns that is enough for the program, if one is, in place of the options' own.
 //! `generate N` solves and checks a generated instance. `call` makes a call over a link, and `serve` serves links. The program
 //! `os_main` hands in the real ends and ends with the status of `run`, [`exit_code`]. The laws say what the words mean.
 #![tactic(auto)]
@@ -11,7 +12,10 @@
 mod checking;
 mod command;
 mod generating;
+mod laws;
+mod safe;
 mod solving;
 
 pub use command::{exit_code, run};
+pub use laws::safe_solves_stay_within_turns;
 pub use command_line::{commands_have_their_words, numbers_are_within_their_ends};

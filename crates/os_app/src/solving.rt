@@ -2,9 +2,10 @@
 ghost use Rattle.std.specs.Prelude.{◌≡◌, false, option_map, IfOk};
 ghost use Rattle.os_io.specs.Files.{CountsFiles};
 ghost use Rattle.solve_run.specs.Runs.{IsRight};
-ghost use Rattle.os_app.specs.Solves.{IsDocumentAbout};
+ghost use Rattle.os_app.specs.Solves.{IsDocumentAbout, IsRightWith};
 ghost use Rattle.os_app.specs.Statuses.{solve_status};
 
+use crate::safe::safe_options;
 use command_answers::status::{DONE, NEGATIVE};
 use command_answers::{Answer, MOST_READ, read_named};
 use os_io::{FileFault, Files, Memory, Never};
@@ -19,6 +20,19 @@ pub(crate) fn solve(alloc: Global, osil: &[u8], osol: &[u8]) -> Result<Document,
     answer_job(alloc, osil, osol, &mut watch)
 }
 
+/// The result document of such a job, with the safe limit of turns, if that is asked for.
+fn solve_with(alloc: Global, osil: &[u8], osol: &[u8], safe: bool) -> Result<Document, Memory>
+    ensures { IfOk result (IsRightWith safe osil.now osol.now) }
+{
+    if !safe {
+        return solve(alloc, osil, osol);
+    }
+    match safe_options(alloc, osil, osol)? {
+        Some(text) => solve(alloc, osil, text.as_slice()),
+        None => solve(alloc, osil, osol),
+    }
+}
+
 /// The status of a result document.
 fn status_of(is_error: bool) -> u8
     ensures { result ≡ solve_status is_error }
@@ -26,20 +40,22 @@ fn status_of(is_error: bool) -> u8
     if is_error { NEGATIVE } else { DONE }
 }
 
-/// The result document of the instance in the file of this name, with the options in another one, if it is named.
+/// The result document of the instance in the file of this name, with the options in another one, if it is named,
+/// and the safe limit of turns in place of theirs, if that is asked for.
 pub(crate) fn solve_files<F: Files>(
     alloc: Global,
     files: &mut F,
     osil: &str,
     options: Option<&str>,
+    safe: bool,
 ) -> Result<Answer, FileFault>
     ensures held { F.held files.new ≡ F.held files.old }
     ensures counted { CountsFiles result (F.faults files.old) (F.faults files.new) }
-    ensures ok { IfOk result (λ a. IsDocumentAbout (F.held files.old osil.now) (option_map (λ n. F.held files.old n.now) options.entry) a.status a.text) }
+    ensures ok { IfOk result (λ a. IsDocumentAbout (F.held files.old osil.now) (option_map (λ n. F.held files.old n.now) options.entry) safe a.status a.text) }
 {
     let instance = files.read_all(alloc, osil, MOST_READ)?;
     let options = read_named(alloc, files, options)?;
-    match solve(alloc, instance.as_slice(), options.as_slice()) {
+    match solve_with(alloc, instance.as_slice(), options.as_slice(), safe) {
         Ok(document) => Ok(Answer {
             status: status_of(document.is_error),
             text: document.text,

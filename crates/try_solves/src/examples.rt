@@ -60,7 +60,7 @@ impl<'r, R: Threads + Wait + Sync, F: Files> Examples<'r, R, F> {
         };
         let osil = self.bytes_of(alloc, name.as_slice(), b".osil")?;
         let osrl = self.bytes_of(alloc, name.as_slice(), b".osrl")?;
-        let solved = solve(self.rt, alloc, osil.as_slice(), b"")?;
+        let solved = solve(self.rt, alloc, osil.as_slice(), b"", false)?;
         let mut text = Text::new(alloc);
         put_status(&mut text, solved.status)?;
         put_status(&mut text, solved.verdict)?;

@@ -56,22 +56,39 @@ pub(crate) fn put_status(text: &mut Text, status: u8) -> Result<(), Memory> {
     text.push(b' ')
 }
 
-/// Solves a job, and checks what is written of it.
+/// The words by which a job is solved: whether options are named, and whether the safe limit of turns is asked for.
+fn solving_words(
+    alloc: Global,
+    has_options: bool,
+    is_safe: bool,
+) -> Result<Vec<&'static str>, Memory> {
+    let mut words = Vec::new(alloc);
+    words.push("os_app")?;
+    words.push("solve")?;
+    words.push("a.osil")?;
+    if has_options {
+        words.push("--options")?;
+        words.push("a.osol")?;
+    }
+    if is_safe {
+        words.push("--safe")?;
+    }
+    Ok(words)
+}
+
+/// Solves a job, with the safe limit of turns or without, and checks what is written of it.
 pub(crate) fn solve<R: Threads + Wait + Sync>(
     rt: &R,
     alloc: Global,
     osil: &[u8],
     osol: &[u8],
+    is_safe: bool,
 ) -> Result<Solved, Memory> {
     let mut files = MemFiles::new(alloc, &[])?;
     files.put(alloc, "a.osil", osil)?;
     files.put(alloc, "a.osol", osol)?;
-    let (status, document) = if osol.is_empty() {
-        ran(rt, alloc, &["os_app", "solve", "a.osil"], &mut files)?
-    } else {
-        let words = ["os_app", "solve", "a.osil", "--options", "a.osol"];
-        ran(rt, alloc, &words, &mut files)?
-    };
+    let words = solving_words(alloc, !osol.is_empty(), is_safe)?;
+    let (status, document) = ran(rt, alloc, words.as_slice(), &mut files)?;
     files.put(alloc, "a.osrl", document.as_slice())?;
     let words = ["os_app", "check", "a.osil", "a.osrl"];
     let (verdict, line) = ran(rt, alloc, &words, &mut files)?;
@@ -89,11 +106,12 @@ pub(crate) fn answer_job<R: Threads + Wait + Sync>(
     rt: &R,
     alloc: Global,
     given: &[Vec<u8>],
+    is_safe: bool,
 ) -> Result<Text, Memory> {
     let [osil, osol] = given else {
         return Text::from_slice(alloc, b"two fields");
     };
-    let solved = solve(rt, alloc, osil.as_slice(), osol.as_slice())?;
+    let solved = solve(rt, alloc, osil.as_slice(), osol.as_slice(), is_safe)?;
     let mut text = Text::new(alloc);
     put_status(&mut text, solved.status)?;
     put_status(&mut text, solved.verdict)?;

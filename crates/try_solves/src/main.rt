@@ -1,4 +1,5 @@
-//! Tables of jobs in files: the result document that is written of each, and what the checker says of it.
+//! Tables of jobs in files, solved with the safe limit of turns and without: the result document that is written of each, and what
+//! the checker says of it.
 //!
 //! The answers come from the rules (`docs/rules/search.md`, `docs/rules/results.md`), by hand; those of the examples are the
 //! results that stand beside them in `examples/`, of which the files here are copies (`tools/examples.sh`). The output is a
@@ -18,11 +19,13 @@ fn main(rt: HostRuntime) -> io::Result<()> {
     let alloc = rt.alloc();
     let mut files = DiskFiles::new(&rt);
     let mut tables = Tables::new(&rt);
-    let mut answers = Vec::new(alloc);
-    for row in &gather(alloc, "solves.txt", &mut files)? {
-        answers.push(answer_job(&rt, alloc, row.as_slice())?)?;
+    for (name, is_safe) in [("solves.txt", false), ("safe.txt", true)] {
+        let mut answers = Vec::new(alloc);
+        for row in &gather(alloc, name, &mut files)? {
+            answers.push(answer_job(&rt, alloc, row.as_slice(), is_safe)?)?;
+        }
+        compare(&mut tables, name, answers)?;
     }
-    compare(&mut tables, "solves.txt", answers)?;
     let mut examples = Examples::new(&rt, DiskFiles::new(&rt));
     let mut answers = Vec::new(alloc);
     for row in &gather(alloc, "examples.txt", &mut files)? {

@@ -1,0 +1,205 @@
+-- Why a job that is solved with the safe limit isn't given up for its turns.
+use Rattle.std.proofs.Common.{◌≡◌, ◌∙◌, ◌≢◌, ℕ, zero, suc, ◌+◌, ◌^◌, ◌≤◌, ◌⊎◌, inl, inr, Bool, true, false, Option, None, Some, List, [], ◌∷◌, Result, Ok, Err, length, refl, sym, ap, ap₂, subst, arith}
+use Rattle.std.specs.Prelude.{IfOk, IfErr, option_map}
+use Rattle.std.specs.List.{All}
+use Rattle.std.proofs.Math.Nat.{pow-le-pow_right}
+use Rattle.std.proofs.lemmas.List.{length-map}
+use Rattle.std.proofs.lemmas.Option.{none-some}
+use Rattle.document_tags.specs.Tags.{tags}
+use Rattle.evidence.specs.Instance.{Instance, IsInstance, width, height}
+use Rattle.instance.specs.Parts.{Parts}
+use Rattle.instance.specs.Program.{program, variable, row}
+use Rattle.certificate.specs.declared.causes.Cause.{Cause}
+use Rattle.certificate.specs.declared.causes.Cause.TheVariants.{Memory}
+use Rattle.certificate.specs.declared.claims.Claim.{Claim}
+use Rattle.certificate.specs.declared.claims.Claim.TheVariants.{Optimal, Infeasible, Unbounded, BestSoFar, Unsure}
+use Rattle.simplex_rules.specs.Ends.{Terms, Clock}
+use Rattle.search_rules.specs.Search.{Outcome, IsSearchAnswer, searched, early}
+use Rattle.search_rules.specs.Outcomes.{IsPlain}
+use Rattle.branch_bound.specs.Claims.{claimed_outcome}
+use Rattle.osol_grammar.specs.declared.options.Options.{Options}
+use Rattle.osol_grammar.specs.declared.fault.OsolFault.{OsolFault}
+use Rattle.osol_grammar.specs.declared.fault.OsolFault.TheVariants as options_faults
+use Rattle.osol_grammar.specs.Back.{ComesBack, IsNameOrNone}
+use Rattle.osol_grammar.specs.Limits as limits
+use Rattle.osol_grammar.specs.Meaning.{IsOptionsText, SayLimit}
+use Rattle.osol_grammar.specs.Options.{amount}
+use Rattle.osol_grammar.specs.Reading.{DecodeFails}
+use Rattle.osol_grammar.specs.Writing.{options_text}
+use Rattle.osol_grammar.proofs.LimitTable.{each_limit}
+use Rattle.osil_grammar.specs.declared.fault.OsilFault.{OsilFault}
+use Rattle.osil_grammar.specs.declared.fault.OsilFault.TheVariants as instance_faults
+use Rattle.osil_grammar.specs.Reading.{IsInstanceText}
+use Rattle.osil_grammar.specs.Reading as instances
+use Rattle.osrl_grammar.specs.declared.report.Report.{Report}
+use Rattle.solve_run.specs.Closings.{IsClosed, IsFitted, checked, given_up, wide_check}
+use Rattle.solve_run.specs.JobAnswers.{AnswersJob, GaveUp, IsBestOfSearch, Solved, no_options, no_instance, solved, gave_up, job_terms}
+use Rattle.no_cycles.specs.Beginning.{BeginsFeasible}
+use Rattle.no_cycles.specs.Limit.{safe_limit}
+use Rattle.no_cycles.specs.Searches.{is_out_of_turns, is_turn_limit}
+use Rattle.no_cycles.proofs.SafeLimits.{limit_is, has_limit}
+use Rattle.no_cycles.proofs.Searched.{early_is}
+use Rattle.os_app.specs.Safe.{IsSafeText, HasNoSafeText, Takes, claims_turn_limit, says_turn_limit}
+use Rattle.os_app.specs.Safe as safe
+use Rattle.os_io.specs.Files.{Held, Holds, MayHold}
+use Rattle.command_answers.specs.Outputs.{IsSent}
+use Rattle.command_line.specs.Words.{Command, Session, Solve, Call, Serve, asks, IsSolve}
+use Rattle.os_app.specs.Solves.{IsDocumentAbout}
+use Rattle.os_app.specs.Runs.{Run, RunEnds, IsDue, TellsWithinTurns, served, answered, called, hosted, misused, file_fault, unsent, unheard}
+use Rattle.os_app.proofs.Words.{one_command}
+
+-- ---- options
+
+-- each of a list, one behind the other
+abbrev EachOf : {X : Type 0} (P : X → Type 0) → List X → Type 0
+EachOf P [] = Unit {0}
+EachOf P (x ∷ xs) = P x × EachOf P xs
+
+each : {X : Type 0} (P : X → Type 0) → ((x : X) → P x) → (xs : List X) → EachOf P xs
+each P f [] = tt
+each P f (x ∷ xs) = (f x, each P f xs)
+
+all_of : {X : Type 0} (P : X → Type 0) (xs : List X) → EachOf P xs → All P xs
+all_of P [] h k d l = absurd (omega (arith, l))
+all_of P (x ∷ xs) h zero d l = h.0
+all_of P (x ∷ xs) h (suc k) d l = all_of P xs h.1 k d (omega (arith, l))
+
+-- the nodes that a text says are as many as their limit may be
+nodes_within : (bytes : List ℕ) (o : Options) → IsOptionsText bytes o → (1 ≤ o.nodes) × (o.nodes ≤ 1000000)
+nodes_within bytes o (inl (blank, none)) =
+    let all = each (λ l. amount o l ≡ (limits.limit_row l).default) none.limits limits.all in
+    (omega (arith, all.0), omega (arith, all.0))
+nodes_within bytes o (inr (other, doc)) =
+    let all = each (λ l. SayLimit (tags doc.root) l (amount o l)) doc.is.limits limits.all in
+    elim (all.0) [
+      | inl said ↦ (omega (arith, said.1), omega (arith, said.1))
+      | inr said ↦ (said.2.1, said.2.2)
+    ]
+
+-- options with a safe limit are read back
+with_limit : (osol : List ℕ) (o : Options) (limit k : ℕ) → IsOptionsText osol o → IsNameOrNone o.job → limit ≡ 4 ^ k → k ≤ 13 → ComesBack (record o { turns = limit })
+with_limit osol o limit k text job is few =
+    let least : 0 ≤ k = omega arith in
+    let low : 4 ^ 0 ≤ 4 ^ k = pow-le-pow_right (omega arith) least in
+    let high : 4 ^ k ≤ 4 ^ 13 = pow-le-pow_right (omega arith) few in
+    let nodes = nodes_within osol o text in
+    record {
+      job = job;
+      above = each_limit (λ l. (limits.limit_row l).least ≤ amount (record o { turns = limit }) l) (all_of (λ l. (limits.limit_row l).least ≤ amount (record o { turns = limit }) l) limits.all (nodes.0, (omega (arith, is, low), tt)));
+      below = each_limit (λ l. amount (record o { turns = limit }) l ≤ (limits.limit_row l).most) (all_of (λ l. amount (record o { turns = limit }) l ≤ (limits.limit_row l).most) limits.all (nodes.1, (omega (arith, is, high), tt)));
+    }
+
+-- ---- claims
+
+outcome_claim : (c : Claim) → is_out_of_turns (claimed_outcome c) ≡ claims_turn_limit c
+outcome_claim (Optimal x v ns) = refl
+outcome_claim (Infeasible ns) = refl
+outcome_claim (Unbounded x v r) = refl
+outcome_claim (BestSoFar x v c) = refl
+outcome_claim (Unsure c) = refl
+
+given_up_is : (c : Claim) (k : Cause) → claims_turn_limit (given_up c k) ≡ is_turn_limit k
+given_up_is (Optimal x v ns) k = refl
+given_up_is (Infeasible ns) k = refl
+given_up_is (Unbounded x v r) k = refl
+given_up_is (BestSoFar x v c) k = refl
+given_up_is (Unsure c) k = refl
+
+checked_is : (found : Claim) (turns : ℕ) (node : Option ℕ) → claims_turn_limit found ≡ false → claims_turn_limit (checked found turns node) ≡ false
+checked_is found turns None within = within
+checked_is found turns (Some n) within = given_up_is found (wide_check n turns)
+
+fitted_is : (job : Option (List ℕ)) (found told : Claim) → IsFitted job found told → claims_turn_limit found ≡ false → claims_turn_limit told ≡ false
+fitted_is job found told (inl (short, is)) within = ap claims_turn_limit is ∙ within
+fitted_is job found told (inr (long, is)) within = ap claims_turn_limit is ∙ given_up_is found _
+
+closed_is : (p : Parts) (job : Option (List ℕ)) (turns : ℕ) (found told : Claim) → IsClosed p job turns found told → claims_turn_limit found ≡ false → claims_turn_limit told ≡ false
+closed_is p job turns found told closed within = fitted_is job _ told closed.fitted (checked_is found turns closed.width within)
+
+gave_up_is : (osil osol : List ℕ) (c : Claim) → (c ≡ Unsure Memory) ⊎ IsBestOfSearch osil osol c → claims_turn_limit c ≡ false
+gave_up_is osil osol c (inl is) = ap claims_turn_limit is
+gave_up_is osil osol c (inr best) = sym (outcome_claim c) ∙ ap is_out_of_turns best.is ∙ early_is best.moment.best Memory
+
+-- ---- the laws of the crates below
+
+pub record Laws : Type 0 where
+  pub numbers : (p : Parts) → IsInstance (program p)
+  pub within : (I : Instance) (t : Terms) (o : Outcome) (c : Clock) (l : ℕ) → IsInstance I → IsPlain I → BeginsFeasible I → safe_limit (width I) (height I) ≡ Some l → l ≤ t.turns → IsSearchAnswer I t o c → is_out_of_turns o ≡ false
+  pub once : (bytes : List ℕ) (p q : Parts) → IsInstanceText bytes p → IsInstanceText bytes q → p ≡ q
+  pub back : (o : Options) (r : Result Options OsolFault) → ComesBack o → IfOk r (IsOptionsText (options_text o)) → IfErr r (DecodeFails (options_text o)) → r ≢ Err options_faults.Memory → r ≡ Ok o
+  pub names : (bytes : List ℕ) (o : Options) → IsOptionsText bytes o → IsNameOrNone o.job
+  pub read_options : (bytes : List ℕ) (o : Options) (f : OsolFault) → IsOptionsText bytes o → DecodeFails bytes f → f ≡ options_faults.Memory
+  pub read_instance : (bytes : List ℕ) (p : Parts) (f : OsilFault) → IsInstanceText bytes p → instances.DecodeFails bytes f → f ≡ instance_faults.Memory
+
+ok_or_not : (a : Options) (f : OsolFault) → ◌≡◌ {A = Result Options OsolFault} (Ok a) (Err f) → ⊥
+ok_or_not a f e = cc
+
+same_ok : (a b : Options) → ◌≡◌ {A = Result Options OsolFault} (Ok a) (Ok b) → a ≡ b
+same_ok a b e = cc
+
+module _ (laws : Laws) (osil osol taken : List ℕ) (p : Parts) (text : IsInstanceText osil p) (plain : IsPlain (program p)) (feasible : BeginsFeasible (program p)) (few : length p.vars + length p.rows ≤ 13) where
+  -- the limit of the options that are taken
+  turns_are : (o : Options) → IsOptionsText taken o → (s : IsSafeText osil osol taken) → o.turns ≡ s.limit
+  turns_are o said s =
+      let limit = limit_is (length s.parts.vars) (length s.parts.rows) s.limit s.enough in
+      let back = laws.back (record s.options { turns = s.limit }) (Ok o) (with_limit osol s.options s.limit _ s.said (laws.names osol s.options s.said) limit.1 limit.0) (subst (λ (t : List ℕ). IsOptionsText t o) s.is said) tt (ok_or_not o options_faults.Memory) in
+      ap (λ (x : Options). x.turns) (same_ok o (record s.options { turns = s.limit }) back)
+
+  -- where options and an instance are read, there is such a text
+  is_safe : (o : Options) → IsOptionsText taken o → Takes true osil osol taken → IsSafeText osil osol taken
+  is_safe o said (inl s) = s
+  is_safe o said (inr (none, is)) = absurd (by none)
+    where
+      by : HasNoSafeText osil osol → ⊥
+      by (safe.no_options f other fails) = other (laws.read_options osol o f (subst (λ (t : List ℕ). IsOptionsText t o) is said) fails)
+      by (safe.no_instance f other fails) = other (laws.read_instance osil p f text fails)
+      by (safe.no_limit q found none) =
+          let same : q ≡ p = laws.once osil q p found text in
+          let told = subst (λ (x : Parts). safe_limit (length x.vars) (length x.rows) ≡ None) same none in
+          none-some (4 ^ (length p.vars + length p.rows)) (sym told ∙ has_limit (length p.vars) (length p.rows) few)
+
+  solved_within : (stop : Option ℕ) (looks : ℕ) (r : Report) → Takes true osil osol taken → Solved osil taken stop looks r → says_turn_limit r.claim ≡ false
+  solved_within stop looks r takes s =
+      let same : p ≡ s.given.parts = laws.once osil p s.given.parts text s.given.instance_text in
+      let its = is_safe s.given.options s.given.options_text takes in
+      let own : its.parts ≡ s.given.parts = laws.once osil its.parts s.given.parts its.instance s.given.instance_text in
+      let told : safe_limit (length s.given.parts.vars) (length s.given.parts.rows) ≡ Some its.limit = subst (λ (x : Parts). safe_limit (length x.vars) (length x.rows) ≡ Some its.limit) own its.enough in
+      let wide : width (program s.given.parts) ≡ length s.given.parts.vars = length-map s.given.parts.vars variable in
+      let high : height (program s.given.parts) ≡ length s.given.parts.rows = length-map s.given.parts.rows row in
+      let enough : safe_limit (width (program s.given.parts)) (height (program s.given.parts)) ≡ Some its.limit = ap₂ safe_limit wide high ∙ told in
+      let turns : s.given.options.turns ≡ its.limit = turns_are s.given.options s.given.options_text its in
+      let found : is_out_of_turns (claimed_outcome s.found) ≡ false =
+      laws.within (program s.given.parts) (job_terms s.given.options stop) (claimed_outcome s.found) _ its.limit (laws.numbers s.given.parts) (subst (λ (x : Parts). IsPlain (program x)) same plain) (subst (λ (x : Parts). BeginsFeasible (program x)) same feasible) enough (omega (arith, turns)) (searched s.ends) in
+      ap (λ (x : Report). says_turn_limit x.claim) s.is ∙ closed_is s.given.parts s.given.options.job s.turns s.found s.told s.closed (sym (outcome_claim s.found) ∙ found)
+
+  pub answers_within : (r : Report) → Takes true osil osol taken → AnswersJob osil taken false r → says_turn_limit r.claim ≡ false
+  answers_within r takes (no_options h) = ap (λ (x : Report). says_turn_limit x.claim) h.is
+  answers_within r takes (no_instance h) = ap (λ (x : Report). says_turn_limit x.claim) h.is
+  answers_within r takes (solved stop looks may s) = solved_within stop looks r takes s
+  answers_within r takes (gave_up g) = ap (λ (x : Report). says_turn_limit x.claim) g.is ∙ gave_up_is osil taken g.claim g.claims
+
+-- ---- a run
+
+module _ (laws : Laws) (status : ℕ) (run : Run) (osil_name : List ℕ) (options_name : Option (List ℕ)) (osil : List ℕ) (p : Parts) (solve : IsSolve run.words osil_name options_name true) (holds : run.held osil_name ≡ Holds osil) (text : IsInstanceText osil p) (plain : IsPlain (program p)) (feasible : BeginsFeasible (program p)) (few : length p.vars + length p.rows ≤ 13) where
+  due_within : (it : Command) (due : ℕ) (line : List ℕ) → it ≡ Solve osil_name options_name true → IsDue run.held it due line → IsSent line run.output run.output_after → TellsWithinTurns run
+  due_within it due line is asked sent =
+      let about : IsDocumentAbout (run.held osil_name) (option_map run.held options_name) true due line = subst (λ (x : Command). IsDue run.held x due line) is asked in
+      let file : about.osil ≡ osil = subst (λ (h : Held). MayHold h about.osil) holds about.instance_file in
+      record {
+        report = about.report;
+        sent = subst (λ (t : List ℕ). IsSent t run.output run.output_after) about.written sent;
+        within = answers_within laws about.osil about.osol about.taken p (subst (λ (t : List ℕ). IsInstanceText t p) (sym file) text) plain feasible few about.report about.takes about.answers;
+      }
+
+  one : (it : Command) → asks run.words ≡ Some it → it ≡ Solve osil_name options_name true
+  one it asked = one_command _ it (Solve osil_name options_name true) asked solve
+
+  pub ends_within : status ≤ 1 → RunEnds status run → TellsWithinTurns run
+  ends_within low (served how is s) = let e = one Session s.session in absurd (cc)
+  ends_within low (answered a) = due_within a.asked.command status a.text (one a.asked.command a.asked.asked) a.asked.due a.sent
+  ends_within low (called c) = let e = one (Call c.kind c.host c.port c.osil c.osol c.ospl) c.asked in absurd (cc)
+  ends_within low (hosted how is h) = let e = one (Serve h.host h.port h.workers h.servers h.connections) h.asked in absurd (cc)
+  ends_within low (misused is m) = absurd (omega (arith, is, low))
+  ends_within low (file_fault is f) = absurd (omega (arith, is, low))
+  ends_within low (unsent is u) = absurd (omega (arith, is, low))
+  ends_within low (unheard is u) = absurd (omega (arith, is, low))
