@@ -146,13 +146,15 @@ where
             documents_are_judged_once();
             tell(output, answer_about(alloc, files, osil, osrl))
         }
-        Ok(Some(Asked::Solve {
-            osil,
-            options,
-            safe,
-        })) => {
-            tell(output, solve_files(alloc, files, osil, options, safe))
-        }
+        Ok(
+            Some(
+                Asked::Solve {
+                    osil,
+                    options,
+                    safe,
+                },
+            ),
+        ) => { tell(output, solve_files(alloc, files, osil, options, safe)) }
         Ok(Some(Asked::Generate { variables })) => {
             numbers_are_within_their_ends();
             tell(output, from_memory(generate(alloc, variables)))

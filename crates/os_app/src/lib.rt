@@ -17,5 +17,5 @@ mod safe;
 mod solving;
 
 pub use command::{exit_code, run};
-pub use laws::safe_solves_stay_within_turns;
 pub use command_line::{commands_have_their_words, numbers_are_within_their_ends};
+pub use laws::safe_solves_stay_within_turns;
