@@ -102,8 +102,9 @@ fn documents_are_judged_once()
 /// requests that come on the input, over a table of jobs of its own, and writes the answers to the output. `check` reads two
 /// files, an instance's document and a result document, and writes `accepted` and what is accepted, or `refused` and why, in
 /// a line. `solve` reads an instance's file, and one of options where it is named, and writes the result document that
-/// answers them, with the safe limit of turns in place of theirs where it is asked for. `generate` solves and checks a generated instance, and writes a line about it. `call` makes one of the six
-/// calls over a link, and writes what answers it. `serve` serves links that come.
+/// answers them, with the safe limit of turns in place of theirs where it is asked for. `generate` solves and checks a
+/// generated instance, and writes a line about it. `call` makes one of the six calls over a link, and writes what answers it.
+/// `serve` serves links that come.
 ///
 /// The status is 0 where all was written and handed on; 1 where what was written says no: `refused`, the document of an error,
 /// `unchecked`, a fault, another status of HTTP, or `false`; 2 where the words are no command and the usage was written; 3
