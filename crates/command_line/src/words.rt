@@ -49,8 +49,8 @@ pub enum Asked<'w> {
         osil: &'w str,
         osrl: &'w str,
     },
-    /// To solve the instance in a file, with the options in another one, if it is named; with the limit of turns that is
-    /// enough for the program, if that is asked for and there is one.
+    /// To solve the instance in a file, with the options in another one, if it is named; with the safe limit of turns in
+    /// place of theirs, if that is asked for and there is one.
     Solve {
         osil: &'w str,
         options: Option<&'w str>,
@@ -105,7 +105,7 @@ fn check_of<'w>(matches: &ArgMatches<'w>) -> Option<Asked<'w>>
     Some(Asked::Check { osil, osrl })
 }
 
-/// The files that `solve`'s words name, and whether its turns are to be enough.
+/// The files that `solve`'s words name, and whether the safe limit of turns is asked for.
 fn solve_of<'w>(matches: &ArgMatches<'w>) -> Option<Asked<'w>>
     ensures { option_map says.meant result ≡ says.solve_of (first_value (found_of matches.now)) }
 {

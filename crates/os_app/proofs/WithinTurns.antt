@@ -32,6 +32,7 @@ use Rattle.osil_grammar.specs.declared.fault.OsilFault.TheVariants as instance_f
 use Rattle.osil_grammar.specs.Reading.{IsInstanceText}
 use Rattle.osil_grammar.specs.Reading as instances
 use Rattle.osrl_grammar.specs.declared.report.Report.{Report}
+use Rattle.osrl_grammar.specs.Writing.{report_text}
 use Rattle.solve_run.specs.Closings.{IsClosed, IsFitted, checked, given_up, wide_check}
 use Rattle.solve_run.specs.JobAnswers.{AnswersJob, GaveUp, IsBestOfSearch, Solved, no_options, no_instance, solved, gave_up, job_terms}
 use Rattle.no_cycles.specs.Beginning.{BeginsFeasible}
@@ -42,10 +43,10 @@ use Rattle.no_cycles.proofs.Searched.{early_is}
 use Rattle.os_app.specs.Safe.{IsSafeText, HasNoSafeText, Takes, claims_turn_limit, says_turn_limit}
 use Rattle.os_app.specs.Safe as safe
 use Rattle.os_io.specs.Files.{Held, Holds, MayHold}
-use Rattle.command_answers.specs.Outputs.{IsSent}
-use Rattle.command_line.specs.Words.{Command, Session, Solve, Call, Serve, asks, IsSolve}
+use Rattle.command_answers.specs.Outputs.{IsTold}
+use Rattle.command_line.specs.Words.{Command, Session, Solve, Call, Serve, asks, IsSolve, IsNoCommand}
 use Rattle.os_app.specs.Solves.{IsDocumentAbout}
-use Rattle.os_app.specs.Runs.{Run, RunEnds, IsDue, TellsWithinTurns, served, answered, called, hosted, misused, file_fault, unsent, unheard}
+use Rattle.os_app.specs.Runs.{Run, RunEnds, IsDue, IsUsageDue, IsAnswerDue, IsUnsent, WritesWithinTurns, served, answered, called, hosted, misused, file_fault, unsent, unheard}
 use Rattle.os_app.proofs.Words.{one_command}
 
 -- ---- options
@@ -181,25 +182,33 @@ module _ (laws : Laws) (osil osol taken : List ℕ) (p : Parts) (text : IsInstan
 -- ---- a run
 
 module _ (laws : Laws) (status : ℕ) (run : Run) (osil_name : List ℕ) (options_name : Option (List ℕ)) (osil : List ℕ) (p : Parts) (solve : IsSolve run.words osil_name options_name true) (holds : run.held osil_name ≡ Holds osil) (text : IsInstanceText osil p) (plain : IsPlain (program p)) (feasible : BeginsFeasible (program p)) (few : length p.vars + length p.rows ≤ 13) where
-  due_within : (it : Command) (due : ℕ) (line : List ℕ) → it ≡ Solve osil_name options_name true → IsDue run.held it due line → IsSent line run.output run.output_after → TellsWithinTurns run
-  due_within it due line is asked sent =
+  due_within : (it : Command) (due : ℕ) (line : List ℕ) → it ≡ Solve osil_name options_name true → IsDue run.held it due line → IsTold due line status run.output run.output_after → WritesWithinTurns status run
+  due_within it due line is asked told =
       let about : IsDocumentAbout (run.held osil_name) (option_map run.held options_name) true due line = subst (λ (x : Command). IsDue run.held x due line) is asked in
       let file : about.osil ≡ osil = subst (λ (h : Held). MayHold h about.osil) holds about.instance_file in
-      record {
+      let its : IsTold due (report_text about.report) status run.output run.output_after = subst (λ (t : List ℕ). IsTold due t status run.output run.output_after) about.written told in
+      inr (record {
         report = about.report;
-        sent = subst (λ (t : List ℕ). IsSent t run.output run.output_after) about.written sent;
+        told = subst (λ (d : ℕ). IsTold d (report_text about.report) status run.output run.output_after) about.status_is its;
         within = answers_within laws about.osil about.osol about.taken p (subst (λ (t : List ℕ). IsInstanceText t p) (sym file) text) plain feasible few about.report about.takes about.answers;
-      }
+      })
 
   one : (it : Command) → asks run.words ≡ Some it → it ≡ Solve osil_name options_name true
   one it asked = one_command _ it (Solve osil_name options_name true) asked solve
 
-  pub ends_within : status ≤ 1 → RunEnds status run → TellsWithinTurns run
-  ends_within low (served how is s) = let e = one Session s.session in absurd (cc)
-  ends_within low (answered a) = due_within a.asked.command status a.text (one a.asked.command a.asked.asked) a.asked.due a.sent
-  ends_within low (called c) = let e = one (Call c.kind c.host c.port c.osil c.osol c.ospl) c.asked in absurd (cc)
-  ends_within low (hosted how is h) = let e = one (Serve h.host h.port h.workers h.servers h.connections) h.asked in absurd (cc)
-  ends_within low (misused is m) = absurd (omega (arith, is, low))
-  ends_within low (file_fault is f) = absurd (omega (arith, is, low))
-  ends_within low (unsent is u) = absurd (omega (arith, is, low))
-  ends_within low (unheard is u) = absurd (omega (arith, is, low))
+  a_command : IsNoCommand run.words → ⊥
+  a_command other = none-some (Solve osil_name options_name true) (sym other ∙ solve)
+
+  unsent_within : (u : IsUnsent run) → status ≡ 4 → IsUsageDue run u.text ⊎ IsAnswerDue run u.text → WritesWithinTurns status run
+  unsent_within u is (inl d) = absurd (a_command d.other)
+  unsent_within u is (inr d) = due_within d.asked.command d.status u.text (one d.asked.command d.asked.asked) d.asked.due (inr (is, u.breaks_off))
+
+  pub ends_within : RunEnds status run → WritesWithinTurns status run
+  ends_within (served how is s) = let e = one Session s.session in absurd (cc)
+  ends_within (answered a) = due_within a.asked.command status a.text (one a.asked.command a.asked.asked) a.asked.due (inl (refl, a.sent))
+  ends_within (called c) = let e = one (Call c.kind c.host c.port c.osil c.osol c.ospl) c.asked in absurd (cc)
+  ends_within (hosted how is h) = let e = one (Serve h.host h.port h.workers h.servers h.connections) h.asked in absurd (cc)
+  ends_within (misused is m) = absurd (a_command m.other)
+  ends_within (file_fault is f) = inl f.unwritten
+  ends_within (unsent is u) = unsent_within u is u.due
+  ends_within (unheard is u) = inl u.unwritten

@@ -12,7 +12,7 @@ use Rattle.document_checker.specs.declared.fault.CheckFault.{CheckFault as Refus
 use Rattle.document_checker.specs.declared.fault.CheckFault.TheVariants as reasons
 use Rattle.document_checker.specs.Documents.{IsAcceptedText, DocsRefuse}
 use Rattle.document_checker.specs.Texts.{IsAnswerText}
-use Rattle.command_answers.specs.Outputs.{IsSent, BreaksOff}
+use Rattle.command_answers.specs.Outputs.{IsSent, BreaksOff, IsTold}
 use Rattle.os_client.specs.Runs.{CallRun, CallEnds}
 use Rattle.serving.specs.declared.ending.Ending.{Ending}
 use Rattle.serving.specs.Serving as serving
@@ -22,8 +22,7 @@ use Rattle.os_app.specs.Summaries.{IsSummaryOf}
 use Rattle.osrl_grammar.specs.declared.report.Report.{Report}
 use Rattle.osrl_grammar.specs.Writing.{report_text}
 use Rattle.os_app.specs.Safe.{says_turn_limit}
-use Rattle.os_app.specs.Statuses.{serve_status}
-use Rattle.os_app.specs.Statuses.{session_status}
+use Rattle.os_app.specs.Statuses.{serve_status, session_status, solve_status}
 use Rattle.command_line.specs.Words.{Command, Session, Check, Solve, Generate, Call, Serve, asks, names_files, AsksSession, IsCheck, NamesNoFile, IsNoCommand, usage}
 
 -- a run's words, what names hold, and what its files, its input, its output and its net tell before and after it
@@ -206,8 +205,12 @@ pub record Runs (status : ℕ) (run : Run) : Type 0 where
   pub misused : (status ≡ 2) ↔ (IsNoCommand run.words × (status ≡ 4 → ⊥) × (status ≡ 5 → ⊥))
   pub checks : (osil_name osrl_name : List ℕ) → IsCheck run.words osil_name osrl_name → Checks status run osil_name osrl_name
 
--- what was sent is the text of a report that doesn't name the limit of turns
-pub record TellsWithinTurns (run : Run) : Type 0 where
+-- the text of a report that doesn't name the limit of turns was sent, with its status, or a first part of it
+pub record TellsWithinTurns (status : ℕ) (run : Run) : Type 0 where
   pub report : Report
-  pub sent : IsSent (report_text report) run.output run.output_after
+  pub told : IsTold (solve_status report.error) (report_text report) status run.output run.output_after
   pub within : says_turn_limit report.claim ≡ false
+
+-- or nothing was written
+abbrev pub WritesWithinTurns : (status : ℕ) → Run → Type 0
+WritesWithinTurns status run = (run.output_after ≡ run.output) ⊎ TellsWithinTurns status run

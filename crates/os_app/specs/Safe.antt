@@ -1,4 +1,4 @@
--- The options' text that a job is solved with where the limit of turns is to be enough for its program.
+-- The options' text that a job is solved with where the safe limit of turns is asked for.
 use Rattle.std.specs.Prelude.{◌≡◌, ◌≢◌, ◌⊎◌, ℕ, Bool, true, false, Option, None, Some, List, length}
 use Rattle.certificate.specs.declared.claims.Claim.{Claim}
 use Rattle.certificate.specs.declared.claims.Claim.TheVariants.{Optimal, Infeasible, Unbounded, BestSoFar, Unsure}

@@ -7,17 +7,17 @@ ghost use Rattle.osil_grammar.specs.Reading.{IsInstanceText};
 ghost use Rattle.search_rules.specs.Outcomes.{IsPlain};
 ghost use Rattle.no_cycles.specs.Beginning.{BeginsFeasible};
 ghost use Rattle.command_line.specs.Words.{IsSolve};
-ghost use Rattle.os_app.specs.Runs.{Run, Runs, TellsWithinTurns};
+ghost use Rattle.os_app.specs.Runs.{Run, Runs, WritesWithinTurns};
 
 use instance::programs_have_numbers;
 use no_cycles::safe_limits_are_enough;
 use osil_grammar::{documents_are_refused_in_one_way, documents_mean_one_instance};
 use osol_grammar::{comes_back, options_are_not_refused, options_have_names};
 
-/// Law: `solve --safe` never names the limit of turns, where the instance has no whole variables, its first values keep each row
+/// Law: what `solve --safe` writes never names the limit of turns, where the instance has no whole variables, its first values keep each row
 /// between its ends, and it has at most 13 variables and rows together.
 pub fn safe_solves_stay_within_turns()
-    ensures { (status : ℕ) (run : Run) (osil_name : List ℕ) (options_name : Option (List ℕ)) (osil : List ℕ) (p : Parts) → Runs status run → IsSolve run.words osil_name options_name true → run.held osil_name ≡ Holds osil → IsInstanceText osil p → IsPlain (program p) → BeginsFeasible (program p) → length p.vars + length p.rows ≤ 13 → status ≤ 1 → TellsWithinTurns run }
+    ensures { (status : ℕ) (run : Run) (osil_name : List ℕ) (options_name : Option (List ℕ)) (osil : List ℕ) (p : Parts) → Runs status run → IsSolve run.words osil_name options_name true → run.held osil_name ≡ Holds osil → IsInstanceText osil p → IsPlain (program p) → BeginsFeasible (program p) → length p.vars + length p.rows ≤ 13 → WritesWithinTurns status run }
 {
     programs_have_numbers();
     safe_limits_are_enough();

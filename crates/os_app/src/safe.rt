@@ -1,4 +1,4 @@
-//! The limit of turns that is enough for an instance.
+//! The safe limit of turns of an instance, as a text of options.
 ghost use Rattle.std.specs.Prelude.{IfOk};
 ghost use Rattle.os_app.specs.Safe.{IsSafeOrNone};
 
