@@ -2,9 +2,10 @@
 use Rattle.std.specs.Prelude.{◌≡◌, ℕ, List, ◌∷◌, ◌++◌, [], Option, Result, Ok, Err}
 use Rattle.os_io.specs.Streams.{Tells, BothTold}
 
--- where links come from or go to: a host, as its text, and a port
+-- where links come from or go to: a host, as its text, and a port; of those that come from there, for how many seconds their reads
+-- and writes wait for the peer at most
 pub data Reached : Type 0 where
-  ListenedAt : (host : List ℕ) → (port : ℕ) → Reached
+  ListenedAt : (host : List ℕ) → (port : ℕ) → (patience : ℕ) → Reached
   ConnectedTo : (host : List ℕ) → (port : ℕ) → Reached
 
 -- what a listener tells: the links to come, those given back, and what was reached, in order, each where told; and how often a call

@@ -14,9 +14,10 @@ pub trait Listener {
     /// call has failed, at most 2^64 - 1.
     ghost tells: { Self → NetTells };
 
-    /// From now on links to this host and port can be accepted.
-    fn listen(&mut self, host: &str, port: u16) -> Result<(), Failed>
-        ensures reached { Reaches result (ListenedAt host.now port) (tells self.old).reached (tells self.new).reached }
+    /// From now on links to this host and port can be accepted. A read of such a link, and a write to it, that waits for its peer
+    /// for more than so many seconds is a failed one.
+    fn listen(&mut self, host: &str, port: u16, patience: u16) -> Result<(), Failed>
+        ensures reached { Reaches result (ListenedAt host.now port patience) (tells self.old).reached (tells self.new).reached }
         ensures links { SameLinks (tells self.old) (tells self.new) }
         ensures counted { Counts result (tells self.old).faults (tells self.new).faults };
 

@@ -12,10 +12,10 @@ use crate::streams::{Failed, Stream};
 use crate::text::{Memory, Text};
 use std::alloc::Global;
 
-/// A host and a port that were listened at, or connected to.
+/// A host and a port that were listened at with this patience, or connected to where there is none.
 #[derive(Drop)]
 pub(crate) struct Address {
-    listens: bool,
+    patience: Option<u16>,
     host: Text,
     port: u16,
 }
@@ -86,8 +86,8 @@ impl MemListener {
     }
 
     /// A host and a port that are to be reached, and room for them. Where there is no memory for that, the call fails.
-    fn prepare(&mut self, listens: bool, host: &str, port: u16) -> Result<Address, Failed>
-        ensures ok { IfOk result (λ a. reached_at a ≡ reached_of listens host.now port) }
+    fn prepare(&mut self, patience: Option<u16>, host: &str, port: u16) -> Result<Address, Failed>
+        ensures ok { IfOk result (λ a. reached_at a ≡ reached_of patience host.now port) }
         ensures room { OnOk result (vec_len self.new.reached < vec_capacity self.new.reached) }
         ensures reached { self.new.reached.items ≡ self.old.reached.items }
         ensures links { self.new.links ≡ self.old.links }
@@ -101,7 +101,7 @@ impl MemListener {
             return Err(count(&mut self.faults));
         };
         Ok(Address {
-            listens,
+            patience,
             host,
             port,
         })
@@ -132,11 +132,11 @@ impl Listener for MemListener {
       faults = s.faults;
     } };
 
-    fn listen(&mut self, host: &str, port: u16) -> Result<(), Failed> {
+    fn listen(&mut self, host: &str, port: u16, patience: u16) -> Result<(), Failed> {
         if self.script.fails() {
             return Err(count(&mut self.faults));
         }
-        let address = self.prepare(true, host, port)?;
+        let address = self.prepare(Some(patience), host, port)?;
         self.reached.push_reserved(address);
         Ok(())
     }
@@ -146,7 +146,7 @@ impl Listener for MemListener {
     }
 
     fn connect(&mut self, host: &str, port: u16) -> Result<MemLink, Failed> {
-        let address = self.prepare(false, host, port)?;
+        let address = self.prepare(None, host, port)?;
         let link = self.next()?;
         self.reached.push_reserved(address);
         Ok(link)
