@@ -20,11 +20,11 @@ module _ (least most : ℕ) (word : Text) where
       go true is = absurd (without (accepts-Accepts false (parsers.Unsigned least most) word is))
       go false is = refl
 
-  module _ {E : Type 0} (read : Result ℕ E) (fits : most < 2 ^ 32) (parses : ParsesUnsigned 32 10 word read) where
+  module _ {E : Type 0} (read : Result ℕ E) (fits : most < 2 ^ 64) (parses : ParsesUnsigned 64 10 word read) where
     pub read_within : (n : ℕ) → read ≡ Ok n → least ≤ n → n ≤ most → Some n ≡ number_between least most word
     read_within n is low high =
-        let parsed = subst (ParsesUnsigned 32 10 word) is parses in
+        let parsed = subst (ParsesUnsigned 64 10 word) is parses in
         ap (λ (m : ℕ). Some m) parsed.1 ∙ is_number (parsed.0.0, omega (arith, parsed.0.1), omega (arith, parsed.1, low), omega (arith, parsed.1, high))
 
     pub read_refused : (e : E) → read ≡ Err e → None ≡ number_between least most word
-    read_refused e is = no_number (λ within. subst (ParsesUnsigned 32 10 word) is parses (within.0, omega (arith, within.3, fits)))
+    read_refused e is = no_number (λ within. subst (ParsesUnsigned 64 10 word) is parses (within.0, omega (arith, within.3, fits)))

@@ -1,6 +1,6 @@
 -- The numbers of a command are within their ends.
 use Rattle.std.proofs.Common.{◌≡◌, ◌≤◌, ℕ, Bool, true, false, cond, List, [], ◌∷◌, Option, Some, None, refl, subst, arith}
-use Rattle.std.specs.Prelude.{codes, is_some, option_and_then, option_map}
+use Rattle.std.specs.Prelude.{◌^◌, codes, is_some, option_and_then, option_map}
 use Rattle.std.specs.Str.{bytes_eq}
 use Rattle.std.specs.Str.Parse.{digits_value, without_leading_plus}
 use Rattle.std.proofs.lemmas.Option.{none-some, same_Some}
@@ -54,22 +54,28 @@ module _ (said : Said) (it : Command) where
   call_within (Some kind) (Some host) None read is = absurd (none-some it is)
   call_within (Some kind) (Some host) (Some port) read is = subst AreNumbersWithin (same_Some _ it is) (read_within 0 65535 (said (codes "port")) port read).1
 
-  serve_within : (host : Option Text) (port workers servers connections : Option ℕ) → port_of said ≡ port → number_or 2 0 16 (said (codes "workers")) ≡ workers
+  serve_within : (host : Option Text) (port workers servers connections patience first : Option ℕ) → port_of said ≡ port → number_or 2 0 16 (said (codes "workers")) ≡ workers
       → number_or 8 1 64 (said (codes "servers")) ≡ servers → number_or 1000000 1 1000000 (said (codes "connections")) ≡ connections
-      → option_and_then (λ (h : Text). option_and_then (λ (p : ℕ). option_and_then (λ (w : ℕ). option_and_then (λ (s : ℕ). option_map (λ (c : ℕ). Serve h p w s c) connections) servers) workers) port) host ≡ Some it → AreNumbersWithin it
-  serve_within None port workers servers connections p w s c is = absurd (none-some it is)
-  serve_within (Some host) None workers servers connections p w s c is = absurd (none-some it is)
-  serve_within (Some host) (Some port) None servers connections p w s c is = absurd (none-some it is)
-  serve_within (Some host) (Some port) (Some workers) None connections p w s c is = absurd (none-some it is)
-  serve_within (Some host) (Some port) (Some workers) (Some servers) None p w s c is = absurd (none-some it is)
-  serve_within (Some host) (Some port) (Some workers) (Some servers) (Some connections) p w s c is =
-      let within : AreNumbersWithin (Serve host port workers servers connections) = (
+      → number_or 30 1 3600 (said (codes "patience")) ≡ patience → number_or 1 1 (2 ^ 62) (said (codes "first")) ≡ first
+      → option_and_then (λ (h : Text). option_and_then (λ (p : ℕ). option_and_then (λ (w : ℕ). option_and_then (λ (s : ℕ). option_and_then (λ (c : ℕ). option_and_then (λ (t : ℕ). option_map (λ (n : ℕ). Serve h p w s c t n) first) patience) connections) servers) workers) port) host ≡ Some it
+      → AreNumbersWithin it
+  serve_within None port workers servers connections patience first p w s c t n is = absurd (none-some it is)
+  serve_within (Some host) None workers servers connections patience first p w s c t n is = absurd (none-some it is)
+  serve_within (Some host) (Some port) None servers connections patience first p w s c t n is = absurd (none-some it is)
+  serve_within (Some host) (Some port) (Some workers) None connections patience first p w s c t n is = absurd (none-some it is)
+  serve_within (Some host) (Some port) (Some workers) (Some servers) None patience first p w s c t n is = absurd (none-some it is)
+  serve_within (Some host) (Some port) (Some workers) (Some servers) (Some connections) None first p w s c t n is = absurd (none-some it is)
+  serve_within (Some host) (Some port) (Some workers) (Some servers) (Some connections) (Some patience) None p w s c t n is = absurd (none-some it is)
+  serve_within (Some host) (Some port) (Some workers) (Some servers) (Some connections) (Some patience) (Some first) p w s c t n is =
+      let within : AreNumbersWithin (Serve host port workers servers connections patience first) = (
         (read_within 0 65535 (said (codes "port")) port p).1,
         (or_within 2 0 16 (said (codes "workers")) workers (omega arith) (omega arith) w).1,
         or_within 8 1 64 (said (codes "servers")) servers (omega arith) (omega arith) s,
         or_within 1000000 1 1000000 (said (codes "connections")) connections (omega arith) (omega arith) c,
+        or_within 30 1 3600 (said (codes "patience")) patience (omega arith) (omega arith) t,
+        or_within 1 1 (2 ^ 62) (said (codes "first")) first (omega arith) (omega arith) n,
       ) in
-      subst AreNumbersWithin (same_Some (Serve host port workers servers connections) it is) within
+      subst AreNumbersWithin (same_Some (Serve host port workers servers connections patience first) it is) within
 
   by_name : (session check solve generate call serve : Bool)
       → cond session (Some Session) (cond check (check_of said) (cond solve (solve_of said) (cond generate (generate_of said) (cond call (called_command said) (cond serve (serve_of said) None))))) ≡ Some it → AreNumbersWithin it
@@ -78,7 +84,8 @@ module _ (said : Said) (it : Command) where
   by_name false false true generate call serve is = solve_within (said (codes "osil")) (said (codes "options")) (is_some (said (codes "safe"))) is
   by_name false false false true call serve is = generate_within (option_and_then (number_between 1 1000) (said (codes "variables"))) refl is
   by_name false false false false true serve is = call_within (option_and_then kind_named (said (codes "name"))) (said (codes "host")) (port_of said) refl is
-  by_name false false false false false true is = serve_within (said (codes "host")) (port_of said) (number_or 2 0 16 (said (codes "workers"))) (number_or 8 1 64 (said (codes "servers"))) (number_or 1000000 1 1000000 (said (codes "connections"))) refl refl refl refl is
+  by_name false false false false false true is = serve_within (said (codes "host")) (port_of said) (number_or 2 0 16 (said (codes "workers"))) (number_or 8 1 64 (said (codes "servers"))) (number_or 1000000 1 1000000 (said (codes "connections")))
+      (number_or 30 1 3600 (said (codes "patience"))) (number_or 1 1 (2 ^ 62) (said (codes "first"))) refl refl refl refl refl refl is
   by_name false false false false false false is = absurd (none-some it is)
 
 asked_within : (faults : Kinds) (found : Option (Text × List Row)) (it : Command) → asked_with faults found ≡ Some it → AreNumbersWithin it

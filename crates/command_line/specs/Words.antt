@@ -1,5 +1,5 @@
 -- What the words of a call ask for: what clap makes of them, where it refuses none.
-use Rattle.std.specs.Prelude.{◌≡◌, ◌≤◌, ◌||◌, ℕ, Bool, true, false, List, [], ◌∷◌, Option, Some, None, codes, is_some, option_and_then, option_map, if◌then◌else◌}
+use Rattle.std.specs.Prelude.{◌≡◌, ◌≤◌, ◌||◌, ◌^◌, ℕ, Bool, true, false, List, [], ◌∷◌, Option, Some, None, codes, is_some, option_and_then, option_map, if◌then◌else◌}
 use Rattle.std.specs.Str.{bytes_eq}
 use Rattle.clap.specs.Words.{Row, Text, fault_of, first_of, subcommand_of}
 use Rattle.clap.specs.Kinds.{Kinds}
@@ -12,14 +12,15 @@ use Rattle.command_line.specs.declared.words.Asked.TheVariants as asked
 
 -- what words may ask for: a session; a check of the files of these names; the result of an instance's file with the options of
 -- another file, if one is named, and with or without the safe limit of turns; the instance of so many variables, solved; a call of the server at a host's port, with the
--- files of its parts; or a server there, with so many workers, so many conversations at once, up to so many connections
+-- files of its parts; or a server there, with so many workers, so many conversations at once, up to so many connections, of whose links
+-- each waits for its peer for so many seconds at most, and whose first job has this number
 pub data Command : Type 0 where
   Session : Command
   Check : (osil osrl : Text) → Command
   Solve : (osil : Text) → (options : Option Text) → (safe : Bool) → Command
   Generate : (variables : ℕ) → Command
   Call : (kind : CallKind) → (host : Text) → (port : ℕ) → (osil osol ospl : Option Text) → Command
-  Serve : (host : Text) → (port workers servers connections : ℕ) → Command
+  Serve : (host : Text) → (port workers servers connections patience first : ℕ) → Command
 
 -- the command that is asked for
 abbrev pub meant : Asked → Command
@@ -28,7 +29,7 @@ meant (asked.Check osil osrl) = Check osil.now osrl.now
 meant (asked.Solve osil options safe) = Solve osil.now (option_map (λ name. name.now) options) safe
 meant (asked.Generate variables) = Generate variables
 meant (asked.Call words) = Call words.kind words.host.now words.port (option_map (λ name. name.now) words.osil) (option_map (λ name. name.now) words.osol) (option_map (λ name. name.now) words.ospl)
-meant (asked.Serve words) = Serve words.host.now words.port words.workers words.servers words.connections
+meant (asked.Serve words) = Serve words.host.now words.port words.workers words.servers words.connections words.patience words.first
 
 -- ---- what a command's words mean
 
@@ -54,11 +55,12 @@ abbrev pub called_command : Said → Option Command
 called_command said = option_and_then (λ kind. option_and_then (λ host. option_map (λ port. Call kind host port (said (codes "osil")) (said (codes "osol")) (said (codes "ospl"))) (port_of said)) (said (codes "host"))) (option_and_then kind_named (said (codes "name")))
 
 -- no worker to 16, two where none are said; one to 64 conversations at once, eight where none are said; one to 1,000,000
--- connections, all of them where none are said
+-- connections, all of them where none are said; 1 to 3600 seconds, 30 where none are said; and a number from 1 to 2^62, 1 where none is said
 abbrev pub serve_of : Said → Option Command
 serve_of said =
-    option_and_then (λ host. option_and_then (λ port. option_and_then (λ workers. option_and_then (λ servers. option_map (λ connections. Serve host port workers servers connections)
-    (number_or 1000000 1 1000000 (said (codes "connections")))) (number_or 8 1 64 (said (codes "servers")))) (number_or 2 0 16 (said (codes "workers")))) (port_of said)) (said (codes "host"))
+    option_and_then (λ host. option_and_then (λ port. option_and_then (λ workers. option_and_then (λ servers. option_and_then (λ connections. option_and_then (λ patience. option_map (λ first. Serve host port workers servers connections patience first)
+    (number_or 1 1 (2 ^ 62) (said (codes "first")))) (number_or 30 1 3600 (said (codes "patience")))) (number_or 1000000 1 1000000 (said (codes "connections"))))
+    (number_or 8 1 64 (said (codes "servers")))) (number_or 2 0 16 (said (codes "workers")))) (port_of said)) (said (codes "host"))
 
 -- what a command asks for, by its name and by the texts of its words
 abbrev pub asked_by : Text → Said → Option Command
@@ -107,7 +109,9 @@ AreNumbersWithin (Check osil osrl) = Unit {0}
 AreNumbersWithin (Solve osil options safe) = Unit {0}
 AreNumbersWithin (Generate variables) = (1 ≤ variables) × (variables ≤ 1000)
 AreNumbersWithin (Call kind host port osil osol ospl) = port ≤ 65535
-AreNumbersWithin (Serve host port workers servers connections) = (port ≤ 65535) × (workers ≤ 16) × ((1 ≤ servers) × (servers ≤ 64)) × ((1 ≤ connections) × (connections ≤ 1000000))
+AreNumbersWithin (Serve host port workers servers connections patience first) =
+    (port ≤ 65535) × (workers ≤ 16) × ((1 ≤ servers) × (servers ≤ 64)) × ((1 ≤ connections) × (connections ≤ 1000000)) × ((1 ≤ patience) × (patience ≤ 3600))
+    × ((1 ≤ first) × (first ≤ 2 ^ 62))
 
 -- the command names files: a call does where one of its parts is in a file
 abbrev pub names_files : Command → Bool
@@ -116,7 +120,7 @@ names_files (Check osil osrl) = true
 names_files (Solve osil options safe) = true
 names_files (Generate variables) = false
 names_files (Call kind host port osil osol ospl) = is_some osil || (is_some osol || is_some ospl)
-names_files (Serve host port workers servers connections) = false
+names_files (Serve host port workers servers connections patience first) = false
 
 -- the command asks for links
 abbrev pub asks_for_links : Command → Bool
@@ -125,7 +129,7 @@ asks_for_links (Check osil osrl) = false
 asks_for_links (Solve osil options safe) = false
 asks_for_links (Generate variables) = false
 asks_for_links (Call kind host port osil osol ospl) = true
-asks_for_links (Serve host port workers servers connections) = true
+asks_for_links (Serve host port workers servers connections patience first) = true
 
 -- the words name no file: no command that they ask for does
 abbrev pub NamesNoFile : List Text → Type 0

@@ -2,8 +2,8 @@
 //!
 //! [`read`] says what the words ask for: `session`, `check OSIL OSRL`, `solve OSIL [--options OSOL] [--safe]`, `generate N`,
 //! `call NAME HOST PORT [--osil F] [--osol F] [--ospl F]`, or
-//! `serve HOST PORT [--workers W] [--servers S] [--connections C]`. They are read by `clap`, and what it makes of them is
-//! stated exactly (`specs/Words.antt`). The laws say which words are a command's
+//! `serve HOST PORT [--workers W] [--servers S] [--connections C] [--patience SECONDS] [--first N]`. They are read by `clap`, and
+//! what it makes of them is stated exactly (`specs/Words.antt`). The laws say which words are a command's
 //! ([`commands_have_their_words`]), and that its numbers are within their ends.
 #![tactic(auto)]
 

@@ -91,7 +91,7 @@ pub(crate) fn program<'a>(alloc: Global) -> Result<Command<'a>, Memory>
         alloc,
         "serve",
         &["host", "port"],
-        &["workers", "servers", "connections"],
+        &["workers", "servers", "connections", "patience", "first"],
         &[],
     )
 }

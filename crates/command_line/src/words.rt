@@ -29,7 +29,8 @@ pub struct CallWords<'w> {
     pub ospl: Option<&'w str>,
 }
 
-/// Where is served, by up to how many workers that run jobs, how many conversations at once, and how many connections in all.
+/// Where is served, by up to how many workers that run jobs, how many conversations at once, and how many connections in all; for how
+/// many seconds a link waits for its peer at most, and which number the first job has.
 #[derive(Clone, Copy, Debug)]
 pub struct ServeWords<'w> {
     pub host: &'w str,
@@ -37,6 +38,8 @@ pub struct ServeWords<'w> {
     pub workers: u32,
     pub servers: u32,
     pub connections: u32,
+    pub patience: u16,
+    pub first: u64,
 }
 
 /// What the words ask for.
@@ -63,24 +66,27 @@ pub enum Asked<'w> {
     /// To make a call of the server at a port of a host, with the texts of the files that are named.
     Call(CallWords<'w>),
     /// To serve at a port of a host, with up to 16 workers that run jobs beside 1 to 64 conversations at once, until 1 to
-    /// 1,000,000 connections have come.
+    /// 1,000,000 connections have come, each of which waits for its peer for 1 to 3,600 seconds at most; jobs have numbers from one
+    /// of 1 to 2^62 on.
     Serve(ServeWords<'w>),
 }
 
 /// The number that a word is, if it is one within these ends.
-fn number_in(word: &str, least: u32, most: u32) -> Option<u32>
+fn number_in(word: &str, least: u64, most: u64) -> Option<u64>
     ensures number { result ≡ number_between least most word.now }
     ensures within { IfSome result (λ n. n ≤ most) }
 {
-    match word.parse::<u32>() {
+    match word.parse::<u64>() {
         Ok(number) if least <= number && number <= most => Some(number),
         _ => None,
     }
 }
 
 /// The number that a word is, or this one where there is no word.
-fn number_or(default: u32, word: Option<&str>, least: u32, most: u32) -> Option<u32>
-    ensures { result ≡ number_or default least most (option_map (λ w. w.now) word.entry) }
+fn number_or(default: u64, word: Option<&str>, least: u64, most: u64) -> Option<u64>
+    requires { default ≤ most }
+    ensures number { result ≡ number_or default least most (option_map (λ w. w.now) word.entry) }
+    ensures within { IfSome result (λ n. n ≤ most) }
 {
     match word {
         Some(word) => number_in(word, least, most),
@@ -124,7 +130,9 @@ fn generate_of<'w>(matches: &ArgMatches<'w>) -> Option<Asked<'w>>
     ensures { option_map says.meant result ≡ says.generate_of (first_value (found_of matches.now)) }
 {
     let variables = number_in(matches.get_str("variables")?, 1, 1_000)?;
-    Some(Asked::Generate { variables })
+    Some(Asked::Generate {
+        variables: variables as u32,
+    })
 }
 
 /// The call, the server and the files that `call`'s words name.
@@ -156,12 +164,16 @@ fn serve_of<'w>(matches: &ArgMatches<'w>) -> Option<Asked<'w>>
     let workers = number_or(2, matches.get_str("workers"), 0, 16)?;
     let servers = number_or(8, matches.get_str("servers"), 1, 64)?;
     let connections = number_or(1_000_000, matches.get_str("connections"), 1, 1_000_000)?;
+    let patience = number_or(30, matches.get_str("patience"), 1, 3_600)?;
+    let first = number_or(1, matches.get_str("first"), 1, 1 << 62)?;
     Some(Asked::Serve(ServeWords {
         host,
         port,
-        workers,
-        servers,
-        connections,
+        workers: workers as u32,
+        servers: servers as u32,
+        connections: connections as u32,
+        patience: patience as u16,
+        first,
     }))
 }
 
