@@ -33,34 +33,34 @@ greater_is n m h = grind (arith, nat_tests)
 
 pub rise_le : (low : ℕ) (jobs : HeldJobs) (high : ℕ) → Rise low jobs high → low ≤ high
 rise_le low [] high rise = rise
-rise_le low (e ∷ es) high rise = omega (arith, rise.0, rise_le e.0 es high rise.1)
+rise_le low (e ∷ es) high rise = omega (arith, rise.0, rise_le (e.0 + 1) es high rise.1)
 
 pub rise_low : (a b : ℕ) (jobs : HeldJobs) (high : ℕ) → a ≤ b → Rise b jobs high → Rise a jobs high
 rise_low a b [] high le rise = omega (arith, le, rise)
 rise_low a b (e ∷ es) high le rise = (omega (arith, le, rise.0), rise.1)
 
-pub rise_below : (low n : ℕ) (jobs : HeldJobs) (high : ℕ) → high < n → Rise low jobs high → Below n jobs
+pub rise_below : (low n : ℕ) (jobs : HeldJobs) (high : ℕ) → high ≤ n → Rise low jobs high → Below n jobs
 rise_below low n [] high h rise = tt
 rise_below low n (e ∷ es) high h rise =
-    (omega (arith, h, rise_le e.0 es high rise.1), rise_below e.0 n es high h rise.1)
+    (omega (arith, h, rise_le (e.0 + 1) es high rise.1), rise_below (e.0 + 1) n es high h rise.1)
 
 pub none_below : (n : ℕ) (jobs : HeldJobs) → Below n jobs → phase_of n jobs ≡ None
 none_below n [] below = refl
 none_below n (e ∷ es) below =
     ap (λ b. cond b (Some e.1) (phase_of n es)) (above_apart n e.0 below.0) ∙ none_below n es below.1
 
-none_above : (n low : ℕ) (jobs : HeldJobs) (high : ℕ) → n ≤ low → Rise low jobs high → phase_of n jobs ≡ None
+none_above : (n low : ℕ) (jobs : HeldJobs) (high : ℕ) → n < low → Rise low jobs high → phase_of n jobs ≡ None
 none_above n low [] high le rise = refl
 none_above n low (e ∷ es) high le rise =
     ap (λ b. cond b (Some e.1) (phase_of n es)) (below_apart n e.0 (omega (arith, le, rise.0)))
-    ∙ none_above n e.0 es high (omega (arith, le, rise.0)) rise.1
+    ∙ none_above n (e.0 + 1) es high (omega (arith, le, rise.0)) rise.1
 
 -- the numbers go on rising
-pub rise_more : (low high : ℕ) (w : Phase) (jobs : HeldJobs) → Rise low jobs high → Rise low (jobs ++ (high + 1, w) ∷ []) (high + 1)
-rise_more low high w [] rise = (omega (arith, rise), omega arith)
-rise_more low high w (e ∷ es) rise = (rise.0, rise_more e.0 high w es rise.1)
+pub rise_more : (low high : ℕ) (w : Phase) (jobs : HeldJobs) → Rise low jobs high → Rise low (jobs ++ (high, w) ∷ []) (high + 1)
+rise_more low high w [] rise = (rise, omega arith)
+rise_more low high w (e ∷ es) rise = (rise.0, rise_more (e.0 + 1) high w es rise.1)
 
-rise_set : (n low high : ℕ) (w : Phase) (b : Bool) (e : ℕ × Phase) (es es' : HeldJobs) → low < e.0 → Rise e.0 es high → Rise e.0 es' high
+rise_set : (n low high : ℕ) (w : Phase) (b : Bool) (e : ℕ × Phase) (es es' : HeldJobs) → low ≤ e.0 → Rise (e.0 + 1) es high → Rise (e.0 + 1) es' high
     → Rise low (cond b ((e.0, w) ∷ es) (e ∷ es')) high
 rise_set n low high w true e es es' above rise rise' = (above, rise)
 rise_set n low high w false e es es' above rise rise' = (above, rise')
@@ -68,17 +68,17 @@ rise_set n low high w false e es es' above rise rise' = (above, rise')
 pub rise_with : (n low high : ℕ) (w : Phase) (jobs : HeldJobs) → Rise low jobs high → Rise low (with_phase n w jobs) high
 rise_with n low high w [] rise = rise
 rise_with n low high w (e ∷ es) rise =
-    rise_set n low high w (nat_eq n e.0) e es (with_phase n w es) rise.0 rise.1 (rise_with n e.0 high w es rise.1)
+    rise_set n low high w (nat_eq n e.0) e es (with_phase n w es) rise.0 rise.1 (rise_with n (e.0 + 1) high w es rise.1)
 
-rise_cut : (n low high : ℕ) (b : Bool) (e : ℕ × Phase) (es es' : HeldJobs) → low < e.0 → Rise e.0 es high → Rise e.0 es' high
+rise_cut : (n low high : ℕ) (b : Bool) (e : ℕ × Phase) (es es' : HeldJobs) → low ≤ e.0 → Rise (e.0 + 1) es high → Rise (e.0 + 1) es' high
     → Rise low (cond b es (e ∷ es')) high
-rise_cut n low high true e es es' above rise rise' = rise_low low e.0 es high (omega (arith, above)) rise
+rise_cut n low high true e es es' above rise rise' = rise_low low (e.0 + 1) es high (omega (arith, above)) rise
 rise_cut n low high false e es es' above rise rise' = (above, rise')
 
 pub rise_without : (n low high : ℕ) (jobs : HeldJobs) → Rise low jobs high → Rise low (without n jobs) high
 rise_without n low high [] rise = rise
 rise_without n low high (e ∷ es) rise =
-    rise_cut n low high (nat_eq n e.0) e es (without n es) rise.0 rise.1 (rise_without n e.0 high es rise.1)
+    rise_cut n low high (nat_eq n e.0) e es (without n es) rise.0 rise.1 (rise_without n (e.0 + 1) high es rise.1)
 
 -- what a change leaves under each number
 pub phase_with : (q n : ℕ) (w : Phase) (jobs : HeldJobs) → IsSome (phase_of n jobs)
@@ -109,10 +109,10 @@ either_same : (b : Bool) (one : Option Phase) → one ≡ cond b one one
 either_same true one = refl
 either_same false one = refl
 
-gone_here : (q n : ℕ) (e : ℕ × Phase) (es : HeldJobs) (high : ℕ) (b : Bool) → nat_eq n q ≡ b → nat_eq n e.0 ≡ true → Rise e.0 es high
+gone_here : (q n : ℕ) (e : ℕ × Phase) (es : HeldJobs) (high : ℕ) (b : Bool) → nat_eq n q ≡ b → nat_eq n e.0 ≡ true → Rise (e.0 + 1) es high
     → phase_of q es ≡ cond b None (cond (nat_eq q e.0) (Some e.1) (phase_of q es))
 gone_here q n e es high true same at rise =
-    none_above q e.0 es high (omega (arith, same_number n q same, same_number n e.0 at)) rise
+    none_above q (e.0 + 1) es high (omega (arith, same_number n q same, same_number n e.0 at)) rise
 gone_here q n e es high false other at rise = sym (ap (λ b. cond b (Some e.1) (phase_of q es)) (other_from q n e.0 other at))
 
 gone_later : (q n : ℕ) (e : ℕ × Phase) (rest : Option Phase) (b c : Bool) → nat_eq n q ≡ b → nat_eq q e.0 ≡ c → nat_eq n e.0 ≡ false
@@ -122,7 +122,7 @@ gone_later q n e rest false true same also other = refl
 gone_later q n e rest true false same also other = refl
 gone_later q n e rest false false same also other = refl
 
-gone_step : (q n : ℕ) (e : ℕ × Phase) (es : HeldJobs) (high : ℕ) (b : Bool) → nat_eq n e.0 ≡ b → Rise e.0 es high
+gone_step : (q n : ℕ) (e : ℕ × Phase) (es : HeldJobs) (high : ℕ) (b : Bool) → nat_eq n e.0 ≡ b → Rise (e.0 + 1) es high
     → phase_of q (without n es) ≡ cond (nat_eq n q) None (phase_of q es)
     → phase_of q (cond b es (e ∷ without n es)) ≡ cond (nat_eq n q) None (phase_of q (e ∷ es))
 gone_step q n e es high true at rise h = gone_here q n e es high (nat_eq n q) refl at rise
@@ -133,7 +133,7 @@ pub phase_without : (q n low : ℕ) (jobs : HeldJobs) (high : ℕ) → Rise low 
     → phase_of q (without n jobs) ≡ cond (nat_eq n q) None (phase_of q jobs)
 phase_without q n low [] high rise = either_same (nat_eq n q) None
 phase_without q n low (e ∷ es) high rise =
-    gone_step q n e es high (nat_eq n e.0) refl rise.1 (phase_without q n e.0 es high rise.1)
+    gone_step q n e es high (nat_eq n e.0) refl rise.1 (phase_without q n (e.0 + 1) es high rise.1)
 
 -- a job that is held: those before it have lower numbers, those behind it higher ones
 pub record Stands (n : ℕ) (x : Phase) (low : ℕ) (jobs : HeldJobs) (high : ℕ) : Type 0 where
@@ -141,11 +141,11 @@ pub record Stands (n : ℕ) (x : Phase) (low : ℕ) (jobs : HeldJobs) (high : �
   pub behind : HeldJobs
   pub is : jobs ≡ front ++ (n, x) ∷ behind
   pub below : Below n front
-  pub rise : Rise n behind high
-  pub above : low < n
+  pub rise : Rise (n + 1) behind high
+  pub above : low ≤ n
 
-stands_step : (n : ℕ) (x : Phase) (low : ℕ) (e : ℕ × Phase) (es : HeldJobs) (high : ℕ) (b : Bool) → nat_eq n e.0 ≡ b → low < e.0 → Rise e.0 es high
-    → (phase_of n es ≡ Some x → Stands n x e.0 es high) → cond b (Some e.1) (phase_of n es) ≡ Some x → Stands n x low (e ∷ es) high
+stands_step : (n : ℕ) (x : Phase) (low : ℕ) (e : ℕ × Phase) (es : HeldJobs) (high : ℕ) (b : Bool) → nat_eq n e.0 ≡ b → low ≤ e.0 → Rise (e.0 + 1) es high
+    → (phase_of n es ≡ Some x → Stands n x (e.0 + 1) es high) → cond b (Some e.1) (phase_of n es) ≡ Some x → Stands n x low (e ∷ es) high
 stands_step n x low e es high true is above rise f at =
     let same : e.0 ≡ n = sym (same_number n e.0 is) in
     let here : e.1 ≡ x = cc in
@@ -154,8 +154,8 @@ stands_step n x low e es high true is above rise f at =
       behind = es;
       is = ap (λ k. (k, e.1) ∷ es) same ∙ ap (λ y. (n, y) ∷ es) here;
       below = tt;
-      rise = subst (λ (k : ℕ). Rise k es high) same rise;
-      above = subst (λ (k : ℕ). low < k) same above;
+      rise = subst (λ (k : ℕ). Rise (k + 1) es high) same rise;
+      above = subst (λ (k : ℕ). low ≤ k) same above;
     }
 stands_step n x low e es high false is above rise f at =
     let rest = f at in
@@ -163,7 +163,7 @@ stands_step n x low e es high false is above rise f at =
       front = e ∷ rest.front;
       behind = rest.behind;
       is = ap (λ s. e ∷ s) rest.is;
-      below = (rest.above, rest.below);
+      below = (omega (arith, rest.above), rest.below);
       rise = rest.rise;
       above = omega (arith, above, rest.above);
     }
@@ -171,7 +171,7 @@ stands_step n x low e es high false is above rise f at =
 pub stands : (n : ℕ) (x : Phase) (low : ℕ) (jobs : HeldJobs) (high : ℕ) → Rise low jobs high → phase_of n jobs ≡ Some x → Stands n x low jobs high
 stands n x low [] high rise at = cc
 stands n x low (e ∷ es) high rise at =
-    stands_step n x low e es high (nat_eq n e.0) refl rise.0 rise.1 (stands n x e.0 es high rise.1) at
+    stands_step n x low e es high (nat_eq n e.0) refl rise.0 rise.1 (stands n x (e.0 + 1) es high rise.1) at
 
 -- what a change leaves there
 pub with_there : (n : ℕ) (x w : Phase) (front behind : HeldJobs) → Below n front

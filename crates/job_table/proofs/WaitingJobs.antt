@@ -14,7 +14,7 @@ use Rattle.job_table.specs.declared.job.Job.{Job}
 use Rattle.job_table.specs.Jobs.{HeldJobs, job, phase_of, with_phase, without, is_waiting, is_running, waiting_jobs, running_jobs, or_waiting, first_waiting, IsFirstWaiting, Rise, Below}
 use Rattle.job_table.specs.WaitingJobs.{waiting_numbers, place_among, placed_among, taken, renewed, Climb, IsKept}
 use Rattle.job_table.specs.Steps.{most_jobs}
-use Rattle.job_table.proofs.JobLists.{above_apart, Stands, stands, with_there, without_there, rise_more, rise_with, rise_without, rise_below}
+use Rattle.job_table.proofs.JobLists.{above_apart, Stands, stands, with_there, without_there, rise_low, rise_more, rise_with, rise_without, rise_below}
 
 -- numbers that are all below one
 abbrev Under : ℕ → List ℕ → Type 0
@@ -73,11 +73,11 @@ climb_low a b [] le climb = tt
 climb_low a b (n ∷ ns) le climb = (omega (arith, le, climb.0), climb.1)
 
 -- the numbers of those that wait rise
-pub climbs : (low : ℕ) (jobs : HeldJobs) (high : ℕ) → Rise low jobs high → Climb low (waiting_numbers jobs)
+pub climbs : (low : ℕ) (jobs : HeldJobs) (high : ℕ) → Rise (low + 1) jobs high → Climb low (waiting_numbers jobs)
 climbs low [] high rise = tt
 climbs low (e ∷ es) high rise =
     elim (is_waiting e.1) as (λ b. Climb low (cond b (e.0 ∷ waiting_numbers es) (waiting_numbers es))) [
-      | true ↦ (rise.0, climbs e.0 es high rise.1)
+      | true ↦ (omega (arith, rise.0), climbs e.0 es high rise.1)
       | false ↦ climb_low low e.0 (waiting_numbers es) (omega (arith, rise.0)) (climbs e.0 es high rise.1)
     ]
 
@@ -145,9 +145,9 @@ waiting_by n w front behind = waiting_split front ((n, w) ∷ behind)
 few_waiting : (jobs : HeldJobs) → length (waiting_numbers jobs) ≤ length jobs
 few_waiting jobs = omega (arith, waiting_count jobs, both_few jobs)
 
-module _ (jobs : HeldJobs) (issued : ℕ) (waiting : List ℕ) (room running : ℕ) (kept : IsKept jobs issued waiting room running) where
+module _ (jobs : HeldJobs) (first next : ℕ) (waiting : List ℕ) (room running : ℕ) (kept : IsKept jobs first next waiting room running) where
   pub rises : Climb 0 waiting
-  rises = subst (λ (ns : List ℕ). Climb 0 ns) (sym kept.waiting_is) (climbs 0 jobs issued kept.rise)
+  rises = subst (λ (ns : List ℕ). Climb 0 ns) (sym kept.waiting_is) (climbs 0 jobs next (rise_low 1 first jobs next kept.begins kept.rise))
 
   pub few_run : running < 2 ^ 32 - 1
   few_run = omega (arith, kept.running_is, both_few jobs, kept.few)
@@ -162,8 +162,8 @@ module _ (jobs : HeldJobs) (issued : ℕ) (waiting : List ℕ) (room running : �
   waiting_few = subst (λ (ns : List ℕ). length ns ≤ length jobs) (sym kept.waiting_is) (few_waiting jobs)
 
   module _ (n : ℕ) (x : Phase) (at : phase_of n jobs ≡ Some x) where
-    here : Stands n x 0 jobs issued
-    here = stands n x 0 jobs issued kept.rise at
+    here : Stands n x first jobs next
+    here = stands n x first jobs next kept.rise at
 
     waiting_here : waiting ≡ waiting_numbers here.front ++ cond (is_waiting x) (n ∷ waiting_numbers here.behind) (waiting_numbers here.behind)
     waiting_here = kept.waiting_is ∙ ap waiting_numbers here.is ∙ waiting_by n x here.front here.behind
@@ -195,7 +195,7 @@ module _ (jobs : HeldJobs) (issued : ℕ) (waiting : List ℕ) (room running : �
 
     -- another phase
     pub kept_put : (w : Phase) (waiting' : List ℕ) (room' running' : ℕ) → waiting' ≡ renewed n (is_waiting x) (is_waiting w) waiting → room ≤ room'
-        → running' + cond (is_running x) 1 0 ≡ running + cond (is_running w) 1 0 → IsKept (with_phase n w jobs) issued waiting' room' running'
+        → running' + cond (is_running x) 1 0 ≡ running + cond (is_running w) 1 0 → IsKept (with_phase n w jobs) first next waiting' room' running'
     kept_put w waiting' room' running' waits more runs =
         let put : with_phase n w jobs ≡ here.front ++ (n, w) ∷ here.behind =
         ap (with_phase n w) here.is ∙ with_there n x w here.front here.behind here.below in
@@ -206,11 +206,13 @@ module _ (jobs : HeldJobs) (issued : ℕ) (waiting : List ℕ) (room running : �
         let many : length (with_phase n w jobs) ≡ length jobs =
         ap length put ∙ length-append here.front ((n, w) ∷ here.behind) ∙ sym (ap length here.is ∙ length-append here.front ((n, x) ∷ here.behind)) in
         record {
-          rise = rise_with n 0 issued w jobs kept.rise;
+          begins = kept.begins;
+          fits = kept.fits;
+          rise = rise_with n first next w jobs kept.rise;
           waiting_is =
               waits ∙ ap (renewed n (is_waiting x) (is_waiting w)) waiting_here
               ∙ renewed_is n (is_waiting x) (is_waiting w) (waiting_numbers here.front) (waiting_numbers here.behind)
-              (under_is n here.front here.below) (climbs n here.behind issued here.rise)
+              (under_is n here.front here.below) (climbs n here.behind next here.rise)
               ∙ sym (ap waiting_numbers put ∙ waiting_by n w here.front here.behind);
           room_is = omega (arith, many, kept.room_is, more);
           running_is = omega (arith, before, after, runs);
@@ -218,7 +220,7 @@ module _ (jobs : HeldJobs) (issued : ℕ) (waiting : List ℕ) (room running : �
         }
 
     -- a job that neither waits nor runs is given up
-    kept_gone : is_waiting x ≡ false → is_running x ≡ false → IsKept (without n jobs) issued waiting room running
+    kept_gone : is_waiting x ≡ false → is_running x ≡ false → IsKept (without n jobs) first next waiting room running
     kept_gone waits runs =
         let cut : without n jobs ≡ here.front ++ here.behind =
         ap (without n) here.is ∙ without_there n x here.front here.behind here.below in
@@ -230,7 +232,9 @@ module _ (jobs : HeldJobs) (issued : ℕ) (waiting : List ℕ) (room running : �
         let all : length jobs ≡ length here.front + length ((n, x) ∷ here.behind) = ap length here.is ∙ length-append here.front ((n, x) ∷ here.behind) in
         let fewer : length (without n jobs) ≡ length here.front + length here.behind = ap length cut ∙ length-append here.front here.behind in
         record {
-          rise = rise_without n 0 issued jobs kept.rise;
+          begins = kept.begins;
+          fits = kept.fits;
+          rise = rise_without n first next jobs kept.rise;
           waiting_is =
               waiting_here ∙ ap (λ b. waiting_numbers here.front ++ cond b (n ∷ waiting_numbers here.behind) (waiting_numbers here.behind)) waits
               ∙ sym (ap waiting_numbers cut ∙ waiting_split here.front here.behind);
@@ -240,22 +244,24 @@ module _ (jobs : HeldJobs) (issued : ℕ) (waiting : List ℕ) (room running : �
         }
 
   pub gone_is : (n : ℕ) (q : Option Phase) → phase_of n jobs ≡ q → IsSomeAnd q (λ x. (is_waiting x ≡ false) × (is_running x ≡ false))
-      → IsKept (without n jobs) issued waiting room running
+      → IsKept (without n jobs) first next waiting room running
   gone_is n (Some x) at over = kept_gone n x at over.0 over.1
   gone_is n None at over = absurd over
 
   -- a new job
-  pub kept_add : (w : Phase) (room' running' : ℕ) → is_waiting w ≡ false → length jobs < most_jobs → length jobs + 1 ≤ room'
-      → running' + 0 ≡ running + cond (is_running w) 1 0 → IsKept (jobs ++ (issued + 1, w) ∷ []) (issued + 1) waiting room' running'
-  kept_add w room' running' waits less more runs =
-      let many : length (jobs ++ (issued + 1, w) ∷ []) ≡ length jobs + 1 = length-append jobs ((issued + 1, w) ∷ []) in
+  pub kept_add : (w : Phase) (room' running' : ℕ) → is_waiting w ≡ false → next < 2 ^ 63 → length jobs < most_jobs → length jobs + 1 ≤ room'
+      → running' + 0 ≡ running + cond (is_running w) 1 0 → IsKept (jobs ++ (next, w) ∷ []) first (next + 1) waiting room' running'
+  kept_add w room' running' waits below less more runs =
+      let many : length (jobs ++ (next, w) ∷ []) ≡ length jobs + 1 = length-append jobs ((next, w) ∷ []) in
       record {
-        rise = rise_more 0 issued w jobs kept.rise;
+        begins = kept.begins;
+        fits = omega (arith, below);
+        rise = rise_more first next w jobs kept.rise;
         waiting_is =
             kept.waiting_is
-            ∙ sym (waiting_by (issued + 1) w jobs [] ∙ ap (λ b. waiting_numbers jobs ++ cond b ((issued + 1) ∷ []) []) waits ∙ nothing_more (waiting_numbers jobs));
+            ∙ sym (waiting_by next w jobs [] ∙ ap (λ b. waiting_numbers jobs ++ cond b (next ∷ []) []) waits ∙ nothing_more (waiting_numbers jobs));
         room_is = omega (arith, many, more);
-        running_is = omega (arith, counts is_running (issued + 1) w jobs [], kept.running_is, runs);
+        running_is = omega (arith, counts is_running next w jobs [], kept.running_is, runs);
         few = omega (arith, many, less);
       }
     where
@@ -264,8 +270,8 @@ module _ (jobs : HeldJobs) (issued : ℕ) (waiting : List ℕ) (room running : �
       nothing_more (m ∷ ms) = ap (λ s. m ∷ s) (nothing_more ms)
 
   -- the new number is above all that are held
-  pub all_below : Below (issued + 1) jobs
-  all_below = rise_below 0 (issued + 1) jobs issued (omega arith) kept.rise
+  pub all_below : Below next jobs
+  all_below = rise_below first next jobs next (omega arith) kept.rise
 
 -- the first number is that of the first job that waits
 not_first : (n : ℕ) (x : Phase) (other : Option Job) → is_waiting x ≡ false → or_waiting n x other ≡ other
@@ -280,18 +286,18 @@ head_of [] = 0
 head_of (n ∷ ns) = n
 
 -- a job that doesn't wait is passed over
-passed : (n : ℕ) (e : ℕ × Phase) (es : HeldJobs) (high : ℕ) (x : Phase) → e.1 ≡ x → is_waiting x ≡ false → Rise e.0 es high → IsFirstWaiting n es
+passed : (n : ℕ) (e : ℕ × Phase) (es : HeldJobs) (high : ℕ) (x : Phase) → e.1 ≡ x → is_waiting x ≡ false → Rise (e.0 + 1) es high → IsFirstWaiting n es
     → IsFirstWaiting n (e ∷ es)
 passed n e es high x is waits rise next =
-    let s = stands n (Waiting next.osil next.osol) e.0 es high rise next.waits in
+    let s = stands n (Waiting next.osil next.osol) (e.0 + 1) es high rise next.waits in
     record {
       osil = next.osil;
       osol = next.osol;
-      waits = ap (λ b. cond b (Some e.1) (phase_of n es)) (above_apart n e.0 s.above) ∙ next.waits;
+      waits = ap (λ b. cond b (Some e.1) (phase_of n es)) (above_apart n e.0 (omega (arith, s.above))) ∙ next.waits;
       first = not_first e.0 e.1 (first_waiting es) (ap is_waiting is ∙ waits) ∙ next.first;
     }
 
-first_step : (n : ℕ) (rest : List ℕ) (e : ℕ × Phase) (es : HeldJobs) (high : ℕ) (x : Phase) → e.1 ≡ x → Rise e.0 es high
+first_step : (n : ℕ) (rest : List ℕ) (e : ℕ × Phase) (es : HeldJobs) (high : ℕ) (x : Phase) → e.1 ≡ x → Rise (e.0 + 1) es high
     → (waiting_numbers es ≡ n ∷ rest → IsFirstWaiting n es) → cond (is_waiting x) (e.0 ∷ waiting_numbers es) (waiting_numbers es) ≡ n ∷ rest
     → IsFirstWaiting n (e ∷ es)
 unfolding head_of
@@ -314,7 +320,7 @@ first_step n rest e es high Killed is rise f h = passed n e es high Killed is re
 pub first_is : (low : ℕ) (jobs : HeldJobs) (high : ℕ) → Rise low jobs high → (n : ℕ) (rest : List ℕ) → waiting_numbers jobs ≡ n ∷ rest → IsFirstWaiting n jobs
 first_is low [] high rise n rest h = cc
 first_is low (e ∷ es) high rise n rest h =
-    first_step n rest e es high e.1 refl rise.1 (first_is e.0 es high rise.1 n rest) h
+    first_step n rest e es high e.1 refl rise.1 (first_is (e.0 + 1) es high rise.1 n rest) h
 
 none_step : (e : ℕ × Phase) (es : HeldJobs) (b : Bool) → is_waiting e.1 ≡ b → (waiting_numbers es ≡ [] → first_waiting es ≡ None)
     → cond b (e.0 ∷ waiting_numbers es) (waiting_numbers es) ≡ [] → first_waiting (e ∷ es) ≡ None

@@ -1,5 +1,5 @@
 -- The numbers of the jobs that wait, which rise, and what the table counts beside its jobs.
-use Rattle.std.specs.Prelude.{◌≡◌, ℕ, ◌<◌, ◌≤◌, nat_lt, Bool, true, false, List, [], ◌∷◌, length, insert, remove, if◌then◌else◌}
+use Rattle.std.specs.Prelude.{◌≡◌, ℕ, ◌^◌, ◌<◌, ◌≤◌, nat_lt, Bool, true, false, List, [], ◌∷◌, length, insert, remove, if◌then◌else◌}
 use Rattle.std.specs.List.{prefix_len}
 use Rattle.job_table.specs.Jobs.{HeldJobs, Rise, is_waiting, running_jobs}
 use Rattle.job_table.specs.Steps.{most_jobs}
@@ -33,10 +33,12 @@ abbrev pub Climb : ℕ → List ℕ → Type 0
 Climb low [] = Unit {0}
 Climb low (n ∷ numbers) = (low < n) × Climb n numbers
 
--- what the table keeps beside its jobs: their numbers rise up to the last one given, the numbers of those that wait stand in
--- order in a list with room for all that are held, and those that run are counted
-pub record IsKept (jobs : HeldJobs) (issued : ℕ) (waiting : List ℕ) (room : ℕ) (running : ℕ) : Type 0 where
-  pub rise : Rise 0 jobs issued
+-- what the table keeps beside its jobs: their numbers rise from the first one on, below the next one, the numbers of those that wait
+-- stand in order in a list with room for all that are held, and those that run are counted
+pub record IsKept (jobs : HeldJobs) (first next : ℕ) (waiting : List ℕ) (room : ℕ) (running : ℕ) : Type 0 where
+  pub begins : 1 ≤ first
+  pub fits : next ≤ 2 ^ 63
+  pub rise : Rise first jobs next
   pub waiting_is : waiting ≡ waiting_numbers jobs
   pub room_is : length jobs ≤ room
   pub running_is : running ≡ running_jobs jobs

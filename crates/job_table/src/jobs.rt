@@ -4,7 +4,7 @@ ghost use Rattle.std.specs.Prelude.{◌≡◌, ℕ, List, ◌+◌, ◌-◌, ◌<
 ghost use Rattle.std.specs.Option.{option_copied};
 ghost use Rattle.job_table.specs.declared.calls.Reply.{Reply};
 ghost use Rattle.job_table.specs.declared.job.Phase.TheVariants.{Running};
-ghost use Rattle.job_table.specs.Jobs.{Register, empty, Rise, phase_of, with_phase, without, state_of, is_waiting, is_running, states, waiting_jobs, running_jobs, first_waiting, IsFirstWaiting, Below};
+ghost use Rattle.job_table.specs.Jobs.{Register, beginning, next_number, Rise, phase_of, with_phase, without, state_of, is_waiting, is_running, states, waiting_jobs, running_jobs, first_waiting, IsFirstWaiting, Below};
 ghost use Rattle.job_table.specs.Steps.{most_jobs, last_number, with_new, moved, forgotten, adds, added_reply, LeadsBy, claims, kills, outcome};
 
 use crate::calls::{IssueFault, JobStates};
@@ -18,10 +18,11 @@ use std::marker::Model;
 /// The most jobs that are held.
 const MOST_JOBS: usize = 10_000;
 
-/// The last number.
+/// The last number that is given.
 const LAST_NUMBER: u64 = (1 << 63) - 1;
 
-/// The jobs that are held. Contracts see them in order of issue, how many numbers were given, and how many workers are enlisted.
+/// The jobs that are held. Contracts see the number with which numbers begin, the jobs in order of issue, how many numbers were
+/// given, and how many workers are enlisted.
 #[derive(Drop)]
 pub(crate) struct Jobs {
     /// Numbers rise with the order of issue, so this is that order, also after a record was given up.
@@ -30,20 +31,23 @@ pub(crate) struct Jobs {
     waiting: VecDeque<u64>,
     /// How many run.
     running: u32,
+    /// The number of the first job.
+    first: u64,
     issued: u64,
     workers: u32,
 }
 
 impl Model for Jobs {
+    ghost use Rattle.std.specs.Prelude.{◌+◌};
     ghost use Rattle.std.specs.VecDeque.{deque_capacity};
     ghost use Rattle.job_table.specs.Jobs.{Register};
     ghost use Rattle.job_table.specs.WaitingJobs.{IsKept};
 
     ghost Value = { Register };
 
-    ghost view = { λ j. record { jobs = j.phases.entries; issued = j.issued; workers = j.workers } };
+    ghost view = { λ j. record { first = j.first; jobs = j.phases.entries; issued = j.issued; workers = j.workers } };
 
-    ghost invariant = { λ j. IsKept j.phases.entries j.issued j.waiting.items (deque_capacity j.waiting) j.running };
+    ghost invariant = { λ j. IsKept j.phases.entries j.first (j.first + j.issued) j.waiting.items (deque_capacity j.waiting) j.running };
 }
 
 /// What is told of a phase.
@@ -118,13 +122,16 @@ fn recount(running: u32, ran: bool, runs: bool) -> u32
 }
 
 impl Jobs {
-    pub(crate) fn new(alloc: Global) -> Jobs
-        ensures { result ≡ empty }
+    pub(crate) fn new(alloc: Global, first: u64) -> Jobs
+        requires some { 1 ≤ first }
+        requires within { first ≤ 2 ^ 62 }
+        ensures { result ≡ beginning first }
     {
         Jobs {
             phases: BTreeMap::new(alloc),
             waiting: VecDeque::new(alloc),
             running: 0,
+            first,
             issued: 0,
             workers: 0,
         }
@@ -193,14 +200,15 @@ impl Jobs {
     /// A new job, which has the next number.
     pub(crate) fn add(&mut self, phase: Phase) -> Result<u64, IssueFault>
         requires { is_waiting phase ≡ false }
-        ensures number { IfOk result (λ number. number ≡ self.old.issued + 1) }
+        ensures number { IfOk result (λ number. number ≡ next_number self.old) }
         ensures added { (said : Reply) → LeadsBy (adds phase said self.old) self.old (added_reply (λ _. said) result) self.new }
     {
         let held = self.phases.len();
         if held >= MOST_JOBS {
             return Err(IssueFault::Full);
         }
-        if self.issued >= LAST_NUMBER {
+        let number = self.first + self.issued;
+        if number > LAST_NUMBER {
             return Err(IssueFault::Spent);
         }
         match make_room(&mut self.waiting, held + 1) {
@@ -208,13 +216,13 @@ impl Jobs {
             Err(_) => return Err(IssueFault::Memory),
         }
         let runs = is_running(&phase);
-        match append(&mut self.phases, self.issued + 1, phase) {
+        match append(&mut self.phases, number, phase) {
             Ok(()) => {}
             Err(_) => return Err(IssueFault::Memory),
         }
         self.issued += 1;
         self.running = recount(self.running, false, runs);
-        Ok(self.issued)
+        Ok(number)
     }
 
     /// Puts a job that is held into another phase, and gives the one before. It takes no memory.

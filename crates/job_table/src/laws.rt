@@ -1,4 +1,4 @@
-//! What holds of every history of calls from the empty table on.
+//! What holds of every history of calls from an empty table on, whatever its numbers begin with.
 
 ghost use Rattle.job_table.specs.Laws.{GivenJobsRun, NumbersAreGivenOnce, FirstFinishIsKept, RetrievedDocumentsAreRight};
 

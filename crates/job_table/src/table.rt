@@ -1,7 +1,7 @@
 //! The table.
 
-ghost use Rattle.std.specs.Prelude.{◌≡◌, List, ℕ, Some, None, true, IfOk, OnErr, IsSome};
-ghost use Rattle.job_table.specs.Jobs.{Register, empty, phase_of};
+ghost use Rattle.std.specs.Prelude.{◌≡◌, ◌≤◌, ◌^◌, List, ℕ, Some, None, true, IfOk, OnErr, IsSome};
+ghost use Rattle.job_table.specs.Jobs.{Register, beginning, phase_of};
 ghost use Rattle.job_table.specs.Steps.{May, Step, Follows, fits, has_document, wants_memory, row_of_move, outcome, added_reply, kills, is_marked};
 
 use crate::calls::{Call, Finish, IssueFault, Killing, Reply, Retrieved, Statistics, Verdicts};
@@ -12,8 +12,8 @@ use os_io::Memory;
 use std::alloc::Global;
 use std::marker::{Model, PhantomData};
 
-/// The table of jobs. Contracts see the jobs that are held, in order of issue, how many numbers were given, and how many workers
-/// are enlisted. What finds no memory leaves the table as it was.
+/// The table of jobs. Contracts see the number with which its numbers begin, the jobs that are held, in order of issue, how many
+/// numbers were given, and how many workers are enlisted. What finds no memory leaves the table as it was.
 #[derive(Drop)]
 pub struct Table<V: Verdicts> {
     alloc: Global,
@@ -30,13 +30,15 @@ impl<V: Verdicts> Model for Table<V> {
 }
 
 impl<V: Verdicts> Table<V> {
-    /// The empty table.
-    pub fn new(alloc: Global) -> Table<V>
-        ensures { result ≡ empty }
+    /// The empty table whose numbers begin with this one.
+    pub fn new(alloc: Global, first: u64) -> Table<V>
+        requires some { 1 ≤ first }
+        requires within { first ≤ 2 ^ 62 }
+        ensures { result ≡ beginning first }
     {
         Table {
             alloc,
-            jobs: Jobs::new(alloc),
+            jobs: Jobs::new(alloc, first),
             verdicts: PhantomData,
         }
     }
