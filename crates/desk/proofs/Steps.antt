@@ -8,7 +8,7 @@ use lib.ListN.{get_elem?}
 use prog.Atomic.{either}
 use Rattle.atomic_table.specs.Table.{opening, State, Me, step, keeps, takes, gives, stepped, Allows, put_back, rest}
 use Rattle.atomic_table.proofs.Lists.{at_set, set_here, set_else, set_again}
-use Rattle.job_table.specs.Jobs.{Register, empty}
+use Rattle.job_table.specs.Jobs.{Register, beginning}
 use Rattle.job_table.specs.Steps.{Step as Step_of}
 use Rattle.job_table.specs.declared.calls.Call.{Call}
 use Rattle.job_table.specs.declared.calls.Reply.{Reply}
@@ -18,7 +18,7 @@ use Rattle.desk.specs.declared.view.Met.{Met}
 use Rattle.desk.specs.declared.view.View.{View}
 use Rattle.desk.specs.declared.view.Turn.{Turn}
 use Rattle.desk.specs.declared.view.Turn.TheVariants.{Idle, Waiting, Served}
-use Rattle.desk.specs.History.{LeadsTo, calls_by, StartsWith, entry_of_seat}
+use Rattle.desk.specs.History.{LeadsFrom, calls_by, StartsWith, entry_of_seat}
 use Rattle.desk.specs.Rule.{first_view, with_turn, with_seen, one_if, live_in, KnowsLog, KnowsTurn, Knows, HasNumber, Turns, Slot, HasMet, StandsInSeen, CountsSeats, First, Kept}
 use Rattle.desk.specs.Steps.{drew, looked_at_turn, with_entry, passed_on, skipped}
 use Rattle.desk.specs.SeatMoves.{AddsEntry, HasTurn, IsServed, IsMoveAnswered, AnswersMove, reply_in}
@@ -240,16 +240,44 @@ St J = State (S J) View
 abbrev pub M : Type 0 → Type 0
 M J = Me (S J) View
 
-module _ {J : Type 0} (right : List ℕ → List ℕ → Bool → Option (List ℕ) → Type 0) where
+module _ {J : Type 0} where
+  -- the slot stays where it is, when an idle seat draws
+  slot_drawn : (state : Register) (serving ticket id : ℕ) (owner : ℕ → ℕ) (homes : List (maybe.Option (S J))) (views : List View) (v w : View) (away : Bool)
+      → get_elem? views id ≡ some v → v.turn ≡ Idle → serving ≤ ticket
+      → ((n : ℕ) (u : View) → away ≡ true → get_elem? views n ≡ some u → u.turn ≡ Served serving → serving < ticket)
+      → Slot {J = J} state serving owner homes views away → Slot {J = J} state serving (given_to ticket id owner) homes (set views id w) away
+  slot_drawn state serving ticket id owner homes views v w false at idle ordered below slot = slot
+  slot_drawn state serving ticket id owner homes views v w true at idle ordered below slot =
+      let u : View = slot.1.0 in
+      let there : get_elem? views (owner serving) ≡ some u = slot.1.1 in
+      let served : u.turn ≡ Served serving = slot.1.2 in
+      let lt : serving < ticket = below (owner serving) u refl there served in
+      let keeps_owner : given_to ticket id owner serving ≡ owner serving = given_else ticket id owner serving (λ is. omega arith) in
+      let other : owner serving ≢ id = λ is. absurd (idle_is_not_served serving (sym idle ∙ ap (λ (z : View). z.turn) (some-injective v u (sym at ∙ ap (get_elem? views) (sym is) ∙ there)) ∙ served)) in
+      (slot.0, (u, ap (get_elem? (set views id w)) keeps_owner ∙ set_else views id (owner serving) w other ∙ there, served))
+
+  -- where it is the turn of a seat that waits, the slot is at home
+  slot_at_turn : (state : Register) (serving id : ℕ) (owner : ℕ → ℕ) (homes : List (maybe.Option (S J))) (views : List View) (v : View) (away : Bool)
+      → owner serving ≡ id → get_elem? views id ≡ some v → v.turn ≡ Waiting serving → Slot {J = J} state serving owner homes views away
+      → (away ≡ false) × ((held : Held J) × (homes ≡ some (Some held) ∷ []) × (held.table ≡ state))
+  slot_at_turn state serving id owner homes views v false mine at waits slot = (refl, slot)
+  slot_at_turn state serving id owner homes views v true mine at waits slot =
+      absurd (waiting_is_not_served serving serving (sym waits ∙ ap (λ (z : View). z.turn) (some-injective v slot.1.0 (sym at ∙ ap (get_elem? views) (sym mine) ∙ slot.1.1)) ∙ slot.1.2))
+
+  slot_away : (state : Register) (serving : ℕ) (owner : ℕ → ℕ) (homes : List (maybe.Option (S J))) (views : List View) (away : Bool) → away ≡ true → Slot {J = J} state serving owner homes views away → homes ≡ none ∷ []
+  slot_away state serving owner homes views true is slot = slot.0
+  slot_away state serving owner homes views false is slot = absurd (true_is_not false refl is)
+
+module _ {J : Type 0} (right : List ℕ → List ℕ → Bool → Option (List ℕ) → Type 0) {start : ℕ} where
   -- a live seat makes a step
-  pub moves : (s : St J) (r : Kept right s) (id : ℕ) (v w : View) (words : List ℕ) (homes : List (maybe.Option (S J))) (log : List Entry) (state : Register) (ticket serving : ℕ) (owner : ℕ → ℕ) (away : Bool)
+  pub moves : (s : St J) (r : Kept right start s) (id : ℕ) (v w : View) (words : List ℕ) (homes : List (maybe.Option (S J))) (log : List Entry) (state : Register) (ticket serving : ℕ) (owner : ℕ → ℕ) (away : Bool)
       → get_elem? s.views id ≡ some v → v.live ≡ true → Same v w → Longer id r.log log
-      → words ≡ ticket ∷ serving ∷ [] → serving ≤ ticket → ticket < 18446744073709551616 → LeadsTo right log state
+      → words ≡ ticket ∷ serving ∷ [] → serving ≤ ticket → ticket < 18446744073709551616 → LeadsFrom right start log state
       → Slot {J = J} state serving owner homes (set s.views id w) away
       → Knows log ticket serving owner away id w
       → ((j : ℕ) (u : View) → j ≢ id → Knows r.log r.ticket r.serving r.owner r.away j u → KnowsTurn log ticket serving owner away j u.seen u.turn)
       → Turns ticket serving owner (set s.views id w)
-      → Kept right record { words = words; homes = homes; views = set s.views id w }
+      → Kept right start record { words = words; homes = homes; views = set s.views id w }
   moves s r id v w words homes log state ticket serving owner away at live same longer words_are ordered bounded runs slot mine others turns =
       let first = first_stays r.log log s.views id v w r.head at live same longer ((mine.knows (same.live ∙ live)).prefix) r.first in record {
         log = log;
@@ -281,13 +309,13 @@ module _ {J : Type 0} (right : List ℕ → List ℕ → Bool → Option (List �
       }
 
   -- a step that changes nothing
-  pub stays_so : (s : St J) (r : Kept right s) (id : ℕ) (v : View) (words : List ℕ) → get_elem? s.views id ≡ some v → words ≡ r.ticket ∷ r.serving ∷ []
-      → Kept right record { words = words; homes = s.homes; views = set s.views id v }
+  pub stays_so : (s : St J) (r : Kept right start s) (id : ℕ) (v : View) (words : List ℕ) → get_elem? s.views id ≡ some v → words ≡ r.ticket ∷ r.serving ∷ []
+      → Kept right start record { words = words; homes = s.homes; views = set s.views id v }
   stays_so s r id v words at are =
-      subst (λ (z : List ℕ × List View). Kept right record { words = z.0; homes = s.homes; views = z.1 }) (λ i. ((r.words ∙ sym are) i, sym (set_again s.views id v at) i)) r
+      subst (λ (z : List ℕ × List View). Kept right start record { words = z.0; homes = s.homes; views = z.1 }) (λ i. ((r.words ∙ sym are) i, sym (set_again s.views id v at) i)) r
 
   -- all calls of a live seat stand in what it has seen, and all calls of those that it met
-  pub stands_of : (s : St J) (r : Kept {J = J} right s) (id : ℕ) (v : View) → get_elem? s.views id ≡ some v → v.live ≡ true → StandsInSeen v
+  pub stands_of : (s : St J) (r : Kept {J = J} right start s) (id : ℕ) (v : View) → get_elem? s.views id ≡ some v → v.live ≡ true → StandsInSeen v
   stands_of s r id v at live =
       let k = (r.seats id v at).knows live in (
         ap (λ (n : ℕ). calls_by n v.seen) k.number ∙ k.stand,
@@ -296,24 +324,9 @@ module _ {J : Type 0} (right : List ℕ → List ℕ → Bool → Option (List �
             (λ other. λ i m there. absurd (none_there i m (sym (ap (λ (met : List Met). get_elem? met i) (k.alone (λ is. other (sym is)))) ∙ there))),
       )
 
-  -- the slot stays where it is, when an idle seat draws
-  slot_drawn : (state : Register) (serving ticket id : ℕ) (owner : ℕ → ℕ) (homes : List (maybe.Option (S J))) (views : List View) (v w : View) (away : Bool)
-      → get_elem? views id ≡ some v → v.turn ≡ Idle → serving ≤ ticket
-      → ((n : ℕ) (u : View) → away ≡ true → get_elem? views n ≡ some u → u.turn ≡ Served serving → serving < ticket)
-      → Slot {J = J} state serving owner homes views away → Slot {J = J} state serving (given_to ticket id owner) homes (set views id w) away
-  slot_drawn state serving ticket id owner homes views v w false at idle ordered below slot = slot
-  slot_drawn state serving ticket id owner homes views v w true at idle ordered below slot =
-      let u : View = slot.1.0 in
-      let there : get_elem? views (owner serving) ≡ some u = slot.1.1 in
-      let served : u.turn ≡ Served serving = slot.1.2 in
-      let lt : serving < ticket = below (owner serving) u refl there served in
-      let keeps_owner : given_to ticket id owner serving ≡ owner serving = given_else ticket id owner serving (λ is. omega arith) in
-      let other : owner serving ≢ id = λ is. absurd (idle_is_not_served serving (sym idle ∙ ap (λ (z : View). z.turn) (some-injective v u (sym at ∙ ap (get_elem? views) (sym is) ∙ there)) ∙ served)) in
-      (slot.0, (u, ap (get_elem? (set views id w)) keeps_owner ∙ set_else views id (owner serving) w other ∙ there, served))
-
   -- a ticket is drawn, where the word is the number asked for
   pub draws : (slots id : ℕ) (me : M J) (old : ℕ) → me.0.turn ≡ Idle → me.0.live ≡ true → old + 1 < 18446744073709551616
-      → Allows (Kept {J = J} right) slots id me 0 (λ n. either (eqb n old) (old + 1) n) (drew (step slots 0 old (old + 1) none) me)
+      → Allows (Kept {J = J} right start) slots id me 0 (λ n. either (eqb n old) (old + 1) n) (drew (step slots 0 old (old + 1) none) me)
   draws slots id me old idle live small s r _ at _ =
       let x : ℕ = get_or s.words 0 0 in
       let found : x ≡ r.ticket = ap (λ (ws : List ℕ). get_or ws 0 0) r.words in
@@ -346,18 +359,10 @@ module _ {J : Type 0} (right : List ℕ → List ℕ → Bool → Option (List �
         (λ hit. absurd (miss hit), λ _. refl),
       ))
 
-  -- where it is the turn of a seat that waits, the slot is at home
-  slot_at_turn : (state : Register) (serving id : ℕ) (owner : ℕ → ℕ) (homes : List (maybe.Option (S J))) (views : List View) (v : View) (away : Bool)
-      → owner serving ≡ id → get_elem? views id ≡ some v → v.turn ≡ Waiting serving → Slot {J = J} state serving owner homes views away
-      → (away ≡ false) × ((held : Held J) × (homes ≡ some (Some held) ∷ []) × (held.table ≡ state))
-  slot_at_turn state serving id owner homes views v false mine at waits slot = (refl, slot)
-  slot_at_turn state serving id owner homes views v true mine at waits slot =
-      absurd (waiting_is_not_served serving serving (sym waits ∙ ap (λ (z : View). z.turn) (some-injective v slot.1.0 (sym at ∙ ap (get_elem? views) (sym mine) ∙ slot.1.1)) ∙ slot.1.2))
-
   -- a look at the turn
-  pub looks : (slots id : ℕ) (me : M J) (n : ℕ) → me.0.turn ≡ Waiting n → me.0.live ≡ true → me.1 ≡ []
-      → Allows (Kept {J = J} right) slots id me 1 (λ k. k) (looked_at_turn right (step slots 1 0 0 none) me)
-  looks slots id me n waits live bare s r _ at _ =
+  pub looks : (slots id : ℕ) (me : M J) (n told : ℕ) → told ≡ start → me.0.turn ≡ Waiting n → me.0.live ≡ true → me.1 ≡ []
+      → Allows (Kept {J = J} right start) slots id me 1 (λ k. k) (looked_at_turn right told (step slots 1 0 0 none) me)
+  looks slots id me n told begins waits live bare s r _ at _ =
       let x : ℕ = get_or s.words 1 0 in
       let found : x ≡ r.serving = ap (λ (ws : List ℕ). get_or ws 1 0) r.words in
       let k = r.seats id me.0 at in
@@ -387,7 +392,7 @@ module _ {J : Type 0} (right : List ℕ → List ℕ → Bool → Option (List �
         new,
         λ m is_m. (
           λ miss. absurd (miss (hit ∙ sym (one m is_m))),
-          λ _. (r.log, held, (λ i. (with_seen (Served (sym (one m is_m) i)) r.log me.0.mine me.0, (0, Some held) ∷ bare i)), kn.prefix, subst (λ (t : Register). LeadsTo right r.log t) (sym home.1.2) r.runs, stands_of _ new id w (set_here s.views id w (length_above s.views id me.0 at)) live),
+          λ _. (r.log, held, (λ i. (with_seen (Served (sym (one m is_m) i)) r.log me.0.mine me.0, (0, Some held) ∷ bare i)), kn.prefix, subst (λ (z : ℕ × Register). LeadsFrom right z.0 r.log z.1) (λ i. (sym begins i, sym home.1.2 i)) r.runs, stands_of _ new id w (set_here s.views id w (length_above s.views id me.0 at)) live),
         ),
       ))
       (λ miss. (
@@ -399,19 +404,15 @@ module _ {J : Type 0} (right : List ℕ → List ℕ → Bool → Option (List �
       ))
 
   -- what the seat whose turn it is knows
-  served_knows : (s : St J) (r : Kept {J = J} right s) (id n : ℕ) (me : View) → get_elem? s.views id ≡ some me → me.turn ≡ Served n
+  served_knows : (s : St J) (r : Kept {J = J} right start s) (id n : ℕ) (me : View) → get_elem? s.views id ≡ some me → me.turn ≡ Served n
       → KnowsTurn r.log r.ticket r.serving r.owner r.away id me.seen (Served n)
   served_knows s r id n me at served = subst (λ (t : Turn). KnowsTurn r.log r.ticket r.serving r.owner r.away id me.seen t) served ((r.seats id me at).turn)
 
-  slot_away : (state : Register) (serving : ℕ) (owner : ℕ → ℕ) (homes : List (maybe.Option (S J))) (views : List View) (away : Bool) → away ≡ true → Slot {J = J} state serving owner homes views away → homes ≡ none ∷ []
-  slot_away state serving owner homes views true is slot = slot.0
-  slot_away state serving owner homes views false is slot = absurd (true_is_not false refl is)
-
   -- the seat whose turn it is gives the slot back and passes the turn on, with the history `more`
-  ends : (s : St J) (r : Kept {J = J} right s) (id n : ℕ) (me : M J) (held : Held J) (w : View) (more : List Entry) → get_elem? s.views id ≡ some me.0 → me.0.turn ≡ Served n → me.0.live ≡ true → me.1 ≡ (0, Some held) ∷ []
+  ends : (s : St J) (r : Kept {J = J} right start s) (id n : ℕ) (me : M J) (held : Held J) (w : View) (more : List Entry) → get_elem? s.views id ≡ some me.0 → me.0.turn ≡ Served n → me.0.live ≡ true → me.1 ≡ (0, Some held) ∷ []
       → get_or s.words 1 0 < 18446744073709551616
-      → Same me.0 w → w.turn ≡ Idle → Longer id r.log more → LeadsTo right more held.table → KnowsLog more id w
-      → Kept {J = J} right (stepped s 1 ((get_or s.words 1 0 + 1) % 18446744073709551616) id me.1 w gives)
+      → Same me.0 w → w.turn ≡ Idle → Longer id r.log more → LeadsFrom right start more held.table → KnowsLog more id w
+      → Kept {J = J} right start (stepped s 1 ((get_or s.words 1 0 + 1) % 18446744073709551616) id me.1 w gives)
   ends s r id n me held w more at served live has small same idle longer runs knows =
       let k = served_knows s r id n me.0 at served in
       let found : get_or s.words 1 0 ≡ r.serving = ap (λ (ws : List ℕ). get_or ws 1 0) r.words in
@@ -432,8 +433,8 @@ module _ {J : Type 0} (right : List ℕ → List ℕ → Bool → Option (List �
       (turns_passed r.ticket r.serving id n r.owner s.views me.0 w at served k.0 r.turns)
 
   -- a call goes into the history
-  pub passes : (slots id : ℕ) (me : M J) (call : Call) (reply : Reply) → IsMoveAnswered right {J = J} call reply me
-      → Allows (Kept {J = J} right) slots id me 1 (λ k. (k + 1) % 18446744073709551616) (passed_on call reply (step slots 1 1 0 none) me)
+  pub passes : (slots id : ℕ) (me : M J) (call : Call) (reply : Reply) → IsMoveAnswered right {J = J} start call reply me
+      → Allows (Kept {J = J} right start) slots id me 1 (λ k. (k + 1) % 18446744073709551616) (passed_on call reply (step slots 1 1 0 none) me)
   passes slots id me call reply a s r _ at small =
       let n = a.number in
       let held = a.held in
@@ -449,7 +450,7 @@ module _ {J : Type 0} (right : List ℕ → List ℕ → Bool → Option (List �
       let same_all : me.0.seen ++ e ∷ [] ≡ r.log ++ e ∷ [] = ap (λ (l : List Entry). l ++ e ∷ []) all in
       let new = ends s r id n me held w (r.log ++ e ∷ []) at served live has small
       (same_seen me.0 Idle (me.0.seen ++ e ∷ []) (me.0.mine ++ e ∷ []) (e ∷ [], refl)) refl (longer_log id r.log e kn.number)
-      (leads_on right r.log a.before e held.table (subst (λ (l : List Entry). LeadsTo right l a.before) all a.leads) a.answers)
+      (leads_on right start r.log a.before e held.table (subst (λ (l : List Entry). LeadsFrom right start l a.before) all a.leads) a.answers)
       record {
         number = kn.number;
         prefix = subst (λ (l : List Entry). StartsWith (r.log ++ e ∷ []) l) (sym same_all) (starts_again (r.log ++ e ∷ []));
@@ -467,8 +468,8 @@ module _ {J : Type 0} (right : List ℕ → List ℕ → Bool → Option (List �
 
   -- a turn with no call
   pub skips : (slots id : ℕ) (me : M J) (n : ℕ) (held : Held J) → me.0.turn ≡ Served n → me.0.live ≡ true → me.1 ≡ (0, Some held) ∷ []
-      → LeadsTo right me.0.seen held.table
-      → Allows (Kept {J = J} right) slots id me 1 (λ k. (k + 1) % 18446744073709551616) (skipped (step slots 1 1 0 none) me)
+      → LeadsFrom right start me.0.seen held.table
+      → Allows (Kept {J = J} right start) slots id me 1 (λ k. (k + 1) % 18446744073709551616) (skipped (step slots 1 1 0 none) me)
   skips slots id me n held served live has run s r _ at small =
       let k = served_knows s r id n me.0 at served in
       let kn = (r.seats id me.0 at).knows live in (
@@ -477,16 +478,16 @@ module _ {J : Type 0} (right : List ℕ → List ℕ → Bool → Option (List �
         tt,
         ends s r id n me held (with_turn Idle me.0) r.log at served live has small
             (same_view me.0 Idle) refl (same_log id r.log)
-            (subst (λ (l : List Entry). LeadsTo right l held.table) k.4 run)
+            (subst (λ (l : List Entry). LeadsFrom right start l held.table) k.4 run)
             record { number = kn.number; prefix = kn.prefix; mine = kn.mine; stand = kn.stand; shorter = kn.shorter; alone = kn.alone },
         (λ i. (with_turn Idle me.0, rest (has i))),
       )
 
   -- the desk at the start
-  pub opens : (slots before : List (S J)) (held : Held J) → slots ≡ before ++ Some held ∷ [] → before ≡ [] → held.table ≡ empty → Kept {J = J} right (opening (0 ∷ 0 ∷ []) slots first_view)
+  pub opens : (slots before : List (S J)) (held : Held J) → slots ≡ before ++ Some held ∷ [] → before ≡ [] → held.table ≡ beginning start → Kept {J = J} right start (opening (0 ∷ 0 ∷ []) slots first_view)
   opens slots before held are none_before is = record {
     log = [];
-    state = empty;
+    state = beginning start;
     ticket = 0;
     serving = 0;
     owner = λ n. 0;
@@ -513,19 +514,19 @@ module _ {J : Type 0} (right : List ℕ → List ℕ → Bool → Option (List �
     };
   }
 
-  -- what it then knows
-  pub passed_tells : (slots r : ℕ) (me after : M J) (call : Call) (reply : Reply) → IsMoveAnswered right {J = J} call reply me
-      → passed_on call reply (step slots 1 1 0 none) me r after → AnswersMove right {J = J} call reply me after
+  -- what the seat whose call went into the history then knows
+  pub passed_tells : (slots r : ℕ) (me after : M J) (call : Call) (reply : Reply) → IsMoveAnswered right {J = J} start call reply me
+      → passed_on call reply (step slots 1 1 0 none) me r after → AnswersMove right {J = J} start call reply me after
   passed_tells slots r me after call reply a told = (
     told.0,
-    (a.held.table, leads_on right me.0.seen a.before (entry_of_seat me.0.number call reply) a.held.table a.leads a.answers),
+    (a.held.table, leads_on right start me.0.seen a.before (entry_of_seat me.0.number call reply) a.held.table a.leads a.answers),
     subst (λ (m : M J). StandsInSeen m.0) (sym told.0) told.1,
   )
 
   -- a seat that has just put the table back
-  pub answered : (me given : M J) (n : ℕ) (held new : Held J) (call : Call) (said : Option Reply) → IsServed right {J = J} n me held
+  pub answered : (me given : M J) (n : ℕ) (held new : Held J) (call : Call) (said : Option Reply) → IsServed right {J = J} start n me held
       → given ≡ (me.0, (0, Some new) ∷ []) → IfSome said (λ reply. Step_of right held.table call reply new.table) → IsSome said
-      → IsMoveAnswered right {J = J} call (reply_in said) given
+      → IsMoveAnswered right {J = J} start call (reply_in said) given
   answered me given n held new call (Some reply) turn is stp there = record {
     number = n;
     before = held.table;
@@ -533,19 +534,19 @@ module _ {J : Type 0} (right : List ℕ → List ℕ → Bool → Option (List �
     turn = ap (λ (m : M J). m.0.turn) is ∙ turn.turn;
     live = ap (λ (m : M J). m.0.live) is ∙ turn.live;
     given = ap (λ (m : M J). m.1) is;
-    leads = subst (λ (l : List Entry). LeadsTo right l held.table) (sym (ap (λ (m : M J). m.0.seen) is)) turn.leads;
+    leads = subst (λ (l : List Entry). LeadsFrom right start l held.table) (sym (ap (λ (m : M J). m.0.seen) is)) turn.leads;
     answers = stp;
   }
   answered me given n held new call None turn is stp there = absurd (false_is_not (sym there))
 
   -- a seat that drew a number, had its turn and made its call
   pub adds_of : (v : View) (n : ℕ) (drawn served after : M J) (held : Held J) (call : Call) (reply : Reply) → calls_by v.number v.seen ≡ v.mine → drawn ≡ (with_turn (Waiting n) v, [])
-      → HasTurn right {J = J} n drawn.0 served held → AnswersMove right {J = J} call reply served after → AddsEntry right v call reply after.0
+      → HasTurn right {J = J} start n drawn.0 served held → AnswersMove right {J = J} start call reply served after → AddsEntry right start v call reply after.0
   adds_of v n drawn served after held call reply stand is turn answered =
       let e : Entry = entry_of_seat v.number call reply in
-      let t = subst (λ (m : M J). HasTurn right {J = J} n m.0 served held) is turn in
-      let a = subst (λ (m : M J). AnswersMove right {J = J} call reply m after) t.now answered in
-      subst (λ (m : M J). AddsEntry right v call reply m.0) (sym a.0) record {
+      let t = subst (λ (m : M J). HasTurn right {J = J} start n m.0 served held) is turn in
+      let a = subst (λ (m : M J). AnswersMove right {J = J} start call reply m after) t.now answered in
+      subst (λ (m : M J). AddsEntry right start v call reply m.0) (sym a.0) record {
         between = t.begins.0;
         seen = ap (λ (l : List Entry). l ++ e ∷ []) t.begins.1;
         others = none_behind v.number v.seen t.begins.0 v.mine stand (ap (calls_by v.number) (sym t.begins.1) ∙ t.stands.0);
@@ -556,7 +557,7 @@ module _ {J : Type 0} (right : List ℕ → List ℕ → Bool → Option (List �
 
   -- the same where it made its call, or didn't
   pub adds_if : (v : View) (n : ℕ) (drawn served after : M J) (held : Held J) (call : Call) (said : Option Reply) → calls_by v.number v.seen ≡ v.mine
-      → drawn ≡ (with_turn (Waiting n) v, []) → HasTurn right {J = J} n drawn.0 served held
-      → IfSome said (λ reply. AnswersMove right {J = J} call reply served after) → IfSome said (λ reply. AddsEntry right v call reply after.0)
+      → drawn ≡ (with_turn (Waiting n) v, []) → HasTurn right {J = J} start n drawn.0 served held
+      → IfSome said (λ reply. AnswersMove right {J = J} start call reply served after) → IfSome said (λ reply. AddsEntry right start v call reply after.0)
   adds_if v n drawn served after held call (Some reply) stand is turn answered = adds_of v n drawn served after held call reply stand is turn answered
   adds_if v n drawn served after held call None stand is turn answered = tt

@@ -15,7 +15,7 @@ use Rattle.desk.specs.declared.view.Entry.{Entry}
 use Rattle.desk.specs.declared.view.Met.{Met}
 use Rattle.desk.specs.declared.view.View.{View}
 use Rattle.desk.specs.declared.view.Turn.TheVariants.{Idle, Served}
-use Rattle.desk.specs.History.{LeadsTo, IsLegal, StartsWith, entry_of_seat, calls_by}
+use Rattle.desk.specs.History.{LeadsFrom, LeadsTo, IsLegalFrom, StartsWith, entry_of_seat, calls_by}
 use Rattle.desk.specs.Steps.{Sat}
 use Rattle.desk.specs.Rule.{with_seen, longer_of, met_as, out_of, HasMet, StandsInSeen}
 
@@ -31,6 +31,10 @@ pub record IsSeatReady {J : Type 0} (me : Sat J) : Type 0 where
 -- which desk it is
 abbrev pub desk_id : {S V Q A : Type 0} → Locked S V Q A → TableId
 desk_id d = d.table.shared.table_id
+
+-- the number with which those of a desk's table begin
+abbrev pub first_number : {S V Q A : Type 0} → Locked S V Q A → ℕ
+first_number d = d.table.shared.key
 
 -- the seat is one of that desk, and is ready to ask
 pub record IsSeatOf {J : Type 0} (desk : TableId) (seat : Seat (Option (Held J)) View) : Type 0 where
@@ -67,54 +71,54 @@ pub record Meets (v w after : View) : Type 0 where
   pub out : out_of after + 1 ≡ out_of v
 
 module _ (right : List ℕ → List ℕ → Bool → Option (List ℕ) → Type 0) where
-  -- a call was made: the history after it is legal, begins with all that had been seen, and ends with the call, which is one more
-  -- of the seat's own and the only one behind what had been seen
-  pub record AddsEntry (v : View) (call : Call) (reply : Reply) (w : View) : Type 0 where
+  -- a call was made, where the numbers of the table begin with this one: the history after it is legal, begins with all that had been seen,
+  -- and ends with the call, which is one more of the seat's own and the only one behind what had been seen
+  pub record AddsEntry (start : ℕ) (v : View) (call : Call) (reply : Reply) (w : View) : Type 0 where
     pub between : List Entry
     pub seen : w.seen ≡ (v.seen ++ between) ++ entry_of_seat v.number call reply ∷ []
     pub others : calls_by v.number between ≡ []
-    pub legal : IsLegal right w.seen
+    pub legal : IsLegalFrom right start w.seen
     pub mine : w.mine ≡ v.mine ++ entry_of_seat v.number call reply ∷ []
     pub stays : Stays v w
 
   -- what was seen leads to this
-  pub record Lacks (call : Call) (seen : List Entry) : Type 0 where
+  pub record Lacks (start : ℕ) (call : Call) (seen : List Entry) : Type 0 where
     pub held : Register
-    pub leads : LeadsTo right seen held
+    pub leads : LeadsFrom right start seen held
     pub wants : wants_memory call held ≡ true
 
   -- it is the turn of this number, and the table is the one after all that the seat has now seen
-  pub record HasTurn {J : Type 0} (number : ℕ) (v : View) (me : Sat J) (held : Held J) : Type 0 where
+  pub record HasTurn {J : Type 0} (start number : ℕ) (v : View) (me : Sat J) (held : Held J) : Type 0 where
     pub seen : List Entry
     pub now : me ≡ (with_seen (Served number) seen v.mine v, (0, None) ∷ [])
     pub begins : StartsWith seen v.seen
-    pub leads : LeadsTo right seen held.table
+    pub leads : LeadsFrom right start seen held.table
     pub stands : StandsInSeen (with_seen (Served number) seen v.mine v)
 
   -- it is the seat's turn, and the table that it took is the one after all that it has seen
-  pub record IsServed {J : Type 0} (number : ℕ) (me : Sat J) (held : Held J) : Type 0 where
+  pub record IsServed {J : Type 0} (start number : ℕ) (me : Sat J) (held : Held J) : Type 0 where
     pub turn : me.0.turn ≡ Served number
     pub live : me.0.live ≡ true
     pub taken : me.1 ≡ (0, None) ∷ []
-    pub leads : LeadsTo right me.0.seen held.table
+    pub leads : LeadsFrom right start me.0.seen held.table
     pub stands : StandsInSeen me.0
 
   -- it is the seat's turn, and it gave the table back, which is the one after all that the seat has seen and this call
-  pub record IsMoveAnswered {J : Type 0} (call : Call) (reply : Reply) (me : Sat J) : Type 0 where
+  pub record IsMoveAnswered {J : Type 0} (start : ℕ) (call : Call) (reply : Reply) (me : Sat J) : Type 0 where
     pub number : ℕ
     pub before : Register
     pub held : Held J
     pub turn : me.0.turn ≡ Served number
     pub live : me.0.live ≡ true
     pub given : me.1 ≡ (0, Some held) ∷ []
-    pub leads : LeadsTo right me.0.seen before
+    pub leads : LeadsFrom right start me.0.seen before
     pub answers : Step right before call reply held.table
 
   -- the call is the last of the history, which is legal, the seat is idle, and all of its own calls stand there
-  abbrev pub AnswersMove : {J : Type 0} → Call → Reply → Sat J → Sat J → Type 0
-  AnswersMove call reply m m' =
+  abbrev pub AnswersMove : {J : Type 0} → ℕ → Call → Reply → Sat J → Sat J → Type 0
+  AnswersMove start call reply m m' =
       (m' ≡ (with_seen Idle (m.0.seen ++ entry_of_seat m.0.number call reply ∷ []) (m.0.mine ++ entry_of_seat m.0.number call reply ∷ []) m.0, []))
-      × IsLegal right (m.0.seen ++ entry_of_seat m.0.number call reply ∷ []) × StandsInSeen m'.0
+      × IsLegalFrom right start (m.0.seen ++ entry_of_seat m.0.number call reply ∷ []) × StandsInSeen m'.0
 
   -- the table is the one after a history that begins with all that the first seat had seen. Its entries are the seat's own calls
   -- and those of the seats that it met, and no others

@@ -7,7 +7,7 @@ use Rattle.job_table.specs.declared.calls.Reply.{Reply}
 use Rattle.desk.specs.declared.view.Entry.{Entry}
 use Rattle.desk.specs.declared.view.View.{View}
 use Rattle.desk.specs.declared.view.Turn.TheVariants.{Idle, Waiting, Served}
-use Rattle.desk.specs.History.{LeadsTo, IsLegal, StartsWith, entry_of_seat}
+use Rattle.desk.specs.History.{LeadsFrom, IsLegal, StartsWith, entry_of_seat}
 use Rattle.desk.specs.Rule.{with_turn, with_seen, StandsInSeen}
 
 -- a seat's view, and the slots that it has
@@ -26,14 +26,14 @@ module _ {J : Type 0} where
 
   -- it is this number's turn: the seat has the slot, and the table is the one after all that it has now seen, where all of its own
   -- calls stand
-  abbrev pub TakesTurn : (List ℕ → List ℕ → Bool → Option (List ℕ) → Type 0) → ℕ → Sat J → Sat J → Type 0
-  TakesTurn right n m m' =
+  abbrev pub TakesTurn : (List ℕ → List ℕ → Bool → Option (List ℕ) → Type 0) → (start n : ℕ) → Sat J → Sat J → Type 0
+  TakesTurn right start n m m' =
       (seen : List Entry) × (held : Held J) × (m' ≡ (with_seen (Served n) seen m.0.mine m.0, (0, Some held) ∷ []))
-      × StartsWith seen m.0.seen × LeadsTo right seen held.table × StandsInSeen (with_seen (Served n) seen m.0.mine m.0)
+      × StartsWith seen m.0.seen × LeadsFrom right start seen held.table × StandsInSeen (with_seen (Served n) seen m.0.mine m.0)
 
   -- whether it is the turn of the number that the seat drew
-  abbrev pub looked_at_turn : (List ℕ → List ℕ → Bool → Option (List ℕ) → Type 0) → Step (Option (Held J)) → Sat J → ℕ → Sat J → Type 0
-  looked_at_turn right st m r m' = (n : ℕ) → m.0.turn ≡ Waiting n → (r ≢ n → m' ≡ m) × (r ≡ n → TakesTurn right n m m')
+  abbrev pub looked_at_turn : (List ℕ → List ℕ → Bool → Option (List ℕ) → Type 0) → ℕ → Step (Option (Held J)) → Sat J → ℕ → Sat J → Type 0
+  looked_at_turn right start st m r m' = (n : ℕ) → m.0.turn ≡ Waiting n → (r ≢ n → m' ≡ m) × (r ≡ n → TakesTurn right start n m m')
 
   -- this call with its reply goes to the end of the history, the slot goes home, and the turn is the next number's
   abbrev pub passed_on : Call → Reply → Step (Option (Held J)) → Sat J → ℕ → Sat J → Type 0

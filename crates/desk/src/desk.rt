@@ -1,14 +1,14 @@
 //! The desk.
 
-ghost use Rattle.std.specs.Prelude.{◌≡◌, [], ◌∷◌, true, None, Some, IfOk, IfSome, IfNone};
+ghost use Rattle.std.specs.Prelude.{◌≡◌, ◌≤◌, ◌^◌, [], ◌∷◌, true, None, Some, IfOk, IfSome, IfNone};
 ghost use Rattle.job_table.specs.Steps.{May, fits, wants_memory};
 ghost use Rattle.desk.specs.declared.view.Turn.TheVariants.{Idle, Waiting};
 ghost use Rattle.desk.specs.History.{IsLegal};
 ghost use Rattle.desk.specs.Rule.{first_view, with_turn, one_more, newcomer, out_of};
-ghost use Rattle.desk.specs.SeatMoves.{desk_id, IsSeatOf, AddsEntry, Waits, Lacks, HasTurn, IsServed, IsMoveAnswered, AnswersMove, Meets, Closes};
+ghost use Rattle.desk.specs.SeatMoves.{desk_id, first_number, IsSeatOf, AddsEntry, Waits, Lacks, HasTurn, IsServed, IsMoveAnswered, AnswersMove, Meets, Closes};
 
 use crate::held::Held;
-use crate::plays::{Draw, Enters, Look, OneMore, PassOn, Settle, Skip};
+use crate::plays::{Begins, Draw, Enters, Look, OneMore, PassOn, Settle, Skip};
 use crate::shape::{Desk, Locked, Seat};
 use job_table::moves::Move;
 use job_table::{Table, Verdicts};
@@ -44,16 +44,19 @@ const QUIET: u64 = 0;
 const LISTEN: u64 = 1;
 
 impl<J: Verdicts> Desk<J> {
-    /// A desk on the empty table, and its first seat.
-    pub fn new(alloc: Global) -> Result<(Desk<J>, Seat<J>), Memory>
-        ensures { IfOk result (λ d. IsSeatOf (desk_id d.0) d.1 × (d.1.me.0 ≡ first_view)) }
+    /// A desk on the empty table whose numbers begin with this one, and its first seat.
+    pub fn new(alloc: Global, first: u64) -> Result<(Desk<J>, Seat<J>), Memory>
+        requires some { 1 ≤ first }
+        requires within { first ≤ 2 ^ 62 }
+        ensures seat { IfOk result (λ d. IsSeatOf (desk_id d.0) d.1 × (d.1.me.0 ≡ first_view)) }
+        ensures first { IfOk result (λ d. first_number d.0 ≡ first) }
     {
         let mut slots = Vec::new(alloc);
         let held = Held {
-            table: Table::new(alloc),
+            table: Table::new(alloc, first),
         };
         slots.push(Some(held))?;
-        match atomic_table::Table::new(alloc, &[0, 0], slots, &()) {
+        match atomic_table::Table::new(alloc, &[0, 0], slots, &first) {
             Ok((table, seat)) => {
                 let bell = AtomicU64::new(QUIET);
                 Ok((Locked { table, bell }, seat))
@@ -69,12 +72,12 @@ impl<J: Verdicts> Desk<J> {
         requires call { May J.right (M.call step) }
         ensures seat { IsSeatOf (desk_id self.now) me.new }
         ensures fits { IfSome (M.said result) (λ reply. fits (M.call step) reply ≡ true) }
-        ensures ok { IfSome (M.said result) (λ reply. AddsEntry J.right me.old.me.0 (M.call step) reply me.new.me.0) }
-        ensures sure { IfNone (M.said result) (Lacks J.right (M.call step) me.new.me.0.seen) }
+        ensures ok { IfSome (M.said result) (λ reply. AddsEntry J.right (first_number self.now) me.old.me.0 (M.call step) reply me.new.me.0) }
+        ensures sure { IfNone (M.said result) (Lacks J.right (first_number self.now) (M.call step) me.new.me.0.seen) }
         ensures err { IfNone (M.said result) (Waits me.old.me.0 me.new.me.0) }
     {
         let number = self.draw(rt, me);
-        let held = self.take(rt, me, number);
+        let held = self.take::<Brand, R>(rt, me, number);
         self.answer(me, number, held, step)
     }
 
@@ -104,12 +107,13 @@ impl<J: Verdicts> Desk<J> {
         self.table.shared.load::<Settle<J>>(me, SERVING);
     }
 
-    /// The table after the whole history, where no seat is out that the first one split off.
+    /// The table after the whole history, where no seat is out that the first one split off. Its numbers began as the desk's did.
     pub fn close(self, me: Seat<J>) -> Table<J>
         requires seat { IsSeatOf (desk_id self) me }
         requires first { me.me.0.number ≡ 0 }
         requires alone { out_of me.me.0 ≡ 0 }
-        ensures { Closes J.right me.me.0 result }
+        ensures closes { Closes J.right me.me.0 result }
+        ensures first { result.first ≡ first_number self }
     {
         let Locked { table, bell: _ } = self;
         let mut closed = table.close_with(me);
@@ -171,13 +175,14 @@ impl<J: Verdicts> Desk<J> {
     }
 
     /// Waits until the number is served, and takes the table.
-    fn take<R: Wait>(&self, rt: &R, me: &mut Seat<J>, number: u64) -> Held<J>
+    fn take<K: Begins, R: Wait>(&self, rt: &R, me: &mut Seat<J>, number: u64) -> Held<J>
+        requires begins { K.start ≡ first_number self.now }
         requires seat { (me.old.table_id ≡ (desk_id self.now)) × (me.old.me.1 ≡ []) }
         requires waits { (me.old.me.0.turn ≡ Waiting number) × (me.old.me.0.live ≡ true) }
-        ensures { (me.new.table_id ≡ me.old.table_id) × HasTurn J.right number me.old.me.0 me.new.me result }
+        ensures { (me.new.table_id ≡ me.old.table_id) × HasTurn J.right K.start number me.old.me.0 me.new.me result }
     {
         for _ in rt.forever() {
-            if self.table.shared.load::<Look<J>>(me, SERVING) == number {
+            if self.table.shared.load::<Look<J, K>>(me, SERVING) == number {
                 let Some(held) = self.table.shared.exchange(me, SLOT, None) else {
                     unreachable!()
                 };
@@ -192,11 +197,11 @@ impl<J: Verdicts> Desk<J> {
     /// Asks the table, gives it back, and serves the next number.
     fn answer<M: Move<J>>(&self, me: &mut Seat<J>, number: u64, held: Held<J>, step: M) -> M::Answer
         requires seat { me.old.table_id ≡ (desk_id self.now) }
-        requires turn { IsServed J.right number me.old.me held }
+        requires turn { IsServed J.right (first_number self.now) number me.old.me held }
         requires call { May J.right (M.call step) }
         ensures seat { me.new.table_id ≡ me.old.table_id }
         ensures fits { IfSome (M.said result) (λ reply. fits (M.call step) reply ≡ true) }
-        ensures ok { IfSome (M.said result) (λ reply. AnswersMove J.right (M.call step) reply me.old.me me.new.me) }
+        ensures ok { IfSome (M.said result) (λ reply. AnswersMove J.right (first_number self.now) (M.call step) reply me.old.me me.new.me) }
         ensures sure { IfNone (M.said result) (wants_memory (M.call step) held.table ≡ true) }
         ensures err { IfNone (M.said result) (me.new.me ≡ (with_turn Idle me.old.me.0, [])) }
     {
@@ -221,9 +226,9 @@ impl<J: Verdicts> Desk<J> {
         _answer: &M::Answer,
     )
         requires seat { me.old.table_id ≡ (desk_id self.now) }
-        requires turn { IsMoveAnswered J.right K.call K.reply me.old.me }
+        requires turn { IsMoveAnswered J.right (first_number self.now) K.call K.reply me.old.me }
         ensures seat { me.new.table_id ≡ me.old.table_id }
-        ensures made { AnswersMove J.right K.call K.reply me.old.me me.new.me }
+        ensures made { AnswersMove J.right (first_number self.now) K.call K.reply me.old.me me.new.me }
     {
         self.table.shared.fetch_add::<PassOn<K>>(me, SERVING, 1);
     }
