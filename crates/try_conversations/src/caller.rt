@@ -36,7 +36,7 @@ impl Caller {
     pub(crate) fn new(alloc: Global, lacks: u64) -> Caller {
         Caller {
             alloc,
-            table: Table::new(alloc),
+            table: Table::new(alloc, 1),
             made: 0,
             lacks,
             other: None,

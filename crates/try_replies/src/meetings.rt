@@ -30,7 +30,7 @@ fn met(alloc: Global, jobs: &mut Table<SolvedJobs>, call: &[u8]) -> Result<Text,
 
 /// What these calls answer, one after another, whose requests a server over one table of jobs answers.
 pub(crate) fn met_text(alloc: Global, calls: &[Vec<u8>]) -> Result<Text, Memory> {
-    let mut jobs: Table<SolvedJobs> = Table::new(alloc);
+    let mut jobs: Table<SolvedJobs> = Table::new(alloc, 1);
     let mut text = Text::new(alloc);
     for call in calls {
         if !text.is_empty() {

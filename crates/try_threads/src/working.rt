@@ -137,7 +137,7 @@ pub(crate) fn kill_beside_a_worker<R: Threads + Wait + Clock + Sync>(
     rt: &R,
     alloc: Global,
 ) -> Result<String, Memory> {
-    let (desk, mut seat) = Desk::<SolvedJobs>::new(alloc)?;
+    let (desk, mut seat) = Desk::<SolvedJobs>::new(alloc, 1)?;
     let worker = desk.split(&mut seat);
     send(rt, alloc, &desk, &mut seat)?;
     let is_reached = AtomicBool::new(false);
