@@ -8,10 +8,11 @@ use Rattle.job_table.specs.declared.calls.Finish as answer
 use Rattle.job_table.specs.declared.calls.Finish.TheVariants as ends
 use Rattle.job_table.specs.declared.calls.Reply.{Reply}
 use Rattle.job_table.specs.declared.calls.Reply.TheVariants as reply
-use Rattle.job_table.specs.Jobs.{Register, empty}
-use Rattle.job_table.specs.History.{Entry, entry_of_move, LeadsStepwise, NoFinish, WasTold, IsGiving}
+use Rattle.job_table.specs.Jobs.{Register}
+use Rattle.job_table.specs.History.{Entry, entry_of_move, LeadsStepwise, LeadsTo, NoFinish, WasTold, IsGiving}
 use Rattle.job_table.specs.Laws.{FirstFinishIsKept}
 use Rattle.job_table.specs.Looks.{looks}
+use Rattle.job_table.proofs.Histories.{runs_split, leads_split}
 use Rattle.job_runs.specs.Runs.{stop_if, IsJobRun}
 use Rattle.job_runs.specs.Laws.{IsFinishKept, AreKept, RunsAreKept}
 
@@ -20,13 +21,6 @@ Made = List ℕ → List ℕ → List Bool → Option (List ℕ) → Type 0
 
 abbrev Right : Type 1
 Right = List ℕ → List ℕ → Bool → Option (List ℕ) → Type 0
-
--- what stands between two parts of a history
-pub runs_split : (right : Right) (r t : Register) (a b : List Entry) → LeadsStepwise right r (a ++ b) t
-    → (s : Register) × LeadsStepwise right r a s × LeadsStepwise right s b t
-runs_split right r t [] b runs = (r, refl, runs)
-runs_split right r t (e ∷ es) b (next, step, rest) =
-    let found = runs_split right next t es b rest in (found.0, (next, step, found.1), found.2)
 
 no_finish : (n : ℕ) (answers : List Bool) → NoFinish n (looks n answers)
 no_finish n [] = tt
@@ -44,9 +38,9 @@ same_end : (a b : answer.Finish) → ◌≡◌ {A = Reply} (reply.Finish a) (rep
 same_end a b e = cc
 
 end_kept : (made : Made) (right : Right) → FirstFinishIsKept right → (j : Job) (call : Call) (before run : List Entry) (now : Register) → IsGiving call
-    → (r : IsJobRun made j run) → LeadsStepwise right empty (before ++ entry_of_move call (reply.Gave (Some j)) ∷ run) now → r.end ≡ ends.Kept
+    → (r : IsJobRun made j run) → LeadsTo right (before ++ entry_of_move call (reply.Gave (Some j)) ∷ run) now → r.end ≡ ends.Kept
 end_kept made right law j call before run now giving r runs =
-    let (old, first, (new, gave, rest)) = runs_split right empty now before (entry_of_move call (reply.Gave (Some j)) ∷ run) runs in
+    let (old, first, (new, gave, rest)) = leads_split right before (entry_of_move call (reply.Gave (Some j)) ∷ run) now runs in
     let (mid, looked, (after, finish, over)) =
     runs_split right new now (looks j.number r.answers) (entry_of_move (Finish j r.asked r.document) (reply.Finish r.end) ∷ [])
     (subst (λ (es : List Entry). LeadsStepwise right new es now) r.are rest) in

@@ -1,4 +1,4 @@
--- What holds of runs in every history from the empty table on.
+-- What holds of runs in every history from an empty table on, whatever its numbers begin with.
 use Rattle.std.specs.Prelude.{◌≡◌, ℕ, Bool, true, false, All, List, ◌∷◌, ◌++◌, Option, Some}
 use Rattle.job_table.specs.declared.job.Job.{Job}
 use Rattle.job_table.specs.declared.calls.Call.{Call}
@@ -7,8 +7,8 @@ use Rattle.job_table.specs.declared.calls.Finish as answer
 use Rattle.job_table.specs.declared.calls.Finish.TheVariants as ends
 use Rattle.job_table.specs.declared.calls.Reply.{Reply}
 use Rattle.job_table.specs.declared.calls.Reply.TheVariants as reply
-use Rattle.job_table.specs.Jobs.{Register, empty}
-use Rattle.job_table.specs.History.{Entry, entry_of_move, LeadsStepwise, IsGiving}
+use Rattle.job_table.specs.Jobs.{Register}
+use Rattle.job_table.specs.History.{Entry, entry_of_move, LeadsTo, IsGiving}
 use Rattle.job_runs.specs.Runs.{IsJobRun}
 
 -- a finish was kept
@@ -38,4 +38,4 @@ AreKept entries = All IsFinishKept entries
 abbrev pub RunsAreKept : (List ℕ → List ℕ → List Bool → Option (List ℕ) → Type 0) → (List ℕ → List ℕ → Bool → Option (List ℕ) → Type 0) → Type 0
 RunsAreKept made right =
     (j : Job) (call : Call) (before run : List Entry) (now : Register) → IsGiving call → IsJobRun made j run
-    → LeadsStepwise right empty (before ++ entry_of_move call (reply.Gave (Some j)) ∷ run) now → AreKept run
+    → LeadsTo right (before ++ entry_of_move call (reply.Gave (Some j)) ∷ run) now → AreKept run

@@ -9,7 +9,7 @@ use Rattle.job_table.specs.declared.calls.Reply.TheVariants as reply
 use Rattle.job_table.specs.Jobs.{HeldJobs, Register, job, is_waiting, or_waiting, first_waiting, waiting_jobs}
 use Rattle.job_table.specs.Steps.{Step, Outcome, outcome, claims}
 use Rattle.job_table.specs.History.{Entry, entry_of_move, LeadsStepwise}
-use Rattle.job_runs.proofs.Histories.{runs_split}
+use Rattle.job_table.proofs.Histories.{runs_split}
 use Rattle.workers.specs.Shifts.{Rests, WorksThrough}
 use Rattle.workers.proofs.Rounds.{Made}
 

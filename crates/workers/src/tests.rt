@@ -99,7 +99,7 @@ fn shared<T: Sync>(value: T) -> T {
 
 #[test]
 fn workers_run_what_waits_and_leave_at_the_end(rt: HostRuntime) -> Result<(), Fail> {
-    let (desk, mut seat) = Desk::<AnyDocument>::new(rt.alloc())?;
+    let (desk, mut seat) = Desk::<AnyDocument>::new(rt.alloc(), 1)?;
     let (wake, naps) = shared(wake_pair(rt.alloc())?);
     queue(&rt, rt.alloc(), &desk, &mut seat, &wake, 1)?;
     queue(&rt, rt.alloc(), &desk, &mut seat, &wake, 2)?;
