@@ -1,5 +1,7 @@
 -- Seats that are out, and links that are being served.
-use Rattle.std.specs.Prelude.{◌≡◌, ℕ, ◌+◌, ◌<◌, ◌≤◌, ◌^◌, Bool, List, [], ◌∷◌, ◌++◌, length, map, Option, Result, Ok, Err}
+use Rattle.std.specs.Prelude.{◌≡◌, ℕ, ◌+◌, ◌<◌, ◌≤◌, ◌^◌, Bool, List, [], ◌∷◌, ◌++◌, length, map, All, Option, Result, Ok, Err}
+use Rattle.std.specs.List.{Contains}
+use Rattle.std.specs.List.Sorted.{IsPermutation}
 use Rattle.std.specs.VecDeque.{deque_len, deque_capacity}
 use Rattle.atomic_table.specs.Seated.{TableId}
 use Rattle.job_table.specs.History.{Entry as Said}
@@ -23,29 +25,51 @@ use Rattle.server_threads.specs.declared.promise.Finished.{Finished}
 use Rattle.server_threads.specs.declared.promise.ToServe.{ToServe}
 use Rattle.server_threads.specs.declared.promise.ToWork.{ToWork}
 use Rattle.server_threads.specs.Talks.{DeskSeat, LinkTalk, Shift, talk_met, shift_met, short_of, Came, GivenBack, AllTalked, AllWorked, IsShift, Acts}
-use Rattle.server_threads.specs.Promises.{promise_of, AllDue}
-use Rattle.server_threads.specs.Serving.{Stand, stand, MayTake, Opens, AtOnce, EndsServing}
+use Rattle.server_threads.specs.Promises.{promise_of, Due}
+use Rattle.server_threads.specs.Serving.{Stand, stand, taken, MayTake, Opens, AtOnce, EndsServing}
 
--- each seat is one of the desk's, had made no move when it was split off, and has the next number
-abbrev pub AllOut : {J : Type 0} → TableId → ℕ → List (DeskSeat J) → Type 0
-AllOut desk n [] = Unit {0}
-AllOut desk n (s ∷ ss) = (s.table_id ≡ desk) × (s.me.0.number ≡ n) × (s.me.0.mine ≡ []) × AllOut desk (n + 1) ss
+-- a seat is one of the desk's, and had made no move when it was split off
+abbrev pub IsOut : {J : Type 0} → TableId → DeskSeat J → Type 0
+IsOut desk s = (s.table_id ≡ desk) × (s.me.0.mine ≡ [])
 
--- each was split off for the next link, where as much had been seen as it knows
-abbrev pub AllOpen : {J : Type 0} → (servers : ℕ) → List Entry → List LinkTalk → ℕ → List (DeskSeat J) → Type 0
-AllOpen servers log talks j [] = Unit {0}
-AllOpen servers log talks j (s ∷ ss) = Opens servers log talks j s.me.0.number s.me.0.seen × AllOpen servers log talks (j + 1) ss
+-- the seats have the numbers from this one on
+abbrev pub AreNumbered : {J : Type 0} → ℕ → List (DeskSeat J) → Type 0
+AreNumbered n [] = Unit {0}
+AreNumbered n (s ∷ ss) = (s.me.0.number ≡ n) × AreNumbered (n + 1) ss
 
--- the first seat met these seats, and split off as many and those that are out, whose numbers begin with this one
-pub record KeepsSeats {J : Type 0} (desk : TableId) (v w : View) (met : List Met) (n : ℕ) (out : List (DeskSeat J)) : Type 0 where
+-- the first seat met these seats, and split off as many and those that are out
+pub record KeepsSeats {J : Type 0} (desk : TableId) (v w : View) (met : List Met) (out : List (DeskSeat J)) : Type 0 where
   pub first : w.number ≡ 0
   pub number : w.number ≡ v.number
   pub met_is : w.met ≡ v.met ++ met
   pub given : w.given ≡ v.given + (length met + length out)
-  pub waits : AllOut desk n out
+  pub waits : All (IsOut desk) out
   pub mine : w.mine ≡ v.mine
   pub seen : StartsWith w.seen v.seen
   pub known : HasMet w.seen met
+
+-- a link by the number of its seat, and by what it told when it came
+abbrev pub Visit : Type 0
+Visit = ℕ × Tells
+
+abbrev pub visit : LinkTalk → Visit
+visit t = (t.seat, t.came)
+
+-- the links that came, of which this is told, are among these, with numbers from this one on
+abbrev pub AreAmong : ℕ → List Tells → List Visit → Type 0
+AreAmong n [] visits = Unit {0}
+AreAmong n (c ∷ cs) visits = Contains visits (n, c) × AreAmong (n + 1) cs visits
+
+-- so much of the history had been seen when the link with this number came, and of those that are being served the ones that came before it were
+-- out then
+pub record Begun (servers : ℕ) (log : List Entry) (talks : List LinkTalk) (running : List ℕ) (seat : ℕ) (seen : List Entry) : Type 0 where
+  pub opens : Opens servers log talks seat seen
+  pub still : All (λ n. n < seat → Contains opens.out n) running
+
+-- so did all links, those that were served and those that are being served, and no other number was given
+abbrev pub AllBegun : (servers given : ℕ) → List Entry → List LinkTalk → List ℕ → Type 0
+AllBegun servers given log talks running =
+    All (λ n. (n < given) × ((seen : List Entry) × Begun servers log talks running n seen)) (map (λ t. t.seat) talks ++ running)
 
 -- what is done for a link
 abbrev pub Conversing : Type 0 → Type 0 → Type 0 → Type 0 → Type 0
@@ -55,56 +79,66 @@ module _ {J L S B : Type 0} where
   abbrev pub promised : Conversing J L S B → ToServe J L S B
   promised place = promise_of {P = ToServe J L S B} place
 
-  abbrev pub seats_out : List (Conversing J L S B) → List (DeskSeat J)
-  seats_out places = map (λ place. (promised place).seat.value) places
+  abbrev pub seat_out : Conversing J L S B → DeskSeat J
+  seat_out place = (promised place).seat.value
+
+  abbrev pub number_out : Conversing J L S B → ℕ
+  number_out place = (seat_out place).me.0.number
 
   module _ (right : List ℕ → List ℕ → Bool → Option (List ℕ) → Type 0) (talked : Tells → List Said → Tells → Bool → Type 0) (tells : L → Tells) where
-    abbrev pub links_out : List (Conversing J L S B) → List Tells
-    links_out places = map (λ place. tells (promised place).link.value) places
+    abbrev pub visit_out : Conversing J L S B → Visit
+    visit_out place = (number_out place, tells (promised place).link.value)
 
     -- a link was served as was promised
     abbrev pub served_so : ToServe J L S B → Finished (DeskSeat J) L → Type 0
     served_so p r = Acts right (λ said. talked (tells p.link.value) said (tells r.link) r.short) p.seat.value r.seat
 
-    -- links came; those that were served were given back, in order, and the later ones are being served
+    -- so much was told of links that came; those that were served were met and given back in one order, and the others are being served
     pub record Going (servers : ℕ) (desk : TableId) (old new : Stand) (short : ℕ) (places : List (Conversing J L S B)) : Type 0 where
+      pub links : List Tells
       pub talks : List LinkTalk
-      pub keeps : KeepsSeats desk old.view new.view (map talk_met talks) (old.view.given + length talks) (seats_out places)
-      pub due : AllDue served_so places
-      pub few : length places ≤ servers
-      pub waits : AllOpen servers new.view.seen talks (length talks) (seats_out places)
-      pub at_once : AtOnce servers new.view.seen talks
-      pub all_talked : AllTalked talked old.view.given talks
-      pub came : Came old.coming new.coming (map (λ t. t.came) talks ++ links_out places)
+      pub keeps : KeepsSeats desk old.view new.view (map talk_met talks) (map seat_out places)
+      pub due : All (Due served_so) places
+      pub begun : AllBegun servers new.view.given new.view.seen talks (map number_out places)
+      pub all_talked : All (λ t. talked t.came t.said t.back t.short) talks
+      pub counted : length links ≡ length talks + length places
+      pub numbered : AreAmong old.view.given links (map visit talks ++ map visit_out places)
+      pub came : Came old.coming new.coming links
       pub back : GivenBack old.given_back new.given_back (map (λ t. t.back) talks)
       pub reached : new.reached ≡ old.reached
       pub shorts : short ≡ short_of talks
 
-    -- what holds of the first seat and of the listener while links are being served by these means
-    pub record Goes {N R : Type 0} (net_tells : N → NetTells) (means : Means J R S) (before : Before J N) (seat : DeskSeat J) (net : N) (running : Running J L S B) : Type 0 where
+    -- what holds of the first seat and of the listener while links are being served by these means, in these places
+    pub record GoesOn {N R : Type 0} (net_tells : N → NetTells) (means : Means J R S) (before : Before J N) (seat : DeskSeat J) (net : N) (short : ℕ) (places : List (Conversing J L S B)) : Type 0 where
       pub seat_is : IsSeatOf (desk_id means.desk.now) seat
       pub few : seat.me.0.given ≤ before.seat.value.me.0.given + 2 ^ 32
-      pub going : Going means.limits.servers (desk_id means.desk.now) (stand net_tells before.seat.value before.net.value) (stand net_tells seat net) running.short running.places.items
+      pub going : Going means.limits.servers (desk_id means.desk.now) (stand net_tells before.seat.value before.net.value) (stand net_tells seat net) short places
 
--- links came, were served, each by a seat of its own, and were given back, so that none is being served any more
+    -- and by those that run
+    abbrev pub Goes : {N R : Type 0} → (N → NetTells) → Means J R S → Before J N → DeskSeat J → N → Running J L S B → Type 0
+    Goes net_tells means before seat net running = GoesOn net_tells means before seat net running.short (taken running.places.items)
+
+-- links came in this order, were served, each by a seat of its own, and were given back, perhaps in another order, so that none is being served any more
 pub record LinksServed (talked : Tells → List Said → Tells → Bool → Type 0) (servers : ℕ) (old new : Stand) : Type 0 where
-  pub talks : List LinkTalk
-  pub all_talked : AllTalked talked old.view.given talks
-  pub at_once : AtOnce servers new.view.seen talks
-  pub came : Came old.coming new.coming (map (λ t. t.came) talks)
-  pub back : GivenBack old.given_back new.given_back (map (λ t. t.back) talks)
+  pub links : List LinkTalk
+  pub returned : List LinkTalk
+  pub all_back : IsPermutation links returned
+  pub all_talked : AllTalked talked old.view.given links
+  pub at_once : AtOnce servers new.view.seen links
+  pub came : Came old.coming new.coming (map (λ t. t.came) links)
+  pub back : GivenBack old.given_back new.given_back (map (λ t. t.back) returned)
   pub reached : new.reached ≡ old.reached
   pub number : new.view.number ≡ old.view.number
-  pub met : new.view.met ≡ old.view.met ++ map talk_met talks
-  pub given : new.view.given ≡ old.view.given + length talks
+  pub met : new.view.met ≡ old.view.met ++ map talk_met returned
+  pub given : new.view.given ≡ old.view.given + length links
   pub mine : new.view.mine ≡ old.view.mine
   pub seen : StartsWith new.view.seen old.view.seen
-  pub known : HasMet new.view.seen (map talk_met talks)
+  pub known : HasMet new.view.seen (map talk_met returned)
 
 -- links were served beside the workers: from this seat and listener to those, with this answer
 abbrev pub HasServedLinks : {J N : Type 0} → (talked : Tells → List Said → Tells → Bool → Type 0) → (N → NetTells) → Limits → (seat seat' : DeskSeat J) → (net net' : N) → Result ℕ ServeFault → Type 0
 HasServedLinks talked tells limits seat seat' net net' answer =
-    (o : LinksServed talked limits.servers (stand tells seat net) (stand tells seat' net')) × EndsServing answer limits.connections o.talks (tells net).faults (tells net').faults
+    (o : LinksServed talked limits.servers (stand tells seat net) (stand tells seat' net')) × EndsServing answer limits.connections o.links (tells net).faults (tells net').faults
 
 -- there is room for as many links and workers as these limits say
 pub record MayServe {J L S : Type 0} (limits : Limits) (room : Room J L S) : Type 0 where
@@ -141,15 +175,17 @@ module _ {J S : Type 0} where
 
     -- so many workers came, and are at work
     pub record Hired (desk : TableId) (v w : View) (count : ℕ) (places : List (Working J S)) : Type 0 where
-      pub keeps : KeepsSeats desk v w [] v.given (workers_out places)
-      pub due : AllDue worked_so places
+      pub keeps : KeepsSeats desk v w [] (workers_out places)
+      pub numbered : AreNumbered v.given (workers_out places)
+      pub due : All (Due worked_so) places
       pub counted : length places ≡ count
 
     -- so many workers came, of whom some have left and were met behind other seats, and the others are at work
     pub record Staffed (desk : TableId) (v w : View) (count : ℕ) (met : List Met) (places : List (Working J S)) : Type 0 where
       pub shifts : List Shift
-      pub keeps : KeepsSeats desk v w (met ++ map shift_met shifts) (v.given + length shifts) (workers_out places)
-      pub due : AllDue worked_so places
+      pub keeps : KeepsSeats desk v w (met ++ map shift_met shifts) (workers_out places)
+      pub numbered : AreNumbered (v.given + length shifts) (workers_out places)
+      pub due : All (Due worked_so) places
       pub worked : AllWorked made v.given shifts
       pub counted : length shifts + length places ≡ count
 

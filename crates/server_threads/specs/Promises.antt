@@ -1,5 +1,4 @@
 -- What runs in a thread, or was run in place of one.
-use Rattle.std.specs.Prelude.{List, [], ◌∷◌}
 use Rattle.server_threads.specs.declared.places.Place.{Place}
 use Rattle.server_threads.specs.declared.places.Place.TheVariants.{Thread, Here}
 
@@ -13,8 +12,3 @@ module _ {T P : Type 0} where
   abbrev pub Due : (P → T → Type 0) → Place T P → Type 0
   Due kept (Thread child) = Unit {0}
   Due kept (Here done promise) = kept promise done
-
-  -- so is each of these
-  abbrev pub AllDue : (P → T → Type 0) → List (Place T P) → Type 0
-  AllDue kept [] = Unit {0}
-  AllDue kept (place ∷ places) = Due kept place × AllDue kept places

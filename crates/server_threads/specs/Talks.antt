@@ -53,7 +53,7 @@ Came old new links = BothTold old new (λ before after. before ≡ links ++ afte
 abbrev pub GivenBack : Option (List Tells) → Option (List Tells) → List Tells → Type 0
 GivenBack old new links = BothTold old new (λ before after. after ≡ before ++ links)
 
--- each link was served by a seat of its own, with numbers from this one on, and this holds of what it told when it came, of its seat's moves,
+-- the links came in this order: each was served by a seat of its own, with numbers from this one on, and this holds of what it told when it came, of its seat's moves,
 -- of what it told when it was given back, and of whether memory was wanting
 abbrev pub AllTalked : (Tells → List Said → Tells → Bool → Type 0) → ℕ → List LinkTalk → Type 0
 AllTalked talked n [] = Unit {0}

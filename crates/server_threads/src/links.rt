@@ -1,36 +1,46 @@
 //! Links are accepted and served, each in a thread of its own.
 
-ghost use Rattle.std.specs.Prelude.{◌≡◌, ◌+◌, ◌<◌, ◌≤◌, ◌^◌};
-ghost use Rattle.std.specs.VecDeque.{deque_len, deque_capacity};
+ghost use Rattle.std.specs.Prelude.{◌≡◌, ◌+◌, ◌<◌, ◌≤◌, ◌^◌, ◌∷◌, None};
+ghost use Rattle.std.specs.List.{slice_index_or};
+ghost use Rattle.std.specs.Vec.{vec_len};
 ghost use Rattle.desk.specs.SeatMoves.{desk_id, IsSeatOf};
 ghost use Rattle.server_threads.specs.Talks.{Acts, one_if, short_of};
 ghost use Rattle.server_threads.specs.Promises.{promise_of, Due};
-ghost use Rattle.server_threads.specs.Serving.{stand, MayTake};
-ghost use Rattle.server_threads.specs.OpenLinks.{Goes, LinksServed, CameSo, served_result, served_so};
+ghost use Rattle.server_threads.specs.Serving.{stand, taken, MayTake};
+ghost use Rattle.server_threads.specs.OpenLinks.{GoesOn, Goes, LinksServed, CameSo, served_result, served_so};
 
 use crate::means::{Means, ServeFault};
 use crate::open::OpenLink;
-use crate::places::Place;
+use crate::places::{Place, put_in, take_out};
 use crate::promise::{Finished, ToServe};
 use crate::service::Service;
+use crossbeam_channel::Receiver;
 use desk::{Caller, Desk, Seat};
 use job_table::Verdicts;
 use os_io::{Close, Failed, Link, Listener};
 use std::alloc::Global;
-use std::collections::VecDeque;
 use std::marker::PhantomData;
 use std::snapshot::Snapshot;
 use std::sync::Wait;
 use std::thread::{Scope, Threads};
 use workers::Bell;
 
-/// The places of links, in the order in which they came.
-pub(crate) type Places<J, L, S, B> = VecDeque<Place<Finished<Seat<J>, L>, ToServe<J, L, S, B>>>;
+/// A link that is being served.
+type Serving<J, L, S, B> = Place<Finished<Seat<J>, L>, ToServe<J, L, S, B>>;
+
+/// As many places as links may be served at once.
+pub(crate) type Places<J, L, S, B> = Vec<Option<Serving<J, L, S, B>>>;
 
 /// The links that are being served, and how many of those before them ended for want of memory.
+///
+/// A number that says which place is free, or becomes so, is a hint: whoever takes a place joins the thread that is still in it.
 #[derive(Drop)]
 pub(crate) struct Running<J: Verdicts, L: Link, S: Service<J>, B: Bell> {
     pub(crate) places: Places<J, L, S, B>,
+    /// The numbers of the places that are free.
+    pub(crate) free: Vec<usize>,
+    /// The numbers of those whose threads have done all they had to do. There are as many places in the channel, so nobody waits to send.
+    pub(crate) left: Receiver<usize>,
     pub(crate) short: u64,
 }
 
@@ -55,7 +65,7 @@ impl<J: Verdicts, N> Before<J, N> {
 }
 
 /// Serves a link in a thread of its own, by moves of this seat, and closes it when the conversation is over, so that its peer reads the
-/// end. Where no thread can be started, it is served here.
+/// end. As its last act the thread says that this place becomes free. Where no thread can be started, the link is served here.
 fn serve_link<
     's,
     E,
@@ -70,7 +80,8 @@ fn serve_link<
     scope: &'s Scope<'s, E>,
     seat: Seat<J>,
     link: L,
-) -> Place<Finished<Seat<J>, L>, ToServe<J, L, S, B>>
+    at: usize,
+) -> Serving<J, L, S, B>
     requires seat { IsSeatOf (desk_id means.now.desk.now) seat }
     requires open { L.is_open link }
     ensures seat { (promise_of result).seat.value ≡ seat }
@@ -82,6 +93,7 @@ fn serve_link<
         alloc,
         desk,
         service,
+        leaving,
         ..
     } = *means;
     let promise = ToServe::of(&seat, &link);
@@ -105,7 +117,9 @@ fn serve_link<
             desk: _,
             seat: _seat,
         } = caller;
-        Finished { seat, link, short }
+        let done = Finished { seat, link, short };
+        let _ = leaving.send(rt, at);
+        done
     };
     match scope.spawn_with(promise, work) {
         Ok(child) => Place::Thread(child),
@@ -121,33 +135,51 @@ fn number_of(so: bool) -> u64
     if so { 1 } else { 0 }
 }
 
-/// Joins the thread that was started first, takes its seat in, and gives its link back.
-fn join_oldest<J: Verdicts + Send + Sync, N: Listener, R: Threads, S: Service<J>, B: Bell>(
+/// Joins a thread, takes its seat in, and gives its link back.
+fn join_one<J: Verdicts + Send + Sync, N: Listener, R: Threads, S: Service<J>, B: Bell>(
     means: &Means<'_, J, R, S>,
     before: &Before<J, N>,
     seat: &mut Seat<J>,
     net: &mut N,
     running: &mut Running<J, N::Conn, S, B>,
+    place: Serving<J, N::Conn, S, B>,
 )
-    requires goes { Goes J.right (S.talked B.rang) N.Conn.tells N.tells means.now before.now seat.old net.old running.old }
-    requires some { 0 < deque_len running.old.places }
+    requires goes { GoesOn J.right (S.talked B.rang) N.Conn.tells N.tells means.now before.now seat.old net.old running.old.short (place ∷ taken running.old.places.items) }
     ensures goes { Goes J.right (S.talked B.rang) N.Conn.tells N.tells means.now before.now seat.new net.new running.new }
     ensures given { seat.new.me.0.given ≡ seat.old.me.0.given }
     ensures faults { (N.tells net.new).faults ≡ (N.tells net.old).faults }
-    ensures one_fewer { deque_len running.new.places + 1 ≡ deque_len running.old.places }
-    ensures room { deque_capacity running.new.places ≡ deque_capacity running.old.places }
+    ensures places { running.new.places ≡ running.old.places }
 {
-    let Some(place) = running.places.pop_front() else {
-        unreachable!()
-    };
     let done = place.join(means.rt);
     means.desk.meet(seat, done.seat);
     net.done(done.link);
     running.short += number_of(done.short);
 }
 
-/// Joins the oldest thread where so many run that no other may be started.
-fn make_way<J: Verdicts + Send + Sync, N: Listener, R: Threads, S: Service<J>, B: Bell>(
+/// Joins the thread that is in this place, if any is, so that the place is free.
+fn clear<J: Verdicts + Send + Sync, N: Listener, R: Threads, S: Service<J>, B: Bell>(
+    means: &Means<'_, J, R, S>,
+    before: &Before<J, N>,
+    seat: &mut Seat<J>,
+    net: &mut N,
+    running: &mut Running<J, N::Conn, S, B>,
+    at: usize,
+)
+    requires goes { Goes J.right (S.talked B.rang) N.Conn.tells N.tells means.now before.now seat.old net.old running.old }
+    requires within { at < vec_len running.old.places }
+    ensures goes { Goes J.right (S.talked B.rang) N.Conn.tells N.tells means.now before.now seat.new net.new running.new }
+    ensures given { seat.new.me.0.given ≡ seat.old.me.0.given }
+    ensures faults { (N.tells net.new).faults ≡ (N.tells net.old).faults }
+    ensures free { slice_index_or running.new.places.items at None ≡ None }
+    ensures len { vec_len running.new.places ≡ vec_len running.old.places }
+{
+    if let Some(place) = take_out(&mut running.places, at) {
+        join_one(means, before, seat, net, running, place);
+    }
+}
+
+/// Joins the threads that have said that their places become free.
+fn join_left<J: Verdicts + Send + Sync, N: Listener, R: Threads + Wait, S: Service<J>, B: Bell>(
     means: &Means<'_, J, R, S>,
     before: &Before<J, N>,
     seat: &mut Seat<J>,
@@ -155,17 +187,47 @@ fn make_way<J: Verdicts + Send + Sync, N: Listener, R: Threads, S: Service<J>, B
     running: &mut Running<J, N::Conn, S, B>,
 )
     requires goes { Goes J.right (S.talked B.rang) N.Conn.tells N.tells means.now before.now seat.old net.old running.old }
-    requires some { 0 < means.now.limits.servers }
-    requires within { deque_len running.old.places ≤ means.now.limits.servers }
     ensures goes { Goes J.right (S.talked B.rang) N.Conn.tells N.tells means.now before.now seat.new net.new running.new }
     ensures given { seat.new.me.0.given ≡ seat.old.me.0.given }
     ensures faults { (N.tells net.new).faults ≡ (N.tells net.old).faults }
-    ensures below { deque_len running.new.places < means.now.limits.servers }
-    ensures room { deque_capacity running.new.places ≡ deque_capacity running.old.places }
+    ensures len { vec_len running.new.places ≡ vec_len running.old.places }
 {
-    if running.places.len() >= means.limits.servers as usize {
-        join_oldest(means, before, seat, net, running);
+    for _ in 0..means.limits.servers {
+        let Ok(at) = running.left.try_recv(means.rt) else {
+            break;
+        };
+        if at < running.places.len() {
+            clear(means, before, seat, net, running, at);
+            let _ = running.free.push(at);
+        }
     }
+}
+
+/// A place that is free; where none is, the next that becomes so is waited for.
+fn free_place<J: Verdicts + Send + Sync, N: Listener, R: Threads + Wait, S: Service<J>, B: Bell>(
+    means: &Means<'_, J, R, S>,
+    before: &Before<J, N>,
+    seat: &mut Seat<J>,
+    net: &mut N,
+    running: &mut Running<J, N::Conn, S, B>,
+) -> usize
+    requires goes { Goes J.right (S.talked B.rang) N.Conn.tells N.tells means.now before.now seat.old net.old running.old }
+    requires some { 0 < vec_len running.old.places }
+    ensures goes { Goes J.right (S.talked B.rang) N.Conn.tells N.tells means.now before.now seat.new net.new running.new }
+    ensures given { seat.new.me.0.given ≡ seat.old.me.0.given }
+    ensures faults { (N.tells net.new).faults ≡ (N.tells net.old).faults }
+    ensures within { result < vec_len running.new.places }
+    ensures free { slice_index_or running.new.places.items result None ≡ None }
+    ensures len { vec_len running.new.places ≡ vec_len running.old.places }
+{
+    join_left(means, before, seat, net, running);
+    let hint = match running.free.pop() {
+        Some(at) => at,
+        None => running.left.recv(means.rt).unwrap_or(0),
+    };
+    let at = if hint < running.places.len() { hint } else { 0 };
+    clear(means, before, seat, net, running, at);
+    at
 }
 
 /// Takes so many links, and has each served by a seat of its own, so many at once at most.
@@ -195,16 +257,16 @@ where
     ensures came { CameSo result means.now.limits.connections seat.old.me.0.given seat.new.me.0.given (N.tells net.old).faults (N.tells net.new).faults }
 {
     for turn in 0..means.limits.connections {
-        make_way(means, before, seat, net, running);
+        let at = free_place(means, before, seat, net, running);
         let link = net.accept()?;
         let theirs = means.desk.split(seat);
-        let place = serve_link(means, bell, scope, theirs, link);
-        running.places.push_back_reserved(place);
+        let place = serve_link(means, bell, scope, theirs, link, at);
+        put_in(&mut running.places, at, place);
     }
     Ok(())
 }
 
-/// Joins all threads, the one that was started first before the others, and says how many links ended for want of memory.
+/// Joins all threads, and says how many links ended for want of memory.
 pub(crate) fn join_all<J: Verdicts + Send + Sync, N: Listener, R: Threads, S: Service<J>, B: Bell>(
     means: &Means<'_, J, R, S>,
     before: &Before<J, N>,
@@ -216,12 +278,14 @@ where
     N::Conn: Drop,
     requires goes { Goes J.right (S.talked B.rang) N.Conn.tells N.tells means.now before.now seat.old net.old running }
     ensures seat { IsSeatOf (desk_id means.now.desk.now) seat.new }
-    ensures over { (o : LinksServed (S.talked B.rang) means.now.limits.servers (stand N.tells before.now.seat.value before.now.net.value) (stand N.tells seat.new net.new)) × (result ≡ short_of o.talks) }
+    ensures over { (o : LinksServed (S.talked B.rang) means.now.limits.servers (stand N.tells before.now.seat.value before.now.net.value) (stand N.tells seat.new net.new)) × (result ≡ short_of o.links) }
     ensures given { seat.new.me.0.given ≡ seat.old.me.0.given }
     ensures faults { (N.tells net.new).faults ≡ (N.tells net.old).faults }
 {
-    while running.places.len() > 0 {
-        join_oldest(means, before, seat, net, &mut running);
+    while let Some(last) = running.places.pop() {
+        if let Some(place) = last {
+            join_one(means, before, seat, net, &mut running, place);
+        }
     }
     running.short
 }

@@ -1,11 +1,14 @@
 //! What serving uses, how much is served, and why it ends early.
 
-ghost use Rattle.std.specs.Prelude.{◌<◌, IfOk};
+ghost use Rattle.std.specs.Prelude.{◌≡◌, ◌<◌, [], IfOk};
+ghost use Rattle.std.specs.Vec.{vec_len};
+ghost use Rattle.server_threads.specs.Serving.{taken};
 ghost use Rattle.server_threads.specs.OpenLinks.{MayServe};
 
-use crate::links::Running;
+use crate::links::{Places, Running};
 use crate::service::Service;
 use crate::staff::Shifts;
+use crossbeam_channel::{Sender, bounded};
 use desk::Desk;
 use job_table::Verdicts;
 use os_io::{Link, Memory};
@@ -42,6 +45,8 @@ pub(crate) struct Means<'s, J: Verdicts, R, S> {
     pub(crate) desk: &'s Desk<J>,
     pub(crate) service: &'s S,
     pub(crate) naps: &'s Naps,
+    /// Where a thread that served a link says, as its last act, which place becomes free.
+    pub(crate) leaving: &'s Sender<usize>,
     /// The number of the worker that couldn't be started last.
     pub(crate) missing: &'s AtomicU64,
     pub(crate) limits: Limits,
@@ -55,23 +60,47 @@ pub(crate) struct Room<J: Verdicts, L: Link, S: Service<J>> {
     pub(crate) wake: Wake,
 }
 
+/// So many places, all of them free, with their numbers.
+fn free_places<J: Verdicts, L: Link + Drop, S: Service<J>>(
+    alloc: Global,
+    servers: usize,
+) -> Result<(Places<J, L, S, Wake>, Vec<usize>), Memory>
+    ensures { IfOk result (λ r. (taken r.0.items ≡ []) × (vec_len r.0 ≡ servers)) }
+{
+    let mut places = Vec::with_capacity(alloc, servers)?;
+    let mut free = Vec::with_capacity(alloc, servers)?;
+    for at in 0..servers {
+        places.push_reserved(None);
+        free.push_reserved(at);
+    }
+    Ok((places, free))
+}
+
 impl<J: Verdicts, L: Link + Drop, S: Service<J>> Room<J, L, S> {
-    /// Takes as much room as is needed. What workers sleep on comes with it.
-    pub(crate) fn new(alloc: Global, limits: &Limits) -> Result<(Room<J, L, S>, Naps), Memory>
+    /// Takes as much room as is needed. What workers sleep on comes with it, and where threads of links say that they are over.
+    pub(crate) fn new(
+        alloc: Global,
+        limits: &Limits,
+    ) -> Result<(Room<J, L, S>, Naps, Sender<usize>), Memory>
         requires { 0 < limits.now.servers }
         ensures { IfOk result (λ r. MayServe limits.now r.0) }
     {
-        let places = VecDeque::with_capacity(alloc, limits.servers as usize)?;
+        let servers = limits.servers as usize;
+        let (places, free) = free_places(alloc, servers)?;
         let shifts = VecDeque::with_capacity(alloc, limits.workers as usize)?;
+        let (leaving, left) = bounded(alloc, servers)?;
         let (wake, naps) = wake_pair(alloc)?;
-        let running = Running { places, short: 0 };
-        Ok((
-            Room {
-                running,
-                shifts,
-                wake,
-            },
-            naps,
-        ))
+        let running = Running {
+            places,
+            free,
+            left,
+            short: 0,
+        };
+        let room = Room {
+            running,
+            shifts,
+            wake,
+        };
+        Ok((room, naps, leaving))
     }
 }

@@ -1,6 +1,11 @@
-//! What runs in a thread, or was run in place of one.
+//! What runs in a thread, or was run in place of one, and the places in which it is.
 
+ghost use Rattle.std.specs.Prelude.{◌≡◌, ◌<◌, ◌∷◌, None, MatchOption};
+ghost use Rattle.std.specs.List.{slice_index_or};
+ghost use Rattle.std.specs.List.Sorted.{IsPermutation};
+ghost use Rattle.std.specs.Vec.{vec_len};
 ghost use Rattle.server_threads.specs.Promises.{promise_of, Due};
+ghost use Rattle.server_threads.specs.Serving.{taken};
 
 use std::thread::{Promise, PromisedHandle, Threads};
 
@@ -22,4 +27,24 @@ impl<T, P: Promise<T> + Drop> Place<T, P> {
             Place::Here(done, _) => done,
         }
     }
+}
+
+/// Takes out what is in a place, if anything is.
+pub(crate) fn take_out<T>(places: &mut Vec<Option<T>>, at: usize) -> Option<T>
+    requires { at < vec_len places.old }
+    ensures out { MatchOption result (taken places.new.items ≡ taken places.old.items) (λ one. IsPermutation (taken places.old.items) (one ∷ taken places.new.items)) }
+    ensures free { slice_index_or places.new.items at None ≡ None }
+    ensures len { vec_len places.new ≡ vec_len places.old }
+{
+    places[at].take()
+}
+
+/// Puts something into a place that is free.
+pub(crate) fn put_in<T: Drop>(places: &mut Vec<Option<T>>, at: usize, one: T)
+    requires within { at < vec_len places.old }
+    requires free { slice_index_or places.old.items at None ≡ None }
+    ensures put { IsPermutation (one ∷ taken places.old.items) (taken places.new.items) }
+    ensures len { vec_len places.new ≡ vec_len places.old }
+{
+    places[at] = Some(one);
 }

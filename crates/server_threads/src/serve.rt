@@ -72,8 +72,8 @@ where
 }
 
 /// Serves so many links that come to the listener, each in a thread of its own by moves of a seat of its own, so many at once at
-/// most, beside so many workers, and gives them back in the order in which they came. Behind the last one, and where the listener
-/// fails, the workers finish what waits and leave. The answer is how many links ended for want of memory.
+/// most, beside so many workers, and gives them back, those first whose conversations were over first. Behind the last one, and where
+/// the listener fails, the workers finish what waits and leave. The answer is how many links ended for want of memory.
 ///
 /// The seat is the desk's first, and comes back. A worker that can't be started is missing. A link whose thread can't be started is
 /// served here.
@@ -100,7 +100,7 @@ where
     ensures seat { IsSeatOf (desk_id desk.now) result.0 }
     ensures served { HasServed S.ran (S.talked Untold) N.tells limits seat result.0 net.old net.new result.1 }
 {
-    let Ok((room, naps)) = Room::new(alloc, &limits) else {
+    let Ok((room, naps, leaving)) = Room::new(alloc, &limits) else {
         return (seat, Err(ServeFault::Memory));
     };
     let missing = AtomicU64::new(u64::MAX);
@@ -110,6 +110,7 @@ where
         desk,
         service,
         naps: &naps,
+        leaving: &leaving,
         missing: &missing,
         limits,
     };

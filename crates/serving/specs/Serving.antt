@@ -1,5 +1,6 @@
 -- A server, from `listen` on: the links that came, the one history of the moves of the table of jobs, and the lines that were written.
 use Rattle.std.specs.Prelude.{◌≡◌, ◌≢◌, ◌⊎◌, ℕ, ◌+◌, ◌<◌, ◌≤◌, Bool, true, false, List, [], ◌∷◌, ◌++◌, length, map, count_by, All, Some}
+use Rattle.std.specs.List.Sorted.{IsPermutation}
 use Rattle.os_io.specs.Streams.{Tells, HasRisen}
 use Rattle.os_io.specs.Links.{NetTells, ListenedAt, IsReached}
 use Rattle.job_table.specs.declared.calls.Call.{Call}
@@ -25,6 +26,7 @@ use Rattle.solve_run.specs.JobAnswers.{Right}
 use Rattle.job_solver.specs.Runs.{Makes}
 use Rattle.job_solver.specs.ProvedDocuments.{AreProved}
 use Rattle.command_answers.specs.Outputs.{IsSent, BreaksOff}
+use Rattle.serving.specs.declared.setup.Setup.{Setup}
 use Rattle.serving.specs.declared.ending.Ending.{Ending}
 use Rattle.serving.specs.declared.ending.Ending.TheVariants.{Done, LinkMemory, ListenFault, AnnounceFault, NoMemory, AcceptFault, ReportFault}
 use Rattle.serving.specs.Lines.{listening, jobs_line}
@@ -56,13 +58,14 @@ pub record WorksLast (closer : Shift) (log : List Entry) : Type 0 where
   pub none : calls_by closer.seat others ≡ []
   pub last : log ≡ others ++ by closer.seat closer.said
 
--- one history of moves of the table, step by step from the empty one. The workers have the numbers from 1 on, and their moves are those of
+-- one history of moves of the table, step by step from the empty one whose numbers begin with this one. The workers have the numbers from 1 on, and their moves are those of
 -- their shifts; the links have the next ones, in the order in which they came, and their moves are those of their conversations. Whoever
 -- closes the table is one worker more, with the number 0, whose shift stands last; or no table was opened, and there are no moves. Under the number
 -- of each stand its moves, in their order, and nobody else has any. At most so many links are served at once. Every finish is kept, every document
 -- that is shown is proved, and at the end no job waits
-pub record IsHistory (servers : ℕ) (links : List LinkTalk) (staff : List Shift) (closer : Shift) (log : List Entry) : Type 0 where
+pub record IsHistory (first servers : ℕ) (links : List LinkTalk) (staff : List Shift) (closer : Shift) (log : List Entry) : Type 0 where
   pub table : Register
+  pub begins : table.first ≡ first
   pub runs : LeadsTo Right log table
   pub worked : AllWorked Makes 0 (closer ∷ staff)
   pub talked : AllTalked (Converses Untold) (1 + length staff) links
@@ -76,17 +79,19 @@ pub record IsHistory (servers : ℕ) (links : List LinkTalk) (staff : List Shift
 
 -- ---- what comes and goes
 
--- links came and were given back, in one order, and with at most so many workers, and so many links at once, they made one history. What else
--- holds of the links and the history is given
-pub record Hosts (Further : List LinkTalk → List Entry → Type 0) (workers servers : ℕ) (old new : NetTells) : Type 0 where
+-- links came in this order and were given back, perhaps in another, and with at most so many workers, and so many links at once, they made one
+-- history, whose numbers begin as they were to. What else holds of the links and the history is given
+pub record Hosts (Further : List LinkTalk → List Entry → Type 0) (setup : Setup) (old new : NetTells) : Type 0 where
   pub links : List LinkTalk
+  pub returned : List LinkTalk
   pub staff : List Shift
   pub closer : Shift
   pub log : List Entry
-  pub few : length staff ≤ workers
+  pub all_back : IsPermutation links returned
+  pub few : length staff ≤ setup.limits.workers
   pub came : Came old.coming new.coming (map (λ t. t.came) links)
-  pub back : GivenBack old.given_back new.given_back (map (λ t. t.back) links)
-  pub history : IsHistory servers links staff closer log
+  pub back : GivenBack old.given_back new.given_back (map (λ t. t.back) returned)
+  pub history : IsHistory setup.first setup.limits.servers links staff closer log
   pub ends : Further links log
 
 -- the move gives a number: an issue, or the enter of a job
@@ -133,12 +138,13 @@ abbrev pub ending_of : ServeFault → Ending
 ending_of Failed = AcceptFault
 ending_of Memory = NoMemory
 
--- what was reached: this host and port were listened at, once, and nothing else was; or the listener doesn't listen, and nothing was
-abbrev pub Listened : Ending → (host : List ℕ) → (port : ℕ) → (old new : NetTells) → Type 0
-Listened ListenFault host port old new = new.reached ≡ old.reached
-Listened how host port old new = IsReached old.reached new.reached (ListenedAt host port)
+-- what was reached: this host and port were listened at, once, with this patience, and nothing else was; or the listener doesn't listen, and
+-- nothing was
+abbrev pub Listened : Ending → (host : List ℕ) → (port patience : ℕ) → (old new : NetTells) → Type 0
+Listened ListenFault host port patience old new = new.reached ≡ old.reached
+Listened how host port patience old new = IsReached old.reached new.reached (ListenedAt host port patience)
 
--- a server listened at this host and port, served at most so many links, so many at once, with at most so many workers, and ended so
-pub record IsServerRun (how : Ending) (host : List ℕ) (port workers servers connections : ℕ) (old new : NetTells) (output output' : Tells) : Type 0 where
-  pub listened : Listened how host port old new
-  pub hosts : Hosts (λ links log. ServerEnds connections links log old new output output' how) workers servers old new
+-- a server listened at this host and port, served links as it was set up, and ended so
+pub record IsServerRun (how : Ending) (host : List ℕ) (port : ℕ) (setup : Setup) (old new : NetTells) (output output' : Tells) : Type 0 where
+  pub listened : Listened how host port setup.patience old new
+  pub hosts : Hosts (λ links log. ServerEnds setup.limits.connections links log old new output output' how) setup old new

@@ -1,16 +1,17 @@
 //! A server, from `listen` to its last line.
-ghost use Rattle.std.specs.Prelude.{◌≡◌, ◌<◌, nat_eq};
+ghost use Rattle.std.specs.Prelude.{◌≡◌, ◌<◌, ◌≤◌, ◌^◌, nat_eq};
 ghost use Rattle.os_io.specs.Streams.{SameInput};
 ghost use Rattle.serving.specs.Serving.{done_if, ending_of, IsServerRun};
 
 use crate::ending::Ending;
 use crate::lines::{tell_jobs, tell_listening};
 use crate::links::LinkServer;
+use crate::setup::Setup;
 use desk::Desk;
 use job_solver::{SolvedJobs, Solver, shown_documents_are_proved};
 use job_table::{first_finish_is_kept, numbers_are_given_once};
 use os_io::{Failed, Listener, Sink};
-use server_threads::{Limits, ServeFault, serve_loop};
+use server_threads::{ServeFault, serve_loop};
 use std::alloc::Global;
 use std::sync::Wait;
 use std::thread::Threads;
@@ -37,9 +38,9 @@ fn broken_off(fault: ServeFault) -> Ending
     }
 }
 
-/// Listens at this host and port, says so on the output, and serves as many links that come as the limits say, so many at once at
-/// most, beside so many workers, over a table of jobs of their own. Then it works off what waits, and says how many numbers of jobs
-/// were given.
+/// Listens at this host and port with the patience of the setup, says so on the output, and serves as many links that come as the
+/// limits say, so many at once at most, beside so many workers, over a table of jobs of their own, whose numbers begin as the setup
+/// says. Then it works off what waits, and says how many numbers of jobs were given.
 ///
 /// Workers and links have threads of their own. A worker that can't be started is missing; a link whose thread can't be
 /// started is served by the thread that accepts. `docs/rules/desk.md` and `docs/rules/conversations.md` have the rules.
@@ -50,27 +51,29 @@ pub fn serve<N: Listener, O: Sink, R: Threads + Wait + Sync>(
     output: &mut O,
     host: &str,
     port: u16,
-    limits: Limits,
+    setup: Setup,
 ) -> Ending
 where
     N::Conn: Send + Drop,
-    requires { 0 < limits.servers }
-    ensures served { IsServerRun result host.now port limits.workers limits.servers limits.connections (N.tells net.old) (N.tells net.new) (O.tells output.old) (O.tells output.new) }
+    requires servers { 1 ≤ setup.limits.servers }
+    requires first { 1 ≤ setup.first }
+    requires fits { setup.first ≤ 2 ^ 62 }
+    ensures served { IsServerRun result host.now port setup (N.tells net.old) (N.tells net.new) (O.tells output.old) (O.tells output.new) }
     ensures input { SameInput (O.tells output.old) (O.tells output.new) }
 {
-    let Ok(()) = net.listen(host, port) else {
+    let Ok(()) = net.listen(host, port, setup.patience) else {
         return Ending::ListenFault;
     };
     let Ok(()) = tell_listening(output) else {
         return Ending::AnnounceFault;
     };
-    let Ok((desk, seat)) = Desk::<SolvedJobs>::new(alloc) else {
+    let Ok((desk, seat)) = Desk::<SolvedJobs>::new(alloc, setup.first) else {
         return Ending::NoMemory;
     };
     first_finish_is_kept::<SolvedJobs>();
     numbers_are_given_once::<SolvedJobs>();
     shown_documents_are_proved();
-    let (mut seat, served) = serve_loop(rt, alloc, &desk, seat, net, &LinkServer(()), limits);
+    let (mut seat, served) = serve_loop(rt, alloc, &desk, seat, net, &LinkServer(()), setup.limits);
     work_closing_shift(rt, alloc, &desk, &mut seat, &Solver);
     let given = desk.close(seat).issued();
     match served {
