@@ -1,8 +1,10 @@
 -- Seats go out and come back, and links with them.
-use mathlib.Core.Option.{some, some-injective, some-ne-none}
-use lib.ListN.{get_elem?}
-use Rattle.std.proofs.Common.{◌≡◌, ℕ, zero, ◌+◌, ◌≤◌, ◌<◌, Bool, true, false, List, [], ◌∷◌, ◌++◌, length, map, ◌⊎◌, inl, inr, ⊎_elim, Option, Some, None, Result, Ok, Err, refl, sym, ap, ◌∙◌, subst, append_assoc, append-nil, length-append, arith, suc}
+use mathlib.Core.Option.{some-ne-none}
+use Rattle.std.proofs.Common.{◌≡◌, ℕ, zero, ◌+◌, ◌≤◌, ◌<◌, Bool, true, false, List, [], ◌∷◌, ◌++◌, length, map, get_or, set, All, Contains, IsPermutation, MatchOption, ◌⊎◌, inl, inr, ⊎_elim, Option, Some, None, Result, Ok, Err, refl, sym, ap, ◌∙◌, subst, append_assoc, append-nil, length-append, arith, suc}
 use Rattle.std.proofs.lemmas.List.{map-append, length-map}
+use Rattle.std.proofs.lemmas.List.Elements.{All-nil, All-cons, All-head, All-tail, All-push, All-weaker, All-contains_itself, Contains-append_right}
+use Rattle.std.proofs.lemmas.List.Recursion.{is_sum_by}
+use Rattle.std.proofs.lemmas.List.Sorted.{IsPermutation-refl, IsPermutation-sym, IsPermutation-trans, IsPermutation-cons, IsPermutation-middle, IsPermutation-to_front, IsPermutation-append_right, IsPermutation-map, length_permutation, All-permutation, Contains-permutation, sum_by-IsPermutation}
 use Rattle.atomic_table.specs.Seated.{TableId}
 use Rattle.job_table.specs.History.{Entry as Said}
 use Rattle.os_io.specs.Streams.{Tells}
@@ -12,17 +14,14 @@ use Rattle.desk.specs.declared.view.Met.{Met}
 use Rattle.desk.specs.declared.view.View.{View}
 use Rattle.desk.specs.History.{StartsWith, by, calls_by}
 use Rattle.desk.proofs.Histories.{starts_again}
-use Rattle.desk.proofs.Steps.{length_above}
-use Rattle.atomic_table.proofs.Lists.{at_map}
 use Rattle.desk.specs.Rule.{HasMet, one_more, newcomer, met_as}
 use Rattle.desk.specs.SeatMoves.{IsSeatOf, Meets}
 use Rattle.server_threads.specs.declared.means.ServeFault.{ServeFault}
 use Rattle.server_threads.specs.declared.promise.Finished.{Finished}
 use Rattle.server_threads.specs.Talks.{DeskSeat, LinkTalk, Shift, talk_met, shift_met, one_if, short_of, Came, GivenBack, AllTalked, AllWorked, IsShift, Acts}
-use Rattle.server_threads.specs.declared.places.Place.{Place}
-use Rattle.server_threads.specs.Promises.{Due, AllDue}
-use Rattle.server_threads.specs.Serving.{Stand, Opens, AtOnce, ServesLinks, EndsServing}
-use Rattle.server_threads.specs.OpenLinks.{AllOut, AllOpen, KeepsSeats, Conversing, promised, seats_out, links_out, served_so, Going, Working, shift_promised, workers_out, worked_so, Hired, Staffed, LinksServed, HaveLeft, CameSo, served_result}
+use Rattle.server_threads.specs.Promises.{Due}
+use Rattle.server_threads.specs.Serving.{Stand, taken, Opens, AtOnce, ServesLinks, EndsServing}
+use Rattle.server_threads.specs.OpenLinks.{IsOut, AreNumbered, KeepsSeats, Visit, visit, AreAmong, Begun, AllBegun, Conversing, promised, seat_out, number_out, visit_out, served_so, Going, Working, shift_promised, workers_out, worked_so, Hired, Staffed, LinksServed, HaveLeft, CameSo, served_result}
 
 pub starts_through : (a b c : List Entry) → StartsWith b a → StartsWith c b → StartsWith c a
 starts_through a b c ab bc = (ab.0 ++ bc.0, bc.1 ∙ (ap (λ l. l ++ bc.0) ab.1 ∙ append_assoc a ab.0 bc.0))
@@ -32,44 +31,110 @@ met_suffix : (log : List Entry) (a b : List Met) → HasMet log (a ++ b) → Has
 met_suffix log [] b all = all
 met_suffix log (x ∷ xs) b all = met_suffix log xs b (λ i m at. all (suc i) m at)
 
-module _ {J : Type 0} (desk : TableId) where
-  all_out_snoc : (n : ℕ) (ss : List (DeskSeat J)) (s : DeskSeat J) → AllOut desk n ss → s.table_id ≡ desk → s.me.0.number ≡ n + length ss → s.me.0.mine ≡ [] → AllOut desk n (ss ++ s ∷ [])
-  all_out_snoc n [] s all fits is none = (fits, omega arith, none, tt)
-  all_out_snoc n (x ∷ xs) s all fits is none = (all.0, all.1, all.2, all_out_snoc (n + 1) xs s all.3 fits (omega arith) none)
+-- ---- places
 
-  pub keeps_new : (v : View) (n : ℕ) → v.number ≡ 0 → KeepsSeats {J = J} desk v v [] n []
-  keeps_new v n first = record {
+module _ {A : Type 0} where
+  -- what was in a place, if anything was, was taken out of it
+  pub taken_by : (xs : List (Option A)) (i : ℕ) (d r : Option A) → i < length xs → r ≡ get_or xs i d → MatchOption r (taken (set xs i None) ≡ taken xs) (λ x. IsPermutation (taken xs) (x ∷ taken (set xs i None)))
+  taken_by [] i d r below is = absurd (omega arith)
+  taken_by (o ∷ xs) zero d None below is = ap (λ (p : Option A). taken (p ∷ xs)) is
+  taken_by (o ∷ xs) zero d (Some x) below is = subst (λ (p : Option A). IsPermutation (taken (p ∷ xs)) (x ∷ taken xs)) is (IsPermutation-refl (x ∷ taken xs))
+  taken_by (None ∷ xs) (suc i) d None below is = taken_by xs i d None (omega arith) is
+  taken_by (Some y ∷ xs) (suc i) d None below is = ap (λ (l : List A). y ∷ l) (taken_by xs i d None (omega arith) is)
+  taken_by (None ∷ xs) (suc i) d (Some x) below is = taken_by xs i d (Some x) (omega arith) is
+  taken_by (Some y ∷ xs) (suc i) d (Some x) below is =
+      let rest = taken (set xs i None) in
+      IsPermutation-trans (y ∷ taken xs) (y ∷ x ∷ rest) (x ∷ y ∷ rest) (IsPermutation-cons y (taken xs) (x ∷ rest) (taken_by xs i d (Some x) (omega arith) is)) (IsPermutation-middle (y ∷ []) x rest)
+
+  -- something was put into a place that is free
+  pub taken_put : (xs : List (Option A)) (i : ℕ) (x : A) → i < length xs → get_or xs i None ≡ None → IsPermutation (x ∷ taken xs) (taken (set xs i (Some x)))
+  taken_put [] i x below e = absurd (omega arith)
+  taken_put (o ∷ xs) zero x below e = subst (λ (p : Option A). IsPermutation (x ∷ taken (p ∷ xs)) (x ∷ taken xs)) (sym e) (IsPermutation-refl (x ∷ taken xs))
+  taken_put (None ∷ xs) (suc i) x below e = taken_put xs i x (omega arith) e
+  taken_put (Some y ∷ xs) (suc i) x below e =
+      let rest = taken (set xs i (Some x)) in
+      IsPermutation-trans (x ∷ y ∷ taken xs) (y ∷ x ∷ taken xs) (y ∷ rest) (IsPermutation-sym (y ∷ x ∷ taken xs) (x ∷ y ∷ taken xs) (IsPermutation-middle (y ∷ []) x (taken xs)))
+      (IsPermutation-cons y (x ∷ taken xs) rest (taken_put xs i x (omega arith) e))
+
+  taken_most : (xs : List (Option A)) → length (taken xs) ≤ length xs
+  taken_most [] = omega arith
+  taken_most (None ∷ xs) = omega (arith, taken_most xs)
+  taken_most (Some x ∷ xs) = omega (arith, taken_most xs)
+
+  -- where a place is free, fewer are taken than there are
+  pub taken_fewer : (xs : List (Option A)) (i : ℕ) → i < length xs → get_or xs i None ≡ None → length (taken xs) < length xs
+  taken_fewer [] i below e = absurd (omega arith)
+  taken_fewer (None ∷ xs) i below e = omega (arith, taken_most xs)
+  taken_fewer (Some x ∷ xs) zero below e = absurd (cc)
+  taken_fewer (Some x ∷ xs) (suc i) below e = omega (arith, taken_fewer xs i (omega arith) e)
+
+  taken_append : (xs ys : List (Option A)) → taken (xs ++ ys) ≡ taken xs ++ taken ys
+  taken_append [] ys = refl
+  taken_append (None ∷ xs) ys = taken_append xs ys
+  taken_append (Some x ∷ xs) ys = ap (λ (l : List A). x ∷ l) (taken_append xs ys)
+
+  pub taken_empty : (xs : List (Option A)) → length xs ≡ 0 → taken xs ≡ []
+  taken_empty [] e = refl
+  taken_empty (x ∷ xs) e = absurd (omega arith)
+
+  -- the last place was taken away
+  pub taken_last : (xs ys : List (Option A)) (x : A) → xs ≡ ys ++ Some x ∷ [] → IsPermutation (taken xs) (x ∷ taken ys)
+  taken_last xs ys x e = subst (λ (l : List A). IsPermutation l (x ∷ taken ys)) (sym (ap (λ (l : List (Option A)). taken l) e ∙ taken_append ys (Some x ∷ []))) (IsPermutation-to_front (taken ys) x)
+
+  pub taken_free : (xs ys : List (Option A)) → xs ≡ ys ++ None ∷ [] → taken xs ≡ taken ys
+  taken_free xs ys e = ap (λ (l : List (Option A)). taken l) e ∙ taken_append ys (None ∷ []) ∙ append-nil (taken ys)
+
+-- ---- seats
+
+module _ {J : Type 0} (desk : TableId) where
+  pub keeps_new : (v : View) → v.number ≡ 0 → KeepsSeats {J = J} desk v v [] []
+  keeps_new v first = record {
     first = first;
     number = refl;
     met_is = sym (append-nil v.met);
     given = omega arith;
-    waits = tt;
+    waits = All-nil (IsOut desk);
     mine = refl;
     seen = starts_again v.seen;
     known = λ i m at. absurd (some-ne-none m (sym at));
   }
 
+  -- the order of the seats that are out doesn't matter
+  pub keeps_so : (v w : View) (met : List Met) (out now : List (DeskSeat J)) → IsPermutation out now → KeepsSeats desk v w met out → KeepsSeats desk v w met now
+  keeps_so v w met out now same k = record {
+    first = k.first;
+    number = k.number;
+    met_is = k.met_is;
+    given = let all = k.given in let many = length_permutation out now same in omega arith;
+    waits = All-permutation (IsOut desk) out now same k.waits;
+    mine = k.mine;
+    seen = k.seen;
+    known = k.known;
+  }
+
   -- a seat was split off
-  pub keeps_split : (v w after : View) (met : List Met) (n : ℕ) (out : List (DeskSeat J)) (seat : DeskSeat J) → KeepsSeats desk v w met n out → n + length out ≡ w.given
-      → after ≡ one_more w → seat.table_id ≡ desk → seat.me.0 ≡ newcomer w → KeepsSeats desk v after met n (out ++ seat ∷ [])
-  keeps_split v w after met n out seat k next is fits new = record {
+  pub keeps_split : (v w after : View) (met : List Met) (out : List (DeskSeat J)) (seat : DeskSeat J) → KeepsSeats desk v w met out
+      → after ≡ one_more w → seat.table_id ≡ desk → seat.me.0 ≡ newcomer w → KeepsSeats desk v after met (seat ∷ out)
+  keeps_split v w after met out seat k is fits new = record {
     first = ap (λ (u : View). u.number) is ∙ k.first;
     number = ap (λ (u : View). u.number) is ∙ k.number;
     met_is = ap (λ (u : View). u.met) is ∙ k.met_is;
-    given = let now : after.given ≡ w.given + 1 = ap (λ (u : View). u.given) is in let before = k.given in let longer = length-append out (seat ∷ []) in omega arith;
-    waits = all_out_snoc n out seat k.waits fits (ap (λ (u : View). u.number) new ∙ sym next) (ap (λ (u : View). u.mine) new);
+    given = let now : after.given ≡ w.given + 1 = ap (λ (u : View). u.given) is in let before = k.given in omega arith;
+    waits = All-cons (IsOut desk) seat out (fits, ap (λ (u : View). u.mine) new) k.waits;
     mine = ap (λ (u : View). u.mine) is ∙ k.mine;
     seen = subst (λ (l : List Entry). StartsWith l v.seen) (sym (ap (λ (u : View). u.seen) is)) k.seen;
     known = subst (λ (l : List Entry). HasMet l met) (sym (ap (λ (u : View). u.seen) is)) k.known;
   }
 
-  -- the oldest of the seats that are out was met
-  pub keeps_met : (right : List ℕ → List ℕ → Bool → Option (List ℕ) → Type 0) (holds : List Said → Type 0) (v w after : View) (met : List Met) (n : ℕ) (s other : DeskSeat J) (out : List (DeskSeat J))
-      → KeepsSeats desk v w met n (s ∷ out) → (a : Acts right holds s other) → Meets w other.me.0 after → KeepsSeats desk v after (met ++ record { seat = n; calls = by n a.said } ∷ []) (n + 1) out
-  keeps_met right holds v w after met n s other out k a m =
+  -- one of the seats that are out was met
+  pub keeps_met : (right : List ℕ → List ℕ → Bool → Option (List ℕ) → Type 0) (holds : List Said → Type 0) (v w after : View) (met : List Met) (s other : DeskSeat J) (out : List (DeskSeat J))
+      → KeepsSeats desk v w met (s ∷ out) → (a : Acts right holds s other) → Meets w other.me.0 after → KeepsSeats desk v after (met ++ record { seat = s.me.0.number; calls = by s.me.0.number a.said } ∷ []) out
+  keeps_met right holds v w after met s other out k a m =
+      let n : ℕ = s.me.0.number in
       let new : Met = record { seat = n; calls = by n a.said } in
-      let number : other.me.0.number ≡ n = a.asked.stays.number ∙ k.waits.1 in
-      let calls : other.me.0.mine ≡ by n a.said = a.asked.mine ∙ ap (λ (l : List Entry). l ++ by s.me.0.number a.said) k.waits.2 ∙ ap (λ (j : ℕ). by j a.said) k.waits.1 in
+      let was : IsOut desk s = All-head (IsOut desk) s out k.waits in
+      let number : other.me.0.number ≡ n = a.asked.stays.number in
+      let calls : other.me.0.mine ≡ by n a.said = a.asked.mine ∙ ap (λ (l : List Entry). l ++ by n a.said) was.1 in
       let is_new : met_as other.me.0 ≡ new = λ i. record { seat = number i; calls = calls i } in
       let all : after.met ≡ v.met ++ (met ++ new ∷ []) =
       m.met ∙ ap (λ (x : Met). w.met ++ x ∷ []) is_new ∙ ap (λ (l : List Met). l ++ new ∷ []) k.met_is ∙ append_assoc v.met met (new ∷ []) in record {
@@ -77,15 +142,17 @@ module _ {J : Type 0} (desk : TableId) where
         number = m.number ∙ k.number;
         met_is = all;
         given = let before = k.given in let same = m.given in let longer = length-append met (new ∷ []) in omega arith;
-        waits = k.waits.3;
+        waits = All-tail (IsOut desk) s out k.waits;
         mine = m.mine ∙ k.mine;
         seen = starts_through v.seen w.seen after.seen k.seen m.begins.0;
         known = met_suffix after.seen v.met (met ++ new ∷ []) (subst (λ (l : List Met). HasMet after.seen l) all m.known);
       }
 
-due_snoc : {T P : Type 0} (kept : P → T → Type 0) (places : List (Place T P)) (place : Place T P) → AllDue kept places → Due kept place → AllDue kept (places ++ place ∷ [])
-due_snoc kept [] place all one = (one, tt)
-due_snoc kept (x ∷ xs) place all one = (all.0, due_snoc kept xs place all.1 one)
+  numbered_push : (n : ℕ) (ss : List (DeskSeat J)) (s : DeskSeat J) → AreNumbered n ss → s.me.0.number ≡ n + length ss → AreNumbered n (ss ++ s ∷ [])
+  numbered_push n [] s all is = (omega arith, tt)
+  numbered_push n (x ∷ xs) s all is = (all.0, numbered_push (n + 1) xs s all.1 (omega arith))
+
+-- ---- links as they come and are given back
 
 empty_list : {A : Type 0} (l : List A) → length l ≡ 0 → l ≡ []
 empty_list [] e = refl
@@ -123,143 +190,292 @@ pub short_fits : (ts : List LinkTalk) → short_of ts ≤ length ts
 short_fits [] = omega arith
 short_fits (t ∷ ts) = omega (arith, short_fits ts, one_or_none t.short)
 
+-- how many ended for want of memory doesn't depend on the order
+short_same : (ts us : List LinkTalk) → IsPermutation ts us → short_of us ≡ short_of ts
+short_same ts us same =
+    let sums = is_sum_by short_of (λ (t : LinkTalk). one_if t.short) refl (λ t more. refl) in
+    sums us ∙ sum_by-IsPermutation (λ (t : LinkTalk). one_if t.short) ts us same ∙ sym (sums ts)
+
+module _ {A : Type 0} where
+  at_front : (x y : A) (xs : List A) (k : ℕ) → k < length (x ∷ xs) → get_or (x ∷ xs) k y ≡ y → (x ≡ y) ⊎ Contains xs y
+  at_front x y xs zero below is = inl is
+  at_front x y xs (suc k) below is = inr (k, omega arith, is)
+
+  -- the first of a list is meant, or one of the others
+  front_or_later : (x y : A) (xs : List A) → Contains (x ∷ xs) y → (x ≡ y) ⊎ Contains xs y
+  front_or_later x y xs c = at_front x y xs c.0 c.1 c.2
+
+  front : (x : A) (xs : List A) → Contains (x ∷ xs) x
+  front x xs = (zero, omega arith, refl)
+
+all_unmapped : {A B : Type 0} (P : B → Type 0) (f : A → B) (xs : List A) → All P (map f xs) → All (λ x. P (f x)) xs
+all_unmapped P f [] all = All-nil (λ x. P (f x))
+all_unmapped P f (x ∷ xs) all = All-cons (λ y. P (f y)) x xs (All-head P (f x) (map f xs) all) (all_unmapped P f xs (All-tail P (f x) (map f xs) all))
+
+-- of each link that was met all moves are known
+met_all : (log : List Entry) (ts : List LinkTalk) → HasMet log (map talk_met ts) → All (λ t. calls_by t.seat log ≡ by t.seat t.said) ts
+met_all log [] known = All-nil (λ t. calls_by t.seat log ≡ by t.seat t.said)
+met_all log (t ∷ ts) known = All-cons (λ u. calls_by u.seat log ≡ by u.seat u.said) t ts (known zero (talk_met t) refl) (met_all log ts (λ i m at. known (suc i) m at))
+
+among_more : (n : ℕ) (cs : List Tells) (vs ws : List Visit) → ((v : Visit) → Contains vs v → Contains ws v) → AreAmong n cs vs → AreAmong n cs ws
+among_more n [] vs ws more all = tt
+among_more n (c ∷ cs) vs ws more all = (more (n, c) all.0, among_more (n + 1) cs vs ws more all.1)
+
+among_push : (n m : ℕ) (cs : List Tells) (c : Tells) (vs : List Visit) → m ≡ n + length cs → AreAmong n cs vs → Contains vs (m, c) → AreAmong n (cs ++ c ∷ []) vs
+among_push n m [] c vs is all one = (subst (λ (k : ℕ). Contains vs (k, c)) (omega arith) one, tt)
+among_push n m (x ∷ xs) c vs is all one = (all.0, among_push (n + 1) m xs c vs (omega arith) all.1 one)
+
+-- links that came later are among the others
+among_others : (m : ℕ) (cs : List Tells) (a b : List LinkTalk) (t : LinkTalk) → t.seat < m → AreAmong m cs (map visit (a ++ t ∷ b)) → AreAmong m cs (map visit (a ++ b))
+among_others m [] a b t below all = tt
+among_others m (c ∷ cs) a b t below all =
+    let there = Contains-permutation (map visit (a ++ t ∷ b)) (map visit (t ∷ (a ++ b))) (m, c) (IsPermutation-map visit (a ++ t ∷ b) (t ∷ (a ++ b)) (IsPermutation-middle a t b)) all.0 in (
+      ⊎_elim (λ (here : visit t ≡ (m, c)). absurd (let same : t.seat ≡ m = ap (λ (v : Visit). v.0) here in omega arith)) (λ later. later) (front_or_later (visit t) (m, c) (map visit (a ++ b)) there),
+      among_others (m + 1) cs a b t (omega arith) all.1,
+    )
+
+abbrev Found : List LinkTalk → Visit → Type 0
+Found ts v = (before : List LinkTalk) × (t : LinkTalk) × (after : List LinkTalk) × (ts ≡ before ++ t ∷ after) × (visit t ≡ v)
+
+find : (ts : List LinkTalk) (v : Visit) (k : ℕ) → k < length (map visit ts) → get_or (map visit ts) k v ≡ v → Found ts v
+find [] v k below is = absurd (omega arith)
+find (t ∷ ts) v zero below is = ([], t, ts, refl, is)
+find (t ∷ ts) v (suc k) below is = let f = find ts v k (omega arith) is in (t ∷ f.0, f.1, f.2, ap (λ (l : List LinkTalk). t ∷ l) f.3, f.4)
+
 module _ (talked : Tells → List Said → Tells → Bool → Type 0) where
-  all_talked_snoc : (n : ℕ) (ts : List LinkTalk) (t : LinkTalk) → AllTalked talked n ts → t.seat ≡ n + length ts → talked t.came t.said t.back t.short → AllTalked talked n (ts ++ t ∷ [])
-  all_talked_snoc n [] t all is one = (omega arith, one, tt)
-  all_talked_snoc n (x ∷ xs) t all is one = (all.0, all.1, all_talked_snoc (n + 1) xs t all.2 (omega arith) one)
+  abbrev HasTalked : LinkTalk → Type 0
+  HasTalked t = talked t.came t.said t.back t.short
 
--- what stands in a list with one more at its end
-at_end : {A : Type 0} (l : List A) (a b : A) (j : ℕ) → get_elem? (l ++ a ∷ []) j ≡ some b → (get_elem? l j ≡ some b) ⊎ ((j ≡ length l) × (a ≡ b))
-at_end [] a b zero e = inr (refl, some-injective a b e)
-at_end [] a b (suc j) e = absurd (some-ne-none b (sym e))
-at_end (x ∷ xs) a b zero e = inl e
-at_end (x ∷ xs) a b (suc j) e = ⊎_elim (λ before. inl before) (λ last. let is = last.0 in inr (omega arith, last.1)) (at_end xs a b j e)
+  -- links in the order in which they came
+  abbrev InOrder : ℕ → List Tells → List LinkTalk → Type 0
+  InOrder n cs talks = (links : List LinkTalk) × IsPermutation links talks × (map (λ (t : LinkTalk). t.came) links ≡ cs) × AllTalked talked n links
 
-module _ (servers : ℕ) (log log' : List Entry) (talks : List LinkTalk) (later : StartsWith log' log) where
-  -- more of the history was made
-  opens_later : (j seat : ℕ) (seen : List Entry) → Opens servers log talks j seat seen → Opens servers log' talks j seat seen
-  opens_later j seat seen o = record {
-    begins = starts_through seen log log' o.begins later;
-    none = o.none;
-    earlier = o.earlier;
-  }
+  in_order : (n : ℕ) (cs : List Tells) (talks : List LinkTalk) → length cs ≡ length talks → AreAmong n cs (map visit talks) → All HasTalked talks → InOrder n cs talks
+  in_order n [] talks many all talk = subst (λ (l : List LinkTalk). InOrder n [] l) (sym (empty_list talks (sym many))) ([], IsPermutation-refl [], refl, tt)
+  in_order n (c ∷ cs) talks many all talk =
+      let f = find talks (n, c) all.0.0 all.0.1 all.0.2 in
+      let a = f.0 in
+      let t = f.1 in
+      let b = f.2 in
+      let mid = IsPermutation-middle a t b in
+      let number : t.seat ≡ n = ap (λ (v : Visit). v.0) f.4 in
+      let longer = length-append a (t ∷ b) in
+      let both = length-append a b in
+      let size : length talks ≡ length (a ++ t ∷ b) = ap (λ (l : List LinkTalk). length l) f.3 in
+      let each = All-permutation HasTalked (a ++ t ∷ b) (t ∷ (a ++ b)) mid (subst (λ (l : List LinkTalk). All HasTalked l) f.3 talk) in
+      let o = in_order (n + 1) cs (a ++ b) (omega arith) (among_others (n + 1) cs a b t (omega arith) (subst (λ (l : List LinkTalk). AreAmong (n + 1) cs (map visit l)) f.3 all.1)) (All-tail HasTalked t (a ++ b) each) in
+      subst (λ (l : List LinkTalk). InOrder n (c ∷ cs) l) (sym f.3) (
+        t ∷ o.0,
+        IsPermutation-trans (t ∷ o.0) (t ∷ (a ++ b)) (a ++ t ∷ b) (IsPermutation-cons t o.0 (a ++ b) o.1) (IsPermutation-sym (a ++ t ∷ b) (t ∷ (a ++ b)) mid),
+        (λ i. ap (λ (v : Visit). v.1) f.4 i ∷ o.2 i),
+        (number, All-head HasTalked t (a ++ b) each, o.3),
+      )
 
-  -- and one link more was given back, which came less than so many before this one
-  opens_on : (t : LinkTalk) (j seat : ℕ) (seen : List Entry) → j < length talks + servers → Opens servers log talks j seat seen → Opens servers log' (talks ++ t ∷ []) j seat seen
-  opens_on t j seat seen near o = record {
-    begins = starts_through seen log log' o.begins later;
-    none = o.none;
-    earlier = λ i u at far. ⊎_elim (λ before. o.earlier i u before far) (λ last. let is = last.0 in absurd (omega arith)) (at_end talks t u i at);
-  }
+-- ---- at most so many at once
 
-  all_open_on : {J : Type 0} (t : LinkTalk) (n : ℕ) (ss : List (DeskSeat J)) → n + length ss ≤ length talks + servers → AllOpen servers log talks n ss → AllOpen servers log' (talks ++ t ∷ []) n ss
-  all_open_on t n [] near all = tt
-  all_open_on t n (s ∷ ss) near all = (opens_on t n s.me.0.number s.me.0.seen (omega arith) all.0, all_open_on t (n + 1) ss (omega arith) all.1)
+module _ (servers : ℕ) where
+  -- the order of those that are being served doesn't matter
+  begun_so : (given : ℕ) (log : List Entry) (talks : List LinkTalk) (running now : List ℕ) → IsPermutation running now → AllBegun servers given log talks running → AllBegun servers given log talks now
+  begun_so given log talks running now same all =
+      let seats = map (λ (t : LinkTalk). t.seat) talks in
+      All-permutation (λ n. (n < given) × ((seen : List Entry) × Begun servers log talks now n seen)) (seats ++ running) (seats ++ now) (IsPermutation-append_right seats running now same)
+      (All-weaker (λ n. (n < given) × ((seen : List Entry) × Begun servers log talks running n seen)) (λ n. (n < given) × ((seen : List Entry) × Begun servers log talks now n seen))
+      (λ n b. (b.0, (b.1.0, record { opens = b.1.1.opens; still = All-permutation (λ k. k < n → Contains b.1.1.opens.out k) running now same b.1.1.still }))) (seats ++ running) all)
 
-all_open_snoc : {J : Type 0} (servers : ℕ) (log : List Entry) (talks : List LinkTalk) (n j : ℕ) (ss : List (DeskSeat J)) (s : DeskSeat J) → j ≡ n + length ss → AllOpen servers log talks n ss
-    → Opens servers log talks j s.me.0.number s.me.0.seen → AllOpen servers log talks n (ss ++ s ∷ [])
-all_open_snoc servers log talks n j [] s is all one = (subst (λ (k : ℕ). Opens servers log talks k s.me.0.number s.me.0.seen) (omega arith) one, tt)
-all_open_snoc servers log talks n j (x ∷ xs) s is all one = (all.0, all_open_snoc servers log talks (n + 1) j xs s (omega arith) all.1 one)
+  -- one link more is being served
+  begun_more : (given : ℕ) (log : List Entry) (talks : List LinkTalk) (running : List ℕ) → AllBegun servers given log talks running → length running < servers → calls_by given log ≡ []
+      → All (λ t. calls_by t.seat log ≡ by t.seat t.said) talks → AllBegun servers (given + 1) log talks (given ∷ running)
+  begun_more given log talks running all few none done =
+      let seats = map (λ (t : LinkTalk). t.seat) talks in
+      let new : Begun servers log talks (given ∷ running) given log = record {
+        opens = record {
+          out = running;
+          few = few;
+          begins = starts_again log;
+          none = none;
+          earlier = All-weaker (λ t. calls_by t.seat log ≡ by t.seat t.said) (λ t. t.seat < given → Contains running t.seat ⊎ (calls_by t.seat log ≡ by t.seat t.said)) (λ t is less. inr is) talks done;
+        };
+        still = All-cons (λ k. k < given → Contains running k) given running (λ less. absurd (omega arith))
+            (All-weaker (Contains running) (λ k. k < given → Contains running k) (λ k is less. is) running (All-contains_itself running));
+      } in
+      All-permutation (λ n. (n < given + 1) × ((seen : List Entry) × Begun servers log talks (given ∷ running) n seen)) (given ∷ (seats ++ running)) (seats ++ given ∷ running)
+      (IsPermutation-sym (seats ++ given ∷ running) (given ∷ (seats ++ running)) (IsPermutation-middle seats given running))
+      (All-cons (λ n. (n < given + 1) × ((seen : List Entry) × Begun servers log talks (given ∷ running) n seen)) given (seats ++ running) (omega arith, (log, new))
+      (All-weaker (λ n. (n < given) × ((seen : List Entry) × Begun servers log talks running n seen)) (λ n. (n < given + 1) × ((seen : List Entry) × Begun servers log talks (given ∷ running) n seen))
+      (λ n b. (
+        let below = b.0 in omega arith,
+        (
+          b.1.0,
+          record {
+            opens = b.1.1.opens;
+            still = All-cons (λ k. k < n → Contains b.1.1.opens.out k) given running (λ less. absurd (let below = b.0 in omega arith)) b.1.1.still;
+          },
+        ),
+      )) (seats ++ running) all))
 
--- a seat that was just split off has made no move, and has seen all moves of the seats that were met
-opens_new : {J : Type 0} (servers : ℕ) (desk : TableId) (w : View) (talks : List LinkTalk) (j : ℕ) (seat : DeskSeat J) → HasMet w.seen (map talk_met talks) → IsSeatOf desk seat → seat.me.0 ≡ newcomer w → Opens servers w.seen talks j seat.me.0.number seat.me.0.seen
-opens_new servers desk w talks j seat known fits new = subst (λ (v : View). Opens servers w.seen talks j v.number v.seen) (sym new) record {
-  begins = starts_again w.seen;
-  none = subst (λ (v : View). calls_by v.number v.seen ≡ v.mine) new fits.ready.stand;
-  earlier = λ i u at far. known i (talk_met u) (at_map talk_met talks i u at);
-}
+  -- one of them was given back
+  begun_met : (given : ℕ) (log log' : List Entry) (talks : List LinkTalk) (t : LinkTalk) (running : List ℕ) → StartsWith log' log → AllBegun servers given log talks (t.seat ∷ running) → AllBegun servers given log' (talks ++ t ∷ []) running
+  begun_met given log log' talks t running later all =
+      let seats = map (λ (u : LinkTalk). u.seat) talks in
+      let same : seats ++ t.seat ∷ running ≡ map (λ (u : LinkTalk). u.seat) (talks ++ t ∷ []) ++ running =
+      sym (append_assoc seats (t.seat ∷ []) running) ∙ ap (λ (l : List ℕ). l ++ running) (sym (map-append (λ (u : LinkTalk). u.seat) talks (t ∷ []))) in
+      subst (λ (l : List ℕ). All (λ n. (n < given) × ((seen : List Entry) × Begun servers log' (talks ++ t ∷ []) running n seen)) l) same
+      (All-weaker (λ n. (n < given) × ((seen : List Entry) × Begun servers log talks (t.seat ∷ running) n seen)) (λ n. (n < given) × ((seen : List Entry) × Begun servers log' (talks ++ t ∷ []) running n seen))
+      (λ n b. let o = b.1.1.opens in (
+        b.0,
+        (
+          b.1.0,
+          record {
+            opens = record {
+              out = o.out;
+              few = o.few;
+              begins = starts_through b.1.0 log log' o.begins later;
+              none = o.none;
+              earlier = All-push (λ u. u.seat < n → Contains o.out u.seat ⊎ (calls_by u.seat b.1.0 ≡ by u.seat u.said)) talks t o.earlier
+                  (λ less. inl (All-head (λ k. k < n → Contains o.out k) t.seat running b.1.1.still less));
+            };
+            still = All-tail (λ k. k < n → Contains o.out k) t.seat running b.1.1.still;
+          },
+        ),
+      )) (seats ++ t.seat ∷ running) all)
+
+  -- none is being served any more
+  begun_over : (given : ℕ) (log : List Entry) (links talks : List LinkTalk) → IsPermutation talks links → AllBegun servers given log talks [] → AtOnce servers log links
+  begun_over given log links talks same all =
+      let seats = map (λ (u : LinkTalk). u.seat) talks in
+      All-permutation (λ t. (seen : List Entry) × Opens servers log links t.seat seen) talks links same
+      (All-weaker (λ t. (t.seat < given) × ((seen : List Entry) × Begun servers log talks [] t.seat seen)) (λ t. (seen : List Entry) × Opens servers log links t.seat seen)
+      (λ t b. let o = b.1.1.opens in (
+        b.1.0,
+        record {
+          out = o.out;
+          few = o.few;
+          begins = o.begins;
+          none = o.none;
+          earlier = All-permutation (λ u. u.seat < t.seat → Contains o.out u.seat ⊎ (calls_by u.seat b.1.0 ≡ by u.seat u.said)) talks links same o.earlier;
+        },
+      )) talks
+      (all_unmapped (λ n. (n < given) × ((seen : List Entry) × Begun servers log talks [] n seen)) (λ (u : LinkTalk). u.seat) talks
+      (subst (λ (l : List ℕ). All (λ n. (n < given) × ((seen : List Entry) × Begun servers log talks [] n seen)) l) (append-nil seats) all)))
+
+-- ---- links that are being served
 
 module _ {J L S B : Type 0} (right : List ℕ → List ℕ → Bool → Option (List ℕ) → Type 0) (talked : Tells → List Said → Tells → Bool → Type 0) (tells : L → Tells) (servers : ℕ) (desk : TableId) (old : Stand) where
-  pub going_begins : (now : Stand) (short : ℕ) (items : List (Conversing J L S B)) → old ≡ now → now.view.number ≡ 0 → short ≡ 0 → items ≡ [] → Going right talked tells servers desk old now short items
-  going_begins now short items same first none empty = subst (λ (z : Stand × List (Conversing J L S B)). Going right talked tells servers desk old z.0 short z.1) (λ i. (same i, sym empty i)) record {
+  abbrev Lasting : Stand → ℕ → List (Conversing J L S B) → Type 0
+  Lasting now short places = Going right talked tells servers desk old now short places
+
+  pub going_begins : (now : Stand) (short : ℕ) (items : List (Conversing J L S B)) → old ≡ now → now.view.number ≡ 0 → short ≡ 0 → items ≡ [] → Lasting now short items
+  going_begins now short items same first none empty = subst (λ (z : Stand × List (Conversing J L S B)). Lasting z.0 short z.1) (λ i. (same i, sym empty i)) record {
+    links = [];
     talks = [];
-    keeps = keeps_new desk old.view (old.view.given + 0) (ap (λ (s : Stand). s.view.number) same ∙ first);
-    due = tt;
-    few = omega arith;
-    waits = tt;
-    at_once = λ j t at. absurd (some-ne-none t (sym at));
-    all_talked = tt;
+    keeps = keeps_new desk old.view (ap (λ (s : Stand). s.view.number) same ∙ first);
+    due = All-nil (Due (served_so right talked tells));
+    begun = All-nil (λ n. (n < old.view.given) × ((seen : List Entry) × Begun servers old.view.seen [] [] n seen));
+    all_talked = All-nil (λ t. talked t.came t.said t.back t.short);
+    counted = refl;
+    numbered = tt;
     came = came_none old.coming;
     back = back_none old.given_back;
     reached = refl;
     shorts = none;
   }
 
-  -- a link came, a seat was split off for it, and it is being served
-  pub going_more : (now after : Stand) (short : ℕ) (places items : List (Conversing J L S B)) (place : Conversing J L S B) (link : L) (seat : DeskSeat J) → Going right talked tells servers desk old now short places → length places < servers
-      → Comes now.coming after.coming (tells link) → after.given_back ≡ now.given_back → after.reached ≡ now.reached → after.view ≡ one_more now.view → IsSeatOf desk seat → seat.me.0 ≡ newcomer now.view
-      → (promised place).seat.value ≡ seat → (promised place).link.value ≡ link → Due (served_so right talked tells) place → items ≡ places ++ place ∷ [] → Going right talked tells servers desk old after short items
-  going_more now after short places items place link seat g room comes back reached is fits new seat_is link_is due are =
-      let seen : after.view.seen ≡ now.view.seen = ap (λ (v : View). v.seen) is in
-      let opens : Opens servers now.view.seen g.talks (length g.talks + length places) (promised place).seat.value.me.0.number (promised place).seat.value.me.0.seen =
-      opens_new servers desk now.view g.talks (length g.talks + length places) (promised place).seat.value g.keeps.known (subst (λ (s : DeskSeat J). IsSeatOf desk s) (sym seat_is) fits) (ap (λ (s : DeskSeat J). s.me.0) seat_is ∙ new) in
-      let its : Tells = tells (promised place).link.value in
-      let before : List Tells = map (λ (t : LinkTalk). t.came) g.talks in
-      let out : List Tells = links_out {S = S} {B = B} right talked tells places in
-      let seats : seats_out (places ++ place ∷ []) ≡ seats_out places ++ (promised place).seat.value ∷ [] = map-append (λ (p : Conversing J L S B). (promised p).seat.value) places (place ∷ []) in
-      let links : links_out {S = S} {B = B} right talked tells (places ++ place ∷ []) ≡ out ++ its ∷ [] = map-append (λ (p : Conversing J L S B). tells (promised p).link.value) places (place ∷ []) in
-      subst (λ (l : List (Conversing J L S B)). Going right talked tells servers desk old after short l) (sym are) record {
+  pub going_as : (now : Stand) (short : ℕ) (places items : List (Conversing J L S B)) → items ≡ places → Lasting now short places → Lasting now short items
+  going_as now short places items same g = subst (λ (l : List (Conversing J L S B)). Lasting now short l) (sym same) g
+
+  -- the order of the places doesn't matter
+  pub going_so : (now : Stand) (short : ℕ) (places items : List (Conversing J L S B)) → IsPermutation places items → Lasting now short places → Lasting now short items
+  going_so now short places items same g =
+      let visits = map (λ (p : Conversing J L S B). visit_out right talked tells p) places in
+      let visits' = map (λ (p : Conversing J L S B). visit_out right talked tells p) items in
+      let before = map visit g.talks in record {
+        links = g.links;
         talks = g.talks;
-        keeps = subst (λ (ss : List (DeskSeat J)). KeepsSeats desk old.view after.view (map talk_met g.talks) (old.view.given + length g.talks) ss) (sym seats)
-            (keeps_split desk old.view now.view after.view (map talk_met g.talks) (old.view.given + length g.talks) (seats_out places) (promised place).seat.value g.keeps
-            (let all = g.keeps.given in let same = length-map g.talks talk_met in omega arith) is (ap (λ (s : DeskSeat J). s.table_id) seat_is ∙ fits.desk_is) (ap (λ (s : DeskSeat J). s.me.0) seat_is ∙ new));
-        due = due_snoc (served_so right talked tells) places place g.due due;
-        few = let longer = length-append places (place ∷ []) in omega arith;
-        waits = subst (λ (z : List Entry × List (DeskSeat J)). AllOpen servers z.0 g.talks (length g.talks) z.1) (λ i. (sym seen i, sym seats i))
-            (all_open_snoc servers now.view.seen g.talks (length g.talks) (length g.talks + length places) (seats_out places) (promised place).seat.value (let many = length-map places (λ (p : Conversing J L S B). (promised p).seat.value) in omega arith) g.waits opens);
-        at_once = subst (λ (l : List Entry). AtOnce servers l g.talks) (sym seen) g.at_once;
+        keeps = keeps_so desk old.view now.view (map talk_met g.talks) (map seat_out places) (map seat_out items) (IsPermutation-map seat_out places items same) g.keeps;
+        due = All-permutation (Due (served_so right talked tells)) places items same g.due;
+        begun = begun_so servers now.view.given now.view.seen g.talks (map number_out places) (map number_out items) (IsPermutation-map number_out places items same) g.begun;
         all_talked = g.all_talked;
-        came = subst (λ (l : List Tells). Came old.coming after.coming l) (append_assoc before out (its ∷ []) ∙ ap (λ (l : List Tells). before ++ l) (sym links))
-            (came_more old.coming now.coming after.coming (before ++ out) its g.came (subst (λ (x : L). Comes now.coming after.coming (tells x)) (sym link_is) comes));
+        counted = let many = length_permutation places items same in let all = g.counted in omega arith;
+        numbered = among_more old.view.given g.links (before ++ visits) (before ++ visits')
+            (λ v. Contains-permutation (before ++ visits) (before ++ visits') v (IsPermutation-append_right before visits visits' (IsPermutation-map (λ (p : Conversing J L S B). visit_out right talked tells p) places items same))) g.numbered;
+        came = g.came;
+        back = g.back;
+        reached = g.reached;
+        shorts = g.shorts;
+      }
+
+  -- a link came, a seat was split off for it, and it is being served
+  pub going_more : (now after : Stand) (short : ℕ) (places : List (Conversing J L S B)) (place : Conversing J L S B) (link : L) (seat : DeskSeat J) → Lasting now short places → length places < servers
+      → Comes now.coming after.coming (tells link) → after.given_back ≡ now.given_back → after.reached ≡ now.reached → after.view ≡ one_more now.view → IsSeatOf desk seat → seat.me.0 ≡ newcomer now.view
+      → (promised place).seat.value ≡ seat → (promised place).link.value ≡ link → Due (served_so right talked tells) place → Lasting after short (place ∷ places)
+  going_more now after short places place link seat g room comes back reached is fits new seat_is link_is due =
+      let seen : after.view.seen ≡ now.view.seen = ap (λ (v : View). v.seen) is in
+      let given : after.view.given ≡ now.view.given + 1 = ap (λ (v : View). v.given) is in
+      let it : (seat_out place).me.0 ≡ newcomer now.view = ap (λ (s : DeskSeat J). s.me.0) seat_is ∙ new in
+      let number : number_out place ≡ now.view.given = ap (λ (v : View). v.number) it in
+      let none : calls_by now.view.given now.view.seen ≡ [] = subst (λ (v : View). calls_by v.number v.seen ≡ v.mine) new fits.ready.stand in
+      let its : Tells = tells (promised place).link.value in
+      let visits = map (λ (p : Conversing J L S B). visit_out right talked tells p) places in
+      let before = map visit g.talks in
+      let many = length-map places (λ (p : Conversing J L S B). number_out p) in
+      let begun = begun_more servers now.view.given now.view.seen g.talks (map number_out places) g.begun (omega arith) none (met_all now.view.seen g.talks g.keeps.known) in record {
+        links = g.links ++ its ∷ [];
+        talks = g.talks;
+        keeps = keeps_split desk old.view now.view after.view (map talk_met g.talks) (map seat_out places) (seat_out place) g.keeps is (ap (λ (s : DeskSeat J). s.table_id) seat_is ∙ fits.desk_is) it;
+        due = All-cons (Due (served_so right talked tells)) place places due g.due;
+        begun = subst (λ (z : ℕ × List Entry × ℕ). AllBegun servers z.0 z.1 g.talks (z.2 ∷ map number_out places)) (λ i. (sym given i, sym seen i, sym number i)) begun;
+        all_talked = g.all_talked;
+        counted = let all = g.counted in let longer = length-append g.links (its ∷ []) in omega arith;
+        numbered = among_push old.view.given (number_out place) g.links its (before ++ (number_out place, its) ∷ visits)
+            (let all = g.counted in let seats = g.keeps.given in let mets = length-map g.talks talk_met in let outs = length-map places (λ (p : Conversing J L S B). seat_out p) in omega arith)
+            (among_more old.view.given g.links (before ++ visits) (before ++ (number_out place, its) ∷ visits)
+            (λ v c. Contains-permutation ((number_out place, its) ∷ (before ++ visits)) (before ++ (number_out place, its) ∷ visits) v
+            (IsPermutation-sym (before ++ (number_out place, its) ∷ visits) ((number_out place, its) ∷ (before ++ visits)) (IsPermutation-middle before (number_out place, its) visits))
+            (Contains-append_right ((number_out place, its) ∷ []) (before ++ visits) v c)) g.numbered)
+            (Contains-append_right before ((number_out place, its) ∷ visits) (number_out place, its) (front (number_out place, its) visits));
+        came = came_more old.coming now.coming after.coming g.links its g.came (subst (λ (x : L). Comes now.coming after.coming (tells x)) (sym link_is) comes);
         back = subst (λ (l : Option (List Tells)). GivenBack old.given_back l (map (λ (t : LinkTalk). t.back) g.talks)) (sym back) g.back;
         reached = reached ∙ g.reached;
         shorts = g.shorts;
       }
 
   -- how many links ended for want of memory is below the number of those that came
-  pub going_few : (now : Stand) (short : ℕ) (items : List (Conversing J L S B)) → Going right talked tells servers desk old now short items → now.view.given ≤ old.view.given + 4294967296 → short ≤ 4294967296
+  pub going_few : (now : Stand) (short : ℕ) (items : List (Conversing J L S B)) → Lasting now short items → now.view.given ≤ old.view.given + 4294967296 → short ≤ 4294967296
   going_few now short items g few =
       let all = g.keeps.given in let same = length-map g.talks talk_met in let least = short_fits g.talks in let is = g.shorts in omega arith
 
   -- the seat that was promised back is the desk's
-  pub oldest_of_desk : (now : Stand) (short : ℕ) (items rest : List (Conversing J L S B)) (place : Conversing J L S B) (holds : List Said → Type 0) (seat : DeskSeat J) → Going right talked tells servers desk old now short items
-      → items ≡ place ∷ rest → Acts right holds (promised place).seat.value seat → IsSeatOf desk seat
-  oldest_of_desk now short items rest place holds seat g is a =
-      let went = subst (λ (l : List (Conversing J L S B)). Going right talked tells servers desk old now short l) is g in
-      subst (λ (d : TableId). IsSeatOf d seat) went.keeps.waits.0 a.desk_is
+  pub seat_of_desk : (now : Stand) (short : ℕ) (places : List (Conversing J L S B)) (place : Conversing J L S B) (holds : List Said → Type 0) (seat : DeskSeat J) → Lasting now short (place ∷ places)
+      → Acts right holds (promised place).seat.value seat → IsSeatOf desk seat
+  seat_of_desk now short places place holds seat g a =
+      let out : IsOut desk (seat_out place) = All-head (IsOut desk) (seat_out place) (map seat_out places) g.keeps.waits in
+      subst (λ (d : TableId). IsSeatOf d seat) out.0 a.desk_is
 
-  -- the oldest link was served as was promised, its seat was met, and it was given back
-  pub going_met : (now after : Stand) (short short' : ℕ) (items places : List (Conversing J L S B)) (place : Conversing J L S B) (done : Finished (DeskSeat J) L) → Going right talked tells servers desk old now short items
-      → items ≡ place ∷ places → served_so {S = S} {B = B} right talked tells (promised place) done → Meets now.view done.seat.me.0 after.view → IsGivenBack now.given_back after.given_back (tells done.link)
-      → after.coming ≡ now.coming → after.reached ≡ now.reached → short' ≡ short + one_if done.short → Going right talked tells servers desk old after short' places
-  going_met now after short short' items places place done all is a met back coming reached counted =
-      let g = subst (λ (l : List (Conversing J L S B)). Going right talked tells servers desk old now short l) is all in
-      let n : ℕ = old.view.given + length g.talks in
-      let t : LinkTalk = record { came = tells (promised place).link.value; back = tells done.link; seat = n; said = a.said; short = done.short } in
-      let k = keeps_met desk right (λ said. talked (tells (promised place).link.value) said (tells done.link) done.short) old.view now.view after.view (map talk_met g.talks) n (promised place).seat.value done.seat (seats_out places) g.keeps a met in
-      let mets : map talk_met (g.talks ++ t ∷ []) ≡ map talk_met g.talks ++ talk_met t ∷ [] = map-append talk_met g.talks (t ∷ []) in
-      let longer = length-append g.talks (t ∷ []) in
-      let more : n + 1 ≡ old.view.given + length (g.talks ++ t ∷ []) = omega arith in
-      let later : StartsWith after.view.seen now.view.seen = met.begins.0 in
-      let few : length places + 1 ≤ servers = let all = g.few in omega arith in
-      let many = length-map places (λ (p : Conversing J L S B). (promised p).seat.value) in
-      let opened = opens_on servers now.view.seen after.view.seen g.talks later t (length g.talks) (promised place).seat.value.me.0.number (promised place).seat.value.me.0.seen (omega arith) g.waits.0 in record {
+  pub place_due : (now : Stand) (short : ℕ) (places : List (Conversing J L S B)) (place : Conversing J L S B) → Lasting now short (place ∷ places) → Due (served_so right talked tells) place
+  place_due now short places place g = All-head (Due (served_so right talked tells)) place places g.due
+
+  -- a link was served as was promised, its seat was met, and it was given back
+  pub going_met : (now after : Stand) (short short' : ℕ) (places : List (Conversing J L S B)) (place : Conversing J L S B) (done : Finished (DeskSeat J) L) → Lasting now short (place ∷ places)
+      → served_so {S = S} {B = B} right talked tells (promised place) done → Meets now.view done.seat.me.0 after.view → IsGivenBack now.given_back after.given_back (tells done.link)
+      → after.coming ≡ now.coming → after.reached ≡ now.reached → short' ≡ short + one_if done.short → Lasting after short' places
+  going_met now after short short' places place done g a met back coming reached counted =
+      let t : LinkTalk = record { came = tells (promised place).link.value; back = tells done.link; seat = number_out place; said = a.said; short = done.short } in
+      let k = keeps_met desk right (λ said. talked (tells (promised place).link.value) said (tells done.link) done.short) old.view now.view after.view (map talk_met g.talks) (seat_out place) done.seat (map seat_out places) g.keeps a met in
+      let visits = map (λ (p : Conversing J L S B). visit_out right talked tells p) places in
+      let before = map visit g.talks in
+      let same : before ++ visit t ∷ visits ≡ map visit (g.talks ++ t ∷ []) ++ visits =
+      sym (append_assoc before (visit t ∷ []) visits) ∙ ap (λ (l : List Visit). l ++ visits) (sym (map-append visit g.talks (t ∷ []))) in
+      let longer = length-append g.talks (t ∷ []) in record {
+        links = g.links;
         talks = g.talks ++ t ∷ [];
-        keeps = subst (λ (z : List Met × ℕ). KeepsSeats desk old.view after.view z.0 z.1 (seats_out places)) (λ i. (sym mets i, more i)) k;
-        due = g.due.1;
-        few = omega arith;
-        waits = subst (λ (k : ℕ). AllOpen servers after.view.seen (g.talks ++ t ∷ []) k (seats_out places)) (omega arith) (all_open_on servers now.view.seen after.view.seen g.talks later t (length g.talks + 1) (seats_out places) (omega arith) g.waits.1);
-        at_once = λ j u at. ⊎_elim
-            (λ before. let o = g.at_once j u before in (o.0, opens_on servers now.view.seen after.view.seen g.talks later t j u.seat o.0 (let below = length_above g.talks j u before in omega arith) o.1))
-            (λ last. (
-              (promised place).seat.value.me.0.seen,
-              subst (λ (z : ℕ × ℕ). Opens servers after.view.seen (g.talks ++ t ∷ []) z.0 z.1 (promised place).seat.value.me.0.seen) (λ i. (sym last.0 i, (g.keeps.waits.1 ∙ ap (λ (x : LinkTalk). x.seat) last.1) i)) opened,
-            ))
-            (at_end g.talks t u j at);
-        all_talked = all_talked_snoc talked old.view.given g.talks t g.all_talked refl a.held;
-        came = subst (λ (z : Option (List Tells) × List Tells). Came old.coming z.0 z.1)
-            (λ i. (sym coming i, (sym (ap (λ (l : List Tells). l ++ links_out {S = S} {B = B} right talked tells places) (map-append (λ (u : LinkTalk). u.came) g.talks (t ∷ [])) ∙ append_assoc (map (λ (u : LinkTalk). u.came) g.talks) (t.came ∷ []) (links_out {S = S} {B = B} right talked tells places))) i))
-            g.came;
+        keeps = subst (λ (l : List Met). KeepsSeats desk old.view after.view l (map seat_out places)) (sym (map-append talk_met g.talks (t ∷ []))) k;
+        due = All-tail (Due (served_so right talked tells)) place places g.due;
+        begun = subst (λ (n : ℕ). AllBegun servers n after.view.seen (g.talks ++ t ∷ []) (map number_out places)) (sym met.given)
+            (begun_met servers now.view.given now.view.seen after.view.seen g.talks t (map number_out places) met.begins.0 g.begun);
+        all_talked = All-push (λ u. talked u.came u.said u.back u.short) g.talks t g.all_talked a.held;
+        counted = let all = g.counted in omega arith;
+        numbered = subst (λ (l : List Visit). AreAmong old.view.given g.links l) same g.numbered;
+        came = subst (λ (l : Option (List Tells)). Came old.coming l g.links) (sym coming) g.came;
         back = subst (λ (l : List Tells). GivenBack old.given_back after.given_back l) (sym (map-append (λ (u : LinkTalk). u.back) g.talks (t ∷ [])))
             (back_more old.given_back now.given_back after.given_back _ _ g.back back);
         reached = reached ∙ g.reached;
@@ -267,25 +483,31 @@ module _ {J L S B : Type 0} (right : List ℕ → List ℕ → Bool → Option (
       }
 
   -- none is being served any more
-  pub going_over : (now : Stand) (short : ℕ) (items : List (Conversing J L S B)) → Going right talked tells servers desk old now short items → length items ≡ 0 → (o : LinksServed talked servers old now) × (short ≡ short_of o.talks)
+  pub going_over : (now : Stand) (short : ℕ) (items : List (Conversing J L S B)) → Lasting now short items → items ≡ [] → (o : LinksServed talked servers old now) × (short ≡ short_of o.links)
   going_over now short items all none =
-      let g = subst (λ (l : List (Conversing J L S B)). Going right talked tells servers desk old now short l) (empty_list items none) all in (
+      let g = subst (λ (l : List (Conversing J L S B)). Lasting now short l) none all in
+      let o = in_order talked old.view.given g.links g.talks (let many = g.counted in omega arith) (subst (λ (l : List Visit). AreAmong old.view.given g.links l) (append-nil (map visit g.talks)) g.numbered) g.all_talked in
+      let same = IsPermutation-sym o.0 g.talks o.1 in (
         record {
-          talks = g.talks;
-          all_talked = g.all_talked;
-          at_once = g.at_once;
-          came = subst (λ (l : List Tells). Came old.coming now.coming l) (append-nil (map (λ (t : LinkTalk). t.came) g.talks)) g.came;
+          links = o.0;
+          returned = g.talks;
+          all_back = o.1;
+          all_talked = o.3;
+          at_once = begun_over servers now.view.given now.view.seen o.0 g.talks same g.begun;
+          came = subst (λ (l : List Tells). Came old.coming now.coming l) (sym o.2) g.came;
           back = g.back;
           reached = g.reached;
           number = g.keeps.number;
           met = g.keeps.met_is;
-          given = let all = g.keeps.given in let same = length-map g.talks talk_met in omega arith;
+          given = let all = g.keeps.given in let mets = length-map g.talks talk_met in let many = length_permutation o.0 g.talks o.1 in omega arith;
           mine = g.keeps.mine;
           seen = g.keeps.seen;
           known = g.keeps.known;
         },
-        g.shorts,
+        g.shorts ∙ short_same o.0 g.talks o.1,
       )
+
+-- ---- workers
 
 module _ (made : List ℕ → List ℕ → List Bool → Option (List ℕ) → Type 0) where
   all_worked_snoc : (n : ℕ) (ss : List Shift) (s : Shift) → AllWorked made n ss → s.seat ≡ n + length ss → IsShift made s.said → AllWorked made n (ss ++ s ∷ [])
@@ -295,8 +517,9 @@ module _ (made : List ℕ → List ℕ → List Bool → Option (List ℕ) → T
 module _ {J S : Type 0} (right : List ℕ → List ℕ → Bool → Option (List ℕ) → Type 0) (made : List ℕ → List ℕ → List Bool → Option (List ℕ) → Type 0) (desk : TableId) (v : View) where
   pub hired_begins : (items : List (Working J S)) → v.number ≡ 0 → items ≡ [] → Hired right made desk v v 0 items
   hired_begins items first empty = subst (λ (l : List (Working J S)). Hired right made desk v v 0 l) (sym empty) record {
-    keeps = keeps_new desk v v.given first;
-    due = tt;
+    keeps = keeps_new desk v first;
+    numbered = tt;
+    due = All-nil (Due (worked_so right made));
     counted = refl;
   }
 
@@ -304,31 +527,36 @@ module _ {J S : Type 0} (right : List ℕ → List ℕ → Bool → Option (List
   pub hired_more : (w after : View) (count : ℕ) (places items : List (Working J S)) (place : Working J S) → Hired right made desk v w count places → after ≡ one_more w
       → (shift_promised place).seat.value.table_id ≡ desk → (shift_promised place).seat.value.me.0 ≡ newcomer w → Due (worked_so right made) place → items ≡ places ++ place ∷ [] → Hired right made desk v after (count + 1) items
   hired_more w after count places items place h is fits new due are =
-      let seats : workers_out (places ++ place ∷ []) ≡ workers_out places ++ (shift_promised place).seat.value ∷ [] = map-append (λ (p : Working J S). (shift_promised p).seat.value) places (place ∷ []) in
+      let it : DeskSeat J = (shift_promised place).seat.value in
+      let seats : workers_out (places ++ place ∷ []) ≡ workers_out places ++ it ∷ [] = map-append (λ (p : Working J S). (shift_promised p).seat.value) places (place ∷ []) in
       subst (λ (l : List (Working J S)). Hired right made desk v after (count + 1) l) (sym are) record {
-        keeps = subst (λ (out : List (DeskSeat J)). KeepsSeats desk v after [] v.given out) (sym seats)
-            (keeps_split desk v w after [] v.given (workers_out places) (shift_promised place).seat.value h.keeps (let all = h.keeps.given in omega arith) is fits new);
-        due = due_snoc (worked_so right made) places place h.due due;
+        keeps = subst (λ (out : List (DeskSeat J)). KeepsSeats desk v after [] out) (sym seats)
+            (keeps_so desk v after [] (it ∷ workers_out places) (workers_out places ++ it ∷ []) (IsPermutation-sym (workers_out places ++ it ∷ []) (it ∷ workers_out places) (IsPermutation-to_front (workers_out places) it))
+            (keeps_split desk v w after [] (workers_out places) it h.keeps is fits new));
+        numbered = subst (λ (out : List (DeskSeat J)). AreNumbered v.given out) (sym seats)
+            (numbered_push desk v.given (workers_out places) it h.numbered (let number : it.me.0.number ≡ w.given = ap (λ (u : View). u.number) new in let all = h.keeps.given in omega arith));
+        due = All-push (Due (worked_so right made)) places place h.due due;
         counted = let before = h.counted in let longer = length-append places (place ∷ []) in omega arith;
       }
 
   -- while they worked, other seats were split off and met
   pub staffed_begins : {talked : Tells → List Said → Tells → Bool → Type 0} (u : View) (servers : ℕ) (old new : Stand) (count : ℕ) (places : List (Working J S)) → (o : LinksServed talked servers old new) → v ≡ u → Hired right made desk u old.view count places
-      → Staffed right made desk v new.view count (map talk_met o.talks) places
+      → Staffed right made desk v new.view count (map talk_met o.returned) places
   staffed_begins u servers old new count places o is hired =
       let h = subst (λ (z : View). Hired right made desk z old.view count places) (sym is) hired in
-      let met : List Met = map talk_met o.talks in record {
+      let met : List Met = map talk_met o.returned in record {
         shifts = [];
         keeps = record {
           first = o.number ∙ h.keeps.first;
           number = o.number ∙ h.keeps.number;
           met_is = o.met ∙ ap (λ (l : List Met). l ++ met) (h.keeps.met_is ∙ append-nil v.met) ∙ ap (λ (l : List Met). v.met ++ l) (sym (append-nil met));
-          given = let before = h.keeps.given in let after = o.given in let same = length-append met [] in let many = length-map o.talks talk_met in omega arith;
-          waits = subst (λ (j : ℕ). AllOut desk j (workers_out places)) (omega arith) h.keeps.waits;
+          given = let before = h.keeps.given in let after = o.given in let same = length-append met [] in let many = length-map o.returned talk_met in let all = length_permutation o.links o.returned o.all_back in omega arith;
+          waits = h.keeps.waits;
           mine = o.mine ∙ h.keeps.mine;
           seen = starts_through v.seen old.view.seen new.view.seen h.keeps.seen o.seen;
           known = subst (λ (l : List Met). HasMet new.view.seen l) (sym (append-nil met)) o.known;
         };
+        numbered = subst (λ (j : ℕ). AreNumbered j (workers_out places)) (omega arith) h.numbered;
         due = h.due;
         worked = tt;
         counted = let all = h.counted in omega arith;
@@ -338,7 +566,11 @@ module _ {J S : Type 0} (right : List ℕ → List ℕ → Bool → Option (List
       → items ≡ place ∷ rest → Acts right holds (shift_promised place).seat.value seat → IsSeatOf desk seat
   worker_of_desk w count met items rest place holds seat s is a =
       let went = subst (λ (l : List (Working J S)). Staffed right made desk v w count met l) is s in
-      subst (λ (d : TableId). IsSeatOf d seat) went.keeps.waits.0 a.desk_is
+      let out : IsOut desk (shift_promised place).seat.value = All-head (IsOut desk) (shift_promised place).seat.value (workers_out rest) went.keeps.waits in
+      subst (λ (d : TableId). IsSeatOf d seat) out.0 a.desk_is
+
+  pub worker_due : (w : View) (count : ℕ) (met : List Met) (items rest : List (Working J S)) (place : Working J S) → Staffed right made desk v w count met items → items ≡ place ∷ rest → Due (worked_so right made) place
+  worker_due w count met items rest place s is = All-head (Due (worked_so right made)) place rest (subst (λ (l : List (Working J S)). All (Due (worked_so right made)) l) is s.due)
 
   -- a worker left, and was met
   pub staffed_met : (w after : View) (count : ℕ) (met : List Met) (items places : List (Working J S)) (place : Working J S) (seat : DeskSeat J) → Staffed right made desk v w count met items
@@ -347,14 +579,18 @@ module _ {J S : Type 0} (right : List ℕ → List ℕ → Bool → Option (List
       let s = subst (λ (l : List (Working J S)). Staffed right made desk v w count met l) is all in
       let n : ℕ = v.given + length s.shifts in
       let t : Shift = record { seat = n; said = a.said } in
-      let k = keeps_met desk right (IsShift made) v w after (met ++ map shift_met s.shifts) n (shift_promised place).seat.value seat (workers_out places) s.keeps a meets in
+      let it : DeskSeat J = (shift_promised place).seat.value in
+      let number : it.me.0.number ≡ n = s.numbered.0 in
+      let k = keeps_met desk right (IsShift made) v w after (met ++ map shift_met s.shifts) it seat (workers_out places) s.keeps a meets in
+      let one : (met ++ map shift_met s.shifts) ++ record { seat = it.me.0.number; calls = by it.me.0.number a.said } ∷ [] ≡ (met ++ map shift_met s.shifts) ++ shift_met t ∷ [] =
+      ap (λ (j : ℕ). (met ++ map shift_met s.shifts) ++ record { seat = j; calls = by j a.said } ∷ []) number in
       let mets : (met ++ map shift_met s.shifts) ++ shift_met t ∷ [] ≡ met ++ map shift_met (s.shifts ++ t ∷ []) =
       append_assoc met (map shift_met s.shifts) (shift_met t ∷ []) ∙ ap (λ (l : List Met). met ++ l) (sym (map-append shift_met s.shifts (t ∷ []))) in
-      let longer = length-append s.shifts (t ∷ []) in
-      let more : n + 1 ≡ v.given + length (s.shifts ++ t ∷ []) = omega arith in record {
+      let longer = length-append s.shifts (t ∷ []) in record {
         shifts = s.shifts ++ t ∷ [];
-        keeps = subst (λ (z : List Met × ℕ). KeepsSeats desk v after z.0 z.1 (workers_out places)) (λ i. (mets i, more i)) k;
-        due = s.due.1;
+        keeps = subst (λ (l : List Met). KeepsSeats desk v after l (workers_out places)) (one ∙ mets) k;
+        numbered = subst (λ (j : ℕ). AreNumbered j (workers_out places)) (omega arith) s.numbered.1;
+        due = All-tail (Due (worked_so right made)) place places s.due;
         worked = all_worked_snoc made v.given s.shifts t s.worked refl a.held;
         counted = let before = s.counted in omega arith;
       }
@@ -380,17 +616,20 @@ module _ {J S : Type 0} (right : List ℕ → List ℕ → Bool → Option (List
 -- workers came, links were served, and the workers left
 pub serves : {J S : Type 0} (right : List ℕ → List ℕ → Bool → Option (List ℕ) → Type 0) (made : List ℕ → List ℕ → List Bool → Option (List ℕ) → Type 0) (talked : Tells → List Said → Tells → Bool → Type 0) (desk : TableId) (v : View) (servers : ℕ) (old staffed served new : Stand) (count : ℕ) (places : List (Working J S))
     → v ≡ old.view → Hired right made desk old.view staffed.view count places → staffed.coming ≡ old.coming → staffed.given_back ≡ old.given_back → staffed.reached ≡ old.reached → (o : LinksServed talked servers staffed served)
-    → HaveLeft made v new.view count (map talk_met o.talks) → StartsWith new.view.seen served.view.seen → new.coming ≡ served.coming → new.given_back ≡ served.given_back → new.reached ≡ served.reached → ServesLinks made talked servers count old new o.talks
+    → HaveLeft made v new.view count (map talk_met o.returned) → StartsWith new.view.seen served.view.seen → new.coming ≡ served.coming → new.given_back ≡ served.given_back → new.reached ≡ served.reached → ServesLinks made talked servers count old new o.links
 serves {J} {S} right made talked desk v servers old staffed served new count places is h coming back reached o left later coming' back' reached' =
-    let l = subst (λ (u : View). HaveLeft made u new.view count (map talk_met o.talks)) is left in record {
+    let l = subst (λ (u : View). HaveLeft made u new.view count (map talk_met o.returned)) is left in record {
       shifts = l.shifts;
+      returned = o.returned;
+      all_back = o.all_back;
       staff = let all = l.counted in omega arith;
       worked = l.worked;
-      all_talked = subst (λ (n : ℕ). AllTalked talked n o.talks)
+      all_talked = subst (λ (n : ℕ). AllTalked talked n o.links)
           (let given = h.keeps.given in let many = h.counted in let all = l.counted in let same = length-map places (λ (p : Working J S). (shift_promised p).seat.value) in omega arith) o.all_talked;
-      at_once = λ j t at. let opened = o.at_once j t at in (opened.0, opens_later servers served.view.seen new.view.seen o.talks later j t.seat opened.0 opened.1);
-      came = subst (λ (z : Option (List Tells) × Option (List Tells)). Came z.0 z.1 (map (λ (t : LinkTalk). t.came) o.talks)) (λ i. (coming i, sym coming' i)) o.came;
-      back = subst (λ (z : Option (List Tells) × Option (List Tells)). GivenBack z.0 z.1 (map (λ (t : LinkTalk). t.back) o.talks)) (λ i. (back i, sym back' i)) o.back;
+      at_once = All-weaker (λ t. (seen : List Entry) × Opens servers served.view.seen o.links t.seat seen) (λ t. (seen : List Entry) × Opens servers new.view.seen o.links t.seat seen)
+          (λ t is. (is.0, record { out = is.1.out; few = is.1.few; begins = starts_through is.0 served.view.seen new.view.seen is.1.begins later; none = is.1.none; earlier = is.1.earlier })) o.links o.at_once;
+      came = subst (λ (z : Option (List Tells) × Option (List Tells)). Came z.0 z.1 (map (λ (t : LinkTalk). t.came) o.links)) (λ i. (coming i, sym coming' i)) o.came;
+      back = subst (λ (z : Option (List Tells) × Option (List Tells)). GivenBack z.0 z.1 (map (λ (t : LinkTalk). t.back) o.returned)) (λ i. (back i, sym back' i)) o.back;
       reached = reached' ∙ (o.reached ∙ reached);
       met = l.met_is;
       known = l.known;
@@ -399,37 +638,39 @@ serves {J} {S} right made talked desk v servers old staffed served new count pla
       number = l.number;
       out =
           let given = l.given in
-          let longer = length-append old.view.met (map talk_met o.talks ++ map shift_met l.shifts) in
-          let both = length-append (map talk_met o.talks) (map shift_met l.shifts) in
+          let longer = length-append old.view.met (map talk_met o.returned ++ map shift_met l.shifts) in
+          let both = length-append (map talk_met o.returned) (map shift_met l.shifts) in
           let same = length-map l.shifts shift_met in
-          let met : length new.view.met ≡ length (old.view.met ++ (map talk_met o.talks ++ map shift_met l.shifts)) = ap (λ (ms : List Met). length ms) l.met_is in omega arith;
+          let met : length new.view.met ≡ length (old.view.met ++ (map talk_met o.returned ++ map shift_met l.shifts)) = ap (λ (ms : List Met). length ms) l.met_is in omega arith;
     }
 
 -- of the links that were served it is known how many they are, by the seats that were split off
-ends : {X E : Type 0} (talked : Tells → List Said → Tells → Bool → Type 0) (servers : ℕ) (old served : Stand) (came : Result X E) (short connections faults faults' : ℕ) → (o : LinksServed talked servers old served) → short ≡ short_of o.talks
-    → CameSo came connections old.view.given served.view.given faults faults' → EndsServing (served_result came short) connections o.talks faults faults'
+ends : {X E : Type 0} (talked : Tells → List Said → Tells → Bool → Type 0) (servers : ℕ) (old served : Stand) (came : Result X E) (short connections faults faults' : ℕ) → (o : LinksServed talked servers old served) → short ≡ short_of o.links
+    → CameSo came connections old.view.given served.view.given faults faults' → EndsServing (served_result came short) connections o.links faults faults'
 ends talked servers old served (Ok x) short connections faults faults' o shorts c = (shorts, (let all = o.given in let is = c.0 in omega arith), c.1)
 ends talked servers old served (Err e) short connections faults faults' o shorts c = (let all = o.given in let is = c.0 in omega arith, c.1)
 
 -- all links that came were served
 pub links_served : {X E : Type 0} (talked : Tells → List Said → Tells → Bool → Type 0) (servers : ℕ) (begun old served : Stand) (came : Result X E) (short connections seats faults faults' faults'' : ℕ) (answer : Result ℕ ServeFault) → begun ≡ old
-    → (over : (o : LinksServed talked servers begun served) × (short ≡ short_of o.talks)) → CameSo came connections old.view.given seats faults faults' → served.view.given ≡ seats → faults'' ≡ faults' → answer ≡ served_result came short
-    → (o : LinksServed talked servers old served) × EndsServing answer connections o.talks faults faults''
+    → (over : (o : LinksServed talked servers begun served) × (short ≡ short_of o.links)) → CameSo came connections old.view.given seats faults faults' → served.view.given ≡ seats → faults'' ≡ faults' → answer ≡ served_result came short
+    → (o : LinksServed talked servers old served) × EndsServing answer connections o.links faults faults''
 links_served talked servers begun old served came short connections seats faults faults' faults'' answer start over c given same is =
     let went : CameSo came connections begun.view.given served.view.given faults faults'' = subst (λ (z : ℕ × ℕ × ℕ). CameSo came connections z.0 z.1 faults z.2) (λ i. ((sym start i).view.given, sym given i, sym same i)) c in
-    subst (λ (z : Stand). (o : LinksServed talked servers z served) × EndsServing answer connections o.talks faults faults'') start (
+    subst (λ (z : Stand). (o : LinksServed talked servers z served) × EndsServing answer connections o.links faults faults'') start (
       over.0,
-      subst (λ (a : Result ℕ ServeFault). EndsServing a connections over.0.talks faults faults'') (sym is) (ends talked servers begun served came short connections faults faults'' over.0 over.1 went),
+      subst (λ (a : Result ℕ ServeFault). EndsServing a connections over.0.links faults faults'') (sym is) (ends talked servers begun served came short connections faults faults'' over.0 over.1 went),
     )
 
 -- where there was no room, nothing was served
 pub serves_none : (made : List ℕ → List ℕ → List Bool → Option (List ℕ) → Type 0) (talked : Tells → List Said → Tells → Bool → Type 0) (servers count : ℕ) (old : Stand) → ServesLinks made talked servers count old old []
 serves_none made talked servers count old = record {
   shifts = [];
+  returned = [];
+  all_back = IsPermutation-refl [];
   staff = omega arith;
   worked = tt;
   all_talked = tt;
-  at_once = λ j t at. absurd (some-ne-none t (sym at));
+  at_once = All-nil (λ t. (seen : List Entry) × Opens servers old.view.seen [] t.seat seen);
   came = came_none old.coming;
   back = back_none old.given_back;
   reached = refl;

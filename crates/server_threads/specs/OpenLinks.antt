@@ -1,7 +1,5 @@
 -- Seats that are out, and links that are being served.
-use Rattle.std.specs.Prelude.{◌≡◌, ℕ, ◌+◌, ◌<◌, ◌≤◌, ◌^◌, Bool, List, [], ◌∷◌, ◌++◌, length, map, All, Option, Result, Ok, Err}
-use Rattle.std.specs.List.{Contains}
-use Rattle.std.specs.List.Sorted.{IsPermutation}
+use Rattle.std.specs.Prelude.{◌≡◌, ℕ, ◌+◌, ◌<◌, ◌≤◌, ◌^◌, Bool, List, [], ◌∷◌, ◌++◌, length, map, All, Contains, IsPermutation, Option, Result, Ok, Err}
 use Rattle.std.specs.VecDeque.{deque_len, deque_capacity}
 use Rattle.atomic_table.specs.Seated.{TableId}
 use Rattle.job_table.specs.History.{Entry as Said}

@@ -1,8 +1,6 @@
 //! Links are accepted and served, each in a thread of its own.
 
-ghost use Rattle.std.specs.Prelude.{◌≡◌, ◌+◌, ◌<◌, ◌≤◌, ◌^◌, ◌∷◌, None};
-ghost use Rattle.std.specs.List.{slice_index_or};
-ghost use Rattle.std.specs.Vec.{vec_len};
+ghost use Rattle.std.specs.Prelude.{◌≡◌, ◌+◌, ◌<◌, ◌≤◌, ◌^◌, ◌∷◌, None, slice_index_or, vec_len};
 ghost use Rattle.desk.specs.SeatMoves.{desk_id, IsSeatOf};
 ghost use Rattle.server_threads.specs.Talks.{Acts, one_if, short_of};
 ghost use Rattle.server_threads.specs.Promises.{promise_of, Due};

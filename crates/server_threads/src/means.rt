@@ -1,7 +1,6 @@
 //! What serving uses, how much is served, and why it ends early.
 
-ghost use Rattle.std.specs.Prelude.{◌≡◌, ◌<◌, [], IfOk};
-ghost use Rattle.std.specs.Vec.{vec_len};
+ghost use Rattle.std.specs.Prelude.{◌≡◌, ◌<◌, [], IfOk, vec_len};
 ghost use Rattle.server_threads.specs.Serving.{taken};
 ghost use Rattle.server_threads.specs.OpenLinks.{MayServe};
 

@@ -1,9 +1,6 @@
 //! What runs in a thread, or was run in place of one, and the places in which it is.
 
-ghost use Rattle.std.specs.Prelude.{◌≡◌, ◌<◌, ◌∷◌, None, MatchOption};
-ghost use Rattle.std.specs.List.{slice_index_or};
-ghost use Rattle.std.specs.List.Sorted.{IsPermutation};
-ghost use Rattle.std.specs.Vec.{vec_len};
+ghost use Rattle.std.specs.Prelude.{◌≡◌, ◌<◌, ◌∷◌, None, MatchOption, IsPermutation, slice_index_or, vec_len};
 ghost use Rattle.server_threads.specs.Promises.{promise_of, Due};
 ghost use Rattle.server_threads.specs.Serving.{taken};
 

@@ -1,6 +1,5 @@
 -- A server, from `listen` on: the links that came, the one history of the moves of the table of jobs, and the lines that were written.
-use Rattle.std.specs.Prelude.{◌≡◌, ◌≢◌, ◌⊎◌, ℕ, ◌+◌, ◌<◌, ◌≤◌, Bool, true, false, List, [], ◌∷◌, ◌++◌, length, map, count_by, All, Some}
-use Rattle.std.specs.List.Sorted.{IsPermutation}
+use Rattle.std.specs.Prelude.{◌≡◌, ◌≢◌, ◌⊎◌, ℕ, ◌+◌, ◌<◌, ◌≤◌, Bool, true, false, List, [], ◌∷◌, ◌++◌, length, map, count_by, All, IsPermutation, Some}
 use Rattle.os_io.specs.Streams.{Tells, HasRisen}
 use Rattle.os_io.specs.Links.{NetTells, ListenedAt, IsReached}
 use Rattle.job_table.specs.declared.calls.Call.{Call}

@@ -1,9 +1,29 @@
-use Rattle.std.proofs.Common.{arith}
-use Rattle.server_threads.proofs.Rounds.{going_over}
+use Rattle.std.proofs.Common.{arith, ap, sym, ◌∙◌, [], ◌∷◌, ◌++◌}
+use Rattle.server_threads.proofs.Rounds.{taken_last, taken_free, taken_empty, going_so, going_as, going_over}
 use Rattle.server_threads.proofs.links.join_all.Goals as goal
+
+pub join_one-requires-clause-goes : goal.join_one-requires-clause-goes
+join_one-requires-clause-goes g c κs within =
+    let before = c.loop-last.invariant.goes in record {
+      seat_is = before.seat_is;
+      few = before.few;
+      going = going_so _ _ _ _ _ _ _ _ _ _ (taken_last _ _ _ (c.in-Some.ensures.items ∙ ap (λ o. c.pop.new.self.items ++ o ∷ []) c.in-Some-last.is)) before.going;
+    }
+
+pub loop-last-preserved : goal.loop-last-preserved
+loop-last-preserved g c =
+    let before = c.loop-last.invariant in record {
+      goes = record {
+        seat_is = before.goes.seat_is;
+        few = before.goes.few;
+        going = going_as _ _ _ _ _ _ _ _ _ _ (sym (taken_free _ _ (c.in-Some.ensures.items ∙ ap (λ o. c.pop.new.self.items ++ o ∷ []) c.in_default-last.is))) before.goes.going;
+      };
+      given = before.given;
+      faults = before.faults;
+    }
 
 pub returns-clause-over : goal.returns-clause-over
 returns-clause-over g c =
-    let none = c.loop-seat-test.false in
-    let long = c.loop-seat.running.places.ok.0 in
-    going_over _ _ _ _ _ _ _ _ c.loop-seat.running.places.items c.loop-seat.invariant.goes.going (omega (arith, c.len.ensures))
+    let none = c.in_default.ensures.cases.0 in
+    let long = c.loop-last.running.places.ok.0 in
+    going_over _ _ _ _ _ _ _ _ _ c.loop-last.invariant.goes.going (taken_empty c.loop-last.running.places.items (omega arith))

@@ -1,5 +1,5 @@
-use Rattle.std.proofs.Common.{◌≡◌, ◌+◌, ◌≤◌}
-use Rattle.std.specs.VecDeque.{deque_len, deque_capacity}
+use Rattle.std.proofs.Common.{◌≡◌, ◌+◌}
+use Rattle.std.specs.Vec.{vec_len}
 use Rattle.server_threads.specs.OpenLinks.{Goes}
 use Rattle.server_threads.proofs.links.take_links.Given as goal
 
@@ -7,7 +7,6 @@ abbrev pub invariant-loop-turn : goal.invariant-loop-turn
 invariant-loop-turn g l = record {
   goes : Goes g.J.Verdicts.right (g.S.Service.talked g.B.Bell.rang) g.N.Conn.Stream.tells g.N.Listener.tells l.means l.before l.seat l.net l.running;
   given : l.seat.me.0.given ≡ l.before.seat.value.me.0.given + l.turn;
-  within : deque_len l.running.places ≤ l.means.limits.servers;
-  room : l.means.limits.servers ≤ deque_capacity l.running.places;
+  room : vec_len l.running.places ≡ l.means.limits.servers;
   faults : (g.N.Listener.tells l.net).faults ≡ (g.N.Listener.tells l.fn.net).faults;
 }

@@ -1,3 +1,5 @@
+use denote.Exit.{no}
+use denote.Param.Send.{param_send, arg_send}
 use Rattle.std.proofs.Common.{ap, refl, map, subst, rules}
 use Rattle.workers.specs.Bells.{Untold}
 use Rattle.server_threads.specs.Talks.{DeskSeat, talk_met}
@@ -9,7 +11,7 @@ pub relieve-requires-clause-staffed : goal.relieve-requires-clause-staffed
 relieve-requires-clause-staffed g c κs within =
     let o = c.scoped-seat.ensures.1.2.0 in
     let is = ap (λ (seat : DeskSeat g.row.J.Denot). seat.me.0) c.of-was.ensures in
-    (map talk_met o.talks, staffed_begins _ _ _ _ _ _ _ _ _ _ o is c.staff.ensures.hired)
+    (map talk_met o.returned, staffed_begins _ _ _ _ _ _ _ _ _ _ o is c.staff.ensures.hired)
 
 pub returns-clause-served : goal.returns-clause-served
 returns-clause-served g c =
@@ -18,7 +20,22 @@ returns-clause-served g c =
     let is = ap (λ (seat : DeskSeat g.row.J.Denot). seat.me.0) c.of-was.ensures in
     let s = staffed_begins _ _ _ _ _ _ _ _ _ _ o is c.staff.ensures.hired in
     subst (λ (net : g.row.N.Denot). HasServed g.S.Runner.ran (g.S.Service.talked Untold) g.N.Listener.tells limits c.args.seat c.relieve.new.first c.args.net.now net c.scoped-seat.result.2) (search rules) (
-      o.talks,
-      serves _ _ _ _ _ _ _ _ _ _ _ _ is c.staff.ensures.hired refl refl refl o (c.relieve.ensures.left (map talk_met o.talks) s) c.relieve.ensures.seen refl refl refl,
+      o.links,
+      serves _ _ _ _ _ _ _ _ _ _ _ _ is c.staff.ensures.hired refl refl refl o (c.relieve.ensures.left (map talk_met o.returned) s) c.relieve.ensures.seen refl refl refl,
       c.scoped-seat.ensures.1.2.1,
     )
+
+pub scoped-seat-requires : goal.scoped-seat-requires
+scoped-seat-requires g c =
+    let bounds = c.type_bounds in record {
+      at = λ a. (
+        (c.staff.ensures.seat, c.staff.ensures.hired.keeps.first, c.requires.room.may),
+        (
+          param_send _ _ (arg_send _ no _ bounds.send-J),
+          param_send _ _ (arg_send _ no _ bounds.send-N-Conn),
+          record { shared = bounds.sync-J.shared },
+          record { shared = bounds.sync-R.shared },
+          record { shared = bounds.sync-S.shared },
+        ),
+      );
+    }

@@ -1,9 +1,12 @@
 use Rattle.std.proofs.Common.{arith, ap, ◌+◌}
-use Rattle.server_threads.proofs.Rounds.{oldest_of_desk, going_few, going_met}
-use Rattle.server_threads.proofs.links.join_oldest.Goals as goal
+use Rattle.server_threads.proofs.Rounds.{seat_of_desk, place_due, going_few, going_met}
+use Rattle.server_threads.proofs.links.join_one.Goals as goal
+
+pub join-done-requires : goal.join-done-requires
+join-done-requires g c = place_due _ _ _ _ _ _ _ _ _ _ c.requires.goes.going
 
 pub meet-requires-clause-other : goal.meet-requires-clause-other
-meet-requires-clause-other g c = oldest_of_desk _ _ _ _ _ _ _ _ _ _ c.in-Some.place _ _ c.requires.goes.going c.in-Some.ensures.items c.join-done.ensures
+meet-requires-clause-other g c = seat_of_desk _ _ _ _ _ _ _ _ _ _ _ _ c.requires.goes.going c.join-done.ensures
 
 pub overflow_add-running : goal.overflow_add-running
 overflow_add-running g c =
@@ -14,6 +17,6 @@ pub returns-clause-goes : goal.returns-clause-goes
 returns-clause-goes g c = record {
   seat_is = c.meet.ensures.seat;
   few = let same = c.meet.ensures.met.given in let few = c.requires.goes.few in omega arith;
-  going = going_met _ _ _ _ _ _ _ _ _ _ _ _ c.in-Some.place c.join-done.result c.requires.goes.going c.in-Some.ensures.items c.join-done.ensures c.meet.ensures.met c.done.ensures.given_back c.done.ensures.coming c.done.ensures.reached
+  going = going_met _ _ _ _ _ _ _ _ _ _ _ _ c.join-done.result c.requires.goes.going c.join-done.ensures c.meet.ensures.met c.done.ensures.given_back c.done.ensures.coming c.done.ensures.reached
       (ap (λ k. c.args.running.now.short + k) c.number_of.ensures.one);
 }
