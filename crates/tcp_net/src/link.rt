@@ -1,116 +1,151 @@
-ghost use Rattle.std.specs.Prelude.{◌≡◌, None, true, IfOk};
-ghost use Rattle.os_io.specs.Streams.{Tells};
+ghost use Rattle.std.specs.Prelude.{◌≡◌, ◌<◌, ◌≤◌, length, None, Ok, true, IfOk};
+ghost use Rattle.os_io.specs.Streams.{Tells, Counts};
 
-use os_io::{Close, Failed, Link, Sink, Source, StdSink, StdSource, Stream};
+use crate::counted::counted;
+use crate::inlet::{Inlet, Pace};
+use crate::outlet::Outlet;
+use os_io::{Close, Failed, Link, Sink, Source, Stream};
 use std::alloc::Global;
-use std::io::{self, BufReader, BufWriter, Read};
-use std::net::{Shutdown, TcpStream};
-use std::time::Duration;
-
-/// How many bytes of a peer are thrown away behind the end of a conversation: more than the longest request that `call` writes, two
-/// files of 4,194,305 bytes of which each may be written as five. So who asks for too much in one request can write it to its
-/// end, and then reads the refusal.
-const MOST_THROWN_AWAY: u64 = 67_108_864;
-
-/// How many seconds a peer may send nothing behind the end of a conversation. One that is idle and keeps its link is waited
-/// for no longer.
-const PATIENCE: u64 = 5;
+use std::io::{self, BufReader, BufWriter, ErrorKind, Read, Write};
+use std::net::TcpStream;
+use std::sync::Wait;
+use std::time::Clock;
 
 /// A link over TCP, with a count of faults each way. It tells nothing of its bytes. A read takes ahead what has come,
-/// and what is written goes out with a flush, or where its buffer is full. It waits for its peer without end, until it is closed.
+/// and what is written goes out with a flush, or where its buffer is full. One that came waits for its peer as long as its listener
+/// says, one that was made without end.
 #[derive(Drop)]
-pub struct TcpLink {
-    input: StdSource<BufReader<TcpStream>>,
-    output: StdSink<BufWriter<TcpStream>>,
-    socket: TcpStream,
+pub struct TcpLink<R> {
+    input: BufReader<Inlet<R>>,
+    output: BufWriter<Outlet>,
+    read_faults: u64,
+    write_faults: u64,
     /// Whether its own side wasn't ended yet.
     unended: bool,
 }
 
-impl TcpLink {
-    /// A link over this socket, which it holds by three handles: one to read, one to write, and one to close.
-    pub(crate) fn new(alloc: Global, stream: TcpStream) -> io::Result<TcpLink>
-        ensures read_faults { IfOk result (λ l. (⟦<TcpLink as Stream>⟧.tells l).read_faults ≡ 0) }
-        ensures write_faults { IfOk result (λ l. (⟦<TcpLink as Stream>⟧.tells l).write_faults ≡ 0) }
-        ensures open { IfOk result (λ l. ⟦<TcpLink as Close>⟧.is_open l) }
+impl<R: Clock + Wait + Drop> TcpLink<R> {
+    /// A link over a second handle of this socket, which it writes to. It reads once it is given the first one.
+    pub(crate) fn new(
+        alloc: Global,
+        socket: &TcpStream,
+        pace: Option<Pace<R>>,
+    ) -> io::Result<TcpLink<R>>
+        ensures read_faults { IfOk result (λ l. (⟦<TcpLink<R> as Stream>⟧.tells l).read_faults ≡ 0) }
+        ensures write_faults { IfOk result (λ l. (⟦<TcpLink<R> as Stream>⟧.tells l).write_faults ≡ 0) }
+        ensures open { IfOk result (λ l. ⟦<TcpLink<R> as Close>⟧.is_open l) }
     {
         // What is written is gathered here already. Kept back by the system too, the end of a long text would wait for
         // the peer to acknowledge the rest (RFC 1122, 4.2.3.4). A socket that can't be told so sends it all the same.
-        let _ = stream.set_nodelay(true);
-        let reader = BufReader::new(alloc, stream.try_clone()?)?;
-        let writer = BufWriter::new(alloc, stream.try_clone()?)?;
+        let _ = socket.set_nodelay(true);
+        let waits = match &pace {
+            Some(pace) => pace.set_waits(socket)?,
+            None => 1,
+        };
+        let inlet = Inlet { socket: None, pace };
+        let outlet = Outlet {
+            socket: Some(socket.try_clone()?),
+            waits,
+        };
         Ok(TcpLink {
-            input: StdSource::new(reader),
-            output: StdSink::new(writer),
-            socket: stream,
+            input: BufReader::new(alloc, inlet)?,
+            output: BufWriter::new(alloc, outlet)?,
+            read_faults: 0,
+            write_faults: 0,
             unended: true,
         })
     }
 
+    /// The link, which reads of this socket.
+    pub(crate) fn reading(mut self, socket: TcpStream) -> TcpLink<R>
+        ensures tells { ⟦<TcpLink<R> as Stream>⟧.tells result ≡ ⟦<TcpLink<R> as Stream>⟧.tells self }
+        ensures open { ⟦<TcpLink<R> as Close>⟧.is_open self → ⟦<TcpLink<R> as Close>⟧.is_open result }
+    {
+        self.input.get_mut().socket = Some(socket);
+        self
+    }
+
+    /// What a write answered, behind which the link is idle. One that failed is counted.
+    fn has_written<T>(&mut self, answer: io::Result<T>) -> Result<T, Failed>
+        ensures ok { IfOk result (λ value. answer ≡ Ok value) }
+        ensures counted { Counts result self.old.write_faults self.new.write_faults }
+        ensures input { self.new.read_faults ≡ self.old.read_faults }
+        ensures open { self.new.unended ≡ self.old.unended }
+    {
+        match &answer {
+            Ok(_) => self.input.get_mut().begin_anew(),
+            Err(_) => self.input.get_mut().give_up(),
+        }
+        counted(&mut self.write_faults, answer)
+    }
+
     /// How often a read has failed.
     pub fn read_faults(&self) -> u64
-        ensures { result ≡ (⟦<TcpLink as Stream>⟧.tells self.now).read_faults }
+        ensures { result ≡ (⟦<TcpLink<R> as Stream>⟧.tells self.now).read_faults }
     {
-        self.input.faults()
+        self.read_faults
     }
 
     /// How often a write or a flush has failed.
     pub fn write_faults(&self) -> u64
-        ensures { result ≡ (⟦<TcpLink as Stream>⟧.tells self.now).write_faults }
+        ensures { result ≡ (⟦<TcpLink<R> as Stream>⟧.tells self.now).write_faults }
     {
-        self.output.faults()
-    }
-
-    /// Throws away what the peer still sends, until it ends, sends nothing for too long, or has sent too much.
-    fn throw_away(&self) -> io::Result<u64> {
-        io::copy(&mut (&self.socket).take(MOST_THROWN_AWAY), &mut io::sink())
+        self.write_faults
     }
 }
 
-impl Stream for TcpLink {
+impl<R> Stream for TcpLink<R> {
     ghost tells = { λ l. record {
       left = None;
       written = None;
       handed_on = None;
-      read_faults = (⟦<StdSource<BufReader<TcpStream>> as Stream>⟧.tells l.input).read_faults;
-      write_faults = (⟦<StdSink<BufWriter<TcpStream>> as Stream>⟧.tells l.output).write_faults;
+      read_faults = l.read_faults;
+      write_faults = l.write_faults;
     } };
 }
 
-impl Source for TcpLink {
+impl<R: Clock + Wait + Drop> Source for TcpLink<R> {
     fn read(&mut self, buf: &mut [u8]) -> Result<usize, Failed> {
-        self.input.read(buf)
+        let answer = self.input.read(buf);
+        counted(&mut self.read_faults, answer)
     }
 }
 
-impl Sink for TcpLink {
+impl<R: Clock + Wait + Drop> Sink for TcpLink<R> {
     fn write(&mut self, bytes: &[u8]) -> Result<usize, Failed> {
-        self.output.write(bytes)
+        let answer = some_of(self.output.write(bytes), bytes);
+        self.has_written(answer)
     }
 
     fn flush(&mut self) -> Result<(), Failed> {
-        self.output.flush()
+        let answer = self.output.flush();
+        self.has_written(answer)
     }
 
     ghost handed_on_is_written = { λ _. tt };
 }
 
-impl Link for TcpLink {}
+impl<R: Clock + Wait + Drop> Link for TcpLink<R> {}
 
-impl Close for TcpLink {
+impl<R: Clock + Wait + Drop> Close for TcpLink<R> {
     ghost is_open = { λ l. l.unended ≡ true };
 
     fn close(&mut self) {
         self.unended = false;
-        let _ = self
-            .socket
-            .set_read_timeout(Some(Duration::from_secs(PATIENCE)));
-        let _ = self.socket.shutdown(Shutdown::Write);
-        // A connection that is given up with bytes that nobody took is reset, and the peer may lose the answer that is on its way
-        // (RFC 9112, section 9.6).
-        let _ = self.throw_away();
-        // A peer that writes on is reset by the system: at its next bytes, or where no room is left for them when the link is given
-        // back, since then bytes are unread.
-        let _ = self.socket.shutdown(Shutdown::Read);
+        self.input.get_mut().close();
+        // The system ends what is left of the connection with its last handle, and resets it where bytes are unread. So a peer that writes
+        // on is reset.
+        self.output.get_mut().socket = None;
+    }
+}
+
+/// What a write of these bytes answered, where none that was written of some is an error.
+fn some_of(answer: io::Result<usize>, bytes: &[u8]) -> io::Result<usize>
+    ensures within { IfOk answer (λ n. n ≤ length bytes.now) → IfOk result (λ n. n ≤ length bytes.now) }
+    ensures some { IfOk result (λ n. 0 < length bytes.now → 0 < n) }
+{
+    match answer {
+        Ok(0) if !bytes.is_empty() => Err(io::Error::from(ErrorKind::WriteZero)),
+        answer => answer,
     }
 }

@@ -1,0 +1,203 @@
+//! What is read of a socket, and how long it is waited for.
+ghost use Rattle.std.specs.Io.{ReadsAtMost};
+
+use crate::door::Door;
+use crate::outlet::was_in_vain;
+use std::alloc::Global;
+use std::io::{self, ErrorKind, Read};
+use std::net::{Shutdown, TcpStream};
+use std::sync::{Arc, Wait};
+use std::time::{Clock, Duration, Instant};
+
+/// How many seconds one call of the system waits for the peer. Behind each it is looked whether others wait for a seat.
+const WAIT: u64 = 1;
+
+/// How many times its patience a link may take for one request.
+const MOST_WAITS: u64 = 10;
+
+/// How many bytes of a peer are thrown away behind the end of a conversation: more than the longest request that `call` writes, two
+/// files of 4,194,305 bytes of which each may be written as five. So who asks for too much in one request can write it to its
+/// end, and then reads the refusal.
+const MOST_THROWN_AWAY: usize = 67_108_864;
+
+/// How many seconds a peer may send nothing behind the end of a conversation. One that is idle and keeps its link is waited
+/// for no longer.
+const CLOSING: u16 = 5;
+
+/// How many such seconds a peer has that was waited for in vain before, and how often it is read from then.
+const CLOSING_IN_VAIN: (u16, usize) = (1, 2);
+
+/// How long a link that came waits for bytes of its peer.
+#[derive(Drop)]
+pub(crate) struct Pace<R> {
+    clock: R,
+    /// How many seconds the peer may send nothing.
+    patience: u16,
+    /// When the first byte was read behind the last one that was written. None in an idle link.
+    begun: Option<Instant>,
+    /// Whether the peer was waited for in vain, or another link gets this one's seat.
+    is_given_up: bool,
+    door: Arc<Door, Global>,
+}
+
+impl<R: Clock + Wait> Pace<R> {
+    /// The pace of a link that came by this door and whose peer may keep it waiting for so many seconds.
+    pub(crate) fn new(clock: R, patience: u16, door: Arc<Door, Global>) -> Pace<R> {
+        Pace {
+            clock,
+            patience,
+            begun: None,
+            is_given_up: false,
+            door,
+        }
+    }
+
+    /// Sets how long the system waits for the peer of this socket, and how many such waits may be in vain.
+    pub(crate) fn set_waits(&self, socket: &TcpStream) -> io::Result<u16> {
+        let wait = Some(Duration::from_secs(WAIT));
+        socket.set_read_timeout(wait)?;
+        socket.set_write_timeout(wait)?;
+        Ok(self.patience)
+    }
+
+    /// Reads some bytes, where any come in so many seconds.
+    fn read(
+        &mut self,
+        socket: &TcpStream,
+        buf: &mut [u8],
+        seconds: u16,
+    ) -> io::Result<usize>
+        ensures { ReadsAtMost result buf.new }
+    {
+        for _ in 0..seconds {
+            if self.is_late() {
+                break;
+            }
+            let turn = self.door.turn();
+            match read_once(socket, buf) {
+                Err(error) if was_in_vain(error.kind()) => {}
+                answer => {
+                    self.note(&answer);
+                    return answer;
+                }
+            }
+            if self.makes_room(turn) {
+                break;
+            }
+        }
+        self.is_given_up = true;
+        Err(io::Error::from(ErrorKind::TimedOut))
+    }
+
+    /// Whether the link has only read for too long.
+    fn is_late(&self) -> bool {
+        let most = Duration::from_secs(MOST_WAITS * u64::from(self.patience));
+        match self.begun {
+            Some(begun) => begun.elapsed(&self.clock).is_ok_and(|spent| spent >= most),
+            None => false,
+        }
+    }
+
+    /// Keeps when the first byte came.
+    fn note(&mut self, answer: &io::Result<usize>) {
+        if self.begun.is_none() && answer.as_ref().is_ok_and(|n| *n > 0) {
+            self.begun = Instant::now(&self.clock).ok();
+        }
+    }
+
+    /// Whether the link is idle, others wait, and it ends for one of them. It does so once.
+    fn makes_room(&self, turn: u64) -> bool {
+        self.begun.is_none() && !self.is_given_up && self.door.takes_one(&self.clock, turn)
+    }
+}
+
+/// The reading end of a socket.
+#[derive(Drop)]
+pub(crate) struct Inlet<R> {
+    /// The socket, until the link is closed.
+    pub(crate) socket: Option<TcpStream>,
+    /// How long it is waited for. Without end where there is none.
+    pub(crate) pace: Option<Pace<R>>,
+}
+
+impl<R: Clock + Wait> Inlet<R> {
+
+    /// Says that bytes were written: the link is idle until more come.
+    pub(crate) fn begin_anew(&mut self) {
+        if let Some(pace) = &mut self.pace {
+            pace.begun = None;
+        }
+    }
+
+    /// Says that the peer took nothing.
+    pub(crate) fn give_up(&mut self) {
+        if let Some(pace) = &mut self.pace {
+            pace.is_given_up = true;
+        }
+    }
+
+    /// Reads some bytes of this socket. A link that came waits for so many seconds.
+    fn read_from(
+        &mut self,
+        socket: &TcpStream,
+        buf: &mut [u8],
+        seconds: u16,
+    ) -> io::Result<usize>
+        ensures { ReadsAtMost result buf.new }
+    {
+        match &mut self.pace {
+            Some(pace) => pace.read(socket, buf, seconds),
+            None => read_once(socket, buf),
+        }
+    }
+
+    /// Ends this side of the link, throws away what the peer still sends, and gives the socket up.
+    pub(crate) fn close(&mut self) {
+        let Some(socket) = self.socket.take() else {
+            return;
+        };
+        let _ = socket.shutdown(Shutdown::Write);
+        // A connection that is given up with bytes that nobody took is reset, and the peer may lose the answer that is on its way
+        // (RFC 9112, section 9.6).
+        self.throw_away(&socket);
+    }
+
+    /// Throws away what the peer still sends, until it ends, sends nothing for too long, or has sent too much.
+    fn throw_away(&mut self, socket: &TcpStream) {
+        let (seconds, reads) = match &self.pace {
+            Some(pace) if pace.is_given_up => CLOSING_IN_VAIN,
+            Some(_) => (CLOSING, MOST_THROWN_AWAY),
+            None => {
+                let _ = socket.set_read_timeout(Some(Duration::from_secs(u64::from(CLOSING))));
+                (CLOSING, MOST_THROWN_AWAY)
+            }
+        };
+        let mut buffer = [0; 8_192];
+        let mut left = MOST_THROWN_AWAY;
+        for _ in 0..reads {
+            match self.read_from(socket, &mut buffer, seconds) {
+                Ok(n) if 0 < n && n < left => left -= n,
+                _ => return,
+            }
+        }
+    }
+}
+
+impl<R: Clock + Wait> Read for Inlet<R> {
+    fn read(&mut self, buf: &mut [u8]) -> io::Result<usize> {
+        let Some(socket) = self.socket.take() else {
+            return Err(io::Error::from(ErrorKind::NotConnected));
+        };
+        let patience = self.pace.as_ref().map_or(0, |pace| pace.patience);
+        let answer = self.read_from(&socket, buf, patience);
+        self.socket = Some(socket);
+        answer
+    }
+}
+
+/// Reads some bytes by one call of the system.
+fn read_once(mut socket: &TcpStream, buf: &mut [u8]) -> io::Result<usize>
+    ensures { ReadsAtMost result buf.new }
+{
+    socket.read(buf)
+}
