@@ -1,5 +1,6 @@
-"""Real clients on `serve`: curl and wrk at 1, 8 and 64 connections; 64 clients whose history is checked; and one that sends a byte a
-second, beside others that must be answered as quickly as without it.
+"""Real clients on `serve`: curl and wrk at 1, 8 and 64 connections; 64 clients whose history is checked; one that sends a byte a
+second, beside others that must be answered as quickly as without it; clients that keep the server waiting, and more clients than it has
+seats (`waiting_clients.py`).
 
     python3 tools/serve_clients.py [CALLS]     so many calls of 64 clients, 100,000 where none are asked for
 """
@@ -17,6 +18,7 @@ import threading
 import time
 
 import histories
+import waiting_clients
 from histories import FINISHED, ISSUED, KILLED, RUNNING, Call, Contradiction
 from serving import Client, Server, envelope, options, request, returned
 
@@ -351,7 +353,8 @@ def slow_holds_one_thread():
 
 def main():
     calls = int(sys.argv[1]) if len(sys.argv) > 1 else 100_000
-    good = [by_curl(count) for count in (1, 8, 64)] + [by_wrk(count) for count in (1, 8, 64)] + [slow_holds_one_thread()]
+    good = [by_curl(count) for count in (1, 8, 64)] + [by_wrk(count) for count in (1, 8, 64)]
+    good += [slow_holds_one_thread(), waiting_clients.main()]
     with tempfile.TemporaryDirectory() as folder:
         try:
             good.append(planted_are_found(history_is_legal(min(calls, 6400), folder)))

@@ -1,4 +1,5 @@
-"""Starts `serve`, and speaks to it over connections that stay."""
+"""Starts `serve`, of the program that the environment's OS_PROGRAM names or of the repository's own, and speaks to it over connections
+that stay."""
 
 import html
 import os
@@ -6,7 +7,7 @@ import re
 import socket
 import subprocess
 
-PROGRAM = os.path.abspath("crates/os_main/out/os_main")
+PROGRAM = os.path.abspath(os.environ.get("OS_PROGRAM", "crates/os_main/out/os_main"))
 
 
 def free_port():
@@ -17,9 +18,10 @@ def free_port():
 class Server:
     """A run of `serve` on a free port of loopback. Where it was to end by itself, after so many connections, its status is looked at."""
 
-    def __init__(self, workers, servers, connections=None):
+    def __init__(self, workers, servers, connections=None, patience=None):
         self.words = ["--workers", str(workers), "--servers", str(servers)]
         self.words += ["--connections", str(connections)] if connections else []
+        self.words += ["--patience", str(patience)] if patience else []
         self.connections, self.peak, self.jobs = connections, 0, None
 
     def __enter__(self):
@@ -29,6 +31,11 @@ class Server:
         if line != b"listening\n":
             raise SystemExit(f"serve wrote {line!r} and ended with {self.process.wait()}")
         return self
+
+    def memory(self):
+        """How many bytes of memory the program has now."""
+        with open(f"/proc/{self.process.pid}/status", encoding="ascii") as status:
+            return int(re.search(r"VmRSS:\s+(\d+) kB", status.read()).group(1)) * 1024
 
     def __exit__(self, kind, *_):
         if kind or not self.connections:
