@@ -1,4 +1,7 @@
-"""Posts the six calls by real clients to `session`, and says which answer isn't the one that the rules give."""
+"""Posts the six calls by real clients to `session`, and says which answer isn't the one that the rules give.
+
+    python3 tools/real_clients.py GSOAP     with the client that is built of `tools/gsoap_client.cpp`
+"""
 
 import http.client
 import os
@@ -10,8 +13,11 @@ import threading
 import xml.etree.ElementTree as tree
 from xml.sax.saxutils import escape
 
-PROGRAM = os.path.abspath("crates/os_main/out/os_main")
+import zeep
+
+PROGRAM = os.environ["OS_PROGRAM"]
 OSIL = '<osil><instanceData><variables><var/></variables><objectives><obj><coef idx="0">1</coef></obj></objectives></instanceData></osil>'
+LIMITED = '<osol><optimization><solverOptions><solverOption name="nodeLimit" value="0"/></solverOptions></optimization></osol>'
 SOAP = "http://schemas.xmlsoap.org/soap/envelope/"
 OS = "os.optimizationservices.org"
 
@@ -46,7 +52,7 @@ def gsoap(call, parts):
     )
 
 
-# call, parts, what the returned text has
+# call, parts, what the answer has: the text that is returned, or `fault`, its code and its text
 CALLS = [
     ("getJobID", [("osol", "")], "os-1"),
     ("send", [("osil", OSIL), ("osol", job("os-1"))], "true"),
@@ -57,6 +63,7 @@ CALLS = [
     ("retrieve", [("osol", job("os-1"))], "unknown job"),
     ("solve", [("osil", OSIL), ("osol", "")], 'type="optimal"'),
     ("solve", [("osil", ""), ("osol", "")], "osil Malformed at 0"),
+    ("solve", [("osil", OSIL), ("osol", LIMITED)], "fault Client.Options osol BadLimit at 4"),
 ]
 
 
@@ -80,9 +87,17 @@ class Session:
         self.listener.close()
 
 
-def returned(body):
-    """The text that a reply returns."""
-    return next(element.text or "" for element in tree.fromstring(body).iter() if element.tag.endswith("Return"))
+def told(body):
+    """The text that a reply returns, or what its fault tells."""
+    texts = {element.tag.rpartition("}")[2]: element.text or "" for element in tree.fromstring(body).iter()}
+    if "Fault" in texts:
+        return fault(texts["faultcode"], texts["faultstring"])
+    return next(text for name, text in texts.items() if name.endswith("Return"))
+
+
+def fault(code, text):
+    """A fault in one line, whatever prefix its code has."""
+    return f"fault {code.rpartition(':')[2]} {text}"
 
 
 def post(client, body, fields):
@@ -94,24 +109,40 @@ def post(client, body, fields):
     return answer.status, answer.read()
 
 
-def judged(name, wanted, status, body, failures):
-    text = returned(body) if status == 200 else body.decode()
-    if status != 200 or wanted not in text:
-        failures.append(f"{name}: wanted {wanted!r}, got {status} {text[:200]!r}")
+class Judge:
+    """Counts the answers, and keeps those that aren't what was wanted."""
+
+    def __init__(self):
+        self.answers, self.failures = 0, []
+
+    def take(self, name, wanted, text):
+        self.answers += 1
+        if wanted not in text:
+            self.failures.append(f"{name}: wanted {wanted!r}, got {text[:200]!r}")
+
+    def take_response(self, name, wanted, status, body):
+        """A fault comes with 500, and a reply with 200 (SOAP 1.1, section 6.2)."""
+        right = status == (500 if wanted.startswith("fault ") else 200)
+        self.take(name, wanted, told(body) if right else f"{status} {body!r}")
+
+    def take_end(self, name, status):
+        if status != 0:
+            self.failures.append(f"{name}: session ended with {status}")
 
 
-def by_http_client(envelope, fields, failures):
+def by_http_client(envelope, fields, judge):
+    name = f"http.client, {envelope.__name__}"
     with Session() as session:
         client = http.client.HTTPConnection("127.0.0.1", session.port)
         for call, parts, wanted in CALLS:
             status, body = post(client, envelope(call, parts).encode(), dict(fields))
-            judged(f"http.client, {envelope.__name__}, {call}", wanted, status, body, failures)
+            judge.take_response(f"{name}, {call}", wanted, status, body)
         client.close()
-    if session.status != 0:
-        failures.append(f"http.client, {envelope.__name__}: session ended with {session.status}")
+    judge.take_end(name, session.status)
 
 
-def by_curl(envelope, failures):
+def by_curl(envelope, judge):
+    name = f"curl, {envelope.__name__}"
     with tempfile.TemporaryDirectory() as folder, Session() as session:
         words = ["curl", "-s"]
         for number, (call, parts, _) in enumerate(CALLS):
@@ -125,19 +156,45 @@ def by_curl(envelope, failures):
         for number, (call, _, wanted) in enumerate(CALLS):
             with open(f"{folder}/{number}.out", "rb") as it:
                 status = int(statuses[number]) if number < len(statuses) else 0
-                judged(f"curl, {envelope.__name__}, {call}", wanted, status, it.read(), failures)
-    if session.status != 0:
-        failures.append(f"curl, {envelope.__name__}: session ended with {session.status}")
+                judge.take_response(f"{name}, {call}", wanted, status, it.read())
+    judge.take_end(name, session.status)
+
+
+def by_zeep(judge):
+    """Python's zeep, over the WSDL. It makes `true` and `false` of what a send returns."""
+    with Session() as session:
+        client = zeep.Client("examples/os.wsdl")
+        service = client.create_service(f"{{{OS}}}OSSolverBinding", f"http://127.0.0.1:{session.port}/os")
+        for call, parts, wanted in CALLS:
+            try:
+                text = getattr(service, call)(**dict(parts))
+            except zeep.exceptions.Fault as told_fault:
+                text = fault(told_fault.code, told_fault.message)
+            judge.take(f"zeep, {call}", wanted, str(text).lower() if isinstance(text, bool) else text)
+        client.transport.session.close()
+    judge.take_end("zeep", session.status)
+
+
+def by_gsoap(program, judge):
+    """gSOAP in C++, over the WSDL: a line for each call."""
+    with Session() as session:
+        words = [dict(parts).get(name, "") if name else call for call, parts, _ in CALLS for name in ("", "osil", "osol", "ospl")]
+        lines = subprocess.run([program, f"http://127.0.0.1:{session.port}/os", *words], capture_output=True, text=True, check=False).stdout.splitlines()
+    for (call, _, wanted), line in zip(CALLS, lines + [""] * len(CALLS)):
+        judge.take(f"gSOAP, {call}", wanted, fault(*line.split(" ", 2)[1:]) if line.startswith("fault ") else line)
+    judge.take_end("gSOAP", session.status)
 
 
 def main():
-    failures = []
+    judge = Judge()
     for envelope in (plain, axis, gsoap):
-        by_curl(envelope, failures)
-        by_http_client(envelope, {"Accept-Encoding": "gzip, deflate", "Connection": "keep-alive"}, failures)
-    by_http_client(plain, {"target": "http://os.example/OSServer/services/OSSolverService", "EXPECT": "100-continue"}, failures)
-    print("\n".join(failures) or f"{len(CALLS) * 7} answers as the rules give them")
-    return bool(failures)
+        by_curl(envelope, judge)
+        by_http_client(envelope, {"Accept-Encoding": "gzip, deflate", "Connection": "keep-alive"}, judge)
+    by_http_client(plain, {"target": "http://os.example/OSServer/services/OSSolverService", "EXPECT": "100-continue"}, judge)
+    by_zeep(judge)
+    by_gsoap(sys.argv[1], judge)
+    print("\n".join(judge.failures) or f"{judge.answers} answers as the rules give them")
+    return bool(judge.failures)
 
 
 sys.exit(main())

@@ -1,0 +1,20 @@
+# shellcheck shell=bash
+# Read by scripts that try the program beside packages of Debian's. Goes to the top of the repository. OS_PROGRAM names the program;
+# where it isn't set, it is the one that `./os` builds, and is built first.
+[ -z "${OS_PROGRAM-}" ] || OS_PROGRAM=$(realpath -- "$OS_PROGRAM") || exit
+cd "$(dirname "${BASH_SOURCE[0]}")/.." || exit
+if [ -z "${OS_PROGRAM-}" ]; then
+    ./os session </dev/null || exit
+    OS_PROGRAM=$PWD/crates/os_main/out/os_main
+fi
+export OS_PROGRAM PYTHONDONTWRITEBYTECODE=1
+[ -x "$OS_PROGRAM" ] || { echo "$OS_PROGRAM isn't a program" >&2; exit 1; }
+
+# Installs those of these packages that aren't there.
+install_packages() {
+    local package missing=()
+    for package in "$@"; do
+        dpkg -s "$package" >/dev/null 2>&1 || missing+=("$package")
+    done
+    [ "${#missing[@]}" -eq 0 ] || { apt-get update -q && apt-get install -y -q --no-install-recommends "${missing[@]}"; } >/dev/null || exit
+}
