@@ -14,7 +14,7 @@ import urllib.request
 
 import histories
 from histories import Call, Contradiction
-from machines import NAMES, NUMBERS, PASSWORD, USER, Machines, ProxyClient
+from proxied import NAMES, NUMBERS, PASSWORD, USER, Machines, ProxyClient
 from serve_clients import instance, told
 from serving import envelope, options, returned
 

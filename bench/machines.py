@@ -1,0 +1,102 @@
+"""Jobs a second of 1, 2 and 3 servers behind the proxy, beside one server that is called directly, and how long a small call takes.
+
+Each server has one worker. Clients send jobs, ask until each is finished, read it and give it up; the time is that from the first
+number to the last document. Connections of the clients stay, directly in the clear and to the proxy over TLS.
+"""
+
+import contextlib
+import os
+import statistics
+import subprocess
+import threading
+import time
+
+import programs
+from proxied import NAMES, Machines, ProxyClient
+from serving import Client, envelope, free_port, options, returned
+
+CLIENTS = 12
+JOBS = 120
+CALLS = 200
+
+
+@contextlib.contextmanager
+def direct():
+    """One server, without the proxy; what makes a client of it."""
+    port = free_port()
+    with subprocess.Popen(["deploy/serve", "1", str(port)], stdout=subprocess.PIPE) as server:
+        if server.stdout.readline() != b"listening\n":
+            raise SystemExit(f"serve ended with {server.wait()}")
+        yield lambda: Client(port)
+        server.kill()
+
+
+@contextlib.contextmanager
+def behind(count):
+    with Machines(count) as machines:
+        yield lambda: ProxyClient(machines)
+
+
+def asked(client, name, **parts):
+    status, body = client.post(envelope(name, **parts))
+    if status != 200:
+        raise ValueError(f"{name} was answered {status}")
+    return returned(body)
+
+
+def send_jobs(client, count, osil, failures):
+    """Sends so many jobs, then waits for each, reads it and gives it up."""
+    try:
+        numbers = []
+        for _ in range(count):
+            numbers.append(int(asked(client, "getJobID")[3:]))
+            if asked(client, "send", osil=osil, osol=options(numbers[-1])) != "true":
+                raise ValueError(f"os-{numbers[-1]} wasn't taken")
+        for number in numbers:
+            text = ""
+            while "<status>finished" not in text:
+                time.sleep(0.02)
+                text = asked(client, "retrieve", osol=options(number))
+            if 'type="optimal"' not in text:
+                raise ValueError(f"os-{number} is {text[:200]}")
+            asked(client, "kill", osol=options(number))
+    except (OSError, ValueError) as failure:
+        failures.append(repr(failure))
+
+
+def measured(served, osil):
+    """Jobs a second, and the milliseconds of a small call, the median."""
+    failures = []
+    with served as client_of:
+        clients = [client_of() for _ in range(CLIENTS)]
+        threads = [threading.Thread(target=send_jobs, args=(client, JOBS // CLIENTS, osil, failures)) for client in clients]
+        begun = time.monotonic()
+        for thread in threads:
+            thread.start()
+        for thread in threads:
+            thread.join()
+        seconds, times = time.monotonic() - begun, []
+        for _ in range(CALLS):
+            begun = time.monotonic()
+            asked(clients[0], "retrieve", osol=options(0))
+            times.append(time.monotonic() - begun)
+        for client in clients:
+            client.close()
+    if failures:
+        raise SystemExit("\n".join(failures))
+    return JOBS / seconds, statistics.median(times) * 1e3
+
+
+def main():
+    program = programs.sparse(60)
+    osil = programs.osil(program)
+    print(f"{JOBS} jobs, {program.name}, of {CLIENTS} clients; {os.cpu_count()} processors\n")
+    print("| servers | jobs a second | to one directly | ms a small call | to one directly |\n|---|---|---|---|---|", flush=True)
+    one, small = measured(direct(), osil)
+    print(f"| 1, directly | {one:.1f} | | {small:.2f} | |", flush=True)
+    for count in range(1, len(NAMES) + 1):
+        jobs, call = measured(behind(count), osil)
+        print(f"| {count} behind the proxy | {jobs:.1f} | {jobs / one:.2f} | {call:.2f} | {call / small:.1f} |", flush=True)
+
+
+main()
