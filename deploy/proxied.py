@@ -44,7 +44,8 @@ class Machines:
                 with open(name, encoding="utf-8") as it:
                     both.write(it.read())
         with open(f"{where}/users.cfg", "w", encoding="utf-8") as users:
-            users.write(f"userlist planners\n    user {USER} password {told_by('openssl', 'passwd', '-6', PASSWORD).strip()}\n")
+            written = told_by("openssl", "passwd", "-5", "-salt", f"rounds=1000${os.urandom(6).hex()}", PASSWORD)
+            users.write(f"userlist planners\n    user {USER} password {written.strip()}\n")
         self.start_proxy(where)
         self.wait_for({name: "UP" if name in self.servers else "DOWN" for name in NAMES})
         return self

@@ -6,21 +6,25 @@
 import random
 import re
 import ssl
+import subprocess
 import sys
 import threading
 import time
 import urllib.error
 import urllib.request
+from pathlib import Path
 
+import gubnatris
 import histories
 from histories import Call, Contradiction
 from proxied import NAMES, NUMBERS, PASSWORD, USER, Machines, ProxyClient
 from serve_clients import instance, told
-from serving import envelope, options, returned
+from serving import Client, envelope, free_port, options, returned
 
 CLIENTS = 24
 LONGEST = 4_194_304
 NOBODYS = 900_000_000
+FEW_ADDRESSES = 25_000_000
 
 
 class Crowd:
@@ -339,6 +343,41 @@ def drains(machines):
     return set(after) == {"one", "two"} and state == "issued" and server == "three" and "three" in again
 
 
+def by_the_python_client(machines):
+    """The client of `clients/python` comes in with TLS and a password, and is told what the proxy answers in a server's place."""
+    url, context = f"https://localhost:{machines.port}", ssl.create_default_context(cafile=machines.certificate)
+    server, told_of = gubnatris.Server(url, user=USER, password=PASSWORD, context=context), {}
+    objectives = [str(server.solve(Path("examples", f"{name}.osil")).objective) for name in ("capital_budget", "knapsack", "transport")]
+    wrong = {
+        "a wrong password": lambda: gubnatris.Server(url, user=USER, password="", context=context).jobs(),
+        "a certificate it doesn't trust": lambda: gubnatris.Server(url, user=USER, password=PASSWORD).jobs(),
+        "a job of server two, which is down": lambda: server.result(f"os-{2 * NUMBERS}"),
+    }
+    for name, call in wrong.items():
+        try:
+            call()
+        except gubnatris.Error as failure:
+            told_of[name] = f"{type(failure).__name__}{f' {failure.status}' if isinstance(failure, gubnatris.Status) else ''}"
+    print(f"the Python client gets {', '.join(objectives)}; and for " + ", for ".join(f"{name} {it}" for name, it in told_of.items()))
+    return objectives == ["42", "30", "6147/40"] and list(told_of.values()) == ["Status 401", "NotReached", "Status 503"]
+
+
+def short_of_memory(_):
+    """A server within few addresses answers 503 to calls for which they aren't enough, and goes on."""
+    port = free_port()
+    with subprocess.Popen(["prlimit", f"--as={FEW_ADDRESSES}", "deploy/serve", "1", str(port)], stdout=subprocess.PIPE) as server:
+        server.stdout.readline()
+        statuses = []
+        for osil in ["<a>" + "<b/>" * 380_000 + "</a>"] * 3 + ["<a/>"]:
+            client = Client(port)
+            statuses.append(client.post(envelope("solve", osil=osil))[0])
+            client.close()
+        ended = server.poll()
+        server.kill()
+    print(f"a server within {FEW_ADDRESSES} bytes answers {', '.join(map(str, statuses[:3]))} to long calls, and {statuses[3]} to a short one behind them")
+    return 503 in statuses[:3] and statuses[3] == 200 and ended is None
+
+
 def none_left(machines):
     """Where all servers are down, each call gets 503."""
     client = ProxyClient(machines)
@@ -357,7 +396,7 @@ def main():
         good = [tried(machines) for tried in (only_users_come_in, long_calls_find_their_server, other_forms_find_their_server)]
     with Machines() as machines:
         good.append(kill_beside_clients(machines, calls))
-        good += [tried(machines) for tried in (comes_back, drains, none_left)]
+        good += [tried(machines) for tried in (by_the_python_client, comes_back, drains, none_left, short_of_memory)]
     return not all(good)
 
 
