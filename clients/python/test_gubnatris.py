@@ -287,7 +287,7 @@ class Peers(unittest.TestCase):
             with self.subTest(answer=answer[:40], pause=pause), Peer(answer, "keep", pause) as server:
                 with self.assertRaises(TimedOut) as raised:
                     server.submit(MINIMUM)
-                self.assertLess(time.monotonic() - begun, 2)
+                self.assertLess(time.monotonic() - begun, 5)
                 self.assertTrue(answer.startswith(raised.exception.came))
                 self.assertEqual(bool(raised.exception.came), bool(answer))
 
@@ -384,7 +384,7 @@ class Served(unittest.TestCase):
         text = f'<osil><instanceData><variables><var type="B" mult="61"/></variables>{goal}{rows}</instanceData></osil>'
         before, begun = self.server.jobs().states, time.monotonic()
         result = self.server.solve(text, node_limit=1_000_000, turn_limit=100_000_000, seconds=0.3)
-        self.assertLess(time.monotonic() - begun, 5)
+        self.assertLess(time.monotonic() - begun, 20)
         self.assertEqual(result.cause, "killed")
         self.assertIn(result.status, ("bestSoFar", "unsure"))
         self.assertEqual(self.server.jobs().states, before)
@@ -436,6 +436,39 @@ class Served(unittest.TestCase):
             told = doctest.DocTestRunner(verbose=False).run(shown)
             self.assertGreater(told.attempted, 4)
             self.assertEqual(told.failed, 0)
+
+
+    def test_the_script_solves_files(self):
+        with tempfile.TemporaryDirectory() as folder:
+            bad, none, long = (Path(folder, name) for name in ("bad.osil", "none.osil", "long.osil"))
+            bad.write_text("<osil/>", encoding="utf-8")
+            long.write_bytes(b" " * 4_194_305)
+            url = f"http://127.0.0.1:{self.port}"
+            for words, status, out, err in (
+                (["--server", url, EXAMPLES[0]], 0, "accepted optimal", ""),
+                (["--server", url, EXAMPLES[0], bad], 1, "osil Missing at 1", ""),
+                (["--server", url, none], 3, "", "none: .* can't be read: No such file or directory"),
+                (["--server", url, long], 3, "", "long: .* is too long: .*"),
+                (["--server", f"http://127.0.0.1:{free_port()}", EXAMPLES[0]], 6, "", "capital_budget: nobody answers at .*"),
+                (["--server", "nobody"], 2, "", ".*not the URL of a server: 'nobody'"),
+                (["--server", url, "--nodes", "0", EXAMPLES[0]], 1, "osol BadLimit at 4", ""),
+            ):
+                with self.subTest(status=status, out=out):
+                    told = script(*words)
+                    self.assertEqual(told.returncode, status)
+                    self.assertIn(out, told.stdout)
+                    self.assertRegex(told.stderr.replace("\n", " ").strip(), f"\\A{err}\\Z")
+        with Peer(b"hello\n") as server:
+            told = script("--server", f"http://127.0.0.1:{server.port}", EXAMPLES[0])
+        self.assertEqual((told.returncode, told.stderr.count("\n")), (7, 1))
+        self.assertIn("6 bytes came: b'hello\\n'", told.stderr)
+
+
+def script(*words):
+    """A run of `examples.py`."""
+    return subprocess.run(
+        [sys.executable, Path(__file__).with_name("examples.py"), "--check", PROGRAM, *words], capture_output=True, text=True, check=False
+    )
 
 
 class NotCalled(unittest.TestCase):
