@@ -1,0 +1,217 @@
+"""What a result says of its instance, as people look at it: lines and tables, which text and HTML show alike, and the tree of cases."""
+
+import fractions
+
+CUT = 12  # decimals shown, as the server's own result has them
+CAUSES = {
+    "nodeLimit": ("it began as many cases as the option nodeLimit allows", "give a greater limit"),
+    "turnLimit": ("it made as many turns of the simplex method as the option pivotLimit allows, or --safe", "give a greater limit, without --safe"),
+    "wide": ("a number passes 128 bits", "use smaller numbers: whole units in place of decimals, other units where sizes differ much"),
+    "length": ("the document would be longer than 4,194,304 bytes", "set tighter bounds on the whole variables, so that fewer cases are needed"),
+    "killed": ("the job was asked to stop", ""),
+    "memory": ("there was no memory", "end other programs, or give a smaller instance"),
+}
+
+
+class Table:
+    """A table with a title. Each cell is a text; the columns whose names stand in `numbers` are aligned to the right."""
+
+    def __init__(self, title, head, rows, numbers=()):
+        self.title, self.head, self.rows, self.numbers = title, head, rows, numbers
+
+
+def shown(value):
+    """A number as a decimal, cut towards zero, with `..` where something was cut."""
+    if value is None:
+        return ""
+    size, scale = abs(value), 10**CUT
+    whole, rest = divmod(size.numerator * scale, size.denominator)
+    text = f"{whole // scale}.{whole % scale:0{CUT}}"
+    return ("-" if value < 0 else "") + (text + ".." if rest else text.rstrip("0").rstrip("."))
+
+
+def exact(value):
+    """The fraction, where the decimal doesn't say all of it."""
+    return "" if value is None or (10**CUT * value).denominator == 1 else str(value)
+
+
+def ends(column):
+    """What a column is restricted to."""
+    kind = " whole" if column.whole else ""
+    if column.low is None and column.high is None:
+        return f"free{kind}"
+    if column.low is not None and column.low == column.high:
+        return f"= {shown(column.low)}{kind}"
+    if column.low is None or column.high is None:
+        return (f"<= {shown(column.high)}" if column.low is None else f">= {shown(column.low)}") + kind
+    return f"{shown(column.low)} to {shown(column.high)}{kind}"
+
+
+def at_end(column, value):
+    """At which of its ends a column stands."""
+    if column.low is not None and column.low == column.high:
+        return "fixed" if value == column.low else ""
+    return "lower" if value == column.low else "upper" if value == column.high else ""
+
+
+def only_leaf(result):
+    """The multipliers of a certificate that is one leaf, or none."""
+    return dict(result.nodes[0].multipliers) if len(result.nodes) == 1 else None
+
+
+def goal_name(instance):
+    return f"{'greatest' if instance.maximise else 'least'} {instance.goal or 'value'}"
+
+
+def headline(instance, result):
+    """The first line: of what, and how it ended."""
+    name = instance.name or "instance"
+    if result.is_error:
+        return f"{name}: refused"
+    return f"{name}: {result.claim or result.status or 'no result'}"
+
+
+def sentences(instance, result):
+    """What is said in words below the headline."""
+    if result.is_error:
+        return [f"The server refused it: {result.message}.", "docs/rules/instances.md (osil) or options.md (osol) says what that is and where."]
+    if result.claim is None:
+        return [f"The job is {result.status}; there is no claim in the document."]
+    lines = []
+    if result.value is not None:
+        word = {"optimal": goal_name(instance), "unbounded": f"{instance.goal or 'value'} of the point"}.get(result.claim, f"best {instance.goal or 'value'} so far")
+        lines.append(f"The {word} is {shown(result.value)}" + (f", exactly {exact(result.value)}" if exact(result.value) else "") + ".")
+    if result.claim == "unbounded":
+        lines.append("There is no best value: from the point on, each step in the direction changes every variable as the table says.")
+        if result.ray:
+            lines.append(f"One step changes {instance.goal or 'the value'} by {shown(instance.value(result.ray) - instance.constant)}.")
+    if result.claim == "infeasible":
+        lines.append("No values of the variables meet all rows and ends.")
+    if result.claim in ("bestSoFar", "unsure"):
+        word, _, rest = (result.cause or "").partition(" ")
+        what, todo = CAUSES.get(word, ("the search was ended", ""))
+        lines.append(f"The search ended with the cause {word}{' ' + rest if rest else ''}: {what}{'; ' + todo if todo else ''}.")
+    return lines
+
+
+def variables_table(instance, result):
+    """The variables with their values, their ends, and of one leaf their multipliers."""
+    leaf, rows = only_leaf(result) or {}, []
+    for j, (column, value) in enumerate(zip(instance.variables, result.point)):
+        row = [column.name, shown(value), exact(value)]
+        row += [shown(result.ray[j])] if result.ray else []
+        row += [ends(column), at_end(column, value)]
+        row += [shown(leaf.get(j)), exact(leaf.get(j))] if leaf else []
+        rows.append(row)
+    head = ["variable", "value", "exactly", *["direction"] * bool(result.ray), "between", "at its end", *["multiplier", "exactly"] * bool(leaf)]
+    return Table("Variables", head, rows, ("value", "direction", "multiplier"))
+
+
+def binding_table(instance, result):
+    """The rows that stand at one of their ends, with their multipliers where the certificate is one leaf."""
+    leaf, rows, count = only_leaf(result) or {}, [], len(instance.variables)
+    for i, column in enumerate(instance.rows):
+        value = instance.activity(i, result.point)
+        if at_end(column, value):
+            multiplier = leaf.get(count + i)
+            rows.append([column.name, shown(value), ends(column), at_end(column, value)] + [shown(multiplier), exact(multiplier)] * bool(leaf))
+    head = ["row", "value", "between", "at its end"] + ["multiplier", "exactly"] * bool(leaf)
+    return Table(f"Rows that bind: {len(rows)} of {len(instance.rows)}", head, rows, ("value", "multiplier"))
+
+
+def conflict_table(instance, result):
+    """Of an infeasible instance with one leaf: what can't hold together."""
+    columns = instance.columns()
+    rows = [[columns[c].name, f"{'>=' if m > 0 else '<='} {shown(columns[c].low if m > 0 else columns[c].high)}", shown(m), exact(m)] for c, m in result.nodes[0].multipliers]
+    return Table("What can't hold together", ["row or variable", "is", "multiplier", "exactly"], rows, ("is", "multiplier"))
+
+
+def low_sum(columns, multipliers):
+    """The sum of the multipliers times their ends; nothing where an end is wanting."""
+    pieces = [(m, columns[c].low if m > 0 else columns[c].high) for c, m in multipliers]
+    return None if any(end is None for _, end in pieces) else sum((m * end for m, end in pieces), fractions.Fraction(0))
+
+
+def notes(instance, result):
+    """How to read the tables."""
+    lines = []
+    if result.claim == "optimal" and only_leaf(result):
+        change = "its multiplier" if not instance.maximise else "its multiplier with the other sign"
+        lines.append(f"While the same ends bind, an end that is raised by one changes {instance.goal or 'the value'} by {change}.")
+    if result.claim == "optimal" and len(result.nodes) > 1:
+        lines.append("The proof has cases, and each its own multipliers, so none stand in the tables.")
+    if result.claim == "infeasible" and len(result.nodes) == 1 and result.nodes[0].kind == "farkas":
+        total = low_sum(instance.columns(), result.nodes[0].multipliers)
+        if total is not None:
+            lines.append(f"Their sum, each times its multiplier, has no variable left and says 0 >= {shown(total)}.")
+    if result.claim:
+        lines.append("This shows what the result says; ./os check tells whether it is shown.")
+    return lines
+
+
+def tables(instance, result):
+    """The tables of a result, in order."""
+    found = []
+    if result.point and result.claim in ("optimal", "unbounded", "bestSoFar"):
+        found += [variables_table(instance, result), binding_table(instance, result)]
+    if result.claim == "infeasible" and len(result.nodes) == 1 and result.nodes[0].multipliers:
+        found.append(conflict_table(instance, result))
+    return found
+
+
+class Case:
+    """A node of the tree as it is looked at: how deep, what the case adds, and what the node says."""
+
+    def __init__(self, node, depth, added, said, parent):
+        self.node, self.depth, self.added, self.said, self.parent = node, depth, added, said, parent
+
+
+class Ends:
+    """The ends of a column in a case."""
+
+    def __init__(self, low, high):
+        self.low, self.high = low, high
+
+
+def said_of(node, columns, instance, held):
+    """What a leaf says, within the ends of its case; a split says which variable."""
+    if node.kind == "split":
+        return f"split by {columns[node.column].name}"
+    if node.kind == "clash":
+        return f"no point: {columns[node.column].name} has a lower end above its upper one"
+    if node.kind == "farkas":
+        names = [columns[c].name for c, _ in node.multipliers[:3]]
+        return f"no point: {', '.join(names)}{' ..' if len(node.multipliers) > 3 else ''} can't hold together"
+    total = low_sum(held, node.multipliers)
+    if total is None:
+        return "bound"
+    best = -(total - instance.constant) if instance.maximise else instance.constant + total
+    return f"no better than {shown(best)}"
+
+
+def cases(instance, result):
+    """The tree's nodes in their order, each with what it says; no call within another, as a tree may be deep."""
+    columns, found = instance.columns(), []
+    held = [Ends(column.low, column.high) for column in columns]
+    # What is still to do: a case to begin (what it adds: the column, the side, the end), or ends to give back.
+    todo, nodes = [("begin", 0, None, None)], iter(result.nodes)
+    while todo:
+        what, depth, added, parent = todo.pop()
+        if what == "restore":
+            column, side, before = added
+            setattr(held[column], side, before)
+            continue
+        text = ""
+        if added:
+            column, side, end = added
+            before = getattr(held[column], side)
+            todo.append(("restore", depth, (column, side, before), parent))
+            if before is None or (side == "low" and end > before) or (side == "high" and end < before):
+                setattr(held[column], side, end)
+            text = f"{columns[column].name} {'<=' if side == 'high' else '>='} {end}"
+        node = next(nodes)
+        found.append(Case(node, depth, text, said_of(node, columns, instance, held), parent))
+        if node.kind == "split":
+            todo.append(("begin", depth + 1, (node.column, "low", node.value + 1), node.number))
+            todo.append(("begin", depth + 1, (node.column, "high", node.value), node.number))
+    return found
