@@ -50,7 +50,7 @@ class Reader:
         self.program, self.kinds, self.sides, self.ranges = lp.Program(), {}, {}, {}
         self.rows, self.columns, self.bounded, self.low_said = {}, {}, set(), set()
         self.goal, self.is_whole, self.where = None, False, ""
-        self.sets, self.passed_over, self.last_column = {}, {}, ""
+        self.sets, self.last_set, self.passed_over, self.last_column = {}, {}, {}, ""
 
     # Lines
 
@@ -95,8 +95,10 @@ class Reader:
         return kind, *(tokens + [""])[:3]
 
     def is_first_set(self, section, name):
-        """Whether a right side, range or bound is of the first set of its section; the others are passed over."""
-        if self.sets.setdefault(section, name) == name or not name:
+        """Whether a right side, range or bound is of the first set of its section; the others are passed over. Without a name it is of
+        the set of the line before."""
+        name = self.last_set[section] = name or self.last_set.get(section, "")
+        if self.sets.setdefault(section, name) == name:
             return True
         self.passed_over[section] = self.passed_over.get(section, 0) + 1
         return False
@@ -250,7 +252,7 @@ class Reader:
             lp.fitted(constant, "the constant of the goal")
             program.constant = constant if self.is_glpk else -constant
         for section, count in self.passed_over.items():
-            program.notes.append(f"{count} lines of {section} are of other sets than {self.sets[section]}, and were passed over")
+            program.notes.append(f"lines of {section} that are of other sets than {self.sets[section] or 'that without a name'} were passed over: {count}")
         return program
 
 

@@ -1,0 +1,475 @@
+"""Tries the tools of planners on real input: `mps_to_osil`, `lp_to_osil`, `show_result` and `watch_jobs`.
+
+What the tools say is compared with what stands elsewhere: the cases in `tools/planner_cases/` have beside them what they mean, written by
+hand from the formats' references; `glpsol` reads the same files; its values, activities and marginals are those that are shown; and the
+states of jobs are those that `os call knock` tells. Each bad input has to end with its status and one line, and to write nothing.
+"""
+
+import html.parser
+import os
+import pty
+import re
+import select
+import signal
+import subprocess
+import sys
+import tempfile
+import time
+
+sys.dont_write_bytecode = True
+TOOLS = os.path.dirname(os.path.abspath(__file__))
+sys.path[:0] = [TOOLS, os.path.join(os.path.dirname(TOOLS), "bench")]
+
+import glpk_reading
+import job_documents
+import programs
+import serving
+
+CASES = f"{TOOLS}/planner_cases"
+EXAMPLES = "/usr/share/doc/glpk-utils/examples"
+PROGRAM = serving.PROGRAM
+failures, tried = [], [0]
+
+# file, words of the tool, words of glpsol, what GLPK needs written otherwise, and where it reads another meaning than the references say
+CONVERTED = [
+    ("spaces.mps", ["mps_to_osil"], ["--mps"], [("    RHS2      PLAIN L   99\n", ""), (" UP OTHER     VAN 2     1\n", "")],
+     {"row -1 and variable -1": "GLPK doesn't negate the constant (its manual, B.7: non-standard)"}),
+    ("bounds.fmps", ["mps_to_osil", "--free"], ["--freemps"],
+     [(" need 3", " RHS need 3"), (" MI minus\n", " MI B minus\n"), (" UP minusUp", " UP B minusUp"), (" BV binary", " BV B binary"),
+      (" UP B upInf 1e30\n", ""), (" LO B lowInf -1e300\n", " MI B lowInf\n"), (" UP B upBelowLow -2\n LO B upBelowLow -6", " LO B upBelowLow -6\n UP B upBelowLow -2")],
+     {"onlyLow": "GLPK keeps the upper end 1 of whole variables with a lower bound alone", "upBelow": "GLPK keeps the lower end 0"}),
+    ("exact.fmps", ["mps_to_osil", "--free"], ["--freemps", "--max"],
+     [("OBJSENSE\n    MAXIMIZE\nOBJNAME\n profit\n", ""), (" N other\n", ""), (" other 5", ""), (" N third\n", ""), (" third 1", "")],
+     {"row -1 and variable -1": "GLPK doesn't negate the constant"}),
+    ("sections.lp", ["lp_to_osil"], None, [], {}),
+    ("plain.lp", ["lp_to_osil"], ["--lp"], [], {}),
+]  # fmt: skip
+
+
+def check(is_right, name, why=""):
+    tried[0] += 1
+    if not is_right:
+        failures.append(f"{name}: {why}" if why else name)
+
+
+def ran(words, **given):
+    return subprocess.run(words, capture_output=True, text=True, check=False, **given)
+
+
+def tool(name, *words):
+    return ran([f"{TOOLS}/{name}", *words])
+
+
+def written(folder, name, text):
+    path = f"{folder}/{name}"
+    with open(path, "wb") as it:
+        it.write(text if isinstance(text, bytes) else text.encode())
+    return path
+
+
+# Files into OSiL
+
+
+def plain(value):
+    """A fraction that is a decimal, in all its digits."""
+    if value is None:
+        return None
+    places = next(k for k in range(400) if (value * 10**k).denominator == 1)
+    digits = str(abs(int(value * 10**places))).rjust(places + 1, "0")
+    return ("-" if value < 0 else "") + (digits[:-places] + "." + digits[-places:] if places else digits)
+
+
+def facts(instance):
+    """What an instance says, one fact a line."""
+
+    def ends(column):
+        return f"{'whole ' if column.whole else ''}{plain(column.low) or '-INF'} {plain(column.high) or 'INF'}"
+
+    variables, rows = instance.variables, instance.rows
+    lines = [f"{'max' if instance.maximise else 'min'} {instance.goal} constant {plain(instance.constant)}"]
+    lines += [f"variable {v.name} {ends(v)}" for v in variables] + [f"row {r.name} {ends(r)}" for r in rows]
+    lines += [f"cost {variables[j].name} {plain(cost)}" for j, cost in instance.costs.items()]
+    lines += [f"in {rows[i].name} {variables[j].name} {plain(factor)}" for i, row in enumerate(instance.factors) for j, factor in row.items()]
+    return lines
+
+
+def try_case(folder, file, words, dialect, edits, otherwise):
+    """A case says what stands beside it, and is what GLPK reads, but for the places that are named."""
+    osil = f"{folder}/case.osil"
+    made = tool(words[0], *words[1:], f"{CASES}/{file}", osil)
+    check(made.returncode == 0, file, made.stderr)
+    with open(f"{CASES}/{file}.says", encoding="utf-8") as it:
+        wanted = it.read().splitlines()
+    found = facts(job_documents.instance_of(osil))
+    lacking, other = [line for line in wanted if line not in found], [line for line in found if line not in wanted]
+    check(not lacking and not other and len(found) == len(wanted), file, f"{lacking} should be {other}")
+    solved = ran([PROGRAM, "solve", osil])
+    check("type=\"error\"" not in solved.stdout, file, f"the server refuses the OSiL: {solved.stdout}")
+    if dialect is None:
+        return
+    with open(f"{CASES}/{file}", encoding="utf-8") as it:
+        text = it.read()
+    for old, new in edits:
+        check(old in text, f"{file}: {old!r} should stand there for GLPK")
+        text = text.replace(old, new)
+    reading = glpk_reading.read_by_glpk(written(folder, "glpk", text), dialect, folder)
+    check(not isinstance(reading, str), file, f"GLPK doesn't read it: {reading}")
+    places = [place for place in glpk_reading.differences(osil, reading)]
+    check(all(any(name in place for name in otherwise) for place in places), file, f"GLPK reads otherwise: {places}")
+    check(all(any(name in place for place in places) for name in otherwise), file, f"GLPK reads as we do what it shouldn't: {places}")
+
+
+def try_published():
+    """Optima that stand in the comments of GLPK's own MPS files, from the books that these programs come from."""
+    with tempfile.TemporaryDirectory() as folder:
+        for file, words in (("alloy.mps", []), ("icecream.mps", []), ("murtagh.mps", ["--max"])):
+            with open(f"{EXAMPLES}/{file}", encoding="utf-8") as it:
+                wanted = float(re.search(r"OPT SOLN: +([\d.]+)", it.read()).group(1))
+            tool("mps_to_osil", *words, f"{EXAMPLES}/{file}", f"{folder}/osil")
+            solved = ran([PROGRAM, "solve", f"{folder}/osil"]).stdout
+            value, _, below = re.search(r'os_cert\.value"><item>([^<]*)<', solved).group(1).partition("/")
+            check(abs(int(value) / int(below or 1) - wanted) <= 1e-6 * wanted, file, f"{value}/{below} isn't {wanted}")
+
+
+def mps(body, rows=" N c\n L r\n"):
+    return f"NAME t\nROWS\n{rows}COLUMNS\n x c 1 r 1\n{body}ENDATA\n"
+
+
+def lines_of(count):
+    return "".join(f" x{k} c 1 r 1\n" for k in range(count))
+
+
+# name, tool and flags, text, what the line says
+REFUSED = [
+    ("LP as MPS", "mps_to_osil", "Minimize\n x\nEnd\n", "it isn't MPS: line 1 begins with 'Minimize'"),
+    ("empty", "mps_to_osil", "", "nothing stands in it"),
+    ("data before a section", "mps_to_osil", " N c\n", "line 1 stands in no section"),
+    ("cut short", "mps_to_osil --free", mps("").replace("ENDATA\n", ""), "ends without ENDATA"),
+    ("no columns", "mps_to_osil --free", "NAME\nROWS\n N c\nENDATA\n", "no ROWS or no COLUMNS"),
+    ("semi-continuous", "mps_to_osil --free", mps("BOUNDS\n SC B x 5\n"), "line 8: SC makes x semi-continuous"),
+    ("bound of no kind", "mps_to_osil --free", mps("BOUNDS\n XX B x 5\n"), "line 8: XX is no kind of bound"),
+    ("bound of nobody", "mps_to_osil --free", mps("BOUNDS\n UP B y 5\n"), "line 8: there is no variable y"),
+    ("quadratic", "mps_to_osil --free", mps("QUADOBJ\n x x 5\n"), "line 7: the section QUADOBJ isn't read"),
+    ("sets", "mps_to_osil --free", mps("SOS\n S1 s 1\n"), "line 7: the section SOS isn't read"),
+    ("second section", "mps_to_osil --free", mps("RHS\nRHS\n"), "line 8: a second section RHS"),
+    ("bounds first", "mps_to_osil --free", "NAME\nBOUNDS\n UP B x 1\n", "BOUNDS stands before COLUMNS"),
+    ("no such row", "mps_to_osil --free", mps(" x s 1\n"), "line 7: there is no row s"),
+    ("second number", "mps_to_osil --free", mps(" x r 1\n"), "line 7: a second number for the variable x in the row r"),
+    ("apart", "mps_to_osil --free", mps(" y r 1\n x c 1\n"), "line 8: the variable x comes a second time"),
+    ("second row", "mps_to_osil --free", mps("", " N c\n L r\n L r\n"), "line 5: a second row r"),
+    ("kind", "mps_to_osil --free", mps("", " N c\n X r\n"), "line 4: a row's kind is N, E, L or G"),
+    ("no number", "mps_to_osil --free", mps(" y r 1,5\n"), "line 7: '1,5' is no number"),
+    ("not a number", "mps_to_osil --free", mps(" y r nan\n"), "line 7: 'nan' is no number"),
+    ("hexadecimal", "mps_to_osil --free", mps(" y r 0x10\n"), "line 7: '0x10' is no number"),
+    ("wide", "mps_to_osil --free", mps(" y r 1e39\n"), "line 7: 1E+39 passes 128 bits"),
+    ("narrow", "mps_to_osil --free", mps(" y r 1e-39\n"), "line 7: 1E-39 passes 128 bits"),
+    ("huge exponent", "mps_to_osil --free", mps(" y r 1e99999999999999999999\n"), "line 7: 1e99999999999999999999 has too great an exponent"),
+    ("wide range", "mps_to_osil --free", mps("RHS\n R r 10000000000000000000\nRANGES\n R r 0.00000000000000000000000000001\n"), "the row r: "),
+    ("infinite fix", "mps_to_osil --free", mps("BOUNDS\n FX B x 1e30\n"), "line 8: a lower end is infinite"),
+    ("infinite side", "mps_to_osil --free", mps("RHS\n R r -1e30\n"), "the row r: an upper end is minus infinity"),
+    ("range of the goal", "mps_to_osil --free", mps("RANGES\n R c 1\n"), "line 8: the row c has the kind N"),
+    ("sense", "mps_to_osil --free", "NAME\nOBJSENSE\n UP\n", "line 3: 'UP' is neither MAX nor MIN"),
+    ("marker", "mps_to_osil --free", mps(" m 'MARKER' 'SOSORG'\n"), "line 7: a marker is 'INTORG' or 'INTEND'"),
+    ("words", "mps_to_osil --free", mps(" y r 1 c\n"), "line 7: there should be a name and one or two pairs"),
+    ("free as fixed", "mps_to_osil", mps(" longname veryLongRow 1\n"), "is it free MPS"),
+    ("tab", "mps_to_osil", "NAME\nROWS\n\tN\tc\n", "line 3: a tab stands there"),
+    ("long number", "mps_to_osil", "NAME\nROWS\n N  c\nCOLUMNS\n    x         c         123456789.1234567\n", "line 5: column 37 is between the fields"),
+    ("1,001 variables", "mps_to_osil --free", "NAME\nROWS\n N c\n L r\nCOLUMNS\n" + lines_of(1001) + "ENDATA\n", "too big: 1,001 variables, and 1,000 are the most"),
+    ("1,001 rows", "mps_to_osil --free", mps("", " N c\n L r\n" + "".join(f" L q{k}\n" for k in range(1000))), "too big: 1,001 rows"),
+    ("bytes", "mps_to_osil", b"NAME\xff\n", "no text: byte 5 isn't UTF-8"),
+    ("a zero byte", "mps_to_osil", b"NAME\nRO\0WS\n", "no text: line 2 has the character U+0000"),
+    ("64 MB", "mps_to_osil", b" " * 64_000_001, "too big: it has more than 64,000,000 bytes"),
+    ("MPS as LP", "lp_to_osil", mps(""), "it isn't CPLEX's LP format: line 1 begins with 'NAME'"),
+    ("empty LP", "lp_to_osil", "\n", "nothing stands in it"),
+    ("no rows", "lp_to_osil", "min\n x\nend\n", "Subject To comes behind the goal"),
+    ("quadratic LP", "lp_to_osil", "min\n x + [ x ^ 2 ] / 2\nst\n c: x >= 1\nend\n", "line 2: [ begins what isn't linear"),
+    ("product", "lp_to_osil", "min\n 3 * x\nst\n c: x >= 1\nend\n", "line 2: * begins what isn't linear"),
+    ("indicator", "lp_to_osil", "min\n x\nst\n c: b = 1 -> x >= 1\nend\n", "line 4: an indicator (->)"),
+    ("semi LP", "lp_to_osil", "min\n x\nst\n c: x >= 1\nSemi-Continuous\n x\nend\n", "line 5: the section semi-continuous isn't read"),
+    ("lazy", "lp_to_osil", "min\n x\nst\n c: x >= 1\nLazy Constraints\n d: x >= 2\nend\n", "line 5: the section lazy constraints isn't read"),
+    ("sets LP", "lp_to_osil", "min\n x\nst\n c: x >= 1\nSOS\n s: S1:: x:1\nend\n", "line 5: the section sos isn't read"),
+    ("no relation", "lp_to_osil", "min\n x\nst\n c: x + 2 y\nend\n", "line 4: <=, >= or = should stand there, and here is the end"),
+    ("no side", "lp_to_osil", "min\n x\nst\n c: x >= y\nend\n", "line 4: a number should stand there, and here is 'y'"),
+    ("both down", "lp_to_osil", "min\n x\nst\n c: 1 <= x >= 2\nend\n", "line 4: of two ends one is a lower and one an upper one"),
+    ("empty row", "lp_to_osil", "min\n x\nst\n c: >= 2\nend\n", "line 4: a row has no variable"),
+    ("lost sign", "lp_to_osil", "min\n x +\nst\n c: x >= 2\nend\n", "line 2: a sign stands before nothing"),
+    ("second LP row", "lp_to_osil", "min\n x\nst\n c: x >= 2\n c: x <= 5\nend\n", "line 5: a second row c"),
+    ("behind End", "lp_to_osil", "min\n x\nst\n c: x >= 2\nend\nbounds\n", "line 6: something stands behind End"),
+    ("wide LP", "lp_to_osil", "min\n 1e39 x\nst\n c: x >= 2\nend\n", "line 2: 1E+39 passes 128 bits"),
+    ("1,001 rows LP", "lp_to_osil", "min\n x\nst\n" + " x >= 1\n" * 1001 + "end\n", "too big: 1,001 rows"),
+]  # fmt: skip
+
+
+def is_one_line(text, name, wanted):
+    return text.count("\n") == 1 and text.startswith(f"{name}: ") and wanted in text
+
+
+def try_refusals(folder):
+    """Each file is refused with one line that says why, and the output stays as it was."""
+    for name, words, text, wanted in REFUSED:
+        file, out = written(folder, "bad", text), written(folder, "kept", "before")
+        command, *flags = words.split()
+        made = tool(command, *flags, file, out)
+        with open(out, encoding="utf-8") as it:
+            kept = it.read()
+        check(made.returncode == 1 and is_one_line(made.stderr, command, wanted), name, f"{made.returncode}: {made.stderr}, wanted {wanted}")
+        check(made.stdout == "" and kept == "before" and len(os.listdir(folder)) == 2, name, "something was written")
+
+
+def try_files(folder):
+    """What can't be read or written ends with 3 or 4, wrong words with 2."""
+    good = written(folder, "good", "NAME\nROWS\n N  c\nCOLUMNS\n    x         c         1\nENDATA\n")
+    good_lp = written(folder, "good.lp", "min\n x\nst\n c: x >= 1\nend\n")
+    osil = f"{TOOLS}/../examples/diet.osil"
+    for command, file in (("mps_to_osil", good), ("lp_to_osil", good_lp)):
+        check(tool(command, file).returncode == 0, command, "refuses what is good")
+        for words, status, wanted in (
+            (["nowhere"], 3, "no such file"), ([folder], 3, "is a directory"), ([file, f"{folder}/none/out"], 4, "no such file"),
+            ([file, folder], 4, "is a directory"), ([], 2, "usage"), ([file, "a", "b"], 2, "usage"), ([file, "--no"], 2, "usage"),
+        ):  # fmt: skip
+            made = tool(command, *words)
+            said = made.stderr.startswith("usage: ") if status == 2 else is_one_line(made.stderr, command, wanted)
+            check(made.returncode == status and said and not made.stdout, f"{command} {words}", f"{made.returncode}: {made.stderr}")
+        with open("/dev/full", "wb") as full:
+            made = subprocess.run([f"{TOOLS}/{command}", file], stdout=full, stderr=subprocess.PIPE, text=True, check=False)
+        check(made.returncode == 4 and is_one_line(made.stderr, command, "no space left"), f"{command} on a full disk", made.stderr)
+        check(sorted(os.listdir(folder)) == ["good", "good.lp"], command, f"left files: {os.listdir(folder)}")
+    for words, status, wanted in (
+        (["nowhere", osil], 3, "no such file"), ([osil, "nowhere"], 3, "no such file"), ([osil, osil], 1, "its root is osil, not osrl"),
+        ([good, osil], 1, "it isn't OSiL: line 1"), ([osil, good], 1, "it isn't OSrL: line 1"), ([osil], 2, "usage"),
+        ([osil, f"{TOOLS}/../examples/knapsack.osrl"], 1, "it isn't a result of this instance: its point has 6 numbers, and there are 4"),
+        ([osil, f"{TOOLS}/../examples/cutting_stock.osrl", "--dot"], 1, ""),
+    ):  # fmt: skip
+        made = tool("show_result", *words)
+        said = made.stderr.startswith("usage: ") if status == 2 else is_one_line(made.stderr, "show_result", wanted)
+        check(made.returncode == status and said and not made.stdout, f"show_result {words}", f"{made.returncode}: {made.stderr}")
+
+
+# Results
+
+
+def shown_table(text, title):
+    """The cells of a table by its first column; columns stand at least two spaces apart."""
+    lines = text.split("\n" + title, 1)[1].split("\n\n")[0].splitlines()[1:]
+    return {cells[0]: cells[1:] for cells in (re.split(r"  +", line.strip()) for line in lines[1:])}
+
+
+def glpk_solution(text, kind):
+    """Activities and marginals of rows or columns in a solution that glpsol wrote."""
+    part = text.split("Column name")[0] if kind == "row" else text.split("Column name")[1]
+    found = re.findall(r"^ +\d+ (\S+) +(?:B|NL|NU|NS|NF|\*)? +(\S+)(.*)$", part, re.M)
+    return {name: (float(activity), rest.split()) for name, activity, rest in found}
+
+
+def try_values(folder):
+    """Values and multipliers that are shown are the activities and marginals that glpsol finds."""
+    file, osil, osrl = f"{EXAMPLES}/plan.mps", f"{folder}/osil", f"{folder}/osrl"
+    tool("mps_to_osil", file, osil)
+    written(folder, "osrl", ran([PROGRAM, "solve", osil]).stdout)
+    ran(["glpsol", "--mps", file, "-o", f"{folder}/solution"])
+    with open(f"{folder}/solution", encoding="utf-8") as it:
+        solution = it.read()
+    text = tool("show_result", osil, osrl).stdout
+    value = float(re.search(r"The least VALUE is (\d+\.\d+)", text).group(1))
+    check(abs(value - float(re.search(r"VALUE = (\S+)", solution).group(1))) < 1e-6, "show_result", "another value than GLPK's")
+    for name, (activity, _) in glpk_solution(solution, "column").items():
+        cell = shown_table(text, "Variables")[name][0]
+        check(abs(float(cell.rstrip(".")) - activity) <= 1e-5 * max(1, abs(activity)), "show_result", f"{name} is {cell}, and GLPK says {activity}")
+    binding = shown_table(text, "Rows that bind")
+    for name, (activity, rest) in glpk_solution(solution, "row").items():
+        marginal = next((float(word) for word in rest[-1:] if word not in ("eps", "=") and len(rest) > 1), 0.0)
+        is_bound = name in binding
+        check(is_bound == bool(re.search(rf"{name} +(NL|NU|NS)", solution)), "show_result", f"{name} binds, or not, otherwise than GLPK says")
+        if is_bound:
+            multiplier = [float(cell.rstrip(".")) for cell in binding[name] if re.fullmatch(r"-?\d+\.?\d*\.{0,2}", cell)][-1]
+            check(abs(multiplier - marginal) <= 1e-4 * max(1, abs(marginal)), "show_result", f"{name} has {multiplier}, and GLPK says {marginal}")
+
+
+# example, what has to stand in the text: from the example's own description and from the rules
+SHOWN = {
+    "diet": ["diet: optimal", "The least cost is 2.007272727272.., exactly 552/275.", "4.727272727272..  52/11", "Rows that bind: 1 of 3", "3/2750"],
+    "capital_budget": ["The greatest worth is 42.", "Tree of cases: 13 nodes", "plant >= 1: no point", "Rows that bind: 1 of 1"],
+    "infeasible_schedule": ["infeasible schedule: infeasible", "0 >= 2", "row 6"],
+    "unlimited_trade": ["unlimited_trade: unbounded", "One step changes profit by 2."],
+    "knapsack": ["The greatest worth is 30."],
+    "transport": ["transport: optimal", "153.675"],
+    "cutting_stock": ["bestSoFar", "453"],
+}
+
+
+class Balanced(html.parser.HTMLParser):
+    """Whether each element of a page is closed, and the names of all."""
+
+    def __init__(self):
+        super().__init__()
+        self.open, self.names, self.is_balanced, self.text = [], set(), True, ""
+
+    def handle_starttag(self, tag, attrs):
+        self.names.add(tag)
+        if tag != "meta":
+            self.open.append(tag)
+
+    def handle_endtag(self, tag):
+        self.is_balanced &= bool(self.open) and self.open.pop() == tag
+
+    def handle_data(self, data):
+        self.text += data
+
+
+def try_views(folder):
+    """Text, HTML and Graphviz of the examples, and of results that end with a cause, an error, or no claim."""
+    for name, wanted in SHOWN.items():
+        files = [f"{TOOLS}/../examples/{name}.{end}" for end in ("osil", "osrl")]
+        text, page = tool("show_result", *files).stdout, tool("show_result", *files, "--html").stdout
+        check(all(piece in text for piece in wanted), f"show_result {name}", text)
+        parser = Balanced()
+        parser.feed(page)
+        check(parser.is_balanced and not parser.open and not parser.names & {"script", "iframe", "link"}, f"page of {name}", str(parser.open))
+        instance = job_documents.instance_of(files[0])
+        check(all(v.name in parser.text for v in instance.variables) or name == "infeasible_schedule", f"page of {name}", "a variable is wanting")
+    try_tree(folder)
+    few = written(folder, "few.osol", '<osol><optimization><solverOptions><solverOption name="nodeLimit" value="2"/></solverOptions></optimization></osol>')
+    osil = f"{TOOLS}/../examples/capital_budget.osil"
+    osrl = written(folder, "osrl", ran([PROGRAM, "solve", osil, "--options", few]).stdout)
+    check("the cause nodeLimit 2: it began as many cases as the option nodeLimit allows; give a greater limit" in tool("show_result", osil, osrl).stdout, "a cause")
+    bad = written(folder, "bad.osil", "<osil><instanceData><variables><var ub='x'/></variables></instanceData></osil>")
+    osrl = written(folder, "osrl", ran([PROGRAM, "solve", bad]).stdout)
+    check("The server refused it: osil Number at 4." in tool("show_result", osil, osrl).stdout, "an error's document")
+    job = "<osrl><general><generalStatus type='normal'/></general><job><status>running</status></job></osrl>"
+    check("The job is running; there is no claim" in tool("show_result", osil, written(folder, "osrl", job)).stdout, "a document without a claim")
+
+
+def try_tree(folder):
+    """A tree of many cases: each node stands once in the picture and in Graphviz's reading of it, and each leaf's bound is no worse than the
+    value, within the ends of its case; a tree without an end of words is as deep as its splits."""
+    files = [f"{TOOLS}/../examples/capital_budget.osil", f"{TOOLS}/../examples/capital_budget.osrl"]
+    text, dot = tool("show_result", *files).stdout, tool("show_result", *files, "--dot").stdout
+    numbers = [int(number) for number in re.findall(r"^ [ │├└─]*(\d+)  ", text, re.M)]
+    check(numbers == list(range(1, 14)), "tree", f"the picture has the nodes {numbers}")
+    check(all(float(bound) <= 42 for bound in re.findall(r"no better than ([\d.]+)", text)), "tree", text)
+    svg = ran(["dot", "-Tsvg"], input=dot)
+    check(svg.returncode == 0 and svg.stdout.count('class="node"') == 13 and svg.stdout.count('class="edge"') == 12, "dot", svg.stderr)
+    deep = "".join(f"<item>split 0 {k}</item><item>farkas 0:1</item>" for k in range(3000)) + "<item>farkas 0:1</item>"
+    osrl = f'<osrl><general><generalStatus type="normal"/></general><job><status>finished</status></job><optimization><solution><status type="infeasible"/><otherSolutionResults><otherSolutionResult name="os_cert.tree">{deep}</otherSolutionResult></otherSolutionResults></solution></optimization></osrl>'
+    made = tool("show_result", files[0], written(folder, "osrl", osrl), "--all")
+    check(made.returncode == 0 and "Tree of cases: 6001 nodes" in made.stdout and "(3000 deep)" in made.stdout, "a deep tree", made.stderr[-300:])
+    cut = tool("show_result", files[0], f"{folder}/osrl").stdout
+    check(".. and 5,801 more; --all shows them" in cut, "a long tree", cut[-300:])
+
+
+# Jobs
+
+
+def call(name, port, *words):
+    return ran([PROGRAM, "call", name, "127.0.0.1", str(port), *words]).stdout
+
+
+def knocked(port):
+    """The states that `os call knock` tells."""
+    return dict(re.findall(r'jobID="([^"]*)"><state>(\w+)', call("knock", port)))
+
+
+def watched(text):
+    return dict(re.findall(r"^(os-\d+) +(\w+)", text, re.M))
+
+
+def long_work():
+    """A program whose search takes longer than this script waits: 40 things, whole, and 12 equal limits of their weight, none of which fits."""
+    variables = [(0, 1, True)] * 60
+    rows = [(2 * k + 1, 2 * k + 1, {j: 2 * (1 + (j * (k + 3) + k) % 7) for j in range(60)}) for k in range(40, 44)]
+    return programs.Program("long", True, variables, rows, [1 + j % 5 for j in range(60)])
+
+
+def send_jobs(server, folder):
+    """Three numbers: the first job runs, the second waits, the third is issued."""
+    osil = written(folder, "long.osil", programs.osil(long_work()))
+    most = '<optimization><solverOptions><solverOption name="nodeLimit" value="1000000"/></solverOptions></optimization>'
+    files = []
+    for number in (1, 2, 3):
+        check(call("getJobID", server.port) == f"os-{number}", "getJobID")
+        files.append(written(folder, f"{number}.osol", f"<osol><general><jobID>os-{number}</jobID></general>{most}</osol>"))
+    for file in files[:2]:
+        check(call("send", server.port, "--osil", osil, "--osol", file) == "true", "send")
+    return files
+
+
+def read_for(handle, seconds):
+    """What comes from a terminal in so many seconds."""
+    text, last = b"", time.monotonic() + seconds
+    while time.monotonic() < last:
+        if select.select([handle], [], [], 0.1)[0]:
+            try:
+                text += os.read(handle, 65536)
+            except OSError:
+                break
+    return text.decode()
+
+
+def try_watch(folder):
+    """The view of a server whose jobs run for some seconds, once, on a terminal, and as lines; through its end and another one's begin."""
+    with serving.Server(1, 4) as server:
+        port = str(server.port)
+        view = tool("watch_jobs", "127.0.0.1", port, "--once")
+        check(view.returncode == 0 and "idle; 0 wait or run; 0 numbers given; no jobs" in view.stdout, "watch_jobs of no jobs", view.stdout + view.stderr)
+        files = send_jobs(server, folder)
+        time.sleep(0.5)
+        view, states = tool("watch_jobs", "127.0.0.1", port, "--once").stdout, knocked(server.port)
+        check(states == {"os-1": "running", "os-2": "waiting", "os-3": "issued"}, "knock", str(states))
+        check(watched(view) == states and "busy; 2 wait or run; 3 numbers given" in view, "watch_jobs --once", view)
+        master, slave = pty.openpty()
+        lines = subprocess.Popen([f"{TOOLS}/watch_jobs", "127.0.0.1", port], stdout=subprocess.PIPE, text=True)
+        terminal = subprocess.Popen([f"{TOOLS}/watch_jobs", "127.0.0.1", port], stdout=slave, stderr=slave)
+        os.close(slave)
+        view = read_for(master, 3.5)
+        check(re.search(r"os-1 +running +[23] s +[23] s", view) and "os-3" in view, "watch_jobs on a terminal", view[-300:])
+        for file in files:
+            call("kill", server.port, "--osol", file)
+        time.sleep(1)
+        view, states = read_for(master, 2.5), knocked(server.port)
+        check(watched(view.replace("\033[K", "").replace("\r", "").split("\033[H")[-1]) == states, "watch_jobs behind kills", f"{view[-300:]} {states}")
+    view = read_for(master, 3.5)
+    check("no server of jobs answers (connection refused); trying again every second" in view, "watch_jobs of a server that is gone", view[-300:])
+    terminal.send_signal(signal.SIGINT)
+    check(terminal.wait(5) == 0 and "Traceback" not in read_for(master, 0.2), "watch_jobs behind Ctrl-C")
+    lines.send_signal(signal.SIGINT)
+    told = lines.communicate(timeout=5)[0]
+    check(lines.returncode == 0 and told.count("trying again") == 1 and "os-1  running" in told, "watch_jobs in lines", told)
+    gone = tool("watch_jobs", "127.0.0.1", port, "--once")
+    check(gone.returncode == 6 and is_one_line(gone.stderr, "watch_jobs", "no server answers"), "watch_jobs --once of nobody", gone.stderr)
+    for words in ([], ["h"], ["h", "x"], ["h", "65536"], ["h", "80", "--all"]):
+        check(tool("watch_jobs", *words).returncode == 2, f"watch_jobs {words}")
+
+
+def try_other_servers():
+    """What answers is no server of jobs: HTTP of another kind, and bytes that are no HTTP."""
+    with serving.Server(0, 1) as server:
+        pass
+    for words, wanted in (
+        ([sys.executable, "-m", "http.server", str(server.port), "--bind", "127.0.0.1"], "has the status 501"),
+        ([sys.executable, "-c", f"import socket; s=socket.create_server(('127.0.0.1',{server.port}))\nwhile 1: a=s.accept()[0]; a.recv(999); a.sendall(b'hello\\r\\n'); a.close()"], "no HTTP"),
+    ):  # fmt: skip
+        other = subprocess.Popen(words, stdout=subprocess.DEVNULL, stderr=subprocess.DEVNULL)
+        for _ in range(50):
+            made = tool("watch_jobs", "127.0.0.1", str(server.port), "--once")
+            if made.returncode != 6:
+                break
+            time.sleep(0.1)
+        other.terminate()
+        other.wait()
+        check(made.returncode == 7 and is_one_line(made.stderr, "watch_jobs", wanted), f"watch_jobs of {words[1:3]}", f"{made.returncode} {made.stderr}")
+
+
+def main():
+    for work in (try_refusals, try_files, try_values, try_views, try_watch):
+        with tempfile.TemporaryDirectory() as folder:
+            work(folder)
+    for case in CONVERTED:
+        with tempfile.TemporaryDirectory() as folder:
+            try_case(folder, *case)
+    try_published()
+    try_other_servers()
+    print("\n".join(failures) or f"{tried[0]} checks of the planners' tools as the references, GLPK and the rules say")
+    return bool(failures)
+
+
+sys.exit(main())
