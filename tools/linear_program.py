@@ -264,6 +264,7 @@ def convert(tool, read, usage, flags):
 
     def work():
         program = read(read_text(words[0]), given)
+        program.name = program.name or os.path.basename(words[0]).split(".")[0]
         write_whole(osil(program), words[1] if len(words) == 2 else None)
         for note in program.notes:
             say(tool, f"note: {words[0]}: {note}")
