@@ -57,6 +57,8 @@ def tree_of(data, what, root):
         parser.Parse(data, True)
     except expat.ExpatError as error:
         raise Complaint(f"it isn't {what}: line {error.lineno}, column {error.offset + 1}: {expat.ErrorString(error.code)}") from error
+    except LookupError as error:
+        raise Complaint(f"it isn't {what}: {error}") from error
     found = top.children[0]
     if found.name != root:
         raise Complaint(f"it isn't {what}: its root is {found.name}, not {root}")

@@ -16,6 +16,7 @@ MOST_VALUES = 100_000
 MOST_DOCUMENT = 4_194_304
 MOST_FILE = 64_000_000
 GREATEST = 2**127 - 1
+MOST_DIGITS, MOST_EXPONENT = 300, 10_000  # past these no number is within 128 bits, nor is it what anybody writes for infinity
 NUMBER = re.compile(r"[+-]?(?:\d+\.?\d*|\.\d+)(?:[eE][+-]?\d+)?")
 INFINITE = decimal.Decimal("1e20")  # CPLEX's CPX_INFBOUND: an end of this size is none
 # Numbers within 128 bits and their sums have far fewer digits, so nothing is rounded; if something were, it would be an exception.
@@ -56,9 +57,13 @@ def decimal_of(text, where):
     if not NUMBER.fullmatch(text):
         raise Complaint(f"{where}: {text[:40]!r} is no number")
     try:
-        return decimal.Decimal(text)
+        value = decimal.Decimal(text)
     except decimal.InvalidOperation as error:
         raise Complaint(f"{where}: {text[:40]} has too great an exponent") from error
+    _, digits, exponent = value.as_tuple()
+    if len(digits) > MOST_DIGITS or abs(exponent) > MOST_EXPONENT:
+        raise Complaint(f"{where}: {text[:40]} has too many digits, or too great an exponent")
+    return value
 
 
 def number(text, where):

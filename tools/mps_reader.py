@@ -288,6 +288,8 @@ def read(text, flags):
             continue
         reader.where = where = f"line {count}"
         if line[0] in " \t":
+            if reader.is_free and not free_tokens(line):
+                continue
             if section not in take:
                 raise Complaint(f"it isn't MPS: {where} stands in no section" if not seen else f"{where}: no data stand behind {section}")
             take[section](line)

@@ -179,6 +179,8 @@ REFUSED = [
     ("wide", "mps_to_osil --free", mps(" y r 1e39\n"), "line 7: 1E+39 passes 128 bits"),
     ("narrow", "mps_to_osil --free", mps(" y r 1e-39\n"), "line 7: 1E-39 passes 128 bits"),
     ("huge exponent", "mps_to_osil --free", mps(" y r 1e99999999999999999999\n"), "line 7: 1e99999999999999999999 has too great an exponent"),
+    ("great exponent", "mps_to_osil --free", mps("BOUNDS\n UP B x 1e999999\n"), "line 8: 1e999999 has too many digits, or too great an exponent"),
+    ("many digits", "mps_to_osil --free", mps(" y r " + "1" * 500 + "\n"), "line 7: 1111111111111111111111111111111111111111 has too many digits"),
     ("wide range", "mps_to_osil --free", mps("RHS\n R r 10000000000000000000\nRANGES\n R r 0.00000000000000000000000000001\n"), "the row r: "),
     ("infinite fix", "mps_to_osil --free", mps("BOUNDS\n FX B x 1e30\n"), "line 8: a lower end is infinite"),
     ("infinite side", "mps_to_osil --free", mps("RHS\n R r -1e30\n"), "the row r: an upper end is minus infinity"),

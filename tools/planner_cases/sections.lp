@@ -9,6 +9,7 @@ Subject To
  between: -2 <= x(1) + z <= 8.5
  turned: 4 >= y[2] + z
  equal: x(1) + x(4) + x(1) = 0.12345678901234567
+ shifted: x(1) + 1.5 + z - 1 <= 4
  open: z >= -1e20
 Bounds
  -5 <= x(1) <= 5
