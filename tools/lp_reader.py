@@ -52,7 +52,7 @@ def tokens_of(line, count):
         if kind == "arrow":
             raise Complaint(f"line {count}: an indicator (->) isn't linear; a 0-1 variable and a bound can say it")
         if kind == "other" and token.group() in "[]^*":
-            raise Complaint(f"line {count}: {token.group()} begins what isn't linear, or isn't CPLEX's LP format: a factor stands before its variable, a space between")
+            raise Complaint(f"line {count}: {token.group()} begins what isn't linear; a factor stands before its variable, a space between")
         if kind == "other":
             raise Complaint(f"line {count}: the character {token.group()!r} stands in no name")
         if kind != "space":

@@ -348,7 +348,8 @@ def try_views(folder):
     few = written(folder, "few.osol", '<osol><optimization><solverOptions><solverOption name="nodeLimit" value="2"/></solverOptions></optimization></osol>')
     osil = f"{TOOLS}/../examples/capital_budget.osil"
     osrl = written(folder, "osrl", ran([PROGRAM, "solve", osil, "--options", few]).stdout)
-    check("the cause nodeLimit 2: it began as many cases as the option nodeLimit allows; give a greater limit" in tool("show_result", osil, osrl).stdout, "a cause")
+    wanted = "the cause nodeLimit 2: it began as many cases as the option nodeLimit allows; give a greater limit"
+    check(wanted in tool("show_result", osil, osrl).stdout, "a cause")
     bad = written(folder, "bad.osil", "<osil><instanceData><variables><var ub='x'/></variables></instanceData></osil>")
     osrl = written(folder, "osrl", ran([PROGRAM, "solve", bad]).stdout)
     check("The server refused it: osil Number at 4." in tool("show_result", osil, osrl).stdout, "an error's document")
@@ -367,7 +368,10 @@ def try_tree(folder):
     svg = ran(["dot", "-Tsvg"], input=dot)
     check(svg.returncode == 0 and svg.stdout.count('class="node"') == 13 and svg.stdout.count('class="edge"') == 12, "dot", svg.stderr)
     deep = "".join(f"<item>split 0 {k}</item><item>farkas 0:1</item>" for k in range(3000)) + "<item>farkas 0:1</item>"
-    osrl = f'<osrl><general><generalStatus type="normal"/></general><job><status>finished</status></job><optimization><solution><status type="infeasible"/><otherSolutionResults><otherSolutionResult name="os_cert.tree">{deep}</otherSolutionResult></otherSolutionResults></solution></optimization></osrl>'
+    osrl = (
+        '<osrl><general><generalStatus type="normal"/></general><job><status>finished</status></job><optimization><solution><status type="infeasible"/>'
+        f'<otherSolutionResults><otherSolutionResult name="os_cert.tree">{deep}</otherSolutionResult></otherSolutionResults></solution></optimization></osrl>'
+    )
     made = tool("show_result", files[0], written(folder, "osrl", osrl), "--all")
     check(made.returncode == 0 and "Tree of cases: 6001 nodes" in made.stdout and "(3000 deep)" in made.stdout, "a deep tree", made.stderr[-300:])
     cut = tool("show_result", files[0], f"{folder}/osrl").stdout
@@ -451,7 +455,8 @@ def try_watch(folder):
         check("os-1  running" in lines.stdout.readline() + "".join(lines.stdout.readline() for _ in range(4)), "watch_jobs in lines")
         for file in reversed(files):  # the first one last, so that none is begun
             call("kill", server.port, "--osol", file)
-        check(terminal.shows(r"idle; 0 wait or run; 3 .*\n.*\nos-3 +killed .*\nos-2 +killed .*\nos-1 +finished +\d+ s +[01] s"), "watch_jobs behind kills", terminal.text[-300:])
+        wanted = r"idle; 0 wait or run; 3 .*\n.*\nos-3 +killed .*\nos-2 +killed .*\nos-1 +finished +\d+ s +[0-9] s"
+        check(terminal.shows(wanted), "watch_jobs behind kills", terminal.text[-300:])
         check(knocked(server.port) == {"os-1": "finished", "os-2": "killed", "os-3": "killed"}, "knock behind kills")
     check(terminal.shows(r"no server \(connection refused\); asking again every second"), "watch_jobs of a server that is gone", terminal.text[-300:])
     time.sleep(1.5)
@@ -470,10 +475,11 @@ def try_other_servers():
     """What answers is no server of jobs: HTTP of another kind, and bytes that are no HTTP."""
     with serving.Server(0, 1) as server:
         pass
+    hello = f"import socket\ns = socket.create_server(('127.0.0.1', {server.port}))\nwhile 1: a = s.accept()[0]; a.recv(999); a.sendall(b'hello\\n'); a.close()"
     for words, wanted in (
         ([sys.executable, "-m", "http.server", str(server.port), "--bind", "127.0.0.1"], "has the status 501"),
-        ([sys.executable, "-c", f"import socket; s=socket.create_server(('127.0.0.1',{server.port}))\nwhile 1: a=s.accept()[0]; a.recv(999); a.sendall(b'hello\\r\\n'); a.close()"], "no HTTP"),
-    ):  # fmt: skip
+        ([sys.executable, "-c", hello], "no HTTP"),
+    ):
         other = subprocess.Popen(words, stdout=subprocess.DEVNULL, stderr=subprocess.DEVNULL)
         for _ in range(50):
             made = tool("watch_jobs", "127.0.0.1", str(server.port), "--once")

@@ -79,7 +79,9 @@ def sentences(instance, result):
         return [f"The job is {result.status}; there is no claim in the document."]
     lines = []
     if result.value is not None:
-        word = {"optimal": goal_name(instance), "unbounded": f"{instance.goal or 'value'} of the point"}.get(result.claim, f"best {instance.goal or 'value'} so far")
+        goal = instance.goal or "value"
+        words = {"optimal": goal_name(instance), "unbounded": f"{goal} of the point"}
+        word = words.get(result.claim, f"best {goal} so far")
         lines.append(f"The {word} is {shown(result.value)}" + (f", exactly {exact(result.value)}" if exact(result.value) else "") + ".")
     if result.claim == "unbounded":
         lines.append("There is no best value: from the point on, each step in the direction changes every variable as the table says.")
@@ -121,8 +123,10 @@ def binding_table(instance, result):
 
 def conflict_table(instance, result):
     """Of an infeasible instance with one leaf: what can't hold together."""
-    columns = instance.columns()
-    rows = [[columns[c].name, f"{'>=' if m > 0 else '<='} {shown(columns[c].low if m > 0 else columns[c].high)}", shown(m), exact(m)] for c, m in result.nodes[0].multipliers]
+    columns, rows = instance.columns(), []
+    for c, multiplier in result.nodes[0].multipliers:
+        end = f">= {shown(columns[c].low)}" if multiplier > 0 else f"<= {shown(columns[c].high)}"
+        rows.append([columns[c].name, end, shown(multiplier), exact(multiplier)])
     return Table("What can't hold together", ["row or variable", "is", "multiplier", "exactly"], rows, ("is", "multiplier"))
 
 
