@@ -40,7 +40,7 @@ CONVERTED = [
     ("bounds.fmps", ["mps_to_osil", "--free"], ["--freemps"],
      [(" need 3", " RHS need 3"), (" MI minus\n", " MI B minus\n"), (" UP minusUp", " UP B minusUp"), (" BV binary", " BV B binary"),
       (" UP B upInf 1e30\n", ""), (" LO B lowInf -1e300\n", " MI B lowInf\n"), (" UP B upBelowLow -2\n LO B upBelowLow -6", " LO B upBelowLow -6\n UP B upBelowLow -2"),
-      (" FR B freeUp\n", " MI B freeUp\n")],
+      (" FR B freeUp\n", " MI B freeUp\n"), (" $ a line that is a comment\n", "")],
      {"onlyLow": "GLPK keeps the upper end 1 of whole variables with a lower bound alone", "upBelow": "GLPK keeps the lower end 0"}),
     ("exact.fmps", ["mps_to_osil", "--free"], ["--freemps", "--max"],
      [("OBJSENSE\n    MAXIMIZE\nOBJNAME\n profit\n", ""), (" N other\n", ""), (" other 5", ""), (" N third\n", ""), (" third 1", "")],
