@@ -8,8 +8,6 @@ use Rattle.rational.specs.Ratio.{Ratio, whole, sum, product, quotient, IsSame, I
 use Rattle.rational.specs.Width.{most, ReducedFits, SumFits}
 use Rattle.rational.proofs.Scaling.{add-times, times-times}
 use Rattle.rational.proofs.ReducedForms.{one_number}
-use Rattle.fraction.specs.Frac.{ratio}
-use Rattle.fraction.specs.declared.frac.Frac.{Frac}
 use Rattle.evidence.specs.Width.{TermFits}
 use Rattle.evidence.proofs.Numbers.{◌≈◌, ◌⊙◌, ≈-refl, sum-≈, sum-number, product-number}
 use Rattle.evidence.proofs.Fits.{sums_same, term_same}
@@ -77,14 +75,13 @@ quotient_over n d = times-times n 1 d ∙ ap (λ k. n *ℤ pos k) (let e : 1 * d
 pub quotient_fits : (n : ℤ) (d : ℕ) → 0 < d → unsigned_abs n ≤ most → d ≤ most → ReducedFits (quotient (whole n) (whole (pos d)))
 quotient_fits n d up ln ld = reduced_fits (quotient (whole n) (whole (pos d))) (omega (arith, up)) (subst (λ k. k ≤ most) (sym (ap unsigned_abs (times_one n))) ln) (omega (arith, ld))
 
--- a product of numbers of 64 bits
-pub product_small : (a x : Frac) (k m : ℤ) → FitsSigned w64 k → FitsSigned w64 m → k ≡ a.numer → m ≡ x.numer → x.denom ≡ 1 → ReducedFits (product (ratio a) (ratio x))
-product_small a x k m fk fm ek em one =
-    let size = product_within (k *ℤ m) k m refl fk fm in
-    let num : unsigned_abs (a.numer *ℤ x.numer) ≤ 2 ^ 126 = subst (λ z. unsigned_abs z ≤ 2 ^ 126) (ap₂ (λ y z. y *ℤ z) ek em) size in
-    let den : a.denom * x.denom ≡ a.denom = ap (λ d. a.denom * d) one ∙ (omega arith) in
-    let within = a.denom_within in
-    reduced_fits (product (ratio a) (ratio x)) (product-number (ratio a) (ratio x) a.above x.above) (omega (arith, num)) (omega (arith, den, within))
+-- a product in the form of its parts
+pub product_form : (l r a x : Ratio) (n : ℤ) (d : ℕ) → l ≡ a → r ≡ x → n ≡ l.num *ℤ r.num → d ≡ l.den * r.den → over n d ≡ product a x
+product_form l r a x n d el er en ed = one_number (over n d) (product l r) en ed ∙ ap₂ (λ v w. product v w) el er
+
+-- parts of 64 bits fit
+pub form_reduced : (n : ℤ) (d : ℕ) → 0 < d → FitsSigned w64 n → d < 2 ^ 64 → ReducedFits (over n d)
+form_reduced n d up f l = let s = size_within n f in reduced_fits (over n d) up (omega (arith, s)) (omega (arith, l))
 
 -- what the sum of two forms states, over a denominator of both
 pub form_fits : (x y : Ratio) (a n k t : ℤ) (c : ℕ) → IsNumber x → IsNumber y → 0 < c → IsSame x (over a c) → IsSame y (over (n *ℤ k) c) → FitsSigned w64 a → FitsSigned w64 n → FitsSigned w64 k → t ≡ a +ℤ n *ℤ k → unsigned_abs t ≤ most → c < 2 ^ 64 → SumFits x y

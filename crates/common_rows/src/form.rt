@@ -2,7 +2,7 @@
 ghost use Rattle.std.specs.Prelude.{◌≡◌, ◌<◌, ◌/◌, pos, IfSome};
 
 use crate::change::product;
-use crate::whole::{narrow, narrowed, total};
+use crate::whole::{narrowed, total};
 use fraction::{Frac, lcm};
 
 /// A number over a denominator, both of 64 bits, in any form.
@@ -12,6 +12,9 @@ pub struct Form {
     pub denom: u64,
     pub ghost above: { 0 < denom },
 }
+
+/// The greatest denominators that are multiplied at once.
+const SMALL: u64 = 1 << 24;
 
 /// The size, where it has 64 bits.
 #[inline]
@@ -37,16 +40,26 @@ impl Form {
     ghost use Rattle.fraction.specs.Frac.{ratio};
     ghost use Rattle.common_rows.specs.Accumulators.{form_of};
 
-    /// A fraction times a whole number, where that fits.
+    /// A fraction, where both its parts have 64 bits.
+    #[inline]
+    pub fn of(x: &Frac) -> Option<Form>
+        ensures { IfSome result (λ r. form_of r ≡ ratio x.now) }
+    {
+        let numer = narrowed(x.numer)?;
+        let denom = size(x.denom)?;
+        Some(Form { numer, denom })
+    }
+
+    /// A product of fractions, not reduced, where all parts have 64 bits.
     #[inline]
     pub fn of_product(a: &Frac, x: &Frac) -> Option<Form>
         ensures same { IfSome result (λ t. IsSame (form_of t) (product (ratio a.now) (ratio x.now))) }
         ensures fits { IfSome result (λ _. ReducedFits (product (ratio a.now) (ratio x.now))) }
     {
-        let m = narrow(*x)?;
-        let k = narrowed(a.numer)?;
-        let denom = size(a.denom)?;
-        let numer = narrowed(product(k, m))?;
+        let left = Form::of(a)?;
+        let right = Form::of(x)?;
+        let numer = narrowed(product(left.numer, right.numer))?;
+        let denom = left.denom.checked_mul(right.denom)?;
         Some(Form { numer, denom })
     }
 
@@ -65,7 +78,20 @@ impl Form {
         Some(Form { numer, denom })
     }
 
-    /// The number over a denominator that the other one divides.
+    /// The number over the product of both denominators.
+    fn over_product(self, by: u64) -> Option<Form>
+        requires { 0 < by }
+        ensures same { IfSome result (λ r. IsSame (form_of self) (form_of r)) }
+        ensures divides { IfSome result (λ r. r.denom % by ≡ 0) }
+    {
+        let denom = self.denom.checked_mul(by)?;
+        let times = often(denom, self.denom)?;
+        let numer = narrowed(product(self.numer, times))?;
+        Some(Form { numer, denom })
+    }
+
+    /// The number over a denominator that the other one divides. Where both are small it is their product, since a greatest common
+    /// divisor costs more than all else here.
     #[inline]
     fn over_common(self, by: u64) -> Option<Form>
         requires { 0 < by }
@@ -74,6 +100,9 @@ impl Form {
     {
         if self.denom % by == 0 {
             return Some(self);
+        }
+        if self.denom <= SMALL && by <= SMALL {
+            return self.over_product(by);
         }
         self.over_both(by)
     }
@@ -91,5 +120,16 @@ impl Form {
             numer,
             denom: common.denom,
         })
+    }
+
+    /// The number in lowest terms.
+    #[inline]
+    pub fn fraction(self) -> Frac
+        ensures { IsSame (ratio result) (form_of self) }
+    {
+        match Frac::of(self.numer as i128, self.denom as i128) {
+            Ok(x) => x,
+            Err(_) => unreachable!(),
+        }
     }
 }

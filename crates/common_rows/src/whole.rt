@@ -4,7 +4,9 @@ ghost use Rattle.rational.specs.Ratio.{sum, product, IsSame};
 ghost use Rattle.rational.specs.Width.{most, ReducedFits};
 ghost use Rattle.fraction.specs.Frac.{ratio};
 ghost use Rattle.evidence.specs.Width.{TermFits};
+ghost use Rattle.common_rows.specs.Accumulators.{form_of};
 
+use crate::form::Form;
 use fraction::{Frac, Wide};
 use instance::add_product;
 
@@ -47,6 +49,43 @@ pub fn total(n: i64, k: i64, m: i64) -> i128
     n as i128 + crate::change::product(k, m)
 }
 
+/// A fraction and a product, where their parts have 64 bits.
+#[inline]
+fn narrow_sum(start: &Frac, a: &Frac, x: &Frac) -> Option<Form>
+    ensures ok { IfSome result (λ r. IsSame (form_of r) (sum (ratio start.now) (product (ratio a.now) (ratio x.now)))) }
+    ensures fits { IfSome result (λ _. TermFits (ratio start.now) (ratio a.now) (ratio x.now)) }
+{
+    let term = Form::of_product(a, x)?;
+    let from = Form::of(start)?;
+    let sum = from.plus(term)?;
+    Some(sum)
+}
+
+/// A fraction and a product, which are reduced once where their parts have 64 bits.
+#[inline(never)]
+fn plus_fractions(start: &Frac, a: &Frac, x: &Frac) -> Result<Frac, Wide>
+    ensures ok { IfOk result (λ r. IsSame (ratio r) (sum (ratio start.now) (product (ratio a.now) (ratio x.now)))) }
+    ensures fits { IfOk result (λ _. TermFits (ratio start.now) (ratio a.now) (ratio x.now)) }
+    ensures wide { OnErr result (TermFits (ratio start.now) (ratio a.now) (ratio x.now) → ⊥) }
+{
+    match narrow_sum(start, a, x) {
+        Some(sum) => Ok(sum.fraction()),
+        None => add_product(*start, *a, *x),
+    }
+}
+
+/// A product of fractions, which is reduced once where its parts have 64 bits.
+#[inline(never)]
+fn times_fractions(a: &Frac, x: &Frac) -> Result<Frac, Wide>
+    ensures ok { IfOk result (λ r. IsSame (ratio r) (product (ratio a.now) (ratio x.now))) }
+    ensures wide { OnErr result (ReducedFits (product (ratio a.now) (ratio x.now)) → ⊥) }
+{
+    match Form::of_product(a, x) {
+        Some(term) => Ok(term.fraction()),
+        None => a.mul(*x),
+    }
+}
+
 /// `start` and a product, as [`add_product`] has them.
 #[inline]
 pub fn plus_product(start: Frac, a: Frac, x: Frac) -> Result<Frac, Wide>
@@ -55,13 +94,13 @@ pub fn plus_product(start: Frac, a: Frac, x: Frac) -> Result<Frac, Wide>
     ensures wide { OnErr result (TermFits (ratio start) (ratio a) (ratio x) → ⊥) }
 {
     let Some(n) = narrow(start) else {
-        return add_product(start, a, x);
+        return plus_fractions(&start, &a, &x);
     };
     let Some(k) = narrow(a) else {
-        return add_product(start, a, x);
+        return plus_fractions(&start, &a, &x);
     };
     let Some(m) = narrow(x) else {
-        return add_product(start, a, x);
+        return plus_fractions(&start, &a, &x);
     };
     Ok(whole(total(n, k, m)))
 }
@@ -73,10 +112,10 @@ pub fn times(a: Frac, x: Frac) -> Result<Frac, Wide>
     ensures wide { OnErr result (ReducedFits (product (ratio a) (ratio x)) → ⊥) }
 {
     let Some(k) = narrow(a) else {
-        return a.mul(x);
+        return times_fractions(&a, &x);
     };
     let Some(m) = narrow(x) else {
-        return a.mul(x);
+        return times_fractions(&a, &x);
     };
     Ok(whole(crate::change::product(k, m)))
 }
