@@ -7,7 +7,7 @@ import fractions
 import re
 from xml.parsers import expat
 
-from linear_program import MOST_COLUMNS, MOST_DOCUMENT, MOST_VALUES, NUMBER, Complaint, read_bytes
+from linear_program import MOST_COLUMNS, MOST_DOCUMENT, MOST_VALUES, NUMBER, Complaint, printable, read_bytes
 
 RATIO = re.compile(r"-?\d+(?:/\d+)?")
 CERTIFICATE = "os_cert."
@@ -86,7 +86,7 @@ class Column:
     """A variable, or the activity of a row: its name, its ends (none where there is none), and whether it is whole."""
 
     def __init__(self, name, low, high, whole=False):
-        self.name, self.low, self.high, self.whole = name, low, high, whole
+        self.name, self.low, self.high, self.whole = printable(name), low, high, whole
 
 
 class Instance:
@@ -130,7 +130,7 @@ def read_goal(instance, parts):
     element = parts.find("obj") if parts else None
     if element is None:
         return
-    instance.goal, instance.maximise = element.attributes.get("name", ""), element.attributes.get("maxOrMin", "min") == "max"
+    instance.goal, instance.maximise = printable(element.attributes.get("name", "")), element.attributes.get("maxOrMin", "min") == "max"
     instance.constant = decimal(element.attributes.get("constant", "0"), "the constant of the goal")
     for coef in element.all("coef"):
         column = count(coef.attributes.get("idx", ""), "an idx")
@@ -187,7 +187,7 @@ def instance_of(path):
         raise Complaint("it isn't OSiL: it has no instanceData with variables")
     for name in ("name", "description"):
         element = header.find(name) if header else None
-        setattr(instance, name, " ".join(element.text.split()) if element else "")
+        setattr(instance, name, printable(" ".join(element.text.split())) if element else "")
     read_variables(instance, data.find("variables"))
     read_goal(instance, data.find("objectives"))
     read_rows(instance, data.find("constraints"))
@@ -239,7 +239,7 @@ class Result:
 
 def path_text(root, *names):
     element = root.find(*names)
-    return element.text.strip() if element else ""
+    return printable(element.text.strip()) if element else ""
 
 
 def find_whole_tree(nodes):
@@ -255,7 +255,7 @@ def find_whole_tree(nodes):
 
 def read_claim(result, solution, instance):
     status = solution.find("status")
-    result.claim = status.attributes.get("type", "") if status else ""
+    result.claim = printable(status.attributes.get("type", "")) if status else ""
     others = solution.find("otherSolutionResults")
     for part in others.all("otherSolutionResult") if others else []:
         name = part.attributes.get("name", "")
@@ -268,7 +268,7 @@ def read_claim(result, solution, instance):
                 raise Complaint(f"it isn't a result of this instance: its {name} has {len(numbers)} numbers, and there are {len(instance.variables)} variables")
             setattr(result, name, numbers)
     result.value = ratio(result.parts["value"][0]) if result.parts.get("value") else None
-    result.cause = result.parts["cause"][0] if result.parts.get("cause") else None
+    result.cause = printable(result.parts["cause"][0]) if result.parts.get("cause") else None
     result.nodes = [node_of(text, number, instance) for number, text in enumerate(result.parts.get("tree", []), 1)]
     find_whole_tree(result.nodes)
 

@@ -235,8 +235,13 @@ def write_whole(text, path):
         raise
 
 
+def printable(text):
+    """A text whose characters move no cursor: what comes from files and servers is shown at terminals."""
+    return "".join(letter if letter.isprintable() else "?" for letter in text)
+
+
 def say(tool, text):
-    print(f"{tool}: {text}", file=sys.stderr)
+    print(printable(f"{tool}: {text}"), file=sys.stderr)
 
 
 def ended(tool, file, work):

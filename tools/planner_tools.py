@@ -353,6 +353,9 @@ def try_views(folder):
     bad = written(folder, "bad.osil", "<osil><instanceData><variables><var ub='x'/></variables></instanceData></osil>")
     osrl = written(folder, "osrl", ran([PROGRAM, "solve", bad]).stdout)
     check("The server refused it: osil Number at 4." in tool("show_result", osil, osrl).stdout, "an error's document")
+    name = written(folder, "name.osil", "<osil><instanceData><variables><var name='a&#x9b;31m&#10;b'/></variables></instanceData></osil>")
+    osrl = written(folder, "osrl", ran([PROGRAM, "solve", name]).stdout)
+    check("\n  a?31m?b " in tool("show_result", name, osrl).stdout, "a name that would move the cursor")
     job = "<osrl><general><generalStatus type='normal'/></general><job><status>running</status></job></osrl>"
     check("The job is running; there is no claim" in tool("show_result", osil, written(folder, "osrl", job)).stdout, "a document without a claim")
 
