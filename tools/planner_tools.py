@@ -441,7 +441,7 @@ class Terminal:
 
 
 def try_watch(folder):
-    """The view of a server whose jobs run for some seconds, once, on a terminal, and as lines; through its end and another one's begin."""
+    """The view of a server whose jobs run for some seconds, once, on a terminal, and as lines, through its end; and what else a client is told meanwhile."""
     with serving.Server(1, 4) as server:
         port = str(server.port)
         view = tool("watch_jobs", "127.0.0.1", port, "--once")
@@ -451,6 +451,9 @@ def try_watch(folder):
         view, states = tool("watch_jobs", "127.0.0.1", port, "--once").stdout, knocked(server.port)
         check(states == {"os-1": "running", "os-2": "waiting", "os-3": "issued"}, "knock", str(states))
         check(watched(view) == states and "busy; 2 wait or run; 3 numbers given" in view, "watch_jobs --once", view)
+        told = call("retrieve", server.port, "--osol", files[0])
+        check("<status>running</status>" in told and "<optimization>" not in told, "retrieve of a job that runs", told)
+        check(call("send", server.port, "--osil", f"{folder}/long.osil", "--osol", files[0]) == "false", "send to a job that runs")
         lines = subprocess.Popen([sys.executable, f"{TOOLS}/watch_jobs", "127.0.0.1", port], stdout=subprocess.PIPE, text=True)
         terminal = Terminal(port)
         for wanted in (r"os-1 +running +[01] s", r"os-1 +running +[2-9] s +[2-9] s\nos-2 +waiting .*\nos-3 +issued"):
@@ -461,6 +464,8 @@ def try_watch(folder):
         wanted = r"idle; 0 wait or run; 3 .*\n.*\nos-3 +killed .*\nos-2 +killed .*\nos-1 +finished +\d+ s +[0-9] s"
         check(terminal.shows(wanted), "watch_jobs behind kills", terminal.text[-300:])
         check(knocked(server.port) == {"os-1": "finished", "os-2": "killed", "os-3": "killed"}, "knock behind kills")
+        told = call("retrieve", server.port, "--osol", files[0])
+        check('"os_cert.cause"><item>killed</item>' in told, "retrieve behind a kill", told)
     check(terminal.shows(r"no server \(connection refused\); asking again every second"), "watch_jobs of a server that is gone", terminal.text[-300:])
     time.sleep(1.5)
     terminal.process.send_signal(signal.SIGINT)
