@@ -1,9 +1,10 @@
-"""Clients that keep `serve` waiting, more clients than it has seats for, and clients that only come and go: how long each kind holds a
-seat, and what the others get meanwhile. The rules are those of `docs/rules/serving.md`."""
+"""Clients that keep `serve` waiting, more clients than it has seats or files for, and clients that only come and go: how long each kind
+holds a seat, and what the others get meanwhile. The rules are those of `docs/rules/serving.md`."""
 
 import contextlib
 import random
 import re
+import resource
 import socket
 import subprocess
 import tempfile
@@ -173,6 +174,20 @@ def more_clients_than_seats(clients=200, asks=4):
     return sorted(numbers) == list(range(1, clients * asks + 1)) and again > 0
 
 
+def goes_on_with_few_descriptors():
+    """A server that may open 40 files, with thirty silent clients: whether those who ask get their answers, since silent links end for them."""
+    with Server(workers=1, servers=SEATS) as server:
+        resource.prlimit(server.process.pid, resource.RLIMIT_NOFILE, (40, 40))
+        idle = [connect(server.port) for _ in range(30)]
+        waited = max(asks_once(server.port) for _ in range(2))
+        kept = [Kept(server.port) for _ in range(60)]
+        numbers = together([client.number for client in kept])
+        for link in idle:
+            link.close()
+    print(f"of 40 files and beside 30 silent clients: an answer after {waited:.1f} s, and 60 more clients get {len(set(numbers))} numbers")
+    return waited < 1 + GIVEN_UP + SLACK and sorted(numbers) == list(range(3, 63))
+
+
 def wrk(port, seconds):
     """Answers a second of the others, who knock."""
     with tempfile.NamedTemporaryFile("w", suffix=".lua") as lua:
@@ -211,4 +226,4 @@ def others_keep_their_rates(seconds=12):
 
 def main():
     """Whether all of it holds."""
-    return all([seats_come_back(), more_clients_than_seats(), others_keep_their_rates()])
+    return all([seats_come_back(), more_clients_than_seats(), goes_on_with_few_descriptors(), others_keep_their_rates()])
