@@ -61,12 +61,7 @@ impl<R: Clock + Wait> Pace<R> {
     }
 
     /// Reads some bytes, where any come in so many seconds.
-    fn read(
-        &mut self,
-        socket: &TcpStream,
-        buf: &mut [u8],
-        seconds: u16,
-    ) -> io::Result<usize>
+    fn read(&mut self, socket: &TcpStream, buf: &mut [u8], seconds: u16) -> io::Result<usize>
         ensures { ReadsAtMost result buf.new }
     {
         for _ in 0..seconds {
@@ -121,7 +116,6 @@ pub(crate) struct Inlet<R> {
 }
 
 impl<R: Clock + Wait> Inlet<R> {
-
     /// Says that bytes were written: the link is idle until more come.
     pub(crate) fn begin_anew(&mut self) {
         if let Some(pace) = &mut self.pace {
@@ -137,12 +131,7 @@ impl<R: Clock + Wait> Inlet<R> {
     }
 
     /// Reads some bytes of this socket. A link that came waits for so many seconds.
-    fn read_from(
-        &mut self,
-        socket: &TcpStream,
-        buf: &mut [u8],
-        seconds: u16,
-    ) -> io::Result<usize>
+    fn read_from(&mut self, socket: &TcpStream, buf: &mut [u8], seconds: u16) -> io::Result<usize>
         ensures { ReadsAtMost result buf.new }
     {
         match &mut self.pace {
