@@ -6,10 +6,10 @@ use Rattle.job_table.specs.declared.calls.Call.{Call}
 use Rattle.job_table.specs.declared.calls.Call.TheVariants as calls
 use Rattle.job_table.specs.declared.calls.Reply as tables
 use Rattle.job_table.specs.declared.calls.Reply.TheVariants as reply
-use Rattle.job_table.specs.Jobs.{Register, empty}
-use Rattle.job_table.specs.History.{Entry, entry_of_move, LeadsStepwise, IsGiving}
+use Rattle.job_table.specs.Jobs.{Register}
+use Rattle.job_table.specs.History.{Entry, entry_of_move, LeadsTo, IsGiving}
 use Rattle.job_runs.specs.Laws.{kept_if_finish, IsFinishKept, AreKept, RunsAreKept}
-use Rattle.job_runs.proofs.Histories.{runs_split}
+use Rattle.job_table.proofs.Histories.{leads_split}
 use Rattle.os_server.specs.declared.serve.Served.{Served}
 use Rattle.os_server.specs.Talk.{Part, Talk}
 use Rattle.os_server.proofs.Pieces.{Made, Wakes, is_plain, Builds, talk_so}
@@ -32,12 +32,12 @@ given_kept call j giving = absurd giving
 module _ (made : Made) (right : Right) (law : RunsAreKept made right) where
   -- these moves are kept wherever they stand in a history
   abbrev Keeps : List Entry → Type 0
-  Keeps own = (before : List Entry) (now : Register) → LeadsStepwise right empty (before ++ own) now → AreKept own
+  Keeps own = (before : List Entry) (now : Register) → LeadsTo right (before ++ own) now → AreKept own
 
   both_kept : (a b : List Entry) → Keeps a → Keeps b → Keeps (a ++ b)
   both_kept a b p q before now runs =
-      let whole : LeadsStepwise right empty ((before ++ a) ++ b) now = subst (λ (es : List Entry). LeadsStepwise right empty es now) (sym (append_assoc before a b)) runs in
-      let found = runs_split right empty now (before ++ a) b whole in All-append IsFinishKept a b (p before found.0 found.1) (q (before ++ a) now whole)
+      let whole : LeadsTo right ((before ++ a) ++ b) now = subst (λ (es : List Entry). LeadsTo right es now) (sym (append_assoc before a b)) runs in
+      let found = leads_split right (before ++ a) b now whole in All-append IsFinishKept a b (p before found.0 found.1) (q (before ++ a) now whole)
 
   keeps : Builds made Keeps
   keeps = record {
