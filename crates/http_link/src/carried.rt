@@ -3,7 +3,8 @@ ghost use Rattle.std.specs.Prelude.{◌≡◌, ℕ, ◌≤◌, ◌<◌, ◌++◌
 ghost use Rattle.os_io.specs.Streams.{Tells, BothTold, Takes, Counts, SameOutput};
 ghost use Rattle.http_link.specs.Carry.{with_carry, tells_ahead};
 
-use os_io::{Failed, Link, Sink, Source, Stream};
+use crate::feed::Feed;
+use os_io::{Failed, Sink, Source, Stream};
 use std::marker::Model;
 
 /// The most bytes that one read ahead asks for.
@@ -84,8 +85,8 @@ impl Carry {
 }
 
 /// A link, or a source, from which bytes are read ahead in large pieces, so that a read of few bytes seldom costs a read of
-/// it. It is a link itself, which gives the bytes read ahead before those that the link has still to give, and it owns the
-/// link until [`into_link`](Carried::into_link).
+/// it. It gives the bytes read ahead before those that the link has still to give, and owns the link until
+/// [`into_link`](Carried::into_link). A read of it fails only where all that was read ahead has been taken.
 pub struct Carried<L> {
     link: L,
     carry: Carry,
@@ -123,6 +124,7 @@ impl<L: Source> Carried<L> {
         ensures same { OnOk result (BothTold (with_carry self.old.carry (L.tells self.old.link).left) (with_carry self.new.carry (L.tells self.new.link).left) (λ before after. before ≡ after)) }
         ensures end { OnOk result (self.new.carry ≡ [] → BothTold (with_carry self.old.carry (L.tells self.old.link).left) (with_carry self.new.carry (L.tells self.new.link).left) (λ before after. before ≡ [])) }
         ensures err { OnErr result (with_carry self.new.carry (L.tells self.new.link).left ≡ with_carry self.old.carry (L.tells self.old.link).left) }
+        ensures none { OnErr result (self.new.carry ≡ []) }
         ensures counted { Counts result (L.tells self.old.link).read_faults (L.tells self.new.link).read_faults }
         ensures output { SameOutput (L.tells self.old.link) (L.tells self.new.link) }
     {
@@ -133,8 +135,10 @@ impl<L: Source> Carried<L> {
     }
 }
 
-impl<L: Source> Source for Carried<L> {
-    fn read(&mut self, buf: &mut [u8]) -> Result<usize, Failed> {
+impl<L: Source> Feed for Carried<L> {
+    ghost ahead = { λ c. c.carry };
+
+    fn draw(&mut self, buf: &mut [u8]) -> Result<usize, Failed> {
         match self.refill() {
             Ok(()) => Ok(self.carry.take(buf)),
             Err(failed) => Err(failed),
@@ -153,5 +157,3 @@ impl<L: Sink> Sink for Carried<L> {
 
     ghost handed_on_is_written = { λ c. L.handed_on_is_written c.link };
 }
-
-impl<L: Link> Link for Carried<L> {}

@@ -1,6 +1,7 @@
 //! Messages of HTTP/1.1 on a link, of a server and of a client: read from a source, written to a sink (RFC 9112).
 //!
-//! [`Carried`] reads ahead of a link and is a link itself, so that reading byte by byte costs little.
+//! What is read is read from a [`Feed`], as each source is one. [`Carried`] is one that reads ahead of a link, so that reading byte by
+//! byte costs little.
 //!
 //! [`read_request`] takes one request and not a byte more. It says what its bytes were: a head that is accepted with a
 //! body of its length, a head that is refused with the first refusal in the order of the checks, or a cut. A head has
@@ -20,6 +21,7 @@
 
 mod carried;
 mod checks;
+mod feed;
 mod laws;
 mod outgoing;
 mod refusal;
@@ -30,6 +32,7 @@ mod scan;
 
 pub use carried::{Carried, Carry};
 pub use checks::Accepted;
+pub use feed::Feed;
 pub use laws::{
     answers_are_read_back, begun_request_is_not_whole, bytes_are_one_reply,
     cut_input_holds_no_request, ended_input_holds_no_request, one_head_comes_first,

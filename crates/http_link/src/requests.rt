@@ -4,12 +4,13 @@ ghost use Rattle.http_link.specs.declared.requests.LinkFault.TheVariants.{ReadFa
 ghost use Rattle.os_io.specs.Streams.{BothTold, Counts, SameOutput};
 ghost use Rattle.http_link.specs.Checks.{most_head, Head};
 ghost use Rattle.http_link.specs.Lines.{IsWholeHead};
-ghost use Rattle.http_link.specs.Requests.{AnswersTaken, AnswersHead, AnswersBody, AddsPiece, LosesPiece, CountsFault, TakesByte};
+ghost use Rattle.http_link.specs.Requests.{AnswersTaken, AnswersHead, AnswersBody, AddsPiece, LosesPiece, CountsFault, LeavesNone, TakesByte};
 
 use crate::Refusal;
 use crate::checks::{Accepted, MOST_FIELDS, head_outcome};
+use crate::feed::Feed;
 use crate::scan::OpenHead;
-use os_io::{Failed, Source, Text};
+use os_io::{Failed, Text};
 use std::alloc::Global;
 
 /// A request whose head was accepted.
@@ -83,14 +84,15 @@ pub(crate) enum BodyRead {
 const PIECE: usize = 4096;
 
 /// Reads the next byte, or finds the input at its end.
-fn read_byte<S: Source>(source: &mut S) -> Result<Option<u8>, Failed>
+fn read_byte<S: Feed>(source: &mut S) -> Result<Option<u8>, Failed>
     ensures byte { IfOk result (λ got. BothTold (S.tells source.old).left (S.tells source.new).left (TakesByte got)) }
     ensures err { OnErr result ((S.tells source.new).left ≡ (S.tells source.old).left) }
+    ensures ahead { OnErr result (S.ahead source.new ≡ []) }
     ensures counted { Counts result (S.tells source.old).read_faults (S.tells source.new).read_faults }
     ensures output { SameOutput (S.tells source.old) (S.tells source.new) }
 {
     let mut byte = [0];
-    match source.read(&mut byte) {
+    match source.draw(&mut byte) {
         Ok(count) => {
             if count == 0 {
                 return Ok(None);
@@ -102,8 +104,9 @@ fn read_byte<S: Source>(source: &mut S) -> Result<Option<u8>, Failed>
 }
 
 /// Reads a head, and nothing past it.
-pub(crate) fn read_head<S: Source>(alloc: Global, source: &mut S) -> Result<HeadRead, LinkFault>
+pub(crate) fn read_head<S: Feed>(alloc: Global, source: &mut S) -> Result<HeadRead, LinkFault>
     ensures answer { AnswersHead result (S.tells source.old).left (S.tells source.new).left }
+    ensures ahead { LeavesNone result (S.ahead source.new) }
     ensures counted { CountsFault result (S.tells source.old).read_faults (S.tells source.new).read_faults }
     ensures output { SameOutput (S.tells source.old) (S.tells source.new) }
 {
@@ -128,17 +131,18 @@ pub(crate) fn read_head<S: Source>(alloc: Global, source: &mut S) -> Result<Head
 }
 
 /// Reads some bytes to the end of a body, and no more than `most`. 0 is the end of the input.
-fn read_piece<S: Source>(source: &mut S, body: &mut Text, most: usize) -> Result<usize, LinkFault>
+fn read_piece<S: Feed>(source: &mut S, body: &mut Text, most: usize) -> Result<usize, LinkFault>
     requires { 0 < most }
     ensures piece { IfOk result (λ count. AddsPiece (S.tells source.old).left (S.tells source.new).left body.old body.new most count) }
     ensures fault { OnErr result (LosesPiece (S.tells source.old).left (S.tells source.new).left most) }
     ensures unread { IfErr result (λ fault. fault ≡ ReadFault → (body.new ≡ body.old) × ((S.tells source.new).left ≡ (S.tells source.old).left)) }
+    ensures ahead { LeavesNone result (S.ahead source.new) }
     ensures counted { CountsFault result (S.tells source.old).read_faults (S.tells source.new).read_faults }
     ensures output { SameOutput (S.tells source.old) (S.tells source.new) }
 {
     let mut buffer = [0; PIECE];
     let room = most.min(PIECE);
-    let Ok(count) = source.read(&mut buffer[..room]) else {
+    let Ok(count) = source.draw(&mut buffer[..room]) else {
         return Err(LinkFault::ReadFault);
     };
     match body.extend(&buffer[..count]) {
@@ -148,12 +152,13 @@ fn read_piece<S: Source>(source: &mut S, body: &mut Text, most: usize) -> Result
 }
 
 /// Reads a body of this length, and nothing past it.
-pub(crate) fn read_body<S: Source>(
+pub(crate) fn read_body<S: Feed>(
     alloc: Global,
     source: &mut S,
     len: usize,
 ) -> Result<BodyRead, LinkFault>
     ensures answer { AnswersBody len result (S.tells source.old).left (S.tells source.new).left }
+    ensures ahead { LeavesNone result (S.ahead source.new) }
     ensures counted { CountsFault result (S.tells source.old).read_faults (S.tells source.new).read_faults }
     ensures output { SameOutput (S.tells source.old) (S.tells source.new) }
 {
@@ -175,9 +180,11 @@ pub(crate) fn read_body<S: Source>(
 /// Reads a request, and nothing past it. Of a refused head, its body is still to come.
 ///
 /// The head is taken byte by byte, so a source with costly reads wants a buffer of its own. Where a read fails or there is
-/// no memory, what was taken is lost: a first part of one request, or all of it where there was no memory.
-pub fn read_request<S: Source>(alloc: Global, source: &mut S) -> Result<Incoming, LinkFault>
+/// no memory, what was taken is lost: a first part of one request, or all of it where there was no memory. Where a read fails,
+/// nothing is left of what was read ahead.
+pub fn read_request<S: Feed>(alloc: Global, source: &mut S) -> Result<Incoming, LinkFault>
     ensures answer { AnswersTaken result (S.tells source.old).left (S.tells source.new).left }
+    ensures ahead { LeavesNone result (S.ahead source.new) }
     ensures counted { CountsFault result (S.tells source.old).read_faults (S.tells source.new).read_faults }
     ensures output { SameOutput (S.tells source.old) (S.tells source.new) }
 {

@@ -187,6 +187,17 @@ silent_accounts made wakes did ReadFault old new came = (came.counted, came.outp
 silent_accounts made wakes did WriteFault old new came = absurd came.counted
 silent_accounts made wakes did Memory old new came = absurd came.counted
 
+goes_on : (end : Served) → None ≡ Some end → ⊥
+goes_on end e = cc
+
+-- what follows a reply is no read fault
+pub follows_no_fault : (made : Made) (wakes : Wakes) (reply : Reply) (after : List Entry) (end : Option Served) → FollowsReply made wakes reply after end
+    → end ≡ Some ReadFault → ⊥
+follows_no_fault made wakes (Answer said true as_worker) after end (works, is) e = let same : Some Ended ≡ Some ReadFault = sym is ∙ e in cc
+follows_no_fault made wakes (Answer said false as_worker) after end (works, is) e = goes_on ReadFault (sym is ∙ e)
+follows_no_fault made wakes (Refused refusal) after end (none, is) e = let same : Some Ended ≡ Some ReadFault = sym is ∙ e in cc
+follows_no_fault made wakes NoMemory after end (none, is) e = let same : Some Memory ≡ Some ReadFault = sym is ∙ e in cc
+
 -- no request came, and nothing was written
 pub silent : (made : Made) (wakes : Wakes) (did : List Entry → Type 0) (end : Served) (old new : Tells) → ComesOnLink made wakes did (Err end) old new
     → ServesOne made wakes did (Some end) old new
@@ -308,6 +319,7 @@ last_whole made wakes did did' both end count a b c joins most s r = (
   record {
     part = then (all_of s.done) r.part;
     past = [];
+    none_past = λ _. refl;
     talk = record {
       done = s.done;
       last = r.part;
@@ -332,6 +344,7 @@ done_whole made wakes did count a b full s = (
   record {
     part = all_of s.done;
     past = [];
+    none_past = λ _. refl;
     talk = record {
       done = s.done;
       last = part [] [] [];
@@ -362,6 +375,7 @@ abbrev pub serves_so : (made : Made) (wakes : Wakes) (did said : List Entry → 
 serves_so made wakes did said end old new s is = record {
   part = s.part;
   past = s.past;
+  none_past = s.none_past;
   talk = s.talk;
   calls = is;
   read = s.read;
@@ -395,10 +409,11 @@ accounts_of WriteFault first carry a b p = p
 accounts_of Memory first carry a b p = p
 
 serves_from : (made : Made) (wakes : Wakes) (did : List Entry → Type 0) (end : Served) (a b : Tells) (carry : List ℕ)
-    → Serves made wakes did end (tells_ahead [] a) (tells_ahead carry b) → Serves made wakes did end a b
-serves_from made wakes did end a b carry s = record {
+    → (end ≡ ReadFault → carry ≡ []) → Serves made wakes did end (tells_ahead [] a) (tells_ahead carry b) → Serves made wakes did end a b
+serves_from made wakes did end a b carry none s = record {
   part = s.part;
   past = s.past ++ carry;
+  none_past = λ e i. s.none_past e i ++ none e i;
   talk = record {
     done = s.talk.done;
     last = s.talk.last;
@@ -422,8 +437,8 @@ none_of_owned {L} tells made wakes did link owned carry owned_is none stays =
 
 -- a link that was owned meanwhile is given back: what is carried at the end was read past it
 pub serves_owned : {L : Type 0} (tells : L → Tells) (made : Made) (wakes : Wakes) (did : List Entry → Type 0) (end : Served) (link kept given : L)
-    (carry : List ℕ) → given ≡ kept → Serves made wakes did end (tells_ahead [] (tells link)) (tells_ahead carry (tells kept))
-    → Serves made wakes did end (tells link) (tells given)
-serves_owned {L} tells made wakes did end link kept given carry given_is s =
+    (carry : List ℕ) → given ≡ kept → (end ≡ ReadFault → carry ≡ [])
+    → Serves made wakes did end (tells_ahead [] (tells link)) (tells_ahead carry (tells kept)) → Serves made wakes did end (tells link) (tells given)
+serves_owned {L} tells made wakes did end link kept given carry given_is none s =
     subst (λ (l : L). Serves made wakes did end (tells link) (tells l)) (sym given_is)
-    (serves_from made wakes did end (tells link) (tells kept) carry s)
+    (serves_from made wakes did end (tells link) (tells kept) carry none s)

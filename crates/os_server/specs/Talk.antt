@@ -203,10 +203,12 @@ Accounts WriteFault old new =
 Accounts Memory old new =
     (new.read_faults ≡ old.read_faults) × (new.write_faults ≡ old.write_faults) × HandsOn old new
 
--- a conversation of a link and of one who makes moves, from before to after. More may have been read than it has
+-- a conversation of a link and of one who makes moves, from before to after. More may have been read than it has, but where a read failed: there
+-- all that was read are requests that were answered and less than a whole one
 pub record Serves (made : List ℕ → List ℕ → List Bool → Option (List ℕ) → Type 0) (wakes : Bool → Type 0) (did : List Entry → Type 0) (end : Served) (old new : Tells) : Type 0 where
   pub part : Part
   pub past : List ℕ
+  pub none_past : end ≡ ReadFault → past ≡ []
   pub talk : Talk made wakes end (AtEnd past old.left new.left) part
   pub calls : did part.entries
   pub read : ReadsBytes (part.taken ++ past) old.left new.left

@@ -4,8 +4,8 @@
 //! no memory to begin. Their contract is one definition, `Talk`: the bytes read are
 //! requests and a last part, the moves of the table of jobs that are made are those that the requests ask, in their order, and the
 //! bytes written are the answers, each a function of its request and of the table's replies. Behind each answer that is 200
-//! or 500 a job that waits is claimed and run. Each way in which a conversation ends comes exactly where the definition says; but
-//! where a read of a link fails, the definition lets requests that were read ahead be left without an answer.
+//! or 500 a job that waits is claimed and run. Each way in which a conversation ends comes exactly where the definition says. Where a
+//! read fails, each whole request that was read was answered, also of a link that is read ahead.
 //! Without a fault, and with memory, the bytes that come decide how they are cut into requests, and with the table's replies they
 //! decide the bytes written; laws say so.
 //! Whoever makes the moves may be a table's owner or one of many who share it, and whatever runs the jobs is a [`Server`].

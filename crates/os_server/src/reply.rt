@@ -1,7 +1,8 @@
 //! What a request is replied.
-ghost use Rattle.std.specs.Prelude.{◌≡◌, List};
+ghost use Rattle.std.specs.Prelude.{◌≡◌, List, [], Err};
 ghost use Rattle.os_io.specs.Streams.{Writes, Sends};
 ghost use Rattle.job_table.specs.History.{Entry};
+ghost use Rattle.os_server.specs.declared.serve.Served.TheVariants.{ReadFault};
 ghost use Rattle.os_server.specs.Answers.{reply_of};
 ghost use Rattle.os_server.specs.Talk.{was_taken, IsRung, text_of_reply, response_text};
 ghost use Rattle.os_server.specs.Serving.{IsReplied, IsOrdered, ComesOnLink};
@@ -14,11 +15,11 @@ use crate::saying::{Said, said_fault, say};
 use crate::serve::Served;
 use crate::server::Server;
 use http_link::{
-    Incoming, LinkFault, Refusal, part_is_of_the_first_request, read_request, write_answer,
+    Feed, Incoming, LinkFault, Refusal, part_is_of_the_first_request, read_request, write_answer,
     write_fault_answer, write_refusal,
 };
 use job_table::{Calls, Verdicts};
-use os_io::{Failed, Sink, Source};
+use os_io::{Failed, Sink};
 use std::alloc::Global;
 
 /// What a request is replied.
@@ -107,14 +108,15 @@ fn reply_to<V: Verdicts, C: Calls<V>, S: Server<V>>(
     }
 }
 
-/// Reads a request and makes its moves.
-pub(crate) fn next_reply<I: Source, V: Verdicts, C: Calls<V>, S: Server<V>>(
+/// Reads a request and makes its moves. Where a read fails, nothing is left of what was read ahead.
+pub(crate) fn next_reply<I: Feed, V: Verdicts, C: Calls<V>, S: Server<V>>(
     alloc: Global,
     input: &mut I,
     calls: &mut C,
     server: &S,
 ) -> Result<Reply, Served>
-    ensures { ComesOnLink S.ran S.wakes (C.did calls.old calls.new) result (I.tells input.old) (I.tells input.new) }
+    ensures comes { ComesOnLink S.ran S.wakes (C.did calls.old calls.new) result (I.tells input.old) (I.tells input.new) }
+    ensures ahead { result ≡ Err ReadFault → I.ahead input.new ≡ [] }
 {
     match read_request(alloc, input) {
         Ok(Incoming::Whole(request)) => {

@@ -1,8 +1,10 @@
 //! The requests of a connection, one after another.
-ghost use Rattle.std.specs.Prelude.{◌≡◌, List, []};
+ghost use Rattle.std.specs.Prelude.{◌≡◌, List, [], Some};
 ghost use Rattle.job_table.specs.History.{Entry};
 ghost use Rattle.os_io.specs.Streams.{SameInput, SameOutput};
+ghost use Rattle.http_link.specs.Carry.{tells_ahead};
 ghost use Rattle.os_server.specs.Talk.{Serves, ServesWhole, both_ends};
+ghost use Rattle.os_server.specs.declared.serve.Served.TheVariants.{ReadFault};
 ghost use Rattle.os_server.specs.Serving.{FollowsReply, ServesOne};
 
 use crate::reply::{Reply, next_reply, send};
@@ -56,14 +58,15 @@ fn follow<V: Verdicts, C: Calls<V>, S: Server<V>>(
     }
 }
 
-/// Serves one request, and says whether the conversation ends with it.
+/// Serves one request, and says whether the conversation ends with it. Where a read fails, nothing is left of what was read ahead.
 fn serve_request<L: Link, V: Verdicts, C: Calls<V>, S: Server<V>>(
     alloc: Global,
-    link: &mut L,
+    link: &mut Carried<L>,
     calls: &mut C,
     server: &S,
 ) -> Option<Served>
-    ensures { ServesOne S.ran S.wakes (C.did calls.old calls.new) result (L.tells link.old) (L.tells link.new) }
+    ensures serves { ServesOne S.ran S.wakes (C.did calls.old calls.new) result (tells_ahead link.old.carry (L.tells link.old.link)) (tells_ahead link.new.carry (L.tells link.new.link)) }
+    ensures ahead { result ≡ Some ReadFault → link.new.carry ≡ [] }
 {
     match next_reply(alloc, link, calls, server) {
         Ok(reply) => match send(link, &reply) {
@@ -134,7 +137,7 @@ pub fn turn_away<I: Source, O: Sink, V: Verdicts, S: Server<V>>(
 
 /// Serves a link, and gives it back: its requests are read and answered one after another, each by the moves that it asks, and
 /// behind each answer that is 200 or 500 a job that waits is run. The link is read ahead in large pieces, and what was read past
-/// the conversation's end is given up.
+/// the conversation's end is given up. Where a read fails, every whole request that had come before it was answered.
 pub fn serve_one<L: Link, V: Verdicts, C: Calls<V>, S: Server<V>>(
     alloc: Global,
     link: L,

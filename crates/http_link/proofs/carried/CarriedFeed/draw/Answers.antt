@@ -1,5 +1,5 @@
 use Rattle.http_link.proofs.CarriedBytes.{carry_taken}
-use Rattle.http_link.proofs.carried.CarriedSource.read.Goals as goal
+use Rattle.http_link.proofs.carried.CarriedFeed.draw.Goals as goal
 
 pub returns-in-Ok-clause-taken : goal.returns-in-Ok-clause-taken
 returns-in-Ok-clause-taken g c =
