@@ -149,4 +149,4 @@ check_runs one status run osil_name osrl_name check ends untaken =
     ChecksOf (Solve osil options safe) = Unit {0}
     ChecksOf (Generate variables) = Unit {0}
     ChecksOf (Call kind host port osil osol ospl) = Unit {0}
-    ChecksOf (Serve host port workers servers connections) = Unit {0}
+    ChecksOf (Serve host port workers servers connections patience first) = Unit {0}

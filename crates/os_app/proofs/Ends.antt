@@ -75,7 +75,7 @@ due_small run (Solve osil options safe) due text is = omega (arith, is.status_is
 due_small run (Generate variables) due text is = omega (arith, is.about.status_is, check_small is.about.is_accepted)
 due_small run Session due text is = absurd is
 due_small run (Call kind host port osil osol ospl) due text is = absurd is
-due_small run (Serve host port workers servers connections) due text is = absurd is
+due_small run (Serve host port workers servers connections patience first) due text is = absurd is
 
 never_two : (status : ℕ) (run : Run) (it : Command) → EndsText status run it → status ≡ 2 → ⊥
 never_two status run it (in_full text due files sent) two = omega (arith, two, due_small run it status text due)

@@ -46,7 +46,7 @@ use Rattle.os_io.specs.Files.{Held, Holds, MayHold}
 use Rattle.command_answers.specs.Outputs.{IsTold}
 use Rattle.command_line.specs.Words.{Command, Session, Solve, Call, Serve, asks, IsSolve, IsNoCommand}
 use Rattle.os_app.specs.Solves.{IsDocumentAbout}
-use Rattle.os_app.specs.Runs.{Run, RunEnds, IsDue, IsUsageDue, IsAnswerDue, IsUnsent, WritesWithinTurns, served, answered, called, hosted, misused, file_fault, unsent, unheard}
+use Rattle.os_app.specs.Runs.{Run, RunEnds, IsDue, IsUsageDue, IsAnswerDue, IsUnsent, WritesWithinTurns, asks_to_serve, served, answered, called, hosted, misused, file_fault, unsent, unheard}
 use Rattle.os_app.proofs.Words.{one_command}
 
 -- ---- options
@@ -207,7 +207,7 @@ module _ (laws : Laws) (status : ℕ) (run : Run) (osil_name : List ℕ) (option
   ends_within (served how is s) = let e = one Session s.session in absurd (cc)
   ends_within (answered a) = due_within a.asked.command status a.text (one a.asked.command a.asked.asked) a.asked.due (inl (refl, a.sent))
   ends_within (called c) = let e = one (Call c.kind c.host c.port c.osil c.osol c.ospl) c.asked in absurd (cc)
-  ends_within (hosted how is h) = let e = one (Serve h.host h.port h.workers h.servers h.connections) h.asked in absurd (cc)
+  ends_within (hosted how is h) = let e = one (asks_to_serve h.host h.port h.setup) h.asked in absurd (cc)
   ends_within (misused is m) = absurd (a_command m.other)
   ends_within (file_fault is f) = inl f.unwritten
   ends_within (unsent is u) = unsent_within u is u.due

@@ -9,7 +9,8 @@ use Rattle.os_app.specs.Statuses.{serve_status}
 use Rattle.serving.specs.Serving as serving
 use Rattle.os_app.specs.Statuses.{session_status}
 use Rattle.command_line.specs.Words.{Command, Session, Check, Solve, Generate, Call, Serve, asks, asks_for_links, names_files, AsksForNoLink, IsCheck, IsNoCommand, NamesNoFile}
-use Rattle.os_app.specs.Runs.{Run, ServesSession, IsUnheard, LeavesInput, RunEnds, served, hosted, unheard, AllFilesRead, Checks, Runs}
+use Rattle.os_app.specs.Runs.{Run, ServesSession, IsUnheard, LeavesInput, RunEnds, served, hosted, unheard, AllFilesRead, Checks, Runs, asks_to_serve}
+use Rattle.serving.specs.declared.setup.Setup.{Setup}
 use Rattle.os_app.specs.Runs as runs
 
 -- what is true isn't false
@@ -35,7 +36,7 @@ IsOther Session = Unit {0}
 IsOther (Solve osil options safe) = Unit {0}
 IsOther (Generate variables) = Unit {0}
 IsOther (Call kind host port osil osol ospl) = Unit {0}
-IsOther (Serve host port workers servers connections) = Unit {0}
+IsOther (Serve host port workers servers connections patience first) = Unit {0}
 
 pub no_check : (status : ℕ) (run : Run) (it : Command) → asks run.words ≡ Some it → IsOther it → (a b : List ℕ) → IsCheck run.words a b → Checks status run a b
 no_check status run it asked other a b check = absurd (subst IsOther (one_command _ it (Check a b) asked check) other)
@@ -81,11 +82,11 @@ serve_never endings.ReportFault two = absurd (omega (arith, two))
 pub session_runs : (run : Run) (how : Served) (status : ℕ) → status ≡ session_status how → ServesSession how run → AllFilesRead run → Runs status run
 session_runs run how status is one files = command_runs status run Session one.session (served how is one) (λ two. session_never how (sym is ∙ two)) (λ none. files) (no_check status run Session one.session tt)
 
-pub serve_runs : (run : Run) (how : Ending) (status : ℕ) (host : List ℕ) (port workers servers connections : ℕ) → status ≡ serve_status how → asks run.words ≡ Some (Serve host port workers servers connections)
-    → serving.IsServerRun how host port workers servers connections run.net run.net_after run.output run.output_after → LeavesInput run → AllFilesRead run → Runs status run
-serve_runs run how status host port workers servers connections is asked serves input files =
-    command_runs status run (Serve host port workers servers connections) asked
-    (hosted how is (record { host = host; port = port; workers = workers; servers = servers; connections = connections; asked = asked; serves = serves; input = input; all_files_read = files }))
+pub serve_runs : (run : Run) (how : Ending) (status : ℕ) (host : List ℕ) (port : ℕ) (setup : Setup) → status ≡ serve_status how → asks run.words ≡ Some (asks_to_serve host port setup)
+    → serving.IsServerRun how host port setup run.net run.net_after run.output run.output_after → LeavesInput run → AllFilesRead run → Runs status run
+serve_runs run how status host port setup is asked serves input files =
+    command_runs status run (asks_to_serve host port setup) asked
+    (hosted how is (record { host = host; port = port; setup = setup; asked = asked; serves = serves; input = input; all_files_read = files }))
     (λ two. serve_never how (sym is ∙ two))
     (λ none. files)
     (no_check status run _ asked tt)

@@ -16,6 +16,7 @@ use Rattle.command_answers.specs.Outputs.{IsSent, BreaksOff, IsTold}
 use Rattle.os_client.specs.Runs.{CallRun, CallEnds}
 use Rattle.serving.specs.declared.ending.Ending.{Ending}
 use Rattle.serving.specs.Serving as serving
+use Rattle.serving.specs.declared.setup.Setup.{Setup}
 use Rattle.os_app.specs.Checks.{IsAnswerLine, IsAnswerAbout}
 use Rattle.os_app.specs.Solves.{IsDocumentAbout}
 use Rattle.os_app.specs.Summaries.{IsSummaryOf}
@@ -58,7 +59,7 @@ IsDue held (Solve osil options safe) status text = IsDocumentAbout (held osil) (
 IsDue held (Generate variables) status text = IsSummaryOf variables status text
 IsDue held Session status text = ⊥
 IsDue held (Call kind host port osil osol ospl) status text = ⊥
-IsDue held (Serve host port workers servers connections) status text = ⊥
+IsDue held (Serve host port workers servers connections patience first) status text = ⊥
 
 -- the text that the words ask for
 pub record AsksForText (run : Run) (status : ℕ) (text : List ℕ) : Type 0 where
@@ -148,15 +149,17 @@ pub record IsCalled (status : ℕ) (run : Run) : Type 0 where
   pub ends : CallEnds status (call_run run kind host port osil osol ospl)
   pub input : LeavesInput run
 
--- links were served, which ended so
+-- to serve at this port of a host, so set up
+abbrev pub asks_to_serve : (host : List ℕ) → (port : ℕ) → Setup → Command
+asks_to_serve host port setup = Serve host port setup.limits.workers setup.limits.servers setup.limits.connections setup.patience setup.first
+
+-- links were served, by a server that was set up as the words say, which ended so
 pub record IsHosted (how : Ending) (run : Run) : Type 0 where
   pub host : List ℕ
   pub port : ℕ
-  pub workers : ℕ
-  pub servers : ℕ
-  pub connections : ℕ
-  pub asked : asks run.words ≡ Some (Serve host port workers servers connections)
-  pub serves : serving.IsServerRun how host port workers servers connections run.net run.net_after run.output run.output_after
+  pub setup : Setup
+  pub asked : asks run.words ≡ Some (asks_to_serve host port setup)
+  pub serves : serving.IsServerRun how host port setup run.net run.net_after run.output run.output_after
   pub input : LeavesInput run
   pub all_files_read : AllFilesRead run
 

@@ -24,7 +24,7 @@ use document_checker::{
 use os_client::make_call;
 use os_io::{Failed, FileFault, Files, Listener, Memory, Sink, Source};
 use os_server::Served;
-use serving::{Ending, Limits, serve};
+use serving::{Ending, Limits, Setup, serve};
 use sessions::serve_session;
 use std::alloc::{AllocError, Global};
 use std::process::ExitCode;
@@ -163,12 +163,16 @@ where
         Ok(Some(Asked::Call(call))) => make_call(alloc, call, files, output, net),
         Ok(Some(Asked::Serve(to))) => {
             numbers_are_within_their_ends();
-            let limits = Limits {
-                workers: to.workers,
-                servers: to.servers,
-                connections: to.connections,
+            let setup = Setup {
+                patience: to.patience,
+                first: to.first,
+                limits: Limits {
+                    workers: to.workers,
+                    servers: to.servers,
+                    connections: to.connections,
+                },
             };
-            let ending = serve(rt, alloc, net, output, to.host, to.port, limits);
+            let ending = serve(rt, alloc, net, output, to.host, to.port, setup);
             serve_status(ending)
         }
         Ok(None) => match write_usage(output) {

@@ -57,7 +57,7 @@ returns-in-Ok-Some-Call-clause-runs g c =
 
 pub returns-in-Ok-Some-Serve-clause-runs : goal.returns-in-Ok-Some-Serve-clause-runs
 returns-in-Ok-Some-Serve-clause-runs g c =
-    serve_runs _ c.serve-ending.result c.serve_status.result _ _ _ _ _ c.serve_status.ensures
+    serve_runs _ c.serve-ending.result c.serve_status.result _ _ _ c.serve_status.ensures
     (asks_it _ _ _ (c.in-Ok-Some-Serve.field-0-is ∙ ap Some c.in-Ok-Some-Serve.field-0-0-is) c.in-Ok-Some-Serve.ensures) c.serve-ending.ensures.served refl refl
 
 pub returns-in-Ok-Some-Check-clause-unread : goal.returns-in-Ok-Some-Check-clause-unread
@@ -81,7 +81,11 @@ generate-requires-clause-least g c = (c.numbers_are_within_their_ends.ensures _ 
 pub generate-requires-clause-most : goal.generate-requires-clause-most
 generate-requires-clause-most g c = (c.numbers_are_within_their_ends.ensures _ _ (asks_it _ _ _ (c.in-Ok-Some-Generate.field-0-is ∙ ap Some c.in-Ok-Some-Generate.field-0-0-is) c.in-Ok-Some-Generate.ensures)).1
 
-pub serve-ending-requires-after_bounds : goal.serve-ending-requires-after_bounds
-serve-ending-requires-after_bounds g c =
-    let within = c.numbers_are_within_their_ends-in-Ok-Some-Serve.ensures _ _ (asks_it _ _ _ (c.in-Ok-Some-Serve.field-0-is ∙ ap Some c.in-Ok-Some-Serve.field-0-0-is) c.in-Ok-Some-Serve.ensures) in
-    omega (arith, within.2.0)
+pub serve-ending-requires-clause-servers : goal.serve-ending-requires-clause-servers
+serve-ending-requires-clause-servers g c = (c.numbers_are_within_their_ends-in-Ok-Some-Serve.ensures _ _ (asks_it _ _ _ (c.in-Ok-Some-Serve.field-0-is ∙ ap Some c.in-Ok-Some-Serve.field-0-0-is) c.in-Ok-Some-Serve.ensures)).2.0
+
+pub serve-ending-requires-clause-first : goal.serve-ending-requires-clause-first
+serve-ending-requires-clause-first g c = (c.numbers_are_within_their_ends-in-Ok-Some-Serve.ensures _ _ (asks_it _ _ _ (c.in-Ok-Some-Serve.field-0-is ∙ ap Some c.in-Ok-Some-Serve.field-0-0-is) c.in-Ok-Some-Serve.ensures)).5.0
+
+pub serve-ending-requires-clause-fits : goal.serve-ending-requires-clause-fits
+serve-ending-requires-clause-fits g c = (c.numbers_are_within_their_ends-in-Ok-Some-Serve.ensures _ _ (asks_it _ _ _ (c.in-Ok-Some-Serve.field-0-is ∙ ap Some c.in-Ok-Some-Serve.field-0-0-is) c.in-Ok-Some-Serve.ensures)).5.1
