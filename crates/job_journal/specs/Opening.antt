@@ -1,0 +1,102 @@
+-- What a file that is opened stands for, and where it is damaged.
+use Rattle.std.specs.Prelude.{◌≡◌, ℕ, ◌<◌, Bool, List, ◌∷◌, ◌++◌, length, Option, Some, None, Result, Ok, Err}
+use Rattle.effects.specs.Records.{Deed, body, records, Fits, AllFit, EndsBehind}
+use Rattle.effects.specs.Fold.{Ledger, nothing, Folds, step}
+use Rattle.disks.specs.Disks.{LeavesOnly}
+use Rattle.job_journal.specs.Journal.{IsAtRest, StandsFor}
+use Rattle.job_journal.specs.declared.scanning.OpenFault.{OpenFault}
+use Rattle.job_journal.specs.declared.scanning.OpenFault.TheVariants.{ReadFault, WriteFault, Damaged, Memory}
+use Rattle.job_journal.specs.declared.journal.Journal.{Journal}
+use Rattle.os_io.specs.Streams.{HasRisen}
+
+-- the calls between the two read and brought to rest, and changed nothing else
+pub record Calm {D : Type 0} (told : D → Bool) (seen : D → List ℕ) (may_leave : D → List ℕ → Type 0) (moment : D → ℕ) (left_since : D → ℕ → List ℕ → Type 0) (old new : D) : Type 0 where
+  pub same_told : told new ≡ told old
+  pub same_seen : seen new ≡ seen old
+  pub crash : (c : List ℕ) → may_leave new c → may_leave old c
+  pub moments : LeavesOnly moment left_since old new (may_leave old)
+
+module _ (accepts : List ℕ → List ℕ → Bool) where
+  -- the bytes are records of effects, each possible and accepted after those before, and a rest that isn't empty
+  pub record Reached (bytes rest : List ℕ) (ledger : Ledger) : Type 0 where
+    pub deeds : List Deed
+    pub fit : AllFit deeds
+    pub folds : Folds accepts nothing deeds ledger
+    pub is : bytes ≡ records deeds ++ rest
+    pub some : 0 < length rest
+
+  -- the records end at a gate at that place, which isn't 1
+  pub record Reads (bytes : List ℕ) (place : ℕ) (ledger : Ledger) : Type 0 where
+    pub deeds : List Deed
+    pub fit : AllFit deeds
+    pub folds : Folds accepts nothing deeds ledger
+    pub ends : EndsBehind deeds bytes
+    pub at : place ≡ length (records deeds)
+
+  -- behind an open gate at that place, and records of effects, no record stands with a gate behind it that is possible and accepted
+  pub record IsDamaged (bytes : List ℕ) (place : ℕ) : Type 0 where
+    pub long : 1 < length bytes
+    pub deeds : List Deed
+    pub fit : AllFit deeds
+    pub ledger : Ledger
+    pub folds : Folds accepts nothing deeds ledger
+    pub behind : List ℕ
+    pub is : bytes ≡ records deeds ++ 1 ∷ behind
+    pub at : place ≡ length (records deeds)
+    pub none : (d : Deed) (gate : ℕ) (after : List ℕ) → Fits d → behind ≡ body d ++ gate ∷ after → step accepts d ledger ≡ None
+
+  -- the bytes begin with the record of an effect that leads from one ledger to the other, and this follows it, which isn't empty
+  pub record Takes (bytes : List ℕ) (old : Ledger) (after : List ℕ) (new : Ledger) : Type 0 where
+    pub deed : Deed
+    pub fits : Fits deed
+    pub is : bytes ≡ body deed ++ after
+    pub steps : step accepts deed old ≡ Some new
+    pub some : 0 < length after
+
+  -- the same, or no record stands there with a gate behind it that is possible and accepted
+  abbrev pub TakesRecord : List ℕ → Ledger → Option (List ℕ) → Ledger → Type 0
+  TakesRecord bytes old (Some after) new = Takes bytes old after new
+  TakesRecord bytes old None new = (d : Deed) (gate : ℕ) (after : List ℕ) → Fits d → bytes ≡ body d ++ gate ∷ after → step accepts d old ≡ None
+
+  -- what a scan answers where it gives no place
+  abbrev pub ScanFits : List ℕ → OpenFault → Type 0
+  ScanFits bytes (Damaged place) = IsDamaged bytes place
+  ScanFits bytes Memory = Unit {0}
+  ScanFits bytes _ = ⊥
+
+  -- where the opening of a file that is told answers Damaged, it is
+  abbrev pub DamagedIn : List ℕ → OpenFault → Type 0
+  DamagedIn bytes (Damaged place) = IsDamaged bytes place
+  DamagedIn bytes _ = Unit {0}
+
+  -- the file stands for effects, each possible and accepted after those before, that made the table, and is at rest
+  pub record IsOpened {D : Type 0} (seen : D → List ℕ) (may_leave : D → List ℕ → Type 0) (file : List ℕ) (disk : D) (end : ℕ) (ledger : Ledger) : Type 0 where
+    pub deeds : List Deed
+    pub fit : AllFit deeds
+    pub folds : Folds accepts nothing deeds ledger
+    pub stands : StandsFor deeds file
+    pub rests : IsAtRest seen may_leave disk end deeds
+
+-- a failed read, write, cut or sync was counted where that is answered, and else the count stays
+abbrev pub CountsFault : {X : Type 0} → Result X OpenFault → ℕ → ℕ → Type 0
+CountsFault (Err ReadFault) before after = HasRisen before after
+CountsFault (Err WriteFault) before after = HasRisen before after
+CountsFault _ before after = after ≡ before
+
+-- the same, of a disk that is given back
+abbrev pub CountsBack : {D : Type 0} → (D → ℕ) → Result (Journal D) (OpenFault × D) → ℕ → Type 0
+CountsBack faults (Ok j) before = faults j.disk ≡ before
+CountsBack faults (Err (ReadFault, disk)) before = HasRisen before (faults disk)
+CountsBack faults (Err (WriteFault, disk)) before = HasRisen before (faults disk)
+CountsBack faults (Err (_, disk)) before = faults disk ≡ before
+
+-- the fault is one of reading
+abbrev pub IsUnread : OpenFault → Type 0
+IsUnread ReadFault = Unit {0}
+IsUnread Memory = Unit {0}
+IsUnread _ = ⊥
+
+-- the fault isn't one of the file
+abbrev pub IsUnfound : OpenFault → Type 0
+IsUnfound (Damaged place) = ⊥
+IsUnfound _ = Unit {0}

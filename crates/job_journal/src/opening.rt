@@ -1,0 +1,117 @@
+//! A file that is opened.
+
+ghost use Rattle.std.specs.Prelude.{◌≡◌, ◌⊎◌, ◌<◌, ◌≤◌, List, ℕ, true, false, length, IfOk, IfErr, OnOk};
+ghost use Rattle.disks.specs.Disks.{LeavesOnly, Only};
+ghost use Rattle.effects.specs.Records.{Deed, AllFit};
+ghost use Rattle.effects.specs.Fold.{Ledger, Folds, nothing};
+ghost use Rattle.job_journal.specs.Journal.{StandsFor, IsAtRest};
+ghost use Rattle.job_journal.specs.Ready.{IsReady};
+ghost use Rattle.job_journal.specs.Opening.{Calm, CountsFault, CountsBack, IsUnfound, IsOpened, DamagedIn, IsDamaged};
+
+use crate::contents::{contents, settle};
+use crate::journal::{Journal, ROOM};
+use crate::repairs::{begin, cut_behind};
+use crate::scanning::{OpenFault, Sieve, scan};
+use disks::Disk;
+use effects::Replay;
+use std::alloc::Global;
+
+/// Brings the file to rest, and reads it.
+fn load<D: Disk>(alloc: Global, disk: &mut D) -> Result<Vec<u8>, OpenFault>
+    ensures bytes { IfOk result (λ bytes. D.told disk.old ≡ true → bytes.items ≡ D.seen disk.old) }
+    ensures durable { OnOk result (D.told disk.old ≡ true → Only (D.seen disk.old) (D.may_leave disk.new)) }
+    ensures calm { Calm D.told D.seen D.may_leave D.moment D.left_since disk.old disk.new }
+    ensures err { IfErr result IsUnfound }
+    ensures cause { CountsFault result (D.faults disk.old) (D.faults disk.new) }
+{
+    match settle(disk) {
+        Ok(()) => contents(alloc, disk),
+        Err(_) => Err(OpenFault::WriteFault),
+    }
+}
+
+/// Reads a file, makes its effects again and repairs its end; gives the place of the gate that ends it.
+fn prepare<D: Disk, R: Replay, S: Sieve>(
+    alloc: Global,
+    disk: &mut D,
+    table: &mut R,
+    sieve: &mut S,
+) -> Result<u64, OpenFault>
+    requires { R.holds table.old ≡ nothing }
+    ensures opened { IfOk result (λ end. D.told disk.old ≡ true → IsOpened S.accepted D.seen D.may_leave (D.seen disk.old) disk.new end (R.holds table.new)) }
+    ensures damaged { IfErr result (λ f. D.told disk.old ≡ true → DamagedIn S.accepted (D.seen disk.old) f) }
+    ensures any_moment { (deeds : List Deed) → D.told disk.old ≡ true → AllFit deeds → StandsFor deeds (D.seen disk.old)
+        → LeavesOnly D.moment D.left_since disk.old disk.new (λ c. D.may_leave disk.old c ⊎ StandsFor deeds c) }
+    ensures told { D.told disk.new ≡ D.told disk.old }
+    ensures cause { CountsFault result (D.faults disk.old) (D.faults disk.new) }
+{
+    match load(alloc, disk) {
+        Ok(bytes) => {
+            if bytes.len() <= 1 {
+                return match begin(disk) {
+                    Ok(()) => Ok(0),
+                    Err(_) => Err(OpenFault::WriteFault),
+                };
+            }
+            match scan(&bytes, table, sieve) {
+                Ok(end) => match cut_behind(disk, end) {
+                    Ok(()) => Ok(end),
+                    Err(_) => Err(OpenFault::WriteFault),
+                },
+                Err(fault) => Err(fault),
+            }
+        }
+        Err(fault) => Err(fault),
+    }
+}
+
+/// Opens a file that a crash may have left: makes its effects again in an empty table, and cuts what follows the first gate that
+/// isn't 1.
+pub fn open<D: Disk, R: Replay, S: Sieve>(
+    alloc: Global,
+    disk: D,
+    table: &mut R,
+    sieve: &mut S,
+) -> Result<Journal<D>, (OpenFault, D)>
+    requires { R.holds table.old ≡ nothing }
+
+    // Effects can be put.
+    ensures ready { IfOk result (IsReady D.told D.seen D.may_leave) }
+    ensures unbroken { IfOk result (λ j. j.broken ≡ false) }
+
+    // The file stood for effects, which made the table, and is at rest with them.
+    ensures opened { IfOk result (λ j. D.told disk ≡ true → IsOpened S.accepted D.seen D.may_leave (D.seen disk) j.disk j.end (R.holds table.new)) }
+
+    // Where it stood for these, the table is theirs, and the file at rest has them.
+    ensures same { IfOk result (λ j. (deeds : List Deed) → D.told disk ≡ true → AllFit deeds → StandsFor deeds (D.seen disk)
+        → Folds S.accepted nothing deeds (R.holds table.new) × IsAtRest D.seen D.may_leave j.disk j.end deeds) }
+
+    // Damaged comes only where the file is, and never where it stands for effects that are possible and accepted.
+    ensures damaged { IfErr result (λ f. D.told disk ≡ true → DamagedIn S.accepted (D.seen disk) f.0) }
+    ensures undamaged { IfErr result (λ f. (deeds : List Deed) (ledger : Ledger) → D.told disk ≡ true → AllFit deeds → Folds S.accepted nothing deeds ledger → StandsFor deeds (D.seen disk) → IsUnfound f.0) }
+
+    ensures sound { IfOk result (λ j. (place : ℕ) → D.told disk ≡ true → IsDamaged S.accepted (D.seen disk) place → ⊥) }
+
+    // A fault of reading or writing is answered exactly where one was counted.
+    ensures cause { CountsBack D.faults result (D.faults disk) }
+
+    // A crash at any moment leaves what it might have left before, or the same effects.
+    ensures any_moment { IfOk result (λ j. (deeds : List Deed) → D.told disk ≡ true → AllFit deeds → StandsFor deeds (D.seen disk)
+        → LeavesOnly D.moment D.left_since disk j.disk (λ c. D.may_leave disk c ⊎ StandsFor deeds c)) }
+    ensures any_moment_err { IfErr result (λ f. (deeds : List Deed) → D.told disk ≡ true → AllFit deeds → StandsFor deeds (D.seen disk)
+        → LeavesOnly D.moment D.left_since disk f.1 (λ c. D.may_leave disk c ⊎ StandsFor deeds c)) }
+{
+    let mut disk = disk;
+    match Vec::with_capacity(alloc, ROOM) {
+        Ok(buffer) => match prepare(alloc, &mut disk, table, sieve) {
+            Ok(end) => Ok(Journal {
+                disk,
+                buffer,
+                end,
+                broken: false,
+            }),
+            Err(fault) => Err((fault, disk)),
+        },
+        Err(_) => Err((OpenFault::Memory, disk)),
+    }
+}
