@@ -1,4 +1,4 @@
--- What is shown in a history from the empty table on is proved.
+-- What is shown in a history from an empty table on is proved.
 use Rattle.std.proofs.Common.{◌≡◌, ℕ, Bool, List, Some, sym, subst}
 use Rattle.evidence.specs.Claim.{IsTrueOf}
 use Rattle.instance.specs.Parts.{Parts}
@@ -11,10 +11,9 @@ use Rattle.osrl_grammar.specs.Writing.{report_text}
 use Rattle.document_checker.specs.declared.documents.Kind.{Kind}
 use Rattle.document_checker.specs.Documents.{kind, IsAcceptedText}
 use Rattle.solve_run.specs.JobAnswers.{AnswersJob, Right}
-use Rattle.job_table.specs.Jobs.{empty}
-use Rattle.job_table.specs.History.{Entry, LeadsStepwise, CameRight}
+use Rattle.job_table.specs.History.{Entry, LeadsTo, CameRight}
 use Rattle.job_table.specs.Laws.{RetrievedDocumentsAreRight}
-use Rattle.job_runs.proofs.Histories.{runs_split}
+use Rattle.job_table.proofs.Histories.{leads_split}
 use Rattle.job_solver.specs.ProvedDocuments.{IsProved, ShownAreProved}
 
 -- what an answer claims is accepted
@@ -53,5 +52,5 @@ proved_of accepted is_true n document before came =
 -- what is shown in a history is proved
 pub shown_proved : RetrievedDocumentsAreRight Right → Accepted → IsTrue → ShownAreProved
 shown_proved right accepted is_true entries now runs n document before after are =
-    let (mid, first, (next, shows, rest)) = runs_split Right empty now before _ (subst (λ (es : List Entry). LeadsStepwise Right empty es now) are runs) in
+    let (mid, first, (next, shows, rest)) = leads_split Right before _ now (subst (λ (es : List Entry). LeadsTo Right es now) are runs) in
     proved_of accepted is_true n document before (right n (Some document) before mid next first shows)

@@ -15,8 +15,8 @@ use Rattle.job_table.specs.declared.calls.Call.TheVariants.{Finish, Retrieve}
 use Rattle.job_table.specs.declared.calls.Finish.TheVariants.{Kept}
 use Rattle.job_table.specs.declared.calls.Retrieved.TheVariants as shown
 use Rattle.job_table.specs.declared.calls.Reply.TheVariants as reply
-use Rattle.job_table.specs.Jobs.{Register, empty, job}
-use Rattle.job_table.specs.History.{Entry, entry_of_move, LeadsStepwise, WasKilled, WasBrought}
+use Rattle.job_table.specs.Jobs.{Register, job}
+use Rattle.job_table.specs.History.{Entry, entry_of_move, LeadsTo, WasKilled, WasBrought}
 
 -- a document that is shown of a job came with a finish of it that was kept. It answers texts that were sent or entered under the job's
 -- number before that finish: it is the result document of a report about them. A claim in it, that a point is optimal, that none is
@@ -44,6 +44,6 @@ AreProved entries =
     → entries ≡ before ++ entry_of_move (Retrieve n) (reply.Retrieved (shown.Finished (Some document))) ∷ after
     → IsProved n document before
 
--- in every history of solved jobs from the empty table on, each document that is shown is such a one
+-- in every history of solved jobs from an empty table on, whatever its numbers begin with, each document that is shown is such a one
 abbrev pub ShownAreProved : Type 0
-ShownAreProved = (entries : List Entry) (now : Register) → LeadsStepwise Right empty entries now → AreProved entries
+ShownAreProved = (entries : List Entry) (now : Register) → LeadsTo Right entries now → AreProved entries

@@ -5,7 +5,7 @@ use crate::solver::SolvedJobs;
 use job_table::documents_are_right;
 use solve_run::claims_are_accepted;
 
-/// Law: each document that is shown in a history of solved jobs, from the empty table on, is proved by what stands before it: a finish
+/// Law: each document that is shown in a history of solved jobs, from an empty table on, is proved by what stands before it: a finish
 /// that was kept brought it, and before that finish stand the send or the enter that brought its texts, and, where it says that the
 /// job was asked to stop, a kill of the job.
 pub fn shown_documents_are_proved()
