@@ -2,8 +2,9 @@
 use Rattle.std.proofs.Common.{◌≡◌, ℕ, ◌-◌, ◌+◌, length, List, [], ◌++◌, refl, sym, ◌∙◌, ap, subst}
 use mathlib.Core.Option.{some-ne-none}
 use Rattle.os_io.specs.Streams.{Tells}
-use Rattle.job_table.specs.Jobs.{Register, empty}
-use Rattle.job_table.specs.History.{Entry, LeadsStepwise}
+use Rattle.job_table.specs.Jobs.{Register, beginning}
+use Rattle.job_table.specs.History.{Entry, LeadsStepwise, LeadsTo}
+use Rattle.job_table.proofs.Histories.{first_led}
 use Rattle.desk.specs.declared.view.Met.{Met}
 use Rattle.desk.specs.declared.view.View.{View}
 use Rattle.desk.specs.History.{calls, calls_by}
@@ -31,30 +32,32 @@ module _ (first v : View) (fresh : first ≡ first_view) (said : List Entry) (as
       (asked.stays.number ∙ ap (λ (w : View). w.number) fresh, ap (λ (g : ℕ). g - (length v.met + 1)) given ∙ ap (λ (ms : List Met). 1 - (length ms + 1)) met)
 
   -- its history is these moves
-  pub closed_runs : (table : Register) → Closes Right v table → LeadsStepwise Right empty said table
-  closed_runs table c =
+  pub closed_runs : (table : Register) → Closes Right v table → table.first ≡ 1 → LeadsStepwise Right (beginning 1) said table
+  closed_runs table c begins =
       let stand : calls_by first.number first.seen ≡ first.mine = subst (λ (f : View). calls_by f.number f.seen ≡ f.mine) (sym fresh) refl in
       let known : HasMet first.seen first.met = subst (λ (f : View). HasMet f.seen f.met) (sym fresh) (λ i m there. absurd (some-ne-none m (sym there))) in
       let log : c.log ≡ _ = whole_history Right first v said asked (ap (λ (f : View). f.number) fresh) stand known table c in
-      subst (λ (es : List Entry). LeadsStepwise Right empty es table) (ap calls log ∙ calls_then first.seen 0 said ∙ ap (λ (f : View). calls f.seen ++ said) fresh) c.leads
+      let are : calls c.log ≡ said = ap calls log ∙ calls_then first.seen 0 said ∙ ap (λ (f : View). calls f.seen ++ said) fresh in
+      subst (λ (z : ℕ × List Entry). LeadsStepwise Right (beginning z.0) z.1 table) (λ i. (begins i, are i)) c.leads
 
 -- a conversation by moves of a new desk, which was closed
 pub served_alone : (did : List Entry → Type 0) (end : Served) (old new : Tells) (table : Register) → (s : ServesWhole Makes WakesNobody did end old new)
-    → LeadsStepwise Right empty s.0.part.entries table → ServesAlone end old new
-served_alone did end old new table (s, whole) runs = (table, (serves_so Makes WakesNobody did (λ made. LeadsStepwise Right empty made table) end old new s runs, whole))
+    → LeadsStepwise Right (beginning 1) s.0.part.entries table → ServesAlone end old new
+served_alone did end old new table (s, whole) runs = (table, (serves_so Makes WakesNobody did (λ made. LeadsStepwise Right (beginning 1) made table) end old new s runs, whole))
 
 -- a conversation without a move
 pub served_without : (end : Served) (old new : Tells) → ServesWhole Makes WakesNobody (λ made. made ≡ []) end old new → ServesAlone end old new
 served_without end old new s =
-    served_alone (λ made. made ≡ []) end old new empty s (subst (λ (es : List Entry). LeadsStepwise Right empty es empty) (sym s.0.calls) refl)
+    served_alone (λ made. made ≡ []) end old new (beginning 1) s (subst (λ (es : List Entry). LeadsStepwise Right (beginning 1) es (beginning 1)) (sym s.0.calls) refl)
 
 -- a conversation whose moves were all that were made is a session
 pub session_of : ConversationsAreKept Makes WakesNobody Right → ShownAreProved → (end : Served) (old new : Tells) → ServesAlone end old new → IsSession end old new
-session_of kept shown end old new (table, (s, whole)) = record {
-  entries = s.part.entries;
-  table = table;
-  runs = s.calls;
-  serves = (serves_so Makes WakesNobody (λ made. LeadsStepwise Right empty made table) (λ made. made ≡ s.part.entries) end old new s refl, whole);
-  kept = kept end s.past old.left new.left s.part [] table s.talk s.calls;
-  proved = shown s.part.entries table s.calls;
-}
+session_of kept shown end old new (table, (s, whole)) =
+    let runs : LeadsTo Right s.part.entries table = subst (λ (k : ℕ). LeadsStepwise Right (beginning k) s.part.entries table) (sym (first_led Right 1 s.part.entries table s.calls)) s.calls in record {
+      entries = s.part.entries;
+      table = table;
+      runs = s.calls;
+      serves = (serves_so Makes WakesNobody (λ made. LeadsStepwise Right (beginning 1) made table) (λ made. made ≡ s.part.entries) end old new s refl, whole);
+      kept = kept end s.past old.left new.left s.part [] table s.talk runs;
+      proved = shown s.part.entries table runs;
+    }

@@ -1,8 +1,8 @@
-//! A session: one connection over a table of jobs of its own, from the empty table on.
+//! A session: one connection over a table of jobs of its own, whose numbers begin with 1.
 //!
 //! [`serve_session`] serves the requests of an input and runs the jobs that are sent or entered, one at a time, behind the
 //! answers. It makes its moves by the one seat of a new desk, which is closed at the end. Its contract is one definition,
-//! `IsSession`: the moves of the table are those of this conversation and no others, step by step from the empty table; each finish is
+//! `IsSession`: the moves of the table are those of this conversation and no others, step by step from that empty table; each finish is
 //! kept; and where a result is shown, the table's history has a finish before that brought it, for the texts that were sent under the
 //! job, and a result that says that a point is optimal, that none is feasible, or that points have no best value, is accepted by the
 //! checker from the document's own bytes, and is true. That last part holds of every history of solved jobs, whoever makes its

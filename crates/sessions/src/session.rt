@@ -3,7 +3,7 @@ ghost use Rattle.std.specs.Prelude.{◌≡◌};
 ghost use Rattle.os_io.specs.Streams.{SameInput, SameOutput};
 ghost use Rattle.os_server.specs.Talk.{both_ends};
 ghost use Rattle.desk.specs.Rule.{first_view};
-ghost use Rattle.desk.specs.SeatMoves.{desk_id, IsSeatOf};
+ghost use Rattle.desk.specs.SeatMoves.{desk_id, first_number, IsSeatOf};
 ghost use Rattle.sessions.specs.Sessions.{ServesAlone, IsSession};
 
 use desk::{Caller, Desk, Seat};
@@ -24,6 +24,7 @@ fn serve_alone<I: Source, O: Sink, R: Wait>(
 ) -> Served
     requires seat { IsSeatOf (desk_id desk) seat }
     requires fresh { seat.me.0 ≡ first_view }
+    requires begins { first_number desk ≡ 1 }
     ensures serves { ServesAlone result (both_ends (I.tells input.old) (O.tells output.old)) (both_ends (I.tells input.new) (O.tells output.new)) }
     ensures output_of_input { SameOutput (I.tells input.old) (I.tells input.new) }
     ensures input_of_output { SameInput (O.tells output.old) (O.tells output.new) }
@@ -43,8 +44,8 @@ fn serve_alone<I: Source, O: Sink, R: Wait>(
     served
 }
 
-/// Serves a session: the requests that come on an input, with the answers on an output, by moves of a desk of its own. Where there
-/// is no memory for one, 503 is answered and nothing read.
+/// Serves a session: the requests that come on an input, with the answers on an output, by moves of a desk of its own, whose
+/// numbers begin with 1. Where there is no memory for one, 503 is answered and nothing read.
 pub fn serve_session<I: Source, O: Sink, R: Wait>(
     rt: &R,
     alloc: Global,
@@ -57,7 +58,7 @@ pub fn serve_session<I: Source, O: Sink, R: Wait>(
 {
     conversations_are_kept::<SolvedJobs, Solver>();
     shown_documents_are_proved();
-    match Desk::<SolvedJobs>::new(alloc) {
+    match Desk::<SolvedJobs>::new(alloc, 1) {
         Ok((desk, seat)) => serve_alone(rt, alloc, desk, seat, input, output),
         Err(_) => turn_away(input, output, &Solver),
     }
