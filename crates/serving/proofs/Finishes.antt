@@ -6,9 +6,10 @@ use Rattle.job_table.specs.declared.calls.Call.{Call}
 use Rattle.job_table.specs.declared.calls.Call.TheVariants.{Enter, Claim, Look, Finish}
 use Rattle.job_table.specs.declared.calls.Reply as replies
 use Rattle.job_table.specs.declared.calls.Reply.TheVariants as reply
-use Rattle.job_table.specs.Jobs.{Register, empty}
+use Rattle.job_table.specs.Jobs.{Register, beginning}
 use Rattle.job_table.specs.Steps.{Step}
-use Rattle.job_table.specs.History.{Entry as Said, entry_of_move, LeadsStepwise, runs_then, NoFinish, is_finish_of, IsGiving, WasTold}
+use Rattle.job_table.specs.History.{Entry as Said, entry_of_move, LeadsStepwise, LeadsTo as Leads, runs_then, NoFinish, is_finish_of, IsGiving, WasTold}
+use Rattle.job_table.proofs.Histories.{leads_on}
 use Rattle.job_table.specs.Laws.{WasGiven, FirstFinishIsKept, NumbersAreGivenOnce}
 use Rattle.job_runs.specs.Laws.{kept_if_finish, IsFinishKept, AreKept}
 use Rattle.desk.specs.declared.view.Entry.{Entry}
@@ -78,7 +79,7 @@ module _ (right : Right) where
     told = λ told. told_more h.job.number holds.entries (entry_of_move call said ∷ []) (holds.told told);
   }
 
-  module _ (before : List Said) (now next : Register) (first : LeadsStepwise right empty before now) where
+  module _ (before : List Said) (now next : Register) (first : Leads right before now) where
     gave_holds : (call : Call) (said : replies.Reply) (h : Option Hand) → IsGiving call → ((n : ℕ) → is_finish_of n call ≡ false) → HoldsAny now h → Step right now call said next
         → HoldsAny next (after_gave said h)
     gave_holds call (reply.Gave (Some j)) h giving other holds step = record {
@@ -157,7 +158,7 @@ module _ (right : Right) where
       holds : (k : ℕ) → HoldsAny now (hands k)
       apart : Apart hands
 
-    module _ (e : Entry) (hands : ℕ → Option Hand) (before : List Said) (now next : Register) (first : LeadsStepwise right empty before now) (all : AllHold now hands)
+    module _ (e : Entry) (hands : ℕ → Option Hand) (before : List Said) (now next : Register) (first : Leads right before now) (all : AllHold now hands)
         (is : Allows (hands e.seat) e.call) (step : Step right now e.call e.reply next) where
       -- of another one's hand
       other_holds : (k : ℕ) → e.seat ≢ k → (h : Option Hand) → hands k ≡ h → HoldsAny now h → HoldsAny next h
@@ -199,7 +200,7 @@ module _ (right : Right) where
     tail_orderly e hands k es false other is = is
 
     module _ (law : FirstFinishIsKept right) where
-      rest_kept : (log : List Entry) (hands : ℕ → Option Hand) (before : List Said) (now table : Register) → LeadsStepwise right empty before now → LeadsStepwise right now (calls log) table
+      rest_kept : (log : List Entry) (hands : ℕ → Option Hand) (before : List Said) (now table : Register) → Leads right before now → LeadsStepwise right now (calls log) table
           → AllHold now hands → ((k : ℕ) → IsOrderly (hands k) (calls (calls_by k log))) → AreKept (calls log)
       unfolding hands_after
       rest_kept [] hands before now table first runs all orderly = All-nil IsFinishKept
@@ -207,11 +208,11 @@ module _ (right : Right) where
           let said : Said = entry_of_move e.call e.reply in
           let is : Allows (hands e.seat) e.call = head_allowed (hands e.seat) e (calls_by e.seat log) (eqb e.seat e.seat) (eq-eqb e.seat e.seat refl) (orderly e.seat) in
           All-cons IsFinishKept said (calls log) (finish_kept before now next first law e.call e.reply (hands e.seat) is (all.holds e.seat) step)
-          (rest_kept log (hands_after e hands) (before ++ said ∷ []) next table (runs_then right empty now next before (said ∷ []) first (next, step, refl)) runs
+          (rest_kept log (hands_after e hands) (before ++ said ∷ []) next table (leads_on right before now said next first step) runs
           (all_hold_after e hands before now next first all is step)
           (λ k. tail_orderly e hands k (calls_by k log) (eqb e.seat k) refl (orderly k)))
 
       -- every finish in a history of orderly callers
       pub kept_beside : (log : List Entry) (table : Register) → LeadsTo right log table → ((k : ℕ) → IsOrderly None (calls (calls_by k log))) → AreKept (calls log)
-      kept_beside log table leads orderly = rest_kept log (λ k. None) [] empty table refl leads
+      kept_beside log table leads orderly = rest_kept log (λ k. None) [] (beginning table.first) table refl leads
           (record { holds = λ k. tt; apart = λ k m h i other at at'. absurd (none_is_not_some h at) }) orderly

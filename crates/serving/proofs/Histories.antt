@@ -1,16 +1,17 @@
 -- What a desk's history is behind the serving of links.
 use mathlib.Core.Option.{some, some-injective, some-ne-none}
 use lib.ListN.{get_elem?}
-use Rattle.std.proofs.Common.{◌≡◌, ◌≢◌, ℕ, zero, suc, ◌+◌, eqb, eq-eqb, eqb-true, Bool, true, false, length, List, [], ◌∷◌, ◌++◌, map, Option, None, Some, Result, refl, sym, ◌∙◌, ap, subst, inl, inr, ⊎_elim, append-nil, arith}
-use Rattle.std.specs.Prelude.{◌⊎◌, All}
-use Rattle.std.proofs.lemmas.List.Elements.{All-nil, All-cons, All-append, All-head, All-tail}
+use Rattle.std.proofs.Common.{◌≡◌, ◌≢◌, ℕ, zero, suc, ◌+◌, ◌<◌, eqb, eq-eqb, eqb-true, Bool, true, false, length, List, [], ◌∷◌, ◌++◌, map, Option, None, Some, Result, refl, sym, ◌∙◌, ap, subst, inl, inr, ⊎_elim, append-nil, arith}
+use Rattle.std.specs.Prelude.{◌⊎◌, All, IsPermutation}
+use Rattle.std.proofs.lemmas.List.Elements.{All-nil, All-cons, All-append, All-head, All-tail, All-weaker}
+use Rattle.std.proofs.lemmas.List.Sorted.{IsPermutation-refl, IsPermutation-sym, IsPermutation-map, IsPermutation-append_left, All-permutation}
 use Rattle.os_io.specs.Streams.{Tells}
 use Rattle.os_io.specs.Links.{NetTells, SameLinks}
 use Rattle.job_table.specs.declared.calls.Call.TheVariants.{Retrieve}
 use Rattle.job_table.specs.declared.calls.Retrieved.TheVariants as shown
 use Rattle.job_table.specs.declared.calls.Reply.TheVariants as reply
-use Rattle.job_table.specs.Jobs.{Register, empty, waiting_jobs}
-use Rattle.job_table.specs.History.{Entry as Said, entry_of_move, LeadsStepwise}
+use Rattle.job_table.specs.Jobs.{Register, beginning, waiting_jobs}
+use Rattle.job_table.specs.History.{Entry as Said, entry_of_move, LeadsTo as Leads}
 use Rattle.job_table.specs.Laws.{FirstFinishIsKept, NumbersAreGivenOnce}
 use Rattle.job_runs.specs.Laws.{IsFinishKept}
 use Rattle.desk.specs.declared.view.Entry.{Entry}
@@ -22,18 +23,19 @@ use Rattle.desk.specs.SeatMoves.{Closes}
 use Rattle.desk.specs.SeatHistory.{Asked}
 use Rattle.desk.proofs.Histories.{starts_grown}
 use Rattle.desk.proofs.WholeHistory.{calls_by_one, calls_then, whole_history}
-use Rattle.job_runs.proofs.Histories.{runs_split}
+use Rattle.job_table.proofs.Histories.{leads_split}
 use Rattle.workers.specs.Shifts.{WorksThrough}
 use Rattle.workers.specs.Bells.{Untold}
 use Rattle.workers.proofs.Shifts.{shift_leaves_none}
 use Rattle.server_threads.specs.declared.means.ServeFault.{ServeFault}
 use Rattle.server_threads.specs.Talks.{LinkTalk, Shift, talk_met, shift_met, Came, GivenBack, AllTalked, IsShift, AllWorked}
 use Rattle.server_threads.specs.Serving as threads
-use Rattle.server_threads.specs.Serving.{AtOnce}
+use Rattle.server_threads.specs.Serving.{Opens, AtOnce}
 use Rattle.solve_run.specs.JobAnswers.{Right}
 use Rattle.job_solver.specs.Runs.{Makes}
 use Rattle.job_solver.specs.ProvedDocuments.{ShownAreProved}
 use Rattle.os_server.proofs.Pieces.{talk_so}
+use Rattle.serving.specs.declared.setup.Setup.{Setup}
 use Rattle.serving.specs.Serving.{Converses, callers, WorksLast, IsHistory, Hosts, numbers_given}
 use Rattle.serving.proofs.Hands.{IsOrderly}
 use Rattle.serving.proofs.Finishes.{kept_beside}
@@ -114,17 +116,17 @@ abbrev stood : View → NetTells → threads.Stand
 stood v net = record { view = v; coming = net.coming; given_back = net.given_back; reached = net.reached }
 
 -- what came behind other moves still does in a longer history
-at_once_grown : (servers : ℕ) (log more : List Entry) (talks : List LinkTalk) → AtOnce servers log talks → AtOnce servers (log ++ more) talks
-at_once_grown servers log more talks at j t there =
-    let (seen, opens) = at j t there in
-    (seen, record { begins = starts_grown log seen more opens.begins; none = opens.none; earlier = opens.earlier })
+at_once_grown : (servers : ℕ) (log more : List Entry) (links : List LinkTalk) → AtOnce servers log links → AtOnce servers (log ++ more) links
+at_once_grown servers log more links =
+    All-weaker (λ t. (seen : List Entry) × Opens servers log links t.seat seen) (λ t. (seen : List Entry) × Opens servers (log ++ more) links t.seat seen)
+    (λ t is. (is.0, record { out = is.1.out; few = is.1.few; begins = starts_grown log is.0 more is.1.begins; none = is.1.none; earlier = is.1.earlier })) links
 
-module _ (first : FirstFinishIsKept Right) (numbers : NumbersAreGivenOnce Right) (shown_proved : ShownAreProved) where
-  history_of : (servers : ℕ) (links : List LinkTalk) (staff : List Shift) (closer : Shift) (log : List Entry) (table : Register) → LeadsTo Right log table
+module _ (kept : FirstFinishIsKept Right) (numbers : NumbersAreGivenOnce Right) (shown_proved : ShownAreProved) where
+  history_of : (first servers : ℕ) (links : List LinkTalk) (staff : List Shift) (closer : Shift) (log : List Entry) (table : Register) → table.first ≡ first → LeadsTo Right log table
       → AllWorked Makes 0 (closer ∷ staff) → AllTalked (Converses Untold) (1 + length staff) links → All (λ m. calls_by m.seat log ≡ m.calls) (callers links (closer ∷ staff))
       → ((n : ℕ) → All (λ m. m.seat ≢ n) (callers links (closer ∷ staff)) → calls_by n log ≡ []) → WorksLast closer log → AtOnce servers log links
-      → waiting_jobs table.jobs ≡ 0 → IsHistory servers links staff closer log
-  history_of servers links staff closer log table leads worked talked made no_others last at_once none_waits =
+      → waiting_jobs table.jobs ≡ 0 → IsHistory first servers links staff closer log
+  history_of first servers links staff closer log table begins leads worked talked made no_others last at_once none_waits =
       let found : (n : ℕ) → Sits (λ m. calls_by m.seat log ≡ m.calls) IsOrderlyMet n (callers links (closer ∷ staff)) → IsOrderly None (calls (calls_by n log)) =
       λ n sat. ⊎_elim (λ m. subst (λ (k : ℕ). IsOrderly None (calls (calls_by k log))) m.3 (subst (λ (es : List Entry). IsOrderly None (calls es)) (sym m.1) m.2))
       (λ none. subst (λ (es : List Entry). IsOrderly None (calls es)) (sym (no_others n none)) tt) sat in
@@ -132,6 +134,7 @@ module _ (first : FirstFinishIsKept Right) (numbers : NumbersAreGivenOnce Right)
       (shifts_orderly 0 (closer ∷ staff) worked) in
       record {
         table = table;
+        begins = begins;
         runs = leads;
         worked = worked;
         talked = talked;
@@ -139,58 +142,65 @@ module _ (first : FirstFinishIsKept Right) (numbers : NumbersAreGivenOnce Right)
         no_others = no_others;
         closes = inr last;
         at_once = at_once;
-        kept = kept_beside Right numbers first log table leads
+        kept = kept_beside Right numbers kept log table leads
             (λ n. found n (sits (λ m. calls_by m.seat log ≡ m.calls) IsOrderlyMet n (callers links (closer ∷ staff)) made orderly));
         proved = shown_proved (calls log) table leads;
         none_waits = none_waits;
       }
 
   -- links that were served by moves of a new desk, whose first seat worked off what waited then and closed it
-  hosts_of : (E : List LinkTalk → List Entry → Type 0) (workers servers : ℕ) (old new : NetTells) (v w last : View) (links : List LinkTalk) (own : List Said)
-      (table : Register) → (s : threads.ServesLinks Makes (Converses Untold) servers workers (stood v old) (stood w new) links) → v ≡ first_view → calls_by w.number w.seen ≡ w.mine
-      → HasMet w.seen w.met → (asked : Asked Right w last own) → WorksThrough Makes own → (c : Closes Right last table) → E links c.log
-      → Hosts E workers servers old new
-  hosts_of E workers servers old new v w last links own table s fresh stand known asked works c ends =
+  hosts_of : (E : List LinkTalk → List Entry → Type 0) (setup : Setup) (old new : NetTells) (v w last : View) (links : List LinkTalk) (own : List Said)
+      (table : Register) → (s : threads.ServesLinks Makes (Converses Untold) setup.limits.servers setup.limits.workers (stood v old) (stood w new) links) → v ≡ first_view → calls_by w.number w.seen ≡ w.mine
+      → HasMet w.seen w.met → (asked : Asked Right w last own) → WorksThrough Makes own → table.first ≡ setup.first → (c : Closes Right last table) → E links c.log
+      → Hosts E setup old new
+  hosts_of E setup old new v w last links own table s fresh stand known asked works begins c ends =
       let closer : Shift = record { seat = 0; said = own } in
       let talks = map talk_met links in
       let shifts = map shift_met s.shifts in
+      let back = callers s.returned s.shifts in
+      let same : IsPermutation back (talks ++ shifts) =
+      IsPermutation-append_left shifts (map talk_met s.returned) talks (IsPermutation-map talk_met s.returned links (IsPermutation-sym links s.returned s.all_back)) in
       let number : w.number ≡ 0 = s.number ∙ ap (λ (x : View). x.number) fresh in
-      let met : last.met ≡ callers links s.shifts = asked.stays.met ∙ s.met ∙ ap (λ (x : View). x.met ++ callers links s.shifts) fresh in
+      let met : last.met ≡ back = asked.stays.met ∙ s.met ∙ ap (λ (x : View). x.met ++ back) fresh in
       let given : v.given ≡ 1 = ap (λ (x : View). x.given) fresh in
       let before : w.mine ≡ [] = s.mine ∙ ap (λ (x : View). x.mine) fresh in
       let mine : calls_by 0 c.log ≡ by 0 own = c.mine ∙ asked.mine ∙ ap (λ (es : List Entry). es ++ by w.number own) before ∙ ap (λ (n : ℕ). by n own) number in
       let whole : c.log ≡ w.seen ++ by 0 own = whole_history Right w last own asked number stand known table c in
       let all : calls c.log ≡ calls w.seen ++ own = ap calls whole ∙ calls_then w.seen 0 own in
-      let (mid, earlier, shift) = runs_split Right empty table (calls w.seen) own (subst (λ (es : List Said). LeadsStepwise Right empty es table) all c.leads) in
+      let (mid, earlier, shift) = leads_split Right (calls w.seen) own table (subst (λ (es : List Said). Leads Right es table) all c.leads) in
       record {
         links = links;
+        returned = s.returned;
         staff = s.shifts;
         closer = closer;
         log = c.log;
+        all_back = s.all_back;
         few = s.staff;
         came = s.came;
         back = s.back;
-        history = history_of servers links s.shifts closer c.log table c.leads
+        history = history_of setup.first setup.limits.servers links s.shifts closer c.log table begins c.leads
             (refl, inr works, subst (λ (n : ℕ). AllWorked Makes n s.shifts) given s.worked)
             (subst (λ (n : ℕ). AllTalked (Converses Untold) (n + length s.shifts) links) given s.all_talked)
             (all_with (λ m. calls_by m.seat c.log ≡ m.calls) (shift_met closer) talks shifts mine
-            (subst (λ (ms : List Met). All (λ m. calls_by m.seat c.log ≡ m.calls) ms) met (all_by_place (λ m. calls_by m.seat c.log ≡ m.calls) last.met c.met)))
+            (All-permutation (λ m. calls_by m.seat c.log ≡ m.calls) back (talks ++ shifts) same
+            (subst (λ (ms : List Met). All (λ m. calls_by m.seat c.log ≡ m.calls) ms) met (all_by_place (λ m. calls_by m.seat c.log ≡ m.calls) last.met c.met))))
             (λ n none. let (other, rest) = all_without (λ m. m.seat ≢ n) (shift_met closer) talks shifts none in
-            c.no_others n (λ same. other (sym same)) (place_of_all (λ m. m.seat ≢ n) last.met (subst (λ (ms : List Met). All (λ m. m.seat ≢ n) ms) (sym met) rest)))
+            c.no_others n (λ is. other (sym is)) (place_of_all (λ m. m.seat ≢ n) last.met (subst (λ (ms : List Met). All (λ m. m.seat ≢ n) ms) (sym met)
+            (All-permutation (λ m. m.seat ≢ n) (talks ++ shifts) back (IsPermutation-sym back (talks ++ shifts) same) rest))))
             (record { others = w.seen; worked = works; none = subst (λ (n : ℕ). calls_by n w.seen ≡ []) number (stand ∙ before); last = whole })
-            (subst (λ (es : List Entry). AtOnce servers es links) (sym whole) (at_once_grown servers w.seen (by 0 own) links s.at_once))
+            (subst (λ (es : List Entry). AtOnce setup.limits.servers es links) (sym whole) (at_once_grown setup.limits.servers w.seen (by 0 own) links s.at_once))
             (shift_leaves_none Makes Right mid table own works shift);
         ends = ends;
       }
 
   -- the same of what serving answered, and of how many numbers the table gave that was closed
-  pub hosted : (workers servers connections given : ℕ) (served : Result ℕ ServeFault) (old new : NetTells) (v w last : View) (own : List Said) (table : Register)
-      → (o : (links : List LinkTalk) × threads.ServesLinks Makes (Converses Untold) servers workers (stood v old) (stood w new) links × threads.EndsServing served connections links old.faults new.faults) → v ≡ first_view → calls_by w.number w.seen ≡ w.mine
-      → HasMet w.seen w.met → Asked Right w last own → WorksThrough Makes own → Closes Right last table → given ≡ table.issued
-      → Hosts (λ links log. (given ≡ numbers_given (calls log)) × threads.EndsServing served connections links old.faults new.faults) workers servers old new
-  hosted workers servers connections given served old new v w last own table o fresh stand known asked works c is =
-      hosts_of (λ links log. (given ≡ numbers_given (calls log)) × threads.EndsServing served connections links old.faults new.faults) workers servers old new v w last o.0 own table o.1
-      fresh stand known asked works c (is ∙ all_counted Right table (calls c.log) c.leads, o.2)
+  pub hosted : (setup : Setup) (given : ℕ) (served : Result ℕ ServeFault) (old new : NetTells) (v w last : View) (own : List Said) (table : Register)
+      → (o : (links : List LinkTalk) × threads.ServesLinks Makes (Converses Untold) setup.limits.servers setup.limits.workers (stood v old) (stood w new) links × threads.EndsServing served setup.limits.connections links old.faults new.faults) → v ≡ first_view → calls_by w.number w.seen ≡ w.mine
+      → HasMet w.seen w.met → Asked Right w last own → WorksThrough Makes own → table.first ≡ setup.first → Closes Right last table → given ≡ table.issued
+      → Hosts (λ links log. (given ≡ numbers_given (calls log)) × threads.EndsServing served setup.limits.connections links old.faults new.faults) setup old new
+  hosted setup given served old new v w last own table o fresh stand known asked works begins c is =
+      hosts_of (λ links log. (given ≡ numbers_given (calls log)) × threads.EndsServing served setup.limits.connections links old.faults new.faults) setup old new v w last o.0 own table o.1
+      fresh stand known asked works begins c (is ∙ all_counted Right table (calls c.log) c.leads, o.2)
 
 -- ---- where no link came
 
@@ -201,17 +211,18 @@ not_nil (x ∷ before) after e is = cc
 no_closer : Shift
 no_closer = record { seat = 0; said = [] }
 
-no_history : (servers : ℕ) → IsHistory servers [] [] no_closer []
+no_history : (first servers : ℕ) → IsHistory first servers [] [] no_closer []
 unfolding no_closer
-no_history servers = record {
-  table = empty;
+no_history first servers = record {
+  table = beginning first;
+  begins = refl;
   runs = refl;
   worked = (refl, inl refl, tt);
   talked = tt;
   made = All-cons (λ m. calls_by m.seat [] ≡ m.calls) (shift_met no_closer) [] refl (All-nil (λ m. calls_by m.seat [] ≡ m.calls));
   no_others = λ n none. refl;
   closes = inl refl;
-  at_once = λ j t there. absurd (some-ne-none t (sym there));
+  at_once = All-nil (λ t. (seen : List Entry) × Opens servers [] [] t.seat seen);
   kept = All-nil IsFinishKept;
   proved = λ n document before after are. absurd (not_nil before after (entry_of_move (Retrieve n) (reply.Retrieved (shown.Finished (Some document)))) are);
   none_waits = refl;
@@ -226,30 +237,34 @@ none_back None = tt
 none_back (Some links) = sym (append-nil links)
 
 -- nothing came and nothing was given back
-pub hosts_none : (E : List LinkTalk → List Entry → Type 0) (workers servers : ℕ) (old new : NetTells) → SameLinks old new → E [] [] → Hosts E workers servers old new
-hosts_none E workers servers old new same ends = record {
+pub hosts_none : (E : List LinkTalk → List Entry → Type 0) (setup : Setup) (old new : NetTells) → SameLinks old new → E [] [] → Hosts E setup old new
+hosts_none E setup old new same ends = record {
   links = [];
+  returned = [];
   staff = [];
   closer = no_closer;
   log = [];
+  all_back = IsPermutation-refl [];
   few = omega arith;
   came = subst (λ (l : Option (List Tells)). Came old.coming l []) (sym same.coming) (none_come old.coming);
   back = subst (λ (l : Option (List Tells)). GivenBack old.given_back l []) (sym same.given_back) (none_back old.given_back);
-  history = no_history servers;
+  history = no_history setup.first setup.limits.servers;
   ends = ends;
 }
 
 -- what else holds of the links and the history may be said otherwise, and the listener may have told the same links before
-pub hosts_so : (E F : List LinkTalk → List Entry → Type 0) (workers servers : ℕ) (first old new : NetTells) → SameLinks first old
-    → ((links : List LinkTalk) (log : List Entry) → E links log → F links log) → Hosts E workers servers old new → Hosts F workers servers first new
-hosts_so E F workers servers first old new same so h = record {
+pub hosts_so : (E F : List LinkTalk → List Entry → Type 0) (setup : Setup) (first old new : NetTells) → SameLinks first old
+    → ((links : List LinkTalk) (log : List Entry) → E links log → F links log) → Hosts E setup old new → Hosts F setup first new
+hosts_so E F setup first old new same so h = record {
   links = h.links;
+  returned = h.returned;
   staff = h.staff;
   closer = h.closer;
   log = h.log;
+  all_back = h.all_back;
   few = h.few;
   came = subst (λ (l : Option (List Tells)). Came l new.coming (map (λ t. t.came) h.links)) same.coming h.came;
-  back = subst (λ (l : Option (List Tells)). GivenBack l new.given_back (map (λ t. t.back) h.links)) same.given_back h.back;
+  back = subst (λ (l : Option (List Tells)). GivenBack l new.given_back (map (λ t. t.back) h.returned)) same.given_back h.back;
   history = h.history;
   ends = so h.links h.log h.ends;
 }

@@ -8,9 +8,9 @@ use Rattle.job_table.specs.declared.calls.Call.{Call}
 use Rattle.job_table.specs.declared.calls.Call.TheVariants as calls
 use Rattle.job_table.specs.declared.calls.Reply.{Reply}
 use Rattle.job_table.specs.declared.calls.Reply.TheVariants as reply
-use Rattle.job_table.specs.Jobs.{Register, empty, phase_of, first_waiting, job}
+use Rattle.job_table.specs.Jobs.{Register, beginning, next_number, phase_of, first_waiting, job}
 use Rattle.job_table.specs.Steps.{Outcome, outcome, most_jobs, last_number, with_new, sends, claims, finishes, kills, row_of_move}
-use Rattle.job_table.specs.History.{Entry, LeadsStepwise}
+use Rattle.job_table.specs.History.{Entry, LeadsStepwise, LeadsTo}
 use Rattle.serving.specs.Serving.{gives_number, numbers_given}
 
 -- the count after an outcome, by whether its reply gives a number
@@ -53,9 +53,9 @@ finishes_none j asked document (Some (Running o p marked)) r =
 finishes_none j asked document phase r = refl
 
 row_counted : (call : Call) (r : Register) → Counted (gives_number call) r (row_of_move call r)
-row_counted calls.Issue r = adds_counted (gives_number calls.Issue) Issued (reply.Issued (r.issued + 1)) r (nat_le most_jobs (length r.jobs)) (nat_le last_number r.issued) refl refl refl
+row_counted calls.Issue r = adds_counted (gives_number calls.Issue) Issued (reply.Issued (next_number r)) r (nat_le most_jobs (length r.jobs)) (nat_lt last_number (next_number r)) refl refl refl
 row_counted (calls.Enter o p) r =
-    adds_counted (gives_number (calls.Enter o p)) (Running o p false) (reply.Gave (Some (job (r.issued + 1) o p))) r (nat_le most_jobs (length r.jobs)) (nat_le last_number r.issued) refl refl refl
+    adds_counted (gives_number (calls.Enter o p)) (Running o p false) (reply.Gave (Some (job (next_number r) o p))) r (nat_le most_jobs (length r.jobs)) (nat_lt last_number (next_number r)) refl refl refl
 row_counted (calls.Send n o p) r = sends_none n o p (phase_of n r.jobs) r
 row_counted (calls.Claim worker) r = claims_none (not worker && nat_lt 0 r.workers) (first_waiting r.jobs) r
 row_counted (calls.Kill n) r = kills_none n (phase_of n r.jobs) r
@@ -74,6 +74,6 @@ runs_counted right r after (e ∷ es) (next, step, runs) =
     runs_counted right next after es runs ∙ first_counted (gives_number e.call e.reply) r.issued next.issued (numbers_given es) one
     ∙ ap (λ (n : ℕ). r.issued + n) (sym (sum_by-cons (λ (x : Entry). cond (gives_number x.call x.reply) 1 0) e es))
 
--- from the empty table on
-pub all_counted : (right : List ℕ → List ℕ → Bool → Option (List ℕ) → Type 0) (after : Register) (es : List Entry) → LeadsStepwise right empty es after → after.issued ≡ numbers_given es
-all_counted right after es runs = runs_counted right empty after es runs ∙ omega arith
+-- from an empty table on
+pub all_counted : (right : List ℕ → List ℕ → Bool → Option (List ℕ) → Type 0) (after : Register) (es : List Entry) → LeadsTo right es after → after.issued ≡ numbers_given es
+all_counted right after es runs = runs_counted right (beginning after.first) after es runs ∙ omega arith
