@@ -112,6 +112,53 @@ impl<'a, R: Clock> Client for Asker<'a, R> {
     }
 }
 
+/// What one of the clients waits for and what others wait for, each by a word that is set.
+#[derive(Drop)]
+pub(crate) struct Turns<'a> {
+    /// It asks only once this is set, and nothing where it isn't set in time.
+    pub(crate) waits_for: &'a AtomicBool,
+    /// It sets this once it was answered.
+    pub(crate) answered: &'a AtomicBool,
+    /// It sets this once its link was given back.
+    pub(crate) returned: &'a AtomicBool,
+}
+
+/// A client that asks for a number when its turn has come.
+#[derive(Drop)]
+pub(crate) struct Turner<'a, R> {
+    clock: &'a R,
+    asked: bool,
+    turns: Turns<'a>,
+}
+
+impl<'a, R> Turner<'a, R> {
+    pub(crate) fn new(clock: &'a R, turns: Turns<'a>) -> Turner<'a, R> {
+        Turner {
+            clock,
+            asked: false,
+            turns,
+        }
+    }
+}
+
+impl<'a, R: Clock> Client for Turner<'a, R> {
+    fn ask(&mut self, alloc: Global, _answer: &[u8]) -> Result<String, Memory> {
+        if self.asked {
+            self.turns.answered.store(true, SeqCst);
+            return Ok(String::new(alloc));
+        }
+        self.asked = true;
+        if !wait_for(self.clock, self.turns.waits_for) {
+            return Ok(String::new(alloc));
+        }
+        request(alloc, "<getJobID/>")
+    }
+
+    fn returned(&self) {
+        self.turns.returned.store(true, SeqCst);
+    }
+}
+
 /// How often a client sends a job and knocks at most.
 const ROUNDS: u32 = 500;
 

@@ -11,6 +11,9 @@ use std::collections::VecDeque;
 pub(crate) trait Client {
     /// The next request, by the answer to the one before. An empty one ends the link.
     fn ask(&mut self, alloc: Global, answer: &[u8]) -> Result<String, Memory>;
+
+    /// Its link was given back.
+    fn returned(&self) {}
 }
 
 /// A link on which a client asks, until it is closed. It tells nothing of its bytes, and doesn't fail: without memory it ends, or an
@@ -19,6 +22,8 @@ pub(crate) trait Client {
 pub(crate) struct ClientLink<C> {
     alloc: Global,
     client: C,
+    /// How many links came before it.
+    place: u64,
     request: String,
     /// How much of the request was read.
     read: usize,
@@ -31,12 +36,13 @@ pub(crate) struct ClientLink<C> {
 }
 
 impl<C> ClientLink<C> {
-    fn new(alloc: Global, client: C) -> ClientLink<C>
+    fn new(alloc: Global, client: C, place: u64) -> ClientLink<C>
         ensures { result.is_over ≡ false }
     {
         ClientLink {
             alloc,
             client,
+            place,
             request: String::new(alloc),
             read: 0,
             gathered: Vec::new(alloc),
@@ -112,6 +118,8 @@ impl<C: Client> Close for ClientLink<C> {
 pub(crate) struct Clients<C> {
     alloc: Global,
     coming: VecDeque<C>,
+    /// How many links came.
+    came: u64,
     back: Vec<ClientLink<C>>,
     faults: u64,
 }
@@ -121,6 +129,7 @@ impl<C: Drop> Clients<C> {
         Clients {
             alloc,
             coming: VecDeque::new(alloc),
+            came: 0,
             back: Vec::new(alloc),
             faults: 0,
         }
@@ -138,7 +147,11 @@ impl<C: Drop> Clients<C> {
         ensures counted { Counts result self.old.faults self.new.faults }
     {
         match self.coming.pop_front() {
-            Some(client) => Ok(ClientLink::new(self.alloc, client)),
+            Some(client) => {
+                let place = self.came;
+                self.came = place.saturating_add(1);
+                Ok(ClientLink::new(self.alloc, client, place))
+            }
             None => {
                 self.faults = self.faults.saturating_add(1);
                 Err(Failed)
@@ -146,12 +159,14 @@ impl<C: Drop> Clients<C> {
         }
     }
 
-    /// The answer to the last request on the link that was given back so many others later than the first, from 0.
-    pub(crate) fn last_answer(&self, link: usize) -> &[u8] {
-        match self.back.as_slice().get(link) {
-            Some(link) => link.answer.as_slice(),
-            None => b"",
+    /// The answer to the last request on the link before which so many others came, where it was given back.
+    pub(crate) fn last_answer(&self, place: u64) -> &[u8] {
+        for link in self.back.as_slice() {
+            if link.place == place {
+                return link.answer.as_slice();
+            }
         }
+        b""
     }
 }
 
@@ -160,7 +175,7 @@ impl<C: Client + Drop> Listener for Clients<C> {
 
     ghost tells = { λ s. record { coming = None; given_back = None; reached = None; faults = s.faults } };
 
-    fn listen(&mut self, _host: &str, _port: u16) -> Result<(), Failed> {
+    fn listen(&mut self, _host: &str, _port: u16, _patience: u16) -> Result<(), Failed> {
         Ok(())
     }
 
@@ -173,6 +188,7 @@ impl<C: Client + Drop> Listener for Clients<C> {
     }
 
     fn done(&mut self, link: ClientLink<C>) {
+        link.client.returned();
         let _ = self.back.push(link);
     }
 }

@@ -1,9 +1,10 @@
 //! A server over TCP on this machine, and two clients, of whom one reads its answer and the end while the other's link is open.
 
 use crate::clients::{job_of, last_request};
+use crate::served::setup_of;
 use crate::waiting::wait_for;
 use os_io::{Failed, Listener, MemSink, Memory};
-use serving::{Ending, Limits, serve};
+use serving::{Ending, serve};
 use std::alloc::Global;
 use std::io::{self, Read, Write};
 use std::net::{Net, TcpListener, TcpStream};
@@ -34,29 +35,31 @@ struct NoticedNet<'a, N> {
     notice: &'a Notice,
 }
 
-impl<'a, N: Net<Listener = TcpListener, Stream = TcpStream> + AllocGlobal + Drop> Listener
-    for NoticedNet<'a, N> {
-    type Conn = TcpLink;
+impl<
+    'a,
+    N: Net<Listener = TcpListener, Stream = TcpStream> + AllocGlobal + Clock + Wait + Copy + Drop,
+> Listener for NoticedNet<'a, N> {
+    type Conn = TcpLink<N>;
 
     ghost tells = { λ s. ⟦<TcpNet<N> as Listener>⟧.tells s.net };
 
-    fn listen(&mut self, host: &str, port: u16) -> Result<(), Failed> {
-        let listens = self.net.listen(host, port);
+    fn listen(&mut self, host: &str, port: u16, patience: u16) -> Result<(), Failed> {
+        let listens = self.net.listen(host, port, patience);
         let port = self.net.port().unwrap_or(0);
         self.notice.port.store(u64::from(port), SeqCst);
         self.notice.is_given.store(true, SeqCst);
         listens
     }
 
-    fn accept(&mut self) -> Result<TcpLink, Failed> {
+    fn accept(&mut self) -> Result<TcpLink<N>, Failed> {
         self.net.accept()
     }
 
-    fn connect(&mut self, host: &str, port: u16) -> Result<TcpLink, Failed> {
+    fn connect(&mut self, host: &str, port: u16) -> Result<TcpLink<N>, Failed> {
         self.net.connect(host, port)
     }
 
-    fn done(&mut self, link: TcpLink) {
+    fn done(&mut self, link: TcpLink<N>) {
         self.net.done(link)
     }
 }
@@ -110,12 +113,7 @@ fn serve_two<N: Listener, R: Threads + Wait + Sync>(
 where
     N::Conn: Send + Drop,
 {
-    let limits = Limits {
-        servers: 2,
-        connections: 2,
-        workers: 0,
-    };
-    serve(rt, alloc, net, output, HOST, 0, limits)
+    serve(rt, alloc, net, output, HOST, 0, setup_of(2, 2, 0))
 }
 
 /// Serves two links over TCP, of which the first brings its request only once the second ended.

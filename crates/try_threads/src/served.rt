@@ -1,9 +1,11 @@
 //! Servers of clients that say in which order they were answered.
 
-use crate::clients::{Asker, Knocker, Patient, job_of, state_of};
+ghost use Rattle.std.specs.Prelude.{◌≡◌};
+
+use crate::clients::{Asker, Knocker, Patient, Turner, Turns, job_of, state_of};
 use crate::links::Clients;
 use os_io::{MemSink, Memory};
-use serving::{Limits, serve};
+use serving::{Limits, Setup, serve};
 use std::alloc::Global;
 use std::sync::Wait;
 use std::sync::atomic::AtomicBool;
@@ -12,6 +14,23 @@ use std::time::Clock;
 
 /// Room for what a server writes.
 const ROOM: usize = 64;
+
+/// So many links, so many at once, beside so many workers. The clients here have no times, and numbers begin with 1.
+pub(crate) fn setup_of(connections: u32, servers: u32, workers: u32) -> Setup
+    ensures servers { result.limits.servers ≡ servers }
+    ensures first { result.first ≡ 1 }
+{
+    let limits = Limits {
+        servers,
+        connections,
+        workers,
+    };
+    Setup {
+        patience: 30,
+        first: 1,
+        limits,
+    }
+}
 
 /// Serves two links at once, of which the first waits until the second was answered.
 pub(crate) fn serve_two_links<R: Threads + Wait + Clock + Sync>(
@@ -23,12 +42,8 @@ pub(crate) fn serve_two_links<R: Threads + Wait + Clock + Sync>(
     clients.add(Asker::new(rt, true, &one_is_answered))?;
     clients.add(Asker::new(rt, false, &one_is_answered))?;
     let mut output = MemSink::new(alloc, ROOM, &[])?;
-    let limits = Limits {
-        servers: 2,
-        connections: 2,
-        workers: 0,
-    };
-    let ending = serve(rt, alloc, &mut clients, &mut output, "a", 80, limits);
+    let setup = setup_of(2, 2, 0);
+    let ending = serve(rt, alloc, &mut clients, &mut output, "a", 80, setup);
     let mut told = format!(in alloc; "two links at once: {ending:?}, the first got ")?;
     told.push_str(job_of(clients.last_answer(0)))?;
     told.push_str(", the second ")?;
@@ -46,12 +61,8 @@ pub(crate) fn knock_beside_a_worker<R: Threads + Wait + Sync>(
     let mut clients = Clients::new(alloc);
     clients.add(Knocker::new())?;
     let mut output = MemSink::new(alloc, ROOM, &[])?;
-    let limits = Limits {
-        servers: 1,
-        connections: 1,
-        workers: 1,
-    };
-    let ending = serve(rt, alloc, &mut clients, &mut output, "a", 80, limits);
+    let setup = setup_of(1, 1, 1);
+    let ending = serve(rt, alloc, &mut clients, &mut output, "a", 80, setup);
     let state = state_of(clients.last_answer(0));
     format!(in alloc; "a link beside a worker: {ending:?}, a knock says {state}\n")
 }
@@ -64,12 +75,50 @@ pub(crate) fn answer_before_reading_on<R: Threads + Wait + Sync>(
     let mut clients = Clients::new(alloc);
     clients.add(Patient::new())?;
     let mut output = MemSink::new(alloc, ROOM, &[])?;
-    let limits = Limits {
-        servers: 1,
-        connections: 1,
-        workers: 0,
-    };
-    let ending = serve(rt, alloc, &mut clients, &mut output, "a", 80, limits);
+    let setup = setup_of(1, 1, 0);
+    let ending = serve(rt, alloc, &mut clients, &mut output, "a", 80, setup);
     let job = job_of(clients.last_answer(0));
     format!(in alloc; "two requests in turn: {ending:?}, the last got {job}\n")
+}
+
+/// Serves three links, two at once, of which the first to come asks only once the second was given back, and the third only once the
+/// first was answered.
+pub(crate) fn make_room_by_ending<R: Threads + Wait + Clock + Sync>(
+    rt: &R,
+    alloc: Global,
+) -> Result<String, Memory> {
+    let at_once = AtomicBool::new(true);
+    let second_is_back = AtomicBool::new(false);
+    let first_is_answered = AtomicBool::new(false);
+    let unheard = AtomicBool::new(false);
+    let first = Turns {
+        waits_for: &second_is_back,
+        answered: &first_is_answered,
+        returned: &unheard,
+    };
+    let second = Turns {
+        waits_for: &at_once,
+        answered: &unheard,
+        returned: &second_is_back,
+    };
+    let third = Turns {
+        waits_for: &first_is_answered,
+        answered: &unheard,
+        returned: &unheard,
+    };
+    let mut clients = Clients::new(alloc);
+    clients.add(Turner::new(rt, first))?;
+    clients.add(Turner::new(rt, second))?;
+    clients.add(Turner::new(rt, third))?;
+    let mut output = MemSink::new(alloc, ROOM, &[])?;
+    let setup = setup_of(3, 2, 0);
+    let ending = serve(rt, alloc, &mut clients, &mut output, "a", 80, setup);
+    let mut told = format!(in alloc; "a link that ended makes room: {ending:?}, the first got ")?;
+    told.push_str(job_of(clients.last_answer(0)))?;
+    told.push_str(", the second ")?;
+    told.push_str(job_of(clients.last_answer(1)))?;
+    told.push_str(", the third ")?;
+    told.push_str(job_of(clients.last_answer(2)))?;
+    told.push_str("\n")?;
+    Ok(told)
 }
