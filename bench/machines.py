@@ -55,7 +55,7 @@ def send_jobs(client, count, osil, failures):
         for number in numbers:
             text = ""
             while "<status>finished" not in text:
-                time.sleep(0.02)
+                time.sleep(0.1)
                 text = asked(client, "retrieve", osol=options(number))
             if 'type="optimal"' not in text:
                 raise ValueError(f"os-{number} is {text[:200]}")

@@ -33,7 +33,7 @@ class Crowd:
     def __init__(self, machines):
         self.machines, self.lock, self.known, self.answered, self.lost = machines, threading.Lock(), [], [], []
         self.is_gentle = False  # whether calls are left out of which it couldn't be told later what they did, if they aren't answered
-        self.killed_at = float("inf")
+        self.killed_at = float("inf")  # when the killed server was known to be gone
 
     def take(self, server, call, number):
         with self.lock:
@@ -202,8 +202,8 @@ def kill_beside_clients(machines, calls):
     def kill():
         crowd.is_gentle = True
         time.sleep(0.5)
-        crowd.killed_at = time.monotonic_ns()
         machines.kill("two")
+        crowd.killed_at = time.monotonic_ns()
         crowd.is_gentle = False
 
     all_work(users, calls, kill)
@@ -217,7 +217,7 @@ def kill_beside_clients(machines, calls):
 
 
 def only_its_calls_are_lost(crowd):
-    """Whether of the calls that weren't answered each was with the server when it was killed, or names its job and got 503 behind that."""
+    """Whether of the calls that weren't answered each was sent before the server was gone, or names its job and got 503 behind that."""
     under_way, refused, wrong = [], [], []
     for status, call in crowd.lost:
         begun_before, of_two = call.sent < crowd.killed_at, owner(call.job) == "two"
