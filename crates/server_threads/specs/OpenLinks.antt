@@ -64,7 +64,7 @@ pub record Begun (servers : ℕ) (log : List Entry) (talks : List LinkTalk) (run
   pub opens : Opens servers log talks seat seen
   pub still : All (λ n. n < seat → Contains opens.out n) running
 
--- so did all links, those that were served and those that are being served, and no other number was given
+-- so did all links, those that were served and those that are being served, and their numbers were given
 abbrev pub AllBegun : (servers given : ℕ) → List Entry → List LinkTalk → List ℕ → Type 0
 AllBegun servers given log talks running =
     All (λ n. (n < given) × ((seen : List Entry) × Begun servers log talks running n seen)) (map (λ t. t.seat) talks ++ running)

@@ -41,7 +41,7 @@ pub record MayTake {J L S B : Type 0} (limits : Limits) (running : Running J L S
 abbrev pub HasEarlier : (out : List ℕ) → List LinkTalk → ℕ → List Entry → Type 0
 HasEarlier out links seat seen = All (λ u. u.seat < seat → Contains out u.seat ⊎ (calls_by u.seat seen ≡ by u.seat u.said)) links
 
--- so much of the history had been seen when the link with this number came: no move of its seat, and all moves of those that came before it, but
+-- so much of the history may have been seen when the link with this number came: no move of its seat, and all moves of those that came before it, but
 -- for the ones that were out, by their numbers, fewer than may be served at once
 pub record Opens (servers : ℕ) (log : List Entry) (links : List LinkTalk) (seat : ℕ) (seen : List Entry) : Type 0 where
   pub out : List ℕ
@@ -50,7 +50,8 @@ pub record Opens (servers : ℕ) (log : List Entry) (links : List LinkTalk) (sea
   pub none : calls_by seat seen ≡ []
   pub earlier : HasEarlier out links seat seen
 
--- at most so many links are served at once: when a link came, of those that had come before it fewer than so many had moves that were still to come
+-- at most so many links are served at once, as far as moves show it: of any links that all have moves on both sides of one place of the history there are at most
+-- so many. Before the moves of a link stand all moves of those that had come before it, but for fewer than so many links
 abbrev pub AtOnce : (servers : ℕ) → List Entry → List LinkTalk → Type 0
 AtOnce servers log links = All (λ t. (seen : List Entry) × Opens servers log links t.seat seen) links
 

@@ -59,9 +59,9 @@ pub record WorksLast (closer : Shift) (log : List Entry) : Type 0 where
 
 -- one history of moves of the table, step by step from the empty one whose jobs have the numbers from this one on. Among the callers the workers
 -- have the numbers from 1 on, and their moves are those of their shifts; the links have the next ones, in the order in which they came, and their
--- moves are those of their conversations. Whoever closes the table is one worker more, with the number 0, whose shift stands last; or no table was
--- opened, and there are no moves. Under the number of each stand its moves, in their order, and nobody else has any. At most so many links are served
--- at once. Every finish is kept, every document that is shown is proved, and at the end no job waits
+-- moves are those of their conversations. Whoever closes the table is one worker more, with the number 0, whose shift stands last; or nobody
+-- made a move. Under the number of each stand its moves, in their order, and nobody else has any. At most so many links are served
+-- at once, as far as moves show it. Every finish is kept, every document that is shown is proved, and at the end no job waits
 pub record IsHistory (first servers : ℕ) (links : List LinkTalk) (staff : List Shift) (closer : Shift) (log : List Entry) : Type 0 where
   pub table : Register
   pub begins : table.first ≡ first
