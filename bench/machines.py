@@ -1,10 +1,12 @@
 """Jobs a second of 1, 2 and 3 servers behind the proxy, beside one server that is called directly, and how long a small call takes.
 
-Each server has one worker. Clients send jobs, ask until each is finished, read it and give it up; the time is that from the first
-number to the last document. Connections of the clients stay, directly in the clear and to the proxy over TLS.
+Each server has one worker. Clients send jobs, ask until each is finished, ever less often, read it and give it up; the time is that from the first
+number to the last document. Connections of the clients stay, directly in the clear and to the proxy over TLS. The rows take turns, and
+each shows the best of its rounds, as what else the machine does comes and goes.
 """
 
 import contextlib
+import functools
 import os
 import statistics
 import subprocess
@@ -16,8 +18,10 @@ from proxied import NAMES, Machines, ProxyClient
 from serving import Client, envelope, free_port, options, returned
 
 CLIENTS = 12
-JOBS = 120
+JOBS = 48
 CALLS = 200
+ROUNDS = 3
+LONGEST_PAUSE = 0.5
 
 
 @contextlib.contextmanager
@@ -53,9 +57,10 @@ def send_jobs(client, count, osil, failures):
             if asked(client, "send", osil=osil, osol=options(numbers[-1])) != "true":
                 raise ValueError(f"os-{numbers[-1]} wasn't taken")
         for number in numbers:
-            text = ""
+            text, pause = "", 0.02
             while "<status>finished" not in text:
-                time.sleep(0.1)
+                time.sleep(pause)
+                pause = min(2 * pause, LONGEST_PAUSE)
                 text = asked(client, "retrieve", osol=options(number))
             if 'type="optimal"' not in text:
                 raise ValueError(f"os-{number} is {text[:200]}")
@@ -88,15 +93,16 @@ def measured(served, osil):
 
 
 def main():
-    program = programs.sparse(60)
+    program = programs.sparse(100)
     osil = programs.osil(program)
     print(f"{JOBS} jobs, {program.name}, of {CLIENTS} clients; {os.cpu_count()} processors\n")
     print("| servers | jobs a second | to one directly | ms a small call | to one directly |\n|---|---|---|---|---|", flush=True)
-    one, small = measured(direct(), osil)
-    print(f"| 1, directly | {one:.1f} | | {small:.2f} | |", flush=True)
-    for count in range(1, len(NAMES) + 1):
-        jobs, call = measured(behind(count), osil)
-        print(f"| {count} behind the proxy | {jobs:.1f} | {jobs / one:.2f} | {call:.2f} | {call / small:.1f} |", flush=True)
+    rows = {"1, directly": direct} | {f"{count} behind the proxy": functools.partial(behind, count) for count in range(1, len(NAMES) + 1)}
+    rounds = [{name: measured(serve(), osil) for name, serve in rows.items()} for _ in range(ROUNDS)]
+    best = {name: (max(it[name][0] for it in rounds), min(it[name][1] for it in rounds)) for name in rows}
+    one, small = best["1, directly"]
+    for name, (jobs, call) in best.items():
+        print(f"| {name} | {jobs:.1f} | {jobs / one:.2f} | {call:.2f} | {call / small:.1f} |")
 
 
 main()

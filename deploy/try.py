@@ -16,7 +16,7 @@ from pathlib import Path
 
 import gubnatris
 import histories
-from histories import Call, Contradiction
+from histories import RUNNING, Call, Contradiction
 from proxied import NAMES, NUMBERS, PASSWORD, USER, Machines, ProxyClient
 from serve_clients import instance, told
 from serving import Client, envelope, free_port, options, returned
@@ -25,6 +25,7 @@ CLIENTS = 24
 LONGEST = 4_194_304
 NOBODYS = 900_000_000
 FEW_ADDRESSES = 25_000_000
+SHORT_CALLS = 200  # of each server, which has 64 seats
 
 
 class Crowd:
@@ -103,7 +104,12 @@ class User:
         return self.rng.choices(("send", "retrieve", "kill"), (30, 45, 0 if gentle else 25))[0], job
 
     def work(self, calls):
-        for _ in range(calls):
+        """Makes half of so many calls before the server is killed, and half behind that."""
+        made = 0
+        while made < calls // 2 or self.crowd.killed_at == float("inf"):
+            self.call(*self.next_call())
+            made += 1
+        for _ in range(calls // 2):
             self.call(*self.next_call())
 
 
@@ -117,7 +123,7 @@ def all_work(users, calls, during):
         except Exception as failure:  # told below, with the client's number
             failures.append(f"client {user.number}: {failure!r}")
 
-    threads = [threading.Thread(target=work, args=(user,)) for user in users]
+    threads = [threading.Thread(target=work, args=(user,), daemon=True) for user in users]
     for thread in threads:
         thread.start()
     while len(users[0].crowd.answered) < calls // 3 and not failures:
@@ -193,7 +199,7 @@ def stand_in_order(crowd, firsts):
 def kill_beside_clients(machines, calls):
     """Clients at work while a server is killed: all that isn't its own is answered, and each server's calls stand in one order."""
     crowd = Crowd(machines)
-    users = [User(number, crowd) for number in range(CLIENTS)]
+    users, observer = [User(number, crowd) for number in range(CLIENTS)], User(CLIENTS, crowd)
     firsts = {}
     while set(firsts) != set(NAMES):
         number = users[0].call("getJobID").answer
@@ -202,6 +208,7 @@ def kill_beside_clients(machines, calls):
     def kill():
         crowd.is_gentle = True
         time.sleep(0.5)
+        read_all(observer, firsts["two"])
         machines.kill("two")
         crowd.killed_at = time.monotonic_ns()
         crowd.is_gentle = False
@@ -209,9 +216,8 @@ def kill_beside_clients(machines, calls):
     all_work(users, calls, kill)
     machines.wait_for({"one": "UP", "two": "DOWN", "three": "UP"})
     for name in ("one", "three"):
-        for number in look(users[0], firsts[name]):
-            users[0].call("retrieve", number)
-    for user in users:
+        read_all(observer, firsts[name])
+    for user in [*users, observer]:
         user.client.close()
     return all([only_its_calls_are_lost(crowd), stand_in_order(crowd, firsts)])
 
@@ -234,14 +240,10 @@ def only_its_calls_are_lost(crowd):
     return bool(refused) and not wrong
 
 
-def look(user, number):
-    """The jobs of the server whose number that is."""
-    status, answer = user.client.post(envelope("knock", osol=options(number)))
-    text = returned(answer)
-    call = Call(user.number, 0, 0, "knock", 0, None, told("knock", 0, text))
-    if status != 200 or user.client.server != owner(number):
-        raise SystemExit(f"a knock that names os-{number} was answered {status} by {user.client.server}")
-    return call.answer[3]
+def read_all(user, number):
+    """Reads each job of the server whose number that is: so the number is known of those that a call of solve made."""
+    for job in client_jobs(user.client, number):
+        user.call("retrieve", job)
 
 
 def numbers_of_all(client):
@@ -251,6 +253,37 @@ def numbers_of_all(client):
         number = int(returned(client.post(envelope("getJobID"))[1])[3:])
         found.setdefault(owner(number), number)
     return found
+
+
+def long_searches_hold_nobody_up(machines):
+    """While each server searches for a client that waits on its connection, more short calls than it has seats are answered, and it stays up."""
+    client, statuses, begun = ProxyClient(machines), [], time.monotonic()
+    numbers = numbers_of_all(client)
+    osil, limits = instance(1, 61), "".join(f'<solverOption name="{name}" value="{limit}"/>' for name, limit in (("nodeLimit", 10**6), ("pivotLimit", 10**8)))
+    body = envelope("solve", osil=osil, osol=f"<osol><optimization><solverOptions>{limits}</solverOptions></optimization></osol>")
+    searches = [threading.Thread(target=lambda: ProxyClient(machines).post(body)) for _ in NAMES]
+    for thread in searches:
+        thread.start()
+    while not all(RUNNING in client_jobs(client, number).values() for number in numbers.values()) and time.monotonic() - begun < 20:
+        time.sleep(0.05)
+    for _ in range(SHORT_CALLS):
+        statuses += [client.post(envelope("retrieve", osol=options(number)))[0] for number in numbers.values()]
+    held, states = sum(thread.is_alive() for thread in searches), machines.states()
+    for number in numbers.values():
+        for job, state in client_jobs(client, number).items():
+            if state == RUNNING:
+                client.post(envelope("kill", osol=options(job)))
+    for thread in searches:
+        thread.join()
+    client.close()
+    good = set(statuses) == {200} and held == len(NAMES) and set(states.values()) == {"UP"}
+    print(f"beside {held} long searches {statuses.count(200)} of {len(statuses)} short calls were answered, and {list(states.values()).count('UP')} servers stay up")
+    return good
+
+
+def client_jobs(client, number):
+    """The jobs of the server whose number that is, with their states."""
+    return told("knock", 0, returned(client.post(envelope("knock", osol=options(number)))[1]))[3]
 
 
 def only_users_come_in(machines):
@@ -393,7 +426,7 @@ def none_left(machines):
 def main():
     calls = int(sys.argv[1]) if len(sys.argv) > 1 else 6_000
     with Machines() as machines:
-        good = [tried(machines) for tried in (only_users_come_in, long_calls_find_their_server, other_forms_find_their_server)]
+        good = [tried(machines) for tried in (only_users_come_in, long_calls_find_their_server, other_forms_find_their_server, long_searches_hold_nobody_up)]
     with Machines() as machines:
         good.append(kill_beside_clients(machines, calls))
         good += [tried(machines) for tried in (by_the_python_client, comes_back, drains, none_left, short_of_memory)]
