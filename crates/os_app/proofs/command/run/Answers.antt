@@ -82,10 +82,10 @@ pub generate-requires-clause-most : goal.generate-requires-clause-most
 generate-requires-clause-most g c = (c.numbers_are_within_their_ends.ensures _ _ (asks_it _ _ _ (c.in-Ok-Some-Generate.field-0-is ∙ ap Some c.in-Ok-Some-Generate.field-0-0-is) c.in-Ok-Some-Generate.ensures)).1
 
 pub serve-ending-requires-clause-servers : goal.serve-ending-requires-clause-servers
-serve-ending-requires-clause-servers g c = (c.numbers_are_within_their_ends-in-Ok-Some-Serve.ensures _ _ (asks_it _ _ _ (c.in-Ok-Some-Serve.field-0-is ∙ ap Some c.in-Ok-Some-Serve.field-0-0-is) c.in-Ok-Some-Serve.ensures)).2.0
+serve-ending-requires-clause-servers g c κs lives = (c.numbers_are_within_their_ends-in-Ok-Some-Serve.ensures _ _ (asks_it _ _ _ (c.in-Ok-Some-Serve.field-0-is ∙ ap Some c.in-Ok-Some-Serve.field-0-0-is) c.in-Ok-Some-Serve.ensures)).2.0
 
 pub serve-ending-requires-clause-first : goal.serve-ending-requires-clause-first
-serve-ending-requires-clause-first g c = (c.numbers_are_within_their_ends-in-Ok-Some-Serve.ensures _ _ (asks_it _ _ _ (c.in-Ok-Some-Serve.field-0-is ∙ ap Some c.in-Ok-Some-Serve.field-0-0-is) c.in-Ok-Some-Serve.ensures)).5.0
+serve-ending-requires-clause-first g c κs lives = (c.numbers_are_within_their_ends-in-Ok-Some-Serve.ensures _ _ (asks_it _ _ _ (c.in-Ok-Some-Serve.field-0-is ∙ ap Some c.in-Ok-Some-Serve.field-0-0-is) c.in-Ok-Some-Serve.ensures)).5.0
 
 pub serve-ending-requires-clause-fits : goal.serve-ending-requires-clause-fits
-serve-ending-requires-clause-fits g c = (c.numbers_are_within_their_ends-in-Ok-Some-Serve.ensures _ _ (asks_it _ _ _ (c.in-Ok-Some-Serve.field-0-is ∙ ap Some c.in-Ok-Some-Serve.field-0-0-is) c.in-Ok-Some-Serve.ensures)).5.1
+serve-ending-requires-clause-fits g c κs lives = (c.numbers_are_within_their_ends-in-Ok-Some-Serve.ensures _ _ (asks_it _ _ _ (c.in-Ok-Some-Serve.field-0-is ∙ ap Some c.in-Ok-Some-Serve.field-0-0-is) c.in-Ok-Some-Serve.ensures)).5.1
