@@ -112,31 +112,61 @@ impl<'a, R: Clock> Client for Asker<'a, R> {
     }
 }
 
-/// What one of the clients waits for and what others wait for, each by a word that is set.
+/// What the clients that come in turn tell each other.
 #[derive(Drop)]
-pub(crate) struct Turns<'a> {
-    /// It asks only once this is set, and nothing where it isn't set in time.
-    pub(crate) waits_for: &'a AtomicBool,
-    /// It sets this once it was answered.
-    pub(crate) answered: &'a AtomicBool,
-    /// It sets this once its link was given back.
-    pub(crate) returned: &'a AtomicBool,
+pub(crate) struct Signals {
+    first_is_answered: AtomicBool,
+    /// Set once the second one's link was given back.
+    second_is_back: AtomicBool,
 }
 
-/// A client that asks for a number when its turn has come.
+impl Signals {
+    pub(crate) fn new() -> Signals {
+        Signals {
+            first_is_answered: AtomicBool::new(false),
+            second_is_back: AtomicBool::new(false),
+        }
+    }
+}
+
+/// Which of three clients one is.
+#[derive(Clone, Copy, PartialEq, Eq)]
+pub(crate) enum Turn {
+    /// It asks only once the second one's link was given back.
+    First,
+    /// It asks at once.
+    Second,
+    /// It asks only once the first one was answered.
+    Third,
+}
+
+/// A client that asks for a number when its turn has come, and for nothing where it doesn't come in time.
 #[derive(Drop)]
 pub(crate) struct Turner<'a, R> {
     clock: &'a R,
+    turn: Turn,
     asked: bool,
-    turns: Turns<'a>,
+    signals: &'a Signals,
 }
 
 impl<'a, R> Turner<'a, R> {
-    pub(crate) fn new(clock: &'a R, turns: Turns<'a>) -> Turner<'a, R> {
+    pub(crate) fn new(clock: &'a R, turn: Turn, signals: &'a Signals) -> Turner<'a, R> {
         Turner {
             clock,
+            turn,
             asked: false,
-            turns,
+            signals,
+        }
+    }
+}
+
+impl<'a, R: Clock> Turner<'a, R> {
+    /// Whether its turn comes.
+    fn may_ask(&self) -> bool {
+        match self.turn {
+            Turn::First => wait_for(self.clock, &self.signals.second_is_back),
+            Turn::Second => true,
+            Turn::Third => wait_for(self.clock, &self.signals.first_is_answered),
         }
     }
 }
@@ -144,18 +174,22 @@ impl<'a, R> Turner<'a, R> {
 impl<'a, R: Clock> Client for Turner<'a, R> {
     fn ask(&mut self, alloc: Global, _answer: &[u8]) -> Result<String, Memory> {
         if self.asked {
-            self.turns.answered.store(true, SeqCst);
+            if self.turn == Turn::First {
+                self.signals.first_is_answered.store(true, SeqCst);
+            }
             return Ok(String::new(alloc));
         }
         self.asked = true;
-        if !wait_for(self.clock, self.turns.waits_for) {
+        if !self.may_ask() {
             return Ok(String::new(alloc));
         }
         request(alloc, "<getJobID/>")
     }
 
     fn returned(&self) {
-        self.turns.returned.store(true, SeqCst);
+        if self.turn == Turn::Second {
+            self.signals.second_is_back.store(true, SeqCst);
+        }
     }
 }
 

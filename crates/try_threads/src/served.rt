@@ -2,7 +2,7 @@
 
 ghost use Rattle.std.specs.Prelude.{◌≡◌};
 
-use crate::clients::{Asker, Knocker, Patient, Turner, Turns, job_of, state_of};
+use crate::clients::{Asker, Knocker, Patient, Signals, Turn, Turner, job_of, state_of};
 use crate::links::Clients;
 use os_io::{MemSink, Memory};
 use serving::{Limits, Setup, serve};
@@ -87,29 +87,11 @@ pub(crate) fn make_room_by_ending<R: Threads + Wait + Clock + Sync>(
     rt: &R,
     alloc: Global,
 ) -> Result<String, Memory> {
-    let at_once = AtomicBool::new(true);
-    let second_is_back = AtomicBool::new(false);
-    let first_is_answered = AtomicBool::new(false);
-    let unheard = AtomicBool::new(false);
-    let first = Turns {
-        waits_for: &second_is_back,
-        answered: &first_is_answered,
-        returned: &unheard,
-    };
-    let second = Turns {
-        waits_for: &at_once,
-        answered: &unheard,
-        returned: &second_is_back,
-    };
-    let third = Turns {
-        waits_for: &first_is_answered,
-        answered: &unheard,
-        returned: &unheard,
-    };
+    let signals = Signals::new();
     let mut clients = Clients::new(alloc);
-    clients.add(Turner::new(rt, first))?;
-    clients.add(Turner::new(rt, second))?;
-    clients.add(Turner::new(rt, third))?;
+    clients.add(Turner::new(rt, Turn::First, &signals))?;
+    clients.add(Turner::new(rt, Turn::Second, &signals))?;
+    clients.add(Turner::new(rt, Turn::Third, &signals))?;
     let mut output = MemSink::new(alloc, ROOM, &[])?;
     let setup = setup_of(3, 2, 0);
     let ending = serve(rt, alloc, &mut clients, &mut output, "a", 80, setup);
