@@ -58,7 +58,10 @@ fn net_of(alloc: Global, links: &[u8], fails: Fails) -> Result<MemListener, Memo
 fn links_back(alloc: Global, net: &mut MemListener) -> Result<(Text, &'static str), Memory> {
     let mut back = Text::new(alloc);
     let mut rose = "none";
-    while let Some(link) = net.take_back() {
+    for _ in 0..u64::MAX {
+        let Some(link) = net.take_back() else {
+            break;
+        };
         let count = link.handed_on().len();
         back.extend(format!(in alloc; " {count}")?.as_str().as_bytes())?;
         if link.read_faults() > 0 {
