@@ -26,6 +26,7 @@ LONGEST = 4_194_304
 NOBODYS = 900_000_000
 FEW_ADDRESSES = 25_000_000
 SHORT_CALLS = 200  # of each server, which has 64 seats
+TRIES = 40  # how often a server is asked that may be taken for down, twice a second
 
 
 class Crowd:
@@ -282,8 +283,14 @@ def long_searches_hold_nobody_up(machines):
 
 
 def client_jobs(client, number):
-    """The jobs of the server whose number that is, with their states."""
-    return told("knock", 0, returned(client.post(envelope("knock", osol=options(number)))[1]))[3]
+    """The jobs of the server whose number that is, with their states. Where other work keeps a server from a check, the proxy takes it for
+    down for a while, so it is asked again."""
+    for _ in range(TRIES):
+        status, answer = client.post(envelope("knock", osol=options(number)))
+        if status == 200:
+            return told("knock", 0, returned(answer))[3]
+        time.sleep(0.5)
+    sys.exit(f"a knock at the server of os-{number} is answered {status}: the machine is too busy for the proxy's checks, or the server is gone")
 
 
 def only_users_come_in(machines):

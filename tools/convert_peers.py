@@ -20,9 +20,10 @@ sys.path.insert(0, os.path.dirname(os.path.abspath(__file__)))
 
 import glpk_reading
 import job_documents
+import serving
 
 EXAMPLES = "/usr/share/doc/glpk-utils/examples"
-PROGRAM = os.path.abspath("crates/os_main/out/os_main")
+PROGRAM = serving.PROGRAM
 TOOLS = os.path.dirname(os.path.abspath(__file__))
 LIMIT = 20  # processor seconds of each solver
 NEAR = 1e-6
