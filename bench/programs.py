@@ -135,6 +135,54 @@ def cover(size):
     return Program(f"cover {size}x{size}", False, [(0, 1, True)] * size, rows, costs)
 
 
+def staircase(periods):
+    """The least cost of what is made and kept over so many periods, of which each hands a part of what it keeps to the next."""
+    rng = random.Random(periods)
+    rows = []
+    for t in range(periods):
+        entries = {2 * t: rng.randint(1, 9), 2 * t + 1: -rng.randint(1, 9)}
+        if t:
+            entries[2 * t - 1] = rng.randint(1, 9)
+        wanted = rng.randint(5, 40)
+        rows.append((wanted, wanted, entries))
+    ends = [(0, rng.randint(20, 60) if j % 2 == 0 else None, False) for j in range(2 * periods)]
+    costs = [rng.randint(1, 30) if j % 2 == 0 else rng.randint(1, 4) for j in range(2 * periods)]
+    return Program(f"staircase {periods}", False, ends, rows, costs)
+
+
+def timetable(events, slots, clashes):
+    """The best liked slot of each event, where so many pairs of events can't share one."""
+    rng = random.Random(events)
+    pairs = rng.sample([(i, j) for i in range(events) for j in range(i)], clashes)
+    rows = [(1, 1, {i * slots + s: 1 for s in range(slots)}) for i in range(events)]
+    rows += [(None, 1, {i * slots + s: 1, j * slots + s: 1}) for i, j in pairs for s in range(slots)]
+    costs = [rng.randint(1, 20) for _ in range(events * slots)]
+    return Program(f"timetable {events}", True, [(0, 1, True)] * len(costs), rows, costs)
+
+
+def fixed_charge(sources, targets):
+    """Least cost of what every target wants, where each way that is used costs a charge beside what goes over it."""
+    rng = random.Random(sources)
+    ways = sources * targets
+    wants = [rng.randint(5, 40) for _ in range(targets)]
+    has = [sum(wants) // sources + rng.randint(5, 20) for _ in range(sources)]
+    rows = [(None, has[s], {s * targets + t: 1 for t in range(targets)}) for s in range(sources)]
+    rows += [(wants[t], None, {s * targets + t: 1 for s in range(sources)}) for t in range(targets)]
+    rows += [(None, 0, {w: 1, ways + w: -min(has[w // targets], wants[w % targets])}) for w in range(ways)]
+    costs = [rng.randint(1, 40) for _ in range(ways)] + [rng.randint(1, 4) for _ in range(ways)]
+    return Program(f"fixed charge {sources}x{targets}", False, [(0, None, False)] * ways + [(0, 1, True)] * ways, rows, costs)
+
+
+def general_assignment(agents, tasks):
+    """The least cost of one agent for each task, within what each agent has time for."""
+    rng = random.Random(agents * tasks)
+    times = [[rng.randint(5, 25) for _ in range(tasks)] for _ in range(agents)]
+    rows = [(1, 1, {a * tasks + t: 1 for a in range(agents)}) for t in range(tasks)]
+    rows += [(None, 21 * sum(times[a]) // (20 * agents), {a * tasks + t: times[a][t] for t in range(tasks)}) for a in range(agents)]
+    costs = [rng.randint(10, 50) for _ in range(agents * tasks)]
+    return Program(f"general assignment {agents}x{tasks}", False, [(0, 1, True)] * len(costs), rows, costs)
+
+
 def generated(size):
     """The instance of `generate`."""
     variables = [(0, 3, j < 4) for j in range(size)]
@@ -144,7 +192,8 @@ def generated(size):
 
 def all_programs():
     return [
-        transport(10, 20), transport(20, 40), transport(20, 50), assignment(10), assignment(20), assignment(30),
-        sparse(20), sparse(50), sparse(100), sparse(200), knapsack(20, 1), knapsack(30, 1), knapsack(40, 1),
-        knapsack(20, 2), knapsack(30, 2), knapsack(20, 3), knapsack(30, 3), cover(20), cover(30), cover(40), generated(1000),
+        transport(10, 20), transport(20, 40), transport(20, 50), transport(30, 33), assignment(10), assignment(20), assignment(30),
+        assignment(31), sparse(20), sparse(50), sparse(100), sparse(200), sparse(500), sparse(1000), staircase(300), knapsack(20, 1), knapsack(30, 1), knapsack(40, 1),
+        knapsack(20, 2), knapsack(30, 2), knapsack(20, 3), knapsack(30, 3), cover(20), cover(30), cover(40),
+        timetable(40, 8, 110), fixed_charge(8, 12), general_assignment(5, 25), generated(1000),
     ]

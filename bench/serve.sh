@@ -1,6 +1,7 @@
 #!/usr/bin/env bash
 # Times `serve` over loopback, in one run: `knock` and `getJobID` by wrk at 1, 8 and 64 connections beside nginx, which answers a POST
-# with a body of the same size; and jobs that many clients send, through 2 workers beside 1. It installs wrk and nginx.
+# with a body of the same size, alone and beside two busy processes; jobs that many clients send, through 2 workers beside 1; and what a
+# long search pays for its looks. It installs wrk and nginx.
 #   bash bench/serve.sh
 set -euo pipefail
 cd "$(dirname "$0")/.."

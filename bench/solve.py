@@ -63,6 +63,12 @@ def our_value(text, _):
     return cause or (value and number(value))
 
 
+def nodes_of(text):
+    """How many cases the tree of a result has; none where it carries none."""
+    tree = first(r'os_cert\.tree">(.*?)</otherSolutionResult>', text)
+    return tree.count("<item>") if tree else None
+
+
 def esolver_value(_, folder):
     with open(f"{folder}/esolver.sol", encoding="utf-8") as it:
         value = first(r"Value = (\S+)", it.read())
@@ -97,8 +103,8 @@ SOLVERS = [
 
 
 def timed(words, folder, read):
-    """The least seconds of some runs, the greatest memory, and the objective; none past the limit."""
-    best, peak, value = None, 0, None
+    """The least seconds of some runs, the greatest memory, the objective and the last output; none past the limit."""
+    best, peak, value, text = None, 0, None, ""
     for _ in range(RUNS):
         ran = run(words(folder))
         if ran is None:
@@ -107,7 +113,7 @@ def timed(words, folder, read):
         best, peak, value = seconds if best is None else min(best, seconds), max(peak, memory), read(text, folder)
         if seconds > 2:
             break  # once is enough where it takes long
-    return best, peak, value
+    return best, peak, value, text
 
 
 OPTIONS = '<osol><optimization><solverOptions><solverOption name="pivotLimit" value="{turns}"/></solverOptions></optimization></osol>'
@@ -143,7 +149,7 @@ def compared(program, folder):
         if takes_whole or not program.is_whole():
             found[name] = timed(words, folder, read), exact
     (mine, _), others = found["ours"], [(name, it) for name, (it, exact) in found.items() if exact and name != "ours" and it]
-    for name, (_, _, value) in others:
+    for name, (_, _, value, _) in others:
         close = name.startswith("glpsol")  # it writes six digits
         if isinstance(mine[2], fractions.Fraction) and value is not None:
             agrees &= abs(value - mine[2]) <= abs(value) / 10**5 if close else value == mine[2]
@@ -151,16 +157,16 @@ def compared(program, folder):
     shown = {name: (f"{it[0]:.3f}" if it else f"> {LIMIT}") for name, (it, _) in found.items()}
     ratio = f"{mine[0] / fastest:.2f}" if mine and fastest else "-"
     what = mine[2] if mine else "-"
-    turns = turns_of(folder) if mine else 0
-    each = [str(turns), f"{turns / mine[0]:.0f}"] if mine else ["-", "-"]
+    turns, nodes = (turns_of(folder), nodes_of(mine[3])) if mine else (None, None)
+    each = [cell for count in (turns, nodes) for cell in ([str(count), f"{count / mine[0]:.0f}"] if count else ["-", "-"])]
     cells = [program.name, *(shown.get(s[0], "-") for s in SOLVERS), ratio, *each, f"{mine[1] / 1e6:.0f}" if mine else "-", str(what)]
     print("| " + " | ".join(cells) + " |", flush=True)
     return agrees
 
 
 def main():
-    print("| program | " + " | ".join(s[0] for s in SOLVERS) + " | ours / fastest exact | turns | turns a second | MB | objective, or cause |")
-    print("|---" * (len(SOLVERS) + 6) + "|")
+    print("| program | " + " | ".join(s[0] for s in SOLVERS) + " | ours / fastest exact | turns | turns a second | nodes | nodes a second | MB | objective, or cause |")
+    print("|---" * (len(SOLVERS) + 8) + "|")
     with tempfile.TemporaryDirectory() as folder:
         agreed = [compared(program, folder) for program in programs.all_programs()]
     if not all(agreed):

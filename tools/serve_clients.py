@@ -227,7 +227,11 @@ def plant(calls, rng):
     taken = {c.job for c in calls if c.name == "send" and c.answer}
     refused = some(lambda c: c.name == "send" and not c.answer and c.job in taken)
     yield "a second send is taken", with_change((refused, True))
-    late = max((c for c in calls if seen(FINISHED)(c)), key=lambda c: c.sent)
+    told_first = {}
+    for c in calls:
+        if seen(FINISHED)(c):
+            told_first[c.job] = min(c.received, told_first.get(c.job, c.received))
+    late = max((c for c in calls if seen(FINISHED)(c) and told_first[c.job] < c.sent), key=lambda c: c.sent)
     yield "a finished job runs again", with_change((late, (RUNNING, None, False, None)))
     early = some(seen(ISSUED))
     yield "a job is unknown and then issued", with_change((early, ("unknown", None, False, None)), *(

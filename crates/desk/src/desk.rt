@@ -8,18 +8,16 @@ ghost use Rattle.desk.specs.Rule.{first_view, with_turn, one_more, newcomer, out
 ghost use Rattle.desk.specs.SeatMoves.{desk_id, first_number, IsSeatOf, AddsEntry, Waits, Lacks, HasTurn, IsServed, IsMoveAnswered, AnswersMove, Meets, Closes};
 
 use crate::held::Held;
+use crate::line::{Line, Waiter};
 use crate::plays::{Begins, Draw, Enters, Look, OneMore, PassOn, Settle, Skip};
 use crate::shape::{Desk, Locked, Seat};
 use job_table::moves::Move;
 use job_table::{Table, Verdicts};
 use os_io::Memory;
 use std::alloc::{AllocError, Global};
-use std::hint::spin_loop;
 use std::marker::Brand;
 use std::snapshot::Snapshot;
 use std::sync::Wait;
-use std::sync::atomic::AtomicU64;
-use std::sync::atomic::Ordering::SeqCst;
 use std::thread::yield_now;
 
 /// The word of the next number to be drawn.
@@ -30,18 +28,6 @@ const SERVING: usize = 1;
 
 /// The slot of the table.
 const SLOT: usize = 0;
-
-/// How often a caller tries to draw at once: a move of the table takes about as long.
-const AT_ONCE: u32 = 40;
-
-/// How often it tries in all before it sleeps. Behind the first ones it lets others run.
-const AWAKE: u32 = 48;
-
-/// What the bell says where nobody sleeps.
-const QUIET: u64 = 0;
-
-/// What the bell says where somebody may sleep.
-const LISTEN: u64 = 1;
 
 impl<J: Verdicts> Desk<J> {
     /// A desk on the empty table whose numbers begin with this one, and its first seat.
@@ -58,8 +44,8 @@ impl<J: Verdicts> Desk<J> {
         slots.push(Some(held))?;
         match atomic_table::Table::new(alloc, &[0, 0], slots, &first) {
             Ok((table, seat)) => {
-                let bell = AtomicU64::new(QUIET);
-                Ok((Locked { table, bell }, seat))
+                let line = Line::new();
+                Ok((Locked { table, line }, seat))
             }
             Err(_) => Err(AllocError),
         }
@@ -115,7 +101,7 @@ impl<J: Verdicts> Desk<J> {
         ensures closes { Closes J.right me.me.0 result }
         ensures first { result.first ≡ first_number self }
     {
-        let Locked { table, bell: _ } = self;
+        let Locked { table, line: _ } = self;
         let mut closed = table.close_with(me);
         let slot = closed.take(SLOT);
         closed.free();
@@ -130,48 +116,22 @@ impl<J: Verdicts> Desk<J> {
         requires { IsSeatOf (desk_id self.now) me.old }
         ensures { (me.new.table_id ≡ me.old.table_id) × (me.new.me ≡ (with_turn (Waiting result) me.old.me.0, [])) }
     {
-        let mut tries: u32 = 0;
+        let mut waiter = Waiter::new();
         for _ in rt.forever() {
             let guess = self.table.shared.peek(SERVING);
-            if guess < u64::MAX {
+            if guess < u64::MAX && self.line.lets(&waiter) {
                 let found = self
                     .table
                     .shared
                     .compare_exchange::<Draw>(me, TICKET, guess, guess + 1);
                 if found == guess {
+                    self.line.leave(&waiter);
                     return guess;
                 }
             }
-            tries = self.rest(rt, tries);
+            self.line.rest(rt, &mut waiter);
         }
         unreachable!()
-    }
-
-    /// What a caller does behind so many tries that failed, and how many are counted then. Before it sleeps until the bell rings it
-    /// says that it listens, and tries once more; when it wakes it says so again, for others who may sleep.
-    fn rest<R: Wait>(&self, rt: &R, tries: u32) -> u32 {
-        if tries < AT_ONCE {
-            spin_loop();
-            return tries + 1;
-        }
-        if tries < AWAKE {
-            yield_now();
-            return tries + 1;
-        }
-        if tries == AWAKE {
-            self.bell.store(LISTEN, SeqCst);
-            return tries + 1;
-        }
-        self.bell.park(rt, LISTEN as u32);
-        self.bell.store(LISTEN, SeqCst);
-        0
-    }
-
-    /// Wakes one caller, where somebody may sleep.
-    fn ring(&self) {
-        if self.bell.load(SeqCst) == LISTEN && self.bell.swap(QUIET, SeqCst) == LISTEN {
-            self.bell.wake_one();
-        }
     }
 
     /// Waits until the number is served, and takes the table.
@@ -214,7 +174,7 @@ impl<J: Verdicts> Desk<J> {
         } else {
             self.table.shared.fetch_add::<Skip>(me, SERVING, 1);
         }
-        self.ring();
+        self.line.ring();
         answer
     }
 
