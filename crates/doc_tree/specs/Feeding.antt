@@ -71,3 +71,11 @@ pub record HandedOn (old new : Feeding) (had : List Mark → Type 0) : Type 0 wh
   pub has : had told
   pub rest : old.state.marks ≡ told ++ new.state.marks
   pub same : new ≡ record old { state = record old.state { marks = new.state.marks } }
+
+-- Behind any bytes taken before, it takes these.
+abbrev pub TakesBytes : Feeding → List ℕ → Feeding → Type 0
+TakesBytes old taken new = (told : List Mark) (bytes : List ℕ) → IsTaken (behind told old) bytes → IsTaken (behind told new) (bytes ++ taken)
+
+-- Behind any such bytes, a reader is refused so at some of these.
+abbrev pub RefusesBytes : Feeding → List ℕ → TreeFault → Type 0
+RefusesBytes f more fault = (told : List Mark) (bytes : List ℕ) → IsTaken (behind told f) bytes → Refused f.limit (bytes ++ more) fault

@@ -12,3 +12,4 @@ pub mod Utf8
 pub mod Relieved
 pub mod Whole
 pub mod Gathered
+pub mod Walks

@@ -13,6 +13,7 @@ mod fields;
 mod outside;
 mod references;
 mod tags;
+mod walks;
 
 use crate::builder::Telling;
 use crate::declaration::{Field, is_encoding, is_utf8_name};

@@ -1,5 +1,7 @@
 -- What a visitor was told, and what waits.
-use Rattle.std.proofs.Common.{◌≡◌, ℕ, Bool, true, false, MatchBool, List, [], ◌∷◌, ◌++◌, Option, Some, None, MatchOption, Result, Ok, Err, inl, refl, ap, sym, ◌∙◌, subst, append_assoc}
+use Rattle.std.proofs.Common.{◌≡◌, ℕ, Bool, true, false, MatchBool, List, [], ◌++◌, Option, Some, None, MatchOption, Result, Ok, Err, inl, refl, ap, sym, ◌∙◌, subst, append_assoc, length, take, drop, ◌+◌, ◌-◌, ◌<◌, ◌≤◌, arith}
+use Rattle.std.proofs.Math.Seq.{take-add}
+use Rattle.std.proofs.lemmas.List.{take_rest, length-drop}
 use Rattle.doc_tree.specs.Marks.{Mark}
 use Rattle.doc_tree.specs.declared.fault.TreeFault.{TreeFault}
 use Rattle.doc_tree.specs.declared.fault.TreeFault.TheVariants as faults
@@ -7,7 +9,7 @@ use Rattle.doc_tree.specs.Completions.{State, Good}
 use Rattle.doc_tree.specs.Relieved.{Relieved}
 use Rattle.doc_tree.specs.Reading.{Refused, ReadingFails, Visits}
 use Rattle.doc_tree.specs.Whole.{IsEnd}
-use Rattle.doc_tree.specs.Feeding.{Feeding, IsTaken, CanGoOn, behind, Heard, WasHeard, HandedOn, RefusesByte}
+use Rattle.doc_tree.specs.Feeding.{Feeding, IsTaken, CanGoOn, behind, Heard, WasHeard, HandedOn, TakesBytes, RefusesBytes}
 use Rattle.doc_tree.proofs.Behind.{good_marked, over_after}
 use Rattle.doc_tree.proofs.TextTrees.Verdicts.{refused_fed, visited}
 
@@ -24,7 +26,7 @@ handed had f v s e r = subst (λ z. HandedOn z (record f { state = s }) had) e (
 pub handed_nothing : (had : List Mark → Type 0) (f : Feeding) → had [] → HandedOn f f had
 handed_nothing had f h = record { told = []; has = h; rest = refl; same = refl }
 
-on_option : (o : Option TreeFault) (A B : Type 0) → (A → B) → MatchOption o A (λ fault. Unit {0}) → MatchOption o B (λ fault. Unit {0})
+pub on_option : (o : Option TreeFault) (A B : Type 0) → (A → B) → MatchOption o A (λ fault. Unit {0}) → MatchOption o B (λ fault. Unit {0})
 on_option None A B f h = f h
 on_option (Some x) A B f h = tt
 
@@ -47,12 +49,12 @@ module _ (had step now : List Mark → Type 0) (joined : (a b : List Mark) → h
 pub handed_refusal : (had : List Mark → Type 0) (mid new : Feeding) → HandedOn mid new had → mid.refusal ≡ None → new.refusal ≡ None
 handed_refusal had mid new h e = ap (λ z. z.refusal) h.same ∙ e
 
--- a byte is taken, or refused
-pub heard_byte : (had : List Mark → Type 0) (old mid : Feeding) (bytes : List ℕ) (b : ℕ) → ((told : List Mark) (x : List ℕ) → IsTaken (behind told old) x → IsTaken (behind told mid) (x ++ b ∷ [])) → Heard had old bytes → Heard had mid (bytes ++ b ∷ [])
-heard_byte had old mid bytes b f k = record { told = k.told; has = k.has; taken = f k.told bytes k.taken }
+-- bytes are taken, or refused
+pub heard_bytes : (had : List Mark → Type 0) (old mid : Feeding) (bytes taken : List ℕ) → TakesBytes old taken mid → Heard had old bytes → Heard had mid (bytes ++ taken)
+heard_bytes had old mid bytes taken f k = record { told = k.told; has = k.has; taken = f k.told bytes k.taken }
 
-pub byte_refused : (had now : List Mark → Type 0) (old mid : Feeding) (bytes : List ℕ) (b : ℕ) (fault : TreeFault) → RefusesByte old b fault → mid.limit ≡ old.limit → mid.refusal ≡ Some fault → Heard had old bytes → WasHeard now mid (bytes ++ b ∷ [])
-byte_refused had now old mid bytes b fault f l e k = refused_fed now mid (bytes ++ b ∷ []) fault e (subst (λ z. Refused z (bytes ++ b ∷ []) fault) (sym l) (f k.told bytes k.taken))
+pub bytes_refused : (had now : List Mark → Type 0) (old mid : Feeding) (bytes more : List ℕ) (fault : TreeFault) → RefusesBytes old more fault → mid.limit ≡ old.limit → mid.refusal ≡ Some fault → Heard had old bytes → WasHeard now mid (bytes ++ more)
+bytes_refused had now old mid bytes more fault f l e k = refused_fed now mid (bytes ++ more) fault e (subst (λ z. Refused z (bytes ++ more) fault) (sym l) (f k.told bytes k.taken))
 
 pub memory_refused : (now : List Mark → Type 0) (new : Feeding) (bytes : List ℕ) → new.refusal ≡ Some faults.Memory → WasHeard now new bytes
 memory_refused now new bytes e = refused_fed now new bytes faults.Memory e (inl refl)
@@ -74,3 +76,15 @@ answers_err {A} (Some f) r ok fault m e = let h : ◌≡◌ {A = Result A TreeFa
 -- at the end all is told, and the bytes hold an element
 pub told_whole : (had step now : List Mark → Type 0) → ((a b : List Mark) → had a → step b → now (a ++ b)) → (f : Feeding) (bytes : List ℕ) → IsEnd f → step f.state.marks → Heard had f bytes → Visits now f.limit bytes
 told_whole had step now joined f bytes e s k = visited now (behind k.told f) bytes k.taken e.whole (over_after k.told f.state e.over) (joined k.told f.state.marks k.has s)
+
+-- where it says that it wasn't
+pub answers_ok : {A : Type 0} (B : Type 0) (o : Option TreeFault) (r : Result A TreeFault) (x : A) → MatchOption o B (λ f. r ≡ Err f) → r ≡ Ok x → o ≡ None
+answers_ok {A} B None r x m e = refl
+answers_ok {A} B (Some f) r x m e = let h : ◌≡◌ {A = Result A TreeFault} (Ok x) (Err f) = sym e ∙ m in absurd (cc)
+
+-- bytes behind those that were heard
+pub heard_more : (now : List Mark → Type 0) (f : Feeding) (bytes xs : List ℕ) (i n : ℕ) → WasHeard now f ((bytes ++ take i xs) ++ take n (take (length xs - i) (drop i xs))) → WasHeard now f (bytes ++ take (i + n) xs)
+heard_more now f bytes xs i n h = subst (WasHeard now f) (ap (λ z. (bytes ++ take i xs) ++ take n z) (take_rest xs i) ∙ append_assoc bytes (take i xs) (take n (drop i xs)) ∙ ap (λ z. bytes ++ z) (sym (take-add i n xs))) h
+
+pub within_more : (xs : List ℕ) (i n : ℕ) → i < length xs → n ≤ length (take (length xs - i) (drop i xs)) → i + n ≤ length xs
+within_more xs i n l h = omega (arith, h, ap length (take_rest xs i), length-drop i xs)

@@ -1,0 +1,6 @@
+use Rattle.std.proofs.Common.{take}
+use Rattle.tree_grammar.specs.Characters.{Each, IsNameChar}
+use Rattle.doc_tree.proofs.machine.walks.rest_length.Given as goal
+
+abbrev pub invariant-loop-i : goal.invariant-loop-i
+invariant-loop-i l = Each IsNameChar (take l.i l.bytes)

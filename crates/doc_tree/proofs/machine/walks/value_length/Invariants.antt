@@ -1,0 +1,7 @@
+use Rattle.std.proofs.Common.{take}
+use Rattle.tree_grammar.specs.Characters.{Each}
+use Rattle.doc_tree.specs.Walks.{IsPlainValue}
+use Rattle.doc_tree.proofs.machine.walks.value_length.Given as goal
+
+abbrev pub invariant-loop-i : goal.invariant-loop-i
+invariant-loop-i l = Each (IsPlainValue l.quote) (take l.i l.bytes)
