@@ -1,13 +1,14 @@
 //! The jobs that are held, by number, with what is counted of them.
 
-ghost use Rattle.std.specs.Prelude.{◌≡◌, ℕ, List, ◌+◌, ◌-◌, ◌<◌, ◌≤◌, ◌^◌, length, Some, None, true, false, IfOk, IfSome, OnOk, OnErr, IfNone, IsSome, IsSomeAnd, min, if◌then◌else◌, [], ◌∷◌, ◌++◌};
+ghost use Rattle.std.specs.Prelude.{◌≡◌, ℕ, List, Option, ◌+◌, ◌-◌, ◌<◌, ◌≤◌, ◌^◌, length, Some, None, true, false, IfOk, IfSome, OnOk, OnErr, IfNone, IsSome, IsSomeAnd, min, if◌then◌else◌, [], ◌∷◌, ◌++◌};
 ghost use Rattle.std.specs.Option.{option_copied};
 ghost use Rattle.job_table.specs.declared.calls.Reply.{Reply};
-ghost use Rattle.job_table.specs.declared.job.Phase.TheVariants.{Running};
+ghost use Rattle.job_table.specs.declared.calls.Finish.TheVariants.{Kept};
+ghost use Rattle.job_table.specs.declared.job.Phase.TheVariants.{Issued, Running, Finished};
 ghost use Rattle.job_table.specs.Jobs.{Register, beginning, next_number, Rise, phase_of, with_phase, without, state_of, is_waiting, is_running, states, waiting_jobs, running_jobs, first_waiting, IsFirstWaiting, Below};
-ghost use Rattle.job_table.specs.Steps.{most_jobs, last_number, with_new, moved, forgotten, adds, added_reply, LeadsBy, claims, kills, outcome};
+ghost use Rattle.job_table.specs.Steps.{most_jobs, last_number, with_new, moved, forgotten, adds, added_reply, LeadsBy, claims, kills, outcome, sends, finishes};
 
-use crate::calls::{IssueFault, JobStates};
+use crate::calls::{Finish, IssueFault, JobStates};
 use crate::job::{Job, Phase, State};
 use crate::waiting::{make_room, renew};
 use os_io::Memory;
@@ -170,6 +171,45 @@ impl Jobs {
         ensures { option_copied result ≡ phase_of number self.now.jobs }
     {
         self.phases.get(&number)
+    }
+
+    /// Whether a job has its number alone.
+    pub(crate) fn is_new(&self, number: u64) -> bool
+        ensures new { result ≡ true → phase_of number self.now.jobs ≡ Some Issued }
+        ensures other { result ≡ false → (osil osol : List ℕ) → sends number osil osol (phase_of number self.now.jobs) self.now ≡ outcome (Reply.Sent false) self.now }
+    {
+        matches!(self.phase(number), Some(Phase::Issued))
+    }
+
+    /// How a finish of a job ends that keeps no document, where it does.
+    pub(crate) fn unkept(&self, job: &Job, asked: bool) -> Option<Finish>
+        ensures end { IfSome result (λ end. (document : Option (List ℕ)) → finishes job.now asked document (phase_of job.now.number self.now.jobs) self.now ≡ outcome (Reply.Finish end) self.now) }
+        ensures held { IfNone result (IsSome (phase_of job.now.number self.now.jobs)) }
+        ensures none { IfNone result ((document : Option (List ℕ)) → finishes job.now asked document (phase_of job.now.number self.now.jobs) self.now ≡ outcome (Reply.Finish Kept) (moved job.now.number (Finished document) self.now)) }
+    {
+        match self.phase(job.number) {
+            Some(
+                Phase::Running {
+                    osil: kept_osil,
+                    osol: kept_osol,
+                    marked,
+                },
+            ) => {
+                if job.osil.as_slice() != kept_osil.as_slice()
+                    || job.osol.as_slice() != kept_osol.as_slice()
+                {
+                    Some(Finish::Other)
+                } else if asked && !*marked {
+                    Some(Finish::Unmarked)
+                } else {
+                    None
+                }
+            }
+            Some(phase) => Some(Finish::Stale {
+                state: Some(state_of(phase)),
+            }),
+            None => Some(Finish::Stale { state: None }),
+        }
     }
 
     /// The number of the first job that waits.

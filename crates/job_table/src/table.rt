@@ -61,13 +61,8 @@ impl<V: Verdicts> Table<V> {
     pub fn send(&mut self, number: u64, osil: Twin, osol: Twin) -> bool
         ensures { row_of_move (Call.Send number osil osol) self.old ≡ outcome (Reply.Sent result) self.new }
     {
-        match self.jobs.phase(number) {
-            Some(Phase::Issued) => {}
-            Some(Phase::Waiting { .. }) => return false,
-            Some(Phase::Running { .. }) => return false,
-            Some(Phase::Finished(_)) => return false,
-            Some(Phase::Killed) => return false,
-            None => return false,
+        if !self.jobs.is_new(number) {
+            return false;
         }
         self.jobs.put(number, Phase::Waiting { osil, osol });
         true
@@ -121,33 +116,13 @@ impl<V: Verdicts> Table<V> {
         requires { V.right job.osil job.osol asked document }
         ensures { row_of_move (Call.Finish job asked document) self.old ≡ outcome (Reply.Finish result) self.new }
     {
-        let Job { number, osil, osol } = job;
-        match self.jobs.phase(number) {
-            Some(
-                Phase::Running {
-                    osil: kept_osil,
-                    osol: kept_osol,
-                    marked,
-                },
-            ) => {
-                if osil.as_slice() != kept_osil.as_slice()
-                    || osol.as_slice() != kept_osol.as_slice()
-                {
-                    return Finish::Other;
-                }
-                if asked && !*marked {
-                    return Finish::Unmarked;
-                }
+        match self.jobs.unkept(&job, asked) {
+            Some(end) => end,
+            None => {
+                self.jobs.put(job.number, Phase::Finished(document));
+                Finish::Kept
             }
-            Some(phase) => {
-                return Finish::Stale {
-                    state: Some(state_of(phase)),
-                };
-            }
-            None => return Finish::Stale { state: None },
         }
-        self.jobs.put(number, Phase::Finished(document));
-        Finish::Kept
     }
 
     /// Kills a job that doesn't run yet, asks one that runs to stop, and gives up the record of one that is over. The answer
