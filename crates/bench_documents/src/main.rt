@@ -18,15 +18,29 @@ fn input_of(alloc: Global, input: &mut impl Read) -> io::Result<Vec<u8>> {
     Ok(bytes)
 }
 
+fn tell_at<R: Print>(rt: &R, word: &str, at: u64) -> io::Result<()> {
+    println!(rt; "refused {word} at {at}")
+}
+
+fn tell<R: Print>(rt: &R, words: &str) -> io::Result<()> {
+    println!(rt; "{words}")
+}
+
+fn tell_fault<R: Print>(rt: &R, fault: TreeFault) -> io::Result<()> {
+    match fault {
+        TreeFault::Malformed { at } => tell_at(rt, "Malformed", at),
+        TreeFault::Doctype { at } => tell_at(rt, "Doctype", at),
+        TreeFault::Deep { at } => tell_at(rt, "Deep", at),
+        TreeFault::Encoding => tell(rt, "refused Encoding"),
+        TreeFault::Long => tell(rt, "refused Long"),
+        TreeFault::Memory => tell(rt, "refused for want of memory"),
+    }
+}
+
 fn main(rt: HostRuntime) -> io::Result<()> {
     let bytes = input_of(rt.alloc(), &mut rt.stdin())?;
     match read(rt.alloc(), bytes.as_slice(), MOST) {
-        Ok(_) => println!(rt; "accepted"),
-        Err(TreeFault::Malformed { at }) => println!(rt; "refused Malformed at {at}"),
-        Err(TreeFault::Doctype { at }) => println!(rt; "refused Doctype at {at}"),
-        Err(TreeFault::Deep { at }) => println!(rt; "refused Deep at {at}"),
-        Err(TreeFault::Encoding) => println!(rt; "refused Encoding"),
-        Err(TreeFault::Long) => println!(rt; "refused Long"),
-        Err(TreeFault::Memory) => println!(rt; "refused for want of memory"),
+        Ok(_) => tell(&rt, "accepted"),
+        Err(fault) => tell_fault(&rt, fault),
     }
 }

@@ -10,15 +10,18 @@ mod task;
 
 use std::io;
 
+/// Writes the answer to a line.
+fn answer<R: Print + AllocGlobal>(rt: &R, line: &str) -> io::Result<()> {
+    let Some(task) = task::read(line) else {
+        return println!(rt; "not a task: {line}");
+    };
+    let total = task::run(rt.alloc(), task)?;
+    println!(rt; "{line}: {} wide {}", total.sum, total.wide)
+}
+
 fn main(rt: HostRuntime) -> io::Result<()> {
     for line in rt.lines(rt.alloc()) {
-        let line = line?;
-        let Some(task) = task::read(line.as_str()) else {
-            println!(rt; "not a task: {line}")?;
-            continue;
-        };
-        let total = task::run(rt.alloc(), task)?;
-        println!(rt; "{line}: {} wide {}", total.sum, total.wide)?;
+        answer(&rt, line?.as_str())?;
     }
     Ok(())
 }

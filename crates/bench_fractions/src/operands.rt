@@ -4,7 +4,7 @@ use fraction::Frac;
 use std::alloc::{AllocError, Global};
 
 /// How long numerators and denominators are.
-#[derive(Clone, Copy, PartialEq, Eq, Debug)]
+#[derive(Clone, Copy, PartialEq, Eq)]
 pub enum Digits {
     /// 1 to 3 digits.
     Small,

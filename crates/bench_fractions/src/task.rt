@@ -3,14 +3,14 @@ use fraction::{Frac, Wide};
 use std::alloc::{AllocError, Global};
 
 /// What is done with each pair of operands.
-#[derive(Clone, Copy, PartialEq, Eq, Debug)]
+#[derive(Clone, Copy, PartialEq, Eq)]
 pub enum Operation {
     Sum,
     Product,
 }
 
 /// `count` operands on each side, all pairs of them `rounds` times.
-#[derive(Clone, Copy, PartialEq, Eq, Debug)]
+#[derive(Clone, Copy)]
 pub struct Task {
     digits: Digits,
     operation: Operation,
@@ -19,29 +19,41 @@ pub struct Task {
 }
 
 /// A sum over the results that fit, and the number of those that don't.
-#[derive(Clone, Copy, PartialEq, Eq, Debug)]
+#[derive(Clone, Copy)]
 pub struct Total {
     pub sum: u64,
     pub wide: u64,
 }
 
+fn digits_of(word: &str) -> Option<Digits> {
+    match word {
+        "small" => Some(Digits::Small),
+        "middle" => Some(Digits::Middle),
+        "large" => Some(Digits::Large),
+        "mixed" => Some(Digits::Mixed),
+        _ => None,
+    }
+}
+
+fn operation_of(word: &str) -> Option<Operation> {
+    match word {
+        "sum" => Some(Operation::Sum),
+        "product" => Some(Operation::Product),
+        _ => None,
+    }
+}
+
+fn number_of(word: &str) -> Option<u32> {
+    word.parse::<u32>().ok()
+}
+
 /// The task that a line asks for.
 pub fn read(line: &str) -> Option<Task> {
     let mut words = line.split(' ');
-    let digits = match words.next()? {
-        "small" => Digits::Small,
-        "middle" => Digits::Middle,
-        "large" => Digits::Large,
-        "mixed" => Digits::Mixed,
-        _ => return None,
-    };
-    let operation = match words.next()? {
-        "sum" => Operation::Sum,
-        "product" => Operation::Product,
-        _ => return None,
-    };
-    let count = words.next()?.parse::<u32>().ok()?;
-    let rounds = words.next()?.parse::<u32>().ok()?;
+    let digits = digits_of(words.next()?)?;
+    let operation = operation_of(words.next()?)?;
+    let count = number_of(words.next()?)?;
+    let rounds = number_of(words.next()?)?;
     Some(Task {
         digits,
         operation,

@@ -89,6 +89,34 @@ fn with_parts(
     Ok(Instance::of(vars, list, entries, goal))
 }
 
+/// The same with variables that a text says.
+fn with_vars(
+    alloc: Global,
+    free: &Instance,
+    rows: &[Var],
+    vars: &[u8],
+    goal: (Sense, Frac),
+) -> Result<Option<Instance>, Memory> {
+    match read_vars(alloc, vars)? {
+        Some(vars) => with_parts(alloc, free, rows, vars, goal),
+        None => Ok(None),
+    }
+}
+
+/// The same with ends of rows that a text says.
+fn with_ends(
+    alloc: Global,
+    free: &Instance,
+    row_ends: &[u8],
+    vars: &[u8],
+    goal: (Sense, Frac),
+) -> Result<Option<Instance>, Memory> {
+    match read_vars(alloc, row_ends)? {
+        Some(rows) => with_vars(alloc, free, rows.as_slice(), vars, goal),
+        None => Ok(None),
+    }
+}
+
 /// The program of these rows, their ends, variables, goal and costs, if it is one.
 pub fn read_program(
     alloc: Global,
@@ -98,17 +126,11 @@ pub fn read_program(
     goal: &Vec<u8>,
     costs: &Vec<u8>,
 ) -> Result<Option<Instance>, Memory> {
-    let Some(free) = read_tableau(alloc, rows.as_slice(), costs.as_slice())? else {
-        return Ok(None);
-    };
-    let Some(row_ends) = read_vars(alloc, row_ends.as_slice())? else {
-        return Ok(None);
-    };
-    let Some(vars) = read_vars(alloc, vars.as_slice())? else {
-        return Ok(None);
-    };
     let Some(goal) = read_goal(goal.as_slice()) else {
         return Ok(None);
     };
-    with_parts(alloc, &free, row_ends.as_slice(), vars, goal)
+    match read_tableau(alloc, rows.as_slice(), costs.as_slice())? {
+        Some(free) => with_ends(alloc, &free, row_ends.as_slice(), vars.as_slice(), goal),
+        None => Ok(None),
+    }
 }

@@ -35,6 +35,15 @@ fn size_of(instance: &Instance) -> Size
     Size { width, height }
 }
 
+/// A dictionary with room for the program.
+fn dict_for<L: Ledger>(alloc: Global, instance: &Instance) -> Result<Dict<L>, Memory>
+    ensures width { IfOk result (λ dict. width_of dict ≡ length instance.now.vars) }
+    ensures height { IfOk result (λ dict. height_of dict ≡ length instance.now.rows) }
+{
+    let size = size_of(instance);
+    Dict::with_size(alloc, size.width, size.height)
+}
+
 fn load<L: Ledger>(dict: &mut Dict<L>, instance: &Instance, factor: i8, steps: &mut Steps<L>)
     requires width { width_of dict.old ≡ length instance.now.vars }
     requires height { height_of dict.old ≡ length instance.now.rows }
@@ -126,6 +135,29 @@ fn put_turned(text: &mut Text, word: &[u8], count: usize) -> Result<(), Memory> 
     text.extend(b" then ")
 }
 
+/// Puts what a dictionary with room for the program says after the exchanges.
+fn put_exchanged<L: Ledger>(
+    text: &mut Text,
+    dict: &mut Dict<L>,
+    instance: &Instance,
+    factor: i8,
+    turns: &[Exchange],
+    steps: &mut Steps<L>,
+) -> Result<(), Memory>
+    requires width { width_of dict.old ≡ length instance.now.vars }
+    requires height { height_of dict.old ≡ length instance.now.rows }
+{
+    match turn_often(dict, instance, factor, turns, 1, steps) {
+        Turned::All => {}
+        Turned::Never(count) => put_turned(text, b"none at ", count)?,
+        Turned::Wide(count) => {
+            put_turned(text, b"wide at ", count)?;
+            load(dict, instance, factor, steps);
+        }
+    }
+    put_dictionary(text, dict, size_of(instance), steps)
+}
+
 fn tell_turned_by<L: Ledger>(
     alloc: Global,
     instance: &Instance,
@@ -137,19 +169,10 @@ fn tell_turned_by<L: Ledger>(
     requires parts { blank.parts ≡ L.parts }
     requires some { 0 < blank.parts }
 {
-    let size = size_of(instance);
     let mut steps = Steps::<L>::new(blank);
-    let mut dict = Dict::with_size(alloc, size.width, size.height)?;
+    let mut dict = dict_for(alloc, instance)?;
     let mut text = Text::new(alloc);
-    match turn_often(&mut dict, instance, factor, turns, 1, &mut steps) {
-        Turned::All => {}
-        Turned::Never(count) => put_turned(&mut text, b"none at ", count)?,
-        Turned::Wide(count) => {
-            put_turned(&mut text, b"wide at ", count)?;
-            load(&mut dict, instance, factor, &mut steps);
-        }
-    }
-    put_dictionary(&mut text, &dict, size, &mut steps)?;
+    put_exchanged(&mut text, &mut dict, instance, factor, turns, &mut steps)?;
     Ok(text)
 }
 
@@ -205,6 +228,26 @@ fn put_values<L: Ledger>(
     Ok(())
 }
 
+/// Puts the values of the basic columns, where the first columns have these.
+fn put_placed<L: Ledger>(
+    alloc: Global,
+    text: &mut Text,
+    dict: &Dict<L>,
+    size: Size,
+    values: &[Frac],
+    steps: &mut Steps<L>,
+) -> Result<(), Memory>
+    requires loaded { IsLoaded dict.now }
+    requires width { width_of dict.now ≡ size.width }
+    requires height { height_of dict.now ≡ size.height }
+{
+    if values.len() < (size.width + size.height) as usize {
+        return text.extend(b"too few values");
+    }
+    let places = read_places(alloc, values)?;
+    put_values(text, dict, size, &places, steps)
+}
+
 fn tell_values_by<L: Ledger>(
     alloc: Global,
     instance: &Instance,
@@ -217,16 +260,11 @@ fn tell_values_by<L: Ledger>(
     requires parts { blank.parts ≡ L.parts }
     requires some { 0 < blank.parts }
 {
-    let size = size_of(instance);
-    if values.len() < (size.width + size.height) as usize {
-        return Text::from_slice(alloc, b"too few values");
-    }
     let mut steps = Steps::<L>::new(blank);
-    let mut dict = Dict::with_size(alloc, size.width, size.height)?;
-    let places = read_places(alloc, values)?;
+    let mut dict = dict_for(alloc, instance)?;
     let mut text = Text::new(alloc);
     match turn_often(&mut dict, instance, factor, turns, 1, &mut steps) {
-        Turned::All => put_values(&mut text, &dict, size, &places, &mut steps)?,
+        Turned::All => put_placed(alloc, &mut text, &dict, size_of(instance), values, &mut steps)?,
         _ => text.extend(b"not turned")?,
     }
     Ok(text)
@@ -255,12 +293,11 @@ fn tell_goal_by<L: Ledger>(
     requires parts { blank.parts ≡ L.parts }
     requires some { 0 < blank.parts }
 {
-    let size = size_of(instance);
     let mut steps = Steps::<L>::new(blank);
-    let mut dict = Dict::with_size(alloc, size.width, size.height)?;
+    let mut dict = dict_for(alloc, instance)?;
     let mut text = Text::new(alloc);
     match turn_often(&mut dict, instance, factor, turns, rounds, &mut steps) {
-        Turned::All => put_goal(&mut text, &dict, size, &mut steps)?,
+        Turned::All => put_goal(&mut text, &dict, size_of(instance), &mut steps)?,
         _ => text.extend(b"not turned")?,
     }
     Ok(text)
