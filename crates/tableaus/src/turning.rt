@@ -264,7 +264,14 @@ fn tell_values_by<L: Ledger>(
     let mut dict = dict_for(alloc, instance)?;
     let mut text = Text::new(alloc);
     match turn_often(&mut dict, instance, factor, turns, 1, &mut steps) {
-        Turned::All => put_placed(alloc, &mut text, &dict, size_of(instance), values, &mut steps)?,
+        Turned::All => put_placed(
+            alloc,
+            &mut text,
+            &dict,
+            size_of(instance),
+            values,
+            &mut steps,
+        )?,
         _ => text.extend(b"not turned")?,
     }
     Ok(text)
