@@ -3,7 +3,7 @@
 cd "$(dirname "$0")/.." || exit 1
 status=0
 for file in examples/*.os?l; do
-    for cases in try_claims try_solves; do
+    for cases in try_claims try_runs; do
         cmp "$file" "crates/$cases/data/${file#examples/}" || status=1
     done
 done

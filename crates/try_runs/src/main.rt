@@ -1,35 +1,22 @@
-//! Tables of runs: what the program answers and writes, by its words, its input, its files and its links, and where one of
-//! them fails.
+//! Tables over the whole program: what its runs answer and write, by their words, their input, their files and their links; jobs in files,
+//! solved and checked; and runs in which each outside call fails, one after another.
 //!
-//! The answers come from the rules (`docs/rules/`, and the README's table of statuses). The output is a line for each
-//! answer that is another, and how many cases there are.
+//! The answers come from the rules (`docs/rules/`, and the README's table of statuses), by hand; those of the examples are the results that
+//! stand beside them in `examples/`, of which the files here are copies (`tools/examples.sh`). The output is a line for each answer that is
+//! another, and how many cases there are.
 #![tactic(auto)]
 
-mod ends;
-mod running;
+mod faults;
+mod runs;
+mod solves;
 
-use cases::{Tables, compare, gather};
-use os_io::DiskFiles;
-use running::{Kind, World};
+use cases::Tables;
 use std::io;
 
-/// The tables, and what each gives in a case.
-const TABLES: [(&str, Kind); 4] = [
-    ("runs.txt", Kind::Runs),
-    ("words.txt", Kind::Words),
-    ("reads.txt", Kind::EveryRead),
-    ("links.txt", Kind::Linked),
-];
-
 fn main(rt: HostRuntime) -> io::Result<()> {
-    let alloc = rt.alloc();
-    let mut files = DiskFiles::new(&rt);
     let mut tables = Tables::new(&rt);
-    let mut world = World::new(&rt, DiskFiles::new(&rt));
-    for (name, kind) in TABLES {
-        let rows = gather(alloc, name, &mut files)?;
-        let answers = world.answers(alloc, kind, rows.as_slice())?;
-        compare(&mut tables, name, answers)?;
-    }
+    runs::try_tables(&rt, &mut tables)?;
+    solves::try_tables(&rt, &mut tables)?;
+    faults::try_tables(&rt, &mut tables)?;
     tables.tell_count()
 }

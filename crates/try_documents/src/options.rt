@@ -1,0 +1,46 @@
+//! Options documents (`docs/rules/options.md`).
+
+use cases::{DocumentCases, Documents};
+use itoa::Buffer;
+use os_io::{Memory, Text};
+use osol_grammar::{Options, OsolFault, decode, encode, refusal_text};
+use std::alloc::Global;
+
+/// Options documents.
+#[derive(Drop)]
+pub(crate) struct Osol;
+
+/// Appends a word and a number.
+fn put_amount(text: &mut Text, word: &[u8], amount: u32) -> Result<(), Memory> {
+    text.extend(word)?;
+    text.extend(Buffer::new().format(amount).as_bytes())
+}
+
+impl Documents for Osol {
+    type Said = Options;
+
+    type Fault = OsolFault;
+
+    fn decode(&self, alloc: Global, document: &[u8]) -> Result<Options, OsolFault> {
+        decode(alloc, document)
+    }
+
+    fn refuse(&self, alloc: Global, fault: &OsolFault) -> Result<Text, Memory> {
+        refusal_text(alloc, *fault)
+    }
+
+    fn tell(&self, alloc: Global, options: &Options) -> Result<Text, Memory> {
+        let mut text = Text::new(alloc);
+        put_amount(&mut text, b"nodes ", options.nodes)?;
+        put_amount(&mut text, b" turns ", options.turns)?;
+        if let Some(job) = &options.job {
+            text.extend(b" job ")?;
+            text.extend(job.as_slice())?;
+        }
+        Ok(text)
+    }
+
+    fn encode(&self, alloc: Global, options: &Options) -> Result<Text, Memory> {
+        encode(alloc, options)
+    }
+}

@@ -1,0 +1,62 @@
+//! Searches: what is claimed, with its certificate, after how many turns and looks (`docs/rules/search.md`), by hand: each case's run, split and
+//! bound.
+
+mod reading;
+mod telling;
+
+ghost use Rattle.std.specs.Prelude.{◌≡◌, ◌<◌};
+
+use cases::Answers;
+use dictionary::Steps;
+use os_io::{MemWatch, Memory, Text};
+use reading::{Case, read_case};
+use std::alloc::Global;
+use std::marker::Brand;
+use std::sync::ledger::{Blank, Ledger};
+use tableaus::put_count;
+use telling::put_claim;
+
+/// Given the rows, their ends, the variables, the goal, the costs, and the limits with the looks that stop.
+#[derive(Drop)]
+pub(crate) struct Searches;
+
+/// What is claimed of a case, as a copy of the claim has it, the turns done then, and the looks.
+fn tell<L: Ledger>(alloc: Global, case: Case, blank: Blank) -> Result<Text, Memory>
+    requires name { blank.name ≡ L.name }
+    requires parts { blank.parts ≡ L.parts }
+    requires some { 0 < blank.parts }
+{
+    let mut steps = Steps::<L>::new(blank);
+    let mut watch = MemWatch::new(alloc, case.stops.as_slice())?;
+    let found = branch_bound::search(
+        alloc,
+        &case.instance,
+        case.nodes,
+        case.turns,
+        &mut watch,
+        &mut steps,
+    );
+    let copy = found.claim.try_copy(alloc)?;
+    let mut text = Text::new(alloc);
+    put_claim(&mut text, &copy)?;
+    text.extend(b" after ")?;
+    put_count(&mut text, found.turns)?;
+    text.extend(b" with ")?;
+    put_count(&mut text, watch.looks())?;
+    text.extend(b" looks")?;
+    Ok(text)
+}
+
+/// What is claimed of a case, as a text.
+fn tell_search(alloc: Global, case: Case) -> Result<Text, Memory> {
+    tell::<Brand>(alloc, case, Blank::new(1))
+}
+
+impl Answers for Searches {
+    fn answer(&mut self, alloc: Global, given: &[Vec<u8>]) -> Result<Text, Memory> {
+        match read_case(alloc, given)? {
+            Some(case) => tell_search(alloc, case),
+            None => Text::from_slice(alloc, b"no case"),
+        }
+    }
+}
