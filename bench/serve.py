@@ -8,7 +8,7 @@ A server is begun anew for each row. As the table is full at 10,000 jobs, each `
 that was issued before: its rows count all three, and nginx answers each alike. What wrk does with answers in Lua would make it the
 slowest of all, so it looks at none but their statuses.
 
-A search asks the table whether it is to stop before each of its turns. What that costs is the processor time of the thread that runs it,
+A search asks the table whether it is to stop before each case and behind every 64th turn. What that costs is the processor time of the thread that runs it,
 beside that of `solve`, which has no table.
 """
 
