@@ -2,9 +2,7 @@
 second, beside others that must be answered as quickly as without it; clients that keep the server waiting, and more clients than it has
 seats (`waiting_clients.py`).
 
-    python3 tools/serve_clients.py [CALLS]     so many calls of 64 clients, 25,600 where none are asked for; of
-                                               many more, on a quick machine, so many may be under way at once that
-                                               the search for their order gives up
+    python3 tools/serve_clients.py [CALLS]     so many calls of 64 clients, 100,000 where none are asked for
 """
 
 import hashlib
@@ -358,7 +356,7 @@ def slow_holds_one_thread():
 
 
 def main():
-    calls = int(sys.argv[1]) if len(sys.argv) > 1 else 25_600
+    calls = int(sys.argv[1]) if len(sys.argv) > 1 else 100_000
     good = [by_curl(count) for count in (1, 8, 64)] + [by_wrk(count) for count in (1, 8, 64)]
     good += [slow_holds_one_thread(), waiting_clients.main()]
     with tempfile.TemporaryDirectory() as folder:
