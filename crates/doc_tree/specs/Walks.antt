@@ -1,5 +1,6 @@
 -- Bytes that the machine takes together, as the steps over them one by one.
 use Rattle.std.specs.Prelude.{◌≡◌, ◌≢◌, ◌≤◌, ◌<◌, ℕ, Bool, false, List, [], ◌∷◌, ◌++◌}
+use Rattle.tree_grammar.specs.Tags.{IsQuote}
 use Rattle.doc_tree.specs.Completions.{State, RestsAt, FollowsByte}
 
 -- a byte of ASCII that is no control character: a character by itself, and no line end
@@ -23,6 +24,10 @@ IsPlainText b = (32 ≤ b) × (b < 128) × (b ≢ 60) × (b ≢ 38) × (b ≢ 93
 -- a character that stands for itself in a value between such quotes (production 10)
 abbrev pub IsPlainValue : ℕ → ℕ → Type 0
 IsPlainValue quote b = (32 < b) × (b < 128) × (b ≢ quote) × (b ≢ 60) × (b ≢ 38)
+
+-- `=` and a quote stand first.
+abbrev pub IsQuoted : List ℕ → Type 0
+IsQuoted bytes = (quote : ℕ) × (more : List ℕ) × IsQuote quote × (bytes ≡ 61 ∷ quote ∷ more)
 
 -- The name stands first, and `>` behind it.
 abbrev pub IsClosed : List ℕ → List ℕ → Type 0

@@ -1,7 +1,7 @@
 -- The bytes that a walk takes, as pieces of those that there are.
-use Rattle.std.proofs.Common.{◌≡◌, ◌≢◌, ℕ, ◌+◌, ◌-◌, ◌<◌, ◌≤◌, Bool, false, List, [], ◌∷◌, ◌++◌, length, map, reverse, take, get_or, suc, refl, ap, sym, ◌∙◌, subst, arith, append_assoc, length-append}
-use Rattle.std.proofs.lemmas.List.{take_more, length-reverse, length-map}
-use Rattle.std.proofs.Math.Seq.{take-append_seam}
+use Rattle.std.proofs.Common.{◌≡◌, ◌≢◌, ℕ, ◌+◌, ◌-◌, ◌<◌, ◌≤◌, Bool, false, List, [], ◌∷◌, ◌++◌, length, map, reverse, take, drop, get_or, suc, refl, ap, sym, ◌∙◌, subst, arith, append_assoc, length-append}
+use Rattle.std.proofs.lemmas.List.{take_rest, get_or-drop, take_more, length-reverse, length-map}
+use Rattle.std.proofs.Math.Seq.{take-append_seam, take-add}
 use Rattle.tree_grammar.specs.Characters.{Each, IsNameStart, IsNameChar, IsName}
 use Rattle.doc_tree.specs.Walks.{returned_behind}
 use Rattle.doc_tree.proofs.MachineSteps.FieldValues.{each_more}
@@ -48,3 +48,9 @@ returned_some n bytes returned m l = some_returned (take n bytes) returned (some
 -- so many elements are open
 pub open_few : {A : Type 0} (f : A → List ℕ) (xs : List A) → length xs < 32 → length (reverse (map f xs)) < 32
 open_few f xs l = omega (arith, length-reverse (map f xs), length-map xs f)
+
+-- a name with `=` and a quote behind it
+pub quoted_taken : (n d : ℕ) (bytes : List ℕ) (quote : ℕ) (more : List ℕ) → take (length bytes - n) (drop n bytes) ≡ 61 ∷ quote ∷ more → (take (n + 2) bytes ≡ take n bytes ++ (61 ∷ quote ∷ [])) × (get_or bytes (n + 1) d ≡ quote)
+quoted_taken n d bytes quote more e =
+    let rest : drop n bytes ≡ 61 ∷ quote ∷ more = sym (take_rest bytes n) ∙ e in
+    (take-add n 2 bytes ∙ ap (λ z. take n bytes ++ take 2 z) rest, sym (get_or-drop n bytes 1 d) ∙ ap (λ z. get_or z 1 d) rest)

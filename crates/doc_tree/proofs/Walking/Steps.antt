@@ -1,24 +1,25 @@
 -- What the machine takes together, step by step.
-use Rattle.std.proofs.Common.{◌≡◌, ◌≢◌, ℕ, ◌+◌, ◌<◌, ◌≤◌, List, [], ◌∷◌, ◌++◌, length, map, take, drop, true, nat_eq, IsTrue, ◌↔◌, take-append-drop, refl, ap, sym, ◌∙◌, subst, arith, inl, inr, append_assoc, append-nil}
+use Rattle.std.proofs.Common.{◌≡◌, ◌≢◌, ℕ, ◌+◌, ◌-◌, ◌<◌, ◌≤◌, List, [], ◌∷◌, ◌++◌, length, map, take, drop, get_or, true, nat_eq, IsTrue, ◌↔◌, take-append-drop, refl, ap, sym, ◌∙◌, subst, arith, inl, inr, append_assoc, append-nil}
 use Rattle.std.specs.Cmp.{unsigned_Decides}
 use Rattle.std.specs.Cmp.Lexicographic.{pointwise}
 use Rattle.std.proofs.lemmas.Slice.Eq.{slice_eq-Decides}
 use Rattle.tree_grammar.specs.Characters.{IsSpace, IsNameStart, IsNameChar, IsName, Each, local_part}
+use Rattle.tree_grammar.specs.Tags.{IsQuote, IsAmong}
 use Rattle.tree_grammar.specs.Content.{brackets}
 use Rattle.tree_grammar.specs.Elements.{Attribute}
 use Rattle.doc_tree.specs.Marks.{Mark, Char, Finish}
 use Rattle.doc_tree.specs.Rests.{Terms, TagFirst, Between, IsNameRest}
-use Rattle.doc_tree.specs.Completions.{State, RestsAt, Good, GoodTag, InElement, InBody, IsPrintable, FollowsByte, ReachesState}
-use Rattle.doc_tree.specs.Walks.{Walks, IsPlainText, IsPlainValue}
+use Rattle.doc_tree.specs.Completions.{State, BehindKey, RestsAt, Good, GoodTag, InElement, InBody, IsPrintable, FollowsByte, ReachesState}
+use Rattle.doc_tree.specs.Walks.{Walks, IsQuoted, IsPlainText, IsPlainValue}
 use Rattle.doc_tree.specs.declared.names.Part.TheVariants as parts
 use Rattle.doc_tree.specs.declared.machine.Goal.TheVariants as goals
 use Rattle.doc_tree.specs.declared.machine.Place.TheVariants as places
 use Rattle.doc_tree.proofs.ByteGrammar.Contents.{content_less}
 use Rattle.doc_tree.proofs.ByteGrammar.Tags.{tag_plain}
 use Rattle.doc_tree.proofs.MachineSteps.Moves.{moves, follows_from}
-use Rattle.doc_tree.proofs.MachineSteps.Steps.{at_place, content_said, content_tag_any, tag_begun, end_moves}
-use Rattle.doc_tree.proofs.MachineSteps.TagSteps.{tag_more, tag_named, end_over, value_said}
-use Rattle.doc_tree.proofs.Walking.Pieces.{take_cons}
+use Rattle.doc_tree.proofs.MachineSteps.Steps.{quote_goes, at_place, content_said, content_tag_any, tag_begun, end_moves}
+use Rattle.doc_tree.proofs.MachineSteps.TagSteps.{key_begins, key_more, key_named, key_equals, tag_more, tag_named, end_over, value_said}
+use Rattle.doc_tree.proofs.Walking.Pieces.{take_cons, quoted_taken}
 use Rattle.doc_tree.proofs.MachineSteps.WholeParts.{word_goes, word_reaches, reach_place}
 use Rattle.doc_tree.proofs.Viability.Printables.{first_printable}
 
@@ -169,3 +170,51 @@ behind_prefix xs name rest more b e f g h =
     let n : take (length name) xs ≡ name = (slice_eq-Decides unsigned_Decides (take (length name) xs) name true (sym e)).0 refl in
     let m : b ≡ 62 = (unsigned_Decides b 62).0 h in
     sym (take-append-drop (length name) xs) ∙ ap (λ z. z ++ drop (length name) xs) n ∙ ap (λ z. name ++ z) (sym f ∙ g ∙ ap (λ z. z ∷ more) m)
+
+-- an attribute's name, with `=` and the quote behind it
+abbrev keyed : State → List ℕ → State
+keyed s key = record s { key = key; part = parts.First; place = places.Key }
+
+keys_walk : (s : State) (key chars : List ℕ) → GoodTag s → Each IsNameChar chars → Walks (keyed s key) chars (keyed s (key ++ chars))
+keys_walk s key [] g i = ap (keyed s) (append-nil key)
+keys_walk s key (b ∷ chars) g (i, more) =
+    let mid : State = keyed s (key ++ b ∷ []) in
+    let r = char_range b i in
+    (mid, (r.0, r.1), key_more (keyed s key) b (key ++ b ∷ []) parts.First refl refl g (λ run. name_goes b run i r.2), subst (Walks mid chars) (ap (keyed s) (append_assoc key (b ∷ []) chars)) (keys_walk s (key ++ b ∷ []) chars g more))
+
+abbrev equal : State → State
+equal m = record m { place = places.KeyQuote }
+
+abbrev valued : State → List ℕ → ℕ → State
+valued s key quote = record s { key = key; part = parts.First; quote = quote; value = []; place = places.Value }
+
+quote_range : (q : ℕ) → IsQuote q → (32 ≤ q) × (q < 128)
+quote_range q (inl e) = (omega arith, omega arith)
+quote_range q (inr e) = (omega arith, omega arith)
+
+equals_stops : (run : List ℕ) → IsNameRest parts.First (61 ∷ run) → ⊥
+equals_stops run (inl p) = elim p.0 [ inl i ↦ (let (a, c) = start_range 61 i in absurd (omega arith)) | inr (inl (a, c)) ↦ absurd (omega arith) | inr (inr (inl e)) ↦ absurd (omega arith) | inr (inr (inr e)) ↦ absurd (omega arith) ]
+equals_stops run (inr p) = let e = p.0 in absurd (omega arith)
+
+quoted_walks : (s : State) (key : List ℕ) (quote : ℕ) → GoodTag s → (IsAmong key s.keys → ⊥) → IsQuote quote → Walks (keyed s key) (61 ∷ quote ∷ []) (valued s key quote)
+quoted_walks s key quote g n i =
+    let m : State = keyed s key in
+    let e = follows_from m.marks (RestsAt places.Key m) (BehindKey m) 61 (equal m) (λ u d x es. key_named u m 61 x es (λ c. absurd (cc)) equals_stops) (key_equals m 61 refl g n) in
+    (equal m, (omega arith, omega arith), e, (valued s key quote, quote_range quote i, quote_goes (equal m) places.Value quote [] (inr (refl, refl, n, g)) i refl, refl))
+
+key_walks : (s : State) (name : List ℕ) (quote : ℕ) → s.place ≡ places.TagSpace → GoodTag s → IsName name → (IsAmong name s.keys → ⊥) → IsQuote quote → Walks s (name ++ (61 ∷ quote ∷ [])) (valued s name quote)
+key_walks s [] quote p g i n q = absurd i
+key_walks s (b ∷ chars) quote p g (i, more) n q =
+    let r = start_range b i in
+    let f = from_place s b (keyed s (b ∷ [])) places.TagSpace p (key_begins s b (b ∷ []) refl g (no_space b (omega arith)) i) in
+    (keyed s (b ∷ []), (omega arith, omega arith), f, walks_both (keyed s (b ∷ [])) (keyed s (b ∷ chars)) (valued s (b ∷ chars) quote) chars (61 ∷ quote ∷ []) (keys_walk s (b ∷ []) chars g more) (quoted_walks s (b ∷ chars) quote g n q))
+
+-- the same where the state's parts are known by equations
+pub attribute_walks : (s : State) (n d : ℕ) (bytes key value : List ℕ) (quote : ℕ) (keys : List (List ℕ)) → s.place ≡ places.TagSpace → GoodTag s → IsName (take n bytes) → (IsAmong (take n bytes) s.keys → ⊥) → IsQuoted (take (length bytes - n) (drop n bytes)) → keys ≡ s.keys → key ≡ take n bytes → value ≡ [] → quote ≡ get_or bytes (n + 1) d → Walks s (take (n + 2) bytes) (record s { keys = keys; key = key; part = parts.First; quote = quote; value = value; place = places.Value })
+attribute_walks s n d bytes key value quote keys p g i m (q, more, is, text) k e f h =
+    let (first, second) = quoted_taken n d bytes q more text in
+    subst (λ z. Walks s (take (n + 2) bytes) (record s { keys = z; key = key; part = parts.First; quote = quote; value = value; place = places.Value })) (sym k)
+    (subst (λ z. Walks s (take (n + 2) bytes) (record s { key = z; part = parts.First; quote = quote; value = value; place = places.Value })) (sym e)
+    (subst (λ z. Walks s (take (n + 2) bytes) (record s { key = take n bytes; part = parts.First; quote = quote; value = z; place = places.Value })) (sym f)
+    (subst (λ z. Walks s (take (n + 2) bytes) (valued s (take n bytes) z)) (sym (h ∙ second))
+    (subst (λ z. Walks s z (valued s (take n bytes) q)) (sym first) (key_walks s (take n bytes) q p g i m is)))))

@@ -3,10 +3,10 @@
 ghost use Rattle.std.specs.Prelude.{◌≡◌, ◌≤◌, ◌<◌, ◌+◌, ◌∷◌, ◌↔◌, IsTrue, IfOk, length, take};
 ghost use Rattle.tree_grammar.specs.Characters.{Each, IsName, IsNameChar};
 ghost use Rattle.doc_tree.specs.Completions.{view, Good};
-ghost use Rattle.doc_tree.specs.Walks.{Walks, IsPlainText, IsPlainValue, IsEndTag, IsClosed};
+ghost use Rattle.doc_tree.specs.Walks.{Walks, IsPlainText, IsPlainValue, IsQuoted, IsEndTag, IsClosed};
 
 use super::{Machine, Place, refill};
-use crate::names::{Part, is_name_char, is_name_start, local_part};
+use crate::names::{Part, is_name_char, is_name_start, is_quote, local_part};
 use std::alloc::AllocError;
 use tree_grammar::DEPTH;
 
@@ -80,6 +80,16 @@ fn name_length(bytes: &[u8]) -> usize
     }
 }
 
+/// Whether `=` and a quote stand first.
+fn is_quoted(bytes: &[u8]) -> bool
+    ensures { IsTrue result → IsQuoted bytes.now }
+{
+    if bytes.len() < 2 {
+        return false;
+    }
+    bytes[0] == b'=' && is_quote(bytes[1])
+}
+
 /// Whether this name stands first, and `>` behind it.
 fn is_closed(bytes: &[u8], name: &[u8]) -> bool
     ensures { IsTrue result → IsClosed name.now bytes.now }
@@ -102,9 +112,35 @@ impl Machine {
     {
         match self.place {
             Place::Content => self.content_walk(bytes),
+            Place::TagSpace => self.key_walk(bytes),
             Place::Value => self.value_walk(bytes),
             _ => Ok(0),
         }
+    }
+
+    /// Takes an attribute's name that is new, with `=` and the quote behind it.
+    fn key_walk(&mut self, bytes: &[u8]) -> Result<usize, AllocError>
+        requires place { self.old.place ≡ Place.TagSpace }
+        requires good { Good Place.TagSpace (view self.old) }
+        ensures within { IfOk result (λ n. n ≤ length bytes.now) }
+        ensures walks { IfOk result (λ n. Walks (view self.old) (take n bytes.now) (view self.new)) }
+    {
+        let length = name_length(bytes);
+        if length == 0 {
+            return Ok(0);
+        }
+        if !is_quoted(&bytes[length..]) {
+            return Ok(0);
+        }
+        if self.keys.holds(&bytes[..length])? {
+            return Ok(0);
+        }
+        refill(&mut self.key, &bytes[..length])?;
+        self.part = Part::First;
+        self.quote = bytes[length + 1];
+        self.value.clear();
+        self.place = Place::Value;
+        Ok(length + 2)
     }
 
     /// Takes characters of a value.
