@@ -3,7 +3,7 @@
     python3 tools/os_build.py ROOM TIMES
 
 The room has crates.txt, HANDLES and crates/; TIMES is a text with a table of seconds for each crate. As many processors as there are
-work at once: a crate that no other waits beside gets several. A check holds the folders of all crates below it, so each runs in a cell,
+work at once: a crate that no other waits beside gets several, and one whose chain is the longest too. A check holds the folders of all crates below it, so each runs in a cell,
 which has its crate and what was proved of those below. A line `== NAME` is printed for each crate that is proved; what is proved stays
 in the room, and isn't proved again. The status is 0 where all are."""
 
@@ -18,6 +18,7 @@ import sys
 
 SECONDS = 60  # of a crate that the table doesn't have
 MOST_JOBS = 4  # more gain nothing in one crate
+LONG_JOBS = 2  # of a crate whose chain takes longer than all that is left would on all processors
 ONE_CHECK = 3 << 30  # the memory of one
 RUNNING = set()
 
@@ -151,10 +152,12 @@ def main(room, times):
         while left or running:
             ready = sorted((it for it in left if below[it] <= done), key=lambda it: -behind[it])
             idle = lanes - sum(jobs for _, jobs in running.values())
+            rest = sum(seconds.get(it, SECONDS) for it in [*left, *(name for name, _ in running.values())])
             for at, name in enumerate(ready):
                 if idle <= 0:
                     break
-                jobs = max(1, min(MOST_JOBS, idle // (len(ready) - at)))
+                least = LONG_JOBS if behind[name] * lanes >= rest else 1
+                jobs = max(least, min(MOST_JOBS, idle // (len(ready) - at)))
                 idle -= jobs
                 left.discard(name)
                 running[pool.submit(prove, room, name, digest[name], lines, below[name], jobs)] = name, jobs
