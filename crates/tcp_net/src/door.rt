@@ -25,7 +25,8 @@ const WANTS: [i32; 4] = [12, 23, 24, 105];
 #[derive(Drop)]
 pub(crate) struct Door {
     listener: TcpListener,
-    /// Raised when an accept begins to wait for a connection, and when it ceases to: odd meanwhile.
+    /// Raised when an accept begins to wait for a connection, and when it ceases to: odd meanwhile. Raised by both at once where one
+    /// waits already.
     turn: AtomicU64,
     /// Whether whoever accepts waits until it can.
     is_short: AtomicBool,
@@ -60,6 +61,7 @@ impl Door {
                 return Ok(stream);
             }
             if let Some(stream) = self.waiting()? {
+                self.turn.fetch_add(2, SeqCst);
                 return Ok(stream);
             }
             self.turn.fetch_add(1, SeqCst);
@@ -81,8 +83,8 @@ impl Door {
         }
     }
 
-    /// Takes a connection that waits, for the next accept, where no accept has waited since it was this turn: whether a link makes
-    /// room by ending. So it does too where whoever accepts is short of what it needs.
+    /// Takes a connection that waits, for the next accept, where no accept has waited, or taken another that waited, since it was this
+    /// turn: whether a link makes room by ending. So it does too where whoever accepts is short of what it needs.
     pub(crate) fn takes_one<W: Wait>(&self, rt: &W, turn: u64) -> bool {
         let mut taken = self.taken.lock(rt);
         if turn % 2 == 1 || turn != self.turn() || taken.reserve(1).is_err() {

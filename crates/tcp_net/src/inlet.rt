@@ -1,4 +1,5 @@
 //! What is read of a socket, and how long it is waited for.
+ghost use Rattle.std.specs.Prelude.{IfSome};
 ghost use Rattle.std.specs.Io.{ReadsAtMost};
 
 use crate::door::Door;
@@ -9,8 +10,11 @@ use std::net::{Shutdown, TcpStream};
 use std::sync::{Arc, Wait};
 use std::time::{Clock, Duration, Instant};
 
-/// How many seconds one call of the system waits for the peer. Behind each it is looked whether others wait for a seat.
+/// How many seconds one call of the system waits for the peer. Behind each an idle link looks whether others wait for a seat.
 const WAIT: u64 = 1;
+
+/// For how many milliseconds nobody accepts while a connection waits, where all seats are held to be taken.
+const LOOK: u64 = 100;
 
 /// How many times its patience a link may take for one request.
 const MOST_WAITS: u64 = 10;
@@ -68,20 +72,46 @@ impl<R: Clock + Wait> Pace<R> {
             if self.is_late() {
                 break;
             }
-            let turn = self.door.turn();
-            match read_once(socket, buf) {
-                Err(error) if was_in_vain(error.kind()) => {}
-                answer => {
-                    self.note(&answer);
-                    return answer;
-                }
+            if let Some(answer) = self.wait(socket, buf) {
+                return answer;
             }
-            if self.makes_room(turn) {
+            // While nobody accepts, someone may be about to: then a seat is free, and no link has to end.
+            let turn = self.door.turn();
+            if turn % 2 == 1 || self.begun.is_some() || self.is_given_up {
+                continue;
+            }
+            if let Some(answer) = self.wait_shortly(socket, buf) {
+                return answer;
+            }
+            if self.door.takes_one(&self.clock, turn) {
                 break;
             }
         }
         self.is_given_up = true;
         Err(io::Error::from(ErrorKind::TimedOut))
+    }
+
+    /// Reads by one call of the system. None where it waited in vain.
+    fn wait(&mut self, socket: &TcpStream, buf: &mut [u8]) -> Option<io::Result<usize>>
+        ensures { IfSome result (λ answer. ReadsAtMost answer buf.new) }
+    {
+        match read_once(socket, buf) {
+            Err(error) if was_in_vain(error.kind()) => None,
+            answer => {
+                self.note(&answer);
+                Some(answer)
+            }
+        }
+    }
+
+    /// The same, for a shorter time.
+    fn wait_shortly(&mut self, socket: &TcpStream, buf: &mut [u8]) -> Option<io::Result<usize>>
+        ensures { IfSome result (λ answer. ReadsAtMost answer buf.new) }
+    {
+        let _ = socket.set_read_timeout(Some(Duration::from_millis(LOOK)));
+        let answer = self.wait(socket, buf);
+        let _ = socket.set_read_timeout(Some(Duration::from_secs(WAIT)));
+        answer
     }
 
     /// Whether the link has only read for too long.
@@ -98,11 +128,6 @@ impl<R: Clock + Wait> Pace<R> {
         if self.begun.is_none() && answer.as_ref().is_ok_and(|n| *n > 0) {
             self.begun = Instant::now(&self.clock).ok();
         }
-    }
-
-    /// Whether the link is idle, others wait, and it ends for one of them. It does so once.
-    fn makes_room(&self, turn: u64) -> bool {
-        self.begun.is_none() && !self.is_given_up && self.door.takes_one(&self.clock, turn)
     }
 }
 
