@@ -55,13 +55,16 @@ function request()
 end
 """
 
-# What isn't 200 is told behind wrk's own summary, with the times in microseconds.
+WRONG = ("not connected", "not read", "not written", "not answered within two seconds", "not answered 200")
+
+# What went wrong is told behind wrk's own summary, by its kind, and the times in microseconds.
 TELL = """
 function done(summary, latency, requests)
     local errors = summary.errors
-    local wrong = errors.connect + errors.read + errors.write + errors.status + errors.timeout
+    local wrong = {errors.connect, errors.read, errors.write, errors.timeout, errors.status}
     local times = {latency:percentile(50), latency:percentile(99), latency.max}
-    io.write(string.format("told %d %d %f %f %f %f\\n", summary.requests, wrong, summary.duration / 1e6, unpack(times)))
+    io.write(string.format("wrong %d %d %d %d %d\\n", unpack(wrong)))
+    io.write(string.format("told %d %f %f %f %f\\n", summary.requests, summary.duration / 1e6, unpack(times)))
 end
 """
 
@@ -119,9 +122,10 @@ def by_wrk(script, port, connections):
             it.write(script)
         words = ["wrk", "-t", "1", "-c", str(connections), "-d", f"{SECONDS}s", "-s", f"{folder}/lua", f"http://127.0.0.1:{port}/os"]
         out = subprocess.run(words, capture_output=True, text=True, check=True).stdout
-    requests, wrong, seconds, *times = (float(it) for it in re.search(r"told (.*)", out).group(1).split())
+    requests, seconds, *times = (float(it) for it in re.search(r"told (.*)", out).group(1).split())
+    wrong = [f"{count} {kind}" for count, kind in zip(re.search(r"wrong (.*)", out).group(1).split(), WRONG) if count != "0"]
     if wrong or not requests:
-        raise SystemExit(f"{wrong:.0f} of {requests:.0f} requests weren't answered 200")
+        raise SystemExit(f"of {requests:.0f} requests: {', '.join(wrong)}")
     return requests / seconds, *(it / 1e3 for it in times)
 
 

@@ -77,7 +77,10 @@ class Client:
         return self.answer()
 
     def answer(self):
-        status, length = self.file.readline().split(b" ", 2)[1], 0
+        first, length = self.file.readline(), 0
+        if not first:
+            raise ConnectionError("the connection ended before an answer")
+        status = first.split(b" ", 2)[1]
         for line in iter(self.file.readline, b"\r\n"):
             if not line:
                 raise ConnectionError("the connection ended inside a head")
