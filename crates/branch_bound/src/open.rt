@@ -15,7 +15,7 @@ use simplex::Work;
 use std::sync::ledger::Ledger;
 
 /// A whole variable whose value isn't whole, and the floor of that value.
-#[derive(Clone, Copy, PartialEq, Eq, Debug)]
+#[derive(Clone, Copy, PartialEq, Eq)]
 pub struct Open {
     pub col: u32,
     pub k: i128,

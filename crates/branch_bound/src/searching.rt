@@ -25,7 +25,7 @@ use std::alloc::{AllocError, Global};
 use std::sync::ledger::Ledger;
 
 /// What a search claims, and how many turns its runs have done.
-#[derive(Debug, Drop)]
+#[derive(Drop)]
 pub struct Searched {
     pub claim: Claim,
     pub turns: u64,

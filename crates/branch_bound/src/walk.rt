@@ -16,7 +16,7 @@ use instance::Var;
 use std::alloc::AllocError;
 
 /// A point with its value of the goal.
-#[derive(Debug, Drop)]
+#[derive(Drop)]
 pub struct Found {
     pub point: Point,
     pub value: Frac,
@@ -24,7 +24,7 @@ pub struct Found {
 
 /// Where a search stands: the variables of the case at hand, the branches above it, how many of them count, the nodes so far,
 /// the best point, and the ray.
-#[derive(Debug, Drop)]
+#[derive(Drop)]
 pub struct Walk {
     pub vars: Vec<Var>,
     pub branches: Vec<Branch>,

@@ -9,7 +9,7 @@ use crate::cuts::{at_least, at_most};
 use instance::Var;
 
 /// A branch above the case at hand: what its variable was before, and whether the walk is in the second case.
-#[derive(Clone, Copy, PartialEq, Eq, Debug)]
+#[derive(Clone, Copy, PartialEq, Eq)]
 pub struct Branch {
     pub col: u32,
     pub k: i128,

@@ -7,7 +7,7 @@ use crate::status::WRITE_FAULT;
 use os_io::{Failed, Sink, Text, send_all};
 
 /// A text that is to be written, and the status of the run that writes it.
-#[derive(Debug, Drop)]
+#[derive(Drop)]
 pub struct Answer {
     pub status: u8,
     pub text: Text,

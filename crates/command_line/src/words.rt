@@ -19,7 +19,7 @@ const USAGE: &[u8] = b"usage: os_app session | solve | check | serve | call | ge
 
 /// Which call is to be made, of whom, and the names of the files with its parts. A part whose file isn't named is empty, and
 /// one that the call doesn't have isn't sent.
-#[derive(Clone, Copy, Debug)]
+#[derive(Clone, Copy)]
 pub struct CallWords<'w> {
     pub kind: CallKind,
     pub host: &'w str,
@@ -31,7 +31,7 @@ pub struct CallWords<'w> {
 
 /// Where is served, by up to how many workers that run jobs, how many conversations at once, and how many connections in all; for how
 /// many seconds a link waits for its peer at most, and which number the first job has.
-#[derive(Clone, Copy, Debug)]
+#[derive(Clone, Copy)]
 pub struct ServeWords<'w> {
     pub host: &'w str,
     pub port: u16,
@@ -43,7 +43,7 @@ pub struct ServeWords<'w> {
 }
 
 /// What the words ask for.
-#[derive(Clone, Copy, Debug)]
+#[derive(Clone, Copy)]
 pub enum Asked<'w> {
     /// To serve the requests that come on the input, and write the answers to the output.
     Session,

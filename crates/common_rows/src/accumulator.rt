@@ -9,7 +9,7 @@ use instance::add_product;
 
 /// A sum of products, in any form. While its numbers have 64 bits, it is kept over a common denominator of its terms, and only
 /// [`Accumulator::fraction`] reduces it.
-#[derive(Clone, Copy, PartialEq, Eq, Debug)]
+#[derive(Clone, Copy, PartialEq, Eq)]
 pub struct Accumulator {
     numer: i128,
     denom: u128,

@@ -23,7 +23,7 @@ fn scaled(x: i64, by: i64) -> i128
 }
 
 /// Each number of a row times `scale`, and the other row's times `factor`, over a common divisor of all these sums.
-#[derive(Clone, Copy, PartialEq, Eq, Debug)]
+#[derive(Clone, Copy, PartialEq, Eq)]
 pub struct Change {
     pub scale: i64,
     pub factor: i64,

@@ -8,7 +8,7 @@ use std::marker::PhantomData;
 use std::sync::ledger::Ledger;
 
 /// An entry of a row: its column, and its value, which isn't 0.
-#[derive(Clone, Copy, PartialEq, Eq, Debug)]
+#[derive(Clone, Copy, PartialEq, Eq)]
 pub struct Item {
     pub col: u32,
     pub value: Frac,

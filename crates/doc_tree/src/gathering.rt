@@ -13,7 +13,7 @@ use std::alloc::{AllocError, Global};
 use std::marker::Model;
 
 /// A tree that is being told. No two runs of characters touch in it, unless memory was wanted.
-#[derive(Debug, Drop)]
+#[derive(Drop)]
 pub(crate) struct Gathering {
     builder: TreeBuilder,
     /// Whether there was no memory once.

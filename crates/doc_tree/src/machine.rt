@@ -26,7 +26,7 @@ use std::alloc::{AllocError, Global};
 use tree_grammar::DEPTH;
 
 /// Where in the document the reader stands.
-#[derive(Clone, Copy, Debug, PartialEq, Eq)]
+#[derive(Clone, Copy, PartialEq, Eq)]
 pub(crate) enum Place {
     /// Before the first byte.
     Start,
@@ -107,7 +107,7 @@ pub(crate) enum Place {
 }
 
 /// What comes when a fixed text is whole.
-#[derive(Clone, Copy, Debug, PartialEq, Eq)]
+#[derive(Clone, Copy, PartialEq, Eq)]
 pub(crate) enum Goal {
     /// The byte order mark.
     Marked,
@@ -130,7 +130,7 @@ pub(crate) enum Goal {
 }
 
 /// Where a comment or an instruction stands.
-#[derive(Clone, Copy, Debug, PartialEq, Eq)]
+#[derive(Clone, Copy, PartialEq, Eq)]
 pub(crate) enum Round {
     Prolog,
     Content,
@@ -138,7 +138,7 @@ pub(crate) enum Round {
 }
 
 /// The reader's state.
-#[derive(Debug, Drop)]
+#[derive(Drop)]
 pub(crate) struct Machine {
     alloc: Global,
     place: Place,

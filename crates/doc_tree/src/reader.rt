@@ -28,7 +28,7 @@ pub fn read(alloc: Global, bytes: &[u8], limit: u64) -> Result<Tree, TreeFault>
 /// Reads a document of at most `limit` bytes and of a depth of at most 32, piece by piece: [`Events`] that tell a tree.
 ///
 /// Contracts say which bytes it was fed (`WasFed`), and why it takes no more, if it doesn't.
-#[derive(Debug, Drop)]
+#[derive(Drop)]
 pub struct Reader {
     events: Events<Gathering>,
 }

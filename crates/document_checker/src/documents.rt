@@ -21,7 +21,7 @@ use osrl_grammar::{OsrlFault, Report, read_claims_fit};
 use std::alloc::Global;
 
 /// What an accepted claim says of the instance.
-#[derive(Clone, Copy, PartialEq, Eq, Debug)]
+#[derive(Clone, Copy, PartialEq, Eq)]
 pub enum Kind {
     /// The point is optimal.
     Optimal,

@@ -6,7 +6,7 @@ use osrl_grammar::OsrlFault;
 use std::alloc::AllocError;
 
 /// Why two documents aren't accepted.
-#[derive(Debug, Drop)]
+#[derive(Drop)]
 pub enum CheckFault {
     /// The instance's document is refused.
     Instance(OsilFault),

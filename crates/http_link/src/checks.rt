@@ -18,7 +18,7 @@ pub const MOST_BODY: usize = MOST_BYTES as usize;
 pub(crate) const MOST_FIELDS: usize = 64;
 
 /// What a head that is accepted says.
-#[derive(Clone, Copy, PartialEq, Eq, Debug, Drop)]
+#[derive(Clone, Copy, PartialEq, Eq, Drop)]
 pub struct Accepted {
     /// The body's length.
     pub len: usize,

@@ -1,5 +1,5 @@
 /// Why a request isn't answered, each with the status that says so.
-#[derive(Clone, Copy, PartialEq, Eq, Debug, Drop)]
+#[derive(Clone, Copy, PartialEq, Eq, Drop)]
 pub enum Refusal {
     /// 400: the head is no request head, or names no host or two, or its lengths are no numbers or differ.
     BadRequest,

@@ -35,7 +35,7 @@ pub enum Incoming {
 }
 
 /// Why nothing can be said of what comes on a source.
-#[derive(Clone, Copy, PartialEq, Eq, Debug, Drop)]
+#[derive(Clone, Copy, PartialEq, Eq, Drop)]
 pub enum LinkFault {
     /// A read failed, and the source's count of faults rose.
     ReadFault,

@@ -12,7 +12,7 @@ use crate::texts::{SharedText, Twin};
 use os_io::Memory;
 
 /// What a move does to the looks at a job, for whoever counts them.
-#[derive(Clone, Copy, PartialEq, Eq, Debug, Drop)]
+#[derive(Clone, Copy, PartialEq, Eq, Drop)]
 pub enum MoveKind {
     /// It is a look.
     Looks,

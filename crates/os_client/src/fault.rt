@@ -4,7 +4,7 @@ use os_io::Text;
 use std::alloc::AllocError;
 
 /// Why a call returned nothing.
-#[derive(Debug, Drop)]
+#[derive(Drop)]
 pub enum CallFault {
     /// A read of the link failed, and its count of read faults rose.
     ReadFault,

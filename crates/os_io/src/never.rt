@@ -5,7 +5,7 @@ ghost use Rattle.os_io.specs.Laws.{no_stop, no_stops};
 use crate::watch::Watch;
 
 /// A watch that never says to stop.
-#[derive(Clone, Copy, Debug, Drop)]
+#[derive(Clone, Copy, Drop)]
 pub struct Never;
 
 impl Watch for Never {

@@ -7,7 +7,7 @@ use std::marker::Model;
 pub type Memory = AllocError;
 
 /// A list of bytes that grows. Contracts see it as that list. What fails for want of memory leaves it as it was.
-#[derive(Debug, Drop)]
+#[derive(Drop)]
 pub struct Text {
     bytes: Vec<u8>,
 }

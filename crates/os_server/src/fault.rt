@@ -5,7 +5,7 @@ ghost use Rattle.os_server.specs.Orders.{code_text};
 use os_io::Text;
 
 /// What is wrong with a call, or why the table doesn't take it: the code of the fault that answers it (SOAP 1.1, section 4.4.1).
-#[derive(Clone, Copy, PartialEq, Eq, Debug, Drop)]
+#[derive(Clone, Copy, PartialEq, Eq, Drop)]
 pub enum FaultCode {
     /// It is none of the six.
     Call,

@@ -16,7 +16,7 @@ use os_io::{Link, Sink, Source};
 use std::alloc::Global;
 
 /// How a conversation ended.
-#[derive(Clone, Copy, PartialEq, Eq, Debug, Drop)]
+#[derive(Clone, Copy, PartialEq, Eq, Drop)]
 pub enum Served {
     /// The input ended between two requests, or a request asked to close and was answered, or one was refused, or as many were
     /// answered as may be.

@@ -11,7 +11,7 @@ use fraction::{Entry, Frac, Wide};
 use std::alloc::{AllocError, Global};
 
 /// The lists of a matrix: by columns or by rows, the starts of these lines, each value's index in its line, the values.
-#[derive(Debug, Drop)]
+#[derive(Drop)]
 pub(crate) struct Lists {
     pub(crate) by_columns: bool,
     pub(crate) starts: Vec<u32>,

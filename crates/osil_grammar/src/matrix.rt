@@ -23,7 +23,7 @@ use std::alloc::Global;
 const MOST_START: u32 = 100_000;
 
 /// The lists that were read so far.
-#[derive(Debug, Drop)]
+#[derive(Drop)]
 struct Found {
     starts: Option<Vec<u32>>,
     by_columns: bool,
@@ -32,7 +32,7 @@ struct Found {
 }
 
 /// The lists of a matrix by their names.
-#[derive(Clone, Copy, PartialEq, Eq, Debug)]
+#[derive(Clone, Copy, PartialEq, Eq)]
 enum ListName {
     Starts,
     RowIndices,

@@ -24,7 +24,7 @@ use instance::{Goal, Instance, Row, Var};
 use std::alloc::Global;
 
 /// The parts that were read so far.
-#[derive(Debug, Drop)]
+#[derive(Drop)]
 struct Sections {
     vars: Option<Vec<Var>>,
     goal: Option<Goal>,
@@ -55,7 +55,7 @@ impl Sections {
 }
 
 /// The parts of `instanceData` by their names, in their order.
-#[derive(Clone, Copy, PartialEq, Eq, Debug)]
+#[derive(Clone, Copy, PartialEq, Eq)]
 enum PartName {
     Variables,
     Objectives,

@@ -25,7 +25,7 @@ use instance::{MAX_VARS, Var};
 use std::cmp::Ordering;
 
 /// Which values a variable may have.
-#[derive(Clone, Copy, PartialEq, Eq, Debug)]
+#[derive(Clone, Copy, PartialEq, Eq)]
 enum Domain {
     Continuous,
     Integer,

@@ -4,7 +4,7 @@ use doc_tree::TreeFault;
 use std::alloc::AllocError;
 
 /// What is wrong with an options document. At one tag the first of these is told.
-#[derive(Clone, Copy, PartialEq, Eq, Debug, Drop)]
+#[derive(Clone, Copy, PartialEq, Eq, Drop)]
 pub enum Refusal {
     /// The root isn't `osol`.
     Root,
@@ -17,7 +17,7 @@ pub enum Refusal {
 }
 
 /// Why bytes say no options.
-#[derive(Clone, Copy, PartialEq, Debug, Drop)]
+#[derive(Clone, Copy, PartialEq, Drop)]
 pub enum OsolFault {
     /// They are no document within the limits.
     Tree(TreeFault),

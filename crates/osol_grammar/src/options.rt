@@ -5,7 +5,7 @@ use os_io::Text;
 
 /// The job's name, if it has one, and how much may be done for it: so many nodes of the tree of cases, 1 to 1,000,000,
 /// and so many turns of the simplex method, 1 to 100,000,000.
-#[derive(Debug, Drop)]
+#[derive(Drop)]
 pub struct Options {
     pub job: Option<Text>,
     pub nodes: u32,

@@ -4,7 +4,7 @@ use doc_tree::TreeFault;
 use std::alloc::AllocError;
 
 /// Why bytes say no process. Where several stand together, the first of these is told.
-#[derive(Clone, Copy, PartialEq, Debug, Drop)]
+#[derive(Clone, Copy, PartialEq, Drop)]
 pub enum OsplFault {
     /// They are no document within the limits.
     Tree(TreeFault),

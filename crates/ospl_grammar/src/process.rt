@@ -4,7 +4,7 @@ use items::Items;
 use os_io::Text;
 
 /// How far a job has come.
-#[derive(Clone, Copy, PartialEq, Eq, Debug, Drop)]
+#[derive(Clone, Copy, PartialEq, Eq, Drop)]
 pub enum JobState {
     /// It has its number alone.
     Issued,
@@ -19,7 +19,7 @@ pub enum JobState {
 }
 
 /// A job by the text that names it, and how far it has come.
-#[derive(Debug, Drop)]
+#[derive(Drop)]
 pub struct StatedJob {
     pub id: Text,
     pub state: JobState,
@@ -29,7 +29,7 @@ pub struct StatedJob {
 pub type JobStates = Items<StatedJob>;
 
 /// What a process document says: what is asked, or how far all jobs have come.
-#[derive(Debug, Drop)]
+#[derive(Drop)]
 pub enum Process {
     /// What is asked, by its action.
     Ask {

@@ -6,7 +6,7 @@ use std::alloc::AllocError;
 /// Why bytes are no report. Where several stand together, `Root` comes first, then the first item with a fault, of whose
 /// faults `Item` comes first and `Wide` last, then `Count`, then `Missing`. Items are those of a certificate's parts,
 /// counted from 1 over the whole document in its order.
-#[derive(Clone, Copy, PartialEq, Debug, Drop)]
+#[derive(Clone, Copy, PartialEq, Drop)]
 pub enum OsrlFault {
     /// They are no document within the limits.
     Tree(TreeFault),

@@ -8,7 +8,7 @@ use crate::words::Worded;
 use certificate::Step;
 
 /// A part of a certificate. Its name is that of a result.
-#[derive(Clone, Copy, PartialEq, Eq, Debug)]
+#[derive(Clone, Copy, PartialEq, Eq)]
 pub(crate) enum Part {
     Point,
     Value,
@@ -18,7 +18,7 @@ pub(crate) enum Part {
 }
 
 /// What a solution's status claims.
-#[derive(Clone, Copy, PartialEq, Eq, Debug)]
+#[derive(Clone, Copy, PartialEq, Eq)]
 pub(crate) enum Claiming {
     Optimal,
     Infeasible,
@@ -29,7 +29,7 @@ pub(crate) enum Claiming {
 
 /// What is wrong with an item: it isn't of its shape, a text in it isn't a number, or a number is too great. Of several
 /// the first of these is told.
-#[derive(Clone, Copy, PartialEq, Eq, Debug)]
+#[derive(Clone, Copy, PartialEq, Eq)]
 pub(crate) enum Unread {
     NoShape,
     NoNumber,

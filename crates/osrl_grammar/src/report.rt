@@ -4,7 +4,7 @@ use certificate::Claim;
 use os_io::Text;
 
 /// How far a job is (Optimization Services, job statistics).
-#[derive(Clone, Copy, PartialEq, Eq, Debug)]
+#[derive(Clone, Copy, PartialEq, Eq)]
 pub enum JobStatus {
     /// No such job is known.
     Unknown,
@@ -22,7 +22,7 @@ pub enum JobStatus {
 
 /// What a result document says: whether of an error, of which job, a message, how far the job is, and what is claimed of
 /// the instance.
-#[derive(Debug, Drop)]
+#[derive(Drop)]
 pub struct Report {
     pub error: bool,
     pub job: Option<Text>,

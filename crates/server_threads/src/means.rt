@@ -17,7 +17,7 @@ use std::sync::atomic::AtomicU64;
 use workers::{Naps, Wake, wake_pair};
 
 /// Serving ended before all links were served.
-#[derive(Clone, Copy, PartialEq, Eq, Debug, Drop)]
+#[derive(Clone, Copy, PartialEq, Eq, Drop)]
 pub enum ServeFault {
     /// The listener failed: its count of faults rose.
     Failed,
@@ -26,7 +26,7 @@ pub enum ServeFault {
 }
 
 /// How much is served.
-#[derive(Clone, Copy, PartialEq, Eq, Debug, Drop)]
+#[derive(Clone, Copy, PartialEq, Eq, Drop)]
 pub struct Limits {
     /// How many links may be served at once.
     pub servers: u32,

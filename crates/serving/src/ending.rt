@@ -1,7 +1,7 @@
 //! How serving ends.
 
 /// How serving ended.
-#[derive(Clone, Copy, PartialEq, Eq, Debug, Drop)]
+#[derive(Clone, Copy, PartialEq, Eq, Drop)]
 pub enum Ending {
     /// All links were served, and both lines were written.
     Done,

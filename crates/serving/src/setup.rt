@@ -3,7 +3,7 @@
 use server_threads::Limits;
 
 /// How a server is set up.
-#[derive(Clone, Copy, PartialEq, Eq, Debug, Drop)]
+#[derive(Clone, Copy, PartialEq, Eq, Drop)]
 pub struct Setup {
     /// For how many seconds a read or a write of a link waits for its peer at most; one that would wait longer fails.
     pub patience: u16,

@@ -2,14 +2,14 @@ use certificate::Step;
 use fraction::Frac;
 
 /// How many turns were done since the search began, and how many may be.
-#[derive(Clone, Copy, PartialEq, Eq, Debug)]
+#[derive(Clone, Copy, PartialEq, Eq)]
 pub struct Turns {
     pub done: u64,
     pub most: u64,
 }
 
 /// How a run ends.
-#[derive(Clone, Copy, PartialEq, Eq, Debug)]
+#[derive(Clone, Copy, PartialEq, Eq)]
 pub enum LpEnd {
     /// No column helps: the point is best, and no point's minimising goal is below the bound, which is 0 under the goal
     /// zero.

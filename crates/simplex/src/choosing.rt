@@ -27,7 +27,7 @@ use simplex_rules::{Status, Way};
 use std::sync::ledger::Ledger;
 
 /// A basic column is to leave the basis, to stand where the status says, for another one.
-#[derive(Clone, Copy, PartialEq, Eq, Debug)]
+#[derive(Clone, Copy, PartialEq, Eq)]
 pub struct Swap {
     pub basic: u32,
     pub nonbasic: u32,
@@ -35,14 +35,14 @@ pub struct Swap {
 }
 
 /// A column that isn't basic is to go to its other end.
-#[derive(Clone, Copy, PartialEq, Eq, Debug)]
+#[derive(Clone, Copy, PartialEq, Eq)]
 pub struct Flip {
     pub col: u32,
     pub status: Status,
 }
 
 /// What is done at a moment: a turn, or the run is at its end.
-#[derive(Clone, Copy, PartialEq, Eq, Debug)]
+#[derive(Clone, Copy, PartialEq, Eq)]
 pub enum Choice {
     Swap(Swap),
     Flip(Flip),

@@ -6,7 +6,7 @@ use std::alloc::{AllocError, Global};
 use std::marker::Model;
 
 /// The ends of an instance's variables at a node, in place of their own. Contracts see the list.
-#[derive(Debug, Drop)]
+#[derive(Drop)]
 pub struct Cuts {
     ends: Vec<Ends>,
 }

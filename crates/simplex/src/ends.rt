@@ -12,7 +12,7 @@ use simplex_rules::{Status, Way};
 use std::cmp::Ordering;
 
 /// The lower and the upper end of a column.
-#[derive(Clone, Copy, PartialEq, Eq, Debug)]
+#[derive(Clone, Copy, PartialEq, Eq)]
 pub struct Ends {
     pub lb: End,
     pub ub: End,

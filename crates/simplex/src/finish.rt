@@ -4,7 +4,7 @@ use fraction::Frac;
 use simplex_rules::Way;
 
 /// A column that moves, or is to move.
-#[derive(Clone, Copy, PartialEq, Eq, Debug)]
+#[derive(Clone, Copy, PartialEq, Eq)]
 pub struct Move {
     pub col: u32,
     pub way: Way,
@@ -12,7 +12,7 @@ pub struct Move {
 
 /// How the turns finish: at a basic column out of its ends that none can bring back, at a best point with its bound, at a
 /// column that no end stops, or early.
-#[derive(Clone, Copy, PartialEq, Eq, Debug)]
+#[derive(Clone, Copy, PartialEq, Eq)]
 pub enum Finish {
     Empty(Move),
     Best(Frac),

@@ -22,7 +22,7 @@ use simplex_rules::{Status, Way};
 use std::sync::ledger::Ledger;
 
 /// How far the moving column may go, and the column that reaches an end then.
-#[derive(Clone, Copy, PartialEq, Eq, Debug)]
+#[derive(Clone, Copy, PartialEq, Eq)]
 pub struct Limit {
     pub col: u32,
     pub quotient: Frac,

@@ -6,7 +6,7 @@ ghost use Rattle.six_calls.specs.Names as names;
 use crate::part::Part;
 
 /// The six calls.
-#[derive(Clone, Copy, PartialEq, Eq, Debug, Drop)]
+#[derive(Clone, Copy, PartialEq, Eq, Drop)]
 pub enum CallKind {
     /// Runs a job and gives its result.
     Solve,

@@ -7,7 +7,7 @@ use os_io::Text;
 use six_calls::{CallKind, Part};
 
 /// The texts of all parts, empty where the call doesn't have one.
-#[derive(Debug, Drop)]
+#[derive(Drop)]
 pub struct Parts {
     pub osil: Text,
     pub osol: Text,
@@ -28,7 +28,7 @@ impl Parts {
 }
 
 /// A call with the texts of its parts. A part that wasn't said is the empty text, and so is one that the call doesn't have.
-#[derive(Debug, Drop)]
+#[derive(Drop)]
 pub struct SoapCall {
     /// Which of the six it is.
     pub kind: CallKind,

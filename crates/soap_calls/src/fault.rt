@@ -5,7 +5,7 @@ use six_calls::Part;
 use std::alloc::AllocError;
 
 /// Why bytes are no call. The first of these is told, and of parts the first that is refused.
-#[derive(Debug, Drop)]
+#[derive(Drop)]
 pub enum SoapFault {
     /// They are no document within the limits, or no envelope with one body that has one element in it.
     Envelope,
@@ -18,7 +18,7 @@ pub enum SoapFault {
 }
 
 /// What answers a call.
-#[derive(Debug, Drop)]
+#[derive(Drop)]
 pub enum Answer {
     /// The text that it returns.
     Return(Text),
@@ -27,7 +27,7 @@ pub enum Answer {
 }
 
 /// Why bytes answer no call.
-#[derive(Clone, Copy, PartialEq, Eq, Debug, Drop)]
+#[derive(Clone, Copy, PartialEq, Eq, Drop)]
 pub enum NotReply {
     /// They aren't in the grammar of replies.
     Form,

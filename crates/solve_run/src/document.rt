@@ -2,7 +2,7 @@
 use os_io::Text;
 
 /// The text of a result document, and whether it reports an error.
-#[derive(Debug, Drop)]
+#[derive(Drop)]
 pub struct Document {
     pub text: Text,
     pub is_error: bool,
