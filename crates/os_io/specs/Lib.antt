@@ -1,4 +1,5 @@
 pub mod Addresses
+pub mod Bodies
 pub mod Files
 pub mod MemLinks
 pub mod Laws

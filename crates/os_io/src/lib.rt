@@ -8,15 +8,19 @@
 //! A link that a listener gives is open until it is closed ([`Close`]), and a listener tells at which hosts and ports it listened and
 //! to which it connected, so that whoever serves can be asked to serve links that are open, where it was told to.
 //!
+//! Bytes that come in pieces go to a [`Body`], whose relation says of all of them which they are, in whatever pieces.
+//!
 //! Where one call after another writes, `Writes` says of all of them which text was written, or a first part of it at a
 //! fault, and that nothing else was touched.
 #![tactic(auto)]
 
+mod body;
 mod close;
 mod disk;
 mod files;
 mod limits;
 mod listener;
+mod mem_body;
 mod mem_files;
 mod mem_link;
 mod mem_listener;
@@ -31,11 +35,13 @@ mod tests;
 mod text;
 mod watch;
 
+pub use body::Body;
 pub use close::Close;
 pub use disk::DiskFiles;
 pub use files::{FileFault, Files};
 pub use limits::MOST_BYTES;
 pub use listener::Listener;
+pub use mem_body::MemBody;
 pub use mem_files::MemFiles;
 pub use mem_link::MemLink;
 pub use mem_listener::MemListener;
