@@ -29,7 +29,7 @@ fn count_nodes(claim: &Claim) -> usize
 }
 
 /// Room for checks of claims of so many variables and nodes. Contracts see it as these two numbers, which no check changes.
-#[derive(Debug, Drop)]
+#[derive(Drop)]
 pub struct Scratch {
     vars: Vec<Var>,
     slots: Vec<Option<Frac>>,

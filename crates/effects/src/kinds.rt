@@ -1,14 +1,14 @@
 //! What a call of the table changes.
 
 /// A document, which is missing for want of memory.
-#[derive(Clone, Copy)]
+#[derive(Clone, Copy, Debug)]
 pub enum Document<'a> {
     Missing,
     Kept { text: &'a [u8] },
 }
 
 /// What a call of the table changes. A job is named by its number; texts are borrowed.
-#[derive(Clone, Copy)]
+#[derive(Clone, Copy, Debug)]
 pub enum Effect<'a> {
     /// A new job, with its number alone.
     Issue,

@@ -10,7 +10,7 @@ use effects::{Document, Effect, Replay, decode};
 use os_io::Memory;
 
 /// Why a file wasn't opened.
-#[derive(Clone, Copy, PartialEq, Eq, Drop)]
+#[derive(Clone, Copy, PartialEq, Eq, Debug, Drop)]
 pub enum OpenFault {
     /// The disk wasn't read.
     ReadFault,

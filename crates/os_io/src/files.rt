@@ -5,7 +5,7 @@ use crate::text::Text;
 use std::alloc::Global;
 
 /// Why a file wasn't read.
-#[derive(Clone, Copy, PartialEq, Eq, Drop)]
+#[derive(Clone, Copy, PartialEq, Eq, Debug, Drop)]
 pub enum FileFault {
     /// The file isn't there or can't be read, and the count of faults rose, or stands at 2^64 - 1.
     Failed,

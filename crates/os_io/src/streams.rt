@@ -2,7 +2,7 @@ ghost use Rattle.std.specs.Prelude.{◌≡◌, ℕ, ◌<◌, ◌≤◌, [], leng
 ghost use Rattle.os_io.specs.Streams.{Tells, BothTold, Takes, Appends, Grows, Counts, SameInput, SameOutput, Writes, Sends};
 
 /// A call failed, and its object's count of faults rose, or stands at 2^64 - 1.
-#[derive(Clone, Copy, PartialEq, Eq, Drop)]
+#[derive(Clone, Copy, PartialEq, Eq, Debug, Drop)]
 pub struct Failed;
 
 /// Bytes that come, or go, or both.
