@@ -16,9 +16,11 @@ def free_port():
 
 
 class Server:
-    """A run of `serve` on a free port of loopback. Where it was to end by itself, after so many connections, its status is looked at."""
+    """A run of `serve` on a free port of loopback, behind the words of another command, if there are any. Where it was to end by itself, after so
+    many connections, its status is looked at."""
 
-    def __init__(self, workers, servers, connections=None, patience=None):
+    def __init__(self, workers, servers, connections=None, patience=None, behind=()):
+        self.behind = behind
         self.words = ["--workers", str(workers), "--servers", str(servers)]
         self.words += ["--connections", str(connections)] if connections else []
         self.words += ["--patience", str(patience)] if patience else []
@@ -26,7 +28,7 @@ class Server:
 
     def __enter__(self):
         self.port = free_port()
-        self.process = subprocess.Popen([PROGRAM, "serve", "127.0.0.1", str(self.port), *self.words], stdout=subprocess.PIPE)
+        self.process = subprocess.Popen([*self.behind, PROGRAM, "serve", "127.0.0.1", str(self.port), *self.words], stdout=subprocess.PIPE)
         line = self.process.stdout.readline()
         if line != b"listening\n":
             raise SystemExit(f"serve wrote {line!r} and ended with {self.process.wait()}")

@@ -174,6 +174,29 @@ def more_clients_than_seats(clients=200, asks=4):
     return sorted(numbers) == list(range(1, clients * asks + 1)) and again > 0
 
 
+def is_answered(client):
+    try:
+        return client.post(envelope("getJobID"))[0] == 200
+    except ConnectionError:
+        return False
+
+
+def idle_links_stay_while_seats_are_free(others=50):
+    """A client that is idle while others come to a server that accepts slowly, so that connections wait for seconds though seats are free: whether
+    all get their answers on the links that they have."""
+    slowly = ["strace", "-f", "-qq", "-o", "/dev/null", "-e", "trace=accept,accept4", "-e", "inject=accept,accept4:delay_exit=60000"]
+    with Server(workers=1, servers=SEATS, connections=others + 1, behind=slowly) as server:
+        first = Client(server.port)
+        first.post(envelope("getJobID"))
+        clients = [first] + [Client(server.port) for _ in range(others)]
+        time.sleep(2.4)  # while the last of them still wait to be accepted
+        answered = sum(is_answered(client) for client in clients)
+        for client in clients:
+            client.close()
+    print(f"one that is idle beside {others} that are accepted slowly, with seats free: {answered} links of {others + 1} stay")
+    return answered == others + 1
+
+
 def goes_on_with_few_descriptors():
     """A server that may open 40 files, with thirty silent clients: whether those who ask get their answers, since silent links end for them."""
     with Server(workers=1, servers=SEATS) as server:
@@ -226,4 +249,4 @@ def others_keep_their_rates(seconds=12):
 
 def main():
     """Whether all of it holds."""
-    return all([seats_come_back(), more_clients_than_seats(), goes_on_with_few_descriptors(), others_keep_their_rates()])
+    return all([seats_come_back(), more_clients_than_seats(), idle_links_stay_while_seats_are_free(), goes_on_with_few_descriptors(), others_keep_their_rates()])
