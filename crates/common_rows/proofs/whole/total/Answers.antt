@@ -1,4 +1,4 @@
-use Rattle.std.proofs.Common.{◌≤◌, ◌^◌, ◌+ℤ◌, FitsSigned, w64, rules, arith}
+use Rattle.std.proofs.Common.{◌≤◌, ◌^◌, ◌+ℤ◌, FitsSigned, w64, rules, arith, ap}
 use mir.Syntax.{w128}
 use Rattle.std.specs.Prelude.{unsigned_abs}
 use Rattle.std.proofs.lemmas.Int.{to_z-of_z}
@@ -25,3 +25,15 @@ returns-clause-size c =
     let within : unsigned_abs (c.args.n +ℤ c.product.result) ≤ most = omega (arith, t) in
     let fits = total_fits c.args.n c.product.result (omega (arith, s)) c.product.ensures.size in
     simp to_z-of_z within
+
+pub returns-clause-value : goal.returns-clause-value
+returns-clause-value c =
+    let n : FitsSigned w64 c.args.n = c.ranges.n in
+    let k : FitsSigned w64 c.args.k = c.ranges.k in
+    let m : FitsSigned w64 c.args.m = c.ranges.m in
+    let l = widened c.args.n n in
+    let r : FitsSigned w128 c.product.result = search rules in
+    let s = size_within c.args.n n in
+    let fits = total_fits c.args.n c.product.result (omega (arith, s)) c.product.ensures.size in
+    let value = simp to_z-of_z at c.product.ensures.value in
+    simp to_z-of_z (ap (λ z. c.args.n +ℤ z) value)
