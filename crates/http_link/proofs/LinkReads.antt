@@ -1,9 +1,8 @@
 -- What reads one after another took.
 use Rattle.std.proofs.Common.{◌≡◌, ◌≢◌, ℕ, ◌≤◌, List, [], ◌∷◌, ◌++◌, length, take, drop, get_or, arith, Option, Some, None, refl, sym, ◌∙◌, ap, subst, append_assoc}
 use Rattle.std.specs.Prelude.{⊤}
-use Rattle.std.proofs.lemmas.List.{take-append-drop, length-take}
+use Rattle.std.proofs.lemmas.List.{take-append-drop}
 use Rattle.os_io.specs.Streams.{BothTold, Takes}
-use Rattle.http_link.specs.Requests.{LosesPiece}
 
 -- nothing was taken yet
 pub took_none : (x : Option (List ℕ)) → BothTold x x (λ before after. before ≡ [] ++ after)
@@ -85,14 +84,17 @@ took_both (Some x) (Some y) None first second P Q p q = absurd q
 took_both (Some x) (Some y) (Some z) first second P Q p q =
     (p.0 ∙ ap (λ s. first ++ s) q.0 ∙ sym (append_assoc first second z), q.1)
 
-took_lost : (x y : Option (List ℕ)) (buffer : List ℕ) (n : ℕ) → BothTold x y (Takes buffer n)
-    → BothTold x y (λ before after. (before ≡ take n buffer ++ after) × ⊤)
-took_lost None y buffer n q = tt
-took_lost (Some x) None buffer n q = absurd q
-took_lost (Some x) (Some y) buffer n q = (sym (take-append-drop n x) ∙ (λ i. sym q.0 i ++ sym q.1 i), tt)
+-- the same bytes, and another fact of the rest
+pub took_so : (x y : Option (List ℕ)) (taken : List ℕ) (P Q : List ℕ → Type 0) → ((rest : List ℕ) → P rest → Q rest)
+    → BothTold x y (λ before after. (before ≡ taken ++ after) × P after)
+    → BothTold x y (λ before after. (before ≡ taken ++ after) × Q after)
+took_so None y taken P Q f p = tt
+took_so (Some x) None taken P Q f p = absurd p
+took_so (Some x) (Some y) taken P Q f p = (p.0, f y p.1)
 
--- a piece of the input, of no more bytes than so many
-pub lost_piece : (x y : Option (List ℕ)) (buffer : List ℕ) (n most : ℕ) → n ≤ most → BothTold x y (Takes buffer n)
-    → LosesPiece x y most
-lost_piece x y buffer n most fits q =
-    (take n buffer, omega (arith, fits, length-take n buffer), took_lost x y buffer n q)
+-- the same bytes alone
+pub took_alone : (x y : Option (List ℕ)) (taken : List ℕ) (P : List ℕ → Type 0)
+    → BothTold x y (λ before after. (before ≡ taken ++ after) × P after) → BothTold x y (λ before after. before ≡ taken ++ after)
+took_alone None y taken P p = tt
+took_alone (Some x) None taken P p = absurd p
+took_alone (Some x) (Some y) taken P p = p.0

@@ -1,41 +1,29 @@
 -- What the steps of reading a reply show.
-use Rattle.std.proofs.Common.{◌≡◌, ℕ, ◌<◌, ◌≤◌, inl, inr, List, [], ◌++◌, length, Option, Some, None, Ok, Err, refl, sym, ap, ◌∙◌, subst, arith, append-nil, length-append}
+use Rattle.std.proofs.Common.{◌≡◌, ℕ, ◌<◌, ◌≤◌, inl, inr, List, [], ◌++◌, length, Option, Some, None, Ok, Err, refl, sym, ap, ◌∙◌, subst, arith}
 use Rattle.std.specs.Prelude.{⊤, Result, IfOk, IfErr}
+use Rattle.std.proofs.lemmas.Bool.{cases_lt}
 use Rattle.os_io.specs.Streams.{BothTold}
+use Rattle.os_io.specs.declared.streams.Failed.{Failed}
 use Rattle.http_link.specs.declared.requests.HeadRead.TheVariants.{Whole, TooLarge, Cut as CutHead, Ended as NoHead}
-use Rattle.http_link.specs.declared.requests.BodyRead.TheVariants.{Whole as WholeBody, Cut as CutBody}
 use Rattle.http_link.specs.declared.requests.LinkFault.{LinkFault}
 use Rattle.http_link.specs.declared.requests.LinkFault.TheVariants.{ReadFault, Memory}
-use Rattle.http_link.specs.declared.requests.BodyRead.{BodyRead}
 use Rattle.http_link.specs.declared.replies.ReplyHead.{ReplyHead}
 use Rattle.http_link.specs.declared.replies.Came.{Came}
 use Rattle.http_link.specs.Lines.{HasNoHead}
 use Rattle.http_link.specs.Requests.{IsHeadBegun, EndedBetween, AnswersHead, AnswersBody}
 use Rattle.http_link.specs.Replies.{ReadsReply, HeadSays, most_of, BytesCome, Brings}
 use Rattle.http_link.proofs.OneRequest.{ended_head_begun}
-use Rattle.http_link.proofs.LinkReads.{took_both}
+use Rattle.http_link.proofs.LinkReads.{took_both, took_so, took_alone}
 
 abbrev Left : Type 0
 Left = Option (List ℕ)
 
-told_first : (x y : Left) (P Q : List ℕ → List ℕ → Type 0) → BothTold x y (λ before after. P before after × Q before after) → BothTold x y P
-told_first None y P Q t = tt
-told_first (Some x) None P Q t = t
-told_first (Some x) (Some y) P Q t = t.0
-
-told_second : (x y : Left) (P Q : List ℕ → List ℕ → Type 0) → BothTold x y (λ before after. P before after × Q before after) → BothTold x y Q
-told_second None y P Q t = tt
-told_second (Some x) None P Q t = t
-told_second (Some x) (Some y) P Q t = t.1
-
--- the bytes taken, without what stands of the rest
-taken_alone : (x y : Left) (taken : List ℕ) (Q : List ℕ → Type 0) → BothTold x y (λ before after. (before ≡ taken ++ after) × Q after)
-    → BothTold x y (λ before after. before ≡ taken ++ after)
-taken_alone x y taken Q t = told_first x y (λ before after. before ≡ taken ++ after) (λ before after. Q after) t
-
+-- the rest, without what was taken
 rest_alone : (x y : Left) (taken : List ℕ) (Q : List ℕ → Type 0) → BothTold x y (λ before after. (before ≡ taken ++ after) × Q after)
     → BothTold x y (λ before after. Q after)
-rest_alone x y taken Q t = told_second x y (λ before after. before ≡ taken ++ after) (λ before after. Q after) t
+rest_alone None y taken Q t = tt
+rest_alone (Some x) None taken Q t = t
+rest_alone (Some x) (Some y) taken Q t = t.1
 
 taken_as : (x y : Left) (t u : List ℕ) → t ≡ u → BothTold x y (λ before after. before ≡ t ++ after) → BothTold x y (λ before after. before ≡ u ++ after)
 taken_as x y t u e told = subst (λ (v : List ℕ). BothTold x y (λ before after. before ≡ v ++ after)) e told
@@ -65,25 +53,25 @@ blank_begun text x y a = ended_head_begun text (subst EndedBetween (sym a.1.0) a
 pub comes_refused : (head : List ℕ) (lines : ℕ) (x y : Left) → AnswersHead (Ok (Whole head lines)) x y → ReadsReply head None
     → BytesCome head x y
 comes_refused head lines x y a reads = record {
-  taken = taken_as x y a.0 head (sym a.1.0) (taken_alone x y a.0 (λ _. ⊤) a.2);
+  taken = taken_as x y a.0 head (sym a.1.0) (took_alone x y a.0 (λ _. ⊤) a.2);
   ends = inl (inl (head_says head lines x y None a reads));
 }
 
 pub comes_large : (text : List ℕ) (x y : Left) → AnswersHead (Ok (TooLarge text)) x y → BytesCome text x y
 comes_large text x y a = record {
-  taken = taken_as x y a.0 text (sym a.1.0) (taken_alone x y a.0 (λ _. ⊤) a.2);
+  taken = taken_as x y a.0 text (sym a.1.0) (took_alone x y a.0 (λ _. ⊤) a.2);
   ends = inl (inl (large_says text x y a));
 }
 
 pub comes_cut : (text : List ℕ) (x y : Left) → AnswersHead (Ok (CutHead text)) x y → BytesCome text x y
 comes_cut text x y a = record {
-  taken = taken_as x y a.0 text (sym a.1.0) (taken_alone x y a.0 (λ rest. rest ≡ []) a.2);
+  taken = taken_as x y a.0 text (sym a.1.0) (took_alone x y a.0 (λ rest. rest ≡ []) a.2);
   ends = inr (inl (cut_begun text x y a), rest_alone x y a.0 (λ rest. rest ≡ []) a.2);
 }
 
 pub comes_blank : (text : List ℕ) (x y : Left) → AnswersHead (Ok (NoHead text)) x y → BytesCome text x y
 comes_blank text x y a = record {
-  taken = taken_as x y a.0 text (sym a.1.0) (taken_alone x y a.0 (λ rest. rest ≡ []) a.2);
+  taken = taken_as x y a.0 text (sym a.1.0) (took_alone x y a.0 (λ rest. rest ≡ []) a.2);
   ends = inr (inl (blank_begun text x y a), rest_alone x y a.0 (λ rest. rest ≡ []) a.2);
 }
 
@@ -95,20 +83,22 @@ both_taken head lines taken body Q x y z a is told =
     subst (λ (v : List ℕ). BothTold x z (λ before after. (before ≡ v ++ after) × Q after)) (λ i. sym a.1.0 i ++ is i)
     (took_both x y z a.0 taken (λ _. ⊤) Q a.2 told)
 
-pub comes_whole : (head : List ℕ) (lines : ℕ) (body : List ℕ) (says : ReplyHead) (x y z : Left) → AnswersHead (Ok (Whole head lines)) x y
-    → HeadSays head (Some says) → AnswersBody (most_of says) (Ok (WholeBody body)) y z → BytesCome (head ++ body) x z
-comes_whole head lines body says x y z a heads b = record {
-  taken = taken_alone x z (head ++ body) (λ _. ⊤) (both_taken head lines b.0 body (λ _. ⊤) x y z a b.1.0 b.2);
-  ends = inl (inr (head, body, says, heads, refl, b.1.1));
-}
-
-pub comes_short : (head : List ℕ) (lines : ℕ) (body : List ℕ) (says : ReplyHead) (x y z : Left) → AnswersHead (Ok (Whole head lines)) x y
-    → HeadSays head (Some says) → AnswersBody (most_of says) (Ok (CutBody body)) y z → BytesCome (head ++ body) x z
-comes_short head lines body says x y z a heads b =
-    let told = both_taken head lines b.0 body (λ rest. rest ≡ []) x y z a b.1.0 b.2 in
+pub comes_behind : (To : List ℕ → Type 0) (head : List ℕ) (lines count : ℕ) (body : List ℕ) (says : ReplyHead) (x y z : Left)
+    → AnswersHead (Ok (Whole head lines)) x y → HeadSays head (Some says) → (b : AnswersBody To (most_of says) (Ok count) y z) → b.0 ≡ body
+    → BytesCome (head ++ body) x z
+comes_behind To head lines count body says x y z a heads b is =
+    let told = both_taken head lines b.0 body (λ rest. count < most_of says → rest ≡ []) x y z a is b.2 in
     record {
-      taken = taken_alone x z (head ++ body) (λ rest. rest ≡ []) told;
-      ends = inr (inr (head, body, says, heads, refl, b.1.1), rest_alone x z (head ++ body) (λ rest. rest ≡ []) told);
+      taken = took_alone x z (head ++ body) (λ rest. count < most_of says → rest ≡ []) told;
+      ends =
+          elim (cases_lt count (most_of says)) [
+            | inl less ↦
+                inr (
+                  inr (head, body, says, heads, refl, omega (arith, less, b.1.1, ap length is)),
+                  rest_alone x z (head ++ body) (λ rest. rest ≡ []) (took_so x z (head ++ body) (λ rest. count < most_of says → rest ≡ []) (λ rest. rest ≡ []) (λ rest ends. ends less) told),
+                )
+            | inr full ↦ inl (inr (head, body, says, heads, refl, omega (arith, full, b.1.1, b.1.2, ap length is)))
+          ];
     }
 
 -- the same bytes by another name
@@ -122,22 +112,17 @@ pub comes_lost : (head body : List ℕ) (says : ReplyHead) (x z : Left) → Head
     → length body ≤ most_of says → BytesCome (head ++ body) x z → Brings (Err Memory) x z
 comes_lost head body says x z heads less came = (head ++ body, inr (head, body, says, heads, refl, less), came.taken)
 
-pub brings_body_fault : (head : List ℕ) (lines : ℕ) (says : ReplyHead) (fault : LinkFault) (x y z : Left) → AnswersHead (Ok (Whole head lines)) x y
-    → HeadSays head (Some says) → AnswersBody (most_of says) (Err fault) y z → Brings (Err fault) x z
-brings_body_fault head lines says ReadFault x y z a heads b = (
+pub brings_body_fault : (To : List ℕ → Type 0) (head : List ℕ) (lines : ℕ) (says : ReplyHead) (failed : Failed) (x y z : Left) → AnswersHead (Ok (Whole head lines)) x y
+    → HeadSays head (Some says) → AnswersBody To (most_of says) (Err failed) y z → Brings (Err ReadFault) x z
+brings_body_fault To head lines says failed x y z a heads b = (
   head ++ b.0,
   inr (head, b.0, says, heads, refl, b.1),
-  taken_alone x z (head ++ b.0) (λ _. ⊤) (both_taken head lines b.0 b.0 (λ _. ⊤) x y z a refl b.2),
-)
-brings_body_fault head lines says Memory x y z a heads b = (
-  head ++ b.0,
-  inr (head, b.0, says, heads, refl, b.1),
-  taken_alone x z (head ++ b.0) (λ _. ⊤) (both_taken head lines b.0 b.0 (λ _. ⊤) x y z a refl b.2),
+  took_alone x z (head ++ b.0) (λ _. ⊤) (both_taken head lines b.0 b.0 (λ _. ⊤) x y z a refl b.2),
 )
 
 pub brings_head_fault : (fault : LinkFault) (x y : Left) → AnswersHead (Err fault) x y → Brings (Err fault) x y
-brings_head_fault ReadFault x y a = (a.0, inl a.1, taken_alone x y a.0 (λ _. ⊤) a.2)
-brings_head_fault Memory x y a = (a.0, inl a.1, taken_alone x y a.0 (λ _. ⊤) a.2)
+brings_head_fault ReadFault x y a = (a.0, inl a.1, took_alone x y a.0 (λ _. ⊤) a.2)
+brings_head_fault Memory x y a = (a.0, inl a.1, took_alone x y a.0 (λ _. ⊤) a.2)
 
 -- a head and its body put together
 pub brings_joined : (head body : List ℕ) (says : ReplyHead) (r : Result Came LinkFault) (x z : Left) → HeadSays head (Some says)
@@ -151,8 +136,5 @@ brings_joined head body says (Err Memory) x z heads less comes bytes lost = come
 pub reads_of : (slice text : List ℕ) (v w : Option ReplyHead) → slice ≡ text → v ≡ w → ReadsReply slice v → ReadsReply text w
 reads_of slice text v w e f reads = subst (λ (o : Option ReplyHead). ReadsReply text o) f (subst (λ (b : List ℕ). ReadsReply b v) e reads)
 
-pub body_of : (m n : ℕ) (v w : BodyRead) (x y : Left) → m ≡ n → v ≡ w → AnswersBody m (Ok v) x y → AnswersBody n (Ok w) x y
-body_of m n v w x y e f a = subst (λ (u : BodyRead). AnswersBody n (Ok u) x y) f (subst (λ (k : ℕ). AnswersBody k (Ok v) x y) e a)
-
-pub fault_of : (m n : ℕ) (fault : LinkFault) (x y : Left) → m ≡ n → AnswersBody m (Err fault) x y → AnswersBody n (Err fault) x y
-fault_of m n fault x y e a = subst (λ (k : ℕ). AnswersBody k (Err fault) x y) e a
+pub body_of : (To : List ℕ → Type 0) (m n : ℕ) (r : Result ℕ Failed) (x y : Left) → m ≡ n → AnswersBody To m r x y → AnswersBody To n r x y
+body_of To m n r x y e a = subst (λ (k : ℕ). AnswersBody To k r x y) e a

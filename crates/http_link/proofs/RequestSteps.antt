@@ -1,22 +1,21 @@
 -- What the steps of reading a request show.
-use Rattle.std.proofs.Common.{◌≡◌, ℕ, ◌+◌, ◌<◌, ◌≤◌, Bool, inl, inr, List, [], ◌∷◌, ◌++◌, length, Option, Some, None, Ok, Err, refl, sym, subst, arith, length-append}
-use Rattle.std.specs.Prelude.{⊤, MatchOption}
+use Rattle.std.proofs.Common.{◌≡◌, ℕ, ◌+◌, ◌<◌, ◌≤◌, Bool, inl, inr, List, [], ◌∷◌, ◌++◌, length, Option, Some, None, Ok, Err, refl, sym, ◌∙◌, subst, arith, length-append}
+use Rattle.std.specs.Prelude.{⊤, MatchOption, Result}
 use Rattle.os_io.specs.Streams.{BothTold}
+use Rattle.os_io.specs.declared.streams.Failed.{Failed}
 use Rattle.http_link.specs.declared.refusal.Refusal.{Refusal}
 use Rattle.http_link.specs.declared.refusal.Refusal.TheVariants.{HeadTooLarge}
 use Rattle.http_link.specs.declared.requests.Incoming.TheVariants.{Whole as WholeRequest, Refused, Cut, Ended}
 use Rattle.http_link.specs.declared.requests.HeadRead.{HeadRead}
 use Rattle.http_link.specs.declared.requests.HeadRead.TheVariants.{Whole, TooLarge, Cut as CutHead, Ended as NoHead}
-use Rattle.http_link.specs.declared.requests.BodyRead.{BodyRead}
-use Rattle.http_link.specs.declared.requests.BodyRead.TheVariants.{Whole as WholeBody, Cut as CutBody}
 use Rattle.http_link.specs.declared.requests.LinkFault.{LinkFault}
 use Rattle.http_link.specs.declared.requests.LinkFault.TheVariants.{ReadFault, Memory}
 use Rattle.http_link.specs.Lines.{AreEmptyLines, IsOpenHead, IsWholeHead}
 use Rattle.http_link.specs.Checks.{most_head, accepted, Head}
-use Rattle.http_link.specs.Requests.{AnswersTaken, AnswersHead, AnswersBody, LosesPiece, TakesByte}
+use Rattle.http_link.specs.Requests.{AnswersTaken, AnswersHead, BodyEnds, AnswersBody, GivesPiece, TakesByte}
 use Rattle.http_link.proofs.Lines.{open_has_no_head, whole_not_blank}
 use Rattle.http_link.proofs.OneRequest.{open_part}
-use Rattle.http_link.proofs.LinkReads.{took_with, took_same, took_all, took_both}
+use Rattle.http_link.proofs.LinkReads.{took_none, took_with, took_same, took_all, took_both, took_so, took_alone}
 
 abbrev Left : Type 0
 Left = Option (List ℕ)
@@ -31,9 +30,6 @@ IsEnd y z = BothTold y z (λ before after. (before ≡ []) × (after ≡ []))
 -- an answer under a pattern
 pub head_at : (v w : HeadRead) (x y : Left) → v ≡ w → AnswersHead (Ok v) x y → AnswersHead (Ok w) x y
 head_at v w x y e a = subst (λ (u : HeadRead). AnswersHead (Ok u) x y) e a
-
-pub body_at : (len : ℕ) (v w : BodyRead) (x y : Left) → v ≡ w → AnswersBody len (Ok v) x y → AnswersBody len (Ok w) x y
-body_at len v w x y e a = subst (λ (u : BodyRead). AnswersBody len (Ok u) x y) e a
 
 pub byte_at : (v w : Option ℕ) (x y : Left) → v ≡ w → BothTold x y (TakesByte v) → BothTold x y (TakesByte w)
 byte_at v w x y e a = subst (λ (u : Option ℕ). BothTold x y (TakesByte u)) e a
@@ -89,64 +85,111 @@ head_lost text b start lines x y o fits took =
 
 -- ---- a body
 
-pub body_fault : (fault : LinkFault) (len most : ℕ) (x y z : Left) (body after : List ℕ) → length body < len
-    → length body + most ≤ len → Took x y body → LosesPiece y z most → (fault ≡ ReadFault → (after ≡ body) × (z ≡ y)) → AnswersBody len (Err fault) x z
-body_fault ReadFault len most x y z body after less room took lost kept = (body, less, took_same x y z body took (kept refl).1)
-body_fault Memory len most x y z body after less room took lost kept = (
-  body ++ lost.0,
-  omega (arith, room, lost.1, length-append body lost.0),
-  took_both x y z body lost.0 (λ _. ⊤) (λ _. ⊤) (took_with x y body took) lost.2,
+-- so many bytes were taken, and went where bodies go
+pub record Went (To : List ℕ → Type 0) (count : ℕ) (x y : Left) : Type 0 where
+  pub taken : List ℕ
+  pub to : To taken
+  pub counted : length taken ≡ count
+  pub told : Took x y taken
+
+pub none_went : (To : List ℕ → Type 0) (x : Left) → To [] → Went To 0 x x
+none_went To x stays = record { taken = []; to = stays; counted = refl; told = took_none x }
+
+-- bytes that went to one after another
+abbrev Joins : (To More Both : List ℕ → Type 0) → Type 0
+Joins To More Both = (a b : List ℕ) → To a → More b → Both (a ++ b)
+
+pub more_went : (To More Both : List ℕ → Type 0) (count more most : ℕ) (x y z : Left) → Joins To More Both → Went To count x y
+    → GivesPiece More y z most more → Went Both (count + more) x z
+more_went To More Both count more most x y z joins w (piece, to, size, fits, told) = record {
+  taken = w.taken ++ piece;
+  to = joins w.taken piece w.to to;
+  counted = length-append w.taken piece ∙ (λ i. w.counted i + size i);
+  told = took_alone x z (w.taken ++ piece) (λ rest. more ≡ 0 → rest ≡ [])
+      (took_both x y z w.taken piece (λ _. ⊤) (λ rest. more ≡ 0 → rest ≡ []) (took_with x y w.taken w.told) told);
+}
+
+-- all of a body came
+pub body_whole : (To : List ℕ → Type 0) (count len : ℕ) (x y : Left) → Went To count x y → count ≤ len → len ≤ count
+    → AnswersBody To len (Ok count) x y
+body_whole To count len x y w fits full = (
+  w.taken,
+  (w.to, w.counted, fits),
+  took_so x y w.taken (λ _. ⊤) (λ rest. count < len → rest ≡ []) (λ rest _ less. absurd (omega (arith, less, full))) (took_with x y w.taken w.told),
 )
+
+-- the input ended before
+pub body_ended : (To More Both : List ℕ → Type 0) (count len more most : ℕ) (x y z : Left) → Joins To More Both → Went To count x y
+    → GivesPiece More y z most more → more ≡ 0 → count ≤ len → AnswersBody Both len (Ok count) x z
+body_ended To More Both count len more most x y z joins w (piece, to, size, fits, told) none less = (
+  w.taken ++ piece,
+  (joins w.taken piece w.to to, omega (arith, length-append w.taken piece, w.counted, size, none), less),
+  took_so x z (w.taken ++ piece) (λ rest. more ≡ 0 → rest ≡ []) (λ rest. count < len → rest ≡ []) (λ rest ends _. ends none)
+      (took_both x y z w.taken piece (λ _. ⊤) (λ rest. more ≡ 0 → rest ≡ []) (took_with x y w.taken w.told) told),
+)
+
+pub body_fault : (To Both : List ℕ → Type 0) (count len : ℕ) (failed : Failed) (x y z : Left) → Went To count x y → count < len → z ≡ y
+    → AnswersBody Both len (Err failed) x z
+body_fault To Both count len failed x y z w less same =
+    (w.taken, omega (arith, w.counted, less), took_same x y z w.taken w.told same)
 
 -- ---- a request
 
-pub answer_refused : (head : List ℕ) (lines : ℕ) (refusal : Refusal) (x y : Left) → AnswersHead (Ok (Whole head lines)) x y
-    → Head head (Err refusal) → AnswersTaken (Ok (Refused refusal)) x y
-answer_refused head lines refusal x y a refused =
+pub answer_refused : (To : List ℕ → Type 0) (head : List ℕ) (lines : ℕ) (refusal : Refusal) (x y : Left) → AnswersHead (Ok (Whole head lines)) x y
+    → Head head (Err refusal) → AnswersTaken To (Ok (Refused refusal)) x y
+answer_refused To head lines refusal x y a refused =
     (a.0, subst (λ (h : List ℕ). Head h (Err refusal)) a.1.0 refused, a.2)
 
-pub answer_body : (head : List ℕ) (lines len : ℕ) (close : Bool) (body : List ℕ) (x y z : Left) → AnswersHead (Ok (Whole head lines)) x y
-    → Head head (Ok (accepted len close)) → AnswersBody len (Ok (WholeBody body)) y z
-    → AnswersTaken (Ok (WholeRequest (record { close = close; body = body }))) x z
-answer_body head lines len close body x y z a taken b = (
-  a.0 ++ b.0,
-  (head, subst (λ (n : ℕ). Head head (Ok (accepted n close))) (sym b.1.1) taken, λ i. sym a.1.0 i ++ b.1.0 i),
-  took_both x y z a.0 b.0 (λ _. ⊤) (λ _. ⊤) a.2 b.2,
-)
+-- a head, and what came behind it
+head_and_body : (To : List ℕ → Type 0) (head : List ℕ) (lines len : ℕ) (r : Result ℕ Failed) (Q : List ℕ → Type 0) (x y z : Left)
+    → ((rest : List ℕ) → BodyEnds len r rest → Q rest) → (a : AnswersHead (Ok (Whole head lines)) x y) → (b : AnswersBody To len r y z)
+    → BothTold x z (λ before after. (before ≡ (a.0 ++ b.0) ++ after) × Q after)
+head_and_body To head lines len r Q x y z f a b =
+    took_both x y z a.0 b.0 (λ _. ⊤) Q a.2 (took_so y z b.0 (λ rest. BodyEnds len r rest) Q f b.2)
 
-pub answer_cut : (head : List ℕ) (lines len : ℕ) (close : Bool) (body : List ℕ) (x y z : Left) → AnswersHead (Ok (Whole head lines)) x y
-    → Head head (Ok (accepted len close)) → AnswersBody len (Ok (CutBody body)) y z → AnswersTaken (Ok Cut) x z
-answer_cut head lines len close body x y z a taken b = (
+pub answer_whole : (To : List ℕ → Type 0) (head : List ℕ) (lines len count : ℕ) (close : Bool) (x y z : Left) → AnswersHead (Ok (Whole head lines)) x y
+    → Head head (Ok (accepted len close)) → AnswersBody To len (Ok count) y z → len ≤ count
+    → AnswersTaken To (Ok (WholeRequest (record { close = close; length = count }))) x z
+answer_whole To head lines len count close x y z a taken b full =
+    let all : len ≡ length b.0 = omega (arith, b.1.1, b.1.2, full) in (
+      a.0 ++ b.0,
+      (
+        b.0,
+        (head, subst (λ (n : ℕ). Head head (Ok (accepted n close))) all taken, λ i. sym a.1.0 i ++ b.0),
+        b.1.1,
+        b.1.0,
+      ),
+      head_and_body To head lines len (Ok count) (λ _. ⊤) x y z (λ rest _. tt) a b,
+    )
+
+pub answer_cut : (To : List ℕ → Type 0) (head : List ℕ) (lines len count : ℕ) (close : Bool) (x y z : Left) → AnswersHead (Ok (Whole head lines)) x y
+    → Head head (Ok (accepted len close)) → AnswersBody To len (Ok count) y z → count < len → AnswersTaken To (Ok Cut) x z
+answer_cut To head lines len count close x y z a taken b less = (
   a.0 ++ b.0,
   (
     whole_not_blank a.0 lines b.0 a.1.1,
-    inr (head, body, len, close, taken, (λ i. sym a.1.0 i ++ b.1.0 i), b.1.1),
+    inr (head, b.0, len, close, taken, (λ i. sym a.1.0 i ++ b.0), omega (arith, b.1.1, less)),
   ),
-  took_both x y z a.0 b.0 (λ _. ⊤) (λ rest. rest ≡ []) a.2 b.2,
+  head_and_body To head lines len (Ok count) (λ rest. rest ≡ []) x y z (λ rest ends. ends less) a b,
 )
 
-pub answer_fault : (head : List ℕ) (lines len : ℕ) (close : Bool) (fault : LinkFault) (x y z : Left) → AnswersHead (Ok (Whole head lines)) x y
-    → Head head (Ok (accepted len close)) → AnswersBody len (Err fault) y z → AnswersTaken (Err fault) x z
-answer_fault head lines len close ReadFault x y z a taken b = (
+pub answer_fault : (To : List ℕ → Type 0) (head : List ℕ) (lines len : ℕ) (close : Bool) (failed : Failed) (x y z : Left) → AnswersHead (Ok (Whole head lines)) x y
+    → Head head (Ok (accepted len close)) → AnswersBody To len (Err failed) y z → AnswersTaken To (Err ReadFault) x z
+answer_fault To head lines len close failed x y z a taken b = (
   a.0 ++ b.0,
   inr (head, b.0, len, close, taken, (λ i. sym a.1.0 i ++ b.0), b.1),
-  took_both x y z a.0 b.0 (λ _. ⊤) (λ _. ⊤) a.2 b.2,
-)
-answer_fault head lines len close Memory x y z a taken b = (
-  a.0 ++ b.0,
-  inr (head, b.0, len, close, taken, (λ i. sym a.1.0 i ++ b.0), b.1),
-  took_both x y z a.0 b.0 (λ _. ⊤) (λ _. ⊤) a.2 b.2,
+  head_and_body To head lines len (Err failed) (λ _. ⊤) x y z (λ rest _. tt) a b,
 )
 
-pub answer_large : (text : List ℕ) (x y : Left) → AnswersHead (Ok (TooLarge text)) x y → AnswersTaken (Ok (Refused HeadTooLarge)) x y
-answer_large text x y a = (a.0, inl (a.1.1, a.1.2, refl), a.2)
+pub answer_large : (To : List ℕ → Type 0) (text : List ℕ) (x y : Left) → AnswersHead (Ok (TooLarge text)) x y → AnswersTaken To (Ok (Refused HeadTooLarge)) x y
+answer_large To text x y a = (a.0, inl (a.1.1, a.1.2, refl), a.2)
 
-pub answer_cut_head : (text : List ℕ) (x y : Left) → AnswersHead (Ok (CutHead text)) x y → AnswersTaken (Ok Cut) x y
-answer_cut_head text x y a = (a.0, (a.1.1, inl a.1.2), a.2)
+pub answer_cut_head : (To : List ℕ → Type 0) (text : List ℕ) (x y : Left) → AnswersHead (Ok (CutHead text)) x y → AnswersTaken To (Ok Cut) x y
+answer_cut_head To text x y a = (a.0, (a.1.1, inl a.1.2), a.2)
 
-pub answer_ended : (text : List ℕ) (x y : Left) → AnswersHead (Ok (NoHead text)) x y → AnswersTaken (Ok Ended) x y
-answer_ended text x y a = (a.0, a.1.1, a.2)
+pub answer_ended : (To : List ℕ → Type 0) (text : List ℕ) (x y : Left) → AnswersHead (Ok (NoHead text)) x y → AnswersTaken To (Ok Ended) x y
+answer_ended To text x y a = (a.0, a.1.1, a.2)
 
-pub answer_head_fault : (fault : LinkFault) (x y : Left) → AnswersHead (Err fault) x y → AnswersTaken (Err fault) x y
-answer_head_fault ReadFault x y a = (a.0, inl a.1, a.2)
-answer_head_fault Memory x y a = (a.0, inl a.1, a.2)
+pub answer_head_fault : (To : List ℕ → Type 0) (fault : LinkFault) (x y : Left) → AnswersHead (Err fault) x y → AnswersTaken To (Err fault) x y
+answer_head_fault To ReadFault x y a = (a.0, inl a.1, a.2)
+answer_head_fault To Memory x y a = (a.0, inl a.1, a.2)

@@ -1,15 +1,15 @@
 -- Requests in a stream of bytes (RFC 9112, sections 2 and 6).
 use Rattle.std.specs.Prelude.{◌≡◌, ℕ, ◌<◌, ◌≤◌, ◌⊎◌, Bool, List, [], ◌∷◌, ◌++◌, length, Option, None, Some, Result, Ok, Err, ⊤}
 use Rattle.os_io.specs.Streams.{BothTold, HasRisen}
+use Rattle.os_io.specs.declared.streams.Failed.{Failed}
 use Rattle.http_link.specs.declared.refusal.Refusal.{Refusal}
+use Rattle.http_link.specs.declared.requests.Head as request_heads
 use Rattle.http_link.specs.declared.requests.Incoming.{Incoming}
-use Rattle.http_link.specs.declared.requests.Incoming.TheVariants.{Whole as WholeRequest, Refused, Cut, Ended}
+use Rattle.http_link.specs.declared.requests.Incoming.TheVariants.{Whole, Refused, Cut, Ended}
 use Rattle.http_link.specs.declared.requests.LinkFault.{LinkFault}
 use Rattle.http_link.specs.declared.requests.LinkFault.TheVariants.{ReadFault, Memory}
 use Rattle.http_link.specs.declared.requests.HeadRead.{HeadRead}
-use Rattle.http_link.specs.declared.requests.HeadRead.TheVariants.{Whole, TooLarge, Cut as CutHead, Ended as NoHead}
-use Rattle.http_link.specs.declared.requests.BodyRead.{BodyRead}
-use Rattle.http_link.specs.declared.requests.BodyRead.TheVariants.{Whole as WholeBody, Cut as CutBody}
+use Rattle.http_link.specs.declared.requests.HeadRead.TheVariants.{Whole as WholeHead, TooLarge, Cut as CutHead, Ended as NoHead}
 use Rattle.http_link.specs.Lines.{HeadLines, AreHeadLines, print_head, AreEmptyLines, HasNoHead, IsWholeHead}
 use Rattle.http_link.specs.Checks.{most_head, accepted, Head}
 
@@ -57,27 +57,32 @@ pub record EndedBetween (bytes : List ℕ) : Type 0 where
   pub empty : AreEmptyLines bytes
   pub fits : length bytes < most_head
 
--- what the bytes that an answer took from the input are
-abbrev pub ShowsTaken : Result Incoming LinkFault → List ℕ → Type 0
-ShowsTaken (Ok (WholeRequest request)) taken = IsRequest taken request.close request.body
-ShowsTaken (Ok (Refused refusal)) taken = Head taken (Err refusal)
-ShowsTaken (Ok Cut) taken = IsCut taken
-ShowsTaken (Ok Ended) taken = EndedBetween taken
-ShowsTaken (Err ReadFault) taken = IsBegun taken
-ShowsTaken (Err Memory) taken = IsRequestPart taken
+-- the bytes are a request with this head, and its body, which has the length that the head says, went where bodies go
+abbrev pub IsRequestInto : (List ℕ → Type 0) → List ℕ → request_heads.Head → Type 0
+IsRequestInto Took bytes head =
+    (body : List ℕ) × IsRequest bytes head.close body × (length body ≡ head.length) × Took body
+
+-- what the bytes that an answer took from the input are, and which of them went where bodies go
+abbrev pub ShowsTaken : (List ℕ → Type 0) → Result Incoming LinkFault → List ℕ → Type 0
+ShowsTaken Took (Ok (Whole head)) taken = IsRequestInto Took taken head
+ShowsTaken Took (Ok (Refused refusal)) taken = Head taken (Err refusal)
+ShowsTaken Took (Ok Cut) taken = IsCut taken
+ShowsTaken Took (Ok Ended) taken = EndedBetween taken
+ShowsTaken Took (Err ReadFault) taken = IsBegun taken
+ShowsTaken Took (Err Memory) taken = IsRequestPart taken
 
 -- the input ended, where the answer says so
 abbrev pub EndsWith : Result Incoming LinkFault → List ℕ → Type 0
-EndsWith (Ok (WholeRequest request)) rest = ⊤
+EndsWith (Ok (Whole head)) rest = ⊤
 EndsWith (Ok (Refused refusal)) rest = ⊤
 EndsWith (Ok Cut) rest = rest ≡ []
 EndsWith (Ok Ended) rest = rest ≡ []
 EndsWith (Err fault) rest = ⊤
 
 -- an answer, by the bytes to come before and after it, where they are told
-abbrev pub AnswersTaken : Result Incoming LinkFault → Option (List ℕ) → Option (List ℕ) → Type 0
-AnswersTaken answer left left' =
-    (taken : List ℕ) × ShowsTaken answer taken
+abbrev pub AnswersTaken : (List ℕ → Type 0) → Result Incoming LinkFault → Option (List ℕ) → Option (List ℕ) → Type 0
+AnswersTaken Took answer left left' =
+    (taken : List ℕ) × ShowsTaken Took answer taken
     × BothTold left left' (λ before after. (before ≡ taken ++ after) × EndsWith answer after)
 
 -- a fault in reading is counted, and nothing else is
@@ -94,7 +99,7 @@ LeavesNone (Err Memory) ahead = ⊤
 
 -- what the bytes are that the reading of a head took
 abbrev pub ShowsHead : Result HeadRead LinkFault → List ℕ → Type 0
-ShowsHead (Ok (Whole text lines)) taken =
+ShowsHead (Ok (WholeHead text lines)) taken =
     (text ≡ taken) × IsWholeHead taken lines × (length taken ≤ most_head)
 ShowsHead (Ok (TooLarge text)) taken = (text ≡ taken) × (length taken ≡ most_head) × HasNoHead taken
 ShowsHead (Ok (CutHead text)) taken = (text ≡ taken) × (¬ (AreEmptyLines taken)) × IsHeadBegun taken
@@ -104,7 +109,7 @@ ShowsHead (Err Memory) taken = IsHeadPart taken
 
 -- the input ended, where that is the answer
 abbrev pub HeadEnds : Result HeadRead LinkFault → List ℕ → Type 0
-HeadEnds (Ok (Whole text lines)) rest = ⊤
+HeadEnds (Ok (WholeHead text lines)) rest = ⊤
 HeadEnds (Ok (TooLarge text)) rest = ⊤
 HeadEnds (Ok (CutHead text)) rest = rest ≡ []
 HeadEnds (Ok (NoHead text)) rest = rest ≡ []
@@ -121,35 +126,27 @@ abbrev pub TakesByte : Option ℕ → List ℕ → List ℕ → Type 0
 TakesByte None before after = (before ≡ []) × (after ≡ [])
 TakesByte (Some byte) before after = before ≡ byte ∷ after
 
--- so many bytes were taken and added to the body. With none, the input has ended
-abbrev pub AddsPiece : Option (List ℕ) → Option (List ℕ) → List ℕ → List ℕ → ℕ → ℕ → Type 0
-AddsPiece left left' body body' most count =
-    (piece : List ℕ) × (body' ≡ body ++ piece) × (length piece ≡ count) × (count ≤ most)
+-- so many bytes were taken, and went where bodies go. With none, the input has ended
+abbrev pub GivesPiece : (List ℕ → Type 0) → Option (List ℕ) → Option (List ℕ) → ℕ → ℕ → Type 0
+GivesPiece Took left left' most count =
+    (piece : List ℕ) × Took piece × (length piece ≡ count) × (count ≤ most)
     × BothTold left left' (λ before after. (before ≡ piece ++ after) × (count ≡ 0 → after ≡ []))
 
--- some bytes were taken, and no more than so many
-abbrev pub LosesPiece : Option (List ℕ) → Option (List ℕ) → ℕ → Type 0
-LosesPiece left left' most =
-    (piece : List ℕ) × (length piece ≤ most) × BothTold left left' (λ before after. (before ≡ piece ++ after) × ⊤)
-
 -- what the bytes are that the reading of a body took
-abbrev pub ShowsBody : ℕ → Result BodyRead LinkFault → List ℕ → Type 0
-ShowsBody len (Ok (WholeBody body)) taken = (taken ≡ body) × (length body ≡ len)
-ShowsBody len (Ok (CutBody body)) taken = (taken ≡ body) × (length body < len)
-ShowsBody len (Err ReadFault) taken = length taken < len
-ShowsBody len (Err Memory) taken = length taken ≤ len
+abbrev pub ShowsBody : (List ℕ → Type 0) → ℕ → Result ℕ Failed → List ℕ → Type 0
+ShowsBody Took len (Ok count) taken = Took taken × (length taken ≡ count) × (count ≤ len)
+ShowsBody Took len (Err failed) taken = length taken < len
 
--- the input ended, where that is the answer
-abbrev pub BodyEnds : Result BodyRead LinkFault → List ℕ → Type 0
-BodyEnds (Ok (WholeBody body)) rest = ⊤
-BodyEnds (Ok (CutBody body)) rest = rest ≡ []
-BodyEnds (Err fault) rest = ⊤
+-- the input ended, where fewer came than were asked for
+abbrev pub BodyEnds : ℕ → Result ℕ Failed → List ℕ → Type 0
+BodyEnds len (Ok count) rest = count < len → rest ≡ []
+BodyEnds len (Err failed) rest = ⊤
 
 -- the reading of a body, by the bytes to come before and after it, where they are told
-abbrev pub AnswersBody : ℕ → Result BodyRead LinkFault → Option (List ℕ) → Option (List ℕ) → Type 0
-AnswersBody len answer left left' =
-    (taken : List ℕ) × ShowsBody len answer taken
-    × BothTold left left' (λ before after. (before ≡ taken ++ after) × BodyEnds answer after)
+abbrev pub AnswersBody : (List ℕ → Type 0) → ℕ → Result ℕ Failed → Option (List ℕ) → Option (List ℕ) → Type 0
+AnswersBody Took len answer left left' =
+    (taken : List ℕ) × ShowsBody Took len answer taken
+    × BothTold left left' (λ before after. (before ≡ taken ++ after) × BodyEnds len answer after)
 
 -- the bytes begin with a request
 abbrev pub BeginsWithRequest : List ℕ → Type 0

@@ -3,12 +3,13 @@
 //! What is read is read from a [`Feed`], as each source is one. [`Carried`] is one that reads ahead of a link, so that reading byte by
 //! byte costs little.
 //!
-//! [`read_request`] takes one request and not a byte more. It says what its bytes were: a head that is accepted with a
+//! [`read_request_into`] takes one request and not a byte more. It says what its bytes were: a head that is accepted with a
 //! body of its length, a head that is refused with the first refusal in the order of the checks, or a cut. A head has
-//! at most 16,384 bytes, the empty lines before it among them, and 64 field lines, a body at most 4,194,304 bytes.
+//! at most 16,384 bytes, the empty lines before it among them, and 64 field lines, a body at most 4,194,304 bytes. The body
+//! goes piece by piece to a [`Body`](os_io::Body), and nobody holds it whole.
 //!
 //! Bytes begin with one request at most, and bytes that are cut or end between requests begin with none; laws say so.
-//! So where no read fails and there is memory, the bytes alone decide what [`read_request`] answers. Where a read fails
+//! So where no read fails and there is memory, the bytes alone decide what [`read_request_into`] answers. Where a read fails
 //! or there is no memory, it has taken a first part of that request, or all of it, and not a byte more.
 //!
 //! [`write_answer`], [`write_fault_answer`] and [`write_refusal`] write a response whole, or a first part of it where a
@@ -43,5 +44,5 @@ pub use laws::{
 pub use outgoing::write_request;
 pub use refusal::Refusal;
 pub use replies::{Came, Response, read_response};
-pub use requests::{Incoming, LinkFault, Request, read_request};
+pub use requests::{Head, Incoming, LinkFault, read_request_into};
 pub use responses::{write_answer, write_fault_answer, write_refusal};

@@ -8,10 +8,10 @@ ghost use Rattle.os_io.specs.Streams.{SameOutput};
 
 use crate::Refusal;
 use crate::checks::{MOST_FIELDS, body_length, count_named};
-use crate::requests::{BodyRead, HeadRead, LinkFault, read_body, read_head};
+use crate::requests::{HeadRead, LinkFault, read_body, read_head};
 use httparse::Status;
 use httparse::spans::{EMPTY_HEADER_SPAN, HeaderSpan, parse_response};
-use os_io::{Source, Text};
+use os_io::{MemBody, Source, Text};
 use std::alloc::Global;
 
 /// The most bytes of a response's body.
@@ -150,10 +150,13 @@ pub fn read_response<S: Source>(alloc: Global, source: &mut S) -> Result<Came, L
                     reply: None,
                 });
             };
-            match read_body(alloc, source, says.most()) {
-                Ok(BodyRead::Whole(body)) => join(head, says, body),
-                Ok(BodyRead::Cut(body)) => join(head, says, body),
-                Err(fault) => Err(fault),
+            let mut body = MemBody::new(alloc);
+            match read_body(source, &mut body, says.most()) {
+                Ok(_) => match body.finish() {
+                    Ok(body) => join(head, says, body),
+                    Err(_) => Err(LinkFault::Memory),
+                },
+                Err(_) => Err(LinkFault::ReadFault),
             }
         }
         Ok(HeadRead::TooLarge(bytes)) => Ok(Came { bytes, reply: None }),

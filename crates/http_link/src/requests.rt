@@ -1,31 +1,31 @@
 //! Requests on a source.
-ghost use Rattle.std.specs.Prelude.{◌≡◌, ◌≤◌, ◌<◌, ◌++◌, [], ℕ, List, length, Ok, Err, IfOk, OnOk, OnErr, IfErr};
-ghost use Rattle.http_link.specs.declared.requests.LinkFault.TheVariants.{ReadFault};
+ghost use Rattle.std.specs.Prelude.{◌≡◌, ◌≤◌, ◌<◌, [], length, IfOk, OnErr};
 ghost use Rattle.os_io.specs.Streams.{BothTold, Counts, SameOutput};
-ghost use Rattle.http_link.specs.Checks.{most_head, Head};
+ghost use Rattle.http_link.specs.Checks.{most_head, Head as ComesOf};
 ghost use Rattle.http_link.specs.Lines.{IsWholeHead};
-ghost use Rattle.http_link.specs.Requests.{AnswersTaken, AnswersHead, AnswersBody, AddsPiece, LosesPiece, CountsFault, LeavesNone, TakesByte};
+ghost use Rattle.http_link.specs.Requests.{AnswersTaken, AnswersHead, AnswersBody, GivesPiece, CountsFault, LeavesNone, TakesByte};
 
 use crate::Refusal;
 use crate::checks::{Accepted, MOST_FIELDS, head_outcome};
 use crate::feed::Feed;
 use crate::scan::OpenHead;
-use os_io::{Failed, Text};
+use os_io::{Body, Failed, Text};
 use std::alloc::Global;
 
-/// A request whose head was accepted.
-#[derive(Drop)]
-pub struct Request {
-    /// Whether the connection is to close behind it.
+/// What the head of a request says, whose body went elsewhere.
+#[derive(Clone, Copy, Drop)]
+pub struct Head {
+    /// Whether the connection is to close behind the request.
     pub close: bool,
-    pub body: Text,
+    /// How many bytes the body has.
+    pub length: u64,
 }
 
 /// What came on a source.
 #[derive(Drop)]
 pub enum Incoming {
-    /// A whole request.
-    Whole(Request),
+    /// A whole request, which has this head.
+    Whole(Head),
     /// A head that is refused. Its body, if it has one, is still to come.
     Refused(Refusal),
     /// The input ended inside a request that nothing refused before.
@@ -47,7 +47,7 @@ pub enum LinkFault {
 fn judge(head: &[u8], lines: usize) -> Result<Accepted, Refusal>
     requires whole { IsWholeHead head.now lines }
     requires fits { length head.now ≤ most_head }
-    ensures { Head head.now result }
+    ensures { ComesOf head.now result }
 {
     if lines > MOST_FIELDS {
         return Err(Refusal::HeadTooLarge);
@@ -69,15 +69,6 @@ pub(crate) enum HeadRead {
     Cut(Text),
     /// The input ended before it.
     Ended(Text),
-}
-
-/// How the reading of a body ended, with the bytes that were read.
-#[derive(Drop)]
-pub(crate) enum BodyRead {
-    /// It has its length.
-    Whole(Text),
-    /// The input ended inside it.
-    Cut(Text),
 }
 
 /// The most bytes that one read of a body asks for.
@@ -130,73 +121,82 @@ pub(crate) fn read_head<S: Feed>(alloc: Global, source: &mut S) -> Result<HeadRe
     Ok(HeadRead::TooLarge(head.text))
 }
 
-/// Reads some bytes to the end of a body, and no more than `most`. 0 is the end of the input.
-fn read_piece<S: Feed>(source: &mut S, body: &mut Text, most: usize) -> Result<usize, LinkFault>
+/// Reads some bytes, and no more than `most`, and hands them on to a body. 0 is the end of the input.
+fn read_piece<S: Feed, B: Body>(source: &mut S, body: &mut B, most: usize) -> Result<usize, Failed>
     requires { 0 < most }
-    ensures piece { IfOk result (λ count. AddsPiece (S.tells source.old).left (S.tells source.new).left body.old body.new most count) }
-    ensures fault { OnErr result (LosesPiece (S.tells source.old).left (S.tells source.new).left most) }
-    ensures unread { IfErr result (λ fault. fault ≡ ReadFault → (body.new ≡ body.old) × ((S.tells source.new).left ≡ (S.tells source.old).left)) }
-    ensures ahead { LeavesNone result (S.ahead source.new) }
-    ensures counted { CountsFault result (S.tells source.old).read_faults (S.tells source.new).read_faults }
+    ensures piece { IfOk result (GivesPiece (B.took body.old body.new) (S.tells source.old).left (S.tells source.new).left most) }
+    ensures err { OnErr result ((S.tells source.new).left ≡ (S.tells source.old).left) }
+    ensures ahead { OnErr result (S.ahead source.new ≡ []) }
+    ensures counted { Counts result (S.tells source.old).read_faults (S.tells source.new).read_faults }
     ensures output { SameOutput (S.tells source.old) (S.tells source.new) }
 {
     let mut buffer = [0; PIECE];
     let room = most.min(PIECE);
-    let Ok(count) = source.draw(&mut buffer[..room]) else {
-        return Err(LinkFault::ReadFault);
-    };
-    match body.extend(&buffer[..count]) {
-        Ok(()) => Ok(count),
-        Err(_) => Err(LinkFault::Memory),
+    match source.draw(&mut buffer[..room]) {
+        Ok(count) => {
+            body.take(&buffer[..count]);
+            Ok(count)
+        }
+        Err(failed) => Err(failed),
     }
 }
 
-/// Reads a body of this length, and nothing past it.
-pub(crate) fn read_body<S: Feed>(
-    alloc: Global,
+/// Reads a body of this length, and nothing past it, hands it on piece by piece, and says how many bytes came: fewer where the
+/// input ended before.
+pub(crate) fn read_body<S: Feed, B: Body>(
     source: &mut S,
+    body: &mut B,
     len: usize,
-) -> Result<BodyRead, LinkFault>
-    ensures answer { AnswersBody len result (S.tells source.old).left (S.tells source.new).left }
-    ensures ahead { LeavesNone result (S.ahead source.new) }
-    ensures counted { CountsFault result (S.tells source.old).read_faults (S.tells source.new).read_faults }
+) -> Result<usize, Failed>
+    ensures answer { AnswersBody (B.took body.old body.new) len result (S.tells source.old).left (S.tells source.new).left }
+    ensures ahead { OnErr result (S.ahead source.new ≡ []) }
+    ensures counted { Counts result (S.tells source.old).read_faults (S.tells source.new).read_faults }
     ensures output { SameOutput (S.tells source.old) (S.tells source.new) }
 {
-    let mut body = Text::new(alloc);
-    while body.len() < len {
-        let most = len - body.len();
-        match read_piece(source, &mut body, most) {
+    let mut done = 0;
+    while done < len {
+        match read_piece(source, body, len - done) {
             Ok(count) => {
                 if count == 0 {
-                    return Ok(BodyRead::Cut(body));
+                    return Ok(done);
                 }
+                done += count;
             }
-            Err(fault) => return Err(fault),
+            Err(failed) => return Err(failed),
         }
     }
-    Ok(BodyRead::Whole(body))
+    Ok(done)
 }
 
-/// Reads a request, and nothing past it. Of a refused head, its body is still to come.
+/// Reads a request, and nothing past it, and hands its body on as it comes, so that nobody holds it whole. Of a refused head, its
+/// body is still to come.
 ///
 /// The head is taken byte by byte, so a source with costly reads wants a buffer of its own. Where a read fails or there is
 /// no memory, what was taken is lost: a first part of one request, or all of it where there was no memory. Where a read fails,
-/// nothing is left of what was read ahead.
-pub fn read_request<S: Feed>(alloc: Global, source: &mut S) -> Result<Incoming, LinkFault>
-    ensures answer { AnswersTaken result (S.tells source.old).left (S.tells source.new).left }
+/// nothing is left of what was read ahead. What of a body went on is said where it is whole, and nowhere else.
+pub fn read_request_into<S: Feed, B: Body>(
+    alloc: Global,
+    source: &mut S,
+    body: &mut B,
+) -> Result<Incoming, LinkFault>
+    ensures answer { AnswersTaken (B.took body.old body.new) result (S.tells source.old).left (S.tells source.new).left }
     ensures ahead { LeavesNone result (S.ahead source.new) }
     ensures counted { CountsFault result (S.tells source.old).read_faults (S.tells source.new).read_faults }
     ensures output { SameOutput (S.tells source.old) (S.tells source.new) }
 {
     match read_head(alloc, source) {
         Ok(HeadRead::Whole(head, lines)) => match judge(head.as_slice(), lines) {
-            Ok(said) => match read_body(alloc, source, said.len) {
-                Ok(BodyRead::Whole(body)) => Ok(Incoming::Whole(Request {
-                    close: said.close,
-                    body,
-                })),
-                Ok(BodyRead::Cut(_)) => Ok(Incoming::Cut),
-                Err(fault) => Err(fault),
+            Ok(said) => match read_body(source, body, said.len) {
+                Ok(count) => {
+                    if count < said.len {
+                        return Ok(Incoming::Cut);
+                    }
+                    Ok(Incoming::Whole(Head {
+                        close: said.close,
+                        length: count as u64,
+                    }))
+                }
+                Err(_) => Err(LinkFault::ReadFault),
             },
             Err(refusal) => Ok(Incoming::Refused(refusal)),
         },

@@ -1,19 +1,21 @@
 //! Reads calls.
 
-ghost use Rattle.std.specs.Prelude.{◌≡◌, IfOk, IfErr};
+ghost use Rattle.std.specs.Prelude.{◌≡◌, [], List, ℕ, None, IfOk, IfErr};
 ghost use Rattle.tree_grammar.specs.Elements.{Element, events};
 ghost use Rattle.document_tags.specs.Spots.{StandsAt};
 ghost use Rattle.soap_calls.specs.Calls.{IsCall, IsCallIn, IsCallText};
 ghost use Rattle.soap_calls.specs.Refusals.{CallFails};
-ghost use Rattle.soap_calls.specs.Reading.{RefusesElement, RefusesRoot};
+ghost use Rattle.os_io.specs.Bodies.{TakesBehind, behind_none, behind_both};
+ghost use Rattle.soap_calls.specs.Reading.{RefusesElement, RefusesRoot, HasTaken};
 
 use crate::call::SoapCall;
 use crate::envelope::held;
 use crate::fault::SoapFault;
 use crate::parts::read_parts;
-use doc_tree::TreeFault;
-use document_tags::{Spot, read_document, told_name};
+use doc_tree::{Reader, TreeFault};
+use document_tags::{Spot, told_name};
 use element_tree::Tree;
+use os_io::{Body, MOST_BYTES};
 use six_calls::CallKind;
 use std::alloc::Global;
 
@@ -54,19 +56,62 @@ fn read_tree(alloc: Global, tree: &Tree) -> Result<SoapCall, SoapFault>
     }
 }
 
-/// The call that bytes are the envelope of, as the body of a request: a document of at most 4,194,304 bytes and of a depth
-/// of at most 32.
-///
-/// [`SoapFault::Envelope`] exactly where they are none, or no envelope with one body that has one element in it; then
-/// [`SoapFault::Call`] exactly where that element isn't one of the six calls, and [`SoapFault::Part`] of the first part that
-/// is refused.
+/// Reads the call whose envelope comes in pieces, as the body of a request does. It holds what was read, and no bytes beside.
+#[derive(Drop)]
+pub struct CallReader {
+    alloc: Global,
+    reader: Reader,
+}
+
+impl CallReader {
+    /// One that took nothing.
+    pub fn new(alloc: Global) -> CallReader
+        ensures taken { HasTaken result [] }
+        ensures fresh { result.reader.refusal ≡ None }
+    {
+        CallReader {
+            alloc,
+            reader: Reader::new(alloc, MOST_BYTES),
+        }
+    }
+
+    /// The call that all bytes that it took are the envelope of: a document of at most 4,194,304 bytes and of a depth of at most 32.
+    ///
+    /// [`SoapFault::Envelope`] exactly where they are none, or no envelope with one body that has one element in it; then
+    /// [`SoapFault::Call`] exactly where that element isn't one of the six calls, and [`SoapFault::Part`] of the first part that
+    /// is refused. [`SoapFault::Memory`] also where there was no memory for one of the pieces.
+    pub fn finish(self) -> Result<SoapCall, SoapFault>
+        ensures ok { (bytes : List ℕ) → HasTaken self bytes → IfOk result (IsCallText bytes) }
+        ensures err { (bytes : List ℕ) → HasTaken self bytes → IfErr result (CallFails bytes) }
+    {
+        let CallReader { alloc, reader } = self;
+        match reader.finish() {
+            Ok(tree) => read_tree(alloc, &tree),
+            Err(TreeFault::Memory) => Err(SoapFault::Memory),
+            Err(_) => Err(SoapFault::Envelope),
+        }
+    }
+}
+
+impl Body for CallReader {
+    ghost took = { TakesBehind HasTaken };
+
+    ghost stays = { behind_none HasTaken };
+
+    ghost joined = { behind_both HasTaken };
+
+    /// A piece that is refused is refused again at the end.
+    fn take(&mut self, piece: &[u8]) {
+        let _ = self.reader.feed(piece);
+    }
+}
+
+/// The call that bytes are the envelope of, as the body of a request, or why they are none: what a [`CallReader`] says that took them.
 pub fn read_call(alloc: Global, bytes: &[u8]) -> Result<SoapCall, SoapFault>
     ensures ok { IfOk result (IsCallText bytes.now) }
     ensures err { IfErr result (CallFails bytes.now) }
 {
-    match read_document(alloc, bytes) {
-        Ok(tree) => read_tree(alloc, &tree),
-        Err(TreeFault::Memory) => Err(SoapFault::Memory),
-        Err(_) => Err(SoapFault::Envelope),
-    }
+    let mut reader = CallReader::new(alloc);
+    reader.take(bytes);
+    reader.finish()
 }

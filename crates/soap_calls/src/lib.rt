@@ -1,6 +1,7 @@
 //! The six calls of the Optimization Services in SOAP envelopes, and what answers them (SOAP 1.1, sections 4 and 7).
 //!
-//! [`read_call`] gives the call that bytes are the envelope of, or why they are none, and [`write_call`] writes a call.
+//! [`read_call`] gives the call that bytes are the envelope of, or why they are none, and a [`CallReader`] that of bytes that
+//! come in pieces, which it doesn't keep; [`write_call`] writes a call.
 //! [`write_reply`] and [`write_fault`] write what answers one, and [`read_reply`] reads that. What is written is read back:
 //! [`calls_are_read_back`], [`returns_are_read_back`], [`faults_are_read_back`].
 #![tactic(auto)]
@@ -17,7 +18,7 @@ mod replying;
 mod telling;
 
 pub use call::{Parts, SoapCall};
-pub use calling::read_call;
+pub use calling::{CallReader, read_call};
 pub use fault::{Answer, NotReply, SoapFault};
 pub use laws::{
     bytes_have_one_refusal, bytes_say_one_answer, bytes_say_one_call, calls_are_not_refused,

@@ -1,7 +1,7 @@
 //! Single messages, told as texts.
 
-use http_link::{Incoming, LinkFault, Refusal, read_request, write_answer};
-use os_io::{Failed, MemSink, MemSource, Memory, Text};
+use http_link::{Incoming, LinkFault, Refusal, read_request_into, write_answer};
+use os_io::{Failed, MemBody, MemSink, MemSource, Memory, Text};
 use std::alloc::Global;
 
 /// The room for a response.
@@ -22,10 +22,11 @@ fn name_of(refusal: Refusal) -> &'static str {
 /// What comes on a source of these bytes, of which one read gives a piece.
 fn told(alloc: Global, bytes: &[u8], piece: usize) -> Result<Text, Memory> {
     let mut source = MemSource::new(alloc, bytes, piece, &[])?;
-    match read_request(alloc, &mut source) {
-        Ok(Incoming::Whole(request)) => {
-            let len = request.body.len();
-            let end = if request.close { " close" } else { "" };
+    let mut body = MemBody::new(alloc);
+    match read_request_into(alloc, &mut source, &mut body) {
+        Ok(Incoming::Whole(head)) => {
+            let len = body.finish()?.len();
+            let end = if head.close { " close" } else { "" };
             let text = format!(in alloc; "body {len}{end}")?;
             Text::from_slice(alloc, text.as_str().as_bytes())
         }

@@ -1,8 +1,37 @@
-use Rattle.std.proofs.Common.{arith}
-use Rattle.http_link.proofs.RequestSteps.{body_fault}
+use Rattle.std.proofs.Common.{arith, refl, ◌∙◌}
+use Rattle.http_link.proofs.RequestSteps.{none_went, more_went, body_whole, body_ended, body_fault}
 use Rattle.http_link.proofs.requests.read_body.Goals as goal
+
+pub loop-done-init : goal.loop-done-init
+loop-done-init g c = record {
+  fits = omega arith;
+  went = none_went _ _ (g.met.B.Body.stays c.args.body.now);
+  faults = refl;
+  output = record { written = refl; handed_on = refl; write_faults = refl };
+}
+
+pub loop-done-preserved : goal.loop-done-preserved
+loop-done-preserved g c =
+    let i = c.loop-done.invariant in
+    let e = c.in-Ok.ensures in
+    record {
+      fits = let most = e.piece.3 in let test = c.loop-done-test.true in omega (arith, most, test);
+      went = more_went _ _ _ _ _ _ _ _ _ (λ a b. g.met.B.Body.joined _ _ _ a b) i.went e.piece;
+      faults = e.counted ∙ i.faults;
+      output = record {
+        written = e.output.written ∙ i.output.written;
+        handed_on = e.output.handed_on ∙ i.output.handed_on;
+        write_faults = e.output.write_faults ∙ i.output.write_faults;
+      };
+    }
+
+pub returns-then-count-eq0-clause-answer : goal.returns-then-count-eq0-clause-answer
+returns-then-count-eq0-clause-answer g c =
+    body_ended _ _ _ c.loop-done.done c.args.len c.in-Ok.count _ _ _ _ (λ a b. g.met.B.Body.joined _ _ _ a b) c.loop-done.invariant.went c.in-Ok.ensures.piece c.if-count-eq0.true c.loop-done.invariant.fits
 
 pub returns-in-Err-clause-answer : goal.returns-in-Err-clause-answer
 returns-in-Err-clause-answer g c =
-    body_fault c.in-Err.fault c.args.len _ _ _ _ c.loop-body.body c.read_piece.new.body (omega (arith, c.loop-body-test.true, c.len.ensures))
-    (omega (arith, c.loop-body-test.true, c.len.ensures, c.len-in-loop-body.ensures)) c.loop-body.invariant.taken c.in-Err.ensures.fault c.in-Err.ensures.unread
+    body_fault _ (g.B.Body.took c.args.body.now c.read_piece.new.body) c.loop-done.done c.args.len c.in-Err.failed _ _ _ c.loop-done.invariant.went c.loop-done-test.true c.in-Err.ensures.err
+
+pub returns-clause-answer : goal.returns-clause-answer
+returns-clause-answer g c = body_whole _ _ _ _ _ c.loop-done.invariant.went c.loop-done.invariant.fits c.loop-done-test.false
