@@ -8,17 +8,19 @@ use Rattle.os_io.proofs.Pieces.{grows_same, grows_on}
 use Rattle.http_link.specs.Carry.{with_carry, tells_ahead}
 use Rattle.http_link.specs.declared.requests.Incoming.{Incoming}
 use Rattle.http_link.specs.declared.requests.Incoming.TheVariants as incoming
-use Rattle.http_link.specs.declared.requests.Request.{Request}
+use Rattle.http_link.specs.declared.requests.Head.{Head}
 use Rattle.http_link.specs.declared.requests.LinkFault.{LinkFault}
-use Rattle.http_link.specs.declared.requests.LinkFault.TheVariants as lost
-use Rattle.http_link.specs.Requests.{CountsFault, AnswersTaken as Reading}
+use Rattle.http_link.specs.Requests.{CountsFault, ShowsTaken, EndsWith, AnswersTaken as Reading}
+use Rattle.os_io.specs.Bodies.{TakesBehind}
+use Rattle.soap_calls.specs.declared.calling.CallReader.{CallReader}
+use Rattle.soap_calls.specs.Reading.{HasTaken}
 use Rattle.job_table.specs.History.{Entry}
 use Rattle.os_server.specs.declared.reply.Reply.{Reply}
 use Rattle.os_server.specs.declared.reply.Reply.TheVariants.{Answer, Refused, NoMemory}
 use Rattle.os_server.specs.declared.serve.Served.{Served}
 use Rattle.os_server.specs.declared.serve.Served.TheVariants.{Ended, CutShort, ReadFault, WriteFault, Memory}
 use Rattle.os_server.specs.Talk.{Part, part, then, all_of, ReadsBytes, AtEnd, most_requests, text_of_reply, IsReplyDue, IsExchange, EndsTalk, IsLastPart, HandsOn, Accounts, Serves, ServesWhole, both_ends}
-use Rattle.os_server.specs.Serving.{IsReplied, AnswersOne, FollowsReply, CameWithDue, ComesOnLink, AccountsOne, ServesOne}
+use Rattle.os_server.specs.Serving.{IsReplied, AnswersOne, FollowsReply, CameWithDue, CountsCame, ComesOnLink, AccountsOne, ServesOne}
 use Rattle.os_server.proofs.Pieces.{Made, Wakes}
 use Rattle.os_server.proofs.Steps.{read_then, wrote_then, at_end_then, read_none, wrote_none, read_whole, read_of, hands_then, then_none, all_more}
 use Rattle.os_server.proofs.Replies.{WholesArePart, due}
@@ -32,46 +34,48 @@ Joins did did' both = (a b : List Entry) → did a → did' b → both (a ++ b)
 
 -- ---- what came
 
-whole_came : (made : Made) (wakes : Wakes) (wholes : WholesArePart) (did : List Entry → Type 0) (r : Request) (reply : Reply) (old new : Tells)
-    → Reading (Ok (incoming.Whole r)) old.left new.left → new.read_faults ≡ old.read_faults → SameOutput old new
-    → ((own : List Entry) × did own × IsReplied made wakes r.body r.close own reply) → ComesOnLink made wakes did (Ok reply) old new
-whole_came made wakes wholes did r reply old new (taken, request, took) counted output (own, calls, is) = record {
-  taken = taken;
-  own = own;
-  shows = due made wakes wholes taken r.body r.close own reply request is;
-  calls = calls;
-  read = read_of _ old.left new.left taken took;
-  counted = counted;
-  output = output;
-}
+-- a request that is whole, and whose body was read as it came
+pub whole_comes : (made : Made) (wakes : Wakes) (wholes : WholesArePart) (did : List Entry → Type 0) (reader read : CallReader) (i : Incoming) (head : Head) (reply : Reply)
+    (old new : Tells) → HasTaken reader [] → i ≡ incoming.Whole head → Reading (TakesBehind HasTaken reader read) (Ok i) old.left new.left
+    → new.read_faults ≡ old.read_faults → SameOutput old new
+    → ((bytes : List ℕ) → HasTaken read bytes → (own : List Entry) × did own × IsReplied made wakes bytes head.close own reply)
+    → ComesOnLink made wakes did (Ok reply) old new
+whole_comes made wakes wholes did reader read i head reply old new fresh is came counted output replied =
+    let whole = subst (λ (j : Incoming). Reading (TakesBehind HasTaken reader read) (Ok j) old.left new.left) is came in
+    let body = whole.1.0 in
+    let done = replied body (whole.1.3 [] fresh) in
+    record {
+      taken = whole.0;
+      own = done.0;
+      shows = due made wakes wholes whole.0 body head.close done.0 reply whole.1.1 done.2;
+      calls = done.1;
+      read = read_of _ old.left new.left whole.0 whole.2;
+      counted = counted;
+      output = output;
+    }
 
--- a request that is whole
-pub whole_comes : (made : Made) (wakes : Wakes) (wholes : WholesArePart) (did : List Entry → Type 0) (i : Incoming) (r : Request) (lent : List ℕ) (reply : Reply) (old new : Tells)
-    → i ≡ incoming.Whole r → lent ≡ r.body → Reading (Ok i) old.left new.left → new.read_faults ≡ old.read_faults → SameOutput old new
-    → ((own : List Entry) × did own × IsReplied made wakes lent r.close own reply) → ComesOnLink made wakes did (Ok reply) old new
-whole_comes made wakes wholes did i r lent reply old new is lent_is came counted output replied =
-    whole_came made wakes wholes did r reply old new (subst (λ (j : Incoming). Reading (Ok j) old.left new.left) is came) counted output
-    (subst (λ (b : List ℕ). (own : List Entry) × did own × IsReplied made wakes b r.close own reply) lent_is replied)
+end_of : (b : Result Incoming LinkFault) (x y : Bytes) (taken : List ℕ) → BothTold x y (λ before after. (before ≡ taken ++ after) × EndsWith b after)
+    → BothTold x y (λ before after. EndsWith b after)
+end_of b None y taken p = tt
+end_of b (Some x) None taken p = p
+end_of b (Some x) (Some y) taken p = p.1
 
-lost_came : (made : Made) (wakes : Wakes) (did : List Entry → Type 0) (old new : Tells) → did [] → Reading (Err lost.Memory) old.left new.left
-    → new.read_faults ≡ old.read_faults → SameOutput old new → ComesOnLink made wakes did (Ok NoMemory) old new
-lost_came made wakes did old new stays (taken, request, took) counted output = record {
-  taken = taken;
-  own = [];
-  shows = inl (request, refl);
-  calls = stays;
-  read = read_of _ old.left new.left taken took;
-  counted = counted;
-  output = output;
-}
-
--- a request for which there was no memory
-pub lost_comes : (made : Made) (wakes : Wakes) (did : List Entry → Type 0) (fault : LinkFault) (old new : Tells) → fault ≡ lost.Memory → did []
-    → Reading (Err fault) old.left new.left → CountsFault {X = Incoming} (Err fault) old.read_faults new.read_faults → SameOutput old new
-    → ComesOnLink made wakes did (Ok NoMemory) old new
-lost_comes made wakes did fault old new is stays came counted output =
-    lost_came made wakes did old new stays (subst (λ (f : LinkFault). Reading (Err f) old.left new.left) is came)
-    (subst (λ (f : LinkFault). CountsFault {X = Incoming} (Err f) old.read_faults new.read_faults) is counted) output
+-- what asks nothing: no request that is whole, an answer by another name
+pub quiet_comes : (made : Made) (wakes : Wakes) (did : List Entry → Type 0) (To : List ℕ → Type 0) (a b : Result Incoming LinkFault) (came : Result Reply Served)
+    (old new : Tells) → a ≡ b → did [] → Reading To a old.left new.left → CountsFault a old.read_faults new.read_faults → SameOutput old new
+    → ((taken : List ℕ) → ShowsTaken To b taken → BothTold old.left new.left (λ before after. EndsWith b after) → CameWithDue made wakes came (AtEnd [] old.left new.left) taken [])
+    → (CountsFault b old.read_faults new.read_faults → CountsCame came old.read_faults new.read_faults) → ComesOnLink made wakes did came old new
+quiet_comes made wakes did To a b came old new is stays answer counted output shows counts =
+    let got = subst (λ (r : Result Incoming LinkFault). Reading To r old.left new.left) is answer in
+    record {
+      taken = got.0;
+      own = [];
+      shows = shows got.0 got.1 (end_of b old.left new.left got.0 got.2);
+      calls = stays;
+      read = read_of _ old.left new.left got.0 got.2;
+      counted = counts (subst (λ (r : Result Incoming LinkFault). CountsFault r old.read_faults new.read_faults) is counted);
+      output = output;
+    }
 
 -- ---- one request
 

@@ -1,6 +1,7 @@
 //! What the body of a request asks.
 ghost use Rattle.std.specs.Prelude.{◌≡◌, ◌++◌, ◌≢◌, [], ℕ, List, Result, Ok, Err, IfOk, OnOk, IfErr};
 ghost use Rattle.soap_calls.specs.declared.call.SoapCall as call_types;
+ghost use Rattle.soap_calls.specs.Reading.{HasTaken};
 ghost use Rattle.soap_calls.specs.Refusals.{CallFails};
 ghost use Rattle.osol_grammar.specs.declared.options.Options as options_types;
 ghost use Rattle.osol_grammar.specs.Reading.{DecodeFails};
@@ -14,7 +15,7 @@ use job_table::read_id;
 use os_io::{Memory, Text};
 use osol_grammar::{Options, OsolFault};
 use ospl_grammar::OsplFault;
-use soap_calls::{Parts, SoapCall, SoapFault, read_call};
+use soap_calls::{CallReader, Parts, SoapCall, SoapFault};
 use std::alloc::Global;
 
 /// One text behind another.
@@ -156,13 +157,13 @@ fn order_of(alloc: Global, call: SoapCall) -> Result<Order, NoOrder>
     }
 }
 
-/// What a body asks, or why it asks nothing: first its envelope is read, then its call, the parts, the options, and of a knock
-/// the process.
-pub(crate) fn read_order(alloc: Global, body: &[u8]) -> Result<Order, NoOrder>
-    ensures ok { IfOk result (Asks body.now) }
-    ensures err { IfErr result (AsksNothing body.now) }
+/// What a body asks that was read, or why it asks nothing: first its envelope is read, then its call, the parts, the options, and of
+/// a knock the process.
+pub(crate) fn read_order(alloc: Global, body: CallReader) -> Result<Order, NoOrder>
+    ensures ok { (bytes : List ℕ) → HasTaken body bytes → IfOk result (Asks bytes) }
+    ensures err { (bytes : List ℕ) → HasTaken body bytes → IfErr result (AsksNothing bytes) }
 {
-    match read_call(alloc, body) {
+    match body.finish() {
         Ok(call) => order_of(alloc, call),
         Err(fault) => Err(refused_call(alloc, fault)),
     }

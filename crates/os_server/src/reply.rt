@@ -1,6 +1,7 @@
 //! What a request is replied.
-ghost use Rattle.std.specs.Prelude.{◌≡◌, List, [], Err};
+ghost use Rattle.std.specs.Prelude.{◌≡◌, ℕ, List, [], Err};
 ghost use Rattle.os_io.specs.Streams.{Writes, Sends};
+ghost use Rattle.soap_calls.specs.Reading.{HasTaken};
 ghost use Rattle.job_table.specs.History.{Entry};
 ghost use Rattle.os_server.specs.declared.serve.Served.TheVariants.{ReadFault};
 ghost use Rattle.os_server.specs.Answers.{reply_of};
@@ -15,11 +16,12 @@ use crate::saying::{Said, said_fault, say};
 use crate::serve::Served;
 use crate::server::Server;
 use http_link::{
-    Feed, Incoming, LinkFault, Refusal, part_is_of_the_first_request, read_request, write_answer,
-    write_fault_answer, write_refusal,
+    Feed, Incoming, LinkFault, Refusal, part_is_of_the_first_request, read_request_into,
+    write_answer, write_fault_answer, write_refusal,
 };
 use job_table::{Calls, Verdicts};
 use os_io::{Failed, Sink};
+use soap_calls::CallReader;
 use std::alloc::Global;
 
 /// What a request is replied.
@@ -83,15 +85,15 @@ fn answer_order<V: Verdicts, C: Calls<V>, S: Server<V>>(
     }
 }
 
-/// What a body is replied.
+/// What a body is replied that was read.
 fn reply_to<V: Verdicts, C: Calls<V>, S: Server<V>>(
     alloc: Global,
     calls: &mut C,
     server: &S,
-    body: &[u8],
+    body: CallReader,
     close: bool,
 ) -> Reply
-    ensures { (own : List Entry) × C.did calls.old calls.new own × IsReplied S.ran S.wakes body.now close own result }
+    ensures { (bytes : List ℕ) → HasTaken body bytes → (own : List Entry) × C.did calls.old calls.new own × IsReplied S.ran S.wakes bytes close own result }
 {
     match read_order(alloc, body) {
         Ok(order) => answer_order(alloc, calls, server, order, close),
@@ -108,7 +110,7 @@ fn reply_to<V: Verdicts, C: Calls<V>, S: Server<V>>(
     }
 }
 
-/// Reads a request and makes its moves. Where a read fails, nothing is left of what was read ahead.
+/// Reads a request, its call as the body comes, and makes its moves. Where a read fails, nothing is left of what was read ahead.
 pub(crate) fn next_reply<I: Feed, V: Verdicts, C: Calls<V>, S: Server<V>>(
     alloc: Global,
     input: &mut I,
@@ -118,10 +120,11 @@ pub(crate) fn next_reply<I: Feed, V: Verdicts, C: Calls<V>, S: Server<V>>(
     ensures comes { ComesOnLink S.ran S.wakes (C.did calls.old calls.new) result (I.tells input.old) (I.tells input.new) }
     ensures ahead { result ≡ Err ReadFault → I.ahead input.new ≡ [] }
 {
-    match read_request(alloc, input) {
-        Ok(Incoming::Whole(request)) => {
+    let mut body = CallReader::new(alloc);
+    match read_request_into(alloc, input, &mut body) {
+        Ok(Incoming::Whole(head)) => {
             part_is_of_the_first_request();
-            Ok(reply_to(alloc, calls, server, request.body.as_slice(), request.close))
+            Ok(reply_to(alloc, calls, server, body, head.close))
         }
         Ok(Incoming::Refused(refusal)) => Ok(Reply::Refused(refusal)),
         Ok(Incoming::Cut) => Err(Served::CutShort),
