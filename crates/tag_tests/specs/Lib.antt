@@ -1,0 +1,5 @@
+pub mod Tests
+pub mod Forms
+pub mod Firsts
+pub mod Fields
+pub mod Courses

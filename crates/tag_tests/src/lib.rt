@@ -1,0 +1,16 @@
+//! Which refusal a document is told whose grammar is a table: each mark has a kind, and each kind a list of tests.
+//!
+//! A mark is a start tag, a character or an end tag, in document order. In the state that the marks before it leave it
+//! has a list of tests, in the order in which they refuse: the first that fails refuses the document, and where all pass
+//! the mark leaves a state. `Forms` defines this for whatever marks, states and tests there are, `Firsts` says the same
+//! in other words (of the first mark at which a test fails, the least refusal), `Fields` is of numbers that are read
+//! together at one tag, and `Courses` of one who is told of marks and goes on hearing after a refusal.
+//!
+//! [`both`] joins what was read of two numbers, and [`value`] finds an attribute.
+#![tactic(auto)]
+
+mod attributes;
+mod numbers;
+
+pub use attributes::value;
+pub use numbers::{Unread, both};
