@@ -105,7 +105,7 @@ shows_itself text = record { instance = λ p is. is; report = λ r is. is; no_in
 
 front_shows : (bytes : List ℕ) → Shows (read bytes) bytes
 front_shows bytes = record {
-  instance = λ p text. record { root = text.root; document = document bytes text.root text.document; accepted = text.accepted; means = text.means };
+  instance = λ p text. record { root = text.root; document = document bytes text.root text.document; means = text.means };
   report = λ r text. record { root = text.root; document = document bytes text.root text.document; is = text.is };
   no_instance = no_instance bytes;
   no_report = no_report bytes;

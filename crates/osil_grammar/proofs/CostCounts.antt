@@ -1,8 +1,5 @@
 -- How many costs aren't 0, one after another.
-use Rattle.std.proofs.Common.{◌≡◌, ℕ, ◌+◌, ◌<◌, ◌≤◌, List, [], ◌∷◌, length, drop, get_or, ap, refl, sym, ◌∙◌, subst, arith, inl, inr}
-use Rattle.std.proofs.lemmas.List.{drop_more, drop_all}
-use Rattle.fraction.specs.declared.frac.Frac.{Frac}
-use Rattle.osil_grammar.specs.Writing.{CountsCosts}
+use Rattle.osil_grammar.proofs.Words.{◌≡◌, ℕ, ◌+◌, ◌<◌, ◌≤◌, List, [], ◌∷◌, length, drop, get_or, ap, refl, sym, ◌∙◌, subst, arith, inl, inr, drop_more, drop_all, Frac, CountsCosts}
 
 -- the first, and the rest
 counts_join : (c : Frac) (cs : List Frac) (m n : ℕ) → CountsCosts (c ∷ []) m → CountsCosts cs n → CountsCosts (c ∷ cs) (m + n)

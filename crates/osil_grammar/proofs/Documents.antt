@@ -1,23 +1,7 @@
 -- The text of a written instance is a document.
-use Rattle.std.proofs.Common.{◌≡◌, ℕ, zero, suc, ◌+◌, ◌^◌, ◌<◌, ◌≤◌, Bool, nat_lt, cond, true, false, List, [], ◌∷◌, length, map, refl, sym, subst, arith, inl, inr, lit<, lit≤}
-use Rattle.std.specs.Prelude.{codes}
-use Rattle.std.specs.Fmt.{decimal}
-use Rattle.std.specs.List.{All}
-use Rattle.std.proofs.lemmas.List.Elements.{All-nil, All-cons, All-map, All-weaker}
-use Rattle.tree_grammar.specs.Characters.{IsXmlText}
-use Rattle.tree_grammar.specs.Elements.{Attribute, Nodes, none, element, Element}
-use Rattle.element_tree.specs.WritableElements.{IsWritable, local_element}
+use Rattle.osil_grammar.proofs.Words.{◌≡◌, ℕ, zero, suc, ◌+◌, ◌^◌, ◌<◌, ◌≤◌, Bool, nat_lt, cond, true, false, List, [], ◌∷◌, length, map, refl, sym, subst, arith, inl, inr, lit<, lit≤, codes, decimal, All, All-nil, All-cons, All-map, All-weaker, IsXmlText, Attribute, Nodes, none, element, Element, IsWritable, local_element, IsDocument, document_limit, Frac, Entry, Goal, Sense, Min, Max, Parts, IsValid, counted_element, with_attribute, CountsCosts, WriteLists, WritesGoal, WritesInstance, IsWrittenText, counts_nodes, entries_below, row_starts, sense_text}
 use Rattle.element_tree.proofs.Documents.{written_doc}
-use Rattle.document_tags.specs.Texts.{IsDocument, document_limit}
 use Rattle.tree_grammar.specs.Document.{Doc}
-use Rattle.fraction.specs.declared.frac.Frac.{Frac}
-use Rattle.fraction.specs.declared.ends.Entry.{Entry}
-use Rattle.instance.specs.declared.parts.Goal.{Goal}
-use Rattle.instance.specs.declared.parts.Sense.{Sense}
-use Rattle.instance.specs.declared.parts.Sense.TheVariants.{Min, Max}
-use Rattle.instance.specs.Parts.{Parts, IsValid}
-use Rattle.document_tags.specs.Writing.{counted_element, with_attribute}
-use Rattle.osil_grammar.specs.Writing.{CountsCosts, WriteLists, WritesGoal, WritesInstance, IsWrittenText, counts_nodes, entries_below, row_starts, sense_text}
 use Rattle.document_tags.proofs.XmlNodes.{IsTag, is_tag, tag_by}
 use Rattle.document_tags.proofs.PrintableTexts.{fixed_text, number_text}
 use Rattle.osil_grammar.proofs.PrintableTexts.{plain_shown}

@@ -1,25 +1,7 @@
 -- Entries that are the sums of what is stored: each stands at a place of something stored, and they are no more than that.
-use Rattle.std.proofs.Common.{◌≡◌, ◌∙◌, ℕ, zero, suc, ◌+◌, ◌<◌, ◌≤◌, ◌⊎◌, inl, inr, ⊎_elim, Bool, true, false, cond, nat_eq, ℤ, pos, List, [], ◌∷◌, length, get_or, replicate, refl, ap, sym, subst, arith}
-use Rattle.std.specs.Prelude.{Option, Some, IfSome, unsigned_abs, ◌-ℤ◌}
-use Rattle.std.specs.List.{All}
-use Rattle.std.proofs.lemmas.Bool.{cases_Bool, ne_eqb, and_left, and_right}
-use Rattle.std.proofs.lemmas.Int.{ints}
-use Rattle.std.proofs.lemmas.List.Elements.{All-nil, All-cons, All-head, All-tail, All-append, All-map}
-use Rattle.rational.specs.Ratio.{Ratio, IsSame, sum}
+use Rattle.osil_grammar.proofs.Words.{◌≡◌, ◌∙◌, ℕ, zero, suc, ◌+◌, ◌<◌, ◌≤◌, ◌⊎◌, inl, inr, ⊎_elim, Bool, true, false, cond, nat_eq, ℤ, pos, List, [], ◌∷◌, length, get_or, replicate, refl, ap, sym, subst, arith, unsigned_abs, ◌-ℤ◌, All, cases_Bool, ne_eqb, and_left, and_right, ints, All-nil, All-cons, All-head, All-tail, All-append, Ratio, IsSame, sum, ratio, Frac, Entry, IsBefore, IsInside, entry, entries, lines_from, placed, placed_all, place_sum, AreEntriesOf, AreWithin}
 use Rattle.evidence.specs.Sums as evidence
 use Rattle.evidence.specs.Instance as Of
-use Rattle.std.proofs.lemmas.List.{length-map}
-use Rattle.fraction.specs.Frac.{ratio, ratios}
-use Rattle.fraction.specs.declared.frac.Frac.{Frac}
-use Rattle.fraction.specs.declared.ends.Entry.{Entry}
-use Rattle.instance.specs.Parts.{IsBefore, IsInside}
-use Rattle.instance.specs.Program.{entry, entries}
-use Rattle.osil_grammar.specs.Matrix.{lines_from, placed, placed_all, place_sum, stored}
-use Rattle.osil_grammar.specs.Meaning.{AreEntriesOf}
-use Rattle.osil_grammar.specs.PartialParts.{AreWithin}
-use Rattle.osil_grammar.specs.declared.entries.Lists.{Lists}
-use Rattle.osil_grammar.specs.declared.matrix.Found.{Found}
-use Rattle.osil_grammar.specs.Parsing.{wholes, lists_of, AreStored, AreListsOf, FitsSize, FitsMatrix}
 use Rattle.osil_grammar.proofs.RowEntries.{Rises, rises}
 use Rattle.osil_grammar.proofs.Places.{is_at, is_at-own, is_at-same}
 
@@ -165,21 +147,5 @@ are_within b rows cols starts indices values es lines by few are =
       inside = λ k d h. let at = stands_inside rows cols (get_or es k d) l places (stand k d h) in record { row = at.0; col = at.1; nonzero = are.nonzero k d h };
     }
 
-some_fits : {X : Type 0} (o : Option X) (x : X) (P : X → Type 0) → o ≡ Some x → IfSome o P → P x
-some_fits o x P is h = subst (λ p. IfSome p P) is h
-
--- the same of the lists as they were read
-pub lists_within : (l : Lists) (lines rows cols : ℕ) (es : List Entry) → AreStored l lines → FitsMatrix rows cols lines l → AreEntriesOf (stored (lists_of l)) es → AreWithin rows cols es
-lists_within l lines rows cols es stored_so fits are =
-    are_within l.by_columns rows cols (wholes l.starts.items) (wholes l.indices.items) (ratios l.values.items) es (omega (arith, stored_so.divided.one_more, fits.0))
-    (All-map (λ (z : ℤ). unsigned_abs z < cond l.by_columns rows cols) pos l.indices.items fits.1) (let size = length-map l.values.items ratio in let few = fits.2 in omega (arith, size, few)) are
-
 pub nothing_within : (rows cols : ℕ) (es : List Entry) → es ≡ [] → AreWithin rows cols es
 nothing_within rows cols es none = subst (AreWithin rows cols) (sym none) (record { few = omega arith; ascending = λ k d h. absurd (omega (arith, h)); inside = All-nil (IsInside rows cols) })
-
-pub fits_lists : (f : Found) (l : Lists) (width height lines : ℕ) → lines ≡ cond l.by_columns width height → AreListsOf f l → FitsSize width height f → FitsMatrix height width lines l
-fits_lists f l width height lines is are fits = (
-  is,
-  subst (λ (b : Bool). All (λ n. n < cond b height width) l.indices.items) are.by_columns (some_fits f.indices l.indices (λ ns. All (λ n. n < cond f.by_columns height width) ns.items) are.indices fits.0),
-  some_fits f.values l.values (λ xs. length xs.items ≤ 100000) are.values fits.1,
-)

@@ -1,13 +1,6 @@
 -- Entries in order: by the test of a sort, by indices, and after a change at the end.
-use Rattle.std.proofs.Common.{◌≡◌, ℕ, zero, suc, ◌+◌, ◌<◌, Bool, true, false, not, cond, nat_eq, List, [], ◌∷◌, ◌++◌, length, get_or, arith, refl, sym, ◌∙◌, ap₂, subst, ⊎_elim, inl, inr}
-use Rattle.std.specs.Prelude.{◌&&◌}
-use Rattle.std.specs.List.{All, filter}
+use Rattle.osil_grammar.proofs.Words.{◌≡◌, ℕ, zero, suc, ◌+◌, ◌<◌, Bool, true, false, not, cond, nat_eq, List, [], ◌∷◌, ◌++◌, length, get_or, arith, refl, sym, ◌∙◌, ap₂, subst, ⊎_elim, inl, inr, ◌&&◌, All, filter, cases_Bool, cases_order, true≢false, lt-ltb, le-ltb, eq-eqb, ne_eqb, All-nil, All-cons, Entry, IsBefore, IsAscending, Follow, AllFollow, IsRising}
 use Rattle.std.specs.Ordering.{is_lt, nat_cmp, ordering_then}
-use Rattle.std.proofs.lemmas.Bool.{cases_Bool, cases_order, true≢false, lt-ltb, le-ltb, eq-eqb, ne_eqb}
-use Rattle.std.proofs.lemmas.List.Elements.{All-nil, All-cons}
-use Rattle.fraction.specs.declared.ends.Entry.{Entry}
-use Rattle.instance.specs.Parts.{IsBefore, IsAscending}
-use Rattle.osil_grammar.specs.Orders.{Follow, AllFollow, IsRising}
 
 -- the test that the first is before the second, of rows and columns
 abbrev pub is_less : ℕ → ℕ → ℕ → ℕ → Bool

@@ -1,30 +1,10 @@
 -- One entry more among the sums of those before it.
-use Rattle.std.proofs.Common.{◌≡◌, ℕ, ◌+◌, ◌/◌, ◌<◌, ◌≤◌, true, false, nat_eq, cond, pos, ◌+ℤ◌, List, [], ◌∷◌, ◌++◌, length, get_or, take, drop, arith, refl, sym, ◌∙◌, ap, subst, ⊎_elim, inl, inr}
-use Rattle.std.specs.Prelude.{◌&&◌, ◌⊎◌, unsigned_abs}
-use Rattle.std.specs.List.{All}
-use Rattle.std.proofs.Math.Nat.{div-one}
-use Rattle.std.proofs.lemmas.Int.{ints}
-use Rattle.std.proofs.lemmas.Bool.{ne_eqb, eq-eqb, and_left, and_right, and_from, cases_eq}
-use Rattle.std.proofs.Math.ListN.{set}
-use Rattle.std.proofs.lemmas.List.{append_assoc, map_push, map-append, take_all, take_more, take-append-drop, drop_more, set_at, length-take-le}
-use Rattle.std.proofs.lemmas.List.Elements.{All-weaker, All-map}
-use Rattle.rational.specs.Ratio.{Ratio, sum, IsNumber, IsSame}
-use Rattle.rational.specs.Width.{left_term, right_term, most, AreFourWithin, SumFits}
+use Rattle.osil_grammar.proofs.Words.{◌≡◌, ℕ, ◌+◌, ◌/◌, ◌<◌, ◌≤◌, true, false, nat_eq, cond, pos, ◌+ℤ◌, List, [], ◌∷◌, ◌++◌, length, get_or, take, drop, arith, refl, sym, ◌∙◌, ap, subst, ⊎_elim, inl, inr, ◌&&◌, ◌⊎◌, unsigned_abs, All, div-one, ints, ne_eqb, eq-eqb, and_left, and_right, and_from, cases_eq, set, append_assoc, map_push, map-append, take_all, take_more, take-append-drop, drop_more, set_at, length-take-le, All-weaker, All-map, Ratio, sum, IsNumber, IsSame, left_term, right_term, AreFourWithin, SumFits, IsSame-trans, IsSame-sum, sum-number, none-sum, sums_same, whole-reduced, ratio, Frac, Entry, IsBefore, entry, entries, place_sum, HasWidePlace, Follow, IsNotBehind, IsInOrder, IsRising, AreSumsAt, AreJoined}
+use Rattle.rational.specs.Width.{most}
 use Rattle.rational.proofs.CommonDivisors.{one_divides}
-use Rattle.rational.proofs.Scaling.{IsSame-trans, IsSame-sum}
 use Rattle.evidence.specs.Sums as evidence
 use Rattle.evidence.specs.Instance as Of
-use Rattle.evidence.proofs.Numbers.{sum-number, none-sum}
-use Rattle.evidence.proofs.Fits.{sums_same, whole-reduced}
-use Rattle.fraction.specs.Frac.{ratio}
-use Rattle.fraction.specs.declared.frac.Frac.{Frac}
-use Rattle.fraction.specs.declared.ends.Entry.{Entry}
 use Rattle.fraction.proofs.Sums.{sum_fits}
-use Rattle.instance.specs.Parts.{IsBefore}
-use Rattle.instance.specs.Program.{entry, entries}
-use Rattle.osil_grammar.specs.Matrix.{place_sum, HasWidePlace}
-use Rattle.osil_grammar.specs.Orders.{Follow, IsNotBehind, IsInOrder, IsRising}
-use Rattle.osil_grammar.specs.Parsing.{AreSumsAt, AreJoined}
 use Rattle.osil_grammar.proofs.Places.{is_at, entry_at-push_other, entry_at-push_here, entry_at-nowhere, place_sum-push, place_sum-number, IsWideFrom, wide_push, is_at-same}
 use Rattle.osil_grammar.proofs.EntryOrder.{all_before_last, before_alike, before_or_same, all_change, all_behind_one}
 

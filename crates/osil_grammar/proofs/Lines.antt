@@ -1,15 +1,7 @@
 -- The stored values line by line.
-use Rattle.std.proofs.Common.{◌≡◌, ℕ, zero, suc, ◌+◌, ◌-◌, ◌<◌, ◌≤◌, Bool, ℤ, pos, List, [], ◌∷◌, ◌++◌, length, get_or, take, drop, replicate, arith, refl, sym, ◌∙◌, ap, ap₂, subst}
-use Rattle.std.specs.Prelude.{unsigned_abs, ◌-ℤ◌, ◌≤ℤ◌}
-use Rattle.std.proofs.lemmas.Int.{ints}
-use Rattle.std.proofs.lemmas.List.{append_assoc, take_more, drop_more, drop_all, drop-drop, length-take-le, length-drop, length-map, take-map, drop-map, get_or-map}
-use Rattle.rational.specs.Ratio.{Ratio}
+use Rattle.osil_grammar.proofs.Words.{◌≡◌, ℕ, zero, suc, ◌+◌, ◌-◌, ◌<◌, ◌≤◌, Bool, ℤ, pos, List, [], ◌∷◌, ◌++◌, length, get_or, take, drop, replicate, arith, refl, sym, ◌∙◌, ap, ap₂, subst, unsigned_abs, ◌-ℤ◌, ◌≤ℤ◌, ints, append_assoc, take_more, drop_more, drop_all, drop-drop, length-take-le, length-drop, length-map, take-map, drop-map, get_or-map, Ratio, ratio, ratios, Frac, IsDivision, lines_from, placed, placed_all, wholes, line_entries, AreStored}
 use Rattle.evidence.specs.Instance as Of
-use Rattle.fraction.specs.Frac.{ratio, ratios}
-use Rattle.fraction.specs.declared.frac.Frac.{Frac}
-use Rattle.osil_grammar.specs.Matrix.{IsDivision, lines_from, placed, placed_all}
 use Rattle.osil_grammar.specs.declared.entries.Lists.{Lists}
-use Rattle.osil_grammar.specs.Parsing.{wholes, line_entries, AreStored}
 
 -- the first values are all on one line, and the others come behind them
 pub placed_front : (by_columns : Bool) (n j : ℕ) (lines : List ℕ) (indices : List ℤ) (values : List Ratio) → n ≤ length indices → n ≤ length values → placed_all by_columns (replicate n j ++ lines) indices values ≡ placed_all by_columns (replicate n j) (take n indices) (take n values) ++ placed_all by_columns lines (drop n indices) (drop n values)

@@ -1,11 +1,5 @@
 -- The nodes of one variable, row, cost, index or value may stand before those of the rest.
-use Rattle.std.proofs.Common.{◌≡◌, ◌∙◌, ℕ, List, [], map, ap, sym, refl, inl, inr}
-use Rattle.std.specs.Prelude.{codes}
-use Rattle.std.specs.Fmt.{decimal}
-use Rattle.tree_grammar.specs.Elements.{Attribute, Nodes, none, element, chars, Event, nodes_events}
-use Rattle.fraction.specs.declared.ends.Entry.{Entry}
-use Rattle.document_tags.specs.Writing.{with_attribute}
-use Rattle.osil_grammar.specs.Writing.{WriteVars, WriteRows, WriteCosts, WriteValues, counts_nodes, type_text}
+use Rattle.osil_grammar.proofs.Words.{◌≡◌, ◌∙◌, ℕ, List, [], map, ap, sym, refl, inl, inr, codes, decimal, Attribute, Nodes, none, element, chars, Event, nodes_events, Entry, with_attribute, WriteVars, WriteRows, WriteCosts, WriteValues, counts_nodes, type_text}
 use Rattle.osil_grammar.proofs.Tellings.{CanJoin}
 
 -- a single element, and then the rest

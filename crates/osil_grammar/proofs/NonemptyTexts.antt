@@ -1,11 +1,7 @@
 -- No number's text is empty.
-use Rattle.std.proofs.Common.{◌≡◌, ℕ, ◌<◌, ◌≤◌, ◌^◌, List, [], ◌++◌, length, ap, subst, arith, length-append}
+use Rattle.osil_grammar.proofs.Words.{◌≡◌, ℕ, ◌<◌, ◌≤◌, ◌^◌, List, [], ◌++◌, length, ap, subst, arith, length-append, decimal, Ratio, sign_text, Mantissa, plain, pointed, mantissa_digits, mantissa_text, exponent_text, FittingText, IsDecimal}
 use Rattle.std.proofs.lemmas.Fmt.{decimal_nonempty}
-use Rattle.std.specs.Fmt.{decimal}
-use Rattle.rational.specs.Ratio.{Ratio}
-use Rattle.decimal_text.specs.Sign.{sign_text}
 use Rattle.decimal_text.specs.Space.{trimmed}
-use Rattle.decimal_text.specs.Decimal.{Mantissa, plain, pointed, mantissa_digits, mantissa_text, exponent_text, FittingText, IsDecimal}
 
 -- a mantissa's text has all its digits
 mantissa_long : (m : Mantissa) → length (mantissa_digits m) ≤ length (mantissa_text m)

@@ -1,17 +1,12 @@
 -- Bytes are refused in one way, and told of in one text, or stand for an instance.
-use Rattle.std.proofs.Common.{◌≡◌, ◌≢◌, ◌∙◌, ℕ, List, refl, ap, sym, subst}
-use Rattle.std.specs.Prelude.{codes}
+use Rattle.osil_grammar.proofs.Words.{◌≡◌, ◌≢◌, ◌∙◌, ℕ, List, refl, ap, sym, subst, codes, document_limit, Parts, OsilFault, IsInstanceText, DecodeFails, AreAlike, IsTreeText, IsFaultText, told_refusal}
 use Rattle.doc_tree.specs.declared.TreeFault.{TreeFault}
 use Rattle.doc_tree.proofs.OneRefusal.{one_refusal}
-use Rattle.document_tags.specs.Texts.{document_limit}
 use Rattle.document_tags.proofs.FaultTexts.{tree_text_once}
-use Rattle.instance.specs.Parts.{Parts}
-use Rattle.osil_grammar.specs.declared.fault.OsilFault.{OsilFault}
 use Rattle.osil_grammar.specs.declared.fault.OsilFault.TheVariants.{Tree, Refused, Memory}
 use Rattle.osil_grammar.specs.Refusals as refusals
 use Rattle.osil_grammar.specs.Texts.{refusal_text}
-use Rattle.osil_grammar.specs.Reading.{IsInstanceText, DecodeFails, AreAlike, IsTreeText, IsFaultText, told_refusal}
-use Rattle.osil_grammar.proofs.OneRefusal.{text_refused_once, text_not_both}
+use Rattle.osil_grammar.proofs.OneDocument.{text_refused_once, text_not_both}
 
 pub faults_alike : (bytes : List ℕ) (f g : OsilFault) → f ≢ Memory → g ≢ Memory → DecodeFails bytes f → DecodeFails bytes g → AreAlike f g
 faults_alike bytes (Tree f) (Tree g) one other h k = one_refusal document_limit bytes f g h.0 k.0

@@ -1,16 +1,5 @@
 -- An instance is written in one way.
-use Rattle.std.proofs.Common.{◌≡◌, ◌∙◌, ℕ, ◌+◌, List, [], ◌∷◌, ap, sym, inl, inr}
-use Rattle.std.specs.Fmt.{decimal}
-use Rattle.tree_grammar.specs.Elements.{Nodes, Element}
-use Rattle.fraction.specs.declared.frac.Frac.{Frac}
-use Rattle.fraction.specs.declared.ends.End.{End}
-use Rattle.fraction.specs.declared.ends.End.TheVariants.{NegInf, At, Inf}
-use Rattle.fraction.specs.declared.ends.Entry.{Entry}
-use Rattle.instance.specs.declared.parts.Var.{Var}
-use Rattle.instance.specs.declared.parts.Row.{Row}
-use Rattle.instance.specs.declared.parts.Goal.{Goal}
-use Rattle.instance.specs.Parts.{Parts}
-use Rattle.osil_grammar.specs.Writing.{IsEndText, WriteVars, WriteRows, WriteCosts, CountsCosts, WritesGoal, WriteValues, WriteLists, WritesInstance}
+use Rattle.osil_grammar.proofs.Words.{◌≡◌, ◌∙◌, ℕ, ◌+◌, List, [], ◌∷◌, ap, sym, inl, inr, decimal, Nodes, Element, Frac, End, NegInf, At, Inf, Entry, Var, Row, Goal, Parts, IsEndText, WriteVars, WriteRows, WriteCosts, CountsCosts, WritesGoal, WriteValues, WriteLists, WritesInstance}
 use Rattle.decimal_text.proofs.PlainTexts.{plain_once}
 
 end_once : (end : End) (s t : List ℕ) → IsEndText end s → IsEndText end t → s ≡ t

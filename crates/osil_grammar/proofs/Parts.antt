@@ -1,20 +1,6 @@
 -- The parts of an instance, each told in its steps.
-use Rattle.std.proofs.Common.{◌≡◌, ◌∙◌, ℕ, pos, List, [], ◌∷◌, ◌++◌, ap, refl, inr}
-use Rattle.std.specs.Prelude.{codes}
-use Rattle.std.specs.Fmt.{decimal}
-use Rattle.tree_grammar.specs.Elements.{Attribute, Nodes, none, element, chars, nodes_events}
-use Rattle.element_tree.specs.Building.{Building, said}
-use Rattle.fraction.specs.Frac.{ratio}
-use Rattle.fraction.specs.declared.frac.Frac.{Frac}
-use Rattle.decimal_text.specs.Plain.{PlainText}
-use Rattle.instance.specs.declared.parts.Var.{Var}
-use Rattle.instance.specs.declared.parts.Row.{Row}
-use Rattle.instance.specs.declared.parts.Goal.{Goal}
-use Rattle.document_tags.specs.Writing.{counted_element, with_attribute}
-use Rattle.osil_grammar.specs.Writing.{WriteVars, WriteRows, WriteCosts, CountsCosts, WritesGoal, holding, sense_text, type_text}
-use Rattle.document_tags.specs.Telling.{Told, ToldAttributes, opening, closing}
-use Rattle.osil_grammar.specs.Telling.{EndAttributes}
-use Rattle.document_tags.proofs.Tellings.{content_told, told_around}
+use Rattle.osil_grammar.proofs.Words.{◌≡◌, ◌∙◌, ℕ, pos, List, [], ◌∷◌, ◌++◌, ap, refl, inr, codes, decimal, Attribute, Nodes, none, element, chars, nodes_events, Building, said, ratio, Frac, PlainText, Var, Row, Goal, counted_element, with_attribute, WriteVars, WriteRows, WriteCosts, CountsCosts, WritesGoal, holding, sense_text, type_text, ToldAttributes, opening, closing, EndAttributes, content_told, told_around}
+use Rattle.document_tags.specs.Telling.{Told}
 
 -- an attribute was told
 abbrev pub told_attribute : Building → (name value : List ℕ) → Building

@@ -1,18 +1,7 @@
 -- Entries and the sums at their places: one entry more, and the entries of one place alone.
-use Rattle.std.proofs.Common.{◌≡◌, ℕ, Bool, true, false, nat_eq, cond, List, [], ◌∷◌, ◌++◌, refl, sym, ◌∙◌, ap, subst, ⊎_elim, inl, inr}
-use Rattle.std.specs.Prelude.{◌&&◌, ◌⊎◌}
-use Rattle.std.specs.List.{All, filter}
-use Rattle.std.proofs.lemmas.Bool.{cases_Bool, and_from, and_parts, eq-eqb, eqb-true}
-use Rattle.std.proofs.lemmas.List.Elements.{All-head, All-tail}
-use Rattle.rational.specs.Ratio.{Ratio, sum, IsNumber}
-use Rattle.rational.specs.Width.{SumFits}
+use Rattle.osil_grammar.proofs.Words.{◌≡◌, ℕ, Bool, true, false, nat_eq, cond, List, [], ◌∷◌, ◌++◌, refl, sym, ◌∙◌, ap, subst, ⊎_elim, inl, inr, ◌&&◌, ◌⊎◌, All, filter, cases_Bool, and_from, and_parts, eq-eqb, eqb-true, All-head, All-tail, Ratio, sum, IsNumber, SumFits, sum-number, ratio, Entry, entry, entries, place_sum, HasWidePlace}
 use Rattle.evidence.specs.Sums as evidence
 use Rattle.evidence.specs.Instance as Of
-use Rattle.evidence.proofs.Numbers.{sum-number}
-use Rattle.fraction.specs.Frac.{ratio}
-use Rattle.fraction.specs.declared.ends.Entry.{Entry}
-use Rattle.instance.specs.Program.{entry, entries}
-use Rattle.osil_grammar.specs.Matrix.{place_sum, HasWidePlace}
 
 abbrev pub is_at : ℕ → ℕ → Of.Entry → Bool
 is_at i j e = nat_eq e.row i && nat_eq e.variable j

@@ -1,20 +1,11 @@
 -- The texts of numbers and ends are printable, and not empty.
-use Rattle.std.proofs.Common.{◌≡◌, ◌∙◌, ℕ, ◌^◌, ◌<◌, Bool, true, false, List, [], ◌∷◌, ◌++◌, length, ap, refl, sym, subst, arith, lit<, lit≤}
-use Rattle.std.specs.Fmt.{decimal}
+use Rattle.osil_grammar.proofs.Words.{◌≡◌, ◌∙◌, ℕ, ◌^◌, ◌<◌, Bool, true, false, List, [], ◌∷◌, ◌++◌, length, ap, refl, sym, subst, arith, lit<, lit≤, decimal, Frac, End, NegInf, At, Inf, ratio, Each, optional, PlainText, point_text, IsEndText}
 use Rattle.std.specs.Char.{digit_value}
 use Rattle.std.specs.Str.Parse.{AllDigits}
 use Rattle.std.proofs.lemmas.Fmt.{decimal_is_IsNumeral_wide}
 use Rattle.std.proofs.lemmas.Str.Parse.{digit_from_value}
-use Rattle.fraction.specs.declared.frac.Frac.{Frac}
-use Rattle.fraction.specs.declared.ends.End.{End}
-use Rattle.fraction.specs.declared.ends.End.TheVariants.{NegInf, At, Inf}
-use Rattle.fraction.specs.Frac.{ratio}
-use Rattle.tree_grammar.specs.Characters.{Each}
 use Rattle.element_tree.proofs.XmlTexts.{Printable, each_append}
-use Rattle.decimal_text.specs.Sign.{optional}
-use Rattle.decimal_text.specs.Plain.{PlainText, point_text}
 use Rattle.decimal_text.proofs.PlainTexts.{plain_whole}
-use Rattle.osil_grammar.specs.Writing.{IsEndText}
 
 -- printable characters, one at least
 pub record IsShown (text : List ℕ) : Type 0 where

@@ -1,16 +1,5 @@
 -- Runs of rational numbers, each the same number as in the definition.
-use Rattle.std.proofs.Common.{◌≡◌, ℕ, zero, suc, ◌<◌, List, [], ◌∷◌, ◌++◌, arith, refl, sym, ◌∙◌, ap, subst, inl, inr}
-use Rattle.std.proofs.lemmas.Bool.{cases_eq}
-use Rattle.std.proofs.lemmas.List.{append_assoc, map_push}
-use Rattle.rational.specs.Ratio.{Ratio, sum, IsNumber, IsSame}
-use Rattle.rational.specs.Width.{SumFits}
-use Rattle.rational.proofs.Scaling.{IsSame-trans, IsSame-sum}
-use Rattle.evidence.proofs.Numbers.{sum-number}
-use Rattle.evidence.proofs.Fits.{sums_same}
-use Rattle.fraction.specs.Frac.{ratio, ratios}
-use Rattle.fraction.specs.declared.frac.Frac.{Frac}
-use Rattle.osil_grammar.specs.Runs.{ratio_run, ratio_at}
-use Rattle.osil_grammar.specs.Parsing.{AreSame}
+use Rattle.osil_grammar.proofs.Words.{◌≡◌, ℕ, zero, suc, ◌<◌, ◌+◌, List, [], ◌∷◌, ◌++◌, length, arith, refl, sym, ◌∙◌, ap, subst, inl, inr, cases_eq, append_assoc, map_push, length-append, length-map, Ratio, sum, IsNumber, IsSame, SumFits, IsSame-trans, IsSame-sum, sum-number, sums_same, ratio, ratios, Frac, ratio_run, ratio_at, AreSame}
 
 -- the run's numbers one after another
 later : (first step : Ratio) (k : ℕ) → ratio_at (sum first step) step k ≡ ratio_at first step (suc k)
@@ -65,3 +54,18 @@ run_more old now after first step next total k run is fits pushed =
       last = at_next;
       fits = more_fits (λ (j : ℕ). SumFits (ratio_at (ratio first) (ratio step) j) (ratio step)) k run.fits (place_fits old now first step next k run fits);
     }
+
+-- how long a run is, and a list with one behind it
+length-ratio_run : (first step : Ratio) (m : ℕ) → length (ratio_run first step m) ≡ m
+length-ratio_run first step zero = refl
+length-ratio_run first step (suc m) = ap suc (length-ratio_run (sum first step) step m)
+
+pub length-same : (xs ys : List Ratio) → AreSame xs ys → length xs ≡ length ys
+length-same [] [] h = refl
+length-same [] (y ∷ ys) h = absurd h
+length-same (x ∷ xs) [] h = absurd h
+length-same (x ∷ xs) (y ∷ ys) h = ap suc (length-same xs ys h.1)
+
+pub ratio_length : (old new added : List Frac) (first step : Frac) (m : ℕ) → new ≡ old ++ added → AreSame (ratios added) (ratio_run (ratio first) (ratio step) m) → length new ≡ length old + m
+ratio_length old new added first step m is same =
+    ap length is ∙ length-append old added ∙ (let a = length-same (ratios added) (ratio_run (ratio first) (ratio step) m) same in let b = length-map added ratio in let c = length-ratio_run (ratio first) (ratio step) m in omega arith)

@@ -1,18 +1,7 @@
 -- The texts of numbers and ends, as they are written, are read as these.
-use Rattle.std.proofs.Common.{ℕ, ◌≤◌, pos, List, refl, sym, subst, arith, lit<, ◌<◌}
-use Rattle.std.specs.Fmt.{decimal}
-use Rattle.fraction.specs.declared.frac.Frac.{Frac}
-use Rattle.fraction.specs.declared.ends.End.{End}
-use Rattle.fraction.specs.declared.ends.End.TheVariants.{NegInf, At, Inf}
-use Rattle.fraction.specs.Frac.{ratio}
+use Rattle.osil_grammar.proofs.Words.{ℕ, ◌≤◌, pos, List, refl, sym, subst, arith, lit<, ◌<◌, decimal, Frac, End, NegInf, At, Inf, ratio, PlainText, IsCount, most_count, IsWholeText, SaysEnd, IsDecimal, HasDecimal, EndHasText, IsEndText}
 use Rattle.decimal_text.specs.Sign as signs
-use Rattle.decimal_text.specs.Plain.{PlainText}
-use Rattle.decimal_text.specs.Count.{IsCount, most_count}
-use Rattle.decimal_text.specs.Whole.{IsWholeText}
-use Rattle.decimal_text.specs.Bound.{SaysEnd}
-use Rattle.decimal_text.specs.Decimal.{IsDecimal}
 use Rattle.decimal_text.proofs.RoundTrips as numbers
-use Rattle.osil_grammar.specs.Writing.{HasDecimal, EndHasText, IsEndText}
 
 pub plain_decimal : (x : Frac) (text : List ℕ) → PlainText text (ratio x) → HasDecimal x → IsDecimal text (ratio x)
 plain_decimal x text plain has = numbers.plain_decimal x text plain has.0 has.1

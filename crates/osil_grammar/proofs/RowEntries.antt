@@ -1,21 +1,7 @@
 -- Entries that ascend, row by row, and what their places say.
-use Rattle.std.proofs.Common.{◌≡◌, ◌∙◌, ℕ, zero, suc, ◌+◌, ◌-◌, ◌<◌, ◌≤◌, Bool, true, false, nat_lt, nat_eq, cond, ◌&&◌, List, [], ◌∷◌, ◌++◌, length, map, drop, get_or, replicate, ap, refl, sym, subst, arith, ◌⊎◌, inl, inr, pos}
-use Rattle.std.specs.Prelude.{unsigned_abs, ◌-ℤ◌}
-use Rattle.std.specs.List.{All}
-use Rattle.std.proofs.lemmas.Int.{ints}
-use Rattle.std.proofs.lemmas.Bool.{ltb-true, ltb-false, le-ltb, lt-ltb, eqb-true}
-use Rattle.std.proofs.lemmas.List.{drop_all}
-use Rattle.std.proofs.lemmas.List.Elements.{All-head, All-tail, All-weaker}
-use Rattle.rational.specs.Ratio.{Ratio, IsSame, sum}
+use Rattle.osil_grammar.proofs.Words.{◌≡◌, ◌∙◌, ℕ, zero, suc, ◌+◌, ◌-◌, ◌<◌, ◌≤◌, Bool, true, false, nat_lt, nat_eq, cond, ◌&&◌, List, [], ◌∷◌, ◌++◌, length, map, drop, get_or, replicate, ap, refl, sym, subst, arith, ◌⊎◌, inl, inr, pos, unsigned_abs, ◌-ℤ◌, All, ints, ltb-true, ltb-false, le-ltb, lt-ltb, eqb-true, drop_all, All-head, All-tail, All-weaker, Ratio, IsSame, sum, none-sum, ratio, Entry, IsBefore, IsAscending, entries, lines_from, placed_all, place_sum, entries_below, row_starts}
 use Rattle.evidence.specs.Sums as evidence
 use Rattle.evidence.specs.Instance as Of
-use Rattle.evidence.proofs.Numbers.{none-sum}
-use Rattle.fraction.specs.Frac.{ratio}
-use Rattle.fraction.specs.declared.ends.Entry.{Entry}
-use Rattle.instance.specs.Parts.{IsBefore, IsAscending}
-use Rattle.instance.specs.Program.{entries}
-use Rattle.osil_grammar.specs.Matrix.{lines_from, placed_all, place_sum}
-use Rattle.osil_grammar.specs.Writing.{entries_below, row_starts}
 use Rattle.osil_grammar.proofs.Starts.{none_below}
 
 -- each entry is before all those behind it

@@ -1,14 +1,7 @@
 -- Runs of numbers, a step from one to the next.
-use Rattle.std.proofs.Common.{◌^◌, to_z, of_z, ◌≡◌, ◌↔◌, MatchBool, Bool, true, false, ℕ, suc, ◌+◌, ◌-◌, ◌*◌, ◌<◌, ◌≤◌, ℤ, pos, negsuc, ◌+ℤ◌, ◌*ℤ◌, ◌<ℤ◌, ◌≤ℤ◌, neg_ℤ, List, [], ◌∷◌, ◌++◌, arith, refl, sym, ◌∙◌, ap, subst}
+use Rattle.osil_grammar.proofs.Words.{◌^◌, to_z, of_z, ◌≡◌, ◌↔◌, MatchBool, Bool, true, false, ℕ, suc, ◌+◌, ◌-◌, ◌*◌, ◌<◌, ◌≤◌, ℤ, pos, negsuc, ◌+ℤ◌, ◌*ℤ◌, ◌<ℤ◌, ◌≤ℤ◌, neg_ℤ, List, [], ◌∷◌, ◌++◌, zero, length, arith, refl, sym, ◌∙◌, ap, subst, mul-le-mul_right, unsigned_abs, ints, to_z_pos, false≢true, append_assoc, map_push, length-append, length-map, whole_run, wholes, IsBelowLimit}
 use Rattle.std.specs.Int.{w128}
-use Rattle.std.proofs.Math.Nat.{mul-le-mul_right}
 use Rattle.std.proofs.Math.IntN.{pos-*ℤ-pos, pos-*ℤ-negsuc, suc_ℤ-*ℤ, zero-*ℤ}
-use Rattle.std.specs.Prelude.{unsigned_abs}
-use Rattle.std.proofs.lemmas.Int.{ints, to_z_pos}
-use Rattle.std.proofs.lemmas.Bool.{false≢true}
-use Rattle.std.proofs.lemmas.List.{append_assoc, map_push}
-use Rattle.osil_grammar.specs.Runs.{whole_run}
-use Rattle.osil_grammar.specs.Parsing.{wholes, IsBelowLimit}
 
 -- the number at place k of a run
 abbrev pub at_step : ℤ → ℤ → ℕ → ℤ
@@ -64,3 +57,12 @@ range_answer a false first step times limit some on low tells = place_out first 
 pub pushed_is : (z : ℤ) → IsBelowLimit z 100001 → pos (unsigned_abs (to_z w128 (of_z w128 z))) ≡ z
 pushed_is (pos n) below = let high = below.1 in let small : n < 2 ^ 127 = omega (arith, ints) in ap (λ (z : ℤ). pos (unsigned_abs z)) (to_z_pos w128 n small)
 pushed_is (negsuc n) below = absurd (let low = below.0 in omega (arith, ints))
+
+-- how long a run is, and a list with one behind it
+length-whole_run : (first step : ℤ) (m : ℕ) → length (whole_run first step m) ≡ m
+length-whole_run first step zero = refl
+length-whole_run first step (suc m) = ap suc (length-whole_run (first +ℤ step) step m)
+
+pub whole_length : (old new : List ℕ) (first step : ℤ) (m : ℕ) → wholes new ≡ wholes old ++ whole_run first step m → length new ≡ length old + m
+whole_length old new first step m is =
+    sym (length-map new pos) ∙ ap length is ∙ length-append (wholes old) (whole_run first step m) ∙ (let a = length-map old pos in let b = length-whole_run first step m in omega arith)

@@ -1,29 +1,11 @@
 -- The entries sorted by their places, and those that aren't 0.
-use Rattle.std.proofs.Common.{◌≡◌, ℕ, ◌+◌, Bool, true, false, not, nat_eq, cond, pos, List, [], ◌∷◌, get_or, arith, refl, sym, ◌∙◌, ap, subst, ⊎_elim}
-use Rattle.std.specs.Prelude.{◌≢◌}
-use Rattle.std.specs.List.{All, filter}
-use Rattle.std.specs.List.Sorted.{IsSortedByKey, IsStableByKey, ties}
+use Rattle.osil_grammar.proofs.Words.{◌≡◌, ℕ, ◌+◌, Bool, true, false, not, nat_eq, cond, pos, List, [], ◌∷◌, get_or, arith, refl, sym, ◌∙◌, ap, subst, ⊎_elim, ◌≢◌, All, filter, IsSortedByKey, IsStableByKey, ties, lit<, lit≤, ints, cases_Bool, not-true, not-false, true≢false, and_left, and_right, ne_eqb, All-weaker, All-map, All-filter, filter_passes, Ratio, IsNumber, IsSame, IsSame-trans, ratio, Frac, Entry, IsBefore, entry, entries, place_sum, HasWidePlace, AreEntriesOf, IsNotBehind, IsInOrder, IsRising, AreSumsAt}
 use Rattle.std.specs.Ordering.{is_lt, int_eq, nat_cmp, ordering_then}
 use Rattle.std.specs.declared.cmp.Ordering.{Ordering}
-use Rattle.std.proofs.Math.Dec.{lit<, lit≤}
-use Rattle.std.proofs.lemmas.Int.{ints}
-use Rattle.std.proofs.lemmas.Bool.{cases_Bool, not-true, not-false, true≢false, and_left, and_right, ne_eqb}
 use Rattle.std.proofs.lemmas.Bool.Decides.{Decides-int_eq}
-use Rattle.std.proofs.lemmas.List.Elements.{All-weaker, All-map, All-filter, filter_passes}
-use Rattle.rational.specs.Ratio.{Ratio, IsNumber, IsSame}
-use Rattle.rational.proofs.Scaling.{IsSame-trans}
 use Rattle.evidence.specs.Sums as evidence
 use Rattle.evidence.specs.Instance as Of
-use Rattle.fraction.specs.Frac.{ratio}
-use Rattle.fraction.specs.declared.frac.Frac.{Frac}
 use Rattle.fraction.proofs.Constants.{zero_reduced}
-use Rattle.fraction.specs.declared.ends.Entry.{Entry}
-use Rattle.instance.specs.Parts.{IsBefore}
-use Rattle.instance.specs.Program.{entry, entries}
-use Rattle.osil_grammar.specs.Matrix.{place_sum, HasWidePlace}
-use Rattle.osil_grammar.specs.Meaning.{AreEntriesOf}
-use Rattle.osil_grammar.specs.Orders.{IsNotBehind, IsInOrder, IsRising}
-use Rattle.osil_grammar.specs.Parsing.{AreSumsAt}
 use Rattle.osil_grammar.proofs.Places.{is_at, place_sum-filter, wide_filter, IsWideFrom, wide_from_place, place_from_wide, entry_at-nowhere, is_at-same}
 use Rattle.osil_grammar.proofs.EntryOrder.{ties_are_places, not_before, all_from_indices, ascending, rise_from, rising_behind, rising_filter}
 

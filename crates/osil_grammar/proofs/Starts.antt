@@ -1,13 +1,5 @@
 -- How many entries stand before a row, found by halving.
-use Rattle.std.proofs.Common.{◌≡◌, ℕ, suc, ◌+◌, ◌<◌, ◌≤◌, true, false, nat_lt, List, [], ◌∷◌, ◌++◌, length, take, drop, arith, refl, sym, ◌∙◌, ap}
-use Rattle.std.specs.List.{All, AllWithin}
-use Rattle.std.specs.List.Sorted.{IsPartitionPoint}
-use Rattle.std.proofs.lemmas.List.{get_or-take, get_or-drop, length-take-le, length-take, length-drop, take-append-drop}
-use Rattle.std.proofs.lemmas.List.Elements.{All-head, All-tail}
-use Rattle.fraction.specs.declared.ends.Entry.{Entry}
-use Rattle.tree_grammar.specs.Elements.{Event, nodes_events}
-use Rattle.element_tree.specs.Building.{Building, said}
-use Rattle.osil_grammar.specs.Writing.{counts_nodes, entries_below, row_starts}
+use Rattle.osil_grammar.proofs.Words.{◌≡◌, ℕ, suc, ◌+◌, ◌<◌, ◌≤◌, true, false, nat_lt, List, [], ◌∷◌, ◌++◌, length, take, drop, arith, refl, sym, ◌∙◌, ap, All, AllWithin, IsPartitionPoint, get_or-take, get_or-drop, length-take-le, length-take, length-drop, take-append-drop, All-head, All-tail, Entry, Event, nodes_events, Building, said, counts_nodes, entries_below, row_starts}
 use Rattle.document_tags.specs.Telling.{Told}
 
 -- the entries of the rows before it all count

@@ -1,14 +1,8 @@
 -- What a builder is told one thing after another.
-use Rattle.std.proofs.Common.{◌≡◌, ◌∙◌, ℕ, ◌+◌, ◌<◌, ◌≤◌, List, [], ◌∷◌, ◌++◌, length, take, drop, get_or, ap, sym, subst, refl}
-use Rattle.std.specs.List.{All}
-use Rattle.std.proofs.lemmas.List.{drop_more, drop_all, take_all}
-use Rattle.std.proofs.lemmas.List.Elements.{All-nil, All-more}
-use Rattle.tree_grammar.specs.Elements.{Nodes, none, Event, nodes_events}
-use Rattle.element_tree.specs.Building.{Building, said}
+use Rattle.osil_grammar.proofs.Words.{◌≡◌, ◌∙◌, ℕ, ◌+◌, ◌<◌, ◌≤◌, List, [], ◌∷◌, ◌++◌, length, take, drop, get_or, ap, sym, subst, refl, All, drop_more, drop_all, take_all, All-nil, All-more, Nodes, none, Event, nodes_events, Building, said, HasNone}
 use Rattle.osil_grammar.specs.declared.fault.EncodeFault.{EncodeFault}
 use Rattle.osil_grammar.specs.declared.fault.EncodeFault.TheVariants.{NotDecimal, Long, Memory}
 use Rattle.document_tags.specs.Telling.{Told}
-use Rattle.osil_grammar.specs.Telling.{HasNone}
 
 -- a number that has no decimal is one of those that would need one
 pub none_of : (P Q : Type 0) (e : EncodeFault) → (Q → P) → HasNone P e → HasNone Q e

@@ -1,15 +1,6 @@
 -- A whole instance, told part by part.
-use Rattle.std.proofs.Common.{◌≡◌, ◌∙◌, ℕ, List, [], ◌∷◌, ◌++◌, ◌==◌, Bool, true, false, length, map, ap, sym, subst, refl}
-use Rattle.std.specs.Prelude.{codes}
-use Rattle.std.proofs.lemmas.List.{append-nil}
-use Rattle.tree_grammar.specs.Elements.{Attribute, Nodes, none, element, Element, events, nodes_events}
-use Rattle.element_tree.specs.Building.{Building, said}
-use Rattle.fraction.specs.declared.ends.Entry.{Entry}
-use Rattle.instance.specs.Parts.{Parts}
-use Rattle.document_tags.specs.Writing.{counted_element, with_attribute}
-use Rattle.osil_grammar.specs.Writing.{WriteVars, WriteRows, WritesGoal, WriteValues, WriteLists, WritesInstance, counts_nodes, row_starts}
-use Rattle.document_tags.specs.Telling.{Told, opening, closing}
-use Rattle.document_tags.proofs.Tellings.{told_then, content_told}
+use Rattle.osil_grammar.proofs.Words.{◌≡◌, ◌∙◌, ℕ, List, [], ◌∷◌, ◌++◌, ◌==◌, Bool, true, false, length, map, ap, sym, subst, refl, codes, append-nil, Attribute, Nodes, none, element, Element, events, nodes_events, Building, said, Entry, Parts, counted_element, with_attribute, WriteVars, WriteRows, WritesGoal, WriteValues, WriteLists, WritesInstance, counts_nodes, row_starts, opening, closing, told_then, content_told}
+use Rattle.document_tags.specs.Telling.{Told}
 use Rattle.osil_grammar.proofs.Parts.{ToldSome}
 
 -- these nodes are an element of such nodes

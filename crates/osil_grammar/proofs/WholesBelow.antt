@@ -1,12 +1,5 @@
 -- Whole numbers that are read stay below their limit.
-use Rattle.std.proofs.Common.{◌≡◌, ℕ, zero, suc, ◌<◌, Ok, Err, ℤ, pos, ◌+ℤ◌, ◌<ℤ◌, List, [], ◌∷◌, ◌++◌, sym, subst, arith}
-use Rattle.std.specs.Prelude.{Result}
-use Rattle.std.specs.List.{All}
-use Rattle.std.specs.Result.{OnOk}
-use Rattle.std.proofs.lemmas.Int.{ints}
-use Rattle.std.proofs.lemmas.List.Elements.{All-nil, All-cons, All-head, All-tail, All-append, All-map, All-weaker}
-use Rattle.osil_grammar.specs.Runs.{whole_run}
-use Rattle.osil_grammar.specs.Parsing.{wholes, IsBelowLimit}
+use Rattle.osil_grammar.proofs.Words.{◌≡◌, ℕ, zero, suc, ◌<◌, Ok, Err, ℤ, pos, ◌+ℤ◌, ◌<ℤ◌, List, [], ◌∷◌, ◌++◌, sym, subst, arith, Result, All, OnOk, ints, All-nil, All-cons, All-head, All-tail, All-append, All-map, All-weaker, whole_run, wholes, IsBelowLimit}
 use Rattle.osil_grammar.proofs.RunSteps.{at_step, step_on, first_place}
 
 -- what holds where a step succeeds

@@ -1,22 +1,15 @@
 -- The text that an instance is written as is that of this instance and of no other.
-use Rattle.std.proofs.Common.{◌≡◌, ◌⊎◌, inl, inr, ℕ, ◌≤◌, List, length, ap}
-use Rattle.std.specs.Prelude.{Result, Ok, Err, IfOk, IfErr}
-use Rattle.document_tags.specs.Texts.{document_limit}
-use Rattle.instance.specs.Parts.{Parts, IsValid}
-use Rattle.osil_grammar.specs.declared.fault.OsilFault.{OsilFault}
+use Rattle.osil_grammar.proofs.Words.{◌≡◌, ◌⊎◌, inl, inr, ℕ, ◌≤◌, List, length, ap, Result, Ok, Err, IfOk, IfErr, document_limit, Parts, IsValid, OsilFault, IsInstanceText, DecodeFails, HasDecimals, IsWrittenText}
 use Rattle.osil_grammar.specs.declared.fault.OsilFault.TheVariants.{Memory}
-use Rattle.osil_grammar.specs.Reading.{IsInstanceText, DecodeFails}
-use Rattle.osil_grammar.specs.Writing.{HasDecimals, IsWrittenText}
-use Rattle.osil_grammar.proofs.CleanRoot.{root_clean}
 use Rattle.osil_grammar.proofs.Documents.{written_document}
 use Rattle.osil_grammar.proofs.OneFault.{never_both}
-use Rattle.osil_grammar.proofs.OneInstance.{text_means_once}
-use Rattle.osil_grammar.proofs.RootMeaning.{root_means}
+use Rattle.osil_grammar.proofs.OneDocument.{text_means_once}
+use Rattle.osil_grammar.proofs.WrittenRoots.{root_means}
 
 pub text_is_own : (p : Parts) (text : List ℕ) → IsValid p → HasDecimals p → IsWrittenText p text → length text ≤ document_limit → IsInstanceText text p
 text_is_own p text valid has is short =
     let at = written_document p text valid is short in
-    record { root = _; document = at.2; accepted = root_clean p at.0 valid has at.1; means = root_means p at.0 valid has at.1 }
+    record { root = _; document = at.2; means = root_means p at.0 valid has at.1 }
 
 pub text_of_no_other : (p q : Parts) (text : List ℕ) → IsValid p → HasDecimals p → IsWrittenText p text → length text ≤ document_limit → IsInstanceText text q → q ≡ p
 text_of_no_other p q text valid has is short other = text_means_once text q p other (text_is_own p text valid has is short)

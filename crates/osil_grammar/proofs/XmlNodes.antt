@@ -1,18 +1,5 @@
 -- What is written of variables, rows, costs, indices and values: elements in a row, whose text is XML, and none in another.
-use Rattle.std.proofs.Common.{ℕ, suc, ◌+◌, ◌^◌, ◌<◌, ◌≤◌, Bool, true, false, List, [], ◌∷◌, refl, sym, subst, arith, inl, inr}
-use Rattle.std.specs.Prelude.{codes}
-use Rattle.std.specs.Fmt.{decimal}
-use Rattle.std.specs.List.{All}
-use Rattle.std.proofs.lemmas.List.Elements.{All-head, All-tail}
-use Rattle.tree_grammar.specs.Characters.{IsXmlText}
-use Rattle.tree_grammar.specs.Elements.{Attribute, Nodes, none, element, chars, nodes_depth}
-use Rattle.element_tree.specs.WritableElements.{NodesWritable, local_nodes}
-use Rattle.fraction.specs.declared.frac.Frac.{Frac}
-use Rattle.fraction.specs.declared.ends.Entry.{Entry}
-use Rattle.instance.specs.declared.parts.Var.{Var}
-use Rattle.instance.specs.declared.parts.Row.{Row}
-use Rattle.document_tags.specs.Writing.{with_attribute}
-use Rattle.osil_grammar.specs.Writing.{WriteVars, WriteRows, WriteCosts, WriteValues, counts_nodes, type_text}
+use Rattle.osil_grammar.proofs.Words.{ℕ, suc, ◌+◌, ◌^◌, ◌<◌, ◌≤◌, Bool, true, false, List, [], ◌∷◌, refl, sym, subst, arith, inl, inr, codes, decimal, All, All-head, All-tail, IsXmlText, Attribute, Nodes, none, element, chars, nodes_depth, NodesWritable, local_nodes, Frac, Entry, Var, Row, with_attribute, WriteVars, WriteRows, WriteCosts, WriteValues, counts_nodes, type_text}
 use Rattle.document_tags.proofs.XmlNodes.{IsTag, tag_by}
 use Rattle.document_tags.proofs.PrintableTexts.{printable_text, fixed_text, number_text}
 use Rattle.osil_grammar.proofs.PrintableTexts.{IsShown, count_shown, plain_shown, end_shown}

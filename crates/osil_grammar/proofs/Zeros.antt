@@ -1,10 +1,7 @@
 -- 0 is a decimal.
-use Rattle.std.proofs.Common.{◌≡◌, ℕ, false, ℤ, pos, [], ◌∷◌, ap, refl, arith, lit<, lit≤, inr}
-use Rattle.rational.specs.Ratio.{IsSame}
-use Rattle.fraction.specs.declared.frac.Frac.{Frac}
+use Rattle.osil_grammar.proofs.Words.{◌≡◌, ℕ, false, ℤ, pos, [], ◌∷◌, ap, refl, arith, lit<, lit≤, inr, IsSame, Frac, plain, HasDecimal}
 use Rattle.decimal_text.specs.Sign as signs
-use Rattle.decimal_text.specs.Decimal.{plain, none}
-use Rattle.osil_grammar.specs.Writing.{HasDecimal}
+use Rattle.decimal_text.specs.Decimal.{none}
 
 -- 0 over any number is 0
 pub same_zero : (n : ℤ) (d : ℕ) → n ≡ pos 0 → IsSame (record { num = n; den = d }) (record { num = pos 0; den = 1 })

@@ -1,13 +1,9 @@
 -- The matrix of the rows as it is stored (Optimization Services, SparseMatrix): starts, indices and values, by columns or by rows.
-use Rattle.std.specs.Prelude.{◌≡◌, ℕ, ◌+◌, ◌-◌, ◌<◌, ◌&&◌, ℤ, pos, ◌-ℤ◌, ◌≤ℤ◌, unsigned_abs, nat_eq, Bool, true, false, cond, IsSomeAnd, List, [], ◌∷◌, ◌++◌, length, get_or, replicate, codes}
-use Rattle.tree_grammar.specs.Elements.{Element}
-use Rattle.document_tags.specs.Rests.{child_elements}
+use Rattle.std.specs.Prelude.{◌≡◌, ℕ, ◌+◌, ◌-◌, ◌<◌, ◌&&◌, ℤ, pos, ◌-ℤ◌, ◌≤ℤ◌, unsigned_abs, nat_eq, Bool, true, false, cond, List, [], ◌∷◌, ◌++◌, length, get_or, replicate}
 use Rattle.rational.specs.Ratio.{Ratio, sum}
 use Rattle.rational.specs.Width.{SumFits}
 use Rattle.evidence.specs.Sums as evidence
 use Rattle.evidence.specs.Instance as Of
-use Rattle.osil_grammar.specs.Tags.{first_named}
-use Rattle.osil_grammar.specs.Runs.{AreWholes, AreRatios}
 
 -- whether columns are stored one after another, or else rows; the starts of these lines; each value's index in its line; the values
 pub record Lists : Type 0 where
@@ -15,21 +11,6 @@ pub record Lists : Type 0 where
   pub starts : List ℤ
   pub indices : List ℤ
   pub values : List Ratio
-
--- with `rowIdx` the lines are columns, with `colIdx` rows
-abbrev pub index_name : Bool → List ℕ
-index_name true = codes "rowIdx"
-index_name false = codes "colIdx"
-
--- the items of an element's first child of this name
-abbrev pub ItemsOf : Element → List ℕ → (List Element → Type 0) → Type 0
-ItemsOf e name P = IsSomeAnd (first_named name (child_elements e.children)) (λ list. P (child_elements list.children))
-
--- the element has all three lists
-pub record AreLists (e : Element) (l : Lists) : Type 0 where
-  pub starts : ItemsOf e (codes "start") (λ items. AreWholes items l.starts)
-  pub indices : ItemsOf e (index_name l.by_columns) (λ items. AreWholes items l.indices)
-  pub values : ItemsOf e (codes "value") (λ items. AreRatios items l.values)
 
 -- the starts divide so many values into so many lines: they begin with 0, never fall, end with the number of values, and are one more than the lines
 pub record IsDivision (starts : List ℤ) (lines values : ℕ) : Type 0 where

@@ -12,8 +12,7 @@ use Rattle.osil_grammar.specs.declared.fault.Refusal.TheVariants.{Root, Missing,
 use Rattle.osil_grammar.specs.declared.fault.OsilFault.{OsilFault}
 use Rattle.osil_grammar.specs.declared.fault.OsilFault.TheVariants.{Tree, Refused, Memory}
 use Rattle.osil_grammar.specs.Refusals as refusals
-use Rattle.osil_grammar.specs.Refusals.{IsRefused, IsAccepted}
-use Rattle.osil_grammar.specs.Meaning.{Means}
+use Rattle.osil_grammar.specs.Marked.{StandsFor, IsRefused}
 use Rattle.osil_grammar.specs.Texts.{refusal_text}
 
 -- the bytes are a document within the limits, and hold this element
@@ -24,8 +23,7 @@ IsDocument bytes root = tree.IsDocument bytes root
 pub record IsInstanceText (bytes : List ℕ) (p : Parts) : Type 0 where
   pub root : Element
   pub document : IsDocument bytes root
-  pub accepted : IsAccepted root
-  pub means : Means root p
+  pub means : StandsFor root p
 
 -- the bytes are a document that is refused, at the element with this ordinal
 pub record IsRefusedText (bytes : List ℕ) (r : refusals.Refusal) (n : ℕ) : Type 0 where

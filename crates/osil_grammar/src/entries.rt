@@ -5,7 +5,7 @@ ghost use Rattle.fraction.specs.Frac.{ratio};
 ghost use Rattle.instance.specs.Program.{entry as entry_of, entries as entries_of};
 ghost use Rattle.osil_grammar.specs.Orders.{IsInOrder};
 ghost use Rattle.osil_grammar.specs.Matrix.{IsDivision, placed, stored as stored_lists};
-ghost use Rattle.osil_grammar.specs.Parsing.{wholes, lists_of, AreStored, line_entries, Joins, SumsOrWide, JoinedOrWide};
+ghost use Rattle.osil_grammar.specs.Storing.{wholes, lists_of, AreStored, line_entries, Joins, SumsOrWide, JoinedOrWide};
 
 use fraction::{Entry, Frac, Wide};
 use std::alloc::{AllocError, Global};

@@ -7,8 +7,7 @@ ghost use Rattle.document_tags.specs.Texts.{IsDocument, document_limit};
 ghost use Rattle.instance.specs.Parts.{Parts, IsValid};
 ghost use Rattle.osil_grammar.specs.declared.fault.OsilFault.{OsilFault};
 ghost use Rattle.osil_grammar.specs.declared.fault.OsilFault.TheVariants.{Memory};
-ghost use Rattle.osil_grammar.specs.Refusals.{IsAccepted};
-ghost use Rattle.osil_grammar.specs.Meaning.{Means};
+ghost use Rattle.osil_grammar.specs.Marked.{StandsFor, IsAccepted};
 ghost use Rattle.osil_grammar.specs.Reading.{IsInstanceText, DecodeFails};
 ghost use Rattle.osil_grammar.specs.Writing.{HasDecimals, WritesInstance, IsWrittenText};
 
@@ -26,7 +25,7 @@ pub fn written_text_is_document()
 
 /// Law: the root that an instance is written as, without its namespace, stands for the instance.
 pub fn written_root_means_instance()
-    ensures { (p : Parts) (root : Element) → IsValid p → HasDecimals p → WritesInstance p root → Means (local_element root) p }
+    ensures { (p : Parts) (root : Element) → IsValid p → HasDecimals p → WritesInstance p root → StandsFor (local_element root) p }
 {}
 
 /// Law: of the root that an instance is written as, without its namespace, nothing is refused.

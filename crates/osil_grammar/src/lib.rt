@@ -1,29 +1,33 @@
 //! What OSiL documents say (Optimization Services instance language, its linear and integer part).
 //!
 //! [`decode`] gives the instance that a document stands for, or why it is none: the first thing in the order of tags
-//! that is wrong with it, with the ordinal of its element. [`encode`] writes an instance as a document, and
-//! [`refusal_text`] says in words why a document is refused.
+//! that is wrong with it, with the ordinal of its element. A [`Decoder`] answers the same of one that comes in pieces.
+//! [`encode`] writes an instance as a document, and [`refusal_text`] says in words why a document is refused.
+//!
+//! The grammar is a table, `specs/Table.antt`: what may stand in what, and for each kind of mark (a start tag, characters,
+//! an end tag) the tests that it has to pass, in the order in which they refuse. `Failing` says when each test fails,
+//! `Saying` and `Leaving` what a mark says and leaves where all pass, and `Marked` what a document stands for. A reader
+//! goes from mark to mark, with what they have said so far, and holds no tree.
 #![tactic(auto)]
 
+mod decoder;
 mod document;
+mod domains;
+mod elements;
 mod entries;
 mod fault;
 mod laws;
-mod lists;
-mod matrix;
-mod numbers;
-mod objectives;
 mod reading;
 mod reading_laws;
-mod rows;
-mod runs;
-mod sections;
-mod tags;
+mod run_numbers;
+mod standing;
+mod start_tags;
+mod stop;
+mod tag_numbers;
 mod telling;
 mod texts;
-mod unread;
-mod variables;
 
+pub use decoder::Decoder;
 pub use document::encode;
 pub use fault::{EncodeFault, OsilFault, Refusal};
 pub use laws::{
@@ -33,5 +37,6 @@ pub use laws::{
 pub use reading::decode;
 pub use reading_laws::{
     accepted_is_not_refused, documents_are_refused_in_one_way, documents_mean_one_instance,
+    first_and_least_is_told,
 };
 pub use texts::refusal_text;

@@ -4,11 +4,9 @@ ghost use Rattle.std.specs.Prelude.{IfOk, IfErr};
 ghost use Rattle.osil_grammar.specs.Reading.{IsInstanceText};
 ghost use Rattle.osil_grammar.specs.Reading.{DecodeFails};
 
+use crate::decoder::Decoder;
 use crate::fault::OsilFault;
-use crate::sections::read_tree;
-use doc_tree::{TreeFault, read};
 use instance::Instance;
-use os_io::MOST_BYTES;
 use std::alloc::Global;
 
 /// The instance that an OSiL document stands for.
@@ -20,9 +18,9 @@ pub fn decode(alloc: Global, bytes: &[u8]) -> Result<Instance, OsilFault>
     ensures ok { IfOk result (λ p. IsInstanceText bytes.now p) }
     ensures err { IfErr result (DecodeFails bytes.now) }
 {
-    match read(alloc, bytes, MOST_BYTES) {
-        Ok(tree) => read_tree(alloc, &tree),
-        Err(TreeFault::Memory) => Err(OsilFault::Memory),
-        Err(fault) => Err(OsilFault::Tree(fault)),
+    let mut decoder = Decoder::new(alloc);
+    match decoder.feed(bytes) {
+        Ok(()) => decoder.finish(),
+        Err(fault) => Err(fault),
     }
 }

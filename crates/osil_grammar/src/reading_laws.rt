@@ -3,10 +3,13 @@
 ghost use Rattle.std.specs.Prelude.{◌≡◌, ◌≢◌, ℕ, List};
 ghost use Rattle.tree_grammar.specs.Elements.{Element};
 ghost use Rattle.instance.specs.Parts.{Parts};
+ghost use Rattle.tag_tests.specs.Firsts.{IsFirstDecided};
 ghost use Rattle.osil_grammar.specs.declared.fault.OsilFault.{OsilFault};
 ghost use Rattle.osil_grammar.specs.declared.fault.OsilFault.TheVariants.{Memory};
-ghost use Rattle.osil_grammar.specs.Refusals.{Refusal, IsAccepted, IsRefused};
-ghost use Rattle.osil_grammar.specs.Meaning.{Means};
+ghost use Rattle.osil_grammar.specs.Refusals.{Refusal, number};
+ghost use Rattle.osil_grammar.specs.Standing.{start};
+ghost use Rattle.osil_grammar.specs.Table.{Told};
+ghost use Rattle.osil_grammar.specs.Marked.{osil, marks, StandsFor, IsRefusedSo, IsAccepted, IsRefused};
 ghost use Rattle.osil_grammar.specs.Reading.{IsInstanceText, IsRefusedText, DecodeFails, AreAlike, IsFaultText};
 
 /// Law: a document of which nothing is refused isn't refused.
@@ -25,8 +28,14 @@ pub fn documents_are_refused_in_one_way()
     ensures no_fault { (bytes : List ℕ) (p : Parts) (f : OsilFault) → IsInstanceText bytes p → DecodeFails bytes f → f ≡ Memory }
 {}
 
-/// Law: a document of which nothing is refused stands for one instance, and so do its bytes.
+/// Law: a document stands for one instance, and so do its bytes.
 pub fn documents_mean_one_instance()
-    ensures root { (root : Element) (p q : Parts) → IsAccepted root → Means root p → Means root q → p ≡ q }
+    ensures root { (root : Element) (p q : Parts) → StandsFor root p → StandsFor root q → p ≡ q }
     ensures text { (text : List ℕ) (p q : Parts) → IsInstanceText text p → IsInstanceText text q → p ≡ q }
+{}
+
+/// Law: what is told of a document is decided at the first tag at which something is, and is the least of what is
+/// decided there.
+pub fn first_and_least_is_told()
+    ensures { (root : Element) (r : Told) → IsRefusedSo root r → IsFirstDecided osil (λ t. number t.refusal) start (marks root) r }
 {}

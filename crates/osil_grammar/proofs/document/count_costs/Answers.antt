@@ -1,4 +1,4 @@
-use Rattle.std.proofs.Common.{arith}
+use Rattle.osil_grammar.proofs.Words.{arith}
 use Rattle.osil_grammar.proofs.CostCounts.{counts_next, counts_all}
 use Rattle.osil_grammar.proofs.document.count_costs.Goals as goal
 

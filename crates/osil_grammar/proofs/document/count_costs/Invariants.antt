@@ -1,5 +1,4 @@
-use Rattle.std.proofs.Common.{ℕ, ◌+◌, ◌≤◌, drop}
-use Rattle.osil_grammar.specs.Writing.{CountsCosts}
+use Rattle.osil_grammar.proofs.Words.{ℕ, ◌+◌, ◌≤◌, drop, CountsCosts}
 use Rattle.osil_grammar.proofs.document.count_costs.Given as goal
 
 abbrev pub invariant-loop-cost : goal.invariant-loop-cost

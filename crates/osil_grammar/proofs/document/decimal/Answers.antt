@@ -1,6 +1,4 @@
-use Rattle.std.proofs.Common.{◌≡◌, ◌∙◌, ◌++◌, List, ℕ, ap, subst, sym}
-use Rattle.fraction.specs.Frac.{ratio}
-use Rattle.decimal_text.specs.Plain.{PlainText}
+use Rattle.osil_grammar.proofs.Words.{◌≡◌, ◌∙◌, ◌++◌, List, ℕ, ap, subst, sym, ratio, PlainText}
 use Rattle.osil_grammar.proofs.NonemptyTexts.{decimal_not_empty}
 use Rattle.osil_grammar.proofs.document.decimal.Goals as goal
 

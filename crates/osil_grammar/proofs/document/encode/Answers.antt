@@ -1,5 +1,4 @@
-use Rattle.std.proofs.Common.{◌<◌, length, arith}
-use Rattle.document_tags.specs.Texts.{document_limit}
+use Rattle.osil_grammar.proofs.Words.{◌<◌, length, arith, document_limit}
 use Rattle.osil_grammar.proofs.document.encode.Goals as goal
 
 pub returns-then-len-gt-MOST_BYTES-clause-err : goal.returns-then-len-gt-MOST_BYTES-clause-err

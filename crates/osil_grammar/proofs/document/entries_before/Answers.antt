@@ -1,6 +1,5 @@
-use Rattle.std.proofs.Common.{nat_lt, List, rules}
+use Rattle.osil_grammar.proofs.Words.{nat_lt, List, rules, Entry}
 use Rattle.std.proofs.lemmas.List.Sorted.{IsPartitionedBy-ltb, IsPartitionPoint-from_clause}
-use Rattle.fraction.specs.declared.ends.Entry.{Entry}
 use Rattle.instance.proofs.Partition.{rows_rise}
 use Rattle.osil_grammar.proofs.Starts.{below_point}
 use Rattle.osil_grammar.proofs.document.entries_before.Goals as goal

@@ -1,11 +1,5 @@
-use Rattle.std.proofs.Common.{refl, arith, [], ◌∷◌, subst, map}
-use Rattle.std.specs.Prelude.{codes}
-use Rattle.std.proofs.lemmas.Result.{on_ok_weaker}
-use Rattle.tree_grammar.specs.Elements.{Nodes, nodes_events}
-use Rattle.fraction.specs.declared.ends.Entry.{Entry}
-use Rattle.osil_grammar.specs.Writing.{counts_nodes}
+use Rattle.osil_grammar.proofs.Words.{refl, arith, [], ◌∷◌, subst, map, codes, on_ok_weaker, Nodes, nodes_events, Entry, counts_nodes, told_around}
 use Rattle.document_tags.specs.Telling.{Told}
-use Rattle.document_tags.proofs.Tellings.{told_around}
 use Rattle.osil_grammar.proofs.Tellings.{one_told, all_told}
 use Rattle.osil_grammar.proofs.NodeJoins.{WriteColumns, columns_join}
 use Rattle.osil_grammar.proofs.document.tell_columns.Goals as goal

@@ -1,4 +1,4 @@
-use Rattle.fraction.specs.declared.ends.Entry.{Entry}
+use Rattle.osil_grammar.proofs.Words.{Entry}
 use Rattle.osil_grammar.proofs.Tellings.{ToldFirst}
 use Rattle.osil_grammar.proofs.NodeJoins.{WriteColumns}
 use Rattle.osil_grammar.proofs.document.tell_columns.Given as goal

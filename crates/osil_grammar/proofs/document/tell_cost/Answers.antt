@@ -1,7 +1,4 @@
-use Rattle.std.proofs.Common.{◌≡◌, ◌∙◌, pos, rules, sym, refl, inl, subst, List, ℕ}
-use Rattle.tree_grammar.specs.Elements.{none}
-use Rattle.fraction.specs.Frac.{ratio}
-use Rattle.decimal_text.specs.Plain.{PlainText}
+use Rattle.osil_grammar.proofs.Words.{◌≡◌, ◌∙◌, pos, rules, sym, refl, inl, subst, List, ℕ, none, ratio, PlainText}
 use Rattle.osil_grammar.proofs.Zeros.{zero_has_decimal}
 use Rattle.osil_grammar.proofs.Parts.{cost_told}
 use Rattle.osil_grammar.proofs.document.tell_cost.Goals as goal

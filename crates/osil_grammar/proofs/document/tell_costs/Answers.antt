@@ -1,6 +1,4 @@
-use Rattle.std.proofs.Common.{refl, arith}
-use Rattle.std.proofs.lemmas.Result.{err_from_is_err_and}
-use Rattle.osil_grammar.specs.Writing.{HasDecimal, WriteCosts}
+use Rattle.osil_grammar.proofs.Words.{refl, arith, err_from_is_err_and, HasDecimal, WriteCosts}
 use Rattle.osil_grammar.proofs.Tellings.{none_at, one_told, all_told}
 use Rattle.osil_grammar.proofs.NodeJoins.{costs_join}
 use Rattle.osil_grammar.proofs.document.tell_costs.Goals as goal

@@ -1,4 +1,4 @@
-use Rattle.osil_grammar.specs.Writing.{HasDecimal, WriteCosts}
+use Rattle.osil_grammar.proofs.Words.{HasDecimal, WriteCosts}
 use Rattle.osil_grammar.proofs.Tellings.{ToldFirst}
 use Rattle.osil_grammar.proofs.document.tell_costs.Given as goal
 

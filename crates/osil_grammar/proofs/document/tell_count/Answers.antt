@@ -1,4 +1,4 @@
-use Rattle.std.proofs.Common.{◌∙◌, ◌<◌, ◌^◌, sym, arith}
+use Rattle.osil_grammar.proofs.Words.{◌∙◌, ◌<◌, ◌^◌, sym, arith}
 use Rattle.osil_grammar.proofs.NonemptyTexts.{count_not_empty}
 use Rattle.osil_grammar.proofs.document.tell_count.Goals as goal
 

@@ -1,13 +1,4 @@
-use Rattle.std.proofs.Common.{◌≡◌, sym, subst, List, ℕ, length, ap}
-use Rattle.std.specs.Prelude.{codes}
-use Rattle.std.specs.List.{All}
-use Rattle.std.proofs.lemmas.Result.{err_from_is_err_and}
-use Rattle.fraction.specs.declared.ends.Entry.{Entry}
-use Rattle.instance.specs.declared.parts.Var.{Var}
-use Rattle.instance.specs.declared.parts.Row.{Row}
-use Rattle.instance.specs.declared.parts.Goal.{Goal}
-use Rattle.osil_grammar.specs.Writing.{HasDecimal, HasDecimals, WriteVars, WriteRows, WritesGoal, WriteLists}
-use Rattle.osil_grammar.specs.Telling.{GoalHasDecimals, EndsHaveTexts}
+use Rattle.osil_grammar.proofs.Words.{◌≡◌, sym, subst, List, ℕ, length, ap, codes, All, err_from_is_err_and, Entry, Var, Row, Goal, HasDecimal, HasDecimals, WriteVars, WriteRows, WritesGoal, WriteLists, GoalHasDecimals, EndsHaveTexts}
 use Rattle.osil_grammar.proofs.Tellings.{none_of}
 use Rattle.osil_grammar.proofs.Parts.{ToldSome}
 use Rattle.osil_grammar.proofs.WholeInstance.{IsPart, whole_told}

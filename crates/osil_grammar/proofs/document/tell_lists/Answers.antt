@@ -1,4 +1,4 @@
-use Rattle.std.proofs.Common.{◌≡◌, []}
+use Rattle.osil_grammar.proofs.Words.{◌≡◌, []}
 use Rattle.osil_grammar.proofs.WholeInstance.{lists_told, not_empty}
 use Rattle.osil_grammar.proofs.document.tell_lists.Goals as goal
 

@@ -1,7 +1,4 @@
-use Rattle.std.proofs.Common.{refl, length}
-use Rattle.std.specs.Prelude.{codes}
-use Rattle.tree_grammar.specs.Elements.{none}
-use Rattle.document_tags.specs.Writing.{counted_element}
+use Rattle.osil_grammar.proofs.Words.{refl, length, codes, none, counted_element}
 use Rattle.osil_grammar.proofs.Parts.{counted_told}
 use Rattle.osil_grammar.proofs.document.tell_matrix.Goals as goal
 

@@ -1,11 +1,4 @@
-use Rattle.std.proofs.Common.{◌≡◌, List, ℕ, subst, sym}
-use Rattle.std.specs.List.{All}
-use Rattle.std.proofs.lemmas.Result.{err_from_is_err_and}
-use Rattle.fraction.specs.Frac.{ratio}
-use Rattle.fraction.specs.declared.frac.Frac.{Frac}
-use Rattle.decimal_text.specs.Plain.{PlainText}
-use Rattle.osil_grammar.specs.Writing.{HasDecimal, CountsCosts, WriteCosts}
-use Rattle.osil_grammar.specs.Telling.{GoalHasDecimals}
+use Rattle.osil_grammar.proofs.Words.{◌≡◌, List, ℕ, subst, sym, All, err_from_is_err_and, ratio, Frac, PlainText, HasDecimal, CountsCosts, WriteCosts, GoalHasDecimals}
 use Rattle.osil_grammar.proofs.Tellings.{none_of}
 use Rattle.osil_grammar.proofs.Parts.{objective_told}
 use Rattle.osil_grammar.proofs.document.tell_objective.Goals as goal

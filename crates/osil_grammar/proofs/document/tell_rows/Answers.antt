@@ -1,10 +1,4 @@
-use Rattle.std.proofs.Common.{refl, arith, length}
-use Rattle.std.specs.Prelude.{codes}
-use Rattle.tree_grammar.specs.Elements.{none}
-use Rattle.instance.specs.declared.parts.Row.{Row}
-use Rattle.document_tags.specs.Writing.{counted_element}
-use Rattle.osil_grammar.specs.Writing.{WriteRows}
-use Rattle.osil_grammar.specs.Telling.{EndsHaveTexts}
+use Rattle.osil_grammar.proofs.Words.{refl, arith, length, codes, none, Row, counted_element, WriteRows, EndsHaveTexts}
 use Rattle.osil_grammar.proofs.Tellings.{one_told, all_told}
 use Rattle.osil_grammar.proofs.NodeJoins.{rows_join}
 use Rattle.osil_grammar.proofs.Parts.{counted_told}

@@ -1,6 +1,4 @@
-use Rattle.instance.specs.declared.parts.Row.{Row}
-use Rattle.osil_grammar.specs.Writing.{WriteRows}
-use Rattle.osil_grammar.specs.Telling.{EndsHaveTexts}
+use Rattle.osil_grammar.proofs.Words.{Row, WriteRows, EndsHaveTexts}
 use Rattle.osil_grammar.proofs.Tellings.{ToldFirst}
 use Rattle.osil_grammar.proofs.document.tell_rows.Given as goal
 

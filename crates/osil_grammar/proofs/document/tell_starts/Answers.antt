@@ -1,4 +1,4 @@
-use Rattle.std.proofs.Common.{◌+◌, ◌-◌, arith}
+use Rattle.osil_grammar.proofs.Words.{◌+◌, ◌-◌, arith}
 use Rattle.osil_grammar.proofs.Starts.{start_told}
 use Rattle.osil_grammar.proofs.document.tell_starts.Goals as goal
 

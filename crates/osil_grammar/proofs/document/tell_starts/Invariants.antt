@@ -1,7 +1,4 @@
-use Rattle.std.proofs.Common.{◌≡◌, ◌-◌, List, [], ◌++◌}
-use Rattle.tree_grammar.specs.Elements.{Event, nodes_events}
-use Rattle.element_tree.specs.Building.{said}
-use Rattle.osil_grammar.specs.Writing.{counts_nodes, row_starts}
+use Rattle.osil_grammar.proofs.Words.{◌≡◌, ◌-◌, List, [], ◌++◌, Event, nodes_events, said, counts_nodes, row_starts}
 use Rattle.osil_grammar.proofs.document.tell_starts.Given as goal
 
 abbrev pub invariant-loop-row : goal.invariant-loop-row

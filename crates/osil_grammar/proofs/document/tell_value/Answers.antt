@@ -1,4 +1,4 @@
-use Rattle.std.proofs.Common.{◌∙◌, sym}
+use Rattle.osil_grammar.proofs.Words.{◌∙◌, sym}
 use Rattle.osil_grammar.proofs.document.tell_value.Goals as goal
 
 pub leaf-requires : goal.leaf-requires

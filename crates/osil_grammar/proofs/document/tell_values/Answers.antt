@@ -1,10 +1,4 @@
-use Rattle.std.proofs.Common.{refl, arith, []}
-use Rattle.std.specs.Prelude.{codes}
-use Rattle.std.proofs.lemmas.Result.{err_from_is_err_and}
-use Rattle.tree_grammar.specs.Elements.{none, element}
-use Rattle.fraction.specs.declared.ends.Entry.{Entry}
-use Rattle.osil_grammar.specs.Writing.{HasDecimal, WriteValues}
-use Rattle.document_tags.proofs.Tellings.{told_around}
+use Rattle.osil_grammar.proofs.Words.{refl, arith, [], codes, err_from_is_err_and, none, element, Entry, HasDecimal, WriteValues, told_around}
 use Rattle.osil_grammar.proofs.Tellings.{none_at, one_told, all_told}
 use Rattle.osil_grammar.proofs.NodeJoins.{values_join}
 use Rattle.osil_grammar.proofs.document.tell_values.Goals as goal

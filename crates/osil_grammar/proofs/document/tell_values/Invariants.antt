@@ -1,5 +1,4 @@
-use Rattle.fraction.specs.declared.ends.Entry.{Entry}
-use Rattle.osil_grammar.specs.Writing.{HasDecimal, WriteValues}
+use Rattle.osil_grammar.proofs.Words.{Entry, HasDecimal, WriteValues}
 use Rattle.osil_grammar.proofs.Tellings.{ToldFirst}
 use Rattle.osil_grammar.proofs.document.tell_values.Given as goal
 

@@ -1,10 +1,4 @@
-use Rattle.std.proofs.Common.{refl, arith, length}
-use Rattle.std.specs.Prelude.{codes}
-use Rattle.tree_grammar.specs.Elements.{none}
-use Rattle.instance.specs.declared.parts.Var.{Var}
-use Rattle.document_tags.specs.Writing.{counted_element}
-use Rattle.osil_grammar.specs.Writing.{WriteVars}
-use Rattle.osil_grammar.specs.Telling.{EndsHaveTexts}
+use Rattle.osil_grammar.proofs.Words.{refl, arith, length, codes, none, Var, counted_element, WriteVars, EndsHaveTexts}
 use Rattle.osil_grammar.proofs.Tellings.{one_told, all_told}
 use Rattle.osil_grammar.proofs.NodeJoins.{vars_join}
 use Rattle.osil_grammar.proofs.Parts.{counted_told}

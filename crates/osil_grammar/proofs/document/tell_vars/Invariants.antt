@@ -1,6 +1,4 @@
-use Rattle.instance.specs.declared.parts.Var.{Var}
-use Rattle.osil_grammar.specs.Writing.{WriteVars}
-use Rattle.osil_grammar.specs.Telling.{EndsHaveTexts}
+use Rattle.osil_grammar.proofs.Words.{Var, WriteVars, EndsHaveTexts}
 use Rattle.osil_grammar.proofs.Tellings.{ToldFirst}
 use Rattle.osil_grammar.proofs.document.tell_vars.Given as goal
 

@@ -1,4 +1,4 @@
-use Rattle.std.proofs.Common.{◌∙◌}
+use Rattle.osil_grammar.proofs.Words.{◌∙◌}
 use Rattle.osil_grammar.proofs.document.tree_of.Goals as goal
 
 pub unreachable-requires : goal.unreachable-requires

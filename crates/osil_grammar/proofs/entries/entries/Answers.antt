@@ -1,14 +1,8 @@
-use Rattle.std.proofs.Common.{rules, sym, subst}
-use Rattle.std.specs.Prelude.{List}
-use Rattle.std.specs.List.Sorted.{IsSortedByKey, IsStableByKey}
+use Rattle.osil_grammar.proofs.Words.{rules, sym, subst, List, IsSortedByKey, IsStableByKey, Entry, HasWidePlace, AreEntriesOf, AreSumsAt}
 use Rattle.std.proofs.lemmas.List.Sorted.{answers_always}
 use Rattle.std.proofs.lemmas.Fn.{filter_same}
 use Rattle.evidence.specs.Instance as Of
-use Rattle.fraction.specs.declared.ends.Entry.{Entry}
 use Rattle.instance.specs.Program.{entries as entries_of}
-use Rattle.osil_grammar.specs.Matrix.{HasWidePlace}
-use Rattle.osil_grammar.specs.Meaning.{AreEntriesOf}
-use Rattle.osil_grammar.specs.Parsing.{AreSumsAt}
 use Rattle.osil_grammar.proofs.SortedEntries.{place, by_place, in_order, wide_before, wide_after, sums_before, kept_entries, is_nonzero}
 use Rattle.osil_grammar.proofs.entries.entries.Goals as goal
 

@@ -1,4 +1,4 @@
-use Rattle.std.proofs.Common.{ℕ, ◌+◌, ◌<◌, ◌≤◌, slice_index}
+use Rattle.osil_grammar.proofs.Words.{ℕ, ◌+◌, ◌<◌, ◌≤◌, slice_index}
 use Rattle.osil_grammar.proofs.entries.is_rising.Given as goal
 
 abbrev pub invariant-loop-k : goal.invariant-loop-k

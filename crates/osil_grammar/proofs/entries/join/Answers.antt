@@ -1,11 +1,4 @@
-use Rattle.std.proofs.Common.{◌≡◌, ◌+◌, ◌-◌, length, arith, sym, ◌∙◌, ap, subst}
-use Rattle.std.proofs.lemmas.Bool.{true≢false}
-use Rattle.std.proofs.lemmas.List.{get_or_read}
-use Rattle.rational.specs.Ratio.{sum, IsSame}
-use Rattle.rational.specs.Width.{SumFits}
-use Rattle.fraction.specs.Frac.{ratio}
-use Rattle.fraction.specs.declared.ends.Entry.{Entry}
-use Rattle.osil_grammar.specs.Parsing.{AreJoined}
+use Rattle.osil_grammar.proofs.Words.{◌≡◌, ◌+◌, ◌-◌, length, arith, sym, ◌∙◌, ap, subst, true≢false, get_or_read, sum, IsSame, SumFits, ratio, Entry, AreJoined}
 use Rattle.osil_grammar.proofs.EntrySums.{joined_first, joined_behind, joined_at, wide_there}
 use Rattle.osil_grammar.proofs.entries.join.Goals.{then-count-eq0-via-then-count-eq0, then-count-eq0-via-else-count-eq0+then-not-is_same_place}
 use Rattle.osil_grammar.proofs.entries.join.Goals as goal

@@ -1,8 +1,6 @@
-use Rattle.std.proofs.Common.{◌≡◌, ℕ, ◌+◌, ◌<◌, length, take, drop, arith, subst}
-use Rattle.std.proofs.lemmas.List.{take_all}
+use Rattle.osil_grammar.proofs.Words.{◌≡◌, ℕ, ◌+◌, ◌<◌, length, take, drop, arith, subst, take_all, AreSumsAt}
 use Rattle.evidence.specs.Sums as evidence
 use Rattle.instance.specs.Program.{entries as entries_of}
-use Rattle.osil_grammar.specs.Parsing.{AreSumsAt}
 use Rattle.osil_grammar.proofs.Places.{IsWideFrom, wide_from_place}
 use Rattle.osil_grammar.proofs.EntrySums.{next_in_order, wide_place, more_sums, more_fit}
 use Rattle.osil_grammar.proofs.entries.joined.Goals as goal

@@ -1,8 +1,6 @@
-use Rattle.std.proofs.Common.{ℕ, ◌++◌, take, drop}
+use Rattle.osil_grammar.proofs.Words.{ℕ, ◌++◌, take, drop, IsInOrder, AreSumsAt}
 use Rattle.evidence.specs.Sums as evidence
 use Rattle.instance.specs.Program.{entries as entries_of}
-use Rattle.osil_grammar.specs.Orders.{IsInOrder}
-use Rattle.osil_grammar.specs.Parsing.{AreSumsAt}
 use Rattle.osil_grammar.proofs.Places.{IsWideFrom}
 use Rattle.osil_grammar.proofs.entries.joined.Given as goal
 

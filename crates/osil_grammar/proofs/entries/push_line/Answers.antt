@@ -1,7 +1,5 @@
-use Rattle.std.proofs.Common.{◌++◌, ◌∷◌, [], get_or, take, arith, refl, sym, ◌∙◌, ap}
-use Rattle.std.proofs.lemmas.List.{append_assoc, map_push}
-use Rattle.instance.specs.Program.{entry, entries as entries_of}
-use Rattle.osil_grammar.specs.Parsing.{line_entries}
+use Rattle.osil_grammar.proofs.Words.{◌++◌, ◌∷◌, [], get_or, take, arith, refl, sym, ◌∙◌, ap, append_assoc, map_push, entry, line_entries}
+use Rattle.instance.specs.Program.{entries as entries_of}
 use Rattle.osil_grammar.proofs.Lines.{line_more}
 use Rattle.osil_grammar.proofs.entries.push_line.Goals as goal
 

@@ -1,6 +1,5 @@
-use Rattle.std.proofs.Common.{◌≡◌, ◌++◌, take}
+use Rattle.osil_grammar.proofs.Words.{◌≡◌, ◌++◌, take, line_entries}
 use Rattle.instance.specs.Program.{entries as entries_of}
-use Rattle.osil_grammar.specs.Parsing.{line_entries}
 use Rattle.osil_grammar.proofs.entries.push_line.Given as goal
 
 abbrev pub invariant-loop-k : goal.invariant-loop-k

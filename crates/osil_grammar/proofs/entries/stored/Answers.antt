@@ -1,8 +1,6 @@
-use Rattle.std.proofs.Common.{◌≡◌, ◌+◌, ◌-◌, ◌≤◌, ◌++◌, length, arith, rules, sym, ◌∙◌, ap}
-use Rattle.std.proofs.lemmas.List.{append-nil}
+use Rattle.osil_grammar.proofs.Words.{◌≡◌, ◌+◌, ◌-◌, ◌≤◌, ◌++◌, length, arith, rules, sym, ◌∙◌, ap, append-nil, lists_of}
 use Rattle.instance.specs.Program.{entries as entries_of}
 use Rattle.osil_grammar.specs.Matrix.{stored as stored_lists}
-use Rattle.osil_grammar.specs.Parsing.{lists_of}
 use Rattle.osil_grammar.proofs.Lines.{divides, IsLine, is_line, more_lines, last_line}
 use Rattle.osil_grammar.proofs.entries.stored.Goals as goal
 

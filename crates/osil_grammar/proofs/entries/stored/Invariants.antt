@@ -1,7 +1,6 @@
-use Rattle.std.proofs.Common.{◌≡◌, ◌-◌, ◌++◌}
+use Rattle.osil_grammar.proofs.Words.{◌≡◌, ◌-◌, ◌++◌, lists_of}
 use Rattle.instance.specs.Program.{entries as entries_of}
 use Rattle.osil_grammar.specs.Matrix.{stored as stored_lists}
-use Rattle.osil_grammar.specs.Parsing.{lists_of}
 use Rattle.osil_grammar.proofs.Lines.{lines_on}
 use Rattle.osil_grammar.proofs.entries.stored.Given as goal
 

@@ -1,4 +1,4 @@
-use Rattle.std.proofs.Common.{◌∙◌, sym, ap}
+use Rattle.osil_grammar.proofs.Words.{◌∙◌, sym, ap}
 use Rattle.tree_grammar.specs.WrittenText.{written}
 use Rattle.osil_grammar.proofs.OneRoot.{root_once}
 use Rattle.osil_grammar.proofs.laws.instances_have_one_text.Goals as goal

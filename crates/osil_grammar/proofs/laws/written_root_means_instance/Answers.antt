@@ -1,4 +1,4 @@
-use Rattle.osil_grammar.proofs.RootMeaning.{root_means}
+use Rattle.osil_grammar.proofs.WrittenRoots.{root_means}
 use Rattle.osil_grammar.proofs.laws.written_root_means_instance.Goals as goal
 
 pub returns : goal.returns

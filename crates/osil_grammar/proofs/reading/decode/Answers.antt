@@ -1,8 +1,6 @@
-use Rattle.osil_grammar.proofs.DecodedText.{tree_read}
+use Rattle.osil_grammar.proofs.Words.{[]}
+use Rattle.osil_grammar.proofs.Decodings.{feed_refused}
 use Rattle.osil_grammar.proofs.reading.decode.Goals as goal
 
-pub returns-in-Ok-clause-ok : goal.returns-in-Ok-clause-ok
-returns-in-Ok-clause-ok c = let read = tree_read c.args.bytes.now c.in-Ok.tree c.read_tree.result c.in-Ok.ensures.reads c.read_tree.ensures in read.0
-
-pub returns-in-Ok-clause-err : goal.returns-in-Ok-clause-err
-returns-in-Ok-clause-err c = let read = tree_read c.args.bytes.now c.in-Ok.tree c.read_tree.result c.in-Ok.ensures.reads c.read_tree.ensures in read.1
+pub returns-in-Err-clause-err : goal.returns-in-Err-clause-err
+returns-in-Err-clause-err c = feed_refused c.feed.new.self c.args.bytes.now c.feed.result c.in-Err.fault c.in-Err.is c.feed.ensures.answers (c.feed.ensures.fed [] c.new-decoder.ensures.fed)

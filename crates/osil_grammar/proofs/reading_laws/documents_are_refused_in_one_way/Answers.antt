@@ -1,9 +1,9 @@
-use Rattle.osil_grammar.proofs.OneRefusal.{refused_once, text_refused_once, text_not_both}
+use Rattle.osil_grammar.proofs.OneDocument.{root_refused_once, text_refused_once, text_not_both}
 use Rattle.osil_grammar.proofs.OneFault.{faults_alike, told_once, never_both}
 use Rattle.osil_grammar.proofs.reading_laws.documents_are_refused_in_one_way.Goals as goal
 
 pub returns-clause-root : goal.returns-clause-root
-returns-clause-root c = refused_once
+returns-clause-root c = root_refused_once
 
 pub returns-clause-text : goal.returns-clause-text
 returns-clause-text c = text_refused_once

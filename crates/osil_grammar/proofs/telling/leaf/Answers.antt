@@ -1,8 +1,4 @@
-use Rattle.std.proofs.Common.{◌∷◌, ap}
-use Rattle.tree_grammar.specs.Elements.{Nodes, Open, Close, nodes_events, none}
-use Rattle.document_tags.specs.Telling.{marked}
-use Rattle.document_tags.proofs.Tellings.{ok_told_as, some_text}
-use Rattle.osil_grammar.specs.Writing.{holding}
+use Rattle.osil_grammar.proofs.Words.{◌∷◌, ap, Nodes, Open, Close, nodes_events, none, marked, ok_told_as, some_text, holding}
 use Rattle.osil_grammar.proofs.telling.leaf.Goals as goal
 
 pub returns : goal.returns

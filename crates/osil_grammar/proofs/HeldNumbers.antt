@@ -1,0 +1,113 @@
+-- The lists of the matrix and its entries are never held at once.
+use Rattle.osil_grammar.proofs.Words.{◌≡◌, ℕ, ◌≤◌, inl, inr, Bool, true, false, cond, List, [], ◌∷◌, refl, sym, subst, arith, bytes_eq, Mark, Start, Char, Finish, AllPass, Takes, AreTaken, Place, Led, State, start, Child, begins, tests, content, otherwise, among, leads, Fails, Begins, Ends, Leaves, osil, IsSound, is_in_matrix, AreHeldApart, HoldsApart}
+use Rattle.osil_grammar.specs.declared.elements.Part.TheVariants as parts
+use Rattle.osil_grammar.specs.declared.elements.Listing.TheVariants as listings
+use Rattle.osil_grammar.specs.declared.elements.Place.TheVariants as places
+use Rattle.osil_grammar.specs.declared.elements.Led.TheVariants as led
+use Rattle.osil_grammar.proofs.SoundStates.{sound_kept, sound_start}
+
+-- a start tag leads from the matrix to what stands in it, from elsewhere to what doesn't, or into a part
+abbrev IsOnSide : Bool → Led → Type 0
+IsOnSide b (led.To (places.Part part)) = Unit {0}
+IsOnSide b (led.To p) = is_in_matrix p ≡ b
+IsOnSide b l = Unit {0}
+
+abbrev AreOnSide : Bool → List Child → Type 0
+AreOnSide b [] = Unit {0}
+AreOnSide b (c ∷ cs) = IsOnSide b (led.To c.place) × AreOnSide b cs
+
+either_side : (b here : Bool) (l m : Led) → IsOnSide b l → IsOnSide b m → IsOnSide b (cond here l m)
+either_side b true l m p q = p
+either_side b false l m p q = q
+
+among_side : (b : Bool) (name : List ℕ) (cs : List Child) (other : Led) → AreOnSide b cs → IsOnSide b other → IsOnSide b (among name cs other)
+among_side b name [] other all last = last
+among_side b name (c ∷ cs) other all last = either_side b (bytes_eq name c.name) (led.To c.place) (among name cs other) all.0 (among_side b name cs other all.1 last)
+
+leads_side : (p : Place) (name : List ℕ) → IsOnSide (is_in_matrix p) (leads p name)
+leads_side places.Outside name = among_side false name (content places.Outside) (otherwise places.Outside) (refl, tt) tt
+leads_side places.Osil name = among_side false name (content places.Osil) (otherwise places.Osil) (refl, tt) refl
+leads_side places.Passed name = refl
+leads_side places.Data name = among_side false name (content places.Data) (otherwise places.Data) (tt, (tt, (tt, (tt, tt)))) refl
+leads_side places.Further name = tt
+leads_side (places.Part parts.Variables) name = among_side false name (content (places.Part parts.Variables)) (otherwise (places.Part parts.Variables)) (refl, tt) tt
+leads_side (places.Part parts.Objectives) name = among_side false name (content (places.Part parts.Objectives)) (otherwise (places.Part parts.Objectives)) (refl, tt) tt
+leads_side (places.Part parts.Constraints) name = among_side false name (content (places.Part parts.Constraints)) (otherwise (places.Part parts.Constraints)) (refl, tt) tt
+leads_side (places.Part parts.Coefficients) name = among_side true name (content (places.Part parts.Coefficients)) (otherwise (places.Part parts.Coefficients)) (refl, (refl, (refl, (refl, tt)))) tt
+leads_side places.Var name = tt
+leads_side places.Obj name = among_side false name (content places.Obj) (otherwise places.Obj) (refl, tt) tt
+leads_side places.Coef name = tt
+leads_side places.Con name = tt
+leads_side (places.Listed l) name = among_side true name (content (places.Listed l)) (otherwise (places.Listed l)) (refl, tt) tt
+leads_side (places.El l) name = tt
+
+abbrev ApartAt : Bool → State → Type 0
+ApartAt b s = AreHeldApart b s.part s.entries s.starts s.indices s.values
+
+-- before the last part no entry is held, and behind it no list
+before_last : (b : Bool) (s : State) → (4 ≤ s.part → ⊥) → ApartAt b s → AreHeldApart true 4 s.entries s.starts s.indices s.values
+before_last true s first h = absurd (let at = h.0 in first (omega (arith, at)))
+before_last false s first h = (refl, h.3 (omega (arith, first)))
+
+in_other_part : (b : Bool) (s : State) (n : ℕ) → n ≤ 4 → (n ≤ s.part → ⊥) → ApartAt b s → AreHeldApart false n s.entries s.starts s.indices s.values
+in_other_part true s n small first h = absurd (let at = h.0 in first (omega (arith, at, small)))
+in_other_part false s n small first h = (h.0, h.1, h.2, λ low. h.3 (omega (arith, first, small)))
+
+module _ (s : State) (m : Mark) (apart : HoldsApart s) where
+  abbrev here : Bool
+  here = is_in_matrix s.place
+
+  -- into an element on the same side
+  same_side : (b : Bool) → b ≡ here → ApartAt b s
+  same_side b side = subst (λ (x : Bool). ApartAt x s) (sym side) apart
+
+  begun_apart : (p : Place) (z : State) → IsOnSide here (led.To p) → AllPass (Fails s m) (tests (begins (led.To p))) → Begins s m p z → HoldsApart z
+  begun_apart (places.Part parts.Variables) z side pass (d, says, e) = subst HoldsApart (sym e) (in_other_part here s 1 (omega arith) pass.0 apart)
+  begun_apart (places.Part parts.Objectives) z side pass (d, says, e) = subst HoldsApart (sym e) (in_other_part here s 2 (omega arith) pass.0 apart)
+  begun_apart (places.Part parts.Constraints) z side pass (d, says, e) = subst HoldsApart (sym e) (in_other_part here s 3 (omega arith) pass.0 apart)
+  begun_apart (places.Part parts.Coefficients) z side pass (d, says, e) = subst HoldsApart (sym e) (before_last here s pass.0 apart)
+  begun_apart places.Var z side pass (v, n, x, t, e) = subst HoldsApart (sym e) (same_side false side)
+  begun_apart places.Con z side pass (r, n, x, t, e) = subst HoldsApart (sym e) (same_side false side)
+  begun_apart places.Obj z side pass (g, c, d, n, x, k, l, t, e) = subst HoldsApart (sym e) (same_side false side)
+  begun_apart places.Coef z side pass (j, x, e) = subst HoldsApart (sym e) (same_side false side)
+  begun_apart (places.Listed listings.Starts) z side pass e = subst HoldsApart (sym e) (same_side true side)
+  begun_apart (places.Listed l) z side pass e = subst HoldsApart (sym e) (same_side true side)
+  begun_apart (places.El listings.Values) z side pass (n, d, t, u, e) = subst HoldsApart (sym e) (same_side true side)
+  begun_apart (places.El l) z side pass (n, d, t, u, e) = subst HoldsApart (sym e) (same_side true side)
+  begun_apart p z side pass e = subst HoldsApart (sym e) (same_side false side)
+
+  passed_apart : (z : State) → s.place ≡ places.Passed → Ends s places.Passed z → HoldsApart z
+  passed_apart z at (inl h) = subst HoldsApart (sym h.1) apart
+  passed_apart z at (inr h) = subst HoldsApart (sym h.1) (subst (λ (p : Place). ApartAt (is_in_matrix p) s) at apart)
+
+  ended_apart : (p : Place) (z : State) → s.place ≡ p → ApartAt (is_in_matrix p) s → Ends s p z → HoldsApart z
+  ended_apart places.Passed z at h e = passed_apart z at e
+  ended_apart (places.Part parts.Coefficients) z at h (es, x, e) = subst HoldsApart (sym e) (refl, refl, refl, λ low. absurd (let last = h.0 in omega (arith, last, low)))
+  ended_apart (places.El listings.Values) z at h (x, xs, r, i, e) = subst HoldsApart (sym e) h
+  ended_apart (places.El listings.Starts) z at h (new, x, e) = subst HoldsApart (sym e) h
+  ended_apart (places.El listings.RowIndices) z at h (new, x, e) = subst HoldsApart (sym e) h
+  ended_apart (places.El listings.ColumnIndices) z at h (new, x, e) = subst HoldsApart (sym e) h
+  ended_apart places.Coef z at h (x, y, r, i, e) = subst HoldsApart (sym e) h
+  ended_apart p z at h e = subst HoldsApart (sym e) h
+
+  led_apart : (l : Led) (z : State) → IsOnSide here l → AllPass (Fails s m) (tests (begins l)) → Leaves s m (begins l) z → HoldsApart z
+  led_apart (led.To p) z side pass h = begun_apart p z side pass h
+  led_apart l z side pass h = absurd h
+
+apart_kept : (s z : State) (m : Mark) → HoldsApart s → Takes osil s m z → HoldsApart z
+apart_kept s z (Start name as') apart takes = led_apart s (Start name as') apart (leads s.place name) z (leads_side s.place name) takes.0 takes.1
+apart_kept s z (Char c) apart takes = subst HoldsApart (sym takes.1) apart
+apart_kept s z (Finish name) apart takes = ended_apart s (Finish name) apart s.place z refl apart takes.1
+
+pub apart_start : HoldsApart start
+apart_start = (refl, refl, refl, λ low. refl)
+
+abbrev pub IsFit : State → Type 0
+IsFit s = IsSound s × HoldsApart s
+
+pub fit_start : IsFit start
+fit_start = (sound_start, apart_start)
+
+pub fit_kept : (s : State) (ms : List Mark) (z : State) → AreTaken osil s ms z → IsFit s → IsFit z
+fit_kept s [] z taken fit = subst IsFit (sym taken) fit
+fit_kept s (m ∷ ms) z (w, takes, more) fit = fit_kept w ms z more (sound_kept s w m fit.0 takes, apart_kept s w m fit.1 takes)

@@ -1,0 +1,239 @@
+-- What start tags and texts say is one thing, so a mark that is taken leaves one state.
+use Rattle.osil_grammar.proofs.Words.{◌≡◌, ◌∙◌, ◌+◌, ℕ, zero, suc, inl, inr, ℤ, pos, Bool, cond, true, false, List, [], ◌∷◌, ◌++◌, map, get_or, set, replicate, refl, ap, sym, subst, arith, lit<, ◌||◌, Option, None, Some, MatchOption, IsSomeAnd, bytes_eq, codes, true≢false, Attribute, Mark, Char, Ratio, IsNumber, IsSame, sum, negative, IsSame-trans, sum-number, Frac, End, NegInf, At, Inf, Entry, ratio, ratios, same_fraction, SaysEnd, IsCount, IsWholeText, IsDecimal, only_inf, only_neg_inf, count_once, whole_once, value_of, Row, Sense, Min, Max, LeavesOne, Domain, Continuous, Integer, Binary, Listing, Place, whole_run, ratio_run, AreSame, IsEndAt, raised, lowered, IsBinary, IsLess, IsSense, IsDeclared, SaysCount, nought, SaysStep, SaysWholeStep, letters, IsLetterOf, IsOfDomain, SaysVar, SaysRow, SaysSense, State, Kind, begins, text, ends, kind, attributes, count_name, part_row, into, out_of, is_variables, SaysRun, Begins, Passes, AddsWholes, AddsRun, AddsCost, Ends, Leaves, osil}
+use Rattle.evidence.specs.Sums as evidence
+use Rattle.instance.specs.declared.parts.Var.{Var as Variable}
+use Rattle.osil_grammar.specs.declared.elements.Part.TheVariants as parts
+use Rattle.osil_grammar.specs.declared.elements.Listing.TheVariants as listings
+use Rattle.osil_grammar.specs.declared.elements.Place.TheVariants as places
+use Rattle.osil_grammar.specs.declared.elements.Led.TheVariants as led
+use Rattle.osil_grammar.proofs.TagNumbers.{decimal_once}
+use Rattle.osil_grammar.proofs.StartTagTests.{times_once, constant_once}
+use Rattle.osil_grammar.proofs.OneEntries.{matrix_once}
+
+-- texts that a test tells apart
+texts_apart : (s t : List ℕ) → bytes_eq s s ≡ true → bytes_eq s t ≡ false → s ≡ t → ⊥
+texts_apart s t on off same = true≢false (sym on ∙ ap (λ (x : List ℕ). bytes_eq s x) same ∙ off)
+
+-- a number has one fraction
+frac_once : (x y : Frac) (r : Ratio) → IsNumber r → IsSame (ratio x) r → IsSame (ratio y) r → x ≡ y
+frac_once x y r number a b = same_fraction x y (IsSame-trans (ratio x) r (ratio y) number a (sym b))
+
+says_once : {X : Type 0} (Default : X → Type 0) (Is : List ℕ → X → Type 0) → ((x y : X) → Default x → Default y → x ≡ y) → ((text : List ℕ) (x y : X) → Is text x → Is text y → x ≡ y) → (o : Option (List ℕ)) (x y : X) → MatchOption o (Default x) (λ t. Is t x) → MatchOption o (Default y) (λ t. Is t y) → x ≡ y
+says_once Default Is one read None x y a b = one x y a b
+says_once Default Is one read (Some t) x y a b = read t x y a b
+
+bound_once : (t : List ℕ) (x y : End) → SaysEnd t x → SaysEnd t y → x ≡ y
+bound_once t x NegInf a b = only_neg_inf t x a b
+bound_once t x Inf a b = only_inf t x a b
+bound_once t NegInf (At y) a b = sym (only_neg_inf t (At y) b a)
+bound_once t Inf (At y) a b = sym (only_inf t (At y) b a)
+bound_once t (At x) (At y) a b = ap (λ (z : Frac). At z) (decimal_once t x y a b)
+
+end_at_once : (r : Ratio) → IsNumber r → (x y : End) → IsEndAt x r → IsEndAt y r → x ≡ y
+end_at_once r number NegInf y a b = absurd a
+end_at_once r number Inf y a b = absurd a
+end_at_once r number (At x) NegInf a b = absurd b
+end_at_once r number (At x) Inf a b = absurd b
+end_at_once r number (At x) (At y) a b = ap (λ (z : Frac). At z) (frac_once x y r number a b)
+
+either_number : (b : Bool) (x y : Ratio) → IsNumber x → IsNumber y → IsNumber (cond b x y)
+either_number true x y p q = p
+either_number false x y p q = q
+
+raised_number : (x : End) → IsNumber (raised x)
+raised_number NegInf = lit< tt
+raised_number (At f) = either_number (evidence.is_below (ratio f) evidence.none) evidence.none (ratio f) (lit< tt) f.above
+raised_number Inf = lit< tt
+
+lowered_number : (x : End) → IsNumber (lowered x)
+lowered_number NegInf = lit< tt
+lowered_number (At f) = either_number (evidence.is_below (lowered Inf) (ratio f)) (lowered Inf) (ratio f) (lit< tt) f.above
+lowered_number Inf = lit< tt
+
+-- a variable
+same_var : (v w : Variable) → v.lb ≡ w.lb → v.ub ≡ w.ub → v.whole ≡ w.whole → v ≡ w
+same_var v w a b c =
+    let low : v ≡ record { lb = w.lb; ub = v.ub; whole = v.whole } = ap (λ (x : End). record { lb = x; ub = v.ub; whole = v.whole }) a in
+    let high : v ≡ record { lb = w.lb; ub = w.ub; whole = v.whole } = low ∙ ap (λ (x : End). record { lb = w.lb; ub = x; whole = v.whole }) b in
+    high ∙ ap (λ (x : Bool). record { lb = w.lb; ub = w.ub; whole = x }) c
+
+as_said : (lb ub : End) (whole : Bool) (v w : Variable) → (v.lb ≡ lb) × (v.ub ≡ ub) × (v.whole ≡ whole) → (w.lb ≡ lb) × (w.ub ≡ ub) × (w.whole ≡ whole) → v ≡ w
+as_said lb ub whole v w a b = same_var v w (a.0 ∙ sym b.0) (a.1 ∙ sym b.1) (a.2 ∙ sym b.2)
+
+as_binary : (lb ub : End) (v w : Variable) → IsBinary lb ub v → IsBinary lb ub w → v ≡ w
+as_binary lb ub v w a b = same_var v w (end_at_once (raised lb) (raised_number lb) v.lb w.lb a.0 b.0) (end_at_once (lowered ub) (lowered_number ub) v.ub w.ub a.1 b.1) (a.2 ∙ sym b.2)
+
+of_domain_once : (d : Domain) (lb ub : End) (v w : Variable) → IsOfDomain d lb ub v → IsOfDomain d lb ub w → v ≡ w
+of_domain_once Continuous lb ub v w a b = as_said lb ub false v w a b
+of_domain_once Integer lb ub v w a b = as_said lb ub true v w a b
+of_domain_once Binary lb ub v w a b = as_binary lb ub v w a b
+
+letter_once : (t : List ℕ) (d e : Domain) → IsLetterOf letters t d → IsLetterOf letters t e → d ≡ e
+letter_once t d e (inl a) (inl b) = a.1 ∙ sym b.1
+letter_once t d e (inr (inl a)) (inr (inl b)) = a.1 ∙ sym b.1
+letter_once t d e (inr (inr (inl a))) (inr (inr (inl b))) = a.1 ∙ sym b.1
+letter_once t d e (inl a) (inr (inl b)) = absurd (texts_apart (codes "C") (codes "B") refl refl (sym a.0 ∙ b.0))
+letter_once t d e (inl a) (inr (inr (inl b))) = absurd (texts_apart (codes "C") (codes "I") refl refl (sym a.0 ∙ b.0))
+letter_once t d e (inr (inl a)) (inl b) = absurd (texts_apart (codes "B") (codes "C") refl refl (sym a.0 ∙ b.0))
+letter_once t d e (inr (inl a)) (inr (inr (inl b))) = absurd (texts_apart (codes "B") (codes "I") refl refl (sym a.0 ∙ b.0))
+letter_once t d e (inr (inr (inl a))) (inl b) = absurd (texts_apart (codes "I") (codes "C") refl refl (sym a.0 ∙ b.0))
+letter_once t d e (inr (inr (inl a))) (inr (inl b)) = absurd (texts_apart (codes "I") (codes "B") refl refl (sym a.0 ∙ b.0))
+letter_once t d e (inr (inr (inr a))) b = absurd a
+letter_once t d e (inl a) (inr (inr (inr b))) = absurd b
+letter_once t d e (inr (inl a)) (inr (inr (inr b))) = absurd b
+letter_once t d e (inr (inr (inl a))) (inr (inr (inr b))) = absurd b
+
+var_once : (as' : List Attribute) (v w : Variable) → SaysVar as' v → SaysVar as' w → v ≡ w
+var_once as' v w a b =
+    let low = says_once (λ (x : End). x ≡ At nought) SaysEnd (λ x y p q. p ∙ sym q) bound_once (value_of (codes "lb") as') a.lb b.lb a.low b.low in
+    let high = says_once (λ (x : End). x ≡ Inf) SaysEnd (λ x y p q. p ∙ sym q) bound_once (value_of (codes "ub") as') a.ub b.ub a.high b.high in
+    let type = says_once (λ (x : Domain). x ≡ Continuous) (λ t d. IsLetterOf letters t d) (λ x y p q. p ∙ sym q) letter_once (value_of (codes "type") as') a.domain b.domain a.type b.type in
+    let first : IsOfDomain b.domain a.lb a.ub v = subst (λ (d : Domain). IsOfDomain d a.lb a.ub v) type a.is in
+    let second : IsOfDomain b.domain b.lb a.ub v = subst (λ (x : End). IsOfDomain b.domain x a.ub v) low first in
+    of_domain_once b.domain b.lb b.ub v w (subst (λ (x : End). IsOfDomain b.domain b.lb x v) high second) b.is
+
+-- a row
+same_row : (r s : Row) → r.lb ≡ s.lb → r.ub ≡ s.ub → r ≡ s
+same_row r s a b =
+    let low : r ≡ record { lb = s.lb; ub = r.ub } = ap (λ (x : End). record { lb = x; ub = r.ub }) a in
+    low ∙ ap (λ (x : End). record { lb = s.lb; ub = x }) b
+
+less_once : (end : End) (c : Frac) (x y : End) → IsLess end c x → IsLess end c y → x ≡ y
+less_once NegInf c x y a b = a ∙ sym b
+less_once (At f) c x y a b = end_at_once (sum (ratio f) (negative (ratio c))) (sum-number (ratio f) (negative (ratio c)) f.above c.above) x y a b
+less_once Inf c x y a b = a ∙ sym b
+
+less_same : (end other : End) (c d : Frac) (x y : End) → end ≡ other → c ≡ d → IsLess end c x → IsLess other d y → x ≡ y
+less_same end other c d x y p q a b = less_once other d x y (subst (λ (z : Frac). IsLess other z x) q (subst (λ (z : End). IsLess z c x) p a)) b
+
+row_once : (as' : List Attribute) (r s : Row) → SaysRow as' r → SaysRow as' s → r ≡ s
+row_once as' r s a b =
+    let low = says_once (λ (x : End). x ≡ NegInf) SaysEnd (λ x y p q. p ∙ sym q) bound_once (value_of (codes "lb") as') a.lb b.lb a.low b.low in
+    let high = says_once (λ (x : End). x ≡ Inf) SaysEnd (λ x y p q. p ∙ sym q) bound_once (value_of (codes "ub") as') a.ub b.ub a.high b.high in
+    let constant = constant_once as' a.constant b.constant a.has_constant b.has_constant in
+    same_row r s (less_same a.lb b.lb a.constant b.constant r.lb s.lb low constant a.less_low b.less_low) (less_same a.ub b.ub a.constant b.constant r.ub s.ub high constant a.less_high b.less_high)
+
+-- an objective
+sense_once : (t : List ℕ) (x y : Sense) → IsSense t x → IsSense t y → x ≡ y
+sense_once t Min Min a b = refl
+sense_once t Max Max a b = refl
+sense_once t Min Max a b = absurd (texts_apart (codes "min") (codes "max") refl refl (sym a ∙ b))
+sense_once t Max Min a b = absurd (texts_apart (codes "max") (codes "min") refl refl (sym a ∙ b))
+
+declared_once : (t : List ℕ) (x y : Option ℕ) → IsDeclared t x → IsDeclared t y → x ≡ y
+declared_once t (Some n) (Some m) a b = ap (λ (k : ℕ). Some k) (count_once t n m a.0 b.0)
+declared_once t None y a b = absurd (let z = a.1 in cc)
+declared_once t (Some n) None a b = absurd (let z = b.1 in cc)
+
+count_said_once : (as' : List Attribute) (name : List ℕ) (x y : Option ℕ) → SaysCount as' name x → SaysCount as' name y → x ≡ y
+count_said_once as' name x y a b = says_once (λ (z : Option ℕ). z ≡ None) IsDeclared (λ u v p q. p ∙ sym q) declared_once (value_of name as') x y a b
+
+sense_said_once : (as' : List Attribute) (x y : Sense) → SaysSense as' x → SaysSense as' y → x ≡ y
+sense_said_once as' x y a b = says_once (λ (s : Sense). s ≡ Min) IsSense (λ u v p q. p ∙ sym q) sense_once (value_of (codes "maxOrMin") as') x y a b
+
+step_once : (as' : List Attribute) (x y : Frac) → SaysStep as' x → SaysStep as' y → x ≡ y
+step_once as' x y a b = says_once (λ (z : Frac). z ≡ nought) (λ t z. IsDecimal t (ratio z)) (λ u v p q. p ∙ sym q) decimal_once (value_of (codes "incr") as') x y a b
+
+whole_step_once : (as' : List Attribute) (x y : ℤ) → SaysWholeStep as' x → SaysWholeStep as' y → x ≡ y
+whole_step_once as' x y a b = says_once (λ (z : ℤ). z ≡ pos 0) IsWholeText (λ u v p q. p ∙ sym q) whole_once (value_of (codes "incr") as') x y a b
+
+index_of_once : (o : Option (List ℕ)) (i j : ℕ) → IsSomeAnd o (λ t. IsCount t i) → IsSomeAnd o (λ t. IsCount t j) → i ≡ j
+index_of_once None i j a b = absurd a
+index_of_once (Some t) i j a b = count_once t i j a b
+
+-- two states that differ in what is one thing
+run_once : (l : Listing) (as' : List Attribute) (s a b : State) → SaysRun l as' s a → SaysRun l as' s b → a ≡ b
+run_once listings.Values as' s a b (m, d, t, u, e) (n, c, v, w, f) =
+    e ∙ ap (λ (k : ℕ). let z : State = record s { times = k; step = d; text = [] } in z) (times_once as' m n t v) ∙ ap (λ (x : Frac). let z : State = record s { times = n; step = x; text = [] } in z) (step_once as' d c u w) ∙ sym f
+run_once l as' s a b (m, d, t, u, e) (n, c, v, w, f) =
+    e ∙ ap (λ (k : ℕ). let z : State = record s { times = k; whole_step = d; text = [] } in z) (times_once as' m n t v) ∙ ap (λ (x : ℤ). let z : State = record s { times = n; whole_step = x; text = [] } in z) (whole_step_once as' d c u w) ∙ sym f
+
+begins_once : (s : State) (m : Mark) (p : Place) (a b : State) → Begins s m p a → Begins s m p b → a ≡ b
+begins_once s m (places.Part part) a b (d, x, e) (c, y, f) =
+    e ∙ ap (λ (k : Option ℕ). let z : State = record (into s (places.Part part)) { part_at = s.count + 1; part = part_row part; has_variables = is_variables part || s.has_variables; declared = k } in z) (count_said_once (attributes m) (count_name part) d c x y) ∙ sym f
+begins_once s m places.Var a b (v, i, x, t, e) (w, j, y, u, f) =
+    e ∙ ap (λ (k : Variable). let z : State = record (into s places.Var) { vars = s.vars ++ replicate i k; costs = s.costs ++ replicate i nought } in z) (var_once (attributes m) v w x y)
+    ∙ ap (λ (k : ℕ). let z : State = record (into s places.Var) { vars = s.vars ++ replicate k w; costs = s.costs ++ replicate k nought } in z) (times_once (attributes m) i j t u) ∙ sym f
+begins_once s m places.Con a b (r, i, x, t, e) (q, j, y, u, f) =
+    e ∙ ap (λ (k : Row). let z : State = record (into s places.Con) { rows = s.rows ++ replicate i k } in z) (row_once (attributes m) r q x y)
+    ∙ ap (λ (k : ℕ). let z : State = record (into s places.Con) { rows = s.rows ++ replicate k q } in z) (times_once (attributes m) i j t u) ∙ sym f
+begins_once s m places.Obj a b (g, c, d, i, x, k, l, t, e) (h, o, n, j, y, q, r, u, f) =
+    e ∙ ap (λ (w : Sense). let z : State = record (into s places.Obj) { obj_at = s.count + 1; objs = s.objs + i; coefs = 0; declared_coefs = d; sense = w; constant = c } in z) (sense_said_once (attributes m) g h x y)
+    ∙ ap (λ (w : Frac). let z : State = record (into s places.Obj) { obj_at = s.count + 1; objs = s.objs + i; coefs = 0; declared_coefs = d; sense = h; constant = w } in z) (constant_once (attributes m) c o k q)
+    ∙ ap (λ (w : Option ℕ). let z : State = record (into s places.Obj) { obj_at = s.count + 1; objs = s.objs + i; coefs = 0; declared_coefs = w; sense = h; constant = o } in z) (count_said_once (attributes m) (codes "numberOfObjCoef") d n l r)
+    ∙ ap (λ (w : ℕ). let z : State = record (into s places.Obj) { obj_at = s.count + 1; objs = s.objs + w; coefs = 0; declared_coefs = n; sense = h; constant = o } in z) (times_once (attributes m) i j t u) ∙ sym f
+begins_once s m places.Coef a b (i, x, e) (j, y, f) =
+    e ∙ ap (λ (k : ℕ). let z : State = record (into s places.Coef) { coefs = s.coefs + 1; variable = k; text = [] } in z) (index_of_once (value_of (codes "idx") (attributes m)) i j x y) ∙ sym f
+begins_once s m (places.El l) a b e f = run_once l (attributes m) (into s (places.El l)) a b e f
+begins_once s m p a b e f = e ∙ sym f
+
+passes_once : (s a b : State) → Passes s a → Passes s b → a ≡ b
+passes_once s a b (inl e) (inl f) = e.1 ∙ sym f.1
+passes_once s a b (inr e) (inr f) = e.1 ∙ sym f.1
+passes_once s a b (inl e) (inr f) = absurd (let x = e.0 in let y = f.0 in omega arith)
+passes_once s a b (inr e) (inl f) = absurd (let x = e.0 in let y = f.0 in omega arith)
+
+wholes_once : (ns ms : List ℕ) → map pos ns ≡ map pos ms → ns ≡ ms
+wholes_once [] [] e = refl
+wholes_once [] (m ∷ ms) e = absurd (cc)
+wholes_once (n ∷ ns) [] e = absurd (cc)
+wholes_once (n ∷ ns) (m ∷ ms) e =
+    let first : n ≡ m = cc in let rest : map pos ns ≡ map pos ms = cc in
+    ap (λ (k : ℕ). k ∷ ns) first ∙ ap (λ (l : List ℕ). m ∷ l) (wholes_once ns ms rest)
+
+adds_once : (old : List ℕ) (s : State) (ns ms : List ℕ) → AddsWholes old s ns → AddsWholes old s ms → ns ≡ ms
+adds_once old s ns ms (x, r, e) (y, q, f) = wholes_once ns ms (e ∙ ap (λ (z : ℤ). map pos old ++ whole_run z s.whole_step s.times) (whole_once s.text x y r q) ∙ sym f)
+
+abbrev AreNumbers : List Ratio → Type 0
+AreNumbers [] = Unit {0}
+AreNumbers (r ∷ rs) = IsNumber r × AreNumbers rs
+
+same_once : (xs ys : List Frac) (rs : List Ratio) → AreNumbers rs → AreSame (ratios xs) rs → AreSame (ratios ys) rs → xs ≡ ys
+same_once [] [] rs n a b = refl
+same_once [] (y ∷ ys) [] n a b = absurd b
+same_once [] (y ∷ ys) (r ∷ rs) n a b = absurd a
+same_once (x ∷ xs) [] [] n a b = absurd a
+same_once (x ∷ xs) [] (r ∷ rs) n a b = absurd b
+same_once (x ∷ xs) (y ∷ ys) [] n a b = absurd a
+same_once (x ∷ xs) (y ∷ ys) (r ∷ rs) n a b = ap (λ (z : Frac). z ∷ xs) (frac_once x y r n.0 a.0 b.0) ∙ ap (λ (l : List Frac). y ∷ l) (same_once xs ys rs n.1 a.1 b.1)
+
+run_numbers : (first step : Ratio) (m : ℕ) → IsNumber first → IsNumber step → AreNumbers (ratio_run first step m)
+run_numbers first step zero p q = tt
+run_numbers first step (suc m) p q = (p, run_numbers (sum first step) step m (sum-number first step p q) q)
+
+adds_run_once : (l : Listing) (s a b : State) → AddsRun l s a → AddsRun l s b → a ≡ b
+adds_run_once listings.Starts s a b (ns, x, e) (ms, y, f) = e ∙ ap (λ (k : List ℕ). let z : State = record s { starts = k } in z) (adds_once s.starts s ns ms x y) ∙ sym f
+adds_run_once listings.RowIndices s a b (ns, x, e) (ms, y, f) = e ∙ ap (λ (k : List ℕ). let z : State = record s { indices = k } in z) (adds_once s.indices s ns ms x y) ∙ sym f
+adds_run_once listings.ColumnIndices s a b (ns, x, e) (ms, y, f) = e ∙ ap (λ (k : List ℕ). let z : State = record s { indices = k } in z) (adds_once s.indices s ns ms x y) ∙ sym f
+adds_run_once listings.Values s a b (x, xs, r, i, e) (y, ys, q, j, f) =
+    let one = decimal_once s.text x y r q in
+    let moved = subst (λ (w : Frac). AreSame (ratios xs) (ratio_run (ratio w) (ratio s.step) s.times)) one i in
+    e ∙ ap (λ (k : List Frac). let z : State = record s { values = s.values ++ k } in z) (same_once xs ys (ratio_run (ratio y) (ratio s.step) s.times) (run_numbers (ratio y) (ratio s.step) s.times y.above s.step.above) moved j) ∙ sym f
+
+cost_number : (cs : List Frac) (j : ℕ) → IsNumber (get_or (ratios cs) j evidence.none)
+cost_number [] j = lit< tt
+cost_number (c ∷ cs) zero = c.above
+cost_number (c ∷ cs) (suc j) = cost_number cs j
+
+cost_once : (s a b : State) → AddsCost s a → AddsCost s b → a ≡ b
+cost_once s a b (x, y, r, i, e) (w, v, q, j, f) =
+    let old = get_or (ratios s.costs) s.variable evidence.none in
+    let moved = subst (λ (u : Frac). IsSame (ratio y) (sum old (ratio u))) (decimal_once s.text x w r q) i in
+    e ∙ ap (λ (k : Frac). let z : State = record s { costs = set s.costs s.variable k } in z) (frac_once y v (sum old (ratio w)) (sum-number old (ratio w) (cost_number s.costs s.variable) w.above) moved j) ∙ sym f
+
+ends_once : (s : State) (p : Place) (a b : State) → Ends s p a → Ends s p b → a ≡ b
+ends_once s places.Passed a b e f = passes_once s a b e f
+ends_once s (places.Part parts.Coefficients) a b (es, x, e) (fs, y, f) = e ∙ ap (λ (k : List Entry). let z : State = record (out_of s (places.Part parts.Coefficients)) { starts = []; indices = []; values = []; entries = k } in z) (matrix_once (out_of s (places.Part parts.Coefficients)) es fs x y) ∙ sym f
+ends_once s places.Coef a b e f = cost_once (out_of s places.Coef) a b e f
+ends_once s (places.El l) a b e f = adds_run_once l (out_of s (places.El l)) a b e f
+ends_once s p a b e f = e ∙ sym f
+
+leaves_once : (s : State) (m : Mark) (k : Kind) (a b : State) → Leaves s m k a → Leaves s m k b → a ≡ b
+leaves_once s m (begins (led.To p)) a b h g = begins_once s m p a b h g
+leaves_once s m (begins l) a b h g = absurd h
+leaves_once s (Char c) text a b h g = h ∙ sym g
+leaves_once s m text a b h g = absurd h
+leaves_once s m (ends p) a b h g = ends_once s p a b h g
+
+pub leaves_one : LeavesOne osil
+leaves_one s m a b p q = leaves_once s m (kind s m) a b p.1 q.1

@@ -1,0 +1,140 @@
+//! Where a mark may stand.
+
+ghost use Rattle.std.specs.Prelude.{◌≡◌, cond, bytes_eq, codes};
+ghost use Rattle.osil_grammar.specs.declared.elements.Place.TheVariants as places;
+ghost use Rattle.osil_grammar.specs.declared.elements.Part.TheVariants as parts;
+ghost use Rattle.osil_grammar.specs.declared.elements.Led.TheVariants as led;
+ghost use Rattle.osil_grammar.specs.Table as table;
+
+/// A part of `instanceData` that is read, in the order in which they stand.
+#[derive(Clone, Copy, PartialEq, Eq, Drop)]
+pub enum Part {
+    Variables,
+    Objectives,
+    Constraints,
+    Coefficients,
+}
+
+/// A list of the matrix.
+#[derive(Clone, Copy, PartialEq, Eq, Drop)]
+pub enum Listing {
+    Starts,
+    RowIndices,
+    ColumnIndices,
+    Values,
+}
+
+/// The element that the marks to come stand in.
+#[derive(Clone, Copy, PartialEq, Eq, Drop)]
+pub enum Place {
+    /// None: before the root, and behind it.
+    Outside,
+    Osil,
+    /// An element of `osil`, or in one, that is passed over.
+    Passed,
+    Data,
+    /// A part of `instanceData` that isn't read.
+    Further,
+    Part(Part),
+    Var,
+    Obj,
+    Coef,
+    Con,
+    Listed(Listing),
+    El(Listing),
+}
+
+/// Where a start tag leads.
+#[derive(Clone, Copy, PartialEq, Eq, Drop)]
+pub enum Led {
+    /// Into an element that may stand there.
+    To(Place),
+    /// Nowhere: it is a root of another name.
+    OtherRoot,
+    /// Nowhere: it is in a part that isn't read.
+    InFurther,
+    /// Nowhere: it may not stand there.
+    Beyond,
+}
+
+/// There, if the name is this one, else as is said.
+fn named(name: &[u8], wanted: &[u8], place: Place, other: Led) -> Led
+    ensures { result ≡ cond (bytes_eq name.now wanted.now) (led.To place) other }
+{
+    if name == wanted {
+        Led::To(place)
+    } else {
+        other
+    }
+}
+
+/// Where the start tag of a part of `instanceData` leads.
+fn part_led(name: &[u8]) -> Led
+    ensures { result ≡ table.leads places.Data name.now }
+{
+    if name == b"variables".as_slice() {
+        Led::To(Place::Part(Part::Variables))
+    } else if name == b"objectives".as_slice() {
+        Led::To(Place::Part(Part::Objectives))
+    } else if name == b"constraints".as_slice() {
+        Led::To(Place::Part(Part::Constraints))
+    } else if name == b"linearConstraintCoefficients".as_slice() {
+        Led::To(Place::Part(Part::Coefficients))
+    } else {
+        Led::To(Place::Further)
+    }
+}
+
+/// Where the start tag of a list of the matrix leads.
+fn list_led(name: &[u8]) -> Led
+    ensures { result ≡ table.leads (places.Part parts.Coefficients) name.now }
+{
+    if name == b"start".as_slice() {
+        Led::To(Place::Listed(Listing::Starts))
+    } else if name == b"rowIdx".as_slice() {
+        Led::To(Place::Listed(Listing::RowIndices))
+    } else if name == b"colIdx".as_slice() {
+        Led::To(Place::Listed(Listing::ColumnIndices))
+    } else if name == b"value".as_slice() {
+        Led::To(Place::Listed(Listing::Values))
+    } else {
+        Led::Beyond
+    }
+}
+
+/// Where the start tag of an element of this name leads.
+pub(crate) fn leads(place: Place, name: &[u8]) -> Led
+    ensures { result ≡ table.leads place name.now }
+{
+    match place {
+        Place::Outside => named(name, b"osil", Place::Osil, Led::OtherRoot),
+        Place::Osil => named(name, b"instanceData", Place::Data, Led::To(Place::Passed)),
+        Place::Passed => Led::To(Place::Passed),
+        Place::Data => part_led(name),
+        Place::Further => Led::InFurther,
+        Place::Part(Part::Variables) => named(name, b"var", Place::Var, Led::Beyond),
+        Place::Part(Part::Objectives) => named(name, b"obj", Place::Obj, Led::Beyond),
+        Place::Part(Part::Constraints) => named(name, b"con", Place::Con, Led::Beyond),
+        Place::Part(Part::Coefficients) => list_led(name),
+        Place::Obj => named(name, b"coef", Place::Coef, Led::Beyond),
+        Place::Listed(l) => named(name, b"el", Place::El(l), Led::Beyond),
+        Place::Var | Place::Coef | Place::Con | Place::El(_) => Led::Beyond,
+    }
+}
+
+/// Where an end tag leads.
+pub(crate) fn outer(place: Place) -> Place
+    ensures { result ≡ table.around place }
+{
+    match place {
+        Place::Outside | Place::Osil => Place::Outside,
+        Place::Passed | Place::Data => Place::Osil,
+        Place::Further | Place::Part(_) => Place::Data,
+        Place::Var => Place::Part(Part::Variables),
+        Place::Obj => Place::Part(Part::Objectives),
+        Place::Con => Place::Part(Part::Constraints),
+        Place::Coef => Place::Obj,
+        Place::Listed(_) => Place::Part(Part::Coefficients),
+        Place::El(l) => Place::Listed(l),
+    }
+}
