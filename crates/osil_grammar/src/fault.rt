@@ -5,7 +5,7 @@ use os_io::{Memory, Text};
 use std::alloc::{AllocError, AllocFailed};
 
 /// What is wrong with an OSiL document. At one tag the first of these is told.
-#[derive(Debug, Drop)]
+#[derive(Drop)]
 pub enum Refusal {
     /// The root isn't `osil`.
     Root,
@@ -37,7 +37,7 @@ pub enum Refusal {
 }
 
 /// Why bytes are no instance.
-#[derive(Debug, Drop)]
+#[derive(Drop)]
 pub enum OsilFault {
     /// They are no document within the limits.
     Tree(TreeFault),
@@ -48,7 +48,7 @@ pub enum OsilFault {
 }
 
 /// Why an instance has no text.
-#[derive(Clone, Copy, PartialEq, Eq, Debug, Drop)]
+#[derive(Clone, Copy, PartialEq, Eq, Drop)]
 pub enum EncodeFault {
     /// A number of it has no decimal.
     NotDecimal,
