@@ -11,10 +11,6 @@ placed_front by_columns (suc n) j lines (i ∷ indices) [] p q = absurd (omega a
 placed_front by_columns (suc n) j lines (i ∷ indices) (v ∷ values) p q =
     ap (λ l. placed by_columns j (unsigned_abs i) v ∷ l) (placed_front by_columns n j lines indices values (omega arith) (omega arith))
 
--- no values where no line is left
-pub placed_none : (by_columns : Bool) (indices : List ℤ) (values : List Ratio) → placed_all by_columns [] indices values ≡ []
-placed_none by_columns indices values = refl
-
 -- what is stored from line j on
 abbrev pub lines_on : Bool → ℕ → List ℕ → List ℕ → List Frac → List Of.Entry
 lines_on by_columns j starts indices values = placed_all by_columns (lines_from j (wholes (drop j starts))) (wholes (drop (get_or starts j 0) indices)) (ratios (drop (get_or starts j 0) values))

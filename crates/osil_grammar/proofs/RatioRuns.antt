@@ -29,9 +29,6 @@ pub record HasRun (old now : List Frac) (first step next : Frac) (k : ℕ) : Typ
   pub last : IsSame (ratio next) (ratio_at (ratio first) (ratio step) k)
   pub fits : (j : ℕ) → j < k → SumFits (ratio_at (ratio first) (ratio step) j) (ratio step)
 
-pub run_first : (old now : List Frac) (first step : Frac) → now ≡ old ++ first ∷ [] → HasRun old now first step first 0
-run_first old now first step pushed = record { added = first ∷ []; behind = pushed; same = (refl, tt); last = refl; fits = λ j h. absurd (omega arith) }
-
 -- the number at the next place doesn't fit where the sum of the last and the step doesn't
 place_fits : (old now : List Frac) (first step next : Frac) (k : ℕ) → HasRun old now first step next k → SumFits (ratio next) (ratio step) → SumFits (ratio_at (ratio first) (ratio step) k) (ratio step)
 place_fits old now first step next k run fits = sums_same (ratio next) (ratio step) (ratio_at (ratio first) (ratio step) k) (ratio step) (ratio_at-number (ratio first) (ratio step) k first.above step.above) step.above run.last refl fits

@@ -1,5 +1,5 @@
 -- A mark that is taken in a sound state leaves a sound state.
-use Rattle.osil_grammar.proofs.Words.{◌≡◌, ◌∙◌, ◌+◌, ◌-◌, ◌<◌, ◌≤◌, ℕ, inl, inr, ℤ, pos, negsuc, Bool, true, false, cond, List, [], ◌∷◌, ◌++◌, map, length, replicate, refl, ap, sym, subst, arith, length-append, Option, None, Some, MatchOption, IsSomeAnd, unsigned_abs, ◌+ℤ◌, ◌*ℤ◌, codes, All, cases_lt, cases_eq, ints, length-replicate, length-set, length-map, All-nil, All-append, All-replicate, All-weaker, All-map, Attribute, Mark, Start, Char, Finish, Ratio, Frac, ratio, ratios, End, NegInf, At, Inf, Entry, SaysEnd, IsCount, IsWholeText, Row, AreEnds, IsInside, value_of, AllPass, Takes, AreTaken, Domain, Continuous, Integer, Binary, Listing, Place, Led, IsEndAt, IsLess, raised, lowered, nought, Says, HasSuch, IsTimes, SaysTimes, IsOfDomain, State, start, begins, ends, tests, leads, Fails, AreTooMany, IsDivided, IsInRange, IsOutOfRange, lines, list_length, most, Begins, Ends, Leaves, AddsWholes, IsMatrixOf, heard, osil, AreItems, AreWithin, IsSoundSoFar, IsSoundAt, IsSoundIn, IsSound}
+use Rattle.osil_grammar.proofs.Words.{◌≡◌, ◌∙◌, ◌+◌, ◌-◌, ◌<◌, ◌≤◌, ℕ, inl, inr, ℤ, pos, negsuc, Bool, true, false, cond, List, [], ◌++◌, map, length, replicate, refl, ap, sym, subst, arith, length-append, Option, None, Some, MatchOption, IsSomeAnd, unsigned_abs, ◌+ℤ◌, ◌*ℤ◌, codes, All, cases_lt, cases_eq, ints, length-replicate, length-set, length-map, All-nil, All-append, All-replicate, All-weaker, All-map, Attribute, Mark, Start, Char, Finish, Ratio, Frac, ratio, ratios, End, NegInf, At, Inf, Entry, SaysEnd, IsCount, IsWholeText, Row, AreEnds, IsInside, value_of, AllPass, Takes, Domain, Continuous, Integer, Binary, Listing, Place, Led, IsEndAt, IsLess, raised, lowered, nought, Says, HasSuch, IsTimes, SaysTimes, IsOfDomain, State, start, begins, ends, tests, leads, Fails, AreTooMany, IsDivided, IsInRange, IsOutOfRange, lines, list_length, most, Begins, Ends, Leaves, AddsWholes, IsMatrixOf, heard, osil, AreItems, AreWithin, IsSoundSoFar, IsSoundAt, IsSoundIn, IsSound}
 use Rattle.instance.specs.declared.parts.Var.{Var as Variable}
 use Rattle.osil_grammar.specs.declared.elements.Part.TheVariants as parts
 use Rattle.osil_grammar.specs.declared.elements.Listing.TheVariants as listings
@@ -214,7 +214,3 @@ pub sound_kept : (s z : State) (m : Mark) → IsSound s → Takes osil s m z →
 sound_kept s z (Start name as') k h = start_sound (leads s.place name) s name as' z k h
 sound_kept s z (Char c) k h = subst IsSound (sym h.1) (k.0, text_sound s.place s (heard s.place s.text c) k.1)
 sound_kept s z (Finish name) k h = end_sound s name s.place z refl k h.0 h.1
-
-pub sounds_kept : (s z : State) (ms : List Mark) → IsSound s → AreTaken osil s ms z → IsSound z
-sounds_kept s z [] k taken = subst IsSound (sym taken) k
-sounds_kept s z (m ∷ ms) k taken = sounds_kept taken.0 z ms (sound_kept s taken.0 m k taken.1) taken.2

@@ -1,5 +1,5 @@
 -- What a builder is told one thing after another.
-use Rattle.osil_grammar.proofs.Words.{◌≡◌, ◌∙◌, ℕ, ◌+◌, ◌<◌, ◌≤◌, List, [], ◌∷◌, ◌++◌, length, take, drop, get_or, ap, sym, subst, refl, All, drop_more, drop_all, take_all, All-nil, All-more, Nodes, none, Event, nodes_events, Building, said, HasNone}
+use Rattle.osil_grammar.proofs.Words.{◌≡◌, ◌∙◌, ℕ, ◌+◌, ◌<◌, ◌≤◌, List, [], ◌∷◌, ◌++◌, length, take, drop, get_or, ap, sym, subst, All, drop_more, drop_all, take_all, All-more, Nodes, none, Event, nodes_events, Building, said, HasNone}
 use Rattle.osil_grammar.specs.declared.fault.EncodeFault.{EncodeFault}
 use Rattle.osil_grammar.specs.declared.fault.EncodeFault.TheVariants.{NotDecimal, Long, Memory}
 use Rattle.document_tags.specs.Telling.{Told}
@@ -31,14 +31,6 @@ pub record Joins {X : Type 0} (W : ℕ → List X → Nodes → Type 0) (i : ℕ
 -- an element's nodes may stand before those of the rest
 abbrev pub CanJoin : {X : Type 0} → (ℕ → List X → Nodes → Type 0) → Type 0
 CanJoin {X} W = (i : ℕ) (x : X) (xs : List X) (first rest : Nodes) → W i (x ∷ []) first → W (i + 1) xs rest → Joins W i x xs first rest
-
--- nothing is told yet
-pub none_told : {X : Type 0} (P : X → Type 0) (W : ℕ → List X → Nodes → Type 0) (b : Building) (all : List X) → b.attributes ≡ [] → ToldFirst P W b b all 0
-none_told P W b all waiting = record {
-  decimals = All-nil P;
-  waiting = waiting;
-  completes = λ rest writes. record { nodes = rest; writes = writes; told = λ behind. refl };
-}
 
 -- one more is told
 pub one_told : {X : Type 0} (P : X → Type 0) (W : ℕ → List X → Nodes → Type 0) → CanJoin W → (start a b : Building) (all : List X) (i : ℕ) (x : X) → i < length all → x ≡ get_or all i x → ToldFirst P W start a all i → P x → (first : Nodes) → W i (x ∷ []) first → Told a b (nodes_events first) → ToldFirst P W start b all (i + 1)

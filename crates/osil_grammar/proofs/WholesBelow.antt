@@ -1,11 +1,6 @@
 -- Whole numbers that are read stay below their limit.
-use Rattle.osil_grammar.proofs.Words.{◌≡◌, ℕ, zero, suc, ◌<◌, Ok, Err, ℤ, pos, ◌+ℤ◌, ◌<ℤ◌, List, [], ◌∷◌, ◌++◌, sym, subst, arith, Result, All, OnOk, ints, All-nil, All-cons, All-head, All-tail, All-append, All-map, All-weaker, whole_run, wholes, IsBelowLimit}
+use Rattle.osil_grammar.proofs.Words.{◌≡◌, ℕ, zero, suc, ◌<◌, ℤ, pos, ◌+ℤ◌, ◌<ℤ◌, List, [], ◌∷◌, ◌++◌, sym, subst, arith, All, ints, All-nil, All-cons, All-head, All-tail, All-append, All-map, All-weaker, whole_run, wholes, IsBelowLimit}
 use Rattle.osil_grammar.proofs.RunSteps.{at_step, step_on, first_place}
-
--- what holds where a step succeeds
-pub then_ok : {X E : Type 0} (r : Result X E) (A B : Type 0) → (A → B) → OnOk r A → OnOk r B
-then_ok (Ok x) A B then a = then a
-then_ok (Err e) A B then a = tt
 
 abbrev Low : ℕ → ℤ → Type 0
 Low limit z = z <ℤ pos limit
