@@ -5,27 +5,30 @@ clock. `check` looks for an order of all calls, with the claims and the finishes
 the table's, and in which no call stands before one that was answered before it was sent; so each client's order is kept too. What it
 finds is replayed on a table before it is believed, so what is called legal is legal.
 
-Contradictions are told where they are sure: by one answer, by two, or by a chain of calls of which each must stand before the next, the
-last answered before the first was sent. Else the search tells which call it found no place for; that is no proof.
+Contradictions are told where they are sure: by one answer, by two, by a chain of calls of which each must stand before the next, the last
+answered before the first was sent; and where `order.cpp` has no state left of all that the answers so far leave open. Where these were too many
+to keep all, it tells where it was lost; that is no proof.
 
-What keeps it from trying every order: numbers are given in order, so the total in an answer says between which issues its call stands;
-a job goes one way through its phases, so no job leaves a phase while a call is left that saw it so; and a call that changes nothing that
-another one can tell stands as soon as it fits. What is left to choose is when jobs are sent, entered, claimed, finished and killed while
-they wait, for kills tell how many wait or run. The search goes along the clock with a few states at once, each of another order, and
-makes such a change only where a call has to stand that needs one. Two orders of the same calls that leave the table the same are one
-state. Where no state is left, it goes back some way along the clock and comes again with more of them. Clients may ask only for numbers
-that an answer told them, or that nobody is given.
+What keeps these few: numbers are given in order, so the total in an answer says between which issues its call stands; a job goes one way
+through its phases, so no job leaves a phase while a call is left that saw it so; and a call that changes nothing that another one can tell
+stands as soon as it fits. What is left to choose is when jobs are sent, entered, claimed, finished and killed while they wait, for kills
+tell how many wait or run. Two orders of the same calls that leave the table the same are one state. Clients may ask only for numbers that an
+answer told them, or that nobody is given. A solve that was answered without its document, as one whose job was given up meanwhile, gets the
+least number that nobody else was given: one more choice, which isn't tried otherwise.
 """
 
+import atexit
 import bisect
-import heapq
+import functools
+import os
+import shutil
+import subprocess
+import tempfile
 
 ABSENT, ISSUED, WAITING, RUNNING, FINISHED, KILLED, GONE = "unknown", "issued", "waiting", "running", "finished", "killed", "gone"
 PHASES = (ABSENT, ISSUED, WAITING, RUNNING, FINISHED, KILLED, GONE)
-WIDTHS = (4, 16, 64, 256, 1024)  # how many states are kept at once: the first, and from where the search was stuck the next
-TRIES = 100  # how many changes are tried for each of them, before a call is given up
-STEPS_KEPT = 200  # how many sends and answers are between the moments to which the search can go back
-NONE, NOTHING = frozenset(), {}
+MOST_CLIENTS = 64  # of which each has one call at a time that isn't answered
+LIMITS = ((200, 3_000), (2_000, 30_000))  # how many states are kept at once, and looked at on the way to a call: at first, and where no order was found so
 
 
 class Call:
@@ -358,334 +361,71 @@ class Chains:
         return str(self.history.calls[node])
 
 
-class State:
-    """A table as one order of calls leaves it, and which of the calls that aren't answered yet stand in that order."""
+# ---- all orders that are left, by a program of its own
 
-    __slots__ = ("total", "held", "waiting", "running", "placed", "order", "key", "moves")
-
-    def __init__(self):
-        self.total, self.held, self.waiting, self.running, self.placed, self.order, self.key, self.moves = 0, {}, (), (), set(), None, 0, 0
-
-    def copy(self):
-        it = State.__new__(State)
-        it.total, it.held, it.waiting, it.running = self.total, self.held.copy(), self.waiting, self.running
-        it.placed, it.order, it.key, it.moves = self.placed.copy(), self.order, self.key, self.moves
-        return it
-
-    def phase(self, number):
-        return self.held.get(number) or (ABSENT if number > self.total else GONE)
-
-    def current(self):
-        return len(self.waiting) + len(self.running)
-
-    def counts_fit(self, call):
-        busy, current, total, _ = call.answer
-        return total == self.total and current == len(self.waiting) + len(self.running) and busy == bool(self.running)
-
-    def set_phase(self, number, phase):
-        before = self.held.get(number)
-        if before == WAITING:
-            self.waiting = tuple(n for n in self.waiting if n != number)
-        elif before == RUNNING:
-            self.running = tuple(n for n in self.running if n != number)
-        if phase == WAITING:
-            self.waiting = tuple(sorted((*self.waiting, number)))
-        elif phase == RUNNING:
-            self.running = tuple(sorted((*self.running, number)))
-        if phase == GONE:
-            del self.held[number]
-        else:
-            self.held[number] = phase
-        self.key ^= hash((number, before)) ^ hash((number, phase))
-
-    def step(self, what, it):
-        self.order = (self.order, what, it)
-
-    def place(self, call, what):
-        """The call stands here in the order."""
-        self.step(what, call)
-        self.placed.add(call.place)
-        self.key ^= hash((call.place, "placed"))
-
-    def steps(self):
-        found, link = [], self.order
-        while link:
-            link, what, it = link
-            found.append((what, it))
-        return found[::-1]
+LETTERS = {"getJobID": "i", "send": "s", "retrieve": "r", "kill": "k", "knock": "n", "solve": "v"}
 
 
-class Search:
-    """Goes along the clock with some states at once, each of another order of the calls. At the moment at which a call was answered,
-    each state has to have it in its order."""
+def line_of(call, history):
+    """A call as `order.cpp` reads it."""
+    job, phase, counts, seen = call.job, 0, (False, 0, 0), []
+    if call.name == "getJobID":
+        job = call.answer
+    elif call.name == "send":
+        phase = int(call.answer)
+    elif call.name == "knock":
+        seen = [(number, PHASES.index(state)) for number, state in call.answer[3].items()]
+    else:
+        phase = PHASES.index(told_of(call))
+        seen = [(job, phase)] if job in history.jobs and told_of(call) not in ((GONE,) if call.name != "kill" else (GONE, KILLED)) else []
+    if call.name in ("kill", "knock"):
+        counts = call.answer[:3]
+    numbers = [call.sent, call.received, call.client, LETTERS[call.name], job if job in history.jobs else 0, phase, int(counts[0]), *counts[1:], len(seen)]
+    return " ".join(map(str, [*numbers, *(it for pair in seen for it in pair)]))
 
-    def __init__(self, history):
-        self.history, self.pending, self.about, self.counting = history, {}, {}, {}
-        self.left = {(n, phase): {c.place for c in calls} for n, job in history.jobs.items() for phase, calls in job.seen.items() if calls}
-        self.untold = {total: {c.place for c in calls} for total, calls in history.totals.items()}
-        self.deadlines = {n: self.deadline(job) for n, job in history.jobs.items()}
-        self.claimed = {n: [other for other in job.claimed if not history.jobs[other].is_entered()] for n, job in history.jobs.items()}
-        self.sends = {}
-        self.states, self.width, self.times_back = [State()], WIDTHS[0], 0
 
-    @staticmethod
-    def deadline(job):
-        """When the job was seen to have ended."""
-        return min((c.received for c in job.seen[FINISHED] + job.seen[GONE] + job.gone), default=float("inf"))
+def text_of(history):
+    last = max(history.jobs, default=0)
+    lines = [f"{len(history.calls)} {last} {max([last, *history.totals])}"] + [line_of(call, history) for call in history.calls]
+    for number in range(1, last + 1):
+        job = history.jobs[number]
+        entered = job.issue.place if job.is_entered() else -1
+        others = [other for other in job.claimed if not history.jobs[other].is_entered()]
+        places = [it.place if it else -1 for it in (job.send, job.kill)]
+        lines.append(" ".join(map(str, [entered, *places, len(others), *others])))
+    return "\n".join(lines)
 
-    # ---- the calls that were sent and aren't answered yet
 
-    def shelves(self, call):
-        """Where the call is found while it isn't answered: by its job, and by the total that it tells."""
-        if call.name in ("kill", "knock"):
-            yield self.counting, call.answer[2]
-        if call.name == "getJobID":
-            yield self.counting, call.answer - 1
-        elif call.name == "send" and call.answer:
-            yield self.sends, call.job
-        elif call.name != "knock":
-            yield self.about, call.job
+@functools.cache
+def built():
+    """The program that looks for an order."""
+    folder = tempfile.mkdtemp(prefix="order-")
+    atexit.register(shutil.rmtree, folder)
+    source = os.path.join(os.path.dirname(os.path.abspath(__file__)), "order.cpp")
+    subprocess.run(["g++", "-O2", "-std=c++17", "-o", f"{folder}/order", source], check=True)
+    return f"{folder}/order"
 
-    def seen_in(self, call):
-        """The sets of calls left that the call is in."""
-        if call.name in ("kill", "knock"):
-            yield self.untold[call.answer[2]]
-        if call.name == "knock":
-            for number, state in call.answer[3].items():
-                yield self.left[number, state]
-        elif call.name in ("retrieve", "solve") or (call.name == "kill" and told_of(call) == RUNNING):
-            if (call.job, told_of(call)) in self.left:
-                yield self.left[call.job, told_of(call)]
 
-    def open(self, call):
-        self.pending[call.place] = call
-        for shelf, key in self.shelves(call):
-            shelf.setdefault(key, {})[call.place] = call
-
-    def close(self, call):
-        del self.pending[call.place]
-        for shelf, key in self.shelves(call):
-            del shelf[key][call.place]
-            if not shelf[key]:
-                del shelf[key]
-
-    def is_left(self, state, number, phase):
-        """No call is left that saw the job in this phase."""
-        return self.left.get((number, phase), NONE) <= state.placed
-
-    def is_told(self, state):
-        """No call is left that tells the state's total."""
-        return self.untold.get(state.total, NONE) <= state.placed
-
-    # ---- calls that fit
-
-    def fits(self, state, call):
-        """Whether a call that changes nothing, or nothing that others can tell, may stand here."""
-        if call.name == "knock":
-            return state.counts_fit(call) and call.answer[3] == state.held
-        if call.name == "getJobID":
-            return call.answer == state.total + 1 and self.is_told(state)
-        if call.job not in self.history.jobs:
-            return call.name != "kill" and not call.answer or told_of(call) == GONE and (call.name != "kill" or state.counts_fit(call))
-        phase = state.phase(call.job)
-        if call.name == "send":
-            return not call.answer and phase not in (ABSENT, ISSUED)
-        if call.name != "kill":
-            return told_of(call) == phase
-        return state.counts_fit(call) and self.kill_fits(state, call, phase)
-
-    def kill_fits(self, state, call, phase):
-        told = told_of(call)
-        if told == GONE:
-            return phase == GONE or (phase in (FINISHED, KILLED) and self.is_left(state, call.job, phase))
-        if told == KILLED:
-            return phase == ISSUED and not self.history.jobs[call.job].send and self.is_left(state, call.job, ISSUED)
-        return told == phase
-
-    def stand(self, state, call):
-        """Places a call that fits; the job whose phase it changed, if any."""
-        state.place(call, call.name)
-        if call.name == "getJobID":
-            state.total += 1
-            state.set_phase(call.answer, ISSUED)
-        elif call.name == "kill" and told_of(call) in (KILLED, GONE) and state.held.get(call.job):
-            state.set_phase(call.job, told_of(call))
-
-    def settle(self, state, number):
-        """Places what fits as long as something does, where the job's phase or the counts have changed."""
-        numbers = {number}
-        while numbers:
-            number = numbers.pop()
-            for call in [*self.about.get(number, NOTHING).values(), *self.counting.get(state.total, NOTHING).values()]:
-                if call.place not in state.placed and self.fits(state, call):
-                    self.stand(state, call)
-                    numbers.update(call.answer[3] if call.name == "knock" else (call.job or call.answer,))
-                    numbers.add(0)
-
-    # ---- changes that others can tell
-
-    def moves(self, state, aim):
-        """The changes that may come next: what, and of which job."""
-        jobs, found = self.history.jobs, []
-        first = state.waiting[0] if state.waiting else None
-        ends = sorted((n for n in state.running if self.is_left(state, n, RUNNING)), key=self.deadlines.get)
-        found += [("finish", n) for place, n in enumerate(ends) if place < 2 or n == aim.job]
-        if first and not jobs[first].kill and self.is_left(state, first, WAITING):
-            found.append(("claim", first))
-        found += [("kill", n) for n in state.waiting if jobs[n].kill and self.may_be_killed(state, jobs[n].kill)]
-        found += [("send", n) for n in self.sends if state.held.get(n) == ISSUED and self.may_be_sent(state, n)]
-        job = jobs.get(state.total + 1)
-        if job and job.is_entered() and job.issue.place in self.pending and self.is_told(state):
-            found.append(("enter", state.total + 1))
-        return found
-
-    def may_be_killed(self, state, call):
-        """Whether a kill of a job that waits may stand here."""
-        busy, current, total, _ = call.answer
-        fits = total == state.total and current == state.current() - 1 and busy == bool(state.running)
-        return fits and call.place in self.pending and self.is_left(state, call.job, WAITING)
-
-    def may_be_sent(self, state, number):
-        """Jobs with greater numbers that were claimed before can't be claimed behind."""
-        return self.is_left(state, number, ISSUED) and not any(state.phase(n) in (ABSENT, ISSUED, WAITING) for n in self.claimed[number])
-
-    def moved(self, state, what, number):
-        it, job = state.copy(), self.history.jobs[number]
-        it.moves += 1
-        if what == "enter":
-            it.total += 1
-            it.step("enter", job.issue)
-        elif what in ("kill", "send"):
-            it.place(getattr(job, what), what)
-        else:
-            it.step(what, number)
-        it.set_phase(number, {"finish": FINISHED, "claim": RUNNING, "kill": KILLED, "send": WAITING, "enter": RUNNING}[what])
-        self.settle(it, number)
-        return it
-
-    # ---- the way to a state with a call in its order
-
-    def distance(self, state, call, depth=3):
-        """About how many changes the call needs before it."""
-        if call.place in state.placed:
-            return 0
-        steps = 1
-        if call.name in ("kill", "knock", "getJobID"):
-            steps += self.distance_of_counts(state, call, depth)
-        if call.name == "knock":
-            steps += len(call.answer[3].items() ^ state.held.items()) // 2
-        elif call.job in self.history.jobs and call.name != "getJobID":
-            steps += self.distance_of_job(state, call, depth)
-        return steps
-
-    def distance_of_counts(self, state, call, depth):
-        total = call.answer - 1 if call.name == "getJobID" else call.answer[2]
-        if total > state.total or call.name == "getJobID":
-            return 2 * (total - state.total) + self.distance_of(self.untold.get(state.total, NONE), state, depth)
-        return abs(call.answer[1] - state.current()) + (call.answer[0] != bool(state.running))
-
-    def distance_of_job(self, state, call, depth):
-        phase, wanted = state.phase(call.job), WAITING if call.name == "send" else told_of(call)
-        if phase == wanted:
-            return 0
-        if phase == ABSENT:
-            return 2 * (call.job - state.total) + self.distance_of(self.untold.get(state.total, NONE), state, depth)
-        steps = max(PHASES.index(wanted) - PHASES.index(phase), 1)
-        if phase == WAITING:
-            steps += state.waiting.index(call.job)
-        return steps + self.distance_of(self.left.get((call.job, phase), NONE), state, depth)
-
-    def distance_of(self, places, state, depth):
-        if not depth:
-            return 0
-        return sum(self.distance(state, self.history.calls[place], depth - 1) for place in places if place not in state.placed)
-
-    def reached(self, states, call):
-        """States with the call in their order, from those that don't have it."""
-        heap, met, found, tries = [], set(), [], 0
-        for state in states:
-            heapq.heappush(heap, (self.distance(state, call), len(met), state, 0))
-            met.add(state.key)
-        while heap and len(found) < self.width and tries < self.width * TRIES:
-            _, _, state, steps = heapq.heappop(heap)
-            tries += 1
-            for what, number in self.moves(state, call):
-                it = self.moved(state, what, number)
-                if it.key in met:
-                    continue
-                met.add(it.key)
-                if call.place in it.placed:
-                    found.append(it)
-                else:
-                    heapq.heappush(heap, (steps + 1 + self.distance(it, call), len(met), it, steps + 1))
-        return found
-
-    # ---- the walk along the clock
-
-    def send(self, call):
-        self.open(call)
-        for state in self.states:
-            if self.fits(state, call):
-                self.stand(state, call)
-                self.settle(state, call.job or 0)
-
-    def receive(self, call):
-        """Whether states are left, each with the call in its order."""
-        ready = [state for state in self.states if call.place in state.placed]
-        if len(ready) < len(self.states):
-            ready += self.reached([state for state in self.states if call.place not in state.placed], call)
-        if not ready:
-            return False
-        best = {state.key: state for state in sorted(ready, key=lambda state: len(state.placed) - state.moves)}
-        self.states = list(best.values())[-self.width :]
-        for state in self.states:
-            state.placed.discard(call.place)
-        for calls in self.seen_in(call):
-            calls.discard(call.place)
-        self.close(call)
-        return True
-
-    def back(self, steps, begin, end):
-        """Takes these steps of the clock back."""
-        for _, ends, place in reversed(steps[begin:end]):
-            call = self.history.calls[place]
-            if ends:
-                self.open(call)
-                for calls in self.seen_in(call):
-                    calls.add(place)
-            else:
-                self.close(call)
-
-    def run(self):
-        """The order, or the reason for which none was found."""
-        calls = self.history.calls
-        steps = sorted([(c.sent, 0, c.place) for c in calls] + [(c.received, 1, c.place) for c in calls])
-        step, kept, narrow = 0, [], 0
-        while step < len(steps):
-            if step % STEPS_KEPT == 0:
-                kept[step // STEPS_KEPT :] = [[state.copy() for state in self.states]]
-                if step > narrow:
-                    self.width = WIDTHS[0]
-            _, ends, place = steps[step]
-            if not ends:
-                self.send(calls[place])
-            elif not self.receive(calls[place]):
-                narrow = max(narrow, step + 2 * STEPS_KEPT)
-                begin = self.wider(calls[place], step)
-                self.back(steps, begin, step)
-                self.states, step = [state.copy() for state in kept[begin // STEPS_KEPT]], begin
-                continue
-            step += 1
-        return max(self.states, key=lambda state: -state.moves).steps()
-
-    def wider(self, call, step):
-        """From which step on to search again, with more states at once."""
-        if self.width == WIDTHS[-1]:
-            raise Contradiction(f"no order was found: {call}")
-        self.times_back += 1
-        level = WIDTHS.index(self.width) + 1
-        self.width = WIDTHS[level]
-        return max(step // STEPS_KEPT - level, 0) * STEPS_KEPT
+def found_order(history):
+    """An order of all calls, with the steps that nobody saw, and how many states there were at once at most."""
+    if any(call.client >= MOST_CLIENTS for call in history.calls):
+        raise ValueError(f"more than {MOST_CLIENTS} clients")
+    text = text_of(history)
+    for limits in LIMITS:
+        words = [built(), *map(str, limits)]
+        answer, *lines = subprocess.run(words, input=text, stdout=subprocess.PIPE, text=True, check=True).stdout.splitlines()
+        word, number = answer.split()
+        if word != "lost":
+            break
+    if word != "order":
+        why = "there is no order with" if word == "none" else "no order was found with"
+        raise Contradiction(f"{why} {history.calls[int(number)]}")
+    order = []
+    for line in lines:
+        what, which = line.split()
+        call = history.calls[int(which)] if what in "ce" else int(which)
+        order.append({"c": lambda c=call: (c.name, c), "e": lambda c=call: ("enter", c), "l": lambda c=call: ("claim", c), "f": lambda c=call: ("finish", c)}[what]())
+    return order, int(number)
 
 
 def replayed(order, documents):
@@ -721,16 +461,15 @@ def replayed(order, documents):
 
 
 def check(calls):
-    """How many calls stand in one order, how many claims, finishes and beginnings of solves among them, and how often the search went back.
+    """How many calls stand in one order, how many claims, finishes and beginnings of solves among them, and how many orders were open at once.
 
     Raises Contradiction where there is none.
     """
     history = History(calls)
     Chains(history).look()
-    search = Search(history)
-    order = search.run()
+    order, most = found_order(history)
     wrong = replayed(order, {number: job.document for number, job in history.jobs.items()})
     placed = sum(1 for what, _ in order if what not in ("claim", "finish", "enter"))
     if wrong or placed != len(calls):
         raise Contradiction(wrong or f"{len(calls) - placed} calls have no place")
-    return placed, len(order) - placed, search.times_back
+    return placed, len(order) - placed, most

@@ -277,9 +277,9 @@ def history_is_legal(calls, folder):
     numbers = sum(c.name in ("getJobID", "solve") for c in history)
     if server.jobs != numbers:
         raise SystemExit(f"serve tells {server.jobs} jobs, and clients were given {numbers}")
-    placed, hidden, back = histories.check(history)
+    placed, hidden, most = histories.check(history)
     kinds = ", ".join(f"{sum(c.name == name for c in history)} {name}" for name in ("getJobID", "send", "retrieve", "kill", "knock", "solve"))
-    print(f"{placed} calls of {CLIENTS} clients in {spent:.0f} s stand in one order ({kinds}), with {hidden} steps of jobs nobody saw; {back} steps back")
+    print(f"{placed} calls of {CLIENTS} clients in {spent:.0f} s stand in one order ({kinds}), with {hidden} steps of jobs nobody saw; {most} states were open at once at most")
     return history
 
 
