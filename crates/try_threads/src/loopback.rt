@@ -1,6 +1,7 @@
 //! A server over TCP on this machine, and two clients, of whom one reads its answer and the end while the other's link is open.
 
 use crate::clients::{job_of, last_request};
+use crate::names::end_name;
 use crate::served::setup_of;
 use crate::waiting::wait_for;
 use os_io::{Failed, Listener, MemSink, Memory};
@@ -139,6 +140,6 @@ pub(crate) fn serve_over_loopback<
         || serve_two(rt, alloc, &mut net, &mut output),
         || ask_in_turn(rt, alloc, &notice),
     );
-    let told = told?;
-    format!(in alloc; "over TCP: {ending:?}, {told}\n")
+    let (ending, told) = (end_name(ending), told?);
+    format!(in alloc; "over TCP: {ending}, {told}\n")
 }

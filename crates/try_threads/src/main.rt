@@ -9,6 +9,7 @@
 mod clients;
 mod links;
 mod loopback;
+mod names;
 mod served;
 mod waiting;
 mod working;

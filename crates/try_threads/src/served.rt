@@ -4,6 +4,7 @@ ghost use Rattle.std.specs.Prelude.{◌≡◌};
 
 use crate::clients::{Asker, Knocker, Patient, Signals, Turn, Turner, job_of, state_of};
 use crate::links::Clients;
+use crate::names::end_name;
 use os_io::{MemSink, Memory};
 use serving::{Limits, Setup, serve};
 use std::alloc::Global;
@@ -43,8 +44,8 @@ pub(crate) fn serve_two_links<R: Threads + Wait + Clock + Sync>(
     clients.add(Asker::new(rt, false, &one_is_answered))?;
     let mut output = MemSink::new(alloc, ROOM, &[])?;
     let setup = setup_of(2, 2, 0);
-    let ending = serve(rt, alloc, &mut clients, &mut output, "a", 80, setup);
-    let mut told = format!(in alloc; "two links at once: {ending:?}, the first got ")?;
+    let ending = end_name(serve(rt, alloc, &mut clients, &mut output, "a", 80, setup));
+    let mut told = format!(in alloc; "two links at once: {ending}, the first got ")?;
     told.push_str(job_of(clients.last_answer(0)))?;
     told.push_str(", the second ")?;
     told.push_str(job_of(clients.last_answer(1)))?;
@@ -62,9 +63,9 @@ pub(crate) fn knock_beside_a_worker<R: Threads + Wait + Sync>(
     clients.add(Knocker::new())?;
     let mut output = MemSink::new(alloc, ROOM, &[])?;
     let setup = setup_of(1, 1, 1);
-    let ending = serve(rt, alloc, &mut clients, &mut output, "a", 80, setup);
+    let ending = end_name(serve(rt, alloc, &mut clients, &mut output, "a", 80, setup));
     let state = state_of(clients.last_answer(0));
-    format!(in alloc; "a link beside a worker: {ending:?}, a knock says {state}\n")
+    format!(in alloc; "a link beside a worker: {ending}, a knock says {state}\n")
 }
 
 /// Serves a link whose second request comes only behind the answer to the first.
@@ -76,9 +77,9 @@ pub(crate) fn answer_before_reading_on<R: Threads + Wait + Sync>(
     clients.add(Patient::new())?;
     let mut output = MemSink::new(alloc, ROOM, &[])?;
     let setup = setup_of(1, 1, 0);
-    let ending = serve(rt, alloc, &mut clients, &mut output, "a", 80, setup);
+    let ending = end_name(serve(rt, alloc, &mut clients, &mut output, "a", 80, setup));
     let job = job_of(clients.last_answer(0));
-    format!(in alloc; "two requests in turn: {ending:?}, the last got {job}\n")
+    format!(in alloc; "two requests in turn: {ending}, the last got {job}\n")
 }
 
 /// Serves three links, two at once, of which the first to come asks only once the second was given back, and the third only once the
@@ -94,8 +95,8 @@ pub(crate) fn make_room_by_ending<R: Threads + Wait + Clock + Sync>(
     clients.add(Turner::new(rt, Turn::Third, &signals))?;
     let mut output = MemSink::new(alloc, ROOM, &[])?;
     let setup = setup_of(3, 2, 0);
-    let ending = serve(rt, alloc, &mut clients, &mut output, "a", 80, setup);
-    let mut told = format!(in alloc; "a link that ended makes room: {ending:?}, the first got ")?;
+    let ending = end_name(serve(rt, alloc, &mut clients, &mut output, "a", 80, setup));
+    let mut told = format!(in alloc; "a link that ended makes room: {ending}, the first got ")?;
     told.push_str(job_of(clients.last_answer(0)))?;
     told.push_str(", the second ")?;
     told.push_str(job_of(clients.last_answer(1)))?;

@@ -2,6 +2,7 @@
 
 ghost use Rattle.desk.specs.SeatMoves.{desk_id, IsSeatOf};
 
+use crate::names::state_name;
 use crate::waiting::wait_for;
 use desk::{Desk, Seat};
 use job_solver::{SolvedJobs, Solver};
@@ -50,8 +51,13 @@ impl<'a, R: Clock> Gate for HeldGate<'a, R> {
 fn line_of_all(alloc: Global, told: &Statistics) -> Result<String, Memory> {
     let state = if told.busy { "busy" } else { "idle" };
     let current = told.current;
-    let jobs = told.jobs.as_slice();
-    format!(in alloc; "knock: {state}, {current} current, {jobs:?}\n")
+    let mut line = format!(in alloc; "knock: {state}, {current} current")?;
+    for job in told.jobs.as_slice() {
+        let (number, state) = (job.0, state_name(job.1));
+        line.push_str(format!(in alloc; ", {number} {state}")?.as_str())?;
+    }
+    line.push_str("\n")?;
+    Ok(line)
 }
 
 /// What a job is shown as, in a line.
@@ -109,8 +115,11 @@ fn knock_and_kill<R: Wait>(
     ensures { IsSeatOf (desk_id desk.now) seat.new }
 {
     let mut lines = line_of_all(alloc, &desk.ask(rt, seat, Knock)?)?;
-    let state = desk.ask(rt, seat, Kill { number: 1 }).state;
-    lines.push_str(format!(in alloc; "kill: {state:?}\n")?.as_str())?;
+    let state = desk
+        .ask(rt, seat, Kill { number: 1 })
+        .state
+        .map_or("none", state_name);
+    lines.push_str(format!(in alloc; "kill: {state}\n")?.as_str())?;
     Ok(lines)
 }
 
