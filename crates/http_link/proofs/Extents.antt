@@ -1,5 +1,5 @@
 -- The bytes that a head takes of those that come: a whole head, or as many as a head may have. Bytes begin with one at most.
-use Rattle.std.proofs.Common.{◌≡◌, ℕ, ◌<◌, ◌≤◌, ◌⊎◌, inl, inr, List, [], ◌∷◌, ◌++◌, length, refl, sym, ap, ◌∙◌, arith, append_assoc, append-nil, length-append}
+use Rattle.std.proofs.Common.{◌≡◌, ℕ, ◌≤◌, ◌⊎◌, inl, inr, List, [], ◌∷◌, ◌++◌, length, refl, sym, ap, ◌∙◌, arith, append_assoc, append-nil, length-append}
 use Rattle.std.proofs.lemmas.List.Elements.{All-nil, All-cons, All-head}
 use Rattle.std.proofs.lemmas.Bool.{cases_lt}
 use Rattle.http_link.specs.Lines.{IsLine, IsEmptyLine, IsFullLine, HeadLines, AreHeadLines, HasNoHead, IsOpenHead, print_lines, print_head}

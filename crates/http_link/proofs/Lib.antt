@@ -9,6 +9,7 @@ pub mod OneReply
 pub mod ReadBacks
 pub mod OutgoingBytes
 pub mod LinkReads
+pub mod Pieces
 pub mod RequestSteps
 pub mod Bodies
 pub mod CarriedBytes

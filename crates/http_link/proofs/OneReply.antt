@@ -1,11 +1,11 @@
 -- The bytes that come decide which of them a client reads, and which reply they are.
-use Rattle.std.proofs.Common.{◌≡◌, ℕ, ◌<◌, ◌≤◌, ◌⊎◌, inl, inr, true, false, List, [], ◌++◌, length, Option, Some, None, refl, sym, ap, ◌∙◌, subst, arith, append_assoc, append-nil, length-append}
+use Rattle.std.proofs.Common.{◌≡◌, ℕ, ◌≤◌, inl, inr, true, false, List, [], ◌++◌, length, Option, Some, None, sym, ap, ◌∙◌, subst, arith, append_assoc, append-nil, length-append}
 use Rattle.std.proofs.lemmas.Bool.{cases_lt}
 use Rattle.httparse.proofs.GrammarLemmas.{response_unique}
 use Rattle.http_link.specs.declared.replies.ReplyHead.{ReplyHead}
 use Rattle.http_link.specs.Lines.{print_head}
 use Rattle.http_link.specs.Requests.{IsHeadBegun, IsHeadPart}
-use Rattle.http_link.specs.Replies.{says_of, ReadsReply, HeadSays, most_of, is_whole, HeadAndMore, IsReply, IsReadWhole, IsReplyBegun, IsReplyPart, EndsReading}
+use Rattle.http_link.specs.Replies.{says_of, ReadsReply, HeadSays, most_of, is_whole, IsReply, IsReadWhole, IsReplyBegun, IsReplyPart, EndsReading}
 use Rattle.http_link.proofs.Extents.{IsHeadExtent, extents_same, begun_extent, whole_once, longer, front_same, regroup, append_cancel}
 
 -- ---- one head

@@ -1,15 +1,15 @@
 -- The bytes that come begin with one head, and so with one request, or with none.
 use Rattle.std.proofs.Common.{◌≡◌, ◌≢◌, ℕ, Bool, ◌<◌, ◌≤◌, ◌⊎◌, inl, inr, List, [], ◌∷◌, ◌++◌, length, Ok, Err, refl, sym, ap, ◌∙◌, subst, arith, append_assoc, append-nil, length-append}
 use Rattle.std.specs.Prelude.{All, Result}
-use Rattle.std.proofs.lemmas.List.Elements.{All-nil, All-cons, All-head}
+use Rattle.std.proofs.lemmas.List.Elements.{All-nil}
 use Rattle.std.proofs.lemmas.Bool.{cases_lt}
 use Rattle.httparse.proofs.GrammarLemmas.{request_unique}
 use Rattle.http_link.specs.declared.refusal.Refusal.{Refusal}
-use Rattle.http_link.specs.Lines.{IsLine, IsEmptyLine, IsFullLine, HeadLines, AreHeadLines, IsOpenHead, print_lines, print_head}
+use Rattle.http_link.specs.Lines.{IsEmptyLine, IsFullLine, HeadLines, AreHeadLines, IsOpenHead, print_lines, print_head}
 use Rattle.http_link.specs.declared.checks.Accepted.{Accepted}
 use Rattle.http_link.specs.Checks.{most_head, accepted, outcome_of, ReadsHead, ReadsLines, Head}
-use Rattle.http_link.specs.Requests.{IsRequest, IsHeadBegun, IsBegun, IsHeadPart, IsRequestPart, EndedBetween}
-use Rattle.http_link.proofs.Lines.{cons_same, nothing, first_lines, empty_are_lines, head_lines_all, open_has_no_head, print_push, no_more}
+use Rattle.http_link.specs.Requests.{IsRequest, IsHeadBegun, IsBegun, IsBegunInto, IsHeadPart, EndedBetween}
+use Rattle.http_link.proofs.Lines.{first_lines, head_lines_all, open_has_no_head, no_more}
 use Rattle.http_link.proofs.Extents.{IsHeadExtent, extents_same, begun_extent, last_of, push_same, longer, front_same, regroup, append_cancel}
 use Rattle.http_link.proofs.Fields.{after_full}
 
@@ -102,7 +102,7 @@ begun_head whole a x o begun q e = begun_extent whole a x begun (head_extent a o
 pub begun_no_request : (whole a x body : List ℕ) (c : Bool) → IsBegun whole → IsRequest a c body → whole ≡ a ++ x → ⊥
 begun_no_request whole a x body c (inl begun) (head, taken, is) e =
     begun_head whole head (body ++ x) (Ok (accepted (length body) c)) begun taken (e ∙ regroup a head body x is)
-begun_no_request whole a x body c (inr (head', part, most, d, taken', is', less)) (head, taken, is) e =
+begun_no_request whole a x body c (inr (part, (head', most, d, taken', is', less))) (head, taken, is) e =
     let split : head' ++ part ≡ head ++ (body ++ x) = sym is' ∙ e ∙ regroup a head body x is in
     let once = head_once head' head part (body ++ x) (Ok (accepted most d)) (Ok (accepted (length body) c)) taken' taken split in
     let rest = append_cancel head' part (body ++ x) (split ∙ ap (λ h. h ++ (body ++ x)) (sym once.0)) in
@@ -110,7 +110,7 @@ begun_no_request whole a x body c (inr (head', part, most, d, taken', is', less)
 
 pub begun_not_refused : (whole a x : List ℕ) (refusal : Refusal) → IsBegun whole → Head a (Err refusal) → whole ≡ a ++ x → ⊥
 begun_not_refused whole a x refusal (inl begun) refused e = begun_head whole a x (Err refusal) begun refused e
-begun_not_refused whole a x refusal (inr (head, part, most, c, taken, is, less)) refused e =
+begun_not_refused whole a x refusal (inr (part, (head, most, c, taken, is, less))) refused e =
     never_both (accepted most c) refusal
     (head_once head a part x (Ok (accepted most c)) (Err refusal) taken refused (sym is ∙ e)).1
 
@@ -149,17 +149,17 @@ open_part text b start lines o less = record {
       ];
 }
 
--- what has begun is a first part
-pub begun_part : (bytes : List ℕ) → IsBegun bytes → IsRequestPart bytes
-begun_part bytes (inl begun) = inl (record {
+-- a head that has begun is a first part of one
+begun_part : (bytes : List ℕ) → IsHeadBegun bytes → IsHeadPart bytes
+begun_part bytes begun = record {
   fits = omega (arith, begun.fits);
   nothing_past = λ h rest are e. absurd (begun.no_head h rest are e);
-})
-begun_part bytes (inr (head, body, most, c, taken, is, less)) = inr (head, body, most, c, taken, is, omega (arith, less))
+}
 
--- and so is all of a request
-pub request_part : (bytes body : List ℕ) (c : Bool) → IsRequest bytes c body → IsRequestPart bytes
-request_part bytes body c (head, taken, is) = inr (head, body, length body, c, taken, is, omega arith)
+-- what has begun, and whose body went somewhere, has begun
+pub begun_alone : (Took : List ℕ → Type 0) (bytes : List ℕ) → IsBegunInto Took bytes → IsBegun bytes
+begun_alone Took bytes (inl head) = inl head.0
+begun_alone Took bytes (inr body) = inr (body.0, body.1)
 
 part_of_head : (part a z : List ℕ) (o : Result Accepted Refusal) → IsHeadPart part → Head a o → part ≡ a ++ z → length part ≤ length a
 part_of_head part a z o p (inl (full, none, is)) e = omega (arith, p.fits, full)
@@ -176,13 +176,16 @@ head_within part a x y o p q e =
       | inr less ↦ less
     ]
 
--- a part of a request has no more bytes than the request at the front of the same bytes
-part_within : (part a x y body : List ℕ) (c : Bool) → IsRequestPart part → IsRequest a c body → part ++ x ≡ a ++ y
-    → length part ≤ length a
-part_within part a x y body c (inl p) (head, taken, is) e =
+-- a part of a head has no more bytes than the request at the front of the same bytes
+part_within : (part a x y body : List ℕ) (c : Bool) → IsHeadPart part → IsRequest a c body → part ++ x ≡ a ++ y → length part ≤ length a
+part_within part a x y body c p (head, taken, is) e =
     let within = head_within part head x (body ++ y) (Ok (accepted (length body) c)) p taken (e ∙ regroup a head body y is) in
     omega (arith, within, ap length is, length-append head body)
-part_within part a x y body c (inr (head', body', most, d, taken', is', less)) (head, taken, is) e =
+
+-- nor has what has begun
+begun_within : (part a x y body : List ℕ) (c : Bool) → IsBegun part → IsRequest a c body → part ++ x ≡ a ++ y → length part ≤ length a
+begun_within part a x y body c (inl begun) request e = part_within part a x y body c (begun_part part begun) request e
+begun_within part a x y body c (inr (body', (head', most, d, taken', is', less))) (head, taken, is) e =
     let split : head' ++ (body' ++ x) ≡ head ++ (body ++ y) = sym (regroup part head' body' x is') ∙ e ∙ regroup a head body y is in
     let once = head_once head' head (body' ++ x) (body ++ y) (Ok (accepted most d)) (Ok (accepted (length body) c)) taken' taken split in
     omega (
@@ -197,10 +200,9 @@ part_within part a x y body c (inr (head', body', most, d, taken', is', less)) (
     )
 
 -- nor than a refused head there
-part_within_head : (part a x y : List ℕ) (refusal : Refusal) → IsRequestPart part → Head a (Err refusal) → part ++ x ≡ a ++ y
-    → length part ≤ length a
-part_within_head part a x y refusal (inl p) refused e = head_within part a x y (Err refusal) p refused e
-part_within_head part a x y refusal (inr (head, body, most, c, taken, is, less)) refused e =
+begun_within_head : (part a x y : List ℕ) (refusal : Refusal) → IsBegun part → Head a (Err refusal) → part ++ x ≡ a ++ y → length part ≤ length a
+begun_within_head part a x y refusal (inl begun) refused e = head_within part a x y (Err refusal) (begun_part part begun) refused e
+begun_within_head part a x y refusal (inr (body, (head, most, c, taken, is, less))) refused e =
     absurd (never_both (accepted most c) refusal
     (head_once head a (body ++ x) y (Ok (accepted most c)) (Err refusal) taken refused (sym (regroup part head body x is) ∙ e)).1)
 
@@ -209,14 +211,16 @@ front_of part a x y e less =
     let more = longer part a x y e less in
     (more.0, more.1, append_cancel part x (more.0 ++ y) (e ∙ ap (λ t. t ++ y) more.1 ∙ append_assoc part more.0 y))
 
--- so it is a first part of that request
-pub part_of_request : (part a x y body : List ℕ) (c : Bool) → IsRequestPart part → IsRequest a c body → part ++ x ≡ a ++ y
+-- so both are first parts of that request, or of that head
+pub part_of_request : (part a x y body : List ℕ) (c : Bool) → IsHeadPart part ⊎ IsBegun part → IsRequest a c body → part ++ x ≡ a ++ y
     → (z : List ℕ) × (a ≡ part ++ z) × (x ≡ z ++ y)
-part_of_request part a x y body c p q e = front_of part a x y e (part_within part a x y body c p q e)
+part_of_request part a x y body c (inl p) q e = front_of part a x y e (part_within part a x y body c p q e)
+part_of_request part a x y body c (inr p) q e = front_of part a x y e (begun_within part a x y body c p q e)
 
-pub part_of_refused : (part a x y : List ℕ) (refusal : Refusal) → IsRequestPart part → Head a (Err refusal) → part ++ x ≡ a ++ y
+pub part_of_refused : (part a x y : List ℕ) (refusal : Refusal) → IsHeadPart part ⊎ IsBegun part → Head a (Err refusal) → part ++ x ≡ a ++ y
     → (z : List ℕ) × (a ≡ part ++ z) × (x ≡ z ++ y)
-part_of_refused part a x y refusal p q e = front_of part a x y e (part_within_head part a x y refusal p q e)
+part_of_refused part a x y refusal (inl p) q e = front_of part a x y e (head_within part a x y (Err refusal) p q e)
+part_of_refused part a x y refusal (inr p) q e = front_of part a x y e (begun_within_head part a x y refusal p q e)
 
 pub ended_head_begun : (whole : List ℕ) → EndedBetween whole → IsHeadBegun whole
 ended_head_begun whole ended =

@@ -1,11 +1,11 @@
 -- What a client writes is a request that a server accepts.
-use Rattle.std.proofs.Common.{◌≡◌, ℕ, ◌≤◌, inr, true, List, [], ◌∷◌, ◌++◌, length, Ok, refl, sym, ap, ◌∙◌, subst, arith, rules, append_assoc, append-nil, length-append}
+use Rattle.std.proofs.Common.{◌≡◌, ℕ, ◌≤◌, inr, true, List, [], ◌∷◌, ◌++◌, length, Ok, refl, sym, ap, ◌∙◌, arith, rules, append_assoc, append-nil, length-append}
 use Rattle.std.specs.Prelude.{All, codes, decimal}
 use Rattle.std.specs.List.{list_all}
 use Rattle.std.specs.Char.{is_ascii_digit}
 use Rattle.std.proofs.lemmas.List.Elements.{All-cons, All-append}
 use Rattle.std.proofs.lemmas.Str.{IsUtf8-from_ascii}
-use Rattle.httparse.specs.Grammar.{is_token_byte, is_uri_byte, is_value_byte, crlf, print_end, trim_ows, Field, IsField, RequestHead, IsRequestHead, print_request}
+use Rattle.httparse.specs.Grammar.{is_token_byte, is_uri_byte, crlf, print_end, trim_ows, Field, IsField, RequestHead, IsRequestHead, print_request}
 use Rattle.httparse.proofs.GrammarLemmas.{print_request-append}
 use Rattle.http_link.specs.Checks.{most_head, most_body, accepted, accepted_if, outcome_of}
 use Rattle.http_link.specs.Requests.{IsRequest}

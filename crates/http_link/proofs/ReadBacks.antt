@@ -1,22 +1,21 @@
 -- What a server writes is read by a client as it was written.
-use Rattle.std.proofs.Common.{◌≡◌, ◌≢◌, ℕ, ◌+◌, ◌<◌, ◌≤◌, ◌^◌, inl, inr, Bool, true, false, List, [], ◌∷◌, ◌++◌, length, map, reverse, Option, Some, None, Ok, Err, refl, sym, ap, ◌∙◌, subst, arith, append_assoc, append-nil, length-append}
-use Rattle.std.specs.Prelude.{All, IsTrue, Result, codes, decimal, nat_lt, if◌then◌else◌, ◌==◌, ◌&&◌, not}
+use Rattle.std.proofs.Common.{◌≡◌, ℕ, ◌<◌, ◌≤◌, ◌^◌, inr, Bool, true, false, List, [], ◌∷◌, ◌++◌, length, reverse, Option, Some, Ok, Err, refl, sym, ap, ◌∙◌, subst, arith, append_assoc, append-nil, length-append}
+use Rattle.std.specs.Prelude.{All, IsTrue, codes, decimal, nat_lt, if◌then◌else◌, ◌==◌, ◌&&◌, not}
 use Rattle.std.specs.List.{list_all}
 use Rattle.std.specs.Char.{is_ascii_digit, digit_value}
 use Rattle.std.specs.Str.Parse.{AllDigits, digits_value}
 use Rattle.std.proofs.lemmas.Fmt.{decimal_is_IsNumeral, length-decimal-le}
 use Rattle.std.proofs.lemmas.Bool.Decides.{nat_tests}
 use Rattle.std.proofs.lemmas.Str.Parse.{digit_from_value}
-use Rattle.std.proofs.lemmas.List.Elements.{All-nil, All-cons, All-head, All-tail, All-weaker}
-use Rattle.httparse.specs.Grammar.{is_token_byte, is_token, is_value_byte, is_ows, AllPass, crlf, print_end, skip_ows, trim_ows, Field, IsField, ResponseHead, IsResponseHead, print_response, ReadsResponse, status_code}
-use Rattle.httparse.specs.Spans.{name_and_value}
+use Rattle.std.proofs.lemmas.List.Elements.{All-nil, All-cons, All-head, All-weaker}
+use Rattle.httparse.specs.Grammar.{is_token_byte, is_token, is_value_byte, is_ows, AllPass, crlf, print_end, skip_ows, trim_ows, Field, IsField, ResponseHead, IsResponseHead, print_response}
 use Rattle.httparse.proofs.TrimLemmas.{AllPass-reverse, trim_ows_space}
 use Rattle.httparse.proofs.GrammarLemmas.{print_response-append}
 use Rattle.http_link.specs.declared.refusal.Refusal.{Refusal}
 use Rattle.http_link.specs.declared.refusal.Refusal.TheVariants.{BadRequest, MethodNotAllowed, LengthRequired, ContentTooLarge, HeadTooLarge, NotImplemented, ServiceUnavailable}
 use Rattle.http_link.specs.declared.replies.ReplyHead.{ReplyHead}
 use Rattle.http_link.specs.Checks.{most_head, most_fields, is_number, writes_number, length_by}
-use Rattle.http_link.specs.Responses.{behind, head_end, answer_text, fault_answer_text, refusal_bytes}
+use Rattle.http_link.specs.Responses.{behind, head_end, refusal_bytes}
 use Rattle.http_link.specs.Replies.{most_reply, says_by, says_of, HeadSays, has_body, most_of, is_whole, IsReply, IsReadWhole, code_of}
 use Rattle.http_link.proofs.Numbers.{both_parts}
 use Rattle.http_link.proofs.Fields.{response_is, status_line, status_full, head_lines, are_head_lines}

@@ -116,7 +116,7 @@ pub brings_body_fault : (To : List ℕ → Type 0) (head : List ℕ) (lines : �
     → HeadSays head (Some says) → AnswersBody To (most_of says) (Err failed) y z → Brings (Err ReadFault) x z
 brings_body_fault To head lines says failed x y z a heads b = (
   head ++ b.0,
-  inr (head, b.0, says, heads, refl, b.1),
+  inr (head, b.0, says, heads, refl, b.1.1),
   took_alone x z (head ++ b.0) (λ _. ⊤) (both_taken head lines b.0 b.0 (λ _. ⊤) x y z a refl b.2),
 )
 

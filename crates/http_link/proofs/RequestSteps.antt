@@ -12,6 +12,7 @@ use Rattle.http_link.specs.declared.requests.LinkFault.{LinkFault}
 use Rattle.http_link.specs.declared.requests.LinkFault.TheVariants.{ReadFault, Memory}
 use Rattle.http_link.specs.Lines.{AreEmptyLines, IsOpenHead, IsWholeHead}
 use Rattle.http_link.specs.Checks.{most_head, accepted, Head}
+use Rattle.http_link.specs.Pieces.{most_piece}
 use Rattle.http_link.specs.Requests.{AnswersTaken, AnswersHead, BodyEnds, AnswersBody, GivesPiece, TakesByte}
 use Rattle.http_link.proofs.Lines.{open_has_no_head, whole_not_blank}
 use Rattle.http_link.proofs.OneRequest.{open_part}
@@ -95,15 +96,15 @@ pub record Went (To : List ℕ → Type 0) (count : ℕ) (x y : Left) : Type 0 w
 pub none_went : (To : List ℕ → Type 0) (x : Left) → To [] → Went To 0 x x
 none_went To x stays = record { taken = []; to = stays; counted = refl; told = took_none x }
 
--- bytes that went to one after another
+-- a piece that went behind others
 abbrev Joins : (To More Both : List ℕ → Type 0) → Type 0
-Joins To More Both = (a b : List ℕ) → To a → More b → Both (a ++ b)
+Joins To More Both = (a b : List ℕ) → To a → length b ≤ most_piece → More b → Both (a ++ b)
 
 pub more_went : (To More Both : List ℕ → Type 0) (count more most : ℕ) (x y z : Left) → Joins To More Both → Went To count x y
     → GivesPiece More y z most more → Went Both (count + more) x z
-more_went To More Both count more most x y z joins w (piece, to, size, fits, told) = record {
+more_went To More Both count more most x y z joins w (piece, to, size, fits, few, told) = record {
   taken = w.taken ++ piece;
-  to = joins w.taken piece w.to to;
+  to = joins w.taken piece w.to (omega (arith, size, few)) to;
   counted = length-append w.taken piece ∙ (λ i. w.counted i + size i);
   told = took_alone x z (w.taken ++ piece) (λ rest. more ≡ 0 → rest ≡ [])
       (took_both x y z w.taken piece (λ _. ⊤) (λ rest. more ≡ 0 → rest ≡ []) (took_with x y w.taken w.told) told);
@@ -121,24 +122,24 @@ body_whole To count len x y w fits full = (
 -- the input ended before
 pub body_ended : (To More Both : List ℕ → Type 0) (count len more most : ℕ) (x y z : Left) → Joins To More Both → Went To count x y
     → GivesPiece More y z most more → more ≡ 0 → count ≤ len → AnswersBody Both len (Ok count) x z
-body_ended To More Both count len more most x y z joins w (piece, to, size, fits, told) none less = (
+body_ended To More Both count len more most x y z joins w (piece, to, size, fits, few, told) none less = (
   w.taken ++ piece,
-  (joins w.taken piece w.to to, omega (arith, length-append w.taken piece, w.counted, size, none), less),
+  (joins w.taken piece w.to (omega (arith, size, few)) to, omega (arith, length-append w.taken piece, w.counted, size, none), less),
   took_so x z (w.taken ++ piece) (λ rest. more ≡ 0 → rest ≡ []) (λ rest. count < len → rest ≡ []) (λ rest ends _. ends none)
       (took_both x y z w.taken piece (λ _. ⊤) (λ rest. more ≡ 0 → rest ≡ []) (took_with x y w.taken w.told) told),
 )
 
-pub body_fault : (To Both : List ℕ → Type 0) (count len : ℕ) (failed : Failed) (x y z : Left) → Went To count x y → count < len → z ≡ y
-    → AnswersBody Both len (Err failed) x z
-body_fault To Both count len failed x y z w less same =
-    (w.taken, omega (arith, w.counted, less), took_same x y z w.taken w.told same)
+pub body_fault : (To Both : List ℕ → Type 0) (count len : ℕ) (failed : Failed) (x y z : Left) → ((bytes : List ℕ) → To bytes → Both bytes)
+    → Went To count x y → count < len → z ≡ y → AnswersBody Both len (Err failed) x z
+body_fault To Both count len failed x y z stays w less same =
+    (w.taken, (stays w.taken w.to, omega (arith, w.counted, less)), took_same x y z w.taken w.told same)
 
 -- ---- a request
 
-pub answer_refused : (To : List ℕ → Type 0) (head : List ℕ) (lines : ℕ) (refusal : Refusal) (x y : Left) → AnswersHead (Ok (Whole head lines)) x y
+pub answer_refused : (To : List ℕ → Type 0) (head : List ℕ) (lines : ℕ) (refusal : Refusal) (x y : Left) → To [] → AnswersHead (Ok (Whole head lines)) x y
     → Head head (Err refusal) → AnswersTaken To (Ok (Refused refusal)) x y
-answer_refused To head lines refusal x y a refused =
-    (a.0, subst (λ (h : List ℕ). Head h (Err refusal)) a.1.0 refused, a.2)
+answer_refused To head lines refusal x y stays a refused =
+    (a.0, (subst (λ (h : List ℕ). Head h (Err refusal)) a.1.0 refused, stays), a.2)
 
 -- a head, and what came behind it
 head_and_body : (To : List ℕ → Type 0) (head : List ℕ) (lines len : ℕ) (r : Result ℕ Failed) (Q : List ℕ → Type 0) (x y z : Left)
@@ -168,7 +169,7 @@ answer_cut To head lines len count close x y z a taken b less = (
   a.0 ++ b.0,
   (
     whole_not_blank a.0 lines b.0 a.1.1,
-    inr (head, b.0, len, close, taken, (λ i. sym a.1.0 i ++ b.0), omega (arith, b.1.1, less)),
+    inr (b.0, (head, len, close, taken, (λ i. sym a.1.0 i ++ b.0), omega (arith, b.1.1, less)), b.1.0),
   ),
   head_and_body To head lines len (Ok count) (λ rest. rest ≡ []) x y z (λ rest ends. ends less) a b,
 )
@@ -177,19 +178,19 @@ pub answer_fault : (To : List ℕ → Type 0) (head : List ℕ) (lines len : ℕ
     → Head head (Ok (accepted len close)) → AnswersBody To len (Err failed) y z → AnswersTaken To (Err ReadFault) x z
 answer_fault To head lines len close failed x y z a taken b = (
   a.0 ++ b.0,
-  inr (head, b.0, len, close, taken, (λ i. sym a.1.0 i ++ b.0), b.1),
+  inr (b.0, (head, len, close, taken, (λ i. sym a.1.0 i ++ b.0), b.1.1), b.1.0),
   head_and_body To head lines len (Err failed) (λ _. ⊤) x y z (λ rest _. tt) a b,
 )
 
-pub answer_large : (To : List ℕ → Type 0) (text : List ℕ) (x y : Left) → AnswersHead (Ok (TooLarge text)) x y → AnswersTaken To (Ok (Refused HeadTooLarge)) x y
-answer_large To text x y a = (a.0, inl (a.1.1, a.1.2, refl), a.2)
+pub answer_large : (To : List ℕ → Type 0) (text : List ℕ) (x y : Left) → To [] → AnswersHead (Ok (TooLarge text)) x y → AnswersTaken To (Ok (Refused HeadTooLarge)) x y
+answer_large To text x y stays a = (a.0, (inl (a.1.1, a.1.2, refl), stays), a.2)
 
-pub answer_cut_head : (To : List ℕ → Type 0) (text : List ℕ) (x y : Left) → AnswersHead (Ok (CutHead text)) x y → AnswersTaken To (Ok Cut) x y
-answer_cut_head To text x y a = (a.0, (a.1.1, inl a.1.2), a.2)
+pub answer_cut_head : (To : List ℕ → Type 0) (text : List ℕ) (x y : Left) → To [] → AnswersHead (Ok (CutHead text)) x y → AnswersTaken To (Ok Cut) x y
+answer_cut_head To text x y stays a = (a.0, (a.1.1, inl (a.1.2, stays)), a.2)
 
-pub answer_ended : (To : List ℕ → Type 0) (text : List ℕ) (x y : Left) → AnswersHead (Ok (NoHead text)) x y → AnswersTaken To (Ok Ended) x y
-answer_ended To text x y a = (a.0, a.1.1, a.2)
+pub answer_ended : (To : List ℕ → Type 0) (text : List ℕ) (x y : Left) → To [] → AnswersHead (Ok (NoHead text)) x y → AnswersTaken To (Ok Ended) x y
+answer_ended To text x y stays a = (a.0, (a.1.1, stays), a.2)
 
-pub answer_head_fault : (To : List ℕ → Type 0) (fault : LinkFault) (x y : Left) → AnswersHead (Err fault) x y → AnswersTaken To (Err fault) x y
-answer_head_fault To ReadFault x y a = (a.0, inl a.1, a.2)
-answer_head_fault To Memory x y a = (a.0, inl a.1, a.2)
+pub answer_head_fault : (To : List ℕ → Type 0) (fault : LinkFault) (x y : Left) → To [] → AnswersHead (Err fault) x y → AnswersTaken To (Err fault) x y
+answer_head_fault To ReadFault x y stays a = (a.0, inl (a.1, stays), a.2)
+answer_head_fault To Memory x y stays a = (a.0, (a.1, stays), a.2)

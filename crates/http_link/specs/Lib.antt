@@ -1,5 +1,6 @@
 pub mod Lines
 pub mod Checks
+pub mod Pieces
 pub mod Requests
 pub mod Responses
 pub mod Replies

@@ -12,6 +12,7 @@ use Rattle.http_link.specs.declared.requests.HeadRead.{HeadRead}
 use Rattle.http_link.specs.declared.requests.HeadRead.TheVariants.{Whole as WholeHead, TooLarge, Cut as CutHead, Ended as NoHead}
 use Rattle.http_link.specs.Lines.{HeadLines, AreHeadLines, print_head, AreEmptyLines, HasNoHead, IsWholeHead}
 use Rattle.http_link.specs.Checks.{most_head, accepted, Head}
+use Rattle.http_link.specs.Pieces.{most_piece}
 
 -- a head that was accepted, which asks to close the connection behind it or not, and a body of its length
 abbrev pub IsRequest : List ℕ → Bool → List ℕ → Type 0
@@ -23,30 +24,23 @@ pub record IsHeadBegun (bytes : List ℕ) : Type 0 where
   pub fits : length bytes < most_head
   pub no_head : HasNoHead bytes
 
--- a head that was accepted, and less than its body
-abbrev pub IsBodyBegun : List ℕ → Type 0
-IsBodyBegun bytes =
-    (head : List ℕ) × (body : List ℕ) × (most : ℕ) × (close : Bool) × Head head (Ok (accepted most close)) × (bytes ≡ head ++ body)
-    × (length body < most)
+-- a head that was accepted, and behind it less than its body: this
+abbrev pub IsBodyBegunBy : List ℕ → List ℕ → Type 0
+IsBodyBegunBy bytes body =
+    (head : List ℕ) × (most : ℕ) × (close : Bool) × Head head (Ok (accepted most close)) × (bytes ≡ head ++ body) × (length body < most)
 
 -- a request that isn't whole, and that nothing refuses yet
 abbrev pub IsBegun : List ℕ → Type 0
-IsBegun bytes = IsHeadBegun bytes ⊎ IsBodyBegun bytes
+IsBegun bytes = IsHeadBegun bytes ⊎ ((body : List ℕ) × IsBodyBegunBy bytes body)
+
+-- and what came of its body went where bodies go
+abbrev pub IsBegunInto : (List ℕ → Type 0) → List ℕ → Type 0
+IsBegunInto Took bytes = (IsHeadBegun bytes × Took []) ⊎ ((body : List ℕ) × IsBodyBegunBy bytes body × Took body)
 
 -- a first part of a head, or all of it, and not a byte more. Nothing has judged it
 pub record IsHeadPart (bytes : List ℕ) : Type 0 where
   pub fits : length bytes ≤ most_head
   pub nothing_past : (h : HeadLines) (rest : List ℕ) → AreHeadLines h → bytes ≡ print_head h ++ rest → rest ≡ []
-
--- a head that was accepted, and a first part of its body, or all of it
-abbrev pub IsBodyPart : List ℕ → Type 0
-IsBodyPart bytes =
-    (head : List ℕ) × (body : List ℕ) × (most : ℕ) × (close : Bool) × Head head (Ok (accepted most close)) × (bytes ≡ head ++ body)
-    × (length body ≤ most)
-
--- a first part of one request, or all of it, and not a byte more
-abbrev pub IsRequestPart : List ℕ → Type 0
-IsRequestPart bytes = IsHeadPart bytes ⊎ IsBodyPart bytes
 
 -- the input ended inside a request
 abbrev pub IsCut : List ℕ → Type 0
@@ -65,11 +59,11 @@ IsRequestInto Took bytes head =
 -- what the bytes that an answer took from the input are, and which of them went where bodies go
 abbrev pub ShowsTaken : (List ℕ → Type 0) → Result Incoming LinkFault → List ℕ → Type 0
 ShowsTaken Took (Ok (Whole head)) taken = IsRequestInto Took taken head
-ShowsTaken Took (Ok (Refused refusal)) taken = Head taken (Err refusal)
-ShowsTaken Took (Ok Cut) taken = IsCut taken
-ShowsTaken Took (Ok Ended) taken = EndedBetween taken
-ShowsTaken Took (Err ReadFault) taken = IsBegun taken
-ShowsTaken Took (Err Memory) taken = IsRequestPart taken
+ShowsTaken Took (Ok (Refused refusal)) taken = Head taken (Err refusal) × Took []
+ShowsTaken Took (Ok Cut) taken = (¬ (AreEmptyLines taken)) × IsBegunInto Took taken
+ShowsTaken Took (Ok Ended) taken = EndedBetween taken × Took []
+ShowsTaken Took (Err ReadFault) taken = IsBegunInto Took taken
+ShowsTaken Took (Err Memory) taken = IsHeadPart taken × Took []
 
 -- the input ended, where the answer says so
 abbrev pub EndsWith : Result Incoming LinkFault → List ℕ → Type 0
@@ -126,16 +120,16 @@ abbrev pub TakesByte : Option ℕ → List ℕ → List ℕ → Type 0
 TakesByte None before after = (before ≡ []) × (after ≡ [])
 TakesByte (Some byte) before after = before ≡ byte ∷ after
 
--- so many bytes were taken, and went where bodies go. With none, the input has ended
+-- so many bytes were taken, no more than one piece may have, and went where bodies go. With none, the input has ended
 abbrev pub GivesPiece : (List ℕ → Type 0) → Option (List ℕ) → Option (List ℕ) → ℕ → ℕ → Type 0
 GivesPiece Took left left' most count =
-    (piece : List ℕ) × Took piece × (length piece ≡ count) × (count ≤ most)
+    (piece : List ℕ) × Took piece × (length piece ≡ count) × (count ≤ most) × (count ≤ most_piece)
     × BothTold left left' (λ before after. (before ≡ piece ++ after) × (count ≡ 0 → after ≡ []))
 
 -- what the bytes are that the reading of a body took
 abbrev pub ShowsBody : (List ℕ → Type 0) → ℕ → Result ℕ Failed → List ℕ → Type 0
 ShowsBody Took len (Ok count) taken = Took taken × (length taken ≡ count) × (count ≤ len)
-ShowsBody Took len (Err failed) taken = length taken < len
+ShowsBody Took len (Err failed) taken = Took taken × (length taken < len)
 
 -- the input ended, where fewer came than were asked for
 abbrev pub BodyEnds : ℕ → Result ℕ Failed → List ℕ → Type 0

@@ -1,13 +1,16 @@
 //! What the bytes to come hold at their front.
 
-ghost use Rattle.std.specs.Prelude.{◌≡◌, ◌≤◌, ◌++◌, [], ℕ, Bool, true, List, Result, Err, length};
+ghost use Rattle.std.specs.Prelude.{◌≡◌, ◌≤◌, ◌⊎◌, ◌++◌, [], ℕ, Bool, true, List, Result, Err, length};
 ghost use Rattle.http_link.specs.declared.checks.Accepted.{Accepted};
 ghost use Rattle.http_link.specs.Checks.{most_body, Head};
 ghost use Rattle.http_link.specs.Outgoing.{request_text};
-ghost use Rattle.http_link.specs.Requests.{IsRequest, IsBegun, IsRequestPart, IsCut, EndedBetween};
+ghost use Rattle.http_link.specs.Pieces.{TakesPieces};
+ghost use Rattle.http_link.specs.Requests.{IsRequest, IsBegun, IsHeadPart, IsCut, EndedBetween};
 ghost use Rattle.http_link.specs.Responses.{answer_text, fault_answer_text, refusal_bytes};
 ghost use Rattle.http_link.specs.Replies.{most_reply, code_of, IsReply, IsReadWhole, IsReplyBegun, IsReplyPart, EndsReading};
 ghost use Rattle.http_link.specs.declared.refusal.Refusal.{Refusal};
+
+use os_io::Body;
 
 /// Law: bytes begin with one head at most, and one thing comes of it: what it says, or a refusal.
 pub fn one_head_comes_first()
@@ -29,13 +32,16 @@ pub fn begun_request_is_not_whole()
     ensures refused { (bytes head rest : List ℕ) (refusal : Refusal) → IsBegun bytes → Head head (Err refusal) → bytes ≡ head ++ rest → ⊥ }
 {}
 
-/// Law: a part of a request is a first part of the request, or of the refused head, that the bytes begin with. What has
-/// only begun is one, and so is all of a request.
+/// Law: a part of a head, or all of it, is a first part of the request, or of the refused head, that the bytes begin with; and so is
+/// what has only begun.
 pub fn part_is_of_the_first_request()
-    ensures request { (part request rest more body : List ℕ) (close : Bool) → IsRequestPart part → IsRequest request close body → part ++ rest ≡ request ++ more → (behind : List ℕ) × (request ≡ part ++ behind) × (rest ≡ behind ++ more) }
-    ensures refused { (part head rest more : List ℕ) (refusal : Refusal) → IsRequestPart part → Head head (Err refusal) → part ++ rest ≡ head ++ more → (behind : List ℕ) × (head ≡ part ++ behind) × (rest ≡ behind ++ more) }
-    ensures begun { (bytes : List ℕ) → IsBegun bytes → IsRequestPart bytes }
-    ensures whole { (bytes body : List ℕ) (close : Bool) → IsRequest bytes close body → IsRequestPart bytes }
+    ensures request { (part request rest more body : List ℕ) (close : Bool) → IsHeadPart part ⊎ IsBegun part → IsRequest request close body → part ++ rest ≡ request ++ more → (behind : List ℕ) × (request ≡ part ++ behind) × (rest ≡ behind ++ more) }
+    ensures refused { (part head rest more : List ℕ) (refusal : Refusal) → IsHeadPart part ⊎ IsBegun part → Head head (Err refusal) → part ++ rest ≡ head ++ more → (behind : List ℕ) × (head ≡ part ++ behind) × (rest ≡ behind ++ more) }
+{}
+
+/// Law: one who took pieces took their bytes.
+pub fn pieces_are_their_bytes<B: Body>()
+    ensures { (old new : B) (bytes : List ℕ) → TakesPieces B.took old new bytes → B.took old new bytes }
 {}
 
 /// Law: input that is cut begins with no request and with no head that is refused, and has not ended between requests.

@@ -6,11 +6,11 @@
 //! [`read_request_into`] takes one request and not a byte more. It says what its bytes were: a head that is accepted with a
 //! body of its length, a head that is refused with the first refusal in the order of the checks, or a cut. A head has
 //! at most 16,384 bytes, the empty lines before it among them, and 64 field lines, a body at most 4,194,304 bytes. The body
-//! goes piece by piece to a [`Body`](os_io::Body), and nobody holds it whole.
+//! goes in pieces of at most 4,096 bytes to a [`Body`](os_io::Body), and nobody holds it whole.
 //!
 //! Bytes begin with one request at most, and bytes that are cut or end between requests begin with none; laws say so.
-//! So where no read fails and there is memory, the bytes alone decide what [`read_request_into`] answers. Where a read fails
-//! or there is no memory, it has taken a first part of that request, or all of it, and not a byte more.
+//! So where no read fails and there is memory, the bytes alone decide what [`read_request_into`] answers. Where a read fails, it
+//! has taken a first part of that request, and where there is no memory a first part of its head, or all of that, and not a byte more.
 //!
 //! [`write_answer`], [`write_fault_answer`] and [`write_refusal`] write a response whole, or a first part of it where a
 //! write fails, and [`write_request`] a client's request. They take no memory.
@@ -38,8 +38,8 @@ pub use laws::{
     answers_are_read_back, begun_request_is_not_whole, bytes_are_one_reply,
     cut_input_holds_no_request, ended_input_holds_no_request, one_head_comes_first,
     one_reply_comes_first, one_request_comes_first, part_is_of_the_first_reply,
-    part_is_of_the_first_request, refusals_are_read_back, requests_are_read_back,
-    what_came_is_a_part,
+    part_is_of_the_first_request, pieces_are_their_bytes, refusals_are_read_back,
+    requests_are_read_back, what_came_is_a_part,
 };
 pub use outgoing::write_request;
 pub use refusal::Refusal;

@@ -3,6 +3,7 @@ ghost use Rattle.std.specs.Prelude.{◌≡◌, ◌≤◌, ◌<◌, [], length, I
 ghost use Rattle.os_io.specs.Streams.{BothTold, Counts, SameOutput};
 ghost use Rattle.http_link.specs.Checks.{most_head, Head as ComesOf};
 ghost use Rattle.http_link.specs.Lines.{IsWholeHead};
+ghost use Rattle.http_link.specs.Pieces.{TakesPieces};
 ghost use Rattle.http_link.specs.Requests.{AnswersTaken, AnswersHead, AnswersBody, GivesPiece, CountsFault, LeavesNone, TakesByte};
 
 use crate::Refusal;
@@ -39,7 +40,7 @@ pub enum Incoming {
 pub enum LinkFault {
     /// A read failed, and the source's count of faults rose.
     ReadFault,
-    /// There was no memory for bytes that had been read. None past the request was.
+    /// There was no memory for a head. None past it was read.
     Memory,
 }
 
@@ -71,7 +72,7 @@ pub(crate) enum HeadRead {
     Ended(Text),
 }
 
-/// The most bytes that one read of a body asks for.
+/// The most bytes of a body that are read, and handed on, at once.
 const PIECE: usize = 4096;
 
 /// Reads the next byte, or finds the input at its end.
@@ -126,6 +127,7 @@ fn read_piece<S: Feed, B: Body>(source: &mut S, body: &mut B, most: usize) -> Re
     requires { 0 < most }
     ensures piece { IfOk result (GivesPiece (B.took body.old body.new) (S.tells source.old).left (S.tells source.new).left most) }
     ensures err { OnErr result ((S.tells source.new).left ≡ (S.tells source.old).left) }
+    ensures stays { OnErr result (body.new ≡ body.old) }
     ensures ahead { OnErr result (S.ahead source.new ≡ []) }
     ensures counted { Counts result (S.tells source.old).read_faults (S.tells source.new).read_faults }
     ensures output { SameOutput (S.tells source.old) (S.tells source.new) }
@@ -148,7 +150,7 @@ pub(crate) fn read_body<S: Feed, B: Body>(
     body: &mut B,
     len: usize,
 ) -> Result<usize, Failed>
-    ensures answer { AnswersBody (B.took body.old body.new) len result (S.tells source.old).left (S.tells source.new).left }
+    ensures answer { AnswersBody (TakesPieces B.took body.old body.new) len result (S.tells source.old).left (S.tells source.new).left }
     ensures ahead { OnErr result (S.ahead source.new ≡ []) }
     ensures counted { Counts result (S.tells source.old).read_faults (S.tells source.new).read_faults }
     ensures output { SameOutput (S.tells source.old) (S.tells source.new) }
@@ -168,18 +170,19 @@ pub(crate) fn read_body<S: Feed, B: Body>(
     Ok(done)
 }
 
-/// Reads a request, and nothing past it, and hands its body on as it comes, so that nobody holds it whole. Of a refused head, its
-/// body is still to come.
+/// Reads a request, and nothing past it, and hands its body on as it comes, in pieces of at most 4,096 bytes, so that nobody holds it
+/// whole. Of a refused head, its body is still to come.
 ///
 /// The head is taken byte by byte, so a source with costly reads wants a buffer of its own. Where a read fails or there is
-/// no memory, what was taken is lost: a first part of one request, or all of it where there was no memory. Where a read fails,
-/// nothing is left of what was read ahead. What of a body went on is said where it is whole, and nowhere else.
+/// no memory, what was taken is lost: a first part of a request that isn't whole, or, where there was no memory, of a head or all of it.
+/// Where a read fails, nothing is left of what was read ahead. Whatever it answers, what came of an accepted head's body went on, and
+/// nothing else did.
 pub fn read_request_into<S: Feed, B: Body>(
     alloc: Global,
     source: &mut S,
     body: &mut B,
 ) -> Result<Incoming, LinkFault>
-    ensures answer { AnswersTaken (B.took body.old body.new) result (S.tells source.old).left (S.tells source.new).left }
+    ensures answer { AnswersTaken (TakesPieces B.took body.old body.new) result (S.tells source.old).left (S.tells source.new).left }
     ensures ahead { LeavesNone result (S.ahead source.new) }
     ensures counted { CountsFault result (S.tells source.old).read_faults (S.tells source.new).read_faults }
     ensures output { SameOutput (S.tells source.old) (S.tells source.new) }

@@ -1,4 +1,4 @@
-use Rattle.http_link.proofs.OneRequest.{part_of_request, part_of_refused, begun_part, request_part}
+use Rattle.http_link.proofs.OneRequest.{part_of_request, part_of_refused}
 use Rattle.http_link.proofs.laws.part_is_of_the_first_request.Goals as goal
 
 pub returns-clause-request : goal.returns-clause-request
@@ -6,9 +6,3 @@ returns-clause-request c = part_of_request
 
 pub returns-clause-refused : goal.returns-clause-refused
 returns-clause-refused c = part_of_refused
-
-pub returns-clause-begun : goal.returns-clause-begun
-returns-clause-begun c = begun_part
-
-pub returns-clause-whole : goal.returns-clause-whole
-returns-clause-whole c = request_part

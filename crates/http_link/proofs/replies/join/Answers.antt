@@ -1,5 +1,4 @@
-use Rattle.std.proofs.Common.{◌≡◌, ◌++◌, arith, rules, false, sym, ◌∙◌}
-use Rattle.http_link.specs.Replies.{is_whole}
+use Rattle.std.proofs.Common.{◌≡◌, ◌++◌, arith, rules, sym, ◌∙◌}
 use Rattle.http_link.proofs.OneReply.{short_no_reply}
 use Rattle.http_link.proofs.replies.join.Goals as goal
 

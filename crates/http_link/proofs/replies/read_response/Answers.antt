@@ -1,7 +1,9 @@
 use Rattle.std.proofs.Common.{[], None, Some, Ok, Err, refl, sym, ap, length, arith}
-use Rattle.os_io.specs.Bodies.{TakesBehind, HasKept}
+use Rattle.os_io.specs.Bodies.{TakesBehind, HasKept, behind_none, behind_both}
 use Rattle.http_link.specs.declared.requests.HeadRead.TheVariants as heads
+use Rattle.http_link.specs.Pieces.{TakesPieces}
 use Rattle.http_link.specs.Replies.{most_of}
+use Rattle.http_link.proofs.Pieces.{pieces_taken}
 use Rattle.http_link.proofs.RequestSteps.{head_at}
 use Rattle.http_link.proofs.ReplySteps.{head_says, large_says, cut_begun, blank_begun, comes_refused, comes_large, comes_cut, comes_blank, comes_behind, comes_lost, brings_body_fault, brings_joined, reads_of, body_of}
 use Rattle.http_link.proofs.OneReply.{refused_no_reply, begun_no_reply}
@@ -55,10 +57,11 @@ returns-in-Ok-finish-clause-came g c =
     let head = head_at c.in-Ok-Whole.field-0 (heads.Whole c.in-Ok-Whole.head c.in-Ok-Whole.field-0-1) _ _ c.in-Ok-Whole.field-0-is c.in-Ok-Whole.ensures.answer in
     let says = head_says c.in-Ok-Whole.head c.in-Ok-Whole.field-0-1 _ _ (Some c.in-Some.says) head
     (reads_of c.as_slice.result.now c.in-Ok-Whole.head _ _ c.as_slice.ensures refl c.in-Some.ensures) in
-    let body = body_of (TakesBehind HasKept c.new-body.result c.read_body.new.body) c.most.result (most_of c.in-Some.says) (Ok c.in-Ok.field-0) _ _ c.most.ensures c.in-Ok.ensures.answer in
-    let kept = c.in-Ok-finish.ensures.ok body.0 (body.1.0 [] (λ _. c.new-body.ensures.text)) in
+    let body = body_of (TakesPieces (TakesBehind HasKept) c.new-body.result c.read_body.new.body) c.most.result (most_of c.in-Some.says) (Ok c.in-Ok.field-0) _ _ c.most.ensures c.in-Ok.ensures.answer in
+    let took = pieces_taken (TakesBehind HasKept) (behind_none HasKept) (behind_both HasKept) c.new-body.result body.1.0 in
+    let kept = c.in-Ok-finish.ensures.ok body.0 (took [] (λ _. c.new-body.ensures.text)) in
     brings_joined c.in-Ok-Whole.head c.in-Ok-finish.body c.in-Some.says c.join.result _ _ says (omega (arith, body.1.1, body.1.2, ap length kept))
-    (comes_behind (TakesBehind HasKept c.new-body.result c.read_body.new.body) c.in-Ok-Whole.head c.in-Ok-Whole.field-0-1 c.in-Ok.field-0 c.in-Ok-finish.body c.in-Some.says _ _ _ head says body (sym kept))
+    (comes_behind (TakesPieces (TakesBehind HasKept) c.new-body.result c.read_body.new.body) c.in-Ok-Whole.head c.in-Ok-Whole.field-0-1 c.in-Ok.field-0 c.in-Ok-finish.body c.in-Some.says _ _ _ head says body (sym kept))
     c.join.ensures.bytes c.join.ensures.memory
 
 pub returns-in-Err-finish-clause-came : goal.returns-in-Err-finish-clause-came
@@ -66,14 +69,14 @@ returns-in-Err-finish-clause-came g c =
     let head = head_at c.in-Ok-Whole.field-0 (heads.Whole c.in-Ok-Whole.head c.in-Ok-Whole.field-0-1) _ _ c.in-Ok-Whole.field-0-is c.in-Ok-Whole.ensures.answer in
     let says = head_says c.in-Ok-Whole.head c.in-Ok-Whole.field-0-1 _ _ (Some c.in-Some.says) head
     (reads_of c.as_slice.result.now c.in-Ok-Whole.head _ _ c.as_slice.ensures refl c.in-Some.ensures) in
-    let body = body_of (TakesBehind HasKept c.new-body.result c.read_body.new.body) c.most.result (most_of c.in-Some.says) (Ok c.in-Ok.field-0) _ _ c.most.ensures c.in-Ok.ensures.answer in
+    let body = body_of (TakesPieces (TakesBehind HasKept) c.new-body.result c.read_body.new.body) c.most.result (most_of c.in-Some.says) (Ok c.in-Ok.field-0) _ _ c.most.ensures c.in-Ok.ensures.answer in
     comes_lost c.in-Ok-Whole.head body.0 c.in-Some.says _ _ says (omega (arith, body.1.1, body.1.2))
-    (comes_behind (TakesBehind HasKept c.new-body.result c.read_body.new.body) c.in-Ok-Whole.head c.in-Ok-Whole.field-0-1 c.in-Ok.field-0 body.0 c.in-Some.says _ _ _ head says body refl)
+    (comes_behind (TakesPieces (TakesBehind HasKept) c.new-body.result c.read_body.new.body) c.in-Ok-Whole.head c.in-Ok-Whole.field-0-1 c.in-Ok.field-0 body.0 c.in-Some.says _ _ _ head says body refl)
 
 pub returns-in-Err-read_body-clause-came : goal.returns-in-Err-read_body-clause-came
 returns-in-Err-read_body-clause-came g c =
     let head = head_at c.in-Ok-Whole.field-0 (heads.Whole c.in-Ok-Whole.head c.in-Ok-Whole.field-0-1) _ _ c.in-Ok-Whole.field-0-is c.in-Ok-Whole.ensures.answer in
     let says = head_says c.in-Ok-Whole.head c.in-Ok-Whole.field-0-1 _ _ (Some c.in-Some.says) head
     (reads_of c.as_slice.result.now c.in-Ok-Whole.head _ _ c.as_slice.ensures refl c.in-Some.ensures) in
-    let body = body_of (TakesBehind HasKept c.new-body.result c.read_body.new.body) c.most.result (most_of c.in-Some.says) (Err c.in-Err-read_body.field-0) _ _ c.most.ensures c.in-Err-read_body.ensures.answer in
-    brings_body_fault (TakesBehind HasKept c.new-body.result c.read_body.new.body) c.in-Ok-Whole.head c.in-Ok-Whole.field-0-1 c.in-Some.says c.in-Err-read_body.field-0 _ _ _ head says body
+    let body = body_of (TakesPieces (TakesBehind HasKept) c.new-body.result c.read_body.new.body) c.most.result (most_of c.in-Some.says) (Err c.in-Err-read_body.field-0) _ _ c.most.ensures c.in-Err-read_body.ensures.answer in
+    brings_body_fault (TakesPieces (TakesBehind HasKept) c.new-body.result c.read_body.new.body) c.in-Ok-Whole.head c.in-Ok-Whole.field-0-1 c.in-Some.says c.in-Err-read_body.field-0 _ _ _ head says body
