@@ -1,12 +1,12 @@
 //! Reads calls.
 
-ghost use Rattle.std.specs.Prelude.{◌≡◌, [], List, ℕ, None, IfOk, IfErr};
+ghost use Rattle.std.specs.Prelude.{◌≡◌, [], List, ℕ, None, Some, Err, IfOk, IfErr};
 ghost use Rattle.tree_grammar.specs.Elements.{Element, events};
 ghost use Rattle.document_tags.specs.Spots.{StandsAt};
 ghost use Rattle.soap_calls.specs.Calls.{IsCall, IsCallIn, IsCallText};
 ghost use Rattle.soap_calls.specs.Refusals.{CallFails};
-ghost use Rattle.os_io.specs.Bodies.{TakesBehind, behind_none, behind_both};
-ghost use Rattle.soap_calls.specs.Reading.{RefusesElement, RefusesRoot, HasTaken};
+ghost use Rattle.doc_tree.specs.declared.fault.TreeFault as trees;
+ghost use Rattle.soap_calls.specs.Reading.{RefusesElement, RefusesRoot, HasTaken, TakesMore, more_none, more_both, tree_fault};
 
 use crate::call::SoapCall;
 use crate::envelope::held;
@@ -81,6 +81,7 @@ impl CallReader {
     /// [`SoapFault::Call`] exactly where that element isn't one of the six calls, and [`SoapFault::Part`] of the first part that
     /// is refused. [`SoapFault::Memory`] also where there was no memory for one of the pieces.
     pub fn finish(self) -> Result<SoapCall, SoapFault>
+        ensures again { (fault : trees.TreeFault) → self.reader.refusal ≡ Some fault → result ≡ Err (tree_fault fault) }
         ensures ok { (bytes : List ℕ) → HasTaken self bytes → IfOk result (IsCallText bytes) }
         ensures err { (bytes : List ℕ) → HasTaken self bytes → IfErr result (CallFails bytes) }
     {
@@ -94,13 +95,13 @@ impl CallReader {
 }
 
 impl Body for CallReader {
-    ghost took = { TakesBehind HasTaken };
+    ghost took = { TakesMore };
 
-    ghost stays = { behind_none HasTaken };
+    ghost stays = { more_none };
 
-    ghost joined = { behind_both HasTaken };
+    ghost joined = { more_both };
 
-    /// A piece that is refused is refused again at the end.
+    /// A piece that is refused is refused again at the end, and so is one for which there was no memory.
     fn take(&mut self, piece: &[u8]) {
         let _ = self.reader.feed(piece);
     }
