@@ -2,7 +2,7 @@
 use Rattle.std.proofs.Common.{◌≡◌, ℕ, List, [], ◌∷◌, ◌++◌, Some, Ok, Err, refl, sym, ◌∙◌, ap, inl, arith}
 use Rattle.os_io.specs.Streams.{Tells, Sends}
 use Rattle.os_io.specs.declared.streams.Failed.{Failed}
-use Rattle.http_link.specs.Requests.{IsRequestPart}
+use Rattle.http_link.specs.Requests.{IsHeadPart}
 use Rattle.http_link.specs.Lines.{print_head}
 use Rattle.job_table.specs.History.{Entry}
 use Rattle.os_server.specs.declared.reply.Reply.TheVariants.{NoMemory}
@@ -25,8 +25,8 @@ nothing_left : (a b : List ℕ) → [] ≡ a ++ b → b ≡ []
 nothing_left [] b is = sym is
 nothing_left (x ∷ a) b is = cc
 
-nothing_is_part : IsRequestPart []
-nothing_is_part = inl (record { fits = omega arith; nothing_past = λ h rest are is. nothing_left (print_head h) rest is })
+nothing_is_part : IsHeadPart []
+nothing_is_part = record { fits = omega arith; nothing_past = λ h rest are is. nothing_left (print_head h) rest is }
 
 nothing_came : (made : Made) (wakes : Wakes) (i o : Tells) → ComesOnLink made wakes None (Ok NoMemory) (both_ends i o) (both_ends i o)
 nothing_came made wakes i o = record {

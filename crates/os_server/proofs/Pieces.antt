@@ -110,9 +110,10 @@ module _ (made : Made) (Holds : List Entry → Type 0) (b : Builds made Holds) w
     due_so : (taken : List ℕ) (own : List Entry) (r : Reply) → IsReplyDue made wakes taken own r → Holds own
     due_so taken own (Answer said close as_worker) (body, request, answers) = answers_so body own said as_worker answers
     due_so taken own (Refused refusal) (refused, none) = no_calls own none
-    due_so taken own NoMemory (inl (request, none)) = no_calls own none
-    due_so taken own NoMemory (inr (close, body, request, (order, asks, inl begins))) = begun_so (doing_of order) own begins
-    due_so taken own NoMemory (inr (close, body, request, (order, asks, inr does))) = does_so order does.0 own does.1
+    due_so taken own NoMemory (inl (head, none)) = no_calls own none
+    due_so taken own NoMemory (inr (close, body, request, inl none)) = no_calls own none
+    due_so taken own NoMemory (inr (close, body, request, inr (order, asks, inl begins))) = begun_so (doing_of order) own begins
+    due_so taken own NoMemory (inr (close, body, request, inr (order, asks, inr does))) = does_so order does.0 own does.1
 
     exchange_so : (close : Bool) (p : Part) → IsExchange made wakes close p → Holds p.entries
     exchange_so close p x =

@@ -2,7 +2,7 @@
 use Rattle.std.proofs.Common.{◌≡◌, ℕ, Bool, false, List, [], inl, inr, Option, Some, Result, Ok, Err, refl, sym, ◌∙◌, ap, subst}
 use Rattle.std.specs.Prelude.{IfOk}
 use Rattle.std.specs.declared.alloc.AllocError.{AllocError}
-use Rattle.http_link.specs.Requests.{IsRequest, IsRequestPart}
+use Rattle.http_link.specs.Requests.{IsRequest}
 use Rattle.six_calls.specs.declared.call.CallKind.{CallKind}
 use Rattle.job_table.specs.declared.calls.Reply as tables
 use Rattle.job_table.specs.History.{Entry}
@@ -53,15 +53,10 @@ pub refused : (made : Made) (wakes : Wakes) (body : List ℕ) (close : Bool) (n 
 refused made wakes body close n code text lent said is lent_is nothing says =
     faulted made wakes body close code text said (subst (λ (m : NoOrder). AsksNothing body m) is nothing) (says ∙ ap (fault_said code) lent_is)
 
--- a request is a part of one
-abbrev pub WholesArePart : Type 0
-WholesArePart = (bytes body : List ℕ) (close : Bool) → IsRequest bytes close body → IsRequestPart bytes
-
 -- a reply to a body is due to its request
-pub due : (made : Made) (wakes : Wakes) (wholes : WholesArePart) (taken body : List ℕ) (close : Bool) (own : List Entry) (r : Reply) → IsRequest taken close body
+pub due : (made : Made) (wakes : Wakes) (taken body : List ℕ) (close : Bool) (own : List Entry) (r : Reply) → IsRequest taken close body
     → IsReplied made wakes body close own r → IsReplyDue made wakes taken own r
-due made wakes wholes taken body close own (Answer said closes as_worker) request (same, answers) =
+due made wakes taken body close own (Answer said closes as_worker) request (same, answers) =
     (body, subst (λ (c : Bool). IsRequest taken c body) (sym same) request, answers)
-due made wakes wholes taken body close own (Refused refusal) request (fails, is, alone) = (inr (close, body, request, fails, is), alone)
-due made wakes wholes taken body close own NoMemory request (inl alone) = inl (wholes taken body close request, alone)
-due made wakes wholes taken body close own NoMemory request (inr lacks) = inr (close, body, request, lacks)
+due made wakes taken body close own (Refused refusal) request (fails, is, alone) = (inr (close, body, request, fails, is), alone)
+due made wakes taken body close own NoMemory request lacks = inr (close, body, request, lacks)

@@ -11,7 +11,6 @@ use Rattle.http_link.specs.declared.requests.Incoming.TheVariants as incoming
 use Rattle.http_link.specs.declared.requests.Head.{Head}
 use Rattle.http_link.specs.declared.requests.LinkFault.{LinkFault}
 use Rattle.http_link.specs.Requests.{CountsFault, ShowsTaken, EndsWith, AnswersTaken as Reading}
-use Rattle.os_io.specs.Bodies.{TakesBehind}
 use Rattle.soap_calls.specs.declared.calling.CallReader.{CallReader}
 use Rattle.soap_calls.specs.Reading.{HasTaken}
 use Rattle.job_table.specs.History.{Entry}
@@ -23,7 +22,7 @@ use Rattle.os_server.specs.Talk.{Part, part, then, all_of, ReadsBytes, AtEnd, mo
 use Rattle.os_server.specs.Serving.{IsReplied, AnswersOne, FollowsReply, CameWithDue, CountsCame, ComesOnLink, AccountsOne, ServesOne}
 use Rattle.os_server.proofs.Pieces.{Made, Wakes}
 use Rattle.os_server.proofs.Steps.{read_then, wrote_then, at_end_then, read_none, wrote_none, read_whole, read_of, hands_then, then_none, all_more}
-use Rattle.os_server.proofs.Replies.{WholesArePart, due}
+use Rattle.os_server.proofs.Replies.{due}
 
 abbrev Bytes : Type 0
 Bytes = Option (List ℕ)
@@ -35,19 +34,19 @@ Joins did did' both = (a b : List Entry) → did a → did' b → both (a ++ b)
 -- ---- what came
 
 -- a request that is whole, and whose body was read as it came
-pub whole_comes : (made : Made) (wakes : Wakes) (wholes : WholesArePart) (did : List Entry → Type 0) (reader read : CallReader) (i : Incoming) (head : Head) (reply : Reply)
-    (old new : Tells) → HasTaken reader [] → i ≡ incoming.Whole head → Reading (TakesBehind HasTaken reader read) (Ok i) old.left new.left
+pub whole_comes : (made : Made) (wakes : Wakes) (did : List Entry → Type 0) (To : List ℕ → Type 0) (read : CallReader) (i : Incoming) (head : Head) (reply : Reply)
+    (old new : Tells) → ((bytes : List ℕ) → To bytes → HasTaken read bytes) → i ≡ incoming.Whole head → Reading To (Ok i) old.left new.left
     → new.read_faults ≡ old.read_faults → SameOutput old new
     → ((bytes : List ℕ) → HasTaken read bytes → (own : List Entry) × did own × IsReplied made wakes bytes head.close own reply)
     → ComesOnLink made wakes did (Ok reply) old new
-whole_comes made wakes wholes did reader read i head reply old new fresh is came counted output replied =
-    let whole = subst (λ (j : Incoming). Reading (TakesBehind HasTaken reader read) (Ok j) old.left new.left) is came in
+whole_comes made wakes did To read i head reply old new took is came counted output replied =
+    let whole = subst (λ (j : Incoming). Reading To (Ok j) old.left new.left) is came in
     let body = whole.1.0 in
-    let done = replied body (whole.1.3 [] fresh) in
+    let done = replied body (took body whole.1.3) in
     record {
       taken = whole.0;
       own = done.0;
-      shows = due made wakes wholes whole.0 body head.close done.0 reply whole.1.1 done.2;
+      shows = due made wakes whole.0 body head.close done.0 reply whole.1.1 done.2;
       calls = done.1;
       read = read_of _ old.left new.left whole.0 whole.2;
       counted = counted;

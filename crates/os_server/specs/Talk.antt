@@ -4,7 +4,7 @@ use Rattle.os_io.specs.Streams.{Tells, BothTold, HasRisen, IsPart, Appends, Grow
 use Rattle.http_link.specs.declared.refusal.Refusal.{Refusal}
 use Rattle.http_link.specs.declared.refusal.Refusal.TheVariants.{BadRequest, ServiceUnavailable}
 use Rattle.http_link.specs.Checks.{Head}
-use Rattle.http_link.specs.Requests.{IsRequest, IsBegun, IsRequestPart, IsCut, EndedBetween}
+use Rattle.http_link.specs.Requests.{IsRequest, IsBegun, IsHeadPart, IsCut, EndedBetween}
 use Rattle.http_link.specs.Responses.{answer_text, fault_answer_text, refusal_bytes}
 use Rattle.soap_calls.specs.declared.fault.SoapFault.TheVariants as soap
 use Rattle.soap_calls.specs.Refusals.{CallFails}
@@ -110,11 +110,11 @@ module _ (made : List ℕ → List ℕ → List Bool → Option (List ℕ) → T
   IsAnswered taken own said close as_worker =
       (body : List ℕ) × IsRequest taken close body × IsBodyAnswered body own said as_worker
 
-  -- the bytes are a first part of a request, or all of one, and there was no memory for it or for what it asks
+  -- there was no memory: for a head, of which the bytes are a first part or all; or for a request, for its body, for what it asks or for its answer
   abbrev pub IsUnanswered : List ℕ → List Entry → Type 0
   IsUnanswered taken own =
-      (IsRequestPart taken × (own ≡ []))
-      ⊎ ((close : Bool) × (body : List ℕ) × IsRequest taken close body × LacksMemory body own)
+      (IsHeadPart taken × (own ≡ []))
+      ⊎ ((close : Bool) × (body : List ℕ) × IsRequest taken close body × ((own ≡ []) ⊎ LacksMemory body own))
 
   -- the bytes, the moves made for them, and the reply that they are due
   abbrev pub IsReplyDue : List ℕ → List Entry → Reply → Type 0

@@ -16,8 +16,8 @@ use crate::saying::{Said, said_fault, say};
 use crate::serve::Served;
 use crate::server::Server;
 use http_link::{
-    Feed, Incoming, LinkFault, Refusal, part_is_of_the_first_request, read_request_into,
-    write_answer, write_fault_answer, write_refusal,
+    Feed, Incoming, LinkFault, Refusal, pieces_are_their_bytes, read_request_into, write_answer,
+    write_fault_answer, write_refusal,
 };
 use job_table::{Calls, Verdicts};
 use os_io::{Failed, Sink};
@@ -123,7 +123,7 @@ pub(crate) fn next_reply<I: Feed, V: Verdicts, C: Calls<V>, S: Server<V>>(
     let mut body = CallReader::new(alloc);
     match read_request_into(alloc, input, &mut body) {
         Ok(Incoming::Whole(head)) => {
-            part_is_of_the_first_request();
+            pieces_are_their_bytes::<CallReader>();
             Ok(reply_to(alloc, calls, server, body, head.close))
         }
         Ok(Incoming::Refused(refusal)) => Ok(Reply::Refused(refusal)),
