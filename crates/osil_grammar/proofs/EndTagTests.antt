@@ -40,11 +40,11 @@ cost_added s x y cs reads is same fits name = (
 
 -- a run of values
 pub run_great : (s : State) (name : List ℕ) (x : Frac) → IsDecimal s.text (ratio x) → HasGreat x s.step s.times → FirstFails (Fails s (Finish name)) (refusal s (Finish name)) (tests (ends (places.El listings.Values))) refusals.Wide
-run_great s name x reads h = text_behind s name decimal great_run refusals.Wide (decimal_read s.text x reads) (record { first = x; begins = reads; k = h.0; inside = h.1; wide = h.2 }) refl
+run_great s name x reads h = text_behind s name decimal great_run refusals.Wide (decimal_read s.text x reads) (record { first = x; begins = reads; great = h }) refl
 
 pub run_added : (s : State) (x : Frac) (added vs : List Frac) → IsDecimal s.text (ratio x) → IsRun x s.step s.times added → vs ≡ s.values ++ added → (name : List ℕ) → AllPass (Fails s (Finish name)) (tests (ends (places.El listings.Values))) × Ends s (places.El listings.Values) (record s { place = places.Listed listings.Values; values = vs })
 run_added s x added vs reads run is name = (
-  text_pass s name decimal great_run (decimal_read s.text x reads) (λ h. h.wide (subst (λ (z : Frac). SumFits (ratio_at (ratio z) (ratio s.step) h.k) (ratio s.step)) (decimal_once s.text x h.first reads h.begins) (run.1 h.k h.inside))),
+  text_pass s name decimal great_run (decimal_read s.text x reads) (λ h. let g = h.great in g.2 (subst (λ (z : Frac). SumFits (ratio_at (ratio z) (ratio s.step) g.0) (ratio s.step)) (decimal_once s.text x h.first reads h.begins) (run.1 g.0 g.1))),
   (x, added, reads, run.0, ap (λ (l : List Frac). let z : State = record s { place = places.Listed listings.Values; values = l } in z) is),
 )
 

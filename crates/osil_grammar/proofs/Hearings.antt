@@ -14,15 +14,15 @@ none_of (Some r) e = absurd (false≢true e)
 fit_going : (o : Option Refused) (s : State) → false ≡ is_some o → IsReady o s → IsFit s
 fit_going o s going ready = subst (λ (x : Option Refused). IsReady x s) (none_of o going) ready
 
-any_ok : {Y E : Type 0} (result : Result Y E) (P : Type 0) → P → OnOk result P
+any_ok : {E : Type 0} (result : Result (Unit {0}) E) (P : Type 0) → P → OnOk result P
 any_ok (Ok y) P p = p
 any_ok (Err e) P p = tt
 
-no_ok : {Y E : Type 0} (result : Result Y E) (P : Type 0) → ((y : Y) → result ≡ Ok y → ⊥) → OnOk result P
-no_ok (Ok y) P none = absurd (none y refl)
+no_ok : {E : Type 0} (result : Result (Unit {0}) E) (P : Type 0) → (result ≡ Ok tt → ⊥) → OnOk result P
+no_ok (Ok y) P none = absurd (none refl)
 no_ok (Err e) P none = tt
 
-module _ {X Y E : Type 0} (o : Option Refused) (s : State) (m : Mark) (z w : State) (refused : Option Refused) (result : Result Y E) where
+module _ {X E : Type 0} (o : Option Refused) (s : State) (m : Mark) (z w : State) (refused : Option Refused) (result : Result (Unit {0}) E) where
   going_on : (step : Result X Stop) → IsFit s → Steps s m z step → IsKept step z w refused result → IsReady refused w
   going_on (Ok x) fit steps k = subst (λ (p : Option Refused). IsReady p w) (sym k.1) (subst IsFit (sym k.0) (fit_kept s (m ∷ []) z (z, steps, refl) fit))
   going_on (Err (stops.Refused r n)) fit steps k = subst (λ (p : Option Refused). IsReady p w) (sym k.1) k.0

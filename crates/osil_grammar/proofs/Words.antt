@@ -40,7 +40,7 @@ pub use Rattle.instance.specs.declared.parts.Row.{Row}
 pub use Rattle.instance.specs.declared.parts.Sense.{Sense}
 pub use Rattle.instance.specs.declared.parts.Sense.TheVariants.{Max, Min}
 pub use Rattle.instance.specs.declared.parts.Var.{Var}
-pub use Rattle.osil_grammar.specs.Failing.{AreTooMany, Fails, HasGreatEntry, HasNoSense, IsDivided, IsGreatEnd, IsInRange, IsOutOfRange, items, limit, lines, list_length, lists_so_far, most}
+pub use Rattle.osil_grammar.specs.Failing.{AreTooMany, Fails, HasGreat, HasGreatEntry, HasNoSense, IsDivided, IsGreatEnd, IsInRange, IsOutOfRange, items, limit, lines, list_length, lists_so_far, most}
 pub use Rattle.osil_grammar.specs.Grammars.{Grammar, HasSuch, IsBad, IsDeclared, IsOfGrammar, IsTimes, IsTooGreat, IsUnread, IsWideOf, ReadsSo, Says, SaysCount, bound, count, field, nought, times, whole}
 pub use Rattle.osil_grammar.specs.Hearing.{AreHeldApart, Decoding, EndsSo, HoldsApart, IsKept, IsReady, WasFed, course, is_in_matrix, tree_fault}
 pub use Rattle.osil_grammar.specs.Leaving.{AddsCost, AddsRun, AddsWholes, Begins, Ends, HasMatrix, IsMatrixOf, Leaves, Passes, SaysRun, heard, into, is_variables, out_of}
@@ -54,8 +54,8 @@ pub use Rattle.osil_grammar.specs.Runs.{AreSame, ratio_at, ratio_run, whole_run}
 pub use Rattle.osil_grammar.specs.Saying.{IsLetterOf, IsOfDomain, SaysConstant, SaysDomain, SaysHigh, SaysIndex, SaysLow, SaysRow, SaysRowLow, SaysSense, SaysStep, SaysTimes, SaysVar, SaysWholeStep, letter_names, letters, senses}
 pub use Rattle.osil_grammar.specs.Sound.{AreItems, AreWithin, IsSound, IsSoundAt, IsSoundIn, IsSoundSoFar}
 pub use Rattle.osil_grammar.specs.Standing.{State, start}
-pub use Rattle.osil_grammar.specs.Stepping.{BeginsAt, EndAnswers, EndsAt, HasGreat, IsNear, IsRun, IsTooFar, Steps, told_of, unread_refusal}
-pub use Rattle.osil_grammar.specs.Storing.{AreJoined, AreStored, AreSumsAt, IsBelowLimit, line_entries, lists_of, wholes}
+pub use Rattle.osil_grammar.specs.Stepping.{BeginsAt, EndAnswers, EndsAt, IsNear, IsRun, IsTooFar, Steps, told_of, unread_refusal}
+pub use Rattle.osil_grammar.specs.Storing.{AreJoined, AreStored, AreSumsAt, line_entries, lists_of, matrix_lists, wholes}
 pub use Rattle.osil_grammar.specs.Table.{Child, Kind, Test, Told, among, around, attributes, bad, bad_text, begins, content, count_name, end_ordinal, ends, fields, great_cost, great_end, great_run, great_text, has, high_infinite, kind, lb, leads, list_row, low_infinite, mark_name, mult, no_index, no_sense, no_type, no_variable, numbers, other_count, otherwise, out_of_range, part_row, refusal, tests, text, too_great, too_many, ub}
 pub use Rattle.osil_grammar.specs.Telling.{EndAttributes, EndsHaveTexts, GoalHasDecimals, HasNone}
 pub use Rattle.osil_grammar.specs.Writing.{CountsCosts, EndHasText, HasDecimal, HasDecimals, IsEndText, IsWrittenText, WriteCosts, WriteLists, WriteRows, WriteValues, WriteVars, WritesGoal, WritesInstance, counts_nodes, entries_below, holding, row_starts, sense_text, type_text}

@@ -1,5 +1,5 @@
 -- What an instance's matrix is written as is read as its entries, mark by mark.
-use Rattle.osil_grammar.proofs.Words.{◌≡◌, ◌∙◌, ℕ, zero, suc, ◌+◌, ◌<◌, ◌≤◌, inr, inl, Bool, true, false, cond, ℤ, pos, ◌+ℤ◌, ◌*ℤ◌, List, [], ◌∷◌, ◌++◌, map, length, drop, get_or, refl, ap, sym, subst, arith, Some, Contains, codes, All, ints, append-nil, append_assoc, map_push, length-append, length-map, All-head, All-tail, All-map, All-weaker, All-contains, Event, Open, Close, Nodes, nodes_events, local_nodes, Mark, Start, Char, Finish, spread, Ratio, IsSame, sum, SumFits, ratio, ratios, Frac, Entry, IsWholeText, IsDecimal, whole_once, Parts, IsBefore, IsAscending, IsInside, entry, entries, Takes, Listing, IsDivision, stored, placed_all, place_sum, HasWidePlace, AreEntriesOf, nought, State, IsInRange, IsOutOfRange, osil, HasDecimal, WriteLists, WriteValues, counts_nodes, entries_below, row_starts}
+use Rattle.osil_grammar.proofs.Words.{◌≡◌, ◌∙◌, ℕ, zero, suc, ◌+◌, ◌<◌, ◌≤◌, inr, inl, Bool, true, false, cond, ℤ, pos, ◌+ℤ◌, ◌*ℤ◌, List, [], ◌∷◌, ◌++◌, map, matrix_lists, length, drop, get_or, refl, ap, sym, subst, arith, Some, Contains, codes, All, ints, append-nil, append_assoc, map_push, length-append, length-map, matrix_lists, All-head, All-tail, All-map, All-weaker, All-contains, Event, Open, Close, Nodes, nodes_events, local_nodes, Mark, Start, Char, Finish, spread, Ratio, IsSame, sum, SumFits, ratio, ratios, Frac, Entry, IsWholeText, IsDecimal, whole_once, Parts, IsBefore, IsAscending, IsInside, entry, entries, Takes, Listing, IsDivision, stored, placed_all, place_sum, HasWidePlace, AreEntriesOf, nought, State, IsInRange, IsOutOfRange, osil, HasDecimal, WriteLists, WriteValues, counts_nodes, entries_below, row_starts}
 use Rattle.std.specs.Fmt.{decimal as digits}
 use Rattle.evidence.specs.Sums as evidence
 use Rattle.evidence.specs.Instance as Of
@@ -170,10 +170,10 @@ values_are [] = refl
 values_are (e ∷ es) = ap (λ (l : List Ratio). ratio e.value ∷ l) (values_are es)
 
 -- the lists that these entries are stored as, rows one after another
-abbrev lists_of : ℕ → List Entry → Lists
-lists_of m es = record { by_columns = false; starts = map pos (row_starts es 0 m); indices = map pos (columns_of es); values = ratios (values_of es) }
+abbrev row_lists : ℕ → List Entry → Lists
+row_lists m es = matrix_lists false (row_starts es 0 m) (columns_of es) (values_of es)
 
-stored_are : (m : ℕ) (es : List Entry) → Rises es → All (λ e. e.row < m) es → stored (lists_of m es) ≡ entries es
+stored_are : (m : ℕ) (es : List Entry) → Rises es → All (λ e. e.row < m) es → stored (row_lists m es) ≡ entries es
 stored_are m es up inside =
     let same : m ≡ 0 + m = omega arith in
     let lines = lines_are es 0 m up (subst (λ (k : ℕ). All (λ (e : Entry). e.row < k) es) same inside) in
@@ -213,7 +213,7 @@ module _ (s : State) (es : List Entry) (fine : AreFine (length s.vars) (length s
   up : Rises es
   up = rises es fine.ascending
 
-  are : AreEntriesOf (stored (lists_of (length s.rows) es)) es
+  are : AreEntriesOf (stored (row_lists (length s.rows) es)) es
   are = record {
     ascending = fine.ascending;
     nonzero = All-weaker (IsInside (length s.rows) (length s.vars)) (λ (x : Entry). x.value.numer ≡ pos 0 → ⊥) (λ x at. at.nonzero) es fine.inside;

@@ -1,5 +1,5 @@
 -- When the tests of OSiL documents fail.
-use Rattle.std.specs.Prelude.{◌≡◌, ◌≢◌, ℕ, suc, ◌+◌, ◌<◌, ◌≤◌, ℤ, pos, ◌+ℤ◌, ◌*ℤ◌, ◌<ℤ◌, ◌≤ℤ◌, false, None, IsSomeAnd, cond, List, length, get_or, map, codes}
+use Rattle.std.specs.Prelude.{◌≡◌, ◌≢◌, ℕ, suc, ◌+◌, ◌<◌, ◌≤◌, ℤ, pos, ◌+ℤ◌, ◌*ℤ◌, ◌<ℤ◌, ◌≤ℤ◌, false, None, IsSomeAnd, cond, List, length, get_or, codes}
 use Rattle.tree_grammar.specs.Elements.{Attribute}
 use Rattle.tree_grammar.specs.Tags.{IsAmong}
 use Rattle.doc_tree.specs.Marks.{Mark}
@@ -21,7 +21,8 @@ use Rattle.osil_grammar.specs.declared.elements.Listing.TheVariants.{Starts, Val
 use Rattle.osil_grammar.specs.declared.elements.Place.{Place}
 use Rattle.osil_grammar.specs.declared.elements.Place.TheVariants.{Var, Obj, Con, El}
 use Rattle.osil_grammar.specs.Runs.{ratio_at}
-use Rattle.osil_grammar.specs.Matrix.{Lists, IsDivision, stored, HasWidePlace}
+use Rattle.osil_grammar.specs.Matrix.{Lists, stored, HasWidePlace}
+use Rattle.osil_grammar.specs.Storing.{matrix_lists, Divide}
 use Rattle.osil_grammar.specs.Grammars.{IsOfGrammar, IsWideOf, HasSuch, IsBad, IsTooGreat}
 use Rattle.osil_grammar.specs.Saying.{senses, SaysTimes, SaysConstant, letter_names}
 use Rattle.osil_grammar.specs.Standing.{State}
@@ -65,10 +66,10 @@ lines s = cond s.by_columns (length s.vars) (length s.rows)
 
 -- the three lists as they are stored
 abbrev pub lists_so_far : State → Lists
-lists_so_far s = record { by_columns = s.by_columns; starts = map pos s.starts; indices = map pos s.indices; values = ratios s.values }
+lists_so_far s = matrix_lists s.by_columns s.starts s.indices s.values
 
 abbrev pub IsDivided : State → Type 0
-IsDivided s = IsDivision (map pos s.starts) (lines s) (length s.values)
+IsDivided s = Divide s.starts s.values (lines s)
 
 -- a row's end less its constant doesn't fit
 pub record IsGreatEnd (as' : List Attribute) (name : List ℕ) : Type 0 where
@@ -79,12 +80,13 @@ pub record IsGreatEnd (as' : List Attribute) (name : List ℕ) : Type 0 where
   pub wide : SumFits (ratio end) (negative (ratio constant)) → ⊥
 
 -- a number of a run of decimals doesn't fit
+abbrev pub HasGreat : Frac → Frac → ℕ → Type 0
+HasGreat first step m = (k : ℕ) × (suc k < m) × (SumFits (ratio_at (ratio first) (ratio step) k) (ratio step) → ⊥)
+
 pub record IsGreatRun (text : List ℕ) (step : Frac) (m : ℕ) : Type 0 where
   pub first : Frac
   pub begins : IsDecimal text (ratio first)
-  pub k : ℕ
-  pub inside : suc k < m
-  pub wide : SumFits (ratio_at (ratio first) (ratio step) k) (ratio step) → ⊥
+  pub great : HasGreat first step m
 
 -- a cost's sum with those before it of its variable doesn't fit
 pub record IsGreatCost (text : List ℕ) (costs : List Frac) (j : ℕ) : Type 0 where

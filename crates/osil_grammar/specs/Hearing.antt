@@ -1,4 +1,4 @@
--- One who is told of a document's marks, as the code holds it, how many numbers it holds, and a decoder that was fed bytes.
+-- One who is told of a document's marks, as the code holds it, how many items it holds, and a decoder that was fed bytes.
 use Rattle.std.specs.Prelude.{◌≡◌, ℕ, ◌+◌, ◌<◌, Bool, true, false, Option, None, Some, Result, Ok, Err, List, [], length}
 use Rattle.doc_tree.specs.Feeding.{Feeding, WasHeard}
 use Rattle.doc_tree.specs.declared.fault.TreeFault.{TreeFault}
@@ -28,7 +28,7 @@ abbrev pub course : Option Refused → State → Course State Told
 course None s = Going s
 course (Some r) s = Stopped (told_of r.refusal r.at)
 
--- HOW MANY NUMBERS ARE HELD: the items of all lists
+-- how many items are held: the variables, the rows, the costs, and the entries and the lists of the matrix
 abbrev pub held : State → ℕ
 held s = length s.vars + length s.rows + length s.costs + length s.starts + length s.indices + length s.values + length s.entries
 
@@ -57,10 +57,10 @@ IsReady None s = IsSound s × HoldsApart s
 IsReady (Some r) s = s ≡ start
 
 -- a step was kept: it is gone past, or its refusal stands and nothing else is held; or there was no memory
-abbrev pub IsKept : {X Y E : Type 0} → Result X Stop → State → State → Option Refused → Result Y E → Type 0
-IsKept {X} {Y} {E} (Ok x) old new refused result = (new ≡ old) × (refused ≡ None)
-IsKept {X} {Y} {E} (Err (stops.Refused r n)) old new refused result = (new ≡ start) × (refused ≡ Some (record { refusal = r; at = n }))
-IsKept {X} {Y} {E} (Err stops.Memory) old new refused result = (new ≡ start) × (refused ≡ None) × ((y : Y) → result ≡ Ok y → ⊥)
+abbrev pub IsKept : {X E : Type 0} → Result X Stop → State → State → Option Refused → Result (Unit {0}) E → Type 0
+IsKept {X} {E} (Ok x) old new refused result = (new ≡ old) × (refused ≡ None) × (result ≡ Ok tt)
+IsKept {X} {E} (Err (stops.Refused r n)) old new refused result = (new ≡ start) × (refused ≡ Some (record { refusal = r; at = n })) × (result ≡ Ok tt)
+IsKept {X} {E} (Err stops.Memory) old new refused result = (new ≡ start) × (refused ≡ None) × (result ≡ Ok tt → ⊥)
 
 -- what is answered of a course in the end
 abbrev pub EndsSo : Course State Told → Result Parts OsilFault → Type 0

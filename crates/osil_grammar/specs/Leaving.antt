@@ -1,4 +1,4 @@
--- What a mark of an OSiL document leaves where all its tests pass, and the form of these documents.
+-- What a mark of an OSiL document leaves where all its tests pass.
 use Rattle.std.specs.Prelude.{◌≡◌, ◌⊎◌, ℕ, ◌+◌, ◌-◌, ◌<◌, ◌≤◌, ℤ, pos, Bool, true, false, ◌||◌, Option, List, [], ◌∷◌, ◌++◌, map, get_or, replicate, set, codes}
 use Rattle.tree_grammar.specs.Elements.{Attribute}
 use Rattle.doc_tree.specs.Marks.{Mark, Char}

@@ -65,10 +65,6 @@ IsTooFar Inf c u = ⊥
 abbrev pub IsRun : Frac → Frac → ℕ → List Frac → Type 0
 IsRun first step m added = AreSame (ratios added) (ratio_run (ratio first) (ratio step) m) × ((k : ℕ) → suc k < m → SumFits (ratio_at (ratio first) (ratio step) k) (ratio step))
 
--- one of them doesn't
-abbrev pub HasGreat : Frac → Frac → ℕ → Type 0
-HasGreat first step m = (k : ℕ) × (suc k < m) × (SumFits (ratio_at (ratio first) (ratio step) k) (ratio step) → ⊥)
-
 -- a start tag with these attributes answers these tests, whatever it is called, in each state of this sort
 abbrev pub AnswersTests : {X : Type 0} → (State → Type 0) → List Attribute → List Test → Result X code.Refusal → (X → Type 0) → Type 0
 AnswersTests {X} If as' ts result Says = (s : State) (name : List ℕ) → If s

@@ -1,5 +1,5 @@
 -- The lists of the matrix as the code holds them, and what its functions make of them: entries that are joined one by one.
-use Rattle.std.specs.Prelude.{◌≡◌, ℕ, ℤ, ◌<ℤ◌, ◌≤ℤ◌, Result, MatchResult, List, [], ◌∷◌, ◌++◌, Bool, ⊤, length, map, replicate, pos}
+use Rattle.std.specs.Prelude.{◌≡◌, ℕ, ℤ, Result, MatchResult, List, [], ◌∷◌, ◌++◌, Bool, ⊤, length, map, replicate, pos}
 use Rattle.evidence.specs.Sums as evidence
 use Rattle.evidence.specs.Instance as Of
 use Rattle.rational.specs.Ratio.{IsSame}
@@ -15,22 +15,25 @@ use Rattle.osil_grammar.specs.Matrix.{IsDivision, placed_all, place_sum, HasWide
 use Rattle.osil_grammar.specs.Meaning.{AreEntriesOf}
 use Rattle.osil_grammar.specs.Orders.{IsInOrder, IsRising}
 
--- at least 0 and below a limit
-abbrev pub IsBelowLimit : ℤ → ℕ → Type 0
-IsBelowLimit z limit = (pos 0 ≤ℤ z) × (z <ℤ pos limit)
-
 -- whole numbers as the code has them
 abbrev pub wholes : List ℕ → List ℤ
 wholes ns = map pos ns
 
 -- the lists of a matrix as the definitions have them
+abbrev pub matrix_lists : Bool → (starts indices : List ℕ) → List Frac → matrix.Lists
+matrix_lists by_columns starts indices values = record { by_columns = by_columns; starts = wholes starts; indices = wholes indices; values = ratios values }
+
 abbrev pub lists_of : Lists → matrix.Lists
-lists_of l = record { by_columns = l.by_columns; starts = wholes l.starts.items; indices = wholes l.indices.items; values = ratios l.values.items }
+lists_of l = matrix_lists l.by_columns l.starts.items l.indices.items l.values.items
+
+-- the starts divide the values into so many lines
+abbrev pub Divide : List ℕ → List Frac → (lines : ℕ) → Type 0
+Divide starts values lines = IsDivision (wholes starts) lines (length values)
 
 -- as many indices as values, and starts that divide them into so many lines
 pub record AreStored (l : Lists) (lines : ℕ) : Type 0 where
   pub as_many : length l.indices.items ≡ length l.values.items
-  pub divided : IsDivision (wholes l.starts.items) lines (length l.values.items)
+  pub divided : Divide l.starts.items l.values.items lines
 
 -- one line's values with their places
 abbrev pub line_entries : Bool → ℕ → List ℕ → List Frac → List Of.Entry

@@ -85,10 +85,10 @@ impl Listener {
         }
     }
 
-    /// How many numbers it holds.
+    /// How many items it holds.
     fn numbers(&self) -> u64
         ensures is { result ≡ hearing.numbers self.now }
-        ensures few { result ≤ 206001 }
+        ensures few { result ≤ 204001 }
     {
         self.standing.numbers()
     }
@@ -203,10 +203,10 @@ impl Decoder {
         }
     }
 
-    /// How many numbers it holds so far: the items of all its lists.
+    /// How many items it holds so far: the variables, the rows, the costs, and the entries and the lists of the matrix.
     pub fn numbers(&self) -> u64
         ensures is { result ≡ hearing.numbers self.now.course }
-        ensures few { result ≤ 206001 }
+        ensures few { result ≤ 204001 }
     {
         self.events.visitor().numbers()
     }

@@ -3,8 +3,8 @@
 ghost use Rattle.std.specs.Prelude.{◌≡◌, ◌+◌, ◌<◌, ◌≤◌, ◌↔◌, ◌++◌, ◌*◌, ◌^◌, ℕ, suc, pos, ◌+ℤ◌, ◌*ℤ◌, unsigned_abs, IsTrue, MatchBool, MatchResult, IfOk, OnOk, List, map};
 ghost use Rattle.fraction.specs.Frac.{ratio};
 ghost use Rattle.osil_grammar.specs.Runs.{whole_run};
-ghost use Rattle.osil_grammar.specs.Failing.{IsInRange};
-ghost use Rattle.osil_grammar.specs.Stepping.{IsRun, HasGreat};
+ghost use Rattle.osil_grammar.specs.Failing.{IsInRange, HasGreat};
+ghost use Rattle.osil_grammar.specs.Stepping.{IsRun};
 
 use fraction::{Frac, Wide};
 use std::alloc::AllocError;

@@ -892,9 +892,9 @@ impl Standing {
         self.count == u64::MAX
     }
 
-    /// How many numbers are held: the items of all lists.
+    /// How many items are held, in all lists.
     pub(crate) fn numbers(&self) -> u64
-        requires { held self.now ≤ 206001 }
+        requires { held self.now ≤ 204001 }
         ensures { result ≡ held self.now }
     {
         let items = self.vars.len() + self.rows.len() + self.costs.len();
