@@ -231,13 +231,16 @@ pub put_twice : (n : ℕ) (v w : Phase) (jobs : HeldJobs) → with_phase n w (wi
 put_twice n v w [] = refl
 put_twice n v w (e ∷ es) = twice_step n v w (nat_eq n e.0) e es refl (put_twice n v w es)
 
-some_is : (x : Phase) → IsSome (Some x)
+pub some_is : (x : Phase) → IsSome (Some x)
 some_is x = search rules
 
 -- a job is held, and is held still after it was put
 pub held_is : (q : Option Phase) (x : Phase) → q ≡ Some x → IsSome q
 held_is q x is = subst (λ (p : Option Phase). IsSome p) (sym is) (some_is x)
 
+pub put_there : (n : ℕ) (v : Phase) (jobs : HeldJobs) → IsSome (phase_of n jobs) → phase_of n (with_phase n v jobs) ≡ Some v
+put_there n v jobs held = phase_with n n v jobs held ∙ ap (λ b. cond b (Some v) (phase_of n jobs)) (is_itself n)
+
 pub put_held : (n : ℕ) (v : Phase) (jobs : HeldJobs) → IsSome (phase_of n jobs) → IsSome (phase_of n (with_phase n v jobs))
 put_held n v jobs held =
-    subst (λ (p : Option Phase). IsSome p) (sym (phase_with n n v jobs held ∙ ap (λ b. cond b (Some v) (phase_of n jobs)) (is_itself n))) (some_is v)
+    subst (λ (p : Option Phase). IsSome p) (sym (put_there n v jobs held)) (some_is v)

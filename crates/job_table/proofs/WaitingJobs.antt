@@ -14,7 +14,7 @@ use Rattle.job_table.specs.declared.job.Job.{Job}
 use Rattle.job_table.specs.Jobs.{HeldJobs, job, phase_of, with_phase, without, is_waiting, is_running, waiting_jobs, running_jobs, or_waiting, first_waiting, IsFirstWaiting, Rise, Below}
 use Rattle.job_table.specs.WaitingJobs.{waiting_numbers, place_among, placed_among, taken, renewed, Climb, IsKept}
 use Rattle.job_table.specs.Steps.{most_jobs}
-use Rattle.job_table.proofs.JobLists.{above_apart, Stands, stands, with_there, without_there, rise_low, rise_more, rise_with, rise_without, rise_below}
+use Rattle.job_table.proofs.JobLists.{rise_le, above_apart, Stands, stands, with_there, without_there, rise_low, rise_more, rise_with, rise_without, rise_below}
 
 -- numbers that are all below one
 abbrev Under : ℕ → List ℕ → Type 0
@@ -249,17 +249,18 @@ module _ (jobs : HeldJobs) (first next : ℕ) (waiting : List ℕ) (room running
   gone_is n None at over = absurd over
 
   -- a new job
-  pub kept_add : (w : Phase) (room' running' : ℕ) → is_waiting w ≡ false → next < 2 ^ 63 → length jobs < most_jobs → length jobs + 1 ≤ room'
-      → running' + 0 ≡ running + cond (is_running w) 1 0 → IsKept (jobs ++ (next, w) ∷ []) first (next + 1) waiting room' running'
-  kept_add w room' running' waits below less more runs =
+  pub kept_add : (w : Phase) (waiting' : List ℕ) (room' running' : ℕ) → waiting' ≡ renewed next false (is_waiting w) waiting → next < 2 ^ 63 → length jobs < most_jobs
+      → length jobs + 1 ≤ room' → running' + 0 ≡ running + cond (is_running w) 1 0 → IsKept (jobs ++ (next, w) ∷ []) first (next + 1) waiting' room' running'
+  kept_add w waiting' room' running' waits below less more runs =
       let many : length (jobs ++ (next, w) ∷ []) ≡ length jobs + 1 = length-append jobs ((next, w) ∷ []) in
       record {
         begins = kept.begins;
         fits = omega (arith, below);
         rise = rise_more first next w jobs kept.rise;
         waiting_is =
-            kept.waiting_is
-            ∙ sym (waiting_by next w jobs [] ∙ ap (λ b. waiting_numbers jobs ++ cond b (next ∷ []) []) waits ∙ nothing_more (waiting_numbers jobs));
+            waits ∙ ap (renewed next false (is_waiting w)) (kept.waiting_is ∙ sym (nothing_more (waiting_numbers jobs)))
+            ∙ renewed_is next false (is_waiting w) (waiting_numbers jobs) [] (under_is next jobs (rise_below first next jobs next (omega arith) kept.rise)) tt
+            ∙ sym (waiting_by next w jobs []);
         room_is = omega (arith, many, more);
         running_is = omega (arith, counts is_running next w jobs [], kept.running_is, runs);
         few = omega (arith, many, less);
@@ -272,6 +273,23 @@ module _ (jobs : HeldJobs) (first next : ℕ) (waiting : List ℕ) (room running
   -- the new number is above all that are held
   pub all_below : Below next jobs
   all_below = rise_below first next jobs next (omega arith) kept.rise
+
+-- where no number was given, no job is held, and numbers may begin with another one
+empty_between : (low : ℕ) (jobs : HeldJobs) (high : ℕ) → high ≤ low → Rise low jobs high → jobs ≡ []
+empty_between low [] high le rise = refl
+empty_between low (e ∷ es) high le rise = absurd (omega (arith, le, rise.0, rise_le (e.0 + 1) es high rise.1))
+
+pub kept_begin : (jobs : HeldJobs) (first issued : ℕ) (waiting : List ℕ) (room running : ℕ) → IsKept jobs first (first + issued) waiting room running → issued ≡ 0
+    → (new : ℕ) → 1 ≤ new → new ≤ 2 ^ 62 → IsKept jobs new (new + issued) waiting room running
+kept_begin jobs first issued waiting room running kept none new some within = record {
+  begins = some;
+  fits = omega (arith, none, within);
+  rise = subst (λ (js : HeldJobs). Rise new js (new + issued)) (sym (empty_between first jobs (first + issued) (omega (arith, none)) kept.rise)) (omega arith);
+  waiting_is = kept.waiting_is;
+  room_is = kept.room_is;
+  running_is = kept.running_is;
+  few = kept.few;
+}
 
 -- the first number is that of the first job that waits
 not_first : (n : ℕ) (x : Phase) (other : Option Job) → is_waiting x ≡ false → or_waiting n x other ≡ other

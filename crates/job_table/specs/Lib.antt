@@ -5,3 +5,5 @@ pub mod History
 pub mod Laws
 pub mod Looks
 pub mod Ids
+pub mod Plans
+pub mod Remade

@@ -6,7 +6,9 @@ ghost use Rattle.job_table.specs.declared.calls.Reply.{Reply};
 ghost use Rattle.job_table.specs.declared.calls.Finish.TheVariants.{Kept};
 ghost use Rattle.job_table.specs.declared.job.Phase.TheVariants.{Issued, Running, Finished};
 ghost use Rattle.job_table.specs.Jobs.{Register, beginning, next_number, Rise, phase_of, with_phase, without, state_of, is_waiting, is_running, states, waiting_jobs, running_jobs, first_waiting, IsFirstWaiting, Below};
-ghost use Rattle.job_table.specs.Steps.{most_jobs, last_number, with_new, moved, forgotten, adds, added_reply, LeadsBy, claims, kills, outcome, sends, finishes};
+ghost use Rattle.job_table.specs.Plans.{has_room};
+ghost use Rattle.job_table.specs.Remade.{first_marked, settled};
+ghost use Rattle.job_table.specs.Steps.{most_jobs, last_number, with_new, moved, forgotten, adds, added_reply, LeadsBy, claims, kills, outcome, sends, finishes, is_marked};
 
 use crate::calls::{Finish, IssueFault, JobStates};
 use crate::job::{Job, Phase, State};
@@ -76,6 +78,13 @@ fn is_running(phase: &Phase) -> bool
     matches!(phase, Phase::Running { .. })
 }
 
+/// Whether a job in that phase runs and was asked to stop.
+fn is_marked(phase: &Phase) -> bool
+    ensures { result ≡ is_marked (Some phase.now) }
+{
+    matches!(phase, Phase::Running { marked: true, .. })
+}
+
 /// Puts a job that is held into another phase, and gives the one before.
 fn replace(phases: &mut BTreeMap<u64, Phase>, number: u64, phase: Phase) -> Phase
     requires { IsSome (phase_of number phases.old.entries) }
@@ -143,6 +152,16 @@ impl Jobs {
         ensures { result ≡ self.now.issued }
     {
         self.issued
+    }
+
+    /// Numbers begin with another one, where none was given.
+    pub(crate) fn begin(&mut self, first: u64)
+        requires none { self.old.issued ≡ 0 }
+        requires some { 1 ≤ first }
+        requires within { first ≤ 2 ^ 62 }
+        ensures { self.new ≡ record self.old { first = first } }
+    {
+        self.first = first;
     }
 
     /// How many workers are enlisted.
@@ -237,9 +256,15 @@ impl Jobs {
         Ok(all)
     }
 
+    /// Whether there is room for a new job, and a number is left.
+    pub(crate) fn has_room(&self) -> bool
+        ensures { result ≡ has_room self.now }
+    {
+        self.phases.len() < MOST_JOBS && self.first + self.issued <= LAST_NUMBER
+    }
+
     /// A new job, which has the next number.
     pub(crate) fn add(&mut self, phase: Phase) -> Result<u64, IssueFault>
-        requires { is_waiting phase ≡ false }
         ensures number { IfOk result (λ number. number ≡ next_number self.old) }
         ensures added { (said : Reply) → LeadsBy (adds phase said self.old) self.old (added_reply (λ _. said) result) self.new }
     {
@@ -255,11 +280,13 @@ impl Jobs {
             Ok(()) => {}
             Err(_) => return Err(IssueFault::Memory),
         }
+        let waits = is_waiting(&phase);
         let runs = is_running(&phase);
         match append(&mut self.phases, number, phase) {
             Ok(()) => {}
             Err(_) => return Err(IssueFault::Memory),
         }
+        renew(&mut self.waiting, number, false, waits);
         self.issued += 1;
         self.running = recount(self.running, false, runs);
         Ok(number)
@@ -368,6 +395,41 @@ impl Jobs {
             Phase::Waiting { .. } => unreachable!(),
             Phase::Finished(_) => unreachable!(),
             Phase::Killed => unreachable!(),
+        }
+    }
+
+    /// The number of the first job that runs and was asked to stop.
+    fn marked(&self) -> Option<u64>
+        ensures some { IfSome result (λ number. is_marked (phase_of number self.now.jobs) ≡ true) }
+        ensures none { IfNone result (settled self.now ≡ self.now) }
+    {
+        for (number, phase) in &self.phases {
+            if is_marked(phase) {
+                return Some(*number);
+            }
+        }
+        None
+    }
+
+    /// Kills each job that runs and was asked to stop.
+    pub(crate) fn settle(&mut self)
+        ensures { self.new ≡ settled self.old }
+    {
+        while self.kill_marked() {}
+    }
+
+    /// Kills the first job that runs and was asked to stop; false where there is none.
+    fn kill_marked(&mut self) -> bool
+        ensures still { settled self.new ≡ settled self.old }
+        ensures fewer { result ≡ true → running_jobs self.new.jobs + 1 ≡ running_jobs self.old.jobs }
+        ensures none { result ≡ false → settled self.new ≡ self.new }
+    {
+        match self.marked() {
+            Some(number) => {
+                self.put(number, Phase::Killed);
+                true
+            }
+            None => false,
         }
     }
 

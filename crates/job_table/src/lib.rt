@@ -25,6 +25,8 @@ mod job;
 mod jobs;
 mod laws;
 pub mod moves;
+mod plans;
+mod remade;
 mod table;
 mod texts;
 mod waiting;
@@ -37,6 +39,8 @@ pub use calls::{
 pub use ids::{read_id, write_id};
 pub use job::{Job, Phase, State};
 pub use laws::{documents_are_right, first_finish_is_kept, given_jobs_run, numbers_are_given_once};
+pub use plans::plans_are_so;
+pub use remade::Remade;
 pub use table::Table;
 pub use texts::{SharedText, Twin};
 pub use watch::CallsWatch;

@@ -16,9 +16,9 @@ use std::marker::{Model, PhantomData};
 /// numbers were given, and how many workers are enlisted. What finds no memory leaves the table as it was.
 #[derive(Drop)]
 pub struct Table<V: Verdicts> {
-    alloc: Global,
-    jobs: Jobs,
-    verdicts: PhantomData<V>,
+    pub(crate) alloc: Global,
+    pub(crate) jobs: Jobs,
+    pub(crate) verdicts: PhantomData<V>,
 }
 
 impl<V: Verdicts> Model for Table<V> {

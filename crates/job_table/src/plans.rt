@@ -1,0 +1,118 @@
+//! What a move would change, before it is made.
+
+ghost use Rattle.std.specs.Prelude.{◌≡◌, Some, None, if◌then◌else◌};
+ghost use Rattle.std.specs.Option.{option_map, option_copied};
+ghost use Rattle.effects.specs.Records.{Deed, deed_of, paper_of};
+ghost use Rattle.job_table.specs.Plans.{planned, has_room, takes_texts, killed_of, finished_of, PlansSo};
+ghost use Rattle.job_table.specs.Jobs.{phase_of};
+
+use crate::calls::{Call, Verdicts};
+use crate::job::{Job, Phase};
+use crate::table::Table;
+use crate::texts::SharedText;
+use effects::{Document, Effect};
+
+/// The document of a finish.
+fn document_of(document: &Option<SharedText>) -> Document<'_>
+    ensures { paper_of result ≡ document.now }
+{
+    match document {
+        Some(text) => Document::Kept {
+            text: text.as_slice(),
+        },
+        None => Document::Missing,
+    }
+}
+
+/// What a kill of a job in that phase changes.
+fn killing_of<'a>(number: u64, phase: Option<&Phase>) -> Option<Effect<'a>>
+    ensures { option_map deed_of result ≡ killed_of number (option_copied phase.entry) }
+{
+    match phase {
+        Some(Phase::Issued) => Some(Effect::Killed { number }),
+        Some(Phase::Waiting { .. }) => Some(Effect::Killed { number }),
+        Some(Phase::Running { marked, .. }) => {
+            if *marked {
+                return None;
+            }
+            Some(Effect::Marked { number })
+        }
+        Some(Phase::Finished(_)) => Some(Effect::GivenUp { number }),
+        Some(Phase::Killed) => Some(Effect::GivenUp { number }),
+        None => None,
+    }
+}
+
+/// Whether a finish of a job in that phase is kept.
+fn is_kept(job: &Job, asked: bool, phase: Option<&Phase>) -> bool
+    ensures { (d : Deed) → finished_of job.now asked (option_copied phase.entry) d ≡ (if result then Some d else None) }
+{
+    match phase {
+        Some(Phase::Running { osil, osol, marked }) => {
+            job.osil.as_slice() == osil.as_slice()
+                && job.osol.as_slice() == osol.as_slice()
+                && !(asked && !*marked)
+        }
+        Some(Phase::Issued) => false,
+        Some(Phase::Waiting { .. }) => false,
+        Some(Phase::Finished(_)) => false,
+        Some(Phase::Killed) => false,
+        None => false,
+    }
+}
+
+/// Whether a job in that phase takes texts.
+pub(crate) fn takes_texts(phase: Option<&Phase>) -> bool
+    ensures { result ≡ takes_texts (option_copied phase.entry) }
+{
+    matches!(phase, Some(Phase::Issued))
+}
+
+/// An effect, where there is one.
+fn only_if(is: bool, effect: Effect<'_>) -> Option<Effect<'_>>
+    ensures { option_map deed_of result ≡ (if is then Some (deed_of effect.entry) else None) }
+{
+    if is { Some(effect) } else { None }
+}
+
+impl<V: Verdicts> Table<V> {
+    /// The effect that a move has in this table, where it has one. It takes no memory, and changes nothing.
+    pub fn plan<'a>(&self, call: &'a Call) -> Option<Effect<'a>>
+        ensures { option_map deed_of result ≡ planned call.now self.now }
+    {
+        match call {
+            Call::Issue => only_if(self.jobs.has_room(), Effect::Issue),
+            Call::Send { number, osil, osol } => {
+                let (number, osil, osol) = (*number, osil.as_slice(), osol.as_slice());
+                let sent = Effect::Send { number, osil, osol };
+                only_if(takes_texts(self.jobs.phase(number)), sent)
+            }
+            Call::Enter { osil, osol } => {
+                let (osil, osol) = (osil.as_slice(), osol.as_slice());
+                only_if(self.jobs.has_room(), Effect::Enter { osil, osol })
+            }
+            Call::Finish {
+                job,
+                asked,
+                document,
+            } => {
+                let (number, document) = (job.number, document_of(document));
+                let kept = is_kept(job, *asked, self.jobs.phase(number));
+                only_if(kept, Effect::Finish { number, document })
+            }
+            Call::Kill { number } => killing_of(*number, self.jobs.phase(*number)),
+            Call::Claim { .. } => None,
+            Call::Look { .. } => None,
+            Call::Retrieve { .. } => None,
+            Call::Knock => None,
+            Call::Enlist => None,
+            Call::Leave => None,
+        }
+    }
+}
+
+/// Law: where numbers rise, the effect of each move leads from what effects see of the table to what they see of it after the
+/// move; a move without one changes nothing of that.
+pub fn plans_are_so()
+    ensures { PlansSo }
+{}
