@@ -1,52 +1,53 @@
 -- Written items are read as what they say.
-use Rattle.std.proofs.Common.{◌≡◌, ℕ, ◌^◌, ◌<◌, List, [], ◌∷◌, ◌++◌, map, refl, ap}
-use Rattle.std.specs.Prelude.{codes, decimal, flat_map}
-use Rattle.std.specs.Fmt.{signed_decimal}
-use Rattle.std.specs.List.{All, AllZip}
-use Rattle.std.proofs.lemmas.List.Elements.{All-nil, All-cons, All-head, All-tail}
-use Rattle.fraction.specs.Frac.{ratio}
-use Rattle.fraction.specs.declared.frac.Frac.{Frac}
-use Rattle.decimal_text.specs.Exact.{ratio_text}
-use Rattle.certificate.specs.declared.lists.Mult.{Mult}
-use Rattle.certificate.specs.declared.nodes.Node.{Node}
+use Rattle.osrl_grammar.proofs.Names.{◌≡◌, ◌∙◌, ℕ, ◌^◌, ◌<◌, true, Option, List, [], ◌∷◌, ◌++◌, map, refl, ap, sym, subst, arith, append-nil, codes, decimal, flat_map, signed_decimal, All, AllZip, All-head, All-tail, ratio, Frac, ratio_text, Mult, Node, Step, IsFree, pieces, Pair, step_text, node_word, IsMultOf, IsMult, IsOne, IsPlace, IsFraction, node_head, SaysNode, Begins, IsNode, IsCause, mult_text, node_text, cause_text, fraction_texts, HaveColumns, NodeComesBack, CauseComesBack}
 use Rattle.certificate.specs.declared.nodes.Node.TheVariants as nodes
 use Rattle.certificate.specs.declared.causes.Cause as why
 use Rattle.certificate.specs.declared.causes.Cause.TheVariants as causes
-use Rattle.osrl_grammar.specs.Items.{Pair, IsPairText, pair_text, Split, Clash, Farkas, Bound, Killed, NodeLimit, TurnLimit, Wide, Length, Memory}
-use Rattle.osrl_grammar.specs.Values.{IsMult, IsFraction, IsNode, IsCause}
-use Rattle.osrl_grammar.specs.Writing.{mult_text, node_text, cause_text, fraction_texts}
-use Rattle.osrl_grammar.specs.Back.{HaveColumns, NodeComesBack, CauseComesBack}
+use Rattle.certificate.specs.declared.causes.Step.TheVariants as steps
+use Rattle.osrl_grammar.proofs.Wholes.{free_cons, free_append}
+use Rattle.osrl_grammar.proofs.PieceTexts.{pieces_free, pieces_cut, parted_cut, is_without, seen_free}
 use Rattle.osrl_grammar.proofs.BackNumbers.{fraction_back, whole_back, index_back, turn_back, decimal_spaceless, decimal_colonless, signed_spaceless, ratio_spaceless}
 
--- the pair that a multiplier is written as
-abbrev pair_of : Mult → Pair
-pair_of m = record { column = decimal m.col; factor = ratio_text (ratio m.value) }
+-- the piece that a multiplier is written as
+abbrev piece_of : Mult → List ℕ
+piece_of m = decimal m.col ++ 58 ∷ ratio_text (ratio m.value)
 
-pairs_text : (ms : List Mult) → flat_map mult_text ms ≡ flat_map pair_text (map pair_of ms)
-pairs_text [] = refl
-pairs_text (m ∷ ms) = ap (λ (l : List ℕ). mult_text m ++ l) (pairs_text ms)
+piece_free : (m : Mult) → IsFree 32 (piece_of m)
+piece_free m = free_append 32 (decimal m.col) (58 ∷ ratio_text (ratio m.value)) (decimal_spaceless m.col) (free_cons 32 58 (ratio_text (ratio m.value)) (λ e. omega (arith, e)) (ratio_spaceless (ratio m.value)))
 
-are_pairs : (ms : List Mult) → All IsPairText (map pair_of ms)
-are_pairs [] = All-nil IsPairText
-are_pairs (m ∷ ms) = All-cons IsPairText (pair_of m) (map pair_of ms) (decimal_spaceless m.col, decimal_colonless m.col, ratio_spaceless (ratio m.value)) (are_pairs ms)
+mults_pieces : (w : List ℕ) (ms : List Mult) → IsFree 32 w → pieces (w ++ flat_map mult_text ms) ≡ w ∷ map piece_of ms
+mults_pieces w [] free = ap pieces (append-nil w) ∙ pieces_free w free
+mults_pieces w (m ∷ ms) free = pieces_cut w (piece_of m ++ flat_map mult_text ms) free ∙ ap (λ (l : List (List ℕ)). w ∷ l) (mults_pieces (piece_of m) ms (piece_free m))
 
-mults_back : (ms : List Mult) → HaveColumns ms → AllZip IsMult (map pair_of ms) ms
+mults_back : (ms : List Mult) → HaveColumns ms → AllZip IsMult (map piece_of ms) ms
 mults_back [] columns = tt
-mults_back (m ∷ ms) columns = ((index_back m.col (All-head (λ (m : Mult). m.col < 2 ^ 32) m ms columns), fraction_back m.value), mults_back ms (All-tail (λ (m : Mult). m.col < 2 ^ 32) m ms columns))
+mults_back (m ∷ ms) columns = (
+  subst (λ (o : Option Pair). IsMultOf o m) (sym (parted_cut (decimal m.col) (ratio_text (ratio m.value)) (decimal_colonless m.col))) (index_back m.col (All-head (λ (m : Mult). m.col < 2 ^ 32) m ms columns), fraction_back m.value),
+  mults_back ms (All-tail (λ (m : Mult). m.col < 2 ^ 32) m ms columns),
+)
 
 pub node_back : (n : Node) → NodeComesBack n → IsNode (node_text n) n
-node_back (nodes.Split j k) back = (Split (decimal j) (signed_decimal k), (refl, (decimal_spaceless j, signed_spaceless k)), (decimal j, signed_decimal k, refl, index_back j back.0, whole_back k back.1))
-node_back (nodes.Clash c) back = (Clash (decimal c), (refl, decimal_spaceless c), (decimal c, refl, index_back c back))
-node_back (nodes.Farkas ms) back = (Farkas (map pair_of ms), (ap (λ (l : List ℕ). codes "farkas" ++ l) (pairs_text ms), are_pairs ms), (map pair_of ms, refl, mults_back ms back))
-node_back (nodes.Bound ms) back = (Bound (map pair_of ms), (ap (λ (l : List ℕ). codes "bound" ++ l) (pairs_text ms), are_pairs ms), (map pair_of ms, refl, mults_back ms back))
+node_back (nodes.Split j k) back =
+    let behind = pieces_cut (decimal j) (signed_decimal k) (decimal_spaceless j) ∙ ap (λ (l : List (List ℕ)). decimal j ∷ l) (pieces_free (signed_decimal k) (signed_spaceless k)) in
+    (refl, subst (SaysNode (nodes.Split j k)) (sym behind) (index_back j back.0, whole_back k back.1))
+node_back (nodes.Clash c) back = (refl, subst (SaysNode (nodes.Clash c)) (sym (pieces_free (decimal c) (decimal_spaceless c))) (index_back c back))
+node_back (nodes.Farkas ms) back = subst (λ (l : List (List ℕ)). Begins node_word node_head SaysNode l (nodes.Farkas ms)) (sym (mults_pieces (codes "farkas") ms (seen_free 32 (codes "farkas") refl))) (refl, mults_back ms back)
+node_back (nodes.Bound ms) back = subst (λ (l : List (List ℕ)). Begins node_word node_head SaysNode l (nodes.Bound ms)) (sym (mults_pieces (codes "bound") ms (seen_free 32 (codes "bound") refl))) (refl, mults_back ms back)
+
+step_spaceless : (s : Step) → IsFree 32 (step_text s)
+step_spaceless s = seen_free 32 (step_text s) (elim s as (λ (r : Step). is_without 32 (step_text r) ≡ true) [ steps.Values ↦ refl | steps.Ratio ↦ refl | steps.Pivot ↦ refl | steps.Point ↦ refl | steps.Ray ↦ refl | steps.Check ↦ refl ])
 
 pub cause_back : (c : why.Cause) → CauseComesBack c → IsCause (cause_text c) c
-cause_back causes.Killed back = (Killed, (refl, tt), refl)
-cause_back (causes.NodeLimit n) back = (NodeLimit (decimal n), (refl, decimal_spaceless n), (decimal n, refl, index_back n back))
-cause_back (causes.TurnLimit n) back = (TurnLimit (decimal n), (refl, decimal_spaceless n), (decimal n, refl, index_back n back))
-cause_back (causes.Wide p) back = (Wide (decimal p.node) (decimal p.turn) p.step, (refl, (decimal_spaceless p.node, decimal_spaceless p.turn)), (decimal p.node, decimal p.turn, refl, index_back p.node back.0, turn_back p.turn back.1))
-cause_back causes.Length back = (Length, (refl, tt), refl)
-cause_back causes.Memory back = (Memory, (refl, tt), refl)
+cause_back causes.Killed back = (refl, refl)
+cause_back (causes.NodeLimit n) back = (refl, subst (λ (l : List (List ℕ)). IsOne l n) (sym (pieces_free (decimal n) (decimal_spaceless n))) (index_back n back))
+cause_back (causes.TurnLimit n) back = (refl, subst (λ (l : List (List ℕ)). IsOne l n) (sym (pieces_free (decimal n) (decimal_spaceless n))) (index_back n back))
+cause_back (causes.Wide p) back =
+    let last = ap (λ (l : List (List ℕ)). decimal p.turn ∷ l) (pieces_free (step_text p.step) (step_spaceless p.step)) in
+    let turn = pieces_cut (decimal p.turn) (step_text p.step) (decimal_spaceless p.turn) ∙ last in
+    let behind = pieces_cut (decimal p.node) (decimal p.turn ++ (32 ∷ step_text p.step)) (decimal_spaceless p.node) ∙ ap (λ (l : List (List ℕ)). decimal p.node ∷ l) turn in
+    (refl, subst (λ (l : List (List ℕ)). IsPlace l p) (sym behind) (index_back p.node back.0, turn_back p.turn back.1, refl))
+cause_back causes.Length back = (refl, refl)
+cause_back causes.Memory back = (refl, refl)
 
 pub fractions_back : (xs : List Frac) → AllZip IsFraction (fraction_texts xs) xs
 fractions_back [] = tt

@@ -1,31 +1,12 @@
 -- The nodes of a written solution are nodes of XML.
-use Rattle.std.proofs.Common.{◌≡◌, ℕ, suc, ◌+◌, ◌-◌, nat_lt, Bool, true, false, cond, List, [], ◌∷◌, map, length, refl, subst}
-use Rattle.std.specs.Prelude.{codes, decimal}
-use Rattle.std.specs.List.{All}
-use Rattle.std.proofs.lemmas.List.Elements.{All-nil, All-cons, All-head, All-tail}
-use Rattle.tree_grammar.specs.Characters.{IsXmlText, Each, local_part}
-use Rattle.tree_grammar.specs.Elements.{Attribute, Nodes, none, element, chars}
-use Rattle.element_tree.proofs.XmlTexts.{Printable, list_printable}
-use Rattle.fraction.specs.Frac.{ratio}
-use Rattle.fraction.specs.declared.frac.Frac.{Frac}
-use Rattle.certificate.specs.declared.lists.Mult.{Mult}
-use Rattle.certificate.specs.declared.nodes.Node.{Node}
-use Rattle.certificate.specs.declared.nodes.Node.TheVariants.{Split, Clash, Farkas, Bound}
+use Rattle.osrl_grammar.proofs.Names.{◌≡◌, ℕ, suc, ◌+◌, ◌-◌, nat_lt, Bool, true, false, cond, List, [], ◌∷◌, map, length, refl, subst, codes, decimal, All, All-nil, All-cons, All-head, All-tail, IsXmlText, Each, Attribute, Nodes, none, element, chars, Printable, list_printable, ratio, Frac, Mult, Node, Split, Clash, Farkas, Bound, Claim, Optimal, Infeasible, Unbounded, BestSoFar, Unsure, Part, Claiming, cut_text, part_name, claiming_text, text_nodes, leaf, group, typed, indexed, variable_values, row_values, values_part, values_part_unless_none, point_values, dual_values, node_text, cause_text, item_nodes, certificate_part, fraction_texts, point_parts, ray_part, tree_part, cause_part, solution, claim_nodes, printable_text, decimal_printable, none_flat}
+use Rattle.tree_grammar.specs.Characters.{local_part}
 use Rattle.certificate.specs.declared.causes.Cause.{Cause}
-use Rattle.certificate.specs.declared.claims.Claim.{Claim}
-use Rattle.certificate.specs.declared.claims.Claim.TheVariants.{Optimal, Infeasible, Unbounded, BestSoFar, Unsure}
-use Rattle.osrl_grammar.specs.declared.parts.Part.{Part}
 use Rattle.osrl_grammar.specs.declared.parts.Part.TheVariants as parts
-use Rattle.osrl_grammar.specs.declared.parts.Claiming.{Claiming}
 use Rattle.osrl_grammar.specs.declared.parts.Claiming.TheVariants as claiming
-use Rattle.osrl_grammar.specs.Cuts.{cut_text}
-use Rattle.osrl_grammar.specs.Parts.{part_name}
-use Rattle.osrl_grammar.specs.Refusals.{claiming_text}
-use Rattle.document_tags.specs.Writing.{only, text_nodes, leaf, group, typed}
-use Rattle.osrl_grammar.specs.Writing.{indexed, variable_values, row_values, values_part, values_part_unless_none, point_values, dual_values, node_text, cause_text, item_nodes, certificate_part, fraction_texts, point_parts, ray_part, tree_part, cause_part, solution, claim_nodes}
+use Rattle.document_tags.specs.Writing.{only}
 use Rattle.element_tree.specs.WritableElements.{kept_attributes}
-use Rattle.document_tags.proofs.PrintableTexts.{printable_text, decimal_printable}
-use Rattle.document_tags.proofs.XmlNodes.{is_tag, AreTexts, AreFlat, none_flat, text_flat, element_flat}
+use Rattle.document_tags.proofs.XmlNodes.{is_tag, AreTexts, AreFlat, text_flat, element_flat}
 use Rattle.osrl_grammar.proofs.BackTexts.{cut_printable, cause_printable, fractions_xml, nodes_xml}
 
 -- nodes of XML without prefixes, of which at most so many stand in one another

@@ -1,21 +1,8 @@
 -- Written numbers are read as the numbers that they are.
-use Rattle.std.proofs.Common.{◌≢◌, ℕ, ◌^◌, ◌<◌, ◌≤◌, ℤ, pos, List, [], ◌∷◌, refl, subst, append-nil, arith, lit≤}
-use Rattle.std.specs.Prelude.{decimal, unsigned_abs}
-use Rattle.std.specs.Fmt.{signed_decimal}
+use Rattle.osrl_grammar.proofs.Names.{◌≢◌, ℕ, ◌^◌, ◌<◌, ◌≤◌, ℤ, pos, List, [], ◌∷◌, refl, subst, append-nil, arith, lit≤, decimal, unsigned_abs, signed_decimal, All-nil, All-cons, Each, Ratio, whole, most, IsReduced, IsWithin, ratio, Frac, ratio_text, RatioText, IsFree, Index, Turn, Whole, IsNumberText, IsFraction, decimal_each, signed_each}
 use Rattle.std.proofs.Math.Nat.{one-dvd}
-use Rattle.std.proofs.lemmas.List.Elements.{All-nil, All-cons}
-use Rattle.tree_grammar.specs.Characters.{Each}
-use Rattle.rational.specs.Ratio.{Ratio, whole}
-use Rattle.rational.specs.Width.{most, IsReduced, IsWithin}
-use Rattle.fraction.specs.Frac.{ratio}
-use Rattle.fraction.specs.declared.frac.Frac.{Frac}
-use Rattle.decimal_text.specs.Exact.{ratio_text, RatioText}
 use Rattle.decimal_text.proofs.OneRatio.{written_ratio}
-use Rattle.osrl_grammar.specs.Items.{IsFree}
-use Rattle.osrl_grammar.specs.Numbers.{Index, Turn, Whole, IsNumberText}
-use Rattle.osrl_grammar.specs.Values.{IsFraction}
 use Rattle.osrl_grammar.proofs.ItemRatios.{exact_read}
-use Rattle.document_tags.proofs.PrintableTexts.{decimal_each, signed_each}
 use Rattle.osrl_grammar.proofs.BackTexts.{ratio_each}
 
 pub fraction_back : (x : Frac) → IsFraction (ratio_text (ratio x)) x

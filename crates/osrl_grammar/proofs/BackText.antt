@@ -1,21 +1,8 @@
 -- The text of a report is a document.
-use Rattle.std.proofs.Common.{ℕ, Bool, true, false, Option, None, Some, List, refl, lit≤}
-use Rattle.std.specs.Prelude.{codes}
-use Rattle.tree_grammar.specs.Characters.{Each}
-use Rattle.tree_grammar.specs.Elements.{Nodes, none, Element}
-use Rattle.element_tree.proofs.XmlTexts.{Printable, list_printable}
-use Rattle.document_tags.specs.Texts.{IsDocument}
+use Rattle.osrl_grammar.proofs.Names.{ℕ, Bool, true, false, Option, None, Some, List, refl, lit≤, codes, Each, Nodes, none, Element, Printable, list_printable, IsDocument, printable_text, none_flat, Claim, JobStatus, Report, status_text, leaf, group, leaf_of, claim_nodes, optimization, general_type, general_nodes, status_nodes, report_element, report_text, IsBareOrNone, ComesBack}
 use Rattle.document_tags.specs.Writing.{bare_root}
-use Rattle.document_tags.proofs.PrintableTexts.{printable_text}
-use Rattle.document_tags.proofs.XmlNodes.{none_flat, still_flat, root_is_document}
-use Rattle.certificate.specs.declared.claims.Claim.{Claim}
-use Rattle.osrl_grammar.specs.declared.report.JobStatus.{JobStatus}
+use Rattle.document_tags.proofs.XmlNodes.{still_flat, root_is_document}
 use Rattle.osrl_grammar.specs.declared.report.JobStatus.TheVariants as statuses
-use Rattle.osrl_grammar.specs.declared.report.Report.{Report}
-use Rattle.osrl_grammar.specs.Refusals.{status_text}
-use Rattle.document_tags.specs.Writing.{leaf, group}
-use Rattle.osrl_grammar.specs.Writing.{leaf_of, claim_nodes, optimization, general_type, general_nodes, status_nodes, report_element, report_text}
-use Rattle.osrl_grammar.specs.Back.{IsBareOrNone, ComesBack}
 use Rattle.osrl_grammar.proofs.BackNodes.{Flat, leaf_flat, group_flat, typed_flat, claim_flat}
 
 type_printable : (error : Bool) → Each Printable (general_type error)

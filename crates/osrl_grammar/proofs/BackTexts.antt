@@ -1,29 +1,12 @@
 -- The texts of numbers, items and statuses are characters of XML.
-use Rattle.std.proofs.Common.{ℕ, ◌+◌, ◌/◌, ◌%◌, ◌^◌, ◌==◌, Bool, true, false, cond, List, [], ◌∷◌, ◌++◌, map, drop, reverse, refl, sym, subst, lit<, lit≤}
-use Rattle.std.specs.Prelude.{codes, decimal, flat_map}
-use Rattle.std.specs.Fmt.{signed_decimal}
-use Rattle.std.specs.List.{All}
-use Rattle.std.proofs.lemmas.List.{reverse-append}
-use Rattle.std.proofs.lemmas.List.Elements.{All-nil, All-cons}
-use Rattle.tree_grammar.specs.Characters.{IsXmlText, Each}
-use Rattle.element_tree.proofs.XmlTexts.{Printable, each_append, list_printable}
-use Rattle.rational.specs.Ratio.{Ratio}
-use Rattle.fraction.specs.Frac.{ratio}
-use Rattle.fraction.specs.declared.frac.Frac.{Frac}
-use Rattle.decimal_text.specs.Sign.{optional}
-use Rattle.decimal_text.specs.Plain.{point_text}
-use Rattle.decimal_text.specs.Exact.{denominator_text, ratio_text}
-use Rattle.certificate.specs.declared.lists.Mult.{Mult}
-use Rattle.certificate.specs.declared.nodes.Node.{Node}
-use Rattle.certificate.specs.declared.nodes.Node.TheVariants.{Split, Clash, Farkas, Bound}
+use Rattle.osrl_grammar.proofs.Names.{ℕ, ◌+◌, ◌/◌, ◌%◌, ◌^◌, ◌==◌, Bool, true, false, cond, List, [], ◌∷◌, ◌++◌, map, drop, reverse, refl, sym, subst, lit≤, codes, decimal, flat_map, signed_decimal, All, reverse-append, All-nil, All-cons, IsXmlText, Each, Printable, list_printable, Ratio, ratio, Frac, optional, point_text, ratio_text, Mult, Node, Split, Clash, Farkas, Bound, Step, without_zeros, decimals, cut_size, has_sign, cut_text, step_text, mult_text, node_text, cause_text, fraction_texts, decimal_each, signed_each, decimal_printable, printable_text}
+use Rattle.std.proofs.Common.{lit<}
+use Rattle.element_tree.proofs.XmlTexts.{each_append}
+use Rattle.decimal_text.specs.Exact.{denominator_text}
 use Rattle.certificate.specs.declared.causes.Cause.{Cause}
 use Rattle.certificate.specs.declared.causes.Cause.TheVariants as causes
-use Rattle.certificate.specs.declared.causes.Step.{Step}
 use Rattle.certificate.specs.declared.causes.Step.TheVariants as steps
-use Rattle.osrl_grammar.specs.Cuts.{without_zeros, decimals, cut_size, has_sign, cut_text}
-use Rattle.osrl_grammar.specs.Items.{step_text}
-use Rattle.osrl_grammar.specs.Writing.{mult_text, node_text, cause_text, fraction_texts}
-use Rattle.document_tags.proofs.PrintableTexts.{HoldsOfDigits, decimal_each, signed_each, digits_printable, decimal_printable, signed_printable, printable_text}
+use Rattle.document_tags.proofs.PrintableTexts.{HoldsOfDigits, digits_printable, signed_printable}
 
 denominator_each : (P : ℕ → Type 0) → HoldsOfDigits P → P 47 → (b : Bool) (d : ℕ) → Each P (cond b [] (47 ∷ decimal d))
 denominator_each P of_digits over true d = tt

@@ -1,18 +1,6 @@
 -- A text that was read without the white space round it is bare, or there is none.
-use Rattle.std.proofs.Common.{◌≡◌, ◌∙◌, ℕ, ◌<◌, Bool, true, false, cond, List, [], ◌∷◌, ◌++◌, refl, ap, sym, subst, arith, append-nil}
-use Rattle.std.specs.Prelude.{reverse, slice_get}
-use Rattle.std.specs.List.{All}
-use Rattle.std.proofs.lemmas.Bool.Decides.{nat_tests}
-use Rattle.std.proofs.lemmas.List.{reverse-append, reverse-reverse}
-use Rattle.std.proofs.lemmas.List.Elements.{All-head}
-use Rattle.tree_grammar.specs.Characters.{IsXmlText, Each}
-use Rattle.tree_grammar.specs.Elements.{Element}
-use Rattle.decimal_text.specs.Space.{is_space, without_leading_space, trimmed}
-use Rattle.document_tags.specs.Elements.{own_text, unless_empty}
-use Rattle.document_tags.specs.Characters.{IsOfCharacters}
-use Rattle.osrl_grammar.specs.Grounds.{TextsAreOfCharacters}
-use Rattle.osrl_grammar.specs.Meaning.{text_in}
-use Rattle.osrl_grammar.specs.Back.{IsBareOrNone}
+use Rattle.osrl_grammar.proofs.Names.{◌≡◌, ◌∙◌, ℕ, ◌<◌, Bool, true, false, cond, List, [], ◌∷◌, ◌++◌, refl, ap, sym, subst, arith, append-nil, reverse, nat_tests, reverse-append, reverse-reverse, IsXmlText, Each, trimmed, unless_empty, TextsAreOfCharacters, IsBareOrNone}
+use Rattle.decimal_text.specs.Space.{is_space, without_leading_space}
 
 -- no white space stands first
 abbrev BeginsPlain : List ℕ → Type 0
@@ -96,15 +84,10 @@ module _ (ground : TextsAreOfCharacters) where
   trimmed_text : (s : List ℕ) → IsXmlText s → IsXmlText (trimmed s)
   trimmed_text s text = let t = trails (without_leading_space s) in before_space (trimmed s) t.space t.spaced (subst IsXmlText t.whole (lead_text s text))
 
-  bare_of : (s t : List ℕ) → trimmed s ≡ t → IsXmlText s → IsBareOrNone (unless_empty t)
+  pub bare_of : (s t : List ℕ) → trimmed s ≡ t → IsXmlText s → IsBareOrNone (unless_empty t)
   bare_of s [] e text = tt
   bare_of s (c ∷ cs) e text = record {
     some = λ none. cc;
     bare = ap trimmed (sym e) ∙ trimmed_again s ∙ e;
     characters = subst IsXmlText e (trimmed_text s text);
   }
-
-  -- what the first of these elements says, if there is one
-  pub first_bare : (es : List Element) → All IsOfCharacters es → IsBareOrNone (text_in (slice_get es 0))
-  first_bare [] is = tt
-  first_bare (e ∷ es) is = bare_of (own_text e) (trimmed (own_text e)) refl (ground.own e (All-head IsOfCharacters e es is))

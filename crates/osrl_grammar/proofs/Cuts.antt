@@ -1,9 +1,7 @@
 -- A number has one text that is cut after twelve decimals.
-use Rattle.std.proofs.Common.{◌≡◌, ◌≢◌, ◌∙◌, ℕ, zero, suc, ◌+◌, ◌-◌, ◌*◌, ◌/◌, ◌%◌, ◌^◌, ◌<◌, ◌==◌, Bool, true, false, cond, not, ℤ, pos, negsuc, ◌*ℤ◌, List, [], ◌∷◌, ◌++◌, length, get_or, take, drop, reverse, replicate, decimal, refl, ap, ap₂, sym, subst, arith, append_assoc, append-nil, ne_eqb, neg_ℤ, leb, leb-true, leb-false}
-use Rattle.std.specs.Prelude.{unsigned_abs}
-use Rattle.std.specs.Char.{digit_value}
-use Rattle.std.specs.Str.Parse.{AllDigits, digits_value, digits_value_after}
-use Rattle.std.proofs.lemmas.List.{reverse-append, reverse-reverse, take_all, take_more}
+use Rattle.osrl_grammar.proofs.Names.{◌≡◌, ◌≢◌, ◌∙◌, ℕ, zero, suc, ◌+◌, ◌-◌, ◌*◌, ◌/◌, ◌%◌, ◌^◌, ◌<◌, ◌==◌, Bool, true, false, cond, ℤ, pos, negsuc, List, [], ◌∷◌, ◌++◌, length, get_or, take, drop, reverse, decimal, refl, ap, ap₂, sym, subst, arith, append_assoc, append-nil, ne_eqb, neg_ℤ, unsigned_abs, digit_value, AllDigits, digits_value, digits_value_after, reverse-append, reverse-reverse, take_all, Ratio, signed, optional, point_text, without_zeros, decimals, cut_size, has_sign, cut_text}
+use Rattle.std.proofs.Common.{not, ◌*ℤ◌, replicate, leb, leb-true, leb-false}
+use Rattle.std.proofs.lemmas.List.{take_more}
 use Rattle.std.proofs.Math.Nat.{eq_of_mul-eq-mul_right, mul-lt-mul_of_pos_right}
 use Rattle.decimal_text.proofs.Powers.{ten_power}
 use Rattle.std.proofs.lemmas.Nat.{pow-add, div-mul-add, mod-mul-add}
@@ -11,12 +9,8 @@ use Rattle.std.proofs.lemmas.Int.Digits.{digits_value-lt}
 use Rattle.std.proofs.lemmas.Str.Parse.{numerals_by_value, tells_digits, digit_at}
 use Rattle.std.proofs.lemmas.Fmt.{decimal-digits_value}
 use Rattle.decimal_text.proofs.Numerals.{AllDigits-append, after-append, number_more, is_digit}
-use Rattle.rational.specs.Ratio.{Ratio}
-use Rattle.rational.specs.Whole.{signed}
 use Rattle.rational.proofs.Signs.{signed-mul, unsigned_abs-signed}
-use Rattle.decimal_text.specs.Sign.{optional}
-use Rattle.decimal_text.specs.Plain.{PlainText, point_text, cut12_of, cut12}
-use Rattle.osrl_grammar.specs.Cuts.{without_zeros, decimals, cut_size, has_sign, cut_text}
+use Rattle.decimal_text.specs.Plain.{PlainText, cut12_of, cut12}
 
 -- ten to one more
 tens : (n : ℕ) → 10 ^ suc n ≡ 10 * 10 ^ n

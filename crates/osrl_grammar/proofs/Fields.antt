@@ -1,124 +1,71 @@
--- What is wrong with texts in place of numbers.
-use Rattle.std.proofs.Common.{◌≡◌, ◌∙◌, ◌⊎◌, inl, inr, Option, None, Some, Result, Ok, Err, List, [], ◌∷◌, ◌++◌, ℕ, pos, ap, sym, subst}
-use Rattle.std.specs.Prelude.{flat_map, IfOk, IfErr, MatchOption}
-use Rattle.std.specs.List.{All, AllZip}
-use Rattle.std.proofs.lemmas.Grind.{flat_map-append}
-use Rattle.std.proofs.lemmas.List.{append-nil}
-use Rattle.std.proofs.lemmas.List.Elements.{All-nil, All-cons, All-head, All-tail, All-append}
-use Rattle.rational.specs.Ratio.{Ratio, whole}
-use Rattle.fraction.specs.Frac.{ratio}
-use Rattle.decimal_text.proofs.OneRatio.{ratio_once}
-use Rattle.certificate.specs.declared.lists.Mult.{Mult}
-use Rattle.osrl_grammar.specs.declared.parts.Unread.{Unread}
-use Rattle.osrl_grammar.specs.declared.parts.Unread.TheVariants.{NoShape, NoNumber, TooGreat}
-use Rattle.osrl_grammar.specs.Numbers.{Kind, Index, Exact, FitsKind, IsNumberText, Field, IsWritten, IsFieldRead}
-use Rattle.osrl_grammar.specs.Items.{Item, Shape, HasShape, item_fields, Pair, pair_fields, IsItemUnread}
-use Rattle.osrl_grammar.specs.Values.{IsMult}
-use Rattle.osrl_grammar.specs.Fields.{IsNot, AreNot, AreFieldsRead}
-use Rattle.osrl_grammar.specs.Pieces.{SoFar, IsPairRead}
-use Rattle.document_tags.proofs.Spots.{each_more}
+-- Texts in place of numbers that were read, or not.
+use Rattle.osrl_grammar.proofs.Names.{◌≡◌, ◌∙◌, inl, ℕ, Option, None, Some, Result, Ok, Err, IfOk, IfErr, List, [], ◌∷◌, refl, ap, sym, subst, Ratio, ratio_once, AllPass, FieldsRead, both_read, Unread, Wide, Misread, NoShape, NoNumber, TooGreat, FitsKind, IsNumberText, Field, IsBad, IsTooGreat, IsNot, field, with_fields, ReadsSo}
+use Rattle.std.specs.Prelude.{MatchResult}
+use Rattle.tag_tests.specs.Fields.{IsFirstOf}
+use Rattle.tag_tests.specs.declared.numbers.Unread.TheVariants.{NotNumber}
+use Rattle.tag_tests.proofs.Tests.{pass_both}
+use Rattle.osrl_grammar.specs.Numbers.{Kind}
+use Rattle.osrl_grammar.specs.Items.{misread_of}
 
-pub all_left : {X : Type 0} (P : X → Type 0) (xs ys : List X) → All P (xs ++ ys) → All P xs
-all_left P [] ys h = All-nil P
-all_left P (x ∷ xs) ys h = All-cons P x xs (All-head P x (xs ++ ys) h) (all_left P xs ys (All-tail P x (xs ++ ys) h))
+-- all texts are numbers, and none too great
+abbrev pub Pass : Option (List Field) → Type 0
+Pass None = ⊥
+Pass (Some fs) = AllPass IsBad fs × AllPass IsTooGreat fs
 
-pub all_right : {X : Type 0} (P : X → Type 0) (xs ys : List X) → All P (xs ++ ys) → All P ys
-all_right P [] ys h = h
-all_right P (x ∷ xs) ys h = all_right P xs ys (All-tail P x (xs ++ ys) h)
+pub number_pass : (k : Kind) (text : List ℕ) (x : Ratio) → IsNumberText k text x → Pass (Some (field k text ∷ []))
+number_pass k text x h = (((λ bad. bad (x, h.0)), tt), ((λ great. great.2 (subst (λ (y : Ratio). FitsKind k y) (ratio_once text x great.0 h.0.form great.1.form) h.1)), tt))
 
-pub alone : {X : Type 0} (P : X → Type 0) (x : X) → P x → All P (x ∷ [])
-alone P x p = All-cons P x [] p (All-nil P)
+pub both_pass : (a b : Option (List Field)) → Pass a → Pass b → Pass (with_fields a b)
+both_pass None b h k = absurd h
+both_pass (Some fs) None h k = absurd k
+both_pass (Some fs) (Some gs) h k = (pass_both IsBad fs gs h.0 k.0, pass_both IsTooGreat fs gs h.1 k.1)
 
--- what is read is written
-pub written : (fs : List Field) → All IsFieldRead fs → All IsWritten fs
-written [] h = All-nil IsWritten
-written (f ∷ fs) h =
-    let first = All-head IsFieldRead f fs h in
-    All-cons IsWritten f fs (first.0, first.1.0) (written fs (All-tail IsFieldRead f fs h))
+-- one number
+pub one_read : {A : Type 0} (k : Kind) (text : List ℕ) (r : Result A Unread) (number : A → Ratio) → IfOk r (λ x. IsNumberText k text (number x)) → IfErr r (IsNot k text) → FieldsRead IsBad IsTooGreat (field k text ∷ []) r (λ x. IsNumberText k text (number x))
+one_read k text (Ok x) number ok err = let pass = number_pass k text (number x) ok in (pass.0, pass.1, ok)
+one_read k text (Err NotNumber) number ok err = inl (λ w. err w.0 w.1)
+one_read k text (Err Wide) number ok err = (((λ bad. bad (err.0, err.1)), tt), inl err)
 
--- nothing worse than too great stands first
-pub great_then : (fs gs : List Field) (u : Unread) → AreNot fs TooGreat → AreNot gs u → AreNot (fs ++ gs) u
-great_then fs gs NoShape h k = k
-great_then fs gs NoNumber h k = λ all. k (all_right IsWritten fs gs all)
-great_then fs gs TooGreat h k = (All-append IsWritten fs gs h.0 k.0, λ all. k.1 (all_right IsFieldRead fs gs all))
+-- two
+pub two_read : {A B : Type 0} (k l : Kind) (s t : List ℕ) (a : Result A Unread) (b : Result B Unread) (m : A → Ratio) (n : B → Ratio) (r : Result (A × B) Unread) → IfOk a (λ x. IsNumberText k s (m x)) → IfErr a (IsNot k s) → IfOk b (λ y. IsNumberText l t (n y)) → IfErr b (IsNot l t) → MatchResult r (λ x. (a ≡ Ok x.0) × (b ≡ Ok x.1)) (IsFirstOf a b) → FieldsRead IsBad IsTooGreat (field k s ∷ field l t ∷ []) r (λ x. IsNumberText k s (m x.0) × IsNumberText l t (n x.1))
+two_read k l s t a b m n r ok err well ill both = both_read IsBad IsTooGreat (field k s ∷ []) (field l t ∷ []) a b (λ x. IsNumberText k s (m x)) (λ y. IsNumberText l t (n y)) r (one_read k s a m ok err) (one_read l t b n well ill) both
 
--- no number stands first
-pub none_then : (fs gs : List Field) → AreNot fs NoNumber → AreNot (fs ++ gs) NoNumber
-none_then fs gs h = λ all. h (all_left IsWritten fs gs all)
+pub failed_as : {A B : Type 0} (fs : List Field) (u : Unread) (P : A → Type 0) (Q : B → Type 0) → FieldsRead IsBad IsTooGreat fs (Err u) P → FieldsRead IsBad IsTooGreat fs (Err u) Q
+failed_as fs NotNumber P Q h = h
+failed_as fs Wide P Q h = h
 
--- the others are read
-pub read_then : (fs gs : List Field) (u : Unread) → All IsFieldRead fs → AreNot gs u → AreNot (fs ++ gs) u
-read_then fs gs NoShape h k = k
-read_then fs gs NoNumber h k = λ all. k (all_right IsWritten fs gs all)
-read_then fs gs TooGreat h k = (All-append IsWritten fs gs (written fs h) k.0, λ all. k.1 (all_right IsFieldRead fs gs all))
+-- the numbers of an item
+pub item_misread : {A B : Type 0} (o : Option (List Field)) (fs : List Field) (u : Unread) (m : Misread) (P : A → Type 0) (Q : B → Type 0) → o ≡ Some fs → m ≡ misread_of u → FieldsRead IsBad IsTooGreat fs (Err u) P → ReadsSo o (Err m) Q
+item_misread {A} {B} o fs u m P Q are is h = subst (λ (p : Option (List Field)). ReadsSo p (Err m) Q) (sym are) (subst (λ (n : Misread). ReadsSo (Some fs) (Err n) Q) (sym is) (told_so u h))
+  where
+    told_so : (u : Unread) → FieldsRead IsBad IsTooGreat fs (Err u) P → ReadsSo (Some fs) (Err (misread_of u)) Q
+    told_so NotNumber h = h
+    told_so Wide h = h
 
-pub then_read : (fs gs : List Field) (u : Unread) → AreNot fs u → All IsFieldRead gs → AreNot (fs ++ gs) u
-then_read fs gs NoShape h k = h
-then_read fs gs NoNumber h k = λ all. h (all_left IsWritten fs gs all)
-then_read fs gs TooGreat h k = (All-append IsWritten fs gs h.0 (written gs k), λ all. h.1 (all_left IsFieldRead fs gs all))
+pub item_read : {A B : Type 0} (o : Option (List Field)) (fs : List Field) (x : A) (y : B) (P : A → Type 0) (Q : B → Type 0) → o ≡ Some fs → (P x → Q y) → FieldsRead IsBad IsTooGreat fs (Ok x) P → ReadsSo o (Ok y) Q
+item_read o fs x y P Q are says h = subst (λ (p : Option (List Field)). ReadsSo p (Ok y) Q) (sym are) (h.0, h.1, says h.2)
 
--- one text
-pub one_unread : (kind : Kind) (text : List ℕ) (u : Unread) → IsNot kind text u → AreNot (record { kind = kind; text = text } ∷ []) u
-one_unread kind text NoShape h = h
-one_unread kind text NoNumber h = λ all. let f : Field = record { kind = kind; text = text } in let w = All-head IsWritten f [] all in h w.0 w.1
-one_unread kind text TooGreat (x, w, over) =
-    let f : Field = record { kind = kind; text = text } in
-    (alone IsWritten f (x, w), λ all. let r = All-head IsFieldRead f [] all in over (subst (λ (y : Ratio). FitsKind kind y) (ratio_once text r.0 x r.1.0.form w.form) r.1.1))
+-- where the pieces have no such shape
+pub shapeless_read : {B : Type 0} (o : Option (List Field)) (Q : B → Type 0) → o ≡ None → ReadsSo o (Err NoShape) Q
+shapeless_read {B} o Q none = subst (λ (p : Option (List Field)). ReadsSo {A = B} p (Err NoShape) Q) (sym none) refl
 
-pub one_read : {X : Type 0} (kind : Kind) (text : List ℕ) (r : Result X Unread) (number : X → Ratio) → IfOk r (λ x. IsNumberText kind text (number x)) → IfErr r (IsNot kind text) → AreFieldsRead (record { kind = kind; text = text } ∷ []) r
-one_read kind text (Ok x) number ok err = alone IsFieldRead (record { kind = kind; text = text }) (number x, ok)
-one_read kind text (Err u) number ok err = one_unread kind text u err
+-- what was read is made into more, or not
+pub reads_made : {A B : Type 0} (o : Option (List Field)) (r : Result A Misread) (x : A) (y : B) (P : A → Type 0) (Q : B → Type 0) → r ≡ Ok x → (P x → Q y) → ReadsSo o r P → ReadsSo o (Ok y) Q
+reads_made None r x y P Q is says h = absurd (let e : Ok x ≡ Err NoShape = sym is ∙ h in cc)
+reads_made {A} (Some fs) r x y P Q is says h = let k = subst (λ (q : Result A Misread). ReadsSo (Some fs) q P) is h in (k.0, k.1, says k.2)
 
--- what is wrong with an item of this shape
-pub unread_as : (i : Item) (s : Shape) (u : Unread) → HasShape i s → AreNot (item_fields s) u → IsItemUnread i u
-unread_as i s NoShape h k = absurd k
-unread_as i s NoNumber h k = (s, h, k)
-unread_as i s TooGreat h k = (s, h, k.0, k.1)
+pub reads_failed : {A B : Type 0} (o : Option (List Field)) (r : Result A Misread) (u : Misread) (P : A → Type 0) (Q : B → Type 0) → r ≡ Err u → ReadsSo o r P → ReadsSo o (Err u) Q
+reads_failed {A} {B} o r u P Q is h = failed_so o u (subst (λ (q : Result A Misread). ReadsSo o q P) is h)
+  where
+    failed_so : (o : Option (List Field)) (u : Misread) → ReadsSo o (Err u) P → ReadsSo {A = B} o (Err u) Q
+    failed_so None u h = let e : u ≡ NoShape = cc in ap (λ (v : Misread). let q : Result B Misread = Err v in q) e
+    failed_so (Some fs) NoShape h = h
+    failed_so (Some fs) NoNumber h = h
+    failed_so (Some fs) TooGreat h = h
 
--- at what was read or not
-pub at_result : {X : Type 0} (fs : List Field) (r q : Result X Unread) → r ≡ q → AreFieldsRead fs r → AreFieldsRead fs q
-at_result {X} fs r q e h = subst (λ (p : Result X Unread). AreFieldsRead fs p) e h
-
--- a multiplier is two numbers
-pub mult_read : (p : Pair) (m : Mult) → IsMult p m → All IsFieldRead (pair_fields p)
-mult_read p m h = All-cons IsFieldRead (record { kind = Index; text = p.column }) (record { kind = Exact; text = p.factor } ∷ []) (whole (pos m.col), h.0) (alone IsFieldRead (record { kind = Exact; text = p.factor }) (ratio m.value, h.1))
-
-pub mults_read : (ps : List Pair) (ms : List Mult) → AllZip IsMult ps ms → All IsFieldRead (flat_map pair_fields ps)
-mults_read [] [] h = All-nil IsFieldRead
-mults_read (p ∷ ps) (m ∷ ms) h = All-append IsFieldRead (pair_fields p) (flat_map pair_fields ps) (mult_read p m h.0) (mults_read ps ms h.1)
-mults_read [] (m ∷ ms) h = absurd h
-mults_read (p ∷ ps) [] h = absurd h
-
-pub fields_more : (done : List Pair) (p : Pair) → flat_map pair_fields done ++ pair_fields p ≡ flat_map pair_fields (done ++ p ∷ [])
-fields_more done p = sym (flat_map-append pair_fields done (p ∷ []) ∙ ap (λ (l : List Field). flat_map pair_fields done ++ l) (append-nil (pair_fields p)))
-
--- one multiplier more
-pub pushed : (done : List Pair) (p : Pair) (old new : List Mult) (fault : Option Unread) (m : Mult) → new ≡ old ++ m ∷ [] → SoFar done old fault → IsMult p m → SoFar (done ++ p ∷ []) new fault
-pushed done p old new None m is h k = subst (λ (l : List Mult). AllZip IsMult (done ++ p ∷ []) l) (sym is) (each_more IsMult done old p m h k)
-pushed done p old new (Some u) m is h k = subst (λ (l : List Field). AreNot l u) (fields_more done p) (then_read (flat_map pair_fields done) (pair_fields p) u h (mult_read p m k))
-
--- what is wrong so far
-pub faulted : (done : List Pair) (ms : List Mult) (fault : Option Unread) → SoFar done ms fault → MatchOption fault (All IsFieldRead (flat_map pair_fields done)) (AreNot (flat_map pair_fields done))
-faulted done ms None h = mults_read done ms h
-faulted done ms (Some u) h = h
-
--- what is known of a fault that is there, or of none
-pub some_fault : (fs : List Field) (fault : Option Unread) (u : Unread) → fault ≡ Some u → MatchOption fault (All IsFieldRead fs) (AreNot fs) → AreNot fs u
-some_fault fs fault u e h = subst (λ (o : Option Unread). MatchOption o (All IsFieldRead fs) (AreNot fs)) e h
-
-pub no_fault : (fs : List Field) (fault : Option Unread) → fault ≡ None → MatchOption fault (All IsFieldRead fs) (AreNot fs) → All IsFieldRead fs
-no_fault fs fault e h = subst (λ (o : Option Unread). MatchOption o (All IsFieldRead fs) (AreNot fs)) e h
-
-pub at_fault : (fs : List Field) (u v : Unread) → u ≡ v → AreNot fs u → AreNot fs v
-at_fault fs u v e h = subst (λ (w : Unread). AreNot fs w) e h
-
-pub at_pair : (p : Pair) (r q : Result Mult Unread) → r ≡ q → IsPairRead p r → IsPairRead p q
-at_pair p r q e h = subst (λ (x : Result Mult Unread). IsPairRead p x) e h
-
-pub other_then : (fs gs : List Field) (u : Unread) → (u ≡ NoShape) ⊎ (u ≡ NoNumber) → AreNot fs u → AreNot (fs ++ gs) u
-other_then fs gs u (inl e) h = absurd (at_fault fs u NoShape e h)
-other_then fs gs u (inr e) h = at_fault (fs ++ gs) NoNumber u (sym e) (none_then fs gs (at_fault fs u NoNumber e h))
-
-pub pair_read : (p : Pair) (r : Result Mult Unread) → IfOk r (IsMult p) → IfErr r (AreNot (pair_fields p)) → IsPairRead p r
-pair_read p (Ok m) ok err = ok
-pair_read p (Err u) ok err = err
+pub reads_more : {A : Type 0} (o : Option (List Field)) (r : Result A Misread) (P Q : A → Type 0) → ((x : A) → P x → Q x) → ReadsSo o r P → ReadsSo o r Q
+reads_more None r P Q says h = h
+reads_more (Some fs) (Ok x) P Q says h = (h.0, h.1, says x h.2)
+reads_more (Some fs) (Err NoShape) P Q says h = h
+reads_more (Some fs) (Err NoNumber) P Q says h = h
+reads_more (Some fs) (Err TooGreat) P Q says h = h

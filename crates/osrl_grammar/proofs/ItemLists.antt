@@ -1,11 +1,6 @@
 -- Lists that are told item by item.
-use Rattle.std.proofs.Common.{◌≡◌, ℕ, ◌-◌, ◌<◌, ◌≤◌, Bool, true, false, cond, nat_lt, get_or, ◌≢◌, List, [], ◌∷◌, length, refl, ap, sym, lt-ltb, le-ltb, arith}
-use Rattle.std.specs.Prelude.{decimal, codes}
-use Rattle.tree_grammar.specs.Elements.{Nodes, none, element, chars, Event, nodes_events}
-use Rattle.certificate.specs.declared.lists.Mult.{Mult}
-use Rattle.certificate.specs.declared.nodes.Node.{Node}
-use Rattle.certificate.specs.declared.nodes.Node.TheVariants.{Split, Clash, Farkas, Bound}
-use Rattle.osrl_grammar.specs.Writing.{indexed, row_values, values_part, values_part_unless_none, rows_part, dual_values}
+use Rattle.osrl_grammar.proofs.Names.{◌≡◌, ℕ, ◌-◌, ◌<◌, ◌≤◌, Bool, true, false, cond, nat_lt, get_or, ◌≢◌, List, [], ◌∷◌, length, refl, ap, sym, lt-ltb, le-ltb, arith, decimal, codes, Nodes, none, element, chars, Event, nodes_events, Mult, Node, Split, Clash, Farkas, Bound, indexed, row_values, values_part, values_part_unless_none, dual_values}
+use Rattle.osrl_grammar.specs.Writing.{rows_part}
 
 -- the value of a row's multiplier, and those behind it
 abbrev pub row_value : ℕ → Mult → Nodes → Nodes

@@ -1,31 +1,25 @@
 -- Numbers of items as ratios are read.
-use Rattle.std.proofs.Common.{◌≡◌, inl, inr, ℕ, List, sym, subst}
-use Rattle.rational.specs.Width.{IsReduced, IsWithin}
-use Rattle.fraction.specs.Frac.{ratio}
-use Rattle.fraction.specs.declared.frac.Frac.{Frac}
+use Rattle.osrl_grammar.proofs.Names.{◌≡◌, inl, inr, ℕ, List, sym, subst, IsReduced, IsWithin, ratio, Frac, RatioText, ratio_once, Exact, IsNumberText, IsNot}
 use Rattle.decimal_text.specs.declared.fault.DecimalFault.{DecimalFault}
 use Rattle.decimal_text.specs.declared.fault.DecimalFault.TheVariants.{NotNumber}
-use Rattle.decimal_text.specs.Exact.{RatioText, IsWideRatio}
+use Rattle.decimal_text.specs.Exact.{IsWideRatio}
 use Rattle.decimal_text.specs.Fault.{RefusesRatio}
-use Rattle.decimal_text.proofs.OneRatio.{ratio_once}
-use Rattle.osrl_grammar.specs.declared.parts.Unread.TheVariants.{NoNumber, TooGreat}
-use Rattle.osrl_grammar.specs.Numbers.{Exact, IsNumberText}
-use Rattle.osrl_grammar.specs.Fields.{IsNot}
+use Rattle.tag_tests.specs.declared.numbers.Unread.TheVariants as unread
 
 -- a fraction that was read
 pub exact_read : (text : List ℕ) (x : Frac) → RatioText text (ratio x) → IsNumberText Exact text (ratio x)
 exact_read text x form = (record { form = form; of_kind = tt; reduced = λ _. (x.above, x.reduced) }, (x.numer_within, x.denom_within))
 
 -- one that is too great
-pub exact_wide : (text : List ℕ) → IsWideRatio text → IsNot Exact text TooGreat
+pub exact_wide : (text : List ℕ) → IsWideRatio text → IsNot Exact text unread.Wide
 exact_wide text (x, (form, wide)) = (x, record { form = form; of_kind = tt; reduced = λ within. absurd (wide within) }, wide)
 
 -- none
-pub exact_none : (text : List ℕ) (at : ℕ) → RefusesRatio text (NotNumber at) → IsNot Exact text NoNumber
+pub exact_none : (text : List ℕ) (at : ℕ) → RefusesRatio text (NotNumber at) → IsNot Exact text unread.NotNumber
 exact_none text at (inl leaves) = λ x w. leaves.outside (x, w.form)
 exact_none text at (inr (long, (y, (form, within, unreduced)))) = λ x w.
     let same : x ≡ y = ratio_once text x y w.form form in
     unreduced (subst IsReduced same (w.reduced (subst IsWithin (sym same) within)))
 
-pub exact_refused : (text : List ℕ) (at : ℕ) (fault : DecimalFault) → fault ≡ NotNumber at → RefusesRatio text fault → IsNot Exact text NoNumber
+pub exact_refused : (text : List ℕ) (at : ℕ) (fault : DecimalFault) → fault ≡ NotNumber at → RefusesRatio text fault → IsNot Exact text unread.NotNumber
 exact_refused text at fault is refuses = exact_none text at (subst (λ (e : DecimalFault). RefusesRatio text e) is refuses)

@@ -1,26 +1,13 @@
 -- Whole numbers among the ratios: those without `/`, and from 0 on those without `-`.
+use Rattle.osrl_grammar.proofs.Names.{w128, ◌≡◌, Option, None, Some, Bor, ◌∙◌, append_assoc, ◌≢◌, ℕ, zero, suc, ◌+◌, ◌*◌, ◌^◌, ◌<◌, ◌≤◌, inl, inr, Bool, true, false, ℤ, pos, negsuc, List, [], ◌∷◌, ◌++◌, refl, ap, sym, subst, arith, lit≤, unsigned_abs, MatchOption, digit_value, AllDigits, digits_value, digits_value_after, All-nil, All-cons, All-head, All-tail, All-append, Ratio, whole, most, signed, ratio, Frac, optional, RatioText, Unread, Wide, Index, Turn, Whole, Exact, FitsKind, WritesNumber, IsNumberText, IsNot, IsFree}
 use mir.Val.{SFits}
-use mir.Syntax.{w128}
-use Rattle.std.proofs.Common.{◌≡◌, ◌↔◌, IsTrue, Option, None, Some, Bor, ◌∙◌, append_assoc, ◌≢◌, ℕ, zero, suc, ◌+◌, ◌*◌, ◌^◌, ◌<◌, ◌≤◌, inl, inr, Bool, true, false, ℤ, pos, negsuc, List, [], ◌∷◌, ◌++◌, refl, ap, sym, subst, arith, lit≤}
-use Rattle.std.specs.Prelude.{unsigned_abs, MatchOption}
-use Rattle.std.specs.Char.{digit_value}
-use Rattle.std.specs.Str.Parse.{AllDigits, digits_value, digits_value_after}
-use Rattle.std.proofs.lemmas.List.Elements.{All-nil, All-cons, All-head, All-tail, All-append}
+use Rattle.std.proofs.Common.{◌↔◌, IsTrue}
 use Rattle.std.proofs.lemmas.Str.{digit_value_digit}
 use Rattle.std.proofs.lemmas.Str.Parse.{digit_from_value}
-use Rattle.rational.specs.Ratio.{Ratio, whole}
-use Rattle.rational.specs.Width.{most}
-use Rattle.rational.specs.Whole.{signed}
 use Rattle.rational.proofs.ReducedForms.{one_number}
-use Rattle.fraction.specs.Frac.{ratio}
-use Rattle.fraction.specs.declared.frac.Frac.{Frac}
-use Rattle.decimal_text.specs.Sign.{optional}
-use Rattle.decimal_text.specs.Exact.{IsPositive, Under, absent, over, under_text, under_value, IsUnder, RatioText}
-use Rattle.osrl_grammar.specs.declared.parts.Unread.{Unread}
-use Rattle.osrl_grammar.specs.declared.parts.Unread.TheVariants.{NoShape, NoNumber, TooGreat}
-use Rattle.osrl_grammar.specs.Items.{IsFree}
-use Rattle.osrl_grammar.specs.Numbers.{Kind, Index, Turn, Whole, Exact, IsOfKind, FitsKind, WritesNumber, IsNumberText}
-use Rattle.osrl_grammar.specs.Fields.{IsNot}
+use Rattle.decimal_text.specs.Exact.{IsPositive, Under, absent, over, under_text, under_value, IsUnder}
+use Rattle.tag_tests.specs.declared.numbers.Unread.TheVariants.{NotNumber}
+use Rattle.osrl_grammar.specs.Numbers.{Kind, IsOfKind}
 
 -- no byte
 pub free_nil : (byte : ℕ) → IsFree byte []
@@ -117,14 +104,13 @@ whole_read text x h free =
     (record { form = e.0.form; of_kind = refl; reduced = e.0.reduced }, e.1)
 
 -- a text with `/` is none
-pub not_whole : (text : List ℕ) → (IsFree 47 text → ⊥) → IsNot Whole text NoNumber
+pub not_whole : (text : List ℕ) → (IsFree 47 text → ⊥) → IsNot Whole text NotNumber
 not_whole text lined = λ x w. lined (whole_free text x w.form w.of_kind)
 
 -- what isn't a fraction isn't a whole number
 pub whole_unread : (text : List ℕ) (u : Unread) → IsNot Exact text u → IsFree 47 text → IsNot Whole text u
-whole_unread text NoShape h free = h
-whole_unread text NoNumber h free = λ x w. h x (record { form = w.form; of_kind = tt; reduced = w.reduced })
-whole_unread text TooGreat (x, w, over_width) free = (x, record { form = w.form; of_kind = free_whole text x w.form free; reduced = w.reduced }, over_width)
+whole_unread text NotNumber h free = λ x w. h x (record { form = w.form; of_kind = tt; reduced = w.reduced })
+whole_unread text Wide (x, w, over_width) free = (x, record { form = w.form; of_kind = free_whole text x w.form free; reduced = w.reduced }, over_width)
 
 -- a whole number without `-` is from 0 on
 pub size_read : (text : List ℕ) (k : ℤ) → IsNumberText Whole text (whole k) → IsFree 45 text → WritesNumber Index text (whole (pos (unsigned_abs k)))
@@ -150,14 +136,13 @@ pub turn_sizes : IsSizes Turn
 turn_sizes = record { sized = λ x h. h; every = λ n. (n, refl); narrow = λ x h. let top : 2 ^ 64 ≤ most = lit≤ tt in omega (arith, h, top) }
 
 -- a text with `-` is none of them
-pub not_size : (kind : Kind) (text : List ℕ) → IsSizes kind → (IsFree 45 text → ⊥) → IsNot kind text NoNumber
+pub not_size : (kind : Kind) (text : List ℕ) → IsSizes kind → (IsFree 45 text → ⊥) → IsNot kind text NotNumber
 not_size kind text sizes signed_text = λ x w. let n = sizes.sized x w.of_kind in signed_text (size_free text x n.0 w.form (ap (λ (y : Ratio). y.num) n.1))
 
 -- what isn't a whole number is none of them
 pub size_unread : (kind : Kind) (text : List ℕ) (u : Unread) → IsSizes kind → IsNot Whole text u → IsFree 45 text → IsNot kind text u
-size_unread kind text NoShape sizes h free = h
-size_unread kind text NoNumber sizes h free = λ x w. h x (record { form = w.form; of_kind = ap (λ (y : Ratio). y.den) (sizes.sized x w.of_kind).1; reduced = w.reduced })
-size_unread kind text TooGreat sizes (x, w, wide) free =
+size_unread kind text NotNumber sizes h free = λ x w. h x (record { form = w.form; of_kind = ap (λ (y : Ratio). y.den) (sizes.sized x w.of_kind).1; reduced = w.reduced })
+size_unread kind text Wide sizes (x, w, wide) free =
     let same : x ≡ whole (pos (unsigned_abs x.num)) = one_number x (whole (pos (unsigned_abs x.num))) (free_size text x w.form free) w.of_kind in
     let of_kind : IsOfKind kind x = subst (λ (y : Ratio). IsOfKind kind y) (sym same) (sizes.every (unsigned_abs x.num)) in
     let one : 1 ≤ most = lit≤ tt in

@@ -1,48 +1,81 @@
 -- Values found by their words among all.
-use Rattle.std.proofs.Common.{Option, None, Some, List, [], ◌∷◌, lit<}
-use Rattle.std.specs.Prelude.{MatchOption}
-use Rattle.std.specs.List.{All}
-use Rattle.certificate.specs.declared.causes.Step.{Step}
+use Rattle.osrl_grammar.proofs.Names.{◌≡◌, ◌∙◌, ap, ℕ, Bool, true, false, cond, bytes_eq, Option, None, Some, List, [], ◌∷◌, refl, sym, subst, MatchOption, All, All-head, All-tail, Step, JobStatus, Claiming, worded, status_text, claiming_text, step_text, all_steps, node_word, all_node_words, cause_word, all_cause_words}
+use Rattle.std.proofs.lemmas.Slice.Eq.{bytes_eq-Decides}
 use Rattle.certificate.specs.declared.causes.Step.TheVariants as steps
-use Rattle.osrl_grammar.specs.declared.report.JobStatus.{JobStatus}
 use Rattle.osrl_grammar.specs.declared.report.JobStatus.TheVariants as statuses
-use Rattle.osrl_grammar.specs.declared.parts.Claiming.{Claiming}
 use Rattle.osrl_grammar.specs.declared.parts.Claiming.TheVariants as claimings
-use Rattle.osrl_grammar.specs.Claiming.{IsOnly}
+use Rattle.osrl_grammar.specs.Words.{all_statuses, all_claimings}
+use Rattle.osrl_grammar.specs.declared.parts.NodeWord.{NodeWord}
+use Rattle.osrl_grammar.specs.declared.parts.NodeWord.TheVariants as nodes
+use Rattle.osrl_grammar.specs.declared.parts.CauseWord.{CauseWord}
+use Rattle.osrl_grammar.specs.declared.parts.CauseWord.TheVariants as causes
 
--- where none of all was found, there is none
-pub only_among : {X : Type 0} (P : X → Type 0) (all : List X) (o : Option X) → ((Q : X → Type 0) → All Q all → (x : X) → Q x) → MatchOption o (All (λ x. P x → ⊥) all) P → IsOnly P o
-only_among P all None every h = every (λ x. P x → ⊥) h
-only_among P all (Some x) every h = h
+-- what a comparison says
+pub other_word : (w given literal : List ℕ) (r : Bool) → r ≡ bytes_eq w given → given ≡ literal → r ≡ false → w ≡ literal → ⊥
+other_word w given literal r tests is e same =
+    let h : r ≡ true = tests ∙ (bytes_eq-Decides w given).1 (same ∙ sym is) in
+    let k : true ≡ false = sym h ∙ e in
+    cc
 
-abbrev pub all_steps : List Step
-all_steps = steps.Values ∷ steps.Ratio ∷ steps.Pivot ∷ steps.Point ∷ steps.Ray ∷ steps.Check ∷ []
+-- where no value has the word, none is found
+none_worded : {X : Type 0} (text : X → List ℕ) (xs : List X) (w : List ℕ) → All (λ x. w ≡ text x → ⊥) xs → worded text xs w ≡ None
+none_worded text [] w h = refl
+none_worded {X} text (x ∷ xs) w h = by_word (bytes_eq w (text x)) refl (none_worded text xs w (All-tail (λ (y : X). w ≡ text y → ⊥) x xs h))
+  where
+    by_word : (b : Bool) → bytes_eq w (text x) ≡ b → worded text xs w ≡ None → cond b (Some x) (worded text xs w) ≡ None
+    by_word true e none = absurd (All-head (λ (y : X). w ≡ text y → ⊥) x xs h ((bytes_eq-Decides w (text x)).0 e))
+    by_word false e none = none
 
-pub each_step : (Q : Step → Type 0) → All Q all_steps → (s : Step) → Q s
-each_step Q h steps.Values = h 0 steps.Values (lit< tt)
-each_step Q h steps.Ratio = h 1 steps.Values (lit< tt)
-each_step Q h steps.Pivot = h 2 steps.Values (lit< tt)
-each_step Q h steps.Point = h 3 steps.Values (lit< tt)
-each_step Q h steps.Ray = h 4 steps.Values (lit< tt)
-each_step Q h steps.Check = h 5 steps.Values (lit< tt)
+-- the value that was found is the one of that word, where each value is found by its own
+pub is_worded : {X : Type 0} (text : X → List ℕ) (xs : List X) (w : List ℕ) (o : Option X) → ((x : X) → worded text xs (text x) ≡ Some x) → MatchOption o (All (λ x. w ≡ text x → ⊥) xs) (λ x. w ≡ text x) → o ≡ worded text xs w
+is_worded text xs w None each h = sym (none_worded text xs w h)
+is_worded text xs w (Some x) each h = subst (λ (v : List ℕ). Some x ≡ worded text xs v) (sym h) (sym (each x))
 
-abbrev pub all_statuses : List JobStatus
-all_statuses = statuses.Unknown ∷ statuses.Issued ∷ statuses.Waiting ∷ statuses.Running ∷ statuses.Killed ∷ statuses.Finished ∷ []
+pub each_status : (s : JobStatus) → worded status_text all_statuses (status_text s) ≡ Some s
+each_status statuses.Unknown = refl
+each_status statuses.Issued = refl
+each_status statuses.Waiting = refl
+each_status statuses.Running = refl
+each_status statuses.Killed = refl
+each_status statuses.Finished = refl
 
-pub each_status : (Q : JobStatus → Type 0) → All Q all_statuses → (s : JobStatus) → Q s
-each_status Q h statuses.Unknown = h 0 statuses.Unknown (lit< tt)
-each_status Q h statuses.Issued = h 1 statuses.Unknown (lit< tt)
-each_status Q h statuses.Waiting = h 2 statuses.Unknown (lit< tt)
-each_status Q h statuses.Running = h 3 statuses.Unknown (lit< tt)
-each_status Q h statuses.Killed = h 4 statuses.Unknown (lit< tt)
-each_status Q h statuses.Finished = h 5 statuses.Unknown (lit< tt)
+pub each_claiming : (c : Claiming) → worded claiming_text all_claimings (claiming_text c) ≡ Some c
+each_claiming claimings.Optimal = refl
+each_claiming claimings.Infeasible = refl
+each_claiming claimings.Unbounded = refl
+each_claiming claimings.BestSoFar = refl
+each_claiming claimings.Unsure = refl
 
-abbrev pub all_claimings : List Claiming
-all_claimings = claimings.Optimal ∷ claimings.Infeasible ∷ claimings.Unbounded ∷ claimings.BestSoFar ∷ claimings.Unsure ∷ []
+pub each_step : (s : Step) → worded step_text all_steps (step_text s) ≡ Some s
+each_step steps.Values = refl
+each_step steps.Ratio = refl
+each_step steps.Pivot = refl
+each_step steps.Point = refl
+each_step steps.Ray = refl
+each_step steps.Check = refl
 
-pub each_claiming : (Q : Claiming → Type 0) → All Q all_claimings → (c : Claiming) → Q c
-each_claiming Q h claimings.Optimal = h 0 claimings.Optimal (lit< tt)
-each_claiming Q h claimings.Infeasible = h 1 claimings.Optimal (lit< tt)
-each_claiming Q h claimings.Unbounded = h 2 claimings.Optimal (lit< tt)
-each_claiming Q h claimings.BestSoFar = h 3 claimings.Optimal (lit< tt)
-each_claiming Q h claimings.Unsure = h 4 claimings.Optimal (lit< tt)
+pub each_node_word : (w : NodeWord) → worded node_word all_node_words (node_word w) ≡ Some w
+each_node_word nodes.Split = refl
+each_node_word nodes.Clash = refl
+each_node_word nodes.Farkas = refl
+each_node_word nodes.Bound = refl
+
+pub each_cause_word : (w : CauseWord) → worded cause_word all_cause_words (cause_word w) ≡ Some w
+each_cause_word causes.Killed = refl
+each_cause_word causes.NodeLimit = refl
+each_cause_word causes.TurnLimit = refl
+each_cause_word causes.Wide = refl
+each_cause_word causes.Length = refl
+each_cause_word causes.Memory = refl
+
+-- what is found has the word
+found_in : {X : Type 0} (text : X → List ℕ) (x : X) (w : List ℕ) (b : Bool) (rest : Option X) (y : X) → bytes_eq w (text x) ≡ b → (rest ≡ Some y → w ≡ text y) → cond b (Some x) rest ≡ Some y → w ≡ text y
+found_in text x w true rest y e later h = let same : x ≡ y = cc in (bytes_eq-Decides w (text x)).0 e ∙ ap text same
+found_in text x w false rest y e later h = later h
+
+pub worded_is : {X : Type 0} (text : X → List ℕ) (xs : List X) (w : List ℕ) (y : X) → worded text xs w ≡ Some y → w ≡ text y
+worded_is text [] w y h = absurd (cc)
+worded_is text (x ∷ xs) w y h = found_in text x w (bytes_eq w (text x)) (worded text xs w) y refl (worded_is text xs w y) h
+
+pub one_step : (a b : Step) → step_text a ≡ step_text b → a ≡ b
+one_step a b e = let same : Some a ≡ Some b = sym (each_step a) ∙ ap (worded step_text all_steps) e ∙ each_step b in cc

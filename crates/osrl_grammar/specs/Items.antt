@@ -1,36 +1,43 @@
--- The items of a certificate's parts: their shapes, the texts in them that stand for numbers, and what is wrong with one. The form is the project's own.
-use Rattle.std.specs.Prelude.{◌≡◌, ◌≢◌, ℕ, List, [], ◌∷◌, ◌++◌, flat_map, codes}
-use Rattle.std.specs.List.{All}
+-- The items of a certificate's parts: the texts in them that stand for numbers, where they have their shapes. The form is the project's own.
+use Rattle.std.specs.Prelude.{◌≡◌, ℕ, Option, None, Some, option_map, Result, Ok, Err, List, [], ◌∷◌, ◌++◌, codes}
 use Rattle.certificate.specs.declared.causes.Step.{Step}
 use Rattle.certificate.specs.declared.causes.Step.TheVariants as steps
+use Rattle.tag_tests.specs.Tests.{AllPass}
+use Rattle.tag_tests.specs.Fields.{OneFirst}
 use Rattle.osrl_grammar.specs.declared.parts.Part.{Part}
-use Rattle.osrl_grammar.specs.declared.parts.Part.TheVariants.{Point, Value, Ray, Tree, Cause}
-use Rattle.osrl_grammar.specs.declared.parts.Unread.{Unread}
-use Rattle.osrl_grammar.specs.declared.parts.Unread.TheVariants.{NoShape, NoNumber, TooGreat}
-use Rattle.osrl_grammar.specs.Numbers.{Index, Turn, Whole, Exact, Field, IsWritten, IsFieldRead}
+use Rattle.osrl_grammar.specs.declared.parts.Part.TheVariants.{Tree, Cause}
+use Rattle.osrl_grammar.specs.declared.parts.NodeWord.{NodeWord}
+use Rattle.osrl_grammar.specs.declared.parts.NodeWord.TheVariants as nodes
+use Rattle.osrl_grammar.specs.declared.parts.CauseWord.{CauseWord}
+use Rattle.osrl_grammar.specs.declared.parts.CauseWord.TheVariants as causes
+use Rattle.osrl_grammar.specs.declared.parts.Misread.{Misread}
+use Rattle.osrl_grammar.specs.declared.parts.Misread.TheVariants.{NoShape, NoNumber, TooGreat}
+use Rattle.tag_tests.specs.declared.numbers.Unread.{Unread}
+use Rattle.tag_tests.specs.declared.numbers.Unread.TheVariants.{NotNumber, Wide}
+use Rattle.osrl_grammar.specs.Words.{worded}
+use Rattle.osrl_grammar.specs.Numbers.{Kind, Index, Turn, Whole, Exact, Field, IsBad, IsTooGreat}
+use Rattle.osrl_grammar.specs.Pieces.{pieces, Pair, parted}
 
--- a text without this byte
-abbrev pub IsFree : ℕ → List ℕ → Type 0
-IsFree byte text = All (λ b. b ≢ byte) text
+-- the words of nodes, of causes, and of steps
+abbrev pub node_word : NodeWord → List ℕ
+node_word nodes.Split = codes "split"
+node_word nodes.Clash = codes "clash"
+node_word nodes.Farkas = codes "farkas"
+node_word nodes.Bound = codes "bound"
 
--- texts in place of a column and its multiplier
-pub record Pair : Type 0 where
-  pub column : List ℕ
-  pub factor : List ℕ
+abbrev pub all_node_words : List NodeWord
+all_node_words = nodes.Split ∷ nodes.Clash ∷ nodes.Farkas ∷ nodes.Bound ∷ []
 
--- an item with texts in place of its numbers: a number, a node of a tree of cases, or why a search stopped
-pub data Shape : Type 0 where
-  Number : (text : List ℕ) → Shape
-  Split : (column bound : List ℕ) → Shape
-  Clash : (column : List ℕ) → Shape
-  Farkas : List Pair → Shape
-  Bound : List Pair → Shape
-  Killed : Shape
-  NodeLimit : (limit : List ℕ) → Shape
-  TurnLimit : (limit : List ℕ) → Shape
-  Wide : (node turn : List ℕ) → Step → Shape
-  Length : Shape
-  Memory : Shape
+abbrev pub cause_word : CauseWord → List ℕ
+cause_word causes.Killed = codes "killed"
+cause_word causes.NodeLimit = codes "nodeLimit"
+cause_word causes.TurnLimit = codes "turnLimit"
+cause_word causes.Wide = codes "wide"
+cause_word causes.Length = codes "length"
+cause_word causes.Memory = codes "memory"
+
+abbrev pub all_cause_words : List CauseWord
+all_cause_words = causes.Killed ∷ causes.NodeLimit ∷ causes.TurnLimit ∷ causes.Wide ∷ causes.Length ∷ causes.Memory ∷ []
 
 abbrev pub step_text : Step → List ℕ
 step_text steps.Values = codes "values"
@@ -40,106 +47,83 @@ step_text steps.Point = codes "point"
 step_text steps.Ray = codes "ray"
 step_text steps.Check = codes "check"
 
--- behind a space a column, a colon and its multiplier
-abbrev pub pair_text : Pair → List ℕ
-pair_text p = 32 ∷ (p.column ++ (58 ∷ p.factor))
+abbrev pub all_steps : List Step
+all_steps = steps.Values ∷ steps.Ratio ∷ steps.Pivot ∷ steps.Point ∷ steps.Ray ∷ steps.Check ∷ []
 
-abbrev pub shape_text : Shape → List ℕ
-shape_text (Number text) = text
-shape_text (Split column bound) = codes "split " ++ (column ++ (32 ∷ bound))
-shape_text (Clash column) = codes "clash " ++ column
-shape_text (Farkas pairs) = codes "farkas" ++ flat_map pair_text pairs
-shape_text (Bound pairs) = codes "bound" ++ flat_map pair_text pairs
-shape_text Killed = codes "killed"
-shape_text (NodeLimit limit) = codes "nodeLimit " ++ limit
-shape_text (TurnLimit limit) = codes "turnLimit " ++ limit
-shape_text (Wide node turn step) = codes "wide " ++ (node ++ (32 ∷ (turn ++ (32 ∷ step_text step))))
-shape_text Length = codes "length"
-shape_text Memory = codes "memory"
+abbrev pub field : Kind → List ℕ → Field
+field kind text = record { kind = kind; text = text }
 
--- one text for each number, in their order
+-- THE TEXTS FOR NUMBERS, in their order, in pieces behind a word; none where the pieces aren't of such a shape
+abbrev pub no_field : List (List ℕ) → Option (List Field)
+no_field [] = Some []
+no_field ps = None
+
+abbrev pub one_field : Kind → List (List ℕ) → Option (List Field)
+one_field k (a ∷ []) = Some (field k a ∷ [])
+one_field k ps = None
+
+abbrev pub two_fields : Kind → Kind → List (List ℕ) → Option (List Field)
+two_fields k l (a ∷ b ∷ []) = Some (field k a ∷ field l b ∷ [])
+two_fields k l ps = None
+
+-- a column, a colon, and its multiplier
 abbrev pub pair_fields : Pair → List Field
-pair_fields p = record { kind = Index; text = p.column } ∷ record { kind = Exact; text = p.factor } ∷ []
+pair_fields p = field Index p.column ∷ field Exact p.factor ∷ []
 
-abbrev pub item_fields : Shape → List Field
-item_fields (Number text) = record { kind = Exact; text = text } ∷ []
-item_fields (Split column bound) = record { kind = Index; text = column } ∷ record { kind = Whole; text = bound } ∷ []
-item_fields (Clash column) = record { kind = Index; text = column } ∷ []
-item_fields (Farkas pairs) = flat_map pair_fields pairs
-item_fields (Bound pairs) = flat_map pair_fields pairs
-item_fields Killed = []
-item_fields (NodeLimit limit) = record { kind = Index; text = limit } ∷ []
-item_fields (TurnLimit limit) = record { kind = Index; text = limit } ∷ []
-item_fields (Wide node turn step) = record { kind = Index; text = node } ∷ record { kind = Turn; text = turn } ∷ []
-item_fields Length = []
-item_fields Memory = []
+abbrev pub mult_fields : List ℕ → Option (List Field)
+mult_fields piece = option_map pair_fields (parted piece)
 
--- a pair parts at its first colon
-abbrev pub IsPairText : Pair → Type 0
-IsPairText p = IsFree 32 p.column × IsFree 58 p.column × IsFree 32 p.factor
+abbrev pub with_fields : Option (List Field) → Option (List Field) → Option (List Field)
+with_fields (Some fs) (Some gs) = Some (fs ++ gs)
+with_fields fs gs = None
 
--- nodes, and causes, with one space between their pieces; a piece may be empty
-abbrev pub IsNodeShape : Shape → Type 0
-IsNodeShape (Number text) = ⊥
-IsNodeShape (Split column bound) = IsFree 32 column × IsFree 32 bound
-IsNodeShape (Clash column) = IsFree 32 column
-IsNodeShape (Farkas pairs) = All IsPairText pairs
-IsNodeShape (Bound pairs) = All IsPairText pairs
-IsNodeShape Killed = ⊥
-IsNodeShape (NodeLimit limit) = ⊥
-IsNodeShape (TurnLimit limit) = ⊥
-IsNodeShape (Wide node turn step) = ⊥
-IsNodeShape Length = ⊥
-IsNodeShape Memory = ⊥
+abbrev pub mults_fields : List (List ℕ) → Option (List Field)
+mults_fields [] = Some []
+mults_fields (p ∷ ps) = with_fields (mult_fields p) (mults_fields ps)
 
-abbrev pub IsCauseShape : Shape → Type 0
-IsCauseShape (Number text) = ⊥
-IsCauseShape (Split column bound) = ⊥
-IsCauseShape (Clash column) = ⊥
-IsCauseShape (Farkas pairs) = ⊥
-IsCauseShape (Bound pairs) = ⊥
-IsCauseShape Killed = Unit {0}
-IsCauseShape (NodeLimit limit) = IsFree 32 limit
-IsCauseShape (TurnLimit limit) = IsFree 32 limit
-IsCauseShape (Wide node turn step) = IsFree 32 node × IsFree 32 turn
-IsCauseShape Length = Unit {0}
-IsCauseShape Memory = Unit {0}
+-- a node, a turn, and the word of a step
+abbrev pub place_fields : List (List ℕ) → Option (List Field)
+place_fields (n ∷ t ∷ s ∷ []) = option_map (λ step. field Index n ∷ field Turn t ∷ []) (worded step_text all_steps s)
+place_fields ps = None
 
-abbrev pub IsNumberShape : Shape → Type 0
-IsNumberShape (Number text) = Unit {0}
-IsNumberShape (Split column bound) = ⊥
-IsNumberShape (Clash column) = ⊥
-IsNumberShape (Farkas pairs) = ⊥
-IsNumberShape (Bound pairs) = ⊥
-IsNumberShape Killed = ⊥
-IsNumberShape (NodeLimit limit) = ⊥
-IsNumberShape (TurnLimit limit) = ⊥
-IsNumberShape (Wide node turn step) = ⊥
-IsNumberShape Length = ⊥
-IsNumberShape Memory = ⊥
+abbrev pub node_behind : NodeWord → List (List ℕ) → Option (List Field)
+node_behind nodes.Split ps = two_fields Index Whole ps
+node_behind nodes.Clash ps = one_field Index ps
+node_behind nodes.Farkas ps = mults_fields ps
+node_behind nodes.Bound ps = mults_fields ps
 
--- the shapes of a part's items
-abbrev pub IsOfPart : Part → Shape → Type 0
-IsOfPart Point s = IsNumberShape s
-IsOfPart Value s = IsNumberShape s
-IsOfPart Ray s = IsNumberShape s
-IsOfPart Tree s = IsNodeShape s
-IsOfPart Cause s = IsCauseShape s
+abbrev pub cause_behind : CauseWord → List (List ℕ) → Option (List Field)
+cause_behind causes.Killed ps = no_field ps
+cause_behind causes.NodeLimit ps = one_field Index ps
+cause_behind causes.TurnLimit ps = one_field Index ps
+cause_behind causes.Wide ps = place_fields ps
+cause_behind causes.Length ps = no_field ps
+cause_behind causes.Memory ps = no_field ps
 
--- an item of a part
-pub record Item : Type 0 where
-  pub part : Part
-  pub text : List ℕ
+-- of pieces that begin with one of these words
+abbrev pub behind_word : {W : Type 0} → (W → List (List ℕ) → Option (List Field)) → Option W → List (List ℕ) → Option (List Field)
+behind_word {W} behind None ps = None
+behind_word {W} behind (Some w) ps = behind w ps
 
-abbrev pub HasShape : Item → Shape → Type 0
-HasShape i s = (i.text ≡ shape_text s) × IsOfPart i.part s
+abbrev pub worded_fields : {W : Type 0} → (W → List ℕ) → List W → (W → List (List ℕ) → Option (List Field)) → List (List ℕ) → Option (List Field)
+worded_fields {W} word all behind [] = None
+worded_fields {W} word all behind (p ∷ ps) = behind_word behind (worded word all p) ps
 
--- what is wrong with an item: it isn't of its shape, a text in it isn't a number, or a number is too great
-abbrev pub IsItemUnread : Item → Unread → Type 0
-IsItemUnread i NoShape = (s : Shape) → HasShape i s → ⊥
-IsItemUnread i NoNumber = (s : Shape) × HasShape i s × (All IsWritten (item_fields s) → ⊥)
-IsItemUnread i TooGreat = (s : Shape) × HasShape i s × All IsWritten (item_fields s) × (All IsFieldRead (item_fields s) → ⊥)
+-- of an item of a part
+abbrev pub item_fields : Part → List ℕ → Option (List Field)
+item_fields Tree text = worded_fields node_word all_node_words node_behind (pieces text)
+item_fields Cause text = worded_fields cause_word all_cause_words cause_behind (pieces text)
+item_fields p text = Some (field Exact text ∷ [])
 
--- nothing is wrong with it
-abbrev pub IsReadableItem : Item → Type 0
-IsReadableItem i = (s : Shape) × HasShape i s × All IsFieldRead (item_fields s)
+-- what is wrong with the numbers, as it is told of the item
+abbrev pub misread_of : Unread → Misread
+misread_of NotNumber = NoNumber
+misread_of Wide = TooGreat
+
+-- all of these texts were read, and say so; or this is wrong with the item
+abbrev pub ReadsSo : {A : Type 0} → Option (List Field) → Result A Misread → (A → Type 0) → Type 0
+ReadsSo {A} None r Says = r ≡ Err NoShape
+ReadsSo {A} (Some fs) (Ok a) Says = AllPass IsBad fs × AllPass IsTooGreat fs × Says a
+ReadsSo {A} (Some fs) (Err NoShape) Says = ⊥
+ReadsSo {A} (Some fs) (Err NoNumber) Says = OneFirst IsBad fs
+ReadsSo {A} (Some fs) (Err TooGreat) Says = AllPass IsBad fs × OneFirst IsTooGreat fs

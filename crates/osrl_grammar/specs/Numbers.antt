@@ -1,5 +1,8 @@
 -- The numbers of a certificate's items, all in the form of exact numbers (see Numbers): columns, nodes and limits, turns, whole numbers, and fractions.
-use Rattle.std.specs.Prelude.{◌≡◌, ℕ, ◌^◌, ◌<◌, pos, unsigned_abs, List}
+use Rattle.std.specs.Prelude.{◌≡◌, ◌≢◌, ℕ, ◌^◌, ◌<◌, pos, unsigned_abs, List}
+use Rattle.std.specs.List.{All}
+use Rattle.tag_tests.specs.declared.numbers.Unread.{Unread}
+use Rattle.tag_tests.specs.declared.numbers.Unread.TheVariants.{NotNumber, Wide}
 use Rattle.rational.specs.Ratio.{Ratio, whole}
 use Rattle.rational.specs.Width.{IsReduced, IsWithin}
 use Rattle.decimal_text.specs.Exact.{RatioText}
@@ -43,6 +46,18 @@ pub record Field : Type 0 where
 abbrev pub IsWritten : Field → Type 0
 IsWritten f = (x : Ratio) × WritesNumber f.kind f.text x
 
--- it is a number
-abbrev pub IsFieldRead : Field → Type 0
-IsFieldRead f = (x : Ratio) × IsNumberText f.kind f.text x
+-- it isn't, or the number is too great
+abbrev pub IsBad : Field → Type 0
+IsBad f = IsWritten f → ⊥
+
+abbrev pub IsTooGreat : Field → Type 0
+IsTooGreat f = (x : Ratio) × WritesNumber f.kind f.text x × (FitsKind f.kind x → ⊥)
+
+-- why the text isn't a number of this kind
+abbrev pub IsNot : Kind → List ℕ → Unread → Type 0
+IsNot kind text NotNumber = (x : Ratio) → WritesNumber kind text x → ⊥
+IsNot kind text Wide = (x : Ratio) × WritesNumber kind text x × (FitsKind kind x → ⊥)
+
+-- a text without this byte
+abbrev pub IsFree : ℕ → List ℕ → Type 0
+IsFree byte text = All (λ b. b ≢ byte) text

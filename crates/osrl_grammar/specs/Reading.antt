@@ -4,8 +4,7 @@ use Rattle.document_tags.specs.Documents.{OfDocument, Fails}
 use Rattle.osrl_grammar.specs.declared.report.Report.{Report}
 use Rattle.osrl_grammar.specs.declared.fault.OsrlFault.{OsrlFault}
 use Rattle.osrl_grammar.specs.declared.fault.OsrlFault.TheVariants.{Tree, Memory}
-use Rattle.osrl_grammar.specs.Refusals.{IsRefused}
-use Rattle.osrl_grammar.specs.Meaning.{IsReport}
+use Rattle.osrl_grammar.specs.Marked.{IsReport, IsRefused}
 
 -- the bytes are the document of a report
 abbrev pub IsReportText : List ℕ → Report → Type 0

@@ -1,5 +1,5 @@
 -- What items stand for: numbers, nodes and causes.
-use Rattle.std.specs.Prelude.{◌≡◌, ℕ, pos, List}
+use Rattle.std.specs.Prelude.{◌≡◌, ℕ, pos, Option, None, Some, List, [], ◌∷◌}
 use Rattle.std.specs.List.{AllZip}
 use Rattle.rational.specs.Ratio.{whole}
 use Rattle.fraction.specs.Frac.{ratio}
@@ -7,36 +7,83 @@ use Rattle.fraction.specs.declared.frac.Frac.{Frac}
 use Rattle.certificate.specs.declared.lists.Mult.{Mult}
 use Rattle.certificate.specs.declared.nodes.Node.{Node}
 use Rattle.certificate.specs.declared.nodes.Node.TheVariants as nodes
+use Rattle.certificate.specs.declared.causes.Place.{Place}
 use Rattle.certificate.specs.declared.causes.Cause as why
 use Rattle.certificate.specs.declared.causes.Cause.TheVariants as causes
+use Rattle.osrl_grammar.specs.declared.parts.NodeWord.{NodeWord}
+use Rattle.osrl_grammar.specs.declared.parts.NodeWord.TheVariants as heads
+use Rattle.osrl_grammar.specs.declared.parts.CauseWord.{CauseWord}
+use Rattle.osrl_grammar.specs.declared.parts.CauseWord.TheVariants as reasons
 use Rattle.osrl_grammar.specs.Numbers.{Index, Turn, Whole, Exact, IsNumberText}
-use Rattle.osrl_grammar.specs.Items.{Pair, Shape, Split, Clash, Farkas, Bound, Killed, NodeLimit, TurnLimit, Wide, Length, Memory, HasShape}
-use Rattle.osrl_grammar.specs.declared.parts.Part.TheVariants.{Tree, Cause}
+use Rattle.osrl_grammar.specs.Pieces.{pieces, Pair, parted}
+use Rattle.osrl_grammar.specs.Items.{node_word, cause_word, step_text}
 
 abbrev pub IsFraction : List ℕ → Frac → Type 0
 IsFraction text x = IsNumberText Exact text (ratio x)
 
-abbrev pub IsMult : Pair → Mult → Type 0
-IsMult p m = IsNumberText Index p.column (whole (pos m.col)) × IsFraction p.factor m.value
+-- whole numbers from 0 on
+abbrev pub IsIndex : List ℕ → ℕ → Type 0
+IsIndex text n = IsNumberText Index text (whole (pos n))
 
--- a node of a tree of cases
-abbrev pub SaysNode : Node → Shape → Type 0
-SaysNode (nodes.Split j k) s = (column bound : List ℕ) × (s ≡ Split column bound) × IsNumberText Index column (whole (pos j)) × IsNumberText Whole bound (whole k)
-SaysNode (nodes.Clash c) s = (column : List ℕ) × (s ≡ Clash column) × IsNumberText Index column (whole (pos c))
-SaysNode (nodes.Farkas ms) s = (pairs : List Pair) × (s ≡ Farkas pairs) × AllZip IsMult pairs ms
-SaysNode (nodes.Bound ms) s = (pairs : List Pair) × (s ≡ Bound pairs) × AllZip IsMult pairs ms
+abbrev pub IsTurn : List ℕ → ℕ → Type 0
+IsTurn text n = IsNumberText Turn text (whole (pos n))
 
--- why a search stopped
-abbrev pub SaysCause : why.Cause → Shape → Type 0
-SaysCause causes.Killed s = s ≡ Killed
-SaysCause (causes.NodeLimit n) s = (limit : List ℕ) × (s ≡ NodeLimit limit) × IsNumberText Index limit (whole (pos n))
-SaysCause (causes.TurnLimit n) s = (limit : List ℕ) × (s ≡ TurnLimit limit) × IsNumberText Index limit (whole (pos n))
-SaysCause (causes.Wide p) s = (node turn : List ℕ) × (s ≡ Wide node turn p.step) × IsNumberText Index node (whole (pos p.node)) × IsNumberText Turn turn (whole (pos p.turn))
-SaysCause causes.Length s = s ≡ Length
-SaysCause causes.Memory s = s ≡ Memory
+abbrev pub IsMultOf : Option Pair → Mult → Type 0
+IsMultOf None m = ⊥
+IsMultOf (Some p) m = IsIndex p.column m.col × IsFraction p.factor m.value
+
+abbrev pub IsMult : List ℕ → Mult → Type 0
+IsMult piece m = IsMultOf (parted piece) m
+
+-- one piece that is an index
+abbrev pub IsOne : List (List ℕ) → ℕ → Type 0
+IsOne (t ∷ []) n = IsIndex t n
+IsOne ps n = ⊥
+
+abbrev pub IsPlace : List (List ℕ) → Place → Type 0
+IsPlace (n ∷ t ∷ s ∷ []) p = IsIndex n p.node × IsTurn t p.turn × (s ≡ step_text p.step)
+IsPlace ps p = ⊥
+
+-- the word of a node, and the pieces behind it
+abbrev pub node_head : Node → NodeWord
+node_head (nodes.Split j k) = heads.Split
+node_head (nodes.Clash c) = heads.Clash
+node_head (nodes.Farkas ms) = heads.Farkas
+node_head (nodes.Bound ms) = heads.Bound
+
+abbrev pub SaysNode : Node → List (List ℕ) → Type 0
+SaysNode (nodes.Split j k) (c ∷ b ∷ []) = IsIndex c j × IsNumberText Whole b (whole k)
+SaysNode (nodes.Split j k) ps = ⊥
+SaysNode (nodes.Clash c) ps = IsOne ps c
+SaysNode (nodes.Farkas ms) ps = AllZip IsMult ps ms
+SaysNode (nodes.Bound ms) ps = AllZip IsMult ps ms
+
+-- the word of why a search stopped, and the pieces behind it
+abbrev pub cause_head : why.Cause → CauseWord
+cause_head causes.Killed = reasons.Killed
+cause_head (causes.NodeLimit n) = reasons.NodeLimit
+cause_head (causes.TurnLimit n) = reasons.TurnLimit
+cause_head (causes.Wide p) = reasons.Wide
+cause_head causes.Length = reasons.Length
+cause_head causes.Memory = reasons.Memory
+
+abbrev pub SaysCause : why.Cause → List (List ℕ) → Type 0
+SaysCause (causes.NodeLimit n) ps = IsOne ps n
+SaysCause (causes.TurnLimit n) ps = IsOne ps n
+SaysCause (causes.Wide p) ps = IsPlace ps p
+SaysCause c ps = ps ≡ []
+
+-- it is of this word, and said by what stands behind
+abbrev pub Behind : {W X : Type 0} → (X → W) → (X → List (List ℕ) → Type 0) → W → List (List ℕ) → X → Type 0
+Behind {W} {X} head Says w ps x = (head x ≡ w) × Says x ps
+
+-- pieces of which the first is the word
+abbrev pub Begins : {W X : Type 0} → (W → List ℕ) → (X → W) → (X → List (List ℕ) → Type 0) → List (List ℕ) → X → Type 0
+Begins {W} {X} word head Says [] x = ⊥
+Begins {W} {X} word head Says (p ∷ ps) x = (p ≡ word (head x)) × Says x ps
 
 abbrev pub IsNode : List ℕ → Node → Type 0
-IsNode text n = (s : Shape) × HasShape (record { part = Tree; text = text }) s × SaysNode n s
+IsNode text n = Begins node_word node_head SaysNode (pieces text) n
 
 abbrev pub IsCause : List ℕ → why.Cause → Type 0
-IsCause text c = (s : Shape) × HasShape (record { part = Cause; text = text }) s × SaysCause c s
+IsCause text c = Begins cause_word cause_head SaysCause (pieces text) c

@@ -22,8 +22,8 @@ use Rattle.osrl_grammar.specs.declared.parts.Part.TheVariants as parts
 use Rattle.osrl_grammar.specs.declared.parts.Claiming.{Claiming}
 use Rattle.osrl_grammar.specs.declared.parts.Claiming.TheVariants as claiming
 use Rattle.osrl_grammar.specs.Items.{step_text}
-use Rattle.osrl_grammar.specs.Parts.{part_name}
-use Rattle.osrl_grammar.specs.Refusals.{claiming_text, status_text}
+use Rattle.osrl_grammar.specs.Words.{part_name}
+use Rattle.osrl_grammar.specs.Words.{claiming_text, status_text}
 
 -- an element with an index that holds a cut number, and then more
 abbrev pub indexed : (name index : List ℕ) → Frac → Nodes → Nodes

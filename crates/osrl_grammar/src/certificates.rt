@@ -4,7 +4,7 @@ ghost use Rattle.std.specs.Prelude.{◌≡◌, [], ◌∷◌, OnOk, map, codes};
 ghost use Rattle.tree_grammar.specs.Elements.{none, nodes_events};
 ghost use Rattle.document_tags.specs.Writing as nodes;
 ghost use Rattle.osrl_grammar.specs.Writing as writing;
-ghost use Rattle.osrl_grammar.specs.Parts as named;
+ghost use Rattle.osrl_grammar.specs.Words as named;
 ghost use Rattle.document_tags.specs.Telling.{Told, opening};
 
 use crate::item_texts::{cause_text, node_text};

@@ -5,7 +5,7 @@ ghost use Rattle.tree_grammar.specs.Elements.{none, nodes_events};
 ghost use Rattle.certificate.specs.declared.claims.Claim.TheVariants.{Optimal, Infeasible, Unbounded, BestSoFar, Unsure};
 ghost use Rattle.document_tags.specs.Writing as nodes;
 ghost use Rattle.osrl_grammar.specs.Writing as writing;
-ghost use Rattle.osrl_grammar.specs.Refusals as words;
+ghost use Rattle.osrl_grammar.specs.Words as words;
 ghost use Rattle.document_tags.specs.Telling.{Told, whole_element};
 
 use crate::certificates::{tell_cause, tell_numbers, tell_point, tell_tree};

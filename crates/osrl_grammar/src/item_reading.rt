@@ -1,54 +1,40 @@
 //! The items of a certificate's parts.
 
-ghost use Rattle.std.specs.Prelude.{◌≡◌, ◌++◌, ◌∷◌, [], ℕ, List, Ok, IfOk, IfErr, MatchOption, OnOk, codes, pos};
-ghost use Rattle.std.specs.List.{All};
-ghost use Rattle.certificate.specs.declared.causes.Cause.TheVariants as causes;
-ghost use Rattle.osrl_grammar.specs.Numbers.{Field, IsFieldRead};
-ghost use Rattle.osrl_grammar.specs.Items.{Pair, IsFree, IsItemUnread, IsReadableItem, step_text, pair_fields};
-ghost use Rattle.osrl_grammar.specs.Values.{IsMult, IsNode, IsCause};
-ghost use Rattle.osrl_grammar.specs.Fields.{AreNot, AreFieldsRead};
-ghost use Rattle.osrl_grammar.specs.Claiming.{IsOnly};
-ghost use Rattle.osrl_grammar.specs.Pieces.{SoFar, IsPairRead, ArePairsRead, tail, node_item, cause_item};
+ghost use Rattle.std.specs.Prelude.{◌≡◌, ◌++◌, ◌∷◌, [], ℕ, List, Some, IfOk};
+ghost use Rattle.std.specs.List.{AllZip};
+ghost use Rattle.tag_tests.specs.Fields.{FieldsRead};
+ghost use Rattle.osrl_grammar.specs.declared.parts.Part.TheVariants as parts;
+ghost use Rattle.osrl_grammar.specs.declared.parts.NodeWord.TheVariants as heads;
+ghost use Rattle.osrl_grammar.specs.Words.{worded};
+ghost use Rattle.osrl_grammar.specs.Numbers.{Index, Field, IsBad, IsTooGreat};
+ghost use Rattle.osrl_grammar.specs.Pieces.{more};
+ghost use Rattle.osrl_grammar.specs.Items as items;
+ghost use Rattle.osrl_grammar.specs.Items.{ReadsSo, pair_fields, mults_fields};
+ghost use Rattle.osrl_grammar.specs.Values.{IsMult, IsMultOf, IsOne, IsPlace, Behind, node_head, SaysNode, IsNode, cause_head, SaysCause, IsCause};
+ghost use Rattle.osrl_grammar.specs.Stepping.{ReadMults};
 
 use crate::numbers::{read_exact, read_index, read_turn, read_whole};
-use crate::parts::{Part, Unread};
-use crate::pieces::{cut, is_free, parted, two_pieces};
+use crate::parts::{CauseWord, Misread, NodeWord};
+use crate::pieces::{first_piece, one_piece, parted, three_pieces, two_pieces};
 use crate::words::with_word;
 use certificate::{Cause, Mult, Mults, Node, Place, Step};
 use os_io::Memory;
 use std::alloc::Global;
+use tag_tests::{Unread, both};
 
-/// Of what is wrong with some texts in place of numbers, and with others, what is told of both.
-fn worse(a: Unread, b: Unread) -> Unread
-    ensures { (fs gs : List Field) → AreNot fs a → AreNot gs b → AreNot (fs ++ gs) result }
+/// What is wrong with the numbers of an item, as it is told of the item.
+pub(crate) fn misread(unread: Unread) -> Misread
+    ensures { result ≡ items.misread_of unread }
 {
-    match a {
-        Unread::TooGreat => b,
-        Unread::NoShape | Unread::NoNumber => a,
-    }
-}
-
-/// Both, or the fault that is told.
-fn both<A: Copy, B: Copy>(a: Result<A, Unread>, b: Result<B, Unread>) -> Result<(A, B), Unread>
-    ensures ok { IfOk result (λ p. (a ≡ Ok p.0) × (b ≡ Ok p.1)) }
-    ensures read { (fs gs : List Field) → AreFieldsRead fs a → AreFieldsRead gs b → AreFieldsRead (fs ++ gs) result }
-{
-    match a {
-        Ok(x) => match b {
-            Ok(y) => Ok((x, y)),
-            Err(unread) => Err(unread),
-        },
-        Err(unread) => match b {
-            Ok(_) => Err(unread),
-            Err(other) => Err(worse(unread, other)),
-        },
+    match unread {
+        Unread::NotNumber => Misread::NoNumber,
+        Unread::Wide => Misread::TooGreat,
     }
 }
 
 /// A column and its multiplier.
 fn read_mult(column: &[u8], factor: &[u8]) -> Result<Mult, Unread>
-    ensures ok { IfOk result (IsMult (record { column = column.now; factor = factor.now })) }
-    ensures err { IfErr result (AreNot (pair_fields (record { column = column.now; factor = factor.now }))) }
+    ensures { FieldsRead IsBad IsTooGreat (pair_fields (record { column = column.now; factor = factor.now })) result (IsMultOf (Some (record { column = column.now; factor = factor.now }))) }
 {
     match both(read_index(column), read_exact(factor)) {
         Ok((col, value)) => Ok(Mult { col, value }),
@@ -56,125 +42,139 @@ fn read_mult(column: &[u8], factor: &[u8]) -> Result<Mult, Unread>
     }
 }
 
-/// The fault so far with that of one pair more.
-fn with_fault(fault: Option<Unread>, unread: Unread) -> Unread
-    ensures { (fs gs : List Field) → MatchOption fault (All IsFieldRead fs) (AreNot fs) → AreNot gs unread → AreNot (fs ++ gs) result }
-{
-    match fault {
-        Some(before) => worse(before, unread),
-        None => unread,
-    }
-}
-
-/// Adds the multiplier of one pair more, or tells what is wrong so far.
+/// Adds one multiplier more, where all before it were read.
 fn push_read(
     mults: &mut Mults,
-    fault: Option<Unread>,
+    so_far: Result<(), Unread>,
     mult: Result<Mult, Unread>,
-) -> Result<Option<Unread>, Memory>
-    ensures { (done : List Pair) (pair : Pair) → SoFar done mults.old fault → IsPairRead pair mult → IfOk result (SoFar (done ++ pair ∷ []) mults.new) }
+) -> Result<Result<(), Unread>, Memory>
+    ensures { (done : List (List ℕ)) (piece : List ℕ) (fs gs : List Field) → ReadMults done fs mults.old so_far → FieldsRead IsBad IsTooGreat gs mult (IsMult piece) → IfOk result (ReadMults (done ++ piece ∷ []) (fs ++ gs) mults.new) }
 {
-    match mult {
-        Ok(mult) => {
+    match both(so_far, mult) {
+        Ok((_, mult)) => {
             mults.push(mult)?;
-            Ok(fault)
+            Ok(Ok(()))
         }
-        Err(unread) => Ok(Some(with_fault(fault, unread))),
+        Err(unread) => Ok(Err(unread)),
     }
 }
 
-/// Multipliers, each behind a space.
-fn read_mults(alloc: Global, pairs: Option<&[u8]>) -> Result<Result<Mults, Unread>, Memory>
-    ensures { IfOk result (ArePairsRead (tail pairs.entry)) }
+/// Multipliers, one a piece.
+fn read_mults(alloc: Global, pairs: Option<&[u8]>) -> Result<Result<Mults, Misread>, Memory>
+    ensures { IfOk result (λ r. ReadsSo (mults_fields (more pairs.entry)) r (AllZip IsMult (more pairs.entry))) }
 {
     let mut mults = Mults::new(alloc);
-    let mut fault = None;
+    let mut so_far = Ok(());
     let mut rest = pairs;
     while let Some(text) = rest {
-        let (pair, more) = cut(text, b' ');
-        let Some((column, factor)) = parted(pair, b':') else {
-            return Ok(Err(Unread::NoShape));
+        let (piece, behind) = first_piece(text);
+        let Some((column, factor)) = parted(piece) else {
+            return Ok(Err(Misread::NoShape));
         };
-        fault = push_read(&mut mults, fault, read_mult(column, factor))?;
-        rest = more;
+        so_far = push_read(&mut mults, so_far, read_mult(column, factor))?;
+        rest = behind;
     }
-    match fault {
-        Some(unread) => Ok(Err(unread)),
-        None => Ok(Ok(mults)),
+    match so_far {
+        Ok(()) => Ok(Ok(mults)),
+        Err(unread) => Ok(Err(misread(unread))),
+    }
+}
+
+/// A column, or a limit, that stands alone.
+fn read_one(rest: Option<&[u8]>) -> Result<u32, Misread>
+    ensures { ReadsSo (items.one_field Index (more rest.entry)) result (IsOne (more rest.entry)) }
+{
+    let Some(text) = one_piece(rest) else {
+        return Err(Misread::NoShape);
+    };
+    match read_index(text) {
+        Ok(n) => Ok(n),
+        Err(unread) => Err(misread(unread)),
     }
 }
 
 /// A split behind its word.
-fn read_split(rest: &[u8]) -> Result<Node, Unread>
-    ensures ok { IfOk result (IsNode (codes "split " ++ rest.now)) }
-    ensures err { IfErr result (IsItemUnread (node_item (codes "split " ++ rest.now))) }
+fn read_split(rest: Option<&[u8]>) -> Result<Node, Misread>
+    ensures { ReadsSo (items.node_behind heads.Split (more rest.entry)) result (Behind node_head SaysNode heads.Split (more rest.entry)) }
 {
     let Some((column, bound)) = two_pieces(rest) else {
-        return Err(Unread::NoShape);
+        return Err(Misread::NoShape);
     };
     match both(read_index(column), read_whole(bound)) {
         Ok((col, k)) => Ok(Node::Split { col, k }),
-        Err(unread) => Err(unread),
+        Err(unread) => Err(misread(unread)),
     }
 }
 
 /// A clash behind its word.
-fn read_clash(rest: &[u8]) -> Result<Node, Unread>
-    ensures ok { IfOk result (IsNode (codes "clash " ++ rest.now)) }
-    ensures err { IfErr result (IsItemUnread (node_item (codes "clash " ++ rest.now))) }
+fn read_clash(rest: Option<&[u8]>) -> Result<Node, Misread>
+    ensures { ReadsSo (items.node_behind heads.Clash (more rest.entry)) result (Behind node_head SaysNode heads.Clash (more rest.entry)) }
 {
-    if !is_free(rest, b' ') {
-        return Err(Unread::NoShape);
-    }
-    match read_index(rest) {
+    match read_one(rest) {
         Ok(col) => Ok(Node::Clash { col }),
-        Err(unread) => Err(unread),
+        Err(misread) => Err(misread),
     }
 }
 
 /// Multipliers by which no point is feasible.
-fn farkas(mults: Result<Mults, Unread>) -> Result<Node, Unread>
-    ensures ok { (text : List ℕ) → ArePairsRead text mults → IfOk result (IsNode (codes "farkas" ++ text)) }
-    ensures err { (text : List ℕ) → ArePairsRead text mults → IfErr result (IsItemUnread (node_item (codes "farkas" ++ text))) }
+fn farkas(mults: Result<Mults, Misread>) -> Result<Node, Misread>
+    ensures { (ps : List (List ℕ)) → ReadsSo (mults_fields ps) mults (AllZip IsMult ps) → ReadsSo (mults_fields ps) result (Behind node_head SaysNode heads.Farkas ps) }
 {
     match mults {
         Ok(mults) => Ok(Node::Farkas(mults)),
-        Err(unread) => Err(unread),
+        Err(misread) => Err(misread),
     }
 }
 
 /// Multipliers by which no point is better.
-fn bound(mults: Result<Mults, Unread>) -> Result<Node, Unread>
-    ensures ok { (text : List ℕ) → ArePairsRead text mults → IfOk result (IsNode (codes "bound" ++ text)) }
-    ensures err { (text : List ℕ) → ArePairsRead text mults → IfErr result (IsItemUnread (node_item (codes "bound" ++ text))) }
+fn bound(mults: Result<Mults, Misread>) -> Result<Node, Misread>
+    ensures { (ps : List (List ℕ)) → ReadsSo (mults_fields ps) mults (AllZip IsMult ps) → ReadsSo (mults_fields ps) result (Behind node_head SaysNode heads.Bound ps) }
 {
     match mults {
         Ok(mults) => Ok(Node::Bound(mults)),
-        Err(unread) => Err(unread),
+        Err(misread) => Err(misread),
     }
 }
 
-/// The node that an item is.
-pub(crate) fn read_node(alloc: Global, text: &[u8]) -> Result<Result<Node, Unread>, Memory>
-    ensures ok { IfOk result (λ r. IfOk r (IsNode text.now)) }
-    ensures err { IfOk result (λ r. IfErr r (IsItemUnread (node_item text.now))) }
+/// A node behind its word.
+fn node_of(
+    alloc: Global,
+    word: NodeWord,
+    rest: Option<&[u8]>,
+) -> Result<Result<Node, Misread>, Memory>
+    ensures { IfOk result (λ r. ReadsSo (items.node_behind word (more rest.entry)) r (Behind node_head SaysNode word (more rest.entry))) }
 {
-    let (word, rest) = cut(text, b' ');
-    if word == b"farkas".as_slice() {
-        return Ok(farkas(read_mults(alloc, rest)?));
+    match word {
+        NodeWord::Split => Ok(read_split(rest)),
+        NodeWord::Clash => Ok(read_clash(rest)),
+        NodeWord::Farkas => Ok(farkas(read_mults(alloc, rest)?)),
+        NodeWord::Bound => Ok(bound(read_mults(alloc, rest)?)),
     }
-    if word == b"bound".as_slice() {
-        return Ok(bound(read_mults(alloc, rest)?));
-    }
-    let Some(rest) = rest else {
-        return Ok(Err(Unread::NoShape));
-    };
-    if word == b"split".as_slice() {
-        Ok(read_split(rest))
-    } else if word == b"clash".as_slice() {
-        Ok(read_clash(rest))
-    } else {
-        Ok(Err(Unread::NoShape))
+}
+
+/// The words of nodes.
+const NODE_WORDS: [NodeWord; 4] = [
+    NodeWord::Split,
+    NodeWord::Clash,
+    NodeWord::Farkas,
+    NodeWord::Bound,
+];
+
+/// The kind of node of this word, if there is one.
+fn node_word(word: &[u8]) -> Option<NodeWord>
+    ensures { result ≡ worded items.node_word items.all_node_words word.now }
+{
+    with_word(word, &NODE_WORDS)
+}
+
+/// The node that an item is.
+pub(crate) fn read_node(alloc: Global, text: &[u8]) -> Result<Result<Node, Misread>, Memory>
+    ensures { IfOk result (λ r. ReadsSo (items.item_fields parts.Tree text.now) r (IsNode text.now)) }
+{
+    let (word, rest) = first_piece(text);
+    match node_word(word) {
+        Some(word) => node_of(alloc, word, rest),
+        None => Ok(Err(Misread::NoShape)),
     }
 }
 
@@ -190,98 +190,84 @@ const STEPS: [Step; 6] = [
 
 /// The step of this word, if there is one.
 fn step_of(word: &[u8]) -> Option<Step>
-    ensures { IsOnly (λ step. word.now ≡ step_text step) result }
+    ensures { result ≡ worded items.step_text items.all_steps word.now }
 {
     with_word(word, &STEPS)
 }
 
-/// The place of a number that was too wide, behind its word.
-fn read_place(rest: &[u8]) -> Result<Place, Unread>
-    ensures ok { IfOk result (λ place. IsCause (codes "wide " ++ rest.now) (causes.Wide place)) }
-    ensures err { IfErr result (IsItemUnread (cause_item (codes "wide " ++ rest.now))) }
+/// The place of a number that was too wide.
+fn read_place(rest: Option<&[u8]>) -> Result<Place, Misread>
+    ensures { ReadsSo (items.place_fields (more rest.entry)) result (IsPlace (more rest.entry)) }
 {
-    let Some((node, rest)) = parted(rest, b' ') else {
-        return Err(Unread::NoShape);
-    };
-    let Some((turn, word)) = two_pieces(rest) else {
-        return Err(Unread::NoShape);
+    let Some((node, turn, word)) = three_pieces(rest) else {
+        return Err(Misread::NoShape);
     };
     let Some(step) = step_of(word) else {
-        return Err(Unread::NoShape);
+        return Err(Misread::NoShape);
     };
     match both(read_index(node), read_turn(turn)) {
         Ok((node, turn)) => Ok(Place { node, turn, step }),
-        Err(unread) => Err(unread),
+        Err(unread) => Err(misread(unread)),
     }
 }
 
-/// A limit behind its word.
-fn read_limit(rest: &[u8]) -> Result<u32, Unread>
-    ensures nodes { IfOk result (λ n. IsCause (codes "nodeLimit " ++ rest.now) (causes.NodeLimit n)) }
-    ensures turns { IfOk result (λ n. IsCause (codes "turnLimit " ++ rest.now) (causes.TurnLimit n)) }
-    ensures no_nodes { IfErr result (IsItemUnread (cause_item (codes "nodeLimit " ++ rest.now))) }
-    ensures no_turns { IfErr result (IsItemUnread (cause_item (codes "turnLimit " ++ rest.now))) }
+/// This cause, where nothing stands behind its word.
+fn alone(rest: Option<&[u8]>, cause: Cause) -> Result<Cause, Misread>
+    ensures { ReadsSo (items.no_field (more rest.entry)) result (λ c. (c ≡ cause) × (more rest.entry ≡ [])) }
 {
-    if is_free(rest, b' ') {
-        read_index(rest)
-    } else {
-        Err(Unread::NoShape)
+    match rest {
+        None => Ok(cause),
+        Some(_) => Err(Misread::NoShape),
     }
 }
 
-/// A cause that has numbers.
-fn read_counted(word: &[u8], rest: &[u8]) -> Result<Cause, Unread>
-    requires { IsFree 32 word.now }
-    ensures ok { IfOk result (IsCause (word.now ++ 32 ∷ rest.now)) }
-    ensures err { IfErr result (IsItemUnread (cause_item (word.now ++ 32 ∷ rest.now))) }
+/// A cause behind its word.
+fn cause_of(word: CauseWord, rest: Option<&[u8]>) -> Result<Cause, Misread>
+    ensures { ReadsSo (items.cause_behind word (more rest.entry)) result (Behind cause_head SaysCause word (more rest.entry)) }
 {
-    if word == b"wide".as_slice() {
-        match read_place(rest) {
-            Ok(place) => Ok(Cause::Wide(place)),
-            Err(unread) => Err(unread),
-        }
-    } else if word == b"nodeLimit".as_slice() {
-        match read_limit(rest) {
+    match word {
+        CauseWord::Killed => alone(rest, Cause::Killed),
+        CauseWord::Length => alone(rest, Cause::Length),
+        CauseWord::Memory => alone(rest, Cause::Memory),
+        CauseWord::NodeLimit => match read_one(rest) {
             Ok(n) => Ok(Cause::NodeLimit(n)),
-            Err(unread) => Err(unread),
-        }
-    } else if word == b"turnLimit".as_slice() {
-        match read_limit(rest) {
+            Err(misread) => Err(misread),
+        },
+        CauseWord::TurnLimit => match read_one(rest) {
             Ok(n) => Ok(Cause::TurnLimit(n)),
-            Err(unread) => Err(unread),
-        }
-    } else {
-        Err(Unread::NoShape)
+            Err(misread) => Err(misread),
+        },
+        CauseWord::Wide => match read_place(rest) {
+            Ok(place) => Ok(Cause::Wide(place)),
+            Err(misread) => Err(misread),
+        },
     }
+}
+
+/// The words of causes.
+const CAUSE_WORDS: [CauseWord; 6] = [
+    CauseWord::Killed,
+    CauseWord::NodeLimit,
+    CauseWord::TurnLimit,
+    CauseWord::Wide,
+    CauseWord::Length,
+    CauseWord::Memory,
+];
+
+/// The kind of cause of this word, if there is one.
+fn cause_word(word: &[u8]) -> Option<CauseWord>
+    ensures { result ≡ worded items.cause_word items.all_cause_words word.now }
+{
+    with_word(word, &CAUSE_WORDS)
 }
 
 /// The cause that an item is.
-pub(crate) fn read_cause(text: &[u8]) -> Result<Cause, Unread>
-    ensures ok { IfOk result (IsCause text.now) }
-    ensures err { IfErr result (IsItemUnread (cause_item text.now)) }
+pub(crate) fn read_cause(text: &[u8]) -> Result<Cause, Misread>
+    ensures { ReadsSo (items.item_fields parts.Cause text.now) result (IsCause text.now) }
 {
-    let (word, rest) = cut(text, b' ');
-    if let Some(rest) = rest {
-        return read_counted(word, rest);
-    }
-    if word == b"killed".as_slice() {
-        Ok(Cause::Killed)
-    } else if word == b"length".as_slice() {
-        Ok(Cause::Length)
-    } else if word == b"memory".as_slice() {
-        Ok(Cause::Memory)
-    } else {
-        Err(Unread::NoShape)
-    }
-}
-
-/// What is wrong with an item, if anything is.
-pub(crate) fn item_fault(alloc: Global, part: Part, text: &[u8]) -> Result<Option<Unread>, Memory>
-    ensures { IfOk result (λ fault. MatchOption fault (IsReadableItem (record { part = part; text = text.now })) (IsItemUnread (record { part = part; text = text.now }))) }
-{
-    match part {
-        Part::Tree => Ok(read_node(alloc, text)?.err()),
-        Part::Cause => Ok(read_cause(text).err()),
-        Part::Point | Part::Value | Part::Ray => Ok(read_exact(text).err()),
+    let (word, rest) = first_piece(text);
+    match cause_word(word) {
+        Some(word) => cause_of(word, rest),
+        None => Err(Misread::NoShape),
     }
 }

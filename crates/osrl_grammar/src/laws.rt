@@ -18,7 +18,7 @@ pub fn comes_back()
 {}
 
 /// The laws of documents' characters.
-fn texts_are_of_characters()
+pub(crate) fn texts_are_of_characters()
     ensures { TextsAreOfCharacters }
 {
     documents_are_of_characters();

@@ -1,15 +1,17 @@
 //! Result documents (Optimization Services result language, in this project's profile): reports as documents say them.
 //!
-//! [`decode`] gives the report that a document says, or why it says none. [`encode`] writes a report as a document, and
+//! [`decode`] gives the report that a document says, or why it says none, and [`Decoder`] that of one which comes in
+//! pieces: a document is read mark by mark, and no tree of it is held. [`encode`] writes a report as a document, and
 //! [`comes_back`] says that this is the document of that report; [`reports_are_read_back`] says so of every report that was
 //! read. [`refusal_text`] says in words why a document is refused.
 #![tactic(auto)]
 
 mod certificates;
-mod checks;
-mod claims;
+mod decoder;
 mod document;
+mod elements;
 mod fault;
+mod held;
 mod item_reading;
 mod item_texts;
 mod laws;
@@ -19,16 +21,19 @@ mod pieces;
 mod reading;
 mod reading_laws;
 mod report;
+mod standing;
 mod texts;
 mod values;
 mod words;
 
+pub use decoder::Decoder;
 pub use document::encode;
 pub use fault::OsrlFault;
 pub use laws::{comes_back, reports_are_read_back};
 pub use reading::decode;
 pub use reading_laws::{
-    document_has_one_refusal, document_has_one_report, read_claims_fit, report_is_not_refused,
+    document_has_one_refusal, document_has_one_report, first_and_least_is_told, read_claims_fit,
+    report_is_not_refused,
 };
 pub use report::{JobStatus, Report};
 pub use texts::refusal_text;

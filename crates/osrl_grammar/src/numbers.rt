@@ -4,22 +4,21 @@ ghost use Rattle.std.specs.Prelude.{ℕ, List, IfOk, IfErr, pos};
 ghost use Rattle.rational.specs.Ratio.{whole};
 ghost use Rattle.fraction.specs.Frac.{ratio};
 ghost use Rattle.decimal_text.specs.Fault.{RefusesRatio};
-ghost use Rattle.osrl_grammar.specs.Numbers.{Index, Turn, Whole, Exact, IsNumberText, WritesNumber};
-ghost use Rattle.osrl_grammar.specs.Fields.{IsNot};
+ghost use Rattle.osrl_grammar.specs.Numbers.{Index, Turn, Whole, Exact, IsNumberText, WritesNumber, IsNot};
 
-use crate::parts::Unread;
 use crate::pieces::is_free;
 use decimal_text::{DecimalFault, read_ratio};
 use fraction::Frac;
+use tag_tests::Unread;
 
 /// What is wrong with a text that isn't a ratio.
 fn unread(fault: DecimalFault) -> Unread
     ensures { (text : List ℕ) → RefusesRatio text fault → IsNot Exact text result }
 {
     match fault {
-        DecimalFault::Wide => Unread::TooGreat,
-        DecimalFault::NotNumber { at: _ } => Unread::NoNumber,
-        DecimalFault::NotDecimal | DecimalFault::Memory => Unread::NoNumber,
+        DecimalFault::Wide => Unread::Wide,
+        DecimalFault::NotNumber { at: _ } => Unread::NotNumber,
+        DecimalFault::NotDecimal | DecimalFault::Memory => Unread::NotNumber,
     }
 }
 
@@ -40,7 +39,7 @@ pub(crate) fn read_whole(text: &[u8]) -> Result<i128, Unread>
     ensures err { IfErr result (IsNot Whole text.now) }
 {
     if !is_free(text, b'/') {
-        return Err(Unread::NoNumber);
+        return Err(Unread::NotNumber);
     }
     match read_exact(text) {
         Ok(x) => Ok(x.numer()),
@@ -55,7 +54,7 @@ fn read_size(text: &[u8]) -> Result<u128, Unread>
     ensures turn { IfErr result (IsNot Turn text.now) }
 {
     if !is_free(text, b'-') {
-        return Err(Unread::NoNumber);
+        return Err(Unread::NotNumber);
     }
     match read_whole(text) {
         Ok(k) => Ok(k.unsigned_abs()),
@@ -70,7 +69,7 @@ pub(crate) fn read_index(text: &[u8]) -> Result<u32, Unread>
 {
     match read_size(text) {
         Ok(n) if n <= u32::MAX as u128 => Ok(n as u32),
-        Ok(_) => Err(Unread::TooGreat),
+        Ok(_) => Err(Unread::Wide),
         Err(unread) => Err(unread),
     }
 }
@@ -82,7 +81,7 @@ pub(crate) fn read_turn(text: &[u8]) -> Result<u64, Unread>
 {
     match read_size(text) {
         Ok(n) if n <= u64::MAX as u128 => Ok(n as u64),
-        Ok(_) => Err(Unread::TooGreat),
+        Ok(_) => Err(Unread::Wide),
         Err(unread) => Err(unread),
     }
 }

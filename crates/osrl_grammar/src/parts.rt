@@ -1,7 +1,7 @@
 //! The parts of a claim's certificate, and the words of a result document.
 
 ghost use Rattle.std.specs.Prelude.{◌≡◌};
-ghost use Rattle.osrl_grammar.specs.Parts as named;
+ghost use Rattle.osrl_grammar.specs.Words as named;
 
 use crate::report::JobStatus;
 use crate::words::Worded;
@@ -27,10 +27,30 @@ pub(crate) enum Claiming {
     Unsure,
 }
 
+/// The kinds of nodes. Each has a word.
+#[derive(Clone, Copy, PartialEq, Eq)]
+pub(crate) enum NodeWord {
+    Split,
+    Clash,
+    Farkas,
+    Bound,
+}
+
+/// The kinds of causes. Each has a word.
+#[derive(Clone, Copy, PartialEq, Eq)]
+pub(crate) enum CauseWord {
+    Killed,
+    NodeLimit,
+    TurnLimit,
+    Wide,
+    Length,
+    Memory,
+}
+
 /// What is wrong with an item: it isn't of its shape, a text in it isn't a number, or a number is too great. Of several
 /// the first of these is told.
 #[derive(Clone, Copy, PartialEq, Eq)]
-pub(crate) enum Unread {
+pub(crate) enum Misread {
     NoShape,
     NoNumber,
     TooGreat,
@@ -50,7 +70,7 @@ pub(crate) fn part_name(part: Part) -> &'static [u8]
 }
 
 impl Worded for Claiming {
-    ghost use Rattle.osrl_grammar.specs.Refusals.{claiming_text};
+    ghost use Rattle.osrl_grammar.specs.Words.{claiming_text};
 
     ghost text = { claiming_text };
 
@@ -66,7 +86,7 @@ impl Worded for Claiming {
 }
 
 impl Worded for JobStatus {
-    ghost use Rattle.osrl_grammar.specs.Refusals.{status_text};
+    ghost use Rattle.osrl_grammar.specs.Words.{status_text};
 
     ghost text = { status_text };
 
@@ -95,6 +115,38 @@ impl Worded for Step {
             Step::Point => b"point",
             Step::Ray => b"ray",
             Step::Check => b"check",
+        }
+    }
+}
+
+impl Worded for NodeWord {
+    ghost use Rattle.osrl_grammar.specs.Items.{node_word};
+
+    ghost text = { node_word };
+
+    fn word(self) -> &'static [u8] {
+        match self {
+            NodeWord::Split => b"split",
+            NodeWord::Clash => b"clash",
+            NodeWord::Farkas => b"farkas",
+            NodeWord::Bound => b"bound",
+        }
+    }
+}
+
+impl Worded for CauseWord {
+    ghost use Rattle.osrl_grammar.specs.Items.{cause_word};
+
+    ghost text = { cause_word };
+
+    fn word(self) -> &'static [u8] {
+        match self {
+            CauseWord::Killed => b"killed",
+            CauseWord::NodeLimit => b"nodeLimit",
+            CauseWord::TurnLimit => b"turnLimit",
+            CauseWord::Wide => b"wide",
+            CauseWord::Length => b"length",
+            CauseWord::Memory => b"memory",
         }
     }
 }

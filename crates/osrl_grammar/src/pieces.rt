@@ -1,8 +1,9 @@
 //! The pieces of a text.
 
-ghost use Rattle.std.specs.Prelude.{◌≡◌, ◌↔◌, ◌++◌, ◌∷◌, ℕ, List, IsTrue, MatchOption};
-ghost use Rattle.osrl_grammar.specs.Items.{IsFree};
-ghost use Rattle.osrl_grammar.specs.Pieces.{IsParted, AreTwo};
+ghost use Rattle.std.specs.Prelude.{◌≡◌, ◌≢◌, ◌↔◌, ◌++◌, ◌∷◌, [], ℕ, List, IsTrue, MatchOption, None, Some, length};
+ghost use Rattle.osrl_grammar.specs.Numbers.{IsFree};
+ghost use Rattle.osrl_grammar.specs.Pieces as pieces;
+ghost use Rattle.osrl_grammar.specs.Pieces.{more};
 
 /// The text before the first such byte, and the text behind it; or all of it, where it has no such byte.
 pub(crate) fn cut(text: &[u8], byte: u8) -> (&[u8], Option<&[u8]>)
@@ -27,26 +28,56 @@ pub(crate) fn is_free(text: &[u8], byte: u8) -> bool
     }
 }
 
-/// The text before the first such byte and the text behind it, if it has one.
-pub(crate) fn parted(text: &[u8], byte: u8) -> Option<(&[u8], &[u8])>
-    ensures { MatchOption result (IsFree byte text.now) (λ p. IsParted byte text.now p.0.now p.1.now) }
+/// What stands before and behind the first colon of a piece, if it has one.
+pub(crate) fn parted(piece: &[u8]) -> Option<(&[u8], &[u8])>
+    ensures { MatchOption result (pieces.parted piece.now ≡ None) (λ p. pieces.parted piece.now ≡ Some (record { column = p.0.now; factor = p.1.now })) }
 {
-    match cut(text, byte) {
-        (_, None) => None,
-        (front, Some(behind)) => Some((front, behind)),
+    let (column, behind) = cut(piece, b':');
+    match behind {
+        Some(factor) => Some((column, factor)),
+        None => None,
     }
 }
 
-/// Two pieces with one space between them.
-pub(crate) fn two_pieces(text: &[u8]) -> Option<(&[u8], &[u8])>
-    ensures { MatchOption result ((a b : List ℕ) → AreTwo text.now a b → ⊥) (λ p. AreTwo text.now p.0.now p.1.now) }
+/// The first piece of a text, and what stands behind it.
+pub(crate) fn first_piece(text: &[u8]) -> (&[u8], Option<&[u8]>)
+    ensures { pieces.pieces text.now ≡ result.0.now ∷ more result.1 }
 {
-    let Some((first, second)) = parted(text, b' ') else {
-        return None;
-    };
-    if is_free(second, b' ') {
-        Some((first, second))
-    } else {
-        None
+    cut(text, b' ')
+}
+
+/// The same, where there is a text.
+pub(crate) fn next(rest: Option<&[u8]>) -> Option<(&[u8], Option<&[u8]>)>
+    ensures { MatchOption result (more rest.entry ≡ []) (λ p. more rest.entry ≡ p.0.now ∷ more p.1) }
+{
+    match rest {
+        Some(text) => Some(first_piece(text)),
+        None => None,
     }
+}
+
+/// The piece, where there is just one.
+pub(crate) fn one_piece(rest: Option<&[u8]>) -> Option<&[u8]>
+    ensures { MatchOption result (length (more rest.entry) ≢ 1) (λ a. more rest.entry ≡ a.now ∷ []) }
+{
+    let (a, rest) = next(rest)?;
+    if rest.is_some() { None } else { Some(a) }
+}
+
+/// The pieces, where there are just two.
+pub(crate) fn two_pieces(rest: Option<&[u8]>) -> Option<(&[u8], &[u8])>
+    ensures { MatchOption result (length (more rest.entry) ≢ 2) (λ p. more rest.entry ≡ p.0.now ∷ p.1.now ∷ []) }
+{
+    let (a, rest) = next(rest)?;
+    let b = one_piece(rest)?;
+    Some((a, b))
+}
+
+/// The pieces, where there are just three.
+pub(crate) fn three_pieces(rest: Option<&[u8]>) -> Option<(&[u8], &[u8], &[u8])>
+    ensures { MatchOption result (length (more rest.entry) ≢ 3) (λ p. more rest.entry ≡ p.0.now ∷ p.1.now ∷ p.2.now ∷ []) }
+{
+    let (a, rest) = next(rest)?;
+    let (b, c) = two_pieces(rest)?;
+    Some((a, b, c))
 }

@@ -5,12 +5,16 @@ ghost use Rattle.std.specs.List.{All};
 ghost use Rattle.certificate.specs.Nodes.{nodes_of, IsInRange};
 ghost use Rattle.certificate.specs.declared.claims.Claim.{Claim};
 ghost use Rattle.tree_grammar.specs.Elements.{Element};
+ghost use Rattle.tag_tests.specs.Firsts.{IsFirstDecided};
 ghost use Rattle.osrl_grammar.specs.declared.report.Report.{Report};
 ghost use Rattle.osrl_grammar.specs.declared.fault.OsrlFault.{OsrlFault};
 ghost use Rattle.osrl_grammar.specs.declared.fault.OsrlFault.TheVariants.{Memory};
-ghost use Rattle.osrl_grammar.specs.Refusals.{IsRefused};
-ghost use Rattle.osrl_grammar.specs.Meaning.{IsReport};
+ghost use Rattle.osrl_grammar.specs.Order.{number};
+ghost use Rattle.osrl_grammar.specs.Standing.{start};
+ghost use Rattle.osrl_grammar.specs.Marked.{osrl, marks, IsReport, IsRefused};
 ghost use Rattle.osrl_grammar.specs.Reading.{IsReportText, DecodeFails};
+
+use crate::laws::texts_are_of_characters;
 
 /// Law: a document is one report at most, and so are bytes.
 pub fn document_has_one_report()
@@ -30,8 +34,16 @@ pub fn report_is_not_refused()
     ensures text { (bytes : List ℕ) (r : Report) (f : OsrlFault) → IsReportText bytes r → DecodeFails bytes f → f ≡ Memory }
 {}
 
+/// Law: what is told of a document is decided at the first mark at which something is, and is the least of what is decided
+/// there.
+pub fn first_and_least_is_told()
+    ensures { (root : Element) (f : OsrlFault) → IsRefused root f → IsFirstDecided osrl number start (marks root) f }
+{}
+
 /// Law: a claim that is read has fewer nodes than its document has bytes, and each split is at a number that a fraction
 /// has.
 pub fn read_claims_fit()
     ensures { (bytes : List ℕ) (r : Report) (c : Claim) → IsReportText bytes r → r.claim ≡ Some c → (length (nodes_of c) < length bytes) × All IsInRange (nodes_of c) }
-{}
+{
+    texts_are_of_characters();
+}

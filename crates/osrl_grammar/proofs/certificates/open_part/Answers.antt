@@ -1,4 +1,4 @@
-use Rattle.std.proofs.Common.{List, ℕ, subst, OnOk, codes}
+use Rattle.osrl_grammar.proofs.Names.{List, ℕ, subst, OnOk, codes}
 use Rattle.document_tags.specs.Telling.{Told, opening}
 use Rattle.document_tags.specs.Writing.{only}
 use Rattle.osrl_grammar.proofs.certificates.open_part.Goals as goal

@@ -1,5 +1,4 @@
-use Rattle.std.proofs.Common.{◌∙◌}
-use Rattle.document_tags.proofs.Tellings.{told_then, ends_told}
+use Rattle.osrl_grammar.proofs.Names.{◌∙◌, told_then, ends_told}
 use Rattle.osrl_grammar.proofs.certificates.tell_cause.Goals as goal
 
 pub returns : goal.returns

@@ -1,7 +1,4 @@
-use Rattle.std.proofs.Common.{◌≡◌, List, [], ◌++◌, drop}
-use Rattle.tree_grammar.specs.Elements.{Event, nodes_events}
-use Rattle.element_tree.specs.Building.{said}
-use Rattle.osrl_grammar.specs.Writing.{item_nodes, fraction_texts}
+use Rattle.osrl_grammar.proofs.Names.{◌≡◌, List, [], ◌++◌, drop, Event, nodes_events, said, item_nodes, fraction_texts}
 use Rattle.osrl_grammar.proofs.certificates.tell_fractions.Given as goal
 
 abbrev pub invariant-loop-value : goal.invariant-loop-value

@@ -1,7 +1,4 @@
-use Rattle.std.proofs.Common.{◌≡◌, List, [], ◌++◌, drop, map}
-use Rattle.tree_grammar.specs.Elements.{Event, nodes_events}
-use Rattle.element_tree.specs.Building.{said}
-use Rattle.osrl_grammar.specs.Writing.{item_nodes, node_text}
+use Rattle.osrl_grammar.proofs.Names.{◌≡◌, List, [], ◌++◌, drop, map, Event, nodes_events, said, item_nodes, node_text}
 use Rattle.osrl_grammar.proofs.certificates.tell_nodes.Given as goal
 
 abbrev pub invariant-loop-node : goal.invariant-loop-node

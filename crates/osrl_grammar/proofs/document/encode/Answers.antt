@@ -1,8 +1,6 @@
-use Rattle.std.proofs.Common.{refl}
-use Rattle.std.proofs.lemmas.Result.{IfOk-weaker}
+use Rattle.osrl_grammar.proofs.Names.{refl, IfOk-weaker, report_element}
 use Rattle.document_tags.specs.Telling.{whole_element}
 use Rattle.document_tags.proofs.Tellings.{told_element, told_one}
-use Rattle.osrl_grammar.specs.Writing.{report_element}
 use Rattle.osrl_grammar.proofs.document.encode.Goals as goal
 
 pub told_text-requires : goal.told_text-requires

@@ -1,10 +1,5 @@
-use Rattle.std.proofs.Common.{List, length, codes, ap}
-use Rattle.tree_grammar.specs.Elements.{none, Event, Nodes, nodes_events}
+use Rattle.osrl_grammar.proofs.Names.{List, length, codes, ap, none, Event, Nodes, nodes_events, claiming_text, group, typed, point_values, point_parts, tree_part, dual_values, told_then, ends_told, ok_told_as}
 use Rattle.osrl_grammar.specs.declared.parts.Claiming.TheVariants as claiming
-use Rattle.osrl_grammar.specs.Refusals.{claiming_text}
-use Rattle.document_tags.specs.Writing.{group, typed}
-use Rattle.osrl_grammar.specs.Writing.{point_values, point_parts, tree_part, dual_values}
-use Rattle.document_tags.proofs.Tellings.{told_then, ends_told, ok_told_as}
 use Rattle.osrl_grammar.proofs.ItemLists.{duals_then}
 use Rattle.osrl_grammar.proofs.document.tell_optimal.Goals as goal
 

@@ -1,15 +1,13 @@
-use Rattle.std.proofs.Common.{List, subst}
-use Rattle.std.specs.Prelude.{flat_map}
-use Rattle.osrl_grammar.specs.Numbers.{Field}
-use Rattle.osrl_grammar.specs.Items.{pair_fields}
-use Rattle.osrl_grammar.specs.Fields.{AreNot}
-use Rattle.osrl_grammar.proofs.Fields.{pushed, faulted, fields_more, at_pair}
+use Rattle.osrl_grammar.proofs.Names.{List, ◌++◌, ◌∷◌, [], sym, subst, Ok, Err, AllZip, Mult, both_read, IsBad, IsTooGreat, IsMult}
+use Rattle.document_tags.proofs.Spots.{each_more}
+use Rattle.osrl_grammar.proofs.Fields.{failed_as}
 use Rattle.osrl_grammar.proofs.item_reading.push_read.Goals as goal
 
 pub returns-in_ok-push-in-Ok : goal.returns-in_ok-push-in-Ok
-returns-in_ok-push-in-Ok c = λ done pair h k. pushed done pair c.args.mults.now c.push.new.self c.args.fault c.in-Ok.mult c.in_ok-push-in-Ok.ensures.ok h (at_pair pair c.args.mult _ c.in-Ok.is k)
+returns-in_ok-push-in-Ok c = λ done piece fs gs h k.
+    let r = both_read IsBad IsTooGreat fs gs c.args.so_far c.args.mult (λ x. AllZip IsMult done c.args.mults.now) (IsMult piece) (Ok (c.in-Ok.field-0-0, c.in-Ok.mult)) h k c.in-Ok.ensures in
+    (r.0, r.1, subst (λ (l : List Mult). AllZip IsMult (done ++ piece ∷ []) l) (sym c.in_ok-push-in-Ok.ensures.ok) (each_more IsMult done c.args.mults.now piece c.in-Ok.mult r.2.0 r.2.1))
 
 pub returns-in-Err : goal.returns-in-Err
-returns-in-Err c = λ done pair h k.
-    subst (λ (l : List Field). AreNot l c.with_fault.result) (fields_more done pair)
-    (c.with_fault.ensures (flat_map pair_fields done) (pair_fields pair) (faulted done c.args.mults.now c.args.fault h) (at_pair pair c.args.mult _ c.in-Err.is k))
+returns-in-Err c = λ done piece fs gs h k.
+    failed_as (fs ++ gs) c.in-Err.unread _ _ (both_read IsBad IsTooGreat fs gs c.args.so_far c.args.mult (λ x. AllZip IsMult done c.args.mults.now) (IsMult piece) (Err c.in-Err.unread) h k c.in-Err.ensures)

@@ -1,10 +1,6 @@
-use Rattle.std.specs.Prelude.{codes}
-use Rattle.osrl_grammar.proofs.Shapes.{all_cut}
-use Rattle.osrl_grammar.proofs.ItemWords.{other_word, no_plain}
+use Rattle.osrl_grammar.proofs.Names.{sym, pieces, more, cause_word, all_cause_words, cause_behind, cause_head, SaysCause}
+use Rattle.osrl_grammar.proofs.Heads.{begun_read}
 use Rattle.osrl_grammar.proofs.item_reading.read_cause.Goals as goal
 
-pub returns-else-eq-3-clause-err : goal.returns-else-eq-3-clause-err
-returns-else-eq-3-clause-err c = λ s h. no_plain s c.args.text.now c.cut.result.0.now (all_cut c.args.text.now c.cut.result.0.now c.cut.result.1 c.in_default.is c.cut.ensures.parts) c.cut.ensures.free
-    (other_word c.cut.result.0.now c.as_slice.result.now (codes "killed") c.eq.result c.eq.ensures c.as_slice.ensures c.if-eq.false)
-    (other_word c.cut.result.0.now c.as_slice-else-eq.result.now (codes "length") c.eq-else-eq.result c.eq-else-eq.ensures c.as_slice-else-eq.ensures c.if-eq-2.false)
-    (other_word c.cut.result.0.now c.as_slice-else-eq-2.result.now (codes "memory") c.eq-else-eq-2.result c.eq-else-eq-2.ensures c.as_slice-else-eq-2.ensures c.if-eq-3.false) h
+pub returns-in-Some : goal.returns-in-Some
+returns-in-Some c = begun_read cause_word all_cause_words cause_behind cause_head SaysCause (pieces c.args.text.now) c.first_piece.result.0.now (more c.first_piece.result.1) c.in-Some.word c.cause_of.result c.first_piece.ensures (sym c.in-Some.ensures) c.cause_of.ensures

@@ -1,12 +1,9 @@
-use Rattle.std.proofs.Common.{pos, [], ◌∷◌}
-use Rattle.rational.specs.Ratio.{whole}
-use Rattle.fraction.specs.Frac.{ratio}
-use Rattle.osrl_grammar.specs.Numbers.{Index, Exact}
-use Rattle.osrl_grammar.proofs.Fields.{one_read}
+use Rattle.osrl_grammar.proofs.Names.{pos, Ok, Err, whole, ratio, Index, Exact, pair_fields}
+use Rattle.osrl_grammar.proofs.Fields.{two_read, failed_as}
 use Rattle.osrl_grammar.proofs.item_reading.read_mult.Goals as goal
 
-pub returns-in-Err-clause-err : goal.returns-in-Err-clause-err
-returns-in-Err-clause-err c =
-    c.in-Err.ensures.read (record { kind = Index; text = c.args.column.now } ∷ []) (record { kind = Exact; text = c.args.factor.now } ∷ [])
-    (one_read Index c.args.column.now c.read_index.result (λ n. whole (pos n)) c.read_index.ensures.ok c.read_index.ensures.err)
-    (one_read Exact c.args.factor.now c.read_exact.result ratio c.read_exact.ensures.ok c.read_exact.ensures.err)
+pub returns-in-Ok : goal.returns-in-Ok
+returns-in-Ok c = two_read Index Exact c.args.column.now c.args.factor.now c.read_index.result c.read_exact.result (λ n. whole (pos n)) ratio (Ok (c.in-Ok.col, c.in-Ok.value)) c.read_index.ensures.ok c.read_index.ensures.err c.read_exact.ensures.ok c.read_exact.ensures.err c.in-Ok.ensures
+
+pub returns-in-Err : goal.returns-in-Err
+returns-in-Err c = failed_as (pair_fields (record { column = c.args.column.now; factor = c.args.factor.now })) c.in-Err.unread _ _ (two_read Index Exact c.args.column.now c.args.factor.now c.read_index.result c.read_exact.result (λ n. whole (pos n)) ratio (Err c.in-Err.unread) c.read_index.ensures.ok c.read_index.ensures.err c.read_exact.ensures.ok c.read_exact.ensures.err c.in-Err.ensures)

@@ -1,10 +1,9 @@
-use Rattle.std.proofs.Common.{length}
-use Rattle.osrl_grammar.specs.Pieces.{tail}
-use Rattle.osrl_grammar.proofs.Shapes.{Begins}
+use Rattle.osrl_grammar.proofs.Names.{length, more}
+use Rattle.osrl_grammar.proofs.Mults.{SoFar}
 use Rattle.osrl_grammar.proofs.item_reading.read_mults.Given as goal
 
 abbrev pub invariant-loop-rest : goal.invariant-loop-rest
-invariant-loop-rest l = Begins (tail l.fn.pairs) (tail l.rest) l.mults l.fault
+invariant-loop-rest l = SoFar (more l.pairs) (more l.rest) l.mults l.so_far
 
 abbrev pub decreases-loop-rest : goal.decreases-loop-rest
-decreases-loop-rest l = length (tail l.rest)
+decreases-loop-rest l = length (more l.rest)

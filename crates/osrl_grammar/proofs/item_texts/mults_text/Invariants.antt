@@ -1,6 +1,4 @@
-use Rattle.std.proofs.Common.{◌≡◌, ◌++◌, drop}
-use Rattle.std.specs.Prelude.{flat_map}
-use Rattle.osrl_grammar.specs.Writing.{mult_text}
+use Rattle.osrl_grammar.proofs.Names.{◌≡◌, ◌++◌, drop, flat_map, mult_text}
 use Rattle.osrl_grammar.proofs.item_texts.mults_text.Given as goal
 
 abbrev pub invariant-loop-mult : goal.invariant-loop-mult

@@ -1,9 +1,4 @@
-use Rattle.std.proofs.Common.{◌≡◌, ◌∙◌, ap, ℤ, pos, sym, subst}
-use Rattle.std.specs.Prelude.{unsigned_abs}
-use Rattle.std.proofs.Math.Facts.{to_z-of_z}
-use Rattle.rational.specs.Ratio.{whole}
-use Rattle.osrl_grammar.specs.Items.{IsFree}
-use Rattle.osrl_grammar.specs.Numbers.{Index, Turn, WritesNumber}
+use Rattle.osrl_grammar.proofs.Names.{◌≡◌, ◌∙◌, ap, ℤ, pos, sym, subst, unsigned_abs, to_z-of_z, whole, IsFree, Index, Turn, WritesNumber}
 use Rattle.osrl_grammar.proofs.Wholes.{not_size, size_read, size_unread, index_sizes, turn_sizes, fits_signed, accepted, refused}
 use Rattle.osrl_grammar.proofs.numbers.read_size.Goals as goal
 

@@ -1,10 +1,5 @@
+use Rattle.osrl_grammar.proofs.Names.{w128, ◌≡◌, ◌∙◌, ap, ℤ, sym, subst, to_z-of_z, whole, IsFree, Whole, IsNumberText}
 use mir.Val.{of_z, to_z}
-use mir.Syntax.{w128}
-use Rattle.std.proofs.Common.{◌≡◌, ◌∙◌, ap, ℤ, sym, subst}
-use Rattle.std.proofs.Math.Facts.{to_z-of_z}
-use Rattle.rational.specs.Ratio.{whole}
-use Rattle.osrl_grammar.specs.Items.{IsFree}
-use Rattle.osrl_grammar.specs.Numbers.{Whole, IsNumberText}
 use Rattle.osrl_grammar.proofs.Wholes.{not_whole, whole_read, whole_unread, fits_signed, accepted, refused}
 use Rattle.osrl_grammar.proofs.numbers.read_whole.Goals as goal
 

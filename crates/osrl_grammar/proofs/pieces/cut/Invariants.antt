@@ -1,5 +1,4 @@
-use Rattle.std.proofs.Common.{take}
-use Rattle.osrl_grammar.specs.Items.{IsFree}
+use Rattle.osrl_grammar.proofs.Names.{take, IsFree}
 use Rattle.osrl_grammar.proofs.pieces.cut.Given as goal
 
 abbrev pub invariant-loop-i : goal.invariant-loop-i

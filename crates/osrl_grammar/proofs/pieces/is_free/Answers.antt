@@ -1,4 +1,4 @@
-use Rattle.std.proofs.Common.{◌≡◌, false, true}
+use Rattle.osrl_grammar.proofs.Names.{◌≡◌, false, true}
 use Rattle.osrl_grammar.proofs.Wholes.{was_cut}
 use Rattle.osrl_grammar.proofs.pieces.is_free.Goals as goal
 

@@ -1,4 +1,4 @@
-use Rattle.osrl_grammar.proofs.OneReport.{report_once, report_text_once}
+use Rattle.osrl_grammar.proofs.OneDocument.{report_once, report_text_once}
 use Rattle.osrl_grammar.proofs.reading_laws.document_has_one_report.Goals as goal
 
 pub returns-clause-root : goal.returns-clause-root

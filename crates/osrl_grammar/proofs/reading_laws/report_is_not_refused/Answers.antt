@@ -1,4 +1,4 @@
-use Rattle.osrl_grammar.proofs.OneRefusal.{report_apart, refusal_apart}
+use Rattle.osrl_grammar.proofs.OneDocument.{report_apart, refusal_apart}
 use Rattle.osrl_grammar.proofs.reading_laws.report_is_not_refused.Goals as goal
 
 pub returns-clause-root : goal.returns-clause-root

@@ -1,5 +1,4 @@
-use Rattle.std.proofs.Common.{◌∙◌, List, ℕ, ◌++◌, ap}
-use Rattle.fraction.specs.Frac.{ratio}
+use Rattle.osrl_grammar.proofs.Names.{◌∙◌, List, ℕ, ◌++◌, ap, ratio}
 use Rattle.osrl_grammar.proofs.Cuts.{plain_is_cut}
 use Rattle.osrl_grammar.proofs.values.cut_text.Goals as goal
 

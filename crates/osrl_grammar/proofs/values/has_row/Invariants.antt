@@ -1,5 +1,4 @@
-use Rattle.std.proofs.Common.{◌≡◌, drop}
-use Rattle.osrl_grammar.specs.Writing.{row_values}
+use Rattle.osrl_grammar.proofs.Names.{◌≡◌, drop, row_values}
 use Rattle.osrl_grammar.proofs.values.has_row.Given as goal
 
 abbrev pub invariant-loop-mult : goal.invariant-loop-mult

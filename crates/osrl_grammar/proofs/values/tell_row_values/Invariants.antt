@@ -1,7 +1,4 @@
-use Rattle.std.proofs.Common.{◌≡◌, List, [], ◌++◌, drop}
-use Rattle.tree_grammar.specs.Elements.{Event, nodes_events}
-use Rattle.element_tree.specs.Building.{said}
-use Rattle.osrl_grammar.specs.Writing.{row_values}
+use Rattle.osrl_grammar.proofs.Names.{◌≡◌, List, [], ◌++◌, drop, Event, nodes_events, said, row_values}
 use Rattle.osrl_grammar.proofs.values.tell_row_values.Given as goal
 
 abbrev pub invariant-loop-mult : goal.invariant-loop-mult

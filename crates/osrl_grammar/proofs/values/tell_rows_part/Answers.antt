@@ -1,4 +1,4 @@
-use Rattle.document_tags.proofs.Tellings.{told_then, ends_told, ok_told_as}
+use Rattle.osrl_grammar.proofs.Names.{told_then, ends_told, ok_told_as}
 use Rattle.osrl_grammar.proofs.ItemLists.{rows_shown}
 use Rattle.osrl_grammar.proofs.values.tell_rows_part.Goals as goal
 

@@ -1,8 +1,6 @@
-use Rattle.std.proofs.Common.{◌≡◌, ◌∙◌, ap, subst, get_or}
-use Rattle.std.specs.List.{All}
-use Rattle.std.proofs.lemmas.List.{take_all}
+use Rattle.osrl_grammar.proofs.Names.{◌≡◌, ◌∙◌, ap, subst, get_or, All, take_all}
 use Rattle.std.proofs.lemmas.List.Elements.{All-more}
-use Rattle.osrl_grammar.proofs.ItemWords.{other_word}
+use Rattle.osrl_grammar.proofs.WordValues.{other_word}
 use Rattle.osrl_grammar.proofs.words.with_word.Goals as goal
 
 pub loop-value-preserved : goal.loop-value-preserved

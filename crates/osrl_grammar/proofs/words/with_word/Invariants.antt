@@ -1,5 +1,4 @@
-use Rattle.std.proofs.Common.{◌≡◌, take}
-use Rattle.std.specs.List.{All}
+use Rattle.osrl_grammar.proofs.Names.{◌≡◌, take, All}
 use Rattle.osrl_grammar.proofs.words.with_word.Given as goal
 
 abbrev pub invariant-loop-value : goal.invariant-loop-value

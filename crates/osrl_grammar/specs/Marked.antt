@@ -1,0 +1,27 @@
+-- Result documents by their marks: the form, which roots report what, and which are refused.
+use Rattle.std.specs.Prelude.{◌≡◌, List}
+use Rattle.tree_grammar.specs.Elements.{Element, events}
+use Rattle.doc_tree.specs.Marks.{Mark, spread}
+use Rattle.tag_tests.specs.Forms.{Form, AreTaken, AreRefused}
+use Rattle.osrl_grammar.specs.declared.report.Report.{Report}
+use Rattle.osrl_grammar.specs.declared.fault.OsrlFault.{OsrlFault}
+use Rattle.osrl_grammar.specs.Standing.{State, start}
+use Rattle.osrl_grammar.specs.Table.{Test, kind, tests, told}
+use Rattle.osrl_grammar.specs.Failing.{Fails}
+use Rattle.osrl_grammar.specs.Leaving.{Leaves}
+
+-- THE FORM of result documents: the table, when its tests fail, and what a mark leaves
+abbrev pub osrl : Form State Mark Test OsrlFault
+osrl = record { tests = λ s m. tests s (kind s m); Fails = Fails; told = told; Becomes = λ s m z. Leaves s m (kind s m) z }
+
+-- the marks of a document with this root
+abbrev pub marks : Element → List Mark
+marks root = spread (events root)
+
+-- all are taken, and this is what they say
+abbrev pub IsReport : Element → Report → Type 0
+IsReport root r = (z : State) × AreTaken osrl start (marks root) z × (r ≡ z.report)
+
+-- the first that isn't taken refuses so
+abbrev pub IsRefused : Element → OsrlFault → Type 0
+IsRefused root f = AreRefused osrl start (marks root) f

@@ -1,0 +1,92 @@
+-- What the marks of a result document have said.
+use Rattle.std.specs.Prelude.{ℕ, Bool, true, false, Option, None, Some, option_map, option_and_then, unwrap_or, cond, bytes_eq, List, [], ◌∷◌, length, codes}
+use Rattle.tree_grammar.specs.Elements.{Attribute}
+use Rattle.document_tags.specs.Elements.{value_of, unless_empty}
+use Rattle.fraction.specs.declared.frac.Frac.{Frac}
+use Rattle.certificate.specs.declared.nodes.Node.{Node}
+use Rattle.certificate.specs.declared.causes.Cause.{Cause}
+use Rattle.certificate.specs.declared.claims.Claim.{Claim}
+use Rattle.certificate.specs.declared.claims.Claim.TheVariants.{Optimal, Infeasible, Unbounded, BestSoFar, Unsure}
+use Rattle.osrl_grammar.specs.declared.report.JobStatus.{JobStatus}
+use Rattle.osrl_grammar.specs.declared.report.Report.{Report}
+use Rattle.osrl_grammar.specs.declared.held.Held.{Held}
+use Rattle.osrl_grammar.specs.declared.parts.Part.{Part}
+use Rattle.osrl_grammar.specs.declared.parts.Part.TheVariants as parts
+use Rattle.osrl_grammar.specs.declared.parts.Claiming.{Claiming}
+use Rattle.osrl_grammar.specs.declared.parts.Claiming.TheVariants as claiming
+use Rattle.osrl_grammar.specs.Words.{status_text, all_statuses, claiming_text, all_claimings, worded}
+use Rattle.osrl_grammar.specs.Standing.{State}
+
+-- the type that a start tag says, empty where it says none
+abbrev pub type_of : List Attribute → List ℕ
+type_of as' = unwrap_or (value_of (codes "type") as') []
+
+-- whether a part has begun, and how many items it has
+abbrev pub has : Held → Part → Bool
+has h parts.Point = h.has_point
+has h parts.Value = h.has_value
+has h parts.Ray = h.has_ray
+has h parts.Tree = h.has_tree
+has h parts.Cause = h.has_cause
+
+abbrev pub items : Held → Part → ℕ
+items h parts.Point = length h.point
+items h parts.Value = length h.value
+items h parts.Ray = length h.ray
+items h parts.Tree = length h.tree
+items h parts.Cause = length h.causes
+
+-- how far the job is, if one of the six words says it
+abbrev pub status_of : State → Option JobStatus
+status_of s = option_and_then (worded status_text all_statuses) s.status
+
+-- what the solution's status claims, if its type is one of the five
+abbrev pub claiming_of : State → Option Claiming
+claiming_of s = option_and_then (worded claiming_text all_claimings) s.claiming
+
+-- the one of these, if there is just one
+abbrev pub only : {X : Type 0} → List X → Option X
+only {X} (x ∷ []) = Some x
+only {X} xs = None
+
+-- this, if it is so
+abbrev pub when : {X : Type 0} → Bool → X → Option X
+when {X} true x = Some x
+when {X} false x = None
+
+-- a claim, if all its parts are there
+abbrev pub optimal : Option (List Frac) → Option Frac → Option (List Node) → Option Claim
+optimal (Some x) (Some v) (Some ns) = Some (Optimal x v ns)
+optimal x v ns = None
+
+abbrev pub unbounded : Option (List Frac) → Option Frac → Option (List Frac) → Option Claim
+unbounded (Some x) (Some v) (Some r) = Some (Unbounded x v r)
+unbounded x v r = None
+
+abbrev pub best_so_far : Option (List Frac) → Option Frac → Option Cause → Option Claim
+best_so_far (Some x) (Some v) (Some c) = Some (BestSoFar x v c)
+best_so_far x v c = None
+
+-- the claim of a solution with such a status, if its parts are there
+abbrev pub claim_as : Held → Claiming → Option Claim
+claim_as h claiming.Optimal = optimal (when h.has_point h.point) (only h.value) (when h.has_tree h.tree)
+claim_as h claiming.Infeasible = option_map Infeasible (when h.has_tree h.tree)
+claim_as h claiming.Unbounded = unbounded (when h.has_point h.point) (only h.value) (when h.has_ray h.ray)
+claim_as h claiming.BestSoFar = best_so_far (when h.has_point h.point) (only h.value) (only h.causes)
+claim_as h claiming.Unsure = option_map Unsure (only h.causes)
+
+-- THE CLAIM, if there is one, where it can be told: not where a solution claims nothing, or a part isn't there
+abbrev pub claim_of : State → Option (Option Claim)
+claim_of s = cond s.has_solution (option_map Some (option_and_then (claim_as s.held) (claiming_of s))) (Some None)
+
+-- THE REPORT, where all parts are there that it needs
+abbrev pub report_with : Option (List ℕ) → (job message : Option (List ℕ)) → Option JobStatus → Option (Option Claim) → Option Report
+report_with (Some type) job message (Some status) (Some claim) = Some (record { error = bytes_eq type (codes "error"); job = job; message = message; status = status; claim = claim })
+report_with type job message status claim = None
+
+-- a text that is there and isn't empty
+abbrev pub nonempty : Option (List ℕ) → Option (List ℕ)
+nonempty text = option_and_then unless_empty text
+
+abbrev pub report_of : State → Option Report
+report_of s = report_with s.general (nonempty s.job) (nonempty s.message) (status_of s) (claim_of s)

@@ -1,0 +1,423 @@
+//! Reads a result document mark by mark.
+
+ghost use Rattle.std.specs.Prelude.{◌≡◌, ◌↔◌, ◌+◌, ◌<◌, ◌^◌, ◌||◌, IsTrue, IsFalse, OnOk, None, Some, List, ℕ, cond, map, bytes_eq, codes, option_map, option_and_then};
+ghost use Rattle.doc_tree.specs.Marks.{Start, Char, Finish};
+ghost use Rattle.tag_tests.specs.Forms.{AreTaken};
+ghost use Rattle.osrl_grammar.specs.declared.elements.Place.TheVariants as places;
+ghost use Rattle.osrl_grammar.specs.Standing as standing;
+ghost use Rattle.osrl_grammar.specs.Saying as saying;
+ghost use Rattle.osrl_grammar.specs.Table as table;
+ghost use Rattle.osrl_grammar.specs.Words.{worded, status_text, all_statuses, claiming_text, all_claimings};
+ghost use Rattle.osrl_grammar.specs.declared.parts.Part.{Part};
+ghost use Rattle.osrl_grammar.specs.Leaving as leaving;
+ghost use Rattle.osrl_grammar.specs.Marked.{osrl};
+ghost use Rattle.osrl_grammar.specs.Stepping.{Steps, EndsAt, AreCounted};
+
+use crate::elements::{Led, Place, leads, outer};
+use crate::fault::OsrlFault;
+use crate::held::Held;
+use crate::parts::{Claiming, Misread, Part};
+use crate::report::{JobStatus, Report};
+use crate::words::with_word;
+use certificate::Claim;
+use decimal_text::trim;
+use element_tree::Attributes;
+use os_io::Text;
+use std::alloc::{AllocError, Global};
+use std::marker::Model;
+use std::mem;
+use tag_tests::value;
+
+/// All that a job's status says.
+const STATUSES: [JobStatus; 6] = [
+    JobStatus::Unknown,
+    JobStatus::Issued,
+    JobStatus::Waiting,
+    JobStatus::Running,
+    JobStatus::Killed,
+    JobStatus::Finished,
+];
+
+/// All that a solution's status claims.
+const CLAIMINGS: [Claiming; 5] = [
+    Claiming::Optimal,
+    Claiming::Infeasible,
+    Claiming::Unbounded,
+    Claiming::BestSoFar,
+    Claiming::Unsure,
+];
+
+/// What the marks so far leave. It holds no element, and no more than what they say.
+#[derive(Drop)]
+pub(crate) struct Standing {
+    alloc: Global,
+    place: Place,
+    depth: u64,
+    count: u64,
+    text: Vec<u8>,
+    general: Option<Text>,
+    job: Option<Text>,
+    message: Option<Text>,
+    status: Option<Text>,
+    claiming: Option<Text>,
+    has_solution: bool,
+    twice: bool,
+    held: Held,
+    report: Report,
+}
+
+impl Model for Standing {
+    ghost use Rattle.osrl_grammar.specs.Standing.{State};
+
+    ghost Value = { State };
+
+    ghost view = { λ d. record {
+      place = d.place;
+      depth = d.depth;
+      count = d.count;
+      text = d.text.items;
+      general = d.general;
+      job = d.job;
+      message = d.message;
+      status = d.status;
+      claiming = d.claiming;
+      has_solution = d.has_solution;
+      twice = d.twice;
+      held = d.held;
+      report = d.report;
+    } };
+}
+
+/// What is reported before the root has ended: nothing.
+fn nothing_said() -> Report
+    ensures { result ≡ standing.nothing_said }
+{
+    Report {
+        error: false,
+        job: None,
+        message: None,
+        status: JobStatus::Unknown,
+        claim: None,
+    }
+}
+
+/// Whether one of the two is so.
+fn either(a: bool, b: bool) -> bool
+    ensures { result ≡ a || b }
+{
+    if a { true } else { b }
+}
+
+/// Keeps a text, unless one of its kind was kept before.
+fn keep_first(alloc: Global, kept: &mut Option<Text>, text: &[u8]) -> Result<(), AllocError>
+    ensures { OnOk result (kept.new ≡ leaving.first kept.old text.now) }
+{
+    if kept.is_some() {
+        return Ok(());
+    }
+    *kept = Some(Text::from_slice(alloc, text)?);
+    Ok(())
+}
+
+/// The type that a start tag says, empty where it says none.
+fn type_of<'a>(attributes: &'a Attributes<'_>) -> &'a [u8]
+    ensures { result.now ≡ saying.type_of attributes.now }
+{
+    match value(attributes, b"type") {
+        Some(kind) => kind,
+        None => b"",
+    }
+}
+
+/// Whether a general status is that of an error, if there is one.
+fn is_error(kind: Option<Text>) -> Option<bool>
+    ensures { result ≡ option_map (λ t. bytes_eq t (codes "error")) kind }
+{
+    let kind = kind?;
+    Some(kind.as_slice() == b"error".as_slice())
+}
+
+/// The status of this word, if there is one.
+fn status_of(word: Option<Text>) -> Option<JobStatus>
+    ensures { result ≡ option_and_then (worded status_text all_statuses) word }
+{
+    let word = word?;
+    with_word(word.as_slice(), &STATUSES)
+}
+
+/// What this word says that a solution claims, if it says that.
+fn claiming_of(word: Option<Text>) -> Option<Claiming>
+    ensures { result ≡ option_and_then (worded claiming_text all_claimings) word }
+{
+    let word = word?;
+    with_word(word.as_slice(), &CLAIMINGS)
+}
+
+/// The claim of a solution with such a status, if all parts are there that it needs.
+fn claim_of(held: Held, word: Option<Text>) -> Option<Claim>
+    ensures { result ≡ option_and_then (saying.claim_as held) (option_and_then (worded claiming_text all_claimings) word) }
+{
+    let claiming = claiming_of(word)?;
+    held.claim(claiming)
+}
+
+/// What is claimed: nothing where there is no solution.
+fn claimed(has_solution: bool, held: Held, word: Option<Text>) -> Option<Option<Claim>>
+    ensures { result ≡ cond has_solution (option_map Some (option_and_then (saying.claim_as held) (option_and_then (worded claiming_text all_claimings) word))) (Some None) }
+{
+    if has_solution {
+        let claim = claim_of(held, word)?;
+        Some(Some(claim))
+    } else {
+        Some(None)
+    }
+}
+
+/// A text that is there and isn't empty.
+fn nonempty(text: Option<Text>) -> Option<Text>
+    ensures { result ≡ saying.nonempty text }
+{
+    let text = text?;
+    if text.as_slice().is_empty() {
+        None
+    } else {
+        Some(text)
+    }
+}
+
+/// The refusal of the n-th item.
+fn refusal(misread: Misread, n: u64) -> OsrlFault
+    ensures { result ≡ table.item_refusal misread n }
+{
+    match misread {
+        Misread::NoShape => OsrlFault::Item { n },
+        Misread::NoNumber => OsrlFault::Number { n },
+        Misread::TooGreat => OsrlFault::Wide { n },
+    }
+}
+
+impl Standing {
+    /// Before all marks.
+    pub(crate) fn new(alloc: Global) -> Self
+        ensures { result ≡ standing.start }
+    {
+        Standing {
+            alloc,
+            place: Place::Outside,
+            depth: 0,
+            count: 0,
+            text: Vec::new(alloc),
+            general: None,
+            job: None,
+            message: None,
+            status: None,
+            claiming: None,
+            has_solution: false,
+            twice: false,
+            held: Held::new(alloc),
+            report: nothing_said(),
+        }
+    }
+
+    /// Goes past a start tag that leads there.
+    fn begin(&mut self, place: Place, attributes: &Attributes<'_>) -> Result<(), AllocError>
+        requires { self.old.count + 1 < 2 ^ 64 }
+        ensures { OnOk result ((name : List ℕ) → self.new ≡ leaving.begun self.old (Start name attributes.now) place) }
+    {
+        self.place = place;
+        self.text.clear();
+        match place {
+            Place::GeneralStatus => keep_first(self.alloc, &mut self.general, type_of(attributes)),
+            Place::SolutionStatus => {
+                keep_first(self.alloc, &mut self.claiming, type_of(attributes))
+            }
+            Place::Solution => {
+                self.twice = either(self.has_solution, self.twice);
+                self.has_solution = true;
+                Ok(())
+            }
+            Place::Result(part) => {
+                self.twice = either(self.held.has(part), self.twice);
+                self.held.begin(part);
+                Ok(())
+            }
+            Place::Item(_) => {
+                self.count += 1;
+                Ok(())
+            }
+            _ => Ok(()),
+        }
+    }
+
+    /// Goes past a start tag of an element that is passed over.
+    fn begin_over(&mut self)
+        requires { self.old.depth + 1 < 2 ^ 64 }
+        ensures { self.new ≡ record self.old { depth = self.old.depth + 1 } }
+    {
+        self.depth += 1;
+    }
+
+    /// Goes past a start tag.
+    pub(crate) fn enter(
+        &mut self,
+        name: &[u8],
+        attributes: &Attributes<'_>,
+    ) -> Result<(), OsrlFault>
+        requires count { self.old.count + 1 < 2 ^ 64 }
+        requires depth { self.old.depth + 1 < 2 ^ 64 }
+        ensures { Steps self.old (Start name.now attributes.now) self.new result }
+    {
+        if self.depth > 0 {
+            self.begin_over();
+            return Ok(());
+        }
+        match leads(self.place, name, attributes) {
+            Led::To(place) => {
+                self.begin(place, attributes)?;
+                Ok(())
+            }
+            Led::Over => {
+                self.begin_over();
+                Ok(())
+            }
+            Led::OtherRoot => Err(OsrlFault::Root),
+        }
+    }
+
+    /// Goes past characters.
+    pub(crate) fn chars(&mut self, text: &[u8]) -> Result<(), AllocError>
+        ensures { OnOk result (AreTaken osrl self.old (map Char text.now) self.new) }
+    {
+        if self.depth > 0 {
+            return Ok(());
+        }
+        match self.place {
+            Place::JobId | Place::Message | Place::JobStatus | Place::Item(_) => {
+                self.text.extend_from_slice(text)
+            }
+            _ => Ok(()),
+        }
+    }
+
+    /// Goes past the end tag of an item.
+    fn end_item(&mut self, part: Part) -> Result<(), OsrlFault>
+        ensures { EndsAt self.old (places.Item part) self.new result }
+    {
+        match self.held.add(self.alloc, part, self.text.as_slice())? {
+            Ok(()) => {
+                self.place = Place::Result(part);
+                Ok(())
+            }
+            Err(misread) => Err(refusal(misread, self.count)),
+        }
+    }
+
+    /// Whether at most one solution was there, and each part at most once and with as many items as it may have.
+    fn are_counted(&self) -> bool
+        ensures { IsTrue result ↔ AreCounted self.now }
+    {
+        !self.twice
+            && self.held.is_counted(Part::Value)
+            && self.held.is_counted(Part::Tree)
+            && self.held.is_counted(Part::Cause)
+    }
+
+    /// What the marks have reported, if all parts are there.
+    fn into_report(self) -> Option<Report>
+        ensures { result ≡ saying.report_of self }
+    {
+        let Standing {
+            general,
+            job,
+            message,
+            status,
+            claiming,
+            has_solution,
+            held,
+            ..
+        } = self;
+        let claim = claimed(has_solution, held, claiming)?;
+        let error = is_error(general)?;
+        let status = status_of(status)?;
+        Some(Report {
+            error,
+            job: nonempty(job),
+            message: nonempty(message),
+            status,
+            claim,
+        })
+    }
+
+    /// Goes past the end tag of the root.
+    fn end_root(&mut self) -> Result<(), OsrlFault>
+        ensures { EndsAt self.old places.Osrl self.new result }
+    {
+        if !self.are_counted() {
+            return Err(OsrlFault::Count);
+        }
+        let alloc = self.alloc;
+        match mem::replace(self, Standing::new(alloc)).into_report() {
+            Some(report) => {
+                self.report = report;
+                Ok(())
+            }
+            None => Err(OsrlFault::Missing),
+        }
+    }
+
+    /// Goes past the end tag of such an element but an item or the root.
+    fn end_text(&mut self, place: Place) -> Result<(), AllocError>
+        requires item { (part : Part) → place ≡ places.Item part → ⊥ }
+        requires root { place ≡ places.Osrl → ⊥ }
+        ensures { OnOk result (leaving.Ends self.old place self.new) }
+    {
+        self.place = outer(place);
+        let text = self.text.as_slice();
+        match place {
+            Place::JobId => keep_first(self.alloc, &mut self.job, trim(text)),
+            Place::Message => keep_first(self.alloc, &mut self.message, trim(text)),
+            Place::JobStatus => keep_first(self.alloc, &mut self.status, text),
+            _ => Ok(()),
+        }
+    }
+
+    /// Goes past an end tag of such an element.
+    fn end(&mut self, place: Place) -> Result<(), OsrlFault>
+        ensures { EndsAt self.old place self.new result }
+    {
+        match place {
+            Place::Item(part) => self.end_item(part),
+            Place::Osrl => self.end_root(),
+            _ => {
+                self.end_text(place)?;
+                Ok(())
+            }
+        }
+    }
+
+    /// Goes past an end tag.
+    pub(crate) fn close(&mut self) -> Result<(), OsrlFault>
+        ensures { (name : List ℕ) → Steps self.old (Finish name) self.new result }
+    {
+        if self.depth > 0 {
+            self.depth -= 1;
+            return Ok(());
+        }
+        self.end(self.place)
+    }
+
+    /// Whether no element more can be counted.
+    pub(crate) fn is_full(&self) -> bool
+        ensures count { IsFalse result → self.now.count + 1 < 2 ^ 64 }
+        ensures depth { IsFalse result → self.now.depth + 1 < 2 ^ 64 }
+    {
+        self.count == u64::MAX || self.depth == u64::MAX
+    }
+
+    /// What the document reports, where its root has ended.
+    pub(crate) fn report(self) -> Report
+        ensures { result ≡ self.report }
+    {
+        self.report
+    }
+}
