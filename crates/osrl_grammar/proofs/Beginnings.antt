@@ -1,18 +1,9 @@
 -- What the code makes of a start tag is the state that it leaves.
-use Rattle.osrl_grammar.proofs.Names.{◌≡◌, ◌∙◌, ◌+◌, ◌||◌, ℕ, Bool, true, false, List, [], refl, ap, sym, Option, None, Some, Result, OnOk, is_some, false≢true, true≢false, on_ok_weaker, Attribute, Mark, Start, Held, Part, State, has, first, with_part, begun}
+use Rattle.osrl_grammar.proofs.Names.{◌≡◌, ◌∙◌, ◌+◌, ◌||◌, ℕ, Bool, true, List, [], refl, ap, sym, Option, Result, OnOk, on_ok_weaker, Attribute, Mark, Start, Held, Part, State, has, first, with_part, begun}
 use Rattle.osrl_grammar.specs.declared.elements.Place.{Place}
 use Rattle.osrl_grammar.specs.declared.elements.Place.TheVariants as places
 use Rattle.osrl_grammar.specs.Saying.{type_of}
 use Rattle.osrl_grammar.specs.Leaving.{into}
-
--- a text is kept where none was, and else stays
-pub first_kept : (o : Option (List ℕ)) (t new : List ℕ) → false ≡ is_some o → new ≡ t → Some new ≡ first o t
-first_kept None t new none is = ap (λ (l : List ℕ). Some l) is
-first_kept (Some old) t new none is = absurd (false≢true none)
-
-pub first_stays : (o : Option (List ℕ)) (t : List ℕ) → true ≡ is_some o → o ≡ first o t
-first_stays None t some = absurd (true≢false some)
-first_stays (Some old) t some = refl
 
 -- most places change nothing else
 goes_into : (s : State) (m : Mark) (p : Place) → (p ≡ places.GeneralStatus → ⊥) → (p ≡ places.SolutionStatus → ⊥) → (p ≡ places.Solution → ⊥) → ((q : Part) → p ≡ places.Result q → ⊥) → ((q : Part) → p ≡ places.Item q → ⊥) → into s p ≡ begun s m p

@@ -1,5 +1,5 @@
 -- Texts in place of numbers that were read, or not.
-use Rattle.osrl_grammar.proofs.Names.{◌≡◌, ◌∙◌, inl, ℕ, Option, None, Some, Result, Ok, Err, IfOk, IfErr, List, [], ◌∷◌, refl, ap, sym, subst, Ratio, ratio_once, AllPass, FieldsRead, both_read, Unread, Wide, Misread, NoShape, NoNumber, TooGreat, FitsKind, IsNumberText, Field, IsBad, IsTooGreat, IsNot, field, with_fields, ReadsSo}
+use Rattle.osrl_grammar.proofs.Names.{◌≡◌, ◌∙◌, inl, ℕ, Option, None, Some, Result, Ok, Err, IfOk, IfErr, List, [], ◌∷◌, refl, sym, subst, Ratio, ratio_once, AllPass, FieldsRead, both_read, Unread, Wide, Misread, NoShape, NoNumber, TooGreat, FitsKind, IsNumberText, Field, IsBad, IsTooGreat, IsNot, field, with_fields, ReadsSo}
 use Rattle.std.specs.Prelude.{MatchResult}
 use Rattle.tag_tests.specs.Fields.{IsFirstOf}
 use Rattle.tag_tests.specs.declared.numbers.Unread.TheVariants.{NotNumber}
@@ -53,15 +53,6 @@ shapeless_read {B} o Q none = subst (λ (p : Option (List Field)). ReadsSo {A = 
 pub reads_made : {A B : Type 0} (o : Option (List Field)) (r : Result A Misread) (x : A) (y : B) (P : A → Type 0) (Q : B → Type 0) → r ≡ Ok x → (P x → Q y) → ReadsSo o r P → ReadsSo o (Ok y) Q
 reads_made None r x y P Q is says h = absurd (let e : Ok x ≡ Err NoShape = sym is ∙ h in cc)
 reads_made {A} (Some fs) r x y P Q is says h = let k = subst (λ (q : Result A Misread). ReadsSo (Some fs) q P) is h in (k.0, k.1, says k.2)
-
-pub reads_failed : {A B : Type 0} (o : Option (List Field)) (r : Result A Misread) (u : Misread) (P : A → Type 0) (Q : B → Type 0) → r ≡ Err u → ReadsSo o r P → ReadsSo o (Err u) Q
-reads_failed {A} {B} o r u P Q is h = failed_so o u (subst (λ (q : Result A Misread). ReadsSo o q P) is h)
-  where
-    failed_so : (o : Option (List Field)) (u : Misread) → ReadsSo o (Err u) P → ReadsSo {A = B} o (Err u) Q
-    failed_so None u h = let e : u ≡ NoShape = cc in ap (λ (v : Misread). let q : Result B Misread = Err v in q) e
-    failed_so (Some fs) NoShape h = h
-    failed_so (Some fs) NoNumber h = h
-    failed_so (Some fs) TooGreat h = h
 
 pub reads_more : {A : Type 0} (o : Option (List Field)) (r : Result A Misread) (P Q : A → Type 0) → ((x : A) → P x → Q x) → ReadsSo o r P → ReadsSo o r Q
 reads_more None r P Q says h = h

@@ -1,17 +1,14 @@
 -- Items that begin with a word.
-use Rattle.osrl_grammar.proofs.Names.{◌≡◌, ◌∙◌, ℕ, Option, None, Some, Result, Err, List, [], ◌∷◌, refl, ap, sym, subst, Misread, NoShape, option_map, Step, Index, Turn, Field, worded, field, step_text, all_steps, place_fields, ReadsSo, IsPlace, Begins}
+use Rattle.osrl_grammar.proofs.Names.{◌≡◌, ◌∙◌, ℕ, Option, Some, Result, List, [], ◌∷◌, refl, ap, sym, subst, Misread, option_map, Step, Index, Turn, Field, worded, field, step_text, all_steps, place_fields, ReadsSo, IsPlace, Begins}
 use Rattle.certificate.specs.declared.causes.Place.{Place}
 use Rattle.osrl_grammar.specs.Items.{behind_word, worded_fields}
 use Rattle.osrl_grammar.specs.Values.{IsIndex, IsTurn, Behind}
 use Rattle.osrl_grammar.proofs.WordValues.{worded_is}
-use Rattle.osrl_grammar.proofs.Fields.{Pass, shapeless_read, reads_more}
+use Rattle.osrl_grammar.proofs.Fields.{Pass, reads_more}
 
 module _ {W X : Type 0} (word : W → List ℕ) (all : List W) (behind : W → List (List ℕ) → Option (List Field)) (head : X → W) (Says : X → List (List ℕ) → Type 0) where
   worded_first : (pieces : List (List ℕ)) (p : List ℕ) (ps : List (List ℕ)) (o : Option W) → pieces ≡ p ∷ ps → worded word all p ≡ o → worded_fields word all behind pieces ≡ behind_word behind o ps
   worded_first pieces p ps o is found = ap (worded_fields word all behind) is ∙ ap (λ (q : Option W). behind_word behind q ps) found
-
-  pub no_word : (pieces : List (List ℕ)) (p : List ℕ) (ps : List (List ℕ)) → pieces ≡ p ∷ ps → worded word all p ≡ None → ReadsSo {A = X} (worded_fields word all behind pieces) (Err NoShape) (Begins word head Says pieces)
-  no_word pieces p ps is none = shapeless_read (worded_fields word all behind pieces) (Begins word head Says pieces) (worded_first pieces p ps None is none)
 
   pub begun_read : (pieces : List (List ℕ)) (p : List ℕ) (ps : List (List ℕ)) (w : W) (r : Result X Misread) → pieces ≡ p ∷ ps → worded word all p ≡ Some w → ReadsSo (behind w ps) r (Behind head Says w ps) → ReadsSo (worded_fields word all behind pieces) r (Begins word head Says pieces)
   begun_read pieces p ps w r is found h =

@@ -1,5 +1,5 @@
 -- Lists that are told item by item.
-use Rattle.osrl_grammar.proofs.Names.{◌≡◌, ℕ, ◌-◌, ◌<◌, ◌≤◌, Bool, true, false, cond, nat_lt, get_or, ◌≢◌, List, [], ◌∷◌, length, refl, ap, sym, lt-ltb, le-ltb, arith, decimal, codes, Nodes, none, element, chars, Event, nodes_events, Mult, Node, Split, Clash, Farkas, Bound, indexed, row_values, values_part, values_part_unless_none, dual_values}
+use Rattle.osrl_grammar.proofs.Names.{◌≡◌, ℕ, ◌-◌, ◌<◌, ◌≤◌, Bool, cond, ◌≢◌, List, [], ◌∷◌, length, refl, ap, lt-ltb, le-ltb, decimal, codes, Nodes, none, element, chars, Event, nodes_events, Mult, Node, Split, Clash, Farkas, Bound, indexed, row_values, values_part, values_part_unless_none, dual_values}
 use Rattle.osrl_grammar.specs.Writing.{rows_part}
 
 -- the value of a row's multiplier, and those behind it
@@ -14,14 +14,6 @@ passed n m ms h = ap (λ (b : Bool). cond b (row_values n ms) (row_value n m (ro
 pub shown : (n : ℕ) (m : Mult) (ms : List Mult) → n ≤ m.col → row_values n (m ∷ ms) ≡ row_value n m (row_values n ms)
 shown n m ms h = ap (λ (b : Bool). cond b (row_values n ms) (row_value n m (row_values n ms))) (le-ltb m.col n h)
 
-events_by : (b : Bool) (n : ℕ) (m : Mult) (more : Nodes) (k : List Event) → nodes_events (cond b more (row_value n m more)) k ≡ nodes_events (cond b none (row_value n m none)) (nodes_events more k)
-events_by true n m more k = refl
-events_by false n m more k = refl
-
--- the first, and then those behind it
-pub row_events : (n : ℕ) (m : Mult) (ms : List Mult) (k : List Event) → nodes_events (row_values n (m ∷ ms)) k ≡ nodes_events (row_values n (m ∷ [])) (nodes_events (row_values n ms) k)
-row_events n m ms k = events_by (nat_lt m.col n) n m (row_values n ms) k
-
 unless_none : (name list : List ℕ) (values more : Nodes) → (values ≡ none → ⊥) → values_part name list values more ≡ values_part_unless_none name list values more
 unless_none name list none more some = absurd (some refl)
 unless_none name list (element n attributes children behind) more some = refl
@@ -31,10 +23,6 @@ unless_none name list (chars text behind) more some = refl
 pub rows_shown : (n : ℕ) (ms : List Mult) → (row_values n ms ≡ none → ⊥) → (k : List Event) → nodes_events (values_part (codes "constraints") (codes "dualValues") (row_values n ms) none) k ≡ nodes_events (rows_part n ms none) k
 rows_shown n ms some k = ap (λ (nodes : Nodes). nodes_events nodes k) (unless_none (codes "constraints") (codes "dualValues") (row_values n ms) none some)
 
--- and not where there is none
-pub rows_absent : (n : ℕ) (ms : List Mult) → row_values n ms ≡ none → (k : List Event) → k ≡ nodes_events (rows_part n ms none) k
-rows_absent n ms absent k = ap (λ (values : Nodes). nodes_events (values_part_unless_none (codes "constraints") (codes "dualValues") values none) k) (sym absent)
-
 -- a tree of several nodes, or none, has no dual values
 pub several : (n : ℕ) (tree : List Node) → length tree ≢ 1 → (k : List Event) → k ≡ nodes_events (dual_values n tree none) k
 several n [] h k = refl
@@ -43,12 +31,6 @@ several n (Clash c ∷ more) h k = refl
 several n (Farkas ms ∷ more) h k = refl
 several n (Bound ms ∷ []) h k = absurd (h refl)
 several n (Bound ms ∷ m ∷ more) h k = refl
-
--- a list of one
-pub one_alone : {X : Type 0} (xs : List X) (x : X) → length xs ≡ 1 → get_or xs 0 x ∷ [] ≡ xs
-one_alone [] x h = absurd (omega (arith, h))
-one_alone (y ∷ []) x h = refl
-one_alone (y ∷ z ∷ zs) x h = absurd (omega (arith, h))
 
 rows_then_by : (name list : List ℕ) (values more : Nodes) (k : List Event) → nodes_events (values_part_unless_none name list values none) (nodes_events more k) ≡ nodes_events (values_part_unless_none name list values more) k
 rows_then_by name list none more k = refl

@@ -2,17 +2,12 @@
 use Rattle.osrl_grammar.proofs.Names.{◌≡◌, inl, inr, ℕ, List, sym, subst, IsReduced, IsWithin, ratio, Frac, RatioText, ratio_once, Exact, IsNumberText, IsNot}
 use Rattle.decimal_text.specs.declared.fault.DecimalFault.{DecimalFault}
 use Rattle.decimal_text.specs.declared.fault.DecimalFault.TheVariants.{NotNumber}
-use Rattle.decimal_text.specs.Exact.{IsWideRatio}
 use Rattle.decimal_text.specs.Fault.{RefusesRatio}
 use Rattle.tag_tests.specs.declared.numbers.Unread.TheVariants as unread
 
 -- a fraction that was read
 pub exact_read : (text : List ℕ) (x : Frac) → RatioText text (ratio x) → IsNumberText Exact text (ratio x)
 exact_read text x form = (record { form = form; of_kind = tt; reduced = λ _. (x.above, x.reduced) }, (x.numer_within, x.denom_within))
-
--- one that is too great
-pub exact_wide : (text : List ℕ) → IsWideRatio text → IsNot Exact text unread.Wide
-exact_wide text (x, (form, wide)) = (x, record { form = form; of_kind = tt; reduced = λ within. absurd (wide within) }, wide)
 
 -- none
 pub exact_none : (text : List ℕ) (at : ℕ) → RefusesRatio text (NotNumber at) → IsNot Exact text unread.NotNumber

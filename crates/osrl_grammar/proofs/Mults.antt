@@ -45,9 +45,3 @@ pub no_mults : (all before rest : List (List ℕ)) (piece : List ℕ) (ms : List
 no_mults all before rest piece ms r is none s =
     ap mults_fields (s.parts ∙ ap (λ (l : List (List ℕ)). s.done ++ l) is) ∙ fields_both s.done (piece ∷ rest)
     ∙ ap (λ (o : Option Pair). with_fields (mults_fields s.done) (with_fields (option_map pair_fields o) (mults_fields rest))) none ∙ with_none (mults_fields s.done)
-
--- all pieces
-pub all_so_far : (all rest : List (List ℕ)) (ms : List Mult) (r : Result (Unit {0}) Unread) → rest ≡ [] → SoFar all rest ms r → (fs : List Field) × (mults_fields all ≡ Some fs) × ReadMults all fs ms r
-all_so_far all rest ms r none s =
-    let same : all ≡ s.done = s.parts ∙ ap (λ (l : List (List ℕ)). s.done ++ l) none ∙ append-nil s.done in
-    (s.fields, ap mults_fields same ∙ s.are, subst (λ (l : List (List ℕ)). ReadMults l s.fields ms r) (sym same) s.read)

@@ -1,7 +1,6 @@
 -- The pieces of texts that the code cuts.
-use Rattle.osrl_grammar.proofs.Names.{Bor, ◌≡◌, ◌∙◌, ◌≢◌, ◌<◌, ℕ, Bool, true, false, cond, Option, None, Some, option_map, List, [], ◌∷◌, ◌++◌, length, refl, ap, sym, arith, ne_eqb, MatchOption, is_some, false≢true, true≢false, All-nil, All-cons, All-head, All-tail, IsFree, pieces, more, Pair, parted, no_field, one_field, two_fields, place_fields}
+use Rattle.osrl_grammar.proofs.Names.{Bor, ◌≡◌, ◌∙◌, ◌≢◌, ◌<◌, ℕ, Bool, true, false, cond, Option, None, Some, option_map, List, [], ◌∷◌, ◌++◌, length, refl, ap, sym, arith, ne_eqb, MatchOption, is_some, false≢true, true≢false, All-nil, All-cons, All-head, All-tail, IsFree, pieces, more, Pair, parted, no_field}
 use Rattle.std.proofs.Common.{nat_eq, eq-eqb}
-use Rattle.osrl_grammar.specs.Numbers.{Kind}
 use Rattle.osrl_grammar.specs.Pieces.{onto}
 
 other_byte : (byte c : ℕ) (a : List ℕ) → IsFree byte (c ∷ a) → nat_eq c byte ≡ false
@@ -59,29 +58,6 @@ behind_some (Some r) t e = pieces_some r.now
 pub more_some : (o : Option (Bor (List ℕ))) → true ≡ is_some o → 0 < length (more o)
 more_some None e = absurd (true≢false e)
 more_some (Some t) e = pieces_some t.now
-
-pub more_none : (o : Option (Bor (List ℕ))) → false ≡ is_some o → more o ≡ []
-more_none None e = refl
-more_none (Some t) e = absurd (false≢true e)
-
--- no such shape
-pub not_one : (k : Kind) (ps : List (List ℕ)) → length ps ≢ 1 → one_field k ps ≡ None
-not_one k [] other = refl
-not_one k (a ∷ []) other = absurd (other refl)
-not_one k (a ∷ b ∷ ps) other = refl
-
-pub not_two : (k l : Kind) (ps : List (List ℕ)) → length ps ≢ 2 → two_fields k l ps ≡ None
-not_two k l [] other = refl
-not_two k l (a ∷ []) other = refl
-not_two k l (a ∷ b ∷ []) other = absurd (other refl)
-not_two k l (a ∷ b ∷ c ∷ ps) other = refl
-
-pub not_three : (ps : List (List ℕ)) → length ps ≢ 3 → place_fields ps ≡ None
-not_three [] other = refl
-not_three (a ∷ []) other = refl
-not_three (a ∷ b ∷ []) other = refl
-not_three (a ∷ b ∷ c ∷ []) other = absurd (other refl)
-not_three (a ∷ b ∷ c ∷ d ∷ ps) other = refl
 
 pub not_none : (ps : List (List ℕ)) → 0 < length ps → no_field ps ≡ None
 not_none [] some = absurd (omega arith)

@@ -1,7 +1,5 @@
 -- A mark is taken, or refused, by the kind that it is of in the state that the code holds.
-use Rattle.osrl_grammar.proofs.Names.{◌≡◌, ◌∙◌, inl, ℕ, ◌+◌, ◌-◌, Bool, true, false, cond, List, refl, ap, sym, subst, Result, Ok, Err, ◌≤◌, nat_lt, le-ltb, Attribute, Start, Finish, AllPass, FirstFails, Takes, OsrlFault, Memory, Led, To, Over, OtherRoot, State, begins, ends, back, tests, told, leads, Fails, begun, Leaves, osrl, Steps, EndsAt}
-use Rattle.tag_tests.specs.Forms.{Refuses}
-use Rattle.osrl_grammar.specs.declared.fault.OsrlFault.TheVariants.{Root}
+use Rattle.osrl_grammar.proofs.Names.{◌≡◌, ℕ, ◌+◌, ◌-◌, Bool, true, false, cond, List, refl, ap, sym, subst, Result, Ok, Err, ◌≤◌, nat_lt, le-ltb, Attribute, Start, Finish, AllPass, FirstFails, Takes, OsrlFault, Memory, Led, To, Over, State, begins, ends, back, tests, told, leads, Fails, begun, Leaves, osrl, Steps, EndsAt}
 use Rattle.osrl_grammar.specs.declared.elements.Place.{Place}
 
 -- where a start tag leads
@@ -10,9 +8,6 @@ led_at s name as' = cond (nat_lt 0 s.depth) Over (leads s.place name as')
 
 pub led_over : (s : State) (name : List ℕ) (as' : List Attribute) → nat_lt 0 s.depth ≡ true → led_at s name as' ≡ Over
 led_over s name as' over = ap (λ (b : Bool). cond b Over (leads s.place name as')) over
-
-pub led_in : (s : State) (name : List ℕ) (as' : List Attribute) (l : Led) → nat_lt 0 s.depth ≡ false → leads s.place name as' ≡ l → led_at s name as' ≡ l
-led_in s name as' l flat is = ap (λ (b : Bool). cond b Over (leads s.place name as')) flat ∙ is
 
 abbrev IsTakenAs : State → List ℕ → List Attribute → State → Led → Type 0
 IsTakenAs s name as' z l = AllPass (Fails s (Start name as')) (tests s (begins l)) × Leaves s (Start name as') (begins l) z
@@ -23,9 +18,6 @@ start_in s name as' p is z h = subst (IsTakenAs s name as' z) (sym is) (tt, h)
 
 pub start_over : (s : State) (name : List ℕ) (as' : List Attribute) → led_at s name as' ≡ Over → Takes osrl s (Start name as') (record s { depth = s.depth + 1 })
 start_over s name as' is = subst (IsTakenAs s name as' (record s { depth = s.depth + 1 })) (sym is) (tt, refl)
-
-pub start_refused : (s : State) (name : List ℕ) (as' : List Attribute) → led_at s name as' ≡ OtherRoot → Refuses osrl s (Start name as') Root
-start_refused s name as' is = subst (λ (l : Led). FirstFails {R = OsrlFault} (Fails s (Start name as')) (told s (Start name as')) (tests s (begins l)) Root) (sym is) (inl (tt, refl))
 
 -- an end tag, of an element that is passed over
 abbrev IsEndedAs : State → List ℕ → State → Bool → Type 0

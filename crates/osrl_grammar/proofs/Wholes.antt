@@ -119,10 +119,6 @@ size_read text k h free =
     let w = subst (λ (y : Ratio). WritesNumber Whole text y) same h.0 in
     record { form = w.form; of_kind = (unsigned_abs k, refl); reduced = w.reduced }
 
--- the numbers from 0 on as turns
-pub as_turn : (text : List ℕ) (x : Ratio) → WritesNumber Index text x → WritesNumber Turn text x
-as_turn text x w = record { form = w.form; of_kind = w.of_kind; reduced = w.reduced }
-
 -- a kind of numbers from 0 on, all of which are within the width
 pub record IsSizes (kind : Kind) : Type 0 where
   pub sized : (x : Ratio) → IsOfKind kind x → (n : ℕ) × (x ≡ whole (pos n))

@@ -1,10 +1,9 @@
 -- Values found by their words among all.
-use Rattle.osrl_grammar.proofs.Names.{◌≡◌, ◌∙◌, ap, ℕ, Bool, true, false, cond, bytes_eq, Option, None, Some, List, [], ◌∷◌, refl, sym, subst, MatchOption, All, All-head, All-tail, Step, JobStatus, Claiming, worded, status_text, claiming_text, step_text, all_steps, node_word, all_node_words, cause_word, all_cause_words}
+use Rattle.osrl_grammar.proofs.Names.{◌≡◌, ◌∙◌, ap, ℕ, Bool, true, false, cond, bytes_eq, Option, None, Some, List, [], ◌∷◌, refl, sym, subst, MatchOption, All, All-head, All-tail, Step, JobStatus, worded, status_text, step_text, all_steps, node_word, all_node_words, cause_word, all_cause_words}
 use Rattle.std.proofs.lemmas.Slice.Eq.{bytes_eq-Decides}
 use Rattle.certificate.specs.declared.causes.Step.TheVariants as steps
 use Rattle.osrl_grammar.specs.declared.report.JobStatus.TheVariants as statuses
-use Rattle.osrl_grammar.specs.declared.parts.Claiming.TheVariants as claimings
-use Rattle.osrl_grammar.specs.Words.{all_statuses, all_claimings}
+use Rattle.osrl_grammar.specs.Words.{all_statuses}
 use Rattle.osrl_grammar.specs.declared.parts.NodeWord.{NodeWord}
 use Rattle.osrl_grammar.specs.declared.parts.NodeWord.TheVariants as nodes
 use Rattle.osrl_grammar.specs.declared.parts.CauseWord.{CauseWord}
@@ -38,13 +37,6 @@ each_status statuses.Waiting = refl
 each_status statuses.Running = refl
 each_status statuses.Killed = refl
 each_status statuses.Finished = refl
-
-pub each_claiming : (c : Claiming) → worded claiming_text all_claimings (claiming_text c) ≡ Some c
-each_claiming claimings.Optimal = refl
-each_claiming claimings.Infeasible = refl
-each_claiming claimings.Unbounded = refl
-each_claiming claimings.BestSoFar = refl
-each_claiming claimings.Unsure = refl
 
 pub each_step : (s : Step) → worded step_text all_steps (step_text s) ≡ Some s
 each_step steps.Values = refl
