@@ -2,17 +2,12 @@ pub mod Passages
 pub mod Spots
 pub mod OneChild
 pub mod OneAnswer
-pub mod ElementsLeft
 pub mod ChildElements
 pub mod Tellings
 pub mod OneTree
 pub mod PrintableTexts
 pub mod XmlNodes
-pub mod FirstRefusals
 pub mod OneDocument
-pub mod NextTags
-pub mod TagPlaces
-pub mod TagPaths
 pub mod FaultTexts
 pub mod Sizes
 pub mod Lengths

@@ -1,6 +1,6 @@
 -- What bytes are as documents: of which something holds, or which are refused as no document, or as one.
 use Rattle.std.specs.Prelude.{◌≡◌, ◌⊎◌, ℕ, List}
-use Rattle.tree_grammar.specs.Elements.{Element, Event, events}
+use Rattle.tree_grammar.specs.Elements.{Element}
 use Rattle.doc_tree.specs.Refusals.{IsRefusal}
 use Rattle.doc_tree.specs.declared.fault.TreeFault.{TreeFault}
 use Rattle.document_tags.specs.Texts.{document_limit, IsDocument}
@@ -19,7 +19,3 @@ pub record TreeFails (bytes : List ℕ) (fault : TreeFault) : Type 0 where
 -- the bytes are refused: as no document, or as a document that is refused
 abbrev pub Fails : {F : Type 0} → (TreeFault → F) → (Element → F → Type 0) → List ℕ → F → Type 0
 Fails {F} tree IsRefused bytes fault = ((t : TreeFault) × (fault ≡ tree t) × TreeFails bytes t) ⊎ OfDocument IsRefused bytes fault
-
--- these are the events of a document within the limits
-abbrev pub AreOfDocument : List ℕ → List Event → Type 0
-AreOfDocument bytes told = (root : Element) × IsDocument bytes root × (told ≡ events root)

@@ -6,10 +6,7 @@ pub mod Passages
 pub mod Spots
 pub mod OneChild
 pub mod ChildElements
-pub mod Deciding
 pub mod Documents
 pub mod Writing
 pub mod Telling
 pub mod Faults
-pub mod Tags
-pub mod NextTags

@@ -14,15 +14,6 @@ only_one (e ∷ f ∷ more) = None
 abbrev pub only_child : Element → List ℕ → Option Element
 only_child e name = only_one (children_named name e)
 
--- the characters that stand in an element and not in an element in it, if there is one
-abbrev pub text_of : Option Element → Option (List ℕ)
-text_of None = None
-text_of (Some e) = Some (own_text e)
-
--- those of the one child element of this name, if there is exactly one
-abbrev pub only_text : Element → List ℕ → Option (List ℕ)
-only_text e name = text_of (only_child e name)
-
 -- the one child element, if there is exactly one, whatever its name
 abbrev pub only_element : Element → Option Element
 only_element e = only_one (child_elements e.children)

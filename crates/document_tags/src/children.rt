@@ -6,7 +6,7 @@ ghost use Rattle.document_tags.specs.Spots.{StandsAt, AreSpots, IsSpot};
 ghost use Rattle.document_tags.specs.OneChild as elements;
 
 use crate::spot::Spot;
-use os_io::{Memory, Text};
+use os_io::Memory;
 use std::alloc::Global;
 
 /// The one of these elements, if it is one.
@@ -31,14 +31,4 @@ pub fn only_child<'t>(
     let mut found = Vec::new(alloc);
     spot.push_children(name, &mut found)?;
     Ok(only_one(found.as_slice()))
-}
-
-/// The characters that stand in the one child element of this name, and not in an element in it, if there is exactly one.
-pub fn only_text(alloc: Global, spot: Spot<'_>, name: &[u8]) -> Result<Option<Text>, Memory>
-    ensures { (e : Element) → StandsAt spot.entry e → IfOk result (λ r. r ≡ elements.only_text e name.now) }
-{
-    let Some(child) = only_child(alloc, spot, name)? else {
-        return Ok(None);
-    };
-    Ok(Some(child.own_text(alloc)?))
 }

@@ -5,7 +5,6 @@ use Rattle.std.specs.List.{All}
 use Rattle.std.proofs.Math.Nat.{pow-le-pow_right}
 use Rattle.std.proofs.lemmas.List.{length-map}
 use Rattle.std.proofs.lemmas.Option.{none-some}
-use Rattle.document_tags.specs.Tags.{tags}
 use Rattle.evidence.specs.Instance.{Instance, IsInstance, width, height}
 use Rattle.instance.specs.Parts.{Parts}
 use Rattle.instance.specs.Program.{program, variable, row}
@@ -20,9 +19,9 @@ use Rattle.branch_bound.specs.Claims.{claimed_outcome}
 use Rattle.osol_grammar.specs.declared.options.Options.{Options}
 use Rattle.osol_grammar.specs.declared.fault.OsolFault.{OsolFault}
 use Rattle.osol_grammar.specs.declared.fault.OsolFault.TheVariants as options_faults
-use Rattle.osol_grammar.specs.Back.{ComesBack, IsNameOrNone}
+use Rattle.osol_grammar.specs.Back.{ComesBack}
 use Rattle.osol_grammar.specs.Limits as limits
-use Rattle.osol_grammar.specs.Meaning.{IsOptionsText, SayLimit}
+use Rattle.osol_grammar.specs.Meaning.{IsOptionsText}
 use Rattle.osol_grammar.specs.Options.{amount}
 use Rattle.osol_grammar.specs.Reading.{DecodeFails}
 use Rattle.osol_grammar.specs.Writing.{options_text}
@@ -65,29 +64,18 @@ all_of P [] h k d l = absurd (omega (arith, l))
 all_of P (x ∷ xs) h zero d l = h.0
 all_of P (x ∷ xs) h (suc k) d l = all_of P xs h.1 k d (omega (arith, l))
 
--- the nodes that a text says are as many as their limit may be
-nodes_within : (bytes : List ℕ) (o : Options) → IsOptionsText bytes o → (1 ≤ o.nodes) × (o.nodes ≤ 1000000)
-nodes_within bytes o (inl (blank, none)) =
-    let all = each (λ l. amount o l ≡ (limits.limit_row l).default) none.limits limits.all in
-    (omega (arith, all.0), omega (arith, all.0))
-nodes_within bytes o (inr (other, doc)) =
-    let all = each (λ l. SayLimit (tags doc.root) l (amount o l)) doc.is.limits limits.all in
-    elim (all.0) [
-      | inl said ↦ (omega (arith, said.1), omega (arith, said.1))
-      | inr said ↦ (said.2.1, said.2.2)
-    ]
-
 -- options with a safe limit are read back
-with_limit : (osol : List ℕ) (o : Options) (limit k : ℕ) → IsOptionsText osol o → IsNameOrNone o.job → limit ≡ 4 ^ k → k ≤ 13 → ComesBack (record o { turns = limit })
-with_limit osol o limit k text job is few =
+with_limit : (o : Options) (limit k : ℕ) → ComesBack o → limit ≡ 4 ^ k → k ≤ 13 → ComesBack (record o { turns = limit })
+with_limit o limit k back is few =
     let least : 0 ≤ k = omega arith in
     let low : 4 ^ 0 ≤ 4 ^ k = pow-le-pow_right (omega arith) least in
     let high : 4 ^ k ≤ 4 ^ 13 = pow-le-pow_right (omega arith) few in
-    let nodes = nodes_within osol o text in
+    let above = each (λ l. (limits.limit_row l).least ≤ amount o l) back.above limits.all in
+    let below = each (λ l. amount o l ≤ (limits.limit_row l).most) back.below limits.all in
     record {
-      job = job;
-      above = each_limit (λ l. (limits.limit_row l).least ≤ amount (record o { turns = limit }) l) (all_of (λ l. (limits.limit_row l).least ≤ amount (record o { turns = limit }) l) limits.all (nodes.0, (omega (arith, is, low), tt)));
-      below = each_limit (λ l. amount (record o { turns = limit }) l ≤ (limits.limit_row l).most) (all_of (λ l. amount (record o { turns = limit }) l ≤ (limits.limit_row l).most) limits.all (nodes.1, (omega (arith, is, high), tt)));
+      job = back.job;
+      above = each_limit (λ l. (limits.limit_row l).least ≤ amount (record o { turns = limit }) l) (all_of (λ l. (limits.limit_row l).least ≤ amount (record o { turns = limit }) l) limits.all (above.0, (omega (arith, is, low), tt)));
+      below = each_limit (λ l. amount (record o { turns = limit }) l ≤ (limits.limit_row l).most) (all_of (λ l. amount (record o { turns = limit }) l ≤ (limits.limit_row l).most) limits.all (below.0, (omega (arith, is, high), tt)));
     }
 
 -- ---- claims
@@ -128,7 +116,7 @@ pub record Laws : Type 0 where
   pub within : (I : Instance) (t : Terms) (o : Outcome) (c : Clock) (l : ℕ) → IsInstance I → IsPlain I → BeginsFeasible I → safe_limit (width I) (height I) ≡ Some l → l ≤ t.turns → IsSearchAnswer I t o c → is_out_of_turns o ≡ false
   pub once : (bytes : List ℕ) (p q : Parts) → IsInstanceText bytes p → IsInstanceText bytes q → p ≡ q
   pub back : (o : Options) (r : Result Options OsolFault) → ComesBack o → IfOk r (IsOptionsText (options_text o)) → IfErr r (DecodeFails (options_text o)) → r ≢ Err options_faults.Memory → r ≡ Ok o
-  pub names : (bytes : List ℕ) (o : Options) → IsOptionsText bytes o → IsNameOrNone o.job
+  pub written : (bytes : List ℕ) (o : Options) → IsOptionsText bytes o → ComesBack o
   pub read_options : (bytes : List ℕ) (o : Options) (f : OsolFault) → IsOptionsText bytes o → DecodeFails bytes f → f ≡ options_faults.Memory
   pub read_instance : (bytes : List ℕ) (p : Parts) (f : OsilFault) → IsInstanceText bytes p → instances.DecodeFails bytes f → f ≡ instance_faults.Memory
 
@@ -143,7 +131,7 @@ module _ (laws : Laws) (osil osol taken : List ℕ) (p : Parts) (text : IsInstan
   turns_are : (o : Options) → IsOptionsText taken o → (s : IsSafeText osil osol taken) → o.turns ≡ s.limit
   turns_are o said s =
       let limit = limit_is (length s.parts.vars) (length s.parts.rows) s.limit s.enough in
-      let back = laws.back (record s.options { turns = s.limit }) (Ok o) (with_limit osol s.options s.limit _ s.said (laws.names osol s.options s.said) limit.1 limit.0) (subst (λ (t : List ℕ). IsOptionsText t o) s.is said) tt (ok_or_not o options_faults.Memory) in
+      let back = laws.back (record s.options { turns = s.limit }) (Ok o) (with_limit s.options s.limit _ (laws.written osol s.options s.said) limit.1 limit.0) (subst (λ (t : List ℕ). IsOptionsText t o) s.is said) tt (ok_or_not o options_faults.Memory) in
       ap (λ (x : Options). x.turns) (same_ok o (record s.options { turns = s.limit }) back)
 
   -- where options and an instance are read, there is such a text

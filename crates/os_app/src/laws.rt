@@ -12,7 +12,7 @@ ghost use Rattle.os_app.specs.Runs.{Run, Runs, WritesWithinTurns};
 use instance::programs_have_numbers;
 use no_cycles::safe_limits_are_enough;
 use osil_grammar::{documents_are_refused_in_one_way, documents_mean_one_instance};
-use osol_grammar::{comes_back, options_are_not_refused, options_have_names};
+use osol_grammar::{comes_back, options_are_not_refused, read_options_come_back};
 
 /// Law: what `solve --safe` writes never names the limit of turns, where the instance has no whole variables, its first values keep each row
 /// between its ends, and it has at most 13 variables and rows together.
@@ -24,6 +24,6 @@ pub fn safe_solves_stay_within_turns()
     documents_mean_one_instance();
     documents_are_refused_in_one_way();
     comes_back();
-    options_have_names();
+    read_options_come_back();
     options_are_not_refused();
 }

@@ -1,10 +1,7 @@
-pub mod LastTags
 pub mod LimitTable
-pub mod TagKinds
-pub mod TagSteps
-pub mod AllTags
-pub mod WrittenLimits
+pub mod OneState
 pub mod OneAnswer
+pub mod WrittenLimits
 pub mod WrittenText
-pub mod BackTags
-pub mod JobName
+pub mod BackMarks
+pub mod ReadOptions

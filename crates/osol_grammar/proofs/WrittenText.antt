@@ -3,7 +3,7 @@ use Rattle.std.proofs.Common.{◌≡◌, ◌∙◌, ℕ, ◌+◌, ◌*◌, ◌�
 use Rattle.std.specs.Prelude.{codes}
 use Rattle.std.specs.List.{list_all}
 use Rattle.std.proofs.lemmas.Bool.{leb-true}
-use Rattle.std.proofs.lemmas.List.{reverse-append}
+use Rattle.std.proofs.lemmas.List.{reverse-append, reverse-reverse}
 use Rattle.tree_grammar.specs.Elements as tree
 use Rattle.tree_grammar.specs.Elements.{none}
 use Rattle.element_tree.proofs.XmlTexts.{is_printable}
@@ -70,15 +70,7 @@ pub text_document : (o : Options) → ComesBack o → IsDocument (options_text o
 text_document o back =
     root_is_document (codes "osol") (options_nodes o) refl refl (still_flat 3 31 (options_nodes o) (options_nodes o) (lit≤ tt) (job_flat o.job (optimization o) back.job (optimization_flat o))) (text_short o back)
 
--- a text with something at its end
-ends_some : (xs : List ℕ) (x : ℕ) → xs ++ x ∷ [] ≡ [] → ⊥
-ends_some [] x e = cc
-ends_some (y ∷ xs) x e = cc
-
-none_reversed : (xs : List ℕ) → reverse xs ≡ [] → xs ≡ []
-none_reversed [] e = refl
-none_reversed (x ∷ xs) e = absurd (ends_some (reverse xs) x (sym (reverse-append (x ∷ []) xs) ∙ e))
-
+-- a text that doesn't begin with white space
 still_some : (b : Bool) (x : ℕ) (xs rest : List ℕ) → (rest ≡ [] → ⊥) → cond b rest (x ∷ xs) ≡ [] → ⊥
 still_some true x xs rest some e = some e
 still_some false x xs rest some e = cc
@@ -88,7 +80,7 @@ letter_stays [] e = cc
 letter_stays (x ∷ xs) e = still_some (is_space x) x (xs ++ 60 ∷ []) (without_leading_space (xs ++ 60 ∷ [])) (letter_stays xs) e
 
 not_blank : (s : List ℕ) → trimmed (60 ∷ s) ≡ [] → ⊥
-not_blank s e = letter_stays (reverse s) (ap without_leading_space (sym (reverse-append (60 ∷ []) s)) ∙ none_reversed (without_leading_space (reverse (60 ∷ s))) e)
+not_blank s e = letter_stays (reverse s) (ap without_leading_space (sym (reverse-append (60 ∷ []) s)) ∙ sym (reverse-reverse (without_leading_space (reverse (60 ∷ s)))) ∙ ap reverse e)
 
 pub text_not_blank : (o : Options) → trimmed (options_text o) ≡ [] → ⊥
 text_not_blank o e = not_blank (drop 1 (options_text o)) e

@@ -1,7 +1,7 @@
 pub mod Limits
 pub mod Options
-pub mod LastTags
-pub mod Refusals
+pub mod Table
+pub mod Marked
 pub mod Meaning
 pub mod Texts
 pub mod Writing

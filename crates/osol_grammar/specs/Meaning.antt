@@ -1,40 +1,28 @@
--- What an options document says, where nothing of it is refused (Optimization Services option language).
-use Rattle.std.specs.Prelude.{◌≡◌, ◌⊎◌, ℕ, true, Option, None, List, []}
+-- What an options document says, and which documents are refused (Optimization Services option language).
+use Rattle.std.specs.Prelude.{◌≡◌, ◌⊎◌, ℕ, List, []}
 use Rattle.tree_grammar.specs.Elements.{Element}
-use Rattle.document_tags.specs.Elements.{unless_empty}
-use Rattle.document_tags.specs.Tags.{Tag, ends, tags, tag_places}
-use Rattle.document_tags.specs.Deciding.{AreClean}
 use Rattle.document_tags.specs.Documents.{OfDocument}
 use Rattle.decimal_text.specs.Space.{trimmed}
-use Rattle.osol_grammar.specs.declared.limit.Limit.{Limit}
+use Rattle.tag_tests.specs.Forms.{AreTaken, AreRefused}
+use Rattle.tag_tests.specs.Readers.{marks}
+use Rattle.osol_grammar.specs.declared.fault.Refusal.{Refusal}
 use Rattle.osol_grammar.specs.declared.options.Options.{Options}
-use Rattle.osol_grammar.specs.Limits.{limit_row}
-use Rattle.osol_grammar.specs.Options.{job_path, IsOption, SaysAmount, amount}
-use Rattle.osol_grammar.specs.LastTags.{LastSays}
-use Rattle.osol_grammar.specs.Refusals.{Decides}
+use Rattle.osol_grammar.specs.declared.standing.Standing.{Standing as State}
+use Rattle.osol_grammar.specs.Options.{no_options}
+use Rattle.osol_grammar.specs.Table.{start}
+use Rattle.osol_grammar.specs.Marked.{osol}
 
--- the job's name that these tags say, without the white space round it; none where it is empty
-abbrev pub SayJob : List Tag → Option (List ℕ) → Type 0
-SayJob ts job = LastSays (λ t. ends job_path t ≡ true) (λ t j. j ≡ unless_empty (trimmed t.text)) None ts job
-
--- the amount that these tags say of a limit
-abbrev pub SayLimit : List Tag → Limit → ℕ → Type 0
-SayLimit ts l n = LastSays (IsOption l) (SaysAmount l) (limit_row l).default ts n
-
--- nothing of these tags is refused, and they say these options
-pub record Say (ts : List Tag) (o : Options) : Type 0 where
-  pub clean : AreClean Decides (tag_places ts)
-  pub job : SayJob ts o.job
-  pub limits : (l : Limit) → SayLimit ts l (amount o l)
-
--- the options of the document with this root
+-- the options of the document with this root: all its marks are taken, and say them
 abbrev pub IsOptions : Element → Options → Type 0
-IsOptions root o = Say (tags root) o
+IsOptions root o = (z : State) × AreTaken osol start (marks root) z × (o ≡ z.options)
 
--- no options: no job's name, and each limit by default
-pub record IsNoOptions (o : Options) : Type 0 where
-  pub job : o.job ≡ None
-  pub limits : (l : Limit) → amount o l ≡ (limit_row l).default
+-- the document with this root is refused, at the element with this ordinal: the first of its marks that isn't taken refuses so
+abbrev pub IsRefused : Element → Refusal → ℕ → Type 0
+IsRefused root r n = AreRefused osol start (marks root) (record { refusal = r; at = n })
+
+-- there are no options
+abbrev pub IsNoOptions : Options → Type 0
+IsNoOptions o = o ≡ no_options
 
 -- white space alone, or nothing
 abbrev pub IsBlank : List ℕ → Type 0

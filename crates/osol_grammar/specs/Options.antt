@@ -1,34 +1,39 @@
--- Which tags of an options document are read (Optimization Services option language): the job's name, and the options of the limits.
-use Rattle.std.specs.Prelude.{◌≡◌, ℕ, ◌≤◌, true, Some, IfSome, IsSomeAnd, List, [], ◌∷◌, codes}
+-- What options are, and which attributes say one (Optimization Services option language).
+use Rattle.std.specs.Prelude.{◌≡◌, ◌⊎◌, ℕ, ◌≤◌, Option, None, Some, IfSome, IsSomeAnd, List, codes}
+use Rattle.tree_grammar.specs.Elements.{Attribute}
 use Rattle.document_tags.specs.Elements.{value_of}
-use Rattle.document_tags.specs.Tags.{Tag, begins}
 use Rattle.decimal_text.specs.Count.{IsCount}
 use Rattle.osol_grammar.specs.declared.limit.Limit.{Limit}
-use Rattle.osol_grammar.specs.declared.options.Options.{Options}
 use Rattle.osol_grammar.specs.declared.limit.Limit.TheVariants.{Nodes, Turns}
+use Rattle.osol_grammar.specs.declared.options.Options.{Options}
 use Rattle.osol_grammar.specs.Limits.{limit_row}
 
--- the names from the root to what is read
-abbrev pub root_path : List (List ℕ)
-root_path = codes "osol" ∷ []
+-- the options of a job's name and an amount for each limit
+abbrev pub made : Option (List ℕ) → (Limit → ℕ) → Options
+made job amounts = record { job = job; nodes = amounts Nodes; turns = amounts Turns }
 
-abbrev pub job_path : List (List ℕ)
-job_path = codes "osol" ∷ codes "general" ∷ codes "jobID" ∷ []
-
-abbrev pub option_path : List (List ℕ)
-option_path = codes "osol" ∷ codes "optimization" ∷ codes "solverOptions" ∷ codes "solverOption" ∷ []
-
--- the start tag of an option of this limit: it has its name, and is meant for each solver or for this one
-pub record IsOption (l : Limit) (t : Tag) : Type 0 where
-  pub starts : begins option_path t ≡ true
-  pub named : value_of (codes "name") t.attributes ≡ Some (limit_row l).name
-  pub meant : IfSome (value_of (codes "solver") t.attributes) (λ s. s ≡ codes "os_cert")
-
--- its value is this amount, which is one that the limit may have
-abbrev pub SaysAmount : Limit → Tag → ℕ → Type 0
-SaysAmount l t n = IsSomeAnd (value_of (codes "value") t.attributes) (λ text. IsCount text n) × ((limit_row l).least ≤ n) × (n ≤ (limit_row l).most)
-
--- what options say of a limit
+-- what options say of a limit, and the options that say another amount of it
 abbrev pub amount : Options → Limit → ℕ
 amount o Nodes = o.nodes
 amount o Turns = o.turns
+
+abbrev pub with_amount : Options → Limit → ℕ → Options
+with_amount o Nodes n = record o { nodes = n }
+with_amount o Turns n = record o { turns = n }
+
+-- no options: no job's name, and each limit by default
+abbrev pub no_options : Options
+no_options = made None (λ l. (limit_row l).default)
+
+-- the attributes of an option of this limit: it has its name, and is meant for each solver or for this one
+pub record IsOption (l : Limit) (as' : List Attribute) : Type 0 where
+  pub named : value_of (codes "name") as' ≡ Some (limit_row l).name
+  pub meant : IfSome (value_of (codes "solver") as') (λ s. s ≡ codes "os_cert")
+
+-- its value is this amount, which is one that the limit may have
+abbrev pub SaysAmount : Limit → List Attribute → ℕ → Type 0
+SaysAmount l as' n = IsSomeAnd (value_of (codes "value") as') (λ text. IsCount text n) × ((limit_row l).least ≤ n) × (n ≤ (limit_row l).most)
+
+-- an option says the amount of its limit, and one of no limit says nothing
+abbrev pub SaysOption : List Attribute → Options → Options → Type 0
+SaysOption as' o p = ((l : Limit) × (n : ℕ) × IsOption l as' × SaysAmount l as' n × (p ≡ with_amount o l n)) ⊎ (((l : Limit) → IsOption l as' → ⊥) × (p ≡ o))

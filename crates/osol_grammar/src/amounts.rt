@@ -1,18 +1,15 @@
-//! The options of limits, as tags say them.
+//! The options of limits, as start tags say them.
 
-ghost use Rattle.std.specs.Prelude.{◌≡◌, ◌↔◌, ◌<◌, ℕ, IsTrue, IfSome, MatchOption, codes, length};
+ghost use Rattle.std.specs.Prelude.{◌≡◌, ◌↔◌, ℕ, IsTrue, IfSome, MatchOption, codes};
 ghost use Rattle.document_tags.specs.Elements.{value_of};
-ghost use Rattle.document_tags.specs.NextTags.{coming};
 ghost use Rattle.osol_grammar.specs.declared.limit.Limit as kinds;
 ghost use Rattle.osol_grammar.specs.Limits as table;
 ghost use Rattle.osol_grammar.specs.Options.{IsOption, SaysAmount};
 
 use crate::limit::{LIMITS, Limit};
 use decimal_text::read_count;
-use document_tags::Tags;
-
-/// Where options stand.
-const OPTION: [&[u8]; 4] = [b"osol", b"optimization", b"solverOptions", b"solverOption"];
+use element_tree::Attributes;
+use tag_tests::value;
 
 /// The limit whose option has this name, if there is one.
 fn limit_named(name: &[u8]) -> Option<Limit>
@@ -26,37 +23,34 @@ fn limit_named(name: &[u8]) -> Option<Limit>
     None
 }
 
-/// Whether the option that comes next is meant for each solver or for this one.
-fn is_meant(tags: &Tags<'_>) -> bool
-    requires { 0 < length tags.now }
-    ensures { IsTrue result ↔ IfSome (value_of (codes "solver") (coming tags.now).attributes) (λ s. s ≡ codes "os_cert") }
+/// Whether an option is meant for each solver or for this one.
+fn is_meant(attributes: &Attributes<'_>) -> bool
+    ensures { IsTrue result ↔ IfSome (value_of (codes "solver") attributes.now) (λ s. s ≡ codes "os_cert") }
 {
-    match tags.attribute(b"solver") {
+    match value(attributes, b"solver") {
         Some(solver) => solver == b"os_cert".as_slice(),
         None => true,
     }
 }
 
-/// The limit whose option comes next, if one does.
-pub(crate) fn limit_of(tags: &Tags<'_>) -> Option<Limit>
-    requires { 0 < length tags.now }
-    ensures { MatchOption result ((l : kinds.Limit) → IsOption l (coming tags.now) → ⊥) (λ l. IsOption l (coming tags.now)) }
+/// The limit whose option has these attributes, if there is one.
+pub(crate) fn limit_of(attributes: &Attributes<'_>) -> Option<Limit>
+    ensures { MatchOption result ((l : kinds.Limit) → IsOption l attributes.now → ⊥) (λ l. IsOption l attributes.now) }
 {
-    if !tags.begins(&OPTION) || !is_meant(tags) {
+    if !is_meant(attributes) {
         return None;
     }
-    match tags.attribute(b"name") {
+    match value(attributes, b"name") {
         Some(name) => limit_named(name),
         None => None,
     }
 }
 
-/// The amount that the option that comes next says, if it says one that the limit may have.
-pub(crate) fn amount_of(tags: &Tags<'_>, limit: Limit) -> Option<u32>
-    requires { 0 < length tags.now }
-    ensures { MatchOption result ((n : ℕ) → SaysAmount limit (coming tags.now) n → ⊥) (λ n. SaysAmount limit (coming tags.now) n) }
+/// The amount that an option says, if it says one that the limit may have.
+pub(crate) fn amount_of(attributes: &Attributes<'_>, limit: Limit) -> Option<u32>
+    ensures { MatchOption result ((n : ℕ) → SaysAmount limit attributes.now n → ⊥) (λ n. SaysAmount limit attributes.now n) }
 {
-    let text = tags.attribute(b"value")?;
+    let text = value(attributes, b"value")?;
     let amount = read_count(text).ok()?;
     let row = limit.row();
     if amount < u64::from(row.least) || amount > u64::from(row.most) {

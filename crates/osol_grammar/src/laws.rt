@@ -6,8 +6,7 @@ ghost use Rattle.osol_grammar.specs.declared.fault.Refusal.{Refusal};
 ghost use Rattle.osol_grammar.specs.declared.fault.OsolFault.{OsolFault};
 ghost use Rattle.osol_grammar.specs.declared.fault.OsolFault.TheVariants.{Memory};
 ghost use Rattle.osol_grammar.specs.declared.options.Options as kinds;
-ghost use Rattle.osol_grammar.specs.Refusals.{IsRefused};
-ghost use Rattle.osol_grammar.specs.Meaning.{IsOptions, IsOptionsText};
+ghost use Rattle.osol_grammar.specs.Meaning.{IsOptions, IsRefused, IsOptionsText};
 ghost use Rattle.osol_grammar.specs.Writing.{options_text};
 ghost use Rattle.osol_grammar.specs.Back.{ComesBack, IsNameOrNone};
 ghost use Rattle.osol_grammar.specs.Reading.{DecodeFails};
@@ -36,6 +35,15 @@ pub fn options_are_not_refused()
 /// without white space round them.
 pub fn options_have_names()
     ensures { (bytes : List ℕ) (o : kinds.Options) → IsOptionsText bytes o → IsNameOrNone o.job }
+{
+    documents_are_of_characters();
+    texts_part_at_ascii();
+}
+
+/// Law: the options that bytes say may be written, and come back: their job's name is a name, and their limits are such as
+/// they may be.
+pub fn read_options_come_back()
+    ensures { (bytes : List ℕ) (o : kinds.Options) → IsOptionsText bytes o → ComesBack o }
 {
     documents_are_of_characters();
     texts_part_at_ascii();

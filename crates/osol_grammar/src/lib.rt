@@ -1,9 +1,12 @@
 //! Options documents (Optimization Services option language, in this project's profile): what a job asks for beside its
 //! instance.
 //!
-//! [`decode`] gives the options that a document says, or why it says none: of the first tag at which something is wrong
-//! the least refusal, with the ordinal of its element. [`encode`] writes options as a document, and [`comes_back`] says
+//! [`decode`] gives the options that a document says, or why it says none: the refusal of the first tag at which something
+//! is wrong, with the ordinal of its element. [`encode`] writes options as a document, and [`comes_back`] says
 //! that this is the document of those options. [`refusal_text`] says in words why a document is refused.
+//!
+//! The grammar is a table, `specs/Table.antt`: what may stand in what, the test that each kind of mark (a start tag, a
+//! character, an end tag) has to pass, and what it leaves. A reader goes from mark to mark and holds no tree.
 #![tactic(auto)]
 
 mod amounts;
@@ -12,7 +15,8 @@ mod fault;
 mod laws;
 mod limit;
 mod options;
-mod reading;
+mod place;
+mod standing;
 mod texts;
 mod writing;
 
@@ -20,7 +24,7 @@ pub use document::decode;
 pub use fault::{OsolFault, Refusal};
 pub use laws::{
     comes_back, document_has_one_refusal, document_says_one, options_are_not_refused,
-    options_have_names,
+    options_have_names, read_options_come_back,
 };
 pub use options::Options;
 pub use texts::refusal_text;

@@ -13,8 +13,7 @@ pub struct Options {
 }
 
 impl Options {
-    ghost use Rattle.std.specs.Prelude.{◌≡◌, ◌≢◌};
-    ghost use Rattle.osol_grammar.specs.declared.limit.Limit as kinds;
+    ghost use Rattle.std.specs.Prelude.{◌≡◌};
     ghost use Rattle.osol_grammar.specs.Options as said;
     ghost use Rattle.osol_grammar.specs.Meaning.{IsNoOptions};
 
@@ -41,9 +40,7 @@ impl Options {
 
     /// Sets a limit.
     pub(crate) fn set(&mut self, limit: Limit, amount: u32)
-        ensures own { said.amount self.new limit ≡ amount }
-        ensures others { (l : kinds.Limit) → l ≢ limit → said.amount self.new l ≡ said.amount self.old l }
-        ensures job { self.new.job ≡ self.old.job }
+        ensures { self.new ≡ said.with_amount self.old limit amount }
     {
         match limit {
             Limit::Nodes => self.nodes = amount,

@@ -1,9 +1,4 @@
-pub mod OneJob
-pub mod Numbers
-pub mod JobLists
-pub mod WholeStatistics
-pub mod Roots
-pub mod OneProcess
-pub mod OneRefusal
+pub mod OneState
+pub mod OneAnswer
 pub mod BackText
-pub mod BackProcess
+pub mod BackMarks

@@ -1,7 +1,9 @@
 pub mod Words
+pub mod Parts
+pub mod Table
+pub mod Marked
 pub mod Meaning
 pub mod Refusals
-pub mod Reading
 pub mod Texts
 pub mod Writing
 pub mod Back

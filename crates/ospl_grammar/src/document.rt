@@ -1,27 +1,26 @@
 //! Reads process documents.
 
-ghost use Rattle.std.specs.Prelude.{◌≡◌, IfOk, IfErr};
-ghost use Rattle.tree_grammar.specs.Elements.{Element, events};
-ghost use Rattle.ospl_grammar.specs.Meaning.{IsProcess, IsProcessText};
-ghost use Rattle.ospl_grammar.specs.Reading.{Refuses};
+ghost use Rattle.std.specs.Prelude.{◌≡◌, IfOk, IfErr, MatchOption, Ok, Err};
+ghost use Rattle.ospl_grammar.specs.declared.fault.OsplFault.TheVariants.{Missing};
+ghost use Rattle.ospl_grammar.specs.Meaning.{asked_or_told, IsProcessText};
 ghost use Rattle.ospl_grammar.specs.Refusals.{DecodeFails};
 
 use crate::fault::OsplFault;
 use crate::process::Process;
-use crate::reading::read_root;
+use crate::standing::Standing;
 use doc_tree::TreeFault;
-use document_tags::{Spot, read_document};
-use element_tree::Tree;
 use std::alloc::Global;
+use tag_tests::read_marks;
 
-/// The process that a tree says, or why it is refused.
-fn read_tree(alloc: Global, tree: &Tree) -> Result<Process, OsplFault>
-    ensures ok { (e : Element) → tree.now ≡ events e → IfOk result (IsProcess e) }
-    ensures err { (e : Element) → tree.now ≡ events e → IfErr result (Refuses e) }
+/// What marks say that were all taken.
+fn said(standing: Standing) -> Result<Process, OsplFault>
+    ensures { MatchOption (asked_or_told standing.asked standing.told) (result ≡ Err Missing) (λ p. result ≡ Ok p) }
 {
-    match Spot::root(tree) {
-        Some(root) => read_root(alloc, root),
-        None => Err(OsplFault::Root),
+    let Standing { asked, told, .. } = standing;
+    match (asked, told) {
+        (Some(action), _) => Ok(Process::Ask { action }),
+        (None, Some(process)) => Ok(process),
+        (None, None) => Err(OsplFault::Missing),
     }
 }
 
@@ -33,8 +32,9 @@ pub fn decode(alloc: Global, bytes: &[u8]) -> Result<Process, OsplFault>
     ensures ok { IfOk result (IsProcessText bytes.now) }
     ensures err { IfErr result (DecodeFails bytes.now) }
 {
-    match read_document(alloc, bytes) {
-        Ok(tree) => read_tree(alloc, &tree),
+    match read_marks(alloc, bytes, Standing::new(alloc)) {
+        Ok(Ok(standing)) => said(standing),
+        Ok(Err(())) => Err(OsplFault::Root),
         Err(TreeFault::Memory) => Err(OsplFault::Memory),
         Err(fault) => Err(OsplFault::Tree(fault)),
     }

@@ -3,15 +3,18 @@
 //!
 //! [`decode`] gives the process that a document says, or why it says none. [`encode`] writes a process as a document, and
 //! [`comes_back`] says that this is the document of that process. [`refusal_text`] says in words why a document is refused.
+//!
+//! The grammar is a table, `specs/Table.antt`: what may stand in what, and what each mark (a start tag, a character, an end
+//! tag) leaves of what is asked, and of the parts of statistics. A reader goes from mark to mark and holds no tree.
 #![tactic(auto)]
 
 mod document;
 mod fault;
-mod jobs;
 mod laws;
+mod parts;
+mod place;
 mod process;
-mod reading;
-mod statistics;
+mod standing;
 mod texts;
 mod words;
 mod writing;

@@ -1,6 +1,6 @@
 -- Who is told nothing stays, and marks after marks are both in their order.
-use Rattle.std.proofs.Common.{◌≡◌, ◌∙◌, List, [], ◌∷◌, ◌++◌, refl, subst, sym}
-use Rattle.tag_tests.specs.Forms.{Form, Takes, Refuses, AreTaken, AreRefused}
+use Rattle.std.proofs.Common.{◌∙◌, List, [], ◌∷◌, ◌++◌, refl, subst, sym}
+use Rattle.tag_tests.specs.Forms.{Form, Takes, Refuses, AreRefused}
 use Rattle.tag_tests.specs.Courses.{Course, Going, Stopped, Hears}
 use Rattle.tag_tests.proofs.Forms.{taken_both, refused_more, refused_behind, refused_here}
 

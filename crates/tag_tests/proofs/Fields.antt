@@ -1,9 +1,9 @@
 -- Numbers of one tag that were read together answer the tests of their fields.
-use Rattle.std.proofs.Common.{◌≡◌, ◌∙◌, ◌⊎◌, inl, inr, ℕ, List, [], ◌∷◌, ◌++◌, refl, ap, sym, subst}
+use Rattle.std.proofs.Common.{◌≡◌, inl, inr, List, [], ◌∷◌, ◌++◌, refl, subst}
 use Rattle.std.specs.Prelude.{Result, Ok, Err, MatchResult, map}
 use Rattle.tag_tests.specs.declared.numbers.Unread.{Unread}
 use Rattle.tag_tests.specs.declared.numbers.Unread.TheVariants.{NotNumber, Wide}
-use Rattle.tag_tests.specs.Tests.{AllPass, FirstFails, Answers}
+use Rattle.tag_tests.specs.Tests.{AllPass, FirstFails}
 use Rattle.tag_tests.specs.Fields.{OneFirst, FieldsRead, IsFirstOf, field_tests}
 use Rattle.tag_tests.proofs.Tests.{pass_both, first_front, first_behind}
 

@@ -1,6 +1,5 @@
 -- The first mark that isn't taken, and the first at which something is decided, with the least that is decided there.
-use Rattle.std.proofs.Common.{◌≡◌, ◌∙◌, ℕ, ◌≤◌, List, [], ◌∷◌, ◌++◌, refl, ap, sym, subst, arith}
-use Rattle.tag_tests.specs.Tests.{InOrder}
+use Rattle.std.proofs.Common.{◌≡◌, ◌∙◌, ℕ, List, [], ◌∷◌, ◌++◌, sym, subst, arith}
 use Rattle.tag_tests.specs.Forms.{Form, AreTaken, AreRefused, LeavesOne}
 use Rattle.tag_tests.specs.Firsts.{Decides, IsFirstDecided, IsOrdered, IsDecidedOnce}
 use Rattle.tag_tests.proofs.Tests.{first_is_least, some_first, none_fails, not_pass}

@@ -1,6 +1,6 @@
 -- Marks one after another.
-use Rattle.std.proofs.Common.{◌≡◌, ◌∙◌, ◌⊎◌, inl, inr, ℕ, List, [], ◌∷◌, ◌++◌, refl, ap, sym, subst, append_assoc}
-use Rattle.tag_tests.specs.Tests.{AllPass, FirstFails}
+use Rattle.std.proofs.Common.{◌≡◌, ◌∙◌, List, [], ◌∷◌, ◌++◌, refl, ap, sym, subst, append_assoc}
+use Rattle.tag_tests.specs.Tests.{AllPass}
 use Rattle.tag_tests.specs.Forms.{Form, Refuses, Takes, AreTaken, AreRefused, LeavesOne}
 use Rattle.tag_tests.proofs.Tests.{not_pass, first_is_one}
 
@@ -71,3 +71,7 @@ refused_more {S} {T} F s ts us r f = record { before = f.before; mark = f.mark; 
 pub refused_behind : {S T C R : Type 0} (F : Form S T C R) (s m : S) (ts us : List T) (r : R) → AreTaken F s ts m → AreRefused F m us r → AreRefused F s (ts ++ us) r
 refused_behind {S} {T} {C} {R} F s m [] us r p f = subst (λ (x : S). AreRefused F x us r) p f
 refused_behind F s m (t ∷ ts) us r p f = refused_later F s p.0 t (ts ++ us) r p.1 (refused_behind F p.0 m ts us r p.2 f)
+
+pub taken_parts : {S T C R : Type 0} (F : Form S T C R) (s z : S) (ts us : List T) → AreTaken F s (ts ++ us) z → (m : S) × AreTaken F s ts m × AreTaken F m us z
+taken_parts F s z [] us p = (s, refl, p)
+taken_parts F s z (t ∷ ts) us p = let parted = taken_parts F p.0 z ts us p.2 in (parted.0, (p.0, p.1, parted.1), parted.2)

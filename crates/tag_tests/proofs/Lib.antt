@@ -3,3 +3,5 @@ pub mod Forms
 pub mod Firsts
 pub mod Fields
 pub mod Courses
+pub mod Readers
+pub mod Characters

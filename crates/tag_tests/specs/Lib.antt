@@ -3,3 +3,7 @@ pub mod Forms
 pub mod Firsts
 pub mod Fields
 pub mod Courses
+pub mod Readers
+pub mod Heard
+pub mod Kinds
+pub mod Characters

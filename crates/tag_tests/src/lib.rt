@@ -6,11 +6,16 @@
 //! in other words (of the first mark at which a test fails, the least refusal), `Fields` is of numbers that are read
 //! together at one tag, and `Courses` of one who is told of marks and goes on hearing after a refusal.
 //!
-//! [`both`] joins what was read of two numbers, and [`value`] finds an attribute.
+//! [`both`] joins what was read of two numbers, and [`value`] finds an attribute. Whoever says of each mark that it is taken, or
+//! how it is refused, is a [`MarkReader`], and [`read_marks`] has it read a document.
 #![tactic(auto)]
 
 mod attributes;
+mod marks;
 mod numbers;
+mod visits;
 
 pub use attributes::value;
+pub use marks::{MarkReader, Stop};
 pub use numbers::{Unread, both};
+pub use visits::read_marks;

@@ -8,7 +8,7 @@ returns c = λ status run osil_name options_name osil p runs solve holds text pl
       within = c.safe_limits_are_enough.ensures;
       once = c.documents_mean_one_instance.ensures.text;
       back = c.comes_back.ensures;
-      names = c.options_have_names.ensures;
+      written = c.read_options_come_back.ensures;
       read_options = c.options_are_not_refused.ensures.text;
       read_instance = c.documents_are_refused_in_one_way.ensures.no_fault;
     }) status run osil_name options_name osil p solve holds text plain feasible few runs.ends

@@ -1,6 +1,6 @@
 use Rattle.osol_grammar.specs.Writing.{options_text}
 use Rattle.osol_grammar.proofs.OneAnswer.{answer_is}
-use Rattle.osol_grammar.proofs.BackTags.{text_says}
+use Rattle.osol_grammar.proofs.BackMarks.{text_says}
 use Rattle.osol_grammar.proofs.laws.comes_back.Goals as goal
 
 pub returns : goal.returns

@@ -1,5 +1,5 @@
-use Rattle.osol_grammar.proofs.JobName.{text_name}
+use Rattle.osol_grammar.proofs.ReadOptions.{text_back}
 use Rattle.osol_grammar.proofs.laws.options_have_names.Goals as goal
 
 pub returns : goal.returns
-returns c = text_name c.documents_are_of_characters.ensures.root c.texts_part_at_ascii.ensures
+returns c = λ bytes o is. (text_back c.documents_are_of_characters.ensures.root c.texts_part_at_ascii.ensures bytes o is).job

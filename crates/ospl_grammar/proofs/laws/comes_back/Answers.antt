@@ -1,6 +1,6 @@
 use Rattle.ospl_grammar.specs.Writing.{process_text}
-use Rattle.ospl_grammar.proofs.OneRefusal.{answer_is}
-use Rattle.ospl_grammar.proofs.BackProcess.{text_says}
+use Rattle.ospl_grammar.proofs.OneAnswer.{answer_is}
+use Rattle.ospl_grammar.proofs.BackMarks.{text_says}
 use Rattle.ospl_grammar.proofs.laws.comes_back.Goals as goal
 
 pub returns : goal.returns

@@ -1,4 +1,4 @@
-use Rattle.ospl_grammar.proofs.OneProcess.{process_once, process_text_once}
+use Rattle.ospl_grammar.proofs.OneAnswer.{process_once, process_text_once}
 use Rattle.ospl_grammar.proofs.laws.document_has_one_process.Goals as goal
 
 pub returns-clause-root : goal.returns-clause-root

@@ -1,4 +1,4 @@
-use Rattle.ospl_grammar.proofs.OneRefusal.{refused_once, refusal_once}
+use Rattle.ospl_grammar.proofs.OneAnswer.{refused_once, refusal_once}
 use Rattle.ospl_grammar.proofs.laws.document_has_one_refusal.Goals as goal
 
 pub returns-clause-root : goal.returns-clause-root

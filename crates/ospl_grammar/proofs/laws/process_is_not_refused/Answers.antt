@@ -1,4 +1,4 @@
-use Rattle.ospl_grammar.proofs.OneRefusal.{process_apart, refusal_apart}
+use Rattle.ospl_grammar.proofs.OneAnswer.{process_apart, refusal_apart}
 use Rattle.ospl_grammar.proofs.laws.process_is_not_refused.Goals as goal
 
 pub returns-clause-root : goal.returns-clause-root

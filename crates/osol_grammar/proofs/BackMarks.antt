@@ -1,0 +1,113 @@
+-- The marks of a written document say the options that it was written of.
+use Rattle.std.proofs.Common.{◌≡◌, true, inr, inl, ℕ, ◌+◌, ◌≤◌, Option, None, Some, List, [], ◌∷◌, ◌++◌, length, leb, refl, sym, subst, arith}
+use Rattle.std.specs.Prelude.{codes, map}
+use Rattle.std.specs.Fmt.{decimal}
+use Rattle.tree_grammar.specs.Elements.{Attribute, Event, Close, nodes_events}
+use Rattle.doc_tree.specs.Marks.{Mark, Char, Finish, spread}
+use Rattle.std.proofs.lemmas.Bool.{leb-true}
+use Rattle.decimal_text.specs.Count.{most_count}
+use Rattle.decimal_text.proofs.RoundTrips.{count_read}
+use Rattle.document_tags.specs.Elements.{unless_empty}
+use Rattle.document_tags.specs.Writing.{with_attribute, bare_root}
+use Rattle.tag_tests.specs.Forms.{AreTaken}
+use Rattle.tag_tests.proofs.Forms.{taken_both}
+use Rattle.tag_tests.proofs.Characters.{chars_taken}
+use Rattle.osol_grammar.specs.declared.limit.Limit.{Limit}
+use Rattle.osol_grammar.specs.declared.options.Options.{Options}
+use Rattle.osol_grammar.specs.declared.place.Place.{Place}
+use Rattle.osol_grammar.specs.declared.place.Place.TheVariants.{Outside, Osol, General, JobId, Optimization, SolverOptions, SolverOption}
+use Rattle.osol_grammar.specs.declared.standing.Standing.{Standing as State}
+use Rattle.osol_grammar.specs.Limits.{all, limit_row}
+use Rattle.osol_grammar.specs.Options.{made, amount, with_amount, no_options, IsOption, SaysAmount}
+use Rattle.osol_grammar.specs.Marked.{osol}
+use Rattle.osol_grammar.specs.Meaning.{IsOptions, IsOptionsText}
+use Rattle.osol_grammar.specs.Writing.{option_nodes, options_nodes, options_text}
+use Rattle.osol_grammar.specs.Back.{IsJobName, IsNameOrNone, ComesBack}
+use Rattle.osol_grammar.proofs.LimitTable.{each_passes, option_once}
+use Rattle.osol_grammar.proofs.WrittenText.{optimization, text_document, text_not_blank}
+
+abbrev at : Place → ℕ → ℕ → List ℕ → Options → State
+at p n j t o = record { place = p; depth = 0; count = n; job_at = j; text = t; options = o }
+
+-- from this state on these marks say these options in the end
+abbrev Say : State → List Mark → Options → Type 0
+Say s ms o = (z : State) × AreTaken osol s ms z × (o ≡ z.options)
+
+-- ---- the options of limits
+
+abbrev AreWithin : Options → Type 0
+AreWithin o = (l : Limit) → ((limit_row l).least ≤ amount o l) × (amount o l ≤ (limit_row l).most)
+
+abbrev option_of : Limit → ℕ → List Attribute
+option_of l n = with_attribute (codes "name") (limit_row l).name (with_attribute (codes "value") (decimal n) (with_attribute (codes "solver") (codes "os_cert") []))
+
+option_is : (l : Limit) (n : ℕ) → IsOption l (option_of l n)
+option_is l n = record { named = refl; meant = refl }
+
+amount_is : (l : Limit) (n : ℕ) → (limit_row l).least ≤ n → n ≤ (limit_row l).most → SaysAmount l (option_of l n) n
+amount_is l n above below =
+    let most = leb-true (limit_row l).most most_count (each_passes (λ m. leb (limit_row m).most most_count) refl l) in
+    (count_read n (omega (arith, below, most)), above, below)
+
+-- options when those of these limits were read
+abbrev with_amounts : Options → Options → List Limit → Options
+with_amounts q o [] = q
+with_amounts q o (l ∷ ls) = with_amounts (with_amount q l (amount o l)) o ls
+
+limits_say : (ls : List Limit) (n j : ℕ) (t : List ℕ) (o q : Options) (es : List Event) → AreWithin o → ((k : ℕ) → Say (at SolverOptions k j t (with_amounts q o ls)) (spread es) o)
+    → Say (at SolverOptions n j t q) (spread (nodes_events (option_nodes o ls) es)) o
+limits_say [] n j t o q es within more = more n
+limits_say (l ∷ ls) n j t o q es within more =
+    let a = amount o l in
+    let p = with_amount q l a in
+    let is = option_is l a in
+    let says = amount_is l a (within l).0 (within l).1 in
+    let pass = λ (bad : (i : Limit) × IsOption i (option_of l a) × ((m : ℕ) → SaysAmount i (option_of l a) m → ⊥)). bad.2 a (subst (λ (i : Limit). SaysAmount i (option_of l a) a) (sym (option_once bad.0 l (option_of l a) bad.1 is)) says) in
+    let rest = limits_say ls (n + 1) j t o p es within more in
+    (rest.0, (at SolverOption (n + 1) j t p, ((pass, tt), (p, inl (l, a, is, says, refl), refl)), (at SolverOptions (n + 1) j t p, (tt, refl), rest.1)), rest.2)
+
+-- and what stands round them
+optimization_says : (n j : ℕ) (t : List ℕ) (o q : Options) → AreWithin o → o ≡ with_amounts q o all → Say (at Osol n j t q) (spread (nodes_events (optimization o) (Close (codes "osol") ∷ []))) o
+optimization_says n j t o q within is =
+    let p = with_amounts q o all in
+    let rest = limits_say all (n + 1 + 1) j t o q (Close (codes "solverOptions") ∷ Close (codes "optimization") ∷ Close (codes "osol") ∷ []) within
+    (λ k. (at Outside k j t p, (at Optimization k j t p, (tt, refl), (at Osol k j t p, (tt, refl), (at Outside k j t p, (tt, refl), refl))), is)) in
+    (rest.0, (at Optimization (n + 1) j t q, (tt, refl), (at SolverOptions (n + 1 + 1) j t q, (tt, refl), rest.1)), rest.2)
+
+-- ---- the job's name
+
+end_job : (name : List ℕ) (q o : Options) (ms : List Mark) → IsJobName name → Say (at General 3 3 name (record q { job = unless_empty name })) ms o → Say (at JobId 3 3 name q) (Finish (codes "jobID") ∷ ms) o
+end_job name q o ms is more =
+    let short = subst (λ (t : List ℕ). length t ≤ 256) (sym is.bare) is.short in
+    let rest = subst (λ (t : List ℕ). Say (at General 3 3 name (record q { job = unless_empty t })) ms o) (sym is.bare) more in
+    (rest.0, (_, (((λ long. omega (arith, short, long)), tt), refl), rest.1), rest.2)
+
+named_says : (name : List ℕ) (q o : Options) (more : List Event) → IsJobName name → Say (at Osol 3 3 name (record q { job = unless_empty name })) (spread more) o
+    → Say (at JobId 3 3 [] q) (map Char name ++ (Finish (codes "jobID") ∷ Finish (codes "general") ∷ spread more)) o
+named_says name q o more is says =
+    let rest = end_job name q o (Finish (codes "general") ∷ spread more) is (says.0, (at Osol 3 3 name (record q { job = unless_empty name }), (tt, refl), says.1), says.2) in
+    (rest.0, taken_both osol (at JobId 3 3 [] q) (at JobId 3 3 name q) rest.0 (map Char name) (Finish (codes "jobID") ∷ Finish (codes "general") ∷ spread more) (chars_taken osol (λ (t : List ℕ). at JobId 3 3 t q) true (λ t c. (tt, refl)) [] name) rest.1, rest.2)
+
+-- ---- the whole document
+
+root_says : (job : Option (List ℕ)) (amounts : Limit → ℕ) → IsNameOrNone job → AreWithin (made job amounts) → IsOptions (bare_root (codes "osol") (options_nodes (made job amounts))) (made job amounts)
+root_says None amounts is within =
+    let rest = optimization_says 1 0 [] (made None amounts) no_options within refl in
+    (rest.0, (at Osol 1 0 [] no_options, (tt, refl), rest.1), rest.2)
+root_says (Some []) amounts is within = absurd (is.some refl)
+root_says (Some (c ∷ cs)) amounts is within =
+    let name = c ∷ cs in
+    let o = made (Some name) amounts in
+    let behind = optimization_says 3 3 name o (record no_options { job = Some name }) within refl in
+    let rest = named_says name no_options o (nodes_events (optimization o) (Close (codes "osol") ∷ [])) is behind in
+    (rest.0, (at Osol 1 0 [] no_options, (tt, refl), (at General 2 0 [] no_options, (tt, refl), (at JobId 3 3 [] no_options, (((λ twice. omega (arith, twice)), tt), refl), rest.1))), rest.2)
+
+pub text_says : (o : Options) → ComesBack o → IsOptionsText (options_text o) o
+text_says o back = inr (
+  text_not_blank o,
+  record {
+    root = bare_root (codes "osol") (options_nodes o);
+    document = text_document o back;
+    is = root_says o.job (amount o) back.job (λ l. (back.above l, back.below l));
+  },
+)

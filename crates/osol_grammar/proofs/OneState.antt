@@ -1,0 +1,46 @@
+-- A mark that is taken leaves one state.
+use Rattle.std.proofs.Common.{◌≡◌, ◌∙◌, inl, inr, ℕ, Option, None, Some, List, ap, sym, subst}
+use Rattle.std.specs.Prelude.{IsSomeAnd, codes}
+use Rattle.tree_grammar.specs.Elements.{Attribute}
+use Rattle.decimal_text.specs.Count.{IsCount}
+use Rattle.decimal_text.proofs.OneNumber.{count_once}
+use Rattle.document_tags.specs.Elements.{value_of}
+use Rattle.tag_tests.specs.Forms.{LeavesOne}
+use Rattle.osol_grammar.specs.declared.limit.Limit.{Limit}
+use Rattle.osol_grammar.specs.declared.options.Options.{Options}
+use Rattle.osol_grammar.specs.declared.place.Place.TheVariants.{SolverOption}
+use Rattle.osol_grammar.specs.declared.place.Led.{Led}
+use Rattle.osol_grammar.specs.declared.place.Led.TheVariants.{To, OtherRoot}
+use Rattle.osol_grammar.specs.declared.standing.Standing.{Standing as State}
+use Rattle.osol_grammar.specs.Options.{SaysAmount, with_amount, SaysOption}
+use Rattle.osol_grammar.specs.Table.{Kind, begins, kind, into, Begins, Leaves}
+use Rattle.osol_grammar.specs.Marked.{osol}
+use Rattle.osol_grammar.proofs.LimitTable.{option_once}
+
+count_by : (value : Option (List ℕ)) (n m : ℕ) → IsSomeAnd value (λ text. IsCount text n) → IsSomeAnd value (λ text. IsCount text m) → n ≡ m
+count_by None n m h k = absurd h
+count_by (Some text) n m h k = count_once text n m h k
+
+amount_once : (l : Limit) (as' : List Attribute) (n m : ℕ) → SaysAmount l as' n → SaysAmount l as' m → n ≡ m
+amount_once l as' n m h k = count_by (value_of (codes "value") as') n m h.0 k.0
+
+says_once : (as' : List Attribute) (o p q : Options) → SaysOption as' o p → SaysOption as' o q → p ≡ q
+says_once as' o p q (inl (l, n, is, says, e)) (inl (k, m, at, tells, f)) =
+    let same : l ≡ k = option_once l k as' is at in
+    let amounts = amount_once k as' n m (subst (λ (i : Limit). SaysAmount i as' n) same says) tells in
+    e ∙ ap (λ (i : Limit). with_amount o i n) same ∙ ap (λ (x : ℕ). with_amount o k x) amounts ∙ sym f
+says_once as' o p q (inl (l, n, is, says, e)) (inr h) = absurd (h.0 l is)
+says_once as' o p q (inr h) (inl (k, m, at, tells, f)) = absurd (h.0 k at)
+says_once as' o p q (inr h) (inr g) = h.1 ∙ sym g.1
+
+begins_once : (s : State) (as' : List Attribute) (l : Led) (a b : State) → Begins s as' l a → Begins s as' l b → a ≡ b
+begins_once s as' (To SolverOption) a b (o, x, e) (p, y, f) = e ∙ ap (λ (q : Options). let z : State = record (into s SolverOption) { options = q } in z) (says_once as' s.options o p x y) ∙ sym f
+begins_once s as' OtherRoot a b e f = absurd e
+begins_once s as' l a b e f = e ∙ sym f
+
+leaves_once : (s : State) (k : Kind) (a b : State) → Leaves s k a → Leaves s k b → a ≡ b
+leaves_once s (begins l as') a b e f = begins_once s as' l a b e f
+leaves_once s k a b e f = e ∙ sym f
+
+pub leaves_one : LeavesOne osol
+leaves_one s m a b p q = leaves_once s (kind s m) a b p.1 q.1

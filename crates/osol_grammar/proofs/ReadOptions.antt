@@ -1,0 +1,185 @@
+-- The options that a document says may be written: their job's name is one, of characters of XML without white space round them and of at most 256 bytes, and their limits are such as they may be.
+use Rattle.std.proofs.Common.{◌≡◌, ◌∙◌, ℕ, zero, suc, ◌<◌, ◌≤◌, Bool, true, false, cond, inl, inr, List, [], ◌∷◌, ◌++◌, length, reverse, leb, arith, refl, ap, sym, subst}
+use Rattle.std.specs.Prelude.{map}
+use Rattle.std.proofs.lemmas.Bool.{cases_lt, leb-true}
+use Rattle.std.proofs.lemmas.Bool.Decides.{nat_tests}
+use Rattle.std.proofs.lemmas.List.{reverse-append, reverse-reverse}
+use Rattle.tree_grammar.specs.Characters.{IsXmlText}
+use Rattle.tree_grammar.specs.Document.{Doc}
+use Rattle.tree_grammar.specs.Elements.{Attribute, Nodes, none, element, chars, Element, Event, Open, Chars, Close, nodes_events, events}
+use Rattle.doc_tree.specs.Marks.{Char, spread}
+use Rattle.element_tree.proofs.XmlTexts.{text_append, clean_nothing}
+use Rattle.document_tags.specs.Characters.{NodesOfCharacters, IsOfCharacters}
+use Rattle.document_tags.specs.Elements.{unless_empty}
+use Rattle.decimal_text.specs.Space.{is_space, without_leading_space, trimmed}
+use Rattle.tag_tests.specs.Tests.{AllPass}
+use Rattle.tag_tests.specs.Forms.{AreTaken}
+use Rattle.tag_tests.specs.Characters.{kept}
+use Rattle.tag_tests.proofs.Forms.{taken_parts}
+use Rattle.tag_tests.proofs.Characters.{chars_leave}
+use Rattle.osol_grammar.specs.declared.limit.Limit.{Limit}
+use Rattle.osol_grammar.specs.declared.options.Options.{Options}
+use Rattle.osol_grammar.specs.declared.place.Place.{Place}
+use Rattle.osol_grammar.specs.declared.place.Place.TheVariants.{JobId, SolverOption}
+use Rattle.osol_grammar.specs.declared.place.Led.{Led}
+use Rattle.osol_grammar.specs.declared.place.Led.TheVariants.{To, OtherRoot}
+use Rattle.osol_grammar.specs.declared.standing.Standing.{Standing as State}
+use Rattle.osol_grammar.specs.Limits.{limit_row}
+use Rattle.osol_grammar.specs.Options.{amount, no_options, SaysOption}
+use Rattle.osol_grammar.specs.Table.{start, led_from, end_kind, tests, Fails, Begins, is_in_job, Leaves}
+use Rattle.osol_grammar.specs.Marked.{osol}
+use Rattle.osol_grammar.specs.Meaning.{IsOptionsText}
+use Rattle.osol_grammar.specs.Back.{IsNameOrNone, ComesBack}
+use Rattle.osol_grammar.proofs.LimitTable.{amount_with, job_with, each_passes}
+
+-- ---- limits
+
+none_back : ComesBack no_options
+none_back = record {
+  job = tt;
+  above = λ l. leb-true (limit_row l).least (amount no_options l) (each_passes (λ k. leb (limit_row k).least (amount no_options k)) refl l);
+  below = λ l. leb-true (amount no_options l) (limit_row l).most (each_passes (λ k. leb (amount no_options k) (limit_row k).most) refl l);
+}
+
+option_back : (as' : List Attribute) (o p : Options) → SaysOption as' o p → ComesBack o → ComesBack p
+option_back as' o p (inr h) back = subst ComesBack (sym h.1) back
+option_back as' o p (inl (l, n, is, says, e)) back = subst ComesBack (sym e) (record {
+  job = subst IsNameOrNone (sym (job_with o l n)) back.job;
+  above = λ k. elim (amount_with o l n k) [
+    | inl own ↦ subst (λ (x : ℕ). (limit_row k).least ≤ x) (sym own.1) (subst (λ (i : Limit). (limit_row i).least ≤ n) (sym own.0) says.1)
+    | inr other ↦ subst (λ (x : ℕ). (limit_row k).least ≤ x) (sym other) (back.above k)
+  ];
+  below = λ k. elim (amount_with o l n k) [
+    | inl own ↦ subst (λ (x : ℕ). x ≤ (limit_row k).most) (sym own.1) (subst (λ (i : Limit). n ≤ (limit_row i).most) (sym own.0) says.2)
+    | inr other ↦ subst (λ (x : ℕ). x ≤ (limit_row k).most) (sym other) (back.below k)
+  ];
+})
+
+-- ---- the texts of documents
+
+abbrev AreXml : List Event → Type 0
+AreXml [] = Unit {0}
+AreXml (Open name attributes ∷ more) = AreXml more
+AreXml (Chars text ∷ more) = IsXmlText text × AreXml more
+AreXml (Close name ∷ more) = AreXml more
+
+nodes_xml : (nodes : Nodes) (k : List Event) → NodesOfCharacters nodes → AreXml k → AreXml (nodes_events nodes k)
+nodes_xml none k all rest = rest
+nodes_xml (element name attributes children more) k all rest = nodes_xml children (Close name ∷ nodes_events more k) all.2 (nodes_xml more k all.3 rest)
+nodes_xml (chars text more) k all rest = (all.0, nodes_xml more k all.1 rest)
+
+-- ---- white space at both ends
+
+space_ascii : (b : ℕ) → is_space b ≡ true → b < 128
+space_ascii b is = grind (arith, nat_tests)
+
+-- no white space stands first
+abbrev IsUnled : List ℕ → Type 0
+IsUnled [] = Unit {0}
+IsUnled (b ∷ s) = is_space b ≡ false
+
+unled_by : (t : Bool) (b : ℕ) (s rest : List ℕ) → is_space b ≡ t → IsUnled rest → IsUnled (cond t rest (b ∷ s))
+unled_by true b s rest e later = later
+unled_by false b s rest e later = e
+
+unled : (s : List ℕ) → IsUnled (without_leading_space s)
+unled [] = tt
+unled (b ∷ s) = unled_by (is_space b) b s (without_leading_space s) refl (unled s)
+
+stays : (s : List ℕ) → IsUnled s → without_leading_space s ≡ s
+stays [] first = refl
+stays (b ∷ s) first = ap (λ (t : Bool). cond t (without_leading_space s) (b ∷ s)) first
+
+unled_front : (xs ys : List ℕ) → IsUnled (xs ++ ys) → IsUnled xs
+unled_front [] ys first = tt
+unled_front (b ∷ xs) ys first = first
+
+-- what is behind the first white space, read from the end: it begins as the whole does
+unled_back : (r : List ℕ) → IsUnled (reverse r) → IsUnled (reverse (without_leading_space r))
+unled_back [] first = tt
+unled_back (b ∷ r) first = by (is_space b) (unled_back r (unled_front (reverse r) (b ∷ []) (subst IsUnled (reverse-append (b ∷ []) r) first)))
+  where
+    by : (t : Bool) → IsUnled (reverse (without_leading_space r)) → IsUnled (reverse (cond t (without_leading_space r) (b ∷ r)))
+    by true rest = rest
+    by false rest = first
+
+trimmed_again : (s : List ℕ) → trimmed (trimmed s) ≡ trimmed s
+trimmed_again s =
+    let u = without_leading_space s in
+    let v = without_leading_space (reverse u) in
+    let first : IsUnled (reverse v) = unled_back (reverse u) (subst IsUnled (sym (reverse-reverse u)) (unled s)) in
+    ap (λ (x : List ℕ). reverse (without_leading_space (reverse x))) (stays (reverse v) first)
+    ∙ ap (λ (x : List ℕ). reverse (without_leading_space x)) (reverse-reverse v)
+    ∙ ap reverse (stays v (unled (reverse u)))
+
+-- ---- marks
+
+-- the characters so far are those of XML, and the options so far may be written
+record IsGood (s : State) : Type 0 where
+  pub text : IsXmlText s.text
+  pub back : ComesBack s.options
+
+begin_good : (s z : State) (as' : List Attribute) (l : Led) → Begins s as' l z → IsGood s → IsGood z
+begin_good s z as' (To SolverOption) (o, says, e) g = subst IsGood (sym e) (record { text = g.text; back = option_back as' s.options o says g.back })
+begin_good s z as' OtherRoot e g = absurd e
+begin_good s z as' l e g = subst IsGood (sym e) (record { text = g.text; back = g.back })
+
+kept_good : (b : Bool) (t cs : List ℕ) → IsXmlText t → IsXmlText cs → IsXmlText (kept b t cs)
+kept_good true t cs before more = text_append t cs before more
+kept_good false t cs before more = before
+
+chars_good : (s z : State) (cs : List ℕ) → IsXmlText cs → AreTaken osol s (map Char cs) z → IsGood s → IsGood z
+chars_good s z cs xml taken g = subst IsGood (sym (chars_leave osol (λ (t : List ℕ). record s { text = t }) (is_in_job s.depth s.place) (λ t c m takes. takes.1) s.text cs z taken)) (record { text = kept_good (is_in_job s.depth s.place) s.text cs g.text xml; back = g.back })
+
+none_or_name : (text : List ℕ) → length text ≤ 256 → trimmed text ≡ text → IsXmlText text → IsNameOrNone (unless_empty text)
+none_or_name [] short bare xml = tt
+none_or_name (c ∷ cs) short bare xml = record { some = λ e. cc; short = short; bare = bare; characters = xml }
+
+module _ (of_characters : (bytes : List ℕ) (root : Element) → Doc bytes root → IsOfCharacters root)
+    (parts : (before : List ℕ) (c : ℕ) (behind : List ℕ) → c < 128 → IsXmlText (before ++ (c ∷ behind)) → IsXmlText before × IsXmlText behind) where
+  led_xml : (s : List ℕ) → IsXmlText s → IsXmlText (without_leading_space s)
+  led_xml [] xml = xml
+  led_xml (b ∷ s) xml = by (is_space b) refl (λ text. led_xml s text)
+    where
+      by : (t : Bool) → is_space b ≡ t → (IsXmlText s → IsXmlText (without_leading_space s)) → IsXmlText (cond t (without_leading_space s) (b ∷ s))
+      by true e rest = rest (parts [] b s (space_ascii b e) xml).1
+      by false e rest = xml
+
+  back_xml : (r : List ℕ) → IsXmlText (reverse r) → IsXmlText (reverse (without_leading_space r))
+  back_xml [] xml = xml
+  back_xml (b ∷ r) xml = by (is_space b) refl (λ text. back_xml r text)
+    where
+      by : (t : Bool) → is_space b ≡ t → (IsXmlText (reverse r) → IsXmlText (reverse (without_leading_space r))) → IsXmlText (reverse (cond t (without_leading_space r) (b ∷ r)))
+      by true e rest = rest (parts (reverse r) b [] (space_ascii b e) (subst IsXmlText (reverse-append (b ∷ []) r) xml)).0
+      by false e rest = xml
+
+  trimmed_xml : (s : List ℕ) → IsXmlText s → IsXmlText (trimmed s)
+  trimmed_xml s xml =
+      let u = without_leading_space s in
+      back_xml (reverse u) (subst IsXmlText (sym (reverse-reverse u)) (led_xml s xml))
+
+  end_good : (s z : State) (d : ℕ) (p : Place) → AllPass (Fails s (end_kind d p)) (tests (end_kind d p)) → Leaves s (end_kind d p) z → IsGood s → IsGood z
+  end_good s z zero JobId pass e g =
+      let short : length (trimmed s.text) ≤ 256 = elim (cases_lt 256 (length (trimmed s.text))) [ inl long ↦ absurd (pass.0 long) | inr few ↦ few ] in
+      subst IsGood (sym e) (record {
+        text = g.text;
+        back = record { job = none_or_name (trimmed s.text) short (trimmed_again s.text) (trimmed_xml s.text g.text); above = g.back.above; below = g.back.below };
+      })
+  end_good s z zero p pass e g = subst IsGood (sym e) (record { text = g.text; back = g.back })
+  end_good s z (suc d) p pass e g = subst IsGood (sym e) (record { text = g.text; back = g.back })
+
+  all_good : (es : List Event) (s z : State) → AreXml es → AreTaken osol s (spread es) z → IsGood s → IsGood z
+  all_good [] s z xml e g = subst IsGood (sym e) g
+  all_good (Open name as' ∷ more) s z xml (m, takes, rest) g = all_good more m z xml rest (begin_good s m as' (led_from s.depth s.place name) takes.1 g)
+  all_good (Chars text ∷ more) s z xml taken g =
+      let parted = taken_parts osol s z (map Char text) (spread more) taken in
+      all_good more parted.0 z xml.1 parted.2 (chars_good s parted.0 text xml.0 parted.1 g)
+  all_good (Close name ∷ more) s z xml (m, takes, rest) g = all_good more m z xml rest (end_good s m s.depth s.place takes.0 takes.1 g)
+
+  pub text_back : (bytes : List ℕ) (o : Options) → IsOptionsText bytes o → ComesBack o
+  text_back bytes o (inl (blank, is)) = subst ComesBack (sym is) none_back
+  text_back bytes o (inr (other, document)) =
+      let root = document.root in
+      let xml = nodes_xml root.children (Close root.name ∷ []) (of_characters bytes root document.document.document).children tt in
+      let said = document.is in
+      subst ComesBack (sym said.2) (all_good (events root) start said.0 xml said.1 (record { text = clean_nothing.text; back = none_back })).back

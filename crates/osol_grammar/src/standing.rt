@@ -1,0 +1,255 @@
+//! Reads options mark by mark.
+
+ghost use Rattle.std.specs.Prelude.{◌≡◌, ◌+◌, ◌<◌, ◌^◌, IfOk};
+ghost use Rattle.document_tags.specs.Elements.{unless_empty};
+ghost use Rattle.tag_tests.specs.declared.marks.Stop.TheVariants as stops;
+ghost use Rattle.tag_tests.specs.Kinds.{StepsAs};
+ghost use Rattle.osol_grammar.specs.declared.place.Place.TheVariants as places;
+ghost use Rattle.osol_grammar.specs.declared.place.Led.TheVariants as leading;
+ghost use Rattle.osol_grammar.specs.Table as table;
+ghost use Rattle.osol_grammar.specs.Table.{begins, ends};
+ghost use Rattle.osol_grammar.specs.Marked.{by_kinds};
+
+use crate::amounts::{amount_of, limit_of};
+use crate::fault::Refusal;
+use crate::options::Options;
+use crate::place::{Led, Place, around, leads};
+use decimal_text::trim;
+use element_tree::Attributes;
+use os_io::{Memory, Text};
+use std::alloc::Global;
+use tag_tests::{MarkReader, Stop};
+
+/// The most bytes of a job's name.
+const MOST_OF_JOB: usize = 256;
+
+/// How a mark is refused. `at` is the ordinal of the element.
+#[derive(Drop)]
+pub(crate) struct Refused {
+    pub refusal: Refusal,
+    pub at: u64,
+}
+
+/// What the marks so far leave: the element that is read and that they end in, how many elements are open in it that are
+/// passed over, how many start tags there are, the ordinal of the `jobID` (0 before it), the characters in it, and what is
+/// said.
+#[derive(Drop)]
+pub(crate) struct Standing {
+    pub place: Place,
+    pub depth: u64,
+    pub count: u64,
+    pub job_at: u64,
+    pub text: Text,
+    pub options: Options,
+}
+
+/// A copy of a text, none where it is empty.
+fn copied(alloc: Global, text: &[u8]) -> Result<Option<Text>, Memory>
+    ensures { IfOk result (λ t. t ≡ unless_empty text.now) }
+{
+    if text.is_empty() {
+        return Ok(None);
+    }
+    Ok(Some(Text::from_slice(alloc, text)?))
+}
+
+impl Standing {
+    /// Before all marks.
+    pub(crate) fn new(alloc: Global) -> Self
+        ensures { result ≡ table.start }
+    {
+        Standing {
+            place: Place::Outside,
+            depth: 0,
+            count: 0,
+            job_at: 0,
+            text: Text::new(alloc),
+            options: Options::none(),
+        }
+    }
+
+    /// The refusal of the element whose start tag comes.
+    fn refused(&self, refusal: Refusal) -> Stop<Refused>
+        requires { self.now.count + 1 < 2 ^ 64 }
+        ensures { result ≡ stops.Refused (record { refusal = refusal; at = self.now.count + 1 }) }
+    {
+        Stop::Refused(Refused {
+            refusal,
+            at: self.count + 1,
+        })
+    }
+
+    /// Goes into an element.
+    fn go(&mut self, place: Place)
+        requires { self.old.count + 1 < 2 ^ 64 }
+        ensures { self.new ≡ table.into self.old place }
+    {
+        self.place = place;
+        self.count += 1;
+    }
+
+    /// Goes past a start tag `jobID`.
+    fn begin_job(&mut self, attributes: &Attributes<'_>) -> Result<(), Stop<Refused>>
+        requires { self.old.count + 1 < 2 ^ 64 }
+        ensures { StepsAs by_kinds self.old (begins (leading.To places.JobId) attributes.now) self.new result }
+    {
+        if self.job_at > 0 {
+            return Err(self.refused(Refusal::JobTwice));
+        }
+        self.job_at = self.count + 1;
+        self.go(Place::JobId);
+        Ok(())
+    }
+
+    /// Goes past a start tag `solverOption`.
+    fn begin_option(&mut self, attributes: &Attributes<'_>) -> Result<(), Stop<Refused>>
+        requires { self.old.count + 1 < 2 ^ 64 }
+        ensures { StepsAs by_kinds self.old (begins (leading.To places.SolverOption) attributes.now) self.new result }
+    {
+        if let Some(limit) = limit_of(attributes) {
+            match amount_of(attributes, limit) {
+                Some(amount) => self.options.set(limit, amount),
+                None => return Err(self.refused(Refusal::BadLimit)),
+            }
+        }
+        self.go(Place::SolverOption);
+        Ok(())
+    }
+
+    /// Goes past the start tag of an element that is passed over.
+    fn go_over(&mut self, attributes: &Attributes<'_>) -> Result<(), Stop<Refused>>
+        requires { self.old.count + 1 < 2 ^ 64 }
+        ensures { StepsAs by_kinds self.old (begins leading.Over attributes.now) self.new result }
+    {
+        if self.depth == u64::MAX {
+            return Err(Stop::Memory);
+        }
+        self.count += 1;
+        self.depth += 1;
+        Ok(())
+    }
+
+    /// Goes past a start tag that leads there.
+    fn begin(&mut self, led: Led, attributes: &Attributes<'_>) -> Result<(), Stop<Refused>>
+        requires { self.old.count + 1 < 2 ^ 64 }
+        ensures { StepsAs by_kinds self.old (begins led attributes.now) self.new result }
+    {
+        match led {
+            Led::To(place) => match place {
+                Place::JobId => self.begin_job(attributes),
+                Place::SolverOption => self.begin_option(attributes),
+                Place::Outside
+                | Place::Osol
+                | Place::General
+                | Place::Optimization
+                | Place::SolverOptions => {
+                    self.go(place);
+                    Ok(())
+                }
+            },
+            Led::OtherRoot => Err(self.refused(Refusal::Root)),
+            Led::Over => self.go_over(attributes),
+        }
+    }
+
+    /// Where the start tag of an element of this name leads.
+    fn led(&self, name: &[u8]) -> Led
+        ensures { result ≡ table.led_from self.now.depth self.now.place name.now }
+    {
+        if self.depth > 0 {
+            Led::Over
+        } else {
+            leads(self.place, name)
+        }
+    }
+
+    /// Whether characters are those of the job's name.
+    fn is_in_job(&self) -> bool
+        ensures { result ≡ table.is_in_job self.now.depth self.now.place }
+    {
+        self.depth == 0 && self.place == Place::JobId
+    }
+
+    /// Goes past an end tag `jobID`.
+    fn end_job(&mut self, alloc: Global) -> Result<(), Stop<Refused>>
+        ensures { StepsAs by_kinds self.old (ends places.JobId) self.new result }
+    {
+        let name = trim(self.text.as_slice());
+        if name.len() > MOST_OF_JOB {
+            return Err(Stop::Refused(Refused {
+                refusal: Refusal::LongJob,
+                at: self.job_at,
+            }));
+        }
+        let job = copied(alloc, name)?;
+        self.options.job = job;
+        self.place = Place::General;
+        Ok(())
+    }
+
+    /// Goes past an end tag of such an element.
+    fn end(&mut self, alloc: Global, place: Place) -> Result<(), Stop<Refused>>
+        ensures { StepsAs by_kinds self.old (ends place) self.new result }
+    {
+        match place {
+            Place::JobId => self.end_job(alloc),
+            Place::Outside
+            | Place::Osol
+            | Place::General
+            | Place::Optimization
+            | Place::SolverOptions
+            | Place::SolverOption => {
+                self.place = around(place);
+                Ok(())
+            }
+        }
+    }
+}
+
+impl MarkReader<Refused> for Standing {
+    ghost use Rattle.tag_tests.specs.Forms.{AreTaken, AreRefused};
+    ghost use Rattle.tag_tests.proofs.Forms.{taken_both, refused_behind, refused_more};
+    ghost use Rattle.std.proofs.Common.{refl};
+    ghost use Rattle.osol_grammar.specs.Marked.{osol};
+
+    ghost took = { λ s ms z. AreTaken osol s ms z };
+
+    ghost refuses = { λ s ms r. AreRefused osol s ms r };
+
+    ghost took_none = { λ s. refl };
+
+    ghost took_both = { λ s m z ms ns p q. taken_both osol s m z ms ns p q };
+
+    ghost refuses_behind = { λ s m ms ns r p q. refused_behind osol s m ms ns r p q };
+
+    ghost refuses_more = { λ s ms ns r p. refused_more osol s ms ns r p };
+
+    fn enter(
+        &mut self,
+        _alloc: Global,
+        name: &[u8],
+        attributes: &Attributes<'_>,
+    ) -> Result<(), Stop<Refused>> {
+        if self.count == u64::MAX {
+            return Err(Stop::Memory);
+        }
+        let led = self.led(name);
+        self.begin(led, attributes)
+    }
+
+    fn chars(&mut self, _alloc: Global, text: &[u8]) -> Result<(), Stop<Refused>> {
+        if !self.is_in_job() {
+            return Ok(());
+        }
+        self.text.extend(text)?;
+        Ok(())
+    }
+
+    fn close(&mut self, alloc: Global, _name: &[u8]) -> Result<(), Stop<Refused>> {
+        if self.depth > 0 {
+            self.depth -= 1;
+            return Ok(());
+        }
+        self.end(alloc, self.place)
+    }
+}

@@ -1,0 +1,157 @@
+-- THE TABLE of process documents (Optimization Services process language): where elements stand, the kinds of marks, the one test, and what a mark leaves.
+use Rattle.std.specs.Prelude.{◌≡◌, ℕ, zero, suc, ◌+◌, ◌-◌, ◌<◌, ◌^◌, Bool, true, false, cond, bytes_eq, Option, None, Some, List, [], ◌∷◌, codes}
+use Rattle.tree_grammar.specs.Elements.{Attribute}
+use Rattle.doc_tree.specs.Marks.{Mark, Start, Char, Finish}
+use Rattle.document_tags.specs.Elements.{value_of}
+use Rattle.document_tags.specs.OneChild.{IsOnly}
+use Rattle.decimal_text.specs.Count.{IsCount}
+use Rattle.tag_tests.specs.Characters.{heard}
+use Rattle.ospl_grammar.specs.declared.process.JobState.{JobState}
+use Rattle.ospl_grammar.specs.declared.place.Place.{Place}
+use Rattle.ospl_grammar.specs.declared.place.Place.TheVariants.{Outside, Ospl, Header, Request, Data, Statistics, CurrentState, CurrentCount, Total, Jobs, Job, State}
+use Rattle.ospl_grammar.specs.declared.place.Led.{Led}
+use Rattle.ospl_grammar.specs.declared.place.Led.TheVariants.{To, OtherRoot, Over}
+use Rattle.ospl_grammar.specs.declared.standing.Standing.{Standing}
+use Rattle.ospl_grammar.specs.Words.{busy_text, state_text}
+use Rattle.ospl_grammar.specs.Parts.{no_parts, with_busy, with_current, with_total, with_list, with_state, with_job, whole}
+
+-- before all marks
+abbrev pub start : Standing
+start = record { place = Outside; depth = 0; text = []; parts = no_parts; asked = None; told = None }
+
+-- an element that may stand in another one
+pub record Child : Type 0 where
+  pub name : List ℕ
+  pub place : Place
+
+abbrev pub child : List ℕ → Place → Child
+child name place = record { name = name; place = place }
+
+-- WHAT MAY STAND IN WHAT: the child elements that are read
+abbrev pub content : Place → List Child
+content Outside = child (codes "ospl") Ospl ∷ []
+content Ospl = child (codes "processHeader") Header ∷ child (codes "processData") Data ∷ []
+content Header = child (codes "request") Request ∷ []
+content Data = child (codes "statistics") Statistics ∷ []
+content Statistics = child (codes "currentState") CurrentState ∷ child (codes "currentJobCount") CurrentCount ∷ child (codes "totalJobsSoFar") Total ∷ child (codes "jobs") Jobs ∷ []
+content Jobs = child (codes "job") Job ∷ []
+content Job = child (codes "state") State ∷ []
+content Request = []
+content CurrentState = []
+content CurrentCount = []
+content Total = []
+content State = []
+
+-- a root of another name isn't read; all else is passed over, with all that stands in it
+abbrev pub otherwise : Place → Led
+otherwise Outside = OtherRoot
+otherwise p = Over
+
+-- where the start tag of an element of this name leads
+abbrev pub among : List ℕ → List Child → Led → Led
+among name [] other = other
+among name (c ∷ cs) other = cond (bytes_eq name c.name) (To c.place) (among name cs other)
+
+abbrev pub leads : Place → List ℕ → Led
+leads p name = among name (content p) (otherwise p)
+
+-- where so many elements are open that are passed over
+abbrev pub led_from : ℕ → Place → List ℕ → Led
+led_from zero p name = leads p name
+led_from (suc d) p name = Over
+
+-- where an end tag leads
+abbrev pub around : Place → Place
+around Outside = Outside
+around Ospl = Outside
+around Header = Ospl
+around Data = Ospl
+around Request = Header
+around Statistics = Data
+around CurrentState = Statistics
+around CurrentCount = Statistics
+around Total = Statistics
+around Jobs = Statistics
+around Job = Jobs
+around State = Job
+
+-- the kinds of marks: a start tag that leads there, with its attributes; a character; the end tag of such an element, and of one that is passed over
+pub data Kind : Type 0 where
+  begins : Led → List Attribute → Kind
+  text : ℕ → Kind
+  ends : Place → Kind
+  ends_over : Kind
+
+abbrev pub end_kind : ℕ → Place → Kind
+end_kind zero p = ends p
+end_kind (suc d) p = ends_over
+
+abbrev pub kind : Standing → Mark → Kind
+kind s (Start name as') = begins (led_from s.depth s.place name) as'
+kind s (Char c) = text c
+kind s (Finish name) = end_kind s.depth s.place
+
+-- THE TEST: a root of another name
+pub data Test : Type 0 where
+  other_root : Test
+
+abbrev pub tests : Kind → List Test
+tests (begins OtherRoot as') = other_root ∷ []
+tests k = []
+
+-- what a request asks: its attribute, the empty text where it has none
+abbrev pub text_or_none : Option (List ℕ) → List ℕ
+text_or_none None = []
+text_or_none (Some t) = t
+
+abbrev pub action : List Attribute → List ℕ
+action as' = text_or_none (value_of (codes "action") as')
+
+-- what there is already stays
+abbrev pub first : {X : Type 0} → Option X → Option X → Option X
+first {X} None o = o
+first {X} (Some x) o = Some x
+
+abbrev pub into : Standing → Place → Standing
+into s p = record s { place = p }
+
+-- WHAT A START TAG LEAVES that leads there
+abbrev pub Begins : Standing → List Attribute → Led → Standing → Type 0
+Begins s as' (To Request) z = z ≡ record (into s Request) { asked = first s.asked (Some (action as')) }
+Begins s as' (To Jobs) z = z ≡ record (into s Jobs) { parts = with_list s.parts }
+Begins s as' (To Job) z = z ≡ record (into s Job) { parts = record s.parts { id = value_of (codes "jobID") as' } }
+Begins s as' (To p) z = z ≡ into s p
+Begins s as' OtherRoot z = ⊥
+Begins s as' Over z = z ≡ record s { depth = s.depth + 1 }
+
+-- the characters that stand in these elements themselves are kept to their ends
+abbrev pub is_text : Place → Bool
+is_text CurrentState = true
+is_text CurrentCount = true
+is_text Total = true
+is_text State = true
+is_text p = false
+
+abbrev pub keeps : ℕ → Place → Bool
+keeps zero p = is_text p
+keeps (suc d) p = false
+
+abbrev pub past : Standing → Place → Standing
+past s p = record s { place = around p; text = [] }
+
+-- WHAT THE END TAG OF SUCH AN ELEMENT LEAVES: what its text says is added, a job, and the first statistics that are whole
+abbrev pub Ends : Standing → Place → Standing → Type 0
+Ends s CurrentState z = (o : Option Bool) × IsOnly (λ b. s.text ≡ busy_text b) o × (z ≡ record (past s CurrentState) { parts = with_busy s.parts o })
+Ends s CurrentCount z = (o : Option ℕ) × IsOnly (λ n. IsCount s.text n × (n < 2 ^ 32)) o × (z ≡ record (past s CurrentCount) { parts = with_current s.parts o })
+Ends s Total z = (o : Option ℕ) × IsOnly (λ n. IsCount s.text n) o × (z ≡ record (past s Total) { parts = with_total s.parts o })
+Ends s State z = (o : Option JobState) × IsOnly (λ j. s.text ≡ state_text j) o × (z ≡ record (past s State) { parts = with_state s.parts o })
+Ends s Job z = z ≡ record (into s Jobs) { parts = with_job s.parts }
+Ends s Statistics z = z ≡ record (into s Data) { parts = no_parts; told = first s.told (whole s.parts) }
+Ends s p z = z ≡ into s (around p)
+
+-- WHAT A MARK OF A KIND LEAVES
+abbrev pub Leaves : Standing → Kind → Standing → Type 0
+Leaves s (begins l as') z = Begins s as' l z
+Leaves s (text c) z = z ≡ record s { text = heard (keeps s.depth s.place) s.text c }
+Leaves s (ends p) z = Ends s p z
+Leaves s ends_over z = z ≡ record s { depth = s.depth - 1 }
