@@ -5,17 +5,20 @@
 //! exactly where the bytes begin with no record whose texts have at most 4,194,304 bytes. In a file each record stands behind a
 //! gate byte 1, and no file is cut into records in two ways ([`records_are_cut_in_one_way`]).
 //!
-//! `specs/Fold.antt` says in which order effects are possible, and what they leave. [`Replay`] is what they are made in again.
+//! `specs/Fold.antt` says in which order effects are possible, and what they leave. [`Replay`] is what they are made in again, and
+//! [`Store`] what keeps them; [`NoStore`] keeps none.
 #![tactic(auto)]
 
 mod kinds;
 mod laws;
 mod reading;
 mod replay;
+mod store;
 mod writing;
 
 pub use kinds::{Document, Effect};
 pub use laws::records_are_cut_in_one_way;
 pub use reading::decode;
 pub use replay::Replay;
+pub use store::{NoStore, NotStored, Store};
 pub use writing::{encode, size};

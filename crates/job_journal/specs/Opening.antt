@@ -6,7 +6,6 @@ use Rattle.disks.specs.Disks.{LeavesOnly}
 use Rattle.job_journal.specs.Journal.{IsAtRest, StandsFor}
 use Rattle.job_journal.specs.declared.scanning.OpenFault.{OpenFault}
 use Rattle.job_journal.specs.declared.scanning.OpenFault.TheVariants.{ReadFault, WriteFault, Damaged, Memory}
-use Rattle.job_journal.specs.declared.journal.Journal.{Journal}
 use Rattle.os_io.specs.Streams.{HasRisen}
 
 -- the calls between the two read and brought to rest, and changed nothing else
@@ -83,12 +82,12 @@ CountsFault (Err ReadFault) before after = HasRisen before after
 CountsFault (Err WriteFault) before after = HasRisen before after
 CountsFault _ before after = after ≡ before
 
--- the same, of a disk that is given back
-abbrev pub CountsBack : {D : Type 0} → (D → ℕ) → Result (Journal D) (OpenFault × D) → ℕ → Type 0
-CountsBack faults (Ok j) before = faults j.disk ≡ before
-CountsBack faults (Err (ReadFault, disk)) before = HasRisen before (faults disk)
-CountsBack faults (Err (WriteFault, disk)) before = HasRisen before (faults disk)
-CountsBack faults (Err (_, disk)) before = faults disk ≡ before
+-- the same, of a journal, or of a disk that is given back
+abbrev pub CountsBack : {J D : Type 0} → (J → ℕ) → (D → ℕ) → Result J (OpenFault × D) → ℕ → Type 0
+CountsBack of_journal faults (Ok j) before = of_journal j ≡ before
+CountsBack of_journal faults (Err (ReadFault, disk)) before = HasRisen before (faults disk)
+CountsBack of_journal faults (Err (WriteFault, disk)) before = HasRisen before (faults disk)
+CountsBack of_journal faults (Err (_, disk)) before = faults disk ≡ before
 
 -- the fault is one of reading
 abbrev pub IsUnread : OpenFault → Type 0

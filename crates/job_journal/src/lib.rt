@@ -8,7 +8,8 @@
 //! that were acknowledged, and at most one more ([`Journal::put_each`] says so of any run of puts). [`open`] makes the table of
 //! exactly these, and a crash while it opens leaves a file that stands for them too. It answers that a file is damaged only where
 //! it is, and never of one that stands for effects that are possible and accepted. So it is for every [`Disk`](disks::Disk) that
-//! tells what it holds, every [`Replay`](effects::Replay) and every [`Sieve`].
+//! tells what it holds, every [`Replay`](effects::Replay) and every [`Sieve`]. A journal is a [`Store`](effects::Store), whose word for
+//! these effects is that it keeps them.
 #![tactic(auto)]
 
 mod contents;
@@ -18,7 +19,8 @@ mod repairs;
 mod scanning;
 mod stored;
 
-pub use journal::{Journal, NotStored};
+pub use effects::NotStored;
+pub use journal::Journal;
 pub use opening::open;
 pub use scanning::{OpenFault, Sieve};
 

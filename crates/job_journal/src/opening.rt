@@ -5,7 +5,6 @@ ghost use Rattle.disks.specs.Disks.{LeavesOnly, Only};
 ghost use Rattle.effects.specs.Records.{Deed, AllFit};
 ghost use Rattle.effects.specs.Fold.{Ledger, Folds, nothing};
 ghost use Rattle.job_journal.specs.Journal.{StandsFor, IsAtRest};
-ghost use Rattle.job_journal.specs.Ready.{IsReady};
 ghost use Rattle.job_journal.specs.Opening.{Calm, CountsFault, CountsBack, IsUnfound, IsOpened, DamagedIn, IsDamaged};
 
 use crate::contents::{contents, settle};
@@ -75,8 +74,7 @@ pub fn open<D: Disk, R: Replay, S: Sieve>(
 ) -> Result<Journal<D>, (OpenFault, D)>
     requires { R.holds table.old ≡ nothing }
 
-    // Effects can be put.
-    ensures ready { IfOk result (IsReady D.told D.seen D.may_leave) }
+    // No put has failed yet.
     ensures unbroken { IfOk result (λ j. j.broken ≡ false) }
 
     // The file stood for effects, which made the table, and is at rest with them.
@@ -93,7 +91,7 @@ pub fn open<D: Disk, R: Replay, S: Sieve>(
     ensures sound { IfOk result (λ j. (place : ℕ) → D.told disk ≡ true → IsDamaged S.accepted (D.seen disk) place → ⊥) }
 
     // A fault of reading or writing is answered exactly where one was counted.
-    ensures cause { CountsBack D.faults result (D.faults disk) }
+    ensures cause { CountsBack (λ j. D.faults j.disk) D.faults result (D.faults disk) }
 
     // A crash at any moment leaves what it might have left before, or the same effects.
     ensures any_moment { IfOk result (λ j. (deeds : List Deed) → D.told disk ≡ true → AllFit deeds → StandsFor deeds (D.seen disk)

@@ -1,0 +1,64 @@
+//! What keeps effects, each before its move is acknowledged.
+
+ghost use Rattle.std.specs.Prelude.{◌≡◌, ◌++◌, ◌∷◌, ◌⊎◌, ◌↔◌, [], List, ℕ, Bool, true, false, OnOk, OnErr, IsErrOf};
+ghost use Rattle.effects.specs.Records.{Deed, deed_of};
+ghost use Rattle.effects.specs.Stores.{CountsDisk};
+
+use crate::kinds::Effect;
+
+/// Why an effect wasn't stored.
+#[derive(Clone, Copy, PartialEq, Eq, Debug, Drop)]
+pub enum NotStored {
+    /// A call of the disk failed. Whether the effect is on the disk shows when the file is opened again.
+    Disk,
+    /// An earlier put has answered Disk.
+    Broken,
+    /// The record is too long, or the file would be.
+    Long,
+}
+
+/// What keeps effects.
+pub trait Store {
+    /// It keeps these effects, in this order. More than one list may be so where it doesn't tell which.
+    ghost keeps: { Self → List Deed → Type 0 };
+
+    /// Whether an effect is too long to be stored once these more are.
+    ghost too_long: { Self → List Deed → Deed → Bool };
+
+    /// Whether a put has answered Disk.
+    ghost broken: { Self → Bool };
+
+    /// How often a call of its disk has failed, at most 2^64 - 1.
+    ghost faults: { Self → ℕ };
+
+    /// Stores an effect behind those that are kept. At an error no effect more is kept.
+    fn put(&mut self, effect: &Effect) -> Result<(), NotStored>
+        ensures stored { OnOk result ((deeds : List Deed) → keeps self.old deeds → keeps self.new (deeds ++ deed_of effect.now ∷ [])) }
+        ensures stays { OnErr result ((deeds : List Deed) → keeps self.old deeds → keeps self.new deeds) }
+        ensures cause { CountsDisk result (faults self.old) (faults self.new) }
+        ensures breaks { (broken self.new ≡ true) ↔ ((broken self.old ≡ true) ⊎ IsErrOf result NotStored.Disk) }
+        ensures broken { IsErrOf result NotStored.Broken ↔ (broken self.old ≡ true) }
+        ensures long { IsErrOf result NotStored.Long ↔ ((broken self.old ≡ false) × (too_long self.old [] (deed_of effect.now) ≡ true)) }
+        ensures longer { OnOk result ((more : List Deed) (d : Deed) → too_long self.new more d ≡ too_long self.old (deed_of effect.now ∷ more) d) }
+        ensures as_long { OnErr result ((more : List Deed) (d : Deed) → too_long self.new more d ≡ too_long self.old more d) };
+}
+
+/// Keeps nothing, and says that it stored each effect.
+#[derive(Clone, Copy, Drop)]
+pub struct NoStore;
+
+impl Store for NoStore {
+    ghost use Rattle.std.specs.Prelude.{false};
+
+    ghost keeps = { λ _ _. Unit {0} };
+
+    ghost too_long = { λ _ _ _. false };
+
+    ghost broken = { λ _. false };
+
+    ghost faults = { λ _. 0 };
+
+    fn put(&mut self, _effect: &Effect) -> Result<(), NotStored> {
+        Ok(())
+    }
+}
