@@ -1,4 +1,5 @@
-"""Proves the crates of a room, each once those below it are proved, and first those that the longest chain waits for.
+"""Proves the libraries of a room, each once those below it are proved, and first those that the longest chain waits for. The program on
+them is left to what builds it, which proves it in any case.
 
     python3 tools/os_build.py ROOM TIMES
 
@@ -107,8 +108,7 @@ def prove(room, name, digest, lines, below, jobs):
     shutil.copy2(f"{room}/HANDLES", cell)
     with open(f"{cell}/crates.txt", "w", encoding="utf-8") as it:
         it.writelines(lines[one] for one in lines if one in below or one == name)
-    is_program = os.path.exists(f"{home}/src/main.rt")
-    words = ["rt", "check" if is_program else "lib", "--jobs", str(jobs)]
+    words = ["rt", "lib", "--jobs", str(jobs)]
     with open(f"{room}/{name}.log", "w", encoding="utf-8") as log:
         ran = subprocess.Popen(words, cwd=f"{cell}/crates/{name}", stdin=subprocess.DEVNULL, stdout=log, stderr=subprocess.STDOUT)
         RUNNING.add(ran)
@@ -142,8 +142,8 @@ def main(room, times):
         for it in below[name]:
             behind[it] = max(behind[it], seconds.get(it, SECONDS) + behind[name])
     digest = digests(room, lines, below)
-    left, done, running = set(lines), set(), {}
-    for name in lines:
+    left, done, running = {name for name in lines if not os.path.exists(f"{room}/crates/{name}/src/main.rt")}, set(), {}
+    for name in sorted(left):
         if is_proved(room, name, digest[name]):
             print(f"== {name}", flush=True)
             done.add(name)

@@ -54,13 +54,13 @@ lay_out() {
     done
 }
 
-# How many crates are proved, of how many, and about how many minutes are left, by the seconds of docs/WORKING.md's table: as fast
-# as it went since the build was begun, and at first as if half of the processors were at work.
+# How many crates are proved, of how many below the program, and about how many minutes are left, by the seconds of docs/WORKING.md's
+# table: as fast as it went since the build was begun, and at first as if half of the processors were at work.
 count_crates() {
     awk -v gone="$1" -v processors="$(nproc)" '
         function seconds(name) { return name in cost ? cost[name] : 60 }
         part == "times" && split($0, column, / *[|] */) > 3 { cost[column[2]] = column[3] + 0 }
-        part == "names" { sub(/[ :].*/, ""); count++; all += seconds($0) }
+        part == "names" { sub(/[ :].*/, ""); all += seconds($0); if ($0 != "os_main") count++ }
         part == "kept" { is_kept[$1] = 1; all -= seconds($1) }
         part == "proved" && $1 == "==" && $2 != "summary" { proved++; if (!($2 in is_kept)) done += seconds($2) }
         END { print proved + 0, count, int((all - done) * (gone + 120) / (done + 60 * processors) / 60 + 0.5) }
