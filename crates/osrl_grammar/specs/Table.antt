@@ -1,12 +1,13 @@
 -- THE TABLE of result documents (Optimization Services result language, in this project's profile): where elements stand that are read, the kind of each mark, the tests of each kind in their order, and how a test refuses.
-use Rattle.std.specs.Prelude.{ℕ, Option, None, Some, cond, nat_lt, bytes_eq, List, [], ◌∷◌, codes}
+use Rattle.std.specs.Prelude.{ℕ, Option, None, Some, cond, bytes_eq, List, [], ◌∷◌, codes}
 use Rattle.tree_grammar.specs.Elements.{Attribute}
 use Rattle.doc_tree.specs.Marks.{Mark, Start, Char, Finish}
 use Rattle.document_tags.specs.Elements.{value_of}
 use Rattle.osrl_grammar.specs.declared.elements.Place.{Place}
 use Rattle.osrl_grammar.specs.declared.elements.Place.TheVariants.{Outside, Osrl, General, GeneralStatus, JobId, Message, Job, JobStatus, Optimization, Solution, SolutionStatus, Results, Result, Item}
-use Rattle.osrl_grammar.specs.declared.elements.Led.{Led}
-use Rattle.osrl_grammar.specs.declared.elements.Led.TheVariants.{To, Over, OtherRoot}
+use Rattle.tag_tests.specs.declared.places.Led.{Led}
+use Rattle.tag_tests.specs.declared.places.Led.TheVariants.{To, Over, OtherRoot}
+use Rattle.tag_tests.specs.Places.{Child, child, among, led_from, Kind, begins, text, ends, end_kind}
 use Rattle.osrl_grammar.specs.declared.parts.Part.{Part}
 use Rattle.osrl_grammar.specs.declared.parts.Part.TheVariants.{Point, Value, Ray, Tree, Cause}
 use Rattle.osrl_grammar.specs.declared.parts.Misread.{Misread}
@@ -19,16 +20,8 @@ use Rattle.osrl_grammar.specs.Numbers.{Field}
 use Rattle.osrl_grammar.specs.Items.{item_fields}
 use Rattle.osrl_grammar.specs.Standing.{State}
 
--- an element that is read where it stands, by its name, or by what it says as its name
-pub record Child : Type 0 where
-  pub name : List ℕ
-  pub place : Place
-
-abbrev pub child : List ℕ → Place → Child
-child name place = record { name = name; place = place }
-
 -- WHAT IS READ IN WHAT: the child elements of these names
-abbrev pub content : Place → List Child
+abbrev pub content : Place → List (Child Place)
 content Outside = child (codes "osrl") Osrl ∷ []
 content Osrl = child (codes "general") General ∷ child (codes "job") Job ∷ child (codes "optimization") Optimization ∷ []
 content General = child (codes "generalStatus") GeneralStatus ∷ child (codes "jobID") JobId ∷ child (codes "message") Message ∷ []
@@ -39,34 +32,30 @@ content (Result p) = child (codes "item") (Item p) ∷ []
 content p = []
 
 -- the results that are read, by what their attribute `name` says
-abbrev pub parts : List Child
+abbrev pub parts : List (Child Place)
 parts = child (part_name Point) (Result Point) ∷ child (part_name Value) (Result Value) ∷ child (part_name Ray) (Result Ray) ∷ child (part_name Tree) (Result Tree) ∷ child (part_name Cause) (Result Cause) ∷ []
 
 -- all else is passed over; a root of another name is that of no result document
-abbrev pub otherwise : Place → Led
+abbrev pub otherwise : Place → Led Place
 otherwise Outside = OtherRoot
 otherwise p = Over
 
 -- where the start tag of an element of this name leads
-abbrev pub among : List ℕ → List Child → Led → Led
-among name [] other = other
-among name (c ∷ cs) other = cond (bytes_eq name c.name) (To c.place) (among name cs other)
+abbrev pub named_led : Place → List ℕ → Led Place
+named_led p name = among (λ q. To q) name (content p) (otherwise p)
 
-abbrev pub named_led : Place → List ℕ → Led
-named_led p name = among name (content p) (otherwise p)
+abbrev pub part_led : List ℕ → Led Place
+part_led name = among (λ q. To q) name parts Over
 
-abbrev pub part_led : List ℕ → Led
-part_led name = among name parts Over
-
-abbrev pub named_part_led : Option (List ℕ) → Led
+abbrev pub named_part_led : Option (List ℕ) → Led Place
 named_part_led None = Over
 named_part_led (Some name) = part_led name
 
 -- where the start tag of an element in `otherSolutionResults` leads
-abbrev pub result_led : List ℕ → List Attribute → Led
+abbrev pub result_led : List ℕ → List Attribute → Led Place
 result_led name as' = cond (bytes_eq name (codes "otherSolutionResult")) (named_part_led (value_of (codes "name") as')) Over
 
-abbrev pub leads : Place → List ℕ → List Attribute → Led
+abbrev pub leads : Place → List ℕ → List Attribute → Led Place
 leads Results name as' = result_led name as'
 leads p name as' = named_led p name
 
@@ -87,19 +76,11 @@ around Results = Solution
 around (Result p) = Results
 around (Item p) = Result p
 
--- the kinds of marks: a start tag that leads there, characters in such an element, and in one that is passed over, the end tag of such an element, and of one that is passed over
-pub data Kind : Type 0 where
-  begins : Led → Kind
-  text : Place → Kind
-  unheard : Kind
-  ends : Place → Kind
-  back : Kind
-
--- in an element that is passed over all is passed over
-abbrev pub kind : State → Mark → Kind
-kind s (Start name attributes) = begins (cond (nat_lt 0 s.depth) Over (leads s.place name attributes))
-kind s (Char c) = cond (nat_lt 0 s.depth) unheard (text s.place)
-kind s (Finish name) = cond (nat_lt 0 s.depth) back (ends s.place)
+-- the kind of a mark
+abbrev pub kind : State → Mark → Kind Place
+kind s (Start name as') = begins (led_from s.depth (leads s.place name as')) as'
+kind s (Char c) = text c
+kind s (Finish name) = end_kind s.depth s.place
 
 pub data Test : Type 0 where
   other_root : Test
@@ -115,8 +96,8 @@ abbrev pub item_tests : Option (List Field) → List Test
 item_tests None = shapeless ∷ []
 item_tests (Some fs) = field_tests bad great fs
 
-abbrev pub tests : State → Kind → List Test
-tests s (begins OtherRoot) = other_root ∷ []
+abbrev pub tests : State → Kind Place → List Test
+tests s (begins OtherRoot as') = other_root ∷ []
 tests s (ends (Item p)) = item_tests (item_fields p s.text)
 tests s (ends Osrl) = twice ∷ miscounted Value ∷ miscounted Tree ∷ miscounted Cause ∷ incomplete ∷ []
 tests s k = []
@@ -128,11 +109,11 @@ item_refusal NoNumber n = refusals.Number n
 item_refusal TooGreat n = refusals.Wide n
 
 -- HOW A TEST REFUSES
-abbrev pub told : State → Mark → Test → OsrlFault
-told s m other_root = refusals.Root
-told s m shapeless = item_refusal NoShape s.count
-told s m (bad f) = item_refusal NoNumber s.count
-told s m (great f) = item_refusal TooGreat s.count
-told s m twice = refusals.Count
-told s m (miscounted p) = refusals.Count
-told s m incomplete = refusals.Missing
+abbrev pub told : State → Test → OsrlFault
+told s other_root = refusals.Root
+told s shapeless = item_refusal NoShape s.count
+told s (bad f) = item_refusal NoNumber s.count
+told s (great f) = item_refusal TooGreat s.count
+told s twice = refusals.Count
+told s (miscounted p) = refusals.Count
+told s incomplete = refusals.Missing

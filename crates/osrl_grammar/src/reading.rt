@@ -17,8 +17,7 @@ pub fn decode(alloc: Global, bytes: &[u8]) -> Result<Report, OsrlFault>
     ensures err { IfErr result (DecodeFails bytes.now) }
 {
     let mut decoder = Decoder::new(alloc);
-    match decoder.feed(bytes) {
-        Ok(()) => decoder.finish(),
-        Err(fault) => Err(fault),
-    }
+    // what is refused here is told again in the end
+    let _ = decoder.feed(bytes);
+    decoder.finish()
 }
