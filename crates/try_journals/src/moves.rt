@@ -1,11 +1,15 @@
 //! Moves as texts, made in a table whose effects are kept before.
 
+ghost use Rattle.job_table.specs.Steps.{May};
+
 use crate::effects_of::answer_of;
 use crate::jobs::Any;
 use cases::number_of;
 use disks::MemDisk;
+use effects::NotStored;
 use job_journal::Journal;
-use job_table::{Call, IssueFault, Job, SharedText, Table, Twin};
+use job_table::moves::{Claim, Enter, Finish, Issue, Kill, Knock, Move, Send};
+use job_table::{Call, Job, SharedText, Table, Twin, Verdicts};
 use os_io::{Memory, Text};
 use std::alloc::{AllocError, Global};
 
@@ -52,36 +56,54 @@ fn move_of(alloc: Global, text: &[u8]) -> Result<Call, Memory> {
     }
 }
 
-/// Makes a move.
-fn make(table: &mut Table<Any>, call: Call) -> Result<(), Memory> {
+/// Makes a move behind the put of its effect: at an error that wasn't stored.
+fn make<V: Verdicts, M: Move<V>>(
+    table: &mut Table<V>,
+    journal: &mut Journal<MemDisk>,
+    step: M,
+) -> Result<Result<(), NotStored>, Memory>
+where
+    M::Answer: Drop,
+    requires { May V.right (M.call step) }
+{
+    match step.make_kept(table, journal) {
+        Ok(answer) => {
+            if M::is_made(&answer) {
+                Ok(Ok(()))
+            } else {
+                Err(AllocError)
+            }
+        }
+        Err(fault) => Ok(Err(fault)),
+    }
+}
+
+/// Makes the move that is asked for.
+fn make_asked(
+    table: &mut Table<Any>,
+    journal: &mut Journal<MemDisk>,
+    call: Call,
+) -> Result<Result<(), NotStored>, Memory> {
     match call {
-        Call::Issue => match table.issue() {
-            Err(IssueFault::Memory) => return Err(AllocError),
-            _ => {}
-        },
-        Call::Enter { osil, osol } => match table.enter(osil, osol) {
-            Err(IssueFault::Memory) => return Err(AllocError),
-            _ => {}
-        },
-        Call::Send { number, osil, osol } => {
-            table.send(number, osil, osol);
-        }
-        Call::Claim { worker } => {
-            table.claim(worker);
-        }
+        Call::Issue => make(table, journal, Issue),
+        Call::Send { number, osil, osol } => make(table, journal, Send { number, osil, osol }),
+        Call::Enter { osil, osol } => make(table, journal, Enter { osil, osol }),
+        Call::Claim { worker } => make(table, journal, Claim { worker }),
         Call::Finish {
             job,
             asked,
             document,
         } => {
-            table.finish(job, asked, document);
+            let end = Finish {
+                job,
+                asked,
+                document,
+            };
+            make(table, journal, end)
         }
-        Call::Kill { number } => {
-            table.kill(number);
-        }
-        _ => {}
+        Call::Kill { number } => make(table, journal, Kill { number }),
+        _ => make(table, journal, Knock),
     }
-    Ok(())
 }
 
 /// Makes moves in order, each behind the put of its effect, and tells what each put answers. Where it refuses, the table stays.
@@ -94,17 +116,12 @@ pub fn make_all(
 ) -> Result<(), Memory> {
     for words in moves.split(|b| *b == b';') {
         let call = move_of(alloc, words)?;
-        let stored = match table.plan(&call) {
-            Some(effect) => journal.put(&effect),
-            None => {
-                text.extend(b"no effect, ")?;
-                make(table, call)?;
-                continue;
-            }
-        };
-        text.extend(answer_of(stored))?;
-        if stored.is_ok() {
-            make(table, call)?;
+        let has_effect = table.plan(&call).is_some();
+        let stored = make_asked(table, journal, call)?;
+        if has_effect {
+            text.extend(answer_of(stored))?;
+        } else {
+            text.extend(b"no effect, ")?;
         }
     }
     Ok(())
