@@ -1,10 +1,10 @@
 -- Answers of puts, and the faults in them.
-use Rattle.std.proofs.Common.{◌≡◌, ◌⊎◌, inl, inr, ℕ, List, [], Option, Some, None, Result, Ok, Err, OnOk, OnErr, IfSome, IfNone, refl, sym, ◌∙◌, ap, arith}
+use Rattle.std.proofs.Common.{◌≡◌, ◌⊎◌, inl, inr, List, Option, Some, None, Result, Ok, Err, OnOk, OnErr, IfSome, IfNone, refl, ap}
 use Rattle.std.specs.Prelude.{Bool, true, false, ◌↔◌, IsErrOf}
 use Rattle.effects.specs.Records.{Deed}
 use Rattle.effects.specs.declared.store.NotStored.{NotStored}
 use Rattle.effects.specs.declared.store.NotStored.TheVariants.{Disk, Broken, Long}
-use Rattle.effects.specs.Stores.{fault_of, Puts, PutsIf}
+use Rattle.effects.specs.Stores.{fault_of, PutsIf}
 
 pub on_none : {X : Type 0} (res : Result X NotStored) (P : Type 0) → OnOk res P → IfNone (fault_of res) P
 on_none (Ok x) P p = p
