@@ -1,27 +1,13 @@
 -- Steps of states in comments, instructions and CDATA sections.
-use Rattle.std.proofs.Common.{◌≡◌, ◌≢◌, ℕ, zero, suc, ◌+◌, ◌<◌, ◌≤◌, inl, inr, ◌↔◌, List, [], ◌∷◌, ◌++◌, map, refl, ap, sym, ◌∙◌, subst, arith}
-use Rattle.std.specs.Prelude.{codes}
-use Rattle.std.specs.Char.{to_ascii_lowercase}
-use Rattle.tree_grammar.specs.Elements.{Attribute}
-use Rattle.tree_grammar.specs.Characters.{IsSpace, IsNameStart, IsNameChar}
-use Rattle.doc_tree.specs.Marks.{Mark, Char}
-use Rattle.doc_tree.specs.Rests.{Terms, Word, Saying, CommentRest, SectionRest, pending_brackets, PiOver, PiRest, FirstOver, Before, RootOrType, After, Never, IsSpecial, IsNameRest}
+use Rattle.doc_tree.proofs.Words.{After, Around, Attribute, Before, Char, CommentRest, FirstOver, FollowsByte, Good, GoodGoal, GoodRound, InElement, Insides, IsInMark, IsNameChar, IsNameRest, IsNameStart, IsSpace, IsSpecial, List, Mark, Never, PiNamed, PiOver, PiRest, Place, QuestionAt, ReachesGoal, ReachesState, RestsAt, RootOrType, Round, Saying, SectionRest, State, Stuck, Terms, Word, [], ap, arith, codes, inl, inr, map, pending_brackets, refl, subst, suc, sym, to_ascii_lowercase, zero, ℕ, ◌++◌, ◌+◌, ◌<◌, ◌↔◌, ◌∙◌, ◌∷◌, ◌≡◌, ◌≢◌, ◌≤◌}
 use Rattle.doc_tree.specs.declared.declaration.Field.TheVariants as fields
 use Rattle.doc_tree.specs.declared.machine.Goal.TheVariants as goals
 use Rattle.doc_tree.specs.declared.names.Part.TheVariants as parts
-use Rattle.doc_tree.specs.declared.machine.Round.{Round}
 use Rattle.doc_tree.specs.declared.machine.Round.TheVariants as rounds
-use Rattle.doc_tree.specs.declared.machine.Place.{Place}
 use Rattle.doc_tree.specs.declared.machine.Place.TheVariants as places
-use Rattle.doc_tree.specs.Completions.{State, RestsAt, ReachesGoal, Good, GoodGoal, GoodRound, InElement, IsInMark, Insides, Around, PiNamed, QuestionAt, FollowsByte, Stuck, ReachesState}
 use Rattle.doc_tree.proofs.MachineSteps.Moves.{moves, moves_at, moves_word, follows_reached, follows_saying, stays}
 use Rattle.doc_tree.proofs.MachineSteps.Steps.{at_byte, at_place}
-use Rattle.doc_tree.proofs.Viability.Printables.{printable_text}
-use Rattle.doc_tree.proofs.ByteGrammar.Keys.{name_next, name_over}
-use Rattle.doc_tree.proofs.ByteGrammar.Contents.{content_dash, content_square, content_bang, content_question}
-use Rattle.doc_tree.proofs.ByteGrammar.Rounds.{round_dash, round_bang, round_question}
-use Rattle.doc_tree.proofs.ByteGrammar.Prologs.{before_round, after_round, no_type, marked_question, first_over_high, first_declares, first_instructs}
-use Rattle.doc_tree.proofs.ByteGrammar.Asides.{comment_plain_byte, comment_dash_byte, comment_end, pi_plain, pi_end, pi_mark, pi_over_end, pi_over_space, pi_over_stuck, pi_over_high, name_first, name_none, section_end, section_none, section_one, section_two, section_three}
+use Rattle.doc_tree.proofs.ByteGrammar.{after_round, before_round, comment_dash_byte, comment_end, comment_plain_byte, content_bang, content_dash, content_question, content_square, first_declares, first_instructs, first_over_high, marked_question, name_first, name_next, name_none, name_over, no_type, pi_end, pi_mark, pi_over_end, pi_over_high, pi_over_space, pi_over_stuck, pi_plain, printable_text, round_bang, round_dash, round_question, section_end, section_none, section_one, section_three, section_two}
 
 -- behind `<!` and `<?`, wherever they stand
 module _ (u : Terms) where
@@ -57,7 +43,7 @@ pub bang_no : (u : Terms) (s : State) (b : ℕ) → b ≢ 45 → b ≢ 91 → (s
 bang_no u s b n m k x es h = around_no u s.round s.names b x es n m k h
 
 pub bang_outside : (s : State) (b : ℕ) → b ≡ 91 → s.round ≢ rounds.Content → Stuck (RestsAt places.Bang s) b
-bang_outside s b e n = subst (λ z. Stuck (RestsAt places.Bang s) z) (sym e) (λ u d x es h. around_outside u s.round s.names x es n h)
+bang_outside s b e n = subst (λ z. Stuck (RestsAt places.Bang s) z) (sym e) (record { none = λ u d x es h. around_outside u s.round s.names x es n h })
 
 -- comments
 pub comment_stays : (s : State) (b : ℕ) → s.place ≡ places.Comment → Good places.Comment s → b ≢ 45 → FollowsByte s.marks (RestsAt places.Comment s) b s
@@ -139,8 +125,8 @@ question_goes s to b name e (inr p) i =
     let a = around_mark u s.round s.names (b ∷ x) es in let c = name_first (λ n. PiOver n (Around s.round s.names u)) b x es i in (λ h. c.0 (a.0 h), λ h. a.1 (c.1 h)))))
 
 pub question_no : (s : State) (to : Place) (b : ℕ) → QuestionAt s to → (IsNameStart b → ⊥) → Stuck (RestsAt s.place s) b
-question_no s to b (inl p) n = at_place (λ z. Stuck (RestsAt z s) b) s.place places.FirstQuestion p.0 (λ u d x es h. name_none (λ m. FirstOver m u) b x es n ((marked_question u (b ∷ x) es).0 h))
-question_no s to b (inr p) n = at_place (λ z. Stuck (RestsAt z s) b) s.place places.Question p.0 (λ u d x es h. name_none (λ m. PiOver m (Around s.round s.names u)) b x es n ((around_mark u s.round s.names (b ∷ x) es).0 h))
+question_no s to b (inl p) n = at_place (λ z. Stuck (RestsAt z s) b) s.place places.FirstQuestion p.0 (record { none = λ u d x es h. name_none (λ m. FirstOver m u) b x es n ((marked_question u (b ∷ x) es).0 h) })
+question_no s to b (inr p) n = at_place (λ z. Stuck (RestsAt z s) b) s.place places.Question p.0 (record { none = λ u d x es h. name_none (λ m. PiOver m (Around s.round s.names u)) b x es n ((around_mark u s.round s.names (b ∷ x) es).0 h) })
 
 -- a name goes on, or is over
 local_more : (b : ℕ) → IsNameChar b → (run : List ℕ) → IsNameRest parts.Local (b ∷ run) ↔ IsNameRest parts.Local run
@@ -166,7 +152,7 @@ pi_over u s b x es n = name_over (λ m. PiOver m (Around s.round s.names u)) s.n
 
 -- behind an instruction's name
 pub named_xml : (s : State) (b : ℕ) → map to_ascii_lowercase s.name ≡ codes "xml" → Stuck (PiNamed s) b
-named_xml s b e = λ u d x es h. h.other e
+named_xml s b e = record { none = λ u d x es h. h.other e }
 
 pub named_ends : (s : State) (b : ℕ) (new : State) → b ≡ 63 → map to_ascii_lowercase s.name ≢ codes "xml" → GoodRound s.round s.names s.kept → new ≡ record s { place = places.Word; left = 62 ∷ []; goal = goals.Around } → FollowsByte s.marks (PiNamed s) b new
 named_ends s b new e o g q = at_byte s.marks (PiNamed s) b 63 new e (moves_word s.marks (PiNamed s) 63 s goals.Around (62 ∷ []) new q refl (λ l h. h) (λ z. cc) (printable_text (62 ∷ []) refl) g (λ u d x es. pi_over_end (Around s.round s.names u) s.name x es o))
@@ -175,7 +161,7 @@ pub named_spaced : (s : State) (b : ℕ) → map to_ascii_lowercase s.name ≢ c
 named_spaced s b o g i = moves s.marks (PiNamed s) b (record s { place = places.PiText }) refl (λ l h. h) g (λ u d x es. pi_over_space (Around s.round s.names u) s.name b x es o i)
 
 pub named_no : (s : State) (b : ℕ) → (IsSpace b → ⊥) → b ≢ 63 → Stuck (PiNamed s) b
-named_no s b n m = λ u d x es h. pi_over_stuck (Around s.round s.names u) s.name b x es n m h
+named_no s b n m = record { none = λ u d x es h. pi_over_stuck (Around s.round s.names u) s.name b x es n m h }
 
 -- an instruction's text
 pub text_stays : (s : State) (b : ℕ) → s.place ≡ places.PiText → Good places.PiText s → b ≢ 63 → FollowsByte s.marks (RestsAt places.PiText s) b s

@@ -1,17 +1,6 @@
 -- The names of a tag: their numbers, and their set.
-use Rattle.std.proofs.Common.{◌≡◌, ◌∙◌, ℕ, Bool, true, false, ◌||◌, inl, inr, ◌⊎◌, List, [], ◌∷◌, ◌++◌, map, length, take, get_or, ◌<◌, ◌≤◌, ◌+◌, cond, refl, ap, sym, subst, arith, length-append, Less, Equal, Greater}
-use Rattle.std.specs.declared.cmp.Ordering.{Ordering}
-use Rattle.std.specs.Ordering.{is_eq, nat_cmp, match_ordering}
-use Rattle.std.specs.Cmp.Lexicographic.{slice_cmp}
-use Rattle.std.specs.List.{list_any}
-use Rattle.std.specs.BTreeMap.{is_at}
-use Rattle.std.specs.BTreeSet.{BTreeSet, contains, insert_key, Updates}
-use Rattle.std.proofs.lemmas.List.{take-append-le, take_more, take_all, length-map}
-use Rattle.std.proofs.Math.ListN.{get_or-map}
-use Rattle.std.proofs.lemmas.Map.Text.{is_eq-slice_cmp}
-use Rattle.std.proofs.lemmas.Slice.Eq.{bytes_eq-Decides}
-use Rattle.tree_grammar.specs.Tags.{IsAmong}
-use Rattle.doc_tree.specs.TagNames.{AreNumbered, AreSameNames, IsSorted, number_from}
+use Rattle.doc_tree.proofs.Words.{AreNumbered, AreSameNames, BTreeSet, Bool, Equal, Greater, IsAmong, IsSorted, Less, List, Ordering, Updates, [], ap, arith, bytes_eq-Decides, cond, contains, false, get_or, get_or-map, inl, inr, insert_key, is_at, is_eq, is_eq-slice_cmp, length, length-append, length-map, list_any, map, match_ordering, number_from, refl, slice_cmp, subst, sym, take, take-append-le, take_all, take_more, true, ℕ, ◌++◌, ◌+◌, ◌<◌, ◌||◌, ◌∙◌, ◌∷◌, ◌≡◌, ◌≤◌, ◌⊎◌}
+use Rattle.std.specs.Ordering.{nat_cmp}
 
 pub among_first : (n name : List ℕ) (names : List (List ℕ)) → IsAmong n names → IsAmong n (names ++ (name ∷ []))
 among_first n name [] h = absurd h
