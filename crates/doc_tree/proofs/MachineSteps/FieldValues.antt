@@ -94,9 +94,6 @@ word_from v b (inr (inr (inr p))) = subst (λ z. IsValueBegun fields.Standalone 
 pub word_next : (v : List ℕ) (b : ℕ) → IsValueBegun fields.Standalone (v ++ (b ∷ [])) ↔ WordNext v b
 word_next v b = (λ h. word_to v b h.0 h.1, λ n. word_from v b n)
 
-pub none_begun : (v : List ℕ) → IsValueBegun fields.Before v → ⊥
-none_begun v h = h.1
-
 -- whichever field it is
 pub goes : (f g : Field) (v : List ℕ) (b : ℕ) (T N : Type 0) → f ≡ g → (IsValueBegun g v → IsValueBegun g (v ++ (b ∷ [])) ↔ N) → IsValueBegun f v → T ↔ N → T ↔ IsValueBegun f (v ++ (b ∷ []))
 goes f g v b T N e next begun t =

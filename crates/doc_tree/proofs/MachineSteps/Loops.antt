@@ -1,12 +1,9 @@
 -- Loops over a text: what holds of the rest holds of the whole.
-use Rattle.doc_tree.proofs.Words.{List, [], ap, arith, drop, drop-cons, drop_of_length-le, false, get_or, length, length-map, length-reverse, map, refl, reverse, suc, sym, take, true, ℕ, ◌+◌, ◌-◌, ◌<◌, ◌==◌, ◌∙◌, ◌∷◌, ◌≡◌, ◌≢◌, ◌≤◌}
+use Rattle.doc_tree.proofs.Words.{List, [], ap, arith, drop, drop-cons, false, get_or, length, length-map, length-reverse, map, refl, reverse, suc, sym, take, true, ℕ, ◌+◌, ◌-◌, ◌<◌, ◌==◌, ◌∙◌, ◌∷◌, ◌≡◌, ◌≢◌}
 use Rattle.doc_tree.proofs.MachineSteps.Outcomes.{last_is}
 
 pub drop_at : {A : Type 0} (xs : List A) (i : ℕ) (x : A) → i < length xs → x ≡ get_or xs i x → drop i xs ≡ x ∷ drop (i + 1) xs
 drop_at xs i x l e = let a : suc i ≡ i + 1 = omega arith in drop-cons xs i x l ∙ ap (λ z. get_or xs i x ∷ drop z xs) a ∙ ap (λ z. z ∷ drop (i + 1) xs) (sym e)
-
-pub drop_end : {A : Type 0} (xs : List A) (i : ℕ) → length xs ≤ i → drop i xs ≡ []
-drop_end xs i l = drop_of_length-le xs l
 
 -- the open elements
 zero_is : (n : ℕ) → true ≡ (n == 0) → n ≡ 0

@@ -1,10 +1,10 @@
 -- Steps of states.
-use Rattle.doc_tree.proofs.Words.{After, ArePrintable, Attribute, AttributeValue, Behind, Between, Bool, Char, Choice, DigitRest, Each, EndOver, EndsBehind, EqualsAt, Field, FieldOver, FieldValue, FollowsByte, Gap, Goal, Good, GoodReference, InElement, InNumeral, Insides, IsInMark, IsNameRest, IsNameStart, IsNextField, IsPrintable, IsQuote, IsRadix, IsScalar, IsSpace, List, Mark, NoNextField, NumeralRest, Outer, Place, QuoteAt, ReachesState, RefRest, RestsAt, Saying, State, Stuck, TagFirst, TagRest, Terms, Then, Word, [], ap, arith, brackets, depth_left, digit_value, encode_utf8, false, field_name, first_letter, inl, inr, length, refl, subst, sym, true, ℕ, ◌*◌, ◌++◌, ◌+◌, ◌-◌, ◌<◌, ◌↔◌, ◌∙◌, ◌∷◌, ◌≡◌, ◌≢◌, ◌≤◌}
+use Rattle.doc_tree.proofs.Words.{ArePrintable, Attribute, AttributeValue, Behind, Between, Bool, Char, Choice, DigitRest, Each, EndOver, EndsBehind, EqualsAt, Field, FieldOver, FieldValue, FollowsByte, Gap, Goal, Good, GoodReference, InElement, InNumeral, Insides, IsInMark, IsNameRest, IsNameStart, IsNextField, IsPrintable, IsQuote, IsRadix, IsScalar, IsSpace, List, Mark, NoNextField, NumeralRest, Outer, Place, QuoteAt, ReachesState, RefRest, RestsAt, Saying, State, Stuck, TagFirst, TagRest, Terms, Then, Word, [], ap, arith, brackets, depth_left, digit_value, encode_utf8, false, field_name, first_letter, inl, inr, length, refl, subst, sym, true, ℕ, ◌*◌, ◌++◌, ◌+◌, ◌-◌, ◌<◌, ◌↔◌, ◌∙◌, ◌∷◌, ◌≡◌, ◌≢◌, ◌≤◌}
 use Rattle.doc_tree.specs.declared.machine.Goal.TheVariants as goals
 use Rattle.doc_tree.specs.declared.names.Part.TheVariants as parts
 use Rattle.doc_tree.specs.declared.machine.Place.TheVariants as places
 use Rattle.doc_tree.proofs.MachineSteps.FieldValues.{begun_nothing, next_not_before}
-use Rattle.doc_tree.proofs.ByteGrammar.{content_char, content_end, content_tag, content_tag_from, equals_sign, equals_space, equals_stuck, first_printable, first_tag, numeral_big, numeral_digit, numeral_stuck, quote_over, quote_space, quote_stuck, ref_hash, ref_x, spaces_more, spaces_over, start_printable, word_over, word_printable}
+use Rattle.doc_tree.proofs.ByteGrammar.{content_char, content_end, content_tag, content_tag_from, equals_sign, equals_space, equals_stuck, first_printable, first_tag, numeral_digit, quote_over, quote_space, quote_stuck, ref_hash, ref_x, spaces_more, spaces_over, start_printable, word_over, word_printable}
 use Rattle.doc_tree.proofs.MachineSteps.Moves.{moves, moves_at, moves_word, follows_from, follows_saying, stays}
 use Rattle.doc_tree.proofs.MachineSteps.FieldSteps.{choice_not_space, choice_next, choice_ends}
 
@@ -124,16 +124,6 @@ content_said s b count marks kept e f g p nl na n =
     let t : State = record s { count = count; kept = kept; marks = marks } in
     follows_saying s.marks (Char b ∷ []) (RestsAt places.Content s) (Insides count s.names) b t (λ u l x es. subst (λ z. Insides s.count s.names u (b ∷ x) es ↔ Saying (Char b ∷ []) (Insides z s.names u) x es) (sym f) (content_char u s.count s.names b x es nl na n)) (subst (λ z. ReachesState z (Insides count s.names) t) e (at_here t p g))
 
--- the digit that was read
-pub some_digit : (s : State) (b from d : ℕ) → from ≡ b → (digit_value from < s.radix) × (d ≡ digit_value from) → s.number * s.radix + d ≤ 1114111 → IsRadix s.radix → GoodReference s.in_value s → FollowsByte s.marks (InNumeral s.radix s.number s) b (record s { number = s.number * s.radix + d; place = places.Digit })
-some_digit s b from d e v m i g = let q : d ≡ digit_value b = v.1 ∙ ap digit_value e in digit_moves s b d (s.number * s.radix + d) q refl (subst (λ z. z < s.radix) (sym v.1) v.0) m i g
-
-pub digit_big : (s : State) (b from d : ℕ) → from ≡ b → (digit_value from < s.radix) × (d ≡ digit_value from) → 1114111 < s.number * s.radix + d → IsRadix s.radix → Stuck (InNumeral s.radix s.number s) b
-digit_big s b from d e v m i = record { none = λ u l x es h. numeral_big s.radix s.number (Behind s.in_value s u) b x es i (subst (λ z. digit_value z < s.radix) e v.0) (subst (λ z. 1114111 < s.number * s.radix + z) (v.1 ∙ ap digit_value e) m) h }
-
-pub no_digit : (s : State) (b from : ℕ) → from ≡ b → (digit_value from < s.radix → ⊥) → Stuck (InNumeral s.radix s.number s) b
-no_digit s b from e n = record { none = λ u o x es h. numeral_stuck s.radix s.number (Behind s.in_value s u) b x es (λ l. n (subst (λ z. digit_value z < s.radix) (sym e) l)) h }
-
 -- an element in an element
 pub content_tag_any : (u : Terms) (names : List (List ℕ)) (b : ℕ) (r : List ℕ) (es : List Mark) → names ≢ [] → b ≢ 47 → b ≢ 33 → b ≢ 63 → Insides 0 names u (60 ∷ b ∷ r) es ↔ TagFirst names u (b ∷ r) es
 content_tag_any u [] b r es n e f g = absurd (n refl)
@@ -152,6 +142,18 @@ end_empty s n rest e f k = moves s.marks (RestsAt places.ContentLess s) 47 (reco
     let o = word_over (EndOver s.names u) x es in (λ h. o.0 (w.0 h), λ h. w.1 (o.1 h)))
 
 -- the fields
+pub field_ends : (u : Terms) (s : State) (b : ℕ) (x : List ℕ) (es : List Mark) → (IsSpace b → ⊥) → NoNextField s.field b → RestsAt places.FieldSpace s u (b ∷ x) es ↔ EndsBehind s.field u (b ∷ x) es
+field_ends u s b x es n m = let a = spaces_over (Choice s.field u) b x es n in let c = choice_ends u s.field b x es m in (λ h. c.0 (a.0 h), λ h. a.1 (c.1 h))
+
+-- behind an element
+insides_any : (u : Terms) (names : List (List ℕ)) (x : List ℕ) (es : List Mark) → names ≢ [] → Between 0 names u x es ↔ Insides 0 names u x es
+insides_any u [] x es n = absurd (n refl)
+insides_any u (m ∷ names) x es n = (λ h. h, λ h. h)
+
+pub over_child : (s : State) → InElement s.names s.kept → ReachesState s.marks (Between 0 s.names) (record s { place = places.Content; count = 0 })
+over_child s k = stays s.marks (Between 0 s.names) (record s { place = places.Content; count = 0 }) refl (λ h. h) k (λ u l x es. insides_any u s.names x es k.1)
+
+-- the fields
 pub space_stays : (s : State) (b : ℕ) → s.place ≡ places.FieldSpace → Outer s → IsSpace b → FollowsByte s.marks (RestsAt places.FieldSpace s) b s
 space_stays s b p o i = moves_at s.marks (RestsAt places.FieldSpace s) b s places.FieldSpace p refl (λ l h. h) o (λ u l x es. spaces_more (Choice s.field u) b x es i (λ k. choice_not_space u s.field b x es i k))
 
@@ -160,17 +162,3 @@ field_moves s b g word new q o n i e m = moves_word s.marks (RestsAt places.Fiel
     let a = spaces_over (Choice s.field u) b x es n in
     let c = subst (λ z. Choice s.field u (z ∷ x) es ↔ Word word (FieldOver u g (Gap g u)) x es) (sym i.1) (choice_next u s.field g word x es i.0 e) in
     (λ h. c.0 (a.0 h), λ h. a.1 (c.1 h)))
-
-pub field_ends : (u : Terms) (s : State) (b : ℕ) (x : List ℕ) (es : List Mark) → (IsSpace b → ⊥) → NoNextField s.field b → RestsAt places.FieldSpace s u (b ∷ x) es ↔ EndsBehind s.field u (b ∷ x) es
-field_ends u s b x es n m = let a = spaces_over (Choice s.field u) b x es n in let c = choice_ends u s.field b x es m in (λ h. c.0 (a.0 h), λ h. a.1 (c.1 h))
-
--- behind an element
-pub over_root : (s : State) → s.kept ≡ [] → s.names ≡ [] → ReachesState s.marks (Between 0 s.names) (record s { place = places.Epilog })
-over_root s k e = stays s.marks (Between 0 s.names) (record s { place = places.Epilog }) refl (λ h. h) tt (λ u l x es. subst (λ z. Between 0 z u x es ↔ After u x es) (sym e) (λ h. h, λ h. h))
-
-insides_any : (u : Terms) (names : List (List ℕ)) (x : List ℕ) (es : List Mark) → names ≢ [] → Between 0 names u x es ↔ Insides 0 names u x es
-insides_any u [] x es n = absurd (n refl)
-insides_any u (m ∷ names) x es n = (λ h. h, λ h. h)
-
-pub over_child : (s : State) → InElement s.names s.kept → ReachesState s.marks (Between 0 s.names) (record s { place = places.Content; count = 0 })
-over_child s k = stays s.marks (Between 0 s.names) (record s { place = places.Content; count = 0 }) refl (λ h. h) k (λ u l x es. insides_any u s.names x es k.1)

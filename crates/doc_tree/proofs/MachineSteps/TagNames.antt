@@ -93,12 +93,12 @@ numbered_more names old new k u h = λ name a. u.0 (number_from 0 name) ∙ eith
     either true there e = refl
     either false there e = e
 
-pub numbered_push : (names : List (List ℕ)) (name : List ℕ) (numbers : BTreeSet ℕ) → AreNumbered names numbers → contains nat_cmp numbers (number_from 0 name) ≡ true → AreNumbered (names ++ (name ∷ [])) numbers
-numbered_push names name numbers h e = λ n a. elim (among_either n name names a) [ inl b ↦ h n b | inr q ↦ ap (λ z. contains nat_cmp numbers (number_from 0 z)) q ∙ e ]
-
 -- a name that comes is not yet in order
 pub sorted_push : (names : List (List ℕ)) (name : List ℕ) (settled : ℕ) (sorted : List (List ℕ)) → IsSorted names settled sorted → IsSorted (names ++ (name ∷ [])) settled sorted
 sorted_push names name settled sorted h = record {
   within = omega (arith, h.within, length-append names (name ∷ []));
   same = subst (AreSameNames sorted) (sym (take-append-le settled names (name ∷ []) h.within)) h.same;
 }
+
+pub numbered_push : (names : List (List ℕ)) (name : List ℕ) (numbers : BTreeSet ℕ) → AreNumbered names numbers → contains nat_cmp numbers (number_from 0 name) ≡ true → AreNumbered (names ++ (name ∷ [])) numbers
+numbered_push names name numbers h e = λ n a. elim (among_either n name names a) [ inl b ↦ h n b | inr q ↦ ap (λ z. contains nat_cmp numbers (number_from 0 z)) q ∙ e ]

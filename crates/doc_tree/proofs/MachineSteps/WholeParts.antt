@@ -1,10 +1,10 @@
 -- Fixed texts, references and attributes that are whole; and the machine's ends.
-use Rattle.doc_tree.proofs.Words.{After, Attribute, Behind, BehindReference, BehindValue, Bool, Char, Completes, FollowsByte, Goal, Good, GoodGoal, GoodReference, GoodTag, HoldsKey, InElement, Insides, IsFixed, IsInMark, IsRadix, IsXmlChar, List, Mark, Place, ReachesGoal, ReachesState, RestsAt, State, Stuck, Terms, Word, [], ap, append-nil, arith, cond, drop, drop-cons, encode_utf8, false, get_or, inl, inr, is_kept, keep, length, map, misc_over, refl, subst, sym, true, ℕ, ◌++◌, ◌+◌, ◌<◌, ◌↔◌, ◌∙◌, ◌∷◌, ◌≡◌, ◌≢◌}
+use Rattle.doc_tree.proofs.Words.{After, Attribute, Behind, BehindReference, BehindValue, Bool, Char, Completes, FollowsByte, Goal, Good, GoodGoal, GoodReference, GoodTag, HoldsKey, InElement, Insides, IsFixed, IsInMark, List, Mark, Place, ReachesGoal, ReachesState, RestsAt, State, Terms, Word, [], ap, append-nil, arith, cond, drop, drop-cons, encode_utf8, false, get_or, inl, inr, is_kept, keep, length, map, misc_over, refl, subst, sym, true, ℕ, ◌++◌, ◌+◌, ◌<◌, ◌↔◌, ◌∙◌, ◌∷◌, ◌≡◌, ◌≢◌}
 use Rattle.doc_tree.specs.declared.machine.Goal.TheVariants as goals
 use Rattle.doc_tree.specs.declared.machine.Place.TheVariants as places
 use Rattle.doc_tree.proofs.MachineSteps.Moves.{moves_at, follows_reached, reached_from, reached_saying, stays}
-use Rattle.doc_tree.proofs.ByteGrammar.{digit_end, digit_end_stuck, word_back, word_first, word_last}
-use Rattle.doc_tree.proofs.MachineSteps.Steps.{at_byte, at_here}
+use Rattle.doc_tree.proofs.ByteGrammar.{word_back, word_first, word_last}
+use Rattle.doc_tree.proofs.MachineSteps.Steps.{at_here}
 use Rattle.doc_tree.proofs.MachineSteps.Loops.{drop_at}
 
 -- an attribute is whole
@@ -15,9 +15,6 @@ attribute_over s g kept marks f m =
 
 pub kept_is : (key value : List ℕ) (kept new : List Attribute) → true ≡ is_kept key → new ≡ kept ++ (record { name = key; value = value } ∷ []) → new ≡ keep key value kept
 kept_is key value kept new e f = f ∙ ap (λ z. kept ++ cond z (record { name = key; value = value } ∷ []) []) e
-
-pub kept_not : (key value : List ℕ) (kept : List Attribute) → false ≡ is_kept key → kept ≡ keep key value kept
-kept_not key value kept e = sym (append-nil kept) ∙ ap (λ z. kept ++ cond z (record { name = key; value = value } ∷ []) []) e
 
 -- what is left of a fixed text
 fixed_left : (g : Goal) (b : ℕ) (left : List ℕ) → left ≢ [] → IsFixed g (b ∷ left) → IsFixed g left
@@ -60,12 +57,6 @@ reaches_same goals.Entity s left u x es = behind_left u s.in_value s left (encod
     behind_left u false s left cs x es = (λ h. h, λ h. h)
 
 -- a reference to a number
-pub number_ends : (s : State) (b : ℕ) (new : State) → b ≡ 59 → IsRadix s.radix → IsXmlChar s.number → ReachesState s.marks (BehindReference s (encode_utf8 s.number)) new → FollowsByte s.marks (RestsAt places.Digit s) b new
-number_ends s b new e i c r = at_byte s.marks (RestsAt places.Digit s) b 59 new e (follows_reached s.marks (RestsAt places.Digit s) (BehindReference s (encode_utf8 s.number)) 59 new (λ u d x es. digit_end s.radix s.number (Behind s.in_value s u) x es i c) r)
-
-pub number_stuck : (s : State) (b : ℕ) → b ≡ 59 → IsRadix s.radix → (IsXmlChar s.number → ⊥) → Stuck (RestsAt places.Digit s) b
-number_stuck s b e i n = subst (λ z. Stuck (RestsAt places.Digit s) z) (sym e) (record { none = λ u d x es h. digit_end_stuck s.radix s.number (Behind s.in_value s u) x es i n h })
-
 pub attribute_done : (s t new : State) → GoodTag s → t.kept ≡ keep s.key s.value s.kept → s.marks ≡ t.marks → t ≡ record s { kept = t.kept; marks = t.marks } → HoldsKey t new → ReachesState s.marks (BehindValue s s.value) new
 attribute_done s t new g f m e q = subst (λ z. ReachesState s.marks (BehindValue s s.value) z) (sym (q ∙ ap {A = State} (λ z. record z { place = places.TagAfter; keys = z.keys ++ (z.key ∷ []); key = [] }) e)) (attribute_over s g t.kept t.marks f m)
 
