@@ -2,7 +2,6 @@
 # Read by ./os: proves and builds the program where its sources changed since, and says how far that is.
 room=$crate/out/room
 proved=$crate/out/crates.log
-kept=$crate/out/kept.txt
 unwritten="can't write to $room; see that there is space, and that you may write there"
 
 is_built() {
@@ -25,46 +24,32 @@ lines() {
         }' "$here/crates.txt"
 }
 
-# Copies a crate into the room, but for what is there already and for what is made: out/ stays, and with it what was proved.
-lay_out_crate() {
-    mkdir -p "$room/crates/$1" || return 1
-    for part in "$room/crates/$1"/*; do
-        name=${part##*/}
-        [ "$name" = out ] || [ -e "$here/crates/$1/$name" ] || rm -rf "$part"
-    done
-    for part in "$here/crates/$1"/*; do
-        name=${part##*/}
-        [ "$name" != out ] || continue
-        if ! diff -r "$part" "$room/crates/$1/$name" >/dev/null 2>&1; then
-            rm -rf "$room/crates/$1/$name" && cp -R "$part" "$room/crates/$1" || return 1
-        fi
-    done
-}
-
-# The room is a copy of the crates, in which what was proved stays: so a build that was interrupted goes on, and behind a change only the
-# crate and those above it are proved again. It also lists the crates that an earlier run has proved.
+# The room is a copy of these crates without their must-fail edits and their tests, so that the toolchain's gate there proves the
+# crates, builds the program, and tries no more. What it proved stays beside the toolchain: so a build that was interrupted goes on
+# where it was, and behind a change only the crate and those above it are proved again.
 lay_out() {
-    mkdir -p "$room/crates" && lines >"$room/crates.txt" && cp "$here/HANDLES" "$room" && : >"$kept" || return 1
-    for old in "$room/crates"/*; do
-        grep -q "^${old##*/}[ :]" "$room/crates.txt" || rm -rf "$old"
-    done
+    rm -rf "$room" && mkdir -p "$room/crates" && lines >"$room/crates.txt" && cp "$here/HANDLES" "$room" || return 1
     for listed in $(sed 's/[ :].*//' "$room/crates.txt"); do
-        lay_out_crate "$listed" || return 1
-        [ ! -e "$room/crates/$listed/out/proved" ] || echo "$listed" >>"$kept"
+        mkdir "$room/crates/$listed" || return 1
+        for part in "$here/crates/$listed"/*; do
+            case ${part##*/} in out | must-fail) continue ;; esac
+            cp -R "$part" "$room/crates/$listed" || return 1
+        done
+        [ ! -e "$room/crates/$listed/src/tests.rt" ] || : >"$room/crates/$listed/src/tests.rt" || return 1
     done
 }
 
-# How many crates are proved, of how many below the program, and about how many minutes are left, by the seconds of docs/WORKING.md's
-# table: as fast as it went since the build was begun, and at first as if half of the processors were at work.
+# How many crates are proved, of how many, and about how many minutes are left, by the seconds of docs/WORKING.md's table: as fast
+# as it went since the build was begun, and at first as if half of the processors were at work.
 count_crates() {
     awk -v gone="$1" -v processors="$(nproc)" '
         function seconds(name) { return name in cost ? cost[name] : 60 }
         part == "times" && split($0, column, / *[|] */) > 3 { cost[column[2]] = column[3] + 0 }
-        part == "names" { sub(/[ :].*/, ""); all += seconds($0); if ($0 != "os_main") count++ }
-        part == "kept" { is_kept[$1] = 1; all -= seconds($1) }
-        part == "proved" && $1 == "==" && $2 != "summary" { proved++; if (!($2 in is_kept)) done += seconds($2) }
+        part == "names" { sub(/[ :].*/, ""); count++; all += seconds($0) }
+        part == "proved" && $1 == "rt:" && $3 == "proved" { proved++; done += seconds($2) }
+        part == "proved" && $1 == "rt:" && $3 == "is" && $4 == "kept:" { proved++; all -= seconds($2) }
         END { print proved + 0, count, int((all - done) * (gone + 120) / (done + 60 * processors) / 60 + 0.5) }
-    ' part=times "$here/docs/WORKING.md" part=names "$room/crates.txt" part=kept "$kept" part=proved "$proved"
+    ' part=times "$here/docs/WORKING.md" part=names "$room/crates.txt" part=proved "$proved"
 }
 
 # One line that goes on in place at a terminal, and elsewhere a line at every tenth crate and at the last one.
@@ -96,11 +81,11 @@ heed_signal() {
     end_by "$caught"
 }
 
-# Proves the crates. What fails is told by the build behind it.
+# Proves the crates and builds the program. The gate, which runs it too, ends with a status above 0 where any of that fails.
 prove() {
     lay_out 2>/dev/null || give_up "$unwritten"
     : >"$proved"
-    python3 "$here/tools/os_build.py" "$room" "$here/docs/WORKING.md" >"$proved" 2>&1 9>&- &
+    (cd "$room" && exec rt ci) </dev/null >"$proved" 2>&1 9>&- &
     child=$!
     while [ -z "$caught" ] && kill -0 "$child" 2>/dev/null; do
         tell_progress
@@ -109,20 +94,11 @@ prove() {
     await
     heed_signal
     tell_progress
-}
-
-# Builds the program. An empty input ends a session at once, with status 0.
-make_program() {
-    [ ! -t 2 ] || printf '\ros: %-75s' 'all crates proved, building the program' >&2
-    (cd "$room/crates/os_main" && exec rt run -- session) </dev/null >"$crate/out/build.log" 2>&1 9>&- &
-    child=$!
-    await
-    heed_signal
     [ ! -t 2 ] || printf '\r%79s\r' '' >&2
-    [ "$status" -eq 0 ] || give_up "$crate/out/build.log says why"
-    # What is kept of a check, beside what it proved, is of use to who changes that crate.
-    rm -rf "$room"/crates/*/out/incremental "$program"
+    [ "$status" -eq 0 ] || give_up "$proved says why"
+    rm -f "$program"
     cp "$room/crates/os_main/out/os_main" "$program" || give_up "$unwritten"
+    rm -rf "$room"
     say "built in $((($(date +%s) - begun) / 60)) min"
 }
 
@@ -141,9 +117,6 @@ build() {
     begun=$(date +%s)
     tens=0
     told=
-    if ! is_built; then
-        prove
-        make_program
-    fi
+    is_built || prove
     exec 9>&-
 }
