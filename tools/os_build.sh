@@ -26,9 +26,10 @@ lines() {
 
 # The room is a copy of these crates without their must-fail edits and their tests, so that the toolchain's gate there proves the
 # crates, builds the program, and tries no more. What it proved stays beside the toolchain: so a build that was interrupted goes on
-# where it was, and behind a change only the crate and those above it are proved again.
+# where it was, and behind a change only the crate and those above it are proved again. The gate runs where a repository has its top,
+# which it knows by the folder .git.
 lay_out() {
-    rm -rf "$room" && mkdir -p "$room/crates" && lines >"$room/crates.txt" && cp "$here/HANDLES" "$room" || return 1
+    rm -rf "$room" && mkdir -p "$room/crates" "$room/.git" && lines >"$room/crates.txt" && cp "$here/HANDLES" "$room" || return 1
     for listed in $(sed 's/[ :].*//' "$room/crates.txt"); do
         mkdir "$room/crates/$listed" || return 1
         for part in "$here/crates/$listed"/*; do
