@@ -1,8 +1,7 @@
 # shellcheck shell=sh disable=SC2154
 # Read by ./os: proves and builds the program where its sources changed since, and says how far that is.
-room=$crate/out/room
 proved=$crate/out/crates.log
-unwritten="can't write to $room; see that there is space, and that you may write there"
+room= # the folder that the crates are laid out in
 
 is_built() {
     [ -x "$program" ] && [ -z "$(find "$here/crates.txt" "$here/crates" \( -name out -o -name must-fail \) -prune -o -type f ! -name '*.md' -newer "$program" -print)" ]
@@ -26,18 +25,24 @@ lines() {
 
 # The room is a copy of these crates without their must-fail edits and their tests, so that the toolchain's gate there proves the
 # crates, builds the program, and tries no more. What it proved stays beside the toolchain: so a build that was interrupted goes on
-# where it was, and behind a change only the crate and those above it are proved again. The gate runs where a repository has its top,
-# which it knows by the folder .git.
+# where it was, and behind a change only the crate and those above it are proved again. The room stands outside the checkout, where the
+# gate wants no second crates.txt, and the folder .git makes it the top of a repository, wherever it stands.
 lay_out() {
-    rm -rf "$room" && mkdir -p "$room/crates" "$room/.git" && lines >"$room/crates.txt" && cp "$here/HANDLES" "$room" || return 1
+    room=$(mktemp -d) && mkdir "$room/crates" "$room/.git" && lines >"$room/crates.txt" && cp "$here/HANDLES" "$room" || return 1
     for listed in $(sed 's/[ :].*//' "$room/crates.txt"); do
         mkdir "$room/crates/$listed" || return 1
         for part in "$here/crates/$listed"/*; do
             case ${part##*/} in out | must-fail) continue ;; esac
             cp -R "$part" "$room/crates/$listed" || return 1
         done
-        [ ! -e "$room/crates/$listed/src/tests.rt" ] || : >"$room/crates/$listed/src/tests.rt" || return 1
+        leave_out_tests "$here/crates/$listed" "$room/crates/$listed" || return 1
     done
+}
+
+# Takes a crate's tests out of its copy: the file that has them, its two lines in the root, and their proofs.
+leave_out_tests() {
+    [ -e "$2/src/tests.rt" ] || return 0
+    rm -rf "$2/src/tests.rt" "$2/proofs/tests" && sed '/^#\[cfg(test)\]$/{N;d;}' "$1/src/lib.rt" >"$2/src/lib.rt"
 }
 
 # How many crates are proved, of how many, and about how many minutes are left, by the seconds of docs/WORKING.md's table: as fast
@@ -68,15 +73,26 @@ tell_progress() {
     fi
 }
 
+remove_room() {
+    [ -z "$room" ] || rm -rf "$room"
+    room=
+}
+
 # Says why there is no program, and ends.
 give_up() {
+    remove_room
     say "not built: $1"
     exit 1
+}
+
+cant_write() {
+    echo "can't write to $1; see that there is space, and that you may write there"
 }
 
 # Where the build was interrupted, says so and ends.
 heed_signal() {
     [ -n "$caught" ] || return 0
+    remove_room
     [ ! -t 2 ] || echo >&2
     say "the build was interrupted; ./os goes on where it was"
     end_by "$caught"
@@ -84,7 +100,7 @@ heed_signal() {
 
 # Proves the crates and builds the program. The gate, which runs it too, ends with a status above 0 where any of that fails.
 prove() {
-    lay_out 2>/dev/null || give_up "$unwritten"
+    lay_out 2>/dev/null || give_up "$(cant_write "${TMPDIR:-/tmp}")"
     : >"$proved"
     (cd "$room" && exec rt ci) </dev/null >"$proved" 2>&1 9>&- &
     child=$!
@@ -98,14 +114,14 @@ prove() {
     [ ! -t 2 ] || printf '\r%79s\r' '' >&2
     [ "$status" -eq 0 ] || give_up "$proved says why"
     rm -f "$program"
-    cp "$room/crates/os_main/out/os_main" "$program" || give_up "$unwritten"
-    rm -rf "$room"
+    cp "$room/crates/os_main/out/os_main" "$program" || give_up "$(cant_write "$crate/out")"
+    remove_room
     say "built in $((($(date +%s) - begun) / 60)) min"
 }
 
 build() {
     command -v rt >/dev/null || give_up "the toolchain's command rt isn't on the PATH; README.md names the toolchain"
-    mkdir -p "$room" 2>/dev/null || give_up "$unwritten"
+    mkdir -p "$crate/out" 2>/dev/null || give_up "$(cant_write "$crate/out")"
     # A second ./os waits for the first one's build, and finds it done.
     exec 9>"$crate/out/lock"
     if command -v flock >/dev/null && ! flock -n 9; then

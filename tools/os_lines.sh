@@ -112,7 +112,7 @@ expect 'line without rt' "$(cat out err)" "os: not built: the toolchain's comman
 cat >bin/rt <<'RT'
 #!/bin/sh
 [ "$*" = ci ] || exit 9
-find . -name '*.edit' -o -name tests.rt -size +0 >"$RT_LEFT"
+{ find . -name '*.edit' -o -name 'tests*' && grep -r '^#.cfg' crates; } >"$RT_LEFT"
 for listed in $(sed 's/[ :].*//' crates.txt); do
     if [ "$listed" = fraction ] && [ -n "${RT_STOPS-}" ]; then
         echo $$ >"$RT_PID"
@@ -131,11 +131,15 @@ RT
 chmod +x bin/rt
 make_stub
 mv crates/os_main/out/os_main bin/stub
-export PATH="$room/bin:$PATH" RT_PID="$room/rt_pid" RT_STUB="$room/bin/stub" RT_SEEN="$room/seen" RT_LEFT="$room/left"
+export PATH="$room/bin:$PATH" RT_PID="$room/rt_pid" RT_STUB="$room/bin/stub" RT_SEEN="$room/seen" RT_LEFT="$room/left" TMPDIR="$room/rooms"
+mkdir "$TMPDIR"
 count=$(sh -c 'here=. crate=. program=. && . tools/os_build.sh && lines' | wc -l)
 mkdir crates/os_io/must-fail
 echo 'file: src/lib.rt' >crates/os_io/must-fail/one.edit
+mkdir -p crates/os_io/proofs/tests
 echo '// tests' >crates/os_io/src/tests.rt
+echo '-- tests' >crates/os_io/proofs/tests/Answers.antt
+printf '#[cfg(test)]\nmod tests;\n' >>crates/os_io/src/lib.rt
 
 RT_FAILS=yes ./os generate 1 >out 2>err
 expect 'status of a build that fails' $? 1
@@ -165,9 +169,12 @@ mv crates/os_main/out crates/os_main/aside
 : >crates/os_main/out
 ./os generate 1 >out 2>err
 expect 'status where nothing can be written' $? 1
-expect 'line where nothing can be written' "$(cat out err)" "os: not built: can't write to $room/crates/os_main/out/room; see that there is space, and that you may write there"
+expect 'line where nothing can be written' "$(cat out err)" "os: not built: can't write to $room/crates/os_main/out; see that there is space, and that you may write there"
 rm crates/os_main/out
 mv crates/os_main/aside crates/os_main/out
+TMPDIR=$room/none ./os generate 1 >out 2>err
+expect 'status where no room can be made' $? 1
+expect 'line where no room can be made' "$(cat out err)" "os: not built: can't write to $room/none; see that there is space, and that you may write there"
 
 : >seen
 echo '// changed' >>crates/os_io/src/lib.rt
@@ -178,7 +185,7 @@ expect 'what was changed is proved' "$(grep -c '^// changed' seen)" 1
 expect 'a crate that the program needs is proved' "$(grep -c '^// os_app$' seen)" 1
 expect 'no other crate is proved' "$(grep -c '^// try_runs$' seen)" 0
 expect 'neither edits nor tests are tried' "$(cat left)" ''
-expect 'nothing is left of the room' "$(ls crates/os_main/out | tr '\n' ' ')" 'crates.log lock os_main '
+expect 'what a build makes' "$(ls crates/os_main/out | tr '\n' ' ')" 'crates.log lock os_main '
 expect 'first line of a build' "$(sed -n 's/ about .*//p' err | head -n 1 | sed 's/^os: [0-9]* /os: N /')" "os: N of $count crates proved, 0 min gone,"
 expect 'last lines of a build' "$(sed 's/about [0-9]* min/about N min/' err | tail -n 2)" "os: $count of $count crates proved, 0 min gone, about N min left
 os: built in 0 min"
@@ -200,6 +207,8 @@ echo '// changed' >>crates/os_io/src/lib.rt
 seen=$(at_terminal './os generate 1' </dev/null)
 expect 'a build at a terminal' "$(has "os: $count of $count crates proved, 0 min gone, about 0 min left" "$seen")" yes
 expect 'the end of a build at a terminal' "$(has 'os: built in 0 min' "$seen")" yes
+expect 'nothing is left of the rooms' "$(ls "$TMPDIR")" ''
+unset TMPDIR
 
 # ---- statuses
 
