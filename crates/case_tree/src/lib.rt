@@ -1,9 +1,9 @@
 //! The cases of a tree over whole variables, one after the other, with an instance's variables cut in place.
 //!
-//! A walk through a tree of cases (Land and Doig, 1960) has one list of variables and, for each branch above the case at
-//! hand, what the branch's variable was before. [`enter`] goes to the first case of a branch, [`back`] to the next second
-//! case that is still to come. Contracts see the cases that are still to come as instances: a branch puts two in place of
-//! one. A step costs the branches that it goes back over, and takes no memory.
+//! A walk through a tree of cases (Land and Doig, 1960) has one list of variables and, for each [`Branch`] above the case at
+//! hand, what the branch's variable was before. [`is_branch`] says where one may be, [`enter`] goes to the first case of a
+//! branch, [`back`] to the next second case that is still to come. Contracts see the cases that are still to come as
+//! instances: a branch puts two in place of one. A step costs the branches that it goes back over, and takes no memory.
 //!
 //! `numbers` compares fractions, and turns values of the goal, as both a checker and a search do.
 #![tactic(auto)]

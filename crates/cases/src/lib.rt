@@ -4,11 +4,13 @@
 //! call is given, in one field or more, and what it must answer, with a tab between each two. In a field `\n`, `\r`,
 //! `\t`, `\\` and `\x` with two hexadecimal digits stand for one byte, so a field can hold any bytes.
 //!
-//! [`DocumentCases`] answers cases for documents of a kind, which are read and written.
+//! [`Answers`] is what answers cases, and [`DocumentCases`] answers those for [`Documents`] of a kind, which are read and
+//! written.
 //!
-//! [`try_file`] has each case of a file answered, writes a line for each whose answer is another, and counts them all.
-//! [`gather`] and [`compare`] go through a table whose cases are answered together. [`Tables`] are the files of a program, which says last how many cases they had. The other functions are what the
-//! answers of many tables need.
+//! [`try_table`] has each case of a table answered, writes a line for each whose answer is another and for each line that is
+//! no case, and counts the cases; [`try_file`] does so for the table in a file. [`gather`] and [`compare`] go through a table
+//! whose cases are answered together. [`Tables`] are the files of a program, which says last how many cases they had. The
+//! other functions are what the answers of many tables need.
 #![tactic(auto)]
 
 mod documents;

@@ -2,7 +2,7 @@
 //!
 //! [`check`] reads a claim beside its instance and trusts nobody who made it. Its answer is `Ok` exactly where
 //! `evidence` accepts the claim, whose law says that what is accepted is true; else it is the first of the reasons for
-//! which the claim is refused, in the order in which `specs` states the checks: the point, then the direction or the
+//! which the claim is [`Refused`], in the order in which `specs` states the checks: the point, then the direction or the
 //! tree of cases, node by node. Each number is a fraction of 128 bits, and a sum that doesn't fit is a reason too.
 //!
 //! The tree is walked in a loop: the cuts of the case at hand are kept beside what they replaced, in room that

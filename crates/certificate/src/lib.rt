@@ -1,8 +1,9 @@
 //! Claims about linear and integer programs, and the certificates that they carry.
 //!
-//! A [`Claim`] says that a point is optimal, that none is feasible, that feasible points have no best value, or which
-//! point was the best when a search stopped, and [`Cause`] why it stopped. A [`Cert`] shows the first two: the nodes, in
-//! preorder, of a tree of cases over whole variables (Land and Doig, 1960), whose leaves hold multipliers (Chvátal, Linear
+//! A [`Claim`] says that a [`Point`] is optimal, that none is feasible, that feasible points have no best value, which
+//! point was the best when a search stopped, or nothing. [`Cause`] says why a search stopped; at a number that was too wide
+//! it has the [`Place`] and the [`Step`]. A [`Cert`] shows the first two: the [`Node`]s, in preorder, of a tree of cases
+//! over whole variables (Land and Doig, 1960), whose leaves hold multipliers ([`Mults`], each a [`Mult`]; Chvátal, Linear
 //! Programming, 1983, chapters 5 and 8). A [`Ray`] shows the third.
 //!
 //! Contracts see each list as a list, and a claim as these lists; `specs` has what each means in `evidence`'s sense. Nothing

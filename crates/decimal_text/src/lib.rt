@@ -3,8 +3,8 @@
 //! Decimals have the lexical form of a double (XML Schema part 2, section 3.2.5), bounds the infinities besides;
 //! counts and whole numbers are that page's nonNegativeInteger and integer. White space round these is dropped. Ratios
 //! are this project's own form, `-2/3`, in lowest terms and without white space. A value is exact or refused, never
-//! rounded, and digits of any length are read without a wider number. A text that is none is refused where its longest
-//! prefix ends that begins some text of the grammar. Reading takes no memory. A fraction is
+//! rounded, and digits of any length are read without a wider number. A text that is none is refused, by a [`DecimalFault`],
+//! where its longest prefix ends that begins some text of the grammar. Reading takes no memory. A fraction is
 //! written as a ratio, as a whole decimal text where it has one, or cut towards zero to twelve decimals; after an error
 //! the text that was to be written to is as before. What was written as a ratio or a whole decimal is read as the same
 //! fraction, and the digits of a count or a whole number as that number.

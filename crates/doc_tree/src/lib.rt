@@ -1,9 +1,11 @@
-//! Reads XML documents into trees.
+//! Reads XML documents into trees, or tells a visitor what they say.
 //!
 //! [`read`] gives the tree of a document of XML 1.0 in this project's profile (`docs/rules/trees.md`), and a [`Reader`]
 //! of one that comes in pieces. They answer exactly the documents within a limit of bytes and a depth of 32, each with
-//! its one tree. [`write()`] gives the text of a tree, [`write_to`] writes it to a sink, and [`escape()`] gives the text
-//! of character data.
+//! its one tree. [`Events`] tell a [`Visitor`] of one's own what such a document says, without a tree: start tags with
+//! their attributes, characters in any pieces, end tags, in document order. A `Reader` is `Events` whose visitor builds a
+//! tree. [`write()`] gives the text of a tree, [`write_to`] writes it to a sink, and [`escape()`] gives the text of
+//! character data.
 //!
 //! What is refused, but for want of memory, has the refusal that `Refusals` defines by the bytes and the grammar alone:
 //! the first byte decides it behind which no document goes on, or which is one too many, begins an element that is too
@@ -14,7 +16,8 @@
 //! A machine takes the document byte by byte, behind a layer that makes line ends normal. At each place of the machine
 //! a relation says which bytes complete the document from there and what it then says; a step keeps that both ways, or
 //! shows that nothing completes it. Beside it a smaller machine takes the UTF-8 of each character in the same way. They
-//! keep the tree so far, the names of the open elements, and one name, value or reference, and don't recurse.
+//! keep what is still to be told, the names of the open elements and of one tag's attributes, and one name, value or
+//! reference, and don't recurse.
 #![tactic(auto)]
 
 mod builder;

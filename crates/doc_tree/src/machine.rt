@@ -167,6 +167,7 @@ pub(crate) struct Machine {
     in_value: bool,
     number: u32,
     radix: u32,
+    /// What was read and is still to be told. No tree is built here.
     builder: Telling,
 }
 

@@ -1,9 +1,10 @@
 //! What an instance's document and a result document say together: whether the claim that the second carries is shown of the
 //! first's instance.
 //!
-//! [`check_docs`] reads both, has `cert_checker` check the claim, and says what is accepted, or why nothing is: the first
-//! document is refused; the second is; or the claim is. [`answer_text`] says its answer in words. What accepted documents claim is
-//! true ([`accepted_documents_are_true`]), and two documents have one answer ([`documents_have_one_answer`]).
+//! [`check_docs`] reads both, has `cert_checker` check the claim, and says which [`Kind`] of claim is accepted, or by a
+//! [`CheckFault`] why none is: the first document is refused; the second is; or the claim is, or there is none. [`answer_text`]
+//! says its answer in words. What accepted documents claim is true ([`accepted_documents_are_true`]), and two documents have one
+//! answer ([`documents_have_one_answer`]).
 #![tactic(auto)]
 
 mod documents;

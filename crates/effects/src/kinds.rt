@@ -1,4 +1,4 @@
-//! What a call of the table changes.
+//! What a move of the table changes.
 
 /// A document, which is missing for want of memory.
 #[derive(Clone, Copy, Debug)]
@@ -7,7 +7,8 @@ pub enum Document<'a> {
     Kept { text: &'a [u8] },
 }
 
-/// What a call of the table changes. A job is named by its number; texts are borrowed.
+/// What a move of the table changes, or with which number its numbers begin. A job is named by its number; texts are
+/// borrowed.
 #[derive(Clone, Copy, Debug)]
 pub enum Effect<'a> {
     /// A new job, with its number alone.

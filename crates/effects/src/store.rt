@@ -31,7 +31,7 @@ pub trait Store {
     /// How often a call of its disk has failed, at most 2^64 - 1.
     ghost faults: { Self → ℕ };
 
-    /// Stores an effect behind those that are kept. At an error no effect more is kept.
+    /// Stores an effect behind those that are kept. At an error what was kept stays.
     fn put(&mut self, effect: &Effect) -> Result<(), NotStored>
         ensures { Puts keeps too_long broken faults (deed_of effect.now) self.old (fault_of result) self.new };
 }

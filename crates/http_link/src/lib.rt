@@ -3,21 +3,22 @@
 //! What is read is read from a [`Feed`], as each source is one. [`Carried`] is one that reads ahead of a link, so that reading byte by
 //! byte costs little.
 //!
-//! [`read_request_into`] takes one request and not a byte more. It says what its bytes were: a head that is accepted with a
-//! body of its length, a head that is refused with the first refusal in the order of the checks, or a cut. A head has
-//! at most 16,384 bytes, the empty lines before it among them, and 64 field lines, a body at most 4,194,304 bytes. The body
-//! goes in pieces of at most 4,096 bytes to a [`Body`](os_io::Body), and nobody holds it whole.
+//! [`read_request_into`] takes one request and not a byte more. It says what its bytes were ([`Incoming`]): a [`Head`] that is
+//! accepted with a body of its length, a head that is refused with the first [`Refusal`] in the order of the checks, or a cut. A
+//! head has at most 16,384 bytes, the empty lines before it among them, and 64 field lines, a body at most 4,194,304 bytes. The
+//! body goes in pieces of at most 4,096 bytes to a [`Body`](os_io::Body), and nobody holds it whole.
 //!
 //! Bytes begin with one request at most, and bytes that are cut or end between requests begin with none; laws say so.
 //! So where no read fails and there is memory, the bytes alone decide what [`read_request_into`] answers. Where a read fails, it
-//! has taken a first part of that request, and where there is no memory a first part of its head, or all of that, and not a byte more.
+//! has taken a first part of that request, and where there is no memory a first part of its head, or all of that, and not a byte
+//! more ([`LinkFault`]).
 //!
 //! [`write_answer`], [`write_fault_answer`] and [`write_refusal`] write a response whole, or a first part of it where a
 //! write fails, and [`write_request`] a client's request. They take no memory.
 //!
 //! [`read_response`] takes what a client reads of the bytes that come, and not a byte more: a head, and a body with 200 and
-//! 500. It keeps those bytes, and says which response they are, exactly where they are one. The bytes that come decide
-//! which of them are read; what is written here is read back.
+//! 500. It keeps those bytes, and says which [`Response`] they are, exactly where they are one ([`Came`]). The bytes that come
+//! decide which of them are read; what is written here is read back.
 #![tactic(auto)]
 
 mod carried;

@@ -1,3 +1,5 @@
+//! How requests are refused.
+
 /// Why a request isn't answered, each with the status that says so.
 #[derive(Clone, Copy, PartialEq, Eq, Drop)]
 pub enum Refusal {

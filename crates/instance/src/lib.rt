@@ -1,13 +1,14 @@
 //! Instances of linear and integer programs, and which points they allow.
 //!
-//! An [`Instance`] has variables and rows, each between two ends, the entries of its matrix, and a goal. [`Instance::of`]
-//! makes one of its parts exactly where they are valid, and its readers lend them again; contracts see the instance as
-//! these parts. What it means is a program in `evidence`'s sense: columns are the variables and then the rows, an infinite
-//! end asks nothing, and a whole variable has whole values (Chvátal, Linear Programming, 1983).
+//! An [`Instance`] has variables ([`Var`]) and rows ([`Row`]), each between two ends, the entries of its matrix, and a
+//! [`Goal`], which has [`Costs`] and a [`Sense`]. [`Instance::of`] makes one of its parts exactly where they are valid, and
+//! its readers lend them again; contracts see the instance as these parts. What it means is a program in `evidence`'s
+//! sense: columns are the variables and then the rows, an infinite end asks nothing, and a whole variable has whole values
+//! (Chvátal, Linear Programming, 1983).
 //!
-//! [`Instance::feasible`] and [`Instance::objective_at`] are exact: each number is a fraction of 128 bits, and the answer
-//! is `Wide` exactly where a stated sum doesn't fit. A sum goes from its start over its terms in ascending order; a term
-//! with a factor 0 is left out. No call takes memory.
+//! [`Instance::feasible`], which answers [`Feas`], and [`Instance::objective_at`] are exact: each number is a fraction of
+//! 128 bits, and the answer is `Wide` exactly where a stated sum doesn't fit. A sum goes from its start over its terms in
+//! ascending order; a term with a factor 0 is left out. No call takes memory.
 #![tactic(auto)]
 
 mod checks;

@@ -9,7 +9,7 @@
 //! exactly these, and a crash while it opens leaves a file that stands for them too. It answers that a file is damaged only where
 //! it is, and never of one that stands for effects that are possible and accepted. So it is for every [`Disk`](disks::Disk) that
 //! tells what it holds, every [`Replay`](effects::Replay) and every [`Sieve`]. A journal is a [`Store`](effects::Store), whose word for
-//! these effects is that it keeps them.
+//! these effects is that it keeps them. [`OpenFault`] is why a file wasn't opened, and [`NotStored`] why an effect wasn't stored.
 #![tactic(auto)]
 
 mod contents;

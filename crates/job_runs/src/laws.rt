@@ -1,4 +1,4 @@
-//! What holds of runs in every history of calls from an empty table on.
+//! What holds of runs in every history of moves from an empty table on.
 ghost use Rattle.job_runs.specs.Laws.{RunsAreKept};
 
 use crate::runner::Runner;

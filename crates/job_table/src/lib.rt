@@ -1,18 +1,19 @@
-//! The job table: what each call of it answers, and what it leaves.
+//! The job table: what each move of it answers, and what it leaves.
 //!
 //! A job gets a number, is sent its texts, waits until somebody claims it, runs, and is finished with a document; or it is
 //! entered with its texts and runs at once. Whoever runs it looks whether it is asked to stop. A kill of a job that doesn't run
-//! yet ends it, of one that runs asks it to stop, of one that is over gives up its record. [`Table`] has one call for each of
+//! yet ends it, of one that runs asks it to stop, of one that is over gives up its record. [`Table`] has one method for each of
 //! these, as the calls of Optimization Services ask for (Optimization Services manual, the calls `getJobID`, `send`, `solve`,
 //! `kill`, `retrieve` and `knock`), and [`moves`] has each as a value with its own type of answer. Contracts see the jobs in
 //! order of issue, the number with which numbers begin, how many were given, and how many workers are enlisted; histories have
 //! each move as a [`Call`] with its [`Reply`], and for each one row of `specs/Steps.antt` says what it answers and what it
 //! leaves.
 //!
-//! A document of a job is right where [`Verdicts`] says so, and a finish asks for one that is. [`Calls`] is who makes moves: a
-//! table's owner, or one of many who share it; [`CallsWatch`] asks them whether a job is to stop. [`write_id`] and [`read_id`]
-//! know the texts that name jobs. What holds of every history of calls is said by four laws, [`given_jobs_run`],
-//! [`numbers_are_given_once`], [`first_finish_is_kept`] and [`documents_are_right`].
+//! A [`Job`] is what whoever runs one is given, [`Phase`] how far one has come, with what the table keeps of it, and
+//! [`State`] without that. A document of a job is right where [`Verdicts`] says so, and a finish asks for one that is.
+//! [`Calls`] is who makes moves: a table's owner, or one of many who share it; [`CallsWatch`] asks them whether a job is to
+//! stop. [`write_id`] and [`read_id`] know the texts that name jobs. What holds of every history of moves is said by four
+//! laws, [`given_jobs_run`], [`numbers_are_given_once`], [`first_finish_is_kept`] and [`documents_are_right`].
 //!
 //! [`Table::plan`] tells what a move would change, as an effect that can be kept (`effects`); what that leads to is what the move
 //! leaves ([`plans_are_so`]). A move may be made once its effect is stored (`make_kept` of [`moves::Move`]). [`Remade`] makes such

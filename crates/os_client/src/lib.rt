@@ -6,9 +6,9 @@
 //! which are kept, or a read, a write or memory that failed. The bytes that came decide the answer, each exactly; what
 //! came are those that a client reads (`http_link::read_response`).
 //!
-//! [`make_call`] reads the files that are named, connects, makes the call over the link, gives the link back, and writes what the
-//! bytes that came on it say: the text that the call returns, a line for a fault or another status of HTTP, or those bytes where
-//! they are no reply. Its contract is one definition, `CallEnds`: each way to end has its status and its cause.
+//! [`make_call`] reads the files that its [`CallWords`] name, connects, makes the call over the link, gives the link back, and writes
+//! what the bytes that came on it say: the text that the call returns, a line for a fault or another status of HTTP, or those bytes
+//! where they are no reply. Its contract is one definition, `CallEnds`: each way to end has its status and its cause.
 //!
 //! Laws: bytes have one answer; what a server writes for a call is answered with the text that it returns, and is told as the server
 //! meant it; and a status of HTTP is told with the digits that came.

@@ -1,5 +1,9 @@
 //! The outside: bytes that come and go, files, listeners and looks at whether to stop, each with its count.
 //!
+//! Bytes come on a [`Source`], go on a [`Sink`], and do both on a [`Link`]. [`Files`] are read by name, a [`Listener`] gives
+//! links, and a [`Watch`] is asked whether to stop. A [`Text`] is a list of bytes that grows, and [`Memory`] the error where
+//! there was none.
+//!
 //! What an object tells of its bytes is part of each contract: a read says which bytes it took, a write which it
 //! added, a flush that all that was written was handed on. A call answers [`Failed`] only where the object's count of
 //! faults rose in that call, so whoever counts can see why. Real inputs and outputs tell nothing of their bytes; the

@@ -2,9 +2,9 @@
 //!
 //! `session` serves the requests that come on the standard input, and writes the answers to the standard output. `check OSIL
 //! OSRL` reads an instance and a result from two files and says whether what is claimed is shown, `solve OSIL [--options
-//! OSOL]` writes the result document of an instance, and `generate N` says how a generated one was solved. `serve` serves
-//! connections over TCP, and `call` makes a call of such a server. The program is [`os_app::run`] over the real words, files,
-//! input, output and links, and ends with its status.
+//! OSOL] [--safe]` writes the result document of an instance, and `generate N` says how a generated one was solved. `serve`
+//! serves connections over TCP, and `call` makes a call of such a server. The program is [`os_app::run`] over the real words,
+//! files, input, output and links, and ends with its status.
 #![tactic(auto)]
 
 use os_app::{exit_code, run};

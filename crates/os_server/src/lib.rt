@@ -4,12 +4,14 @@
 //! no memory to begin. Their contract is one definition, `Talk`: the bytes read are
 //! requests and a last part, the moves of the table of jobs that are made are those that the requests ask, in their order, and the
 //! bytes written are the answers, each a function of its request and of the table's replies. Behind each answer that is 200
-//! or 500 a job that waits is claimed and run. Each way in which a conversation ends comes exactly where the definition says. Where a
-//! read fails, each whole request that was read was answered, also of a link that is read ahead.
+//! or 500 a claim is made, and a job that it gives is run. Each way in which a conversation ends comes exactly where the definition
+//! says. Where a read fails, each whole request that was read was answered, also of a link that is read ahead.
 //! A request's body is read as a call while it comes, and its bytes aren't held beside what is read of it.
 //! Without a fault, and with memory, the bytes that come decide how they are cut into requests, and with the table's replies they
 //! decide the bytes written; laws say so.
 //! Whoever makes the moves may be a table's owner or one of many who share it, and whatever runs the jobs is a [`Server`].
+//! [`Served`] is how a conversation ended, [`Order`] what a request asks, and [`Said`] the envelope that answers it; where that is a
+//! fault, a [`FaultCode`] is its code.
 //!
 //! The rules are in `docs/rules/conversations.md`.
 #![tactic(auto)]

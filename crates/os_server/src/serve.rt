@@ -136,8 +136,9 @@ pub fn turn_away<I: Source, O: Sink, V: Verdicts, S: Server<V>>(
 }
 
 /// Serves a link, and gives it back: its requests are read and answered one after another, each by the moves that it asks, and
-/// behind each answer that is 200 or 500 a job that waits is run. The link is read ahead in large pieces, and what was read past
-/// the conversation's end is given up. Where a read fails, every whole request that had come before it was answered.
+/// behind each answer that is 200 or 500 a claim is made, and a job that it gives is run. The link is read ahead in large pieces,
+/// and what was read past the conversation's end is given up. Where a read fails, every whole request that had come before it was
+/// answered.
 pub fn serve_one<L: Link, V: Verdicts, C: Calls<V>, S: Server<V>>(
     alloc: Global,
     link: L,

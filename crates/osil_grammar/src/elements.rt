@@ -46,7 +46,8 @@ pub enum Place {
     El(Listing),
 }
 
-/// Where a start tag leads.
+/// Where a start tag leads. Here an element that may not stand there is refused, and elements that are passed over have a
+/// place, [`Place::Passed`]; so `tag_tests::Led`, by which others are passed over wherever they stand, isn't used.
 #[derive(Clone, Copy, PartialEq, Eq, Drop)]
 pub enum Led {
     /// Into an element that may stand there.

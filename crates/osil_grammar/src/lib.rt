@@ -1,8 +1,9 @@
 //! What OSiL documents say (Optimization Services instance language, its linear and integer part).
 //!
-//! [`decode`] gives the instance that a document stands for, or why it is none: the first thing in the order of tags
-//! that is wrong with it, with the ordinal of its element. A [`Decoder`] answers the same of one that comes in pieces.
-//! [`encode`] writes an instance as a document, and [`refusal_text`] says in words why a document is refused.
+//! [`decode`] gives the instance that a document stands for, or why it is none ([`OsilFault`]): the first [`Refusal`] in the
+//! order of tags, with the ordinal of its element. A [`Decoder`] answers the same of one that comes in pieces. [`encode`]
+//! writes an instance as a document, or says why it has none ([`EncodeFault`]), and [`refusal_text`] says in words why a
+//! document is refused.
 //!
 //! The grammar is a table, `specs/Table.antt`: what may stand in what, and for each kind of mark (a start tag, characters,
 //! an end tag) the tests that it has to pass, in the order in which they refuse. `Failing` says when each test fails,

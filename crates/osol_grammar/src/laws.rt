@@ -13,7 +13,7 @@ ghost use Rattle.osol_grammar.specs.Reading.{DecodeFails};
 
 use document_tags::{documents_are_of_characters, texts_part_at_ascii};
 
-/// Law: a document says one kind of options at most, and so do bytes.
+/// Law: a document that says options says the same ones always, and so do bytes.
 pub fn document_says_one()
     ensures root { (root : Element) (o p : kinds.Options) → IsOptions root o → IsOptions root p → o ≡ p }
     ensures text { (bytes : List ℕ) (o p : kinds.Options) → IsOptionsText bytes o → IsOptionsText bytes p → o ≡ p }

@@ -1,8 +1,10 @@
 //! Process documents (Optimization Services process language, in this project's profile): what a client asks of the
 //! service's jobs, and how far they have come.
 //!
-//! [`decode`] gives the process that a document says, or why it says none. [`encode`] writes a process as a document, and
-//! [`comes_back`] says that this is the document of that process. [`refusal_text`] says in words why a document is refused.
+//! [`decode`] gives the [`Process`] that a document says, or why it says none ([`OsplFault`]). [`JobStates`] are the jobs that
+//! statistics tell, each a [`StatedJob`] with its [`JobState`]. [`encode`] writes a process as a document, and [`comes_back`]
+//! says that this process is read from it, if it can come back (`specs/Back.antt`). [`refusal_text`] says in words why a
+//! document is refused.
 //!
 //! The grammar is a table, `specs/Table.antt`: what may stand in what, and what each mark (a start tag, a character, an end
 //! tag) leaves of what is asked, and of the parts of statistics. A reader goes from mark to mark and holds no tree.

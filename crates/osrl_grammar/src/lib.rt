@@ -1,9 +1,10 @@
 //! Result documents (Optimization Services result language, in this project's profile): reports as documents say them.
 //!
-//! [`decode`] gives the report that a document says, or why it says none, and [`Decoder`] that of one which comes in
-//! pieces: a document is read mark by mark, and no tree of it is held. [`encode`] writes a report as a document, and
-//! [`comes_back`] says that this is the document of that report; [`reports_are_read_back`] says so of every report that was
-//! read. [`refusal_text`] says in words why a document is refused.
+//! [`decode`] gives the [`Report`] that a document says, or why it says none ([`OsrlFault`]), and [`Decoder`] that of one
+//! which comes in pieces: a document is read mark by mark, and no tree of it is held. A [`JobStatus`] is how far a report's
+//! job is. [`encode`] writes a report as a document. [`comes_back`] says that this is the document of that report, if the
+//! report can come back (`specs/Back.antt`), and [`reports_are_read_back`] that a report which was read is read again from
+//! it, if it isn't too long. [`refusal_text`] says in words why a document is refused.
 #![tactic(auto)]
 
 mod certificates;

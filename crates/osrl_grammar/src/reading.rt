@@ -10,8 +10,9 @@ use std::alloc::Global;
 
 /// The report that a result document is.
 ///
-/// [`OsrlFault::Tree`] where the bytes are no document within the limits, and the other faults exactly where they are
-/// one that is refused so.
+/// [`OsrlFault::Tree`] exactly where the bytes are no document within the limits, with the refusal of the first byte
+/// that decides one and its place. The other faults, but for want of memory, exactly where they are a document that is
+/// refused so.
 pub fn decode(alloc: Global, bytes: &[u8]) -> Result<Report, OsrlFault>
     ensures ok { IfOk result (IsReportText bytes.now) }
     ensures err { IfErr result (DecodeFails bytes.now) }

@@ -40,8 +40,8 @@ pub fn first_and_least_is_told()
     ensures { (root : Element) (f : OsrlFault) → IsRefused root f → IsFirstDecided osrl number start (marks root) f }
 {}
 
-/// Law: a claim that is read has fewer nodes than its document has bytes, and each split is at a number that a fraction
-/// has.
+/// Law: a claim that is read has fewer nodes than its document has bytes, and each split is at a number of at least
+/// -(2^127 - 1).
 pub fn read_claims_fit()
     ensures { (bytes : List ℕ) (r : Report) (c : Claim) → IsReportText bytes r → r.claim ≡ Some c → (length (nodes_of c) < length bytes) × All IsInRange (nodes_of c) }
 {

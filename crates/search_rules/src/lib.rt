@@ -9,8 +9,8 @@
 //! have no best value, the direction gives a ray, and the search goes on for any one point.
 //!
 //! `specs` has the definitions: `Search` the moments of a search, what comes after each, its outcomes, and what may be
-//! answered where memory is wanting; `Rays` the ray of a direction; `Shown` what an outcome shows. They stand on the runs of
-//! `simplex_rules`. Each function here is a law.
+//! answered where memory is wanting; `Rays` the ray of a direction; `Outcomes` what an outcome shows. They stand on the runs
+//! of `simplex_rules`. Each function here is a law.
 #![tactic(auto)]
 
 mod laws;

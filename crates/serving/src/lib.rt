@@ -9,8 +9,8 @@
 //! the job, and a result that says that a point is optimal, that none is feasible, or that points have no best value, is accepted by
 //! the checker from the document's own bytes, and is true; and in the table that is left no job waits.
 //!
-//! Which way of ending comes when is a table by [`Ending`] (`specs/Serving.antt`). What the clauses say of the whole service is gone
-//! through in `docs/HEADLINE.md`.
+//! How much is served is said by the setup's [`Limits`]. Which way of ending comes when is a table by [`Ending`]
+//! (`specs/Serving.antt`). What the clauses say of the whole service is gone through in `docs/HEADLINE.md`.
 #![tactic(auto)]
 
 mod ending;

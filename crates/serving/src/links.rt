@@ -1,4 +1,4 @@
-//! What serves links and runs jobs.
+//! How links are served and jobs are run here: each link by what is asked on it, each job by what solves it.
 ghost use Rattle.std.specs.Prelude.{◌≡◌};
 ghost use Rattle.serving.specs.Serving.{lacks_memory};
 

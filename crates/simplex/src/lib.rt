@@ -1,14 +1,14 @@
 //! Runs of the simplex method for linear programs with bounded columns, in exact fractions.
 //!
-//! [`Work::run`] solves one linear program: an instance with the ends that [`Cuts`] give its variables, as a node of a
+//! [`Work::run`] solves one linear program: an instance with the [`Ends`] that [`Cuts`] give its variables, as a node of a
 //! search has them. It goes from the first basis, in which the rows are basic, by Bland's rule of least indices in both
 //! phases (Bland, New finite pivoting rules for the simplex method, 1977), with flips of bounded columns (Chvátal, Linear
 //! Programming, 1983, chapters 3 and 8), to an [`LpEnd`]. What a run is stands in `simplex_rules` as definitions that read
 //! the one dictionary of each basis. The contract says that the answer is the end of that run, for each program that has
-//! these ends: the point, the multipliers and the direction are the run's, `done` rises by its turns, and the looks of the
-//! watch are its looks. By the laws there a run has one end, and what the end says is true of the program, so an answer
-//! that decides nothing names its true cause: the limit of turns, the first step at which a number doesn't fit, or the look
-//! that said to stop.
+//! these ends: the point, the multipliers and the direction are the run's, `done` of [`Turns`] rises by its turns, and the
+//! looks of the watch are its looks. By the laws there a run has one end, and what the end says is true of the program, so
+//! an answer that decides nothing names its true cause: the limit of turns, the first step at which a number doesn't fit,
+//! or the look that said to stop.
 //!
 //! A moment of a run is a list of statuses, one for each column, beside the dictionary of the basis. A turn is chosen before
 //! anything changes (`choosing`), then made, counted and maybe looked at (`turning`). Each turn forms the values of the basic

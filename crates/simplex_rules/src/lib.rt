@@ -11,7 +11,8 @@
 //! `specs` has the rules: `Statuses` what a basis is and what it makes of the columns' values, `Turns` which columns a turn
 //! takes, `Widths` where its numbers fit, `Runs` the moments of a run and what comes after each, `Ends` the ends and what
 //! they say, `Reports` the multipliers, points and directions that they carry, and `Looks` what the looks of a run
-//! answered. They read the one dictionary of each basis; no rule says how a dictionary is made. Each function here is a law.
+//! answered. They read the one dictionary of each basis; no rule says how a dictionary is made. [`Status`] is where a column
+//! stands, and [`Way`] whether a value rises or falls. Each function here is a law.
 #![tactic(auto)]
 
 mod columns;

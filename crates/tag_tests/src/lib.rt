@@ -1,14 +1,17 @@
-//! Which refusal a document is told whose grammar is a table: each mark has a kind, and each kind a list of tests.
+//! Which refusal a document is told whose grammar is a table: each mark has a list of tests, the first that fails refuses the
+//! document, and where all pass the mark leaves a state.
 //!
-//! A mark is a start tag, a character or an end tag, in document order. In the state that the marks before it leave it
-//! has a list of tests, in the order in which they refuse: the first that fails refuses the document, and where all pass
-//! the mark leaves a state. `Forms` defines this for whatever marks, states and tests there are, `Firsts` says the same
-//! in other words (of the first mark at which a test fails, the least refusal), and `Fields` is of numbers that are read
-//! together at one tag.
+//! A mark is a start tag, a character or an end tag, in document order. Its tests, in the order in which they refuse, depend on
+//! it and on the state that the marks before it leave. `Forms` defines this for whatever marks, states and tests there are;
+//! where marks have kinds, and each kind its tests, `Kinds` makes such a form of them. `Firsts` says the same in other words,
+//! where the tests stand in the order of their refusals: of the first mark at which a test fails, the least refusal. `Places`
+//! says what may stand in what, and which kinds of marks there are where elements of other names are passed over. `Fields` is
+//! of numbers that are read together at one tag.
 //!
-//! [`both`] joins what was read of two numbers, and [`value`] finds an attribute. Whoever says of each mark that it is taken, or
-//! how it is refused, is a [`MarkReader`]: a [`Decoder`] has it read a document that comes in pieces, and [`read_marks`] one in a
-//! whole. [`Led`], [`named`] and [`led_from`] say where the start tag of an element of some name leads.
+//! [`both`] joins what was read of two numbers, each of which may be [`Unread`], and [`value`] finds an attribute. Whoever says
+//! of each mark that it is taken, or by a [`Stop`] why it isn't, is a [`MarkReader`]: a [`Decoder`] has it read a document that
+//! comes in pieces, and [`read_marks`] one in a whole; a [`Course`] is what the marks so far came to. `Readers` says what all
+//! these promise. [`Led`], [`named`] and [`led_from`] say where the start tag of an element of some name leads.
 #![tactic(auto)]
 
 mod attributes;

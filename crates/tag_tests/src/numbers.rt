@@ -12,7 +12,7 @@ pub enum Unread {
     Wide,
 }
 
-/// Both numbers, or what is told of two.
+/// Both numbers, or `NotNumber` where one of them is so, and else `Wide`.
 pub fn both<A: Drop, B: Drop>(a: Result<A, Unread>, b: Result<B, Unread>) -> Result<(A, B), Unread>
     ensures { MatchResult result (λ x. (a ≡ Ok x.0) × (b ≡ Ok x.1)) (IsFirstOf a b) }
 {

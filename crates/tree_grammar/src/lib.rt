@@ -1,9 +1,9 @@
 //! XML documents of this project's profile, as definitions: what an element is (`Elements`), which
 //! bytes are a document and which element they hold (`Document`, after XML 1.0 and Namespaces in
-//! XML 1.0), and the text that an element is written as (`Written`).
+//! XML 1.0), and the text that an element is written as (`WrittenText`).
 //!
-//! The crate has no code that runs. Its functions are laws: each has nothing to do, and its
-//! contract is proved. A document's depth has the limit [`DEPTH`].
+//! The crate has no code that runs. Its function is a law: it has nothing to do, and its contract
+//! is proved. A document's depth has the limit [`DEPTH`].
 #![tactic(auto)]
 
 ghost use Rattle.std.specs.Prelude.{◌≡◌, List, [], ◌++◌, false};

@@ -1,4 +1,5 @@
-//! Tables of conversations: what is answered on a connection, and which calls of the table of jobs fall beside it.
+//! Tables of conversations: what is answered on a connection, also where another one is served between its moves of the same
+//! table of jobs.
 //!
 //! The tables' answers come from the rules (`docs/rules/conversations.md`, `jobs.md` and `http.md`). The output is a line for
 //! each answer that is another, and how many cases there are.

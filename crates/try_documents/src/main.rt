@@ -1,9 +1,9 @@
 //! Tables of documents: XML, the texts of numbers, instances, results, options, processes, and calls in their envelopes.
 //!
-//! The tables' answers come from the rules (XML 1.0, Namespaces in XML 1.0, XML Schema part 2, the Optimization Services manual, SOAP 1.1, and
-//! this project's profile of them, in `docs/rules/`). Texts and attributes' values are escaped. The output is a line for each answer that is
-//! another, and how many cases there are. Such lines are there for one table alone, whose answers are wrong: they show what is told of a
-//! wrong answer.
+//! The tables' answers come from the rules (XML 1.0, Namespaces in XML 1.0, XML Schema part 2, the Optimization Services manual,
+//! SOAP 1.1, and this project's profile of them, in `docs/rules/`). Texts and attributes' values are escaped. The output is a line
+//! for each answer that is another, and how many cases there are. Such lines are there for one table alone, whose answers are
+//! wrong: they show what is told of a wrong answer.
 #![tactic(auto)]
 
 mod calls;

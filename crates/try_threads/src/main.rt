@@ -1,6 +1,7 @@
 //! What no contract can say of the server's threads, seen in runs: that links are served side by side, that a link which ended is
-//! given back before an older one that still talks, that an answer is handed on before the next request is read, that workers run jobs while links are open, that a knock and a kill are answered while a job runs,
-//! and that over TCP a client reads its answer and then the end while another link is open.
+//! given back before an older one that still talks, that an answer is handed on before the next request is read, that workers run
+//! jobs while links are open, that a knock and a kill are answered while a job runs, and that over TCP a client reads its answer
+//! and then the end while another link is open.
 //!
 //! The output comes from the rules (`docs/rules/`): what is answered where it is so. Where it isn't, a thread waits so
 //! long at most, or a client asks so often at most, and something else is written.
