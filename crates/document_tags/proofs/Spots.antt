@@ -1,5 +1,5 @@
 -- Elements found at their places.
-use Rattle.std.proofs.Common.{◌≡◌, ◌∙◌, ℕ, suc, ◌+◌, ◌<◌, Bool, true, false, cond, bytes_eq, List, [], ◌∷◌, ◌++◌, Some, slice_get, get_or, length, drop, drop-cons, drop-drop, add-one, refl, ap, sym, subst, append_assoc, append-nil, arith}
+use Rattle.std.proofs.Common.{◌≡◌, ◌∙◌, ℕ, suc, ◌+◌, Bool, true, false, cond, bytes_eq, List, [], ◌∷◌, ◌++◌, Some, slice_get, drop, drop-drop, add-one, refl, ap, sym, subst, append_assoc, append-nil}
 use Rattle.tree_grammar.specs.Elements.{Attribute, Nodes, none, element, chars, Element, Event, Open, Chars, Close, nodes_events}
 use Rattle.document_tags.specs.Rests.{child_elements}
 use Rattle.document_tags.specs.declared.spot.Spot.{Spot}
