@@ -21,3 +21,4 @@ pub mod OneDecimal
 pub mod OneNumber
 pub mod PlainTexts
 pub mod RoundTrips
+pub mod Trims

@@ -1,9 +1,7 @@
 -- A document's names, values and texts are of characters of XML.
 use Rattle.std.proofs.Common.{◌≡◌, ℕ, ◌<◌, inl, inr, ◌==◌, Bool, true, false, cond, List, [], ◌∷◌, ◌++◌, refl, ap, sym, subst, arith, append-nil, lit<, lit≤}
-use Rattle.std.specs.Prelude.{codes, flat_map, bytes_eq}
-use Rattle.std.specs.List.{All}
+use Rattle.std.specs.Prelude.{codes}
 use Rattle.std.specs.Str.Parse.{digits_value}
-use Rattle.std.proofs.lemmas.List.Elements.{All-nil, All-cons, All-head, All-tail, All-append}
 use Rattle.tree_grammar.specs.Characters.{Each, Some1, IsXmlChar, IsXmlText, IsSpace, IsQName, behind_colon, local_part, Reference, reference_text, named, decimal, hexadecimal, amp, lt, gt, quot, apos, reference_chars}
 use Rattle.tree_grammar.specs.Tags.{IsQuote, Equals, equals_text, Value, value_over, value_plain, value_white, value_reference, value_text, value_chars, Attributes, no_attribute, attribute, attributes_text, attribute_list, is_kept, Tag, tag_text}
 use Rattle.tree_grammar.specs.Elements.{Attribute, Nodes, none, element, chars, Element}
@@ -12,8 +10,7 @@ use Rattle.tree_grammar.specs.Declaration.{Declaration, no_declaration, declared
 use Rattle.tree_grammar.specs.Document.{Document, document_text, document_element, mark_text, Doc}
 use Rattle.element_tree.proofs.XmlTexts.{Printable, qname_printable, list_printable, text_append}
 use Rattle.document_tags.specs.Characters.{AttributesOfCharacters, NodesOfCharacters, IsOfCharacters}
-use Rattle.document_tags.specs.Rests.{child_elements}
-use Rattle.document_tags.specs.Elements.{named as named_so, children_named, along, within, characters, own_text}
+use Rattle.document_tags.specs.Elements.{characters, own_text}
 use Rattle.document_tags.proofs.PrintableTexts.{printable_text}
 use Rattle.document_tags.proofs.TextCuts.{cut, no_text, char_text, low_text, behind_one, behind_printable, behind_space, low_space, one_more, one_less, lines_text}
 
@@ -232,32 +229,6 @@ document_on d text =
 -- all of a document
 pub document_of : (bytes : List ℕ) (root : Element) → Doc bytes root → IsOfCharacters root
 document_of bytes root doc = subst IsOfCharacters (sym doc.says) (document_on doc.document (subst IsXmlText doc.text (lines_text [] bytes doc.characters)))
-
--- all of the elements within one
-child_of : (nodes : Nodes) → NodesOfCharacters nodes → All IsOfCharacters (child_elements nodes)
-child_of none is = All-nil IsOfCharacters
-child_of (element name attributes children more) is = All-cons IsOfCharacters (record { name = name; attributes = attributes; children = children }) (child_elements more) (record { name = is.0; attributes = is.1; children = is.2 }) (child_of more is.3)
-child_of (chars text more) is = child_of more is.1
-
-named_of : (name : List ℕ) (es : List Element) → All IsOfCharacters es → All IsOfCharacters (named_so name es)
-named_of name [] is = is
-named_of name (e ∷ es) is = by_test (bytes_eq e.name name) (named_of name es (All-tail IsOfCharacters e es is))
-  where
-    by_test : (b : Bool) → All IsOfCharacters (named_so name es) → All IsOfCharacters (cond b (e ∷ named_so name es) (named_so name es))
-    by_test true rest = All-cons IsOfCharacters e (named_so name es) (All-head IsOfCharacters e es is) rest
-    by_test false rest = rest
-
-children_of : (name : List ℕ) (es : List Element) → All IsOfCharacters es → All IsOfCharacters (flat_map (children_named name) es)
-children_of name [] is = All-nil IsOfCharacters
-children_of name (e ∷ es) is =
-    All-append IsOfCharacters (children_named name e) (flat_map (children_named name) es) (named_of name (child_elements e.children) (child_of e.children (All-head IsOfCharacters e es is).children)) (children_of name es (All-tail IsOfCharacters e es is))
-
-along_of : (names : List (List ℕ)) (es : List Element) → All IsOfCharacters es → All IsOfCharacters (along names es)
-along_of [] es is = is
-along_of (name ∷ names) es is = along_of names (flat_map (children_named name) es) (children_of name es is)
-
-pub within_of : (e : Element) (names : List (List ℕ)) → IsOfCharacters e → All IsOfCharacters (within e names)
-within_of e names is = along_of names (e ∷ []) (All-cons IsOfCharacters e [] is (All-nil IsOfCharacters))
 
 -- an element's own text
 characters_of : (nodes : Nodes) → NodesOfCharacters nodes → IsXmlText (characters nodes)

@@ -1,15 +1,13 @@
 -- Elements found at their places.
-use Rattle.std.proofs.Common.{◌≡◌, ◌∙◌, ℕ, suc, ◌+◌, ◌<◌, Bool, true, false, cond, bytes_eq, List, [], ◌∷◌, ◌++◌, Some, slice_get, get_or, length, drop, drop-cons, drop-drop, add-one, refl, ap, sym, subst, append_assoc, append-nil, arith}
+use Rattle.std.proofs.Common.{◌≡◌, ◌∙◌, ℕ, suc, ◌+◌, Bool, true, false, cond, bytes_eq, List, [], ◌∷◌, ◌++◌, Some, slice_get, drop, drop-drop, add-one, refl, ap, sym, subst, append_assoc, append-nil}
 use Rattle.tree_grammar.specs.Elements.{Attribute, Nodes, none, element, chars, Element, Event, Open, Chars, Close, nodes_events}
 use Rattle.document_tags.specs.Rests.{child_elements}
 use Rattle.document_tags.specs.declared.spot.Spot.{Spot}
 use Rattle.document_tags.specs.Elements.{named, children_named, characters}
 use Rattle.std.specs.List.{AllZip}
 use Rattle.document_tags.specs.Spots.{StandsAt, AreSpots}
-use Rattle.element_tree.specs.Items.{event_at, attributes_of}
 use Rattle.element_tree.proofs.Texts.{drop-slice_get}
-use Rattle.std.specs.Prelude.{flat_map}
-use Rattle.document_tags.specs.Elements.{value_of, along}
+use Rattle.document_tags.specs.Elements.{value_of}
 use Rattle.document_tags.proofs.Passages.{same_heads, never}
 
 -- one more of each
@@ -128,10 +126,7 @@ pub passed_over : (b : Bool) (old : List Spot) (es : List Element) (e : Element)
 passed_over false old es e other spots = subst (λ (l : List Element). AreSpots old l) (sym (append-nil es)) spots
 passed_over true old es e other spots = absurd (let h : true ≡ false = other in cc)
 
--- the attributes of an element's start tag
-pub stands_attributes : (s : Spot) (e : Element) → s.at < length s.tree.now → StandsAt s e → attributes_of (event_at s.tree.now s.at) ≡ e.attributes
-stands_attributes s e inside (rest, is) = ap attributes_of (same_heads _ _ _ _ (sym (drop-cons s.tree.now s.at (Close []) inside) ∙ is)).0
-
+-- the value of the first attribute of a name
 pub value_found : (name : List ℕ) (as' : List Attribute) (k : ℕ) (a : Attribute) → slice_get as' k ≡ Some a → bytes_eq a.name name ≡ true → value_of name (drop k as') ≡ value_of name as' → value_of name as' ≡ Some a.value
 value_found name as' k a at same before =
     sym before ∙ ap (value_of name) (drop-slice_get as' k a at) ∙ ap (λ (b : Bool). cond b (Some a.value) (value_of name (drop (suc k) as'))) same
@@ -140,66 +135,3 @@ pub value_passed : (name : List ℕ) (as' : List Attribute) (k : ℕ) (a : Attri
 value_passed name as' k a at other before =
     let step : value_of name (drop k as') ≡ value_of name (drop (suc k) as') = ap (value_of name) (drop-slice_get as' k a at) ∙ ap (λ (b : Bool). cond b (Some a.value) (value_of name (drop (suc k) as'))) other in
     ap (λ n. value_of name (drop n as')) (add-one k) ∙ sym step ∙ before
-
--- what was found of the first of several elements, and those that are left
-pub record Steps (f : Element → List Element) (es : List Element) (left found : List Spot) : Type 0 where
-  pub so_far : List Element
-  pub rest : List Element
-  pub spots : AreSpots found so_far
-  pub behind : AreSpots left rest
-  pub total : so_far ++ flat_map f rest ≡ flat_map f es
-
-pub steps_none : (f : Element → List Element) (es : List Element) (left found : List Spot) → found ≡ [] → AreSpots left es → Steps f es left found
-steps_none f es left found none_found spots = record { so_far = []; rest = es; spots = subst (λ (l : List Spot). AreSpots l []) (sym none_found) tt; behind = spots; total = refl }
-
--- the first of these spots
-first_of : (s : Spot) (more : List Spot) (es : List Element) → AreSpots (s ∷ more) es → (e : Element) × (rest : List Element) × (es ≡ e ∷ rest) × StandsAt s e × AreSpots more rest
-first_of s more [] h = absurd h
-first_of s more (e ∷ rest) h = (e, rest, refl, h.0, h.1)
-
-pub steps_more : (f : Element → List Element) (es : List Element) (s : Spot) (left more old new : List Spot) → left ≡ s ∷ more → Steps f es left old
-    → ((e : Element) (before : List Element) → StandsAt s e → AreSpots old before → AreSpots new (before ++ f e)) → Steps f es more new
-steps_more f es s left more old new is h adds =
-    let one = first_of s more h.rest (subst (λ (l : List Spot). AreSpots l h.rest) is h.behind) in
-    record {
-      so_far = h.so_far ++ f one.0;
-      rest = one.1;
-      spots = adds one.0 h.so_far one.3 h.spots;
-      behind = one.4;
-      total = append_assoc h.so_far (f one.0) (flat_map f one.1) ∙ ap (λ (l : List Element). h.so_far ++ flat_map f l) (sym one.2) ∙ h.total;
-    }
-
-none_left : (es : List Element) → AreSpots [] es → es ≡ []
-none_left [] h = refl
-none_left (e ∷ es) h = absurd h
-
-pub steps_all : (f : Element → List Element) (es : List Element) (left found : List Spot) → left ≡ [] → Steps f es left found → AreSpots found (flat_map f es)
-steps_all f es left found over h =
-    let none_rest : h.rest ≡ [] = none_left h.rest (subst (λ (l : List Spot). AreSpots l h.rest) over h.behind) in
-    subst (λ (l : List Element). AreSpots found l) (sym (append-nil h.so_far) ∙ ap (λ (l : List Element). h.so_far ++ flat_map f l) (sym none_rest) ∙ h.total) h.spots
-
--- the elements to which the first of these names led, and the names that are left
-pub record Leads (es : List Element) (names left : List (List ℕ)) (found : List Spot) : Type 0 where
-  pub middle : List Element
-  pub spots : AreSpots found middle
-  pub total : along left middle ≡ along names es
-
--- an item of a list, and those behind it
-pub from_item : {X : Type 0} (xs : List X) (i : ℕ) (x : X) → i < length xs → x ≡ get_or xs i x → drop i xs ≡ x ∷ drop (i + 1) xs
-from_item xs i x inside is =
-    let one : suc i ≡ i + 1 = omega arith in
-    drop-cons xs i x inside ∙ (ap (λ y. y ∷ drop (suc i) xs) (sym is) ∙ ap (λ n. x ∷ drop n xs) one)
-
-pub leads_none : (es : List Element) (names : List (List ℕ)) (found : List Spot) → AreSpots found es → Leads es names names found
-leads_none es names found spots = record { middle = es; spots = spots; total = refl }
-
-pub leads_more : (es : List Element) (names left more : List (List ℕ)) (name : List ℕ) (old new : List Spot) → left ≡ name ∷ more → Leads es names left old
-    → ((middle : List Element) → AreSpots old middle → AreSpots new (flat_map (children_named name) middle)) → Leads es names more new
-leads_more es names left more name old new is h steps = record {
-  middle = flat_map (children_named name) h.middle;
-  spots = steps h.middle h.spots;
-  total = ap (λ (l : List (List ℕ)). along l h.middle) (sym is) ∙ h.total;
-}
-
-pub leads_all : (es : List Element) (names left : List (List ℕ)) (found : List Spot) → left ≡ [] → Leads es names left found → AreSpots found (along names es)
-leads_all es names left found over h = subst (λ (l : List Element). AreSpots found l) (ap (λ (l : List (List ℕ)). along l h.middle) (sym over) ∙ h.total) h.spots

@@ -1,5 +1,5 @@
--- Where the parts of a document stand: elements at the end of a path of names, their attributes and their own text.
-use Rattle.std.specs.Prelude.{ℕ, suc, ◌+◌, Option, None, Some, cond, bytes_eq, slice_get, flat_map, List, [], ◌∷◌, ◌++◌}
+-- The parts of a document: attributes by their names, child elements by theirs, and an element's own text.
+use Rattle.std.specs.Prelude.{ℕ, suc, ◌+◌, Option, None, Some, cond, bytes_eq, List, [], ◌∷◌, ◌++◌}
 use Rattle.tree_grammar.specs.Elements.{Attribute, Nodes, none, element, chars, Element}
 use Rattle.document_tags.specs.Rests.{child_elements}
 
@@ -7,9 +7,6 @@ use Rattle.document_tags.specs.Rests.{child_elements}
 abbrev pub value_of : List ℕ → List Attribute → Option (List ℕ)
 value_of name [] = None
 value_of name (a ∷ more) = cond (bytes_eq a.name name) (Some a.value) (value_of name more)
-
-abbrev pub attribute : Element → List ℕ → Option (List ℕ)
-attribute e name = value_of name e.attributes
 
 -- those of this name, in their order
 abbrev pub named : List ℕ → List Element → List Element
@@ -19,18 +16,6 @@ named name (e ∷ more) = cond (bytes_eq e.name name) (e ∷ named name more) (n
 -- the child elements of this name
 abbrev pub children_named : List ℕ → Element → List Element
 children_named name e = named name (child_elements e.children)
-
--- the elements to which these names lead from some of these elements, each name that of a child element, in document order
-abbrev pub along : List (List ℕ) → List Element → List Element
-along [] es = es
-along (name ∷ names) es = along names (flat_map (children_named name) es)
-
-abbrev pub within : Element → List (List ℕ) → List Element
-within e names = along names (e ∷ [])
-
--- the first of them, if there is one
-abbrev pub first_within : Element → List (List ℕ) → Option Element
-first_within e names = slice_get (within e names) 0
 
 -- the characters that stand in it, and not in an element in it
 abbrev pub characters : Nodes → List ℕ

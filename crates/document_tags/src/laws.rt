@@ -1,20 +1,17 @@
 //! What the definitions say together.
 
 ghost use Rattle.std.specs.Prelude.{◌≡◌, ℕ, ◌<◌, ◌++◌, ◌∷◌, List};
-ghost use Rattle.std.specs.List.{All};
 ghost use Rattle.doc_tree.specs.declared.fault.TreeFault.{TreeFault};
 ghost use Rattle.tree_grammar.specs.Characters.{IsXmlText};
 ghost use Rattle.tree_grammar.specs.Document.{Doc};
 ghost use Rattle.tree_grammar.specs.Elements.{Element};
 ghost use Rattle.document_tags.specs.Characters.{IsOfCharacters};
-ghost use Rattle.document_tags.specs.Elements.{own_text, within};
+ghost use Rattle.document_tags.specs.Elements.{own_text};
 ghost use Rattle.document_tags.specs.Faults.{IsTreeText};
 
-/// Law: all that stands in a document is of characters of XML, and so is each element within it and its own text (XML 1.0,
-/// section 2.2).
+/// Law: all that stands in a document is of characters of XML, and so is an element's own text (XML 1.0, section 2.2).
 pub fn documents_are_of_characters()
     ensures root { (bytes : List ℕ) (root : Element) → Doc bytes root → IsOfCharacters root }
-    ensures within { (e : Element) (names : List (List ℕ)) → IsOfCharacters e → All IsOfCharacters (within e names) }
     ensures own { (e : Element) → IsOfCharacters e → IsXmlText (own_text e) }
 {}
 

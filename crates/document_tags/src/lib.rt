@@ -1,22 +1,19 @@
 //! What all readers and writers of documents share.
 //!
-//! Whoever reads a document by its tree asks for elements at a [`Spot`]: by the names that lead to them ([`within`],
-//! [`first_within`]); the one child element of a name ([`only_child`]); all child elements, whatever their names
-//! ([`child_elements`]); their attributes, and their own text ([`plain_text`] where it is to be all that they hold). Whoever
-//! writes one tells a `TreeBuilder` whole elements by [`open`], [`close`] and [`leaf`]; what was told is
-//! known whatever comes behind it. [`refusal_at`] and [`tree_fault_text`] are the texts of refusals, and
+//! Whoever reads a document by its tree asks for elements at a [`Spot`]: the one child element of a name ([`only_child`]);
+//! all child elements, whatever their names ([`child_elements`]); and their own text ([`plain_text`] where it is to be all
+//! that they hold). Whoever writes one tells a `TreeBuilder` whole elements by [`open`], [`close`] and [`leaf`]; what was
+//! told is known whatever comes behind it. [`refusal_at`] and [`tree_fault_text`] are the texts of refusals, and
 //! [`told_name`] is what they tell of a name.
 //!
 //! The definitions say, for all kinds of documents at once, what bytes are as documents, and which nodes are those of XML.
 #![tactic(auto)]
 
-mod attributes;
 mod children;
 mod content;
 mod faults;
 mod laws;
 mod passing;
-mod paths;
 mod spot;
 mod telling;
 
@@ -24,7 +21,6 @@ pub use children::{only_child, only_one};
 pub use content::{child_elements, plain_text};
 pub use faults::{refusal_at, told_name, tree_fault_text};
 pub use laws::{documents_are_of_characters, texts_part_at_ascii, tree_faults_have_one_text};
-pub use paths::{along, first, first_within, within};
 pub use spot::Spot;
 pub use telling::{
     attribute, close, empty_after, leaf, leaf_after, leaf_with, open, open_after, open_with,

@@ -1,8 +1,7 @@
-//! Elements of a tree: where they are, their attributes, their own text, and their child elements.
+//! Elements of a tree: where they are, their own text, and their child elements.
 
 ghost use Rattle.std.specs.Prelude.{◌<◌, ◌+◌, ◌^◌, length};
 
-use crate::attributes::value_at;
 use crate::passing::{behind, next_child};
 use element_tree::{Item, Tree};
 use os_io::{Memory, Text};
@@ -18,7 +17,7 @@ pub struct Spot<'t> {
 }
 
 impl<'t> Spot<'t> {
-    ghost use Rattle.std.specs.Prelude.{◌≡◌, ◌++◌, [], ◌∷◌, List, None, Some, IfOk, OnOk, MatchOption, IfSome, IsSome};
+    ghost use Rattle.std.specs.Prelude.{◌≡◌, ◌++◌, [], ◌∷◌, List, IfOk, OnOk, IfSome, IsSome};
     ghost use Rattle.tree_grammar.specs.Elements.{Element, events};
     ghost use Rattle.document_tags.specs.Elements as elements;
     ghost use Rattle.document_tags.specs.Spots.{StandsAt, AreSpots};
@@ -43,13 +42,6 @@ impl<'t> Spot<'t> {
             Item::Open { name } => name,
             Item::Chars { .. } | Item::Close { .. } => b"",
         }
-    }
-
-    /// The value of the attribute of this name, if there is one.
-    pub fn attribute(&self, name: &[u8]) -> Option<&'t [u8]>
-        ensures { (e : Element) → StandsAt self.now e → MatchOption result (elements.attribute e name.now ≡ None) (λ v. elements.attribute e name.now ≡ Some v.now) }
-    {
-        value_at(self.tree, self.at, name)
     }
 
     /// The characters that stand in the element, and not in an element in it.

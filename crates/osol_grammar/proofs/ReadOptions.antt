@@ -1,9 +1,7 @@
 -- The options that a document says may be written: their job's name is one, of characters of XML without white space round them and of at most 256 bytes, and their limits are such as they may be.
-use Rattle.std.proofs.Common.{◌≡◌, ◌∙◌, ℕ, zero, suc, ◌<◌, ◌≤◌, Bool, true, false, cond, inl, inr, List, [], ◌∷◌, ◌++◌, length, reverse, leb, arith, refl, ap, sym, subst}
+use Rattle.std.proofs.Common.{◌≡◌, ℕ, zero, suc, ◌<◌, ◌≤◌, Bool, true, false, inl, inr, List, [], ◌∷◌, ◌++◌, length, leb, refl, sym, subst}
 use Rattle.std.specs.Prelude.{map}
 use Rattle.std.proofs.lemmas.Bool.{cases_lt, leb-true}
-use Rattle.std.proofs.lemmas.Bool.Decides.{nat_tests}
-use Rattle.std.proofs.lemmas.List.{reverse-append, reverse-reverse}
 use Rattle.tree_grammar.specs.Characters.{IsXmlText}
 use Rattle.tree_grammar.specs.Document.{Doc}
 use Rattle.tree_grammar.specs.Elements.{Attribute, Nodes, none, element, chars, Element, Event, Open, Chars, Close, nodes_events, events}
@@ -11,7 +9,8 @@ use Rattle.doc_tree.specs.Marks.{Char, spread}
 use Rattle.element_tree.proofs.XmlTexts.{text_append, clean_nothing}
 use Rattle.document_tags.specs.Characters.{NodesOfCharacters, IsOfCharacters}
 use Rattle.document_tags.specs.Elements.{unless_empty}
-use Rattle.decimal_text.specs.Space.{is_space, without_leading_space, trimmed}
+use Rattle.decimal_text.specs.Space.{trimmed}
+use Rattle.decimal_text.proofs.Trims.{space_low, trimmed_keeps, trimmed_again}
 use Rattle.tag_tests.specs.Tests.{AllPass}
 use Rattle.tag_tests.specs.Forms.{AreTaken}
 use Rattle.tag_tests.specs.Characters.{kept}
@@ -69,50 +68,6 @@ nodes_xml none k all rest = rest
 nodes_xml (element name attributes children more) k all rest = nodes_xml children (Close name ∷ nodes_events more k) all.2 (nodes_xml more k all.3 rest)
 nodes_xml (chars text more) k all rest = (all.0, nodes_xml more k all.1 rest)
 
--- ---- white space at both ends
-
-space_ascii : (b : ℕ) → is_space b ≡ true → b < 128
-space_ascii b is = grind (arith, nat_tests)
-
--- no white space stands first
-abbrev IsUnled : List ℕ → Type 0
-IsUnled [] = Unit {0}
-IsUnled (b ∷ s) = is_space b ≡ false
-
-unled_by : (t : Bool) (b : ℕ) (s rest : List ℕ) → is_space b ≡ t → IsUnled rest → IsUnled (cond t rest (b ∷ s))
-unled_by true b s rest e later = later
-unled_by false b s rest e later = e
-
-unled : (s : List ℕ) → IsUnled (without_leading_space s)
-unled [] = tt
-unled (b ∷ s) = unled_by (is_space b) b s (without_leading_space s) refl (unled s)
-
-stays : (s : List ℕ) → IsUnled s → without_leading_space s ≡ s
-stays [] first = refl
-stays (b ∷ s) first = ap (λ (t : Bool). cond t (without_leading_space s) (b ∷ s)) first
-
-unled_front : (xs ys : List ℕ) → IsUnled (xs ++ ys) → IsUnled xs
-unled_front [] ys first = tt
-unled_front (b ∷ xs) ys first = first
-
--- what is behind the first white space, read from the end: it begins as the whole does
-unled_back : (r : List ℕ) → IsUnled (reverse r) → IsUnled (reverse (without_leading_space r))
-unled_back [] first = tt
-unled_back (b ∷ r) first = by (is_space b) (unled_back r (unled_front (reverse r) (b ∷ []) (subst IsUnled (reverse-append (b ∷ []) r) first)))
-  where
-    by : (t : Bool) → IsUnled (reverse (without_leading_space r)) → IsUnled (reverse (cond t (without_leading_space r) (b ∷ r)))
-    by true rest = rest
-    by false rest = first
-
-trimmed_again : (s : List ℕ) → trimmed (trimmed s) ≡ trimmed s
-trimmed_again s =
-    let u = without_leading_space s in
-    let v = without_leading_space (reverse u) in
-    let first : IsUnled (reverse v) = unled_back (reverse u) (subst IsUnled (sym (reverse-reverse u)) (unled s)) in
-    ap (λ (x : List ℕ). reverse (without_leading_space (reverse x))) (stays (reverse v) first)
-    ∙ ap (λ (x : List ℕ). reverse (without_leading_space x)) (reverse-reverse v)
-    ∙ ap reverse (stays v (unled (reverse u)))
-
 -- ---- marks
 
 -- the characters so far are those of XML, and the options so far may be written
@@ -138,26 +93,8 @@ none_or_name (c ∷ cs) short bare xml = record { some = λ e. cc; short = short
 
 module _ (of_characters : (bytes : List ℕ) (root : Element) → Doc bytes root → IsOfCharacters root)
     (parts : (before : List ℕ) (c : ℕ) (behind : List ℕ) → c < 128 → IsXmlText (before ++ (c ∷ behind)) → IsXmlText before × IsXmlText behind) where
-  led_xml : (s : List ℕ) → IsXmlText s → IsXmlText (without_leading_space s)
-  led_xml [] xml = xml
-  led_xml (b ∷ s) xml = by (is_space b) refl (λ text. led_xml s text)
-    where
-      by : (t : Bool) → is_space b ≡ t → (IsXmlText s → IsXmlText (without_leading_space s)) → IsXmlText (cond t (without_leading_space s) (b ∷ s))
-      by true e rest = rest (parts [] b s (space_ascii b e) xml).1
-      by false e rest = xml
-
-  back_xml : (r : List ℕ) → IsXmlText (reverse r) → IsXmlText (reverse (without_leading_space r))
-  back_xml [] xml = xml
-  back_xml (b ∷ r) xml = by (is_space b) refl (λ text. back_xml r text)
-    where
-      by : (t : Bool) → is_space b ≡ t → (IsXmlText (reverse r) → IsXmlText (reverse (without_leading_space r))) → IsXmlText (reverse (cond t (without_leading_space r) (b ∷ r)))
-      by true e rest = rest (parts (reverse r) b [] (space_ascii b e) (subst IsXmlText (reverse-append (b ∷ []) r) xml)).0
-      by false e rest = xml
-
   trimmed_xml : (s : List ℕ) → IsXmlText s → IsXmlText (trimmed s)
-  trimmed_xml s xml =
-      let u = without_leading_space s in
-      back_xml (reverse u) (subst IsXmlText (sym (reverse-reverse u)) (led_xml s xml))
+  trimmed_xml = trimmed_keeps IsXmlText (λ b s e xml. (parts [] b s (space_low b e) xml).1) (λ b s e xml. (parts s b [] (space_low b e) xml).0)
 
   end_good : (s z : State) (d : ℕ) (p : Place) → AllPass (Fails s (end_kind d p)) (tests (end_kind d p)) → Leaves s (end_kind d p) z → IsGood s → IsGood z
   end_good s z zero JobId pass e g =

@@ -1,5 +1,5 @@
-use Rattle.document_tags.proofs.CharacterTexts.{document_of, within_of, own_of}
+use Rattle.document_tags.proofs.CharacterTexts.{document_of, own_of}
 use Rattle.document_tags.proofs.laws.documents_are_of_characters.Goals as goal
 
 pub returns : goal.returns
-returns c = record { root = document_of; within = within_of; own = own_of }
+returns c = record { root = document_of; own = own_of }

@@ -1,7 +1,0 @@
-use Rattle.std.proofs.Common.{◌≡◌, drop}
-use Rattle.element_tree.specs.Items.{event_at, attributes_of}
-use Rattle.document_tags.specs.Elements.{value_of}
-use Rattle.document_tags.proofs.attributes.value_at.Given as goal
-
-abbrev pub invariant-loop-k : goal.invariant-loop-k
-invariant-loop-k l = value_of l.name (drop l.k (attributes_of (event_at l.tree l.at))) ≡ value_of l.name (attributes_of (event_at l.tree l.at))
