@@ -9,11 +9,13 @@ use Rattle.tag_tests.specs.Forms.{LeavesOne}
 use Rattle.osol_grammar.specs.declared.limit.Limit.{Limit}
 use Rattle.osol_grammar.specs.declared.options.Options.{Options}
 use Rattle.osol_grammar.specs.declared.place.Place.TheVariants.{SolverOption}
-use Rattle.osol_grammar.specs.declared.place.Led.{Led}
-use Rattle.osol_grammar.specs.declared.place.Led.TheVariants.{To, OtherRoot}
+use Rattle.tag_tests.specs.declared.places.Led.{Led}
+use Rattle.osol_grammar.specs.declared.place.Place.{Place}
+use Rattle.tag_tests.specs.declared.places.Led.TheVariants.{To, OtherRoot}
 use Rattle.osol_grammar.specs.declared.standing.Standing.{Standing as State}
 use Rattle.osol_grammar.specs.Options.{SaysAmount, with_amount, SaysOption}
-use Rattle.osol_grammar.specs.Table.{Kind, begins, kind, into, Begins, Leaves}
+use Rattle.osol_grammar.specs.Table.{kind, into, Begins, Leaves}
+use Rattle.tag_tests.specs.Places.{Kind, begins}
 use Rattle.osol_grammar.specs.Marked.{osol}
 use Rattle.osol_grammar.proofs.LimitTable.{option_once}
 
@@ -33,12 +35,12 @@ says_once as' o p q (inl (l, n, is, says, e)) (inr h) = absurd (h.0 l is)
 says_once as' o p q (inr h) (inl (k, m, at, tells, f)) = absurd (h.0 k at)
 says_once as' o p q (inr h) (inr g) = h.1 ∙ sym g.1
 
-begins_once : (s : State) (as' : List Attribute) (l : Led) (a b : State) → Begins s as' l a → Begins s as' l b → a ≡ b
+begins_once : (s : State) (as' : List Attribute) (l : Led Place) (a b : State) → Begins s as' l a → Begins s as' l b → a ≡ b
 begins_once s as' (To SolverOption) a b (o, x, e) (p, y, f) = e ∙ ap (λ (q : Options). let z : State = record (into s SolverOption) { options = q } in z) (says_once as' s.options o p x y) ∙ sym f
 begins_once s as' OtherRoot a b e f = absurd e
 begins_once s as' l a b e f = e ∙ sym f
 
-leaves_once : (s : State) (k : Kind) (a b : State) → Leaves s k a → Leaves s k b → a ≡ b
+leaves_once : (s : State) (k : Kind Place) (a b : State) → Leaves s k a → Leaves s k b → a ≡ b
 leaves_once s (begins l as') a b e f = begins_once s as' l a b e f
 leaves_once s k a b e f = e ∙ sym f
 

@@ -21,12 +21,13 @@ use Rattle.osol_grammar.specs.declared.limit.Limit.{Limit}
 use Rattle.osol_grammar.specs.declared.options.Options.{Options}
 use Rattle.osol_grammar.specs.declared.place.Place.{Place}
 use Rattle.osol_grammar.specs.declared.place.Place.TheVariants.{JobId, SolverOption}
-use Rattle.osol_grammar.specs.declared.place.Led.{Led}
-use Rattle.osol_grammar.specs.declared.place.Led.TheVariants.{To, OtherRoot}
+use Rattle.tag_tests.specs.declared.places.Led.{Led}
+use Rattle.tag_tests.specs.declared.places.Led.TheVariants.{To, OtherRoot}
 use Rattle.osol_grammar.specs.declared.standing.Standing.{Standing as State}
 use Rattle.osol_grammar.specs.Limits.{limit_row}
 use Rattle.osol_grammar.specs.Options.{amount, no_options, SaysOption}
-use Rattle.osol_grammar.specs.Table.{start, led_from, end_kind, tests, Fails, Begins, is_in_job, Leaves}
+use Rattle.osol_grammar.specs.Table.{start, leads, tests, Fails, Begins, is_in_job, Leaves}
+use Rattle.tag_tests.specs.Places.{led_from, end_kind}
 use Rattle.osol_grammar.specs.Marked.{osol}
 use Rattle.osol_grammar.specs.Meaning.{IsOptionsText}
 use Rattle.osol_grammar.specs.Back.{IsNameOrNone, ComesBack}
@@ -119,7 +120,7 @@ record IsGood (s : State) : Type 0 where
   pub text : IsXmlText s.text
   pub back : ComesBack s.options
 
-begin_good : (s z : State) (as' : List Attribute) (l : Led) → Begins s as' l z → IsGood s → IsGood z
+begin_good : (s z : State) (as' : List Attribute) (l : Led Place) → Begins s as' l z → IsGood s → IsGood z
 begin_good s z as' (To SolverOption) (o, says, e) g = subst IsGood (sym e) (record { text = g.text; back = option_back as' s.options o says g.back })
 begin_good s z as' OtherRoot e g = absurd e
 begin_good s z as' l e g = subst IsGood (sym e) (record { text = g.text; back = g.back })
@@ -170,7 +171,7 @@ module _ (of_characters : (bytes : List ℕ) (root : Element) → Doc bytes root
 
   all_good : (es : List Event) (s z : State) → AreXml es → AreTaken osol s (spread es) z → IsGood s → IsGood z
   all_good [] s z xml e g = subst IsGood (sym e) g
-  all_good (Open name as' ∷ more) s z xml (m, takes, rest) g = all_good more m z xml rest (begin_good s m as' (led_from s.depth s.place name) takes.1 g)
+  all_good (Open name as' ∷ more) s z xml (m, takes, rest) g = all_good more m z xml rest (begin_good s m as' (led_from s.depth (leads s.place name)) takes.1 g)
   all_good (Chars text ∷ more) s z xml taken g =
       let parted = taken_parts osol s z (map Char text) (spread more) taken in
       all_good more parted.0 z xml.1 parted.2 (chars_good s parted.0 text xml.0 parted.1 g)

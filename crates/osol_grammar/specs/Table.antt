@@ -1,9 +1,12 @@
 -- THE TABLE of options documents (Optimization Services option language): where elements stand, the kinds of marks, the tests of each kind, when they fail and how they refuse, and what a mark leaves.
-use Rattle.std.specs.Prelude.{◌≡◌, ℕ, zero, suc, ◌+◌, ◌-◌, ◌<◌, Bool, true, false, cond, bytes_eq, List, [], ◌∷◌, length, codes}
+use Rattle.std.specs.Prelude.{◌≡◌, ℕ, zero, ◌+◌, ◌-◌, ◌<◌, Bool, true, false, List, [], ◌∷◌, length, codes}
 use Rattle.tree_grammar.specs.Elements.{Attribute}
 use Rattle.doc_tree.specs.Marks.{Mark, Start, Char, Finish}
 use Rattle.document_tags.specs.Elements.{unless_empty}
 use Rattle.decimal_text.specs.Space.{trimmed}
+use Rattle.tag_tests.specs.declared.places.Led.{Led}
+use Rattle.tag_tests.specs.declared.places.Led.TheVariants.{To, OtherRoot, Over}
+use Rattle.tag_tests.specs.Places.{Child, child, among, led_from, Kind, begins, text, ends, ends_over, end_kind}
 use Rattle.tag_tests.specs.Characters.{heard}
 use Rattle.osol_grammar.specs.declared.fault.Refusal.{Refusal}
 use Rattle.osol_grammar.specs.declared.fault.Refusal.TheVariants.{Root, JobTwice, BadLimit, LongJob}
@@ -11,8 +14,6 @@ use Rattle.osol_grammar.specs.declared.limit.Limit.{Limit}
 use Rattle.osol_grammar.specs.declared.options.Options.{Options}
 use Rattle.osol_grammar.specs.declared.place.Place.{Place}
 use Rattle.osol_grammar.specs.declared.place.Place.TheVariants.{Outside, Osol, General, JobId, Optimization, SolverOptions, SolverOption}
-use Rattle.osol_grammar.specs.declared.place.Led.{Led}
-use Rattle.osol_grammar.specs.declared.place.Led.TheVariants.{To, OtherRoot, Over}
 use Rattle.osol_grammar.specs.declared.standing.Standing.{Standing as State}
 use Rattle.osol_grammar.specs.declared.standing.Refused.{Refused}
 use Rattle.osol_grammar.specs.Options.{no_options, IsOption, SaysAmount, SaysOption}
@@ -21,16 +22,8 @@ use Rattle.osol_grammar.specs.Options.{no_options, IsOption, SaysAmount, SaysOpt
 abbrev pub start : State
 start = record { place = Outside; depth = 0; count = 0; job_at = 0; text = []; options = no_options }
 
--- an element that may stand in another one
-pub record Child : Type 0 where
-  pub name : List ℕ
-  pub place : Place
-
-abbrev pub child : List ℕ → Place → Child
-child name place = record { name = name; place = place }
-
 -- WHAT MAY STAND IN WHAT: the child elements that are read
-abbrev pub content : Place → List Child
+abbrev pub content : Place → List (Child Place)
 content Outside = child (codes "osol") Osol ∷ []
 content Osol = child (codes "general") General ∷ child (codes "optimization") Optimization ∷ []
 content General = child (codes "jobID") JobId ∷ []
@@ -40,22 +33,13 @@ content JobId = []
 content SolverOption = []
 
 -- a root of another name isn't read; all else is passed over, with all that stands in it
-abbrev pub otherwise : Place → Led
+abbrev pub otherwise : Place → Led Place
 otherwise Outside = OtherRoot
 otherwise p = Over
 
 -- where the start tag of an element of this name leads
-abbrev pub among : List ℕ → List Child → Led → Led
-among name [] other = other
-among name (c ∷ cs) other = cond (bytes_eq name c.name) (To c.place) (among name cs other)
-
-abbrev pub leads : Place → List ℕ → Led
-leads p name = among name (content p) (otherwise p)
-
--- where so many elements are open that are passed over
-abbrev pub led_from : ℕ → Place → List ℕ → Led
-led_from zero p name = leads p name
-led_from (suc d) p name = Over
+abbrev pub leads : Place → List ℕ → Led Place
+leads p name = among (λ q. To q) name (content p) (otherwise p)
 
 -- where an end tag leads
 abbrev pub around : Place → Place
@@ -67,36 +51,26 @@ around Optimization = Osol
 around SolverOptions = Optimization
 around SolverOption = SolverOptions
 
--- the kinds of marks: a start tag that leads there, with its attributes; a character; the end tag of such an element, and of one that is passed over
-pub data Kind : Type 0 where
-  begins : Led → List Attribute → Kind
-  text : ℕ → Kind
-  ends : Place → Kind
-  ends_over : Kind
-
-abbrev pub end_kind : ℕ → Place → Kind
-end_kind zero p = ends p
-end_kind (suc d) p = ends_over
-
-abbrev pub kind : State → Mark → Kind
-kind s (Start name as') = begins (led_from s.depth s.place name) as'
+-- the kind of a mark
+abbrev pub kind : State → Mark → Kind Place
+kind s (Start name as') = begins (led_from s.depth (leads s.place name)) as'
 kind s (Char c) = text c
 kind s (Finish name) = end_kind s.depth s.place
 
 -- THE TESTS OF EACH KIND, by the refusals that they give: no mark has more than one
-abbrev pub tests : Kind → List Refusal
+abbrev pub tests : Kind Place → List Refusal
 tests (begins OtherRoot as') = Root ∷ []
 tests (begins (To JobId) as') = JobTwice ∷ []
 tests (begins (To SolverOption) as') = BadLimit ∷ []
 tests (ends JobId) = LongJob ∷ []
 tests k = []
 
-abbrev pub attributes : Kind → List Attribute
+abbrev pub attributes : Kind Place → List Attribute
 attributes (begins l as') = as'
 attributes k = []
 
 -- WHEN EACH TEST FAILS: always; a `jobID` has begun before; an option of a limit has no value that is an amount that the limit may have; the job's name, without the white space round it, has more than 256 bytes
-abbrev pub Fails : State → Kind → Refusal → Type 0
+abbrev pub Fails : State → Kind Place → Refusal → Type 0
 Fails s k Root = Unit {0}
 Fails s k JobTwice = 0 < s.job_at
 Fails s k BadLimit = (l : Limit) × IsOption l (attributes k) × ((n : ℕ) → SaysAmount l (attributes k) n → ⊥)
@@ -115,7 +89,7 @@ abbrev pub into : State → Place → State
 into s p = record s { place = p; count = s.count + 1 }
 
 -- WHAT A START TAG LEAVES that leads there
-abbrev pub Begins : State → List Attribute → Led → State → Type 0
+abbrev pub Begins : State → List Attribute → Led Place → State → Type 0
 Begins s as' (To JobId) z = z ≡ record (into s JobId) { job_at = s.count + 1 }
 Begins s as' (To SolverOption) z = (o : Options) × SaysOption as' s.options o × (z ≡ record (into s SolverOption) { options = o })
 Begins s as' (To p) z = z ≡ into s p
@@ -133,7 +107,7 @@ left s JobId = record s { place = General; options = record s.options { job = un
 left s p = record s { place = around p }
 
 -- WHAT A MARK OF A KIND LEAVES where its test passes
-abbrev pub Leaves : State → Kind → State → Type 0
+abbrev pub Leaves : State → Kind Place → State → Type 0
 Leaves s (begins l as') z = Begins s as' l z
 Leaves s (text c) z = z ≡ record s { text = heard (is_in_job s.depth s.place) s.text c }
 Leaves s (ends p) z = z ≡ left s p

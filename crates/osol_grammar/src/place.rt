@@ -1,8 +1,9 @@
 //! Where a mark may stand.
 
-ghost use Rattle.std.specs.Prelude.{◌≡◌, cond, bytes_eq};
-ghost use Rattle.osol_grammar.specs.declared.place.Led.TheVariants as leading;
+ghost use Rattle.std.specs.Prelude.{◌≡◌};
 ghost use Rattle.osol_grammar.specs.Table as table;
+
+use tag_tests::{Led, named};
 
 /// The innermost element that is read of those that the marks to come stand in.
 #[derive(Clone, Copy, PartialEq, Eq, Drop)]
@@ -17,44 +18,22 @@ pub(crate) enum Place {
     SolverOption,
 }
 
-/// Where a start tag leads.
-#[derive(Clone, Copy, PartialEq, Eq, Drop)]
-pub(crate) enum Led {
-    /// Into an element that is read.
-    To(Place),
-    /// Nowhere: it is a root of another name.
-    OtherRoot,
-    /// Into an element that is passed over.
-    Over,
-}
-
-/// There, if the name is this one, else as is said.
-fn named(name: &[u8], wanted: &[u8], place: Place, other: Led) -> Led
-    ensures { result ≡ cond (bytes_eq name.now wanted.now) (leading.To place) other }
-{
-    if name == wanted {
-        Led::To(place)
-    } else {
-        other
-    }
-}
-
 /// Where the start tag of an element of this name leads.
-pub(crate) fn leads(place: Place, name: &[u8]) -> Led
+pub(crate) fn leads(place: Place, name: &[u8]) -> Led<Place>
     ensures { result ≡ table.leads place name.now }
 {
     match place {
-        Place::Outside => named(name, b"osol", Place::Osol, Led::OtherRoot),
+        Place::Outside => named(name, b"osol", Led::To(Place::Osol), Led::OtherRoot),
         Place::Osol => {
             if name == b"general".as_slice() {
                 Led::To(Place::General)
             } else {
-                named(name, b"optimization", Place::Optimization, Led::Over)
+                named(name, b"optimization", Led::To(Place::Optimization), Led::Over)
             }
         }
-        Place::General => named(name, b"jobID", Place::JobId, Led::Over),
-        Place::Optimization => named(name, b"solverOptions", Place::SolverOptions, Led::Over),
-        Place::SolverOptions => named(name, b"solverOption", Place::SolverOption, Led::Over),
+        Place::General => named(name, b"jobID", Led::To(Place::JobId), Led::Over),
+        Place::Optimization => named(name, b"solverOptions", Led::To(Place::SolverOptions), Led::Over),
+        Place::SolverOptions => named(name, b"solverOption", Led::To(Place::SolverOption), Led::Over),
         Place::JobId | Place::SolverOption => Led::Over,
     }
 }

@@ -5,20 +5,20 @@ ghost use Rattle.document_tags.specs.Elements.{unless_empty};
 ghost use Rattle.tag_tests.specs.declared.marks.Stop.TheVariants as stops;
 ghost use Rattle.tag_tests.specs.Kinds.{StepsAs};
 ghost use Rattle.osol_grammar.specs.declared.place.Place.TheVariants as places;
-ghost use Rattle.osol_grammar.specs.declared.place.Led.TheVariants as leading;
+ghost use Rattle.tag_tests.specs.declared.places.Led.TheVariants as leading;
+ghost use Rattle.tag_tests.specs.Places.{begins, ends, led_from};
 ghost use Rattle.osol_grammar.specs.Table as table;
-ghost use Rattle.osol_grammar.specs.Table.{begins, ends};
 ghost use Rattle.osol_grammar.specs.Marked.{by_kinds};
 
 use crate::amounts::{amount_of, limit_of};
 use crate::fault::Refusal;
 use crate::options::Options;
-use crate::place::{Led, Place, around, leads};
+use crate::place::{Place, around, leads};
 use decimal_text::trim;
 use element_tree::Attributes;
 use os_io::{Memory, Text};
 use std::alloc::Global;
-use tag_tests::{MarkReader, Stop};
+use tag_tests::{Led, MarkReader, Stop};
 
 /// The most bytes of a job's name.
 const MOST_OF_JOB: usize = 256;
@@ -130,7 +130,7 @@ impl Standing {
     }
 
     /// Goes past a start tag that leads there.
-    fn begin(&mut self, led: Led, attributes: &Attributes<'_>) -> Result<(), Stop<Refused>>
+    fn begin(&mut self, led: Led<Place>, attributes: &Attributes<'_>) -> Result<(), Stop<Refused>>
         requires { self.old.count + 1 < 2 ^ 64 }
         ensures { StepsAs by_kinds self.old (begins led attributes.now) self.new result }
     {
@@ -153,8 +153,8 @@ impl Standing {
     }
 
     /// Where the start tag of an element of this name leads.
-    fn led(&self, name: &[u8]) -> Led
-        ensures { result ≡ table.led_from self.now.depth self.now.place name.now }
+    fn led(&self, name: &[u8]) -> Led<Place>
+        ensures { result ≡ led_from self.now.depth (table.leads self.now.place name.now) }
     {
         if self.depth > 0 {
             Led::Over

@@ -1,16 +1,17 @@
 -- THE TABLE of process documents (Optimization Services process language): where elements stand, the kinds of marks, the one test, and what a mark leaves.
-use Rattle.std.specs.Prelude.{◌≡◌, ℕ, zero, suc, ◌+◌, ◌-◌, ◌<◌, ◌^◌, Bool, true, false, cond, bytes_eq, Option, None, Some, List, [], ◌∷◌, codes}
+use Rattle.std.specs.Prelude.{◌≡◌, ℕ, zero, suc, ◌+◌, ◌-◌, ◌<◌, ◌^◌, Bool, true, false, Option, None, Some, List, [], ◌∷◌, codes}
 use Rattle.tree_grammar.specs.Elements.{Attribute}
 use Rattle.doc_tree.specs.Marks.{Mark, Start, Char, Finish}
 use Rattle.document_tags.specs.Elements.{value_of}
 use Rattle.document_tags.specs.OneChild.{IsOnly}
 use Rattle.decimal_text.specs.Count.{IsCount}
+use Rattle.tag_tests.specs.declared.places.Led.{Led}
+use Rattle.tag_tests.specs.declared.places.Led.TheVariants.{To, OtherRoot, Over}
+use Rattle.tag_tests.specs.Places.{Child, child, among, led_from, Kind, begins, text, ends, ends_over, end_kind}
 use Rattle.tag_tests.specs.Characters.{heard}
 use Rattle.ospl_grammar.specs.declared.process.JobState.{JobState}
 use Rattle.ospl_grammar.specs.declared.place.Place.{Place}
 use Rattle.ospl_grammar.specs.declared.place.Place.TheVariants.{Outside, Ospl, Header, Request, Data, Statistics, CurrentState, CurrentCount, Total, Jobs, Job, State}
-use Rattle.ospl_grammar.specs.declared.place.Led.{Led}
-use Rattle.ospl_grammar.specs.declared.place.Led.TheVariants.{To, OtherRoot, Over}
 use Rattle.ospl_grammar.specs.declared.standing.Standing.{Standing}
 use Rattle.ospl_grammar.specs.Words.{busy_text, state_text}
 use Rattle.ospl_grammar.specs.Parts.{no_parts, with_busy, with_current, with_total, with_list, with_state, with_job, whole}
@@ -19,16 +20,8 @@ use Rattle.ospl_grammar.specs.Parts.{no_parts, with_busy, with_current, with_tot
 abbrev pub start : Standing
 start = record { place = Outside; depth = 0; text = []; parts = no_parts; asked = None; told = None }
 
--- an element that may stand in another one
-pub record Child : Type 0 where
-  pub name : List ℕ
-  pub place : Place
-
-abbrev pub child : List ℕ → Place → Child
-child name place = record { name = name; place = place }
-
 -- WHAT MAY STAND IN WHAT: the child elements that are read
-abbrev pub content : Place → List Child
+abbrev pub content : Place → List (Child Place)
 content Outside = child (codes "ospl") Ospl ∷ []
 content Ospl = child (codes "processHeader") Header ∷ child (codes "processData") Data ∷ []
 content Header = child (codes "request") Request ∷ []
@@ -43,22 +36,13 @@ content Total = []
 content State = []
 
 -- a root of another name isn't read; all else is passed over, with all that stands in it
-abbrev pub otherwise : Place → Led
+abbrev pub otherwise : Place → Led Place
 otherwise Outside = OtherRoot
 otherwise p = Over
 
 -- where the start tag of an element of this name leads
-abbrev pub among : List ℕ → List Child → Led → Led
-among name [] other = other
-among name (c ∷ cs) other = cond (bytes_eq name c.name) (To c.place) (among name cs other)
-
-abbrev pub leads : Place → List ℕ → Led
-leads p name = among name (content p) (otherwise p)
-
--- where so many elements are open that are passed over
-abbrev pub led_from : ℕ → Place → List ℕ → Led
-led_from zero p name = leads p name
-led_from (suc d) p name = Over
+abbrev pub leads : Place → List ℕ → Led Place
+leads p name = among (λ q. To q) name (content p) (otherwise p)
 
 -- where an end tag leads
 abbrev pub around : Place → Place
@@ -75,19 +59,9 @@ around Jobs = Statistics
 around Job = Jobs
 around State = Job
 
--- the kinds of marks: a start tag that leads there, with its attributes; a character; the end tag of such an element, and of one that is passed over
-pub data Kind : Type 0 where
-  begins : Led → List Attribute → Kind
-  text : ℕ → Kind
-  ends : Place → Kind
-  ends_over : Kind
-
-abbrev pub end_kind : ℕ → Place → Kind
-end_kind zero p = ends p
-end_kind (suc d) p = ends_over
-
-abbrev pub kind : Standing → Mark → Kind
-kind s (Start name as') = begins (led_from s.depth s.place name) as'
+-- the kind of a mark
+abbrev pub kind : Standing → Mark → Kind Place
+kind s (Start name as') = begins (led_from s.depth (leads s.place name)) as'
 kind s (Char c) = text c
 kind s (Finish name) = end_kind s.depth s.place
 
@@ -95,7 +69,7 @@ kind s (Finish name) = end_kind s.depth s.place
 pub data Test : Type 0 where
   other_root : Test
 
-abbrev pub tests : Kind → List Test
+abbrev pub tests : Kind Place → List Test
 tests (begins OtherRoot as') = other_root ∷ []
 tests k = []
 
@@ -116,7 +90,7 @@ abbrev pub into : Standing → Place → Standing
 into s p = record s { place = p }
 
 -- WHAT A START TAG LEAVES that leads there
-abbrev pub Begins : Standing → List Attribute → Led → Standing → Type 0
+abbrev pub Begins : Standing → List Attribute → Led Place → Standing → Type 0
 Begins s as' (To Request) z = z ≡ record (into s Request) { asked = first s.asked (Some (action as')) }
 Begins s as' (To Jobs) z = z ≡ record (into s Jobs) { parts = with_list s.parts }
 Begins s as' (To Job) z = z ≡ record (into s Job) { parts = record s.parts { id = value_of (codes "jobID") as' } }
@@ -150,7 +124,7 @@ Ends s Statistics z = z ≡ record (into s Data) { parts = no_parts; told = firs
 Ends s p z = z ≡ into s (around p)
 
 -- WHAT A MARK OF A KIND LEAVES
-abbrev pub Leaves : Standing → Kind → Standing → Type 0
+abbrev pub Leaves : Standing → Kind Place → Standing → Type 0
 Leaves s (begins l as') z = Begins s as' l z
 Leaves s (text c) z = z ≡ record s { text = heard (keeps s.depth s.place) s.text c }
 Leaves s (ends p) z = Ends s p z

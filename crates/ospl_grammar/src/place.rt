@@ -1,9 +1,10 @@
 //! Where a mark may stand.
 
-ghost use Rattle.std.specs.Prelude.{◌≡◌, cond, bytes_eq};
-ghost use Rattle.ospl_grammar.specs.declared.place.Led.TheVariants as leading;
+ghost use Rattle.std.specs.Prelude.{◌≡◌};
 ghost use Rattle.ospl_grammar.specs.declared.place.Place.TheVariants as places;
 ghost use Rattle.ospl_grammar.specs.Table as table;
+
+use tag_tests::{Led, named};
 
 /// The innermost element that is read of those that the marks to come stand in.
 #[derive(Clone, Copy, PartialEq, Eq, Drop)]
@@ -23,30 +24,8 @@ pub(crate) enum Place {
     State,
 }
 
-/// Where a start tag leads.
-#[derive(Clone, Copy, PartialEq, Eq, Drop)]
-pub(crate) enum Led {
-    /// Into an element that is read.
-    To(Place),
-    /// Nowhere: it is a root of another name.
-    OtherRoot,
-    /// Into an element that is passed over.
-    Over,
-}
-
-/// There, if the name is this one, else as is said.
-fn named(name: &[u8], wanted: &[u8], place: Place, other: Led) -> Led
-    ensures { result ≡ cond (bytes_eq name.now wanted.now) (leading.To place) other }
-{
-    if name == wanted {
-        Led::To(place)
-    } else {
-        other
-    }
-}
-
 /// Where the start tag of a part of statistics leads.
-fn part_led(name: &[u8]) -> Led
+fn part_led(name: &[u8]) -> Led<Place>
     ensures { result ≡ table.leads places.Statistics name.now }
 {
     if name == b"currentState".as_slice() {
@@ -56,33 +35,33 @@ fn part_led(name: &[u8]) -> Led
     } else if name == b"totalJobsSoFar".as_slice() {
         Led::To(Place::Total)
     } else {
-        named(name, b"jobs", Place::Jobs, Led::Over)
+        named(name, b"jobs", Led::To(Place::Jobs), Led::Over)
     }
 }
 
 /// Where the start tag of a child element of the root leads.
-fn root_led(name: &[u8]) -> Led
+fn root_led(name: &[u8]) -> Led<Place>
     ensures { result ≡ table.leads places.Ospl name.now }
 {
     if name == b"processHeader".as_slice() {
         Led::To(Place::Header)
     } else {
-        named(name, b"processData", Place::Data, Led::Over)
+        named(name, b"processData", Led::To(Place::Data), Led::Over)
     }
 }
 
 /// Where the start tag of an element of this name leads.
-pub(crate) fn leads(place: Place, name: &[u8]) -> Led
+pub(crate) fn leads(place: Place, name: &[u8]) -> Led<Place>
     ensures { result ≡ table.leads place name.now }
 {
     match place {
-        Place::Outside => named(name, b"ospl", Place::Ospl, Led::OtherRoot),
+        Place::Outside => named(name, b"ospl", Led::To(Place::Ospl), Led::OtherRoot),
         Place::Ospl => root_led(name),
-        Place::Header => named(name, b"request", Place::Request, Led::Over),
-        Place::Data => named(name, b"statistics", Place::Statistics, Led::Over),
+        Place::Header => named(name, b"request", Led::To(Place::Request), Led::Over),
+        Place::Data => named(name, b"statistics", Led::To(Place::Statistics), Led::Over),
         Place::Statistics => part_led(name),
-        Place::Jobs => named(name, b"job", Place::Job, Led::Over),
-        Place::Job => named(name, b"state", Place::State, Led::Over),
+        Place::Jobs => named(name, b"job", Led::To(Place::Job), Led::Over),
+        Place::Job => named(name, b"state", Led::To(Place::State), Led::Over),
         Place::Request | Place::CurrentState | Place::CurrentCount | Place::Total | Place::State =>
             Led::Over,
     }

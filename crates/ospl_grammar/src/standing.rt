@@ -6,13 +6,13 @@ ghost use Rattle.document_tags.specs.OneChild.{IsOnly};
 ghost use Rattle.decimal_text.specs.Count.{IsCount};
 ghost use Rattle.tag_tests.specs.Kinds.{StepsAs};
 ghost use Rattle.ospl_grammar.specs.declared.place.Place.TheVariants as places;
-ghost use Rattle.ospl_grammar.specs.declared.place.Led.TheVariants as leading;
+ghost use Rattle.tag_tests.specs.declared.places.Led.TheVariants as leading;
+ghost use Rattle.tag_tests.specs.Places.{begins, ends, led_from};
 ghost use Rattle.ospl_grammar.specs.Table as table;
-ghost use Rattle.ospl_grammar.specs.Table.{begins, ends};
 ghost use Rattle.ospl_grammar.specs.Marked.{by_kinds};
 
 use crate::parts::Parts;
-use crate::place::{Led, Place, around, leads};
+use crate::place::{Place, around, leads};
 use crate::process::Process;
 use crate::words::{busy_of, state_of};
 use decimal_text::read_count;
@@ -20,7 +20,7 @@ use element_tree::Attributes;
 use os_io::{Memory, Text};
 use std::alloc::Global;
 use std::mem;
-use tag_tests::{MarkReader, Stop, value};
+use tag_tests::{Led, MarkReader, Stop, value};
 
 /// What the marks so far leave: the element that is read and that they end in, how many elements are open in it that are
 /// passed over, the characters in it that are kept, what statistics have said that are read, what the first request asks,
@@ -125,7 +125,7 @@ impl Standing {
     fn begin(
         &mut self,
         alloc: Global,
-        led: Led,
+        led: Led<Place>,
         attributes: &Attributes<'_>,
     ) -> Result<(), Stop<()>>
         ensures { StepsAs by_kinds self.old (begins led attributes.now) self.new result }
@@ -158,8 +158,8 @@ impl Standing {
     }
 
     /// Where the start tag of an element of this name leads.
-    fn led(&self, name: &[u8]) -> Led
-        ensures { result ≡ table.led_from self.now.depth self.now.place name.now }
+    fn led(&self, name: &[u8]) -> Led<Place>
+        ensures { result ≡ led_from self.now.depth (table.leads self.now.place name.now) }
     {
         if self.depth > 0 {
             Led::Over

@@ -1,11 +1,10 @@
--- Who is told of marks hears them one after another, and what is answered in the end is of all of them.
-use Rattle.std.proofs.Common.{◌≡◌, inl, inr, ◌⊎◌, ℕ, List, [], ◌∷◌, Option, None, Some, Result, Ok, Err, true, false, refl, sym, subst}
-use Rattle.std.specs.Prelude.{OnOk}
-use Rattle.std.specs.Option.{is_some}
-use Rattle.std.proofs.lemmas.Bool.{false≢true}
+-- Who is told of marks hears them one after another, and a decoder answers of all of them in the end.
+use Rattle.std.proofs.Common.{◌≡◌, ◌∙◌, inl, inr, ◌⊎◌, ℕ, List, [], ◌∷◌, ◌++◌, Result, Ok, Err, refl, sym, subst}
+use Rattle.std.specs.Prelude.{OnOk, IfOk, IfErr}
 use Rattle.tree_grammar.specs.Elements.{Element, IsTextWithin}
 use Rattle.doc_tree.specs.Marks.{Mark}
 use Rattle.doc_tree.specs.Reading.{Visits, ReadingFails}
+use Rattle.doc_tree.specs.Feeding.{WasHeard}
 use Rattle.doc_tree.specs.declared.fault.TreeFault.{TreeFault}
 use Rattle.doc_tree.specs.declared.fault.TreeFault.TheVariants as tree
 use Rattle.document_tags.specs.Texts.{document_limit}
@@ -14,8 +13,9 @@ use Rattle.tag_tests.specs.declared.marks.Stop.{Stop}
 use Rattle.tag_tests.specs.declared.marks.Stop.TheVariants.{Refused, Memory}
 use Rattle.tag_tests.specs.Forms.{Form, AreTaken, AreRefused}
 use Rattle.tag_tests.specs.Kinds.{Kinds, form, StepsAs}
-use Rattle.tag_tests.specs.Courses.{Course, Going, Stopped}
-use Rattle.tag_tests.specs.Readers.{marks, Steps, StepsBy, course, HearsBy, IsKept, EndsSo, IsVisited, Reads}
+use Rattle.tag_tests.specs.declared.decoder.Course.{Course}
+use Rattle.tag_tests.specs.declared.decoder.Course.TheVariants.{Going, Stopped, Lost}
+use Rattle.tag_tests.specs.Readers.{Steps, StepsBy, HearsBy, IsKept, Decoding, WasFed, Reads}
 use Rattle.tag_tests.proofs.Forms.{refused_here}
 
 -- one mark, by its tests
@@ -42,36 +42,54 @@ no_ok (Ok y) P none = absurd (none y refl)
 no_ok (Err e) P none = tt
 
 module _ {S R : Type 0} (Took : S → List Mark → S → Type 0) (Refuse : S → List Mark → R → Type 0) where
-  -- behind a refusal
-  pub hears_on : (o : Option R) (s : S) (ms : List Mark) → true ≡ is_some o → HearsBy Took Refuse (course o s) (course o s) ms
-  hears_on (Some r) s ms is = refl
-  hears_on None s ms is = absurd (false≢true (sym is))
+  -- who goes on hears what marks came to
+  pub kept_hears : {X Y E : Type 0} (s z : S) (old now new : Course S R) (ms : List Mark) (result : Result Y E) (step : Result X (Stop R)) → old ≡ Going s → now ≡ Going z → Steps Took Refuse s ms z step → IsKept step now new result → OnOk result (HearsBy Took Refuse old new ms)
+  kept_hears s z old now new ms result step was is h k = subst (λ (c : Course S R). OnOk result (HearsBy Took Refuse c new ms)) (sym was) (by step h k)
+    where
+      by : (step : Result X (Stop R)) → Steps Took Refuse s ms z step → IsKept step now new result → OnOk result (HearsBy Took Refuse (Going s) new ms)
+      by (Ok x) h k = any_ok result _ (subst (λ (c : Course S R). HearsBy Took Refuse (Going s) c ms) (sym (k ∙ is)) h)
+      by (Err (Refused r)) h k = any_ok result _ (subst (λ (c : Course S R). HearsBy Took Refuse (Going s) c ms) (sym k) h)
+      by (Err Memory) h k = no_ok result _ k
 
-  -- and where there was none
-  heard : {X Y E : Type 0} (s z : S) (ms : List Mark) (refused : Option R) (result : Result Y E) (step : Result X (Stop R)) → Steps Took Refuse s ms z step → IsKept step refused result → OnOk result (HearsBy Took Refuse (Going s) (course refused z) ms)
-  heard s z ms refused result (Ok x) h k = any_ok result _ (subst (λ (o : Option R). HearsBy Took Refuse (Going s) (course o z) ms) (sym k) h)
-  heard s z ms refused result (Err (Refused r)) h k = any_ok result _ (subst (λ (o : Option R). HearsBy Took Refuse (Going s) (course o z) ms) (sym k) h)
-  heard s z ms refused result (Err Memory) h k = no_ok result _ k
+  -- who doesn't is told in vain
+  pub told_in_vain : (c : Course S R) (ms : List Mark) → ((s : S) → c ≡ Going s → ⊥) → HearsBy Took Refuse c c ms
+  told_in_vain (Going s) ms none = absurd (none s refl)
+  told_in_vain (Stopped r) ms none = refl
+  told_in_vain Lost ms none = tt
 
-  pub kept_hears : {X Y E : Type 0} (o : Option R) (s z : S) (ms : List Mark) (refused : Option R) (result : Result Y E) (step : Result X (Stop R)) → false ≡ is_some o → Steps Took Refuse s ms z step → IsKept step refused result → OnOk result (HearsBy Took Refuse (course o s) (course refused z) ms)
-  kept_hears None s z ms refused result step going h k = heard s z ms refused result step h k
-  kept_hears (Some r) s z ms refused result step going h k = absurd (false≢true going)
+  -- what is fed next
+  pub fed_more : (d now new : Decoding S R) (piece : List ℕ) → d ≡ now → new.reading.limit ≡ d.reading.limit
+      → ((s : S) (bytes : List ℕ) → WasHeard (λ ms. HearsBy Took Refuse (Going s) d.course ms) d.reading bytes → WasHeard (λ ms. HearsBy Took Refuse (Going s) new.course ms) new.reading (bytes ++ piece))
+      → (s : S) (bytes : List ℕ) → WasFed Took Refuse s now bytes → WasFed Took Refuse s new (bytes ++ piece)
+  fed_more d now new piece same limit more s bytes h = let g = subst (λ (z : Decoding S R). WasFed Took Refuse s z bytes) (sym same) h in (limit ∙ g.0, more s bytes g.1)
 
-  -- in the end
-  ends : (s : S) (root : Element) (c : Course S R) (result : Result S R) → HearsBy Took Refuse (Going s) c (marks root) → EndsSo c result → Reads Took Refuse s root result
-  ends s root (Going z) result h is = subst (Reads Took Refuse s root) (sym is) h
-  ends s root (Stopped r) result h is = subst (Reads Took Refuse s root) (sym is) h
+  -- the answer in the end
+  abbrev pub Answers : Decoding S R → Result (Result S R) TreeFault → Type 0
+  Answers d result = IfOk result (λ r. (s : S) (bytes : List ℕ) → WasFed Took Refuse s d bytes → OfDocument (Reads Took Refuse s) bytes r)
+      × IfErr result (λ f. (s : S) (bytes : List ℕ) → WasFed Took Refuse s d bytes → (f ≡ tree.Memory) ⊎ TreeFails bytes f)
 
-  pub answers : {V : Type 0} (s : S) (bytes : List ℕ) (of : V → Course S R) (v : V) (result : Result S R) → OfDocument (IsVisited (λ w ms. HearsBy Took Refuse (Going s) (of w) ms)) bytes v → EndsSo (of v) result → OfDocument (Reads Took Refuse s) bytes result
-  answers s bytes of v result h is = record { root = h.root; document = h.document; is = ends s h.root (of v) result h.is is }
+  -- what a course is answered with
+  abbrev pub EndsSo : Course S R → Result (Result S R) TreeFault → Type 0
+  EndsSo (Going s) result = result ≡ Ok (Ok s)
+  EndsSo (Stopped r) result = result ≡ Ok (Err r)
+  EndsSo Lost result = result ≡ Err tree.Memory
 
--- what a visitor was told of is a document within the limits
-pub visited : {V : Type 0} (Had : V → List Mark → Type 0) (bytes : List ℕ) (limit : ℕ) (v : V) → limit ≡ document_limit → Visits (Had v) limit bytes → OfDocument (IsVisited Had) bytes v
-visited Had bytes limit v is x = record { root = x.element; document = record { document = x.document; short = subst (λ (n : ℕ). IsTextWithin n bytes) is x.within; shallow = x.shallow }; is = x.told }
+  visited : (d : Decoding S R) (c : Course S R) (s : S) (bytes : List ℕ) (r : Result S R) → WasFed Took Refuse s d bytes → (x : Visits (λ ms. HearsBy Took Refuse (Going s) c ms) d.reading.limit bytes) → Reads Took Refuse s x.element r → OfDocument (Reads Took Refuse s) bytes r
+  visited d c s bytes r h x is = record { root = x.element; document = record { document = x.document; short = subst (λ (n : ℕ). IsTextWithin n bytes) h.0 x.within; shallow = x.shallow }; is = is }
 
-pub unvisited : (bytes : List ℕ) (limit : ℕ) (f : TreeFault) → limit ≡ document_limit → ReadingFails limit bytes f → (f ≡ tree.Memory) ⊎ TreeFails bytes f
-unvisited bytes limit f is fails = by (subst (λ (n : ℕ). ReadingFails n bytes f) is fails)
-  where
-    by : ReadingFails document_limit bytes f → (f ≡ tree.Memory) ⊎ TreeFails bytes f
-    by (inl e) = inl e
-    by (inr h) = inr (record { refusal = h.0; none = λ root doc. h.1 root doc.document doc.short doc.shallow })
+  ends : (d : Decoding S R) (c : Course S R) (result : Result (Result S R) TreeFault) → ((s : S) (bytes : List ℕ) → WasHeard (λ ms. HearsBy Took Refuse (Going s) d.course ms) d.reading bytes → Visits (λ ms. HearsBy Took Refuse (Going s) c ms) d.reading.limit bytes) → EndsSo c result → Answers d result
+  ends d (Going z) result visits is = subst (Answers d) (sym is) ((λ s bytes h. let x = visits s bytes h.1 in visited d (Going z) s bytes (Ok z) h x x.told), tt)
+  ends d (Stopped r) result visits is = subst (Answers d) (sym is) ((λ s bytes h. let x = visits s bytes h.1 in visited d (Stopped r) s bytes (Err r) h x x.told), tt)
+  ends d Lost result visits is = subst (Answers d) (sym is) (tt, (λ s bytes h. inl refl))
+
+  pub finished : (d now : Decoding S R) (c : Course S R) (result : Result (Result S R) TreeFault) → d ≡ now → ((s : S) (bytes : List ℕ) → WasHeard (λ ms. HearsBy Took Refuse (Going s) d.course ms) d.reading bytes → Visits (λ ms. HearsBy Took Refuse (Going s) c ms) d.reading.limit bytes) → EndsSo c result → Answers now result
+  finished d now c result same visits is = subst (λ (z : Decoding S R). Answers z result) same (ends d c result visits is)
+
+  pub failed : (d now : Decoding S R) (f : TreeFault) → d ≡ now → ((s : S) (bytes : List ℕ) → WasHeard (λ ms. HearsBy Took Refuse (Going s) d.course ms) d.reading bytes → ReadingFails d.reading.limit bytes f) → (s : S) (bytes : List ℕ) → WasFed Took Refuse s now bytes → (f ≡ tree.Memory) ⊎ TreeFails bytes f
+  failed d now f same fails s bytes h =
+      let g = subst (λ (z : Decoding S R). WasFed Took Refuse s z bytes) (sym same) h in
+      unread bytes f (subst (λ (n : ℕ). ReadingFails n bytes f) g.0 (fails s bytes g.1))
+    where
+      unread : (bytes : List ℕ) (f : TreeFault) → ReadingFails document_limit bytes f → (f ≡ tree.Memory) ⊎ TreeFails bytes f
+      unread bytes f (inl e) = inl e
+      unread bytes f (inr h) = inr (record { refusal = h.0; none = λ root doc. h.1 root doc.document doc.short doc.shallow })

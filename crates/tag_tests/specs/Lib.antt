@@ -7,3 +7,4 @@ pub mod Readers
 pub mod Heard
 pub mod Kinds
 pub mod Characters
+pub mod Places

@@ -7,15 +7,18 @@
 //! together at one tag, and `Courses` of one who is told of marks and goes on hearing after a refusal.
 //!
 //! [`both`] joins what was read of two numbers, and [`value`] finds an attribute. Whoever says of each mark that it is taken, or
-//! how it is refused, is a [`MarkReader`], and [`read_marks`] has it read a document.
+//! how it is refused, is a [`MarkReader`]: a [`Decoder`] has it read a document that comes in pieces, and [`read_marks`] one in a
+//! whole. [`Led`] and [`named`] say where the start tag of an element of some name leads.
 #![tactic(auto)]
 
 mod attributes;
+mod decoder;
 mod marks;
 mod numbers;
-mod visits;
+mod places;
 
 pub use attributes::value;
+pub use decoder::{Course, Decoder, read_marks};
 pub use marks::{MarkReader, Stop};
 pub use numbers::{Unread, both};
-pub use visits::read_marks;
+pub use places::{Led, named};

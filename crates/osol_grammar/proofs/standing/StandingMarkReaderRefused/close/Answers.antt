@@ -2,7 +2,7 @@ use Rattle.std.proofs.Common.{◌≡◌, ℕ, zero, suc, ◌≤◌, refl, arith}
 use Rattle.doc_tree.specs.Marks.{Finish}
 use Rattle.tag_tests.proofs.Readers.{step_as}
 use Rattle.osol_grammar.specs.declared.place.Place.{Place}
-use Rattle.osol_grammar.specs.Table.{ends, end_kind}
+use Rattle.tag_tests.specs.Places.{ends, end_kind}
 use Rattle.osol_grammar.specs.Marked.{by_kinds}
 use Rattle.osol_grammar.proofs.standing.StandingMarkReaderRefused.close.Goals as goal
 

@@ -2,7 +2,7 @@ use Rattle.std.proofs.Common.{◌≡◌, ℕ, zero, suc, ◌≤◌, refl, arith}
 use Rattle.doc_tree.specs.Marks.{Finish}
 use Rattle.tag_tests.proofs.Readers.{step_as}
 use Rattle.ospl_grammar.specs.declared.place.Place.{Place}
-use Rattle.ospl_grammar.specs.Table.{ends, end_kind}
+use Rattle.tag_tests.specs.Places.{ends, end_kind}
 use Rattle.ospl_grammar.specs.Marked.{by_kinds}
 use Rattle.ospl_grammar.proofs.standing.StandingMarkReaderUnit.close.Goals as goal
 
