@@ -14,7 +14,6 @@ pub mod BareTexts
 pub mod OneValue
 pub mod OneState
 pub mod OneDocument
-pub mod Hearings
 pub mod Decodings
 pub mod CharMarks
 pub mod Steps

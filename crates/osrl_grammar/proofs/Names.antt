@@ -53,8 +53,8 @@ pub use Rattle.osrl_grammar.specs.Table.{around, back, bad, begins, ends, great,
 pub use Rattle.osrl_grammar.specs.Values.{Begins, IsCause, IsFraction, IsMult, IsMultOf, IsNode, IsOne, IsPlace, SaysCause, SaysNode, cause_head, node_head}
 pub use Rattle.osrl_grammar.specs.Words.{claiming_text, part_name, status_text, worded}
 pub use Rattle.osrl_grammar.specs.Writing.{cause_part, cause_text, certificate_part, claim_nodes, dual_values, fraction_texts, general_nodes, general_type, indexed, item_nodes, leaf_of, mult_text, node_text, optimization, point_parts, point_values, ray_part, report_element, report_text, row_values, solution, status_nodes, tree_part, values_part, values_part_unless_none, variable_values}
-pub use Rattle.osrl_grammar.specs.declared.elements.Led.{Led}
-pub use Rattle.osrl_grammar.specs.declared.elements.Led.TheVariants.{OtherRoot, Over, To}
+pub use Rattle.tag_tests.specs.declared.places.Led.{Led}
+pub use Rattle.tag_tests.specs.declared.places.Led.TheVariants.{OtherRoot, Over, To}
 pub use Rattle.osrl_grammar.specs.declared.fault.OsrlFault.{OsrlFault}
 pub use Rattle.osrl_grammar.specs.declared.fault.OsrlFault.TheVariants.{Memory}
 pub use Rattle.osrl_grammar.specs.declared.held.Held.{Held}
@@ -70,7 +70,6 @@ pub use Rattle.rational.specs.Whole.{signed}
 pub use Rattle.rational.specs.Width.{IsReduced, IsWithin, most}
 pub use Rattle.tag_tests.proofs.Fields.{both_read}
 pub use Rattle.tag_tests.proofs.Forms.{taken_once}
-pub use Rattle.tag_tests.specs.Courses.{Course, Going, Hears}
 pub use Rattle.tag_tests.specs.Fields.{FieldsRead}
 pub use Rattle.tag_tests.specs.Forms.{AreTaken, Takes}
 pub use Rattle.tag_tests.specs.Tests.{AllPass, FirstFails}

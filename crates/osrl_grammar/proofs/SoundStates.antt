@@ -6,7 +6,7 @@ use Rattle.element_tree.proofs.XmlTexts.{text_append}
 use Rattle.document_tags.specs.Characters.{NodesOfCharacters, IsOfCharacters}
 use Rattle.certificate.specs.declared.causes.Cause as why
 use Rattle.certificate.specs.declared.causes.Cause.TheVariants as causes
-use Rattle.osrl_grammar.specs.declared.elements.Led.TheVariants as led
+use Rattle.tag_tests.specs.declared.places.Led.TheVariants as led
 use Rattle.osrl_grammar.specs.declared.elements.Place.{Place}
 use Rattle.osrl_grammar.specs.declared.elements.Place.TheVariants as places
 use Rattle.osrl_grammar.specs.declared.parts.Part.TheVariants as parts
@@ -184,7 +184,7 @@ begun_sound : (n : ℕ) (s : State) (m : Mark) (p : Place) → Sound n s → Sou
 begun_sound n s m (places.Result p) f = (no_text, f.1, f.2, part_fits p n s.held f.3, f.4)
 begun_sound n s m p f = (no_text, f.1, f.2, f.3, f.4)
 
-led_sound : (n : ℕ) (s z : State) (m : Mark) (l : Led) → Leaves s m (begins l) z → Sound n s → Sound n z
+led_sound : (n : ℕ) (s z : State) (m : Mark) (l : Led Place) → Leaves s m (begins l) z → Sound n s → Sound n z
 led_sound n s z m (led.To p) h f = subst (Sound n) (sym h) (begun_sound n s m p f)
 led_sound n s z m led.Over h f = subst (Sound n) (sym h) f
 led_sound n s z m led.OtherRoot h f = absurd h

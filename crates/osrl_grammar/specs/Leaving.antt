@@ -8,7 +8,7 @@ use Rattle.certificate.specs.declared.nodes.Node.{Node}
 use Rattle.certificate.specs.declared.causes.Cause as why
 use Rattle.osrl_grammar.specs.declared.elements.Place.{Place}
 use Rattle.osrl_grammar.specs.declared.elements.Place.TheVariants.{Osrl, GeneralStatus, JobId, Message, JobStatus, Solution, SolutionStatus, Result, Item}
-use Rattle.osrl_grammar.specs.declared.elements.Led.TheVariants.{To, Over, OtherRoot}
+use Rattle.tag_tests.specs.declared.places.Led.TheVariants.{To, Over, OtherRoot}
 use Rattle.osrl_grammar.specs.declared.report.Report.{Report}
 use Rattle.osrl_grammar.specs.declared.held.Held.{Held}
 use Rattle.osrl_grammar.specs.declared.parts.Part.{Part}

@@ -5,8 +5,9 @@ use Rattle.doc_tree.specs.Marks.{Mark, Start, Char, Finish}
 use Rattle.document_tags.specs.Elements.{value_of}
 use Rattle.osrl_grammar.specs.declared.elements.Place.{Place}
 use Rattle.osrl_grammar.specs.declared.elements.Place.TheVariants.{Outside, Osrl, General, GeneralStatus, JobId, Message, Job, JobStatus, Optimization, Solution, SolutionStatus, Results, Result, Item}
-use Rattle.osrl_grammar.specs.declared.elements.Led.{Led}
-use Rattle.osrl_grammar.specs.declared.elements.Led.TheVariants.{To, Over, OtherRoot}
+use Rattle.tag_tests.specs.declared.places.Led.{Led}
+use Rattle.tag_tests.specs.declared.places.Led.TheVariants.{To, Over, OtherRoot}
+use Rattle.tag_tests.specs.Places.{Child, child, among}
 use Rattle.osrl_grammar.specs.declared.parts.Part.{Part}
 use Rattle.osrl_grammar.specs.declared.parts.Part.TheVariants.{Point, Value, Ray, Tree, Cause}
 use Rattle.osrl_grammar.specs.declared.parts.Misread.{Misread}
@@ -19,16 +20,8 @@ use Rattle.osrl_grammar.specs.Numbers.{Field}
 use Rattle.osrl_grammar.specs.Items.{item_fields}
 use Rattle.osrl_grammar.specs.Standing.{State}
 
--- an element that is read where it stands, by its name, or by what it says as its name
-pub record Child : Type 0 where
-  pub name : List ℕ
-  pub place : Place
-
-abbrev pub child : List ℕ → Place → Child
-child name place = record { name = name; place = place }
-
 -- WHAT IS READ IN WHAT: the child elements of these names
-abbrev pub content : Place → List Child
+abbrev pub content : Place → List (Child Place)
 content Outside = child (codes "osrl") Osrl ∷ []
 content Osrl = child (codes "general") General ∷ child (codes "job") Job ∷ child (codes "optimization") Optimization ∷ []
 content General = child (codes "generalStatus") GeneralStatus ∷ child (codes "jobID") JobId ∷ child (codes "message") Message ∷ []
@@ -39,34 +32,30 @@ content (Result p) = child (codes "item") (Item p) ∷ []
 content p = []
 
 -- the results that are read, by what their attribute `name` says
-abbrev pub parts : List Child
+abbrev pub parts : List (Child Place)
 parts = child (part_name Point) (Result Point) ∷ child (part_name Value) (Result Value) ∷ child (part_name Ray) (Result Ray) ∷ child (part_name Tree) (Result Tree) ∷ child (part_name Cause) (Result Cause) ∷ []
 
 -- all else is passed over; a root of another name is that of no result document
-abbrev pub otherwise : Place → Led
+abbrev pub otherwise : Place → Led Place
 otherwise Outside = OtherRoot
 otherwise p = Over
 
 -- where the start tag of an element of this name leads
-abbrev pub among : List ℕ → List Child → Led → Led
-among name [] other = other
-among name (c ∷ cs) other = cond (bytes_eq name c.name) (To c.place) (among name cs other)
+abbrev pub named_led : Place → List ℕ → Led Place
+named_led p name = among (λ q. To q) name (content p) (otherwise p)
 
-abbrev pub named_led : Place → List ℕ → Led
-named_led p name = among name (content p) (otherwise p)
+abbrev pub part_led : List ℕ → Led Place
+part_led name = among (λ q. To q) name parts Over
 
-abbrev pub part_led : List ℕ → Led
-part_led name = among name parts Over
-
-abbrev pub named_part_led : Option (List ℕ) → Led
+abbrev pub named_part_led : Option (List ℕ) → Led Place
 named_part_led None = Over
 named_part_led (Some name) = part_led name
 
 -- where the start tag of an element in `otherSolutionResults` leads
-abbrev pub result_led : List ℕ → List Attribute → Led
+abbrev pub result_led : List ℕ → List Attribute → Led Place
 result_led name as' = cond (bytes_eq name (codes "otherSolutionResult")) (named_part_led (value_of (codes "name") as')) Over
 
-abbrev pub leads : Place → List ℕ → List Attribute → Led
+abbrev pub leads : Place → List ℕ → List Attribute → Led Place
 leads Results name as' = result_led name as'
 leads p name as' = named_led p name
 
@@ -89,7 +78,7 @@ around (Item p) = Result p
 
 -- the kinds of marks: a start tag that leads there, characters in such an element, and in one that is passed over, the end tag of such an element, and of one that is passed over
 pub data Kind : Type 0 where
-  begins : Led → Kind
+  begins : Led Place → Kind
   text : Place → Kind
   unheard : Kind
   ends : Place → Kind

@@ -2,133 +2,71 @@
 
 ghost use Rattle.std.specs.Prelude.{◌≡◌, ◌++◌, [], List, ℕ, None, Ok, Err, Some, IfOk, IfErr, MatchOption};
 ghost use Rattle.doc_tree.specs.declared.fault.TreeFault.{TreeFault};
-ghost use Rattle.tag_tests.specs.Courses.{Going};
-ghost use Rattle.osrl_grammar.specs.Standing as states;
 ghost use Rattle.osrl_grammar.specs.Reading.{IsReportText, DecodeFails};
-ghost use Rattle.osrl_grammar.specs.Hearing.{IsKept, EndsSo, WasFed, tree_fault};
+ghost use Rattle.osrl_grammar.specs.Hearing.{IsToldAs, WasFed, tree_fault};
 
 use crate::fault::OsrlFault;
 use crate::report::Report;
 use crate::standing::Standing;
-use doc_tree::{Events, TreeFault, Visitor};
+use doc_tree::TreeFault;
 use element_tree::Attributes;
-use os_io::{MOST_BYTES, Memory};
-use std::alloc::{AllocError, Global};
+use std::alloc::Global;
 use std::marker::Model;
+use tag_tests::{Decoder as MarkDecoder, MarkReader, Stop};
 
-/// One who is told of a document's marks: what they leave, or how one was refused. Behind a refusal it hears on and
-/// holds nothing, since a tree's refusal comes first.
-#[derive(Drop)]
-struct Listener {
-    alloc: Global,
-    standing: Standing,
-    refused: Option<OsrlFault>,
-}
-
-impl Model for Listener {
-    ghost use Rattle.tag_tests.specs.Courses.{Course};
-    ghost use Rattle.osrl_grammar.specs.Standing.{State};
-    ghost use Rattle.osrl_grammar.specs.declared.fault.OsrlFault.{OsrlFault};
-
-    ghost Value = { Course State OsrlFault };
-
-    ghost use Rattle.osrl_grammar.specs.Hearing.{course};
-
-    ghost view = { λ l. course l.refused l.standing };
-}
-
-/// Keeps what a mark came to, where none was refused. What was refused, or found no memory, holds nothing more.
-fn keep(
-    alloc: Global,
-    standing: &mut Standing,
-    refused: &mut Option<OsrlFault>,
-    step: Result<(), OsrlFault>,
-) -> Result<(), Memory>
-    requires { refused.old ≡ None }
-    ensures { IsKept step standing.old standing.new refused.new result }
+/// What a mark came to, as whoever is told of marks takes it.
+fn told(step: Result<(), OsrlFault>) -> Result<(), Stop<OsrlFault>>
+    ensures { IsToldAs step result }
 {
     match step {
         Ok(()) => Ok(()),
-        Err(OsrlFault::Memory) => {
-            *standing = Standing::new(alloc);
-            Err(AllocError)
-        }
-        Err(fault) => {
-            *standing = Standing::new(alloc);
-            *refused = Some(fault);
-            Ok(())
-        }
+        Err(OsrlFault::Memory) => Err(Stop::Memory),
+        Err(fault) => Err(Stop::Refused(fault)),
     }
 }
 
-impl Listener {
-    /// One who was told nothing.
-    fn new(alloc: Global) -> Self
-        ensures { result ≡ Going states.start }
-    {
-        Listener {
-            alloc,
-            standing: Standing::new(alloc),
-            refused: None,
-        }
-    }
-
-    /// The report that the marks say, or how one was refused.
-    fn finish(self) -> Result<Report, OsrlFault>
-        ensures { EndsSo self result }
-    {
-        let Listener {
-            standing,
-            refused,
-            ..
-        } = self;
-        match refused {
-            Some(fault) => Err(fault),
-            None => Ok(standing.report()),
-        }
-    }
-}
-
-impl Visitor for Listener {
-    ghost use Rattle.tag_tests.specs.Courses.{Hears};
-    ghost use Rattle.tag_tests.proofs.Courses.{hears_nothing, hears_both};
+impl MarkReader<OsrlFault> for Standing {
+    ghost use Rattle.std.proofs.Common.{refl};
+    ghost use Rattle.tag_tests.specs.Forms.{AreTaken, AreRefused};
+    ghost use Rattle.tag_tests.proofs.Forms.{taken_both, refused_behind, refused_more};
     ghost use Rattle.osrl_grammar.specs.Marked.{osrl};
 
-    ghost had = { λ u v ms. Hears osrl u v ms };
+    ghost took = { λ s ms z. AreTaken osrl s ms z };
 
-    ghost stays = { λ v. hears_nothing osrl v };
+    ghost refuses = { λ s ms f. AreRefused osrl s ms f };
 
-    ghost joined = { λ u v w first second. hears_both osrl u v w first second };
+    ghost took_none = { λ s. refl };
 
-    fn enter(&mut self, name: &[u8], attributes: &Attributes<'_>) -> Result<(), Memory> {
-        if self.refused.is_some() {
-            return Ok(());
+    ghost took_both = { λ s m z ms ns p q. taken_both osrl s m z ms ns p q };
+
+    ghost refuses_behind = { λ s m ms ns f p q. refused_behind osrl s m ms ns f p q };
+
+    ghost refuses_more = { λ s ms ns f p. refused_more osrl s ms ns f p };
+
+    fn enter(
+        &mut self,
+        _alloc: Global,
+        name: &[u8],
+        attributes: &Attributes<'_>,
+    ) -> Result<(), Stop<OsrlFault>> {
+        if self.is_full() {
+            return Err(Stop::Memory);
         }
-        if self.standing.is_full() {
-            return Err(AllocError);
-        }
-        let step = self.standing.enter(name, attributes);
-        keep(self.alloc, &mut self.standing, &mut self.refused, step)
+        told(self.go_in(name, attributes))
     }
 
-    fn chars(&mut self, text: &[u8]) -> Result<(), Memory> {
-        if self.refused.is_some() {
-            return Ok(());
-        }
-        self.standing.chars(text)
+    fn chars(&mut self, _alloc: Global, text: &[u8]) -> Result<(), Stop<OsrlFault>> {
+        self.go_on(text)?;
+        Ok(())
     }
 
-    fn close(&mut self, name: &[u8]) -> Result<(), Memory> {
-        if self.refused.is_some() {
-            return Ok(());
-        }
-        let step = self.standing.close();
-        keep(self.alloc, &mut self.standing, &mut self.refused, step)
+    fn close(&mut self, _alloc: Global, _name: &[u8]) -> Result<(), Stop<OsrlFault>> {
+        told(self.go_out())
     }
 }
 
 /// A tree's refusal as it is told.
-fn told(fault: TreeFault) -> OsrlFault
+fn refused(fault: TreeFault) -> OsrlFault
     ensures { result ≡ tree_fault fault }
 {
     match fault {
@@ -142,15 +80,17 @@ fn told(fault: TreeFault) -> OsrlFault
 /// Contracts say which bytes it was fed (`WasFed`), and why it takes no more, if it doesn't.
 #[derive(Drop)]
 pub struct Decoder {
-    events: Events<Listener>,
+    marks: MarkDecoder<OsrlFault, Standing>,
 }
 
 impl Model for Decoder {
-    ghost use Rattle.osrl_grammar.specs.Hearing.{Decoding};
+    ghost use Rattle.tag_tests.specs.Readers.{Decoding};
+    ghost use Rattle.osrl_grammar.specs.Standing.{State};
+    ghost use Rattle.osrl_grammar.specs.declared.fault.OsrlFault.{OsrlFault};
 
-    ghost Value = { Decoding };
+    ghost Value = { Decoding State OsrlFault };
 
-    ghost view = { λ d. record { reading = d.events.reading; course = d.events.visitor } };
+    ghost view = { λ d. d.marks };
 }
 
 impl Decoder {
@@ -160,7 +100,7 @@ impl Decoder {
         ensures refusal { result.reading.refusal ≡ None }
     {
         Decoder {
-            events: Events::new(alloc, MOST_BYTES, Listener::new(alloc)),
+            marks: MarkDecoder::new(alloc, Standing::new(alloc)),
         }
     }
 
@@ -171,9 +111,9 @@ impl Decoder {
         ensures answers { MatchOption self.new.reading.refusal (result ≡ Ok tt) (λ fault. result ≡ Err (tree_fault fault)) }
         ensures fed { (bytes : List ℕ) → WasFed self.old bytes → WasFed self.new (bytes ++ piece.now) }
     {
-        match self.events.feed(piece) {
+        match self.marks.feed(piece) {
             Ok(()) => Ok(()),
-            Err(fault) => Err(told(fault)),
+            Err(fault) => Err(refused(fault)),
         }
     }
 
@@ -184,9 +124,10 @@ impl Decoder {
         ensures ok { IfOk result (λ r. (bytes : List ℕ) → WasFed self bytes → IsReportText bytes r) }
         ensures err { IfErr result (λ fault. (bytes : List ℕ) → WasFed self bytes → DecodeFails bytes fault) }
     {
-        match self.events.finish() {
-            Ok(listener) => listener.finish(),
-            Err(fault) => Err(told(fault)),
+        match self.marks.finish() {
+            Ok(Ok(standing)) => Ok(standing.report()),
+            Ok(Err(fault)) => Err(fault),
+            Err(fault) => Err(refused(fault)),
         }
     }
 }

@@ -1,13 +1,12 @@
 //! Where a mark may stand.
 
-ghost use Rattle.std.specs.Prelude.{◌≡◌, cond, bytes_eq, codes};
+ghost use Rattle.std.specs.Prelude.{◌≡◌};
 ghost use Rattle.osrl_grammar.specs.declared.elements.Place.TheVariants as places;
-ghost use Rattle.osrl_grammar.specs.declared.elements.Led.TheVariants as led;
 ghost use Rattle.osrl_grammar.specs.Table as table;
 
 use crate::parts::{Part, part_name};
 use element_tree::Attributes;
-use tag_tests::value;
+use tag_tests::{Led, named, value};
 
 /// The innermost element that is read and that the marks to come stand in.
 #[derive(Clone, Copy, PartialEq, Eq, Drop)]
@@ -30,30 +29,8 @@ pub(crate) enum Place {
     Item(Part),
 }
 
-/// Where a start tag leads.
-#[derive(Clone, Copy, PartialEq, Eq, Drop)]
-pub(crate) enum Led {
-    /// Into an element that is read.
-    To(Place),
-    /// Into one that is passed over.
-    Over,
-    /// Nowhere: it is a root of another name.
-    OtherRoot,
-}
-
-/// There, if the name is this one, else as is said.
-fn named(name: &[u8], wanted: &[u8], place: Place, other: Led) -> Led
-    ensures { result ≡ cond (bytes_eq name.now wanted.now) (led.To place) other }
-{
-    if name == wanted {
-        Led::To(place)
-    } else {
-        other
-    }
-}
-
 /// Where the start tag of an element in the root leads.
-fn root_led(name: &[u8]) -> Led
+fn root_led(name: &[u8]) -> Led<Place>
     ensures { result ≡ table.named_led places.Osrl name.now }
 {
     if name == b"general".as_slice() {
@@ -61,12 +38,12 @@ fn root_led(name: &[u8]) -> Led
     } else if name == b"job".as_slice() {
         Led::To(Place::Job)
     } else {
-        named(name, b"optimization", Place::Optimization, Led::Over)
+        named(name, b"optimization", Led::To(Place::Optimization), Led::Over)
     }
 }
 
 /// Where the start tag of an element of the general part leads.
-fn general_led(name: &[u8]) -> Led
+fn general_led(name: &[u8]) -> Led<Place>
     ensures { result ≡ table.named_led places.General name.now }
 {
     if name == b"generalStatus".as_slice() {
@@ -74,23 +51,23 @@ fn general_led(name: &[u8]) -> Led
     } else if name == b"jobID".as_slice() {
         Led::To(Place::JobId)
     } else {
-        named(name, b"message", Place::Message, Led::Over)
+        named(name, b"message", Led::To(Place::Message), Led::Over)
     }
 }
 
 /// Where the start tag of an element of a solution leads.
-fn solution_led(name: &[u8]) -> Led
+fn solution_led(name: &[u8]) -> Led<Place>
     ensures { result ≡ table.named_led places.Solution name.now }
 {
     if name == b"status".as_slice() {
         Led::To(Place::SolutionStatus)
     } else {
-        named(name, b"otherSolutionResults", Place::Results, Led::Over)
+        named(name, b"otherSolutionResults", Led::To(Place::Results), Led::Over)
     }
 }
 
 /// Where the start tag of a result of this name leads.
-fn part_led(name: &[u8]) -> Led
+fn part_led(name: &[u8]) -> Led<Place>
     ensures { result ≡ table.part_led name.now }
 {
     if name == part_name(Part::Point) {
@@ -105,14 +82,14 @@ fn part_led(name: &[u8]) -> Led
         named(
             name,
             part_name(Part::Cause),
-            Place::Result(Part::Cause),
+            Led::To(Place::Result(Part::Cause)),
             Led::Over,
         )
     }
 }
 
 /// Where the start tag of an element among the results of a solution leads.
-fn result_led(name: &[u8], attributes: &Attributes<'_>) -> Led
+fn result_led(name: &[u8], attributes: &Attributes<'_>) -> Led<Place>
     ensures { result ≡ table.result_led name.now attributes.now }
 {
     if name != b"otherSolutionResult".as_slice() {
@@ -125,18 +102,18 @@ fn result_led(name: &[u8], attributes: &Attributes<'_>) -> Led
 }
 
 /// Where the start tag of an element of this name and with these attributes leads.
-pub(crate) fn leads(place: Place, name: &[u8], attributes: &Attributes<'_>) -> Led
+pub(crate) fn leads(place: Place, name: &[u8], attributes: &Attributes<'_>) -> Led<Place>
     ensures { result ≡ table.leads place name.now attributes.now }
 {
     match place {
-        Place::Outside => named(name, b"osrl", Place::Osrl, Led::OtherRoot),
+        Place::Outside => named(name, b"osrl", Led::To(Place::Osrl), Led::OtherRoot),
         Place::Osrl => root_led(name),
         Place::General => general_led(name),
-        Place::Job => named(name, b"status", Place::JobStatus, Led::Over),
-        Place::Optimization => named(name, b"solution", Place::Solution, Led::Over),
+        Place::Job => named(name, b"status", Led::To(Place::JobStatus), Led::Over),
+        Place::Optimization => named(name, b"solution", Led::To(Place::Solution), Led::Over),
         Place::Solution => solution_led(name),
         Place::Results => result_led(name, attributes),
-        Place::Result(part) => named(name, b"item", Place::Item(part), Led::Over),
+        Place::Result(part) => named(name, b"item", Led::To(Place::Item(part)), Led::Over),
         Place::GeneralStatus
         | Place::JobId
         | Place::Message

@@ -13,7 +13,7 @@ ghost use Rattle.osrl_grammar.specs.Leaving as leaving;
 ghost use Rattle.osrl_grammar.specs.Marked.{osrl};
 ghost use Rattle.osrl_grammar.specs.Stepping.{Steps, EndsAt, AreCounted};
 
-use crate::elements::{Led, Place, leads, outer};
+use crate::elements::{Place, leads, outer};
 use crate::fault::OsrlFault;
 use crate::held::Held;
 use crate::parts::{Claiming, Misread, Part};
@@ -26,7 +26,7 @@ use os_io::Text;
 use std::alloc::{AllocError, Global};
 use std::marker::Model;
 use std::mem;
-use tag_tests::value;
+use tag_tests::{Led, value};
 
 /// All that a job's status says.
 const STATUSES: [JobStatus; 6] = [
@@ -258,7 +258,7 @@ impl Standing {
     }
 
     /// Goes past a start tag.
-    pub(crate) fn enter(
+    pub(crate) fn go_in(
         &mut self,
         name: &[u8],
         attributes: &Attributes<'_>,
@@ -285,7 +285,7 @@ impl Standing {
     }
 
     /// Goes past characters.
-    pub(crate) fn chars(&mut self, text: &[u8]) -> Result<(), AllocError>
+    pub(crate) fn go_on(&mut self, text: &[u8]) -> Result<(), AllocError>
         ensures { OnOk result (AreTaken osrl self.old (map Char text.now) self.new) }
     {
         if self.depth > 0 {
@@ -396,7 +396,7 @@ impl Standing {
     }
 
     /// Goes past an end tag.
-    pub(crate) fn close(&mut self) -> Result<(), OsrlFault>
+    pub(crate) fn go_out(&mut self) -> Result<(), OsrlFault>
         ensures { (name : List ℕ) → Steps self.old (Finish name) self.new result }
     {
         if self.depth > 0 {

@@ -1,12 +1,14 @@
-use Rattle.osrl_grammar.proofs.Names.{Going, start}
-use Rattle.osrl_grammar.proofs.Decodings.{finished, failed}
+use Rattle.osrl_grammar.proofs.Names.{ℕ, List, subst, start, OsrlFault, State, IsReportText, DecodeFails}
+use Rattle.tag_tests.specs.Readers.{Decoding}
+use Rattle.osrl_grammar.specs.Hearing.{WasFed}
+use Rattle.osrl_grammar.proofs.Decodings.{is_report, is_refused, is_no_document}
 use Rattle.osrl_grammar.proofs.decoder.Decoder.finish.Goals as goal
 
-pub returns-in-Ok-clause-ok : goal.returns-in-Ok-clause-ok
-returns-in-Ok-clause-ok c = let e = c.self.inside.events in (finished (record { reading = e.reading; course = e.visitor }) c.args.self c.in-Ok.listener c.finish-in-Ok.result c.self.view_is (λ bytes h. c.in-Ok.ensures.visits (Going start) bytes h) c.finish-in-Ok.ensures).0
+pub returns-in-Ok-Ok-clause-ok : goal.returns-in-Ok-Ok-clause-ok
+returns-in-Ok-Ok-clause-ok c = subst (λ (d : Decoding State OsrlFault). (bytes : List ℕ) → WasFed d bytes → IsReportText bytes c.report.result) c.self.view_is (λ bytes h. is_report bytes c.in-Ok-Ok.standing c.report.result c.report.ensures (c.in-Ok.ensures.ok start bytes h))
 
-pub returns-in-Ok-clause-err : goal.returns-in-Ok-clause-err
-returns-in-Ok-clause-err c = let e = c.self.inside.events in (finished (record { reading = e.reading; course = e.visitor }) c.args.self c.in-Ok.listener c.finish-in-Ok.result c.self.view_is (λ bytes h. c.in-Ok.ensures.visits (Going start) bytes h) c.finish-in-Ok.ensures).1
+pub returns-in-Ok-Err-clause-err : goal.returns-in-Ok-Err-clause-err
+returns-in-Ok-Err-clause-err c = subst (λ (d : Decoding State OsrlFault). (bytes : List ℕ) → WasFed d bytes → DecodeFails bytes c.in-Ok-Err.fault) c.self.view_is (λ bytes h. is_refused bytes c.in-Ok-Err.fault (c.in-Ok.ensures.ok start bytes h))
 
 pub returns-in-Err-clause-err : goal.returns-in-Err-clause-err
-returns-in-Err-clause-err c = let e = c.self.inside.events in failed (record { reading = e.reading; course = e.visitor }) c.args.self c.in-Err.fault c.told.result c.self.view_is c.told.ensures (λ bytes h. c.in-Err.ensures.refuses (Going start) bytes h)
+returns-in-Err-clause-err c = subst (λ (d : Decoding State OsrlFault). (bytes : List ℕ) → WasFed d bytes → DecodeFails bytes c.refused.result) c.self.view_is (λ bytes h. is_no_document bytes c.in-Err.fault c.refused.result c.refused.ensures (c.in-Err.ensures.err start bytes h))

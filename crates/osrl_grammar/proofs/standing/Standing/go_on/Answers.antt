@@ -1,5 +1,5 @@
 use Rattle.osrl_grammar.proofs.CharMarks.{chars_over, chars_kept, chars_passed}
-use Rattle.osrl_grammar.proofs.standing.Standing.chars.Goals as goal
+use Rattle.osrl_grammar.proofs.standing.Standing.go_on.Goals as goal
 
 pub returns-then-self-gt0 : goal.returns-then-self-gt0
 returns-then-self-gt0 c = chars_over _ c.args.self.now c.self.view_is c.args.text.now c.if-self-gt0.true
