@@ -1,49 +1,46 @@
--- Bytes that a decoder was fed, and what it answers of them.
-use Rattle.osil_grammar.proofs.Words.{◌≡◌, ◌∙◌, ℕ, ◌++◌, inl, inr, List, refl, sym, subst, Option, None, Some, MatchOption, Result, Ok, Err, IfOk, IfErr, IsTextWithin, document_limit, AreRefused, Course, Going, Stopped, Hears, Parts, OsilFault, State, start, Told, osil, marks, IsInstanceText, DecodeFails, Decoding, WasFed, EndsSo, tree_fault}
-use Rattle.doc_tree.specs.Reading.{Visits, ReadingFails, Refused}
-use Rattle.doc_tree.specs.Feeding.{WasHeard, Heard}
+-- What is kept of marks, and what a decoder answers of the bytes that it was fed.
+use Rattle.osil_grammar.proofs.Words.{◌≡◌, ℕ, ◌⊎◌, inl, inr, List, [], ◌∷◌, refl, sym, subst, Result, Ok, Err, Mark, AreTaken, Parts, Stop, OsilFault, State, start, osil, IsInstanceText, DecodeFails, Steps, told_of, instance_of, IsFit, IsKept, Refuse, tree_fault}
 use Rattle.doc_tree.specs.declared.fault.TreeFault.{TreeFault}
 use Rattle.doc_tree.specs.declared.fault.TreeFault.TheVariants as tree
-use Rattle.doc_tree.proofs.TextTrees.Verdicts.{refused_ends}
-use Rattle.osil_grammar.specs.Reading.{IsDocument}
+use Rattle.document_tags.specs.Documents.{OfDocument, TreeFails}
+use Rattle.tag_tests.specs.declared.marks.Stop as marks
+use Rattle.tag_tests.specs.Readers as readers
+use Rattle.tag_tests.specs.Readers.{Reads}
+use Rattle.tag_tests.proofs.Forms.{refused_here}
+use Rattle.osil_grammar.specs.declared.stop.Stop.TheVariants as stops
+use Rattle.osil_grammar.specs.declared.fault.Refusal as code
+use Rattle.osil_grammar.specs.declared.fault.OsilFault.TheVariants.{Tree, Refused, Memory}
+use Rattle.osil_grammar.specs.declared.decoder.Refused as kept
+use Rattle.osil_grammar.proofs.HeldNumbers.{fit_start, fit_kept}
 
--- the next piece was fed
-pub fed_more : (d now new : Decoding) (piece : List ℕ) → d ≡ now → new.reading.limit ≡ d.reading.limit → ((bytes : List ℕ) → WasHeard (λ ms. Hears osil (Going start) d.course ms) d.reading bytes → WasHeard (λ ms. Hears osil (Going start) new.course ms) new.reading (bytes ++ piece)) → (bytes : List ℕ) → WasFed now bytes → WasFed new (bytes ++ piece)
-fed_more d now new piece same limit more bytes h = let g = subst (λ (z : Decoding). WasFed z bytes) (sym same) h in (limit ∙ g.0, more bytes g.1)
+module _ {X : Type 0} (s : State) (m : Mark) (z w : State) (result : Result (Unit {0}) (marks.Stop kept.Refused)) where
+  -- a step that was kept leaves a state that is fit
+  pub kept_fit : (step : Result X Stop) → IsFit s → Steps s m z step → IsKept step z w result → IsFit w
+  kept_fit (Ok x) fit steps k = subst IsFit (sym k.0) (fit_kept s (m ∷ []) z (z, steps, refl) fit)
+  kept_fit (Err (stops.Refused r n)) fit steps k = subst IsFit (sym k.0) fit_start
+  kept_fit (Err stops.Memory) fit steps k = subst IsFit (sym k.0) fit_start
 
--- a tree's refusal
-fault_fails : (bytes : List ℕ) (f : TreeFault) → ReadingFails document_limit bytes f → DecodeFails bytes (tree_fault f)
-fault_fails bytes tree.Memory h = tt
-fault_fails bytes f (inl same) = absurd (cc)
-fault_fails bytes f (inr h) = (h.0, λ root doc. h.1 root doc.document doc.short doc.shallow)
+  abbrev Told : Result (Unit {0}) (marks.Stop kept.Refused) → Type 0
+  Told r = readers.Steps (AreTaken osil) Refuse s (m ∷ []) w r
 
-pub failed : (d now : Decoding) (f : TreeFault) (told : OsilFault) → d ≡ now → told ≡ tree_fault f → ((bytes : List ℕ) → WasHeard (λ ms. Hears osil (Going start) d.course ms) d.reading bytes → ReadingFails d.reading.limit bytes f) → (bytes : List ℕ) → WasFed now bytes → DecodeFails bytes told
-failed d now f told same is fails bytes h =
-    let g = subst (λ (z : Decoding). WasFed z bytes) (sym same) h in
-    subst (DecodeFails bytes) (sym is) (fault_fails bytes f (subst (λ (n : ℕ). ReadingFails n bytes f) g.0 (fails bytes g.1)))
+  -- and is told
+  pub kept_told : (step : Result X Stop) → Steps s m z step → IsKept step z w result → Told result
+  kept_told (Ok x) steps k = subst Told (sym k.1) (w, subst (λ (y : State). Steps {X = X} s m y (Ok x)) (sym k.0) steps, refl)
+  kept_told (Err (stops.Refused r n)) steps k = subst Told (sym k.1) (refused_here osil s m [] (told_of r n) steps)
+  kept_told (Err stops.Memory) steps k = subst Told (sym k.1) tt
 
--- a piece was refused
-refused_by : (bytes : List ℕ) (o : Option TreeFault) (P : Type 0) (result : Result (Unit {0}) OsilFault) (fault : OsilFault) → result ≡ Err fault → MatchOption o (result ≡ Ok tt) (λ f. result ≡ Err (tree_fault f)) → MatchOption o P (Refused document_limit bytes) → DecodeFails bytes fault
-refused_by bytes None P result fault is answers h = absurd (let clash : Ok tt ≡ Err fault = sym answers ∙ is in cc)
-refused_by bytes (Some f) P result fault is answers h =
-    let same : tree_fault f ≡ fault = cc in
-    subst (DecodeFails bytes) same (fault_fails bytes f (refused_ends document_limit bytes f h))
+-- a document that stands for an instance, and one that is refused
+pub is_instance : (bytes : List ℕ) (z : State) (p : Parts) → p ≡ instance_of z → OfDocument (Reads {R = kept.Refused} (AreTaken osil) Refuse start) bytes (Ok z) → IsInstanceText bytes p
+is_instance bytes z p is h = record { root = h.root; document = h.document; means = (z, h.is, is) }
 
-pub feed_refused : (d : Decoding) (bytes : List ℕ) (result : Result (Unit {0}) OsilFault) (fault : OsilFault) → result ≡ Err fault → MatchOption d.reading.refusal (result ≡ Ok tt) (λ f. result ≡ Err (tree_fault f)) → WasFed d bytes → DecodeFails bytes fault
-feed_refused d bytes result fault is answers h = refused_by bytes d.reading.refusal _ result fault is answers (subst (λ (n : ℕ). MatchOption d.reading.refusal (Heard (λ ms. Hears osil (Going start) d.course ms) d.reading bytes) (Refused n bytes)) h.0 h.1)
+pub is_refused : (bytes : List ℕ) (r : kept.Refused) → OfDocument (Reads (AreTaken osil) Refuse start) bytes (Err r) → DecodeFails bytes (Refused r.refusal r.at)
+is_refused bytes r h = record { root = h.root; document = h.document; refused = h.is }
 
--- the answer in the end
-abbrev Answers : Decoding → Result Parts OsilFault → Type 0
-Answers d result = IfOk result (λ p. (bytes : List ℕ) → WasFed d bytes → IsInstanceText bytes p) × IfErr result (λ f. (bytes : List ℕ) → WasFed d bytes → DecodeFails bytes f)
+-- bytes that are none
+tree_fails : (bytes : List ℕ) (f : TreeFault) → (f ≡ tree.Memory) ⊎ TreeFails bytes f → DecodeFails bytes (tree_fault f)
+tree_fails bytes tree.Memory h = tt
+tree_fails bytes f (inl same) = absurd (cc)
+tree_fails bytes f (inr h) = (h.refusal, h.none)
 
-whole : (d : Decoding) (v : Course State Told) (bytes : List ℕ) → WasFed d bytes → (x : Visits (λ ms. Hears osil (Going start) v ms) d.reading.limit bytes) → IsDocument bytes x.element
-whole d v bytes h x = record { document = x.document; short = subst (λ (n : ℕ). IsTextWithin n bytes) h.0 x.within; shallow = x.shallow }
-
-ends : (d : Decoding) (v : Course State Told) (result : Result Parts OsilFault) → ((bytes : List ℕ) → WasHeard (λ ms. Hears osil (Going start) d.course ms) d.reading bytes → Visits (λ ms. Hears osil (Going start) v ms) d.reading.limit bytes) → EndsSo v result → Answers d result
-ends d (Going s) result visits is =
-    subst (Answers d) (sym is) ((λ bytes h. let x = visits bytes h.1 in record { root = x.element; document = whole d (Going s) bytes h x; means = (s, x.told, refl) }), tt)
-ends d (Stopped t) result visits (r, n, same, is) =
-    subst (Answers d) (sym is) (tt, (λ bytes h. let x = visits bytes h.1 in record { root = x.element; document = whole d (Stopped t) bytes h x; refused = subst (λ (u : Told). AreRefused osil start (marks x.element) u) (sym same) x.told }))
-
-pub finished : (d now : Decoding) (v : Course State Told) (result : Result Parts OsilFault) → d ≡ now → ((bytes : List ℕ) → WasHeard (λ ms. Hears osil (Going start) d.course ms) d.reading bytes → Visits (λ ms. Hears osil (Going start) v ms) d.reading.limit bytes) → EndsSo v result → Answers now result
-finished d now v result same visits is = subst (λ (z : Decoding). Answers z result) same (ends d v result visits is)
+pub is_no_document : (bytes : List ℕ) (f : TreeFault) (told : OsilFault) → told ≡ tree_fault f → (f ≡ tree.Memory) ⊎ TreeFails bytes f → DecodeFails bytes told
+is_no_document bytes f told is h = subst (DecodeFails bytes) (sym is) (tree_fails bytes f h)

@@ -1,5 +1,5 @@
 -- The lists of the matrix and its entries are never held at once.
-use Rattle.osil_grammar.proofs.Words.{◌≡◌, ℕ, ◌≤◌, inl, inr, Bool, true, false, cond, List, [], ◌∷◌, refl, sym, subst, arith, bytes_eq, Mark, Start, Char, Finish, AllPass, Takes, AreTaken, Place, Led, State, start, Child, begins, tests, content, otherwise, among, leads, Fails, Begins, Ends, Leaves, osil, IsSound, is_in_matrix, AreHeldApart, HoldsApart}
+use Rattle.osil_grammar.proofs.Words.{◌≡◌, ℕ, ◌≤◌, inl, inr, Bool, true, false, cond, List, [], ◌∷◌, refl, sym, subst, arith, bytes_eq, Mark, Start, Char, Finish, AllPass, Takes, AreTaken, Place, Led, State, start, Child, begins, tests, content, otherwise, among, leads, Fails, Begins, Ends, Leaves, osil, IsSound, is_in_matrix, AreHeldApart, HoldsApart, IsFit}
 use Rattle.osil_grammar.specs.declared.elements.Part.TheVariants as parts
 use Rattle.osil_grammar.specs.declared.elements.Listing.TheVariants as listings
 use Rattle.osil_grammar.specs.declared.elements.Place.TheVariants as places
@@ -12,7 +12,7 @@ IsOnSide b (led.To (places.Part part)) = Unit {0}
 IsOnSide b (led.To p) = is_in_matrix p ≡ b
 IsOnSide b l = Unit {0}
 
-abbrev AreOnSide : Bool → List Child → Type 0
+abbrev AreOnSide : Bool → List (Child Place) → Type 0
 AreOnSide b [] = Unit {0}
 AreOnSide b (c ∷ cs) = IsOnSide b (led.To c.place) × AreOnSide b cs
 
@@ -20,9 +20,9 @@ either_side : (b here : Bool) (l m : Led) → IsOnSide b l → IsOnSide b m → 
 either_side b true l m p q = p
 either_side b false l m p q = q
 
-among_side : (b : Bool) (name : List ℕ) (cs : List Child) (other : Led) → AreOnSide b cs → IsOnSide b other → IsOnSide b (among name cs other)
+among_side : (b : Bool) (name : List ℕ) (cs : List (Child Place)) (other : Led) → AreOnSide b cs → IsOnSide b other → IsOnSide b (among (λ (p : Place). led.To p) name cs other)
 among_side b name [] other all last = last
-among_side b name (c ∷ cs) other all last = either_side b (bytes_eq name c.name) (led.To c.place) (among name cs other) all.0 (among_side b name cs other all.1 last)
+among_side b name (c ∷ cs) other all last = either_side b (bytes_eq name c.name) (led.To c.place) (among (λ (p : Place). led.To p) name cs other) all.0 (among_side b name cs other all.1 last)
 
 leads_side : (p : Place) (name : List ℕ) → IsOnSide (is_in_matrix p) (leads p name)
 leads_side places.Outside name = among_side false name (content places.Outside) (otherwise places.Outside) (refl, tt) tt
@@ -101,9 +101,6 @@ apart_kept s z (Finish name) apart takes = ended_apart s (Finish name) apart s.p
 
 pub apart_start : HoldsApart start
 apart_start = (refl, refl, refl, λ low. refl)
-
-abbrev pub IsFit : State → Type 0
-IsFit s = IsSound s × HoldsApart s
 
 pub fit_start : IsFit start
 fit_start = (sound_start, apart_start)

@@ -34,7 +34,6 @@ pub mod OneState
 pub mod InOrder
 pub mod SoundStates
 pub mod HeldNumbers
-pub mod Hearings
 pub mod Decodings
 pub mod OneDocument
 pub mod WrittenItems

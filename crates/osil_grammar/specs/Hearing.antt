@@ -1,14 +1,17 @@
--- One who is told of a document's marks, as the code holds it, how many items it holds, and a decoder that was fed bytes.
-use Rattle.std.specs.Prelude.{◌≡◌, ℕ, ◌+◌, ◌<◌, Bool, true, false, Option, None, Some, Result, Ok, Err, List, [], length}
-use Rattle.doc_tree.specs.Feeding.{Feeding, WasHeard}
+-- What the reader of OSiL documents keeps of marks, how many items it holds, and a decoder that was fed bytes.
+use Rattle.std.specs.Prelude.{◌≡◌, ℕ, ◌+◌, ◌<◌, Bool, true, false, Result, Ok, Err, List, [], length}
+use Rattle.doc_tree.specs.Marks.{Mark}
 use Rattle.doc_tree.specs.declared.fault.TreeFault.{TreeFault}
 use Rattle.doc_tree.specs.declared.fault.TreeFault.TheVariants as tree
-use Rattle.document_tags.specs.Texts.{document_limit}
-use Rattle.tag_tests.specs.Courses.{Course, Going, Stopped, Hears}
+use Rattle.tag_tests.specs.declared.decoder.Course.{Course}
+use Rattle.tag_tests.specs.declared.decoder.Course.TheVariants.{Going, Stopped, Lost}
+use Rattle.tag_tests.specs.declared.marks.Stop as marks
+use Rattle.tag_tests.specs.declared.marks.Stop.TheVariants as mark_stops
+use Rattle.tag_tests.specs.Forms.{AreTaken, AreRefused}
+use Rattle.tag_tests.specs.Readers as readers
+use Rattle.tag_tests.specs.Readers.{Decoding}
 use Rattle.fraction.specs.declared.frac.Frac.{Frac}
 use Rattle.fraction.specs.declared.ends.Entry.{Entry}
-use Rattle.instance.specs.Parts.{Parts}
-use Rattle.osil_grammar.specs.declared.fault.Refusal as code
 use Rattle.osil_grammar.specs.declared.fault.OsilFault.{OsilFault}
 use Rattle.osil_grammar.specs.declared.fault.OsilFault.TheVariants as faults
 use Rattle.osil_grammar.specs.declared.stop.Stop.{Stop}
@@ -18,23 +21,18 @@ use Rattle.osil_grammar.specs.declared.elements.Place.TheVariants as places
 use Rattle.osil_grammar.specs.declared.elements.Part.TheVariants as parts
 use Rattle.osil_grammar.specs.declared.decoder.Refused.{Refused}
 use Rattle.osil_grammar.specs.Standing.{State, start}
-use Rattle.osil_grammar.specs.Table.{Told}
-use Rattle.osil_grammar.specs.Marked.{osil, instance_of}
+use Rattle.osil_grammar.specs.Marked.{osil}
 use Rattle.osil_grammar.specs.Stepping.{told_of}
 use Rattle.osil_grammar.specs.Sound.{IsSound}
-
--- the state that the marks leave, or how one was refused
-abbrev pub course : Option Refused → State → Course State Told
-course None s = Going s
-course (Some r) s = Stopped (told_of r.refusal r.at)
 
 -- how many items are held: the variables, the rows, the costs, and the entries and the lists of the matrix
 abbrev pub held : State → ℕ
 held s = length s.vars + length s.rows + length s.costs + length s.starts + length s.indices + length s.values + length s.entries
 
-abbrev pub numbers : Course State Told → ℕ
+abbrev pub numbers : Course State Refused → ℕ
 numbers (Going s) = held s
 numbers (Stopped r) = 0
+numbers Lost = 0
 
 -- the element is the matrix, or stands in it
 abbrev pub is_in_matrix : Place → Bool
@@ -51,30 +49,23 @@ AreHeldApart false part entries starts indices values = (starts ≡ []) × (indi
 abbrev pub HoldsApart : State → Type 0
 HoldsApart s = AreHeldApart (is_in_matrix s.place) s.part s.entries s.starts s.indices s.values
 
--- what is so of each listener: the marks so far leave a state that makes an instance as far as it goes, or nothing is held
-abbrev pub IsReady : Option Refused → State → Type 0
-IsReady None s = IsSound s × HoldsApart s
-IsReady (Some r) s = s ≡ start
+-- the marks so far leave a state that makes an instance as far as it goes
+abbrev pub IsFit : State → Type 0
+IsFit s = IsSound s × HoldsApart s
 
--- a step was kept: it is gone past, or its refusal stands and nothing else is held; or there was no memory
-abbrev pub IsKept : {X E : Type 0} → Result X Stop → State → State → Option Refused → Result (Unit {0}) E → Type 0
-IsKept {X} {E} (Ok x) old new refused result = (new ≡ old) × (refused ≡ None) × (result ≡ Ok tt)
-IsKept {X} {E} (Err (stops.Refused r n)) old new refused result = (new ≡ start) × (refused ≡ Some (record { refusal = r; at = n })) × (result ≡ Ok tt)
-IsKept {X} {E} (Err stops.Memory) old new refused result = (new ≡ start) × (refused ≡ None) × (result ≡ Ok tt → ⊥)
+-- a step was kept: it is gone past, or nothing is held any more, and its refusal is told, or want of memory
+abbrev pub IsKept : {X : Type 0} → Result X Stop → State → State → Result (Unit {0}) (marks.Stop Refused) → Type 0
+IsKept {X} (Ok x) old new result = (new ≡ old) × (result ≡ Ok tt)
+IsKept {X} (Err (stops.Refused r n)) old new result = (new ≡ start) × (result ≡ Err (mark_stops.Refused (record { refusal = r; at = n })))
+IsKept {X} (Err stops.Memory) old new result = (new ≡ start) × (result ≡ Err mark_stops.Memory)
 
--- what is answered of a course in the end
-abbrev pub EndsSo : Course State Told → Result Parts OsilFault → Type 0
-EndsSo (Going s) result = result ≡ Ok (instance_of s)
-EndsSo (Stopped t) result = (r : code.Refusal) × (n : ℕ) × (told_of r n ≡ t) × (result ≡ Err (faults.Refused r n))
-
--- a decoder: where it stands in the bytes, and what it was told of their marks
-pub record Decoding : Type 0 where
-  pub reading : Feeding
-  pub course : Course State Told
+-- these marks are refused so, as the code tells it
+abbrev pub Refuse : State → List Mark → Refused → Type 0
+Refuse s ms r = AreRefused osil s ms (told_of r.refusal r.at)
 
 -- these bytes were fed
-abbrev pub WasFed : Decoding → List ℕ → Type 0
-WasFed d bytes = (d.reading.limit ≡ document_limit) × WasHeard (λ ms. Hears osil (Going start) d.course ms) d.reading bytes
+abbrev pub WasFed : Decoding State Refused → List ℕ → Type 0
+WasFed d bytes = readers.WasFed (AreTaken osil) Refuse start d bytes
 
 -- a tree's refusal as it is told
 abbrev pub tree_fault : TreeFault → OsilFault

@@ -1,9 +1,10 @@
 -- THE TABLE of OSiL documents (Optimization Services instance language, its linear and integer part): where elements stand, the kind of each mark, the tests of each kind in their order, and how a test refuses.
-use Rattle.std.specs.Prelude.{ℕ, ◌+◌, cond, bytes_eq, List, [], ◌∷◌, ◌++◌, codes}
+use Rattle.std.specs.Prelude.{ℕ, ◌+◌, List, [], ◌∷◌, ◌++◌, codes}
 use Rattle.tree_grammar.specs.Elements.{Attribute}
 use Rattle.doc_tree.specs.Marks.{Mark, Start, Char, Finish}
 use Rattle.document_tags.specs.Faults.{told_name}
 use Rattle.tag_tests.specs.Fields.{field_tests}
+use Rattle.tag_tests.specs.Places.{Child, child, among}
 use Rattle.osil_grammar.specs.declared.elements.Part.{Part}
 use Rattle.osil_grammar.specs.declared.elements.Part.TheVariants.{Variables, Objectives, Constraints, Coefficients}
 use Rattle.osil_grammar.specs.declared.elements.Listing.{Listing}
@@ -18,16 +19,8 @@ use Rattle.osil_grammar.specs.Refusals.{Refusal}
 use Rattle.osil_grammar.specs.Grammars.{Grammar, count, times, whole, decimal, bound, Field, field}
 use Rattle.osil_grammar.specs.Standing.{State}
 
--- an element that may stand in another one
-pub record Child : Type 0 where
-  pub name : List ℕ
-  pub place : Place
-
-abbrev pub child : List ℕ → Place → Child
-child name place = record { name = name; place = place }
-
 -- WHAT MAY STAND IN WHAT: the child elements that are read
-abbrev pub content : Place → List Child
+abbrev pub content : Place → List (Child Place)
 content Outside = child (codes "osil") Osil ∷ []
 content Osil = child (codes "instanceData") Data ∷ []
 content Data = child (codes "variables") (places.Part Variables) ∷ child (codes "objectives") (places.Part Objectives) ∷ child (codes "constraints") (places.Part Constraints) ∷ child (codes "linearConstraintCoefficients") (places.Part Coefficients) ∷ []
@@ -54,12 +47,8 @@ otherwise Further = InFurther
 otherwise p = Beyond
 
 -- where the start tag of an element of this name leads
-abbrev pub among : List ℕ → List Child → Led → Led
-among name [] other = other
-among name (c ∷ cs) other = cond (bytes_eq name c.name) (To c.place) (among name cs other)
-
 abbrev pub leads : Place → List ℕ → Led
-leads p name = among name (content p) (otherwise p)
+leads p name = among (λ q. To q) name (content p) (otherwise p)
 
 -- where an end tag leads, but in an element that is passed over
 abbrev pub around : Place → Place

@@ -2,154 +2,138 @@
 
 ghost use Rattle.std.specs.Prelude.{◌≡◌, ◌≤◌, ◌++◌, [], List, ℕ, None, Ok, Err, Some, IfOk, IfErr, MatchOption};
 ghost use Rattle.doc_tree.specs.declared.fault.TreeFault.{TreeFault};
-ghost use Rattle.tag_tests.specs.Courses.{Going};
-ghost use Rattle.osil_grammar.specs.declared.stop.Stop.TheVariants as stops;
 ghost use Rattle.osil_grammar.specs.Standing as states;
+ghost use Rattle.osil_grammar.specs.Marked.{instance_of};
 ghost use Rattle.osil_grammar.specs.Reading.{IsInstanceText, DecodeFails};
 ghost use Rattle.osil_grammar.specs.Hearing as hearing;
-ghost use Rattle.osil_grammar.specs.Hearing.{IsKept, EndsSo, WasFed, tree_fault};
+ghost use Rattle.osil_grammar.specs.Hearing.{IsKept, WasFed, tree_fault};
 
 use crate::fault::{OsilFault, Refusal};
 use crate::standing::Standing;
 use crate::stop::Stop;
-use doc_tree::{Events, TreeFault, Visitor};
+use doc_tree::TreeFault;
 use element_tree::Attributes;
 use instance::Instance;
-use os_io::{MOST_BYTES, Memory};
-use std::alloc::{AllocError, Global};
+use std::alloc::Global;
 use std::marker::Model;
+use tag_tests::{Decoder as MarkDecoder, MarkReader, Stop as MarkStop};
 
 /// How a mark was refused.
 #[derive(Drop)]
-struct Refused {
-    refusal: Refusal,
-    at: u64,
+pub(crate) struct Refused {
+    pub refusal: Refusal,
+    pub at: u64,
 }
 
-/// One who is told of a document's marks: what they leave, or how one was refused. Behind a refusal it hears on and
-/// holds nothing, since a tree's refusal comes first.
+/// What the marks so far leave, which makes an instance as far as it goes. Where one isn't taken it holds nothing.
 #[derive(Drop)]
-struct Listener {
-    alloc: Global,
+pub(crate) struct Reader {
     standing: Standing,
-    refused: Option<Refused>,
 }
 
-impl Model for Listener {
-    ghost use Rattle.tag_tests.specs.Courses.{Course};
+impl Model for Reader {
     ghost use Rattle.osil_grammar.specs.Standing.{State};
-    ghost use Rattle.osil_grammar.specs.Table.{Told};
+    ghost use Rattle.osil_grammar.specs.Hearing.{IsFit};
 
-    ghost Value = { Course State Told };
+    ghost Value = { State };
 
-    ghost use Rattle.osil_grammar.specs.Hearing.{course, IsReady};
+    ghost view = { λ r. r.standing };
 
-    ghost view = { λ l. course l.refused l.standing };
-
-    ghost invariant = { λ l. IsReady l.refused l.standing };
+    ghost invariant = { λ r. IsFit r.standing };
 }
 
-/// Keeps what a mark came to, where none was refused. What was refused, or found no memory, holds nothing more.
+/// Keeps what a mark came to. What was refused, or found no memory, holds nothing more.
 fn keep(
     alloc: Global,
     standing: &mut Standing,
-    refused: &mut Option<Refused>,
     step: Result<(), Stop>,
-) -> Result<(), Memory>
-    requires { refused.old ≡ None }
-    ensures { IsKept step standing.old standing.new refused.new result }
+) -> Result<(), MarkStop<Refused>>
+    ensures { IsKept step standing.old standing.new result }
 {
     match step {
         Ok(()) => Ok(()),
         Err(Stop::Refused { refusal, at }) => {
             *standing = Standing::new(alloc);
-            *refused = Some(Refused { refusal, at });
-            Ok(())
+            Err(MarkStop::Refused(Refused { refusal, at }))
         }
         Err(Stop::Memory) => {
             *standing = Standing::new(alloc);
-            Err(AllocError)
+            Err(MarkStop::Memory)
         }
     }
 }
 
-impl Listener {
+impl Reader {
     /// One who was told nothing.
-    fn new(alloc: Global) -> Self
-        ensures { result ≡ Going states.start }
+    pub(crate) fn new(alloc: Global) -> Self
+        ensures { result ≡ states.start }
     {
-        Listener {
-            alloc,
+        Reader {
             standing: Standing::new(alloc),
-            refused: None,
         }
     }
 
-    /// How many items it holds.
+    /// How many numbers it holds.
     fn numbers(&self) -> u64
-        ensures is { result ≡ hearing.numbers self.now }
-        ensures few { result ≤ 204001 }
+        ensures is { result ≡ hearing.held self.now }
+        ensures few { result ≤ 206001 }
     {
         self.standing.numbers()
     }
 
-    /// The instance that the marks say, or how one was refused.
-    fn finish(self) -> Result<Instance, OsilFault>
-        ensures { EndsSo self result }
+    /// The instance that the marks say.
+    pub(crate) fn instance(self) -> Instance
+        ensures { result ≡ instance_of self }
     {
-        let Listener {
-            standing,
-            refused,
-            ..
-        } = self;
-        match refused {
-            Some(Refused { refusal, at }) => Err(OsilFault::Refused { refusal, at }),
-            None => Ok(standing.instance()),
-        }
+        self.standing.instance()
     }
 }
 
-impl Visitor for Listener {
-    ghost use Rattle.tag_tests.specs.Courses.{Hears};
-    ghost use Rattle.tag_tests.proofs.Courses.{hears_nothing, hears_both};
+impl MarkReader<Refused> for Reader {
+    ghost use Rattle.std.proofs.Common.{refl};
+    ghost use Rattle.tag_tests.specs.Forms.{AreTaken, AreRefused};
+    ghost use Rattle.tag_tests.proofs.Forms.{taken_both, refused_behind, refused_more};
     ghost use Rattle.osil_grammar.specs.Marked.{osil};
+    ghost use Rattle.osil_grammar.specs.Stepping.{told_of};
 
-    ghost had = { λ u v ms. Hears osil u v ms };
+    ghost took = { λ s ms z. AreTaken osil s ms z };
 
-    ghost stays = { λ v. hears_nothing osil v };
+    ghost refuses = { λ s ms r. AreRefused osil s ms (told_of r.refusal r.at) };
 
-    ghost joined = { λ u v w first second. hears_both osil u v w first second };
+    ghost took_none = { λ s. refl };
 
-    fn enter(&mut self, name: &[u8], attributes: &Attributes<'_>) -> Result<(), Memory> {
-        if self.refused.is_some() {
-            return Ok(());
-        }
+    ghost took_both = { λ s m z ms ns p q. taken_both osil s m z ms ns p q };
+
+    ghost refuses_behind = { λ s m ms ns r p q. refused_behind osil s m ms ns (told_of r.refusal r.at) p q };
+
+    ghost refuses_more = { λ s ms ns r p. refused_more osil s ms ns (told_of r.refusal r.at) p };
+
+    fn enter(
+        &mut self,
+        alloc: Global,
+        name: &[u8],
+        attributes: &Attributes<'_>,
+    ) -> Result<(), MarkStop<Refused>> {
         if self.standing.is_full() {
-            return Err(AllocError);
+            return Err(MarkStop::Memory);
         }
         let step = self.standing.enter(name, attributes);
-        keep(self.alloc, &mut self.standing, &mut self.refused, step)
+        keep(alloc, &mut self.standing, step)
     }
 
-    fn chars(&mut self, text: &[u8]) -> Result<(), Memory> {
-        if self.refused.is_some() {
-            return Ok(());
-        }
+    fn chars(&mut self, alloc: Global, text: &[u8]) -> Result<(), MarkStop<Refused>> {
         match self.standing.chars(text) {
             Ok(()) => Ok(()),
-            Err(e) => {
-                self.standing = Standing::new(self.alloc);
-                Err(e)
+            Err(_) => {
+                self.standing = Standing::new(alloc);
+                Err(MarkStop::Memory)
             }
         }
     }
 
-    fn close(&mut self, name: &[u8]) -> Result<(), Memory> {
-        if self.refused.is_some() {
-            return Ok(());
-        }
+    fn close(&mut self, alloc: Global, _name: &[u8]) -> Result<(), MarkStop<Refused>> {
         let step = self.standing.close();
-        keep(self.alloc, &mut self.standing, &mut self.refused, step)
+        keep(alloc, &mut self.standing, step)
     }
 }
 
@@ -168,15 +152,17 @@ fn told(fault: TreeFault) -> OsilFault
 /// Contracts say which bytes it was fed (`WasFed`), and why it takes no more, if it doesn't.
 #[derive(Drop)]
 pub struct Decoder {
-    events: Events<Listener>,
+    marks: MarkDecoder<Refused, Reader>,
 }
 
 impl Model for Decoder {
-    ghost use Rattle.osil_grammar.specs.Hearing.{Decoding};
+    ghost use Rattle.tag_tests.specs.Readers.{Decoding};
+    ghost use Rattle.osil_grammar.specs.Standing.{State};
+    ghost use Rattle.osil_grammar.specs.declared.decoder.Refused.{Refused};
 
-    ghost Value = { Decoding };
+    ghost Value = { Decoding State Refused };
 
-    ghost view = { λ d. record { reading = d.events.reading; course = d.events.visitor } };
+    ghost view = { λ d. d.marks };
 }
 
 impl Decoder {
@@ -186,7 +172,7 @@ impl Decoder {
         ensures refusal { result.reading.refusal ≡ None }
     {
         Decoder {
-            events: Events::new(alloc, MOST_BYTES, Listener::new(alloc)),
+            marks: MarkDecoder::new(alloc, Reader::new(alloc)),
         }
     }
 
@@ -197,18 +183,21 @@ impl Decoder {
         ensures answers { MatchOption self.new.reading.refusal (result ≡ Ok tt) (λ fault. result ≡ Err (tree_fault fault)) }
         ensures fed { (bytes : List ℕ) → WasFed self.old bytes → WasFed self.new (bytes ++ piece.now) }
     {
-        match self.events.feed(piece) {
+        match self.marks.feed(piece) {
             Ok(()) => Ok(()),
             Err(fault) => Err(told(fault)),
         }
     }
 
-    /// How many items it holds so far: the variables, the rows, the costs, and the entries and the lists of the matrix.
+    /// How many numbers it holds so far: the items of all its lists.
     pub fn numbers(&self) -> u64
         ensures is { result ≡ hearing.numbers self.now.course }
-        ensures few { result ≤ 204001 }
+        ensures few { result ≤ 206001 }
     {
-        self.events.visitor().numbers()
+        match self.marks.reader() {
+            Some(reader) => reader.numbers(),
+            None => 0,
+        }
     }
 
     /// The instance that the document which was fed stands for, or why it is none: what [`decode`](crate::decode)
@@ -218,8 +207,9 @@ impl Decoder {
         ensures ok { IfOk result (λ p. (bytes : List ℕ) → WasFed self bytes → IsInstanceText bytes p) }
         ensures err { IfErr result (λ fault. (bytes : List ℕ) → WasFed self bytes → DecodeFails bytes fault) }
     {
-        match self.events.finish() {
-            Ok(listener) => listener.finish(),
+        match self.marks.finish() {
+            Ok(Ok(reader)) => Ok(reader.instance()),
+            Ok(Err(Refused { refusal, at })) => Err(OsilFault::Refused { refusal, at }),
             Err(fault) => Err(told(fault)),
         }
     }

@@ -1,10 +1,11 @@
 //! Where a mark may stand.
 
-ghost use Rattle.std.specs.Prelude.{◌≡◌, cond, bytes_eq, codes};
+ghost use Rattle.std.specs.Prelude.{◌≡◌};
 ghost use Rattle.osil_grammar.specs.declared.elements.Place.TheVariants as places;
 ghost use Rattle.osil_grammar.specs.declared.elements.Part.TheVariants as parts;
-ghost use Rattle.osil_grammar.specs.declared.elements.Led.TheVariants as led;
 ghost use Rattle.osil_grammar.specs.Table as table;
+
+use tag_tests::named;
 
 /// A part of `instanceData` that is read, in the order in which they stand.
 #[derive(Clone, Copy, PartialEq, Eq, Drop)]
@@ -57,17 +58,6 @@ pub enum Led {
     Beyond,
 }
 
-/// There, if the name is this one, else as is said.
-fn named(name: &[u8], wanted: &[u8], place: Place, other: Led) -> Led
-    ensures { result ≡ cond (bytes_eq name.now wanted.now) (led.To place) other }
-{
-    if name == wanted {
-        Led::To(place)
-    } else {
-        other
-    }
-}
-
 /// Where the start tag of a part of `instanceData` leads.
 fn part_led(name: &[u8]) -> Led
     ensures { result ≡ table.leads places.Data name.now }
@@ -107,17 +97,17 @@ pub(crate) fn leads(place: Place, name: &[u8]) -> Led
     ensures { result ≡ table.leads place name.now }
 {
     match place {
-        Place::Outside => named(name, b"osil", Place::Osil, Led::OtherRoot),
-        Place::Osil => named(name, b"instanceData", Place::Data, Led::To(Place::Passed)),
+        Place::Outside => named(name, b"osil", Led::To(Place::Osil), Led::OtherRoot),
+        Place::Osil => named(name, b"instanceData", Led::To(Place::Data), Led::To(Place::Passed)),
         Place::Passed => Led::To(Place::Passed),
         Place::Data => part_led(name),
         Place::Further => Led::InFurther,
-        Place::Part(Part::Variables) => named(name, b"var", Place::Var, Led::Beyond),
-        Place::Part(Part::Objectives) => named(name, b"obj", Place::Obj, Led::Beyond),
-        Place::Part(Part::Constraints) => named(name, b"con", Place::Con, Led::Beyond),
+        Place::Part(Part::Variables) => named(name, b"var", Led::To(Place::Var), Led::Beyond),
+        Place::Part(Part::Objectives) => named(name, b"obj", Led::To(Place::Obj), Led::Beyond),
+        Place::Part(Part::Constraints) => named(name, b"con", Led::To(Place::Con), Led::Beyond),
         Place::Part(Part::Coefficients) => list_led(name),
-        Place::Obj => named(name, b"coef", Place::Coef, Led::Beyond),
-        Place::Listed(l) => named(name, b"el", Place::El(l), Led::Beyond),
+        Place::Obj => named(name, b"coef", Led::To(Place::Coef), Led::Beyond),
+        Place::Listed(l) => named(name, b"el", Led::To(Place::El(l)), Led::Beyond),
         Place::Var | Place::Coef | Place::Con | Place::El(_) => Led::Beyond,
     }
 }

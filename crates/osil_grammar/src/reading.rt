@@ -4,10 +4,12 @@ ghost use Rattle.std.specs.Prelude.{IfOk, IfErr};
 ghost use Rattle.osil_grammar.specs.Reading.{IsInstanceText};
 ghost use Rattle.osil_grammar.specs.Reading.{DecodeFails};
 
-use crate::decoder::Decoder;
+use crate::decoder::{Reader, Refused};
 use crate::fault::OsilFault;
+use doc_tree::TreeFault;
 use instance::Instance;
 use std::alloc::Global;
+use tag_tests::read_marks;
 
 /// The instance that an OSiL document stands for.
 ///
@@ -18,9 +20,10 @@ pub fn decode(alloc: Global, bytes: &[u8]) -> Result<Instance, OsilFault>
     ensures ok { IfOk result (λ p. IsInstanceText bytes.now p) }
     ensures err { IfErr result (DecodeFails bytes.now) }
 {
-    let mut decoder = Decoder::new(alloc);
-    match decoder.feed(bytes) {
-        Ok(()) => decoder.finish(),
-        Err(fault) => Err(fault),
+    match read_marks(alloc, bytes, Reader::new(alloc)) {
+        Ok(Ok(reader)) => Ok(reader.instance()),
+        Ok(Err(Refused { refusal, at })) => Err(OsilFault::Refused { refusal, at }),
+        Err(TreeFault::Memory) => Err(OsilFault::Memory),
+        Err(fault) => Err(OsilFault::Tree(fault)),
     }
 }

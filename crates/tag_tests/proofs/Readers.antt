@@ -33,23 +33,23 @@ by_kind G s z t (Err Memory) h = h
 pub step_as : {S K C R X : Type 0} (G : Kinds S Mark K C R) (s z : S) (t : Mark) (k : K) (r : Result X (Stop R)) → k ≡ G.kind s t → StepsAs G s k z r → Steps (AreTaken (form G)) (AreRefused (form G)) s (t ∷ []) z r
 step_as {S} {K} {C} {R} {X} G s z t k r is h = one_step (form G) s z t r (by_kind G s z t r (subst (λ (i : K). StepsAs {X = X} G s i z r) is h))
 
-any_ok : {Y E : Type 0} (result : Result Y E) (P : Type 0) → P → OnOk result P
+any_ok : {E : Type 0} (result : Result (Unit {0}) E) (P : Type 0) → P → OnOk result P
 any_ok (Ok y) P p = p
 any_ok (Err e) P p = tt
 
-no_ok : {Y E : Type 0} (result : Result Y E) (P : Type 0) → ((y : Y) → result ≡ Ok y → ⊥) → OnOk result P
-no_ok (Ok y) P none = absurd (none y refl)
+no_ok : {E : Type 0} (result : Result (Unit {0}) E) (P : Type 0) → (result ≡ Ok tt → ⊥) → OnOk result P
+no_ok (Ok y) P none = absurd (none refl)
 no_ok (Err e) P none = tt
 
 module _ {S R : Type 0} (Took : S → List Mark → S → Type 0) (Refuse : S → List Mark → R → Type 0) where
   -- who goes on hears what marks came to
-  pub kept_hears : {X Y E : Type 0} (s z : S) (old now new : Course S R) (ms : List Mark) (result : Result Y E) (step : Result X (Stop R)) → old ≡ Going s → now ≡ Going z → Steps Took Refuse s ms z step → IsKept step now new result → OnOk result (HearsBy Took Refuse old new ms)
-  kept_hears s z old now new ms result step was is h k = subst (λ (c : Course S R). OnOk result (HearsBy Took Refuse c new ms)) (sym was) (by step h k)
+  pub kept_hears : {X E : Type 0} (s z : S) (old now new : Course S R) (ms : List Mark) (result : Result (Unit {0}) E) (step : Result X (Stop R)) → old ≡ Going s → now ≡ Going z → Steps Took Refuse s ms z step → IsKept step now new result → OnOk result (HearsBy Took Refuse old new ms)
+  kept_hears {X} s z old now new ms result step was is h k = subst (λ (c : Course S R). OnOk result (HearsBy Took Refuse c new ms)) (sym was) (by step h k)
     where
       by : (step : Result X (Stop R)) → Steps Took Refuse s ms z step → IsKept step now new result → OnOk result (HearsBy Took Refuse (Going s) new ms)
-      by (Ok x) h k = any_ok result _ (subst (λ (c : Course S R). HearsBy Took Refuse (Going s) c ms) (sym (k ∙ is)) h)
-      by (Err (Refused r)) h k = any_ok result _ (subst (λ (c : Course S R). HearsBy Took Refuse (Going s) c ms) (sym k) h)
-      by (Err Memory) h k = no_ok result _ k
+      by (Ok x) h k = any_ok result _ (subst (λ (c : Course S R). HearsBy Took Refuse (Going s) c ms) (sym (k.0 ∙ is)) h)
+      by (Err (Refused r)) h k = any_ok result _ (subst (λ (c : Course S R). HearsBy Took Refuse (Going s) c ms) (sym k.0) h)
+      by (Err Memory) h k = no_ok result _ k.1
 
   -- who doesn't is told in vain
   pub told_in_vain : (c : Course S R) (ms : List Mark) → ((s : S) → c ≡ Going s → ⊥) → HearsBy Took Refuse c c ms

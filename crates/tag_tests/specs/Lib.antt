@@ -2,7 +2,6 @@ pub mod Tests
 pub mod Forms
 pub mod Firsts
 pub mod Fields
-pub mod Courses
 pub mod Readers
 pub mod Heard
 pub mod Kinds

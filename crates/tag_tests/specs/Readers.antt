@@ -39,10 +39,10 @@ HearsBy {S} {R} Took Refuse Lost (Stopped q) ms = ⊥
 HearsBy {S} {R} Took Refuse Lost Lost ms = Unit {0}
 
 -- what marks came to was kept
-abbrev pub IsKept : {S R X Y E : Type 0} → Result X (Stop R) → Course S R → Course S R → Result Y E → Type 0
-IsKept {S} {R} {X} {Y} {E} (Ok x) old new result = new ≡ old
-IsKept {S} {R} {X} {Y} {E} (Err (Refused r)) old new result = new ≡ Stopped r
-IsKept {S} {R} {X} {Y} {E} (Err Memory) old new result = (y : Y) → result ≡ Ok y → ⊥
+abbrev pub IsKept : {S R X E : Type 0} → Result X (Stop R) → Course S R → Course S R → Result (Unit {0}) E → Type 0
+IsKept {S} {R} {X} {E} (Ok x) old new result = (new ≡ old) × (result ≡ Ok tt)
+IsKept {S} {R} {X} {E} (Err (Refused r)) old new result = (new ≡ Stopped r) × (result ≡ Ok tt)
+IsKept {S} {R} {X} {E} (Err Memory) old new result = (new ≡ Lost) × (result ≡ Ok tt → ⊥)
 
 -- the reader that goes on, if there is one
 abbrev pub IsReader : {S R : Type 0} → Course S R → Option S → Type 0

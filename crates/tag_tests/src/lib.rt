@@ -3,8 +3,8 @@
 //! A mark is a start tag, a character or an end tag, in document order. In the state that the marks before it leave it
 //! has a list of tests, in the order in which they refuse: the first that fails refuses the document, and where all pass
 //! the mark leaves a state. `Forms` defines this for whatever marks, states and tests there are, `Firsts` says the same
-//! in other words (of the first mark at which a test fails, the least refusal), `Fields` is of numbers that are read
-//! together at one tag, and `Courses` of one who is told of marks and goes on hearing after a refusal.
+//! in other words (of the first mark at which a test fails, the least refusal), and `Fields` is of numbers that are read
+//! together at one tag.
 //!
 //! [`both`] joins what was read of two numbers, and [`value`] finds an attribute. Whoever says of each mark that it is taken, or
 //! how it is refused, is a [`MarkReader`]: a [`Decoder`] has it read a document that comes in pieces, and [`read_marks`] one in a

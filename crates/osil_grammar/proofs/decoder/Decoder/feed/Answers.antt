@@ -1,9 +1,7 @@
-use Rattle.osil_grammar.proofs.Words.{Going, start}
-use Rattle.osil_grammar.proofs.Decodings.{fed_more}
+use Rattle.osil_grammar.proofs.Words.{ℕ, List, ◌++◌, subst, State, start, WasFed}
+use Rattle.tag_tests.specs.Readers.{Decoding}
+use Rattle.osil_grammar.specs.declared.decoder.Refused.{Refused}
 use Rattle.osil_grammar.proofs.decoder.Decoder.feed.Goals as goal
 
 pub returns-clause-fed : goal.returns-clause-fed
-returns-clause-fed c =
-    let old = c.self.inside.events in
-    let new = c.feed.new.self in
-    fed_more (record { reading = old.reading; course = old.visitor }) c.args.self.now (record { reading = new.reading; course = new.visitor }) c.args.piece.now c.self.view_is c.feed.ensures.limit (λ bytes h. c.feed.ensures.fed (Going start) bytes h)
+returns-clause-fed c = subst (λ (d : Decoding State Refused). (bytes : List ℕ) → WasFed d bytes → WasFed c.feed.new.self (bytes ++ c.args.piece.now)) c.self.view_is (λ bytes h. c.feed.ensures.fed start bytes h)

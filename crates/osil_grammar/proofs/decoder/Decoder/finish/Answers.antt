@@ -1,12 +1,15 @@
-use Rattle.osil_grammar.proofs.Words.{Going, start}
-use Rattle.osil_grammar.proofs.Decodings.{finished, failed}
+use Rattle.osil_grammar.proofs.Words.{ℕ, List, subst, State, start, WasFed, IsInstanceText, DecodeFails}
+use Rattle.tag_tests.specs.Readers.{Decoding}
+use Rattle.osil_grammar.specs.declared.decoder.Refused.{Refused}
+use Rattle.osil_grammar.specs.declared.fault.OsilFault.TheVariants as faults
+use Rattle.osil_grammar.proofs.Decodings.{is_instance, is_refused, is_no_document}
 use Rattle.osil_grammar.proofs.decoder.Decoder.finish.Goals as goal
 
-pub returns-in-Ok-clause-ok : goal.returns-in-Ok-clause-ok
-returns-in-Ok-clause-ok c = let e = c.self.inside.events in (finished (record { reading = e.reading; course = e.visitor }) c.args.self c.in-Ok.listener c.finish-in-Ok.result c.self.view_is (λ bytes h. c.in-Ok.ensures.visits (Going start) bytes h) c.finish-in-Ok.ensures).0
+pub returns-in-Ok-Ok-clause-ok : goal.returns-in-Ok-Ok-clause-ok
+returns-in-Ok-Ok-clause-ok c = subst (λ (d : Decoding State Refused). (bytes : List ℕ) → WasFed d bytes → IsInstanceText bytes c.instance.result) c.self.view_is (λ bytes h. is_instance bytes c.in-Ok-Ok.reader c.instance.result c.instance.ensures (c.in-Ok.ensures.ok start bytes h))
 
-pub returns-in-Ok-clause-err : goal.returns-in-Ok-clause-err
-returns-in-Ok-clause-err c = let e = c.self.inside.events in (finished (record { reading = e.reading; course = e.visitor }) c.args.self c.in-Ok.listener c.finish-in-Ok.result c.self.view_is (λ bytes h. c.in-Ok.ensures.visits (Going start) bytes h) c.finish-in-Ok.ensures).1
+pub returns-in-Ok-Err-clause-err : goal.returns-in-Ok-Err-clause-err
+returns-in-Ok-Err-clause-err c = subst (λ (d : Decoding State Refused). (bytes : List ℕ) → WasFed d bytes → DecodeFails bytes (faults.Refused c.in-Ok-Err.refusal c.in-Ok-Err.at)) c.self.view_is (λ bytes h. is_refused bytes (record { refusal = c.in-Ok-Err.refusal; at = c.in-Ok-Err.at }) (c.in-Ok.ensures.ok start bytes h))
 
 pub returns-in-Err-clause-err : goal.returns-in-Err-clause-err
-returns-in-Err-clause-err c = let e = c.self.inside.events in failed (record { reading = e.reading; course = e.visitor }) c.args.self c.in-Err.fault c.told.result c.self.view_is c.told.ensures (λ bytes h. c.in-Err.ensures.refuses (Going start) bytes h)
+returns-in-Err-clause-err c = subst (λ (d : Decoding State Refused). (bytes : List ℕ) → WasFed d bytes → DecodeFails bytes c.told.result) c.self.view_is (λ bytes h. is_no_document bytes c.in-Err.fault c.told.result c.told.ensures (c.in-Err.ensures.err start bytes h))

@@ -1,9 +1,0 @@
-use Rattle.osil_grammar.proofs.Words.{Start}
-use Rattle.osil_grammar.proofs.Hearings.{kept_ready, kept_hears}
-use Rattle.osil_grammar.proofs.decoder.ListenerVisitor.enter.Goals as goal
-
-pub invariant_of-self : goal.invariant_of-self
-invariant_of-self c = kept_ready c.self.inside.refused c.self.inside.standing (Start c.args.name.now c.args.attributes.now) c.enter-step.new.self c.keep.new.standing c.keep.new.refused c.keep.result c.enter-step.result c.if-is_some.ensures c.self.invariant c.enter-step.ensures c.keep.ensures
-
-pub returns : goal.returns
-returns c = kept_hears c.self.inside.refused c.self.inside.standing (Start c.args.name.now c.args.attributes.now) c.enter-step.new.self c.keep.new.standing c.keep.new.refused c.keep.result c.enter-step.result c.args.self.now c.if-is_some.ensures c.self.view_is c.enter-step.ensures c.keep.ensures
