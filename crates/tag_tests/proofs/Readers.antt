@@ -82,8 +82,10 @@ module _ {S R : Type 0} (Took : S → List Mark → S → Type 0) (Refuse : S �
   ends d (Stopped r) result visits is = subst (Answers d) (sym is) ((λ s bytes h. let x = visits s bytes h.1 in visited d (Stopped r) s bytes (Err r) h x x.told), tt)
   ends d Lost result visits is = subst (Answers d) (sym is) (tt, (λ s bytes h. inl refl))
 
-  pub finished : (d now : Decoding S R) (c : Course S R) (result : Result (Result S R) TreeFault) → d ≡ now → ((s : S) (bytes : List ℕ) → WasHeard (λ ms. HearsBy Took Refuse (Going s) d.course ms) d.reading bytes → Visits (λ ms. HearsBy Took Refuse (Going s) c ms) d.reading.limit bytes) → EndsSo c result → Answers now result
-  finished d now c result same visits is = subst (λ (z : Decoding S R). Answers z result) same (ends d c result visits is)
+  pub finished : (d now : Decoding S R) (c k : Course S R) (result : Result (Result S R) TreeFault) → d ≡ now → c ≡ k
+      → ((s : S) (bytes : List ℕ) → WasHeard (λ ms. HearsBy Took Refuse (Going s) d.course ms) d.reading bytes → Visits (λ ms. HearsBy Took Refuse (Going s) c ms) d.reading.limit bytes) → EndsSo k result → Answers now result
+  finished d now c k result same is visits answer =
+      subst (λ (z : Decoding S R). Answers z result) same (ends d k result (λ s bytes h. subst (λ (j : Course S R). Visits (λ ms. HearsBy Took Refuse (Going s) j ms) d.reading.limit bytes) is (visits s bytes h)) answer)
 
   pub failed : (d now : Decoding S R) (f : TreeFault) → d ≡ now → ((s : S) (bytes : List ℕ) → WasHeard (λ ms. HearsBy Took Refuse (Going s) d.course ms) d.reading bytes → ReadingFails d.reading.limit bytes f) → (s : S) (bytes : List ℕ) → WasFed Took Refuse s now bytes → (f ≡ tree.Memory) ⊎ TreeFails bytes f
   failed d now f same fails s bytes h =
