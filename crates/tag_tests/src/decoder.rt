@@ -1,10 +1,10 @@
 //! Documents that readers of marks read, in pieces or whole.
 
 ghost use Rattle.std.specs.Prelude.{◌≡◌, ◌⊎◌, ◌++◌, [], List, ℕ, None, Some, Ok, Err, IfOk, IfErr, MatchOption};
+ghost use Rattle.std.specs.Option.{option_copied};
 ghost use Rattle.doc_tree.specs.declared.fault.TreeFault.{TreeFault};
 ghost use Rattle.doc_tree.specs.declared.fault.TreeFault.TheVariants.{Memory};
 ghost use Rattle.document_tags.specs.Documents.{OfDocument, TreeFails};
-ghost use Rattle.tag_tests.specs.declared.decoder.Course.TheVariants as courses;
 ghost use Rattle.tag_tests.specs.Readers.{IsKept, IsReader, WasFed, Reads};
 
 use crate::marks::{MarkReader, Stop};
@@ -130,7 +130,7 @@ impl<R: Drop, S: MarkReader<R> + Drop> Decoder<R, S> {
 
     /// The reader as the marks so far leave it, if none was refused.
     pub fn reader(&self) -> Option<&S>
-        ensures { IsReader self.now.course result }
+        ensures { IsReader self.now.course (option_copied result) }
     {
         match &self.events.visitor().course {
             Course::Going(reader) => Some(reader),
