@@ -6,7 +6,7 @@ ghost use Rattle.tag_tests.specs.declared.marks.Stop.TheVariants as stops;
 ghost use Rattle.tag_tests.specs.Kinds.{StepsAs};
 ghost use Rattle.osol_grammar.specs.declared.place.Place.TheVariants as places;
 ghost use Rattle.tag_tests.specs.declared.places.Led.TheVariants as leading;
-ghost use Rattle.tag_tests.specs.Places.{begins, ends, led_from};
+ghost use Rattle.tag_tests.specs.Places.{begins, ends};
 ghost use Rattle.osol_grammar.specs.Table as table;
 ghost use Rattle.osol_grammar.specs.Marked.{by_kinds};
 
@@ -18,7 +18,7 @@ use decimal_text::trim;
 use element_tree::Attributes;
 use os_io::{Memory, Text};
 use std::alloc::Global;
-use tag_tests::{Led, MarkReader, Stop};
+use tag_tests::{Led, MarkReader, Stop, led_from};
 
 /// The most bytes of a job's name.
 const MOST_OF_JOB: usize = 256;
@@ -152,17 +152,6 @@ impl Standing {
         }
     }
 
-    /// Where the start tag of an element of this name leads.
-    fn led(&self, name: &[u8]) -> Led<Place>
-        ensures { result ≡ led_from self.now.depth (table.leads self.now.place name.now) }
-    {
-        if self.depth > 0 {
-            Led::Over
-        } else {
-            leads(self.place, name)
-        }
-    }
-
     /// Whether characters are those of the job's name.
     fn is_in_job(&self) -> bool
         ensures { result ≡ table.is_in_job self.now.depth self.now.place }
@@ -233,7 +222,7 @@ impl MarkReader<Refused> for Standing {
         if self.count == u64::MAX {
             return Err(Stop::Memory);
         }
-        let led = self.led(name);
+        let led = led_from(self.depth, leads(self.place, name));
         self.begin(led, attributes)
     }
 

@@ -7,7 +7,7 @@ ghost use Rattle.decimal_text.specs.Count.{IsCount};
 ghost use Rattle.tag_tests.specs.Kinds.{StepsAs};
 ghost use Rattle.ospl_grammar.specs.declared.place.Place.TheVariants as places;
 ghost use Rattle.tag_tests.specs.declared.places.Led.TheVariants as leading;
-ghost use Rattle.tag_tests.specs.Places.{begins, ends, led_from};
+ghost use Rattle.tag_tests.specs.Places.{begins, ends};
 ghost use Rattle.ospl_grammar.specs.Table as table;
 ghost use Rattle.ospl_grammar.specs.Marked.{by_kinds};
 
@@ -20,7 +20,7 @@ use element_tree::Attributes;
 use os_io::{Memory, Text};
 use std::alloc::Global;
 use std::mem;
-use tag_tests::{Led, MarkReader, Stop, value};
+use tag_tests::{Led, MarkReader, Stop, led_from, value};
 
 /// What the marks so far leave: the element that is read and that they end in, how many elements are open in it that are
 /// passed over, the characters in it that are kept, what statistics have said that are read, what the first request asks,
@@ -157,17 +157,6 @@ impl Standing {
         }
     }
 
-    /// Where the start tag of an element of this name leads.
-    fn led(&self, name: &[u8]) -> Led<Place>
-        ensures { result ≡ led_from self.now.depth (table.leads self.now.place name.now) }
-    {
-        if self.depth > 0 {
-            Led::Over
-        } else {
-            leads(self.place, name)
-        }
-    }
-
     /// Whether characters are kept.
     fn keeps(&self) -> bool
         ensures { result ≡ table.keeps self.now.depth self.now.place }
@@ -268,7 +257,7 @@ impl MarkReader<()> for Standing {
         name: &[u8],
         attributes: &Attributes<'_>,
     ) -> Result<(), Stop<()>> {
-        let led = self.led(name);
+        let led = led_from(self.depth, leads(self.place, name));
         self.begin(alloc, led, attributes)
     }
 

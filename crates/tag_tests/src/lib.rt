@@ -8,7 +8,7 @@
 //!
 //! [`both`] joins what was read of two numbers, and [`value`] finds an attribute. Whoever says of each mark that it is taken, or
 //! how it is refused, is a [`MarkReader`]: a [`Decoder`] has it read a document that comes in pieces, and [`read_marks`] one in a
-//! whole. [`Led`] and [`named`] say where the start tag of an element of some name leads.
+//! whole. [`Led`], [`named`] and [`led_from`] say where the start tag of an element of some name leads.
 #![tactic(auto)]
 
 mod attributes;
@@ -21,4 +21,4 @@ pub use attributes::value;
 pub use decoder::{Course, Decoder, read_marks};
 pub use marks::{MarkReader, Stop};
 pub use numbers::{Unread, both};
-pub use places::{Led, named};
+pub use places::{Led, led_from, named};
