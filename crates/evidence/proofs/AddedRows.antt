@@ -12,14 +12,14 @@ use Rattle.evidence.specs.AddedRows.{row_entries, with_row}
 use Rattle.evidence.proofs.Totals.{total_below}
 use Rattle.evidence.proofs.Columns.{by_lt}
 
-own_entry : (i n : ℕ) (f : ℕ → Ratio) (es : List Entry) (j : ℕ) → j < n → entry_at (row_entries i n f ++ es) i j ≡ f j
+pub own_entry : (i n : ℕ) (f : ℕ → Ratio) (es : List Entry) (j : ℕ) → j < n → entry_at (row_entries i n f ++ es) i j ≡ f j
 own_entry i zero f es j h = absurd (omega arith)
 own_entry i (suc n) f es j h =
     by_lt j n
     (λ before. let d : n ≡ j → ⊥ = λ e. omega arith in rw (eq-eqb i i refl) (rw (ne_eqb n j d) (own_entry i n f es j before)))
     (λ past. let e : n ≡ j = omega arith in rw (eq-eqb i i refl) (rw (eq-eqb n j e) (ap f e)))
 
-other_entry : (i n : ℕ) (f : ℕ → Ratio) (es : List Entry) (k j : ℕ) → (i ≡ k → ⊥) → entry_at (row_entries i n f ++ es) k j ≡ entry_at es k j
+pub other_entry : (i n : ℕ) (f : ℕ → Ratio) (es : List Entry) (k j : ℕ) → (i ≡ k → ⊥) → entry_at (row_entries i n f ++ es) k j ≡ entry_at es k j
 other_entry i zero f es k j d = refl
 other_entry i (suc n) f es k j d = rw (ne_eqb i k d) (other_entry i n f es k j d)
 
@@ -44,10 +44,10 @@ module _ (I : Instance) (r : Range) (f : ℕ → Ratio) where
   activity_other : (x : List Ratio) (i : ℕ) → i < height I → activity W x i ≡ activity I x i
   activity_other x i h = total_below none (width I) (λ j. product (entry_at W.entries i j) (value_at x j)) (λ j. product (entry_at I.entries i j) (value_at x j)) (λ j l. ap (λ c. product c (value_at x j)) (other_entry (height I) (width I) f I.entries i j (λ e. omega arith)))
 
-  row_own : row_at W (height I) ≡ r
+  pub row_own : row_at W (height I) ≡ r
   row_own = get_or_push I.rows r free (height I) refl
 
-  row_other : (i : ℕ) → i < height I → row_at W i ≡ row_at I i
+  pub row_other : (i : ℕ) → i < height I → row_at W i ≡ row_at I i
   row_other i h = get_or_append_left I.rows (r ∷ []) free i h
 
   at_row : (x : List Ratio) (i : ℕ) (q : Range) (v : Ratio) → row_at W i ≡ q → activity W x i ≡ v → IsBetween q v → IsBetween (row_at W i) (activity W x i)

@@ -18,15 +18,15 @@ use Rattle.evidence.proofs.Totals.{total-number}
 use Rattle.evidence.proofs.Columns.{All-anywhere, none-number, coefficient-number, column-numbers}
 use Rattle.evidence.proofs.Duality.{minimising-number}
 
-or_none-number : (o : Option Ratio) → IfSome o IsNumber → IsNumber (or_none o)
+pub or_none-number : (o : Option Ratio) → IfSome o IsNumber → IsNumber (or_none o)
 or_none-number None h = none-number
 or_none-number (Some x) h = h
 
 module _ (I : Instance) (good : IsInstance I) (ms : List Multiplier) (legal : AreLegal I ms) where
-  by-number : (k : ℕ) → IsNumber (multiplier_at ms k).by
+  pub by-number : (k : ℕ) → IsNumber (multiplier_at ms k).by
   by-number k = All-anywhere (λ m. IsNumber m.by) ms (record { column = 0; by = none }) none-number legal.numbers k
 
-  form_number : (j : ℕ) → IsNumber (form I ms j)
+  pub form_number : (j : ℕ) → IsNumber (form I ms j)
   form_number j =
       total-number none (length ms) (λ k. product (multiplier_at ms k).by (coefficient_at I (multiplier_at ms k).column j)) none-number
       (λ k. product-number (multiplier_at ms k).by (coefficient_at I (multiplier_at ms k).column j) (by-number k) (coefficient-number I good (multiplier_at ms k).column j))
@@ -35,7 +35,7 @@ module _ (I : Instance) (good : IsInstance I) (ms : List Multiplier) (legal : Ar
   end-number (pos n) c = or_none-number (column_at I c).lb (let h = column-numbers I good c in h.0)
   end-number (negsuc n) c = or_none-number (column_at I c).ub (let h = column-numbers I good c in h.1)
 
-  low-number : IsNumber (low_sum I none ms)
+  pub low-number : IsNumber (low_sum I none ms)
   low-number =
       total-number none (length ms) (λ k. product (multiplier_at ms k).by (or_none (end_of I (multiplier_at ms k)))) none-number
       (λ k. product-number (multiplier_at ms k).by (or_none (end_of I (multiplier_at ms k))) (by-number k) (end-number (multiplier_at ms k).by.num (multiplier_at ms k).column))

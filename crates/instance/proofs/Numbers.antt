@@ -35,7 +35,7 @@ by-numbers : (zero : Bool) (lb ub : End) → HasNumbers (range_by zero (range lb
 by-numbers true lb ub = (low-number (limit lb) (limit-number lb), high-number (limit ub) (limit-number ub))
 by-numbers false lb ub = range-numbers lb ub
 
-further-numbers : (zero : Bool) (lb ub : End) → IfSome (further_by zero (range lb ub)) HasNumbers
+pub further-numbers : (zero : Bool) (lb ub : End) → IfSome (further_by zero (range lb ub)) HasNumbers
 further-numbers true lb ub = range-numbers lb ub
 further-numbers false lb ub = tt
 

@@ -20,6 +20,7 @@ mod parts;
 mod rows;
 mod sums;
 
+pub use ends::is_between;
 pub use feasible::Feas;
 pub use instance::{Instance, MAX_ENTRIES, MAX_GOALS, MAX_ROWS, MAX_VARS};
 pub use laws::{problems_have_numbers, programs_have_numbers};
