@@ -13,7 +13,7 @@ use fraction::{End, Frac, MAX};
 use instance::Var;
 
 /// A variable as a case has it: the ends of its column, and what it is in the instance.
-#[derive(Clone, Copy, PartialEq, Eq, Debug)]
+#[derive(Clone, Copy, PartialEq, Eq)]
 pub struct Cut {
     pub lb: End,
     pub ub: End,
@@ -21,7 +21,7 @@ pub struct Cut {
 }
 
 /// How a branch divides a variable's values: at most k or at least k + 1, or 0 or within its own ends.
-#[derive(Clone, Copy, PartialEq, Eq, Debug)]
+#[derive(Clone, Copy, PartialEq, Eq)]
 pub enum Division {
     Split(i128),
     Zero,
