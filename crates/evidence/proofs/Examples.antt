@@ -16,11 +16,11 @@ use Rattle.evidence.specs.Sums.{none, IsWhole, total}
 use Rattle.evidence.specs.Width.{TermFits, StatedFits, RowFits, FormFits, LeafFits, PointFits, RayFits}
 use Rattle.evidence.proofs.Numbers.{one_times}
 use Rattle.evidence.proofs.Fits.{whole-reduced}
-use Rattle.evidence.specs.Instance.{Instance, asking, variable_at, row_at, cost_at, entry_at, coefficient_at, minimising}
+use Rattle.evidence.specs.Instance.{alone, Instance, asking, variable_at, row_at, cost_at, entry_at, coefficient_at, minimising}
 use Rattle.evidence.specs.Point.{value_at, activity, objective, IsBetween, IsZeroOr, IsFeasible, NeverLeaves, NeverLeavesZeroOr, IsRay}
 use Rattle.evidence.specs.Cases.{Multiplier, Tree, Clash, Farkas, Bound, Split, Zero, Node, SplitAt, BoundBy, AreLegal, form, end_of, preorder, at_most, at_least, IsBound, IsFarkas, IsBranch, Shows, multiplier_at, or_none}
 use Rattle.evidence.specs.Claim.{Accepts}
-use Rattle.evidence.specs.Examples.{alone, times, halves, two, half_a_proof, slope_example, upwards}
+use Rattle.evidence.specs.Examples.{times, halves, two, half_a_proof, slope_example, upwards}
 
 -- sums of whole numbers fit where both and their sum are small
 pub record AreSmall (m n : ℤ) : Type 0 where

@@ -10,13 +10,13 @@ use Rattle.rational.proofs.ReducedForms.{same_reduced}
 use Rattle.evidence.specs.Sums.{none, total}
 use Rattle.evidence.specs.Width.{TermFits, RowFits, GoalFits, FormFits, LeafFits, PointFits}
 use Rattle.evidence.specs.OneDenominator.{number_at}
-use Rattle.evidence.specs.Instance.{Instance, asking, variable_at, row_at, cost_at, entry_at, coefficient_at, minimising}
+use Rattle.evidence.specs.Instance.{alone, Instance, asking, variable_at, row_at, cost_at, entry_at, coefficient_at, minimising}
 use Rattle.evidence.specs.Point.{value_at, activity, objective, IsBetween, IsZeroOr, IsFeasible}
 use Rattle.evidence.specs.Cases.{Multiplier, Farkas, Bound, Zero, AreLegal, form, end_of, multiplier_at, or_none, at_zero, unless_zero}
 use Rattle.evidence.specs.Rounds.{IsRoundingCut, derive, CertificateShows}
 use Rattle.evidence.specs.Levels.{IsReachedEnd, next_level}
 use Rattle.evidence.specs.Claim.{Accepts}
-use Rattle.evidence.specs.Examples.{alone, times, halves, gap, two_or_none, half_the_row, two_by_rounding, first_x, then_y, in_order, by_x, by_rows, three_and_one}
+use Rattle.evidence.specs.Examples.{times, halves, gap, two_or_none, half_the_row, two_by_rounding, first_x, then_y, in_order, by_x, by_rows, three_and_one}
 use Rattle.evidence.proofs.Fits.{whole-reduced}
 use Rattle.evidence.proofs.Examples.{whole_sums, one, both, stated_one, stated_two, wholes, just, two_of, zeros, halves_feasible, halves_fit}
 

@@ -11,10 +11,6 @@ use Rattle.evidence.specs.Claim.{Claim, Optimal, Unbounded}
 abbrev pub times : ℕ → ℤ → Multiplier
 times c n = record { column = c; by = whole n }
 
--- with its one goal
-abbrev pub alone : Instance → Problem
-alone I = record { program = I; later = [] }
-
 -- the greatest whole x with 2 x at most 5 (an instance of branching as Land and Doig, 1960, have it)
 abbrev pub halves : Instance
 halves = record {

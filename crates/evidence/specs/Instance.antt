@@ -44,6 +44,10 @@ pub record Problem : Type 0 where
   pub program : Instance
   pub later : List Goal
 
+-- the instance with no goal but its own
+abbrev pub alone : Instance → Problem
+alone I = record { program = I; later = [] }
+
 -- all goals, in order
 abbrev pub goals : Problem → List Goal
 goals P = P.program.goal ∷ P.later

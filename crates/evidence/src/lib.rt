@@ -15,7 +15,7 @@
 ghost use Rattle.rational.specs.Ratio.{Ratio, IsSame, IsNumber};
 ghost use Rattle.rational.specs.Width.{ReducedFits, SumFits};
 ghost use Rattle.evidence.specs.Sums.{none, IsWhole};
-ghost use Rattle.evidence.specs.Instance.{Range, HasNumbers, Instance, IsInstance, Goal, IsGoalOfNumbers, Problem, IsProblem, width, height, column_at, minimising};
+ghost use Rattle.evidence.specs.Instance.{alone, Range, HasNumbers, Instance, IsInstance, Goal, IsGoalOfNumbers, Problem, IsProblem, width, height, column_at, minimising};
 ghost use Rattle.evidence.specs.Point.{objective, IsFeasible, IsZeroOr, NeverLeaves};
 ghost use Rattle.evidence.specs.Columns.{Keeps};
 ghost use Rattle.evidence.specs.SemiVariables.{relaxed, semi};
@@ -26,7 +26,7 @@ ghost use Rattle.evidence.specs.Rounds.{Certificate, CertificateShows, IsRoundin
 ghost use Rattle.evidence.specs.Levels.{IsReachedEnd, AreBest, AreEndless, next_level};
 ghost use Rattle.evidence.specs.Claim.{Claim, Accepts, IsTrueOf};
 ghost use Rattle.evidence.specs.PendingNodes.{ShowsAll};
-ghost use Rattle.evidence.specs.Examples.{alone, halves, two, half_a_proof, slope_example, upwards, gap, two_or_none, two_by_rounding, in_order, three_and_one, by_x, by_rows};
+ghost use Rattle.evidence.specs.Examples.{halves, two, half_a_proof, slope_example, upwards, gap, two_or_none, two_by_rounding, in_order, three_and_one, by_x, by_rows};
 ghost use Rattle.std.specs.Prelude.{◌≡◌, Bool, IsTrue, Option, None, Some, [], ◌∷◌, ◌+◌, ◌<◌, pos, ◌+ℤ◌, ◌↔◌, ℕ, ℤ, List};
 ghost use Rattle.std.specs.List.{All};
 

@@ -49,7 +49,7 @@ impl Model for Instance {
 
 impl Instance {
     ghost use Rattle.instance.specs.Parts.{IsValid, IsAscending};
-    ghost use Rattle.instance.specs.Program.{program, problem};
+    ghost use Rattle.instance.specs.Program.{goal as meaning, program, problem};
     ghost use Rattle.instance.specs.Feasibility.{RowsKeptBelow, IsFirstRowOut, IsFirstRowWide, TellsFeasible};
 
     /// The instance of these parts.
@@ -116,6 +116,16 @@ impl Instance {
         ensures valid { IsValid self.now }
     {
         &self.goals
+    }
+
+    /// The first goal, which is that of the instance's program.
+    pub fn first_goal(&self) -> &Goal
+        ensures goal { meaning result.now ≡ (program self.now).goal }
+        ensures costs { length result.now.costs ≡ length self.now.vars }
+        ensures valid { IsValid self.now }
+    {
+        let goals = self.goals();
+        &goals[0]
     }
 
     /// The entries of one row, ascending by column.
