@@ -4,7 +4,7 @@ use Rattle.fraction.specs.declared.ends.Entry.{Entry}
 use Rattle.cert_checker.specs.Slots.{slot_at, IsStep}
 use Rattle.std.proofs.lemmas.List.{get_or_read_under}
 use Rattle.cert_checker.proofs.Additions.{IsAdded, one_more, all_added}
-use Rattle.cert_checker.proofs.slots.add_row.Goals as goal
+use Rattle.cert_checker.proofs.slots.add_entries.Goals as goal
 
 pub loop-k-preserved : goal.loop-k-preserved
 loop-k-preserved c =
