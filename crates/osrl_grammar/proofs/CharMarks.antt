@@ -11,7 +11,7 @@ kept p before [] = before
 kept p before (c ∷ cs) = kept p (heard p before c) cs
 
 abbrev IsTakenAs : State → ℕ → State → Bool → Type 0
-IsTakenAs s c z b = AllPass (Fails s (Char c)) (tests s (cond b unheard (text s.place))) × Leaves s (Char c) (cond b unheard (text s.place)) z
+IsTakenAs s c z b = AllPass (Fails s (Char c)) (tests (cond b unheard (text s.place))) × Leaves s (Char c) (cond b unheard (text s.place)) z
 
 heard_taken : (s : State) (cs : List ℕ) → nat_lt 0 s.depth ≡ false → AreTaken osrl s (map Char cs) (record s { text = kept s.place s.text cs })
 heard_taken s [] flat = refl

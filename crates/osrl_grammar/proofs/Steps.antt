@@ -10,7 +10,7 @@ pub led_over : (s : State) (name : List ℕ) (as' : List Attribute) → nat_lt 0
 led_over s name as' over = ap (λ (b : Bool). cond b Over (leads s.place name as')) over
 
 abbrev IsTakenAs : State → List ℕ → List Attribute → State → Led → Type 0
-IsTakenAs s name as' z l = AllPass (Fails s (Start name as')) (tests s (begins l)) × Leaves s (Start name as') (begins l) z
+IsTakenAs s name as' z l = AllPass (Fails s (Start name as')) (tests (begins l)) × Leaves s (Start name as') (begins l) z
 
 -- a start tag of an element that is read, of one that is passed over, and of another root
 pub start_in : (s : State) (name : List ℕ) (as' : List Attribute) (p : Place) → led_at s name as' ≡ To p → (z : State) → z ≡ begun s (Start name as') p → Takes osrl s (Start name as') z
@@ -21,7 +21,7 @@ start_over s name as' is = subst (IsTakenAs s name as' (record s { depth = s.dep
 
 -- an end tag, of an element that is passed over
 abbrev IsEndedAs : State → List ℕ → State → Bool → Type 0
-IsEndedAs s name z b = AllPass (Fails s (Finish name)) (tests s (cond b back (ends s.place))) × Leaves s (Finish name) (cond b back (ends s.place)) z
+IsEndedAs s name z b = AllPass (Fails s (Finish name)) (tests (cond b back (ends s.place))) × Leaves s (Finish name) (cond b back (ends s.place)) z
 
 pub end_over : (s : State) (name : List ℕ) → nat_lt 0 s.depth ≡ true → Takes osrl s (Finish name) (record s { depth = s.depth - 1 })
 end_over s name over = subst (IsEndedAs s name (record s { depth = s.depth - 1 })) (sym over) (tt, refl)
@@ -30,7 +30,7 @@ end_over s name over = subst (IsEndedAs s name (record s { depth = s.depth - 1 }
 pub end_in : {X : Type 0} (s z : State) (name : List ℕ) (r : Result X OsrlFault) → nat_lt 0 s.depth ≡ false → EndsAt s s.place z r → Steps s (Finish name) z r
 end_in s z name (Ok x) flat h = subst (IsEndedAs s name z) (sym flat) (h name)
 end_in s z name (Err Memory) flat h = tt
-end_in s z name (Err f) flat h = subst (λ (b : Bool). FirstFails {R = OsrlFault} (Fails s (Finish name)) (told s (Finish name)) (tests s (cond b back (ends s.place))) f) (sym flat) (h name)
+end_in s z name (Err f) flat h = subst (λ (b : Bool). FirstFails {R = OsrlFault} (Fails s (Finish name)) (told s (Finish name)) (tests (cond b back (ends s.place))) f) (sym flat) (h name)
 
 -- the same of what the code holds, which is that state
 pub end_at : {X : Type 0} (s u now z : State) (name : List ℕ) (r : Result X OsrlFault) → s ≡ now → u ≡ now → s.depth ≤ 0 → EndsAt now u.place z r → Steps now (Finish name) z r

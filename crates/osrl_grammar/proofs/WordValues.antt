@@ -44,13 +44,16 @@ each_step steps.Ratio = refl
 each_step steps.Pivot = refl
 each_step steps.Point = refl
 each_step steps.Ray = refl
+each_step steps.Round = refl
 each_step steps.Check = refl
 
 pub each_node_word : (w : NodeWord) → worded node_word all_node_words (node_word w) ≡ Some w
 each_node_word nodes.Split = refl
+each_node_word nodes.Zero = refl
 each_node_word nodes.Clash = refl
 each_node_word nodes.Farkas = refl
 each_node_word nodes.Bound = refl
+each_node_word nodes.Level = refl
 
 pub each_cause_word : (w : CauseWord) → worded cause_word all_cause_words (cause_word w) ≡ Some w
 each_cause_word causes.Killed = refl
