@@ -14,7 +14,7 @@ use crate::stop::Stop;
 use doc_tree::TreeFault;
 use element_tree::Attributes;
 use instance::Instance;
-use std::alloc::Global;
+use std::alloc::{AllocError, Global};
 use std::marker::Model;
 use tag_tests::{Decoder as MarkDecoder, MarkReader, Stop as MarkStop};
 
@@ -76,14 +76,14 @@ impl Reader {
     /// How many numbers it holds.
     fn numbers(&self) -> u64
         ensures is { result ≡ hearing.held self.now }
-        ensures few { result ≤ 206001 }
+        ensures few { result ≤ 211009 }
     {
         self.standing.numbers()
     }
 
     /// The instance that the marks say.
-    pub(crate) fn instance(self) -> Instance
-        ensures { result ≡ instance_of self }
+    pub(crate) fn instance(self) -> Result<Instance, AllocError>
+        ensures { IfOk result (λ p. p ≡ instance_of self) }
     {
         self.standing.instance()
     }
@@ -192,7 +192,7 @@ impl Decoder {
     /// How many numbers it holds so far: the items of all its lists.
     pub fn numbers(&self) -> u64
         ensures is { result ≡ hearing.numbers self.now.course }
-        ensures few { result ≤ 206001 }
+        ensures few { result ≤ 211009 }
     {
         match self.marks.reader() {
             Some(reader) => reader.numbers(),
@@ -208,7 +208,7 @@ impl Decoder {
         ensures err { IfErr result (λ fault. (bytes : List ℕ) → WasFed self bytes → DecodeFails bytes fault) }
     {
         match self.marks.finish() {
-            Ok(Ok(reader)) => Ok(reader.instance()),
+            Ok(Ok(reader)) => Ok(reader.instance()?),
             Ok(Err(Refused { refusal, at })) => Err(OsilFault::Refused { refusal, at }),
             Err(fault) => Err(told(fault)),
         }

@@ -21,7 +21,7 @@ pub fn decode(alloc: Global, bytes: &[u8]) -> Result<Instance, OsilFault>
     ensures err { IfErr result (DecodeFails bytes.now) }
 {
     match read_marks(alloc, bytes, Reader::new(alloc)) {
-        Ok(Ok(reader)) => Ok(reader.instance()),
+        Ok(Ok(reader)) => Ok(reader.instance()?),
         Ok(Err(Refused { refusal, at })) => Err(OsilFault::Refused { refusal, at }),
         Err(TreeFault::Memory) => Err(OsilFault::Memory),
         Err(fault) => Err(OsilFault::Tree(fault)),
