@@ -28,12 +28,27 @@ pub(crate) fn leads(place: Place, name: &[u8]) -> Led<Place>
             if name == b"general".as_slice() {
                 Led::To(Place::General)
             } else {
-                named(name, b"optimization", Led::To(Place::Optimization), Led::Over)
+                named(
+                    name,
+                    b"optimization",
+                    Led::To(Place::Optimization),
+                    Led::Over,
+                )
             }
         }
         Place::General => named(name, b"jobID", Led::To(Place::JobId), Led::Over),
-        Place::Optimization => named(name, b"solverOptions", Led::To(Place::SolverOptions), Led::Over),
-        Place::SolverOptions => named(name, b"solverOption", Led::To(Place::SolverOption), Led::Over),
+        Place::Optimization => named(
+            name,
+            b"solverOptions",
+            Led::To(Place::SolverOptions),
+            Led::Over,
+        ),
+        Place::SolverOptions => named(
+            name,
+            b"solverOption",
+            Led::To(Place::SolverOption),
+            Led::Over,
+        ),
         Place::JobId | Place::SolverOption => Led::Over,
     }
 }

@@ -4,4 +4,4 @@ pub mod Firsts
 pub mod Fields
 pub mod Readers
 pub mod Characters
-pub mod Places
+pub mod EndKinds

@@ -1,6 +1,6 @@
 -- Who is told of marks hears them one after another, and a decoder answers of all of them in the end.
 use Rattle.std.proofs.Common.{◌≡◌, ◌∙◌, inl, inr, ◌⊎◌, ℕ, List, [], ◌∷◌, ◌++◌, Result, Ok, Err, refl, sym, subst}
-use Rattle.std.specs.Prelude.{OnOk, IfOk, IfErr}
+use Rattle.std.specs.Prelude.{OnOk}
 use Rattle.tree_grammar.specs.Elements.{Element, IsTextWithin}
 use Rattle.doc_tree.specs.Marks.{Mark}
 use Rattle.doc_tree.specs.Reading.{Visits, ReadingFails}
@@ -15,7 +15,7 @@ use Rattle.tag_tests.specs.Forms.{Form, AreTaken, AreRefused}
 use Rattle.tag_tests.specs.Kinds.{Kinds, form, StepsAs}
 use Rattle.tag_tests.specs.declared.decoder.Course.{Course}
 use Rattle.tag_tests.specs.declared.decoder.Course.TheVariants.{Going, Stopped, Lost}
-use Rattle.tag_tests.specs.Readers.{Steps, StepsBy, HearsBy, IsKept, Decoding, WasFed, Reads}
+use Rattle.tag_tests.specs.Readers.{marks, Steps, StepsBy, HearsBy, IsKept, Decoding, WasFed, Reads}
 use Rattle.tag_tests.proofs.Forms.{refused_here}
 
 -- one mark, by its tests
@@ -43,11 +43,11 @@ no_ok (Err e) P none = tt
 
 module _ {S R : Type 0} (Took : S → List Mark → S → Type 0) (Refuse : S → List Mark → R → Type 0) where
   -- who goes on hears what marks came to
-  pub kept_hears : {X E : Type 0} (s z : S) (old now new : Course S R) (ms : List Mark) (result : Result (Unit {0}) E) (step : Result X (Stop R)) → old ≡ Going s → now ≡ Going z → Steps Took Refuse s ms z step → IsKept step now new result → OnOk result (HearsBy Took Refuse old new ms)
-  kept_hears {X} s z old now new ms result step was is h k = subst (λ (c : Course S R). OnOk result (HearsBy Took Refuse c new ms)) (sym was) (by step h k)
+  pub kept_hears : {X E : Type 0} (s z : S) (old new : Course S R) (ms : List Mark) (result : Result (Unit {0}) E) (step : Result X (Stop R)) → old ≡ Going s → Steps Took Refuse s ms z step → IsKept step (Going z) new result → OnOk result (HearsBy Took Refuse old new ms)
+  kept_hears {X} s z old new ms result step was h k = subst (λ (c : Course S R). OnOk result (HearsBy Took Refuse c new ms)) (sym was) (by step h k)
     where
-      by : (step : Result X (Stop R)) → Steps Took Refuse s ms z step → IsKept step now new result → OnOk result (HearsBy Took Refuse (Going s) new ms)
-      by (Ok x) h k = any_ok result _ (subst (λ (c : Course S R). HearsBy Took Refuse (Going s) c ms) (sym (k.0 ∙ is)) h)
+      by : (step : Result X (Stop R)) → Steps Took Refuse s ms z step → IsKept step (Going z) new result → OnOk result (HearsBy Took Refuse (Going s) new ms)
+      by (Ok x) h k = any_ok result _ (subst (λ (c : Course S R). HearsBy Took Refuse (Going s) c ms) (sym k.0) h)
       by (Err (Refused r)) h k = any_ok result _ (subst (λ (c : Course S R). HearsBy Took Refuse (Going s) c ms) (sym k.0) h)
       by (Err Memory) h k = no_ok result _ k.1
 
@@ -64,28 +64,27 @@ module _ {S R : Type 0} (Took : S → List Mark → S → Type 0) (Refuse : S �
   fed_more d now new piece same limit more s bytes h = let g = subst (λ (z : Decoding S R). WasFed Took Refuse s z bytes) (sym same) h in (limit ∙ g.0, more s bytes g.1)
 
   -- the answer in the end
-  abbrev pub Answers : Decoding S R → Result (Result S R) TreeFault → Type 0
-  Answers d result = IfOk result (λ r. (s : S) (bytes : List ℕ) → WasFed Took Refuse s d bytes → OfDocument (Reads Took Refuse s) bytes r)
-      × IfErr result (λ f. (s : S) (bytes : List ℕ) → WasFed Took Refuse s d bytes → (f ≡ tree.Memory) ⊎ TreeFails bytes f)
+  abbrev pub EndsSo : Course S R → Result S R → Type 0
+  EndsSo (Going z) r = r ≡ Ok z
+  EndsSo (Stopped q) r = r ≡ Err q
+  EndsSo Lost r = ⊥
 
-  -- what a course is answered with
-  abbrev pub EndsSo : Course S R → Result (Result S R) TreeFault → Type 0
-  EndsSo (Going s) result = result ≡ Ok (Ok s)
-  EndsSo (Stopped r) result = result ≡ Ok (Err r)
-  EndsSo Lost result = result ≡ Err tree.Memory
+  heard : (s : S) (c : Course S R) (r : Result S R) (root : Element) → EndsSo c r → HearsBy Took Refuse (Going s) c (marks root) → Reads Took Refuse s root r
+  heard s (Going z) r root is h = subst (Reads Took Refuse s root) (sym is) h
+  heard s (Stopped q) r root is h = subst (Reads Took Refuse s root) (sym is) h
+  heard s Lost r root is h = absurd is
 
-  visited : (d : Decoding S R) (c : Course S R) (s : S) (bytes : List ℕ) (r : Result S R) → WasFed Took Refuse s d bytes → (x : Visits (λ ms. HearsBy Took Refuse (Going s) c ms) d.reading.limit bytes) → Reads Took Refuse s x.element r → OfDocument (Reads Took Refuse s) bytes r
-  visited d c s bytes r h x is = record { root = x.element; document = record { document = x.document; short = subst (λ (n : ℕ). IsTextWithin n bytes) h.0 x.within; shallow = x.shallow }; is = is }
-
-  ends : (d : Decoding S R) (c : Course S R) (result : Result (Result S R) TreeFault) → ((s : S) (bytes : List ℕ) → WasHeard (λ ms. HearsBy Took Refuse (Going s) d.course ms) d.reading bytes → Visits (λ ms. HearsBy Took Refuse (Going s) c ms) d.reading.limit bytes) → EndsSo c result → Answers d result
-  ends d (Going z) result visits is = subst (Answers d) (sym is) ((λ s bytes h. let x = visits s bytes h.1 in visited d (Going z) s bytes (Ok z) h x x.told), tt)
-  ends d (Stopped r) result visits is = subst (Answers d) (sym is) ((λ s bytes h. let x = visits s bytes h.1 in visited d (Stopped r) s bytes (Err r) h x x.told), tt)
-  ends d Lost result visits is = subst (Answers d) (sym is) (tt, (λ s bytes h. inl refl))
-
-  pub finished : (d now : Decoding S R) (c k : Course S R) (result : Result (Result S R) TreeFault) → d ≡ now → c ≡ k
-      → ((s : S) (bytes : List ℕ) → WasHeard (λ ms. HearsBy Took Refuse (Going s) d.course ms) d.reading bytes → Visits (λ ms. HearsBy Took Refuse (Going s) c ms) d.reading.limit bytes) → EndsSo k result → Answers now result
-  finished d now c k result same is visits answer =
-      subst (λ (z : Decoding S R). Answers z result) same (ends d k result (λ s bytes h. subst (λ (j : Course S R). Visits (λ ms. HearsBy Took Refuse (Going s) j ms) d.reading.limit bytes) is (visits s bytes h)) answer)
+  pub finished : (d now : Decoding S R) (c k : Course S R) (r : Result S R) → d ≡ now → c ≡ k → EndsSo k r
+      → ((s : S) (bytes : List ℕ) → WasHeard (λ ms. HearsBy Took Refuse (Going s) d.course ms) d.reading bytes → Visits (λ ms. HearsBy Took Refuse (Going s) c ms) d.reading.limit bytes)
+      → (s : S) (bytes : List ℕ) → WasFed Took Refuse s now bytes → OfDocument (Reads Took Refuse s) bytes r
+  finished d now c k r same is ends visits s bytes h =
+      let g = subst (λ (z : Decoding S R). WasFed Took Refuse s z bytes) (sym same) h in
+      let x = visits s bytes g.1 in
+      record {
+        root = x.element;
+        document = record { document = x.document; short = subst (λ (n : ℕ). IsTextWithin n bytes) g.0 x.within; shallow = x.shallow };
+        is = heard s c r x.element (subst (λ (j : Course S R). EndsSo j r) (sym is) ends) x.told;
+      }
 
   pub failed : (d now : Decoding S R) (f : TreeFault) → d ≡ now → ((s : S) (bytes : List ℕ) → WasHeard (λ ms. HearsBy Took Refuse (Going s) d.course ms) d.reading bytes → ReadingFails d.reading.limit bytes f) → (s : S) (bytes : List ℕ) → WasFed Took Refuse s now bytes → (f ≡ tree.Memory) ⊎ TreeFails bytes f
   failed d now f same fails s bytes h =

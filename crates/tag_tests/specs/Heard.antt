@@ -1,5 +1,5 @@
 -- Who is told of marks one after another is told of both.
-use Rattle.std.specs.Prelude.{◌≡◌, List, [], ◌++◌}
+use Rattle.std.specs.Prelude.{List, [], ◌++◌}
 use Rattle.std.proofs.Common.{◌∙◌, refl, sym, subst}
 use Rattle.doc_tree.specs.Marks.{Mark}
 use Rattle.tag_tests.specs.declared.decoder.Course.{Course}

@@ -145,7 +145,7 @@ impl<R: Drop, S: MarkReader<R> + Drop> Decoder<R, S> {
         ensures err { IfErr result (λ f. (first : S) (bytes : List ℕ) → WasFed S.took S.refuses first self bytes → (f ≡ Memory) ⊎ TreeFails bytes f) }
     {
         match self.events.finish() {
-            Ok(listener) => match listener.course {
+            Ok(Listener { course, .. }) => match course {
                 Course::Going(reader) => Ok(Ok(reader)),
                 Course::Stopped(refused) => Ok(Err(refused)),
                 Course::Lost => Err(TreeFault::Memory),

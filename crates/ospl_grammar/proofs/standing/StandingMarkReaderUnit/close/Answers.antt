@@ -1,6 +1,6 @@
 use Rattle.doc_tree.specs.Marks.{Finish}
 use Rattle.tag_tests.specs.Places.{ends}
-use Rattle.tag_tests.proofs.Places.{end_here}
+use Rattle.tag_tests.proofs.EndKinds.{end_here}
 use Rattle.tag_tests.proofs.Readers.{step_as}
 use Rattle.ospl_grammar.specs.Marked.{by_kinds}
 use Rattle.ospl_grammar.proofs.standing.StandingMarkReaderUnit.close.Goals as goal
