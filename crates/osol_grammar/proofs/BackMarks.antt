@@ -1,5 +1,6 @@
 -- The marks of a written document say the options that it was written of.
-use Rattle.std.proofs.Common.{◌≡◌, inr, inl, ℕ, zero, suc, ◌+◌, ◌≤◌, ◌==◌, Bool, true, false, not, ap, true≢false, Option, None, Some, List, [], ◌∷◌, ◌++◌, length, leb, refl, sym, subst, arith}
+use Rattle.std.proofs.Common.{◌≡◌, inr, inl, ℕ, ◌+◌, ◌≤◌, ◌==◌, Bool, true, false, not, ap, eqb-true, Option, None, Some, List, [], ◌∷◌, ◌++◌, length, leb, refl, sym, subst, arith}
+use Rattle.std.proofs.lemmas.Bool.{not-false}
 use Rattle.std.specs.Prelude.{codes, map}
 use Rattle.std.specs.Fmt.{decimal}
 use Rattle.tree_grammar.specs.Elements.{Attribute, Event, Close, nodes_events}
@@ -69,8 +70,7 @@ limits_say (l ∷ ls) n j t o q es within more =
 
 -- all that is told says the options, since a limit that isn't has the amount that it has without its option
 untold : (n : ℕ) → not (n == 0) ≡ false → 0 ≡ n
-untold zero is = refl
-untold (suc n) is = absurd (true≢false is)
+untold n is = sym (eqb-true n 0 (not-false (n == 0) is))
 
 all_said : (job : Option (List ℕ)) (amounts : Limit → ℕ) → made job amounts ≡ with_amounts (record no_options { job = job }) (made job amounts) (told_limits (made job amounts))
 all_said job amounts = by_rounds (not (amounts Rounds == 0)) refl

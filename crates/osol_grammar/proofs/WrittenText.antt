@@ -1,5 +1,5 @@
 -- The text of options is a document that isn't blank.
-use Rattle.std.proofs.Common.{◌≡◌, ◌∙◌, ℕ, ◌+◌, ◌*◌, ◌≤◌, Bool, true, false, cond, Option, None, Some, List, [], ◌∷◌, ◌++◌, length, drop, reverse, leb, refl, ap, sym, arith, lit≤}
+use Rattle.std.proofs.Common.{◌≡◌, ◌∙◌, ℕ, suc, ◌+◌, ◌*◌, ◌≤◌, Bool, true, false, cond, Option, None, Some, List, [], ◌∷◌, ◌++◌, length, drop, reverse, leb, refl, ap, sym, arith, lit≤}
 use Rattle.std.specs.Prelude.{codes, filter}
 use Rattle.std.specs.List.{list_all}
 use Rattle.std.proofs.lemmas.Bool.{leb-true}
@@ -64,7 +64,7 @@ filter_few : {X : Type 0} (test : X → Bool) (xs : List X) → length (filter t
 filter_few test [] = omega arith
 filter_few {X} test (x ∷ xs) = by_test (test x) (filter_few test xs)
   where
-    by_test : (b : Bool) → length (filter test xs) ≤ length xs → length (cond b (x ∷ filter test xs) (filter test xs)) ≤ 1 + length xs
+    by_test : (b : Bool) → length (filter test xs) ≤ length xs → length (cond b (x ∷ filter test xs) (filter test xs)) ≤ suc (length xs)
     by_test true few = omega (arith, few)
     by_test false few = omega (arith, few)
 
