@@ -1,5 +1,5 @@
 -- The document that a report is written as reports it.
-use Rattle.osrl_grammar.proofs.Names.{◌≡◌, ◌∙◌, ℕ, ◌+◌, Bool, true, false, ◌||◌, Option, None, Some, List, [], ◌∷◌, ◌++◌, map, refl, ap, sym, subst, append-nil, append_assoc, codes, bytes_eq, nat_lt, is_some, length, AllZip, false≢true, Nodes, none, element, chars, Close, Start, Finish, trimmed, unless_empty, leaf, group, typed, Takes, Frac, Node, Claim, Optimal, Infeasible, Unbounded, BestSoFar, Unsure, JobStatus, Report, Held, To, Part, Claiming, part_name, claiming_text, status_text, IsFraction, IsNode, IsCause, State, nothing_held, start, has, items, status_of, report_with, nonempty, report_of, MayHoldItems, with_part, AddsItem, osrl, IsReport, IsReportText, row_values, values_part_unless_none, variable_values, values_part, indexed, point_values, dual_values, node_text, cause_text, item_nodes, certificate_part, fraction_texts, point_parts, ray_part, tree_part, cause_part, solution, claim_nodes, leaf_of, optimization, general_type, general_nodes, status_nodes, report_element, report_text, IsBareOrNone, CauseComesBack, TreeComesBack, ClaimComesBack, ComesBack, item_fields}
+use Rattle.osrl_grammar.proofs.Names.{◌≡◌, ◌∙◌, ℕ, ◌+◌, Bool, true, false, ◌||◌, Option, None, Some, List, [], ◌∷◌, ◌++◌, map, refl, ap, sym, subst, append-nil, append_assoc, codes, bytes_eq, is_some, length, AllZip, false≢true, Nodes, none, element, chars, Close, Start, Finish, trimmed, unless_empty, leaf, group, typed, Takes, Frac, Node, Claim, Optimal, Infeasible, Unbounded, BestSoFar, Unsure, JobStatus, Report, Held, To, Part, Claiming, part_name, claiming_text, status_text, IsFraction, IsNode, IsCause, State, nothing_held, start, has, items, status_of, report_with, nonempty, report_of, MayHoldItems, keeps, with_part, AddsItem, osrl, IsReport, IsReportText, row_values, values_part_unless_none, variable_values, values_part, indexed, point_values, dual_values, node_text, cause_text, item_nodes, certificate_part, fraction_texts, point_parts, ray_part, tree_part, cause_part, solution, claim_nodes, leaf_of, optimization, general_type, general_nodes, status_nodes, report_element, report_text, IsBareOrNone, CauseComesBack, TreeComesBack, ClaimComesBack, ComesBack, item_fields}
 use Rattle.document_tags.specs.Writing.{only}
 use Rattle.certificate.specs.declared.nodes.Node.TheVariants as nodes
 use Rattle.certificate.specs.declared.causes.Cause as why
@@ -11,7 +11,6 @@ use Rattle.osrl_grammar.specs.Saying.{claim_of}
 use Rattle.osrl_grammar.specs.Table.{part_led}
 use Rattle.osrl_grammar.proofs.WordValues.{each_status}
 use Rattle.osrl_grammar.proofs.ItemTests.{item_passes, added_readable}
-use Rattle.osrl_grammar.proofs.CharMarks.{IsText}
 use Rattle.osrl_grammar.proofs.Steps.{start_in}
 use Rattle.osrl_grammar.proofs.Goings.{at, Goes, goes_none, goes_element, goes_leaf, goes_past}
 use Rattle.osrl_grammar.proofs.BackItems.{cause_back, fractions_back, nodes_back}
@@ -38,8 +37,8 @@ items_go : (p : Part) (texts : List (List ℕ)) (s : State) (type : Option (List
 items_go p [] s type h k adds = subst (λ (x : Held). Goes none (solving s (places.Result p) type h) (solving s (places.Result p) type x)) (sym adds) (goes_none (solving s (places.Result p) type h))
 items_go p (text ∷ more) s type h k (m, one, rest) =
     let inside : State = solving s (places.Item p) type h in
-    goes_leaf (codes "item") text (item_nodes more) (solving s (places.Result p) type h) inside (solving s (places.Result p) type m) (solving s (places.Result p) type k) (λ n t. (n + 1, (tt, refl))) refl tt
-    (λ n. (item_passes (at inside n text) (codes "item") (item_fields p text) (added_readable p text h m one), (m, one, refl))) (items_go p more s type m k rest)
+    goes_leaf (codes "item") text (item_nodes more) (solving s (places.Result p) type h) inside (solving s (places.Result p) type m) (solving s (places.Result p) type k) (λ n t. (n + 1, (tt, refl))) refl
+    (λ n. (item_passes (at inside n text) (item_fields p text) (added_readable p text h m one), (m, one, refl))) (items_go p more s type m k rest)
 
 -- a part that holds a list
 part_leads : (p : Part) → part_led (part_name p) ≡ To (places.Result p)
@@ -179,19 +178,19 @@ optimization_goes s (Some c) back =
 abbrev told : Bool → (job message status : Option (List ℕ)) → Place → State
 told error job message status p = record start { place = p; general = Some (general_type error); job = job; message = message; status = status }
 
-said_goes : (name : List ℕ) (p : Place) (put : Option (List ℕ) → State) → IsText p → nat_lt 0 (put None).depth ≡ false → ((n : ℕ) (t : List ℕ) → (i : ℕ) × Takes osrl (at (put None) n t) (Start name []) (at (record (put None) { place = p }) i [])) → ((n : ℕ) (text : List ℕ) → Takes osrl (at (record (put None) { place = p }) n text) (Finish name) (at (put (Some (trimmed text))) n text)) → (o : Option (List ℕ)) → IsBareOrNone o → (more : Nodes) (z : State) → Goes more (put o) z → Goes (leaf_of name o more) (put None) z
-said_goes name p put is flat begin end None bare more z behind = behind
-said_goes name p put is flat begin end (Some text) bare more z behind =
+said_goes : (name : List ℕ) (p : Place) (put : Option (List ℕ) → State) → keeps (put None).depth p ≡ true → ((n : ℕ) (t : List ℕ) → (i : ℕ) × Takes osrl (at (put None) n t) (Start name []) (at (record (put None) { place = p }) i [])) → ((n : ℕ) (text : List ℕ) → Takes osrl (at (record (put None) { place = p }) n text) (Finish name) (at (put (Some (trimmed text))) n text)) → (o : Option (List ℕ)) → IsBareOrNone o → (more : Nodes) (z : State) → Goes more (put o) z → Goes (leaf_of name o more) (put None) z
+said_goes name p put on begin end None bare more z behind = behind
+said_goes name p put on begin end (Some text) bare more z behind =
     let inside : State = record (put None) { place = p } in
-    goes_leaf name text more (put None) inside (put (Some text)) z begin flat is (λ n. subst (λ (w : List ℕ). Takes osrl (at inside n text) (Finish name) (at (put (Some w)) n text)) bare.bare (end n text)) behind
+    goes_leaf name text more (put None) inside (put (Some text)) z begin on (λ n. subst (λ (w : List ℕ). Takes osrl (at inside n text) (Finish name) (at (put (Some w)) n text)) bare.bare (end n text)) behind
 
 general_goes : (error : Bool) (job message : Option (List ℕ)) → IsBareOrNone job → IsBareOrNone message → Goes (typed (codes "generalStatus") (general_type error) (leaf_of (codes "jobID") job (leaf_of (codes "message") message none))) (record start { place = places.General }) (told error job message None places.General)
 general_goes error job message bare plain =
     let last : State = told error job message None places.General in
     let said : State = told error None None None places.GeneralStatus in
     goes_element (codes "generalStatus") (only (codes "type") (general_type error)) none (leaf_of (codes "jobID") job (leaf_of (codes "message") message none)) (record start { place = places.General }) said said (told error None None None places.General) last (λ n t. (n, [], (tt, refl))) (goes_none said) (λ n t. (tt, refl))
-    (said_goes (codes "jobID") places.JobId (λ j. told error j None None places.General) tt refl (λ n t. (n, (tt, refl))) (λ n text. (tt, refl)) job bare (leaf_of (codes "message") message none) last
-    (said_goes (codes "message") places.Message (λ m. told error job m None places.General) tt refl (λ n t. (n, (tt, refl))) (λ n text. (tt, refl)) message plain none last (goes_none last)))
+    (said_goes (codes "jobID") places.JobId (λ j. told error j None None places.General) refl (λ n t. (n, (tt, refl))) (λ n text. (tt, refl)) job bare (leaf_of (codes "message") message none) last
+    (said_goes (codes "message") places.Message (λ m. told error job m None places.General) refl (λ n t. (n, (tt, refl))) (λ n text. (tt, refl)) message plain none last (goes_none last)))
 
 -- before the end of the root
 abbrev reported : Report → State
@@ -203,7 +202,7 @@ children_go r back =
     let status : Option (List ℕ) = Some (status_text r.status) in
     goes_element (codes "general") [] (general_nodes r) (status_nodes r.status (optimization r.claim)) (record start { place = places.Osrl }) (record start { place = places.General }) (with_status None places.General) (with_status None places.Osrl) (reported r) (λ n t. (n, [], (tt, refl))) (general_goes r.error r.job r.message back.job back.message) (λ n t. (tt, refl))
     (goes_element (codes "job") [] (leaf (codes "status") (status_text r.status) none) (optimization r.claim) (with_status None places.Osrl) (with_status None places.Job) (with_status status places.Job) (with_status status places.Osrl) (reported r) (λ n t. (n, [], (tt, refl)))
-    (goes_leaf (codes "status") (status_text r.status) none (with_status None places.Job) (with_status None places.JobStatus) (with_status status places.Job) (with_status status places.Job) (λ n t. (n, (tt, refl))) refl tt (λ n. (tt, refl)) (goes_none (with_status status places.Job))) (λ n t. (tt, refl)) (optimization_goes (with_status status places.Osrl) r.claim back.claim))
+    (goes_leaf (codes "status") (status_text r.status) none (with_status None places.Job) (with_status None places.JobStatus) (with_status status places.Job) (with_status status places.Job) (λ n t. (n, (tt, refl))) refl (λ n. (tt, refl)) (goes_none (with_status status places.Job))) (λ n t. (tt, refl)) (optimization_goes (with_status status places.Osrl) r.claim back.claim))
 
 -- THE REPORT: no part is miscounted, and all are there
 abbrev Miscounted : Held → Part → Type 0

@@ -1,5 +1,5 @@
 -- What the code makes of an end tag is the state that it leaves, or its refusal.
-use Rattle.osrl_grammar.proofs.Names.{◌≡◌, ◌∙◌, ℕ, false, List, refl, ap, sym, subst, Option, None, Some, Result, Ok, Err, OnOk, false≢true, on_ok_weaker, trimmed, Finish, AllPass, OsrlFault, Report, Held, Part, Value, Misread, NoShape, NoNumber, TooGreat, item_fields, ReadsSo, State, start, report_of, ends, around, tests, told, item_refusal, Fails, first, AddsItem, Ends, EndsAt}
+use Rattle.osrl_grammar.proofs.Names.{◌≡◌, ◌∙◌, ℕ, false, List, refl, ap, sym, subst, Option, None, Some, Result, Ok, Err, OnOk, false≢true, on_ok_weaker, trimmed, AllPass, OsrlFault, Refused, Report, Held, Part, Value, Misread, item_fields, ReadsSo, State, start, report_of, ends, around, tests, item_refusal, Fails, first, AddsItem, Ends, EndsAt}
 use Rattle.osrl_grammar.specs.declared.elements.Place.{Place}
 use Rattle.osrl_grammar.specs.declared.elements.Place.TheVariants as places
 use Rattle.osrl_grammar.specs.declared.parts.Part.TheVariants.{Tree, Cause}
@@ -19,30 +19,25 @@ module _ {X : Type 0} (s now : State) (same : s ≡ now) (p : Part) (k : Held) (
   item_added x is =
       let h = reads_pass (item_fields p s.text) x (λ x. AddsItem p s.text s.held k) (own (Ok x) is) in
       subst (λ (n : State). EndsAt {X = Unit {0}} n (places.Item p) (record s { place = places.Result p; held = k }) (Ok tt)) same
-      (λ name. (item_passes s name (item_fields p s.text) h.0, (k, h.1, refl)))
+      (item_passes s (item_fields p s.text) h.0, (k, h.1, refl))
 
-  told_so : (z : State) (u : Misread) → Reads (Err u) → EndsAt {X = Unit {0}} s (places.Item p) z (Err (item_refusal u s.count))
-  told_so z NoShape h = λ name. item_refused s name (item_fields p s.text) NoShape (λ x. AddsItem p s.text s.held k) h
-  told_so z NoNumber h = λ name. item_refused s name (item_fields p s.text) NoNumber (λ x. AddsItem p s.text s.held k) h
-  told_so z TooGreat h = λ name. item_refused s name (item_fields p s.text) TooGreat (λ x. AddsItem p s.text s.held k) h
-
-  pub item_misread : (z : State) (u : Misread) (f : OsrlFault) → q ≡ Err u → f ≡ item_refusal u s.count → EndsAt {X = Unit {0}} now (places.Item p) z (Err f)
+  pub item_misread : (z : State) (u : Misread) (f : OsrlFault) → q ≡ Err u → f ≡ item_refusal u s.count → EndsAt {X = Unit {0}} now (places.Item p) z (Err (Refused f))
   item_misread z u f is told =
-      subst (λ (n : State). EndsAt {X = Unit {0}} n (places.Item p) z (Err f)) same
-      (subst (λ (g : OsrlFault). EndsAt {X = Unit {0}} s (places.Item p) z (Err g)) (sym told) (told_so z u (own (Err u) is)))
+      subst (λ (n : State). EndsAt {X = Unit {0}} n (places.Item p) z (Err (Refused f))) same
+      (subst (λ (g : OsrlFault). EndsAt {X = Unit {0}} s (places.Item p) z (Err (Refused g))) (sym told) (item_refused s (item_fields p s.text) u (λ x. AddsItem p s.text s.held k) (own (Err u) is)))
 
-module _ (s : State) (name : List ℕ) where
-  not_twice : s.twice ≡ false → Fails s (Finish name) twice → ⊥
+module _ (s : State) where
+  not_twice : s.twice ≡ false → Fails s twice → ⊥
   not_twice once fails = false≢true (sym once ∙ fails)
 
-  not_miscounted : (p : Part) → IsCounted s.held p → Fails s (Finish name) (miscounted p) → ⊥
+  not_miscounted : (p : Part) → IsCounted s.held p → Fails s (miscounted p) → ⊥
   not_miscounted p is fails = fails.1 (is fails.0)
 
-  root_passes : (r : Report) → AreCounted s → report_of s ≡ Some r → AllPass (Fails s (Finish name)) (tests s (ends places.Osrl))
+  root_passes : (r : Report) → AreCounted s → report_of s ≡ Some r → AllPass (Fails s) (tests s (ends places.Osrl))
   root_passes r h some = (not_twice h.0, (not_miscounted Value h.1, (not_miscounted Tree h.2, (not_miscounted Cause h.3, ((λ none. let clash : Some r ≡ None = sym some ∙ none in cc), tt)))))
 
 pub root_ends : (s z : State) (r : Report) → AreCounted s → report_of s ≡ Some r → z ≡ record start { report = r } → EndsAt {X = Unit {0}} s places.Osrl z (Ok tt)
-root_ends s z r counted some is = λ name. (root_passes s name r counted some, (r, some, is))
+root_ends s z r counted some is = (root_passes s r counted some, (r, some, is))
 
 other_out : (s : State) (p out : Place) → out ≡ around p → (p ≡ places.JobId → ⊥) → (p ≡ places.Message → ⊥) → (p ≡ places.JobStatus → ⊥) → ((q : Part) → p ≡ places.Item q → ⊥) → (p ≡ places.Osrl → ⊥) → Ends s p (record s { place = out })
 other_out s places.JobId out is job message status item root = absurd (job refl)

@@ -1,14 +1,15 @@
 -- The tests of each kind stand in the order of their refusals.
-use Rattle.osrl_grammar.proofs.Names.{ℕ, ◌≤◌, Option, None, Some, List, [], ◌∷◌, ◌++◌, map, refl, arith, Mark, OtherRoot, number, State, begins, ends, bad, great, item_tests, kind, tests, told, Field, item_fields, osrl}
+use Rattle.osrl_grammar.proofs.Names.{ℕ, ◌≤◌, Option, None, Some, List, [], ◌∷◌, ◌++◌, map, refl, arith, OtherRoot, number, Kind, State, begins, ends, bad, great, item_tests, kind, tests, told, Field, item_fields, osrl}
 use Rattle.tag_tests.specs.Tests.{FromHere, InOrder}
 use Rattle.tag_tests.specs.Firsts.{IsOrdered}
 use Rattle.tag_tests.proofs.Tests.{order_tested}
+use Rattle.osrl_grammar.specs.declared.elements.Place.{Place}
 use Rattle.osrl_grammar.specs.declared.elements.Place.TheVariants.{Osrl, Item}
-use Rattle.osrl_grammar.specs.Table.{Kind, Test}
+use Rattle.osrl_grammar.specs.Table.{Test}
 
-module _ (s : State) (m : Mark) where
+module _ (s : State) where
   abbrev at : Test → ℕ
-  at t = number (told s m t)
+  at t = number (told s t)
 
   greats_from : (n : ℕ) → n ≤ 4 → (fs : List Field) → FromHere at n (map great fs)
   greats_from n low [] = tt
@@ -30,11 +31,11 @@ module _ (s : State) (m : Mark) where
   item_in_order None = (tt, tt)
   item_in_order (Some fs) = fields_in_order fs fs
 
-  kind_in_order : (k : Kind) → InOrder at (tests s k)
-  kind_in_order (begins OtherRoot) = order_tested at (tests s (begins OtherRoot)) refl
+  kind_in_order : (k : Kind Place) → InOrder at (tests s k)
+  kind_in_order (begins OtherRoot as') = order_tested at (tests s (begins OtherRoot as')) refl
   kind_in_order (ends (Item p)) = item_in_order (item_fields p s.text)
   kind_in_order (ends Osrl) = order_tested at (tests s (ends Osrl)) refl
   kind_in_order k = tt
 
 pub in_order : IsOrdered osrl number
-in_order s m = kind_in_order s m (kind s m)
+in_order s m = kind_in_order s (kind s m)

@@ -1,5 +1,5 @@
 -- What was read of an item answers the tests of its end tag.
-use Rattle.osrl_grammar.proofs.Names.{◌≡◌, ◌∙◌, inl, ℕ, pos, Option, None, Some, Result, Ok, Err, List, [], ◌∷◌, ◌++◌, refl, ap, sym, subst, AllZip, option_map, whole, ratio, Frac, Mult, Node, Step, Finish, AllPass, FirstFails, OsrlFault, Held, Part, Point, Value, Ray, Misread, NoShape, NoNumber, TooGreat, Index, Turn, Whole, Exact, Field, pieces, Pair, parted, worded, field, step_text, all_steps, node_word, all_node_words, cause_word, all_cause_words, pair_fields, mult_fields, mults_fields, no_field, one_field, place_fields, node_behind, cause_behind, item_fields, ReadsSo, IsFraction, IsMult, IsMultOf, IsOne, IsPlace, node_head, SaysNode, cause_head, SaysCause, State, bad, great, item_tests, told, item_refusal, Fails, AddsItem, IfOk-weaker}
+use Rattle.osrl_grammar.proofs.Names.{◌≡◌, ◌∙◌, inl, ℕ, pos, Option, None, Some, Result, Ok, Err, List, [], ◌∷◌, ◌++◌, refl, ap, sym, subst, AllZip, option_map, whole, ratio, Frac, Mult, Node, Step, AllPass, FirstFails, OsrlFault, Held, Part, Point, Value, Ray, Misread, NoShape, NoNumber, TooGreat, Index, Turn, Whole, Exact, Field, pieces, Pair, parted, worded, field, step_text, all_steps, node_word, all_node_words, cause_word, all_cause_words, pair_fields, mult_fields, mults_fields, no_field, one_field, place_fields, node_behind, cause_behind, item_fields, ReadsSo, IsFraction, IsMult, IsMultOf, IsOne, IsPlace, node_head, SaysNode, cause_head, SaysCause, State, bad, great, item_tests, told, item_refusal, Fails, AddsItem, IfOk-weaker}
 use Rattle.certificate.specs.declared.nodes.Node.TheVariants as nodes
 use Rattle.certificate.specs.declared.causes.Place.{Place}
 use Rattle.certificate.specs.declared.causes.Cause as why
@@ -65,16 +65,16 @@ added_readable Ray said h k a = number_pass Exact said (ratio a.0) a.1
 added_readable Tree said h k a = begun_pass node_word all_node_words node_behind node_head SaysNode each_node_word node_pass (pieces said) a.0 a.1
 added_readable Cause said h k a = begun_pass cause_word all_cause_words cause_behind cause_head SaysCause each_cause_word cause_pass (pieces said) a.0 a.1
 
-module _ (s : State) (name : List ℕ) where
-  pub item_passes : (o : Option (List Field)) → Pass o → AllPass (Fails s (Finish name)) (item_tests o)
+module _ (s : State) where
+  pub item_passes : (o : Option (List Field)) → Pass o → AllPass (Fails s) (item_tests o)
   item_passes None h = absurd h
-  item_passes (Some fs) h = fields_pass {A = Unit {0}} (Fails s (Finish name)) bad great fs tt (λ x. Unit {0}) (h.0, h.1, tt)
+  item_passes (Some fs) h = fields_pass {A = Unit {0}} (Fails s) bad great fs tt (λ x. Unit {0}) (h.0, h.1, tt)
 
-  pub item_refused : {A : Type 0} (o : Option (List Field)) (u : Misread) (Says : A → Type 0) → ReadsSo {A = A} o (Err u) Says → FirstFails {R = OsrlFault} (Fails s (Finish name)) (told s (Finish name)) (item_tests o) (item_refusal u s.count)
+  pub item_refused : {A : Type 0} (o : Option (List Field)) (u : Misread) (Says : A → Type 0) → ReadsSo {A = A} o (Err u) Says → FirstFails {R = OsrlFault} (Fails s) (told s) (item_tests o) (item_refusal u s.count)
   item_refused None u Says h = let e : u ≡ NoShape = cc in inl (tt, ap (λ (v : Misread). item_refusal v s.count) e)
   item_refused (Some fs) NoShape Says h = absurd h
-  item_refused (Some fs) NoNumber Says h = fields_bad (Fails s (Finish name)) (told s (Finish name)) bad great fs _ Says (λ f. refl) h
-  item_refused (Some fs) TooGreat Says h = fields_wide (Fails s (Finish name)) (told s (Finish name)) bad great fs _ Says (λ f. refl) h
+  item_refused (Some fs) NoNumber Says h = fields_bad (Fails s) (told s) bad great fs _ Says (λ f. refl) h
+  item_refused (Some fs) TooGreat Says h = fields_wide (Fails s) (told s) bad great fs _ Says (λ f. refl) h
 
 -- of what was read
 pub reads_pass : {A : Type 0} (o : Option (List Field)) (x : A) (Says : A → Type 0) → ReadsSo o (Ok x) Says → Pass o × Says x

@@ -1,6 +1,5 @@
 -- When the tests of result documents fail.
 use Rattle.std.specs.Prelude.{◌≡◌, ℕ, ◌<◌, true, None}
-use Rattle.doc_tree.specs.Marks.{Mark}
 use Rattle.osrl_grammar.specs.declared.parts.Part.{Part}
 use Rattle.osrl_grammar.specs.declared.parts.Part.TheVariants.{Point, Value, Ray, Tree, Cause}
 use Rattle.osrl_grammar.specs.Numbers.{IsBad, IsTooGreat}
@@ -17,11 +16,11 @@ MayHoldItems Tree n = 0 < n
 MayHoldItems Cause n = n ≡ 1
 
 -- WHEN EACH TEST FAILS
-abbrev pub Fails : State → Mark → Test → Type 0
-Fails s m other_root = Unit {0}
-Fails s m shapeless = Unit {0}
-Fails s m (bad f) = IsBad f
-Fails s m (great f) = IsTooGreat f
-Fails s m twice = s.twice ≡ true
-Fails s m (miscounted p) = (has s.held p ≡ true) × (MayHoldItems p (items s.held p) → ⊥)
-Fails s m incomplete = report_of s ≡ None
+abbrev pub Fails : State → Test → Type 0
+Fails s other_root = Unit {0}
+Fails s shapeless = Unit {0}
+Fails s (bad f) = IsBad f
+Fails s (great f) = IsTooGreat f
+Fails s twice = s.twice ≡ true
+Fails s (miscounted p) = (has s.held p ≡ true) × (MayHoldItems p (items s.held p) → ⊥)
+Fails s incomplete = report_of s ≡ None

@@ -12,7 +12,7 @@ use Rattle.osrl_grammar.specs.Leaving.{Leaves}
 
 -- THE FORM of result documents: the table, when its tests fail, and what a mark leaves
 abbrev pub osrl : Form State Mark Test OsrlFault
-osrl = record { tests = λ s m. tests s (kind s m); Fails = Fails; told = told; Becomes = λ s m z. Leaves s m (kind s m) z }
+osrl = record { tests = λ s m. tests s (kind s m); Fails = λ s m. Fails s; told = λ s m. told s; Becomes = λ s m z. Leaves s (kind s m) z }
 
 -- the marks of a document with this root
 abbrev pub marks : Element → List Mark

@@ -1,5 +1,5 @@
 -- THE TABLE of result documents (Optimization Services result language, in this project's profile): where elements stand that are read, the kind of each mark, the tests of each kind in their order, and how a test refuses.
-use Rattle.std.specs.Prelude.{ℕ, Option, None, Some, cond, nat_lt, bytes_eq, List, [], ◌∷◌, codes}
+use Rattle.std.specs.Prelude.{ℕ, Option, None, Some, cond, bytes_eq, List, [], ◌∷◌, codes}
 use Rattle.tree_grammar.specs.Elements.{Attribute}
 use Rattle.doc_tree.specs.Marks.{Mark, Start, Char, Finish}
 use Rattle.document_tags.specs.Elements.{value_of}
@@ -7,7 +7,7 @@ use Rattle.osrl_grammar.specs.declared.elements.Place.{Place}
 use Rattle.osrl_grammar.specs.declared.elements.Place.TheVariants.{Outside, Osrl, General, GeneralStatus, JobId, Message, Job, JobStatus, Optimization, Solution, SolutionStatus, Results, Result, Item}
 use Rattle.tag_tests.specs.declared.places.Led.{Led}
 use Rattle.tag_tests.specs.declared.places.Led.TheVariants.{To, Over, OtherRoot}
-use Rattle.tag_tests.specs.Places.{Child, child, among}
+use Rattle.tag_tests.specs.Places.{Child, child, among, led_from, Kind, begins, text, ends, end_kind}
 use Rattle.osrl_grammar.specs.declared.parts.Part.{Part}
 use Rattle.osrl_grammar.specs.declared.parts.Part.TheVariants.{Point, Value, Ray, Tree, Cause}
 use Rattle.osrl_grammar.specs.declared.parts.Misread.{Misread}
@@ -76,19 +76,11 @@ around Results = Solution
 around (Result p) = Results
 around (Item p) = Result p
 
--- the kinds of marks: a start tag that leads there, characters in such an element, and in one that is passed over, the end tag of such an element, and of one that is passed over
-pub data Kind : Type 0 where
-  begins : Led Place → Kind
-  text : Place → Kind
-  unheard : Kind
-  ends : Place → Kind
-  back : Kind
-
--- in an element that is passed over all is passed over
-abbrev pub kind : State → Mark → Kind
-kind s (Start name attributes) = begins (cond (nat_lt 0 s.depth) Over (leads s.place name attributes))
-kind s (Char c) = cond (nat_lt 0 s.depth) unheard (text s.place)
-kind s (Finish name) = cond (nat_lt 0 s.depth) back (ends s.place)
+-- the kind of a mark
+abbrev pub kind : State → Mark → Kind Place
+kind s (Start name as') = begins (led_from s.depth (leads s.place name as')) as'
+kind s (Char c) = text c
+kind s (Finish name) = end_kind s.depth s.place
 
 pub data Test : Type 0 where
   other_root : Test
@@ -104,8 +96,8 @@ abbrev pub item_tests : Option (List Field) → List Test
 item_tests None = shapeless ∷ []
 item_tests (Some fs) = field_tests bad great fs
 
-abbrev pub tests : State → Kind → List Test
-tests s (begins OtherRoot) = other_root ∷ []
+abbrev pub tests : State → Kind Place → List Test
+tests s (begins OtherRoot as') = other_root ∷ []
 tests s (ends (Item p)) = item_tests (item_fields p s.text)
 tests s (ends Osrl) = twice ∷ miscounted Value ∷ miscounted Tree ∷ miscounted Cause ∷ incomplete ∷ []
 tests s k = []
@@ -117,11 +109,11 @@ item_refusal NoNumber n = refusals.Number n
 item_refusal TooGreat n = refusals.Wide n
 
 -- HOW A TEST REFUSES
-abbrev pub told : State → Mark → Test → OsrlFault
-told s m other_root = refusals.Root
-told s m shapeless = item_refusal NoShape s.count
-told s m (bad f) = item_refusal NoNumber s.count
-told s m (great f) = item_refusal TooGreat s.count
-told s m twice = refusals.Count
-told s m (miscounted p) = refusals.Count
-told s m incomplete = refusals.Missing
+abbrev pub told : State → Test → OsrlFault
+told s other_root = refusals.Root
+told s shapeless = item_refusal NoShape s.count
+told s (bad f) = item_refusal NoNumber s.count
+told s (great f) = item_refusal TooGreat s.count
+told s twice = refusals.Count
+told s (miscounted p) = refusals.Count
+told s incomplete = refusals.Missing
