@@ -1,5 +1,5 @@
 -- The document that a report is written as reports it.
-use Rattle.osrl_grammar.proofs.Names.{◌≡◌, ◌∙◌, ℕ, ◌+◌, Bool, true, false, ◌||◌, cond, Option, None, Some, List, [], ◌∷◌, ◌++◌, map, refl, ap, sym, subst, append-nil, append_assoc, codes, bytes_eq, nat_lt, is_some, length, AllZip, false≢true, Nodes, none, element, chars, Event, Close, Start, Finish, trimmed, unless_empty, leaf, group, typed, AreTaken, Takes, Frac, Node, Mult, Cert, Claim, Optimal, Infeasible, Unbounded, BestSoFar, Unsure, JobStatus, Report, Held, To, Led, Part, Claiming, part_name, claiming_text, status_text, IsFraction, IsRound, IsCause, IsOutOfOrder, BadItem, next_level, cert, inl, inr, ◌⊎◌, ◌≤◌, ◌<◌, ◌^◌, ap₂, arith, Result, Ok, All, HaveColumns, HasTrees, MayHaveTrees, TreesComeBack, State, nothing_held, start, has, items, status_of, claim_as, report_with, nonempty, report_of, MayHoldItems, with_part, AddsItem, osrl, marks, IsReport, IsReportText, row_values, values_part_unless_none, variable_values, values_part, indexed, point_values, goal_values, tree_values, dual_values, node_text, round_text, level_texts, cause_text, item_nodes, certificate_part, fraction_texts, point_parts, ray_part, rounds_part, tree_parts, trees_parts, cause_part, solution, claim_nodes, leaf_of, optimization, general_type, general_nodes, status_nodes, report_element, report_text, IsBareOrNone, CauseComesBack, ClaimComesBack, ComesBack}
+use Rattle.osrl_grammar.proofs.Names.{◌≡◌, ◌∙◌, ℕ, ◌+◌, Bool, true, false, ◌||◌, cond, Option, None, Some, List, [], ◌∷◌, ◌++◌, map, refl, ap, sym, subst, append-nil, append_assoc, codes, bytes_eq, nat_lt, is_some, length, AllZip, false≢true, Nodes, none, element, chars, Event, Close, Start, Finish, trimmed, unless_empty, leaf, group, typed, AreTaken, Takes, Frac, Node, Mult, Cert, Claim, Optimal, Infeasible, Unbounded, BestSoFar, Unsure, JobStatus, Report, Held, To, Led, Part, Claiming, part_name, claiming_text, status_text, IsFraction, IsRound, IsCause, IsOutOfOrder, BadItem, next_level, cert, inl, inr, ◌⊎◌, ◌≤◌, ◌<◌, ◌^◌, ap₂, arith, Result, Ok, All, HaveColumns, HasTrees, MayHaveTrees, TreesComeBack, State, nothing_held, start, has, items, status_of, claim_as, report_with, nonempty, report_of, MayHoldItems, with_part, AddsItem, osrl, marks, IsReport, IsReportText, row_values, values_part_unless_none, variable_values, values_part, indexed, point_values, goal_values, tree_values, dual_values, node_text, round_text, level_texts, cause_text, item_nodes, certificate_part, fraction_texts, point_parts, ray_part, rounds_part, tree_parts, trees_parts, cause_part, solution, claim_nodes, leaf_of, optimization, general_type, general_nodes, status_nodes, report_element, report_text, IsBareOrNone, CauseComesBack, ClaimComesBack, ComesBack, IsNode, keeps, tree_part, TreeComesBack, item_fields}
 use Rattle.document_tags.specs.Writing.{only}
 use Rattle.certificate.specs.declared.nodes.Node.TheVariants as nodes
 use Rattle.certificate.specs.declared.causes.Cause as why
@@ -17,7 +17,6 @@ use Rattle.osrl_grammar.proofs.WordValues.{each_status}
 use Rattle.osrl_grammar.proofs.SoundStates.{may_have, certs_in}
 use Rattle.osrl_grammar.proofs.TreeTexts.{item_added, IsSilent, never_noted, Adds, holding, before_last, last_nodes, trees_add, trees_are}
 use Rattle.osrl_grammar.proofs.FewLevels.{levels_few}
-use Rattle.osrl_grammar.proofs.CharMarks.{IsText}
 use Rattle.osrl_grammar.proofs.Steps.{start_in}
 use Rattle.osrl_grammar.proofs.Goings.{at, Goes, goes_none, goes_element, goes_leaf, goes_past}
 use Rattle.osrl_grammar.proofs.BackItems.{cause_back, fractions_back, rounds_back}
@@ -41,7 +40,7 @@ items_go p [] s type h k adds = subst (λ (x : Held). Goes none (solving s (plac
 items_go p (text ∷ more) s type h k (m, one, silent, rest) =
     let inside : State = solving s (places.Item p) type h in
     let behind : State = solving s (places.Result p) type m in
-    goes_leaf (codes "item") text (item_nodes more) (solving s (places.Result p) type h) inside behind (solving s (places.Result p) type k) (λ n t. (n + 1, (tt, refl))) refl tt
+    goes_leaf (codes "item") text (item_nodes more) (solving s (places.Result p) type h) inside behind (solving s (places.Result p) type k) (λ n t. (n + 1, (tt, refl))) refl
     (λ n. (tt, (Ok m, one, ap (λ (b : Bool). let y : State = record (at behind n text) { level = first_level b None n } in y) (sym silent)))) (items_go p more s type m k rest)
 
 -- a part that holds a list
@@ -224,19 +223,19 @@ optimization_goes s (Some c) back few =
 abbrev told : Bool → (job message status : Option (List ℕ)) → Place → State
 told error job message status p = record start { place = p; general = Some (general_type error); job = job; message = message; status = status }
 
-said_goes : (name : List ℕ) (p : Place) (put : Option (List ℕ) → State) → IsText p → nat_lt 0 (put None).depth ≡ false → ((n : ℕ) (t : List ℕ) → (i : ℕ) × Takes osrl (at (put None) n t) (Start name []) (at (record (put None) { place = p }) i [])) → ((n : ℕ) (text : List ℕ) → Takes osrl (at (record (put None) { place = p }) n text) (Finish name) (at (put (Some (trimmed text))) n text)) → (o : Option (List ℕ)) → IsBareOrNone o → (more : Nodes) (z : State) → Goes more (put o) z → Goes (leaf_of name o more) (put None) z
-said_goes name p put is flat begin end None bare more z behind = behind
-said_goes name p put is flat begin end (Some text) bare more z behind =
+said_goes : (name : List ℕ) (p : Place) (put : Option (List ℕ) → State) → keeps (put None).depth p ≡ true → ((n : ℕ) (t : List ℕ) → (i : ℕ) × Takes osrl (at (put None) n t) (Start name []) (at (record (put None) { place = p }) i [])) → ((n : ℕ) (text : List ℕ) → Takes osrl (at (record (put None) { place = p }) n text) (Finish name) (at (put (Some (trimmed text))) n text)) → (o : Option (List ℕ)) → IsBareOrNone o → (more : Nodes) (z : State) → Goes more (put o) z → Goes (leaf_of name o more) (put None) z
+said_goes name p put on begin end None bare more z behind = behind
+said_goes name p put on begin end (Some text) bare more z behind =
     let inside : State = record (put None) { place = p } in
-    goes_leaf name text more (put None) inside (put (Some text)) z begin flat is (λ n. subst (λ (w : List ℕ). Takes osrl (at inside n text) (Finish name) (at (put (Some w)) n text)) bare.bare (end n text)) behind
+    goes_leaf name text more (put None) inside (put (Some text)) z begin on (λ n. subst (λ (w : List ℕ). Takes osrl (at inside n text) (Finish name) (at (put (Some w)) n text)) bare.bare (end n text)) behind
 
 general_goes : (error : Bool) (job message : Option (List ℕ)) → IsBareOrNone job → IsBareOrNone message → Goes (typed (codes "generalStatus") (general_type error) (leaf_of (codes "jobID") job (leaf_of (codes "message") message none))) (record start { place = places.General }) (told error job message None places.General)
 general_goes error job message bare plain =
     let last : State = told error job message None places.General in
     let said : State = told error None None None places.GeneralStatus in
     goes_element (codes "generalStatus") (only (codes "type") (general_type error)) none (leaf_of (codes "jobID") job (leaf_of (codes "message") message none)) (record start { place = places.General }) said said (told error None None None places.General) last (λ n t. (n, [], (tt, refl))) (goes_none said) (λ n t. (tt, refl))
-    (said_goes (codes "jobID") places.JobId (λ j. told error j None None places.General) tt refl (λ n t. (n, (tt, refl))) (λ n text. (tt, refl)) job bare (leaf_of (codes "message") message none) last
-    (said_goes (codes "message") places.Message (λ m. told error job m None places.General) tt refl (λ n t. (n, (tt, refl))) (λ n text. (tt, refl)) message plain none last (goes_none last)))
+    (said_goes (codes "jobID") places.JobId (λ j. told error j None None places.General) refl (λ n t. (n, (tt, refl))) (λ n text. (tt, refl)) job bare (leaf_of (codes "message") message none) last
+    (said_goes (codes "message") places.Message (λ m. told error job m None places.General) refl (λ n t. (n, (tt, refl))) (λ n text. (tt, refl)) message plain none last (goes_none last)))
 
 -- before the end of the root
 abbrev reported : Report → State
@@ -248,7 +247,7 @@ children_go r back =
     let status : Option (List ℕ) = Some (status_text r.status) in
     goes_element (codes "general") [] (general_nodes r) (status_nodes r.status (optimization r.claim)) (record start { place = places.Osrl }) (record start { place = places.General }) (with_status None places.General) (with_status None places.Osrl) (reported r) (λ n t. (n, [], (tt, refl))) (general_goes r.error r.job r.message back.job back.message) (λ n t. (tt, refl))
     (goes_element (codes "job") [] (leaf (codes "status") (status_text r.status) none) (optimization r.claim) (with_status None places.Osrl) (with_status None places.Job) (with_status status places.Job) (with_status status places.Osrl) (reported r) (λ n t. (n, [], (tt, refl)))
-    (goes_leaf (codes "status") (status_text r.status) none (with_status None places.Job) (with_status None places.JobStatus) (with_status status places.Job) (with_status status places.Job) (λ n t. (n, (tt, refl))) refl tt (λ n. (tt, refl)) (goes_none (with_status status places.Job))) (λ n t. (tt, refl)) (optimization_goes (with_status status places.Osrl) r.claim back.claim (levels_few r back)))
+    (goes_leaf (codes "status") (status_text r.status) none (with_status None places.Job) (with_status None places.JobStatus) (with_status status places.Job) (with_status status places.Job) (λ n t. (n, (tt, refl))) refl (λ n. (tt, refl)) (goes_none (with_status status places.Job))) (λ n t. (tt, refl)) (optimization_goes (with_status status places.Osrl) r.claim back.claim (levels_few r back)))
 
 -- THE REPORT: no part is miscounted, and all are there
 abbrev Miscounted : Held → Part → Type 0

@@ -11,11 +11,7 @@ type_printable false = list_printable (codes "normal") refl
 
 status_printable : (s : JobStatus) → Each Printable (status_text s)
 status_printable statuses.Unknown = list_printable (codes "unknown") refl
-status_printable statuses.Issued = list_printable (codes "issued") refl
-status_printable statuses.Waiting = list_printable (codes "waiting") refl
-status_printable statuses.Running = list_printable (codes "running") refl
-status_printable statuses.Killed = list_printable (codes "killed") refl
-status_printable statuses.Finished = list_printable (codes "finished") refl
+status_printable s = list_printable (status_text s) refl
 
 said_flat : (name : List ℕ) (o : Option (List ℕ)) (more : Nodes) → ((text : List ℕ) → IsBareOrNone (Some text) → Flat 4 (leaf name text more)) → Flat 4 more → IsBareOrNone o → Flat 4 (leaf_of name o more)
 said_flat name None more one rest h = rest

@@ -72,12 +72,7 @@ node_printable (Bound ms) = each_append Printable (codes "bound") (flat_map mult
 
 step_printable : (s : Step) → Each Printable (step_text s)
 step_printable steps.Values = list_printable (codes "values") refl
-step_printable steps.Ratio = list_printable (codes "ratio") refl
-step_printable steps.Pivot = list_printable (codes "pivot") refl
-step_printable steps.Point = list_printable (codes "point") refl
-step_printable steps.Ray = list_printable (codes "ray") refl
-step_printable steps.Round = list_printable (codes "round") refl
-step_printable steps.Check = list_printable (codes "check") refl
+step_printable s = list_printable (step_text s) refl
 
 pub cause_printable : (c : Cause) → Each Printable (cause_text c)
 cause_printable causes.Killed = list_printable (codes "killed") refl

@@ -1,23 +1,12 @@
 -- What a decoder answers of the bytes that it was fed.
-use Rattle.osrl_grammar.proofs.Names.{◌≡◌, ℕ, inl, inr, List, Result, Ok, Err, refl, sym, subst, OsrlFault, Report, State, start, osrl, IsReportText, DecodeFails}
+use Rattle.osrl_grammar.proofs.Names.{◌≡◌, ℕ, inl, inr, List, Ok, Err, refl, sym, subst, OsrlFault, Report, State, start, osrl, IsReportText, DecodeFails}
 use Rattle.std.proofs.Common.{◌⊎◌}
 use Rattle.doc_tree.specs.declared.fault.TreeFault.{TreeFault}
 use Rattle.doc_tree.specs.declared.fault.TreeFault.TheVariants as tree
 use Rattle.document_tags.specs.Documents.{OfDocument, TreeFails}
-use Rattle.tag_tests.specs.declared.marks.Stop.{Stop}
-use Rattle.tag_tests.specs.declared.marks.Stop.TheVariants as stops
 use Rattle.tag_tests.specs.Forms.{AreTaken, AreRefused}
-use Rattle.tag_tests.specs.Readers.{StepsBy, Reads}
-use Rattle.doc_tree.specs.Marks.{Mark}
-use Rattle.osrl_grammar.specs.declared.fault.OsrlFault.TheVariants.{Tree, Memory}
-use Rattle.osrl_grammar.specs.Stepping.{Steps}
-use Rattle.osrl_grammar.specs.Hearing.{IsToldAs, tree_fault}
-
--- a mark, as whoever is told of marks takes it
-pub told_step : {X Y : Type 0} (s z : State) (m : Mark) (step : Result X OsrlFault) (result : Result Y (Stop OsrlFault)) → IsToldAs step result → Steps s m z step → StepsBy osrl s m z result
-told_step {X} {Y} s z m (Ok x) result told h = subst (λ (r : Result Y (Stop OsrlFault)). StepsBy osrl s m z r) (sym told.1) h
-told_step {X} {Y} s z m (Err Memory) result told h = subst (λ (r : Result Y (Stop OsrlFault)). StepsBy osrl s m z r) (sym told) tt
-told_step {X} {Y} s z m (Err f) result told h = subst (λ (r : Result Y (Stop OsrlFault)). StepsBy osrl s m z r) (sym told) h
+use Rattle.tag_tests.specs.Readers.{Reads}
+use Rattle.osrl_grammar.specs.Hearing.{tree_fault}
 
 -- a document that is a report, and one that is refused
 pub is_report : (bytes : List ℕ) (z : State) (r : Report) → r ≡ z.report → OfDocument (Reads {R = OsrlFault} (AreTaken osrl) (AreRefused osrl) start) bytes (Ok z) → IsReportText bytes r

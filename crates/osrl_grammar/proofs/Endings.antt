@@ -1,5 +1,5 @@
 -- What the code makes of an end tag is the state that it leaves, or its refusal.
-use Rattle.osrl_grammar.proofs.Names.{◌≡◌, ◌∙◌, ◌<◌, ◌⊎◌, inl, inr, ℕ, zero, suc, Bool, true, false, List, refl, ap, sym, subst, arith, Option, None, Some, Result, Ok, Err, OnOk, false≢true, is_some, on_ok_weaker, trimmed, Finish, AllPass, FirstFails, OsrlFault, Report, Held, Part, Point, Value, Ray, Misread, NoShape, NoNumber, TooGreat, BadItem, IsItemRead, AfterItem, noted, with_read, State, start, has, items, bad_item, report_of, ends, around, tests, told, item_refusal, refusal_of, Fails, MayHoldItems, first, Ends, EndsAt}
+use Rattle.osrl_grammar.proofs.Names.{◌≡◌, ◌∙◌, ◌<◌, ◌⊎◌, inl, inr, ℕ, zero, suc, Bool, true, false, List, refl, ap, sym, subst, arith, Option, None, Some, Result, Ok, Err, OnOk, false≢true, is_some, on_ok_weaker, trimmed, Finish, AllPass, FirstFails, OsrlFault, Report, Held, Part, Point, Value, Ray, Misread, NoShape, NoNumber, TooGreat, BadItem, IsItemRead, AfterItem, noted, with_read, State, start, has, items, bad_item, report_of, ends, around, tests, told, item_refusal, refusal_of, Fails, MayHoldItems, first, Ends, EndsAt, Refused, item_fields, ReadsSo, AddsItem}
 use Rattle.osrl_grammar.specs.declared.fault.OsrlFault.TheVariants as refusals
 use Rattle.osrl_grammar.specs.declared.elements.Place.{Place}
 use Rattle.osrl_grammar.specs.declared.elements.Place.TheVariants as places
@@ -19,41 +19,29 @@ pub after_read : (s : State) (p : Part) (r : Result Held Misread) → s.bad ≡ 
 after_read s p r none is = subst (λ (o : Option BadItem). AfterItem o s p (with_read (noted s p) r)) (sym none) (r, is, refl)
 
 pub item_ends : (s z : State) (p : Part) → AfterItem s.bad (out_of s (places.Item p)) p z → EndsAt {X = Unit {0}} s (places.Item p) z (Ok tt)
-item_ends s z p h = λ name. (tt, h)
+item_ends s z p h = (tt, h)
 
-module _ (s : State) (name : List ℕ) where
-  not_twice : s.twice ≡ false → Fails s (Finish name) twice → ⊥
+module _ (s : State) where
+  not_twice : s.twice ≡ false → Fails s twice → ⊥
   not_twice once fails = false≢true (sym once ∙ fails)
 
-  not_miscounted : (p : Part) → IsCounted s.held p → Fails s (Finish name) (miscounted p) → ⊥
+  not_miscounted : (p : Part) → IsCounted s.held p → Fails s (miscounted p) → ⊥
   not_miscounted p is fails = fails.1 (is fails.0)
 
-  not_unread : bad_item s ≡ None → Fails s (Finish name) unread → ⊥
+  not_unread : bad_item s ≡ None → Fails s unread → ⊥
   not_unread none fails = false≢true (subst IsSome none fails)
 
-  unread_first : (b : BadItem) → bad_item s ≡ Some b → FirstFails {R = OsrlFault} (Fails s (Finish name)) (told s (Finish name)) (tests (ends places.Osrl)) (refusal_of (Some b))
+  unread_first : (b : BadItem) → bad_item s ≡ Some b → FirstFails {R = OsrlFault} (Fails s) (told s) (tests (ends places.Osrl)) (refusal_of (Some b))
   unread_first b is = inl (subst IsSome (sym is) refl, ap refusal_of (sym is))
 
-  root_passes : bad_item s ≡ None → (r : Report) → AreCounted s → report_of s ≡ Some r → AllPass (Fails s (Finish name)) (tests (ends places.Osrl))
+  root_passes : bad_item s ≡ None → (r : Report) → AreCounted s → report_of s ≡ Some r → AllPass (Fails s) (tests (ends places.Osrl))
   root_passes read r h some = (not_unread read, (not_twice h.0, (not_miscounted Value h.1, (not_miscounted Tree h.2, (not_miscounted Cause h.3, ((λ none. let clash : Some r ≡ None = sym some ∙ none in cc), tt))))))
 
-unread_told : (s z : State) (name : List ℕ) (b : BadItem) → bad_item s ≡ Some b → (u : Misread) → b.misread ≡ u → FirstFails {R = OsrlFault} (Fails s (Finish name)) (told s (Finish name)) (tests (ends places.Osrl)) (item_refusal u b.number)
-unread_told s z name b is u at = subst (λ (v : Misread). FirstFails {R = OsrlFault} (Fails s (Finish name)) (told s (Finish name)) (tests (ends places.Osrl)) (item_refusal v b.number)) at (unread_first s name b is)
-
--- by what is wrong with it, since no such refusal is want of memory
-pub root_unread : (s z : State) (b : BadItem) → bad_item s ≡ Some b → EndsAt {X = Unit {0}} s places.Osrl z (Err (refusal_of (Some b)))
-root_unread s z b is = by_misread b.misread refl
-  where
-    abbrev Told : Misread → Type 0
-    Told v = EndsAt {X = Unit {0}} s places.Osrl z (Err (item_refusal v b.number))
-
-    by_misread : (u : Misread) → b.misread ≡ u → EndsAt {X = Unit {0}} s places.Osrl z (Err (item_refusal b.misread b.number))
-    by_misread NoShape at = subst Told (sym at) (λ name. unread_told s z name b is NoShape at)
-    by_misread NoNumber at = subst Told (sym at) (λ name. unread_told s z name b is NoNumber at)
-    by_misread TooGreat at = subst Told (sym at) (λ name. unread_told s z name b is TooGreat at)
+pub root_unread : (s z : State) (b : BadItem) → bad_item s ≡ Some b → EndsAt {X = Unit {0}} s places.Osrl z (Err (Refused (refusal_of (Some b))))
+root_unread s z b is = unread_first s b is
 
 pub root_ends : (s z : State) (r : Report) → bad_item s ≡ None → AreCounted s → report_of s ≡ Some r → z ≡ record start { report = r } → EndsAt {X = Unit {0}} s places.Osrl z (Ok tt)
-root_ends s z r read counted some is = λ name. (root_passes s name read r counted some, (r, some, is))
+root_ends s z r read counted some is = (root_passes s read r counted some, (r, some, is))
 
 other_out : (s : State) (p out : Place) → out ≡ around p → (p ≡ places.JobId → ⊥) → (p ≡ places.Message → ⊥) → (p ≡ places.JobStatus → ⊥) → ((q : Part) → p ≡ places.Item q → ⊥) → (p ≡ places.Osrl → ⊥) → Ends s p (record s { place = out })
 other_out s places.JobId out is job message status item root = absurd (job refl)

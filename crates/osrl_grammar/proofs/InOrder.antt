@@ -1,28 +1,28 @@
 -- The tests of each kind stand in the order of their refusals.
-use Rattle.osrl_grammar.proofs.Names.{ℕ, ◌≤◌, Option, None, Some, [], ◌∷◌, refl, arith, Mark, OtherRoot, number, State, begins, ends, kind, tests, told, refusal_of, item_refusal, bad_item, BadItem, Misread, NoShape, NoNumber, TooGreat, Value, osrl}
-use Rattle.tag_tests.specs.Tests.{InOrder}
+use Rattle.osrl_grammar.proofs.Names.{ℕ, ◌≤◌, Option, None, Some, [], ◌∷◌, refl, arith, Mark, OtherRoot, number, State, begins, ends, kind, tests, told, refusal_of, item_refusal, bad_item, BadItem, Misread, NoShape, NoNumber, TooGreat, Value, osrl, List, ◌++◌, map, Kind, bad, great, item_tests, Field, item_fields}
+use Rattle.tag_tests.specs.Tests.{InOrder, FromHere}
 use Rattle.tag_tests.specs.Firsts.{IsOrdered}
 use Rattle.tag_tests.proofs.Tests.{order_tested}
 use Rattle.osrl_grammar.specs.declared.elements.Place.TheVariants.{Osrl}
-use Rattle.osrl_grammar.specs.Table.{Kind, Test, twice, miscounted, incomplete}
+use Rattle.osrl_grammar.specs.Table.{Test, twice, miscounted, incomplete}
 use Rattle.osrl_grammar.specs.declared.parts.Part.TheVariants.{Tree, Cause}
-
 -- an item's refusal comes before those of the whole document
 unread_low : (o : Option BadItem) → number (refusal_of o) ≤ 5
 unread_low None = omega arith
 unread_low (Some b) = elim b.misread as (λ (u : Misread). number (item_refusal u b.number) ≤ 5) [ NoShape ↦ omega arith | NoNumber ↦ omega arith | TooGreat ↦ omega arith ]
+use Rattle.osrl_grammar.specs.declared.elements.Place.{Place}
 
-module _ (s : State) (m : Mark) where
+module _ (s : State) where
   abbrev at : Test → ℕ
-  at t = number (told s m t)
+  at t = number (told s t)
 
   root_in_order : InOrder at (tests (ends Osrl))
   root_in_order = let low = unread_low (bad_item s) in ((low, (low, (low, (low, (omega (arith, low), tt))))), order_tested at (twice ∷ miscounted Value ∷ miscounted Tree ∷ miscounted Cause ∷ incomplete ∷ []) refl)
 
-  kind_in_order : (k : Kind) → InOrder at (tests k)
-  kind_in_order (begins OtherRoot) = order_tested at (tests (begins OtherRoot)) refl
+  kind_in_order : (k : Kind Place) → InOrder at (tests k)
+  kind_in_order (begins OtherRoot as') = order_tested at (tests (begins OtherRoot as')) refl
   kind_in_order (ends Osrl) = root_in_order
   kind_in_order k = tt
 
 pub in_order : IsOrdered osrl number
-in_order s m = kind_in_order s m (kind s m)
+in_order s m = kind_in_order s (kind s m)

@@ -1,12 +1,11 @@
 -- A mark that is taken leaves one state.
-use Rattle.osrl_grammar.proofs.Names.{◌≡◌, ◌∙◌, inl, inr, ℕ, Option, None, Some, Result, Ok, Err, List, [], ◌∷◌, ◌++◌, refl, ap, sym, AllPass, Mark, Start, Char, Finish, Frac, Mult, TreeItem, BadItem, Misread, NoShape, NoNumber, TooGreat, Field, IsBad, IsTooGreat, ReadsSo, item_fields, IsItemRead, AfterItem, noted, with_read, with_tree_item, Report, Held, To, Over, OtherRoot, Part, State, start, begins, text, unheard, ends, back, kind, AddsItem, Ends, Leaves, osrl}
+use Rattle.osrl_grammar.proofs.Names.{◌≡◌, ◌∙◌, inl, inr, ℕ, Option, None, Some, Result, Ok, Err, List, [], ◌∷◌, ◌++◌, refl, ap, sym, AllPass, Mark, Start, Char, Finish, Frac, Mult, TreeItem, BadItem, Misread, NoShape, NoNumber, TooGreat, Field, IsBad, IsTooGreat, ReadsSo, item_fields, IsItemRead, AfterItem, noted, with_read, with_tree_item, Report, Held, To, Over, OtherRoot, Part, State, start, begins, ends, kind, AddsItem, Ends, Leaves, osrl, Node, Kind}
 use Rattle.tag_tests.specs.Fields.{OneFirst}
 use Rattle.tag_tests.specs.Forms.{LeavesOne}
 use Rattle.certificate.specs.declared.causes.Cause as why
 use Rattle.osrl_grammar.specs.declared.elements.Place.{Place}
 use Rattle.osrl_grammar.specs.declared.elements.Place.TheVariants as places
 use Rattle.osrl_grammar.specs.declared.parts.Part.TheVariants as parts
-use Rattle.osrl_grammar.specs.Table.{Kind}
 use Rattle.osrl_grammar.specs.Leaving.{out_of}
 use Rattle.osrl_grammar.proofs.OneValue.{fraction_once, round_said_once, tree_said_once, cause_said_once}
 
@@ -56,16 +55,12 @@ ended_once s (places.Item p) a b k l = item_left_once s.bad (out_of s (places.It
 ended_once s places.Osrl a b k l = let same : Some k.0 ≡ Some l.0 = sym k.1 ∙ l.1 in k.2 ∙ ap (λ (r : Report). let z : State = record start { report = r } in z) (cc) ∙ sym l.2
 ended_once s p a b k l = k ∙ sym l
 
-left_once : (s : State) (m : Mark) (k : Kind) (a b : State) → Leaves s m k a → Leaves s m k b → a ≡ b
-left_once s m (begins (To p)) a b h g = h ∙ sym g
-left_once s m (begins Over) a b h g = h ∙ sym g
-left_once s m (begins OtherRoot) a b h g = absurd h
-left_once s (Char c) (text p) a b h g = h ∙ sym g
-left_once s (Start name as') (text p) a b h g = absurd h
-left_once s (Finish name) (text p) a b h g = absurd h
-left_once s m unheard a b h g = h ∙ sym g
-left_once s m (ends p) a b h g = ended_once s p a b h g
-left_once s m back a b h g = h ∙ sym g
+left_once : (s : State) (k : Kind Place) (a b : State) → Leaves s k a → Leaves s k b → a ≡ b
+left_once s (begins (To p) as') a b h g = h ∙ sym g
+left_once s (begins Over as') a b h g = h ∙ sym g
+left_once s (begins OtherRoot as') a b h g = absurd h
+left_once s (ends p) a b h g = ended_once s p a b h g
+left_once s k a b h g = h ∙ sym g
 
 pub leaves_one : LeavesOne osrl
-leaves_one s m a b h g = left_once s m (kind s m) a b h.1 g.1
+leaves_one s m a b h g = left_once s (kind s m) a b h.1 g.1

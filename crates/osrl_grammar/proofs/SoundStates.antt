@@ -1,5 +1,5 @@
 -- What the marks of a document leave comes back from what is written of it: its texts are of characters of XML, its nodes and causes hold numbers of their types, and there are at most as many nodes as elements.
-use Rattle.osrl_grammar.proofs.Names.{◌≡◌, ◌∙◌, ℕ, zero, suc, ◌+◌, ◌-◌, ◌^◌, ◌<◌, ◌≤◌, ◌⊎◌, inl, inr, Bool, true, false, cond, Option, None, Some, List, [], ◌∷◌, ◌++◌, map, length, refl, ap, sym, subst, arith, nat_lt, option_map, flat_map, append-nil, false≢true, true≢false, ◌&&◌, worded, claiming_text, Result, Ok, Err, Misread, NoShape, Field, bytes_eq, codes, All, AllZip, All-nil, All-cons, All-head, All-tail, All-append, IsXmlText, Attribute, Event, Close, Element, Nodes, none, element, chars, nodes_events, Mark, Start, Char, Finish, spread, elements_in, trimmed, AllPass, AreTaken, Takes, taken_once, Frac, nodes_of, Mult, Cert, Node, Split, Zero, Clash, Farkas, Bound, Claim, Infeasible, Unsure, JobStatus, Report, Held, Led, Part, Claiming, pieces, Pair, parted, node_word, cause_word, IsMultOf, IsMult, IsOne, SaysNode, TreeItem, tree_head, SaysTree, cause_head, SaysCause, Begins, IsTreeItem, IsRoundOf, IsRound, IsCause, item_fields, ReadsSo, IsItemRead, AfterItem, BadItem, noted, with_read, with_tree_item, bad_item, cert, certs, State, start, nothing_held, claim_as, report_with, report_of, nonempty, status_of, begins, ends, back, around, tests, leads, Fails, with_part, begun, first, AddsItem, Ends, Leaves, osrl, IsReport, TextsAreOfCharacters, HaveColumns, NodeComesBack, CauseComesBack, LevelComesBack, TreesComeBack, HasTrees, MayHaveTrees, ClaimComesBack, IsBareOrNone}
+use Rattle.osrl_grammar.proofs.Names.{◌≡◌, ◌∙◌, ℕ, zero, suc, ◌+◌, ◌-◌, ◌^◌, ◌<◌, ◌≤◌, ◌⊎◌, inl, inr, Bool, true, false, cond, Option, None, Some, List, [], ◌∷◌, ◌++◌, map, length, refl, ap, sym, subst, arith, nat_lt, option_map, flat_map, append-nil, false≢true, true≢false, ◌&&◌, worded, claiming_text, Result, Ok, Err, Misread, NoShape, Field, bytes_eq, codes, All, AllZip, All-nil, All-cons, All-head, All-tail, All-append, IsXmlText, Attribute, Event, Close, Element, Nodes, none, element, chars, nodes_events, Mark, Start, Char, Finish, spread, elements_in, trimmed, AllPass, AreTaken, Takes, taken_once, Frac, nodes_of, Mult, Cert, Node, Split, Zero, Clash, Farkas, Bound, Claim, Infeasible, Unsure, JobStatus, Report, Held, Led, Part, Claiming, pieces, Pair, parted, node_word, cause_word, IsMultOf, IsMult, IsOne, SaysNode, TreeItem, tree_head, SaysTree, cause_head, SaysCause, Begins, IsTreeItem, IsRoundOf, IsRound, IsCause, item_fields, ReadsSo, IsItemRead, AfterItem, BadItem, noted, with_read, with_tree_item, bad_item, cert, certs, State, start, nothing_held, claim_as, report_with, report_of, nonempty, status_of, begins, ends, around, tests, leads, Fails, with_part, begun, first, AddsItem, Ends, Leaves, osrl, IsReport, TextsAreOfCharacters, HaveColumns, NodeComesBack, CauseComesBack, LevelComesBack, TreesComeBack, HasTrees, MayHaveTrees, ClaimComesBack, IsBareOrNone, node_head, IsNode, end_kind, led_from, keeps}
 use Rattle.std.specs.Prelude.{option_and_then, IsSome}
 use Rattle.std.proofs.lemmas.List.{length-append}
 use Rattle.std.proofs.lemmas.List.Elements.{All-weaker}
@@ -19,12 +19,12 @@ use Rattle.osrl_grammar.specs.declared.parts.TreeItem.TheVariants as trees
 use Rattle.osrl_grammar.specs.Items.{begins_level, is_level}
 use Rattle.osrl_grammar.specs.Adding.{first_level}
 use Rattle.osrl_grammar.specs.Saying.{when, only, with_rounds, optimal, unbounded, best_so_far, says_infeasible, level_or, type_of, claiming_of}
-use Rattle.osrl_grammar.specs.Leaving.{attributes}
 use Rattle.osrl_grammar.specs.Words.{all_claimings}
 use Rattle.osrl_grammar.proofs.WordValues.{worded_is}
 use Rattle.osrl_grammar.proofs.BareTexts.{bare_of}
-use Rattle.osrl_grammar.proofs.CharMarks.{IsText, over_taken, text_taken, none_taken}
-use Rattle.osrl_grammar.proofs.OneState.{leaves_one}
+use Rattle.tag_tests.specs.Characters.{kept}
+use Rattle.tag_tests.proofs.Forms.{taken_parts}
+use Rattle.tag_tests.proofs.Characters.{chars_leave}
 
 -- THE NODES, ROUNDS AND CAUSES that are held come back, and of the nodes of all levels, and of the rounds, there are at most so many
 abbrev level_nodes : List Cert → List Node
@@ -307,42 +307,23 @@ part_levels parts.Point h = refl
 part_levels p h = refl
 
 -- START TAGS AND CHARACTERS
-begun_sound : (n : ℕ) (s : State) (m : Mark) (p : Place) → Sound n s → Sound n (begun s m p)
-begun_sound n s m (places.Result p) f = (no_text, f.1, f.2, part_fits p n s.held f.3, f.4, (λ may none. part_levels p s.held ∙ f.5 may none))
-begun_sound n s m places.SolutionStatus f = (no_text, f.1, f.2, f.3, f.4, (λ may none. f.5 (may_before s.claiming (type_of (attributes m)) may) none))
-begun_sound n s m p f = (no_text, f.1, f.2, f.3, f.4, f.5)
+begun_sound : (n : ℕ) (s : State) (as' : List Attribute) (p : Place) → Sound n s → Sound n (begun s as' p)
+begun_sound n s as' (places.Result p) f = (no_text, f.1, f.2, part_fits p n s.held f.3, f.4, (λ may none. part_levels p s.held ∙ f.5 may none))
+begun_sound n s as' places.SolutionStatus f = (no_text, f.1, f.2, f.3, f.4, (λ may none. f.5 (may_before s.claiming (type_of as') may) none))
+begun_sound n s as' p f = (no_text, f.1, f.2, f.3, f.4, f.5)
 
-led_sound : (n : ℕ) (s z : State) (m : Mark) (l : Led Place) → Leaves s m (begins l) z → Sound n s → Sound n z
-led_sound n s z m (led.To p) h f = subst (Sound n) (sym h) (begun_sound n s m p f)
-led_sound n s z m led.Over h f = subst (Sound n) (sym h) f
-led_sound n s z m led.OtherRoot h f = absurd h
+led_sound : (n : ℕ) (s z : State) (as' : List Attribute) (l : Led Place) → Leaves s (begins l as') z → Sound n s → Sound n z
+led_sound n s z as' (led.To p) h f = subst (Sound n) (sym h) (begun_sound n s as' p f)
+led_sound n s z as' led.Over h f = subst (Sound n) (sym h) f
+led_sound n s z as' led.OtherRoot h f = absurd h
 
--- marks that are taken together are taken one part after the other
-taken_parts : (s z : State) (ts us : List Mark) → AreTaken osrl s (ts ++ us) z → (m : State) × AreTaken osrl s ts m × AreTaken osrl m us z
-taken_parts s z [] us h = (s, refl, h)
-taken_parts s z (t ∷ ts) us h = let r = taken_parts h.0 z ts us h.2 in (r.0, (h.0, h.1, r.1), r.2)
+kept_xml : (b : Bool) (t cs : List ℕ) → IsXmlText t → IsXmlText cs → IsXmlText (kept b t cs)
+kept_xml true t cs before more = text_append t cs before more
+kept_xml false t cs before more = before
 
-text_or_none : (p : Place) → IsText p ⊎ (IsText p → ⊥)
-text_or_none places.JobId = inl tt
-text_or_none places.Message = inl tt
-text_or_none places.JobStatus = inl tt
-text_or_none (places.Item p) = inl tt
-text_or_none p = inr (λ h. h)
-
-module _ (n : ℕ) (s z : State) (cs : List ℕ) (taken : AreTaken osrl s (map Char cs) z) (xml : IsXmlText cs) (f : Sound n s) where
-  left : (k : State) → AreTaken osrl s (map Char cs) k → Sound n k → Sound n z
-  left k other g = subst (Sound n) (taken_once osrl leaves_one s (map Char cs) k z other taken) g
-
-  read_sound : nat_lt 0 s.depth ≡ false → IsText s.place ⊎ (IsText s.place → ⊥) → Sound n z
-  read_sound flat (inl is) = left (record s { text = s.text ++ cs }) (text_taken s cs flat is) (text_append s.text cs f.0 xml, f.1, f.2, f.3, f.4, f.5)
-  read_sound flat (inr not) = left s (none_taken s cs flat not) f
-
-  by_depth : (b : Bool) → nat_lt 0 s.depth ≡ b → Sound n z
-  by_depth true over = left s (over_taken s cs over) f
-  by_depth false flat = read_sound flat (text_or_none s.place)
-
-  chars_sound : Sound n z
-  chars_sound = by_depth (nat_lt 0 s.depth) refl
+chars_sound : (n : ℕ) (s z : State) (cs : List ℕ) → AreTaken osrl s (map Char cs) z → IsXmlText cs → Sound n s → Sound n z
+chars_sound n s z cs taken xml f =
+    subst (Sound n) (sym (chars_leave osrl (λ (t : List ℕ). record s { text = t }) (keeps s.depth s.place) (λ t c m takes. takes.1) s.text cs z taken)) (kept_xml (keeps s.depth s.place) s.text cs f.0 xml, f.1, f.2, f.3, f.4, f.5)
 
 -- what was added of an item that was read
 reads_adds : (o : Option (List Field)) (k : Held) (P : Held → Type 0) → ReadsSo o (Ok k) P → P k
@@ -402,39 +383,39 @@ module _ (ground : TextsAreOfCharacters) where
           let adds = reads_adds (item_fields p s.text) k (λ (g : Held). AddsItem p s.text s.held g) reads.1 in
           ((f.0, f.1, f.2, added_fits p s.text n s.held k adds f.3, report_more n (suc n) s.report (omega arith) f.4, added_noted p s.text (says_infeasible true s.claiming) s.level s.count s.held k adds f.5), f.4)
 
-  end_sound : (n : ℕ) (s z : State) (name : List ℕ) (p : Place) → AllPass (Fails s (Finish name)) (tests (ends p)) → Ends s p z → Sound n s → Ended n z
-  end_sound n s z name (places.Item p) pass h f = item_sound n (record s { place = around (places.Item p) }) z p s.bad h f
-  end_sound n s z name places.Osrl pass h f =
+  end_sound : (n : ℕ) (s z : State) (p : Place) → AllPass (Fails s) (tests (ends p)) → Ends s p z → Sound n s → Ended n z
+  end_sound n s z (places.Item p) pass h f = item_sound n (record s { place = around (places.Item p) }) z p s.bad h f
+  end_sound n s z places.Osrl pass h f =
       let r = report_fits n s h.0 f pass.0 (λ is. some_of (length s.held.levels + length s.held.tree) (λ none. pass.1.1.1.0 (is, none))) (λ is. some_of (length s.held.values) (λ none. pass.1.1.0 (is, none))) h.1 in
       subst (Ended n) (sym h.2) ((no_text, tt, tt, none_held (suc n), report_more n (suc n) h.0 (omega arith) r, (λ may none. refl)), r)
-  end_sound n s z name places.JobId pass h f = on n (record s { place = around places.JobId; job = first s.job (trimmed s.text) }) z (f.0, kept_bare s.job s.text f.1 f.0, f.2, f.3, f.4, f.5) h
-  end_sound n s z name places.Message pass h f = on n (record s { place = around places.Message; message = first s.message (trimmed s.text) }) z (f.0, f.1, kept_bare s.message s.text f.2 f.0, f.3, f.4, f.5) h
-  end_sound n s z name places.JobStatus pass h f = on n (record s { place = around places.JobStatus; status = first s.status s.text }) z f h
-  end_sound n s z name p pass h f = on n (record s { place = around p }) z f h
+  end_sound n s z places.JobId pass h f = on n (record s { place = around places.JobId; job = first s.job (trimmed s.text) }) z (f.0, kept_bare s.job s.text f.1 f.0, f.2, f.3, f.4, f.5) h
+  end_sound n s z places.Message pass h f = on n (record s { place = around places.Message; message = first s.message (trimmed s.text) }) z (f.0, f.1, kept_bare s.message s.text f.2 f.0, f.3, f.4, f.5) h
+  end_sound n s z places.JobStatus pass h f = on n (record s { place = around places.JobStatus; status = first s.status s.text }) z f h
+  end_sound n s z p pass h f = on n (record s { place = around p }) z f h
 
-  close_sound : (n : ℕ) (s z : State) (name : List ℕ) (b : Bool) → AllPass (Fails s (Finish name)) (tests (cond b back (ends s.place))) → Leaves s (Finish name) (cond b back (ends s.place)) z → Sound n s → Ended n z
-  close_sound n s z name true pass h f = on n (record s { depth = s.depth - 1 }) z f h
-  close_sound n s z name false pass h f = end_sound n s z name s.place pass h f
+  close_sound : (n : ℕ) (s z : State) (d : ℕ) → AllPass (Fails s) (tests (end_kind d s.place)) → Leaves s (end_kind d s.place) z → Sound n s → Ended n z
+  close_sound n s z zero pass h f = end_sound n s z s.place pass h f
+  close_sound n s z (suc d) pass h f = on n (record s { depth = s.depth - 1 }) z f h
 
   -- ALL NODES
   nodes_sound : (ns : Nodes) → NodesOfCharacters ns → (k : List Event) (y : State) (n : ℕ) (s : State) → Sound n s → AreTaken osrl s (spread (nodes_events ns k)) y → (m : State) × Sound (elements_in ns + n) m × AreTaken osrl m (spread k) y
   nodes_sound none is k y n s f h = let same : n ≡ 0 + n = omega arith in (s, subst (λ (i : ℕ). Sound i s) same f, h)
   nodes_sound (element name as' children more) is k y n s f h =
-      let inside = nodes_sound children is.2 (Close name ∷ nodes_events more k) y n h.0 (led_sound n s h.0 (Start name as') (cond (nat_lt 0 s.depth) led.Over (leads s.place name as')) h.1.1 f) h.2 in
+      let inside = nodes_sound children is.2 (Close name ∷ nodes_events more k) y n h.0 (led_sound n s h.0 as' (led_from s.depth (leads s.place name as')) h.1.1 f) h.2 in
       let i = elements_in children + n in
-      let ended = close_sound i inside.0 inside.2.0 name (nat_lt 0 inside.0.depth) inside.2.1.0 inside.2.1.1 inside.1 in
+      let ended = close_sound i inside.0 inside.2.0 inside.0.depth inside.2.1.0 inside.2.1.1 inside.1 in
       let behind = nodes_sound more is.3 k y (suc i) inside.2.0 ended.0 inside.2.2 in
       let same : elements_in more + suc i ≡ suc (elements_in children + elements_in more) + n = omega arith in
       (behind.0, subst (λ (j : ℕ). Sound j behind.0) same behind.1, behind.2)
   nodes_sound (chars cs more) is k y n s f h =
-      let parts = taken_parts s y (map Char cs) (spread (nodes_events more k)) h in
+      let parts = taken_parts osrl s y (map Char cs) (spread (nodes_events more k)) h in
       nodes_sound more is.1 k y n parts.0 (chars_sound n s parts.0 cs parts.1 is.0 f) parts.2
 
   -- what a root reports has at most as many nodes as elements stand in the root
   pub root_fits : (root : Element) (r : Report) → IsOfCharacters root → IsReport root r → ReportFits (elements_in root.children) r
   root_fits root r is (z, taken, reports) =
-      let inside = nodes_sound root.children is.children (Close root.name ∷ []) z 0 taken.0 (led_sound 0 start taken.0 (Start root.name root.attributes) (leads places.Outside root.name root.attributes) taken.1.1 start_sound) taken.2 in
+      let inside = nodes_sound root.children is.children (Close root.name ∷ []) z 0 taken.0 (led_sound 0 start taken.0 root.attributes (leads places.Outside root.name root.attributes) taken.1.1 start_sound) taken.2 in
       let i = elements_in root.children + 0 in
-      let ended = close_sound i inside.0 inside.2.0 root.name (nat_lt 0 inside.0.depth) inside.2.1.0 inside.2.1.1 inside.1 in
+      let ended = close_sound i inside.0 inside.2.0 inside.0.depth inside.2.1.0 inside.2.1.1 inside.1 in
       let same : i ≡ elements_in root.children = omega arith in
       subst (λ (n : ℕ). ReportFits n r) same (subst (ReportFits i) (sym (reports ∙ ap (λ (y : State). y.report) inside.2.2)) ended.1)

@@ -32,36 +32,19 @@ is_worded text xs w (Some x) each h = subst (λ (v : List ℕ). Some x ≡ worde
 
 pub each_status : (s : JobStatus) → worded status_text all_statuses (status_text s) ≡ Some s
 each_status statuses.Unknown = refl
-each_status statuses.Issued = refl
-each_status statuses.Waiting = refl
-each_status statuses.Running = refl
-each_status statuses.Killed = refl
-each_status statuses.Finished = refl
+each_status w = refl
 
 pub each_step : (s : Step) → worded step_text all_steps (step_text s) ≡ Some s
 each_step steps.Values = refl
-each_step steps.Ratio = refl
-each_step steps.Pivot = refl
-each_step steps.Point = refl
-each_step steps.Ray = refl
-each_step steps.Round = refl
-each_step steps.Check = refl
+each_step w = refl
 
 pub each_node_word : (w : NodeWord) → worded node_word all_node_words (node_word w) ≡ Some w
 each_node_word nodes.Split = refl
-each_node_word nodes.Zero = refl
-each_node_word nodes.Clash = refl
-each_node_word nodes.Farkas = refl
-each_node_word nodes.Bound = refl
-each_node_word nodes.Level = refl
+each_node_word w = refl
 
 pub each_cause_word : (w : CauseWord) → worded cause_word all_cause_words (cause_word w) ≡ Some w
 each_cause_word causes.Killed = refl
-each_cause_word causes.NodeLimit = refl
-each_cause_word causes.TurnLimit = refl
-each_cause_word causes.Wide = refl
-each_cause_word causes.Length = refl
-each_cause_word causes.Memory = refl
+each_cause_word w = refl
 
 -- what is found has the word
 found_in : {X : Type 0} (text : X → List ℕ) (x : X) (w : List ℕ) (b : Bool) (rest : Option X) (y : X) → bytes_eq w (text x) ≡ b → (rest ≡ Some y → w ≡ text y) → cond b (Some x) rest ≡ Some y → w ≡ text y

@@ -1,6 +1,5 @@
 -- When the tests of result documents fail.
 use Rattle.std.specs.Prelude.{◌≡◌, ℕ, ◌<◌, true, None, IsSome}
-use Rattle.doc_tree.specs.Marks.{Mark}
 use Rattle.osrl_grammar.specs.declared.parts.Part.{Part}
 use Rattle.osrl_grammar.specs.declared.parts.Part.TheVariants.{Point, Value, Ray, Rounds, Tree, Cause}
 use Rattle.osrl_grammar.specs.Standing.{State}
@@ -17,9 +16,9 @@ MayHoldItems Tree n = 0 < n
 MayHoldItems Cause n = n ≡ 1
 
 -- WHEN EACH TEST FAILS
-abbrev pub Fails : State → Mark → Test → Type 0
-Fails s m other_root = Unit {0}
-Fails s m unread = IsSome (bad_item s)
-Fails s m twice = s.twice ≡ true
-Fails s m (miscounted p) = (has s.held p ≡ true) × (MayHoldItems p (items s.held p) → ⊥)
-Fails s m incomplete = report_of s ≡ None
+abbrev pub Fails : State → Test → Type 0
+Fails s other_root = Unit {0}
+Fails s unread = IsSome (bad_item s)
+Fails s twice = s.twice ≡ true
+Fails s (miscounted p) = (has s.held p ≡ true) × (MayHoldItems p (items s.held p) → ⊥)
+Fails s incomplete = report_of s ≡ None

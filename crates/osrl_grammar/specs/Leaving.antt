@@ -1,11 +1,12 @@
 -- What a mark of a result document leaves where all its tests pass.
-use Rattle.std.specs.Prelude.{◌≡◌, ℕ, ◌+◌, ◌-◌, true, ◌||◌, Option, None, Some, List, [], ◌∷◌, ◌++◌}
+use Rattle.std.specs.Prelude.{◌≡◌, ℕ, zero, suc, ◌+◌, ◌-◌, Bool, true, false, ◌||◌, Option, None, Some, List, [], ◌∷◌, ◌++◌}
 use Rattle.tree_grammar.specs.Elements.{Attribute}
-use Rattle.doc_tree.specs.Marks.{Mark, Start, Char}
 use Rattle.decimal_text.specs.Space.{trimmed}
 use Rattle.osrl_grammar.specs.declared.elements.Place.{Place}
 use Rattle.osrl_grammar.specs.declared.elements.Place.TheVariants.{Osrl, GeneralStatus, JobId, Message, JobStatus, Solution, SolutionStatus, Result, Item}
 use Rattle.tag_tests.specs.declared.places.Led.TheVariants.{To, Over, OtherRoot}
+use Rattle.tag_tests.specs.Places.{Kind, begins, text, ends, ends_over}
+use Rattle.tag_tests.specs.Characters.{heard}
 use Rattle.osrl_grammar.specs.declared.report.Report.{Report}
 use Rattle.osrl_grammar.specs.declared.held.Held.{Held}
 use Rattle.osrl_grammar.specs.declared.parts.Part.{Part}
@@ -13,12 +14,7 @@ use Rattle.osrl_grammar.specs.declared.parts.Part.TheVariants.{Point, Value, Ray
 use Rattle.osrl_grammar.specs.Standing.{State, start}
 use Rattle.osrl_grammar.specs.Saying.{type_of, has, report_of}
 use Rattle.osrl_grammar.specs.Adding.{AfterItem}
-use Rattle.osrl_grammar.specs.Table.{Kind, begins, text, unheard, ends, back, around}
-
--- those of a start tag
-abbrev pub attributes : Mark → List Attribute
-attributes (Start name as') = as'
-attributes m = []
+use Rattle.osrl_grammar.specs.Table.{around}
 
 -- the first text stays
 abbrev pub first : Option (List ℕ) → List ℕ → Option (List ℕ)
@@ -43,21 +39,25 @@ with_part Tree h = record h { has_tree = true }
 with_part Cause h = record h { has_cause = true }
 
 -- WHAT A START TAG LEAVES that leads there
-abbrev pub begun : State → Mark → Place → State
-begun s m GeneralStatus = record (into s GeneralStatus) { general = first s.general (type_of (attributes m)) }
-begun s m SolutionStatus = record (into s SolutionStatus) { claiming = first s.claiming (type_of (attributes m)) }
-begun s m Solution = record (into s Solution) { twice = s.has_solution || s.twice; has_solution = true }
-begun s m (Result p) = record (into s (Result p)) { twice = has s.held p || s.twice; held = with_part p s.held }
-begun s m (Item p) = record (into s (Item p)) { count = s.count + 1 }
-begun s m p = into s p
+abbrev pub begun : State → List Attribute → Place → State
+begun s as' GeneralStatus = record (into s GeneralStatus) { general = first s.general (type_of as') }
+begun s as' SolutionStatus = record (into s SolutionStatus) { claiming = first s.claiming (type_of as') }
+begun s as' Solution = record (into s Solution) { twice = s.has_solution || s.twice; has_solution = true }
+begun s as' (Result p) = record (into s (Result p)) { twice = has s.held p || s.twice; held = with_part p s.held }
+begun s as' (Item p) = record (into s (Item p)) { count = s.count + 1 }
+begun s as' p = into s p
 
--- the characters in a text that is read are kept
-abbrev pub heard : Place → List ℕ → ℕ → List ℕ
-heard JobId before c = before ++ c ∷ []
-heard Message before c = before ++ c ∷ []
-heard JobStatus before c = before ++ c ∷ []
-heard (Item p) before c = before ++ c ∷ []
-heard p before c = before
+-- the characters that stand in these elements themselves are kept
+abbrev pub is_text : Place → Bool
+is_text JobId = true
+is_text Message = true
+is_text JobStatus = true
+is_text (Item p) = true
+is_text p = false
+
+abbrev pub keeps : ℕ → Place → Bool
+keeps zero p = is_text p
+keeps (suc d) p = false
 
 -- WHAT THE END TAG OF SUCH AN ELEMENT LEAVES; behind the root its report alone
 abbrev pub Ends : State → Place → State → Type 0
@@ -69,12 +69,10 @@ Ends s JobStatus z = z ≡ record (out_of s JobStatus) { status = first s.status
 Ends s p z = z ≡ out_of s p
 
 -- WHAT A MARK OF A KIND LEAVES
-abbrev pub Leaves : State → Mark → Kind → State → Type 0
-Leaves s m (begins (To p)) z = z ≡ begun s m p
-Leaves s m (begins Over) z = z ≡ record s { depth = s.depth + 1 }
-Leaves s m (begins OtherRoot) z = ⊥
-Leaves s (Char c) (text p) z = z ≡ record s { text = heard p s.text c }
-Leaves s m (text p) z = ⊥
-Leaves s m unheard z = z ≡ s
-Leaves s m (ends p) z = Ends s p z
-Leaves s m back z = z ≡ record s { depth = s.depth - 1 }
+abbrev pub Leaves : State → Kind Place → State → Type 0
+Leaves s (begins (To p) as') z = z ≡ begun s as' p
+Leaves s (begins Over as') z = z ≡ record s { depth = s.depth + 1 }
+Leaves s (begins OtherRoot as') z = ⊥
+Leaves s (text c) z = z ≡ record s { text = heard (keeps s.depth s.place) s.text c }
+Leaves s (ends p) z = Ends s p z
+Leaves s ends_over z = z ≡ record s { depth = s.depth - 1 }

@@ -1,8 +1,9 @@
 -- Result documents by their marks: the form, which roots report what, and which are refused.
-use Rattle.std.specs.Prelude.{◌≡◌, List}
-use Rattle.tree_grammar.specs.Elements.{Element, events}
-use Rattle.doc_tree.specs.Marks.{Mark, spread}
+use Rattle.std.specs.Prelude.{◌≡◌}
+use Rattle.tree_grammar.specs.Elements.{Element}
+use Rattle.doc_tree.specs.Marks.{Mark}
 use Rattle.tag_tests.specs.Forms.{Form, AreTaken, AreRefused}
+pub use Rattle.tag_tests.specs.Readers.{marks}
 use Rattle.osrl_grammar.specs.declared.report.Report.{Report}
 use Rattle.osrl_grammar.specs.declared.fault.OsrlFault.{OsrlFault}
 use Rattle.osrl_grammar.specs.Standing.{State, start}
@@ -12,11 +13,7 @@ use Rattle.osrl_grammar.specs.Leaving.{Leaves}
 
 -- THE FORM of result documents: the table, when its tests fail, and what a mark leaves
 abbrev pub osrl : Form State Mark Test OsrlFault
-osrl = record { tests = λ s m. tests (kind s m); Fails = Fails; told = told; Becomes = λ s m z. Leaves s m (kind s m) z }
-
--- the marks of a document with this root
-abbrev pub marks : Element → List Mark
-marks root = spread (events root)
+osrl = record { tests = λ s m. tests (kind s m); Fails = λ s m. Fails s; told = λ s m. told s; Becomes = λ s m z. Leaves s (kind s m) z }
 
 -- all are taken, and this is what they say
 abbrev pub IsReport : Element → Report → Type 0

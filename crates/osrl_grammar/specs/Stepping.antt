@@ -4,13 +4,12 @@ use Rattle.std.specs.List.{AllZip}
 use Rattle.certificate.specs.declared.lists.Mult.{Mult}
 use Rattle.tag_tests.specs.declared.numbers.Unread.{Unread}
 use Rattle.tag_tests.specs.Fields.{FieldsRead}
-use Rattle.doc_tree.specs.Marks.{Mark, Finish}
 use Rattle.tag_tests.specs.Tests.{AllPass, FirstFails}
-use Rattle.tag_tests.specs.Forms.{Takes, Refuses}
+use Rattle.tag_tests.specs.declared.marks.Stop.{Stop}
+use Rattle.tag_tests.specs.declared.marks.Stop.TheVariants.{Refused, Memory}
 use Rattle.fraction.specs.declared.frac.Frac.{Frac}
 use Rattle.osrl_grammar.specs.declared.held.Held.{Held}
 use Rattle.osrl_grammar.specs.declared.fault.OsrlFault.{OsrlFault}
-use Rattle.osrl_grammar.specs.declared.fault.OsrlFault.TheVariants.{Memory}
 use Rattle.osrl_grammar.specs.declared.elements.Place.{Place}
 use Rattle.osrl_grammar.specs.declared.parts.Part.{Part}
 use Rattle.osrl_grammar.specs.declared.parts.Part.TheVariants.{Value, Tree, Cause}
@@ -20,11 +19,11 @@ use Rattle.osrl_grammar.specs.Items.{field, ReadsSo}
 use Rattle.osrl_grammar.specs.Values.{IsFraction, IsMult}
 use Rattle.osrl_grammar.specs.Standing.{State}
 use Rattle.osrl_grammar.specs.Saying.{has, items}
-use Rattle.osrl_grammar.specs.Table.{ends, tests, told}
+use Rattle.tag_tests.specs.Places.{ends}
+use Rattle.osrl_grammar.specs.Table.{tests, told}
 use Rattle.osrl_grammar.specs.Failing.{Fails, MayHoldItems}
 use Rattle.osrl_grammar.specs.Adding.{IsItemRead}
 use Rattle.osrl_grammar.specs.Leaving.{Ends}
-use Rattle.osrl_grammar.specs.Marked.{osrl}
 
 -- a part that has begun has as many items as it may, and so have all, and nothing stands twice
 abbrev pub IsCounted : Held → Part → Type 0
@@ -50,14 +49,8 @@ as_held {X} k (Err u) = Err u
 abbrev pub ReadsItem : {X E : Type 0} → Part → List ℕ → Held → Held → Result (Result X Misread) E → Type 0
 ReadsItem {X} {E} p said h k result = IfOk result (λ r. IsItemRead p said h (as_held k r))
 
--- a mark is taken, or refused; or there was no memory
-abbrev pub Steps : {X : Type 0} → State → Mark → State → Result X OsrlFault → Type 0
-Steps {X} s m z (Ok x) = Takes osrl s m z
-Steps {X} s m z (Err Memory) = Unit {0}
-Steps {X} s m z (Err f) = Refuses osrl s m f
-
--- the same of the end tag of an element that is read
-abbrev pub EndsAt : {X : Type 0} → State → Place → State → Result X OsrlFault → Type 0
-EndsAt {X} s p z (Ok x) = (name : List ℕ) → AllPass (Fails s (Finish name)) (tests (ends p)) × Ends s p z
+-- the end tag of an element that is read is taken, or refused; or there was no memory
+abbrev pub EndsAt : {X : Type 0} → State → Place → State → Result X (Stop OsrlFault) → Type 0
+EndsAt {X} s p z (Ok x) = AllPass (Fails s) (tests (ends p)) × Ends s p z
 EndsAt {X} s p z (Err Memory) = Unit {0}
-EndsAt {X} s p z (Err f) = (name : List ℕ) → FirstFails {R = OsrlFault} (Fails s (Finish name)) (told s (Finish name)) (tests (ends p)) f
+EndsAt {X} s p z (Err (Refused f)) = FirstFails {R = OsrlFault} (Fails s) (told s) (tests (ends p)) f

@@ -1,5 +1,5 @@
 -- THE TABLE of result documents (Optimization Services result language, in this project's profile): where elements stand that are read, the kind of each mark, the tests of each kind in their order, and how a test refuses.
-use Rattle.std.specs.Prelude.{ℕ, Option, None, Some, cond, nat_lt, bytes_eq, List, [], ◌∷◌, codes}
+use Rattle.std.specs.Prelude.{ℕ, Option, None, Some, cond, bytes_eq, List, [], ◌∷◌, codes}
 use Rattle.tree_grammar.specs.Elements.{Attribute}
 use Rattle.doc_tree.specs.Marks.{Mark, Start, Char, Finish}
 use Rattle.document_tags.specs.Elements.{value_of}
@@ -7,7 +7,7 @@ use Rattle.osrl_grammar.specs.declared.elements.Place.{Place}
 use Rattle.osrl_grammar.specs.declared.elements.Place.TheVariants.{Outside, Osrl, General, GeneralStatus, JobId, Message, Job, JobStatus, Optimization, Solution, SolutionStatus, Results, Result, Item}
 use Rattle.tag_tests.specs.declared.places.Led.{Led}
 use Rattle.tag_tests.specs.declared.places.Led.TheVariants.{To, Over, OtherRoot}
-use Rattle.tag_tests.specs.Places.{Child, child, among}
+use Rattle.tag_tests.specs.Places.{Child, child, among, led_from, Kind, begins, text, ends, end_kind}
 use Rattle.osrl_grammar.specs.declared.parts.Part.{Part}
 use Rattle.osrl_grammar.specs.declared.parts.Part.TheVariants.{Point, Value, Ray, Rounds, Tree, Cause}
 use Rattle.osrl_grammar.specs.declared.parts.BadItem.{BadItem}
@@ -75,19 +75,11 @@ around Results = Solution
 around (Result p) = Results
 around (Item p) = Result p
 
--- the kinds of marks: a start tag that leads there, characters in such an element, and in one that is passed over, the end tag of such an element, and of one that is passed over
-pub data Kind : Type 0 where
-  begins : Led Place → Kind
-  text : Place → Kind
-  unheard : Kind
-  ends : Place → Kind
-  back : Kind
-
--- in an element that is passed over all is passed over
-abbrev pub kind : State → Mark → Kind
-kind s (Start name attributes) = begins (cond (nat_lt 0 s.depth) Over (leads s.place name attributes))
-kind s (Char c) = cond (nat_lt 0 s.depth) unheard (text s.place)
-kind s (Finish name) = cond (nat_lt 0 s.depth) back (ends s.place)
+-- the kind of a mark
+abbrev pub kind : State → Mark → Kind Place
+kind s (Start name as') = begins (led_from s.depth (leads s.place name as')) as'
+kind s (Char c) = text c
+kind s (Finish name) = end_kind s.depth s.place
 
 pub data Test : Type 0 where
   other_root : Test
@@ -97,8 +89,8 @@ pub data Test : Type 0 where
   incomplete : Test
 
 -- THE TESTS OF EACH KIND, in the order in which they refuse. Root, at the start tag of the root. At its end tag, by which the solution's status is known: Item, Number, Wide, for an item that isn't read. Count: a second solution, or a part of one name twice; a cause has not just one item, a value or a tree none. Then Missing: there is no general status, no job's status of the six, no solution's status of the five, or not each part that its claim has.
-abbrev pub tests : Kind → List Test
-tests (begins OtherRoot) = other_root ∷ []
+abbrev pub tests : Kind Place → List Test
+tests (begins OtherRoot as') = other_root ∷ []
 tests (ends Osrl) = unread ∷ twice ∷ miscounted Value ∷ miscounted Tree ∷ miscounted Cause ∷ incomplete ∷ []
 tests k = []
 
@@ -114,9 +106,9 @@ refusal_of None = refusals.Item 0
 refusal_of (Some b) = item_refusal b.misread b.number
 
 -- HOW A TEST REFUSES
-abbrev pub told : State → Mark → Test → OsrlFault
-told s m other_root = refusals.Root
-told s m unread = refusal_of (bad_item s)
-told s m twice = refusals.Count
-told s m (miscounted p) = refusals.Count
-told s m incomplete = refusals.Missing
+abbrev pub told : State → Test → OsrlFault
+told s other_root = refusals.Root
+told s unread = refusal_of (bad_item s)
+told s twice = refusals.Count
+told s (miscounted p) = refusals.Count
+told s incomplete = refusals.Missing

@@ -3,70 +3,18 @@
 ghost use Rattle.std.specs.Prelude.{◌≡◌, ◌++◌, [], List, ℕ, None, Ok, Err, Some, IfOk, IfErr, MatchOption};
 ghost use Rattle.doc_tree.specs.declared.fault.TreeFault.{TreeFault};
 ghost use Rattle.osrl_grammar.specs.Reading.{IsReportText, DecodeFails};
-ghost use Rattle.osrl_grammar.specs.Hearing.{IsToldAs, WasFed, tree_fault};
+ghost use Rattle.osrl_grammar.specs.Hearing.{WasFed, tree_fault};
 
 use crate::fault::OsrlFault;
 use crate::report::Report;
 use crate::standing::Standing;
 use doc_tree::TreeFault;
-use element_tree::Attributes;
 use std::alloc::Global;
 use std::marker::Model;
-use tag_tests::{Decoder as MarkDecoder, MarkReader, Stop};
-
-/// What a mark came to, as whoever is told of marks takes it.
-fn told(step: Result<(), OsrlFault>) -> Result<(), Stop<OsrlFault>>
-    ensures { IsToldAs step result }
-{
-    match step {
-        Ok(()) => Ok(()),
-        Err(OsrlFault::Memory) => Err(Stop::Memory),
-        Err(fault) => Err(Stop::Refused(fault)),
-    }
-}
-
-impl MarkReader<OsrlFault> for Standing {
-    ghost use Rattle.std.proofs.Common.{refl};
-    ghost use Rattle.tag_tests.specs.Forms.{AreTaken, AreRefused};
-    ghost use Rattle.tag_tests.proofs.Forms.{taken_both, refused_behind, refused_more};
-    ghost use Rattle.osrl_grammar.specs.Marked.{osrl};
-
-    ghost took = { λ s ms z. AreTaken osrl s ms z };
-
-    ghost refuses = { λ s ms f. AreRefused osrl s ms f };
-
-    ghost took_none = { λ s. refl };
-
-    ghost took_both = { λ s m z ms ns p q. taken_both osrl s m z ms ns p q };
-
-    ghost refuses_behind = { λ s m ms ns f p q. refused_behind osrl s m ms ns f p q };
-
-    ghost refuses_more = { λ s ms ns f p. refused_more osrl s ms ns f p };
-
-    fn enter(
-        &mut self,
-        _alloc: Global,
-        name: &[u8],
-        attributes: &Attributes<'_>,
-    ) -> Result<(), Stop<OsrlFault>> {
-        if self.is_full() {
-            return Err(Stop::Memory);
-        }
-        told(self.go_in(name, attributes))
-    }
-
-    fn chars(&mut self, _alloc: Global, text: &[u8]) -> Result<(), Stop<OsrlFault>> {
-        self.go_on(text)?;
-        Ok(())
-    }
-
-    fn close(&mut self, _alloc: Global, _name: &[u8]) -> Result<(), Stop<OsrlFault>> {
-        told(self.go_out())
-    }
-}
+use tag_tests::Decoder as MarkDecoder;
 
 /// A tree's refusal as it is told.
-fn refused(fault: TreeFault) -> OsrlFault
+fn told(fault: TreeFault) -> OsrlFault
     ensures { result ≡ tree_fault fault }
 {
     match fault {
@@ -113,7 +61,7 @@ impl Decoder {
     {
         match self.marks.feed(piece) {
             Ok(()) => Ok(()),
-            Err(fault) => Err(refused(fault)),
+            Err(fault) => Err(told(fault)),
         }
     }
 
@@ -127,7 +75,7 @@ impl Decoder {
         match self.marks.finish() {
             Ok(Ok(standing)) => Ok(standing.report()),
             Ok(Err(fault)) => Err(fault),
-            Err(fault) => Err(refused(fault)),
+            Err(fault) => Err(told(fault)),
         }
     }
 }

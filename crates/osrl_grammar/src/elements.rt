@@ -38,7 +38,12 @@ fn root_led(name: &[u8]) -> Led<Place>
     } else if name == b"job".as_slice() {
         Led::To(Place::Job)
     } else {
-        named(name, b"optimization", Led::To(Place::Optimization), Led::Over)
+        named(
+            name,
+            b"optimization",
+            Led::To(Place::Optimization),
+            Led::Over,
+        )
     }
 }
 
@@ -62,7 +67,12 @@ fn solution_led(name: &[u8]) -> Led<Place>
     if name == b"status".as_slice() {
         Led::To(Place::SolutionStatus)
     } else {
-        named(name, b"otherSolutionResults", Led::To(Place::Results), Led::Over)
+        named(
+            name,
+            b"otherSolutionResults",
+            Led::To(Place::Results),
+            Led::Over,
+        )
     }
 }
 

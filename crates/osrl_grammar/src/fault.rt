@@ -1,7 +1,6 @@
 //! Why bytes are no report.
 
 use doc_tree::TreeFault;
-use std::alloc::AllocError;
 
 /// Why bytes are no report. Where several stand together, `Root` comes first, then the first item with a fault, of whose
 /// faults `Item` comes first and `Wide` last, then `Count`, then `Missing`. Items are those of a certificate's parts,
@@ -25,15 +24,4 @@ pub enum OsrlFault {
     Wide { n: u64 },
     /// There was no memory.
     Memory,
-}
-
-impl From<AllocError> for OsrlFault {
-    ghost from_gives = { λ _ e. e ≡ Memory };
-
-    ghost use Rattle.std.specs.Prelude.{◌≡◌};
-    ghost use Rattle.osrl_grammar.specs.declared.fault.OsrlFault.TheVariants.{Memory};
-
-    fn from(_e: AllocError) -> OsrlFault {
-        OsrlFault::Memory
-    }
 }

@@ -1,8 +1,8 @@
 //! Reads a result document mark by mark.
 
-ghost use Rattle.std.specs.Prelude.{◌≡◌, ◌↔◌, ◌+◌, ◌<◌, ◌^◌, ◌||◌, IsTrue, IsFalse, IfOk, OnOk, None, Some, List, ℕ, cond, map, bytes_eq, codes, option_map, option_and_then};
-ghost use Rattle.doc_tree.specs.Marks.{Start, Char, Finish};
-ghost use Rattle.tag_tests.specs.Forms.{AreTaken};
+ghost use Rattle.std.specs.Prelude.{◌≡◌, ◌↔◌, ◌+◌, ◌<◌, ◌^◌, ◌||◌, IsTrue, IsFalse, IfOk, OnOk, None, Some, List, ℕ, cond, bytes_eq, codes, option_map, option_and_then};
+ghost use Rattle.doc_tree.specs.Marks.{Start, Finish};
+ghost use Rattle.tag_tests.specs.Readers.{StepsBy};
 ghost use Rattle.osrl_grammar.specs.declared.elements.Place.TheVariants as places;
 ghost use Rattle.osrl_grammar.specs.Standing as standing;
 ghost use Rattle.osrl_grammar.specs.Saying as saying;
@@ -12,7 +12,7 @@ ghost use Rattle.osrl_grammar.specs.declared.parts.Part.{Part};
 ghost use Rattle.osrl_grammar.specs.Adding.{noted, AfterItem};
 ghost use Rattle.osrl_grammar.specs.Leaving as leaving;
 ghost use Rattle.osrl_grammar.specs.Marked.{osrl};
-ghost use Rattle.osrl_grammar.specs.Stepping.{Steps, EndsAt, AreCounted};
+ghost use Rattle.osrl_grammar.specs.Stepping.{EndsAt, AreCounted};
 
 use crate::elements::{Place, leads, outer};
 use crate::fault::OsrlFault;
@@ -28,7 +28,7 @@ use os_io::Text;
 use std::alloc::{AllocError, Global};
 use std::marker::Model;
 use std::mem;
-use tag_tests::{Led, value};
+use tag_tests::{Led, MarkReader, Stop, led_from, value};
 
 /// All that a job's status says.
 const STATUSES: [JobStatus; 6] = [
@@ -271,7 +271,7 @@ impl Standing {
     /// Goes past a start tag that leads there.
     fn begin(&mut self, place: Place, attributes: &Attributes<'_>) -> Result<(), AllocError>
         requires { self.old.count + 1 < 2 ^ 64 }
-        ensures { OnOk result ((name : List ℕ) → self.new ≡ leaving.begun self.old (Start name attributes.now) place) }
+        ensures { OnOk result (self.new ≡ leaving.begun self.old attributes.now place) }
     {
         self.place = place;
         self.text.clear();
@@ -298,53 +298,44 @@ impl Standing {
         }
     }
 
-    /// Goes past a start tag of an element that is passed over.
-    fn begin_over(&mut self)
-        requires { self.old.depth + 1 < 2 ^ 64 }
-        ensures { self.new ≡ record self.old { depth = self.old.depth + 1 } }
-    {
-        self.depth += 1;
-    }
-
     /// Goes past a start tag.
-    pub(crate) fn go_in(
-        &mut self,
-        name: &[u8],
-        attributes: &Attributes<'_>,
-    ) -> Result<(), OsrlFault>
+    fn go_in(&mut self, name: &[u8], attributes: &Attributes<'_>) -> Result<(), Stop<OsrlFault>>
         requires count { self.old.count + 1 < 2 ^ 64 }
         requires depth { self.old.depth + 1 < 2 ^ 64 }
-        ensures { Steps self.old (Start name.now attributes.now) self.new result }
+        ensures { StepsBy osrl self.old (Start name.now attributes.now) self.new result }
     {
-        if self.depth > 0 {
-            self.begin_over();
-            return Ok(());
-        }
-        match leads(self.place, name, attributes) {
+        match led_from(self.depth, leads(self.place, name, attributes)) {
             Led::To(place) => {
                 self.begin(place, attributes)?;
                 Ok(())
             }
             Led::Over => {
-                self.begin_over();
+                self.depth += 1;
                 Ok(())
             }
-            Led::OtherRoot => Err(OsrlFault::Root),
+            Led::OtherRoot => Err(Stop::Refused(OsrlFault::Root)),
         }
     }
 
-    /// Goes past characters.
-    pub(crate) fn go_on(&mut self, text: &[u8]) -> Result<(), AllocError>
-        ensures { OnOk result (AreTaken osrl self.old (map Char text.now) self.new) }
+    /// Whether characters are kept.
+    fn keeps(&self) -> bool
+        ensures { result ≡ leaving.keeps self.now.depth self.now.place }
     {
         if self.depth > 0 {
-            return Ok(());
+            return false;
         }
         match self.place {
-            Place::JobId | Place::Message | Place::JobStatus | Place::Item(_) => {
-                self.text.extend_from_slice(text)
-            }
-            _ => Ok(()),
+            Place::JobId | Place::Message | Place::JobStatus | Place::Item(_) => true,
+            Place::Outside
+            | Place::Osrl
+            | Place::General
+            | Place::GeneralStatus
+            | Place::Job
+            | Place::Optimization
+            | Place::Solution
+            | Place::SolutionStatus
+            | Place::Results
+            | Place::Result(_) => false,
         }
     }
 
@@ -382,7 +373,7 @@ impl Standing {
     }
 
     /// Goes past the end tag of an item.
-    fn end_item(&mut self, part: Part) -> Result<(), OsrlFault>
+    fn end_item(&mut self, part: Part) -> Result<(), Stop<OsrlFault>>
         ensures { EndsAt self.old (places.Item part) self.new result }
     {
         self.place = Place::Result(part);
@@ -440,14 +431,14 @@ impl Standing {
     }
 
     /// Goes past the end tag of the root.
-    fn end_root(&mut self) -> Result<(), OsrlFault>
+    fn end_root(&mut self) -> Result<(), Stop<OsrlFault>>
         ensures { EndsAt self.old places.Osrl self.new result }
     {
         if let Some(bad) = self.bad_item() {
-            return Err(refusal(bad));
+            return Err(Stop::Refused(refusal(bad)));
         }
         if !self.are_counted() {
-            return Err(OsrlFault::Count);
+            return Err(Stop::Refused(OsrlFault::Count));
         }
         let alloc = self.alloc;
         match mem::replace(self, Standing::new(alloc)).into_report()? {
@@ -455,7 +446,7 @@ impl Standing {
                 self.report = report;
                 Ok(())
             }
-            None => Err(OsrlFault::Missing),
+            None => Err(Stop::Refused(OsrlFault::Missing)),
         }
     }
 
@@ -476,7 +467,7 @@ impl Standing {
     }
 
     /// Goes past an end tag of such an element.
-    fn end(&mut self, place: Place) -> Result<(), OsrlFault>
+    fn end(&mut self, place: Place) -> Result<(), Stop<OsrlFault>>
         ensures { EndsAt self.old place self.new result }
     {
         match place {
@@ -490,8 +481,8 @@ impl Standing {
     }
 
     /// Goes past an end tag.
-    pub(crate) fn go_out(&mut self) -> Result<(), OsrlFault>
-        ensures { (name : List ℕ) → Steps self.old (Finish name) self.new result }
+    fn go_out(&mut self) -> Result<(), Stop<OsrlFault>>
+        ensures { (name : List ℕ) → StepsBy osrl self.old (Finish name) self.new result }
     {
         if self.depth > 0 {
             self.depth -= 1;
@@ -501,7 +492,7 @@ impl Standing {
     }
 
     /// Whether no element more can be counted.
-    pub(crate) fn is_full(&self) -> bool
+    fn is_full(&self) -> bool
         ensures count { IsFalse result → self.now.count + 1 < 2 ^ 64 }
         ensures depth { IsFalse result → self.now.depth + 1 < 2 ^ 64 }
     {
@@ -513,5 +504,48 @@ impl Standing {
         ensures { result ≡ self.report }
     {
         self.report
+    }
+}
+
+impl MarkReader<OsrlFault> for Standing {
+    ghost use Rattle.std.proofs.Common.{refl};
+    ghost use Rattle.tag_tests.specs.Forms.{AreTaken, AreRefused};
+    ghost use Rattle.tag_tests.proofs.Forms.{taken_both, refused_behind, refused_more};
+    ghost use Rattle.osrl_grammar.specs.Marked.{osrl};
+
+    ghost took = { λ s ms z. AreTaken osrl s ms z };
+
+    ghost refuses = { λ s ms f. AreRefused osrl s ms f };
+
+    ghost took_none = { λ s. refl };
+
+    ghost took_both = { λ s m z ms ns p q. taken_both osrl s m z ms ns p q };
+
+    ghost refuses_behind = { λ s m ms ns f p q. refused_behind osrl s m ms ns f p q };
+
+    ghost refuses_more = { λ s ms ns f p. refused_more osrl s ms ns f p };
+
+    fn enter(
+        &mut self,
+        _alloc: Global,
+        name: &[u8],
+        attributes: &Attributes<'_>,
+    ) -> Result<(), Stop<OsrlFault>> {
+        if self.is_full() {
+            return Err(Stop::Memory);
+        }
+        self.go_in(name, attributes)
+    }
+
+    fn chars(&mut self, _alloc: Global, text: &[u8]) -> Result<(), Stop<OsrlFault>> {
+        if !self.keeps() {
+            return Ok(());
+        }
+        self.text.extend_from_slice(text)?;
+        Ok(())
+    }
+
+    fn close(&mut self, _alloc: Global, _name: &[u8]) -> Result<(), Stop<OsrlFault>> {
+        self.go_out()
     }
 }
