@@ -1,5 +1,5 @@
 -- The factor of a direction, step by step.
-use Rattle.std.proofs.Common.{◌≡◌, ℕ, zero, suc, ◌+◌, ◌<◌, ◌≤◌, ℤ, pos, negsuc, ◌<ℤ◌, Bool, true, false, List, arith, refl, sym, subst, add-one}
+use Rattle.std.proofs.Common.{◌≡◌, ℕ, zero, suc, ◌+◌, ◌<◌, ◌≤◌, ℤ, pos, negsuc, ◌<ℤ◌, Bool, true, List, arith, sym, subst, add-one}
 use Rattle.std.specs.Prelude.{unsigned_abs}
 use Rattle.std.proofs.lemmas.Int.{ints}
 use mir.Val.{SFits}
@@ -15,9 +15,6 @@ use Rattle.search_rules.proofs.Rays.{one_factor}
 
 pub next_whole : (b : Bool) (x : Ratio) (f g : ℕ) → b ≡ true → IsLcm f x.den g → g ≤ most → IsNextFactor b x f g
 next_whole b x f g e h low = rw e (h, low)
-
-pub next_same : (b : Bool) (x : Ratio) (f : ℕ) → b ≡ false → IsNextFactor b x f f
-next_same b x f e = rw e refl
 
 pub no_next : (b : Bool) (x : Ratio) (f : ℕ) → b ≡ true → ((g : ℕ) → IsLcm f x.den g → most < g) → (g : ℕ) → IsNextFactor b x f g → ⊥
 no_next b x f e wide g h = let k = rw e at h in let q = wide g k.0 in let r = k.1 in omega arith

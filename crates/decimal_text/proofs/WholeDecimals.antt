@@ -15,7 +15,7 @@ use Rattle.rational.specs.Width.{most}
 use Rattle.rational.specs.Whole.{signed}
 use Rattle.rational.proofs.Scaling.{IsSame-trans}
 use Rattle.rational.proofs.Signs.{same_form, sizes_cross, unsigned_abs-signed}
-use Rattle.decimal_text.specs.Sign.{Sign, absent, minus, optional}
+use Rattle.decimal_text.specs.Sign.{absent, minus, optional}
 use Rattle.decimal_text.specs.Space.{is_space, without_leading_space, trimmed}
 use Rattle.decimal_text.specs.Plain.{point_text, PlainText}
 use Rattle.decimal_text.specs.Places.{HasPlaces}
@@ -158,10 +158,6 @@ after_split n [] = omega arith
 after_split n (d ∷ ds) =
     let power : 10 ^ suc (length ds) ≡ 10 ^ length ds * 10 = ap (λ k. 10 ^ k) (let e : suc (length ds) ≡ length ds + 1 = omega arith in e) ∙ ten_more (length ds) in
     omega (arith, after_split (n * 10 + digit_value d) ds, after_split (0 * 10 + digit_value d) ds, ap (λ x. n * x) power)
-
-abbrev sign_for : Bool → Sign
-sign_for true = minus
-sign_for false = absent
 
 abbrev mantissa_for : List ℕ → List ℕ → Mantissa
 mantissa_for whole [] = plain whole

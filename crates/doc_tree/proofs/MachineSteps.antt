@@ -1,13 +1,21 @@
 -- What each step of the machine owes.
-pub mod Outcomes
-pub mod Loops
-pub mod TagNames
-pub mod FieldValues
-pub mod Moves
-pub mod Steps
-pub mod TagSteps
-pub mod FieldSteps
-pub mod AsideSteps
-pub mod WholeParts
-pub mod Specials
-pub mod DocumentTypes
+mod Outcomes
+mod Loops
+mod TagNames
+mod FieldValues
+mod Moves
+mod Steps
+mod TagSteps
+mod FieldSteps
+mod AsideSteps
+mod WholeParts
+pub use Outcomes.*
+pub use Loops.*
+pub use TagNames.*
+pub use FieldValues.*
+pub use Moves.*
+pub use Steps.*
+pub use TagSteps.*
+pub use FieldSteps.*
+pub use AsideSteps.*
+pub use WholeParts.*

@@ -1,14 +1,5 @@
 -- A text is at most one document.
-use Rattle.std.proofs.Common.{◌≡◌, ℕ, List, [], ◌∷◌, ◌++◌, refl, ap, sym, ◌∙◌, subst, arith}
-use Rattle.tree_grammar.specs.Elements.{Element, nodes_depth}
-use Rattle.tree_grammar.specs.Characters.{IsQName, local_part}
-use Rattle.tree_grammar.specs.Tags.{attributes_text, attribute_list, tag_text}
-use Rattle.tree_grammar.specs.Content.{body_text, body_nodes, misc_text}
-use Rattle.tree_grammar.specs.Declaration.{declaration_text}
-use Rattle.tree_grammar.specs.Document.{Document, document_text, document_element, Doc}
-use Rattle.element_tree.proofs.Events.{element_same}
-use Rattle.doc_tree.specs.Marks.{Mark, Start, Finish, body_marks, gather}
-use Rattle.doc_tree.specs.Rests.{Then, TagRest}
+use Rattle.doc_tree.proofs.Words.{Doc, Document, Element, Finish, IsQName, List, Mark, Start, TagRest, Then, [], ap, arith, attribute_list, attributes_text, body_marks, body_nodes, body_text, declaration_text, document_element, document_text, element_same, gather, local_part, misc_text, nodes_depth, refl, subst, sym, tag_text, ℕ, ◌++◌, ◌∙◌, ◌∷◌, ◌≡◌}
 use Rattle.doc_tree.proofs.TextTrees.Depths.{body_fit}
 use Rattle.doc_tree.proofs.TextTrees.Wholes.{document_marks, document_gathers}
 use Rattle.doc_tree.proofs.OneDocument.Contents.{body_ends, start_says, body_says}

@@ -318,8 +318,8 @@ pub record FollowsByte (before : List Mark) (K : Terms → List ℕ → List Mar
   pub same : (t : Terms) → IsDepthAllowed t → (bytes : List ℕ) (says : List Mark) → GoesBehind before (K t) (b ∷ bytes) says ↔ Completes new t bytes says
 
 -- Nothing that begins with this byte completes it.
-abbrev pub Stuck : (Terms → List ℕ → List Mark → Type 0) → ℕ → Type 0
-Stuck K b = (t : Terms) → IsDepthAllowed t → (bytes : List ℕ) (marks : List Mark) → K t (b ∷ bytes) marks → ⊥
+pub record Stuck (K : Terms → List ℕ → List Mark → Type 0) (b : ℕ) : Type 0 where
+  pub none : (t : Terms) → IsDepthAllowed t → (bytes : List ℕ) (marks : List Mark) → K t (b ∷ bytes) marks → ⊥
 
 -- An element begins in as many as may stand in one another.
 abbrev pub IsDeep : State → ℕ → Type 0

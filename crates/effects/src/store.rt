@@ -1,8 +1,8 @@
 //! What keeps effects, each before its move is acknowledged.
 
-ghost use Rattle.std.specs.Prelude.{◌≡◌, ◌++◌, ◌∷◌, ◌⊎◌, ◌↔◌, [], List, ℕ, Bool, true, false, OnOk, OnErr, IsErrOf};
+ghost use Rattle.std.specs.Prelude.{List, ℕ, Bool};
 ghost use Rattle.effects.specs.Records.{Deed, deed_of};
-ghost use Rattle.effects.specs.Stores.{CountsDisk};
+ghost use Rattle.effects.specs.Stores.{Puts, fault_of};
 
 use crate::kinds::Effect;
 
@@ -33,14 +33,7 @@ pub trait Store {
 
     /// Stores an effect behind those that are kept. At an error no effect more is kept.
     fn put(&mut self, effect: &Effect) -> Result<(), NotStored>
-        ensures stored { OnOk result ((deeds : List Deed) → keeps self.old deeds → keeps self.new (deeds ++ deed_of effect.now ∷ [])) }
-        ensures stays { OnErr result ((deeds : List Deed) → keeps self.old deeds → keeps self.new deeds) }
-        ensures cause { CountsDisk result (faults self.old) (faults self.new) }
-        ensures breaks { (broken self.new ≡ true) ↔ ((broken self.old ≡ true) ⊎ IsErrOf result NotStored.Disk) }
-        ensures broken { IsErrOf result NotStored.Broken ↔ (broken self.old ≡ true) }
-        ensures long { IsErrOf result NotStored.Long ↔ ((broken self.old ≡ false) × (too_long self.old [] (deed_of effect.now) ≡ true)) }
-        ensures longer { OnOk result ((more : List Deed) (d : Deed) → too_long self.new more d ≡ too_long self.old (deed_of effect.now ∷ more) d) }
-        ensures as_long { OnErr result ((more : List Deed) (d : Deed) → too_long self.new more d ≡ too_long self.old more d) };
+        ensures { Puts keeps too_long broken faults (deed_of effect.now) self.old (fault_of result) self.new };
 }
 
 /// Keeps nothing, and says that it stored each effect.

@@ -209,10 +209,6 @@ pub never_running : (told : List Event) (text : List ℕ) → (text ≡ [] → �
 never_running told [] f o = f refl
 never_running told (c ∷ cs) f o = no_run_last told (c ∷ cs) (element_begins_so (told ++ Chars (c ∷ cs) ∷ []) o)
 
-pub never_nothing : (told : List Event) (text : List ℕ) → length told ≡ 0 → IsOneElement (with_run told text) → ⊥
-never_nothing told [] n o = let same : [] ≡ events o.element = sym (no_length told n) ∙ o.same in cc
-never_nothing told (c ∷ cs) n o = no_run_last told (c ∷ cs) (element_begins_so (told ++ Chars (c ∷ cs) ∷ []) o)
-
 -- both answers of a test, put another way
 pub match_map : (P Q P' Q' : Type 0) (r : Bool) → (P → P') → (Q → Q') → MatchBool r P Q → MatchBool r P' Q'
 match_map P Q P' Q' true f g m = f m

@@ -75,12 +75,6 @@ goal_size g nodes few constant costs is =
     let count = count_short is.count (omega (arith, few, few_counted g.costs is.count is.counts)) in
     omega (arith, ap nodes_size is.says, inner, count, constant is.constant is.is_constant, sense_size g.sense)
 
-counts_size : (ns : List ℕ) → All (λ n. n ≤ 1000) ns → nodes_size (counts_nodes ns) ≤ 33 * length ns
-counts_size [] small = omega arith
-counts_size (n ∷ ns) small =
-    let one = All-head (λ (n : ℕ). n ≤ 1000) n ns small in
-    omega (arith, counts_size ns (All-tail (λ (n : ℕ). n ≤ 1000) n ns small), count_short n (omega (arith, one)))
-
 one_more_or_none : (b : Bool) (n m : ℕ) → n ≤ m → cond b (n + 1) n ≤ m + 1
 one_more_or_none true n m few = omega (arith, few)
 one_more_or_none false n m few = omega (arith, few)

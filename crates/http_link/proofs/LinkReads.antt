@@ -1,34 +1,12 @@
 -- What reads one after another took.
-use Rattle.std.proofs.Common.{◌≡◌, ◌≢◌, ℕ, ◌≤◌, List, [], ◌∷◌, ◌++◌, length, take, drop, get_or, arith, Option, Some, None, refl, sym, ◌∙◌, ap, subst, append_assoc}
+use Rattle.std.proofs.Common.{◌≡◌, ℕ, List, [], ◌∷◌, ◌++◌, take, Option, Some, None, refl, sym, ◌∙◌, ap, subst, append_assoc}
 use Rattle.std.specs.Prelude.{⊤}
-use Rattle.std.proofs.lemmas.List.{take-append-drop}
-use Rattle.os_io.specs.Streams.{BothTold, Takes}
+use Rattle.os_io.specs.Streams.{BothTold}
 
 -- nothing was taken yet
 pub took_none : (x : Option (List ℕ)) → BothTold x x (λ before after. before ≡ [] ++ after)
 took_none None = tt
 took_none (Some x) = refl
-
-single : (buffer : List ℕ) (n : ℕ) → length buffer ≡ 1 → n ≤ 1 → n ≢ 0 → take n buffer ≡ get_or buffer 0 0 ∷ []
-single [] n size most some = absurd (omega arith)
-single (b ∷ []) n size most some =
-    let one : n ≡ 1 = omega (arith, most, some) in ap (λ k. take k (b ∷ [])) one
-single (b ∷ (c ∷ buffer)) n size most some = absurd (omega arith)
-
--- a read of one byte
-pub took_byte : (x y : Option (List ℕ)) (buffer : List ℕ) (n : ℕ) → length buffer ≡ 1 → n ≤ 1 → n ≢ 0
-    → BothTold x y (Takes buffer n) → BothTold x y (λ before after. before ≡ get_or buffer 0 0 ∷ after)
-took_byte None y buffer n size most some q = tt
-took_byte (Some x) None buffer n size most some q = absurd q
-took_byte (Some x) (Some y) buffer n size most some q =
-    sym (take-append-drop n x) ∙ (λ i. sym q.0 i ++ sym q.1 i) ∙ ap (λ s. s ++ y) (single buffer n size most some)
-
--- the end of the input
-pub took_end : (x y : Option (List ℕ)) (buffer : List ℕ) (n : ℕ) → n ≡ 0 → BothTold x y (Takes buffer n)
-    → BothTold x y (λ before after. before ≡ []) → BothTold x y (λ before after. (before ≡ []) × (after ≡ []))
-took_end None y buffer n none q end = tt
-took_end (Some x) None buffer n none q end = absurd q
-took_end (Some x) (Some y) buffer n none q end = (end, q.1 ∙ ap (λ k. drop k x) none ∙ end)
 
 -- one byte after those before it
 pub took_more : (x y z : Option (List ℕ)) (taken : List ℕ) (b : ℕ)
@@ -39,17 +17,6 @@ took_more (Some x) None z taken b p q = absurd p
 took_more (Some x) (Some y) None taken b p q = absurd q
 took_more (Some x) (Some y) (Some z) taken b p q =
     p ∙ ap (λ s. taken ++ s) q ∙ sym (append_assoc taken (b ∷ []) z)
-
--- a piece of the input, which is empty at its end alone
-pub took_piece : (x y : Option (List ℕ)) (buffer : List ℕ) (n : ℕ) → BothTold x y (Takes buffer n)
-    → (n ≡ 0 → BothTold x y (λ before after. before ≡ []))
-    → BothTold x y (λ before after. (before ≡ take n buffer ++ after) × (n ≡ 0 → after ≡ []))
-took_piece None y buffer n q end = tt
-took_piece (Some x) None buffer n q end = absurd q
-took_piece (Some x) (Some y) buffer n q end = (
-  sym (take-append-drop n x) ∙ (λ i. sym q.0 i ++ sym q.1 i),
-  λ none. q.1 ∙ ap (λ k. drop k x) none ∙ end none,
-)
 
 -- the same bytes, and a fact of the rest
 pub took_with : (x y : Option (List ℕ)) (taken : List ℕ) → BothTold x y (λ before after. before ≡ taken ++ after)

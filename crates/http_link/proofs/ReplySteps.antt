@@ -120,10 +120,6 @@ brings_body_fault To head lines says failed x y z a heads b = (
   took_alone x z (head ++ b.0) (λ _. ⊤) (both_taken head lines b.0 b.0 (λ _. ⊤) x y z a refl b.2),
 )
 
-pub brings_head_fault : (fault : LinkFault) (x y : Left) → AnswersHead (Err fault) x y → Brings (Err fault) x y
-brings_head_fault ReadFault x y a = (a.0, inl a.1, took_alone x y a.0 (λ _. ⊤) a.2)
-brings_head_fault Memory x y a = (a.0, inl a.1, took_alone x y a.0 (λ _. ⊤) a.2)
-
 -- a head and its body put together
 pub brings_joined : (head body : List ℕ) (says : ReplyHead) (r : Result Came LinkFault) (x z : Left) → HeadSays head (Some says)
     → length body ≤ most_of says → BytesCome (head ++ body) x z → IfOk r (λ came. came.bytes ≡ head ++ body) → IfErr r (λ f. f ≡ Memory)

@@ -57,10 +57,6 @@ pub head_fault : (text : List ℕ) (start lines : ℕ) (x y z : Left) → IsOpen
 head_fault text start lines x y z o fits took same =
     (text, record { fits = fits; no_head = open_has_no_head text start lines o }, took_same x y z text took same)
 
-pub head_ended : (text : List ℕ) (x y z : Left) → AreEmptyLines text → length text < most_head
-    → Took x y text → IsEnd y z → AnswersHead (Ok (NoHead text)) x z
-head_ended text x y z blank fits took end = (text, (refl, record { empty = blank; fits = fits }), took_all x y z text took end)
-
 pub head_cut : (text : List ℕ) (start lines : ℕ) (x y z : Left) → IsOpenHead text start lines → ¬ (AreEmptyLines text)
     → length text < most_head → Took x y text → IsEnd y z → AnswersHead (Ok (CutHead text)) x z
 head_cut text start lines x y z o full fits took end = (

@@ -1,11 +1,13 @@
 -- What a put does to the effects that are kept.
-use Rattle.std.proofs.Common.{◌≡◌, ◌⊎◌, inl, inr, ℕ, ◌≤◌, List, [], ◌∷◌, ◌++◌, Result, Ok, Err, OnOk, OnErr, refl, sym, ◌∙◌, subst}
+use Rattle.std.proofs.Common.{◌≡◌, ◌⊎◌, inl, inr, ℕ, ◌+◌, ◌≤◌, List, [], ◌∷◌, ◌++◌, length, Some, Result, Ok, Err, OnOk, OnErr, refl, sym, ◌∙◌, ap, subst, arith, length-append}
 use Rattle.std.specs.Prelude.{Bool, true, false, ◌↔◌, IsErrOf}
 use Rattle.disks.specs.Disks.{LeavesOnly}
-use Rattle.effects.specs.Records.{Deed}
+use Rattle.effects.specs.Records.{Deed, body, records}
+use Rattle.effects.specs.Stores.{fault_of}
+use Rattle.effects.proofs.Faults.{as_fault}
 use Rattle.effects.specs.declared.store.NotStored.{NotStored}
 use Rattle.effects.specs.declared.store.NotStored.TheVariants.{Disk, Broken, Long}
-use Rattle.job_journal.specs.Journal.{StandsFor, IsBeforeOrAfter, IsAtRest}
+use Rattle.job_journal.specs.Journal.{StandsFor, IsBeforeOrAfter, IsAtRest, is_too_long}
 use Rattle.job_journal.specs.Ready.{Keeps}
 
 unbroken_by : (b : Bool) (P : Type 0) → (P ↔ (b ≡ true)) → (P → ⊥) → b ≡ false
@@ -62,3 +64,21 @@ module _ {D : Type 0} (told : D → Bool) (seen : D → List ℕ) (may_leave : D
         as_before told seen may_leave moment left_since old new m n b c d (Err Broken) same broken (is_broken refl) deeds keeps
     keeps_refused (Err Long) broken breaks now leaves is_broken is_long = λ deeds keeps.
         as_before told seen may_leave moment left_since old new m n b c d (Err Long) same broken (is_long refl) deeds keeps
+
+-- the end of the file, and what is too long behind it
+pub long_at : (end : ℕ) (b : Bool) (d : Deed) (res : Result (Unit {0}) NotStored) → (IsErrOf res Long ↔ ((b ≡ false) × (is_too_long end (length (body d)) ≡ true)))
+    → ((fault_of res ≡ Some Long) ↔ ((b ≡ false) × (is_too_long (end + length (records [])) (length (body d)) ≡ true)))
+long_at end b d res long =
+    let same : end + length (records []) ≡ end = omega arith in
+    as_fault res Long _ (subst (λ (k : ℕ). IsErrOf res Long ↔ ((b ≡ false) × (is_too_long k (length (body d)) ≡ true))) (sym same) long)
+
+pub longer_at : (old new : ℕ) (d : Deed) (res : Result (Unit {0}) NotStored) → OnOk res (new ≡ old + (length (body d) + 1))
+    → OnOk res ((more : List Deed) (e : Deed) → is_too_long (new + length (records more)) (length (body e)) ≡ is_too_long (old + length (records (d ∷ more))) (length (body e)))
+longer_at old new d (Ok x) is = λ more e.
+    ap (λ (k : ℕ). is_too_long k (length (body e))) (omega (arith, is, length-append (body d) (records more)))
+longer_at old new d (Err f) is = tt
+
+pub same_length : (old new : ℕ) (res : Result (Unit {0}) NotStored) → OnErr res (new ≡ old)
+    → OnErr res ((more : List Deed) (e : Deed) → is_too_long (new + length (records more)) (length (body e)) ≡ is_too_long (old + length (records more)) (length (body e)))
+same_length old new (Ok x) is = tt
+same_length old new (Err f) is = λ more e. ap (λ (k : ℕ). is_too_long (k + length (records more)) (length (body e))) is

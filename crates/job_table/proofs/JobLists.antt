@@ -3,8 +3,9 @@ use Rattle.std.proofs.Common.{◌≡◌, ℕ, ◌+◌, ◌<◌, ◌≤◌, nat_e
 use Rattle.std.proofs.lemmas.Bool.Decides.{nat_tests}
 use Rattle.std.proofs.lemmas.Map.{lookup-set_value}
 use Rattle.std.proofs.lemmas.Cmp.{nat_eq_equiv}
-use Rattle.std.specs.Ordering.{nat_cmp, match_ordering}
-use Rattle.std.specs.BTreeMap.{insert_entry}
+use Rattle.std.specs.Ordering.{nat_cmp, match_ordering, is_eq}
+use Rattle.std.specs.BTreeMap.{insert_entry, is_at}
+use Rattle.std.specs.Map.{lookup}
 use Rattle.std.specs.declared.cmp.Ordering.{Ordering}
 use Rattle.std.specs.declared.cmp.Ordering.TheVariants.{Equal, Greater}
 use Rattle.job_table.specs.declared.job.Phase.{Phase}
@@ -218,6 +219,16 @@ inserted_last n w [] below = refl
 inserted_last n w (e ∷ es) below =
     ap (λ (o : Ordering). match_ordering o ((n, w) ∷ e ∷ es) ((e.0, w) ∷ es) (e ∷ insert_entry nat_cmp es n w)) (greater_is n e.0 below.0)
     ∙ ap (λ s. e ∷ s) (inserted_last n w es below.1)
+
+-- a number that is above all that are held is found nowhere
+pub none_at : (n : ℕ) (jobs : HeldJobs) → Below n jobs → lookup (is_at (nat_cmp n)) jobs ≡ None
+none_at n [] below = refl
+none_at n (e ∷ es) below =
+    ap (λ (o : Ordering). cond (is_eq o) (Some e.1) (lookup (is_at (nat_cmp n)) es)) (greater_is n e.0 below.0) ∙ none_at n es below.1
+
+pub not_held : (q : Option Phase) → q ≡ None → IsSome q → ⊥
+not_held None none held = cc
+not_held (Some x) none held = cc
 
 -- a job that is put twice is put once
 twice_step : (n : ℕ) (v w : Phase) (b : Bool) (e : ℕ × Phase) (es : HeldJobs) → nat_eq n e.0 ≡ b

@@ -7,3 +7,4 @@ pub mod Looks
 pub mod Ids
 pub mod Plans
 pub mod Remade
+pub mod Kept

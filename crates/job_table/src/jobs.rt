@@ -1,11 +1,14 @@
 //! The jobs that are held, by number, with what is counted of them.
 
-ghost use Rattle.std.specs.Prelude.{◌≡◌, ℕ, List, Option, ◌+◌, ◌-◌, ◌<◌, ◌≤◌, ◌^◌, length, Some, None, true, false, IfOk, IfSome, OnOk, OnErr, IfNone, IsSome, IsSomeAnd, min, if◌then◌else◌, [], ◌∷◌, ◌++◌};
+ghost use Rattle.std.specs.Prelude.{◌≡◌, ℕ, List, Option, ◌+◌, ◌-◌, ◌<◌, ◌≤◌, ◌^◌, length, Some, None, true, false, IfOk, IfSome, OnOk, OnErr, IfErr, IfNone, IsSome, IsSomeAnd, min, if◌then◌else◌, [], ◌∷◌, ◌++◌};
 ghost use Rattle.std.specs.Option.{option_copied};
 ghost use Rattle.job_table.specs.declared.calls.Reply.{Reply};
 ghost use Rattle.job_table.specs.declared.calls.Finish.TheVariants.{Kept};
 ghost use Rattle.job_table.specs.declared.job.Phase.TheVariants.{Issued, Running, Finished};
 ghost use Rattle.job_table.specs.Jobs.{Register, beginning, next_number, Rise, phase_of, with_phase, without, state_of, is_waiting, is_running, states, waiting_jobs, running_jobs, first_waiting, IsFirstWaiting, Below};
+ghost use Rattle.effects.specs.Records.{deed_of};
+ghost use Rattle.effects.specs.Stores.{Puts, PutsIf, fault_of};
+ghost use Rattle.job_table.specs.Kept.{KeptBy};
 ghost use Rattle.job_table.specs.Plans.{has_room};
 ghost use Rattle.job_table.specs.Remade.{first_marked, settled};
 ghost use Rattle.job_table.specs.Steps.{most_jobs, last_number, with_new, moved, forgotten, adds, added_reply, LeadsBy, claims, kills, outcome, sends, finishes, is_marked};
@@ -13,8 +16,10 @@ ghost use Rattle.job_table.specs.Steps.{most_jobs, last_number, with_new, moved,
 use crate::calls::{Finish, IssueFault, JobStates};
 use crate::job::{Job, Phase, State};
 use crate::waiting::{make_room, renew};
+use effects::{Effect, NoStore, NotStored, Store};
 use os_io::Memory;
 use std::alloc::{AllocError, Global};
+use std::collections::btree_map::Entry;
 use std::collections::{BTreeMap, VecDeque};
 use std::marker::Model;
 
@@ -98,14 +103,29 @@ fn replace(phases: &mut BTreeMap<u64, Phase>, number: u64, phase: Phase) -> Phas
     }
 }
 
-/// Adds a job behind all others, by a number that is above theirs.
-fn append(phases: &mut BTreeMap<u64, Phase>, number: u64, phase: Phase) -> Result<(), Memory>
+/// Adds a job behind all others, by a number that is above theirs, once an effect is stored. The memory for it is taken before.
+fn append<S: Store>(
+    phases: &mut BTreeMap<u64, Phase>,
+    number: u64,
+    phase: Phase,
+    effect: &Effect,
+    store: &mut S,
+) -> Result<Result<(), NotStored>, Memory>
     requires { Below number phases.old.entries }
-    ensures ok { OnOk result (phases.new.entries ≡ phases.old.entries ++ (number, phase) ∷ []) }
-    ensures err { OnErr result (phases.new.entries ≡ phases.old.entries) }
+    ensures ok { IfOk result (λ put. OnOk put (phases.new.entries ≡ phases.old.entries ++ (number, phase) ∷ [])) }
+    ensures refused { IfOk result (λ put. OnErr put (phases.new.entries ≡ phases.old.entries)) }
+    ensures put { IfOk result (λ put. Puts S.keeps S.too_long S.broken S.faults (deed_of effect.now) store.old (fault_of put) store.new) }
+    ensures lost { OnErr result ((phases.new.entries ≡ phases.old.entries) × (store.new ≡ store.old)) }
 {
-    match phases.insert(number, phase) {
-        Ok(_) => Ok(()),
+    match phases.entry(number) {
+        Ok(Entry::Vacant(place)) => match store.put(effect) {
+            Ok(()) => {
+                place.insert(phase);
+                Ok(Ok(()))
+            }
+            Err(fault) => Ok(Err(fault)),
+        },
+        Ok(Entry::Occupied(_)) => unreachable!(),
         Err(_) => Err(AllocError),
     }
 }
@@ -268,28 +288,48 @@ impl Jobs {
         ensures number { IfOk result (λ number. number ≡ next_number self.old) }
         ensures added { (said : Reply) → LeadsBy (adds phase said self.old) self.old (added_reply (λ _. said) result) self.new }
     {
+        match self.add_kept(phase, &Effect::Issue, &mut NoStore) {
+            Ok(added) => added,
+            Err(_) => unreachable!(),
+        }
+    }
+
+    /// A new job, which has the next number, once an effect is stored. The memory for it is taken before: where there is none,
+    /// nothing is put.
+    pub(crate) fn add_kept<S: Store>(
+        &mut self,
+        phase: Phase,
+        effect: &Effect,
+        store: &mut S,
+    ) -> Result<Result<u64, IssueFault>, NotStored>
+        ensures number { IfOk result (λ added. IfOk added (λ number. number ≡ next_number self.old)) }
+        ensures added { IfOk result (λ added. (said : Reply) → LeadsBy (adds phase said self.old) self.old (added_reply (λ _. said) added) self.new) }
+        ensures kept { IfOk result (λ added. KeptBy S.keeps S.too_long S.broken S.faults (if has_room self.old then Some (deed_of effect.now) else None) store.old (added_reply (λ _. Reply.Done) added) store.new) }
+        ensures refused { IfErr result (λ fault. (self.new ≡ self.old) × PutsIf S.keeps S.too_long S.broken S.faults (if has_room self.old then Some (deed_of effect.now) else None) store.old (Some fault) store.new) }
+    {
         let held = self.phases.len();
         if held >= MOST_JOBS {
-            return Err(IssueFault::Full);
+            return Ok(Err(IssueFault::Full));
         }
         let number = self.first + self.issued;
         if number > LAST_NUMBER {
-            return Err(IssueFault::Spent);
+            return Ok(Err(IssueFault::Spent));
         }
         match make_room(&mut self.waiting, held + 1) {
             Ok(()) => {}
-            Err(_) => return Err(IssueFault::Memory),
+            Err(_) => return Ok(Err(IssueFault::Memory)),
         }
         let waits = is_waiting(&phase);
         let runs = is_running(&phase);
-        match append(&mut self.phases, number, phase) {
-            Ok(()) => {}
-            Err(_) => return Err(IssueFault::Memory),
+        match append(&mut self.phases, number, phase, effect, store) {
+            Ok(Ok(())) => {}
+            Ok(Err(fault)) => return Err(fault),
+            Err(_) => return Ok(Err(IssueFault::Memory)),
         }
         renew(&mut self.waiting, number, false, waits);
         self.issued += 1;
         self.running = recount(self.running, false, runs);
-        Ok(number)
+        Ok(Ok(number))
     }
 
     /// Puts a job that is held into another phase, and gives the one before. It takes no memory.

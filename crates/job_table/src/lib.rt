@@ -14,6 +14,10 @@
 //! know the texts that name jobs. What holds of every history of calls is said by four laws, [`given_jobs_run`],
 //! [`numbers_are_given_once`], [`first_finish_is_kept`] and [`documents_are_right`].
 //!
+//! [`Table::plan`] tells what a move would change, as an effect that can be kept (`effects`); what that leads to is what the move
+//! leaves ([`plans_are_so`]). A move may be made once its effect is stored (`make_kept` of [`moves::Move`]). [`Remade`] makes such
+//! effects again, and gives the table that goes on from them.
+//!
 //! Only `knock` goes over the jobs. Room for a job's record and for its place among those that wait is taken where its number is
 //! given, and texts have two owners from the start ([`Twin`]), so that `send`, `claim`, `look`, `finish` and `kill` take no memory.
 #![tactic(auto)]

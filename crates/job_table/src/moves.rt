@@ -7,8 +7,10 @@ ghost use Rattle.job_table.specs.Steps.{added_reply, ok_reply};
 
 use crate::calls::{self, IssueFault, Killing, Retrieved, Statistics, Verdicts};
 use crate::job::Job;
+use crate::plans::put_if;
 use crate::table::Table;
 use crate::texts::{SharedText, Twin};
+use effects::{NoStore, NotStored, Store};
 use os_io::Memory;
 
 /// What a move does to the looks at a job, for whoever counts them.
@@ -23,10 +25,13 @@ pub enum MoveKind {
 }
 
 /// A move of the table.
-pub trait Move<V: Verdicts> {
-    ghost use Rattle.std.specs.Prelude.{Option, true, IfSome, IfNone, IsTrue, ◌↔◌, IsSome};
+pub trait Move<V: Verdicts>: Sized {
+    ghost use Rattle.std.specs.Prelude.{Option, Some, true, IfOk, IfErr, IfSome, IfNone, IsTrue, ◌↔◌, IsSome};
     ghost use Rattle.job_table.specs.declared.calls.Call.{Call};
     ghost use Rattle.job_table.specs.declared.calls.Reply.{Reply};
+    ghost use Rattle.effects.specs.Stores.{PutsIf};
+    ghost use Rattle.job_table.specs.Kept.{KeptBy};
+    ghost use Rattle.job_table.specs.Plans.{planned};
     ghost use Rattle.job_table.specs.Steps.{May, Step, fits, wants_memory, move_kind};
 
     /// What is answered.
@@ -46,13 +51,34 @@ pub trait Move<V: Verdicts> {
     fn is_made(answer: &Self::Answer) -> bool
         ensures { IsTrue result ↔ IsSome (said answer.now) };
 
-    /// Makes the move at its table. Where there is no memory, the table stays.
+    /// Makes the move at its table, once its effect is stored, where it has one. Where it isn't stored the table stays; where there
+    /// is no memory the table stays, and nothing was put.
+    fn make_kept<S: Store>(
+        self,
+        table: &mut Table<V>,
+        store: &mut S,
+    ) -> Result<Self::Answer, NotStored>
+        requires { May V.right (call self) }
+        ensures ok { IfOk result (λ answer. IfSome (said answer) (λ reply. Step V.right table.old (call self) reply table.new)) }
+        ensures fits { IfOk result (λ answer. IfSome (said answer) (λ reply. fits (call self) reply ≡ true)) }
+        ensures kept { IfOk result (λ answer. KeptBy S.keeps S.too_long S.broken S.faults (planned (call self) table.old) store.old (said answer) store.new) }
+        ensures sure { IfOk result (λ answer. IfNone (said answer) (wants_memory (call self) table.old ≡ true)) }
+        ensures err { IfOk result (λ answer. IfNone (said answer) (table.new ≡ table.old)) }
+        ensures refused { IfErr result (λ fault. (table.new ≡ table.old) × PutsIf S.keeps S.too_long S.broken S.faults (planned (call self) table.old) store.old (Some fault) store.new) };
+
+    /// Makes the move at its table, and keeps no effect. Where there is no memory, the table stays.
     fn make(self, table: &mut Table<V>) -> Self::Answer
         requires { May V.right (call self) }
         ensures ok { IfSome (said result) (λ reply. Step V.right table.old (call self) reply table.new) }
         ensures fits { IfSome (said result) (λ reply. fits (call self) reply ≡ true) }
         ensures sure { IfNone (said result) (wants_memory (call self) table.old ≡ true) }
-        ensures err { IfNone (said result) (table.new ≡ table.old) };
+        ensures err { IfNone (said result) (table.new ≡ table.old) }
+    {
+        match self.make_kept(table, &mut NoStore) {
+            Ok(answer) => answer,
+            Err(_) => unreachable!(),
+        }
+    }
 }
 
 /// A new job, with its number alone.
@@ -74,8 +100,12 @@ impl<V: Verdicts> Move<V> for Issue {
         !matches!(answer, Err(IssueFault::Memory))
     }
 
-    fn make(self, table: &mut Table<V>) -> Result<u64, IssueFault> {
-        table.issue()
+    fn make_kept<S: Store>(
+        self,
+        table: &mut Table<V>,
+        store: &mut S,
+    ) -> Result<Result<u64, IssueFault>, NotStored> {
+        table.issue_kept(store)
     }
 }
 
@@ -102,9 +132,12 @@ impl<V: Verdicts> Move<V> for Send {
         true
     }
 
-    fn make(self, table: &mut Table<V>) -> bool {
+    fn make_kept<S: Store>(self, table: &mut Table<V>, store: &mut S) -> Result<bool, NotStored> {
         let Send { number, osil, osol } = self;
-        table.send(number, osil, osol)
+        match put_if(store, table.plan_send(number, &osil, &osol)) {
+            Ok(()) => Ok(table.send(number, osil, osol)),
+            Err(fault) => Err(fault),
+        }
     }
 }
 
@@ -130,9 +163,13 @@ impl<V: Verdicts> Move<V> for Enter {
         !matches!(answer, Err(IssueFault::Memory))
     }
 
-    fn make(self, table: &mut Table<V>) -> Result<Job, IssueFault> {
+    fn make_kept<S: Store>(
+        self,
+        table: &mut Table<V>,
+        store: &mut S,
+    ) -> Result<Result<Job, IssueFault>, NotStored> {
         let Enter { osil, osol } = self;
-        table.enter(osil, osol)
+        table.enter_kept(osil, osol, store)
     }
 }
 
@@ -157,8 +194,12 @@ impl<V: Verdicts> Move<V> for Claim {
         true
     }
 
-    fn make(self, table: &mut Table<V>) -> Option<Job> {
-        table.claim(self.worker)
+    fn make_kept<S: Store>(
+        self,
+        table: &mut Table<V>,
+        _store: &mut S,
+    ) -> Result<Option<Job>, NotStored> {
+        Ok(table.claim(self.worker))
     }
 }
 
@@ -183,8 +224,8 @@ impl<V: Verdicts> Move<V> for Look {
         true
     }
 
-    fn make(self, table: &mut Table<V>) -> bool {
-        table.look(self.number)
+    fn make_kept<S: Store>(self, table: &mut Table<V>, _store: &mut S) -> Result<bool, NotStored> {
+        Ok(table.look(self.number))
     }
 }
 
@@ -211,13 +252,20 @@ impl<V: Verdicts> Move<V> for Finish {
         true
     }
 
-    fn make(self, table: &mut Table<V>) -> calls::Finish {
+    fn make_kept<S: Store>(
+        self,
+        table: &mut Table<V>,
+        store: &mut S,
+    ) -> Result<calls::Finish, NotStored> {
         let Finish {
             job,
             asked,
             document,
         } = self;
-        table.finish(job, asked, document)
+        match put_if(store, table.plan_finish(&job, asked, &document)) {
+            Ok(()) => Ok(table.finish(job, asked, document)),
+            Err(fault) => Err(fault),
+        }
     }
 }
 
@@ -242,8 +290,15 @@ impl<V: Verdicts> Move<V> for Kill {
         true
     }
 
-    fn make(self, table: &mut Table<V>) -> Killing {
-        table.kill(self.number)
+    fn make_kept<S: Store>(
+        self,
+        table: &mut Table<V>,
+        store: &mut S,
+    ) -> Result<Killing, NotStored> {
+        match put_if(store, table.plan_kill(self.number)) {
+            Ok(()) => Ok(table.kill(self.number)),
+            Err(fault) => Err(fault),
+        }
     }
 }
 
@@ -268,8 +323,12 @@ impl<V: Verdicts> Move<V> for Retrieve {
         answer.is_ok()
     }
 
-    fn make(self, table: &mut Table<V>) -> Result<Retrieved, Memory> {
-        table.retrieve(self.number)
+    fn make_kept<S: Store>(
+        self,
+        table: &mut Table<V>,
+        _store: &mut S,
+    ) -> Result<Result<Retrieved, Memory>, NotStored> {
+        Ok(table.retrieve(self.number))
     }
 }
 
@@ -292,8 +351,12 @@ impl<V: Verdicts> Move<V> for Knock {
         answer.is_ok()
     }
 
-    fn make(self, table: &mut Table<V>) -> Result<Statistics, Memory> {
-        table.knock()
+    fn make_kept<S: Store>(
+        self,
+        table: &mut Table<V>,
+        _store: &mut S,
+    ) -> Result<Result<Statistics, Memory>, NotStored> {
+        Ok(table.knock())
     }
 }
 
@@ -316,8 +379,9 @@ impl<V: Verdicts> Move<V> for Enlist {
         true
     }
 
-    fn make(self, table: &mut Table<V>) {
+    fn make_kept<S: Store>(self, table: &mut Table<V>, _store: &mut S) -> Result<(), NotStored> {
         table.enlist();
+        Ok(())
     }
 }
 
@@ -340,7 +404,8 @@ impl<V: Verdicts> Move<V> for Leave {
         true
     }
 
-    fn make(self, table: &mut Table<V>) {
+    fn make_kept<S: Store>(self, table: &mut Table<V>, _store: &mut S) -> Result<(), NotStored> {
         table.leave();
+        Ok(())
     }
 }

@@ -3,14 +3,15 @@
 ghost use Rattle.std.specs.Prelude.{◌≡◌, Some, None, if◌then◌else◌};
 ghost use Rattle.std.specs.Option.{option_map, option_copied};
 ghost use Rattle.effects.specs.Records.{Deed, deed_of, paper_of};
+ghost use Rattle.effects.specs.Stores.{PutsIf, fault_of};
 ghost use Rattle.job_table.specs.Plans.{planned, has_room, takes_texts, killed_of, finished_of, PlansSo};
 ghost use Rattle.job_table.specs.Jobs.{phase_of};
 
 use crate::calls::{Call, Verdicts};
 use crate::job::{Job, Phase};
 use crate::table::Table;
-use crate::texts::SharedText;
-use effects::{Document, Effect};
+use crate::texts::{SharedText, Twin};
+use effects::{Document, Effect, NotStored, Store};
 
 /// The document of a finish.
 fn document_of(document: &Option<SharedText>) -> Document<'_>
@@ -75,18 +76,59 @@ fn only_if(is: bool, effect: Effect<'_>) -> Option<Effect<'_>>
     if is { Some(effect) } else { None }
 }
 
+/// Puts an effect, where there is one.
+pub(crate) fn put_if<S: Store>(store: &mut S, effect: Option<Effect<'_>>) -> Result<(), NotStored>
+    ensures { PutsIf S.keeps S.too_long S.broken S.faults (option_map deed_of effect.entry) store.old (fault_of result) store.new }
+{
+    match effect {
+        Some(effect) => store.put(&effect),
+        None => Ok(()),
+    }
+}
+
 impl<V: Verdicts> Table<V> {
+    /// The effect of a send.
+    pub(crate) fn plan_send<'a>(
+        &self,
+        number: u64,
+        osil: &'a Twin,
+        osol: &'a Twin,
+    ) -> Option<Effect<'a>>
+        ensures { option_map deed_of result ≡ planned (Call.Send number osil.now osol.now) self.now }
+    {
+        let (osil, osol) = (osil.as_slice(), osol.as_slice());
+        let sent = Effect::Send { number, osil, osol };
+        only_if(takes_texts(self.jobs.phase(number)), sent)
+    }
+
+    /// The effect of a finish.
+    pub(crate) fn plan_finish<'a>(
+        &self,
+        job: &Job,
+        asked: bool,
+        document: &'a Option<SharedText>,
+    ) -> Option<Effect<'a>>
+        ensures { option_map deed_of result ≡ planned (Call.Finish job.now asked document.now) self.now }
+    {
+        let (number, document) = (job.number, document_of(document));
+        let kept = is_kept(job, asked, self.jobs.phase(number));
+        only_if(kept, Effect::Finish { number, document })
+    }
+
+    /// The effect of a kill.
+    pub(crate) fn plan_kill<'a>(&self, number: u64) -> Option<Effect<'a>>
+        ensures { option_map deed_of result ≡ planned (Call.Kill number) self.now }
+    {
+        killing_of(number, self.jobs.phase(number))
+    }
+
     /// The effect that a move has in this table, where it has one. It takes no memory, and changes nothing.
     pub fn plan<'a>(&self, call: &'a Call) -> Option<Effect<'a>>
         ensures { option_map deed_of result ≡ planned call.now self.now }
     {
         match call {
             Call::Issue => only_if(self.jobs.has_room(), Effect::Issue),
-            Call::Send { number, osil, osol } => {
-                let (number, osil, osol) = (*number, osil.as_slice(), osol.as_slice());
-                let sent = Effect::Send { number, osil, osol };
-                only_if(takes_texts(self.jobs.phase(number)), sent)
-            }
+            Call::Send { number, osil, osol } => self.plan_send(*number, osil, osol),
             Call::Enter { osil, osol } => {
                 let (osil, osol) = (osil.as_slice(), osol.as_slice());
                 only_if(self.jobs.has_room(), Effect::Enter { osil, osol })
@@ -95,12 +137,8 @@ impl<V: Verdicts> Table<V> {
                 job,
                 asked,
                 document,
-            } => {
-                let (number, document) = (job.number, document_of(document));
-                let kept = is_kept(job, *asked, self.jobs.phase(number));
-                only_if(kept, Effect::Finish { number, document })
-            }
-            Call::Kill { number } => killing_of(*number, self.jobs.phase(*number)),
+            } => self.plan_finish(job, *asked, document),
+            Call::Kill { number } => self.plan_kill(*number),
             Call::Claim { .. } => None,
             Call::Look { .. } => None,
             Call::Retrieve { .. } => None,

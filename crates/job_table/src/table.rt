@@ -1,13 +1,17 @@
 //! The table.
 
-ghost use Rattle.std.specs.Prelude.{◌≡◌, ◌≤◌, ◌^◌, List, ℕ, Some, None, true, IfOk, OnErr, IsSome};
+ghost use Rattle.std.specs.Prelude.{◌≡◌, ◌≤◌, ◌^◌, List, ℕ, Some, None, true, IfOk, IfErr, OnErr, IsSome};
 ghost use Rattle.job_table.specs.Jobs.{Register, beginning, phase_of};
+ghost use Rattle.effects.specs.Stores.{PutsIf};
+ghost use Rattle.job_table.specs.Kept.{KeptBy, with_texts};
+ghost use Rattle.job_table.specs.Plans.{planned};
 ghost use Rattle.job_table.specs.Steps.{May, Step, Follows, fits, has_document, wants_memory, row_of_move, outcome, added_reply, kills, is_marked};
 
 use crate::calls::{Call, Finish, IssueFault, Killing, Reply, Retrieved, Statistics, Verdicts};
 use crate::job::{Job, Phase};
 use crate::jobs::{Jobs, state_of};
 use crate::texts::{SharedText, Twin};
+use effects::{Effect, NoStore, NotStored, Store};
 use os_io::Memory;
 use std::alloc::Global;
 use std::marker::{Model, PhantomData};
@@ -27,6 +31,20 @@ impl<V: Verdicts> Model for Table<V> {
     ghost Value = { Register };
 
     ghost view = { λ t. t.jobs };
+}
+
+/// The job with a new number and these texts, where there is one.
+fn given(
+    added: Result<u64, IssueFault>,
+    osil: SharedText,
+    osol: SharedText,
+) -> Result<Job, IssueFault>
+    ensures { result ≡ with_texts osil osol added }
+{
+    match added {
+        Ok(number) => Ok(Job { number, osil, osol }),
+        Err(fault) => Err(fault),
+    }
 }
 
 impl<V: Verdicts> Table<V> {
@@ -54,7 +72,22 @@ impl<V: Verdicts> Table<V> {
     pub fn issue(&mut self) -> Result<u64, IssueFault>
         ensures { Follows Call.Issue self.old (added_reply Reply.Issued result) self.new }
     {
-        self.jobs.add(Phase::Issued)
+        match self.issue_kept(&mut NoStore) {
+            Ok(added) => added,
+            Err(_) => unreachable!(),
+        }
+    }
+
+    /// The same, once its effect is stored. Where there is no memory, nothing was put.
+    pub(crate) fn issue_kept<S: Store>(
+        &mut self,
+        store: &mut S,
+    ) -> Result<Result<u64, IssueFault>, NotStored>
+        ensures made { IfOk result (λ added. Follows Call.Issue self.old (added_reply Reply.Issued added) self.new) }
+        ensures kept { IfOk result (λ added. KeptBy S.keeps S.too_long S.broken S.faults (planned Call.Issue self.old) store.old (added_reply Reply.Issued added) store.new) }
+        ensures refused { IfErr result (λ fault. (self.new ≡ self.old) × PutsIf S.keeps S.too_long S.broken S.faults (planned Call.Issue self.old) store.old (Some fault) store.new) }
+    {
+        self.jobs.add_kept(Phase::Issued, &Effect::Issue, store)
     }
 
     /// Sends texts to a job that has its number alone; true where they were taken. It takes no memory.
@@ -72,6 +105,23 @@ impl<V: Verdicts> Table<V> {
     pub fn enter(&mut self, osil: Twin, osol: Twin) -> Result<Job, IssueFault>
         ensures { Follows (Call.Enter osil osol) self.old (added_reply (λ job. Reply.Gave (Some job)) result) self.new }
     {
+        match self.enter_kept(osil, osol, &mut NoStore) {
+            Ok(entered) => entered,
+            Err(_) => unreachable!(),
+        }
+    }
+
+    /// The same, once its effect is stored. Where there is no memory, nothing was put.
+    pub(crate) fn enter_kept<S: Store>(
+        &mut self,
+        osil: Twin,
+        osol: Twin,
+        store: &mut S,
+    ) -> Result<Result<Job, IssueFault>, NotStored>
+        ensures made { IfOk result (λ added. Follows (Call.Enter osil osol) self.old (added_reply (λ job. Reply.Gave (Some job)) added) self.new) }
+        ensures kept { IfOk result (λ added. KeptBy S.keeps S.too_long S.broken S.faults (planned (Call.Enter osil osol) self.old) store.old (added_reply (λ job. Reply.Gave (Some job)) added) store.new) }
+        ensures refused { IfErr result (λ fault. (self.new ≡ self.old) × PutsIf S.keeps S.too_long S.broken S.faults (planned (Call.Enter osil osol) self.old) store.old (Some fault) store.new) }
+    {
         let (kept_osil, osil) = osil.split();
         let (kept_osol, osol) = osol.split();
         let phase = Phase::Running {
@@ -79,8 +129,12 @@ impl<V: Verdicts> Table<V> {
             osol: kept_osol,
             marked: false,
         };
-        match self.jobs.add(phase) {
-            Ok(number) => Ok(Job { number, osil, osol }),
+        let entered = Effect::Enter {
+            osil: osil.as_slice(),
+            osol: osol.as_slice(),
+        };
+        match self.jobs.add_kept(phase, &entered, store) {
+            Ok(added) => Ok(given(added, osil, osol)),
             Err(fault) => Err(fault),
         }
     }

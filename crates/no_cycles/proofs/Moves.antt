@@ -49,9 +49,6 @@ module _ (n m : ℕ) (A : Entries) (a_number : (r j : ℕ) → IsNumber (A r j))
   pub val_rows : SolvesRows n m A val
   val_rows = record { rows = λ i h. let e = row_value n m A a_number basic u dict rest rest_number i h in e.is }
 
-  pub val_basic : (c : ℕ) → basic c ≡ true → val c ≡ value_by (n + m) (u c) rest
-  val_basic c b = rw b refl
-
   pub val_other : (c : ℕ) → basic c ≡ false → val c ≡ rest c
   val_other c b = rw b refl
 

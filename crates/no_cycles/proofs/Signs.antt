@@ -32,10 +32,6 @@ zero_factor a d up e =
     let high = most-from_times (pos 0) a d up (omega (arith, ints)) in
     omega (arith, ints)
 
--- a number's sign goes by its numerator
-pub same_zero : {x y : Ratio} → x ≈ y → y.num ≡ pos 0 → x.num ≡ pos 0
-same_zero {x} {y} e h = zero_factor x.num y.den e.right (let f = e.is in f ∙ ap (λ z. z *ℤ pos x.den) h ∙ zero-*ℤ (pos x.den))
-
 -- a difference is 0 between equal numbers alone
 pub difference_zero : {e x : Ratio} → e ≈ x → (sum e (negative x)).num ≡ pos 0
 difference_zero {e} {x} s = let f = neg-times x.num (pos e.den) in let g = s.is in omega (arith, ints)

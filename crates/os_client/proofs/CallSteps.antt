@@ -1,6 +1,6 @@
 -- What the steps of a call do to its link.
-use Rattle.std.proofs.Common.{◌≡◌, ℕ, ◌⊎◌, inl, inr, List, [], Option, Ok, Err, refl, sym, ◌∙◌, subst}
-use Rattle.std.specs.Prelude.{Result, codes, bytes_eq}
+use Rattle.std.proofs.Common.{◌≡◌, ℕ, ◌⊎◌, inl, inr, List, [], Option, Ok, Err, sym, ◌∙◌, subst}
+use Rattle.std.specs.Prelude.{Result}
 use Rattle.os_io.specs.Streams.{Tells, BothTold, Appends, HasRisen, Sends, SameInput, SameOutput}
 use Rattle.http_link.specs.Outgoing.{request_text}
 use Rattle.http_link.specs.Replies.{BytesCome, ComesPart, IsReadWhole, IsReplyBegun, IsReplyPart, EndsReading}
@@ -8,7 +8,7 @@ use Rattle.soap_calls.specs.declared.call.SoapCall.{SoapCall}
 use Rattle.os_client.specs.declared.fault.CallFault.{CallFault}
 use Rattle.os_client.specs.declared.fault.CallFault.TheVariants.{ReadFault, WriteFault, Memory, Refused, Http, NoReply}
 use Rattle.os_client.specs.Answers.{SaysToCall}
-use Rattle.os_client.specs.LinkCalls.{SendsRequest, FailsToAsk, Hears, FailsToHear, Loses, Listens, CallsWith, Calls, bool_text}
+use Rattle.os_client.specs.LinkCalls.{SendsRequest, FailsToAsk, Hears, FailsToHear, Loses, Listens, CallsWith, Calls}
 
 abbrev Outcome : Type 0
 Outcome = Result (List ℕ) CallFault
@@ -107,11 +107,6 @@ pub calls_as : (a b : SoapCall) (r : Outcome) (old new : Tells) → a ≡ b → 
 calls_as a b r old new e called = subst (λ (c : SoapCall). Calls c r old new) e called
 
 -- ---- yes and no
-
--- what `send` returns says yes or no
-pub said_bool : (text : List ℕ) → (text ≡ codes "true") ⊎ (text ≡ codes "false") → bool_text (bytes_eq text (codes "true")) ≡ text
-said_bool text (inl e) = subst (λ (t : List ℕ). bool_text (bytes_eq t (codes "true")) ≡ t) (sym e) refl
-said_bool text (inr e) = subst (λ (t : List ℕ). bool_text (bytes_eq t (codes "true")) ≡ t) (sym e) refl
 
 -- a call of another name for the same name and body
 pub calls_of : (name body named text : List ℕ) (r : Outcome) (old new : Tells) → name ≡ named → body ≡ text → CallsWith name body r old new → CallsWith named text r old new

@@ -69,10 +69,6 @@ part_of_first t u a b (part, is, q) = (part, part_more t u part is, q)
 -- ---- one call after another
 
 module _ {X E : Type 0} where
-  -- a count after a count that stayed
-  pub counts_on : (result : Result X E) (a b c : ℕ) → b ≡ a → Counts result b c → Counts result a c
-  counts_on result a b c same counted = subst (λ n. Counts result n c) same counted
-
   -- nothing is written
   pub writes_nothing : (x : X) (t : Tells) → Writes {X = X} {E = E} (Ok x) [] t t
   writes_nothing x t = record {
@@ -112,12 +108,6 @@ module _ {X Y E : Type 0} where
     input = w.input;
   }
 
-  -- a write that failed, of all
-  pub writes_failed : (R : E → Type 0) (result : Result X E) → IsErrAnd result R → (e : E) (t : List ℕ) {a b : Tells} → Writes {X = Y} {E = E} (Err e) t a b → Writes result t a b
-  writes_failed R (Ok x) is e t w = absurd is
-  writes_failed R (Err y) is e t w =
-      record { written = w.written; handed_on = w.handed_on; counted = w.counted; input = w.input }
-
   -- a write that went well, whatever it answers
   pub writes_well : (x : X) (y : Y) (t : List ℕ) {a b : Tells} → Writes {X = Y} {E = E} (Ok y) t a b → Writes {X = X} {E = E} (Ok x) t a b
   writes_well x y t w =
@@ -143,11 +133,6 @@ module _ {X Y E : Type 0} where
     };
     handed_on = tt;
   }
-
-  -- a write that failed, so that nothing more is handed on
-  pub sends_failed : (R : E → Type 0) (result : Result X E) → IsErrAnd result R → (e : E) (t : List ℕ) {a b : Tells} → Writes {X = Y} {E = E} (Err e) t a b → Sends result t a b
-  sends_failed R (Ok x) is e t w = absurd is
-  sends_failed R (Err y) is e t w = record { writes = writes_failed R (Err y) is e t w; handed_on = tt }
 
 -- ---- a whole text, part by part
 

@@ -1,15 +1,6 @@
 -- What is told of one call after another.
-use Rattle.std.proofs.Common.{◌≡◌, ℕ, List, ◌++◌, take, drop, Option, Some, None, sym, ◌∙◌, ap, append_assoc}
-use Rattle.std.proofs.lemmas.List.{take-append-drop}
-use Rattle.os_io.specs.Streams.{BothTold, Takes}
-
--- a read after a read: the bytes taken so far, and then those of this read
-pub reads_more : (x y z : Option (List ℕ)) (taken buffer : List ℕ) (n : ℕ) → BothTold x y (λ before after. before ≡ taken ++ after) → BothTold y z (Takes buffer n) → BothTold x z (λ before after. before ≡ (taken ++ take n buffer) ++ after)
-reads_more None y z taken buffer n p q = tt
-reads_more (Some x) None z taken buffer n p q = absurd p
-reads_more (Some x) (Some y) None taken buffer n p q = absurd q
-reads_more (Some x) (Some y) (Some z) taken buffer n p (q, r) =
-    p ∙ ap (λ k. taken ++ k) (sym (take-append-drop n y) ∙ ap (λ k. k ++ drop n y) (sym q) ∙ ap (λ k. take n buffer ++ k) (sym r)) ∙ sym (append_assoc taken (take n buffer) z)
+use Rattle.std.proofs.Common.{Option, Some, None, ap}
+use Rattle.os_io.specs.Streams.{BothTold}
 
 -- what stood before stands
 pub tells_same : {X : Type 0} (x : Option X) (R : X → X → Type 0) → ((a : X) → R a a) → BothTold x x R

@@ -1,15 +1,16 @@
 -- A start tag is gone past, or refused, in the state that the code holds.
-use Rattle.osil_grammar.proofs.Words.{◌≡◌, ◌∙◌, ◌+◌, ◌<◌, ◌≤◌, ℕ, ℤ, List, [], ◌++◌, replicate, refl, ap, sym, subst, arith, Result, Ok, Err, Attribute, Start, Finish, Frac, Row, AllPass, FirstFails, first_with, Stop, Place, Listing, Starts, RowIndices, ColumnIndices, Values, Led, told_refusal, Refusal, nought, SaysTimes, SaysStep, SaysWholeStep, SaysVar, SaysRow, SaysIndex, State, begins, Told, tests, refusal, leads, Fails, into, SaysRun, Begins, BeginsAt, EndsAt, Steps}
+use Rattle.osil_grammar.proofs.Words.{◌≡◌, ◌∙◌, ◌+◌, ◌<◌, ◌≤◌, ℕ, ℤ, List, [], ◌++◌, replicate, refl, ap, sym, subst, arith, Result, Ok, Err, Attribute, Start, Finish, Frac, Row, AllPass, FirstFails, first_with, Stop, Place, Listing, Values, Led, told_refusal, Refusal, nought, SaysTimes, SaysStep, SaysWholeStep, SaysVar, SaysRow, SaysIndex, State, begins, Told, tests, refusal, leads, Fails, into, SaysRun, Begins, BeginsAt, EndsAt, Steps}
 use Rattle.instance.specs.declared.parts.Var.{Var as Variable}
 use Rattle.osil_grammar.specs.declared.fault.Refusal as code
-use Rattle.osil_grammar.specs.declared.stop.Stop.TheVariants.{Refused, Memory}
+use Rattle.osil_grammar.specs.declared.stop.Refused as kept
+use Rattle.tag_tests.specs.declared.marks.Stop.TheVariants.{Refused, Memory}
 use Rattle.osil_grammar.specs.declared.elements.Place.TheVariants as places
 use Rattle.osil_grammar.specs.declared.elements.Led.TheVariants as led
 
 -- a refusal at a start tag
-pub begin_refused : (s z : State) (name : List ℕ) (as' : List Attribute) (p : Place) (r : code.Refusal) (n : ℕ) (stop : Stop) → stop ≡ Refused r n → n ≡ s.count + 1 → FirstFails (Fails s (Start name as')) (refusal s (Start name as')) (tests (begins (led.To p))) (told_refusal r) → BeginsAt {X = Unit {0}} s name as' (led.To p) z (Err stop)
+pub begin_refused : (s z : State) (name : List ℕ) (as' : List Attribute) (p : Place) (r : code.Refusal) (n : ℕ) (stop : Stop) → stop ≡ Refused (record { refusal = r; at = n }) → n ≡ s.count + 1 → FirstFails (Fails s (Start name as')) (refusal s (Start name as')) (tests (begins (led.To p))) (told_refusal r) → BeginsAt {X = Unit {0}} s name as' (led.To p) z (Err stop)
 begin_refused s z name as' p r n stop is at h =
-    subst (λ (f : Stop). BeginsAt {X = Unit {0}} s name as' (led.To p) z (Err f)) (sym (is ∙ ap (λ (k : ℕ). Refused r k) at))
+    subst (λ (f : Stop). BeginsAt {X = Unit {0}} s name as' (led.To p) z (Err f)) (sym (is ∙ ap (λ (k : ℕ). let told : kept.Refused = record { refusal = r; at = k } in Refused told) at))
     (first_with (Fails s (Start name as')) (refusal s (Start name as')) (λ (q : Refusal). let t : Told = record { refusal = q; at = s.count + 1 } in t) (tests (begins (led.To p))) (told_refusal r) h)
 
 -- all tests pass, and the state is left that the code made of its own, which is that before
@@ -32,10 +33,8 @@ pub value_begun : (s now : State) → s ≡ now → (name : List ℕ) (as' : Lis
 value_begun s now same name as' n d t z is none h = begun s now same name as' (places.El Values) z h.0 (n, d, h.1.0, h.1.1, is ∙ ap (λ (l : List ℕ). let y : State = record (into s (places.El Values)) { times = n; step = d; text = l } in y) none)
 
 says_whole : (l : Listing) → (l ≡ Values → ⊥) → (as' : List Attribute) (s z : State) → (n : ℕ) × (d : ℤ) × SaysTimes as' n × SaysWholeStep as' d × (z ≡ record s { times = n; whole_step = d; text = [] }) → SaysRun l as' s z
-says_whole Starts other as' s z h = h
-says_whole RowIndices other as' s z h = h
-says_whole ColumnIndices other as' s z h = h
 says_whole Values other as' s z h = absurd (other refl)
+says_whole l other as' s z h = h
 
 pub whole_begun : (s now : State) → s ≡ now → (name : List ℕ) (as' : List Attribute) (l : Listing) → (l ≡ Values → ⊥) → (n : ℕ) (d : ℤ) (t : List ℕ) (z : State) → z ≡ record (into s (places.El l)) { times = n; whole_step = d; text = t } → t ≡ [] → AllPass (Fails now (Start name as')) (tests (begins (led.To (places.El l)))) × (SaysTimes as' n × SaysWholeStep as' d) → BeginsAt {X = Unit {0}} now name as' (led.To (places.El l)) z (Ok tt)
 whole_begun s now same name as' l other n d t z is none h = begun s now same name as' (places.El l) z h.0 (says_whole l other as' (into s (places.El l)) z (n, d, h.1.0, h.1.1, is ∙ ap (λ (u : List ℕ). let y : State = record (into s (places.El l)) { times = n; whole_step = d; text = u } in y) none))
@@ -47,11 +46,11 @@ one_obj s name as' n pass says = let few : 1 < s.objs + n → ⊥ = λ many. pas
 -- a start tag by where it leads
 pub at_begin : {X : Type 0} (s : State) (name : List ℕ) (as' : List Attribute) (l : Led) (z : State) (r : Result X Stop) → leads s.place name ≡ l → BeginsAt s name as' l z r → Steps s (Start name as') z r
 at_begin {X} s name as' l z (Ok x) there h = subst (λ (k : Led). BeginsAt {X = X} s name as' k z (Ok x)) (sym there) h
-at_begin {X} s name as' l z (Err (Refused q n)) there h = subst (λ (k : Led). BeginsAt {X = X} s name as' k z (Err (Refused q n))) (sym there) h
+at_begin {X} s name as' l z (Err (Refused q)) there h = subst (λ (k : Led). BeginsAt {X = X} s name as' k z (Err (Refused q))) (sym there) h
 at_begin {X} s name as' l z (Err Memory) there h = tt
 
 -- an end tag by the element that the marks before end in
 pub at_end : {X : Type 0} (s z : State) (name : List ℕ) (r : Result X Stop) → EndsAt s s.place z r → Steps s (Finish name) z r
 at_end s z name (Ok x) h = h name
-at_end s z name (Err (Refused q n)) h = h name
+at_end s z name (Err (Refused q)) h = h name
 at_end s z name (Err Memory) h = tt

@@ -1,33 +1,33 @@
 -- What is kept of marks, and what a decoder answers of the bytes that it was fed.
-use Rattle.osil_grammar.proofs.Words.{◌≡◌, ℕ, ◌⊎◌, inl, inr, List, [], ◌∷◌, refl, sym, subst, Result, Ok, Err, Mark, AreTaken, Parts, Stop, OsilFault, State, start, osil, IsInstanceText, DecodeFails, Steps, told_of, instance_of, IsFit, IsKept, Refuse, tree_fault}
+use Rattle.osil_grammar.proofs.Words.{◌≡◌, ℕ, ◌⊎◌, inl, inr, List, [], ◌∷◌, refl, sym, subst, Result, Ok, Err, MatchResult, Mark, AreTaken, Takes, Parts, Stop, OsilFault, State, start, osil, IsInstanceText, DecodeFails, Steps, told_of, instance_of, IsFit, Refuse, tree_fault}
 use Rattle.doc_tree.specs.declared.fault.TreeFault.{TreeFault}
 use Rattle.doc_tree.specs.declared.fault.TreeFault.TheVariants as tree
 use Rattle.document_tags.specs.Documents.{OfDocument, TreeFails}
-use Rattle.tag_tests.specs.declared.marks.Stop as marks
+use Rattle.tag_tests.specs.declared.marks.Stop.TheVariants as stops
 use Rattle.tag_tests.specs.Readers as readers
 use Rattle.tag_tests.specs.Readers.{Reads}
 use Rattle.tag_tests.proofs.Forms.{refused_here}
-use Rattle.osil_grammar.specs.declared.stop.Stop.TheVariants as stops
-use Rattle.osil_grammar.specs.declared.fault.Refusal as code
-use Rattle.osil_grammar.specs.declared.fault.OsilFault.TheVariants.{Tree, Refused, Memory}
-use Rattle.osil_grammar.specs.declared.decoder.Refused as kept
+use Rattle.osil_grammar.specs.declared.stop.Refused as kept
+use Rattle.osil_grammar.specs.declared.fault.OsilFault.TheVariants.{Refused}
 use Rattle.osil_grammar.proofs.HeldNumbers.{fit_start, fit_kept}
 
-module _ {X : Type 0} (s : State) (m : Mark) (z w : State) (result : Result (Unit {0}) (marks.Stop kept.Refused)) where
-  -- a step that was kept leaves a state that is fit
-  pub kept_fit : (step : Result X Stop) → IsFit s → Steps s m z step → IsKept step z w result → IsFit w
-  kept_fit (Ok x) fit steps k = subst IsFit (sym k.0) (fit_kept s (m ∷ []) z (z, steps, refl) fit)
-  kept_fit (Err (stops.Refused r n)) fit steps k = subst IsFit (sym k.0) fit_start
-  kept_fit (Err stops.Memory) fit steps k = subst IsFit (sym k.0) fit_start
-
-  abbrev Told : Result (Unit {0}) (marks.Stop kept.Refused) → Type 0
+module _ {X : Type 0} (s : State) (m : Mark) (z w : State) where
+  abbrev Told : Result X Stop → Type 0
   Told r = readers.Steps (AreTaken osil) Refuse s (m ∷ []) w r
 
+  -- a step that was kept leaves a state that is fit
+  pub kept_fit : (step : Result X Stop) → IsFit s → Steps s m z step → MatchResult step (λ _. w ≡ z) (λ _. w ≡ start) → IsFit w
+  kept_fit (Ok x) fit steps is = subst IsFit (sym is) (fit_kept s (m ∷ []) z (z, steps, refl) fit)
+  kept_fit (Err stop) fit steps is = subst IsFit (sym is) fit_start
+
   -- and is told
-  pub kept_told : (step : Result X Stop) → Steps s m z step → IsKept step z w result → Told result
-  kept_told (Ok x) steps k = subst Told (sym k.1) (w, subst (λ (y : State). Steps {X = X} s m y (Ok x)) (sym k.0) steps, refl)
-  kept_told (Err (stops.Refused r n)) steps k = subst Told (sym k.1) (refused_here osil s m [] (told_of r n) steps)
-  kept_told (Err stops.Memory) steps k = subst Told (sym k.1) tt
+  step_told : (step : Result X Stop) → Steps s m z step → MatchResult step (λ _. w ≡ z) (λ _. w ≡ start) → Told step
+  step_told (Ok x) steps is = (w, subst (λ (y : State). Takes osil s m y) (sym is) steps, refl)
+  step_told (Err (stops.Refused r)) steps is = refused_here osil s m [] (told_of r.refusal r.at) steps
+  step_told (Err stops.Memory) steps is = tt
+
+  pub kept_told : (step result : Result X Stop) → result ≡ step → Steps s m z step → MatchResult step (λ _. w ≡ z) (λ _. w ≡ start) → Told result
+  kept_told step result is steps held = subst Told (sym is) (step_told step steps held)
 
 -- a document that stands for an instance, and one that is refused
 pub is_instance : (bytes : List ℕ) (z : State) (p : Parts) → p ≡ instance_of z → OfDocument (Reads {R = kept.Refused} (AreTaken osil) Refuse start) bytes (Ok z) → IsInstanceText bytes p

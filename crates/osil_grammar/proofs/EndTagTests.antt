@@ -3,7 +3,8 @@ use Rattle.osil_grammar.proofs.Words.{◌≡◌, ◌∙◌, ℕ, ◌<◌, ◌≤
 use Rattle.evidence.specs.Sums as evidence
 use Rattle.tag_tests.specs.declared.numbers.Unread.TheVariants as unread
 use Rattle.osil_grammar.specs.declared.fault.Refusal as code
-use Rattle.osil_grammar.specs.declared.stop.Stop.TheVariants.{Refused, Memory}
+use Rattle.osil_grammar.specs.declared.stop.Refused as kept
+use Rattle.tag_tests.specs.declared.marks.Stop.TheVariants.{Refused, Memory}
 use Rattle.osil_grammar.specs.declared.elements.Place.TheVariants as places
 use Rattle.osil_grammar.specs.declared.elements.Part.TheVariants as parts
 use Rattle.osil_grammar.specs.declared.elements.Listing.TheVariants as listings
@@ -12,9 +13,9 @@ use Rattle.osil_grammar.specs.Grammars.{decimal}
 use Rattle.osil_grammar.proofs.TagNumbers.{wide_of, decimal_read, whole_read, decimal_once}
 
 -- a refusal at an end tag
-pub end_refused : {X : Type 0} (s : State) (p : Place) (Says : X → Type 0) (r : code.Refusal) (n : ℕ) (stop : Stop) → stop ≡ Refused r n → n ≡ end_ordinal s p → ((name : List ℕ) → FirstFails (Fails s (Finish name)) (refusal s (Finish name)) (tests (ends p)) (told_refusal r)) → EndAnswers s p (Err stop) Says
+pub end_refused : {X : Type 0} (s : State) (p : Place) (Says : X → Type 0) (r : code.Refusal) (n : ℕ) (stop : Stop) → stop ≡ Refused (record { refusal = r; at = n }) → n ≡ end_ordinal s p → ((name : List ℕ) → FirstFails (Fails s (Finish name)) (refusal s (Finish name)) (tests (ends p)) (told_refusal r)) → EndAnswers s p (Err stop) Says
 end_refused {X} s p Says r n stop is at h =
-    subst (λ (f : Stop). EndAnswers s p (Err f) Says) (sym (is ∙ ap (λ (k : ℕ). Refused r k) at))
+    subst (λ (f : Stop). EndAnswers s p (Err f) Says) (sym (is ∙ ap (λ (k : ℕ). let told : kept.Refused = record { refusal = r; at = k } in Refused told) at))
     (λ name. first_with (Fails s (Finish name)) (refusal s (Finish name)) (λ (q : Refusal). let t : Told = record { refusal = q; at = end_ordinal s p } in t) (tests (ends p)) (told_refusal r) (h name))
 
 -- the text of a `coef` or an `el` isn't a number that is read
@@ -51,18 +52,14 @@ run_added s x added vs reads run is name = (
 -- a run of whole numbers
 pub whole_out : (s : State) (name : List ℕ) (l : Listing) (z : ℤ) → (l ≡ listings.Values → ⊥) → IsWholeText s.text z → (k : ℕ) × (k < s.times) × (IsInRange (z +ℤ pos k *ℤ s.whole_step) (limit s l) → ⊥) → FirstFails (Fails s (Finish name)) (refusal s (Finish name)) (tests (ends (places.El l))) refusals.Index
 whole_out s name listings.Values z other reads h = absurd (other refl)
-whole_out s name listings.Starts z other reads h = text_behind s name whole (out_of_range listings.Starts) refusals.Index (whole_read s.text z reads) (record { first = z; begins = reads; k = h.0; inside = h.1; out = h.2 }) refl
-whole_out s name listings.RowIndices z other reads h = text_behind s name whole (out_of_range listings.RowIndices) refusals.Index (whole_read s.text z reads) (record { first = z; begins = reads; k = h.0; inside = h.1; out = h.2 }) refl
-whole_out s name listings.ColumnIndices z other reads h = text_behind s name whole (out_of_range listings.ColumnIndices) refusals.Index (whole_read s.text z reads) (record { first = z; begins = reads; k = h.0; inside = h.1; out = h.2 }) refl
+whole_out s name l z other reads h = text_behind s name whole (out_of_range l) refusals.Index (whole_read s.text z reads) (record { first = z; begins = reads; k = h.0; inside = h.1; out = h.2 }) refl
 
 whole_passes : (s : State) (name : List ℕ) (l : Listing) (z : ℤ) → IsWholeText s.text z → ((k : ℕ) → k < s.times → IsInRange (z +ℤ pos k *ℤ s.whole_step) (limit s l)) → Fails s (Finish name) (out_of_range l) → ⊥
 whole_passes s name l z reads inside h = h.out (subst (λ (w : ℤ). IsInRange (w +ℤ pos h.k *ℤ s.whole_step) (limit s l)) (whole_once s.text z h.first reads h.begins) (inside h.k h.inside))
 
 pub whole_text : (s : State) (name : List ℕ) (l : Listing) (u : Unread) (r : Refusal) → (l ≡ listings.Values → ⊥) → IsUnread u whole s.text → r ≡ unread_refusal u → FirstFails (Fails s (Finish name)) (refusal s (Finish name)) (tests (ends (places.El l))) r
 whole_text s name listings.Values u r other h is = absurd (other refl)
-whole_text s name listings.Starts u r other h is = text_refused s name whole u (out_of_range listings.Starts ∷ []) r h is
-whole_text s name listings.RowIndices u r other h is = text_refused s name whole u (out_of_range listings.RowIndices ∷ []) r h is
-whole_text s name listings.ColumnIndices u r other h is = text_refused s name whole u (out_of_range listings.ColumnIndices ∷ []) r h is
+whole_text s name l u r other h is = text_refused s name whole u (out_of_range l ∷ []) r h is
 
 -- the same of what the code holds, which is that state
 pub cost_ends : (s now : State) → s ≡ now → (x : Frac) (cs : List Frac) → IsDecimal now.text (ratio x) → (y : Frac) × (cs ≡ set s.costs s.variable y) × IsSame (ratio y) (sum (get_or (ratios s.costs) s.variable evidence.none) (ratio x)) × SumFits (get_or (ratios s.costs) s.variable evidence.none) (ratio x) → EndsAt {X = Unit {0}} now places.Coef (record s { place = places.Obj; costs = cs }) (Ok tt)
@@ -84,15 +81,11 @@ range_within z n m most h = (h.0, (let high = h.1 in omega (arith, ints, most)))
 
 pub whole_added : (l : Listing) (s z : State) → (l ≡ listings.Values → ⊥) → AddsRun l s z → AddsRun l (out_of s (places.El l)) (record z { place = places.Listed l })
 whole_added listings.Values s z other h = absurd (other refl)
-whole_added listings.Starts s z other (new, adds, is) = (new, adds, ap (λ (y : State). let p : State = record y { place = places.Listed listings.Starts } in p) is)
-whole_added listings.RowIndices s z other (new, adds, is) = (new, adds, ap (λ (y : State). let p : State = record y { place = places.Listed listings.RowIndices } in p) is)
-whole_added listings.ColumnIndices s z other (new, adds, is) = (new, adds, ap (λ (y : State). let p : State = record y { place = places.Listed listings.ColumnIndices } in p) is)
+whole_added l s z other (new, adds, is) = (new, adds, ap (λ (y : State). let p : State = record y { place = places.Listed l } in p) is)
 
 pub whole_pass : (s : State) (name : List ℕ) (l : Listing) (z : ℤ) → (l ≡ listings.Values → ⊥) → IsWholeText s.text z → ((k : ℕ) → k < s.times → IsInRange (z +ℤ pos k *ℤ s.whole_step) (limit s l)) → AllPass (Fails s (Finish name)) (tests (ends (places.El l)))
 whole_pass s name listings.Values z other reads inside = absurd (other refl)
-whole_pass s name listings.Starts z other reads inside = text_pass s name whole (out_of_range listings.Starts) (whole_read s.text z reads) (whole_passes s name listings.Starts z reads inside)
-whole_pass s name listings.RowIndices z other reads inside = text_pass s name whole (out_of_range listings.RowIndices) (whole_read s.text z reads) (whole_passes s name listings.RowIndices z reads inside)
-whole_pass s name listings.ColumnIndices z other reads inside = text_pass s name whole (out_of_range listings.ColumnIndices) (whole_read s.text z reads) (whole_passes s name listings.ColumnIndices z reads inside)
+whole_pass s name l z other reads inside = text_pass s name whole (out_of_range l) (whole_read s.text z reads) (whole_passes s name l z reads inside)
 
 pub whole_ends : (l : Listing) (now after s : State) → s ≡ after → (l ≡ listings.Values → ⊥) → ((name : List ℕ) → AllPass (Fails now (Finish name)) (tests (ends (places.El l)))) → AddsRun l now after → EndsAt {X = Unit {0}} now (places.El l) (record s { place = places.Listed l }) (Ok tt)
 whole_ends l now after s same other pass adds = λ name. (pass name, subst (λ (y : State). AddsRun l (out_of now (places.El l)) (record y { place = places.Listed l })) (sym same) (whole_added l now after other adds))
@@ -104,7 +97,7 @@ matrix_differs s name all narrow many = inr ((λ h. let few = h.1 in omega (arit
 -- what more is so where all tests pass
 pub answers_more : {X : Type 0} (s : State) (p : Place) (r : Result X Stop) (P Q : X → Type 0) → ((x : X) → P x → Q x) → EndAnswers s p r P → EndAnswers s p r Q
 answers_more s p (Ok x) P Q more h = λ name. let both = h name in (both.0, more x both.1)
-answers_more s p (Err (Refused r n)) P Q more h = h
+answers_more s p (Err (Refused r)) P Q more h = h
 answers_more s p (Err Memory) P Q more h = tt
 
 -- its end tag is gone past, in the state that the code holds

@@ -1,9 +1,9 @@
 -- Entries that are the sums of what is stored: each stands at a place of something stored, and they are no more than that.
-use Rattle.osil_grammar.proofs.Words.{◌≡◌, ◌∙◌, ℕ, zero, suc, ◌+◌, ◌<◌, ◌≤◌, ◌⊎◌, inl, inr, ⊎_elim, Bool, true, false, cond, nat_eq, ℤ, pos, List, [], ◌∷◌, length, get_or, replicate, refl, ap, sym, subst, arith, unsigned_abs, ◌-ℤ◌, All, cases_Bool, ne_eqb, and_left, and_right, ints, All-nil, All-cons, All-head, All-tail, All-append, Ratio, IsSame, sum, ratio, Frac, Entry, IsBefore, IsInside, entry, entries, lines_from, placed, placed_all, place_sum, AreEntriesOf, AreWithin}
+use Rattle.osil_grammar.proofs.Words.{◌≡◌, ◌∙◌, ℕ, suc, ◌+◌, ◌<◌, ◌≤◌, ◌⊎◌, inl, inr, Bool, true, false, cond, ℤ, List, [], ◌∷◌, length, get_or, replicate, refl, ap, sym, subst, arith, unsigned_abs, ◌-ℤ◌, All, cases_Bool, All-nil, All-cons, All-head, All-tail, All-append, All-replicate, Ratio, IsSame, sum, ratio, Entry, IsInside, entry, entries, lines_from, placed, placed_all, place_sum, AreEntriesOf, AreWithin}
 use Rattle.evidence.specs.Sums as evidence
 use Rattle.evidence.specs.Instance as Of
 use Rattle.osil_grammar.proofs.RowEntries.{Rises, rises}
-use Rattle.osil_grammar.proofs.Places.{is_at, is_at-own, is_at-same}
+use Rattle.osil_grammar.proofs.Places.{is_at, is_at-own, is_at-same, apart, apart_places, zero_of}
 
 -- something is stored at this place
 abbrev Stands : ℕ → ℕ → List Of.Entry → Type 0
@@ -22,12 +22,6 @@ sum_stands (p ∷ l) s i j =
       ]
     ]
 
--- an entry that rises above another stands elsewhere
-earlier_apart : (a b : Entry) → IsBefore a b → is_at b.row b.col (entry a) ≡ false
-earlier_apart a b h =
-    ⊎_elim (λ l. and_left (nat_eq a.row b.row) (nat_eq a.col b.col) (ne_eqb a.row b.row (λ q. omega (arith, l, q))))
-    (λ p. and_right (nat_eq a.row b.row) (nat_eq a.col b.col) (ne_eqb a.col b.col (let l = p.1 in λ q. omega (arith, l, q)))) h
-
 -- so what stands at an entry's place is its own value
 own_values : (es : List Entry) → Rises es → All (λ x. Of.entry_at (entries es) x.row x.col ≡ ratio x.value) es
 own_values [] up = All-nil (λ (x : Entry). Of.entry_at (entries []) x.row x.col ≡ ratio x.value)
@@ -36,10 +30,7 @@ own_values (e ∷ es) up =
     (ap (λ (b : Bool). cond b (ratio e.value) (Of.entry_at (entries es) e.row e.col)) (is_at-own (entry e)))
     (λ k d h.
     let x : Entry = get_or es k d in
-    ap (λ (b : Bool). cond b (ratio e.value) (Of.entry_at (entries es) x.row x.col)) (earlier_apart e x (up.0 k d h)) ∙ own_values es up.1 k d h)
-
-zero_of : (x : Frac) → IsSame (ratio x) evidence.none → x.numer ≡ pos 0
-zero_of x same = omega (arith, ints, same)
+    ap (λ (b : Bool). cond b (ratio e.value) (Of.entry_at (entries es) x.row x.col)) (apart e x (up.0 k d h)) ∙ own_values es up.1 k d h)
 
 all_stand : (l : List Of.Entry) (es : List Entry) → AreEntriesOf l es → All (λ e. Stands e.row e.col l) es
 all_stand l es are k d h =
@@ -85,9 +76,6 @@ module _ (i j x y : ℕ) (other : i ≡ x → j ≡ y → ⊥) where
   still_stands (p ∷ l) (inl at) = kept_one (is_at i j p) p (without i j l) refl (inl at)
   still_stands (p ∷ l) (inr later) = kept_one (is_at i j p) p (without i j l) refl (inr (still_stands l later))
 
-apart_places : (a b : Entry) → IsBefore a b → a.row ≡ b.row → a.col ≡ b.col → ⊥
-apart_places a b h row col = ⊎_elim (λ l. omega (arith, l, row)) (λ p. let l = p.1 in omega (arith, l, col)) h
-
 no_more : (es : List Entry) (l : List Of.Entry) → Rises es → All (λ e. Stands e.row e.col l) es → length es ≤ length l
 no_more [] l up all = omega arith
 no_more (e ∷ es) l up all =
@@ -112,29 +100,20 @@ one_placed true line index rows cols value at by = (by, at)
 one_placed false line index rows cols value at by = (at, by)
 
 all_placed : (b : Bool) (rows cols : ℕ) (lines : List ℕ) (indices : List ℤ) (values : List Ratio) → All (λ k. k < cond b cols rows) lines → All (λ z. unsigned_abs z < cond b rows cols) indices → All (IsPlaced rows cols) (placed_all b lines indices values)
-all_placed b rows cols [] indices values at by = All-nil (IsPlaced rows cols)
-all_placed b rows cols (l ∷ lines) [] values at by = All-nil (IsPlaced rows cols)
-all_placed b rows cols (l ∷ lines) (n ∷ indices) [] at by = All-nil (IsPlaced rows cols)
 all_placed b rows cols (l ∷ lines) (n ∷ indices) (v ∷ values) at by =
     All-cons (IsPlaced rows cols) (placed b l (unsigned_abs n) v) (placed_all b lines indices values)
     (one_placed b l (unsigned_abs n) rows cols v (All-head (λ (k : ℕ). k < cond b cols rows) l lines at) (All-head (λ (z : ℤ). unsigned_abs z < cond b rows cols) n indices by))
     (all_placed b rows cols lines indices values (All-tail (λ (k : ℕ). k < cond b cols rows) l lines at) (All-tail (λ (z : ℤ). unsigned_abs z < cond b rows cols) n indices by))
+all_placed b rows cols lines indices values at by = All-nil (IsPlaced rows cols)
 
 few_placed : (b : Bool) (lines : List ℕ) (indices : List ℤ) (values : List Ratio) → length (placed_all b lines indices values) ≤ length values
-few_placed b [] indices values = omega arith
-few_placed b (l ∷ lines) [] values = omega arith
-few_placed b (l ∷ lines) (n ∷ indices) [] = omega arith
 few_placed b (l ∷ lines) (n ∷ indices) (v ∷ values) = let rest = few_placed b lines indices values in omega (arith, rest)
-
-same_line : (m j n : ℕ) → j < n → All (λ k. k < n) (replicate m j)
-same_line zero j n h = All-nil (λ (k : ℕ). k < n)
-same_line (suc m) j n h = All-cons (λ (k : ℕ). k < n) j (replicate m j) h (same_line m j n h)
+few_placed b lines indices values = omega arith
 
 lines_below : (starts : List ℤ) (j n : ℕ) → j + length starts ≤ n + 1 → All (λ k. k < n) (lines_from j starts)
-lines_below [] j n h = All-nil (λ (k : ℕ). k < n)
-lines_below (a ∷ []) j n h = All-nil (λ (k : ℕ). k < n)
 lines_below (a ∷ b ∷ more) j n h =
-    All-append (λ (k : ℕ). k < n) (replicate (unsigned_abs (b -ℤ a)) j) (lines_from (j + 1) (b ∷ more)) (same_line (unsigned_abs (b -ℤ a)) j n (omega (arith, h))) (lines_below (b ∷ more) (j + 1) n (omega (arith, h)))
+    All-append (λ (k : ℕ). k < n) (replicate (unsigned_abs (b -ℤ a)) j) (lines_from (j + 1) (b ∷ more)) (All-replicate (λ (k : ℕ). k < n) (unsigned_abs (b -ℤ a)) j (omega (arith, h))) (lines_below (b ∷ more) (j + 1) n (omega (arith, h)))
+lines_below starts j n h = All-nil (λ (k : ℕ). k < n)
 
 pub are_within : (b : Bool) (rows cols : ℕ) (starts indices : List ℤ) (values : List Ratio) (es : List Entry) → length starts ≤ cond b cols rows + 1 → All (λ z. unsigned_abs z < cond b rows cols) indices → length values ≤ 100000 → AreEntriesOf (placed_all b (lines_from 0 starts) indices values) es → AreWithin rows cols es
 are_within b rows cols starts indices values es lines by few are =

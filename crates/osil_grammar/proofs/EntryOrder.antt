@@ -1,5 +1,5 @@
 -- Entries in order: by the test of a sort, by indices, and after a change at the end.
-use Rattle.osil_grammar.proofs.Words.{◌≡◌, ℕ, zero, suc, ◌+◌, ◌<◌, Bool, true, false, not, cond, nat_eq, List, [], ◌∷◌, ◌++◌, length, get_or, arith, refl, sym, ◌∙◌, ap₂, subst, ⊎_elim, inl, inr, ◌&&◌, All, filter, cases_Bool, cases_order, true≢false, lt-ltb, le-ltb, eq-eqb, ne_eqb, All-nil, All-cons, Entry, IsBefore, IsAscending, Follow, AllFollow, IsRising}
+use Rattle.osil_grammar.proofs.Words.{◌≡◌, ◌⊎◌, ℕ, zero, suc, ◌+◌, ◌<◌, Bool, true, false, not, cond, nat_eq, List, [], ◌∷◌, ◌++◌, length, get_or, arith, refl, sym, ◌∙◌, ap₂, subst, ⊎_elim, inl, inr, ◌&&◌, All, filter, cases_Bool, cases_order, true≢false, lt-ltb, le-ltb, eq-eqb, ne_eqb, All-nil, All-cons, Entry, IsBefore, IsAscending, Follow, AllFollow, IsRising}
 use Rattle.std.specs.Ordering.{is_lt, nat_cmp, ordering_then}
 
 -- the test that the first is before the second, of rows and columns
@@ -81,13 +81,16 @@ before_trans a b c p q =
 pub before_alike : (a b c d : Entry) → a.row ≡ c.row → a.col ≡ c.col → b.row ≡ d.row → b.col ≡ d.col → IsBefore a b → IsBefore c d
 before_alike a b c d p q r s h = ⊎_elim (λ l. inl (omega arith)) (λ l. inr (omega arith, omega arith)) h
 
--- one that is not before another and has another place is behind it
-pub before_or_same : (a b : Entry) → (IsBefore b a → ⊥) → ((a.row ≡ b.row) × (a.col ≡ b.col) → ⊥) → IsBefore a b
-before_or_same a b late apart =
+-- of two one is before the other, or both have one place
+pub which_first : (e f : Entry) → IsBefore e f ⊎ (IsBefore f e ⊎ ((e.row ≡ f.row) × (e.col ≡ f.col)))
+which_first e f =
     ⊎_elim
-    (λ same. ⊎_elim (λ e. absurd (apart (same, e))) (λ o. ⊎_elim (λ l. inr (same, l)) (λ m. absurd (late (inr (sym same, m)))) o) (cases_order a.col b.col))
-    (λ o. ⊎_elim (λ l. inl l) (λ m. absurd (late (inl m))) o)
-    (cases_order a.row b.row)
+    (λ same. ⊎_elim (λ c. inr (inr (same, c))) (λ o. ⊎_elim (λ l. inl (inr (same, l))) (λ m. inr (inl (inr (sym same, m)))) o) (cases_order e.col f.col))
+    (λ o. ⊎_elim (λ l. inl (inl l)) (λ m. inr (inl (inl m))) o)
+    (cases_order e.row f.row)
+
+pub before_or_same : (a b : Entry) → (IsBefore b a → ⊥) → ((a.row ≡ b.row) × (a.col ≡ b.col) → ⊥) → IsBefore a b
+before_or_same a b late apart = ⊎_elim (λ before. before) (λ other. absurd (⊎_elim late apart other)) (which_first a b)
 
 -- another entry in place of one, and another end behind it
 pub follow_change : (R : Entry → Entry → Type 0) (x y : Entry) (xs ys : List Entry) → ((a : Entry) → R a x → R a y) → (Follow R x xs → Follow R y ys) → (a : Entry) (es : List Entry) → Follow R a (es ++ x ∷ xs) → Follow R a (es ++ y ∷ ys)

@@ -1,11 +1,11 @@
 -- One entry more among the sums of those before it.
-use Rattle.osil_grammar.proofs.Words.{◌≡◌, ℕ, ◌+◌, ◌/◌, ◌<◌, ◌≤◌, true, false, nat_eq, cond, pos, ◌+ℤ◌, List, [], ◌∷◌, ◌++◌, length, get_or, take, drop, arith, refl, sym, ◌∙◌, ap, subst, ⊎_elim, inl, inr, ◌&&◌, ◌⊎◌, unsigned_abs, All, div-one, ints, ne_eqb, eq-eqb, and_left, and_right, and_from, cases_eq, set, append_assoc, map_push, map-append, take_all, take_more, take-append-drop, drop_more, set_at, length-take-le, All-weaker, All-map, Ratio, sum, IsNumber, IsSame, left_term, right_term, AreFourWithin, SumFits, IsSame-trans, IsSame-sum, sum-number, none-sum, sums_same, whole-reduced, ratio, Frac, Entry, IsBefore, entry, entries, place_sum, HasWidePlace, Follow, IsNotBehind, IsInOrder, IsRising, AreSumsAt, AreJoined}
+use Rattle.osil_grammar.proofs.Words.{◌≡◌, ℕ, ◌+◌, ◌/◌, ◌<◌, ◌≤◌, false, nat_eq, cond, pos, ◌+ℤ◌, List, [], ◌∷◌, ◌++◌, length, get_or, take, drop, arith, refl, sym, ◌∙◌, ap, subst, ⊎_elim, inl, inr, ◌&&◌, ◌⊎◌, unsigned_abs, All, div-one, ints, ne_eqb, and_left, and_right, cases_eq, set, append_assoc, map_push, map-append, take_all, take_more, take-append-drop, drop_more, set_at, length-take-le, All-weaker, All-map, Ratio, sum, IsNumber, IsSame, left_term, right_term, AreFourWithin, SumFits, IsSame-trans, IsSame-sum, sum-number, none-sum, sums_same, whole-reduced, ratio, Frac, Entry, IsBefore, entry, entries, place_sum, HasWidePlace, Follow, IsNotBehind, IsInOrder, IsRising, AreSumsAt, AreJoined}
 use Rattle.rational.specs.Width.{most}
 use Rattle.rational.proofs.CommonDivisors.{one_divides}
 use Rattle.evidence.specs.Sums as evidence
 use Rattle.evidence.specs.Instance as Of
 use Rattle.fraction.proofs.Sums.{sum_fits}
-use Rattle.osil_grammar.proofs.Places.{is_at, entry_at-push_other, entry_at-push_here, entry_at-nowhere, place_sum-push, place_sum-number, IsWideFrom, wide_push, is_at-same}
+use Rattle.osil_grammar.proofs.Places.{is_at, entry_at-push_other, entry_at-push_here, entry_at-nowhere, place_sum-push, place_sum-number, IsWideFrom, wide_push, is_at-same, is_at-own, apart}
 use Rattle.osil_grammar.proofs.EntryOrder.{all_before_last, before_alike, before_or_same, all_change, all_behind_one}
 
 -- 0 and a fraction have a sum that fits
@@ -29,12 +29,6 @@ none_fits f =
     (one_divides (unsigned_abs (left_term evidence.none (ratio f) 1 +ℤ right_term evidence.none (ratio f) 1)), one_divides 1, λ d p q. q)
     (parts_within (ratio f) f.numer_within f.denom_within)
 
--- an entry at a lesser place is at another
-pub apart : (a b : Entry) → IsBefore a b → is_at b.row b.col (entry a) ≡ false
-apart a b h =
-    ⊎_elim (λ l. and_left (nat_eq a.row b.row) (nat_eq a.col b.col) (ne_eqb a.row b.row (λ q. omega arith)))
-    (λ p. and_right (nat_eq a.row b.row) (nat_eq a.col b.col) (ne_eqb a.col b.col (let l = p.1 in λ q. omega arith))) h
-
 others_apart : (es : List Entry) (x : Entry) → IsRising (es ++ x ∷ []) → All (λ e. is_at x.row x.col e ≡ false) (entries es)
 others_apart es x r = All-map (λ e. is_at x.row x.col e ≡ false) entry es (All-weaker (λ e. IsBefore e x) (λ e. is_at x.row x.col (entry e) ≡ false) (λ e h. apart e x h) es (all_before_last es x r))
 
@@ -46,9 +40,6 @@ place_cases i j x =
     (λ p. inr (and_left (nat_eq x.row i) (nat_eq x.col j) (ne_eqb x.row i p)))
     (cases_eq x.row i)
 
-at_own : (x : Entry) → is_at x.row x.col (entry x) ≡ true
-at_own x = and_from (nat_eq x.row x.row) (nat_eq x.col x.col) (eq-eqb x.row x.row refl) (eq-eqb x.col x.col refl)
-
 -- the sums with one entry more, where the sums stay at the other places and its own is so
 module _ (before old new : List Entry) (x : Entry) where
   more_at : ((i j : ℕ) → is_at i j (entry x) ≡ false → IsSame (Of.entry_at (entries new) i j) (place_sum evidence.none (entries before) i j)) → IsSame (Of.entry_at (entries new) x.row x.col) (sum (place_sum evidence.none (entries before) x.row x.col) (ratio x.value)) → (i j : ℕ) → IsSame (Of.entry_at (entries new) i j) (place_sum evidence.none (entries (before ++ x ∷ [])) i j)
@@ -57,7 +48,7 @@ module _ (before old new : List Entry) (x : Entry) where
       let summed : (i j : ℕ) → place_sum evidence.none (entries (before ++ x ∷ [])) i j ≡ cond (is_at i j (entry x)) (sum (place_sum evidence.none (entries before) i j) (ratio x.value)) (place_sum evidence.none (entries before) i j) = λ i j. ap (λ l. place_sum evidence.none l i j) pushed ∙ place_sum-push evidence.none (entries before) (entry x) i j in
       ⊎_elim
       (λ here.
-      let there : place_sum evidence.none (entries (before ++ x ∷ [])) x.row x.col ≡ sum (place_sum evidence.none (entries before) x.row x.col) (ratio x.value) = summed x.row x.col ∙ ap (λ b. cond b (sum (place_sum evidence.none (entries before) x.row x.col) (ratio x.value)) (place_sum evidence.none (entries before) x.row x.col)) (at_own x) in
+      let there : place_sum evidence.none (entries (before ++ x ∷ [])) x.row x.col ≡ sum (place_sum evidence.none (entries before) x.row x.col) (ratio x.value) = summed x.row x.col ∙ ap (λ b. cond b (sum (place_sum evidence.none (entries before) x.row x.col) (ratio x.value)) (place_sum evidence.none (entries before) x.row x.col)) (is_at-own (entry x)) in
       let at_x : IsSame (Of.entry_at (entries new) x.row x.col) (place_sum evidence.none (entries (before ++ x ∷ [])) x.row x.col) = subst (λ s. IsSame (Of.entry_at (entries new) x.row x.col) s) (sym there) own in
       subst (λ k. IsSame (Of.entry_at (entries new) k j) (place_sum evidence.none (entries (before ++ x ∷ [])) k j)) (sym here.0)
       (subst (λ k. IsSame (Of.entry_at (entries new) x.row k) (place_sum evidence.none (entries (before ++ x ∷ [])) x.row k)) (sym here.1) at_x))
@@ -77,7 +68,7 @@ joined_new before old rest x at order rise =
     let pushed : entries (old ++ x ∷ []) ≡ entries old ++ entry x ∷ [] = map_push entry old x in
     let nothing : Of.entry_at (entries old) x.row x.col ≡ evidence.none = entry_at-nowhere (entries old) x.row x.col (others_apart old x rise) in
     let empty : IsSame evidence.none place = subst (λ s. IsSame s place) nothing (at.sums x.row x.col) in
-    let own : Of.entry_at (entries (old ++ x ∷ [])) x.row x.col ≡ ratio x.value = ap (λ l. Of.entry_at l x.row x.col) pushed ∙ entry_at-push_here (entries old) (entry x) x.row x.col (others_apart old x rise) (at_own x) in
+    let own : Of.entry_at (entries (old ++ x ∷ [])) x.row x.col ≡ ratio x.value = ap (λ l. Of.entry_at l x.row x.col) pushed ∙ entry_at-push_here (entries old) (entry x) x.row x.col (others_apart old x rise) (is_at-own (entry x)) in
     let added : IsSame (ratio x.value) (sum place (ratio x.value)) = subst (λ s. IsSame s (sum place (ratio x.value))) (none-sum (ratio x.value)) (IsSame-sum evidence.none place (ratio x.value) empty) in
     record {
       sums = record {
@@ -103,7 +94,7 @@ follow_same a b (c ∷ rest) p q f = (λ h. f.0 (before_alike c b c a refl refl 
 
 at_place : (es : List Entry) (last x : Entry) → last.row ≡ x.row → last.col ≡ x.col → IsRising (es ++ last ∷ []) → Of.entry_at (entries (es ++ last ∷ [])) x.row x.col ≡ ratio last.value
 at_place es last x row col rise =
-    let own : Of.entry_at (entries (es ++ last ∷ [])) last.row last.col ≡ ratio last.value = ap (λ l. Of.entry_at l last.row last.col) (map_push entry es last) ∙ entry_at-push_here (entries es) (entry last) last.row last.col (others_apart es last rise) (at_own last) in
+    let own : Of.entry_at (entries (es ++ last ∷ [])) last.row last.col ≡ ratio last.value = ap (λ l. Of.entry_at l last.row last.col) (map_push entry es last) ∙ entry_at-push_here (entries es) (entry last) last.row last.col (others_apart es last rise) (is_at-own (entry last)) in
     subst (λ k. Of.entry_at (entries (es ++ last ∷ [])) k x.col ≡ ratio last.value) row (subst (λ k. Of.entry_at (entries (es ++ last ∷ [])) last.row k ≡ ratio last.value) col own)
 
 elsewhere : (es : List Entry) (last x : Entry) (i j : ℕ) → last.row ≡ x.row → last.col ≡ x.col → is_at i j (entry x) ≡ false → Of.entry_at (entries (es ++ last ∷ [])) i j ≡ Of.entry_at (entries es) i j

@@ -1,5 +1,5 @@
 -- The lists of the matrix and its entries are never held at once.
-use Rattle.osil_grammar.proofs.Words.{◌≡◌, ℕ, ◌≤◌, inl, inr, Bool, true, false, cond, List, [], ◌∷◌, refl, sym, subst, arith, bytes_eq, Mark, Start, Char, Finish, AllPass, Takes, AreTaken, Place, Led, State, start, Child, begins, tests, content, otherwise, among, leads, Fails, Begins, Ends, Leaves, osil, IsSound, is_in_matrix, AreHeldApart, HoldsApart, IsFit}
+use Rattle.osil_grammar.proofs.Words.{◌≡◌, ℕ, ◌≤◌, inl, inr, Bool, true, false, cond, List, [], ◌∷◌, refl, sym, subst, arith, bytes_eq, Mark, Start, Char, Finish, AllPass, Takes, AreTaken, Place, Led, State, start, Child, begins, tests, content, otherwise, among, leads, Fails, Begins, Ends, Leaves, osil, is_in_matrix, AreHeldApart, HoldsApart, IsFit}
 use Rattle.osil_grammar.specs.declared.elements.Part.TheVariants as parts
 use Rattle.osil_grammar.specs.declared.elements.Listing.TheVariants as listings
 use Rattle.osil_grammar.specs.declared.elements.Place.TheVariants as places

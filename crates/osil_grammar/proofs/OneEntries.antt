@@ -1,30 +1,10 @@
 -- The entries of a matrix are said in one way.
-use Rattle.osil_grammar.proofs.Words.{◌≡◌, ◌∙◌, ℕ, zero, suc, ◌+◌, ◌<◌, length, get_or, ◌⊎◌, inl, inr, ⊎_elim, Bool, true, false, cond, nat_eq, ℤ, pos, List, [], ◌∷◌, map, refl, ap, sym, subst, arith, lit<, unsigned_abs, ◌&&◌, All, cases_Bool, cases_order, ne_eqb, and_left, and_right, ints, All-nil, All-cons, All-head, All-tail, All-map, All-weaker, Ratio, IsNumber, IsSame, sum, IsSame-trans, sum-number, Frac, Entry, ratio, same_fraction, IsBefore, IsAscending, entry, entries, lines_from, placed, placed_all, stored, place_sum, AreEntriesOf, State, lists_so_far, IsMatrixOf, ratios}
+use Rattle.osil_grammar.proofs.Words.{◌≡◌, ◌∙◌, ℕ, inl, inr, ⊎_elim, Bool, true, false, cond, nat_eq, ℤ, pos, List, [], ◌∷◌, map, refl, ap, sym, subst, lit<, unsigned_abs, ◌&&◌, All, cases_Bool, All-nil, All-cons, All-head, All-tail, All-map, All-weaker, Ratio, IsNumber, IsSame, sum, IsSame-trans, sum-number, Frac, Entry, ratio, same_fraction, IsBefore, entry, entries, lines_from, placed, placed_all, stored, place_sum, AreEntriesOf, State, lists_so_far, IsMatrixOf, ratios}
 use Rattle.evidence.specs.Sums as evidence
 use Rattle.evidence.specs.Instance as Of
-use Rattle.osil_grammar.proofs.EntryOrder.{before_trans}
-use Rattle.osil_grammar.proofs.Places.{is_at, is_at-own, is_at-same, entry_at-nowhere, number_either}
-
--- each entry is before all those behind it
-abbrev Rises : List Entry → Type 0
-Rises [] = Unit {0}
-Rises (e ∷ es) = All (λ x. IsBefore e x) es × Rises es
-
-behind_ascends : (e : Entry) (es : List Entry) → IsAscending (e ∷ es) → IsAscending es
-behind_ascends e es up k d inside =
-    let same : suc k + 1 ≡ suc (k + 1) = omega arith in
-    subst (λ (n : ℕ). IsBefore (get_or es k d) (get_or (e ∷ es) n d)) same (up (suc k) d (omega (arith, inside)))
-
-first_before : (e : Entry) (es : List Entry) → IsAscending (e ∷ es) → (k : ℕ) (d : Entry) → k < length es → IsBefore e (get_or es k d)
-first_before e es up zero d inside = up 0 d (omega (arith, inside))
-first_before e es up (suc k) d inside =
-    let same : k + 1 ≡ suc k = omega arith in
-    let next : IsBefore (get_or es k d) (get_or es (suc k) d) = subst (λ (n : ℕ). IsBefore (get_or es k d) (get_or es n d)) same (behind_ascends e es up k d (omega (arith, inside))) in
-    before_trans e (get_or es k d) (get_or es (suc k) d) (first_before e es up k d (omega (arith, inside))) next
-
-rises : (es : List Entry) → IsAscending es → Rises es
-rises [] up = tt
-rises (e ∷ es) up = (first_before e es up, rises es (behind_ascends e es up))
+use Rattle.osil_grammar.proofs.EntryOrder.{before_trans, which_first}
+use Rattle.osil_grammar.proofs.Places.{is_at, is_at-own, is_at-same, behind, zero_of, entry_at-nowhere, number_either}
+use Rattle.osil_grammar.proofs.RowEntries.{Rises, rises}
 
 -- entries that stand for the same numbers at all places
 abbrev Alike : List Entry → List Entry → Type 0
@@ -33,21 +13,12 @@ Alike es fs = (i j : ℕ) → IsSame (Of.entry_at (entries es) i j) (Of.entry_at
 abbrev AreSome : List Entry → Type 0
 AreSome es = All (λ e. e.value.numer ≡ pos 0 → ⊥) es
 
--- an entry behind another stands elsewhere
-later_apart : (a b : Entry) → IsBefore a b → is_at a.row a.col (entry b) ≡ false
-later_apart a b h =
-    ⊎_elim (λ l. and_left (nat_eq b.row a.row) (nat_eq b.col a.col) (ne_eqb b.row a.row (λ q. omega (arith, l, q))))
-    (λ p. and_right (nat_eq b.row a.row) (nat_eq b.col a.col) (ne_eqb b.col a.col (let l = p.1 in λ q. omega (arith, l, q)))) h
-
 -- nothing stands at the place of one that is before all
 nowhere : (e : Entry) (es : List Entry) → All (λ x. IsBefore e x) es → Of.entry_at (entries es) e.row e.col ≡ evidence.none
-nowhere e es later = entry_at-nowhere (entries es) e.row e.col (All-map (λ (x : Of.Entry). is_at e.row e.col x ≡ false) entry es (All-weaker (λ (x : Entry). IsBefore e x) (λ (x : Entry). is_at e.row e.col (entry x) ≡ false) (λ x before. later_apart e x before) es later))
+nowhere e es later = entry_at-nowhere (entries es) e.row e.col (All-map (λ (x : Of.Entry). is_at e.row e.col x ≡ false) entry es (All-weaker (λ (x : Entry). IsBefore e x) (λ (x : Entry). is_at e.row e.col (entry x) ≡ false) (λ x before. behind e.row e.col e x (is_at-own (entry e)) before) es later))
 
 own : (e : Entry) (es : List Entry) → Of.entry_at (entries (e ∷ es)) e.row e.col ≡ ratio e.value
 own e es = ap (λ (b : Bool). cond b (ratio e.value) (Of.entry_at (entries es) e.row e.col)) (is_at-own (entry e))
-
-zero_of : (x : Frac) → IsSame (ratio x) evidence.none → x.numer ≡ pos 0
-zero_of x same = omega (arith, ints, same)
 
 -- one that is before all others isn't said by them
 missing : (e : Entry) (es fs : List Entry) → All (λ x. IsBefore e x) fs → (e.value.numer ≡ pos 0 → ⊥) → Alike (e ∷ es) fs → ⊥
@@ -59,13 +30,6 @@ turned es fs alike i j = sym (alike i j)
 
 later_all : (e f : Entry) (fs : List Entry) → IsBefore e f → All (λ x. IsBefore f x) fs → All (λ x. IsBefore e x) (f ∷ fs)
 later_all e f fs before later = All-cons (λ (x : Entry). IsBefore e x) f fs before (All-weaker (λ (x : Entry). IsBefore f x) (λ (x : Entry). IsBefore e x) (λ x behind. before_trans e f x before behind) fs later)
-
-which_first : (e f : Entry) → IsBefore e f ⊎ (IsBefore f e ⊎ ((e.row ≡ f.row) × (e.col ≡ f.col)))
-which_first e f =
-    ⊎_elim
-    (λ same. ⊎_elim (λ c. inr (inr (same, c))) (λ o. ⊎_elim (λ l. inl (inr (same, l))) (λ m. inr (inl (inr (sym same, m)))) o) (cases_order e.col f.col))
-    (λ o. ⊎_elim (λ l. inl (inl l)) (λ m. inr (inl (inl m))) o)
-    (cases_order e.row f.row)
 
 same_entry : (e f : Entry) → e.row ≡ f.row → e.col ≡ f.col → e.value ≡ f.value → e ≡ f
 same_entry e f a b c =
@@ -116,15 +80,13 @@ placed_value true line index value = refl
 placed_value false line index value = refl
 
 place_number : (b : Bool) (lines : List ℕ) (indices : List ℤ) (values : List Ratio) (start : Ratio) (i j : ℕ) → IsNumber start → All IsNumber values → IsNumber (place_sum start (placed_all b lines indices values) i j)
-place_number b [] indices values start i j number all = number
-place_number b (l ∷ lines) [] values start i j number all = number
-place_number b (l ∷ lines) (n ∷ indices) [] start i j number all = number
 place_number b (l ∷ lines) (n ∷ indices) (v ∷ values) start i j number all =
     let e : Of.Entry = placed b l (unsigned_abs n) v in
     let rest = All-tail IsNumber v values all in
     let here : IsNumber e.value = subst IsNumber (sym (placed_value b l (unsigned_abs n) v)) (All-head IsNumber v values all) in
     number_either (nat_eq e.row i && nat_eq e.variable j) (place_sum (sum start e.value) (placed_all b lines indices values) i j) (place_sum start (placed_all b lines indices values) i j)
     (place_number b lines indices values (sum start e.value) i j (sum-number start e.value number here) rest) (place_number b lines indices values start i j number rest)
+place_number b lines indices values start i j number all = number
 
 fracs_numbers : (xs : List Frac) → All IsNumber (ratios xs)
 fracs_numbers [] = All-nil IsNumber

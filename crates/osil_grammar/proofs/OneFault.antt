@@ -20,14 +20,11 @@ alike_told : (f g : OsilFault) (s t : List ℕ) → AreAlike f g → IsFaultText
 alike_told (Tree f) (Tree g) s t same a b = tree_text_once (codes "osil") g s t (subst (λ (e : TreeFault). IsTreeText e s) same a) b
 alike_told (Refused r n) (Refused q m) s t same a b = a ∙ ap (λ (x : refusals.Refusal). refusal_text x n) same.0 ∙ ap (λ (k : ℕ). refusal_text (told_refusal q) k) same.1 ∙ sym b
 alike_told Memory g s t same a b = absurd a
-alike_told (Tree f) (Refused q m) s t same a b = absurd same
-alike_told (Refused r n) (Tree g) s t same a b = absurd same
-alike_told f Memory s t same a b = absurd b
+alike_told f g s t same a b = absurd same
 
 has_text : (f : OsilFault) (s : List ℕ) → IsFaultText f s → f ≢ Memory
-has_text (Tree f) s a same = cc
-has_text (Refused r n) s a same = cc
 has_text Memory s a same = a
+has_text f s a same = cc
 
 pub told_once : (bytes : List ℕ) (f g : OsilFault) (s t : List ℕ) → DecodeFails bytes f → DecodeFails bytes g → IsFaultText f s → IsFaultText g t → s ≡ t
 told_once bytes f g s t h k a b = alike_told f g s t (faults_alike bytes f g (has_text f s a) (has_text g t b) h k) a b

@@ -1,11 +1,10 @@
 -- An instance is written in one way.
-use Rattle.osil_grammar.proofs.Words.{◌≡◌, ◌∙◌, ℕ, ◌+◌, List, [], ◌∷◌, ap, sym, inl, inr, decimal, Nodes, Element, Frac, End, NegInf, At, Inf, Entry, Var, Row, Goal, Parts, IsEndText, WriteVars, WriteRows, WriteCosts, CountsCosts, WritesGoal, WriteValues, WriteLists, WritesInstance}
+use Rattle.osil_grammar.proofs.Words.{◌≡◌, ◌∙◌, ℕ, ◌+◌, List, [], ◌∷◌, ap, sym, inl, inr, decimal, Nodes, Element, Frac, End, At, Entry, Var, Row, Goal, Parts, IsEndText, WriteVars, WriteRows, WriteCosts, CountsCosts, WritesGoal, WriteValues, WriteLists, WritesInstance}
 use Rattle.decimal_text.proofs.PlainTexts.{plain_once}
 
 end_once : (end : End) (s t : List ℕ) → IsEndText end s → IsEndText end t → s ≡ t
-end_once NegInf s t p q = p ∙ sym q
 end_once (At x) s t p q = plain_once x s t p q
-end_once Inf s t p q = p ∙ sym q
+end_once end s t p q = p ∙ sym q
 
 vars_once : (vs : List Var) (a b : Nodes) → WriteVars vs a → WriteVars vs b → a ≡ b
 vars_once [] a b p q = p ∙ sym q

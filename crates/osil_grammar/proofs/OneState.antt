@@ -1,5 +1,5 @@
 -- What start tags and texts say is one thing, so a mark that is taken leaves one state.
-use Rattle.osil_grammar.proofs.Words.{◌≡◌, ◌∙◌, ◌+◌, ℕ, zero, suc, inl, inr, ℤ, pos, Bool, cond, true, false, List, [], ◌∷◌, ◌++◌, map, get_or, set, replicate, refl, ap, sym, subst, arith, lit<, ◌||◌, Option, None, Some, MatchOption, IsSomeAnd, bytes_eq, codes, true≢false, Attribute, Mark, Char, Ratio, IsNumber, IsSame, sum, negative, IsSame-trans, sum-number, Frac, End, NegInf, At, Inf, Entry, ratio, ratios, same_fraction, SaysEnd, IsCount, IsWholeText, IsDecimal, only_inf, only_neg_inf, count_once, whole_once, value_of, Row, Sense, Min, Max, LeavesOne, Domain, Continuous, Integer, Binary, Listing, Place, whole_run, ratio_run, AreSame, IsEndAt, raised, lowered, IsBinary, IsLess, IsSense, IsDeclared, SaysCount, nought, SaysStep, SaysWholeStep, letters, IsLetterOf, IsOfDomain, SaysVar, SaysRow, SaysSense, State, Kind, begins, text, ends, kind, attributes, count_name, part_row, into, out_of, is_variables, SaysRun, Begins, Passes, AddsWholes, AddsRun, AddsCost, Ends, Leaves, osil}
+use Rattle.osil_grammar.proofs.Words.{◌≡◌, ◌∙◌, ◌+◌, ℕ, zero, suc, inl, inr, ℤ, pos, Bool, cond, true, false, List, [], ◌∷◌, ◌++◌, map, get_or, set, replicate, refl, ap, sym, subst, arith, lit<, ◌||◌, Option, None, Some, IsSomeAnd, bytes_eq, codes, Attribute, Mark, Char, Ratio, IsNumber, IsSame, sum, negative, IsSame-trans, sum-number, Frac, End, NegInf, At, Inf, Entry, ratio, ratios, same_fraction, SaysEnd, IsCount, IsWholeText, IsDecimal, only_inf, only_neg_inf, count_once, whole_once, value_of, Row, Sense, Min, Max, LeavesOne, Domain, Continuous, Integer, Binary, Listing, Place, whole_run, ratio_run, AreSame, IsEndAt, raised, lowered, IsBinary, IsLess, IsSense, IsDeclared, SaysCount, nought, SaysStep, SaysWholeStep, letters, IsLetterOf, IsOfDomain, SaysVar, SaysRow, SaysSense, State, Kind, begins, text, ends, kind, attributes, count_name, part_row, into, out_of, is_variables, SaysRun, Begins, Passes, AddsWholes, AddsRun, AddsCost, Ends, Leaves, osil}
 use Rattle.evidence.specs.Sums as evidence
 use Rattle.instance.specs.declared.parts.Var.{Var as Variable}
 use Rattle.osil_grammar.specs.declared.elements.Part.TheVariants as parts
@@ -7,20 +7,13 @@ use Rattle.osil_grammar.specs.declared.elements.Listing.TheVariants as listings
 use Rattle.osil_grammar.specs.declared.elements.Place.TheVariants as places
 use Rattle.osil_grammar.specs.declared.elements.Led.TheVariants as led
 use Rattle.osil_grammar.proofs.TagNumbers.{decimal_once}
-use Rattle.osil_grammar.proofs.StartTagTests.{times_once, constant_once}
+use Rattle.osil_grammar.proofs.StartTagTests.{said_once, times_once, constant_once}
 use Rattle.osil_grammar.proofs.OneEntries.{matrix_once}
-
--- texts that a test tells apart
-texts_apart : (s t : List ℕ) → bytes_eq s s ≡ true → bytes_eq s t ≡ false → s ≡ t → ⊥
-texts_apart s t on off same = true≢false (sym on ∙ ap (λ (x : List ℕ). bytes_eq s x) same ∙ off)
+use Rattle.osil_grammar.proofs.Places.{number_either}
 
 -- a number has one fraction
 frac_once : (x y : Frac) (r : Ratio) → IsNumber r → IsSame (ratio x) r → IsSame (ratio y) r → x ≡ y
 frac_once x y r number a b = same_fraction x y (IsSame-trans (ratio x) r (ratio y) number a (sym b))
-
-says_once : {X : Type 0} (Default : X → Type 0) (Is : List ℕ → X → Type 0) → ((x y : X) → Default x → Default y → x ≡ y) → ((text : List ℕ) (x y : X) → Is text x → Is text y → x ≡ y) → (o : Option (List ℕ)) (x y : X) → MatchOption o (Default x) (λ t. Is t x) → MatchOption o (Default y) (λ t. Is t y) → x ≡ y
-says_once Default Is one read None x y a b = one x y a b
-says_once Default Is one read (Some t) x y a b = read t x y a b
 
 bound_once : (t : List ℕ) (x y : End) → SaysEnd t x → SaysEnd t y → x ≡ y
 bound_once t x NegInf a b = only_neg_inf t x a b
@@ -30,25 +23,17 @@ bound_once t Inf (At y) a b = sym (only_inf t (At y) b a)
 bound_once t (At x) (At y) a b = ap (λ (z : Frac). At z) (decimal_once t x y a b)
 
 end_at_once : (r : Ratio) → IsNumber r → (x y : End) → IsEndAt x r → IsEndAt y r → x ≡ y
-end_at_once r number NegInf y a b = absurd a
-end_at_once r number Inf y a b = absurd a
-end_at_once r number (At x) NegInf a b = absurd b
-end_at_once r number (At x) Inf a b = absurd b
 end_at_once r number (At x) (At y) a b = ap (λ (z : Frac). At z) (frac_once x y r number a b)
-
-either_number : (b : Bool) (x y : Ratio) → IsNumber x → IsNumber y → IsNumber (cond b x y)
-either_number true x y p q = p
-either_number false x y p q = q
+end_at_once r number (At x) y a b = absurd b
+end_at_once r number x y a b = absurd a
 
 raised_number : (x : End) → IsNumber (raised x)
-raised_number NegInf = lit< tt
-raised_number (At f) = either_number (evidence.is_below (ratio f) evidence.none) evidence.none (ratio f) (lit< tt) f.above
-raised_number Inf = lit< tt
+raised_number (At f) = number_either (evidence.is_below (ratio f) evidence.none) evidence.none (ratio f) (lit< tt) f.above
+raised_number x = lit< tt
 
 lowered_number : (x : End) → IsNumber (lowered x)
-lowered_number NegInf = lit< tt
-lowered_number (At f) = either_number (evidence.is_below (lowered Inf) (ratio f)) (lowered Inf) (ratio f) (lit< tt) f.above
-lowered_number Inf = lit< tt
+lowered_number (At f) = number_either (evidence.is_below (lowered Inf) (ratio f)) (lowered Inf) (ratio f) (lit< tt) f.above
+lowered_number x = lit< tt
 
 -- a variable
 same_var : (v w : Variable) → v.lb ≡ w.lb → v.ub ≡ w.ub → v.whole ≡ w.whole → v ≡ w
@@ -68,26 +53,23 @@ of_domain_once Continuous lb ub v w a b = as_said lb ub false v w a b
 of_domain_once Integer lb ub v w a b = as_said lb ub true v w a b
 of_domain_once Binary lb ub v w a b = as_binary lb ub v w a b
 
+abbrev letter_read : List ℕ → Option Domain
+letter_read t = cond (bytes_eq t (codes "C")) (Some Continuous) (cond (bytes_eq t (codes "B")) (Some Binary) (Some Integer))
+
+letter_is : (t : List ℕ) (d : Domain) → IsLetterOf letters t d → letter_read t ≡ Some d
+letter_is t d (inl a) = ap letter_read a.0 ∙ ap (λ (x : Domain). Some x) (sym a.1)
+letter_is t d (inr (inl a)) = ap letter_read a.0 ∙ ap (λ (x : Domain). Some x) (sym a.1)
+letter_is t d (inr (inr (inl a))) = ap letter_read a.0 ∙ ap (λ (x : Domain). Some x) (sym a.1)
+letter_is t d (inr (inr (inr a))) = absurd a
+
 letter_once : (t : List ℕ) (d e : Domain) → IsLetterOf letters t d → IsLetterOf letters t e → d ≡ e
-letter_once t d e (inl a) (inl b) = a.1 ∙ sym b.1
-letter_once t d e (inr (inl a)) (inr (inl b)) = a.1 ∙ sym b.1
-letter_once t d e (inr (inr (inl a))) (inr (inr (inl b))) = a.1 ∙ sym b.1
-letter_once t d e (inl a) (inr (inl b)) = absurd (texts_apart (codes "C") (codes "B") refl refl (sym a.0 ∙ b.0))
-letter_once t d e (inl a) (inr (inr (inl b))) = absurd (texts_apart (codes "C") (codes "I") refl refl (sym a.0 ∙ b.0))
-letter_once t d e (inr (inl a)) (inl b) = absurd (texts_apart (codes "B") (codes "C") refl refl (sym a.0 ∙ b.0))
-letter_once t d e (inr (inl a)) (inr (inr (inl b))) = absurd (texts_apart (codes "B") (codes "I") refl refl (sym a.0 ∙ b.0))
-letter_once t d e (inr (inr (inl a))) (inl b) = absurd (texts_apart (codes "I") (codes "C") refl refl (sym a.0 ∙ b.0))
-letter_once t d e (inr (inr (inl a))) (inr (inl b)) = absurd (texts_apart (codes "I") (codes "B") refl refl (sym a.0 ∙ b.0))
-letter_once t d e (inr (inr (inr a))) b = absurd a
-letter_once t d e (inl a) (inr (inr (inr b))) = absurd b
-letter_once t d e (inr (inl a)) (inr (inr (inr b))) = absurd b
-letter_once t d e (inr (inr (inl a))) (inr (inr (inr b))) = absurd b
+letter_once t d e a b = let same = sym (letter_is t d a) ∙ letter_is t e b in cc
 
 var_once : (as' : List Attribute) (v w : Variable) → SaysVar as' v → SaysVar as' w → v ≡ w
 var_once as' v w a b =
-    let low = says_once (λ (x : End). x ≡ At nought) SaysEnd (λ x y p q. p ∙ sym q) bound_once (value_of (codes "lb") as') a.lb b.lb a.low b.low in
-    let high = says_once (λ (x : End). x ≡ Inf) SaysEnd (λ x y p q. p ∙ sym q) bound_once (value_of (codes "ub") as') a.ub b.ub a.high b.high in
-    let type = says_once (λ (x : Domain). x ≡ Continuous) (λ t d. IsLetterOf letters t d) (λ x y p q. p ∙ sym q) letter_once (value_of (codes "type") as') a.domain b.domain a.type b.type in
+    let low = said_once as' (codes "lb") (At nought) SaysEnd bound_once a.lb b.lb a.low b.low in
+    let high = said_once as' (codes "ub") Inf SaysEnd bound_once a.ub b.ub a.high b.high in
+    let type = said_once as' (codes "type") Continuous (λ t d. IsLetterOf letters t d) letter_once a.domain b.domain a.type b.type in
     let first : IsOfDomain b.domain a.lb a.ub v = subst (λ (d : Domain). IsOfDomain d a.lb a.ub v) type a.is in
     let second : IsOfDomain b.domain b.lb a.ub v = subst (λ (x : End). IsOfDomain b.domain x a.ub v) low first in
     of_domain_once b.domain b.lb b.ub v w (subst (λ (x : End). IsOfDomain b.domain b.lb x v) high second) b.is
@@ -108,17 +90,21 @@ less_same end other c d x y p q a b = less_once other d x y (subst (λ (z : Frac
 
 row_once : (as' : List Attribute) (r s : Row) → SaysRow as' r → SaysRow as' s → r ≡ s
 row_once as' r s a b =
-    let low = says_once (λ (x : End). x ≡ NegInf) SaysEnd (λ x y p q. p ∙ sym q) bound_once (value_of (codes "lb") as') a.lb b.lb a.low b.low in
-    let high = says_once (λ (x : End). x ≡ Inf) SaysEnd (λ x y p q. p ∙ sym q) bound_once (value_of (codes "ub") as') a.ub b.ub a.high b.high in
+    let low = said_once as' (codes "lb") NegInf SaysEnd bound_once a.lb b.lb a.low b.low in
+    let high = said_once as' (codes "ub") Inf SaysEnd bound_once a.ub b.ub a.high b.high in
     let constant = constant_once as' a.constant b.constant a.has_constant b.has_constant in
     same_row r s (less_same a.lb b.lb a.constant b.constant r.lb s.lb low constant a.less_low b.less_low) (less_same a.ub b.ub a.constant b.constant r.ub s.ub high constant a.less_high b.less_high)
 
 -- an objective
+abbrev sense_read : List ℕ → Sense
+sense_read t = cond (bytes_eq t (codes "min")) Min Max
+
+sense_is : (t : List ℕ) (x : Sense) → IsSense t x → sense_read t ≡ x
+sense_is t Min a = ap sense_read a
+sense_is t Max a = ap sense_read a
+
 sense_once : (t : List ℕ) (x y : Sense) → IsSense t x → IsSense t y → x ≡ y
-sense_once t Min Min a b = refl
-sense_once t Max Max a b = refl
-sense_once t Min Max a b = absurd (texts_apart (codes "min") (codes "max") refl refl (sym a ∙ b))
-sense_once t Max Min a b = absurd (texts_apart (codes "max") (codes "min") refl refl (sym a ∙ b))
+sense_once t x y a b = sym (sense_is t x a) ∙ sense_is t y b
 
 declared_once : (t : List ℕ) (x y : Option ℕ) → IsDeclared t x → IsDeclared t y → x ≡ y
 declared_once t (Some n) (Some m) a b = ap (λ (k : ℕ). Some k) (count_once t n m a.0 b.0)
@@ -126,16 +112,16 @@ declared_once t None y a b = absurd (let z = a.1 in cc)
 declared_once t (Some n) None a b = absurd (let z = b.1 in cc)
 
 count_said_once : (as' : List Attribute) (name : List ℕ) (x y : Option ℕ) → SaysCount as' name x → SaysCount as' name y → x ≡ y
-count_said_once as' name x y a b = says_once (λ (z : Option ℕ). z ≡ None) IsDeclared (λ u v p q. p ∙ sym q) declared_once (value_of name as') x y a b
+count_said_once as' name x y a b = said_once as' name None IsDeclared declared_once x y a b
 
 sense_said_once : (as' : List Attribute) (x y : Sense) → SaysSense as' x → SaysSense as' y → x ≡ y
-sense_said_once as' x y a b = says_once (λ (s : Sense). s ≡ Min) IsSense (λ u v p q. p ∙ sym q) sense_once (value_of (codes "maxOrMin") as') x y a b
+sense_said_once as' x y a b = said_once as' (codes "maxOrMin") Min IsSense sense_once x y a b
 
 step_once : (as' : List Attribute) (x y : Frac) → SaysStep as' x → SaysStep as' y → x ≡ y
-step_once as' x y a b = says_once (λ (z : Frac). z ≡ nought) (λ t z. IsDecimal t (ratio z)) (λ u v p q. p ∙ sym q) decimal_once (value_of (codes "incr") as') x y a b
+step_once as' x y a b = said_once as' (codes "incr") nought (λ t z. IsDecimal t (ratio z)) decimal_once x y a b
 
 whole_step_once : (as' : List Attribute) (x y : ℤ) → SaysWholeStep as' x → SaysWholeStep as' y → x ≡ y
-whole_step_once as' x y a b = says_once (λ (z : ℤ). z ≡ pos 0) IsWholeText (λ u v p q. p ∙ sym q) whole_once (value_of (codes "incr") as') x y a b
+whole_step_once as' x y a b = said_once as' (codes "incr") (pos 0) IsWholeText whole_once x y a b
 
 index_of_once : (o : Option (List ℕ)) (i j : ℕ) → IsSomeAnd o (λ t. IsCount t i) → IsSomeAnd o (λ t. IsCount t j) → i ≡ j
 index_of_once None i j a b = absurd a
@@ -191,10 +177,9 @@ AreNumbers (r ∷ rs) = IsNumber r × AreNumbers rs
 same_once : (xs ys : List Frac) (rs : List Ratio) → AreNumbers rs → AreSame (ratios xs) rs → AreSame (ratios ys) rs → xs ≡ ys
 same_once [] [] rs n a b = refl
 same_once [] (y ∷ ys) [] n a b = absurd b
-same_once [] (y ∷ ys) (r ∷ rs) n a b = absurd a
-same_once (x ∷ xs) [] [] n a b = absurd a
+same_once [] ys (r ∷ rs) n a b = absurd a
+same_once (x ∷ xs) ys [] n a b = absurd a
 same_once (x ∷ xs) [] (r ∷ rs) n a b = absurd b
-same_once (x ∷ xs) (y ∷ ys) [] n a b = absurd a
 same_once (x ∷ xs) (y ∷ ys) (r ∷ rs) n a b = ap (λ (z : Frac). z ∷ xs) (frac_once x y r n.0 a.0 b.0) ∙ ap (λ (l : List Frac). y ∷ l) (same_once xs ys rs n.1 a.1 b.1)
 
 run_numbers : (first step : Ratio) (m : ℕ) → IsNumber first → IsNumber step → AreNumbers (ratio_run first step m)

@@ -1,5 +1,5 @@
 -- Entries and the sums at their places: one entry more, and the entries of one place alone.
-use Rattle.osil_grammar.proofs.Words.{◌≡◌, ℕ, Bool, true, false, nat_eq, cond, List, [], ◌∷◌, ◌++◌, refl, sym, ◌∙◌, ap, subst, ⊎_elim, inl, inr, ◌&&◌, ◌⊎◌, All, filter, cases_Bool, and_from, and_parts, eq-eqb, eqb-true, All-head, All-tail, Ratio, sum, IsNumber, SumFits, sum-number, ratio, Entry, entry, entries, place_sum, HasWidePlace}
+use Rattle.osil_grammar.proofs.Words.{◌≡◌, ℕ, pos, arith, ints, Frac, IsBefore, IsSame, Bool, true, false, nat_eq, cond, List, [], ◌∷◌, ◌++◌, refl, sym, ◌∙◌, ap, subst, ⊎_elim, inl, inr, ◌&&◌, ◌⊎◌, All, filter, cases_Bool, and_from, and_parts, eq-eqb, eqb-true, All-head, All-tail, Ratio, sum, IsNumber, SumFits, sum-number, ratio, Entry, entry, entries, place_sum, HasWidePlace}
 use Rattle.evidence.specs.Sums as evidence
 use Rattle.evidence.specs.Instance as Of
 
@@ -115,6 +115,28 @@ pub is_at-same : (i j : ℕ) (e : Of.Entry) → is_at i j e ≡ true → (e.row 
 is_at-same i j e on =
     let parts = and_parts (nat_eq e.row i) (nat_eq e.variable j) on in
     (eqb-true e.row i parts.0, eqb-true e.variable j parts.1)
+
+-- what stands at a place stands at no other
+at_one_place : (i j : ℕ) (a b : Entry) → (a.row ≡ b.row → a.col ≡ b.col → ⊥) → is_at i j (entry a) ≡ true → is_at i j (entry b) ≡ false
+at_one_place i j a b other on =
+    ⊎_elim
+    (λ at. let p = is_at-same i j (entry a) on in let q = is_at-same i j (entry b) at in absurd (other (p.0 ∙ sym q.0) (p.1 ∙ sym q.1)))
+    (λ off. off)
+    (cases_Bool (is_at i j (entry b)))
+
+-- an entry that rises above another stands elsewhere
+pub apart_places : (a b : Entry) → IsBefore a b → a.row ≡ b.row → a.col ≡ b.col → ⊥
+apart_places a b h row col = ⊎_elim (λ l. omega (arith, l, row)) (λ p. let l = p.1 in omega (arith, l, col)) h
+
+pub behind : (i j : ℕ) (a b : Entry) → is_at i j (entry a) ≡ true → IsBefore a b → is_at i j (entry b) ≡ false
+behind i j a b on h = at_one_place i j a b (apart_places a b h) on
+
+pub apart : (a b : Entry) → IsBefore a b → is_at b.row b.col (entry a) ≡ false
+apart a b h = at_one_place b.row b.col b a (λ row col. apart_places a b h (sym row) (sym col)) (is_at-own (entry b))
+
+-- a fraction of 0
+pub zero_of : (x : Frac) → IsSame (ratio x) evidence.none → x.numer ≡ pos 0
+zero_of x same = omega (arith, ints, same)
 
 pub wide_from_place : (l : List Of.Entry) → (w : HasWidePlace l) → IsWideFrom evidence.none l w.entry.row w.entry.variable
 wide_from_place l w = subst (λ l. IsWideFrom evidence.none l w.entry.row w.entry.variable) (sym w.split) (wide_at evidence.none w.before w.entry w.after w.entry.row w.entry.variable (is_at-own w.entry) w.wide)

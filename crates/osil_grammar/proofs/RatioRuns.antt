@@ -17,9 +17,8 @@ ratio_at-number first step (suc k) p q = sum-number (ratio_at first step k) step
 
 pub AreSame-push : (xs ys : List Ratio) (x y : Ratio) → AreSame xs ys → IsSame x y → AreSame (xs ++ x ∷ []) (ys ++ y ∷ [])
 AreSame-push [] [] x y h s = (s, tt)
-AreSame-push [] (w ∷ ys) x y h s = absurd h
-AreSame-push (v ∷ xs) [] x y h s = absurd h
 AreSame-push (v ∷ xs) (w ∷ ys) x y h s = (h.0, AreSame-push xs ys x y h.1 s)
+AreSame-push xs ys x y h s = absurd h
 
 -- the numbers of a run that are in the list so far, and the last of them
 pub record HasRun (old now : List Frac) (first step next : Frac) (k : ℕ) : Type 0 where
@@ -59,9 +58,8 @@ length-ratio_run first step (suc m) = ap suc (length-ratio_run (sum first step) 
 
 pub length-same : (xs ys : List Ratio) → AreSame xs ys → length xs ≡ length ys
 length-same [] [] h = refl
-length-same [] (y ∷ ys) h = absurd h
-length-same (x ∷ xs) [] h = absurd h
 length-same (x ∷ xs) (y ∷ ys) h = ap suc (length-same xs ys h.1)
+length-same xs ys h = absurd h
 
 pub ratio_length : (old new added : List Frac) (first step : Frac) (m : ℕ) → new ≡ old ++ added → AreSame (ratios added) (ratio_run (ratio first) (ratio step) m) → length new ≡ length old + m
 ratio_length old new added first step m is same =

@@ -1,7 +1,9 @@
 -- Entries that ascend, row by row, and what their places say.
-use Rattle.osil_grammar.proofs.Words.{◌≡◌, ◌∙◌, ℕ, zero, suc, ◌+◌, ◌-◌, ◌<◌, ◌≤◌, Bool, true, false, nat_lt, nat_eq, cond, ◌&&◌, List, [], ◌∷◌, ◌++◌, length, map, drop, get_or, replicate, ap, refl, sym, subst, arith, ◌⊎◌, inl, inr, pos, unsigned_abs, ◌-ℤ◌, All, ints, ltb-true, ltb-false, le-ltb, lt-ltb, eqb-true, drop_all, All-head, All-tail, All-weaker, Ratio, IsSame, sum, none-sum, ratio, Entry, IsBefore, IsAscending, entries, lines_from, placed_all, place_sum, entries_below, row_starts}
+use Rattle.osil_grammar.proofs.Words.{◌≡◌, ◌∙◌, ℕ, zero, suc, ◌+◌, ◌-◌, ◌<◌, ◌≤◌, Bool, true, false, nat_lt, cond, List, [], ◌∷◌, ◌++◌, length, map, drop, replicate, ap, refl, sym, subst, arith, inl, inr, pos, unsigned_abs, ◌-ℤ◌, All, ints, ltb-true, ltb-false, le-ltb, lt-ltb, drop_all, All-head, All-tail, All-weaker, Ratio, IsSame, sum, none-sum, ratio, Entry, IsBefore, IsAscending, IsRising, entry, entries, lines_from, placed_all, place_sum, entries_below, row_starts}
 use Rattle.evidence.specs.Sums as evidence
 use Rattle.evidence.specs.Instance as Of
+use Rattle.osil_grammar.proofs.EntryOrder.{all_from_indices, rise_from, rising_behind}
+use Rattle.osil_grammar.proofs.Places.{is_at, behind}
 use Rattle.osil_grammar.proofs.Starts.{none_below}
 
 -- each entry is before all those behind it
@@ -9,27 +11,12 @@ abbrev pub Rises : List Entry → Type 0
 Rises [] = Unit {0}
 Rises (e ∷ es) = All (λ x. IsBefore e x) es × Rises es
 
-before_trans : (a b c : Entry) → IsBefore a b → IsBefore b c → IsBefore a c
-before_trans a b c (inl p) (inl q) = inl (omega (arith, p, q))
-before_trans a b c (inl p) (inr q) = let e = q.0 in inl (omega (arith, p, e))
-before_trans a b c (inr p) (inl q) = let e = p.0 in inl (omega (arith, e, q))
-before_trans a b c (inr p) (inr q) = let e = p.0 in let f = q.0 in let l = p.1 in let m = q.1 in inr (omega (arith, e, f), omega (arith, l, m))
-
-behind_ascends : (e : Entry) (es : List Entry) → IsAscending (e ∷ es) → IsAscending es
-behind_ascends e es up k d inside =
-    let same : suc k + 1 ≡ suc (k + 1) = omega arith in
-    subst (λ (n : ℕ). IsBefore (get_or es k d) (get_or (e ∷ es) n d)) same (up (suc k) d (omega (arith, inside)))
-
-first_before : (e : Entry) (es : List Entry) → IsAscending (e ∷ es) → (k : ℕ) (d : Entry) → k < length es → IsBefore e (get_or es k d)
-first_before e es up zero d inside = up 0 d (omega (arith, inside))
-first_before e es up (suc k) d inside =
-    let same : k + 1 ≡ suc k = omega arith in
-    let next : IsBefore (get_or es k d) (get_or es (suc k) d) = subst (λ (n : ℕ). IsBefore (get_or es k d) (get_or es n d)) same (behind_ascends e es up k d (omega (arith, inside))) in
-    before_trans e (get_or es k d) (get_or es (suc k) d) (first_before e es up k d (omega (arith, inside))) next
+rises_all : (es : List Entry) → IsRising es → Rises es
+rises_all [] up = tt
+rises_all (e ∷ es) up = (rise_from e es up, rises_all es (rising_behind e es up))
 
 pub rises : (es : List Entry) → IsAscending es → Rises es
-rises [] up = tt
-rises (e ∷ es) up = (first_before e es up, rises es (behind_ascends e es up))
+rises es up = rises_all es (all_from_indices IsBefore es up)
 
 row_up : (i : ℕ) (e x : Entry) → IsBefore e x → i ≤ e.row → i ≤ x.row
 row_up i e x (inl p) less = omega (arith, p, less)
@@ -76,8 +63,8 @@ cut_at (e ∷ es) j up = cut_by e es j (entries_below j es) (entries_below (j + 
 
 -- and no more entries stand before a row than before the next
 below_by : (e : Entry) (j a b : ℕ) (p q : Bool) → p ≡ nat_lt e.row j → q ≡ nat_lt e.row (j + 1) → a ≤ b → cond p (a + 1) a ≤ cond q (b + 1) b
-below_by e j a b true true low high less = omega (arith, less)
 below_by e j a b true false low high less = let l = ltb-true e.row j (sym low) in let h = ltb-false e.row (j + 1) (sym high) in absurd (omega (arith, l, h))
+below_by e j a b true true low high less = omega (arith, less)
 below_by e j a b false true low high less = omega (arith, less)
 below_by e j a b false false low high less = less
 
@@ -134,31 +121,18 @@ pub placed_are : (es : List Entry) → placed_all false (rows es) (map (λ e. po
 placed_are [] = refl
 placed_are (e ∷ es) = ap (λ (l : List Of.Entry). record { row = e.row; variable = e.col; value = ratio e.value } ∷ l) (placed_are es)
 
--- whether an entry stands at a place
-abbrev is_here : ℕ → ℕ → Entry → Bool
-is_here i j e = nat_eq e.row i && nat_eq e.col j
-
-none_here : (start : Ratio) (es : List Entry) (i j : ℕ) → All (λ e. is_here i j e ≡ false) es → place_sum start (entries es) i j ≡ start
+none_here : (start : Ratio) (es : List Entry) (i j : ℕ) → All (λ e. is_at i j (entry e) ≡ false) es → place_sum start (entries es) i j ≡ start
 none_here start [] i j none = refl
 none_here start (e ∷ es) i j none =
-    let here = All-head (λ (x : Entry). is_here i j x ≡ false) e es none in
-    rw here (none_here start es i j (All-tail (λ (x : Entry). is_here i j x ≡ false) e es none))
+    let here = All-head (λ (x : Entry). is_at i j (entry x) ≡ false) e es none in
+    rw here (none_here start es i j (All-tail (λ (x : Entry). is_at i j (entry x) ≡ false) e es none))
 
--- an entry behind another stands elsewhere
-apart_by : (p q r s : Bool) (a b c d i j : ℕ) → p ≡ nat_eq a i → q ≡ nat_eq b j → r ≡ nat_eq c i → s ≡ nat_eq d j → (p && q) ≡ true → (a < c) ⊎ ((a ≡ c) × (b < d)) → (r && s) ≡ false
-apart_by true true false s a b c d i j pa qb rc sd here before = refl
-apart_by true true true false a b c d i j pa qb rc sd here before = refl
-apart_by true true true true a b c d i j pa qb rc sd here (inl less) = let x = eqb-true a i (sym pa) in let y = eqb-true c i (sym rc) in absurd (omega (arith, x, y, less))
-apart_by true true true true a b c d i j pa qb rc sd here (inr less) = let x = eqb-true b j (sym qb) in let y = eqb-true d j (sym sd) in let l = less.1 in absurd (omega (arith, x, y, l))
-apart_by true false r s a b c d i j pa qb rc sd here before = absurd (let clash : false ≡ true = here in cc)
-apart_by false q r s a b c d i j pa qb rc sd here before = absurd (let clash : false ≡ true = here in cc)
-
-sums_by : (e : Entry) (es : List Entry) (i j : ℕ) (b : Bool) → b ≡ is_here i j e → All (λ x. IsBefore e x) es → IsSame (Of.entry_at (entries es) i j) (place_sum evidence.none (entries es) i j) → IsSame (cond b (ratio e.value) (Of.entry_at (entries es) i j)) (cond b (place_sum (sum evidence.none (ratio e.value)) (entries es) i j) (place_sum evidence.none (entries es) i j))
+sums_by : (e : Entry) (es : List Entry) (i j : ℕ) (b : Bool) → b ≡ is_at i j (entry e) → All (λ x. IsBefore e x) es → IsSame (Of.entry_at (entries es) i j) (place_sum evidence.none (entries es) i j) → IsSame (cond b (ratio e.value) (Of.entry_at (entries es) i j)) (cond b (place_sum (sum evidence.none (ratio e.value)) (entries es) i j) (place_sum evidence.none (entries es) i j))
 sums_by e es i j false is later rest = rest
 sums_by e es i j true is later rest =
-    let nowhere : All (λ (x : Entry). is_here i j x ≡ false) es = All-weaker (λ (x : Entry). IsBefore e x) (λ (x : Entry). is_here i j x ≡ false) (λ x before. apart_by (nat_eq e.row i) (nat_eq e.col j) (nat_eq x.row i) (nat_eq x.col j) e.row e.col x.row x.col i j refl refl refl refl (sym is) before) es later in
+    let nowhere : All (λ (x : Entry). is_at i j (entry x) ≡ false) es = All-weaker (λ (x : Entry). IsBefore e x) (λ (x : Entry). is_at i j (entry x) ≡ false) (λ x before. behind i j e x (sym is) before) es later in
     subst (λ (y : Ratio). IsSame (ratio e.value) y) (sym (none_here (sum evidence.none (ratio e.value)) es i j nowhere ∙ none-sum (ratio e.value))) refl
 
 pub sums_are : (es : List Entry) (i j : ℕ) → Rises es → IsSame (Of.entry_at (entries es) i j) (place_sum evidence.none (entries es) i j)
 sums_are [] i j up = refl
-sums_are (e ∷ es) i j up = sums_by e es i j (is_here i j e) refl up.0 (sums_are es i j up.1)
+sums_are (e ∷ es) i j up = sums_by e es i j (is_at i j (entry e)) refl up.0 (sums_are es i j up.1)

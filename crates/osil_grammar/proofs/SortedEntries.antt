@@ -1,12 +1,12 @@
 -- The entries sorted by their places, and those that aren't 0.
-use Rattle.osil_grammar.proofs.Words.{◌≡◌, ℕ, ◌+◌, Bool, true, false, not, nat_eq, cond, pos, List, [], ◌∷◌, get_or, arith, refl, sym, ◌∙◌, ap, subst, ⊎_elim, ◌≢◌, All, filter, IsSortedByKey, IsStableByKey, ties, lit<, lit≤, ints, cases_Bool, not-true, not-false, true≢false, and_left, and_right, ne_eqb, All-weaker, All-map, All-filter, filter_passes, Ratio, IsNumber, IsSame, IsSame-trans, ratio, Frac, Entry, IsBefore, entry, entries, place_sum, HasWidePlace, AreEntriesOf, IsNotBehind, IsInOrder, IsRising, AreSumsAt}
+use Rattle.osil_grammar.proofs.Words.{◌≡◌, ℕ, ◌+◌, Bool, true, false, not, cond, pos, List, [], ◌∷◌, get_or, arith, refl, sym, ◌∙◌, ap, subst, ⊎_elim, ◌≢◌, All, filter, IsSortedByKey, IsStableByKey, ties, lit<, lit≤, ints, cases_Bool, not-true, not-false, true≢false, All-weaker, All-map, All-filter, filter_passes, Ratio, IsNumber, IsSame, IsSame-trans, ratio, Frac, Entry, IsBefore, entry, entries, place_sum, HasWidePlace, AreEntriesOf, IsNotBehind, IsInOrder, IsRising, AreSumsAt}
 use Rattle.std.specs.Ordering.{is_lt, int_eq, nat_cmp, ordering_then}
 use Rattle.std.specs.declared.cmp.Ordering.{Ordering}
 use Rattle.std.proofs.lemmas.Bool.Decides.{Decides-int_eq}
 use Rattle.evidence.specs.Sums as evidence
 use Rattle.evidence.specs.Instance as Of
 use Rattle.fraction.proofs.Constants.{zero_reduced}
-use Rattle.osil_grammar.proofs.Places.{is_at, place_sum-filter, wide_filter, IsWideFrom, wide_from_place, place_from_wide, entry_at-nowhere, is_at-same}
+use Rattle.osil_grammar.proofs.Places.{is_at, place_sum-filter, wide_filter, IsWideFrom, wide_from_place, place_from_wide, entry_at-nowhere, number_either, behind}
 use Rattle.osil_grammar.proofs.EntryOrder.{ties_are_places, not_before, all_from_indices, ascending, rise_from, rising_behind, rising_filter}
 
 abbrev pub place : Entry → ℕ × ℕ
@@ -67,13 +67,6 @@ zero_is e off = (Decides-int_eq e.value.numer (pos 0)).0 (not-false (int_eq e.va
 none_is : (x : Ratio) → x.num ≡ pos 0 → IsSame evidence.none x
 none_is x zero = omega (arith, ints)
 
--- an entry behind is at another place
-behind : (i j : ℕ) (a b : Entry) → is_at i j (entry a) ≡ true → IsBefore a b → is_at i j (entry b) ≡ false
-behind i j a b on h =
-    let same = is_at-same i j (entry a) on in
-    ⊎_elim (λ l. and_left (nat_eq b.row i) (nat_eq b.col j) (let r = same.0 in ne_eqb b.row i (λ q. omega arith)))
-    (λ p. and_right (nat_eq b.row i) (nat_eq b.col j) (let l = p.1 in let r = same.1 in ne_eqb b.col j (λ q. omega arith))) h
-
 either : (b : Bool) (x y z w : Ratio) → IsSame x z → IsSame y w → IsSame (cond b x y) (cond b z w)
 either true x y z w p q = p
 either false x y z w p q = q
@@ -98,13 +91,9 @@ zeros_dropped i j (e ∷ es) rise =
     rest))
     (cases_Bool (is_nonzero e))
 
-number_cases : (b : Bool) (x y : Ratio) → IsNumber x → IsNumber y → IsNumber (cond b x y)
-number_cases true x y p q = p
-number_cases false x y p q = q
-
 number_at : (i j : ℕ) (es : List Entry) → IsNumber (Of.entry_at (entries es) i j)
 number_at i j [] = omega arith
-number_at i j (e ∷ es) = number_cases (is_at i j (entry e)) (ratio e.value) (Of.entry_at (entries es) i j) e.value.above (number_at i j es)
+number_at i j (e ∷ es) = number_either (is_at i j (entry e)) (ratio e.value) (Of.entry_at (entries es) i j) e.value.above (number_at i j es)
 
 pub kept_entries : (l : List Of.Entry) (es : List Entry) → AreSumsAt l es → AreEntriesOf l (filter is_nonzero es)
 kept_entries l es at = record {

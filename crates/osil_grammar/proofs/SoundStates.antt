@@ -1,5 +1,5 @@
 -- A mark that is taken in a sound state leaves a sound state.
-use Rattle.osil_grammar.proofs.Words.{◌≡◌, ◌∙◌, ◌+◌, ◌-◌, ◌<◌, ◌≤◌, ℕ, inl, inr, ℤ, pos, negsuc, Bool, true, false, cond, List, [], ◌++◌, map, length, replicate, refl, ap, sym, subst, arith, length-append, Option, None, Some, MatchOption, IsSomeAnd, unsigned_abs, ◌+ℤ◌, ◌*ℤ◌, codes, All, cases_lt, cases_eq, ints, length-replicate, length-set, length-map, All-nil, All-append, All-replicate, All-weaker, All-map, Attribute, Mark, Start, Char, Finish, Ratio, Frac, ratio, ratios, End, NegInf, At, Inf, Entry, SaysEnd, IsCount, IsWholeText, Row, AreEnds, IsInside, value_of, AllPass, Takes, Domain, Continuous, Integer, Binary, Listing, Place, Led, IsEndAt, IsLess, raised, lowered, nought, Says, HasSuch, IsTimes, SaysTimes, IsOfDomain, State, start, begins, ends, tests, leads, Fails, AreTooMany, IsDivided, IsInRange, IsOutOfRange, lines, list_length, most, Begins, Ends, Leaves, AddsWholes, IsMatrixOf, heard, osil, AreItems, AreWithin, IsSoundSoFar, IsSoundAt, IsSoundIn, IsSound}
+use Rattle.osil_grammar.proofs.Words.{◌≡◌, ◌∙◌, ◌+◌, ◌-◌, ◌<◌, ◌≤◌, ℕ, inl, inr, ℤ, pos, negsuc, Bool, true, false, cond, List, [], ◌++◌, map, length, replicate, refl, ap, sym, subst, arith, length-append, Option, None, Some, MatchOption, IsSomeAnd, unsigned_abs, ◌+ℤ◌, ◌*ℤ◌, codes, All, cases_lt, cases_eq, ints, length-replicate, length-set, length-map, All-nil, All-append, All-replicate, All-weaker, All-map, Attribute, Mark, Start, Char, Finish, Ratio, Frac, ratio, ratios, End, NegInf, At, Inf, Entry, SaysEnd, IsCount, IsWholeText, Row, AreEnds, IsInside, value_of, AllPass, Takes, Domain, Binary, Listing, Place, Led, IsEndAt, IsLess, raised, lowered, nought, Says, HasSuch, IsTimes, SaysTimes, IsOfDomain, State, start, begins, ends, tests, leads, Fails, AreTooMany, IsDivided, IsInRange, IsOutOfRange, lines, list_length, most, Begins, Ends, Leaves, AddsWholes, IsMatrixOf, heard, keeps_text, osil, AreItems, AreWithin, IsSoundSoFar, IsSoundAt, IsSoundIn, IsSound}
 use Rattle.instance.specs.declared.parts.Var.{Var as Variable}
 use Rattle.osil_grammar.specs.declared.elements.Part.TheVariants as parts
 use Rattle.osil_grammar.specs.declared.elements.Listing.TheVariants as listings
@@ -58,19 +58,16 @@ at_neg_inf : (f : Frac) → At f ≡ NegInf → ⊥
 at_neg_inf f e = cc
 
 not_end : (y : End) → ((f : Frac) → At f ≡ y → ⊥) → (x : End) (r : Ratio) → IsEndAt x r → x ≡ y → ⊥
-not_end y never NegInf r h = absurd h
 not_end y never (At f) r h = never f
-not_end y never Inf r h = absurd h
+not_end y never x r h = absurd h
 
 domain_ends : (d : Domain) (lb ub : End) (v : Variable) → IsOfDomain d lb ub v → AreEnds lb ub → AreEnds v.lb v.ub
-domain_ends Continuous lb ub v is both = ((λ e. both.0 (sym is.0 ∙ e)), (λ e. both.1 (sym is.1 ∙ e)))
-domain_ends Integer lb ub v is both = ((λ e. both.0 (sym is.0 ∙ e)), (λ e. both.1 (sym is.1 ∙ e)))
 domain_ends Binary lb ub v is both = (not_end Inf at_inf v.lb (raised lb) is.0, not_end NegInf at_neg_inf v.ub (lowered ub) is.1)
+domain_ends d lb ub v is both = ((λ e. both.0 (sym is.0 ∙ e)), (λ e. both.1 (sym is.1 ∙ e)))
 
 less_end : (y : End) → ((f : Frac) → At f ≡ y → ⊥) → (end : End) (c : Frac) (x : End) → IsLess end c x → (end ≡ y → ⊥) → x ≡ y → ⊥
-less_end y never NegInf c x is other = λ e. other (sym is ∙ e)
 less_end y never (At f) c x is other = not_end y never x _ is
-less_end y never Inf c x is other = λ e. other (sym is ∙ e)
+less_end y never end c x is other = λ e. other (sym is ∙ e)
 
 said_ends : (as' : List Attribute) (Low High : End → Type 0) → (Low Inf → ⊥) → (High NegInf → ⊥) → (lb ub : End) → Says as' (codes "lb") Low SaysEnd lb → Says as' (codes "ub") High SaysEnd ub → (HasSuch as' (codes "lb") (λ t. SaysEnd t Inf) → ⊥) → (HasSuch as' (codes "ub") (λ t. SaysEnd t NegInf) → ⊥) → AreEnds lb ub
 said_ends as' Low High no_low no_high lb ub low high not_low not_high = (
@@ -140,16 +137,11 @@ begin_sound s name as' p z k pass is = subst IsSound (sym is) (k.0, tt)
 
 start_sound : (l : Led) (s : State) (name : List ℕ) (as' : List Attribute) (z : State) → IsSound s → AllPass (Fails s (Start name as')) (tests (begins l)) × Leaves s (Start name as') (begins l) z → IsSound z
 start_sound (led.To p) s name as' z k h = begin_sound s name as' p z k h.0 h.1
-start_sound led.OtherRoot s name as' z k h = absurd h.1
-start_sound led.InFurther s name as' z k h = absurd h.1
-start_sound led.Beyond s name as' z k h = absurd h.1
+start_sound l s name as' z k h = absurd h.1
 
 -- CHARACTERS
 text_sound : (p : Place) (s : State) (text : List ℕ) → IsSoundAt p s → IsSoundAt p (record s { text = text })
 text_sound (places.El listings.Starts) s text h = h
-text_sound (places.El listings.RowIndices) s text h = h
-text_sound (places.El listings.ColumnIndices) s text h = h
-text_sound (places.El listings.Values) s text h = h
 text_sound p s text h = h
 
 -- END TAGS
@@ -212,5 +204,5 @@ sound_start = (
 
 pub sound_kept : (s z : State) (m : Mark) → IsSound s → Takes osil s m z → IsSound z
 sound_kept s z (Start name as') k h = start_sound (leads s.place name) s name as' z k h
-sound_kept s z (Char c) k h = subst IsSound (sym h.1) (k.0, text_sound s.place s (heard s.place s.text c) k.1)
+sound_kept s z (Char c) k h = subst IsSound (sym h.1) (k.0, text_sound s.place s (heard (keeps_text s.place) s.text c) k.1)
 sound_kept s z (Finish name) k h = end_sound s name s.place z refl k h.0 h.1

@@ -1,5 +1,5 @@
 -- What was read at a start tag answers the tests of its kind.
-use Rattle.osil_grammar.proofs.Words.{◌≡◌, ◌∙◌, ◌⊎◌, inl, inr, ℕ, ◌+◌, ◌<◌, ◌≤◌, List, [], ◌∷◌, ◌++◌, length, refl, ap, sym, subst, arith, Option, None, Some, MatchOption, IsSomeAnd, Result, Ok, Err, MatchResult, codes, Attribute, Start, End, NegInf, At, Inf, SaysEnd, IsDecimal, Frac, ratio, negative, SumFits, IsCount, only_inf, only_neg_inf, count_once, AreEnds, value_of, Unread, AllPass, FirstFails, pass_both, first_front, first_behind, fields_pass, fields_bad, fields_wide, Sense, Min, Max, Place, Listing, Starts, RowIndices, ColumnIndices, Values, IsSense, Domain, told_refusal, Refusal, field, whole, IsBad, IsTooGreat, HasSuch, Says, IsTimes, IsDeclared, SaysCount, nought, State, Test, bad, too_great, low_infinite, high_infinite, too_many, mult, fields, numbers, refusal, senses, SaysTimes, SaysConstant, SaysDomain, SaysSense, SaysIndex, letters, letter_names, IsLetterOf, Fails, most, items, list_length, AreTooMany, IsGreatEnd, HasNoSense, unread_refusal, IsNear, IsTooFar}
+use Rattle.osil_grammar.proofs.Words.{◌≡◌, ◌∙◌, ◌⊎◌, inl, inr, ℕ, ◌+◌, ◌<◌, ◌≤◌, List, [], ◌∷◌, ◌++◌, length, refl, ap, sym, subst, arith, Option, None, Some, MatchOption, IsSomeAnd, Result, Ok, Err, MatchResult, codes, Attribute, Start, End, NegInf, At, Inf, SaysEnd, IsDecimal, Frac, ratio, negative, SumFits, IsCount, only_inf, only_neg_inf, count_once, AreEnds, value_of, Unread, AllPass, FirstFails, pass_both, first_front, first_behind, fields_pass, fields_bad, fields_wide, Sense, Min, Max, Place, Listing, Values, IsSense, Domain, Continuous, told_refusal, Refusal, field, whole, IsBad, IsTooGreat, HasSuch, Says, IsTimes, IsDeclared, SaysCount, nought, State, Test, bad, too_great, low_infinite, high_infinite, too_many, mult, fields, numbers, refusal, senses, SaysTimes, SaysConstant, SaysDomain, SaysSense, SaysIndex, letters, letter_names, IsLetterOf, Fails, most, items, list_length, AreTooMany, IsGreatEnd, HasNoSense, unread_refusal, IsNear, IsTooFar}
 use Rattle.tree_grammar.specs.Tags.{IsAmong}
 use Rattle.osil_grammar.proofs.TagNumbers.{decimal_once}
 use Rattle.tag_tests.specs.declared.numbers.Unread.TheVariants as unread
@@ -35,12 +35,8 @@ is_said y (Some t) Default none x h same = subst (λ (z : End). SaysEnd t z) sam
 
 which_end : (lb ub : End) → (AreEnds lb ub → ⊥) → (lb ≡ Inf) ⊎ ((lb ≡ Inf → ⊥) × (ub ≡ NegInf))
 which_end Inf ub wrong = inl refl
-which_end NegInf NegInf wrong = inr ((λ e. absurd (cc)), refl)
-which_end (At x) NegInf wrong = inr ((λ e. absurd (cc)), refl)
-which_end NegInf (At y) wrong = absurd (wrong ((λ e. absurd (cc)), (λ e. absurd (cc))))
-which_end NegInf Inf wrong = absurd (wrong ((λ e. absurd (cc)), (λ e. absurd (cc))))
-which_end (At x) (At y) wrong = absurd (wrong ((λ e. absurd (cc)), (λ e. absurd (cc))))
-which_end (At x) Inf wrong = absurd (wrong ((λ e. absurd (cc)), (λ e. absurd (cc))))
+which_end lb NegInf wrong = inr ((λ e. absurd (cc)), refl)
+which_end lb ub wrong = absurd (wrong ((λ e. absurd (cc)), (λ e. absurd (cc))))
 
 -- the tests of two ends
 pub ends_pass : (s : State) (name : List ℕ) (as' : List Attribute) (Low High : End → Type 0) (lb ub : End) → Says as' (codes "lb") Low SaysEnd lb → Says as' (codes "ub") High SaysEnd ub → AreEnds lb ub → AllPass (Fails s (Start name as')) (low_infinite ∷ high_infinite ∷ [])
@@ -55,30 +51,30 @@ ends_refused s name as' Low High no_low no_high lb ub low high wrong more = elim
   | inr h ↦ inr (not_said Inf (λ t x a b. only_inf t x a b) (value_of (codes "lb") as') (Low lb) lb low h.0, inl (is_said NegInf (value_of (codes "ub") as') High no_high ub high h.1, refl))
 ]
 
+-- what an attribute says, or is by default, is one thing
+pub said_once : {X : Type 0} (as' : List Attribute) (name : List ℕ) (default : X) (Is : List ℕ → X → Type 0) → ((text : List ℕ) (x y : X) → Is text x → Is text y → x ≡ y) → (x y : X) → Says as' name (λ z. z ≡ default) Is x → Says as' name (λ z. z ≡ default) Is y → x ≡ y
+said_once as' name default Is read x y a b = by (value_of name as') a b where
+  by : (o : Option (List ℕ)) → MatchOption o (x ≡ default) (λ t. Is t x) → MatchOption o (y ≡ default) (λ t. Is t y) → x ≡ y
+  by None a b = a ∙ sym b
+  by (Some t) a b = read t x y a b
+
 -- for how many an element stands
 pub times_once : (as' : List Attribute) (m n : ℕ) → SaysTimes as' m → SaysTimes as' n → m ≡ n
-times_once as' m n a b = times_of (value_of (codes "mult") as') m n a b where
-  times_of : (o : Option (List ℕ)) (m n : ℕ) → MatchOption o (m ≡ 1) (λ t. IsTimes t m) → MatchOption o (n ≡ 1) (λ t. IsTimes t n) → m ≡ n
-  times_of None m n a b = a ∙ sym b
-  times_of (Some t) m n a b = count_once t m n a.0 b.0
+times_once as' m n a b = said_once as' (codes "mult") 1 IsTimes (λ t x y p q. count_once t x y p.0 q.0) m n a b
 
 pub not_too_many : (s : State) (as' : List Attribute) (p : Place) (m : ℕ) → SaysTimes as' m → (most p < items s p + m → ⊥) → AreTooMany s as' p → ⊥
 not_too_many s as' p m says few h = few (let same = times_once as' m h.0 says h.1 in let many = h.2 in subst (λ (k : ℕ). most p < items s p + k) (sym same) many)
 
 -- a type that is said is one of the letters
-letter_among : (o : Option (List ℕ)) (d : Domain) → MatchOption o (Unit {0}) (λ t. IsLetterOf letters t d) → IsSomeAnd o (λ t. IsAmong t letter_names → ⊥) → ⊥
-letter_among None d h other = other
-letter_among (Some t) d (inl h) other = other (inl h.0)
-letter_among (Some t) d (inr (inl h)) other = other (inr (inl h.0))
-letter_among (Some t) d (inr (inr (inl h))) other = other (inr (inr (inl h.0)))
-letter_among (Some t) d (inr (inr (inr h))) other = absurd h
-
-weaker : (o : Option (List ℕ)) (P : Type 0) (Q : List ℕ → Type 0) → MatchOption o P Q → MatchOption o (Unit {0}) Q
-weaker None P Q h = tt
-weaker (Some t) P Q h = h
+letter_among : (o : Option (List ℕ)) (Default : Type 0) (d : Domain) → MatchOption o Default (λ t. IsLetterOf letters t d) → IsSomeAnd o (λ t. IsAmong t letter_names → ⊥) → ⊥
+letter_among None Default d h other = other
+letter_among (Some t) Default d (inl h) other = other (inl h.0)
+letter_among (Some t) Default d (inr (inl h)) other = other (inr (inl h.0))
+letter_among (Some t) Default d (inr (inr (inl h))) other = other (inr (inr (inl h.0)))
+letter_among (Some t) Default d (inr (inr (inr h))) other = absurd h
 
 pub domain_known : (as' : List Attribute) (d : Domain) → SaysDomain as' d → HasSuch as' (codes "type") (λ t. IsAmong t letter_names → ⊥) → ⊥
-domain_known as' d h other = letter_among (value_of (codes "type") as') d (weaker (value_of (codes "type") as') _ (λ t. IsLetterOf letters t d) h) other
+domain_known as' d h other = letter_among (value_of (codes "type") as') (d ≡ Continuous) d h other
 
 -- the tests of two ends and of how many there are
 pub ends_many : (s : State) (name : List ℕ) (as' : List Attribute) (Low High : End → Type 0) (p : Place) (lb ub : End) (m : ℕ) → Says as' (codes "lb") Low SaysEnd lb → Says as' (codes "ub") High SaysEnd ub → AreEnds lb ub → SaysTimes as' m → most p < items s p + m → FirstFails (Fails s (Start name as')) (refusal s (Start name as')) (low_infinite ∷ high_infinite ∷ too_many p ∷ []) (refusal s (Start name as') (too_many p))
@@ -88,12 +84,8 @@ pub ends_all : (s : State) (name : List ℕ) (as' : List Attribute) (Low High : 
 ends_all s name as' Low High p lb ub m low high ends says few = pass_both (Fails s (Start name as')) (low_infinite ∷ high_infinite ∷ []) (too_many p ∷ []) (ends_pass s name as' Low High lb ub low high ends) (not_too_many s as' p m says few, tt)
 
 -- the constant of a row, and its ends less it
-constant_of : (o : Option (List ℕ)) (x y : Frac) → MatchOption o (x ≡ nought) (λ t. IsDecimal t (ratio x)) → MatchOption o (y ≡ nought) (λ t. IsDecimal t (ratio y)) → x ≡ y
-constant_of None x y a b = a ∙ sym b
-constant_of (Some t) x y a b = decimal_once t x y a b
-
 pub constant_once : (as' : List Attribute) (x y : Frac) → SaysConstant as' x → SaysConstant as' y → x ≡ y
-constant_once as' x y a b = constant_of (value_of (codes "constant") as') x y a b
+constant_once as' x y a b = said_once as' (codes "constant") nought (λ t z. IsDecimal t (ratio z)) decimal_once x y a b
 
 end_of : (o : Option (List ℕ)) (Default : Type 0) (x : End) (f : Frac) → MatchOption o Default (λ t. SaysEnd t x) → IsSomeAnd o (λ t. SaysEnd t (At f)) → x ≡ At f
 end_of None Default x f a b = absurd b
@@ -175,10 +167,8 @@ index_not_none as' some h = index_there (value_of (codes "idx") as') some h
 
 -- the numbers of an `el` in a list of whole ones
 pub whole_fields : {X : Type 0} (l : Listing) → (l ≡ Values → ⊥) → (as' : List Attribute) (r : Result X Unread) (P : X → Type 0) → FieldsRead (IsBad as') (IsTooGreat as') (mult ∷ field (codes "incr") whole ∷ []) r P → FieldsRead (IsBad as') (IsTooGreat as') (fields (El l)) r P
-whole_fields Starts other as' r P h = h
-whole_fields RowIndices other as' r P h = h
-whole_fields ColumnIndices other as' r P h = h
 whole_fields Values other as' r P h = absurd (other refl)
+whole_fields l other as' r P h = h
 
 -- an `el` whose numbers were read, where there is room or none
 pub room_left : {X : Type 0} (s : State) (name : List ℕ) (as' : List Attribute) (l : Listing) (before : ℕ) (m : ℕ) (x : X) (P : X → Type 0) (r : Result (ℕ × X) code.Refusal) → list_length s l ≡ before → SaysTimes as' m → P x

@@ -42,8 +42,8 @@ pub use Rattle.instance.specs.declared.parts.Sense.TheVariants.{Max, Min}
 pub use Rattle.instance.specs.declared.parts.Var.{Var}
 pub use Rattle.osil_grammar.specs.Failing.{AreTooMany, Fails, HasGreat, HasGreatEntry, HasNoSense, IsDivided, IsGreatEnd, IsInRange, IsOutOfRange, items, limit, lines, list_length, lists_so_far, most}
 pub use Rattle.osil_grammar.specs.Grammars.{Grammar, HasSuch, IsBad, IsDeclared, IsOfGrammar, IsTimes, IsTooGreat, IsUnread, IsWideOf, ReadsSo, Says, SaysCount, bound, count, field, nought, times, whole}
-pub use Rattle.osil_grammar.specs.Hearing.{AreHeldApart, HoldsApart, IsFit, IsKept, Refuse, WasFed, is_in_matrix, tree_fault}
-pub use Rattle.osil_grammar.specs.Leaving.{AddsCost, AddsRun, AddsWholes, Begins, Ends, HasMatrix, IsMatrixOf, Leaves, Passes, SaysRun, heard, into, is_variables, out_of}
+pub use Rattle.osil_grammar.specs.Hearing.{AreHeldApart, HoldsApart, IsFit, Refuse, WasFed, is_in_matrix, tree_fault}
+pub use Rattle.osil_grammar.specs.Leaving.{AddsCost, AddsRun, AddsWholes, Begins, Ends, HasMatrix, IsMatrixOf, Leaves, Passes, SaysRun, into, is_variables, keeps_text, out_of}
 pub use Rattle.osil_grammar.specs.Marked.{IsAccepted, IsRefused, StandsFor, instance_of, marks, osil}
 pub use Rattle.osil_grammar.specs.Matrix.{HasWidePlace, IsDivision, lines_from, place_sum, placed, placed_all, stored}
 pub use Rattle.osil_grammar.specs.Meaning.{AreEntriesOf, IsBinary, IsContinuous, IsEndAt, IsLess, IsSense, lowered, raised}
@@ -54,7 +54,7 @@ pub use Rattle.osil_grammar.specs.Runs.{AreSame, ratio_at, ratio_run, whole_run}
 pub use Rattle.osil_grammar.specs.Saying.{IsLetterOf, IsOfDomain, SaysConstant, SaysDomain, SaysHigh, SaysIndex, SaysLow, SaysRow, SaysRowLow, SaysSense, SaysStep, SaysTimes, SaysVar, SaysWholeStep, letter_names, letters, senses}
 pub use Rattle.osil_grammar.specs.Sound.{AreItems, AreWithin, IsSound, IsSoundAt, IsSoundIn, IsSoundSoFar}
 pub use Rattle.osil_grammar.specs.Standing.{State, start}
-pub use Rattle.osil_grammar.specs.Stepping.{BeginsAt, EndAnswers, EndsAt, IsNear, IsRun, IsTooFar, Steps, told_of, unread_refusal}
+pub use Rattle.osil_grammar.specs.Stepping.{BeginsAt, EndAnswers, EndsAt, IsNear, IsRun, IsTooFar, Steps, Stop, told_of, unread_refusal}
 pub use Rattle.osil_grammar.specs.Storing.{AreJoined, AreStored, AreSumsAt, line_entries, lists_of, matrix_lists, wholes}
 pub use Rattle.osil_grammar.specs.Table.{Kind, Test, Told, around, attributes, bad, bad_text, begins, content, count_name, end_ordinal, ends, fields, great_cost, great_end, great_run, great_text, has, high_infinite, kind, lb, leads, list_row, low_infinite, mark_name, mult, no_index, no_sense, no_type, no_variable, numbers, other_count, otherwise, out_of_range, part_row, refusal, tests, text, too_great, too_many, ub}
 pub use Rattle.osil_grammar.specs.Telling.{EndAttributes, EndsHaveTexts, GoalHasDecimals, HasNone}
@@ -66,12 +66,12 @@ pub use Rattle.osil_grammar.specs.declared.elements.Listing.{Listing}
 pub use Rattle.osil_grammar.specs.declared.elements.Listing.TheVariants.{ColumnIndices, RowIndices, Starts, Values}
 pub use Rattle.osil_grammar.specs.declared.elements.Place.{Place}
 pub use Rattle.osil_grammar.specs.declared.fault.OsilFault.{OsilFault}
-pub use Rattle.osil_grammar.specs.declared.stop.Stop.{Stop}
 pub use Rattle.rational.proofs.Scaling.{IsSame-sum, IsSame-trans}
 pub use Rattle.rational.specs.Ratio.{IsNumber, IsSame, Ratio, negative, sum}
 pub use Rattle.rational.specs.Width.{AreFourWithin, SumFits, left_term, right_term}
 pub use Rattle.tag_tests.proofs.Fields.{both_read, fields_bad, fields_pass, fields_wide}
 pub use Rattle.tag_tests.proofs.Tests.{first_behind, first_front, first_with, order_tested, pass_both}
+pub use Rattle.tag_tests.specs.Characters.{heard}
 pub use Rattle.tag_tests.specs.Places.{Child, among}
 pub use Rattle.tag_tests.specs.Forms.{AreRefused, AreTaken, LeavesOne, Takes}
 pub use Rattle.tag_tests.specs.Tests.{AllPass, FirstFails, InOrder}

@@ -1,11 +1,13 @@
 -- What an instance's variables, rows and goal are written as is read as these, mark by mark.
-use Rattle.osil_grammar.proofs.Words.{◌≡◌, ◌∙◌, ℕ, zero, suc, ◌+◌, ◌/◌, ◌<◌, ◌≤◌, inl, inr, Bool, true, false, ℤ, pos, ◌+ℤ◌, List, [], ◌∷◌, ◌++◌, map, length, get_or, set, refl, ap, sym, subst, arith, Some, None, unsigned_abs, codes, All, div-one, ints, append-nil, append_assoc, map_push, length-append, All-head, All-tail, Attribute, Event, Nodes, nodes_events, local_nodes, with_attribute, Mark, Start, Char, Finish, spread, Ratio, IsSame, sum, negative, left_term, right_term, AreFourWithin, SumFits, whole-reduced, sum-none, none-sum, ratio, ratios, Frac, End, NegInf, At, Inf, same_fraction, IsDecimal, SaysEnd, count_once, count_fits, only_inf, only_neg_inf, Var, Row, Sense, Min, Max, AreEnds, Parts, Takes, AreTaken, Domain, Continuous, Integer, Place, IsLess, IsSense, nought, senses, letters, letter_names, IsLetterOf, IsOfDomain, SaysVar, SaysRow, State, into, heard, IsNear, osil, instance_of, HasDecimal, EndHasText, WriteVars, WriteRows, WriteCosts, CountsCosts, type_text, sense_text}
+use Rattle.osil_grammar.proofs.Words.{◌≡◌, ◌∙◌, ℕ, zero, suc, ◌+◌, ◌/◌, ◌<◌, ◌≤◌, inl, inr, Bool, true, false, ℤ, pos, ◌+ℤ◌, List, [], ◌∷◌, ◌++◌, map, length, get_or, set, refl, ap, sym, subst, arith, Some, None, unsigned_abs, codes, All, div-one, ints, append-nil, append_assoc, map_push, length-append, All-head, All-tail, Attribute, Event, Nodes, nodes_events, local_nodes, with_attribute, Mark, Start, Char, Finish, spread, Ratio, IsSame, sum, negative, left_term, right_term, AreFourWithin, SumFits, whole-reduced, sum-none, none-sum, ratio, ratios, Frac, End, NegInf, At, Inf, same_fraction, IsDecimal, SaysEnd, count_once, count_fits, only_inf, only_neg_inf, Var, Row, Sense, Min, Max, AreEnds, Parts, Takes, AreTaken, Domain, Continuous, Integer, Place, IsLess, IsSense, nought, senses, letters, letter_names, IsLetterOf, IsOfDomain, SaysVar, SaysRow, State, into, keeps_text, IsNear, osil, instance_of, HasDecimal, EndHasText, WriteVars, WriteRows, WriteCosts, CountsCosts, type_text, sense_text}
 use Rattle.std.specs.Fmt.{decimal as digits}
 use Rattle.tree_grammar.specs.Tags.{IsAmong}
 use Rattle.rational.specs.Width.{most}
 use Rattle.rational.proofs.CommonDivisors.{one_divides}
 use Rattle.evidence.specs.Sums as evidence
 use Rattle.fraction.proofs.Sums.{sum_fits}
+use Rattle.tag_tests.proofs.Characters.{chars_kept}
+use Rattle.tag_tests.proofs.Forms.{taken_both}
 use Rattle.osil_grammar.specs.declared.elements.Place.TheVariants as places
 use Rattle.osil_grammar.specs.declared.elements.Part.TheVariants as parts
 use Rattle.osil_grammar.proofs.EntrySums.{none_fits}
@@ -23,14 +25,10 @@ pub read_one : (s m : State) (t : Mark) (ms : List Mark) (p : Parts) → Takes o
 read_one s m t ms p takes (z, taken, is) = (z, (m, takes, taken), is)
 
 -- characters that are kept
-pub read_text : (place : Place) → ((before : List ℕ) (c : ℕ) → heard place before c ≡ before ++ c ∷ []) → (s : State) (t before : List ℕ) (ms : List Mark) (p : Parts) → Reads (record s { place = place; text = before ++ t }) ms p → Reads (record s { place = place; text = before }) (map Char t ++ ms) p
-read_text place keeps s [] before ms p behind = subst (λ (x : List ℕ). Reads (record s { place = place; text = x }) ms p) (append-nil before) behind
-read_text place keeps s (c ∷ t) before ms p behind =
-    let m : State = record s { place = place; text = before ++ c ∷ [] } in
-    let old : State = record s { place = place; text = before } in
-    let is : m ≡ record old { text = heard place before c } = ap (λ (x : List ℕ). let z : State = record s { place = place; text = x } in z) (sym (keeps before c)) in
-    read_one old m (Char c) (map Char t ++ ms) p (tt, is)
-    (read_text place keeps s t (before ++ c ∷ []) ms p (subst (λ (x : List ℕ). Reads (record s { place = place; text = x }) ms p) (sym (append_assoc before (c ∷ []) t)) behind))
+pub read_text : (place : Place) → keeps_text place ≡ true → (s : State) (t before : List ℕ) (ms : List Mark) (p : Parts) → Reads (record s { place = place; text = before ++ t }) ms p → Reads (record s { place = place; text = before }) (map Char t ++ ms) p
+read_text place on s t before ms p (z, taken, is) =
+    let with : List ℕ → State = λ text. record s { place = place; text = text } in
+    (z, taken_both osil (with before) (with (before ++ t)) z (map Char t) ms (chars_kept osil with (keeps_text place) (λ x c. (tt, refl)) before t (before ++ t) on refl) taken, is)
 
 -- VARIABLES
 abbrev domain_of : Bool → Domain
@@ -110,14 +108,12 @@ fits_none f =
     (parts_fit (ratio f) f.numer_within f.denom_within)
 
 all_near : (x : End) → IsNear x nought
-all_near NegInf = tt
 all_near (At f) = fits_none f
-all_near Inf = tt
+all_near x = tt
 
 less_nought : (end : End) → IsLess end nought end
-less_nought NegInf = refl
 less_nought (At x) = subst (λ (y : Ratio). IsSame (ratio x) y) (sym (sum-none (ratio x))) refl
-less_nought Inf = refl
+less_nought end = refl
 
 abbrev pub in_rows : State → ℕ → List Row → State
 in_rows s n rs = record s { place = places.Part parts.Constraints; count = n; rows = rs }
@@ -203,7 +199,7 @@ module _ (s : State) (n m i j : ℕ) (old text : List ℕ) (done more : List Fra
   read_cost ms p behind =
       let last : List Mark = Finish (codes "coef") ∷ ms in
       read_one (in_obj s n m i old (done ++ nought ∷ more)) (begun []) (Start (codes "coef") (coef_attributes j)) (map Char text ++ last) p coef_taken
-      (read_text places.Coef (λ b x. refl) (begun []) text [] last p (read_one (begun text) (in_obj s (n + 1) (m + 1) j text (done ++ c ∷ more)) (Finish (codes "coef")) ms p cost_taken behind))
+      (read_text places.Coef refl (begun []) text [] last p (read_one (begun text) (in_obj s (n + 1) (m + 1) j text (done ++ c ∷ more)) (Finish (codes "coef")) ms p cost_taken behind))
 
 -- one cost more is done
 done_more : (done cs : List Frac) (c : Frac) → (done ++ c ∷ []) ++ cs ≡ done ++ c ∷ cs

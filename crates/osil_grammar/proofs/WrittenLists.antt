@@ -9,9 +9,9 @@ use Rattle.osil_grammar.specs.declared.elements.Part.TheVariants as parts
 use Rattle.osil_grammar.specs.Matrix.{Lists}
 use Rattle.osil_grammar.proofs.Documents.{starts_small}
 use Rattle.osil_grammar.proofs.EndTagTests.{run_added}
-use Rattle.osil_grammar.proofs.EntrySums.{apart, none_fits}
+use Rattle.osil_grammar.proofs.EntrySums.{none_fits}
 use Rattle.osil_grammar.proofs.Lines.{Divides, division}
-use Rattle.osil_grammar.proofs.Places.{is_at}
+use Rattle.osil_grammar.proofs.Places.{is_at, apart}
 use Rattle.osil_grammar.proofs.RoundTrips.{plain_decimal, whole_read}
 use Rattle.osil_grammar.proofs.RowEntries.{Rises, rises, below_rises, all_before, none_first, lines_are, placed_are, sums_are}
 use Rattle.osil_grammar.proofs.TagNumbers as numbers
@@ -60,8 +60,8 @@ el_ends false s n m ns less small =
     ((λ b. b fine.0, (λ w. fine.1 w, (λ o. only_one (digits m) m (length s.vars) less small refl o, tt))), (ns ++ m ∷ [], (pos m, reads, map_push pos ns m), refl))
 
 el_text : (b : Bool) (s : State) (n : ℕ) (text ns : List ℕ) (ms : List Mark) (p : Parts) → Reads (in_el b s n text ns) ms p → Reads (in_el b s n [] ns) (map Char text ++ ms) p
-el_text true s n text ns ms p behind = read_text (places.El listings.Starts) (λ x c. refl) (in_el true s n [] ns) text [] ms p behind
-el_text false s n text ns ms p behind = read_text (places.El listings.ColumnIndices) (λ x c. refl) (in_el false s n [] ns) text [] ms p behind
+el_text true s n text ns ms p behind = read_text (places.El listings.Starts) refl (in_el true s n [] ns) text [] ms p behind
+el_text false s n text ns ms p behind = read_text (places.El listings.ColumnIndices) refl (in_el false s n [] ns) text [] ms p behind
 
 pub read_counts : (b : Bool) (s : State) (k : List Event) (p : Parts) (ms : List ℕ) → All (λ m. m < below_of b s) ms → All (λ m. m ≤ 100000) ms → (n t : ℕ) (w : ℤ) (text ns : List ℕ) → length ns + length ms ≤ most_of b → ((n t : ℕ) (w : ℤ) (text : List ℕ) → Reads (in_list b s n t w text (ns ++ ms)) (spread k) p) → Reads (in_list b s n t w text ns) (spread (nodes_events (local_nodes (counts_nodes ms)) k)) p
 read_counts b s k p [] low small n t w text ns few behind = subst (λ (l : List ℕ). Reads (in_list b s n t w text l) (spread k) p) (append-nil ns) (behind n t w text)
@@ -88,7 +88,7 @@ read_value s n t d old text vs x few reads ms p behind =
     let last : List Mark = Finish (codes "el") ∷ ms in
     read_one (in_values s n t d old vs) (in_value s (n + 1) [] vs) (Start (codes "el") []) (map Char text ++ last) p
     ((λ x. x, (λ x. x, (λ x. x, (λ x. x, (λ m. let one = m.1 in let many = m.2 in omega (arith, one, many, few), tt))))), (1, nought, refl, refl, refl))
-    (read_text (places.El listings.Values) (λ b c. refl) (in_value s (n + 1) [] vs) text [] last p
+    (read_text (places.El listings.Values) refl (in_value s (n + 1) [] vs) text [] last p
     (read_one (in_value s (n + 1) text vs) (in_values s (n + 1) 1 nought text (vs ++ x ∷ [])) (Finish (codes "el")) ms p
     (run_added (in_value s (n + 1) text vs) x (x ∷ []) (vs ++ x ∷ []) reads ((refl, tt), λ k inside. absurd (omega (arith, inside))) refl (codes "el")) behind))
 

@@ -1,12 +1,10 @@
--- What the reader of OSiL documents keeps of marks, how many items it holds, and a decoder that was fed bytes.
-use Rattle.std.specs.Prelude.{◌≡◌, ℕ, ◌+◌, ◌<◌, Bool, true, false, Result, Ok, Err, List, [], ◌∷◌, length}
+-- What the reader of OSiL documents holds, how many items, and a decoder that was fed bytes.
+use Rattle.std.specs.Prelude.{◌≡◌, ℕ, ◌+◌, ◌<◌, Bool, true, false, List, [], ◌∷◌, length}
 use Rattle.doc_tree.specs.Marks.{Mark}
 use Rattle.doc_tree.specs.declared.fault.TreeFault.{TreeFault}
 use Rattle.doc_tree.specs.declared.fault.TreeFault.TheVariants as tree
 use Rattle.tag_tests.specs.declared.decoder.Course.{Course}
 use Rattle.tag_tests.specs.declared.decoder.Course.TheVariants.{Going, Stopped, Lost}
-use Rattle.tag_tests.specs.declared.marks.Stop as marks
-use Rattle.tag_tests.specs.declared.marks.Stop.TheVariants as mark_stops
 use Rattle.tag_tests.specs.Forms.{AreTaken, AreRefused}
 use Rattle.tag_tests.specs.Readers as readers
 use Rattle.tag_tests.specs.Readers.{Decoding}
@@ -15,12 +13,10 @@ use Rattle.fraction.specs.declared.ends.Entry.{Entry}
 use Rattle.instance.specs.declared.parts.Goal.{Goal}
 use Rattle.osil_grammar.specs.declared.fault.OsilFault.{OsilFault}
 use Rattle.osil_grammar.specs.declared.fault.OsilFault.TheVariants as faults
-use Rattle.osil_grammar.specs.declared.stop.Stop.{Stop}
-use Rattle.osil_grammar.specs.declared.stop.Stop.TheVariants as stops
 use Rattle.osil_grammar.specs.declared.elements.Place.{Place}
 use Rattle.osil_grammar.specs.declared.elements.Place.TheVariants as places
 use Rattle.osil_grammar.specs.declared.elements.Part.TheVariants as parts
-use Rattle.osil_grammar.specs.declared.decoder.Refused.{Refused}
+use Rattle.osil_grammar.specs.declared.stop.Refused.{Refused}
 use Rattle.osil_grammar.specs.Standing.{State, start}
 use Rattle.osil_grammar.specs.Marked.{osil}
 use Rattle.osil_grammar.specs.Stepping.{told_of}
@@ -59,13 +55,7 @@ HoldsApart s = AreHeldApart (is_in_matrix s.place) s.part s.entries s.starts s.i
 abbrev pub IsFit : State → Type 0
 IsFit s = IsSound s × HoldsApart s
 
--- a step was kept: it is gone past, or nothing is held any more, and its refusal is told, or want of memory
-abbrev pub IsKept : {X : Type 0} → Result X Stop → State → State → Result (Unit {0}) (marks.Stop Refused) → Type 0
-IsKept {X} (Ok x) old new result = (new ≡ old) × (result ≡ Ok tt)
-IsKept {X} (Err (stops.Refused r n)) old new result = (new ≡ start) × (result ≡ Err (mark_stops.Refused (record { refusal = r; at = n })))
-IsKept {X} (Err stops.Memory) old new result = (new ≡ start) × (result ≡ Err mark_stops.Memory)
-
--- these marks are refused so, as the code tells it
+-- the first of these marks that isn't taken is refused so, as the code tells it
 abbrev pub Refuse : State → List Mark → Refused → Type 0
 Refuse s ms r = AreRefused osil s ms (told_of r.refusal r.at)
 

@@ -1,8 +1,9 @@
 -- What a mark of an OSiL document leaves where all its tests pass.
-use Rattle.std.specs.Prelude.{◌≡◌, ◌⊎◌, ℕ, ◌+◌, ◌-◌, ◌<◌, ◌≤◌, ℤ, pos, Bool, true, false, ◌||◌, Option, List, [], ◌∷◌, ◌++◌, map, length, get_or, replicate, set, codes}
+use Rattle.std.specs.Prelude.{◌≡◌, ◌⊎◌, ℕ, ◌+◌, ◌-◌, ◌<◌, ◌≤◌, ℤ, pos, Bool, true, false, ◌||◌, Option, List, [], ◌++◌, map, length, get_or, replicate, set, codes}
 use Rattle.tree_grammar.specs.Elements.{Attribute}
 use Rattle.doc_tree.specs.Marks.{Mark, Char}
 use Rattle.document_tags.specs.Faults.{told_name}
+use Rattle.tag_tests.specs.Characters.{heard}
 use Rattle.rational.specs.Ratio.{IsSame, sum}
 use Rattle.evidence.specs.Sums as evidence
 use Rattle.fraction.specs.Frac.{ratio, ratios}
@@ -72,10 +73,10 @@ Begins s m (El l) z = SaysRun l (attributes m) (into s (El l)) z
 Begins s m p z = z ≡ into s p
 
 -- the characters in a `coef` or an `el` are kept
-abbrev pub heard : Place → List ℕ → ℕ → List ℕ
-heard Coef before c = before ++ c ∷ []
-heard (El l) before c = before ++ c ∷ []
-heard p before c = before
+abbrev pub keeps_text : Place → Bool
+keeps_text Coef = true
+keeps_text (El l) = true
+keeps_text p = false
 
 -- one element fewer is open in one that is passed over, or none is
 abbrev pub Passes : State → State → Type 0
@@ -122,6 +123,6 @@ Ends s p z = z ≡ out_of s p
 abbrev pub Leaves : State → Mark → Kind → State → Type 0
 Leaves s m (begins (To p)) z = Begins s m p z
 Leaves s m (begins l) z = ⊥
-Leaves s (Char c) text z = z ≡ record s { text = heard s.place s.text c }
+Leaves s (Char c) text z = z ≡ record s { text = heard (keeps_text s.place) s.text c }
 Leaves s m text z = ⊥
 Leaves s m (ends p) z = Ends s p z

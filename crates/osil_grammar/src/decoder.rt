@@ -1,33 +1,26 @@
 //! Reads OSiL documents that come in pieces.
 
-ghost use Rattle.std.specs.Prelude.{◌≡◌, ◌≤◌, ◌++◌, [], List, ℕ, None, Ok, Err, Some, IfOk, IfErr, MatchOption};
+ghost use Rattle.std.specs.Prelude.{◌≡◌, ◌≤◌, ◌++◌, [], List, ℕ, None, Ok, Err, Some, IfOk, IfErr, MatchOption, MatchResult};
 ghost use Rattle.doc_tree.specs.declared.fault.TreeFault.{TreeFault};
 ghost use Rattle.osil_grammar.specs.Standing as states;
 ghost use Rattle.osil_grammar.specs.Marked.{instance_of};
 ghost use Rattle.osil_grammar.specs.Reading.{IsInstanceText, DecodeFails};
 ghost use Rattle.osil_grammar.specs.Hearing as hearing;
-ghost use Rattle.osil_grammar.specs.Hearing.{IsKept, WasFed, tree_fault};
+ghost use Rattle.osil_grammar.specs.Hearing.{WasFed, tree_fault};
 
-use crate::fault::{OsilFault, Refusal};
+use crate::fault::OsilFault;
 use crate::standing::Standing;
-use crate::stop::Stop;
+use crate::stop::{Refused, Stop};
 use doc_tree::TreeFault;
 use element_tree::Attributes;
 use instance::Instance;
 use std::alloc::{AllocError, Global};
 use std::marker::Model;
-use tag_tests::{Decoder as MarkDecoder, MarkReader, Stop as MarkStop};
-
-/// How a mark was refused.
-#[derive(Drop)]
-pub(crate) struct Refused {
-    pub refusal: Refusal,
-    pub at: u64,
-}
+use tag_tests::{Decoder as MarkDecoder, MarkReader};
 
 /// What the marks so far leave, which makes an instance as far as it goes. Where one isn't taken it holds nothing.
 #[derive(Drop)]
-pub(crate) struct Reader {
+struct Reader {
     standing: Standing,
 }
 
@@ -42,30 +35,23 @@ impl Model for Reader {
     ghost invariant = { λ r. IsFit r.standing };
 }
 
-/// Keeps what a mark came to. What was refused, or found no memory, holds nothing more.
-fn keep(
-    alloc: Global,
-    standing: &mut Standing,
-    step: Result<(), Stop>,
-) -> Result<(), MarkStop<Refused>>
-    ensures { IsKept step standing.old standing.new result }
+/// What a mark came to. Behind one that isn't taken nothing is held.
+fn keep(alloc: Global, standing: &mut Standing, step: Result<(), Stop>) -> Result<(), Stop>
+    ensures told { result ≡ step }
+    ensures held { MatchResult step (λ _. standing.new ≡ standing.old) (λ _. standing.new ≡ states.start) }
 {
     match step {
         Ok(()) => Ok(()),
-        Err(Stop::Refused { refusal, at }) => {
+        Err(stop) => {
             *standing = Standing::new(alloc);
-            Err(MarkStop::Refused(Refused { refusal, at }))
-        }
-        Err(Stop::Memory) => {
-            *standing = Standing::new(alloc);
-            Err(MarkStop::Memory)
+            Err(stop)
         }
     }
 }
 
 impl Reader {
     /// One who was told nothing.
-    pub(crate) fn new(alloc: Global) -> Self
+    fn new(alloc: Global) -> Self
         ensures { result ≡ states.start }
     {
         Reader {
@@ -73,7 +59,7 @@ impl Reader {
         }
     }
 
-    /// How many numbers it holds.
+    /// How many items it holds.
     fn numbers(&self) -> u64
         ensures is { result ≡ hearing.held self.now }
         ensures few { result ≤ 211009 }
@@ -82,7 +68,7 @@ impl Reader {
     }
 
     /// The instance that the marks say.
-    pub(crate) fn instance(self) -> Result<Instance, AllocError>
+    fn instance(self) -> Result<Instance, AllocError>
         ensures { IfOk result (λ p. p ≡ instance_of self) }
     {
         self.standing.instance()
@@ -113,25 +99,25 @@ impl MarkReader<Refused> for Reader {
         alloc: Global,
         name: &[u8],
         attributes: &Attributes<'_>,
-    ) -> Result<(), MarkStop<Refused>> {
+    ) -> Result<(), Stop> {
         if self.standing.is_full() {
-            return Err(MarkStop::Memory);
+            return Err(Stop::Memory);
         }
         let step = self.standing.enter(name, attributes);
         keep(alloc, &mut self.standing, step)
     }
 
-    fn chars(&mut self, alloc: Global, text: &[u8]) -> Result<(), MarkStop<Refused>> {
+    fn chars(&mut self, alloc: Global, text: &[u8]) -> Result<(), Stop> {
         match self.standing.chars(text) {
             Ok(()) => Ok(()),
             Err(_) => {
                 self.standing = Standing::new(alloc);
-                Err(MarkStop::Memory)
+                Err(Stop::Memory)
             }
         }
     }
 
-    fn close(&mut self, alloc: Global, _name: &[u8]) -> Result<(), MarkStop<Refused>> {
+    fn close(&mut self, alloc: Global, _name: &[u8]) -> Result<(), Stop> {
         let step = self.standing.close();
         keep(alloc, &mut self.standing, step)
     }
@@ -158,7 +144,7 @@ pub struct Decoder {
 impl Model for Decoder {
     ghost use Rattle.tag_tests.specs.Readers.{Decoding};
     ghost use Rattle.osil_grammar.specs.Standing.{State};
-    ghost use Rattle.osil_grammar.specs.declared.decoder.Refused.{Refused};
+    ghost use Rattle.osil_grammar.specs.declared.stop.Refused.{Refused};
 
     ghost Value = { Decoding State Refused };
 
@@ -189,7 +175,8 @@ impl Decoder {
         }
     }
 
-    /// How many numbers it holds so far: the items of all its lists.
+    /// How many items it holds so far: the variables, the rows, the goals with their costs, and the entries and the lists of
+    /// the matrix.
     pub fn numbers(&self) -> u64
         ensures is { result ≡ hearing.numbers self.now.course }
         ensures few { result ≤ 211009 }

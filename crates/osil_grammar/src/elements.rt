@@ -4,6 +4,7 @@ ghost use Rattle.std.specs.Prelude.{◌≡◌};
 ghost use Rattle.osil_grammar.specs.declared.elements.Place.TheVariants as places;
 ghost use Rattle.osil_grammar.specs.declared.elements.Part.TheVariants as parts;
 ghost use Rattle.osil_grammar.specs.Table as table;
+ghost use Rattle.osil_grammar.specs.Leaving as leaving;
 
 use tag_tests::named;
 
@@ -98,7 +99,12 @@ pub(crate) fn leads(place: Place, name: &[u8]) -> Led
 {
     match place {
         Place::Outside => named(name, b"osil", Led::To(Place::Osil), Led::OtherRoot),
-        Place::Osil => named(name, b"instanceData", Led::To(Place::Data), Led::To(Place::Passed)),
+        Place::Osil => named(
+            name,
+            b"instanceData",
+            Led::To(Place::Data),
+            Led::To(Place::Passed),
+        ),
         Place::Passed => Led::To(Place::Passed),
         Place::Data => part_led(name),
         Place::Further => Led::InFurther,
@@ -126,5 +132,15 @@ pub(crate) fn outer(place: Place) -> Place
         Place::Coef => Place::Obj,
         Place::Listed(_) => Place::Part(Part::Coefficients),
         Place::El(l) => Place::Listed(l),
+    }
+}
+
+/// Whether the characters of an element are kept.
+pub(crate) fn keeps_text(place: Place) -> bool
+    ensures { result ≡ leaving.keeps_text place }
+{
+    match place {
+        Place::Coef | Place::El(_) => true,
+        _ => false,
     }
 }

@@ -4,12 +4,10 @@ ghost use Rattle.std.specs.Prelude.{IfOk, IfErr};
 ghost use Rattle.osil_grammar.specs.Reading.{IsInstanceText};
 ghost use Rattle.osil_grammar.specs.Reading.{DecodeFails};
 
-use crate::decoder::{Reader, Refused};
+use crate::decoder::Decoder;
 use crate::fault::OsilFault;
-use doc_tree::TreeFault;
 use instance::Instance;
 use std::alloc::Global;
-use tag_tests::read_marks;
 
 /// The instance that an OSiL document stands for.
 ///
@@ -20,10 +18,8 @@ pub fn decode(alloc: Global, bytes: &[u8]) -> Result<Instance, OsilFault>
     ensures ok { IfOk result (λ p. IsInstanceText bytes.now p) }
     ensures err { IfErr result (DecodeFails bytes.now) }
 {
-    match read_marks(alloc, bytes, Reader::new(alloc)) {
-        Ok(Ok(reader)) => Ok(reader.instance()?),
-        Ok(Err(Refused { refusal, at })) => Err(OsilFault::Refused { refusal, at }),
-        Err(TreeFault::Memory) => Err(OsilFault::Memory),
-        Err(fault) => Err(OsilFault::Tree(fault)),
-    }
+    let mut decoder = Decoder::new(alloc);
+    // what is refused here is told again in the end
+    let _ = decoder.feed(bytes);
+    decoder.finish()
 }

@@ -18,7 +18,7 @@ ghost use Rattle.fraction.specs.Frac.{ratio};
 ghost use Rattle.decimal_text.specs.Whole.{IsWholeText};
 ghost use Rattle.decimal_text.specs.Decimal.{IsDecimal};
 ghost use Rattle.std.specs.Prelude.{◌||◌};
-ghost use Rattle.osil_grammar.specs.declared.stop.Stop.TheVariants.{Refused};
+ghost use Rattle.tag_tests.specs.declared.marks.Stop.TheVariants as stops;
 ghost use Rattle.osil_grammar.specs.Matrix.{stored};
 ghost use Rattle.osil_grammar.specs.Meaning.{AreEntriesOf};
 ghost use Rattle.osil_grammar.specs.Leaving as leaving;
@@ -30,12 +30,12 @@ ghost use Rattle.osil_grammar.specs.Sound.{IsSound, IsSoundIn};
 ghost use Rattle.osil_grammar.specs.Stepping.{Steps, BeginsAt, EndsAt, EndAnswers, IsToldAs, AddsUp};
 
 use crate::domains::zero;
-use crate::elements::{Led, Listing, Part, Place, leads, outer};
+use crate::elements::{Led, Listing, Part, Place, keeps_text, leads, outer};
 use crate::entries::{Lists, entries, is_division};
 use crate::fault::Refusal;
 use crate::run_numbers::{is_in_range, push_decimals, push_wholes};
 use crate::start_tags::{read_coef, read_con, read_obj, read_value_el, read_var, read_whole_el};
-use crate::stop::Stop;
+use crate::stop::{Refused, Stop};
 use crate::tag_numbers::{count, decimal_of, refusal, whole_of};
 use document_tags::told_name;
 use element_tree::Attributes;
@@ -258,12 +258,12 @@ impl Standing {
     /// A refusal of the start tag that comes.
     fn refused(&self, refusal: Refusal) -> Stop
         requires { self.now.count + 1 < 2 ^ 64 }
-        ensures { result ≡ Refused refusal (self.now.count + 1) }
+        ensures { result ≡ stops.Refused (record { refusal = refusal; at = self.now.count + 1 }) }
     {
-        Stop::Refused {
+        Stop::Refused(Refused {
             refusal,
             at: self.count + 1,
-        }
+        })
     }
 
     /// The refusal of the start tag that comes because of where it stands.
@@ -282,10 +282,10 @@ impl Standing {
         ensures { IsToldAs result (record { refusal = refusals.Beyond self.now.further; at = self.now.part_at }) }
     {
         match Text::from_slice(self.alloc, self.further.as_slice()) {
-            Ok(name) => Stop::Refused {
+            Ok(name) => Stop::Refused(Refused {
                 refusal: Refusal::Beyond { name },
                 at: self.part_at,
-            },
+            }),
             Err(_) => Stop::Memory,
         }
     }
@@ -582,10 +582,10 @@ impl Standing {
     pub(crate) fn chars(&mut self, text: &[u8]) -> Result<(), AllocError>
         ensures { OnOk result (AreTaken osil self.old (map Char text.now) self.new) }
     {
-        match self.place {
-            Place::Coef | Place::El(_) => self.text.extend_from_slice(text),
-            _ => Ok(()),
+        if keeps_text(self.place) {
+            return self.text.extend_from_slice(text);
         }
+        Ok(())
     }
 
     /// Goes past an end tag `osil`.
@@ -593,10 +593,10 @@ impl Standing {
         ensures { EndsAt self.old places.Osil self.new result }
     {
         if self.data_at == 0 {
-            return Err(Stop::Refused {
+            return Err(Stop::Refused(Refused {
                 refusal: Refusal::Missing,
                 at: 1,
-            });
+            }));
         }
         self.place = Place::Outside;
         Ok(())
@@ -620,10 +620,10 @@ impl Standing {
         ensures { EndsAt self.old places.Data self.new result }
     {
         if !self.has_variables {
-            return Err(Stop::Refused {
+            return Err(Stop::Refused(Refused {
                 refusal: Refusal::Missing,
                 at: self.data_at,
-            });
+            }));
         }
         self.place = Place::Osil;
         Ok(())
@@ -674,10 +674,10 @@ impl Standing {
         ensures { EndsAt self.old places.Obj self.new result }
     {
         if differs(self.declared_coefs, self.coefs) {
-            return Err(Stop::Refused {
+            return Err(Stop::Refused(Refused {
                 refusal: Refusal::Count,
                 at: self.obj_at,
-            });
+            }));
         }
         self.add_goals()?;
         self.place = Place::Part(Part::Objectives);
@@ -686,12 +686,12 @@ impl Standing {
 
     /// A refusal of the latest element.
     fn refused_latest(&self, refusal: Refusal) -> Stop
-        ensures { result ≡ Refused refusal self.now.count }
+        ensures { result ≡ stops.Refused (record { refusal = refusal; at = self.now.count }) }
     {
-        Stop::Refused {
+        Stop::Refused(Refused {
             refusal,
             at: self.count,
-        }
+        })
     }
 
     /// Adds the cost of a `coef` at its end tag.
@@ -811,12 +811,12 @@ impl Standing {
 
     /// A refusal of the latest part.
     fn refused_part(&self, refusal: Refusal) -> Stop
-        ensures { result ≡ Refused refusal self.now.part_at }
+        ensures { result ≡ stops.Refused (record { refusal = refusal; at = self.now.part_at }) }
     {
-        Stop::Refused {
+        Stop::Refused(Refused {
             refusal,
             at: self.part_at,
-        }
+        })
     }
 
     /// How many lines are stored.

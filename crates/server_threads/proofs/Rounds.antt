@@ -569,9 +569,6 @@ module _ {J S : Type 0} (right : List ℕ → List ℕ → Bool → Option (List
       let out : IsOut desk (shift_promised place).seat.value = All-head (IsOut desk) (shift_promised place).seat.value (workers_out rest) went.keeps.waits in
       subst (λ (d : TableId). IsSeatOf d seat) out.0 a.desk_is
 
-  pub worker_due : (w : View) (count : ℕ) (met : List Met) (items rest : List (Working J S)) (place : Working J S) → Staffed right made desk v w count met items → items ≡ place ∷ rest → Due (worked_so right made) place
-  worker_due w count met items rest place s is = All-head (Due (worked_so right made)) place rest (subst (λ (l : List (Working J S)). All (Due (worked_so right made)) l) is s.due)
-
   -- a worker left, and was met
   pub staffed_met : (w after : View) (count : ℕ) (met : List Met) (items places : List (Working J S)) (place : Working J S) (seat : DeskSeat J) → Staffed right made desk v w count met items
       → items ≡ place ∷ places → worked_so right made (shift_promised place) seat → Meets w seat.me.0 after → Staffed right made desk v after count met places

@@ -1,4 +1,3 @@
-pub mod Conversations
 pub mod Hands
 pub mod Finishes
 pub mod Order

@@ -1,5 +1,5 @@
 -- A session's desk, of which one seat alone made moves.
-use Rattle.std.proofs.Common.{◌≡◌, ℕ, ◌-◌, ◌+◌, length, List, [], ◌++◌, refl, sym, ◌∙◌, ap, subst}
+use Rattle.std.proofs.Common.{◌≡◌, ℕ, ◌-◌, ◌+◌, List, [], ◌++◌, refl, sym, ◌∙◌, ap, subst}
 use mathlib.Core.Option.{some-ne-none}
 use Rattle.os_io.specs.Streams.{Tells}
 use Rattle.job_table.specs.Jobs.{Register, beginning}
@@ -8,7 +8,7 @@ use Rattle.job_table.proofs.Histories.{first_led}
 use Rattle.desk.specs.declared.view.Met.{Met}
 use Rattle.desk.specs.declared.view.View.{View}
 use Rattle.desk.specs.History.{calls, calls_by}
-use Rattle.desk.specs.Rule.{first_view, out_of, HasMet}
+use Rattle.desk.specs.Rule.{first_view, HasMet}
 use Rattle.desk.specs.SeatMoves.{Closes}
 use Rattle.desk.specs.SeatHistory.{Asked}
 use Rattle.desk.proofs.WholeHistory.{calls_then, whole_history}
@@ -24,13 +24,6 @@ use Rattle.sessions.specs.Sessions.{ServesAlone, IsSession}
 -- ---- a new desk
 
 module _ (first v : View) (fresh : first ≡ first_view) (said : List Entry) (asked : Asked Right first v said) where
-  -- no seat is out
-  pub none_out : (v.number ≡ 0) × (out_of v ≡ 0)
-  none_out =
-      let met : v.met ≡ [] = asked.stays.met ∙ ap (λ (w : View). w.met) fresh in
-      let given : v.given ≡ 1 = asked.stays.given ∙ ap (λ (w : View). w.given) fresh in
-      (asked.stays.number ∙ ap (λ (w : View). w.number) fresh, ap (λ (g : ℕ). g - (length v.met + 1)) given ∙ ap (λ (ms : List Met). 1 - (length ms + 1)) met)
-
   -- its history is these moves
   pub closed_runs : (table : Register) → Closes Right v table → table.first ≡ 1 → LeadsStepwise Right (beginning 1) said table
   closed_runs table c begins =

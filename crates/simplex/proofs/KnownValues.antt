@@ -1,5 +1,5 @@
 -- Which values stay known through a turn.
-use Rattle.std.proofs.Common.{◌≡◌, ℕ, ◌+◌, ◌<◌, pos, Bool, true, false, cond, nat_eq, List, [], ◌∷◌, zero, suc, length, length-set, get_or, refl, sym, ◌∙◌, ap, subst, arith}
+use Rattle.std.proofs.Common.{◌≡◌, ℕ, ◌+◌, ◌<◌, pos, Bool, true, false, cond, nat_eq, List, zero, length, length-set, get_or, refl, sym, ◌∙◌, ap, subst, arith}
 use Rattle.std.specs.Prelude.{slice_set}
 use Rattle.std.proofs.lemmas.Bool.{eq-eqb, ne_eqb}
 use Rattle.std.proofs.lemmas.List.{get_or-set_same, get_or-set_other}
@@ -102,15 +102,6 @@ known_kept d e p q ss zs m vs ks ls size numbers place long stays rests k = reco
 -- the number at a column's place
 pub resting_number : (es : List Ends) (ss : List Status) (old : Values) (m : ℕ) → AreResting (ranges_in es) ss old → m < length ss → IsNumber (old m)
 resting_number es ss old m rest h = subst IsNumber (sym (rest m h)) (rest-number (ranges_in es m) (status_at ss m) (ranges-numbers es m))
-
--- a flag that was read
-pub read_flag : (ks : List Bool) (c : ℕ) (b : Bool) → b ≡ get_or ks c b → c < length ks → known_at ks c ≡ b
-read_flag [] c b e h = absurd (omega arith)
-read_flag (k ∷ ks) zero b e h = sym e
-read_flag (k ∷ ks) (suc c) b e h = read_flag ks c b e (omega arith)
-
-pub flags_more : (ks : List Bool) (c j : ℕ) → c < length ks → known_at ks j ≡ true → known_at (slice_set ks c true) j ≡ true
-flags_more ks c j h t = by_eq j c (λ e. ap (known_at (slice_set ks c true)) e ∙ get_or-set_same ks c true false h) (λ n. get_or-set_other ks c j true false n ∙ t)
 
 pub flag_off : (ks : List Bool) (c j : ℕ) → c < length ks → known_at (slice_set ks c false) j ≡ true → (j ≡ c → ⊥) × (known_at ks j ≡ true)
 flag_off ks c j h t =

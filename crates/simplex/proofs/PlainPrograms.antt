@@ -1,5 +1,5 @@
 -- Any ends are those of some program; what a help says of its entry.
-use Rattle.std.proofs.Common.{◌≡◌, ◌-◌, ◌≤◌, pos, neg_ℤ, ◌<ℤ◌, List, [], map, refl, subst, arith, Option, None, Some, MatchOption}
+use Rattle.std.proofs.Common.{◌≡◌, ◌-◌, ◌≤◌, pos, neg_ℤ, ◌<ℤ◌, List, [], map, refl, arith, Option, None, Some, MatchOption}
 use Rattle.std.proofs.lemmas.List.{length-map}
 use Rattle.std.proofs.lemmas.Bool.{le-ltb}
 use Rattle.std.proofs.lemmas.Int.{ints}
@@ -31,10 +31,6 @@ moves_nonzero Rise Rise x h e = omega (arith, ints)
 moves_nonzero Rise Fall x h e = let k : pos 0 <ℤ neg_ℤ x.num = h in omega (arith, ints)
 moves_nonzero Fall Rise x h e = omega (arith, ints)
 moves_nonzero Fall Fall x h e = let k : neg_ℤ x.num <ℤ pos 0 = h in omega (arith, ints)
-
-pub of_some : {X : Type 0} (o : Option X) (x : X) (P : Type 0) (Q : X → Type 0) → o ≡ Some x → MatchOption o P Q → Q x
-of_some None x P Q e h = absurd (cc)
-of_some (Some y) x P Q e h = subst Q (let f : y ≡ x = cc in f) h
 
 pub of_none : {X : Type 0} (o : Option X) (P : Type 0) (Q : X → Type 0) → o ≡ None → MatchOption o P Q → P
 of_none None P Q e h = h

@@ -14,10 +14,9 @@ use Rattle.simplex_rules.specs.Runs.{To, Out, PassesTurn, is_checked}
 use Rattle.simplex_rules.specs.Looks.{answers, IsAfter, AgreesWith, looks_after}
 use Rattle.dictionary.specs.declared.dict.Dict.{Dict}
 use Rattle.simplex.specs.declared.choosing.Swap.{Swap}
-use Rattle.simplex.specs.declared.choosing.Flip.{Flip}
 use Rattle.dictionary.specs.Dict.{columns_of, basic_of, entry_of, HaveOneSize}
 use Rattle.simplex.specs.Tables.{AreStatuses}
-use Rattle.simplex.specs.Choices.{IsSwap, IsFlip}
+use Rattle.simplex.specs.Choices.{IsSwap}
 use Rattle.simplex.specs.Finishes.{after_turn}
 
 -- a look after a turn
@@ -59,13 +58,3 @@ module _ {L : _} {G : _} (d e : Dict L G) (ss : List Status) (s : AreStatuses d 
         ap is_basic (get_or-set_other (slice_set ss w.basic w.status) w.nonbasic c Basic Basic n ∙ get_or-set_other ss w.basic c w.status Basic b) ∙ s.basic c i
         ∙ sym (basis c ∙ exchanged_other (basic_of d) w.basic w.nonbasic c n b)));
   }
-
--- and those after a flip are those of the same dictionary
-pub flipped_statuses : {L : _} {G : _} (d : Dict L G) (ss : List Status) (f : Flip) → AreStatuses d ss → IsFlip ss f → AreStatuses d (slice_set ss f.col f.status)
-flipped_statuses d ss f s is = record {
-  count = length-set ss f.col f.status ∙ s.count;
-  basic = λ c h.
-      by_eq c f.col
-      (λ e. ap (λ k. is_basic (status_at (slice_set ss f.col f.status) k)) e ∙ ap is_basic (get_or-set_same ss f.col f.status Basic is.inside) ∙ is.status ∙ sym is.nonbasic ∙ ap (basic_in ss) (sym e) ∙ s.basic c h)
-      (λ n. ap is_basic (get_or-set_other ss f.col c f.status Basic n) ∙ s.basic c h);
-}

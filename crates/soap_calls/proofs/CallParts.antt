@@ -1,5 +1,5 @@
 -- Parts of a call as elements say them.
-use Rattle.std.proofs.Common.{◌≡◌, ◌≢◌, ◌∙◌, ℕ, Bool, true, false, cond, Option, None, Some, Result, List, [], ◌∷◌, length, refl, ap, sym, subst, arith}
+use Rattle.std.proofs.Common.{◌≡◌, ◌≢◌, ◌∙◌, ℕ, Bool, true, false, cond, Option, None, Some, Result, List, [], ◌∷◌, length, refl, ap, sym, subst}
 use Rattle.std.specs.Prelude.{IfOk, IsSome}
 use Rattle.tree_grammar.specs.Elements.{Element}
 use Rattle.document_tags.specs.declared.spot.Spot.{Spot}
@@ -23,12 +23,6 @@ pub one_text : {E : Type 0} (needed : Bool) (es : List Element) (s : Spot) (r : 
 one_text needed [] s r is says = absurd is
 one_text needed (e ∷ []) s r is says = says e is
 one_text needed (e ∷ f ∷ es) s r is says = absurd is
-
--- none is there
-pub none_there : (needed : Bool) (spots : List Spot) (es : List Element) → length spots ≡ 0 → AreSpots spots es → text_among needed es ≡ cond needed None (Some [])
-none_there needed [] [] none are = refl
-none_there needed [] (e ∷ es) none are = absurd are
-none_there needed (s ∷ spots) es none are = absurd (omega (arith, none))
 
 -- a part that the call doesn't have
 pub not_had : (k : CallKind) (e : Element) (p : Part) (b : Bool) (text : List ℕ) → b ≡ has k p → b ≡ false → text ≡ [] → Some text ≡ part_of_call k e p

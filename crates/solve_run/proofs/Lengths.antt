@@ -128,9 +128,6 @@ items_size (x ∷ xs) =
     let one = ratio_size (ratio x) in
     omega (arith, rest, text, one)
 
-name_size : (job : Option (List ℕ)) → IsShortName job → (c : Claim) → length (report_element (claim_report job c)).name ≤ 4
-name_size job short c = omega arith
-
 module _ (job : Option (List ℕ)) (short : IsShortName job) where
   -- the document is its claim's nodes and little more
   around : (c : Claim) → nodes_size (report_element (claim_report job c)).children ≤ 3000 + nodes_size (claim_nodes c)

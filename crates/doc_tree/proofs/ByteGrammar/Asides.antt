@@ -1,11 +1,5 @@
 -- Comments, instructions and CDATA sections, byte by byte.
-use Rattle.std.proofs.Common.{◌≡◌, ◌≢◌, ℕ, ◌≤◌, ◌⊎◌, inl, inr, ◌↔◌, List, [], ◌∷◌, ◌++◌, map, refl, ap, sym, ◌∙◌, subst, arith, append_assoc}
-use Rattle.std.specs.Prelude.{codes}
-use Rattle.std.specs.Char.{to_ascii_lowercase}
-use Rattle.tree_grammar.specs.Characters.{IsSpace, Each, IsName, IsNameStart, IsNameChar}
-use Rattle.tree_grammar.specs.Content.{Comment, comment_over, comment_plain, comment_dash, comment_text, Begins, IsInstructionText, Instruction, bare, with_text, instruction_text, brackets, IsSectionText}
-use Rattle.doc_tree.specs.Marks.{Mark, Char}
-use Rattle.doc_tree.specs.Rests.{Then, Word, Saying, CommentRest, SectionRest, PiText, PiSpace, PiOver, PiRest, IsNameRest}
+use Rattle.doc_tree.proofs.Words.{Begins, Char, Comment, CommentRest, Each, Instruction, IsInstructionText, IsName, IsNameChar, IsNameRest, IsNameStart, IsSectionText, IsSpace, List, Mark, PiOver, PiRest, PiSpace, PiText, Saying, SectionRest, Then, Word, [], ap, append_assoc, arith, bare, brackets, codes, comment_dash, comment_over, comment_plain, comment_text, inl, inr, instruction_text, map, refl, subst, sym, to_ascii_lowercase, with_text, ℕ, ◌++◌, ◌↔◌, ◌∙◌, ◌∷◌, ◌≡◌, ◌≢◌, ◌≤◌, ◌⊎◌}
 use Rattle.doc_tree.specs.declared.names.Part.TheVariants as parts
 use Rattle.doc_tree.proofs.ByteGrammar.Spans.{then_over, then_next, then_back, word_first, word_back, word_last}
 use Rattle.doc_tree.proofs.ByteGrammar.Bytes.{IsHigh, high_not_space, not_space, space_low}
@@ -17,9 +11,8 @@ not_begins b r (c ∷ cs) y n e h = n (cc)
 module _ (K : List ℕ → List Mark → Type 0) where
   -- a comment
   comment_to : (b : ℕ) (r : List ℕ) (es : List Mark) (c : Comment) (y : List ℕ) → b ∷ r ≡ comment_text c y → b ≢ 45 → K y es → CommentRest K r es
-  comment_to b r es comment_over y e n k = absurd (n (cc))
   comment_to b r es (comment_plain c o t) y e n k = record { comment = t; behind = y; text = cc; after = k }
-  comment_to b r es (comment_dash c o t) y e n k = absurd (n (cc))
+  comment_to b r es _ y e n k = absurd (n (cc))
 
   pub comment_plain_byte : (b : ℕ) (r : List ℕ) (es : List Mark) → b ≢ 45 → CommentRest K (b ∷ r) es ↔ CommentRest K r es
   comment_plain_byte b r es n = (
@@ -129,7 +122,7 @@ pub name_none : (L : List ℕ → List ℕ → List Mark → Type 0) (b : ℕ) (
 name_none L b r es n h = (then_over IsName L b r es (λ run i. n i.0) h).0
 
 -- CDATA sections
-no_brackets : (n b : ℕ) → b ≢ 93 → brackets n b ≡ 0
+pub no_brackets : (n b : ℕ) → b ≢ 93 → brackets n b ≡ 0
 no_brackets n b m = grind arith
 
 module _ (K : List ℕ → List Mark → Type 0) where
@@ -160,9 +153,8 @@ module _ (K : List ℕ → List Mark → Type 0) where
       let s : Saying [] K w.behind es = w.after in
       let e1 = w.text in let q : w.behind ≡ r = cc in
       subst (λ z. K z es) q (subst (λ z. K w.behind z) (sym s.says) s.after)
-  section_end_to r es (a ∷ []) i y e w = let e1 = w.text in let h : ◌≡◌ {A = ℕ} 62 93 = cc in absurd (omega arith)
-  section_end_to r es (a ∷ b ∷ []) i y e w = let e1 = w.text in let h : ◌≡◌ {A = ℕ} 62 93 = cc in absurd (omega arith)
   section_end_to r es (a ∷ b ∷ c ∷ cs) i y e w = let p : a ≡ 93 = cc in let q : b ≡ 93 = cc in let t : c ≡ 62 = cc in absurd (grind arith)
+  section_end_to r es _ i y e w = let e1 = w.text in let h : ◌≡◌ {A = ℕ} 62 93 = cc in absurd (omega arith)
 
   pub section_end : (r : List ℕ) (es : List Mark) → SectionRest 0 K (93 ∷ 93 ∷ 62 ∷ r) es ↔ K r es
   section_end r es = (

@@ -1,9 +1,5 @@
 -- Which bytes are of which kind.
-use Rattle.std.proofs.Common.{◌≡◌, ℕ, ◌≤◌, ◌⊎◌, inl, inr, List, [], ◌∷◌, arith, ◌↔◌}
-use Rattle.tree_grammar.specs.Characters.{IsSpace, IsNameStart, IsNameChar, IsQNameRest}
-use Rattle.tree_grammar.specs.Tags.{IsQuote}
-use Rattle.doc_tree.specs.Rests.{IsNameRest}
-use Rattle.doc_tree.specs.declared.names.Part.{Part}
+use Rattle.doc_tree.proofs.Words.{IsNameChar, IsNameRest, IsNameStart, IsQNameRest, IsQuote, IsSpace, List, Part, [], arith, inl, inr, ℕ, ◌↔◌, ◌∷◌, ◌≡◌, ◌≢◌, ◌≤◌, ◌⊎◌}
 use Rattle.doc_tree.specs.declared.names.Part.TheVariants as parts
 
 -- at `-`, at `.`, from `0` to `:`, or from `A` on
@@ -14,17 +10,17 @@ IsHigh c = (c ≡ 45) ⊎ ((c ≡ 46) ⊎ (((48 ≤ c) × (c ≤ 58)) ⊎ (65 �
 abbrev pub IsMultibyte : ℕ → Type 0
 IsMultibyte c = 128 ≤ c
 
-pub quote_low : (c : ℕ) → IsQuote c → c ≤ 39
-quote_low c (inl e) = omega arith
-quote_low c (inr e) = omega arith
+pub quote_range : (c : ℕ) → IsQuote c → (33 ≤ c) × (c ≤ 39)
+quote_range c i = (grind arith, grind arith)
 
-pub start_high : (c : ℕ) → IsNameStart c → 65 ≤ c
-start_high c (inl (inl p)) = p.0
-start_high c (inl (inr p)) = let q = p.0 in omega arith
-start_high c (inr p) = omega arith
+pub start_range : (c : ℕ) → IsNameStart c → (65 ≤ c) × (c ≤ 122)
+start_range c i = (grind arith, grind arith)
+
+pub char_range : (c : ℕ) → IsNameChar c → (45 ≤ c) × (c ≤ 122) × (c ≢ 58)
+char_range c i = (grind arith, grind arith, grind arith)
 
 pub char_high : (c : ℕ) → IsNameChar c → IsHigh c
-char_high c (inl p) = inr (inr (inr (start_high c p)))
+char_high c (inl p) = inr (inr (inr ((start_range c p).0)))
 char_high c (inr (inl p)) = inr (inr (inl (p.0, (let q = p.1 in omega arith))))
 char_high c (inr (inr (inl p))) = inl p
 char_high c (inr (inr (inr p))) = inr (inl p)
@@ -45,14 +41,13 @@ rest_high c cs (inr p) = inr (inr (inl (let e = p.0 in omega arith, let e = p.0 
 -- a byte that a name goes on with
 pub part_high : (p : Part) (c : ℕ) (cs : List ℕ) → IsNameRest p (c ∷ cs) → IsHigh c
 part_high parts.First c cs h = rest_high c cs h
-part_high parts.Colon c cs h = inr (inr (inr (start_high c h.0)))
+part_high parts.Colon c cs h = inr (inr (inr ((start_range c h.0).0)))
 part_high parts.Local c cs h = char_high c h.0
 
 -- a text that each part may go on with
 pub some_run : (p : Part) → (run : List ℕ) × IsNameRest p run
-some_run parts.First = ([], tt)
 some_run parts.Colon = (97 ∷ [], (inl (inr (omega arith, omega arith)), tt))
-some_run parts.Local = ([], tt)
+some_run _ = ([], tt)
 
 pub next_high : (p q : Part) (c : ℕ) → ((run : List ℕ) → IsNameRest p (c ∷ run) ↔ IsNameRest q run) → IsHigh c
 next_high p q c f = let s = some_run q in part_high p c s.0 ((f s.0).1 s.1)

@@ -1,13 +1,7 @@
 -- The content of an element, byte by byte.
-use Rattle.std.proofs.Common.{◌≡◌, ◌≢◌, ℕ, ◌-◌, ◌<◌, ◌≤◌, ◌↔◌, List, [], ◌∷◌, ◌++◌, map, refl, ap, sym, ◌∙◌, subst, arith}
-use Rattle.tree_grammar.specs.Characters.{IsSpace, Each, IsQName, local_part, reference_chars}
-use Rattle.tree_grammar.specs.Tags.{Tag, tag_text, attributes_text, attribute_list}
-use Rattle.tree_grammar.specs.Content.{brackets, Content, nothing, char, reference, section, comment, instruction, empty, nested, comment_text, instruction_text, content_text, end_text, Body, closed, opened, body_text}
-use Rattle.doc_tree.specs.Marks.{Mark, Start, Char, Finish, content_marks, body_marks}
-use Rattle.doc_tree.specs.Rests.{Terms, CommentRest, SectionRest, PiRest, Then, Word, RefRest, TagRest, BodyRest, IsFit, IsBodyFit, Inside, Saying, EndRest, TagFirst, Between, depth_left}
-use Rattle.doc_tree.specs.Completions.{Insides, SaidByReference}
+use Rattle.doc_tree.proofs.Words.{Between, Body, BodyRest, Char, CommentRest, Content, Each, EndRest, Finish, Inside, Insides, IsBodyFit, IsFit, IsQName, IsSpace, List, Mark, PiRest, RefRest, SaidByReference, Saying, SectionRest, Start, Tag, TagFirst, TagRest, Terms, Then, Word, [], ap, arith, attribute_list, attributes_text, body_marks, body_text, brackets, char, closed, comment, comment_text, content_marks, content_text, depth_left, empty, end_text, instruction, instruction_text, local_part, map, nested, nothing, opened, reference, reference_chars, refl, section, subst, sym, tag_text, ℕ, ◌++◌, ◌-◌, ◌<◌, ◌↔◌, ◌∙◌, ◌∷◌, ◌≡◌, ◌≢◌, ◌≤◌}
 use Rattle.doc_tree.proofs.ByteGrammar.Asides.{instruction_to, instruction_of}
-use Rattle.doc_tree.proofs.ByteGrammar.Bytes.{start_high}
+use Rattle.doc_tree.proofs.ByteGrammar.Bytes.{start_range}
 
 module _ (room count : ℕ) (name : List ℕ) (K : List ℕ → List Mark → Type 0) where
   char_to : (b : ℕ) (r : List ℕ) (es : List Mark) → b ≢ 60 → b ≢ 38 → (content : Content) → IsFit room count content → (space : List ℕ) → Each IsSpace space → (y : List ℕ) (k : List Mark) → b ∷ r ≡ content_text content (end_text name space y) → es ≡ content_marks content (Finish (local_part name) ∷ k) → K y k → (2 ≤ count → b ≢ 62) × Saying (Char b ∷ []) (Inside room (brackets count b) name K) r es
@@ -31,14 +25,9 @@ module _ (room count : ℕ) (name : List ℕ) (K : List ℕ → List Mark → Ty
 
   -- a reference
   amp_to : (x : List ℕ) (es : List Mark) → (content : Content) → IsFit room count content → (space : List ℕ) → Each IsSpace space → (y : List ℕ) (k : List Mark) → 38 ∷ x ≡ content_text content (end_text name space y) → es ≡ content_marks content (Finish (local_part name) ∷ k) → K y k → RefRest (λ chars. Saying (map Char chars) (Inside room 0 name K)) x es
-  amp_to x es nothing f space s y k e q a = let h : ◌≡◌ {A = ℕ} 38 60 = cc in absurd (omega arith)
   amp_to x es (char c l p more) f space s y k e q a = absurd (p (cc))
   amp_to x es (reference t more) f space s y k e q a = record { to = t; behind = content_text more (end_text name space y); text = cc; after = record { later = content_marks more (Finish (local_part name) ∷ k); says = q; after = record { content = more; fit = f; space = space; spaced = s; behind = y; later = k; text = refl; says = refl; after = a } } }
-  amp_to x es (section t n more) f space s y k e q a = let h : ◌≡◌ {A = ℕ} 38 60 = cc in absurd (omega arith)
-  amp_to x es (comment t more) f space s y k e q a = let h : ◌≡◌ {A = ℕ} 38 60 = cc in absurd (omega arith)
-  amp_to x es (instruction t more) f space s y k e q a = let h : ◌≡◌ {A = ℕ} 38 60 = cc in absurd (omega arith)
-  amp_to x es (empty tag more) f space s y k e q a = let h : ◌≡◌ {A = ℕ} 38 60 = cc in absurd (omega arith)
-  amp_to x es (nested tag inner sp ss more) f space s y k e q a = let h : ◌≡◌ {A = ℕ} 38 60 = cc in absurd (omega arith)
+  amp_to x es _ f space s y k e q a = absurd (grind arith)
 
   pub inside_amp : (x : List ℕ) (es : List Mark) → Inside room count name K (38 ∷ x) es ↔ RefRest (λ chars. Saying (map Char chars) (Inside room 0 name K)) x es
   inside_amp x es = (
@@ -177,7 +166,7 @@ tag_to room n K b r es no_end no_bang no_mark (is_tag l t) = (l, t)
 -- an end tag in content
 slash : (r run : List ℕ) → IsQName run → (y : List ℕ) → 47 ∷ r ≡ run ++ y → ⊥
 slash r [] q y e = q
-slash r (c ∷ cs) q y e = let h : 47 ≡ c = cc in let l = start_high c q.0 in omega arith
+slash r (c ∷ cs) q y e = let h : 47 ≡ c = cc in let l = (start_range c q.0).0 in omega arith
 
 pub end_to : (room : ℕ) (n : List ℕ) (K : List ℕ → List Mark → Type 0) (r : List ℕ) (es : List Mark) → LessCases room n K (47 ∷ r) es → Word n (EndRest n K) r es
 end_to room n K r es (is_end t e w) = let q : t ≡ r = cc in subst (λ z. Word n (EndRest n K) z es) q w
@@ -189,7 +178,7 @@ end_to room n K r es (is_tag l t) = absurd (slash r t.run t.is t.behind t.text)
 -- a name begins with no mark
 pub no_name : (b : ℕ) (r run : List ℕ) → b < 65 → IsQName run → (y : List ℕ) → b ∷ r ≡ run ++ y → ⊥
 no_name b r [] l q y e = q
-no_name b r (c ∷ cs) l q y e = let h : b ≡ c = cc in let k = start_high c q.0 in omega arith
+no_name b r (c ∷ cs) l q y e = let h : b ≡ c = cc in let k = (start_range c q.0).0 in omega arith
 
 -- a comment, a section, an instruction in content
 module _ (room : ℕ) (n : List ℕ) (K : List ℕ → List Mark → Type 0) where

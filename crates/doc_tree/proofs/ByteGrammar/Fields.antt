@@ -1,23 +1,13 @@
 -- The fields of the declaration.
-use Rattle.std.proofs.Common.{◌≡◌, ◌≢◌, ℕ, ◌⊎◌, inl, inr, List, [], ◌∷◌, ◌++◌, refl, ap, ◌∙◌}
-use Rattle.tree_grammar.specs.Characters.{IsSpace, Each, Some1}
-use Rattle.tree_grammar.specs.Tags.{IsQuote, Equals, equals_text}
-use Rattle.tree_grammar.specs.Declaration.{Version, version_text, Encoding, no_encoding, encoded, encoding_text, Standalone, no_standalone, standing, standalone_text}
-use Rattle.doc_tree.specs.Marks.{Mark}
-use Rattle.doc_tree.specs.Rests.{Aim, readable, any, special, IsReadEncoding, IsSpecial, Terms, IsEncodingRead, Word, Before, EndsDeclaration, Or, Never, GapRest, Next1, Next2, Gap, FieldRest, FieldOver, FieldValue, Valued, Foreign, ForeignRest, VersionRest, IsFieldValue, field_name}
-use Rattle.doc_tree.specs.declared.declaration.Field.{Field}
+use Rattle.doc_tree.proofs.ByteGrammar.Printables.{some_each}
+use Rattle.doc_tree.proofs.Words.{Aim, Before, Each, Encoding, EndsDeclaration, Equals, Field, FieldOver, FieldRest, FieldValue, Foreign, ForeignRest, Gap, GapRest, IsEncodingRead, IsFieldValue, IsQuote, IsReadEncoding, IsSpace, IsSpecial, List, Mark, Never, Next1, Next2, Or, Some1, Standalone, Terms, Valued, Version, VersionRest, Word, [], ap, encoded, encoding_text, equals_text, field_name, inl, inr, no_encoding, no_standalone, readable, refl, standalone_text, standing, version_text, ℕ, ◌++◌, ◌∙◌, ◌∷◌, ◌≡◌, ◌≢◌, ◌⊎◌}
 use Rattle.doc_tree.specs.declared.declaration.Field.TheVariants as fields
 use Rattle.doc_tree.proofs.ByteGrammar.Spans.{then_map}
 use Rattle.doc_tree.proofs.ByteGrammar.Tags.{equals_to, equals_of}
 
-some_each : (space : List ℕ) → Some1 IsSpace space → Each IsSpace space
-some_each [] s = absurd s
-some_each (c ∷ cs) s = s
-
 of_special : (aim : Aim) (name : List ℕ) → IsSpecial aim → IsReadEncoding aim name
 of_special readable name h = absurd h
-of_special any name h = tt
-of_special special name h = tt
+of_special _ name h = tt
 
 module _ (u : Terms) where
   -- the end behind a field
@@ -64,7 +54,7 @@ module _ (u : Terms) where
 
   last_of : (x : List ℕ) (es : List Mark) → GapRest u Never x es → Over x es
   last_of x es (inl h) = ends_over [] tt x x es refl h
-  last_of x es (inr h) = elim h.after [ inl k ↦ ends_over h.run (some_each h.run h.is) h.behind x es h.text k | inr k ↦ absurd k ]
+  last_of x es (inr h) = elim h.after [ inl k ↦ ends_over h.run (some_each IsSpace h.run h.is) h.behind x es h.text k | inr k ↦ absurd k ]
 
   pub record Over2 (x : List ℕ) (es : List Mark) : Type 0 where
     pub standalone : Standalone
@@ -77,7 +67,7 @@ module _ (u : Terms) where
 
   standalone_of : (x : List ℕ) (es : List Mark) → GapRest u (Next2 u) x es → Over2 x es
   standalone_of x es (inl h) = record { standalone = no_standalone; rest = x; text = refl; over = ends_over [] tt x x es refl h }
-  standalone_of x es (inr h) = elim h.after [ inl k ↦ record { standalone = no_standalone; rest = x; text = refl; over = ends_over h.run (some_each h.run h.is) h.behind x es h.text k } | inr k ↦ next2_of h.run h.is h.behind x es h.text k ]
+  standalone_of x es (inr h) = elim h.after [ inl k ↦ record { standalone = no_standalone; rest = x; text = refl; over = ends_over h.run (some_each IsSpace h.run h.is) h.behind x es h.text k } | inr k ↦ next2_of h.run h.is h.behind x es h.text k ]
 
   -- behind the version
   widen_or : (x : List ℕ) (es : List Mark) → Or (EndsDeclaration u) (Next2 u) x es → Or (EndsDeclaration u) (Next1 u) x es

@@ -1,16 +1,9 @@
 -- Names, and what stands behind an attribute's or a field's name, byte by byte.
-use Rattle.std.proofs.Common.{◌≢◌, ℕ, ◌-◌, ◌≤◌, inl, inr, ◌↔◌, List, [], ◌∷◌, ◌++◌, sym, subst, arith, append_assoc}
-use Rattle.std.proofs.lemmas.List.{append-nil}
-use Rattle.tree_grammar.specs.Characters.{IsSpace, IsQName, IsQNameRest, IsNameStart}
-use Rattle.tree_grammar.specs.Tags.{IsQuote}
-use Rattle.doc_tree.specs.Marks.{Mark}
-use Rattle.doc_tree.specs.Rests.{Terms, Then, Word, Quoted, QuoteRest, EqualsRest, TagRest, BodyRest, AttributeValue, TagFirst, Between, depth_left, IsNameRest}
-use Rattle.doc_tree.specs.declared.names.Part.{Part}
+use Rattle.doc_tree.proofs.Words.{AttributeValue, Between, BodyRest, EqualsRest, InKey, InTag, IsNameRest, IsNameStart, IsQName, IsQNameRest, IsQuote, IsSpace, List, Mark, Part, QuoteRest, Quoted, State, TagChoice, TagFirst, TagRest, Terms, Then, Word, [], append-nil, append_assoc, arith, depth_left, inl, inr, subst, sym, ℕ, ◌++◌, ◌-◌, ◌↔◌, ◌∷◌, ◌≢◌, ◌≤◌}
 use Rattle.doc_tree.specs.declared.names.Part.TheVariants as parts
-use Rattle.doc_tree.specs.Completions.{State, InTag, InKey, TagChoice}
 use Rattle.doc_tree.proofs.ByteGrammar.Spans.{then_over, then_here, then_next, then_back, then_map, spaces_more, spaces_over, word_first, word_last, quoted_first, quoted_back}
 use Rattle.doc_tree.proofs.ByteGrammar.Tags.{tag_plain, body_begins, body_space}
-use Rattle.doc_tree.proofs.ByteGrammar.Bytes.{IsHigh, next_high, high_not_space, space_low, start_high, not_space}
+use Rattle.doc_tree.proofs.ByteGrammar.Bytes.{IsHigh, high_not_space, next_high, not_space, quote_range, space_low, start_range}
 
 module _ (K : ℕ → List ℕ → List Mark → Type 0) where
   pub equals_space : (b : ℕ) (r : List ℕ) (es : List Mark) → IsSpace b → EqualsRest K (b ∷ r) es ↔ EqualsRest K r es
@@ -22,15 +15,11 @@ module _ (K : ℕ → List ℕ → List Mark → Type 0) where
   pub equals_stuck : (b : ℕ) (r : List ℕ) (es : List Mark) → (IsSpace b → ⊥) → b ≢ 61 → EqualsRest K (b ∷ r) es → ⊥
   equals_stuck b r es s n h = n (word_first (QuoteRest K) 61 [] b r es ((spaces_over (Word (61 ∷ []) (QuoteRest K)) b r es s).0 h)).0
 
-  quote_high : (b : ℕ) → IsQuote b → 33 ≤ b
-  quote_high b (inl e) = omega arith
-  quote_high b (inr e) = omega arith
-
   pub quote_space : (b : ℕ) (r : List ℕ) (es : List Mark) → IsSpace b → QuoteRest K (b ∷ r) es ↔ QuoteRest K r es
-  quote_space b r es s = spaces_more (Quoted K) b r es s (λ q. let i = quote_high b (quoted_first K b r es q).0 in let l = space_low b s in omega arith)
+  quote_space b r es s = spaces_more (Quoted K) b r es s (λ q. let i = (quote_range b (quoted_first K b r es q).0).0 in let l = space_low b s in omega arith)
 
   pub quote_over : (b : ℕ) (r : List ℕ) (es : List Mark) → IsQuote b → QuoteRest K (b ∷ r) es ↔ K b r es
-  quote_over b r es i = let o = spaces_over (Quoted K) b r es (not_space b (quote_high b i)) in (λ h. (quoted_first K b r es (o.0 h)).1, λ k. o.1 (quoted_back K b r es i k))
+  quote_over b r es i = let o = spaces_over (Quoted K) b r es (not_space b ((quote_range b i).0)) in (λ h. (quoted_first K b r es (o.0 h)).1, λ k. o.1 (quoted_back K b r es i k))
 
   pub quote_stuck : (b : ℕ) (r : List ℕ) (es : List Mark) → (IsSpace b → ⊥) → (IsQuote b → ⊥) → QuoteRest K (b ∷ r) es → ⊥
   quote_stuck b r es s n h = n (quoted_first K b r es ((spaces_over (Quoted K) b r es s).0 h)).0
@@ -48,9 +37,6 @@ module _ (L : List ℕ → List ℕ → List Mark → Type 0) (n : List ℕ) whe
     λ h. subst (λ z. L z (b ∷ r) es) (append-nil n) (then_over (IsNameRest p) (λ run. L (n ++ run)) b r es f h).1,
     λ k. then_here (IsNameRest p) (λ run. L (n ++ run)) (b ∷ r) es i (subst (λ z. L z (b ∷ r) es) (sym (append-nil n)) k),
   )
-
-  pub name_stuck : (b : ℕ) (r : List ℕ) (es : List Mark) → ((run : List ℕ) → IsNameRest parts.Colon (b ∷ run) → ⊥) → Then (IsNameRest parts.Colon) (λ run. L (n ++ run)) (b ∷ r) es → ⊥
-  name_stuck b r es f h = (then_over (IsNameRest parts.Colon) (λ run. L (n ++ run)) b r es f h).0
 
 -- its first byte
 pub qname_first : (L : List ℕ → List ℕ → List Mark → Type 0) (b : ℕ) (r : List ℕ) (es : List Mark) → IsNameStart b → Then IsQName L (b ∷ r) es ↔ Then (IsNameRest parts.First) (λ run. L (b ∷ run)) r es
@@ -71,7 +57,7 @@ module _ (u : Terms) where
 
   -- an attribute begins, or the tag ends
   choice_to : (s : State) (b : ℕ) (r : List ℕ) (es : List Mark) → IsNameStart b → TagChoice s u (b ∷ r) es → Then (IsNameRest parts.First) (λ run. InKey s u (b ∷ run)) r es
-  choice_to s b r es i (inl h) = let l = start_high b i in elim (body_begins (depth_left u s.names - 1) s.name s.kept (Between 0 s.names u) b r es h) [ inl e ↦ absurd (omega arith) | inr e ↦ absurd (omega arith) ]
+  choice_to s b r es i (inl h) = let l = (start_range b i).0 in elim (body_begins (depth_left u s.names - 1) s.name s.kept (Between 0 s.names u) b r es h) [ inl e ↦ absurd (omega arith) | inr e ↦ absurd (omega arith) ]
   choice_to s b r es i (inr h) = (qname_first (InKey s u) b r es i).0 h
 
   ends_to : (s : State) (b : ℕ) (r : List ℕ) (es : List Mark) → (IsNameStart b → ⊥) → TagChoice s u (b ∷ r) es → BodyRest (depth_left u s.names - 1) s.name s.kept (Between 0 s.names u) (b ∷ r) es
@@ -80,7 +66,7 @@ module _ (u : Terms) where
 
   no_space : (s : State) (b : ℕ) (r : List ℕ) (es : List Mark) → IsSpace b → TagChoice s u (b ∷ r) es → ⊥
   no_space s b r es i (inl h) = body_space (depth_left u s.names - 1) s.name s.kept (Between 0 s.names u) b r es i h
-  no_space s b r es i (inr h) = qname_stuck (InKey s u) b r es (λ q. let l = start_high b q in let k = space_low b i in omega arith) h
+  no_space s b r es i (inr h) = qname_stuck (InKey s u) b r es (λ q. let l = (start_range b q).0 in let k = space_low b i in omega arith) h
 
   pub choice_key : (s : State) (b : ℕ) (r : List ℕ) (es : List Mark) → IsNameStart b → TagChoice s u (b ∷ r) es ↔ Then (IsNameRest parts.First) (λ run. InKey s u (b ∷ run)) r es
   choice_key s b r es i = (choice_to s b r es i, λ h. inr ((qname_first (InKey s u) b r es i).1 h))

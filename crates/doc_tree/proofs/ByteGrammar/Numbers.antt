@@ -1,12 +1,5 @@
 -- The digits of references, byte by byte.
-use Rattle.std.proofs.Common.{◌≡◌, ◌≢◌, ℕ, ◌+◌, ◌*◌, ◌<◌, ◌≤◌, inl, inr, ◌↔◌, List, [], ◌∷◌, ◌++◌, sym, subst, arith}
-use Rattle.std.specs.Prelude.{encode_utf8}
-use Rattle.std.specs.Char.{digit_value}
-use Rattle.std.specs.Str.Parse.{digits_value_after}
-use Rattle.tree_grammar.specs.Characters.{IsXmlChar}
-use Rattle.doc_tree.specs.Marks.{Mark}
-use Rattle.doc_tree.specs.Rests.{Word, IsDigitsRest, DigitRest, IsNumeralRest, NumeralRest}
-use Rattle.doc_tree.specs.Completions.{IsRadix}
+use Rattle.doc_tree.proofs.Words.{DigitRest, IsDigitsRest, IsNumeralRest, IsRadix, IsXmlChar, List, Mark, NumeralRest, Word, [], arith, digit_value, digits_value_after, encode_utf8, inl, inr, subst, sym, ℕ, ◌*◌, ◌++◌, ◌+◌, ◌<◌, ◌↔◌, ◌∷◌, ◌≡◌, ◌≢◌, ◌≤◌}
 use Rattle.doc_tree.proofs.ByteGrammar.Spans.{then_over, then_here, then_next, then_back, word_first, word_last}
 
 grows : (radix n d : ℕ) → IsRadix radix → n ≤ n * radix + d

@@ -1,16 +1,7 @@
 -- What stands round the root, byte by byte.
-use Rattle.std.proofs.Common.{◌≡◌, ◌≢◌, ℕ, ◌-◌, ◌≤◌, ◌⊎◌, inl, inr, ◌↔◌, List, [], ◌∷◌, ◌++◌, Bool, true, false, map, refl, ap, sym, subst, arith}
-use Rattle.tree_grammar.specs.Characters.{IsSpace, IsName, IsQName}
-use Rattle.tree_grammar.specs.Tags.{attributes_text}
-use Rattle.tree_grammar.specs.Content.{Misc, misc_over, misc_space, misc_comment, misc_instruction, misc_text, comment_text, instruction_text}
-use Rattle.tree_grammar.specs.Declaration.{Declaration, no_declaration, declared, declaration_text, version_text, encoding_text, standalone_text}
-use Rattle.std.specs.Prelude.{codes}
-use Rattle.std.specs.Char.{to_ascii_lowercase}
-use Rattle.tree_grammar.specs.Document.{mark_text}
-use Rattle.doc_tree.specs.Marks.{Mark}
-use Rattle.doc_tree.specs.Rests.{Terms, IsSpecial, IsDeclarationRead, depth_left, Choice, Never, PiRest, PiOver, FirstOver, Then, Word, TagRest, After, Before, RootOrType, TagFirst, Marked, Whole, Gap}
+use Rattle.doc_tree.proofs.Words.{After, Before, Bool, Choice, Declaration, FirstOver, Gap, IsDeclarationRead, IsName, IsQName, IsSpace, IsSpecial, List, Mark, Marked, Misc, Never, PiOver, PiRest, RootOrType, TagFirst, TagRest, Terms, Then, Whole, Word, [], ap, arith, attributes_text, codes, comment_text, declaration_text, declared, depth_left, encoding_text, false, inl, inr, instruction_text, map, mark_text, misc_comment, misc_instruction, misc_over, misc_space, misc_text, no_declaration, refl, standalone_text, subst, sym, to_ascii_lowercase, true, version_text, ℕ, ◌++◌, ◌-◌, ◌↔◌, ◌∷◌, ◌≡◌, ◌≢◌, ◌≤◌, ◌⊎◌}
 use Rattle.doc_tree.specs.declared.declaration.Field.TheVariants as fields
-use Rattle.doc_tree.proofs.ByteGrammar.Bytes.{IsHigh, space_low, start_high, high_not_space}
+use Rattle.doc_tree.proofs.ByteGrammar.Bytes.{IsHigh, high_not_space, space_low, start_range}
 use Rattle.doc_tree.proofs.ByteGrammar.Spans.{some_stuck}
 use Rattle.doc_tree.proofs.ByteGrammar.Asides.{instruction_to, instruction_of, pi_over_high}
 use Rattle.doc_tree.proofs.ByteGrammar.Rounds.{Cases, at_space, at_comment, at_pi, IsRound, round_space, round_stuck, round_tag, round_question}
@@ -19,7 +10,7 @@ use Rattle.doc_tree.proofs.ByteGrammar.Fields.{gap_to, gap_of, gap_foreign}
 -- a name begins with a letter or `_`
 name_high : (b : ℕ) (r run : List ℕ) → IsQName run → (y : List ℕ) → b ∷ r ≡ run ++ y → 65 ≤ b
 name_high b r [] q y e = absurd q
-name_high b r (c ∷ cs) q y e = let h : b ≡ c = cc in let k = start_high c q.0 in omega arith
+name_high b r (c ∷ cs) q y e = let h : b ≡ c = cc in let k = (start_range c q.0).0 in omega arith
 
 module _ (u : Terms) where
   -- behind the root

@@ -1,8 +1,5 @@
 -- What white space, comments and instructions stand in, round the root.
-use Rattle.std.proofs.Common.{◌≡◌, ◌≢◌, ℕ, ◌≤◌, ◌⊎◌, inl, inr, ◌↔◌, List, [], ◌∷◌, sym, subst, arith}
-use Rattle.tree_grammar.specs.Characters.{IsSpace}
-use Rattle.doc_tree.specs.Marks.{Mark}
-use Rattle.doc_tree.specs.Rests.{Word, CommentRest, PiRest}
+use Rattle.doc_tree.proofs.Words.{CommentRest, IsSpace, List, Mark, PiRest, Word, [], arith, inl, inr, subst, sym, ℕ, ◌↔◌, ◌∷◌, ◌≡◌, ◌≢◌, ◌≤◌, ◌⊎◌}
 use Rattle.doc_tree.proofs.ByteGrammar.Bytes.{space_low}
 
 -- How it goes on.

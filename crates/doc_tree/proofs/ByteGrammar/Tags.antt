@@ -1,13 +1,5 @@
 -- Start tags, byte by byte.
-use Rattle.std.proofs.Common.{◌≡◌, ℕ, ◌-◌, ◌⊎◌, inl, inr, ◌↔◌, List, [], ◌∷◌, ◌++◌, Bool, true, false, cond, refl, ap, sym, subst, arith, append_assoc}
-use Rattle.std.proofs.lemmas.List.{append-nil}
-use Rattle.tree_grammar.specs.Elements.{Attribute}
-use Rattle.tree_grammar.specs.Characters.{IsSpace, Each, local_part}
-use Rattle.tree_grammar.specs.Tags.{IsQuote, Equals, equals_text, value_text, value_chars, Attributes, no_attribute, attribute, attributes_text, attribute_list, is_kept, AreUniqueNames}
-use Rattle.tree_grammar.specs.Content.{Body, closed, opened, body_text}
-use Rattle.doc_tree.specs.Marks.{Mark, Start, Finish, content_marks, body_marks}
-use Rattle.doc_tree.specs.Rests.{Terms, Then, Word, Quoted, QuoteRest, EqualsRest, TagRest, BodyRest, IsBodyFit, Inside, AttributeValue, Saying, Between, depth_left, keep}
-use Rattle.doc_tree.specs.Completions.{State, InTag, InKey, TagChoice}
+use Rattle.doc_tree.proofs.Words.{AreUniqueNames, Attribute, AttributeValue, Attributes, Between, Body, BodyRest, Bool, Each, Equals, EqualsRest, Finish, InKey, InTag, Inside, IsBodyFit, IsQuote, IsSpace, List, Mark, QuoteRest, Quoted, Saying, Start, State, TagChoice, TagRest, Terms, Then, Word, [], ap, append-nil, append_assoc, arith, attribute, attribute_list, attributes_text, body_marks, body_text, closed, cond, content_marks, depth_left, equals_text, false, inl, inr, is_kept, keep, local_part, no_attribute, opened, refl, subst, sym, true, value_chars, value_text, ℕ, ◌++◌, ◌-◌, ◌↔◌, ◌∷◌, ◌≡◌, ◌⊎◌}
 use Rattle.doc_tree.proofs.ByteGrammar.Bytes.{space_low}
 
 -- `=` with white space round it, and a quote

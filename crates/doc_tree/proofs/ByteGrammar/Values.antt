@@ -1,10 +1,5 @@
 -- Attribute values, byte by byte.
-use Rattle.std.proofs.Common.{◌≡◌, ◌≢◌, ℕ, inl, inr, ◌↔◌, List, [], ◌∷◌, ◌++◌, refl, ap, sym, ◌∙◌, subst, arith, append_assoc}
-use Rattle.std.proofs.lemmas.List.{append-nil}
-use Rattle.tree_grammar.specs.Characters.{IsSpace, reference_chars}
-use Rattle.tree_grammar.specs.Tags.{IsQuote, Value, value_over, value_plain, value_white, value_reference, value_text, value_chars}
-use Rattle.doc_tree.specs.Marks.{Mark}
-use Rattle.doc_tree.specs.Rests.{ValueRest, RefRest}
+use Rattle.doc_tree.proofs.Words.{IsQuote, IsSpace, List, Mark, RefRest, Value, ValueRest, [], ap, append-nil, append_assoc, arith, inl, inr, reference_chars, refl, subst, sym, value_chars, value_over, value_plain, value_reference, value_text, value_white, ℕ, ◌++◌, ◌↔◌, ◌∙◌, ◌∷◌, ◌≡◌, ◌≢◌}
 use Rattle.doc_tree.proofs.ByteGrammar.Bytes.{space_low}
 
 quote_not : (q b : ℕ) → IsQuote q → b ≢ 34 → b ≢ 39 → b ≢ q

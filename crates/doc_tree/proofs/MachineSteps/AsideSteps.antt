@@ -1,27 +1,13 @@
 -- Steps of states in comments, instructions and CDATA sections.
-use Rattle.std.proofs.Common.{◌≡◌, ◌≢◌, ℕ, zero, suc, ◌+◌, ◌<◌, ◌≤◌, inl, inr, ◌↔◌, List, [], ◌∷◌, ◌++◌, map, refl, ap, sym, ◌∙◌, subst, arith}
-use Rattle.std.specs.Prelude.{codes}
-use Rattle.std.specs.Char.{to_ascii_lowercase}
-use Rattle.tree_grammar.specs.Elements.{Attribute}
-use Rattle.tree_grammar.specs.Characters.{IsSpace, IsNameStart, IsNameChar}
-use Rattle.doc_tree.specs.Marks.{Mark, Char}
-use Rattle.doc_tree.specs.Rests.{Terms, Word, Saying, CommentRest, SectionRest, pending_brackets, PiOver, PiRest, FirstOver, Before, RootOrType, After, Never, IsSpecial, IsNameRest}
+use Rattle.doc_tree.proofs.Words.{After, Around, Attribute, Before, Char, CommentRest, FirstOver, FollowsByte, Good, GoodGoal, InElement, Insides, IsInMark, IsNameChar, IsNameRest, IsNameStart, IsSpecial, List, Mark, Never, PiNamed, PiOver, PiRest, Place, QuestionAt, ReachesGoal, ReachesState, RestsAt, RootOrType, Round, Saying, SectionRest, State, Stuck, Terms, Word, [], ap, arith, codes, inl, inr, map, pending_brackets, refl, subst, suc, sym, zero, ℕ, ◌++◌, ◌+◌, ◌<◌, ◌↔◌, ◌∙◌, ◌∷◌, ◌≡◌, ◌≢◌, ◌≤◌}
 use Rattle.doc_tree.specs.declared.declaration.Field.TheVariants as fields
 use Rattle.doc_tree.specs.declared.machine.Goal.TheVariants as goals
 use Rattle.doc_tree.specs.declared.names.Part.TheVariants as parts
-use Rattle.doc_tree.specs.declared.machine.Round.{Round}
 use Rattle.doc_tree.specs.declared.machine.Round.TheVariants as rounds
-use Rattle.doc_tree.specs.declared.machine.Place.{Place}
 use Rattle.doc_tree.specs.declared.machine.Place.TheVariants as places
-use Rattle.doc_tree.specs.Completions.{State, RestsAt, ReachesGoal, Good, GoodGoal, GoodRound, InElement, IsInMark, Insides, Around, PiNamed, QuestionAt, FollowsByte, Stuck, ReachesState}
-use Rattle.doc_tree.proofs.MachineSteps.Moves.{moves, moves_at, moves_word, follows_reached, follows_saying, stays}
+use Rattle.doc_tree.proofs.MachineSteps.Moves.{moves, moves_at, follows_saying, stays}
 use Rattle.doc_tree.proofs.MachineSteps.Steps.{at_byte, at_place}
-use Rattle.doc_tree.proofs.Viability.Printables.{printable_text}
-use Rattle.doc_tree.proofs.ByteGrammar.Keys.{name_next, name_over}
-use Rattle.doc_tree.proofs.ByteGrammar.Contents.{content_dash, content_square, content_bang, content_question}
-use Rattle.doc_tree.proofs.ByteGrammar.Rounds.{round_dash, round_bang, round_question}
-use Rattle.doc_tree.proofs.ByteGrammar.Prologs.{before_round, after_round, no_type, marked_question, first_over_high, first_declares, first_instructs}
-use Rattle.doc_tree.proofs.ByteGrammar.Asides.{comment_plain_byte, comment_dash_byte, comment_end, pi_plain, pi_end, pi_mark, pi_over_end, pi_over_space, pi_over_stuck, pi_over_high, name_first, name_none, section_end, section_none, section_one, section_two, section_three}
+use Rattle.doc_tree.proofs.ByteGrammar.{after_round, before_round, content_bang, content_dash, content_question, first_declares, first_instructs, first_over_high, marked_question, name_first, name_next, name_none, name_over, no_type, pi_over_high, round_bang, round_dash, round_question, section_end, section_none, section_one, section_three, section_two}
 
 -- behind `<!` and `<?`, wherever they stand
 module _ (u : Terms) where
@@ -35,7 +21,7 @@ module _ (u : Terms) where
   around_no rounds.Content names b x es n m k h = content_bang u names b x es n m h
   around_no rounds.Epilog names b x es n m k h = round_bang (After u) Never (after_round u) b x es n (λ z. z) h
 
-  around_outside : (round : Round) (names : List (List ℕ)) (x : List ℕ) (es : List Mark) → round ≢ rounds.Content → Around round names u (60 ∷ 33 ∷ 91 ∷ x) es → ⊥
+  pub around_outside : (round : Round) (names : List (List ℕ)) (x : List ℕ) (es : List Mark) → round ≢ rounds.Content → Around round names u (60 ∷ 33 ∷ 91 ∷ x) es → ⊥
   around_outside rounds.Prolog names x es n h = round_bang (Before u) (RootOrType u) (before_round u) 91 x es (λ e. omega arith) (no_type u 91 x es (λ e i. omega arith)) h
   around_outside rounds.Content names x es n h = n refl
   around_outside rounds.Epilog names x es n h = round_bang (After u) Never (after_round u) 91 x es (λ e. omega arith) (λ z. z) h
@@ -45,39 +31,8 @@ module _ (u : Terms) where
   around_mark rounds.Content names x es = content_question u names x es
   around_mark rounds.Epilog names x es = round_question (After u) Never (after_round u) x es
 
-pub bang_dash : (s : State) (b : ℕ) (new : State) → b ≡ 45 → Good places.Bang s → new ≡ record s { place = places.Word; left = 45 ∷ []; goal = goals.Comment } → FollowsByte s.marks (RestsAt places.Bang s) b new
-bang_dash s b new e g q = at_byte s.marks (RestsAt places.Bang s) b 45 new e (moves_word s.marks (RestsAt places.Bang s) 45 s goals.Comment (45 ∷ []) new q refl (λ l h. h) (λ z. cc) (printable_text (45 ∷ []) refl) g (λ u d x es. around_dash u s.round s.names x es))
-
-pub bang_square : (s : State) (b : ℕ) (new : State) → b ≡ 91 → s.round ≡ rounds.Content → Good places.Bang s → new ≡ record s { place = places.Word; left = 67 ∷ 68 ∷ 65 ∷ 84 ∷ 65 ∷ 91 ∷ []; goal = goals.Section } → FollowsByte s.marks (RestsAt places.Bang s) b new
-bang_square s b new e r g q =
-    let k : InElement s.names s.kept = subst (λ z. GoodRound z s.names s.kept) r g in
-    at_byte s.marks (RestsAt places.Bang s) b 91 new e (moves_word s.marks (RestsAt places.Bang s) 91 s goals.Section (67 ∷ 68 ∷ 65 ∷ 84 ∷ 65 ∷ 91 ∷ []) new q refl (λ l h. h) (λ z. cc) (printable_text (67 ∷ 68 ∷ 65 ∷ 84 ∷ 65 ∷ 91 ∷ []) refl) k (λ u d x es. subst (λ z. Around z s.names u (60 ∷ 33 ∷ 91 ∷ x) es ↔ Word (67 ∷ 68 ∷ 65 ∷ 84 ∷ 65 ∷ 91 ∷ []) (SectionRest 0 (Insides 0 s.names u)) x es) (sym r) (content_square u s.names x es)))
-
 pub bang_no : (u : Terms) (s : State) (b : ℕ) → b ≢ 45 → b ≢ 91 → (s.round ≡ rounds.Prolog → b ≡ 68 → IsSpecial u.aim → ⊥) → (x : List ℕ) (es : List Mark) → RestsAt places.Bang s u (b ∷ x) es → ⊥
 bang_no u s b n m k x es h = around_no u s.round s.names b x es n m k h
-
-pub bang_outside : (s : State) (b : ℕ) → b ≡ 91 → s.round ≢ rounds.Content → Stuck (RestsAt places.Bang s) b
-bang_outside s b e n = subst (λ z. Stuck (RestsAt places.Bang s) z) (sym e) (λ u d x es h. around_outside u s.round s.names x es n h)
-
--- comments
-pub comment_stays : (s : State) (b : ℕ) → s.place ≡ places.Comment → Good places.Comment s → b ≢ 45 → FollowsByte s.marks (RestsAt places.Comment s) b s
-comment_stays s b p g n = moves_at s.marks (RestsAt places.Comment s) b s places.Comment p refl (λ l h. h) g (λ u d x es. comment_plain_byte (Around s.round s.names u) b x es n)
-
-pub comment_dashes : (s : State) (b : ℕ) (new : State) → b ≡ 45 → Good places.CommentDash s → new ≡ record s { place = places.Word; left = 62 ∷ []; goal = goals.Around } → FollowsByte s.marks (RestsAt places.CommentDash s) b new
-comment_dashes s b new e g q = at_byte s.marks (RestsAt places.CommentDash s) b 45 new e (moves_word s.marks (RestsAt places.CommentDash s) 45 s goals.Around (62 ∷ []) new q refl (λ l h. h) (λ z. cc) (printable_text (62 ∷ []) refl) g (λ u d x es. comment_end (Around s.round s.names u) x es))
-
-pub comment_back : (s : State) (b : ℕ) → Good places.CommentDash s → b ≢ 45 → FollowsByte s.marks (RestsAt places.CommentDash s) b (record s { place = places.Comment })
-comment_back s b g n = moves s.marks (RestsAt places.CommentDash s) b (record s { place = places.Comment }) refl (λ l h. h) g (λ u d x es. comment_dash_byte (Around s.round s.names u) b x es n)
-
--- behind a comment, an instruction or a section
-pub around_prolog : (s : State) → s.round ≡ rounds.Prolog → GoodRound s.round s.names s.kept → ReachesState s.marks (Around s.round s.names) (record s { place = places.Prolog })
-around_prolog s r g = subst (λ z. ReachesState s.marks (Around z s.names) (record s { place = places.Prolog })) (sym r) (stays s.marks (Around rounds.Prolog s.names) (record s { place = places.Prolog }) refl (λ h. h) (subst (λ z. GoodRound z s.names s.kept) r g) (λ u d x es. (λ h. h, λ h. h)))
-
-pub around_content : (s : State) → s.round ≡ rounds.Content → GoodRound s.round s.names s.kept → ReachesState s.marks (Around s.round s.names) (record s { place = places.Content; count = 0 })
-around_content s r g = subst (λ z. ReachesState s.marks (Around z s.names) (record s { place = places.Content; count = 0 })) (sym r) (stays s.marks (Around rounds.Content s.names) (record s { place = places.Content; count = 0 }) refl (λ h. h) (subst (λ z. GoodRound z s.names s.kept) r g) (λ u d x es. (λ h. h, λ h. h)))
-
-pub around_epilog : (s : State) → s.round ≡ rounds.Epilog → ReachesState s.marks (Around s.round s.names) (record s { place = places.Epilog })
-around_epilog s r = subst (λ z. ReachesState s.marks (Around z s.names) (record s { place = places.Epilog })) (sym r) (stays s.marks (Around rounds.Epilog s.names) (record s { place = places.Epilog }) refl (λ h. h) tt (λ u d x es. (λ h. h, λ h. h)))
 
 -- a section
 pending_more : (n : ℕ) (x : List ℕ) → pending_brackets n (93 ∷ x) ≡ pending_brackets (suc n) x
@@ -139,8 +94,8 @@ question_goes s to b name e (inr p) i =
     let a = around_mark u s.round s.names (b ∷ x) es in let c = name_first (λ n. PiOver n (Around s.round s.names u)) b x es i in (λ h. c.0 (a.0 h), λ h. a.1 (c.1 h)))))
 
 pub question_no : (s : State) (to : Place) (b : ℕ) → QuestionAt s to → (IsNameStart b → ⊥) → Stuck (RestsAt s.place s) b
-question_no s to b (inl p) n = at_place (λ z. Stuck (RestsAt z s) b) s.place places.FirstQuestion p.0 (λ u d x es h. name_none (λ m. FirstOver m u) b x es n ((marked_question u (b ∷ x) es).0 h))
-question_no s to b (inr p) n = at_place (λ z. Stuck (RestsAt z s) b) s.place places.Question p.0 (λ u d x es h. name_none (λ m. PiOver m (Around s.round s.names u)) b x es n ((around_mark u s.round s.names (b ∷ x) es).0 h))
+question_no s to b (inl p) n = at_place (λ z. Stuck (RestsAt z s) b) s.place places.FirstQuestion p.0 (record { none = λ u d x es h. name_none (λ m. FirstOver m u) b x es n ((marked_question u (b ∷ x) es).0 h) })
+question_no s to b (inr p) n = at_place (λ z. Stuck (RestsAt z s) b) s.place places.Question p.0 (record { none = λ u d x es h. name_none (λ m. PiOver m (Around s.round s.names u)) b x es n ((around_mark u s.round s.names (b ∷ x) es).0 h) })
 
 -- a name goes on, or is over
 local_more : (b : ℕ) → IsNameChar b → (run : List ℕ) → IsNameRest parts.Local (b ∷ run) ↔ IsNameRest parts.Local run
@@ -163,32 +118,6 @@ pi_more s b name e p g i = subst (λ z. FollowsByte s.marks (RestsAt places.PiNa
 
 pub pi_over : (u : Terms) (s : State) (b : ℕ) (x : List ℕ) (es : List Mark) → (IsNameChar b → ⊥) → RestsAt places.PiName s u (b ∷ x) es ↔ PiNamed s u (b ∷ x) es
 pi_over u s b x es n = name_over (λ m. PiOver m (Around s.round s.names u)) s.name parts.Local b x es (local_none b n) tt
-
--- behind an instruction's name
-pub named_xml : (s : State) (b : ℕ) → map to_ascii_lowercase s.name ≡ codes "xml" → Stuck (PiNamed s) b
-named_xml s b e = λ u d x es h. h.other e
-
-pub named_ends : (s : State) (b : ℕ) (new : State) → b ≡ 63 → map to_ascii_lowercase s.name ≢ codes "xml" → GoodRound s.round s.names s.kept → new ≡ record s { place = places.Word; left = 62 ∷ []; goal = goals.Around } → FollowsByte s.marks (PiNamed s) b new
-named_ends s b new e o g q = at_byte s.marks (PiNamed s) b 63 new e (moves_word s.marks (PiNamed s) 63 s goals.Around (62 ∷ []) new q refl (λ l h. h) (λ z. cc) (printable_text (62 ∷ []) refl) g (λ u d x es. pi_over_end (Around s.round s.names u) s.name x es o))
-
-pub named_spaced : (s : State) (b : ℕ) → map to_ascii_lowercase s.name ≢ codes "xml" → GoodRound s.round s.names s.kept → IsSpace b → FollowsByte s.marks (PiNamed s) b (record s { place = places.PiText })
-named_spaced s b o g i = moves s.marks (PiNamed s) b (record s { place = places.PiText }) refl (λ l h. h) g (λ u d x es. pi_over_space (Around s.round s.names u) s.name b x es o i)
-
-pub named_no : (s : State) (b : ℕ) → (IsSpace b → ⊥) → b ≢ 63 → Stuck (PiNamed s) b
-named_no s b n m = λ u d x es h. pi_over_stuck (Around s.round s.names u) s.name b x es n m h
-
--- an instruction's text
-pub text_stays : (s : State) (b : ℕ) → s.place ≡ places.PiText → Good places.PiText s → b ≢ 63 → FollowsByte s.marks (RestsAt places.PiText s) b s
-text_stays s b p g n = moves_at s.marks (RestsAt places.PiText s) b s places.PiText p refl (λ l h. h) g (λ u d x es. pi_plain (Around s.round s.names u) b x es n)
-
-pub mark_stays : (s : State) (b : ℕ) → b ≡ 63 → s.place ≡ places.PiMark → Good places.PiMark s → FollowsByte s.marks (RestsAt places.PiMark s) b s
-mark_stays s b e p g = at_byte s.marks (RestsAt places.PiMark s) b 63 s e (moves_at s.marks (RestsAt places.PiMark s) 63 s places.PiMark p refl (λ l h. h) g (λ u d x es. pi_mark (Around s.round s.names u) 63 x es (λ z. omega arith)))
-
-pub mark_ends : (s : State) (b : ℕ) (new : State) → b ≡ 62 → ReachesState s.marks (Around s.round s.names) new → FollowsByte s.marks (RestsAt places.PiMark s) b new
-mark_ends s b new e r = at_byte s.marks (RestsAt places.PiMark s) b 62 new e (follows_reached s.marks (RestsAt places.PiMark s) (Around s.round s.names) 62 new (λ u d x es. pi_end (Around s.round s.names u) x es) r)
-
-pub mark_back : (s : State) (b : ℕ) → b ≢ 63 → b ≢ 62 → Good places.PiMark s → FollowsByte s.marks (RestsAt places.PiMark s) b (record s { place = places.PiText })
-mark_back s b n m g = moves s.marks (RestsAt places.PiMark s) b (record s { place = places.PiText }) refl (λ l h. h) g (λ u d x es. let a = pi_mark (Around s.round s.names u) b x es m in let c = pi_plain (Around s.round s.names u) b x es n in (λ h. c.0 (a.0 h), λ h. a.1 (c.1 h)))
 
 -- goals that are reached
 pub reach_section : (s : State) → s.goal ≡ goals.Section → GoodGoal s.goal s → ReachesState s.marks (ReachesGoal s.goal s) (record s { count = 0; place = places.Section })

@@ -1,34 +1,19 @@
 -- The declaration, byte by byte.
-use Rattle.std.proofs.Common.{◌≡◌, ◌≢◌, ℕ, ◌≤◌, inl, inr, ◌↔◌, List, [], ◌∷◌, ◌++◌, refl, sym, subst, arith, append_assoc}
-use Rattle.std.proofs.lemmas.List.{append-nil}
-use Rattle.tree_grammar.specs.Characters.{IsSpace, Each, Some1, IsDigit}
-use Rattle.tree_grammar.specs.Tags.{IsQuote}
-use Rattle.tree_grammar.specs.Declaration.{IsEncodingChar, IsYesOrNo}
-use Rattle.doc_tree.specs.Marks.{Mark}
-use Rattle.doc_tree.specs.Rests.{Terms, Then, Word, Before, EndsDeclaration, Never, GapRest, NextFields, Next1, Next2, Gap, Choice, EndsBehind, FieldRest, FieldOver, FieldValue, Valued, Foreign, IsFieldValue, field_name, first_letter, IsNextField, NoNextField}
-use Rattle.doc_tree.specs.declared.declaration.Field.{Field}
+use Rattle.doc_tree.proofs.Words.{Before, Choice, Each, EndsBehind, EndsDeclaration, Field, FieldOver, FieldRest, FieldValue, Foreign, Gap, GapRest, IsDigit, IsEncodingChar, IsFieldValue, IsNextField, IsQuote, IsSpace, IsYesOrNo, List, Mark, Never, Next1, Next2, NextFields, NoNextField, Some1, Terms, Then, Valued, Word, [], append-nil, append_assoc, arith, field_name, first_letter, inl, inr, refl, subst, sym, ℕ, ◌++◌, ◌↔◌, ◌∷◌, ◌≡◌, ◌≢◌, ◌≤◌}
 use Rattle.doc_tree.specs.declared.declaration.Field.TheVariants as fields
-use Rattle.doc_tree.proofs.ByteGrammar.Spans.{then_over, then_here, then_next, then_back, then_map, some_more, some_stuck, word_first, word_back, word_last}
-use Rattle.doc_tree.proofs.ByteGrammar.Bytes.{space_low}
+use Rattle.doc_tree.proofs.ByteGrammar.{each_right, some_more, some_stuck, space_low, then_back, then_here, then_map, then_next, then_over, word_back, word_first, word_last}
 
 module _ (u : Terms) where
   pub ends_first : (f : Field) (b : ℕ) (r : List ℕ) (es : List Mark) → EndsBehind f u (b ∷ r) es → b ≡ 63
   ends_first fields.Before b r es h = absurd h
-  ends_first fields.Version b r es h = (word_first (Before u) 63 (62 ∷ []) b r es h).0
-  ends_first fields.Encoding b r es h = (word_first (Before u) 63 (62 ∷ []) b r es h).0
-  ends_first fields.Standalone b r es h = (word_first (Before u) 63 (62 ∷ []) b r es h).0
+  ends_first _ b r es h = (word_first (Before u) 63 (62 ∷ []) b r es h).0
 
   ends_both : (r : List ℕ) (es : List Mark) → EndsDeclaration u (63 ∷ r) es ↔ Word (62 ∷ []) (Before u) r es
   ends_both r es = (λ h. (word_first (Before u) 63 (62 ∷ []) 63 r es h).1, λ h. word_back (Before u) 63 (62 ∷ []) r es h)
 
   pub ends_next : (f : Field) (r : List ℕ) (es : List Mark) → f ≢ fields.Before → EndsBehind f u (63 ∷ r) es ↔ Word (62 ∷ []) (Before u) r es
   ends_next fields.Before r es n = absurd (n refl)
-  ends_next fields.Version r es n = ends_both r es
-  ends_next fields.Encoding r es n = ends_both r es
-  ends_next fields.Standalone r es n = ends_both r es
-
-  pub ends_before : (f : Field) (r : List ℕ) (es : List Mark) → f ≡ fields.Before → EndsBehind f u r es → ⊥
-  ends_before f r es e h = let k : EndsBehind fields.Before u r es = subst (λ z. EndsBehind z u r es) e h in k
+  ends_next _ r es n = ends_both r es
 
   ends_space : (f : Field) (b : ℕ) (r : List ℕ) (es : List Mark) → IsSpace b → EndsBehind f u (b ∷ r) es → ⊥
   ends_space f b r es s h = let l = space_low b s in let e = ends_first f b r es h in omega arith
@@ -54,22 +39,11 @@ module _ (u : Terms) where
   next_first fields.Standalone b r es h = absurd h
 
   letter_high : (f g : Field) → IsNextField f g → 101 ≤ first_letter g
-  letter_high fields.Before fields.Before h = absurd h
   letter_high fields.Before fields.Version h = omega arith
-  letter_high fields.Before fields.Encoding h = absurd h
-  letter_high fields.Before fields.Standalone h = absurd h
-  letter_high fields.Version fields.Before h = absurd h
-  letter_high fields.Version fields.Version h = absurd h
   letter_high fields.Version fields.Encoding h = omega arith
   letter_high fields.Version fields.Standalone h = omega arith
-  letter_high fields.Encoding fields.Before h = absurd h
-  letter_high fields.Encoding fields.Version h = absurd h
-  letter_high fields.Encoding fields.Encoding h = absurd h
   letter_high fields.Encoding fields.Standalone h = omega arith
-  letter_high fields.Standalone fields.Before h = absurd h
-  letter_high fields.Standalone fields.Version h = absurd h
-  letter_high fields.Standalone fields.Encoding h = absurd h
-  letter_high fields.Standalone fields.Standalone h = absurd h
+  letter_high _ _ h = absurd h
 
   pub choice_not_space : (f : Field) (b : ℕ) (r : List ℕ) (es : List Mark) → IsSpace b → Choice f u (b ∷ r) es → ⊥
   choice_not_space f b r es s (inl h) = ends_space f b r es s h
@@ -86,12 +60,7 @@ module _ (u : Terms) where
   )
 
   next_both : (f g : Field) (ws r : List ℕ) (es : List Mark) → IsNextField f g → field_name g ≡ first_letter g ∷ ws → NextFields f u (first_letter g ∷ r) es ↔ Word ws (FieldOver u g (Gap g u)) r es
-  next_both fields.Before fields.Before ws r es i e = absurd i
   next_both fields.Before fields.Version ws r es i e = field_both fields.Version (GapRest u (Next1 u)) 118 ws r es e
-  next_both fields.Before fields.Encoding ws r es i e = absurd i
-  next_both fields.Before fields.Standalone ws r es i e = absurd i
-  next_both fields.Version fields.Before ws r es i e = absurd i
-  next_both fields.Version fields.Version ws r es i e = absurd i
   next_both fields.Version fields.Encoding ws r es i e = let k = field_both fields.Encoding (GapRest u (Next2 u)) 101 ws r es e in (
     λ h. elim h [ inl x ↦ k.0 x | inr x ↦ (let z = rest_first fields.Standalone 115 (116 ∷ 97 ∷ 110 ∷ 100 ∷ 97 ∷ 108 ∷ 111 ∷ 110 ∷ 101 ∷ []) (GapRest u Never) 101 r es refl x in absurd (omega arith)) ],
     λ h. inl (k.1 h),
@@ -100,14 +69,8 @@ module _ (u : Terms) where
     λ h. elim h [ inl x ↦ (let z = rest_first fields.Encoding 101 (110 ∷ 99 ∷ 111 ∷ 100 ∷ 105 ∷ 110 ∷ 103 ∷ []) (GapRest u (Next2 u)) 115 r es refl x in absurd (omega arith)) | inr x ↦ k.0 x ],
     λ h. inr (k.1 h),
   )
-  next_both fields.Encoding fields.Before ws r es i e = absurd i
-  next_both fields.Encoding fields.Version ws r es i e = absurd i
-  next_both fields.Encoding fields.Encoding ws r es i e = absurd i
   next_both fields.Encoding fields.Standalone ws r es i e = field_both fields.Standalone (GapRest u Never) 115 ws r es e
-  next_both fields.Standalone fields.Before ws r es i e = absurd i
-  next_both fields.Standalone fields.Version ws r es i e = absurd i
-  next_both fields.Standalone fields.Encoding ws r es i e = absurd i
-  next_both fields.Standalone fields.Standalone ws r es i e = absurd i
+  next_both _ _ ws r es i e = absurd i
 
   pub choice_next : (f g : Field) (ws r : List ℕ) (es : List Mark) → IsNextField f g → field_name g ≡ first_letter g ∷ ws → Choice f u (first_letter g ∷ r) es ↔ Word ws (FieldOver u g (Gap g u)) r es
   choice_next f g ws r es i e = let k = next_both f g ws r es i e in (
@@ -138,15 +101,11 @@ module _ (u : Terms) where
   field_each fields.Encoding (c ∷ cs) h = (inl h.0.0, h.0.1)
   field_each fields.Standalone v h = word_each v h
 
-  each_in : (v : List ℕ) (q : ℕ) (run : List ℕ) → Each IsEncodingChar (v ++ (q ∷ run)) → IsEncodingChar q
-  each_in [] q run h = h.0
-  each_in (c ∷ cs) q run h = each_in cs q run h.1
-
   no_quote : (q : ℕ) → IsQuote q → IsEncodingChar q → ⊥
   no_quote q i h = grind arith
 
   value_quote : (f : Field) (v : List ℕ) (q : ℕ) (run : List ℕ) → IsQuote q → IsFieldValue u.aim f (v ++ (q ∷ run)) → ⊥
-  value_quote f v q run i h = no_quote q i (each_in v q run (field_each f (v ++ (q ∷ run)) h))
+  value_quote f v q run i h = no_quote q i (each_right IsEncodingChar v (q ∷ run) (field_each f (v ++ (q ∷ run)) h)).0
 
   module _ (f : Field) (K : List ℕ → List Mark → Type 0) (v : List ℕ) (q : ℕ) where
     abbrev P : List ℕ → Type 0

@@ -1,18 +1,12 @@
 -- How the value of a field may go on.
-use Rattle.std.proofs.Common.{◌≡◌, ◌≢◌, ℕ, inl, inr, ◌↔◌, List, [], ◌∷◌, ◌++◌, length, refl, ap, sym, ◌∙◌, subst, arith}
-use Rattle.std.proofs.lemmas.List.{append-nil}
-use Rattle.tree_grammar.specs.Characters.{Each, Some1, IsDigit}
-use Rattle.tree_grammar.specs.Declaration.{IsEncodingChar, IsYesOrNo}
-use Rattle.doc_tree.specs.Rests.{Aim, any, IsFieldValue, IsValueBegun, VersionNext, EncodingNext, WordNext, IsNextField}
-use Rattle.doc_tree.specs.declared.declaration.Field.{Field}
+use Rattle.doc_tree.proofs.ByteGrammar.{each_both, each_last, some_each}
+use Rattle.doc_tree.proofs.Words.{Aim, Each, EncodingNext, Field, IsDigit, IsEncodingChar, IsFieldValue, IsNextField, IsValueBegun, IsYesOrNo, List, Some1, VersionNext, WordNext, [], any, ap, append-nil, arith, inl, inr, length, refl, subst, sym, ℕ, ◌++◌, ◌↔◌, ◌∙◌, ◌∷◌, ◌≡◌, ◌≢◌}
 use Rattle.doc_tree.specs.declared.declaration.Field.TheVariants as fields
 
 -- a value that may stand where an encoding is asked for may stand where none is
 pub any_aim : (aim : Aim) (f : Field) (v : List ℕ) → IsFieldValue aim f v → IsFieldValue any f v
-any_aim aim fields.Before v h = h
-any_aim aim fields.Version v h = h
 any_aim aim fields.Encoding v h = (h.0, tt)
-any_aim aim fields.Standalone v h = h
+any_aim aim _ v h = h
 
 -- each field has some value
 pub begun_nothing : (f : Field) → f ≢ fields.Before → IsValueBegun f []
@@ -23,33 +17,20 @@ begun_nothing fields.Standalone n = (110 ∷ 111 ∷ [], inr refl)
 
 pub next_not_before : (f g : Field) → IsNextField f g → g ≢ fields.Before
 next_not_before fields.Before fields.Before i e = i
-next_not_before fields.Version fields.Before i e = i
-next_not_before fields.Encoding fields.Before i e = i
-next_not_before fields.Standalone fields.Before i e = i
-next_not_before f fields.Version i e = absurd (cc)
-next_not_before f fields.Encoding i e = absurd (cc)
-next_not_before f fields.Standalone i e = absurd (cc)
+next_not_before _ fields.Before i e = i
+next_not_before _ _ i e = absurd (cc)
 
 -- texts of a kind
 pub each_left : (P : ℕ → Type 0) (xs ys : List ℕ) → Each P (xs ++ ys) → Each P xs
 each_left P [] ys h = tt
 each_left P (x ∷ xs) ys h = (h.0, each_left P xs ys h.1)
 
-each_last : (P : ℕ → Type 0) (xs : List ℕ) (b : ℕ) (ys : List ℕ) → Each P ((xs ++ (b ∷ [])) ++ ys) → P b
-each_last P [] b ys h = h.0
-each_last P (x ∷ xs) b ys h = each_last P xs b ys h.1
-
-pub each_more : (P : ℕ → Type 0) (xs : List ℕ) (b : ℕ) → Each P xs → P b → Each P (xs ++ (b ∷ []))
-each_more P [] b h p = (p, tt)
-each_more P (x ∷ xs) b h p = (h.0, each_more P xs b h.1 p)
-
-pub some_each : (P : ℕ → Type 0) (xs : List ℕ) → Some1 P xs → Each P xs
-some_each P [] h = absurd h
-some_each P (x ∷ xs) h = h
+pub each_longer : (P : ℕ → Type 0) (xs : List ℕ) (b : ℕ) → Each P xs → P b → Each P (xs ++ (b ∷ []))
+each_longer P xs b h p = each_both P xs (b ∷ []) h (p, tt)
 
 each_some : (P : ℕ → Type 0) (xs : List ℕ) (b : ℕ) → Each P xs → P b → Some1 P (xs ++ (b ∷ []))
 each_some P [] b h p = (p, tt)
-each_some P (x ∷ xs) b h p = (h.0, each_more P xs b h.1 p)
+each_some P (x ∷ xs) b h p = (h.0, each_longer P xs b h.1 p)
 
 -- a version
 digits_of : (c d : ℕ) (ds more : List ℕ) (digits : List ℕ) → (c ∷ d ∷ ds) ++ more ≡ 49 ∷ 46 ∷ digits → Some1 IsDigit digits → Each IsDigit (ds ++ more)
@@ -86,7 +67,7 @@ encoding_next [] b g = (
 )
 encoding_next (c ∷ cs) b g = (
   λ h. inr (omega arith, each_last IsEncodingChar cs b h.0 h.1.0.1),
-  λ n. elim n [ inl p ↦ (let e = p.0 in absurd (omega arith)) | inr p ↦ ([], ((g.1.0.0, subst (Each IsEncodingChar) (sym (append-nil (cs ++ (b ∷ [])))) (each_more IsEncodingChar cs b (each_left IsEncodingChar cs g.0 g.1.0.1) p.1)), tt)) ],
+  λ n. elim n [ inl p ↦ (let e = p.0 in absurd (omega arith)) | inr p ↦ ([], ((g.1.0.0, subst (Each IsEncodingChar) (sym (append-nil (cs ++ (b ∷ [])))) (each_longer IsEncodingChar cs b (each_left IsEncodingChar cs g.0 g.1.0.1) p.1)), tt)) ],
 )
 
 -- `yes` or `no`
@@ -100,8 +81,8 @@ word_to [] b more (inr e) = inl (refl, inr (cc))
 word_to (c ∷ []) b more (inl e) = let k : c ≡ 121 = cc in inr (inl (ap (λ z. z ∷ []) k, (cc)))
 word_to (c ∷ []) b more (inr e) = let k : c ≡ 110 = cc in inr (inr (inr (ap (λ z. z ∷ []) k, (cc))))
 word_to (c ∷ d ∷ []) b more (inl e) = let k : c ≡ 121 = cc in let m : d ≡ 101 = cc in inr (inr (inl (ap (λ z. z ∷ d ∷ []) k ∙ ap (λ z. 121 ∷ z ∷ []) m, (cc))))
-word_to (c ∷ d ∷ []) b more (inr e) = absurd (cc)
 word_to (c ∷ d ∷ x ∷ vs) b more (inl e) = absurd (too_long vs b more (cc))
+word_to (c ∷ d ∷ []) b more (inr e) = absurd (cc)
 word_to (c ∷ d ∷ x ∷ vs) b more (inr e) = absurd (cc)
 
 word_from : (v : List ℕ) (b : ℕ) → WordNext v b → IsValueBegun fields.Standalone (v ++ (b ∷ []))
@@ -112,9 +93,6 @@ word_from v b (inr (inr (inr p))) = subst (λ z. IsValueBegun fields.Standalone 
 
 pub word_next : (v : List ℕ) (b : ℕ) → IsValueBegun fields.Standalone (v ++ (b ∷ [])) ↔ WordNext v b
 word_next v b = (λ h. word_to v b h.0 h.1, λ n. word_from v b n)
-
-pub none_begun : (v : List ℕ) → IsValueBegun fields.Before v → ⊥
-none_begun v h = h.1
 
 -- whichever field it is
 pub goes : (f g : Field) (v : List ℕ) (b : ℕ) (T N : Type 0) → f ≡ g → (IsValueBegun g v → IsValueBegun g (v ++ (b ∷ [])) ↔ N) → IsValueBegun f v → T ↔ N → T ↔ IsValueBegun f (v ++ (b ∷ []))

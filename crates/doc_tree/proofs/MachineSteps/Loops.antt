@@ -1,37 +1,9 @@
 -- Loops over a text: what holds of the rest holds of the whole.
-use Rattle.std.proofs.Common.{◌≡◌, ◌≢◌, ℕ, ◌+◌, ◌-◌, ◌<◌, ◌≤◌, ◌↔◌, List, [], ◌∷◌, true, false, ◌==◌, length, drop, get_or, take, drop-cons, map, reverse, suc, refl, ap, sym, ◌∙◌, subst, arith}
-use Rattle.std.proofs.Math.ListN.{drop_of_length-le}
+use Rattle.doc_tree.proofs.Words.{List, [], ap, arith, drop, drop-cons, false, get_or, length, length-map, length-reverse, map, refl, reverse, suc, sym, take, true, ℕ, ◌+◌, ◌-◌, ◌<◌, ◌==◌, ◌∙◌, ◌∷◌, ◌≡◌, ◌≢◌}
 use Rattle.doc_tree.proofs.MachineSteps.Outcomes.{last_is}
-use Rattle.std.proofs.lemmas.List.{length-reverse, length-map}
-use Rattle.tree_grammar.specs.Characters.{Each, has_prefix, behind_colon}
 
 pub drop_at : {A : Type 0} (xs : List A) (i : ℕ) (x : A) → i < length xs → x ≡ get_or xs i x → drop i xs ≡ x ∷ drop (i + 1) xs
 drop_at xs i x l e = let a : suc i ≡ i + 1 = omega arith in drop-cons xs i x l ∙ ap (λ z. get_or xs i x ∷ drop z xs) a ∙ ap (λ z. z ∷ drop (i + 1) xs) (sym e)
-
-pub drop_end : {A : Type 0} (xs : List A) (i : ℕ) → length xs ≤ i → drop i xs ≡ []
-drop_end xs i l = drop_of_length-le xs l
-
-module _ (P : ℕ → Type 0) (xs : List ℕ) (i x : ℕ) (l : i < length xs) (e : x ≡ get_or xs i x) where
-  pub each_more : P x → Each P (drop i xs) ↔ Each P (drop (i + 1) xs)
-  each_more p = (λ h. (subst (Each P) (drop_at xs i x l e) h).1, λ h. subst (Each P) (sym (drop_at xs i x l e)) (p, h))
-
-  pub each_fails : (P x → ⊥) → Each P (drop i xs) → ⊥
-  each_fails n h = n (subst (Each P) (drop_at xs i x l e) h).0
-
-pub each_end : (P : ℕ → Type 0) (xs : List ℕ) (i : ℕ) → length xs ≤ i → Each P (drop i xs)
-each_end P xs i l = subst (Each P) (sym (drop_end xs i l)) tt
-
-pub prefix_cons : (c : ℕ) (cs : List ℕ) → c ≢ 58 → has_prefix (c ∷ cs) ≡ has_prefix cs
-prefix_cons c cs n = grind arith
-
-pub prefix_here : (c : ℕ) (cs : List ℕ) → c ≡ 58 → has_prefix (c ∷ cs) ≡ true
-prefix_here c cs e = ap (λ z. has_prefix (z ∷ cs)) e
-
-pub behind_cons : (w : List ℕ) (c : ℕ) (cs : List ℕ) → c ≢ 58 → behind_colon w (c ∷ cs) ≡ behind_colon w cs
-behind_cons w c cs n = grind arith
-
-pub behind_here : (w : List ℕ) (c : ℕ) (cs : List ℕ) → c ≡ 58 → behind_colon w (c ∷ cs) ≡ cs
-behind_here w c cs e = ap (λ z. behind_colon w (z ∷ cs)) e
 
 -- the open elements
 zero_is : (n : ℕ) → true ≡ (n == 0) → n ≡ 0

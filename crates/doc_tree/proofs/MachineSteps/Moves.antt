@@ -1,11 +1,6 @@
 -- What a step owes, from what completes it before and after.
-use Rattle.std.proofs.Common.{◌≡◌, ◌≢◌, ℕ, ◌<◌, ◌↔◌, List, [], ◌∷◌, ◌++◌, refl, ap, sym, subst, ◌∙◌, append_assoc}
-use Rattle.doc_tree.specs.Marks.{Mark}
-use Rattle.doc_tree.specs.Rests.{Terms, Word, Saying}
-use Rattle.doc_tree.specs.declared.machine.Goal.{Goal}
-use Rattle.doc_tree.specs.declared.machine.Place.{Place}
+use Rattle.doc_tree.proofs.Words.{FollowsByte, Goal, GoesBehind, Good, GoodGoal, IsDepthAllowed, IsFixed, IsInMark, List, Mark, Place, ReachesGoal, ReachesState, RestsAt, Saying, State, Terms, Word, [], ap, append_assoc, refl, subst, sym, ℕ, ◌++◌, ◌<◌, ◌↔◌, ◌∙◌, ◌∷◌, ◌≡◌, ◌≢◌}
 use Rattle.doc_tree.specs.declared.machine.Place.TheVariants as places
-use Rattle.doc_tree.specs.Completions.{State, RestsAt, ReachesGoal, GoesBehind, Good, GoodGoal, IsFixed, IsInMark, IsDepthAllowed, FollowsByte, Stuck, ReachesState}
 
 module _ (before : List Mark) (A B : List ℕ → List Mark → Type 0) where
   pub goes_map : (x y : List ℕ) (says : List Mark) → ((es : List Mark) → A x es → B y es) → GoesBehind before A x says → GoesBehind before B y says
@@ -22,9 +17,6 @@ module _ (before : List Mark) (A B : Terms → List ℕ → List Mark → Type 0
       λ g. let k : GoesBehind before (B t) (b ∷ x) says = (h.same t l x says).1 g in record { later = k.later; whole = k.whole; rest = (f t l x k.later).1 k.rest },
     );
   }
-
-  pub stuck_from : (b : ℕ) → ((t : Terms) → IsDepthAllowed t → (x : List ℕ) (es : List Mark) → A t (b ∷ x) es → B t (b ∷ x) es) → Stuck B b → Stuck A b
-  stuck_from b f s = λ t l x es h. s t l x es (f t l x es h)
 
   -- a byte before what is reached
   pub follows_reached : (b : ℕ) (new : State) → ((t : Terms) → IsDepthAllowed t → (x : List ℕ) (es : List Mark) → A t (b ∷ x) es ↔ B t x es) → ReachesState before B new → FollowsByte before A b new

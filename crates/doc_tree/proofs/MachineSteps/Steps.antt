@@ -1,29 +1,12 @@
 -- Steps of states.
-use Rattle.std.proofs.Common.{◌≡◌, ◌≢◌, ℕ, ◌-◌, ◌+◌, ◌*◌, ◌<◌, ◌≤◌, Bool, true, false, inl, inr, ◌↔◌, List, [], ◌∷◌, ◌++◌, length, refl, ap, sym, ◌∙◌, subst, arith}
-use Rattle.tree_grammar.specs.Characters.{IsSpace, Each, IsNameStart}
-use Rattle.std.specs.Prelude.{encode_utf8}
-use Rattle.std.specs.Char.{IsScalar, digit_value}
-use Rattle.tree_grammar.specs.Tags.{IsQuote}
-use Rattle.tree_grammar.specs.Content.{brackets}
-use Rattle.tree_grammar.specs.Elements.{Attribute}
-use Rattle.doc_tree.specs.Marks.{Mark, Char}
-use Rattle.doc_tree.specs.Rests.{Terms, TagFirst, TagRest, Between, depth_left, IsNameRest, Then, AttributeValue, FieldValue, FieldOver, Gap, Choice, EndsBehind, After, IsNextField, NoNextField, first_letter, field_name, Word, RefRest, NumeralRest, DigitRest, Saying}
-use Rattle.doc_tree.specs.declared.machine.Goal.{Goal}
+use Rattle.doc_tree.proofs.Words.{ArePrintable, Attribute, AttributeValue, Behind, Between, Bool, Char, Choice, DigitRest, Each, EndOver, EndsBehind, EqualsAt, Field, FieldOver, FieldValue, FollowsByte, Gap, Goal, Good, GoodReference, InElement, InNumeral, Insides, IsInMark, IsNameRest, IsNameStart, IsNextField, IsPrintable, IsQuote, IsRadix, IsScalar, IsSpace, List, Mark, NoNextField, NumeralRest, Outer, Place, QuoteAt, ReachesState, RefRest, RestsAt, Saying, State, Stuck, TagFirst, TagRest, Terms, Then, Word, [], ap, arith, brackets, depth_left, digit_value, encode_utf8, false, field_name, first_letter, inl, inr, length, refl, subst, sym, true, ℕ, ◌*◌, ◌++◌, ◌+◌, ◌-◌, ◌<◌, ◌↔◌, ◌∙◌, ◌∷◌, ◌≡◌, ◌≢◌, ◌≤◌}
 use Rattle.doc_tree.specs.declared.machine.Goal.TheVariants as goals
 use Rattle.doc_tree.specs.declared.names.Part.TheVariants as parts
-use Rattle.doc_tree.specs.declared.machine.Place.{Place}
 use Rattle.doc_tree.specs.declared.machine.Place.TheVariants as places
-use Rattle.doc_tree.specs.Completions.{State, RestsAt, Good, GoodReference, IsPrintable, ArePrintable, InElement, IsInMark, IsRadix, InNumeral, Behind, Insides, EndOver, Outer, EqualsAt, QuoteAt, FollowsByte, Stuck, ReachesState}
 use Rattle.doc_tree.proofs.MachineSteps.FieldValues.{begun_nothing, next_not_before}
-use Rattle.doc_tree.proofs.Viability.Printables.{start_printable, word_printable, first_printable}
+use Rattle.doc_tree.proofs.ByteGrammar.{content_char, content_end, content_tag, content_tag_from, equals_sign, equals_space, equals_stuck, first_printable, first_tag, numeral_digit, quote_over, quote_space, quote_stuck, ref_hash, ref_x, spaces_more, spaces_over, start_printable, word_over, word_printable}
 use Rattle.doc_tree.proofs.MachineSteps.Moves.{moves, moves_at, moves_word, follows_from, follows_saying, stays}
-use Rattle.doc_tree.proofs.ByteGrammar.References.{ref_x, ref_hash}
-use Rattle.doc_tree.proofs.ByteGrammar.Numbers.{numeral_digit, numeral_big, numeral_stuck}
-use Rattle.doc_tree.proofs.ByteGrammar.Contents.{content_char, content_tag, content_tag_from, content_end}
 use Rattle.doc_tree.proofs.MachineSteps.FieldSteps.{choice_not_space, choice_next, choice_ends}
-use Rattle.doc_tree.proofs.ByteGrammar.Spans.{spaces_more, spaces_over, word_over}
-use Rattle.doc_tree.specs.declared.declaration.Field.{Field}
-use Rattle.doc_tree.proofs.ByteGrammar.Keys.{equals_space, equals_sign, equals_stuck, quote_space, quote_over, quote_stuck, first_tag}
 
 -- another equation of places
 pub at_place : (P : Place → Type 0) (p q : Place) → p ≡ q → P q → P p
@@ -32,7 +15,7 @@ at_place P p q e h = subst P (sym e) h
 abbrev FQ : State → Terms → ℕ → List ℕ → List Mark → Type 0
 FQ s t = FieldValue t s.field (Gap s.field t) []
 
-abbrev KQ : State → Terms → ℕ → List ℕ → List Mark → Type 0
+abbrev pub KQ : State → Terms → ℕ → List ℕ → List Mark → Type 0
 KQ s t quote = AttributeValue (depth_left t s.names - 1) s.name s.keys s.kept (Between 0 s.names t) s.key quote []
 
 pub equals_stays : (s : State) (to : Place) (b : ℕ) → EqualsAt s to → IsSpace b → FollowsByte s.marks (RestsAt s.place s) b s
@@ -44,8 +27,8 @@ equals_goes s to b (inl p) e = subst (λ d. FollowsByte s.marks (RestsAt s.place
 equals_goes s to b (inr p) e = subst (λ d. FollowsByte s.marks (RestsAt s.place s) d (record s { place = to })) (sym e) (at_place (λ z. FollowsByte s.marks (RestsAt z s) 61 (record s { place = to })) s.place places.KeyEquals p.0 (moves_at s.marks (RestsAt places.KeyEquals s) 61 (record s { place = to }) places.KeyQuote p.1 refl (λ l h. h) (p.2, p.3) (λ u l x es. equals_sign (KQ s u) x es)))
 
 pub equals_no : (s : State) (to : Place) (b : ℕ) → EqualsAt s to → (IsSpace b → ⊥) → b ≢ 61 → Stuck (RestsAt s.place s) b
-equals_no s to b (inl p) n m = at_place (λ z. Stuck (RestsAt z s) b) s.place places.FieldEquals p.0 (λ u l x es h. equals_stuck (FQ s u) b x es n m h)
-equals_no s to b (inr p) n m = at_place (λ z. Stuck (RestsAt z s) b) s.place places.KeyEquals p.0 (λ u l x es h. equals_stuck (KQ s u) b x es n m h)
+equals_no s to b (inl p) n m = at_place (λ z. Stuck (RestsAt z s) b) s.place places.FieldEquals p.0 (record { none = λ u l x es h. equals_stuck (FQ s u) b x es n m h })
+equals_no s to b (inr p) n m = at_place (λ z. Stuck (RestsAt z s) b) s.place places.KeyEquals p.0 (record { none = λ u l x es h. equals_stuck (KQ s u) b x es n m h })
 
 pub quote_stays : (s : State) (to : Place) (b : ℕ) → QuoteAt s to → IsSpace b → FollowsByte s.marks (RestsAt s.place s) b s
 quote_stays s to b (inl p) i = at_place (λ z. FollowsByte s.marks (RestsAt z s) b s) s.place places.FieldQuote p.0 (moves_at s.marks (RestsAt places.FieldQuote s) b s places.FieldQuote p.0 refl (λ l h. h) (p.2, p.3) (λ u l x es. quote_space (FQ s u) b x es i))
@@ -56,8 +39,8 @@ quote_goes s to b v (inl p) i e = subst (λ d. FollowsByte s.marks (RestsAt s.pl
 quote_goes s to b v (inr p) i e = subst (λ d. FollowsByte s.marks (RestsAt s.place s) b (record s { quote = b; value = d; place = to })) (sym e) (at_place (λ z. FollowsByte s.marks (RestsAt z s) b (record s { quote = b; value = []; place = to })) s.place places.KeyQuote p.0 (moves_at s.marks (RestsAt places.KeyQuote s) b (record s { quote = b; value = []; place = to }) places.Value p.1 refl (λ l h. h) (p.2, i, p.3) (λ u l x es. quote_over (KQ s u) b x es i)))
 
 pub quote_no : (s : State) (to : Place) (b : ℕ) → QuoteAt s to → (IsSpace b → ⊥) → (IsQuote b → ⊥) → Stuck (RestsAt s.place s) b
-quote_no s to b (inl p) n m = at_place (λ z. Stuck (RestsAt z s) b) s.place places.FieldQuote p.0 (λ u l x es h. quote_stuck (FQ s u) b x es n m h)
-quote_no s to b (inr p) n m = at_place (λ z. Stuck (RestsAt z s) b) s.place places.KeyQuote p.0 (λ u l x es h. quote_stuck (KQ s u) b x es n m h)
+quote_no s to b (inl p) n m = at_place (λ z. Stuck (RestsAt z s) b) s.place places.FieldQuote p.0 (record { none = λ u l x es h. quote_stuck (FQ s u) b x es n m h })
+quote_no s to b (inr p) n m = at_place (λ z. Stuck (RestsAt z s) b) s.place places.KeyQuote p.0 (record { none = λ u l x es h. quote_stuck (KQ s u) b x es n m h })
 
 -- a start tag begins
 pub tag_begun : (s : State) (b : ℕ) (name : List ℕ) (keys : List (List ℕ)) → name ≡ b ∷ [] → keys ≡ [] → s.kept ≡ [] → ArePrintable s.names → IsNameStart b → length s.names < 32 → FollowsByte s.marks (TagFirst s.names) b (record s { name = name; keys = keys; part = parts.First; place = places.TagName })
@@ -141,16 +124,6 @@ content_said s b count marks kept e f g p nl na n =
     let t : State = record s { count = count; kept = kept; marks = marks } in
     follows_saying s.marks (Char b ∷ []) (RestsAt places.Content s) (Insides count s.names) b t (λ u l x es. subst (λ z. Insides s.count s.names u (b ∷ x) es ↔ Saying (Char b ∷ []) (Insides z s.names u) x es) (sym f) (content_char u s.count s.names b x es nl na n)) (subst (λ z. ReachesState z (Insides count s.names) t) e (at_here t p g))
 
--- the digit that was read
-pub some_digit : (s : State) (b from d : ℕ) → from ≡ b → (digit_value from < s.radix) × (d ≡ digit_value from) → s.number * s.radix + d ≤ 1114111 → IsRadix s.radix → GoodReference s.in_value s → FollowsByte s.marks (InNumeral s.radix s.number s) b (record s { number = s.number * s.radix + d; place = places.Digit })
-some_digit s b from d e v m i g = let q : d ≡ digit_value b = v.1 ∙ ap digit_value e in digit_moves s b d (s.number * s.radix + d) q refl (subst (λ z. z < s.radix) (sym v.1) v.0) m i g
-
-pub digit_big : (s : State) (b from d : ℕ) → from ≡ b → (digit_value from < s.radix) × (d ≡ digit_value from) → 1114111 < s.number * s.radix + d → IsRadix s.radix → Stuck (InNumeral s.radix s.number s) b
-digit_big s b from d e v m i u l x es h = numeral_big s.radix s.number (Behind s.in_value s u) b x es i (subst (λ z. digit_value z < s.radix) e v.0) (subst (λ z. 1114111 < s.number * s.radix + z) (v.1 ∙ ap digit_value e) m) h
-
-pub no_digit : (s : State) (b from : ℕ) → from ≡ b → (digit_value from < s.radix → ⊥) → Stuck (InNumeral s.radix s.number s) b
-no_digit s b from e n u o x es h = numeral_stuck s.radix s.number (Behind s.in_value s u) b x es (λ l. n (subst (λ z. digit_value z < s.radix) (sym e) l)) h
-
 -- an element in an element
 pub content_tag_any : (u : Terms) (names : List (List ℕ)) (b : ℕ) (r : List ℕ) (es : List Mark) → names ≢ [] → b ≢ 47 → b ≢ 33 → b ≢ 63 → Insides 0 names u (60 ∷ b ∷ r) es ↔ TagFirst names u (b ∷ r) es
 content_tag_any u [] b r es n e f g = absurd (n refl)
@@ -169,6 +142,18 @@ end_empty s n rest e f k = moves s.marks (RestsAt places.ContentLess s) 47 (reco
     let o = word_over (EndOver s.names u) x es in (λ h. o.0 (w.0 h), λ h. w.1 (o.1 h)))
 
 -- the fields
+pub field_ends : (u : Terms) (s : State) (b : ℕ) (x : List ℕ) (es : List Mark) → (IsSpace b → ⊥) → NoNextField s.field b → RestsAt places.FieldSpace s u (b ∷ x) es ↔ EndsBehind s.field u (b ∷ x) es
+field_ends u s b x es n m = let a = spaces_over (Choice s.field u) b x es n in let c = choice_ends u s.field b x es m in (λ h. c.0 (a.0 h), λ h. a.1 (c.1 h))
+
+-- behind an element
+insides_any : (u : Terms) (names : List (List ℕ)) (x : List ℕ) (es : List Mark) → names ≢ [] → Between 0 names u x es ↔ Insides 0 names u x es
+insides_any u [] x es n = absurd (n refl)
+insides_any u (m ∷ names) x es n = (λ h. h, λ h. h)
+
+pub over_child : (s : State) → InElement s.names s.kept → ReachesState s.marks (Between 0 s.names) (record s { place = places.Content; count = 0 })
+over_child s k = stays s.marks (Between 0 s.names) (record s { place = places.Content; count = 0 }) refl (λ h. h) k (λ u l x es. insides_any u s.names x es k.1)
+
+-- the fields
 pub space_stays : (s : State) (b : ℕ) → s.place ≡ places.FieldSpace → Outer s → IsSpace b → FollowsByte s.marks (RestsAt places.FieldSpace s) b s
 space_stays s b p o i = moves_at s.marks (RestsAt places.FieldSpace s) b s places.FieldSpace p refl (λ l h. h) o (λ u l x es. spaces_more (Choice s.field u) b x es i (λ k. choice_not_space u s.field b x es i k))
 
@@ -177,17 +162,3 @@ field_moves s b g word new q o n i e m = moves_word s.marks (RestsAt places.Fiel
     let a = spaces_over (Choice s.field u) b x es n in
     let c = subst (λ z. Choice s.field u (z ∷ x) es ↔ Word word (FieldOver u g (Gap g u)) x es) (sym i.1) (choice_next u s.field g word x es i.0 e) in
     (λ h. c.0 (a.0 h), λ h. a.1 (c.1 h)))
-
-pub field_ends : (u : Terms) (s : State) (b : ℕ) (x : List ℕ) (es : List Mark) → (IsSpace b → ⊥) → NoNextField s.field b → RestsAt places.FieldSpace s u (b ∷ x) es ↔ EndsBehind s.field u (b ∷ x) es
-field_ends u s b x es n m = let a = spaces_over (Choice s.field u) b x es n in let c = choice_ends u s.field b x es m in (λ h. c.0 (a.0 h), λ h. a.1 (c.1 h))
-
--- behind an element
-pub over_root : (s : State) → s.kept ≡ [] → s.names ≡ [] → ReachesState s.marks (Between 0 s.names) (record s { place = places.Epilog })
-over_root s k e = stays s.marks (Between 0 s.names) (record s { place = places.Epilog }) refl (λ h. h) tt (λ u l x es. subst (λ z. Between 0 z u x es ↔ After u x es) (sym e) (λ h. h, λ h. h))
-
-insides_any : (u : Terms) (names : List (List ℕ)) (x : List ℕ) (es : List Mark) → names ≢ [] → Between 0 names u x es ↔ Insides 0 names u x es
-insides_any u [] x es n = absurd (n refl)
-insides_any u (m ∷ names) x es n = (λ h. h, λ h. h)
-
-pub over_child : (s : State) → InElement s.names s.kept → ReachesState s.marks (Between 0 s.names) (record s { place = places.Content; count = 0 })
-over_child s k = stays s.marks (Between 0 s.names) (record s { place = places.Content; count = 0 }) refl (λ h. h) k (λ u l x es. insides_any u s.names x es k.1)

@@ -1,17 +1,6 @@
 -- The names of a tag: their numbers, and their set.
-use Rattle.std.proofs.Common.{◌≡◌, ◌∙◌, ℕ, Bool, true, false, ◌||◌, inl, inr, ◌⊎◌, List, [], ◌∷◌, ◌++◌, map, length, take, get_or, ◌<◌, ◌≤◌, ◌+◌, cond, refl, ap, sym, subst, arith, length-append, Less, Equal, Greater}
-use Rattle.std.specs.declared.cmp.Ordering.{Ordering}
-use Rattle.std.specs.Ordering.{is_eq, nat_cmp, match_ordering}
-use Rattle.std.specs.Cmp.Lexicographic.{slice_cmp}
-use Rattle.std.specs.List.{list_any}
-use Rattle.std.specs.BTreeMap.{is_at}
-use Rattle.std.specs.BTreeSet.{BTreeSet, contains, insert_key, Updates}
-use Rattle.std.proofs.lemmas.List.{take-append-le, take_more, take_all, length-map}
-use Rattle.std.proofs.Math.ListN.{get_or-map}
-use Rattle.std.proofs.lemmas.Map.Text.{is_eq-slice_cmp}
-use Rattle.std.proofs.lemmas.Slice.Eq.{bytes_eq-Decides}
-use Rattle.tree_grammar.specs.Tags.{IsAmong}
-use Rattle.doc_tree.specs.TagNames.{AreNumbered, AreSameNames, IsSorted, number_from}
+use Rattle.doc_tree.proofs.Words.{AreNumbered, AreSameNames, BTreeSet, Bool, Equal, Greater, IsAmong, IsSorted, Less, List, Ordering, Updates, [], ap, arith, bytes_eq-Decides, cond, contains, false, get_or, get_or-map, inl, inr, insert_key, is_at, is_eq, is_eq-slice_cmp, length, length-append, length-map, list_any, map, match_ordering, number_from, refl, slice_cmp, subst, sym, take, take-append-le, take_all, take_more, true, ℕ, ◌++◌, ◌+◌, ◌<◌, ◌||◌, ◌∙◌, ◌∷◌, ◌≡◌, ◌≤◌, ◌⊎◌}
+use Rattle.std.specs.Ordering.{nat_cmp}
 
 pub among_first : (n name : List ℕ) (names : List (List ℕ)) → IsAmong n names → IsAmong n (names ++ (name ∷ []))
 among_first n name [] h = absurd h
@@ -104,12 +93,12 @@ numbered_more names old new k u h = λ name a. u.0 (number_from 0 name) ∙ eith
     either true there e = refl
     either false there e = e
 
-pub numbered_push : (names : List (List ℕ)) (name : List ℕ) (numbers : BTreeSet ℕ) → AreNumbered names numbers → contains nat_cmp numbers (number_from 0 name) ≡ true → AreNumbered (names ++ (name ∷ [])) numbers
-numbered_push names name numbers h e = λ n a. elim (among_either n name names a) [ inl b ↦ h n b | inr q ↦ ap (λ z. contains nat_cmp numbers (number_from 0 z)) q ∙ e ]
-
 -- a name that comes is not yet in order
 pub sorted_push : (names : List (List ℕ)) (name : List ℕ) (settled : ℕ) (sorted : List (List ℕ)) → IsSorted names settled sorted → IsSorted (names ++ (name ∷ [])) settled sorted
 sorted_push names name settled sorted h = record {
   within = omega (arith, h.within, length-append names (name ∷ []));
   same = subst (AreSameNames sorted) (sym (take-append-le settled names (name ∷ []) h.within)) h.same;
 }
+
+pub numbered_push : (names : List (List ℕ)) (name : List ℕ) (numbers : BTreeSet ℕ) → AreNumbered names numbers → contains nat_cmp numbers (number_from 0 name) ≡ true → AreNumbered (names ++ (name ∷ [])) numbers
+numbered_push names name numbers h e = λ n a. elim (among_either n name names a) [ inl b ↦ h n b | inr q ↦ ap (λ z. contains nat_cmp numbers (number_from 0 z)) q ∙ e ]

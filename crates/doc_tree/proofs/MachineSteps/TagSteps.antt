@@ -1,45 +1,25 @@
 -- Steps of states in a start tag, an end tag and a field's value.
-use Rattle.std.proofs.Common.{◌≡◌, ◌≢◌, ℕ, ◌-◌, true, length, ◌↔◌, List, [], ◌∷◌, ◌++◌, refl, ap, sym, ◌∙◌, subst, arith, append_assoc}
-use Rattle.tree_grammar.specs.Characters.{IsSpace, IsNameStart, local_part}
-use Rattle.tree_grammar.specs.Tags.{IsAmong}
-use Rattle.tree_grammar.specs.Elements.{Attribute}
-use Rattle.doc_tree.specs.Marks.{Mark, Start, Finish}
-use Rattle.doc_tree.specs.Rests.{Aim, readable, any, special, Foreign, Terms, Word, Inside, Saying, AttributeValue, EndRest, Between, depth_left, IsNameRest, IsFieldValue, IsValueBegun, Gap}
-use Rattle.tree_grammar.specs.Declaration.{IsEncodingName, IsUtf8Name}
-use Rattle.doc_tree.specs.declared.declaration.Field.{Field}
+use Rattle.doc_tree.proofs.Words.{Aim, Attribute, BehindKey, BehindValue, Between, Emptied, EndOver, EndRest, Field, Finish, FollowsByte, Foreign, Gap, Good, GoodTag, InBody, InKey, InTag, Inside, Insides, IsAmong, IsEncodingName, IsFieldValue, IsNameRest, IsNameStart, IsPrintable, IsSpace, IsUtf8Name, IsValueBegun, List, Mark, Part, ReachesState, RestsAt, Saying, Start, State, Stuck, TagChoice, Terms, Word, [], any, ap, append_assoc, arith, depth_left, length, local_part, readable, refl, special, subst, sym, ℕ, ◌++◌, ◌-◌, ◌↔◌, ◌∙◌, ◌∷◌, ◌≡◌, ◌≢◌}
 use Rattle.doc_tree.specs.declared.declaration.Field.TheVariants as fieldkinds
-use Rattle.doc_tree.specs.declared.machine.Goal.TheVariants as goals
-use Rattle.doc_tree.specs.declared.names.Part.{Part}
 use Rattle.doc_tree.specs.declared.names.Part.TheVariants as parts
 use Rattle.doc_tree.specs.declared.machine.Place.TheVariants as places
-use Rattle.doc_tree.specs.Completions.{State, RestsAt, Good, GoodTag, IsPrintable, Insides, EndOver, InTag, InKey, BehindKey, InBody, BehindValue, TagChoice, Emptied, FollowsByte, Stuck, ReachesState}
-use Rattle.doc_tree.proofs.MachineSteps.Moves.{moves, moves_at, moves_word, follows_reached, follows_saying, reached_saying}
-use Rattle.doc_tree.proofs.ByteGrammar.Spans.{then_over, spaces_more, spaces_over, word_first, word_last}
-use Rattle.doc_tree.proofs.MachineSteps.Steps.{at_byte, at_here}
-use Rattle.doc_tree.proofs.ByteGrammar.Bytes.{space_low, not_space}
-use Rattle.doc_tree.proofs.ByteGrammar.Tags.{tag_space, body_open, body_close}
-use Rattle.doc_tree.proofs.ByteGrammar.Keys.{name_next, name_over, tag_high, key_high, choice_key, choice_ends, choice_space, equals_sign, equals_space, equals_stuck}
-use Rattle.doc_tree.proofs.ByteGrammar.Values.{value_end, value_char, value_space, value_amp, value_less}
+use Rattle.doc_tree.proofs.MachineSteps.Moves.{moves, moves_at, follows_saying, reached_saying}
+use Rattle.doc_tree.proofs.ByteGrammar.{body_open, choice_ends, choice_key, equals_sign, key_high, name_next, name_over, next_printable, not_space, space_low, spaces_more, spaces_over, tag_high, value_char, value_space, word_first, word_last}
+use Rattle.doc_tree.proofs.MachineSteps.Steps.{KQ, at_byte, at_here}
 use Rattle.doc_tree.proofs.MachineSteps.FieldSteps as fields
-use Rattle.doc_tree.proofs.MachineSteps.FieldValues.{any_aim, each_more}
-use Rattle.doc_tree.proofs.Viability.Printables.{printable_text, next_printable}
+use Rattle.doc_tree.proofs.MachineSteps.FieldValues.{any_aim, each_longer}
 
 -- a field's value, whichever encodings may be named
 every_aim : (f : Field) (v : List ℕ) → IsFieldValue readable f v → (aim : Aim) → IsFieldValue aim f v
-every_aim fieldkinds.Before v h aim = h
-every_aim fieldkinds.Version v h aim = h
-every_aim fieldkinds.Encoding v h readable = h
 every_aim fieldkinds.Encoding v h any = (h.0, tt)
 every_aim fieldkinds.Encoding v h special = (h.0, tt)
-every_aim fieldkinds.Standalone v h aim = h
+every_aim _ v h _ = h
 
 pub no_aim : (f : Field) (v : List ℕ) → (IsFieldValue readable f v → ⊥) → (f ≡ fieldkinds.Encoding → IsEncodingName v → (IsUtf8Name v → ⊥) → ⊥) → (aim : Aim) → IsFieldValue aim f v → ⊥
 no_aim fieldkinds.Before v n p aim h = h
-no_aim fieldkinds.Version v n p aim h = n h
-no_aim fieldkinds.Encoding v n p readable h = n h
 no_aim fieldkinds.Encoding v n p any h = p refl h.0 (λ q. n (h.0, q))
 no_aim fieldkinds.Encoding v n p special h = p refl h.0 (λ q. n (h.0, q))
-no_aim fieldkinds.Standalone v n p aim h = n h
+no_aim _ v n p _ h = n h
 
 -- a value that is read ends no text
 not_foreign : (u : Terms) (f : Field) (v : List ℕ) → IsFieldValue readable f v → (r : List ℕ) (es : List Mark) → Foreign u f v r es → ⊥
@@ -48,39 +28,22 @@ not_foreign u f v h r es k = let i : IsFieldValue readable fieldkinds.Encoding v
 pub field_stays : (s : State) (b : ℕ) (v : List ℕ) → v ≡ s.value ++ (b ∷ []) → s.place ≡ places.FieldValue → Good places.FieldValue s → b ≢ s.quote → IsValueBegun s.field (s.value ++ (b ∷ [])) → FollowsByte s.marks (RestsAt places.FieldValue s) b (record s { value = v })
 field_stays s b v e p g n i = subst (λ z. FollowsByte s.marks (RestsAt places.FieldValue s) b (record s { value = z })) (sym e) (moves_at s.marks (RestsAt places.FieldValue s) b (record s { value = s.value ++ (b ∷ []) }) places.FieldValue p refl (λ l h. h) (g.0, g.1, i) (λ u l x es. fields.value_more u s.field (Gap s.field u) s.value s.quote b x es n))
 
-pub field_none : (s : State) (b : ℕ) → b ≢ s.quote → (IsValueBegun s.field (s.value ++ (b ∷ [])) → ⊥) → Stuck (RestsAt places.FieldValue s) b
-field_none s b n m = λ u d x es h. let k = (fields.value_more u s.field (Gap s.field u) s.value s.quote b x es n).0 h in m (k.run, any_aim u.aim s.field ((s.value ++ (b ∷ [])) ++ k.run) k.is)
-
 pub field_over : (s : State) (b : ℕ) → b ≡ s.quote → Good places.FieldValue s → IsFieldValue readable s.field s.value → FollowsByte s.marks (RestsAt places.FieldValue s) b (record s { place = places.FieldGap })
 field_over s b e g i = at_byte s.marks (RestsAt places.FieldValue s) b s.quote (record s { place = places.FieldGap }) e (moves s.marks (RestsAt places.FieldValue s) s.quote (record s { place = places.FieldGap }) refl (λ l h. h) g.0 (λ u l x es. fields.value_over u s.field (Gap s.field u) s.value s.quote x es g.1 (every_aim s.field s.value i u.aim) (not_foreign u s.field s.value i x es)))
 
-pub field_stuck : (s : State) (b : ℕ) → b ≡ s.quote → Good places.FieldValue s → ((aim : Aim) → IsFieldValue aim s.field s.value → ⊥) → Stuck (RestsAt places.FieldValue s) b
-field_stuck s b e g n = subst (λ z. Stuck (RestsAt places.FieldValue s) z) (sym e) (λ u l x es h. fields.value_stuck u s.field (Gap s.field u) s.value s.quote x es g.1 (n u.aim) h)
-
 -- a name may end here
 part_ends : (p : Part) → p ≢ parts.Colon → IsNameRest p []
-part_ends parts.First n = tt
 part_ends parts.Colon n = absurd (n refl)
-part_ends parts.Local n = tt
+part_ends _ n = tt
 
 -- a start tag's name
 pub tag_more : (s : State) (b : ℕ) (name : List ℕ) (q : Part) → name ≡ s.name ++ (b ∷ []) → s.place ≡ places.TagName → Good places.TagName s → ((run : List ℕ) → IsNameRest s.part (b ∷ run) ↔ IsNameRest q run) → FollowsByte s.marks (RestsAt places.TagName s) b (record s { name = name; part = q })
-tag_more s b name q e p g f = subst (λ z. FollowsByte s.marks (RestsAt places.TagName s) b (record s { name = z; part = q })) (sym e) (moves_at s.marks (RestsAt places.TagName s) b (record s { name = s.name ++ (b ∷ []); part = q }) places.TagName p refl (λ l h. h) (g.0, g.1, (each_more IsPrintable s.name b g.2.0 (next_printable s.part q b f), g.2.1)) (λ u l x es. name_next (λ m. InTag s m u) s.name s.part q b x es f (λ m y fs i h. tag_high u s b m y fs i h)))
-
-pub tag_colon : (s : State) (b : ℕ) → s.part ≡ parts.Colon → ((run : List ℕ) → IsNameRest s.part (b ∷ run) → ⊥) → Stuck (RestsAt places.TagName s) b
-tag_colon s b e f = λ u l x es h. let p = (then_over (IsNameRest s.part) (λ run. InTag s (s.name ++ run) u) b x es f h).0 in let q : IsNameRest parts.Colon [] = subst (λ z. IsNameRest z []) e p in q
+tag_more s b name q e p g f = subst (λ z. FollowsByte s.marks (RestsAt places.TagName s) b (record s { name = z; part = q })) (sym e) (moves_at s.marks (RestsAt places.TagName s) b (record s { name = s.name ++ (b ∷ []); part = q }) places.TagName p refl (λ l h. h) (g.0, g.1, (each_longer IsPrintable s.name b g.2.0 (next_printable s.part q b f), g.2.1)) (λ u l x es. name_next (λ m. InTag s m u) s.name s.part q b x es f (λ m y fs i h. tag_high u s b m y fs i h)))
 
 pub tag_named : (u : Terms) (s : State) (b : ℕ) (x : List ℕ) (es : List Mark) → s.part ≢ parts.Colon → ((run : List ℕ) → IsNameRest s.part (b ∷ run) → ⊥) → RestsAt places.TagName s u (b ∷ x) es ↔ InTag s s.name u (b ∷ x) es
 tag_named u s b x es n f = name_over (λ m. InTag s m u) s.name s.part b x es f (part_ends s.part n)
 
--- behind it
-pub tag_spaced : (s : State) (b : ℕ) → GoodTag s → IsSpace b → FollowsByte s.marks (InTag s s.name) b (record s { place = places.TagSpace })
-tag_spaced s b g i = moves s.marks (InTag s s.name) b (record s { place = places.TagSpace }) refl (λ l h. h) g (λ u l x es. tag_space u s b x es i)
-
 -- white space, an attribute, or the end
-pub space_more : (s : State) (b : ℕ) → s.place ≡ places.TagSpace → GoodTag s → IsSpace b → FollowsByte s.marks (RestsAt places.TagSpace s) b s
-space_more s b p g i = moves_at s.marks (RestsAt places.TagSpace s) b s places.TagSpace p refl (λ l h. h) g (λ u l x es. spaces_more (TagChoice s u) b x es i (λ k. choice_space u s b x es i k))
-
 pub key_begins : (s : State) (b : ℕ) (key : List ℕ) → key ≡ b ∷ [] → GoodTag s → (IsSpace b → ⊥) → IsNameStart b → FollowsByte s.marks (RestsAt places.TagSpace s) b (record s { key = key; part = parts.First; place = places.Key })
 key_begins s b key e g n i = subst (λ z. FollowsByte s.marks (RestsAt places.TagSpace s) b (record s { key = z; part = parts.First; place = places.Key })) (sym e) (moves s.marks (RestsAt places.TagSpace s) b (record s { key = b ∷ []; part = parts.First; place = places.Key }) refl (λ l h. h) g (λ u l x es.
     let a = spaces_over (TagChoice s u) b x es n in let c = choice_key u s b x es i in (λ h. c.0 (a.0 h), λ h. a.1 (c.1 h))))
@@ -92,28 +55,13 @@ space_ends u s b x es n m = let a = spaces_over (TagChoice s u) b x es n in let 
 pub key_more : (s : State) (b : ℕ) (key : List ℕ) (q : Part) → key ≡ s.key ++ (b ∷ []) → s.place ≡ places.Key → GoodTag s → ((run : List ℕ) → IsNameRest s.part (b ∷ run) ↔ IsNameRest q run) → FollowsByte s.marks (RestsAt places.Key s) b (record s { key = key; part = q })
 key_more s b key q e p g f = subst (λ z. FollowsByte s.marks (RestsAt places.Key s) b (record s { key = z; part = q })) (sym e) (moves_at s.marks (RestsAt places.Key s) b (record s { key = s.key ++ (b ∷ []); part = q }) places.Key p refl (λ l h. h) g (λ u l x es. name_next (InKey s u) s.key s.part q b x es f (λ m y fs i h. key_high u s b m y fs i h)))
 
-pub key_colon : (s : State) (b : ℕ) → s.part ≡ parts.Colon → ((run : List ℕ) → IsNameRest s.part (b ∷ run) → ⊥) → Stuck (RestsAt places.Key s) b
-key_colon s b e f = λ u l x es h. let p = (then_over (IsNameRest s.part) (λ run. InKey s u (s.key ++ run)) b x es f h).0 in let q : IsNameRest parts.Colon [] = subst (λ z. IsNameRest z []) e p in q
-
 pub key_named : (u : Terms) (s : State) (b : ℕ) (x : List ℕ) (es : List Mark) → s.part ≢ parts.Colon → ((run : List ℕ) → IsNameRest s.part (b ∷ run) → ⊥) → RestsAt places.Key s u (b ∷ x) es ↔ BehindKey s u (b ∷ x) es
 key_named u s b x es n f = name_over (InKey s u) s.key s.part b x es f (part_ends s.part n)
 
-abbrev pub KV : State → Terms → ℕ → List ℕ → List Mark → Type 0
-KV s u quote = AttributeValue (depth_left u s.names - 1) s.name s.keys s.kept (Between 0 s.names u) s.key quote []
-
 pub key_equals : (s : State) (b : ℕ) → b ≡ 61 → GoodTag s → (IsAmong s.key s.keys → ⊥) → FollowsByte s.marks (BehindKey s) b (record s { place = places.KeyQuote })
-key_equals s b e g n = at_byte s.marks (BehindKey s) b 61 (record s { place = places.KeyQuote }) e (moves s.marks (BehindKey s) 61 (record s { place = places.KeyQuote }) refl (λ l h. h) (n, g) (λ u l x es. let k = equals_sign (KV s u) x es in (λ h. k.0 h.over, λ h. record { new = n; over = k.1 h })))
-
-pub key_spaced : (s : State) (b : ℕ) → IsSpace b → GoodTag s → (IsAmong s.key s.keys → ⊥) → FollowsByte s.marks (BehindKey s) b (record s { place = places.KeyEquals })
-key_spaced s b i g n = moves s.marks (BehindKey s) b (record s { place = places.KeyEquals }) refl (λ l h. h) (n, g) (λ u l x es. let k = equals_space (KV s u) b x es i in (λ h. k.0 h.over, λ h. record { new = n; over = k.1 h }))
-
-pub key_no : (s : State) (b : ℕ) → (IsSpace b → ⊥) → b ≢ 61 → Stuck (BehindKey s) b
-key_no s b n m = λ u l x es h. equals_stuck (KV s u) b x es n m h.over
+key_equals s b e g n = at_byte s.marks (BehindKey s) b 61 (record s { place = places.KeyQuote }) e (moves s.marks (BehindKey s) 61 (record s { place = places.KeyQuote }) refl (λ l h. h) (n, g) (λ u l x es. let k = equals_sign (KQ s u) x es in (λ h. k.0 h.over, λ h. record { new = n; over = k.1 h })))
 
 -- the tag's end
-pub tag_closes : (s : State) (b : ℕ) (new : State) → b ≡ 47 → GoodTag s → new ≡ record s { place = places.Word; left = 62 ∷ []; goal = goals.EmptyTag } → FollowsByte s.marks (InBody s) b new
-tag_closes s b new e g q = at_byte s.marks (InBody s) b 47 new e (moves_word s.marks (InBody s) 47 s goals.EmptyTag (62 ∷ []) new q refl (λ l h. h) (λ z. cc) (printable_text (62 ∷ []) refl) g (λ u l x es. body_close (depth_left u s.names - 1) s.name s.kept (Between 0 s.names u) x es))
-
 room_less : (u : Terms) (names : List (List ℕ)) (n : List ℕ) → depth_left u names - 1 ≡ depth_left u (n ∷ names)
 room_less u names n = let l = length names in omega arith
 
@@ -125,13 +73,6 @@ tag_opens s b names name l kept marks e f g m k d =
     at_byte s.marks (InBody s) b 62 (T names) e (subst (λ z. FollowsByte s.marks (InBody s) 62 (T z)) (sym f) (follows_saying s.marks (Start (local_part s.name) s.kept ∷ []) (InBody s) (Insides 0 n2) 62 (T n2)
     (λ u d x es. subst (λ r. InBody s u (62 ∷ x) es ↔ Saying (Start (local_part s.name) s.kept ∷ []) (Inside r 0 s.name (Between 0 s.names u)) x es) (room_less u s.names s.name) (body_open (depth_left u s.names - 1) s.name s.kept (Between 0 s.names u) x es))
     (subst (λ z. ReachesState z (Insides 0 n2) (T n2)) m2 (at_here (T n2) refl (k, (λ z. cc), d)))))
-
--- an empty-element tag
-pub tag_emptied : (s : State) (l1 l2 : List ℕ) (m1 m2 : List Mark) (new : State) → l1 ≡ local_part s.name → l2 ≡ local_part s.name → m1 ≡ s.marks ++ (Start l1 s.kept ∷ []) → m2 ≡ m1 ++ (Finish l2 ∷ []) → ReachesState m2 (Between 0 s.names) new → ReachesState s.marks (Emptied s) new
-tag_emptied s l1 l2 m1 m2 new e f g h r =
-    let L = local_part s.name in
-    let k : m2 ≡ s.marks ++ (Start L s.kept ∷ Finish L ∷ []) = h ∙ ap (λ z. z ++ (Finish l2 ∷ [])) g ∙ append_assoc s.marks (Start l1 s.kept ∷ []) (Finish l2 ∷ []) ∙ ap (λ z. s.marks ++ (Start z s.kept ∷ Finish l2 ∷ [])) e ∙ ap (λ z. s.marks ++ (Start L s.kept ∷ Finish z ∷ [])) f in
-    reached_saying s.marks (Start L s.kept ∷ Finish L ∷ []) (Emptied s) (Between 0 s.names) new (λ u d x es. (λ z. z, λ z. z)) (subst (λ z. ReachesState z (Between 0 s.names) new) k r)
 
 -- an end tag
 end_space_any : (u : Terms) (names : List (List ℕ)) (b : ℕ) (x : List ℕ) (es : List Mark) → IsSpace b → EndOver names u (b ∷ x) es ↔ EndOver names u x es
@@ -156,17 +97,18 @@ end_over s b k names l marks new e f g m r =
     (subst (λ z. ReachesState z (Between 0 names) new) m2 r))
 
 -- an attribute's value
-pub value_ends : (s : State) (b : ℕ) (new : State) → b ≡ s.quote → Good places.Value s → ReachesState s.marks (BehindValue s s.value) new → FollowsByte s.marks (RestsAt places.Value s) b new
-value_ends s b new e g r = at_byte s.marks (RestsAt places.Value s) b s.quote new e (follows_reached s.marks (RestsAt places.Value s) (BehindValue s s.value) s.quote new (λ u d x es. value_end s.quote s.value (λ v. BehindValue s v u) x es g.1) r)
-
-pub value_refers : (s : State) (b : ℕ) → b ≡ 38 → Good places.Value s → FollowsByte s.marks (RestsAt places.Value s) b (record s { place = places.Ampersand; in_value = true })
-value_refers s b e g = at_byte s.marks (RestsAt places.Value s) b 38 (record s { place = places.Ampersand; in_value = true }) e (moves s.marks (RestsAt places.Value s) 38 (record s { place = places.Ampersand; in_value = true }) refl (λ l h. h) g (λ u d x es. value_amp s.quote s.value (λ v. BehindValue s v u) x es g.1))
-
-pub value_no : (s : State) (b : ℕ) → b ≡ 60 → Good places.Value s → Stuck (RestsAt places.Value s) b
-value_no s b e g = subst (λ z. Stuck (RestsAt places.Value s) z) (sym e) (λ u d x es h. value_less s.quote s.value (λ v. BehindValue s v u) x es g.1 h)
-
 pub value_spaced : (s : State) (b : ℕ) (v : List ℕ) → v ≡ s.value ++ (32 ∷ []) → s.place ≡ places.Value → Good places.Value s → IsSpace b → FollowsByte s.marks (RestsAt places.Value s) b (record s { value = v })
 value_spaced s b v e p g i = subst (λ z. FollowsByte s.marks (RestsAt places.Value s) b (record s { value = z })) (sym e) (moves_at s.marks (RestsAt places.Value s) b (record s { value = s.value ++ (32 ∷ []) }) places.Value p refl (λ l h. h) g (λ u d x es. value_space s.quote s.value (λ v. BehindValue s v u) b x es g.1 i))
 
 pub value_said : (s : State) (b : ℕ) (v : List ℕ) → v ≡ s.value ++ (b ∷ []) → s.place ≡ places.Value → Good places.Value s → b ≢ s.quote → b ≢ 60 → b ≢ 38 → (IsSpace b → ⊥) → FollowsByte s.marks (RestsAt places.Value s) b (record s { value = v })
 value_said s b v e p g q l a n = subst (λ z. FollowsByte s.marks (RestsAt places.Value s) b (record s { value = z })) (sym e) (moves_at s.marks (RestsAt places.Value s) b (record s { value = s.value ++ (b ∷ []) }) places.Value p refl (λ l h. h) g (λ u d x es. value_char s.quote s.value (λ v. BehindValue s v u) b x es q l a n))
+
+-- an empty-element tag
+pub tag_emptied : (s : State) (l1 l2 : List ℕ) (m1 m2 : List Mark) (new : State) → l1 ≡ local_part s.name → l2 ≡ local_part s.name → m1 ≡ s.marks ++ (Start l1 s.kept ∷ []) → m2 ≡ m1 ++ (Finish l2 ∷ []) → ReachesState m2 (Between 0 s.names) new → ReachesState s.marks (Emptied s) new
+tag_emptied s l1 l2 m1 m2 new e f g h r =
+    let L = local_part s.name in
+    let k : m2 ≡ s.marks ++ (Start L s.kept ∷ Finish L ∷ []) = h ∙ ap (λ z. z ++ (Finish l2 ∷ [])) g ∙ append_assoc s.marks (Start l1 s.kept ∷ []) (Finish l2 ∷ []) ∙ ap (λ z. s.marks ++ (Start z s.kept ∷ Finish l2 ∷ [])) e ∙ ap (λ z. s.marks ++ (Start L s.kept ∷ Finish z ∷ [])) f in
+    reached_saying s.marks (Start L s.kept ∷ Finish L ∷ []) (Emptied s) (Between 0 s.names) new (λ u d x es. (λ z. z, λ z. z)) (subst (λ z. ReachesState z (Between 0 s.names) new) k r)
+
+pub field_none : (s : State) (b : ℕ) → b ≢ s.quote → (IsValueBegun s.field (s.value ++ (b ∷ [])) → ⊥) → Stuck (RestsAt places.FieldValue s) b
+field_none s b n m = record { none = λ u d x es h. let k = (fields.value_more u s.field (Gap s.field u) s.value s.quote b x es n).0 h in m (k.run, any_aim u.aim s.field ((s.value ++ (b ∷ [])) ++ k.run) k.is) }

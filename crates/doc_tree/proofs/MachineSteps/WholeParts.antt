@@ -1,23 +1,11 @@
 -- Fixed texts, references and attributes that are whole; and the machine's ends.
-use Rattle.std.proofs.Common.{◌≡◌, ◌≢◌, ℕ, ◌+◌, ◌<◌, inl, inr, Bool, true, false, cond, length, map, drop, drop-cons, get_or, ◌↔◌, List, [], ◌∷◌, ◌++◌, refl, ap, sym, ◌∙◌, subst, arith}
-use Rattle.std.specs.Prelude.{encode_utf8}
-use Rattle.std.proofs.lemmas.List.{append-nil}
-use Rattle.tree_grammar.specs.Tags.{is_kept}
-use Rattle.tree_grammar.specs.Characters.{IsXmlChar}
-use Rattle.tree_grammar.specs.Elements.{Attribute}
-use Rattle.doc_tree.specs.Marks.{Mark, Char}
-use Rattle.tree_grammar.specs.Content.{misc_over}
-use Rattle.doc_tree.specs.Rests.{Terms, Word, After, keep, Whole}
-use Rattle.doc_tree.specs.declared.machine.Goal.{Goal}
+use Rattle.doc_tree.proofs.Words.{After, Attribute, Behind, BehindReference, BehindValue, Bool, Char, Completes, FollowsByte, Goal, Good, GoodGoal, GoodReference, GoodTag, HoldsKey, InElement, Insides, IsFixed, IsInMark, List, Mark, Place, ReachesGoal, ReachesState, RestsAt, State, Terms, Word, [], ap, append-nil, arith, cond, drop, drop-cons, encode_utf8, false, get_or, inl, inr, is_kept, keep, length, map, misc_over, refl, subst, sym, true, ℕ, ◌++◌, ◌+◌, ◌<◌, ◌↔◌, ◌∙◌, ◌∷◌, ◌≡◌, ◌≢◌}
 use Rattle.doc_tree.specs.declared.machine.Goal.TheVariants as goals
-use Rattle.doc_tree.specs.declared.machine.Place.{Place}
 use Rattle.doc_tree.specs.declared.machine.Place.TheVariants as places
-use Rattle.doc_tree.specs.Completions.{State, RestsAt, ReachesGoal, Insides, Good, GoodReference, GoodGoal, GoodTag, IsFixed, InElement, IsInMark, IsRadix, Behind, BehindReference, BehindValue, HoldsKey, Completes, FollowsByte, Stuck, ReachesState, RunsOn}
 use Rattle.doc_tree.proofs.MachineSteps.Moves.{moves_at, follows_reached, reached_from, reached_saying, stays}
-use Rattle.doc_tree.proofs.ByteGrammar.Spans.{word_first, word_back, word_last}
-use Rattle.doc_tree.proofs.MachineSteps.Steps.{at_byte, at_here}
+use Rattle.doc_tree.proofs.ByteGrammar.{word_back, word_first, word_last}
+use Rattle.doc_tree.proofs.MachineSteps.Steps.{at_here}
 use Rattle.doc_tree.proofs.MachineSteps.Loops.{drop_at}
-use Rattle.doc_tree.proofs.ByteGrammar.Numbers.{digit_end, digit_end_stuck}
 
 -- an attribute is whole
 attribute_over : (s : State) → GoodTag s → (kept : List Attribute) (marks : List Mark) → kept ≡ keep s.key s.value s.kept → s.marks ≡ marks → ReachesState s.marks (BehindValue s s.value) (record s { place = places.TagAfter; keys = s.keys ++ (s.key ∷ []); key = []; kept = kept; marks = marks })
@@ -28,34 +16,17 @@ attribute_over s g kept marks f m =
 pub kept_is : (key value : List ℕ) (kept new : List Attribute) → true ≡ is_kept key → new ≡ kept ++ (record { name = key; value = value } ∷ []) → new ≡ keep key value kept
 kept_is key value kept new e f = f ∙ ap (λ z. kept ++ cond z (record { name = key; value = value } ∷ []) []) e
 
-pub kept_not : (key value : List ℕ) (kept : List Attribute) → false ≡ is_kept key → kept ≡ keep key value kept
-kept_not key value kept e = sym (append-nil kept) ∙ ap (λ z. kept ++ cond z (record { name = key; value = value } ∷ []) []) e
-
 -- what is left of a fixed text
 fixed_left : (g : Goal) (b : ℕ) (left : List ℕ) → left ≢ [] → IsFixed g (b ∷ left) → IsFixed g left
 fixed_left goals.Marked b left n (inl e) = inr (cc)
 fixed_left goals.Marked b left n (inr e) = absurd (n (cc))
-fixed_left goals.Comment b left n h = h.1
-fixed_left goals.Section b left n h = h.1
-fixed_left goals.Around b left n h = h.1
-fixed_left goals.Field b left n h = h.1
-fixed_left goals.Prolog b left n h = h.1
-fixed_left goals.EmptyTag b left n h = h.1
-fixed_left goals.EndName b left n h = h.1
-fixed_left goals.Entity b left n h = h.1
+fixed_left _ b left n h = h.1
 
 -- in the byte order mark no byte is of ASCII
 fixed_high : (g : Goal) (b : ℕ) (left : List ℕ) → left ≢ [] → IsFixed g (b ∷ left) → b < 128 → IsInMark places.Word g → ⊥
 fixed_high goals.Marked b left n (inl e) l h = let k : b ≡ 187 = cc in omega arith
 fixed_high goals.Marked b left n (inr e) l h = n (cc)
-fixed_high goals.Comment b left n f l h = h
-fixed_high goals.Section b left n f l h = h
-fixed_high goals.Around b left n f l h = h
-fixed_high goals.Field b left n f l h = h
-fixed_high goals.Prolog b left n f l h = h
-fixed_high goals.EmptyTag b left n f l h = h
-fixed_high goals.EndName b left n f l h = h
-fixed_high goals.Entity b left n f l h = h
+fixed_high _ b left n f l h = h
 
 -- a fixed text
 pub word_stays : (s : State) (b : ℕ) (left : List ℕ) → s.left ≡ b ∷ left → left ≢ [] → s.place ≡ places.Word → IsFixed s.goal s.left → GoodGoal s.goal (record s { left = left }) → ((u : Terms) (x : List ℕ) (es : List Mark) → ReachesGoal s.goal s u x es ↔ ReachesGoal s.goal (record s { left = left }) u x es) → FollowsByte s.marks (RestsAt places.Word s) b (record s { left = left })
@@ -68,9 +39,6 @@ word_stays s b left e n p i k f =
 
 pub word_ends : (s : State) (b : ℕ) (new : State) → s.left ≡ b ∷ [] → ReachesState s.marks (ReachesGoal s.goal s) new → FollowsByte s.marks (RestsAt places.Word s) b new
 word_ends s b new e r = follows_reached s.marks (RestsAt places.Word s) (ReachesGoal s.goal s) b new (λ u d x es. subst (λ z. Word z (ReachesGoal s.goal s u) (b ∷ x) es ↔ ReachesGoal s.goal s u x es) (sym e) (word_last (ReachesGoal s.goal s u) b x es)) r
-
-pub word_stuck : (s : State) (b w : ℕ) (left : List ℕ) → s.left ≡ w ∷ left → w ≢ b → Stuck (RestsAt places.Word s) b
-word_stuck s b w left e n = λ u d x es h. n (sym (word_first (ReachesGoal s.goal s u) w left b x es (subst (λ z. Word z (ReachesGoal s.goal s u) (b ∷ x) es) e h)).0)
 
 -- what a goal asks for doesn't depend on how much of the text is left
 pub reaches_same : (g : Goal) (s : State) (left : List ℕ) (u : Terms) (x : List ℕ) (es : List Mark) → ReachesGoal g s u x es ↔ ReachesGoal g (record s { left = left }) u x es
@@ -89,22 +57,6 @@ reaches_same goals.Entity s left u x es = behind_left u s.in_value s left (encod
     behind_left u false s left cs x es = (λ h. h, λ h. h)
 
 -- a reference to a number
-pub number_ends : (s : State) (b : ℕ) (new : State) → b ≡ 59 → IsRadix s.radix → IsXmlChar s.number → ReachesState s.marks (BehindReference s (encode_utf8 s.number)) new → FollowsByte s.marks (RestsAt places.Digit s) b new
-number_ends s b new e i c r = at_byte s.marks (RestsAt places.Digit s) b 59 new e (follows_reached s.marks (RestsAt places.Digit s) (BehindReference s (encode_utf8 s.number)) 59 new (λ u d x es. digit_end s.radix s.number (Behind s.in_value s u) x es i c) r)
-
-pub number_stuck : (s : State) (b : ℕ) → b ≡ 59 → IsRadix s.radix → (IsXmlChar s.number → ⊥) → Stuck (RestsAt places.Digit s) b
-number_stuck s b e i n = subst (λ z. Stuck (RestsAt places.Digit s) z) (sym e) (λ u d x es h. digit_end_stuck s.radix s.number (Behind s.in_value s u) x es i n h)
-
--- the start
-pub runs_start : (s : State) → s.place ≡ places.Start → s.marks ≡ [] → Good places.Start s → RunsOn s []
-runs_start s p m g = record {
-  good = subst (λ z. Good z s) (sym p) g;
-  same = λ u d rest says. (
-    (λ h. record { later = says; whole = ap (λ z. z ++ says) (sym m); rest = subst (λ z. RestsAt z s u rest says) (sym p) h }),
-    (λ h. let k : Whole u rest h.later = subst (λ z. RestsAt z s u rest h.later) p h.rest in subst (λ z. Whole u rest z) (sym (h.whole ∙ ap (λ z. z ++ h.later) m)) k),
-  );
-}
-
 pub attribute_done : (s t new : State) → GoodTag s → t.kept ≡ keep s.key s.value s.kept → s.marks ≡ t.marks → t ≡ record s { kept = t.kept; marks = t.marks } → HoldsKey t new → ReachesState s.marks (BehindValue s s.value) new
 attribute_done s t new g f m e q = subst (λ z. ReachesState s.marks (BehindValue s s.value) z) (sym (q ∙ ap {A = State} (λ z. record z { place = places.TagAfter; keys = z.keys ++ (z.key ∷ []); key = [] }) e)) (attribute_over s g t.kept t.marks f m)
 

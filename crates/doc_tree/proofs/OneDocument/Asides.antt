@@ -1,12 +1,6 @@
 -- What stands behind a comment, an instruction or a CDATA section, and what a section says, are found from the text.
-use Rattle.std.proofs.Common.{◌≡◌, ℕ, List, [], ◌∷◌, ◌++◌, map, refl, ap, sym, ◌∙◌, subst, arith}
-use Rattle.tree_grammar.specs.Characters.{IsSpace, IsName}
-use Rattle.tree_grammar.specs.Content.{Comment, comment_over, comment_plain, comment_dash, comment_text, IsInstructionText, Instruction, bare, with_text, instruction_text, brackets, IsSectionText}
-use Rattle.doc_tree.specs.Marks.{Mark, Char}
-use Rattle.doc_tree.specs.Rests.{Word, Saying, CommentRest, SectionRest, PiRest}
-use Rattle.doc_tree.proofs.ByteGrammar.Bytes.{IsHigh, not_space}
-use Rattle.doc_tree.proofs.ByteGrammar.Spans.{word_last}
-use Rattle.doc_tree.proofs.ByteGrammar.Asides.{comment_plain_byte, comment_dash_byte, comment_end, pi_end, instruction_of}
+use Rattle.doc_tree.proofs.Words.{Char, Comment, CommentRest, Instruction, IsInstructionText, IsName, IsSectionText, IsSpace, List, Mark, PiRest, Saying, SectionRest, Word, [], ap, arith, bare, brackets, comment_dash, comment_over, comment_plain, comment_text, instruction_text, map, refl, subst, sym, with_text, ℕ, ◌++◌, ◌∙◌, ◌∷◌, ◌≡◌}
+use Rattle.doc_tree.proofs.ByteGrammar.{IsHigh, comment_dash_byte, comment_end, comment_plain_byte, instruction_of, not_space, pi_end, word_last}
 use Rattle.doc_tree.proofs.OneDocument.Spans.{Stops, each_same, name_high, space_not_high}
 
 -- a comment
@@ -62,9 +56,8 @@ behind_instruction K i x es h =
 
 -- a CDATA section
 section_goes : (n c : ℕ) (cs x y : List ℕ) → IsSectionText n (c ∷ cs) → 93 ∷ 93 ∷ 62 ∷ x ≡ c ∷ (cs ++ (93 ∷ 93 ∷ 62 ∷ y)) → ⊥
-section_goes n c [] x y i e = let h : ◌≡◌ {A = ℕ} 62 93 = cc in omega arith
-section_goes n c (d ∷ []) x y i e = let h : ◌≡◌ {A = ℕ} 62 93 = cc in omega arith
 section_goes n c (d ∷ f ∷ fs) x y i e = let p : c ≡ 93 = cc in let q : d ≡ 93 = cc in let t : f ≡ 62 = cc in grind arith
+section_goes n c _ x y i e = grind arith
 
 section_same : (n : ℕ) (a b x y : List ℕ) → IsSectionText n a → IsSectionText n b → a ++ (93 ∷ 93 ∷ 62 ∷ x) ≡ b ++ (93 ∷ 93 ∷ 62 ∷ y) → (a ≡ b) × (x ≡ y)
 section_same n [] [] x y i j e = (refl, cc)

@@ -1,15 +1,6 @@
 -- What content says is found from the text.
-use Rattle.std.proofs.Common.{◌≡◌, ℕ, ◌-◌, inl, inr, List, [], ◌∷◌, ◌++◌, map, refl, ap, sym, ◌∙◌, subst, arith}
-use Rattle.std.proofs.lemmas.List.{append_cancel_left}
-use Rattle.tree_grammar.specs.Elements.{Attribute}
-use Rattle.tree_grammar.specs.Characters.{IsSpace, Each, IsQName, local_part, reference_text, reference_chars}
-use Rattle.tree_grammar.specs.Tags.{attributes_text, attribute_list, Tag, tag_text}
-use Rattle.tree_grammar.specs.Content.{brackets, comment_text, instruction_text, Content, nothing, char, reference, section, comment, instruction, empty, nested, content_text, end_text, Body, closed, opened, body_text}
-use Rattle.doc_tree.specs.Marks.{Mark, Start, Char, Finish, content_marks, body_marks}
-use Rattle.doc_tree.specs.Rests.{Then, Word, RefRest, TagRest, BodyRest, IsBodyFit, Inside, Saying, EndRest, CommentRest, SectionRest}
-use Rattle.doc_tree.proofs.ByteGrammar.Bytes.{start_high, not_space}
-use Rattle.doc_tree.proofs.ByteGrammar.Spans.{word_last}
-use Rattle.doc_tree.proofs.ByteGrammar.Contents.{LessCases, inside_char_to, inside_amp, inside_less, inside_dash, inside_square, inside_question, end_to, tag_to}
+use Rattle.doc_tree.proofs.Words.{Attribute, Body, BodyRest, Char, CommentRest, Content, Each, EndRest, Finish, Inside, IsBodyFit, IsQName, IsSpace, List, Mark, RefRest, Saying, SectionRest, Start, Tag, TagRest, Then, Word, [], ap, append_cancel_left, arith, attribute_list, attributes_text, body_marks, body_text, brackets, char, closed, comment, comment_text, content_marks, content_text, empty, end_text, inl, inr, instruction, instruction_text, local_part, map, nested, nothing, opened, reference, reference_chars, reference_text, refl, section, subst, sym, tag_text, ℕ, ◌++◌, ◌-◌, ◌∙◌, ◌∷◌, ◌≡◌}
+use Rattle.doc_tree.proofs.ByteGrammar.{LessCases, end_to, inside_amp, inside_char_to, inside_dash, inside_less, inside_question, inside_square, not_space, start_range, tag_to, word_last}
 use Rattle.doc_tree.proofs.OneDocument.Spans.{spaces_same}
 use Rattle.doc_tree.proofs.OneDocument.References.{reference_same}
 use Rattle.doc_tree.proofs.OneDocument.Tags.{IsTagEnd, tag_same}
@@ -70,7 +61,7 @@ module _ (room : ℕ) (name : List ℕ) (K : List ℕ → List Mark → Type 0) 
 
   tag_over : (n r : List ℕ) (es : List Mark) → IsQName n → LessCases room name K (n ++ r) es → Then IsQName (λ m. TagRest (room - 1) m [] [] (Inside room 0 name K)) (n ++ r) es
   tag_over [] r es i h = absurd i
-  tag_over (c ∷ cs) r es i h = let l = start_high c i.0 in (tag_to room name K c (cs ++ r) es (λ e. omega arith) (λ e. omega arith) (λ e. omega arith) h).1
+  tag_over (c ∷ cs) r es i h = let l = (start_range c i.0).0 in (tag_to room name K c (cs ++ r) es (λ e. omega arith) (λ e. omega arith) (λ e. omega arith) h).1
 
   pub tag_says : (count : ℕ) (tag : Tag) (k : List ℕ) (es : List Mark) → IsTagEnd k → Inside room count name K (60 ∷ tag_text tag k) es → BodyRest (room - 1) tag.name (attribute_list tag.attributes) (Inside room 0 name K) k es
   tag_says count tag k es t h =

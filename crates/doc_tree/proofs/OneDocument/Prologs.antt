@@ -1,15 +1,6 @@
 -- What stands before the root is found from the text.
-use Rattle.std.proofs.Common.{◌≡◌, ◌≢◌, ℕ, ◌<◌, ◌≤◌, inl, inr, Bool, true, false, ◌&&◌, leb, List, [], ◌∷◌, ◌++◌, map, codes, refl, ap, sym, ◌∙◌, subst, arith, append_assoc}
-use Rattle.std.proofs.lemmas.Bool.{leb-true}
-use Rattle.std.specs.Char.{to_ascii_lowercase}
-use Rattle.tree_grammar.specs.Characters.{IsSpace, Each, Some1, IsLetter, IsDigit, IsName, IsQName}
-use Rattle.tree_grammar.specs.Tags.{IsQuote, Equals, equals_text}
-use Rattle.tree_grammar.specs.Content.{comment_text, Instruction, bare, with_text, instruction_text, Misc, misc_over, misc_space, misc_comment, misc_instruction, misc_text}
-use Rattle.tree_grammar.specs.Declaration.{Version, version_text, IsEncodingChar, IsEncodingName, Encoding, no_encoding, encoded, encoding_text, IsYesOrNo, Standalone, no_standalone, standing, standalone_text, Declaration, no_declaration, declared, declaration_text}
-use Rattle.tree_grammar.specs.Document.{mark_text}
-use Rattle.element_tree.proofs.XmlTexts.{each_append}
-use Rattle.doc_tree.proofs.ByteGrammar.Bytes.{IsHigh, start_high, not_space, space_low}
-use Rattle.doc_tree.proofs.MachineSteps.FieldValues.{some_each}
+use Rattle.doc_tree.proofs.Words.{Bool, Declaration, Each, Encoding, Equals, Instruction, IsDigit, IsEncodingChar, IsEncodingName, IsLetter, IsName, IsQName, IsQuote, IsSpace, IsYesOrNo, List, Misc, Some1, Standalone, Version, [], ap, append_assoc, arith, bare, codes, comment_text, declaration_text, declared, each_append, encoded, encoding_text, equals_text, false, inl, inr, instruction_text, leb, leb-true, map, mark_text, misc_comment, misc_instruction, misc_over, misc_space, misc_text, no_declaration, no_encoding, no_standalone, refl, standalone_text, standing, subst, sym, to_ascii_lowercase, true, version_text, with_text, ℕ, ◌&&◌, ◌++◌, ◌<◌, ◌∙◌, ◌∷◌, ◌≡◌, ◌≢◌, ◌≤◌}
+use Rattle.doc_tree.proofs.ByteGrammar.{IsHigh, each_map, not_space, quote_range, some_each, space_low, start_range}
 use Rattle.doc_tree.proofs.OneDocument.Spans.{Stops, each_same, name_high, space_not_high}
 use Rattle.doc_tree.proofs.OneDocument.Asides.{comment_same, instruction_same, mark_not_high}
 
@@ -20,7 +11,7 @@ IsNamed (c ∷ cs) = 65 ≤ c
 
 pub qname_named : (name k : List ℕ) → IsQName name → IsNamed (name ++ k)
 qname_named [] k n = absurd n
-qname_named (c ∷ cs) k n = start_high c n.0
+qname_named (c ∷ cs) k n = (start_range c n.0).0
 
 low_first : (x : List ℕ) (b : ℕ) (z : List ℕ) → IsNamed x → b < 65 → x ≡ b ∷ z → ⊥
 low_first [] b z n l e = n
@@ -37,8 +28,6 @@ pub misc_same : (m n : Misc) (x y : List ℕ) → IsNamed x → IsNamed y → mi
 misc_same misc_over n x y a b e = element_first n x y a b e
 misc_same (misc_space c s m) misc_over x y a b e = sym (element_first (misc_space c s m) y x b a (sym e))
 misc_same (misc_space c s m) (misc_space d t n) x y a b e = misc_same m n x y a b (cc)
-misc_same (misc_space c s m) (misc_comment t n) x y a b e = let h : c ≡ 60 = cc in absurd (not_space c (omega arith) s)
-misc_same (misc_space c s m) (misc_instruction i n) x y a b e = let h : c ≡ 60 = cc in absurd (not_space c (omega arith) s)
 misc_same (misc_comment t m) misc_over x y a b e = sym (element_first (misc_comment t m) y x b a (sym e))
 misc_same (misc_comment t m) (misc_space d s n) x y a b e = let h : 60 ≡ d = cc in absurd (not_space d (omega arith) s)
 misc_same (misc_comment t m) (misc_comment u n) x y a b e = misc_same m n x y a b (comment_same t u (misc_text m (60 ∷ x)) (misc_text n (60 ∷ y)) (cc))
@@ -47,6 +36,7 @@ misc_same (misc_instruction i m) misc_over x y a b e = sym (element_first (misc_
 misc_same (misc_instruction i m) (misc_space d s n) x y a b e = let h : 60 ≡ d = cc in absurd (not_space d (omega arith) s)
 misc_same (misc_instruction i m) (misc_comment t n) x y a b e = let h : ◌≡◌ {A = ℕ} 63 33 = cc in absurd (omega arith)
 misc_same (misc_instruction i m) (misc_instruction j n) x y a b e = misc_same m n x y a b (instruction_same i j (misc_text m (60 ∷ x)) (misc_text n (60 ∷ y)) (cc))
+misc_same (misc_space c s m) _ x y a b e = let h : c ≡ 60 = cc in absurd (not_space c (omega arith) s)
 
 -- a text without `?` before what comes
 pub record Plain (f : List ℕ → List ℕ) : Type 0 where
@@ -66,10 +56,6 @@ plain_byte c n = record { run = c ∷ []; each = (n, tt); same = λ k. refl }
 plain_nothing : Plain (λ k. k)
 plain_nothing = record { run = []; each = tt; same = λ k. refl }
 
-each_of : (P Q : ℕ → Type 0) → ((c : ℕ) → P c → Q c) → (x : List ℕ) → Each P x → Each Q x
-each_of P Q f [] p = tt
-each_of P Q f (c ∷ cs) p = (f c p.0, each_of P Q f cs p.1)
-
 space_other : (c : ℕ) → IsSpace c → c ≢ 63
 space_other c s e = let l = space_low c s in omega arith
 
@@ -77,19 +63,13 @@ digit_other : (c : ℕ) → IsDigit c → c ≢ 63
 digit_other c d e = let h = d.1 in omega arith
 
 letter_other : (c : ℕ) → IsLetter c → c ≢ 63
-letter_other c (inl p) e = let l = p.0 in omega arith
-letter_other c (inr p) e = let l = p.0 in omega arith
+letter_other c l e = grind arith
 
 encoding_other : (c : ℕ) → IsEncodingChar c → c ≢ 63
-encoding_other c (inl p) e = letter_other c p e
-encoding_other c (inr (inl p)) e = digit_other c p e
-encoding_other c (inr (inr (inl p))) e = omega arith
-encoding_other c (inr (inr (inr (inl p)))) e = omega arith
-encoding_other c (inr (inr (inr (inr p)))) e = omega arith
+encoding_other c p e = grind arith
 
 quote_other : (c : ℕ) → IsQuote c → c ≢ 63
-quote_other c (inl p) e = omega arith
-quote_other c (inr p) e = omega arith
+quote_other c i e = let r = quote_range c i in omega arith
 
 -- a text of letters
 abbrev pub all_above : List ℕ → Bool
@@ -105,7 +85,7 @@ above_other [] e = tt
 above_other (c ∷ cs) e = let b = both_of (leb 64 c) (all_above cs) e in ((λ h. let l = leb-true 64 c b.0 in omega arith), above_other cs b.1)
 
 plain_spaces : (x : List ℕ) → Each IsSpace x → Plain (λ k. x ++ k)
-plain_spaces x s = plain_text x (each_of IsSpace (λ c. c ≢ 63) space_other x s)
+plain_spaces x s = plain_text x (each_map IsSpace (λ c. c ≢ 63) space_other x s)
 
 plain_equals : (e : Equals) → Plain (equals_text e)
 plain_equals e = plain_then (λ k. e.before ++ k) (λ k. 61 ∷ (e.after ++ k)) (plain_spaces e.before e.spaced_before) (plain_then (λ k. 61 ∷ k) (λ k. e.after ++ k) (plain_byte 61 (λ h. omega arith)) (plain_spaces e.after e.spaced_after))
@@ -122,11 +102,11 @@ module _ (space word : List ℕ) (e : Equals) (quote : ℕ) (value : List ℕ) w
       (plain_then (λ k. value ++ k) (λ k. quote ∷ k) (plain_text value v) mark))))
 
 plain_version : (v : Version) → Plain (version_text v)
-plain_version v = plain_field v.space (codes "version") v.equals v.quote (49 ∷ 46 ∷ v.digits) v.spaced refl v.quoted ((λ h. omega arith), ((λ h. omega arith), each_of IsDigit (λ c. c ≢ 63) digit_other v.digits (some_each IsDigit v.digits v.numbered)))
+plain_version v = plain_field v.space (codes "version") v.equals v.quote (49 ∷ 46 ∷ v.digits) v.spaced refl v.quoted ((λ h. omega arith), ((λ h. omega arith), each_map IsDigit (λ c. c ≢ 63) digit_other v.digits (some_each IsDigit v.digits v.numbered)))
 
 name_other : (name : List ℕ) → IsEncodingName name → Each (λ c. c ≢ 63) name
 name_other [] n = absurd n
-name_other (c ∷ cs) n = (letter_other c n.0, each_of IsEncodingChar (λ z. z ≢ 63) encoding_other cs n.1)
+name_other (c ∷ cs) n = (letter_other c n.0, each_map IsEncodingChar (λ z. z ≢ 63) encoding_other cs n.1)
 
 plain_encoding : (e : Encoding) → Plain (encoding_text e)
 plain_encoding no_encoding = plain_nothing
@@ -197,11 +177,8 @@ abbrev pub IsUnmarked : List ℕ → Type 0
 IsUnmarked x = (z : List ℕ) → x ≡ 239 ∷ z → ⊥
 
 pub declaration_unmarked : (d : Declaration) (m : Misc) (k : List ℕ) → IsUnmarked (declaration_text d (misc_text m (60 ∷ k)))
-declaration_unmarked no_declaration misc_over k z e = let h : ◌≡◌ {A = ℕ} 60 239 = cc in omega arith
 declaration_unmarked no_declaration (misc_space c i more) k z e = let h : c ≡ 239 = cc in not_space c (omega arith) i
-declaration_unmarked no_declaration (misc_comment t more) k z e = let h : ◌≡◌ {A = ℕ} 60 239 = cc in omega arith
-declaration_unmarked no_declaration (misc_instruction t more) k z e = let h : ◌≡◌ {A = ℕ} 60 239 = cc in omega arith
-declaration_unmarked (declared v f g space sp) m k z e = let h : ◌≡◌ {A = ℕ} 60 239 = cc in omega arith
+declaration_unmarked _ _ k z e = grind arith
 
 pub mark_same : (a b : Bool) (x y : List ℕ) → IsUnmarked x → IsUnmarked y → mark_text a x ≡ mark_text b y → x ≡ y
 mark_same false false x y n m e = e

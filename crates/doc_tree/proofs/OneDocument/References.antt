@@ -1,12 +1,6 @@
 -- A reference is found from the text.
-use Rattle.std.proofs.Common.{◌≡◌, ℕ, ◌<◌, List, [], ◌∷◌, ◌++◌, refl, ap, sym, subst, arith}
-use Rattle.std.specs.Prelude.{encode_utf8}
-use Rattle.std.specs.Char.{digit_value}
-use Rattle.std.specs.Str.Parse.{AllDigits, IsNumeral, digits_value}
-use Rattle.tree_grammar.specs.Characters.{Each, Entity, amp, lt, gt, quot, apos, entity_text, Reference, named, decimal, hexadecimal, reference_text, reference_chars}
-use Rattle.doc_tree.specs.Marks.{Mark}
-use Rattle.doc_tree.specs.Rests.{Word, RefRest}
-use Rattle.doc_tree.proofs.ByteGrammar.References.{ref_lt, ref_gt, ref_quot, ref_amp, ref_apos}
+use Rattle.doc_tree.proofs.Words.{AllDigits, Each, Entity, IsNumeral, List, Mark, RefRest, Reference, Word, [], amp, ap, apos, arith, decimal, digit_value, digits_value, encode_utf8, entity_text, gt, hexadecimal, lt, named, quot, reference_chars, reference_text, refl, subst, sym, ℕ, ◌++◌, ◌<◌, ◌∷◌, ◌≡◌}
+use Rattle.doc_tree.proofs.ByteGrammar.{ref_amp, ref_apos, ref_gt, ref_lt, ref_quot}
 use Rattle.doc_tree.proofs.OneDocument.Spans.{each_same}
 
 -- these characters, and then these bytes

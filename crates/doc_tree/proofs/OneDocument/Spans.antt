@@ -1,8 +1,6 @@
 -- A run of bytes of a kind, and what stands behind it, are found from the text.
-use Rattle.std.proofs.Common.{◌≡◌, ℕ, ◌≤◌, inl, inr, List, [], ◌∷◌, ◌++◌, refl, sym, subst, arith}
-use Rattle.tree_grammar.specs.Characters.{IsSpace, Each, IsNameChar, IsName, IsQNameRest, IsQName}
-use Rattle.tree_grammar.specs.Tags.{IsQuote, Equals, equals_text}
-use Rattle.doc_tree.proofs.ByteGrammar.Bytes.{IsHigh, start_high, char_high, rest_high, high_not_space, not_space}
+use Rattle.doc_tree.proofs.Words.{Each, Equals, IsName, IsNameChar, IsQName, IsQNameRest, IsQuote, IsSpace, List, [], arith, equals_text, inl, inr, refl, subst, sym, ℕ, ◌++◌, ◌∷◌, ◌≡◌, ◌≤◌}
+use Rattle.doc_tree.proofs.ByteGrammar.{IsHigh, char_high, high_not_space, not_space, rest_high, start_range}
 
 -- The text doesn't go on with a byte of the kind.
 abbrev pub Stops : (ℕ → Type 0) → List ℕ → Type 0
@@ -31,7 +29,7 @@ chars_high (c ∷ cs) e = (char_high c e.0, chars_high cs e.1)
 
 pub name_high : (cs : List ℕ) → IsName cs → Each IsHigh cs
 name_high [] n = absurd n
-name_high (c ∷ cs) n = (inr (inr (inr (start_high c n.0))), chars_high cs n.1)
+name_high (c ∷ cs) n = (inr (inr (inr ((start_range c n.0).0))), chars_high cs n.1)
 
 more_high : (cs : List ℕ) → IsQNameRest cs → Each IsHigh cs
 more_high [] n = tt
@@ -40,12 +38,12 @@ more_high (c ∷ cs) (inr p) = (rest_high c cs (inr p), name_high cs p.1)
 
 pub qname_high : (cs : List ℕ) → IsQName cs → Each IsHigh cs
 qname_high [] n = absurd n
-qname_high (c ∷ cs) n = (inr (inr (inr (start_high c n.0))), more_high cs n.1)
+qname_high (c ∷ cs) n = (inr (inr (inr ((start_range c n.0).0))), more_high cs n.1)
 
 -- a name begins with a letter or `_`
 pub qname_begins : (P : ℕ → Type 0) (cs k : List ℕ) → IsQName cs → ((c : ℕ) → 65 ≤ c → P c → ⊥) → Stops P (cs ++ k)
 qname_begins P [] k n f = absurd n
-qname_begins P (c ∷ cs) k n f = f c (start_high c n.0)
+qname_begins P (c ∷ cs) k n f = f c ((start_range c n.0).0)
 
 pub letter_not_space : (c : ℕ) → 65 ≤ c → IsSpace c → ⊥
 letter_not_space c l s = not_space c (omega arith) s

@@ -1,28 +1,20 @@
 -- Values, attributes and start tags are found from the text.
-use Rattle.std.proofs.Common.{◌≡◌, ◌≢◌, ℕ, ◌≤◌, ◌⊎◌, inl, inr, List, [], ◌∷◌, ◌++◌, refl, ap, sym, subst, arith}
-use Rattle.tree_grammar.specs.Characters.{IsSpace, Each, Some1, IsQName}
-use Rattle.tree_grammar.specs.Tags.{IsQuote, Equals, equals_text, Value, value_over, value_plain, value_white, value_reference, value_text, value_chars, Attributes, no_attribute, attribute, attributes_text, attribute_list}
-use Rattle.doc_tree.proofs.ByteGrammar.Bytes.{IsHigh}
-use Rattle.doc_tree.proofs.MachineSteps.FieldValues.{some_each}
+use Rattle.doc_tree.proofs.Words.{Attributes, Each, Equals, IsQName, IsQuote, IsSpace, List, Some1, Value, [], ap, arith, attribute, attribute_list, attributes_text, equals_text, inl, inr, no_attribute, refl, subst, sym, value_chars, value_over, value_plain, value_reference, value_text, value_white, ℕ, ◌++◌, ◌∷◌, ◌≡◌, ◌≢◌, ◌≤◌, ◌⊎◌}
+use Rattle.doc_tree.proofs.ByteGrammar.{IsHigh, some_each, space_low}
 use Rattle.doc_tree.proofs.OneDocument.Spans.{Stops, qname_begins, letter_not_space, spaces_stop, space_not_high, spaces_same, names_same, equals_stop, equals_same, quote_not_space}
 use Rattle.doc_tree.proofs.OneDocument.References.{reference_same}
 
 quote_not_amp : (q : ℕ) → IsQuote q → q ≢ 38
-quote_not_amp q (inl i) e = omega arith
-quote_not_amp q (inr i) e = omega arith
+quote_not_amp q i e = grind arith
 
 amp_not_space : (c : ℕ) → c ≡ 38 → IsSpace c → ⊥
-amp_not_space c e (inl s) = omega arith
-amp_not_space c e (inr (inl s)) = omega arith
-amp_not_space c e (inr (inr (inl s))) = omega arith
-amp_not_space c e (inr (inr (inr s))) = omega arith
+amp_not_space c e s = let l = space_low c s in omega arith
 
 module _ (q : ℕ) (i : IsQuote q) where
   pub value_same : (v w : Value q) (k l : List ℕ) → value_text v k ≡ value_text w l → (value_chars v ≡ value_chars w) × (k ≡ l)
   value_same value_over value_over k l e = (refl, (cc))
   value_same value_over (value_plain d nq nl na ns w) k l e = let h : d ≡ q = cc in absurd (nq h)
   value_same value_over (value_white d s w) k l e = let h : d ≡ q = cc in absurd (quote_not_space q i (subst IsSpace h s))
-  value_same value_over (value_reference r w) k l e = let h : q ≡ 38 = cc in absurd (quote_not_amp q i h)
   value_same (value_plain c nq nl na ns v) value_over k l e = let h : c ≡ q = cc in absurd (nq h)
   value_same (value_plain c nq nl na ns v) (value_plain d mq ml ma ms w) k l e = let r = value_same v w k l (cc) in let a = r.0 in let h : c ≡ d = cc in ((cc), r.1)
   value_same (value_plain c nq nl na ns v) (value_white d s w) k l e = let h : c ≡ d = cc in absurd (ns (subst IsSpace (sym h) s))
@@ -31,7 +23,6 @@ module _ (q : ℕ) (i : IsQuote q) where
   value_same (value_white c s v) (value_plain d mq ml ma ms w) k l e = let h : c ≡ d = cc in absurd (ms (subst IsSpace h s))
   value_same (value_white c s v) (value_white d t w) k l e = let r = value_same v w k l (cc) in (ap (λ z. 32 ∷ z) r.0, r.1)
   value_same (value_white c s v) (value_reference r w) k l e = let h : c ≡ 38 = cc in absurd (amp_not_space c h s)
-  value_same (value_reference r v) value_over k l e = let h : q ≡ 38 = cc in absurd (quote_not_amp q i h)
   value_same (value_reference r v) (value_plain d mq ml ma ms w) k l e = let h : d ≡ 38 = cc in absurd (ma h)
   value_same (value_reference r v) (value_white d t w) k l e = let h : d ≡ 38 = cc in absurd (amp_not_space d h t)
   value_same (value_reference r v) (value_reference s w) k l e =
@@ -40,6 +31,7 @@ module _ (q : ℕ) (i : IsQuote q) where
       let x = a.0 in
       let y = b.0 in
       ((cc), b.1)
+  value_same _ _ k l e = let h : q ≡ 38 = cc in absurd (quote_not_amp q i h)
 
   pub quoted_same : (p : ℕ) (v : Value q) (w : Value p) (k l : List ℕ) → q ∷ value_text v k ≡ p ∷ value_text w l → (value_chars v ≡ value_chars w) × (k ≡ l)
   quoted_same p v w k l e =

@@ -1,16 +1,7 @@
 -- What a visitor was told, and what waits.
-use Rattle.std.proofs.Common.{◌≡◌, ℕ, Bool, true, false, MatchBool, List, [], ◌++◌, Option, Some, None, MatchOption, Result, Ok, Err, inl, refl, ap, sym, ◌∙◌, subst, append_assoc, length, take, drop, ◌+◌, ◌-◌, ◌<◌, ◌≤◌, arith}
-use Rattle.std.proofs.Math.Seq.{take-add}
-use Rattle.std.proofs.lemmas.List.{take_rest, length-drop}
-use Rattle.doc_tree.specs.Marks.{Mark}
-use Rattle.doc_tree.specs.declared.fault.TreeFault.{TreeFault}
+use Rattle.doc_tree.proofs.Words.{Bool, Err, Feeding, HandedOn, Heard, IsEnd, IsTaken, List, Mark, MatchBool, MatchOption, None, Ok, Option, ReadingFails, Refused, RefusesBytes, Relieved, Result, Some, State, TakesBytes, TreeFault, Visits, WasHeard, ap, append_assoc, arith, behind, drop, false, length, length-drop, refl, subst, sym, take, take-add, take_rest, true, ℕ, ◌++◌, ◌+◌, ◌-◌, ◌<◌, ◌∙◌, ◌≡◌, ◌≤◌}
 use Rattle.doc_tree.specs.declared.fault.TreeFault.TheVariants as faults
-use Rattle.doc_tree.specs.Completions.{State, Good}
-use Rattle.doc_tree.specs.Relieved.{Relieved}
-use Rattle.doc_tree.specs.Reading.{Refused, ReadingFails, Visits}
-use Rattle.doc_tree.specs.Whole.{IsEnd}
-use Rattle.doc_tree.specs.Feeding.{Feeding, IsTaken, CanGoOn, behind, Heard, WasHeard, HandedOn, TakesBytes, RefusesBytes}
-use Rattle.doc_tree.proofs.Behind.{good_marked, over_after}
+use Rattle.doc_tree.proofs.Behind.{over_after}
 use Rattle.doc_tree.proofs.TextTrees.Verdicts.{refused_fed, visited}
 
 -- a machine that is relieved
@@ -23,15 +14,9 @@ handed_by had f s r = record { told = r.told; has = r.has; rest = r.rest; same =
 pub handed : (had : List Mark → Type 0) (f v : Feeding) (s : State) → f ≡ v → Relieved f.state s had → HandedOn v (record f { state = s }) had
 handed had f v s e r = subst (λ z. HandedOn z (record f { state = s }) had) e (handed_by had f s r)
 
-pub handed_nothing : (had : List Mark → Type 0) (f : Feeding) → had [] → HandedOn f f had
-handed_nothing had f h = record { told = []; has = h; rest = refl; same = refl }
-
 pub on_option : (o : Option TreeFault) (A B : Type 0) → (A → B) → MatchOption o A (λ fault. Unit {0}) → MatchOption o B (λ fault. Unit {0})
 on_option None A B f h = f h
 on_option (Some x) A B f h = tt
-
-pub relieved_good : (had : List Mark → Type 0) (f : Feeding) (s : State) → Relieved f.state s had → CanGoOn f → CanGoOn (record f { state = s })
-relieved_good had f s r h = on_option f.refusal (Good f.state.place f.state) (Good s.place s) (λ g. subst (λ z. Good z.place z) (sym r.same) (good_marked f.state s.marks g)) h
 
 -- more marks are told
 abbrev with_marks : Feeding → List Mark → Feeding
@@ -55,9 +40,6 @@ heard_bytes had old mid bytes taken f k = record { told = k.told; has = k.has; t
 
 pub bytes_refused : (had now : List Mark → Type 0) (old mid : Feeding) (bytes more : List ℕ) (fault : TreeFault) → RefusesBytes old more fault → mid.limit ≡ old.limit → mid.refusal ≡ Some fault → Heard had old bytes → WasHeard now mid (bytes ++ more)
 bytes_refused had now old mid bytes more fault f l e k = refused_fed now mid (bytes ++ more) fault e (subst (λ z. Refused z (bytes ++ more) fault) (sym l) (f k.told bytes k.taken))
-
-pub memory_refused : (now : List Mark → Type 0) (new : Feeding) (bytes : List ℕ) → new.refusal ≡ Some faults.Memory → WasHeard now new bytes
-memory_refused now new bytes e = refused_fed now new bytes faults.Memory e (inl refl)
 
 -- a yes or a no that says as much
 pub match_map : {A B C D : Type 0} (r : Bool) → (A → C) → (B → D) → MatchBool r A B → MatchBool r C D

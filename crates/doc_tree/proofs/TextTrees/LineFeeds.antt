@@ -1,11 +1,5 @@
 -- What the bytes that were read say, their line ends made normal.
-use Rattle.std.proofs.Common.{◌≡◌, ◌≢◌, ℕ, ◌+◌, ◌<◌, Bool, true, false, ◌↔◌, List, [], ◌∷◌, ◌++◌, length, take, get_or, Result, Err, IsErrOf, refl, ap, sym, ◌∙◌, subst, arith, append_assoc, append-nil}
-use Rattle.std.proofs.lemmas.List.{take_more}
-use Rattle.tree_grammar.specs.Characters.{normal_lines}
-use Rattle.doc_tree.specs.Marks.{Mark}
-use Rattle.doc_tree.specs.Rests.{Terms, Whole}
-use Rattle.doc_tree.specs.Completions.{State, RestsAt, GoesBehind, Completes, FollowsByte, RunsOn, IsDepthAllowed}
-use Rattle.doc_tree.specs.LineEnds.{unread, Finishes, PassesByte, Continues, bounds, IsNoDocument}
+use Rattle.doc_tree.proofs.Words.{Bool, Completes, Continues, Err, Finishes, FollowsByte, GoesBehind, IsDepthAllowed, IsErrOf, IsNoDocument, List, Mark, PassesByte, RestsAt, Result, RunsOn, State, Terms, Whole, [], ap, append-nil, append_assoc, arith, bounds, false, normal_lines, refl, subst, sym, true, unread, ℕ, ◌++◌, ◌<◌, ◌↔◌, ◌∙◌, ◌∷◌, ◌≡◌, ◌≢◌}
 
 -- nothing is left of nothing
 unread_nothing : (returned : Bool) → normal_lines (unread returned []) ≡ []
@@ -49,9 +43,6 @@ continues_end s returned bytes c t l says =
       λ h. subst (λ z. Whole t (normal_lines z) says) e ((c.same t l [] says).1 (o.1 h)),
     )
 
-pub continues_taken : (s : State) (returned : Bool) (bytes : List ℕ) (at d : ℕ) (t : State) (returns : Bool) → at < length bytes → Continues s returned (take at bytes) → PassesByte s returned (get_or bytes at d) t returns → Continues t returns (take (at + 1) bytes)
-continues_taken s returned bytes at d t returns l c p = subst (λ z. Continues t returns z) (sym (take_more bytes at d l)) (continues_on s returned (take at bytes) (get_or bytes at d) t returns c p)
-
 -- a refused byte
 pub refused_blocks : {T E B : Type 0} {y : E} (r : Result T E) (x : E) → (IsErrOf r y → B) → r ≡ Err x → x ≡ y → B
 refused_blocks {T} {E} {B} {y} r x f e q = f (e ∙ ap Err q)
@@ -65,10 +56,10 @@ over_whole s returned bytes c f = (continues_end s returned bytes c bounds allow
 
 -- a byte behind the layer that makes line ends normal
 line_return : (r : Bool) (rest : List ℕ) → normal_lines (unread r (13 ∷ rest)) ≡ 10 ∷ normal_lines (unread true rest)
-line_return true [] = refl
-line_return false [] = refl
 line_return true (c ∷ cs) = grind arith
 line_return false (c ∷ cs) = grind arith
+line_return true [] = refl
+line_return false [] = refl
 
 line_other : (r : Bool) (b : ℕ) (rest : List ℕ) → b ≢ 13 → (r ≡ true → b ≢ 10) → normal_lines (unread r (b ∷ rest)) ≡ b ∷ normal_lines (unread false rest)
 line_other true b rest n m = let k = m refl in grind arith

@@ -1,29 +1,16 @@
 -- What the reader's answers come from.
-use Rattle.std.proofs.Common.{◌≡◌, ℕ, suc, ◌+◌, ◌<◌, ◌≤◌, List, ◌∷◌, ◌++◌, length, take, drop, get_or, drop-cons, refl, ap, sym, ◌∙◌, subst, arith}
-use Rattle.std.proofs.lemmas.List.{take-append-drop}
-use Rattle.tree_grammar.specs.Elements.{Element, Event, nodes_depth, IsShallow}
-use Rattle.tree_grammar.specs.Characters.{IsXmlText, normal_lines}
-use Rattle.tree_grammar.specs.Content.{body_nodes}
-use Rattle.tree_grammar.specs.Document.{Document, Doc, document_element}
-use Rattle.doc_tree.specs.Building.{IsApart}
-use Rattle.doc_tree.specs.Marks.{spread, gather}
-use Rattle.tree_grammar.specs.Declaration.{Declaration, no_declaration, declared, no_encoding, encoded, IsDeclarationReadable}
-use Rattle.doc_tree.specs.Rests.{readable, IsDeclarationRead, Whole}
-use Rattle.doc_tree.specs.LineEnds.{bounds, IsNoDocument}
-use Rattle.doc_tree.specs.Reading.{ReadsDocument, NoneWithin}
+use Rattle.doc_tree.proofs.Words.{Declaration, Doc, Document, Element, Event, IsApart, IsDeclarationRead, IsDeclarationReadable, IsNoDocument, IsShallow, IsXmlText, List, NoneWithin, ReadsDocument, Whole, ap, arith, body_nodes, bounds, declared, document_element, drop, drop-cons, encoded, gather, get_or, length, nodes_depth, normal_lines, readable, refl, spread, subst, suc, sym, take, take-append-drop, ℕ, ◌++◌, ◌+◌, ◌<◌, ◌∙◌, ◌∷◌, ◌≡◌, ◌≤◌}
 use Rattle.doc_tree.proofs.TextTrees.MarkEvents.{spread_gathers}
 use Rattle.doc_tree.proofs.TextTrees.Wholes.{Held, held_of, whole_of, document_marks, document_gathers}
 
 -- both say that the encoding is read
 to_read : (d : Declaration) → IsDeclarationReadable d → IsDeclarationRead readable d
-to_read no_declaration r = tt
-to_read (declared v no_encoding s space sp) r = tt
 to_read (declared v (encoded b p e quote i name n) s space sp) r = r
+to_read _ r = tt
 
 of_read : (d : Declaration) → IsDeclarationRead readable d → IsDeclarationReadable d
-of_read no_declaration r = tt
-of_read (declared v no_encoding s space sp) r = tt
 of_read (declared v (encoded b p e quote i name n) s space sp) r = r
+of_read _ r = tt
 
 -- a document that isn't deep is a whole
 pub document_whole : (bytes : List ℕ) (e : Element) (s : Doc bytes e) → IsShallow e → Whole bounds (normal_lines bytes) (document_marks s.document)

@@ -1,13 +1,5 @@
 -- What a builder is told, and that no characters touch in it.
-use Rattle.std.proofs.Common.{◌≡◌, ◌≢◌, ℕ, ◌⊎◌, inl, inr, Bool, IsTrue, List, [], ◌∷◌, ◌++◌, map, refl, ap, sym, ◌∙◌, subst, append_assoc}
-use Rattle.std.proofs.lemmas.List.{append-nil, map-append}
-use Rattle.tree_grammar.specs.Elements.{Attribute, Event, Open, Chars, Close}
-use Rattle.element_tree.specs.Building.{Building, with_run, said}
-use Rattle.std.proofs.Common.{◌+◌, ◌<◌, length, take}
-use Rattle.std.proofs.lemmas.List.{take_more}
-use Rattle.element_tree.specs.Items.{event_at}
-use Rattle.doc_tree.specs.Marks.{Mark, Start, Char, Finish, spread}
-use Rattle.doc_tree.specs.Building.{TellsMarks, HandsOn, NoCharsFirst, NoCharsLast, IsApart, IsBuildingReady}
+use Rattle.doc_tree.proofs.Words.{Attribute, Bool, Building, Char, Chars, Close, Event, Finish, IsApart, IsBuildingReady, IsTrue, List, NoCharsFirst, NoCharsLast, Open, Start, TellsMarks, [], ap, append-nil, append_assoc, event_at, inl, inr, length, map, map-append, refl, said, spread, subst, sym, take, take_more, with_run, ℕ, ◌++◌, ◌+◌, ◌<◌, ◌∙◌, ◌∷◌, ◌≡◌, ◌≢◌, ◌⊎◌}
 
 -- marks of events
 pub spread_more : (es fs : List Event) → spread (es ++ fs) ≡ spread es ++ spread fs
@@ -22,33 +14,28 @@ spread_run es (c ∷ cs) = spread_more es (Chars (c ∷ cs) ∷ []) ∙ ap (λ z
 
 -- events that are apart
 one : (e : Event) → NoCharsFirst (e ∷ []) → IsApart (e ∷ [])
-one (Open name attributes) n = tt
 one (Chars text) n = absurd n
-one (Close name) n = tt
+one _ n = tt
 
 first_more : (e : Event) (es k : List Event) → NoCharsFirst (e ∷ es) → NoCharsFirst (e ∷ (es ++ k))
-first_more (Open name attributes) es k n = tt
 first_more (Chars text) es k n = n
-first_more (Close name) es k n = tt
+first_more _ es k n = tt
 
 first_put : (es : List Event) (e : Event) → NoCharsFirst es → NoCharsFirst (e ∷ []) → NoCharsFirst (es ++ (e ∷ []))
 first_put [] e n m = m
 first_put (f ∷ es) e n m = first_more f es (e ∷ []) n
 
 first_before : (es k : List Event) → NoCharsFirst (es ++ k) → NoCharsFirst es
-first_before [] k n = tt
-first_before (Open name attributes ∷ es) k n = tt
 first_before (Chars text ∷ es) k n = n
-first_before (Close name ∷ es) k n = tt
+first_before _ k n = tt
 
 last_more : (e : Event) (es : List Event) → NoCharsLast (e ∷ es) → NoCharsLast es
 last_more e [] n = tt
 last_more e (f ∷ es) n = n
 
 last_put : (es : List Event) (e : Event) → NoCharsFirst (e ∷ []) → NoCharsLast (es ++ (e ∷ []))
-last_put [] e n = n
-last_put (f ∷ []) e n = n
 last_put (f ∷ g ∷ es) e n = last_put (g ∷ es) e n
+last_put _ e n = n
 
 apart_put : (es : List Event) (e : Event) → IsApart es → NoCharsFirst (e ∷ []) → IsApart (es ++ (e ∷ []))
 apart_put [] e a n = one e n
@@ -118,20 +105,9 @@ pub unless_wanted : {A B : Type 0} (wanted : Bool) → (A → B) → IsTrue want
 unless_wanted wanted f (inl w) = inl w
 unless_wanted wanted f (inr a) = inr (f a)
 
--- an attribute is told
-pub attribute_told : (old new : Building) (attributes : List Attribute) → new ≡ record { events = said old; attributes = attributes; text = [] } → TellsMarks old [] attributes new
-attribute_told old new attributes e = subst (λ z. TellsMarks old [] attributes z) (sym e) (record { says = sym (append-nil (spread (said old))); waits = refl })
-
 -- one event more is told
 pub one_more : (es : List Event) (i : ℕ) → i < length es → spread (take (i + 1) es) ≡ spread (take i es) ++ spread (event_at es i ∷ [])
 one_more es i l = ap spread (take_more es i (Close []) l) ∙ spread_more (take i es) (event_at es i ∷ [])
-
--- what waits is told
-pub handed_none : (had : List Mark → Type 0) (b : Building) → had [] → HandsOn b b had
-handed_none had b h = record { told = []; has = h; rest = refl; waits = refl }
-
-pub handed_all : (had : List Mark → Type 0) (old mid new : Building) → mid ≡ record old { events = said old; text = [] } → old.attributes ≡ [] → new ≡ record { events = []; attributes = []; text = [] } → had (spread mid.events) → HandsOn old new had
-handed_all had old mid new m a e h = subst (λ z. HandsOn old z had) (sym e) (record { told = spread (said old); has = subst (λ z. had (spread z.events)) m h; rest = sym (append-nil (spread (said old))); waits = sym a })
 
 -- a start tag is told at once
 pub tag_told : (old new : Building) (name : List ℕ) (attributes : List Attribute) → new ≡ record { events = said old ++ (Open name attributes ∷ []); attributes = []; text = [] } → spread (said new) ≡ spread (said old) ++ (Start name attributes ∷ [])

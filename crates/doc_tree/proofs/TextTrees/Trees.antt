@@ -1,15 +1,5 @@
 -- A reader that tells a tree.
-use Rattle.std.proofs.Common.{◌≡◌, ℕ, List, [], Option, Some, None, MatchOption, Result, Ok, Err, IfOk, refl, ap, sym, ◌∙◌, subst}
-use Rattle.tree_grammar.specs.Elements.{Element, Event, events}
-use Rattle.tree_grammar.specs.Document.{Document, Doc}
-use Rattle.element_tree.specs.Building.{Building, said}
-use Rattle.element_tree.specs.Nesting.{IsOneElement}
-use Rattle.doc_tree.specs.Building.{IsApart}
-use Rattle.doc_tree.specs.Marks.{spread, gather}
-use Rattle.doc_tree.specs.Reading.{ReadsDocument, ReadsOnly, Visits, Refused, ReadingFails}
-use Rattle.doc_tree.specs.Feeding.{Feeding, IsTaken, WasFed, behind, Heard, WasHeard}
-use Rattle.doc_tree.specs.Gathered.{Gathers, whole}
-use Rattle.doc_tree.specs.declared.fault.TreeFault.{TreeFault}
+use Rattle.doc_tree.proofs.Words.{Building, Doc, Document, Element, Err, Event, Feeding, Gathers, Heard, IfOk, IsApart, IsOneElement, IsTaken, List, MatchOption, None, Ok, Option, ReadingFails, ReadsDocument, ReadsOnly, Refused, Result, Some, TreeFault, Visits, WasFed, WasHeard, [], ap, behind, events, gather, refl, said, spread, subst, sym, whole, ℕ, ◌∙◌, ◌≡◌}
 use Rattle.doc_tree.proofs.OneTree.{one_tree}
 use Rattle.doc_tree.proofs.TextTrees.MarkEvents.{spread_gathers}
 use Rattle.doc_tree.proofs.TextTrees.Wholes.{document_marks, document_gathers}

@@ -1,25 +1,8 @@
 -- What all the bytes say, or why they are no document.
-use Rattle.std.proofs.Common.{◌≡◌, ℕ, ◌+◌, ◌<◌, inl, inr, ◌↔◌, List, [], ◌∷◌, ◌++◌, false, length, take, drop, get_or, Some, None, MatchOption, refl, arith, ap, sym, ◌∙◌, subst, append_assoc, append-nil}
-use Rattle.tree_grammar.specs.Elements.{Event, Open, Chars, Close}
-use Rattle.std.specs.Prelude.{codes}
+use Rattle.doc_tree.proofs.Words.{Char, CharacterRest, Chars, Completes, Continues, Document, Event, Feeding, Finish, Heard, IsApart, IsTaken, IsText, IsXmlText, List, Mark, MatchOption, None, NoneWithin, ReadingFails, ReadsDocument, Refused, Some, Spells, Start, Terms, TreeFault, Visits, WasHeard, Whole, [], any_encoding, ap, append-nil, append_assoc, arith, bounds, closed, codes, drop, false, gather, get_or, inl, inr, join, length, misc_over, no_attribute, no_declaration, normal_lines, refl, spread, subst, sym, take, ℕ, ◌++◌, ◌+◌, ◌<◌, ◌↔◌, ◌∙◌, ◌∷◌, ◌≡◌}
 use Rattle.std.specs.Char.{encode_utf8}
-use Rattle.tree_grammar.specs.Characters.{IsXmlText, normal_lines}
-use Rattle.tree_grammar.specs.Tags.{no_attribute}
-use Rattle.tree_grammar.specs.Content.{closed, misc_over}
-use Rattle.tree_grammar.specs.Declaration.{no_declaration}
-use Rattle.tree_grammar.specs.Document.{Document}
 use Rattle.doc_tree.specs.declared.characters.Awaited.TheVariants as awaits
-use Rattle.doc_tree.specs.declared.fault.TreeFault.{TreeFault}
 use Rattle.doc_tree.specs.declared.fault.TreeFault.TheVariants as faults
-use Rattle.doc_tree.specs.Building.{IsApart}
-use Rattle.doc_tree.specs.Marks.{Mark, Start, Char, Finish, spread, join, gather}
-use Rattle.doc_tree.specs.Rests.{Terms, Whole}
-use Rattle.doc_tree.specs.Completions.{Completes}
-use Rattle.doc_tree.specs.LineEnds.{bounds, Continues}
-use Rattle.doc_tree.specs.Reading.{ReadsDocument, Visits, NoneWithin, Refused, ReadingFails}
-use Rattle.doc_tree.specs.Refusals.{IsText}
-use Rattle.doc_tree.specs.Utf8.{CharacterRest, Spells}
-use Rattle.doc_tree.specs.Feeding.{any_encoding, Feeding, IsTaken, Heard, WasHeard}
 use Rattle.doc_tree.proofs.TextTrees.LineFeeds.{over_none, over_whole, continues_end}
 use Rattle.doc_tree.proofs.Viability.Refusals.{as_deep, as_deep_allowed, text_whole, refused_on, clean_start, clean_short}
 use Rattle.doc_tree.proofs.TextTrees.Results.{split_at, none_refuses, text_refuses, read_so}
@@ -106,9 +89,8 @@ start_taken f c e n = record {
 -- What was told is what an element says that the bytes hold.
 join_apart : (c : ℕ) (es : List Event) → IsApart es → IsApart (join c es)
 join_apart c [] a = ((λ e. cc), tt, tt)
-join_apart c (Open name attributes ∷ more) a = ((λ e. cc), tt, a)
 join_apart c (Chars text ∷ more) a = ((λ e. cc), a.1, a.2)
-join_apart c (Close name ∷ more) a = ((λ e. cc), tt, a)
+join_apart c _ a = ((λ e. cc), tt, a)
 
 pub gather_apart : (marks : List Mark) → IsApart (gather marks)
 gather_apart [] = tt
@@ -117,10 +99,8 @@ gather_apart (Char c ∷ more) = join_apart c (gather more) (gather_apart more)
 gather_apart (Finish name ∷ more) = gather_apart more
 
 spread_join : (c : ℕ) (es : List Event) → spread (join c es) ≡ Char c ∷ spread es
-spread_join c [] = refl
-spread_join c (Open name attributes ∷ more) = refl
 spread_join c (Chars text ∷ more) = refl
-spread_join c (Close name ∷ more) = refl
+spread_join c _ = refl
 
 gather_spreads : (marks : List Mark) → spread (gather marks) ≡ marks
 gather_spreads [] = refl

@@ -1,14 +1,5 @@
 -- What a whole text says, and the document that it is.
-use Rattle.std.proofs.Common.{◌≡◌, ℕ, ◌≤◌, ◌-◌, Bool, inl, inr, List, [], ◌∷◌, ◌++◌, refl, ap, ◌∙◌}
-use Rattle.std.specs.Prelude.{codes}
-use Rattle.tree_grammar.specs.Elements.{events, nodes_depth}
-use Rattle.tree_grammar.specs.Characters.{local_part}
-use Rattle.tree_grammar.specs.Tags.{tag_text, attribute_list}
-use Rattle.tree_grammar.specs.Content.{body_text, body_nodes, Misc, misc_text}
-use Rattle.tree_grammar.specs.Declaration.{Version, version_text, Declaration, declaration_text}
-use Rattle.tree_grammar.specs.Document.{Document, document_text, document_element, mark_text}
-use Rattle.doc_tree.specs.Marks.{Mark, Start, Finish, body_marks, gather}
-use Rattle.doc_tree.specs.Rests.{Terms, IsSpecial, depth_left, IsDeclarationRead, BodyRest, After, RootRest, RootOrType, Before, ForeignRest, VersionRest, Marked, Whole}
+use Rattle.doc_tree.proofs.Words.{After, Before, BodyRest, Bool, Declaration, Document, Finish, ForeignRest, IsDeclarationRead, IsSpecial, List, Mark, Marked, Misc, RootOrType, RootRest, Start, Terms, Version, VersionRest, Whole, [], ap, attribute_list, body_marks, body_nodes, body_text, codes, declaration_text, depth_left, document_element, document_text, events, gather, inl, inr, local_part, mark_text, misc_text, nodes_depth, refl, tag_text, version_text, ℕ, ◌++◌, ◌-◌, ◌∙◌, ◌∷◌, ◌≡◌, ◌≤◌}
 use Rattle.doc_tree.proofs.TextTrees.Depths.{body_plain, body_fit}
 use Rattle.doc_tree.proofs.TextTrees.MarkEvents.{body_gathers}
 

@@ -1,25 +1,14 @@
 -- Behind each byte that the machine and the characters take, some bytes complete both.
-use Rattle.std.proofs.Common.{◌≡◌, ℕ, ◌≤◌, ◌<◌, ◌⊎◌, inl, inr, Bool, true, false, List, [], ◌∷◌, ◌++◌, refl, ap, sym, ◌∙◌, subst, arith}
-use Rattle.std.proofs.lemmas.Bool.Decides.{leb_tells, eqb_tells}
-use Rattle.std.proofs.lemmas.List.{append-nil}
-use Rattle.tree_grammar.specs.Characters.{Each, IsXmlText, normal_lines}
-use Rattle.doc_tree.specs.Marks.{Mark}
-use Rattle.doc_tree.specs.Rests.{Terms, Marked}
-use Rattle.doc_tree.specs.declared.characters.Awaited.{Awaited}
+use Rattle.doc_tree.proofs.Words.{Awaited, Bool, CharacterFollows, CharacterRest, Continues, Each, Good, IsFixed, IsInMark, IsXmlText, List, Mark, Marked, MeetsBoth, PassesByte, Spells, State, Terms, [], ap, append-nil, arith, eqb_tells, false, inl, inr, leb_tells, normal_lines, refl, subst, sym, true, unread, ℕ, ◌++◌, ◌<◌, ◌∙◌, ◌∷◌, ◌≡◌, ◌≤◌, ◌⊎◌}
 use Rattle.doc_tree.specs.declared.characters.Awaited.TheVariants as awaits
 use Rattle.doc_tree.specs.declared.machine.Goal.TheVariants as goals
-use Rattle.doc_tree.specs.Completions.{State, Good, IsFixed, IsInMark}
-use Rattle.doc_tree.specs.LineEnds.{unread, PassesByte, Continues}
-use Rattle.doc_tree.specs.Utf8.{CharacterRest, CharacterFollows, Spells}
-use Rattle.doc_tree.specs.Feeding.{MeetsBoth}
-use Rattle.doc_tree.proofs.ByteGrammar.Bytes.{IsMultibyte}
+use Rattle.doc_tree.proofs.ByteGrammar.{IsMultibyte, marked_stuck}
 use Rattle.doc_tree.proofs.Viability.Multibytes.{Fills, Marks, Met, mark_fixed, mark_says, meets}
 use Rattle.doc_tree.proofs.Viability.HighBytes.{high_space}
 use Rattle.doc_tree.proofs.Viability.PrintableEnds.{wide}
 use Rattle.doc_tree.proofs.Viability.Endings.{marked_lasts}
-use Rattle.doc_tree.proofs.ByteGrammar.Prologs.{marked_stuck}
-use Rattle.doc_tree.proofs.MachineSteps.Specials.{plain_line}
-use Rattle.doc_tree.proofs.Utf8.{ascii_xml, first_one, first_last, first_inner, BeginsInside, first_or_inside}
+use Rattle.doc_tree.proofs.Viability.Specials.{plain_line}
+use Rattle.doc_tree.proofs.Utf8.{BeginsInside, ascii_xml, first_inner, first_last, first_one, first_or_inside, no_text}
 
 -- bytes that complete the character
 abbrev pub Filling : Awaited → Type 0
@@ -27,8 +16,6 @@ Filling w = (more : List ℕ) × Each IsMultibyte more × Fills (CharacterRest w
 
 filling : (w : Awaited) → Filling w
 filling awaits.First = ([], tt, λ x h. h)
-filling awaits.One = (128 ∷ [], (omega arith, tt), λ x h. (omega arith, omega arith, h))
-filling awaits.OneLow = (128 ∷ [], (omega arith, tt), λ x h. (omega arith, omega arith, h))
 filling awaits.Two = (128 ∷ 128 ∷ [], (omega arith, (omega arith, tt)), λ x h. (omega arith, omega arith, (omega arith, omega arith, h)))
 filling awaits.TwoHigh = (160 ∷ 128 ∷ [], (omega arith, (omega arith, tt)), λ x h. (omega arith, omega arith, (omega arith, omega arith, h)))
 filling awaits.TwoLow = (128 ∷ 128 ∷ [], (omega arith, (omega arith, tt)), λ x h. (omega arith, omega arith, (omega arith, omega arith, h)))
@@ -36,6 +23,7 @@ filling awaits.TwoLast = (128 ∷ 128 ∷ [], (omega arith, (omega arith, tt)), 
 filling awaits.Three = (128 ∷ 128 ∷ 128 ∷ [], (omega arith, (omega arith, (omega arith, tt))), λ x h. (omega arith, omega arith, (omega arith, omega arith, (omega arith, omega arith, h))))
 filling awaits.ThreeHigh = (144 ∷ 128 ∷ 128 ∷ [], (omega arith, (omega arith, (omega arith, tt))), λ x h. (omega arith, omega arith, (omega arith, omega arith, (omega arith, omega arith, h))))
 filling awaits.ThreeLow = (128 ∷ 128 ∷ 128 ∷ [], (omega arith, (omega arith, (omega arith, tt))), λ x h. (omega arith, omega arith, (omega arith, omega arith, (omega arith, omega arith, h))))
+filling _ = (128 ∷ [], (omega arith, tt), λ x h. (omega arith, omega arith, h))
 
 -- in a character that has begun comes none that begins one
 first_or_low : (w : Awaited) (b : ℕ) (rest : List ℕ) → CharacterRest w (b ∷ rest) → (w ≡ awaits.First) ⊎ (b ≤ 191)
@@ -50,9 +38,6 @@ first_or_low awaits.TwoLast b rest (inr h) = inr h.1
 first_or_low awaits.Three b rest h = inr h.1
 first_or_low awaits.ThreeHigh b rest h = inr h.1
 first_or_low awaits.ThreeLow b rest h = let k = h.1 in inr (omega arith)
-
-no_text : IsXmlText []
-no_text = record { characters = []; each = tt; encoded = refl }
 
 module _ (w v : Awaited) (b : ℕ) (f : CharacterFollows w b v) where
   -- what the byte stands before
@@ -139,8 +124,6 @@ one_left awaits.ThreeLow d z l n k = let m = k.1 in absurd (omega arith)
 
 two_left : (w : Awaited) (d : ℕ) (z : List ℕ) → d < 128 → (w ≡ awaits.First → ⊥) → CharacterRest w (187 ∷ 191 ∷ d ∷ z) → Fills (CharacterRest w) (187 ∷ 191 ∷ [])
 two_left awaits.First d z l n k = absurd (n refl)
-two_left awaits.One d z l n k = absurd (first_inner 191 (omega arith) (omega arith) (d ∷ z) k.2)
-two_left awaits.OneLow d z l n k = absurd (first_inner 191 (omega arith) (omega arith) (d ∷ z) k.2)
 two_left awaits.Two d z l n k = λ x h. (omega arith, omega arith, (omega arith, omega arith, h))
 two_left awaits.TwoHigh d z l n k = λ x h. (omega arith, omega arith, (omega arith, omega arith, h))
 two_left awaits.TwoLow d z l n k = let m = k.1 in absurd (omega arith)
@@ -149,6 +132,7 @@ two_left awaits.TwoLast d z l n (inr k) = let m = k.0 in absurd (omega arith)
 two_left awaits.Three d z l n k = let m = k.2.2.0 in absurd (omega arith)
 two_left awaits.ThreeHigh d z l n k = let m = k.2.2.0 in absurd (omega arith)
 two_left awaits.ThreeLow d z l n k = let m = k.1 in absurd (omega arith)
+two_left _ d z l n k = absurd (first_inner 191 (omega arith) (omega arith) (d ∷ z) k.2)
 
 -- the bytes that end a document in the mark, their line ends made normal
 text_left : (w : Awaited) (left rest y : List ℕ) → IsFixed goals.Marked left → (w ≡ awaits.First → ⊥) → CharacterRest w rest → (c : ℕ) (z : List ℕ) → c < 128 → y ≡ c ∷ z → normal_lines rest ≡ left ++ y → Fills (CharacterRest w) left

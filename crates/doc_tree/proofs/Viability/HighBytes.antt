@@ -1,36 +1,11 @@
 -- Behind a byte from 128 on any others may stand, wherever it may stand at all.
-use Rattle.std.proofs.Common.{◌≡◌, ◌≢◌, ℕ, zero, suc, ◌-◌, ◌≤◌, ◌↔◌, inl, inr, List, [], ◌∷◌, ◌++◌, map, refl, sym, subst, arith}
-use Rattle.std.specs.Char.{digit_value}
-use Rattle.tree_grammar.specs.Elements.{Attribute}
-use Rattle.tree_grammar.specs.Characters.{IsSpace, Each, IsNameStart, local_part}
-use Rattle.tree_grammar.specs.Tags.{IsQuote, attribute_list}
-use Rattle.tree_grammar.specs.Content.{brackets}
-use Rattle.tree_grammar.specs.Declaration.{IsEncodingChar}
-use Rattle.doc_tree.specs.Marks.{Mark, Start, Char, Finish, body_marks}
-use Rattle.doc_tree.specs.Rests.{Terms, Then, Word, Saying, RefRest, NumeralRest, ValueRest, CommentRest, SectionRest, pending_brackets, PiText, PiOver, FirstOver, IsNameRest, first_letter, TagRest, BodyRest, TagFirst, Between, Before, Marked, FieldValue, Gap, Choice, EndsBehind, depth_left, keep}
-use Rattle.doc_tree.specs.declared.declaration.Field.{Field}
+use Rattle.doc_tree.proofs.Words.{Around, Attribute, Before, Behind, BehindValue, Between, BodyRest, Char, Choice, CommentRest, Each, EndsBehind, Field, FieldValue, Finish, FirstOver, Gap, Goal, Good, InKey, InTag, Insides, IsEncodingChar, IsFixed, IsInMark, IsNameRest, IsNameStart, IsQuote, IsRadix, IsSpace, List, Mark, Marked, NumeralRest, Part, PiOver, PiText, Place, ReachesGoal, RefRest, RestsAt, Saying, SectionRest, Start, State, TagChoice, TagFirst, TagRest, Terms, Then, ValueRest, Word, [], arith, attribute_list, body_marks, brackets, depth_left, digit_value, first_letter, inl, inr, keep, local_part, map, pending_brackets, refl, subst, suc, sym, zero, ℕ, ◌++◌, ◌-◌, ◌↔◌, ◌∷◌, ◌≡◌, ◌≢◌, ◌≤◌}
 use Rattle.doc_tree.specs.declared.declaration.Field.TheVariants as fields
-use Rattle.doc_tree.specs.declared.names.Part.{Part}
 use Rattle.doc_tree.specs.declared.names.Part.TheVariants as parts
-use Rattle.doc_tree.specs.declared.machine.Goal.{Goal}
-use Rattle.doc_tree.specs.declared.machine.Place.{Place}
 use Rattle.doc_tree.specs.declared.machine.Place.TheVariants as places
-use Rattle.doc_tree.specs.Completions.{State, RestsAt, ReachesGoal, Insides, InTag, InKey, BehindValue, TagChoice, Behind, Around, Good, IsFixed, IsInMark, IsRadix}
 use Rattle.doc_tree.proofs.Viability.PrintableEnds.{fixed}
-use Rattle.doc_tree.proofs.ByteGrammar.Asides.{comment_plain_byte, comment_dash_byte, pi_plain, pi_mark, pi_over_high, name_none, section_none, section_one, section_two}
-use Rattle.doc_tree.proofs.MachineSteps.AsideSteps.{around_no, around_mark}
-use Rattle.doc_tree.proofs.ByteGrammar.Bytes.{IsHigh, IsMultibyte, quote_low, space_low}
-use Rattle.doc_tree.proofs.ByteGrammar.Contents.{content_char, content_tag}
-use Rattle.doc_tree.proofs.MachineSteps.FieldSteps.{gap_plain, ends_first, choice_ends, field_each, value_more}
-use Rattle.doc_tree.proofs.ByteGrammar.Keys.{equals_stuck, quote_stuck, tag_high, key_high, choice_ends as tag_ends, first_stuck}
-use Rattle.doc_tree.proofs.ByteGrammar.Numbers.{digit_more, numeral_stuck, radix_low}
-use Rattle.doc_tree.proofs.Viability.Printables.{part_printable, encoding_printable, start_printable}
-use Rattle.doc_tree.proofs.ByteGrammar.Prologs.{after_stuck, after_less, before_stuck, before_less, marked_stuck, marked_less, marked_question, first_over_high}
-use Rattle.doc_tree.proofs.ByteGrammar.References.{ref_stuck, ref_a_stuck, ref_hash}
-use Rattle.doc_tree.proofs.ByteGrammar.Spans.{then_over, spaces_over, word_first}
-use Rattle.doc_tree.proofs.MachineSteps.TagSteps.{KV, end_no}
-use Rattle.doc_tree.proofs.ByteGrammar.Tags.{body_begins}
-use Rattle.doc_tree.proofs.ByteGrammar.Values.{value_char}
+use Rattle.doc_tree.proofs.ByteGrammar.{IsHigh, IsMultibyte, after_less, after_stuck, before_less, before_stuck, body_begins, choice_ends as tag_ends, comment_dash_byte, comment_plain_byte, content_char, content_tag, digit_more, each_last, encoding_printable, equals_stuck, first_over_high, first_stuck, key_high, marked_less, marked_question, marked_stuck, name_none, no_brackets, numeral_stuck, part_printable, pi_mark, pi_over_high, pi_plain, quote_range, quote_stuck, radix_low, ref_a_stuck, ref_hash, ref_stuck, section_none, section_one, section_two, space_low, spaces_over, start_printable, tag_high, then_over, value_char, word_first}
+use Rattle.doc_tree.proofs.MachineSteps.{KQ, around_mark, around_no, choice_ends, end_no, ends_first, field_each, gap_plain, value_more}
 
 -- Whatever the byte goes on with, it goes on so behind others, saying perhaps more.
 abbrev pub Absorbs : (List ℕ → List Mark → Type 0) → ℕ → Type 0
@@ -39,9 +14,6 @@ Absorbs K b = (x : List ℕ) (es : List Mark) → K (b ∷ x) es → (more : Lis
 never : (K : List ℕ → List Mark → Type 0) (b : ℕ) → ((x : List ℕ) (es : List Mark) → K (b ∷ x) es → ⊥) → Absorbs K b
 never K b f x es h more m = absurd (f x es h)
 
-no_brackets : (n b : ℕ) → 128 ≤ b → brackets n b ≡ 0
-no_brackets n b l = grind arith
-
 pub high_space : (b : ℕ) → 128 ≤ b → IsSpace b → ⊥
 high_space b l s = let k = space_low b s in omega arith
 
@@ -49,7 +21,7 @@ high_start : (b : ℕ) → 128 ≤ b → IsNameStart b → ⊥
 high_start b l s = let k = (start_printable b s).1 in omega arith
 
 high_quote : (b : ℕ) → 128 ≤ b → IsQuote b → ⊥
-high_quote b l i = let k = quote_low b i in omega arith
+high_quote b l i = let k = (quote_range b i).1 in omega arith
 
 high_digit : (b : ℕ) → 128 ≤ b → digit_value b ≡ 36
 high_digit b l = grind arith
@@ -61,18 +33,18 @@ module _ (t : Terms) (names : List (List ℕ)) where
   content_in x es h (c ∷ cs) m =
       let l : 128 ≤ c = m.0 in
       let k = content_in x es h cs m.1 in
-      (Char c ∷ k.0, (content_char t 0 names c (cs ++ x) (Char c ∷ k.0) (λ e. omega arith) (λ e. omega arith) (λ n e. omega arith)).1 (record { later = k.0; says = refl; after = subst (λ z. Insides z names t (cs ++ x) k.0) (sym (no_brackets 0 c l)) k.1 }))
+      (Char c ∷ k.0, (content_char t 0 names c (cs ++ x) (Char c ∷ k.0) (λ e. omega arith) (λ e. omega arith) (λ n e. omega arith)).1 (record { later = k.0; says = refl; after = subst (λ z. Insides z names t (cs ++ x) k.0) (sym (no_brackets 0 c (λ e. omega arith))) k.1 }))
 
   content_absorbs : (count b : ℕ) → 128 ≤ b → Absorbs (Insides count names t) b
   content_absorbs count b l x es h more m =
       let s : Saying (Char b ∷ []) (Insides (brackets count b) names t) x es = (content_char t count names b x es (λ e. omega arith) (λ e. omega arith) (λ n e. omega arith)).0 h in
-      let k = content_in x s.later (subst (λ z. Insides z names t x s.later) (no_brackets count b l) s.after) more m in
-      (Char b ∷ k.0, (content_char t count names b (more ++ x) (Char b ∷ k.0) (λ e. omega arith) (λ e. omega arith) (λ n e. omega arith)).1 (record { later = k.0; says = refl; after = subst (λ z. Insides z names t (more ++ x) k.0) (sym (no_brackets count b l)) k.1 }))
+      let k = content_in x s.later (subst (λ z. Insides z names t x s.later) (no_brackets count b (λ e. omega arith)) s.after) more m in
+      (Char b ∷ k.0, (content_char t count names b (more ++ x) (Char b ∷ k.0) (λ e. omega arith) (λ e. omega arith) (λ n e. omega arith)).1 (record { later = k.0; says = refl; after = subst (λ z. Insides z names t (more ++ x) k.0) (sym (no_brackets count b (λ e. omega arith))) k.1 }))
 
 -- values
 module _ (q : ℕ) (i : IsQuote q) (K : List ℕ → List ℕ → List Mark → Type 0) (f : (v w : List ℕ) (y : List ℕ) (es : List Mark) → K v y es → (says : List Mark) × K w y says) where
   value_byte : (before : List ℕ) (b : ℕ) → 128 ≤ b → (x : List ℕ) (es : List Mark) → ValueRest q before K (b ∷ x) es ↔ ValueRest q (before ++ (b ∷ [])) K x es
-  value_byte before b l x es = let k = quote_low q i in value_char q before K b x es (λ e. omega arith) (λ e. omega arith) (λ e. omega arith) (high_space b l)
+  value_byte before b l x es = let k = (quote_range q i).1 in value_char q before K b x es (λ e. omega arith) (λ e. omega arith) (λ e. omega arith) (high_space b l)
 
   value_in : (x : List ℕ) (v : List ℕ) (es : List Mark) → ValueRest q v K x es → (more : List ℕ) → Each IsMultibyte more → (w : List ℕ) → (says : List Mark) × ValueRest q w K (more ++ x) says
   value_in x v es h [] m w = let k = f _ _ h.behind es h.after in (k.0, record { value = h.value; behind = h.behind; text = h.text; after = k.1 })
@@ -139,9 +111,7 @@ module _ (K : List ℕ → List Mark → Type 0) where
 module _ (u : Terms) (b : ℕ) (l : 128 ≤ b) where
   letter_low : (f : Field) → first_letter f ≤ 118
   letter_low fields.Before = omega arith
-  letter_low fields.Version = omega arith
-  letter_low fields.Encoding = omega arith
-  letter_low fields.Standalone = omega arith
+  letter_low _ = omega arith
 
   ends_none : (f : Field) (x : List ℕ) (es : List Mark) → EndsBehind f u (b ∷ x) es → ⊥
   ends_none f x es h = let e = ends_first u f b x es h in omega arith
@@ -152,15 +122,11 @@ module _ (u : Terms) (b : ℕ) (l : 128 ≤ b) where
   choice_none : (f : Field) (x : List ℕ) (es : List Mark) → Choice f u (b ∷ x) es → ⊥
   choice_none f x es h = ends_none f x es ((choice_ends u f b x es (λ g i e. (let k = letter_low g in omega arith))).0 h)
 
-  each_here : (v run : List ℕ) → Each IsEncodingChar ((v ++ (b ∷ [])) ++ run) → IsEncodingChar b
-  each_here [] run h = h.0
-  each_here (c ∷ cs) run h = each_here cs run h.1
-
   value_none : (f : Field) (K : List ℕ → List Mark → Type 0) (v : List ℕ) (q : ℕ) → IsQuote q → (x : List ℕ) (es : List Mark) → FieldValue u f K v q (b ∷ x) es → ⊥
   value_none f K v q i x es h =
-      let low = quote_low q i in
+      let low = (quote_range q i).1 in
       let k = (value_more u f K v q b x es (λ e. omega arith)).0 h in
-      let e = encoding_printable b (each_here v k.run (field_each u f ((v ++ (b ∷ [])) ++ k.run) k.is)) in
+      let e = encoding_printable b (each_last IsEncodingChar v b k.run (field_each u f ((v ++ (b ∷ [])) ++ k.run) k.is)) in
       let m = e.1 in omega arith
 
   first_none : (names : List (List ℕ)) (x : List ℕ) (es : List Mark) → TagFirst names u (b ∷ x) es → ⊥
@@ -219,8 +185,8 @@ module _ (u : Terms) (b : ℕ) (l : 128 ≤ b) where
   absorbs places.TagAfter s n g i = never (RestsAt places.TagAfter s u) b (λ x es h. tag_high u s b s.name x es high h)
   absorbs places.TagSpace s n g i = never (RestsAt places.TagSpace s u) b (λ x es h. choice_tag_none s x es ((spaces_over (TagChoice s u) b x es (high_space b l)).0 h))
   absorbs places.Key s n g i = never (RestsAt places.Key s u) b (named_none s.part (InKey s u) (λ m x es h. key_high u s b m x es high h) s.key)
-  absorbs places.KeyEquals s n g i = never (RestsAt places.KeyEquals s u) b (λ x es h. equals_stuck (KV s u) b x es (high_space b l) (λ e. omega arith) h)
-  absorbs places.KeyQuote s n g i = never (RestsAt places.KeyQuote s u) b (λ x es h. quote_stuck (KV s u) b x es (high_space b l) (high_quote b l) h)
+  absorbs places.KeyEquals s n g i = never (RestsAt places.KeyEquals s u) b (λ x es h. equals_stuck (KQ s u) b x es (high_space b l) (λ e. omega arith) h)
+  absorbs places.KeyQuote s n g i = never (RestsAt places.KeyQuote s u) b (λ x es h. quote_stuck (KQ s u) b x es (high_space b l) (high_quote b l) h)
   absorbs places.Value s n g i = value_absorbs s.quote g.1 (λ v. BehindValue s v u) (λ v w y es h. tag_says (depth_left u s.names - 1) s.name (s.keys ++ (s.key ∷ [])) (Between 0 s.names u) (keep s.key v s.kept) (keep s.key w s.kept) y es h) s.value b l
   absorbs places.Content s n g i = content_absorbs u s.names s.count b l
   absorbs places.ContentLess s n g i = never (RestsAt places.ContentLess s u) b (less_none s.names)

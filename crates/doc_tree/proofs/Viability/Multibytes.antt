@@ -1,21 +1,11 @@
 -- The machine behind the first bytes of a character of more than one.
-use Rattle.std.proofs.Common.{◌≡◌, ◌≢◌, ℕ, ◌≤◌, ◌<◌, ◌⊎◌, ◌↔◌, inl, inr, Bool, List, [], ◌∷◌, ◌++◌, refl, ap, sym, ◌∙◌, subst, arith}
-use Rattle.std.proofs.lemmas.Bool.Decides.{eqb_tells, leb_tells}
-use Rattle.tree_grammar.specs.Characters.{Each, IsXmlText}
-use Rattle.doc_tree.specs.Marks.{Mark}
-use Rattle.doc_tree.specs.Rests.{Terms, Word, Marked, Whole}
-use Rattle.doc_tree.specs.declared.machine.Goal.{Goal}
+use Rattle.doc_tree.proofs.Words.{Bool, Each, Finishes, Goal, Good, IsFixed, IsInMark, IsPrintable, IsXmlText, List, Mark, Marked, PassesByte, Place, ReachesGoal, RestsAt, State, Terms, Whole, Word, [], ap, arith, eqb_tells, inl, inr, leb_tells, refl, subst, sym, ℕ, ◌++◌, ◌<◌, ◌↔◌, ◌∙◌, ◌∷◌, ◌≡◌, ◌≢◌, ◌≤◌, ◌⊎◌}
 use Rattle.doc_tree.specs.declared.machine.Goal.TheVariants as goals
-use Rattle.doc_tree.specs.declared.machine.Place.{Place}
 use Rattle.doc_tree.specs.declared.machine.Place.TheVariants as places
-use Rattle.doc_tree.specs.Completions.{State, RestsAt, ReachesGoal, Good, IsFixed, IsInMark, IsPrintable}
-use Rattle.doc_tree.specs.LineEnds.{Finishes, PassesByte}
 use Rattle.doc_tree.proofs.Viability.HighBytes.{Absorbs, absorbs, high_space}
 use Rattle.doc_tree.proofs.Viability.PrintableEnds.{wide, marked}
-use Rattle.doc_tree.proofs.ByteGrammar.Bytes.{IsMultibyte}
+use Rattle.doc_tree.proofs.ByteGrammar.{IsMultibyte, each_both, marked_stuck, whole_mark, whole_plain}
 use Rattle.doc_tree.proofs.Viability.Completions.{Completion}
-use Rattle.doc_tree.proofs.Viability.Printables.{each_both}
-use Rattle.doc_tree.proofs.ByteGrammar.Prologs.{marked_stuck, whole_mark, whole_plain}
 use Rattle.doc_tree.proofs.Viability.Prefixes.{IsSteady, steady, printable_steady, mark_steady, multibyte_steady, printable_xml, Open, open_here, open_mark}
 
 -- Whatever bytes from 128 on come, printable ones end a document behind them.
@@ -81,13 +71,6 @@ open_unmarked s r g o m = elim (in_mark s.place s.goal) [
       let w = mark_text s p.0 p.1 o.bytes k.0 k.2 in
       printable_fixed s.left o.bytes w.behind (mark_left s g p.0 p.1) o.printable w.text)
 ]
-
--- A byte is taken that stands first.
-pub open_goes : (s : State) (r : Bool) (b : ℕ) (new : State) (returns : Bool) (more : List ℕ) → PassesByte s r b new returns → Open 32 s r (b ∷ more) → Open 32 new returns more
-open_goes s r b new returns more p o = record { bytes = o.bytes; printable = o.printable; marks = o.marks; rest = (p.same t (omega arith) (more ++ o.bytes) o.marks).0 o.rest }
-
-pub text_goes : (s : State) (r : Bool) (b : ℕ) (new : State) (returns : Bool) → 128 ≤ b → PassesByte s r b new returns → OpenText s r → OpenText new returns
-text_goes s r b new returns l p o more h = open_goes s r b new returns more p (o (b ∷ more) (l, h))
 
 -- what the old state finishes where the new one does
 back : (s : State) (r : Bool) (b : ℕ) (new : State) (returns : Bool) (more : List ℕ) → 128 ≤ b → Each IsSteady more → PassesByte s r b new returns → (o : Open 32 new returns more) → (later : List Mark) × (o.marks ≡ s.marks ++ later) × RestsAt s.place s t (b ∷ (more ++ o.bytes)) later

@@ -1,25 +1,11 @@
 -- Documents go on behind what the machine has taken, and none behind what it refuses.
-use Rattle.std.proofs.Common.{◌≡◌, ℕ, suc, ◌+◌, ◌-◌, ◌≤◌, ◌<◌, inl, inr, Bool, true, false, List, [], ◌∷◌, ◌++◌, length, refl, ap, sym, ◌∙◌, subst, arith, append_assoc}
-use Rattle.std.specs.Prelude.{encode_utf8_all}
-use Rattle.std.proofs.lemmas.Str.{encode_ascii, encodes-append}
-use Rattle.std.proofs.lemmas.List.{append-nil}
-use Rattle.tree_grammar.specs.Elements.{nodes_depth}
-use Rattle.tree_grammar.specs.Characters.{Each, IsXmlChar, IsXmlText, IsNameStart, normal_lines}
-use Rattle.tree_grammar.specs.Content.{body_nodes}
-use Rattle.tree_grammar.specs.Declaration.{Declaration, no_declaration, declared, no_encoding, encoded}
-use Rattle.doc_tree.specs.Marks.{Mark}
-use Rattle.doc_tree.specs.Rests.{Terms, any, Word, TagRest, Between, IsDeclarationRead, Marked, Whole, depth_left}
+use Rattle.doc_tree.proofs.Words.{Between, Bool, Continues, Declaration, Each, Finishes, Good, Insides, IsDeclarationRead, IsDeep, IsDeepAt, IsFixed, IsInMark, IsNameStart, IsPrintable, IsShallowlyViable, IsText, IsViable, IsXmlChar, IsXmlText, List, Mark, Marked, ReachesGoal, RestsAt, State, TagRest, Terms, Whole, Word, [], any, ap, append-nil, append_assoc, arith, body_nodes, declared, depth_left, encode_ascii, encode_utf8_all, encodes-append, false, inl, inr, length, no_encoding, nodes_depth, normal_lines, refl, subst, suc, sym, true, unread, ℕ, ◌++◌, ◌-◌, ◌<◌, ◌∙◌, ◌∷◌, ◌≡◌, ◌≤◌}
 use Rattle.doc_tree.specs.declared.machine.Goal.TheVariants as goals
 use Rattle.doc_tree.specs.declared.machine.Place.TheVariants as places
-use Rattle.doc_tree.specs.Completions.{State, RestsAt, ReachesGoal, Completes, Insides, Good, IsFixed, IsInMark, IsPrintable, IsDeep}
-use Rattle.doc_tree.specs.LineEnds.{unread, Finishes, Blocks, Continues}
-use Rattle.doc_tree.specs.Refusals.{IsText, IsViable, IsShallowlyViable, IsDeepAt, IsMalformedAt}
 use Rattle.doc_tree.proofs.TextTrees.Wholes.{Held, held_of, whole_of, document_marks}
-use Rattle.doc_tree.proofs.TextTrees.LineFeeds.{continues_end}
-use Rattle.doc_tree.proofs.MachineSteps.Specials.{plain_line, deep_stuck}
-use Rattle.doc_tree.proofs.ByteGrammar.Bytes.{IsMultibyte, start_high}
-use Rattle.doc_tree.proofs.MachineSteps.Steps.{content_tag_any}
-use Rattle.doc_tree.proofs.Viability.Printables.{each_both, each_map, start_printable}
+use Rattle.doc_tree.proofs.Viability.Specials.{plain_line, deep_stuck}
+use Rattle.doc_tree.proofs.ByteGrammar.{IsMultibyte, each_both, each_map, start_printable, start_range}
+use Rattle.doc_tree.proofs.MachineSteps.{content_tag_any}
 use Rattle.doc_tree.proofs.Viability.Completions.{Completion, completes_map, completes_tag, completes_between}
 use Rattle.doc_tree.proofs.Viability.PrintableEnds.{wide, alive, marked}
 
@@ -112,46 +98,36 @@ open_xml depth s r seen more o x = subst IsXmlText (append_assoc seen more o.byt
 pub viable : (s : State) (r : Bool) (seen more : List ℕ) → Continues s r seen → Open 32 s r more → IsXmlText (seen ++ more) → IsShallowlyViable seen
 viable s r seen more c o x = viable_so s r seen (more ++ o.bytes) o.marks c o.rest (open_xml 32 s r seen more o x)
 
-pub viable_any : (seen : List ℕ) → IsShallowlyViable seen → IsViable seen
-viable_any seen v = record { rest = v.rest; whole = v.whole }
-
 -- behind whole characters
 pub viable_here : (s : State) (r : Bool) (seen : List ℕ) → Continues s r seen → (IsInMark s.place s.goal → ⊥) → IsXmlText seen → IsShallowlyViable seen
 viable_here s r seen c n x = viable s r seen [] c (open_here 32 (omega arith) s r c.good n) (subst IsXmlText (sym (append-nil seen)) x)
 
 -- Nothing goes on with a byte that is refused.
 any_read : (d : Declaration) → IsDeclarationRead any d
-any_read no_declaration = tt
 any_read (declared v no_encoding s space sp) = tt
-any_read (declared v (encoded b p e quote i name n) s space sp) = tt
+any_read _ = tt
 
-text_whole : (depth : ℕ) (bytes : List ℕ) (w : IsText bytes) → suc (nodes_depth (body_nodes w.document.body)) ≤ depth → Whole (wide depth) (normal_lines bytes) (document_marks w.document)
-text_whole depth bytes w l = subst (λ z. Whole (wide depth) z (document_marks w.document)) (sym w.text) (whole_of (wide depth) w.document (omega arith) (omega arith) (any_read w.document.declaration))
+pub whole_within : (depth : ℕ) (bytes : List ℕ) (w : IsText bytes) → suc (nodes_depth (body_nodes w.document.body)) ≤ depth → Whole (wide depth) (normal_lines bytes) (document_marks w.document)
+whole_within depth bytes w l = subst (λ z. Whole (wide depth) z (document_marks w.document)) (sym w.text) (whole_of (wide depth) w.document (omega arith) (omega arith) (any_read w.document.declaration))
 
-text_finishes : (depth : ℕ) → 32 ≤ depth → (s : State) (r : Bool) (seen : List ℕ) (b : ℕ) (rest : List ℕ) (w : IsText ((seen ++ (b ∷ [])) ++ rest)) → suc (nodes_depth (body_nodes w.document.body)) ≤ depth → Continues s r seen → Finishes s r (wide depth) (b ∷ rest) (document_marks w.document)
+pub text_finishes : (depth : ℕ) → 32 ≤ depth → (s : State) (r : Bool) (seen : List ℕ) (b : ℕ) (rest : List ℕ) (w : IsText ((seen ++ (b ∷ [])) ++ rest)) → suc (nodes_depth (body_nodes w.document.body)) ≤ depth → Continues s r seen → Finishes s r (wide depth) (b ∷ rest) (document_marks w.document)
 text_finishes depth l s r seen b rest w m c =
     let says : List Mark = document_marks w.document in
-    let k : Whole (wide depth) (normal_lines (seen ++ (b ∷ rest))) says = subst (λ z. Whole (wide depth) (normal_lines z) says) (append_assoc seen (b ∷ []) rest) (text_whole depth ((seen ++ (b ∷ [])) ++ rest) w m) in
+    let k : Whole (wide depth) (normal_lines (seen ++ (b ∷ rest))) says = subst (λ z. Whole (wide depth) (normal_lines z) says) (append_assoc seen (b ∷ []) rest) (whole_within depth ((seen ++ (b ∷ [])) ++ rest) w m) in
     (c.same (wide depth) l (b ∷ rest) says).0 k
-
-pub refused : (s : State) (r : Bool) (seen : List ℕ) (b : ℕ) → Continues s r seen → Blocks s r b → IsViable (seen ++ (b ∷ [])) → ⊥
-refused s r seen b c f v =
-    let w : IsText ((seen ++ (b ∷ [])) ++ v.rest) = v.whole in
-    let depth : ℕ = 32 + suc (nodes_depth (body_nodes w.document.body)) in
-    f (wide depth) (omega arith) v.rest (document_marks w.document) (text_finishes depth (omega arith) s r seen b v.rest w (omega arith) c)
 
 -- an element of depth 33 begins
 deep_tag : (depth : ℕ) (s : State) (b : ℕ) → Good places.ContentLess s → IsNameStart b → length s.names < depth → Completion (λ x. RestsAt places.ContentLess s (wide depth) (b ∷ x))
 deep_tag depth s b g i l =
     let t : Terms = wide depth in
-    let high = start_high b i in
+    let high = (start_range b i).0 in
     let c : Completion (TagRest (depth_left t s.names - 1) (b ∷ []) [] [] (Between 0 s.names t)) = completes_tag (depth_left t s.names - 1) (b ∷ []) (Between 0 s.names t) (completes_between t 0 s.names g.2) [] [] in
     completes_map (TagRest (depth_left t s.names - 1) (b ∷ []) [] [] (Between 0 s.names t)) (λ x. Insides 0 s.names t (60 ∷ b ∷ x)) (λ x es k. (content_tag_any t s.names b x es g.1 (λ e. omega arith) (λ e. omega arith) (λ e. omega arith)).1 (record { room = omega arith; rest = record { run = b ∷ []; is = (i, tt); behind = x; text = refl; after = k } })) c
 
 deep_open : (s : State) (r : Bool) (b : ℕ) → Good s.place s → IsDeep s b → Open (suc (length s.names)) s r (b ∷ [])
 deep_open s r b g d =
     let depth : ℕ = suc (length s.names) in
-    let high = start_high b d.2 in
+    let high = (start_range b d.2).0 in
     open_of depth s r (b ∷ []) (omega arith, tt) (subst (λ z. Completion (λ x. RestsAt z s (wide depth) (b ∷ x))) (sym d.0) (deep_tag depth s b (subst (λ z. Good z s) d.0 g) d.2 (omega arith)))
 
 deep_viable : (s : State) (r : Bool) (seen : List ℕ) (b : ℕ) → Continues s r seen → IsXmlText seen → IsDeep s b → IsViable (seen ++ (b ∷ []))
@@ -164,7 +140,7 @@ deep_viable s r seen b c x d =
 
 deep_not : (s : State) (r : Bool) (seen : List ℕ) (b : ℕ) → Continues s r seen → IsDeep s b → IsShallowlyViable (seen ++ (b ∷ [])) → ⊥
 deep_not s r seen b c d v =
-    let high = start_high b d.2 in
+    let high = (start_range b d.2).0 in
     let f : Finishes s r (wide 32) (b ∷ v.rest) (document_marks v.whole.document) = text_finishes 32 (omega arith) s r seen b v.rest v.whole v.shallow c in
     deep_stuck (wide 32) (omega arith) s b d (normal_lines v.rest) f.later (subst (λ z. RestsAt s.place s (wide 32) z f.later) (plain_line r b v.rest (omega arith)) f.rest)
 
@@ -177,20 +153,3 @@ deep s r seen b c x d = record {
   viable = deep_viable s r seen b c x d;
   deep = deep_not s r seen b c d;
 }
-
--- a byte that is refused
-pub malformed : (s : State) (r : Bool) (seen : List ℕ) (b : ℕ) → Continues s r seen → Blocks s r b → IsShallowlyViable seen → IsMalformedAt seen b
-malformed s r seen b c f v = record { before = viable_any seen v; none = refused s r seen b c f }
-
--- a byte that is taken
-pub taken_not_deep : (seen : List ℕ) (b : ℕ) → IsShallowlyViable (seen ++ (b ∷ [])) → IsDeepAt seen b → ⊥
-taken_not_deep seen b v d = d.deep v
-
-pub taken_not_malformed : (seen : List ℕ) (b : ℕ) → IsShallowlyViable (seen ++ (b ∷ [])) → IsMalformedAt seen b → ⊥
-taken_not_malformed seen b v m = m.none (viable_any (seen ++ (b ∷ [])) v)
-
--- The bytes end where no document does.
-pub cut : (s : State) (r : Bool) (bytes : List ℕ) → Continues s r bytes → ((t : Terms) (says : List Mark) → Completes s t [] says → ⊥) → IsText bytes → ⊥
-cut s r bytes c n w =
-    let depth : ℕ = 32 + suc (nodes_depth (body_nodes w.document.body)) in
-    n (wide depth) (document_marks w.document) ((continues_end s r bytes c (wide depth) (omega arith) (document_marks w.document)).0 (text_whole depth bytes w (omega arith)))

@@ -1,25 +1,12 @@
 -- At each place of the machine some printable bytes complete a document.
-use Rattle.std.proofs.Common.{◌≢◌, ℕ, suc, ◌-◌, ◌≤◌, inl, inr, Bool, true, false, List, [], ◌∷◌, ◌++◌, map, refl, arith}
-use Rattle.std.specs.Prelude.{encode_utf8}
-use Rattle.tree_grammar.specs.Elements.{Attribute}
-use Rattle.tree_grammar.specs.Characters.{IsSpace, Each, Some1, local_part}
-use Rattle.doc_tree.specs.Marks.{Mark, Start, Char, Finish}
-use Rattle.doc_tree.specs.Rests.{Terms, any, Then, Word, RefRest, Or, CommentRest, PiRest, PiOver, FirstOver, IsNameRest, TagRest, After, Between, Before, EndsDeclaration, Never, GapRest, Next1, Next2, Gap, Choice, FieldRest, FieldOver, FieldValue, Valued, IsFieldValue, IsValueBegun, field_name, AttributeValue, KeyOver, Marked, Whole, depth_left, keep}
-use Rattle.doc_tree.specs.declared.declaration.Field.{Field}
+use Rattle.doc_tree.proofs.Words.{After, Around, Attribute, AttributeValue, Before, Behind, Between, Bool, Char, Choice, CommentRest, Each, Emptied, EndsDeclaration, Field, FieldOver, FieldRest, FieldValue, Finish, FirstOver, Gap, GapRest, Goal, Good, GoodGoal, GoodReference, GoodRound, GoodTag, InBody, InKey, InTag, Insides, IsFieldValue, IsFixed, IsInMark, IsNameRest, IsPrintable, IsSpace, IsValueBegun, KeyOver, List, Mark, Marked, Never, Next1, Next2, Or, PiOver, PiRest, Place, ReachesGoal, RefRest, RestsAt, Round, Some1, Start, State, TagChoice, TagRest, Terms, Then, Valued, Whole, Word, [], any, arith, depth_left, encode_utf8, false, field_name, inl, inr, keep, local_part, map, refl, suc, true, ℕ, ◌++◌, ◌-◌, ◌∷◌, ◌≢◌, ◌≤◌}
 use Rattle.doc_tree.specs.declared.declaration.Field.TheVariants as fields
 use Rattle.doc_tree.specs.declared.names.Part.TheVariants as parts
-use Rattle.doc_tree.specs.declared.machine.Round.{Round}
 use Rattle.doc_tree.specs.declared.machine.Round.TheVariants as rounds
-use Rattle.doc_tree.specs.declared.machine.Goal.{Goal}
 use Rattle.doc_tree.specs.declared.machine.Goal.TheVariants as goals
-use Rattle.doc_tree.specs.declared.machine.Place.{Place}
 use Rattle.doc_tree.specs.declared.machine.Place.TheVariants as places
-use Rattle.doc_tree.specs.Completions.{State, RestsAt, ReachesGoal, Insides, InTag, InKey, InBody, TagChoice, Emptied, Behind, Around, Good, GoodGoal, GoodTag, GoodRound, GoodReference, IsFixed, IsInMark, IsPrintable}
-use Rattle.doc_tree.proofs.MachineSteps.FieldValues.{begun_nothing}
-use Rattle.doc_tree.proofs.MachineSteps.FieldSteps.{field_each}
-use Rattle.doc_tree.proofs.ByteGrammar.Prologs.{marked_plain, marked_question}
-use Rattle.doc_tree.proofs.MachineSteps.AsideSteps.{around_dash, around_mark}
-use Rattle.doc_tree.proofs.Viability.Printables.{printable_text, quote_printable, encoding_printable, field_printable, each_right, each_map}
+use Rattle.doc_tree.proofs.ByteGrammar.{each_map, each_right, encoding_printable, field_printable, marked_plain, marked_question, printable_text, quote_printable}
+use Rattle.doc_tree.proofs.MachineSteps.{around_dash, around_mark, begun_nothing, field_each}
 use Rattle.doc_tree.proofs.Viability.Completions.{Completion, letters, letters_each, letters_part, letter_is, total, long_new, completes_behind, completes_map, completes_said, completes_word, completes_then, completes_quote, completes_equals, completes_value, completes_amp, completes_dash, completes_comment, completes_mark, completes_text, completes_pi, completes_named, completes_section, completes_body, completes_tag, completes_after, completes_between, completes_insides, completes_less, completes_over_end, completes_before, completes_before_less}
 use Rattle.doc_tree.proofs.Viability.Numerals.{completes_digit, completes_numeral, completes_hash}
 
@@ -30,14 +17,7 @@ wide depth = record { depth = depth; aim = any }
 -- a fixed text other than the mark
 pub fixed : (g : Goal) (left : List ℕ) → IsFixed g left → (IsInMark places.Word g → ⊥) → Each IsPrintable left
 fixed goals.Marked left i n = absurd (n tt)
-fixed goals.Field left i n = i
-fixed goals.Prolog left i n = i
-fixed goals.EmptyTag left i n = i
-fixed goals.EndName left i n = i
-fixed goals.Comment left i n = i
-fixed goals.Section left i n = i
-fixed goals.Around left i n = i
-fixed goals.Entity left i n = i
+fixed _ left i n = i
 
 module _ (depth : ℕ) (l : 1 ≤ depth) where
   abbrev t : Terms

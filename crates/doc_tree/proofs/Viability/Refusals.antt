@@ -1,53 +1,23 @@
 -- Which refusal a byte decides, and that one that is taken decides none.
-use Rattle.std.proofs.Common.{◌≡◌, ℕ, suc, ◌+◌, ◌-◌, ◌<◌, ◌≤◌, inl, inr, Bool, true, false, cond, ◌==◌, List, [], ◌∷◌, ◌++◌, length, refl, ap, sym, ◌∙◌, subst, arith, append_assoc, length-append, take, drop, get_or}
-use Rattle.std.proofs.lemmas.Bool.{cases_lt}
-use Rattle.std.proofs.lemmas.List.{length-take-le}
-use Rattle.std.specs.Prelude.{codes}
+use Rattle.doc_tree.proofs.Words.{Awaited, Blocks, Bool, CharacterFollows, CharacterRest, CharacterStuck, Continues, Decides, Document, Feeding, Finishes, Insides, IsClean, IsDeep, IsDeepAt, IsDepthAllowed, IsDoctype, IsDoctypeAt, IsEncodingAt, IsMalformedAt, IsNameStart, IsOther, IsQName, IsQuote, IsRefusedIn, IsShallowlyViable, IsTaken, IsText, IsViable, IsXmlText, List, Mark, MeetsBoth, NoneBegins, NoneWithin, PassesByte, Refused, RestsAt, Spells, State, TagFirst, Terms, TreeFault, Whole, [], any, any_encoding, ap, append_assoc, arith, begins_with_line_feed, body_nodes, bounds, cases_lt, codes, cond, drop, false, get_or, inl, inr, length, length-append, length-take-le, nodes_depth, normal_lines, rank, refl, subst, suc, sym, take, true, ℕ, ◌++◌, ◌+◌, ◌-◌, ◌<◌, ◌==◌, ◌∙◌, ◌∷◌, ◌≡◌, ◌≤◌}
 use Rattle.std.specs.Char.{encode_utf8}
-use Rattle.tree_grammar.specs.Elements.{nodes_depth}
-use Rattle.tree_grammar.specs.Characters.{IsNameStart, IsQName, IsXmlText, begins_with_line_feed, normal_lines}
-use Rattle.tree_grammar.specs.Tags.{IsQuote}
-use Rattle.tree_grammar.specs.Content.{body_nodes}
-use Rattle.tree_grammar.specs.Declaration.{Declaration, no_declaration, declared, no_encoding, encoded}
-use Rattle.tree_grammar.specs.Document.{Document}
-use Rattle.doc_tree.specs.declared.characters.Awaited.{Awaited}
 use Rattle.doc_tree.specs.declared.characters.Awaited.TheVariants as awaits
-use Rattle.doc_tree.specs.declared.fault.TreeFault.{TreeFault}
 use Rattle.doc_tree.specs.declared.fault.TreeFault.TheVariants as faults
 use Rattle.doc_tree.specs.declared.machine.Place.TheVariants as at
-use Rattle.doc_tree.specs.Marks.{Mark}
-use Rattle.doc_tree.specs.Rests.{Terms, any, IsDeclarationRead, TagFirst, Whole}
-use Rattle.doc_tree.specs.Completions.{State, RestsAt, Insides, IsDeep, IsOther, IsDoctype, IsDepthAllowed}
-use Rattle.doc_tree.specs.LineEnds.{bounds, Finishes, PassesByte, Blocks, Continues}
-use Rattle.doc_tree.specs.Reading.{NoneWithin, NoneBegins, Refused}
-use Rattle.doc_tree.specs.Refusals.{IsText, IsViable, IsShallowlyViable, IsDeepAt, IsDoctypeAt, IsEncodingAt, IsMalformedAt, Decides, rank, IsClean, IsRefusedIn}
-use Rattle.doc_tree.specs.Utf8.{CharacterRest, CharacterFollows, CharacterStuck, Spells}
-use Rattle.doc_tree.specs.Feeding.{any_encoding, Feeding, MeetsBoth, IsTaken}
-use Rattle.doc_tree.proofs.ByteGrammar.Bytes.{start_high, not_space}
-use Rattle.doc_tree.proofs.ByteGrammar.Contents.{content_tag}
+use Rattle.doc_tree.proofs.ByteGrammar.{content_tag, marked_stuck, not_space, quote_range, start_range, whole_plain}
 use Rattle.doc_tree.proofs.TextTrees.LineFeeds.{allowed, BlocksHere, continues_on, continues_blocked}
-use Rattle.doc_tree.proofs.ByteGrammar.Prologs.{marked_stuck, whole_plain}
-use Rattle.doc_tree.proofs.MachineSteps.Specials.{plain_line, quote_high, deep_blocks, doctype_blocks, other_blocks}
+use Rattle.doc_tree.proofs.Viability.Specials.{plain_line, deep_blocks, doctype_blocks, other_blocks}
 use Rattle.doc_tree.proofs.OneRefusal.{Places, same, before, behind, places}
 use Rattle.doc_tree.proofs.TextTrees.Results.{split_at, none_refuses, long_refuses, text_refuses}
 use Rattle.doc_tree.proofs.Utf8.{low_char, first_one, BeginsInside, first_or_inside, spells_on, spells_whole}
-use Rattle.doc_tree.proofs.TextTrees.Wholes.{Held, held_of, whole_of, document_marks}
-use Rattle.doc_tree.proofs.MachineSteps.DocumentTypes.{doctype_at, encoding_at, encoding_goes, doctype_long, IsShownAt, taken_plain, refused_plain}
-use Rattle.doc_tree.proofs.MachineSteps.Specials.{doctype_blocked}
-use Rattle.doc_tree.proofs.Viability.Prefixes.{deep}
+use Rattle.doc_tree.proofs.TextTrees.Wholes.{Held, held_of, document_marks}
+use Rattle.doc_tree.proofs.Viability.DocumentTypes.{doctype_at, encoding_at, encoding_goes, doctype_long, IsShownAt, taken_plain, refused_plain}
+use Rattle.doc_tree.proofs.Viability.Specials.{doctype_blocked}
+use Rattle.doc_tree.proofs.Viability.Prefixes.{deep, text_finishes, whole_within}
 use Rattle.doc_tree.proofs.Viability.CommonEnds.{fed_on}
-
-read_any : (d : Declaration) → IsDeclarationRead any d
-read_any no_declaration = tt
-read_any (declared v no_encoding s space sp) = tt
-read_any (declared v (encoded b p e quote i name n) s space sp) = tt
 
 named_allowed : IsDepthAllowed any_encoding
 named_allowed = omega arith
-
--- the bytes behind one, after those before it
-behind_one : (seen : List ℕ) (b : ℕ) (rest : List ℕ) → (seen ++ (b ∷ [])) ++ rest ≡ seen ++ (b ∷ rest)
-behind_one seen b rest = append_assoc seen (b ∷ []) rest
 
 -- A document is a whole at some terms.
 abbrev pub as_deep : Document → Terms
@@ -57,9 +27,7 @@ pub as_deep_allowed : (d : Document) → IsDepthAllowed (as_deep d)
 as_deep_allowed d = omega arith
 
 pub text_whole : (bytes : List ℕ) (i : IsText bytes) → Whole (as_deep i.document) (normal_lines bytes) (document_marks i.document)
-text_whole bytes i =
-    let d : Document = i.document in
-    subst (λ z. Whole (as_deep d) z (document_marks d)) (sym i.text) (whole_of (as_deep d) d (omega arith) (omega arith) (read_any d.declaration))
+text_whole bytes i = whole_within (32 + nodes_depth (body_nodes i.document.body)) bytes i (omega arith)
 
 -- what completes the bytes makes them viable
 shallow_of : (seen rest : List ℕ) (says : List Mark) → Whole any_encoding (normal_lines (seen ++ rest)) says → IsXmlText (seen ++ rest) → IsShallowlyViable seen
@@ -71,10 +39,7 @@ shallow_of seen rest says w t =
 module _ (s : State) (returned : Bool) (seen : List ℕ) (c : Continues s returned seen) where
   -- what goes on with the byte completes the state
   viable_finishes : (b : ℕ) (v : IsViable (seen ++ (b ∷ []))) → Finishes s returned (as_deep v.whole.document) (b ∷ v.rest) (document_marks v.whole.document)
-  viable_finishes b v =
-      let d : Document = v.whole.document in
-      let w : Whole (as_deep d) (normal_lines (seen ++ (b ∷ v.rest))) (document_marks d) = subst (λ z. Whole (as_deep d) (normal_lines z) (document_marks d)) (behind_one seen b v.rest) (text_whole ((seen ++ (b ∷ [])) ++ v.rest) v.whole) in
-      (c.same (as_deep d) (as_deep_allowed d) (b ∷ v.rest) (document_marks d)).0 w
+  viable_finishes b v = text_finishes (32 + nodes_depth (body_nodes v.whole.document.body)) (omega arith) s returned seen b v.rest v.whole (omega arith) c
 
   blocked_none : (b : ℕ) → Blocks s returned b → IsViable (seen ++ (b ∷ [])) → ⊥
   blocked_none b n v = let d : Document = v.whole.document in n (as_deep d) (as_deep_allowed d) v.rest (document_marks d) (viable_finishes b v)
@@ -88,47 +53,14 @@ module _ (s : State) (returned : Bool) (seen : List ℕ) (c : Continues s return
 shallow_viable : (seen : List ℕ) → IsShallowlyViable seen → IsViable seen
 shallow_viable seen v = record { rest = v.rest; whole = v.whole }
 
--- which refusals a byte decides, where it isn't one too many
-module _ (limit : ℕ) (seen : List ℕ) (b : ℕ) (short : length seen < limit) where
-  least_deep : (other : TreeFault) → Decides limit seen b other → 1 ≤ rank other
-  least_deep faults.Memory d = absurd d
-  least_deep faults.Long d = absurd (omega arith)
-  least_deep (faults.Deep at) d = omega arith
-  least_deep (faults.Doctype at) d = omega arith
-  least_deep faults.Encoding d = omega arith
-  least_deep (faults.Malformed at) d = omega arith
-
-  least_doctype : (IsDeepAt seen b → ⊥) → (other : TreeFault) → Decides limit seen b other → 2 ≤ rank other
-  least_doctype n faults.Memory d = absurd d
-  least_doctype n faults.Long d = absurd (omega arith)
-  least_doctype n (faults.Deep at) d = absurd (n d.0)
-  least_doctype n (faults.Doctype at) d = omega arith
-  least_doctype n faults.Encoding d = omega arith
-  least_doctype n (faults.Malformed at) d = omega arith
-
-  least_encoding : (IsDeepAt seen b → ⊥) → (IsDoctypeAt seen b → ⊥) → (other : TreeFault) → Decides limit seen b other → 3 ≤ rank other
-  least_encoding n m faults.Memory d = absurd d
-  least_encoding n m faults.Long d = absurd (omega arith)
-  least_encoding n m (faults.Deep at) d = absurd (n d.0)
-  least_encoding n m (faults.Doctype at) d = absurd (m d.0)
-  least_encoding n m faults.Encoding d = omega arith
-  least_encoding n m (faults.Malformed at) d = omega arith
-
-  least_malformed : (IsDeepAt seen b → ⊥) → (IsShownAt seen b → ⊥) → (other : TreeFault) → Decides limit seen b other → 4 ≤ rank other
-  least_malformed n m faults.Memory d = absurd d
-  least_malformed n m faults.Long d = absurd (omega arith)
-  least_malformed n m (faults.Deep at) d = absurd (n d.0)
-  least_malformed n m (faults.Doctype at) d = absurd (m (inl d.0))
-  least_malformed n m faults.Encoding d = absurd (m (inr d))
-  least_malformed n m (faults.Malformed at) d = omega arith
-
-  none_decided : IsShallowlyViable (seen ++ (b ∷ [])) → (IsShownAt seen b → ⊥) → (other : TreeFault) → Decides limit seen b other → ⊥
-  none_decided v m faults.Memory d = d
-  none_decided v m faults.Long d = omega arith
-  none_decided v m (faults.Deep at) d = let h = d.0 in h.deep v
-  none_decided v m (faults.Doctype at) d = m (inl d.0)
-  none_decided v m faults.Encoding d = m (inr d)
-  none_decided v m (faults.Malformed at) d = let h = d.0 in h.none (shallow_viable (seen ++ (b ∷ [])) v)
+-- what holds of the rank of each refusal that a byte decides, where it isn't one too many
+decided : (limit : ℕ) (seen : List ℕ) (b : ℕ) → length seen < limit → (P : ℕ → Type 0) → (IsDeepAt seen b → P 1) → (IsDoctypeAt seen b → P 2) → (IsEncodingAt seen b → P 3) → (IsMalformedAt seen b → P 4) → (other : TreeFault) → Decides limit seen b other → P (rank other)
+decided limit seen b short P d t n m faults.Memory h = absurd h
+decided limit seen b short P d t n m faults.Long h = absurd (omega arith)
+decided limit seen b short P d t n m (faults.Deep at) h = d h.0
+decided limit seen b short P d t n m (faults.Doctype at) h = t h.0
+decided limit seen b short P d t n m faults.Encoding h = n h
+decided limit seen b short P d t n m (faults.Malformed at) h = m h.0
 
 -- the byte that is refused is the last
 refused_last : (limit : ℕ) (seen : List ℕ) (b : ℕ) (fault : TreeFault) → IsClean limit seen → Decides limit seen b fault → ((other : TreeFault) → Decides limit seen b other → rank fault ≤ rank other) → IsRefusedIn limit (seen ++ (b ∷ [])) fault
@@ -180,15 +112,12 @@ clean_short limit bytes c =
       | inr k ↦ k
     ]
 
-start_low : (c : ℕ) → IsNameStart c → c ≤ 122
-start_low c n = grind arith
-
 -- the first byte of an element's name isn't the first of all
 deep_some : (seen : List ℕ) (b : ℕ) → IsNameStart b → IsViable (seen ++ (b ∷ [])) → 1 ≤ length seen
 deep_some [] b n v =
     let d : Document = v.whole.document in
-    let l = start_high b n in
-    let m = start_low b n in
+    let l = (start_range b n).0 in
+    let m = (start_range b n).1 in
     let w : Whole (as_deep d) (normal_lines (b ∷ v.rest)) (document_marks d) = text_whole (b ∷ v.rest) v.whole in
     let w2 : Whole (as_deep d) (b ∷ normal_lines v.rest) (document_marks d) = subst (λ z. Whole (as_deep d) z (document_marks d)) (plain_line false b v.rest (omega arith)) w in
     absurd (marked_stuck (as_deep d) b (normal_lines v.rest) (document_marks d) (λ s. not_space b (omega arith) s) (λ e. omega arith) ((whole_plain (as_deep d) b (normal_lines v.rest) (document_marks d) (λ e. omega arith)).0 w2))
@@ -209,7 +138,7 @@ quote_no_letter b q e = grind arith
 
 name_low : (b : ℕ) (x run later : List ℕ) → 128 ≤ b → IsQName run → b ∷ x ≡ run ++ later → ⊥
 name_low b x [] later l n e = n
-name_low b x (c ∷ cs) later l n e = let h : b ≡ c = cc in let k = start_low c n.0 in omega arith
+name_low b x (c ∷ cs) later l n e = let h : b ≡ c = cc in let k = (start_range c n.0).1 in omega arith
 
 tag_first_low : (b : ℕ) (names : List (List ℕ)) (t : Terms) (x : List ℕ) (es : List Mark) → 128 ≤ b → TagFirst names t (b ∷ x) es → ⊥
 tag_first_low b names t x es l h = let r = h.rest in name_low b x r.run r.behind l r.is r.text
@@ -227,29 +156,24 @@ less_inside s returned (b ∷ rest) says e i h =
 less_whole : (s : State) (returned : Bool) (w : Awaited) → s.place ≡ at.ContentLess → MeetsBoth w s returned → w ≡ awaits.First
 less_whole s returned w e m = elim (first_or_inside w m.rest m.character) [ inl q ↦ q | inr i ↦ absurd (less_inside s returned m.rest m.says e i m.document) ]
 
--- behind the quote of an encoding that isn't read goes a document of a small depth
-low_quote : (b : ℕ) → IsQuote b → b < 128
-low_quote b (inl e) = omega arith
-low_quote b (inr e) = omega arith
-
--- what ends a declaration, and a small root
+-- behind the quote of an encoding that isn't read goes a document of a small depth: what ends a declaration, and a small root
 small_text : IsXmlText (codes "?><a/>")
 unfolding encode_utf8
 small_text = record { characters = codes "?><a/>"; each = (low_char 63 (omega arith) (omega arith), (low_char 62 (omega arith) (omega arith), (low_char 60 (omega arith) (omega arith), (low_char 97 (omega arith) (omega arith), (low_char 47 (omega arith) (omega arith), (low_char 62 (omega arith) (omega arith), tt)))))); encoded = refl }
 
 quote_text : (b : ℕ) → IsQuote b → IsXmlText (b ∷ codes "?><a/>")
-quote_text b q = let l = low_quote b q in let h = quote_high b q in (first_one b (low_char b (omega arith) (omega arith)) l (codes "?><a/>")).1 small_text
+quote_text b q = let h = quote_range b q in let l : b < 128 = omega arith in (first_one b (low_char b (omega arith) (omega arith)) l (codes "?><a/>")).1 small_text
 
 quote_first : (w : Awaited) (b : ℕ) (rest : List ℕ) → IsQuote b → CharacterRest w (b ∷ rest) → w ≡ awaits.First
-quote_first w b rest q h = let l = low_quote b q in elim (first_or_inside w (b ∷ rest) h) [ inl e ↦ e | inr i ↦ (let k : 128 ≤ b = i in absurd (omega arith)) ]
+quote_first w b rest q h = let l = quote_range b q in elim (first_or_inside w (b ∷ rest) h) [ inl e ↦ e | inr i ↦ (let k : 128 ≤ b = i in absurd (omega arith)) ]
 
 other_shallow : (s : State) (returned : Bool) (seen : List ℕ) → Continues s returned seen → (b : ℕ) → IsOther s b → IsEncodingAt seen b → (w : Awaited) → Spells w seen → IsViable (seen ++ (b ∷ [])) → IsShallowlyViable (seen ++ (b ∷ []))
 other_shallow s returned seen c b o e w p v =
-    let inside : CharacterRest w (b ∷ v.rest) = (p (b ∷ v.rest)).0 (subst IsXmlText (behind_one seen b v.rest) v.whole.characters) in
+    let inside : CharacterRest w (b ∷ v.rest) = (p (b ∷ v.rest)).0 (subst IsXmlText (append_assoc seen (b ∷ []) v.rest) v.whole.characters) in
     let first : w ≡ awaits.First = quote_first w b v.rest e.quoted inside in
     let text : IsXmlText (seen ++ (b ∷ codes "?><a/>")) = (p (b ∷ codes "?><a/>")).1 (subst (λ z. CharacterRest z (b ∷ codes "?><a/>")) (sym first) (quote_text b e.quoted)) in
     let g = encoding_goes s returned seen b o c in
-    let back : seen ++ (b ∷ codes "?><a/>") ≡ (seen ++ (b ∷ [])) ++ codes "?><a/>" = sym (behind_one seen b (codes "?><a/>")) in
+    let back : seen ++ (b ∷ codes "?><a/>") ≡ (seen ++ (b ∷ [])) ++ codes "?><a/>" = sym (append_assoc seen (b ∷ []) (codes "?><a/>")) in
     shallow_of (seen ++ (b ∷ [])) (codes "?><a/>") g.0 (subst (λ z. Whole any_encoding (normal_lines z) g.0) back g.1) (subst IsXmlText back text)
 
 -- what decides a refusal with the byte, and what stands behind it is none
@@ -258,7 +182,7 @@ module _ (f : Feeding) (bytes : List ℕ) (b : ℕ) (t : IsTaken f bytes) where
   now = bytes ++ (b ∷ [])
 
   blocks_begin : BlocksHere f.state f.returned b → NoneBegins f.limit now
-  blocks_begin n = λ more. none_refuses f.limit (now ++ more) (continues_blocked f.state f.returned bytes b more (now ++ more) (behind_one bytes b more) t.continues n)
+  blocks_begin n = λ more. none_refuses f.limit (now ++ more) (continues_blocked f.state f.returned bytes b more (now ++ more) (append_assoc bytes (b ∷ []) more) t.continues n)
 
   pub long_refused : f.limit ≤ f.count → Refused f.limit now faults.Long
   long_refused l =
@@ -283,7 +207,7 @@ module _ (f : Feeding) (bytes : List ℕ) (b : ℕ) (t : IsTaken f bytes) where
         let n = t.counted in
         let some = deep_some bytes b d.2 is_deep.viable in
         inr (
-          refused_last f.limit bytes b (faults.Deep place) t.clean (is_deep, omega arith) (least_deep f.limit bytes b fits),
+          refused_last f.limit bytes b (faults.Deep place) t.clean (is_deep, omega arith) (decided f.limit bytes b fits (λ n. 1 ≤ n) (λ h. omega arith) (λ h. omega arith) (λ h. omega arith) (λ h. omega arith)),
           blocks_begin (deep_blocks f.state f.returned b d),
         )
 
@@ -295,7 +219,7 @@ module _ (f : Feeding) (bytes : List ℕ) (b : ℕ) (t : IsTaken f bytes) where
         let less = lines_short bytes in
         let none : IsDeepAt bytes b → ⊥ = λ h. doctype_none f.state f.returned bytes t.continues b d h.viable in
         inr (
-          refused_last f.limit bytes b (faults.Doctype place) t.clean (type, omega arith) (least_doctype f.limit bytes b fits none),
+          refused_last f.limit bytes b (faults.Doctype place) t.clean (type, omega arith) (decided f.limit bytes b fits (λ n. 2 ≤ n) (λ h. absurd (none h)) (λ h. omega arith) (λ h. omega arith) (λ h. omega arith)),
           blocks_begin (doctype_blocks f.state f.returned b d),
         )
 
@@ -304,7 +228,7 @@ module _ (f : Feeding) (bytes : List ℕ) (b : ℕ) (t : IsTaken f bytes) where
         let encoding : IsEncodingAt bytes b = encoding_at f.state f.returned bytes b o t.continues in
         let none : IsDeepAt bytes b → ⊥ = λ h. h.deep (other_shallow f.state f.returned bytes t.continues b o encoding f.awaited t.spells h.viable) in
         inr (
-          refused_last f.limit bytes b faults.Encoding t.clean encoding (least_encoding f.limit bytes b fits none (λ h. quote_no_letter b encoding.quoted h.letter)),
+          refused_last f.limit bytes b faults.Encoding t.clean encoding (decided f.limit bytes b fits (λ n. 3 ≤ n) (λ h. absurd (none h)) (λ h. absurd (quote_no_letter b encoding.quoted h.letter)) (λ h. omega arith) (λ h. omega arith)),
           blocks_begin (other_blocks f.state f.returned b o t.continues.good),
         )
 
@@ -314,14 +238,14 @@ module _ (f : Feeding) (bytes : List ℕ) (b : ℕ) (t : IsTaken f bytes) where
         let n = t.counted in
         let shallow : IsShallowlyViable bytes = meets_shallow f.state f.returned bytes t.continues f.awaited t.spells t.meets in
         let bad : IsMalformedAt bytes b = record { before = shallow_viable bytes shallow; none = none } in
-        inr (refused_last f.limit bytes b (faults.Malformed f.count) t.clean (bad, omega arith) (least_malformed f.limit bytes b fits (λ h. none h.viable) plain), never)
+        inr (refused_last f.limit bytes b (faults.Malformed f.count) t.clean (bad, omega arith) (decided f.limit bytes b fits (λ n. 4 ≤ n) (λ h. absurd (none h.viable)) (λ h. absurd (plain (inl h))) (λ h. absurd (plain (inr h))) (λ h. omega arith)), never)
 
     pub blocked_refused : Blocks f.state f.returned b → Refused f.limit now (faults.Malformed f.count)
     blocked_refused n = malformed (blocked_none f.state f.returned bytes t.continues b n) (refused_plain f.state f.returned bytes b t.continues n) (blocks_begin (λ rest says h. n bounds allowed rest says h))
 
     pub character_refused : (s : State) (returns : Bool) → PassesByte f.state f.returned b s returns → CharacterStuck f.awaited b → Refused f.limit now (faults.Malformed f.count)
     character_refused s returns p n =
-        let never : (more : List ℕ) → IsXmlText (now ++ more) → ⊥ = λ more i. n more ((t.spells (b ∷ more)).0 (subst IsXmlText (behind_one bytes b more) i)) in
+        let never : (more : List ℕ) → IsXmlText (now ++ more) → ⊥ = λ more i. n more ((t.spells (b ∷ more)).0 (subst IsXmlText (append_assoc bytes (b ∷ []) more) i)) in
         malformed (λ v. never v.rest v.whole.characters) (taken_plain s returns bytes b (continues_on f.state f.returned bytes b s returns t.continues p)) (λ more. text_refuses f.limit (now ++ more) (never more))
 
     pub taken : (new : Feeding) → PassesByte f.state f.returned b new.state new.returned → CharacterFollows f.awaited b new.awaited → new.count ≡ f.count + 1 → new.limit ≡ f.limit → IsTaken new now
@@ -329,11 +253,13 @@ module _ (f : Feeding) (bytes : List ℕ) (b : ℕ) (t : IsTaken f bytes) where
         let on : Continues new.state new.returned now = continues_on f.state f.returned bytes b new.state new.returned t.continues p in
         let spells : Spells new.awaited now = spells_on f.awaited new.awaited bytes b t.spells c in
         let meets : MeetsBoth new.awaited new.state new.returned = fed_on f.state f.returned f.awaited bytes b new.state new.returned new.awaited t.continues t.spells t.meets p c in
+        let shallow : IsShallowlyViable now = meets_shallow new.state new.returned now on new.awaited spells meets in
+        let plain : IsShownAt bytes b → ⊥ = taken_plain new.state new.returned bytes b on in
         let n = t.counted in
         record {
           continues = on;
           spells = spells;
           meets = meets;
           counted = omega (arith, length-append bytes (b ∷ []));
-          clean = subst (λ z. IsClean z now) (sym limit) (clean_on f.limit bytes b t.clean (none_decided f.limit bytes b fits (meets_shallow new.state new.returned now on new.awaited spells meets) (taken_plain new.state new.returned bytes b on)));
+          clean = subst (λ z. IsClean z now) (sym limit) (clean_on f.limit bytes b t.clean (decided f.limit bytes b fits (λ _. ⊥) (λ h. h.deep shallow) (λ h. plain (inl h)) (λ h. plain (inr h)) (λ h. h.none (shallow_viable now shallow))));
         }

@@ -1,14 +1,10 @@
 -- The bytes that a walk takes, as pieces of those that there are.
-use Rattle.std.proofs.Common.{◌≡◌, ◌≢◌, ℕ, ◌+◌, ◌-◌, ◌<◌, ◌≤◌, Bool, false, List, [], ◌∷◌, ◌++◌, length, map, reverse, take, drop, get_or, suc, refl, ap, sym, ◌∙◌, subst, arith, append_assoc, length-append}
-use Rattle.std.proofs.lemmas.List.{take_rest, get_or-drop, take_more, length-reverse, length-map}
-use Rattle.std.proofs.Math.Seq.{take-append_seam, take-add}
-use Rattle.tree_grammar.specs.Characters.{Each, IsNameStart, IsNameChar, IsName}
-use Rattle.doc_tree.specs.Walks.{returned_behind}
-use Rattle.doc_tree.proofs.MachineSteps.FieldValues.{each_more}
+use Rattle.doc_tree.proofs.Words.{Each, IsName, IsNameChar, IsNameStart, List, [], ap, append_assoc, arith, drop, get_or, get_or-drop, length, length-append, length-map, length-reverse, map, reverse, subst, suc, sym, take, take-add, take-append_seam, take_more, take_rest, ℕ, ◌++◌, ◌+◌, ◌-◌, ◌<◌, ◌∙◌, ◌∷◌, ◌≡◌, ◌≢◌, ◌≤◌}
+use Rattle.doc_tree.proofs.MachineSteps.{each_longer}
 
 -- one more of a kind
 pub each_taken : (P : ℕ → Type 0) (xs : List ℕ) (i d : ℕ) → i < length xs → Each P (take i xs) → P (get_or xs i d) → Each P (take (i + 1) xs)
-each_taken P xs i d l h p = subst (Each P) (sym (take_more xs i d l)) (each_more P (take i xs) (get_or xs i d) h p)
+each_taken P xs i d l h p = subst (Each P) (sym (take_more xs i d l)) (each_longer P (take i xs) (get_or xs i d) h p)
 
 pub take_cons : (n m x : ℕ) (xs : List ℕ) → m ≡ n + 1 → take m (x ∷ xs) ≡ x ∷ take n xs
 take_cons n m x xs e = let s : m ≡ suc n = omega arith in ap (λ z. take z (x ∷ xs)) s
@@ -33,17 +29,6 @@ end_taken n name rest more e f =
 -- the end of the name is that of the whole
 pub end_same : (name : List ℕ) (other : List ℕ) (names outer left : List (List ℕ)) → names ≡ other ∷ outer → names ≡ name ∷ left → other ≡ name
 end_same name other names outer left e f = let g : other ∷ outer ≡ name ∷ left = sym e ∙ f in cc
-
--- behind no bytes, and behind some
-pub returned_none : (n : ℕ) (bytes : List ℕ) (returned : Bool) → n ≡ 0 → returned ≡ returned_behind (take n bytes) returned
-returned_none n bytes returned e = ap (λ z. returned_behind (take z bytes) returned) (sym e)
-
-some_returned : (xs : List ℕ) (returned : Bool) → xs ≢ [] → false ≡ returned_behind xs returned
-some_returned [] returned n = absurd (n refl)
-some_returned (x ∷ xs) returned n = refl
-
-pub returned_some : (n : ℕ) (bytes : List ℕ) (returned : Bool) → n ≢ 0 → n ≤ length bytes → false ≡ returned_behind (take n bytes) returned
-returned_some n bytes returned m l = some_returned (take n bytes) returned (some_taken n bytes m l)
 
 -- so many elements are open
 pub open_few : {A : Type 0} (f : A → List ℕ) (xs : List A) → length xs < 32 → length (reverse (map f xs)) < 32

@@ -1,27 +1,11 @@
 -- What the machine takes together, step by step.
-use Rattle.std.proofs.Common.{◌≡◌, ◌≢◌, ℕ, ◌+◌, ◌-◌, ◌<◌, ◌≤◌, List, [], ◌∷◌, ◌++◌, length, map, take, drop, get_or, true, nat_eq, IsTrue, ◌↔◌, take-append-drop, refl, ap, sym, ◌∙◌, subst, arith, inl, inr, append_assoc, append-nil}
-use Rattle.std.specs.Cmp.{unsigned_Decides}
-use Rattle.std.specs.Cmp.Lexicographic.{pointwise}
-use Rattle.std.proofs.lemmas.Slice.Eq.{slice_eq-Decides}
-use Rattle.tree_grammar.specs.Characters.{IsSpace, IsNameStart, IsNameChar, IsName, Each, local_part}
-use Rattle.tree_grammar.specs.Tags.{IsQuote, IsAmong}
-use Rattle.tree_grammar.specs.Content.{brackets}
-use Rattle.tree_grammar.specs.Elements.{Attribute}
-use Rattle.doc_tree.specs.Marks.{Mark, Char, Finish}
-use Rattle.doc_tree.specs.Rests.{Terms, TagFirst, Between, IsNameRest}
-use Rattle.doc_tree.specs.Completions.{State, BehindKey, RestsAt, Good, GoodTag, InElement, InBody, IsPrintable, FollowsByte, ReachesState}
-use Rattle.doc_tree.specs.Walks.{Walks, IsQuoted, IsPlainText, IsPlainValue}
+use Rattle.doc_tree.proofs.Words.{Attribute, BehindKey, Between, Char, Each, Finish, FollowsByte, Good, GoodTag, InBody, InElement, IsAmong, IsName, IsNameChar, IsNameRest, IsPlainText, IsPlainValue, IsPrintable, IsQuote, IsQuoted, IsTrue, List, Mark, ReachesState, RestsAt, State, TagFirst, Terms, Walks, [], ap, append-nil, append_assoc, arith, drop, get_or, inl, inr, length, local_part, map, nat_eq, pointwise, refl, slice_eq-Decides, subst, sym, take, take-append-drop, true, unsigned_Decides, ℕ, ◌++◌, ◌+◌, ◌-◌, ◌<◌, ◌↔◌, ◌∙◌, ◌∷◌, ◌≡◌, ◌≢◌}
 use Rattle.doc_tree.specs.declared.names.Part.TheVariants as parts
 use Rattle.doc_tree.specs.declared.machine.Goal.TheVariants as goals
 use Rattle.doc_tree.specs.declared.machine.Place.TheVariants as places
-use Rattle.doc_tree.proofs.ByteGrammar.Contents.{content_less}
-use Rattle.doc_tree.proofs.ByteGrammar.Tags.{tag_plain}
-use Rattle.doc_tree.proofs.MachineSteps.Moves.{moves, follows_from}
-use Rattle.doc_tree.proofs.MachineSteps.Steps.{quote_goes, at_place, content_said, content_tag_any, tag_begun, end_moves}
-use Rattle.doc_tree.proofs.MachineSteps.TagSteps.{key_begins, key_more, key_named, key_equals, tag_more, tag_named, end_over, value_said}
+use Rattle.doc_tree.proofs.ByteGrammar.{char_range, content_less, first_printable, no_brackets, not_space, part_high, quote_range, start_range, tag_plain}
+use Rattle.doc_tree.proofs.MachineSteps.{at_place, content_said, content_tag_any, end_moves, end_over, follows_from, key_begins, key_equals, key_more, key_named, moves, quote_goes, reach_place, tag_begun, tag_more, tag_named, value_said, word_goes, word_reaches}
 use Rattle.doc_tree.proofs.Walking.Pieces.{take_cons, quoted_taken}
-use Rattle.doc_tree.proofs.MachineSteps.WholeParts.{word_goes, word_reaches, reach_place}
-use Rattle.doc_tree.proofs.Viability.Printables.{first_printable}
 
 -- bytes before others
 pub walks_both : (s m t : State) (xs ys : List ℕ) → Walks s xs m → Walks m ys t → Walks s (xs ++ ys) t
@@ -37,14 +21,11 @@ from_place : (s : State) (b : ℕ) (t : State) (p : _) → s.place ≡ p → Fol
 from_place s b t p e f = at_place (λ z. FollowsByte s.marks (RestsAt z s) b t) s.place p e f
 
 -- a run of characters of content
-no_bracket : (count b : ℕ) → b ≢ 93 → 0 ≡ brackets count b
-no_bracket count b n = grind arith
-
 abbrev said : State → List ℕ → State
 said s run = record s { count = 0; marks = s.marks ++ map Char run }
 
 one_said : (s : State) (b : ℕ) → s.place ≡ places.Content → InElement s.names s.kept → IsPlainText b → FollowsByte s.marks (RestsAt s.place s) b (said s (b ∷ []))
-one_said s b p g (l, h, less, ampersand, bracket, greater) = from_place s b (said s (b ∷ [])) places.Content p (content_said s b 0 (s.marks ++ Char b ∷ []) s.kept refl (no_bracket s.count b bracket) g p less ampersand (λ _. greater))
+one_said s b p g (l, h, less, ampersand, bracket, greater) = from_place s b (said s (b ∷ [])) places.Content p (content_said s b 0 (s.marks ++ Char b ∷ []) s.kept refl (sym (no_brackets s.count b bracket)) g p less ampersand (λ _. greater))
 
 all_said : (s : State) (b : ℕ) (run : List ℕ) → s.place ≡ places.Content → InElement s.names s.kept → Each IsPlainText (b ∷ run) → Walks s (b ∷ run) (said s (b ∷ run))
 all_said s b [] p g i = (said s (b ∷ []), (i.0.0, i.0.1), one_said s b p g i.0, refl)
@@ -58,17 +39,11 @@ text_walks s (b ∷ run) kept marks p g i n e f =
     subst (λ z. Walks s (b ∷ run) (record s { count = 0; kept = z; marks = marks })) (sym e) (subst (λ z. Walks s (b ∷ run) (record s { count = 0; marks = z })) (sym f) (all_said s b run p g i))
 
 -- a run of characters of a value
-no_space : (b : ℕ) → 32 < b → IsSpace b → ⊥
-no_space b l (inl e) = omega arith
-no_space b l (inr (inl e)) = omega arith
-no_space b l (inr (inr (inl e))) = omega arith
-no_space b l (inr (inr (inr e))) = omega arith
-
 pub value_walks : (s : State) (run v : List ℕ) → s.place ≡ places.Value → Good places.Value s → Each (IsPlainValue s.quote) run → v ≡ s.value ++ run → Walks s run (record s { value = v })
 value_walks s [] v p g i e = ap {A = List ℕ} {B = State} (λ z. record s { value = z }) (e ∙ append-nil s.value)
 value_walks s (b ∷ run) v p g ((l, h, quote, less, ampersand), more) e =
     let mid : State = record s { value = s.value ++ b ∷ [] } in
-    (mid, (omega arith, h), from_place s b mid places.Value p (value_said s b (s.value ++ b ∷ []) refl p g quote less ampersand (no_space b l)), value_walks mid run v p g more (e ∙ sym (append_assoc s.value (b ∷ []) run)))
+    (mid, (omega arith, h), from_place s b mid places.Value p (value_said s b (s.value ++ b ∷ []) refl p g quote less ampersand (not_space b (omega arith))), value_walks mid run v p g more (e ∙ sym (append_assoc s.value (b ∷ []) run)))
 
 -- `<` of a tag
 abbrev less : State → State
@@ -81,23 +56,11 @@ tag_less s p g = from_place s 60 (less s) places.Content p (moves s.marks (Rests
 abbrev named : State → List ℕ → State
 named s name = record s { place = places.TagName; name = name; keys = []; part = parts.First }
 
-start_range : (b : ℕ) → IsNameStart b → (64 < b) × (b < 123)
-start_range b (inl (inl (l, h))) = (omega arith, omega arith)
-start_range b (inl (inr (l, h))) = (omega arith, omega arith)
-start_range b (inr e) = (omega arith, omega arith)
-
-char_range : (b : ℕ) → IsNameChar b → (32 ≤ b) × (b < 128) × (b ≢ 58)
-char_range b (inl i) = let (l, h) = start_range b i in (omega arith, omega arith, λ e. omega arith)
-char_range b (inr (inl (l, h))) = (omega arith, omega arith, λ e. omega arith)
-char_range b (inr (inr (inl e))) = (omega arith, omega arith, λ f. omega arith)
-char_range b (inr (inr (inr e))) = (omega arith, omega arith, λ f. omega arith)
-
 name_goes : (b : ℕ) (run : List ℕ) → IsNameChar b → b ≢ 58 → IsNameRest parts.First (b ∷ run) ↔ IsNameRest parts.First run
 name_goes b run i n = ((λ h. elim h [ inl p ↦ p.1 | inr p ↦ absurd (n p.0) ]), (λ h. inl (i, h)))
 
 name_stops : (run : List ℕ) → IsNameRest parts.First (62 ∷ run) → ⊥
-name_stops run (inl p) = let (l, h, n) = char_range 62 p.0 in elim p.0 [ inl i ↦ (let (a, c) = start_range 62 i in absurd (omega arith)) | inr (inl (a, c)) ↦ absurd (omega arith) | inr (inr (inl e)) ↦ absurd (omega arith) | inr (inr (inr e)) ↦ absurd (omega arith) ]
-name_stops run (inr p) = let e = p.0 in absurd (omega arith)
+name_stops run h = let k = part_high parts.First 62 run h in grind arith
 
 chars_walk : (s : State) (name chars : List ℕ) → Good places.TagName (named s name) → Each IsNameChar chars → Walks (named s name) chars (named s (name ++ chars))
 chars_walk s name [] g i = ap (named s) (append-nil name)
@@ -105,7 +68,7 @@ chars_walk s name (b ∷ chars) g (i, more) =
     let mid : State = named s (name ++ b ∷ []) in
     let r = char_range b i in
     let f = tag_more (named s name) b (name ++ b ∷ []) parts.First refl refl g (λ run. name_goes b run i r.2) in
-    (mid, (r.0, r.1), f, subst (Walks mid chars) (ap (named s) (append_assoc name (b ∷ []) chars)) (chars_walk s (name ++ b ∷ []) chars f.good more))
+    (mid, (omega arith, omega arith), f, subst (Walks mid chars) (ap (named s) (append_assoc name (b ∷ []) chars)) (chars_walk s (name ++ b ∷ []) chars f.good more))
 
 name_walks : (s : State) (name : List ℕ) → s.place ≡ places.Content → InElement s.names s.kept → IsName name → length s.names < 32 → Walks s (60 ∷ name) (named s name)
 name_walks s [] p g i l = absurd i
@@ -131,7 +94,7 @@ start_good s m name p g q w = let k : Good places.TagName m = subst (λ z. Good 
 over_name : (m : State) (u : Terms) (x : List ℕ) (es : List Mark) → m.part ≡ parts.First → RestsAt places.TagName m u (62 ∷ x) es ↔ InBody m u (62 ∷ x) es
 over_name m u x es e =
     let a = tag_named u m 62 x es (λ c. let d = sym e ∙ c in absurd (cc)) (λ run h. name_stops run (subst (λ z. IsNameRest z (62 ∷ run)) e h)) in
-    let c = tag_plain u m 62 x es (no_space 62 (omega arith)) in
+    let c = tag_plain u m 62 x es (not_space 62 (omega arith)) in
     (λ h. c.0 (a.0 h), λ h. a.1 (c.1 h))
 
 pub opened_walks : (s : State) (name new : List ℕ) (keys : List (List ℕ)) (t : State) → Walks s (60 ∷ name) (given s new keys) → FollowsByte s.marks (InBody (given s new keys)) 62 t → Walks s (60 ∷ (name ++ 62 ∷ [])) t
@@ -180,7 +143,7 @@ keys_walk s key [] g i = ap (keyed s) (append-nil key)
 keys_walk s key (b ∷ chars) g (i, more) =
     let mid : State = keyed s (key ++ b ∷ []) in
     let r = char_range b i in
-    (mid, (r.0, r.1), key_more (keyed s key) b (key ++ b ∷ []) parts.First refl refl g (λ run. name_goes b run i r.2), subst (Walks mid chars) (ap (keyed s) (append_assoc key (b ∷ []) chars)) (keys_walk s (key ++ b ∷ []) chars g more))
+    (mid, (omega arith, omega arith), key_more (keyed s key) b (key ++ b ∷ []) parts.First refl refl g (λ run. name_goes b run i r.2), subst (Walks mid chars) (ap (keyed s) (append_assoc key (b ∷ []) chars)) (keys_walk s (key ++ b ∷ []) chars g more))
 
 abbrev equal : State → State
 equal m = record m { place = places.KeyQuote }
@@ -188,25 +151,20 @@ equal m = record m { place = places.KeyQuote }
 abbrev valued : State → List ℕ → ℕ → State
 valued s key quote = record s { key = key; part = parts.First; quote = quote; value = []; place = places.Value }
 
-quote_range : (q : ℕ) → IsQuote q → (32 ≤ q) × (q < 128)
-quote_range q (inl e) = (omega arith, omega arith)
-quote_range q (inr e) = (omega arith, omega arith)
-
 equals_stops : (run : List ℕ) → IsNameRest parts.First (61 ∷ run) → ⊥
-equals_stops run (inl p) = elim p.0 [ inl i ↦ (let (a, c) = start_range 61 i in absurd (omega arith)) | inr (inl (a, c)) ↦ absurd (omega arith) | inr (inr (inl e)) ↦ absurd (omega arith) | inr (inr (inr e)) ↦ absurd (omega arith) ]
-equals_stops run (inr p) = let e = p.0 in absurd (omega arith)
+equals_stops run h = let k = part_high parts.First 61 run h in grind arith
 
 quoted_walks : (s : State) (key : List ℕ) (quote : ℕ) → GoodTag s → (IsAmong key s.keys → ⊥) → IsQuote quote → Walks (keyed s key) (61 ∷ quote ∷ []) (valued s key quote)
 quoted_walks s key quote g n i =
     let m : State = keyed s key in
     let e = follows_from m.marks (RestsAt places.Key m) (BehindKey m) 61 (equal m) (λ u d x es. key_named u m 61 x es (λ c. absurd (cc)) equals_stops) (key_equals m 61 refl g n) in
-    (equal m, (omega arith, omega arith), e, (valued s key quote, quote_range quote i, quote_goes (equal m) places.Value quote [] (inr (refl, refl, n, g)) i refl, refl))
+    (equal m, (omega arith, omega arith), e, (valued s key quote, (let q = quote_range quote i in (omega arith, omega arith)), quote_goes (equal m) places.Value quote [] (inr (refl, refl, n, g)) i refl, refl))
 
 key_walks : (s : State) (name : List ℕ) (quote : ℕ) → s.place ≡ places.TagSpace → GoodTag s → IsName name → (IsAmong name s.keys → ⊥) → IsQuote quote → Walks s (name ++ (61 ∷ quote ∷ [])) (valued s name quote)
 key_walks s [] quote p g i n q = absurd i
 key_walks s (b ∷ chars) quote p g (i, more) n q =
     let r = start_range b i in
-    let f = from_place s b (keyed s (b ∷ [])) places.TagSpace p (key_begins s b (b ∷ []) refl g (no_space b (omega arith)) i) in
+    let f = from_place s b (keyed s (b ∷ [])) places.TagSpace p (key_begins s b (b ∷ []) refl g (not_space b (omega arith)) i) in
     (keyed s (b ∷ []), (omega arith, omega arith), f, walks_both (keyed s (b ∷ [])) (keyed s (b ∷ chars)) (valued s (b ∷ chars) quote) chars (61 ∷ quote ∷ []) (keys_walk s (b ∷ []) chars g more) (quoted_walks s (b ∷ chars) quote g n q))
 
 -- the same where the state's parts are known by equations

@@ -1,13 +1,5 @@
 -- A reader whose machine took bytes together took them one by one.
-use Rattle.std.proofs.Common.{◌≡◌, ℕ, ◌+◌, ◌-◌, ◌<◌, ◌≤◌, Bool, false, List, [], ◌∷◌, ◌++◌, length, take, get_or, refl, ap, sym, ◌∙◌, subst, arith, append_assoc, append-nil}
-use Rattle.std.proofs.lemmas.List.{take_more, take-take, length-take-le}
-use Rattle.doc_tree.specs.Completions.{State, Good}
-use Rattle.doc_tree.specs.Feeding.{Feeding, IsTaken, TakesBytes, RefusesByte, RefusesBytes, CanGoOn, behind}
-use Rattle.doc_tree.specs.Reading.{Refused}
-use Rattle.doc_tree.specs.Utf8.{CharacterFollows}
-use Rattle.doc_tree.specs.Walks.{IsAlone, Walks, returned_behind}
-use Rattle.doc_tree.specs.declared.fault.TreeFault.{TreeFault}
-use Rattle.doc_tree.specs.declared.characters.Awaited.{Awaited}
+use Rattle.doc_tree.proofs.Words.{Awaited, Bool, CanGoOn, CharacterFollows, Feeding, Good, IsAlone, IsTaken, List, Refused, RefusesByte, RefusesBytes, State, TakesBytes, TreeFault, Walks, [], ap, append-nil, append_assoc, arith, behind, false, get_or, length, length-take-le, refl, returned_behind, subst, sym, take, take-take, take_more, ℕ, ◌++◌, ◌+◌, ◌-◌, ◌<◌, ◌∙◌, ◌∷◌, ◌≡◌, ◌≤◌}
 use Rattle.doc_tree.specs.declared.characters.Awaited.TheVariants as awaits
 use Rattle.doc_tree.proofs.Behind.{passes_after}
 use Rattle.doc_tree.proofs.Utf8.{first_one, low_char}
@@ -53,9 +45,6 @@ together_taken f v t returned n m xs e a l k room w r =
     let r2 : returned_behind (take n xs) f.returned ≡ returned = sym (r ∙ ap (λ z. returned_behind z f.returned) same) in
     let all = walks_taken (take n xs) f t a (omega arith) w2 in
     subst (λ z. TakesBytes z (take n xs) (walked f t returned (f.count + n))) e (subst (λ z. TakesBytes f (take n xs) (walked f t z (f.count + n))) r2 (subst (λ z. TakesBytes f (take n xs) (walked f t (returned_behind (take n xs) f.returned) (f.count + z))) size all))
-
-pub takes_none : (f : Feeding) (xs : List ℕ) → TakesBytes f (take 0 xs) f
-takes_none f xs told bytes k = subst (IsTaken (behind told f)) (sym (append-nil bytes)) k
 
 -- one byte behind none
 none_first : (old mid : Feeding) (n : ℕ) (xs : List ℕ) → n ≡ 0 → TakesBytes old (take n xs) mid → TakesBytes old [] mid

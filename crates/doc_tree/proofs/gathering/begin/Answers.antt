@@ -1,9 +1,5 @@
-use Rattle.std.proofs.Common.{◌≡◌, ◌+◌, ◌<◌, [], ◌∷◌, ◌++◌, take, length, ap, sym, ◌∙◌, arith}
-use Rattle.std.proofs.lemmas.List.{take_more, take_all}
-use Rattle.std.proofs.lemmas.Option.{get_or_from_slice_get}
-use Rattle.tree_grammar.specs.Elements.{Attribute, Open}
-use Rattle.element_tree.specs.Building.{Building, said}
-use Rattle.doc_tree.proofs.MachineSteps.Outcomes.{OnOk-map}
+use Rattle.doc_tree.proofs.Words.{Attribute, Building, Open, [], ap, arith, get_or_from_slice_get, length, said, sym, take, take_all, take_more, ◌++◌, ◌+◌, ◌<◌, ◌∙◌, ◌∷◌, ◌≡◌}
+use Rattle.doc_tree.proofs.MachineSteps.{OnOk-map}
 use Rattle.doc_tree.proofs.gathering.begin.Goals as goal
 
 pub loop-k-preserved : goal.loop-k-preserved

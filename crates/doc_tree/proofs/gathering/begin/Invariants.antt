@@ -1,5 +1,4 @@
-use Rattle.std.proofs.Common.{◌≡◌, take}
-use Rattle.element_tree.specs.Building.{said}
+use Rattle.doc_tree.proofs.Words.{said, take, ◌≡◌}
 use Rattle.doc_tree.proofs.gathering.begin.Given as goal
 
 abbrev pub invariant-loop-k : goal.invariant-loop-k

@@ -1,5 +1,4 @@
-use Rattle.std.proofs.Common.{[], ◌∙◌}
-use Rattle.doc_tree.specs.Reading.{ReadsOnly}
+use Rattle.doc_tree.proofs.Words.{ReadsOnly, [], ◌∙◌}
 use Rattle.doc_tree.proofs.TextTrees.Trees.{feed_ends, at_ok}
 use Rattle.doc_tree.proofs.reader.read.Goals as goal
 

@@ -1,5 +1,4 @@
-use Rattle.std.proofs.Common.{sym, subst, ◌∙◌}
-use Rattle.doc_tree.specs.Reading.{ReadingFails}
+use Rattle.doc_tree.proofs.Words.{ReadingFails, subst, sym, ◌∙◌}
 use Rattle.doc_tree.specs.declared.fault.TreeFault.TheVariants as faults
 use Rattle.doc_tree.proofs.TextTrees.Verdicts.{fed_taken, fed_refused, refused_ends}
 use Rattle.doc_tree.proofs.TextTrees.Hearing.{told_whole}

@@ -1,6 +1,4 @@
-use Rattle.std.proofs.Common.{map, subst}
-use Rattle.doc_tree.specs.Marks.{Char}
-use Rattle.doc_tree.specs.Gathered.{Gathers}
+use Rattle.doc_tree.proofs.Words.{Char, Gathers, map, subst}
 use Rattle.doc_tree.proofs.TextTrees.Tellings.{text_told, text_ready, unless_wanted}
 use Rattle.doc_tree.proofs.gathering.GatheringVisitor.chars.Goals as goal
 

@@ -1,6 +1,4 @@
-use Rattle.std.proofs.Common.{◌∷◌, [], subst}
-use Rattle.doc_tree.specs.Marks.{Finish}
-use Rattle.doc_tree.specs.Gathered.{Gathers}
+use Rattle.doc_tree.proofs.Words.{Finish, Gathers, [], subst, ◌∷◌}
 use Rattle.doc_tree.proofs.TextTrees.Tellings.{close_told, close_ready, unless_wanted}
 use Rattle.doc_tree.proofs.gathering.GatheringVisitor.close.Goals as goal
 

@@ -1,6 +1,4 @@
-use Rattle.std.proofs.Common.{◌∷◌, [], subst}
-use Rattle.doc_tree.specs.Marks.{Start}
-use Rattle.doc_tree.specs.Gathered.{Gathers}
+use Rattle.doc_tree.proofs.Words.{Gathers, Start, [], subst, ◌∷◌}
 use Rattle.doc_tree.proofs.TextTrees.Tellings.{tag_told, open_ready, unless_wanted}
 use Rattle.doc_tree.proofs.gathering.GatheringVisitor.enter.Goals as goal
 

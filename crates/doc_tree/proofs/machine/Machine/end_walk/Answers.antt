@@ -1,8 +1,5 @@
-use Rattle.std.proofs.Common.{refl, sym, subst, ap, ◌∙◌, ◌++◌, ◌∷◌, arith}
-use Rattle.tree_grammar.specs.Characters.{local_part}
-use Rattle.doc_tree.specs.Completions.{view}
-use Rattle.doc_tree.specs.Walks.{Walks}
-use Rattle.doc_tree.proofs.MachineSteps.Outcomes.{reverse_push}
+use Rattle.doc_tree.proofs.Words.{Walks, ap, arith, local_part, refl, subst, sym, view, ◌++◌, ◌∙◌, ◌∷◌}
+use Rattle.doc_tree.proofs.MachineSteps.{reverse_push}
 use Rattle.doc_tree.proofs.Walking.Pieces.{end_taken, end_same}
 use Rattle.doc_tree.proofs.Walking.Steps.{end_walks}
 use Rattle.doc_tree.proofs.machine.Machine.end_walk.Goals as goal

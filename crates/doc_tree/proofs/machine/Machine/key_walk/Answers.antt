@@ -1,6 +1,5 @@
-use Rattle.std.proofs.Common.{refl, arith, subst, IsTrue}
-use Rattle.doc_tree.specs.Completions.{view}
-use Rattle.doc_tree.proofs.MachineSteps.Outcomes.{not_true}
+use Rattle.doc_tree.proofs.Words.{IsTrue, arith, refl, subst, view}
+use Rattle.doc_tree.proofs.MachineSteps.{not_true}
 use Rattle.doc_tree.proofs.Walking.Steps.{attribute_walks}
 use Rattle.doc_tree.proofs.machine.Machine.key_walk.Goals as goal
 

@@ -1,6 +1,4 @@
-use Rattle.std.proofs.Common.{refl, sym, subst, take, arith}
-use Rattle.doc_tree.specs.Completions.{view}
-use Rattle.doc_tree.specs.Walks.{Walks}
+use Rattle.doc_tree.proofs.Words.{Walks, arith, refl, subst, sym, take, view}
 use Rattle.doc_tree.proofs.Walking.Pieces.{closed_taken, open_few}
 use Rattle.doc_tree.proofs.Walking.Steps.{start_walks, start_taken, start_good, opened_walks}
 use Rattle.doc_tree.proofs.machine.Machine.start_walk.Goals as goal

@@ -1,4 +1,4 @@
-use Rattle.doc_tree.specs.Completions.{view}
+use Rattle.doc_tree.proofs.Words.{view}
 use Rattle.doc_tree.proofs.Walking.Pieces.{some_taken}
 use Rattle.doc_tree.proofs.Walking.Steps.{text_walks}
 use Rattle.doc_tree.proofs.machine.Machine.text_walk.Goals as goal

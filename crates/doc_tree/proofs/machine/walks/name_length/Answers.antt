@@ -1,4 +1,4 @@
-use Rattle.std.proofs.Common.{refl}
+use Rattle.doc_tree.proofs.Words.{refl}
 use Rattle.doc_tree.proofs.Walking.Pieces.{name_taken}
 use Rattle.doc_tree.proofs.machine.walks.name_length.Goals as goal
 

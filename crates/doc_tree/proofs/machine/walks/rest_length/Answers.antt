@@ -1,5 +1,4 @@
-use Rattle.std.proofs.Common.{refl}
-use Rattle.tree_grammar.specs.Characters.{IsNameChar}
+use Rattle.doc_tree.proofs.Words.{IsNameChar, refl}
 use Rattle.doc_tree.proofs.Walking.Pieces.{each_taken}
 use Rattle.doc_tree.proofs.machine.walks.rest_length.Goals as goal
 

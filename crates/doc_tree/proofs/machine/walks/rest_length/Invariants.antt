@@ -1,5 +1,4 @@
-use Rattle.std.proofs.Common.{take}
-use Rattle.tree_grammar.specs.Characters.{Each, IsNameChar}
+use Rattle.doc_tree.proofs.Words.{Each, IsNameChar, take}
 use Rattle.doc_tree.proofs.machine.walks.rest_length.Given as goal
 
 abbrev pub invariant-loop-i : goal.invariant-loop-i

@@ -1,5 +1,4 @@
-use Rattle.std.proofs.Common.{refl}
-use Rattle.doc_tree.specs.Walks.{IsPlainText}
+use Rattle.doc_tree.proofs.Words.{IsPlainText, refl}
 use Rattle.doc_tree.proofs.Walking.Pieces.{each_taken}
 use Rattle.doc_tree.proofs.machine.walks.text_length.Goals as goal
 

@@ -1,5 +1,4 @@
-use Rattle.std.proofs.Common.{refl}
-use Rattle.doc_tree.specs.Walks.{IsPlainValue}
+use Rattle.doc_tree.proofs.Words.{IsPlainValue, refl}
 use Rattle.doc_tree.proofs.Walking.Pieces.{each_taken}
 use Rattle.doc_tree.proofs.machine.walks.value_length.Goals as goal
 

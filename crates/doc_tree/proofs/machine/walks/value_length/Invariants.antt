@@ -1,6 +1,4 @@
-use Rattle.std.proofs.Common.{take}
-use Rattle.tree_grammar.specs.Characters.{Each}
-use Rattle.doc_tree.specs.Walks.{IsPlainValue}
+use Rattle.doc_tree.proofs.Words.{Each, IsPlainValue, take}
 use Rattle.doc_tree.proofs.machine.walks.value_length.Given as goal
 
 abbrev pub invariant-loop-i : goal.invariant-loop-i

@@ -1,6 +1,4 @@
-use Rattle.std.proofs.Common.{subst, ℕ, List, ◌++◌}
-use Rattle.doc_tree.specs.Feeding.{WasFed}
-use Rattle.doc_tree.specs.Gathered.{whole}
+use Rattle.doc_tree.proofs.Words.{List, WasFed, subst, whole, ℕ, ◌++◌}
 use Rattle.doc_tree.proofs.TextTrees.Trees.{of_heard, to_heard, none}
 use Rattle.doc_tree.proofs.reader.Reader.feed.Goals as goal
 

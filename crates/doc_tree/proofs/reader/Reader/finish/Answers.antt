@@ -1,6 +1,4 @@
-use Rattle.std.proofs.Common.{subst, ℕ, List}
-use Rattle.doc_tree.specs.Reading.{ReadsDocument, ReadsOnly, ReadingFails}
-use Rattle.doc_tree.specs.Feeding.{WasFed}
+use Rattle.doc_tree.proofs.Words.{List, ReadingFails, ReadsDocument, ReadsOnly, WasFed, subst, ℕ}
 use Rattle.doc_tree.specs.declared.fault.TreeFault.TheVariants as faults
 use Rattle.doc_tree.proofs.TextTrees.Trees.{to_heard, none, finish_reads, finish_only, finish_none}
 use Rattle.doc_tree.proofs.reader.Reader.finish.Goals as goal

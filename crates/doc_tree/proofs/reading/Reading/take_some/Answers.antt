@@ -1,4 +1,4 @@
-use Rattle.std.proofs.Common.{arith}
+use Rattle.doc_tree.proofs.Words.{arith}
 use Rattle.doc_tree.proofs.Walking.Taking.{then_one, then_refused}
 use Rattle.doc_tree.proofs.reading.Reading.take_some.Goals as goal
 

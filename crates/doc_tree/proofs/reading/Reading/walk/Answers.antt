@@ -1,6 +1,4 @@
-use Rattle.std.proofs.Common.{◌+◌, arith}
-use Rattle.doc_tree.specs.Completions.{view}
-use Rattle.doc_tree.specs.Places.{feeding}
+use Rattle.doc_tree.proofs.Words.{arith, feeding, view, ◌+◌}
 use Rattle.doc_tree.proofs.Walking.Taking.{walks_can, together_taken}
 use Rattle.doc_tree.proofs.reading.Reading.walk.Goals as goal
 

@@ -1,6 +1,6 @@
 use Rattle.osil_grammar.proofs.Words.{ℕ, List, ◌++◌, subst, State, start, WasFed}
 use Rattle.tag_tests.specs.Readers.{Decoding}
-use Rattle.osil_grammar.specs.declared.decoder.Refused.{Refused}
+use Rattle.osil_grammar.specs.declared.stop.Refused.{Refused}
 use Rattle.osil_grammar.proofs.decoder.Decoder.feed.Goals as goal
 
 pub returns-clause-fed : goal.returns-clause-fed

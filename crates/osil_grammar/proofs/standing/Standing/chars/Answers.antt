@@ -1,8 +1,9 @@
+use Rattle.osil_grammar.proofs.Words.{◌∙◌, sym}
 use Rattle.osil_grammar.proofs.CharMarks.{chars_kept, chars_passed}
 use Rattle.osil_grammar.proofs.standing.Standing.chars.Goals as goal
 
-pub returns-in-Coef : goal.returns-in-Coef
-returns-in-Coef c = chars_kept c.extend_from_slice.result _ c.args.self.now c.self.view_is c.in-Coef.is c.args.text.now c.extend_from_slice.new.self.items c.extend_from_slice.ensures.items
+pub returns-then-keeps_text : goal.returns-then-keeps_text
+returns-then-keeps_text c = chars_kept _ c.args.self.now c.self.view_is c.args.text.now c.extend_from_slice.result (sym c.keeps_text.ensures ∙ c.if-keeps_text.true) c.extend_from_slice.new.self.items c.extend_from_slice.ensures.items
 
-pub returns-in_default : goal.returns-in_default
-returns-in_default c = chars_passed _ c.args.self.now c.self.view_is c.in_default.not-Coef c.in_default.not-El c.args.text.now
+pub returns : goal.returns
+returns c = chars_passed _ c.args.self.now c.self.view_is c.args.text.now (sym c.keeps_text.ensures ∙ c.if-keeps_text.false)

@@ -1,22 +1,12 @@
 -- Where a document type shows, and an encoding that isn't read.
-use Rattle.std.proofs.Common.{◌≡◌, ℕ, ◌<◌, ◌≤◌, length, length-append, ◌⊎◌, inl, inr, Bool, true, false, cond, ◌==◌, List, [], ◌∷◌, ◌++◌, refl, ap, sym, ◌∙◌, subst, arith, append-nil}
-use Rattle.std.specs.Prelude.{codes}
-use Rattle.tree_grammar.specs.Characters.{normal_lines, begins_with_line_feed}
-use Rattle.tree_grammar.specs.Tags.{IsQuote, Equals, equals_text, no_attribute, Tag}
-use Rattle.tree_grammar.specs.Content.{closed, Misc, misc_over, misc_text}
-use Rattle.tree_grammar.specs.Declaration.{Version, version_text, no_encoding, encoded, Declaration, no_declaration, declared, declaration_text}
-use Rattle.tree_grammar.specs.Document.{mark_text}
-use Rattle.doc_tree.specs.Marks.{Mark, Start, Finish}
-use Rattle.doc_tree.specs.Rests.{Aim, any, special, IsReadEncoding, Terms, IsDeclarationRead, IsFieldValue, Before, After, BodyRest, Gap, FieldValue, Foreign, ForeignRest, Whole}
+use Rattle.doc_tree.proofs.ByteGrammar.{quote_range}
+use Rattle.doc_tree.proofs.Words.{After, Aim, Around, Before, Blocks, BodyRest, Bool, Completes, Continues, Declaration, Equals, FieldValue, Finish, Finishes, Foreign, ForeignRest, Gap, Good, IsDeclarationRead, IsDoctype, IsDoctypeAt, IsEncodingAt, IsFieldValue, IsOther, IsQuote, IsReadEncoding, List, Mark, Misc, RestsAt, Start, State, Tag, Terms, Version, Whole, [], any, ap, append-nil, arith, begins_with_line_feed, closed, codes, cond, declaration_text, declared, encoded, equals_text, false, inl, inr, length, length-append, mark_text, misc_over, misc_text, no_attribute, normal_lines, refl, special, subst, sym, true, unread, version_text, ℕ, ◌++◌, ◌<◌, ◌==◌, ◌∙◌, ◌∷◌, ◌≡◌, ◌≤◌, ◌⊎◌}
 use Rattle.doc_tree.specs.declared.declaration.Field.TheVariants as fields
 use Rattle.doc_tree.specs.declared.machine.Place.TheVariants as places
-use Rattle.doc_tree.specs.Completions.{State, RestsAt, Good, Around, Completes, IsOther, IsDoctype}
-use Rattle.doc_tree.specs.LineEnds.{unread, Finishes, Continues, Blocks}
-use Rattle.doc_tree.specs.Refusals.{IsDoctypeAt, IsEncodingAt}
 use Rattle.doc_tree.proofs.TextTrees.LineFeeds.{allowed, continues_end}
 use Rattle.doc_tree.proofs.Viability.Continuations.{Carries, behind_run, both_carry, mark_carries, declaration_carries, version_carries, equals_carries, misc_carries}
-use Rattle.doc_tree.proofs.MachineSteps.Specials.{plain_line, quote_high, doctype_stops}
-use Rattle.doc_tree.proofs.MachineSteps.FieldSteps.{value_back, value_valued}
+use Rattle.doc_tree.proofs.Viability.Specials.{plain_line, doctype_stops}
+use Rattle.doc_tree.proofs.MachineSteps.{value_back, value_valued}
 use Rattle.doc_tree.proofs.Viability.Endings.{gap_lasts, not_over}
 use Rattle.doc_tree.proofs.TextTrees.Wholes.{Held, Typed, Foreigned, Texts, held, typed, foreign, texts_of, held_of, whole_of, document_marks}
 
@@ -38,8 +28,7 @@ begins_so b (c ∷ cs) l = refl
 
 choose_carries : (p q : Bool) (c : ℕ) (x k : List ℕ) → cond p (cond q (x ++ k) (10 ∷ (x ++ k))) (c ∷ (x ++ k)) ≡ cond p (cond q x (10 ∷ x)) (c ∷ x) ++ k
 choose_carries true true c x k = refl
-choose_carries true false c x k = refl
-choose_carries false q c x k = refl
+choose_carries _ _ c x k = refl
 
 lines_so : (b : ℕ) (seen : List ℕ) → 13 < b → normal_lines (seen ++ (b ∷ [])) ≡ normal_lines seen ++ (b ∷ [])
 lines_so b [] l = plain_line false b [] l
@@ -56,9 +45,8 @@ abbrev pub named : Terms
 named = record { depth = 32; aim = any }
 
 read_free : (aim : Aim) → ((name : List ℕ) → IsReadEncoding aim name) → (d : Declaration) → IsDeclarationRead aim d
-read_free aim f no_declaration = tt
-read_free aim f (declared v no_encoding s space sp) = tt
 read_free aim f (declared v (encoded b p e quote i name n) s space sp) = f name
+read_free aim f _ = tt
 
 -- before a document type
 abbrev type_text : Bool → Declaration → Misc → List ℕ → List ℕ
@@ -85,7 +73,7 @@ IsShownAt seen b = IsDoctypeAt seen b ⊎ IsEncodingAt seen b
 
 shown_high : (seen : List ℕ) (b : ℕ) → IsShownAt seen b → 13 < b
 shown_high seen b (inl h) = let e = h.letter in omega arith
-shown_high seen b (inr h) = let l = quote_high b h.quoted in omega arith
+shown_high seen b (inr h) = let l = (quote_range b h.quoted).0 in omega arith
 
 -- such a text is complete
 shown_text : (seen : List ℕ) (b : ℕ) → IsShownAt seen b → Whole specials (normal_lines seen ++ (b ∷ [])) []
@@ -199,7 +187,7 @@ pub encoding_at : (s : State) (returned : Bool) (seen : List ℕ) (b : ℕ) → 
 encoding_at s returned seen b o c =
     let g : Good places.FieldValue s = subst (λ z. Good z s) o.0 c.good in
     let q : IsQuote s.quote = g.1 in
-    let m = quote_high s.quote q in
+    let m = (quote_range s.quote q).0 in
     let e : b ≡ s.quote = o.2 in
     let l : 13 < b = omega arith in
     let i : IsFieldValue special s.field s.value = subst (λ z. IsFieldValue special z s.value) (sym o.1) (o.3, tt) in
@@ -245,7 +233,7 @@ pub encoding_goes : (s : State) (returned : Bool) (seen : List ℕ) (b : ℕ) �
 encoding_goes s returned seen b o c =
     let g : Good places.FieldValue s = subst (λ z. Good z s) o.0 c.good in
     let q : IsQuote s.quote = g.1 in
-    let m = quote_high s.quote q in
+    let m = (quote_range s.quote q).0 in
     let e : b ≡ s.quote = o.2 in
     let l : 13 < b = omega arith in
     let es : List Mark = Start (97 ∷ []) [] ∷ Finish (97 ∷ []) ∷ [] in

@@ -1,27 +1,15 @@
 -- Elements that are too deep, and encodings that aren't read.
-use Rattle.std.proofs.Common.{◌≡◌, ℕ, ◌<◌, ◌≤◌, Bool, true, false, inl, inr, List, ◌∷◌, refl, subst, arith}
-use Rattle.tree_grammar.specs.Characters.{IsNameStart, normal_lines}
-use Rattle.tree_grammar.specs.Tags.{IsQuote}
-use Rattle.doc_tree.specs.Marks.{Mark}
-use Rattle.doc_tree.specs.Rests.{Terms, readable, IsSpecial, Gap, TagFirst, FieldValue, IsFieldValue}
+use Rattle.doc_tree.proofs.Words.{Bool, FieldValue, Finishes, Gap, Good, Insides, IsDeep, IsDoctype, IsFieldValue, IsOther, IsSpecial, List, Mark, RestsAt, State, TagFirst, Terms, arith, bounds, false, normal_lines, readable, subst, true, unread, ℕ, ◌<◌, ◌∷◌, ◌≡◌, ◌≤◌}
 use Rattle.doc_tree.specs.declared.declaration.Field.TheVariants as fields
 use Rattle.doc_tree.specs.declared.machine.Place.TheVariants as places
-use Rattle.doc_tree.specs.Completions.{State, RestsAt, Good, Insides, IsDeep, IsOther, IsDoctype, IsPlainByte}
-use Rattle.doc_tree.specs.LineEnds.{unread, Finishes, bounds}
-use Rattle.doc_tree.proofs.ByteGrammar.Bytes.{start_high}
-use Rattle.doc_tree.proofs.ByteGrammar.Contents.{content_tag}
-use Rattle.doc_tree.proofs.MachineSteps.FieldSteps.{value_stuck}
+use Rattle.doc_tree.proofs.ByteGrammar.{content_tag, quote_range, start_range}
+use Rattle.doc_tree.proofs.MachineSteps.{bang_no, value_stuck}
 use Rattle.doc_tree.proofs.TextTrees.LineFeeds.{BlocksHere}
-use Rattle.doc_tree.proofs.MachineSteps.AsideSteps.{bang_no}
 
 -- a byte that is no line end
 pub plain_line : (r : Bool) (b : ℕ) (rest : List ℕ) → 13 < b → normal_lines (unread r (b ∷ rest)) ≡ b ∷ normal_lines rest
 plain_line true b rest l = grind arith
 plain_line false b rest l = grind arith
-
-pub quote_high : (b : ℕ) → IsQuote b → 33 ≤ b
-quote_high b (inl e) = omega arith
-quote_high b (inr e) = omega arith
 
 -- from what the machine refuses to what the reader does
 stops : (s : State) (r : Bool) (b : ℕ) (t : Terms) → 13 < b → ((x : List ℕ) (es : List Mark) → RestsAt s.place s t (b ∷ x) es → ⊥) → (rest : List ℕ) (says : List Mark) → Finishes s r t (b ∷ rest) says → ⊥
@@ -32,18 +20,18 @@ blocks s r b l f = stops s r b bounds l f
 
 pub deep_stuck : (t : Terms) → t.depth ≤ 32 → (s : State) (b : ℕ) → IsDeep s b → (x : List ℕ) (es : List Mark) → RestsAt s.place s t (b ∷ x) es → ⊥
 deep_stuck u m s b d x es h =
-    let l = start_high b d.2 in
+    let l = (start_range b d.2).0 in
     let k : Insides 0 s.names u (60 ∷ b ∷ x) es = subst (λ z. RestsAt z s u (b ∷ x) es) d.0 h in
     let t : TagFirst s.names u (b ∷ x) es = content_tag u s.names b x es (λ e. omega arith) (λ e. omega arith) (λ e. omega arith) k in
     let r = t.room in let n = d.1 in omega arith
 
 pub deep_blocks : (s : State) (r : Bool) (b : ℕ) → IsDeep s b → BlocksHere s r b
-deep_blocks s r b d = let l = start_high b d.2 in blocks s r b (omega arith) (λ x es h. deep_stuck bounds (omega arith) s b d x es h)
+deep_blocks s r b d = let l = (start_range b d.2).0 in blocks s r b (omega arith) (λ x es h. deep_stuck bounds (omega arith) s b d x es h)
 
 pub other_blocks : (s : State) (r : Bool) (b : ℕ) → IsOther s b → Good s.place s → BlocksHere s r b
 other_blocks s r b o g =
     let k : Good places.FieldValue s = subst (λ z. Good z s) o.0 g in
-    let q = quote_high s.quote k.1 in
+    let q = (quote_range s.quote k.1).0 in
     let e : b ≡ s.quote = o.2 in
     blocks s r b (omega arith) (λ x es h.
     let f : FieldValue bounds s.field (Gap s.field bounds) s.value s.quote (s.quote ∷ x) es = subst (λ z. RestsAt places.FieldValue s bounds (z ∷ x) es) e (subst (λ z. RestsAt z s bounds (b ∷ x) es) o.0 h) in
@@ -58,14 +46,3 @@ doctype_blocked s r b d t n = let e : b ≡ 68 = d.2 in stops s r b t (omega ari
 
 pub doctype_blocks : (s : State) (r : Bool) (b : ℕ) → IsDoctype s b → BlocksHere s r b
 doctype_blocks s r b d = doctype_blocked s r b d bounds (λ i. i)
-
--- a line feed is no such byte
-low_start : (b : ℕ) → b ≡ 10 → IsNameStart b → ⊥
-low_start b e i = let l = start_high b i in omega arith
-
-pub line_plain : (s : State) → Good s.place s → IsPlainByte s 10
-line_plain s g = (
-  λ d. low_start 10 refl d.2,
-  λ o. let k : Good places.FieldValue s = subst (λ z. Good z s) o.0 g in let q = quote_high s.quote k.1 in let e : 10 ≡ s.quote = o.2 in omega arith,
-  λ d. let e : 10 ≡ 68 = d.2 in omega arith,
-)

@@ -1,0 +1,19 @@
+-- What a move that is made behind the put of its effect answers, and does to the store.
+use Rattle.std.specs.Prelude.{◌≡◌, ℕ, Bool, List, Option, Some, None, Result, Ok, Err}
+use Rattle.effects.specs.Records.{Deed}
+use Rattle.effects.specs.Stores.{PutsIf}
+use Rattle.job_table.specs.declared.calls.IssueFault.{IssueFault}
+use Rattle.job_table.specs.declared.calls.Reply.{Reply}
+use Rattle.job_table.specs.declared.job.Job.{Job}
+use Rattle.job_table.specs.Jobs.{job}
+
+-- the job with a new number and these texts, where there is one
+abbrev pub with_texts : List ℕ → List ℕ → Result ℕ IssueFault → Result Job IssueFault
+with_texts osil osol (Ok n) = Ok (job n osil osol)
+with_texts osil osol (Err fault) = Err fault
+
+module _ {S : Type 0} (keeps : S → List Deed → Type 0) (too_long : S → List Deed → Deed → Bool) (broken : S → Bool) (faults : S → ℕ) where
+  -- where the move was made, its effect was stored, if it has one; without a reply there was no memory, and nothing was put
+  abbrev pub KeptBy : Option Deed → S → Option Reply → S → Type 0
+  KeptBy due old (Some reply) new = PutsIf keeps too_long broken faults due old None new
+  KeptBy due old None new = new ≡ old
