@@ -20,7 +20,7 @@ use Rattle.osil_grammar.specs.declared.stop.Refused.{Refused}
 use Rattle.osil_grammar.specs.Standing.{State, start}
 use Rattle.osil_grammar.specs.Marked.{osil}
 use Rattle.osil_grammar.specs.Stepping.{told_of}
-use Rattle.osil_grammar.specs.Sound.{IsSound}
+use Rattle.osil_grammar.specs.Sound.{IsSound, HasGoals}
 
 -- how many items goals have: each is one, and has its costs
 abbrev pub goals_held : List Goal → ℕ
@@ -53,7 +53,7 @@ HoldsApart s = AreHeldApart (is_in_matrix s.place) s.part s.entries s.starts s.i
 
 -- the marks so far leave a state that makes an instance as far as it goes
 abbrev pub IsFit : State → Type 0
-IsFit s = IsSound s × HoldsApart s
+IsFit s = IsSound s × HoldsApart s × HasGoals s
 
 -- the first of these marks that isn't taken is refused so, as the code tells it
 abbrev pub Refuse : State → List Mark → Refused → Type 0

@@ -20,11 +20,6 @@ pub record AreItems (vars : List Var) (rows : List Row) : Type 0 where
   pub var_ends : All (λ v. AreEnds v.lb v.ub) vars
   pub row_ends : All (λ r. AreEnds r.lb r.ub) rows
 
--- goals, each with a cost for each of so many variables
-pub record AreGoals (n : ℕ) (gs : List Goal) : Type 0 where
-  pub few : length gs ≤ most Obj
-  pub one_each : All (λ g. length g.costs ≡ n) gs
-
 -- entries in order, all in a matrix of so many rows and columns, and none 0
 pub record AreWithin (rows cols : ℕ) (es : List Entry) : Type 0 where
   pub few : length es ≤ 100000
@@ -35,19 +30,31 @@ pub record AreWithin (rows cols : ℕ) (es : List Entry) : Type 0 where
 abbrev pub AreBelow : State → List ℕ → Type 0
 AreBelow s indices = All (λ n. n < cond s.by_columns (length s.rows) (length s.vars)) indices
 
--- no goal is said before the objectives, so that no variable comes behind one
-abbrev pub AreGoalsLate : State → Type 0
-AreGoalsLate s = s.part < 2 → s.goals ≡ []
-
--- what is said so far makes an instance as far as it goes: the items, the lists of the matrix, its entries, and the goals
+-- what is said so far makes an instance as far as it goes: the items, the lists of the matrix, and its entries
 abbrev pub IsSoundSoFar : State → Type 0
-IsSoundSoFar s = AreItems s.vars s.rows × (length s.starts ≤ 1001) × (length s.indices ≤ 100000) × AreBelow s s.indices × (length s.values ≤ 100000) × AreWithin (length s.rows) (length s.vars) s.entries × AreGoals (length s.vars) s.goals × AreGoalsLate s
+IsSoundSoFar s = AreItems s.vars s.rows × (length s.starts ≤ 1001) × (length s.indices ≤ 100000) × AreBelow s s.indices × (length s.values ≤ 100000) × AreWithin (length s.rows) (length s.vars) s.entries
 
 -- the variable of a `coef` that is open is one of those; an `el` that is open stands for some numbers, for which its list has room
 abbrev pub IsSoundAt : Place → State → Type 0
 IsSoundAt Coef s = s.variable < length s.vars
 IsSoundAt (El l) s = (0 < s.times) × (list_length s l + s.times ≤ most (El l))
 IsSoundAt p s = Unit {0}
+
+-- a sound state in such an element
+abbrev pub IsSoundIn : Place → State → Type 0
+IsSoundIn p s = IsSoundSoFar s × IsSoundAt p s
+
+abbrev pub IsSound : State → Type 0
+IsSound s = IsSoundIn s.place s
+
+-- THE GOALS, each with a cost for each of so many variables
+pub record AreGoals (n : ℕ) (gs : List Goal) : Type 0 where
+  pub few : length gs ≤ most Obj
+  pub one_each : All (λ g. length g.costs ≡ n) gs
+
+-- none is said before the objectives, so that no variable comes behind one
+abbrev pub AreGoalsLate : State → Type 0
+AreGoalsLate s = s.part < 2 → s.goals ≡ []
 
 -- the part that an element is or stands in, by its place in their order; 0 where it is none and stands in none
 abbrev pub part_in : Place → ℕ
@@ -74,9 +81,9 @@ AreCostsAt Obj s = IsGoalOpen s
 AreCostsAt Coef s = IsGoalOpen s
 AreCostsAt p s = s.costs ≡ []
 
--- a sound state in such an element
-abbrev pub IsSoundIn : Place → State → Type 0
-IsSoundIn p s = IsSoundSoFar s × IsSoundAt p s × IsInPart p s.part × AreCostsAt p s
+-- they are those of an instance as far as it goes, in such an element
+abbrev pub HasGoalsIn : Place → State → Type 0
+HasGoalsIn p s = AreGoals (length s.vars) s.goals × AreGoalsLate s × IsInPart p s.part × AreCostsAt p s
 
-abbrev pub IsSound : State → Type 0
-IsSound s = IsSoundIn s.place s
+abbrev pub HasGoals : State → Type 0
+HasGoals s = HasGoalsIn s.place s

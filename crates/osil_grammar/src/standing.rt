@@ -26,7 +26,7 @@ ghost use Rattle.osil_grammar.specs.Leaving.{IsMatrixOf, AddsRun};
 ghost use Rattle.tag_tests.specs.Forms.{AreTaken};
 ghost use Rattle.osil_grammar.specs.Marked.{osil, goals_said, instance_of};
 ghost use Rattle.osil_grammar.specs.Hearing.{held};
-ghost use Rattle.osil_grammar.specs.Sound.{IsSound, IsSoundIn};
+ghost use Rattle.osil_grammar.specs.Sound.{IsSound, IsSoundIn, HasGoals, HasGoalsIn};
 ghost use Rattle.osil_grammar.specs.Stepping.{Steps, BeginsAt, EndsAt, EndAnswers, IsToldAs, AddsUp};
 
 use crate::domains::zero;
@@ -928,6 +928,7 @@ impl Standing {
     /// Goes past an end tag of such an element.
     fn end(&mut self, place: Place) -> Result<(), Stop>
         requires sound { IsSoundIn place self.old }
+        requires goals { HasGoalsIn place self.old }
         ensures { EndsAt self.old place self.new result }
     {
         match place {
@@ -968,7 +969,8 @@ impl Standing {
 
     /// The instance that the marks have said.
     pub(crate) fn instance(self) -> Result<Instance, AllocError>
-        requires { IsSound self }
+        requires sound { IsSound self }
+        requires goals { HasGoals self }
         ensures { IfOk result (λ p. p ≡ instance_of self) }
     {
         let Standing {
@@ -988,7 +990,8 @@ impl Standing {
 
     /// Goes past an end tag.
     pub(crate) fn close(&mut self) -> Result<(), Stop>
-        requires { IsSound self.old }
+        requires sound { IsSound self.old }
+        requires goals { HasGoals self.old }
         ensures { (name : List ℕ) → Steps self.old (Finish name) self.new result }
     {
         self.end(self.place)
