@@ -5,6 +5,7 @@ use Rattle.osil_grammar.specs.declared.elements.Listing.TheVariants as listings
 use Rattle.osil_grammar.specs.declared.elements.Place.TheVariants as places
 use Rattle.osil_grammar.specs.declared.elements.Led.TheVariants as led
 use Rattle.osil_grammar.proofs.SoundStates.{sound_kept, sound_start}
+use Rattle.osil_grammar.proofs.GoalStates.{goals_kept, goals_start}
 
 -- a start tag leads from the matrix to what stands in it, from elsewhere to what doesn't, or into a part
 abbrev IsOnSide : Bool → Led → Type 0
@@ -103,8 +104,8 @@ pub apart_start : HoldsApart start
 apart_start = (refl, refl, refl, λ low. refl)
 
 pub fit_start : IsFit start
-fit_start = (sound_start, apart_start)
+fit_start = (sound_start, apart_start, goals_start)
 
 pub fit_kept : (s : State) (ms : List Mark) (z : State) → AreTaken osil s ms z → IsFit s → IsFit z
 fit_kept s [] z taken fit = subst IsFit (sym taken) fit
-fit_kept s (m ∷ ms) z (w, takes, more) fit = fit_kept w ms z more (sound_kept s w m fit.0 takes, apart_kept s w m fit.1 takes)
+fit_kept s (m ∷ ms) z (w, takes, more) fit = fit_kept w ms z more (sound_kept s w m fit.0 takes, apart_kept s w m fit.1 takes, goals_kept s w m fit.2 takes)
