@@ -43,8 +43,8 @@ same_var v w a b c d =
     let same : v ≡ record { lb = w.lb; ub = w.ub; whole = w.whole; zero = v.zero } = high ∙ ap (λ (x : Bool). record { lb = w.lb; ub = w.ub; whole = x; zero = v.zero }) c in
     same ∙ ap (λ (x : Bool). record { lb = w.lb; ub = w.ub; whole = w.whole; zero = x }) d
 
-as_said : (lb ub : End) (whole zero : Bool) (v w : Variable) → (v.lb ≡ lb) × (v.ub ≡ ub) × (v.whole ≡ whole) × (v.zero ≡ zero) → (w.lb ≡ lb) × (w.ub ≡ ub) × (w.whole ≡ whole) × (w.zero ≡ zero) → v ≡ w
-as_said lb ub whole zero v w a b = same_var v w (a.0 ∙ sym b.0) (a.1 ∙ sym b.1) (a.2 ∙ sym b.2) (a.3 ∙ sym b.3)
+as_said : (lb ub : End) (whole semi : Bool) (v w : Variable) → (v.lb ≡ lb) × (v.ub ≡ ub) × (v.whole ≡ whole) × (v.zero ≡ semi) → (w.lb ≡ lb) × (w.ub ≡ ub) × (w.whole ≡ whole) × (w.zero ≡ semi) → v ≡ w
+as_said lb ub whole semi v w a b = same_var v w (a.0 ∙ sym b.0) (a.1 ∙ sym b.1) (a.2 ∙ sym b.2) (a.3 ∙ sym b.3)
 
 as_binary : (lb ub : End) (v w : Variable) → IsBinary lb ub v → IsBinary lb ub w → v ≡ w
 as_binary lb ub v w a b = same_var v w (end_at_once (raised lb) (raised_number lb) v.lb w.lb a.0 b.0) (end_at_once (lowered ub) (lowered_number ub) v.ub w.ub a.1 b.1) (a.2 ∙ sym b.2) (a.3 ∙ sym b.3)

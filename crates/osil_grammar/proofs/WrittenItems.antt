@@ -44,10 +44,10 @@ letter_of false true = inr (inr (inr (inl (refl, refl))))
 letter_of true true = inr (inr (inr (inr (inl (refl, refl)))))
 
 domain_is : (v : Var) (w z : Bool) → v.whole ≡ w → v.zero ≡ z → IsOfDomain (domain_of w z) v.lb v.ub v
-domain_is v false false whole zero = (refl, refl, whole, zero)
-domain_is v true false whole zero = (refl, refl, whole, zero)
-domain_is v false true whole zero = (refl, refl, whole, zero)
-domain_is v true true whole zero = (refl, refl, whole, zero)
+domain_is v false false whole semi = (refl, refl, whole, semi)
+domain_is v true false whole semi = (refl, refl, whole, semi)
+domain_is v false true whole semi = (refl, refl, whole, semi)
+domain_is v true true whole semi = (refl, refl, whole, semi)
 
 type_known : (w z : Bool) → (IsAmong (type_text w z) letter_names → ⊥) → ⊥
 type_known false false out = out (inl refl)
