@@ -167,9 +167,10 @@ module _ (p : Parts) (valid : IsValid p) (has : HasDecimals p) (lists : Nodes) (
       (read_matrix base p.entries lists last_events p entries_fine are_lists (λ n l t b w d text.
       let done : State = behind_matrix base n l t b w d text p.entries in
       let out : State = record done { place = places.Osil } in
+      let last : State = record out { place = places.Outside } in
       read_one done out (Finish (codes "instanceData")) (Finish (codes "osil") ∷ []) p ((λ h. absurd (cc), tt), refl)
-      (read_one out (record out { place = places.Outside }) (Finish (codes "osil")) [] p ((λ h. absurd (omega (arith, h)), tt), refl)
-      (record out { place = places.Outside }, refl, ap (λ (gs : List Goal). let q : Parts = record p { goals = gs } in q) (sym (some_said p.goals (length p.vars) valid.some_goal))))) (s.count + 1))
+      (read_one out last (Finish (codes "osil")) [] p ((λ h. absurd (omega (arith, h)), tt), refl)
+      (last, refl {a = last}, ap (λ (gs : List Goal). let q : Parts = record p { goals = gs } in q) (sym (some_said p.goals (length p.vars) valid.some_goal))))) (s.count + 1))
 
 module _ (p : Parts) (root : Element) (valid : IsValid p) (has : HasDecimals p) (is : WritesInstance p root) where
   abbrev rows_events : List Event
