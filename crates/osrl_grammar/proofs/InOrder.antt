@@ -1,5 +1,5 @@
 -- The tests of each kind stand in the order of their refusals.
-use Rattle.osrl_grammar.proofs.Names.{ℕ, ◌≤◌, Option, None, Some, [], ◌∷◌, refl, arith, Mark, OtherRoot, number, State, begins, ends, kind, tests, told, refusal_of, item_refusal, bad_item, BadItem, Misread, NoShape, NoNumber, TooGreat, Value, osrl, List, ◌++◌, map, Kind, bad, great, item_tests, Field, item_fields}
+use Rattle.osrl_grammar.proofs.Names.{ℕ, ◌≤◌, Option, None, Some, [], ◌∷◌, refl, arith, Mark, OtherRoot, number, State, begins, ends, kind, tests, told, refusal_of, item_refusal, bad_item, BadItem, Misread, NoShape, NoNumber, TooGreat, Value, osrl, List, ◌++◌, map, Kind, Field, item_fields}
 use Rattle.tag_tests.specs.Tests.{InOrder, FromHere}
 use Rattle.tag_tests.specs.Firsts.{IsOrdered}
 use Rattle.tag_tests.proofs.Tests.{order_tested}
