@@ -1,39 +1,71 @@
 -- The instances that a walk through a tree of cases has before it: that of the case at hand, and those of the second cases above.
-use Rattle.std.specs.Prelude.{ℕ, zero, suc, ◌<◌, pos, ◌+ℤ◌, ◌≤ℤ◌, ◌<ℤ◌, neg_ℤ, false, cond, Option, None, Some, List, [], ◌∷◌, get_or, slice_set}
+use Rattle.std.specs.Prelude.{ℕ, zero, suc, ◌<◌, pos, ◌+ℤ◌, ◌≤ℤ◌, ◌<ℤ◌, neg_ℤ, false, cond, Option, None, Some, List, [], ◌∷◌, map, get_or, slice_set}
+use Rattle.rational.specs.Ratio.{whole}
 use Rattle.rational.specs.Width.{most}
 use Rattle.fraction.specs.declared.ends.End.TheVariants.{NegInf, Inf}
+use Rattle.evidence.specs.Sums.{none}
 use Rattle.evidence.specs.Instance as Of
-use Rattle.evidence.specs.Cases.{at_least}
-use Rattle.instance.specs.declared.parts.Var.{Var}
-use Rattle.instance.specs.Parts.{Parts}
-use Rattle.instance.specs.Program.{program}
+use Rattle.evidence.specs.Cases.{with_range, lesser_end, greater_end, both, or_free}
+use Rattle.instance.specs.Program.{range, further_by}
+use Rattle.case_tree.specs.declared.cuts.Cut.{Cut}
+use Rattle.case_tree.specs.declared.cuts.Division.{Division}
+use Rattle.case_tree.specs.declared.cuts.Division.TheVariants.{Split, Zero}
 use Rattle.case_tree.specs.declared.path.Branch.{Branch}
 
--- the program of an instance's parts with these variables in place of its own
-abbrev pub cut : Parts → List Var → Of.Instance
-cut p vs = program (record p { vars = vs })
+-- a variable as the case at hand has it
+abbrev pub cut_variable : Cut → Of.Variable
+cut_variable c = record { range = range c.lb c.ub; whole = c.var.whole; unless_zero = further_by c.var.zero (range c.var.lb c.var.ub) }
 
-abbrev pub no_var : Var
-no_var = record { lb = NegInf; ub = Inf; whole = false }
+-- the instance with these variables in place of its own
+abbrev pub cut : Of.Instance → List Cut → Of.Instance
+cut I cs = record I { variables = map cut_variable cs }
+
+-- the variable's range in the first case
+abbrev pub first_range : Division → Of.Variable → Of.Range
+first_range (Split k) v = record { lb = v.range.lb; ub = lesser_end v.range.ub (whole k) }
+first_range Zero v = both v.range (record { lb = Some none; ub = Some none })
+
+-- and in the second
+abbrev pub second_range : Division → Of.Variable → Of.Range
+second_range (Split k) v = record { lb = greater_end v.range.lb (whole (k +ℤ pos 1)); ub = v.range.ub }
+second_range Zero v = both v.range (or_free v.unless_zero)
+
+-- the first case of a division: at most k, or 0
+abbrev pub first_case : Of.Instance → ℕ → Division → Of.Instance
+first_case I j by = with_range I j (first_range by (Of.variable_at I j))
+
+-- the second case: at least k + 1, or within the further ends
+abbrev pub second_case : Of.Instance → ℕ → Division → Of.Instance
+second_case I j by = with_range I j (second_range by (Of.variable_at I j))
+
+-- its number, and the next one, fit
+abbrev pub HasNext : Division → Type 0
+HasNext (Split k) = (neg_ℤ (pos most) ≤ℤ k) × (k <ℤ pos most)
+HasNext Zero = Unit {0}
+
+abbrev pub no_cut : Cut
+no_cut = record { lb = NegInf; ub = Inf; var = record { lb = NegInf; ub = Inf; whole = false; zero = false } }
+
+abbrev pub no_branch : Branch
+no_branch = record { col = 0; by = Zero; old = no_cut; is_second = false }
 
 abbrev pub branch_at : List Branch → ℕ → Branch
-branch_at bs d = get_or bs d (record { col = 0; k = pos 0; old = no_var; is_second = false })
+branch_at bs d = get_or bs d no_branch
 
--- what is still to show after the case at hand, whose variables are vs: at each branch above whose first case it is in, the second
-abbrev pub pending : Parts → List Var → List Branch → ℕ → List Of.Instance
-pending p vs bs zero = []
-pending p vs bs (suc d) =
+-- what is still to show after the case at hand, whose variables are cs: at each branch above whose first case it is in, the second
+abbrev pub pending : Of.Instance → List Cut → List Branch → ℕ → List Of.Instance
+pending I cs bs zero = []
+pending I cs bs (suc d) =
     let b = branch_at bs d in
-    let before = slice_set vs b.col b.old in
-    cond b.is_second (pending p before bs d) (at_least (cut p before) b.col (b.k +ℤ pos 1) ∷ pending p before bs d)
+    let before = slice_set cs b.col b.old in
+    cond b.is_second (pending I before bs d) (second_case (cut I before) b.col b.by ∷ pending I before bs d)
 
 -- all that is still to show: nothing, where the walk is at its end
-abbrev pub cases : Parts → List Var → List Branch → Option ℕ → List Of.Instance
-cases p vs bs None = []
-cases p vs bs (Some d) = cut p vs ∷ pending p vs bs d
+abbrev pub cases : Of.Instance → List Cut → List Branch → Option ℕ → List Of.Instance
+cases I cs bs None = []
+cases I cs bs (Some d) = cut I cs ∷ pending I cs bs d
 
 -- the branches above have variables, and numbers whose next one fits
 pub record AreBranches (n : ℕ) (bs : List Branch) (d : ℕ) : Type 0 where
   pub columns : (e : ℕ) → e < d → (branch_at bs e).col < n
-  pub low : (e : ℕ) → e < d → neg_ℤ (pos most) ≤ℤ (branch_at bs e).k
-  pub high : (e : ℕ) → e < d → (branch_at bs e).k <ℤ pos most
+  pub next : (e : ℕ) → e < d → HasNext (branch_at bs e).by

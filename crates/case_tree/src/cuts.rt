@@ -1,21 +1,36 @@
 // Variables whose ends are cut by a branch.
-ghost use Rattle.std.specs.Prelude.{◌≡◌, ◌↔◌, length, pos, neg_ℤ, ◌≤ℤ◌, IsTrue};
-ghost use Rattle.rational.specs.Ratio.{whole};
+ghost use Rattle.std.specs.Prelude.{◌≡◌, ◌↔◌, pos, neg_ℤ, ◌≤ℤ◌, IsTrue};
 ghost use Rattle.rational.specs.Width.{most};
-ghost use Rattle.evidence.specs.Cases.{lesser_end, greater_end, IsBranch};
+ghost use Rattle.fraction.specs.Frac.{ratio};
+ghost use Rattle.evidence.specs.Instance as Of;
+ghost use Rattle.evidence.specs.Cases as Cases;
+ghost use Rattle.evidence.specs.SemiVariables.{low_or_zero, high_or_zero};
 ghost use Rattle.instance.specs.Program.{limit, variable};
-ghost use Rattle.case_tree.specs.Cuts.{cut};
+ghost use Rattle.case_tree.specs.Cuts.{cut, cut_variable, first_range, second_range, HasNext};
 
-use crate::numbers::{is_below, whole};
-use fraction::{End, MAX};
-use instance::{Instance, Var};
+use crate::numbers::{is_below, whole, zero};
+use fraction::{End, Frac, MAX};
+use instance::Var;
+
+/// A variable as a case has it: the ends of its column, and what it is in the instance.
+#[derive(Clone, Copy, PartialEq, Eq)]
+pub struct Cut {
+    pub lb: End,
+    pub ub: End,
+    pub var: Var,
+}
+
+/// How a branch divides a variable's values: at most k or at least k + 1, or 0 or within its own ends.
+#[derive(Clone, Copy, PartialEq, Eq)]
+pub enum Division {
+    Split(i128),
+    Zero,
+}
 
 /// The upper end, or k where that is lower.
-fn lesser_end(ub: End, k: i128) -> End
-    requires { neg_ℤ (pos most) ≤ℤ k }
-    ensures { limit result ≡ lesser_end (limit ub) (whole k) }
+fn lesser_end(ub: End, k: Frac) -> End
+    ensures { limit result ≡ Cases.lesser_end (limit ub) (ratio k) }
 {
-    let k = whole(k);
     match ub {
         End::At(end) => End::At(if is_below(k, end) { k } else { end }),
         _ => End::At(k),
@@ -23,47 +38,124 @@ fn lesser_end(ub: End, k: i128) -> End
 }
 
 /// The lower end, or k where that is higher.
-fn greater_end(lb: End, k: i128) -> End
-    requires { neg_ℤ (pos most) ≤ℤ k }
-    ensures { limit result ≡ greater_end (limit lb) (whole k) }
+fn greater_end(lb: End, k: Frac) -> End
+    ensures { limit result ≡ Cases.greater_end (limit lb) (ratio k) }
 {
-    let k = whole(k);
     match lb {
         End::At(end) => End::At(if is_below(end, k) { k } else { end }),
         _ => End::At(k),
     }
 }
 
-/// The variable where it is at most k.
-pub fn at_most(var: Var, k: i128) -> Var
-    requires { neg_ℤ (pos most) ≤ℤ k }
-    ensures { variable result ≡ record (variable var) { range = record { lb = limit var.lb; ub = lesser_end (limit var.ub) (whole k) } } }
+/// The lower end, or 0 where that is lower.
+fn low_or_zero(lb: End) -> End
+    ensures { limit result ≡ low_or_zero (limit lb) }
 {
-    Var {
-        lb: var.lb,
-        ub: lesser_end(var.ub, k),
-        whole: var.whole,
+    match lb {
+        End::At(_) => lesser_end(lb, zero()),
+        _ => lb,
     }
 }
 
-/// The variable where it is at least k.
-pub fn at_least(var: Var, k: i128) -> Var
-    requires { neg_ℤ (pos most) ≤ℤ k }
-    ensures { variable result ≡ record (variable var) { range = record { lb = greater_end (limit var.lb) (whole k); ub = limit var.ub } } }
+/// The upper end, or 0 where that is higher.
+fn high_or_zero(ub: End) -> End
+    ensures { limit result ≡ high_or_zero (limit ub) }
 {
-    Var {
-        lb: greater_end(var.lb, k),
-        ub: var.ub,
-        whole: var.whole,
+    match ub {
+        End::At(_) => greater_end(ub, zero()),
+        _ => ub,
+    }
+}
+
+/// The greater of two lower ends.
+fn either_low(lb: End, other: End) -> End
+    ensures { limit result ≡ Cases.either_low (limit lb) (limit other) }
+{
+    match other {
+        End::At(k) => greater_end(lb, k),
+        _ => lb,
+    }
+}
+
+/// The lesser of two upper ends.
+fn either_high(ub: End, other: End) -> End
+    ensures { limit result ≡ Cases.either_high (limit ub) (limit other) }
+{
+    match other {
+        End::At(k) => lesser_end(ub, k),
+        _ => ub,
+    }
+}
+
+/// The variable before any branch.
+pub fn uncut(var: Var) -> Cut
+    ensures { cut_variable result ≡ variable var }
+{
+    if var.zero {
+        Cut {
+            lb: low_or_zero(var.lb),
+            ub: high_or_zero(var.ub),
+            var,
+        }
+    } else {
+        Cut {
+            lb: var.lb,
+            ub: var.ub,
+            var,
+        }
+    }
+}
+
+/// The variable in the first case of a division.
+pub fn first(cut: Cut, by: Division) -> Cut
+    requires { HasNext by }
+    ensures { cut_variable result ≡ record (cut_variable cut) { range = first_range by (cut_variable cut) } }
+{
+    match by {
+        Division::Split(k) => Cut {
+            ub: lesser_end(cut.ub, whole(k)),
+            ..cut
+        },
+        Division::Zero => Cut {
+            lb: greater_end(cut.lb, zero()),
+            ub: lesser_end(cut.ub, zero()),
+            var: cut.var,
+        },
+    }
+}
+
+/// The variable in the second case of a division.
+pub fn second(cut: Cut, by: Division) -> Cut
+    requires { HasNext by }
+    ensures { cut_variable result ≡ record (cut_variable cut) { range = second_range by (cut_variable cut) } }
+{
+    match by {
+        Division::Split(k) => Cut {
+            lb: greater_end(cut.lb, whole(k + 1)),
+            ..cut
+        },
+        Division::Zero if cut.var.zero => Cut {
+            lb: either_low(cut.lb, cut.var.lb),
+            ub: either_high(cut.ub, cut.var.ub),
+            var: cut.var,
+        },
+        Division::Zero => cut,
     }
 }
 
 /// Whether the column is a whole variable, and the number has a next one that fits.
-pub fn is_branch(instance: &Instance, vars: &[Var], col: u32, k: i128) -> bool
+pub fn is_branch(cuts: &[Cut], col: u32, k: i128) -> bool
     requires { neg_ℤ (pos most) ≤ℤ k }
-    ensures { IsTrue result ↔ IsBranch (cut instance.now vars.now) col k }
+    ensures { (I : Of.Instance) → IsTrue result ↔ Cases.IsBranch (cut I cuts.now) col k }
 {
-    let _instance = instance;
     let j = col as usize;
-    j < vars.len() && vars[j].whole && k < MAX
+    j < cuts.len() && cuts[j].var.whole && k < MAX
+}
+
+/// Whether the column is a variable that may be 0.
+pub fn is_zero_branch(cuts: &[Cut], col: u32) -> bool
+    ensures { (I : Of.Instance) → IsTrue result ↔ Cases.IsZeroBranch (cut I cuts.now) col }
+{
+    let j = col as usize;
+    j < cuts.len() && cuts[j].var.zero
 }

@@ -1,13 +1,14 @@
 -- Sums to which products are added, one for each variable.
-use Rattle.std.proofs.Common.{◌≡◌, ℕ, ◌+◌, ◌<◌, ◌⊎◌, inl, inr, Option, None, Some, List, length, slice_set, arith, refl, sym, ◌∙◌, subst}
+use Rattle.std.proofs.Common.{◌≡◌, ℕ, ◌+◌, ◌<◌, ◌≤◌, ◌⊎◌, inl, inr, Option, None, Some, List, length, slice_set, arith, refl, sym, ◌∙◌, ap, subst}
 use Rattle.std.specs.List.{All}
-use Rattle.std.proofs.lemmas.List.{get_or-set_same, get_or-set_other}
+use Rattle.std.proofs.lemmas.List.{get_or-set_same, get_or-set_other, map-set, length-map}
 use Rattle.rational.specs.Ratio.{Ratio}
-use Rattle.fraction.specs.Frac.{ratio}
+use Rattle.fraction.specs.Frac.{ratio, ratios}
 use Rattle.fraction.specs.declared.frac.Frac.{Frac}
 use Rattle.fraction.specs.declared.ends.Entry.{Entry}
 use Rattle.evidence.specs.Sums.{none}
 use Rattle.evidence.specs.Instance.{entry_at}
+use Rattle.evidence.specs.Point.{value_at}
 use Rattle.evidence.proofs.Columns.{by_lt}
 use Rattle.instance.specs.Parts.{IsAscending}
 use Rattle.instance.specs.Program.{entries}
@@ -22,10 +23,10 @@ pub set_apart : (ss : List (Option Frac)) (j i : ℕ) (v : Option Frac) → (i �
 set_apart ss j i v ne = get_or-set_other ss j i v None ne
 
 -- what holds of the sums below j, and of the next one
-pub set_next : (P : Option Frac → Type 0) (ss : List (Option Frac)) (j : ℕ) (v : Option Frac) → j < length ss → ((i : ℕ) → i < j → P (slot_at ss i)) → P v → (i : ℕ) → i < j + 1 → P (slot_at (slice_set ss j v) i)
+pub set_next : (P : ℕ → Option Frac → Type 0) (ss : List (Option Frac)) (j : ℕ) (v : Option Frac) → j < length ss → ((i : ℕ) → i < j → P i (slot_at ss i)) → P j v → (i : ℕ) → i < j + 1 → P i (slot_at (slice_set ss j v) i)
 set_next P ss j v h below here i g =
-    by_lt i j (λ l. subst P (sym (set_apart ss j i v (λ e. omega arith))) (below i l))
-    (λ l. let e : i ≡ j = omega arith in subst (λ k. P (slot_at (slice_set ss j v) k)) (sym e) (subst P (sym (set_here ss j v h)) here))
+    by_lt i j (λ l. subst (P i) (sym (set_apart ss j i v (λ e. omega arith))) (below i l))
+    (λ l. let e : i ≡ j = omega arith in subst (λ k. P k (slot_at (slice_set ss j v) k)) (sym e) (subst (P j) (sym (set_here ss j v h)) here))
 
 -- a factor 0 adds nothing
 pub nothing : (s : Option Frac) (a : Ratio) → IsStep s a none s
@@ -63,3 +64,29 @@ module _ (row : List Entry) (i : ℕ) (d : Entry) (by : Ratio) (old : List (Opti
       here (inr off) =
           subst (λ w. IsStep (slot_at old j) by w (slot_at new j)) (sym (off_row row i j d off))
           (subst (λ w. IsStep (slot_at old j) by none w) (sym (so.others j off)) (nothing (slot_at old j) by))
+
+-- the first k numbers are added to the sums at their places, and the other sums are as before
+pub record AreAdded (by : Ratio) (x : ℕ → Ratio) (old new : List (Option Frac)) (k : ℕ) : Type 0 where
+  pub done : (j : ℕ) → j < k → IsStep (slot_at old j) by (x j) (slot_at new j)
+  pub others : (j : ℕ) → k ≤ j → slot_at new j ≡ slot_at old j
+
+pub first_added : (by : Ratio) (x : ℕ → Ratio) (old : List (Option Frac)) → AreAdded by x old old 0
+first_added by x old = record { done = λ j h. absurd (omega arith); others = λ j h. refl }
+
+pub next_added : (by : Ratio) (x : ℕ → Ratio) (old new : List (Option Frac)) (k : ℕ) (v : Option Frac) → k < length new → AreAdded by x old new k → IsStep (slot_at new k) by (x k) v → AreAdded by x old (slice_set new k v) (k + 1)
+next_added by x old new k v h so step = record {
+  done = set_next (λ j w. IsStep (slot_at old j) by (x j) w) new k v h so.done (subst (λ w. IsStep w by (x k) v) (so.others k (omega arith)) step);
+  others = λ j g. set_apart new k j v (λ e. omega arith) ∙ so.others j (omega arith);
+}
+
+-- numbers that are those of the sums, as far as there are any
+pub numbers_next : (ns : List Frac) (slots : List (Option Frac)) (j : ℕ) (v : Frac) → j < length ns → ((x : Frac) → slot_at slots j ≡ Some x → v ≡ x) → ((i : ℕ) (x : Frac) → i < j → slot_at slots i ≡ Some x → value_at (ratios ns) i ≡ ratio x) → (i : ℕ) (x : Frac) → i < j + 1 → slot_at slots i ≡ Some x → value_at (ratios (slice_set ns j v)) i ≡ ratio x
+numbers_next ns slots j v h here below i x g e =
+    let set = map-set ratio ns j v in
+    let long = length-map ns ratio in
+    by_lt i j
+    (λ l. ap (λ ys. value_at ys i) set ∙ get_or-set_other (ratios ns) j i (ratio v) none (λ q. omega arith) ∙ below i x l e)
+    (λ l.
+    let q : i ≡ j = omega arith in
+    let at : slot_at slots j ≡ Some x = subst (λ k. slot_at slots k ≡ Some x) q e in
+    ap (λ ys. value_at ys i) set ∙ ap (λ k. value_at (slice_set (ratios ns) j (ratio v)) k) q ∙ get_or-set_same (ratios ns) j (ratio v) none (omega arith) ∙ ap ratio (here x at))

@@ -4,35 +4,28 @@ use Rattle.rational.specs.Ratio.{Ratio, IsNumber, IsSame, product}
 use Rattle.fraction.specs.Frac.{ratio}
 use Rattle.fraction.specs.declared.frac.Frac.{Frac}
 use Rattle.evidence.specs.Sums.{none}
-use Rattle.evidence.specs.Instance.{Range, HasNumbers, column_at}
+use Rattle.evidence.specs.Instance.{Range, HasNumbers, Instance, IsInstance, column_at}
 use Rattle.evidence.specs.Cases.{multiplier_at, end_by, end_of, or_none, low_sum}
 use Rattle.evidence.specs.Width.{LowFits}
 use Rattle.evidence.proofs.Numbers.{◌≈◌, ◌⋖◌, ◌≲◌, ≈-sym, ≲-from, ≲-trans, ⋖-≲, product-number}
 use Rattle.evidence.proofs.Totals.{total-number}
+use Rattle.evidence.proofs.UniqueRows.{or_none-number}
 use Rattle.evidence.proofs.Columns.{none-number, column-numbers}
-use Rattle.instance.specs.declared.parts.Var.{Var}
-use Rattle.instance.specs.Parts.{Parts}
-use Rattle.instance.proofs.Numbers.{program-instance}
 use Rattle.certificate.specs.declared.lists.Mult.{Mult}
 use Rattle.certificate.specs.Meanings.{multipliers}
-use Rattle.case_tree.specs.Cuts.{cut}
 use Rattle.cert_checker.specs.Cuts.{aim}
-use Rattle.cert_checker.specs.declared.refused.Refused.TheVariants.{Sum, Wide}
+use Rattle.cert_checker.specs.declared.refused.Unshown.TheVariants.{Sum, Wide}
 use Rattle.cert_checker.specs.Leaves.{start, ReachesBound, HasSum, SumRefuses}
 use Rattle.cert_checker.proofs.ColumnSums.{factors-number}
-
-or_none-number : (o : Option Ratio) → IfSome o IsNumber → IsNumber (or_none o)
-or_none-number None p = none-number
-or_none-number (Some x) p = p
 
 end-number : (z : ℤ) (r : Range) → HasNumbers r → IsNumber (or_none (end_by z r))
 end-number (pos n) r h = or_none-number r.lb h.0
 end-number (negsuc n) r h = or_none-number r.ub h.1
 
-pub ends-number : (p : Parts) (vs : List Var) (ms : List Mult) (k : ℕ) → IsNumber (or_none (end_of (cut p vs) (multiplier_at (multipliers ms) k)))
-ends-number p vs ms k =
-    end-number (multiplier_at (multipliers ms) k).by.num (column_at (cut p vs) (multiplier_at (multipliers ms) k).column)
-    (column-numbers (cut p vs) (program-instance (record p { vars = vs })) (multiplier_at (multipliers ms) k).column)
+pub ends-number : (I : Instance) → IsInstance I → (ms : List Mult) (k : ℕ) → IsNumber (or_none (end_of I (multiplier_at (multipliers ms) k)))
+ends-number I good ms k =
+    end-number (multiplier_at (multipliers ms) k).by.num (column_at I (multiplier_at (multipliers ms) k).column)
+    (column-numbers I good (multiplier_at (multipliers ms) k).column)
 
 -- a sum of the same value reaches the same
 pub reaches_same : (z : Option Ratio) (s t : Ratio) → IfSome z IsNumber → s ≈ t → ReachesBound z s → ReachesBound z t
@@ -49,26 +42,26 @@ pub aim-number : (z : Option Frac) → IfSome (aim z) IsNumber
 aim-number None = tt
 aim-number (Some z) = z.above
 
-module _ (p : Parts) (vs : List Var) (ms : List Mult) (z : Option Frac) (f s : Frac) (ef : ratio f ≡ start (cut p vs) (aim z)) (fits : LowFits (cut p vs) (ratio f) (multipliers ms)) (is : IsSame (ratio s) (low_sum (cut p vs) (ratio f) (multipliers ms))) where
-  near : ratio s ≈ low_sum (cut p vs) (start (cut p vs) (aim z)) (multipliers ms)
+module _ (I : Instance) (good : IsInstance I) (ms : List Mult) (z : Option Frac) (f s : Frac) (ef : ratio f ≡ start I (aim z)) (fits : LowFits I (ratio f) (multipliers ms)) (is : IsSame (ratio s) (low_sum I (ratio f) (multipliers ms))) where
+  near : ratio s ≈ low_sum I (start I (aim z)) (multipliers ms)
   near =
-      subst (λ t. ratio s ≈ low_sum (cut p vs) t (multipliers ms)) ef
+      subst (λ t. ratio s ≈ low_sum I t (multipliers ms)) ef
       (record {
         left = s.above;
-        right = total-number (ratio f) (length (multipliers ms)) (λ k. product (multiplier_at (multipliers ms) k).by (or_none (end_of (cut p vs) (multiplier_at (multipliers ms) k)))) f.above
-            (λ k. product-number (multiplier_at (multipliers ms) k).by (or_none (end_of (cut p vs) (multiplier_at (multipliers ms) k))) (factors-number ms k) (ends-number p vs ms k));
+        right = total-number (ratio f) (length (multipliers ms)) (λ k. product (multiplier_at (multipliers ms) k).by (or_none (end_of I (multiplier_at (multipliers ms) k)))) f.above
+            (λ k. product-number (multiplier_at (multipliers ms) k).by (or_none (end_of I (multiplier_at (multipliers ms) k))) (factors-number ms k) (ends-number I good ms k));
         is = is;
       })
 
-  fits_start : LowFits (cut p vs) (start (cut p vs) (aim z)) (multipliers ms)
-  fits_start = subst (λ t. LowFits (cut p vs) t (multipliers ms)) ef fits
+  fits_start : LowFits I (start I (aim z)) (multipliers ms)
+  fits_start = subst (λ t. LowFits I t (multipliers ms)) ef fits
 
-  pub has_sum : ReachesBound (aim z) (ratio s) → HasSum (cut p vs) (multipliers ms) (aim z)
-  has_sum r = record { fits = fits_start; reaches = reaches_same (aim z) (ratio s) (low_sum (cut p vs) (start (cut p vs) (aim z)) (multipliers ms)) (aim-number z) near r }
+  pub has_sum : ReachesBound (aim z) (ratio s) → HasSum I (multipliers ms) (aim z)
+  has_sum r = record { fits = fits_start; reaches = reaches_same (aim z) (ratio s) (low_sum I (start I (aim z)) (multipliers ms)) (aim-number z) near r }
 
-  pub lacks_sum : (node : ℕ) → (ReachesBound (aim z) (ratio s) → ⊥) → SumRefuses (cut p vs) (multipliers ms) (aim z) node (Sum node)
-  lacks_sum node fails = inr (fits_start, λ r. fails (reaches_same (aim z) (low_sum (cut p vs) (start (cut p vs) (aim z)) (multipliers ms)) (ratio s) (aim-number z) (≈-sym near) r), refl)
+  pub lacks_sum : (node : ℕ) → (ReachesBound (aim z) (ratio s) → ⊥) → SumRefuses I (multipliers ms) (aim z) node (Sum node)
+  lacks_sum node fails = inr (fits_start, λ r. fails (reaches_same (aim z) (low_sum I (start I (aim z)) (multipliers ms)) (ratio s) (aim-number z) (≈-sym near) r), refl)
 
 -- the start doesn't matter to how the refusal is written
-pub wide_sum : (p : Parts) (vs : List Var) (ms : List Mult) (z : Option Frac) (f : Frac) (node : ℕ) → ratio f ≡ start (cut p vs) (aim z) → (LowFits (cut p vs) (ratio f) (multipliers ms) → ⊥) → SumRefuses (cut p vs) (multipliers ms) (aim z) node (Wide node)
-wide_sum p vs ms z f node ef unfit = inl ((λ h. unfit (subst (λ t. LowFits (cut p vs) t (multipliers ms)) (sym ef) h)), refl)
+pub wide_sum : (I : Instance) (ms : List Mult) (z : Option Frac) (f : Frac) (node : ℕ) → ratio f ≡ start I (aim z) → (LowFits I (ratio f) (multipliers ms) → ⊥) → SumRefuses I (multipliers ms) (aim z) node (Wide node)
+wide_sum I ms z f node ef unfit = inl ((λ h. unfit (subst (λ t. LowFits I t (multipliers ms)) (sym ef) h)), refl)

@@ -1,38 +1,64 @@
 -- Movements along a direction, as the code reads them and as the program has them.
-use Rattle.std.proofs.Common.{◌≡◌, ℕ, ◌<◌, false, Option, None, Some, IfSome, List, length, get_or, slice_index_or, map, arith, refl, sym, ◌∙◌, ap, subst}
+use Rattle.std.proofs.Common.{◌≡◌, ◌↔◌, ◌⊎◌, inl, inr, ℕ, ◌<◌, Bool, true, false, IsTrue, Option, None, Some, IfSome, List, length, get_or, slice_index_or, map, refl, sym, ◌∙◌, ap, subst}
+use Rattle.std.specs.List.{All}
 use Rattle.std.proofs.lemmas.List.{get_or-map, length-map}
+use Rattle.std.proofs.lemmas.List.Elements.{All-map}
 use Rattle.rational.specs.Ratio.{Ratio, IsNumber, IsSame, IsBelow, product, negative}
 use Rattle.fraction.specs.Frac.{ratio, ratios}
 use Rattle.fraction.specs.declared.frac.Frac.{Frac}
-use Rattle.evidence.specs.Sums.{none, total}
+use Rattle.evidence.specs.Sums.{none, total, IsWhole}
 use Rattle.evidence.specs.Instance as Of
-use Rattle.evidence.specs.Instance.{Range, Instance, Sense, Minimum, Maximum, width, height, cost_at, minimising, minimising_by}
-use Rattle.evidence.specs.Point.{value_at, activity, NeverLeaves, IsRay}
+use Rattle.evidence.specs.Instance.{Range, Variable, Instance, IsInstance, Sense, Minimum, Maximum, no_variable, width, height, cost_at, minimising, minimising_by}
+use Rattle.evidence.specs.Point.{value_at, activity, IsBetween, NeverLeaves, NeverLeavesZeroOr, IsRay}
 use Rattle.evidence.specs.Width.{RayFits}
 use Rattle.evidence.proofs.Numbers.{◌≈◌, ◌≲◌, ◌⋖◌, ≈-sym, ≲-from, ≲-trans, ≲-⋖, product-number, negative-product}
 use Rattle.evidence.proofs.Totals.{total-number, total-same, total-negative}
-use Rattle.evidence.proofs.Columns.{none-number, activity-number}
+use Rattle.evidence.proofs.Columns.{none-number, activity-number, value-number}
+use Rattle.evidence.proofs.SemiVariables.{semi_moves}
 use Rattle.evidence.proofs.Duality.{minimising-number}
 use Rattle.instance.specs.declared.parts.Var.{Var}
-use Rattle.instance.specs.declared.parts.Row.{Row}
-use Rattle.instance.specs.declared.parts.Goal.{Goal}
-use Rattle.instance.specs.Parts.{Parts, IsValid}
-use Rattle.instance.specs.Program.{variable, row, sense, program}
-use Rattle.instance.proofs.Numbers.{program-instance}
+use Rattle.instance.specs.Program.{range, range_by, further_by, variable}
 use Rattle.instance.proofs.Terms.{read, ratios-number}
-use Rattle.std.specs.List.{All}
-use Rattle.std.proofs.lemmas.List.Elements.{All-map}
 use Rattle.cert_checker.specs.Rays.{MayMove, VariablesMove, RowsMove, slope, SlopeFits}
 
-module _ (p : Parts) (x : List Frac) (vs : List Var) (ev : vs ≡ p.vars) (j : ℕ) (v : Var) (f : Frac) (h : j < length vs) (is : v ≡ slice_index_or vs j v) (hx : j < length x) (fx : f ≡ slice_index_or x j f) where
-  variable_is : Of.variable_at (program p) j ≡ variable v
-  variable_is = ap (λ l. get_or (map variable l) j (record { range = Of.free; whole = false })) (sym ev) ∙ get_or-map variable vs j v (record { range = Of.free; whole = false }) h ∙ sym (ap variable is)
+-- by a variable's own ends
+abbrev of : Bool → Range → Bool → Variable
+of zero r w = record { range = range_by zero r; whole = w; unless_zero = further_by zero r }
 
-  pub move_to : MayMove (variable v) (ratio f) → MayMove (Of.variable_at (program p) j) (value_at (ratios x) j)
-  move_to m = subst (λ w. MayMove w (value_at (ratios x) j)) (sym variable_is) (subst (λ z. MayMove (variable v) z) (sym (read x j f hx fx)) m)
+abbrev MayLeave : Bool → Range → Ratio → Ratio → Type 0
+MayLeave zero r x m = IsTrue zero → IsSame m none ⊎ IsBetween r x
 
-  pub move_from : MayMove (Of.variable_at (program p) j) (value_at (ratios x) j) → MayMove (variable v) (ratio f)
-  move_from m = subst (λ z. MayMove (variable v) z) (read x j f hx fx) (subst (λ w. MayMove w (value_at (ratios x) j)) variable_is m)
+further_from : (r : Range) (x m : Ratio) → NeverLeaves r m → IsSame m none ⊎ IsBetween r x → NeverLeavesZeroOr r x m
+further_from r x m n (inl e) = inl e
+further_from r x m n (inr b) = inr (b, n)
+
+further_to : (r : Range) (x m : Ratio) → NeverLeavesZeroOr r x m → IsSame m none ⊎ IsBetween r x
+further_to r x m (inl e) = inl e
+further_to r x m (inr (b, n)) = inr b
+
+moves_by : (zero : Bool) (r : Range) (w : Bool) (x m : Ratio) → MayMove (of zero r w) x m ↔ (NeverLeaves r m × (IsTrue w → IsWhole m) × MayLeave zero r x m)
+moves_by true r w x m = (
+  λ k. ((semi_moves r m).0 k.never, k.whole, λ t. further_to r x m k.further),
+  λ (n, h, z). record { never = (semi_moves r m).1 n; whole = h; further = further_from r x m n (z refl) },
+)
+moves_by false r w x m = (λ k. (k.never, k.whole, λ t. absurd (cc)), λ (n, h, z). record { never = n; whole = h; further = tt })
+
+pub moves : (v : Var) (x m : Ratio) → MayMove (variable v) x m ↔ (NeverLeaves (range v.lb v.ub) m × (IsTrue v.whole → IsWhole m) × (IsTrue v.zero → IsSame m none ⊎ IsBetween (range v.lb v.ub) x))
+moves v x m = moves_by v.zero (range v.lb v.ub) v.whole x m
+
+module _ (I : Instance) (x d : List Frac) (vs : List Var) (ev : map variable vs ≡ I.variables) (j : ℕ) (v : Var) (at by : Frac) (h : j < length vs) (is : v ≡ slice_index_or vs j v) (hx : j < length x) (ax : at ≡ slice_index_or x j at) (hd : j < length d) (bd : by ≡ slice_index_or d j by) where
+  variable_is : Of.variable_at I j ≡ variable v
+  variable_is = ap (λ l. get_or l j no_variable) (sym ev) ∙ get_or-map variable vs j v no_variable h ∙ sym (ap variable is)
+
+  pub move_to : MayMove (variable v) (ratio at) (ratio by) → MayMove (Of.variable_at I j) (value_at (ratios x) j) (value_at (ratios d) j)
+  move_to m =
+      subst (λ w. MayMove w (value_at (ratios x) j) (value_at (ratios d) j)) (sym variable_is)
+      (subst (λ z. MayMove (variable v) z (value_at (ratios d) j)) (sym (read x j at hx ax)) (subst (λ z. MayMove (variable v) (ratio at) z) (sym (read d j by hd bd)) m))
+
+  pub move_from : MayMove (Of.variable_at I j) (value_at (ratios x) j) (value_at (ratios d) j) → MayMove (variable v) (ratio at) (ratio by)
+  move_from m =
+      subst (λ z. MayMove (variable v) (ratio at) z) (read d j by hd bd)
+      (subst (λ z. MayMove (variable v) z (value_at (ratios d) j)) (read x j at hx ax) (subst (λ w. MayMove w (value_at (ratios x) j) (value_at (ratios d) j)) variable_is m))
 
 some_weaker : {P Q : Ratio → Type 0} (o : Option Ratio) → ((l : Ratio) → P l → Q l) → IfSome o P → IfSome o Q
 some_weaker None f p = p
@@ -44,24 +70,18 @@ never_same r v w e n = record {
   high = some_weaker r.ub (λ l q. let a : v ≲ none = record { left = e.left; right = none-number; is = q } in let b = ≲-trans (≲-from (≈-sym e)) a in b.is) n.high;
 }
 
-point-numbers : (x : List Frac) → All IsNumber (ratios x)
+pub point-numbers : (x : List Frac) → All IsNumber (ratios x)
 point-numbers x = All-map IsNumber ratio x (λ k d h. (slice_index_or x k d).above)
 
-module _ (p : Parts) (x : List Frac) (rows : List Row) (er : rows ≡ p.rows) (i : ℕ) (r : Row) (a : Frac) (h : i < length rows) (ir : r ≡ slice_index_or rows i r) (ea : IsSame (ratio a) (activity (program p) (ratios x) i)) where
-  row_is : Of.row_at (program p) i ≡ row r
-  row_is = ap (λ l. get_or (map row l) i Of.free) (sym er) ∙ get_or-map row rows i r Of.free h ∙ sym (ap row ir)
+module _ (I : Instance) (good : IsInstance I) (x : List Frac) (i : ℕ) (r : Range) (a : Frac) (is : r ≡ Of.row_at I i) (ea : IsSame (ratio a) (activity I (ratios x) i)) where
+  near : ratio a ≈ activity I (ratios x) i
+  near = record { left = a.above; right = activity-number I good (ratios x) (point-numbers x) i; is = ea }
 
-  pub in_rows : i < height (program p)
-  in_rows = let n = length-map p.rows row in let m = ap length er in omega arith
+  pub never_to : NeverLeaves r (ratio a) → NeverLeaves (Of.row_at I i) (activity I (ratios x) i)
+  never_to n = subst (λ s. NeverLeaves s (activity I (ratios x) i)) is (never_same r (ratio a) (activity I (ratios x) i) near n)
 
-  near : ratio a ≈ activity (program p) (ratios x) i
-  near = record { left = a.above; right = activity-number (program p) (program-instance p) (ratios x) (point-numbers x) i; is = ea }
-
-  pub never_to : NeverLeaves (row r) (ratio a) → NeverLeaves (Of.row_at (program p) i) (activity (program p) (ratios x) i)
-  never_to n = subst (λ s. NeverLeaves s (activity (program p) (ratios x) i)) (sym row_is) (never_same (row r) (ratio a) (activity (program p) (ratios x) i) near n)
-
-  pub never_from : NeverLeaves (Of.row_at (program p) i) (activity (program p) (ratios x) i) → NeverLeaves (row r) (ratio a)
-  never_from n = never_same (row r) (activity (program p) (ratios x) i) (ratio a) (≈-sym near) (subst (λ s. NeverLeaves s (activity (program p) (ratios x) i)) row_is n)
+  pub never_from : NeverLeaves (Of.row_at I i) (activity I (ratios x) i) → NeverLeaves r (ratio a)
+  never_from n = never_same r (activity I (ratios x) i) (ratio a) (≈-sym near) (subst (λ s. NeverLeaves s (activity I (ratios x) i)) (sym is) n)
 
 -- the sum of the minimising costs is the minimising sum of the costs
 slope_by : (s : Sense) (n : ℕ) (c v : ℕ → Ratio) → total none n (λ j. product (minimising_by s (c j)) (v j)) ≡ minimising_by s (total none n (λ j. product (c j) (v j)))
@@ -73,48 +93,38 @@ slope_by Maximum n c v =
 pub slope_is : (I : Instance) (r : List Ratio) → slope I r ≡ minimising I (total none (width I) (λ j. product (cost_at I j) (value_at r j)))
 slope_is I r = slope_by I.goal.sense (width I) (cost_at I) (value_at r)
 
-pub turned-number : (p : Parts) (j : ℕ) → IsNumber (minimising (program p) (cost_at (program p) j))
-turned-number p j = minimising-number (program p) (cost_at (program p) j) (ratios-number p.goal.costs j)
+pub turned-number : (I : Instance) → IsInstance I → (j : ℕ) → IsNumber (minimising I (cost_at I j))
+turned-number I good j = minimising-number I (cost_at I j) (value-number I.goal.costs good.costs j)
 
-pub slope-number : (p : Parts) (x : List Frac) → IsNumber (slope (program p) (ratios x))
-slope-number p x = total-number none (width (program p)) (λ j. product (minimising (program p) (cost_at (program p) j)) (value_at (ratios x) j)) none-number (λ j. product-number (minimising (program p) (cost_at (program p) j)) (value_at (ratios x) j) (turned-number p j) (ratios-number x j))
+module _ (I : Instance) (good : IsInstance I) (x : List Frac) where
+  pub slope-number : IsNumber (slope I (ratios x))
+  slope-number = total-number none (width I) (λ j. product (minimising I (cost_at I j)) (value_at (ratios x) j)) none-number (λ j. product-number (minimising I (cost_at I j)) (value_at (ratios x) j) (turned-number I good j) (ratios-number x j))
 
-pub turned_is : (p : Parts) (g : Goal) (cs : List Frac) (eg : g ≡ p.goal) (ec : cs ≡ g.costs) (j : ℕ) (f t : Frac) (h : j < length cs) (is : f ≡ slice_index_or cs j f) (et : ratio t ≡ minimising_by (sense g.sense) (ratio f)) → minimising (program p) (cost_at (program p) j) ≡ ratio t
-turned_is p g cs eg ec j f t h is et =
-    ap (minimising (program p)) (ap (λ (h : Goal). value_at (ratios h.costs) j) (sym eg) ∙ ap (λ l. value_at (ratios l) j) (sym ec) ∙ read cs j f h is)
-    ∙ ap (λ (h : Goal). minimising_by (sense h.sense) (ratio f)) (sym eg)
-    ∙ sym et
+  pub slope_below : (s z : Frac) → IsSame (ratio s) (slope I (ratios x)) → ratio z ≡ none → IsBelow (ratio s) (ratio z) → IsBelow (slope I (ratios x)) none
+  slope_below s z e ez b =
+      let a : slope I (ratios x) ≈ ratio s = record { left = slope-number; right = s.above; is = sym e } in
+      let c : ratio s ⋖ none = record { left = s.above; right = none-number; is = subst (λ w. IsBelow (ratio s) w) ez b } in
+      let d = ≲-⋖ (≲-from a) c in
+      d.is
 
-pub costs_long : (p : Parts) (valid : IsValid p) (g : Goal) (cs : List Frac) (eg : g ≡ p.goal) (ec : cs ≡ g.costs) → length cs ≡ width (program p)
-costs_long p valid g cs eg ec = ap length ec ∙ ap (λ (h : Goal). length h.costs) eg ∙ valid.costs ∙ sym (length-map p.vars variable)
+  pub slope_not_below : (s z : Frac) → IsSame (ratio s) (slope I (ratios x)) → ratio z ≡ none → IsBelow (slope I (ratios x)) none → IsBelow (ratio s) (ratio z)
+  slope_not_below s z e ez b =
+      let a : ratio s ≈ slope I (ratios x) = record { left = s.above; right = slope-number; is = e } in
+      let c : slope I (ratios x) ⋖ none = record { left = slope-number; right = none-number; is = b } in
+      let d = ≲-⋖ (≲-from a) c in
+      subst (λ w. IsBelow (ratio s) w) (sym ez) (d.is)
 
-pub slope_below : (p : Parts) (x : List Frac) (s z : Frac) → IsSame (ratio s) (slope (program p) (ratios x)) → ratio z ≡ none → IsBelow (ratio s) (ratio z) → IsBelow (slope (program p) (ratios x)) none
-slope_below p x s z e ez b =
-    let a : slope (program p) (ratios x) ≈ ratio s = record { left = slope-number p x; right = s.above; is = sym e } in
-    let c : ratio s ⋖ none = record { left = s.above; right = none-number; is = subst (λ w. IsBelow (ratio s) w) ez b } in
-    let d = ≲-⋖ (≲-from a) c in
-    d.is
-
-pub slope_not_below : (p : Parts) (x : List Frac) (s z : Frac) → IsSame (ratio s) (slope (program p) (ratios x)) → ratio z ≡ none → IsBelow (slope (program p) (ratios x)) none → IsBelow (ratio s) (ratio z)
-slope_not_below p x s z e ez b =
-    let a : ratio s ≈ slope (program p) (ratios x) = record { left = s.above; right = slope-number p x; is = e } in
-    let c : slope (program p) (ratios x) ⋖ none = record { left = slope-number p x; right = none-number; is = b } in
-    let d = ≲-⋖ (≲-from a) c in
-    subst (λ w. IsBelow (ratio s) w) (sym ez) (d.is)
-
-pub count_is : (p : Parts) (x : List Frac) → length x ≡ length p.vars → length (ratios x) ≡ width (program p)
-count_is p x count = length-map x ratio ∙ count ∙ sym (length-map p.vars variable)
-
-module _ (p : Parts) (x : List Frac) (count : length x ≡ length p.vars) (vars : VariablesMove (program p) (ratios x) (width (program p))) (rows : RowsMove (program p) (ratios x) (height (program p))) where
-  pub is_ray : IsBelow (slope (program p) (ratios x)) none → IsRay (program p) (ratios x)
+module _ (I : Instance) (x d : List Frac) (count : length d ≡ width I) (vars : VariablesMove I (ratios x) (ratios d) (width I)) (rows : RowsMove I (ratios d) (height I)) where
+  pub is_ray : IsBelow (slope I (ratios d)) none → IsRay I (ratios x) (ratios d)
   is_ray b = record {
-    count = count_is p x count;
-    numbers = point-numbers x;
+    count = length-map d ratio ∙ count;
+    numbers = point-numbers d;
     variables = λ j h. (vars j h).never;
     rows = λ i h. (rows i h).never;
     whole = λ j h. (vars j h).whole;
-    better = subst (λ s. IsBelow s none) (slope_is (program p) (ratios x)) b;
+    further = λ j h. (vars j h).further;
+    better = subst (λ s. IsBelow s none) (slope_is I (ratios d)) b;
   }
 
-  pub ray_fits : SlopeFits (program p) (ratios x) → RayFits (program p) (ratios x)
+  pub ray_fits : SlopeFits I (ratios d) → RayFits I (ratios d)
   ray_fits f = record { rows = λ i h. (rows i h).fits; goal = f }

@@ -4,48 +4,51 @@ use Rattle.rational.specs.Ratio.{Ratio, IsSame}
 use Rattle.evidence.specs.Instance.{Instance, width, height, column_at}
 use Rattle.evidence.specs.Cases.{Multiplier, multiplier_at, AreLegal, IsEmpty, form, low_sum}
 use Rattle.evidence.specs.Width.{FormFits, LowFits}
-use Rattle.cert_checker.specs.declared.refused.Refused.{Refused}
-use Rattle.cert_checker.specs.declared.refused.Refused.TheVariants.{Sign, Form, Sum, Wide}
-use Rattle.cert_checker.specs.Leaves.{IsPair, wanted, start, ReachesBound, FormsBelow, SignRefuses, FormRefuses, SumRefuses, LeafRefuses, ClashRefuses}
+use Rattle.cert_checker.specs.declared.refused.Unshown.{Unshown}
+use Rattle.cert_checker.specs.declared.refused.Unshown.TheVariants.{Sign, Form, Sum, Wide}
+use Rattle.cert_checker.specs.Leaves.{IsPair, IsFirstIllegal, wanted, start, ReachesBound, FormsBelow, SignRefuses, FormRefuses, SumRefuses, LeafRefuses, ClashRefuses}
 use Rattle.cert_checker.proofs.Firsts.{first_once, Staged, stage_once, twofold_once, AtFirst, place_once}
 use Rattle.cert_checker.proofs.Multipliers.{pair_of}
 
-sign_once : (I : Instance) (ms : List Multiplier) (n : ℕ) (r s : Refused) → SignRefuses I ms n r → SignRefuses I ms n s → r ≡ s
-sign_once I ms n r s (c, h, e) (d, k, f) =
+pub illegal_once : {R : Type 0} (I : Instance) (ms : List Multiplier) (told : ℕ → R) (r s : R) → (c : ℕ) × IsFirstIllegal I ms c × (r ≡ told c) → (c : ℕ) × IsFirstIllegal I ms c × (s ≡ told c) → r ≡ s
+illegal_once I ms told r s (c, h, e) (d, k, f) =
     let same : h.at ≡ k.at = first_once (IsPair I ms) h.at k.at (record { below = h.below; fails = h.out }) (record { below = k.below; fails = k.out }) in
-    e ∙ ap (Sign n) (h.is ∙ ap (λ (i : ℕ). (multiplier_at ms i).column) same ∙ sym k.is) ∙ sym f
+    e ∙ ap told (h.is ∙ ap (λ (i : ℕ). (multiplier_at ms i).column) same ∙ sym k.is) ∙ sym f
 
-not_legal : (I : Instance) (ms : List Multiplier) (n : ℕ) (r : Refused) → SignRefuses I ms n r → AreLegal I ms → ⊥
+sign_once : (I : Instance) (ms : List Multiplier) (n : ℕ) (r s : Unshown) → SignRefuses I ms n r → SignRefuses I ms n s → r ≡ s
+sign_once I ms n r s h k = illegal_once I ms (Sign n) r s h k
+
+not_legal : (I : Instance) (ms : List Multiplier) (n : ℕ) (r : Unshown) → SignRefuses I ms n r → AreLegal I ms → ⊥
 not_legal I ms n r (c, h, e) legal = h.out (pair_of I ms legal h.at h.inside)
 
 abbrev IsWanted : Instance → List Multiplier → Option Ratio → ℕ → Type 0
 IsWanted I ms z j = IsSame (form I ms j) (wanted I z j)
 
-at_form : (I : Instance) (ms : List Multiplier) (z : Option Ratio) (n : ℕ) (r : Refused) → FormRefuses I ms z n r → AtFirst (FormFits I ms) (IsWanted I ms z) (Wide n) (Form n) r
+at_form : (I : Instance) (ms : List Multiplier) (z : Option Ratio) (n : ℕ) (r : Unshown) → FormRefuses I ms z n r → AtFirst (FormFits I ms) (IsWanted I ms z) (Wide n) (Form n) r
 at_form I ms z n r (inl (j, h, e)) = (j, record { below = λ k l. ((h.below k l).fits, (h.below k l).is); fails = λ p. h.other p.1 }, inr (h.fits, h.other, e))
 at_form I ms z n r (inr (j, h, e)) = (j, record { below = λ k l. ((h.below k l).fits, (h.below k l).is); fails = λ p. h.wide p.0 }, inl (h.wide, e))
 
-form_once : (I : Instance) (ms : List Multiplier) (z : Option Ratio) (n : ℕ) (r s : Refused) → FormRefuses I ms z n r → FormRefuses I ms z n s → r ≡ s
+form_once : (I : Instance) (ms : List Multiplier) (z : Option Ratio) (n : ℕ) (r s : Unshown) → FormRefuses I ms z n r → FormRefuses I ms z n s → r ≡ s
 form_once I ms z n r s h k = place_once (FormFits I ms) (IsWanted I ms z) (Wide n) (Form n) r s (at_form I ms z n r h) (at_form I ms z n s k)
 
-not_forms : (I : Instance) (ms : List Multiplier) (z : Option Ratio) (n : ℕ) (r : Refused) → FormRefuses I ms z n r → FormsBelow I ms z (width I) → ⊥
+not_forms : (I : Instance) (ms : List Multiplier) (z : Option Ratio) (n : ℕ) (r : Unshown) → FormRefuses I ms z n r → FormsBelow I ms z (width I) → ⊥
 not_forms I ms z n r (inl (j, h, e)) forms = h.other (forms j h.inside).is
 not_forms I ms z n r (inr (j, h, e)) forms = h.wide (forms j h.inside).fits
 
-abbrev ThenSum : Instance → List Multiplier → Option Ratio → ℕ → Refused → Type 0
+abbrev ThenSum : Instance → List Multiplier → Option Ratio → ℕ → Unshown → Type 0
 ThenSum I ms z n r = Staged (FormsBelow I ms z (width I)) (FormRefuses I ms z n) (SumRefuses I ms z n) r
 
-staged : (I : Instance) (ms : List Multiplier) (z : Option Ratio) (n : ℕ) (r : Refused) → LeafRefuses I ms z n r → Staged (AreLegal I ms) (SignRefuses I ms n) (ThenSum I ms z n) r
+staged : (I : Instance) (ms : List Multiplier) (z : Option Ratio) (n : ℕ) (r : Unshown) → LeafRefuses I ms z n r → Staged (AreLegal I ms) (SignRefuses I ms n) (ThenSum I ms z n) r
 staged I ms z n r (inl h) = inl (not_legal I ms n r h, h)
 staged I ms z n r (inr (inl (l, h))) = inr (l, inl (not_forms I ms z n r h, h))
 staged I ms z n r (inr (inr (l, f, h))) = inr (l, inr (f, h))
 
-pub leaf_once : (I : Instance) (ms : List Multiplier) (z : Option Ratio) (n : ℕ) (r s : Refused) → LeafRefuses I ms z n r → LeafRefuses I ms z n s → r ≡ s
+pub leaf_once : (I : Instance) (ms : List Multiplier) (z : Option Ratio) (n : ℕ) (r s : Unshown) → LeafRefuses I ms z n r → LeafRefuses I ms z n s → r ≡ s
 leaf_once I ms z n r s h k =
     stage_once (AreLegal I ms) (SignRefuses I ms n) (ThenSum I ms z n) r s (sign_once I ms n r s)
     (stage_once (FormsBelow I ms z (width I)) (FormRefuses I ms z n) (SumRefuses I ms z n) r s (form_once I ms z n r s)
     (twofold_once (LowFits I (start I z) ms) (ReachesBound z (low_sum I (start I z) ms)) (Wide n) (Sum n) r s))
     (staged I ms z n r h) (staged I ms z n s k)
 
-pub clash_once : (I : Instance) (c n : ℕ) (r s : Refused) → ClashRefuses I c n r → ClashRefuses I c n s → r ≡ s
+pub clash_once : (I : Instance) (c n : ℕ) (r s : Unshown) → ClashRefuses I c n r → ClashRefuses I c n s → r ≡ s
 clash_once I c n r s h k = twofold_once (c < width I + height I) (IsEmpty (column_at I c)) (Sign n c) (Sum n) r s h k

@@ -1,21 +1,21 @@
 -- A point is refused for one reason.
 use Rattle.std.proofs.Common.{◌≡◌, ◌∙◌, ◌⊎◌, inl, inr, ℕ, ◌+◌, ◌<◌, List, length, refl, ap, sym, subst, arith}
 use Rattle.rational.specs.Ratio.{Ratio, IsSame}
-use Rattle.evidence.specs.Instance.{Instance, width, height, variable_at, row_at}
+use Rattle.evidence.specs.Instance.{Instance, Problem, goals, asking, width, height, variable_at, row_at}
 use Rattle.evidence.specs.Point.{value_at, activity, objective, IsBetween}
 use Rattle.evidence.specs.Width.{RowFits, GoalFits}
 use Rattle.evidence.specs.Columns.{Keeps, KeepsBelow, IsFirstOut, IsFirstWide}
 use Rattle.instance.specs.Feasibility.{IsFeasibleWithin}
 use Rattle.cert_checker.specs.declared.refused.Refused.{Refused}
-use Rattle.cert_checker.specs.declared.refused.Refused.TheVariants.{NotFeasible, Value, Wide}
-use Rattle.cert_checker.specs.Points.{IsMiscounted, ValueRefuses, PointRefuses}
-use Rattle.cert_checker.proofs.Firsts.{Staged, stage_once, twofold_once, AtFirst, place_once}
+use Rattle.cert_checker.specs.declared.refused.Refused.TheVariants.{NotFeasible, Value, WidePoint}
+use Rattle.cert_checker.specs.Points.{IsMiscounted, IsFirstValue, ValuesRefuse, PointRefuses}
+use Rattle.cert_checker.proofs.Firsts.{Staged, stage_once, AtFirst, place_once}
 
 -- the number of values is told once
-abbrev pub Miscounted : Instance → List Ratio → (ℕ → Refused) → Refused → Type 0
+abbrev pub Miscounted : {R : Type 0} → Instance → List Ratio → (ℕ → R) → R → Type 0
 Miscounted I x told r = (c : ℕ) × IsMiscounted I x c × (r ≡ told c)
 
-pub miscount_once : (I : Instance) (x : List Ratio) (told : ℕ → Refused) (r s : Refused) → Miscounted I x told r → Miscounted I x told s → r ≡ s
+pub miscount_once : {R : Type 0} (I : Instance) (x : List Ratio) (told : ℕ → R) (r s : R) → Miscounted I x told r → Miscounted I x told s → r ≡ s
 miscount_once I x told r s (c, m, e) (d, n, f) = e ∙ ap told (m.1 ∙ sym n.1) ∙ sym f
 
 -- a column's sum fits, if it is a row; it is kept
@@ -30,9 +30,9 @@ kept_below I x c below k h = (λ i e inside. (below.rows i (omega arith) inside)
 
 -- the first column that isn't kept, or whose sum doesn't fit
 abbrev ColumnRefuses : Instance → List Ratio → Refused → Type 0
-ColumnRefuses I x r = ((c : ℕ) × IsFirstOut I x c × (r ≡ NotFeasible c)) ⊎ (IsFirstWide I x × (r ≡ Wide 0))
+ColumnRefuses I x r = ((c : ℕ) × IsFirstOut I x c × (r ≡ NotFeasible c)) ⊎ (IsFirstWide I x × (r ≡ WidePoint))
 
-at_column : (I : Instance) (x : List Ratio) (r : Refused) → ColumnRefuses I x r → AtFirst (Fits I x) (Kept I x) (Wide 0) NotFeasible r
+at_column : (I : Instance) (x : List Ratio) (r : Refused) → ColumnRefuses I x r → AtFirst (Fits I x) (Kept I x) WidePoint NotFeasible r
 at_column I x r (inl (c, inl out, e)) = (
   c,
   record { below = kept_below I x c out.below; fails = λ p. out.out (p.1.0 out.inside) },
@@ -50,24 +50,42 @@ at_column I x r (inr (out, e)) = (
 )
 
 out_once : (I : Instance) (x : List Ratio) (r s : Refused) → ColumnRefuses I x r → ColumnRefuses I x s → r ≡ s
-out_once I x r s h k = place_once (Fits I x) (Kept I x) (Wide 0) NotFeasible r s (at_column I x r h) (at_column I x s k)
+out_once I x r s h k = place_once (Fits I x) (Kept I x) WidePoint NotFeasible r s (at_column I x r h) (at_column I x s k)
 
 not_out : (I : Instance) (x : List Ratio) (r : Refused) → ColumnRefuses I x r → IsFeasibleWithin I x → ⊥
-not_out I x r (inl (c, inl out, e)) is = out.out (record { between = is.feasible.variables c out.inside; whole = is.feasible.whole c out.inside })
+not_out I x r (inl (c, inl out, e)) is = out.out (record { between = is.feasible.variables c out.inside; whole = is.feasible.whole c out.inside; further = is.feasible.further c out.inside })
 not_out I x r (inl (c, inr out, e)) is = out.out (is.feasible.rows out.row out.inside)
 not_out I x r (inr (out, e)) is = out.wide (is.fits out.row out.inside)
 
-abbrev ThenValue : Instance → List Ratio → Ratio → Refused → Type 0
-ThenValue I x v r = Staged (IsFeasibleWithin I x) (ColumnRefuses I x) (ValueRefuses I x v) r
+-- the first goal whose sum doesn't fit, or isn't the value
+abbrev IsValue : Problem → List Ratio → List Ratio → ℕ → Type 0
+IsValue P x vs k = IsSame (value_at vs k) (objective (asking P k) x)
 
-staged : (I : Instance) (x : List Ratio) (v : Ratio) (r : Refused) → PointRefuses I x v r → Staged (length x ≡ width I) (Miscounted I x NotFeasible) (ThenValue I x v) r
-staged I x v r (inl h) = inl (h.1.0, h)
-staged I x v r (inr (inl (n, c, out, e))) = inr (n, inl (not_out I x r (inl (c, out, e)), inl (c, out, e)))
-staged I x v r (inr (inr (inl (n, out, e)))) = inr (n, inl (not_out I x r (inr (out, e)), inr (out, e)))
-staged I x v r (inr (inr (inr (is, h)))) = inr (is.feasible.count, inr (is, h))
+abbrev at_goal : ℕ → Refused
+at_goal k = Value
 
-pub point_once : (I : Instance) (x : List Ratio) (v : Ratio) (r s : Refused) → PointRefuses I x v r → PointRefuses I x v s → r ≡ s
-point_once I x v r s h k =
-    stage_once (length x ≡ width I) (Miscounted I x NotFeasible) (ThenValue I x v) r s (miscount_once I x NotFeasible r s)
-    (stage_once (IsFeasibleWithin I x) (ColumnRefuses I x) (ValueRefuses I x v) r s (out_once I x r s) (twofold_once (GoalFits I x) (IsSame v (objective I x)) (Wide 0) Value r s))
-    (staged I x v r h) (staged I x v s k)
+at_value : (P : Problem) (x vs : List Ratio) (r : Refused) → IsFirstValue P x vs r → AtFirst (λ k. GoalFits (asking P k) x) (IsValue P x vs) WidePoint at_goal r
+at_value P x vs r f = (f.goal, record { below = λ k h. ((f.below k h).fits, (f.below k h).is); fails = fails f.why }, f.why)
+  where
+    fails : ((GoalFits (asking P f.goal) x → ⊥) × (r ≡ WidePoint)) ⊎ (GoalFits (asking P f.goal) x × (IsValue P x vs f.goal → ⊥) × (r ≡ Value)) → GoalFits (asking P f.goal) x × IsValue P x vs f.goal → ⊥
+    fails (inl h) p = h.0 p.0
+    fails (inr h) p = h.1 p.1
+
+value_once : (P : Problem) (x vs : List Ratio) (r s : Refused) → IsFirstValue P x vs r → IsFirstValue P x vs s → r ≡ s
+value_once P x vs r s h k = place_once (λ k. GoalFits (asking P k) x) (IsValue P x vs) WidePoint at_goal r s (at_value P x vs r h) (at_value P x vs s k)
+
+abbrev ThenValues : Problem → List Ratio → List Ratio → Refused → Type 0
+ThenValues P x vs r = Staged (IsFeasibleWithin P.program x) (ColumnRefuses P.program x) (ValuesRefuse P x vs) r
+
+staged : (P : Problem) (x vs : List Ratio) (r : Refused) → PointRefuses P x vs r → Staged (length x ≡ width P.program) (Miscounted P.program x NotFeasible) (ThenValues P x vs) r
+staged P x vs r (inl (c, m, e)) = inl (m.0, (c, m, e))
+staged P x vs r (inr (inl (n, c, out, e))) = inr (n, inl (not_out P.program x r (inl (c, out, e)), inl (c, out, e)))
+staged P x vs r (inr (inr (inl (n, out, e)))) = inr (n, inl (not_out P.program x r (inr (out, e)), inr (out, e)))
+staged P x vs r (inr (inr (inr (is, h)))) = inr (is.feasible.count, inr (is, h))
+
+pub point_once : (P : Problem) (x vs : List Ratio) (r s : Refused) → PointRefuses P x vs r → PointRefuses P x vs s → r ≡ s
+point_once P x vs r s h k =
+    stage_once (length x ≡ width P.program) (Miscounted P.program x NotFeasible) (ThenValues P x vs) r s (miscount_once P.program x NotFeasible r s)
+    (stage_once (IsFeasibleWithin P.program x) (ColumnRefuses P.program x) (ValuesRefuse P x vs) r s (out_once P.program x r s)
+    (stage_once (length vs ≡ length (goals P)) (λ (q : Refused). q ≡ Value) (IsFirstValue P x vs) r s (λ e f. e ∙ sym f) (value_once P x vs r s)))
+    (staged P x vs r h) (staged P x vs s k)

@@ -6,19 +6,18 @@ use Rattle.rational.specs.Ratio.{Ratio}
 use Rattle.fraction.specs.declared.frac.Frac.{Frac}
 use Rattle.evidence.specs.Sums.{none}
 use Rattle.evidence.specs.Instance.{Instance, minimising}
-use Rattle.evidence.specs.Cases.{Multiplier, Node, ClashAt, FarkasBy, BoundBy, SplitAt, IsBranch, IsFarkas, IsBound, at_most, at_least}
+use Rattle.evidence.specs.Cases.{Multiplier, Node, ClashAt, FarkasBy, BoundBy, SplitAt, ZeroAt, IsBranch, IsZeroBranch, IsFarkas, IsBound, at_most, at_least, at_zero, unless_zero}
 use Rattle.evidence.specs.Width.{LeafFits, ProvesWithin}
 use Rattle.evidence.specs.PendingNodes.{ShowsAll}
-use Rattle.evidence.proofs.PendingNodes.{start, clash_step, farkas_step, bound_step, split_step}
+use Rattle.evidence.proofs.PendingNodes.{start, clash_step, farkas_step, bound_step, split_step, zero_step}
 use Rattle.certificate.specs.Meanings as Means
 use Rattle.certificate.specs.declared.lists.Mult.{Mult}
 use Rattle.certificate.specs.declared.nodes.Node as Has
 use Rattle.certificate.specs.declared.nodes.Node.TheVariants.{Farkas, Bound}
-use Rattle.cert_checker.specs.declared.refused.Refused.{Refused}
-use Rattle.instance.specs.declared.parts.Var.{Var}
-use Rattle.instance.specs.Parts.{Parts}
+use Rattle.cert_checker.specs.declared.refused.Unshown.{Unshown}
+use Rattle.case_tree.specs.declared.cuts.Cut.{Cut}
 use Rattle.case_tree.specs.declared.path.Branch.{Branch}
-use Rattle.cert_checker.specs.declared.refused.Refused.TheVariants.{Tree as Missing}
+use Rattle.cert_checker.specs.declared.refused.Unshown.TheVariants.{Tree as Missing}
 use Rattle.case_tree.specs.Cuts.{cases}
 use Rattle.cert_checker.specs.Cuts.{aim}
 use Rattle.cert_checker.specs.Leaves.{LeafHolds, LeafRefuses, ClashHolds}
@@ -69,6 +68,12 @@ module _ (I : Instance) (js after : List Instance) (n : ℕ) (z : Option Ratio) 
     refused = λ r q. inr (b, subst (λ l. TreeRefuses l rest z (n + 1) r) e q);
   }
 
+  pub zero_leads : (j : ℕ) → IsZeroBranch I j → after ≡ at_zero I j ∷ unless_zero I j ∷ js → LeadsThrough (I ∷ js) (ZeroAt j ∷ rest) n after rest (n + 1) z
+  zero_leads j b e = record {
+    shown = λ s. (zero_step I js j rest z).1 (b, subst (λ l. ShowsAll l rest z) e s);
+    refused = λ r q. inr (b, subst (λ l. TreeRefuses l rest z (n + 1) r) e q);
+  }
+
 module _ (I : Instance) (js after : List Instance) (n : ℕ) (rest : List Node) (ms : List Multiplier) where
   bound_some : (z : Ratio) → LeafHolds I ms (Some z) → after ≡ js → LeadsThrough (I ∷ js) (BoundBy ms ∷ rest) n after rest (n + 1) (Some z)
   bound_some z h e = record {
@@ -80,7 +85,7 @@ module _ (I : Instance) (js after : List Instance) (n : ℕ) (rest : List Node) 
   bound_leads None ne h e = absurd (ne refl)
   bound_leads (Some f) ne h e = bound_some _ h e
 
-  bound_refuses : (a : Option Frac) → (a ≡ None → ⊥) → (r : Refused) → LeafRefuses I ms (aim a) n r → TreeRefuses (I ∷ js) (BoundBy ms ∷ rest) (aim a) n r
+  bound_refuses : (a : Option Frac) → (a ≡ None → ⊥) → (r : Unshown) → LeafRefuses I ms (aim a) n r → TreeRefuses (I ∷ js) (BoundBy ms ∷ rest) (aim a) n r
   bound_refuses None ne r q = absurd (ne refl)
   bound_refuses (Some f) ne r q = inl q
 
@@ -92,7 +97,7 @@ module _ (I : Instance) (js after : List Instance) (n : ℕ) (z : Option Ratio) 
   pub farkas_node_leads : LeafHolds I (Means.multipliers lent) None → after ≡ js → LeadsThrough (I ∷ js) (Means.node x ∷ rest) n after rest (n + 1) z
   farkas_node_leads h e = subst (λ y. LeadsThrough (I ∷ js) (y ∷ rest) n after rest (n + 1) z) (sym node_is) (farkas_leads I js after n z rest (Means.multipliers lent) h e)
 
-pub farkas_refused : (I : Instance) (js : List Instance) (n : ℕ) (z : Option Ratio) (rest : List Node) (x : Has.Node) (ms lent : List Mult) (is : x ≡ Farkas ms) (le : lent ≡ ms) (r : Refused) → LeafRefuses I (Means.multipliers lent) None n r → TreeRefuses (I ∷ js) (Means.node x ∷ rest) z n r
+pub farkas_refused : (I : Instance) (js : List Instance) (n : ℕ) (z : Option Ratio) (rest : List Node) (x : Has.Node) (ms lent : List Mult) (is : x ≡ Farkas ms) (le : lent ≡ ms) (r : Unshown) → LeafRefuses I (Means.multipliers lent) None n r → TreeRefuses (I ∷ js) (Means.node x ∷ rest) z n r
 farkas_refused I js n z rest x ms lent is le r q =
     subst (λ y. TreeRefuses (I ∷ js) (y ∷ rest) z n r) (sym (ap Means.node is ∙ ap (λ l. FarkasBy (Means.multipliers l)) (sym le))) (inl q)
 
@@ -102,7 +107,7 @@ module _ (I : Instance) (js after : List Instance) (n : ℕ) (rest : List Node) 
       subst (λ y. LeadsThrough (I ∷ js) (y ∷ rest) n after rest (n + 1) (aim a)) (sym (ap Means.node is ∙ ap (λ l. BoundBy (Means.multipliers l)) (sym le)))
       (bound_leads I js after n rest (Means.multipliers lent) a ne h e)
 
-pub bound_refused : (I : Instance) (js : List Instance) (n : ℕ) (rest : List Node) (x : Has.Node) (ms lent : List Mult) (is : x ≡ Bound ms) (le : lent ≡ ms) (a : Option Frac) (ne : a ≡ None → ⊥) (r : Refused) → LeafRefuses I (Means.multipliers lent) (aim a) n r → TreeRefuses (I ∷ js) (Means.node x ∷ rest) (aim a) n r
+pub bound_refused : (I : Instance) (js : List Instance) (n : ℕ) (rest : List Node) (x : Has.Node) (ms lent : List Mult) (is : x ≡ Bound ms) (le : lent ≡ ms) (a : Option Frac) (ne : a ≡ None → ⊥) (r : Unshown) → LeafRefuses I (Means.multipliers lent) (aim a) n r → TreeRefuses (I ∷ js) (Means.node x ∷ rest) (aim a) n r
 bound_refused I js n rest x ms lent is le a ne r q =
     subst (λ y. TreeRefuses (I ∷ js) (y ∷ rest) (aim a) n r) (sym (ap Means.node is ∙ ap (λ l. BoundBy (Means.multipliers l)) (sym le)))
     (bound_refuses I js js n rest (Means.multipliers lent) a ne r q)
@@ -117,21 +122,21 @@ drop_node ns i x h is =
     drop-cons (Means.nodes ns) i d (omega arith) ∙ ap₂ (λ y l. y ∷ l) (get_or-map Means.node ns i x d h ∙ sym (ap Means.node is)) (ap (λ k. drop k (Means.nodes ns)) (sym (add-one i)))
 
 -- the leads so far, with the node at hand first
-pub leads_here : (Is : List Instance) (ns : List Has.Node) (p : Parts) (vs : List Var) (bs : List Branch) (o : Option ℕ) (d i : ℕ) (z : Option Ratio) (x : Has.Node) → o ≡ Some d → i < length ns → x ≡ slice_index_or ns i x → LeadsThrough Is (Means.nodes ns) 1 (cases p vs bs o) (drop i (Means.nodes ns)) (i + 1) z → LeadsThrough Is (Means.nodes ns) 1 (cases p vs bs (Some d)) (Means.node x ∷ drop (i + 1) (Means.nodes ns)) (i + 1) z
-leads_here Is ns p vs bs o d i z x e h is f =
-    subst (λ l. LeadsThrough Is (Means.nodes ns) 1 (cases p vs bs (Some d)) l (i + 1) z) (drop_node ns i x h is)
-    (subst (λ o. LeadsThrough Is (Means.nodes ns) 1 (cases p vs bs o) (drop i (Means.nodes ns)) (i + 1) z) e f)
+pub leads_here : (Is : List Instance) (ns : List Has.Node) (I : Instance) (vs : List Cut) (bs : List Branch) (o : Option ℕ) (d i : ℕ) (z : Option Ratio) (x : Has.Node) → o ≡ Some d → i < length ns → x ≡ slice_index_or ns i x → LeadsThrough Is (Means.nodes ns) 1 (cases I vs bs o) (drop i (Means.nodes ns)) (i + 1) z → LeadsThrough Is (Means.nodes ns) 1 (cases I vs bs (Some d)) (Means.node x ∷ drop (i + 1) (Means.nodes ns)) (i + 1) z
+leads_here Is ns I vs bs o d i z x e h is f =
+    subst (λ l. LeadsThrough Is (Means.nodes ns) 1 (cases I vs bs (Some d)) l (i + 1) z) (drop_node ns i x h is)
+    (subst (λ o. LeadsThrough Is (Means.nodes ns) 1 (cases I vs bs o) (drop i (Means.nodes ns)) (i + 1) z) e f)
 
 pub leads_first : (Is : List Instance) (ns : List Node) (z : Option Ratio) → LeadsThrough Is ns 1 Is (drop 0 ns) (0 + 1) z
 leads_first Is ns z = record { shown = λ s. s; refused = λ r q. q }
 
 -- all nodes are read
-drop_all : (ns : List Node) (n : ℕ) → n ≡ length ns → drop n ns ≡ []
-drop_all ns n e = ap (λ k. drop k ns) e ∙ none_left ns
-  where
-    none_left : (ns : List Node) → drop (length ns) ns ≡ []
-    none_left [] = refl
-    none_left (x ∷ ns) = none_left ns
+none_after : {X : Type 0} (xs : List X) → drop (length xs) xs ≡ []
+none_after [] = refl
+none_after (x ∷ xs) = none_after xs
+
+pub drop_all : {X : Type 0} (xs : List X) (n : ℕ) → n ≡ length xs → drop n xs ≡ []
+drop_all xs n e = ap (λ k. drop k xs) e ∙ none_after xs
 
 pub all_shown : (I : Instance) (ns : List Node) (i : ℕ) (z : Option Ratio) → i ≡ length ns → LeadsThrough (I ∷ []) ns 1 [] (drop i ns) (i + 1) z → ProvesWithin I ns z
 all_shown I ns i z e f = (start I ns z).1 (f.shown (drop_all ns i e))

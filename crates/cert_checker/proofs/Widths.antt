@@ -1,44 +1,44 @@
 -- The widths and the numbers of a program whose variables are cut.
-use Rattle.std.proofs.Common.{◌≡◌, ℕ, ◌+◌, ◌<◌, List, length, slice_index_or, arith, subst}
+use Rattle.std.proofs.Common.{◌≡◌, ℕ, ◌+◌, ◌<◌, IfSome, List, length, map, slice_index_or, arith, ap, subst}
 use Rattle.std.proofs.lemmas.List.{length-map}
-use Rattle.rational.specs.Ratio.{IsNumber, product}
-use Rattle.fraction.specs.Frac.{ratio, ratios}
-use Rattle.fraction.specs.declared.frac.Frac.{Frac}
-use Rattle.evidence.specs.Instance.{width, height, cost_at}
+use Rattle.std.proofs.lemmas.List.Elements.{All-map}
+use Rattle.evidence.specs.Instance.{Instance, IsInstance, HasNumbers, width, height}
 use Rattle.evidence.specs.Sums.{none}
 use Rattle.evidence.specs.Cases.{Multiplier, AreLegal}
-use Rattle.evidence.specs.Point.{value_at, objective}
-use Rattle.evidence.proofs.Numbers.{product-number}
-use Rattle.evidence.proofs.Totals.{total-number}
-use Rattle.instance.specs.declared.parts.Var.{Var}
-use Rattle.instance.specs.Parts.{Parts}
-use Rattle.instance.specs.Program.{variable, row, program}
-use Rattle.instance.proofs.Terms.{ratios-number}
+use Rattle.instance.proofs.Numbers.{range-numbers, further-numbers}
 use Rattle.certificate.specs.declared.lists.Mult.{Mult}
 use Rattle.certificate.specs.Meanings.{multiplier, multipliers}
-use Rattle.case_tree.specs.Cuts.{cut}
+use Rattle.case_tree.specs.declared.cuts.Cut.{Cut}
+use Rattle.case_tree.specs.Cuts.{cut, cut_variable}
 use Rattle.cert_checker.proofs.Lists.{mult_read}
 
-pub width_is : (p : Parts) (vs : List Var) → width (cut p vs) ≡ length vs
-width_is p vs = length-map vs variable
+pub width_is : (I : Instance) (cs : List Cut) → width (cut I cs) ≡ length cs
+width_is I cs = length-map cs cut_variable
 
-pub height_is : (p : Parts) (vs : List Var) → height (cut p vs) ≡ length p.rows
-height_is p vs = length-map p.rows row
+pub columns_in : (I : Instance) (cs : List Cut) (k : ℕ) → k < width (cut I cs) + height (cut I cs) → k < length cs + height I
+columns_in I cs k h = let a = width_is I cs in omega arith
 
-pub columns_in : (p : Parts) (vs : List Var) (k : ℕ) → k < width (cut p vs) + height (cut p vs) → k < length vs + length p.rows
-columns_in p vs k h = let a = width_is p vs in let b = height_is p vs in omega arith
-
-pub columns_from : (p : Parts) (vs : List Var) (k : ℕ) → k < length vs + length p.rows → k < width (cut p vs) + height (cut p vs)
-columns_from p vs k h = let a = width_is p vs in let b = height_is p vs in omega arith
-
-pub objective-number : (p : Parts) (x : List Frac) → IsNumber (objective (program p) (ratios x))
-objective-number p x =
-    total-number (ratio p.goal.constant) (width (program p)) (λ j. product (cost_at (program p) j) (value_at (ratios x) j)) p.goal.constant.above
-    (λ j. product-number (cost_at (program p) j) (value_at (ratios x) j) (ratios-number p.goal.costs j) (ratios-number x j))
+pub columns_from : (I : Instance) (cs : List Cut) (k : ℕ) → k < length cs + height I → k < width (cut I cs) + height (cut I cs)
+columns_from I cs k h = let a = width_is I cs in omega arith
 
 -- a legal multiplier has a column
-pub legal_column : (p : Parts) (vs : List Var) (ms : List Mult) (k : ℕ) (m : Mult) → AreLegal (cut p vs) (multipliers ms) → k < length ms → m ≡ slice_index_or ms k m → m.col < length vs + length p.rows
-legal_column p vs ms k m legal h e =
+pub legal_column : (I : Instance) (cs : List Cut) (ms : List Mult) (k : ℕ) (m : Mult) → AreLegal (cut I cs) (multipliers ms) → k < length ms → m ≡ slice_index_or ms k m → m.col < length cs + height I
+legal_column I cs ms k m legal h e =
     let n = length-map ms multiplier in
     let c = legal.columns k (record { column = 0; by = none }) (omega arith) in
-    columns_in p vs m.col (subst (λ (q : Multiplier). q.column < width (cut p vs) + height (cut p vs)) (mult_read ms k m h e) c)
+    columns_in I cs m.col (subst (λ (q : Multiplier). q.column < width (cut I cs) + height (cut I cs)) (mult_read ms k m h e) c)
+
+-- a program whose variables are cut has numbers
+pub cut-instance : (I : Instance) → IsInstance I → (cs : List Cut) → IsInstance (cut I cs)
+cut-instance I good cs = record {
+  variables = All-map (λ v. HasNumbers v.range) cut_variable cs (λ k d h. range-numbers (slice_index_or cs k d).lb (slice_index_or cs k d).ub);
+  further = All-map (λ v. IfSome v.unless_zero HasNumbers) cut_variable cs (λ k d h. further-numbers (slice_index_or cs k d).var.zero (slice_index_or cs k d).var.lb (slice_index_or cs k d).var.ub);
+  rows = good.rows;
+  entries = good.entries;
+  constant = good.constant;
+  costs = good.costs;
+}
+
+-- before any branch it is the program itself
+pub cut_is : (I : Instance) (cs : List Cut) → map cut_variable cs ≡ I.variables → cut I cs ≡ I
+cut_is I cs e = ap (λ l. let J : Instance = record I { variables = l } in J) e

@@ -5,8 +5,8 @@ use Rattle.evidence.specs.Sums.{none}
 use Rattle.evidence.specs.Instance.{Instance, width, height, column_at, cost_at, minimising}
 use Rattle.evidence.specs.Cases.{Multiplier, multiplier_at, end_of, AreLegal, IsEmpty, form, low_sum}
 use Rattle.evidence.specs.Width.{FormFits, LowFits}
-use Rattle.cert_checker.specs.declared.refused.Refused.{Refused}
-use Rattle.cert_checker.specs.declared.refused.Refused.TheVariants.{Sign, Form, Sum, Wide}
+use Rattle.cert_checker.specs.declared.refused.Unshown.{Unshown}
+use Rattle.cert_checker.specs.declared.refused.Unshown.TheVariants.{Sign, Form, Sum, Wide}
 
 -- the multiplier at place k has a column, after the one before it, isn't 0, and has a finite end on its side
 pub record IsPair (I : Instance) (ms : List Multiplier) (k : ℕ) : Type 0 where
@@ -60,13 +60,13 @@ pub record IsFirstUnfit (I : Instance) (ms : List Multiplier) (z : Option Ratio)
   pub below : FormsBelow I ms z j
   pub wide : FormFits I ms j → ⊥
 
-abbrev pub SignRefuses : Instance → List Multiplier → ℕ → Refused → Type 0
+abbrev pub SignRefuses : Instance → List Multiplier → ℕ → Unshown → Type 0
 SignRefuses I ms node r = (c : ℕ) × IsFirstIllegal I ms c × (r ≡ Sign node c)
 
-abbrev pub FormRefuses : Instance → List Multiplier → Option Ratio → ℕ → Refused → Type 0
+abbrev pub FormRefuses : Instance → List Multiplier → Option Ratio → ℕ → Unshown → Type 0
 FormRefuses I ms z node r = ((j : ℕ) × IsFirstOther I ms z j × (r ≡ Form node j)) ⊎ ((j : ℕ) × IsFirstUnfit I ms z j × (r ≡ Wide node))
 
-abbrev pub SumRefuses : Instance → List Multiplier → Option Ratio → ℕ → Refused → Type 0
+abbrev pub SumRefuses : Instance → List Multiplier → Option Ratio → ℕ → Unshown → Type 0
 SumRefuses I ms z node r =
     ((LowFits I (start I z) ms → ⊥) × (r ≡ Wide node))
     ⊎ (LowFits I (start I z) ms × (ReachesBound z (low_sum I (start I z) ms) → ⊥) × (r ≡ Sum node))
@@ -83,7 +83,7 @@ pub record LeafHolds (I : Instance) (ms : List Multiplier) (z : Option Ratio) : 
   pub sum : HasSum I ms z
 
 -- what multipliers are refused for: the first that isn't legal, the first variable's sum, and then the sum of their ends
-abbrev pub LeafRefuses : Instance → List Multiplier → Option Ratio → ℕ → Refused → Type 0
+abbrev pub LeafRefuses : Instance → List Multiplier → Option Ratio → ℕ → Unshown → Type 0
 LeafRefuses I ms z node r =
     SignRefuses I ms node r ⊎ (AreLegal I ms × FormRefuses I ms z node r) ⊎ (AreLegal I ms × FormsBelow I ms z (width I) × SumRefuses I ms z node r)
 
@@ -92,6 +92,6 @@ abbrev pub ClashHolds : Instance → ℕ → Type 0
 ClashHolds I c = (c < width I + height I) × IsEmpty (column_at I c)
 
 -- there is no such column, or its ends don't exclude each other
-abbrev pub ClashRefuses : Instance → ℕ → ℕ → Refused → Type 0
+abbrev pub ClashRefuses : Instance → ℕ → ℕ → Unshown → Type 0
 ClashRefuses I c node r =
     ((c < width I + height I → ⊥) × (r ≡ Sign node c)) ⊎ ((c < width I + height I) × (IsEmpty (column_at I c) → ⊥) × (r ≡ Sum node))

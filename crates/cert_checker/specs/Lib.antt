@@ -6,6 +6,11 @@ pub mod Points
 pub mod Rays
 pub mod Leaves
 pub mod Trees
+pub mod RoundRefusals
+pub mod LevelRefusals
 pub mod Refusals
 pub mod Cuts
 pub mod Slots
+pub mod Programs
+pub mod Reached
+pub mod Settled

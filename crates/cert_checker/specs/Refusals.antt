@@ -1,18 +1,18 @@
 -- Which refusal of a claim is the first.
-use Rattle.std.specs.Prelude.{◌≡◌, ◌⊎◌, None, Some, [], ◌∷◌}
-use Rattle.evidence.specs.Instance.{Instance, minimising}
+use Rattle.std.specs.Prelude.{◌≡◌, ◌⊎◌, None, [], ◌∷◌}
+use Rattle.evidence.specs.Instance.{Problem}
 use Rattle.evidence.specs.Width.{PointFits}
-use Rattle.evidence.specs.Claim.{Claim, Optimal, Infeasible, Unbounded, BestSoFar, Unsure, HasValue}
+use Rattle.evidence.specs.Levels.{HasGoalValues}
+use Rattle.evidence.specs.Claim.{Claim, Optimal, Infeasible, Unbounded, BestSoFar, Unsure}
 use Rattle.cert_checker.specs.declared.refused.Refused.{Refused}
 use Rattle.cert_checker.specs.declared.refused.Refused.TheVariants.{NoClaim}
 use Rattle.cert_checker.specs.Points.{PointRefuses}
-use Rattle.cert_checker.specs.Rays.{RayRefuses}
-use Rattle.cert_checker.specs.Trees.{TreeRefuses}
+use Rattle.cert_checker.specs.LevelRefusals.{Best, Endless, LevelRefuses, ClaimRoundsRefuse, ClaimRoundsHold, CertificatesRefuse}
 
--- the point before the nodes or the direction; nodes are numbered from 1
-abbrev pub IsRefusedFor : Instance → Claim → Refused → Type 0
-IsRefusedFor I (Optimal x v nodes) r = PointRefuses I x v r ⊎ (HasValue I x v × PointFits I x × TreeRefuses (I ∷ []) nodes (Some (minimising I v)) 1 r)
-IsRefusedFor I (Infeasible nodes) r = TreeRefuses (I ∷ []) nodes None 1 r
-IsRefusedFor I (Unbounded x v d) r = PointRefuses I x v r ⊎ (HasValue I x v × PointFits I x × RayRefuses I d r)
-IsRefusedFor I (BestSoFar x v) r = PointRefuses I x v r
-IsRefusedFor I Unsure r = r ≡ NoClaim
+-- the point, its values, and then the certificates
+abbrev pub IsRefusedFor : Problem → Claim → Refused → Type 0
+IsRefusedFor P (Optimal x vs cs) r = PointRefuses P x vs r ⊎ (HasGoalValues P x vs × PointFits P x × CertificatesRefuse Best P vs cs r)
+IsRefusedFor P (Infeasible c) r = ClaimRoundsRefuse P (c ∷ []) r ⊎ (ClaimRoundsHold P (c ∷ []) × LevelRefuses P.program c None 1 r)
+IsRefusedFor P (Unbounded x vs cs d) r = PointRefuses P x vs r ⊎ (HasGoalValues P x vs × PointFits P x × CertificatesRefuse (Endless x d) P vs cs r)
+IsRefusedFor P (BestSoFar x vs) r = PointRefuses P x vs r
+IsRefusedFor P Unsure r = r ≡ NoClaim

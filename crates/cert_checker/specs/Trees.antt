@@ -2,15 +2,15 @@
 use Rattle.std.specs.Prelude.{◌≡◌, ℕ, ◌+◌, ◌⊎◌, pos, ◌+ℤ◌, Option, None, Some, List, [], ◌∷◌}
 use Rattle.rational.specs.Ratio.{Ratio}
 use Rattle.evidence.specs.Instance.{Instance}
-use Rattle.evidence.specs.Cases.{Node, ClashAt, FarkasBy, BoundBy, SplitAt, IsBranch, at_most, at_least}
+use Rattle.evidence.specs.Cases.{Node, ClashAt, FarkasBy, BoundBy, SplitAt, ZeroAt, IsBranch, IsZeroBranch, at_most, at_least, at_zero, unless_zero}
 use Rattle.evidence.specs.PendingNodes.{ShowsAll}
-use Rattle.cert_checker.specs.declared.refused.Refused.{Refused}
-use Rattle.cert_checker.specs.declared.refused.Refused.TheVariants.{Tree}
+use Rattle.cert_checker.specs.declared.refused.Unshown.{Unshown}
+use Rattle.cert_checker.specs.declared.refused.Unshown.TheVariants.{Tree}
 use Rattle.cert_checker.specs.Leaves.{LeafHolds, LeafRefuses, ClashHolds, ClashRefuses}
 
 -- the first node, of those numbered from the given number on, that is refused: it isn't needed, or is missing, or has no place,
 -- or doesn't show its case; the nodes before it do
-abbrev pub TreeRefuses : List Instance → List Node → Option Ratio → ℕ → Refused → Type 0
+abbrev pub TreeRefuses : List Instance → List Node → Option Ratio → ℕ → Unshown → Type 0
 TreeRefuses [] [] z number r = ⊥
 TreeRefuses [] (node ∷ nodes) z number r = r ≡ Tree number
 TreeRefuses (I ∷ cases) [] z number r = r ≡ Tree number
@@ -20,8 +20,10 @@ TreeRefuses (I ∷ cases) (BoundBy ms ∷ nodes) None number r = r ≡ Tree numb
 TreeRefuses (I ∷ cases) (BoundBy ms ∷ nodes) (Some z) number r = LeafRefuses I ms (Some z) number r ⊎ (LeafHolds I ms (Some z) × TreeRefuses cases nodes (Some z) (number + 1) r)
 TreeRefuses (I ∷ cases) (SplitAt j k ∷ nodes) z number r =
     ((IsBranch I j k → ⊥) × (r ≡ Tree number)) ⊎ (IsBranch I j k × TreeRefuses (at_most I j k ∷ at_least I j (k +ℤ pos 1) ∷ cases) nodes z (number + 1) r)
+TreeRefuses (I ∷ cases) (ZeroAt j ∷ nodes) z number r =
+    ((IsZeroBranch I j → ⊥) × (r ≡ Tree number)) ⊎ (IsZeroBranch I j × TreeRefuses (at_zero I j ∷ unless_zero I j ∷ cases) nodes z (number + 1) r)
 
 -- if the rest shows what is still to show, then all nodes show all; and the first refusal of the rest is that of all
 pub record LeadsThrough (before : List Instance) (nodes : List Node) (number : ℕ) (after : List Instance) (rest : List Node) (next : ℕ) (z : Option Ratio) : Type 0 where
   pub shown : ShowsAll after rest z → ShowsAll before nodes z
-  pub refused : (r : Refused) → TreeRefuses after rest z next r → TreeRefuses before nodes z number r
+  pub refused : (r : Unshown) → TreeRefuses after rest z next r → TreeRefuses before nodes z number r

@@ -1,26 +1,29 @@
 // The ends of columns, which are the variables as they are cut and then the rows.
 ghost use Rattle.std.specs.Prelude.{◌≡◌, ◌+◌, ◌<◌, length};
-ghost use Rattle.evidence.specs.Instance.{column_at};
+ghost use Rattle.evidence.specs.Instance.{width, height, column_at};
 ghost use Rattle.evidence.specs.Cases.{end_by};
 ghost use Rattle.instance.specs.Program.{limit, row};
 ghost use Rattle.case_tree.specs.Cuts.{cut};
 
+use crate::at_hand::Program;
+use case_tree::Cut;
 use fraction::{End, Frac};
-use instance::{Instance, Row, Var};
+use instance::Row;
 
 /// The lower and the upper end of a column: first the variables, with their ends as they are cut, and then the rows.
-pub(crate) fn ends_of(instance: &Instance, vars: &[Var], col: usize) -> Row
-    requires { col < length vars.now + length instance.now.rows }
-    ensures { row result ≡ column_at (cut instance.now vars.now) col }
+pub(crate) fn ends_of(program: &Program, cuts: &[Cut], col: usize) -> Row
+    requires count { length cuts.now ≡ width program.now }
+    requires inside { col < length cuts.now + height program.now }
+    ensures { row result ≡ column_at (cut program.now cuts.now) col }
 {
-    if col < vars.len() {
-        let var = vars[col];
+    if col < cuts.len() {
+        let cut = cuts[col];
         Row {
-            lb: var.lb,
-            ub: var.ub,
+            lb: cut.lb,
+            ub: cut.ub,
         }
     } else {
-        instance.rows()[col - vars.len()]
+        program.ends(col - cuts.len())
     }
 }
 

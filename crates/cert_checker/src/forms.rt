@@ -1,69 +1,75 @@
 // The sums of multiplied columns, compared with what they should be.
-ghost use Rattle.std.specs.Prelude.{◌≡◌, ◌<◌, ℕ, length, OnOk, IfErr};
+ghost use Rattle.std.specs.Prelude.{◌≡◌, ◌<◌, ℕ, List, length, OnOk, IfErr};
 ghost use Rattle.fraction.specs.Frac.{ratio};
+ghost use Rattle.evidence.specs.Instance.{IsInstance, width};
 ghost use Rattle.evidence.specs.Cases.{AreLegal};
 ghost use Rattle.certificate.specs.Meanings.{multipliers};
+ghost use Rattle.case_tree.specs.declared.cuts.Cut as tree;
 ghost use Rattle.case_tree.specs.Cuts.{cut};
 ghost use Rattle.cert_checker.specs.Cuts as Of;
 ghost use Rattle.cert_checker.specs.Leaves.{FormsBelow, FormRefuses};
 ghost use Rattle.cert_checker.specs.Leaves as Leaf;
 ghost use Rattle.cert_checker.specs.Slots.{slot_at, HoldsSum};
 
-use crate::refused::Refused;
+use crate::at_hand::Program;
+use crate::refused::Unshown;
 use crate::slots::{add_column, clear};
-use case_tree::{is_same, turned, zero};
+use case_tree::{Cut, is_same, zero};
 use certificate::Mult;
 use fraction::Frac;
-use instance::{Instance, Var};
 
 /// Makes the sums of the multiplied columns, one for each variable.
-fn add_columns(instance: &Instance, vars: &[Var], slots: &mut [Option<Frac>], mults: &[Mult])
-    requires count { length vars.now ≡ length instance.now.vars }
-    requires room { length slots.old ≡ length vars.now }
-    requires legal { AreLegal (cut instance.now vars.now) (multipliers mults.now) }
-    ensures { (j : ℕ) → j < length vars.now → HoldsSum (cut instance.now vars.now) (multipliers mults.now) j (length mults.now) (slot_at slots.new j) }
+pub(crate) fn add_columns(
+    program: &Program,
+    cuts: &[Cut],
+    slots: &mut [Option<Frac>],
+    mults: &[Mult],
+)
+    requires count { length cuts.now ≡ width program.now }
+    requires numbers { IsInstance program.now }
+    requires room { length slots.old ≡ length cuts.now }
+    requires legal { AreLegal (cut program.now cuts.now) (multipliers mults.now) }
+    ensures { (j : ℕ) → j < length cuts.now → HoldsSum (cut program.now cuts.now) (multipliers mults.now) j (length mults.now) (slot_at slots.new j) }
 {
     clear(slots);
     for k in 0..mults.len() {
-        add_column(instance, vars, slots, mults[k]);
+        add_column(program, cuts, slots, mults[k]);
     }
 }
 
 /// What the sum at a variable should be: its cost in the minimising objective where a value is aimed at, else 0.
-fn wanted(instance: &Instance, vars: &[Var], aim: Option<Frac>, j: usize) -> Frac
-    requires count { length vars.now ≡ length instance.now.vars }
-    requires inside { j < length vars.now }
-    ensures { ratio result ≡ Leaf.wanted (cut instance.now vars.now) (Of.aim aim) j }
+fn wanted(program: &Program, aim: Option<Frac>, j: usize) -> Frac
+    ensures { (cs : List tree.Cut) → ratio result ≡ Leaf.wanted (cut program.now cs) (Of.aim aim) j }
 {
-    let goal = instance.goal();
     match aim {
-        Some(_) => turned(goal.sense, goal.costs.as_slice()[j]),
+        Some(_) => program.cost_at(j),
         None => zero(),
     }
 }
 
 /// Whether each of the sums is what it should be.
 fn compare(
-    instance: &Instance,
-    vars: &[Var],
+    program: &Program,
+    cuts: &[Cut],
     slots: &[Option<Frac>],
     mults: &[Mult],
     aim: Option<Frac>,
     node: u32,
-) -> Result<(), Refused>
-    requires count { length vars.now ≡ length instance.now.vars }
-    requires room { length slots.now ≡ length vars.now }
-    requires sums { (j : ℕ) → j < length vars.now → HoldsSum (cut instance.now vars.now) (multipliers mults.now) j (length mults.now) (slot_at slots.now j) }
-    ensures ok { OnOk result (FormsBelow (cut instance.now vars.now) (multipliers mults.now) (Of.aim aim) (length vars.now)) }
-    ensures err { IfErr result (FormRefuses (cut instance.now vars.now) (multipliers mults.now) (Of.aim aim) node) }
+) -> Result<(), Unshown>
+    requires count { length cuts.now ≡ width program.now }
+    requires numbers { IsInstance program.now }
+    requires room { length slots.now ≡ length cuts.now }
+    requires sums { (j : ℕ) → j < length cuts.now → HoldsSum (cut program.now cuts.now) (multipliers mults.now) j (length mults.now) (slot_at slots.now j) }
+    ensures ok { OnOk result (FormsBelow (cut program.now cuts.now) (multipliers mults.now) (Of.aim aim) (length cuts.now)) }
+    ensures err { IfErr result (FormRefuses (cut program.now cuts.now) (multipliers mults.now) (Of.aim aim) node) }
 {
-    let count = instance.vars().len();
+    let count = program.vars().len();
     for j in 0..count {
         match slots[j] {
-            None => return Err(Refused::Wide { node }),
+            None => return Err(Unshown::Wide { node }),
             Some(sum) => {
-                if !is_same(sum, wanted(instance, vars, aim, j)) {
-                    return Err(Refused::Form {
+                if !is_same(sum, wanted(program, aim, j)) {
+                    return Err(Unshown::Form {
                         node,
                         col: j as u32,
                     });
@@ -77,19 +83,20 @@ fn compare(
 /// Whether the sum of the multiplied columns is, at each variable, what it should be. The slots have this sum afterwards, variable
 /// by variable, none where it doesn't fit.
 pub(crate) fn check_forms(
-    instance: &Instance,
-    vars: &[Var],
+    program: &Program,
+    cuts: &[Cut],
     slots: &mut [Option<Frac>],
     mults: &[Mult],
     aim: Option<Frac>,
     node: u32,
-) -> Result<(), Refused>
-    requires count { length vars.now ≡ length instance.now.vars }
-    requires room { length slots.old ≡ length vars.now }
-    requires legal { AreLegal (cut instance.now vars.now) (multipliers mults.now) }
-    ensures ok { OnOk result (FormsBelow (cut instance.now vars.now) (multipliers mults.now) (Of.aim aim) (length vars.now)) }
-    ensures err { IfErr result (FormRefuses (cut instance.now vars.now) (multipliers mults.now) (Of.aim aim) node) }
+) -> Result<(), Unshown>
+    requires count { length cuts.now ≡ width program.now }
+    requires numbers { IsInstance program.now }
+    requires room { length slots.old ≡ length cuts.now }
+    requires legal { AreLegal (cut program.now cuts.now) (multipliers mults.now) }
+    ensures ok { OnOk result (FormsBelow (cut program.now cuts.now) (multipliers mults.now) (Of.aim aim) (length cuts.now)) }
+    ensures err { IfErr result (FormRefuses (cut program.now cuts.now) (multipliers mults.now) (Of.aim aim) node) }
 {
-    add_columns(instance, vars, slots, mults);
-    compare(instance, vars, slots, mults, aim, node)
+    add_columns(program, cuts, slots, mults);
+    compare(program, cuts, slots, mults, aim, node)
 }

@@ -1,29 +1,30 @@
-ghost use Rattle.std.specs.Prelude.{◌≡◌, ℕ, None, Some, List};
+ghost use Rattle.std.specs.Prelude.{◌≡◌, None, List, ◌∷◌, []};
 ghost use Rattle.rational.specs.Ratio.{Ratio};
-ghost use Rattle.evidence.specs.Instance.{Instance, minimising};
-ghost use Rattle.evidence.specs.Point.{IsRay};
-ghost use Rattle.evidence.specs.Cases.{Tree, Node, preorder, Shows};
+ghost use Rattle.evidence.specs.Instance.{Problem, IsProblem};
 ghost use Rattle.evidence.specs.Width.{PointFits};
-ghost use Rattle.evidence.specs.Claim.{Claim, Accepts, HasValue};
+ghost use Rattle.evidence.specs.Rounds.{Certificate};
+ghost use Rattle.evidence.specs.Levels.{HasGoalValues, RoundsAreOfOneGoal};
+ghost use Rattle.evidence.specs.Claim.{Claim, Accepts};
 ghost use Rattle.evidence.specs.Claim as claims;
+ghost use Rattle.cert_checker.specs.LevelRefusals.{Best, Endless, AreEnough};
+ghost use Rattle.cert_checker.specs.Settled.{Settles, AreSettled, IsForWidth};
 ghost use Rattle.cert_checker.specs.declared.refused.Refused.{Refused};
-ghost use Rattle.cert_checker.specs.declared.refused.Refused.TheVariants.{Wide};
 ghost use Rattle.cert_checker.specs.Refusals.{IsRefusedFor};
 
 /// What is refused isn't accepted.
 pub fn refused_is_not_accepted()
-    ensures { (I : Instance) (claim : Claim) (r : Refused) → IsRefusedFor I claim r → Accepts I claim → ⊥ }
+    ensures { (P : Problem) (claim : Claim) (r : Refused) → IsProblem P → IsRefusedFor P claim r → Accepts P claim → ⊥ }
 {}
 
 /// A claim is refused for one reason at most.
 pub fn claims_have_one_refusal()
-    ensures { (I : Instance) (claim : Claim) (r s : Refused) → IsRefusedFor I claim r → IsRefusedFor I claim s → r ≡ s }
+    ensures { (P : Problem) (claim : Claim) (r s : Refused) → IsProblem P → IsRefusedFor P claim r → IsRefusedFor P claim s → r ≡ s }
 {}
 
-/// What is shown, by sums that fit or don't, is refused for width alone: a point that is feasible with its value, by sums that
-/// fit, with a tree of cases or a ray; or a tree of cases that rules out each point.
+/// What is shown, by sums that fit or don't, is refused for width alone: a point that is feasible with its values, by sums that
+/// fit, with enough certificates and with a ray where one is claimed; or a certificate that rules out each point.
 pub fn shown_is_refused_for_width_alone()
-    ensures optimal { (I : Instance) (x : List Ratio) (v : Ratio) (nodes : List Node) (tree : Tree) (r : Refused) → HasValue I x v → PointFits I x → nodes ≡ preorder tree → Shows I tree (Some (minimising I v)) → IsRefusedFor I (claims.Optimal x v nodes) r → (n : ℕ) × (r ≡ Wide n) }
-    ensures infeasible { (I : Instance) (nodes : List Node) (tree : Tree) (r : Refused) → nodes ≡ preorder tree → Shows I tree None → IsRefusedFor I (claims.Infeasible nodes) r → (n : ℕ) × (r ≡ Wide n) }
-    ensures unbounded { (I : Instance) (x : List Ratio) (v : Ratio) (d : List Ratio) (r : Refused) → HasValue I x v → PointFits I x → IsRay I d → IsRefusedFor I (claims.Unbounded x v d) r → (n : ℕ) × (r ≡ Wide n) }
+    ensures optimal { (P : Problem) (x vs : List Ratio) (cs : List Certificate) (r : Refused) → IsProblem P → HasGoalValues P x vs → PointFits P x → RoundsAreOfOneGoal P cs → AreEnough Best P cs → AreSettled Best P.program P.later vs cs → IsRefusedFor P (claims.Optimal x vs cs) r → IsForWidth r }
+    ensures infeasible { (P : Problem) (c : Certificate) (r : Refused) → IsProblem P → RoundsAreOfOneGoal P (c ∷ []) → Settles P.program c.rounds c.nodes None → IsRefusedFor P (claims.Infeasible c) r → IsForWidth r }
+    ensures unbounded { (P : Problem) (x vs : List Ratio) (cs : List Certificate) (d : List Ratio) (r : Refused) → IsProblem P → HasGoalValues P x vs → PointFits P x → RoundsAreOfOneGoal P cs → AreEnough (Endless x d) P cs → AreSettled (Endless x d) P.program P.later vs cs → IsRefusedFor P (claims.Unbounded x vs cs d) r → IsForWidth r }
 {}

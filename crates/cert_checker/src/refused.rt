@@ -1,13 +1,11 @@
 //! Why a claim isn't accepted.
 
-/// Why a claim is refused. Columns are the variables and then the rows; nodes are numbered from 1 in their order.
+/// Why a certificate or a direction of one level doesn't show what it should. Columns are the variables, the rows, and then
+/// the rows that are added; nodes are numbered from 1 in their order.
 #[derive(Clone, Copy, PartialEq, Eq, Debug)]
-pub enum Refused {
-    /// The point has another number of values than there are variables, and the column is the lesser of both numbers; or
-    /// this is the first column that is out of its ends or, where it must be whole, isn't.
-    NotFeasible { col: u32 },
+pub enum Unshown {
     /// The list of nodes ends before this one, or has ended; or the node is a split of no whole variable or at no number
-    /// that has a next one, or a bound where no value is claimed.
+    /// that has a next one, a zero of a variable that may not be 0, or a bound where no value is claimed.
     Tree { node: u32 },
     /// There is no such column, or it isn't after the one before; or its multiplier is 0 or has no finite end on its side.
     Sign { node: u32, col: u32 },
@@ -15,14 +13,34 @@ pub enum Refused {
     Form { node: u32, col: u32 },
     /// The sum of the ends doesn't reach what it should, or the ends don't exclude each other.
     Sum { node: u32 },
-    /// The point's objective isn't the claimed value.
-    Value,
     /// The direction has another number of movements than there are variables, and the column is the lesser of both
-    /// numbers; or this is the first column that it moves to an end or, where it must be whole, not by a whole number;
-    /// or, past all columns, it doesn't make the objective better.
+    /// numbers; or this is the first column that it moves to an end, not by a whole number where it must be whole, or from a
+    /// value that isn't between its own ends where it may be 0; or, past all columns, it doesn't make the goal better.
     Direction { col: u32 },
+    /// A sum doesn't fit: at this node, or at 0 of the direction or of the end of the level's row.
+    Wide { node: u32 },
+}
+
+/// Why a claim is refused.
+#[derive(Clone, Copy, PartialEq, Eq, Debug)]
+pub enum Refused {
+    /// The point has another number of values than there are variables, and the column is the lesser of both numbers; or
+    /// this is the first column that is out of its ends, neither 0 nor between its own ends where it may be 0, or not whole
+    /// where it must be.
+    NotFeasible { col: u32 },
+    /// A sum of the point or of a value doesn't fit.
+    WidePoint,
+    /// There isn't one value for each goal, or one isn't the point's objective.
+    Value,
+    /// The pair of this round with this column isn't legal, or this is the first variable whose sum isn't as a round's must
+    /// be; or there are several goals (round 1, column 0). Rounds are numbered from 1.
+    Round { round: u32, col: u32 },
+    /// A sum of this round doesn't fit.
+    WideRound { round: u32 },
+    /// An optimal claim has another number of certificates than there are goals, or an unbounded one not fewer.
+    Levels { found: usize },
+    /// This level's certificate or direction doesn't show what it should. Levels are numbered from 1.
+    Level { level: u32, why: Unshown },
     /// Nothing is claimed.
     NoClaim,
-    /// A sum doesn't fit: at this node, or at 0 of the point or the direction.
-    Wide { node: u32 },
 }

@@ -10,6 +10,7 @@ pub enum Step {
     Pivot,
     Point,
     Ray,
+    Round,
     Check,
 }
 

@@ -1,34 +1,34 @@
-ghost use Rattle.std.specs.Prelude.{◌≡◌, IfOk};
-
 use crate::causes::Cause;
-use crate::lists::{Point, Ray};
-use crate::nodes::Cert;
-use fraction::Frac;
+use crate::lists::{Point, Ray, Values};
+use crate::nodes::{Cert, Certs};
+use items::TryCopy;
 use std::alloc::{AllocError, Global};
 
 /// What is claimed of an instance, with what is to show it.
 #[derive(Debug, Drop)]
 pub enum Claim {
-    /// No feasible point is better than this one, whose objective is the value.
+    /// No feasible point is better than this one, whose objectives are the values: a certificate for each goal.
     Optimal {
         point: Point,
-        value: Frac,
-        cert: Cert,
+        values: Values,
+        certs: Certs,
     },
     /// No point is feasible.
     Infeasible {
         cert: Cert,
     },
-    /// From this feasible point on along the ray, points stay feasible and become better, without end.
+    /// From this feasible point on along the ray, points stay feasible, keep the values of the goals that have
+    /// certificates, and become better by the goal after them, without end.
     Unbounded {
         point: Point,
-        value: Frac,
+        values: Values,
+        certs: Certs,
         ray: Ray,
     },
-    /// A feasible point, the best that was found before the search stopped.
+    /// A feasible point with its objectives, the best that was found before the search stopped.
     BestSoFar {
         point: Point,
-        value: Frac,
+        values: Values,
         cause: Cause,
     },
     /// Nothing.
@@ -37,40 +37,39 @@ pub enum Claim {
     },
 }
 
-impl Claim {
-    /// An equal claim.
-    pub fn try_copy(&self, alloc: Global) -> Result<Claim, AllocError>
-        ensures { IfOk result (λ copy. copy ≡ self.now) }
-    {
+impl TryCopy for Claim {
+    fn try_copy(&self, alloc: Global) -> Result<Claim, AllocError> {
         match self {
-            Claim::Optimal { point, value, cert } => {
-                let point = point.try_copy(alloc)?;
-                let cert = cert.try_copy(alloc)?;
-                Ok(Claim::Optimal {
-                    point,
-                    value: *value,
-                    cert,
-                })
-            }
+            Claim::Optimal {
+                point,
+                values,
+                certs,
+            } => Ok(Claim::Optimal {
+                point: point.try_copy(alloc)?,
+                values: values.try_copy(alloc)?,
+                certs: certs.try_copy_each(alloc)?,
+            }),
             Claim::Infeasible { cert } => Ok(Claim::Infeasible {
                 cert: cert.try_copy(alloc)?,
             }),
-            Claim::Unbounded { point, value, ray } => {
-                let point = point.try_copy(alloc)?;
-                let ray = ray.try_copy(alloc)?;
-                Ok(Claim::Unbounded {
-                    point,
-                    value: *value,
-                    ray,
-                })
-            }
+            Claim::Unbounded {
+                point,
+                values,
+                certs,
+                ray,
+            } => Ok(Claim::Unbounded {
+                point: point.try_copy(alloc)?,
+                values: values.try_copy(alloc)?,
+                certs: certs.try_copy_each(alloc)?,
+                ray: ray.try_copy(alloc)?,
+            }),
             Claim::BestSoFar {
                 point,
-                value,
+                values,
                 cause,
             } => Ok(Claim::BestSoFar {
                 point: point.try_copy(alloc)?,
-                value: *value,
+                values: values.try_copy(alloc)?,
                 cause: *cause,
             }),
             Claim::Unsure { cause } => Ok(Claim::Unsure { cause: *cause }),

@@ -85,7 +85,7 @@ module _ (I : Instance) (good : IsInstance I) (x : List Ratio) (f : IsFeasible I
       (≲-from (sum-≈ (≈-refl p) exchanged))
 
 -- the minimising objective is the sum of the minimising costs
-minimising_total : (s : Sense) (c : Ratio) (n : ℕ) (f g : ℕ → Ratio) → total (minimising_by s c) n (λ j. product (minimising_by s (f j)) (g j)) ≡ minimising_by s (total c n (λ j. product (f j) (g j)))
+pub minimising_total : (s : Sense) (c : Ratio) (n : ℕ) (f g : ℕ → Ratio) → total (minimising_by s c) n (λ j. product (minimising_by s (f j)) (g j)) ≡ minimising_by s (total c n (λ j. product (f j) (g j)))
 minimising_total Minimum c n f g = refl
 minimising_total Maximum c n f g =
     total-same (negative c) n (λ j. product (negative (f j)) (g j)) (λ j. negative (product (f j) (g j))) (λ j. negative-product (f j) (g j))

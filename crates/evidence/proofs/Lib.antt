@@ -4,6 +4,11 @@ pub mod Columns
 pub mod Duality
 pub mod Branches
 pub mod Rays
+pub mod SemiVariables
+pub mod AddedRows
+pub mod RoundingCuts
+pub mod LevelSteps
+pub mod UniqueRows
 pub mod Acceptance
 pub mod SparseSums
 pub mod WholeNumerators
@@ -12,6 +17,7 @@ pub mod PendingNodes
 pub mod OneDenominator
 pub mod Fits
 pub mod Examples
+pub mod JointExamples
 pub mod Rows
 pub mod Steps
 pub mod Units

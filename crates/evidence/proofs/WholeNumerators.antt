@@ -1,5 +1,5 @@
 -- Numbers as whole ones over a common denominator.
-use Rattle.std.proofs.Common.{◌≡◌, ℕ, zero, suc, ◌*◌, ◌/◌, ◌<◌, ℤ, pos, ◌+ℤ◌, ◌*ℤ◌, ◌≤ℤ◌, ◌↔◌, Option, None, Some, IfSome, List, [], ◌∷◌, nat_eq, ◌&&◌, arith, sym, ◌∙◌, ap, ap₂, subst, false}
+use Rattle.std.proofs.Common.{◌≡◌, inl, inr, ℕ, zero, suc, ◌*◌, ◌/◌, ◌<◌, ℤ, pos, ◌+ℤ◌, ◌*ℤ◌, ◌≤ℤ◌, ◌↔◌, Option, None, Some, IfSome, List, [], ◌∷◌, nat_eq, ◌&&◌, arith, sym, ◌∙◌, ap, ap₂, subst}
 use Rattle.std.specs.List.{All}
 use Rattle.std.specs.Int.{◌∣◌}
 use Rattle.std.proofs.Math.Nat.{mul-pos, div-mul_cancel}
@@ -9,14 +9,14 @@ use Rattle.std.proofs.lemmas.List.Elements.{All-head, All-tail}
 use Rattle.rational.specs.Ratio.{Ratio, sum, product, IsSame, IsNumber, IsAtMost}
 use Rattle.evidence.specs.Sums.{none, IsWhole, total}
 use Rattle.rational.proofs.Scaling.{add-times, times-times, times_swap, same_multiple}
-use Rattle.evidence.specs.Instance.{Range, Entry, Instance, IsInstance, HasNumbers, free, width, variable_at, row_at, cost_at, entry_at}
-use Rattle.evidence.specs.Point.{value_at, activity, objective, IsBetween, IsFeasible}
-use Rattle.evidence.specs.OneDenominator.{times_of, whole_total, number_at, Divides, IsCommon, IsOverOne, IsBetweenOver, IsFeasibleOver, objective_over}
+use Rattle.evidence.specs.Instance.{Range, Entry, Instance, IsInstance, HasNumbers, free, no_variable, width, variable_at, row_at, cost_at, entry_at}
+use Rattle.evidence.specs.Point.{value_at, activity, objective, IsBetween, IsZeroOr, IsFeasible}
+use Rattle.evidence.specs.OneDenominator.{times_of, whole_total, number_at, Divides, IsCommon, IsOverOne, IsBetweenOver, IsZeroOrOver, IsFeasibleOver, objective_over}
 use Rattle.rational.proofs.Integers.{times_cross, more-times, most-from_times}
 use Rattle.rational.proofs.CommonDivisors.{one_divides}
 use Rattle.evidence.proofs.Numbers.{one_times}
 use Rattle.evidence.proofs.Totals.{total-start}
-use Rattle.evidence.proofs.Columns.{pick, All-anywhere, activity-number, value-number}
+use Rattle.evidence.proofs.Columns.{pick, All-anywhere, activity-number, value-number, further-numbers}
 
 -- x is z over E
 pub record IsOver (E : ℕ) (x : Ratio) (z : ℤ) : Type 0 where
@@ -125,8 +125,8 @@ module _ (I : Instance) (S : ℕ) (x : List Ratio) (p : List ℤ) (d : ℕ) (goo
   variable_cleared : (j : ℕ) → IsBetween (variable_at I j).range (value_at x j) ↔ IsBetweenOver S (variable_at I j).range d (pos S *ℤ number_at p j)
   variable_cleared j =
       cleared S d (variable_at I j).range (value_at x j) (pos S *ℤ number_at p j) common.above at.above
-      (All-anywhere (λ v. HasNumbers v.range) I.variables (record { range = free; whole = false }) (tt, tt) good.variables j)
-      (All-anywhere (λ v. Divides S v.range) I.variables (record { range = free; whole = false }) (tt, tt) common.variables j)
+      (All-anywhere (λ v. HasNumbers v.range) I.variables no_variable (tt, tt) good.variables j)
+      (All-anywhere (λ v. Divides S v.range) I.variables no_variable (tt, tt) common.variables j)
       (value_up j) (over_wider_left S d (value_at x j) (number_at p j) (value_over j))
 
   row_cleared : (i : ℕ) → IsBetween (row_at I i) (activity I x i) ↔ IsBetweenOver S (row_at I i) d (whole_total (width I) (λ j. times_of S (entry_at I.entries i j) *ℤ number_at p j))
@@ -134,6 +134,27 @@ module _ (I : Instance) (S : ℕ) (x : List Ratio) (p : List ℤ) (d : ℕ) (goo
       cleared S d (row_at I i) (activity I x i) (whole_total (width I) (λ j. times_of S (entry_at I.entries i j) *ℤ number_at p j)) common.above at.above
       (All-anywhere HasNumbers I.rows free (tt, tt) good.rows i) (All-anywhere (λ r. Divides S r) I.rows free (tt, tt) common.rows i)
       (activity-number I good x at.numbers i) (activity_over i)
+
+  zero_to : (r : Range) (j : ℕ) → HasNumbers r → Divides S r → IsZeroOr r (value_at x j) → IsZeroOrOver S r d (number_at p j)
+  zero_to r j h k (inl e) =
+      let a : (value_at x j).num ≡ pos 0 = sym (one_times (value_at x j).num) ∙ *ℤ_comm (pos 1) (value_at x j).num ∙ e ∙ zero-*ℤ (pos (value_at x j).den) in
+      let o = value_over j in
+      inl (same_multiple (number_at p j) (pos 0) (value_at x j).den (value_up j) (sym o.is ∙ ap (λ n. n *ℤ pos d) a ∙ zero-*ℤ (pos d) ∙ sym (zero-*ℤ (pos (value_at x j).den))))
+  zero_to r j h k (inr b) = inr (let c = cleared S d r (value_at x j) (pos S *ℤ number_at p j) common.above at.above h k (value_up j) (over_wider_left S d (value_at x j) (number_at p j) (value_over j)) in c.0 b)
+
+  zero_from : (r : Range) (j : ℕ) → HasNumbers r → Divides S r → IsZeroOrOver S r d (number_at p j) → IsZeroOr r (value_at x j)
+  zero_from r j h k (inl e) =
+      let o = value_over j in
+      let a : (value_at x j).num ≡ pos 0 = same_multiple (value_at x j).num (pos 0) d at.above (o.is ∙ ap (λ n. n *ℤ pos (value_at x j).den) e ∙ zero-*ℤ (pos (value_at x j).den) ∙ sym (zero-*ℤ (pos d))) in
+      inl (ap (λ n. n *ℤ pos 1) a ∙ zero-*ℤ (pos 1) ∙ sym (zero-*ℤ (pos (value_at x j).den)))
+  zero_from r j h k (inr b) = inr (let c = cleared S d r (value_at x j) (pos S *ℤ number_at p j) common.above at.above h k (value_up j) (over_wider_left S d (value_at x j) (number_at p j) (value_over j)) in c.1 b)
+
+  further_cleared : (o : Option Range) (j : ℕ) → IfSome o HasNumbers → IfSome o (Divides S) → IfSome o (λ r. IsZeroOr r (value_at x j)) ↔ IfSome o (λ r. IsZeroOrOver S r d (number_at p j))
+  further_cleared None j h k = (λ b. b, λ b. b)
+  further_cleared (Some r) j h k = (zero_to r j h k, zero_from r j h k)
+
+  variable_further : (j : ℕ) → IfSome (variable_at I j).unless_zero (λ r. IsZeroOr r (value_at x j)) ↔ IfSome (variable_at I j).unless_zero (λ r. IsZeroOrOver S r d (number_at p j))
+  variable_further j = further_cleared (variable_at I j).unless_zero j (further-numbers I good j) (All-anywhere (λ v. IfSome v.unless_zero (Divides S)) I.variables no_variable tt common.further j)
 
   pub feasible_cleared : IsFeasible I x ↔ IsFeasibleOver I S p d
   feasible_cleared = (
@@ -143,6 +164,7 @@ module _ (I : Instance) (S : ℕ) (x : List Ratio) (p : List ℤ) (d : ℕ) (goo
       variables = λ j h. (variable_cleared j).0 (f.variables j h);
       rows = λ i h. (row_cleared i).0 (f.rows i h);
       whole = λ j h w. whole_over (value_at x j) (number_at p j) d (value_up j) (value_over j) (f.whole j h w);
+      further = λ j h. (variable_further j).0 (f.further j h);
     },
     λ f. record {
       count = sym at.count ∙ f.count;
@@ -150,6 +172,7 @@ module _ (I : Instance) (S : ℕ) (x : List Ratio) (p : List ℤ) (d : ℕ) (goo
       variables = λ j h. (variable_cleared j).1 (f.variables j h);
       rows = λ i h. (row_cleared i).1 (f.rows i h);
       whole = λ j h w. over_whole (value_at x j) (number_at p j) d at.above (value_over j) (f.whole j h w);
+      further = λ j h. (variable_further j).1 (f.further j h);
     },
   )
 

@@ -1,10 +1,10 @@
--- Trees of cases over whole variables (Land and Doig, 1960), whose leaves have multipliers by which no point is feasible (Farkas, 1902), or none is better than a bound (weak duality; Chvátal, Linear Programming, 1983, chapter 5).
+-- Trees of cases over whole variables (Land and Doig, 1960) and over variables that are 0 or within further ends (Beale, 1979), whose leaves have multipliers by which no point is feasible (Farkas, 1902), or none is better than a bound (weak duality; Chvátal, Linear Programming, 1983, chapter 5).
 use Rattle.std.specs.Prelude.{◌≡◌, ℕ, ◌+◌, ◌<◌, ℤ, pos, negsuc, ◌+ℤ◌, cond, IsTrue, Option, None, Some, IsSome, List, [], ◌∷◌, ◌++◌, length, get_or, neg_ℤ, ◌≤ℤ◌, ◌<ℤ◌, slice_set}
 use Rattle.std.specs.List.{All}
 use Rattle.rational.specs.Ratio.{Ratio, whole, product, IsSame, IsBelow, IsNumber, IsAtMost}
 use Rattle.rational.specs.Width.{most}
 use Rattle.evidence.specs.Sums.{none, is_below, total}
-use Rattle.evidence.specs.Instance.{Range, Instance, width, height, variable_at, coefficient_at, column_at, cost_at, minimising}
+use Rattle.evidence.specs.Instance.{Range, free, Instance, width, height, variable_at, coefficient_at, column_at, cost_at, minimising}
 
 -- a factor of one column: of a variable, or of a row's activity
 pub record Multiplier : Type 0 where
@@ -17,6 +17,7 @@ pub data Tree : Type 0 where
   Farkas : List Multiplier → Tree
   Bound : List Multiplier → Tree
   Split : ℕ → ℤ → Tree → Tree → Tree
+  Zero : ℕ → Tree → Tree → Tree
 
 abbrev pub multiplier_at : List Multiplier → ℕ → Multiplier
 multiplier_at ms k = get_or ms k (record { column = 0; by = none })
@@ -77,6 +78,15 @@ abbrev pub greater_end : Option Ratio → Ratio → Option Ratio
 greater_end None k = Some k
 greater_end (Some l) k = cond (is_below l k) (Some k) (Some l)
 
+-- the greater of two lower ends, the lesser of two upper ones; where there is none, nothing is asked
+abbrev pub either_low : Option Ratio → Option Ratio → Option Ratio
+either_low o None = o
+either_low o (Some l) = greater_end o l
+
+abbrev pub either_high : Option Ratio → Option Ratio → Option Ratio
+either_high o None = o
+either_high o (Some u) = lesser_end o u
+
 -- the instance with another range for variable j
 abbrev pub with_range : Instance → ℕ → Range → Instance
 with_range I j r = record I { variables = slice_set I.variables j (record (variable_at I j) { range = r }) }
@@ -88,6 +98,27 @@ at_most I j k = let r = (variable_at I j).range in with_range I j (record r { ub
 -- variable j is at least k
 abbrev pub at_least : Instance → ℕ → ℤ → Instance
 at_least I j k = let r = (variable_at I j).range in with_range I j (record r { lb = greater_end r.lb (whole k) })
+
+abbrev pub or_free : Option Range → Range
+or_free None = free
+or_free (Some r) = r
+
+-- the greater of both lower ends, and the lesser of both upper ones
+abbrev pub both : Range → Range → Range
+both r s = record { lb = either_low r.lb s.lb; ub = either_high r.ub s.ub }
+
+-- variable j is 0
+abbrev pub at_zero : Instance → ℕ → Instance
+at_zero I j = let r = (variable_at I j).range in with_range I j (both r (record { lb = Some none; ub = Some none }))
+
+-- variable j is within its further ends
+abbrev pub unless_zero : Instance → ℕ → Instance
+unless_zero I j = let v = variable_at I j in with_range I j (both v.range (or_free v.unless_zero))
+
+-- variable j is 0 or within its further ends
+pub record IsZeroBranch (I : Instance) (j : ℕ) : Type 0 where
+  pub variable : j < width I
+  pub further : IsSome (variable_at I j).unless_zero
 
 -- variable j is whole, so that each of its values is at most k or at least k + 1, and both numbers fit
 pub record IsBranch (I : Instance) (j : ℕ) (k : ℤ) : Type 0 where
@@ -103,6 +134,7 @@ Shows I (Farkas ms) z = IsFarkas I ms
 Shows I (Bound ms) None = ⊥
 Shows I (Bound ms) (Some z) = IsBound I ms z
 Shows I (Split j k a b) z = IsBranch I j k × Shows (at_most I j k) a z × Shows (at_least I j (k +ℤ pos 1)) b z
+Shows I (Zero j a b) z = IsZeroBranch I j × Shows (at_zero I j) a z × Shows (unless_zero I j) b z
 
 -- a node of a tree, as texts have it
 pub data Node : Type 0 where
@@ -110,6 +142,7 @@ pub data Node : Type 0 where
   FarkasBy : List Multiplier → Node
   BoundBy : List Multiplier → Node
   SplitAt : ℕ → ℤ → Node
+  ZeroAt : ℕ → Node
 
 -- a node, then the nodes of its first case, then those of its second
 abbrev pub preorder : Tree → List Node
@@ -117,3 +150,4 @@ preorder (Clash c) = ClashAt c ∷ []
 preorder (Farkas ms) = FarkasBy ms ∷ []
 preorder (Bound ms) = BoundBy ms ∷ []
 preorder (Split j k a b) = SplitAt j k ∷ (preorder a ++ preorder b)
+preorder (Zero j a b) = ZeroAt j ∷ (preorder a ++ preorder b)

@@ -7,6 +7,10 @@ pub mod Claim
 pub mod Width
 pub mod PendingNodes
 pub mod OneDenominator
+pub mod SemiVariables
+pub mod AddedRows
+pub mod Rounds
+pub mod Levels
 pub mod Examples
 pub mod Columns
 pub mod Rows

@@ -4,3 +4,4 @@ pub mod Partition
 pub mod RowSums
 pub mod GoalSums
 pub mod Search
+mod ZeroOrBetween

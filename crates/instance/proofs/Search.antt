@@ -57,6 +57,7 @@ module _ (p : Parts) (x : List Frac) (vs : List Var) (ev : vs ≡ p.vars) (kept 
       variables = λ j h. (vars_kept j h).between;
       rows = λ i h. (rows i h).between;
       whole = λ j h. (vars_kept j h).whole;
+      further = λ j h. (vars_kept j h).further;
     };
     fits = λ i h. (rows i h).fits;
   }

@@ -1,10 +1,10 @@
 -- What the search for the first column that a point doesn't keep finds.
-use Rattle.std.specs.Prelude.{ℕ, ◌<◌, false, List, length, map, get_or}
+use Rattle.std.specs.Prelude.{ℕ, ◌<◌, Bool, true, false, List, length, map, get_or}
 use Rattle.rational.specs.Ratio.{Ratio}
 use Rattle.fraction.specs.Frac.{ratios}
 use Rattle.fraction.specs.declared.frac.Frac.{Frac}
 use Rattle.evidence.specs.Instance as Of
-use Rattle.evidence.specs.Point.{value_at, activity, IsBetween, IsFeasible}
+use Rattle.evidence.specs.Point.{value_at, activity, IsBetween, IsZeroOr, IsFeasible}
 use Rattle.evidence.specs.Width.{RowFits}
 use Rattle.evidence.specs.Columns.{Keeps, KeepsRow, IsFirstOut}
 use Rattle.instance.specs.declared.parts.Var.{Var}
@@ -12,9 +12,14 @@ use Rattle.instance.specs.declared.feasible.Feas.{Feas}
 use Rattle.instance.specs.declared.feasible.Feas.TheVariants.{Yes, No}
 use Rattle.instance.specs.Program.{variable}
 
+-- between the ends, or 0 where it may be
+abbrev pub IsZeroOrWithin : Bool → Of.Range → Ratio → Type 0
+IsZeroOrWithin true r x = IsZeroOr r x
+IsZeroOrWithin false r x = IsBetween r x
+
 -- variable j as the program has it
 abbrev pub variable_of : List Var → ℕ → Of.Variable
-variable_of vs j = get_or (map variable vs) j (record { range = Of.free; whole = false })
+variable_of vs j = get_or (map variable vs) j (Of.no_variable)
 
 -- each variable below n may have its value
 abbrev pub KeptBelow : List Var → List Frac → ℕ → Type 0

@@ -2,10 +2,10 @@
 ghost use Rattle.std.specs.Prelude.{◌≡◌, ◌↔◌, length, IsTrue, IfSome, MatchOption};
 ghost use Rattle.rational.specs.Ratio.{IsAtMost};
 ghost use Rattle.fraction.specs.Frac.{ratio};
-ghost use Rattle.evidence.specs.Point.{IsBetween};
+ghost use Rattle.evidence.specs.Point.{IsBetween, IsZeroOr};
 ghost use Rattle.evidence.specs.Columns.{Keeps};
 ghost use Rattle.instance.specs.Program.{limit, range, variable};
-ghost use Rattle.instance.specs.Feasibility.{KeptBelow, IsFirstUnkept};
+ghost use Rattle.instance.specs.Feasibility.{IsZeroOrWithin, KeptBelow, IsFirstUnkept};
 
 use crate::parts::Var;
 use fraction::{End, Frac};
@@ -44,11 +44,29 @@ pub fn is_between(lb: End, ub: End, x: Frac) -> bool
     is_above(lb, x) && is_below(ub, x)
 }
 
+/// Whether the number is 0 or between the ends.
+fn is_zero_or_between(lb: End, ub: End, x: Frac) -> bool
+    ensures { IsTrue result ↔ IsZeroOr (range lb ub) (ratio x) }
+{
+    x.numer == 0 || is_between(lb, ub, x)
+}
+
+/// Whether the number is between the variable's ends, or 0 where it may be.
+fn is_within(v: &Var, x: Frac) -> bool
+    ensures { IsTrue result ↔ IsZeroOrWithin v.now.zero (range v.now.lb v.now.ub) (ratio x) }
+{
+    if v.zero {
+        is_zero_or_between(v.lb, v.ub, x)
+    } else {
+        is_between(v.lb, v.ub, x)
+    }
+}
+
 /// Whether the variable may have this value.
 fn keeps(v: &Var, x: Frac) -> bool
     ensures { IsTrue result ↔ Keeps (variable v.now) (ratio x) }
 {
-    is_between(v.lb, v.ub, x) && (!v.whole || x.is_whole())
+    is_within(v, x) && (!v.whole || x.is_whole())
 }
 
 /// The first variable that may not have its value.

@@ -1,13 +1,13 @@
-ghost use Rattle.std.specs.Prelude.{◌≡◌, ◌↔◌, ℕ, length, nat_eq, IsSome, IfSome, MatchOption, IfOk, OnErr};
+ghost use Rattle.std.specs.Prelude.{◌≡◌, ◌↔◌, ◌<◌, ℕ, length, nat_eq, IsSome, IfSome, MatchOption, IfOk, OnErr};
 ghost use Rattle.std.specs.List.{filter};
 ghost use Rattle.rational.specs.Ratio.{IsSame};
 ghost use Rattle.fraction.specs.Frac.{ratio, ratios};
 ghost use Rattle.evidence.specs.Point.{activity, objective};
 ghost use Rattle.evidence.specs.Width.{RowFits, GoalFits};
-ghost use Rattle.evidence.specs.Instance.{height};
+ghost use Rattle.evidence.specs.Instance.{height, asking};
 ghost use Rattle.evidence.specs.Columns.{IsFirstWide};
 
-use crate::checks::{are_ascending, are_inside, rows_have_ends, vars_have_ends};
+use crate::checks::{are_ascending, are_inside, goals_have_costs, rows_have_ends, vars_have_ends};
 use crate::ends::{first_out, is_between};
 use crate::feasible::Feas;
 use crate::parts::{Goal, Row, Var};
@@ -22,6 +22,9 @@ pub const MAX_VARS: usize = 1_000;
 /// The most rows of an instance.
 pub const MAX_ROWS: usize = 1_000;
 
+/// The most goals of an instance.
+pub const MAX_GOALS: usize = 8;
+
 /// The most entries of an instance's matrix.
 pub const MAX_ENTRIES: usize = 100_000;
 
@@ -31,7 +34,7 @@ pub struct Instance {
     vars: Vec<Var>,
     rows: Vec<Row>,
     entries: Vec<Entry>,
-    goal: Goal,
+    goals: Vec<Goal>,
 }
 
 impl Model for Instance {
@@ -39,36 +42,44 @@ impl Model for Instance {
 
     ghost Value = { Parts };
 
-    ghost view = { λ i. record { vars = i.vars.items; rows = i.rows.items; entries = i.entries.items; goal = i.goal } };
+    ghost view = { λ i. record { vars = i.vars.items; rows = i.rows.items; entries = i.entries.items; goals = i.goals.items } };
 
-    ghost invariant = { λ i. IsValid (record { vars = i.vars.items; rows = i.rows.items; entries = i.entries.items; goal = i.goal }) };
+    ghost invariant = { λ i. IsValid (record { vars = i.vars.items; rows = i.rows.items; entries = i.entries.items; goals = i.goals.items }) };
 }
 
 impl Instance {
     ghost use Rattle.instance.specs.Parts.{IsValid, IsAscending};
-    ghost use Rattle.instance.specs.Program.{program};
+    ghost use Rattle.instance.specs.Program.{goal as meaning, program, problem};
     ghost use Rattle.instance.specs.Feasibility.{RowsKeptBelow, IsFirstRowOut, IsFirstRowWide, TellsFeasible};
 
     /// The instance of these parts.
     ///
     /// None exactly where they aren't valid: more than [`MAX_VARS`] variables, [`MAX_ROWS`] rows or [`MAX_ENTRIES`]
-    /// entries; a number of costs that isn't that of the variables; entries that aren't strictly ascending by row and
-    /// column, past the rows or columns, or 0; a lower end of infinity or an upper one of minus infinity.
-    pub fn of(vars: Vec<Var>, rows: Vec<Row>, entries: Vec<Entry>, goal: Goal) -> Option<Instance>
-        ensures valid { IsSome result ↔ IsValid (record { vars = vars.items; rows = rows.items; entries = entries.items; goal = goal }) }
-        ensures parts { IfSome result (λ i. i ≡ record { vars = vars.items; rows = rows.items; entries = entries.items; goal = goal }) }
+    /// entries; no goal or more than [`MAX_GOALS`]; a goal whose number of costs isn't that of the variables; entries that
+    /// aren't strictly ascending by row and column, past the rows or columns, or 0; a lower end of infinity or an upper one
+    /// of minus infinity.
+    pub fn of(
+        vars: Vec<Var>,
+        rows: Vec<Row>,
+        entries: Vec<Entry>,
+        goals: Vec<Goal>,
+    ) -> Option<Instance>
+        ensures valid { IsSome result ↔ IsValid (record { vars = vars.items; rows = rows.items; entries = entries.items; goals = goals.items }) }
+        ensures parts { IfSome result (λ i. i ≡ record { vars = vars.items; rows = rows.items; entries = entries.items; goals = goals.items }) }
     {
         let fits = vars.len() <= MAX_VARS
             && rows.len() <= MAX_ROWS
             && entries.len() <= MAX_ENTRIES
-            && goal.costs.len() == vars.len();
+            && !goals.is_empty()
+            && goals.len() <= MAX_GOALS
+            && goals_have_costs(goals.as_slice(), vars.len());
         let ends = vars_have_ends(&vars) && rows_have_ends(&rows);
         if fits && ends && are_ascending(&entries) && are_inside(&entries, rows.len(), vars.len()) {
             Some(Instance {
                 vars,
                 rows,
                 entries,
-                goal,
+                goals,
             })
         } else {
             None
@@ -99,12 +110,22 @@ impl Instance {
         &self.entries
     }
 
-    /// The goal.
-    pub fn goal(&self) -> &Goal
-        ensures value { result.now ≡ self.now.goal }
+    /// The goals, in order.
+    pub fn goals(&self) -> &[Goal]
+        ensures value { result.now ≡ self.now.goals }
         ensures valid { IsValid self.now }
     {
-        &self.goal
+        &self.goals
+    }
+
+    /// The first goal, which is that of the instance's program.
+    pub fn first_goal(&self) -> &Goal
+        ensures goal { meaning result.now ≡ (program self.now).goal }
+        ensures costs { length result.now.costs ≡ length self.now.vars }
+        ensures valid { IsValid self.now }
+    {
+        let goals = self.goals();
+        &goals[0]
     }
 
     /// The entries of one row, ascending by column.
@@ -129,16 +150,18 @@ impl Instance {
         sum_entries(row, point)
     }
 
-    /// The value of the goal at a point: the sum, from the constant, of the costs, each times its variable.
+    /// The value of a goal at a point: the sum, from the constant, of the costs, each times its variable.
     ///
     /// [`Wide`] exactly where one of these products or sums doesn't fit; terms with a factor 0 are left out.
-    pub fn objective_at(&self, point: &[Frac]) -> Result<Frac, Wide>
-        requires { length point.now ≡ length self.now.vars }
-        ensures ok { IfOk result (λ r. IsSame (ratio r) (objective (program self.now) (ratios point.now))) }
-        ensures fits { IfOk result (λ _. GoalFits (program self.now) (ratios point.now)) }
-        ensures wide { OnErr result (GoalFits (program self.now) (ratios point.now) → ⊥) }
+    pub fn objective_at(&self, goal: u32, point: &[Frac]) -> Result<Frac, Wide>
+        requires inside { goal < length self.now.goals }
+        requires count { length point.now ≡ length self.now.vars }
+        ensures ok { IfOk result (λ r. IsSame (ratio r) (objective (asking (problem self.now) goal) (ratios point.now))) }
+        ensures fits { IfOk result (λ _. GoalFits (asking (problem self.now) goal) (ratios point.now)) }
+        ensures wide { OnErr result (GoalFits (asking (problem self.now) goal) (ratios point.now) → ⊥) }
     {
-        let goal = self.goal();
+        let goals = self.goals();
+        let goal = &goals[goal as usize];
         sum_products(goal.constant, goal.costs.as_slice(), point)
     }
 

@@ -34,6 +34,7 @@ pub(crate) fn safe_options(alloc: Global, osil: &[u8], osol: &[u8]) -> Result<Op
         job: options.job,
         nodes: options.nodes,
         turns,
+        rounds: options.rounds,
     };
     Ok(Some(osol_grammar::encode(alloc, &safe)?))
 }

@@ -1,5 +1,5 @@
 -- A start tag is gone past, or refused, in the state that the code holds.
-use Rattle.osil_grammar.proofs.Words.{◌≡◌, ◌∙◌, ◌+◌, ◌<◌, ◌≤◌, ℕ, ℤ, List, [], ◌++◌, replicate, refl, ap, sym, subst, arith, Result, Ok, Err, Attribute, Start, Finish, Frac, Row, AllPass, FirstFails, first_with, Stop, Place, Listing, Values, Led, told_refusal, Refusal, nought, SaysTimes, SaysStep, SaysWholeStep, SaysVar, SaysRow, SaysIndex, State, begins, Told, tests, refusal, leads, Fails, into, SaysRun, Begins, BeginsAt, EndsAt, Steps}
+use Rattle.osil_grammar.proofs.Words.{◌≡◌, ◌∙◌, ◌+◌, ℕ, ℤ, List, [], ◌++◌, length, replicate, refl, ap, sym, subst, Option, codes, Result, Ok, Err, Attribute, Start, Finish, Frac, Row, Sense, AllPass, FirstFails, first_with, Stop, Place, Listing, Values, Led, told_refusal, Refusal, nought, SaysCount, SaysTimes, SaysConstant, SaysSense, SaysStep, SaysWholeStep, SaysVar, SaysRow, SaysIndex, State, begins, Told, tests, refusal, leads, Fails, into, SaysRun, Begins, BeginsAt, EndsAt, Steps}
 use Rattle.instance.specs.declared.parts.Var.{Var as Variable}
 use Rattle.osil_grammar.specs.declared.fault.Refusal as code
 use Rattle.osil_grammar.specs.declared.stop.Refused as kept
@@ -17,11 +17,8 @@ begin_refused s z name as' p r n stop is at h =
 pub begun : (s now : State) → s ≡ now → (name : List ℕ) (as' : List Attribute) (p : Place) (z : State) → AllPass (Fails now (Start name as')) (tests (begins (led.To p))) → Begins s (Start name as') p z → BeginsAt {X = Unit {0}} now name as' (led.To p) z (Ok tt)
 begun s now same name as' p z pass h = (pass, subst (λ (t : State). Begins t (Start name as') p z) same h)
 
-pub var_begun : (s now : State) → s ≡ now → (name : List ℕ) (as' : List Attribute) (v : Variable) (n : ℕ) (x : Frac) (vs : List Variable) (cs : List Frac) (z : State) → z ≡ record (into s places.Var) { vars = vs; costs = cs } → vs ≡ s.vars ++ replicate n v → cs ≡ s.costs ++ replicate n x → x ≡ nought
-    → AllPass (Fails now (Start name as')) (tests (begins (led.To places.Var))) × (SaysVar as' v × SaysTimes as' n) → BeginsAt {X = Unit {0}} now name as' (led.To places.Var) z (Ok tt)
-var_begun s now same name as' v n x vs cs z is more costs none h =
-    let zeros = costs ∙ ap (λ (y : Frac). s.costs ++ replicate n y) none in
-    begun s now same name as' places.Var z h.0 (v, n, h.1.0, h.1.1, is ∙ ap (λ (l : List Variable). let y : State = record (into s places.Var) { vars = l; costs = cs } in y) more ∙ ap (λ (l : List Frac). let y : State = record (into s places.Var) { vars = s.vars ++ replicate n v; costs = l } in y) zeros)
+pub var_begun : (s now : State) → s ≡ now → (name : List ℕ) (as' : List Attribute) (v : Variable) (n : ℕ) (vs : List Variable) (z : State) → z ≡ record (into s places.Var) { vars = vs } → vs ≡ s.vars ++ replicate n v → AllPass (Fails now (Start name as')) (tests (begins (led.To places.Var))) × (SaysVar as' v × SaysTimes as' n) → BeginsAt {X = Unit {0}} now name as' (led.To places.Var) z (Ok tt)
+var_begun s now same name as' v n vs z is more h = begun s now same name as' places.Var z h.0 (v, n, h.1.0, h.1.1, is ∙ ap (λ (l : List Variable). let y : State = record (into s places.Var) { vars = l } in y) more)
 
 pub row_begun : (s now : State) → s ≡ now → (name : List ℕ) (as' : List Attribute) (r : Row) (n : ℕ) (rs : List Row) (z : State) → z ≡ record (into s places.Con) { rows = rs } → rs ≡ s.rows ++ replicate n r → AllPass (Fails now (Start name as')) (tests (begins (led.To places.Con))) × (SaysRow as' r × SaysTimes as' n) → BeginsAt {X = Unit {0}} now name as' (led.To places.Con) z (Ok tt)
 row_begun s now same name as' r n rs z is more h = begun s now same name as' places.Con z h.0 (r, n, h.1.0, h.1.1, is ∙ ap (λ (l : List Row). let y : State = record (into s places.Con) { rows = l } in y) more)
@@ -39,9 +36,11 @@ says_whole l other as' s z h = h
 pub whole_begun : (s now : State) → s ≡ now → (name : List ℕ) (as' : List Attribute) (l : Listing) → (l ≡ Values → ⊥) → (n : ℕ) (d : ℤ) (t : List ℕ) (z : State) → z ≡ record (into s (places.El l)) { times = n; whole_step = d; text = t } → t ≡ [] → AllPass (Fails now (Start name as')) (tests (begins (led.To (places.El l)))) × (SaysTimes as' n × SaysWholeStep as' d) → BeginsAt {X = Unit {0}} now name as' (led.To (places.El l)) z (Ok tt)
 whole_begun s now same name as' l other n d t z is none h = begun s now same name as' (places.El l) z h.0 (says_whole l other as' (into s (places.El l)) z (n, d, h.1.0, h.1.1, is ∙ ap (λ (u : List ℕ). let y : State = record (into s (places.El l)) { times = n; whole_step = d; text = u } in y) none))
 
--- where all tests of an `obj` pass, it is the only one
-pub one_obj : (s : State) (name : List ℕ) (as' : List Attribute) (n : ℕ) → AllPass (Fails s (Start name as')) (tests (begins (led.To places.Obj))) → SaysTimes as' n → s.objs + n ≤ 1
-one_obj s name as' n pass says = let few : 1 < s.objs + n → ⊥ = λ many. pass.1.1.1.1.1.1.1.0 (n, says, many) in omega arith
+pub obj_begun : (s now : State) → s ≡ now → (name : List ℕ) (as' : List Attribute) (g : Sense) (c : Frac) (d : Option ℕ) (n : ℕ) (x : Frac) (cs : List Frac) (z : State) → z ≡ record (into s places.Obj) { obj_at = s.count + 1; times = n; coefs = 0; declared_coefs = d; sense = g; constant = c; costs = cs } → cs ≡ [] ++ replicate (length s.vars) x → x ≡ nought
+    → AllPass (Fails now (Start name as')) (tests (begins (led.To places.Obj))) × (SaysSense as' g × SaysConstant as' c × SaysCount as' (codes "numberOfObjCoef") d × SaysTimes as' n) → BeginsAt {X = Unit {0}} now name as' (led.To places.Obj) z (Ok tt)
+obj_begun s now same name as' g c d n x cs z is more none h =
+    let zeros : cs ≡ replicate (length s.vars) nought = more ∙ ap (λ (y : Frac). replicate (length s.vars) y) none in
+    begun s now same name as' places.Obj z h.0 (g, c, d, n, h.1.0, h.1.1, h.1.2, h.1.3, is ∙ ap (λ (l : List Frac). let y : State = record (into s places.Obj) { obj_at = s.count + 1; times = n; coefs = 0; declared_coefs = d; sense = g; constant = c; costs = l } in y) zeros)
 
 -- a start tag by where it leads
 pub at_begin : {X : Type 0} (s : State) (name : List ℕ) (as' : List Attribute) (l : Led) (z : State) (r : Result X Stop) → leads s.place name ≡ l → BeginsAt s name as' l z r → Steps s (Start name as') z r

@@ -1,5 +1,5 @@
 -- The text of a written instance is a document.
-use Rattle.osil_grammar.proofs.Words.{◌≡◌, ℕ, zero, suc, ◌+◌, ◌^◌, ◌<◌, ◌≤◌, Bool, nat_lt, cond, true, false, List, [], ◌∷◌, length, map, refl, sym, subst, arith, inl, inr, lit<, lit≤, codes, decimal, All, All-nil, All-cons, All-map, All-weaker, IsXmlText, Attribute, Nodes, none, element, Element, IsWritable, local_element, IsDocument, document_limit, Frac, Entry, Goal, Sense, Min, Max, Parts, IsValid, counted_element, with_attribute, CountsCosts, WriteLists, WritesGoal, WritesInstance, IsWrittenText, counts_nodes, entries_below, row_starts, sense_text}
+use Rattle.osil_grammar.proofs.Words.{◌≡◌, ℕ, zero, suc, ◌+◌, ◌^◌, ◌<◌, ◌≤◌, Bool, nat_lt, cond, true, false, List, [], ◌∷◌, length, map, refl, sym, subst, arith, inl, inr, lit<, lit≤, codes, decimal, All, All-nil, All-cons, All-map, All-weaker, IsXmlText, Attribute, Nodes, none, element, Element, IsWritable, local_element, IsDocument, document_limit, Frac, Entry, Goal, Sense, Min, Max, Parts, IsValid, counted_element, with_attribute, CountsCosts, WriteGoals, WriteLists, WritesInstance, IsWrittenText, counts_nodes, entries_below, row_starts, sense_text}
 use Rattle.element_tree.proofs.Documents.{written_doc}
 use Rattle.tree_grammar.specs.Document.{Doc}
 use Rattle.document_tags.proofs.XmlNodes.{IsTag, is_tag, tag_by}
@@ -44,11 +44,12 @@ sense_xml : (s : Sense) → IsXmlText (sense_text s)
 sense_xml Min = fixed_text (codes "min") refl
 sense_xml Max = fixed_text (codes "max") refl
 
-goal_low : (g : Goal) (nodes : Nodes) → WritesGoal g nodes → AreLow 2 nodes
-goal_low g nodes is =
+goals_low : (gs : List Goal) (nodes : Nodes) → WriteGoals gs nodes → AreLow 2 nodes
+goals_low [] nodes is = subst (AreLow 2) (sym is) (none_low 2)
+goals_low (g ∷ gs) nodes (more, rest, is) =
     let attributes : List Attribute = with_attribute (codes "maxOrMin") (sense_text g.sense) (with_attribute (codes "constant") is.constant (with_attribute (codes "numberOfObjCoef") (decimal is.count) [])) in
     let tag : IsTag (codes "obj") attributes = tag_by (codes "obj") attributes refl (sense_xml g.sense, (shown_text is.constant (plain_shown g.constant is.constant is.is_constant), (number_text is.count, tt))) in
-    subst (AreLow 2) (sym is.says) (element_low 1 (codes "obj") attributes is.costs none tag (costs_flat 0 g.costs is.costs is.are_costs) (none_low 2))
+    subst (AreLow 2) (sym is.says) (element_low 1 (codes "obj") attributes is.costs more tag (costs_flat 0 g.costs is.costs is.are_costs) (goals_low gs more rest))
 
 -- a part of `instanceData`, and then more
 part_low : (name key : List ℕ) (n : ℕ) (inner more : Nodes) → is_tag name (with_attribute key (decimal n) []) ≡ true → AreLow 2 inner → AreLow 3 more → AreLow 3 (counted_element name key n inner more)
@@ -62,8 +63,8 @@ root_low p root valid is =
     let columns : All (λ (e : Entry). e.col < 10 ^ 64) p.entries = λ k d inside. let col = (valid.inside k d inside).col in let most = valid.few_vars in few _ (omega (arith, col, most)) in
     let lists = part_low (codes "linearConstraintCoefficients") (codes "numberOfValues") (length p.entries) is.lists none refl (lists_low (length p.rows) p.entries is.lists valid.few_entries columns is.are_lists) (none_low 3) in
     let rows = part_low (codes "constraints") (codes "numberOfConstraints") (length p.rows) is.rows _ refl (still_low 1 2 is.rows (lit≤ tt) (rows_flat p.rows is.rows is.are_rows)) lists in
-    let goal = part_low (codes "objectives") (codes "numberOfObjectives") 1 is.goal _ refl (goal_low p.goal is.goal is.is_goal) rows in
-    let vars = part_low (codes "variables") (codes "numberOfVariables") (length p.vars) is.vars _ refl (still_low 1 2 is.vars (lit≤ tt) (vars_flat p.vars is.vars is.are_vars)) goal in
+    let goals = part_low (codes "objectives") (codes "numberOfObjectives") (length p.goals) is.goals _ refl (goals_low p.goals is.goals is.are_goals) rows in
+    let vars = part_low (codes "variables") (codes "numberOfVariables") (length p.vars) is.vars _ refl (still_low 1 2 is.vars (lit≤ tt) (vars_flat p.vars is.vars is.are_vars)) goals in
     let content = element_low 3 (codes "instanceHeader") [] none _ (tag_by (codes "instanceHeader") [] refl tt) (none_low 3) (element_low 3 (codes "instanceData") [] _ none (tag_by (codes "instanceData") [] refl tt) vars (none_low 4)) in
     let tag : IsTag (codes "osil") (with_attribute (codes "xmlns") place []) = tag_by (codes "osil") (with_attribute (codes "xmlns") place []) refl (fixed_text place refl, tt) in
     subst (λ (e : Element). IsTag e.name e.attributes × AreLow 4 e.children) (sym is.says) (tag, content)

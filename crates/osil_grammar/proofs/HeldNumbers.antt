@@ -1,10 +1,11 @@
 -- The lists of the matrix and its entries are never held at once.
-use Rattle.osil_grammar.proofs.Words.{◌≡◌, ℕ, ◌≤◌, inl, inr, Bool, true, false, cond, List, [], ◌∷◌, refl, sym, subst, arith, bytes_eq, Mark, Start, Char, Finish, AllPass, Takes, AreTaken, Place, Led, State, start, Child, begins, tests, content, otherwise, among, leads, Fails, Begins, Ends, Leaves, osil, is_in_matrix, AreHeldApart, HoldsApart, IsFit}
+use Rattle.osil_grammar.proofs.Words.{◌≡◌, ℕ, ◌+◌, ◌*◌, ◌≤◌, inl, inr, Bool, true, false, cond, List, [], ◌∷◌, length, refl, ap, sym, subst, arith, lit<, All, All-head, All-tail, bytes_eq, Frac, Entry, Goal, Mark, Start, Char, Finish, AllPass, Takes, AreTaken, Place, Led, State, start, Child, begins, tests, content, otherwise, among, leads, Fails, Begins, Ends, Leaves, osil, IsSoundSoFar, AreGoals, HasGoalsIn, is_in_matrix, AreHeldApart, HoldsApart, IsFit, goals_held, held}
 use Rattle.osil_grammar.specs.declared.elements.Part.TheVariants as parts
 use Rattle.osil_grammar.specs.declared.elements.Listing.TheVariants as listings
 use Rattle.osil_grammar.specs.declared.elements.Place.TheVariants as places
 use Rattle.osil_grammar.specs.declared.elements.Led.TheVariants as led
 use Rattle.osil_grammar.proofs.SoundStates.{sound_kept, sound_start}
+use Rattle.osil_grammar.proofs.GoalStates.{goals_kept, goals_start}
 
 -- a start tag leads from the matrix to what stands in it, from elsewhere to what doesn't, or into a part
 abbrev IsOnSide : Bool → Led → Type 0
@@ -102,9 +103,56 @@ apart_kept s z (Finish name) apart takes = ended_apart s (Finish name) apart s.p
 pub apart_start : HoldsApart start
 apart_start = (refl, refl, refl, λ low. refl)
 
+-- HOW MANY ITEMS ARE HELD: those of goals, of which each has a cost for each variable
+pub held_each : (n : ℕ) (gs : List Goal) → All (λ g. length g.costs ≡ n) gs → goals_held gs ≡ length gs * (n + 1)
+held_each n [] each = refl
+held_each n (g ∷ gs) each =
+    let first = All-head (λ (x : Goal). length x.costs ≡ n) g gs each in
+    let rest = held_each n gs (All-tail (λ (x : Goal). length x.costs ≡ n) g gs each) in
+    omega (arith, first, rest)
+
+goals_few : (n : ℕ) (gs : List Goal) → n ≤ 1000 → All (λ g. length g.costs ≡ n) gs → goals_held gs ≤ length gs * 1001
+goals_few n [] few each = omega arith
+goals_few n (g ∷ gs) few each =
+    let first = All-head (λ (x : Goal). length x.costs ≡ n) g gs each in
+    let rest = goals_few n gs few (All-tail (λ (x : Goal). length x.costs ≡ n) g gs each) in
+    omega (arith, first, rest, few)
+
+module _ (s : State) (sound : IsSoundSoFar s) (goals : AreGoals (length s.vars) s.goals) where
+  few_goals : goals_held s.goals ≤ 8008
+  few_goals = let all = goals_few (length s.vars) s.goals sound.0.few_vars goals.one_each in let few = goals.few in omega (arith, all, few)
+
+  -- in an `obj` no list of the matrix is held, and elsewhere no costs but those of the goals
+  open_few : ApartAt false s → s.part ≡ 2 → length s.costs ≡ length s.vars → held s ≤ 211009
+  open_few apart at each =
+      let vars = sound.0.few_vars in let rows = sound.0.few_rows in let gs = few_goals in
+      let starts = ap (λ (l : List ℕ). length l) apart.0 in let indices = ap (λ (l : List ℕ). length l) apart.1 in let values = ap (λ (l : List Frac). length l) apart.2 in
+      let entries = ap (λ (l : List Entry). length l) (apart.3 (omega (arith, at))) in
+      omega (arith, vars, rows, gs, starts, indices, values, entries, each)
+
+  closed_few : (b : Bool) → ApartAt b s → s.costs ≡ [] → held s ≤ 211009
+  closed_few true apart none =
+      let vars = sound.0.few_vars in let rows = sound.0.few_rows in let gs = few_goals in
+      let starts = sound.1 in let indices = sound.2 in let values = sound.4 in
+      let entries = ap (λ (l : List Entry). length l) apart.1 in let costs = ap (λ (l : List Frac). length l) none in
+      omega (arith, vars, rows, gs, starts, indices, values, entries, costs)
+  closed_few false apart none =
+      let vars = sound.0.few_vars in let rows = sound.0.few_rows in let gs = few_goals in
+      let starts = ap (λ (l : List ℕ). length l) apart.0 in let indices = ap (λ (l : List ℕ). length l) apart.1 in let values = ap (λ (l : List Frac). length l) apart.2 in
+      let entries = sound.5.few in let costs = ap (λ (l : List Frac). length l) none in
+      omega (arith, vars, rows, gs, starts, indices, values, entries, costs)
+
+held_at : (p : Place) (s : State) → IsSoundSoFar s → ApartAt (is_in_matrix p) s → HasGoalsIn p s → held s ≤ 211009
+held_at places.Obj s sound apart goals = open_few s sound goals.0 apart (goals.2 (lit< tt)) goals.3.0
+held_at places.Coef s sound apart goals = open_few s sound goals.0 apart (goals.2 (lit< tt)) goals.3.0
+held_at p s sound apart goals = closed_few s sound goals.0 (is_in_matrix p) apart goals.3
+
+pub held_few : (s : State) → IsFit s → held s ≤ 211009
+held_few s fit = held_at s.place s fit.0.0 fit.1 fit.2
+
 pub fit_start : IsFit start
-fit_start = (sound_start, apart_start)
+fit_start = (sound_start, apart_start, goals_start)
 
 pub fit_kept : (s : State) (ms : List Mark) (z : State) → AreTaken osil s ms z → IsFit s → IsFit z
 fit_kept s [] z taken fit = subst IsFit (sym taken) fit
-fit_kept s (m ∷ ms) z (w, takes, more) fit = fit_kept w ms z more (sound_kept s w m fit.0 takes, apart_kept s w m fit.1 takes)
+fit_kept s (m ∷ ms) z (w, takes, more) fit = fit_kept w ms z more (sound_kept s w m fit.0 takes, apart_kept s w m fit.1 takes, goals_kept s w m fit.2 takes)

@@ -33,6 +33,7 @@ pub mod OneEntries
 pub mod OneState
 pub mod InOrder
 pub mod SoundStates
+pub mod GoalStates
 pub mod HeldNumbers
 pub mod Decodings
 pub mod OneDocument

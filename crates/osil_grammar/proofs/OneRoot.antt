@@ -1,5 +1,5 @@
 -- An instance is written in one way.
-use Rattle.osil_grammar.proofs.Words.{◌≡◌, ◌∙◌, ℕ, ◌+◌, List, [], ◌∷◌, ap, sym, inl, inr, decimal, Nodes, Element, Frac, End, At, Entry, Var, Row, Goal, Parts, IsEndText, WriteVars, WriteRows, WriteCosts, CountsCosts, WritesGoal, WriteValues, WriteLists, WritesInstance}
+use Rattle.osil_grammar.proofs.Words.{◌≡◌, ◌∙◌, ℕ, ◌+◌, List, [], ◌∷◌, ap, sym, inl, inr, decimal, Nodes, Element, Frac, End, At, Entry, Var, Row, Goal, Parts, IsEndText, WriteVars, WriteRows, WriteCosts, CountsCosts, WriteGoals, WriteValues, WriteLists, WritesInstance}
 use Rattle.decimal_text.proofs.PlainTexts.{plain_once}
 
 end_once : (end : End) (s t : List ℕ) → IsEndText end s → IsEndText end t → s ≡ t
@@ -45,8 +45,10 @@ count_once (c ∷ cs) m n (inl p) (inr q) = absurd (q.0 p.0)
 count_once (c ∷ cs) m n (inr p) (inl q) = absurd (p.0 q.0)
 count_once (c ∷ cs) m n (inr p) (inr q) = p.3 ∙ ap (λ (k : ℕ). k + 1) (count_once cs p.1 q.1 p.2 q.2) ∙ sym q.3
 
-goal_once : (g : Goal) (a b : Nodes) → WritesGoal g a → WritesGoal g b → a ≡ b
-goal_once g a b p q =
+goals_once : (gs : List Goal) (a b : Nodes) → WriteGoals gs a → WriteGoals gs b → a ≡ b
+goals_once [] a b p q = p ∙ sym q
+goals_once (g ∷ gs) a b (m, more, p) (n, rest, q) =
+    let behind = goals_once gs m n more rest in
     let constant = plain_once g.constant p.constant q.constant p.is_constant q.is_constant in
     let count = ap decimal (count_once g.costs p.count q.count p.counts q.counts) in
     let costs = costs_once 0 g.costs p.costs q.costs p.are_costs q.are_costs in
@@ -74,7 +76,7 @@ lists_once m (e ∷ es) a b p q =
 pub root_once : (p : Parts) (a b : Element) → WritesInstance p a → WritesInstance p b → a ≡ b
 root_once p a b r s =
     let vars = vars_once p.vars r.vars s.vars r.are_vars s.are_vars in
-    let goal = goal_once p.goal r.goal s.goal r.is_goal s.is_goal in
+    let goals = goals_once p.goals r.goals s.goals r.are_goals s.are_goals in
     let rows = rows_once p.rows r.rows s.rows r.are_rows s.are_rows in
     let lists = lists_once _ p.entries r.lists s.lists r.are_lists s.are_lists in
     let first = r.says in

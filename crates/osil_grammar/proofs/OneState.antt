@@ -1,5 +1,5 @@
 -- What start tags and texts say is one thing, so a mark that is taken leaves one state.
-use Rattle.osil_grammar.proofs.Words.{◌≡◌, ◌∙◌, ◌+◌, ℕ, zero, suc, inl, inr, ℤ, pos, Bool, cond, true, false, List, [], ◌∷◌, ◌++◌, map, get_or, set, replicate, refl, ap, sym, subst, arith, lit<, ◌||◌, Option, None, Some, IsSomeAnd, bytes_eq, codes, Attribute, Mark, Char, Ratio, IsNumber, IsSame, sum, negative, IsSame-trans, sum-number, Frac, End, NegInf, At, Inf, Entry, ratio, ratios, same_fraction, SaysEnd, IsCount, IsWholeText, IsDecimal, only_inf, only_neg_inf, count_once, whole_once, value_of, Row, Sense, Min, Max, LeavesOne, Domain, Continuous, Integer, Binary, Listing, Place, whole_run, ratio_run, AreSame, IsEndAt, raised, lowered, IsBinary, IsLess, IsSense, IsDeclared, SaysCount, nought, SaysStep, SaysWholeStep, letters, IsLetterOf, IsOfDomain, SaysVar, SaysRow, SaysSense, State, Kind, begins, text, ends, kind, attributes, count_name, part_row, into, out_of, is_variables, SaysRun, Begins, Passes, AddsWholes, AddsRun, AddsCost, Ends, Leaves, osil}
+use Rattle.osil_grammar.proofs.Words.{◌≡◌, ◌∙◌, ◌+◌, ℕ, zero, suc, inl, inr, ℤ, pos, Bool, cond, true, false, List, [], ◌∷◌, ◌++◌, map, length, get_or, set, replicate, refl, ap, sym, subst, arith, lit<, ◌||◌, Option, None, Some, IsSomeAnd, bytes_eq, codes, Attribute, Mark, Char, Ratio, IsNumber, IsSame, sum, negative, IsSame-trans, sum-number, Frac, End, NegInf, At, Inf, Entry, ratio, ratios, same_fraction, SaysEnd, IsCount, IsWholeText, IsDecimal, only_inf, only_neg_inf, count_once, whole_once, value_of, Row, Sense, Min, Max, LeavesOne, Domain, Continuous, Integer, Binary, SemiContinuous, SemiInteger, Listing, Place, whole_run, ratio_run, AreSame, IsEndAt, raised, lowered, IsBinary, IsLess, IsSense, IsDeclared, SaysCount, nought, SaysStep, SaysWholeStep, letters, IsLetterOf, IsOfDomain, SaysVar, SaysRow, SaysSense, State, Kind, begins, text, ends, kind, attributes, count_name, part_row, into, out_of, is_variables, SaysRun, Begins, Passes, AddsWholes, AddsRun, AddsCost, Ends, Leaves, osil}
 use Rattle.evidence.specs.Sums as evidence
 use Rattle.instance.specs.declared.parts.Var.{Var as Variable}
 use Rattle.osil_grammar.specs.declared.elements.Part.TheVariants as parts
@@ -36,31 +36,36 @@ lowered_number (At f) = number_either (evidence.is_below (lowered Inf) (ratio f)
 lowered_number x = lit< tt
 
 -- a variable
-same_var : (v w : Variable) → v.lb ≡ w.lb → v.ub ≡ w.ub → v.whole ≡ w.whole → v ≡ w
-same_var v w a b c =
-    let low : v ≡ record { lb = w.lb; ub = v.ub; whole = v.whole } = ap (λ (x : End). record { lb = x; ub = v.ub; whole = v.whole }) a in
-    let high : v ≡ record { lb = w.lb; ub = w.ub; whole = v.whole } = low ∙ ap (λ (x : End). record { lb = w.lb; ub = x; whole = v.whole }) b in
-    high ∙ ap (λ (x : Bool). record { lb = w.lb; ub = w.ub; whole = x }) c
+same_var : (v w : Variable) → v.lb ≡ w.lb → v.ub ≡ w.ub → v.whole ≡ w.whole → v.zero ≡ w.zero → v ≡ w
+same_var v w a b c d =
+    let low : v ≡ record { lb = w.lb; ub = v.ub; whole = v.whole; zero = v.zero } = ap (λ (x : End). record { lb = x; ub = v.ub; whole = v.whole; zero = v.zero }) a in
+    let high : v ≡ record { lb = w.lb; ub = w.ub; whole = v.whole; zero = v.zero } = low ∙ ap (λ (x : End). record { lb = w.lb; ub = x; whole = v.whole; zero = v.zero }) b in
+    let same : v ≡ record { lb = w.lb; ub = w.ub; whole = w.whole; zero = v.zero } = high ∙ ap (λ (x : Bool). record { lb = w.lb; ub = w.ub; whole = x; zero = v.zero }) c in
+    same ∙ ap (λ (x : Bool). record { lb = w.lb; ub = w.ub; whole = w.whole; zero = x }) d
 
-as_said : (lb ub : End) (whole : Bool) (v w : Variable) → (v.lb ≡ lb) × (v.ub ≡ ub) × (v.whole ≡ whole) → (w.lb ≡ lb) × (w.ub ≡ ub) × (w.whole ≡ whole) → v ≡ w
-as_said lb ub whole v w a b = same_var v w (a.0 ∙ sym b.0) (a.1 ∙ sym b.1) (a.2 ∙ sym b.2)
+as_said : (lb ub : End) (whole semi : Bool) (v w : Variable) → (v.lb ≡ lb) × (v.ub ≡ ub) × (v.whole ≡ whole) × (v.zero ≡ semi) → (w.lb ≡ lb) × (w.ub ≡ ub) × (w.whole ≡ whole) × (w.zero ≡ semi) → v ≡ w
+as_said lb ub whole semi v w a b = same_var v w (a.0 ∙ sym b.0) (a.1 ∙ sym b.1) (a.2 ∙ sym b.2) (a.3 ∙ sym b.3)
 
 as_binary : (lb ub : End) (v w : Variable) → IsBinary lb ub v → IsBinary lb ub w → v ≡ w
-as_binary lb ub v w a b = same_var v w (end_at_once (raised lb) (raised_number lb) v.lb w.lb a.0 b.0) (end_at_once (lowered ub) (lowered_number ub) v.ub w.ub a.1 b.1) (a.2 ∙ sym b.2)
+as_binary lb ub v w a b = same_var v w (end_at_once (raised lb) (raised_number lb) v.lb w.lb a.0 b.0) (end_at_once (lowered ub) (lowered_number ub) v.ub w.ub a.1 b.1) (a.2 ∙ sym b.2) (a.3 ∙ sym b.3)
 
 of_domain_once : (d : Domain) (lb ub : End) (v w : Variable) → IsOfDomain d lb ub v → IsOfDomain d lb ub w → v ≡ w
-of_domain_once Continuous lb ub v w a b = as_said lb ub false v w a b
-of_domain_once Integer lb ub v w a b = as_said lb ub true v w a b
+of_domain_once Continuous lb ub v w a b = as_said lb ub false false v w a b
+of_domain_once Integer lb ub v w a b = as_said lb ub true false v w a b
 of_domain_once Binary lb ub v w a b = as_binary lb ub v w a b
+of_domain_once SemiContinuous lb ub v w a b = as_said lb ub false true v w a b
+of_domain_once SemiInteger lb ub v w a b = as_said lb ub true true v w a b
 
 abbrev letter_read : List ℕ → Option Domain
-letter_read t = cond (bytes_eq t (codes "C")) (Some Continuous) (cond (bytes_eq t (codes "B")) (Some Binary) (Some Integer))
+letter_read t = cond (bytes_eq t (codes "C")) (Some Continuous) (cond (bytes_eq t (codes "B")) (Some Binary) (cond (bytes_eq t (codes "I")) (Some Integer) (cond (bytes_eq t (codes "D")) (Some SemiContinuous) (Some SemiInteger))))
 
 letter_is : (t : List ℕ) (d : Domain) → IsLetterOf letters t d → letter_read t ≡ Some d
 letter_is t d (inl a) = ap letter_read a.0 ∙ ap (λ (x : Domain). Some x) (sym a.1)
 letter_is t d (inr (inl a)) = ap letter_read a.0 ∙ ap (λ (x : Domain). Some x) (sym a.1)
 letter_is t d (inr (inr (inl a))) = ap letter_read a.0 ∙ ap (λ (x : Domain). Some x) (sym a.1)
-letter_is t d (inr (inr (inr a))) = absurd a
+letter_is t d (inr (inr (inr (inl a)))) = ap letter_read a.0 ∙ ap (λ (x : Domain). Some x) (sym a.1)
+letter_is t d (inr (inr (inr (inr (inl a))))) = ap letter_read a.0 ∙ ap (λ (x : Domain). Some x) (sym a.1)
+letter_is t d (inr (inr (inr (inr (inr a))))) = absurd a
 
 letter_once : (t : List ℕ) (d e : Domain) → IsLetterOf letters t d → IsLetterOf letters t e → d ≡ e
 letter_once t d e a b = let same = sym (letter_is t d a) ∙ letter_is t e b in cc
@@ -134,20 +139,24 @@ run_once listings.Values as' s a b (m, d, t, u, e) (n, c, v, w, f) =
 run_once l as' s a b (m, d, t, u, e) (n, c, v, w, f) =
     e ∙ ap (λ (k : ℕ). let z : State = record s { times = k; whole_step = d; text = [] } in z) (times_once as' m n t v) ∙ ap (λ (x : ℤ). let z : State = record s { times = n; whole_step = x; text = [] } in z) (whole_step_once as' d c u w) ∙ sym f
 
+-- a cost of 0 for each variable
+abbrev none_each : State → List Frac
+none_each s = replicate (length s.vars) nought
+
 begins_once : (s : State) (m : Mark) (p : Place) (a b : State) → Begins s m p a → Begins s m p b → a ≡ b
 begins_once s m (places.Part part) a b (d, x, e) (c, y, f) =
     e ∙ ap (λ (k : Option ℕ). let z : State = record (into s (places.Part part)) { part_at = s.count + 1; part = part_row part; has_variables = is_variables part || s.has_variables; declared = k } in z) (count_said_once (attributes m) (count_name part) d c x y) ∙ sym f
 begins_once s m places.Var a b (v, i, x, t, e) (w, j, y, u, f) =
-    e ∙ ap (λ (k : Variable). let z : State = record (into s places.Var) { vars = s.vars ++ replicate i k; costs = s.costs ++ replicate i nought } in z) (var_once (attributes m) v w x y)
-    ∙ ap (λ (k : ℕ). let z : State = record (into s places.Var) { vars = s.vars ++ replicate k w; costs = s.costs ++ replicate k nought } in z) (times_once (attributes m) i j t u) ∙ sym f
+    e ∙ ap (λ (k : Variable). let z : State = record (into s places.Var) { vars = s.vars ++ replicate i k } in z) (var_once (attributes m) v w x y)
+    ∙ ap (λ (k : ℕ). let z : State = record (into s places.Var) { vars = s.vars ++ replicate k w } in z) (times_once (attributes m) i j t u) ∙ sym f
 begins_once s m places.Con a b (r, i, x, t, e) (q, j, y, u, f) =
     e ∙ ap (λ (k : Row). let z : State = record (into s places.Con) { rows = s.rows ++ replicate i k } in z) (row_once (attributes m) r q x y)
     ∙ ap (λ (k : ℕ). let z : State = record (into s places.Con) { rows = s.rows ++ replicate k q } in z) (times_once (attributes m) i j t u) ∙ sym f
 begins_once s m places.Obj a b (g, c, d, i, x, k, l, t, e) (h, o, n, j, y, q, r, u, f) =
-    e ∙ ap (λ (w : Sense). let z : State = record (into s places.Obj) { obj_at = s.count + 1; objs = s.objs + i; coefs = 0; declared_coefs = d; sense = w; constant = c } in z) (sense_said_once (attributes m) g h x y)
-    ∙ ap (λ (w : Frac). let z : State = record (into s places.Obj) { obj_at = s.count + 1; objs = s.objs + i; coefs = 0; declared_coefs = d; sense = h; constant = w } in z) (constant_once (attributes m) c o k q)
-    ∙ ap (λ (w : Option ℕ). let z : State = record (into s places.Obj) { obj_at = s.count + 1; objs = s.objs + i; coefs = 0; declared_coefs = w; sense = h; constant = o } in z) (count_said_once (attributes m) (codes "numberOfObjCoef") d n l r)
-    ∙ ap (λ (w : ℕ). let z : State = record (into s places.Obj) { obj_at = s.count + 1; objs = s.objs + w; coefs = 0; declared_coefs = n; sense = h; constant = o } in z) (times_once (attributes m) i j t u) ∙ sym f
+    e ∙ ap (λ (w : Sense). let z : State = record (into s places.Obj) { obj_at = s.count + 1; times = i; coefs = 0; declared_coefs = d; sense = w; constant = c; costs = none_each s } in z) (sense_said_once (attributes m) g h x y)
+    ∙ ap (λ (w : Frac). let z : State = record (into s places.Obj) { obj_at = s.count + 1; times = i; coefs = 0; declared_coefs = d; sense = h; constant = w; costs = none_each s } in z) (constant_once (attributes m) c o k q)
+    ∙ ap (λ (w : Option ℕ). let z : State = record (into s places.Obj) { obj_at = s.count + 1; times = i; coefs = 0; declared_coefs = w; sense = h; constant = o; costs = none_each s } in z) (count_said_once (attributes m) (codes "numberOfObjCoef") d n l r)
+    ∙ ap (λ (w : ℕ). let z : State = record (into s places.Obj) { obj_at = s.count + 1; times = w; coefs = 0; declared_coefs = n; sense = h; constant = o; costs = none_each s } in z) (times_once (attributes m) i j t u) ∙ sym f
 begins_once s m places.Coef a b (i, x, e) (j, y, f) =
     e ∙ ap (λ (k : ℕ). let z : State = record (into s places.Coef) { coefs = s.coefs + 1; variable = k; text = [] } in z) (index_of_once (value_of (codes "idx") (attributes m)) i j x y) ∙ sym f
 begins_once s m (places.El l) a b e f = run_once l (attributes m) (into s (places.El l)) a b e f

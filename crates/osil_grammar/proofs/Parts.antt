@@ -1,5 +1,5 @@
 -- The parts of an instance, each told in its steps.
-use Rattle.osil_grammar.proofs.Words.{◌≡◌, ◌∙◌, ℕ, pos, List, [], ◌∷◌, ◌++◌, ap, refl, inr, codes, decimal, Attribute, Nodes, none, element, chars, nodes_events, Building, said, ratio, Frac, PlainText, Var, Row, Goal, counted_element, with_attribute, WriteVars, WriteRows, WriteCosts, CountsCosts, WritesGoal, holding, sense_text, type_text, ToldAttributes, opening, closing, EndAttributes, content_told, told_around}
+use Rattle.osil_grammar.proofs.Words.{◌≡◌, ◌∙◌, ℕ, pos, List, [], ◌∷◌, ◌++◌, ap, refl, inr, codes, decimal, Attribute, Nodes, none, element, chars, nodes_events, Building, said, ratio, Frac, PlainText, Var, Row, Goal, counted_element, with_attribute, WriteVars, WriteRows, WriteCosts, CountsCosts, WriteGoals, holding, sense_text, type_text, ToldAttributes, opening, closing, EndAttributes, content_told, told_around}
 use Rattle.document_tags.specs.Telling.{Told}
 
 -- an attribute was told
@@ -11,13 +11,13 @@ abbrev pub ToldSome : (Nodes → Type 0) → Building → Building → Type 0
 ToldSome Q old new = (nodes : Nodes) × Q nodes × Told old new (nodes_events nodes)
 
 -- a variable, by its type and its ends
-pub var_told : (v : Var) (a b c d : Building) (kind : List ℕ) (more : List Attribute) → a.attributes ≡ [] → kind ≡ type_text v.whole → b ≡ told_attribute a (codes "type") kind → EndAttributes v.lb v.ub more → ToldAttributes b c more → Told c d (nodes_events (element (codes "var") c.attributes none none)) → ToldSome (WriteVars (v ∷ [])) a d
+pub var_told : (v : Var) (a b c d : Building) (kind : List ℕ) (more : List Attribute) → a.attributes ≡ [] → kind ≡ type_text v.whole v.zero → b ≡ told_attribute a (codes "type") kind → EndAttributes v.lb v.ub more → ToldAttributes b c more → Told c d (nodes_events (element (codes "var") c.attributes none none)) → ToldSome (WriteVars (v ∷ [])) a d
 var_told v a b c d kind more waits is typed ends attributes tells =
-    let all : List Attribute = with_attribute (codes "type") (type_text v.whole) (with_attribute (codes "lb") ends.0 (with_attribute (codes "ub") ends.1 [])) in
+    let all : List Attribute = with_attribute (codes "type") (type_text v.whole v.zero) (with_attribute (codes "lb") ends.0 (with_attribute (codes "ub") ends.1 [])) in
     let same : said c ≡ said a = attributes.told ∙ ap said typed in
     let held : c.attributes ≡ all =
     attributes.waiting ∙ ap (λ (x : Building). x.attributes ++ more) typed ∙ ap (λ (l : List Attribute). (l ++ record { name = codes "type"; value = kind } ∷ []) ++ more) waits
-    ∙ ap (λ (k : List ℕ). with_attribute (codes "type") k more) is ∙ ap (λ (l : List Attribute). with_attribute (codes "type") (type_text v.whole) l) ends.4 in
+    ∙ ap (λ (k : List ℕ). with_attribute (codes "type") k more) is ∙ ap (λ (l : List Attribute). with_attribute (codes "type") (type_text v.whole v.zero) l) ends.4 in
     (element (codes "var") all none none, (ends.0, ends.1, none, ends.2, ends.3, refl, refl), content_told a c d (codes "var") c.attributes all none same held tells)
 
 -- a row, by its ends
@@ -39,8 +39,8 @@ pub counted_told : (a b c d : Building) (name key : List ℕ) (n : ℕ) (inner :
 counted_told a b c d name key n inner waits begins inside ends =
     content_told a a d name (a.attributes ++ with_attribute key (decimal n) []) (with_attribute key (decimal n) []) inner refl (ap (λ (l : List Attribute). l ++ with_attribute key (decimal n) []) waits) (told_around a b c d name (a.attributes ++ with_attribute key (decimal n) []) inner begins inside ends)
 
--- the objective, by its sense, its constant and its costs
-pub objective_told : (g : Goal) (a b c d e f : Building) (sense constant : List ℕ) (n : ℕ) (costs : Nodes) → a.attributes ≡ [] → sense ≡ sense_text g.sense → PlainText constant (ratio g.constant) → CountsCosts g.costs n → b ≡ told_attribute a (codes "maxOrMin") sense → c ≡ told_attribute b (codes "constant") constant → Told c d (opening (codes "obj") (c.attributes ++ with_attribute (codes "numberOfObjCoef") (decimal n) [])) → WriteCosts 0 g.costs costs → Told d e (nodes_events costs) → Told e f (closing (codes "obj")) → ToldSome (WritesGoal g) a f
+-- an objective, by its sense, its constant and its costs
+pub objective_told : (g : Goal) (a b c d e f : Building) (sense constant : List ℕ) (n : ℕ) (costs : Nodes) → a.attributes ≡ [] → sense ≡ sense_text g.sense → PlainText constant (ratio g.constant) → CountsCosts g.costs n → b ≡ told_attribute a (codes "maxOrMin") sense → c ≡ told_attribute b (codes "constant") constant → Told c d (opening (codes "obj") (c.attributes ++ with_attribute (codes "numberOfObjCoef") (decimal n) [])) → WriteCosts 0 g.costs costs → Told d e (nodes_events costs) → Told e f (closing (codes "obj")) → ToldSome (WriteGoals (g ∷ [])) a f
 objective_told g a b c d e f sense constant n costs waits is plain counts first second begins writes inside ends =
     let last : List Attribute = with_attribute (codes "numberOfObjCoef") (decimal n) [] in
     let all : List Attribute = with_attribute (codes "maxOrMin") (sense_text g.sense) (with_attribute (codes "constant") constant last) in
@@ -50,6 +50,6 @@ objective_told g a b c d e f sense constant n costs waits is plain counts first 
     ∙ ap (λ (k : List ℕ). with_attribute (codes "maxOrMin") k (with_attribute (codes "constant") constant last)) is in
     let same : said c ≡ said a = ap said second ∙ ap said first in (
       element (codes "obj") all costs none,
-      record { constant = constant; is_constant = plain; count = n; counts = counts; costs = costs; are_costs = writes; says = refl },
+      (none, refl, record { constant = constant; is_constant = plain; count = n; counts = counts; costs = costs; are_costs = writes; says = refl }),
       content_told a c f (codes "obj") (c.attributes ++ last) all costs same held (told_around c d e f (codes "obj") (c.attributes ++ last) costs begins inside ends),
     )

@@ -1,5 +1,5 @@
 -- A mark that is taken in a sound state leaves a sound state.
-use Rattle.osil_grammar.proofs.Words.{◌≡◌, ◌∙◌, ◌+◌, ◌-◌, ◌<◌, ◌≤◌, ℕ, inl, inr, ℤ, pos, negsuc, Bool, true, false, cond, List, [], ◌++◌, map, length, replicate, refl, ap, sym, subst, arith, length-append, Option, None, Some, MatchOption, IsSomeAnd, unsigned_abs, ◌+ℤ◌, ◌*ℤ◌, codes, All, cases_lt, cases_eq, ints, length-replicate, length-set, length-map, All-nil, All-append, All-replicate, All-weaker, All-map, Attribute, Mark, Start, Char, Finish, Ratio, Frac, ratio, ratios, End, NegInf, At, Inf, Entry, SaysEnd, IsCount, IsWholeText, Row, AreEnds, IsInside, value_of, AllPass, Takes, Domain, Binary, Listing, Place, Led, IsEndAt, IsLess, raised, lowered, nought, Says, HasSuch, IsTimes, SaysTimes, IsOfDomain, State, start, begins, ends, tests, leads, Fails, AreTooMany, IsDivided, IsInRange, IsOutOfRange, lines, list_length, most, Begins, Ends, Leaves, AddsWholes, IsMatrixOf, heard, keeps_text, osil, AreItems, AreWithin, IsSoundSoFar, IsSoundAt, IsSoundIn, IsSound}
+use Rattle.osil_grammar.proofs.Words.{◌≡◌, ◌∙◌, ◌+◌, ◌-◌, ◌<◌, ◌≤◌, ℕ, inl, inr, ℤ, pos, negsuc, Bool, true, false, cond, List, [], ◌++◌, map, length, replicate, refl, ap, sym, subst, arith, length-append, Option, None, Some, MatchOption, IsSomeAnd, unsigned_abs, ◌+ℤ◌, ◌*ℤ◌, codes, All, cases_lt, cases_eq, ints, length-replicate, length-map, All-nil, All-append, All-replicate, All-weaker, All-map, Attribute, Mark, Start, Char, Finish, Ratio, Frac, ratio, ratios, End, NegInf, At, Inf, Entry, SaysEnd, IsCount, IsWholeText, Row, AreEnds, IsInside, value_of, AllPass, Takes, Domain, Binary, Listing, Place, Led, IsEndAt, IsLess, raised, lowered, nought, Says, HasSuch, IsTimes, SaysTimes, IsOfDomain, State, start, begins, ends, tests, leads, Fails, AreTooMany, IsDivided, IsInRange, IsOutOfRange, lines, list_length, most, Begins, Ends, Leaves, AddsWholes, IsMatrixOf, heard, keeps_text, osil, AreItems, AreWithin, IsSoundSoFar, IsSoundAt, IsSoundIn, IsSound}
 use Rattle.instance.specs.declared.parts.Var.{Var as Variable}
 use Rattle.osil_grammar.specs.declared.elements.Part.TheVariants as parts
 use Rattle.osil_grammar.specs.declared.elements.Listing.TheVariants as listings
@@ -12,7 +12,7 @@ use Rattle.osil_grammar.proofs.StartTagTests.{is_said}
 use Rattle.osil_grammar.proofs.WholesBelow.{wholes_below}
 
 -- what no test refused
-not_more : (m n : ℕ) → (m < n → ⊥) → n ≤ m
+pub not_more : (m n : ℕ) → (m < n → ⊥) → n ≤ m
 not_more m n not_so = elim (cases_lt m n) [ inl many ↦ absurd (not_so many) | inr few ↦ few ]
 
 -- with as many variables and rows, or more
@@ -29,23 +29,21 @@ inside_more r q v w e rows vars h = let x = h.row in let y = h.col in record { r
 within_more : (r q v w : ℕ) → r ≤ q → v ≤ w → (es : List Entry) → AreWithin r v es → AreWithin q w es
 within_more r q v w rows vars es h = record { few = h.few; ascending = h.ascending; inside = All-weaker (IsInside r v) (IsInside q w) (λ e k. inside_more r q v w e rows vars k) es h.inside }
 
-replicated : {X : Type 0} (xs : List X) (n : ℕ) (x : X) → length (xs ++ replicate n x) ≡ length xs + n
+pub replicated : {X : Type 0} (xs : List X) (n : ℕ) (x : X) → length (xs ++ replicate n x) ≡ length xs + n
 replicated xs n x = length-append xs (replicate n x) ∙ ap (λ (m : ℕ). length xs + m) (length-replicate n x)
 
-more_vars : (vars : List Variable) (rows : List Row) (costs : List Frac) (n : ℕ) (v : Variable) → AreItems vars rows costs → length vars + n ≤ 1000 → AreEnds v.lb v.ub → AreItems (vars ++ replicate n v) rows (costs ++ replicate n nought)
-more_vars vars rows costs n v k few both = record {
+more_vars : (vars : List Variable) (rows : List Row) (n : ℕ) (v : Variable) → AreItems vars rows → length vars + n ≤ 1000 → AreEnds v.lb v.ub → AreItems (vars ++ replicate n v) rows
+more_vars vars rows n v k few both = record {
   few_vars = let long = replicated vars n v in omega (arith, long, few);
   few_rows = k.few_rows;
-  one_each = replicated costs n nought ∙ ap (λ (m : ℕ). m + n) k.one_each ∙ sym (replicated vars n v);
   var_ends = All-append (λ (w : Variable). AreEnds w.lb w.ub) vars (replicate n v) k.var_ends (All-replicate (λ (w : Variable). AreEnds w.lb w.ub) n v both);
   row_ends = k.row_ends;
 }
 
-more_rows : (vars : List Variable) (rows : List Row) (costs : List Frac) (n : ℕ) (r : Row) → AreItems vars rows costs → length rows + n ≤ 1000 → AreEnds r.lb r.ub → AreItems vars (rows ++ replicate n r) costs
-more_rows vars rows costs n r k few both = record {
+more_rows : (vars : List Variable) (rows : List Row) (n : ℕ) (r : Row) → AreItems vars rows → length rows + n ≤ 1000 → AreEnds r.lb r.ub → AreItems vars (rows ++ replicate n r)
+more_rows vars rows n r k few both = record {
   few_vars = k.few_vars;
   few_rows = let long = replicated rows n r in omega (arith, long, few);
-  one_each = k.one_each;
   var_ends = k.var_ends;
   row_ends = All-append (λ (w : Row). AreEnds w.lb w.ub) rows (replicate n r) k.row_ends (All-replicate (λ (w : Row). AreEnds w.lb w.ub) n r both);
 }
@@ -99,7 +97,7 @@ begin_sound s name as' places.Var z k pass (v, n, says, times, is) =
     let items = k.0.0 in
     subst IsSound (sym is) (
       (
-        more_vars s.vars s.rows s.costs n v items few (domain_ends says.domain says.lb says.ub v says.is both),
+        more_vars s.vars s.rows n v items few (domain_ends says.domain says.lb says.ub v says.is both),
         k.0.1,
         k.0.2,
         below_more s.by_columns (length s.rows) (length s.rows) (length s.vars) (length (s.vars ++ replicate n v)) (omega arith) more s.indices k.0.3,
@@ -116,7 +114,7 @@ begin_sound s name as' places.Con z k pass (r, n, says, times, is) =
     let items = k.0.0 in
     subst IsSound (sym is) (
       (
-        more_rows s.vars s.rows s.costs n r items few (less_end Inf at_inf says.lb says.constant r.lb says.less_low both.0, less_end NegInf at_neg_inf says.ub says.constant r.ub says.less_high both.1),
+        more_rows s.vars s.rows n r items few (less_end Inf at_inf says.lb says.constant r.lb says.less_low both.0, less_end NegInf at_neg_inf says.ub says.constant r.ub says.less_high both.1),
         k.0.1,
         k.0.2,
         below_more s.by_columns (length s.rows) (length (s.rows ++ replicate n r)) (length s.vars) (length s.vars) more (omega arith) s.indices k.0.3,
@@ -175,9 +173,7 @@ end_sound : (s : State) (name : List ℕ) (p : Place) (z : State) → s.place �
 end_sound s name places.Passed z at k pass (inl h) = subst IsSound (sym h.1) (k.0, subst (λ (q : Place). IsSoundAt q (record s { depth = s.depth - 1 })) (sym at) tt)
 end_sound s name places.Passed z at k pass (inr h) = subst IsSound (sym h.1) (k.0, tt)
 end_sound s name (places.Part parts.Coefficients) z at k pass (es, matrix, is) = subst IsSound (sym is) ((k.0.0, omega arith, omega arith, All-nil (λ (n : ℕ). n < cond s.by_columns (length s.rows) (length s.vars)), omega arith, matrix_within s es k.0 pass.1.1.1.1.0 matrix), tt)
-end_sound s name places.Coef z at k pass (x, y, reads, same, is) =
-    let i = k.0.0 in
-    subst IsSound (sym is) ((record { few_vars = i.few_vars; few_rows = i.few_rows; one_each = length-set s.costs s.variable y ∙ i.one_each; var_ends = i.var_ends; row_ends = i.row_ends }, k.0.1, k.0.2, k.0.3, k.0.4, k.0.5), tt)
+end_sound s name places.Coef z at k pass (x, y, reads, same, is) = subst IsSound (sym is) (k.0, tt)
 end_sound s name (places.El listings.Starts) z at k pass (new, adds, is) =
     let long = whole_length s.starts new adds.0 s.whole_step s.times adds.2 in let room = k.1.1 in
     subst IsSound (sym is) ((k.0.0, omega (arith, long, room), k.0.2, k.0.3, k.0.4, k.0.5), tt)
@@ -192,7 +188,7 @@ end_sound s name p z at k pass is = subst IsSound (sym is) (k.0, tt)
 pub sound_start : IsSound start
 sound_start = (
   (
-    record { few_vars = omega arith; few_rows = omega arith; one_each = refl; var_ends = All-nil (λ (v : Variable). AreEnds v.lb v.ub); row_ends = All-nil (λ (r : Row). AreEnds r.lb r.ub) },
+    record { few_vars = omega arith; few_rows = omega arith; var_ends = All-nil (λ (v : Variable). AreEnds v.lb v.ub); row_ends = All-nil (λ (r : Row). AreEnds r.lb r.ub) },
     omega arith,
     omega arith,
     All-nil (λ (n : ℕ). n < 0),

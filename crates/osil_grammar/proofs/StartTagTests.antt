@@ -71,7 +71,9 @@ letter_among None Default d h other = other
 letter_among (Some t) Default d (inl h) other = other (inl h.0)
 letter_among (Some t) Default d (inr (inl h)) other = other (inr (inl h.0))
 letter_among (Some t) Default d (inr (inr (inl h))) other = other (inr (inr (inl h.0)))
-letter_among (Some t) Default d (inr (inr (inr h))) other = absurd h
+letter_among (Some t) Default d (inr (inr (inr (inl h)))) other = other (inr (inr (inr (inl h.0))))
+letter_among (Some t) Default d (inr (inr (inr (inr (inl h))))) other = other (inr (inr (inr (inr (inl h.0)))))
+letter_among (Some t) Default d (inr (inr (inr (inr (inr h))))) other = absurd h
 
 pub domain_known : (as' : List Attribute) (d : Domain) → SaysDomain as' d → HasSuch as' (codes "type") (λ t. IsAmong t letter_names → ⊥) → ⊥
 domain_known as' d h other = letter_among (value_of (codes "type") as') (d ≡ Continuous) d h other

@@ -1,5 +1,5 @@
 -- A whole instance, told part by part.
-use Rattle.osil_grammar.proofs.Words.{◌≡◌, ◌∙◌, ℕ, List, [], ◌∷◌, ◌++◌, ◌==◌, Bool, true, false, length, map, ap, sym, subst, refl, codes, append-nil, Attribute, Nodes, none, element, Element, events, nodes_events, Building, said, Entry, Parts, counted_element, with_attribute, WriteVars, WriteRows, WritesGoal, WriteValues, WriteLists, WritesInstance, counts_nodes, row_starts, opening, closing, told_then, content_told}
+use Rattle.osil_grammar.proofs.Words.{◌≡◌, ◌∙◌, ℕ, List, [], ◌∷◌, ◌++◌, ◌==◌, Bool, true, false, length, map, ap, sym, subst, refl, codes, append-nil, Attribute, Nodes, none, element, Element, events, nodes_events, Building, said, Entry, Parts, counted_element, with_attribute, WriteVars, WriteRows, WriteGoals, WriteValues, WriteLists, WritesInstance, counts_nodes, row_starts, opening, closing, told_then, content_told}
 use Rattle.document_tags.specs.Telling.{Told}
 use Rattle.osil_grammar.proofs.Parts.{ToldSome}
 
@@ -46,18 +46,18 @@ namespace = with_attribute (codes "xmlns") (codes "os.optimizationservices.org")
 pub whole_told : (p : Parts) (a b c d e f g h i j : Building) → a ≡ record { events = []; attributes = []; text = [] }
     → Told a b (opening (codes "osil") (a.attributes ++ namespace)) → Told b c (nodes_events (element (codes "instanceHeader") b.attributes none none)) → Told c d (opening (codes "instanceData") [])
     → ToldSome (IsPart (codes "variables") (codes "numberOfVariables") (length p.vars) (WriteVars p.vars)) d e
-    → ToldSome (IsPart (codes "objectives") (codes "numberOfObjectives") 1 (WritesGoal p.goal)) e f
+    → ToldSome (IsPart (codes "objectives") (codes "numberOfObjectives") (length p.goals) (WriteGoals p.goals)) e f
     → ToldSome (IsPart (codes "constraints") (codes "numberOfConstraints") (length p.rows) (WriteRows p.rows)) f g
     → ToldSome (IsPart (codes "linearConstraintCoefficients") (codes "numberOfValues") (length p.entries) (WriteLists (length p.rows) p.entries)) g h
     → Told h i (closing (codes "instanceData")) → Told i j (closing (codes "osil")) → ToldWhole p j
-whole_told p a b c d e f g h i j new begins header opens vars goal rows lists closes ends =
+whole_told p a b c d e f g h i j new begins header opens vars goals rows lists closes ends =
     let v : Nodes → Nodes = λ more. counted_element (codes "variables") (codes "numberOfVariables") (length p.vars) vars.1.0 more in
-    let o : Nodes → Nodes = λ more. counted_element (codes "objectives") (codes "numberOfObjectives") 1 goal.1.0 more in
+    let o : Nodes → Nodes = λ more. counted_element (codes "objectives") (codes "numberOfObjectives") (length p.goals) goals.1.0 more in
     let r : Nodes → Nodes = λ more. counted_element (codes "constraints") (codes "numberOfConstraints") (length p.rows) rows.1.0 more in
     let l : Nodes = counted_element (codes "linearConstraintCoefficients") (codes "numberOfValues") (length p.entries) lists.1.0 none in
     let root : Element = record { name = codes "osil"; attributes = namespace; children = element (codes "instanceHeader") [] none (element (codes "instanceData") [] (v (o (r l))) none) } in
     let tv = part_told d e (codes "variables") (codes "numberOfVariables") (length p.vars) (WriteVars p.vars) vars in
-    let to = part_told e f (codes "objectives") (codes "numberOfObjectives") 1 (WritesGoal p.goal) goal in
+    let to = part_told e f (codes "objectives") (codes "numberOfObjectives") (length p.goals) (WriteGoals p.goals) goals in
     let tr = part_told f g (codes "constraints") (codes "numberOfConstraints") (length p.rows) (WriteRows p.rows) rows in
     let tl = part_told g h (codes "linearConstraintCoefficients") (codes "numberOfValues") (length p.entries) (WriteLists (length p.rows) p.entries) lists in
     let first : Told a b (opening (codes "osil") namespace) = subst (λ (x : List Attribute). Told a b (opening (codes "osil") x)) (ap (λ (x : Building). x.attributes ++ namespace) new) begins in
@@ -69,6 +69,6 @@ whole_told p a b c d e f g h i j new begins header opens vars goal rows lists cl
     let all = told_then a h j (λ k. opening (codes "osil") namespace (nodes_events (element (codes "instanceHeader") [] none none) (opening (codes "instanceData") [] (nodes_events (v (o (r l))) k)))) (λ k. closing (codes "instanceData") (closing (codes "osil") k)) most back in
     record {
       root = root;
-      writes = record { vars = vars.1.0; are_vars = vars.1.1; goal = goal.1.0; is_goal = goal.1.1; rows = rows.1.0; are_rows = rows.1.1; lists = lists.1.0; are_lists = lists.1.1; says = refl };
+      writes = record { vars = vars.1.0; are_vars = vars.1.1; goals = goals.1.0; are_goals = goals.1.1; rows = rows.1.0; are_rows = rows.1.1; lists = lists.1.0; are_lists = lists.1.1; says = refl };
       same = sym (append-nil (said j)) ∙ all.told [] ∙ ap (λ (x : Building). said x ++ events root) new;
     }

@@ -26,9 +26,11 @@ still_low m n nodes less are = record { writable = are.writable; low = let k = a
 pub shown_text : (text : List ℕ) → IsShown text → IsXmlText text
 shown_text text shown = printable_text text shown.printable
 
-type_xml : (whole : Bool) → IsXmlText (type_text whole)
-type_xml true = fixed_text (codes "I") refl
-type_xml false = fixed_text (codes "C") refl
+type_xml : (whole semi : Bool) → IsXmlText (type_text whole semi)
+type_xml true true = fixed_text (codes "J") refl
+type_xml true false = fixed_text (codes "I") refl
+type_xml false true = fixed_text (codes "D") refl
+type_xml false false = fixed_text (codes "C") refl
 
 abbrev ends : (lb ub : List ℕ) → List Attribute
 ends lb ub = with_attribute (codes "lb") lb (with_attribute (codes "ub") ub [])
@@ -40,8 +42,8 @@ vars_flat (v ∷ vs) nodes is =
     let ub = is.1 in
     let low = end_shown v.lb lb is.3 in
     let high = end_shown v.ub ub is.4 in
-    let tag : IsTag (codes "var") (with_attribute (codes "type") (type_text v.whole) (ends lb ub)) = tag_by (codes "var") (with_attribute (codes "type") (type_text v.whole) (ends lb ub)) refl (type_xml v.whole, (shown_text lb low, (shown_text ub high, tt))) in
-    subst (AreLow 1) (sym is.6) (element_low 0 (codes "var") (with_attribute (codes "type") (type_text v.whole) (ends lb ub)) none is.2 tag (none_low 0) (vars_flat vs is.2 is.5))
+    let tag : IsTag (codes "var") (with_attribute (codes "type") (type_text v.whole v.zero) (ends lb ub)) = tag_by (codes "var") (with_attribute (codes "type") (type_text v.whole v.zero) (ends lb ub)) refl (type_xml v.whole v.zero, (shown_text lb low, (shown_text ub high, tt))) in
+    subst (AreLow 1) (sym is.6) (element_low 0 (codes "var") (with_attribute (codes "type") (type_text v.whole v.zero) (ends lb ub)) none is.2 tag (none_low 0) (vars_flat vs is.2 is.5))
 
 pub rows_flat : (rs : List Row) (nodes : Nodes) → WriteRows rs nodes → AreLow 1 nodes
 rows_flat [] nodes is = subst (AreLow 1) (sym is) (none_low 1)

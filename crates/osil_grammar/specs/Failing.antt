@@ -30,7 +30,7 @@ use Rattle.osil_grammar.specs.Table.{Test, other_root, no_data, no_variables, so
 
 -- THE LIMITS: the most items of each kind
 abbrev pub most : Place → ℕ
-most Obj = 1
+most Obj = 8
 most (El Starts) = 1001
 most (El l) = 100000
 most p = 1000
@@ -43,7 +43,7 @@ list_length s l = length s.indices
 
 abbrev pub items : State → Place → ℕ
 items s Var = length s.vars
-items s Obj = s.objs
+items s Obj = length s.goals
 items s Con = length s.rows
 items s (El l) = list_length s l
 items s p = 0
@@ -51,7 +51,7 @@ items s p = 0
 -- the items of a part
 abbrev pub part_items : State → Part → ℕ
 part_items s Variables = length s.vars
-part_items s Objectives = s.objs
+part_items s Objectives = length s.goals
 part_items s Constraints = length s.rows
 part_items s Coefficients = length s.values
 
@@ -88,7 +88,7 @@ pub record IsGreatRun (text : List ℕ) (step : Frac) (m : ℕ) : Type 0 where
   pub begins : IsDecimal text (ratio first)
   pub great : HasGreat first step m
 
--- a cost's sum with those before it of its variable doesn't fit
+-- a cost's sum with those before it of its variable, in its `obj`, doesn't fit
 pub record IsGreatCost (text : List ℕ) (costs : List Frac) (j : ℕ) : Type 0 where
   pub cost : Frac
   pub reads : IsDecimal text (ratio cost)

@@ -1,5 +1,5 @@
 -- What the reader of OSiL documents holds, how many items, and a decoder that was fed bytes.
-use Rattle.std.specs.Prelude.{◌≡◌, ℕ, ◌+◌, ◌<◌, Bool, true, false, List, [], length}
+use Rattle.std.specs.Prelude.{◌≡◌, ℕ, ◌+◌, ◌<◌, Bool, true, false, List, [], ◌∷◌, length}
 use Rattle.doc_tree.specs.Marks.{Mark}
 use Rattle.doc_tree.specs.declared.fault.TreeFault.{TreeFault}
 use Rattle.doc_tree.specs.declared.fault.TreeFault.TheVariants as tree
@@ -10,6 +10,7 @@ use Rattle.tag_tests.specs.Readers as readers
 use Rattle.tag_tests.specs.Readers.{Decoding}
 use Rattle.fraction.specs.declared.frac.Frac.{Frac}
 use Rattle.fraction.specs.declared.ends.Entry.{Entry}
+use Rattle.instance.specs.declared.parts.Goal.{Goal}
 use Rattle.osil_grammar.specs.declared.fault.OsilFault.{OsilFault}
 use Rattle.osil_grammar.specs.declared.fault.OsilFault.TheVariants as faults
 use Rattle.osil_grammar.specs.declared.elements.Place.{Place}
@@ -19,11 +20,16 @@ use Rattle.osil_grammar.specs.declared.stop.Refused.{Refused}
 use Rattle.osil_grammar.specs.Standing.{State, start}
 use Rattle.osil_grammar.specs.Marked.{osil}
 use Rattle.osil_grammar.specs.Stepping.{told_of}
-use Rattle.osil_grammar.specs.Sound.{IsSound}
+use Rattle.osil_grammar.specs.Sound.{IsSound, HasGoals}
 
--- how many items are held: the variables, the rows, the costs, and the entries and the lists of the matrix
+-- how many items goals have: each is one, and has its costs
+abbrev pub goals_held : List Goal → ℕ
+goals_held [] = 0
+goals_held (g ∷ gs) = length g.costs + 1 + goals_held gs
+
+-- how many items are held: the variables, the rows, the goals with their costs, the costs of an `obj` that is open, and the entries and the lists of the matrix
 abbrev pub held : State → ℕ
-held s = length s.vars + length s.rows + length s.costs + length s.starts + length s.indices + length s.values + length s.entries
+held s = length s.vars + length s.rows + goals_held s.goals + length s.costs + length s.starts + length s.indices + length s.values + length s.entries
 
 abbrev pub numbers : Course State Refused → ℕ
 numbers (Going s) = held s
@@ -47,7 +53,7 @@ HoldsApart s = AreHeldApart (is_in_matrix s.place) s.part s.entries s.starts s.i
 
 -- the marks so far leave a state that makes an instance as far as it goes
 abbrev pub IsFit : State → Type 0
-IsFit s = IsSound s × HoldsApart s
+IsFit s = IsSound s × HoldsApart s × HasGoals s
 
 -- the first of these marks that isn't taken is refused so, as the code tells it
 abbrev pub Refuse : State → List Mark → Refused → Type 0

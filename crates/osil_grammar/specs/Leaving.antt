@@ -1,5 +1,5 @@
 -- What a mark of an OSiL document leaves where all its tests pass.
-use Rattle.std.specs.Prelude.{◌≡◌, ◌⊎◌, ℕ, ◌+◌, ◌-◌, ◌<◌, ◌≤◌, ℤ, pos, Bool, true, false, ◌||◌, Option, List, [], ◌++◌, map, get_or, replicate, set, codes}
+use Rattle.std.specs.Prelude.{◌≡◌, ◌⊎◌, ℕ, ◌+◌, ◌-◌, ◌<◌, ◌≤◌, ℤ, pos, Bool, true, false, ◌||◌, Option, List, [], ◌++◌, map, length, get_or, replicate, set, codes}
 use Rattle.tree_grammar.specs.Elements.{Attribute}
 use Rattle.doc_tree.specs.Marks.{Mark, Char}
 use Rattle.document_tags.specs.Faults.{told_name}
@@ -13,6 +13,7 @@ use Rattle.decimal_text.specs.Whole.{IsWholeText}
 use Rattle.decimal_text.specs.Decimal.{IsDecimal}
 use Rattle.instance.specs.declared.parts.Var.{Var as Variable}
 use Rattle.instance.specs.declared.parts.Row.{Row}
+use Rattle.instance.specs.declared.parts.Goal.{Goal}
 use Rattle.instance.specs.declared.parts.Sense.{Sense}
 use Rattle.osil_grammar.specs.declared.elements.Part.{Part}
 use Rattle.osil_grammar.specs.declared.elements.Part.TheVariants.{Variables, Coefficients}
@@ -62,9 +63,9 @@ Begins s m Further z = z ≡ record (into s Further) { part_at = s.count + 1; fu
 Begins s m (places.Part part) z = (d : Option ℕ) × SaysCount (attributes m) (count_name part) d
     × (z ≡ record (into s (places.Part part)) { part_at = s.count + 1; part = part_row part; has_variables = is_variables part || s.has_variables; declared = d })
 Begins s m Var z = (v : Variable) × (n : ℕ) × SaysVar (attributes m) v × SaysTimes (attributes m) n
-    × (z ≡ record (into s Var) { vars = s.vars ++ replicate n v; costs = s.costs ++ replicate n nought })
+    × (z ≡ record (into s Var) { vars = s.vars ++ replicate n v })
 Begins s m Obj z = (sense : Sense) × (constant : Frac) × (d : Option ℕ) × (n : ℕ) × SaysSense (attributes m) sense × SaysConstant (attributes m) constant × SaysCount (attributes m) (codes "numberOfObjCoef") d × SaysTimes (attributes m) n
-    × (z ≡ record (into s Obj) { obj_at = s.count + 1; objs = s.objs + n; coefs = 0; declared_coefs = d; sense = sense; constant = constant })
+    × (z ≡ record (into s Obj) { obj_at = s.count + 1; times = n; coefs = 0; declared_coefs = d; sense = sense; constant = constant; costs = replicate (length s.vars) nought })
 Begins s m Coef z = (j : ℕ) × SaysIndex (attributes m) j × (z ≡ record (into s Coef) { coefs = s.coefs + 1; variable = j; text = [] })
 Begins s m Con z = (r : Row) × (n : ℕ) × SaysRow (attributes m) r × SaysTimes (attributes m) n × (z ≡ record (into s Con) { rows = s.rows ++ replicate n r })
 Begins s m (Listed l) z = z ≡ record (with_list (into s (Listed l)) l) { list = list_row l; lists = s.lists + 1 }
@@ -91,9 +92,16 @@ AddsRun Starts s z = (new : List ℕ) × AddsWholes s.starts s new × (z ≡ rec
 AddsRun Values s z = (first : Frac) × (added : List Frac) × IsDecimal s.text (ratio first) × AreSame (ratios added) (ratio_run (ratio first) (ratio s.step) s.times) × (z ≡ record s { values = s.values ++ added })
 AddsRun l s z = (new : List ℕ) × AddsWholes s.indices s new × (z ≡ record s { indices = new })
 
--- the cost of its variable is the sum of those so far and this one
+-- the cost of its variable in the latest `obj` is the sum of those so far and this one
 abbrev pub AddsCost : State → State → Type 0
 AddsCost s z = (x : Frac) × (y : Frac) × IsDecimal s.text (ratio x) × IsSame (ratio y) (sum (get_or (ratios s.costs) s.variable evidence.none) (ratio x)) × (z ≡ record s { costs = set s.costs s.variable y })
+
+-- the goal of the latest `obj`, and as many such goals behind the others as it stands for
+abbrev pub goal_so_far : State → Goal
+goal_so_far s = record { sense = s.sense; constant = s.constant; costs = s.costs }
+
+abbrev pub with_goals : State → State
+with_goals s = record s { goals = s.goals ++ replicate s.times (goal_so_far s); costs = [] }
 
 -- the entries of the three lists, or none where no list has begun; the lists are done with
 abbrev pub IsMatrixOf : State → List Entry → Type 0
@@ -106,6 +114,7 @@ HasMatrix s z = (es : List Entry) × IsMatrixOf s es × (z ≡ record s { starts
 abbrev pub Ends : State → Place → State → Type 0
 Ends s Passed z = Passes s z
 Ends s (places.Part Coefficients) z = HasMatrix (out_of s (places.Part Coefficients)) z
+Ends s Obj z = z ≡ with_goals (out_of s Obj)
 Ends s Coef z = AddsCost (out_of s Coef) z
 Ends s (El l) z = AddsRun l (out_of s (El l)) z
 Ends s p z = z ≡ out_of s p

@@ -1,10 +1,13 @@
 -- OSiL documents by their marks: the form, which roots are accepted and what they stand for, and which are refused.
-use Rattle.std.specs.Prelude.{◌≡◌, ℕ, List}
+use Rattle.std.specs.Prelude.{◌≡◌, ℕ, List, [], ◌∷◌, length, replicate}
 use Rattle.tree_grammar.specs.Elements.{Element, events}
 use Rattle.doc_tree.specs.Marks.{Mark, spread}
 use Rattle.tag_tests.specs.Forms.{Form, AreTaken, AreRefused}
+use Rattle.instance.specs.declared.parts.Goal.{Goal}
+use Rattle.instance.specs.declared.parts.Sense.TheVariants.{Min}
 use Rattle.instance.specs.Parts.{Parts}
 use Rattle.osil_grammar.specs.Refusals.{Refusal}
+use Rattle.osil_grammar.specs.Grammars.{nought}
 use Rattle.osil_grammar.specs.Standing.{State, start}
 use Rattle.osil_grammar.specs.Table.{Test, Told, kind, tests, told}
 use Rattle.osil_grammar.specs.Failing.{Fails}
@@ -13,9 +16,14 @@ use Rattle.osil_grammar.specs.Leaving.{Leaves}
 abbrev pub osil : Form State Mark Test Told
 osil = record { tests = λ s m. tests (kind s m); Fails = Fails; told = told; Becomes = λ s m z. Leaves s m (kind s m) z }
 
+-- the goals, in order; without an `obj` the one goal is to minimise 0
+abbrev pub goals_said : List Goal → ℕ → List Goal
+goals_said [] n = record { sense = Min; constant = nought; costs = replicate n nought } ∷ []
+goals_said (g ∷ gs) n = g ∷ gs
+
 -- what the marks have said is this instance
 abbrev pub instance_of : State → Parts
-instance_of s = record { vars = s.vars; rows = s.rows; entries = s.entries; goal = record { sense = s.sense; constant = s.constant; costs = s.costs } }
+instance_of s = record { vars = s.vars; rows = s.rows; entries = s.entries; goals = goals_said s.goals (length s.vars) }
 
 -- the marks of a document with this root
 abbrev pub marks : Element → List Mark

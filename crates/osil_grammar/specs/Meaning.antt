@@ -39,13 +39,20 @@ lowered Inf = one
 
 -- what the ends and the type say: continuous, integer, or binary
 abbrev pub IsContinuous : End → End → Var → Type 0
-IsContinuous lb ub v = (v.lb ≡ lb) × (v.ub ≡ ub) × (v.whole ≡ false)
+IsContinuous lb ub v = (v.lb ≡ lb) × (v.ub ≡ ub) × (v.whole ≡ false) × (v.zero ≡ false)
 
 abbrev pub IsInteger : End → End → Var → Type 0
-IsInteger lb ub v = (v.lb ≡ lb) × (v.ub ≡ ub) × (v.whole ≡ true)
+IsInteger lb ub v = (v.lb ≡ lb) × (v.ub ≡ ub) × (v.whole ≡ true) × (v.zero ≡ false)
 
 abbrev pub IsBinary : End → End → Var → Type 0
-IsBinary lb ub v = IsEndAt v.lb (raised lb) × IsEndAt v.ub (lowered ub) × (v.whole ≡ true)
+IsBinary lb ub v = IsEndAt v.lb (raised lb) × IsEndAt v.ub (lowered ub) × (v.whole ≡ true) × (v.zero ≡ false)
+
+-- 0 or between the ends: semi-continuous, or semi-integer
+abbrev pub IsSemiContinuous : End → End → Var → Type 0
+IsSemiContinuous lb ub v = (v.lb ≡ lb) × (v.ub ≡ ub) × (v.whole ≡ false) × (v.zero ≡ true)
+
+abbrev pub IsSemiInteger : End → End → Var → Type 0
+IsSemiInteger lb ub v = (v.lb ≡ lb) × (v.ub ≡ ub) × (v.whole ≡ true) × (v.zero ≡ true)
 
 -- an end less a constant
 abbrev pub IsLess : End → Frac → End → Type 0

@@ -14,8 +14,8 @@ use Rattle.instance.specs.declared.parts.Row.{Row}
 use Rattle.instance.specs.declared.parts.Sense.{Sense}
 use Rattle.instance.specs.declared.parts.Sense.TheVariants.{Min}
 use Rattle.osil_grammar.specs.declared.domains.Domain.{Domain}
-use Rattle.osil_grammar.specs.declared.domains.Domain.TheVariants.{Continuous, Integer, Binary}
-use Rattle.osil_grammar.specs.Meaning.{IsContinuous, IsInteger, IsBinary, IsLess, IsSense}
+use Rattle.osil_grammar.specs.declared.domains.Domain.TheVariants.{Continuous, Integer, Binary, SemiContinuous, SemiInteger}
+use Rattle.osil_grammar.specs.Meaning.{IsContinuous, IsInteger, IsBinary, IsSemiContinuous, IsSemiInteger, IsLess, IsSense}
 use Rattle.osil_grammar.specs.Grammars.{HasSuch, Says, IsTimes, nought}
 
 -- for how many items an element stands: one by default
@@ -41,7 +41,7 @@ abbrev pub letter : List ℕ → Domain → Letter
 letter name domain = record { name = name; domain = domain }
 
 abbrev pub letters : List Letter
-letters = letter (codes "C") Continuous ∷ letter (codes "B") Binary ∷ letter (codes "I") Integer ∷ []
+letters = letter (codes "C") Continuous ∷ letter (codes "B") Binary ∷ letter (codes "I") Integer ∷ letter (codes "D") SemiContinuous ∷ letter (codes "J") SemiInteger ∷ []
 
 abbrev pub letter_names : List (List ℕ)
 letter_names = map (λ l. l.name) letters
@@ -60,6 +60,8 @@ abbrev pub IsOfDomain : Domain → End → End → Var → Type 0
 IsOfDomain Continuous lb ub v = IsContinuous lb ub v
 IsOfDomain Integer lb ub v = IsInteger lb ub v
 IsOfDomain Binary lb ub v = IsBinary lb ub v
+IsOfDomain SemiContinuous lb ub v = IsSemiContinuous lb ub v
+IsOfDomain SemiInteger lb ub v = IsSemiInteger lb ub v
 
 -- the ends of a variable: 0 and infinity by default
 abbrev pub SaysLow : List Attribute → End → Type 0

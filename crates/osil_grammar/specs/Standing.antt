@@ -4,6 +4,7 @@ use Rattle.fraction.specs.declared.frac.Frac.{Frac}
 use Rattle.fraction.specs.declared.ends.Entry.{Entry}
 use Rattle.instance.specs.declared.parts.Var.{Var}
 use Rattle.instance.specs.declared.parts.Row.{Row}
+use Rattle.instance.specs.declared.parts.Goal.{Goal}
 use Rattle.instance.specs.declared.parts.Sense.{Sense}
 use Rattle.instance.specs.declared.parts.Sense.TheVariants.{Min}
 use Rattle.osil_grammar.specs.declared.elements.Place.{Place}
@@ -29,12 +30,15 @@ pub record State : Type 0 where
   -- the count that the latest part, and the latest `obj`, declares
   pub declared : Option ℕ
   pub declared_coefs : Option ℕ
-  -- how many `coef` the latest `obj` has, and how many objectives there are
+  -- how many `coef` the latest `obj` has, and what it says: its sense, its constant, and its costs so far (none behind it)
   pub coefs : ℕ
-  pub objs : ℕ
-  -- of the latest `coef` its variable; of the latest `el` for how many numbers it stands, and its step, as a whole number and as a decimal
-  pub variable : ℕ
+  pub sense : Sense
+  pub constant : Frac
+  pub costs : List Frac
+  -- for how many goals the latest `obj`, or for how many numbers the latest `el`, stands
   pub times : ℕ
+  -- of the latest `coef` its variable; of the latest `el` its step, as a whole number and as a decimal
+  pub variable : ℕ
   pub whole_step : ℤ
   pub step : Frac
   -- the characters in the latest `coef` or `el`
@@ -42,9 +46,7 @@ pub record State : Type 0 where
   -- what is said
   pub vars : List Var
   pub rows : List Row
-  pub sense : Sense
-  pub constant : Frac
-  pub costs : List Frac
+  pub goals : List Goal
   pub by_columns : Bool
   pub starts : List ℕ
   pub indices : List ℕ
@@ -68,17 +70,17 @@ start = record {
   declared = None;
   declared_coefs = None;
   coefs = 0;
-  objs = 0;
-  variable = 0;
+  sense = Min;
+  constant = nought;
+  costs = [];
   times = 0;
+  variable = 0;
   whole_step = pos 0;
   step = nought;
   text = [];
   vars = [];
   rows = [];
-  sense = Min;
-  constant = nought;
-  costs = [];
+  goals = [];
   by_columns = false;
   starts = [];
   indices = [];

@@ -1,16 +1,14 @@
 -- What a builder is told, whatever comes after it, and why an instance isn't written.
 use Rattle.std.specs.Prelude.{◌≡◌, ℕ, Result, MatchResult, List, [], codes}
-use Rattle.std.specs.List.{All}
 use Rattle.tree_grammar.specs.Elements.{Attribute, Nodes, nodes_events}
 use Rattle.element_tree.specs.Building.{Building}
 use Rattle.document_tags.specs.Telling.{Told}
 use Rattle.fraction.specs.declared.ends.End.{End}
-use Rattle.instance.specs.declared.parts.Goal.{Goal}
 use Rattle.instance.specs.Parts.{Parts}
 use Rattle.osil_grammar.specs.declared.fault.EncodeFault.{EncodeFault}
 use Rattle.osil_grammar.specs.declared.fault.EncodeFault.TheVariants.{NotDecimal, Long, Memory}
 use Rattle.document_tags.specs.Writing.{with_attribute}
-use Rattle.osil_grammar.specs.Writing.{HasDecimal, EndHasText, IsEndText, HasDecimals, IsTooLong}
+use Rattle.osil_grammar.specs.Writing.{EndHasText, IsEndText, HasDecimals, IsTooLong}
 
 -- a number has no decimal; or there was no memory
 abbrev pub HasNone : Type 0 → EncodeFault → Type 0
@@ -29,10 +27,6 @@ EndsHaveTexts lb ub = EndHasText lb × EndHasText ub
 -- two ends as attributes
 abbrev pub EndAttributes : End → End → List Attribute → Type 0
 EndAttributes lb ub attributes = (low : List ℕ) × (high : List ℕ) × IsEndText lb low × IsEndText ub high × (attributes ≡ with_attribute (codes "lb") low (with_attribute (codes "ub") high []))
-
--- a goal's numbers have decimals
-abbrev pub GoalHasDecimals : Goal → Type 0
-GoalHasDecimals g = HasDecimal g.constant × All HasDecimal g.costs
 
 -- why an instance has no text: a number without a decimal, or a text that is too long
 abbrev pub EncodeFails : Parts → EncodeFault → Type 0

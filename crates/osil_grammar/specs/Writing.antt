@@ -39,16 +39,18 @@ EndHasText Inf = Unit {0}
 abbrev pub holding : (name : List ℕ) → List Attribute → (text : List ℕ) → Nodes → Nodes
 holding name attributes text more = element name attributes (chars text none) more
 
--- the type of a variable
-abbrev pub type_text : Bool → List ℕ
-type_text true = codes "I"
-type_text false = codes "C"
+-- the type of a variable that is whole or not, and may be 0 besides or not
+abbrev pub type_text : (whole semi : Bool) → List ℕ
+type_text false false = codes "C"
+type_text true false = codes "I"
+type_text false true = codes "D"
+type_text true true = codes "J"
 
 -- the nodes that these variables are written as
 abbrev pub WriteVars : List Var → Nodes → Type 0
 WriteVars [] nodes = nodes ≡ none
 WriteVars (v ∷ vs) nodes = (lb : List ℕ) × (ub : List ℕ) × (more : Nodes) × IsEndText v.lb lb × IsEndText v.ub ub × WriteVars vs more
-    × (nodes ≡ element (codes "var") (with_attribute (codes "type") (type_text v.whole) (with_attribute (codes "lb") lb (with_attribute (codes "ub") ub []))) none more)
+    × (nodes ≡ element (codes "var") (with_attribute (codes "type") (type_text v.whole v.zero) (with_attribute (codes "lb") lb (with_attribute (codes "ub") ub []))) none more)
 
 -- the same of rows
 abbrev pub WriteRows : List Row → Nodes → Type 0
@@ -71,15 +73,20 @@ abbrev pub sense_text : Sense → List ℕ
 sense_text Min = codes "min"
 sense_text Max = codes "max"
 
--- the goal
-pub record WritesGoal (g : Goal) (nodes : Nodes) : Type 0 where
+-- a goal, and then more
+pub record WritesGoal (g : Goal) (more nodes : Nodes) : Type 0 where
   pub constant : List ℕ
   pub is_constant : PlainText constant (ratio g.constant)
   pub count : ℕ
   pub counts : CountsCosts g.costs count
   pub costs : Nodes
   pub are_costs : WriteCosts 0 g.costs costs
-  pub says : nodes ≡ element (codes "obj") (with_attribute (codes "maxOrMin") (sense_text g.sense) (with_attribute (codes "constant") constant (with_attribute (codes "numberOfObjCoef") (decimal count) []))) costs none
+  pub says : nodes ≡ element (codes "obj") (with_attribute (codes "maxOrMin") (sense_text g.sense) (with_attribute (codes "constant") constant (with_attribute (codes "numberOfObjCoef") (decimal count) []))) costs more
+
+-- one `obj` for each goal, in order
+abbrev pub WriteGoals : List Goal → Nodes → Type 0
+WriteGoals [] nodes = nodes ≡ none
+WriteGoals (g ∷ gs) nodes = (more : Nodes) × WriteGoals gs more × WritesGoal g more nodes
 
 -- one `el` for each count
 abbrev pub counts_nodes : List ℕ → Nodes
@@ -111,8 +118,8 @@ WriteLists m (e ∷ es) nodes = (values : Nodes) × WriteValues (e ∷ es) value
 pub record WritesInstance (p : Parts) (root : Element) : Type 0 where
   pub vars : Nodes
   pub are_vars : WriteVars p.vars vars
-  pub goal : Nodes
-  pub is_goal : WritesGoal p.goal goal
+  pub goals : Nodes
+  pub are_goals : WriteGoals p.goals goals
   pub rows : Nodes
   pub are_rows : WriteRows p.rows rows
   pub lists : Nodes
@@ -122,7 +129,7 @@ pub record WritesInstance (p : Parts) (root : Element) : Type 0 where
     attributes = with_attribute (codes "xmlns") (codes "os.optimizationservices.org") [];
     children = element (codes "instanceHeader") [] none (element (codes "instanceData") [] (
         counted_element (codes "variables") (codes "numberOfVariables") (length p.vars) vars (
-        counted_element (codes "objectives") (codes "numberOfObjectives") 1 goal (
+        counted_element (codes "objectives") (codes "numberOfObjectives") (length p.goals) goals (
         counted_element (codes "constraints") (codes "numberOfConstraints") (length p.rows) rows (
         counted_element (codes "linearConstraintCoefficients") (codes "numberOfValues") (length p.entries) lists none)))) none);
   }
@@ -133,13 +140,16 @@ pub record IsWrittenText (p : Parts) (text : List ℕ) : Type 0 where
   pub writes : WritesInstance p root
   pub says : text ≡ written root
 
+-- each number of a goal has a decimal
+abbrev pub GoalHasDecimals : Goal → Type 0
+GoalHasDecimals g = HasDecimal g.constant × All HasDecimal g.costs
+
 -- each number of the instance has a decimal
 pub record HasDecimals (p : Parts) : Type 0 where
   pub vars : All (λ v. EndHasText v.lb × EndHasText v.ub) p.vars
   pub rows : All (λ r. EndHasText r.lb × EndHasText r.ub) p.rows
   pub entries : All (λ e. HasDecimal e.value) p.entries
-  pub constant : HasDecimal p.goal.constant
-  pub costs : All HasDecimal p.goal.costs
+  pub goals : All GoalHasDecimals p.goals
 
 -- the text is longer than a document may be
 abbrev pub IsTooLong : Parts → Type 0

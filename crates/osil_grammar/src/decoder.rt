@@ -14,7 +14,7 @@ use crate::stop::{Refused, Stop};
 use doc_tree::TreeFault;
 use element_tree::Attributes;
 use instance::Instance;
-use std::alloc::Global;
+use std::alloc::{AllocError, Global};
 use std::marker::Model;
 use tag_tests::{Decoder as MarkDecoder, MarkReader};
 
@@ -62,14 +62,14 @@ impl Reader {
     /// How many items it holds.
     fn numbers(&self) -> u64
         ensures is { result ≡ hearing.held self.now }
-        ensures few { result ≤ 204001 }
+        ensures few { result ≤ 211009 }
     {
         self.standing.numbers()
     }
 
     /// The instance that the marks say.
-    fn instance(self) -> Instance
-        ensures { result ≡ instance_of self }
+    fn instance(self) -> Result<Instance, AllocError>
+        ensures { IfOk result (λ p. p ≡ instance_of self) }
     {
         self.standing.instance()
     }
@@ -175,10 +175,11 @@ impl Decoder {
         }
     }
 
-    /// How many items it holds so far: the variables, the rows, the costs, and the entries and the lists of the matrix.
+    /// How many items it holds so far: the variables, the rows, the goals with their costs, and the entries and the lists of
+    /// the matrix.
     pub fn numbers(&self) -> u64
         ensures is { result ≡ hearing.numbers self.now.course }
-        ensures few { result ≤ 204001 }
+        ensures few { result ≤ 211009 }
     {
         match self.marks.reader() {
             Some(reader) => reader.numbers(),
@@ -194,7 +195,7 @@ impl Decoder {
         ensures err { IfErr result (λ fault. (bytes : List ℕ) → WasFed self bytes → DecodeFails bytes fault) }
     {
         match self.marks.finish() {
-            Ok(Ok(reader)) => Ok(reader.instance()),
+            Ok(Ok(reader)) => Ok(reader.instance()?),
             Ok(Err(Refused { refusal, at })) => Err(OsilFault::Refused { refusal, at }),
             Err(fault) => Err(told(fault)),
         }

@@ -10,9 +10,9 @@ ghost use Rattle.decimal_text.specs.Plain.{PlainText};
 ghost use Rattle.instance.specs.Parts.{IsAscending};
 ghost use Rattle.element_tree.specs.Building.{said};
 ghost use Rattle.document_tags.specs.Writing.{counted_element, with_attribute};
-ghost use Rattle.osil_grammar.specs.Writing.{HasDecimal, EndHasText, IsEndText, WriteVars, WriteRows, WriteCosts, CountsCosts, WritesGoal, WriteValues, WriteLists, WritesInstance, HasDecimals, IsWrittenText, counts_nodes, entries_below, row_starts, sense_text, type_text};
+ghost use Rattle.osil_grammar.specs.Writing.{HasDecimal, EndHasText, IsEndText, WriteVars, WriteRows, WriteCosts, CountsCosts, WriteGoals, GoalHasDecimals, WriteValues, WriteLists, WritesInstance, HasDecimals, IsWrittenText, counts_nodes, entries_below, row_starts, sense_text, type_text};
 ghost use Rattle.document_tags.specs.Telling.{Told, ToldAttributes, opening};
-ghost use Rattle.osil_grammar.specs.Telling.{HasNone, WritesNodes, EndsHaveTexts, EndAttributes, GoalHasDecimals, EncodeFails};
+ghost use Rattle.osil_grammar.specs.Telling.{HasNone, WritesNodes, EndsHaveTexts, EndAttributes, EncodeFails};
 
 use crate::fault::EncodeFault;
 use crate::telling::leaf;
@@ -59,11 +59,16 @@ fn tell_ends(alloc: Global, b: &mut TreeBuilder, lb: End, ub: End) -> Result<(),
     Ok(())
 }
 
-/// The text of a variable's type: integer or continuous.
-fn type_of(whole: bool) -> &'static [u8]
-    ensures { result.now ≡ type_text whole }
+/// The text of a variable's type: continuous, integer, semi-continuous or semi-integer.
+fn type_of(whole: bool, semi: bool) -> &'static [u8]
+    ensures { result.now ≡ type_text whole semi }
 {
-    if whole { b"I" } else { b"C" }
+    match (whole, semi) {
+        (false, false) => b"C",
+        (true, false) => b"I",
+        (false, true) => b"D",
+        (true, true) => b"J",
+    }
 }
 
 /// Tells a variable.
@@ -71,7 +76,7 @@ fn tell_var(alloc: Global, b: &mut TreeBuilder, var: Var) -> Result<(), EncodeFa
     requires { b.old.attributes ≡ [] }
     ensures { WritesNodes result b.old b.new (EndsHaveTexts var.lb var.ub) (WriteVars (var ∷ [])) }
 {
-    b.attribute(b"type", type_of(var.whole))?;
+    b.attribute(b"type", type_of(var.whole, var.zero))?;
     tell_ends(alloc, b, var.lb, var.ub)?;
     empty_after(b, b"var")?;
     Ok(())
@@ -174,10 +179,10 @@ fn sense_of(sense: Sense) -> &'static [u8]
     }
 }
 
-/// Tells the objective.
+/// Tells an objective.
 fn tell_objective(alloc: Global, b: &mut TreeBuilder, goal: &Goal) -> Result<(), EncodeFault>
     requires { b.old.attributes ≡ [] }
-    ensures { WritesNodes result b.old b.new (GoalHasDecimals goal.now) (WritesGoal goal.now) }
+    ensures { WritesNodes result b.old b.new (GoalHasDecimals goal.now) (WriteGoals (goal.now ∷ [])) }
 {
     let costs = goal.costs.as_slice();
     let constant = decimal(alloc, goal.constant)?;
@@ -189,13 +194,15 @@ fn tell_objective(alloc: Global, b: &mut TreeBuilder, goal: &Goal) -> Result<(),
     Ok(())
 }
 
-/// Tells the goal.
-fn tell_goal(alloc: Global, b: &mut TreeBuilder, goal: &Goal) -> Result<(), EncodeFault>
+/// Tells the goals.
+fn tell_goals(alloc: Global, b: &mut TreeBuilder, goals: &[Goal]) -> Result<(), EncodeFault>
     requires { b.old.attributes ≡ [] }
-    ensures { WritesNodes result b.old b.new (GoalHasDecimals goal.now) (λ nodes. (inner : Nodes) × WritesGoal goal.now inner × (nodes ≡ counted_element (codes "objectives") (codes "numberOfObjectives") 1 inner none)) }
+    ensures { WritesNodes result b.old b.new (All GoalHasDecimals goals.now) (λ nodes. (inner : Nodes) × WriteGoals goals.now inner × (nodes ≡ counted_element (codes "objectives") (codes "numberOfObjectives") (length goals.now) inner none)) }
 {
-    open_counted(b, b"objectives", b"numberOfObjectives", 1)?;
-    tell_objective(alloc, b, goal)?;
+    open_counted(b, b"objectives", b"numberOfObjectives", goals.len())?;
+    for goal in goals {
+        tell_objective(alloc, b, goal)?;
+    }
     close(b, b"objectives")?;
     Ok(())
 }
@@ -313,7 +320,7 @@ fn tell_instance(alloc: Global, b: &mut TreeBuilder, instance: &Instance) -> Res
     empty_after(b, b"instanceHeader")?;
     open(b, b"instanceData")?;
     tell_vars(alloc, b, instance.vars())?;
-    tell_goal(alloc, b, instance.goal())?;
+    tell_goals(alloc, b, instance.goals())?;
     tell_rows(alloc, b, rows)?;
     tell_matrix(alloc, b, instance.entries(), rows.len())?;
     close(b, b"instanceData")?;

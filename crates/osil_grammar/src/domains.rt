@@ -24,6 +24,8 @@ pub(crate) enum Domain {
     Continuous,
     Integer,
     Binary,
+    SemiContinuous,
+    SemiInteger,
 }
 
 /// The greater of a lower end and 0.
@@ -63,16 +65,31 @@ pub(crate) fn variable(domain: Domain, lb: End, ub: End) -> Var
             lb,
             ub,
             whole: false,
+            zero: false,
         },
         Domain::Integer => Var {
             lb,
             ub,
             whole: true,
+            zero: false,
         },
         Domain::Binary => Var {
             lb: raised(lb),
             ub: lowered(ub),
             whole: true,
+            zero: false,
+        },
+        Domain::SemiContinuous => Var {
+            lb,
+            ub,
+            whole: false,
+            zero: true,
+        },
+        Domain::SemiInteger => Var {
+            lb,
+            ub,
+            whole: true,
+            zero: true,
         },
     }
 }

@@ -26,11 +26,11 @@ pub enum Refusal {
     Index,
     /// The starts don't divide the values into the rows or columns.
     Start,
-    /// A variable's type is none of `C`, `B` and `I`.
+    /// A variable's type is none of `C`, `B`, `I`, `D` and `J`.
     VarType,
     /// A lower end is infinity, or an upper one minus infinity.
     Bound,
-    /// There are several objectives.
+    /// There are more than eight objectives.
     ManyObjectives,
     /// There are more variables, rows, starts, indices or values than there may be.
     TooBig,

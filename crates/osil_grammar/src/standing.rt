@@ -1,6 +1,7 @@
 //! Reads an OSiL document mark by mark.
 
-ghost use Rattle.std.specs.Prelude.{◌≡◌, ◌≢◌, ◌↔◌, ◌+◌, ◌<◌, ◌≤◌, ◌^◌, ◌++◌, pos, ◌+ℤ◌, ◌*ℤ◌, IsTrue, IsSomeAnd, OnOk, length, vec_len, replicate, map, List, ℕ};
+ghost use Rattle.std.specs.Prelude.{◌≡◌, ◌≢◌, ◌↔◌, ◌+◌, ◌<◌, ◌≤◌, ◌^◌, ◌++◌, pos, ◌+ℤ◌, ◌*ℤ◌, IsTrue, IsSomeAnd, OnOk, IfOk, length, vec_len, replicate, map, List, ℕ};
+ghost use Rattle.std.specs.List.{All};
 ghost use Rattle.doc_tree.specs.Marks.{Start, Char, Finish};
 ghost use Rattle.osil_grammar.specs.Reading.{told_refusal};
 ghost use Rattle.osil_grammar.specs.Standing as standing;
@@ -23,9 +24,9 @@ ghost use Rattle.osil_grammar.specs.Meaning.{AreEntriesOf};
 ghost use Rattle.osil_grammar.specs.Leaving as leaving;
 ghost use Rattle.osil_grammar.specs.Leaving.{IsMatrixOf, AddsRun};
 ghost use Rattle.tag_tests.specs.Forms.{AreTaken};
-ghost use Rattle.osil_grammar.specs.Marked.{osil, instance_of};
+ghost use Rattle.osil_grammar.specs.Marked.{osil, goals_said, instance_of};
 ghost use Rattle.osil_grammar.specs.Hearing.{held};
-ghost use Rattle.osil_grammar.specs.Sound.{IsSound, IsSoundIn};
+ghost use Rattle.osil_grammar.specs.Sound.{IsSound, IsSoundIn, HasGoals, HasGoalsIn};
 ghost use Rattle.osil_grammar.specs.Stepping.{Steps, BeginsAt, EndsAt, EndAnswers, IsToldAs, AddsUp};
 
 use crate::domains::zero;
@@ -62,17 +63,17 @@ pub(crate) struct Standing {
     declared: Option<u64>,
     declared_coefs: Option<u64>,
     coefs: u64,
-    objs: u64,
-    variable: usize,
+    sense: Sense,
+    constant: Frac,
+    costs: Vec<Frac>,
     times: u64,
+    variable: usize,
     whole_step: i64,
     step: Frac,
     text: Vec<u8>,
     vars: Vec<Var>,
     rows: Vec<Row>,
-    sense: Sense,
-    constant: Frac,
-    costs: Vec<Frac>,
+    goals: Vec<Goal>,
     matrix: Lists,
     entries: Vec<Entry>,
 }
@@ -97,17 +98,17 @@ impl Model for Standing {
       declared = d.declared;
       declared_coefs = d.declared_coefs;
       coefs = d.coefs;
-      objs = d.objs;
-      variable = d.variable;
+      sense = d.sense;
+      constant = d.constant;
+      costs = d.costs.items;
       times = d.times;
+      variable = d.variable;
       whole_step = d.whole_step;
       step = d.step;
       text = d.text.items;
       vars = d.vars.items;
       rows = d.rows.items;
-      sense = d.sense;
-      constant = d.constant;
-      costs = d.costs.items;
+      goals = d.goals.items;
       by_columns = d.matrix.by_columns;
       starts = d.matrix.starts.items;
       indices = d.matrix.indices.items;
@@ -124,6 +125,47 @@ fn push_times<T: Copy + Drop>(items: &mut Vec<T>, item: T, times: u64) -> Result
         items.push(item)?;
     }
     Ok(())
+}
+
+/// Adds so many equal goals.
+fn push_goals(
+    alloc: Global,
+    goals: &mut Vec<Goal>,
+    sense: Sense,
+    constant: Frac,
+    costs: &[Frac],
+    times: u64,
+) -> Result<(), AllocError>
+    ensures { OnOk result (goals.new.items ≡ goals.old.items ++ replicate times (record { sense = sense; constant = constant; costs = costs.now })) }
+{
+    for _ in 0..times {
+        goals.push(Goal {
+            sense,
+            constant,
+            costs: Costs::of(Vec::from_slice(alloc, costs)?),
+        })?;
+    }
+    Ok(())
+}
+
+/// The goals, where there are some; else the one of minimising 0, where there are so many variables.
+fn goals_or_least(
+    alloc: Global,
+    mut goals: Vec<Goal>,
+    width: usize,
+) -> Result<Vec<Goal>, AllocError>
+    ensures { IfOk result (λ gs. gs.items ≡ goals_said goals.items width) }
+{
+    if goals.is_empty() {
+        let mut costs = Vec::new(alloc);
+        push_times(&mut costs, zero(), width as u64)?;
+        goals.push(Goal {
+            sense: Sense::Min,
+            constant: zero(),
+            costs: Costs::of(costs),
+        })?;
+    }
+    Ok(goals)
 }
 
 /// The place of a part in their order.
@@ -192,17 +234,17 @@ impl Standing {
             declared: None,
             declared_coefs: None,
             coefs: 0,
-            objs: 0,
-            variable: 0,
+            sense: Sense::Min,
+            constant: zero(),
+            costs: Vec::new(alloc),
             times: 0,
+            variable: 0,
             whole_step: 0,
             step: zero(),
             text: Vec::new(alloc),
             vars: Vec::new(alloc),
             rows: Vec::new(alloc),
-            sense: Sense::Min,
-            constant: zero(),
-            costs: Vec::new(alloc),
+            goals: Vec::new(alloc),
             matrix: Lists {
                 by_columns: false,
                 starts: Vec::new(alloc),
@@ -328,7 +370,6 @@ impl Standing {
         match read_var(attributes, self.vars.len() as u64) {
             Ok((var, times)) => {
                 push_times(&mut self.vars, var, times)?;
-                push_times(&mut self.costs, zero(), times)?;
                 self.go(Place::Var);
                 Ok(())
             }
@@ -356,9 +397,11 @@ impl Standing {
         requires { self.old.count + 1 < 2 ^ 64 }
         ensures { BeginsAt self.old name.now attributes.now (led.To places.Obj) self.new result }
     {
-        match read_obj(attributes, self.objs) {
+        match read_obj(attributes, self.goals.len() as u64) {
             Ok(tag) => {
-                self.objs += tag.times;
+                self.costs.clear();
+                push_times(&mut self.costs, zero(), self.vars.len() as u64)?;
+                self.times = tag.times;
                 self.sense = tag.sense;
                 self.constant = tag.constant;
                 self.declared_coefs = tag.declared;
@@ -592,7 +635,7 @@ impl Standing {
     {
         match part {
             Part::Variables => self.vars.len() as u64,
-            Part::Objectives => self.objs,
+            Part::Objectives => self.goals.len() as u64,
             Part::Constraints => self.rows.len() as u64,
             Part::Coefficients => self.matrix.values.len() as u64,
         }
@@ -610,6 +653,22 @@ impl Standing {
         Ok(())
     }
 
+    /// Adds the goal of the latest `obj`, as often as it stands for it.
+    fn add_goals(&mut self) -> Result<(), AllocError>
+        ensures { OnOk result (self.new ≡ leaving.with_goals self.old) }
+    {
+        push_goals(
+            self.alloc,
+            &mut self.goals,
+            self.sense,
+            self.constant,
+            self.costs.as_slice(),
+            self.times,
+        )?;
+        self.costs.clear();
+        Ok(())
+    }
+
     /// Goes past an end tag `obj`.
     fn end_obj(&mut self) -> Result<(), Stop>
         ensures { EndsAt self.old places.Obj self.new result }
@@ -620,6 +679,7 @@ impl Standing {
                 at: self.obj_at,
             }));
         }
+        self.add_goals()?;
         self.place = Place::Part(Part::Objectives);
         Ok(())
     }
@@ -868,6 +928,7 @@ impl Standing {
     /// Goes past an end tag of such an element.
     fn end(&mut self, place: Place) -> Result<(), Stop>
         requires sound { IsSoundIn place self.old }
+        requires goals { HasGoalsIn place self.old }
         ensures { EndsAt self.old place self.new result }
     {
         match place {
@@ -894,10 +955,12 @@ impl Standing {
 
     /// How many items are held, in all lists.
     pub(crate) fn numbers(&self) -> u64
-        requires { held self.now ≤ 204001 }
+        requires few { held self.now ≤ 211009 }
+        requires each { All (λ g. length g.costs ≡ length self.now.vars) self.now.goals }
         ensures { result ≡ held self.now }
     {
-        let items = self.vars.len() + self.rows.len() + self.costs.len();
+        let goals = self.goals.len() * (self.vars.len() + 1);
+        let items = self.vars.len() + self.rows.len() + goals + self.costs.len();
         let listed = self.matrix.starts.len()
             + self.matrix.indices.len()
             + self.matrix.values.len();
@@ -905,33 +968,30 @@ impl Standing {
     }
 
     /// The instance that the marks have said.
-    pub(crate) fn instance(self) -> Instance
-        requires { IsSound self }
-        ensures { result ≡ instance_of self }
+    pub(crate) fn instance(self) -> Result<Instance, AllocError>
+        requires sound { IsSound self }
+        requires goals { HasGoals self }
+        ensures { IfOk result (λ p. p ≡ instance_of self) }
     {
         let Standing {
+            alloc,
             vars,
             rows,
-            sense,
-            constant,
-            costs,
+            goals,
             entries,
             ..
         } = self;
-        let goal = Goal {
-            sense,
-            constant,
-            costs: Costs::of(costs),
-        };
-        match Instance::of(vars, rows, entries, goal) {
-            Some(instance) => instance,
+        let goals = goals_or_least(alloc, goals, vars.len())?;
+        match Instance::of(vars, rows, entries, goals) {
+            Some(instance) => Ok(instance),
             None => unreachable!(),
         }
     }
 
     /// Goes past an end tag.
     pub(crate) fn close(&mut self) -> Result<(), Stop>
-        requires { IsSound self.old }
+        requires sound { IsSound self.old }
+        requires goals { HasGoals self.old }
         ensures { (name : List ℕ) → Steps self.old (Finish name) self.new result }
     {
         self.end(self.place)

@@ -44,6 +44,8 @@ fn type_of(attributes: &Attributes<'_>) -> Option<Domain>
         Some(b"C") => Some(Domain::Continuous),
         Some(b"B") => Some(Domain::Binary),
         Some(b"I") => Some(Domain::Integer),
+        Some(b"D") => Some(Domain::SemiContinuous),
+        Some(b"J") => Some(Domain::SemiInteger),
         Some(_) => None,
     }
 }
@@ -187,7 +189,7 @@ fn obj_numbers(attributes: &Attributes<'_>) -> Result<((Frac, Option<u64>), u64)
     both(both(constant, declared), times(attributes))
 }
 
-/// What a start tag `obj` says with this sense and these numbers, where so many objectives stand before it.
+/// What a start tag `obj` says with this sense and these numbers, where so many goals stand before it.
 fn goal_of(
     attributes: &Attributes<'_>,
     sense: Sense,
@@ -200,9 +202,9 @@ fn goal_of(
     requires constant { SaysConstant attributes.now constant }
     requires declared { SaysCount attributes.now (codes "numberOfObjCoef") declared }
     requires times { SaysTimes attributes.now times }
-    ensures { AnswersTests (λ s. s.objs ≡ before) attributes.now (table.too_many places.Obj ∷ []) result (λ x. SaysSense attributes.now x.sense × SaysConstant attributes.now x.constant × SaysCount attributes.now (codes "numberOfObjCoef") x.declared × SaysTimes attributes.now x.times) }
+    ensures { AnswersTests (λ s. length s.goals ≡ before) attributes.now (table.too_many places.Obj ∷ []) result (λ x. SaysSense attributes.now x.sense × SaysConstant attributes.now x.constant × SaysCount attributes.now (codes "numberOfObjCoef") x.declared × SaysTimes attributes.now x.times) }
 {
-    if are_too_many(before, times, 1) {
+    if are_too_many(before, times, 8) {
         return Err(Refusal::ManyObjectives);
     }
     Ok(ObjTag {
@@ -213,10 +215,10 @@ fn goal_of(
     })
 }
 
-/// What a start tag `obj` says behind its sense, where so many objectives stand before it.
+/// What a start tag `obj` says behind its sense, where so many goals stand before it.
 fn obj_of(attributes: &Attributes<'_>, sense: Sense, before: u64) -> Result<ObjTag, Refusal>
     requires { SaysSense attributes.now sense }
-    ensures { AnswersTests (λ s. s.objs ≡ before) attributes.now (table.numbers places.Obj ++ (table.too_many places.Obj ∷ [])) result (λ x. SaysSense attributes.now x.sense × SaysConstant attributes.now x.constant × SaysCount attributes.now (codes "numberOfObjCoef") x.declared × SaysTimes attributes.now x.times) }
+    ensures { AnswersTests (λ s. length s.goals ≡ before) attributes.now (table.numbers places.Obj ++ (table.too_many places.Obj ∷ [])) result (λ x. SaysSense attributes.now x.sense × SaysConstant attributes.now x.constant × SaysCount attributes.now (codes "numberOfObjCoef") x.declared × SaysTimes attributes.now x.times) }
 {
     match obj_numbers(attributes) {
         Ok(((constant, declared), times)) => {
@@ -226,9 +228,9 @@ fn obj_of(attributes: &Attributes<'_>, sense: Sense, before: u64) -> Result<ObjT
     }
 }
 
-/// What a start tag `obj` says, where so many objectives stand before it.
+/// What a start tag `obj` says, where so many goals stand before it.
 pub(crate) fn read_obj(attributes: &Attributes<'_>, before: u64) -> Result<ObjTag, Refusal>
-    ensures { AnswersTag (λ s. s.objs ≡ before) attributes.now (led.To places.Obj) result (λ x. SaysSense attributes.now x.sense × SaysConstant attributes.now x.constant × SaysCount attributes.now (codes "numberOfObjCoef") x.declared × SaysTimes attributes.now x.times) }
+    ensures { AnswersTag (λ s. length s.goals ≡ before) attributes.now (led.To places.Obj) result (λ x. SaysSense attributes.now x.sense × SaysConstant attributes.now x.constant × SaysCount attributes.now (codes "numberOfObjCoef") x.declared × SaysTimes attributes.now x.times) }
 {
     match sense_of(attributes) {
         Some(sense) => obj_of(attributes, sense, before),

@@ -1,5 +1,6 @@
 -- The marks of a written document say the options that it was written of.
-use Rattle.std.proofs.Common.{◌≡◌, true, inr, inl, ℕ, ◌+◌, ◌≤◌, Option, None, Some, List, [], ◌∷◌, ◌++◌, length, leb, refl, sym, subst, arith}
+use Rattle.std.proofs.Common.{◌≡◌, inr, inl, ℕ, ◌+◌, ◌≤◌, ◌==◌, Bool, true, false, not, ap, eqb-true, Option, None, Some, List, [], ◌∷◌, ◌++◌, length, leb, refl, sym, subst, arith}
+use Rattle.std.proofs.lemmas.Bool.{not-false}
 use Rattle.std.specs.Prelude.{codes, map}
 use Rattle.std.specs.Fmt.{decimal}
 use Rattle.tree_grammar.specs.Elements.{Attribute, Event, Close, nodes_events}
@@ -13,15 +14,16 @@ use Rattle.tag_tests.specs.Forms.{AreTaken}
 use Rattle.tag_tests.proofs.Forms.{taken_both}
 use Rattle.tag_tests.proofs.Characters.{chars_taken}
 use Rattle.osol_grammar.specs.declared.limit.Limit.{Limit}
+use Rattle.osol_grammar.specs.declared.limit.Limit.TheVariants.{Rounds}
 use Rattle.osol_grammar.specs.declared.options.Options.{Options}
 use Rattle.osol_grammar.specs.declared.place.Place.{Place}
 use Rattle.osol_grammar.specs.declared.place.Place.TheVariants.{Outside, Osol, General, JobId, Optimization, SolverOptions, SolverOption}
 use Rattle.osol_grammar.specs.declared.standing.Standing.{Standing as State}
-use Rattle.osol_grammar.specs.Limits.{all, limit_row}
+use Rattle.osol_grammar.specs.Limits.{limit_row}
 use Rattle.osol_grammar.specs.Options.{made, amount, with_amount, no_options, IsOption, SaysAmount}
 use Rattle.osol_grammar.specs.Marked.{osol}
 use Rattle.osol_grammar.specs.Meaning.{IsOptions, IsOptionsText}
-use Rattle.osol_grammar.specs.Writing.{option_nodes, options_nodes, options_text}
+use Rattle.osol_grammar.specs.Writing.{told_limits, option_nodes, options_nodes, options_text}
 use Rattle.osol_grammar.specs.Back.{IsJobName, IsNameOrNone, ComesBack}
 use Rattle.osol_grammar.proofs.LimitTable.{each_passes, option_once}
 use Rattle.osol_grammar.proofs.WrittenText.{optimization, text_document, text_not_blank}
@@ -66,11 +68,22 @@ limits_say (l ∷ ls) n j t o q es within more =
     let rest = limits_say ls (n + 1) j t o p es within more in
     (rest.0, (at SolverOption (n + 1) j t p, ((pass, tt), (p, inl (l, a, is, says, refl), refl)), (at SolverOptions (n + 1) j t p, (tt, refl), rest.1)), rest.2)
 
+-- all that is told says the options, since a limit that isn't has the amount that it has without its option
+untold : (n : ℕ) → not (n == 0) ≡ false → 0 ≡ n
+untold n is = sym (eqb-true n 0 (not-false (n == 0) is))
+
+all_said : (job : Option (List ℕ)) (amounts : Limit → ℕ) → made job amounts ≡ with_amounts (record no_options { job = job }) (made job amounts) (told_limits (made job amounts))
+all_said job amounts = by_rounds (not (amounts Rounds == 0)) refl
+  where
+    by_rounds : (b : Bool) → not (amounts Rounds == 0) ≡ b → made job amounts ≡ with_amounts (record no_options { job = job }) (made job amounts) (told_limits (made job amounts))
+    by_rounds true told = rw told refl
+    by_rounds false none = rw none (ap (λ (n : ℕ). let o : Options = record (made job amounts) { rounds = n } in o) (sym (untold (amounts Rounds) none)))
+
 -- and what stands round them
-optimization_says : (n j : ℕ) (t : List ℕ) (o q : Options) → AreWithin o → o ≡ with_amounts q o all → Say (at Osol n j t q) (spread (nodes_events (optimization o) (Close (codes "osol") ∷ []))) o
+optimization_says : (n j : ℕ) (t : List ℕ) (o q : Options) → AreWithin o → o ≡ with_amounts q o (told_limits o) → Say (at Osol n j t q) (spread (nodes_events (optimization o) (Close (codes "osol") ∷ []))) o
 optimization_says n j t o q within is =
-    let p = with_amounts q o all in
-    let rest = limits_say all (n + 1 + 1) j t o q (Close (codes "solverOptions") ∷ Close (codes "optimization") ∷ Close (codes "osol") ∷ []) within
+    let p = with_amounts q o (told_limits o) in
+    let rest = limits_say (told_limits o) (n + 1 + 1) j t o q (Close (codes "solverOptions") ∷ Close (codes "optimization") ∷ Close (codes "osol") ∷ []) within
     (λ k. (at Outside k j t p, (at Optimization k j t p, (tt, refl), (at Osol k j t p, (tt, refl), (at Outside k j t p, (tt, refl), refl))), is)) in
     (rest.0, (at Optimization (n + 1) j t q, (tt, refl), (at SolverOptions (n + 1 + 1) j t q, (tt, refl), rest.1)), rest.2)
 
@@ -92,13 +105,13 @@ named_says name q o more is says =
 
 root_says : (job : Option (List ℕ)) (amounts : Limit → ℕ) → IsNameOrNone job → AreWithin (made job amounts) → IsOptions (bare_root (codes "osol") (options_nodes (made job amounts))) (made job amounts)
 root_says None amounts is within =
-    let rest = optimization_says 1 0 [] (made None amounts) no_options within refl in
+    let rest = optimization_says 1 0 [] (made None amounts) no_options within (all_said None amounts) in
     (rest.0, (at Osol 1 0 [] no_options, (tt, refl), rest.1), rest.2)
 root_says (Some []) amounts is within = absurd (is.some refl)
 root_says (Some (c ∷ cs)) amounts is within =
     let name = c ∷ cs in
     let o = made (Some name) amounts in
-    let behind = optimization_says 3 3 name o (record no_options { job = Some name }) within refl in
+    let behind = optimization_says 3 3 name o (record no_options { job = Some name }) within (all_said (Some name) amounts) in
     let rest = named_says name no_options o (nodes_events (optimization o) (Close (codes "osol") ∷ [])) is behind in
     (rest.0, (at Osol 1 0 [] no_options, (tt, refl), (at General 2 0 [] no_options, (tt, refl), (at JobId 3 3 [] no_options, (((λ twice. omega (arith, twice)), tt), refl), rest.1))), rest.2)
 

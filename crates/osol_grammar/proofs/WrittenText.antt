@@ -1,6 +1,6 @@
 -- The text of options is a document that isn't blank.
-use Rattle.std.proofs.Common.{◌≡◌, ◌∙◌, ℕ, ◌+◌, ◌*◌, ◌≤◌, Bool, true, false, cond, Option, None, Some, List, [], ◌∷◌, ◌++◌, length, drop, reverse, leb, refl, ap, sym, arith, lit≤}
-use Rattle.std.specs.Prelude.{codes}
+use Rattle.std.proofs.Common.{◌≡◌, ◌∙◌, ℕ, suc, ◌+◌, ◌*◌, ◌≤◌, Bool, true, false, cond, Option, None, Some, List, [], ◌∷◌, ◌++◌, length, drop, reverse, leb, refl, ap, sym, arith, lit≤}
+use Rattle.std.specs.Prelude.{codes, filter}
 use Rattle.std.specs.List.{list_all}
 use Rattle.std.proofs.lemmas.Bool.{leb-true}
 use Rattle.std.proofs.lemmas.List.{reverse-append, reverse-reverse}
@@ -17,7 +17,7 @@ use Rattle.osol_grammar.specs.declared.limit.Limit.{Limit}
 use Rattle.osol_grammar.specs.declared.options.Options.{Options}
 use Rattle.osol_grammar.specs.Limits.{all, limit_row}
 use Rattle.osol_grammar.specs.Options.{amount}
-use Rattle.osol_grammar.specs.Writing.{job_nodes, option_nodes, limit_nodes, options_nodes, options_element, options_text}
+use Rattle.osol_grammar.specs.Writing.{is_told, told_limits, job_nodes, option_nodes, limit_nodes, options_nodes, options_element, options_text}
 use Rattle.osol_grammar.specs.Back.{IsNameOrNone, ComesBack}
 use Rattle.osol_grammar.proofs.LimitTable.{each_passes}
 
@@ -33,7 +33,7 @@ optimization o = group (codes "optimization") (group (codes "solverOptions") (li
 
 optimization_flat : (o : Options) → AreFlat 3 (optimization o) (optimization o)
 optimization_flat o =
-    let inner = element_flat 1 (codes "solverOptions") [] (limit_nodes o) none (limit_nodes o) none refl tt (limits_flat o all) (none_flat 2) in
+    let inner = element_flat 1 (codes "solverOptions") [] (limit_nodes o) none (limit_nodes o) none refl tt (limits_flat o (told_limits o)) (none_flat 2) in
     element_flat 2 (codes "optimization") [] (group (codes "solverOptions") (limit_nodes o) none) none (group (codes "solverOptions") (limit_nodes o) none) none refl tt inner (none_flat 3)
 
 job_flat : (job : Option (List ℕ)) (more : tree.Nodes) → IsNameOrNone job → AreFlat 3 more more → AreFlat 3 (job_nodes job more) (job_nodes job more)
@@ -59,12 +59,22 @@ limits_size o (l ∷ more) =
     let digits = decimal_size (amount o l) in
     omega (arith, rest, name, digits)
 
+-- no more are told than there are
+filter_few : {X : Type 0} (test : X → Bool) (xs : List X) → length (filter test xs) ≤ length xs
+filter_few test [] = omega arith
+filter_few {X} test (x ∷ xs) = by_test (test x) (filter_few test xs)
+  where
+    by_test : (b : Bool) → length (filter test xs) ≤ length xs → length (cond b (x ∷ filter test xs) (filter test xs)) ≤ suc (length xs)
+    by_test true few = omega (arith, few)
+    by_test false few = omega (arith, few)
+
 text_short : (o : Options) → ComesBack o → length (options_text o) ≤ document_limit
 text_short o back =
     let whole = written_short (options_element o) in
     let job = job_size o.job (optimization o) back.job in
-    let limits = limits_size o all in
-    omega (arith, whole, job, limits)
+    let limits = limits_size o (told_limits o) in
+    let few = filter_few (is_told o) all in
+    omega (arith, whole, job, limits, few)
 
 pub text_document : (o : Options) → ComesBack o → IsDocument (options_text o) (bare_root (codes "osol") (options_nodes o))
 text_document o back =

@@ -1,19 +1,21 @@
--- How much may be done for a job: the limits that options set, one row for each, with the name of its option, the least and the greatest amount, and the amount where no option says one. The names and amounts are the project's own.
-use Rattle.std.specs.Prelude.{ℕ, List, [], ◌∷◌, codes}
+-- How much may be done for a job: the limits that options set, one row for each, with the name of its option, the least and the greatest amount, the amount where no option says one, and whether its option is also written where it has that amount. The names and amounts are the project's own.
+use Rattle.std.specs.Prelude.{ℕ, Bool, true, false, List, [], ◌∷◌, codes}
 use Rattle.osol_grammar.specs.declared.limit.Limit.{Limit}
-use Rattle.osol_grammar.specs.declared.limit.Limit.TheVariants.{Nodes, Turns}
+use Rattle.osol_grammar.specs.declared.limit.Limit.TheVariants.{Nodes, Turns, Rounds}
 
 pub record Row : Type 0 where
   pub name : List ℕ
   pub least : ℕ
   pub most : ℕ
   pub default : ℕ
+  pub always : Bool
 
 -- all limits, in the order in which their options are written
 abbrev pub all : List Limit
-all = Nodes ∷ Turns ∷ []
+all = Nodes ∷ Turns ∷ Rounds ∷ []
 
--- nodes of the tree of cases, and turns of the simplex method
+-- nodes of the tree of cases, turns of the simplex method, and rows that rounds add
 abbrev pub limit_row : Limit → Row
-limit_row Nodes = record { name = codes "nodeLimit"; least = 1; most = 1000000; default = 10000 }
-limit_row Turns = record { name = codes "pivotLimit"; least = 1; most = 100000000; default = 1000000 }
+limit_row Nodes = record { name = codes "nodeLimit"; least = 1; most = 1000000; default = 10000; always = true }
+limit_row Turns = record { name = codes "pivotLimit"; least = 1; most = 100000000; default = 1000000; always = true }
+limit_row Rounds = record { name = codes "rounds"; least = 0; most = 100; default = 0; always = false }

@@ -1,5 +1,5 @@
 -- The document that options are written as (Optimization Services option language), and its text.
-use Rattle.std.specs.Prelude.{ℕ, Option, None, Some, List, [], ◌∷◌, codes}
+use Rattle.std.specs.Prelude.{ℕ, Bool, filter, not, ◌==◌, ◌||◌, Option, None, Some, List, [], ◌∷◌, codes}
 use Rattle.std.specs.Fmt.{decimal}
 use Rattle.tree_grammar.specs.Elements as tree
 use Rattle.tree_grammar.specs.Elements.{none, element, Element}
@@ -15,6 +15,10 @@ abbrev pub job_nodes : Option (List ℕ) → tree.Nodes → tree.Nodes
 job_nodes None more = more
 job_nodes (Some job) more = group (codes "general") (leaf (codes "jobID") job none) more
 
+-- the option of a limit is written always, or where the amount isn't the one that the limit has without it
+abbrev pub is_told : Options → Limit → Bool
+is_told o l = (limit_row l).always || not (amount o l == (limit_row l).default)
+
 -- the option of a limit, and then more
 abbrev pub limit_node : Options → Limit → tree.Nodes → tree.Nodes
 limit_node o l more = element (codes "solverOption") (with_attribute (codes "name") (limit_row l).name (with_attribute (codes "value") (decimal (amount o l)) (with_attribute (codes "solver") (codes "os_cert") []))) none more
@@ -24,9 +28,12 @@ abbrev pub option_nodes : Options → List Limit → tree.Nodes
 option_nodes o [] = none
 option_nodes o (l ∷ more) = limit_node o l (option_nodes o more)
 
--- the option of each limit
+-- the option of each limit that is told
+abbrev pub told_limits : Options → List Limit
+told_limits o = filter (is_told o) all
+
 abbrev pub limit_nodes : Options → tree.Nodes
-limit_nodes o = option_nodes o all
+limit_nodes o = option_nodes o (told_limits o)
 
 abbrev pub options_nodes : Options → tree.Nodes
 options_nodes o = job_nodes o.job (group (codes "optimization") (group (codes "solverOptions") (limit_nodes o) none) none)

@@ -7,19 +7,22 @@ pub(crate) enum Limit {
     Nodes,
     /// Turns of the simplex method.
     Turns,
+    /// Rows that rounds add.
+    Rounds,
 }
 
 /// All limits, in the order in which their options are written.
-pub(crate) const LIMITS: [Limit; 2] = [Limit::Nodes, Limit::Turns];
+pub(crate) const LIMITS: [Limit; 3] = [Limit::Nodes, Limit::Turns, Limit::Rounds];
 
-/// What is known of a limit: the name of its option, the least and the greatest amount that it may have, and the amount
-/// that it has where no option says one.
+/// What is known of a limit: the name of its option, the least and the greatest amount that it may have, the amount that it
+/// has where no option says one, and whether its option is also written where it has that amount.
 #[derive(Clone, Copy)]
 pub(crate) struct Row {
     pub name: &'static [u8],
     pub least: u32,
     pub most: u32,
     pub default: u32,
+    pub always: bool,
 }
 
 impl Limit {
@@ -32,6 +35,7 @@ impl Limit {
         ensures least { result.least ≡ (table.limit_row self).least }
         ensures most { result.most ≡ (table.limit_row self).most }
         ensures default { result.default ≡ (table.limit_row self).default }
+        ensures always { result.always ≡ (table.limit_row self).always }
     {
         match self {
             Limit::Nodes => Row {
@@ -39,12 +43,21 @@ impl Limit {
                 least: 1,
                 most: 1_000_000,
                 default: 10_000,
+                always: true,
             },
             Limit::Turns => Row {
                 name: b"pivotLimit",
                 least: 1,
                 most: 100_000_000,
                 default: 1_000_000,
+                always: true,
+            },
+            Limit::Rounds => Row {
+                name: b"rounds",
+                least: 0,
+                most: 100,
+                default: 0,
+                always: false,
             },
         }
     }

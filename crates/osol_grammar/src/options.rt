@@ -4,12 +4,13 @@ use crate::limit::Limit;
 use os_io::Text;
 
 /// The job's name, if it has one, and how much may be done for it: so many nodes of the tree of cases, 1 to 1,000,000,
-/// and so many turns of the simplex method, 1 to 100,000,000.
+/// so many turns of the simplex method, 1 to 100,000,000, and so many rows that rounds add, 0 to 100.
 #[derive(Drop)]
 pub struct Options {
     pub job: Option<Text>,
     pub nodes: u32,
     pub turns: u32,
+    pub rounds: u32,
 }
 
 impl Options {
@@ -17,7 +18,7 @@ impl Options {
     ghost use Rattle.osol_grammar.specs.Options as said;
     ghost use Rattle.osol_grammar.specs.Meaning.{IsNoOptions};
 
-    /// No options: no job's name, 10,000 nodes and 1,000,000 turns.
+    /// No options: no job's name, 10,000 nodes, 1,000,000 turns and no rounds.
     pub fn none() -> Options
         ensures { IsNoOptions result }
     {
@@ -25,6 +26,7 @@ impl Options {
             job: None,
             nodes: Limit::Nodes.row().default,
             turns: Limit::Turns.row().default,
+            rounds: Limit::Rounds.row().default,
         }
     }
 
@@ -35,6 +37,7 @@ impl Options {
         match limit {
             Limit::Nodes => self.nodes,
             Limit::Turns => self.turns,
+            Limit::Rounds => self.rounds,
         }
     }
 
@@ -45,6 +48,7 @@ impl Options {
         match limit {
             Limit::Nodes => self.nodes = amount,
             Limit::Turns => self.turns = amount,
+            Limit::Rounds => self.rounds = amount,
         }
     }
 }

@@ -26,6 +26,14 @@ fn tell_job(b: &mut TreeBuilder, job: &Option<Text>) -> Result<(), Memory>
     close(b, b"general")
 }
 
+/// Whether the option of a limit is written.
+fn is_told(options: &Options, limit: Limit) -> bool
+    ensures { result ≡ writing.is_told options.now limit }
+{
+    let row = limit.row();
+    row.always || options.amount(limit) != row.default
+}
+
 /// Tells the option of a limit.
 fn tell_limit(b: &mut TreeBuilder, options: &Options, limit: Limit) -> Result<(), Memory>
     requires { b.old.attributes ≡ [] }
@@ -39,13 +47,15 @@ fn tell_limit(b: &mut TreeBuilder, options: &Options, limit: Limit) -> Result<()
     close(b, b"solverOption")
 }
 
-/// Tells the options of all limits.
+/// Tells the options of all limits that are written.
 fn tell_limits(b: &mut TreeBuilder, options: &Options) -> Result<(), Memory>
     requires { b.old.attributes ≡ [] }
     ensures { OnOk result (Told b.old b.new (nodes_events (writing.limit_nodes options.now))) }
 {
     for limit in LIMITS {
-        tell_limit(b, options, limit)?;
+        if is_told(options, limit) {
+            tell_limit(b, options, limit)?;
+        }
     }
     Ok(())
 }
@@ -66,7 +76,7 @@ fn tell_options(b: &mut TreeBuilder, options: &Options) -> Result<(), Memory>
 }
 
 /// The text of options: a document with the namespace of the option language, the job's name where there is one, and the
-/// option of each limit.
+/// option of each limit, that of rounds only where there may be some.
 pub fn encode(alloc: Global, options: &Options) -> Result<Text, Memory>
     ensures { IfOk result (λ text. text ≡ writing.options_text options.now) }
 {

@@ -1,6 +1,7 @@
 -- Written items are read as what they say.
-use Rattle.osrl_grammar.proofs.Names.{◌≡◌, ◌∙◌, ℕ, ◌^◌, ◌<◌, true, Option, List, [], ◌∷◌, ◌++◌, map, refl, ap, sym, subst, arith, append-nil, codes, decimal, flat_map, signed_decimal, All, AllZip, All-head, All-tail, ratio, Frac, ratio_text, Mult, Node, Step, IsFree, pieces, Pair, step_text, node_word, IsMultOf, IsMult, IsOne, IsPlace, IsFraction, node_head, SaysNode, Begins, IsNode, IsCause, mult_text, node_text, cause_text, fraction_texts, HaveColumns, NodeComesBack, CauseComesBack}
+use Rattle.osrl_grammar.proofs.Names.{◌≡◌, ◌∙◌, ℕ, ◌^◌, ◌<◌, true, Option, List, [], ◌∷◌, ◌++◌, map, refl, ap, sym, subst, arith, append-nil, codes, decimal, flat_map, signed_decimal, All, AllZip, All-head, All-tail, ratio, Frac, ratio_text, Mult, Node, Step, IsFree, pieces, Pair, step_text, node_word, IsMultOf, IsMult, IsOne, IsPlace, IsFraction, SaysNode, TreeItem, tree_head, SaysTree, Begins, IsTreeItem, IsRoundOf, IsRound, IsCause, round_text, level_text, mult_text, node_text, cause_text, fraction_texts, HaveColumns, NodeComesBack, CauseComesBack}
 use Rattle.certificate.specs.declared.nodes.Node.TheVariants as nodes
+use Rattle.osrl_grammar.specs.declared.parts.TreeItem.TheVariants as trees
 use Rattle.certificate.specs.declared.causes.Cause as why
 use Rattle.certificate.specs.declared.causes.Cause.TheVariants as causes
 use Rattle.certificate.specs.declared.causes.Step.TheVariants as steps
@@ -26,16 +27,17 @@ mults_back (m ∷ ms) columns = (
   mults_back ms (All-tail (λ (m : Mult). m.col < 2 ^ 32) m ms columns),
 )
 
-pub node_back : (n : Node) → NodeComesBack n → IsNode (node_text n) n
+pub node_back : (n : Node) → NodeComesBack n → IsTreeItem (node_text n) (trees.Node n)
 node_back (nodes.Split j k) back =
     let behind = pieces_cut (decimal j) (signed_decimal k) (decimal_spaceless j) ∙ ap (λ (l : List (List ℕ)). decimal j ∷ l) (pieces_free (signed_decimal k) (signed_spaceless k)) in
     (refl, subst (SaysNode (nodes.Split j k)) (sym behind) (index_back j back.0, whole_back k back.1))
+node_back (nodes.Zero j) back = (refl, subst (SaysNode (nodes.Zero j)) (sym (pieces_free (decimal j) (decimal_spaceless j))) (index_back j back))
 node_back (nodes.Clash c) back = (refl, subst (SaysNode (nodes.Clash c)) (sym (pieces_free (decimal c) (decimal_spaceless c))) (index_back c back))
-node_back (nodes.Farkas ms) back = subst (λ (l : List (List ℕ)). Begins node_word node_head SaysNode l (nodes.Farkas ms)) (sym (mults_pieces (codes "farkas") ms (seen_free 32 (codes "farkas") refl))) (refl, mults_back ms back)
-node_back (nodes.Bound ms) back = subst (λ (l : List (List ℕ)). Begins node_word node_head SaysNode l (nodes.Bound ms)) (sym (mults_pieces (codes "bound") ms (seen_free 32 (codes "bound") refl))) (refl, mults_back ms back)
+node_back (nodes.Farkas ms) back = subst (λ (l : List (List ℕ)). Begins node_word tree_head SaysTree l (trees.Node (nodes.Farkas ms))) (sym (mults_pieces (codes "farkas") ms (seen_free 32 (codes "farkas") refl))) (refl, mults_back ms back)
+node_back (nodes.Bound ms) back = subst (λ (l : List (List ℕ)). Begins node_word tree_head SaysTree l (trees.Node (nodes.Bound ms))) (sym (mults_pieces (codes "bound") ms (seen_free 32 (codes "bound") refl))) (refl, mults_back ms back)
 
 step_spaceless : (s : Step) → IsFree 32 (step_text s)
-step_spaceless s = seen_free 32 (step_text s) (elim s as (λ (r : Step). is_without 32 (step_text r) ≡ true) [ steps.Values ↦ refl | steps.Ratio ↦ refl | steps.Pivot ↦ refl | steps.Point ↦ refl | steps.Ray ↦ refl | steps.Check ↦ refl ])
+step_spaceless s = seen_free 32 (step_text s) (elim s as (λ (r : Step). is_without 32 (step_text r) ≡ true) [ steps.Values ↦ refl | steps.Ratio ↦ refl | steps.Pivot ↦ refl | steps.Point ↦ refl | steps.Ray ↦ refl | steps.Round ↦ refl | steps.Check ↦ refl ])
 
 pub cause_back : (c : why.Cause) → CauseComesBack c → IsCause (cause_text c) c
 cause_back causes.Killed back = (refl, refl)
@@ -53,6 +55,13 @@ pub fractions_back : (xs : List Frac) → AllZip IsFraction (fraction_texts xs) 
 fractions_back [] = tt
 fractions_back (x ∷ xs) = (fraction_back x, fractions_back xs)
 
-pub nodes_back : (ns : List Node) → All NodeComesBack ns → AllZip IsNode (map node_text ns) ns
-nodes_back [] back = tt
-nodes_back (n ∷ ns) back = (node_back n (All-head NodeComesBack n ns back), nodes_back ns (All-tail NodeComesBack n ns back))
+-- what begins a level, and rounds
+pub level_back : (k : ℕ) → k < 2 ^ 32 → IsTreeItem (level_text k) (trees.Level k)
+level_back k back = (refl, subst (λ (l : List (List ℕ)). IsOne l k) (sym (pieces_free (decimal k) (decimal_spaceless k))) (index_back k back))
+
+round_back : (ms : List Mult) → HaveColumns ms → IsRound (round_text ms) ms
+round_back ms back = subst (λ (l : List (List ℕ)). IsRoundOf l ms) (sym (mults_pieces (codes "round") ms (seen_free 32 (codes "round") refl))) (refl, mults_back ms back)
+
+pub rounds_back : (rs : List (List Mult)) → All HaveColumns rs → AllZip IsRound (map round_text rs) rs
+rounds_back [] back = tt
+rounds_back (r ∷ rs) back = (round_back r (All-head HaveColumns r rs back), rounds_back rs (All-tail HaveColumns r rs back))

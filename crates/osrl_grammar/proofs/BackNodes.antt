@@ -1,5 +1,6 @@
 -- The nodes of a written solution are nodes of XML.
-use Rattle.osrl_grammar.proofs.Names.{◌≡◌, ℕ, suc, ◌+◌, ◌-◌, nat_lt, Bool, true, false, cond, List, [], ◌∷◌, map, length, refl, subst, codes, decimal, All, All-nil, All-cons, All-head, All-tail, IsXmlText, Each, Attribute, Nodes, none, element, chars, Printable, list_printable, ratio, Frac, Mult, Node, Split, Clash, Farkas, Bound, Claim, Optimal, Infeasible, Unbounded, BestSoFar, Unsure, Part, Claiming, cut_text, part_name, claiming_text, text_nodes, leaf, group, typed, indexed, variable_values, row_values, values_part, values_part_unless_none, point_values, dual_values, node_text, cause_text, item_nodes, certificate_part, fraction_texts, point_parts, ray_part, tree_part, cause_part, solution, claim_nodes, printable_text, decimal_printable, none_flat}
+use Rattle.osrl_grammar.proofs.Names.{◌≡◌, ℕ, suc, ◌+◌, ◌-◌, nat_lt, Bool, true, false, cond, List, [], ◌∷◌, ◌++◌, map, length, refl, subst, codes, decimal, lit≤, All, All-nil, All-cons, All-head, All-tail, All-append, IsXmlText, Each, Attribute, Nodes, none, element, chars, Printable, list_printable, ratio, Frac, Mult, Cert, Node, Split, Zero, Clash, Farkas, Bound, Claim, Optimal, Infeasible, Unbounded, BestSoFar, Unsure, Part, Claiming, cut_text, part_name, claiming_text, text_nodes, leaf, group, typed, indexed, variable_values, row_values, values_part, values_part_unless_none, point_values, goal_values, tree_values, dual_values, node_text, round_text, level_texts, cause_text, item_nodes, certificate_part, fraction_texts, point_parts, ray_part, rounds_part, tree_parts, trees_parts, cause_part, solution, claim_nodes, printable_text, decimal_printable, none_flat}
+use Rattle.std.proofs.Common.{lit<}
 use Rattle.tree_grammar.specs.Characters.{local_part}
 use Rattle.certificate.specs.declared.causes.Cause.{Cause}
 use Rattle.osrl_grammar.specs.declared.parts.Part.TheVariants as parts
@@ -7,7 +8,7 @@ use Rattle.osrl_grammar.specs.declared.parts.Claiming.TheVariants as claiming
 use Rattle.document_tags.specs.Writing.{only}
 use Rattle.element_tree.specs.WritableElements.{kept_attributes}
 use Rattle.document_tags.proofs.XmlNodes.{is_tag, AreTexts, AreFlat, text_flat, element_flat}
-use Rattle.osrl_grammar.proofs.BackTexts.{cut_printable, cause_printable, fractions_xml, nodes_xml}
+use Rattle.osrl_grammar.proofs.BackTexts.{cut_printable, cause_printable, fractions_xml, nodes_xml, rounds_xml, levels_xml}
 
 -- nodes of XML without prefixes, of which at most so many stand in one another
 abbrev pub Flat : ℕ → Nodes → Type 0
@@ -55,19 +56,31 @@ some_flat none more inside rest = rest
 some_flat (element n attributes children behind) more inside rest = values_flat (codes "constraints") (codes "dualValues") (element n attributes children behind) more refl refl refl refl inside rest
 some_flat (chars text behind) more inside rest = values_flat (codes "constraints") (codes "dualValues") (chars text behind) more refl refl refl refl inside rest
 
-duals_flat : (n : ℕ) (ns : List Node) (more : Nodes) → Flat 3 more → Flat 3 (dual_values n ns more)
-duals_flat n [] more rest = rest
-duals_flat n (Split j k ∷ ns) more rest = rest
-duals_flat n (Clash c ∷ ns) more rest = rest
-duals_flat n (Farkas ms ∷ ns) more rest = rest
-duals_flat n (Bound ms ∷ []) more rest = some_flat (row_values n ms) more (rows_flat n ms) rest
-duals_flat n (Bound ms ∷ m ∷ ns) more rest = rest
+tree_duals_flat : (n : ℕ) (rs : List (List Mult)) (ns : List Node) (more : Nodes) → Flat 3 more → Flat 3 (tree_values n rs ns more)
+tree_duals_flat n (r ∷ rs) ns more rest = rest
+tree_duals_flat n [] [] more rest = rest
+tree_duals_flat n [] (Split j k ∷ ns) more rest = rest
+tree_duals_flat n [] (Zero j ∷ ns) more rest = rest
+tree_duals_flat n [] (Clash c ∷ ns) more rest = rest
+tree_duals_flat n [] (Farkas ms ∷ ns) more rest = rest
+tree_duals_flat n [] (Bound ms ∷ []) more rest = some_flat (row_values n ms) more (rows_flat n ms) rest
+tree_duals_flat n [] (Bound ms ∷ m ∷ ns) more rest = rest
 
-point_flat : (x : List Frac) (v : Frac) (more : Nodes) → Flat 3 more → Flat 3 (point_values x v more)
-point_flat x v more rest =
-    let value : Flat 1 (indexed (codes "obj") (codes "-1") v none) = indexed_flat (codes "obj") (codes "-1") v none refl refl (list_printable (codes "-1") refl) (none_flat 1) in
-    let objectives = values_flat (codes "objectives") (codes "values") (indexed (codes "obj") (codes "-1") v none) more refl refl refl refl value rest in
-    values_flat (codes "variables") (codes "values") (variable_values 0 x) (values_part (codes "objectives") (codes "values") (indexed (codes "obj") (codes "-1") v none) more) refl refl refl refl (variables_flat 0 x) objectives
+duals_flat : (n : ℕ) (vs : List Frac) (cs : List Cert) (more : Nodes) → Flat 3 more → Flat 3 (dual_values n vs cs more)
+duals_flat n [] cs more rest = rest
+duals_flat n (v ∷ w ∷ vs) cs more rest = rest
+duals_flat n (v ∷ []) [] more rest = rest
+duals_flat n (v ∷ []) (c ∷ []) more rest = tree_duals_flat n c.rounds c.nodes more rest
+duals_flat n (v ∷ []) (c ∷ d ∷ cs) more rest = rest
+
+goals_flat : (k : ℕ) (vs : List Frac) → Flat 1 (goal_values k vs)
+goals_flat k [] = none_flat 1
+goals_flat k (v ∷ vs) = indexed_flat (codes "obj") (45 ∷ decimal k) v (goal_values (k + 1) vs) refl refl ((lit≤ tt, lit< tt), decimal_printable k) (goals_flat (k + 1) vs)
+
+point_flat : (x vs : List Frac) (more : Nodes) → Flat 3 more → Flat 3 (point_values x vs more)
+point_flat x vs more rest =
+    let objectives = values_flat (codes "objectives") (codes "values") (goal_values 1 vs) more refl refl refl refl (goals_flat 1 vs) rest in
+    values_flat (codes "variables") (codes "values") (variable_values 0 x) (values_part (codes "objectives") (codes "values") (goal_values 1 vs) more) refl refl refl refl (variables_flat 0 x) objectives
 
 items_flat : (texts : List (List ℕ)) → All IsXmlText texts → Flat 1 (item_nodes texts)
 items_flat [] xml = none_flat 1
@@ -77,6 +90,7 @@ name_printable : (p : Part) → Each Printable (part_name p)
 name_printable parts.Point = list_printable (part_name parts.Point) refl
 name_printable parts.Value = list_printable (part_name parts.Value) refl
 name_printable parts.Ray = list_printable (part_name parts.Ray) refl
+name_printable parts.Rounds = list_printable (part_name parts.Rounds) refl
 name_printable parts.Tree = list_printable (part_name parts.Tree) refl
 name_printable parts.Cause = list_printable (part_name parts.Cause) refl
 
@@ -84,14 +98,24 @@ part_flat : (p : Part) (texts : List (List ℕ)) (more : Nodes) → All IsXmlTex
 part_flat p texts more xml rest =
     plain_flat 1 (codes "otherSolutionResult") (only (codes "name") (part_name p)) (item_nodes texts) more refl refl refl (printable_text (part_name p) (name_printable p), tt) (items_flat texts xml) rest
 
-points_flat : (x : List Frac) (v : Frac) (more : Nodes) → Flat 2 more → Flat 2 (point_parts x v more)
-points_flat x v more rest = part_flat parts.Point (fraction_texts x) (certificate_part parts.Value (fraction_texts (v ∷ [])) more) (fractions_xml x) (part_flat parts.Value (fraction_texts (v ∷ [])) more (fractions_xml (v ∷ [])) rest)
+points_flat : (x vs : List Frac) (more : Nodes) → Flat 2 more → Flat 2 (point_parts x vs more)
+points_flat x vs more rest = part_flat parts.Point (fraction_texts x) (certificate_part parts.Value (fraction_texts vs) more) (fractions_xml x) (part_flat parts.Value (fraction_texts vs) more (fractions_xml vs) rest)
 
-ray_flat : (r : List Frac) → Flat 2 (ray_part r)
-ray_flat r = part_flat parts.Ray (fraction_texts r) none (fractions_xml r) (none_flat 2)
+ray_flat : (r : List Frac) (more : Nodes) → Flat 2 more → Flat 2 (ray_part r more)
+ray_flat r more rest = part_flat parts.Ray (fraction_texts r) more (fractions_xml r) rest
 
-tree_flat : (ns : List Node) → Flat 2 (tree_part ns)
-tree_flat ns = part_flat parts.Tree (map node_text ns) none (nodes_xml ns) (none_flat 2)
+rounds_flat : (rs : List (List Mult)) (more : Nodes) → Flat 2 more → Flat 2 (rounds_part rs more)
+rounds_flat [] more rest = rest
+rounds_flat (r ∷ rs) more rest = part_flat parts.Rounds (map round_text (r ∷ rs)) more (rounds_xml (r ∷ rs)) rest
+
+tree_flat : (c : Cert) (cs : List Cert) → Flat 2 (tree_parts c cs)
+tree_flat c cs =
+    let texts = map node_text c.nodes ++ level_texts 2 cs in
+    rounds_flat c.rounds (certificate_part parts.Tree texts none) (part_flat parts.Tree texts none (All-append IsXmlText (map node_text c.nodes) (level_texts 2 cs) (nodes_xml c.nodes) (levels_xml 2 cs)) (none_flat 2))
+
+trees_flat : (cs : List Cert) → Flat 2 (trees_parts cs)
+trees_flat [] = none_flat 2
+trees_flat (c ∷ cs) = tree_flat c cs
 
 cause_flat : (c : Cause) → Flat 2 (cause_part c)
 cause_flat c = part_flat parts.Cause (cause_text c ∷ []) none (All-cons IsXmlText (cause_text c) [] (printable_text (cause_text c) (cause_printable c)) (All-nil IsXmlText)) (none_flat 2)
@@ -109,8 +133,8 @@ solution_flat c certificate values inside shows =
     typed_flat 2 (codes "status") (claiming_text c) (values (group (codes "otherSolutionResults") certificate none)) refl refl (claiming_printable c) (shows (group (codes "otherSolutionResults") certificate none) parts)
 
 pub claim_flat : (c : Claim) → Flat 3 (claim_nodes c)
-claim_flat (Optimal x v ns) = solution_flat claiming.Optimal (point_parts x v (tree_part ns)) (λ more. point_values x v (dual_values (length x) ns more)) (points_flat x v (tree_part ns) (tree_flat ns)) (λ more rest. point_flat x v (dual_values (length x) ns more) (duals_flat (length x) ns more rest))
-claim_flat (Infeasible ns) = solution_flat claiming.Infeasible (tree_part ns) (λ more. more) (tree_flat ns) (λ more rest. rest)
-claim_flat (Unbounded x v r) = solution_flat claiming.Unbounded (point_parts x v (ray_part r)) (point_values x v) (points_flat x v (ray_part r) (ray_flat r)) (point_flat x v)
+claim_flat (Optimal x vs cs) = solution_flat claiming.Optimal (point_parts x vs (trees_parts cs)) (λ more. point_values x vs (dual_values (length x) vs cs more)) (points_flat x vs (trees_parts cs) (trees_flat cs)) (λ more rest. point_flat x vs (dual_values (length x) vs cs more) (duals_flat (length x) vs cs more rest))
+claim_flat (Infeasible c) = solution_flat claiming.Infeasible (tree_parts c []) (λ more. more) (tree_flat c []) (λ more rest. rest)
+claim_flat (Unbounded x vs cs r) = solution_flat claiming.Unbounded (point_parts x vs (ray_part r (trees_parts cs))) (point_values x vs) (points_flat x vs (ray_part r (trees_parts cs)) (ray_flat r (trees_parts cs) (trees_flat cs))) (point_flat x vs)
 claim_flat (BestSoFar x v c) = solution_flat claiming.BestSoFar (point_parts x v (cause_part c)) (point_values x v) (points_flat x v (cause_part c) (cause_flat c)) (point_flat x v)
 claim_flat (Unsure c) = solution_flat claiming.Unsure (cause_part c) (λ more. more) (cause_flat c) (λ more rest. rest)

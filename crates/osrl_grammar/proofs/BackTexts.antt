@@ -1,5 +1,5 @@
 -- The texts of numbers, items and statuses are characters of XML.
-use Rattle.osrl_grammar.proofs.Names.{ℕ, ◌+◌, ◌/◌, ◌%◌, ◌^◌, ◌==◌, Bool, true, false, cond, List, [], ◌∷◌, ◌++◌, map, drop, reverse, refl, sym, subst, lit≤, codes, decimal, flat_map, signed_decimal, All, reverse-append, All-nil, All-cons, IsXmlText, Each, Printable, list_printable, Ratio, ratio, Frac, optional, point_text, ratio_text, Mult, Node, Split, Clash, Farkas, Bound, Step, without_zeros, decimals, cut_size, has_sign, cut_text, step_text, mult_text, node_text, cause_text, fraction_texts, decimal_each, signed_each, decimal_printable, printable_text}
+use Rattle.osrl_grammar.proofs.Names.{ℕ, ◌+◌, ◌/◌, ◌%◌, ◌^◌, ◌==◌, Bool, true, false, cond, List, [], ◌∷◌, ◌++◌, map, drop, reverse, refl, sym, subst, lit≤, codes, decimal, flat_map, signed_decimal, All, reverse-append, All-nil, All-cons, All-append, IsXmlText, Each, Printable, list_printable, Ratio, ratio, Frac, optional, point_text, ratio_text, Mult, Cert, round_text, level_text, level_texts, Node, Split, Zero, Clash, Farkas, Bound, Step, without_zeros, decimals, cut_size, has_sign, cut_text, step_text, mult_text, node_text, cause_text, fraction_texts, decimal_each, signed_each, decimal_printable, printable_text}
 use Rattle.std.proofs.Common.{lit<}
 use Rattle.element_tree.proofs.XmlTexts.{each_append}
 use Rattle.decimal_text.specs.Exact.{denominator_text}
@@ -65,6 +65,7 @@ mults_printable (m ∷ ms) = each_append Printable (mult_text m) (flat_map mult_
 
 pub node_printable : (n : Node) → Each Printable (node_text n)
 node_printable (Split j k) = each_append Printable (codes "split ") (decimal j ++ (32 ∷ signed_decimal k)) (list_printable (codes "split ") refl) (each_append Printable (decimal j) (32 ∷ signed_decimal k) (decimal_printable j) ((lit≤ tt, lit< tt), signed_printable k))
+node_printable (Zero j) = each_append Printable (codes "zero ") (decimal j) (list_printable (codes "zero ") refl) (decimal_printable j)
 node_printable (Clash c) = each_append Printable (codes "clash ") (decimal c) (list_printable (codes "clash ") refl) (decimal_printable c)
 node_printable (Farkas ms) = each_append Printable (codes "farkas") (flat_map mult_text ms) (list_printable (codes "farkas") refl) (mults_printable ms)
 node_printable (Bound ms) = each_append Printable (codes "bound") (flat_map mult_text ms) (list_printable (codes "bound") refl) (mults_printable ms)
@@ -91,3 +92,14 @@ fractions_xml (x ∷ xs) = All-cons IsXmlText (ratio_text (ratio x)) (fraction_t
 pub nodes_xml : (ns : List Node) → All IsXmlText (map node_text ns)
 nodes_xml [] = All-nil IsXmlText
 nodes_xml (n ∷ ns) = All-cons IsXmlText (node_text n) (map node_text ns) (printable_text (node_text n) (node_printable n)) (nodes_xml ns)
+
+pub rounds_xml : (rs : List (List Mult)) → All IsXmlText (map round_text rs)
+rounds_xml [] = All-nil IsXmlText
+rounds_xml (r ∷ rs) = All-cons IsXmlText (round_text r) (map round_text rs) (printable_text (round_text r) (each_append Printable (codes "round") (flat_map mult_text r) (list_printable (codes "round") refl) (mults_printable r))) (rounds_xml rs)
+
+-- of the levels from the k-th on
+pub levels_xml : (k : ℕ) (cs : List Cert) → All IsXmlText (level_texts k cs)
+levels_xml k [] = All-nil IsXmlText
+levels_xml k (c ∷ cs) =
+    All-cons IsXmlText (level_text k) (map node_text c.nodes ++ level_texts (k + 1) cs) (printable_text (level_text k) (each_append Printable (codes "level ") (decimal k) (list_printable (codes "level ") refl) (decimal_printable k)))
+    (All-append IsXmlText (map node_text c.nodes) (level_texts (k + 1) cs) (nodes_xml c.nodes) (levels_xml (k + 1) cs))

@@ -1,30 +1,25 @@
 -- What the code makes of an end tag is the state that it leaves, or its refusal.
-use Rattle.osrl_grammar.proofs.Names.{◌≡◌, ◌∙◌, ℕ, false, List, refl, ap, sym, subst, Option, None, Some, Result, Ok, Err, OnOk, false≢true, on_ok_weaker, trimmed, AllPass, OsrlFault, Refused, Report, Held, Part, Value, Misread, item_fields, ReadsSo, State, start, report_of, ends, around, tests, item_refusal, Fails, first, AddsItem, Ends, EndsAt}
+use Rattle.osrl_grammar.proofs.Names.{◌≡◌, ◌∙◌, ◌<◌, ◌⊎◌, inl, inr, ℕ, zero, suc, Bool, true, false, List, refl, ap, sym, subst, arith, Option, None, Some, Result, Ok, Err, OnOk, false≢true, is_some, on_ok_weaker, trimmed, Finish, AllPass, FirstFails, OsrlFault, Report, Held, Part, Point, Value, Ray, Misread, NoShape, NoNumber, TooGreat, BadItem, IsItemRead, AfterItem, noted, with_read, State, start, has, items, bad_item, report_of, ends, around, tests, told, item_refusal, refusal_of, Fails, MayHoldItems, first, Ends, EndsAt, Refused, item_fields, ReadsSo, AddsItem}
+use Rattle.osrl_grammar.specs.declared.fault.OsrlFault.TheVariants as refusals
 use Rattle.osrl_grammar.specs.declared.elements.Place.{Place}
 use Rattle.osrl_grammar.specs.declared.elements.Place.TheVariants as places
-use Rattle.osrl_grammar.specs.declared.parts.Part.TheVariants.{Tree, Cause}
-use Rattle.osrl_grammar.specs.Table.{twice, miscounted}
+use Rattle.osrl_grammar.specs.declared.parts.Part.TheVariants.{Rounds, Tree, Cause}
+use Rattle.osrl_grammar.specs.Table.{unread, twice, miscounted}
 use Rattle.osrl_grammar.specs.Stepping.{IsCounted, AreCounted}
-use Rattle.osrl_grammar.proofs.ItemTests.{item_refused, item_passes, reads_pass}
+use Rattle.std.specs.Prelude.{IsSome}
+use Rattle.osrl_grammar.specs.Leaving.{out_of}
 
--- an item is added, or its text is not read
-module _ {X : Type 0} (s now : State) (same : s ≡ now) (p : Part) (k : Held) (said : List ℕ) (text : said ≡ s.text) (q : Result X Misread) (reads : ReadsSo (item_fields p said) q (λ x. AddsItem p said s.held k)) where
-  abbrev Reads : Result X Misread → Type 0
-  Reads r = ReadsSo (item_fields p s.text) r (λ x. AddsItem p s.text s.held k)
+-- an item behind one that isn't read
+pub after_bad : (o : Option BadItem) (s : State) (p : Part) → is_some o ≡ true → AfterItem o s p s
+after_bad None s p some = absurd (false≢true some)
+after_bad (Some b) s p some = refl
 
-  own : (r : Result X Misread) → q ≡ r → Reads r
-  own r is = subst (λ (t : List ℕ). ReadsSo (item_fields p t) r (λ x. AddsItem p t s.held k)) text (subst (λ (t : Result X Misread). ReadsSo (item_fields p said) t (λ x. AddsItem p said s.held k)) is reads)
+-- an item of which this is read
+pub after_read : (s : State) (p : Part) (r : Result Held Misread) → s.bad ≡ None → IsItemRead p s.text s.held r → AfterItem s.bad s p (with_read (noted s p) r)
+after_read s p r none is = subst (λ (o : Option BadItem). AfterItem o s p (with_read (noted s p) r)) (sym none) (r, is, refl)
 
-  pub item_added : (x : X) → q ≡ Ok x → EndsAt {X = Unit {0}} now (places.Item p) (record s { place = places.Result p; held = k }) (Ok tt)
-  item_added x is =
-      let h = reads_pass (item_fields p s.text) x (λ x. AddsItem p s.text s.held k) (own (Ok x) is) in
-      subst (λ (n : State). EndsAt {X = Unit {0}} n (places.Item p) (record s { place = places.Result p; held = k }) (Ok tt)) same
-      (item_passes s (item_fields p s.text) h.0, (k, h.1, refl))
-
-  pub item_misread : (z : State) (u : Misread) (f : OsrlFault) → q ≡ Err u → f ≡ item_refusal u s.count → EndsAt {X = Unit {0}} now (places.Item p) z (Err (Refused f))
-  item_misread z u f is told =
-      subst (λ (n : State). EndsAt {X = Unit {0}} n (places.Item p) z (Err (Refused f))) same
-      (subst (λ (g : OsrlFault). EndsAt {X = Unit {0}} s (places.Item p) z (Err (Refused g))) (sym told) (item_refused s (item_fields p s.text) u (λ x. AddsItem p s.text s.held k) (own (Err u) is)))
+pub item_ends : (s z : State) (p : Part) → AfterItem s.bad (out_of s (places.Item p)) p z → EndsAt {X = Unit {0}} s (places.Item p) z (Ok tt)
+item_ends s z p h = (tt, h)
 
 module _ (s : State) where
   not_twice : s.twice ≡ false → Fails s twice → ⊥
@@ -33,11 +28,20 @@ module _ (s : State) where
   not_miscounted : (p : Part) → IsCounted s.held p → Fails s (miscounted p) → ⊥
   not_miscounted p is fails = fails.1 (is fails.0)
 
-  root_passes : (r : Report) → AreCounted s → report_of s ≡ Some r → AllPass (Fails s) (tests s (ends places.Osrl))
-  root_passes r h some = (not_twice h.0, (not_miscounted Value h.1, (not_miscounted Tree h.2, (not_miscounted Cause h.3, ((λ none. let clash : Some r ≡ None = sym some ∙ none in cc), tt)))))
+  not_unread : bad_item s ≡ None → Fails s unread → ⊥
+  not_unread none fails = false≢true (subst IsSome none fails)
 
-pub root_ends : (s z : State) (r : Report) → AreCounted s → report_of s ≡ Some r → z ≡ record start { report = r } → EndsAt {X = Unit {0}} s places.Osrl z (Ok tt)
-root_ends s z r counted some is = (root_passes s r counted some, (r, some, is))
+  unread_first : (b : BadItem) → bad_item s ≡ Some b → FirstFails {R = OsrlFault} (Fails s) (told s) (tests (ends places.Osrl)) (refusal_of (Some b))
+  unread_first b is = inl (subst IsSome (sym is) refl, ap refusal_of (sym is))
+
+  root_passes : bad_item s ≡ None → (r : Report) → AreCounted s → report_of s ≡ Some r → AllPass (Fails s) (tests (ends places.Osrl))
+  root_passes read r h some = (not_unread read, (not_twice h.0, (not_miscounted Value h.1, (not_miscounted Tree h.2, (not_miscounted Cause h.3, ((λ none. let clash : Some r ≡ None = sym some ∙ none in cc), tt))))))
+
+pub root_unread : (s z : State) (b : BadItem) → bad_item s ≡ Some b → EndsAt {X = Unit {0}} s places.Osrl z (Err (Refused (refusal_of (Some b))))
+root_unread s z b is = unread_first s b is
+
+pub root_ends : (s z : State) (r : Report) → bad_item s ≡ None → AreCounted s → report_of s ≡ Some r → z ≡ record start { report = r } → EndsAt {X = Unit {0}} s places.Osrl z (Ok tt)
+root_ends s z r read counted some is = (root_passes s read r counted some, (r, some, is))
 
 other_out : (s : State) (p out : Place) → out ≡ around p → (p ≡ places.JobId → ⊥) → (p ≡ places.Message → ⊥) → (p ≡ places.JobStatus → ⊥) → ((q : Part) → p ≡ places.Item q → ⊥) → (p ≡ places.Osrl → ⊥) → Ends s p (record s { place = out })
 other_out s places.JobId out is job message status item root = absurd (job refl)

@@ -1,40 +1,27 @@
 -- The tests of each kind stand in the order of their refusals.
-use Rattle.osrl_grammar.proofs.Names.{ℕ, ◌≤◌, Option, None, Some, List, [], ◌∷◌, ◌++◌, map, refl, arith, OtherRoot, number, Kind, State, begins, ends, bad, great, item_tests, kind, tests, told, Field, item_fields, osrl}
-use Rattle.tag_tests.specs.Tests.{FromHere, InOrder}
+use Rattle.osrl_grammar.proofs.Names.{ℕ, ◌≤◌, Option, None, Some, [], ◌∷◌, refl, arith, Mark, OtherRoot, number, State, begins, ends, kind, tests, told, refusal_of, item_refusal, bad_item, BadItem, Misread, NoShape, NoNumber, TooGreat, Value, osrl, List, ◌++◌, map, Kind, Field, item_fields}
+use Rattle.tag_tests.specs.Tests.{InOrder, FromHere}
 use Rattle.tag_tests.specs.Firsts.{IsOrdered}
 use Rattle.tag_tests.proofs.Tests.{order_tested}
+use Rattle.osrl_grammar.specs.declared.elements.Place.TheVariants.{Osrl}
+use Rattle.osrl_grammar.specs.Table.{Test, twice, miscounted, incomplete}
+use Rattle.osrl_grammar.specs.declared.parts.Part.TheVariants.{Tree, Cause}
+-- an item's refusal comes before those of the whole document
+unread_low : (o : Option BadItem) → number (refusal_of o) ≤ 5
+unread_low None = omega arith
+unread_low (Some b) = elim b.misread as (λ (u : Misread). number (item_refusal u b.number) ≤ 5) [ NoShape ↦ omega arith | NoNumber ↦ omega arith | TooGreat ↦ omega arith ]
 use Rattle.osrl_grammar.specs.declared.elements.Place.{Place}
-use Rattle.osrl_grammar.specs.declared.elements.Place.TheVariants.{Osrl, Item}
-use Rattle.osrl_grammar.specs.Table.{Test}
 
 module _ (s : State) where
   abbrev at : Test → ℕ
   at t = number (told s t)
 
-  greats_from : (n : ℕ) → n ≤ 4 → (fs : List Field) → FromHere at n (map great fs)
-  greats_from n low [] = tt
-  greats_from n low (f ∷ fs) = (low, greats_from n low fs)
+  root_in_order : InOrder at (tests (ends Osrl))
+  root_in_order = let low = unread_low (bad_item s) in ((low, (low, (low, (low, (omega (arith, low), tt))))), order_tested at (twice ∷ miscounted Value ∷ miscounted Tree ∷ miscounted Cause ∷ incomplete ∷ []) refl)
 
-  greats_in_order : (fs : List Field) → InOrder at (map great fs)
-  greats_in_order [] = tt
-  greats_in_order (f ∷ fs) = (greats_from 4 (omega arith) fs, greats_in_order fs)
-
-  fields_from : (fs gs : List Field) → FromHere at 3 (map bad fs ++ map great gs)
-  fields_from [] gs = greats_from 3 (omega arith) gs
-  fields_from (f ∷ fs) gs = (omega arith, fields_from fs gs)
-
-  fields_in_order : (fs gs : List Field) → InOrder at (map bad fs ++ map great gs)
-  fields_in_order [] gs = greats_in_order gs
-  fields_in_order (f ∷ fs) gs = (fields_from fs gs, fields_in_order fs gs)
-
-  item_in_order : (o : Option (List Field)) → InOrder at (item_tests o)
-  item_in_order None = (tt, tt)
-  item_in_order (Some fs) = fields_in_order fs fs
-
-  kind_in_order : (k : Kind Place) → InOrder at (tests s k)
-  kind_in_order (begins OtherRoot as') = order_tested at (tests s (begins OtherRoot as')) refl
-  kind_in_order (ends (Item p)) = item_in_order (item_fields p s.text)
-  kind_in_order (ends Osrl) = order_tested at (tests s (ends Osrl)) refl
+  kind_in_order : (k : Kind Place) → InOrder at (tests k)
+  kind_in_order (begins OtherRoot as') = order_tested at (tests (begins OtherRoot as')) refl
+  kind_in_order (ends Osrl) = root_in_order
   kind_in_order k = tt
 
 pub in_order : IsOrdered osrl number

@@ -1,5 +1,5 @@
 -- Lists that are told item by item.
-use Rattle.osrl_grammar.proofs.Names.{◌≡◌, ℕ, ◌-◌, ◌<◌, ◌≤◌, Bool, cond, ◌≢◌, List, [], ◌∷◌, length, refl, ap, lt-ltb, le-ltb, decimal, codes, Nodes, none, element, chars, Event, nodes_events, Mult, Node, Split, Clash, Farkas, Bound, indexed, row_values, values_part, values_part_unless_none, dual_values}
+use Rattle.osrl_grammar.proofs.Names.{◌≡◌, ℕ, ◌-◌, ◌<◌, ◌≤◌, Bool, true, false, cond, nat_lt, get_or, ◌≢◌, List, [], ◌∷◌, length, refl, ap, sym, lt-ltb, le-ltb, arith, decimal, codes, Nodes, none, element, chars, Event, nodes_events, ◌++◌, leaf, Frac, Mult, Cert, Node, Split, Zero, Clash, Farkas, Bound, indexed, row_values, values_part, values_part_unless_none, tree_values, dual_values, item_nodes, rounds_part}
 use Rattle.osrl_grammar.specs.Writing.{rows_part}
 
 -- the value of a row's multiplier, and those behind it
@@ -23,14 +23,33 @@ unless_none name list (chars text behind) more some = refl
 pub rows_shown : (n : ℕ) (ms : List Mult) → (row_values n ms ≡ none → ⊥) → (k : List Event) → nodes_events (values_part (codes "constraints") (codes "dualValues") (row_values n ms) none) k ≡ nodes_events (rows_part n ms none) k
 rows_shown n ms some k = ap (λ (nodes : Nodes). nodes_events nodes k) (unless_none (codes "constraints") (codes "dualValues") (row_values n ms) none some)
 
--- a tree of several nodes, or none, has no dual values
-pub several : (n : ℕ) (tree : List Node) → length tree ≢ 1 → (k : List Event) → k ≡ nodes_events (dual_values n tree none) k
-several n [] h k = refl
-several n (Split j b ∷ more) h k = refl
-several n (Clash c ∷ more) h k = refl
-several n (Farkas ms ∷ more) h k = refl
-several n (Bound ms ∷ []) h k = absurd (h refl)
-several n (Bound ms ∷ m ∷ more) h k = refl
+-- a tree of several nodes, or none, has no dual values, nor has one with rounds
+pub several : (n : ℕ) (rounds : List (List Mult)) (tree : List Node) → length tree ≢ 1 → (k : List Event) → k ≡ nodes_events (tree_values n rounds tree none) k
+several n (r ∷ rs) tree h k = refl
+several n [] [] h k = refl
+several n [] (Split j b ∷ more) h k = refl
+several n [] (Zero j ∷ more) h k = refl
+several n [] (Clash c ∷ more) h k = refl
+several n [] (Farkas ms ∷ more) h k = refl
+several n [] (Bound ms ∷ []) h k = absurd (h refl)
+several n [] (Bound ms ∷ m ∷ more) h k = refl
+
+pub rounded : (n : ℕ) (rounds : List (List Mult)) (tree : List Node) → 0 < length rounds → (k : List Event) → k ≡ nodes_events (tree_values n rounds tree none) k
+rounded n [] tree h k = absurd (omega (arith, h))
+rounded n (r ∷ rs) tree h k = refl
+
+-- several values, or trees, have none
+pub many : (n : ℕ) (values : List Frac) (trees : List Cert) → (length values ≡ 1 → length trees ≡ 1 → ⊥) → (k : List Event) → k ≡ nodes_events (dual_values n values trees none) k
+many n [] cs h k = refl
+many n (v ∷ w ∷ vs) cs h k = refl
+many n (v ∷ []) [] h k = refl
+many n (v ∷ []) (c ∷ []) h k = absurd (h refl refl)
+many n (v ∷ []) (c ∷ d ∷ cs) h k = refl
+
+-- items of two lists are those of the one and those of the other
+pub items_both : (xs ys : List (List ℕ)) (k : List Event) → nodes_events (item_nodes xs) (nodes_events (item_nodes ys) k) ≡ nodes_events (item_nodes (xs ++ ys)) k
+items_both [] ys k = refl
+items_both (x ∷ xs) ys k = ap (λ (es : List Event). nodes_events (leaf (codes "item") x none) es) (items_both xs ys k)
 
 rows_then_by : (name list : List ℕ) (values more : Nodes) (k : List Event) → nodes_events (values_part_unless_none name list values none) (nodes_events more k) ≡ nodes_events (values_part_unless_none name list values more) k
 rows_then_by name list none more k = refl
@@ -38,10 +57,24 @@ rows_then_by name list (element n attributes children behind) more k = refl
 rows_then_by name list (chars text behind) more k = refl
 
 -- the dual values, and then more
-pub duals_then : (n : ℕ) (tree : List Node) (more : Nodes) (k : List Event) → nodes_events (dual_values n tree none) (nodes_events more k) ≡ nodes_events (dual_values n tree more) k
-duals_then n [] more k = refl
-duals_then n (Split j b ∷ ns) more k = refl
-duals_then n (Clash c ∷ ns) more k = refl
-duals_then n (Farkas ms ∷ ns) more k = refl
-duals_then n (Bound ms ∷ []) more k = rows_then_by (codes "constraints") (codes "dualValues") (row_values n ms) more k
-duals_then n (Bound ms ∷ m ∷ ns) more k = refl
+tree_then : (n : ℕ) (rounds : List (List Mult)) (tree : List Node) (more : Nodes) (k : List Event) → nodes_events (tree_values n rounds tree none) (nodes_events more k) ≡ nodes_events (tree_values n rounds tree more) k
+tree_then n (r ∷ rs) tree more k = refl
+tree_then n [] [] more k = refl
+tree_then n [] (Split j b ∷ ns) more k = refl
+tree_then n [] (Zero j ∷ ns) more k = refl
+tree_then n [] (Clash c ∷ ns) more k = refl
+tree_then n [] (Farkas ms ∷ ns) more k = refl
+tree_then n [] (Bound ms ∷ []) more k = rows_then_by (codes "constraints") (codes "dualValues") (row_values n ms) more k
+tree_then n [] (Bound ms ∷ m ∷ ns) more k = refl
+
+pub duals_then : (n : ℕ) (values : List Frac) (trees : List Cert) (more : Nodes) (k : List Event) → nodes_events (dual_values n values trees none) (nodes_events more k) ≡ nodes_events (dual_values n values trees more) k
+duals_then n [] cs more k = refl
+duals_then n (v ∷ w ∷ vs) cs more k = refl
+duals_then n (v ∷ []) [] more k = refl
+duals_then n (v ∷ []) (c ∷ []) more k = tree_then n c.rounds c.nodes more k
+duals_then n (v ∷ []) (c ∷ d ∷ cs) more k = refl
+
+-- rounds, where there are any, and then more
+pub rounds_then : (rs : List (List Mult)) (more : Nodes) (k : List Event) → nodes_events (rounds_part rs none) (nodes_events more k) ≡ nodes_events (rounds_part rs more) k
+rounds_then [] more k = refl
+rounds_then (r ∷ rs) more k = refl

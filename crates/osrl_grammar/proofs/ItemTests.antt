@@ -1,13 +1,14 @@
--- What was read of an item answers the tests of its end tag.
-use Rattle.osrl_grammar.proofs.Names.{◌≡◌, ◌∙◌, inl, ℕ, pos, Option, None, Some, Result, Ok, Err, List, [], ◌∷◌, ◌++◌, refl, ap, sym, subst, AllZip, option_map, whole, ratio, Frac, Mult, Node, Step, AllPass, FirstFails, OsrlFault, Held, Part, Point, Value, Ray, Misread, NoShape, NoNumber, TooGreat, Index, Turn, Whole, Exact, Field, pieces, Pair, parted, worded, field, step_text, all_steps, node_word, all_node_words, cause_word, all_cause_words, pair_fields, mult_fields, mults_fields, no_field, one_field, place_fields, node_behind, cause_behind, item_fields, ReadsSo, IsFraction, IsMult, IsMultOf, IsOne, IsPlace, node_head, SaysNode, cause_head, SaysCause, State, bad, great, item_tests, told, item_refusal, Fails, AddsItem, IfOk-weaker}
+-- What is read of an item, and when it is one.
+use Rattle.osrl_grammar.proofs.Names.{◌≡◌, ◌∙◌, inl, inr, ℕ, pos, Option, None, Some, Result, Ok, Err, List, [], ◌∷◌, ◌++◌, refl, ap, sym, subst, AllZip, option_map, whole, ratio, Frac, Mult, Node, Step, AllPass, Held, Part, Point, Value, Ray, Misread, NoShape, NoNumber, TooGreat, Index, Turn, Whole, Exact, Field, pieces, Pair, parted, worded, field, step_text, all_steps, node_word, all_node_words, cause_word, all_cause_words, pair_fields, mult_fields, mults_fields, no_field, one_field, place_fields, node_behind, cause_behind, item_fields, ReadsSo, IsFraction, IsMult, IsMultOf, IsOne, IsPlace, node_head, SaysNode, cause_head, SaysCause, IsRoundOf, TreeItem, tree_head, SaysTree, IsOutOfOrder, next_level, round_word, round_fields, IsItemRead, AddsItem, IfOk-weaker}
 use Rattle.certificate.specs.declared.nodes.Node.TheVariants as nodes
+use Rattle.osrl_grammar.specs.declared.parts.TreeItem.TheVariants as trees
 use Rattle.certificate.specs.declared.causes.Place.{Place}
 use Rattle.certificate.specs.declared.causes.Cause as why
 use Rattle.certificate.specs.declared.causes.Cause.TheVariants as causes
-use Rattle.tag_tests.proofs.Fields.{fields_pass, fields_bad, fields_wide}
-use Rattle.osrl_grammar.specs.declared.parts.Part.TheVariants.{Tree, Cause}
+use Rattle.osrl_grammar.specs.declared.parts.Part.TheVariants.{Rounds, Tree, Cause}
+use Rattle.osrl_grammar.specs.Numbers.{Kind}
 use Rattle.osrl_grammar.proofs.WordValues.{each_step, each_node_word, each_cause_word}
-use Rattle.osrl_grammar.specs.Stepping.{ReadsNumber, ReadsItem}
+use Rattle.osrl_grammar.specs.Stepping.{ReadsNumber, as_held, ReadsItem}
 use Rattle.osrl_grammar.proofs.Fields.{Pass, number_pass, both_pass, reads_more}
 use Rattle.osrl_grammar.proofs.Heads.{begun_pass}
 
@@ -42,9 +43,28 @@ node_pass (nodes.Split j k) [] h = absurd h
 node_pass (nodes.Split j k) (c ∷ []) h = absurd h
 node_pass (nodes.Split j k) (c ∷ b ∷ []) h = both_pass (Some (field Index c ∷ [])) (Some (field Whole b ∷ [])) (number_pass Index c (whole (pos j)) h.0) (number_pass Whole b (whole k) h.1)
 node_pass (nodes.Split j k) (c ∷ b ∷ d ∷ ps) h = absurd h
+node_pass (nodes.Zero j) ps h = one_pass ps j h
 node_pass (nodes.Clash c) ps h = one_pass ps c h
 node_pass (nodes.Farkas ms) ps h = mults_pass ps ms h
 node_pass (nodes.Bound ms) ps h = mults_pass ps ms h
+
+tree_pass : (i : TreeItem) (ps : List (List ℕ)) → SaysTree i ps → Pass (node_behind (tree_head i) ps)
+tree_pass (trees.Node n) ps h = node_pass n ps h
+tree_pass (trees.Level l) ps h = one_pass ps l h
+
+-- a round begins with its word
+round_shaped : (p : List ℕ) (ps : List (List ℕ)) → p ≡ round_word → round_fields (p ∷ ps) ≡ mults_fields ps
+round_shaped p ps is = ap (λ (w : List ℕ). round_fields (w ∷ ps)) is
+
+round_pass : (ps : List (List ℕ)) (ms : List Mult) → IsRoundOf ps ms → Pass (round_fields ps)
+round_pass [] ms h = absurd h
+round_pass (p ∷ ps) ms h = subst Pass (sym (round_shaped p ps h.0)) (mults_pass ps ms h.1)
+
+-- as it is read
+pub round_read : (ps : List (List ℕ)) (w : List ℕ) (behind : List (List ℕ)) (r : Result (List Mult) Misread) → ps ≡ w ∷ behind → w ≡ round_word → ReadsSo (mults_fields behind) r (AllZip IsMult behind) → ReadsSo (round_fields ps) r (IsRoundOf ps)
+round_read ps w behind r is own h =
+    subst (λ (l : List (List ℕ)). ReadsSo (round_fields l) r (IsRoundOf l)) (sym is)
+    (subst (λ (o : Option (List Field)). ReadsSo o r (IsRoundOf (w ∷ behind))) (sym (round_shaped w behind own)) (reads_more (mults_fields behind) r (AllZip IsMult behind) (IsRoundOf (w ∷ behind)) (λ ms each. (own, each)) h))
 
 none_pass : (ps : List (List ℕ)) → ps ≡ [] → Pass (no_field ps)
 none_pass ps none = subst (λ (l : List (List ℕ)). Pass (no_field l)) (sym none) (tt, tt)
@@ -62,19 +82,25 @@ pub added_readable : (p : Part) (said : List ℕ) (h k : Held) → AddsItem p sa
 added_readable Point said h k a = number_pass Exact said (ratio a.0) a.1
 added_readable Value said h k a = number_pass Exact said (ratio a.0) a.1
 added_readable Ray said h k a = number_pass Exact said (ratio a.0) a.1
-added_readable Tree said h k a = begun_pass node_word all_node_words node_behind node_head SaysNode each_node_word node_pass (pieces said) a.0 a.1
+added_readable Rounds said h k a = round_pass (pieces said) a.0 a.1
+added_readable Tree said h k a = begun_pass node_word all_node_words node_behind tree_head SaysTree each_node_word tree_pass (pieces said) a.0 a.1
 added_readable Cause said h k a = begun_pass cause_word all_cause_words cause_behind cause_head SaysCause each_cause_word cause_pass (pieces said) a.0 a.1
 
-module _ (s : State) where
-  pub item_passes : (o : Option (List Field)) → Pass o → AllPass (Fails s) (item_tests o)
-  item_passes None h = absurd h
-  item_passes (Some fs) h = fields_pass {A = Unit {0}} (Fails s) bad great fs tt (λ x. Unit {0}) (h.0, h.1, tt)
+-- an item that was added was read
+pub added_read : (o : Option (List Field)) (k : Held) (P : Held → Type 0) → Pass o → P k → ReadsSo o (Ok k) P
+added_read None k P pass is = absurd pass
+added_read (Some fs) k P pass is = (pass.0, pass.1, is)
 
-  pub item_refused : {A : Type 0} (o : Option (List Field)) (u : Misread) (Says : A → Type 0) → ReadsSo {A = A} o (Err u) Says → FirstFails {R = OsrlFault} (Fails s) (told s) (item_tests o) (item_refusal u s.count)
-  item_refused None u Says h = let e : u ≡ NoShape = cc in inl (tt, ap (λ (v : Misread). item_refusal v s.count) e)
-  item_refused (Some fs) NoShape Says h = absurd h
-  item_refused (Some fs) NoNumber Says h = fields_bad (Fails s) (told s) bad great fs _ Says (λ f. refl) h
-  item_refused (Some fs) TooGreat Says h = fields_wide (Fails s) (told s) bad great fs _ Says (λ f. refl) h
+-- what was read of its text is read of the item, where it begins no level out of order
+pub reads_held : {X : Type 0} (o : Option (List Field)) (r : Result X Misread) (k : Held) (P : X → Type 0) (Q : Held → Type 0) → ((x : X) → P x → Q k) → ReadsSo o r P → ReadsSo o (as_held k r) Q
+reads_held None r k P Q says h = ap (as_held k) h
+reads_held (Some fs) (Ok x) k P Q says h = (h.0, h.1, says x h.2)
+reads_held (Some fs) (Err NoShape) k P Q says h = h
+reads_held (Some fs) (Err NoNumber) k P Q says h = h
+reads_held (Some fs) (Err TooGreat) k P Q says h = h
+
+pub item_is_read : {X : Type 0} (p : Part) (said : List ℕ) (h k : Held) (r : Result X Misread) (P : X → Type 0) → (IsOutOfOrder (next_level h) p said → ⊥) → ((x : X) → P x → AddsItem p said h k) → ReadsSo (item_fields p said) r P → IsItemRead p said h (as_held k r)
+item_is_read p said h k r P order says is = inr (order, reads_held (item_fields p said) r k P (λ (g : Held). AddsItem p said h g) says is)
 
 -- of what was read
 pub reads_pass : {A : Type 0} (o : Option (List Field)) (x : A) (Says : A → Type 0) → ReadsSo o (Ok x) Says → Pass o × Says x
@@ -82,16 +108,16 @@ reads_pass None x Says h = absurd (cc)
 reads_pass (Some fs) x Says h = ((h.0, h.1), h.2)
 
 -- a number that was read and added, or not
-number_added : {X E : Type 0} (r : Result (Result X Misread) E) (p q : Part) (said : List ℕ) (old new : List Frac) (h k : Held) → p ≡ q → item_fields q said ≡ Some (field Exact said ∷ []) → ((y : Frac) → IsFraction said y → new ≡ old ++ y ∷ [] → AddsItem q said h k) → ReadsNumber said old new r → ReadsItem p said h k r
-number_added {X} r p q said old new h k at are adds reads =
+number_added : {X E : Type 0} (r : Result (Result X Misread) E) (p q : Part) (said : List ℕ) (old new : List Frac) (h k : Held) → p ≡ q → (IsOutOfOrder (next_level h) q said → ⊥) → item_fields q said ≡ Some (field Exact said ∷ []) → ((y : Frac) → IsFraction said y → new ≡ old ++ y ∷ [] → AddsItem q said h k) → ReadsNumber said old new r → ReadsItem p said h k r
+number_added {X} r p q said old new h k at order are adds reads =
     subst (λ (t : Part). ReadsItem t said h k r) (sym at)
-    (IfOk-weaker r _ _ (λ (x : Result X Misread) is. reads_more (item_fields q said) x _ _ (λ y n. adds n.0 n.1 n.2) (subst (λ (o : Option (List Field)). ReadsSo o x (λ y. (n : Frac) × IsFraction said n × (new ≡ old ++ n ∷ []))) (sym are) is)) reads)
+    (IfOk-weaker r _ _ (λ (x : Result X Misread) is. item_is_read q said h k x _ order (λ y n. adds n.0 n.1 n.2) (subst (λ (o : Option (List Field)). ReadsSo o x (λ y. (n : Frac) × IsFraction said n × (new ≡ old ++ n ∷ []))) (sym are) is)) reads)
 
 pub point_added : {X E : Type 0} (r : Result (Result X Misread) E) (p : Part) (said : List ℕ) (h : Held) (new : List Frac) → p ≡ Point → ReadsNumber said h.point new r → ReadsItem p said h (record h { point = new }) r
-point_added r p said h new at = number_added r p Point said h.point new h (record h { point = new }) at refl (λ y n is. (y, n, ap (λ (l : List Frac). let z : Held = record h { point = l } in z) is))
+point_added r p said h new at = number_added r p Point said h.point new h (record h { point = new }) at (λ none. none) refl (λ y n is. (y, n, ap (λ (l : List Frac). let z : Held = record h { point = l } in z) is))
 
-pub value_added : {X E : Type 0} (r : Result (Result X Misread) E) (p : Part) (said : List ℕ) (h : Held) (new : List Frac) → p ≡ Value → ReadsNumber said h.value new r → ReadsItem p said h (record h { value = new }) r
-value_added r p said h new at = number_added r p Value said h.value new h (record h { value = new }) at refl (λ y n is. (y, n, ap (λ (l : List Frac). let z : Held = record h { value = l } in z) is))
+pub value_added : {X E : Type 0} (r : Result (Result X Misread) E) (p : Part) (said : List ℕ) (h : Held) (new : List Frac) → p ≡ Value → ReadsNumber said h.values new r → ReadsItem p said h (record h { values = new }) r
+value_added r p said h new at = number_added r p Value said h.values new h (record h { values = new }) at (λ none. none) refl (λ y n is. (y, n, ap (λ (l : List Frac). let z : Held = record h { values = l } in z) is))
 
 pub ray_added : {X E : Type 0} (r : Result (Result X Misread) E) (p : Part) (said : List ℕ) (h : Held) (new : List Frac) → p ≡ Ray → ReadsNumber said h.ray new r → ReadsItem p said h (record h { ray = new }) r
-ray_added r p said h new at = number_added r p Ray said h.ray new h (record h { ray = new }) at refl (λ y n is. (y, n, ap (λ (l : List Frac). let z : Held = record h { ray = l } in z) is))
+ray_added r p said h new at = number_added r p Ray said h.ray new h (record h { ray = new }) at (λ none. none) refl (λ y n is. (y, n, ap (λ (l : List Frac). let z : Held = record h { ray = l } in z) is))

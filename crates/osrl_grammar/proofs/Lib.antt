@@ -21,6 +21,8 @@ pub mod Goings
 pub mod Beginnings
 pub mod Endings
 pub mod SoundStates
+pub mod TreeTexts
+pub mod FewLevels
 pub mod BackReport
 pub mod RoundTrips
 pub mod InOrder

@@ -1,5 +1,5 @@
 -- The names that most proofs use.
-pub use Rattle.std.proofs.Common.{Bool, Bor, Err, IfErr, IfOk, List, None, Ok, OnOk, Option, Result, Some, [], ap, append-nil, append_assoc, ap₂, arith, bytes_eq, codes, cond, decimal, drop, false, get_or, inl, inr, le-ltb, length, lit≤, lt-ltb, map, nat_lt, ne_eqb, neg_ℤ, negsuc, option_map, pos, refl, reverse, subst, suc, sym, take, true, zero, ℕ, ℤ, ◌%◌, ◌*◌, ◌++◌, ◌+◌, ◌-◌, ◌/◌, ◌<◌, ◌==◌, ◌^◌, ◌||◌, ◌∙◌, ◌∷◌, ◌≡◌, ◌≢◌, ◌≤◌, ◌⊎◌}
+pub use Rattle.std.proofs.Common.{Bool, Bor, Err, IfErr, IfOk, List, None, Ok, OnOk, Option, Result, Some, [], ap, append-nil, append_assoc, ap₂, arith, bytes_eq, codes, cond, decimal, drop, false, get_or, inl, inr, le-ltb, length, lit≤, lt-ltb, map, nat_lt, ne_eqb, neg_ℤ, negsuc, option_map, pos, refl, reverse, subst, suc, sym, take, true, zero, ℕ, ℤ, ◌%◌, ◌&&◌, ◌*◌, ◌++◌, ◌+◌, ◌-◌, ◌/◌, ◌<◌, ◌==◌, ◌^◌, ◌||◌, ◌∙◌, ◌∷◌, ◌≡◌, ◌≢◌, ◌≤◌, ◌⊎◌}
 pub use Rattle.std.proofs.Math.Facts.{to_z-of_z}
 pub use Rattle.std.proofs.lemmas.Bool.{false≢true, true≢false}
 pub use Rattle.std.proofs.lemmas.Bool.Decides.{nat_tests}
@@ -17,8 +17,9 @@ pub use Rattle.certificate.specs.declared.causes.Step.{Step}
 pub use Rattle.certificate.specs.declared.claims.Claim.{Claim}
 pub use Rattle.certificate.specs.declared.claims.Claim.TheVariants.{BestSoFar, Infeasible, Optimal, Unbounded, Unsure}
 pub use Rattle.certificate.specs.declared.lists.Mult.{Mult}
+pub use Rattle.certificate.specs.declared.nodes.Cert.{Cert}
 pub use Rattle.certificate.specs.declared.nodes.Node.{Node}
-pub use Rattle.certificate.specs.declared.nodes.Node.TheVariants.{Bound, Clash, Farkas, Split}
+pub use Rattle.certificate.specs.declared.nodes.Node.TheVariants.{Bound, Clash, Farkas, Split, Zero}
 pub use Rattle.decimal_text.proofs.OneRatio.{ratio_once}
 pub use Rattle.decimal_text.specs.Exact.{RatioText, ratio_text}
 pub use Rattle.decimal_text.specs.Plain.{point_text}
@@ -35,34 +36,37 @@ pub use Rattle.element_tree.proofs.XmlTexts.{Printable, list_printable}
 pub use Rattle.element_tree.specs.Building.{said}
 pub use Rattle.fraction.specs.Frac.{ratio}
 pub use Rattle.fraction.specs.declared.frac.Frac.{Frac}
-pub use Rattle.osrl_grammar.specs.Back.{CauseComesBack, ClaimComesBack, ComesBack, HaveColumns, IsBareOrNone, NodeComesBack, TreeComesBack}
+pub use Rattle.osrl_grammar.specs.Back.{CauseComesBack, ClaimComesBack, ComesBack, HasTrees, HaveColumns, IsBareOrNone, LevelComesBack, MayHaveTrees, NodeComesBack, TreesComeBack}
 pub use Rattle.osrl_grammar.specs.Cuts.{cut_size, cut_text, decimals, has_sign, without_zeros}
 pub use Rattle.osrl_grammar.specs.Failing.{Fails, MayHoldItems}
 pub use Rattle.osrl_grammar.specs.Grounds.{TextsAreOfCharacters}
-pub use Rattle.osrl_grammar.specs.Items.{ReadsSo, all_cause_words, all_node_words, all_steps, cause_behind, cause_word, field, item_fields, mult_fields, mults_fields, no_field, node_behind, node_word, one_field, pair_fields, place_fields, step_text, two_fields, with_fields}
-pub use Rattle.osrl_grammar.specs.Leaving.{AddsItem, Ends, Leaves, begun, first, keeps, with_part}
+pub use Rattle.osrl_grammar.specs.Items.{ReadsSo, all_cause_words, all_node_words, all_steps, cause_behind, cause_word, field, item_fields, mult_fields, mults_fields, no_field, node_behind, node_word, one_field, pair_fields, place_fields, round_fields, round_word, step_text, two_fields, with_fields}
+pub use Rattle.osrl_grammar.specs.Adding.{AddsItem, AfterItem, IsItemRead, noted, with_read, with_tree_item}
+pub use Rattle.osrl_grammar.specs.Leaving.{Ends, Leaves, begun, first, keeps, with_part}
 pub use Rattle.osrl_grammar.specs.Marked.{IsReport, marks, osrl}
 pub use Rattle.osrl_grammar.specs.Numbers.{Exact, Field, FitsKind, Index, IsBad, IsFree, IsNot, IsNumberText, IsTooGreat, Turn, Whole, WritesNumber}
 pub use Rattle.osrl_grammar.specs.Order.{number}
 pub use Rattle.osrl_grammar.specs.Pieces.{Pair, more, parted, pieces}
 pub use Rattle.osrl_grammar.specs.Reading.{DecodeFails, IsReportText}
-pub use Rattle.osrl_grammar.specs.Saying.{claim_as, has, items, nonempty, report_of, report_with, status_of}
+pub use Rattle.osrl_grammar.specs.Saying.{bad_item, cert, certs, claim_as, has, items, next_level, nonempty, report_of, report_with, status_of}
 pub use Rattle.osrl_grammar.specs.Standing.{State, nothing_held, start}
 pub use Rattle.osrl_grammar.specs.Stepping.{EndsAt}
-pub use Rattle.osrl_grammar.specs.Table.{around, bad, great, item_refusal, item_tests, kind, leads, tests, told}
-pub use Rattle.osrl_grammar.specs.Values.{Begins, IsCause, IsFraction, IsMult, IsMultOf, IsNode, IsOne, IsPlace, SaysCause, SaysNode, cause_head, node_head}
+pub use Rattle.osrl_grammar.specs.Table.{around, item_refusal, kind, leads, refusal_of, tests, told}
+pub use Rattle.osrl_grammar.specs.Values.{Begins, IsCause, IsFraction, IsMult, IsMultOf, IsOne, IsOutOfOrder, IsPlace, IsRound, IsRoundOf, IsTreeItem, SaysCause, SaysNode, SaysTree, cause_head, node_head, tree_head}
 pub use Rattle.osrl_grammar.specs.Words.{claiming_text, part_name, status_text, worded}
-pub use Rattle.osrl_grammar.specs.Writing.{cause_part, cause_text, certificate_part, claim_nodes, dual_values, fraction_texts, general_nodes, general_type, indexed, item_nodes, leaf_of, mult_text, node_text, optimization, point_parts, point_values, ray_part, report_element, report_text, row_values, solution, status_nodes, tree_part, values_part, values_part_unless_none, variable_values}
+pub use Rattle.osrl_grammar.specs.Writing.{cause_part, cause_text, certificate_part, claim_nodes, dual_values, fraction_texts, general_nodes, general_type, indexed, item_nodes, leaf_of, mult_text, node_text, optimization, point_parts, point_values, goal_values, level_text, level_texts, ray_part, report_element, report_text, round_text, rounds_part, row_values, solution, status_nodes, tree_parts, tree_values, trees_parts, values_part, values_part_unless_none, variable_values}
 pub use Rattle.tag_tests.specs.declared.places.Led.{Led}
 pub use Rattle.tag_tests.specs.declared.places.Led.TheVariants.{OtherRoot, Over, To}
 pub use Rattle.osrl_grammar.specs.declared.fault.OsrlFault.{OsrlFault}
 pub use Rattle.osrl_grammar.specs.declared.fault.OsrlFault.TheVariants.{Memory}
 pub use Rattle.osrl_grammar.specs.declared.held.Held.{Held}
+pub use Rattle.osrl_grammar.specs.declared.parts.BadItem.{BadItem}
 pub use Rattle.osrl_grammar.specs.declared.parts.Claiming.{Claiming}
 pub use Rattle.osrl_grammar.specs.declared.parts.Misread.{Misread}
 pub use Rattle.osrl_grammar.specs.declared.parts.Misread.TheVariants.{NoNumber, NoShape, TooGreat}
 pub use Rattle.osrl_grammar.specs.declared.parts.Part.{Part}
 pub use Rattle.osrl_grammar.specs.declared.parts.Part.TheVariants.{Point, Ray, Value}
+pub use Rattle.osrl_grammar.specs.declared.parts.TreeItem.{TreeItem}
 pub use Rattle.osrl_grammar.specs.declared.report.JobStatus.{JobStatus}
 pub use Rattle.osrl_grammar.specs.declared.report.Report.{Report}
 pub use Rattle.rational.specs.Ratio.{Ratio, whole}

@@ -1,8 +1,10 @@
 -- An item's text says one number, one node or one cause.
-use Rattle.osrl_grammar.proofs.Names.{◌≡◌, ◌∙◌, ap, ap₂, sym, refl, ℕ, ℤ, pos, Option, None, Some, List, [], ◌∷◌, AllZip, Ratio, whole, ratio, Frac, ratio_once, Mult, Node, Step, Index, Turn, Whole, IsNumberText, pieces, Pair, parted, node_word, all_node_words, node_behind, cause_word, all_cause_words, cause_behind, IsFraction, IsMultOf, IsMult, IsOne, IsPlace, node_head, SaysNode, IsNode, cause_head, SaysCause, IsCause}
+use Rattle.osrl_grammar.proofs.Names.{◌≡◌, ◌∙◌, ap, ap₂, sym, refl, ℕ, ℤ, pos, Option, None, Some, List, [], ◌∷◌, AllZip, Ratio, whole, ratio, Frac, ratio_once, Mult, Node, Step, Index, Turn, Whole, IsNumberText, pieces, Pair, parted, step_text, node_word, all_node_words, node_behind, cause_word, all_cause_words, cause_behind, IsFraction, IsMultOf, IsMult, IsOne, IsPlace, node_head, SaysNode, TreeItem, tree_head, SaysTree, IsTreeItem, IsRoundOf, IsRound, cause_head, SaysCause, IsCause}
 use Rattle.fraction.proofs.Equality.{one_fraction}
 use Rattle.certificate.specs.declared.nodes.Node.TheVariants as nodes
 use Rattle.certificate.specs.declared.causes.Place.{Place}
+use Rattle.osrl_grammar.specs.declared.parts.NodeWord.TheVariants as heads
+use Rattle.osrl_grammar.specs.declared.parts.TreeItem.TheVariants as trees
 use Rattle.certificate.specs.declared.causes.Cause as why
 use Rattle.certificate.specs.declared.causes.Cause.TheVariants as causes
 use Rattle.osrl_grammar.specs.Numbers.{Kind}
@@ -42,18 +44,40 @@ index_once [] n m h k = absurd h
 index_once (t ∷ []) n m h k = count_once Index t n m h k
 index_once (t ∷ s ∷ ps) n m h k = absurd h
 
+-- no node has the word of a level
+no_level : (n : Node) → node_head n ≡ heads.Level → ⊥
+no_level (nodes.Split j k) e = cc
+no_level (nodes.Zero j) e = cc
+no_level (nodes.Clash c) e = cc
+no_level (nodes.Farkas ms) e = cc
+no_level (nodes.Bound ms) e = cc
+
 node_once : (a b : Node) (ps : List (List ℕ)) → node_head a ≡ node_head b → SaysNode a ps → SaysNode b ps → a ≡ b
 node_once (nodes.Split j k) (nodes.Split i l) [] e h g = absurd h
 node_once (nodes.Split j k) (nodes.Split i l) (c ∷ []) e h g = absurd h
 node_once (nodes.Split j k) (nodes.Split i l) (c ∷ b ∷ []) e h g = ap₂ (λ (x : ℕ) (y : ℤ). nodes.Split x y) (count_once Index c j i h.0 g.0) (whole_once Whole b k l h.1 g.1)
 node_once (nodes.Split j k) (nodes.Split i l) (c ∷ b ∷ d ∷ ps) e h g = absurd h
+node_once (nodes.Zero j) (nodes.Zero i) ps e h g = ap (λ (x : ℕ). nodes.Zero x) (index_once ps j i h g)
 node_once (nodes.Clash c) (nodes.Clash d) ps e h g = ap (λ (x : ℕ). nodes.Clash x) (index_once ps c d h g)
 node_once (nodes.Farkas ms) (nodes.Farkas ns) ps e h g = ap (λ (x : List Mult). nodes.Farkas x) (mults_once ps ms ns h g)
 node_once (nodes.Bound ms) (nodes.Bound ns) ps e h g = ap (λ (x : List Mult). nodes.Bound x) (mults_once ps ms ns h g)
 node_once a b ps e h g = absurd (cc)
 
-pub node_said_once : (text : List ℕ) (a b : Node) → IsNode text a → IsNode text b → a ≡ b
-node_said_once text a b h g = begun_once node_word all_node_words node_behind node_head SaysNode each_node_word node_once (pieces text) a b h g
+tree_once : (a b : TreeItem) (ps : List (List ℕ)) → tree_head a ≡ tree_head b → SaysTree a ps → SaysTree b ps → a ≡ b
+tree_once (trees.Node n) (trees.Node m) ps e h g = ap (λ (x : Node). trees.Node x) (node_once n m ps e h g)
+tree_once (trees.Level l) (trees.Level k) ps e h g = ap (λ (x : ℕ). trees.Level x) (index_once ps l k h g)
+tree_once (trees.Node n) (trees.Level k) ps e h g = absurd (no_level n e)
+tree_once (trees.Level l) (trees.Node m) ps e h g = absurd (no_level m (sym e))
+
+pub tree_said_once : (text : List ℕ) (a b : TreeItem) → IsTreeItem text a → IsTreeItem text b → a ≡ b
+tree_said_once text a b h g = begun_once node_word all_node_words node_behind tree_head SaysTree each_node_word tree_once (pieces text) a b h g
+
+round_once : (ps : List (List ℕ)) (ms ns : List Mult) → IsRoundOf ps ms → IsRoundOf ps ns → ms ≡ ns
+round_once [] ms ns h g = absurd h
+round_once (p ∷ ps) ms ns h g = mults_once ps ms ns h.1 g.1
+
+pub round_said_once : (text : List ℕ) (ms ns : List Mult) → IsRound text ms → IsRound text ns → ms ≡ ns
+round_said_once text ms ns h g = round_once (pieces text) ms ns h g
 
 same_place : (p q : Place) → p.node ≡ q.node → p.turn ≡ q.turn → p.step ≡ q.step → p ≡ q
 same_place p q node turn step =

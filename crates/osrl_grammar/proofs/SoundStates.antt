@@ -1,7 +1,11 @@
 -- What the marks of a document leave comes back from what is written of it: its texts are of characters of XML, its nodes and causes hold numbers of their types, and there are at most as many nodes as elements.
-use Rattle.osrl_grammar.proofs.Names.{◌≡◌, ◌∙◌, ℕ, zero, suc, ◌+◌, ◌-◌, ◌^◌, ◌<◌, ◌≤◌, Bool, true, false, cond, Option, None, Some, List, [], ◌∷◌, ◌++◌, map, length, refl, ap, sym, subst, arith, option_map, bytes_eq, codes, All, AllZip, All-nil, All-cons, All-head, All-append, IsXmlText, Event, Close, Element, Attribute, Nodes, none, element, chars, nodes_events, Char, spread, elements_in, trimmed, AllPass, AreTaken, Frac, nodes_of, Mult, Node, Split, Clash, Farkas, Bound, Claim, Infeasible, Unsure, JobStatus, Report, Held, Led, Part, Claiming, pieces, Pair, parted, node_word, cause_word, IsMultOf, IsMult, IsOne, node_head, SaysNode, cause_head, SaysCause, Begins, IsNode, IsCause, State, start, nothing_held, claim_as, report_with, report_of, nonempty, status_of, begins, ends, end_kind, led_from, keeps, around, tests, leads, Fails, with_part, begun, first, AddsItem, Ends, Leaves, osrl, IsReport, TextsAreOfCharacters, HaveColumns, NodeComesBack, CauseComesBack, ClaimComesBack, IsBareOrNone}
-use Rattle.std.specs.Prelude.{option_and_then}
+use Rattle.osrl_grammar.proofs.Names.{◌≡◌, ◌∙◌, ℕ, zero, suc, ◌+◌, ◌-◌, ◌^◌, ◌<◌, ◌≤◌, ◌⊎◌, inl, inr, Bool, true, false, cond, Option, None, Some, List, [], ◌∷◌, ◌++◌, map, length, refl, ap, sym, subst, arith, nat_lt, option_map, flat_map, append-nil, false≢true, true≢false, ◌&&◌, worded, claiming_text, Result, Ok, Err, Misread, NoShape, Field, bytes_eq, codes, All, AllZip, All-nil, All-cons, All-head, All-tail, All-append, IsXmlText, Attribute, Event, Close, Element, Nodes, none, element, chars, nodes_events, Mark, Start, Char, Finish, spread, elements_in, trimmed, AllPass, AreTaken, Takes, taken_once, Frac, nodes_of, Mult, Cert, Node, Split, Zero, Clash, Farkas, Bound, Claim, Infeasible, Unsure, JobStatus, Report, Held, Led, Part, Claiming, pieces, Pair, parted, node_word, cause_word, IsMultOf, IsMult, IsOne, SaysNode, TreeItem, tree_head, SaysTree, cause_head, SaysCause, Begins, IsTreeItem, IsRoundOf, IsRound, IsCause, item_fields, ReadsSo, IsItemRead, AfterItem, BadItem, noted, with_read, with_tree_item, bad_item, cert, certs, State, start, nothing_held, claim_as, report_with, report_of, nonempty, status_of, begins, ends, around, tests, leads, Fails, with_part, begun, first, AddsItem, Ends, Leaves, osrl, IsReport, TextsAreOfCharacters, HaveColumns, NodeComesBack, CauseComesBack, LevelComesBack, TreesComeBack, HasTrees, MayHaveTrees, ClaimComesBack, IsBareOrNone, node_head, end_kind, led_from, keeps}
+use Rattle.std.specs.Prelude.{option_and_then, IsSome}
 use Rattle.std.proofs.lemmas.List.{length-append}
+use Rattle.std.proofs.lemmas.List.Elements.{All-weaker}
+use Rattle.std.proofs.lemmas.Grind.{flat_map-append}
+use Rattle.std.proofs.lemmas.Slice.Eq.{bytes_eq-Decides}
+use Rattle.certificate.specs.Nodes.{certs_of}
 use Rattle.element_tree.proofs.XmlTexts.{text_append}
 use Rattle.document_tags.specs.Characters.{NodesOfCharacters, IsOfCharacters}
 use Rattle.certificate.specs.declared.causes.Cause as why
@@ -11,15 +15,28 @@ use Rattle.osrl_grammar.specs.declared.elements.Place.{Place}
 use Rattle.osrl_grammar.specs.declared.elements.Place.TheVariants as places
 use Rattle.osrl_grammar.specs.declared.parts.Part.TheVariants as parts
 use Rattle.osrl_grammar.specs.declared.parts.Claiming.TheVariants as claiming
-use Rattle.osrl_grammar.specs.Saying.{when, only, optimal, unbounded, best_so_far, claiming_of}
+use Rattle.osrl_grammar.specs.declared.parts.TreeItem.TheVariants as trees
+use Rattle.osrl_grammar.specs.Items.{begins_level, is_level}
+use Rattle.osrl_grammar.specs.Adding.{first_level}
+use Rattle.osrl_grammar.specs.Saying.{when, only, with_rounds, optimal, unbounded, best_so_far, says_infeasible, level_or, type_of, claiming_of}
+use Rattle.osrl_grammar.specs.Words.{all_claimings}
+use Rattle.osrl_grammar.proofs.WordValues.{worded_is}
 use Rattle.osrl_grammar.proofs.BareTexts.{bare_of}
 use Rattle.tag_tests.specs.Characters.{kept}
 use Rattle.tag_tests.proofs.Forms.{taken_parts}
 use Rattle.tag_tests.proofs.Characters.{chars_leave}
 
--- THE NODES AND CAUSES that are held come back, and of the nodes there are at most so many
-abbrev HeldFits : ℕ → Held → Type 0
-HeldFits n h = (length h.tree ≤ n) × All NodeComesBack h.tree × All CauseComesBack h.causes
+-- THE NODES, ROUNDS AND CAUSES that are held come back, and of the nodes of all levels, and of the rounds, there are at most so many
+abbrev level_nodes : List Cert → List Node
+level_nodes cs = flat_map (λ (c : Cert). c.nodes) cs
+
+record HeldFits (n : ℕ) (h : Held) : Type 0 where
+  few : length (level_nodes h.levels) + length h.tree ≤ n
+  rounds : length h.rounds ≤ n
+  levels : All LevelComesBack h.levels
+  tree : All NodeComesBack h.tree
+  columns : All HaveColumns h.rounds
+  causes : All CauseComesBack h.causes
 
 mults_back : (ps : List (List ℕ)) (ms : List Mult) → AllZip IsMult ps ms → HaveColumns ms
 mults_back [] [] h = All-nil (λ (m : Mult). m.col < 2 ^ 32)
@@ -41,6 +58,7 @@ said_back (Split j k) [] h = absurd h
 said_back (Split j k) (c ∷ []) h = absurd h
 said_back (Split j k) (c ∷ b ∷ []) h = (h.0.1, h.1.1.0)
 said_back (Split j k) (c ∷ b ∷ d ∷ ps) h = absurd h
+said_back (Zero j) ps h = one_back ps j h
 said_back (Clash c) ps h = one_back ps c h
 said_back (Farkas ms) ps h = mults_back ps ms h
 said_back (Bound ms) ps h = mults_back ps ms h
@@ -57,12 +75,19 @@ why_back causes.Killed ps h = tt
 why_back causes.Length ps h = tt
 why_back causes.Memory ps h = tt
 
-node_back : (text : List ℕ) (n : Node) → IsNode text n → NodeComesBack n
+node_back : (text : List ℕ) (n : Node) → IsTreeItem text (trees.Node n) → NodeComesBack n
 node_back text n h = begun_says (pieces text) n h
   where
-    begun_says : (ps : List (List ℕ)) (n : Node) → Begins node_word node_head SaysNode ps n → NodeComesBack n
+    begun_says : (ps : List (List ℕ)) (n : Node) → Begins node_word tree_head SaysTree ps (trees.Node n) → NodeComesBack n
     begun_says [] n h = absurd h
     begun_says (p ∷ ps) n h = said_back n ps h.1
+
+round_back : (text : List ℕ) (ms : List Mult) → IsRound text ms → HaveColumns ms
+round_back text ms h = begun_says (pieces text) h
+  where
+    begun_says : (ps : List (List ℕ)) → IsRoundOf ps ms → HaveColumns ms
+    begun_says [] h = absurd h
+    begun_says (p ∷ ps) h = mults_back ps ms h.1
 
 cause_back : (text : List ℕ) (c : why.Cause) → IsCause text c → CauseComesBack c
 cause_back text c h = begun_says (pieces text) c h
@@ -75,71 +100,149 @@ one_more : {X : Type 0} (P : X → Type 0) (xs : List X) (x : X) → All P xs �
 one_more P xs x all here = All-append P xs (x ∷ []) all (All-cons P x [] here (All-nil P))
 
 held_more : (n m : ℕ) (h : Held) → n ≤ m → HeldFits n h → HeldFits m h
-held_more n m h less f = let few = f.0 in (omega (arith, few, less), f.1, f.2)
+held_more n m h less f = let few = f.few in let rounds = f.rounds in record { few = omega (arith, few, less); rounds = omega (arith, rounds, less); levels = f.levels; tree = f.tree; columns = f.columns; causes = f.causes }
+
+-- one node more, or the nodes of one level more
+node_added : (n : ℕ) (h : Held) (m : Node) → NodeComesBack m → HeldFits n h → HeldFits (suc n) (with_tree_item (trees.Node m) h)
+node_added n h m back f =
+    let few = f.few in let rounds = f.rounds in let long = length-append h.tree (m ∷ []) in
+    record { few = omega (arith, few, long); rounds = omega (arith, rounds); levels = f.levels; tree = one_more NodeComesBack h.tree m f.tree back; columns = f.columns; causes = f.causes }
+
+level_added : (n : ℕ) (h : Held) (l : ℕ) → HeldFits n h → HeldFits (suc n) (with_tree_item (trees.Level l) h)
+level_added n h l f =
+    let few = f.few in let rounds = f.rounds in
+    let long = ap length (flat_map-append (λ (c : Cert). c.nodes) h.levels (cert [] h.tree ∷ [])) ∙ length-append (level_nodes h.levels) (h.tree ++ []) in
+    let own = ap length (append-nil h.tree) in
+    record { few = omega (arith, few, long, own); rounds = omega (arith, rounds); levels = one_more LevelComesBack h.levels (cert [] h.tree) f.levels (refl, f.tree); tree = All-nil NodeComesBack; columns = f.columns; causes = f.causes }
+
+item_added : (said : List ℕ) (n : ℕ) (h : Held) (i : TreeItem) → IsTreeItem said i → HeldFits n h → HeldFits (suc n) (with_tree_item i h)
+item_added said n h (trees.Node m) is f = node_added n h m (node_back said m is) f
+item_added said n h (trees.Level l) is f = level_added n h l f
+
+same_fits : (n : ℕ) (h k : Held) → k.levels ≡ h.levels → k.tree ≡ h.tree → k.rounds ≡ h.rounds → k.causes ≡ h.causes → HeldFits n h → HeldFits (suc n) k
+same_fits n h k levels tree rounds causes f =
+    let few = f.few in let short = f.rounds in
+    record { few = rw (levels, tree) (omega (arith, few)); rounds = rw rounds (omega (arith, short)); levels = rw levels f.levels; tree = rw tree f.tree; columns = rw rounds f.columns; causes = rw causes f.causes }
 
 added_fits : (p : Part) (said : List ℕ) (n : ℕ) (h k : Held) → AddsItem p said h k → HeldFits n h → HeldFits (suc n) k
-added_fits parts.Tree said n h k a f =
-    let few = f.0 in
-    let long = length-append h.tree (a.0 ∷ []) in
-    subst (HeldFits (suc n)) (sym a.2) (omega (arith, few, long), one_more NodeComesBack h.tree a.0 f.1 (node_back said a.0 a.1), f.2)
-added_fits parts.Cause said n h k a f = let few = f.0 in subst (HeldFits (suc n)) (sym a.2) (omega (arith, few), f.1, one_more CauseComesBack h.causes a.0 f.2 (cause_back said a.0 a.1))
-added_fits parts.Point said n h k a f = subst (HeldFits (suc n)) (sym a.2) (held_more n (suc n) h (omega arith) f)
-added_fits parts.Value said n h k a f = subst (HeldFits (suc n)) (sym a.2) (held_more n (suc n) h (omega arith) f)
-added_fits parts.Ray said n h k a f = subst (HeldFits (suc n)) (sym a.2) (held_more n (suc n) h (omega arith) f)
+added_fits parts.Tree said n h k a f = subst (HeldFits (suc n)) (sym a.2) (item_added said n h a.0 a.1 f)
+added_fits parts.Rounds said n h k a f =
+    let few = f.few in let rounds = f.rounds in let long = length-append h.rounds (a.0 ∷ []) in
+    subst (HeldFits (suc n)) (sym a.2) (record { few = omega (arith, few); rounds = omega (arith, rounds, long); levels = f.levels; tree = f.tree; columns = one_more HaveColumns h.rounds a.0 f.columns (round_back said a.0 a.1); causes = f.causes })
+added_fits parts.Cause said n h k a f =
+    let few = f.few in let rounds = f.rounds in
+    subst (HeldFits (suc n)) (sym a.2) (record { few = omega (arith, few); rounds = omega (arith, rounds); levels = f.levels; tree = f.tree; columns = f.columns; causes = one_more CauseComesBack h.causes a.0 f.causes (cause_back said a.0 a.1) })
+added_fits parts.Point said n h k a f = subst (HeldFits (suc n)) (sym a.2) (same_fits n h _ refl refl refl refl f)
+added_fits parts.Value said n h k a f = subst (HeldFits (suc n)) (sym a.2) (same_fits n h _ refl refl refl refl f)
+added_fits parts.Ray said n h k a f = subst (HeldFits (suc n)) (sym a.2) (same_fits n h _ refl refl refl refl f)
 
 part_fits : (p : Part) (n : ℕ) (h : Held) → HeldFits n h → HeldFits n (with_part p h)
-part_fits parts.Point n h f = f
-part_fits p n h f = f
+part_fits parts.Point n h f = record { few = f.few; rounds = f.rounds; levels = f.levels; tree = f.tree; columns = f.columns; causes = f.causes }
+part_fits p n h f = record { few = f.few; rounds = f.rounds; levels = f.levels; tree = f.tree; columns = f.columns; causes = f.causes }
 
 -- THE CLAIM that is made of them
 abbrev pub nodes_in : Option Claim → List Node
 nodes_in None = []
 nodes_in (Some c) = nodes_of c
 
+abbrev pub certs_in : Option Claim → List Cert
+certs_in None = []
+certs_in (Some c) = certs_of c
+
+-- a certificate has at most so many rounds
+abbrev pub HasFew : ℕ → Cert → Type 0
+HasFew n c = length c.rounds ≤ n
+
 abbrev pub ClaimFits : ℕ → Option Claim → Type 0
-ClaimFits n o = (length (nodes_in o) ≤ n) × ClaimComesBack o
+ClaimFits n o = (length (nodes_in o) ≤ n) × All (HasFew n) (certs_in o) × ClaimComesBack o
 
 none_fits : (n : ℕ) → ClaimFits n None
-none_fits n = (omega arith, tt)
+none_fits n = (omega arith, All-nil (HasFew n), tt)
 
 only_back : (cs : List why.Cause) (c : why.Cause) → only cs ≡ Some c → All CauseComesBack cs → CauseComesBack c
 only_back (x ∷ []) c is all = let same : x ≡ c = cc in subst CauseComesBack same (All-head CauseComesBack x [] all)
 only_back [] c is all = absurd (cc)
 only_back (x ∷ y ∷ cs) c is all = absurd (cc)
 
-module _ (n : ℕ) (h : Held) (f : HeldFits n h) (some : h.has_tree ≡ true → 0 < length h.tree) where
-  optimal_fits : (x : Option (List Frac)) (v : Option Frac) (b : Bool) → h.has_tree ≡ b → ClaimFits n (optimal x v (when b h.tree))
-  optimal_fits (Some x) (Some v) true is = (f.0, (some is, f.1))
-  optimal_fits (Some x) (Some v) false is = none_fits n
-  optimal_fits (Some x) None b is = none_fits n
-  optimal_fits None v b is = none_fits n
+-- the trees of all levels: their nodes, their rounds, and that they come back
+nodes_kept : (rs : List (List Mult)) (cs : List Cert) → level_nodes (with_rounds rs cs) ≡ level_nodes cs
+nodes_kept rs [] = refl
+nodes_kept rs (c ∷ cs) = refl
 
-  infeasible_fits : (b : Bool) → h.has_tree ≡ b → ClaimFits n (option_map Infeasible (when b h.tree))
-  infeasible_fits true is = (f.0, (some is, f.1))
-  infeasible_fits false is = none_fits n
+bare_few : (n : ℕ) (cs : List Cert) → All LevelComesBack cs → All (HasFew n) cs
+bare_few n [] all = All-nil (HasFew n)
+bare_few n (c ∷ cs) all =
+    let none = ap length (All-head LevelComesBack c cs all).0 in
+    All-cons (HasFew n) c cs (omega (arith, none)) (bare_few n cs (All-tail LevelComesBack c cs all))
 
-  unbounded_fits : (x : Option (List Frac)) (v : Option Frac) (r : Option (List Frac)) → ClaimFits n (unbounded x v r)
-  unbounded_fits (Some x) (Some v) (Some r) = (omega arith, tt)
-  unbounded_fits x v r = none_fits n
+with_few : (n : ℕ) (rs : List (List Mult)) (cs : List Cert) → length rs ≤ n → All LevelComesBack cs → All (HasFew n) (with_rounds rs cs)
+with_few n rs [] few all = All-nil (HasFew n)
+with_few n rs (c ∷ cs) few all = All-cons (HasFew n) (cert rs c.nodes) cs few (bare_few n cs (All-tail LevelComesBack c cs all))
 
-  best_fits : (x : Option (List Frac)) (v : Option Frac) (c : Option why.Cause) → only h.causes ≡ c → ClaimFits n (best_so_far x v c)
-  best_fits (Some x) (Some v) (Some c) is = (omega arith, only_back h.causes c is f.2)
-  best_fits x v c is = none_fits n
+levels_back : (rs : List (List Mult)) (ls : List Cert) (ns : List Node) → All HaveColumns rs → All LevelComesBack ls → All NodeComesBack ns → 0 < length ls + length ns → HasTrees (certs rs ls ns)
+levels_back rs [] ns columns levels tree some = record { some = omega (arith, some); rounds = columns; first = tree; levels = All-nil LevelComesBack }
+levels_back rs (l ∷ ls) ns columns levels tree some =
+    let long = length-append ls (cert [] ns ∷ []) in
+    record { some = omega (arith, long); rounds = columns; first = (All-head LevelComesBack l ls levels).1; levels = one_more LevelComesBack ls (cert [] ns) (All-tail LevelComesBack l ls levels) (refl, tree) }
+
+pub may_have : (cs : List Cert) → HasTrees cs → MayHaveTrees cs
+may_have [] h = tt
+may_have (c ∷ cs) h = h
+
+module _ (n : ℕ) (h : Held) (f : HeldFits n h) (some : h.has_tree ≡ true → 0 < length h.levels + length h.tree) (values : h.has_value ≡ true → 0 < length h.values) where
+  all : List Cert
+  all = certs h.rounds h.levels h.tree
+
+  all_back : h.has_tree ≡ true → HasTrees all
+  all_back is = levels_back h.rounds h.levels h.tree f.columns f.levels f.tree (some is)
+
+  all_few : length (level_nodes all) ≤ n
+  all_few =
+      let kept = ap length (nodes_kept h.rounds (h.levels ++ cert [] h.tree ∷ [])) in
+      let long = ap length (flat_map-append (λ (c : Cert). c.nodes) h.levels (cert [] h.tree ∷ [])) ∙ length-append (level_nodes h.levels) (h.tree ++ []) in
+      let own = ap length (append-nil h.tree) in
+      let few = f.few in
+      omega (arith, kept, long, own, few)
+
+  all_rounds : All (HasFew n) all
+  all_rounds = with_few n h.rounds (h.levels ++ cert [] h.tree ∷ []) f.rounds (one_more LevelComesBack h.levels (cert [] h.tree) f.levels (refl, f.tree))
+
+  optimal_fits : (x : Option (List Frac)) (a b : Bool) → h.has_value ≡ a → h.has_tree ≡ b → ClaimFits n (optimal x (when a h.values) (when b (cond b all [])))
+  optimal_fits (Some x) true true value is = (all_few, all_rounds, (values value, all_back is))
+  optimal_fits (Some x) true false value is = none_fits n
+  optimal_fits (Some x) false b value is = none_fits n
+  optimal_fits None a b value is = none_fits n
+
+  infeasible_fits : (b : Bool) → h.has_tree ≡ b → h.levels ≡ [] → ClaimFits n (option_map Infeasible (when b (cert h.rounds h.tree)))
+  infeasible_fits true is none =
+      let few = f.few in let up = some is in let here = ap length none in let own = ap length (append-nil h.tree) in
+      (omega (arith, few, own), All-cons (HasFew n) (cert h.rounds h.tree) [] f.rounds (All-nil (HasFew n)), record { some = omega (arith, up, here); rounds = f.columns; first = f.tree; levels = All-nil LevelComesBack })
+  infeasible_fits false is none = none_fits n
+
+  unbounded_fits : (x : Option (List Frac)) (a b : Bool) (r : Option (List Frac)) → h.has_value ≡ a → h.has_tree ≡ b → ClaimFits n (unbounded x (when a h.values) (cond b all []) r)
+  unbounded_fits (Some x) true true (Some r) value is = (all_few, all_rounds, (values value, may_have all (all_back is)))
+  unbounded_fits (Some x) true false (Some r) value is = (omega arith, All-nil (HasFew n), (values value, tt))
+  unbounded_fits x a b r value is = none_fits n
+
+  best_fits : (x : Option (List Frac)) (a : Bool) (c : Option why.Cause) → h.has_value ≡ a → only h.causes ≡ c → ClaimFits n (best_so_far x (when a h.values) c)
+  best_fits (Some x) true (Some c) value is = (omega arith, All-nil (HasFew n), (values value, only_back h.causes c is f.causes))
+  best_fits x a c value is = none_fits n
 
   unsure_fits : (c : Option why.Cause) → only h.causes ≡ c → ClaimFits n (option_map Unsure c)
-  unsure_fits (Some c) is = (omega arith, only_back h.causes c is f.2)
+  unsure_fits (Some c) is = (omega arith, All-nil (HasFew n), only_back h.causes c is f.causes)
   unsure_fits None is = none_fits n
 
-  claim_fits : (k : Claiming) → ClaimFits n (claim_as h k)
-  claim_fits claiming.Optimal = optimal_fits (when h.has_point h.point) (only h.value) h.has_tree refl
-  claim_fits claiming.Infeasible = infeasible_fits h.has_tree refl
-  claim_fits claiming.Unbounded = unbounded_fits (when h.has_point h.point) (only h.value) (when h.has_ray h.ray)
-  claim_fits claiming.BestSoFar = best_fits (when h.has_point h.point) (only h.value) (only h.causes) refl
-  claim_fits claiming.Unsure = unsure_fits (only h.causes) refl
+  -- where a claim that no point is feasible has one level
+  claim_fits : (k : Claiming) → (k ≡ claiming.Infeasible → h.levels ≡ []) → ClaimFits n (claim_as h k)
+  claim_fits claiming.Optimal flat = optimal_fits (when h.has_point h.point) h.has_value h.has_tree refl refl
+  claim_fits claiming.Infeasible flat = infeasible_fits h.has_tree refl (flat refl)
+  claim_fits claiming.Unbounded flat = unbounded_fits (when h.has_point h.point) h.has_value h.has_tree (when h.has_ray h.ray) refl refl
+  claim_fits claiming.BestSoFar flat = best_fits (when h.has_point h.point) h.has_value (only h.causes) refl refl
+  claim_fits claiming.Unsure flat = unsure_fits (only h.causes) refl
 
-  claimed_fits : (k : Option Claiming) → ClaimFits n (option_and_then (claim_as h) k)
-  claimed_fits None = none_fits n
-  claimed_fits (Some k) = claim_fits k
+  claimed_fits : (k : Option Claiming) → (k ≡ Some claiming.Infeasible → h.levels ≡ []) → ClaimFits n (option_and_then (claim_as h) k)
+  claimed_fits None flat = none_fits n
+  claimed_fits (Some k) flat = claim_fits k (λ is. flat (ap (λ (c : Claiming). let o : Option Claiming = Some c in o) is))
 
 -- THE REPORT, and all that the marks leave
 pub record ReportFits (n : ℕ) (r : Report) : Type 0 where
@@ -147,8 +250,12 @@ pub record ReportFits (n : ℕ) (r : Report) : Type 0 where
   pub message : IsBareOrNone r.message
   pub claim : ClaimFits n r.claim
 
+-- where the solution may claim that no point is feasible, and no item begins with the word of a level, there is one level
+abbrev IsNoted : State → Type 0
+IsNoted s = says_infeasible true s.claiming ≡ true → s.level ≡ None → s.held.levels ≡ []
+
 abbrev pub Sound : ℕ → State → Type 0
-Sound n s = IsXmlText s.text × IsBareOrNone (nonempty s.job) × IsBareOrNone (nonempty s.message) × HeldFits n s.held × ReportFits n s.report
+Sound n s = IsXmlText s.text × IsBareOrNone (nonempty s.job) × IsBareOrNone (nonempty s.message) × HeldFits n s.held × ReportFits n s.report × IsNoted s
 
 said_claim : (n : ℕ) (b : Bool) (o p : Option Claim) → ClaimFits n o → cond b (option_map Some o) (Some None) ≡ Some p → ClaimFits n p
 said_claim n true (Some c) p fits is = let same : Some c ≡ p = cc in subst (ClaimFits n) same fits
@@ -164,26 +271,46 @@ reported_fits n (Some type) job message (Some status) None r is bare plain fits 
 reported_fits n (Some type) job message None claim r is bare plain fits = absurd (cc)
 reported_fits n None job message status claim r is bare plain fits = absurd (cc)
 
-report_fits : (n : ℕ) (s : State) (r : Report) → Sound n s → (s.held.has_tree ≡ true → 0 < length s.held.tree) → report_of s ≡ Some r → ReportFits n r
-report_fits n s r f some is =
-    reported_fits n s.general (nonempty s.job) (nonempty s.message) (status_of s) _ r is f.1 f.2 (λ o. said_claim n s.has_solution (option_and_then (claim_as s.held) (claiming_of s)) o (claimed_fits n s.held f.3 some (claiming_of s)))
+-- where all items are read, a claim that no point is feasible has one level
+said_infeasible : (unknown : Bool) (type : Option (List ℕ)) → option_and_then (worded claiming_text all_claimings) type ≡ Some claiming.Infeasible → says_infeasible unknown type ≡ true
+said_infeasible unknown None is = absurd (cc)
+said_infeasible unknown (Some type) is = (bytes_eq-Decides type (claiming_text claiming.Infeasible)).1 (worded_is claiming_text all_claimings type claiming.Infeasible is)
+
+none_noted : (b : Bool) (level : Option ℕ) (bad : Option BadItem) → (IsSome (cond b (level_or level bad) bad) → ⊥) → b ≡ true → level ≡ None
+none_noted b None bad read is = refl
+none_noted true (Some n) bad read is = absurd (read refl)
+none_noted false (Some n) bad read is = absurd (false≢true is)
+
+report_fits : (n : ℕ) (s : State) (r : Report) → Sound n s → (IsSome (bad_item s) → ⊥) → (s.held.has_tree ≡ true → 0 < length s.held.levels + length s.held.tree) → (s.held.has_value ≡ true → 0 < length s.held.values) → report_of s ≡ Some r → ReportFits n r
+report_fits n s r f read some values is =
+    let flat = λ (c : claiming_of s ≡ Some claiming.Infeasible). f.5 (said_infeasible true s.claiming c) (none_noted (says_infeasible false s.claiming) s.level s.bad read (said_infeasible false s.claiming c)) in
+    reported_fits n s.general (nonempty s.job) (nonempty s.message) (status_of s) _ r is f.1 f.2 (λ o. said_claim n s.has_solution (option_and_then (claim_as s.held) (claiming_of s)) o (claimed_fits n s.held f.3 some values (claiming_of s) flat))
 
 report_more : (n m : ℕ) (r : Report) → n ≤ m → ReportFits n r → ReportFits m r
-report_more n m r less f = let few = f.claim.0 in record { job = f.job; message = f.message; claim = (omega (arith, few, less), f.claim.1) }
+report_more n m r less f = let few = f.claim.0 in record { job = f.job; message = f.message; claim = (omega (arith, few, less), All-weaker (HasFew n) (HasFew m) (λ (c : Cert) short. omega (arith, short, less)) (certs_in r.claim) f.claim.1, f.claim.2) }
 
 no_text : IsXmlText []
 no_text = record { characters = []; each = tt; encoded = refl }
 
 none_held : (n : ℕ) → HeldFits n nothing_held
-none_held n = (omega arith, All-nil NodeComesBack, All-nil CauseComesBack)
+none_held n = record { few = omega arith; rounds = omega arith; levels = All-nil LevelComesBack; tree = All-nil NodeComesBack; columns = All-nil HaveColumns; causes = All-nil CauseComesBack }
 
 pub start_sound : Sound 0 start
-start_sound = (no_text, tt, tt, none_held 0, record { job = tt; message = tt; claim = none_fits 0 })
+start_sound = (no_text, tt, tt, none_held 0, record { job = tt; message = tt; claim = none_fits 0 }, (λ may none. refl))
+
+may_before : (old : Option (List ℕ)) (type : List ℕ) → says_infeasible true (first old type) ≡ true → says_infeasible true old ≡ true
+may_before None type may = refl
+may_before (Some t) type may = may
+
+part_levels : (p : Part) (h : Held) → (with_part p h).levels ≡ h.levels
+part_levels parts.Point h = refl
+part_levels p h = refl
 
 -- START TAGS AND CHARACTERS
 begun_sound : (n : ℕ) (s : State) (as' : List Attribute) (p : Place) → Sound n s → Sound n (begun s as' p)
-begun_sound n s as' (places.Result p) f = (no_text, f.1, f.2, part_fits p n s.held f.3, f.4)
-begun_sound n s as' p f = (no_text, f.1, f.2, f.3, f.4)
+begun_sound n s as' (places.Result p) f = (no_text, f.1, f.2, part_fits p n s.held f.3, f.4, (λ may none. part_levels p s.held ∙ f.5 may none))
+begun_sound n s as' places.SolutionStatus f = (no_text, f.1, f.2, f.3, f.4, (λ may none. f.5 (may_before s.claiming (type_of as') may) none))
+begun_sound n s as' p f = (no_text, f.1, f.2, f.3, f.4, f.5)
 
 led_sound : (n : ℕ) (s z : State) (as' : List Attribute) (l : Led Place) → Leaves s (begins l as') z → Sound n s → Sound n z
 led_sound n s z as' (led.To p) h f = subst (Sound n) (sym h) (begun_sound n s as' p f)
@@ -196,7 +323,36 @@ kept_xml false t cs before more = before
 
 chars_sound : (n : ℕ) (s z : State) (cs : List ℕ) → AreTaken osrl s (map Char cs) z → IsXmlText cs → Sound n s → Sound n z
 chars_sound n s z cs taken xml f =
-    subst (Sound n) (sym (chars_leave osrl (λ (t : List ℕ). record s { text = t }) (keeps s.depth s.place) (λ t c m takes. takes.1) s.text cs z taken)) (kept_xml (keeps s.depth s.place) s.text cs f.0 xml, f.1, f.2, f.3, f.4)
+    subst (Sound n) (sym (chars_leave osrl (λ (t : List ℕ). record s { text = t }) (keeps s.depth s.place) (λ t c m takes. takes.1) s.text cs z taken)) (kept_xml (keeps s.depth s.place) s.text cs f.0 xml, f.1, f.2, f.3, f.4, f.5)
+
+-- what was added of an item that was read
+reads_adds : (o : Option (List Field)) (k : Held) (P : Held → Type 0) → ReadsSo o (Ok k) P → P k
+reads_adds None k P h = absurd (cc)
+reads_adds (Some fs) k P h = h.2
+
+-- an item that begins a level begins with its word
+level_noted : (ps : List (List ℕ)) (l : ℕ) → Begins node_word tree_head SaysTree ps (trees.Level l) → begins_level ps ≡ true
+level_noted [] l h = absurd h
+level_noted (p ∷ ps) l h = (bytes_eq-Decides p (codes "level")).1 h.0
+
+first_none : (b : Bool) (old : Option ℕ) (n : ℕ) → first_level b old n ≡ None → (b ≡ false) × (old ≡ None)
+first_none true None n none = absurd (cc)
+first_none false None n none = (refl, refl)
+first_none b (Some m) n none = absurd (cc)
+
+both_so : (a b : Bool) → a ≡ true → a && b ≡ false → b ≡ true → ⊥
+both_so true true so not is = true≢false not
+both_so true false so not is = false≢true is
+both_so false b so not is = false≢true so
+
+added_noted : (p : Part) (text : List ℕ) (may : Bool) (level : Option ℕ) (n : ℕ) (h k : Held) → AddsItem p text h k → (may ≡ true → level ≡ None → h.levels ≡ []) → may ≡ true → first_level (may && is_level p text) level n ≡ None → k.levels ≡ []
+added_noted parts.Tree text may level n h k (trees.Level l, is, e) noted so none = absurd (both_so may (is_level parts.Tree text) so (first_none (may && is_level parts.Tree text) level n none).0 (level_noted (pieces text) l is))
+added_noted parts.Tree text may level n h k (trees.Node m, is, e) noted so none = ap (λ (g : Held). g.levels) e ∙ noted so (first_none (may && is_level parts.Tree text) level n none).1
+added_noted parts.Point text may level n h k a noted so none = ap (λ (g : Held). g.levels) a.2 ∙ noted so (first_none (may && false) level n none).1
+added_noted parts.Value text may level n h k a noted so none = ap (λ (g : Held). g.levels) a.2 ∙ noted so (first_none (may && false) level n none).1
+added_noted parts.Ray text may level n h k a noted so none = ap (λ (g : Held). g.levels) a.2 ∙ noted so (first_none (may && false) level n none).1
+added_noted parts.Rounds text may level n h k a noted so none = ap (λ (g : Held). g.levels) a.2 ∙ noted so (first_none (may && false) level n none).1
+added_noted parts.Cause text may level n h k a noted so none = ap (λ (g : Held). g.levels) a.2 ∙ noted so (first_none (may && false) level n none).1
 
 -- END TAGS: one node more at most, and what is reported has those before
 some_of : (n : ℕ) → ((0 < n → ⊥) → ⊥) → 0 < n
@@ -213,20 +369,31 @@ module _ (ground : TextsAreOfCharacters) where
 
   -- what only goes on
   on : (n : ℕ) (s z : State) → Sound n s → z ≡ s → Ended n z
-  on n s z f is = subst (Ended n) (sym is) ((f.0, f.1, f.2, held_more n (suc n) s.held (omega arith) f.3, report_more n (suc n) s.report (omega arith) f.4), f.4)
+  on n s z f is = subst (Ended n) (sym is) ((f.0, f.1, f.2, held_more n (suc n) s.held (omega arith) f.3, report_more n (suc n) s.report (omega arith) f.4, f.5), f.4)
 
-  end_sound : (n : ℕ) (s z : State) (p : Place) → AllPass (Fails s) (tests s (ends p)) → Ends s p z → Sound n s → Ended n z
-  end_sound n s z (places.Item p) pass h f =
-      subst (Ended n) (sym h.2) ((f.0, f.1, f.2, added_fits p s.text n s.held h.0 h.1 f.3, report_more n (suc n) s.report (omega arith) f.4), f.4)
+  -- an item, read or not
+  item_sound : (n : ℕ) (s z : State) (p : Part) (o : Option BadItem) → AfterItem o s p z → Sound n s → Ended n z
+  item_sound n s z p (Some b) h f = on n s z f h
+  item_sound n s z p None h f = subst (Ended n) (sym h.2) (added_sound h.0 h.1)
+    where
+      added_sound : (r : Result Held Misread) → IsItemRead p s.text s.held r → Ended n (with_read (noted s p) r)
+      added_sound (Err u) is = ((f.0, f.1, f.2, none_held (suc n), report_more n (suc n) s.report (omega arith) f.4, (λ may none. refl)), f.4)
+      added_sound (Ok k) (inl early) = absurd (let e : Ok k ≡ Err NoShape = early.1 in cc)
+      added_sound (Ok k) (inr reads) =
+          let adds = reads_adds (item_fields p s.text) k (λ (g : Held). AddsItem p s.text s.held g) reads.1 in
+          ((f.0, f.1, f.2, added_fits p s.text n s.held k adds f.3, report_more n (suc n) s.report (omega arith) f.4, added_noted p s.text (says_infeasible true s.claiming) s.level s.count s.held k adds f.5), f.4)
+
+  end_sound : (n : ℕ) (s z : State) (p : Place) → AllPass (Fails s) (tests (ends p)) → Ends s p z → Sound n s → Ended n z
+  end_sound n s z (places.Item p) pass h f = item_sound n (record s { place = around (places.Item p) }) z p s.bad h f
   end_sound n s z places.Osrl pass h f =
-      let r = report_fits n s h.0 f (λ is. some_of (length s.held.tree) (λ none. pass.1.1.0 (is, none))) h.1 in
-      subst (Ended n) (sym h.2) ((no_text, tt, tt, none_held (suc n), report_more n (suc n) h.0 (omega arith) r), r)
-  end_sound n s z places.JobId pass h f = on n (record s { place = around places.JobId; job = first s.job (trimmed s.text) }) z (f.0, kept_bare s.job s.text f.1 f.0, f.2, f.3, f.4) h
-  end_sound n s z places.Message pass h f = on n (record s { place = around places.Message; message = first s.message (trimmed s.text) }) z (f.0, f.1, kept_bare s.message s.text f.2 f.0, f.3, f.4) h
+      let r = report_fits n s h.0 f pass.0 (λ is. some_of (length s.held.levels + length s.held.tree) (λ none. pass.1.1.1.0 (is, none))) (λ is. some_of (length s.held.values) (λ none. pass.1.1.0 (is, none))) h.1 in
+      subst (Ended n) (sym h.2) ((no_text, tt, tt, none_held (suc n), report_more n (suc n) h.0 (omega arith) r, (λ may none. refl)), r)
+  end_sound n s z places.JobId pass h f = on n (record s { place = around places.JobId; job = first s.job (trimmed s.text) }) z (f.0, kept_bare s.job s.text f.1 f.0, f.2, f.3, f.4, f.5) h
+  end_sound n s z places.Message pass h f = on n (record s { place = around places.Message; message = first s.message (trimmed s.text) }) z (f.0, f.1, kept_bare s.message s.text f.2 f.0, f.3, f.4, f.5) h
   end_sound n s z places.JobStatus pass h f = on n (record s { place = around places.JobStatus; status = first s.status s.text }) z f h
   end_sound n s z p pass h f = on n (record s { place = around p }) z f h
 
-  close_sound : (n : ℕ) (s z : State) (d : ℕ) → AllPass (Fails s) (tests s (end_kind d s.place)) → Leaves s (end_kind d s.place) z → Sound n s → Ended n z
+  close_sound : (n : ℕ) (s z : State) (d : ℕ) → AllPass (Fails s) (tests (end_kind d s.place)) → Leaves s (end_kind d s.place) z → Sound n s → Ended n z
   close_sound n s z zero pass h f = end_sound n s z s.place pass h f
   close_sound n s z (suc d) pass h f = on n (record s { depth = s.depth - 1 }) z f h
 

@@ -26,7 +26,7 @@ pub led_over : (s : State) (name : List ℕ) (as' : List Attribute) → 0 < s.de
 led_over s name as' deep = over_from s.depth (leads s.place name as') deep
 
 abbrev IsTakenAs : State → State → Kind Place → Type 0
-IsTakenAs s z k = AllPass (Fails s) (tests s k) × Leaves s k z
+IsTakenAs s z k = AllPass (Fails s) (tests k) × Leaves s k z
 
 -- a start tag of an element that is read, and of one that is passed over
 pub start_in : (s : State) (name : List ℕ) (as' : List Attribute) (p : Place) → led_at s name as' ≡ To p → (z : State) → z ≡ begun s as' p → Takes osrl s (Start name as') z
@@ -43,7 +43,7 @@ end_over s name deep = subst (IsTakenAs s (record s { depth = s.depth - 1 })) (o
 pub end_in : {X : Type 0} (s z : State) (name : List ℕ) (r : Result X (Stop OsrlFault)) → s.depth ≤ 0 → EndsAt s s.place z r → StepsBy osrl s (Finish name) z r
 end_in s z name (Ok x) flat h = subst (IsTakenAs s z) (end_here s.depth s.place flat) h
 end_in s z name (Err Memory) flat h = tt
-end_in s z name (Err (Refused f)) flat h = subst (λ (k : Kind Place). FirstFails {R = OsrlFault} (Fails s) (told s) (tests s k) f) (end_here s.depth s.place flat) h
+end_in s z name (Err (Refused f)) flat h = subst (λ (k : Kind Place). FirstFails {R = OsrlFault} (Fails s) (told s) (tests k) f) (end_here s.depth s.place flat) h
 
 -- the same of what the code holds, which is that state
 pub end_at : {X : Type 0} (s u now z : State) (name : List ℕ) (r : Result X (Stop OsrlFault)) → s ≡ now → u ≡ now → s.depth ≤ 0 → EndsAt now u.place z r → StepsBy osrl now (Finish name) z r

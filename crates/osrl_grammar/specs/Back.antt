@@ -1,5 +1,5 @@
 -- The reports that come back from their texts.
-use Rattle.std.specs.Prelude.{◌≡◌, ◌≢◌, ℕ, ◌^◌, ◌<◌, ◌≤◌, unsigned_abs, Option, None, Some, List, [], length}
+use Rattle.std.specs.Prelude.{◌≡◌, ◌≢◌, ℕ, ◌+◌, ◌^◌, ◌<◌, ◌≤◌, unsigned_abs, Option, None, Some, List, [], ◌∷◌, length}
 use Rattle.std.specs.List.{All}
 use Rattle.tree_grammar.specs.Characters.{IsXmlText}
 use Rattle.document_tags.specs.Texts.{document_limit}
@@ -7,7 +7,8 @@ use Rattle.decimal_text.specs.Space.{trimmed}
 use Rattle.rational.specs.Width.{most}
 use Rattle.certificate.specs.declared.lists.Mult.{Mult}
 use Rattle.certificate.specs.declared.nodes.Node.{Node}
-use Rattle.certificate.specs.declared.nodes.Node.TheVariants.{Split, Clash, Farkas, Bound}
+use Rattle.certificate.specs.declared.nodes.Node.TheVariants.{Split, Zero, Clash, Farkas, Bound}
+use Rattle.certificate.specs.declared.nodes.Cert.{Cert}
 use Rattle.certificate.specs.declared.causes.Cause.{Cause}
 use Rattle.certificate.specs.declared.causes.Cause.TheVariants as causes
 use Rattle.certificate.specs.declared.claims.Claim.{Claim}
@@ -33,6 +34,7 @@ HaveColumns ms = All (λ m. m.col < 2 ^ 32) ms
 -- the numbers are of their types, and a split's isn't the least of its type, whose size no fraction has
 abbrev pub NodeComesBack : Node → Type 0
 NodeComesBack (Split j k) = (j < 2 ^ 32) × (unsigned_abs k ≤ most)
+NodeComesBack (Zero j) = j < 2 ^ 32
 NodeComesBack (Clash c) = c < 2 ^ 32
 NodeComesBack (Farkas ms) = HaveColumns ms
 NodeComesBack (Bound ms) = HaveColumns ms
@@ -46,16 +48,33 @@ CauseComesBack (causes.Wide p) = (p.node < 2 ^ 32) × (p.turn < 2 ^ 64)
 CauseComesBack causes.Length = Unit {0}
 CauseComesBack causes.Memory = Unit {0}
 
--- a tree has a node
-abbrev pub TreeComesBack : List Node → Type 0
-TreeComesBack ns = (0 < length ns) × All NodeComesBack ns
+-- a level behind the first has no rounds, and may have no node
+abbrev pub LevelComesBack : Cert → Type 0
+LevelComesBack c = (c.rounds ≡ []) × All NodeComesBack c.nodes
+
+-- the first tree has a node, or there are levels behind it
+pub record TreesComeBack (c : Cert) (cs : List Cert) : Type 0 where
+  pub some : 0 < length c.nodes + length cs
+  pub rounds : All HaveColumns c.rounds
+  pub first : All NodeComesBack c.nodes
+  pub levels : All LevelComesBack cs
+
+-- there are trees
+abbrev pub HasTrees : List Cert → Type 0
+HasTrees [] = ⊥
+HasTrees (c ∷ cs) = TreesComeBack c cs
+
+-- or none
+abbrev pub MayHaveTrees : List Cert → Type 0
+MayHaveTrees [] = Unit {0}
+MayHaveTrees (c ∷ cs) = TreesComeBack c cs
 
 abbrev pub ClaimComesBack : Option Claim → Type 0
 ClaimComesBack None = Unit {0}
-ClaimComesBack (Some (Optimal x v ns)) = TreeComesBack ns
-ClaimComesBack (Some (Infeasible ns)) = TreeComesBack ns
-ClaimComesBack (Some (Unbounded x v r)) = Unit {0}
-ClaimComesBack (Some (BestSoFar x v c)) = CauseComesBack c
+ClaimComesBack (Some (Optimal x vs cs)) = (0 < length vs) × HasTrees cs
+ClaimComesBack (Some (Infeasible c)) = TreesComeBack c []
+ClaimComesBack (Some (Unbounded x vs cs r)) = (0 < length vs) × MayHaveTrees cs
+ClaimComesBack (Some (BestSoFar x vs c)) = (0 < length vs) × CauseComesBack c
 ClaimComesBack (Some (Unsure c)) = CauseComesBack c
 
 -- the text is no longer than a document may be, and what the report says can be written and read

@@ -1,26 +1,24 @@
 -- When the tests of result documents fail.
-use Rattle.std.specs.Prelude.{◌≡◌, ℕ, ◌<◌, true, None}
+use Rattle.std.specs.Prelude.{◌≡◌, ℕ, ◌<◌, true, None, IsSome}
 use Rattle.osrl_grammar.specs.declared.parts.Part.{Part}
-use Rattle.osrl_grammar.specs.declared.parts.Part.TheVariants.{Point, Value, Ray, Tree, Cause}
-use Rattle.osrl_grammar.specs.Numbers.{IsBad, IsTooGreat}
+use Rattle.osrl_grammar.specs.declared.parts.Part.TheVariants.{Point, Value, Ray, Rounds, Tree, Cause}
 use Rattle.osrl_grammar.specs.Standing.{State}
-use Rattle.osrl_grammar.specs.Saying.{has, items, report_of}
-use Rattle.osrl_grammar.specs.Table.{Test, other_root, shapeless, bad, great, twice, miscounted, incomplete}
+use Rattle.osrl_grammar.specs.Saying.{has, items, bad_item, report_of}
+use Rattle.osrl_grammar.specs.Table.{Test, other_root, unread, twice, miscounted, incomplete}
 
 -- so many items may stand in a part
 abbrev pub MayHoldItems : Part → ℕ → Type 0
 MayHoldItems Point n = Unit {0}
-MayHoldItems Value n = n ≡ 1
+MayHoldItems Value n = 0 < n
 MayHoldItems Ray n = Unit {0}
+MayHoldItems Rounds n = Unit {0}
 MayHoldItems Tree n = 0 < n
 MayHoldItems Cause n = n ≡ 1
 
 -- WHEN EACH TEST FAILS
 abbrev pub Fails : State → Test → Type 0
 Fails s other_root = Unit {0}
-Fails s shapeless = Unit {0}
-Fails s (bad f) = IsBad f
-Fails s (great f) = IsTooGreat f
+Fails s unread = IsSome (bad_item s)
 Fails s twice = s.twice ≡ true
 Fails s (miscounted p) = (has s.held p ≡ true) × (MayHoldItems p (items s.held p) → ⊥)
 Fails s incomplete = report_of s ≡ None

@@ -1,11 +1,11 @@
 -- The items of a certificate's parts: the texts in them that stand for numbers, where they have their shapes. The form is the project's own.
-use Rattle.std.specs.Prelude.{◌≡◌, ℕ, Option, None, Some, option_map, Result, Ok, Err, List, [], ◌∷◌, ◌++◌, codes}
+use Rattle.std.specs.Prelude.{◌≡◌, ℕ, Bool, false, Option, None, Some, option_map, cond, bytes_eq, Result, Ok, Err, List, [], ◌∷◌, ◌++◌, codes}
 use Rattle.certificate.specs.declared.causes.Step.{Step}
 use Rattle.certificate.specs.declared.causes.Step.TheVariants as steps
 use Rattle.tag_tests.specs.Tests.{AllPass}
 use Rattle.tag_tests.specs.Fields.{OneFirst}
 use Rattle.osrl_grammar.specs.declared.parts.Part.{Part}
-use Rattle.osrl_grammar.specs.declared.parts.Part.TheVariants.{Tree, Cause}
+use Rattle.osrl_grammar.specs.declared.parts.Part.TheVariants.{Rounds, Tree, Cause}
 use Rattle.osrl_grammar.specs.declared.parts.NodeWord.{NodeWord}
 use Rattle.osrl_grammar.specs.declared.parts.NodeWord.TheVariants as nodes
 use Rattle.osrl_grammar.specs.declared.parts.CauseWord.{CauseWord}
@@ -18,15 +18,17 @@ use Rattle.osrl_grammar.specs.Words.{worded}
 use Rattle.osrl_grammar.specs.Numbers.{Kind, Index, Turn, Whole, Exact, Field, IsBad, IsTooGreat}
 use Rattle.osrl_grammar.specs.Pieces.{pieces, Pair, parted}
 
--- the words of nodes, of causes, and of steps
+-- the words of nodes and of what begins a level, of causes, of steps, and of rounds
 abbrev pub node_word : NodeWord → List ℕ
 node_word nodes.Split = codes "split"
+node_word nodes.Zero = codes "zero"
 node_word nodes.Clash = codes "clash"
 node_word nodes.Farkas = codes "farkas"
 node_word nodes.Bound = codes "bound"
+node_word nodes.Level = codes "level"
 
 abbrev pub all_node_words : List NodeWord
-all_node_words = nodes.Split ∷ nodes.Clash ∷ nodes.Farkas ∷ nodes.Bound ∷ []
+all_node_words = nodes.Split ∷ nodes.Zero ∷ nodes.Clash ∷ nodes.Farkas ∷ nodes.Bound ∷ nodes.Level ∷ []
 
 abbrev pub cause_word : CauseWord → List ℕ
 cause_word causes.Killed = codes "killed"
@@ -45,10 +47,14 @@ step_text steps.Ratio = codes "ratio"
 step_text steps.Pivot = codes "pivot"
 step_text steps.Point = codes "point"
 step_text steps.Ray = codes "ray"
+step_text steps.Round = codes "round"
 step_text steps.Check = codes "check"
 
 abbrev pub all_steps : List Step
-all_steps = steps.Values ∷ steps.Ratio ∷ steps.Pivot ∷ steps.Point ∷ steps.Ray ∷ steps.Check ∷ []
+all_steps = steps.Values ∷ steps.Ratio ∷ steps.Pivot ∷ steps.Point ∷ steps.Ray ∷ steps.Round ∷ steps.Check ∷ []
+
+abbrev pub round_word : List ℕ
+round_word = codes "round"
 
 abbrev pub field : Kind → List ℕ → Field
 field kind text = record { kind = kind; text = text }
@@ -88,9 +94,11 @@ place_fields ps = None
 
 abbrev pub node_behind : NodeWord → List (List ℕ) → Option (List Field)
 node_behind nodes.Split ps = two_fields Index Whole ps
+node_behind nodes.Zero ps = one_field Index ps
 node_behind nodes.Clash ps = one_field Index ps
 node_behind nodes.Farkas ps = mults_fields ps
 node_behind nodes.Bound ps = mults_fields ps
+node_behind nodes.Level ps = one_field Index ps
 
 abbrev pub cause_behind : CauseWord → List (List ℕ) → Option (List Field)
 cause_behind causes.Killed ps = no_field ps
@@ -109,8 +117,14 @@ abbrev pub worded_fields : {W : Type 0} → (W → List ℕ) → List W → (W �
 worded_fields {W} word all behind [] = None
 worded_fields {W} word all behind (p ∷ ps) = behind_word behind (worded word all p) ps
 
+-- of the pieces of a round
+abbrev pub round_fields : List (List ℕ) → Option (List Field)
+round_fields [] = None
+round_fields (p ∷ ps) = cond (bytes_eq p round_word) (mults_fields ps) None
+
 -- of an item of a part
 abbrev pub item_fields : Part → List ℕ → Option (List Field)
+item_fields Rounds text = round_fields (pieces text)
 item_fields Tree text = worded_fields node_word all_node_words node_behind (pieces text)
 item_fields Cause text = worded_fields cause_word all_cause_words cause_behind (pieces text)
 item_fields p text = Some (field Exact text ∷ [])
@@ -127,3 +141,12 @@ ReadsSo {A} (Some fs) (Ok a) Says = AllPass IsBad fs × AllPass IsTooGreat fs ×
 ReadsSo {A} (Some fs) (Err NoShape) Says = ⊥
 ReadsSo {A} (Some fs) (Err NoNumber) Says = OneFirst IsBad fs
 ReadsSo {A} (Some fs) (Err TooGreat) Says = AllPass IsBad fs × OneFirst IsTooGreat fs
+
+-- an item that begins with the word of a level
+abbrev pub begins_level : List (List ℕ) → Bool
+begins_level [] = false
+begins_level (p ∷ ps) = bytes_eq p (node_word nodes.Level)
+
+abbrev pub is_level : Part → List ℕ → Bool
+is_level Tree text = begins_level (pieces text)
+is_level p text = false

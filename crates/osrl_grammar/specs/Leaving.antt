@@ -2,9 +2,6 @@
 use Rattle.std.specs.Prelude.{◌≡◌, ℕ, zero, suc, ◌+◌, ◌-◌, Bool, true, false, ◌||◌, Option, None, Some, List, [], ◌∷◌, ◌++◌}
 use Rattle.tree_grammar.specs.Elements.{Attribute}
 use Rattle.decimal_text.specs.Space.{trimmed}
-use Rattle.fraction.specs.declared.frac.Frac.{Frac}
-use Rattle.certificate.specs.declared.nodes.Node.{Node}
-use Rattle.certificate.specs.declared.causes.Cause as why
 use Rattle.osrl_grammar.specs.declared.elements.Place.{Place}
 use Rattle.osrl_grammar.specs.declared.elements.Place.TheVariants.{Osrl, GeneralStatus, JobId, Message, JobStatus, Solution, SolutionStatus, Result, Item}
 use Rattle.tag_tests.specs.declared.places.Led.TheVariants.{To, Over, OtherRoot}
@@ -13,10 +10,10 @@ use Rattle.tag_tests.specs.Characters.{heard}
 use Rattle.osrl_grammar.specs.declared.report.Report.{Report}
 use Rattle.osrl_grammar.specs.declared.held.Held.{Held}
 use Rattle.osrl_grammar.specs.declared.parts.Part.{Part}
-use Rattle.osrl_grammar.specs.declared.parts.Part.TheVariants.{Point, Value, Ray, Tree, Cause}
-use Rattle.osrl_grammar.specs.Values.{IsFraction, IsNode, IsCause}
+use Rattle.osrl_grammar.specs.declared.parts.Part.TheVariants.{Point, Value, Ray, Rounds, Tree, Cause}
 use Rattle.osrl_grammar.specs.Standing.{State, start}
 use Rattle.osrl_grammar.specs.Saying.{type_of, has, report_of}
+use Rattle.osrl_grammar.specs.Adding.{AfterItem}
 use Rattle.osrl_grammar.specs.Table.{around}
 
 -- the first text stays
@@ -37,6 +34,7 @@ abbrev pub with_part : Part → Held → Held
 with_part Point h = record h { has_point = true }
 with_part Value h = record h { has_value = true }
 with_part Ray h = record h { has_ray = true }
+with_part Rounds h = record h { has_rounds = true }
 with_part Tree h = record h { has_tree = true }
 with_part Cause h = record h { has_cause = true }
 
@@ -61,17 +59,9 @@ abbrev pub keeps : ℕ → Place → Bool
 keeps zero p = is_text p
 keeps (suc d) p = false
 
--- an item of this text stands for what it says, and is added to those of its part
-abbrev pub AddsItem : Part → (said : List ℕ) → Held → Held → Type 0
-AddsItem Point said h k = (x : Frac) × IsFraction said x × (k ≡ record h { point = h.point ++ x ∷ [] })
-AddsItem Value said h k = (x : Frac) × IsFraction said x × (k ≡ record h { value = h.value ++ x ∷ [] })
-AddsItem Ray said h k = (x : Frac) × IsFraction said x × (k ≡ record h { ray = h.ray ++ x ∷ [] })
-AddsItem Tree said h k = (n : Node) × IsNode said n × (k ≡ record h { tree = h.tree ++ n ∷ [] })
-AddsItem Cause said h k = (c : why.Cause) × IsCause said c × (k ≡ record h { causes = h.causes ++ c ∷ [] })
-
 -- WHAT THE END TAG OF SUCH AN ELEMENT LEAVES; behind the root its report alone
 abbrev pub Ends : State → Place → State → Type 0
-Ends s (Item p) z = (k : Held) × AddsItem p s.text s.held k × (z ≡ record (out_of s (Item p)) { held = k })
+Ends s (Item p) z = AfterItem s.bad (out_of s (Item p)) p z
 Ends s Osrl z = (r : Report) × (report_of s ≡ Some r) × (z ≡ record start { report = r })
 Ends s JobId z = z ≡ record (out_of s JobId) { job = first s.job (trimmed s.text) }
 Ends s Message z = z ≡ record (out_of s Message) { message = first s.message (trimmed s.text) }

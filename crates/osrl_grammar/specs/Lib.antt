@@ -11,6 +11,7 @@ pub mod Grounds
 pub mod Words
 pub mod Standing
 pub mod Saying
+pub mod Adding
 pub mod Table
 pub mod Failing
 pub mod Leaving

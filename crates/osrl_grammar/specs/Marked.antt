@@ -13,7 +13,7 @@ use Rattle.osrl_grammar.specs.Leaving.{Leaves}
 
 -- THE FORM of result documents: the table, when its tests fail, and what a mark leaves
 abbrev pub osrl : Form State Mark Test OsrlFault
-osrl = record { tests = λ s m. tests s (kind s m); Fails = λ s m. Fails s; told = λ s m. told s; Becomes = λ s m z. Leaves s (kind s m) z }
+osrl = record { tests = λ s m. tests (kind s m); Fails = λ s m. Fails s; told = λ s m. told s; Becomes = λ s m z. Leaves s (kind s m) z }
 
 -- all are taken, and this is what they say
 abbrev pub IsReport : Element → Report → Type 0

@@ -1,9 +1,11 @@
 -- What the marks of a result document have said.
-use Rattle.std.specs.Prelude.{ℕ, Bool, true, false, Option, None, Some, option_map, option_and_then, unwrap_or, cond, bytes_eq, List, [], ◌∷◌, length, codes}
+use Rattle.std.specs.Prelude.{ℕ, ◌+◌, Bool, true, false, Option, None, Some, option_map, option_and_then, unwrap_or, cond, bytes_eq, List, [], ◌∷◌, ◌++◌, length, codes}
 use Rattle.tree_grammar.specs.Elements.{Attribute}
 use Rattle.document_tags.specs.Elements.{value_of, unless_empty}
 use Rattle.fraction.specs.declared.frac.Frac.{Frac}
+use Rattle.certificate.specs.declared.lists.Mult.{Mult}
 use Rattle.certificate.specs.declared.nodes.Node.{Node}
+use Rattle.certificate.specs.declared.nodes.Cert.{Cert}
 use Rattle.certificate.specs.declared.causes.Cause.{Cause}
 use Rattle.certificate.specs.declared.claims.Claim.{Claim}
 use Rattle.certificate.specs.declared.claims.Claim.TheVariants.{Optimal, Infeasible, Unbounded, BestSoFar, Unsure}
@@ -12,6 +14,8 @@ use Rattle.osrl_grammar.specs.declared.report.Report.{Report}
 use Rattle.osrl_grammar.specs.declared.held.Held.{Held}
 use Rattle.osrl_grammar.specs.declared.parts.Part.{Part}
 use Rattle.osrl_grammar.specs.declared.parts.Part.TheVariants as parts
+use Rattle.osrl_grammar.specs.declared.parts.Misread.TheVariants.{NoShape}
+use Rattle.osrl_grammar.specs.declared.parts.BadItem.{BadItem}
 use Rattle.osrl_grammar.specs.declared.parts.Claiming.{Claiming}
 use Rattle.osrl_grammar.specs.declared.parts.Claiming.TheVariants as claiming
 use Rattle.osrl_grammar.specs.Words.{status_text, all_statuses, claiming_text, all_claimings, worded}
@@ -21,19 +25,21 @@ use Rattle.osrl_grammar.specs.Standing.{State}
 abbrev pub type_of : List Attribute → List ℕ
 type_of as' = unwrap_or (value_of (codes "type") as') []
 
--- whether a part has begun, and how many items it has
+-- whether a part has begun, and how many items it has; of a tree's those of the latest level, and one for each before it
 abbrev pub has : Held → Part → Bool
 has h parts.Point = h.has_point
 has h parts.Value = h.has_value
 has h parts.Ray = h.has_ray
+has h parts.Rounds = h.has_rounds
 has h parts.Tree = h.has_tree
 has h parts.Cause = h.has_cause
 
 abbrev pub items : Held → Part → ℕ
 items h parts.Point = length h.point
-items h parts.Value = length h.value
+items h parts.Value = length h.values
 items h parts.Ray = length h.ray
-items h parts.Tree = length h.tree
+items h parts.Rounds = length h.rounds
+items h parts.Tree = length h.levels + length h.tree
 items h parts.Cause = length h.causes
 
 -- how far the job is, if one of the six words says it
@@ -43,6 +49,20 @@ status_of s = option_and_then (worded status_text all_statuses) s.status
 -- what the solution's status claims, if its type is one of the five
 abbrev pub claiming_of : State → Option Claiming
 claiming_of s = option_and_then (worded claiming_text all_claimings) s.claiming
+
+-- whether a solution whose status has this type claims that no point is feasible; where there is no status so far, as is said
+abbrev pub says_infeasible : Bool → Option (List ℕ) → Bool
+says_infeasible unknown None = unknown
+says_infeasible unknown (Some type) = bytes_eq type (claiming_text claiming.Infeasible)
+
+-- THE ITEM THAT ISN'T READ: in a solution that claims that no point is feasible, the first that begins with the word of a level; else the first that isn't one of its part
+
+abbrev pub level_or : Option ℕ → Option BadItem → Option BadItem
+level_or None bad = bad
+level_or (Some n) bad = Some (record { misread = NoShape; number = n })
+
+abbrev pub bad_item : State → Option BadItem
+bad_item s = cond (says_infeasible false s.claiming) (level_or s.level s.bad) s.bad
 
 -- the one of these, if there is just one
 abbrev pub only : {X : Type 0} → List X → Option X
@@ -54,25 +74,44 @@ abbrev pub when : {X : Type 0} → Bool → X → Option X
 when {X} true x = Some x
 when {X} false x = None
 
+-- A TREE FOR EACH LEVEL: those of the levels before the latest, and its nodes; the first has the rounds
+abbrev pub cert : List (List Mult) → List Node → Cert
+cert rs ns = record { rounds = rs; nodes = ns }
+
+abbrev pub with_rounds : List (List Mult) → List Cert → List Cert
+with_rounds rs [] = []
+with_rounds rs (c ∷ cs) = cert rs c.nodes ∷ cs
+
+abbrev pub certs : List (List Mult) → List Cert → List Node → List Cert
+certs rs before ns = with_rounds rs (before ++ cert [] ns ∷ [])
+
+-- none where there is no tree
+abbrev pub trees : Held → List Cert
+trees h = cond h.has_tree (certs h.rounds h.levels h.tree) []
+
+-- the number of the level that comes next
+abbrev pub next_level : Held → ℕ
+next_level h = length h.levels + 2
+
 -- a claim, if all its parts are there
-abbrev pub optimal : Option (List Frac) → Option Frac → Option (List Node) → Option Claim
-optimal (Some x) (Some v) (Some ns) = Some (Optimal x v ns)
-optimal x v ns = None
+abbrev pub optimal : Option (List Frac) → Option (List Frac) → Option (List Cert) → Option Claim
+optimal (Some x) (Some vs) (Some cs) = Some (Optimal x vs cs)
+optimal x vs cs = None
 
-abbrev pub unbounded : Option (List Frac) → Option Frac → Option (List Frac) → Option Claim
-unbounded (Some x) (Some v) (Some r) = Some (Unbounded x v r)
-unbounded x v r = None
+abbrev pub unbounded : Option (List Frac) → Option (List Frac) → List Cert → Option (List Frac) → Option Claim
+unbounded (Some x) (Some vs) cs (Some r) = Some (Unbounded x vs cs r)
+unbounded x vs cs r = None
 
-abbrev pub best_so_far : Option (List Frac) → Option Frac → Option Cause → Option Claim
-best_so_far (Some x) (Some v) (Some c) = Some (BestSoFar x v c)
-best_so_far x v c = None
+abbrev pub best_so_far : Option (List Frac) → Option (List Frac) → Option Cause → Option Claim
+best_so_far (Some x) (Some vs) (Some c) = Some (BestSoFar x vs c)
+best_so_far x vs c = None
 
 -- the claim of a solution with such a status, if its parts are there
 abbrev pub claim_as : Held → Claiming → Option Claim
-claim_as h claiming.Optimal = optimal (when h.has_point h.point) (only h.value) (when h.has_tree h.tree)
-claim_as h claiming.Infeasible = option_map Infeasible (when h.has_tree h.tree)
-claim_as h claiming.Unbounded = unbounded (when h.has_point h.point) (only h.value) (when h.has_ray h.ray)
-claim_as h claiming.BestSoFar = best_so_far (when h.has_point h.point) (only h.value) (only h.causes)
+claim_as h claiming.Optimal = optimal (when h.has_point h.point) (when h.has_value h.values) (when h.has_tree (trees h))
+claim_as h claiming.Infeasible = option_map Infeasible (when h.has_tree (cert h.rounds h.tree))
+claim_as h claiming.Unbounded = unbounded (when h.has_point h.point) (when h.has_value h.values) (trees h) (when h.has_ray h.ray)
+claim_as h claiming.BestSoFar = best_so_far (when h.has_point h.point) (when h.has_value h.values) (only h.causes)
 claim_as h claiming.Unsure = option_map Unsure (only h.causes)
 
 -- THE CLAIM, if there is one, where it can be told: not where a solution claims nothing, or a part isn't there

@@ -3,6 +3,7 @@ use Rattle.std.specs.Prelude.{ℕ, Bool, false, Option, None, List, []}
 use Rattle.osrl_grammar.specs.declared.report.Report.{Report}
 use Rattle.osrl_grammar.specs.declared.report.JobStatus.TheVariants.{Unknown}
 use Rattle.osrl_grammar.specs.declared.held.Held.{Held}
+use Rattle.osrl_grammar.specs.declared.parts.BadItem.{BadItem}
 use Rattle.osrl_grammar.specs.declared.elements.Place.{Place}
 use Rattle.osrl_grammar.specs.declared.elements.Place.TheVariants.{Outside}
 
@@ -22,6 +23,9 @@ pub record State : Type 0 where
   -- whether a solution has begun, and whether a second one, or a part of a certificate again
   pub has_solution : Bool
   pub twice : Bool
+  -- the number of the first item that begins with the word of a level, where the status isn't known to be of another type than `infeasible`; and the first item that isn't read, behind which no item says anything
+  pub level : Option ℕ
+  pub bad : Option BadItem
   -- what its parts hold
   pub held : Held
   -- behind the root what it reports
@@ -33,11 +37,14 @@ nothing_held = record {
   has_point = false;
   has_value = false;
   has_ray = false;
+  has_rounds = false;
   has_tree = false;
   has_cause = false;
   point = [];
-  value = [];
+  values = [];
   ray = [];
+  rounds = [];
+  levels = [];
   tree = [];
   causes = [];
 }
@@ -60,6 +67,8 @@ start = record {
   claiming = None;
   has_solution = false;
   twice = false;
+  level = None;
+  bad = None;
   held = nothing_held;
   report = nothing_said;
 }

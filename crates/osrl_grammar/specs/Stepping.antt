@@ -15,14 +15,15 @@ use Rattle.osrl_grammar.specs.declared.parts.Part.{Part}
 use Rattle.osrl_grammar.specs.declared.parts.Part.TheVariants.{Value, Tree, Cause}
 use Rattle.osrl_grammar.specs.declared.parts.Misread.{Misread}
 use Rattle.osrl_grammar.specs.Numbers.{Exact, Field, IsBad, IsTooGreat}
-use Rattle.osrl_grammar.specs.Items.{field, item_fields, ReadsSo}
+use Rattle.osrl_grammar.specs.Items.{field, ReadsSo}
 use Rattle.osrl_grammar.specs.Values.{IsFraction, IsMult}
 use Rattle.osrl_grammar.specs.Standing.{State}
 use Rattle.osrl_grammar.specs.Saying.{has, items}
 use Rattle.tag_tests.specs.Places.{ends}
 use Rattle.osrl_grammar.specs.Table.{tests, told}
 use Rattle.osrl_grammar.specs.Failing.{Fails, MayHoldItems}
-use Rattle.osrl_grammar.specs.Leaving.{AddsItem, Ends}
+use Rattle.osrl_grammar.specs.Adding.{IsItemRead}
+use Rattle.osrl_grammar.specs.Leaving.{Ends}
 
 -- a part that has begun has as many items as it may, and so have all, and nothing stands twice
 abbrev pub IsCounted : Held → Part → Type 0
@@ -39,12 +40,17 @@ ReadMults {X} done fs ms r = FieldsRead IsBad IsTooGreat fs r (λ x. AllZip IsMu
 abbrev pub ReadsNumber : {X E : Type 0} → List ℕ → List Frac → List Frac → Result (Result X Misread) E → Type 0
 ReadsNumber {X} {E} said old new result = IfOk result (λ r. ReadsSo (Some (field Exact said ∷ [])) r (λ x. (y : Frac) × IsFraction said y × (new ≡ old ++ y ∷ [])))
 
+-- what the parts hold then, where it was read
+abbrev pub as_held : {X : Type 0} → Held → Result X Misread → Result Held Misread
+as_held {X} k (Ok x) = Ok k
+as_held {X} k (Err u) = Err u
+
 -- an item was read of this text and added, or this is wrong with it; the other error is want of memory
 abbrev pub ReadsItem : {X E : Type 0} → Part → List ℕ → Held → Held → Result (Result X Misread) E → Type 0
-ReadsItem {X} {E} p said h k result = IfOk result (λ r. ReadsSo (item_fields p said) r (λ x. AddsItem p said h k))
+ReadsItem {X} {E} p said h k result = IfOk result (λ r. IsItemRead p said h (as_held k r))
 
 -- the end tag of an element that is read is taken, or refused; or there was no memory
 abbrev pub EndsAt : {X : Type 0} → State → Place → State → Result X (Stop OsrlFault) → Type 0
-EndsAt {X} s p z (Ok x) = AllPass (Fails s) (tests s (ends p)) × Ends s p z
+EndsAt {X} s p z (Ok x) = AllPass (Fails s) (tests (ends p)) × Ends s p z
 EndsAt {X} s p z (Err Memory) = Unit {0}
-EndsAt {X} s p z (Err (Refused f)) = FirstFails {R = OsrlFault} (Fails s) (told s) (tests s (ends p)) f
+EndsAt {X} s p z (Err (Refused f)) = FirstFails {R = OsrlFault} (Fails s) (told s) (tests (ends p)) f

@@ -9,16 +9,15 @@ use Rattle.tag_tests.specs.declared.places.Led.{Led}
 use Rattle.tag_tests.specs.declared.places.Led.TheVariants.{To, Over, OtherRoot}
 use Rattle.tag_tests.specs.Places.{Child, child, among, led_from, Kind, begins, text, ends, end_kind}
 use Rattle.osrl_grammar.specs.declared.parts.Part.{Part}
-use Rattle.osrl_grammar.specs.declared.parts.Part.TheVariants.{Point, Value, Ray, Tree, Cause}
+use Rattle.osrl_grammar.specs.declared.parts.Part.TheVariants.{Point, Value, Ray, Rounds, Tree, Cause}
+use Rattle.osrl_grammar.specs.declared.parts.BadItem.{BadItem}
 use Rattle.osrl_grammar.specs.declared.parts.Misread.{Misread}
 use Rattle.osrl_grammar.specs.declared.parts.Misread.TheVariants.{NoShape, NoNumber, TooGreat}
 use Rattle.osrl_grammar.specs.declared.fault.OsrlFault.{OsrlFault}
 use Rattle.osrl_grammar.specs.declared.fault.OsrlFault.TheVariants as refusals
-use Rattle.tag_tests.specs.Fields.{field_tests}
 use Rattle.osrl_grammar.specs.Words.{part_name}
-use Rattle.osrl_grammar.specs.Numbers.{Field}
-use Rattle.osrl_grammar.specs.Items.{item_fields}
 use Rattle.osrl_grammar.specs.Standing.{State}
+use Rattle.osrl_grammar.specs.Saying.{bad_item}
 
 -- WHAT IS READ IN WHAT: the child elements of these names
 abbrev pub content : Place → List (Child Place)
@@ -33,7 +32,7 @@ content p = []
 
 -- the results that are read, by what their attribute `name` says
 abbrev pub parts : List (Child Place)
-parts = child (part_name Point) (Result Point) ∷ child (part_name Value) (Result Value) ∷ child (part_name Ray) (Result Ray) ∷ child (part_name Tree) (Result Tree) ∷ child (part_name Cause) (Result Cause) ∷ []
+parts = child (part_name Point) (Result Point) ∷ child (part_name Value) (Result Value) ∷ child (part_name Ray) (Result Ray) ∷ child (part_name Rounds) (Result Rounds) ∷ child (part_name Tree) (Result Tree) ∷ child (part_name Cause) (Result Cause) ∷ []
 
 -- all else is passed over; a root of another name is that of no result document
 abbrev pub otherwise : Place → Led Place
@@ -84,36 +83,32 @@ kind s (Finish name) = end_kind s.depth s.place
 
 pub data Test : Type 0 where
   other_root : Test
-  shapeless : Test
-  bad : Field → Test
-  great : Field → Test
+  unread : Test
   twice : Test
   miscounted : Part → Test
   incomplete : Test
 
--- THE TESTS OF EACH KIND, in the order in which they refuse. Root, at the start tag of the root. Item, Number, Wide, at the end tag of an item: it isn't of its shape, a text in it is no number, a number is too great. Count, at the end tag of the root: a second solution, or a part of one name twice; a value or a cause has not just one item, a tree none. Then Missing: there is no general status, no job's status of the six, no solution's status of the five, or not each part that its claim has.
-abbrev pub item_tests : Option (List Field) → List Test
-item_tests None = shapeless ∷ []
-item_tests (Some fs) = field_tests bad great fs
+-- THE TESTS OF EACH KIND, in the order in which they refuse. Root, at the start tag of the root. At its end tag, by which the solution's status is known: Item, Number, Wide, for an item that isn't read. Count: a second solution, or a part of one name twice; a cause has not just one item, a value or a tree none. Then Missing: there is no general status, no job's status of the six, no solution's status of the five, or not each part that its claim has.
+abbrev pub tests : Kind Place → List Test
+tests (begins OtherRoot as') = other_root ∷ []
+tests (ends Osrl) = unread ∷ twice ∷ miscounted Value ∷ miscounted Tree ∷ miscounted Cause ∷ incomplete ∷ []
+tests k = []
 
-abbrev pub tests : State → Kind Place → List Test
-tests s (begins OtherRoot as') = other_root ∷ []
-tests s (ends (Item p)) = item_tests (item_fields p s.text)
-tests s (ends Osrl) = twice ∷ miscounted Value ∷ miscounted Tree ∷ miscounted Cause ∷ incomplete ∷ []
-tests s k = []
-
--- the refusal of the n-th item for this reason
+-- the refusal of the n-th item: it isn't of its shape, a text in it is no number, a number is too great
 abbrev pub item_refusal : Misread → ℕ → OsrlFault
 item_refusal NoShape n = refusals.Item n
 item_refusal NoNumber n = refusals.Number n
 item_refusal TooGreat n = refusals.Wide n
 
+-- where no item is refused, any
+abbrev pub refusal_of : Option BadItem → OsrlFault
+refusal_of None = refusals.Item 0
+refusal_of (Some b) = item_refusal b.misread b.number
+
 -- HOW A TEST REFUSES
 abbrev pub told : State → Test → OsrlFault
 told s other_root = refusals.Root
-told s shapeless = item_refusal NoShape s.count
-told s (bad f) = item_refusal NoNumber s.count
-told s (great f) = item_refusal TooGreat s.count
+told s unread = refusal_of (bad_item s)
 told s twice = refusals.Count
 told s (miscounted p) = refusals.Count
 told s incomplete = refusals.Missing

@@ -1,7 +1,7 @@
--- What items stand for: numbers, nodes and causes.
+-- What items stand for: numbers, rounds, nodes, what begins a level, and causes.
 use Rattle.std.specs.Prelude.{◌≡◌, ℕ, pos, Option, None, Some, List, [], ◌∷◌}
 use Rattle.std.specs.List.{AllZip}
-use Rattle.rational.specs.Ratio.{whole}
+use Rattle.rational.specs.Ratio.{Ratio, whole}
 use Rattle.fraction.specs.Frac.{ratio}
 use Rattle.fraction.specs.declared.frac.Frac.{Frac}
 use Rattle.certificate.specs.declared.lists.Mult.{Mult}
@@ -14,9 +14,13 @@ use Rattle.osrl_grammar.specs.declared.parts.NodeWord.{NodeWord}
 use Rattle.osrl_grammar.specs.declared.parts.NodeWord.TheVariants as heads
 use Rattle.osrl_grammar.specs.declared.parts.CauseWord.{CauseWord}
 use Rattle.osrl_grammar.specs.declared.parts.CauseWord.TheVariants as reasons
-use Rattle.osrl_grammar.specs.Numbers.{Index, Turn, Whole, Exact, IsNumberText}
+use Rattle.osrl_grammar.specs.declared.parts.TreeItem.{TreeItem}
+use Rattle.osrl_grammar.specs.declared.parts.TreeItem.TheVariants as trees
+use Rattle.osrl_grammar.specs.Numbers.{Index, Turn, Whole, Exact, WritesNumber, IsNumberText}
 use Rattle.osrl_grammar.specs.Pieces.{pieces, Pair, parted}
-use Rattle.osrl_grammar.specs.Items.{node_word, cause_word, step_text}
+use Rattle.osrl_grammar.specs.declared.parts.Part.{Part}
+use Rattle.osrl_grammar.specs.declared.parts.Part.TheVariants.{Tree}
+use Rattle.osrl_grammar.specs.Items.{node_word, cause_word, step_text, round_word}
 
 abbrev pub IsFraction : List ℕ → Frac → Type 0
 IsFraction text x = IsNumberText Exact text (ratio x)
@@ -47,6 +51,7 @@ IsPlace ps p = ⊥
 -- the word of a node, and the pieces behind it
 abbrev pub node_head : Node → NodeWord
 node_head (nodes.Split j k) = heads.Split
+node_head (nodes.Zero j) = heads.Zero
 node_head (nodes.Clash c) = heads.Clash
 node_head (nodes.Farkas ms) = heads.Farkas
 node_head (nodes.Bound ms) = heads.Bound
@@ -54,9 +59,19 @@ node_head (nodes.Bound ms) = heads.Bound
 abbrev pub SaysNode : Node → List (List ℕ) → Type 0
 SaysNode (nodes.Split j k) (c ∷ b ∷ []) = IsIndex c j × IsNumberText Whole b (whole k)
 SaysNode (nodes.Split j k) ps = ⊥
+SaysNode (nodes.Zero j) ps = IsOne ps j
 SaysNode (nodes.Clash c) ps = IsOne ps c
 SaysNode (nodes.Farkas ms) ps = AllZip IsMult ps ms
 SaysNode (nodes.Bound ms) ps = AllZip IsMult ps ms
+
+-- the word of an item of a tree, and the pieces behind it: a node, or the number of the level that begins
+abbrev pub tree_head : TreeItem → NodeWord
+tree_head (trees.Node n) = node_head n
+tree_head (trees.Level l) = heads.Level
+
+abbrev pub SaysTree : TreeItem → List (List ℕ) → Type 0
+SaysTree (trees.Node n) ps = SaysNode n ps
+SaysTree (trees.Level l) ps = IsOne ps l
 
 -- the word of why a search stopped, and the pieces behind it
 abbrev pub cause_head : why.Cause → CauseWord
@@ -82,8 +97,26 @@ abbrev pub Begins : {W X : Type 0} → (W → List ℕ) → (X → W) → (X →
 Begins {W} {X} word head Says [] x = ⊥
 Begins {W} {X} word head Says (p ∷ ps) x = (p ≡ word (head x)) × Says x ps
 
-abbrev pub IsNode : List ℕ → Node → Type 0
-IsNode text n = Begins node_word node_head SaysNode (pieces text) n
+abbrev pub IsTreeItem : List ℕ → TreeItem → Type 0
+IsTreeItem text i = Begins node_word tree_head SaysTree (pieces text) i
+
+-- behind the word of rounds
+abbrev pub IsRoundOf : List (List ℕ) → List Mult → Type 0
+IsRoundOf [] ms = ⊥
+IsRoundOf (p ∷ ps) ms = (p ≡ round_word) × AllZip IsMult ps ms
+
+abbrev pub IsRound : List ℕ → List Mult → Type 0
+IsRound text ms = IsRoundOf (pieces text) ms
 
 abbrev pub IsCause : List ℕ → why.Cause → Type 0
 IsCause text c = Begins cause_word cause_head SaysCause (pieces text) c
+
+-- pieces that begin a level whose number is written, and isn't l
+abbrev pub IsLevelBut : ℕ → List (List ℕ) → Type 0
+IsLevelBut l (p ∷ k ∷ []) = (p ≡ node_word heads.Level) × (x : Ratio) × WritesNumber Index k x × (x ≡ whole (pos l) → ⊥)
+IsLevelBut l ps = ⊥
+
+-- an item of a tree that begins a level out of order, where l comes next
+abbrev pub IsOutOfOrder : ℕ → Part → List ℕ → Type 0
+IsOutOfOrder l Tree text = IsLevelBut l (pieces text)
+IsOutOfOrder l p text = ⊥

@@ -3,7 +3,7 @@ use Rattle.std.specs.Prelude.{ℕ, Option, None, Some, cond, bytes_eq, List, [],
 use Rattle.osrl_grammar.specs.declared.report.JobStatus.{JobStatus}
 use Rattle.osrl_grammar.specs.declared.report.JobStatus.TheVariants as statuses
 use Rattle.osrl_grammar.specs.declared.parts.Part.{Part}
-use Rattle.osrl_grammar.specs.declared.parts.Part.TheVariants.{Point, Value, Ray, Tree, Cause}
+use Rattle.osrl_grammar.specs.declared.parts.Part.TheVariants.{Point, Value, Ray, Rounds, Tree, Cause}
 use Rattle.osrl_grammar.specs.declared.parts.Claiming.{Claiming}
 use Rattle.osrl_grammar.specs.declared.parts.Claiming.TheVariants.{Optimal, Infeasible, Unbounded, BestSoFar, Unsure}
 
@@ -40,5 +40,6 @@ abbrev pub part_name : Part → List ℕ
 part_name Point = codes "os_cert.point"
 part_name Value = codes "os_cert.value"
 part_name Ray = codes "os_cert.ray"
+part_name Rounds = codes "os_cert.rounds"
 part_name Tree = codes "os_cert.tree"
 part_name Cause = codes "os_cert.cause"

@@ -9,7 +9,8 @@ use Rattle.fraction.specs.declared.frac.Frac.{Frac}
 use Rattle.decimal_text.specs.Exact.{ratio_text}
 use Rattle.certificate.specs.declared.lists.Mult.{Mult}
 use Rattle.certificate.specs.declared.nodes.Node.{Node}
-use Rattle.certificate.specs.declared.nodes.Node.TheVariants.{Split, Clash, Farkas, Bound}
+use Rattle.certificate.specs.declared.nodes.Node.TheVariants.{Split, Zero, Clash, Farkas, Bound}
+use Rattle.certificate.specs.declared.nodes.Cert.{Cert}
 use Rattle.certificate.specs.declared.causes.Cause.{Cause}
 use Rattle.certificate.specs.declared.causes.Cause.TheVariants as causes
 use Rattle.certificate.specs.declared.claims.Claim.{Claim}
@@ -21,7 +22,7 @@ use Rattle.osrl_grammar.specs.declared.parts.Part.{Part}
 use Rattle.osrl_grammar.specs.declared.parts.Part.TheVariants as parts
 use Rattle.osrl_grammar.specs.declared.parts.Claiming.{Claiming}
 use Rattle.osrl_grammar.specs.declared.parts.Claiming.TheVariants as claiming
-use Rattle.osrl_grammar.specs.Items.{step_text}
+use Rattle.osrl_grammar.specs.Items.{step_text, round_word}
 use Rattle.osrl_grammar.specs.Words.{part_name}
 use Rattle.osrl_grammar.specs.Words.{claiming_text, status_text}
 
@@ -49,22 +50,28 @@ values_part_unless_none name list none more = more
 values_part_unless_none name list (element n attributes children behind) more = values_part name list (element n attributes children behind) more
 values_part_unless_none name list (chars text behind) more = values_part name list (chars text behind) more
 
--- the values of the variables and of the objective, and then more
-abbrev pub point_values : List Frac → Frac → Nodes → Nodes
-point_values x v more = values_part (codes "variables") (codes "values") (variable_values 0 x) (values_part (codes "objectives") (codes "values") (indexed (codes "obj") (codes "-1") v none) more)
+-- the values of the objectives from the k-th on, whose indices are below 0
+abbrev pub goal_values : ℕ → List Frac → Nodes
+goal_values k [] = none
+goal_values k (v ∷ vs) = indexed (codes "obj") (45 ∷ decimal k) v (goal_values (k + 1) vs)
+
+-- the values of the variables and of the objectives, and then more
+abbrev pub point_values : List Frac → List Frac → Nodes → Nodes
+point_values x vs more = values_part (codes "variables") (codes "values") (variable_values 0 x) (values_part (codes "objectives") (codes "values") (goal_values 1 vs) more)
 
 -- the multipliers of rows, where there are any, and then more
 abbrev pub rows_part : ℕ → List Mult → Nodes → Nodes
 rows_part n ms more = values_part_unless_none (codes "constraints") (codes "dualValues") (row_values n ms) more
 
--- the dual values, which stand where the tree is one leaf that bounds the objective, and then more
-abbrev pub dual_values : ℕ → List Node → Nodes → Nodes
-dual_values n [] more = more
-dual_values n (Split j k ∷ ns) more = more
-dual_values n (Clash c ∷ ns) more = more
-dual_values n (Farkas ms ∷ ns) more = more
-dual_values n (Bound ms ∷ []) more = rows_part n ms more
-dual_values n (Bound ms ∷ m ∷ ns) more = more
+-- those of a tree, where it is one leaf that bounds the objective, and there is no round, and then more
+abbrev pub tree_values : ℕ → List (List Mult) → List Node → Nodes → Nodes
+tree_values n [] (Bound ms ∷ []) more = rows_part n ms more
+tree_values n rs ns more = more
+
+-- the dual values, which stand where there is one objective and one tree, and then more
+abbrev pub dual_values : ℕ → List Frac → List Cert → Nodes → Nodes
+dual_values n (v ∷ []) (c ∷ []) more = tree_values n c.rounds c.nodes more
+dual_values n vs cs more = more
 
 -- a column and its multiplier behind a space
 abbrev pub mult_text : Mult → List ℕ
@@ -72,9 +79,22 @@ mult_text m = 32 ∷ (decimal m.col ++ (58 ∷ ratio_text (ratio m.value)))
 
 abbrev pub node_text : Node → List ℕ
 node_text (Split j k) = codes "split " ++ (decimal j ++ (32 ∷ signed_decimal k))
+node_text (Zero j) = codes "zero " ++ decimal j
 node_text (Clash c) = codes "clash " ++ decimal c
 node_text (Farkas ms) = codes "farkas" ++ flat_map mult_text ms
 node_text (Bound ms) = codes "bound" ++ flat_map mult_text ms
+
+abbrev pub round_text : List Mult → List ℕ
+round_text ms = round_word ++ flat_map mult_text ms
+
+-- what begins the k-th level
+abbrev pub level_text : ℕ → List ℕ
+level_text k = codes "level " ++ decimal k
+
+-- the texts of the trees of the levels from the k-th on, each behind what begins its level
+abbrev pub level_texts : ℕ → List Cert → List (List ℕ)
+level_texts k [] = []
+level_texts k (c ∷ cs) = level_text k ∷ (map node_text c.nodes ++ level_texts (k + 1) cs)
 
 abbrev pub cause_text : Cause → List ℕ
 cause_text causes.Killed = codes "killed"
@@ -96,15 +116,26 @@ certificate_part p texts more = element (codes "otherSolutionResult") (only (cod
 abbrev pub fraction_texts : List Frac → List (List ℕ)
 fraction_texts xs = map (λ x. ratio_text (ratio x)) xs
 
--- a point and its value, and then more
-abbrev pub point_parts : List Frac → Frac → Nodes → Nodes
-point_parts x v more = certificate_part parts.Point (fraction_texts x) (certificate_part parts.Value (fraction_texts (v ∷ [])) more)
+-- a point and its values, and then more
+abbrev pub point_parts : List Frac → List Frac → Nodes → Nodes
+point_parts x vs more = certificate_part parts.Point (fraction_texts x) (certificate_part parts.Value (fraction_texts vs) more)
 
-abbrev pub ray_part : List Frac → Nodes
-ray_part r = certificate_part parts.Ray (fraction_texts r) none
+abbrev pub ray_part : List Frac → Nodes → Nodes
+ray_part r more = certificate_part parts.Ray (fraction_texts r) more
 
-abbrev pub tree_part : List Node → Nodes
-tree_part ns = certificate_part parts.Tree (map node_text ns) none
+-- rounds, where there are any, and then more
+abbrev pub rounds_part : List (List Mult) → Nodes → Nodes
+rounds_part [] more = more
+rounds_part (r ∷ rs) more = certificate_part parts.Rounds (map round_text (r ∷ rs)) more
+
+-- the first tree with its rounds, and those of the levels behind it
+abbrev pub tree_parts : Cert → List Cert → Nodes
+tree_parts c cs = rounds_part c.rounds (certificate_part parts.Tree (map node_text c.nodes ++ level_texts 2 cs) none)
+
+-- the trees of all levels, where there are any
+abbrev pub trees_parts : List Cert → Nodes
+trees_parts [] = none
+trees_parts (c ∷ cs) = tree_parts c cs
 
 abbrev pub cause_part : Cause → Nodes
 cause_part c = certificate_part parts.Cause (cause_text c ∷ []) none
@@ -114,10 +145,10 @@ abbrev pub solution : Claiming → (certificate : Nodes) → (values : Nodes →
 solution c certificate values = typed (codes "status") (claiming_text c) (values (group (codes "otherSolutionResults") certificate none))
 
 abbrev pub claim_nodes : Claim → Nodes
-claim_nodes (Optimal x v ns) = solution claiming.Optimal (point_parts x v (tree_part ns)) (λ more. point_values x v (dual_values (length x) ns more))
-claim_nodes (Infeasible ns) = solution claiming.Infeasible (tree_part ns) (λ more. more)
-claim_nodes (Unbounded x v r) = solution claiming.Unbounded (point_parts x v (ray_part r)) (point_values x v)
-claim_nodes (BestSoFar x v c) = solution claiming.BestSoFar (point_parts x v (cause_part c)) (point_values x v)
+claim_nodes (Optimal x vs cs) = solution claiming.Optimal (point_parts x vs (trees_parts cs)) (λ more. point_values x vs (dual_values (length x) vs cs more))
+claim_nodes (Infeasible c) = solution claiming.Infeasible (tree_parts c []) (λ more. more)
+claim_nodes (Unbounded x vs cs r) = solution claiming.Unbounded (point_parts x vs (ray_part r (trees_parts cs))) (point_values x vs)
+claim_nodes (BestSoFar x vs c) = solution claiming.BestSoFar (point_parts x vs (cause_part c)) (point_values x vs)
 claim_nodes (Unsure c) = solution claiming.Unsure (cause_part c) (λ more. more)
 
 -- a text in an element of this name, if there is one, and then more

@@ -1,21 +1,21 @@
 //! Tells the parts of a claim's certificate.
 
-ghost use Rattle.std.specs.Prelude.{◌≡◌, [], ◌∷◌, OnOk, map, codes};
+ghost use Rattle.std.specs.Prelude.{◌≡◌, ◌++◌, [], ◌∷◌, OnOk, map, codes};
 ghost use Rattle.tree_grammar.specs.Elements.{none, nodes_events};
 ghost use Rattle.document_tags.specs.Writing as nodes;
 ghost use Rattle.osrl_grammar.specs.Writing as writing;
 ghost use Rattle.osrl_grammar.specs.Words as named;
 ghost use Rattle.document_tags.specs.Telling.{Told, opening};
 
-use crate::item_texts::{cause_text, node_text};
+use crate::item_texts::{cause_text, level_text, node_text, round_text};
 use crate::parts::{Part, part_name};
-use certificate::{Cause, Node};
+use certificate::{Cause, Cert, Mults, Node};
 use decimal_text::write_ratio;
 use document_tags::{close, leaf, open_with};
 use element_tree::TreeBuilder;
 use fraction::Frac;
 use os_io::{Memory, Text};
-use std::alloc::Global;
+use std::alloc::{AllocError, Global};
 
 /// Tells an item that holds a number.
 fn tell_fraction(alloc: Global, b: &mut TreeBuilder, value: Frac) -> Result<(), Memory>
@@ -73,14 +73,86 @@ pub(crate) fn tell_numbers(
     close(b, b"otherSolutionResult")
 }
 
-/// Tells a tree of cases.
-pub(crate) fn tell_tree(alloc: Global, b: &mut TreeBuilder, nodes: &[Node]) -> Result<(), Memory>
+/// Tells items that hold rounds.
+fn tell_round_items(alloc: Global, b: &mut TreeBuilder, rounds: &[Mults]) -> Result<(), Memory>
     requires { b.old.attributes ≡ [] }
-    ensures { OnOk result (Told b.old b.new (λ k. nodes_events (writing.tree_part nodes.now) k)) }
+    ensures { OnOk result (Told b.old b.new (nodes_events (writing.item_nodes (map writing.round_text rounds.now)))) }
 {
-    open_part(b, Part::Tree)?;
-    tell_nodes(alloc, b, nodes)?;
+    for round in rounds {
+        let text = round_text(alloc, round.as_slice())?;
+        leaf(b, b"item", text.as_slice())?;
+    }
+    Ok(())
+}
+
+/// Tells the rounds of a certificate, if it has some.
+fn tell_rounds(alloc: Global, b: &mut TreeBuilder, rounds: &[Mults]) -> Result<(), Memory>
+    requires { b.old.attributes ≡ [] }
+    ensures { OnOk result (Told b.old b.new (λ k. nodes_events (writing.rounds_part rounds.now none) k)) }
+{
+    if rounds.is_empty() {
+        return Ok(());
+    }
+    open_part(b, Part::Rounds)?;
+    tell_round_items(alloc, b, rounds)?;
     close(b, b"otherSolutionResult")
+}
+
+/// Tells a level and the nodes of its tree.
+fn tell_level(
+    alloc: Global,
+    b: &mut TreeBuilder,
+    level: usize,
+    nodes: &[Node],
+) -> Result<(), Memory>
+    requires { b.old.attributes ≡ [] }
+    ensures { OnOk result (Told b.old b.new (nodes_events (writing.item_nodes (writing.level_text level ∷ map writing.node_text nodes.now)))) }
+{
+    let text = level_text(alloc, level)?;
+    leaf(b, b"item", text.as_slice())?;
+    tell_nodes(alloc, b, nodes)
+}
+
+/// Tells the levels behind the first.
+fn tell_levels(alloc: Global, b: &mut TreeBuilder, later: &[Cert]) -> Result<(), Memory>
+    requires { b.old.attributes ≡ [] }
+    ensures { OnOk result (Told b.old b.new (nodes_events (writing.item_nodes (writing.level_texts 2 later.now)))) }
+{
+    for i in 0..later.len() {
+        let Some(level) = i.checked_add(2) else {
+            return Err(AllocError);
+        };
+        tell_level(alloc, b, level, later[i].nodes.as_slice())?;
+    }
+    Ok(())
+}
+
+/// Tells the first tree with its rounds, and those of the levels behind it.
+pub(crate) fn tell_trees(
+    alloc: Global,
+    b: &mut TreeBuilder,
+    first: &Cert,
+    later: &[Cert],
+) -> Result<(), Memory>
+    requires { b.old.attributes ≡ [] }
+    ensures { OnOk result (Told b.old b.new (λ k. nodes_events (writing.tree_parts first.now later.now) k)) }
+{
+    tell_rounds(alloc, b, first.rounds.as_slice())?;
+    open_part(b, Part::Tree)?;
+    tell_nodes(alloc, b, first.nodes.as_slice())?;
+    tell_levels(alloc, b, later)?;
+    close(b, b"otherSolutionResult")
+}
+
+/// Tells the trees of all levels, if there are some.
+pub(crate) fn tell_certs(alloc: Global, b: &mut TreeBuilder, certs: &[Cert]) -> Result<(), Memory>
+    requires { b.old.attributes ≡ [] }
+    ensures { OnOk result (Told b.old b.new (λ k. nodes_events (writing.trees_parts certs.now) k)) }
+{
+    if certs.is_empty() {
+        return Ok(());
+    }
+    tell_trees(alloc, b, &certs[0], &certs[1..])
 }
 
 /// Tells why a search stopped.
@@ -94,16 +166,16 @@ pub(crate) fn tell_cause(alloc: Global, b: &mut TreeBuilder, cause: Cause) -> Re
     close(b, b"otherSolutionResult")
 }
 
-/// Tells a point and its value.
+/// Tells a point and its values.
 pub(crate) fn tell_point(
     alloc: Global,
     b: &mut TreeBuilder,
     point: &[Frac],
-    value: Frac,
+    values: &[Frac],
 ) -> Result<(), Memory>
     requires { b.old.attributes ≡ [] }
-    ensures { OnOk result (Told b.old b.new (λ k. nodes_events (writing.point_parts point.now value none) k)) }
+    ensures { OnOk result (Told b.old b.new (λ k. nodes_events (writing.point_parts point.now values.now none) k)) }
 {
     tell_numbers(alloc, b, Part::Point, point)?;
-    tell_numbers(alloc, b, Part::Value, &[value])
+    tell_numbers(alloc, b, Part::Value, values)
 }

@@ -8,12 +8,12 @@ ghost use Rattle.osrl_grammar.specs.Writing as writing;
 ghost use Rattle.osrl_grammar.specs.Words as words;
 ghost use Rattle.document_tags.specs.Telling.{Told, whole_element};
 
-use crate::certificates::{tell_cause, tell_numbers, tell_point, tell_tree};
+use crate::certificates::{tell_cause, tell_certs, tell_numbers, tell_point, tell_trees};
 use crate::parts::{Claiming, Part};
 use crate::report::{JobStatus, Report};
 use crate::values::{tell_dual_values, tell_point_values};
 use crate::words::Worded;
-use certificate::{Cause, Claim, Node};
+use certificate::{Cause, Cert, Claim};
 use document_tags::{close, leaf, leaf_with, open, open_with, told_text};
 use element_tree::TreeBuilder;
 use fraction::Frac;
@@ -41,29 +41,29 @@ fn tell_optimal(
     alloc: Global,
     b: &mut TreeBuilder,
     point: &[Frac],
-    value: Frac,
-    tree: &[Node],
+    values: &[Frac],
+    certs: &[Cert],
 ) -> Result<(), Memory>
     requires { b.old.attributes ≡ [] }
-    ensures { OnOk result (Told b.old b.new (nodes_events (writing.claim_nodes (Optimal point.now value tree.now)))) }
+    ensures { OnOk result (Told b.old b.new (nodes_events (writing.claim_nodes (Optimal point.now values.now certs.now)))) }
 {
     tell_status(b, Claiming::Optimal)?;
-    tell_point_values(alloc, b, point, value)?;
-    tell_dual_values(alloc, b, point.len(), tree)?;
+    tell_point_values(alloc, b, point, values)?;
+    tell_dual_values(alloc, b, point.len(), values, certs)?;
     open(b, b"otherSolutionResults")?;
-    tell_point(alloc, b, point, value)?;
-    tell_tree(alloc, b, tree)?;
+    tell_point(alloc, b, point, values)?;
+    tell_certs(alloc, b, certs)?;
     close(b, b"otherSolutionResults")
 }
 
 /// Tells the solution of a claim that no point is feasible.
-fn tell_infeasible(alloc: Global, b: &mut TreeBuilder, tree: &[Node]) -> Result<(), Memory>
+fn tell_infeasible(alloc: Global, b: &mut TreeBuilder, cert: &Cert) -> Result<(), Memory>
     requires { b.old.attributes ≡ [] }
-    ensures { OnOk result (Told b.old b.new (nodes_events (writing.claim_nodes (Infeasible tree.now)))) }
+    ensures { OnOk result (Told b.old b.new (nodes_events (writing.claim_nodes (Infeasible cert.now)))) }
 {
     tell_status(b, Claiming::Infeasible)?;
     open(b, b"otherSolutionResults")?;
-    tell_tree(alloc, b, tree)?;
+    tell_trees(alloc, b, cert, &[])?;
     close(b, b"otherSolutionResults")
 }
 
@@ -72,17 +72,19 @@ fn tell_unbounded(
     alloc: Global,
     b: &mut TreeBuilder,
     point: &[Frac],
-    value: Frac,
+    values: &[Frac],
+    certs: &[Cert],
     ray: &[Frac],
 ) -> Result<(), Memory>
     requires { b.old.attributes ≡ [] }
-    ensures { OnOk result (Told b.old b.new (nodes_events (writing.claim_nodes (Unbounded point.now value ray.now)))) }
+    ensures { OnOk result (Told b.old b.new (nodes_events (writing.claim_nodes (Unbounded point.now values.now certs.now ray.now)))) }
 {
     tell_status(b, Claiming::Unbounded)?;
-    tell_point_values(alloc, b, point, value)?;
+    tell_point_values(alloc, b, point, values)?;
     open(b, b"otherSolutionResults")?;
-    tell_point(alloc, b, point, value)?;
+    tell_point(alloc, b, point, values)?;
     tell_numbers(alloc, b, Part::Ray, ray)?;
+    tell_certs(alloc, b, certs)?;
     close(b, b"otherSolutionResults")
 }
 
@@ -91,16 +93,16 @@ fn tell_best_so_far(
     alloc: Global,
     b: &mut TreeBuilder,
     point: &[Frac],
-    value: Frac,
+    values: &[Frac],
     cause: Cause,
 ) -> Result<(), Memory>
     requires { b.old.attributes ≡ [] }
-    ensures { OnOk result (Told b.old b.new (nodes_events (writing.claim_nodes (BestSoFar point.now value cause)))) }
+    ensures { OnOk result (Told b.old b.new (nodes_events (writing.claim_nodes (BestSoFar point.now values.now cause)))) }
 {
     tell_status(b, Claiming::BestSoFar)?;
-    tell_point_values(alloc, b, point, value)?;
+    tell_point_values(alloc, b, point, values)?;
     open(b, b"otherSolutionResults")?;
-    tell_point(alloc, b, point, value)?;
+    tell_point(alloc, b, point, values)?;
     tell_cause(alloc, b, cause)?;
     close(b, b"otherSolutionResults")
 }
@@ -122,18 +124,36 @@ fn tell_claim(alloc: Global, b: &mut TreeBuilder, claim: &Claim) -> Result<(), M
     ensures { OnOk result (Told b.old b.new (nodes_events (writing.claim_nodes claim.now))) }
 {
     match claim {
-        Claim::Optimal { point, value, cert } => {
-            tell_optimal(alloc, b, point.as_slice(), *value, cert.as_slice())
-        }
-        Claim::Infeasible { cert } => tell_infeasible(alloc, b, cert.as_slice()),
-        Claim::Unbounded { point, value, ray } => {
-            tell_unbounded(alloc, b, point.as_slice(), *value, ray.as_slice())
-        }
+        Claim::Optimal {
+            point,
+            values,
+            certs,
+        } => tell_optimal(
+            alloc,
+            b,
+            point.as_slice(),
+            values.as_slice(),
+            certs.as_slice(),
+        ),
+        Claim::Infeasible { cert } => tell_infeasible(alloc, b, cert),
+        Claim::Unbounded {
+            point,
+            values,
+            certs,
+            ray,
+        } => tell_unbounded(
+            alloc,
+            b,
+            point.as_slice(),
+            values.as_slice(),
+            certs.as_slice(),
+            ray.as_slice(),
+        ),
         Claim::BestSoFar {
             point,
-            value,
+            values,
             cause,
-        } => tell_best_so_far(alloc, b, point.as_slice(), *value, *cause),
+        } => tell_best_so_far(alloc, b, point.as_slice(), values.as_slice(), *cause),
         Claim::Unsure { cause } => tell_unsure(alloc, b, *cause),
     }
 }

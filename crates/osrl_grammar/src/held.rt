@@ -1,34 +1,43 @@
 //! What the parts of a claim's certificate hold.
 
-ghost use Rattle.std.specs.Prelude.{◌≡◌, ◌↔◌, IsTrue, option_map};
+ghost use Rattle.std.specs.Prelude.{◌≡◌, ◌↔◌, IsTrue, IfOk, OnOk, cond, [], option_map};
 ghost use Rattle.certificate.specs.declared.claims.Claim.TheVariants.{Infeasible, Unsure};
 ghost use Rattle.osrl_grammar.specs.Standing.{nothing_held};
 ghost use Rattle.osrl_grammar.specs.Saying as saying;
 ghost use Rattle.osrl_grammar.specs.Failing.{MayHoldItems};
+ghost use Rattle.osrl_grammar.specs.Adding.{with_tree_item};
 ghost use Rattle.osrl_grammar.specs.Leaving.{with_part};
 ghost use Rattle.osrl_grammar.specs.Stepping.{IsCounted, ReadsItem, ReadsNumber};
 ghost use Rattle.osrl_grammar.specs.declared.parts.Part.TheVariants as parts;
 
-use crate::item_reading::{misread, read_cause, read_node};
+use crate::item_reading::{is_level_but, misread, read_cause, read_round, read_tree_item};
 use crate::numbers::read_exact;
-use crate::parts::{Claiming, Misread, Part};
-use certificate::{Cause, Cert, Claim, Point, Ray};
+use crate::parts::{Claiming, Misread, Part, TreeItem};
+use certificate::{Cause, Cert, Certs, Claim, Nodes, Point, Ray, Rounds, Values};
 use fraction::Frac;
 use items::Items;
 use std::alloc::{AllocError, Global};
+use std::mem;
 
-/// The parts of a certificate that have begun, and their items.
+/// The most levels that are held.
+const MOST_LEVELS: usize = 16_777_216;
+
+/// The parts of a certificate that have begun, and their items: of its trees the nodes of the latest level, and the trees
+/// of the levels before it.
 #[derive(Drop)]
 pub(crate) struct Held {
     pub has_point: bool,
     pub has_value: bool,
     pub has_ray: bool,
+    pub has_rounds: bool,
     pub has_tree: bool,
     pub has_cause: bool,
     pub point: Point,
-    pub value: Items<Frac>,
+    pub values: Values,
     pub ray: Ray,
-    pub tree: Cert,
+    pub rounds: Rounds,
+    pub levels: Certs,
+    pub tree: Nodes,
     pub causes: Items<Cause>,
 }
 
@@ -60,9 +69,9 @@ fn may_hold(part: Part, count: usize) -> bool
     ensures { IsTrue result ↔ MayHoldItems part count }
 {
     match part {
-        Part::Point | Part::Ray => true,
-        Part::Value | Part::Cause => count == 1,
-        Part::Tree => count > 0,
+        Part::Point | Part::Ray | Part::Rounds => true,
+        Part::Value | Part::Tree => count > 0,
+        Part::Cause => count == 1,
     }
 }
 
@@ -73,14 +82,40 @@ fn when<T: Drop>(holds: bool, value: T) -> Option<T>
     if holds { Some(value) } else { None }
 }
 
+/// The certificates of all levels, of which the first has the rounds, where there is a tree.
+fn trees(
+    alloc: Global,
+    has_tree: bool,
+    rounds: Rounds,
+    levels: Certs,
+    tree: Nodes,
+) -> Result<Certs, AllocError>
+    ensures { IfOk result (λ cs. cs ≡ cond has_tree (saying.certs rounds levels tree) []) }
+{
+    if !has_tree {
+        return Ok(Certs::new(alloc));
+    }
+    let mut certs = levels.into_vec();
+    certs.push(Cert {
+        rounds: Rounds::new(alloc),
+        nodes: tree,
+    })?;
+    certs[0].rounds = rounds;
+    Ok(Items::of(certs))
+}
+
 /// The claim that a point is optimal, if its parts are there.
-fn optimal(point: Option<Point>, value: Option<Frac>, cert: Option<Cert>) -> Option<Claim>
-    ensures { result ≡ saying.optimal point value cert }
+fn optimal(point: Option<Point>, values: Option<Values>, certs: Option<Certs>) -> Option<Claim>
+    ensures { result ≡ saying.optimal point values certs }
 {
     let point = point?;
-    let value = value?;
-    let cert = cert?;
-    Some(Claim::Optimal { point, value, cert })
+    let values = values?;
+    let certs = certs?;
+    Some(Claim::Optimal {
+        point,
+        values,
+        certs,
+    })
 }
 
 /// The claim that no point is feasible, if its part is there.
@@ -104,25 +139,35 @@ fn unsure(cause: Option<Cause>) -> Option<Claim>
 }
 
 /// The claim that points have no best value, if its parts are there.
-fn unbounded(point: Option<Point>, value: Option<Frac>, ray: Option<Ray>) -> Option<Claim>
-    ensures { result ≡ saying.unbounded point value ray }
+fn unbounded(
+    point: Option<Point>,
+    values: Option<Values>,
+    certs: Certs,
+    ray: Option<Ray>,
+) -> Option<Claim>
+    ensures { result ≡ saying.unbounded point values certs ray }
 {
     let point = point?;
-    let value = value?;
+    let values = values?;
     let ray = ray?;
-    Some(Claim::Unbounded { point, value, ray })
+    Some(Claim::Unbounded {
+        point,
+        values,
+        certs,
+        ray,
+    })
 }
 
 /// The claim of the best point so far, if its parts are there.
-fn best_so_far(point: Option<Point>, value: Option<Frac>, cause: Option<Cause>) -> Option<Claim>
-    ensures { result ≡ saying.best_so_far point value cause }
+fn best_so_far(point: Option<Point>, values: Option<Values>, cause: Option<Cause>) -> Option<Claim>
+    ensures { result ≡ saying.best_so_far point values cause }
 {
     let point = point?;
-    let value = value?;
+    let values = values?;
     let cause = cause?;
     Some(Claim::BestSoFar {
         point,
-        value,
+        values,
         cause,
     })
 }
@@ -136,12 +181,15 @@ impl Held {
             has_point: false,
             has_value: false,
             has_ray: false,
+            has_rounds: false,
             has_tree: false,
             has_cause: false,
             point: Point::new(alloc),
-            value: Items::new(alloc),
+            values: Values::new(alloc),
             ray: Ray::new(alloc),
-            tree: Cert::new(alloc),
+            rounds: Rounds::new(alloc),
+            levels: Certs::new(alloc),
+            tree: Nodes::new(alloc),
             causes: Items::new(alloc),
         }
     }
@@ -154,21 +202,23 @@ impl Held {
             Part::Point => self.has_point,
             Part::Value => self.has_value,
             Part::Ray => self.has_ray,
+            Part::Rounds => self.has_rounds,
             Part::Tree => self.has_tree,
             Part::Cause => self.has_cause,
         }
     }
 
-    /// How many items a part has.
-    fn items(&self, part: Part) -> usize
-        ensures { result ≡ saying.items self.now part }
+    /// Whether a part has as many items as it may.
+    fn may_stand(&self, part: Part) -> bool
+        ensures { IsTrue result ↔ MayHoldItems part (saying.items self.now part) }
     {
         match part {
-            Part::Point => self.point.len(),
-            Part::Value => self.value.len(),
-            Part::Ray => self.ray.len(),
-            Part::Tree => self.tree.len(),
-            Part::Cause => self.causes.len(),
+            Part::Point => may_hold(part, self.point.len()),
+            Part::Value => may_hold(part, self.values.len()),
+            Part::Ray => may_hold(part, self.ray.len()),
+            Part::Rounds => may_hold(part, self.rounds.len()),
+            Part::Tree => self.levels.len() > 0 || self.tree.len() > 0,
+            Part::Cause => may_hold(part, self.causes.len()),
         }
     }
 
@@ -180,18 +230,58 @@ impl Held {
             Part::Point => self.has_point = true,
             Part::Value => self.has_value = true,
             Part::Ray => self.has_ray = true,
+            Part::Rounds => self.has_rounds = true,
             Part::Tree => self.has_tree = true,
             Part::Cause => self.has_cause = true,
         }
     }
 
-    /// Adds a node, if the text is one.
-    fn push_node(&mut self, alloc: Global, text: &[u8]) -> Result<Result<(), Misread>, AllocError>
+    /// Adds a round, if the text is one.
+    fn push_round(&mut self, alloc: Global, text: &[u8]) -> Result<Result<(), Misread>, AllocError>
+        ensures { ReadsItem parts.Rounds text.now self.old self.new result }
+    {
+        match read_round(alloc, text)? {
+            Ok(round) => {
+                self.rounds.push(round)?;
+                Ok(Ok(()))
+            }
+            Err(misread) => Ok(Err(misread)),
+        }
+    }
+
+    /// Adds a node to the latest level, or begins one behind it.
+    fn push_item(&mut self, alloc: Global, item: TreeItem) -> Result<(), AllocError>
+        ensures { OnOk result (self.new ≡ with_tree_item item self.old) }
+    {
+        match item {
+            TreeItem::Node(node) => self.tree.push(node),
+            TreeItem::Level(_) => {
+                let nodes = mem::replace(&mut self.tree, Nodes::new(alloc));
+                self.levels.push(Cert {
+                    rounds: Rounds::new(alloc),
+                    nodes,
+                })
+            }
+        }
+    }
+
+    /// Adds an item of a tree, if the text is one and begins no level out of order.
+    fn push_tree_item(
+        &mut self,
+        alloc: Global,
+        text: &[u8],
+    ) -> Result<Result<(), Misread>, AllocError>
         ensures { ReadsItem parts.Tree text.now self.old self.new result }
     {
-        match read_node(alloc, text)? {
-            Ok(node) => {
-                self.tree.push(node)?;
+        if self.levels.len() > MOST_LEVELS {
+            return Err(AllocError);
+        }
+        if is_level_but(text, self.levels.len() as u32 + 2) {
+            return Ok(Err(Misread::NoShape));
+        }
+        match read_tree_item(alloc, text)? {
+            Ok(item) => {
+                self.push_item(alloc, item)?;
                 Ok(Ok(()))
             }
             Err(misread) => Ok(Err(misread)),
@@ -222,9 +312,10 @@ impl Held {
     {
         match part {
             Part::Point => push_number(&mut self.point, text),
-            Part::Value => push_number(&mut self.value, text),
+            Part::Value => push_number(&mut self.values, text),
             Part::Ray => push_number(&mut self.ray, text),
-            Part::Tree => self.push_node(alloc, text),
+            Part::Rounds => self.push_round(alloc, text),
+            Part::Tree => self.push_tree_item(alloc, text),
             Part::Cause => self.push_cause(text),
         }
     }
@@ -233,34 +324,49 @@ impl Held {
     pub(crate) fn is_counted(&self, part: Part) -> bool
         ensures { IsTrue result ↔ IsCounted self.now part }
     {
-        !self.has(part) || may_hold(part, self.items(part))
+        !self.has(part) || self.may_stand(part)
     }
 
     /// The claim of a solution with such a status, if all parts are there that it needs.
-    pub(crate) fn claim(self, claiming: Claiming) -> Option<Claim>
-        ensures { result ≡ saying.claim_as self claiming }
+    pub(crate) fn claim(
+        self,
+        alloc: Global,
+        claiming: Claiming,
+    ) -> Result<Option<Claim>, AllocError>
+        ensures { IfOk result (λ c. c ≡ saying.claim_as self claiming) }
     {
         let Held {
             has_point,
+            has_value,
             has_ray,
             has_tree,
             point,
-            value,
+            values,
             ray,
+            rounds,
+            levels,
             tree,
             causes,
             ..
         } = self;
         let point = when(has_point, point);
-        let value = only(value.as_slice());
-        let cert = when(has_tree, tree);
+        let values = when(has_value, values);
         let cause = only(causes.as_slice());
         match claiming {
-            Claiming::Optimal => optimal(point, value, cert),
-            Claiming::Infeasible => infeasible(cert),
-            Claiming::Unbounded => unbounded(point, value, when(has_ray, ray)),
-            Claiming::BestSoFar => best_so_far(point, value, cause),
-            Claiming::Unsure => unsure(cause),
+            Claiming::Optimal => {
+                let certs = trees(alloc, has_tree, rounds, levels, tree)?;
+                Ok(optimal(point, values, when(has_tree, certs)))
+            }
+            Claiming::Infeasible => {
+                let nodes = tree;
+                Ok(infeasible(when(has_tree, Cert { rounds, nodes })))
+            }
+            Claiming::Unbounded => {
+                let certs = trees(alloc, has_tree, rounds, levels, tree)?;
+                Ok(unbounded(point, values, certs, when(has_ray, ray)))
+            }
+            Claiming::BestSoFar => Ok(best_so_far(point, values, cause)),
+            Claiming::Unsure => Ok(unsure(cause)),
         }
     }
 }

@@ -1,20 +1,21 @@
 //! The items of a certificate's parts.
 
-ghost use Rattle.std.specs.Prelude.{◌≡◌, ◌++◌, ◌∷◌, [], ℕ, List, Some, IfOk};
+ghost use Rattle.std.specs.Prelude.{◌≡◌, ◌↔◌, ◌++◌, ◌∷◌, [], ℕ, List, Some, IsTrue, IfOk, MatchOption, codes};
 ghost use Rattle.std.specs.List.{AllZip};
 ghost use Rattle.tag_tests.specs.Fields.{FieldsRead};
 ghost use Rattle.osrl_grammar.specs.declared.parts.Part.TheVariants as parts;
+ghost use Rattle.osrl_grammar.specs.declared.parts.NodeWord as kinds;
 ghost use Rattle.osrl_grammar.specs.declared.parts.NodeWord.TheVariants as heads;
 ghost use Rattle.osrl_grammar.specs.Words.{worded};
 ghost use Rattle.osrl_grammar.specs.Numbers.{Index, Field, IsBad, IsTooGreat};
-ghost use Rattle.osrl_grammar.specs.Pieces.{more};
+ghost use Rattle.osrl_grammar.specs.Pieces.{more, pieces};
 ghost use Rattle.osrl_grammar.specs.Items as items;
 ghost use Rattle.osrl_grammar.specs.Items.{ReadsSo, pair_fields, mults_fields};
-ghost use Rattle.osrl_grammar.specs.Values.{IsMult, IsMultOf, IsOne, IsPlace, Behind, node_head, SaysNode, IsNode, cause_head, SaysCause, IsCause};
+ghost use Rattle.osrl_grammar.specs.Values.{IsMult, IsMultOf, IsOne, IsPlace, Behind, node_head, SaysNode, tree_head, SaysTree, IsTreeItem, IsRound, IsLevelBut, cause_head, SaysCause, IsCause};
 ghost use Rattle.osrl_grammar.specs.Stepping.{ReadMults};
 
 use crate::numbers::{read_exact, read_index, read_turn, read_whole};
-use crate::parts::{CauseWord, Misread, NodeWord};
+use crate::parts::{CauseWord, Misread, NodeWord, TreeItem};
 use crate::pieces::{first_piece, one_piece, parted, three_pieces, two_pieces};
 use crate::words::with_word;
 use certificate::{Cause, Mult, Mults, Node, Place, Step};
@@ -106,6 +107,16 @@ fn read_split(rest: Option<&[u8]>) -> Result<Node, Misread>
     }
 }
 
+/// A variable that is 0 or between its ends, behind its word.
+fn read_zero(rest: Option<&[u8]>) -> Result<Node, Misread>
+    ensures { ReadsSo (items.node_behind heads.Zero (more rest.entry)) result (Behind node_head SaysNode heads.Zero (more rest.entry)) }
+{
+    match read_one(rest) {
+        Ok(col) => Ok(Node::Zero { col }),
+        Err(misread) => Err(misread),
+    }
+}
+
 /// A clash behind its word.
 fn read_clash(rest: Option<&[u8]>) -> Result<Node, Misread>
     ensures { ReadsSo (items.node_behind heads.Clash (more rest.entry)) result (Behind node_head SaysNode heads.Clash (more rest.entry)) }
@@ -136,55 +147,128 @@ fn bound(mults: Result<Mults, Misread>) -> Result<Node, Misread>
     }
 }
 
-/// A node behind its word.
-fn node_of(
-    alloc: Global,
-    word: NodeWord,
-    rest: Option<&[u8]>,
-) -> Result<Result<Node, Misread>, Memory>
-    ensures { IfOk result (λ r. ReadsSo (items.node_behind word (more rest.entry)) r (Behind node_head SaysNode word (more rest.entry))) }
+/// The number of a level behind its word.
+fn read_level(rest: Option<&[u8]>) -> Result<TreeItem, Misread>
+    ensures { ReadsSo (items.node_behind heads.Level (more rest.entry)) result (Behind tree_head SaysTree heads.Level (more rest.entry)) }
 {
-    match word {
-        NodeWord::Split => Ok(read_split(rest)),
-        NodeWord::Clash => Ok(read_clash(rest)),
-        NodeWord::Farkas => Ok(farkas(read_mults(alloc, rest)?)),
-        NodeWord::Bound => Ok(bound(read_mults(alloc, rest)?)),
+    match read_one(rest) {
+        Ok(level) => Ok(TreeItem::Level(level)),
+        Err(misread) => Err(misread),
     }
 }
 
-/// The words of nodes.
-const NODE_WORDS: [NodeWord; 4] = [
+/// A node as an item of a tree.
+fn as_item(node: Result<Node, Misread>) -> Result<TreeItem, Misread>
+    ensures { (w : kinds.NodeWord) (ps : List (List ℕ)) → ReadsSo (items.node_behind w ps) node (Behind node_head SaysNode w ps) → ReadsSo (items.node_behind w ps) result (Behind tree_head SaysTree w ps) }
+{
+    match node {
+        Ok(node) => Ok(TreeItem::Node(node)),
+        Err(misread) => Err(misread),
+    }
+}
+
+/// An item of a tree behind its word.
+fn tree_item_of(
+    alloc: Global,
+    word: NodeWord,
+    rest: Option<&[u8]>,
+) -> Result<Result<TreeItem, Misread>, Memory>
+    ensures { IfOk result (λ r. ReadsSo (items.node_behind word (more rest.entry)) r (Behind tree_head SaysTree word (more rest.entry))) }
+{
+    match word {
+        NodeWord::Split => Ok(as_item(read_split(rest))),
+        NodeWord::Zero => Ok(as_item(read_zero(rest))),
+        NodeWord::Clash => Ok(as_item(read_clash(rest))),
+        NodeWord::Farkas => Ok(as_item(farkas(read_mults(alloc, rest)?))),
+        NodeWord::Bound => Ok(as_item(bound(read_mults(alloc, rest)?))),
+        NodeWord::Level => Ok(read_level(rest)),
+    }
+}
+
+/// The words of nodes, and of what begins a level.
+const NODE_WORDS: [NodeWord; 6] = [
     NodeWord::Split,
+    NodeWord::Zero,
     NodeWord::Clash,
     NodeWord::Farkas,
     NodeWord::Bound,
+    NodeWord::Level,
 ];
 
-/// The kind of node of this word, if there is one.
+/// What has this word, if something has.
 fn node_word(word: &[u8]) -> Option<NodeWord>
     ensures { result ≡ worded items.node_word items.all_node_words word.now }
 {
     with_word(word, &NODE_WORDS)
 }
 
-/// The node that an item is.
-pub(crate) fn read_node(alloc: Global, text: &[u8]) -> Result<Result<Node, Misread>, Memory>
-    ensures { IfOk result (λ r. ReadsSo (items.item_fields parts.Tree text.now) r (IsNode text.now)) }
+/// The node that an item is, or the level that it begins.
+pub(crate) fn read_tree_item(
+    alloc: Global,
+    text: &[u8],
+) -> Result<Result<TreeItem, Misread>, Memory>
+    ensures { IfOk result (λ r. ReadsSo (items.item_fields parts.Tree text.now) r (IsTreeItem text.now)) }
 {
     let (word, rest) = first_piece(text);
     match node_word(word) {
-        Some(word) => node_of(alloc, word, rest),
+        Some(word) => tree_item_of(alloc, word, rest),
         None => Ok(Err(Misread::NoShape)),
     }
 }
 
+/// Whether an item begins with the word of a level.
+pub(crate) fn begins_level(text: &[u8]) -> bool
+    ensures { result ≡ items.begins_level (pieces text.now) }
+{
+    let (word, _) = first_piece(text);
+    word == b"level".as_slice()
+}
+
+/// The text in the place of a level's number, if an item has the shape of one that begins a level.
+fn level_text(text: &[u8]) -> Option<&[u8]>
+    ensures { MatchOption result ((k : List ℕ) → pieces text.now ≡ codes "level" ∷ k ∷ [] → ⊥) (λ k. pieces text.now ≡ codes "level" ∷ k.now ∷ []) }
+{
+    let (word, rest) = first_piece(text);
+    if word != b"level".as_slice() {
+        return None;
+    }
+    one_piece(rest)
+}
+
+/// Whether an item begins a level whose number is written, and isn't this one.
+pub(crate) fn is_level_but(text: &[u8], level: u32) -> bool
+    ensures { IsTrue result ↔ IsLevelBut level (pieces text.now) }
+{
+    let Some(number) = level_text(text) else {
+        return false;
+    };
+    match read_index(number) {
+        Ok(n) => n != level,
+        Err(Unread::Wide) => true,
+        Err(Unread::NotNumber) => false,
+    }
+}
+
+/// The multipliers that an item says of a round.
+pub(crate) fn read_round(alloc: Global, text: &[u8]) -> Result<Result<Mults, Misread>, Memory>
+    ensures { IfOk result (λ r. ReadsSo (items.item_fields parts.Rounds text.now) r (IsRound text.now)) }
+{
+    let (word, rest) = first_piece(text);
+    if word == b"round".as_slice() {
+        read_mults(alloc, rest)
+    } else {
+        Ok(Err(Misread::NoShape))
+    }
+}
+
 /// All steps.
-const STEPS: [Step; 6] = [
+const STEPS: [Step; 7] = [
     Step::Values,
     Step::Ratio,
     Step::Pivot,
     Step::Point,
     Step::Ray,
+    Step::Round,
     Step::Check,
 ];
 

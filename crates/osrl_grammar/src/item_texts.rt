@@ -32,6 +32,22 @@ fn mults_text(alloc: Global, word: &[u8], mults: &[Mult]) -> Result<Text, Memory
     Ok(text)
 }
 
+/// The text of a round.
+pub(crate) fn round_text(alloc: Global, mults: &[Mult]) -> Result<Text, Memory>
+    ensures { IfOk result (λ t. t ≡ writing.round_text mults.now) }
+{
+    mults_text(alloc, b"round", mults)
+}
+
+/// The text of what begins a level.
+pub(crate) fn level_text(alloc: Global, level: usize) -> Result<Text, Memory>
+    ensures { IfOk result (λ t. t ≡ writing.level_text level) }
+{
+    let mut text = Text::from_slice(alloc, b"level ")?;
+    text.extend(Buffer::new().format(level).as_bytes())?;
+    Ok(text)
+}
+
 /// The text of a node.
 pub(crate) fn node_text(alloc: Global, node: &Node) -> Result<Text, Memory>
     ensures { IfOk result (λ t. t ≡ writing.node_text node.now) }
@@ -44,6 +60,7 @@ pub(crate) fn node_text(alloc: Global, node: &Node) -> Result<Text, Memory>
             text.extend(Buffer::new().format(*k).as_bytes())?;
             Ok(text)
         }
+        Node::Zero { col } => counted_text(alloc, b"zero ", *col),
         Node::Clash { col } => counted_text(alloc, b"clash ", *col),
         Node::Farkas(mults) => mults_text(alloc, b"farkas", mults.as_slice()),
         Node::Bound(mults) => mults_text(alloc, b"bound", mults.as_slice()),

@@ -5,7 +5,7 @@ ghost use Rattle.osrl_grammar.specs.Words as named;
 
 use crate::report::JobStatus;
 use crate::words::Worded;
-use certificate::Step;
+use certificate::{Node, Step};
 
 /// A part of a certificate. Its name is that of a result.
 #[derive(Clone, Copy, PartialEq, Eq)]
@@ -13,6 +13,7 @@ pub(crate) enum Part {
     Point,
     Value,
     Ray,
+    Rounds,
     Tree,
     Cause,
 }
@@ -27,13 +28,22 @@ pub(crate) enum Claiming {
     Unsure,
 }
 
-/// The kinds of nodes. Each has a word.
+/// The kinds of nodes, and what begins a level. Each has a word.
 #[derive(Clone, Copy, PartialEq, Eq)]
 pub(crate) enum NodeWord {
     Split,
+    Zero,
     Clash,
     Farkas,
     Bound,
+    Level,
+}
+
+/// An item of a tree: a node, or the number of the level whose nodes follow.
+#[derive(Drop)]
+pub(crate) enum TreeItem {
+    Node(Node),
+    Level(u32),
 }
 
 /// The kinds of causes. Each has a word.
@@ -56,6 +66,13 @@ pub(crate) enum Misread {
     TooGreat,
 }
 
+/// An item that isn't read: what is wrong with it, and its number.
+#[derive(Clone, Copy, PartialEq, Eq)]
+pub(crate) struct BadItem {
+    pub misread: Misread,
+    pub number: u64,
+}
+
 /// The name of a part's result.
 pub(crate) fn part_name(part: Part) -> &'static [u8]
     ensures { result.now ≡ named.part_name part }
@@ -64,6 +81,7 @@ pub(crate) fn part_name(part: Part) -> &'static [u8]
         Part::Point => b"os_cert.point",
         Part::Value => b"os_cert.value",
         Part::Ray => b"os_cert.ray",
+        Part::Rounds => b"os_cert.rounds",
         Part::Tree => b"os_cert.tree",
         Part::Cause => b"os_cert.cause",
     }
@@ -114,6 +132,7 @@ impl Worded for Step {
             Step::Pivot => b"pivot",
             Step::Point => b"point",
             Step::Ray => b"ray",
+            Step::Round => b"round",
             Step::Check => b"check",
         }
     }
@@ -127,9 +146,11 @@ impl Worded for NodeWord {
     fn word(self) -> &'static [u8] {
         match self {
             NodeWord::Split => b"split",
+            NodeWord::Zero => b"zero",
             NodeWord::Clash => b"clash",
             NodeWord::Farkas => b"farkas",
             NodeWord::Bound => b"bound",
+            NodeWord::Level => b"level",
         }
     }
 }

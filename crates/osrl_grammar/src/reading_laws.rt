@@ -2,7 +2,8 @@
 
 ghost use Rattle.std.specs.Prelude.{◌≡◌, ◌≢◌, ◌<◌, ℕ, Some, List, length};
 ghost use Rattle.std.specs.List.{All};
-ghost use Rattle.certificate.specs.Nodes.{nodes_of, IsInRange};
+ghost use Rattle.certificate.specs.Nodes.{certs_of, nodes_of, IsInRange};
+ghost use Rattle.certificate.specs.declared.nodes.Cert.{Cert};
 ghost use Rattle.certificate.specs.declared.claims.Claim.{Claim};
 ghost use Rattle.tree_grammar.specs.Elements.{Element};
 ghost use Rattle.tag_tests.specs.Firsts.{IsFirstDecided};
@@ -40,10 +41,11 @@ pub fn first_and_least_is_told()
     ensures { (root : Element) (f : OsrlFault) → IsRefused root f → IsFirstDecided osrl number start (marks root) f }
 {}
 
-/// Law: a claim that is read has fewer nodes than its document has bytes, and each split is at a number of at least
-/// -(2^127 - 1).
+/// Law: a claim that is read has fewer nodes than its document has bytes, each of its certificates has fewer rounds, and each
+/// split is at a number of at least -(2^127 - 1).
 pub fn read_claims_fit()
-    ensures { (bytes : List ℕ) (r : Report) (c : Claim) → IsReportText bytes r → r.claim ≡ Some c → (length (nodes_of c) < length bytes) × All IsInRange (nodes_of c) }
+    ensures nodes { (bytes : List ℕ) (r : Report) (c : Claim) → IsReportText bytes r → r.claim ≡ Some c → (length (nodes_of c) < length bytes) × All IsInRange (nodes_of c) }
+    ensures rounds { (bytes : List ℕ) (r : Report) (c : Claim) → IsReportText bytes r → r.claim ≡ Some c → All (λ (cert : Cert). length cert.rounds < length bytes) (certs_of c) }
 {
     texts_are_of_characters();
 }

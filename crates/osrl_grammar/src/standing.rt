@@ -1,6 +1,6 @@
 //! Reads a result document mark by mark.
 
-ghost use Rattle.std.specs.Prelude.{◌≡◌, ◌↔◌, ◌+◌, ◌<◌, ◌^◌, ◌||◌, IsTrue, IsFalse, OnOk, None, Some, List, ℕ, cond, bytes_eq, codes, option_map, option_and_then};
+ghost use Rattle.std.specs.Prelude.{◌≡◌, ◌↔◌, ◌+◌, ◌<◌, ◌^◌, ◌||◌, IsTrue, IsFalse, IfOk, OnOk, None, Some, List, ℕ, cond, bytes_eq, codes, option_map, option_and_then};
 ghost use Rattle.doc_tree.specs.Marks.{Start, Finish};
 ghost use Rattle.tag_tests.specs.Readers.{StepsBy};
 ghost use Rattle.osrl_grammar.specs.declared.elements.Place.TheVariants as places;
@@ -9,6 +9,7 @@ ghost use Rattle.osrl_grammar.specs.Saying as saying;
 ghost use Rattle.osrl_grammar.specs.Table as table;
 ghost use Rattle.osrl_grammar.specs.Words.{worded, status_text, all_statuses, claiming_text, all_claimings};
 ghost use Rattle.osrl_grammar.specs.declared.parts.Part.{Part};
+ghost use Rattle.osrl_grammar.specs.Adding.{noted, AfterItem};
 ghost use Rattle.osrl_grammar.specs.Leaving as leaving;
 ghost use Rattle.osrl_grammar.specs.Marked.{osrl};
 ghost use Rattle.osrl_grammar.specs.Stepping.{EndsAt, AreCounted};
@@ -16,7 +17,8 @@ ghost use Rattle.osrl_grammar.specs.Stepping.{EndsAt, AreCounted};
 use crate::elements::{Place, leads, outer};
 use crate::fault::OsrlFault;
 use crate::held::Held;
-use crate::parts::{Claiming, Misread, Part};
+use crate::item_reading::begins_level;
+use crate::parts::{BadItem, Claiming, Misread, Part};
 use crate::report::{JobStatus, Report};
 use crate::words::with_word;
 use certificate::Claim;
@@ -62,6 +64,8 @@ pub(crate) struct Standing {
     claiming: Option<Text>,
     has_solution: bool,
     twice: bool,
+    level: Option<u64>,
+    bad: Option<BadItem>,
     held: Held,
     report: Report,
 }
@@ -83,6 +87,8 @@ impl Model for Standing {
       claiming = d.claiming;
       has_solution = d.has_solution;
       twice = d.twice;
+      level = d.level;
+      bad = d.bad;
       held = d.held;
       report = d.report;
     } };
@@ -153,24 +159,64 @@ fn claiming_of(word: Option<Text>) -> Option<Claiming>
     with_word(word.as_slice(), &CLAIMINGS)
 }
 
-/// The claim of a solution with such a status, if all parts are there that it needs.
-fn claim_of(held: Held, word: Option<Text>) -> Option<Claim>
-    ensures { result ≡ option_and_then (saying.claim_as held) (option_and_then (worded claiming_text all_claimings) word) }
+/// Whether a solution with such a status claims that no point is feasible; where there is no status so far, as is said.
+fn says_infeasible(unknown: bool, word: &Option<Text>) -> bool
+    ensures { result ≡ saying.says_infeasible unknown word.now }
 {
-    let claiming = claiming_of(word)?;
-    held.claim(claiming)
+    match word {
+        Some(word) => word.as_slice() == b"infeasible".as_slice(),
+        None => unknown,
+    }
+}
+
+/// The claim of a solution with such a status, if all parts are there that it needs.
+fn claim_of(alloc: Global, held: Held, word: Option<Text>) -> Result<Option<Claim>, AllocError>
+    ensures { IfOk result (λ c. c ≡ option_and_then (saying.claim_as held) (option_and_then (worded claiming_text all_claimings) word)) }
+{
+    match claiming_of(word) {
+        Some(claiming) => held.claim(alloc, claiming),
+        None => Ok(None),
+    }
 }
 
 /// What is claimed: nothing where there is no solution.
-fn claimed(has_solution: bool, held: Held, word: Option<Text>) -> Option<Option<Claim>>
-    ensures { result ≡ cond has_solution (option_map Some (option_and_then (saying.claim_as held) (option_and_then (worded claiming_text all_claimings) word))) (Some None) }
+fn claimed(
+    alloc: Global,
+    has_solution: bool,
+    held: Held,
+    word: Option<Text>,
+) -> Result<Option<Option<Claim>>, AllocError>
+    ensures { IfOk result (λ c. c ≡ cond has_solution (option_map Some (option_and_then (saying.claim_as held) (option_and_then (worded claiming_text all_claimings) word))) (Some None)) }
 {
-    if has_solution {
-        let claim = claim_of(held, word)?;
-        Some(Some(claim))
-    } else {
-        Some(None)
+    if !has_solution {
+        return Ok(Some(None));
     }
+    match claim_of(alloc, held, word)? {
+        Some(claim) => Ok(Some(Some(claim))),
+        None => Ok(None),
+    }
+}
+
+/// What is reported, if all parts are there that it needs.
+fn reported(
+    general: Option<Text>,
+    job: Option<Text>,
+    message: Option<Text>,
+    status: Option<JobStatus>,
+    claim: Option<Option<Claim>>,
+) -> Option<Report>
+    ensures { result ≡ saying.report_with general job message status claim }
+{
+    let claim = claim?;
+    let error = is_error(general)?;
+    let status = status?;
+    Some(Report {
+        error,
+        job,
+        message,
+        status,
+        claim,
+    })
 }
 
 /// A text that is there and isn't empty.
@@ -185,11 +231,12 @@ fn nonempty(text: Option<Text>) -> Option<Text>
     }
 }
 
-/// The refusal of the n-th item.
-fn refusal(misread: Misread, n: u64) -> OsrlFault
-    ensures { result ≡ table.item_refusal misread n }
+/// How an item that isn't read is refused.
+fn refusal(bad: BadItem) -> OsrlFault
+    ensures { result ≡ table.refusal_of (Some bad) }
 {
-    match misread {
+    let n = bad.number;
+    match bad.misread {
         Misread::NoShape => OsrlFault::Item { n },
         Misread::NoNumber => OsrlFault::Number { n },
         Misread::TooGreat => OsrlFault::Wide { n },
@@ -214,6 +261,8 @@ impl Standing {
             claiming: None,
             has_solution: false,
             twice: false,
+            level: None,
+            bad: None,
             held: Held::new(alloc),
             report: nothing_said(),
         }
@@ -290,16 +339,59 @@ impl Standing {
         }
     }
 
+    /// Keeps in mind which item is the first that begins with the word of a level, where the solution may claim that no
+    /// point is feasible.
+    fn note_level(&mut self, part: Part)
+        ensures { self.new ≡ noted self.old part }
+    {
+        if self.level.is_none()
+            && says_infeasible(true, &self.claiming)
+            && part == Part::Tree
+            && begins_level(self.text.as_slice())
+        {
+            self.level = Some(self.count);
+        }
+    }
+
+    /// Reads an item, where all before it were read, or keeps in mind that it isn't read; then nothing is held any more.
+    fn read_item(&mut self, part: Part) -> Result<(), AllocError>
+        ensures { OnOk result (AfterItem self.old.bad self.old part self.new) }
+    {
+        if self.bad.is_some() {
+            return Ok(());
+        }
+        self.note_level(part);
+        let read = self.held.add(self.alloc, part, self.text.as_slice())?;
+        if let Err(misread) = read {
+            self.bad = Some(BadItem {
+                misread,
+                number: self.count,
+            });
+            self.held = Held::new(self.alloc);
+        }
+        Ok(())
+    }
+
     /// Goes past the end tag of an item.
     fn end_item(&mut self, part: Part) -> Result<(), Stop<OsrlFault>>
         ensures { EndsAt self.old (places.Item part) self.new result }
     {
-        match self.held.add(self.alloc, part, self.text.as_slice())? {
-            Ok(()) => {
-                self.place = Place::Result(part);
-                Ok(())
-            }
-            Err(misread) => Err(Stop::Refused(refusal(misread, self.count))),
+        self.place = Place::Result(part);
+        self.read_item(part)?;
+        Ok(())
+    }
+
+    /// The item that isn't read, if one isn't: of a solution that claims that no point is feasible, the first that begins
+    /// with the word of a level.
+    fn bad_item(&self) -> Option<BadItem>
+        ensures { result ≡ saying.bad_item self.now }
+    {
+        match self.level {
+            Some(number) if says_infeasible(false, &self.claiming) => Some(BadItem {
+                misread: Misread::NoShape,
+                number,
+            }),
+            _ => self.bad,
         }
     }
 
@@ -314,10 +406,11 @@ impl Standing {
     }
 
     /// What the marks have reported, if all parts are there.
-    fn into_report(self) -> Option<Report>
-        ensures { result ≡ saying.report_of self }
+    fn into_report(self) -> Result<Option<Report>, AllocError>
+        ensures { IfOk result (λ r. r ≡ saying.report_of self) }
     {
         let Standing {
+            alloc,
             general,
             job,
             message,
@@ -327,27 +420,28 @@ impl Standing {
             held,
             ..
         } = self;
-        let claim = claimed(has_solution, held, claiming)?;
-        let error = is_error(general)?;
-        let status = status_of(status)?;
-        Some(Report {
-            error,
-            job: nonempty(job),
-            message: nonempty(message),
-            status,
+        let claim = claimed(alloc, has_solution, held, claiming)?;
+        Ok(reported(
+            general,
+            nonempty(job),
+            nonempty(message),
+            status_of(status),
             claim,
-        })
+        ))
     }
 
     /// Goes past the end tag of the root.
     fn end_root(&mut self) -> Result<(), Stop<OsrlFault>>
         ensures { EndsAt self.old places.Osrl self.new result }
     {
+        if let Some(bad) = self.bad_item() {
+            return Err(Stop::Refused(refusal(bad)));
+        }
         if !self.are_counted() {
             return Err(Stop::Refused(OsrlFault::Count));
         }
         let alloc = self.alloc;
-        match mem::replace(self, Standing::new(alloc)).into_report() {
+        match mem::replace(self, Standing::new(alloc)).into_report()? {
             Some(report) => {
                 self.report = report;
                 Ok(())

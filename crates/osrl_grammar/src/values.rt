@@ -1,13 +1,13 @@
 //! Tells the values that are for people: cut after twelve decimals.
 
-ghost use Rattle.std.specs.Prelude.{◌≡◌, ◌↔◌, [], ◌∷◌, OnOk, IfOk, IsFalse, length};
+ghost use Rattle.std.specs.Prelude.{◌≡◌, ◌↔◌, [], ◌∷◌, OnOk, IfOk, IsFalse, length, decimal};
 ghost use Rattle.tree_grammar.specs.Elements.{none, nodes_events};
 ghost use Rattle.fraction.specs.Frac.{ratio};
 ghost use Rattle.osrl_grammar.specs.Cuts as cuts;
 ghost use Rattle.osrl_grammar.specs.Writing as writing;
 ghost use Rattle.document_tags.specs.Telling.{Told};
 
-use certificate::{Mult, Node};
+use certificate::{Cert, Mult, Node};
 use decimal_text::write_cut12;
 use document_tags::{close, leaf_with, open};
 use element_tree::TreeBuilder;
@@ -52,15 +52,36 @@ fn tell_variables(alloc: Global, b: &mut TreeBuilder, point: &[Frac]) -> Result<
     Ok(())
 }
 
-/// Tells the values of the variables and of the objective.
+/// The index of the k-th objective: `-k`.
+fn goal_index(alloc: Global, k: usize) -> Result<Text, Memory>
+    ensures { IfOk result (λ t. t ≡ 45 ∷ decimal k) }
+{
+    let mut text = Text::from_slice(alloc, b"-")?;
+    text.extend(Buffer::new().format(k).as_bytes())?;
+    Ok(text)
+}
+
+/// Tells the values of the objectives.
+fn tell_goals(alloc: Global, b: &mut TreeBuilder, values: &[Frac]) -> Result<(), Memory>
+    requires { b.old.attributes ≡ [] }
+    ensures { OnOk result (Told b.old b.new (nodes_events (writing.goal_values 1 values.now))) }
+{
+    for k in 0..values.len() {
+        let index = goal_index(alloc, k + 1)?;
+        tell_indexed(alloc, b, b"obj", index.as_slice(), values[k])?;
+    }
+    Ok(())
+}
+
+/// Tells the values of the variables and of the objectives.
 pub(crate) fn tell_point_values(
     alloc: Global,
     b: &mut TreeBuilder,
     point: &[Frac],
-    value: Frac,
+    values: &[Frac],
 ) -> Result<(), Memory>
     requires { b.old.attributes ≡ [] }
-    ensures { OnOk result (Told b.old b.new (λ k. nodes_events (writing.point_values point.now value none) k)) }
+    ensures { OnOk result (Told b.old b.new (λ k. nodes_events (writing.point_values point.now values.now none) k)) }
 {
     open(b, b"variables")?;
     open(b, b"values")?;
@@ -69,7 +90,7 @@ pub(crate) fn tell_point_values(
     close(b, b"variables")?;
     open(b, b"objectives")?;
     open(b, b"values")?;
-    tell_indexed(alloc, b, b"obj", b"-1", value)?;
+    tell_goals(alloc, b, values)?;
     close(b, b"values")?;
     close(b, b"objectives")
 }
@@ -146,7 +167,7 @@ fn tell_rows_part(
     close(b, b"constraints")
 }
 
-/// Tells the dual values of a tree of this one node, where it has some.
+/// Tells the dual values of a tree of this one node and without rounds, where it has some.
 fn tell_node_values(
     alloc: Global,
     b: &mut TreeBuilder,
@@ -154,26 +175,43 @@ fn tell_node_values(
     node: &Node,
 ) -> Result<(), Memory>
     requires { b.old.attributes ≡ [] }
-    ensures { OnOk result (Told b.old b.new (λ k. nodes_events (writing.dual_values width (node.now ∷ []) none) k)) }
+    ensures { OnOk result (Told b.old b.new (λ k. nodes_events (writing.tree_values width [] (node.now ∷ []) none) k)) }
 {
     match node {
         Node::Bound(mults) => tell_rows_part(alloc, b, width, mults.as_slice()),
-        Node::Split { .. } | Node::Clash { .. } | Node::Farkas(_) => Ok(()),
+        Node::Split { .. } | Node::Zero { .. } | Node::Clash { .. } | Node::Farkas(_) => Ok(()),
     }
 }
 
-/// Tells the dual values, where a tree has some.
+/// Tells the dual values of a tree, where it has some.
+fn tell_tree_values(
+    alloc: Global,
+    b: &mut TreeBuilder,
+    width: usize,
+    cert: &Cert,
+) -> Result<(), Memory>
+    requires { b.old.attributes ≡ [] }
+    ensures { OnOk result (Told b.old b.new (λ k. nodes_events (writing.tree_values width cert.now.rounds cert.now.nodes none) k)) }
+{
+    if cert.rounds.len() > 0 || cert.nodes.len() != 1 {
+        return Ok(());
+    }
+    tell_node_values(alloc, b, width, &cert.nodes.as_slice()[0])
+}
+
+/// Tells the dual values, where there is one objective, and its tree has some.
 pub(crate) fn tell_dual_values(
     alloc: Global,
     b: &mut TreeBuilder,
     width: usize,
-    tree: &[Node],
+    values: &[Frac],
+    certs: &[Cert],
 ) -> Result<(), Memory>
     requires { b.old.attributes ≡ [] }
-    ensures { OnOk result (Told b.old b.new (λ k. nodes_events (writing.dual_values width tree.now none) k)) }
+    ensures { OnOk result (Told b.old b.new (λ k. nodes_events (writing.dual_values width values.now certs.now none) k)) }
 {
-    if tree.len() != 1 {
+    if values.len() != 1 || certs.len() != 1 {
         return Ok(());
     }
-    tell_node_values(alloc, b, width, &tree[0])
+    tell_tree_values(alloc, b, width, &certs[0])
 }

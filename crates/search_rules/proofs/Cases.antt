@@ -5,11 +5,12 @@ use Rattle.std.proofs.lemmas.List.{length-set, get_or-set_same, get_or-set_other
 use Rattle.std.proofs.lemmas.List.Elements.{All-set}
 use Rattle.rational.specs.Ratio.{Ratio, whole, product, IsNumber, IsAtMost}
 use Rattle.evidence.specs.Sums.{none, is_below, IsWhole, total}
-use Rattle.evidence.specs.Instance.{Range, Variable, Goal, Instance, IsInstance, HasNumbers, free, width, variable_at, row_at, entry_at, minimising, minimising_by}
-use Rattle.evidence.specs.Point.{value_at, objective, IsBetween, IsFeasible}
+use Rattle.evidence.specs.Instance.{Range, Variable, Goal, Instance, IsInstance, HasNumbers, no_variable, width, variable_at, row_at, entry_at, minimising, minimising_by}
+use Rattle.evidence.specs.Point.{value_at, objective, IsBetween, IsZeroOr, IsFeasible}
 use Rattle.evidence.specs.Cases.{lesser_end, greater_end, with_range, at_most, at_least}
-use Rattle.evidence.proofs.Columns.{by_lt, All-anywhere}
+use Rattle.evidence.proofs.Columns.{by_lt, further-numbers, All-anywhere}
 use Rattle.simplex_rules.specs.Ends.{IsRelaxed}
+use Rattle.search_rules.specs.Outcomes.{HaveOneRange}
 use Rattle.search_rules.proofs.Nodes.{at_most-trans}
 
 -- J is I with narrower ranges
@@ -62,9 +63,6 @@ greater-old (Some u) k v n q = picked (is_below u k) refl q
     picked true e q = at_most-trans u k v n (is_below-true u k e) q
     picked false e q = q
 
-abbrev default : Variable
-default = record { range = free; whole = false }
-
 module _ (J : Instance) (j : ℕ) (r : Range) (low : j < width J) where
   width_with : width (with_range J j r) ≡ width J
   width_with = length-set J.variables j (record (variable_at J j) { range = r })
@@ -73,12 +71,12 @@ module _ (J : Instance) (j : ℕ) (r : Range) (low : j < width J) where
   each_from : (P : Variable → Variable → Type 0) → P (record (variable_at J j) { range = r }) (variable_at J j) → ((i : ℕ) → P (variable_at J i) (variable_at J i)) → (i : ℕ) → P (variable_at (with_range J j r) i) (variable_at J i)
   each_from P p q i =
       let v : Variable = record (variable_at J j) { range = r } in
-      let other : (i ≡ j → ⊥) → P (variable_at (with_range J j r) i) (variable_at J i) = λ ne. rw (get_or-set_other J.variables j i v default ne) (q i) in
+      let other : (i ≡ j → ⊥) → P (variable_at (with_range J j r) i) (variable_at J i) = λ ne. rw (get_or-set_other J.variables j i v no_variable ne) (q i) in
       by_lt i j
       (λ below. other (λ e. omega arith))
       (λ up. by_lt j i (λ above. other (λ e. omega arith))
       (λ down. let e : j ≡ i = omega arith in
-      subst (λ k. P (variable_at (with_range J j r) k) (variable_at J k)) e (rw (get_or-set_same J.variables j v default low) p)))
+      subst (λ k. P (variable_at (with_range J j r) k) (variable_at J k)) e (rw (get_or-set_same J.variables j v no_variable low) p)))
 
   narrower : ((x : Ratio) → IsBetween r x → IsBetween (variable_at J j).range x) → (x : List Ratio) → IsRelaxed (with_range J j r) x → IsRelaxed J x
   narrower back x h = record {
@@ -92,6 +90,7 @@ module _ (J : Instance) (j : ℕ) (r : Range) (low : j < width J) where
   narrowed I c n back = record {
     numbers = record {
       variables = All-set (λ v. HasNumbers v.range) J.variables j (record (variable_at J j) { range = r }) n c.numbers.variables;
+      further = All-set (λ v. IfSome v.unless_zero HasNumbers) J.variables j (record (variable_at J j) { range = r }) (further-numbers J c.numbers j) c.numbers.further;
       rows = c.numbers.rows;
       entries = c.numbers.entries;
       constant = c.numbers.constant;
@@ -104,7 +103,7 @@ module _ (J : Instance) (j : ℕ) (r : Range) (low : j < width J) where
   }
 
 numbers_at : (J : Instance) → IsInstance J → (j : ℕ) → HasNumbers (variable_at J j).range
-numbers_at J n j = All-anywhere (λ v. HasNumbers v.range) J.variables default (tt, tt) n.variables j
+numbers_at J n j = All-anywhere (λ v. HasNumbers v.range) J.variables no_variable (tt, tt) n.variables j
 
 pub case_most : (I J : Instance) (j : ℕ) (k : ℤ) → j < width J → IsCase I J → IsCase I (at_most J j k)
 case_most I J j k low c =
@@ -121,8 +120,8 @@ case_least I J j k low c =
     (λ x b. record { low = greater-old r.lb (whole k) x (whole-number k) b.low; high = b.high })
 
 -- a relaxed point of a case with whole values is feasible
-pub feasible : (I J : Instance) (x : List Ratio) → IsCase I J → IsRelaxed J x → ((j : ℕ) → j < width J → IsTrue (variable_at J j).whole → IsWhole (value_at x j)) → IsFeasible I x
-feasible I J x c r w =
+pub feasible : (I J : Instance) (x : List Ratio) → HaveOneRange I → IsCase I J → IsRelaxed J x → ((j : ℕ) → j < width J → IsTrue (variable_at J j).whole → IsWhole (value_at x j)) → IsFeasible I x
+feasible I J x one c r w =
     let h = c.relaxed x r in
     record {
       count = h.count;
@@ -130,6 +129,7 @@ feasible I J x c r w =
       variables = h.variables;
       rows = h.rows;
       whole = λ j low t. w j (subst (λ n. j < n) (sym c.count) low) (subst IsTrue (sym (c.whole j)) t);
+      further = λ j low. subst (λ (o : Option Range). IfSome o (λ e. IsZeroOr e (value_at x j))) (sym (one j no_variable low)) tt;
     }
 
 -- a case has its instance's goal

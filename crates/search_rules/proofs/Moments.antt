@@ -5,8 +5,8 @@ use Rattle.std.specs.Option.{is_some}
 use Rattle.std.proofs.lemmas.Int.{ints}
 use Rattle.std.proofs.lemmas.List.Elements.{All-head, All-tail, All-cons, All-nil}
 use Rattle.rational.specs.Ratio.{Ratio, product, IsSame, IsBelow, IsNumber, IsAtMost}
-use Rattle.evidence.specs.Instance.{Instance, IsInstance, width, cost_at, minimising}
-use Rattle.evidence.specs.Point.{value_at, objective, IsRay}
+use Rattle.evidence.specs.Instance.{Instance, IsInstance, alone, width, cost_at, minimising}
+use Rattle.evidence.specs.Point.{value_at, objective, IsFeasible, IsRay}
 use Rattle.evidence.specs.Cases.{Multiplier, Node, ClashAt, FarkasBy, BoundBy, SplitAt, IsBound, at_most, at_least}
 use Rattle.evidence.specs.Width.{PointFits}
 use Rattle.rational.proofs.Scaling.{IsSame-trans}
@@ -16,7 +16,7 @@ use Rattle.evidence.proofs.Columns.{value-number}
 use Rattle.evidence.proofs.Duality.{minimising-number}
 use Rattle.simplex_rules.specs.Ends.{Terms, Clock, End, Clash, Empty, Best, Endless, TurnsOut, TooWide, Stopped, Shown, IsDirection, IsBest, IsRelaxed}
 use Rattle.search_rules.specs.Search.{Found, Moment, To, first, closed_by_leaf, branch, IsPassed, IsHopeful, IsValue, IsSplit, IsWholeBelow, MeetsPoint, GoesFrom, IsNext, ComesInSearch, begins, goes_on}
-use Rattle.search_rules.specs.Outcomes.{IsPoint}
+use Rattle.search_rules.specs.Outcomes.{HaveOneRange, IsPoint}
 use Rattle.search_rules.proofs.Nodes.{ProvesAll, Within, Leads, leads_first, leads_on, clash_first, farkas_first, bound_first, split_first, at_most-trans, at_most-below, at_most-same, minimising_by-same}
 use Rattle.simplex_rules.proofs.Moments.{run_true}
 use Rattle.search_rules.specs.Rays.{IsScaled}
@@ -33,13 +33,26 @@ pub record HasLow (I : Instance) : Type 0 where
 abbrev pub IsGrounded : Instance → Moment → Type 0
 IsGrounded I m = (m.waiting ≡ []) ⊎ (m.nodes ≡ []) ⊎ ((m.ray ≡ None) → ⊥) ⊎ HasLow I
 
+-- a point with its value, feasible where no variable may be 0 besides
+pub record IsFound (I : Instance) (f : Found) : Type 0 where
+  pub feasible : HaveOneRange I → IsFeasible I f.point
+  pub value : IsValue I f.point f.value
+  pub fits : PointFits (alone I) f.point
+
+pub found_point : (I : Instance) (f : Found) → HaveOneRange I → IsFound I f → IsPoint I f
+found_point I f one is = record { feasible = is.feasible one; value = is.value; fits = is.fits }
+
+-- and a direction is a ray from each point on
+abbrev pub IsEndless : Instance → List Ratio → Type 0
+IsEndless I r = HaveOneRange I → (x : List Ratio) → IsRay I x r
+
 pub record Holds (I : Instance) (m : Moment) : Type 0 where
   pub cases : All (IsCase I) m.waiting
-  pub best : (f : Found) → m.best ≡ Some f → IsPoint I f
+  pub best : (f : Found) → m.best ≡ Some f → IsFound I f
   pub leads : Leads I m.waiting m.nodes m.best
   pub root : m.nodes ≡ [] → (m.waiting ≡ I ∷ []) × (m.best ≡ None)
   pub zero : (m.ray ≡ None → ⊥) → m.best ≡ None
-  pub ray : (r : List Ratio) → m.ray ≡ Some r → IsRay I r
+  pub ray : (r : List Ratio) → m.ray ≡ Some r → IsEndless I r
   pub grounded : IsGrounded I m
 
 pub holds_first : (I : Instance) → IsInstance I → Holds I (first I)
@@ -123,10 +136,10 @@ module _ (I J : Instance) (rest : List Instance) (m : Moment) (is : m.waiting �
       closes (Some a) w nodes o = bound_first J rest ms b a nodes n bound (at_most-trans a (minimising I p.found.value) b number w p.passed) o
 
   -- a leaf at a point that becomes the best
-  found_holds : (b : Ratio) (x : List Ratio) (ms : List Multiplier) (v : Ratio) → IsBest J b x ms → IsHopeful I m.best b → IsWholeBelow J x (width J) → PointFits I x → IsValue I x v → m.ray ≡ None → Holds I (closed_by_leaf (record m { best = Some (record { point = x; value = v }) }) rest (BoundBy ms))
+  found_holds : (b : Ratio) (x : List Ratio) (ms : List Multiplier) (v : Ratio) → IsBest J b x ms → IsHopeful I m.best b → IsWholeBelow J x (width J) → PointFits (alone I) x → IsValue I x v → m.ray ≡ None → Holds I (closed_by_leaf (record m { best = Some (record { point = x; value = v }) }) rest (BoundBy ms))
   found_holds b x ms v is_best hopeful whole fits value none = record {
     cases = others;
-    best = λ f e. let q : record { point = x; value = v } ≡ f = cc in subst (IsPoint I) q point;
+    best = λ f e. let q : record { point = x; value = v } ≡ f = cc in subst (IsFound I) q point;
     leads = leads_on I (J ∷ rest) rest m.nodes (BoundBy ms) m.best (Some (found_at x v)) (weaker I m.best (found_at x v) better number) (λ z w nodes o. closes z w nodes o) so_far;
     root = λ e. absurd (no_nodes m.nodes (BoundBy ms) e);
     zero = λ e. absurd (e none);
@@ -137,8 +150,8 @@ module _ (I J : Instance) (rest : List Instance) (m : Moment) (is : m.waiting �
       relaxed : IsRelaxed I x
       relaxed = this.relaxed x is_best.relaxed
 
-      point : IsPoint I (found_at x v)
-      point = record { feasible = feasible I J x this is_best.relaxed whole; value = value; fits = fits }
+      point : IsFound I (found_at x v)
+      point = record { feasible = λ one. feasible I J x one this is_best.relaxed whole; value = value; fits = fits }
 
       number : IsNumber (minimising I v)
       number = minimising-number I v value.reduced.0
@@ -163,7 +176,7 @@ module _ (I J : Instance) (rest : List Instance) (m : Moment) (is : m.waiting �
       closes (Some a) w nodes o = bound_first J rest ms b a nodes is_best.number is_best.bound (at_most-trans a (minimising I v) b number w (at_most-same (minimising I v) b same)) o
 
   -- two cases more
-  branch_holds : (x : List Ratio) (j : ℕ) (k : ℤ) (r : Option (List Ratio)) → IsSplit J x j k → ((s : List Ratio) → r ≡ Some s → IsRay I s) → ((r ≡ None → ⊥) → m.best ≡ None) → ((r ≡ None → ⊥) ⊎ HasLow I) → Holds I (branch (record m { ray = r }) J rest j k)
+  branch_holds : (x : List Ratio) (j : ℕ) (k : ℤ) (r : Option (List Ratio)) → IsSplit J x j k → ((s : List Ratio) → r ≡ Some s → IsEndless I s) → ((r ≡ None → ⊥) → m.best ≡ None) → ((r ≡ None → ⊥) ⊎ HasLow I) → Holds I (branch (record m { ray = r }) J rest j k)
   branch_holds x j k r split rays zero ground = record {
     cases = All-cons (IsCase I) (at_most J j k) (at_least J j (k +ℤ pos 1) ∷ rest) (case_most I J j k split.branch.variable this)
         (All-cons (IsCase I) (at_least J j (k +ℤ pos 1)) rest (case_least I J j (k +ℤ pos 1) split.branch.variable this) others);
@@ -201,7 +214,7 @@ module _ (I J : Instance) (rest : List Instance) (m : Moment) (is : m.waiting �
 
   -- where a point of the case is met
   meets_holds : (x : List Ratio) (ms : List Multiplier) (r : Option (List Ratio)) (n : Moment)
-      → ((s : List Ratio) → r ≡ Some s → IsRay I s) → (r ≡ None → (b : Ratio) × IsBest J b x ms × IsHopeful I m.best b) → (r ≡ None → m.ray ≡ None) → ((r ≡ None → ⊥) → m.best ≡ None) → ((r ≡ None → ⊥) ⊎ HasLow I)
+      → ((s : List Ratio) → r ≡ Some s → IsEndless I s) → (r ≡ None → (b : Ratio) × IsBest J b x ms × IsHopeful I m.best b) → (r ≡ None → m.ray ≡ None) → ((r ≡ None → ⊥) → m.best ≡ None) → ((r ≡ None → ⊥) ⊎ HasLow I)
       → MeetsPoint I J rest (record m { ray = r }) x ms (To n) → Holds I n
   meets_holds x ms r n rays is_best same zero ground (inl (j, k, split, e)) = let q : branch (record m { ray = r }) J rest j k ≡ n = cc in subst (Holds I) q (branch_holds x j k r split rays zero ground)
   meets_holds x ms r n rays is_best same zero ground (inr (inl (w, f, e))) = absurd (cc)
@@ -228,12 +241,12 @@ false_none (Some x) e = absurd (cc)
 
 module _ (t : Terms) (I J : Instance) (rest : List Instance) (m : Moment) (is : m.waiting ≡ J ∷ rest) (h : Holds I m) where
   -- a direction is met in the first case alone, which is the searched instance
-  pub ray_at_first : (x d r : List Ratio) → Shown (is_some m.ray) J (Endless x d) → IsScaled I d r → IsRay I r
+  pub ray_at_first : (x d r : List Ratio) → Shown (is_some m.ray) J (Endless x d) → IsScaled I d r → IsEndless I r
   ray_at_first x d r s u =
       let first = at_first I J rest m is h (no_low J x d (this I J rest m is h).numbers s.1 s.2) (false_none m.ray s.0) in
       let q = (h.root first).0 in
       let p : J ≡ I = cc in
-      ray_of I d r (subst IsInstance p (this I J rest m is h).numbers) (subst (λ K. IsDirection K d) p s.2) u
+      λ one y. ray_of I y d r (subst IsInstance p (this I J rest m is h).numbers) one (subst (λ K. IsDirection K d) p s.2) u
 
   -- what the end of the first case's run makes of it
   goes_holds : (e : End) (n : Moment) → Shown (is_some m.ray) J e → GoesFrom t I J rest m e (To n) → Holds I n
@@ -257,7 +270,7 @@ module _ (t : Terms) (I J : Instance) (rest : List Instance) (m : Moment) (is : 
   goes_holds (Endless x d) n s (inl (f, e)) = absurd (cc)
   goes_holds (Endless x d) n s (inr (r, u, g)) =
       let first = at_first I J rest m is h (no_low J x d (this I J rest m is h).numbers s.1 s.2) (false_none m.ray s.0) in
-      meets_holds I J rest m is h x [] (Some r) n (λ q e. let p : r ≡ q = cc in subst (IsRay I) p (ray_at_first x d r s u)) (λ e. absurd (some_not r e)) (λ e. absurd (some_not r e)) (λ e. (h.root first).1) (inl (λ e. some_not r e)) g
+      meets_holds I J rest m is h x [] (Some r) n (λ q e. let p : r ≡ q = cc in subst (IsEndless I) p (ray_at_first x d r s u)) (λ e. absurd (some_not r e)) (λ e. absurd (some_not r e)) (λ e. (h.root first).1) (inl (λ e. some_not r e)) g
   goes_holds TurnsOut n s g = absurd (cc)
   goes_holds (TooWide w) n s g = absurd (cc)
   goes_holds Stopped n s g = absurd (cc)

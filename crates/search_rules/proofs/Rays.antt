@@ -13,8 +13,8 @@ use Rattle.rational.proofs.Integers.{above-times}
 use Rattle.rational.proofs.Scaling.{IsSame-trans, times-times}
 use Rattle.rational.proofs.ReducedForms.{same_reduced}
 use Rattle.evidence.specs.Sums.{none, total, IsWhole}
-use Rattle.evidence.specs.Instance.{Range, Instance, Sense, Minimum, Maximum, IsInstance, width, variable_at, row_at, cost_at, entry_at, minimising, minimising_by}
-use Rattle.evidence.specs.Point.{value_at, activity, NeverLeaves, IsRay}
+use Rattle.evidence.specs.Instance.{Range, Instance, Sense, Minimum, Maximum, IsInstance, no_variable, width, variable_at, row_at, cost_at, entry_at, minimising, minimising_by}
+use Rattle.evidence.specs.Point.{value_at, activity, NeverLeaves, NeverLeavesZeroOr, IsRay}
 use Rattle.evidence.proofs.Numbers.{◌≈◌, ≈-refl, ≈-sym, ◌⊙◌, ◌▹◌, ◌≲◌, ≲-from, ≲-trans, ◌⋖◌, ≲-⋖, product-number, product-≈, product_up, product_swap, product_assoc, negative-product, times_none, one_times}
 use Rattle.evidence.proofs.Inverses.{negative-≈}
 use Rattle.evidence.proofs.Duality.{minimising-number}
@@ -22,6 +22,7 @@ use Rattle.evidence.proofs.Totals.{total-number, total-≈, total_times}
 use Rattle.evidence.proofs.Columns.{by_lt, none-number, value-number, entry-number}
 use Rattle.simplex_rules.specs.Ends.{IsDirection}
 use Rattle.simplex_rules.proofs.Facts.{below_none}
+use Rattle.search_rules.specs.Outcomes.{HaveOneRange}
 use Rattle.search_rules.specs.Rays.{IsNextFactor, IsFactor, IsMultiple, IsScaled}
 
 module _ (I : Instance) (d : List Ratio) where
@@ -125,13 +126,14 @@ module _ (f n : ℕ) (a x y : ℕ → Ratio) (pa : (j : ℕ) → IsNumber (a j))
       (λ j h. product-≈ (≈-refl (pa j)) (e j h) ▹ (sym (product_assoc (a j) F (x j)) ∙ ap (λ w. product w (x j)) (product_swap (a j) F) ∙ product_assoc F (a j) (x j)))
       ⊙ total_times n F (λ j. product (a j) (x j)) (lit< tt) (λ j. product-number (a j) (x j) (pa j) (px j))
 
-pub ray_of : (I : Instance) (d r : List Ratio) → IsInstance I → IsDirection I d → IsScaled I d r → IsRay I r
-ray_of I d r good h s = record {
+pub ray_of : (I : Instance) (x d r : List Ratio) → IsInstance I → HaveOneRange I → IsDirection I d → IsScaled I d r → IsRay I x r
+ray_of I x d r good one h s = record {
   count = s.count;
   numbers = All-from_get_or IsNumber r none (λ j low. number j (let n = s.count in omega arith));
   variables = λ j low. never_leaves f up (variable_at I j).range (value_at d j) (value_at r j) (px j) (scaled j low) (h.variables j low);
   rows = λ i low. never_leaves f up (row_at I i) (activity I d i) (activity I r i) (sum-number (entry_at I.entries i) (entry-number I.entries good.entries i)) (sums (entry_at I.entries i) (entry-number I.entries good.entries i)) (h.rows i low);
   whole = λ j low w. is_whole f up (value_at d j) (value_at r j) (px j) (scaled j low) (factor_divides I d (width I) f s.least j low w);
+  further = λ j low. subst (λ (o : Option Range). IfSome o (λ e. NeverLeavesZeroOr e (value_at x j) (value_at r j))) (sym (one j no_variable low)) tt;
   better =
       let costs = value-number I.goal.costs good.costs in
       let t : Ratio = total none (width I) (λ j. product (cost_at I j) (value_at d j)) in

@@ -1,12 +1,12 @@
--- Multipliers bound relaxed points too: those are the feasible ones of the instance whose variables needn't be whole.
-use Rattle.std.proofs.Common.{◌≡◌, ℕ, zero, suc, ◌+◌, ◌-◌, ◌<◌, false, cond, IsTrue, IsSome, List, [], ◌∷◌, length, map, get_or, nat_lt, nat_eq, pos, arith, refl, sym, ◌∙◌, ap, subst}
+-- Multipliers bound relaxed points too: those are the feasible ones of the instance whose variables need neither be whole nor have further ends.
+use Rattle.std.proofs.Common.{◌≡◌, ℕ, zero, suc, ◌+◌, ◌-◌, ◌<◌, false, cond, IsTrue, IsSome, List, [], ◌∷◌, length, map, get_or, nat_lt, nat_eq, pos, None, IfSome, arith, refl, sym, ◌∙◌, ap, subst}
 use Rattle.std.specs.List.{All}
 use Rattle.std.proofs.lemmas.List.{length-map}
 use Rattle.std.proofs.lemmas.List.Elements.{All-map}
 use Rattle.rational.specs.Ratio.{Ratio, whole, product, IsSame, IsBelow, IsNumber, IsAtMost}
 use Rattle.evidence.specs.Sums.{none, total}
-use Rattle.evidence.specs.Instance.{Variable, Instance, Sense, Minimum, Maximum, IsInstance, HasNumbers, free, width, height, variable_at, row_at, cost_at, entry_at, column_at, minimising, minimising_by}
-use Rattle.evidence.specs.Point.{value_at, objective, IsBetween, IsFeasible, IsBetterBy, NeverLeaves, IsRay}
+use Rattle.evidence.specs.Instance.{Variable, Instance, Sense, Minimum, Maximum, IsInstance, HasNumbers, no_variable, width, height, variable_at, row_at, cost_at, entry_at, column_at, minimising, minimising_by}
+use Rattle.evidence.specs.Point.{value_at, objective, IsBetween, IsZeroOr, IsFeasible, IsBetterBy, NeverLeaves, NeverLeavesZeroOr, IsRay}
 use Rattle.evidence.specs.Cases.{Multiplier, multiplier_at, end_by, end_of, form, low_sum, or_none, IsBound}
 use Rattle.evidence.proofs.Totals.{total-same}
 use Rattle.evidence.proofs.Duality.{bounded, minimising-number}
@@ -24,15 +24,12 @@ abbrev pub HasNoLow : Instance → Type 0
 HasNoLow I = (b : Ratio) → IsNumber b → (x : List Ratio) × IsRelaxed I x × IsBelow (minimising I (objective I x)) b
 
 abbrev free_of_whole : Variable → Variable
-free_of_whole v = record v { whole = false }
+free_of_whole v = record v { whole = false; unless_zero = None }
 
 abbrev relaxed : Instance → Instance
 relaxed I = record I { variables = map free_of_whole I.variables }
 
-abbrev default : Variable
-default = record { range = free; whole = false }
-
-at_map : (vs : List Variable) (j : ℕ) → get_or (map free_of_whole vs) j default ≡ free_of_whole (get_or vs j default)
+at_map : (vs : List Variable) (j : ℕ) → get_or (map free_of_whole vs) j no_variable ≡ free_of_whole (get_or vs j no_variable)
 at_map [] j = refl
 at_map (v ∷ vs) zero = refl
 at_map (v ∷ vs) (suc j) = at_map vs j
@@ -63,7 +60,7 @@ module _ (I : Instance) where
   same_objective x = ap (λ n. total I.goal.constant n (λ j. product (cost_at I j) (value_at x j))) same_width
 
   numbers : IsInstance I → IsInstance (relaxed I)
-  numbers n = record { variables = All-map (λ v. HasNumbers v.range) free_of_whole I.variables n.variables; rows = n.rows; entries = n.entries; constant = n.constant; costs = n.costs }
+  numbers n = record { variables = All-map (λ v. HasNumbers v.range) free_of_whole I.variables n.variables; further = All-map (λ v. IfSome v.unless_zero HasNumbers) free_of_whole I.variables (λ k d h. tt); rows = n.rows; entries = n.entries; constant = n.constant; costs = n.costs }
 
   point : (x : List Ratio) → IsRelaxed I x → IsFeasible (relaxed I) x
   point x h = record {
@@ -72,6 +69,7 @@ module _ (I : Instance) where
     variables = λ j low. subst (λ r. IsBetween r (value_at x j)) (sym (same_range j)) (h.variables j (subst (λ n. j < n) same_width low));
     rows = λ i low. subst (λ n. IsBetween (row_at I i) (total none n (λ k. product (entry_at I.entries i k) (value_at x k)))) (sym same_width) (h.rows i low);
     whole = λ j low w. let e : (variable_at (relaxed I) j).whole ≡ false = ap (λ v. v.whole) (at_map I.variables j) in let t = subst IsTrue e w in absurd (cc);
+    further = λ j low. subst (λ (v : Variable). IfSome v.unless_zero (λ r. IsZeroOr r (value_at x j))) (sym (at_map I.variables j)) tt;
   }
 
   bound : (ms : List Multiplier) (b : Ratio) → IsBound I ms b → IsBound (relaxed I) ms b
@@ -102,13 +100,14 @@ module _ (I : Instance) where
     rows = λ i low. subst (λ n. IsBetween (row_at I i) (total none n (λ k. product (entry_at I.entries i k) (value_at x k)))) (same_width I) (h.rows i low);
   }
 
-  ray : (d : List Ratio) → IsDirection I d → IsRay (relaxed I) d
-  ray d h = record {
+  ray : (x d : List Ratio) → IsDirection I d → IsRay (relaxed I) x d
+  ray x d h = record {
     count = h.count ∙ sym (same_width I);
     numbers = h.numbers;
     variables = λ j low. subst (λ r. NeverLeaves r (value_at d j)) (sym (same_range I j)) (h.variables j (subst (λ n. j < n) (same_width I) low));
     rows = λ i low. subst (λ n. NeverLeaves (row_at I i) (total none n (λ k. product (entry_at I.entries i k) (value_at d k)))) (sym (same_width I)) (h.rows i low);
     whole = λ j low w. let e : (variable_at (relaxed I) j).whole ≡ false = ap (λ v. v.whole) (at_map I.variables j) in let t = subst IsTrue e w in absurd (cc);
+    further = λ j low. subst (λ (v : Variable). IfSome v.unless_zero (λ r. NeverLeavesZeroOr r (value_at x j) (value_at d j))) (sym (at_map I.variables j)) tt;
     better = subst (λ n. IsBelow (minimising I (total none n (λ j. product (cost_at I j) (value_at d j)))) none) (sym (same_width I)) h.better;
   }
 
@@ -122,5 +121,5 @@ turned Maximum o b h =
 -- from a relaxed point along a direction
 pub no_low : (I : Instance) (x d : List Ratio) → IsInstance I → IsRelaxed I x → IsDirection I d → HasNoLow I
 no_low I x d n p h b q =
-    let far = passed (relaxed I) (numbers I n) x d (point I x p) (ray I d h) (minimising I b) (minimising-number I b q) in
+    let far = passed (relaxed I) (numbers I n) x d (point I x p) (ray I x d h) (minimising I b) (minimising-number I b q) in
     (far.point, back I far.point far.feasible, subst (λ o. IsBelow (minimising I o) b) (same_objective I far.point) (turned I.goal.sense (objective (relaxed I) far.point) b far.better))

@@ -5,7 +5,7 @@ use Rattle.std.specs.Option.{is_some}
 use Rattle.rational.specs.Ratio.{Ratio, IsNumber, IsSame, IsBelow, IsAtMost, IsFloor}
 use Rattle.rational.specs.Width.{IsReduced}
 use Rattle.evidence.specs.Sums.{IsWhole}
-use Rattle.evidence.specs.Instance.{Instance, width, variable_at, minimising}
+use Rattle.evidence.specs.Instance.{Instance, alone, width, variable_at, minimising}
 use Rattle.evidence.specs.Point.{value_at, objective}
 use Rattle.evidence.specs.Cases.{Multiplier, Node, ClashAt, FarkasBy, BoundBy, SplitAt, IsBranch, at_most, at_least}
 use Rattle.evidence.specs.Width.{PointFits}
@@ -99,9 +99,9 @@ pub data Next : Type 0 where
 abbrev pub MeetsPoint : Instance → Instance → List Instance → Moment → List Ratio → List Multiplier → Next → Type 0
 MeetsPoint I J rest m x ms next =
     ((j : ℕ) × (k : ℤ) × IsSplit J x j k × (next ≡ To (branch m J rest j k)))
-    ⊎ (IsWholeBelow J x (width J) × (PointFits I x → ⊥) × (next ≡ Out (too_wide m Point) m.clock))
-    ⊎ ((v : Ratio) × IsWholeBelow J x (width J) × PointFits I x × IsValue I x v × (m.ray ≡ None) × (next ≡ To (closed_by_leaf (record m { best = Some (record { point = x; value = v }) }) rest (BoundBy ms))))
-    ⊎ ((v : Ratio) × (r : List Ratio) × IsWholeBelow J x (width J) × PointFits I x × IsValue I x v × (m.ray ≡ Some r) × (next ≡ Out (Unbounded x v r) m.clock))
+    ⊎ (IsWholeBelow J x (width J) × (PointFits (alone I) x → ⊥) × (next ≡ Out (too_wide m Point) m.clock))
+    ⊎ ((v : Ratio) × IsWholeBelow J x (width J) × PointFits (alone I) x × IsValue I x v × (m.ray ≡ None) × (next ≡ To (closed_by_leaf (record m { best = Some (record { point = x; value = v }) }) rest (BoundBy ms))))
+    ⊎ ((v : Ratio) × (r : List Ratio) × IsWholeBelow J x (width J) × PointFits (alone I) x × IsValue I x v × (m.ray ≡ Some r) × (next ≡ Out (Unbounded x v r) m.clock))
 
 -- from the end of the run of case J on, with m's clock then: a clash or multipliers close the case, and so does a bound that isn't better than the best value; a direction gives the ray, and the goal is zero from then on
 abbrev pub GoesFrom : Terms → Instance → Instance → List Instance → Moment → End → Next → Type 0

@@ -92,6 +92,7 @@ step_size steps.Ratio = omega arith
 step_size steps.Pivot = omega arith
 step_size steps.Point = omega arith
 step_size steps.Ray = omega arith
+step_size steps.Round = omega arith
 step_size steps.Check = omega arith
 
 cause_size : (c : Cause) → length (cause_text c) ≤ 150

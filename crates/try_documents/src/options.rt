@@ -33,6 +33,9 @@ impl Documents for Osol {
         let mut text = Text::new(alloc);
         put_amount(&mut text, b"nodes ", options.nodes)?;
         put_amount(&mut text, b" turns ", options.turns)?;
+        if options.rounds > 0 {
+            put_amount(&mut text, b" rounds ", options.rounds)?;
+        }
         if let Some(job) = &options.job {
             text.extend(b" job ")?;
             text.extend(job.as_slice())?;

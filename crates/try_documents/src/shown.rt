@@ -1,7 +1,7 @@
 //! Numbers and instances in words.
 
 use fraction::{End, Entry, Frac};
-use instance::{Instance, Row, Sense, Var};
+use instance::{Goal, Instance, Row, Sense, Var};
 use itoa::Buffer;
 use os_io::{Memory, Text};
 use std::alloc::Global;
@@ -88,6 +88,9 @@ fn var_text(alloc: Global, var: Var) -> Result<Text, Memory> {
     };
     let mut text = Text::from_slice(alloc, kind)?;
     put_between(&mut text, var.lb, var.ub)?;
+    if var.zero {
+        text.extend(b" or 0")?;
+    }
     Ok(text)
 }
 
@@ -128,6 +131,18 @@ fn put_costs(alloc: Global, words: &mut Words, costs: &[Frac]) -> Result<(), Mem
     Ok(())
 }
 
+fn put_goals(alloc: Global, words: &mut Words, goals: &[Goal]) -> Result<(), Memory> {
+    for goal in goals {
+        words.begin(match goal.sense {
+            Sense::Min => b" min ",
+            Sense::Max => b" max ",
+        })?;
+        put_frac(&mut words.text, goal.constant)?;
+        put_costs(alloc, words, goal.costs.as_slice())?;
+    }
+    Ok(())
+}
+
 fn put_rows(alloc: Global, words: &mut Words, rows: &[Row]) -> Result<(), Memory> {
     words.begin(b" rows")?;
     for row in rows {
@@ -152,13 +167,7 @@ pub(crate) fn instance_text(alloc: Global, instance: &Instance) -> Result<Text, 
         times: 0,
     };
     put_vars(alloc, &mut words, instance.vars())?;
-    let goal = instance.goal();
-    words.begin(match goal.sense {
-        Sense::Min => b" min ",
-        Sense::Max => b" max ",
-    })?;
-    put_frac(&mut words.text, goal.constant)?;
-    put_costs(alloc, &mut words, goal.costs.as_slice())?;
+    put_goals(alloc, &mut words, instance.goals())?;
     put_rows(alloc, &mut words, instance.rows())?;
     put_entries(alloc, &mut words, instance.entries())?;
     words.close()?;

@@ -1,4 +1,4 @@
-use Rattle.evidence.proofs.PendingNodes.{start, none_left, one_more, clash_step, farkas_step, bound_step, no_bound, split_step}
+use Rattle.evidence.proofs.PendingNodes.{start, none_left, one_more, clash_step, farkas_step, bound_step, no_bound, split_step, zero_step}
 use Rattle.evidence.proofs.lists_are_read.Goals as goal
 
 pub returns-clause-start : goal.returns-clause-start
@@ -24,3 +24,6 @@ returns-clause-no_bound c = no_bound
 
 pub returns-clause-split : goal.returns-clause-split
 returns-clause-split c = split_step
+
+pub returns-clause-zero_or : goal.returns-clause-zero_or
+returns-clause-zero_or c = zero_step

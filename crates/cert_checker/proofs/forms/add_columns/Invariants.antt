@@ -5,4 +5,4 @@ use Rattle.cert_checker.specs.Slots.{slot_at, HoldsSum}
 use Rattle.cert_checker.proofs.forms.add_columns.Given as goal
 
 abbrev pub invariant-loop-k : goal.invariant-loop-k
-invariant-loop-k l = (j : ℕ) → j < length l.vars → HoldsSum (cut l.instance l.vars) (multipliers l.mults) j l.k (slot_at l.slots j)
+invariant-loop-k l = (j : ℕ) → j < length l.cuts → HoldsSum (cut l.program l.cuts) (multipliers l.mults) j l.k (slot_at l.slots j)

@@ -5,4 +5,4 @@ use Rattle.cert_checker.specs.Leaves.{FormsBelow}
 use Rattle.cert_checker.proofs.forms.compare.Given as goal
 
 abbrev pub invariant-loop-j : goal.invariant-loop-j
-invariant-loop-j l = FormsBelow (Tree.cut l.instance l.vars) (multipliers l.mults) (Of.aim l.aim) l.j
+invariant-loop-j l = FormsBelow (Tree.cut l.program l.cuts) (multipliers l.mults) (Of.aim l.aim) l.j

@@ -14,5 +14,5 @@ returns-in_err-check_forms-clause-err c =
 
 pub returns-clause-err : goal.returns-clause-err
 returns-clause-err c =
-    let forms = subst (FormsBelow (Tree.cut c.args.instance.now c.args.vars.now) (multipliers c.args.mults.now) (Of.aim c.args.aim)) (sym (width_is c.args.instance.now c.args.vars.now)) c.in_ok-check_forms.ensures.ok in
+    let forms = subst (FormsBelow (Tree.cut c.args.program.now c.args.cuts.now) (multipliers c.args.mults.now) (Of.aim c.args.aim)) (sym (width_is c.args.program.now c.args.cuts.now)) c.in_ok-check_forms.ensures.ok in
     MatchResult-weaker c.check_sum.result c.check_sum.ensures.err (λ x p. p) (λ e p. inr (inr (c.in_default.ensures, forms, p)))

@@ -20,9 +20,9 @@ returns-then-not-is_pair c =
     }
 
 pub loop-k-preserved : goal.loop-k-preserved
-loop-k-preserved c = below_more (IsPair (cut c.args.instance.now c.args.vars.now) (multipliers c.args.mults.now)) c.loop-k.k c.loop-k.invariant (c.if-not-is_pair.ensures.0 refl)
+loop-k-preserved c = below_more (IsPair (cut c.args.program.now c.args.cuts.now) (multipliers c.args.mults.now)) c.loop-k.k c.loop-k.invariant (c.if-not-is_pair.ensures.0 refl)
 
 pub returns : goal.returns
 returns c =
     let e : c.loop-k.k ≡ length c.args.mults.now = (let a = c.loop-k.auto.k-end in let b = c.loop-k-test.false in omega arith) in
-    legal_from (cut c.args.instance.now c.args.vars.now) c.args.mults.now (subst (PairsBelow (cut c.args.instance.now c.args.vars.now) (multipliers c.args.mults.now)) e c.loop-k.invariant)
+    legal_from (cut c.args.program.now c.args.cuts.now) c.args.mults.now (subst (PairsBelow (cut c.args.program.now c.args.cuts.now) (multipliers c.args.mults.now)) e c.loop-k.invariant)

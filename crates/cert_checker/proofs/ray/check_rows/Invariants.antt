@@ -1,7 +1,6 @@
 use Rattle.fraction.specs.Frac.{ratios}
-use Rattle.instance.specs.Program.{program}
 use Rattle.cert_checker.specs.Rays.{RowsMove}
 use Rattle.cert_checker.proofs.ray.check_rows.Given as goal
 
 abbrev pub invariant-loop-i : goal.invariant-loop-i
-invariant-loop-i l = RowsMove (program l.instance) (ratios l.ray) l.i
+invariant-loop-i l = RowsMove l.program (ratios l.ray) l.i

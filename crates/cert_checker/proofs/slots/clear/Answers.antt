@@ -7,7 +7,7 @@ use Rattle.cert_checker.proofs.slots.clear.Goals as goal
 
 pub loop-j-preserved : goal.loop-j-preserved
 loop-j-preserved c =
-    set_next (λ (s : Option Frac). (f : Frac) × (s ≡ Some f) × (ratio f ≡ none)) c.loop-j.slots c.loop-j.j (Some c.zero.result) (let a = c.loop-j.auto.slots in omega arith) c.loop-j.invariant (c.zero.result, refl, c.zero.ensures)
+    set_next (λ j (s : Option Frac). (f : Frac) × (s ≡ Some f) × (ratio f ≡ none)) c.loop-j.slots c.loop-j.j (Some c.zero.result) (let a = c.loop-j.auto.slots in omega arith) c.loop-j.invariant (c.zero.result, refl, c.zero.ensures)
 
 pub returns : goal.returns
 returns c = λ j h. c.loop-j.invariant j (omega arith)

@@ -1,5 +1,4 @@
 use Rattle.std.proofs.Common.{◌+◌, ◌≤◌, IfSome, [], ◌∷◌, length, drop}
-use Rattle.instance.specs.Program.{program}
 use Rattle.certificate.specs.Meanings as Means
 use Rattle.case_tree.specs.Cuts as Tree
 use Rattle.cert_checker.specs.Cuts as Of
@@ -8,7 +7,7 @@ use Rattle.cert_checker.proofs.walk.check_tree.Given as goal
 
 abbrev pub invariant-loop-i : goal.invariant-loop-i
 invariant-loop-i l = record {
-  above : IfSome l.next (λ d. Tree.AreBranches (length l.vars) l.branches d);
+  above : IfSome l.next (λ d. Tree.AreBranches (length l.cuts) l.branches d);
   depth : IfSome l.next (λ d. d ≤ l.i);
-  leads : LeadsThrough (program l.instance ∷ []) (Means.nodes l.nodes) 1 (Tree.cases l.instance l.vars l.branches l.next) (drop l.i (Means.nodes l.nodes)) (l.i + 1) (Of.aim l.aim);
+  leads : LeadsThrough (l.program ∷ []) (Means.nodes l.nodes) 1 (Tree.cases l.program l.cuts l.branches l.next) (drop l.i (Means.nodes l.nodes)) (l.i + 1) (Of.aim l.aim);
 }

@@ -1,6 +1,6 @@
 use mir.Val.{SFits, of_z, to_z}
 use mir.Syntax.{w128}
-use Rattle.std.proofs.Common.{rules, ◌≡◌, ◌+◌, ℤ, pos, ◌+ℤ◌, Some, ◌∷◌, refl, sym, subst}
+use Rattle.std.proofs.Common.{rules, arith, IsTrue, false, inl, ◌≡◌, ◌+◌, ℤ, pos, ◌+ℤ◌, Some, ◌∷◌, refl, sym, subst}
 use Rattle.std.proofs.Math.Facts.{to_z-of_z}
 use Rattle.cert_checker.proofs.Sizes.{not_none}
 use Rattle.std.proofs.lemmas.Result.{err_from_is_err_and}
@@ -9,43 +9,94 @@ use Rattle.certificate.specs.Meanings as Means
 use Rattle.certificate.specs.declared.nodes.Node.{Node}
 use Rattle.case_tree.specs.Cuts as Tree
 use Rattle.cert_checker.specs.Cuts as Of
-use Rattle.cert_checker.specs.Trees.{LeadsThrough}
-use Rattle.cert_checker.proofs.Walks.{split_leads, clash_leads, farkas_node_leads, bound_node_leads, farkas_refused, bound_refused}
+use Rattle.cert_checker.specs.Trees.{TreeRefuses, LeadsThrough}
+use Rattle.cert_checker.specs.declared.refused.Unshown.TheVariants.{Tree as Missing}
+use Rattle.cert_checker.proofs.Widths.{width_is}
+use Rattle.cert_checker.proofs.Walks.{split_leads, zero_leads, clash_leads, farkas_node_leads, bound_node_leads, farkas_refused, bound_refused}
 use Rattle.cert_checker.proofs.walk.step.Goals.{in-Clash+in_ok-check_clash-in-Clash, in-Farkas+in_ok-check_leaf-in-Farkas, in-Bound+else-is_none+in_ok-check_leaf-in-Bound}
 use Rattle.cert_checker.proofs.walk.step.Goals as goal
 
+pub returns-then-not-is_branch-clause-err : goal.returns-then-not-is_branch-clause-err
+returns-then-not-is_branch-clause-err c = λ rest.
+    let p = c.args.program.now in
+    let I = Tree.cut p c.args.cuts.now in
+    let js = Tree.pending p c.args.cuts.now c.args.branches.now c.args.depth in
+    let k = c.in-Split.k in
+    let f : SFits w128 k = search rules in
+    let same : to_z w128 (of_z w128 k) ≡ k = to_z-of_z f in
+    let b = c.if-not-is_branch.ensures p in
+    subst (λ (n : Node). TreeRefuses (I ∷ js) (Means.node n ∷ rest) (Of.aim c.args.aim) c.args.number (Missing c.args.number)) (sym c.in-Split.is)
+    (inl (λ h. let t : IsTrue false = b.1 (subst (λ (z : ℤ). Cases.IsBranch I c.in-Split.col z) (sym same) h) in cc, refl))
+
+pub enter-requires-clause-inside : goal.enter-requires-clause-inside
+enter-requires-clause-inside c =
+    let p = c.args.program.now in
+    let w = width_is p c.args.cuts.now in
+    let b = c.if-not-is_branch.ensures p in
+    let h = (b.0 refl).variable in
+    omega arith
+
+pub enter-requires-clause-next : goal.enter-requires-clause-next
+enter-requires-clause-next c = let b = c.if-not-is_branch.ensures c.args.program.now in let h = b.0 refl in (h.low, h.high)
+
+pub returns-then-not-is_zero_branch-clause-err : goal.returns-then-not-is_zero_branch-clause-err
+returns-then-not-is_zero_branch-clause-err c = λ rest.
+    let p = c.args.program.now in
+    let I = Tree.cut p c.args.cuts.now in
+    let js = Tree.pending p c.args.cuts.now c.args.branches.now c.args.depth in
+    let b = c.if-not-is_zero_branch.ensures p in
+    subst (λ (n : Node). TreeRefuses (I ∷ js) (Means.node n ∷ rest) (Of.aim c.args.aim) c.args.number (Missing c.args.number)) (sym c.in-Zero.is)
+    (inl (λ h. let t : IsTrue false = b.1 h in cc, refl))
+
+pub enter-requires-in-Zero-clause-inside : goal.enter-requires-in-Zero-clause-inside
+enter-requires-in-Zero-clause-inside c =
+    let p = c.args.program.now in
+    let w = width_is p c.args.cuts.now in
+    let b = c.if-not-is_zero_branch.ensures p in
+    let h = (b.0 refl).variable in
+    omega arith
+
 pub returns-in-Split-clause-ok : goal.returns-in-Split-clause-ok
 returns-in-Split-clause-ok c = λ rest.
-    let p = c.args.instance.now in
-    let I = Tree.cut p c.args.vars.now in
-    let js = Tree.pending p c.args.vars.now c.args.branches.now c.args.depth in
-    let after = Tree.cases p c.enter.new.vars c.enter.new.branches (Some (c.args.depth + 1)) in
+    let p = c.args.program.now in
+    let I = Tree.cut p c.args.cuts.now in
+    let js = Tree.pending p c.args.cuts.now c.args.branches.now c.args.depth in
+    let after = Tree.cases p c.enter.new.cuts c.enter.new.branches (Some (c.args.depth + 1)) in
     let j = c.in-Split.col in
     let k = c.in-Split.k in
     let f : SFits w128 k = search rules in
     let same : to_z w128 (of_z w128 k) ≡ k = to_z-of_z f in
     subst (λ (n : Node). LeadsThrough (I ∷ js) (Means.node n ∷ rest) c.args.number after rest (c.args.number + 1) (Of.aim c.args.aim)) (sym c.in-Split.is)
-    (split_leads I js after c.args.number (Of.aim c.args.aim) rest j k (subst (λ (z : ℤ). Cases.IsBranch I j z) same (c.if-not-is_branch.ensures.0 refl))
+    (split_leads I js after c.args.number (Of.aim c.args.aim) rest j k (subst (λ (z : ℤ). Cases.IsBranch I j z) same (let b = c.if-not-is_branch.ensures p in b.0 refl))
     (subst (λ (z : ℤ). after ≡ Cases.at_most I j z ∷ Cases.at_least I j (z +ℤ pos 1) ∷ js) same (c.enter.ensures.cases p)))
+
+pub returns-in-Zero-clause-ok : goal.returns-in-Zero-clause-ok
+returns-in-Zero-clause-ok c = λ rest.
+    let p = c.args.program.now in
+    let I = Tree.cut p c.args.cuts.now in
+    let js = Tree.pending p c.args.cuts.now c.args.branches.now c.args.depth in
+    let after = Tree.cases p c.enter-in-Zero.new.cuts c.enter-in-Zero.new.branches (Some (c.args.depth + 1)) in
+    subst (λ (n : Node). LeadsThrough (I ∷ js) (Means.node n ∷ rest) c.args.number after rest (c.args.number + 1) (Of.aim c.args.aim)) (sym c.in-Zero.is)
+    (zero_leads I js after c.args.number (Of.aim c.args.aim) rest c.in-Zero.col (let b = c.if-not-is_zero_branch.ensures p in b.0 refl) (c.enter-in-Zero.ensures.cases p))
 
 pub returns-in_err-check_leaf-in-Farkas-clause-err : goal.returns-in_err-check_leaf-in-Farkas-clause-err
 returns-in_err-check_leaf-in-Farkas-clause-err c =
     let p = err_from_is_err_and c.from_residual-in_err-check_leaf-in-Farkas.result c.from_residual-in_err-check_leaf-in-Farkas.ensures.1 in
     rw (p.1, p.2)
-    (λ rest. farkas_refused (Tree.cut c.args.instance.now c.args.vars.now) (Tree.pending c.args.instance.now c.args.vars.now c.args.branches.now c.args.depth) c.args.number (Of.aim c.args.aim) rest c.args.node.now c.in-Farkas.mults c.as_slice.result.now c.in-Farkas.is c.as_slice.ensures c.in_err-check_leaf-in-Farkas.field-0.0 c.in_err-check_leaf-in-Farkas.ensures.err)
+    (λ rest. farkas_refused (Tree.cut c.args.program.now c.args.cuts.now) (Tree.pending c.args.program.now c.args.cuts.now c.args.branches.now c.args.depth) c.args.number (Of.aim c.args.aim) rest c.args.node.now c.in-Farkas.mults c.as_slice.result.now c.in-Farkas.is c.as_slice.ensures c.in_err-check_leaf-in-Farkas.field-0.0 c.in_err-check_leaf-in-Farkas.ensures.err)
 
 pub returns-in_err-check_leaf-in-Bound-clause-err : goal.returns-in_err-check_leaf-in-Bound-clause-err
 returns-in_err-check_leaf-in-Bound-clause-err c =
     let p = err_from_is_err_and c.from_residual-in_err-check_leaf-in-Bound.result c.from_residual-in_err-check_leaf-in-Bound.ensures.1 in
     rw (p.1, p.2)
-    (λ rest. bound_refused (Tree.cut c.args.instance.now c.args.vars.now) (Tree.pending c.args.instance.now c.args.vars.now c.args.branches.now c.args.depth) c.args.number rest c.args.node.now c.in-Bound.mults c.as_slice-in-Bound.result.now c.in-Bound.is c.as_slice-in-Bound.ensures c.args.aim (not_none c.args.aim c.is_none.result c.is_none.ensures c.if-is_none.false) c.in_err-check_leaf-in-Bound.field-0.0 c.in_err-check_leaf-in-Bound.ensures.err)
+    (λ rest. bound_refused (Tree.cut c.args.program.now c.args.cuts.now) (Tree.pending c.args.program.now c.args.cuts.now c.args.branches.now c.args.depth) c.args.number rest c.args.node.now c.in-Bound.mults c.as_slice-in-Bound.result.now c.in-Bound.is c.as_slice-in-Bound.ensures c.args.aim (not_none c.args.aim c.is_none.result c.is_none.ensures c.if-is_none.false) c.in_err-check_leaf-in-Bound.field-0.0 c.in_err-check_leaf-in-Bound.ensures.err)
 
 pub returns-clause-ok : goal.returns-clause-ok
 returns-clause-ok c = λ rest.
-    let p = c.args.instance.now in
-    let I = Tree.cut p c.args.vars.now in
-    let js = Tree.pending p c.args.vars.now c.args.branches.now c.args.depth in
-    let after = Tree.cases p c.back.new.vars c.back.new.branches c.back.result in
+    let p = c.args.program.now in
+    let I = Tree.cut p c.args.cuts.now in
+    let js = Tree.pending p c.args.cuts.now c.args.branches.now c.args.depth in
+    let after = Tree.cases p c.back.new.cuts c.back.new.branches c.back.result in
     elim c.match-node.branch [
       | in-Clash+in_ok-check_clash-in-Clash w ↦
           subst (λ (n : Node). LeadsThrough (I ∷ js) (Means.node n ∷ rest) c.args.number after rest (c.args.number + 1) (Of.aim c.args.aim)) (sym w.in-Clash.is)

@@ -1,13 +1,13 @@
-use Rattle.osil_grammar.proofs.Words.{◌≡◌, sym, subst, List, ℕ, length, ap, codes, All, err_from_is_err_and, Entry, Var, Row, Goal, HasDecimal, HasDecimals, WriteVars, WriteRows, WritesGoal, WriteLists, GoalHasDecimals, EndsHaveTexts}
+use Rattle.osil_grammar.proofs.Words.{◌≡◌, sym, subst, List, ℕ, length, ap, codes, All, err_from_is_err_and, Entry, Var, Row, Goal, HasDecimal, HasDecimals, WriteVars, WriteRows, WriteGoals, WriteLists, GoalHasDecimals, EndsHaveTexts}
 use Rattle.osil_grammar.proofs.Tellings.{none_of}
 use Rattle.osil_grammar.proofs.Parts.{ToldSome}
 use Rattle.osil_grammar.proofs.WholeInstance.{IsPart, whole_told}
 use Rattle.osil_grammar.proofs.document.tell_instance.Goals as goal
 
-pub returns-in_err-tell_goal : goal.returns-in_err-tell_goal
-returns-in_err-tell_goal c =
-    let p = err_from_is_err_and c.from_residual-in_err-tell_goal.result c.from_residual-in_err-tell_goal.ensures.1 in
-    rw (p.1, p.2) (none_of (GoalHasDecimals c.goal.result.now) (HasDecimals c.args.instance.now) c.in_err-tell_goal.field-0.0 (λ (all : HasDecimals c.args.instance.now). subst GoalHasDecimals (sym c.goal.ensures.value) (all.constant, all.costs)) c.in_err-tell_goal.ensures)
+pub returns-in_err-tell_goals : goal.returns-in_err-tell_goals
+returns-in_err-tell_goals c =
+    let p = err_from_is_err_and c.from_residual-in_err-tell_goals.result c.from_residual-in_err-tell_goals.ensures.1 in
+    rw (p.1, p.2) (none_of (All GoalHasDecimals c.goals.result.now) (HasDecimals c.args.instance.now) c.in_err-tell_goals.field-0.0 (λ (all : HasDecimals c.args.instance.now). subst (λ (l : List Goal). All GoalHasDecimals l) (sym c.goals.ensures.value) all.goals) c.in_err-tell_goals.ensures)
 
 pub returns-in_err-tell_matrix : goal.returns-in_err-tell_matrix
 returns-in_err-tell_matrix c =
@@ -17,15 +17,15 @@ returns-in_err-tell_matrix c =
 pub returns : goal.returns
 returns c =
     let v = c.in_ok-tell_vars.ensures in
-    let g = c.in_ok-tell_goal.ensures in
+    let g = c.in_ok-tell_goals.ensures in
     let r = c.in_ok-tell_rows.ensures in
     let m = c.in_ok-tell_matrix.ensures in
     let rows : List Row = c.rows-rows.result.now in
     let vars = subst (λ (l : List Var). All (λ (x : Var). EndsHaveTexts x.lb x.ub) l × ToldSome (IsPart (codes "variables") (codes "numberOfVariables") (length l) (WriteVars l)) c.open.new.b c.tell_vars.new.b) c.vars.ensures.value (v.0, (v.1, v.2, v.3)) in
-    let objective = subst (λ (x : Goal). GoalHasDecimals x × ToldSome (IsPart (codes "objectives") (codes "numberOfObjectives") 1 (WritesGoal x)) c.tell_vars.new.b c.tell_goal.new.b) c.goal.ensures.value (g.0, (g.1, g.2, g.3)) in
-    let constraints = subst (λ (l : List Row). All (λ (x : Row). EndsHaveTexts x.lb x.ub) l × ToldSome (IsPart (codes "constraints") (codes "numberOfConstraints") (length l) (WriteRows l)) c.tell_goal.new.b c.tell_rows.new.b) c.rows-rows.ensures.value (r.0, (r.1, r.2, r.3)) in
+    let objectives = subst (λ (l : List Goal). All GoalHasDecimals l × ToldSome (IsPart (codes "objectives") (codes "numberOfObjectives") (length l) (WriteGoals l)) c.tell_vars.new.b c.tell_goals.new.b) c.goals.ensures.value (g.0, (g.1, g.2, g.3)) in
+    let constraints = subst (λ (l : List Row). All (λ (x : Row). EndsHaveTexts x.lb x.ub) l × ToldSome (IsPart (codes "constraints") (codes "numberOfConstraints") (length l) (WriteRows l)) c.tell_goals.new.b c.tell_rows.new.b) c.rows-rows.ensures.value (r.0, (r.1, r.2, r.3)) in
     let high : length rows ≡ length c.args.instance.now.rows = ap (λ (l : List Row). length l) c.rows-rows.ensures.value in
     let by_entries = subst (λ (l : List Entry). All (λ (x : Entry). HasDecimal x.value) l × ToldSome (IsPart (codes "linearConstraintCoefficients") (codes "numberOfValues") (length l) (WriteLists (length rows) l)) c.tell_rows.new.b c.tell_matrix.new.b) c.entries.ensures.value (m.0, (m.1, m.2, m.3)) in
     let matrix = subst (λ (n : ℕ). ToldSome (IsPart (codes "linearConstraintCoefficients") (codes "numberOfValues") (length c.args.instance.now.entries) (WriteLists n c.args.instance.now.entries)) c.tell_rows.new.b c.tell_matrix.new.b) high by_entries.1 in
-    let whole = whole_told c.args.instance.now _ _ _ _ _ _ _ _ _ _ c.requires c.in_ok-open_after.ensures c.in_ok-empty_after.ensures c.in_ok-open.ensures vars.1 objective.1 constraints.1 matrix c.in_ok-close.ensures c.in_ok-close-2.ensures in
-    (record { vars = vars.0; rows = constraints.0; entries = by_entries.0; constant = objective.0.0; costs = objective.0.1 }, whole.root, whole.writes, whole.same)
+    let whole = whole_told c.args.instance.now _ _ _ _ _ _ _ _ _ _ c.requires c.in_ok-open_after.ensures c.in_ok-empty_after.ensures c.in_ok-open.ensures vars.1 objectives.1 constraints.1 matrix c.in_ok-close.ensures c.in_ok-close-2.ensures in
+    (record { vars = vars.0; rows = constraints.0; entries = by_entries.0; goals = objectives.0 }, whole.root, whole.writes, whole.same)

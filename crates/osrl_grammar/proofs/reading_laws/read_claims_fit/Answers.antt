@@ -1,5 +1,8 @@
-use Rattle.osrl_grammar.proofs.RoundTrips.{read_claim_fits}
+use Rattle.osrl_grammar.proofs.RoundTrips.{read_claim_fits, read_rounds_fit}
 use Rattle.osrl_grammar.proofs.reading_laws.read_claims_fit.Goals as goal
 
-pub returns : goal.returns
-returns c = read_claim_fits c.texts_are_of_characters.ensures
+pub returns-clause-nodes : goal.returns-clause-nodes
+returns-clause-nodes c = read_claim_fits c.texts_are_of_characters.ensures
+
+pub returns-clause-rounds : goal.returns-clause-rounds
+returns-clause-rounds c = read_rounds_fit c.texts_are_of_characters.ensures

@@ -3,10 +3,10 @@ use Rattle.osil_grammar.specs.declared.elements.Place.TheVariants as places
 use Rattle.osil_grammar.proofs.Beginnings.{begin_refused, var_begun}
 use Rattle.osil_grammar.proofs.standing.Standing.begin_var.Goals as goal
 
-pub returns-in_ok-push_times-in-Ok-2 : goal.returns-in_ok-push_times-in-Ok-2
-returns-in_ok-push_times-in-Ok-2 c =
+pub returns-in_ok-push_times-in-Ok : goal.returns-in_ok-push_times-in-Ok
+returns-in_ok-push_times-in-Ok c =
     let before : length c.self.inside.vars.items ≡ c.len.result = omega (arith, c.self.inside.vars.ok.0) in
-    var_begun _ c.args.self.now c.self.view_is c.args.name.now c.args.attributes.now c.in-Ok.var c.in-Ok.times c.zero.result _ _ c.go.new.self c.go.ensures c.in_ok-push_times-in-Ok.ensures c.in_ok-push_times-in-Ok-2.ensures c.zero.ensures
+    var_begun _ c.args.self.now c.self.view_is c.args.name.now c.args.attributes.now c.in-Ok.var c.in-Ok.times _ c.go.new.self c.go.ensures c.in_ok-push_times-in-Ok.ensures
     (c.in-Ok.ensures c.args.self.now c.args.name.now (ap (λ (s : State). length s.vars) (sym c.self.view_is) ∙ before))
 
 pub returns-in-Err : goal.returns-in-Err

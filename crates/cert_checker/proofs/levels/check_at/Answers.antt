@@ -1,0 +1,32 @@
+use Rattle.std.proofs.Common.{[], ◌∷◌, get_or, refl, sym, ap, ◌∙◌, subst, Option}
+use Rattle.rational.specs.Ratio.{Ratio}
+use Rattle.evidence.specs.Instance.{Instance, IsInstance, width}
+use Rattle.evidence.specs.Width.{ProvesWithin}
+use Rattle.certificate.specs.Meanings as Means
+use Rattle.cert_checker.specs.Programs.{bound}
+use Rattle.cert_checker.specs.Trees.{TreeRefuses}
+use Rattle.cert_checker.proofs.HandRows.{hand_level, hand_width, hand-instance}
+use Rattle.cert_checker.proofs.levels.check_at.Goals as goal
+
+pub check_tree-requires-clause-count : goal.check_tree-requires-clause-count
+check_tree-requires-clause-count c = c.requires.count ∙ sym (ap width c.of-program.ensures ∙ hand_width c.args.instance.now c.args.added.now c.index-goals-level.result)
+
+pub check_tree-requires-clause-numbers : goal.check_tree-requires-clause-numbers
+check_tree-requires-clause-numbers c = subst IsInstance (sym c.of-program.ensures) (hand-instance c.args.instance.now c.args.added.now c.index-goals-level.result)
+
+pub returns-in-Ok-clause-ok : goal.returns-in-Ok-clause-ok
+returns-in-Ok-clause-ok c =
+    let g = c.index-goals-level.result in
+    let is = c.index-goals-level.is ∙ ap (λ l. get_or l c.args.level g) c.goals-goals.ensures.value in
+    subst (λ (I : Instance). ProvesWithin I (Means.nodes c.args.nodes.now) (bound I c.args.value)) (c.of-program.ensures ∙ hand_level c.args.instance.now c.args.added.now g c.args.level c.requires.level is)
+    (subst (λ (z : Option Ratio). ProvesWithin c.of-program.result (Means.nodes c.args.nodes.now) z) c.aim_of-aim.ensures c.in-Ok.ensures.ok)
+
+pub returns-in-Err-clause-err : goal.returns-in-Err-clause-err
+returns-in-Err-clause-err c =
+    let g = c.index-goals-level.result in
+    let is = c.index-goals-level.is ∙ ap (λ l. get_or l c.args.level g) c.goals-goals.ensures.value in (
+      c.in-Err.why,
+      subst (λ (I : Instance). TreeRefuses (I ∷ []) (Means.nodes c.args.nodes.now) (bound I c.args.value) 1 c.in-Err.why) (c.of-program.ensures ∙ hand_level c.args.instance.now c.args.added.now g c.args.level c.requires.level is)
+          (subst (λ (z : Option Ratio). TreeRefuses (c.of-program.result ∷ []) (Means.nodes c.args.nodes.now) z 1 c.in-Err.why) c.aim_of-aim.ensures c.in-Err.ensures.err),
+      refl,
+    )

@@ -1,0 +1,61 @@
+-- Which refusal of a certificate's rounds is the first.
+use Rattle.std.specs.Prelude.{◌≡◌, ℕ, ◌+◌, ◌<◌, ◌⊎◌, ℤ, IsTrue, List, [], ◌∷◌}
+use Rattle.rational.specs.Ratio.{IsSame}
+use Rattle.evidence.specs.Sums.{none, IsWhole}
+use Rattle.evidence.specs.Instance.{Instance, width, variable_at}
+use Rattle.evidence.specs.Cases.{Multiplier, AreLegal, form}
+use Rattle.evidence.specs.Width.{FormFits, LowFits, LeafFits}
+use Rattle.evidence.specs.Rounds.{IsRoundingCut, derive}
+use Rattle.cert_checker.specs.declared.refused.Refused.{Refused}
+use Rattle.cert_checker.specs.declared.refused.Refused.TheVariants.{Round, WideRound}
+use Rattle.cert_checker.specs.Leaves.{IsFirstIllegal}
+
+-- at variable j the sum of columns is whole, and 0 where the variable isn't
+abbrev pub IsWholeForm : Instance → List Multiplier → ℕ → Type 0
+IsWholeForm I ms j = IsWhole (form I ms j) × ((IsTrue (variable_at I j).whole → ⊥) → IsSame (form I ms j) none)
+
+pub record HasWholeForm (I : Instance) (ms : List Multiplier) (j : ℕ) : Type 0 where
+  pub fits : FormFits I ms j
+  pub is : IsWholeForm I ms j
+
+abbrev pub WholeFormsBelow : Instance → List Multiplier → ℕ → Type 0
+WholeFormsBelow I ms n = (j : ℕ) → j < n → HasWholeForm I ms j
+
+-- the first variable whose sum isn't so, or doesn't fit
+pub record IsFirstPart (I : Instance) (ms : List Multiplier) (j : ℕ) : Type 0 where
+  pub inside : j < width I
+  pub below : WholeFormsBelow I ms j
+  pub fits : FormFits I ms j
+  pub part : IsWholeForm I ms j → ⊥
+
+pub record IsFirstUnfitPart (I : Instance) (ms : List Multiplier) (j : ℕ) : Type 0 where
+  pub inside : j < width I
+  pub below : WholeFormsBelow I ms j
+  pub wide : FormFits I ms j → ⊥
+
+abbrev pub PartRefuses : Instance → List Multiplier → ℕ → Refused → Type 0
+PartRefuses I ms round r = ((j : ℕ) × IsFirstPart I ms j × (r ≡ Round round j)) ⊎ ((j : ℕ) × IsFirstUnfitPart I ms j × (r ≡ WideRound round))
+
+-- what a round is refused for: the first multiplier that isn't legal, the first variable's sum, and then the sum of the ends
+abbrev pub RoundRefuses : Instance → List Multiplier → ℕ → Refused → Type 0
+RoundRefuses I ms round r =
+    ((c : ℕ) × IsFirstIllegal I ms c × (r ≡ Round round c))
+    ⊎ (AreLegal I ms × PartRefuses I ms round r)
+    ⊎ (AreLegal I ms × WholeFormsBelow I ms (width I) × (LowFits I none ms → ⊥) × (r ≡ WideRound round))
+
+-- the first round that is refused, of those numbered from the given number on; each is over the rows of those before it
+abbrev pub RoundsRefuse : Instance → List (List Multiplier) → ℕ → Refused → Type 0
+RoundsRefuse I [] round r = ⊥
+RoundsRefuse I (ms ∷ rounds) round r =
+    RoundRefuses I ms round r
+    ⊎ ((cs : List ℤ) × (k : ℤ) × IsRoundingCut I ms cs k × LeafFits I none ms × RoundsRefuse (derive I cs k) rounds (round + 1) r)
+
+-- the instance with the rows of all rounds
+abbrev pub IsAfterRounds : Instance → List (List Multiplier) → Instance → Type 0
+IsAfterRounds I [] J = I ≡ J
+IsAfterRounds I (ms ∷ rounds) J = (cs : List ℤ) × (k : ℤ) × IsRoundingCut I ms cs k × LeafFits I none ms × IsAfterRounds (derive I cs k) rounds J
+
+-- the rest of the rounds leads to all of them: the rows after it are those after all, and its first refusal is that of all
+pub record LeadsThroughRounds (I : Instance) (rounds : List (List Multiplier)) (round : ℕ) (J : Instance) (rest : List (List Multiplier)) (next : ℕ) : Type 0 where
+  pub after : (K : Instance) → IsAfterRounds J rest K → IsAfterRounds I rounds K
+  pub refused : (r : Refused) → RoundsRefuse J rest next r → RoundsRefuse I rounds round r

@@ -1,0 +1,146 @@
+// Rounding cuts, each of which is one more row.
+ghost use Rattle.std.specs.Prelude.{◌≡◌, ◌<◌, ◌≤◌, ◌^◌, ◌-◌, ◌↔◌, ℕ, pos, neg_ℤ, ◌≤ℤ◌, length, take, IsTrue, IfOk, OnOk, IfErr};
+ghost use Rattle.rational.specs.Ratio.{IsSame};
+ghost use Rattle.rational.specs.Width.{most};
+ghost use Rattle.fraction.specs.Frac.{ratio};
+ghost use Rattle.evidence.specs.Sums.{none, IsWhole};
+ghost use Rattle.evidence.specs.Instance.{IsInstance, width};
+ghost use Rattle.evidence.specs.Rounds.{IsCeiling};
+ghost use Rattle.instance.specs.Program.{program};
+ghost use Rattle.certificate.specs.Meanings.{multipliers};
+ghost use Rattle.certificate.specs.Meanings as Means;
+ghost use Rattle.case_tree.specs.Cuts.{cut};
+ghost use Rattle.cert_checker.specs.Programs.{with_rows, AreUncut, AreWide, MakesRound};
+ghost use Rattle.cert_checker.specs.RoundRefusals.{WholeFormsBelow, PartRefuses, RoundRefuses, RoundsRefuse, IsAfterRounds};
+ghost use Rattle.cert_checker.specs.Slots.{slot_at, HoldsSum};
+
+use crate::added::put;
+use crate::at_hand::{Added, Program};
+use crate::forms::add_columns;
+use crate::pairs::first_illegal;
+use crate::refused::Refused;
+use crate::sums::low_sum;
+use case_tree::{Cut, whole, zero};
+use certificate::{Mult, Mults};
+use fraction::{End, Frac};
+use instance::{Instance, Row};
+
+/// The least whole number that isn't below the fraction.
+fn ceiling(x: Frac) -> i128
+    ensures value { IsCeiling (ratio x) result }
+    ensures low { neg_ℤ (pos most) ≤ℤ result }
+{
+    -x.neg().floor()
+}
+
+/// Whether a sum is as a round's must be at a variable: a whole number, and 0 where the variable isn't whole.
+fn may_round(cut: &Cut, sum: Frac) -> bool
+    ensures { IsTrue result ↔ (IsWhole (ratio sum) × ((IsTrue cut.now.var.whole → ⊥) → IsSame (ratio sum) none)) }
+{
+    sum.is_whole() && (cut.var.whole || sum.numer == 0)
+}
+
+/// Whether each of the sums is as a round's must be.
+fn check_parts(
+    program: &Program,
+    cuts: &[Cut],
+    slots: &[Option<Frac>],
+    mults: &[Mult],
+    round: u32,
+) -> Result<(), Refused>
+    requires count { length cuts.now ≡ width program.now }
+    requires numbers { IsInstance program.now }
+    requires room { length slots.now ≡ length cuts.now }
+    requires sums { (j : ℕ) → j < length cuts.now → HoldsSum (cut program.now cuts.now) (multipliers mults.now) j (length mults.now) (slot_at slots.now j) }
+    ensures ok { OnOk result (WholeFormsBelow (cut program.now cuts.now) (multipliers mults.now) (length cuts.now)) }
+    ensures err { IfErr result (PartRefuses (cut program.now cuts.now) (multipliers mults.now) round) }
+{
+    let count = program.vars().len();
+    for j in 0..count {
+        match slots[j] {
+            None => return Err(Refused::WideRound { round }),
+            Some(sum) => {
+                if !may_round(&cuts[j], sum) {
+                    return Err(Refused::Round {
+                        round,
+                        col: j as u32,
+                    });
+                }
+            }
+        }
+    }
+    Ok(())
+}
+
+/// The lower end of a round's row, whose coefficients the slots have afterwards.
+pub(crate) fn check_round(
+    program: &Program,
+    cuts: &[Cut],
+    slots: &mut [Option<Frac>],
+    mults: &[Mult],
+    round: u32,
+) -> Result<i128, Refused>
+    requires count { length cuts.now ≡ width program.now }
+    requires numbers { IsInstance program.now }
+    requires room { length slots.old ≡ length cuts.now }
+    ensures ok { IfOk result (MakesRound (cut program.now cuts.now) (multipliers mults.now) slots.new) }
+    ensures err { IfErr result (RoundRefuses (cut program.now cuts.now) (multipliers mults.now) round) }
+{
+    if let Some(col) = first_illegal(program, cuts, mults) {
+        return Err(Refused::Round { round, col });
+    }
+    add_columns(program, cuts, slots, mults);
+    check_parts(program, cuts, slots, mults, round)?;
+    match low_sum(program, cuts, mults, zero()) {
+        Err(_) => Err(Refused::WideRound { round }),
+        Ok(sum) => Ok(ceiling(sum)),
+    }
+}
+
+/// The lower end of a round's row, over an instance with the rows of the rounds before.
+fn check_next(
+    instance: &Instance,
+    added: &[Added],
+    cuts: &[Cut],
+    slots: &mut [Option<Frac>],
+    mults: &[Mult],
+    round: u32,
+) -> Result<i128, Refused>
+    requires uncut { AreUncut (program instance.now) cuts.now }
+    requires room { length slots.old ≡ length cuts.now }
+    ensures ok { IfOk result (MakesRound (with_rows (program instance.now) added.now) (multipliers mults.now) slots.new) }
+    ensures err { IfErr result (RoundRefuses (with_rows (program instance.now) added.now) (multipliers mults.now) round) }
+{
+    let goals = instance.goals();
+    let program = Program::of(instance, added, &goals[0]);
+    check_round(&program, cuts, slots, mults, round)
+}
+
+/// Whether the multipliers are rounds, each over the rows of those before it. The first rows are theirs afterwards.
+pub(crate) fn check_rounds(
+    instance: &Instance,
+    rounds: &[Mults],
+    cuts: &[Cut],
+    slots: &mut [Option<Frac>],
+    added: &mut [Added],
+) -> Result<(), Refused>
+    requires uncut { AreUncut (program instance.now) cuts.now }
+    requires slots { length slots.old ≡ length cuts.now }
+    requires room { length rounds.now ≤ length added.old }
+    requires few { length rounds.now < 2 ^ 32 - 1 }
+    requires wide { AreWide (length cuts.now) added.old }
+    ensures wide { (n : ℕ) → AreWide n added.old → AreWide n added.new }
+    ensures ok { OnOk result (IsAfterRounds (program instance.now) (Means.rounds rounds.now) (with_rows (program instance.now) (take (length rounds.now) added.new))) }
+    ensures err { IfErr result (RoundsRefuse (program instance.now) (Means.rounds rounds.now) 1) }
+{
+    for i in 0..rounds.len() {
+        let mults = rounds[i].as_slice();
+        let low = check_next(instance, &added[..i], cuts, slots, mults, i as u32 + 1)?;
+        let ends = Row {
+            lb: End::At(whole(low)),
+            ub: End::Inf,
+        };
+        put(&mut added[i], ends, slots);
+    }
+    Ok(())
+}

@@ -1,0 +1,104 @@
+-- A rounding cut holds at each feasible point, and what a certificate with rounds shows holds of it.
+use Rattle.std.proofs.Common.{◌≡◌, ℕ, zero, suc, ◌<◌, ℤ, pos, negsuc, ◌+ℤ◌, ◌≤ℤ◌, Option, None, Some, IfSome, List, [], ◌∷◌, lit<, arith, refl}
+use Rattle.std.proofs.lemmas.Int.{ints, by_lt_z}
+use Rattle.rational.specs.Ratio.{Ratio, whole, sum, product, IsNumber, IsAtMost}
+use Rattle.rational.proofs.Integers.{more-times}
+use Rattle.evidence.specs.Sums.{none, total, IsWhole}
+use Rattle.evidence.specs.OneDenominator.{number_at}
+use Rattle.evidence.specs.Instance.{Range, Instance, IsInstance, width, variable_at}
+use Rattle.evidence.specs.Point.{value_at, IsFeasible}
+use Rattle.evidence.specs.Cases.{Multiplier, Node, form, low_sum}
+use Rattle.evidence.specs.Rounds.{IsCeiling, IsRoundingCut, derive, ShowsAfter}
+use Rattle.evidence.proofs.Numbers.{◌≈◌, ◌≲◌, ≈-refl, ≲-is, ≲-from, ≲-trans, sum-≈, product-≈, product-number, product-none, none-sum}
+use Rattle.evidence.proofs.Totals.{total-number, total-≈}
+use Rattle.evidence.proofs.Columns.{by_bool, none-number, value-number}
+use Rattle.evidence.proofs.Duality.{weak, form-number}
+use Rattle.evidence.proofs.Branches.{Meets, shown, whole_at_least}
+use Rattle.evidence.proofs.AddedRows.{feasible_added, instance_added}
+
+whole-number : (n : ℤ) → IsNumber (whole n)
+whole-number n = lit< tt
+
+near_whole : (x : Ratio) → IsNumber x → (w : IsWhole x) → x ≈ whole w.number
+near_whole x p w = record { left = p; right = whole-number w.number; is = w.same }
+
+-- a sum of whole numbers is whole
+sum-whole : (x y : Ratio) → IsNumber x → IsNumber y → IsWhole x → IsWhole y → IsWhole (sum x y)
+sum-whole x y p q v w =
+    let all : sum x y ≈ sum (whole v.number) (whole w.number) = sum-≈ (near_whole x p v) (near_whole y q w) in
+    let k : ℤ = (sum (whole v.number) (whole w.number)).num in
+    record { number = k; same = all.is }
+
+total-whole : (n : ℕ) (f : ℕ → Ratio) → ((j : ℕ) → IsNumber (f j)) → ((j : ℕ) → j < n → IsWhole (f j)) → IsWhole (total none n f)
+total-whole zero f p w = record { number = pos 0; same = refl }
+total-whole (suc n) f p w = sum-whole (total none n f) (f n) (total-number none n f none-number p) (p n) (total-whole n f p (λ j h. w j (omega arith))) (w n (omega arith))
+
+product-whole : (c : ℤ) (x : Ratio) → IsNumber x → IsWhole x → IsWhole (product (whole c) x)
+product-whole c x p w =
+    let C : whole c ≈ whole c = ≈-refl (whole-number c) in
+    let all : product (whole c) x ≈ product (whole c) (whole w.number) = product-≈ C (near_whole x p w) in
+    let k : ℤ = (product (whole c) (whole w.number)).num in
+    record { number = k; same = all.is }
+
+no_product-whole : (c : ℤ) (x : Ratio) → IsNumber x → c ≡ pos 0 → IsWhole (product (whole c) x)
+no_product-whole c x p e = rw e (let z = product-none x p in record { number = pos 0; same = z.is })
+
+-- a whole number that isn't below x isn't below the next whole number
+at_ceiling : (x : Ratio) (k n : ℤ) → IsCeiling x k → x ≲ whole n → k ≤ℤ n
+at_ceiling x k n c h =
+    by_lt_z n k
+    (λ below.
+    let t = more-times n (k +ℤ negsuc 0) x.den (omega (arith, ints)) in
+    let up = h.is in
+    let low = c.low in
+    absurd (omega (arith, ints)))
+    (λ done. done)
+
+module _ (I : Instance) (good : IsInstance I) (ms : List Multiplier) (cs : List ℤ) (k : ℤ) (round : IsRoundingCut I ms cs k) where
+  abbrev coefficient : ℕ → Ratio
+  coefficient j = whole (number_at cs j)
+
+  abbrev row : Range
+  row = record { lb = Some (whole k); ub = None }
+
+  pub instance_derived : IsInstance (derive I cs k)
+  instance_derived = instance_added I row coefficient good (lit< tt, tt) (λ j. lit< tt)
+
+  module _ (x : List Ratio) (f : IsFeasible I x) where
+    abbrev here : Ratio
+    here = total none (width I) (λ j. product (coefficient j) (value_at x j))
+
+    term-number : (j : ℕ) → IsNumber (product (coefficient j) (value_at x j))
+    term-number j = product-number (coefficient j) (value_at x j) (whole-number (number_at cs j)) (value-number x f.numbers j)
+
+    term-whole : (j : ℕ) → j < width I → IsWhole (product (coefficient j) (value_at x j))
+    term-whole j h =
+        by_bool (variable_at I j).whole
+        (λ e. product-whole (number_at cs j) (value_at x j) (value-number x f.numbers j) (f.whole j h e))
+        (λ e. no_product-whole (number_at cs j) (value_at x j) (value-number x f.numbers j) (round.others j h (λ t. cc)))
+
+    low : low_sum I none ms ≲ here
+    low =
+        let same : total none (width I) (λ j. product (form I ms j) (value_at x j)) ≈ here =
+        total-≈ (width I) (λ j. product (form I ms j) (value_at x j)) (λ j. product (coefficient j) (value_at x j)) (≈-refl none-number)
+        (λ j h. product-≈ (record { left = form-number I good x f ms round.legal j; right = whole-number (number_at cs j); is = round.forms j h }) (≈-refl (value-number x f.numbers j))) in
+        ≲-trans (≲-is (weak I good x f ms round.legal none none-number) (none-sum (total none (width I) (λ j. product (form I ms j) (value_at x j))))) (≲-from same)
+
+    reached : IsAtMost (whole k) here
+    reached =
+        let w = total-whole (width I) (λ j. product (coefficient j) (value_at x j)) term-number term-whole in
+        let n = near_whole here (total-number none (width I) (λ j. product (coefficient j) (value_at x j)) none-number term-number) w in
+        whole_at_least here w.number k w.same (at_ceiling (low_sum I none ms) k w.number round.rounded (≲-trans low (≲-from n)))
+
+    -- the new row holds
+    pub feasible_derived : IsFeasible (derive I cs k) x
+    feasible_derived = feasible_added I row coefficient x f (record { low = reached; high = tt })
+
+meets_derived : (I : Instance) (cs : List ℤ) (k : ℤ) (x : List Ratio) (z : Option Ratio) → Meets (derive I cs k) x z → Meets I x z
+meets_derived I cs k x None m = m
+meets_derived I cs k x (Some z) m = m
+
+pub shown_after : (rounds : List (List Multiplier)) (I : Instance) (nodes : List Node) (z : Option Ratio) → IfSome z IsNumber → IsInstance I → ShowsAfter I rounds nodes z → (x : List Ratio) → IsFeasible I x → Meets I x z
+shown_after [] I nodes z p good s x f = shown s.tree I z p good s.shows x f
+shown_after (ms ∷ rounds) I nodes z p good (cs, k, round, fits, rest) x f =
+    meets_derived I cs k x z (shown_after rounds (derive I cs k) nodes z p (instance_derived I good ms cs k round) rest x (feasible_derived I good ms cs k round x f))
