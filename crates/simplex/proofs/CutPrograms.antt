@@ -15,7 +15,8 @@ use Rattle.evidence.proofs.Columns.{by_lt}
 use Rattle.instance.specs.declared.parts.Sense.{Sense}
 use Rattle.instance.specs.declared.parts.Sense.TheVariants.{Min, Max}
 use Rattle.instance.specs.Parts.{Parts}
-use Rattle.instance.specs.Program.{program, row, sense, entries}
+use Rattle.instance.specs.declared.parts.Goal.{Goal as Own}
+use Rattle.instance.specs.Program.{goal, program, row, sense, entries}
 use Rattle.bases.specs.Program.{goal_row, rows_with_goal}
 use Rattle.simplex.specs.declared.ends.Ends.{Ends}
 use Rattle.dictionary.specs.ProgramRows.{program_rows, times_sign}
@@ -71,19 +72,21 @@ module _ (p : Parts) (cs : List Ends) (I : Instance) (cut : IsCutBy p cs I) wher
   signed Min x = refl
   signed Max x = refl
 
-  goal_is : (z : Bool) (j : ℕ) → times_sign (factor_of z p.goal.sense) (value_at (ratios p.goal.costs) j) ≡ goal_row z (program p) j
-  goal_is true j = refl
-  goal_is false j = signed p.goal.sense (value_at (ratios p.goal.costs) j)
+  -- the instance's own goal
+  module _ (o : Own) (own : goal o ≡ (program p).goal) where
+    goal_is : (z : Bool) (j : ℕ) → times_sign (factor_of z o.sense) (value_at (ratios o.costs) j) ≡ goal_row z (program p) j
+    goal_is true j = refl
+    goal_is false j = signed o.sense (value_at (ratios o.costs) j) ∙ ap (λ (g : Goal). minimising_by g.sense (get_or g.costs j none)) own
 
-  own_rows : (z : Bool) → program_rows p.entries p.goal.costs (factor_of z p.goal.sense) (length p.rows) ≡ rows_with_goal z I
-  own_rows z = fun_ext (λ r. fun_ext (λ j.
-      ap₂ (λ k x. cond (nat_lt r k) (entry_at (entries p.entries) r j) x) (sym rows_count) (goal_is z j ∙ goal_cut z j)
-      ∙ ap (λ es. cond (nat_lt r (height I)) (entry_at es r j) (goal_row z I j)) (sym cut.entries)))
+    own_rows : (z : Bool) → program_rows p.entries o.costs (factor_of z o.sense) (length p.rows) ≡ rows_with_goal z I
+    own_rows z = fun_ext (λ r. fun_ext (λ j.
+        ap₂ (λ k x. cond (nat_lt r k) (entry_at (entries p.entries) r j) x) (sym rows_count) (goal_is z j ∙ goal_cut z j)
+        ∙ ap (λ es. cond (nat_lt r (height I)) (entry_at es r j) (goal_row z I j)) (sym cut.entries)))
 
-  -- the rows and the goal's, as they are loaded
-  pub rows_loaded : (z : Bool) (es : List Entry) (costs : List Frac) (k : ℤ) (m : ℕ) → es ≡ p.entries → costs ≡ p.goal.costs → k ≡ factor_of z p.goal.sense → m ≡ length p.rows → program_rows es costs k m ≡ rows_with_goal z I
-  rows_loaded z es costs k m e f g h =
-      ap₂ (λ a b. program_rows a b k m) e f ∙ ap₂ (λ a b. program_rows p.entries p.goal.costs a b) g h ∙ own_rows z
+    -- the rows and the goal's, as they are loaded
+    pub rows_loaded : (z : Bool) (es : List Entry) (costs : List Frac) (k : ℤ) (m : ℕ) → es ≡ p.entries → costs ≡ o.costs → k ≡ factor_of z o.sense → m ≡ length p.rows → program_rows es costs k m ≡ rows_with_goal z I
+    rows_loaded z es costs k m e f g h =
+        ap₂ (λ a b. program_rows a b k m) e f ∙ ap₂ (λ a b. program_rows p.entries o.costs a b) g h ∙ own_rows z
 
-  pub start_cut : (z : Bool) (s : Option Frac) → IsStart z (minimising_by (sense p.goal.sense) (ratio p.goal.constant)) s → IsStart z (minimising I I.goal.constant) s
-  start_cut z s h = subst (λ x. IsStart z x s) (ap (λ (g : Goal). minimising_by g.sense g.constant) (sym cut.goal)) h
+    pub start_cut : (z : Bool) (s : Option Frac) → IsStart z (minimising_by (sense o.sense) (ratio o.constant)) s → IsStart z (minimising I I.goal.constant) s
+    start_cut z s h = subst (λ x. IsStart z x s) (ap (λ (g : Goal). minimising_by g.sense g.constant) (own ∙ sym cut.goal)) h

@@ -57,9 +57,9 @@ fn begin<L: Ledger>(
         return Some(col);
     }
     set_first(ends, cuts.len(), statuses);
-    let sense = instance.goal().sense;
-    let costs = instance.goal().costs.as_slice();
-    dict.load(instance.entries(), costs, factor(zero_goal, sense), steps);
+    let own = instance.first_goal();
+    let costs = own.costs.as_slice();
+    dict.load(instance.entries(), costs, factor(zero_goal, own.sense), steps);
     None
 }
 
@@ -105,7 +105,7 @@ pub fn run_over<W: Watch, L: Ledger>(
     }
     set_rest(ends, statuses, rest, goal);
     clear(known);
-    let own = instance.goal();
+    let own = instance.first_goal();
     let start = start(zero_goal, own.sense, own.constant);
     let finish = make_turns(
         dict, ends, statuses, rest, values, known, start, turns, watch, goal, steps,

@@ -37,9 +37,9 @@ returns-clause-fresh g c = λ _ I cut. c.set_first.ensures.fresh I (ends g (goal
 pub returns-clause-holds : goal.returns-clause-holds
 returns-clause-holds g c = λ _ I cut.
     subst (λ (A : Entries). Holds A c.load.new.self)
-    (rows_loaded c.args.instance.now c.args.cuts.now I cut c.args.zero_goal c.entries.result.now c.as_slice-costs.result.now (to_z w8 (of_z w8 c.factor.result)) _
+    (rows_loaded c.args.instance.now c.args.cuts.now I cut c.first_goal-own.result.now c.first_goal-own.ensures.goal c.args.zero_goal c.entries.result.now c.as_slice-costs.result.now (to_z w8 (of_z w8 c.factor.result)) _
     c.entries.ensures.value
-    (c.as_slice-costs.ensures ∙ ap (λ (g : Goal). g.costs) c.goal-2.ensures.value)
-    (ap (λ f. to_z w8 (of_z w8 f)) (c.factor.ensures ∙ ap (λ (g : Goal). factor_of c.args.zero_goal g.sense) c.goal.ensures.value) ∙ factor_fits c.args.zero_goal c.args.instance.now.goal.sense)
+    c.as_slice-costs.ensures
+    (ap (λ f. to_z w8 (of_z w8 f)) c.factor.ensures ∙ factor_fits c.args.zero_goal c.first_goal-own.result.now.sense)
     c.requires.rows)
     c.load.ensures.holds

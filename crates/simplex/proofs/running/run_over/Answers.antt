@@ -33,8 +33,8 @@ returns-clause-run g c =
             width = c.begin.ensures.size.width ∙ c.requires.vars ∙ sym c.requires.cuts ∙ sym cut.width;
             height = c.begin.ensures.size.height ∙ c.requires.rows ∙ sym (rows_count c.args.instance.now c.args.cuts.now I cut);
           } in
-          let start = start_cut c.args.instance.now c.args.cuts.now I cut c.args.zero_goal c.start-start.result
-          (subst (λ (o : Goal). IsStart c.args.zero_goal (minimising_by (sense o.sense) (ratio o.constant)) c.start-start.result) c.goal-own.ensures.value c.start-start.ensures) in
+          let start = start_cut c.args.instance.now c.args.cuts.now I cut c.first_goal-own.result.now c.first_goal-own.ensures.goal c.args.zero_goal c.start-start.result
+          c.start-start.ensures in
           let r = m.2 I c.args.zero_goal t looks (c.in_default.ensures.ends I cut) size start (c.in_default.ensures.holds refl I cut) (c.in_default.ensures.fresh refl I cut) most
           (subst (λ (b : Bool). AgreesWith t.stop looks m.0 b) e tells) in
           let wide : Of.width I ≡ length c.args.movements.now = cut.width ∙ c.requires.cuts ∙ sym c.requires.movements in
