@@ -14,6 +14,5 @@ branches_same bs b d h e g = below_more bs b e (omega arith)
 pub branches_more : (n : ℕ) (bs : List Branch) (b : Branch) (d : ℕ) → d ≤ length bs → AreBranches n bs d → AreBranches n (bs ++ b ∷ []) d
 branches_more n bs b d h a = record {
   columns = λ e g. rw (below_more bs b e (omega arith)) (a.columns e g);
-  low = λ e g. rw (below_more bs b e (omega arith)) (a.low e g);
-  high = λ e g. rw (below_more bs b e (omega arith)) (a.high e g);
+  next = λ e g. rw (below_more bs b e (omega arith)) (a.next e g);
 }
