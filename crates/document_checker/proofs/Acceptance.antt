@@ -3,8 +3,8 @@ use Rattle.std.proofs.Common.{◌≡◌, ◌∙◌, ℕ, Some, List, ap, sym, su
 use Rattle.evidence.specs.Claim.{Accepts, IsTrueOf}
 use Rattle.evidence.proofs.Acceptance.{accepted}
 use Rattle.instance.specs.Parts.{Parts}
-use Rattle.instance.specs.Program.{program}
-use Rattle.instance.proofs.Numbers.{program-instance}
+use Rattle.instance.specs.Program.{problem}
+use Rattle.instance.proofs.Numbers.{problem-numbers}
 use Rattle.certificate.specs.declared.claims.Claim.{Claim}
 use Rattle.certificate.specs.Meanings as Means
 use Rattle.osil_grammar.specs.Reading.{IsInstanceText}
@@ -30,7 +30,7 @@ module _ (instances : InstancesAreOne) (reports : ReportsAreOne) where
   pub one_kind : (osil osrl : List ℕ) (j k : Kind) → IsAcceptedText osil osrl j → IsAcceptedText osil osrl k → j ≡ k
   one_kind osil osrl j k a b = some_once (sym (own_kind osil osrl j b.report b.accepts.claim a b.report_text b.accepts.stands) ∙ b.accepts.says)
 
-  pub documents_true : (osil osrl : List ℕ) (k : Kind) (p : Parts) (report : Report) (c : Claim) → IsAcceptedText osil osrl k → IsInstanceText osil p → IsReportText osrl report → report.claim ≡ Some c → IsTrueOf (program p) (Means.claim c)
+  pub documents_true : (osil osrl : List ℕ) (k : Kind) (p : Parts) (report : Report) (c : Claim) → IsAcceptedText osil osrl k → IsInstanceText osil p → IsReportText osrl report → report.claim ≡ Some c → IsTrueOf (problem p) (Means.claim c)
   documents_true osil osrl k p report c a is said has =
-      let shown : Accepts (program a.parts) (Means.claim c) = subst (λ (d : Claim). Accepts (program a.parts) (Means.claim d)) (own_claim osil osrl k report c a said has) a.accepts.accepted in
-      accepted (program p) (Means.claim c) (program-instance p) (subst (λ (q : Parts). Accepts (program q) (Means.claim c)) (instances.once osil a.parts p a.instance_text is) shown)
+      let shown : Accepts (problem a.parts) (Means.claim c) = subst (λ (d : Claim). Accepts (problem a.parts) (Means.claim d)) (own_claim osil osrl k report c a said has) a.accepts.accepted in
+      accepted (problem p) (Means.claim c) (problem-numbers p) (subst (λ (q : Parts). Accepts (problem q) (Means.claim c)) (instances.once osil a.parts p a.instance_text is) shown)

@@ -1,9 +1,10 @@
 -- Documents that are accepted aren't refused.
 use Rattle.std.proofs.Common.{◌≡◌, ◌∙◌, ℕ, Option, None, Some, List, inl, inr, ap, sym, subst}
-use Rattle.evidence.specs.Instance.{Instance}
+use Rattle.evidence.specs.Instance.{Problem, IsProblem}
 use Rattle.evidence.specs.Claim.{Accepts}
 use Rattle.instance.specs.Parts.{Parts}
-use Rattle.instance.specs.Program.{program}
+use Rattle.instance.specs.Program.{problem}
+use Rattle.instance.proofs.Numbers.{problem-numbers}
 use Rattle.certificate.specs.declared.claims.Claim.{Claim}
 use Rattle.certificate.specs.Meanings as Means
 use Rattle.osil_grammar.specs.Reading.{IsInstanceText}
@@ -25,19 +26,19 @@ module _ (instances : InstancesAreOne) (reports : ReportsAreOne) where
   pub no_report : (osrl : List ℕ) (report : Report) (f : CheckFault) → IsReportText osrl report → NoReport osrl f → ⊥
   no_report osrl report f said h = h.told (reports.apart osrl report h.fault said h.fails)
 
-  claim_apart : (I : Instance) (o : Option Claim) (c : Claim) (f : CheckFault) → o ≡ Some c → Accepts I (Means.claim c) → ClaimRefuses I o f → ⊥
-  claim_apart I None c f has accepted h = cc
-  claim_apart I (Some d) c f has accepted (r, h, is) =
+  claim_apart : (P : Problem) (o : Option Claim) (c : Claim) (f : CheckFault) → IsProblem P → o ≡ Some c → Accepts P (Means.claim c) → ClaimRefuses P o f → ⊥
+  claim_apart P None c f good has accepted h = cc
+  claim_apart P (Some d) c f good has accepted (r, h, is) =
       let same : d ≡ c = cc in
-      not_accepted I (Means.claim c) r (subst (λ (e : Claim). IsRefusedFor I (Means.claim e) r) same h) accepted
+      not_accepted P (Means.claim c) r good (subst (λ (e : Claim). IsRefusedFor P (Means.claim e) r) same h) accepted
 
   check_apart : (osil osrl : List ℕ) (k : Kind) (f : CheckFault) → IsAcceptedText osil osrl k → CheckRefuses osil osrl f → ⊥
   check_apart osil osrl k f a h =
       let instance : a.parts ≡ h.parts = instances.once osil a.parts h.parts a.instance_text h.instance_text in
       let report : a.report ≡ h.report = reports.once osrl a.report h.report a.report_text h.report_text in
-      claim_apart (program h.parts) h.report.claim a.accepts.claim f
+      claim_apart (problem h.parts) h.report.claim a.accepts.claim f (problem-numbers h.parts)
       (sym (ap (λ (s : Report). s.claim) report) ∙ a.accepts.stands)
-      (subst (λ (p : Parts). Accepts (program p) (Means.claim a.accepts.claim)) instance a.accepts.accepted)
+      (subst (λ (p : Parts). Accepts (problem p) (Means.claim a.accepts.claim)) instance a.accepts.accepted)
       h.refuses
 
   pub accepted_apart : (osil osrl : List ℕ) (k : Kind) (f : CheckFault) → IsAcceptedText osil osrl k → DocsRefuse osil osrl f → f ≡ faults.Memory

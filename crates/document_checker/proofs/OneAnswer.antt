@@ -3,7 +3,8 @@ use Rattle.std.proofs.Common.{◌≡◌, ◌∙◌, ℕ, Option, None, Some, Res
 use Rattle.std.specs.Prelude.{MatchResult, codes}
 use Rattle.evidence.specs.Instance as Of
 use Rattle.instance.specs.Parts.{Parts}
-use Rattle.instance.specs.Program.{program}
+use Rattle.instance.specs.Program.{problem}
+use Rattle.instance.proofs.Numbers.{problem-numbers}
 use Rattle.certificate.specs.declared.claims.Claim.{Claim}
 use Rattle.certificate.specs.Meanings as Means
 use Rattle.osrl_grammar.specs.declared.report.Report.{Report}
@@ -32,16 +33,16 @@ module _ (instances : InstancesAreOne) (reports : ReportsAreOne) (told : TreeFau
   report_once : (osrl : List ℕ) (r s : CheckFault) → NoReport osrl r → NoReport osrl s → r ≡ s
   report_once osrl r s h k = h.is ∙ ap faults.Result (reports.refused osrl h.fault k.fault h.told k.told h.fails k.fails) ∙ sym k.is
 
-  claim_once : (I : Of.Instance) (o : Option Claim) (r s : CheckFault) → ClaimRefuses I o r → ClaimRefuses I o s → r ≡ s
-  claim_once I None r s h k = h ∙ sym k
-  claim_once I (Some c) r s (p, h, is) (q, k, also) = is ∙ ap faults.Claim (reason_once I (Means.claim c) p q h k) ∙ sym also
+  claim_once : (P : Of.Problem) (o : Option Claim) (r s : CheckFault) → Of.IsProblem P → ClaimRefuses P o r → ClaimRefuses P o s → r ≡ s
+  claim_once P None r s good h k = h ∙ sym k
+  claim_once P (Some c) r s good (p, h, is) (q, k, also) = is ∙ ap faults.Claim (reason_once P (Means.claim c) p q good h k) ∙ sym also
 
   check_once : (osil osrl : List ℕ) (r s : CheckFault) → CheckRefuses osil osrl r → CheckRefuses osil osrl s → r ≡ s
   check_once osil osrl r s h k =
       let instance : h.parts ≡ k.parts = instances.once osil h.parts k.parts h.instance_text k.instance_text in
       let report : h.report ≡ k.report = reports.once osrl h.report k.report h.report_text k.report_text in
-      claim_once (program k.parts) k.report.claim r s
-      (subst (λ (p : Parts). ClaimRefuses (program p) k.report.claim r) instance (subst (λ (q : Report). ClaimRefuses (program h.parts) q.claim r) report h.refuses))
+      claim_once (problem k.parts) k.report.claim r s (problem-numbers k.parts)
+      (subst (λ (p : Parts). ClaimRefuses (problem p) k.report.claim r) instance (subst (λ (q : Report). ClaimRefuses (problem h.parts) q.claim r) report h.refuses))
       k.refuses
 
   same_text : (r s : CheckFault) (t u : List ℕ) → r ≡ s → IsCheckFaultText r t → IsCheckFaultText s u → t ≡ u

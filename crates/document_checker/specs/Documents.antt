@@ -3,7 +3,7 @@ use Rattle.std.specs.Prelude.{◌≡◌, ◌⊎◌, ℕ, Option, None, Some, Lis
 use Rattle.evidence.specs.Instance as Of
 use Rattle.evidence.specs.Claim.{Accepts}
 use Rattle.instance.specs.Parts.{Parts}
-use Rattle.instance.specs.Program.{program}
+use Rattle.instance.specs.Program.{problem}
 use Rattle.certificate.specs.declared.claims.Claim.{Claim}
 use Rattle.certificate.specs.declared.claims.Claim.TheVariants as claims
 use Rattle.certificate.specs.Meanings as Means
@@ -26,10 +26,10 @@ use Rattle.cert_checker.specs.Refusals.{IsRefusedFor}
 
 -- what a claim says; nothing where its maker wasn't sure
 abbrev pub kind : Claim → Option Kind
-kind (claims.Optimal x v ns) = Some Optimal
-kind (claims.Infeasible ns) = Some Infeasible
-kind (claims.Unbounded x v r) = Some Unbounded
-kind (claims.BestSoFar x v c) = Some BestSoFar
+kind (claims.Optimal x vs cs) = Some Optimal
+kind (claims.Infeasible c) = Some Infeasible
+kind (claims.Unbounded x vs cs r) = Some Unbounded
+kind (claims.BestSoFar x vs c) = Some BestSoFar
 kind (claims.Unsure c) = None
 
 -- the report has a claim of this kind that is accepted of the instance
@@ -37,15 +37,15 @@ pub record ReportAccepts (p : Parts) (report : Report) (k : Kind) : Type 0 where
   pub claim : Claim
   pub stands : report.claim ≡ Some claim
   pub says : kind claim ≡ Some k
-  pub accepted : Accepts (program p) (Means.claim claim)
+  pub accepted : Accepts (problem p) (Means.claim claim)
 
 -- what a claim that stands or doesn't is refused for
-abbrev pub ClaimRefuses : Of.Instance → Option Claim → CheckFault → Type 0
-ClaimRefuses I None f = f ≡ faults.Claim NoClaim
-ClaimRefuses I (Some c) f = (r : Refused) × IsRefusedFor I (Means.claim c) r × (f ≡ faults.Claim r)
+abbrev pub ClaimRefuses : Of.Problem → Option Claim → CheckFault → Type 0
+ClaimRefuses P None f = f ≡ faults.Claim NoClaim
+ClaimRefuses P (Some c) f = (r : Refused) × IsRefusedFor P (Means.claim c) r × (f ≡ faults.Claim r)
 
 abbrev pub ReportRefuses : Parts → Report → CheckFault → Type 0
-ReportRefuses p report f = ClaimRefuses (program p) report.claim f
+ReportRefuses p report f = ClaimRefuses (problem p) report.claim f
 
 -- the bytes are no instance's document, for this reason; want of memory is none
 pub record NoInstance (osil : List ℕ) (f : CheckFault) : Type 0 where

@@ -1,11 +1,13 @@
 -- The texts of answers.
-use Rattle.std.specs.Prelude.{◌≡◌, ℕ, Result, Ok, Err, List, ◌∷◌, ◌++◌, codes, decimal}
+use Rattle.std.specs.Prelude.{◌≡◌, ℕ, Result, Ok, Err, List, [], ◌∷◌, ◌++◌, cond, nat_eq, codes, decimal}
 use Rattle.osil_grammar.specs.Reading as instances
 use Rattle.osrl_grammar.specs.Texts as results
 use Rattle.document_checker.specs.declared.documents.Kind.{Kind}
 use Rattle.document_checker.specs.declared.documents.Kind.TheVariants.{Optimal, Infeasible, Unbounded, BestSoFar}
 use Rattle.cert_checker.specs.declared.refused.Refused.{Refused}
-use Rattle.cert_checker.specs.declared.refused.Refused.TheVariants.{NotFeasible, Tree, Sign, Form, Sum, Value, Direction, NoClaim, Wide}
+use Rattle.cert_checker.specs.declared.refused.Refused.TheVariants.{NotFeasible, WidePoint, Value, Round, WideRound, Levels, Level, NoClaim}
+use Rattle.cert_checker.specs.declared.refused.Unshown.{Unshown}
+use Rattle.cert_checker.specs.declared.refused.Unshown.TheVariants.{Tree, Sign, Form, Sum, Direction, Wide}
 use Rattle.document_checker.specs.declared.fault.CheckFault.{CheckFault}
 use Rattle.document_checker.specs.declared.fault.CheckFault.TheVariants as faults
 
@@ -15,31 +17,47 @@ kind_name Infeasible = codes "infeasible"
 kind_name Unbounded = codes "unbounded"
 kind_name BestSoFar = codes "bestSoFar"
 
--- a reason's name alone, with a number, and with two; one space between
-abbrev pub reason_named : (name : List ℕ) → List ℕ
-reason_named name = codes "refused " ++ name
+-- a name with a number, and with two; one space between
+abbrev pub numbered : List ℕ → ℕ → List ℕ
+numbered name n = name ++ (32 ∷ decimal n)
 
-abbrev pub reason_numbered : (name : List ℕ) → ℕ → List ℕ
-reason_numbered name n = reason_named name ++ (32 ∷ decimal n)
+abbrev pub placed : List ℕ → ℕ → ℕ → List ℕ
+placed name n m = numbered name n ++ (32 ∷ decimal m)
 
-abbrev pub reason_placed : (name : List ℕ) → ℕ → ℕ → List ℕ
-reason_placed name n m = reason_numbered name n ++ (32 ∷ decimal m)
+abbrev pub reason : List ℕ → List ℕ
+reason words = codes "refused " ++ words
 
 -- a document's name, and what its own text says
 abbrev pub quoted : (name : List ℕ) → List ℕ → List ℕ
-quoted name told = reason_named name ++ (32 ∷ told)
+quoted name told = reason name ++ (32 ∷ told)
+
+-- why a certificate or a direction is refused
+abbrev pub unshown_words : Unshown → List ℕ
+unshown_words (Tree n) = numbered (codes "Tree") n
+unshown_words (Sign n c) = placed (codes "Sign") n c
+unshown_words (Form n c) = placed (codes "Form") n c
+unshown_words (Sum n) = numbered (codes "Sum") n
+unshown_words (Direction c) = numbered (codes "Direction") c
+unshown_words (Wide n) = numbered (codes "Wide") n
+
+-- its level, from the second on
+abbrev pub level_words : ℕ → List ℕ
+level_words level = cond (nat_eq level 1) [] (numbered (codes "Level") level ++ (32 ∷ []))
+
+-- why a claim is refused
+abbrev pub refused_words : Refused → List ℕ
+refused_words (NotFeasible c) = numbered (codes "NotFeasible") c
+refused_words WidePoint = numbered (codes "Wide") 0
+refused_words Value = codes "Value"
+refused_words (Round n c) = placed (codes "Round") n c
+refused_words (WideRound n) = numbered (codes "WideRound") n
+refused_words (Levels n) = numbered (codes "Levels") n
+refused_words (Level level why) = level_words level ++ unshown_words why
+refused_words NoClaim = codes "NoClaim"
 
 -- the text of a reason for which a claim is refused
 abbrev pub refused_text : Refused → List ℕ
-refused_text (NotFeasible c) = reason_numbered (codes "NotFeasible") c
-refused_text (Tree n) = reason_numbered (codes "Tree") n
-refused_text (Sign n c) = reason_placed (codes "Sign") n c
-refused_text (Form n c) = reason_placed (codes "Form") n c
-refused_text (Sum n) = reason_numbered (codes "Sum") n
-refused_text Value = reason_named (codes "Value")
-refused_text (Direction c) = reason_numbered (codes "Direction") c
-refused_text NoClaim = reason_named (codes "NoClaim")
-refused_text (Wide n) = reason_numbered (codes "Wide") n
+refused_text r = reason (refused_words r)
 
 -- the text of why documents aren't accepted; want of memory has none
 abbrev pub IsCheckFaultText : CheckFault → List ℕ → Type 0

@@ -1,12 +1,13 @@
 //! Checks of documents.
 
-ghost use Rattle.std.specs.Prelude.{◌≡◌, ◌⊎◌, ◌<◌, ◌^◌, Some, IfOk, IfErr, length};
+ghost use Rattle.std.specs.Prelude.{◌≡◌, ◌⊎◌, Some, IfOk, IfErr};
 ghost use Rattle.std.specs.List.{All};
 ghost use Rattle.evidence.specs.Claim.{Accepts};
-ghost use Rattle.instance.specs.Program.{program};
+ghost use Rattle.instance.specs.Program.{problem};
 ghost use Rattle.certificate.specs.Meanings as Means;
 ghost use Rattle.certificate.specs.Nodes.{nodes_of, IsInRange};
 ghost use Rattle.certificate.specs.declared.claims.Claim as carried;
+ghost use Rattle.cert_checker.specs.Cuts.{AreWithin};
 ghost use Rattle.osil_grammar.specs.Reading.{IsInstanceText};
 ghost use Rattle.osrl_grammar.specs.Reading.{IsReportText};
 ghost use Rattle.document_checker.specs.declared.fault.CheckFault.TheVariants.{Memory};
@@ -48,10 +49,10 @@ fn kind_of(claim: &Claim) -> Option<Kind>
 
 /// Checks a claim in room that is taken for it.
 fn check_claim(alloc: Global, instance: &Instance, claim: &Claim) -> Result<(), CheckFault>
-    requires few { length (nodes_of claim.now) < 2 ^ 32 }
+    requires few { AreWithin claim.now }
     requires range { All IsInRange (nodes_of claim.now) }
-    ensures ok { IfOk result (λ _. Accepts (program instance.now) (Means.claim claim.now)) }
-    ensures err { IfErr result (λ f. ClaimRefuses (program instance.now) (Some claim.now) f ⊎ (f ≡ Memory)) }
+    ensures ok { IfOk result (λ _. Accepts (problem instance.now) (Means.claim claim.now)) }
+    ensures err { IfErr result (λ f. ClaimRefuses (problem instance.now) (Some claim.now) f ⊎ (f ≡ Memory)) }
 {
     let mut scratch = Scratch::for_claim(alloc, instance, claim)?;
     match check(instance, claim, &mut scratch) {
@@ -62,7 +63,7 @@ fn check_claim(alloc: Global, instance: &Instance, claim: &Claim) -> Result<(), 
 
 /// Checks the claim of a report, if it has one.
 fn check_report(alloc: Global, instance: &Instance, report: &Report) -> Result<Kind, CheckFault>
-    requires { (c : carried.Claim) → report.now.claim ≡ Some c → (length (nodes_of c) < 2 ^ 32) × All IsInRange (nodes_of c) }
+    requires { (c : carried.Claim) → report.now.claim ≡ Some c → AreWithin c × All IsInRange (nodes_of c) }
     ensures ok { IfOk result (ReportAccepts instance.now report.now) }
     ensures err { IfErr result (λ f. ReportRefuses instance.now report.now f ⊎ (f ≡ Memory)) }
 {

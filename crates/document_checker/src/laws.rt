@@ -1,7 +1,7 @@
 ghost use Rattle.std.specs.Prelude.{◌≡◌, ℕ, Some, Result, MatchResult, List};
 ghost use Rattle.evidence.specs.Claim.{IsTrueOf};
 ghost use Rattle.instance.specs.Parts.{Parts};
-ghost use Rattle.instance.specs.Program.{program};
+ghost use Rattle.instance.specs.Program.{problem};
 ghost use Rattle.certificate.specs.declared.claims.Claim as carried;
 ghost use Rattle.certificate.specs.Meanings as Means;
 ghost use Rattle.osil_grammar.specs.Reading.{IsInstanceText};
@@ -55,7 +55,7 @@ pub fn documents_have_one_kind()
 /// the report's claim is of the accepted kind, and what it says holds of the instance's points.
 pub fn accepted_documents_are_true()
     ensures kind { (osil osrl : List ℕ) (k : Kind) (report : Report) (c : carried.Claim) → IsAcceptedText osil osrl k → IsReportText osrl report → report.claim ≡ Some c → kind c ≡ Some k }
-    ensures is_true { (osil osrl : List ℕ) (k : Kind) (p : Parts) (report : Report) (c : carried.Claim) → IsAcceptedText osil osrl k → IsInstanceText osil p → IsReportText osrl report → report.claim ≡ Some c → IsTrueOf (program p) (Means.claim c) }
+    ensures is_true { (osil osrl : List ℕ) (k : Kind) (p : Parts) (report : Report) (c : carried.Claim) → IsAcceptedText osil osrl k → IsInstanceText osil p → IsReportText osrl report → report.claim ≡ Some c → IsTrueOf (problem p) (Means.claim c) }
 {
     instances_are_one();
     reports_are_one();

@@ -5,7 +5,7 @@ ghost use Rattle.document_checker.specs.Texts as spoken;
 
 use crate::documents::Kind;
 use crate::fault::CheckFault;
-use cert_checker::Refused;
+use cert_checker::{Refused, Unshown};
 use itoa::Buffer;
 use os_io::{Memory, Text};
 use std::alloc::{AllocError, Global};
@@ -23,37 +23,79 @@ fn kind_name(kind: Kind) -> &'static [u8]
 }
 
 /// Appends a number behind a space.
-fn put_number(text: &mut Text, n: u32) -> Result<(), Memory>
+fn put_number(text: &mut Text, n: u64) -> Result<(), Memory>
     ensures { OnOk result (text.new ≡ text.old ++ (32 ∷ decimal n)) }
 {
     text.push(b' ')?;
     text.extend(Buffer::new().format(n).as_bytes())
 }
 
-/// `refused` and a name.
-fn named(alloc: Global, name: &[u8]) -> Result<Text, Memory>
-    ensures { IfOk result (λ t. t ≡ spoken.reason_named name.now) }
+/// Appends a name and a number.
+fn put_numbered(text: &mut Text, name: &[u8], n: u64) -> Result<(), Memory>
+    ensures { OnOk result (text.new ≡ text.old ++ spoken.numbered name.now n) }
+{
+    text.extend(name)?;
+    put_number(text, n)
+}
+
+/// Appends a name and two numbers.
+fn put_placed(text: &mut Text, name: &[u8], n: u32, m: u32) -> Result<(), Memory>
+    ensures { OnOk result (text.new ≡ text.old ++ spoken.placed name.now n m) }
+{
+    put_numbered(text, name, n as u64)?;
+    put_number(text, m as u64)
+}
+
+/// Appends why a certificate or a direction is refused.
+fn put_unshown(text: &mut Text, why: Unshown) -> Result<(), Memory>
+    ensures { OnOk result (text.new ≡ text.old ++ spoken.unshown_words why) }
+{
+    match why {
+        Unshown::Tree { node } => put_numbered(text, b"Tree", node as u64),
+        Unshown::Sign { node, col } => put_placed(text, b"Sign", node, col),
+        Unshown::Form { node, col } => put_placed(text, b"Form", node, col),
+        Unshown::Sum { node } => put_numbered(text, b"Sum", node as u64),
+        Unshown::Direction { col } => put_numbered(text, b"Direction", col as u64),
+        Unshown::Wide { node } => put_numbered(text, b"Wide", node as u64),
+    }
+}
+
+/// Appends a level, from the second on.
+fn put_level(text: &mut Text, level: u32) -> Result<(), Memory>
+    ensures { OnOk result (text.new ≡ text.old ++ spoken.level_words level) }
+{
+    if level == 1 {
+        return Ok(());
+    }
+    put_numbered(text, b"Level", level as u64)?;
+    text.push(b' ')
+}
+
+/// Appends why a claim is refused.
+fn put_refused(text: &mut Text, reason: Refused) -> Result<(), Memory>
+    ensures { OnOk result (text.new ≡ text.old ++ spoken.refused_words reason) }
+{
+    match reason {
+        Refused::NotFeasible { col } => put_numbered(text, b"NotFeasible", col as u64),
+        Refused::WidePoint => put_numbered(text, b"Wide", 0),
+        Refused::Value => text.extend(b"Value"),
+        Refused::Round { round, col } => put_placed(text, b"Round", round, col),
+        Refused::WideRound { round } => put_numbered(text, b"WideRound", round as u64),
+        Refused::Levels { found } => put_numbered(text, b"Levels", found as u64),
+        Refused::Level { level, why } => {
+            put_level(text, level)?;
+            put_unshown(text, why)
+        }
+        Refused::NoClaim => text.extend(b"NoClaim"),
+    }
+}
+
+/// `refused`, and why a claim is.
+fn refused_text(alloc: Global, reason: Refused) -> Result<Text, Memory>
+    ensures { IfOk result (λ t. t ≡ spoken.refused_text reason) }
 {
     let mut text = Text::from_slice(alloc, b"refused ")?;
-    text.extend(name)?;
-    Ok(text)
-}
-
-/// The same, and a number.
-fn numbered(alloc: Global, name: &[u8], n: u32) -> Result<Text, Memory>
-    ensures { IfOk result (λ t. t ≡ spoken.reason_numbered name.now n) }
-{
-    let mut text = named(alloc, name)?;
-    put_number(&mut text, n)?;
-    Ok(text)
-}
-
-/// The same, and a second number.
-fn placed(alloc: Global, name: &[u8], n: u32, m: u32) -> Result<Text, Memory>
-    ensures { IfOk result (λ t. t ≡ spoken.reason_placed name.now n m) }
-{
-    let mut text = numbered(alloc, name, n)?;
-    put_number(&mut text, m)?;
+    put_refused(&mut text, reason)?;
     Ok(text)
 }
 
@@ -61,27 +103,11 @@ fn placed(alloc: Global, name: &[u8], n: u32, m: u32) -> Result<Text, Memory>
 fn quoted(alloc: Global, name: &[u8], told: &Text) -> Result<Text, Memory>
     ensures { IfOk result (λ t. t ≡ spoken.quoted name.now told.now) }
 {
-    let mut text = named(alloc, name)?;
+    let mut text = Text::from_slice(alloc, b"refused ")?;
+    text.extend(name)?;
     text.push(b' ')?;
     text.extend(told.as_slice())?;
     Ok(text)
-}
-
-/// Why a claim is refused.
-fn refused_text(alloc: Global, reason: Refused) -> Result<Text, Memory>
-    ensures { IfOk result (λ t. t ≡ spoken.refused_text reason) }
-{
-    match reason {
-        Refused::NotFeasible { col } => numbered(alloc, b"NotFeasible", col),
-        Refused::Tree { node } => numbered(alloc, b"Tree", node),
-        Refused::Sign { node, col } => placed(alloc, b"Sign", node, col),
-        Refused::Form { node, col } => placed(alloc, b"Form", node, col),
-        Refused::Sum { node } => numbered(alloc, b"Sum", node),
-        Refused::Value => named(alloc, b"Value"),
-        Refused::Direction { col } => numbered(alloc, b"Direction", col),
-        Refused::NoClaim => named(alloc, b"NoClaim"),
-        Refused::Wide { node } => numbered(alloc, b"Wide", node),
-    }
 }
 
 /// Why documents aren't accepted.
