@@ -18,11 +18,10 @@ use Rattle.simplex_rules.specs.Looks.{IsAfter}
 use Rattle.search_rules.specs.Search.{Moment, Outcome, To, Out, Next, MeetsPoint, GoesFrom, IsCaseRun, IsNext, early, ComesInSearch, IsSearchAnswer, searched, given_up_after}
 use Rattle.instance.specs.Parts.{Parts}
 use Rattle.instance.specs.Program.{program}
-use Rattle.certificate.specs.declared.claims.Claim.{Claim}
+use Rattle.branch_bound.specs.declared.ended.Ended.{Ended}
 use Rattle.branch_bound.specs.declared.walk.Walk.{Walk}
-use Rattle.branch_bound.specs.Claims.{claimed_outcome, is_killed}
 use Rattle.branch_bound.specs.Walks.{best, ray, moment}
-use Rattle.branch_bound.specs.Cases.{OrMemory, EndsSearch, FollowsStep, is_killed_by}
+use Rattle.branch_bound.specs.Cases.{outcome_of, was_killed, OrMemory, EndsSearch, FollowsStep, is_killed_by}
 
 pub ray_is_some : (r : Option (List Frac)) → is_some (ray r) ≡ is_some r
 ray_is_some None = refl
@@ -67,9 +66,9 @@ module _ (I : Instance) (t : Terms) (m : Moment) (J : Instance) (rest : List Ins
 
   pub ends_on : (e : End) (turns k : ℕ) → IsAfter (m.clock.looks + suc k) t.stop
       → Run J zeroed t (clock_of m.clock.turns (m.clock.looks + 1)) e (clock_of turns (m.clock.looks + 1 + k))
-      → (w : Walk) (claim : Claim) → m.best ≡ best w.best → OrMemory w claim (GoesFrom t I J rest (record m { clock = clock_of turns (m.clock.looks + suc k) }) e (Out (claimed_outcome claim) (clock_of turns (m.clock.looks + suc k)))) → EndsSearch I t m (claimed_outcome claim) (clock_of turns (m.clock.looks + suc k))
-  ends_on e turns k after run w claim b (inl q) = inl (e, case_run e turns k after run, q ∙ ap (λ b. early b Memory) (sym b))
-  ends_on e turns k after run w claim b (inr goes) = inr (next_on e turns k after run _ goes)
+      → (w : Walk) (ended : Ended) → m.best ≡ best w.best → OrMemory w ended (GoesFrom t I J rest (record m { clock = clock_of turns (m.clock.looks + suc k) }) e (Out (outcome_of ended) (clock_of turns (m.clock.looks + suc k)))) → EndsSearch I t m (outcome_of ended) (clock_of turns (m.clock.looks + suc k))
+  ends_on e turns k after run w ended b (inl q) = inl (e, case_run e turns k after run, q ∙ ap (λ b. early b Memory) (sym b))
+  ends_on e turns k after run w ended b (inr goes) = inr (next_on e turns k after run _ goes)
 
   pub next_stopped : (turns k : ℕ) → t.stop ≡ Some (m.clock.looks + suc k + 1)
       → Run J zeroed t (clock_of m.clock.turns (m.clock.looks + 1)) Stopped (clock_of turns (m.clock.looks + 1 + k + 1))
@@ -119,14 +118,14 @@ stopped_is Has.TurnLimit w h = absurd (cc)
 stopped_is (Has.Wide s) w h = absurd (cc)
 stopped_is Has.Stopped w h = refl
 
-pub not_killed : (r : Result (Unit {0}) Claim) → IfErr r (λ claim. is_killed claim ≡ false) → is_killed_by r ≡ false
+pub not_killed : (r : Result (Unit {0}) Ended) → IfErr r (λ ended. was_killed ended ≡ false) → is_killed_by r ≡ false
 not_killed (Ok x) h = refl
-not_killed (Err claim) h = h
+not_killed (Err ended) h = h
 
-pub follows : (p : Parts) (t : Terms) (before after : Clock) (w v : Walk) (r : Result (Unit {0}) Claim)
-    → IfOk r (λ x. IsNext (program p) t (moment p w before) (To (moment p v after))) → IfErr r (λ claim. EndsSearch (program p) t (moment p w before) (claimed_outcome claim) after) → FollowsStep p t before after w v r
+pub follows : (p : Parts) (t : Terms) (before after : Clock) (w v : Walk) (r : Result (Unit {0}) Ended)
+    → IfOk r (λ x. IsNext (program p) t (moment (program p) w before) (To (moment (program p) v after))) → IfErr r (λ ended. EndsSearch (program p) t (moment (program p) w before) (outcome_of ended) after) → FollowsStep p t before after w v r
 follows p t before after w v (Ok x) f g = f
-follows p t before after w v (Err claim) f g = g
+follows p t before after w v (Err ended) f g = g
 
 -- a search that ends before the next case is run
 module _ (I : Instance) (t : Terms) (m : Moment) (J : Instance) (rest : List Instance) (is : m.waiting ≡ J ∷ rest) (o : Outcome) where

@@ -1,11 +1,7 @@
 -- Variables as the code reads them.
-use Rattle.std.proofs.Common.{◌≡◌, ℕ, ◌<◌, List, length, slice_index_or, false, sym, ◌∙◌, ap}
+use Rattle.std.proofs.Common.{◌≡◌, ℕ, ◌<◌, List, length, map, get_or, slice_index_or, sym, ◌∙◌, ap}
 use Rattle.std.proofs.lemmas.List.{get_or-map}
-use Rattle.evidence.specs.Instance as Of
-use Rattle.instance.specs.declared.parts.Var.{Var}
-use Rattle.instance.specs.Parts.{Parts}
-use Rattle.instance.specs.Program.{variable}
-use Rattle.case_tree.specs.Cuts.{cut}
+use Rattle.evidence.specs.Instance.{Variable, no_variable}
 
-pub whole_at : (p : Parts) (vs : List Var) (j : ℕ) (v : Var) → j < length vs → v ≡ slice_index_or vs j v → (Of.variable_at (cut p vs) j).whole ≡ v.whole
-whole_at p vs j v h is = ap (λ x. x.whole) (get_or-map variable vs j v (record { range = Of.free; whole = false }) h ∙ sym (ap variable is))
+pub whole_at : {X : Type 0} (variable : X → Variable) (xs : List X) (j : ℕ) (x : X) → j < length xs → x ≡ slice_index_or xs j x → (get_or (map variable xs) j no_variable).whole ≡ (variable x).whole
+whole_at variable xs j x h is = ap (λ (v : Variable). v.whole) (get_or-map variable xs j x no_variable h ∙ sym (ap variable is))

@@ -8,23 +8,21 @@ use Rattle.evidence.specs.Sums.{IsWhole}
 use Rattle.evidence.specs.Instance as Of
 use Rattle.evidence.specs.Point.{value_at}
 use Rattle.evidence.proofs.Columns.{by_lt}
-use Rattle.instance.specs.declared.parts.Var.{Var}
-use Rattle.instance.specs.Parts.{Parts}
-use Rattle.instance.specs.Program.{variable}
-use Rattle.case_tree.specs.Cuts.{cut}
+use Rattle.case_tree.specs.declared.cuts.Cut.{Cut}
+use Rattle.case_tree.specs.Cuts.{cut, cut_variable}
 use Rattle.search_rules.specs.Search.{IsSplit, IsWholeBelow}
 use Rattle.branch_bound.proofs.Floors.{floor_within}
 use Rattle.branch_bound.proofs.Places.{whole_at}
 
-module _ (p : Parts) (vs : List Var) (point : List Ratio) (j : ℕ) (v : Var) (x : Frac) (low : j < length vs) (is : v ≡ slice_index_or vs j v) (here : value_at point j ≡ ratio x) where
-  pub split_at : (k : ℤ) → IsTrue v.whole × (IsWhole (ratio x) → ⊥) × (x.denom ≢ 1) → IsFloor (ratio x) k → IsWholeBelow (cut p vs) point j → IsSplit (cut p vs) point j k
+module _ (I : Of.Instance) (cs : List Cut) (point : List Ratio) (j : ℕ) (c : Cut) (x : Frac) (low : j < length cs) (is : c ≡ slice_index_or cs j c) (here : value_at point j ≡ ratio x) where
+  pub split_at : (k : ℤ) → IsTrue c.var.whole × (IsWhole (ratio x) → ⊥) × (x.denom ≢ 1) → IsFloor (ratio x) k → IsWholeBelow (cut I cs) point j → IsSplit (cut I cs) point j k
   split_at k (must, isnt, den) f below =
       let two : 2 ≤ x.denom = let a = x.above in omega (arith, den) in
       let within = floor_within (ratio x) k two x.numer_within f in
       record {
         branch = record {
-          variable = let e = length-map vs variable in omega arith;
-          whole = subst IsTrue (sym (whole_at p vs j v low is)) must;
+          variable = let e = length-map cs cut_variable in omega arith;
+          whole = subst IsTrue (sym (whole_at cut_variable cs j c low is)) must;
           low = within.0;
           high = within.1;
         };
@@ -33,10 +31,10 @@ module _ (p : Parts) (vs : List Var) (point : List Ratio) (j : ℕ) (v : Var) (x
         floor = subst (λ y. IsFloor y k) (sym here) f;
       }
 
-  pub whole_more : (IsTrue v.whole → IsWhole (ratio x)) → IsWholeBelow (cut p vs) point j → IsWholeBelow (cut p vs) point (j + 1)
+  pub whole_more : (IsTrue c.var.whole → IsWhole (ratio x)) → IsWholeBelow (cut I cs) point j → IsWholeBelow (cut I cs) point (j + 1)
   whole_more own below i h t =
       by_lt i j (λ l. below i l t)
       (λ l.
       let e : i ≡ j = omega arith in
-      let t : IsTrue (Of.variable_at (cut p vs) j).whole = subst (λ i. IsTrue (Of.variable_at (cut p vs) i).whole) e t in
-      subst (λ i. IsWhole (value_at point i)) (sym e) (subst IsWhole (sym here) (own (subst IsTrue (whole_at p vs j v low is) t))))
+      let t : IsTrue (Of.variable_at (cut I cs) j).whole = subst (λ i. IsTrue (Of.variable_at (cut I cs) i).whole) e t in
+      subst (λ i. IsWhole (value_at point i)) (sym e) (subst IsWhole (sym here) (own (subst IsTrue (whole_at cut_variable cs j c low is) t))))

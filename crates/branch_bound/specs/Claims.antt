@@ -1,6 +1,8 @@
 -- What a claim tells of a search.
-use Rattle.std.specs.Prelude.{Bool, true, false}
-use Rattle.fraction.specs.Frac.{ratio, ratios}
+use Rattle.std.specs.Prelude.{◌≡◌, Bool, true, false, Option, None, Some, List, [], ◌∷◌}
+use Rattle.evidence.specs.Cases.{Node}
+use Rattle.evidence.specs.Rounds.{Certificate}
+use Rattle.evidence.specs.Claim as Says
 use Rattle.certificate.specs.Meanings as Means
 use Rattle.certificate.specs.declared.causes.Cause.{Cause}
 use Rattle.certificate.specs.declared.causes.Cause.TheVariants.{Killed, NodeLimit, TurnLimit, Wide, Length, Memory}
@@ -8,12 +10,38 @@ use Rattle.certificate.specs.declared.claims.Claim.{Claim}
 use Rattle.certificate.specs.declared.claims.Claim.TheVariants as Has
 use Rattle.search_rules.specs.Search.{Outcome, Optimal, Infeasible, Unbounded, BestSoFar, Unsure}
 
-abbrev pub claimed_outcome : Claim → Outcome
-claimed_outcome (Has.Optimal x v ns) = Optimal (ratios x) (ratio v) (Means.nodes ns)
-claimed_outcome (Has.Infeasible ns) = Infeasible (Means.nodes ns)
-claimed_outcome (Has.Unbounded x v r) = Unbounded (ratios x) (ratio v) (ratios r)
-claimed_outcome (Has.BestSoFar x v c) = BestSoFar (ratios x) (ratio v) c
-claimed_outcome (Has.Unsure c) = Unsure c
+-- the certificate that has these nodes alone
+abbrev pub only : List Node → Certificate
+only ns = record { rounds = []; nodes = ns }
+
+-- what an outcome says of an instance and its one goal
+abbrev pub said : Outcome → Says.Claim
+said (Optimal x v ns) = Says.Optimal x (v ∷ []) (only ns ∷ [])
+said (Infeasible ns) = Says.Infeasible (only ns)
+said (Unbounded x v r) = Says.Unbounded x (v ∷ []) [] r
+said (BestSoFar x v c) = Says.BestSoFar x (v ∷ [])
+said (Unsure c) = Says.Unsure
+
+-- why the search was given up, if it was
+abbrev pub cause_of : Outcome → Option Cause
+cause_of (Optimal x v ns) = None
+cause_of (Infeasible ns) = None
+cause_of (Unbounded x v r) = None
+cause_of (BestSoFar x v c) = Some c
+cause_of (Unsure c) = Some c
+
+-- and why a claim says so
+abbrev pub claimed_cause : Claim → Option Cause
+claimed_cause (Has.Optimal x vs cs) = None
+claimed_cause (Has.Infeasible cert) = None
+claimed_cause (Has.Unbounded x vs cs r) = None
+claimed_cause (Has.BestSoFar x vs c) = Some c
+claimed_cause (Has.Unsure c) = Some c
+
+-- the claim tells the outcome: what it says, and the cause
+pub record Tells (claim : Claim) (o : Outcome) : Type 0 where
+  pub says : Means.claim claim ≡ said o
+  pub cause : claimed_cause claim ≡ cause_of o
 
 abbrev pub is_kill : Cause → Bool
 is_kill Killed = true
@@ -24,9 +52,9 @@ is_kill Length = false
 is_kill Memory = false
 
 -- a look stopped the search
-abbrev pub is_killed : Claim → Bool
-is_killed (Has.Optimal x v ns) = false
-is_killed (Has.Infeasible ns) = false
-is_killed (Has.Unbounded x v r) = false
-is_killed (Has.BestSoFar x v c) = is_kill c
-is_killed (Has.Unsure c) = is_kill c
+abbrev pub is_killed : Outcome → Bool
+is_killed (Optimal x v ns) = false
+is_killed (Infeasible ns) = false
+is_killed (Unbounded x v r) = false
+is_killed (BestSoFar x v c) = is_kill c
+is_killed (Unsure c) = is_kill c

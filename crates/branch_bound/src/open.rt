@@ -3,12 +3,12 @@ ghost use Rattle.std.specs.Prelude.{◌≡◌, ◌≢◌, ◌≤◌, IsTrue, tru
 ghost use Rattle.fraction.specs.Frac.{ratio};
 ghost use Rattle.evidence.specs.Sums.{IsWhole};
 ghost use Rattle.evidence.specs.Instance as Of;
-ghost use Rattle.instance.specs.Parts.{Parts};
 ghost use Rattle.case_tree.specs.Cuts.{cut};
 ghost use Rattle.simplex.specs.Memory.{width_in, point_of};
 ghost use Rattle.search_rules.specs.Search.{IsSplit, IsWholeBelow};
 
 use crate::points::coordinate;
+use case_tree::Cut;
 use fraction::Frac;
 use instance::Var;
 use simplex::Work;
@@ -30,15 +30,16 @@ fn is_open(var: Var, value: Frac) -> bool
 }
 
 /// The least whole variable whose value at the run's point isn't whole.
-pub fn first_open<L: Ledger>(work: &Work<L>, vars: &[Var]) -> Option<Open>
-    requires width { width_in work.now ≡ length vars.now }
-    requires few { length vars.now ≤ 1000 }
-    ensures { (p : Parts) → MatchOption result (IsWholeBelow (cut p vars.now) (point_of work.now) (Of.width (cut p vars.now))) (λ at. IsSplit (cut p vars.now) (point_of work.now) at.col at.k) }
+pub fn first_open<L: Ledger>(work: &Work<L>, cuts: &[Cut]) -> Option<Open>
+    requires width { width_in work.now ≡ length cuts.now }
+    requires few { length cuts.now ≤ 1000 }
+    ensures { (I : Of.Instance) → MatchOption result (IsWholeBelow (cut I cuts.now) (point_of work.now) (Of.width (cut I cuts.now))) (λ at. IsSplit (cut I cuts.now) (point_of work.now) at.col at.k) }
 {
-    for j in 0..vars.len() {
+    for j in 0..cuts.len() {
         let col = j as u32;
         let value = coordinate(work, col);
-        if is_open(vars[j], value) {
+        let cut = cuts[j];
+        if is_open(cut.var, value) {
             let k = value.floor();
             return Some(Open { col, k });
         }

@@ -1,24 +1,27 @@
 // The search, case by case.
-ghost use Rattle.std.specs.Prelude.{◌≡◌, ℕ, ◌+◌, ◌-◌, ◌^◌, ◌<◌, ◌≤◌, Bool, false, Option, length, IfOk};
-ghost use Rattle.instance.specs.Program.{program};
+ghost use Rattle.std.specs.Prelude.{◌≡◌, ℕ, ◌+◌, ◌-◌, ◌^◌, ◌<◌, ◌≤◌, Bool, false, Option, Some, length, map, IfOk};
+ghost use Rattle.instance.specs.Program.{program, variable};
+ghost use Rattle.certificate.specs.declared.causes.Cause.TheVariants as causes;
+ghost use Rattle.case_tree.specs.Cuts.{cut_variable};
 ghost use Rattle.simplex.specs.Answers.{was_stopped};
 ghost use Rattle.simplex_rules.specs.Looks.{answers, AgreesWith, looks_after};
-ghost use Rattle.search_rules.specs.Search.{IsSearchAnswer, first};
+ghost use Rattle.search_rules.specs.Search.{Outcome, IsSearchAnswer, first};
 ghost use Rattle.search_rules.specs.Outcomes.{IsPlain};
 ghost use Rattle.no_cycles.specs.Beginning.{BeginsFeasible};
-ghost use Rattle.no_cycles.specs.Searches.{is_out_of_turns};
-ghost use Rattle.branch_bound.specs.Claims.{claimed_outcome, is_killed};
+ghost use Rattle.branch_bound.specs.Claims.{Tells, claimed_cause, is_killed};
 ghost use Rattle.branch_bound.specs.Walks.{moment, IsWalk, IsAt};
 ghost use Rattle.branch_bound.specs.Cases.{terms, HasSize, clock_at, is_killed_by, FollowsStep};
 
-use crate::claims::{all_closed, give_up};
+use crate::claims::{all_closed, claim_of, give_up};
+use crate::ended::Ended;
 use crate::limits::Limits;
 use crate::relaxation::{Relaxation, run_case};
 use crate::visit::visit;
 use crate::walk::Walk;
-use certificate::{Cause, Cert, Claim};
+use case_tree::{Cut, uncut};
+use certificate::{Cause, Claim, Nodes};
 use dictionary::Steps;
-use instance::Instance;
+use instance::{Instance, Var};
 use os_io::Watch;
 use simplex::{Cuts, LpEnd, Turns, Work};
 use std::alloc::{AllocError, Global};
@@ -48,7 +51,7 @@ fn step<W: Watch, L: Ledger>(
     depth: usize,
     watch: &mut W,
     steps: &mut Steps<L>,
-) -> Result<(), Claim>
+) -> Result<(), Ended>
     requires size { HasSize instance.now relaxation.old }
     requires most { relaxation.old.turns.most ≡ limits.turns }
     requires at { IsAt (length instance.now.vars) walk.old depth }
@@ -71,7 +74,7 @@ fn step<W: Watch, L: Ledger>(
     let end = run_case(
         instance,
         relaxation,
-        walk.vars.as_slice(),
+        walk.cuts.as_slice(),
         zero_goal,
         watch,
         steps,
@@ -95,9 +98,9 @@ fn explore<W: Watch, L: Ledger>(
     requires size { HasSize instance.now relaxation.old }
     requires turns { relaxation.old.turns ≡ record { done = 0; most = limits.turns } }
     requires walk { IsWalk (length instance.now.vars) walk }
-    requires first { moment instance.now walk (clock_at relaxation.old 0) ≡ first (program instance.now) }
+    requires first { moment (program instance.now) walk (clock_at relaxation.old 0) ≡ first (program instance.now) }
     requires stops { W.stops watch.old < 2 ^ 64 - 1 }
-    ensures answer { (n : ℕ) × (killed : Bool) × (is_killed result ≡ killed) × W.came watch.old watch.new (answers n killed) × ((stop : Option ℕ) → AgreesWith stop 0 n killed → IsSearchAnswer (program instance.now) (terms limits stop) (claimed_outcome result) (clock_at relaxation.new (looks_after 0 n killed))) }
+    ensures answer { (n : ℕ) × (o : Outcome) × Tells result o × W.came watch.old watch.new (answers n (is_killed o)) × ((stop : Option ℕ) → AgreesWith stop 0 n (is_killed o) → IsSearchAnswer (program instance.now) (terms limits stop) o (clock_at relaxation.new (looks_after 0 n (is_killed o)))) }
     ensures counted { steps.old ≤ steps.new }
 {
     while let Some(depth) = walk.next {
@@ -105,10 +108,10 @@ fn explore<W: Watch, L: Ledger>(
             alloc, instance, limits, relaxation, &mut walk, depth, watch, steps,
         ) {
             Ok(()) => {}
-            Err(claim) => return claim,
+            Err(ended) => return claim_of(alloc, ended),
         }
     }
-    all_closed(walk.best, walk.nodes)
+    all_closed(alloc, walk.best, walk.nodes)
 }
 
 /// Memory for the runs of a search that begins.
@@ -122,24 +125,35 @@ fn relax<L: Ledger>(
 {
     let vars = instance.vars();
     let work = Work::for_size(alloc, vars.len() as u32, instance.rows().len() as u32)?;
-    let cuts = Cuts::of(alloc, vars)?;
+    let ends = Cuts::of(alloc, vars)?;
     let turns = Turns {
         done: 0,
         most: u64::from(turns),
     };
-    Ok(Relaxation { work, cuts, turns })
+    Ok(Relaxation { work, ends, turns })
+}
+
+/// The variables before any branch.
+fn uncut_all(alloc: Global, vars: &[Var]) -> Result<Vec<Cut>, AllocError>
+    ensures { IfOk result (λ cuts. map cut_variable cuts.items ≡ map variable vars.now) }
+{
+    let mut cuts = Vec::with_capacity(alloc, vars.len())?;
+    for var in vars {
+        cuts.push(uncut(*var))?;
+    }
+    Ok(cuts)
 }
 
 /// The walk before its first case, which is the instance itself.
 fn begin(alloc: Global, instance: &Instance) -> Result<Walk, AllocError>
     ensures walk { IfOk result (λ w. IsWalk (length instance.now.vars) w) }
-    ensures first { IfOk result (λ w. moment instance.now w (record { turns = 0; looks = 0 }) ≡ first (program instance.now)) }
+    ensures first { IfOk result (λ w. moment (program instance.now) w (record { turns = 0; looks = 0 }) ≡ first (program instance.now)) }
 {
     Ok(Walk {
-        vars: Vec::from_slice(alloc, instance.vars())?,
+        cuts: uncut_all(alloc, instance.vars())?,
         branches: Vec::new(alloc),
         next: Some(0),
-        nodes: Cert::new(alloc),
+        nodes: Nodes::new(alloc),
         best: None,
         ray: None,
     })
@@ -159,8 +173,8 @@ pub fn search<W: Watch, L: Ledger>(
     steps: &mut Steps<L>,
 ) -> Searched
     requires { W.stops watch.old < 2 ^ 64 - 1 }
-    ensures answer { (n : ℕ) × W.came watch.old watch.new (answers n (is_killed result.claim)) × ((stop : Option ℕ) → AgreesWith stop 0 n (is_killed result.claim) → IsSearchAnswer (program instance.now) (record { nodes = nodes; turns = turns; stop = stop }) (claimed_outcome result.claim) (record { turns = result.turns; looks = looks_after 0 n (is_killed result.claim) })) }
-    ensures enough { IsPlain (program instance.now) → BeginsFeasible (program instance.now) → 4 ^ (length instance.now.vars + length instance.now.rows) ≤ turns → is_out_of_turns (claimed_outcome result.claim) ≡ false }
+    ensures answer { (n : ℕ) × (o : Outcome) × Tells result.claim o × W.came watch.old watch.new (answers n (is_killed o)) × ((stop : Option ℕ) → AgreesWith stop 0 n (is_killed o) → IsSearchAnswer (program instance.now) (record { nodes = nodes; turns = turns; stop = stop }) o (record { turns = result.turns; looks = looks_after 0 n (is_killed o) })) }
+    ensures enough { IsPlain (program instance.now) → BeginsFeasible (program instance.now) → 4 ^ (length instance.now.vars + length instance.now.rows) ≤ turns → (n : ℕ) → claimed_cause result.claim ≡ Some (causes.TurnLimit n) → ⊥ }
     ensures counted { steps.old ≤ steps.new }
 {
     let cause = Cause::Memory;

@@ -1,16 +1,17 @@
 // From the end of the run of the case at hand on.
 ghost use Rattle.std.specs.Prelude.{◌≡◌, ℕ, false, length, IfOk, IfErr};
 ghost use Rattle.fraction.specs.Frac.{ratio};
+ghost use Rattle.instance.specs.Program.{program};
 ghost use Rattle.simplex.specs.Memory.{point_of, mults_of, ray_of, ended_with};
 ghost use Rattle.simplex_rules.specs.Ends.{Terms, Clock, Empty, Best, Endless};
 ghost use Rattle.simplex.specs.Answers.{was_stopped};
 ghost use Rattle.certificate.specs.declared.causes.Cause.TheVariants.{Memory};
 ghost use Rattle.search_rules.specs.Search.{To, Out, early as early_of};
-ghost use Rattle.branch_bound.specs.Claims.{claimed_outcome, is_killed};
 ghost use Rattle.branch_bound.specs.Walks.{best as best_of, moment, IsWalk};
-ghost use Rattle.branch_bound.specs.Cases.{IsWalkReady, clock_at, OrMemory, GoesAt};
+ghost use Rattle.branch_bound.specs.Cases.{outcome_of, was_killed, IsWalkReady, clock_at, OrMemory, GoesAt};
 
 use crate::claims::{give_up, leaf, too_wide};
+use crate::ended::Ended;
 use crate::limits::Limits;
 use crate::meeting::meet;
 use crate::points::read_mults;
@@ -18,7 +19,7 @@ use crate::rays::read_ray;
 use crate::relaxation::Relaxation;
 use crate::values::passes;
 use crate::walk::Walk;
-use certificate::{Cause, Claim, Mults, Node, Step};
+use certificate::{Cause, Mults, Node, Step};
 use fraction::Frac;
 use instance::Instance;
 use simplex::LpEnd;
@@ -33,12 +34,12 @@ fn at_best<L: Ledger>(
     bound: Frac,
     walk: &mut Walk,
     depth: usize,
-) -> Result<(), Claim>
+) -> Result<(), Ended>
     requires { IsWalkReady instance.now relaxation.now walk.old depth }
     ensures walk { IfOk result (λ _. IsWalk (length instance.now.vars) walk.new) }
-    ensures ok { IfOk result (λ _. (t : Terms) (c : Clock) → GoesAt instance.now walk.old depth t c (Best (ratio bound) (point_of relaxation.now.work) (mults_of relaxation.now.work)) (To (moment instance.now walk.new c))) }
-    ensures err { IfErr result (λ claim. OrMemory walk.old claim ((t : Terms) (looks : ℕ) → let c = clock_at relaxation.now looks in GoesAt instance.now walk.old depth t c (Best (ratio bound) (point_of relaxation.now.work) (mults_of relaxation.now.work)) (Out (claimed_outcome claim) c))) }
-    ensures went_on { IfErr result (λ claim. is_killed claim ≡ false) }
+    ensures ok { IfOk result (λ _. (t : Terms) (c : Clock) → GoesAt instance.now walk.old depth t c (Best (ratio bound) (point_of relaxation.now.work) (mults_of relaxation.now.work)) (To (moment (program instance.now) walk.new c))) }
+    ensures err { IfErr result (λ ended. OrMemory walk.old ended ((t : Terms) (looks : ℕ) → let c = clock_at relaxation.now looks in GoesAt instance.now walk.old depth t c (Best (ratio bound) (point_of relaxation.now.work) (mults_of relaxation.now.work)) (Out (outcome_of ended) c))) }
+    ensures went_on { IfErr result (λ ended. was_killed ended ≡ false) }
 {
     let columns = (instance.vars().len() + instance.rows().len()) as u32;
     let mults = match read_mults(alloc, &relaxation.work, columns) {
@@ -58,12 +59,12 @@ fn at_endless<L: Ledger>(
     relaxation: &Relaxation<L>,
     walk: &mut Walk,
     depth: usize,
-) -> Result<(), Claim>
+) -> Result<(), Ended>
     requires { IsWalkReady instance.now relaxation.now walk.old depth }
     ensures walk { IfOk result (λ _. IsWalk (length instance.now.vars) walk.new) }
-    ensures ok { IfOk result (λ _. (t : Terms) (c : Clock) → GoesAt instance.now walk.old depth t c (Endless (point_of relaxation.now.work) (ray_of relaxation.now.work)) (To (moment instance.now walk.new c))) }
-    ensures err { IfErr result (λ claim. OrMemory walk.old claim ((t : Terms) (looks : ℕ) → let c = clock_at relaxation.now looks in GoesAt instance.now walk.old depth t c (Endless (point_of relaxation.now.work) (ray_of relaxation.now.work)) (Out (claimed_outcome claim) c))) }
-    ensures went_on { IfErr result (λ claim. is_killed claim ≡ false) }
+    ensures ok { IfOk result (λ _. (t : Terms) (c : Clock) → GoesAt instance.now walk.old depth t c (Endless (point_of relaxation.now.work) (ray_of relaxation.now.work)) (To (moment (program instance.now) walk.new c))) }
+    ensures err { IfErr result (λ ended. OrMemory walk.old ended ((t : Terms) (looks : ℕ) → let c = clock_at relaxation.now looks in GoesAt instance.now walk.old depth t c (Endless (point_of relaxation.now.work) (ray_of relaxation.now.work)) (Out (outcome_of ended) c))) }
+    ensures went_on { IfErr result (λ ended. was_killed ended ≡ false) }
 {
     let scaled = match read_ray(alloc, instance, &relaxation.work) {
         Ok(scaled) => scaled,
@@ -83,12 +84,12 @@ fn at_empty<L: Ledger>(
     relaxation: &Relaxation<L>,
     walk: &mut Walk,
     depth: usize,
-) -> Result<(), Claim>
+) -> Result<(), Ended>
     requires { IsWalkReady instance.now relaxation.now walk.old depth }
     ensures walk { IfOk result (λ _. IsWalk (length instance.now.vars) walk.new) }
-    ensures ok { IfOk result (λ _. (t : Terms) (c : Clock) → GoesAt instance.now walk.old depth t c (Empty (mults_of relaxation.now.work)) (To (moment instance.now walk.new c))) }
-    ensures err { IfErr result (λ claim. claimed_outcome claim ≡ early_of (best_of walk.old.best) Memory) }
-    ensures went_on { IfErr result (λ claim. is_killed claim ≡ false) }
+    ensures ok { IfOk result (λ _. (t : Terms) (c : Clock) → GoesAt instance.now walk.old depth t c (Empty (mults_of relaxation.now.work)) (To (moment (program instance.now) walk.new c))) }
+    ensures err { IfErr result (λ ended. outcome_of ended ≡ early_of (best_of walk.old.best) Memory) }
+    ensures went_on { IfErr result (λ ended. was_killed ended ≡ false) }
 {
     let columns = (instance.vars().len() + instance.rows().len()) as u32;
     match read_mults(alloc, &relaxation.work, columns) {
@@ -106,13 +107,13 @@ pub fn visit<L: Ledger>(
     end: LpEnd,
     walk: &mut Walk,
     depth: usize,
-) -> Result<(), Claim>
+) -> Result<(), Ended>
     requires ready { IsWalkReady instance.now relaxation.now walk.old depth }
     requires went_on { was_stopped end ≡ false }
     ensures walk { IfOk result (λ _. IsWalk (length instance.now.vars) walk.new) }
-    ensures ok { IfOk result (λ _. (t : Terms) (c : Clock) → GoesAt instance.now walk.old depth t c (ended_with end relaxation.now.work) (To (moment instance.now walk.new c))) }
-    ensures err { IfErr result (λ claim. OrMemory walk.old claim ((t : Terms) (looks : ℕ) → t.turns ≡ limits.turns → let c = clock_at relaxation.now looks in GoesAt instance.now walk.old depth t c (ended_with end relaxation.now.work) (Out (claimed_outcome claim) c))) }
-    ensures went_on { IfErr result (λ claim. is_killed claim ≡ false) }
+    ensures ok { IfOk result (λ _. (t : Terms) (c : Clock) → GoesAt instance.now walk.old depth t c (ended_with end relaxation.now.work) (To (moment (program instance.now) walk.new c))) }
+    ensures err { IfErr result (λ ended. OrMemory walk.old ended ((t : Terms) (looks : ℕ) → t.turns ≡ limits.turns → let c = clock_at relaxation.now looks in GoesAt instance.now walk.old depth t c (ended_with end relaxation.now.work) (Out (outcome_of ended) c))) }
+    ensures went_on { IfErr result (λ ended. was_killed ended ≡ false) }
 {
     match end {
         LpEnd::Clash { col } => return leaf(walk, depth, Node::Clash { col }),

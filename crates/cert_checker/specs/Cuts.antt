@@ -26,8 +26,3 @@ pub record HasRoom (p : Parts) (c : Claim) (r : Room) : Type 0 where
   pub nodes : All (λ (cert : Cert). length cert.nodes ≤ r.nodes) (certs_of c)
   pub rounds : All (λ (cert : Cert). length cert.rounds ≤ r.rows) (certs_of c)
   pub goals : length p.goals ≤ r.rows + 1
-
--- no certificate has 2^32 nodes or rounds or more
-pub record AreWithin (c : Claim) : Type 0 where
-  pub nodes : All (λ (cert : Cert). length cert.nodes < 2 ^ 32) (certs_of c)
-  pub rounds : All (λ (cert : Cert). length cert.rounds < 2 ^ 32) (certs_of c)

@@ -5,7 +5,7 @@ ghost use Rattle.instance.specs.Program.{problem};
 ghost use Rattle.certificate.specs.Meanings as Means;
 ghost use Rattle.certificate.specs.Nodes.{IsInRange, certs_of};
 ghost use Rattle.certificate.specs.declared.nodes.Cert as Has;
-ghost use Rattle.cert_checker.specs.Cuts.{Room, HasRoom, AreWithin};
+ghost use Rattle.cert_checker.specs.Cuts.{Room, HasRoom};
 ghost use Rattle.cert_checker.specs.Programs.{AreWide};
 ghost use Rattle.cert_checker.specs.Refusals.{IsRefusedFor};
 
@@ -42,8 +42,6 @@ struct Most {
 fn most_of(certs: &[Cert]) -> Most
     ensures nodes { All (λ (c : Has.Cert). length c.nodes ≤ result.nodes) certs.now }
     ensures rounds { All (λ (c : Has.Cert). length c.rounds ≤ result.rounds) certs.now }
-    ensures few_nodes { (n : ℕ) → 0 < n → All (λ (c : Has.Cert). length c.nodes < n) certs.now → result.nodes < n }
-    ensures few_rounds { (n : ℕ) → 0 < n → All (λ (c : Has.Cert). length c.rounds < n) certs.now → result.rounds < n }
 {
     let mut nodes = 0;
     let mut rounds = 0;
@@ -127,19 +125,23 @@ impl Scratch {
         })
     }
 
-    /// Room for a check of this claim, none of whose certificates has 2^32 nodes or rounds or more.
+    /// Room for a check of this claim. There is none where a certificate has so many nodes or rounds that the last one has no
+    /// number.
     pub fn for_claim(
         alloc: Global,
         instance: &Instance,
         claim: &Claim,
     ) -> Result<Scratch, AllocError>
-        requires { AreWithin claim.now }
         ensures { IfOk result (HasRoom instance.now claim.now) }
     {
         let most = most_of(certs_of(claim));
-        let rows = most.rounds.max(instance.goals().len());
-        let vars = instance.vars().len();
-        Scratch::for_size(alloc, vars as u32, most.nodes as u32, rows as u32)
+        let Ok(nodes) = u32::try_from(most.nodes) else {
+            return Err(AllocError);
+        };
+        let Ok(rows) = u32::try_from(most.rounds.max(instance.goals().len())) else {
+            return Err(AllocError);
+        };
+        Scratch::for_size(alloc, instance.vars().len() as u32, nodes, rows)
     }
 
     /// How many variables there is room for.

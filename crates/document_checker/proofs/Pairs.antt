@@ -25,7 +25,3 @@ pub result_refused : {osil osrl : List ℕ} {p : Parts} {f : CheckFault} → IsI
 result_refused {osil} {osrl} {p} {f} instance (inl missing) =
     inr (inl (record { parts = p; instance_text = instance; no_report = missing }))
 result_refused instance (inr none) = inr (inr (inr none))
-
--- a document is shorter than a check's room may be
-pub read_fits : {osrl : List ℕ} {report : Report} → IsReportText osrl report → (nodes : List Node) → (length nodes < length osrl) × All IsInRange nodes → (length nodes < 2 ^ 32) × All IsInRange nodes
-read_fits said nodes (few, range) = let short = said.document.short in (omega (arith, few, short), range)

@@ -49,8 +49,7 @@ fn kind_of(claim: &Claim) -> Option<Kind>
 
 /// Checks a claim in room that is taken for it.
 fn check_claim(alloc: Global, instance: &Instance, claim: &Claim) -> Result<(), CheckFault>
-    requires few { AreWithin claim.now }
-    requires range { All IsInRange (nodes_of claim.now) }
+    requires { All IsInRange (nodes_of claim.now) }
     ensures ok { IfOk result (λ _. Accepts (problem instance.now) (Means.claim claim.now)) }
     ensures err { IfErr result (λ f. ClaimRefuses (problem instance.now) (Some claim.now) f ⊎ (f ≡ Memory)) }
 {
@@ -63,7 +62,7 @@ fn check_claim(alloc: Global, instance: &Instance, claim: &Claim) -> Result<(), 
 
 /// Checks the claim of a report, if it has one.
 fn check_report(alloc: Global, instance: &Instance, report: &Report) -> Result<Kind, CheckFault>
-    requires { (c : carried.Claim) → report.now.claim ≡ Some c → AreWithin c × All IsInRange (nodes_of c) }
+    requires { (c : carried.Claim) → report.now.claim ≡ Some c → All IsInRange (nodes_of c) }
     ensures ok { IfOk result (ReportAccepts instance.now report.now) }
     ensures err { IfErr result (λ f. ReportRefuses instance.now report.now f ⊎ (f ≡ Memory)) }
 {

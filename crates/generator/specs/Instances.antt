@@ -1,5 +1,5 @@
 -- The instances that are generated, one for each number of variables: groups of four variables, each group with a row, and the first group whole.
-use Rattle.std.specs.Prelude.{ℕ, suc, ◌+◌, ◌-◌, ◌/◌, ◌%◌, ◌≤◌, pos, List, map, replicate, nat_lt}
+use Rattle.std.specs.Prelude.{ℕ, suc, ◌+◌, ◌-◌, ◌/◌, ◌%◌, ◌≤◌, pos, false, List, [], ◌∷◌, map, replicate, nat_lt}
 use Rattle.std.specs.List.{range_with_len}
 use Rattle.std.proofs.Common.{lit<, lit≤}
 use Rattle.std.proofs.Math.Nat.{one-dvd, mod-lt, le_trans}
@@ -10,6 +10,7 @@ use Rattle.fraction.specs.declared.ends.End.TheVariants.{NegInf, At}
 use Rattle.fraction.specs.declared.ends.Entry.{Entry}
 use Rattle.instance.specs.declared.parts.Var.{Var}
 use Rattle.instance.specs.declared.parts.Row.{Row}
+use Rattle.instance.specs.declared.parts.Goal.{Goal}
 use Rattle.instance.specs.declared.parts.Sense.TheVariants.{Max}
 use Rattle.instance.specs.Parts.{Parts}
 
@@ -19,7 +20,7 @@ natural k fits = record { numer = pos k; denom = 1; above = lit< tt; reduced = (
 
 -- variable j goes from 0 to 3, the first four in whole steps
 abbrev pub group_variable : ℕ → Var
-group_variable j = record { lb = At (natural 0 (lit≤ tt)); ub = At (natural 3 (lit≤ tt)); whole = nat_lt j 4 }
+group_variable j = record { lb = At (natural 0 (lit≤ tt)); ub = At (natural 3 (lit≤ tt)); whole = nat_lt j 4; zero = false }
 
 pub cost_fits : (j : ℕ) → suc (j % 4) ≤ most
 cost_fits j = le_trans (mod-lt j (lit< tt)) (lit≤ tt)
@@ -44,11 +45,15 @@ group_count n = (n - 1) / 4 + 1
 abbrev pub each : {X : Type 0} → ℕ → (ℕ → X) → List X
 each n f = map f (range_with_len 0 n)
 
--- the instance of n variables: the greatest sum of their costs
+-- the goal of n variables: the greatest sum of their costs
+abbrev pub greatest : ℕ → Goal
+greatest n = record { sense = Max; constant = natural 0 (lit≤ tt); costs = each n cost }
+
+-- the instance of n variables
 abbrev pub generated : ℕ → Parts
 generated n = record {
   vars = each n group_variable;
   rows = replicate (group_count n) row_limit;
   entries = each n group_entry;
-  goal = record { sense = Max; constant = natural 0 (lit≤ tt); costs = each n cost };
+  goals = greatest n ∷ [];
 }

@@ -1,6 +1,6 @@
 //! Makes the instances.
 
-ghost use Rattle.std.specs.Prelude.{◌≡◌, ◌+◌, ◌-◌, ◌/◌, ◌≤◌, IfOk, replicate};
+ghost use Rattle.std.specs.Prelude.{◌≡◌, ◌+◌, ◌-◌, ◌/◌, ◌≤◌, [], ◌∷◌, IfOk, replicate};
 ghost use Rattle.generator.specs.Instances.{group_variable, cost, group_entry, row_limit, group_count, each, generated};
 
 use case_tree::whole;
@@ -20,6 +20,7 @@ fn variable(j: u32) -> Var
         lb: End::At(whole(0)),
         ub: End::At(whole(3)),
         whole: j < GROUP,
+        zero: false,
     }
 }
 
@@ -79,6 +80,15 @@ fn rows(alloc: Global, count: u32) -> Result<Vec<Row>, Memory>
     vec![in alloc; limit(); count as usize]
 }
 
+/// The list of one goal.
+fn only(alloc: Global, goal: Goal) -> Result<Vec<Goal>, Memory>
+    ensures { IfOk result (λ v. v.items ≡ goal ∷ []) }
+{
+    let mut goals = Vec::new(alloc);
+    goals.push(goal)?;
+    Ok(goals)
+}
+
 /// The generated instance of `n` variables. The error is want of memory.
 pub fn make(alloc: Global, n: u32) -> Result<Instance, Memory>
     requires least { 1 ≤ n }
@@ -91,7 +101,8 @@ pub fn make(alloc: Global, n: u32) -> Result<Instance, Memory>
         costs: Costs::of(costs(alloc, n)?),
     };
     let rows = rows(alloc, (n - 1) / GROUP + 1)?;
-    match Instance::of(variables(alloc, n)?, rows, entries(alloc, n)?, goal) {
+    let goals = only(alloc, goal)?;
+    match Instance::of(variables(alloc, n)?, rows, entries(alloc, n)?, goals) {
         Some(instance) => Ok(instance),
         None => unreachable!(),
     }

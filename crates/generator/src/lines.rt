@@ -1,11 +1,12 @@
 //! Says in a line how a generated instance was solved.
 
-ghost use Rattle.std.specs.Prelude.{◌≡◌, ◌++◌, IfOk, OnOk, length};
-ghost use Rattle.certificate.specs.Nodes.{nodes_of};
-ghost use Rattle.generator.specs.Lines.{status_word, value_word, check_word, summary};
+ghost use Rattle.std.specs.Prelude.{◌≡◌, ◌++◌, IfOk, OnOk};
+ghost use Rattle.certificate.specs.Nodes.{certs_of};
+ghost use Rattle.generator.specs.Lines.{status_word, first_value, value_word, first_count, check_word, summary};
 
-use certificate::Claim;
+use certificate::{Cert, Claim};
 use decimal_text::write_ratio;
+use fraction::Frac;
 use itoa::Buffer;
 use os_io::{Memory, Text};
 use std::alloc::Global;
@@ -23,25 +24,46 @@ fn status_word(claim: &Claim) -> &'static [u8]
     }
 }
 
+/// Writes the first value as a ratio, or `none`.
+fn put_first(line: &mut Text, values: &[Frac]) -> Result<(), Memory>
+    ensures { OnOk result (line.new ≡ line.old ++ first_value values.now) }
+{
+    if values.is_empty() {
+        return line.extend(b"none");
+    }
+    write_ratio(values[0], line)
+}
+
 /// Writes the value of the claimed point as a ratio, or `none`.
 fn put_value(line: &mut Text, claim: &Claim) -> Result<(), Memory>
     ensures { OnOk result (line.new ≡ line.old ++ value_word claim.now) }
 {
     match claim {
-        Claim::Optimal { value, .. } => write_ratio(*value, line),
-        Claim::Unbounded { value, .. } => write_ratio(*value, line),
-        Claim::BestSoFar { value, .. } => write_ratio(*value, line),
+        Claim::Optimal { values, .. } => put_first(line, values.as_slice()),
+        Claim::Unbounded { values, .. } => put_first(line, values.as_slice()),
+        Claim::BestSoFar { values, .. } => put_first(line, values.as_slice()),
         _ => line.extend(b"none"),
     }
 }
 
-/// How many nodes the claim's certificate has.
+/// How many nodes the first certificate has.
+fn count_first(certs: &[Cert]) -> usize
+    ensures { result ≡ first_count certs.now }
+{
+    if certs.is_empty() {
+        return 0;
+    }
+    certs[0].nodes.len()
+}
+
+/// How many nodes the claim's first certificate has.
 fn count_nodes(claim: &Claim) -> usize
-    ensures { result ≡ length (nodes_of claim.now) }
+    ensures { result ≡ first_count (certs_of claim.now) }
 {
     match claim {
-        Claim::Optimal { cert, .. } => cert.len(),
-        Claim::Infeasible { cert } => cert.len(),
+        Claim::Optimal { certs, .. } => count_first(certs.as_slice()),
+        Claim::Infeasible { cert } => cert.nodes.len(),
+        Claim::Unbounded { certs, .. } => count_first(certs.as_slice()),
         _ => 0,
     }
 }

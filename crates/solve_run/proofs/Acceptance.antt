@@ -3,7 +3,7 @@ use Rattle.std.proofs.Common.{◌≡◌, ◌∙◌, ℕ, ◌⊎◌, inl, inr, Bo
 use Rattle.evidence.specs.Instance.{Instance, IsInstance}
 use Rattle.evidence.specs.Claim.{Accepts}
 use Rattle.instance.specs.Parts.{Parts, IsValid}
-use Rattle.instance.specs.Program.{program}
+use Rattle.instance.specs.Program.{program, problem}
 use Rattle.certificate.specs.Meanings as Means
 use Rattle.certificate.specs.declared.causes.Cause.{Cause}
 use Rattle.certificate.specs.declared.causes.Cause.TheVariants as causes
@@ -11,8 +11,8 @@ use Rattle.certificate.specs.declared.claims.Claim.{Claim}
 use Rattle.certificate.specs.declared.claims.Claim.TheVariants as Has
 use Rattle.simplex_rules.specs.Ends.{Terms, Clock}
 use Rattle.search_rules.specs.Search.{Found, Outcome, IsSearchAnswer, searched, given_up as given_up_at, early}
-use Rattle.search_rules.specs.Outcomes.{IsShown}
-use Rattle.branch_bound.specs.Claims.{claimed_outcome}
+use Rattle.search_rules.specs.Outcomes.{HaveOneRange, IsShown}
+use Rattle.branch_bound.specs.Claims.{Tells}
 use Rattle.osol_grammar.specs.declared.options.Options.{Options}
 use Rattle.osol_grammar.specs.Meaning.{IsOptionsText}
 use Rattle.osol_grammar.specs.Back.{IsNameOrNone}
@@ -23,11 +23,14 @@ use Rattle.osrl_grammar.specs.Reading.{IsReportText}
 use Rattle.osrl_grammar.specs.Back.{IsBareOrNone, CauseComesBack, ClaimComesBack, ComesBack}
 use Rattle.document_checker.specs.declared.documents.Kind.{Kind}
 use Rattle.document_checker.specs.Documents.{kind, IsAcceptedText}
-use Rattle.solve_run.specs.Closings.{claim_report, IsFinal, given_up, IsJudged, checked, IsShort, IsFitted, IsClosed}
-use Rattle.solve_run.specs.JobAnswers.{job_terms, Solved, IsJobOf, IsBestOfSearch, AnswersJob, no_options, no_instance, solved, gave_up}
+use Rattle.solve_run.specs.Judging.{IsSearched, IsShownClaim, IsFinal, given_up, IsJudged, checked}
+use Rattle.solve_run.specs.Closings.{claim_report, IsShort, IsFitted, IsClosed}
+use Rattle.solve_run.specs.JobAnswers.{job_terms, Solved, IsJobOf, IsBestOfSearch, AnswersJob, no_options, no_instance, not_solved, solved, gave_up}
 use Rattle.solve_run.proofs.Lengths.{IsShortName}
 use Rattle.solve_run.proofs.Names.{short_name, bare_name}
-use Rattle.solve_run.proofs.WidthRefusals.{has_value}
+use Rattle.solve_run.proofs.GivenUp.{given_other, given_shown}
+use Rattle.solve_run.proofs.WidthRefusals.{one_range, best_accepted}
+use Rattle.solve_run.proofs.Closings.{memory_back, memory_cause}
 use Rattle.solve_run.proofs.Runs.{claim_short, wanting}
 
 -- ---- claims
@@ -39,53 +42,38 @@ given_other (Has.Unbounded x v r) cause f = f
 given_other (Has.BestSoFar x v c) cause f = f
 given_other (Has.Unsure c) cause f = f
 
-given_shown : (I : Instance) (c : Claim) (cause : Cause) → IsShown I (claimed_outcome c) → IsShown I (claimed_outcome (given_up c cause))
-given_shown I (Has.Optimal x v ns) cause s = s.point
-given_shown I (Has.Infeasible ns) cause s = tt
-given_shown I (Has.Unbounded x v r) cause s = s.0
-given_shown I (Has.BestSoFar x v c) cause s = s
-given_shown I (Has.Unsure c) cause s = tt
-
 -- what is shown, and accepted where it is final
 pub record IsGood (p : Parts) (job : Option (List ℕ)) (c : Claim) : Type 0 where
-  pub shown : IsShown (program p) (claimed_outcome c)
-  pub accepted : IsFinal c → Accepts (program p) (Means.claim c)
+  pub shown : IsShownClaim p c
+  pub accepted : IsFinal c → Accepts (problem p) (Means.claim c)
   pub short : IsShort job c
 
-accepts_of : (I : Instance) (c : Claim) (k : Kind) → IsShown I (claimed_outcome c) → (IsFinal c → Accepts I (Means.claim c)) → kind c ≡ Some k → Accepts I (Means.claim c)
-accepts_of I (Has.Optimal x v ns) k s final is = final tt
-accepts_of I (Has.Infeasible ns) k s final is = final tt
-accepts_of I (Has.Unbounded x v r) k s final is = final tt
-accepts_of I (Has.BestSoFar x v c) k s final is = (has_value I _ s, s.fits)
-accepts_of I (Has.Unsure c) k s final is = absurd (cc)
+accepts_of : (p : Parts) (c : Claim) (k : Kind) → IsSearched p → IsShownClaim p c → (IsFinal c → Accepts (problem p) (Means.claim c)) → kind c ≡ Some k → Accepts (problem p) (Means.claim c)
+accepts_of p (Has.Optimal x vs cs) k one s final is = final tt
+accepts_of p (Has.Infeasible cert) k one s final is = final tt
+accepts_of p (Has.Unbounded x vs cs r) k one s final is = final tt
+accepts_of p (Has.BestSoFar x vs c) k one s final is = best_accepted p x vs c one s
+accepts_of p (Has.Unsure c) k one s final is = absurd (cc)
 
-wanting_back : (c : Claim) (best : Option Found) → claimed_outcome c ≡ early best causes.Memory → ClaimComesBack (Some c)
-wanting_back (Has.Optimal x v ns) None e = absurd (cc)
-wanting_back (Has.Optimal x v ns) (Some f) e = absurd (cc)
-wanting_back (Has.Infeasible ns) None e = absurd (cc)
-wanting_back (Has.Infeasible ns) (Some f) e = absurd (cc)
-wanting_back (Has.Unbounded x v r) best e = tt
-wanting_back (Has.BestSoFar x v c) None e = absurd (cc)
-wanting_back (Has.BestSoFar x v c) (Some f) e = let same : causes.Memory ≡ c = cc in subst CauseComesBack same tt
-wanting_back (Has.Unsure c) None e = let same : causes.Memory ≡ c = cc in subst CauseComesBack same tt
-wanting_back (Has.Unsure c) (Some f) e = absurd (cc)
+wanting_back : (c : Claim) (best : Option Found) → Tells c (early best causes.Memory) → ClaimComesBack (Some c)
+wanting_back c best t = memory_back c (t.cause ∙ memory_cause best) (wanting c best t)
 
 module _ (p : Parts) (job : Option (List ℕ)) (valid : IsValid p) (name : IsShortName job) where
   -- a claim that isn't final
-  pub other_good : (c : Claim) → IsShown (program p) (claimed_outcome c) → (IsFinal c → ⊥) → IsGood p job c
+  pub other_good : (c : Claim) → IsShownClaim p c → (IsFinal c → ⊥) → IsGood p job c
   other_good c s other = record { shown = s; accepted = λ f. absurd (other f); short = claim_short p job c valid name s other }
 
-  given_good : (c : Claim) (cause : Cause) → IsShown (program p) (claimed_outcome c) → IsGood p job (given_up c cause)
-  given_good c cause s = other_good (given_up c cause) (given_shown (program p) c cause s) (given_other c cause)
+  given_good : (c : Claim) (cause : Cause) → IsShownClaim p c → IsGood p job (given_up c cause)
+  given_good c cause s = other_good (given_up c cause) (given_shown p c cause s) (given_other c cause)
 
-  fitted_good : (c told : Claim) → IsShown (program p) (claimed_outcome c) → (IsFinal c → Accepts (program p) (Means.claim c)) → IsFitted job c told → IsGood p job told
+  fitted_good : (c told : Claim) → IsShownClaim p c → (IsFinal c → Accepts (problem p) (Means.claim c)) → IsFitted job c told → IsGood p job told
   fitted_good c told s final (inl (short, same)) = subst (IsGood p job) (sym same) (record { shown = s; accepted = final; short = short })
   fitted_good c told s final (inr (long, same)) = subst (IsGood p job) (sym same) (given_good c causes.Length s)
 
-  pub closed_good : (turns : ℕ) (found told : Claim) → IsShown (program p) (claimed_outcome found) → IsClosed p job turns found told → IsGood p job told
+  pub closed_good : (turns : ℕ) (found told : Claim) → IsShownClaim p found → IsClosed p job turns found told → IsGood p job told
   closed_good turns found told s c = by c.width c.judged c.fitted
     where
-      by : (width : Option ℕ) → IsJudged (program p) found width → IsFitted job (checked found turns width) told → IsGood p job told
+      by : (width : Option ℕ) → IsJudged p found width → IsFitted job (checked found turns width) told → IsGood p job told
       by None judged fitted = fitted_good found told s judged fitted
       by (Some n) judged fitted = let g = given_good found _ s in fitted_good (checked found turns (Some n)) told g.shown g.accepted fitted
 
@@ -93,7 +81,7 @@ module _ (p : Parts) (job : Option (List ℕ)) (valid : IsValid p) (name : IsSho
 
 module _ (names : (bytes : List ℕ) (o : Options) → IsOptionsText bytes o → IsNameOrNone o.job)
     (numbers : (p : Parts) → IsInstance (program p))
-    (shows : (I : Instance) (t : Terms) (o : Outcome) (c : Clock) → IsInstance I → IsSearchAnswer I t o c → IsShown I o)
+    (shows : (I : Instance) (t : Terms) (o : Outcome) (c : Clock) → IsInstance I → HaveOneRange I → IsSearchAnswer I t o c → IsShown I o)
     (comes_back : (r : Report) → ComesBack r → IsReportText (report_text r) r) where
   -- a report of a good claim is read from its own text, and accepted
   record IsGoodReport (osil : List ℕ) (r : Report) : Type 0 where
@@ -101,6 +89,7 @@ module _ (names : (bytes : List ℕ) (o : Options) → IsOptionsText bytes o →
     pub bare : IsBareOrNone job
     pub parts : Parts
     pub instance_text : IsInstanceText osil parts
+    pub searched : IsSearched parts
     pub claim : Claim
     pub back : ClaimComesBack (Some claim)
     pub good : IsGood parts job claim
@@ -109,15 +98,16 @@ module _ (names : (bytes : List ℕ) (o : Options) → IsOptionsText bytes o →
   solved_good : (osil osol : List ℕ) (stop : Option ℕ) (looks : ℕ) (r : Report) → Solved osil osol stop looks r → IsGoodReport osil r
   solved_good osil osol stop looks r s =
       let g = s.given in
-      let shown = shows (program g.parts) (job_terms g.options stop) (claimed_outcome s.found) _ (numbers g.parts) (searched s.ends) in
+      let shown = shows (program g.parts) (job_terms g.options stop) s.outcome _ (numbers g.parts) (one_range g.parts s.searched) (searched s.ends) in
       record {
         job = g.options.job;
         bare = bare_name g.options.job (names osol g.options g.options_text);
         parts = g.parts;
         instance_text = g.instance_text;
+        searched = s.searched;
         claim = s.told;
         back = s.numbers;
-        good = closed_good g.parts g.options.job g.valid (short_name g.options.job (names osol g.options g.options_text)) s.turns s.found s.told shown s.closed;
+        good = closed_good g.parts g.options.job g.valid (short_name g.options.job (names osol g.options g.options_text)) s.turns s.found s.told (record { outcome = s.outcome; tells = s.tells; shown = shown }) s.closed;
         is = s.is;
       }
 
@@ -129,16 +119,16 @@ module _ (names : (bytes : List ℕ) (o : Options) → IsOptionsText bytes o →
   best_good osil osol job c r whose b is =
       let g = b.given in
       let named = job_bare osol job whose in
-      let shown = shows (program g.parts) (job_terms g.options None) (early b.moment.best causes.Memory) b.moment.clock (numbers g.parts) (given_up_at b.comes) in
-      let want = wanting c b.moment.best b.is in
-      record {
+      let shown = shows (program g.parts) (job_terms g.options None) (early b.moment.best causes.Memory) b.moment.clock (numbers g.parts) (one_range g.parts b.searched) (given_up_at b.comes) in
+            record {
         job = job;
         bare = named.0;
         parts = g.parts;
         instance_text = g.instance_text;
+        searched = b.searched;
         claim = c;
-        back = wanting_back c b.moment.best b.is;
-        good = other_good g.parts job g.valid named.1 c (subst (IsShown (program g.parts)) (sym b.is) shown) want.other;
+        back = wanting_back c b.moment.best b.tells;
+        good = other_good g.parts job g.valid named.1 c (record { outcome = early b.moment.best causes.Memory; tells = b.tells; shown = shown }) (wanting c b.moment.best b.tells);
         is = is;
       }
 
@@ -166,8 +156,8 @@ module _ (names : (bytes : List ℕ) (o : Options) → IsOptionsText bytes o →
           claim = c;
           stands = stands;
           says = says;
-          accepted = subst (λ (d : Claim). Accepts (program g.parts) (Means.claim d)) same
-              (accepts_of (program g.parts) g.claim k g.good.shown g.good.accepted (ap kind same ∙ says));
+          accepted = subst (λ (d : Claim). Accepts (problem g.parts) (Means.claim d)) same
+              (accepts_of g.parts g.claim k g.searched g.good.shown g.good.accepted (ap kind same ∙ says));
         };
       }
 
@@ -175,6 +165,7 @@ module _ (names : (bytes : List ℕ) (o : Options) → IsOptionsText bytes o →
   answer_good : (osil osol : List ℕ) (asked : Bool) (r : Report) (c : Claim) (k : Kind) → AnswersJob osil osol asked r → r.claim ≡ Some c → kind c ≡ Some k → IsGoodReport osil r
   answer_good osil osol asked r c k (no_options a) stands says = absurd (claims_nothing r c (ap (λ (s : Report). s.claim) a.is) stands)
   answer_good osil osol asked r c k (no_instance a) stands says = absurd (claims_nothing r c (ap (λ (s : Report). s.claim) a.is) stands)
+  answer_good osil osol asked r c k (not_solved a) stands says = absurd (claims_nothing r c (ap (λ (s : Report). s.claim) a.is) stands)
   answer_good osil osol asked r c k (solved stop looks may s) stands says = solved_good osil osol stop looks r s
   answer_good osil osol asked r c k (gave_up a) stands says = by a.claims
     where

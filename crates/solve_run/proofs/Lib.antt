@@ -1,5 +1,7 @@
 pub mod Numbers
+pub mod ClaimNodes
 pub mod WidthRefusals
+pub mod GivenUp
 pub mod Lengths
 pub mod Names
 pub mod Closings

@@ -1,17 +1,20 @@
 -- A claim is told by its outcome.
-use Rattle.std.proofs.Common.{◌≡◌, List, [], ◌∷◌, map, refl, ap, subst}
+use Rattle.std.proofs.Common.{◌≡◌, ◌∙◌, List, [], ◌∷◌, map, refl, ap, sym, subst}
 use Rattle.rational.specs.Ratio.{IsSame}
 use Rattle.fraction.specs.Frac.{ratio, ratios}
 use Rattle.fraction.specs.declared.frac.Frac.{Frac}
 use Rattle.evidence.specs.Cases as Of
+use Rattle.evidence.specs.Rounds.{Certificate}
+use Rattle.evidence.specs.Claim as Says
 use Rattle.certificate.specs.declared.lists.Mult.{Mult}
 use Rattle.certificate.specs.declared.nodes.Node.{Node}
-use Rattle.certificate.specs.declared.nodes.Node.TheVariants.{Split, Clash, Farkas, Bound}
+use Rattle.certificate.specs.declared.nodes.Node.TheVariants.{Split, Zero, Clash, Farkas, Bound}
+use Rattle.certificate.specs.declared.nodes.Cert.{Cert}
 use Rattle.certificate.specs.declared.claims.Claim.{Claim}
 use Rattle.certificate.specs.declared.claims.Claim.TheVariants as Has
-use Rattle.certificate.specs.Meanings.{multiplier, multipliers, node, nodes}
-use Rattle.search_rules.specs.Search.{Optimal, Infeasible, Unbounded, BestSoFar, Unsure}
-use Rattle.branch_bound.specs.Claims.{claimed_outcome}
+use Rattle.certificate.specs.Meanings.{multiplier, multipliers, node, certificate, certificates, claim}
+use Rattle.search_rules.specs.Search.{Outcome}
+use Rattle.branch_bound.specs.Claims.{Tells, claimed_cause}
 
 -- members that are told by what they mean make lists that are
 each_once : {A B : Type 0} (f : A → B) → ((x y : A) → f x ≡ f y → x ≡ y) → (xs ys : List A) → map f xs ≡ map f ys → xs ≡ ys
@@ -34,71 +37,56 @@ module _ (fractions : (x y : Frac) → IsSame (ratio x) (ratio y) → x ≡ y) w
       let value = fraction_once m.value n.value (ap (λ (x : Of.Multiplier). x.by) e) in
       λ i. record { col = col i; value = value i }
 
+  mults_once : (ms ns : List Mult) → multipliers ms ≡ multipliers ns → ms ≡ ns
+  mults_once ms ns e = each_once multiplier multiplier_once ms ns e
+
   node_once : (a b : Node) → node a ≡ node b → a ≡ b
   node_once (Split j k) (Split i l) e = let all : Of.SplitAt j k ≡ Of.SplitAt i l = e in let p : j ≡ i = cc in let q : k ≡ l = cc in cc
-  node_once (Split j k) (Clash c) e = let all : Of.SplitAt j k ≡ Of.ClashAt c = e in absurd (cc)
-  node_once (Split j k) (Farkas ms) e = let all : Of.SplitAt j k ≡ Of.FarkasBy (multipliers ms) = e in absurd (cc)
-  node_once (Split j k) (Bound ms) e = let all : Of.SplitAt j k ≡ Of.BoundBy (multipliers ms) = e in absurd (cc)
-  node_once (Clash c) (Split j k) e = let all : Of.ClashAt c ≡ Of.SplitAt j k = e in absurd (cc)
+  node_once (Zero j) (Zero i) e = let all : Of.ZeroAt j ≡ Of.ZeroAt i = e in let p : j ≡ i = cc in cc
   node_once (Clash c) (Clash d) e = let all : Of.ClashAt c ≡ Of.ClashAt d = e in let p : c ≡ d = cc in cc
-  node_once (Clash c) (Farkas ms) e = let all : Of.ClashAt c ≡ Of.FarkasBy (multipliers ms) = e in absurd (cc)
-  node_once (Clash c) (Bound ms) e = let all : Of.ClashAt c ≡ Of.BoundBy (multipliers ms) = e in absurd (cc)
-  node_once (Farkas ms) (Split j k) e = let all : Of.FarkasBy (multipliers ms) ≡ Of.SplitAt j k = e in absurd (cc)
-  node_once (Farkas ms) (Clash c) e = let all : Of.FarkasBy (multipliers ms) ≡ Of.ClashAt c = e in absurd (cc)
-  node_once (Farkas ms) (Farkas ns) e = let all : Of.FarkasBy (multipliers ms) ≡ Of.FarkasBy (multipliers ns) = e in ap Farkas (each_once multiplier multiplier_once ms ns (cc))
-  node_once (Farkas ms) (Bound ns) e = let all : Of.FarkasBy (multipliers ms) ≡ Of.BoundBy (multipliers ns) = e in absurd (cc)
-  node_once (Bound ms) (Split j k) e = let all : Of.BoundBy (multipliers ms) ≡ Of.SplitAt j k = e in absurd (cc)
-  node_once (Bound ms) (Clash c) e = let all : Of.BoundBy (multipliers ms) ≡ Of.ClashAt c = e in absurd (cc)
-  node_once (Bound ms) (Farkas ns) e = let all : Of.BoundBy (multipliers ms) ≡ Of.FarkasBy (multipliers ns) = e in absurd (cc)
-  node_once (Bound ms) (Bound ns) e = let all : Of.BoundBy (multipliers ms) ≡ Of.BoundBy (multipliers ns) = e in ap Bound (each_once multiplier multiplier_once ms ns (cc))
+  node_once (Farkas ms) (Farkas ns) e = let all : Of.FarkasBy (multipliers ms) ≡ Of.FarkasBy (multipliers ns) = e in ap Farkas (mults_once ms ns (cc))
+  node_once (Bound ms) (Bound ns) e = let all : Of.BoundBy (multipliers ms) ≡ Of.BoundBy (multipliers ns) = e in ap Bound (mults_once ms ns (cc))
+  node_once a b e = absurd (cc)
 
   points_once : (x y : List Frac) → ratios x ≡ ratios y → x ≡ y
   points_once x y e = each_once ratio fraction_once x y e
 
-  nodes_once : (ns ms : List Node) → nodes ns ≡ nodes ms → ns ≡ ms
-  nodes_once ns ms e = each_once node node_once ns ms e
+  cert_once : (c d : Cert) → certificate c ≡ certificate d → c ≡ d
+  cert_once c d e =
+      let rounds = each_once multipliers mults_once c.rounds d.rounds (ap (λ (x : Certificate). x.rounds) e) in
+      let nodes = each_once node node_once c.nodes d.nodes (ap (λ (x : Certificate). x.nodes) e) in
+      λ i. record { rounds = rounds i; nodes = nodes i }
 
-  pub claim_once : (c d : Claim) → claimed_outcome c ≡ claimed_outcome d → c ≡ d
-  claim_once (Has.Optimal x v ns) (Has.Optimal y w ms) e =
-      let all : Optimal (ratios x) (ratio v) (nodes ns) ≡ Optimal (ratios y) (ratio w) (nodes ms) = e in
+  certs_once : (cs ds : List Cert) → certificates cs ≡ certificates ds → cs ≡ ds
+  certs_once cs ds e = each_once certificate cert_once cs ds e
+
+  -- what a claim says and its cause are all of it
+  same_claim : (c d : Claim) → claim c ≡ claim d → claimed_cause c ≡ claimed_cause d → c ≡ d
+  same_claim (Has.Optimal x vs cs) (Has.Optimal y ws ds) e f =
+      let all : Says.Optimal (ratios x) (ratios vs) (certificates cs) ≡ Says.Optimal (ratios y) (ratios ws) (certificates ds) = e in
       let p : x ≡ y = points_once x y (cc) in
-      let q : v ≡ w = fraction_once v w (cc) in
-      let r : ns ≡ ms = nodes_once ns ms (cc) in
+      let q : vs ≡ ws = points_once vs ws (cc) in
+      let r : cs ≡ ds = certs_once cs ds (cc) in
       cc
-  claim_once (Has.Optimal x v ns) (Has.Infeasible ms) e = absurd (cc)
-  claim_once (Has.Optimal x v ns) (Has.Unbounded y w d) e = absurd (cc)
-  claim_once (Has.Optimal x v ns) (Has.BestSoFar y w c) e = absurd (cc)
-  claim_once (Has.Optimal x v ns) (Has.Unsure c) e = absurd (cc)
-  claim_once (Has.Infeasible ns) (Has.Optimal y w ms) e = absurd (cc)
-  claim_once (Has.Infeasible ns) (Has.Infeasible ms) e =
-      let all : Infeasible (nodes ns) ≡ Infeasible (nodes ms) = e in
-      let r : ns ≡ ms = nodes_once ns ms (cc) in
-      cc
-  claim_once (Has.Infeasible ns) (Has.Unbounded y w d) e = absurd (cc)
-  claim_once (Has.Infeasible ns) (Has.BestSoFar y w c) e = absurd (cc)
-  claim_once (Has.Infeasible ns) (Has.Unsure c) e = absurd (cc)
-  claim_once (Has.Unbounded x v r) (Has.Optimal y w ms) e = absurd (cc)
-  claim_once (Has.Unbounded x v r) (Has.Infeasible ms) e = absurd (cc)
-  claim_once (Has.Unbounded x v r) (Has.Unbounded y w d) e =
-      let all : Unbounded (ratios x) (ratio v) (ratios r) ≡ Unbounded (ratios y) (ratio w) (ratios d) = e in
+  same_claim (Has.Infeasible c) (Has.Infeasible d) e f =
+      let all : Says.Infeasible (certificate c) ≡ Says.Infeasible (certificate d) = e in
+      ap Has.Infeasible (cert_once c d (cc))
+  same_claim (Has.Unbounded x vs cs r) (Has.Unbounded y ws ds s) e f =
+      let all : Says.Unbounded (ratios x) (ratios vs) (certificates cs) (ratios r) ≡ Says.Unbounded (ratios y) (ratios ws) (certificates ds) (ratios s) = e in
       let p : x ≡ y = points_once x y (cc) in
-      let q : v ≡ w = fraction_once v w (cc) in
-      let s : r ≡ d = points_once r d (cc) in
+      let q : vs ≡ ws = points_once vs ws (cc) in
+      let t : cs ≡ ds = certs_once cs ds (cc) in
+      let u : r ≡ s = points_once r s (cc) in
       cc
-  claim_once (Has.Unbounded x v r) (Has.BestSoFar y w c) e = absurd (cc)
-  claim_once (Has.Unbounded x v r) (Has.Unsure c) e = absurd (cc)
-  claim_once (Has.BestSoFar x v b) (Has.Optimal y w ms) e = absurd (cc)
-  claim_once (Has.BestSoFar x v b) (Has.Infeasible ms) e = absurd (cc)
-  claim_once (Has.BestSoFar x v b) (Has.Unbounded y w d) e = absurd (cc)
-  claim_once (Has.BestSoFar x v b) (Has.BestSoFar y w c) e =
-      let all : BestSoFar (ratios x) (ratio v) b ≡ BestSoFar (ratios y) (ratio w) c = e in
+  same_claim (Has.BestSoFar x vs b) (Has.BestSoFar y ws c) e f =
+      let all : Says.BestSoFar (ratios x) (ratios vs) ≡ Says.BestSoFar (ratios y) (ratios ws) = e in
       let p : x ≡ y = points_once x y (cc) in
-      let q : v ≡ w = fraction_once v w (cc) in
+      let q : vs ≡ ws = points_once vs ws (cc) in
       let s : b ≡ c = cc in
       cc
-  claim_once (Has.BestSoFar x v b) (Has.Unsure c) e = absurd (cc)
-  claim_once (Has.Unsure b) (Has.Optimal y w ms) e = absurd (cc)
-  claim_once (Has.Unsure b) (Has.Infeasible ms) e = absurd (cc)
-  claim_once (Has.Unsure b) (Has.Unbounded y w d) e = absurd (cc)
-  claim_once (Has.Unsure b) (Has.BestSoFar y w c) e = absurd (cc)
-  claim_once (Has.Unsure b) (Has.Unsure c) e = let all : Unsure b ≡ Unsure c = e in let s : b ≡ c = cc in cc
+  same_claim (Has.Unsure b) (Has.Unsure c) e f = let s : b ≡ c = cc in cc
+  same_claim c d e f = absurd (cc)
+
+  -- an outcome is told by one claim
+  pub claim_once : (c d : Claim) (o : Outcome) → Tells c o → Tells d o → c ≡ d
+  claim_once c d o a b = same_claim c d (a.says ∙ sym b.says) (a.cause ∙ sym b.cause)

@@ -1,6 +1,6 @@
 -- What the run of a job tells.
 use Rattle.std.proofs.Common.{◌≡◌, ◌∙◌, ℕ, zero, suc, ◌+◌, inl, inr, Bool, true, false, Option, None, Some, Result, Ok, List, [], ◌∷◌, ◌++◌, arith, refl, ap, sym, subst}
-use Rattle.std.specs.Prelude.{IfOk}
+use Rattle.std.specs.Prelude.{IfOk, codes}
 use Rattle.std.proofs.lemmas.Result.{IfOk-weaker}
 use Rattle.std.proofs.lemmas.List.{length-map}
 use Rattle.os_io.specs.Looks.{stops_of}
@@ -14,9 +14,9 @@ use Rattle.certificate.specs.declared.claims.Claim.TheVariants as Has
 use Rattle.simplex_rules.specs.Ends.{Terms, Clock}
 use Rattle.simplex_rules.specs.Looks.{answers, went_on, AgreesWith as Agrees, looks_after, stop_after}
 use Rattle.simplex_rules.proofs.Looks.{agrees}
-use Rattle.search_rules.specs.Search.{Found, Outcome, Moment, ComesInSearch, Search, IsSearchAnswer, early, searched, given_up as given_up_at, given_up_after}
-use Rattle.search_rules.specs.Outcomes.{IsShown}
-use Rattle.branch_bound.specs.Claims.{claimed_outcome, is_kill, is_killed}
+use Rattle.search_rules.specs.Search.{Found, Outcome, BestSoFar, Unsure, Moment, ComesInSearch, Search, IsSearchAnswer, early, searched, given_up as given_up_at, given_up_after}
+use Rattle.search_rules.specs.Outcomes.{IsShown, HaveOneRange}
+use Rattle.branch_bound.specs.Claims.{Tells, is_killed}
 use Rattle.osol_grammar.specs.declared.options.Options.{Options}
 use Rattle.osol_grammar.specs.declared.fault.OsolFault.{OsolFault}
 use Rattle.osol_grammar.specs.Meaning.{IsOptionsText}
@@ -28,67 +28,61 @@ use Rattle.osil_grammar.specs.Reading.{IsInstanceText}
 use Rattle.osil_grammar.specs.Reading as instances
 use Rattle.osrl_grammar.specs.declared.report.Report.{Report}
 use Rattle.solve_run.specs.declared.document.Document.{Document}
-use Rattle.solve_run.specs.Closings.{claim_report, error_report, IsFinal, IsJudged, IsShort, IsFitted, checked, IsClosed}
+use Rattle.solve_run.specs.Judging.{IsSearched, IsShownClaim, IsFinal, IsJudged, checked}
+use Rattle.solve_run.specs.Closings.{claim_report, error_report, IsShort, IsFitted, IsClosed}
 use Rattle.solve_run.specs.JobAnswers.{job_terms, AreJobTexts, IsJobOf, MayStop, AnswersJob, Right}
 use Rattle.solve_run.specs.JobAnswers as right
-use Rattle.solve_run.specs.Runs.{Reports, no_options, no_instance, solved, gave_up, TellsOutcome, TellsText, TellsDocument, IsRight, Ran, ClosesClaim, IsClaimTold, IsMemoryDocument, IsErrorDocument}
+use Rattle.solve_run.specs.Runs.{Reports, no_options, no_instance, not_solved, solved, gave_up, TellsOutcome, TellsText, TellsDocument, IsRight, Ran, ClosesClaim, IsClaimTold, IsMemoryDocument, IsErrorDocument}
 use Rattle.solve_run.proofs.Lengths.{IsShortName, best_short, unsure_short}
 use Rattle.solve_run.proofs.Names.{short_name}
+use Rattle.solve_run.proofs.WidthRefusals.{one_range, decided, few_values}
 
 -- ---- claims that are given up
 
 -- the document of a claim that isn't final isn't too long
-pub claim_short : (p : Parts) (job : Option (List ℕ)) (c : Claim) → IsValid p → IsShortName job → IsShown (program p) (claimed_outcome c) → (IsFinal c → ⊥) → IsShort job c
-claim_short p job (Has.Optimal x v ns) valid name s other = absurd (other tt)
-claim_short p job (Has.Infeasible ns) valid name s other = absurd (other tt)
-claim_short p job (Has.Unbounded x v r) valid name s other = absurd (other tt)
-claim_short p job (Has.BestSoFar x v c) valid name s other =
-    let count = s.feasible.count in
-    let few = valid.few_vars in
-    best_short job name x v c (omega (arith, count, few, length-map x ratio, length-map p.vars variable))
+pub claim_short : (p : Parts) (job : Option (List ℕ)) (c : Claim) → IsValid p → IsShortName job → IsShownClaim p c → (IsFinal c → ⊥) → IsShort job c
+claim_short p job (Has.Optimal x vs cs) valid name s other = absurd (other tt)
+claim_short p job (Has.Infeasible cert) valid name s other = absurd (other tt)
+claim_short p job (Has.Unbounded x vs cs r) valid name s other = absurd (other tt)
+claim_short p job (Has.BestSoFar x vs c) valid name s other = let (few, one) = few_values p x vs c valid s in best_short job name x vs c few one
 claim_short p job (Has.Unsure c) valid name s other = unsure_short job name c
 
 -- what is told of it is the claim itself
 kept : (p : Parts) (job : Option (List ℕ)) (turns : ℕ) (found told : Claim) → (IsFinal found → ⊥) → IsShort job found → IsClosed p job turns found told → told ≡ found
 kept p job turns found told other short c = by c.width c.judged c.fitted
   where
-    by : (width : Option ℕ) → IsJudged (program p) found width → IsFitted job (checked found turns width) told → told ≡ found
+    by : (width : Option ℕ) → IsJudged p found width → IsFitted job (checked found turns width) told → told ≡ found
     by None judged (inl (s, same)) = same
     by None judged (inr (long, same)) = absurd (long short)
     by (Some n) judged fitted = absurd (other judged.0)
 
--- a claim for want of memory isn't final, and no look stopped the search
-pub record IsWanting (c : Claim) : Type 0 where
-  pub other : IsFinal c → ⊥
-  pub went_on : is_killed c ≡ false
+-- a claim for want of memory isn't final
+pub wanting : (c : Claim) (best : Option Found) → Tells c (early best Memory) → IsFinal c → ⊥
+wanting c None t final = decided c (Unsure Memory) final t.says
+wanting c (Some f) t final = decided c (BestSoFar f.point f.value Memory) final t.says
 
-pub wanting : (c : Claim) (best : Option Found) → claimed_outcome c ≡ early best Memory → IsWanting c
-wanting (Has.Optimal x v ns) None e = absurd (cc)
-wanting (Has.Optimal x v ns) (Some f) e = absurd (cc)
-wanting (Has.Infeasible ns) None e = absurd (cc)
-wanting (Has.Infeasible ns) (Some f) e = absurd (cc)
-wanting (Has.Unbounded x v r) None e = absurd (cc)
-wanting (Has.Unbounded x v r) (Some f) e = absurd (cc)
-wanting (Has.BestSoFar x v c) None e = absurd (cc)
-wanting (Has.BestSoFar x v c) (Some f) e = let same : c ≡ Memory = cc in record { other = λ f. f; went_on = ap is_kill same }
-wanting (Has.Unsure c) None e = let same : c ≡ Memory = cc in record { other = λ f. f; went_on = ap is_kill same }
-wanting (Has.Unsure c) (Some f) e = absurd (cc)
+-- no look stopped its search
+memory_killed : (best : Option Found) → is_killed (early best Memory) ≡ false
+memory_killed None = refl
+memory_killed (Some f) = refl
 
 -- ---- what is reported
 
 abbrev clock_after : (turns n : ℕ) (killed : Bool) → Clock
 clock_after turns n killed = record { turns = turns; looks = looks_after 0 n killed }
 
-module _ (osil osol : List ℕ) (o : Options) (p : Parts) (valid : IsValid p) (options_text : IsOptionsText osol o) (name : IsNameOrNone o.job) (instance_text : IsInstanceText osil p) where
+module _ (osil osol : List ℕ) (o : Options) (p : Parts) (valid : IsValid p) (options_text : IsOptionsText osol o) (name : IsNameOrNone o.job) (instance_text : IsInstanceText osil p) (one : IsSearched p) where
   abbrev given : AreJobTexts osil osol
   given = record { options = o; options_text = options_text; parts = p; valid = valid; instance_text = instance_text }
 
   module _ (found : Claim) (turns n : ℕ) (doc : Document) where
     -- memory was wanting in the search: the claim of its moment is told
-    wanted : (m : Moment) → IsShown (program p) (claimed_outcome found) → ComesInSearch (program p) (job_terms o (stop_after n (is_killed found))) m → claimed_outcome found ≡ early m.best Memory → ClosesClaim p o.job turns found doc → TellsOutcome osil osol n (is_killed found) doc
-    wanted m shown comes is closes =
-        let want = wanting found m.best is in
-        let same = kept p o.job turns found closes.told want.other (claim_short p o.job found valid (short_name o.job name) shown want.other) closes.closed in
+    wanted : (oc : Outcome) (m : Moment) → Tells found oc → IsShown (program p) oc → ComesInSearch (program p) (job_terms o (stop_after n (is_killed oc))) m → early m.best Memory ≡ oc → ClosesClaim p o.job turns found doc → TellsOutcome osil osol n (is_killed oc) doc
+    wanted oc m tells shown comes is closes =
+        let early_told : Tells found (early m.best Memory) = subst (Tells found) (sym is) tells in
+        let other = wanting found m.best early_told in
+        let same = kept p o.job turns found closes.told other (claim_short p o.job found valid (short_name o.job name) (record { outcome = oc; tells = tells; shown = shown }) other) closes.closed in
+        let went : is_killed oc ≡ false = ap is_killed (sym is) ∙ memory_killed m.best in
         record {
           report = claim_report o.job closes.told;
           reports = gave_up (record {
@@ -97,23 +91,27 @@ module _ (osil osol : List ℕ) (o : Options) (p : Parts) (valid : IsValid p) (o
             claim = closes.told;
             claims = inr (record {
               given = given;
+              searched = one;
               moment = m;
-              comes = subst (λ (k : Bool). ComesInSearch (program p) (job_terms o (stop_after n k)) m) want.went_on comes;
-              is = ap claimed_outcome same ∙ is;
+              comes = subst (λ (k : Bool). ComesInSearch (program p) (job_terms o (stop_after n k)) m) went comes;
+              tells = subst (λ (c : Claim). Tells c (early m.best Memory)) (sym same) early_told;
             });
             is = refl;
           });
           is = closes.is;
         }
 
-    ended : Search (program p) (job_terms o (stop_after n (is_killed found))) (claimed_outcome found) (clock_after turns n (is_killed found)) → ClosesClaim p o.job turns found doc → TellsOutcome osil osol n (is_killed found) doc
-    ended ends closes = record {
+    ended : (oc : Outcome) → Tells found oc → Search (program p) (job_terms o (stop_after n (is_killed oc))) oc (clock_after turns n (is_killed oc)) → ClosesClaim p o.job turns found doc → TellsOutcome osil osol n (is_killed oc) doc
+    ended oc tells ends closes = record {
       report = claim_report o.job closes.told;
       reports = solved (record {
         given = given;
+        searched = one;
         turns = turns;
-        found = found;
+        outcome = oc;
         ends = ends;
+        found = found;
+        tells = tells;
         told = closes.told;
         closed = closes.closed;
         numbers = closes.numbers;
@@ -122,12 +120,12 @@ module _ (osil osol : List ℕ) (o : Options) (p : Parts) (valid : IsValid p) (o
       is = closes.is;
     }
 
-    answered : (oc : Outcome) (d : Clock) → oc ≡ claimed_outcome found → d ≡ clock_after turns n (is_killed found) → IsShown (program p) (claimed_outcome found) → IsSearchAnswer (program p) (job_terms o (stop_after n (is_killed found))) oc d → ClosesClaim p o.job turns found doc → TellsOutcome osil osol n (is_killed found) doc
-    answered oc d e f shown (searched s) closes =
-        ended (subst (λ (x : Outcome). Search (program p) (job_terms o (stop_after n (is_killed found))) x (clock_after turns n (is_killed found))) e
-        (subst (λ (x : Clock). Search (program p) (job_terms o (stop_after n (is_killed found))) oc x) f s)) closes
-    answered oc d e f shown (given_up_at {m} c) closes = wanted m shown c (sym e) closes
-    answered oc d e f shown (given_up_after {m} c r) closes = wanted m shown c (sym e) closes
+    answered : (oc of : Outcome) (d : Clock) → of ≡ oc → d ≡ clock_after turns n (is_killed oc) → Tells found oc → IsShown (program p) oc → IsSearchAnswer (program p) (job_terms o (stop_after n (is_killed oc))) of d → ClosesClaim p o.job turns found doc → TellsOutcome osil osol n (is_killed oc) doc
+    answered oc of d e f tells shown (searched s) closes =
+        ended oc tells (subst (λ (x : Outcome). Search (program p) (job_terms o (stop_after n (is_killed oc))) x (clock_after turns n (is_killed oc))) e
+        (subst (λ (x : Clock). Search (program p) (job_terms o (stop_after n (is_killed oc))) of x) f s)) closes
+    answered oc of d e f tells shown (given_up_at {m} c) closes = wanted oc m tells shown c e closes
+    answered oc of d e f tells shown (given_up_after {m} c r) closes = wanted oc m tells shown c e closes
 
 -- nothing is told for want of memory, of this job
 untold : (osil osol : List ℕ) (n : ℕ) (killed : Bool) (job : Option (List ℕ)) (doc : Document) → IsJobOf osol job → IsMemoryDocument job doc → TellsOutcome osil osol n killed doc
@@ -138,32 +136,30 @@ untold osil osol n killed job doc whose is = record {
 }
 
 -- the run of an instance
-pub ran : {E : Type 0} (Came : List Bool → Type 0) (osil osol : List ℕ) (o : Options) (p : Parts) (found : Claim) (turns n : ℕ) (result : Result Document E)
-    → IsValid p → IsNameOrNone o.job → IsOptionsText osol o → IsInstanceText osil p
-    → ((t : Terms) (c : Clock) → IsSearchAnswer (program p) t (claimed_outcome found) c → IsShown (program p) (claimed_outcome found))
-    → Came (answers n (is_killed found))
-    → ((stop : Option ℕ) → Agrees stop 0 n (is_killed found) → IsSearchAnswer (program p) (job_terms o stop) (claimed_outcome found) (clock_after turns n (is_killed found)))
+pub ran : {E : Type 0} (Came : List Bool → Type 0) (osil osol : List ℕ) (o : Options) (p : Parts) (found : Claim) (turns n : ℕ) (oc : Outcome) (result : Result Document E)
+    → IsValid p → IsNameOrNone o.job → IsOptionsText osol o → IsInstanceText osil p → IsSearched p → Tells found oc → IsShown (program p) oc
+    → Came (answers n (is_killed oc))
+    → ((stop : Option ℕ) → Agrees stop 0 n (is_killed oc) → IsSearchAnswer (program p) (job_terms o stop) oc (clock_after turns n (is_killed oc)))
     → IfOk result (IsClaimTold p o.job turns found) → Ran Came osil osol (TellsDocument osil osol result)
-ran {E} Came osil osol o p found turns n result valid name options_text instance_text shows came answer told =
-    let is = answer (stop_after n (is_killed found)) (agrees n (is_killed found)) in
-    let all = given osil osol o p valid options_text name instance_text in
+ran {E} Came osil osol o p found turns n oc result valid name options_text instance_text one tells shown came answer told =
+    let is = answer (stop_after n (is_killed oc)) (agrees n (is_killed oc)) in
     record {
       went_on = n;
-      killed = is_killed found;
+      killed = is_killed oc;
       came = came;
-      looks = inr (record { given = all; turns = turns; outcome = claimed_outcome found; answers = is });
-      tells = IfOk-weaker result (IsClaimTold p o.job turns found) (TellsOutcome osil osol n (is_killed found)) (by is) told;
+      looks = inr (record { given = given osil osol o p valid options_text name instance_text one; turns = turns; outcome = oc; answers = is });
+      tells = IfOk-weaker result (IsClaimTold p o.job turns found) (TellsOutcome osil osol n (is_killed oc)) (by is) told;
     }
   where
-    by : IsSearchAnswer (program p) (job_terms o (stop_after n (is_killed found))) (claimed_outcome found) (clock_after turns n (is_killed found)) → (doc : Document) → IsClaimTold p o.job turns found doc → TellsOutcome osil osol n (is_killed found) doc
-    by is doc (inl closes) = answered osil osol o p valid options_text name instance_text found turns n doc (claimed_outcome found) (clock_after turns n (is_killed found)) refl refl (shows _ _ is) is closes
-    by is doc (inr memory) = untold osil osol n (is_killed found) o.job doc (inr (o, options_text, refl)) memory
+    by : IsSearchAnswer (program p) (job_terms o (stop_after n (is_killed oc))) oc (clock_after turns n (is_killed oc)) → (doc : Document) → IsClaimTold p o.job turns found doc → TellsOutcome osil osol n (is_killed oc) doc
+    by is doc (inl closes) = answered osil osol o p valid options_text name instance_text one found turns n doc oc oc (clock_after turns n (is_killed oc)) refl refl tells shown is closes
+    by is doc (inr memory) = untold osil osol n (is_killed oc) o.job doc (inr (o, options_text, refl)) memory
 
 -- what was found is shown
-pub shown_by : ((I : Instance) (t : Terms) (oc : Outcome) (c : Clock) → IsInstance I → IsSearchAnswer I t oc c → IsShown I oc) → ((q : Parts) → IsInstance (program q))
-    → (p : Parts) (o : Options) (found : Claim) (turns n : ℕ) → ((stop : Option ℕ) → Agrees stop 0 n (is_killed found) → IsSearchAnswer (program p) (job_terms o stop) (claimed_outcome found) (clock_after turns n (is_killed found))) → IsShown (program p) (claimed_outcome found)
-shown_by shows numbers p o found turns n answer =
-    shows (program p) _ (claimed_outcome found) _ (numbers p) (answer (stop_after n (is_killed found)) (agrees n (is_killed found)))
+pub shown_by : ((I : Instance) (t : Terms) (oc : Outcome) (c : Clock) → IsInstance I → HaveOneRange I → IsSearchAnswer I t oc c → IsShown I oc) → ((q : Parts) → IsInstance (program q))
+    → (p : Parts) (o : Options) (turns n : ℕ) (oc : Outcome) → IsSearched p → ((stop : Option ℕ) → Agrees stop 0 n (is_killed oc) → IsSearchAnswer (program p) (job_terms o stop) oc (clock_after turns n (is_killed oc))) → IsShown (program p) oc
+shown_by shows numbers p o turns n oc one answer =
+    shows (program p) _ oc _ (numbers p) (one_range p one) (answer (stop_after n (is_killed oc)) (agrees n (is_killed oc)))
 
 -- ---- no search
 
@@ -202,6 +198,23 @@ quiet_instance {E} Came osil osol o fault message result came options_text fails
     }
     by doc (inr memory) = untold osil osol 0 false o.job doc (inr (o, options_text, refl)) memory
 
+-- an instance that isn't searched
+pub quiet_left : {E : Type 0} (Came : List Bool → Type 0) (osil osol : List ℕ) (o : Options) (p : Parts) (message : Result (List ℕ) E) (result : Result Document E) → Came [] → IsValid p → IsOptionsText osol o → IsInstanceText osil p → (IsSearched p → ⊥) → IfOk message (λ m. m ≡ codes "not solved yet") → IfOk result (IsErrorDocument o.job message) → Ran Came osil osol (TellsDocument osil osol result)
+quiet_left {E} Came osil osol o p message result came valid options_text instance_text other says is =
+    quiet Came osil osol result came (IfOk-weaker result (IsErrorDocument o.job message) (TellsOutcome osil osol 0 false) by is)
+  where
+    by : (doc : Document) → IsErrorDocument o.job message doc → TellsOutcome osil osol 0 false doc
+    by doc (inl (m, same, written)) = record {
+      report = error_report o.job m;
+      reports = not_solved (record {
+        given = record { options = o; options_text = options_text; parts = p; valid = valid; instance_text = instance_text };
+        other = other;
+        is = ap (error_report o.job) (message_of message (λ t. t ≡ codes "not solved yet") m same says);
+      });
+      is = written;
+    }
+    by doc (inr memory) = untold osil osol 0 false o.job doc (inr (o, options_text, refl)) memory
+
 -- ---- the verdict
 
 one_stop : (n : ℕ) → stops_of (went_on n ++ true ∷ []) ≡ 1
@@ -214,6 +227,7 @@ Asked killed asked = killed ≡ true → asked ≡ true
 answers_right : (osil osol : List ℕ) (n : ℕ) (killed asked : Bool) (r : Report) → Asked killed asked → Reports osil osol n killed r → AnswersJob osil osol asked r
 answers_right osil osol n killed asked r only (no_options h) = right.no_options h
 answers_right osil osol n killed asked r only (no_instance h) = right.no_instance h
+answers_right osil osol n killed asked r only (not_solved h) = right.not_solved h
 answers_right osil osol n killed asked r only (solved h) = right.solved (stop_after n killed) (looks_after 0 n killed) (stops killed only) h
   where
     stops : (k : Bool) → Asked k asked → MayStop asked (stop_after n k) (looks_after 0 n k)

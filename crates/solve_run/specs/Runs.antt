@@ -12,7 +12,7 @@ use Rattle.osrl_grammar.specs.Writing.{report_text}
 use Rattle.osrl_grammar.specs.Back.{CauseComesBack, ClaimComesBack}
 use Rattle.solve_run.specs.Closings.{claim_report, error_report, IsFitted, IsClosed}
 use Rattle.solve_run.specs.declared.document.Document.{Document}
-use Rattle.solve_run.specs.JobAnswers.{job_terms, RefusesOptions, RefusesInstance, AreJobTexts, Solved, GaveUp, AnswersJob}
+use Rattle.solve_run.specs.JobAnswers.{job_terms, RefusesOptions, RefusesInstance, LeavesInstance, AreJobTexts, Solved, GaveUp, AnswersJob}
 
 -- the looks are those of the search of the instance, up to its end or to where memory was wanting
 pub record AreSearched (osil osol : List ℕ) (n : ℕ) (killed : Bool) : Type 0 where
@@ -29,6 +29,7 @@ AreSearchLooks osil osol n killed = ((n ≡ 0) × (killed ≡ false)) ⊎ AreSea
 pub data Reports (osil osol : List ℕ) (n : ℕ) (killed : Bool) (r : Report) : Type 0 where
   no_options : RefusesOptions osol r → Reports osil osol n killed r
   no_instance : RefusesInstance osil osol r → Reports osil osol n killed r
+  not_solved : LeavesInstance osil osol r → Reports osil osol n killed r
   solved : Solved osil osol (stop_after n killed) (looks_after 0 n killed) r → Reports osil osol n killed r
   gave_up : GaveUp osil osol r → Reports osil osol n killed r
 
@@ -81,10 +82,10 @@ IsFittedDocument job c doc = ((told : Claim) × IsFitted job c told × IsDocumen
 
 -- the numbers of a claim's cause are those of their types
 abbrev pub HasCauses : Claim → Type 0
-HasCauses (Optimal x v ns) = Unit {0}
-HasCauses (Infeasible ns) = Unit {0}
-HasCauses (Unbounded x v r) = Unit {0}
-HasCauses (BestSoFar x v c) = CauseComesBack c
+HasCauses (Optimal x vs cs) = Unit {0}
+HasCauses (Infeasible cert) = Unit {0}
+HasCauses (Unbounded x vs cs r) = Unit {0}
+HasCauses (BestSoFar x vs c) = CauseComesBack c
 HasCauses (Unsure c) = CauseComesBack c
 
 -- what is told of a claim that was found, closed

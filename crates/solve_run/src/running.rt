@@ -7,7 +7,7 @@ ghost use Rattle.solve_run.specs.JobAnswers.{Right};
 ghost use Rattle.solve_run.specs.Runs.{Ran, IsRight, TellsDocument, TellsText};
 
 use crate::document::Document;
-use crate::finding::find;
+use crate::finding::{find, is_searched};
 use crate::telling::{found_document, memory_document, refusal};
 use branch_bound::Searched;
 use instance::{Instance, programs_have_numbers};
@@ -28,6 +28,10 @@ fn run_instance<W: Watch>(
     requires stops { W.stops watch.old < 2 ^ 64 - 1 }
     ensures { (osil osol : List ℕ) → IsOptionsText osol options → IsInstanceText osil instance.now → Ran (W.came watch.old watch.new) osil osol (TellsDocument osil osol result) }
 {
+    if !is_searched(instance) {
+        let message = Text::from_slice(alloc, b"not solved yet");
+        return refusal(alloc, options.job, message);
+    }
     let Searched { claim, turns } = find(alloc, instance, &options, watch);
     options_have_names();
     programs_have_numbers();

@@ -1,12 +1,10 @@
 // The documents of reports.
 ghost use Rattle.std.specs.Prelude.{◌≡◌, ℕ, Option, List, IfOk};
 ghost use Rattle.instance.specs.Parts.{IsValid};
-ghost use Rattle.instance.specs.Program.{program};
 ghost use Rattle.certificate.specs.declared.causes.Cause.TheVariants as causes;
 ghost use Rattle.certificate.specs.declared.claims.Claim.{Claim as OneClaim};
-ghost use Rattle.search_rules.specs.Outcomes.{IsShown};
-ghost use Rattle.branch_bound.specs.Claims.{claimed_outcome};
 ghost use Rattle.osrl_grammar.specs.Back.{CauseComesBack};
+ghost use Rattle.solve_run.specs.Judging.{given_up, IsSearched, IsShownClaim};
 ghost use Rattle.solve_run.specs.Closings as specs;
 ghost use Rattle.solve_run.specs.Runs.{IsClaimTold, IsTextOf, IsFittedDocument, IsMemoryDocument, IsErrorDocument, HasCauses};
 
@@ -85,7 +83,7 @@ pub fn refusal(
 
 /// The report whose claim is given up for its length.
 fn shortened(report: Report) -> Report
-    ensures { (job : Option (List ℕ)) (c : OneClaim) → report ≡ specs.claim_report job c → result ≡ specs.claim_report job (specs.given_up c causes.Length) }
+    ensures { (job : Option (List ℕ)) (c : OneClaim) → report ≡ specs.claim_report job c → result ≡ specs.claim_report job (given_up c causes.Length) }
 {
     Report {
         error: report.error,
@@ -148,7 +146,8 @@ pub fn found_document(
     turns: u64,
 ) -> Result<Document, Memory>
     requires valid { IsValid instance.now }
-    requires shown { IsShown (program instance.now) (claimed_outcome found) }
+    requires searched { IsSearched instance.now }
+    requires shown { IsShownClaim instance.now found }
     ensures { IfOk result (IsClaimTold instance.now job turns found) }
 {
     read_causes(&found);

@@ -1,5 +1,5 @@
 // Whole programs as texts: a tableau, the ends of its rows and variables, and the goal's sense with its constant.
-use crate::reading::read_tableau;
+use crate::reading::{only, read_tableau};
 use decimal_text::{read_count, read_ratio};
 use fraction::{End, Frac};
 use instance::{Goal, Instance, Row, Sense, Var};
@@ -20,7 +20,13 @@ pub fn read_var(text: &[u8]) -> Option<Var> {
     let lb = read_end(parts.next()?)?;
     let ub = read_end(parts.next()?)?;
     let whole = parts.next().is_some();
-    Some(Var { lb, ub, whole })
+    let zero = false;
+    Some(Var {
+        lb,
+        ub,
+        whole,
+        zero,
+    })
 }
 
 /// Variables or rows parted by `;`, none in the empty text.
@@ -84,9 +90,9 @@ fn with_parts(
     let goal = Goal {
         sense: goal.0,
         constant: goal.1,
-        costs: free.goal().costs.try_copy(alloc)?,
+        costs: free.first_goal().costs.try_copy(alloc)?,
     };
-    Ok(Instance::of(vars, list, entries, goal))
+    Ok(Instance::of(vars, list, entries, only(alloc, goal)?))
 }
 
 /// The same with variables that a text says.

@@ -68,6 +68,7 @@ fn free_vars(alloc: Global, count: usize) -> Result<Vec<Var>, Memory> {
         lb: End::NegInf,
         ub: End::Inf,
         whole: false,
+        zero: false,
     };
     let mut vars = Vec::new(alloc);
     for _ in 0..count {
@@ -88,6 +89,13 @@ fn free_rows(alloc: Global, count: u32) -> Result<Vec<Row>, Memory> {
     Ok(rows)
 }
 
+/// The list of one goal.
+pub fn only(alloc: Global, goal: Goal) -> Result<Vec<Goal>, Memory> {
+    let mut goals = Vec::new(alloc);
+    goals.push(goal)?;
+    Ok(goals)
+}
+
 /// The program of these rows and costs, if it is one.
 pub fn read_tableau(alloc: Global, rows: &[u8], costs: &[u8]) -> Result<Option<Instance>, Memory> {
     let Some((entries, height)) = read_rows(alloc, rows)? else {
@@ -103,7 +111,7 @@ pub fn read_tableau(alloc: Global, rows: &[u8], costs: &[u8]) -> Result<Option<I
     };
     let vars = free_vars(alloc, goal.costs.len())?;
     let rows = free_rows(alloc, height)?;
-    Ok(Instance::of(vars, rows, entries, goal))
+    Ok(Instance::of(vars, rows, entries, only(alloc, goal)?))
 }
 
 /// A basic column that leaves, and one that enters.

@@ -52,7 +52,7 @@ fn load<L: Ledger>(dict: &mut Dict<L>, instance: &Instance, factor: i8, steps: &
     ensures held { IsHeld dict.new }
 {
     let entries = instance.entries();
-    let goal = instance.goal();
+    let goal = instance.first_goal();
     dict.load(entries, goal.costs.as_slice(), factor, steps);
 }
 

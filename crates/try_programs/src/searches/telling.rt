@@ -1,5 +1,5 @@
 // Claims as texts.
-use certificate::{Cause, Cert, Claim, Mults, Node};
+use certificate::{Cause, Cert, Certs, Claim, Mults, Node, Values};
 use decimal_text::write_ratio;
 use fraction::Frac;
 use itoa::Buffer;
@@ -34,6 +34,10 @@ fn put_node(text: &mut Text, node: &Node) -> Result<(), Memory> {
             text.push(b' ')?;
             text.extend(Buffer::new().format(*k).as_bytes())
         }
+        Node::Zero { col } => {
+            text.extend(b"zero ")?;
+            put_count(text, *col as u64)
+        }
         Node::Clash { col } => {
             text.extend(b"clash ")?;
             put_count(text, *col as u64)
@@ -45,10 +49,22 @@ fn put_node(text: &mut Text, node: &Node) -> Result<(), Memory> {
 
 fn put_cert(text: &mut Text, cert: &Cert) -> Result<(), Memory> {
     text.extend(b" by")?;
-    for node in cert.as_slice() {
+    for round in cert.rounds.as_slice() {
+        text.extend(b" (")?;
+        put_mults(text, b"round", round)?;
+        text.push(b')')?;
+    }
+    for node in cert.nodes.as_slice() {
         text.extend(b" (")?;
         put_node(text, node)?;
         text.push(b')')?;
+    }
+    Ok(())
+}
+
+fn put_certs(text: &mut Text, certs: &Certs) -> Result<(), Memory> {
+    for cert in certs.as_slice() {
+        put_cert(text, cert)?;
     }
     Ok(())
 }
@@ -77,36 +93,45 @@ fn put_cause(text: &mut Text, cause: Cause) -> Result<(), Memory> {
     }
 }
 
-fn put_point(text: &mut Text, point: &[Frac], value: Frac) -> Result<(), Memory> {
+fn put_point(text: &mut Text, point: &[Frac], values: &Values) -> Result<(), Memory> {
     put_numbers(text, b" at", point)?;
-    text.extend(b" value ")?;
-    write_ratio(value, text)
+    put_numbers(text, b" value", values.as_slice())
 }
 
 /// Puts a claim, with what it carries.
 pub fn put_claim(text: &mut Text, claim: &Claim) -> Result<(), Memory> {
     match claim {
-        Claim::Optimal { point, value, cert } => {
+        Claim::Optimal {
+            point,
+            values,
+            certs,
+        } => {
             text.extend(b"optimal")?;
-            put_point(text, point.as_slice(), *value)?;
-            put_cert(text, cert)
+            put_point(text, point.as_slice(), values)?;
+            put_certs(text, certs)
         }
         Claim::Infeasible { cert } => {
             text.extend(b"infeasible")?;
             put_cert(text, cert)
         }
-        Claim::Unbounded { point, value, ray } => {
+        Claim::Unbounded {
+            point,
+            values,
+            certs,
+            ray,
+        } => {
             text.extend(b"unbounded")?;
-            put_point(text, point.as_slice(), *value)?;
+            put_point(text, point.as_slice(), values)?;
+            put_certs(text, certs)?;
             put_numbers(text, b" along", ray.as_slice())
         }
         Claim::BestSoFar {
             point,
-            value,
+            values,
             cause,
         } => {
             text.extend(b"bestSoFar")?;
-            put_point(text, point.as_slice(), *value)?;
+            put_point(text, point.as_slice(), values)?;
             put_cause(text, *cause)
         }
         Claim::Unsure { cause } => {

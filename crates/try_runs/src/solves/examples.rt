@@ -33,8 +33,12 @@ impl<'r, R: Threads + Wait + Sync, F: Files> Examples<'r, R, F> {
 /// Whether two claims say the same, however they show it.
 fn agree(claim: &Claim, stored: &Claim) -> bool {
     match (claim, stored) {
-        (Claim::Optimal { value, .. }, Claim::Optimal { value: best, .. }) => value == best,
-        (Claim::BestSoFar { value, .. }, Claim::BestSoFar { value: best, .. }) => value == best,
+        (Claim::Optimal { values, .. }, Claim::Optimal { values: best, .. }) => {
+            values.as_slice() == best.as_slice()
+        }
+        (Claim::BestSoFar { values, .. }, Claim::BestSoFar { values: best, .. }) => {
+            values.as_slice() == best.as_slice()
+        }
         (Claim::Infeasible { .. }, Claim::Infeasible { .. }) => true,
         (Claim::Unbounded { .. }, Claim::Unbounded { .. }) => true,
         _ => false,

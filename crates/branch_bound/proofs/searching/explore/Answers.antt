@@ -1,15 +1,15 @@
-use Rattle.std.proofs.Common.{rules, ◌≡◌, ◌+◌, inl, Bool, None, false, arith, sym, ◌∙◌, ap, subst}
-use Rattle.certificate.specs.Meanings as Means
+use Rattle.std.proofs.Common.{rules, ◌≡◌, ◌+◌, Bool, None, false, arith, sym, ◌∙◌, ap, subst}
 use Rattle.instance.specs.Program.{program}
 use Rattle.case_tree.specs.Cuts.{cases}
 use Rattle.simplex_rules.specs.Looks.{went_on, answers, IsAfter, AgreesWith, looks_after}
-use Rattle.search_rules.specs.Search.{Outcome, To, Out, closed, IsNext, ComesInSearch, begins, goes_on, IsSearchAnswer, searched}
-use Rattle.branch_bound.specs.Claims.{claimed_outcome}
-use Rattle.branch_bound.specs.Walks.{best, moment}
-use Rattle.branch_bound.specs.Cases.{terms, clock_at}
+use Rattle.search_rules.specs.Search.{To, IsNext, ComesInSearch, begins, goes_on, IsSearchAnswer}
+use Rattle.branch_bound.specs.Claims.{is_killed}
+use Rattle.branch_bound.specs.Walks.{moment}
+use Rattle.branch_bound.specs.Cases.{terms, clock_at, outcome_of}
 use Rattle.simplex.proofs.Looks.{answers_more}
 use Rattle.branch_bound.proofs.Looks.{no_stops, after_less, tells_less, looks_more}
 use Rattle.branch_bound.proofs.CaseSteps.{answered}
+use Rattle.branch_bound.proofs.Claimed.{killed_is, told_closed}
 use Rattle.branch_bound.proofs.searching.explore.Goals as goal
 
 pub loop-walk-init : goal.loop-walk-init
@@ -52,7 +52,7 @@ loop-walk-preserved g c =
             let s : AgreesWith stop 0 (n + k) false = subst (λ i. IsAfter i stop) (omega arith) h in
             let later : AgreesWith stop n k b = subst (AgreesWith stop n k) (sym went) (tells_less n k false stop s) in
             goes_on (comes stop (after_less n k false stop s))
-            (subst (λ (b : Bool). IsNext (program p) t (moment p l.walk (clock_at l.relaxation n)) (To (moment p c.step.new.walk (clock_at r (looks_after n k b))))) went (on n stop later)),
+            (subst (λ (b : Bool). IsNext (program p) t (moment (program p) l.walk (clock_at l.relaxation n)) (To (moment (program p) c.step.new.walk (clock_at r (looks_after n k b))))) went (on n stop later)),
       );
     }
 
@@ -62,16 +62,21 @@ returns-in-Err-clause-answer g c =
     let l = c.loop-walk in
     let p = a.instance.now in
     let r = c.step.new.relaxation in
+    let o = outcome_of c.in-Err.ended in
     let (n, came, comes) = l.invariant.moments in
-    let (k, b, q, came', ends) = c.in-Err.ensures.next in (
+    let (k, b, q, came', ends) = c.in-Err.ensures.next in
+    let is : b ≡ is_killed o = sym (killed_is c.in-Err.ended ∙ q) in (
       n + k,
-      b,
-      q,
-      subst (g.W.Watch.came a.watch.now c.step.new.watch) (answers_more n k b) (g.met.W.Watch.joined a.watch.now l.watch c.step.new.watch (went_on n) (answers k b) came came'),
+      o,
+      c.claim_of.ensures,
+      subst (λ (b : Bool). g.W.Watch.came a.watch.now c.step.new.watch (answers (n + k) b)) is
+      (subst (g.W.Watch.came a.watch.now c.step.new.watch) (answers_more n k b) (g.met.W.Watch.joined a.watch.now l.watch c.step.new.watch (went_on n) (answers k b) came came')),
       λ stop h.
           let t = terms a.limits stop in
-          subst (λ i. IsSearchAnswer (program p) t (claimed_outcome c.in-Err.claim) (clock_at r i)) (looks_more n k b)
-          (answered (program p) t (moment p l.walk (clock_at l.relaxation n)) (claimed_outcome c.in-Err.claim) (clock_at r (looks_after n k b)) (comes stop (after_less n k b stop h)) (ends n stop (tells_less n k b stop h))),
+          let s : AgreesWith stop 0 (n + k) b = subst (AgreesWith stop 0 (n + k)) (sym is) h in
+          subst (λ (b : Bool). IsSearchAnswer (program p) t o (clock_at r (looks_after 0 (n + k) b))) is
+          (subst (λ i. IsSearchAnswer (program p) t o (clock_at r i)) (looks_more n k b)
+          (answered (program p) t (moment (program p) l.walk (clock_at l.relaxation n)) o (clock_at r (looks_after n k b)) (comes stop (after_less n k b stop s)) (ends n stop (tells_less n k b stop s)))),
     )
 
 pub returns-clause-answer : goal.returns-clause-answer
@@ -80,18 +85,15 @@ returns-clause-answer g c =
     let l = c.loop-walk in
     let p = a.instance.now in
     let (n, came, comes) = l.invariant.moments in
-    let none : l.walk.next ≡ None = search rules in (
+    let none : l.walk.next ≡ None = search rules in
+    let (o, tells, went, answer) = told_closed (moment (program p) l.walk (clock_at l.relaxation n)) c.all_closed.result c.all_closed.ensures in (
       n,
-      false,
-      c.all_closed.ensures.killed,
-      came,
+      o,
+      tells,
+      subst (λ (b : Bool). g.W.Watch.came a.watch.now l.watch (answers n b)) (sym went) came,
       λ stop h.
           let t = terms a.limits stop in
-          let s : IsAfter n stop = subst (λ i. IsAfter i stop) (omega arith) h in
-          let e : 0 + n ≡ n = omega arith in
-          searched (record {
-            last = moment p l.walk (clock_at l.relaxation n);
-            comes = comes stop s;
-            ends = inl (ap (cases p l.walk.vars.items l.walk.branches.items) none, ap (λ (o : Outcome). Out o (clock_at l.relaxation (0 + n))) c.all_closed.ensures.told ∙ ap (λ i. Out (closed (best l.walk.best) (Means.nodes l.walk.nodes)) (clock_at l.relaxation i)) e);
-          }),
+          let s : IsAfter n stop = subst (λ i. IsAfter i stop) (omega arith) (subst (AgreesWith stop 0 n) went h) in
+          subst (λ (b : Bool). IsSearchAnswer (program p) t o (clock_at l.relaxation (looks_after 0 n b))) (sym went)
+          (subst (λ i. IsSearchAnswer (program p) t o (clock_at l.relaxation i)) (omega arith) (answer (program p) t (ap (cases (program p) l.walk.cuts.items l.walk.branches.items) none) (comes stop s))),
     )

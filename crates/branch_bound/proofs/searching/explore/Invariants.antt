@@ -12,7 +12,7 @@ invariant-loop-walk g l = record {
   size : HasSize l.instance l.relaxation;
   most : l.relaxation.turns.most ≡ l.limits.turns;
   counted : l.fn.steps ≤ l.steps;
-  moments : (n : ℕ) × g.W.Watch.came l.fn.watch l.watch (went_on n) × ((stop : Option ℕ) → IsAfter n stop → ComesInSearch (program l.instance) (terms l.limits stop) (moment l.instance l.walk (clock_at l.relaxation n)));
+  moments : (n : ℕ) × g.W.Watch.came l.fn.watch l.watch (went_on n) × ((stop : Option ℕ) → IsAfter n stop → ComesInSearch (program l.instance) (terms l.limits stop) (moment (program l.instance) l.walk (clock_at l.relaxation n)));
 }
 
 abbrev pub decreases-loop-walk : goal.decreases-loop-walk

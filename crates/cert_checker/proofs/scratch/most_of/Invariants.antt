@@ -7,6 +7,4 @@ abbrev pub invariant-loop-k : goal.invariant-loop-k
 invariant-loop-k l = record {
   nodes : (i : ℕ) (d : Cert) → i < l.k → length (slice_index_or l.certs i d).nodes ≤ l.nodes;
   rounds : (i : ℕ) (d : Cert) → i < l.k → length (slice_index_or l.certs i d).rounds ≤ l.rounds;
-  few_nodes : (n : ℕ) → 0 < n → All (λ (c : Cert). length c.nodes < n) l.certs → l.nodes < n;
-  few_rounds : (n : ℕ) → 0 < n → All (λ (c : Cert). length c.rounds < n) l.certs → l.rounds < n;
 }

@@ -1,9 +1,8 @@
 use Rattle.std.proofs.Common.{sym, subst}
 use Rattle.std.proofs.lemmas.Result.{MatchResult-weaker, err_from_is_err_and}
 use Rattle.std.specs.Result.{IfErr}
-use Rattle.certificate.specs.Nodes.{nodes_of}
 use Rattle.document_checker.specs.Documents.{DocsRefuse}
-use Rattle.document_checker.proofs.Pairs.{accepted_text, report_refused, result_refused, read_fits}
+use Rattle.document_checker.proofs.Pairs.{accepted_text, report_refused, result_refused}
 use Rattle.document_checker.proofs.documents.check_docs.Goals as goal
 
 pub returns-in_err-report-clause-err : goal.returns-in_err-report-clause-err
@@ -25,4 +24,4 @@ returns-clause-err c =
     (λ r refuses. report_refused c.in_ok-instance.ensures.ok c.in_ok-report.ensures.ok refuses)
 
 pub check_report-requires : goal.check_report-requires
-check_report-requires c = λ claim is. read_fits c.in_ok-report.ensures.ok (nodes_of claim) (c.read_claims_fit.ensures c.args.osrl.now c.in_ok-report.report claim c.in_ok-report.ensures.ok is)
+check_report-requires c = λ claim is. (c.read_claims_fit.ensures c.args.osrl.now c.in_ok-report.report claim c.in_ok-report.ensures.ok is).1

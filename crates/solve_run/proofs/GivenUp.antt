@@ -1,0 +1,87 @@
+-- What is left of a claim that is given up is shown too, and isn't final.
+use Rattle.std.proofs.Common.{◌≡◌, ◌∙◌, Option, None, Some, List, refl, ap, sym}
+use Rattle.rational.specs.Ratio.{Ratio}
+use Rattle.evidence.specs.Instance.{Instance}
+use Rattle.evidence.specs.Claim as Says
+use Rattle.instance.specs.Parts.{Parts}
+use Rattle.instance.specs.Program.{program}
+use Rattle.certificate.specs.Meanings as Means
+use Rattle.certificate.specs.declared.causes.Cause.{Cause}
+use Rattle.certificate.specs.declared.claims.Claim.{Claim}
+use Rattle.certificate.specs.declared.claims.Claim.TheVariants as Has
+use Rattle.search_rules.specs.Search.{Outcome, Optimal, Infeasible, Unbounded, BestSoFar, Unsure}
+use Rattle.search_rules.specs.Outcomes.{IsShown}
+use Rattle.branch_bound.specs.Claims.{said, cause_of, claimed_cause}
+use Rattle.solve_run.specs.Judging.{IsShownClaim, IsFinal, given_up}
+
+pub given_other : (c : Claim) (cause : Cause) → IsFinal (given_up c cause) → ⊥
+given_other (Has.Optimal x vs cs) cause f = f
+given_other (Has.Infeasible cert) cause f = f
+given_other (Has.Unbounded x vs cs r) cause f = f
+given_other (Has.BestSoFar x vs c) cause f = f
+given_other (Has.Unsure c) cause f = f
+
+-- what is left of a claim that is given up tells what is left of its outcome
+abbrev left : Outcome → Cause → Outcome
+left (Optimal x v ns) c = BestSoFar x v c
+left (Infeasible ns) c = Unsure c
+left (Unbounded x v r) c = BestSoFar x v c
+left (BestSoFar x v old) c = BestSoFar x v c
+left (Unsure old) c = Unsure c
+
+left_shown : (I : Instance) (o : Outcome) (cause : Cause) → IsShown I o → IsShown I (left o cause)
+left_shown I (Optimal x v ns) cause s = s.point
+left_shown I (Infeasible ns) cause s = tt
+left_shown I (Unbounded x v r) cause s = s.0
+left_shown I (BestSoFar x v c) cause s = s
+left_shown I (Unsure c) cause s = tt
+
+-- the point of what is said
+abbrev point_said : Says.Claim → Option (List Ratio × List Ratio)
+point_said (Says.Optimal x vs cs) = Some (x, vs)
+point_said (Says.Infeasible c) = None
+point_said (Says.Unbounded x vs cs r) = Some (x, vs)
+point_said (Says.BestSoFar x vs) = Some (x, vs)
+point_said Says.Unsure = None
+
+abbrev with_point : Option (List Ratio × List Ratio) → Says.Claim
+with_point None = Says.Unsure
+with_point (Some xv) = Says.BestSoFar xv.0 xv.1
+
+given_says : (c : Claim) (cause : Cause) → Means.claim (given_up c cause) ≡ with_point (point_said (Means.claim c))
+given_says (Has.Optimal x vs cs) cause = refl
+given_says (Has.Infeasible cert) cause = refl
+given_says (Has.Unbounded x vs cs r) cause = refl
+given_says (Has.BestSoFar x vs c) cause = refl
+given_says (Has.Unsure c) cause = refl
+
+left_says : (o : Outcome) (cause : Cause) → said (left o cause) ≡ with_point (point_said (said o))
+left_says (Optimal x v ns) cause = refl
+left_says (Infeasible ns) cause = refl
+left_says (Unbounded x v r) cause = refl
+left_says (BestSoFar x v c) cause = refl
+left_says (Unsure c) cause = refl
+
+given_cause : (c : Claim) (cause : Cause) → claimed_cause (given_up c cause) ≡ Some cause
+given_cause (Has.Optimal x vs cs) cause = refl
+given_cause (Has.Infeasible cert) cause = refl
+given_cause (Has.Unbounded x vs cs r) cause = refl
+given_cause (Has.BestSoFar x vs c) cause = refl
+given_cause (Has.Unsure c) cause = refl
+
+left_cause : (o : Outcome) (cause : Cause) → cause_of (left o cause) ≡ Some cause
+left_cause (Optimal x v ns) cause = refl
+left_cause (Infeasible ns) cause = refl
+left_cause (Unbounded x v r) cause = refl
+left_cause (BestSoFar x v c) cause = refl
+left_cause (Unsure c) cause = refl
+
+pub given_shown : (p : Parts) (c : Claim) (cause : Cause) → IsShownClaim p c → IsShownClaim p (given_up c cause)
+given_shown p c cause s = record {
+  outcome = left s.outcome cause;
+  tells = record {
+    says = given_says c cause ∙ ap (λ d. with_point (point_said d)) s.tells.says ∙ sym (left_says s.outcome cause);
+    cause = given_cause c cause ∙ sym (left_cause s.outcome cause);
+  };
+  shown = left_shown (program p) s.outcome cause s.shown;
+}

@@ -1,0 +1,65 @@
+-- What is checked of a search's claim before it is told, and what is left of a claim that is given up.
+use Rattle.std.specs.Prelude.{◌≡◌, ℕ, Option, None, Some, length}
+use Rattle.std.specs.List.{All}
+use Rattle.evidence.specs.Claim.{Accepts}
+use Rattle.instance.specs.declared.parts.Var.{Var}
+use Rattle.instance.specs.Parts.{Parts}
+use Rattle.instance.specs.Program.{program, problem}
+use Rattle.certificate.specs.Meanings as Means
+use Rattle.certificate.specs.declared.causes.Cause.{Cause}
+use Rattle.certificate.specs.declared.causes.Cause.TheVariants as causes
+use Rattle.certificate.specs.declared.causes.Step.TheVariants as steps
+use Rattle.certificate.specs.declared.claims.Claim.{Claim}
+use Rattle.certificate.specs.declared.claims.Claim.TheVariants.{Optimal, Infeasible, Unbounded, BestSoFar, Unsure}
+use Rattle.search_rules.specs.Search.{Outcome}
+use Rattle.search_rules.specs.Outcomes.{IsShown}
+use Rattle.branch_bound.specs.Claims.{Tells}
+use Rattle.cert_checker.specs.declared.refused.Refused.{Refused}
+use Rattle.cert_checker.specs.declared.refused.Refused.TheVariants.{Level}
+use Rattle.cert_checker.specs.declared.refused.Unshown.TheVariants as why
+use Rattle.cert_checker.specs.Refusals.{IsRefusedFor}
+
+-- the instances that are searched: of one goal, and no variable may be 0 besides
+pub record IsSearched (p : Parts) : Type 0 where
+  pub goals : length p.goals ≡ 1
+  pub ranges : All (λ (v : Var). v.zero ≡ false) p.vars
+
+-- the claim tells an outcome that is shown
+pub record IsShownClaim (p : Parts) (c : Claim) : Type 0 where
+  pub outcome : Outcome
+  pub tells : Tells c outcome
+  pub shown : IsShown (program p) outcome
+
+-- the claim says that a point is optimal, that none is feasible, or that points have no best value
+abbrev pub IsFinal : Claim → Type 0
+IsFinal (Optimal x vs cs) = Unit {0}
+IsFinal (Infeasible c) = Unit {0}
+IsFinal (Unbounded x vs cs r) = Unit {0}
+IsFinal (BestSoFar x vs c) = ⊥
+IsFinal (Unsure c) = ⊥
+
+-- nothing of the claim stands but its point, if it has one, for this cause
+abbrev pub given_up : Claim → Cause → Claim
+given_up (Optimal x vs cs) c = BestSoFar x vs c
+given_up (Infeasible cert) c = Unsure c
+given_up (Unbounded x vs cs r) c = BestSoFar x vs c
+given_up (BestSoFar x vs old) c = BestSoFar x vs c
+given_up (Unsure old) c = Unsure c
+
+-- a sum by which node n is checked doesn't fit, and is formed after so many turns
+abbrev pub wide_check : (n turns : ℕ) → Cause
+wide_check n turns = causes.Wide (record { node = n; turn = turns; step = steps.Check })
+
+-- a sum doesn't fit at node n of some level
+abbrev pub IsWideAt : Refused → ℕ → Type 0
+IsWideAt r n = (level : ℕ) × (r ≡ Level level (why.Wide n))
+
+-- what is checked of a claim: nothing where it isn't final; else it is accepted, or the first sum that doesn't fit is at this node
+abbrev pub IsJudged : Parts → Claim → Option ℕ → Type 0
+IsJudged p c None = IsFinal c → Accepts (problem p) (Means.claim c)
+IsJudged p c (Some n) = IsFinal c × (r : Refused) × IsRefusedFor (problem p) (Means.claim c) r × IsWideAt r n
+
+-- the claim after its check
+abbrev pub checked : Claim → (turns : ℕ) → Option ℕ → Claim
+checked c turns None = c
+checked c turns (Some n) = given_up c (wide_check n turns)
