@@ -14,6 +14,7 @@ pub mod Widths
 pub mod Rooms
 pub mod Bounds
 pub mod DictPivots
+pub mod MarkedColumns
 pub mod ProgramRows
 pub mod RowValues
 pub mod DictColumns

@@ -1,7 +1,9 @@
 -- A table of rows with the places of its columns: n columns that aren't basic, and then a basic one for each row.
-use Rattle.std.specs.Prelude.{◌≡◌, ℕ, ◌-◌, ◌<◌, Bool, true, false, cond, nat_lt, List}
+use Rattle.std.specs.Prelude.{◌≡◌, ℕ, ◌-◌, ◌<◌, ◌≤◌, Bool, true, false, cond, nat_lt, List}
 use Rattle.evidence.specs.Sums.{none}
 use Rattle.bases.specs.Dictionary.{Entries}
+use Rattle.marks.specs.declared.marks.Marks.{Marks}
+use Rattle.marks.specs.Marks.{is_marked}
 use Rattle.dictionary.specs.declared.row.Row.{Row}
 use Rattle.dictionary.specs.Row.{entries_in, number_in}
 
@@ -15,6 +17,11 @@ pub record ArePlaces (k : ℕ) (at place : ℕ → ℕ) : Type 0 where
 -- the first n places aren't basic
 abbrev pub basic_by : ℕ → (ℕ → ℕ) → ℕ → Bool
 basic_by n place c = cond (nat_lt (place c) n) false true
+
+-- a set has the basic ones of the columns below k, and no others
+pub record AreMarked (k n : ℕ) (place : ℕ → ℕ) (m : Marks) : Type 0 where
+  pub own : (c : ℕ) → c < k → is_marked m c ≡ basic_by n place c
+  pub past : (c : ℕ) → k ≤ c → is_marked m c ≡ false
 
 -- the entry of column c in the equation of basic column b, which is the row at its place
 abbrev pub entries_by : {L : _} → ℕ → (ℕ → ℕ) → List (Row L) → Entries

@@ -1,7 +1,8 @@
 // A dictionary in memory.
-ghost use Rattle.std.specs.Prelude.{◌≡◌, ℕ, ◌+◌, ◌<◌, ◌≤◌, ◌^◌, true, length, slice_index, IfOk};
+ghost use Rattle.std.specs.Prelude.{◌≡◌, ℕ, ◌+◌, ◌<◌, ◌≤◌, ◌^◌, true, false, length, slice_index, IfOk};
+ghost use Rattle.marks.specs.Marks.{is_marked, size_of};
 ghost use Rattle.dictionary.specs.Row.{room_of, HaveRoom, RowsHaveRoom};
-ghost use Rattle.dictionary.specs.Basis.{ArePlaces};
+ghost use Rattle.dictionary.specs.Basis.{ArePlaces, AreMarked};
 
 use crate::basis::{exchange, make_numbers, number};
 use crate::finding::{number_at, number_near};
@@ -12,6 +13,7 @@ use crate::row::Row;
 use crate::steps::Steps;
 use crate::value::sum_row;
 use fraction::{Entry, Frac, Wide};
+use marks::Marks;
 use std::alloc::{AllocError, Global};
 use std::sync::ledger::Ledger;
 
@@ -29,6 +31,7 @@ pub struct Dict<L: Ledger> {
     scratch: Row<L>,
     columns: Vec<u32>,
     places: Vec<u32>,
+    basic: Marks,
     is_loaded: bool,
     ghost count: { length rows.items ≡ height + 1 },
     ghost room: { HaveRoom width rows.items scratch },
@@ -38,6 +41,23 @@ pub struct Dict<L: Ledger> {
     ghost basis: { ArePlaces (width + (height + 1)) (slice_index columns.items) (slice_index places.items) },
     ghost few: { width + (height + 1) ≤ 2 ^ 32 },
     ghost goal: { slice_index columns.items (width + height) ≡ width + height },
+    ghost marks_count: { width + height ≤ size_of basic },
+    ghost marks_are: { is_loaded ≡ true → AreMarked (width + height) width (slice_index places.items) basic },
+}
+
+/// Marks the columns of the rows alone.
+fn mark_rows(basic: &mut Marks, width: u32, height: u32)
+    requires inside { width + height ≤ size_of basic.old }
+    requires few { width + height < 2 ^ 32 }
+    ensures size { size_of basic.new ≡ size_of basic.old }
+    ensures variables { (c : ℕ) → c < width → is_marked basic.new c ≡ false }
+    ensures rows { (c : ℕ) → width ≤ c → c < width + height → is_marked basic.new c ≡ true }
+    ensures past { (c : ℕ) → width + height ≤ c → is_marked basic.new c ≡ false }
+{
+    basic.clear();
+    for r in 0..height {
+        basic.mark(width + r);
+    }
 }
 
 fn make_rows<L: Ledger>(
@@ -84,6 +104,7 @@ impl<L: Ledger> Dict<L> {
         let scratch = Row::with_room(alloc, room)?;
         let columns = make_numbers(alloc, room + count)?;
         let places = make_numbers(alloc, room + count)?;
+        let basic = Marks::with_size(alloc, room + count)?;
         Ok(Dict {
             width,
             height,
@@ -92,6 +113,7 @@ impl<L: Ledger> Dict<L> {
             scratch,
             columns,
             places,
+            basic,
             is_loaded: false,
         })
     }
@@ -114,6 +136,7 @@ impl<L: Ledger> Dict<L> {
         load_rows(rows, matrix, costs, factor, steps);
         number(columns);
         number(places);
+        mark_rows(&mut self.basic, self.width, self.height);
         self.is_loaded = true;
     }
 
@@ -160,6 +183,8 @@ impl<L: Ledger> Dict<L> {
         let columns = self.columns.as_mut_slice();
         let places = self.places.as_mut_slice();
         exchange(columns, places, basic, nonbasic);
+        self.basic.unmark(basic);
+        self.basic.mark(nonbasic);
         self.is_loaded = true;
         Ok(())
     }
@@ -226,6 +251,16 @@ impl<L: Ledger> Dict<L> {
     {
         let r = self.row_of(row);
         number_near(&self.rows[r], nonbasic, place, steps)
+    }
+
+    /// The basic columns of variables and rows as a set, which goes over them in ascending order.
+    #[inline]
+    pub fn basic_columns(&self) -> &Marks
+        requires loaded { IsLoaded self.now }
+        ensures inside { (c : ℕ) → is_marked result.now c ≡ true → c < width_of self.now + height_of self.now }
+        ensures basic { (c : ℕ) → c < width_of self.now + height_of self.now → is_marked result.now c ≡ basic_of self.now c }
+    {
+        &self.basic
     }
 
     /// The basic columns of variables and rows in some order, each once: `i` is below `height`.

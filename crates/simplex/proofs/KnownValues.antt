@@ -1,5 +1,5 @@
 -- Which values stay known through a turn.
-use Rattle.std.proofs.Common.{◌≡◌, ℕ, ◌+◌, ◌<◌, pos, Bool, true, false, cond, nat_eq, List, zero, length, length-set, get_or, refl, sym, ◌∙◌, ap, subst, arith}
+use Rattle.std.proofs.Common.{◌≡◌, ℕ, ◌+◌, ◌<◌, ◌≤◌, pos, Bool, true, false, cond, nat_eq, List, length, length-set, refl, sym, ◌∙◌, ap, subst, arith}
 use Rattle.std.specs.Prelude.{slice_set}
 use Rattle.std.proofs.lemmas.Bool.{eq-eqb, ne_eqb}
 use Rattle.std.proofs.lemmas.List.{get_or-set_same, get_or-set_other}
@@ -11,7 +11,7 @@ use Rattle.fraction.specs.declared.frac.Frac.{Frac}
 use Rattle.evidence.specs.Sums.{none}
 use Rattle.evidence.specs.Width.{TermFits}
 use Rattle.evidence.specs.Instance.{Range}
-use Rattle.evidence.proofs.Columns.{by_eq, none-number}
+use Rattle.evidence.proofs.Columns.{by_eq, by_lt, by_bool, none-number}
 use Rattle.evidence.proofs.Numbers.{◌≈◌, ≈-refl, ≈-from, ≈-sym, ◌⊙◌, sum-≈, sum-none, sum-number, product-number}
 use Rattle.evidence.proofs.Totals.{total-≈, total-same}
 use Rattle.evidence.proofs.Fits.{term_same, stated_same}
@@ -26,13 +26,15 @@ use Rattle.simplex_rules.proofs.Facts.{zero_number, zero_times, rest-number}
 use Rattle.dictionary.specs.declared.dict.Dict.{Dict}
 use Rattle.dictionary.specs.declared.places.Places.{Places}
 use Rattle.dictionary.specs.Dict.{width_of, height_of, columns_of, basic_of, entry_of, place_values, Rest}
+use Rattle.marks.specs.declared.marks.Marks.{Marks}
+use Rattle.marks.specs.Marks.{is_marked, size_of}
 use Rattle.simplex.specs.declared.choosing.Swap.{Swap}
 use Rattle.simplex.specs.declared.choosing.Flip.{Flip}
 use Rattle.simplex.specs.declared.ends.Ends.{Ends}
 use Rattle.simplex.specs.Cuts.{ranges_in}
 use Rattle.simplex.specs.Tables.{AreHeld, values_in}
 use Rattle.simplex.specs.Choices.{IsSwap, IsSwapped}
-use Rattle.simplex.specs.Values.{IsColumnValue, AreResting, AreKnown, IsForgotten, known_at}
+use Rattle.simplex.specs.Values.{IsColumnValue, AreResting, AreKnown, IsForgotten}
 use Rattle.simplex.proofs.Slots.{value_reduced, value_set, value_other}
 use Rattle.simplex.proofs.Values.{ranges-numbers}
 
@@ -74,15 +76,18 @@ column_kept d e c m b v x y size numbers stays pv px py same apart is = record {
   rests = λ f. is.rests f ∙ same c apart;
 }
 
+not_true : (b : Bool) → (b ≡ true → ⊥) → b ≡ false
+not_true b n = by_bool b (λ e. absurd (n e)) (λ e. e)
+
 -- what is known of a column that doesn't move with m
-pub record Stays {L : _} {G : _} (d e : Dict L G) (ss zs : List Status) (m : ℕ) (ks : List Bool) (c : ℕ) : Type 0 where
-  pub known : known_at ks c ≡ true
+pub record Stays {L : _} {G : _} (d e : Dict L G) (ss zs : List Status) (m : ℕ) (ks : Marks) (c : ℕ) : Type 0 where
+  pub known : is_marked ks c ≡ false
   pub apart : c ≡ m → ⊥
   pub basic : basic_in zs c ≡ basic_in ss c
   pub equation : basic_in ss c ≡ true → ((entry_of d c m).num ≡ pos 0) × ((j : ℕ) → entry_of d c j ≡ entry_of e c j)
 
-pub known_kept : {L : _} {G : _} (d e : Dict L G) (p q : Places) (ss zs : List Status) (m : ℕ) (vs : List Frac) (ks ls : List Bool) → columns_of e ≡ columns_of d → ((b c : ℕ) → IsNumber (entry_of d b c)) → IsNumber (place_values p m) → length zs ≡ length ss → ((c : ℕ) → c < length ss → known_at ls c ≡ true → Stays d e ss zs m ks c) → ((c : ℕ) → c < width_of d + height_of d → basic_of d c ≡ false → (c ≡ m → ⊥) → (w : Values) → Rest e q w → w c ≡ place_values p c) → AreKnown d p ss vs ks → AreKnown e q zs vs ls
-known_kept d e p q ss zs m vs ks ls size numbers place long stays rests k = record {
+pub known_kept : {L : _} {G : _} (d e : Dict L G) (p q : Places) (ss zs : List Status) (m : ℕ) (vs : List Frac) (ks ls : Marks) → columns_of e ≡ columns_of d → ((b c : ℕ) → IsNumber (entry_of d b c)) → IsNumber (place_values p m) → length zs ≡ length ss → ((c : ℕ) → c < length ss → is_marked ls c ≡ false → Stays d e ss zs m ks c) → ((c : ℕ) → c < width_of d + height_of d → basic_of d c ≡ false → (c ≡ m → ⊥) → (w : Values) → Rest e q w → w c ≡ place_values p c) → ((c : ℕ) → length ss ≤ c → is_marked ks c ≡ false → is_marked ls c ≡ false) → length ss ≤ size_of ls → AreKnown d p ss vs ks → AreKnown e q zs vs ls
+known_kept d e p q ss zs m vs ks ls size numbers place long stays rests past room k = record {
   are = λ w r c h t.
       let l : c < length ss = omega arith in
       let a = stays c l t in
@@ -97,29 +102,36 @@ known_kept d e p q ss zs m vs ks ls size numbers place long stays rests k = reco
       let v = value_reduced vs c in
       subst (λ b. IsColumnValue e w b c (values_in vs c)) (sym a.basic)
       (column_kept d e c m (basic_in ss c) (values_in vs c) x w size (numbers c) a.equation v.0 number r.numbers other a.apart (k.are x rest c l a.known));
+  inside = λ c t. by_lt c (length zs) (λ h. h)
+      (λ h.
+      let n : is_marked ks c ≡ false = not_true (is_marked ks c) (λ i. let l = k.inside c i in omega arith) in
+      let f : false ≡ true = sym (past c (omega arith) n) ∙ t in
+      absurd (cc));
+  room = omega arith;
 }
 
 -- the number at a column's place
 pub resting_number : (es : List Ends) (ss : List Status) (old : Values) (m : ℕ) → AreResting (ranges_in es) ss old → m < length ss → IsNumber (old m)
 resting_number es ss old m rest h = subst IsNumber (sym (rest m h)) (rest-number (ranges_in es m) (status_at ss m) (ranges-numbers es m))
 
-pub flag_off : (ks : List Bool) (c j : ℕ) → c < length ks → known_at (slice_set ks c false) j ≡ true → (j ≡ c → ⊥) × (known_at ks j ≡ true)
-flag_off ks c j h t =
-    let n : j ≡ c → ⊥ = λ e. let f : true ≡ false = sym t ∙ ap (known_at (slice_set ks c false)) e ∙ get_or-set_same ks c false false h in cc in
-    (n, sym (get_or-set_other ks c j false false n) ∙ t)
-
 -- nothing is known
-pub none_known : {L : _} {G : _} (d : Dict L G) (p : Places) (ss : List Status) (vs : List Frac) (ks : List Bool) → ((c : ℕ) → known_at ks c ≡ false) → AreKnown d p ss vs ks
-none_known d p ss vs ks off = record { are = λ w r c h t. let f : true ≡ false = sym t ∙ off c in absurd (cc) }
+pub none_known : {L : _} {G : _} (d : Dict L G) (p : Places) (ss : List Status) (vs : List Frac) (ks : Marks) → ((c : ℕ) → c < length ss → is_marked ks c ≡ true) → ((c : ℕ) → length ss ≤ c → is_marked ks c ≡ false) → length ss ≤ size_of ks → AreKnown d p ss vs ks
+none_known d p ss vs ks all past room = record {
+  are = λ w r c h t. let f : true ≡ false = sym (all c h) ∙ t in absurd (cc);
+  inside = λ c t. by_lt c (length ss) (λ h. h) (λ h. let f : false ≡ true = sym (past c h) ∙ t in absurd (cc));
+  room = room;
+}
 
 -- one value more is known
-pub known_set : {L : _} {G : _} (d : Dict L G) (p : Places) (ss : List Status) (vs : List Frac) (ks : List Bool) (c : ℕ) (v : Frac) → c < length vs → ((w : Values) → Rest d p w → IsColumnValue d w (basic_in ss c) c (ratio v)) → AreKnown d p ss vs ks → AreKnown d p ss (slice_set vs c v) (slice_set ks c true)
-known_set d p ss vs ks c v h is k = record {
+pub known_set : {L : _} {G : _} (d : Dict L G) (p : Places) (ss : List Status) (vs : List Frac) (ks ls : Marks) (c : ℕ) (v : Frac) → c < length vs → ((w : Values) → Rest d p w → IsColumnValue d w (basic_in ss c) c (ratio v)) → is_marked ls c ≡ false → ((j : ℕ) → (j ≡ c → ⊥) → is_marked ls j ≡ is_marked ks j) → size_of ls ≡ size_of ks → AreKnown d p ss vs ks → AreKnown d p ss (slice_set vs c v) ls
+known_set d p ss vs ks ls c v h is own others size k = record {
   are = λ w r j l t. by_eq j c
       (λ e.
       subst (λ i. IsColumnValue d w (basic_in ss i) i (values_in (slice_set vs c v) i)) (sym e)
       (subst (λ (x : Ratio). IsColumnValue d w (basic_in ss c) c x) (sym (value_set vs c v h)) (is w r)))
-      (λ n. subst (λ (x : Ratio). IsColumnValue d w (basic_in ss j) j x) (sym (value_other vs c j v n)) (k.are w r j l (sym (get_or-set_other ks c j true false n) ∙ t)));
+      (λ n. subst (λ (x : Ratio). IsColumnValue d w (basic_in ss j) j x) (sym (value_other vs c j v n)) (k.are w r j l (sym (others j n) ∙ t)));
+  inside = λ j t. by_eq j c (λ e. let f : false ≡ true = sym own ∙ ap (is_marked ls) (sym e) ∙ t in absurd (cc)) (λ n. k.inside j (sym (others j n) ∙ t));
+  room = let l = k.room in omega arith;
 }
 
 -- one place more
@@ -147,7 +159,7 @@ equation_stays d e b m a reduced nonzero made ab am gone j =
     let l = same ⊙ near in
     sym (same_reduced (entry_of e a j) (entry_of d a j) (made.reduced a j) (reduced a j) l.is))
 
-module _ {L : _} {G : _} (d : Dict L G) (ss : List Status) (h : AreHeld d ss) (old : List Bool) (new : List Bool) (m : ℕ) (f : IsForgotten (entry_of d) ss m old new) where
+module _ {L : _} {G : _} (d : Dict L G) (ss : List Status) (h : AreHeld d ss) (old new : Marks) (m : ℕ) (f : IsForgotten (entry_of d) ss m old new) where
   reduced : (x y : ℕ) → IsReduced (entry_of d x y)
   reduced x y = let k = h.holds.is.entries in k.reduced x y
 
@@ -155,9 +167,12 @@ module _ {L : _} {G : _} (d : Dict L G) (ss : List Status) (h : AreHeld d ss) (o
   number x y = let r = reduced x y in r.0
 
   module _ (e : Dict L G) (zs : List Status) (s : Swap) (is : IsSwap ss (entry_of d) s) (w : IsSwapped d e ss zs s) (at : m ≡ s.nonbasic) (p q : Places) (place : IsNumber (place_values p m)) (moved : (c : ℕ) → (c ≡ s.basic → ⊥) → (c ≡ s.nonbasic → ⊥) → place_values q c ≡ place_values p c) where
-    pub swap_known : (vs : List Frac) → s.basic < length new → AreKnown d p ss vs old → AreKnown e q zs vs (slice_set new s.basic false)
-    swap_known vs inside = known_kept d e p q ss zs m vs old (slice_set new s.basic false) size number place long stays rests
+    pub swap_known : (vs : List Frac) (last : Marks) → is_marked last s.basic ≡ true → ((c : ℕ) → (c ≡ s.basic → ⊥) → is_marked last c ≡ is_marked new c) → length ss ≤ size_of last → AreKnown d p ss vs old → AreKnown e q zs vs last
+    swap_known vs last own others room = known_kept d e p q ss zs m vs old last size number place long stays rests past room
       where
+        past : (c : ℕ) → length ss ≤ c → is_marked old c ≡ false → is_marked last c ≡ false
+        past c l t = others c (λ g. let i = is.basic_inside in omega arith) ∙ f.inside c l t
+
         size : columns_of e ≡ columns_of d
         size = let z = w.size in let x = z.width in let y = z.height in omega arith
 
@@ -167,12 +182,11 @@ module _ {L : _} {G : _} (d : Dict L G) (ss : List Status) (h : AreHeld d ss) (o
         status_stays : (c : ℕ) → (c ≡ s.basic → ⊥) → (c ≡ s.nonbasic → ⊥) → basic_in zs c ≡ basic_in ss c
         status_stays c nb nm = ap (λ (z : List Status). is_basic (status_at z c)) w.statuses ∙ ap is_basic (get_or-set_other (slice_set ss s.basic s.status) s.nonbasic c Basic Basic nm ∙ get_or-set_other ss s.basic c s.status Basic nb)
 
-        stays : (c : ℕ) → c < length ss → known_at (slice_set new s.basic false) c ≡ true → Stays d e ss zs m old c
+        stays : (c : ℕ) → c < length ss → is_marked last c ≡ false → Stays d e ss zs m old c
         stays c l t =
-            let off = flag_off new s.basic c inside t in
-            let nb = off.0 in
-            let k = off.1 in
-            let nm : c ≡ m → ⊥ = λ g. f.own (subst (λ j. known_at new j ≡ true) g k) in
+            let nb : c ≡ s.basic → ⊥ = λ g. let x : true ≡ false = sym own ∙ ap (is_marked last) (sym g) ∙ t in cc in
+            let k : is_marked new c ≡ false = sym (others c nb) ∙ t in
+            let nm : c ≡ m → ⊥ = λ g. let x : true ≡ false = sym f.own ∙ ap (is_marked new) (sym g) ∙ k in cc in
             record {
               known = f.less c k;
               apart = nm;
@@ -195,12 +209,12 @@ module _ {L : _} {G : _} (d : Dict L G) (ss : List Status) (h : AreHeld d ss) (o
             r.values c (omega arith) (sym (y.basic c (omega arith)) ∙ status_stays c nb nm ∙ x.basic c (omega arith) ∙ t) ∙ moved c nb nm
 
   module _ (x : Flip) (at : m ≡ x.col) (p q : Places) (place : IsNumber (place_values p m)) (moved : (c : ℕ) → (c ≡ x.col → ⊥) → place_values q c ≡ place_values p c) where
-    pub flip_known : (vs : List Frac) → AreKnown d p ss vs old → AreKnown d q (slice_set ss x.col x.status) vs new
-    flip_known vs = known_kept d d p q ss (slice_set ss x.col x.status) m vs old new refl number place (length-set ss x.col x.status) stays rests
+    pub flip_known : (vs : List Frac) → length ss ≤ size_of new → AreKnown d p ss vs old → AreKnown d q (slice_set ss x.col x.status) vs new
+    flip_known vs room = known_kept d d p q ss (slice_set ss x.col x.status) m vs old new refl number place (length-set ss x.col x.status) stays rests f.inside room
       where
-        stays : (c : ℕ) → c < length ss → known_at new c ≡ true → Stays d d ss (slice_set ss x.col x.status) m old c
+        stays : (c : ℕ) → c < length ss → is_marked new c ≡ false → Stays d d ss (slice_set ss x.col x.status) m old c
         stays c l t =
-            let nm : c ≡ m → ⊥ = λ g. f.own (subst (λ j. known_at new j ≡ true) g t) in
+            let nm : c ≡ m → ⊥ = λ g. let y : true ≡ false = sym f.own ∙ ap (is_marked new) (sym g) ∙ t in cc in
             record {
               known = f.less c t;
               apart = nm;

@@ -1,5 +1,5 @@
 -- Limits in memory, and the least of them.
-use Rattle.std.proofs.Common.{◌≡◌, ℕ, ◌+◌, ◌<◌, ℤ, pos, ◌*ℤ◌, ◌<ℤ◌, true, false, Option, None, Some, Result, Ok, Err, OnErr, IfOk, sym, ◌∙◌, ap, subst, arith, below_more}
+use Rattle.std.proofs.Common.{◌≡◌, ℕ, zero, suc, ◌+◌, ◌<◌, ◌≤◌, ℤ, pos, ◌*ℤ◌, ◌<ℤ◌, true, false, Option, None, Some, Result, Ok, Err, OnErr, IfOk, sym, ◌∙◌, ap, subst, arith, below_more}
 use Rattle.std.proofs.lemmas.Int.{ints}
 use Rattle.std.specs.Prelude.{int_lt}
 use Rattle.rational.specs.Ratio.{Ratio, sum, negative, inverse, quotient, IsNumber, IsSame, IsBelow, IsAtMost}
@@ -156,6 +156,14 @@ module _ (f : ℕ → Option Ratio) (n : ℕ) where
           told = before.told;
           numbers = numbers_more;
         }
+
+-- columns without a limit are passed
+pub keep_to : (f : ℕ → Option Ratio) (n m : ℕ) (b : Option Limit) → n ≤ m → IsLeastOf f n b → ((k : ℕ) → n ≤ k → k < m → f k ≡ None) → IsLeastOf f m b
+keep_to f n zero b l before none = subst (λ j. IsLeastOf f j b) (let e : n ≡ 0 = omega arith in e) before
+keep_to f n (suc m) b l before none =
+    by_lt n (suc m)
+    (λ h. subst (λ j. IsLeastOf f j b) (let e : m + 1 ≡ suc m = omega arith in e) (keep f m b (keep_to f n m b (omega arith) before (λ k a c. none k a (omega arith))) (none m (omega arith) (omega arith))))
+    (λ h. subst (λ j. IsLeastOf f j b) (let e : n ≡ suc m = omega arith in e) before)
 
 -- the same, where the two are read from options
 pub was_less : (f : ℕ → Option Ratio) (n : ℕ) (o : Option Limit) (x : Option Frac) (b : Limit) (q : Frac) → o ≡ Some b → x ≡ Some q → IsLeastOf f n o → IsLimit (f n) x → is_below (ratio q) (ratio b.quotient) ≡ true → IsFirst f (n + 1) (record { col = n; quotient = q })

@@ -1,8 +1,10 @@
 -- What is known of limits in memory.
-use Rattle.std.specs.Prelude.{◌≡◌, ℕ, ◌<◌, Option, None, Some}
+use Rattle.std.specs.Prelude.{◌≡◌, ℕ, ◌+◌, ◌<◌, ◌≤◌, false, nat_eq, Option, None, Some}
 use Rattle.rational.specs.Ratio.{Ratio, IsNumber, IsSame}
 use Rattle.fraction.specs.Frac.{ratio}
 use Rattle.fraction.specs.declared.frac.Frac.{Frac}
+use Rattle.dictionary.specs.declared.dict.Dict.{Dict}
+use Rattle.dictionary.specs.Dict.{width_of, height_of, basic_of}
 use Rattle.simplex.specs.declared.limits.Limit.{Limit}
 use Rattle.simplex_rules.specs.Turns.{IsFirstLeast}
 
@@ -24,3 +26,14 @@ pub record IsFirst (f : ℕ → Option Ratio) (n : ℕ) (b : Limit) : Type 0 whe
 abbrev pub IsLeastOf : (ℕ → Option Ratio) → ℕ → Option Limit → Type 0
 IsLeastOf f n None = (k : ℕ) → k < n → f k ≡ None
 IsLeastOf f n (Some b) = IsFirst f n b
+
+-- a column that sets no limit while column m moves: it isn't basic, nor m itself
+pub record IsStill {L : _} {G : _} (d : Dict L G) (m c : ℕ) : Type 0 where
+  pub basic : basic_of d c ≡ false
+  pub apart : nat_eq c m ≡ false
+
+-- the first column from a place on that may set one
+pub record IsNextLimited {L : _} {G : _} (d : Dict L G) (m from c : ℕ) : Type 0 where
+  pub later : from ≤ c
+  pub inside : c < width_of d + height_of d
+  pub before : (k : ℕ) → from ≤ k → k < c → IsStill d m k

@@ -11,6 +11,7 @@ ghost use Rattle.simplex_rules.specs.Runs.{Repairs, MovesOn, Improves, IsNext};
 ghost use Rattle.dictionary.specs.Dict.{IsLoaded, Holds, columns_of, basic_of, entry_of, count_of, place_values};
 ghost use Rattle.simplex.specs.Cuts.{AreEndsOf, range_of, ranges_in};
 ghost use Rattle.simplex.specs.Tables.{AreStatuses, HasSizeOf, values_in};
+ghost use Rattle.marks.specs.Marks.{size_of};
 ghost use Rattle.simplex.specs.Values.{AreResting, AreKnown};
 ghost use Rattle.simplex.specs.Choices.{LeadsOn, IsChoiceAllowed};
 
@@ -23,6 +24,7 @@ use crate::valued::{find_values, first_out};
 use certificate::Step;
 use dictionary::{Dict, Places, Steps};
 use fraction::Frac;
+use marks::Marks;
 use simplex_rules::{Status, Way};
 use std::sync::ledger::Ledger;
 
@@ -221,7 +223,7 @@ pub fn choose<L: Ledger>(
     statuses: &[Status],
     rest: &Places,
     values: &mut [Frac],
-    known: &mut [bool],
+    unknown: &mut Marks,
     start: Option<Frac>,
     goal: u32,
     steps: &mut Steps<L>,
@@ -229,20 +231,20 @@ pub fn choose<L: Ledger>(
     requires loaded { IsLoaded dict.now }
     requires ends { length ends.now ≡ length statuses.now }
     requires values { length values.old ≡ goal }
-    requires flags { length known.old ≡ goal }
     requires rest { goal ≤ count_of rest.now }
     requires resting { AreResting (ranges_in ends.now) statuses.now (place_values rest.now) }
-    requires known { AreKnown dict.now rest.now statuses.now values.old known.old }
+    requires known { AreKnown dict.now rest.now statuses.now values.old unknown.old }
     requires statuses { AreStatuses dict.now statuses.now }
     requires goal { goal ≡ length statuses.now }
-    ensures known { AreKnown dict.now rest.now statuses.now values.new known.new }
+    ensures known { AreKnown dict.now rest.now statuses.now values.new unknown.new }
+    ensures size { size_of unknown.new ≡ size_of unknown.old }
     ensures allowed { IsChoiceAllowed statuses.now (entry_of dict.now) result }
     ensures next { (I : Instance) (zeroed : Bool) (t : Terms) (c : Clock) → AreEndsOf I ends.now → HasSizeOf I dict.now → Holds (rows_with_goal zeroed I) dict.now → IsStart zeroed (minimising I I.goal.constant) start → LeadsOn I statuses.now (entry_of dict.now) (values_in values.new) t c (IsNext I zeroed t (record { statuses = statuses.now; clock = c })) result }
     ensures counted { steps.old ≤ steps.new }
 {
-    match find_values(dict, ends, statuses, rest, values, known, goal, steps) {
+    match find_values(dict, ends, statuses, rest, values, unknown, goal, steps) {
         Err(_) => Choice::Done(Finish::Wide(Step::Values)),
-        Ok(()) => match first_out(ends, statuses, values, goal) {
+        Ok(()) => match first_out(dict, ends, statuses, values, goal) {
             Some(out) => repair(dict, ends, statuses, out, goal, steps),
             None => improve(dict, ends, statuses, rest, values, start, goal, steps),
         },

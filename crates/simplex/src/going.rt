@@ -11,6 +11,7 @@ ghost use Rattle.simplex_rules.specs.Looks.{answers, AgreesWith, looks_after};
 ghost use Rattle.dictionary.specs.Dict.{Holds, HaveOneSize, entry_of, count_of, place_values};
 ghost use Rattle.simplex.specs.Cuts.{AreEndsOf, ranges_in};
 ghost use Rattle.simplex.specs.Tables.{AreHeld, HasSizeOf, values_in};
+ghost use Rattle.marks.specs.Marks.{size_of};
 ghost use Rattle.simplex.specs.Values.{AreResting, AreKnown};
 ghost use Rattle.simplex.specs.Finishes.{stops_at, is_stop, next_at, end_at, IsLeft, IsLeftAt, IsCounted, KeepsAt, ComesTo};
 
@@ -22,6 +23,7 @@ use crate::keeping::{expect_flip, expect_swap};
 use crate::turning::{flip_turn, swap_turn};
 use dictionary::{Dict, Places, Steps};
 use fraction::Frac;
+use marks::Marks;
 use os_io::Watch;
 use simplex_rules::Status;
 use std::sync::ledger::Ledger;
@@ -33,7 +35,7 @@ fn make_turn<W: Watch, L: Ledger>(
     statuses: &mut [Status],
     rest: &mut Places,
     values: &mut [Frac],
-    known: &mut [bool],
+    unknown: &mut Marks,
     start: Option<Frac>,
     turns: &mut Turns,
     watch: &mut W,
@@ -43,33 +45,33 @@ fn make_turn<W: Watch, L: Ledger>(
     requires held { AreHeld dict.old statuses.old }
     requires ends { length ends.now ≡ length statuses.old }
     requires values { length values.old ≡ goal }
-    requires flags { length known.old ≡ goal }
     requires rest { goal ≤ count_of rest.old }
     requires resting { AreResting (ranges_in ends.now) statuses.old (place_values rest.old) }
-    requires known { AreKnown dict.old rest.old statuses.old values.old known.old }
+    requires known { AreKnown dict.old rest.old statuses.old values.old unknown.old }
     requires goal { goal ≡ length statuses.old }
     requires stops { W.stops watch.old < 2 ^ 64 - 1 }
     ensures size { HaveOneSize dict.old dict.new }
     ensures count { count_of rest.new ≡ count_of rest.old }
+    ensures room { size_of unknown.new ≡ size_of unknown.old }
     ensures most { turns.new.most ≡ turns.old.most }
     ensures counted { IsCounted turns.old turns.new result }
     ensures stops { result ≡ None → W.stops watch.new ≡ W.stops watch.old }
     ensures left { IsLeftAt dict.new statuses.new result }
     ensures resting { result ≡ None → AreResting (ranges_in ends.now) statuses.new (place_values rest.new) }
-    ensures known { result ≡ None → AreKnown dict.new rest.new statuses.new values.new known.new }
+    ensures known { result ≡ None → AreKnown dict.new rest.new statuses.new values.new unknown.new }
     ensures holds { (A : Entries) → Holds A dict.old → KeepsAt result (Holds A dict.new) }
     ensures turn { (n : ℕ) × W.came watch.old watch.new (answers n (stops_at result)) × ((I : Instance) (zeroed : Bool) (t : Terms) (looks : ℕ) → AreEndsOf I ends.now → HasSizeOf I dict.old → IsStart zeroed (minimising I I.goal.constant) start → Holds (rows_with_goal zeroed I) dict.old → t.turns ≡ turns.old.most → AgreesWith t.stop looks n (stops_at result) → IsNext I zeroed t (record { statuses = statuses.old; clock = record { turns = turns.old.done; looks = looks } }) (next_at I statuses.new (entry_of dict.new) (values_in values.new) (record { turns = turns.new.done; looks = looks_after looks n (stops_at result) }) result)) }
     ensures steps { steps.old ≤ steps.new }
 {
     match choose(
-        dict, ends, statuses, rest, values, known, start, goal, steps,
+        dict, ends, statuses, rest, values, unknown, start, goal, steps,
     ) {
         Choice::Swap(swap) => {
-            expect_swap(dict, ends, statuses, rest, known, swap, goal, steps);
+            expect_swap(dict, ends, statuses, rest, unknown, swap, goal, steps);
             swap_turn(dict, statuses, swap, turns, watch, steps)
         }
         Choice::Flip(flip) => {
-            expect_flip(dict, ends, statuses, rest, known, flip, goal, steps);
+            expect_flip(dict, ends, statuses, rest, unknown, flip, goal, steps);
             flip_turn(dict, statuses, flip, turns, watch)
         }
         Choice::Done(finish) => Some(finish),
@@ -83,7 +85,7 @@ pub fn make_turns<W: Watch, L: Ledger>(
     statuses: &mut [Status],
     rest: &mut Places,
     values: &mut [Frac],
-    known: &mut [bool],
+    unknown: &mut Marks,
     start: Option<Frac>,
     turns: &mut Turns,
     watch: &mut W,
@@ -93,14 +95,14 @@ pub fn make_turns<W: Watch, L: Ledger>(
     requires held { AreHeld dict.old statuses.old }
     requires ends { length ends.now ≡ length statuses.old }
     requires values { length values.old ≡ goal }
-    requires flags { length known.old ≡ goal }
     requires rest { goal ≤ count_of rest.old }
     requires resting { AreResting (ranges_in ends.now) statuses.old (place_values rest.old) }
-    requires known { AreKnown dict.old rest.old statuses.old values.old known.old }
+    requires known { AreKnown dict.old rest.old statuses.old values.old unknown.old }
     requires goal { goal ≡ length statuses.old }
     requires stops { W.stops watch.old < 2 ^ 64 - 1 }
     ensures size { HaveOneSize dict.old dict.new }
     ensures count { count_of rest.new ≡ count_of rest.old }
+    ensures room { size_of unknown.new ≡ size_of unknown.old }
     ensures most { turns.new.most ≡ turns.old.most }
     ensures more { turns.old.done ≤ turns.new.done }
     ensures within { turns.old.done ≤ turns.old.most → turns.new.done ≤ turns.old.most }
@@ -110,7 +112,7 @@ pub fn make_turns<W: Watch, L: Ledger>(
 {
     loop {
         if let Some(finish) = make_turn(
-            dict, ends, statuses, rest, values, known, start, turns, watch, goal, steps,
+            dict, ends, statuses, rest, values, unknown, start, turns, watch, goal, steps,
         ) {
             return finish;
         }

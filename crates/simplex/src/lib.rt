@@ -11,8 +11,8 @@
 //! or the look that said to stop.
 //!
 //! A moment of a run is a list of statuses, one for each column, beside the dictionary of the basis. A turn is chosen before
-//! anything changes (`choosing`), then made, counted and maybe looked at (`turning`). Each turn forms the values of the basic
-//! columns anew, goes once over the columns for each of its choices, and pivots sparse rows in place.
+//! anything changes (`choosing`), then made, counted and maybe looked at (`turning`). Each turn forms those values of columns anew
+//! that the last one changed, looks at the columns that are basic, a set of bits, and at one row, and pivots sparse rows in place.
 //!
 //! Only [`Work::for_size`] and [`Cuts::of`] take memory; a run waits only where its watch does, and it ends, since turns are
 //! limited.

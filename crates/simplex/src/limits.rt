@@ -11,7 +11,7 @@ ghost use Rattle.simplex_rules.specs.Turns.{rate, until_end, until_by, across, l
 ghost use Rattle.simplex_rules.specs.Widths.{EndFits, ByFits, AcrossFits, OneFits, LimitsFit};
 ghost use Rattle.simplex.specs.Cuts.{AreEndsOf, range_of};
 ghost use Rattle.simplex.specs.Tables.{AreStatuses, values_in};
-ghost use Rattle.simplex.specs.Limits.{IsLimit, IsLeastOf};
+ghost use Rattle.simplex.specs.Limits.{IsLimit, IsLeastOf, IsStill, IsNextLimited};
 
 use crate::ends::{Ends, is_less};
 use crate::finish::Move;
@@ -139,6 +139,22 @@ fn lesser(best: Option<Limit>, col: u32, next: Option<Frac>) -> Option<Limit>
     }
 }
 
+/// The first column from this one on that may set a limit: a basic one, or the moving one.
+fn next_limited<L: Ledger>(dict: &Dict<L>, moving: u32, from: u32) -> Option<u32>
+    requires loaded { IsLoaded dict.now }
+    requires moving { moving < width_of dict.now + height_of dict.now }
+    ensures { MatchOption result ((k : ℕ) → from ≤ k → k < width_of dict.now + height_of dict.now → IsStill dict.now moving k) (IsNextLimited dict.now moving from) }
+{
+    let next = dict.basic_columns().next(from);
+    if from > moving {
+        return next;
+    }
+    match next {
+        None => Some(moving),
+        Some(c) => { if c < moving { Some(c) } else { Some(moving) } }
+    }
+}
+
 /// The first column with the least limit.
 pub fn first_limit<L: Ledger>(
     dict: &Dict<L>,
@@ -162,7 +178,8 @@ pub fn first_limit<L: Ledger>(
     ensures counted { steps.old ≤ steps.new }
 {
     let mut best: Option<Limit> = None;
-    for c in 0..goal {
+    let mut from = 0;
+    while let Some(c) = next_limited(dict, moving.col, from) {
         let next = limit_at(
             dict,
             &ends[c as usize],
@@ -174,6 +191,7 @@ pub fn first_limit<L: Ledger>(
             steps,
         )?;
         best = lesser(best, c, next);
+        from = c + 1;
     }
     Ok(best)
 }

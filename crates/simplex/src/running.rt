@@ -8,6 +8,7 @@ ghost use Rattle.simplex_rules.specs.Runs.{HasNoClash, IsFirstEmpty, Run};
 ghost use Rattle.simplex_rules.specs.Reports.{collected};
 ghost use Rattle.simplex_rules.specs.Looks.{answers, AgreesWith, looks_after};
 ghost use Rattle.dictionary.specs.Dict.{width_of, height_of, count_of, HaveOneSize, Holds};
+ghost use Rattle.marks.specs.Marks.{size_of};
 ghost use Rattle.simplex.specs.Cuts.{IsCutBy, AreEndsOf};
 ghost use Rattle.simplex.specs.Tables.{AreHeld, values_in};
 ghost use Rattle.simplex.specs.Answers.{listed, ended, was_stopped};
@@ -16,12 +17,13 @@ use crate::answer::{LpEnd, Turns};
 use crate::beginning::{factor, first_clash, set_ends, set_first, start};
 use crate::ends::Ends;
 use crate::going::make_turns;
-use crate::keeping::clear;
+use crate::keeping::forget_all;
 use crate::reporting::report;
 use crate::valued::set_rest;
 use dictionary::{Dict, Places, Steps};
 use fraction::Frac;
 use instance::Instance;
+use marks::Marks;
 use os_io::Watch;
 use simplex_rules::Status;
 use std::sync::ledger::Ledger;
@@ -70,7 +72,7 @@ pub fn run_over<W: Watch, L: Ledger>(
     statuses: &mut [Status],
     rest: &mut Places,
     values: &mut [Frac],
-    known: &mut [bool],
+    unknown: &mut Marks,
     factors: &mut [Frac],
     movements: &mut [Frac],
     instance: &Instance,
@@ -87,12 +89,13 @@ pub fn run_over<W: Watch, L: Ledger>(
     requires statuses { length statuses.old ≡ length instance.now.vars + length instance.now.rows }
     requires rest { count_of rest.old ≡ length instance.now.vars + length instance.now.rows }
     requires values { length values.old ≡ length instance.now.vars + length instance.now.rows }
-    requires flags { length known.old ≡ length instance.now.vars + length instance.now.rows }
+    requires unknown { length instance.now.vars + length instance.now.rows ≤ size_of unknown.old }
     requires factors { length factors.old ≡ length instance.now.vars + length instance.now.rows }
     requires movements { length movements.old ≡ length instance.now.vars }
     requires stops { W.stops watch.old < 2 ^ 64 - 1 }
     ensures size { HaveOneSize dict.old dict.new }
     ensures count { count_of rest.new ≡ count_of rest.old }
+    ensures room { size_of unknown.new ≡ size_of unknown.old }
     ensures most { turns.new.most ≡ turns.old.most }
     ensures more { turns.old.done ≤ turns.new.done }
     ensures within { turns.old.done ≤ turns.old.most → turns.new.done ≤ turns.old.most }
@@ -104,11 +107,11 @@ pub fn run_over<W: Watch, L: Ledger>(
         return LpEnd::Clash { col };
     }
     set_rest(ends, statuses, rest, goal);
-    clear(known);
+    forget_all(unknown, goal);
     let own = instance.first_goal();
     let start = start(zero_goal, own.sense, own.constant);
     let finish = make_turns(
-        dict, ends, statuses, rest, values, known, start, turns, watch, goal, steps,
+        dict, ends, statuses, rest, values, unknown, start, turns, watch, goal, steps,
     );
     report(dict, statuses, finish, factors, movements, goal, steps)
 }

@@ -14,12 +14,14 @@ ghost use Rattle.simplex_rules.specs.Widths.{ValuesFit};
 ghost use Rattle.dictionary.specs.Dict.{IsLoaded, width_of, height_of, columns_of, basic_of, entry_of, Rest, count_of, place_values};
 ghost use Rattle.simplex.specs.Cuts.{AreEndsOf, range_of, ranges_in};
 ghost use Rattle.simplex.specs.Tables.{AreStatuses, HasSizeOf, values_in};
-ghost use Rattle.simplex.specs.Values.{IsColumnValue, AreResting, AreKnown, known_at};
+ghost use Rattle.simplex.specs.Values.{IsColumnValue, AreResting, AreKnown};
+ghost use Rattle.marks.specs.Marks.{is_marked, size_of};
 
 use crate::ends::{Ends, is_less};
 use crate::finish::Move;
 use dictionary::{Dict, Places, Steps};
 use fraction::{End, Frac, Wide};
+use marks::Marks;
 use simplex_rules::{Status, Way};
 use std::sync::ledger::Ledger;
 
@@ -90,46 +92,13 @@ fn value_at<L: Ledger>(
     }
 }
 
-/// Writes the value of a column, where it isn't known.
-fn find_value<L: Ledger>(
-    dict: &Dict<L>,
-    statuses: &[Status],
-    rest: &Places,
-    values: &mut [Frac],
-    known: &mut [bool],
-    col: u32,
-    steps: &mut Steps<L>,
-) -> Result<(), Wide>
-    requires loaded { IsLoaded dict.now }
-    requires statuses { AreStatuses dict.now statuses.now }
-    requires rest { length statuses.now ≤ count_of rest.now }
-    requires values { length values.old ≡ length statuses.now }
-    requires flags { length known.old ≡ length statuses.now }
-    requires known { AreKnown dict.now rest.now statuses.now values.old known.old }
-    requires col { col < length statuses.now }
-    ensures known { AreKnown dict.now rest.now statuses.now values.new known.new }
-    ensures own { IfOk result (λ _. known_at known.new col ≡ true) }
-    ensures others { (c : ℕ) → known_at known.old c ≡ true → known_at known.new c ≡ true }
-    ensures wide { (w : Values) → Rest dict.now rest.now w → OnErr result ((basic_in statuses.now col ≡ true) × (ValueFits (columns_of dict.now) (entry_of dict.now col) w → ⊥)) }
-    ensures counted { steps.old ≤ steps.new }
-{
-    let c = col as usize;
-    if known[c] {
-        return Ok(());
-    }
-    let value = value_at(dict, statuses[c], rest, col, steps)?;
-    values[c] = value;
-    known[c] = true;
-    Ok(())
-}
-
 /// Writes the values of all columns that aren't known.
 fn all_values<L: Ledger>(
     dict: &Dict<L>,
     statuses: &[Status],
     rest: &Places,
     values: &mut [Frac],
-    known: &mut [bool],
+    unknown: &mut Marks,
     goal: u32,
     steps: &mut Steps<L>,
 ) -> Result<(), Wide>
@@ -137,16 +106,22 @@ fn all_values<L: Ledger>(
     requires statuses { AreStatuses dict.now statuses.now }
     requires rest { goal ≤ count_of rest.now }
     requires values { length values.old ≡ goal }
-    requires flags { length known.old ≡ goal }
     requires goal { goal ≡ length statuses.now }
-    requires known { AreKnown dict.now rest.now statuses.now values.old known.old }
-    ensures known { AreKnown dict.now rest.now statuses.now values.new known.new }
+    requires known { AreKnown dict.now rest.now statuses.now values.old unknown.old }
+    ensures known { AreKnown dict.now rest.now statuses.now values.new unknown.new }
+    ensures size { size_of unknown.new ≡ size_of unknown.old }
     ensures ok { (w : Values) → Rest dict.now rest.now w → IfOk result (λ _. (c : ℕ) → c < goal → IsColumnValue dict.now w (basic_in statuses.now c) c (values_in values.new c)) }
     ensures wide { (w : Values) → Rest dict.now rest.now w → OnErr result ((b : ℕ) × (b < goal) × (basic_in statuses.now b ≡ true) × (ValueFits (columns_of dict.now) (entry_of dict.now b) w → ⊥)) }
     ensures counted { steps.old ≤ steps.new }
 {
-    for c in 0..goal {
-        find_value(dict, statuses, rest, values, known, c, steps)?;
+    let _goal = goal;
+    let mut from = 0;
+    while let Some(col) = unknown.next(from) {
+        let c = col as usize;
+        let value = value_at(dict, statuses[c], rest, col, steps)?;
+        values[c] = value;
+        unknown.unmark(col);
+        from = col + 1;
     }
     Ok(())
 }
@@ -158,7 +133,7 @@ pub fn find_values<L: Ledger>(
     statuses: &[Status],
     rest: &Places,
     values: &mut [Frac],
-    known: &mut [bool],
+    unknown: &mut Marks,
     goal: u32,
     steps: &mut Steps<L>,
 ) -> Result<(), Wide>
@@ -168,17 +143,17 @@ pub fn find_values<L: Ledger>(
     requires rest { goal ≤ count_of rest.now }
     requires resting { AreResting (ranges_in ends.now) statuses.now (place_values rest.now) }
     requires values { length values.old ≡ goal }
-    requires flags { length known.old ≡ goal }
     requires goal { goal ≡ length statuses.now }
-    requires known { AreKnown dict.now rest.now statuses.now values.old known.old }
-    ensures known { AreKnown dict.now rest.now statuses.now values.new known.new }
+    requires known { AreKnown dict.now rest.now statuses.now values.old unknown.old }
+    ensures known { AreKnown dict.now rest.now statuses.now values.new unknown.new }
+    ensures size { size_of unknown.new ≡ size_of unknown.old }
     ensures ok { (I : Instance) → AreEndsOf I ends.now → HasSizeOf I dict.now → IfOk result (λ _. HasValues I statuses.now (entry_of dict.now) (values_in values.new)) }
     ensures fits { (I : Instance) → AreEndsOf I ends.now → HasSizeOf I dict.now → IfOk result (λ _. ValuesFit I statuses.now (entry_of dict.now)) }
     ensures wide { (I : Instance) → AreEndsOf I ends.now → HasSizeOf I dict.now → OnErr result (ValuesFit I statuses.now (entry_of dict.now) → ⊥) }
     ensures counted { steps.old ≤ steps.new }
 {
     let _ends = ends;
-    all_values(dict, statuses, rest, values, known, goal, steps)
+    all_values(dict, statuses, rest, values, unknown, goal, steps)
 }
 
 /// The way in which a value is to move to come within the ends.
@@ -198,29 +173,30 @@ fn misses(e: &Ends, x: &Frac) -> Option<Way>
     None
 }
 
-/// The way in which a column is to move, where it is basic and out of its ends.
-fn out_at(e: &Ends, status: Status, x: &Frac) -> Option<Way>
-    ensures { MatchOption result ((v : Way) → is_basic status ≡ true → Misses v (range_of e.now) (ratio x.now) → ⊥) (λ v. (is_basic status ≡ true) × Misses v (range_of e.now) (ratio x.now)) }
-{
-    match status {
-        Status::Basic => misses(e, x),
-        Status::Lower => None,
-        Status::Upper => None,
-        Status::Zero => None,
-    }
-}
-
 /// The first basic column that is out of its ends.
-pub fn first_out(ends: &[Ends], statuses: &[Status], values: &[Frac], goal: u32) -> Option<Move>
+pub fn first_out<L: Ledger>(
+    dict: &Dict<L>,
+    ends: &[Ends],
+    statuses: &[Status],
+    values: &[Frac],
+    goal: u32,
+) -> Option<Move>
+    requires loaded { IsLoaded dict.now }
+    requires statuses { AreStatuses dict.now statuses.now }
     requires ends { length ends.now ≡ length statuses.now }
     requires values { length values.now ≡ length statuses.now }
     requires goal { goal ≡ length statuses.now }
     ensures { (I : Instance) (u : Entries) → AreEndsOf I ends.now → MatchOption result (NoneOut I statuses.now u (values_in values.now)) (λ m. IsLeastOut I statuses.now u (values_in values.now) m.col m.way) }
 {
-    for c in 0..goal {
-        if let Some(way) = out_at(&ends[c as usize], statuses[c as usize], &values[c as usize]) {
+    let _statuses = statuses;
+    let _goal = goal;
+    let basic = dict.basic_columns();
+    let mut from = 0;
+    while let Some(c) = basic.next(from) {
+        if let Some(way) = misses(&ends[c as usize], &values[c as usize]) {
             return Some(Move { col: c, way });
         }
+        from = c + 1;
     }
     None
 }

@@ -1,6 +1,7 @@
 ghost use Rattle.std.specs.Prelude.{◌≡◌, ◌≢◌, ℕ, ◌+◌, ◌-◌, ◌^◌, ◌<◌, ◌≤◌, length, vec_len, IfOk};
 ghost use Rattle.fraction.specs.Frac.{ratio};
 ghost use Rattle.evidence.specs.Instance as Of;
+ghost use Rattle.marks.specs.Marks.{size_of};
 ghost use Rattle.dictionary.specs.Dict.{width_of, height_of, count_of};
 ghost use Rattle.simplex_rules.specs.Ends.{Terms, Clock};
 ghost use Rattle.simplex_rules.specs.Runs.{Run, IsRun};
@@ -15,6 +16,7 @@ use crate::valued::zero;
 use dictionary::{Dict, Places, Steps};
 use fraction::{End, Frac};
 use instance::Instance;
+use marks::Marks;
 use os_io::Watch;
 use simplex_rules::Status;
 use std::alloc::{AllocError, Global};
@@ -29,14 +31,14 @@ pub struct Work<L: Ledger> {
     statuses: Vec<Status>,
     rest: Places,
     values: Vec<Frac>,
-    known: Vec<bool>,
+    unknown: Marks,
     factors: Vec<Frac>,
     movements: Vec<Frac>,
     ghost ends_long: { vec_len ends ≡ width_of dict + height_of dict },
     ghost statuses_long: { vec_len statuses ≡ width_of dict + height_of dict },
     ghost rest_long: { count_of rest ≡ width_of dict + height_of dict },
     ghost values_long: { vec_len values ≡ width_of dict + height_of dict },
-    ghost known_long: { vec_len known ≡ width_of dict + height_of dict },
+    ghost unknown_room: { width_of dict + height_of dict ≤ size_of unknown },
     ghost factors_long: { vec_len factors ≡ width_of dict + height_of dict },
     ghost movements_long: { vec_len movements ≡ width_of dict },
 }
@@ -64,7 +66,7 @@ impl<L: Ledger> Work<L> {
         let rest = Places::with_size(alloc, columns)?;
         let none = zero();
         let values = vec![in alloc; none; columns]?;
-        let known = vec![in alloc; false; columns]?;
+        let unknown = Marks::with_size(alloc, columns)?;
         let factors = vec![in alloc; none; columns]?;
         let movements = vec![in alloc; none; vars]?;
         Ok(Work {
@@ -73,7 +75,7 @@ impl<L: Ledger> Work<L> {
             statuses,
             rest,
             values,
-            known,
+            unknown,
             factors,
             movements,
         })
@@ -120,7 +122,7 @@ impl<L: Ledger> Work<L> {
             self.statuses.as_mut_slice(),
             &mut self.rest,
             self.values.as_mut_slice(),
-            self.known.as_mut_slice(),
+            &mut self.unknown,
             self.factors.as_mut_slice(),
             self.movements.as_mut_slice(),
             instance,

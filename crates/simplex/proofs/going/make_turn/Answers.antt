@@ -1,8 +1,10 @@
-use Rattle.std.proofs.Common.{◌≡◌, ℕ, ◌+◌, Bool, sym, ◌∙◌, ap, subst, arith}
+use Rattle.std.proofs.Common.{◌≡◌, ℕ, ◌+◌, Bool, List, sym, ◌∙◌, ap, subst, arith}
 use Rattle.simplex_rules.specs.Runs.{Out, IsNext}
 use Rattle.simplex_rules.specs.Looks.{answers, looks_after}
 use Rattle.dictionary.specs.Dict.{entry_of}
 use Rattle.simplex.specs.Tables.{values_in}
+use Rattle.simplex_rules.specs.declared.columns.Status.{Status}
+use Rattle.simplex.specs.Values.{AreKnown}
 use Rattle.simplex.specs.Finishes.{stops_at, next_at, end_at}
 use Rattle.simplex.proofs.going.make_turn.Goals as goal
 
@@ -38,3 +40,11 @@ returns-in-Done-clause-turn g c =
           subst (λ (j : ℕ). IsNext I zeroed t (record { statuses = c.args.statuses.now; clock = record { turns = c.args.turns.now.done; looks = looks } }) (Out (end_at I c.args.statuses.now (entry_of c.args.dict.now) (values_in c.choose.new.values) c.in-Done.finish) (record { turns = c.args.turns.now.done; looks = j }))) (k ∙ ap (λ b. looks_after looks 0 b) (sym n))
           (c.in-Done.ensures.next I zeroed t (record { turns = c.args.turns.now.done; looks = looks }) e size holds starts)),
     )
+
+pub returns-in-Swap-clause-known : goal.returns-in-Swap-clause-known
+returns-in-Swap-clause-known g c = λ n. c.expect_swap.ensures.known c.swap_turn.new.dict c.swap_turn.new.statuses c.choose.new.values (c.swap_turn.ensures.swapped n) c.in-Swap.ensures.known
+
+pub returns-in-Flip-clause-known : goal.returns-in-Flip-clause-known
+returns-in-Flip-clause-known g c = λ n.
+    subst (λ (ss : List Status). AreKnown c.args.dict.now c.expect_flip.new.rest ss c.choose.new.values c.expect_flip.new.unknown) (sym (c.flip_turn.ensures.flipped n))
+    (c.expect_flip.ensures.known c.choose.new.values c.in-Flip.ensures.known)

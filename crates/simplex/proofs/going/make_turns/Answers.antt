@@ -17,6 +17,7 @@ loop-finish-init g c = record {
   held = c.requires.held;
   size = record { width = refl; height = refl };
   count = refl;
+  room = refl;
   resting = c.requires.resting;
   known = c.requires.known;
   most = refl;
@@ -44,6 +45,7 @@ loop-finish-preserved g c =
       held = c.in_default.ensures.left;
       size = record { width = c.in_default.ensures.size.width ∙ v.size.width; height = c.in_default.ensures.size.height ∙ v.size.height };
       count = c.in_default.ensures.count ∙ v.count;
+      room = c.in_default.ensures.room ∙ v.room;
       resting = c.in_default.ensures.resting refl;
       known = c.in_default.ensures.known refl;
       most = c.in_default.ensures.most ∙ v.most;

@@ -7,6 +7,7 @@ use Rattle.simplex_rules.specs.Ends.{Terms}
 use Rattle.simplex_rules.specs.Runs.{ComesInRun}
 use Rattle.simplex_rules.specs.Looks.{went_on, IsAfter}
 use Rattle.dictionary.specs.Dict.{Holds, HaveOneSize, count_of, place_values}
+use Rattle.marks.specs.Marks.{size_of}
 use Rattle.simplex.specs.Cuts.{AreEndsOf, ranges_in}
 use Rattle.simplex.specs.Tables.{AreHeld, HasSizeOf}
 use Rattle.simplex.specs.Loads.{IsStart}
@@ -18,8 +19,9 @@ invariant-loop-finish g l = record {
   held : AreHeld l.dict l.statuses;
   size : HaveOneSize l.fn.dict l.dict;
   count : count_of l.rest ≡ count_of l.fn.rest;
+  room : size_of l.unknown ≡ size_of l.fn.unknown;
   resting : AreResting (ranges_in l.ends) l.statuses (place_values l.rest);
-  known : AreKnown l.dict l.rest l.statuses l.values l.known;
+  known : AreKnown l.dict l.rest l.statuses l.values l.unknown;
   most : l.turns.most ≡ l.fn.turns.most;
   more : l.fn.turns.done ≤ l.turns.done;
   within : l.fn.turns.done ≤ l.fn.turns.most → l.turns.done ≤ l.fn.turns.most;

@@ -19,6 +19,6 @@ pub returns-clause-known : goal.returns-clause-known
 returns-clause-known g c = λ vs k.
     let f = c.args.flip in
     let is = c.requires.flip in
-    flip_known c.args.dict.now c.args.statuses.now c.requires.held c.args.known.now c.forget.new.known f.col c.forget.ensures.forgotten f refl c.args.rest.now c.set.new.self
+    flip_known c.args.dict.now c.args.statuses.now c.requires.held c.args.unknown.now c.forget.new.unknown f.col c.forget.ensures.forgotten f refl c.args.rest.now c.set.new.self
     (resting_number c.args.ends.now c.args.statuses.now (place_values c.args.rest.now) f.col c.requires.resting is.inside)
-    c.set.ensures.others vs k
+    c.set.ensures.others vs (omega (arith, c.requires.room, c.requires.goal, c.forget.ensures.size)) k

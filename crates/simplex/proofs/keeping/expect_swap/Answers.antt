@@ -27,7 +27,7 @@ pub returns-clause-known : goal.returns-clause-known
 returns-clause-known g c = λ d ss vs w k.
     let s = c.args.swap in
     let is = c.requires.swap in
-    swap_known c.args.dict.now c.args.statuses.now c.requires.held c.args.known.now c.forget.new.known s.nonbasic c.forget.ensures.forgotten d ss s is w refl c.args.rest.now c.set-2.new.self
+    swap_known c.args.dict.now c.args.statuses.now c.requires.held c.args.unknown.now c.forget.new.unknown s.nonbasic c.forget.ensures.forgotten d ss s is w refl c.args.rest.now c.set-2.new.self
     (resting_number c.args.ends.now c.args.statuses.now (place_values c.args.rest.now) s.nonbasic c.requires.resting is.nonbasic_inside)
     (λ j nb nm. c.set-2.ensures.others j nm ∙ c.set.ensures.others j nb)
-    vs (let a = is.basic_inside in let b = c.forget.auto.known in let f = c.requires.flags in let e = c.requires.goal in omega arith) k
+    vs c.mark.new.self c.mark.ensures.own c.mark.ensures.others (omega (arith, c.requires.room, c.requires.goal, c.forget.ensures.size, c.mark.ensures.size)) k

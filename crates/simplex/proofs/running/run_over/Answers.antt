@@ -1,4 +1,4 @@
-use Rattle.std.proofs.Common.{◌≡◌, ℕ, ◌+◌, Bool, List, length, refl, sym, ◌∙◌, ap, ap₂, subst}
+use Rattle.std.proofs.Common.{◌≡◌, ℕ, ◌+◌, Bool, List, length, refl, sym, ◌∙◌, ap, ap₂, subst, arith}
 use Rattle.fraction.specs.Frac.{ratio}
 use Rattle.evidence.specs.Instance as Of
 use Rattle.evidence.specs.Instance.{minimising_by}
@@ -52,4 +52,10 @@ returns-clause-run g c =
     )
 
 pub make_turns-finish-requires-clause-known : goal.make_turns-finish-requires-clause-known
-make_turns-finish-requires-clause-known g c = none_known c.begin.new.dict c.set_rest.new.rest c.begin.new.statuses c.args.values.now c.clear.new.known c.clear.ensures
+make_turns-finish-requires-clause-known g c =
+    let vars : length c.vars.result.now ≡ length c.args.instance.now.vars = ap (λ (xs : List Var). length xs) c.vars.ensures.value in
+    let rows : length c.rows.result.now ≡ length c.args.instance.now.rows = ap (λ (xs : List Row). length xs) c.rows.ensures.value in
+    let n = c.begin.auto.statuses in
+    let k = c.requires.statuses in
+    none_known c.begin.new.dict c.set_rest.new.rest c.begin.new.statuses c.args.values.now c.forget_all.new.unknown
+    (λ j l. c.forget_all.ensures.all j (omega arith)) (λ j l. c.forget_all.ensures.past j (omega arith)) (let u = c.requires.unknown in let s = c.forget_all.ensures.size in omega arith)

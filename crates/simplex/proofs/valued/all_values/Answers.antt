@@ -1,22 +1,26 @@
-use Rattle.std.proofs.Common.{◌∙◌, ap, arith}
-use Rattle.evidence.proofs.Columns.{by_eq}
-use Rattle.simplex.specs.Values.{known_at}
+use Rattle.std.proofs.Common.{◌<◌, length, ◌∙◌, ap, arith}
+use Rattle.evidence.proofs.Columns.{by_eq, by_lt}
+use Rattle.marks.specs.Marks.{is_marked}
+use Rattle.simplex.proofs.KnownValues.{known_set}
 use Rattle.simplex.proofs.valued.all_values.Goals as goal
 
-pub loop-c-preserved : goal.loop-c-preserved
-loop-c-preserved g c =
-    let v = c.loop-c.invariant in
+pub loop-col-preserved : goal.loop-col-preserved
+loop-col-preserved g c =
+    let v = c.loop-col.invariant in
+    let k = v.known in
+    let at = c.in-Some.ensures in
+    let h : c.in-Some.col < length c.loop-col.values = let i = k.inside c.in-Some.col at.is in let a = c.requires.values in let b = c.requires.goal in let n = c.loop-col.auto.values in omega arith in
     record {
-      known = c.in_ok-find_value.ensures.known;
-      before = λ k h. by_eq k c.loop-c.c
-          (λ e. ap (known_at c.find_value.new.known) e ∙ c.in_ok-find_value.ensures.own)
-          (λ n. c.in_ok-find_value.ensures.others k (v.before k (omega arith)));
-      counted = let a = v.counted in let b = c.in_ok-find_value.ensures.counted in omega arith;
+      known = known_set c.args.dict.now c.args.rest.now c.args.statuses.now c.loop-col.values c.loop-col.unknown c.unmark.new.self c.in-Some.col c.in_ok-value.value h (λ w r. c.in_ok-value.ensures.ok w r) c.unmark.ensures.own c.unmark.ensures.others c.unmark.ensures.size k;
+      before = λ j l. by_eq j c.in-Some.col
+          (λ e. ap (is_marked c.unmark.new.self) e ∙ c.unmark.ensures.own)
+          (λ n. c.unmark.ensures.others j n ∙ by_lt j c.loop-col.from (λ i. v.before j i) (λ i. at.first j i (omega arith)));
+      size = c.unmark.ensures.size ∙ v.size;
+      counted = let a = v.counted in let b = c.in_ok-value.ensures.counted in omega arith;
     }
 
 pub returns-clause-ok : goal.returns-clause-ok
 returns-clause-ok g c = λ w r k h.
-    let v = c.loop-c.invariant in
+    let v = c.loop-col.invariant in
     let a = v.known in
-    let t = c.loop-c-test.false in
-    a.are w r k (let n = c.requires.goal in omega arith) (v.before k (omega arith))
+    a.are w r k (let n = c.requires.goal in omega arith) (by_lt k c.loop-col.from (λ i. v.before k i) (λ i. c.in_default.ensures k i))

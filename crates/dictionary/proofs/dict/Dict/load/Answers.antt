@@ -6,7 +6,14 @@ use Rattle.dictionary.specs.declared.row.Row.{Row}
 use Rattle.dictionary.specs.Row.{RowsHaveRoom}
 use Rattle.dictionary.specs.Dict.{width_of, height_of}
 use Rattle.dictionary.proofs.FirstDictionary.{begun_holds, begun_basis, rows-number, told_rows, own_places}
+use Rattle.dictionary.proofs.MarkedColumns.{rows_marked}
 use Rattle.dictionary.proofs.dict.Dict.load.Goals as goal
+
+pub mark_rows-requires-clause-inside : goal.mark_rows-requires-clause-inside
+mark_rows-requires-clause-inside g c = let d = c.args.self.now in d.marks_count
+
+pub mark_rows-requires-clause-few : goal.mark_rows-requires-clause-few
+mark_rows-requires-clause-few g c = let d = c.args.self.now in let f = d.few in omega arith
 
 pub load_rows-requires-clause-goal : goal.load_rows-requires-clause-goal
 load_rows-requires-clause-goal g c =
@@ -66,6 +73,8 @@ invariant_of-self g c =
       basis = own_places (d.width + (d.height + 1)) (slice_index (with_items d.columns c.number.new.list).items) (slice_index (with_items d.places c.number-2.new.list).items) at place;
       few = d.few;
       goal = at (d.width + d.height) (omega arith);
+      marks_count = let a = d.marks_count in let b = c.mark_rows.ensures.size in omega arith;
+      marks_are = λ _. rows_marked (d.width + d.height) d.width _ c.mark_rows.new.basic (λ k l. place k (omega arith)) c.mark_rows.ensures.variables c.mark_rows.ensures.rows c.mark_rows.ensures.past;
     }
 
 pub returns-clause-size : goal.returns-clause-size

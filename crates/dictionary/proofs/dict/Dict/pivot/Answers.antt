@@ -8,6 +8,7 @@ use Rattle.dictionary.specs.Table.{IsTablePivot, IsWidePivot, PivotHasRoom, othe
 use Rattle.dictionary.specs.Basis.{ChangePlaces}
 use Rattle.dictionary.specs.Dict.{width_of, height_of}
 use Rattle.dictionary.proofs.DictPivots.{carry, b_inside, e_inside, row_inside, row_is, row_stands, row_absent, room_there, b_apart, place, cols, rows, placed, places_kept, goal_kept, not_loaded, moved_there, never_fits, fits_there, bounded, turned_basis, turned_entries, turned_holds}
+use Rattle.dictionary.proofs.MarkedColumns.{b_within, e_within, never, marked_after}
 use Rattle.dictionary.proofs.dict.Dict.pivot.Goals as goal
 
 pub row_of-p-requires : goal.row_of-p-requires
@@ -57,7 +58,7 @@ invariant_of-self-in-Break-1 g c =
     let er : c.as_mut_slice-rows.result.now ≡ d.rows.items = c.as_mut_slice-rows.ensures.value in
     let ep : c.row_of-p.result ≡ place d c.args.basic - d.width = c.row_of-p.ensures in
     let nr : (with_items d.rows c.pivot_rows.new.rows).items ≡ c.pivot_rows.new.rows = with_items_is d.rows c.pivot_rows.new.rows (c.pivot_rows.auto.rows ∙ c.as_mut_slice-rows.ensures.len) in
-    record { count = ap length nr ∙ c.pivot_rows.auto.rows ∙ ap length er ∙ d.count; room = subst (λ (X : List (Row _)). HaveRoom d.width X c.pivot_rows.new.scratch) (sym nr) (c.pivot_rows.ensures.room d.width (subst (λ (X : List (Row _)). HaveRoom d.width X d.scratch) (sym er) d.room)); lead_room = let l = d.lead_room in let m = c.pivot_rows.ensures.lead in omega arith; columns_count = d.columns_count; places_count = d.places_count; basis = d.basis; few = d.few; goal = d.goal }
+    record { count = ap length nr ∙ c.pivot_rows.auto.rows ∙ ap length er ∙ d.count; room = subst (λ (X : List (Row _)). HaveRoom d.width X c.pivot_rows.new.scratch) (sym nr) (c.pivot_rows.ensures.room d.width (subst (λ (X : List (Row _)). HaveRoom d.width X d.scratch) (sym er) d.room)); lead_room = let l = d.lead_room in let m = c.pivot_rows.ensures.lead in omega arith; columns_count = d.columns_count; places_count = d.places_count; basis = d.basis; few = d.few; goal = d.goal; marks_count = d.marks_count; marks_are = λ h. never h }
 
 pub returns-in_err-pivot_rows-clause-size : goal.returns-in_err-pivot_rows-clause-size
 unfolding width_of height_of
@@ -109,6 +110,12 @@ exchange-requires-clause-b_stands g c =
     let e : slice_index c.as_mut_slice-places.result.now c.args.nonbasic ≡ place d c.args.nonbasic = ap (λ (X : List ℕ). slice_index X c.args.nonbasic) c.as_mut_slice-places.ensures.value in
     omega arith
 
+pub unmark-requires : goal.unmark-requires
+unmark-requires g c = let d = c.args.self.now in let a = d.marks_count in let b = b_within d c.args.basic c.args.nonbasic c.requires.basic c.requires.nonbasic c.requires.loaded in omega arith
+
+pub mark-requires : goal.mark-requires
+mark-requires g c = let d = c.args.self.now in let a = d.marks_count in let b = e_within d c.args.basic c.args.nonbasic c.requires.basic c.requires.nonbasic c.requires.loaded in let s = c.unmark.ensures.size in omega arith
+
 pub invariant_of-self-2 : goal.invariant_of-self-2
 invariant_of-self-2 g c =
     let d = c.args.self.now in
@@ -130,6 +137,8 @@ invariant_of-self-2 g c =
       basis = places_kept d c.args.basic c.args.nonbasic c.requires.basic c.requires.nonbasic (slice_index (with_items d.columns c.exchange.new.columns).items) (slice_index (with_items d.places c.exchange.new.places).items) moved new;
       few = d.few;
       goal = goal_kept d c.args.basic c.args.nonbasic c.requires.basic c.requires.nonbasic (slice_index (with_items d.columns c.exchange.new.columns).items) moved;
+      marks_count = let a = d.marks_count in let l = c.unmark.ensures.size in let m = c.mark.ensures.size in omega arith;
+      marks_are = λ _. marked_after d c.args.basic c.args.nonbasic c.requires.basic c.requires.nonbasic c.requires.loaded (slice_index (with_items d.places c.exchange.new.places).items) c.unmark.new.self c.mark.new.self new c.unmark.ensures.own c.unmark.ensures.others c.mark.ensures.own c.mark.ensures.others;
     }
 
 pub returns-clause-size : goal.returns-clause-size

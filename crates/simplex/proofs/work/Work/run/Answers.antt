@@ -22,8 +22,8 @@ returns-clause-run g c =
     c.run_over.new.values (with_items c.args.self.now.values c.run_over.new.values).items c.run_over.new.factors (with_items c.args.self.now.factors c.run_over.new.factors).items c.run_over.new.movements (with_items c.args.self.now.movements c.run_over.new.movements).items
     (sym c.requires.vars ∙ sym c.run_over.ensures.size.width) (sym c.requires.rows ∙ sym c.run_over.ensures.size.height)
     (sym (with_items_is c.args.self.now.values c.run_over.new.values (c.run_over.auto.values ∙ c.as_mut_slice-3.ensures.len)))
-    (sym (with_items_is c.args.self.now.factors c.run_over.new.factors (c.run_over.auto.factors ∙ c.as_mut_slice-5.ensures.len)))
-    (sym (with_items_is c.args.self.now.movements c.run_over.new.movements (c.run_over.auto.movements ∙ c.as_mut_slice-6.ensures.len))) in (
+    (sym (with_items_is c.args.self.now.factors c.run_over.new.factors (c.run_over.auto.factors ∙ c.as_mut_slice-4.ensures.len)))
+    (sym (with_items_is c.args.self.now.movements c.run_over.new.movements (c.run_over.auto.movements ∙ c.as_mut_slice-5.ensures.len))) in (
       p.0,
       p.1,
       (λ I t looks cut most tells.
