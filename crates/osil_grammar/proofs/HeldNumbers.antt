@@ -1,5 +1,5 @@
 -- The lists of the matrix and its entries are never held at once.
-use Rattle.osil_grammar.proofs.Words.{◌≡◌, ℕ, ◌+◌, ◌*◌, ◌≤◌, inl, inr, Bool, true, false, List, [], ◌∷◌, length, refl, ap, sym, subst, arith, lit<, All, All-head, All-tail, Frac, Entry, Goal, Mark, Start, Char, Finish, AllPass, Takes, AreTaken, Place, Led, around, State, start, begins, tests, leads, Fails, Begins, Ends, Leaves, osil, IsSoundSoFar, AreGoals, HasGoalsIn, is_in_matrix, AreHeldApart, HoldsApart, IsFit, goals_held, held}
+use Rattle.osil_grammar.proofs.Words.{◌≡◌, ℕ, ◌*◌, ◌≤◌, inl, inr, Bool, true, false, List, [], ◌∷◌, length, refl, ap, sym, subst, arith, lit<, All, All-head, All-tail, Frac, Entry, Goal, Mark, Start, Char, Finish, AllPass, Takes, AreTaken, Place, Led, around, State, start, begins, tests, leads, Fails, Begins, Ends, Leaves, osil, IsSoundSoFar, AreGoals, HasGoalsIn, is_in_matrix, AreHeldApart, HoldsApart, IsFit, goals_held, held}
 use Rattle.osil_grammar.specs.declared.elements.Part.TheVariants as parts
 use Rattle.osil_grammar.specs.declared.elements.Listing.TheVariants as listings
 use Rattle.osil_grammar.specs.declared.elements.Place.TheVariants as places
@@ -89,13 +89,6 @@ pub apart_start : HoldsApart start
 apart_start = (refl, refl, refl, λ low. refl)
 
 -- HOW MANY ITEMS ARE HELD: those of goals, of which each has a cost for each variable
-pub held_each : (n : ℕ) (gs : List Goal) → All (λ g. length g.costs ≡ n) gs → goals_held gs ≡ length gs * (n + 1)
-held_each n [] each = refl
-held_each n (g ∷ gs) each =
-    let first = All-head (λ (x : Goal). length x.costs ≡ n) g gs each in
-    let rest = held_each n gs (All-tail (λ (x : Goal). length x.costs ≡ n) g gs each) in
-    omega (arith, first, rest)
-
 goals_few : (n : ℕ) (gs : List Goal) → n ≤ 1000 → All (λ g. length g.costs ≡ n) gs → goals_held gs ≤ length gs * 1001
 goals_few n [] few each = omega arith
 goals_few n (g ∷ gs) few each =
