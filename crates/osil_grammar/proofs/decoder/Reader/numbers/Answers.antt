@@ -1,4 +1,4 @@
-use Rattle.osil_grammar.proofs.Words.{◌≤◌, arith}
+use Rattle.osil_grammar.proofs.Words.{arith}
 use Rattle.osil_grammar.proofs.HeldNumbers.{held_few}
 use Rattle.osil_grammar.proofs.decoder.Reader.numbers.Goals as goal
 
