@@ -1,4 +1,4 @@
-use Rattle.osil_grammar.proofs.Words.{◌≡◌, ◌∙◌, ◌+◌, ◌*◌, ℕ, List, [], ◌∷◌, length, arith, refl, ap, ap₂, sym, All, All-head, All-tail, Goal, State, goals_held}
+use Rattle.osil_grammar.proofs.Words.{◌≡◌, ◌∙◌, ◌+◌, ◌*◌, ℕ, List, [], ◌∷◌, length, arith, ap, ap₂, sym, All, All-head, All-tail, Goal, State, goals_held}
 use Rattle.osil_grammar.proofs.standing.Standing.goal_items.Goals as goal
 
 held_each : (n : ℕ) (gs : List Goal) → All (λ g. length g.costs ≡ n) gs → goals_held gs ≡ length gs * (n + 1)
