@@ -30,3 +30,4 @@ pub mod PieceTexts
 pub mod Mults
 pub mod Heads
 pub mod ItemTests
+pub mod Levels
