@@ -37,10 +37,18 @@ kept_of : {X : Type 0} (n u : State) (k : Held) (r : Result X Misread) → u ≡
 kept_of n u k (Ok x) is = is
 kept_of n u k (Err m) is = ap (λ (v : State). with_read v (Err m)) is
 
-pub after_kept : {X : Type 0} (s n u z : State) (p : Part) (k : Held) (r : Result X Misread) → s.bad ≡ None → n ≡ noted s p → u ≡ record n { held = k } → IsItemRead p n.text n.held (as_held k r) → z ≡ with_read u (as_held u.held r) → AfterItem s.bad s p z
-after_kept s n u z p k r none is held reads kept =
+pub after_kept : {X : Type 0} (s n u z : State) (p : Part) (k : Held) (r : Result X Misread) (said : List ℕ) → s.bad ≡ None → n ≡ noted s p → u ≡ record n { held = k } → said ≡ n.text → IsItemRead p said n.held (as_held k r) → z ≡ with_read u (as_held u.held r) → AfterItem s.bad s p z
+after_kept s n u z p k r said none is held text reads kept =
+    let own = subst (λ (t : List ℕ). IsItemRead p t n.held (as_held k r)) text reads in
     subst (AfterItem s.bad s p) (sym (kept ∙ kept_of n u k r held ∙ ap (λ (v : State). with_read v (as_held k r)) is))
-    (after_read s p (as_held k r) none (subst (λ (v : State). IsItemRead p v.text v.held (as_held k r)) is reads))
+    (after_read s p (as_held k r) none (subst (λ (v : State). IsItemRead p v.text v.held (as_held k r)) is own))
+
+pub none_bad : (s now : State) → s ≡ now → false ≡ is_some s.bad → now.bad ≡ None
+none_bad s now same none = ap (λ (v : State). v.bad) (sym same) ∙ none_of s.bad none
+  where
+    none_of : (o : Option BadItem) → false ≡ is_some o → o ≡ None
+    none_of None e = refl
+    none_of (Some b) e = absurd (false≢true e)
 
 -- the item that isn't read
 pub bad_plain : (s now : State) → s ≡ now → (b : Bool) → b ≡ says_infeasible false s.claiming → b ≡ false → s.bad ≡ bad_item now
@@ -49,8 +57,8 @@ bad_plain s now same b says is = sym (ap (λ (t : Bool). cond t (level_or s.leve
 pub bad_level : (s now : State) → s ≡ now → (b : Bool) (o : Option BadItem) → b ≡ says_infeasible false s.claiming → b ≡ true → o ≡ level_or s.level s.bad → o ≡ bad_item now
 bad_level s now same b o says is made = made ∙ sym (ap (λ (t : Bool). cond t (level_or s.level s.bad) s.bad) (sym says ∙ is)) ∙ ap bad_item same
 
-pub item_ends : (s z : State) (p : Part) → AfterItem s.bad (out_of s (places.Item p)) p z → EndsAt {X = Unit {0}} s (places.Item p) z (Ok tt)
-item_ends s z p h = (tt, h)
+pub item_ends : (s now z : State) (p : Part) → s ≡ now → AfterItem s.bad (out_of s (places.Item p)) p z → EndsAt {X = Unit {0}} now (places.Item p) z (Ok tt)
+item_ends s now z p same h = (tt, subst (λ (v : State). AfterItem v.bad (out_of v (places.Item p)) p z) same h)
 
 module _ (s : State) where
   not_twice : s.twice ≡ false → Fails s twice → ⊥

@@ -31,4 +31,3 @@ pub mod PieceTexts
 pub mod Mults
 pub mod Heads
 pub mod ItemTests
-pub mod Levels

@@ -1,6 +1,6 @@
 //! Reads a result document mark by mark.
 
-ghost use Rattle.std.specs.Prelude.{◌≡◌, ◌↔◌, ◌+◌, ◌<◌, ◌^◌, ◌&&◌, ◌||◌, IsTrue, IsFalse, IfOk, OnOk, None, Some, List, ℕ, cond, bytes_eq, codes, option_map, option_and_then};
+ghost use Rattle.std.specs.Prelude.{◌≡◌, ◌↔◌, ◌+◌, ◌<◌, ◌^◌, ◌&&◌, ◌||◌, true, IsTrue, IsFalse, IfOk, OnOk, None, Some, List, ℕ, cond, bytes_eq, codes, option_map, option_and_then};
 ghost use Rattle.doc_tree.specs.Marks.{Start, Finish};
 ghost use Rattle.tag_tests.specs.Readers.{StepsBy};
 ghost use Rattle.osrl_grammar.specs.declared.elements.Place.TheVariants as places;
