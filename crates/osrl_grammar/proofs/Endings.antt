@@ -83,6 +83,10 @@ root_unread s z b f is told_so = subst (λ (g : OsrlFault). EndsAt {X = Unit {0}
 pub root_fails : (s z : State) (f : OsrlFault) → None ≡ bad_item s → FirstFails {R = OsrlFault} (Fails s) (told s) (twice ∷ miscounted Value ∷ miscounted Tree ∷ miscounted Cause ∷ incomplete ∷ []) f → EndsAt {X = Unit {0}} s places.Osrl z (Err (Refused f))
 root_fails s z f none fails = inr (not_unread s (sym none), fails)
 
+pub none_unread : (s : State) (o : Option BadItem) → o ≡ bad_item s → ((b : BadItem) → o ≡ Some b → ⊥) → bad_item s ≡ None
+none_unread s None is read = sym is
+none_unread s (Some b) is read = absurd (read b refl)
+
 pub root_ends : (s z : State) (r : Report) → bad_item s ≡ None → AreCounted s → report_of s ≡ Some r → z ≡ record start { report = r } → EndsAt {X = Unit {0}} s places.Osrl z (Ok tt)
 root_ends s z r read counted some is = (root_passes s read r counted some, (r, some, is))
 

@@ -27,16 +27,16 @@ use Rattle.tag_tests.proofs.Forms.{taken_parts}
 use Rattle.tag_tests.proofs.Characters.{chars_leave}
 
 -- THE NODES, ROUNDS AND CAUSES that are held come back, and of the nodes of all levels, and of the rounds, there are at most so many
-abbrev level_nodes : List Cert → List Node
+abbrev pub level_nodes : List Cert → List Node
 level_nodes cs = flat_map (λ (c : Cert). c.nodes) cs
 
-record HeldFits (n : ℕ) (h : Held) : Type 0 where
-  few : length (level_nodes h.levels) + length h.tree ≤ n
-  rounds : length h.rounds ≤ n
-  levels : All LevelComesBack h.levels
-  tree : All NodeComesBack h.tree
-  columns : All HaveColumns h.rounds
-  causes : All CauseComesBack h.causes
+pub record HeldFits (n : ℕ) (h : Held) : Type 0 where
+  pub few : length (level_nodes h.levels) + length h.tree ≤ n
+  pub rounds : length h.rounds ≤ n
+  pub levels : All LevelComesBack h.levels
+  pub tree : All NodeComesBack h.tree
+  pub columns : All HaveColumns h.rounds
+  pub causes : All CauseComesBack h.causes
 
 mults_back : (ps : List (List ℕ)) (ms : List Mult) → AllZip IsMult ps ms → HaveColumns ms
 mults_back [] [] h = All-nil (λ (m : Mult). m.col < 2 ^ 32)
@@ -190,7 +190,7 @@ may_have [] h = tt
 may_have (c ∷ cs) h = h
 
 module _ (n : ℕ) (h : Held) (f : HeldFits n h) (some : h.has_tree ≡ true → 0 < length h.levels + length h.tree) (values : h.has_value ≡ true → 0 < length h.values) where
-  all : List Cert
+  abbrev all : List Cert
   all = certs h.rounds h.levels h.tree
 
   all_back : h.has_tree ≡ true → HasTrees all
@@ -214,10 +214,10 @@ module _ (n : ℕ) (h : Held) (f : HeldFits n h) (some : h.has_tree ≡ true →
   optimal_fits None a b value is = none_fits n
 
   infeasible_fits : (b : Bool) → h.has_tree ≡ b → h.levels ≡ [] → ClaimFits n (option_map Infeasible (when b (cert h.rounds h.tree)))
-  infeasible_fits true is none =
-      let few = f.few in let up = some is in let here = ap length none in let own = ap length (append-nil h.tree) in
+  infeasible_fits true is flat =
+      let few = f.few in let up = some is in let here = ap length flat in let own = ap length (append-nil h.tree) in
       (omega (arith, few, own), All-cons (HasFew n) (cert h.rounds h.tree) [] f.rounds (All-nil (HasFew n)), record { some = omega (arith, up, here); rounds = f.columns; first = f.tree; levels = All-nil LevelComesBack })
-  infeasible_fits false is none = none_fits n
+  infeasible_fits false is flat = none_fits n
 
   unbounded_fits : (x : Option (List Frac)) (a b : Bool) (r : Option (List Frac)) → h.has_value ≡ a → h.has_tree ≡ b → ClaimFits n (unbounded x (when a h.values) (cond b all []) r)
   unbounded_fits (Some x) true true (Some r) value is = (all_few, all_rounds, (values value, may_have all (all_back is)))
@@ -251,7 +251,7 @@ pub record ReportFits (n : ℕ) (r : Report) : Type 0 where
   pub claim : ClaimFits n r.claim
 
 -- where the solution may claim that no point is feasible, and no item begins with the word of a level, there is one level
-abbrev IsNoted : State → Type 0
+abbrev pub IsNoted : State → Type 0
 IsNoted s = says_infeasible true s.claiming ≡ true → s.level ≡ None → s.held.levels ≡ []
 
 abbrev pub Sound : ℕ → State → Type 0
@@ -336,9 +336,9 @@ level_noted [] l h = absurd h
 level_noted (p ∷ ps) l h = (bytes_eq-Decides p (codes "level")).1 h.0
 
 first_none : (b : Bool) (old : Option ℕ) (n : ℕ) → first_level b old n ≡ None → (b ≡ false) × (old ≡ None)
-first_none true None n none = absurd (cc)
-first_none false None n none = (refl, refl)
-first_none b (Some m) n none = absurd (cc)
+first_none true None n clear = absurd (cc)
+first_none false None n clear = (refl, refl)
+first_none b (Some m) n clear = absurd (cc)
 
 both_so : (a b : Bool) → a ≡ true → a && b ≡ false → b ≡ true → ⊥
 both_so true true so not is = true≢false not
@@ -346,13 +346,13 @@ both_so true false so not is = false≢true is
 both_so false b so not is = false≢true so
 
 added_noted : (p : Part) (text : List ℕ) (may : Bool) (level : Option ℕ) (n : ℕ) (h k : Held) → AddsItem p text h k → (may ≡ true → level ≡ None → h.levels ≡ []) → may ≡ true → first_level (may && is_level p text) level n ≡ None → k.levels ≡ []
-added_noted parts.Tree text may level n h k (trees.Level l, is, e) noted so none = absurd (both_so may (is_level parts.Tree text) so (first_none (may && is_level parts.Tree text) level n none).0 (level_noted (pieces text) l is))
-added_noted parts.Tree text may level n h k (trees.Node m, is, e) noted so none = ap (λ (g : Held). g.levels) e ∙ noted so (first_none (may && is_level parts.Tree text) level n none).1
-added_noted parts.Point text may level n h k a noted so none = ap (λ (g : Held). g.levels) a.2 ∙ noted so (first_none (may && false) level n none).1
-added_noted parts.Value text may level n h k a noted so none = ap (λ (g : Held). g.levels) a.2 ∙ noted so (first_none (may && false) level n none).1
-added_noted parts.Ray text may level n h k a noted so none = ap (λ (g : Held). g.levels) a.2 ∙ noted so (first_none (may && false) level n none).1
-added_noted parts.Rounds text may level n h k a noted so none = ap (λ (g : Held). g.levels) a.2 ∙ noted so (first_none (may && false) level n none).1
-added_noted parts.Cause text may level n h k a noted so none = ap (λ (g : Held). g.levels) a.2 ∙ noted so (first_none (may && false) level n none).1
+added_noted parts.Tree text may level n h k (trees.Level l, is, e) kept so clear = absurd (both_so may (is_level parts.Tree text) so (first_none (may && is_level parts.Tree text) level n clear).0 (level_noted (pieces text) l is))
+added_noted parts.Tree text may level n h k (trees.Node m, is, e) kept so clear = ap (λ (g : Held). g.levels) e ∙ kept so (first_none (may && is_level parts.Tree text) level n clear).1
+added_noted parts.Point text may level n h k a kept so clear = ap (λ (g : Held). g.levels) a.2 ∙ kept so (first_none (may && false) level n clear).1
+added_noted parts.Value text may level n h k a kept so clear = ap (λ (g : Held). g.levels) a.2 ∙ kept so (first_none (may && false) level n clear).1
+added_noted parts.Ray text may level n h k a kept so clear = ap (λ (g : Held). g.levels) a.2 ∙ kept so (first_none (may && false) level n clear).1
+added_noted parts.Rounds text may level n h k a kept so clear = ap (λ (g : Held). g.levels) a.2 ∙ kept so (first_none (may && false) level n clear).1
+added_noted parts.Cause text may level n h k a kept so clear = ap (λ (g : Held). g.levels) a.2 ∙ kept so (first_none (may && false) level n clear).1
 
 -- END TAGS: one node more at most, and what is reported has those before
 some_of : (n : ℕ) → ((0 < n → ⊥) → ⊥) → 0 < n
