@@ -336,9 +336,10 @@ level_noted [] l h = absurd h
 level_noted (p ∷ ps) l h = (bytes_eq-Decides p (codes "level")).1 h.0
 
 first_none : (b : Bool) (old : Option ℕ) (n : ℕ) → first_level b old n ≡ None → (b ≡ false) × (old ≡ None)
-first_none true None n is = absurd (cc)
+first_none true None n is = absurd (let e : Some n ≡ None = is in cc)
 first_none false None n is = (refl, refl)
-first_none b (Some m) n is = absurd (cc)
+first_none true (Some m) n is = absurd (let e : Some m ≡ None = is in cc)
+first_none false (Some m) n is = absurd (let e : Some m ≡ None = is in cc)
 
 both_so : (a b : Bool) → a ≡ true → a && b ≡ false → b ≡ true → ⊥
 both_so true true so not is = true≢false not
