@@ -9,7 +9,7 @@ use Rattle.osrl_grammar.specs.declared.parts.Part.TheVariants.{Rounds, Tree, Cau
 use Rattle.osrl_grammar.specs.Numbers.{Kind}
 use Rattle.osrl_grammar.proofs.WordValues.{each_step, each_node_word, each_cause_word}
 use Rattle.osrl_grammar.specs.Stepping.{ReadsNumber, as_held, ReadsItem}
-use Rattle.osrl_grammar.proofs.Fields.{Pass, number_pass, both_pass, reads_more}
+use Rattle.osrl_grammar.proofs.Fields.{Pass, number_pass, both_pass, reads_made, reads_more, still_unread}
 use Rattle.osrl_grammar.proofs.Heads.{begun_pass}
 
 -- the texts of what is said are numbers
@@ -101,6 +101,13 @@ reads_held (Some fs) (Err TooGreat) k P Q says h = h
 
 pub item_is_read : {X : Type 0} (p : Part) (said : List ℕ) (h k : Held) (r : Result X Misread) (P : X → Type 0) → (IsOutOfOrder (next_level h) p said → ⊥) → ((x : X) → P x → AddsItem p said h k) → ReadsSo (item_fields p said) r P → IsItemRead p said h (as_held k r)
 item_is_read p said h k r P order says is = inr (order, reads_held (item_fields p said) r k P (λ (g : Held). AddsItem p said h g) says is)
+
+-- one that was read, or not
+pub item_made : {X : Type 0} (p : Part) (said : List ℕ) (h k : Held) (x : X) (P : X → Type 0) → (IsOutOfOrder (next_level h) p said → ⊥) → (P x → AddsItem p said h k) → ReadsSo (item_fields p said) (Ok x) P → IsItemRead p said h (Ok k)
+item_made p said h k x P order says reads = inr (order, reads_made (item_fields p said) (Ok x) x k P (λ (g : Held). AddsItem p said h g) refl says reads)
+
+pub item_unmade : {X : Type 0} (p : Part) (said : List ℕ) (h : Held) (u : Misread) (P : X → Type 0) → (IsOutOfOrder (next_level h) p said → ⊥) → ReadsSo (item_fields p said) (Err u) P → IsItemRead p said h (Err u)
+item_unmade p said h u P order reads = inr (order, still_unread (item_fields p said) u P (λ (g : Held). AddsItem p said h g) reads)
 
 -- of what was read
 pub reads_pass : {A : Type 0} (o : Option (List Field)) (x : A) (Says : A → Type 0) → ReadsSo o (Ok x) Says → Pass o × Says x

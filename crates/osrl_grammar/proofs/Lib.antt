@@ -24,9 +24,11 @@ pub mod SoundStates
 pub mod TreeTexts
 pub mod FewLevels
 pub mod BackReport
+pub mod ReadClaims
 pub mod RoundTrips
 pub mod InOrder
 pub mod PieceTexts
 pub mod Mults
 pub mod Heads
 pub mod ItemTests
+pub mod Levels
