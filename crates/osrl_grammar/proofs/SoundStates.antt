@@ -2,7 +2,7 @@
 use Rattle.osrl_grammar.proofs.Names.{◌≡◌, ◌∙◌, ℕ, zero, suc, ◌+◌, ◌-◌, ◌^◌, ◌<◌, ◌≤◌, Bool, true, false, cond, Option, None, Some, List, [], ◌∷◌, ◌++◌, map, length, refl, ap, sym, subst, arith, option_map, bytes_eq, codes, All, AllZip, All-nil, All-cons, All-head, All-append, IsXmlText, Event, Close, Element, Attribute, Nodes, none, element, chars, nodes_events, Char, spread, elements_in, trimmed, AllPass, AreTaken, Frac, nodes_of, Mult, Node, Split, Clash, Farkas, Bound, Claim, Infeasible, Unsure, JobStatus, Report, Held, Led, Part, Claiming, pieces, Pair, parted, node_word, cause_word, IsMultOf, IsMult, IsOne, node_head, SaysNode, cause_head, SaysCause, Begins, IsNode, IsCause, State, start, nothing_held, claim_as, report_with, report_of, nonempty, status_of, begins, ends, end_kind, led_from, keeps, around, tests, leads, Fails, with_part, begun, first, AddsItem, Ends, Leaves, osrl, IsReport, TextsAreOfCharacters, HaveColumns, NodeComesBack, CauseComesBack, ClaimComesBack, IsBareOrNone}
 use Rattle.std.specs.Prelude.{option_and_then}
 use Rattle.std.proofs.lemmas.List.{length-append}
-use Rattle.element_tree.proofs.XmlTexts.{text_append}
+use Rattle.doc_tree.proofs.Utf8.{no_text}
 use Rattle.document_tags.specs.Characters.{NodesOfCharacters, IsOfCharacters}
 use Rattle.certificate.specs.declared.causes.Cause as why
 use Rattle.certificate.specs.declared.causes.Cause.TheVariants as causes
@@ -13,9 +13,9 @@ use Rattle.osrl_grammar.specs.declared.parts.Part.TheVariants as parts
 use Rattle.osrl_grammar.specs.declared.parts.Claiming.TheVariants as claiming
 use Rattle.osrl_grammar.specs.Saying.{when, only, optimal, unbounded, best_so_far, claiming_of}
 use Rattle.osrl_grammar.proofs.BareTexts.{bare_of}
-use Rattle.tag_tests.specs.Characters.{kept}
 use Rattle.tag_tests.proofs.Forms.{taken_parts}
 use Rattle.tag_tests.proofs.Characters.{chars_leave}
+use Rattle.tag_tests.proofs.KeptTexts.{kept_xml}
 
 -- THE NODES AND CAUSES that are held come back, and of the nodes there are at most so many
 abbrev HeldFits : ℕ → Held → Type 0
@@ -171,9 +171,6 @@ report_fits n s r f some is =
 report_more : (n m : ℕ) (r : Report) → n ≤ m → ReportFits n r → ReportFits m r
 report_more n m r less f = let few = f.claim.0 in record { job = f.job; message = f.message; claim = (omega (arith, few, less), f.claim.1) }
 
-no_text : IsXmlText []
-no_text = record { characters = []; each = tt; encoded = refl }
-
 none_held : (n : ℕ) → HeldFits n nothing_held
 none_held n = (omega arith, All-nil NodeComesBack, All-nil CauseComesBack)
 
@@ -189,10 +186,6 @@ led_sound : (n : ℕ) (s z : State) (as' : List Attribute) (l : Led Place) → L
 led_sound n s z as' (led.To p) h f = subst (Sound n) (sym h) (begun_sound n s as' p f)
 led_sound n s z as' led.Over h f = subst (Sound n) (sym h) f
 led_sound n s z as' led.OtherRoot h f = absurd h
-
-kept_xml : (b : Bool) (t cs : List ℕ) → IsXmlText t → IsXmlText cs → IsXmlText (kept b t cs)
-kept_xml true t cs before more = text_append t cs before more
-kept_xml false t cs before more = before
 
 chars_sound : (n : ℕ) (s z : State) (cs : List ℕ) → AreTaken osrl s (map Char cs) z → IsXmlText cs → Sound n s → Sound n z
 chars_sound n s z cs taken xml f =
