@@ -7,6 +7,7 @@ use Rattle.std.proofs.lemmas.Grind.{flat_map-append}
 use Rattle.std.proofs.lemmas.Slice.Eq.{bytes_eq-Decides}
 use Rattle.certificate.specs.Nodes.{certs_of}
 use Rattle.element_tree.proofs.XmlTexts.{text_append}
+use Rattle.doc_tree.proofs.Utf8.{no_text}
 use Rattle.document_tags.specs.Characters.{NodesOfCharacters, IsOfCharacters}
 use Rattle.certificate.specs.declared.causes.Cause as why
 use Rattle.certificate.specs.declared.causes.Cause.TheVariants as causes
@@ -22,9 +23,9 @@ use Rattle.osrl_grammar.specs.Saying.{when, only, with_rounds, optimal, unbounde
 use Rattle.osrl_grammar.specs.Words.{all_claimings}
 use Rattle.osrl_grammar.proofs.WordValues.{worded_is}
 use Rattle.osrl_grammar.proofs.BareTexts.{bare_of}
-use Rattle.tag_tests.specs.Characters.{kept}
 use Rattle.tag_tests.proofs.Forms.{taken_parts}
 use Rattle.tag_tests.proofs.Characters.{chars_leave}
+use Rattle.tag_tests.proofs.KeptTexts.{kept_xml}
 
 -- THE NODES, ROUNDS AND CAUSES that are held come back, and of the nodes of all levels, and of the rounds, there are at most so many
 abbrev level_nodes : List Cert → List Node
@@ -289,9 +290,6 @@ report_fits n s r f read some values is =
 report_more : (n m : ℕ) (r : Report) → n ≤ m → ReportFits n r → ReportFits m r
 report_more n m r less f = let few = f.claim.0 in record { job = f.job; message = f.message; claim = (omega (arith, few, less), All-weaker (HasFew n) (HasFew m) (λ (c : Cert) short. omega (arith, short, less)) (certs_in r.claim) f.claim.1, f.claim.2) }
 
-no_text : IsXmlText []
-no_text = record { characters = []; each = tt; encoded = refl }
-
 none_held : (n : ℕ) → HeldFits n nothing_held
 none_held n = record { few = omega arith; rounds = omega arith; levels = All-nil LevelComesBack; tree = All-nil NodeComesBack; columns = All-nil HaveColumns; causes = All-nil CauseComesBack }
 
@@ -316,10 +314,6 @@ led_sound : (n : ℕ) (s z : State) (as' : List Attribute) (l : Led Place) → L
 led_sound n s z as' (led.To p) h f = subst (Sound n) (sym h) (begun_sound n s as' p f)
 led_sound n s z as' led.Over h f = subst (Sound n) (sym h) f
 led_sound n s z as' led.OtherRoot h f = absurd h
-
-kept_xml : (b : Bool) (t cs : List ℕ) → IsXmlText t → IsXmlText cs → IsXmlText (kept b t cs)
-kept_xml true t cs before more = text_append t cs before more
-kept_xml false t cs before more = before
 
 chars_sound : (n : ℕ) (s z : State) (cs : List ℕ) → AreTaken osrl s (map Char cs) z → IsXmlText cs → Sound n s → Sound n z
 chars_sound n s z cs taken xml f =
