@@ -1,5 +1,5 @@
 -- How long the text of an instance is, whose numbers are written in at most four bytes.
-use Rattle.std.proofs.Common.{ℕ, zero, suc, ◌+◌, ◌*◌, ◌≤◌, Bool, true, false, cond, nat_lt, List, [], ◌∷◌, map, length, ap, subst, sym, arith, inl, inr, lit<}
+use Rattle.std.proofs.Common.{ℕ, zero, suc, ◌+◌, ◌*◌, ◌≤◌, Bool, true, false, cond, nat_lt, List, [], ◌∷◌, map, length, ap, subst, sym, arith, inl, inr}
 use Rattle.std.specs.List.{All}
 use Rattle.std.proofs.Math.Nat.{le_trans}
 use Rattle.std.proofs.lemmas.List.Elements.{All-head, All-tail}
@@ -15,7 +15,7 @@ use Rattle.instance.specs.declared.parts.Goal.{Goal}
 use Rattle.instance.specs.declared.parts.Sense.{Sense}
 use Rattle.instance.specs.declared.parts.Sense.TheVariants.{Min, Max}
 use Rattle.instance.specs.Parts.{Parts}
-use Rattle.osil_grammar.specs.Writing.{IsEndText, type_text, sense_text, WriteVars, WriteRows, WriteCosts, CountsCosts, WritesGoal, WriteValues, WriteLists, IsWrittenText, counts_nodes, entries_below, row_starts}
+use Rattle.osil_grammar.specs.Writing.{IsEndText, type_text, sense_text, WriteVars, WriteRows, WriteCosts, CountsCosts, WritesGoal, WriteGoals, WriteValues, WriteLists, IsWrittenText, counts_nodes, entries_below, row_starts}
 use Rattle.generator.proofs.Digits.{IsShort, count_short}
 
 -- each text of an end has at most four bytes
@@ -29,9 +29,11 @@ end_size NegInf text short is = omega (arith, ap (λ (t : List ℕ). length t) i
 end_size (At x) text short is = short text is
 end_size Inf text short is = omega (arith, ap (λ (t : List ℕ). length t) is)
 
-type_size : (whole : Bool) → length (type_text whole) ≤ 1
-type_size true = omega arith
-type_size false = omega arith
+type_size : (whole semi : Bool) → length (type_text whole semi) ≤ 1
+type_size false false = omega arith
+type_size true false = omega arith
+type_size false true = omega arith
+type_size true true = omega arith
 
 sense_size : (s : Sense) → length (sense_text s) ≤ 3
 sense_size Min = omega arith
@@ -48,7 +50,7 @@ vars_size [] nodes short is = omega (arith, ap nodes_size is)
 vars_size (v ∷ vs) nodes short is =
     let here = All-head VarIsShort v vs short in
     let rest = vars_size vs is.2 (All-tail VarIsShort v vs short) is.5 in
-    omega (arith, ap nodes_size is.6, rest, end_size v.lb is.0 here.0 is.3, end_size v.ub is.1 here.1 is.4, type_size v.whole)
+    omega (arith, ap nodes_size is.6, rest, end_size v.lb is.0 here.0 is.3, end_size v.ub is.1 here.1 is.4, type_size v.whole v.zero)
 
 rows_size : (rs : List Row) (nodes : Nodes) → All RowIsShort rs → WriteRows rs nodes → nodes_size nodes ≤ 71 * length rs
 rows_size [] nodes short is = omega (arith, ap nodes_size is)
@@ -69,11 +71,30 @@ few_counted [] n is = omega (arith, is)
 few_counted (c ∷ cs) n (inl is) = omega (arith, few_counted cs n is.1)
 few_counted (c ∷ cs) n (inr is) = omega (arith, is.3, few_counted cs is.1 is.2)
 
-goal_size : (g : Goal) (nodes : Nodes) → length g.costs ≤ 1000 → IsShort g.constant → All IsShort g.costs → WritesGoal g nodes → nodes_size nodes ≤ 150 + 68 * length g.costs
-goal_size g nodes few constant costs is =
-    let inner = costs_size g.costs 0 is.costs (omega (arith, few)) costs is.are_costs in
+-- a goal of few costs, whose numbers have short texts
+pub record GoalIsBrief (g : Goal) : Type 0 where
+  pub few : length g.costs ≤ 1000
+  pub constant : IsShort g.constant
+  pub costs : All IsShort g.costs
+
+goal_size : (g : Goal) (more nodes : Nodes) → GoalIsBrief g → WritesGoal g more nodes → nodes_size nodes ≤ 150 + 68 * length g.costs + nodes_size more
+goal_size g more nodes brief is =
+    let few = brief.few in
+    let inner = costs_size g.costs 0 is.costs (omega (arith, few)) brief.costs is.are_costs in
     let count = count_short is.count (omega (arith, few, few_counted g.costs is.count is.counts)) in
-    omega (arith, ap nodes_size is.says, inner, count, constant is.constant is.is_constant, sense_size g.sense)
+    omega (arith, ap nodes_size is.says, inner, count, brief.constant is.constant is.is_constant, sense_size g.sense)
+
+-- goals take so many bytes
+abbrev pub goals_room : List Goal → ℕ
+goals_room [] = 0
+goals_room (g ∷ gs) = 150 + 68 * length g.costs + goals_room gs
+
+goals_size : (gs : List Goal) (nodes : Nodes) → All GoalIsBrief gs → WriteGoals gs nodes → nodes_size nodes ≤ goals_room gs
+goals_size [] nodes brief is = omega (arith, ap nodes_size is)
+goals_size (g ∷ gs) nodes brief is =
+    let first = goal_size g is.0 nodes (All-head GoalIsBrief g gs brief) is.2 in
+    let rest = goals_size gs is.0 (All-tail GoalIsBrief g gs brief) is.1 in
+    omega (arith, first, rest)
 
 one_more_or_none : (b : Bool) (n m : ℕ) → n ≤ m → cond b (n + 1) n ≤ m + 1
 one_more_or_none true n m few = omega (arith, few)
@@ -109,27 +130,26 @@ pub record IsBrief (p : Parts) : Type 0 where
   pub few_vars : length p.vars ≤ 1000
   pub few_rows : length p.rows ≤ 1000
   pub few_entries : length p.entries ≤ 1000
-  pub few_costs : length p.goal.costs ≤ 1000
+  pub few_goals : length p.goals ≤ 1000
   pub columns : All (λ e. e.col ≤ 1000) p.entries
   pub vars : All VarIsShort p.vars
   pub rows : All RowIsShort p.rows
   pub values : All (λ e. IsShort e.value) p.entries
-  pub constant : IsShort p.goal.constant
-  pub costs : All IsShort p.goal.costs
+  pub goals : All GoalIsBrief p.goals
 
-pub text_size : (p : Parts) (text : List ℕ) → IsBrief p → IsWrittenText p text → length text ≤ 900 + 85 * length p.vars + 68 * length p.goal.costs + 104 * length p.rows + 66 * length p.entries
+pub text_size : (p : Parts) (text : List ℕ) → IsBrief p → IsWrittenText p text → length text ≤ 750 + 85 * length p.vars + goals_room p.goals + 104 * length p.rows + 66 * length p.entries
 text_size p text brief is =
     let w = is.writes in
     let all = written_short is.root in
     let vars = vars_size p.vars w.vars brief.vars w.are_vars in
-    let goal = goal_size p.goal w.goal brief.few_costs brief.constant brief.costs w.is_goal in
+    let goals = goals_size p.goals w.goals brief.goals w.are_goals in
     let rows = rows_size p.rows w.rows brief.rows w.are_rows in
     let lists = lists_size (length p.rows) p.entries w.lists brief.few_entries brief.columns brief.values w.are_lists in
     let vars_count = count_short (length p.vars) (omega (arith, brief.few_vars)) in
+    let goals_count = count_short (length p.goals) (omega (arith, brief.few_goals)) in
     let rows_count = count_short (length p.rows) (omega (arith, brief.few_rows)) in
     let entries_count = count_short (length p.entries) (omega (arith, brief.few_entries)) in
-    let one = count_short 1 (lit< tt) in
-    let most : ℕ = 900 + 85 * length p.vars + 68 * length p.goal.costs + 104 * length p.rows + 66 * length p.entries in
+    let most : ℕ = 750 + 85 * length p.vars + goals_room p.goals + 104 * length p.rows + 66 * length p.entries in
     let room : Element → ℕ = λ e. 43 + 2 * length e.name + attributes_size e.attributes + nodes_size e.children in
-    let small : room is.root ≤ most = subst (λ (e : Element). room e ≤ most) (sym w.says) (omega (arith, vars, goal, rows, lists, vars_count, rows_count, entries_count, one)) in
+    let small : room is.root ≤ most = subst (λ (e : Element). room e ≤ most) (sym w.says) (omega (arith, vars, goals, rows, lists, vars_count, goals_count, rows_count, entries_count)) in
     subst (λ (t : List ℕ). length t ≤ most) (sym is.says) (le_trans all small)

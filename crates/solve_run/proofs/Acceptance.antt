@@ -30,17 +30,10 @@ use Rattle.solve_run.proofs.Lengths.{IsShortName}
 use Rattle.solve_run.proofs.Names.{short_name, bare_name}
 use Rattle.solve_run.proofs.GivenUp.{given_other, given_shown}
 use Rattle.solve_run.proofs.WidthRefusals.{one_range, best_accepted}
-use Rattle.solve_run.proofs.Closings.{memory_back, memory_cause}
+use Rattle.solve_run.proofs.ReadBack.{shown_back, wanting_causes}
 use Rattle.solve_run.proofs.Runs.{claim_short, wanting}
 
 -- ---- claims
-
-given_other : (c : Claim) (cause : Cause) → IsFinal (given_up c cause) → ⊥
-given_other (Has.Optimal x v ns) cause f = f
-given_other (Has.Infeasible ns) cause f = f
-given_other (Has.Unbounded x v r) cause f = f
-given_other (Has.BestSoFar x v c) cause f = f
-given_other (Has.Unsure c) cause f = f
 
 -- what is shown, and accepted where it is final
 pub record IsGood (p : Parts) (job : Option (List ℕ)) (c : Claim) : Type 0 where
@@ -54,9 +47,6 @@ accepts_of p (Has.Infeasible cert) k one s final is = final tt
 accepts_of p (Has.Unbounded x vs cs r) k one s final is = final tt
 accepts_of p (Has.BestSoFar x vs c) k one s final is = best_accepted p x vs c one s
 accepts_of p (Has.Unsure c) k one s final is = absurd (cc)
-
-wanting_back : (c : Claim) (best : Option Found) → Tells c (early best causes.Memory) → ClaimComesBack (Some c)
-wanting_back c best t = memory_back c (t.cause ∙ memory_cause best) (wanting c best t)
 
 module _ (p : Parts) (job : Option (List ℕ)) (valid : IsValid p) (name : IsShortName job) where
   -- a claim that isn't final
@@ -120,15 +110,16 @@ module _ (names : (bytes : List ℕ) (o : Options) → IsOptionsText bytes o →
       let g = b.given in
       let named = job_bare osol job whose in
       let shown = shows (program g.parts) (job_terms g.options None) (early b.moment.best causes.Memory) b.moment.clock (numbers g.parts) (one_range g.parts b.searched) (given_up_at b.comes) in
-            record {
+      let claimed : IsShownClaim g.parts c = record { outcome = early b.moment.best causes.Memory; tells = b.tells; shown = shown } in
+      record {
         job = job;
         bare = named.0;
         parts = g.parts;
         instance_text = g.instance_text;
         searched = b.searched;
         claim = c;
-        back = wanting_back c b.moment.best b.tells;
-        good = other_good g.parts job g.valid named.1 c (record { outcome = early b.moment.best causes.Memory; tells = b.tells; shown = shown }) (wanting c b.moment.best b.tells);
+        back = shown_back g.parts c g.valid claimed (wanting_causes c b.moment.best b.tells.cause);
+        good = other_good g.parts job g.valid named.1 c claimed (wanting c b.moment.best b.tells);
         is = is;
       }
 

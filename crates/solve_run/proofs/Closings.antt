@@ -2,38 +2,36 @@
 use Rattle.std.proofs.Common.{ℕ, ◌^◌, ◌<◌, inl, inr, Option, None, Some, List, sym, subst}
 use Rattle.std.specs.Prelude.{IfSome}
 use Rattle.instance.specs.Parts.{Parts, IsValid}
-use Rattle.instance.specs.Program.{program}
 use Rattle.certificate.specs.declared.causes.Cause.{Cause}
 use Rattle.certificate.specs.declared.causes.Cause.TheVariants as causes
 use Rattle.certificate.specs.declared.claims.Claim.{Claim}
 use Rattle.certificate.specs.declared.claims.Claim.TheVariants.{Optimal, Infeasible, Unbounded, BestSoFar, Unsure}
-use Rattle.search_rules.specs.Outcomes.{IsShown}
-use Rattle.branch_bound.specs.Claims.{claimed_outcome}
 use Rattle.osrl_grammar.specs.Back.{CauseComesBack, ClaimComesBack}
 use Rattle.solve_run.specs.declared.document.Document.{Document}
-use Rattle.solve_run.specs.Closings.{given_up, wide_check, IsJudged, checked, IsFitted}
+use Rattle.solve_run.specs.Judging.{IsShownClaim, given_up, wide_check, IsJudged, checked}
+use Rattle.solve_run.specs.Closings.{IsFitted}
 use Rattle.solve_run.specs.Runs.{HasCauses, IsFittedDocument, IsClaimTold}
-use Rattle.solve_run.proofs.WidthRefusals.{shown_back}
+use Rattle.solve_run.proofs.ReadBack.{shown_back}
 
-given_back : (c : Claim) (cause : Cause) → CauseComesBack cause → ClaimComesBack (Some (given_up c cause))
-given_back (Optimal x v ns) cause h = h
-given_back (Infeasible ns) cause h = h
-given_back (Unbounded x v r) cause h = h
-given_back (BestSoFar x v old) cause h = h
-given_back (Unsure old) cause h = h
+given_back : (c : Claim) (cause : Cause) → CauseComesBack cause → ClaimComesBack (Some c) → ClaimComesBack (Some (given_up c cause))
+given_back (Optimal x vs cs) cause h back = (back.0, h)
+given_back (Infeasible cert) cause h back = h
+given_back (Unbounded x vs cs r) cause h back = (back.0, h)
+given_back (BestSoFar x vs old) cause h back = (back.0, h)
+given_back (Unsure old) cause h back = h
 
 checked_back : (c : Claim) (turns : ℕ) (width : Option ℕ) → turns < 2 ^ 64 → IfSome width (λ n. n < 2 ^ 32) → ClaimComesBack (Some c) → ClaimComesBack (Some (checked c turns width))
 checked_back c turns None few node h = h
-checked_back c turns (Some n) few node h = given_back c (wide_check n turns) (node, few)
+checked_back c turns (Some n) few node h = given_back c (wide_check n turns) (node, few) h
 
 fitted_back : (job : Option (List ℕ)) (c told : Claim) → IsFitted job c told → ClaimComesBack (Some c) → ClaimComesBack (Some told)
 fitted_back job c told (inl (short, same)) h = subst (λ (d : Claim). ClaimComesBack (Some d)) (sym same) h
-fitted_back job c told (inr (long, same)) h = subst (λ (d : Claim). ClaimComesBack (Some d)) (sym same) (given_back c causes.Length tt)
+fitted_back job c told (inr (long, same)) h = subst (λ (d : Claim). ClaimComesBack (Some d)) (sym same) (given_back c causes.Length tt h)
 
 -- a claim that is shown, checked and fitted is told
 pub told : (p : Parts) (job : Option (List ℕ)) (turns : ℕ) (found : Claim) (width : Option ℕ) (doc : Document)
-    → IsValid p → IsShown (program p) (claimed_outcome found) → HasCauses found → turns < 2 ^ 64 → IfSome width (λ n. n < 2 ^ 32)
-    → IsJudged (program p) found width → IsFittedDocument job (checked found turns width) doc → IsClaimTold p job turns found doc
+    → IsValid p → IsShownClaim p found → HasCauses found → turns < 2 ^ 64 → IfSome width (λ n. n < 2 ^ 32)
+    → IsJudged p found width → IsFittedDocument job (checked found turns width) doc → IsClaimTold p job turns found doc
 told p job turns found width doc valid shown causes few node judged (inl (c, fitted, is)) = inl (record {
   told = c;
   closed = record { width = width; judged = judged; fitted = fitted };

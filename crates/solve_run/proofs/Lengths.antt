@@ -1,5 +1,5 @@
 -- The document of a claim that is given up isn't too long.
-use Rattle.std.proofs.Common.{ℕ, suc, ◌+◌, ◌*◌, ◌/◌, ◌%◌, ◌^◌, ◌≤◌, ◌==◌, ℤ, pos, negsuc, Bool, true, false, cond, Option, None, Some, List, [], ◌∷◌, ◌++◌, drop, length, length-append, length-drop, arith}
+use Rattle.std.proofs.Common.{◌≡◌, ℕ, suc, ◌+◌, ◌*◌, ◌/◌, ◌%◌, ◌^◌, ◌≤◌, ◌==◌, ℤ, pos, negsuc, Bool, true, false, cond, Option, None, Some, List, [], ◌∷◌, ◌++◌, drop, length, length-append, length-drop, arith}
 use Rattle.std.specs.Prelude.{IfSome, codes, decimal, reverse}
 use Rattle.std.specs.Fmt.{signed_decimal}
 use Rattle.std.proofs.lemmas.List.{length-reverse}
@@ -19,7 +19,7 @@ use Rattle.certificate.specs.declared.claims.Claim.{Claim}
 use Rattle.certificate.specs.declared.claims.Claim.TheVariants.{BestSoFar, Unsure}
 use Rattle.osrl_grammar.specs.Cuts.{cut_size, without_zeros, decimals, has_sign, cut_text}
 use Rattle.osrl_grammar.specs.Items.{step_text}
-use Rattle.osrl_grammar.specs.Writing.{variable_values, cause_text, item_nodes, fraction_texts, report_element, claim_nodes}
+use Rattle.osrl_grammar.specs.Writing.{variable_values, goal_values, cause_text, item_nodes, fraction_texts, report_element, claim_nodes}
 use Rattle.solve_run.specs.Closings.{claim_report, IsShort}
 
 -- a job's name, if there is one, has at most 256 bytes
@@ -120,6 +120,15 @@ values_size j (x ∷ xs) =
     let cut = cut_text_size (ratio x) in
     omega (arith, rest, index, text, cut)
 
+goals_size : (k : ℕ) (vs : List Frac) → nodes_size (goal_values k vs) ≤ 1200 * length vs
+goals_size k [] = omega arith
+goals_size k (v ∷ vs) =
+    let rest = goals_size (k + 1) vs in
+    let index = decimal_size k in
+    let text = text_size (cut_text (ratio v)) in
+    let cut = cut_text_size (ratio v) in
+    omega (arith, rest, index, text, cut)
+
 items_size : (xs : List Frac) → nodes_size (item_nodes (fraction_texts xs)) ≤ 800 * length xs
 items_size [] = omega arith
 items_size (x ∷ xs) =
@@ -149,19 +158,14 @@ module _ (job : Option (List ℕ)) (short : IsShortName job) where
       let cause = cause_size c in
       omega (arith, text, cause)
 
-  best_size : (x : List Frac) (v : Frac) (c : Cause) → length x ≤ 1000 → nodes_size (claim_nodes (BestSoFar x v c)) ≤ 4000000
-  best_size x v c few =
+  best_size : (x vs : List Frac) (c : Cause) → length x ≤ 1000 → length vs ≡ 1 → nodes_size (claim_nodes (BestSoFar x vs c)) ≤ 4000000
+  best_size x vs c few one =
       let text = text_size (cause_text c) in
       let cause = cause_size c in
-      let values = values_size 0 x in
-      let items = items_size x in
-      let value = items_size (v ∷ []) in
-      let goal = text_size (cut_text (ratio v)) in
-      let cut = cut_text_size (ratio v) in
-      omega (arith, text, cause, values, items, value, goal, cut, few)
+      omega (arith, text, cause, values_size 0 x, items_size x, goals_size 1 vs, items_size vs, few, one)
 
   pub unsure_short : (c : Cause) → IsShort job (Unsure c)
   unsure_short c = whole_size (Unsure c) (unsure_size c)
 
-  pub best_short : (x : List Frac) (v : Frac) (c : Cause) → length x ≤ 1000 → IsShort job (BestSoFar x v c)
-  best_short x v c few = whole_size (BestSoFar x v c) (best_size x v c few)
+  pub best_short : (x vs : List Frac) (c : Cause) → length x ≤ 1000 → length vs ≡ 1 → IsShort job (BestSoFar x vs c)
+  best_short x vs c few one = whole_size (BestSoFar x vs c) (best_size x vs c few one)

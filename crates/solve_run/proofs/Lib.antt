@@ -4,6 +4,7 @@ pub mod WidthRefusals
 pub mod GivenUp
 pub mod Lengths
 pub mod Names
+pub mod ReadBack
 pub mod Closings
 pub mod Runs
 pub mod OneClaim

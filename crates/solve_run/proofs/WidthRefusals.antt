@@ -28,7 +28,7 @@ use Rattle.branch_bound.specs.Claims.{only, said}
 use Rattle.cert_checker.specs.declared.refused.Refused.{Refused}
 use Rattle.cert_checker.specs.declared.refused.Refused.TheVariants.{WideRound}
 use Rattle.cert_checker.specs.LevelRefusals.{Ending, Best, Endless, AreEnough, CertificatesRefuse}
-use Rattle.cert_checker.specs.Points.{PointRefuses}
+use Rattle.cert_checker.specs.Points.{ValueRefuses, PointRefuses}
 use Rattle.cert_checker.specs.Settled.{Settles, AreSettled, IsForWidth}
 use Rattle.cert_checker.specs.Refusals.{IsRefusedFor}
 use Rattle.solve_run.specs.Judging.{IsSearched, IsShownClaim, IsFinal, IsWideAt}
@@ -63,16 +63,16 @@ has_values I f p = record {
 -- ---- refusals
 
 -- without rounds none is too wide
+value_round : (P : Problem) (x vs : List Ratio) (k n : ℕ) → ValueRefuses P x vs k (WideRound n) → ⊥
+value_round P x vs k n (inl (w, e)) = cc
+value_round P x vs k n (inr (w, d, e)) = cc
+
 point_round : (P : Problem) (x vs : List Ratio) (n : ℕ) → PointRefuses P x vs (WideRound n) → ⊥
 point_round P x vs n (inl (c, m, e)) = cc
 point_round P x vs n (inr (inl (l, c, m, e))) = cc
 point_round P x vs n (inr (inr (inl (l, m, e)))) = cc
 point_round P x vs n (inr (inr (inr (f, inl (l, e))))) = cc
-point_round P x vs n (inr (inr (inr (f, inr (l, first))))) = by first.why
-  where
-    by : _ → ⊥
-    by (inl (w, e)) = cc
-    by (inr (w, d, e)) = cc
+point_round P x vs n (inr (inr (inr (f, inr (l, first))))) = value_round P x vs first.goal n first.why
 
 node_of : (r : Refused) → IsForWidth r → ((n : ℕ) → r ≡ WideRound n → ⊥) → (n : ℕ) × IsWideAt r n
 node_of r (inl (n, e)) no = absurd (no n e)
