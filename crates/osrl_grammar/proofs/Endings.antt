@@ -1,9 +1,8 @@
 -- What the code makes of an end tag is the state that it leaves, or its refusal.
-use Rattle.osrl_grammar.proofs.Names.{◌≡◌, ◌∙◌, ◌<◌, ◌⊎◌, ◌&&◌, inl, inr, ℕ, zero, suc, Bool, true, false, cond, List, [], ◌∷◌, refl, ap, sym, subst, arith, Option, None, Some, Result, Ok, Err, OnOk, false≢true, is_some, on_ok_weaker, trimmed, Finish, AllPass, FirstFails, OsrlFault, Report, Held, Part, Point, Value, Ray, Misread, NoShape, NoNumber, TooGreat, BadItem, IsItemRead, AfterItem, noted, with_read, State, start, nothing_held, has, items, bad_item, report_of, ends, around, tests, told, item_refusal, refusal_of, Fails, MayHoldItems, first, Ends, EndsAt, Refused, item_fields, ReadsSo, AddsItem}
-use Rattle.osrl_grammar.specs.declared.fault.OsrlFault.TheVariants as refusals
+use Rattle.osrl_grammar.proofs.Names.{◌≡◌, ◌∙◌, ◌&&◌, inl, inr, ℕ, Bool, true, false, cond, List, [], ◌∷◌, refl, ap, sym, subst, Option, None, Some, Result, Ok, Err, OnOk, false≢true, is_some, on_ok_weaker, trimmed, AllPass, FirstFails, OsrlFault, Report, Held, Part, Value, Misread, BadItem, IsItemRead, AfterItem, noted, with_read, State, start, nothing_held, bad_item, report_of, ends, around, tests, told, refusal_of, Fails, first, Ends, EndsAt, Refused}
 use Rattle.osrl_grammar.specs.declared.elements.Place.{Place}
 use Rattle.osrl_grammar.specs.declared.elements.Place.TheVariants as places
-use Rattle.osrl_grammar.specs.declared.parts.Part.TheVariants.{Rounds, Tree, Cause}
+use Rattle.osrl_grammar.specs.declared.parts.Part.TheVariants.{Tree, Cause}
 use Rattle.osrl_grammar.specs.Table.{unread, twice, miscounted, incomplete}
 use Rattle.osrl_grammar.specs.Stepping.{as_held, IsCounted, AreCounted}
 use Rattle.std.specs.Prelude.{IsSome}

@@ -1,5 +1,5 @@
 -- Lists that are told item by item.
-use Rattle.osrl_grammar.proofs.Names.{◌≡◌, ℕ, ◌-◌, ◌<◌, ◌≤◌, Bool, true, false, cond, nat_lt, get_or, ◌≢◌, List, [], ◌∷◌, length, refl, ap, sym, lt-ltb, le-ltb, arith, decimal, codes, Nodes, none, element, chars, Event, nodes_events, ◌++◌, leaf, Frac, Mult, Cert, Node, Split, Zero, Clash, Farkas, Bound, indexed, row_values, values_part, values_part_unless_none, tree_values, dual_values, item_nodes, certificate_part, level_text, level_texts, node_text, round_text, rounds_part, ◌+◌, ◌∙◌, map, drop, ap₂}
+use Rattle.osrl_grammar.proofs.Names.{◌≡◌, ℕ, ◌-◌, ◌<◌, ◌≤◌, Bool, cond, get_or, ◌≢◌, List, [], ◌∷◌, length, refl, ap, sym, lt-ltb, le-ltb, arith, decimal, codes, Nodes, none, element, chars, Event, nodes_events, ◌++◌, leaf, Frac, Mult, Cert, Node, Split, Zero, Clash, Farkas, Bound, indexed, row_values, values_part, values_part_unless_none, tree_values, dual_values, item_nodes, certificate_part, level_text, level_texts, node_text, round_text, rounds_part, ◌+◌, ◌∙◌, map, drop, ap₂}
 use Rattle.std.proofs.lemmas.List.{at_drop_more}
 use Rattle.osrl_grammar.specs.declared.parts.Part.TheVariants.{Rounds}
 use Rattle.osrl_grammar.specs.Writing.{rows_part}

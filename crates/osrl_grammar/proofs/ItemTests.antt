@@ -1,12 +1,11 @@
 -- What is read of an item, and when it is one.
-use Rattle.osrl_grammar.proofs.Names.{◌≡◌, ◌∙◌, inl, inr, ℕ, ◌+◌, Bool, false, length, pos, Option, None, Some, Result, Ok, Err, List, [], ◌∷◌, ◌++◌, refl, ap, sym, subst, AllZip, option_map, whole, ratio, Frac, Mult, Node, Step, AllPass, Held, Part, Point, Value, Ray, Misread, NoShape, NoNumber, TooGreat, Index, Turn, Whole, Exact, Field, pieces, Pair, parted, worded, field, step_text, all_steps, node_word, all_node_words, cause_word, all_cause_words, pair_fields, mult_fields, mults_fields, no_field, one_field, place_fields, node_behind, cause_behind, item_fields, ReadsSo, IsFraction, IsMult, IsMultOf, IsOne, IsPlace, node_head, SaysNode, cause_head, SaysCause, IsRoundOf, TreeItem, tree_head, SaysTree, IsOutOfOrder, next_level, round_word, round_fields, IsItemRead, AddsItem, IfOk-weaker}
+use Rattle.osrl_grammar.proofs.Names.{◌≡◌, ◌∙◌, inr, ℕ, ◌+◌, Bool, false, length, pos, Option, None, Some, Result, Ok, Err, List, [], ◌∷◌, ◌++◌, refl, ap, sym, subst, AllZip, option_map, whole, ratio, Frac, Mult, Node, Step, Held, Part, Point, Value, Ray, Misread, NoShape, NoNumber, TooGreat, Index, Turn, Whole, Exact, Field, pieces, Pair, parted, worded, field, step_text, all_steps, node_word, all_node_words, cause_word, all_cause_words, pair_fields, mult_fields, mults_fields, no_field, one_field, place_fields, node_behind, cause_behind, item_fields, ReadsSo, IsFraction, IsMult, IsMultOf, IsOne, IsPlace, node_head, SaysNode, cause_head, SaysCause, IsRoundOf, TreeItem, tree_head, SaysTree, IsOutOfOrder, next_level, round_word, round_fields, IsItemRead, AddsItem, IfOk-weaker}
 use Rattle.certificate.specs.declared.nodes.Node.TheVariants as nodes
 use Rattle.osrl_grammar.specs.declared.parts.TreeItem.TheVariants as trees
 use Rattle.certificate.specs.declared.causes.Place.{Place}
 use Rattle.certificate.specs.declared.causes.Cause as why
 use Rattle.certificate.specs.declared.causes.Cause.TheVariants as causes
 use Rattle.osrl_grammar.specs.declared.parts.Part.TheVariants.{Rounds, Tree, Cause}
-use Rattle.osrl_grammar.specs.Numbers.{Kind}
 use Rattle.osrl_grammar.proofs.WordValues.{each_step, each_node_word, each_cause_word}
 use Rattle.osrl_grammar.specs.Stepping.{ReadsNumber, as_held, ReadsItem}
 use Rattle.osrl_grammar.proofs.Fields.{Pass, number_pass, both_pass, reads_made, reads_more, still_unread}
