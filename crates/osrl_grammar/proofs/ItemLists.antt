@@ -36,10 +36,6 @@ several n [] (Farkas ms ∷ more) h k = refl
 several n [] (Bound ms ∷ []) h k = absurd (h refl)
 several n [] (Bound ms ∷ m ∷ more) h k = refl
 
-pub rounded : (n : ℕ) (rounds : List (List Mult)) (tree : List Node) → 0 < length rounds → (k : List Event) → k ≡ nodes_events (tree_values n rounds tree none) k
-rounded n [] tree h k = absurd (omega (arith, h))
-rounded n (r ∷ rs) tree h k = refl
-
 -- several values, or trees, have none
 pub many : (n : ℕ) (values : List Frac) (trees : List Cert) → (length values ≡ 1 → length trees ≡ 1 → ⊥) → (k : List Event) → k ≡ nodes_events (dual_values n values trees none) k
 many n [] cs h k = refl
