@@ -10,6 +10,8 @@ import random
 import sys
 import tempfile
 
+from measuring import peak_of
+
 RUNS = 5
 PROGRAM = os.path.abspath("crates/os_main/out/os_main")
 VARIABLES = 1000
@@ -84,8 +86,8 @@ def leaf(rows):
 
 
 def measured(words, wanted):
-    """The least seconds of some runs and the greatest peak memory in bytes."""
-    seconds, peak = None, 0
+    """The least seconds of some runs, and the peak memory in bytes."""
+    seconds = None
     for _ in range(RUNS):
         with tempfile.TemporaryFile() as out:
             pid = os.posix_spawnp(
@@ -99,8 +101,7 @@ def measured(words, wanted):
             sys.exit(f"{words} ended with {status} and answered {answer!r}")
         spent = usage.ru_utime + usage.ru_stime
         seconds = spent if seconds is None else min(seconds, spent)
-        peak = max(peak, usage.ru_maxrss * 1024)
-    return seconds, peak
+    return seconds, peak_of(words, os.devnull)
 
 
 def timed(folder, name, cases):

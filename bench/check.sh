@@ -1,6 +1,7 @@
-#!/bin/sh
+#!/usr/bin/env bash
 # Times `check` on a long tree of cases and on one leaf with many multipliers, and on smaller ones of each kind, in one run.
-set -eu
-cd "$(dirname "$0")/.."
-./os session </dev/null >/dev/null
+#   bash bench/check.sh
+set -euo pipefail
+. "$(dirname "$0")/../tools/program.sh"
+install_packages time
 exec python3 bench/check.py

@@ -7,6 +7,8 @@ import subprocess
 import sys
 import tempfile
 
+from measuring import peak_of
+
 PROGRAM = os.path.abspath("crates/os_main/out/os_main")
 RUNS = 5
 OSIL = "&lt;osil&gt;&lt;instanceData&gt;&lt;variables&gt;&lt;var/&gt;&lt;/variables&gt;&lt;/instanceData&gt;&lt;/osil&gt;"
@@ -43,8 +45,8 @@ def large(size):
 
 
 def measured(source, answers):
-    """The least seconds of some runs and the greatest peak memory, where all requests were answered 200."""
-    best, peak = None, 0
+    """The least seconds of some runs and the peak memory, where all requests were answered 200."""
+    best = None
     for _ in range(RUNS):
         with open(source, "rb") as given, tempfile.TemporaryFile() as out:
             process = subprocess.Popen([PROGRAM, "session"], stdin=given, stdout=out)
@@ -55,8 +57,8 @@ def measured(source, answers):
         if status != 0 or answered != answers:
             sys.exit(f"status {status}, {answered} of {answers} requests answered")
         seconds = usage.ru_utime + usage.ru_stime
-        best, peak = seconds if best is None else min(best, seconds), max(peak, usage.ru_maxrss * 1024)
-    return best, peak
+        best = seconds if best is None else min(best, seconds)
+    return best, peak_of([PROGRAM, "session"], source)
 
 
 def main():

@@ -1,4 +1,4 @@
-"""Times reading documents: seconds, MB/s and peak memory of `bench_documents`, and of other parsers.
+"""Times reading documents: seconds, MB/s and peak memory of `bench_documents`, piece by piece and into a tree, and of other parsers.
 
 The documents are OSiL with runs of `<el>..</el>` and attributes, as modelling systems write them: 1,000
 variables and rows, and as many entries of the matrix as the size asks for.
@@ -38,7 +38,7 @@ def osil(size):
 
 
 def main():
-    print("document bytes | ours s | MB/s | peak bytes a byte | xmllint s | MB/s | xmlwf s | MB/s | ours / xmllint")
+    print("document bytes | ours s | MB/s | peak bytes a byte | tree s | peak bytes a byte | xmllint s | xmlwf s | ours / xmlwf | ours / xmllint | tree / xmllint")
     first = None
     with tempfile.TemporaryDirectory() as folder:
         for size in (1_000_000, 2_000_000, 4_000_000):
@@ -47,13 +47,14 @@ def main():
             with open(document, "wb") as f:
                 f.write(text)
             ours, peak = measured([OURS], document)
+            tree, held = measured([OURS, "tree"], document)
             lint, _ = measured(["xmllint", "--noout", document], "/dev/null")
             expat, _ = measured(["xmlwf", document], "/dev/null")
             first = first or ours
-            mb = len(text) / 1e6
+            n = len(text)
             print(
-                f"{len(text)} | {ours:.3f} | {mb / ours:.1f} | {peak / len(text):.1f} | {lint:.3f} | {mb / lint:.1f}"
-                f" | {expat:.3f} | {mb / expat:.1f} | {ours / lint:.2f}"
+                f"{n} | {ours:.3f} | {n / 1e6 / ours:.1f} | {peak / n:.1f} | {tree:.3f} | {held / n:.1f} | {lint:.3f} | {expat:.3f}"
+                f" | {ours / expat:.2f} | {ours / lint:.2f} | {tree / lint:.2f}"
             )
             last = ours
         print(f"the time of the last over that of the first: {last / first:.2f}")

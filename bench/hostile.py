@@ -1,7 +1,7 @@
 """Times hostile documents of 1, 2 and 4 MB: seconds at each size, and how many times 1 MB takes 4 MB.
 
 A shape is a document that grows in one way that could cost more than its bytes. The first shapes are of any XML
-document, read by `bench_documents`; the others are instances and results, read by `os check`. What is answered is
+document, read by `bench_documents` into a tree; the others are instances and results, read by `os check`. What is answered is
 compared, so a figure is that of a whole read. Fails where 4 MB take more than 5 times 1 MB.
 """
 
@@ -222,7 +222,7 @@ def main():
         for name, document, wanted in DOCUMENTS:
 
             def read(size):
-                return timed([READER], written(folder, "document", document(size)), wanted)
+                return timed([READER, "tree"], written(folder, "document", document(size)), wanted)
 
             if not figures(name, read):
                 slow.append(name)

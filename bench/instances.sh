@@ -1,8 +1,8 @@
-#!/bin/sh
+#!/usr/bin/env bash
 # Times `check` on growing instances, up to the limits, beside `xmllint --noout` and Python's `xml.etree` on the same instances, in
 # one run.
-set -eu
-cd "$(dirname "$0")/.."
-command -v xmllint >/dev/null || { apt-get update -q && apt-get install -y -q libxml2-utils; } >/dev/null
-./os session </dev/null >/dev/null
+#   bash bench/instances.sh
+set -euo pipefail
+. "$(dirname "$0")/../tools/program.sh"
+install_packages libxml2-utils time
 exec python3 bench/instances.py

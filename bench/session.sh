@@ -1,7 +1,7 @@
-#!/bin/sh
+#!/usr/bin/env bash
 # Times `session` on solve calls of 1, 2 and 4 MB beside `xmllint --noout` on the same documents, in one run.
-set -eu
-cd "$(dirname "$0")/.."
-command -v xmllint >/dev/null || apt-get install -y -q libxml2-utils >/dev/null
-./os session </dev/null >/dev/null
+#   bash bench/session.sh
+set -euo pipefail
+. "$(dirname "$0")/../tools/program.sh"
+install_packages libxml2-utils time
 exec python3 bench/session.py

@@ -101,7 +101,9 @@ DIFFERENT = [
 
 
 def ours(document):
-    return subprocess.run([OURS], input=document, capture_output=True).stdout.decode().strip()
+    """What is answered piece by piece and as a whole, which is the same."""
+    answers = {subprocess.run([OURS, *words], input=document, capture_output=True).stdout.decode().strip() for words in ([], ["tree"])}
+    return " and ".join(sorted(answers))
 
 
 def peer(document):

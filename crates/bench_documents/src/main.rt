@@ -1,21 +1,57 @@
 //! Documents that are read, to be timed and to be compared: `bench/documents.sh` runs it beside other parsers, and
 //! `tools/xml_verdicts.sh` compares its verdicts with another's.
 //!
-//! The input is one document. The answer is one line: `accepted`, or `refused` with the reason and its place.
+//! The input is one document. It is read piece by piece and kept nowhere, or, with the word `tree`, as a whole into a tree.
+//! The answer is one line: `accepted`, or `refused` with the reason and its place.
 #![tactic(auto)]
 
-use doc_tree::{TreeFault, read};
+mod unheard;
+
+use doc_tree::{Events, TreeFault, read};
 use std::alloc::Global;
+use std::env;
 use std::io::{self, Read};
+use unheard::Unheard;
 
 /// The most bytes of a document.
 const MOST: u64 = 4_194_304;
+
+/// How many bytes are asked for at once.
+const PIECE: usize = 65_536;
 
 /// All the bytes of the input, or the first of them, one more than a document may have.
 fn input_of(alloc: Global, input: &mut impl Read) -> io::Result<Vec<u8>> {
     let mut bytes = Vec::new(alloc);
     input.take(MOST + 1).read_to_end(&mut bytes)?;
     Ok(bytes)
+}
+
+/// Reads the input as a whole into a tree.
+fn gathered(alloc: Global, input: &mut impl Read) -> io::Result<Result<(), TreeFault>> {
+    let bytes = input_of(alloc, input)?;
+    Ok(match read(alloc, bytes.as_slice(), MOST) {
+        Ok(_) => Ok(()),
+        Err(fault) => Err(fault),
+    })
+}
+
+/// Reads the input piece by piece. Each has a byte at least, so that a document is at its end, or too long, behind so many.
+fn heard(alloc: Global, input: &mut impl Read) -> io::Result<Result<(), TreeFault>> {
+    let mut events = Events::new(alloc, MOST, Unheard);
+    let mut room = [0; PIECE];
+    for _ in 0..=MOST {
+        let count = input.read(&mut room)?;
+        if count == 0 {
+            break;
+        }
+        if let Err(fault) = events.feed(&room[..count]) {
+            return Ok(Err(fault));
+        }
+    }
+    Ok(match events.finish() {
+        Ok(_) => Ok(()),
+        Err(fault) => Err(fault),
+    })
 }
 
 fn tell_at<R: Print>(rt: &R, word: &str, at: u64) -> io::Result<()> {
@@ -38,9 +74,13 @@ fn tell_fault<R: Print>(rt: &R, fault: TreeFault) -> io::Result<()> {
 }
 
 fn main(rt: HostRuntime) -> io::Result<()> {
-    let bytes = input_of(rt.alloc(), &mut rt.stdin())?;
-    match read(rt.alloc(), bytes.as_slice(), MOST) {
-        Ok(_) => tell(&rt, "accepted"),
+    let answer = if env::args(&rt)?.len() > 1 {
+        gathered(rt.alloc(), &mut rt.stdin())?
+    } else {
+        heard(rt.alloc(), &mut rt.stdin())?
+    };
+    match answer {
+        Ok(()) => tell(&rt, "accepted"),
         Err(fault) => tell_fault(&rt, fault),
     }
 }

@@ -1,5 +1,5 @@
 -- What is claimed where a search ends.
-use Rattle.std.proofs.Common.{◌≡◌, ◌⊎◌, inl, inr, ℕ, Bool, true, false, Option, None, Some, List, [], refl, subst}
+use Rattle.std.proofs.Common.{◌≡◌, ◌⊎◌, inl, inr, ℕ, true, false, Option, None, Some, List, [], refl, subst}
 use Rattle.evidence.specs.Instance.{Instance}
 use Rattle.evidence.specs.Cases.{Node}
 use Rattle.certificate.specs.declared.causes.Cause.{Cause}

@@ -7,7 +7,6 @@ ghost use Rattle.instance.specs.Program.{problem};
 ghost use Rattle.certificate.specs.Meanings as Means;
 ghost use Rattle.certificate.specs.Nodes.{nodes_of, IsInRange};
 ghost use Rattle.certificate.specs.declared.claims.Claim as carried;
-ghost use Rattle.cert_checker.specs.Cuts.{AreWithin};
 ghost use Rattle.osil_grammar.specs.Reading.{IsInstanceText};
 ghost use Rattle.osrl_grammar.specs.Reading.{IsReportText};
 ghost use Rattle.document_checker.specs.declared.fault.CheckFault.TheVariants.{Memory};

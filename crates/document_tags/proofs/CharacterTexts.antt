@@ -12,7 +12,8 @@ use Rattle.element_tree.proofs.XmlTexts.{Printable, qname_printable, list_printa
 use Rattle.document_tags.specs.Characters.{AttributesOfCharacters, NodesOfCharacters, IsOfCharacters}
 use Rattle.document_tags.specs.Elements.{characters, own_text}
 use Rattle.document_tags.proofs.PrintableTexts.{printable_text}
-use Rattle.document_tags.proofs.TextCuts.{cut, no_text, char_text, low_text, behind_one, behind_printable, behind_space, low_space, one_more, one_less, lines_text}
+use Rattle.doc_tree.proofs.Utf8.{no_text}
+use Rattle.document_tags.proofs.TextCuts.{cut, char_text, low_text, behind_one, behind_printable, behind_space, low_space, one_more, one_less, lines_text}
 
 low_quote : (c : ℕ) → IsQuote c → c < 128
 low_quote c (inl e) = omega arith

@@ -13,3 +13,5 @@ pub mod Sizes
 pub mod Lengths
 pub mod TextCuts
 pub mod CharacterTexts
+pub mod UnlessMemory
+pub mod SomeAnd

@@ -13,9 +13,10 @@ use Rattle.certificate.specs.declared.causes.Cause.TheVariants.{Memory}
 use Rattle.certificate.specs.declared.claims.Claim.{Claim}
 use Rattle.certificate.specs.declared.claims.Claim.TheVariants.{Optimal, Infeasible, Unbounded, BestSoFar, Unsure}
 use Rattle.simplex_rules.specs.Ends.{Terms, Clock}
+use Rattle.search_rules.specs.Search as ends
 use Rattle.search_rules.specs.Search.{Outcome, IsSearchAnswer, searched, early}
 use Rattle.search_rules.specs.Outcomes.{IsPlain}
-use Rattle.branch_bound.specs.Claims.{claimed_outcome}
+use Rattle.branch_bound.specs.Claims.{Tells, cause_of, claimed_cause}
 use Rattle.osol_grammar.specs.declared.options.Options.{Options}
 use Rattle.osol_grammar.specs.declared.fault.OsolFault.{OsolFault}
 use Rattle.osol_grammar.specs.declared.fault.OsolFault.TheVariants as options_faults
@@ -32,8 +33,9 @@ use Rattle.osil_grammar.specs.Reading.{IsInstanceText}
 use Rattle.osil_grammar.specs.Reading as instances
 use Rattle.osrl_grammar.specs.declared.report.Report.{Report}
 use Rattle.osrl_grammar.specs.Writing.{report_text}
-use Rattle.solve_run.specs.Closings.{IsClosed, IsFitted, checked, given_up, wide_check}
-use Rattle.solve_run.specs.JobAnswers.{AnswersJob, GaveUp, IsBestOfSearch, Solved, no_options, no_instance, solved, gave_up, job_terms}
+use Rattle.solve_run.specs.Judging.{checked, given_up, wide_check}
+use Rattle.solve_run.specs.Closings.{IsClosed, IsFitted}
+use Rattle.solve_run.specs.JobAnswers.{AnswersJob, GaveUp, IsBestOfSearch, Solved, no_options, no_instance, not_solved, solved, gave_up, job_terms}
 use Rattle.no_cycles.specs.Beginning.{BeginsFeasible}
 use Rattle.no_cycles.specs.Limit.{safe_limit}
 use Rattle.no_cycles.specs.Searches.{is_out_of_turns, is_turn_limit}
@@ -74,24 +76,39 @@ with_limit o limit k back is few =
     let below = each (λ l. amount o l ≤ (limits.limit_row l).most) back.below limits.all in
     record {
       job = back.job;
-      above = each_limit (λ l. (limits.limit_row l).least ≤ amount (record o { turns = limit }) l) (all_of (λ l. (limits.limit_row l).least ≤ amount (record o { turns = limit }) l) limits.all (above.0, (omega (arith, is, low), tt)));
-      below = each_limit (λ l. amount (record o { turns = limit }) l ≤ (limits.limit_row l).most) (all_of (λ l. amount (record o { turns = limit }) l ≤ (limits.limit_row l).most) limits.all (below.0, (omega (arith, is, high), tt)));
+      above = each_limit (λ l. (limits.limit_row l).least ≤ amount (record o { turns = limit }) l) (all_of (λ l. (limits.limit_row l).least ≤ amount (record o { turns = limit }) l) limits.all (above.0, (omega (arith, is, low), (above.1.1.0, tt))));
+      below = each_limit (λ l. amount (record o { turns = limit }) l ≤ (limits.limit_row l).most) (all_of (λ l. amount (record o { turns = limit }) l ≤ (limits.limit_row l).most) limits.all (below.0, (omega (arith, is, high), (below.1.1.0, tt))));
     }
 
 -- ---- claims
 
-outcome_claim : (c : Claim) → is_out_of_turns (claimed_outcome c) ≡ claims_turn_limit c
-outcome_claim (Optimal x v ns) = refl
-outcome_claim (Infeasible ns) = refl
-outcome_claim (Unbounded x v r) = refl
-outcome_claim (BestSoFar x v c) = refl
-outcome_claim (Unsure c) = refl
+-- a search was given up for its turns, if it was given up
+turned : Option Cause → Bool
+turned None = false
+turned (Some k) = is_turn_limit k
+
+outcome_turned : (o : Outcome) → is_out_of_turns o ≡ turned (cause_of o)
+outcome_turned (ends.Optimal x v ns) = refl
+outcome_turned (ends.Infeasible ns) = refl
+outcome_turned (ends.Unbounded x v r) = refl
+outcome_turned (ends.BestSoFar x v k) = refl
+outcome_turned (ends.Unsure k) = refl
+
+claim_turned : (c : Claim) → claims_turn_limit c ≡ turned (claimed_cause c)
+claim_turned (Optimal x vs cs) = refl
+claim_turned (Infeasible cert) = refl
+claim_turned (Unbounded x vs cs r) = refl
+claim_turned (BestSoFar x vs k) = refl
+claim_turned (Unsure k) = refl
+
+told_turned : (c : Claim) (o : Outcome) → Tells c o → claims_turn_limit c ≡ is_out_of_turns o
+told_turned c o tells = claim_turned c ∙ ap turned tells.cause ∙ sym (outcome_turned o)
 
 given_up_is : (c : Claim) (k : Cause) → claims_turn_limit (given_up c k) ≡ is_turn_limit k
-given_up_is (Optimal x v ns) k = refl
-given_up_is (Infeasible ns) k = refl
-given_up_is (Unbounded x v r) k = refl
-given_up_is (BestSoFar x v c) k = refl
+given_up_is (Optimal x vs cs) k = refl
+given_up_is (Infeasible cert) k = refl
+given_up_is (Unbounded x vs cs r) k = refl
+given_up_is (BestSoFar x vs c) k = refl
 given_up_is (Unsure c) k = refl
 
 checked_is : (found : Claim) (turns : ℕ) (node : Option ℕ) → claims_turn_limit found ≡ false → claims_turn_limit (checked found turns node) ≡ false
@@ -107,7 +124,7 @@ closed_is p job turns found told closed within = fitted_is job _ told closed.fit
 
 gave_up_is : (osil osol : List ℕ) (c : Claim) → (c ≡ Unsure Memory) ⊎ IsBestOfSearch osil osol c → claims_turn_limit c ≡ false
 gave_up_is osil osol c (inl is) = ap claims_turn_limit is
-gave_up_is osil osol c (inr best) = sym (outcome_claim c) ∙ ap is_out_of_turns best.is ∙ early_is best.moment.best Memory
+gave_up_is osil osol c (inr best) = told_turned c (early best.moment.best Memory) best.tells ∙ early_is best.moment.best Memory
 
 -- ---- the laws of the crates below
 
@@ -157,13 +174,14 @@ module _ (laws : Laws) (osil osol taken : List ℕ) (p : Parts) (text : IsInstan
       let high : height (program s.given.parts) ≡ length s.given.parts.rows = length-map s.given.parts.rows row in
       let enough : safe_limit (width (program s.given.parts)) (height (program s.given.parts)) ≡ Some its.limit = ap₂ safe_limit wide high ∙ told in
       let turns : s.given.options.turns ≡ its.limit = turns_are s.given.options s.given.options_text its in
-      let found : is_out_of_turns (claimed_outcome s.found) ≡ false =
-      laws.within (program s.given.parts) (job_terms s.given.options stop) (claimed_outcome s.found) _ its.limit (laws.numbers s.given.parts) (subst (λ (x : Parts). IsPlain (program x)) same plain) (subst (λ (x : Parts). BeginsFeasible (program x)) same feasible) enough (omega (arith, turns)) (searched s.ends) in
-      ap (λ (x : Report). says_turn_limit x.claim) s.is ∙ closed_is s.given.parts s.given.options.job s.turns s.found s.told s.closed (sym (outcome_claim s.found) ∙ found)
+      let found : is_out_of_turns s.outcome ≡ false =
+      laws.within (program s.given.parts) (job_terms s.given.options stop) s.outcome _ its.limit (laws.numbers s.given.parts) (subst (λ (x : Parts). IsPlain (program x)) same plain) (subst (λ (x : Parts). BeginsFeasible (program x)) same feasible) enough (omega (arith, turns)) (searched s.ends) in
+      ap (λ (x : Report). says_turn_limit x.claim) s.is ∙ closed_is s.given.parts s.given.options.job s.turns s.found s.told s.closed (told_turned s.found s.outcome s.tells ∙ found)
 
   pub answers_within : (r : Report) → Takes true osil osol taken → AnswersJob osil taken false r → says_turn_limit r.claim ≡ false
   answers_within r takes (no_options h) = ap (λ (x : Report). says_turn_limit x.claim) h.is
   answers_within r takes (no_instance h) = ap (λ (x : Report). says_turn_limit x.claim) h.is
+  answers_within r takes (not_solved h) = ap (λ (x : Report). says_turn_limit x.claim) h.is
   answers_within r takes (solved stop looks may s) = solved_within stop looks r takes s
   answers_within r takes (gave_up g) = ap (λ (x : Report). says_turn_limit x.claim) g.is ∙ gave_up_is osil taken g.claim g.claims
 

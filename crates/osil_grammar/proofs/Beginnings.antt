@@ -1,5 +1,5 @@
 -- A start tag is gone past, or refused, in the state that the code holds.
-use Rattle.osil_grammar.proofs.Words.{◌≡◌, ◌∙◌, ◌+◌, ℕ, ℤ, List, [], ◌++◌, length, replicate, refl, ap, sym, subst, Option, codes, Result, Ok, Err, Attribute, Start, Finish, Frac, Row, Sense, AllPass, FirstFails, first_with, Stop, Place, Listing, Values, Led, told_refusal, Refusal, nought, SaysCount, SaysTimes, SaysConstant, SaysSense, SaysStep, SaysWholeStep, SaysVar, SaysRow, SaysIndex, State, begins, Told, tests, refusal, leads, Fails, into, SaysRun, Begins, BeginsAt, EndsAt, Steps}
+use Rattle.osil_grammar.proofs.Words.{◌≡◌, ◌∙◌, ◌+◌, ℕ, ℤ, List, [], ◌++◌, length, replicate, refl, ap, ap₂, sym, subst, Option, codes, Result, Ok, Err, Attribute, Start, Finish, Frac, Row, Sense, AllPass, FirstFails, first_with, Stop, Place, Listing, Values, Led, told_refusal, Refusal, nought, SaysCount, SaysTimes, SaysConstant, SaysSense, SaysStep, SaysWholeStep, SaysVar, SaysRow, SaysIndex, State, begins, Told, tests, refusal, leads, Fails, into, SaysRun, Begins, BeginsAt, EndsAt, Steps}
 use Rattle.instance.specs.declared.parts.Var.{Var as Variable}
 use Rattle.osil_grammar.specs.declared.fault.Refusal as code
 use Rattle.osil_grammar.specs.declared.stop.Refused as kept
@@ -36,10 +36,10 @@ says_whole l other as' s z h = h
 pub whole_begun : (s now : State) → s ≡ now → (name : List ℕ) (as' : List Attribute) (l : Listing) → (l ≡ Values → ⊥) → (n : ℕ) (d : ℤ) (t : List ℕ) (z : State) → z ≡ record (into s (places.El l)) { times = n; whole_step = d; text = t } → t ≡ [] → AllPass (Fails now (Start name as')) (tests (begins (led.To (places.El l)))) × (SaysTimes as' n × SaysWholeStep as' d) → BeginsAt {X = Unit {0}} now name as' (led.To (places.El l)) z (Ok tt)
 whole_begun s now same name as' l other n d t z is none h = begun s now same name as' (places.El l) z h.0 (says_whole l other as' (into s (places.El l)) z (n, d, h.1.0, h.1.1, is ∙ ap (λ (u : List ℕ). let y : State = record (into s (places.El l)) { times = n; whole_step = d; text = u } in y) none))
 
-pub obj_begun : (s now : State) → s ≡ now → (name : List ℕ) (as' : List Attribute) (g : Sense) (c : Frac) (d : Option ℕ) (n : ℕ) (x : Frac) (cs : List Frac) (z : State) → z ≡ record (into s places.Obj) { obj_at = s.count + 1; times = n; coefs = 0; declared_coefs = d; sense = g; constant = c; costs = cs } → cs ≡ [] ++ replicate (length s.vars) x → x ≡ nought
+pub obj_begun : (s now : State) → s ≡ now → (name : List ℕ) (as' : List Attribute) (g : Sense) (c : Frac) (d : Option ℕ) (n : ℕ) (x : Frac) (w : ℕ) (old cs : List Frac) (z : State) → z ≡ record (into s places.Obj) { obj_at = s.count + 1; times = n; coefs = 0; declared_coefs = d; sense = g; constant = c; costs = cs } → cs ≡ old ++ replicate w x → old ≡ [] → w ≡ length s.vars → x ≡ nought
     → AllPass (Fails now (Start name as')) (tests (begins (led.To places.Obj))) × (SaysSense as' g × SaysConstant as' c × SaysCount as' (codes "numberOfObjCoef") d × SaysTimes as' n) → BeginsAt {X = Unit {0}} now name as' (led.To places.Obj) z (Ok tt)
-obj_begun s now same name as' g c d n x cs z is more none h =
-    let zeros : cs ≡ replicate (length s.vars) nought = more ∙ ap (λ (y : Frac). replicate (length s.vars) y) none in
+obj_begun s now same name as' g c d n x w old cs z is more none width zero h =
+    let zeros : cs ≡ replicate (length s.vars) nought = more ∙ ap (λ (l : List Frac). l ++ replicate w x) none ∙ ap₂ (λ (k : ℕ) (y : Frac). replicate k y) width zero in
     begun s now same name as' places.Obj z h.0 (g, c, d, n, h.1.0, h.1.1, h.1.2, h.1.3, is ∙ ap (λ (l : List Frac). let y : State = record (into s places.Obj) { obj_at = s.count + 1; times = n; coefs = 0; declared_coefs = d; sense = g; constant = c; costs = l } in y) zeros)
 
 -- a start tag by where it leads

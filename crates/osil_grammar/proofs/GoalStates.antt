@@ -1,5 +1,5 @@
 -- A mark that is taken leaves the goals as those of an instance as far as it goes.
-use Rattle.osil_grammar.proofs.Words.{◌≡◌, ◌∙◌, ◌+◌, ◌<◌, ◌≤◌, ℕ, inl, inr, Bool, true, false, cond, List, [], ◌∷◌, ◌++◌, length, replicate, refl, ap, sym, subst, arith, lit<, bytes_eq, All, All-nil, All-append, All-replicate, length-replicate, length-set, Attribute, Mark, Start, Char, Finish, Frac, Goal, nought, AllPass, Takes, Child, Place, Led, State, start, among, content, otherwise, leads, part_row, begins, tests, Fails, most, around, Begins, Ends, Leaves, goal_so_far, heard, keeps_text, osil, AreGoals, AreGoalsLate, part_in, IsInPart, AreCostsAt, HasGoals, HasGoalsIn}
+use Rattle.osil_grammar.proofs.Words.{◌≡◌, ◌∙◌, ◌+◌, ◌-◌, ◌<◌, ◌≤◌, ℕ, inl, inr, Bool, true, false, cond, List, [], ◌∷◌, ◌++◌, length, replicate, refl, sym, subst, arith, lit<, bytes_eq, All, All-nil, All-append, All-replicate, length-replicate, length-set, Attribute, Mark, Start, Char, Finish, Goal, nought, AllPass, Takes, Child, Place, Led, State, start, among, content, otherwise, leads, part_row, begins, tests, Fails, most, around, Begins, Ends, Leaves, goal_so_far, heard, keeps_text, osil, AreGoals, AreGoalsLate, IsInPart, AreCostsAt, HasGoals, HasGoalsIn}
 use Rattle.osil_grammar.specs.declared.elements.Part.{Part}
 use Rattle.osil_grammar.specs.declared.elements.Part.TheVariants as parts
 use Rattle.osil_grammar.specs.declared.elements.Listing.TheVariants as listings
@@ -8,7 +8,7 @@ use Rattle.osil_grammar.specs.declared.elements.Led.TheVariants as led
 use Rattle.osil_grammar.proofs.SoundStates.{not_more, replicated}
 
 -- WHERE AN ELEMENT STANDS: in the one that its end tag leads back to; one that is passed over also in such a one
-abbrev IsPassedIn : Place → Type 0
+abbrev pub IsPassedIn : Place → Type 0
 IsPassedIn places.Osil = Unit {0}
 IsPassedIn places.Passed = Unit {0}
 IsPassedIn p = ⊥
@@ -103,7 +103,7 @@ out_part (places.Part part) n h = no_part n
 out_part p n h = h
 
 end_goals : (s : State) (p : Place) (z : State) → s.place ≡ p → HasGoalsIn p s → Ends s p z → HasGoals z
-end_goals s places.Passed z at h (inl e) = subst HasGoals (sym e.1) (subst (λ (q : Place). HasGoalsIn q s) (sym at) h)
+end_goals s places.Passed z at h (inl e) = subst HasGoals (sym e.1) (subst (λ (q : Place). HasGoalsIn q (record s { depth = s.depth - 1 })) (sym at) h)
 end_goals s places.Passed z at h (inr e) = subst HasGoals (sym e.1) (h.0, h.1, no_part s.part, h.3)
 end_goals s (places.Part parts.Coefficients) z at h (es, matrix, is) = subst HasGoals (sym is) (h.0, h.1, no_part s.part, h.3)
 end_goals s places.Obj z at h is =

@@ -1,11 +1,11 @@
 -- The lists of the matrix and its entries are never held at once.
-use Rattle.osil_grammar.proofs.Words.{◌≡◌, ℕ, ◌+◌, ◌*◌, ◌≤◌, inl, inr, Bool, true, false, cond, List, [], ◌∷◌, length, refl, ap, sym, subst, arith, lit<, All, All-head, All-tail, bytes_eq, Frac, Entry, Goal, Mark, Start, Char, Finish, AllPass, Takes, AreTaken, Place, Led, State, start, Child, begins, tests, content, otherwise, among, leads, Fails, Begins, Ends, Leaves, osil, IsSoundSoFar, AreGoals, HasGoalsIn, is_in_matrix, AreHeldApart, HoldsApart, IsFit, goals_held, held}
+use Rattle.osil_grammar.proofs.Words.{◌≡◌, ℕ, ◌*◌, ◌≤◌, inl, inr, Bool, true, false, List, [], ◌∷◌, length, refl, ap, sym, subst, arith, lit<, All, All-head, All-tail, Frac, Entry, Goal, Mark, Start, Char, Finish, AllPass, Takes, AreTaken, Place, Led, around, State, start, begins, tests, leads, Fails, Begins, Ends, Leaves, osil, IsSoundSoFar, AreGoals, HasGoalsIn, is_in_matrix, AreHeldApart, HoldsApart, IsFit, goals_held, held}
 use Rattle.osil_grammar.specs.declared.elements.Part.TheVariants as parts
 use Rattle.osil_grammar.specs.declared.elements.Listing.TheVariants as listings
 use Rattle.osil_grammar.specs.declared.elements.Place.TheVariants as places
 use Rattle.osil_grammar.specs.declared.elements.Led.TheVariants as led
 use Rattle.osil_grammar.proofs.SoundStates.{sound_kept, sound_start}
-use Rattle.osil_grammar.proofs.GoalStates.{goals_kept, goals_start}
+use Rattle.osil_grammar.proofs.GoalStates.{IsPassedIn, StandsIn, leads_in, goals_kept, goals_start}
 
 -- a start tag leads from the matrix to what stands in it, from elsewhere to what doesn't, or into a part
 abbrev IsOnSide : Bool → Led → Type 0
@@ -13,34 +13,19 @@ IsOnSide b (led.To (places.Part part)) = Unit {0}
 IsOnSide b (led.To p) = is_in_matrix p ≡ b
 IsOnSide b l = Unit {0}
 
-abbrev AreOnSide : Bool → List (Child Place) → Type 0
-AreOnSide b [] = Unit {0}
-AreOnSide b (c ∷ cs) = IsOnSide b (led.To c.place) × AreOnSide b cs
+around_side : (q : Place) → IsOnSide (is_in_matrix (around q)) (led.To q)
+around_side (places.Part part) = tt
+around_side q = refl
 
-either_side : (b here : Bool) (l m : Led) → IsOnSide b l → IsOnSide b m → IsOnSide b (cond here l m)
-either_side b true l m p q = p
-either_side b false l m p q = q
+passed_side : (p : Place) → IsPassedIn p → IsOnSide (is_in_matrix p) (led.To places.Passed)
+passed_side places.Osil from = refl
+passed_side places.Passed from = refl
+passed_side p from = absurd from
 
-among_side : (b : Bool) (name : List ℕ) (cs : List (Child Place)) (other : Led) → AreOnSide b cs → IsOnSide b other → IsOnSide b (among (λ (p : Place). led.To p) name cs other)
-among_side b name [] other all last = last
-among_side b name (c ∷ cs) other all last = either_side b (bytes_eq name c.name) (led.To c.place) (among (λ (p : Place). led.To p) name cs other) all.0 (among_side b name cs other all.1 last)
-
-leads_side : (p : Place) (name : List ℕ) → IsOnSide (is_in_matrix p) (leads p name)
-leads_side places.Outside name = among_side false name (content places.Outside) (otherwise places.Outside) (refl, tt) tt
-leads_side places.Osil name = among_side false name (content places.Osil) (otherwise places.Osil) (refl, tt) refl
-leads_side places.Passed name = refl
-leads_side places.Data name = among_side false name (content places.Data) (otherwise places.Data) (tt, (tt, (tt, (tt, tt)))) refl
-leads_side places.Further name = tt
-leads_side (places.Part parts.Variables) name = among_side false name (content (places.Part parts.Variables)) (otherwise (places.Part parts.Variables)) (refl, tt) tt
-leads_side (places.Part parts.Objectives) name = among_side false name (content (places.Part parts.Objectives)) (otherwise (places.Part parts.Objectives)) (refl, tt) tt
-leads_side (places.Part parts.Constraints) name = among_side false name (content (places.Part parts.Constraints)) (otherwise (places.Part parts.Constraints)) (refl, tt) tt
-leads_side (places.Part parts.Coefficients) name = among_side true name (content (places.Part parts.Coefficients)) (otherwise (places.Part parts.Coefficients)) (refl, (refl, (refl, (refl, tt)))) tt
-leads_side places.Var name = tt
-leads_side places.Obj name = among_side false name (content places.Obj) (otherwise places.Obj) (refl, tt) tt
-leads_side places.Coef name = tt
-leads_side places.Con name = tt
-leads_side (places.Listed l) name = among_side true name (content (places.Listed l)) (otherwise (places.Listed l)) (refl, tt) tt
-leads_side (places.El l) name = tt
+on_side : (p : Place) (l : Led) → StandsIn p l → IsOnSide (is_in_matrix p) l
+on_side p (led.To places.Passed) from = passed_side p from
+on_side p (led.To q) from = subst (λ (x : Place). IsOnSide (is_in_matrix x) (led.To q)) (sym from) (around_side q)
+on_side p l from = tt
 
 abbrev ApartAt : Bool → State → Type 0
 ApartAt b s = AreHeldApart b s.part s.entries s.starts s.indices s.values
@@ -96,7 +81,7 @@ module _ (s : State) (m : Mark) (apart : HoldsApart s) where
   led_apart l z side pass h = absurd h
 
 apart_kept : (s z : State) (m : Mark) → HoldsApart s → Takes osil s m z → HoldsApart z
-apart_kept s z (Start name as') apart takes = led_apart s (Start name as') apart (leads s.place name) z (leads_side s.place name) takes.0 takes.1
+apart_kept s z (Start name as') apart takes = led_apart s (Start name as') apart (leads s.place name) z (on_side s.place (leads s.place name) (leads_in s.place name)) takes.0 takes.1
 apart_kept s z (Char c) apart takes = subst HoldsApart (sym takes.1) apart
 apart_kept s z (Finish name) apart takes = ended_apart s (Finish name) apart s.place z refl apart takes.1
 
@@ -104,13 +89,6 @@ pub apart_start : HoldsApart start
 apart_start = (refl, refl, refl, λ low. refl)
 
 -- HOW MANY ITEMS ARE HELD: those of goals, of which each has a cost for each variable
-pub held_each : (n : ℕ) (gs : List Goal) → All (λ g. length g.costs ≡ n) gs → goals_held gs ≡ length gs * (n + 1)
-held_each n [] each = refl
-held_each n (g ∷ gs) each =
-    let first = All-head (λ (x : Goal). length x.costs ≡ n) g gs each in
-    let rest = held_each n gs (All-tail (λ (x : Goal). length x.costs ≡ n) g gs each) in
-    omega (arith, first, rest)
-
 goals_few : (n : ℕ) (gs : List Goal) → n ≤ 1000 → All (λ g. length g.costs ≡ n) gs → goals_held gs ≤ length gs * 1001
 goals_few n [] few each = omega arith
 goals_few n (g ∷ gs) few each =

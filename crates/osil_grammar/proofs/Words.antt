@@ -37,7 +37,6 @@ pub use Rattle.instance.specs.Parts.{AreEnds, IsAscending, IsBefore, IsInside, I
 pub use Rattle.instance.specs.Program.{entries, entry}
 pub use Rattle.instance.specs.declared.parts.Goal.{Goal}
 pub use Rattle.instance.specs.declared.parts.Row.{Row}
-pub use Rattle.instance.specs.declared.parts.Goal.{Goal}
 pub use Rattle.instance.specs.declared.parts.Sense.{Sense}
 pub use Rattle.instance.specs.declared.parts.Sense.TheVariants.{Max, Min}
 pub use Rattle.instance.specs.declared.parts.Var.{Var}

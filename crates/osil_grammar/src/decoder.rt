@@ -175,8 +175,8 @@ impl Decoder {
         }
     }
 
-    /// How many items it holds so far: the variables, the rows, the goals with their costs, and the entries and the lists of
-    /// the matrix.
+    /// How many items it holds so far: the variables, the rows, the goals with their costs, the costs of an `obj` that is
+    /// open, and the entries and the lists of the matrix.
     pub fn numbers(&self) -> u64
         ensures is { result ≡ hearing.numbers self.now.course }
         ensures few { result ≤ 211009 }

@@ -11,8 +11,8 @@ pub enum Refusal {
     Root,
     /// An element ends without one that must stand in it.
     Missing,
-    /// An element that may not stand there, or a further part of `instanceData` that isn't empty. `name` is the
-    /// beginning of its name, at most 64 bytes.
+    /// An element that may not stand there, or a further part of `instanceData` in which an element stands. `name` is
+    /// the beginning of its name, at most 64 bytes.
     Beyond { name: Text },
     /// An attribute is wanting, may not stand there, or has a value that isn't among those it may have.
     Attribute { name: &'static [u8] },

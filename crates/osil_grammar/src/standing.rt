@@ -25,7 +25,7 @@ ghost use Rattle.osil_grammar.specs.Leaving as leaving;
 ghost use Rattle.osil_grammar.specs.Leaving.{IsMatrixOf, AddsRun};
 ghost use Rattle.tag_tests.specs.Forms.{AreTaken};
 ghost use Rattle.osil_grammar.specs.Marked.{osil, goals_said, instance_of};
-ghost use Rattle.osil_grammar.specs.Hearing.{held};
+ghost use Rattle.osil_grammar.specs.Hearing.{goals_held, held};
 ghost use Rattle.osil_grammar.specs.Sound.{IsSound, IsSoundIn, HasGoals, HasGoalsIn};
 ghost use Rattle.osil_grammar.specs.Stepping.{Steps, BeginsAt, EndsAt, EndAnswers, IsToldAs, AddsUp};
 
@@ -156,15 +156,16 @@ fn goals_or_least(
 ) -> Result<Vec<Goal>, AllocError>
     ensures { IfOk result (λ gs. gs.items ≡ goals_said goals.items width) }
 {
-    if goals.is_empty() {
-        let mut costs = Vec::new(alloc);
-        push_times(&mut costs, zero(), width as u64)?;
-        goals.push(Goal {
-            sense: Sense::Min,
-            constant: zero(),
-            costs: Costs::of(costs),
-        })?;
+    if !goals.is_empty() {
+        return Ok(goals);
     }
+    let mut costs = Vec::new(alloc);
+    push_times(&mut costs, zero(), width as u64)?;
+    goals.push(Goal {
+        sense: Sense::Min,
+        constant: zero(),
+        costs: Costs::of(costs),
+    })?;
     Ok(goals)
 }
 
@@ -953,14 +954,22 @@ impl Standing {
         self.count == u64::MAX
     }
 
+    /// How many items the goals are: each has a cost for each variable.
+    fn goal_items(&self) -> usize
+        requires few { goals_held self.now.goals ≤ 211009 }
+        requires each { All (λ g. length g.costs ≡ length self.now.vars) self.now.goals }
+        ensures { result ≡ goals_held self.now.goals }
+    {
+        self.goals.len() * (self.vars.len() + 1)
+    }
+
     /// How many items are held, in all lists.
     pub(crate) fn numbers(&self) -> u64
         requires few { held self.now ≤ 211009 }
         requires each { All (λ g. length g.costs ≡ length self.now.vars) self.now.goals }
         ensures { result ≡ held self.now }
     {
-        let goals = self.goals.len() * (self.vars.len() + 1);
-        let items = self.vars.len() + self.rows.len() + goals + self.costs.len();
+        let items = self.vars.len() + self.rows.len() + self.goal_items() + self.costs.len();
         let listed = self.matrix.starts.len()
             + self.matrix.indices.len()
             + self.matrix.values.len();

@@ -2,8 +2,9 @@
 use Rattle.std.proofs.Common.{◌≡◌, ◌≢◌, ◌∙◌, inl, inr, ℕ, Result, Ok, Err, List, ap, ap₂, sym}
 use Rattle.std.specs.Prelude.{IfOk, IfErr}
 use Rattle.tree_grammar.specs.Elements.{Element}
-use Rattle.doc_tree.specs.declared.fault.TreeFault.{TreeFault}
 use Rattle.document_tags.proofs.OneDocument.{document_once, fails_once, fails_apart}
+use Rattle.document_tags.proofs.UnlessMemory.{fault_once, only_memory, answered}
+use Rattle.document_tags.specs.Documents.{Fails}
 use Rattle.tag_tests.specs.Readers.{marks}
 use Rattle.tag_tests.proofs.Forms.{taken_once, not_both}
 use Rattle.tag_tests.proofs.Forms as forms
@@ -15,7 +16,7 @@ use Rattle.osol_grammar.specs.declared.standing.Standing.{Standing as State}
 use Rattle.osol_grammar.specs.declared.standing.Refused as told
 use Rattle.osol_grammar.specs.Table.{start}
 use Rattle.osol_grammar.specs.Marked.{osol}
-use Rattle.osol_grammar.specs.Meaning.{IsOptions, IsRefused, IsOptionsText}
+use Rattle.osol_grammar.specs.Meaning.{IsOptions, IsRefused, IsBlank, IsOptionsText}
 use Rattle.osol_grammar.specs.Reading.{Refuses, DecodeFails}
 use Rattle.osol_grammar.proofs.OneState.{leaves_one}
 
@@ -40,10 +41,12 @@ faults_once root Memory g h k = absurd h
 faults_once root f (Tree t) h k = absurd k
 faults_once root f Memory h k = absurd k
 
+-- bytes that aren't blank, and say no options
+abbrev IsNoText : List ℕ → OsolFault → Type 0
+IsNoText bytes f = (IsBlank bytes → ⊥) × Fails Tree Refuses bytes f
+
 pub refusal_once : (bytes : List ℕ) (f g : OsolFault) → f ≢ Memory → g ≢ Memory → DecodeFails bytes f → DecodeFails bytes g → f ≡ g
-refusal_once bytes f g other another (inl h) k = absurd (other h)
-refusal_once bytes f g other another (inr h) (inl k) = absurd (another k)
-refusal_once bytes f g other another (inr h) (inr k) = fails_once (λ (t : TreeFault). Tree t) Refuses faults_once bytes f g h.1 k.1
+refusal_once bytes = fault_once Memory (IsNoText bytes) (λ f g h k. fails_once Tree Refuses faults_once bytes f g h.1 k.1)
 
 pub root_apart : (root : Element) (o : Options) (r : Refusal) (n : ℕ) → IsOptions root o → IsRefused root r n → ⊥
 root_apart root o r n h k = not_both osol leaves_one start (marks root) h.0 (record { refusal = r; at = n }) h.1 k
@@ -54,11 +57,9 @@ fault_apart root o (Refused r n) h k = root_apart root o r n h k
 fault_apart root o Memory h k = k
 
 pub text_apart : (bytes : List ℕ) (o : Options) (f : OsolFault) → IsOptionsText bytes o → DecodeFails bytes f → f ≡ Memory
-text_apart bytes o f h (inl k) = k
-text_apart bytes o f (inl h) (inr k) = absurd (k.0 h.0)
-text_apart bytes o f (inr h) (inr k) = absurd (fails_apart (λ (t : TreeFault). Tree t) IsOptions Refuses fault_apart bytes o f h.1 k.1)
+text_apart bytes o f (inl h) = only_memory Memory (IsNoText bytes) f (λ k. k.0 h.0)
+text_apart bytes o f (inr h) = only_memory Memory (IsNoText bytes) f (λ k. fails_apart Tree IsOptions Refuses fault_apart bytes o f h.1 k.1)
 
 -- what is answered of a text of options is those options
 pub answer_is : (text : List ℕ) (o : Options) (r : Result Options OsolFault) → IsOptionsText text o → IfOk r (IsOptionsText text) → IfErr r (DecodeFails text) → r ≢ Err Memory → r ≡ Ok o
-answer_is text o (Ok p) is ok err other = ap (λ (q : Options). Ok q) (text_once text p o ok is)
-answer_is text o (Err f) is ok err other = absurd (other (ap (λ (g : OsolFault). Err g) (text_apart text o f is err)))
+answer_is text o r is = answered Memory (IsOptionsText text) (DecodeFails text) (text_once text) (λ f. text_apart text o f is) o r is

@@ -5,6 +5,7 @@ use Rattle.tree_grammar.specs.Elements.{Attribute}
 use Rattle.decimal_text.specs.Count.{IsCount}
 use Rattle.decimal_text.proofs.OneNumber.{count_once}
 use Rattle.document_tags.specs.Elements.{value_of}
+use Rattle.document_tags.proofs.SomeAnd.{some_once}
 use Rattle.tag_tests.specs.Forms.{LeavesOne}
 use Rattle.osol_grammar.specs.declared.limit.Limit.{Limit}
 use Rattle.osol_grammar.specs.declared.options.Options.{Options}
@@ -19,12 +20,8 @@ use Rattle.tag_tests.specs.Places.{Kind, begins}
 use Rattle.osol_grammar.specs.Marked.{osol}
 use Rattle.osol_grammar.proofs.LimitTable.{option_once}
 
-count_by : (value : Option (List ℕ)) (n m : ℕ) → IsSomeAnd value (λ text. IsCount text n) → IsSomeAnd value (λ text. IsCount text m) → n ≡ m
-count_by None n m h k = absurd h
-count_by (Some text) n m h k = count_once text n m h k
-
 amount_once : (l : Limit) (as' : List Attribute) (n m : ℕ) → SaysAmount l as' n → SaysAmount l as' m → n ≡ m
-amount_once l as' n m h k = count_by (value_of (codes "value") as') n m h.0 k.0
+amount_once l as' n m h k = some_once IsCount count_once (value_of (codes "value") as') n m h.0 k.0
 
 says_once : (as' : List Attribute) (o p q : Options) → SaysOption as' o p → SaysOption as' o q → p ≡ q
 says_once as' o p q (inl (l, n, is, says, e)) (inl (k, m, at, tells, f)) =

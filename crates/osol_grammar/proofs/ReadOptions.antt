@@ -6,16 +6,16 @@ use Rattle.tree_grammar.specs.Characters.{IsXmlText}
 use Rattle.tree_grammar.specs.Document.{Doc}
 use Rattle.tree_grammar.specs.Elements.{Attribute, Nodes, none, element, chars, Element, Event, Open, Chars, Close, nodes_events, events}
 use Rattle.doc_tree.specs.Marks.{Char, spread}
-use Rattle.element_tree.proofs.XmlTexts.{text_append, clean_nothing}
+use Rattle.element_tree.proofs.XmlTexts.{clean_nothing}
 use Rattle.document_tags.specs.Characters.{NodesOfCharacters, IsOfCharacters}
 use Rattle.document_tags.specs.Elements.{unless_empty}
 use Rattle.decimal_text.specs.Space.{trimmed}
 use Rattle.decimal_text.proofs.Trims.{space_low, trimmed_keeps, trimmed_again}
 use Rattle.tag_tests.specs.Tests.{AllPass}
 use Rattle.tag_tests.specs.Forms.{AreTaken}
-use Rattle.tag_tests.specs.Characters.{kept}
 use Rattle.tag_tests.proofs.Forms.{taken_parts}
 use Rattle.tag_tests.proofs.Characters.{chars_leave}
+use Rattle.tag_tests.proofs.KeptTexts.{kept_xml}
 use Rattle.osol_grammar.specs.declared.limit.Limit.{Limit}
 use Rattle.osol_grammar.specs.declared.options.Options.{Options}
 use Rattle.osol_grammar.specs.declared.place.Place.{Place}
@@ -25,8 +25,9 @@ use Rattle.tag_tests.specs.declared.places.Led.TheVariants.{To, OtherRoot}
 use Rattle.osol_grammar.specs.declared.standing.Standing.{Standing as State}
 use Rattle.osol_grammar.specs.Limits.{limit_row}
 use Rattle.osol_grammar.specs.Options.{amount, no_options, SaysOption}
-use Rattle.osol_grammar.specs.Table.{start, leads, tests, Fails, Begins, is_in_job, Leaves}
+use Rattle.osol_grammar.specs.Table.{start, content, tests, Fails, Begins, is_text, Leaves}
 use Rattle.tag_tests.specs.Places.{led_from, end_kind}
+use Rattle.tag_tests.specs.Contents.{leads_by, keeps_in}
 use Rattle.osol_grammar.specs.Marked.{osol}
 use Rattle.osol_grammar.specs.Meaning.{IsOptionsText}
 use Rattle.osol_grammar.specs.Back.{IsNameOrNone, ComesBack}
@@ -80,12 +81,8 @@ begin_good s z as' (To SolverOption) (o, says, e) g = subst IsGood (sym e) (reco
 begin_good s z as' OtherRoot e g = absurd e
 begin_good s z as' l e g = subst IsGood (sym e) (record { text = g.text; back = g.back })
 
-kept_good : (b : Bool) (t cs : List ℕ) → IsXmlText t → IsXmlText cs → IsXmlText (kept b t cs)
-kept_good true t cs before more = text_append t cs before more
-kept_good false t cs before more = before
-
 chars_good : (s z : State) (cs : List ℕ) → IsXmlText cs → AreTaken osol s (map Char cs) z → IsGood s → IsGood z
-chars_good s z cs xml taken g = subst IsGood (sym (chars_leave osol (λ (t : List ℕ). record s { text = t }) (is_in_job s.depth s.place) (λ t c m takes. takes.1) s.text cs z taken)) (record { text = kept_good (is_in_job s.depth s.place) s.text cs g.text xml; back = g.back })
+chars_good s z cs xml taken g = subst IsGood (sym (chars_leave osol (λ (t : List ℕ). record s { text = t }) (keeps_in is_text s.depth s.place) (λ t c m takes. takes.1) s.text cs z taken)) (record { text = kept_xml (keeps_in is_text s.depth s.place) s.text cs g.text xml; back = g.back })
 
 none_or_name : (text : List ℕ) → length text ≤ 256 → trimmed text ≡ text → IsXmlText text → IsNameOrNone (unless_empty text)
 none_or_name [] short bare xml = tt
@@ -108,7 +105,7 @@ module _ (of_characters : (bytes : List ℕ) (root : Element) → Doc bytes root
 
   all_good : (es : List Event) (s z : State) → AreXml es → AreTaken osol s (spread es) z → IsGood s → IsGood z
   all_good [] s z xml e g = subst IsGood (sym e) g
-  all_good (Open name as' ∷ more) s z xml (m, takes, rest) g = all_good more m z xml rest (begin_good s m as' (led_from s.depth (leads s.place name)) takes.1 g)
+  all_good (Open name as' ∷ more) s z xml (m, takes, rest) g = all_good more m z xml rest (begin_good s m as' (led_from s.depth (leads_by content s.place name)) takes.1 g)
   all_good (Chars text ∷ more) s z xml taken g =
       let parted = taken_parts osol s z (map Char text) (spread more) taken in
       all_good more parted.0 z xml.1 parted.2 (chars_good s parted.0 text xml.0 parted.1 g)

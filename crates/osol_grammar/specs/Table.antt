@@ -1,12 +1,13 @@
 -- THE TABLE of options documents (Optimization Services option language): where elements stand, the kinds of marks, the tests of each kind, when they fail and how they refuse, and what a mark leaves.
-use Rattle.std.specs.Prelude.{◌≡◌, ℕ, zero, ◌+◌, ◌-◌, ◌<◌, Bool, true, false, List, [], ◌∷◌, length, codes}
+use Rattle.std.specs.Prelude.{◌≡◌, ℕ, ◌+◌, ◌-◌, ◌<◌, Bool, true, false, List, [], ◌∷◌, length, codes}
 use Rattle.tree_grammar.specs.Elements.{Attribute}
-use Rattle.doc_tree.specs.Marks.{Mark, Start, Char, Finish}
+use Rattle.doc_tree.specs.Marks.{Mark}
 use Rattle.document_tags.specs.Elements.{unless_empty}
 use Rattle.decimal_text.specs.Space.{trimmed}
 use Rattle.tag_tests.specs.declared.places.Led.{Led}
 use Rattle.tag_tests.specs.declared.places.Led.TheVariants.{To, OtherRoot, Over}
-use Rattle.tag_tests.specs.Places.{Child, child, among, led_from, Kind, begins, text, ends, ends_over, end_kind}
+use Rattle.tag_tests.specs.Places.{child, Kind, begins, text, ends, ends_over}
+use Rattle.tag_tests.specs.Contents.{Content, root, reads, leads_by, kind_by, keeps_in}
 use Rattle.tag_tests.specs.Characters.{heard}
 use Rattle.osol_grammar.specs.declared.fault.Refusal.{Refusal}
 use Rattle.osol_grammar.specs.declared.fault.Refusal.TheVariants.{Root, JobTwice, BadLimit, LongJob}
@@ -23,23 +24,14 @@ abbrev pub start : State
 start = record { place = Outside; depth = 0; count = 0; job_at = 0; text = []; options = no_options }
 
 -- WHAT MAY STAND IN WHAT: the child elements that are read
-abbrev pub content : Place → List (Child Place)
-content Outside = child (codes "osol") Osol ∷ []
-content Osol = child (codes "general") General ∷ child (codes "optimization") Optimization ∷ []
-content General = child (codes "jobID") JobId ∷ []
-content Optimization = child (codes "solverOptions") SolverOptions ∷ []
-content SolverOptions = child (codes "solverOption") SolverOption ∷ []
-content JobId = []
-content SolverOption = []
-
--- a root of another name isn't read; all else is passed over, with all that stands in it
-abbrev pub otherwise : Place → Led Place
-otherwise Outside = OtherRoot
-otherwise p = Over
-
--- where the start tag of an element of this name leads
-abbrev pub leads : Place → List ℕ → Led Place
-leads p name = among (λ q. To q) name (content p) (otherwise p)
+abbrev pub content : Place → Content Place
+content Outside = root (codes "osol") Osol
+content Osol = reads (child (codes "general") General ∷ child (codes "optimization") Optimization ∷ [])
+content General = reads (child (codes "jobID") JobId ∷ [])
+content Optimization = reads (child (codes "solverOptions") SolverOptions ∷ [])
+content SolverOptions = reads (child (codes "solverOption") SolverOption ∷ [])
+content JobId = reads []
+content SolverOption = reads []
 
 -- where an end tag leads
 abbrev pub around : Place → Place
@@ -53,9 +45,7 @@ around SolverOption = SolverOptions
 
 -- the kind of a mark
 abbrev pub kind : State → Mark → Kind Place
-kind s (Start name as') = begins (led_from s.depth (leads s.place name)) as'
-kind s (Char c) = text c
-kind s (Finish name) = end_kind s.depth s.place
+kind s m = kind_by (λ p name as'. leads_by content p name) s.depth s.place m
 
 -- THE TESTS OF EACH KIND, by the refusals that they give: no mark has more than one
 abbrev pub tests : Kind Place → List Refusal
@@ -97,9 +87,9 @@ Begins s as' OtherRoot z = ⊥
 Begins s as' Over z = z ≡ record s { depth = s.depth + 1; count = s.count + 1 }
 
 -- the characters that stand in a `jobID` itself are kept
-abbrev pub is_in_job : ℕ → Place → Bool
-is_in_job zero JobId = true
-is_in_job d p = false
+abbrev pub is_text : Place → Bool
+is_text JobId = true
+is_text p = false
 
 -- what an end tag leaves: that of a `jobID` says the job's name, none where it is empty
 abbrev pub left : State → Place → State
@@ -109,6 +99,6 @@ left s p = record s { place = around p }
 -- WHAT A MARK OF A KIND LEAVES where its test passes
 abbrev pub Leaves : State → Kind Place → State → Type 0
 Leaves s (begins l as') z = Begins s as' l z
-Leaves s (text c) z = z ≡ record s { text = heard (is_in_job s.depth s.place) s.text c }
+Leaves s (text c) z = z ≡ record s { text = heard (keeps_in is_text s.depth s.place) s.text c }
 Leaves s (ends p) z = z ≡ left s p
 Leaves s ends_over z = z ≡ record s { depth = s.depth - 1 }

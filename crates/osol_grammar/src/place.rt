@@ -1,6 +1,7 @@
 //! Where a mark may stand.
 
 ghost use Rattle.std.specs.Prelude.{◌≡◌};
+ghost use Rattle.tag_tests.specs.Contents.{leads_by};
 ghost use Rattle.osol_grammar.specs.Table as table;
 
 use tag_tests::{Led, named};
@@ -20,7 +21,7 @@ pub(crate) enum Place {
 
 /// Where the start tag of an element of this name leads.
 pub(crate) fn leads(place: Place, name: &[u8]) -> Led<Place>
-    ensures { result ≡ table.leads place name.now }
+    ensures { result ≡ leads_by table.content place name.now }
 {
     match place {
         Place::Outside => named(name, b"osol", Led::To(Place::Osol), Led::OtherRoot),

@@ -7,6 +7,7 @@ ghost use Rattle.tag_tests.specs.Kinds.{StepsAs};
 ghost use Rattle.osol_grammar.specs.declared.place.Place.TheVariants as places;
 ghost use Rattle.tag_tests.specs.declared.places.Led.TheVariants as leading;
 ghost use Rattle.tag_tests.specs.Places.{begins, ends};
+ghost use Rattle.tag_tests.specs.Contents.{keeps_in};
 ghost use Rattle.osol_grammar.specs.Table as table;
 ghost use Rattle.osol_grammar.specs.Marked.{by_kinds};
 
@@ -154,7 +155,7 @@ impl Standing {
 
     /// Whether characters are those of the job's name.
     fn is_in_job(&self) -> bool
-        ensures { result ≡ table.is_in_job self.now.depth self.now.place }
+        ensures { result ≡ keeps_in table.is_text self.now.depth self.now.place }
     {
         self.depth == 0 && self.place == Place::JobId
     }

@@ -1,8 +1,10 @@
 -- A document says one process, or is refused in one way, and so do bytes.
-use Rattle.std.proofs.Common.{◌≡◌, ◌≢◌, ◌∙◌, inl, inr, ℕ, Option, None, Some, Result, Ok, Err, List, refl, ap, sym}
+use Rattle.std.proofs.Common.{◌≡◌, ◌≢◌, ◌∙◌, ℕ, Option, None, Some, Result, Ok, Err, List, refl, ap, sym}
 use Rattle.std.specs.Prelude.{IfOk, IfErr}
 use Rattle.tree_grammar.specs.Elements.{Element}
 use Rattle.document_tags.proofs.OneDocument.{document_once, fails_once, fails_apart}
+use Rattle.document_tags.proofs.UnlessMemory.{fault_once, only_memory, answered}
+use Rattle.document_tags.specs.Documents.{Fails}
 use Rattle.tag_tests.specs.Readers.{marks}
 use Rattle.tag_tests.proofs.Forms.{taken_once, not_both}
 use Rattle.ospl_grammar.specs.declared.fault.OsplFault.{OsplFault}
@@ -41,15 +43,11 @@ process_apart root p Root is h = not_both ospl leaves_one start (marks root) is.
 process_apart root p Missing is h = let same = says_once root (Some p) None is h in cc
 
 pub refusal_once : (bytes : List ℕ) (f g : OsplFault) → f ≢ Memory → g ≢ Memory → DecodeFails bytes f → DecodeFails bytes g → f ≡ g
-refusal_once bytes f g other another (inl h) k = absurd (other h)
-refusal_once bytes f g other another (inr h) (inl k) = absurd (another k)
-refusal_once bytes f g other another (inr h) (inr k) = fails_once (λ t. Tree t) IsRefused refused_once bytes f g h k
+refusal_once bytes = fault_once Memory (Fails Tree IsRefused bytes) (fails_once Tree IsRefused refused_once bytes)
 
 pub refusal_apart : (bytes : List ℕ) (p : Process) (f : OsplFault) → IsProcessText bytes p → DecodeFails bytes f → f ≡ Memory
-refusal_apart bytes p f is (inl h) = h
-refusal_apart bytes p f is (inr h) = absurd (fails_apart (λ t. Tree t) IsProcess IsRefused process_apart bytes p f is h)
+refusal_apart bytes p f is = only_memory Memory (Fails Tree IsRefused bytes) f (fails_apart Tree IsProcess IsRefused process_apart bytes p f is)
 
 -- bytes that say a process are answered by it
 pub answer_is : (bytes : List ℕ) (p : Process) (r : Result Process OsplFault) → IsProcessText bytes p → IfOk r (IsProcessText bytes) → IfErr r (DecodeFails bytes) → r ≢ Err Memory → r ≡ Ok p
-answer_is bytes p (Ok q) is ok err other = ap (λ (x : Process). Ok x) (process_text_once bytes q p ok is)
-answer_is bytes p (Err f) is ok err other = absurd (other (ap (λ (x : OsplFault). Err x) (refusal_apart bytes p f is err)))
+answer_is bytes p r is = answered Memory (IsProcessText bytes) (DecodeFails bytes) (process_text_once bytes) (λ f. refusal_apart bytes p f is) p r is

@@ -1,13 +1,14 @@
 -- THE TABLE of process documents (Optimization Services process language): where elements stand, the kinds of marks, the one test, and what a mark leaves.
-use Rattle.std.specs.Prelude.{◌≡◌, ℕ, zero, suc, ◌+◌, ◌-◌, ◌<◌, ◌^◌, Bool, true, false, Option, None, Some, List, [], ◌∷◌, codes}
+use Rattle.std.specs.Prelude.{◌≡◌, ℕ, ◌+◌, ◌-◌, ◌<◌, ◌^◌, Bool, true, false, Option, None, Some, List, [], ◌∷◌, codes}
 use Rattle.tree_grammar.specs.Elements.{Attribute}
-use Rattle.doc_tree.specs.Marks.{Mark, Start, Char, Finish}
+use Rattle.doc_tree.specs.Marks.{Mark}
 use Rattle.document_tags.specs.Elements.{value_of}
 use Rattle.document_tags.specs.OneChild.{IsOnly}
 use Rattle.decimal_text.specs.Count.{IsCount}
 use Rattle.tag_tests.specs.declared.places.Led.{Led}
 use Rattle.tag_tests.specs.declared.places.Led.TheVariants.{To, OtherRoot, Over}
-use Rattle.tag_tests.specs.Places.{Child, child, among, led_from, Kind, begins, text, ends, ends_over, end_kind}
+use Rattle.tag_tests.specs.Places.{child, Kind, begins, text, ends, ends_over}
+use Rattle.tag_tests.specs.Contents.{Content, root, reads, leads_by, kind_by, keeps_in}
 use Rattle.tag_tests.specs.Characters.{heard}
 use Rattle.ospl_grammar.specs.declared.process.JobState.{JobState}
 use Rattle.ospl_grammar.specs.declared.place.Place.{Place}
@@ -21,28 +22,19 @@ abbrev pub start : Standing
 start = record { place = Outside; depth = 0; text = []; parts = no_parts; asked = None; told = None }
 
 -- WHAT MAY STAND IN WHAT: the child elements that are read
-abbrev pub content : Place → List (Child Place)
-content Outside = child (codes "ospl") Ospl ∷ []
-content Ospl = child (codes "processHeader") Header ∷ child (codes "processData") Data ∷ []
-content Header = child (codes "request") Request ∷ []
-content Data = child (codes "statistics") Statistics ∷ []
-content Statistics = child (codes "currentState") CurrentState ∷ child (codes "currentJobCount") CurrentCount ∷ child (codes "totalJobsSoFar") Total ∷ child (codes "jobs") Jobs ∷ []
-content Jobs = child (codes "job") Job ∷ []
-content Job = child (codes "state") State ∷ []
-content Request = []
-content CurrentState = []
-content CurrentCount = []
-content Total = []
-content State = []
-
--- a root of another name isn't read; all else is passed over, with all that stands in it
-abbrev pub otherwise : Place → Led Place
-otherwise Outside = OtherRoot
-otherwise p = Over
-
--- where the start tag of an element of this name leads
-abbrev pub leads : Place → List ℕ → Led Place
-leads p name = among (λ q. To q) name (content p) (otherwise p)
+abbrev pub content : Place → Content Place
+content Outside = root (codes "ospl") Ospl
+content Ospl = reads (child (codes "processHeader") Header ∷ child (codes "processData") Data ∷ [])
+content Header = reads (child (codes "request") Request ∷ [])
+content Data = reads (child (codes "statistics") Statistics ∷ [])
+content Statistics = reads (child (codes "currentState") CurrentState ∷ child (codes "currentJobCount") CurrentCount ∷ child (codes "totalJobsSoFar") Total ∷ child (codes "jobs") Jobs ∷ [])
+content Jobs = reads (child (codes "job") Job ∷ [])
+content Job = reads (child (codes "state") State ∷ [])
+content Request = reads []
+content CurrentState = reads []
+content CurrentCount = reads []
+content Total = reads []
+content State = reads []
 
 -- where an end tag leads
 abbrev pub around : Place → Place
@@ -61,9 +53,7 @@ around State = Job
 
 -- the kind of a mark
 abbrev pub kind : Standing → Mark → Kind Place
-kind s (Start name as') = begins (led_from s.depth (leads s.place name)) as'
-kind s (Char c) = text c
-kind s (Finish name) = end_kind s.depth s.place
+kind s m = kind_by (λ p name as'. leads_by content p name) s.depth s.place m
 
 -- THE TEST: a root of another name
 pub data Test : Type 0 where
@@ -106,10 +96,6 @@ is_text Total = true
 is_text State = true
 is_text p = false
 
-abbrev pub keeps : ℕ → Place → Bool
-keeps zero p = is_text p
-keeps (suc d) p = false
-
 abbrev pub past : Standing → Place → Standing
 past s p = record s { place = around p; text = [] }
 
@@ -126,6 +112,6 @@ Ends s p z = z ≡ into s (around p)
 -- WHAT A MARK OF A KIND LEAVES
 abbrev pub Leaves : Standing → Kind Place → Standing → Type 0
 Leaves s (begins l as') z = Begins s as' l z
-Leaves s (text c) z = z ≡ record s { text = heard (keeps s.depth s.place) s.text c }
+Leaves s (text c) z = z ≡ record s { text = heard (keeps_in is_text s.depth s.place) s.text c }
 Leaves s (ends p) z = Ends s p z
 Leaves s ends_over z = z ≡ record s { depth = s.depth - 1 }

@@ -2,6 +2,7 @@
 
 ghost use Rattle.std.specs.Prelude.{◌≡◌};
 ghost use Rattle.ospl_grammar.specs.declared.place.Place.TheVariants as places;
+ghost use Rattle.tag_tests.specs.Contents.{leads_by};
 ghost use Rattle.ospl_grammar.specs.Table as table;
 
 use tag_tests::{Led, named};
@@ -26,7 +27,7 @@ pub(crate) enum Place {
 
 /// Where the start tag of a part of statistics leads.
 fn part_led(name: &[u8]) -> Led<Place>
-    ensures { result ≡ table.leads places.Statistics name.now }
+    ensures { result ≡ leads_by table.content places.Statistics name.now }
 {
     if name == b"currentState".as_slice() {
         Led::To(Place::CurrentState)
@@ -41,7 +42,7 @@ fn part_led(name: &[u8]) -> Led<Place>
 
 /// Where the start tag of a child element of the root leads.
 fn root_led(name: &[u8]) -> Led<Place>
-    ensures { result ≡ table.leads places.Ospl name.now }
+    ensures { result ≡ leads_by table.content places.Ospl name.now }
 {
     if name == b"processHeader".as_slice() {
         Led::To(Place::Header)
@@ -52,7 +53,7 @@ fn root_led(name: &[u8]) -> Led<Place>
 
 /// Where the start tag of an element of this name leads.
 pub(crate) fn leads(place: Place, name: &[u8]) -> Led<Place>
-    ensures { result ≡ table.leads place name.now }
+    ensures { result ≡ leads_by table.content place name.now }
 {
     match place {
         Place::Outside => named(name, b"ospl", Led::To(Place::Ospl), Led::OtherRoot),

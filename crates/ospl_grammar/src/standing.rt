@@ -8,6 +8,7 @@ ghost use Rattle.tag_tests.specs.Kinds.{StepsAs};
 ghost use Rattle.ospl_grammar.specs.declared.place.Place.TheVariants as places;
 ghost use Rattle.tag_tests.specs.declared.places.Led.TheVariants as leading;
 ghost use Rattle.tag_tests.specs.Places.{begins, ends};
+ghost use Rattle.tag_tests.specs.Contents.{keeps_in};
 ghost use Rattle.ospl_grammar.specs.Table as table;
 ghost use Rattle.ospl_grammar.specs.Marked.{by_kinds};
 
@@ -159,7 +160,7 @@ impl Standing {
 
     /// Whether characters are kept.
     fn keeps(&self) -> bool
-        ensures { result ≡ table.keeps self.now.depth self.now.place }
+        ensures { result ≡ keeps_in table.is_text self.now.depth self.now.place }
     {
         if self.depth > 0 {
             return false;

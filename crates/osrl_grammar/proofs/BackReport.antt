@@ -107,22 +107,22 @@ module _ (s : State) (type : Option (List ℕ)) where
   ray_goes x vs r more z behind = fractions_go parts.Ray (λ l. with_ray l (held_point x vs)) (λ text h bad. bad) (λ t text. never_noted (says_infeasible true t)) (λ before t y is. (y, is, refl)) r (held_point x vs) more z refl refl behind
 
   rounds_go : (rs : List (List Mult)) (h : Held) (more : Nodes) (z : State) → All HaveColumns rs → h.has_rounds ≡ false → h.rounds ≡ [] → Goes more (solving s places.Results type (record h { has_rounds = are_some rs; rounds = rs })) z → Goes (rounds_part rs more) (solving s places.Results type h) z
-  rounds_go [] h more z back first none behind = subst (λ (g : Held). Goes more (solving s places.Results type g) z) (rw (first, none) refl) behind
-  rounds_go (r ∷ rs) h more z back first none behind =
-      part_goes parts.Rounds (λ l. record h { has_rounds = true; rounds = l }) IsRound (λ text g bad. bad) (λ t text. never_noted (says_infeasible true t)) (λ before t y is. (y, is, refl)) (map round_text (r ∷ rs)) (r ∷ rs) (rounds_back (r ∷ rs) back) s type h more z first (ap (λ (l : List (List Mult)). let g : Held = record h { has_rounds = true; rounds = l } in g) none) behind
+  rounds_go [] h more z back first empty behind = subst (λ (g : Held). Goes more (solving s places.Results type g) z) (ap₂ (λ (b : Bool) (rs : List (List Mult)). let g : Held = record h { has_rounds = b; rounds = rs } in g) (sym first) (sym empty)) behind
+  rounds_go (r ∷ rs) h more z back first empty behind =
+      part_goes parts.Rounds (λ l. record h { has_rounds = true; rounds = l }) IsRound (λ text g bad. bad) (λ t text. never_noted (says_infeasible true t)) (λ before t y is. (y, is, refl)) (map round_text (r ∷ rs)) (r ∷ rs) (rounds_back (r ∷ rs) back) s type h more z first (ap (λ (l : List (List Mult)). let g : Held = record h { has_rounds = true; rounds = l } in g) empty) behind
 
   tree_goes : (h : Held) (c : Cert) (cs : List Cert) → h.has_rounds ≡ false → h.rounds ≡ [] → h.has_tree ≡ false → h.levels ≡ [] → h.tree ≡ [] → (says_infeasible true type ≡ false) ⊎ (cs ≡ []) → 2 + length cs ≤ 2 ^ 32 → TreesComeBack c cs → Goes (tree_parts c cs) (solving s places.Results type h) (solving s places.Results type (with_tree c cs h))
-  tree_goes h c cs first none begun before latest quiet few back =
+  tree_goes h c cs first empty begun before latest quiet few back =
       let own : Held = record h { has_rounds = are_some c.rounds; rounds = c.rounds } in
       let last : State = solving s places.Results type (with_tree c cs h) in
       let texts = map node_text c.nodes ++ level_texts 2 cs in
       let adds = trees_add type own c cs quiet few back.first back.levels in
       let as_begun = subst (λ (g : Held). Adds type parts.Tree texts g (with_tree c cs h)) (ap₂ (λ (ls : List Cert) (ns : List Node). holding own ls ns) (sym before) (sym latest)) adds in
-      rounds_go c.rounds h (certificate_part parts.Tree texts none) last back.rounds first none (part_adds parts.Tree texts s type own (with_tree c cs h) none last begun as_begun (goes_none last))
+      rounds_go c.rounds h (certificate_part parts.Tree texts none) last back.rounds first empty (part_adds parts.Tree texts s type own (with_tree c cs h) none last begun as_begun (goes_none last))
 
   trees_go : (h : Held) (cs : List Cert) → h.has_rounds ≡ false → h.rounds ≡ [] → h.has_tree ≡ false → h.levels ≡ [] → h.tree ≡ [] → says_infeasible true type ≡ false → 2 + length cs ≤ 2 ^ 32 → MayHaveTrees cs → Goes (trees_parts cs) (solving s places.Results type h) (solving s places.Results type (with_trees cs h))
-  trees_go h [] first none begun before latest quiet few back = goes_none (solving s places.Results type h)
-  trees_go h (c ∷ cs) first none begun before latest quiet few back = tree_goes h c cs first none begun before latest (inl quiet) (omega (arith, few)) back
+  trees_go h [] first empty begun before latest quiet few back = goes_none (solving s places.Results type h)
+  trees_go h (c ∷ cs) first empty begun before latest quiet few back = tree_goes h c cs first empty begun before latest (inl quiet) (omega (arith, few)) back
 
   cause_goes : (h : Held) (c : why.Cause) → CauseComesBack c → Goes (cause_part c) (solving s places.Results type (record h { has_cause = false; causes = [] })) (solving s places.Results type (record h { has_cause = true; causes = c ∷ [] }))
   cause_goes h c back =
@@ -173,10 +173,10 @@ solution_goes s c certificate values h shows holds =
     (shows results last (goes_element (codes "otherSolutionResults") [] certificate none (solving s places.Solution type nothing_held) (solving s places.Results type nothing_held) (solving s places.Results type h) last last (λ n t. (n, [], (tt, refl))) holds (λ n t. (tt, refl)) (goes_none last)))
 
 abbrev claimed_as : Claim → Claiming
-claimed_as (Optimal x v ns) = claiming.Optimal
-claimed_as (Infeasible ns) = claiming.Infeasible
-claimed_as (Unbounded x v r) = claiming.Unbounded
-claimed_as (BestSoFar x v c) = claiming.BestSoFar
+claimed_as (Optimal x vs cs) = claiming.Optimal
+claimed_as (Infeasible c) = claiming.Infeasible
+claimed_as (Unbounded x vs cs r) = claiming.Unbounded
+claimed_as (BestSoFar x vs c) = claiming.BestSoFar
 claimed_as (Unsure c) = claiming.Unsure
 
 claim_goes : (s : State) (c : Claim) → ClaimComesBack (Some c) → 2 + length (certs_of c) ≤ 2 ^ 32 → Goes (claim_nodes c) (solving s places.Solution None nothing_held) (solving s places.Solution (Some (claiming_text (claimed_as c))) (held_of c))
@@ -323,7 +323,7 @@ report_said r back =
     all_said (general_type r.error) r.error (nonempty r.job) r.job (nonempty r.message) r.message (status_of s) r.status (claim_of s) r.claim (error_said r.error) (bare_said r.job back.job) (bare_said r.message back.message) (each_status r.status) (claim_said (told r.error r.job r.message (Some (status_text r.status)) places.Osrl) r.claim back.claim)
 
 -- and no item isn't read
-none_bad : (b : Bool) → IsSome {BadItem} (cond b None None) → ⊥
+none_bad : (b : Bool) → IsSome {T = BadItem} (cond b None None) → ⊥
 none_bad true some = false≢true some
 none_bad false some = false≢true some
 

@@ -1,14 +1,15 @@
 -- A written report has fewer levels than its text has bytes.
-use Rattle.osrl_grammar.proofs.Names.{◌≡◌, ◌∙◌, ℕ, ◌+◌, ◌^◌, ◌≤◌, Option, None, Some, List, [], ◌∷◌, ◌++◌, map, length, refl, ap, arith, nat_lt, cond, Nodes, none, element, chars, elements_in, codes, group, Frac, Mult, Cert, Node, Split, Zero, Clash, Farkas, Bound, Claim, Optimal, Infeasible, Unbounded, BestSoFar, Unsure, Report, item_nodes, level_texts, node_text, point_values, point_parts, ray_part, rounds_part, tree_parts, trees_parts, tree_values, dual_values, values_part_unless_none, row_values, claim_nodes, optimization, report_element, ComesBack}
+use Rattle.osrl_grammar.proofs.Names.{◌≡◌, ◌∙◌, ℕ, ◌+◌, ◌^◌, ◌≤◌, Option, None, Some, List, [], ◌∷◌, ◌++◌, map, length, refl, ap, arith, nat_lt, cond, Nodes, none, element, chars, elements_in, codes, group, Frac, Mult, Cert, Node, Split, Zero, Clash, Farkas, Bound, Claim, Optimal, Infeasible, Unbounded, BestSoFar, Unsure, Report, item_nodes, level_texts, node_text, point_values, point_parts, ray_part, rounds_part, tree_parts, trees_parts, tree_values, dual_values, values_part_unless_none, row_values, certificate_part, claim_nodes, optimization, report_element, ComesBack}
 use Rattle.std.proofs.lemmas.List.{length-append}
 use Rattle.certificate.specs.Nodes.{certs_of}
 use Rattle.document_tags.proofs.Sizes.{fewer_elements}
+use Rattle.osrl_grammar.specs.declared.parts.Part.TheVariants.{Tree}
 use Rattle.osrl_grammar.proofs.SoundStates.{certs_in}
 use Rattle.osrl_grammar.proofs.BackText.{root_of, text_document}
 
 -- an item for each level
-items_in : (texts : List (List ℕ)) → elements_in (item_nodes texts) ≡ length texts
-items_in [] = refl
+items_in : (texts : List (List ℕ)) → length texts ≤ elements_in (item_nodes texts)
+items_in [] = omega arith
 items_in (t ∷ ts) = let rest = items_in ts in omega (arith, rest)
 
 levels_in : (k : ℕ) (cs : List Cert) → length cs ≤ length (level_texts k cs)
@@ -49,7 +50,7 @@ tree_long c cs =
     let both = length-append (map node_text c.nodes) (level_texts 2 cs) in
     let items = items_in texts in
     let levels = levels_in 2 cs in
-    let behind = behind_rounds c.rounds (element (codes "otherSolutionResult") _ (item_nodes texts) none) in
+    let behind = behind_rounds c.rounds (certificate_part Tree texts none) in
     omega (arith, both, items, levels, behind)
 
 trees_long : (cs : List Cert) → length cs ≤ 1 + elements_in (trees_parts cs)

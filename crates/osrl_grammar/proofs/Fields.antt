@@ -1,5 +1,5 @@
 -- Texts in place of numbers that were read, or not.
-use Rattle.osrl_grammar.proofs.Names.{◌≡◌, ◌∙◌, inl, ℕ, Option, None, Some, Result, Ok, Err, IfOk, IfErr, List, [], ◌∷◌, refl, sym, subst, Ratio, ratio_once, AllPass, FieldsRead, both_read, Unread, Wide, Misread, NoShape, NoNumber, TooGreat, FitsKind, IsNumberText, Field, IsBad, IsTooGreat, IsNot, field, with_fields, ReadsSo}
+use Rattle.osrl_grammar.proofs.Names.{◌≡◌, ◌∙◌, inl, ℕ, Option, None, Some, Result, Ok, Err, IfOk, IfErr, List, [], ◌∷◌, refl, ap, sym, subst, Ratio, ratio_once, AllPass, FieldsRead, both_read, Unread, Wide, Misread, NoShape, NoNumber, TooGreat, FitsKind, IsNumberText, Field, IsBad, IsTooGreat, IsNot, field, with_fields, ReadsSo}
 use Rattle.std.specs.Prelude.{MatchResult}
 use Rattle.tag_tests.specs.Fields.{IsFirstOf}
 use Rattle.tag_tests.specs.declared.numbers.Unread.TheVariants.{NotNumber}
@@ -60,3 +60,10 @@ reads_more (Some fs) (Ok x) P Q says h = (h.0, h.1, says x h.2)
 reads_more (Some fs) (Err NoShape) P Q says h = h
 reads_more (Some fs) (Err NoNumber) P Q says h = h
 reads_more (Some fs) (Err TooGreat) P Q says h = h
+
+-- what wasn't read isn't made into anything
+pub still_unread : {A B : Type 0} (o : Option (List Field)) (u : Misread) (P : A → Type 0) (Q : B → Type 0) → ReadsSo o (Err u) P → ReadsSo o (Err u) Q
+still_unread {A} {B} None u P Q h = let same : u ≡ NoShape = cc in ap (λ (v : Misread). let r : Result B Misread = Err v in r) same
+still_unread (Some fs) NoShape P Q h = h
+still_unread (Some fs) NoNumber P Q h = h
+still_unread (Some fs) TooGreat P Q h = h

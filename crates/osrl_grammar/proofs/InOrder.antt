@@ -1,16 +1,22 @@
 -- The tests of each kind stand in the order of their refusals.
-use Rattle.osrl_grammar.proofs.Names.{ℕ, ◌≤◌, Option, None, Some, [], ◌∷◌, refl, arith, Mark, OtherRoot, number, State, begins, ends, kind, tests, told, refusal_of, item_refusal, bad_item, BadItem, Misread, NoShape, NoNumber, TooGreat, Value, osrl, List, ◌++◌, map, Kind, Field, item_fields}
-use Rattle.tag_tests.specs.Tests.{InOrder, FromHere}
+use Rattle.osrl_grammar.proofs.Names.{ℕ, ◌≤◌, Option, None, Some, [], ◌∷◌, refl, arith, OtherRoot, number, State, begins, ends, kind, tests, told, refusal_of, item_refusal, bad_item, BadItem, Misread, NoShape, NoNumber, TooGreat, Value, osrl, Kind}
+use Rattle.tag_tests.specs.Tests.{InOrder}
 use Rattle.tag_tests.specs.Firsts.{IsOrdered}
 use Rattle.tag_tests.proofs.Tests.{order_tested}
+use Rattle.osrl_grammar.specs.declared.elements.Place.{Place}
 use Rattle.osrl_grammar.specs.declared.elements.Place.TheVariants.{Osrl}
 use Rattle.osrl_grammar.specs.Table.{Test, twice, miscounted, incomplete}
 use Rattle.osrl_grammar.specs.declared.parts.Part.TheVariants.{Tree, Cause}
+
 -- an item's refusal comes before those of the whole document
+item_low : (u : Misread) (n : ℕ) → number (item_refusal u n) ≤ 5
+item_low NoShape n = omega arith
+item_low NoNumber n = omega arith
+item_low TooGreat n = omega arith
+
 unread_low : (o : Option BadItem) → number (refusal_of o) ≤ 5
 unread_low None = omega arith
-unread_low (Some b) = elim b.misread as (λ (u : Misread). number (item_refusal u b.number) ≤ 5) [ NoShape ↦ omega arith | NoNumber ↦ omega arith | TooGreat ↦ omega arith ]
-use Rattle.osrl_grammar.specs.declared.elements.Place.{Place}
+unread_low (Some b) = item_low b.misread b.number
 
 module _ (s : State) where
   abbrev at : Test → ℕ

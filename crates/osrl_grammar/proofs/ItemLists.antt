@@ -1,5 +1,7 @@
 -- Lists that are told item by item.
-use Rattle.osrl_grammar.proofs.Names.{◌≡◌, ℕ, ◌-◌, ◌<◌, ◌≤◌, Bool, true, false, cond, nat_lt, get_or, ◌≢◌, List, [], ◌∷◌, length, refl, ap, sym, lt-ltb, le-ltb, arith, decimal, codes, Nodes, none, element, chars, Event, nodes_events, ◌++◌, leaf, Frac, Mult, Cert, Node, Split, Zero, Clash, Farkas, Bound, indexed, row_values, values_part, values_part_unless_none, tree_values, dual_values, item_nodes, rounds_part}
+use Rattle.osrl_grammar.proofs.Names.{◌≡◌, ℕ, ◌-◌, ◌<◌, ◌≤◌, Bool, true, false, cond, nat_lt, get_or, ◌≢◌, List, [], ◌∷◌, length, refl, ap, sym, lt-ltb, le-ltb, arith, decimal, codes, Nodes, none, element, chars, Event, nodes_events, ◌++◌, leaf, Frac, Mult, Cert, Node, Split, Zero, Clash, Farkas, Bound, indexed, row_values, values_part, values_part_unless_none, tree_values, dual_values, item_nodes, certificate_part, level_text, level_texts, node_text, round_text, rounds_part, ◌+◌, ◌∙◌, map, drop, ap₂}
+use Rattle.std.proofs.lemmas.List.{at_drop_more}
+use Rattle.osrl_grammar.specs.declared.parts.Part.TheVariants.{Rounds}
 use Rattle.osrl_grammar.specs.Writing.{rows_part}
 
 -- the value of a row's multiplier, and those behind it
@@ -78,3 +80,17 @@ duals_then n (v ∷ []) (c ∷ d ∷ cs) more k = refl
 pub rounds_then : (rs : List (List Mult)) (more : Nodes) (k : List Event) → nodes_events (rounds_part rs none) (nodes_events more k) ≡ nodes_events (rounds_part rs more) k
 rounds_then [] more k = refl
 rounds_then (r ∷ rs) more k = refl
+
+-- they stand where there is one
+pub rounds_shown : (rs : List (List Mult)) → (rs ≡ [] → ⊥) → (k : List Event) → nodes_events (certificate_part Rounds (map round_text rs) none) k ≡ nodes_events (rounds_part rs none) k
+rounds_shown [] some k = absurd (some refl)
+rounds_shown (r ∷ rs) some k = refl
+
+-- the levels from one on: what begins it and its nodes, and those behind it
+pub levels_more : (i : ℕ) (cs : List Cert) (c : Cert) → i < length cs → c ≡ get_or cs i c → (k : List Event) → nodes_events (item_nodes (level_texts (i + 2) (drop i cs))) k ≡ nodes_events (item_nodes (level_text (i + 2) ∷ map node_text c.nodes)) (nodes_events (item_nodes (level_texts (i + 1 + 2) (drop (i + 1) cs))) k)
+levels_more i cs c within is k =
+    let same : i + 2 + 1 ≡ i + 1 + 2 = omega arith in
+    let texts = level_text (i + 2) ∷ map node_text c.nodes in
+    at_drop_more (λ (l : List Cert). nodes_events (item_nodes (level_texts (i + 2) l)) k) cs i c within
+    ∙ ap₂ (λ (d : Cert) (n : ℕ). nodes_events (item_nodes (level_text (i + 2) ∷ (map node_text d.nodes ++ level_texts n (drop (i + 1) cs)))) k) (sym is) same
+    ∙ sym (items_both texts (level_texts (i + 1 + 2) (drop (i + 1) cs)) k)

@@ -1,5 +1,5 @@
 -- What is read of an item, and when it is one.
-use Rattle.osrl_grammar.proofs.Names.{◌≡◌, ◌∙◌, inl, inr, ℕ, pos, Option, None, Some, Result, Ok, Err, List, [], ◌∷◌, ◌++◌, refl, ap, sym, subst, AllZip, option_map, whole, ratio, Frac, Mult, Node, Step, AllPass, Held, Part, Point, Value, Ray, Misread, NoShape, NoNumber, TooGreat, Index, Turn, Whole, Exact, Field, pieces, Pair, parted, worded, field, step_text, all_steps, node_word, all_node_words, cause_word, all_cause_words, pair_fields, mult_fields, mults_fields, no_field, one_field, place_fields, node_behind, cause_behind, item_fields, ReadsSo, IsFraction, IsMult, IsMultOf, IsOne, IsPlace, node_head, SaysNode, cause_head, SaysCause, IsRoundOf, TreeItem, tree_head, SaysTree, IsOutOfOrder, next_level, round_word, round_fields, IsItemRead, AddsItem, IfOk-weaker}
+use Rattle.osrl_grammar.proofs.Names.{◌≡◌, ◌∙◌, inl, inr, ℕ, ◌+◌, Bool, false, length, pos, Option, None, Some, Result, Ok, Err, List, [], ◌∷◌, ◌++◌, refl, ap, sym, subst, AllZip, option_map, whole, ratio, Frac, Mult, Node, Step, AllPass, Held, Part, Point, Value, Ray, Misread, NoShape, NoNumber, TooGreat, Index, Turn, Whole, Exact, Field, pieces, Pair, parted, worded, field, step_text, all_steps, node_word, all_node_words, cause_word, all_cause_words, pair_fields, mult_fields, mults_fields, no_field, one_field, place_fields, node_behind, cause_behind, item_fields, ReadsSo, IsFraction, IsMult, IsMultOf, IsOne, IsPlace, node_head, SaysNode, cause_head, SaysCause, IsRoundOf, TreeItem, tree_head, SaysTree, IsOutOfOrder, next_level, round_word, round_fields, IsItemRead, AddsItem, IfOk-weaker}
 use Rattle.certificate.specs.declared.nodes.Node.TheVariants as nodes
 use Rattle.osrl_grammar.specs.declared.parts.TreeItem.TheVariants as trees
 use Rattle.certificate.specs.declared.causes.Place.{Place}
@@ -9,8 +9,11 @@ use Rattle.osrl_grammar.specs.declared.parts.Part.TheVariants.{Rounds, Tree, Cau
 use Rattle.osrl_grammar.specs.Numbers.{Kind}
 use Rattle.osrl_grammar.proofs.WordValues.{each_step, each_node_word, each_cause_word}
 use Rattle.osrl_grammar.specs.Stepping.{ReadsNumber, as_held, ReadsItem}
-use Rattle.osrl_grammar.proofs.Fields.{Pass, number_pass, both_pass, reads_more}
+use Rattle.osrl_grammar.proofs.Fields.{Pass, number_pass, both_pass, reads_made, reads_more, still_unread}
 use Rattle.osrl_grammar.proofs.Heads.{begun_pass}
+use Rattle.std.proofs.Common.{◌↔◌, IsTrue}
+use Rattle.osrl_grammar.specs.Values.{IsLevelBut}
+use Rattle.osrl_grammar.proofs.Wholes.{refused}
 
 -- the texts of what is said are numbers
 mult_pass : (o : Option Pair) (m : Mult) → IsMultOf o m → Pass (option_map pair_fields o)
@@ -101,6 +104,17 @@ reads_held (Some fs) (Err TooGreat) k P Q says h = h
 
 pub item_is_read : {X : Type 0} (p : Part) (said : List ℕ) (h k : Held) (r : Result X Misread) (P : X → Type 0) → (IsOutOfOrder (next_level h) p said → ⊥) → ((x : X) → P x → AddsItem p said h k) → ReadsSo (item_fields p said) r P → IsItemRead p said h (as_held k r)
 item_is_read p said h k r P order says is = inr (order, reads_held (item_fields p said) r k P (λ (g : Held). AddsItem p said h g) says is)
+
+-- one that was read, or not
+pub item_made : {X : Type 0} (p : Part) (said : List ℕ) (h k : Held) (x : X) (P : X → Type 0) → (IsOutOfOrder (next_level h) p said → ⊥) → (P x → AddsItem p said h k) → ReadsSo (item_fields p said) (Ok x) P → IsItemRead p said h (Ok k)
+item_made p said h k x P order says reads = inr (order, reads_made (item_fields p said) (Ok x) x k P (λ (g : Held). AddsItem p said h g) refl says reads)
+
+pub item_unmade : {X : Type 0} (p : Part) (said : List ℕ) (h : Held) (u : Misread) (P : X → Type 0) → (IsOutOfOrder (next_level h) p said → ⊥) → ReadsSo (item_fields p said) (Err u) P → IsItemRead p said h (Err u)
+item_unmade p said h u P order reads = inr (order, still_unread (item_fields p said) u P (λ (g : Held). AddsItem p said h g) reads)
+
+-- an item of a tree that was tested for the level that comes next
+pub in_order : (h : Held) (n : ℕ) (said : List ℕ) (b : Bool) → n ≡ length h.levels → (IsTrue b ↔ IsLevelBut (n + 2) (pieces said)) → b ≡ false → IsOutOfOrder (next_level h) Tree said → ⊥
+in_order h n said b is tests not out = refused b (IsLevelBut (n + 2) (pieces said)) tests not (subst (λ (m : ℕ). IsLevelBut (m + 2) (pieces said)) (sym is) out)
 
 -- of what was read
 pub reads_pass : {A : Type 0} (o : Option (List Field)) (x : A) (Says : A → Type 0) → ReadsSo o (Ok x) Says → Pass o × Says x

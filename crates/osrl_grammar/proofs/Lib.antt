@@ -24,6 +24,7 @@ pub mod SoundStates
 pub mod TreeTexts
 pub mod FewLevels
 pub mod BackReport
+pub mod ReadClaims
 pub mod RoundTrips
 pub mod InOrder
 pub mod PieceTexts

@@ -1,7 +1,9 @@
 -- A document is one report or is refused in one way, and so are its bytes.
-use Rattle.osrl_grammar.proofs.Names.{◌≡◌, ◌≢◌, ◌∙◌, inl, inr, ℕ, List, ap, sym, Element, taken_once, Report, OsrlFault, Memory, State, start, osrl, marks, IsReport, IsReportText, DecodeFails}
+use Rattle.osrl_grammar.proofs.Names.{◌≡◌, ◌≢◌, ◌∙◌, ℕ, List, ap, sym, Element, taken_once, Report, OsrlFault, Memory, State, start, osrl, marks, IsReport, IsReportText, DecodeFails}
 use Rattle.tag_tests.proofs.Forms.{refused_once, not_both}
 use Rattle.document_tags.proofs.OneDocument.{document_once, fails_once, fails_apart}
+use Rattle.document_tags.proofs.UnlessMemory.{fault_once, only_memory}
+use Rattle.document_tags.specs.Documents as documents
 use Rattle.osrl_grammar.specs.declared.fault.OsrlFault.TheVariants.{Tree}
 use Rattle.osrl_grammar.specs.Marked.{IsRefused}
 use Rattle.osrl_grammar.proofs.OneState.{leaves_one}
@@ -19,10 +21,7 @@ pub report_text_once : (bytes : List ℕ) (r s : Report) → IsReportText bytes 
 report_text_once bytes r s a b = document_once IsReport report_once bytes r s a b
 
 pub refusal_text_once : (bytes : List ℕ) (f g : OsrlFault) → f ≢ Memory → g ≢ Memory → DecodeFails bytes f → DecodeFails bytes g → f ≡ g
-refusal_text_once bytes f g other another (inl h) k = absurd (other h)
-refusal_text_once bytes f g other another (inr h) (inl k) = absurd (another k)
-refusal_text_once bytes f g other another (inr h) (inr k) = fails_once (λ t. Tree t) IsRefused refusal_once bytes f g h k
+refusal_text_once bytes = fault_once Memory (documents.Fails Tree IsRefused bytes) (fails_once Tree IsRefused refusal_once bytes)
 
 pub refusal_apart : (bytes : List ℕ) (r : Report) (f : OsrlFault) → IsReportText bytes r → DecodeFails bytes f → f ≡ Memory
-refusal_apart bytes r f is (inl h) = h
-refusal_apart bytes r f is (inr h) = absurd (fails_apart (λ t. Tree t) IsReport IsRefused report_apart bytes r f is h)
+refusal_apart bytes r f is = only_memory Memory (documents.Fails Tree IsRefused bytes) f (fails_apart Tree IsReport IsRefused report_apart bytes r f is)

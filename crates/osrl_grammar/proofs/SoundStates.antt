@@ -7,6 +7,7 @@ use Rattle.std.proofs.lemmas.Grind.{flat_map-append}
 use Rattle.std.proofs.lemmas.Slice.Eq.{bytes_eq-Decides}
 use Rattle.certificate.specs.Nodes.{certs_of}
 use Rattle.element_tree.proofs.XmlTexts.{text_append}
+use Rattle.doc_tree.proofs.Utf8.{no_text}
 use Rattle.document_tags.specs.Characters.{NodesOfCharacters, IsOfCharacters}
 use Rattle.certificate.specs.declared.causes.Cause as why
 use Rattle.certificate.specs.declared.causes.Cause.TheVariants as causes
@@ -22,15 +23,15 @@ use Rattle.osrl_grammar.specs.Saying.{when, only, with_rounds, optimal, unbounde
 use Rattle.osrl_grammar.specs.Words.{all_claimings}
 use Rattle.osrl_grammar.proofs.WordValues.{worded_is}
 use Rattle.osrl_grammar.proofs.BareTexts.{bare_of}
-use Rattle.tag_tests.specs.Characters.{kept}
 use Rattle.tag_tests.proofs.Forms.{taken_parts}
 use Rattle.tag_tests.proofs.Characters.{chars_leave}
+use Rattle.tag_tests.proofs.KeptTexts.{kept_xml}
 
 -- THE NODES, ROUNDS AND CAUSES that are held come back, and of the nodes of all levels, and of the rounds, there are at most so many
 abbrev level_nodes : List Cert → List Node
 level_nodes cs = flat_map (λ (c : Cert). c.nodes) cs
 
-record HeldFits (n : ℕ) (h : Held) : Type 0 where
+pub record HeldFits (n : ℕ) (h : Held) : Type 0 where
   few : length (level_nodes h.levels) + length h.tree ≤ n
   rounds : length h.rounds ≤ n
   levels : All LevelComesBack h.levels
@@ -189,14 +190,14 @@ pub may_have : (cs : List Cert) → HasTrees cs → MayHaveTrees cs
 may_have [] h = tt
 may_have (c ∷ cs) h = h
 
-module _ (n : ℕ) (h : Held) (f : HeldFits n h) (some : h.has_tree ≡ true → 0 < length h.levels + length h.tree) (values : h.has_value ≡ true → 0 < length h.values) where
-  all : List Cert
-  all = certs h.rounds h.levels h.tree
+abbrev all_of : Held → List Cert
+all_of h = certs h.rounds h.levels h.tree
 
-  all_back : h.has_tree ≡ true → HasTrees all
+module _ (n : ℕ) (h : Held) (f : HeldFits n h) (some : h.has_tree ≡ true → 0 < length h.levels + length h.tree) (values : h.has_value ≡ true → 0 < length h.values) where
+  all_back : h.has_tree ≡ true → HasTrees (all_of h)
   all_back is = levels_back h.rounds h.levels h.tree f.columns f.levels f.tree (some is)
 
-  all_few : length (level_nodes all) ≤ n
+  all_few : length (level_nodes (all_of h)) ≤ n
   all_few =
       let kept = ap length (nodes_kept h.rounds (h.levels ++ cert [] h.tree ∷ [])) in
       let long = ap length (flat_map-append (λ (c : Cert). c.nodes) h.levels (cert [] h.tree ∷ [])) ∙ length-append (level_nodes h.levels) (h.tree ++ []) in
@@ -204,23 +205,23 @@ module _ (n : ℕ) (h : Held) (f : HeldFits n h) (some : h.has_tree ≡ true →
       let few = f.few in
       omega (arith, kept, long, own, few)
 
-  all_rounds : All (HasFew n) all
+  all_rounds : All (HasFew n) (all_of h)
   all_rounds = with_few n h.rounds (h.levels ++ cert [] h.tree ∷ []) f.rounds (one_more LevelComesBack h.levels (cert [] h.tree) f.levels (refl, f.tree))
 
-  optimal_fits : (x : Option (List Frac)) (a b : Bool) → h.has_value ≡ a → h.has_tree ≡ b → ClaimFits n (optimal x (when a h.values) (when b (cond b all [])))
+  optimal_fits : (x : Option (List Frac)) (a b : Bool) → h.has_value ≡ a → h.has_tree ≡ b → ClaimFits n (optimal x (when a h.values) (when b (cond b (all_of h) [])))
   optimal_fits (Some x) true true value is = (all_few, all_rounds, (values value, all_back is))
   optimal_fits (Some x) true false value is = none_fits n
   optimal_fits (Some x) false b value is = none_fits n
   optimal_fits None a b value is = none_fits n
 
   infeasible_fits : (b : Bool) → h.has_tree ≡ b → h.levels ≡ [] → ClaimFits n (option_map Infeasible (when b (cert h.rounds h.tree)))
-  infeasible_fits true is none =
-      let few = f.few in let up = some is in let here = ap length none in let own = ap length (append-nil h.tree) in
+  infeasible_fits true is flat =
+      let few = f.few in let up = some is in let here = ap length flat in let own = ap length (append-nil h.tree) in
       (omega (arith, few, own), All-cons (HasFew n) (cert h.rounds h.tree) [] f.rounds (All-nil (HasFew n)), record { some = omega (arith, up, here); rounds = f.columns; first = f.tree; levels = All-nil LevelComesBack })
-  infeasible_fits false is none = none_fits n
+  infeasible_fits false is flat = none_fits n
 
-  unbounded_fits : (x : Option (List Frac)) (a b : Bool) (r : Option (List Frac)) → h.has_value ≡ a → h.has_tree ≡ b → ClaimFits n (unbounded x (when a h.values) (cond b all []) r)
-  unbounded_fits (Some x) true true (Some r) value is = (all_few, all_rounds, (values value, may_have all (all_back is)))
+  unbounded_fits : (x : Option (List Frac)) (a b : Bool) (r : Option (List Frac)) → h.has_value ≡ a → h.has_tree ≡ b → ClaimFits n (unbounded x (when a h.values) (cond b (all_of h) []) r)
+  unbounded_fits (Some x) true true (Some r) value is = (all_few, all_rounds, (values value, may_have (all_of h) (all_back is)))
   unbounded_fits (Some x) true false (Some r) value is = (omega arith, All-nil (HasFew n), (values value, tt))
   unbounded_fits x a b r value is = none_fits n
 
@@ -251,7 +252,7 @@ pub record ReportFits (n : ℕ) (r : Report) : Type 0 where
   pub claim : ClaimFits n r.claim
 
 -- where the solution may claim that no point is feasible, and no item begins with the word of a level, there is one level
-abbrev IsNoted : State → Type 0
+abbrev pub IsNoted : State → Type 0
 IsNoted s = says_infeasible true s.claiming ≡ true → s.level ≡ None → s.held.levels ≡ []
 
 abbrev pub Sound : ℕ → State → Type 0
@@ -289,9 +290,6 @@ report_fits n s r f read some values is =
 report_more : (n m : ℕ) (r : Report) → n ≤ m → ReportFits n r → ReportFits m r
 report_more n m r less f = let few = f.claim.0 in record { job = f.job; message = f.message; claim = (omega (arith, few, less), All-weaker (HasFew n) (HasFew m) (λ (c : Cert) short. omega (arith, short, less)) (certs_in r.claim) f.claim.1, f.claim.2) }
 
-no_text : IsXmlText []
-no_text = record { characters = []; each = tt; encoded = refl }
-
 none_held : (n : ℕ) → HeldFits n nothing_held
 none_held n = record { few = omega arith; rounds = omega arith; levels = All-nil LevelComesBack; tree = All-nil NodeComesBack; columns = All-nil HaveColumns; causes = All-nil CauseComesBack }
 
@@ -317,10 +315,6 @@ led_sound n s z as' (led.To p) h f = subst (Sound n) (sym h) (begun_sound n s as
 led_sound n s z as' led.Over h f = subst (Sound n) (sym h) f
 led_sound n s z as' led.OtherRoot h f = absurd h
 
-kept_xml : (b : Bool) (t cs : List ℕ) → IsXmlText t → IsXmlText cs → IsXmlText (kept b t cs)
-kept_xml true t cs before more = text_append t cs before more
-kept_xml false t cs before more = before
-
 chars_sound : (n : ℕ) (s z : State) (cs : List ℕ) → AreTaken osrl s (map Char cs) z → IsXmlText cs → Sound n s → Sound n z
 chars_sound n s z cs taken xml f =
     subst (Sound n) (sym (chars_leave osrl (λ (t : List ℕ). record s { text = t }) (keeps s.depth s.place) (λ t c m takes. takes.1) s.text cs z taken)) (kept_xml (keeps s.depth s.place) s.text cs f.0 xml, f.1, f.2, f.3, f.4, f.5)
@@ -336,9 +330,10 @@ level_noted [] l h = absurd h
 level_noted (p ∷ ps) l h = (bytes_eq-Decides p (codes "level")).1 h.0
 
 first_none : (b : Bool) (old : Option ℕ) (n : ℕ) → first_level b old n ≡ None → (b ≡ false) × (old ≡ None)
-first_none true None n none = absurd (cc)
-first_none false None n none = (refl, refl)
-first_none b (Some m) n none = absurd (cc)
+first_none true None n is = absurd (let e : Some n ≡ None = is in cc)
+first_none false None n is = (refl, refl)
+first_none true (Some m) n is = absurd (let e : Some m ≡ None = is in cc)
+first_none false (Some m) n is = absurd (let e : Some m ≡ None = is in cc)
 
 both_so : (a b : Bool) → a ≡ true → a && b ≡ false → b ≡ true → ⊥
 both_so true true so not is = true≢false not
@@ -346,13 +341,13 @@ both_so true false so not is = false≢true is
 both_so false b so not is = false≢true so
 
 added_noted : (p : Part) (text : List ℕ) (may : Bool) (level : Option ℕ) (n : ℕ) (h k : Held) → AddsItem p text h k → (may ≡ true → level ≡ None → h.levels ≡ []) → may ≡ true → first_level (may && is_level p text) level n ≡ None → k.levels ≡ []
-added_noted parts.Tree text may level n h k (trees.Level l, is, e) noted so none = absurd (both_so may (is_level parts.Tree text) so (first_none (may && is_level parts.Tree text) level n none).0 (level_noted (pieces text) l is))
-added_noted parts.Tree text may level n h k (trees.Node m, is, e) noted so none = ap (λ (g : Held). g.levels) e ∙ noted so (first_none (may && is_level parts.Tree text) level n none).1
-added_noted parts.Point text may level n h k a noted so none = ap (λ (g : Held). g.levels) a.2 ∙ noted so (first_none (may && false) level n none).1
-added_noted parts.Value text may level n h k a noted so none = ap (λ (g : Held). g.levels) a.2 ∙ noted so (first_none (may && false) level n none).1
-added_noted parts.Ray text may level n h k a noted so none = ap (λ (g : Held). g.levels) a.2 ∙ noted so (first_none (may && false) level n none).1
-added_noted parts.Rounds text may level n h k a noted so none = ap (λ (g : Held). g.levels) a.2 ∙ noted so (first_none (may && false) level n none).1
-added_noted parts.Cause text may level n h k a noted so none = ap (λ (g : Held). g.levels) a.2 ∙ noted so (first_none (may && false) level n none).1
+added_noted parts.Tree text may level n h k (trees.Level l, is, e) before so empty = absurd (both_so may (is_level parts.Tree text) so (first_none (may && is_level parts.Tree text) level n empty).0 (level_noted (pieces text) l is))
+added_noted parts.Tree text may level n h k (trees.Node m, is, e) before so empty = ap (λ (g : Held). g.levels) e ∙ before so (first_none (may && is_level parts.Tree text) level n empty).1
+added_noted parts.Point text may level n h k a before so empty = ap (λ (g : Held). g.levels) a.2 ∙ before so (first_none (may && false) level n empty).1
+added_noted parts.Value text may level n h k a before so empty = ap (λ (g : Held). g.levels) a.2 ∙ before so (first_none (may && false) level n empty).1
+added_noted parts.Ray text may level n h k a before so empty = ap (λ (g : Held). g.levels) a.2 ∙ before so (first_none (may && false) level n empty).1
+added_noted parts.Rounds text may level n h k a before so empty = ap (λ (g : Held). g.levels) a.2 ∙ before so (first_none (may && false) level n empty).1
+added_noted parts.Cause text may level n h k a before so empty = ap (λ (g : Held). g.levels) a.2 ∙ before so (first_none (may && false) level n empty).1
 
 -- END TAGS: one node more at most, and what is reported has those before
 some_of : (n : ℕ) → ((0 < n → ⊥) → ⊥) → 0 < n

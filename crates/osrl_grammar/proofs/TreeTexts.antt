@@ -31,8 +31,8 @@ Adds type p [] h k = k ≡ h
 Adds type p (text ∷ more) h k = (m : Held) × IsItemRead p text h (Ok m) × IsSilent type p text × Adds type p more m k
 
 pub adds_both : (type : Option (List ℕ)) (p : Part) (xs ys : List (List ℕ)) (h m k : Held) → Adds type p xs h m → Adds type p ys m k → Adds type p (xs ++ ys) h k
-adds_both type p [] ys h m k first then = subst (λ (g : Held). Adds type p ys g k) first then
-adds_both type p (x ∷ xs) ys h m k (g, read, silent, rest) then = (g, read, silent, adds_both type p xs ys g m k rest then)
+adds_both type p [] ys h m k first second = subst (λ (g : Held). Adds type p ys g k) first second
+adds_both type p (x ∷ xs) ys h m k (g, read, silent, rest) second = (g, read, silent, adds_both type p xs ys g m k rest second)
 
 -- a node begins no level
 node_other : (n : Node) → bytes_eq (node_word (node_head n)) (codes "level") ≡ false

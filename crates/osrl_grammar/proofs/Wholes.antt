@@ -153,9 +153,6 @@ fits_signed (negsuc n) h = omega (arith, h)
 pub accepted : (b : Bool) (P : Type 0) → (IsTrue b ↔ P) → b ≡ true → P
 accepted b P iff e = iff.0 e
 
-pub refused : (b : Bool) (P : Type 0) → (IsTrue b ↔ P) → b ≡ false → P → ⊥
-refused b P iff e p = let h : b ≡ true = iff.1 p in cc
-
 -- a text that was cut isn't free of the byte
 pub was_cut : (byte : ℕ) (text front : List ℕ) (behind : Option (Bor (List ℕ))) (rest : Bor (List ℕ)) → behind ≡ Some rest → MatchOption behind (text ≡ front) (λ r. text ≡ front ++ byte ∷ r.now) → IsFree byte text → ⊥
 was_cut byte text front None rest e m free = let h : None ≡ Some rest = e in cc

@@ -1,5 +1,5 @@
 -- What a mark of a result document leaves where all its tests pass.
-use Rattle.std.specs.Prelude.{◌≡◌, ℕ, zero, suc, ◌+◌, ◌-◌, Bool, true, false, ◌||◌, Option, None, Some, List, [], ◌∷◌, ◌++◌}
+use Rattle.std.specs.Prelude.{◌≡◌, ℕ, ◌+◌, ◌-◌, Bool, true, false, ◌||◌, Option, None, Some, List, [], ◌∷◌, ◌++◌}
 use Rattle.tree_grammar.specs.Elements.{Attribute}
 use Rattle.decimal_text.specs.Space.{trimmed}
 use Rattle.osrl_grammar.specs.declared.elements.Place.{Place}
@@ -7,6 +7,7 @@ use Rattle.osrl_grammar.specs.declared.elements.Place.TheVariants.{Osrl, General
 use Rattle.tag_tests.specs.declared.places.Led.TheVariants.{To, Over, OtherRoot}
 use Rattle.tag_tests.specs.Places.{Kind, begins, text, ends, ends_over}
 use Rattle.tag_tests.specs.Characters.{heard}
+use Rattle.tag_tests.specs.Contents.{keeps_in}
 use Rattle.osrl_grammar.specs.declared.report.Report.{Report}
 use Rattle.osrl_grammar.specs.declared.held.Held.{Held}
 use Rattle.osrl_grammar.specs.declared.parts.Part.{Part}
@@ -56,8 +57,7 @@ is_text (Item p) = true
 is_text p = false
 
 abbrev pub keeps : ℕ → Place → Bool
-keeps zero p = is_text p
-keeps (suc d) p = false
+keeps d p = keeps_in is_text d p
 
 -- WHAT THE END TAG OF SUCH AN ELEMENT LEAVES; behind the root its report alone
 abbrev pub Ends : State → Place → State → Type 0

@@ -1,13 +1,14 @@
 -- THE TABLE of result documents (Optimization Services result language, in this project's profile): where elements stand that are read, the kind of each mark, the tests of each kind in their order, and how a test refuses.
 use Rattle.std.specs.Prelude.{ℕ, Option, None, Some, cond, bytes_eq, List, [], ◌∷◌, codes}
 use Rattle.tree_grammar.specs.Elements.{Attribute}
-use Rattle.doc_tree.specs.Marks.{Mark, Start, Char, Finish}
+use Rattle.doc_tree.specs.Marks.{Mark}
 use Rattle.document_tags.specs.Elements.{value_of}
 use Rattle.osrl_grammar.specs.declared.elements.Place.{Place}
 use Rattle.osrl_grammar.specs.declared.elements.Place.TheVariants.{Outside, Osrl, General, GeneralStatus, JobId, Message, Job, JobStatus, Optimization, Solution, SolutionStatus, Results, Result, Item}
 use Rattle.tag_tests.specs.declared.places.Led.{Led}
 use Rattle.tag_tests.specs.declared.places.Led.TheVariants.{To, Over, OtherRoot}
-use Rattle.tag_tests.specs.Places.{Child, child, among, led_from, Kind, begins, text, ends, end_kind}
+use Rattle.tag_tests.specs.Places.{Child, child, among, Kind, begins, ends}
+use Rattle.tag_tests.specs.Contents.{Content, root, reads, leads_by, kind_by}
 use Rattle.osrl_grammar.specs.declared.parts.Part.{Part}
 use Rattle.osrl_grammar.specs.declared.parts.Part.TheVariants.{Point, Value, Ray, Rounds, Tree, Cause}
 use Rattle.osrl_grammar.specs.declared.parts.BadItem.{BadItem}
@@ -20,28 +21,23 @@ use Rattle.osrl_grammar.specs.Standing.{State}
 use Rattle.osrl_grammar.specs.Saying.{bad_item}
 
 -- WHAT IS READ IN WHAT: the child elements of these names
-abbrev pub content : Place → List (Child Place)
-content Outside = child (codes "osrl") Osrl ∷ []
-content Osrl = child (codes "general") General ∷ child (codes "job") Job ∷ child (codes "optimization") Optimization ∷ []
-content General = child (codes "generalStatus") GeneralStatus ∷ child (codes "jobID") JobId ∷ child (codes "message") Message ∷ []
-content Job = child (codes "status") JobStatus ∷ []
-content Optimization = child (codes "solution") Solution ∷ []
-content Solution = child (codes "status") SolutionStatus ∷ child (codes "otherSolutionResults") Results ∷ []
-content (Result p) = child (codes "item") (Item p) ∷ []
-content p = []
+abbrev pub content : Place → Content Place
+content Outside = root (codes "osrl") Osrl
+content Osrl = reads (child (codes "general") General ∷ child (codes "job") Job ∷ child (codes "optimization") Optimization ∷ [])
+content General = reads (child (codes "generalStatus") GeneralStatus ∷ child (codes "jobID") JobId ∷ child (codes "message") Message ∷ [])
+content Job = reads (child (codes "status") JobStatus ∷ [])
+content Optimization = reads (child (codes "solution") Solution ∷ [])
+content Solution = reads (child (codes "status") SolutionStatus ∷ child (codes "otherSolutionResults") Results ∷ [])
+content (Result p) = reads (child (codes "item") (Item p) ∷ [])
+content p = reads []
 
 -- the results that are read, by what their attribute `name` says
 abbrev pub parts : List (Child Place)
 parts = child (part_name Point) (Result Point) ∷ child (part_name Value) (Result Value) ∷ child (part_name Ray) (Result Ray) ∷ child (part_name Rounds) (Result Rounds) ∷ child (part_name Tree) (Result Tree) ∷ child (part_name Cause) (Result Cause) ∷ []
 
--- all else is passed over; a root of another name is that of no result document
-abbrev pub otherwise : Place → Led Place
-otherwise Outside = OtherRoot
-otherwise p = Over
-
 -- where the start tag of an element of this name leads
 abbrev pub named_led : Place → List ℕ → Led Place
-named_led p name = among (λ q. To q) name (content p) (otherwise p)
+named_led p name = leads_by content p name
 
 abbrev pub part_led : List ℕ → Led Place
 part_led name = among (λ q. To q) name parts Over
@@ -77,9 +73,7 @@ around (Item p) = Result p
 
 -- the kind of a mark
 abbrev pub kind : State → Mark → Kind Place
-kind s (Start name as') = begins (led_from s.depth (leads s.place name as')) as'
-kind s (Char c) = text c
-kind s (Finish name) = end_kind s.depth s.place
+kind s m = kind_by leads s.depth s.place m
 
 pub data Test : Type 0 where
   other_root : Test

@@ -15,7 +15,7 @@ use document_tags::{close, leaf, open_with};
 use element_tree::TreeBuilder;
 use fraction::Frac;
 use os_io::{Memory, Text};
-use std::alloc::{AllocError, Global};
+use std::alloc::Global;
 
 /// Tells an item that holds a number.
 fn tell_fraction(alloc: Global, b: &mut TreeBuilder, value: Frac) -> Result<(), Memory>
@@ -119,10 +119,7 @@ fn tell_levels(alloc: Global, b: &mut TreeBuilder, later: &[Cert]) -> Result<(),
     ensures { OnOk result (Told b.old b.new (nodes_events (writing.item_nodes (writing.level_texts 2 later.now)))) }
 {
     for i in 0..later.len() {
-        let Some(level) = i.checked_add(2) else {
-            return Err(AllocError);
-        };
-        tell_level(alloc, b, level, later[i].nodes.as_slice())?;
+        tell_level(alloc, b, i + 2, later[i].nodes.as_slice())?;
     }
     Ok(())
 }
@@ -149,10 +146,10 @@ pub(crate) fn tell_certs(alloc: Global, b: &mut TreeBuilder, certs: &[Cert]) -> 
     requires { b.old.attributes ≡ [] }
     ensures { OnOk result (Told b.old b.new (λ k. nodes_events (writing.trees_parts certs.now) k)) }
 {
-    if certs.is_empty() {
-        return Ok(());
+    match certs.split_first() {
+        Some((first, later)) => tell_trees(alloc, b, first, later),
+        None => Ok(()),
     }
-    tell_trees(alloc, b, &certs[0], &certs[1..])
 }
 
 /// Tells why a search stopped.

@@ -15,7 +15,7 @@ ghost use Rattle.osrl_grammar.specs.Values.{IsMult, IsMultOf, IsOne, IsPlace, Be
 ghost use Rattle.osrl_grammar.specs.Stepping.{ReadMults};
 
 use crate::numbers::{read_exact, read_index, read_turn, read_whole};
-use crate::parts::{CauseWord, Misread, NodeWord, TreeItem};
+use crate::parts::{CauseWord, Misread, NodeWord, Part, TreeItem};
 use crate::pieces::{first_piece, one_piece, parted, three_pieces, two_pieces};
 use crate::words::with_word;
 use certificate::{Cause, Mult, Mults, Node, Place, Step};
@@ -217,11 +217,21 @@ pub(crate) fn read_tree_item(
 }
 
 /// Whether an item begins with the word of a level.
-pub(crate) fn begins_level(text: &[u8]) -> bool
+fn begins_level(text: &[u8]) -> bool
     ensures { result ≡ items.begins_level (pieces text.now) }
 {
     let (word, _) = first_piece(text);
     word == b"level".as_slice()
+}
+
+/// Whether an item of a part is one of a tree that begins so.
+pub(crate) fn is_level(part: Part, text: &[u8]) -> bool
+    ensures { result ≡ items.is_level part text.now }
+{
+    match part {
+        Part::Tree => begins_level(text),
+        _ => false,
+    }
 }
 
 /// The text in the place of a level's number, if an item has the shape of one that begins a level.

@@ -14,8 +14,9 @@ use document_tags::{documents_are_of_characters, texts_part_at_ascii};
 
 /// Law: the text of a report that can come back (`specs/Back.antt`) is the document of that report. The text isn't to be
 /// longer than a document may be; the job's name and the message, where there are such, are to be characters of XML, one at
-/// least, without white space round them; a tree of cases is to have a node; and the numbers of what is claimed are to be of
-/// their types, a split's above the least of its type.
+/// least, without white space round them; a point is to have a value; the first tree of cases is to have a node, or levels
+/// behind it, and only it may have rounds; and the numbers of what is claimed are to be of their types, a split's above the
+/// least of its type.
 ///
 /// This is of the definitions alone: what [`decode`](crate::decode) answers is said by [`reports_are_read_back`]. In
 /// `osol_grammar` and `ospl_grammar` the law of this name is of what `decode` answers.

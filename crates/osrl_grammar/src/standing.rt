@@ -1,6 +1,6 @@
 //! Reads a result document mark by mark.
 
-ghost use Rattle.std.specs.Prelude.{◌≡◌, ◌↔◌, ◌+◌, ◌<◌, ◌^◌, ◌||◌, IsTrue, IsFalse, IfOk, OnOk, None, Some, List, ℕ, cond, bytes_eq, codes, option_map, option_and_then};
+ghost use Rattle.std.specs.Prelude.{◌≡◌, ◌↔◌, ◌+◌, ◌<◌, ◌^◌, ◌&&◌, ◌||◌, true, IsTrue, IsFalse, IfOk, OnOk, None, Some, List, ℕ, cond, bytes_eq, codes, option_map, option_and_then};
 ghost use Rattle.doc_tree.specs.Marks.{Start, Finish};
 ghost use Rattle.tag_tests.specs.Readers.{StepsBy};
 ghost use Rattle.osrl_grammar.specs.declared.elements.Place.TheVariants as places;
@@ -9,15 +9,17 @@ ghost use Rattle.osrl_grammar.specs.Saying as saying;
 ghost use Rattle.osrl_grammar.specs.Table as table;
 ghost use Rattle.osrl_grammar.specs.Words.{worded, status_text, all_statuses, claiming_text, all_claimings};
 ghost use Rattle.osrl_grammar.specs.declared.parts.Part.{Part};
-ghost use Rattle.osrl_grammar.specs.Adding.{noted, AfterItem};
+ghost use Rattle.osrl_grammar.specs.Items as items;
+ghost use Rattle.osrl_grammar.specs.Adding as adding;
+ghost use Rattle.osrl_grammar.specs.Adding.{noted, with_read, AfterItem};
 ghost use Rattle.osrl_grammar.specs.Leaving as leaving;
 ghost use Rattle.osrl_grammar.specs.Marked.{osrl};
-ghost use Rattle.osrl_grammar.specs.Stepping.{EndsAt, AreCounted};
+ghost use Rattle.osrl_grammar.specs.Stepping.{as_held, EndsAt, AreCounted};
 
 use crate::elements::{Place, leads, outer};
 use crate::fault::OsrlFault;
 use crate::held::Held;
-use crate::item_reading::begins_level;
+use crate::item_reading::is_level;
 use crate::parts::{BadItem, Claiming, Misread, Part};
 use crate::report::{JobStatus, Report};
 use crate::words::with_word;
@@ -166,6 +168,40 @@ fn says_infeasible(unknown: bool, word: &Option<Text>) -> bool
     match word {
         Some(word) => word.as_slice() == b"infeasible".as_slice(),
         None => unknown,
+    }
+}
+
+/// Whether an item begins with the word of a level, where its solution may claim that no point is feasible.
+fn may_begin(claiming: &Option<Text>, part: Part, text: &[u8]) -> bool
+    ensures { result ≡ saying.says_infeasible true claiming.now && items.is_level part text.now }
+{
+    if says_infeasible(true, claiming) {
+        is_level(part, text)
+    } else {
+        false
+    }
+}
+
+/// The number of the first such item: this one's, where it is one and there was none.
+fn first_level(begins: bool, level: Option<u64>, number: u64) -> Option<u64>
+    ensures { result ≡ adding.first_level begins level number }
+{
+    match level {
+        None if begins => Some(number),
+        _ => level,
+    }
+}
+
+/// The item of this number, as one that isn't of its shape; or the other, where there is no number.
+fn level_or(level: Option<u64>, bad: Option<BadItem>) -> Option<BadItem>
+    ensures { result ≡ saying.level_or level bad }
+{
+    match level {
+        Some(number) => Some(BadItem {
+            misread: Misread::NoShape,
+            number,
+        }),
+        None => bad,
     }
 }
 
@@ -344,16 +380,24 @@ impl Standing {
     fn note_level(&mut self, part: Part)
         ensures { self.new ≡ noted self.old part }
     {
-        if self.level.is_none()
-            && says_infeasible(true, &self.claiming)
-            && part == Part::Tree
-            && begins_level(self.text.as_slice())
-        {
-            self.level = Some(self.count);
+        let begins = may_begin(&self.claiming, part, self.text.as_slice());
+        self.level = first_level(begins, self.level, self.count);
+    }
+
+    /// Keeps what was read of an item, or that it isn't read; then nothing is held any more.
+    fn keep_read(&mut self, read: Result<(), Misread>)
+        ensures { self.new ≡ with_read self.old (as_held self.old.held read) }
+    {
+        if let Err(misread) = read {
+            self.bad = Some(BadItem {
+                misread,
+                number: self.count,
+            });
+            self.held = Held::new(self.alloc);
         }
     }
 
-    /// Reads an item, where all before it were read, or keeps in mind that it isn't read; then nothing is held any more.
+    /// Reads an item, where all before it were read.
     fn read_item(&mut self, part: Part) -> Result<(), AllocError>
         ensures { OnOk result (AfterItem self.old.bad self.old part self.new) }
     {
@@ -362,13 +406,7 @@ impl Standing {
         }
         self.note_level(part);
         let read = self.held.add(self.alloc, part, self.text.as_slice())?;
-        if let Err(misread) = read {
-            self.bad = Some(BadItem {
-                misread,
-                number: self.count,
-            });
-            self.held = Held::new(self.alloc);
-        }
+        self.keep_read(read);
         Ok(())
     }
 
@@ -386,13 +424,10 @@ impl Standing {
     fn bad_item(&self) -> Option<BadItem>
         ensures { result ≡ saying.bad_item self.now }
     {
-        match self.level {
-            Some(number) if says_infeasible(false, &self.claiming) => Some(BadItem {
-                misread: Misread::NoShape,
-                number,
-            }),
-            _ => self.bad,
+        if !says_infeasible(false, &self.claiming) {
+            return self.bad;
         }
+        level_or(self.level, self.bad)
     }
 
     /// Whether at most one solution was there, and each part at most once and with as many items as it may have.

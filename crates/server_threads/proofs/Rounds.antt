@@ -170,11 +170,11 @@ back_more (Some a) None c xs x p q = absurd p
 back_more (Some a) (Some b) None xs x p q = absurd q
 back_more (Some a) (Some b) (Some c) xs x p q = q ∙ ap (λ l. l ++ x ∷ []) p ∙ append_assoc a xs (x ∷ [])
 
-came_none : (a : Option (List Tells)) → Came a a []
+pub came_none : (a : Option (List Tells)) → Came a a []
 came_none None = tt
 came_none (Some a) = refl
 
-back_none : (a : Option (List Tells)) → GivenBack a a []
+pub back_none : (a : Option (List Tells)) → GivenBack a a []
 back_none None = tt
 back_none (Some a) = sym (append-nil a)
 

@@ -1,7 +1,7 @@
 -- What a desk's history is behind the serving of links.
 use mathlib.Core.Option.{some, some-injective, some-ne-none}
 use lib.ListN.{get_elem?}
-use Rattle.std.proofs.Common.{◌≡◌, ◌≢◌, ℕ, zero, suc, ◌+◌, ◌<◌, eqb, eq-eqb, eqb-true, Bool, true, false, length, List, [], ◌∷◌, ◌++◌, map, Option, None, Some, Result, refl, sym, ◌∙◌, ap, subst, inl, inr, ⊎_elim, append-nil, arith}
+use Rattle.std.proofs.Common.{◌≡◌, ◌≢◌, ℕ, zero, suc, ◌+◌, ◌<◌, eqb, eq-eqb, eqb-true, Bool, true, false, length, List, [], ◌∷◌, ◌++◌, map, Option, None, Some, Result, refl, sym, ◌∙◌, ap, subst, inl, inr, ⊎_elim, arith}
 use Rattle.std.specs.Prelude.{◌⊎◌, All, IsPermutation}
 use Rattle.std.proofs.lemmas.List.Elements.{All-nil, All-cons, All-append, All-head, All-tail, All-weaker}
 use Rattle.std.proofs.lemmas.List.Sorted.{IsPermutation-refl, IsPermutation-sym, IsPermutation-map, IsPermutation-append_left, All-permutation}
@@ -27,6 +27,7 @@ use Rattle.job_table.proofs.Histories.{leads_split}
 use Rattle.workers.specs.Shifts.{WorksThrough}
 use Rattle.workers.specs.Bells.{Untold}
 use Rattle.workers.proofs.Shifts.{shift_leaves_none}
+use Rattle.server_threads.proofs.Rounds.{came_none, back_none}
 use Rattle.server_threads.specs.declared.means.ServeFault.{ServeFault}
 use Rattle.server_threads.specs.Talks.{LinkTalk, Shift, talk_met, shift_met, Came, GivenBack, AllTalked, IsShift, AllWorked}
 use Rattle.server_threads.specs.Serving as threads
@@ -228,14 +229,6 @@ no_history first servers = record {
   none_waits = refl;
 }
 
-none_come : (links : Option (List Tells)) → Came links links []
-none_come None = tt
-none_come (Some links) = refl
-
-none_back : (links : Option (List Tells)) → GivenBack links links []
-none_back None = tt
-none_back (Some links) = sym (append-nil links)
-
 -- nothing came and nothing was given back
 pub hosts_none : (E : List LinkTalk → List Entry → Type 0) (setup : Setup) (old new : NetTells) → SameLinks old new → E [] [] → Hosts E setup old new
 hosts_none E setup old new same ends = record {
@@ -246,8 +239,8 @@ hosts_none E setup old new same ends = record {
   log = [];
   all_back = IsPermutation-refl [];
   few = omega arith;
-  came = subst (λ (l : Option (List Tells)). Came old.coming l []) (sym same.coming) (none_come old.coming);
-  back = subst (λ (l : Option (List Tells)). GivenBack old.given_back l []) (sym same.given_back) (none_back old.given_back);
+  came = subst (λ (l : Option (List Tells)). Came old.coming l []) (sym same.coming) (came_none old.coming);
+  back = subst (λ (l : Option (List Tells)). GivenBack old.given_back l []) (sym same.given_back) (back_none old.given_back);
   history = no_history setup.first setup.limits.servers;
   ends = ends;
 }

@@ -7,7 +7,7 @@ use Rattle.bases.specs.Pivot.{exchanged}
 use Rattle.bases.proofs.Pivots.{exchanged_own, exchanged_left, exchanged_other}
 use Rattle.simplex_rules.specs.declared.columns.Status.{Status}
 use Rattle.simplex_rules.specs.declared.columns.Status.TheVariants.{Basic}
-use Rattle.simplex_rules.specs.Statuses.{is_basic, status_at, basic_in}
+use Rattle.simplex_rules.specs.Statuses.{is_basic, status_at}
 use Rattle.simplex_rules.specs.Turns.{pivoted}
 use Rattle.simplex_rules.specs.Ends.{Terms, Clock, Stopped}
 use Rattle.simplex_rules.specs.Runs.{To, Out, PassesTurn, is_checked}

@@ -61,7 +61,12 @@ fn begin<L: Ledger>(
     set_first(ends, cuts.len(), statuses);
     let own = instance.first_goal();
     let costs = own.costs.as_slice();
-    dict.load(instance.entries(), costs, factor(zero_goal, own.sense), steps);
+    dict.load(
+        instance.entries(),
+        costs,
+        factor(zero_goal, own.sense),
+        steps,
+    );
     None
 }
 

@@ -3,6 +3,8 @@ use Rattle.std.proofs.Common.{◌≡◌, ◌≢◌, ◌∙◌, inl, inr, ℕ, Op
 use Rattle.std.specs.Prelude.{IfOk, IfErr, IsSome, IsSomeAnd}
 use Rattle.tree_grammar.specs.Elements.{Element}
 use Rattle.document_tags.proofs.OneDocument.{document_once, documents_apart}
+use Rattle.document_tags.proofs.SomeAnd.{some_once, some_apart}
+use Rattle.document_tags.proofs.UnlessMemory.{answered}
 use Rattle.six_calls.specs.declared.call.CallKind.{CallKind}
 use Rattle.six_calls.specs.declared.part.Part as given
 use Rattle.six_calls.specs.declared.part.Part.TheVariants.{Osil, Osol, Ospl}
@@ -39,12 +41,8 @@ call_once e c d a b =
     let parts : c.parts ≡ d.parts = parts_once d.kind e c.parts d.parts (subst (λ (k : CallKind). AreParts k e c.parts) kind a.are) b.are in
     λ i. record { kind = kind i; parts = parts i }
 
-once_in : (o : Option Element) (c d : SoapCall) → IsSomeAnd o (λ e. IsCall e c) → IsSomeAnd o (λ e. IsCall e d) → c ≡ d
-once_in None c d a b = absurd a
-once_in (Some e) c d a b = call_once e c d a b
-
 pub call_text_once : (bytes : List ℕ) (c d : SoapCall) → IsCallText bytes c → IsCallText bytes d → c ≡ d
-call_text_once bytes c d a b = document_once IsCallIn (λ root x y. once_in (held root) x y) bytes c d a b
+call_text_once bytes c d a b = document_once IsCallIn (λ root. some_once IsCall call_once (held root)) bytes c d a b
 
 -- a part that is refused isn't read
 unread : (o : Option (List ℕ)) → IsSome o → o ≡ None → ⊥
@@ -76,10 +74,6 @@ element_refused_once e (Part p) Memory a b = absurd b
 element_refused_once e (Part p) (Call m) a b = absurd (b.0 a.0 a.1)
 element_refused_once e (Part p) (Part q) a b = ap (λ (x : given.Part). Part x) (parts_refused_once e p q a b)
 
-refused_in : (o : Option Element) (f g : SoapFault) → IsSomeAnd o (λ e. IsElementRefused e f) → IsSomeAnd o (λ e. IsElementRefused e g) → f ≡ g
-refused_in None f g a b = absurd a
-refused_in (Some e) f g a b = element_refused_once e f g a b
-
 not_in : (o : Option Element) (P : Element → Type 0) → o ≡ None → IsSomeAnd o P → ⊥
 not_in None P none h = h
 not_in (Some e) P none h = cc
@@ -88,7 +82,7 @@ refused_once : (root : Element) (f g : SoapFault) → IsRefused root f → IsRef
 refused_once root f g (inl a) (inl b) = a.0 ∙ sym b.0
 refused_once root f g (inl a) (inr b) = absurd (not_in (held root) (λ e. IsElementRefused e g) a.1 b)
 refused_once root f g (inr a) (inl b) = absurd (not_in (held root) (λ e. IsElementRefused e f) b.1 a)
-refused_once root f g (inr a) (inr b) = refused_in (held root) f g a b
+refused_once root f g (inr a) (inr b) = some_once IsElementRefused element_refused_once (held root) f g a b
 
 pub refusal_once : (bytes : List ℕ) (f g : SoapFault) → f ≢ Memory → g ≢ Memory → CallFails bytes f → CallFails bytes g → f ≡ g
 refusal_once bytes f g other another (inl h) k = absurd (other h)
@@ -110,13 +104,9 @@ element_apart e c Memory is h = h
 element_apart e c (Call n) is h = h.0 c.kind is.named
 element_apart e c (Part p) is (k, named, first) = first_apart k e p c.parts (subst (λ (i : CallKind). AreParts i e c.parts) (kinds_are e c.kind k is.named named) is.are) first
 
-apart_in : (o : Option Element) (c : SoapCall) (f : SoapFault) → IsSomeAnd o (λ e. IsCall e c) → IsSomeAnd o (λ e. IsElementRefused e f) → ⊥
-apart_in None c f is h = is
-apart_in (Some e) c f is h = element_apart e c f is h
-
 root_apart : (root : Element) (c : SoapCall) (f : SoapFault) → IsCallIn root c → IsRefused root f → ⊥
 root_apart root c f is (inl h) = not_in (held root) (λ e. IsCall e c) h.1 is
-root_apart root c f is (inr h) = apart_in (held root) c f is h
+root_apart root c f is (inr h) = some_apart IsCall IsElementRefused element_apart (held root) c f is h
 
 pub refusal_apart : (bytes : List ℕ) (c : SoapCall) (f : SoapFault) → IsCallText bytes c → CallFails bytes f → f ≡ Memory
 refusal_apart bytes c f is (inl h) = h
@@ -125,5 +115,4 @@ refusal_apart bytes c f is (inr (inr h)) = absurd (documents_apart IsCallIn IsRe
 
 -- bytes that are a call are answered by it
 pub call_answers : (bytes : List ℕ) (c : SoapCall) (r : Result SoapCall SoapFault) → IsCallText bytes c → IfOk r (IsCallText bytes) → IfErr r (CallFails bytes) → r ≢ Err Memory → r ≡ Ok c
-call_answers bytes c (Ok d) is ok err other = ap (λ (x : SoapCall). Ok x) (call_text_once bytes d c ok is)
-call_answers bytes c (Err f) is ok err other = absurd (other (ap (λ (x : SoapFault). Err x) (refusal_apart bytes c f is err)))
+call_answers bytes c r is = answered Memory (IsCallText bytes) (CallFails bytes) (call_text_once bytes) (λ f. refusal_apart bytes c f is) c r is

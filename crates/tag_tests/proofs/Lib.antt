@@ -5,3 +5,4 @@ pub mod Fields
 pub mod Readers
 pub mod Characters
 pub mod EndKinds
+pub mod KeptTexts

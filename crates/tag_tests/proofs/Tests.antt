@@ -3,6 +3,7 @@ use Rattle.std.proofs.Common.{◌≡◌, ◌∙◌, inl, inr, ℕ, zero, suc, �
 use Rattle.std.specs.Prelude.{Contains, Result, Ok, Err, Bool, true, false, ◌&&◌, map}
 use Rattle.std.proofs.lemmas.Bool.Decides.{nat_tests}
 use lib.Dec.{leb}
+use Rattle.element_tree.proofs.XmlTexts.{and_split}
 use Rattle.tag_tests.specs.Tests.{AllPass, FirstFails, SomeFails, FromHere, InOrder, Answers}
 
 pub not_pass : {C R : Type 0} (Fails : C → Type 0) (told : C → R) (cs : List C) (r : R) → AllPass Fails cs → FirstFails Fails told cs r → ⊥
@@ -87,21 +88,17 @@ abbrev pub stand_in_order : List ℕ → Bool
 stand_in_order [] = true
 stand_in_order (n ∷ ns) = stand_from n ns && stand_in_order ns
 
-both_true : (a b : Bool) → a && b ≡ true → (a ≡ true) × (b ≡ true)
-both_true true b h = (refl, h)
-both_true false b h = absurd (cc)
-
 low_true : (n m : ℕ) → leb n m ≡ true → n ≤ m
 low_true n m h = grind (arith, nat_tests)
 
 from_tested : {C : Type 0} (number : C → ℕ) (n : ℕ) (cs : List C) → stand_from n (map number cs) ≡ true → FromHere number n cs
 from_tested number n [] h = tt
 from_tested number n (c ∷ cs) h =
-    let both = both_true (leb n (number c)) (stand_from n (map number cs)) h in
+    let both = and_split (leb n (number c)) (stand_from n (map number cs)) h in
     (low_true n (number c) both.0, from_tested number n cs both.1)
 
 pub order_tested : {C : Type 0} (number : C → ℕ) (cs : List C) → stand_in_order (map number cs) ≡ true → InOrder number cs
 order_tested number [] h = tt
 order_tested number (c ∷ cs) h =
-    let both = both_true (stand_from (number c) (map number cs)) (stand_in_order (map number cs)) h in
+    let both = and_split (stand_from (number c) (map number cs)) (stand_in_order (map number cs)) h in
     (from_tested number (number c) cs both.0, order_tested number cs both.1)

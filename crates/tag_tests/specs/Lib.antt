@@ -7,3 +7,4 @@ pub mod Heard
 pub mod Kinds
 pub mod Characters
 pub mod Places
+pub mod Contents

@@ -5,8 +5,8 @@
 //! it and on the state that the marks before it leave. `Forms` defines this for whatever marks, states and tests there are;
 //! where marks have kinds, and each kind its tests, `Kinds` makes such a form of them. `Firsts` says the same in other words,
 //! where the tests stand in the order of their refusals: of the first mark at which a test fails, the least refusal. `Places`
-//! says what may stand in what, and which kinds of marks there are where elements of other names are passed over. `Fields` is
-//! of numbers that are read together at one tag.
+//! says which kinds of marks there are where elements of other names are passed over, and `Contents` of which a mark is, by
+//! what may stand in what. `Fields` is of numbers that are read together at one tag.
 //!
 //! [`both`] joins what was read of two numbers, each of which may be [`Unread`], and [`value`] finds an attribute. Whoever says
 //! of each mark that it is taken, or by a [`Stop`] why it isn't, is a [`MarkReader`]: a [`Decoder`] has it read a document that

@@ -70,7 +70,7 @@ returns-in-Err-clause-answer g c =
       o,
       c.claim_of.ensures,
       subst (λ (b : Bool). g.W.Watch.came a.watch.now c.step.new.watch (answers (n + k) b)) is
-      (subst (g.W.Watch.came a.watch.now c.step.new.watch) (answers_more n k b) (g.met.W.Watch.joined a.watch.now l.watch c.step.new.watch (went_on n) (answers k b) came came')),
+          (subst (g.W.Watch.came a.watch.now c.step.new.watch) (answers_more n k b) (g.met.W.Watch.joined a.watch.now l.watch c.step.new.watch (went_on n) (answers k b) came came')),
       λ stop h.
           let t = terms a.limits stop in
           let s : AgreesWith stop 0 (n + k) b = subst (AgreesWith stop 0 (n + k)) (sym is) h in

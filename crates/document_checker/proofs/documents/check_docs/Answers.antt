@@ -24,4 +24,4 @@ returns-clause-err c =
     (λ r refuses. report_refused c.in_ok-instance.ensures.ok c.in_ok-report.ensures.ok refuses)
 
 pub check_report-requires : goal.check_report-requires
-check_report-requires c = λ claim is. (c.read_claims_fit.ensures c.args.osrl.now c.in_ok-report.report claim c.in_ok-report.ensures.ok is).1
+check_report-requires c = λ claim is. (c.read_claims_fit.ensures.nodes c.args.osrl.now c.in_ok-report.report claim c.in_ok-report.ensures.ok is).1

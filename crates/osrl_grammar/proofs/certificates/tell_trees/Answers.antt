@@ -13,4 +13,4 @@ returns c =
     let name = codes "otherSolutionResult" in
     ok_told_as c.close.result _ _ _ _
     (λ k. ap (λ (es : List Event). nodes_events (rounds_part rs none) (Open name (only (codes "name") (part_name Tree)) ∷ es)) (items_both xs ys (Close name ∷ k)) ∙ rounds_then rs (certificate_part Tree (xs ++ ys) none) k)
-    (ends_told c.close.result _ _ _ _ _ (told_then _ _ _ _ _ (told_then _ _ _ _ _ (told_then _ _ _ _ _ c.in_ok-tell_rounds.ensures c.in_ok-open_part.ensures) c.in_ok-tell_nodes.ensures) c.in_ok-tell_levels.ensures) c.close.ensures)
+    (ends_told c.close.result _ _ _ _ _ (told_then _ _ _ _ _ (told_then _ _ _ _ _ (told_then _ _ _ _ _ (rw c.as_slice.ensures at c.in_ok-tell_rounds.ensures) c.in_ok-open_part.ensures) (rw c.as_slice-2.ensures at c.in_ok-tell_nodes.ensures)) c.in_ok-tell_levels.ensures) c.close.ensures)

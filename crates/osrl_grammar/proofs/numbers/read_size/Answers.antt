@@ -1,5 +1,6 @@
 use Rattle.osrl_grammar.proofs.Names.{◌≡◌, ◌∙◌, ap, ℤ, pos, sym, subst, unsigned_abs, to_z-of_z, whole, IsFree, Index, Turn, WritesNumber}
-use Rattle.osrl_grammar.proofs.Wholes.{not_size, size_read, size_unread, index_sizes, turn_sizes, fits_signed, accepted, refused}
+use Rattle.osrl_grammar.proofs.Wholes.{not_size, size_read, size_unread, index_sizes, turn_sizes, fits_signed, accepted}
+use Rattle.document_tags.proofs.OneAnswer.{refused}
 use Rattle.osrl_grammar.proofs.numbers.read_size.Goals as goal
 
 pub returns-then-not-is_free-clause-index : goal.returns-then-not-is_free-clause-index

@@ -1,6 +1,7 @@
 use Rattle.osrl_grammar.proofs.Names.{w128, ◌≡◌, ◌∙◌, ap, ℤ, sym, subst, to_z-of_z, whole, IsFree, Whole, IsNumberText}
 use mir.Val.{of_z, to_z}
-use Rattle.osrl_grammar.proofs.Wholes.{not_whole, whole_read, whole_unread, fits_signed, accepted, refused}
+use Rattle.osrl_grammar.proofs.Wholes.{not_whole, whole_read, whole_unread, fits_signed, accepted}
+use Rattle.document_tags.proofs.OneAnswer.{refused}
 use Rattle.osrl_grammar.proofs.numbers.read_whole.Goals as goal
 
 pub returns-then-not-is_free-clause-err : goal.returns-then-not-is_free-clause-err

@@ -1,4 +1,4 @@
-use Rattle.osrl_grammar.proofs.RoundTrips.{read_claim_fits, read_rounds_fit}
+use Rattle.osrl_grammar.proofs.ReadClaims.{read_claim_fits, read_rounds_fit}
 use Rattle.osrl_grammar.proofs.reading_laws.read_claims_fit.Goals as goal
 
 pub returns-clause-nodes : goal.returns-clause-nodes

@@ -1,9 +1,7 @@
 use Rattle.std.proofs.Common.{w8, to_z, of_z, ◌∙◌, ap, subst, arith}
 use Rattle.evidence.specs.Instance as Of
-use Rattle.instance.specs.declared.parts.Goal.{Goal}
 use Rattle.bases.specs.Dictionary.{Entries}
 use Rattle.dictionary.specs.Dict.{Holds}
-use Rattle.simplex.specs.Loads.{factor_of}
 use Rattle.simplex.specs.Cuts.{range_at, IsCutBy, AreEndsOf}
 use Rattle.simplex.proofs.CutPrograms.{cut_ends, rows_loaded, factor_fits}
 use Rattle.simplex.proofs.running.begin.Goals as goal

@@ -1,11 +1,8 @@
 use Rattle.std.proofs.Common.{◌≡◌, ℕ, ◌+◌, Bool, List, length, refl, sym, ◌∙◌, ap, ap₂, subst, arith}
-use Rattle.fraction.specs.Frac.{ratio}
 use Rattle.evidence.specs.Instance as Of
 use Rattle.evidence.specs.Instance.{minimising_by}
-use Rattle.instance.specs.declared.parts.Goal.{Goal}
 use Rattle.instance.specs.declared.parts.Var.{Var}
 use Rattle.instance.specs.declared.parts.Row.{Row}
-use Rattle.instance.specs.Program.{sense}
 use Rattle.bases.specs.Program.{goal_column}
 use Rattle.simplex_rules.specs.Reports.{collected}
 use Rattle.simplex_rules.specs.Looks.{answers, AgreesWith, looks_after}
@@ -13,7 +10,6 @@ use Rattle.dictionary.specs.Dict.{entry_of}
 use Rattle.simplex.specs.Tables.{values_in, HasSizeOf}
 use Rattle.simplex.specs.Answers.{listed, ended, was_stopped}
 use Rattle.simplex.specs.Finishes.{is_stop, end_at}
-use Rattle.simplex.specs.Loads.{IsStart}
 use Rattle.simplex.proofs.CutPrograms.{start_cut, rows_count}
 use Rattle.simplex.proofs.Finishes.{finish_run}
 use Rattle.simplex.proofs.KnownValues.{none_known}
