@@ -1,5 +1,5 @@
 -- What a claim asks of its nodes, and the room for a check.
-use Rattle.std.specs.Prelude.{ℕ, ◌+◌, ◌<◌, ◌≤◌, ◌^◌, Option, None, Some, length}
+use Rattle.std.specs.Prelude.{ℕ, ◌+◌, ◌≤◌, Option, None, Some, length}
 use Rattle.std.specs.List.{All}
 use Rattle.rational.specs.Ratio.{Ratio}
 use Rattle.fraction.specs.Frac.{ratio}

@@ -1,5 +1,5 @@
 -- What a search has shown is refused for width alone.
-use Rattle.std.proofs.Common.{◌≡◌, ◌∙◌, ℕ, zero, suc, ◌+◌, ◌<◌, ◌≤◌, ◌^◌, inl, inr, false, Bool, None, List, [], ◌∷◌, drop, length, map, arith, refl, ap, sym, subst}
+use Rattle.std.proofs.Common.{◌≡◌, ◌∙◌, ℕ, zero, suc, ◌+◌, ◌<◌, ◌≤◌, ◌^◌, inl, inr, false, Bool, None, List, [], ◌∷◌, drop, length, map, get_or, arith, refl, ap, sym, subst}
 use Rattle.std.specs.List.{All}
 use Rattle.std.proofs.lemmas.List.{length-map}
 use Rattle.std.proofs.lemmas.List.Elements.{All-cons, All-nil, All-map}
@@ -17,6 +17,7 @@ use Rattle.evidence.specs.Claim as Says
 use Rattle.evidence.specs.Claim.{Accepts}
 use Rattle.instance.specs.Parts.{Parts, IsValid}
 use Rattle.instance.specs.declared.parts.Goal.{Goal}
+use Rattle.instance.specs.declared.parts.Var.{Var}
 use Rattle.instance.specs.Program.{program, problem, variable, row, goal, range, further_by}
 use Rattle.certificate.specs.Meanings as Means
 use Rattle.certificate.specs.declared.causes.Cause.{Cause}
@@ -43,8 +44,11 @@ none_later (g ∷ h ∷ gs) e = absurd (omega arith)
 pub alone_is : (p : Parts) → IsSearched p → problem p ≡ alone (program p)
 alone_is p s = ap (λ (gs : List Of.Goal). let P : Problem = record { program = program p; later = gs } in P) (none_later p.goals s.goals)
 
+without : (v : Var) → v.zero ≡ false → (variable v).unless_zero ≡ None
+without v e = ap (λ (b : Bool). further_by b (range v.lb v.ub)) e
+
 pub one_range : (p : Parts) → IsSearched p → HaveOneRange (program p)
-one_range p s = All-map (λ (v : Of.Variable). v.unless_zero ≡ None) variable p.vars (λ k d h. ap (λ (b : Bool). further_by b _) (s.ranges k d h))
+one_range p s = All-map (λ (v : Of.Variable). v.unless_zero ≡ None) variable p.vars (λ k d h. without (get_or p.vars k d) (s.ranges k d h))
 
 -- ---- points and certificates of one goal
 
@@ -75,8 +79,8 @@ point_round P x vs n (inr (inr (inr (f, inl (l, e))))) = cc
 point_round P x vs n (inr (inr (inr (f, inr (l, first))))) = value_round P x vs first.goal n first.why
 
 node_of : (r : Refused) → IsForWidth r → ((n : ℕ) → r ≡ WideRound n → ⊥) → (n : ℕ) × IsWideAt r n
-node_of r (inl (n, e)) no = absurd (no n e)
-node_of r (inr (level, n, e)) no = (n, level, e)
+node_of r (inl (n, e)) apart = absurd (apart n e)
+node_of r (inr (level, n, e)) apart = (n, (level, e))
 
 module _ (I : Instance) (n : ℕ) where
   best_round : (v : Ratio) (ns : List Node) → CertificatesRefuse Best (alone I) (v ∷ []) (only ns ∷ []) (WideRound n) → ⊥

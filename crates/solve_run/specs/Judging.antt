@@ -1,5 +1,5 @@
 -- What is checked of a search's claim before it is told, and what is left of a claim that is given up.
-use Rattle.std.specs.Prelude.{◌≡◌, ℕ, Option, None, Some, length}
+use Rattle.std.specs.Prelude.{◌≡◌, ℕ, false, Option, None, Some, length}
 use Rattle.std.specs.List.{All}
 use Rattle.evidence.specs.Claim.{Accepts}
 use Rattle.instance.specs.declared.parts.Var.{Var}

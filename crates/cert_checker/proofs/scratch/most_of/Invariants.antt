@@ -1,5 +1,4 @@
 use Rattle.std.proofs.Common.{◌<◌, ◌≤◌, ℕ, length, slice_index_or}
-use Rattle.std.specs.List.{All}
 use Rattle.certificate.specs.declared.nodes.Cert.{Cert}
 use Rattle.cert_checker.proofs.scratch.most_of.Given as goal
 
