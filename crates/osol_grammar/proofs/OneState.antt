@@ -1,5 +1,5 @@
 -- A mark that is taken leaves one state.
-use Rattle.std.proofs.Common.{◌≡◌, ◌∙◌, inl, inr, ℕ, Option, List, ap, sym, subst}
+use Rattle.std.proofs.Common.{◌≡◌, ◌∙◌, inl, inr, ℕ, List, ap, sym, subst}
 use Rattle.std.specs.Prelude.{codes}
 use Rattle.tree_grammar.specs.Elements.{Attribute}
 use Rattle.decimal_text.specs.Count.{IsCount}
