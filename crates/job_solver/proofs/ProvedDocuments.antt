@@ -2,7 +2,7 @@
 use Rattle.std.proofs.Common.{◌≡◌, ℕ, Bool, List, Some, sym, subst}
 use Rattle.evidence.specs.Claim.{IsTrueOf}
 use Rattle.instance.specs.Parts.{Parts}
-use Rattle.instance.specs.Program.{program}
+use Rattle.instance.specs.Program.{problem}
 use Rattle.certificate.specs.Meanings as Means
 use Rattle.certificate.specs.declared.claims.Claim.{Claim}
 use Rattle.osil_grammar.specs.Reading.{IsInstanceText}
@@ -26,7 +26,7 @@ Accepted =
 abbrev IsTrue : Type 0
 IsTrue =
     (osil osol : List ℕ) (asked : Bool) (p : Parts) (r : Report) (c : Claim) (k : Kind) → IsInstanceText osil p → AnswersJob osil osol asked r
-    → r.claim ≡ Some c → kind c ≡ Some k → IsTrueOf (program p) (Means.claim c)
+    → r.claim ≡ Some c → kind c ≡ Some k → IsTrueOf (problem p) (Means.claim c)
 
 proved_of : Accepted → IsTrue → (n : ℕ) (document : List ℕ) (before : List Entry) → CameRight Right n (Some document) before
     → IsProved n document before

@@ -2,7 +2,7 @@
 use Rattle.std.specs.Prelude.{◌≡◌, ℕ, Bool, true, List, ◌∷◌, ◌++◌, Some}
 use Rattle.evidence.specs.Claim.{IsTrueOf}
 use Rattle.instance.specs.Parts.{Parts}
-use Rattle.instance.specs.Program.{program}
+use Rattle.instance.specs.Program.{problem}
 use Rattle.certificate.specs.Meanings as Means
 use Rattle.certificate.specs.declared.claims.Claim.{Claim}
 use Rattle.osil_grammar.specs.Reading.{IsInstanceText}
@@ -35,7 +35,7 @@ pub record IsProved (n : ℕ) (document : List ℕ) (before : List Entry) : Type
   pub answers : AnswersJob osil osol asked report
   pub written : document ≡ report_text report
   pub accepted : (c : Claim) (k : Kind) → report.claim ≡ Some c → kind c ≡ Some k → IsAcceptedText osil document k
-  pub is_true : (p : Parts) (c : Claim) (k : Kind) → IsInstanceText osil p → report.claim ≡ Some c → kind c ≡ Some k → IsTrueOf (program p) (Means.claim c)
+  pub is_true : (p : Parts) (c : Claim) (k : Kind) → IsInstanceText osil p → report.claim ≡ Some c → kind c ≡ Some k → IsTrueOf (problem p) (Means.claim c)
 
 -- each document that is shown is such a one, by what stands before
 abbrev pub AreProved : List Entry → Type 0

@@ -83,7 +83,7 @@ with_limit o limit k back is few =
 -- ---- claims
 
 -- a search was given up for its turns, if it was given up
-turned : Option Cause → Bool
+abbrev turned : Option Cause → Bool
 turned None = false
 turned (Some k) = is_turn_limit k
 

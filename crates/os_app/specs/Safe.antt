@@ -45,10 +45,10 @@ Takes true osil osol taken = IsSafeText osil osol taken ⊎ (HasNoSafeText osil 
 
 -- the claim was given up at the limit of turns
 abbrev pub claims_turn_limit : Claim → Bool
-claims_turn_limit (Optimal x v ns) = false
-claims_turn_limit (Infeasible ns) = false
-claims_turn_limit (Unbounded x v r) = false
-claims_turn_limit (BestSoFar x v c) = is_turn_limit c
+claims_turn_limit (Optimal x vs cs) = false
+claims_turn_limit (Infeasible cert) = false
+claims_turn_limit (Unbounded x vs cs r) = false
+claims_turn_limit (BestSoFar x vs c) = is_turn_limit c
 claims_turn_limit (Unsure c) = is_turn_limit c
 
 -- and the report says so

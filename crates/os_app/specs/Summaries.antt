@@ -27,10 +27,10 @@ is_memory causes.Memory = true
 
 -- the search stopped for want of memory
 abbrev pub wanted_memory : Claim → Bool
-wanted_memory (claims.Optimal x v ns) = false
-wanted_memory (claims.Infeasible ns) = false
-wanted_memory (claims.Unbounded x v r) = false
-wanted_memory (claims.BestSoFar x v c) = is_memory c
+wanted_memory (claims.Optimal x vs cs) = false
+wanted_memory (claims.Infeasible cert) = false
+wanted_memory (claims.Unbounded x vs cs r) = false
+wanted_memory (claims.BestSoFar x vs c) = is_memory c
 wanted_memory (claims.Unsure c) = is_memory c
 
 -- the checker accepts what the documents claim, or it doesn't; want of memory decides neither

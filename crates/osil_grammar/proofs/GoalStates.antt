@@ -1,6 +1,5 @@
 -- A mark that is taken leaves the goals as those of an instance as far as it goes.
 use Rattle.osil_grammar.proofs.Words.{◌≡◌, ◌∙◌, ◌+◌, ◌-◌, ◌<◌, ◌≤◌, ℕ, inl, inr, Bool, true, false, cond, List, [], ◌∷◌, ◌++◌, length, replicate, refl, sym, subst, arith, lit<, bytes_eq, All, All-nil, All-append, All-replicate, length-replicate, length-set, Attribute, Mark, Start, Char, Finish, Goal, nought, AllPass, Takes, Child, Place, Led, State, start, among, content, otherwise, leads, part_row, begins, tests, Fails, most, around, Begins, Ends, Leaves, goal_so_far, heard, keeps_text, osil, AreGoals, AreGoalsLate, IsInPart, AreCostsAt, HasGoals, HasGoalsIn}
-use Rattle.osil_grammar.specs.declared.elements.Part.{Part}
 use Rattle.osil_grammar.specs.declared.elements.Part.TheVariants as parts
 use Rattle.osil_grammar.specs.declared.elements.Listing.TheVariants as listings
 use Rattle.osil_grammar.specs.declared.elements.Place.TheVariants as places

@@ -1,6 +1,6 @@
 -- A mark that is taken leaves one state.
-use Rattle.std.proofs.Common.{◌≡◌, ◌∙◌, inl, inr, ℕ, Option, None, Some, List, ap, sym, subst}
-use Rattle.std.specs.Prelude.{IsSomeAnd, codes}
+use Rattle.std.proofs.Common.{◌≡◌, ◌∙◌, inl, inr, ℕ, Option, List, ap, sym, subst}
+use Rattle.std.specs.Prelude.{codes}
 use Rattle.tree_grammar.specs.Elements.{Attribute}
 use Rattle.decimal_text.specs.Count.{IsCount}
 use Rattle.decimal_text.proofs.OneNumber.{count_once}

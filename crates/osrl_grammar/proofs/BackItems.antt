@@ -1,5 +1,5 @@
 -- Written items are read as what they say.
-use Rattle.osrl_grammar.proofs.Names.{◌≡◌, ◌∙◌, ℕ, ◌^◌, ◌<◌, true, Option, List, [], ◌∷◌, ◌++◌, map, refl, ap, sym, subst, arith, append-nil, codes, decimal, flat_map, signed_decimal, All, AllZip, All-head, All-tail, ratio, Frac, ratio_text, Mult, Node, Step, IsFree, pieces, Pair, step_text, node_word, IsMultOf, IsMult, IsOne, IsPlace, IsFraction, SaysNode, TreeItem, tree_head, SaysTree, Begins, IsTreeItem, IsRoundOf, IsRound, IsCause, round_text, level_text, mult_text, node_text, cause_text, fraction_texts, HaveColumns, NodeComesBack, CauseComesBack}
+use Rattle.osrl_grammar.proofs.Names.{◌≡◌, ◌∙◌, ℕ, ◌^◌, ◌<◌, true, Option, List, [], ◌∷◌, ◌++◌, map, refl, ap, sym, subst, arith, append-nil, codes, decimal, flat_map, signed_decimal, All, AllZip, All-head, All-tail, ratio, Frac, ratio_text, Mult, Node, Step, IsFree, pieces, Pair, step_text, node_word, IsMultOf, IsMult, IsOne, IsPlace, IsFraction, SaysNode, tree_head, SaysTree, Begins, IsTreeItem, IsRoundOf, IsRound, IsCause, round_text, level_text, mult_text, node_text, cause_text, fraction_texts, HaveColumns, NodeComesBack, CauseComesBack}
 use Rattle.certificate.specs.declared.nodes.Node.TheVariants as nodes
 use Rattle.osrl_grammar.specs.declared.parts.TreeItem.TheVariants as trees
 use Rattle.certificate.specs.declared.causes.Cause as why

@@ -1,5 +1,5 @@
 -- The document that a report is written as reports it.
-use Rattle.osrl_grammar.proofs.Names.{◌≡◌, ◌∙◌, ℕ, ◌+◌, Bool, true, false, ◌||◌, cond, Option, None, Some, List, [], ◌∷◌, ◌++◌, map, refl, ap, sym, subst, append-nil, append_assoc, codes, bytes_eq, nat_lt, is_some, length, AllZip, false≢true, Nodes, none, element, chars, Event, Close, Start, Finish, trimmed, unless_empty, leaf, group, typed, AreTaken, Takes, Frac, Node, Mult, Cert, Claim, Optimal, Infeasible, Unbounded, BestSoFar, Unsure, JobStatus, Report, Held, To, Led, Part, Claiming, part_name, claiming_text, status_text, IsFraction, IsRound, IsCause, IsOutOfOrder, BadItem, next_level, cert, inl, inr, ◌⊎◌, ◌≤◌, ◌<◌, ◌^◌, ap₂, arith, Result, Ok, All, HaveColumns, HasTrees, MayHaveTrees, TreesComeBack, State, nothing_held, start, has, items, status_of, claim_as, report_with, nonempty, report_of, MayHoldItems, with_part, AddsItem, osrl, marks, IsReport, IsReportText, row_values, values_part_unless_none, variable_values, values_part, indexed, point_values, goal_values, tree_values, dual_values, node_text, round_text, level_texts, cause_text, item_nodes, certificate_part, fraction_texts, point_parts, ray_part, rounds_part, tree_parts, trees_parts, cause_part, solution, claim_nodes, leaf_of, optimization, general_type, general_nodes, status_nodes, report_element, report_text, IsBareOrNone, CauseComesBack, ClaimComesBack, ComesBack, keeps, item_fields}
+use Rattle.osrl_grammar.proofs.Names.{◌≡◌, ◌∙◌, ℕ, ◌+◌, Bool, true, false, ◌||◌, cond, Option, None, Some, List, [], ◌∷◌, ◌++◌, map, refl, ap, sym, subst, append-nil, append_assoc, codes, bytes_eq, is_some, length, AllZip, false≢true, Nodes, none, element, chars, Close, Start, Finish, trimmed, unless_empty, leaf, group, typed, Takes, Frac, Node, Mult, Cert, Claim, Optimal, Infeasible, Unbounded, BestSoFar, Unsure, JobStatus, Report, Held, To, Part, Claiming, part_name, claiming_text, status_text, IsFraction, IsRound, IsCause, IsOutOfOrder, BadItem, next_level, cert, inl, inr, ◌⊎◌, ◌≤◌, ◌<◌, ◌^◌, ap₂, arith, Ok, All, HaveColumns, MayHaveTrees, TreesComeBack, State, nothing_held, start, has, items, status_of, report_with, nonempty, report_of, MayHoldItems, with_part, AddsItem, osrl, IsReport, IsReportText, row_values, values_part_unless_none, variable_values, values_part, point_values, goal_values, tree_values, dual_values, node_text, round_text, level_texts, cause_text, item_nodes, certificate_part, fraction_texts, point_parts, ray_part, rounds_part, tree_parts, trees_parts, cause_part, solution, claim_nodes, leaf_of, optimization, general_type, general_nodes, status_nodes, report_element, report_text, IsBareOrNone, CauseComesBack, ClaimComesBack, ComesBack, keeps}
 use Rattle.document_tags.specs.Writing.{only}
 use Rattle.certificate.specs.declared.nodes.Node.TheVariants as nodes
 use Rattle.certificate.specs.declared.causes.Cause as why
@@ -27,9 +27,12 @@ adds_all : {X : Type 0} (type : Option (List ℕ)) (p : Part) (put : List X → 
 adds_all type p put Is order silent one [] [] each before = ap put (append-nil before)
 adds_all type p put Is order silent one [] (x ∷ xs) each before = absurd each
 adds_all type p put Is order silent one (t ∷ ts) [] each before = absurd each
-adds_all {X} type p put Is order silent one (t ∷ ts) (x ∷ xs) each before =
-    (put (before ++ x ∷ []), item_added p t (put before) (put (before ++ x ∷ [])) (order t (put before)) (one before t x each.0), silent t,
-    subst (λ (l : List X). Adds type p ts (put (before ++ x ∷ [])) (put l)) (append_assoc before (x ∷ []) xs) (adds_all type p put Is order silent one ts xs each.1 (before ++ x ∷ [])))
+adds_all {X} type p put Is order silent one (t ∷ ts) (x ∷ xs) each before = (
+  put (before ++ x ∷ []),
+  item_added p t (put before) (put (before ++ x ∷ [])) (order t (put before)) (one before t x each.0),
+  silent t,
+  subst (λ (l : List X). Adds type p ts (put (before ++ x ∷ [])) (put l)) (append_assoc before (x ∷ []) xs) (adds_all type p put Is order silent one ts xs each.1 (before ++ x ∷ [])),
+)
 
 -- in a solution whose status has this type and whose parts hold so much
 abbrev solving : State → Place → Option (List ℕ) → Held → State

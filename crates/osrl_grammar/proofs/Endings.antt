@@ -1,38 +1,18 @@
 -- What the code makes of an end tag is the state that it leaves, or its refusal.
-use Rattle.osrl_grammar.proofs.Names.{◌≡◌, ◌∙◌, ◌<◌, ◌⊎◌, ◌&&◌, inl, inr, ℕ, zero, suc, Bool, true, false, cond, List, [], ◌∷◌, refl, ap, sym, subst, arith, Option, None, Some, Result, Ok, Err, OnOk, false≢true, is_some, on_ok_weaker, trimmed, Finish, AllPass, FirstFails, OsrlFault, Report, Held, Part, Point, Value, Ray, Misread, NoShape, NoNumber, TooGreat, BadItem, IsItemRead, AfterItem, noted, with_read, State, start, nothing_held, has, items, bad_item, report_of, ends, around, tests, told, item_refusal, refusal_of, Fails, MayHoldItems, first, Ends, EndsAt, Refused, item_fields, ReadsSo, AddsItem}
-use Rattle.osrl_grammar.specs.declared.fault.OsrlFault.TheVariants as refusals
+use Rattle.osrl_grammar.proofs.Names.{◌≡◌, ◌∙◌, inl, ℕ, false, List, refl, ap, sym, subst, Option, None, Some, Result, Ok, Err, OnOk, false≢true, is_some, on_ok_weaker, trimmed, AllPass, FirstFails, OsrlFault, Report, Held, Part, Value, Misread, BadItem, IsItemRead, AfterItem, noted, with_read, State, start, bad_item, report_of, ends, around, tests, told, refusal_of, Fails, first, Ends, EndsAt, Refused}
 use Rattle.osrl_grammar.specs.declared.elements.Place.{Place}
 use Rattle.osrl_grammar.specs.declared.elements.Place.TheVariants as places
-use Rattle.osrl_grammar.specs.declared.parts.Part.TheVariants.{Rounds, Tree, Cause}
-use Rattle.osrl_grammar.specs.Table.{unread, twice, miscounted, incomplete}
+use Rattle.osrl_grammar.specs.declared.parts.Part.TheVariants.{Tree, Cause}
+use Rattle.osrl_grammar.specs.Table.{unread, twice, miscounted}
 use Rattle.osrl_grammar.specs.Stepping.{as_held, IsCounted, AreCounted}
 use Rattle.std.specs.Prelude.{IsSome}
-use Rattle.osrl_grammar.specs.Items.{is_level}
-use Rattle.osrl_grammar.specs.Adding.{first_level}
-use Rattle.osrl_grammar.specs.Saying.{says_infeasible, level_or}
 use Rattle.osrl_grammar.specs.Leaving.{out_of}
-
--- an item behind one that isn't read
-pub after_bad : (o : Option BadItem) (s : State) (p : Part) → is_some o ≡ true → AfterItem o s p s
-after_bad None s p some = absurd (false≢true some)
-after_bad (Some b) s p some = refl
 
 -- an item of which this is read
 pub after_read : (s : State) (p : Part) (r : Result Held Misread) → s.bad ≡ None → IsItemRead p s.text s.held r → AfterItem s.bad s p (with_read (noted s p) r)
 after_read s p r none is = subst (λ (o : Option BadItem). AfterItem o s p (with_read (noted s p) r)) (sym none) (r, is, refl)
 
--- a level that is kept in mind, in the state that the code holds
-pub level_noted : (s now : State) → s ≡ now → (p : Part) (b : Bool) (l : Option ℕ) → b ≡ says_infeasible true s.claiming && is_level p s.text → l ≡ first_level b s.level s.count → record s { level = l } ≡ noted now p
-level_noted s now same p b l may is = rw (is, may) (ap (λ (n : State). noted n p) same)
-
--- what is kept of an item that isn't read, and of one that is
-pub unread_kept : {X : Type 0} (s now : State) → s ≡ now → (r : Result X Misread) (u : Misread) (h : Held) → r ≡ Err u → h ≡ nothing_held → record s { bad = Some (record { misread = u; number = s.count }); held = h } ≡ with_read now (as_held now.held r)
-unread_kept s now same r u h is none = rw (is, none) (ap (λ (n : State). with_read n (Err u)) same)
-
-pub read_kept : {X : Type 0} (s : State) (r : Result X Misread) (x : X) → r ≡ Ok x → s ≡ with_read s (as_held s.held r)
-read_kept s r x is = rw is refl
-
--- the whole of it
+-- what the reader keeps of an item that it reads is what such an item leaves
 kept_of : {X : Type 0} (n u : State) (k : Held) (r : Result X Misread) → u ≡ record n { held = k } → with_read u (as_held u.held r) ≡ with_read n (as_held k r)
 kept_of n u k (Ok x) is = is
 kept_of n u k (Err m) is = ap (λ (v : State). with_read v (Err m)) is
@@ -49,13 +29,6 @@ none_bad s now same none = ap (λ (v : State). v.bad) (sym same) ∙ none_of s.b
     none_of : (o : Option BadItem) → false ≡ is_some o → o ≡ None
     none_of None e = refl
     none_of (Some b) e = absurd (false≢true e)
-
--- the item that isn't read
-pub bad_plain : (s now : State) → s ≡ now → (b : Bool) → b ≡ says_infeasible false s.claiming → b ≡ false → s.bad ≡ bad_item now
-bad_plain s now same b says is = sym (ap (λ (t : Bool). cond t (level_or s.level s.bad) s.bad) (sym says ∙ is)) ∙ ap bad_item same
-
-pub bad_level : (s now : State) → s ≡ now → (b : Bool) (o : Option BadItem) → b ≡ says_infeasible false s.claiming → b ≡ true → o ≡ level_or s.level s.bad → o ≡ bad_item now
-bad_level s now same b o says is made = made ∙ sym (ap (λ (t : Bool). cond t (level_or s.level s.bad) s.bad) (sym says ∙ is)) ∙ ap bad_item same
 
 pub item_ends : (s now z : State) (p : Part) → s ≡ now → AfterItem s.bad (out_of s (places.Item p)) p z → EndsAt {X = Unit {0}} now (places.Item p) z (Ok tt)
 item_ends s now z p same h = (tt, subst (λ (v : State). AfterItem v.bad (out_of v (places.Item p)) p z) same h)
@@ -78,10 +51,6 @@ module _ (s : State) where
 
 pub root_unread : (s z : State) (b : BadItem) (f : OsrlFault) → Some b ≡ bad_item s → f ≡ refusal_of (Some b) → EndsAt {X = Unit {0}} s places.Osrl z (Err (Refused f))
 root_unread s z b f is told_so = subst (λ (g : OsrlFault). EndsAt {X = Unit {0}} s places.Osrl z (Err (Refused g))) (sym told_so) (unread_first s b (sym is))
-
--- where each item is read, what fails of the others refuses
-pub root_fails : (s z : State) (f : OsrlFault) → None ≡ bad_item s → FirstFails {R = OsrlFault} (Fails s) (told s) (twice ∷ miscounted Value ∷ miscounted Tree ∷ miscounted Cause ∷ incomplete ∷ []) f → EndsAt {X = Unit {0}} s places.Osrl z (Err (Refused f))
-root_fails s z f none fails = inr (not_unread s (sym none), fails)
 
 pub none_unread : (s : State) (o : Option BadItem) → o ≡ bad_item s → ((b : BadItem) → o ≡ Some b → ⊥) → bad_item s ≡ None
 none_unread s None is read = sym is

@@ -1,5 +1,5 @@
 -- A written report has fewer levels than its text has bytes.
-use Rattle.osrl_grammar.proofs.Names.{◌≡◌, ◌∙◌, ℕ, ◌+◌, ◌^◌, ◌≤◌, Option, None, Some, List, [], ◌∷◌, ◌++◌, map, length, refl, ap, arith, nat_lt, cond, Nodes, none, element, chars, elements_in, codes, group, Frac, Mult, Cert, Node, Split, Zero, Clash, Farkas, Bound, Claim, Optimal, Infeasible, Unbounded, BestSoFar, Unsure, Report, item_nodes, level_texts, node_text, point_values, point_parts, ray_part, rounds_part, tree_parts, trees_parts, tree_values, dual_values, values_part_unless_none, row_values, certificate_part, claim_nodes, optimization, report_element, ComesBack}
+use Rattle.osrl_grammar.proofs.Names.{ℕ, ◌+◌, ◌^◌, ◌≤◌, Option, None, Some, List, [], ◌∷◌, ◌++◌, map, length, arith, Nodes, none, element, chars, elements_in, codes, group, Frac, Mult, Cert, Node, Split, Zero, Clash, Farkas, Bound, Claim, Optimal, Infeasible, Unbounded, BestSoFar, Unsure, Report, item_nodes, level_texts, node_text, point_parts, rounds_part, tree_parts, trees_parts, tree_values, dual_values, values_part_unless_none, row_values, certificate_part, claim_nodes, optimization, ComesBack}
 use Rattle.std.proofs.lemmas.List.{length-append}
 use Rattle.certificate.specs.Nodes.{certs_of}
 use Rattle.document_tags.proofs.Sizes.{fewer_elements}

@@ -1,5 +1,5 @@
 -- Lists that are told item by item.
-use Rattle.osrl_grammar.proofs.Names.{◌≡◌, ℕ, ◌-◌, ◌<◌, ◌≤◌, Bool, true, false, cond, nat_lt, get_or, ◌≢◌, List, [], ◌∷◌, length, refl, ap, sym, lt-ltb, le-ltb, arith, decimal, codes, Nodes, none, element, chars, Event, nodes_events, ◌++◌, leaf, Frac, Mult, Cert, Node, Split, Zero, Clash, Farkas, Bound, indexed, row_values, values_part, values_part_unless_none, tree_values, dual_values, item_nodes, certificate_part, level_text, level_texts, node_text, round_text, rounds_part, ◌+◌, ◌∙◌, map, drop, ap₂}
+use Rattle.osrl_grammar.proofs.Names.{◌≡◌, ℕ, ◌-◌, ◌<◌, ◌≤◌, Bool, cond, get_or, ◌≢◌, List, [], ◌∷◌, length, refl, ap, sym, lt-ltb, le-ltb, arith, decimal, codes, Nodes, none, element, chars, Event, nodes_events, ◌++◌, leaf, Frac, Mult, Cert, Node, Split, Zero, Clash, Farkas, Bound, indexed, row_values, values_part, values_part_unless_none, tree_values, dual_values, item_nodes, certificate_part, level_text, level_texts, node_text, round_text, rounds_part, ◌+◌, ◌∙◌, map, drop, ap₂}
 use Rattle.std.proofs.lemmas.List.{at_drop_more}
 use Rattle.osrl_grammar.specs.declared.parts.Part.TheVariants.{Rounds}
 use Rattle.osrl_grammar.specs.Writing.{rows_part}
@@ -35,10 +35,6 @@ several n [] (Clash c ∷ more) h k = refl
 several n [] (Farkas ms ∷ more) h k = refl
 several n [] (Bound ms ∷ []) h k = absurd (h refl)
 several n [] (Bound ms ∷ m ∷ more) h k = refl
-
-pub rounded : (n : ℕ) (rounds : List (List Mult)) (tree : List Node) → 0 < length rounds → (k : List Event) → k ≡ nodes_events (tree_values n rounds tree none) k
-rounded n [] tree h k = absurd (omega (arith, h))
-rounded n (r ∷ rs) tree h k = refl
 
 -- several values, or trees, have none
 pub many : (n : ℕ) (values : List Frac) (trees : List Cert) → (length values ≡ 1 → length trees ≡ 1 → ⊥) → (k : List Event) → k ≡ nodes_events (dual_values n values trees none) k

@@ -1,15 +1,14 @@
 -- What is read of an item, and when it is one.
-use Rattle.osrl_grammar.proofs.Names.{◌≡◌, ◌∙◌, inl, inr, ℕ, ◌+◌, Bool, false, length, pos, Option, None, Some, Result, Ok, Err, List, [], ◌∷◌, ◌++◌, refl, ap, sym, subst, AllZip, option_map, whole, ratio, Frac, Mult, Node, Step, AllPass, Held, Part, Point, Value, Ray, Misread, NoShape, NoNumber, TooGreat, Index, Turn, Whole, Exact, Field, pieces, Pair, parted, worded, field, step_text, all_steps, node_word, all_node_words, cause_word, all_cause_words, pair_fields, mult_fields, mults_fields, no_field, one_field, place_fields, node_behind, cause_behind, item_fields, ReadsSo, IsFraction, IsMult, IsMultOf, IsOne, IsPlace, node_head, SaysNode, cause_head, SaysCause, IsRoundOf, TreeItem, tree_head, SaysTree, IsOutOfOrder, next_level, round_word, round_fields, IsItemRead, AddsItem, IfOk-weaker}
+use Rattle.osrl_grammar.proofs.Names.{◌≡◌, ◌∙◌, inr, ℕ, ◌+◌, Bool, false, length, pos, Option, None, Some, Result, Ok, Err, List, [], ◌∷◌, ◌++◌, refl, ap, sym, subst, AllZip, option_map, whole, ratio, Frac, Mult, Node, Step, Held, Part, Point, Value, Ray, Misread, NoShape, NoNumber, TooGreat, Index, Turn, Whole, Exact, Field, pieces, Pair, parted, worded, field, step_text, all_steps, node_word, all_node_words, cause_word, all_cause_words, pair_fields, mult_fields, mults_fields, no_field, one_field, place_fields, node_behind, cause_behind, item_fields, ReadsSo, IsFraction, IsMult, IsMultOf, IsOne, IsPlace, node_head, SaysNode, cause_head, SaysCause, IsRoundOf, TreeItem, tree_head, SaysTree, IsOutOfOrder, next_level, round_word, round_fields, IsItemRead, AddsItem, IfOk-weaker}
 use Rattle.certificate.specs.declared.nodes.Node.TheVariants as nodes
 use Rattle.osrl_grammar.specs.declared.parts.TreeItem.TheVariants as trees
 use Rattle.certificate.specs.declared.causes.Place.{Place}
 use Rattle.certificate.specs.declared.causes.Cause as why
 use Rattle.certificate.specs.declared.causes.Cause.TheVariants as causes
 use Rattle.osrl_grammar.specs.declared.parts.Part.TheVariants.{Rounds, Tree, Cause}
-use Rattle.osrl_grammar.specs.Numbers.{Kind}
 use Rattle.osrl_grammar.proofs.WordValues.{each_step, each_node_word, each_cause_word}
 use Rattle.osrl_grammar.specs.Stepping.{ReadsNumber, as_held, ReadsItem}
-use Rattle.osrl_grammar.proofs.Fields.{Pass, number_pass, both_pass, reads_made, reads_more, still_unread}
+use Rattle.osrl_grammar.proofs.Fields.{Pass, number_pass, both_pass, reads_made, still_unread}
 use Rattle.osrl_grammar.proofs.Heads.{begun_pass}
 use Rattle.std.proofs.Common.{◌↔◌, IsTrue}
 use Rattle.osrl_grammar.specs.Values.{IsLevelBut}
@@ -63,12 +62,6 @@ round_pass : (ps : List (List ℕ)) (ms : List Mult) → IsRoundOf ps ms → Pas
 round_pass [] ms h = absurd h
 round_pass (p ∷ ps) ms h = subst Pass (sym (round_shaped p ps h.0)) (mults_pass ps ms h.1)
 
--- as it is read
-pub round_read : (ps : List (List ℕ)) (w : List ℕ) (behind : List (List ℕ)) (r : Result (List Mult) Misread) → ps ≡ w ∷ behind → w ≡ round_word → ReadsSo (mults_fields behind) r (AllZip IsMult behind) → ReadsSo (round_fields ps) r (IsRoundOf ps)
-round_read ps w behind r is own h =
-    subst (λ (l : List (List ℕ)). ReadsSo (round_fields l) r (IsRoundOf l)) (sym is)
-    (subst (λ (o : Option (List Field)). ReadsSo o r (IsRoundOf (w ∷ behind))) (sym (round_shaped w behind own)) (reads_more (mults_fields behind) r (AllZip IsMult behind) (IsRoundOf (w ∷ behind)) (λ ms each. (own, each)) h))
-
 none_pass : (ps : List (List ℕ)) → ps ≡ [] → Pass (no_field ps)
 none_pass ps none = subst (λ (l : List (List ℕ)). Pass (no_field l)) (sym none) (tt, tt)
 
@@ -115,11 +108,6 @@ item_unmade p said h u P order reads = inr (order, still_unread (item_fields p s
 -- an item of a tree that was tested for the level that comes next
 pub in_order : (h : Held) (n : ℕ) (said : List ℕ) (b : Bool) → n ≡ length h.levels → (IsTrue b ↔ IsLevelBut (n + 2) (pieces said)) → b ≡ false → IsOutOfOrder (next_level h) Tree said → ⊥
 in_order h n said b is tests not out = refused b (IsLevelBut (n + 2) (pieces said)) tests not (subst (λ (m : ℕ). IsLevelBut (m + 2) (pieces said)) (sym is) out)
-
--- of what was read
-pub reads_pass : {A : Type 0} (o : Option (List Field)) (x : A) (Says : A → Type 0) → ReadsSo o (Ok x) Says → Pass o × Says x
-reads_pass None x Says h = absurd (cc)
-reads_pass (Some fs) x Says h = ((h.0, h.1), h.2)
 
 -- a number that was read and added, or not
 number_added : {X E : Type 0} (r : Result (Result X Misread) E) (p q : Part) (said : List ℕ) (old new : List Frac) (h k : Held) → p ≡ q → (IsOutOfOrder (next_level h) q said → ⊥) → item_fields q said ≡ Some (field Exact said ∷ []) → ((y : Frac) → IsFraction said y → new ≡ old ++ y ∷ [] → AddsItem q said h k) → ReadsNumber said old new r → ReadsItem p said h k r

@@ -1,5 +1,5 @@
 -- A mark that is taken leaves one state.
-use Rattle.osrl_grammar.proofs.Names.{◌≡◌, ◌∙◌, inl, inr, ℕ, Option, None, Some, Result, Ok, Err, List, [], ◌∷◌, ◌++◌, refl, ap, sym, AllPass, Mark, Start, Char, Finish, Frac, Mult, TreeItem, BadItem, Misread, NoShape, NoNumber, TooGreat, Field, IsBad, IsTooGreat, ReadsSo, item_fields, IsItemRead, AfterItem, noted, with_read, with_tree_item, Report, Held, To, Over, OtherRoot, Part, State, start, begins, ends, kind, AddsItem, Ends, Leaves, osrl, Node, Kind}
+use Rattle.osrl_grammar.proofs.Names.{◌≡◌, ◌∙◌, inl, inr, ℕ, Option, None, Some, Result, Ok, Err, List, [], ◌∷◌, ◌++◌, refl, ap, sym, AllPass, Frac, Mult, TreeItem, BadItem, Misread, NoShape, NoNumber, TooGreat, Field, IsBad, IsTooGreat, ReadsSo, item_fields, IsItemRead, AfterItem, noted, with_read, with_tree_item, Report, Held, To, Over, OtherRoot, Part, State, start, begins, ends, kind, AddsItem, Ends, Leaves, osrl, Kind}
 use Rattle.tag_tests.specs.Fields.{OneFirst}
 use Rattle.tag_tests.specs.Forms.{LeavesOne}
 use Rattle.certificate.specs.declared.causes.Cause as why

@@ -1,5 +1,5 @@
 -- An item's text says one number, one node or one cause.
-use Rattle.osrl_grammar.proofs.Names.{◌≡◌, ◌∙◌, ap, ap₂, sym, refl, ℕ, ℤ, pos, Option, None, Some, List, [], ◌∷◌, AllZip, Ratio, whole, ratio, Frac, ratio_once, Mult, Node, Step, Index, Turn, Whole, IsNumberText, pieces, Pair, parted, step_text, node_word, all_node_words, node_behind, cause_word, all_cause_words, cause_behind, IsFraction, IsMultOf, IsMult, IsOne, IsPlace, node_head, SaysNode, TreeItem, tree_head, SaysTree, IsTreeItem, IsRoundOf, IsRound, cause_head, SaysCause, IsCause}
+use Rattle.osrl_grammar.proofs.Names.{◌≡◌, ◌∙◌, ap, ap₂, sym, refl, ℕ, ℤ, pos, Option, None, Some, List, [], ◌∷◌, AllZip, Ratio, whole, ratio, Frac, ratio_once, Mult, Node, Step, Index, Turn, Whole, IsNumberText, pieces, Pair, parted, node_word, all_node_words, node_behind, cause_word, all_cause_words, cause_behind, IsFraction, IsMultOf, IsMult, IsOne, IsPlace, node_head, SaysNode, TreeItem, tree_head, SaysTree, IsTreeItem, IsRoundOf, IsRound, cause_head, SaysCause, IsCause}
 use Rattle.fraction.proofs.Equality.{one_fraction}
 use Rattle.certificate.specs.declared.nodes.Node.TheVariants as nodes
 use Rattle.certificate.specs.declared.causes.Place.{Place}

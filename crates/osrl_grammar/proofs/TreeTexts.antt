@@ -1,5 +1,5 @@
 -- The items of written trees, each read behind those before it.
-use Rattle.osrl_grammar.proofs.Names.{◌≡◌, ◌∙◌, ℕ, ◌+◌, ◌^◌, ◌<◌, ◌≤◌, ◌&&◌, ◌⊎◌, inl, inr, pos, Bool, true, false, Option, None, Some, Result, Ok, Err, List, [], ◌∷◌, ◌++◌, map, length, refl, ap, sym, subst, arith, append_assoc, append-nil, bytes_eq, codes, decimal, false≢true, All, AllZip, All-head, All-tail, Mult, Cert, Node, TreeItem, Held, Part, Misread, Field, Index, WritesNumber, ratio_once, whole, pieces, node_word, item_fields, ReadsSo, node_head, SaysTree, tree_head, Begins, IsTreeItem, IsOutOfOrder, IsItemRead, AddsItem, cert, certs, next_level, node_text, level_text, level_texts, NodeComesBack, LevelComesBack}
+use Rattle.osrl_grammar.proofs.Names.{◌≡◌, ◌∙◌, ℕ, ◌+◌, ◌^◌, ◌<◌, ◌≤◌, ◌&&◌, ◌⊎◌, inl, inr, pos, Bool, true, false, Option, Ok, List, [], ◌∷◌, ◌++◌, map, length, refl, ap, sym, subst, arith, append_assoc, append-nil, bytes_eq, codes, decimal, false≢true, All, All-head, All-tail, Mult, Cert, Node, Held, Part, ratio_once, whole, pieces, node_word, item_fields, node_head, SaysTree, tree_head, Begins, IsOutOfOrder, IsItemRead, AddsItem, cert, certs, next_level, node_text, level_text, level_texts, NodeComesBack, LevelComesBack}
 use Rattle.std.proofs.lemmas.List.{length-append}
 use Rattle.std.proofs.lemmas.Slice.Eq.{bytes_eq-Decides}
 use Rattle.certificate.specs.declared.nodes.Node.TheVariants as nodes
@@ -58,9 +58,12 @@ nodes_add type h ls (n ∷ ns) before back =
     let is = node_back n (All-head NodeComesBack n ns back) in
     let apart = node_apart (length ls + 2) (pieces (node_text n)) n is in
     let silent = ap (λ (b : Bool). says_infeasible true type && b) apart.0 ∙ never_noted (says_infeasible true type) in
-    let rest = nodes_add type h ls ns (before ++ n ∷ []) (All-tail NodeComesBack n ns back) in
-    (holding h ls (before ++ n ∷ []), item_added parts.Tree (node_text n) (holding h ls before) (holding h ls (before ++ n ∷ [])) apart.1 (trees.Node n, is, refl), silent,
-    subst (λ (l : List Node). Adds type parts.Tree (map node_text ns) (holding h ls (before ++ n ∷ [])) (holding h ls l)) (append_assoc before (n ∷ []) ns) rest)
+    let rest = nodes_add type h ls ns (before ++ n ∷ []) (All-tail NodeComesBack n ns back) in (
+      holding h ls (before ++ n ∷ []),
+      item_added parts.Tree (node_text n) (holding h ls before) (holding h ls (before ++ n ∷ [])) apart.1 (trees.Node n, is, refl),
+      silent,
+      subst (λ (l : List Node). Adds type parts.Tree (map node_text ns) (holding h ls (before ++ n ∷ [])) (holding h ls l)) (append_assoc before (n ∷ []) ns) rest,
+    )
 
 -- a level in order
 in_order : (k l : ℕ) → k < 2 ^ 32 → k ≡ l → IsLevelBut l (codes "level" ∷ decimal k ∷ []) → ⊥
@@ -85,11 +88,14 @@ levels_add type h ls ns (c ∷ cs) k quiet is few back =
     let longer = length-append ls (cert [] ns ∷ []) in
     let begun = holding h (ls ++ cert [] ns ∷ []) [] in
     let order = λ (other : IsOutOfOrder (length ls + 2) parts.Tree (level_text k)). in_order k (length ls + 2) small is (subst (IsLevelBut (length ls + 2)) (level_pieces k) other) in
-    let silent = ap (λ (b : Bool). b && is_level parts.Tree (level_text k)) quiet in
-    (begun, item_added parts.Tree (level_text k) (holding h ls ns) begun order (trees.Level k, level_back k small, refl), silent,
-    adds_both type parts.Tree (map node_text c.nodes) (level_texts (k + 1) cs) begun (holding h (ls ++ cert [] ns ∷ []) c.nodes) (holding h (before_last ls ns (c ∷ cs)) (last_nodes ns (c ∷ cs)))
-    (nodes_add type h (ls ++ cert [] ns ∷ []) c.nodes [] (All-head LevelComesBack c cs back).1)
-    (levels_add type h (ls ++ cert [] ns ∷ []) c.nodes cs (k + 1) quiet (omega (arith, is, longer)) (omega (arith, few)) (All-tail LevelComesBack c cs back)))
+    let silent = ap (λ (b : Bool). b && is_level parts.Tree (level_text k)) quiet in (
+      begun,
+      item_added parts.Tree (level_text k) (holding h ls ns) begun order (trees.Level k, level_back k small, refl),
+      silent,
+      adds_both type parts.Tree (map node_text c.nodes) (level_texts (k + 1) cs) begun (holding h (ls ++ cert [] ns ∷ []) c.nodes) (holding h (before_last ls ns (c ∷ cs)) (last_nodes ns (c ∷ cs)))
+          (nodes_add type h (ls ++ cert [] ns ∷ []) c.nodes [] (All-head LevelComesBack c cs back).1)
+          (levels_add type h (ls ++ cert [] ns ∷ []) c.nodes cs (k + 1) quiet (omega (arith, is, longer)) (omega (arith, few)) (All-tail LevelComesBack c cs back)),
+    )
 
 -- ALL TREES
 pub trees_add : (type : Option (List ℕ)) (h : Held) (c : Cert) (cs : List Cert) → (says_infeasible true type ≡ false) ⊎ (cs ≡ []) → 2 + length cs ≤ 2 ^ 32 → All NodeComesBack c.nodes → All LevelComesBack cs → Adds type parts.Tree (map node_text c.nodes ++ level_texts 2 cs) (holding h [] []) (holding h (before_last [] c.nodes cs) (last_nodes c.nodes cs))

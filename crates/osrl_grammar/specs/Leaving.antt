@@ -1,5 +1,5 @@
 -- What a mark of a result document leaves where all its tests pass.
-use Rattle.std.specs.Prelude.{◌≡◌, ℕ, ◌+◌, ◌-◌, Bool, true, false, ◌||◌, Option, None, Some, List, [], ◌∷◌, ◌++◌}
+use Rattle.std.specs.Prelude.{◌≡◌, ℕ, ◌+◌, ◌-◌, Bool, true, false, ◌||◌, Option, None, Some, List, []}
 use Rattle.tree_grammar.specs.Elements.{Attribute}
 use Rattle.decimal_text.specs.Space.{trimmed}
 use Rattle.osrl_grammar.specs.declared.elements.Place.{Place}

@@ -55,12 +55,12 @@ abbrev pub says_infeasible : Bool → Option (List ℕ) → Bool
 says_infeasible unknown None = unknown
 says_infeasible unknown (Some type) = bytes_eq type (claiming_text claiming.Infeasible)
 
--- THE ITEM THAT ISN'T READ: in a solution that claims that no point is feasible, the first that begins with the word of a level; else the first that isn't one of its part
-
+-- the item of such a number, as one that isn't of its shape; else the other
 abbrev pub level_or : Option ℕ → Option BadItem → Option BadItem
 level_or None bad = bad
 level_or (Some n) bad = Some (record { misread = NoShape; number = n })
 
+-- THE ITEM THAT ISN'T READ, if one isn't: the first that isn't one of its part, or begins a level out of order; but in a solution that claims that no point is feasible the first that begins with the word of a level, unless one before it isn't read
 abbrev pub bad_item : State → Option BadItem
 bad_item s = cond (says_infeasible false s.claiming) (level_or s.level s.bad) s.bad
 

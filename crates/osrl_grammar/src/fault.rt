@@ -14,7 +14,8 @@ pub enum OsrlFault {
     /// There is no general status, no job status of the six, a solution without a status of the five, or without a part
     /// that its status needs.
     Missing,
-    /// The n-th item isn't of its shape.
+    /// The n-th item isn't of its shape, or begins a level out of order, or is of a tree and has the word of a level before
+    /// its first space where the solution's status is `infeasible`.
     Item { n: u64 },
     /// There are two solutions, or two parts of one name, or a part has more or fewer items than it may have.
     Count,

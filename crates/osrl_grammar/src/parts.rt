@@ -57,8 +57,8 @@ pub(crate) enum CauseWord {
     Memory,
 }
 
-/// What is wrong with an item: it isn't of its shape, a text in it isn't a number, or a number is too great. Of several
-/// the first of these is told.
+/// What is wrong with an item: it isn't of its shape or begins a level that may not stand there, a text in it isn't a
+/// number, or a number is too great. Of several the first of these is told.
 #[derive(Clone, Copy, PartialEq, Eq)]
 pub(crate) enum Misread {
     NoShape,

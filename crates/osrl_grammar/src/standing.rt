@@ -419,8 +419,9 @@ impl Standing {
         Ok(())
     }
 
-    /// The item that isn't read, if one isn't: of a solution that claims that no point is feasible, the first that begins
-    /// with the word of a level.
+    /// The item that isn't read, if one isn't: the first that isn't one of its part, or begins a level out of order; but in
+    /// a solution that claims that no point is feasible the first that begins with the word of a level, unless one before
+    /// it isn't read.
     fn bad_item(&self) -> Option<BadItem>
         ensures { result ≡ saying.bad_item self.now }
     {

@@ -1,6 +1,6 @@
 -- Bytes say one answer.
-use Rattle.std.proofs.Common.{◌≡◌, ◌≢◌, ◌∙◌, inl, inr, Option, None, Some, Result, Ok, Err, List, ℕ, ap, sym, subst}
-use Rattle.std.specs.Prelude.{IfOk, IfErr, IsSomeAnd}
+use Rattle.std.proofs.Common.{◌≡◌, ◌≢◌, ◌∙◌, inl, inr, Some, Result, Ok, Err, List, ℕ, ap, sym, subst}
+use Rattle.std.specs.Prelude.{IfOk, IfErr}
 use Rattle.tree_grammar.specs.Elements.{Element}
 use Rattle.doc_tree.proofs.OneTree.{one_tree}
 use Rattle.document_tags.specs.OneChild.{only_element}

@@ -36,6 +36,7 @@ pub fn step_word(step: Step) -> &'static [u8] {
         Step::Pivot => b"pivot",
         Step::Point => b"point",
         Step::Ray => b"ray",
+        Step::Round => b"round",
         Step::Check => b"check",
     }
 }

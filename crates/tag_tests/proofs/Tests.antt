@@ -1,6 +1,6 @@
 -- What a tag decides is one thing, and of all that its tests refuse the first.
 use Rattle.std.proofs.Common.{◌≡◌, ◌∙◌, inl, inr, ℕ, zero, suc, ◌≤◌, List, [], ◌∷◌, ◌++◌, refl, ap, sym, subst, arith}
-use Rattle.std.specs.Prelude.{Contains, Result, Ok, Err, Bool, true, false, ◌&&◌, map}
+use Rattle.std.specs.Prelude.{Contains, Result, Ok, Err, Bool, true, ◌&&◌, map}
 use Rattle.std.proofs.lemmas.Bool.Decides.{nat_tests}
 use lib.Dec.{leb}
 use Rattle.element_tree.proofs.XmlTexts.{and_split}

@@ -8,6 +8,7 @@ ghost use Rattle.std.specs.Prelude.{◌≡◌, ◌<◌};
 
 use cases::Answers;
 use dictionary::Steps;
+use items::TryCopy;
 use os_io::{MemWatch, Memory, Text};
 use reading::{Case, read_case};
 use std::alloc::Global;

@@ -1,4 +1,4 @@
-use Rattle.osrl_grammar.proofs.Names.{◌≡◌, ◌+◌, List, [], ◌++◌, map, drop, Event, nodes_events, said, item_nodes, level_texts}
+use Rattle.osrl_grammar.proofs.Names.{◌≡◌, ◌+◌, List, [], ◌++◌, drop, Event, nodes_events, said, item_nodes, level_texts}
 use Rattle.osrl_grammar.proofs.certificates.tell_levels.Given as goal
 
 abbrev pub invariant-loop-i : goal.invariant-loop-i

@@ -1,4 +1,4 @@
-use Rattle.osrl_grammar.proofs.Names.{◌≡◌, ◌+◌, List, [], ◌++◌, map, drop, Event, nodes_events, said, item_nodes, round_text}
+use Rattle.osrl_grammar.proofs.Names.{◌≡◌, List, [], ◌++◌, map, drop, Event, nodes_events, said, item_nodes, round_text}
 use Rattle.osrl_grammar.proofs.certificates.tell_round_items.Given as goal
 
 abbrev pub invariant-loop-round : goal.invariant-loop-round

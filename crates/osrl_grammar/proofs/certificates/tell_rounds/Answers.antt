@@ -1,4 +1,4 @@
-use Rattle.osrl_grammar.proofs.Names.{◌==◌, ◌∙◌, ℕ, List, length, ap, sym, false≢true, Mult, ends_told, ok_told_as, told_then}
+use Rattle.osrl_grammar.proofs.Names.{◌==◌, ◌∙◌, List, length, ap, sym, false≢true, Mult, ends_told, ok_told_as, told_then}
 use Rattle.osrl_grammar.proofs.ItemLists.{rounds_shown}
 use Rattle.osrl_grammar.proofs.certificates.tell_rounds.Goals as goal
 

@@ -1,4 +1,4 @@
-use Rattle.osrl_grammar.proofs.Names.{◌≡◌, ◌+◌, List, [], ◌++◌, map, drop, Event, nodes_events, said, goal_values}
+use Rattle.osrl_grammar.proofs.Names.{◌≡◌, ◌+◌, List, [], ◌++◌, drop, Event, nodes_events, said, goal_values}
 use Rattle.osrl_grammar.proofs.values.tell_goals.Given as goal
 
 abbrev pub invariant-loop-k : goal.invariant-loop-k
