@@ -71,7 +71,7 @@ module _ (I : Instance) where
   some_proving ns t listed = omega (arith, some_nodes t, ap length listed)
 
   one_goal : (o : Outcome) → IsShown I o → IsOfOneGoal (said o)
-  one_goal (Optimal x v ns) s = (refl, (refl, some_proving ns s.proves.tree s.proves.listed), refl)
+  one_goal (Optimal x v ns) s = (refl, ((refl, some_proving ns s.proves.tree s.proves.listed), refl))
   one_goal (Infeasible ns) s = (refl, some_proving ns s.tree s.listed)
   one_goal (Unbounded x v r) s = (refl, refl)
   one_goal (BestSoFar x v c) s = refl

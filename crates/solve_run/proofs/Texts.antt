@@ -6,7 +6,8 @@ use Rattle.certificate.specs.declared.claims.Claim.{Claim}
 use Rattle.osrl_grammar.specs.declared.report.Report.{Report}
 use Rattle.osrl_grammar.specs.Writing.{report_text}
 use Rattle.solve_run.specs.declared.document.Document.{Document}
-use Rattle.solve_run.specs.Closings.{error_report, claim_report, given_up, IsShort}
+use Rattle.solve_run.specs.Judging.{given_up}
+use Rattle.solve_run.specs.Closings.{error_report, claim_report, IsShort}
 use Rattle.solve_run.specs.Runs.{IsDocumentOf, IsTextOf, IsMemoryDocument, IsErrorDocument, IsFittedDocument}
 
 -- of the same report

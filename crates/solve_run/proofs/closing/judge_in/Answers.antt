@@ -1,5 +1,3 @@
-use Rattle.std.proofs.Common.{subst}
-use Rattle.solve_run.specs.Judging.{IsWideAt}
 use Rattle.solve_run.proofs.ClaimNodes.{shown_range}
 use Rattle.solve_run.proofs.WidthRefusals.{width_alone}
 use Rattle.solve_run.proofs.closing.judge_in.Goals as goal

@@ -1,4 +1,4 @@
-use Rattle.std.proofs.Common.{[]}
+use Rattle.std.proofs.Common.{rules}
 use Rattle.solve_run.proofs.Runs.{ran, shown_by, quiet_left}
 use Rattle.solve_run.proofs.running.run_instance.Goals as goal
 
