@@ -12,7 +12,7 @@ use Rattle.osrl_grammar.proofs.Fields.{Pass, number_pass, both_pass, reads_made,
 use Rattle.osrl_grammar.proofs.Heads.{begun_pass}
 use Rattle.std.proofs.Common.{◌↔◌, IsTrue}
 use Rattle.osrl_grammar.specs.Values.{IsLevelBut}
-use Rattle.osrl_grammar.proofs.Wholes.{refused}
+use Rattle.document_tags.proofs.OneAnswer.{refused}
 
 -- the texts of what is said are numbers
 mult_pass : (o : Option Pair) (m : Mult) → IsMultOf o m → Pass (option_map pair_fields o)
