@@ -1,8 +1,5 @@
 -- What two documents are accepted or refused for, once each is read.
-use Rattle.std.proofs.Common.{◌≡◌, ℕ, ◌^◌, ◌<◌, List, length, ◌⊎◌, inl, inr, arith}
-use Rattle.std.specs.List.{All}
-use Rattle.certificate.specs.Nodes.{IsInRange}
-use Rattle.certificate.specs.declared.nodes.Node.{Node}
+use Rattle.std.proofs.Common.{◌≡◌, ℕ, List, ◌⊎◌, inl, inr}
 use Rattle.instance.specs.Parts.{Parts}
 use Rattle.osil_grammar.specs.Reading.{IsInstanceText}
 use Rattle.osrl_grammar.specs.Reading.{IsReportText}
