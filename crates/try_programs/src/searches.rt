@@ -6,7 +6,9 @@ mod telling;
 
 ghost use Rattle.std.specs.Prelude.{◌≡◌, ◌<◌};
 
+use branch_bound::{Searched, search};
 use cases::Answers;
+use certificate::Claim;
 use dictionary::Steps;
 use items::TryCopy;
 use os_io::{MemWatch, Memory, Text};
@@ -21,7 +23,30 @@ use telling::put_claim;
 #[derive(Drop)]
 pub(crate) struct Searches;
 
-/// What is claimed of a case, as a copy of the claim has it, the turns done then, and the looks.
+/// How many turns were done, and how many looks.
+fn put_counts(text: &mut Text, turns: u64, looks: u64) -> Result<(), Memory> {
+    text.extend(b" after ")?;
+    put_count(text, turns)?;
+    text.extend(b" with ")?;
+    put_count(text, looks)?;
+    text.extend(b" looks")
+}
+
+/// A claim, as a copy of it has it.
+fn put_copied(alloc: Global, text: &mut Text, claim: &Claim) -> Result<(), Memory> {
+    let copy = claim.try_copy(alloc)?;
+    put_claim(text, &copy)
+}
+
+/// What a search claims, the turns done then, and the looks.
+fn tell_found(alloc: Global, found: &Searched, looks: u64) -> Result<Text, Memory> {
+    let mut text = Text::new(alloc);
+    put_copied(alloc, &mut text, &found.claim)?;
+    put_counts(&mut text, found.turns, looks)?;
+    Ok(text)
+}
+
+/// What is claimed of a case.
 fn tell<L: Ledger>(alloc: Global, case: Case, blank: Blank) -> Result<Text, Memory>
     requires name { blank.name ≡ L.name }
     requires parts { blank.parts ≡ L.parts }
@@ -29,7 +54,7 @@ fn tell<L: Ledger>(alloc: Global, case: Case, blank: Blank) -> Result<Text, Memo
 {
     let mut steps = Steps::<L>::new(blank);
     let mut watch = MemWatch::new(alloc, case.stops.as_slice())?;
-    let found = branch_bound::search(
+    let found = search(
         alloc,
         &case.instance,
         case.nodes,
@@ -37,15 +62,7 @@ fn tell<L: Ledger>(alloc: Global, case: Case, blank: Blank) -> Result<Text, Memo
         &mut watch,
         &mut steps,
     );
-    let copy = found.claim.try_copy(alloc)?;
-    let mut text = Text::new(alloc);
-    put_claim(&mut text, &copy)?;
-    text.extend(b" after ")?;
-    put_count(&mut text, found.turns)?;
-    text.extend(b" with ")?;
-    put_count(&mut text, watch.looks())?;
-    text.extend(b" looks")?;
-    Ok(text)
+    tell_found(alloc, &found, watch.looks())
 }
 
 /// What is claimed of a case, as a text.
