@@ -13,6 +13,7 @@ use Rattle.evidence.specs.Levels.{HasGoalValues, IsReachedEnd, next_level, Round
 use Rattle.evidence.specs.Claim.{Infeasible}
 use Rattle.evidence.proofs.RoundingCuts.{instance_derived}
 use Rattle.evidence.proofs.LevelSteps.{next-instance}
+use Rattle.evidence.proofs.PendingNodes.{branch_at}
 use Rattle.evidence.proofs.UniqueRows.{one_row, one_end}
 use Rattle.cert_checker.specs.declared.refused.Refused.{Refused}
 use Rattle.cert_checker.specs.declared.refused.Refused.TheVariants.{Level}
@@ -84,9 +85,7 @@ module _ (I : Instance) (Is : List Instance) (rest : List Node) (z : Option Rati
       let p : i ≡ j = cc in
       let q : l ≡ k = cc in
       let r : rest ≡ (preorder a ++ preorder b) ++ others = cc in
-      let t : IsBranch I j k × Shows (at_most I j k) a z × Shows (at_least I j (k +ℤ pos 1)) b z =
-      subst (λ i. IsBranch I i k × Shows (at_most I i k) a z × Shows (at_least I i (k +ℤ pos 1)) b z) p
-      (subst (λ l. IsBranch I i l × Shows (at_most I i l) a z × Shows (at_least I i (l +ℤ pos 1)) b z) q s) in
+      let t = branch_at I i j l k a b z p q s in
       (t.0, (a, preorder b ++ others, r ∙ append_assoc (preorder a) (preorder b) others, t.1, (b, others, refl, t.2, o)))
 
   zero_read : (j : ℕ) → ProvesAll (I ∷ Is) (ZeroAt j ∷ rest) z → IsZeroBranch I j × ProvesAll (at_zero I j ∷ unless_zero I j ∷ Is) rest z

@@ -3,7 +3,7 @@ use Rattle.std.proofs.Common.{◌≡◌, ℕ, ◌+◌, ◌<◌, ℤ, pos, ◌+�
 use Rattle.rational.specs.Ratio.{Ratio}
 use Rattle.evidence.specs.Sums.{none}
 use Rattle.evidence.specs.Instance.{Instance, width, height, column_at, minimising}
-use Rattle.evidence.specs.Cases.{Multiplier, Clash, Farkas, Bound, Split, Zero, Node, ClashAt, FarkasBy, BoundBy, SplitAt, ZeroAt, preorder, Shows, IsEmpty, IsFarkas, IsBound, IsBranch, IsZeroBranch, at_most, at_least, at_zero, unless_zero}
+use Rattle.evidence.specs.Cases.{Multiplier, Tree, Clash, Farkas, Bound, Split, Zero, Node, ClashAt, FarkasBy, BoundBy, SplitAt, ZeroAt, preorder, Shows, IsEmpty, IsFarkas, IsBound, IsBranch, IsZeroBranch, at_most, at_least, at_zero, unless_zero}
 use Rattle.evidence.specs.Width.{LeafFits, TreeFits, ProvesWithin}
 use Rattle.evidence.specs.PendingNodes.{ShowsAll}
 
@@ -60,6 +60,13 @@ no_bound I Is ms rest (Bound ns, others, e, s, w, o) = s
 no_bound I Is ms rest (Split j k a b, others, e, s, w, o) = cc
 no_bound I Is ms rest (Zero j a b, others, e, s, w, o) = cc
 
+-- what is shown of a case is so of the column and the number that it is at
+pub branch_at : (I : Instance) (i j : ℕ) (l k : ℤ) (a b : Tree) (z : Option Ratio) → i ≡ j → l ≡ k → IsBranch I i l × Shows (at_most I i l) a z × Shows (at_least I i (l +ℤ pos 1)) b z
+    → IsBranch I j k × Shows (at_most I j k) a z × Shows (at_least I j (k +ℤ pos 1)) b z
+branch_at I i j l k a b z p q s =
+    subst (λ n. IsBranch I n k × Shows (at_most I n k) a z × Shows (at_least I n (k +ℤ pos 1)) b z) p
+    (subst (λ m. IsBranch I i m × Shows (at_most I i m) a z × Shows (at_least I i (m +ℤ pos 1)) b z) q s)
+
 pub split_step : (I : Instance) (Is : List Instance) (j : ℕ) (k : ℤ) (rest : List Node) (z : Option Ratio) → ShowsAll (I ∷ Is) (SplitAt j k ∷ rest) z ↔ (IsBranch I j k × ShowsAll (at_most I j k ∷ at_least I j (k +ℤ pos 1) ∷ Is) rest z)
 split_step I Is j k rest z = (to, λ (br, (a, ra, ea, sa, wa, (b, rb, eb, sb, wb, o))). (Split j k a b, rb, ap (λ r. SplitAt j k ∷ r) (ea ∙ ap (λ r. preorder a ++ r) eb ∙ sym (append_assoc (preorder a) (preorder b) rb)), (br, sa, sb), (wa, wb), o))
   where
@@ -72,9 +79,7 @@ split_step I Is j k rest z = (to, λ (br, (a, ra, ea, sa, wa, (b, rb, eb, sb, wb
         let p : i ≡ j = cc in
         let q : l ≡ k = cc in
         let r : rest ≡ (preorder a ++ preorder b) ++ others = cc in
-        let t : IsBranch I j k × Shows (at_most I j k) a z × Shows (at_least I j (k +ℤ pos 1)) b z =
-        subst (λ i. IsBranch I i k × Shows (at_most I i k) a z × Shows (at_least I i (k +ℤ pos 1)) b z) p
-        (subst (λ l. IsBranch I i l × Shows (at_most I i l) a z × Shows (at_least I i (l +ℤ pos 1)) b z) q s) in
+        let t = branch_at I i j l k a b z p q s in
         let f : TreeFits (at_most I j k) a × TreeFits (at_least I j (k +ℤ pos 1)) b =
         subst (λ i. TreeFits (at_most I i k) a × TreeFits (at_least I i (k +ℤ pos 1)) b) p
         (subst (λ l. TreeFits (at_most I i l) a × TreeFits (at_least I i (l +ℤ pos 1)) b) q w) in

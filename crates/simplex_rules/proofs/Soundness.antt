@@ -15,7 +15,7 @@ use Rattle.evidence.proofs.Numbers.{◌≈◌, ◌≲◌, ◌⋖◌, ≈-refl, �
 use Rattle.evidence.proofs.Totals.{total-number, total-≈, total-none, total-start, total-same, total-negative}
 use Rattle.evidence.proofs.Columns.{by_lt, by_eq, by_bool, none-number, pick, value-number, entry-number, column-numbers}
 use Rattle.evidence.proofs.Inverses.{sum-negative, negative-≈}
-use Rattle.evidence.proofs.Duality.{minimising-number}
+use Rattle.evidence.proofs.Duality.{minimising-number, minimising_total}
 use Rattle.evidence.proofs.Rays.{between_same}
 use Rattle.bases.specs.Dictionary.{Entries, Values, value_by, SolvesLists}
 use Rattle.bases.specs.Forms.{form_of}
@@ -55,12 +55,6 @@ against-≈ Fall e = e
 against_total : (w : Way) (n : ℕ) (b x : ℕ → Ratio) → total none n (λ c. product (against w (b c)) (x c)) ≡ against w (total none n (λ c. product (b c) (x c)))
 against_total Rise n b x = total-same none n (λ c. product (negative (b c)) (x c)) (λ c. negative (product (b c) (x c))) (λ c. negative-product (b c) (x c)) ∙ total-negative none n (λ c. product (b c) (x c))
 against_total Fall n b x = refl
-
-minimising_total : (s : Sense) (c : Ratio) (n : ℕ) (f g : ℕ → Ratio) → total (minimising_by s c) n (λ j. product (minimising_by s (f j)) (g j)) ≡ minimising_by s (total c n (λ j. product (f j) (g j)))
-minimising_total Minimum c n f g = refl
-minimising_total Maximum c n f g =
-    total-same (negative c) n (λ j. product (negative (f j)) (g j)) (λ j. negative (product (f j) (g j))) (λ j. negative-product (f j) (g j))
-    ∙ total-negative c n (λ j. product (f j) (g j))
 
 none_minimised : (s : Sense) → minimising_by s none ≡ none
 none_minimised Minimum = refl
