@@ -17,11 +17,11 @@ use Rattle.instance.specs.Parts.{Parts, IsValid}
 use Rattle.instance.specs.Program.{goal, problem, program}
 use Rattle.instance.specs.Feasibility.{IsFeasibleWithin}
 use Rattle.instance.proofs.Numbers.{problem-goals}
+use Rattle.instance.proofs.Search.{point-numbers}
 use Rattle.instance.proofs.Terms.{read, ratios-number}
 use Rattle.cert_checker.specs.Points.{ValuesBelow, ValueRefuses, ValuesRefuse}
 use Rattle.cert_checker.specs.declared.refused.Refused.{Refused}
 use Rattle.cert_checker.specs.declared.refused.Refused.TheVariants.{Value}
-use Rattle.cert_checker.proofs.Moves.{point-numbers}
 use Rattle.cert_checker.proofs.HandRows.{goal-numbers-at}
 
 pub goals_count : (p : Parts) → IsValid p → length (Of.goals (problem p)) ≡ length p.goals

@@ -1,5 +1,5 @@
 -- Limits in memory, and the least of them.
-use Rattle.std.proofs.Common.{◌≡◌, ℕ, zero, suc, ◌+◌, ◌<◌, ◌≤◌, pos, true, false, Option, None, Some, Result, Ok, Err, OnErr, IfOk, sym, ◌∙◌, ap, subst, arith, below_more}
+use Rattle.std.proofs.Common.{◌≡◌, ℕ, zero, suc, ◌+◌, ◌<◌, ◌≤◌, pos, true, false, Option, None, Some, sym, ◌∙◌, ap, subst, arith, below_more}
 use Rattle.std.proofs.lemmas.Int.{ints}
 use Rattle.rational.specs.Ratio.{Ratio, sum, negative, inverse, quotient, IsNumber, IsSame, IsAtMost}
 use Rattle.rational.specs.Width.{ReducedFits, SumFits}
@@ -28,18 +28,6 @@ use Rattle.simplex_rules.specs.Widths.{UntilFits, OneFits, LimitsFit}
 use Rattle.simplex.specs.Limits.{IsLimitTold, IsLimit, IsFirst, IsLeastOf}
 use Rattle.simplex_rules.proofs.Facts.{not_below, below_no}
 use Rattle.no_cycles.proofs.Signs.{below_yes}
-
-pub on_err : {T E : Type 0} {P : Type 0} (r : Result T E) → P → OnErr r P
-on_err (Ok x) p = tt
-on_err (Err e) p = p
-
-pub ok_map : {T E : Type 0} {P Q : T → Type 0} (r : Result T E) → ((x : T) → P x → Q x) → IfOk r P → IfOk r Q
-ok_map (Ok x) f p = f x p
-ok_map (Err e) f p = tt
-
-pub err_map : {T E : Type 0} {P Q : Type 0} (r : Result T E) → (P → Q) → OnErr r P → OnErr r Q
-err_map (Ok x) f p = tt
-err_map (Err e) f p = f p
 
 pub difference_number : (h l : Frac) → IsNumber (sum (ratio h) (negative (ratio l)))
 difference_number h l = sum-number (ratio h) (negative (ratio l)) h.above l.above

@@ -36,10 +36,6 @@ pub has_number : (o : Option Ratio) (l : Ratio) → IfSome o IsNumber → o ≡ 
 has_number None l p e = absurd (cc)
 has_number (Some k) l p e = subst IsNumber (let h : k ≡ l = cc in h) p
 
-pub end_by-number : (z : ℤ) (r : Range) → HasNumbers r → IsNumber (or_none (end_by z r))
-end_by-number (pos n) r h = or_none-number r.lb h.0
-end_by-number (negsuc n) r h = or_none-number r.ub h.1
-
 pub rest-number : (r : Range) (s : Status) → HasNumbers r → IsNumber (rest_at r s)
 rest-number r Basic h = none-number
 rest-number r Lower h = or_none-number r.lb h.0
