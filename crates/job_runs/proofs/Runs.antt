@@ -12,13 +12,7 @@ use Rattle.job_table.specs.History.{Entry, entry_of_move}
 use Rattle.job_table.specs.Looks.{looks}
 use Rattle.job_runs.specs.Runs.{AreLooks, IsJobRun, Works}
 use Rattle.job_runs.specs.Solves.{EntersAndRuns, Solves, BeginsToSolve}
-
-abbrev Made : Type 1
-Made = List ℕ → List ℕ → List Bool → Option (List ℕ) → Type 0
-
--- calls after calls are both
-abbrev Joins : (List Entry → Type 0) → (List Entry → Type 0) → (List Entry → Type 0) → Type 0
-Joins did did' both = (a b : List Entry) → did a → did' b → both (a ++ b)
+use Rattle.job_runs.proofs.Kinds.{Made, Joins}
 
 -- looks and a finish are a run
 pub run_of : (made : Made) (did did' both : List Entry → Type 0) → Joins did did' both
