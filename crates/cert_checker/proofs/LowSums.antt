@@ -1,5 +1,5 @@
 -- The sum of the ends, each times its multiplier: its terms are numbers.
-use Rattle.std.proofs.Common.{◌≡◌, ℕ, ℤ, pos, negsuc, Option, None, Some, IfSome, List, length, inl, inr, refl, sym, subst}
+use Rattle.std.proofs.Common.{◌≡◌, ℕ, Option, None, Some, IfSome, List, length, inl, inr, refl, sym, subst}
 use Rattle.rational.specs.Ratio.{Ratio, IsNumber, IsSame, product}
 use Rattle.fraction.specs.Frac.{ratio}
 use Rattle.fraction.specs.declared.frac.Frac.{Frac}

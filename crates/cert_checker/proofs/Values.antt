@@ -6,7 +6,7 @@ use Rattle.rational.proofs.Scaling.{IsSame-trans}
 use Rattle.fraction.specs.Frac.{ratio, ratios}
 use Rattle.fraction.specs.declared.frac.Frac.{Frac}
 use Rattle.evidence.specs.Instance as Of
-use Rattle.evidence.specs.Instance.{IsInstance, asking, width, cost_at}
+use Rattle.evidence.specs.Instance.{asking, width, cost_at}
 use Rattle.evidence.specs.Point.{value_at, objective}
 use Rattle.evidence.specs.Width.{PointFits}
 use Rattle.evidence.specs.Levels.{HasGoalValues}

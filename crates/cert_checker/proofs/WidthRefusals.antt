@@ -1,12 +1,12 @@
 -- What is shown, whether or not the sums by which it is checked fit, is refused for width alone.
-use Rattle.std.proofs.Common.{◌≡◌, ◌⊎◌, ℕ, ◌+◌, ◌<◌, inl, inr, ℤ, pos, ◌+ℤ◌, Option, None, Some, List, [], ◌∷◌, ◌++◌, append_assoc, append-nil, refl, sym, ◌∙◌, ap, subst}
+use Rattle.std.proofs.Common.{◌≡◌, ◌⊎◌, ℕ, ◌+◌, inl, inr, ℤ, pos, ◌+ℤ◌, Option, None, Some, List, [], ◌∷◌, append-nil, refl, sym, ◌∙◌, ap, subst}
 use Rattle.std.specs.List.{All}
 use Rattle.std.proofs.lemmas.List.Elements.{All-head, All-tail}
 use Rattle.rational.specs.Ratio.{Ratio, IsNumber, IsBelow}
 use Rattle.evidence.specs.Sums.{none}
-use Rattle.evidence.specs.Instance.{Instance, IsInstance, Goal, IsGoalOfNumbers, Problem, IsProblem, width, height, column_at, minimising}
+use Rattle.evidence.specs.Instance.{Instance, IsInstance, Goal, IsGoalOfNumbers, Problem, IsProblem, width, minimising}
 use Rattle.evidence.specs.Point.{IsRay}
-use Rattle.evidence.specs.Cases.{Multiplier, Tree, Clash, Farkas, Bound, Split, Zero, Node, ClashAt, FarkasBy, BoundBy, SplitAt, ZeroAt, preorder, Shows, IsEmpty, IsFarkas, IsBound, IsBranch, IsZeroBranch, at_most, at_least, at_zero, unless_zero}
+use Rattle.evidence.specs.Cases.{Multiplier, Tree, Clash, Farkas, Bound, Split, Zero, Node, ClashAt, FarkasBy, BoundBy, SplitAt, ZeroAt, preorder, IsFarkas, IsBound, at_most, at_least, at_zero, unless_zero}
 use Rattle.evidence.specs.Width.{PointFits}
 use Rattle.evidence.specs.PendingNodes.{ProvesAll, anything}
 use Rattle.evidence.specs.Rounds.{Certificate, IsRoundingCut, derive}

@@ -1,5 +1,5 @@
 -- A job's run, and the calls round it.
-use Rattle.std.proofs.Common.{◌≡◌, ℕ, ◌+◌, nat_lt, Bool, true, false, List, [], ◌∷◌, ◌++◌, Option, Some, refl, sym, ◌∙◌, ap, subst, append-nil, inr, arith, rules, IsTrue, ◌↔◌, IsSome}
+use Rattle.std.proofs.Common.{◌≡◌, ℕ, ◌+◌, nat_lt, Bool, true, false, List, [], ◌∷◌, ◌++◌, Option, Some, refl, sym, ap, subst, append-nil, inr, arith, rules, IsTrue, ◌↔◌, IsSome}
 use Rattle.std.proofs.lemmas.Bool.Decides.{nat_tests}
 use Rattle.os_io.specs.Looks.{stops_of}
 use Rattle.os_io.specs.Laws.{stops_more}

@@ -8,7 +8,7 @@ use Rattle.std.proofs.lemmas.List.{get_or_default}
 use Rattle.rational.specs.Ratio.{Ratio, whole, sum, product, negative, IsNumber, IsSame, IsBelow, IsAtMost}
 use Rattle.rational.specs.Width.{IsReduced}
 use Rattle.evidence.specs.Sums.{none, total}
-use Rattle.evidence.specs.Instance.{Range, Instance, IsInstance, HasNumbers, Sense, Minimum, Maximum, width, height, variable_at, row_at, column_at, cost_at, entry_at, coefficient_at, minimising, minimising_by}
+use Rattle.evidence.specs.Instance.{Range, Instance, IsInstance, HasNumbers, width, height, variable_at, row_at, column_at, cost_at, entry_at, coefficient_at, minimising}
 use Rattle.evidence.specs.Point.{value_at, activity, objective, IsBetween, NeverLeaves}
 use Rattle.evidence.specs.Cases.{Multiplier, end_by, end_of, or_none, form, low_sum, AreLegal, IsFarkas}
 use Rattle.evidence.proofs.Numbers.{◌≈◌, ◌≲◌, ◌⋖◌, ≈-refl, ≈-from, ≈-sym, ◌⊙◌, ◌▹◌, ≲-from, ⋖-≲, ≲-⋖, ⋖-absurd, ≲-trans, product-number, product-≈, product-none, sum-≈, sum-none, none-sum, sum_swap, negative-product}

@@ -6,7 +6,6 @@ use Rattle.std.proofs.lemmas.List.{length-reverse}
 use Rattle.rational.specs.Ratio.{Ratio}
 use Rattle.fraction.specs.Frac.{ratio}
 use Rattle.fraction.specs.declared.frac.Frac.{Frac}
-use Rattle.document_tags.specs.Writing.{text_nodes}
 use Rattle.document_tags.proofs.Lengths.{decimal_size, nodes_size, text_size, written_short}
 use Rattle.decimal_text.specs.Sign.{optional}
 use Rattle.decimal_text.specs.Plain.{point_text}
