@@ -13,20 +13,20 @@
 #![tactic(auto)]
 
 mod checks;
+mod constants;
 mod ends;
 mod feasible;
 mod instance;
 mod laws;
-mod numbers;
 mod parts;
 mod rows;
 mod sums;
 
 pub use checks::are_ends;
+pub use constants::{one, zero};
 pub use ends::is_between;
 pub use feasible::Feas;
 pub use instance::{Instance, MAX_ENTRIES, MAX_GOALS, MAX_ROWS, MAX_VARS};
 pub use laws::{problems_have_numbers, programs_have_numbers};
-pub use numbers::{one, zero};
 pub use parts::{Costs, Goal, Row, Sense, Var};
 pub use sums::{add_product, sum_entries, sum_products};
