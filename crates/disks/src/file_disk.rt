@@ -4,8 +4,7 @@ ghost use Rattle.std.specs.Prelude.{◌≡◌, ◌≤◌, false, [], length, IfO
 ghost use Rattle.os_io.specs.Streams.{Counts};
 
 use crate::disk::Disk;
-use crate::faults::count;
-use os_io::Failed;
+use os_io::{Failed, count_fault};
 use std::fs::{self, OpenOptions, TryLockError};
 use std::io::{self, ErrorKind};
 use std::os::unix::fs::FileExt;
@@ -80,7 +79,7 @@ fn counted<T>(faults: &mut u64, answer: io::Result<T>) -> Result<T, Failed>
 {
     match answer {
         Ok(value) => Ok(value),
-        Err(_) => Err(count(faults)),
+        Err(_) => Err(count_fault(faults)),
     }
 }
 

@@ -12,7 +12,6 @@
 #![tactic(auto)]
 
 mod disk;
-mod faults;
 mod file_disk;
 mod mem_disk;
 #[cfg(test)]

@@ -7,8 +7,7 @@ ghost use Rattle.disks.specs.Disks.{Elapses};
 ghost use Rattle.disks.specs.Past.{Since, HadBeen, only_bytes};
 
 use crate::disk::Disk;
-use crate::faults::count;
-use os_io::{Failed, Memory};
+use os_io::{Failed, Memory, count_fault};
 use std::alloc::Global;
 
 /// A file in memory. Each of its calls is done at once, so a crash leaves what is there, and it keeps each content that it had.
@@ -129,9 +128,9 @@ impl MemDisk {
         match next {
             Ok(next) => match replace(self.alloc, &mut self.bytes, &mut self.past, next) {
                 Ok(()) => Ok(()),
-                Err(_) => Err(count(&mut self.faults)),
+                Err(_) => Err(count_fault(&mut self.faults)),
             },
-            Err(_) => Err(count(&mut self.faults)),
+            Err(_) => Err(count_fault(&mut self.faults)),
         }
     }
 }
@@ -157,21 +156,21 @@ impl Disk for MemDisk {
 
     fn len(&mut self) -> Result<u64, Failed> {
         if self.fails() {
-            return Err(count(&mut self.faults));
+            return Err(count_fault(&mut self.faults));
         }
         Ok(self.bytes.len() as u64)
     }
 
     fn read_at(&mut self, at: u64, buf: &mut [u8]) -> Result<usize, Failed> {
         if self.fails() {
-            return Err(count(&mut self.faults));
+            return Err(count_fault(&mut self.faults));
         }
         Ok(copy_from(&self.bytes, at as usize, buf))
     }
 
     fn write_at(&mut self, at: u64, bytes: &[u8]) -> Result<(), Failed> {
         if self.fails() {
-            return Err(count(&mut self.faults));
+            return Err(count_fault(&mut self.faults));
         }
         let next = written(self.alloc, &self.bytes, at as usize, bytes);
         self.take_over(next)
@@ -179,7 +178,7 @@ impl Disk for MemDisk {
 
     fn cut(&mut self, len: u64) -> Result<(), Failed> {
         if self.fails() {
-            return Err(count(&mut self.faults));
+            return Err(count_fault(&mut self.faults));
         }
         let next = self.bytes[..len as usize].to_vec(self.alloc);
         self.take_over(next)
@@ -187,7 +186,7 @@ impl Disk for MemDisk {
 
     fn sync(&mut self) -> Result<(), Failed> {
         if self.fails() {
-            return Err(count(&mut self.faults));
+            return Err(count_fault(&mut self.faults));
         }
         Ok(())
     }

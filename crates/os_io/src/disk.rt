@@ -2,7 +2,7 @@ ghost use Rattle.std.specs.Prelude.{◌≡◌};
 ghost use Rattle.os_io.specs.Files.{Untold};
 
 use crate::files::{FileFault, Files};
-use crate::parts::count;
+use crate::parts::count_fault;
 use crate::text::Text;
 use std::alloc::Global;
 use std::fs;
@@ -54,7 +54,7 @@ impl<R: fs::Files + Drop> Files for DiskFiles<R> {
             Ok(bytes) => Ok(Text::from_vec(bytes)),
             Err(error) if error.kind() == ErrorKind::OutOfMemory => Err(FileFault::Memory),
             Err(_) => {
-                count(&mut self.faults);
+                count_fault(&mut self.faults);
                 Err(FileFault::Failed)
             }
         }

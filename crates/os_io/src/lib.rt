@@ -52,6 +52,7 @@ pub use mem_listener::MemListener;
 pub use mem_watch::MemWatch;
 pub use memory::{MemSink, MemSource};
 pub use never::Never;
+pub use parts::count_fault;
 pub use standard::{StdSink, StdSource};
 pub use streams::{Failed, Link, Sink, Source, Stream, send_all, write_all};
 pub use text::{Memory, Text};

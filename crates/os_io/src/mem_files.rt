@@ -5,7 +5,7 @@ ghost use Rattle.os_io.specs.MemFiles.{bytes_of, held_as};
 ghost use Rattle.os_io.specs.Memory.{IsFresh};
 
 use crate::files::{FileFault, Files};
-use crate::parts::{Script, count};
+use crate::parts::{Script, count_fault};
 use crate::text::{Memory, Text};
 use std::alloc::Global;
 
@@ -87,7 +87,7 @@ impl Files for MemFiles {
 
     fn read_all(&mut self, alloc: Global, name: &str, most: u64) -> Result<Text, FileFault> {
         if self.script.fails() {
-            count(&mut self.faults);
+            count_fault(&mut self.faults);
             return Err(FileFault::Failed);
         }
         match find(&self.files, name) {
@@ -95,7 +95,7 @@ impl Files for MemFiles {
                 Text::from_slice(alloc, first(bytes, most)).map_err(|_| FileFault::Memory)
             }
             None => {
-                count(&mut self.faults);
+                count_fault(&mut self.faults);
                 Err(FileFault::Failed)
             }
         }

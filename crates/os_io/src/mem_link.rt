@@ -5,7 +5,7 @@ ghost use Rattle.os_io.specs.declared.mem_link.Kept.{out-Kept};
 ghost use Rattle.os_io.specs.Laws.{handed_part};
 
 use crate::close::Close;
-use crate::parts::{Input, Output, Script, count};
+use crate::parts::{Input, Output, Script, count_fault};
 use crate::streams::{Failed, Link, Sink, Source, Stream};
 use crate::text::Memory;
 use std::alloc::Global;
@@ -103,7 +103,7 @@ impl Source for MemLink {
     fn read(&mut self, buf: &mut [u8]) -> Result<usize, Failed> {
         let ways = &mut self.place.ways;
         if ways.script.fails() {
-            return Err(count(&mut ways.read_faults));
+            return Err(count_fault(&mut ways.read_faults));
         }
         Ok(ways.input.read(buf))
     }
@@ -113,18 +113,18 @@ impl Sink for MemLink {
     fn write(&mut self, bytes: &[u8]) -> Result<usize, Failed> {
         let ways = &mut self.place.ways;
         if ways.script.fails() {
-            return Err(count(&mut ways.write_faults));
+            return Err(count_fault(&mut ways.write_faults));
         }
         match ways.output.write(bytes) {
             Some(n) => Ok(n),
-            None => Err(count(&mut ways.write_faults)),
+            None => Err(count_fault(&mut ways.write_faults)),
         }
     }
 
     fn flush(&mut self) -> Result<(), Failed> {
         let ways = &mut self.place.ways;
         if ways.script.fails() {
-            return Err(count(&mut ways.write_faults));
+            return Err(count_fault(&mut ways.write_faults));
         }
         ways.output.hand_on();
         Ok(())

@@ -7,7 +7,7 @@ ghost use Rattle.os_io.specs.Memory.{IsFresh};
 
 use crate::listener::Listener;
 use crate::mem_link::{Kept, MemLink};
-use crate::parts::{Script, count};
+use crate::parts::{Script, count_fault};
 use crate::streams::{Failed, Stream};
 use crate::text::{Memory, Text};
 use std::alloc::Global;
@@ -80,7 +80,7 @@ impl MemListener {
         ensures counted { Counts result self.old.faults self.new.faults }
     {
         if self.script.fails() || self.links.is_empty() {
-            return Err(count(&mut self.faults));
+            return Err(count_fault(&mut self.faults));
         }
         Ok(self.links.remove(0))
     }
@@ -95,10 +95,10 @@ impl MemListener {
         ensures counted { Counts result self.old.faults self.new.faults }
     {
         let Ok(host) = Text::from_slice(self.alloc, host.as_bytes()) else {
-            return Err(count(&mut self.faults));
+            return Err(count_fault(&mut self.faults));
         };
         let Ok(()) = self.reached.reserve(1) else {
-            return Err(count(&mut self.faults));
+            return Err(count_fault(&mut self.faults));
         };
         Ok(Address {
             patience,
@@ -134,7 +134,7 @@ impl Listener for MemListener {
 
     fn listen(&mut self, host: &str, port: u16, patience: u16) -> Result<(), Failed> {
         if self.script.fails() {
-            return Err(count(&mut self.faults));
+            return Err(count_fault(&mut self.faults));
         }
         let address = self.prepare(Some(patience), host, port)?;
         self.reached.push_reserved(address);

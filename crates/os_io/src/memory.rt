@@ -3,7 +3,7 @@ ghost use Rattle.os_io.specs.Memory.{input_left, output_handed, IsFresh};
 ghost use Rattle.os_io.specs.Streams.{source_tells, sink_tells};
 ghost use Rattle.os_io.specs.Laws.{handed_part};
 
-use crate::parts::{Input, Output, Script, count};
+use crate::parts::{Input, Output, Script, count_fault};
 use crate::streams::{Failed, Link, Sink, Source, Stream};
 use crate::text::Memory;
 use std::alloc::Global;
@@ -52,7 +52,7 @@ impl Stream for MemSource {
 impl Source for MemSource {
     fn read(&mut self, buf: &mut [u8]) -> Result<usize, Failed> {
         if self.script.fails() {
-            return Err(count(&mut self.faults));
+            return Err(count_fault(&mut self.faults));
         }
         Ok(self.input.read(buf))
     }
@@ -112,17 +112,17 @@ impl Stream for MemSink {
 impl Sink for MemSink {
     fn write(&mut self, bytes: &[u8]) -> Result<usize, Failed> {
         if self.script.fails() {
-            return Err(count(&mut self.faults));
+            return Err(count_fault(&mut self.faults));
         }
         match self.output.write(bytes) {
             Some(n) => Ok(n),
-            None => Err(count(&mut self.faults)),
+            None => Err(count_fault(&mut self.faults)),
         }
     }
 
     fn flush(&mut self) -> Result<(), Failed> {
         if self.script.fails() {
-            return Err(count(&mut self.faults));
+            return Err(count_fault(&mut self.faults));
         }
         self.output.hand_on();
         Ok(())

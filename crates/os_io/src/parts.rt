@@ -43,8 +43,8 @@ impl Script {
     }
 }
 
-/// Raises a count of faults that isn't at its greatest.
-pub(crate) fn count(faults: &mut u64) -> Failed
+/// Raises a count of faults that isn't at its greatest, and gives what a call that failed answers.
+pub fn count_fault(faults: &mut u64) -> Failed
     ensures { HasRisen faults.old faults.new }
 {
     *faults = faults.saturating_add(1);

@@ -1,7 +1,7 @@
 ghost use Rattle.std.specs.Prelude.{◌≡◌, None};
 ghost use Rattle.os_io.specs.Streams.{source_tells, sink_tells};
 
-use crate::parts::count;
+use crate::parts::count_fault;
 use crate::streams::{Failed, Sink, Source, Stream};
 use std::io::{Read, Write};
 
@@ -36,7 +36,7 @@ impl<R: Read + Drop> Source for StdSource<R> {
     fn read(&mut self, buf: &mut [u8]) -> Result<usize, Failed> {
         match self.reader.read(buf) {
             Ok(n) => Ok(n),
-            Err(_) => Err(count(&mut self.faults)),
+            Err(_) => Err(count_fault(&mut self.faults)),
         }
     }
 }
@@ -72,14 +72,14 @@ impl<W: Write + Drop> Sink for StdSink<W> {
     fn write(&mut self, bytes: &[u8]) -> Result<usize, Failed> {
         match self.writer.write(bytes) {
             Ok(n) if n > 0 || bytes.is_empty() => Ok(n),
-            _ => Err(count(&mut self.faults)),
+            _ => Err(count_fault(&mut self.faults)),
         }
     }
 
     fn flush(&mut self) -> Result<(), Failed> {
         match self.writer.flush() {
             Ok(()) => Ok(()),
-            Err(_) => Err(count(&mut self.faults)),
+            Err(_) => Err(count_fault(&mut self.faults)),
         }
     }
 
