@@ -12,6 +12,7 @@ ghost use Rattle.branch_bound.specs.Walks.{case, rest, moment, IsWalk, IsAt};
 use crate::found::Found;
 use case_tree::{Branch, Cut, Division, back, cases_come_of_branches_above, enter};
 use certificate::{Node, Nodes, Ray};
+use fraction::End;
 use std::alloc::AllocError;
 
 /// Where a search stands: the variables of the case at hand, the branches above it, how many of them count, the nodes so far,
@@ -70,7 +71,8 @@ pub fn split(walk: &mut Walk, depth: usize, col: u32, k: i128) -> Result<(), All
     let filler = Branch {
         col,
         by,
-        old: walk.cuts[col as usize],
+        lb: End::NegInf,
+        ub: End::Inf,
         is_second: false,
     };
     make_room(&mut walk.branches, depth, filler)?;

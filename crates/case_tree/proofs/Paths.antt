@@ -1,13 +1,13 @@
 -- What is still to show after each step of the walk.
 use Rattle.std.proofs.Common.{◌≡◌, ℕ, zero, suc, ◌+◌, ◌<◌, ◌≤◌, true, false, cond, Some, List, ◌∷◌, length, slice_set, slice_index_or, map, arith, refl, sym, ◌∙◌, ap, subst, add-one}
-use Rattle.std.proofs.lemmas.List.{get_or-map, map-set, set-set, set-get_or, get_or-set_same, get_or-set_other}
+use Rattle.std.proofs.lemmas.List.{get_or-map, map-set, set-set, set-get_or, get_or-set_same, get_or-set_other, get_or_default}
 use Rattle.evidence.specs.Instance as Of
 use Rattle.evidence.specs.Cases.{with_range}
 use Rattle.evidence.proofs.Columns.{by_lt}
 use Rattle.case_tree.specs.declared.cuts.Cut.{Cut}
 use Rattle.case_tree.specs.declared.cuts.Division.{Division}
 use Rattle.case_tree.specs.declared.path.Branch.{Branch}
-use Rattle.case_tree.specs.Cuts.{cut, cut_variable, cases, pending, branch_at, no_branch, first_case, second_case, HasNext, AreBranches}
+use Rattle.case_tree.specs.Cuts.{cut, cut_at, cut_variable, cases, pending, branch_at, before_branch, no_branch, no_cut, first_case, second_case, HasNext, AreBranches}
 
 -- a variable in place of another
 module _ (I : Of.Instance) (vs : List Cut) (j : ℕ) (v w : Cut) (h : j < length vs) (is : v ≡ slice_index_or vs j v) where
@@ -25,7 +25,14 @@ module _ (I : Of.Instance) (vs : List Cut) (j : ℕ) (v w : Cut) (h : j < length
 
 -- the variables before a branch
 abbrev before : List Cut → Branch → List Cut
-before vs b = slice_set vs b.col b.old
+before vs b = slice_set vs b.col (before_branch (cut_at vs b.col) b)
+
+-- they are the same, whatever ends the branch's variable has at hand
+before_again : (vs : List Cut) (b : Branch) (w : Cut) → b.col < length vs → w.var ≡ (cut_at vs b.col).var → before (slice_set vs b.col w) b ≡ before vs b
+before_again vs b w h kept =
+    set-set vs b.col w (before_branch (cut_at (slice_set vs b.col w) b.col) b)
+    ∙ ap (λ c. slice_set vs b.col (before_branch c b)) (get_or-set_same vs b.col w no_cut h)
+    ∙ ap (λ v. slice_set vs b.col (record { lb = b.lb; ub = b.ub; var = v })) kept
 
 -- what is to show from a branch on
 abbrev from : Of.Instance → List Cut → Branch → List Of.Instance → List Of.Instance
@@ -65,10 +72,15 @@ branches_less n bs d e h above = record {
 }
 
 -- the first case of a branch, and after it the second
-pub entered : (I : Of.Instance) (vs : List Cut) (bs : List Branch) (d j : ℕ) (by : Division) (v w : Cut) (b : Branch) → d < length bs → j < length vs → v ≡ slice_index_or vs j v → b ≡ record { col = j; by = by; old = v; is_second = false } → cut I (slice_set vs j w) ≡ first_case (cut I vs) j by → cases I (slice_set vs j w) (slice_set bs d b) (Some (d + 1)) ≡ first_case (cut I vs) j by ∷ second_case (cut I vs) j by ∷ pending I vs bs d
-entered I vs bs d j by v w b hd hj is eb first =
-    let back : slice_set (slice_set vs j w) j v ≡ vs = set-set vs j w v ∙ ap (slice_set vs j) is ∙ set-get_or vs j v in
-    let here : branch_at (slice_set bs d b) d ≡ record { col = j; by = by; old = v; is_second = false } = set_here bs d b hd ∙ eb in
+pub entered : (I : Of.Instance) (vs : List Cut) (bs : List Branch) (d j : ℕ) (by : Division) (v w : Cut) (b : Branch) → d < length bs → j < length vs → v ≡ slice_index_or vs j v → w.var ≡ v.var → b ≡ record { col = j; by = by; lb = v.lb; ub = v.ub; is_second = false } → cut I (slice_set vs j w) ≡ first_case (cut I vs) j by → cases I (slice_set vs j w) (slice_set bs d b) (Some (d + 1)) ≡ first_case (cut I vs) j by ∷ second_case (cut I vs) j by ∷ pending I vs bs d
+entered I vs bs d j by v w b hd hj is kept eb first =
+    let above : Branch = record { col = j; by = by; lb = v.lb; ub = v.ub; is_second = false } in
+    let at : cut_at vs j ≡ v = get_or_default vs j no_cut v hj ∙ sym is in
+    let back : before (slice_set vs j w) above ≡ vs =
+    before_again vs above w hj (kept ∙ ap (λ c. c.var) (sym at))
+    ∙ ap (λ c. slice_set vs j (before_branch c above)) at
+    ∙ ap (slice_set vs j) is ∙ set-get_or vs j v in
+    let here : branch_at (slice_set bs d b) d ≡ above = set_here bs d b hd ∙ eb in
     let rest : pending I vs (slice_set bs d b) d ≡ pending I vs bs d = pending_same I vs (slice_set bs d b) bs d (λ e h. set_below bs d e b h) in
     let second : pending I (slice_set vs j w) (slice_set bs d b) (d + 1) ≡ second_case (cut I vs) j by ∷ pending I vs bs d =
     pending_next I (slice_set vs j w) (slice_set bs d b) d
@@ -78,11 +90,11 @@ entered I vs bs d j by v w b hd hj is eb first =
     ap (λ J. J ∷ pending I (slice_set vs j w) (slice_set bs d b) (d + 1)) first ∙ ap (λ r. first_case (cut I vs) j by ∷ r) second
 
 -- the second case of a branch whose first is done
-pub turned : (I : Of.Instance) (vs : List Cut) (bs : List Branch) (d : ℕ) (b c : Branch) (w : Cut) → d < length bs → branch_at bs d ≡ b → b.is_second ≡ false → c ≡ record b { is_second = true } → cut I (slice_set (before vs b) b.col w) ≡ second_case (cut I (before vs b)) b.col b.by → cases I (slice_set vs b.col w) (slice_set bs d c) (Some (d + 1)) ≡ pending I vs bs (d + 1)
-turned I vs bs d b c w hd eb first ec second =
+pub turned : (I : Of.Instance) (vs : List Cut) (bs : List Branch) (d : ℕ) (b c : Branch) (w : Cut) → d < length bs → b.col < length vs → branch_at bs d ≡ b → b.is_second ≡ false → c ≡ record b { is_second = true } → w.var ≡ (cut_at vs b.col).var → cut I (slice_set (before vs b) b.col w) ≡ second_case (cut I (before vs b)) b.col b.by → cases I (slice_set vs b.col w) (slice_set bs d c) (Some (d + 1)) ≡ pending I vs bs (d + 1)
+turned I vs bs d b c w hd hj eb first ec kept second =
     let us : List Cut = slice_set vs b.col w in
-    let over : slice_set (before vs b) b.col w ≡ us = set-set vs b.col b.old w in
-    let back : slice_set us b.col b.old ≡ before vs b = set-set vs b.col w b.old in
+    let over : slice_set (before vs b) b.col w ≡ us = set-set vs b.col (before_branch (cut_at vs b.col) b) w in
+    let back : before us b ≡ before vs b = before_again vs b w hj kept in
     let here : branch_at (slice_set bs d c) d ≡ record b { is_second = true } = set_here bs d c hd ∙ ec in
     let rest : pending I (before vs b) (slice_set bs d c) d ≡ pending I (before vs b) bs d = pending_same I (before vs b) (slice_set bs d c) bs d (λ e h. set_below bs d e c h) in
     let now : pending I us (slice_set bs d c) (d + 1) ≡ pending I (before vs b) bs d =
@@ -98,18 +110,3 @@ turned I vs bs d b c w hd eb first ec second =
     ∙ ap (λ J. J ∷ pending I us (slice_set bs d c) (d + 1)) second
     ∙ ap (λ r. second_case (cut I (before vs b)) b.col b.by ∷ r) now
     ∙ sym then
-
--- on the way back, the variable of a branch is as it was before it
-pub undone : (I : Of.Instance) (vs : List Cut) (bs : List Branch) (d : ℕ) (b : Branch) → branch_at bs d ≡ b → pending I (before vs b) bs (d + 1) ≡ pending I vs bs (d + 1)
-undone I vs bs d b eb =
-    let twice : before (before vs b) b ≡ before vs b = set-set vs b.col b.old b.old in
-    pending_next I (before vs b) bs d
-    ∙ ap (λ a. from I (before vs b) a (pending I (before (before vs b) a) bs d)) eb
-    ∙ ap (λ l. cond b.is_second (pending I l bs d) (second_case (cut I l) b.col b.by ∷ pending I l bs d)) twice
-    ∙ sym (pending_next I vs bs d ∙ ap (λ a. from I vs a (pending I (before vs a) bs d)) eb)
-
-pub passed : (I : Of.Instance) (vs : List Cut) (bs : List Branch) (d : ℕ) (b : Branch) → branch_at bs d ≡ b → b.is_second ≡ true → pending I (before vs b) bs d ≡ pending I vs bs (d + 1)
-passed I vs bs d b eb second =
-    sym (pending_next I vs bs d
-    ∙ ap (λ a. from I vs a (pending I (before vs a) bs d)) eb
-    ∙ ap (λ t. cond t (pending I (before vs b) bs d) (second_case (cut I (before vs b)) b.col b.by ∷ pending I (before vs b) bs d)) second)

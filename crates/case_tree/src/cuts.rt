@@ -109,7 +109,8 @@ pub fn uncut(var: Var) -> Cut
 /// The variable in the first case of a division.
 pub fn first(cut: Cut, by: Division) -> Cut
     requires { HasNext by }
-    ensures { cut_variable result ≡ record (cut_variable cut) { range = first_range by (cut_variable cut) } }
+    ensures range { cut_variable result ≡ record (cut_variable cut) { range = first_range by (cut_variable cut) } }
+    ensures var { result.var ≡ cut.var }
 {
     match by {
         Division::Split(k) => Cut {
@@ -127,7 +128,8 @@ pub fn first(cut: Cut, by: Division) -> Cut
 /// The variable in the second case of a division.
 pub fn second(cut: Cut, by: Division) -> Cut
     requires { HasNext by }
-    ensures { cut_variable result ≡ record (cut_variable cut) { range = second_range by (cut_variable cut) } }
+    ensures range { cut_variable result ≡ record (cut_variable cut) { range = second_range by (cut_variable cut) } }
+    ensures var { result.var ≡ cut.var }
 {
     match by {
         Division::Split(k) => Cut {

@@ -1,17 +1,30 @@
 // The branches above the case at hand, and the way back to the next case.
 ghost use Rattle.std.specs.Prelude.{◌≡◌, ◌+◌, ◌<◌, ◌≤◌, ◌∷◌, false, length, IfSome};
 ghost use Rattle.evidence.specs.Instance as Of;
-ghost use Rattle.case_tree.specs.Cuts.{cut, cases, pending, branch_at, first_case, second_case, HasNext, AreBranches};
+ghost use Rattle.case_tree.specs.Cuts.{cut, cases, pending, branch_at, before_branch, first_case, second_case, HasNext, AreBranches};
 
 use crate::cuts::{Cut, Division, first, second};
+use fraction::End;
 
-/// A branch above the case at hand: what its variable was before, and whether the walk is in the second case.
+/// A branch above the case at hand: which ends its variable had before, and whether the walk is in the second case.
 #[derive(Clone, Copy, PartialEq, Eq)]
 pub struct Branch {
     pub col: u32,
     pub by: Division,
-    pub old: Cut,
+    pub lb: End,
+    pub ub: End,
     pub is_second: bool,
+}
+
+/// The branch's variable as it was before.
+fn before(cut: Cut, branch: Branch) -> Cut
+    ensures { result ≡ before_branch cut branch }
+{
+    Cut {
+        lb: branch.lb,
+        ub: branch.ub,
+        var: cut.var,
+    }
 }
 
 /// Goes to the first case of a branch.
@@ -28,13 +41,14 @@ pub fn enter(cuts: &mut [Cut], branches: &mut [Branch], depth: usize, col: u32, 
     branches[depth] = Branch {
         col,
         by,
-        old,
+        lb: old.lb,
+        ub: old.ub,
         is_second: false,
     };
     cuts[j] = first(old, by);
 }
 
-/// Goes to the second case of a branch, whose variable is as it was before.
+/// Goes to the second case of a branch, over its variable as it was before.
 fn turn(cuts: &mut [Cut], branches: &mut [Branch], place: usize)
     requires room { place < length branches.old }
     requires above { AreBranches (length cuts.old) branches.old (place + 1) }
@@ -43,7 +57,8 @@ fn turn(cuts: &mut [Cut], branches: &mut [Branch], place: usize)
     ensures cases { (I : Of.Instance) → cases I cuts.new branches.new (Some (place + 1)) ≡ pending I cuts.old branches.old (place + 1) }
 {
     let branch = branches[place];
-    cuts[branch.col as usize] = second(branch.old, branch.by);
+    let j = branch.col as usize;
+    cuts[j] = second(before(cuts[j], branch), branch.by);
     branches[place].is_second = true;
 }
 
@@ -59,11 +74,12 @@ pub fn back(cuts: &mut [Cut], branches: &mut [Branch], depth: usize) -> Option<u
     while place > 0 {
         place -= 1;
         let branch = branches[place];
-        cuts[branch.col as usize] = branch.old;
         if !branch.is_second {
             turn(cuts, branches, place);
             return Some(place + 1);
         }
+        let j = branch.col as usize;
+        cuts[j] = before(cuts[j], branch);
     }
     None
 }

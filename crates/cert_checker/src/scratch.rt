@@ -114,7 +114,8 @@ impl Scratch {
         let branch = Branch {
             col: 0,
             by: Division::Zero,
-            old: cut,
+            lb: End::NegInf,
+            ub: End::Inf,
             is_second: false,
         };
         Ok(Scratch {

@@ -1,7 +1,8 @@
 use Rattle.std.proofs.Common.{◌≡◌, ◌+◌, ◌<◌, length, slice_set, slice_index_or, true, arith, ap, subst, sym, ◌∙◌, refl}
 use Rattle.std.proofs.lemmas.List.{length-set, get_or-set_same, get_or_default, get_or_read_under}
+use Rattle.case_tree.specs.declared.cuts.Cut.{Cut}
 use Rattle.case_tree.specs.declared.path.Branch.{Branch}
-use Rattle.case_tree.specs.Cuts.{no_branch, branch_at, second_range, HasNext}
+use Rattle.case_tree.specs.Cuts.{no_branch, no_cut, branch_at, before_branch, cut_at, second_range, HasNext}
 use Rattle.case_tree.proofs.Paths.{branches_with, branches_less, turned, cut_by}
 use Rattle.case_tree.proofs.path.turn.Goals as goal
 
@@ -18,14 +19,17 @@ returns-clause-above c =
 
 pub returns-clause-cases : goal.returns-clause-cases
 returns-clause-cases c = λ I.
+    let vs = c.args.cuts.now in
     let bs = c.args.branches.now in
     let d = c.args.place in
     let b : Branch = c.index-branches-place.result in
     let eb : branch_at bs d ≡ b = sym (get_or_read_under bs d (length bs) b no_branch c.index-branches-place.is c.requires.room refl) in
     let ec : slice_index_or bs d c.index-branches-place-2.result ≡ b = sym (get_or_read_under bs d (length bs) b c.index-branches-place-2.result c.index-branches-place.is c.requires.room refl) in
-    let here : d < d + 1 = omega arith in
-    let inside : b.col < length c.args.cuts.now = subst (λ (x : Branch). x.col < length c.args.cuts.now) eb (c.requires.above.columns d here) in
-    let long = length-set c.args.cuts.now b.col b.old in
-    turned I c.args.cuts.now bs d b (record (slice_index_or bs d c.index-branches-place-2.result) { is_second = true }) c.second.result c.requires.room eb (ap (λ (x : Branch). x.is_second) (sym eb) ∙ c.requires.first)
+    let inside : b.col < length vs = subst (λ (x : Branch). x.col < length vs) eb (c.requires.above.columns d (omega arith)) in
+    let v : Cut = before_branch (cut_at vs b.col) b in
+    let is : c.before-2.result ≡ v = c.before-2.ensures ∙ ap (λ (x : Cut). before_branch x b) (get_or_read_under vs b.col (length vs) c.index-cuts-j.result no_cut c.index-cuts-j.is inside refl) in
+    let long = length-set vs b.col v in
+    turned I vs bs d b (record (slice_index_or bs d c.index-branches-place-2.result) { is_second = true }) c.second.result c.requires.room inside eb (ap (λ (x : Branch). x.is_second) (sym eb) ∙ c.requires.first)
     (ap (λ (x : Branch). let y : Branch = record x { is_second = true } in y) ec)
-    (cut_by I (slice_set c.args.cuts.now b.col b.old) b.col b.old c.second.result (omega arith) (sym (get_or-set_same c.args.cuts.now b.col b.old b.old inside)) (second_range b.by) c.second.ensures)
+    (c.second.ensures.var ∙ ap (λ (x : Cut). x.var) is)
+    (cut_by I (slice_set vs b.col v) b.col c.before-2.result c.second.result (omega arith) (is ∙ sym (get_or-set_same vs b.col v c.before-2.result inside)) (second_range b.by) c.second.ensures.range)
