@@ -8,6 +8,7 @@ use Rattle.certificate.specs.declared.causes.Cause.{Cause}
 use Rattle.certificate.specs.declared.causes.Cause.TheVariants.{Killed, NodeLimit, TurnLimit, Wide, Length, Memory}
 use Rattle.certificate.specs.declared.claims.Claim.{Claim}
 use Rattle.certificate.specs.declared.claims.Claim.TheVariants as Has
+use Rattle.no_cycles.specs.Searches.{is_for}
 use Rattle.search_rules.specs.Search.{Outcome, Optimal, Infeasible, Unbounded, BestSoFar, Unsure}
 
 -- the certificate that has these nodes alone
@@ -38,6 +39,14 @@ claimed_cause (Has.Unbounded x vs cs r) = None
 claimed_cause (Has.BestSoFar x vs c) = Some c
 claimed_cause (Has.Unsure c) = Some c
 
+-- a claim has such a cause
+abbrev pub claims_for : (Cause → Bool) → Claim → Bool
+claims_for such (Has.Optimal x vs cs) = false
+claims_for such (Has.Infeasible cert) = false
+claims_for such (Has.Unbounded x vs cs r) = false
+claims_for such (Has.BestSoFar x vs c) = such c
+claims_for such (Has.Unsure c) = such c
+
 -- the claim tells the outcome: what it says, and the cause
 pub record Tells (claim : Claim) (o : Outcome) : Type 0 where
   pub says : Means.claim claim ≡ said o
@@ -53,8 +62,4 @@ is_kill Memory = false
 
 -- a look stopped the search
 abbrev pub is_killed : Outcome → Bool
-is_killed (Optimal x v ns) = false
-is_killed (Infeasible ns) = false
-is_killed (Unbounded x v r) = false
-is_killed (BestSoFar x v c) = is_kill c
-is_killed (Unsure c) = is_kill c
+is_killed o = is_for is_kill o

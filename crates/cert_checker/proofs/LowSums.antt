@@ -1,15 +1,15 @@
 -- The sum of the ends, each times its multiplier: its terms are numbers.
-use Rattle.std.proofs.Common.{◌≡◌, ℕ, ℤ, pos, negsuc, Option, None, Some, IfSome, List, length, inl, inr, refl, sym, subst}
+use Rattle.std.proofs.Common.{◌≡◌, ℕ, Option, None, Some, IfSome, List, length, inl, inr, refl, sym, subst}
 use Rattle.rational.specs.Ratio.{Ratio, IsNumber, IsSame, product}
 use Rattle.fraction.specs.Frac.{ratio}
 use Rattle.fraction.specs.declared.frac.Frac.{Frac}
 use Rattle.evidence.specs.Sums.{none}
-use Rattle.evidence.specs.Instance.{Range, HasNumbers, Instance, IsInstance, column_at}
-use Rattle.evidence.specs.Cases.{multiplier_at, end_by, end_of, or_none, low_sum}
+use Rattle.evidence.specs.Instance.{Instance, IsInstance, column_at}
+use Rattle.evidence.specs.Cases.{multiplier_at, end_of, or_none, low_sum}
 use Rattle.evidence.specs.Width.{LowFits}
 use Rattle.evidence.proofs.Numbers.{◌≈◌, ◌⋖◌, ◌≲◌, ≈-sym, ≲-from, ≲-trans, ⋖-≲, product-number}
 use Rattle.evidence.proofs.Totals.{total-number}
-use Rattle.evidence.proofs.UniqueRows.{or_none-number}
+use Rattle.evidence.proofs.UniqueRows.{end_by-number}
 use Rattle.evidence.proofs.Columns.{none-number, column-numbers}
 use Rattle.certificate.specs.declared.lists.Mult.{Mult}
 use Rattle.certificate.specs.Meanings.{multipliers}
@@ -18,13 +18,9 @@ use Rattle.cert_checker.specs.declared.refused.Unshown.TheVariants.{Sum, Wide}
 use Rattle.cert_checker.specs.Leaves.{start, ReachesBound, HasSum, SumRefuses}
 use Rattle.cert_checker.proofs.ColumnSums.{factors-number}
 
-end-number : (z : ℤ) (r : Range) → HasNumbers r → IsNumber (or_none (end_by z r))
-end-number (pos n) r h = or_none-number r.lb h.0
-end-number (negsuc n) r h = or_none-number r.ub h.1
-
 pub ends-number : (I : Instance) → IsInstance I → (ms : List Mult) (k : ℕ) → IsNumber (or_none (end_of I (multiplier_at (multipliers ms) k)))
 ends-number I good ms k =
-    end-number (multiplier_at (multipliers ms) k).by.num (column_at I (multiplier_at (multipliers ms) k).column)
+    end_by-number (multiplier_at (multipliers ms) k).by.num (column_at I (multiplier_at (multipliers ms) k).column)
     (column-numbers I good (multiplier_at (multipliers ms) k).column)
 
 -- a sum of the same value reaches the same

@@ -1,23 +1,22 @@
 -- Movements along a direction, as the code reads them and as the program has them.
 use Rattle.std.proofs.Common.{◌≡◌, ◌↔◌, ◌⊎◌, inl, inr, ℕ, ◌<◌, Bool, true, false, IsTrue, Option, None, Some, IfSome, List, length, get_or, slice_index_or, map, refl, sym, ◌∙◌, ap, subst}
-use Rattle.std.specs.List.{All}
 use Rattle.std.proofs.lemmas.List.{get_or-map, length-map}
-use Rattle.std.proofs.lemmas.List.Elements.{All-map}
-use Rattle.rational.specs.Ratio.{Ratio, IsNumber, IsSame, IsBelow, product, negative}
+use Rattle.rational.specs.Ratio.{Ratio, IsNumber, IsSame, IsBelow, product}
 use Rattle.fraction.specs.Frac.{ratio, ratios}
 use Rattle.fraction.specs.declared.frac.Frac.{Frac}
 use Rattle.evidence.specs.Sums.{none, total, IsWhole}
 use Rattle.evidence.specs.Instance as Of
-use Rattle.evidence.specs.Instance.{Range, Variable, Instance, IsInstance, Sense, Minimum, Maximum, no_variable, width, height, cost_at, minimising, minimising_by}
+use Rattle.evidence.specs.Instance.{Range, Variable, Instance, IsInstance, no_variable, width, height, cost_at, minimising}
 use Rattle.evidence.specs.Point.{value_at, activity, IsBetween, NeverLeaves, NeverLeavesZeroOr, IsRay}
 use Rattle.evidence.specs.Width.{RayFits}
-use Rattle.evidence.proofs.Numbers.{◌≈◌, ◌≲◌, ◌⋖◌, ≈-sym, ≲-from, ≲-trans, ≲-⋖, product-number, negative-product}
-use Rattle.evidence.proofs.Totals.{total-number, total-same, total-negative}
-use Rattle.evidence.proofs.Columns.{none-number, activity-number, value-number}
+use Rattle.evidence.proofs.Numbers.{◌≈◌, ◌≲◌, ◌⋖◌, ≈-sym, ≲-from, ≲-trans, ≲-⋖, product-number}
+use Rattle.evidence.proofs.Totals.{total-number}
+use Rattle.evidence.proofs.Columns.{none-number, value-number}
 use Rattle.evidence.proofs.SemiVariables.{semi_moves}
-use Rattle.evidence.proofs.Duality.{minimising-number}
+use Rattle.evidence.proofs.Duality.{minimising-number, minimising_slope}
 use Rattle.instance.specs.declared.parts.Var.{Var}
 use Rattle.instance.specs.Program.{range, range_by, further_by, variable}
+use Rattle.instance.proofs.Search.{point-numbers, activity_near}
 use Rattle.instance.proofs.Terms.{read, ratios-number}
 use Rattle.cert_checker.specs.Rays.{MayMove, VariablesMove, RowsMove, slope, SlopeFits}
 
@@ -70,12 +69,9 @@ never_same r v w e n = record {
   high = some_weaker r.ub (λ l q. let a : v ≲ none = record { left = e.left; right = none-number; is = q } in let b = ≲-trans (≲-from (≈-sym e)) a in b.is) n.high;
 }
 
-pub point-numbers : (x : List Frac) → All IsNumber (ratios x)
-point-numbers x = All-map IsNumber ratio x (λ k d h. (slice_index_or x k d).above)
-
 module _ (I : Instance) (good : IsInstance I) (x : List Frac) (i : ℕ) (r : Range) (a : Frac) (is : r ≡ Of.row_at I i) (ea : IsSame (ratio a) (activity I (ratios x) i)) where
   near : ratio a ≈ activity I (ratios x) i
-  near = record { left = a.above; right = activity-number I good (ratios x) (point-numbers x) i; is = ea }
+  near = activity_near I good x i a ea
 
   pub never_to : NeverLeaves r (ratio a) → NeverLeaves (Of.row_at I i) (activity I (ratios x) i)
   never_to n = subst (λ s. NeverLeaves s (activity I (ratios x) i)) is (never_same r (ratio a) (activity I (ratios x) i) near n)
@@ -84,14 +80,8 @@ module _ (I : Instance) (good : IsInstance I) (x : List Frac) (i : ℕ) (r : Ran
   never_from n = never_same r (activity I (ratios x) i) (ratio a) (≈-sym near) (subst (λ s. NeverLeaves s (activity I (ratios x) i)) (sym is) n)
 
 -- the sum of the minimising costs is the minimising sum of the costs
-slope_by : (s : Sense) (n : ℕ) (c v : ℕ → Ratio) → total none n (λ j. product (minimising_by s (c j)) (v j)) ≡ minimising_by s (total none n (λ j. product (c j) (v j)))
-slope_by Minimum n c v = refl
-slope_by Maximum n c v =
-    total-same none n (λ j. product (negative (c j)) (v j)) (λ j. negative (product (c j) (v j))) (λ j. negative-product (c j) (v j))
-    ∙ total-negative none n (λ j. product (c j) (v j))
-
 pub slope_is : (I : Instance) (r : List Ratio) → slope I r ≡ minimising I (total none (width I) (λ j. product (cost_at I j) (value_at r j)))
-slope_is I r = slope_by I.goal.sense (width I) (cost_at I) (value_at r)
+slope_is I r = minimising_slope I.goal.sense (width I) (cost_at I) (value_at r)
 
 pub turned-number : (I : Instance) → IsInstance I → (j : ℕ) → IsNumber (minimising I (cost_at I j))
 turned-number I good j = minimising-number I (cost_at I j) (value-number I.goal.costs good.costs j)

@@ -1,5 +1,5 @@
 -- A round's sums are the coefficients of its row, and its low sum, rounded up, is the lower end.
-use Rattle.std.proofs.Common.{◌≡◌, ℕ, ◌<◌, ℤ, pos, negsuc, neg_ℤ, ◌+ℤ◌, ◌*ℤ◌, ◌≤ℤ◌, IsTrue, Option, None, Some, List, length, slice_index_or, lit<, arith, refl, sym, ◌∙◌, ap, subst}
+use Rattle.std.proofs.Common.{◌≡◌, ℕ, ◌<◌, ℤ, pos, negsuc, neg_ℤ, ◌+ℤ◌, ◌*ℤ◌, ◌≤ℤ◌, IsTrue, Option, None, Some, List, length, slice_index_or, arith, refl, sym, ◌∙◌, ap, subst}
 use Rattle.std.proofs.lemmas.Int.{ints}
 use Rattle.std.proofs.lemmas.List.{length-map, get_or-map}
 use Rattle.std.proofs.Math.ListN as ListN
@@ -17,6 +17,7 @@ use Rattle.evidence.specs.Width.{LowFits}
 use Rattle.evidence.specs.Rounds.{IsCeiling}
 use Rattle.evidence.proofs.Numbers.{◌≈◌, ◌≲◌, ◌⋖◌, ≈-sym, ≲-from, ≲-trans, ⋖-≲, one_times}
 use Rattle.std.proofs.Math.IntN.{*ℤ_comm, zero-*ℤ}
+use Rattle.evidence.proofs.RoundingCuts.{whole-number}
 use Rattle.evidence.proofs.UniqueRows.{form_number, low-number}
 use Rattle.evidence.proofs.Fits.{whole_over_one}
 use Rattle.certificate.specs.declared.lists.Mult.{Mult}
@@ -28,9 +29,6 @@ use Rattle.cert_checker.specs.Programs.{MakesRound, numerator, numerators}
 use Rattle.cert_checker.specs.RoundRefusals.{IsWholeForm, WholeFormsBelow}
 use Rattle.cert_checker.proofs.ColumnSums.{unfit_form, is_form, form-number}
 use Rattle.cert_checker.proofs.Widths.{cut-instance}
-
-whole-number : (n : ℤ) → IsNumber (whole n)
-whole-number n = lit< tt
 
 none_from : (x : Ratio) → IsSame x none → x.num ≡ pos 0
 none_from x e = sym (one_times x.num) ∙ *ℤ_comm (pos 1) x.num ∙ e ∙ zero-*ℤ (pos x.den)

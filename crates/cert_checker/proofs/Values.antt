@@ -6,7 +6,7 @@ use Rattle.rational.proofs.Scaling.{IsSame-trans}
 use Rattle.fraction.specs.Frac.{ratio, ratios}
 use Rattle.fraction.specs.declared.frac.Frac.{Frac}
 use Rattle.evidence.specs.Instance as Of
-use Rattle.evidence.specs.Instance.{IsInstance, asking, width, cost_at}
+use Rattle.evidence.specs.Instance.{asking, width, cost_at}
 use Rattle.evidence.specs.Point.{value_at, objective}
 use Rattle.evidence.specs.Width.{PointFits}
 use Rattle.evidence.specs.Levels.{HasGoalValues}
@@ -17,11 +17,11 @@ use Rattle.instance.specs.Parts.{Parts, IsValid}
 use Rattle.instance.specs.Program.{goal, problem, program}
 use Rattle.instance.specs.Feasibility.{IsFeasibleWithin}
 use Rattle.instance.proofs.Numbers.{problem-goals}
+use Rattle.instance.proofs.Search.{point-numbers}
 use Rattle.instance.proofs.Terms.{read, ratios-number}
 use Rattle.cert_checker.specs.Points.{ValuesBelow, ValueRefuses, ValuesRefuse}
 use Rattle.cert_checker.specs.declared.refused.Refused.{Refused}
 use Rattle.cert_checker.specs.declared.refused.Refused.TheVariants.{Value}
-use Rattle.cert_checker.proofs.Moves.{point-numbers}
 use Rattle.cert_checker.proofs.HandRows.{goal-numbers-at}
 
 pub goals_count : (p : Parts) → IsValid p → length (Of.goals (problem p)) ≡ length p.goals

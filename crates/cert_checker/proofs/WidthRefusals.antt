@@ -1,18 +1,20 @@
 -- What is shown, whether or not the sums by which it is checked fit, is refused for width alone.
-use Rattle.std.proofs.Common.{◌≡◌, ◌⊎◌, ℕ, ◌+◌, ◌<◌, inl, inr, ℤ, pos, ◌+ℤ◌, Option, None, Some, List, [], ◌∷◌, ◌++◌, append_assoc, append-nil, refl, sym, ◌∙◌, ap, subst}
+use Rattle.std.proofs.Common.{◌≡◌, ◌⊎◌, ℕ, ◌+◌, inl, inr, ℤ, pos, ◌+ℤ◌, Option, None, Some, List, [], ◌∷◌, append-nil, refl, sym, ◌∙◌, ap, subst}
 use Rattle.std.specs.List.{All}
 use Rattle.std.proofs.lemmas.List.Elements.{All-head, All-tail}
 use Rattle.rational.specs.Ratio.{Ratio, IsNumber, IsBelow}
 use Rattle.evidence.specs.Sums.{none}
-use Rattle.evidence.specs.Instance.{Instance, IsInstance, Goal, IsGoalOfNumbers, Problem, IsProblem, width, height, column_at, minimising}
+use Rattle.evidence.specs.Instance.{Instance, IsInstance, Goal, IsGoalOfNumbers, Problem, IsProblem, width, minimising}
 use Rattle.evidence.specs.Point.{IsRay}
-use Rattle.evidence.specs.Cases.{Multiplier, Tree, Clash, Farkas, Bound, Split, Zero, Node, ClashAt, FarkasBy, BoundBy, SplitAt, ZeroAt, preorder, Shows, IsEmpty, IsFarkas, IsBound, IsBranch, IsZeroBranch, at_most, at_least, at_zero, unless_zero}
+use Rattle.evidence.specs.Cases.{Multiplier, Tree, Clash, Farkas, Bound, Split, Zero, Node, ClashAt, FarkasBy, BoundBy, SplitAt, ZeroAt, preorder, IsFarkas, IsBound, at_most, at_least, at_zero, unless_zero}
 use Rattle.evidence.specs.Width.{PointFits}
+use Rattle.evidence.specs.PendingNodes.{ProvesAll, anything}
 use Rattle.evidence.specs.Rounds.{Certificate, IsRoundingCut, derive}
 use Rattle.evidence.specs.Levels.{HasGoalValues, IsReachedEnd, next_level, RoundsAreOfOneGoal}
 use Rattle.evidence.specs.Claim.{Infeasible}
 use Rattle.evidence.proofs.RoundingCuts.{instance_derived}
 use Rattle.evidence.proofs.LevelSteps.{next-instance}
+use Rattle.evidence.proofs.PendingNodes.{none_read, clash_read, farkas_read, bound_read, split_read, zero_read}
 use Rattle.evidence.proofs.UniqueRows.{one_row, one_end}
 use Rattle.cert_checker.specs.declared.refused.Refused.{Refused}
 use Rattle.cert_checker.specs.declared.refused.Refused.TheVariants.{Level}
@@ -29,11 +31,6 @@ use Rattle.cert_checker.specs.Refusals.{IsRefusedFor}
 use Rattle.cert_checker.proofs.Moves.{slope_is}
 use Rattle.cert_checker.proofs.Multipliers.{pair_of}
 use Rattle.cert_checker.proofs.Refusals.{not_point, not_clash, whole_form}
-
--- a tree for each instance, and nothing after them
-abbrev ProvesAll : List Instance → List Node → Option Ratio → Type 0
-ProvesAll [] nodes z = nodes ≡ []
-ProvesAll (I ∷ Is) nodes z = (tree : Tree) × (rest : List Node) × (nodes ≡ preorder tree ++ rest) × Shows I tree z × ProvesAll Is rest z
 
 abbrev IsWide : Unshown → Type 0
 IsWide r = (n : ℕ) × (r ≡ Wide n)
@@ -52,84 +49,25 @@ bound_wide I ms z n r h (inr (inl (l, inr (j, o, e)))) = (n, e)
 bound_wide I ms z n r h (inr (inr (l, f, inl (unfit, e)))) = (n, e)
 bound_wide I ms z n r h (inr (inr (l, f, inr (g, other, e)))) = absurd (other h.reaches)
 
--- a list read from its head
-no_rest : (I : Instance) (Is : List Instance) (z : Option Ratio) → ProvesAll (I ∷ Is) [] z → ⊥
-no_rest I Is z (Clash c, rest, e, s, o) = cc
-no_rest I Is z (Farkas ms, rest, e, s, o) = cc
-no_rest I Is z (Bound ms, rest, e, s, o) = cc
-no_rest I Is z (Split j k a b, rest, e, s, o) = cc
-no_rest I Is z (Zero j a b, rest, e, s, o) = cc
-
-module _ (I : Instance) (Is : List Instance) (rest : List Node) (z : Option Ratio) where
-  clash_read : (c : ℕ) → ProvesAll (I ∷ Is) (ClashAt c ∷ rest) z → ((c < width I + height I) × IsEmpty (column_at I c)) × ProvesAll Is rest z
-  clash_read c (Clash d, others, e, s, o) = let p : d ≡ c = cc in let q : others ≡ rest = cc in (subst (λ d. (d < width I + height I) × IsEmpty (column_at I d)) p s, subst (λ r. ProvesAll Is r z) q o)
-  clash_read c (Farkas ms, others, e, s, o) = absurd (cc)
-  clash_read c (Bound ms, others, e, s, o) = absurd (cc)
-  clash_read c (Split j k a b, others, e, s, o) = absurd (cc)
-  clash_read c (Zero j a b, others, e, s, o) = absurd (cc)
-
-  farkas_read : (ms : List Multiplier) → ProvesAll (I ∷ Is) (FarkasBy ms ∷ rest) z → IsFarkas I ms × ProvesAll Is rest z
-  farkas_read ms (Clash d, others, e, s, o) = absurd (cc)
-  farkas_read ms (Farkas ns, others, e, s, o) = let p : ns ≡ ms = cc in let q : others ≡ rest = cc in (subst (λ m. IsFarkas I m) p s, subst (λ r. ProvesAll Is r z) q o)
-  farkas_read ms (Bound ns, others, e, s, o) = absurd (cc)
-  farkas_read ms (Split j k a b, others, e, s, o) = absurd (cc)
-  farkas_read ms (Zero j a b, others, e, s, o) = absurd (cc)
-
-  split_read : (j : ℕ) (k : ℤ) → ProvesAll (I ∷ Is) (SplitAt j k ∷ rest) z → IsBranch I j k × ProvesAll (at_most I j k ∷ at_least I j (k +ℤ pos 1) ∷ Is) rest z
-  split_read j k (Clash d, others, e, s, o) = absurd (cc)
-  split_read j k (Farkas ms, others, e, s, o) = absurd (cc)
-  split_read j k (Bound ms, others, e, s, o) = absurd (cc)
-  split_read j k (Zero i a b, others, e, s, o) = absurd (cc)
-  split_read j k (Split i l a b, others, e, s, o) =
-      let p : i ≡ j = cc in
-      let q : l ≡ k = cc in
-      let r : rest ≡ (preorder a ++ preorder b) ++ others = cc in
-      let t : IsBranch I j k × Shows (at_most I j k) a z × Shows (at_least I j (k +ℤ pos 1)) b z =
-      subst (λ i. IsBranch I i k × Shows (at_most I i k) a z × Shows (at_least I i (k +ℤ pos 1)) b z) p
-      (subst (λ l. IsBranch I i l × Shows (at_most I i l) a z × Shows (at_least I i (l +ℤ pos 1)) b z) q s) in
-      (t.0, (a, preorder b ++ others, r ∙ append_assoc (preorder a) (preorder b) others, t.1, (b, others, refl, t.2, o)))
-
-  zero_read : (j : ℕ) → ProvesAll (I ∷ Is) (ZeroAt j ∷ rest) z → IsZeroBranch I j × ProvesAll (at_zero I j ∷ unless_zero I j ∷ Is) rest z
-  zero_read j (Clash d, others, e, s, o) = absurd (cc)
-  zero_read j (Farkas ms, others, e, s, o) = absurd (cc)
-  zero_read j (Bound ms, others, e, s, o) = absurd (cc)
-  zero_read j (Split i l a b, others, e, s, o) = absurd (cc)
-  zero_read j (Zero i a b, others, e, s, o) =
-      let p : i ≡ j = cc in
-      let r : rest ≡ (preorder a ++ preorder b) ++ others = cc in
-      let t : IsZeroBranch I j × Shows (at_zero I j) a z × Shows (unless_zero I j) b z = subst (λ i. IsZeroBranch I i × Shows (at_zero I i) a z × Shows (unless_zero I i) b z) p s in
-      (t.0, (a, preorder b ++ others, r ∙ append_assoc (preorder a) (preorder b) others, t.1, (b, others, refl, t.2, o)))
-
-module _ (I : Instance) (Is : List Instance) (rest : List Node) where
-  bound_read : (z : Ratio) (ms : List Multiplier) → ProvesAll (I ∷ Is) (BoundBy ms ∷ rest) (Some z) → IsBound I ms z × ProvesAll Is rest (Some z)
-  bound_read z ms (Clash d, others, e, s, o) = absurd (cc)
-  bound_read z ms (Farkas ns, others, e, s, o) = absurd (cc)
-  bound_read z ms (Bound ns, others, e, s, o) = let p : ns ≡ ms = cc in let q : others ≡ rest = cc in (subst (λ m. IsBound I m z) p s, subst (λ r. ProvesAll Is r (Some z)) q o)
-  bound_read z ms (Split j k a b, others, e, s, o) = absurd (cc)
-  bound_read z ms (Zero j a b, others, e, s, o) = absurd (cc)
-
-  bound_none : (ms : List Multiplier) → ProvesAll (I ∷ Is) (BoundBy ms ∷ rest) None → ⊥
-  bound_none ms (Clash d, others, e, s, o) = cc
-  bound_none ms (Farkas ns, others, e, s, o) = cc
-  bound_none ms (Bound ns, others, e, s, o) = s
-  bound_none ms (Split j k a b, others, e, s, o) = cc
-  bound_none ms (Zero j a b, others, e, s, o) = cc
-
 tree_wide : (Is : List Instance) (ns : List Node) (z : Option Ratio) (n : ℕ) (r : Unshown) → ProvesAll Is ns z → TreeRefuses Is ns z n r → IsWide r
 tree_wide [] [] z n r s q = absurd q
 tree_wide [] (x ∷ ns) z n r s q = absurd (cc)
-tree_wide (I ∷ Is) [] z n r s q = absurd (no_rest I Is z s)
-tree_wide (I ∷ Is) (ClashAt c ∷ ns) z n r s (inl q) = let t = clash_read I Is ns z c s in absurd (not_clash I c n r t.0 q)
-tree_wide (I ∷ Is) (ClashAt c ∷ ns) z n r s (inr (h, q)) = let t = clash_read I Is ns z c s in tree_wide Is ns z (n + 1) r t.1 q
-tree_wide (I ∷ Is) (FarkasBy ms ∷ ns) z n r s (inl q) = let t = farkas_read I Is ns z ms s in farkas_wide I ms n r t.0 q
-tree_wide (I ∷ Is) (FarkasBy ms ∷ ns) z n r s (inr (h, q)) = let t = farkas_read I Is ns z ms s in tree_wide Is ns z (n + 1) r t.1 q
-tree_wide (I ∷ Is) (BoundBy ms ∷ ns) None n r s q = absurd (bound_none I Is ns ms s)
-tree_wide (I ∷ Is) (BoundBy ms ∷ ns) (Some z) n r s (inl q) = let t = bound_read I Is ns z ms s in bound_wide I ms z n r t.0 q
-tree_wide (I ∷ Is) (BoundBy ms ∷ ns) (Some z) n r s (inr (h, q)) = let t = bound_read I Is ns z ms s in tree_wide Is ns (Some z) (n + 1) r t.1 q
-tree_wide (I ∷ Is) (SplitAt j k ∷ ns) z n r s (inl (no_branch, e)) = let t = split_read I Is ns z j k s in absurd (no_branch t.0)
-tree_wide (I ∷ Is) (SplitAt j k ∷ ns) z n r s (inr (h, q)) = let t = split_read I Is ns z j k s in tree_wide (at_most I j k ∷ at_least I j (k +ℤ pos 1) ∷ Is) ns z (n + 1) r t.1 q
-tree_wide (I ∷ Is) (ZeroAt j ∷ ns) z n r s (inl (no_branch, e)) = let t = zero_read I Is ns z j s in absurd (no_branch t.0)
-tree_wide (I ∷ Is) (ZeroAt j ∷ ns) z n r s (inr (h, q)) = let t = zero_read I Is ns z j s in tree_wide (at_zero I j ∷ unless_zero I j ∷ Is) ns z (n + 1) r t.1 q
+tree_wide (I ∷ Is) [] z n r s q = absurd (none_read anything I Is z s)
+tree_wide (I ∷ Is) (ClashAt c ∷ ns) z n r s (inl q) = let t = clash_read anything I Is z ns c s in absurd (not_clash I c n r t.0 q)
+tree_wide (I ∷ Is) (ClashAt c ∷ ns) z n r s (inr (h, q)) = let t = clash_read anything I Is z ns c s in tree_wide Is ns z (n + 1) r t.2 q
+tree_wide (I ∷ Is) (FarkasBy ms ∷ ns) z n r s (inl q) = let t = farkas_read anything I Is z ns ms s in farkas_wide I ms n r t.0 q
+tree_wide (I ∷ Is) (FarkasBy ms ∷ ns) z n r s (inr (h, q)) = let t = farkas_read anything I Is z ns ms s in tree_wide Is ns z (n + 1) r t.2 q
+tree_wide (I ∷ Is) (BoundBy ms ∷ ns) None n r s q = let t = bound_read anything I Is None ns ms s in absurd t.0
+tree_wide (I ∷ Is) (BoundBy ms ∷ ns) (Some z) n r s (inl q) = let t = bound_read anything I Is (Some z) ns ms s in bound_wide I ms z n r t.0 q
+tree_wide (I ∷ Is) (BoundBy ms ∷ ns) (Some z) n r s (inr (h, q)) = let t = bound_read anything I Is (Some z) ns ms s in tree_wide Is ns (Some z) (n + 1) r t.2 q
+tree_wide (I ∷ Is) (SplitAt j k ∷ ns) z n r s (inl (no_branch, e)) = let t = split_read anything I Is z ns j k (λ a b w. (tt, tt)) s in absurd (no_branch t.0)
+tree_wide (I ∷ Is) (SplitAt j k ∷ ns) z n r s (inr (h, q)) =
+    let t = split_read anything I Is z ns j k (λ a b w. (tt, tt)) s in
+    tree_wide (at_most I j k ∷ at_least I j (k +ℤ pos 1) ∷ Is) ns z (n + 1) r t.1 q
+tree_wide (I ∷ Is) (ZeroAt j ∷ ns) z n r s (inl (no_branch, e)) = let t = zero_read anything I Is z ns j (λ a b w. (tt, tt)) s in absurd (no_branch t.0)
+tree_wide (I ∷ Is) (ZeroAt j ∷ ns) z n r s (inr (h, q)) =
+    let t = zero_read anything I Is z ns j (λ a b w. (tt, tt)) s in
+    tree_wide (at_zero I j ∷ unless_zero I j ∷ Is) ns z (n + 1) r t.1 q
 
 ray_wide : (I : Instance) (x d : List Ratio) (r : Unshown) → IsRay I x d → RayRefuses I x d r → IsWide r
 ray_wide I x d r ray (inl (c, m, e)) = absurd (m.0 ray.count)
@@ -163,7 +101,7 @@ settled_after (ms ∷ rounds) I J nodes z good (cs, k, cut, rest) (ds, l, other,
     (subst (λ l. IsAfterRounds (derive I cs l) rounds J) e.1 (subst (λ ds. IsAfterRounds (derive I ds l) rounds J) e.0 q))
 
 alone : (I : Instance) (nodes : List Node) (z : Option Ratio) → Settles I [] nodes z → ProvesAll (I ∷ []) nodes z
-alone I nodes z (tree, listed, shows) = (tree, [], listed ∙ sym (append-nil (preorder tree)), shows, refl)
+alone I nodes z (tree, listed, shows) = (tree, [], listed ∙ sym (append-nil (preorder tree)), shows, tt, refl)
 
 level_wide : (I : Instance) (c : Certificate) (z : Option Ratio) (level : ℕ) (r : Refused) → IsInstance I → Settles I c.rounds c.nodes z → LevelRefuses I c z level r → IsForWidth r
 level_wide I c z level r good s (J, why, after, q, e) =

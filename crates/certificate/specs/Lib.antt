@@ -5,3 +5,4 @@ pub use Rattle.evidence.specs.Rounds
 pub use Rattle.evidence.specs.Claim
 pub mod Meanings
 pub mod Nodes
+pub mod Words

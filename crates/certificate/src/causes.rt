@@ -1,4 +1,5 @@
 ghost use Rattle.std.specs.Prelude.{◌≡◌};
+ghost use Rattle.certificate.specs.Words.{step_text};
 
 use std::alloc::AllocError;
 
@@ -40,6 +41,21 @@ pub enum Cause {
 }
 
 impl Step {
+    /// Its name, in one word.
+    pub fn name(self) -> &'static [u8]
+        ensures { result.now ≡ step_text self }
+    {
+        match self {
+            Step::Values => b"values",
+            Step::Ratio => b"ratio",
+            Step::Pivot => b"pivot",
+            Step::Point => b"point",
+            Step::Ray => b"ray",
+            Step::Round => b"round",
+            Step::Check => b"check",
+        }
+    }
+
     /// An equal step. It takes no memory.
     pub fn try_copy(&self) -> Result<Step, AllocError>
         ensures { result ≡ Ok self.now }

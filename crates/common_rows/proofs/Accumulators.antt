@@ -13,7 +13,8 @@ use Rattle.evidence.proofs.Numbers.{◌≈◌, ◌⊙◌, ≈-refl, sum-≈, sum
 use Rattle.evidence.proofs.Fits.{sums_same, term_same}
 use Rattle.common_rows.specs.Row.{over}
 use Rattle.common_rows.proofs.Fitting.{sum_fits_over, reduced_fits}
-use Rattle.common_rows.proofs.Sizes.{size_within, product_within}
+use Rattle.common_rows.proofs.Sizes.{product_within}
+use Rattle.fraction.proofs.Wholes.{narrow_size}
 
 -- a number over a multiple of its denominator
 pub multiple_same : (n r k : ℤ) (d c : ℕ) → d ∣ c → k ≡ pos (c / d) → r ≡ n *ℤ k → IsSame (over n d) (over r c)
@@ -81,12 +82,12 @@ product_form l r a x n d el er en ed = one_number (over n d) (product l r) en ed
 
 -- parts of 64 bits fit
 pub form_reduced : (n : ℤ) (d : ℕ) → 0 < d → FitsSigned w64 n → d < 2 ^ 64 → ReducedFits (over n d)
-form_reduced n d up f l = let s = size_within n f in reduced_fits (over n d) up (omega (arith, s)) (omega (arith, l))
+form_reduced n d up f l = let s = narrow_size n f in reduced_fits (over n d) up (omega (arith, s)) (omega (arith, l))
 
 -- what the sum of two forms states, over a denominator of both
 pub form_fits : (x y : Ratio) (a n k t : ℤ) (c : ℕ) → IsNumber x → IsNumber y → 0 < c → IsSame x (over a c) → IsSame y (over (n *ℤ k) c) → FitsSigned w64 a → FitsSigned w64 n → FitsSigned w64 k → t ≡ a +ℤ n *ℤ k → unsigned_abs t ≤ most → c < 2 ^ 64 → SumFits x y
 form_fits x y a n k t c nx ny up sx sy fa fn fk e lt lc =
-    let la = size_within a fa in
+    let la = narrow_size a fa in
     let lb = product_within (n *ℤ k) n k refl fn fk in
     sum_fits_over x y a (n *ℤ k) c nx ny up sx sy (omega (arith, la)) (omega (arith, lb)) (subst (λ z. unsigned_abs z ≤ most) e lt) (omega (arith, lc))
 

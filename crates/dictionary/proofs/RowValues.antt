@@ -7,13 +7,14 @@ use Rattle.fraction.specs.declared.frac.Frac.{Frac}
 use Rattle.evidence.specs.Sums.{none}
 use Rattle.evidence.specs.Width.{TermFits, StatedFits}
 use Rattle.evidence.proofs.Columns.{none-number}
+use Rattle.evidence.proofs.Fits.{no_factor}
 use Rattle.evidence.proofs.Steps.{IsSum, no_term, more, wide}
 use Rattle.instance.proofs.Terms.{nothing_added}
 use Rattle.bases.specs.Dictionary.{Values}
 use Rattle.dictionary.specs.declared.row.Item.{Item}
 use Rattle.dictionary.specs.Row.{number_in, IsFrom, IsSparseRow, HasColumn}
 use Rattle.dictionary.specs.Value.{AreValuesAt}
-use Rattle.dictionary.proofs.Rows.{term_zero, number_rest, number_head, none_below}
+use Rattle.dictionary.proofs.Rows.{number_rest, number_head, none_below}
 use Rattle.dictionary.proofs.Sums.{row-number}
 
 module _ (xs : List Item) (values : Values) (k : ℕ) (w : Values) (at : AreValuesAt xs values k w) where
@@ -24,7 +25,7 @@ module _ (xs : List Item) (values : Values) (k : ℕ) (w : Values) (at : AreValu
       let before = skipped n m r p s (λ c a l. z c a (omega arith)) in
       let here : number_in xs (n + m) ≡ none = z (n + m) (omega arith) (omega arith) in
       subst (λ j. IsSum none j (number_in xs) w r) (let e : n + m + 1 ≡ n + suc m = omega arith in e)
-      (more none (number_in xs) w none-number (row-number xs) at.numbers (n + m) r r none (w (n + m)) here refl p p before (nothing_added r none (w (n + m)) (inl refl)) (term_zero r none (w (n + m)) refl))
+      (more none (number_in xs) w none-number (row-number xs) at.numbers (n + m) r r none (w (n + m)) here refl p p before (nothing_added r none (w (n + m)) (inl refl)) (no_factor r none (w (n + m)) refl))
 
   -- the sum of the first items; the columns from mid on have those that are left
   pub record Summed (i : ℕ) (r : Ratio) : Type 0 where

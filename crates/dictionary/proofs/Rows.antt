@@ -154,7 +154,3 @@ term_fits f x pf px t = which (zero_or x.num)
     which : (x.num ≡ pos 0) ⊎ (x.num ≡ pos 0 → ⊥) → ReducedFits (product f x)
     which (inl e) = zero_fit (product f x) (product-number f x pf px) (ap (λ (z : ℤ). f.num *ℤ z) e ∙ *ℤ_comm f.num (pos 0) ∙ zero-*ℤ f.num)
     which (inr d) = t d
-
--- nothing is added where the factor is 0
-pub term_zero : (s f x : Ratio) → f.num ≡ pos 0 → TermFits s f x
-term_zero s f x e = record { term = λ a b. absurd (a e); sum = λ a b. absurd (a e) }

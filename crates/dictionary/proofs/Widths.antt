@@ -12,7 +12,7 @@ use Rattle.evidence.specs.Width.{TermFits}
 use Rattle.evidence.proofs.Columns.{by_eq, by_lt}
 use Rattle.evidence.proofs.Numbers.{◌≈◌, ≈-refl, ≈-sym, product-≈, product-number}
 use Rattle.evidence.proofs.Inverses.{inverse-number, product-inverse, negative-negative}
-use Rattle.evidence.proofs.Fits.{whole-reduced, reduced_same, sums_same}
+use Rattle.evidence.proofs.Fits.{whole-reduced, reduced_same, sums_same, no_factor}
 use Rattle.bases.specs.Dictionary.{Entries}
 use Rattle.bases.specs.Pivot.{solved_at, PivotFits}
 use Rattle.dictionary.specs.declared.row.Item.{Item}
@@ -21,7 +21,7 @@ use Rattle.dictionary.specs.Row.{entries_in, number_in, HasColumn, IsEntry, IsOv
 use Rattle.dictionary.specs.Merge.{MergeFits}
 use Rattle.dictionary.specs.Table.{SolveFits, SolvesRow, IsReplacedRow, IsWideRow, IsSolvedAt, IsWidePivot}
 use Rattle.dictionary.specs.Basis.{entries_by}
-use Rattle.dictionary.proofs.Rows.{has_or_none, none_there, term_none, term_zero, zero_fit}
+use Rattle.dictionary.proofs.Rows.{has_or_none, none_there, term_none, zero_fit}
 use Rattle.dictionary.proofs.Sums.{row-number}
 use Rattle.dictionary.proofs.OwnRow.{neg_fits}
 use Rattle.dictionary.proofs.Exchanges.{AreExchanged, apart, no_basic}
@@ -99,7 +99,7 @@ module _ {L : _} (n : ℕ) (place : ℕ → ℕ) (rows : List (Row L)) (b e : �
         let m = ch.fits in
         subst (λ (v : Ratio). TermFits v (u a e) (solved_at u b e c)) (sym (said c)) (subst (λ (v : Ratio). TermFits (number_in (entries_in rows r) c) v (solved_at u b e c)) (sym (said e ∙ en.is))
         (term_other (number_in (entries_in rows r) c) (ratio ch.factor) (number_in out c) (solved_at u b e c) (row-number (entries_in rows r) c) (let f = ch.factor in f.above) near (m.terms c)))
-    other_fits after (inr w) c ce = term_zero (u a c) (u a e) (solved_at u b e c) (ap (λ (v : Ratio). v.num) (said e ∙ none_there (entries_in rows r) e w.0))
+    other_fits after (inr w) c ce = no_factor (u a c) (u a e) (solved_at u b e c) (ap (λ (v : Ratio). v.num) (said e ∙ none_there (entries_in rows r) e w.0))
 
     pub merge_fits : (f : Frac) → IsEntry (entries_in rows r) e f → ((c : ℕ) → (c ≡ e → ⊥) → TermFits (u a c) (u a e) (solved_at u b e c)) → MergeFits (entries_in rows r) (ratio f) out
     merge_fits f ef fits = record {
@@ -120,7 +120,7 @@ module _ {L : _} (n : ℕ) (at place to new : ℕ → ℕ) (b e : ℕ) (rows out
       record {
         row = row_fits n place rows b e ex.b_from pv.pivot pv.entry s.fits;
         others = λ a c ab ce. by_lt (place a) n
-            (λ l. term_zero (entries_by n place rows a c) (entries_by n place rows a e) (solved_at (entries_by n place rows) b e c) (ap (λ (v : Ratio). v.num) (unlisted n place rows a e l)))
+            (λ l. no_factor (entries_by n place rows a c) (entries_by n place rows a e) (solved_at (entries_by n place rows) b e c) (ap (λ (v : Ratio). v.num) (unlisted n place rows a e l)))
             (λ l.
             let i = inside_of n at place to new b e rows out x a l in
             other_fits n place rows b e ex.b_from pv.pivot pv.entry (apart n (n + length rows) at place to new b e ex) (entries_in out (place b - n)) pv.row a (place a - n) l refl (entries_in out (place a - n)) (pv.others (place a - n) i.1 (other_row n at place to new b e rows out x a l ab)) c ce);

@@ -3,10 +3,10 @@ ghost use Rattle.std.specs.Prelude.{◌≡◌, ℕ, ◌+◌, ◌<◌, ◌≤◌,
 ghost use Rattle.fraction.specs.Frac.{ratio};
 ghost use Rattle.dictionary.specs.Row.{entries_of, IsSparseRow, HasColumn, IsEntry, number_in};
 
-use crate::numbers::zero;
 use crate::row::Row;
 use crate::steps::Steps;
 use fraction::Frac;
+use instance::zero;
 use std::sync::ledger::Ledger;
 
 /// The value of the entry of a column, where there is one.

@@ -7,10 +7,10 @@ ghost use Rattle.instance.specs.Parts.{IsAscending, IsInside};
 ghost use Rattle.dictionary.specs.Row.{entries_of, room_of, entries_in, RowsHaveRoom};
 ghost use Rattle.dictionary.specs.ProgramRows.{times_sign, program_rows, row_items, IsPut, IsRowOf, AreRowsOf};
 
-use crate::numbers::zero;
 use crate::row::{Item, Row};
 use crate::steps::Steps;
 use fraction::{Entry, Frac};
+use instance::zero;
 use std::sync::ledger::Ledger;
 
 /// The number, its negative or 0, by the sign of the factor.

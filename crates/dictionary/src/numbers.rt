@@ -1,18 +1,8 @@
-// 0 and 1.
 ghost use Rattle.std.specs.Prelude.{◌≡◌, pos};
-ghost use Rattle.fraction.specs.Frac.{ratio};
-ghost use Rattle.evidence.specs.Sums.{none};
 
 use fraction::Frac;
 
-/// 0.
-pub fn zero() -> Frac
-    ensures { ratio result ≡ none }
-{
-    Frac::ZERO
-}
-
-/// 1.
+/// 1, by its parts.
 pub fn one() -> Frac
     ensures numer { result.numer ≡ pos 1 }
     ensures denom { result.denom ≡ 1 }

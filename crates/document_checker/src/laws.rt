@@ -19,7 +19,7 @@ use osil_grammar::{documents_are_refused_in_one_way, documents_mean_one_instance
 use osrl_grammar::{document_has_one_refusal, document_has_one_report, report_is_not_refused};
 
 /// The laws of instances' documents.
-fn instances_are_one()
+pub fn instances_are_one()
     ensures { InstancesAreOne }
 {
     documents_mean_one_instance();

@@ -16,6 +16,6 @@ pub use documents::{Kind, check_docs};
 pub use fault::CheckFault;
 pub use laws::{
     accepted_documents_are_true, accepted_is_not_refused, documents_have_one_answer,
-    documents_have_one_kind,
+    documents_have_one_kind, instances_are_one,
 };
 pub use texts::answer_text;

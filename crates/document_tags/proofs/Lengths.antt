@@ -3,6 +3,7 @@ use Rattle.std.proofs.Common.{ℕ, zero, suc, ◌+◌, ◌*◌, ◌/◌, ◌%◌
 use Rattle.std.specs.Prelude.{flat_map, decimal}
 use Rattle.std.specs.Fmt.{digits, digits_onto, digit_glyph}
 use Rattle.tree_grammar.specs.Elements.{Attribute, Nodes, none, element, chars, Element}
+use Rattle.document_tags.specs.Writing.{text_nodes}
 use Rattle.tree_grammar.specs.WrittenText.{escaped_char, escaped_value_char, escaped, escaped_value, written_attributes, children_begin, children_end, written_nodes, written_element, written_declaration, written}
 
 onto_by : (b : Bool) (one more : List ℕ) (n : ℕ) → length one ≤ n → length more ≤ n → length (cond b one more) ≤ n
@@ -48,6 +49,10 @@ abbrev pub nodes_size : Nodes → ℕ
 nodes_size none = 0
 nodes_size (element name attributes children more) = 5 + 2 * length name + attributes_size attributes + nodes_size children + nodes_size more
 nodes_size (chars text more) = 6 * length text + nodes_size more
+
+pub text_size : (text : List ℕ) → nodes_size (text_nodes text) ≤ 6 * length text
+text_size [] = omega arith
+text_size (c ∷ cs) = omega arith
 
 attributes_short : (attributes : List Attribute) (k : List ℕ) → length (written_attributes attributes k) ≤ attributes_size attributes + length k
 attributes_short [] k = omega arith

@@ -91,6 +91,14 @@ minimising_total Maximum c n f g =
     total-same (negative c) n (λ j. product (negative (f j)) (g j)) (λ j. negative (product (f j) (g j))) (λ j. negative-product (f j) (g j))
     ∙ total-negative c n (λ j. product (f j) (g j))
 
+none_minimised : (s : Sense) → minimising_by s none ≡ none
+none_minimised Minimum = refl
+none_minimised Maximum = refl
+
+-- and so it is without a constant
+pub minimising_slope : (s : Sense) (n : ℕ) (f g : ℕ → Ratio) → total none n (λ j. product (minimising_by s (f j)) (g j)) ≡ minimising_by s (total none n (λ j. product (f j) (g j)))
+minimising_slope s n f g = ap (λ z. total z n (λ j. product (minimising_by s (f j)) (g j))) (sym (none_minimised s)) ∙ minimising_total s none n f g
+
 minimising_by-number : (s : Sense) (c : Ratio) → IsNumber c → IsNumber (minimising_by s c)
 minimising_by-number Minimum c p = p
 minimising_by-number Maximum c p = p

@@ -28,7 +28,7 @@ pub record AreSmall (m n : ℤ) : Type 0 where
   pub right : unsigned_abs n ≤ most
   pub all : unsigned_abs (m +ℤ n) ≤ most
 
-times_one : (z : ℤ) → z *ℤ pos 1 ≡ z
+pub times_one : (z : ℤ) → z *ℤ pos 1 ≡ z
 times_one z = *ℤ_comm z (pos 1) ∙ one_times z
 
 four : (m n : ℤ) (g h : ℕ) → g ≡ 1 → h ≡ 1 → AreSmall m n → AreFourWithin (whole m) (whole n) g h

@@ -17,7 +17,7 @@ use Rattle.evidence.specs.Rounds.{IsRoundingCut, derive, CertificateShows}
 use Rattle.evidence.specs.Levels.{IsReachedEnd, next_level}
 use Rattle.evidence.specs.Claim.{Accepts}
 use Rattle.evidence.specs.Examples.{times, halves, gap, two_or_none, half_the_row, two_by_rounding, first_x, then_y, in_order, by_x, by_rows, three_and_one}
-use Rattle.evidence.proofs.Fits.{whole-reduced}
+use Rattle.evidence.proofs.Fits.{whole-reduced, no_factor}
 use Rattle.evidence.proofs.Examples.{whole_sums, one, both, stated_one, stated_two, wholes, just, two_of, zeros, halves_feasible, halves_fit}
 
 abbrev by_of : List Multiplier → ℕ → Ratio
@@ -28,10 +28,6 @@ coefficient_of I ms j k = coefficient_at I (multiplier_at ms k).column j
 
 abbrev end_at : Instance → List Multiplier → ℕ → Ratio
 end_at I ms k = or_none (end_of I (multiplier_at ms k))
-
--- none is added to s
-no_factor : (s a x : Ratio) → a.num ≡ pos 0 → TermFits s a x
-no_factor s a x e = record { term = λ h k. absurd (h e); sum = λ h k. absurd (h e) }
 
 -- a zero branch
 

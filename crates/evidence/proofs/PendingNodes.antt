@@ -3,10 +3,89 @@ use Rattle.std.proofs.Common.{◌≡◌, ℕ, ◌+◌, ◌<◌, ℤ, pos, ◌+�
 use Rattle.rational.specs.Ratio.{Ratio}
 use Rattle.evidence.specs.Sums.{none}
 use Rattle.evidence.specs.Instance.{Instance, width, height, column_at, minimising}
-use Rattle.evidence.specs.Cases.{Multiplier, Clash, Farkas, Bound, Split, Zero, Node, ClashAt, FarkasBy, BoundBy, SplitAt, ZeroAt, preorder, Shows, IsEmpty, IsFarkas, IsBound, IsBranch, IsZeroBranch, at_most, at_least, at_zero, unless_zero}
+use Rattle.evidence.specs.Cases.{Multiplier, Tree, Clash, Farkas, Bound, Split, Zero, Node, ClashAt, FarkasBy, BoundBy, SplitAt, ZeroAt, preorder, Shows, IsEmpty, IsFarkas, IsBound, IsBranch, IsZeroBranch, at_most, at_least, at_zero, unless_zero}
 use Rattle.evidence.specs.Width.{LeafFits, TreeFits, ProvesWithin}
-use Rattle.evidence.specs.PendingNodes.{ShowsAll}
+use Rattle.evidence.specs.PendingNodes.{ShowsEach, ShowsAll}
 
+-- whatever more is known of the trees
+module _ (known : Instance → Tree → Type 0) (I : Instance) (Is : List Instance) (z : Option Ratio) where
+  pub none_read : ShowsEach known (I ∷ Is) [] z → ⊥
+  none_read (Clash c, rest, e, s, w, o) = cc
+  none_read (Farkas ms, rest, e, s, w, o) = cc
+  none_read (Bound ms, rest, e, s, w, o) = cc
+  none_read (Split j k a b, rest, e, s, w, o) = cc
+  none_read (Zero j a b, rest, e, s, w, o) = cc
+
+  module _ (rest : List Node) where
+    pub clash_read : (c : ℕ) → ShowsEach known (I ∷ Is) (ClashAt c ∷ rest) z → Shows I (Clash c) z × known I (Clash c) × ShowsEach known Is rest z
+    clash_read c (Clash d, others, e, s, w, o) =
+        let p : d ≡ c = cc in
+        let q : others ≡ rest = cc in
+        (subst (λ d. Shows I (Clash d) z) p s, subst (λ d. known I (Clash d)) p w, subst (λ r. ShowsEach known Is r z) q o)
+    clash_read c (Farkas ms, others, e, s, w, o) = absurd (cc)
+    clash_read c (Bound ms, others, e, s, w, o) = absurd (cc)
+    clash_read c (Split j k a b, others, e, s, w, o) = absurd (cc)
+    clash_read c (Zero j a b, others, e, s, w, o) = absurd (cc)
+
+    pub farkas_read : (ms : List Multiplier) → ShowsEach known (I ∷ Is) (FarkasBy ms ∷ rest) z → Shows I (Farkas ms) z × known I (Farkas ms) × ShowsEach known Is rest z
+    farkas_read ms (Clash d, others, e, s, w, o) = absurd (cc)
+    farkas_read ms (Farkas ns, others, e, s, w, o) =
+        let p : ns ≡ ms = cc in
+        let q : others ≡ rest = cc in
+        (subst (λ m. Shows I (Farkas m) z) p s, subst (λ m. known I (Farkas m)) p w, subst (λ r. ShowsEach known Is r z) q o)
+    farkas_read ms (Bound ns, others, e, s, w, o) = absurd (cc)
+    farkas_read ms (Split j k a b, others, e, s, w, o) = absurd (cc)
+    farkas_read ms (Zero j a b, others, e, s, w, o) = absurd (cc)
+
+    pub bound_read : (ms : List Multiplier) → ShowsEach known (I ∷ Is) (BoundBy ms ∷ rest) z → Shows I (Bound ms) z × known I (Bound ms) × ShowsEach known Is rest z
+    bound_read ms (Clash d, others, e, s, w, o) = absurd (cc)
+    bound_read ms (Farkas ns, others, e, s, w, o) = absurd (cc)
+    bound_read ms (Bound ns, others, e, s, w, o) =
+        let p : ns ≡ ms = cc in
+        let q : others ≡ rest = cc in
+        (subst (λ m. Shows I (Bound m) z) p s, subst (λ m. known I (Bound m)) p w, subst (λ r. ShowsEach known Is r z) q o)
+    bound_read ms (Split j k a b, others, e, s, w, o) = absurd (cc)
+    bound_read ms (Zero j a b, others, e, s, w, o) = absurd (cc)
+
+    -- what is known of a tree is known of its two cases
+    pub split_read : (j : ℕ) (k : ℤ) → ((a b : Tree) → known I (Split j k a b) → known (at_most I j k) a × known (at_least I j (k +ℤ pos 1)) b)
+        → ShowsEach known (I ∷ Is) (SplitAt j k ∷ rest) z → IsBranch I j k × ShowsEach known (at_most I j k ∷ at_least I j (k +ℤ pos 1) ∷ Is) rest z
+    split_read j k inner (Clash d, others, e, s, w, o) = absurd (cc)
+    split_read j k inner (Farkas ns, others, e, s, w, o) = absurd (cc)
+    split_read j k inner (Bound ns, others, e, s, w, o) = absurd (cc)
+    split_read j k inner (Zero i a b, others, e, s, w, o) = absurd (cc)
+    split_read j k inner (Split i l a b, others, e, s, w, o) =
+        let p : i ≡ j = cc in
+        let q : l ≡ k = cc in
+        let r : rest ≡ (preorder a ++ preorder b) ++ others = cc in
+        let t : Shows I (Split j k a b) z = subst (λ n. Shows I (Split n k a b) z) p (subst (λ m. Shows I (Split i m a b) z) q s) in
+        let f = inner a b (subst (λ n. known I (Split n k a b)) p (subst (λ m. known I (Split i m a b)) q w)) in
+        (t.0, (a, preorder b ++ others, r ∙ append_assoc (preorder a) (preorder b) others, t.1, f.0, (b, others, refl, t.2, f.1, o)))
+
+    pub split_back : (j : ℕ) (k : ℤ) → ((a b : Tree) → known (at_most I j k) a → known (at_least I j (k +ℤ pos 1)) b → known I (Split j k a b))
+        → IsBranch I j k → ShowsEach known (at_most I j k ∷ at_least I j (k +ℤ pos 1) ∷ Is) rest z → ShowsEach known (I ∷ Is) (SplitAt j k ∷ rest) z
+    split_back j k outer br (a, ra, ea, sa, wa, (b, rb, eb, sb, wb, o)) =
+        (Split j k a b, rb, ap (λ r. SplitAt j k ∷ r) (ea ∙ ap (λ r. preorder a ++ r) eb ∙ sym (append_assoc (preorder a) (preorder b) rb)), (br, sa, sb), outer a b wa wb, o)
+
+    pub zero_read : (j : ℕ) → ((a b : Tree) → known I (Zero j a b) → known (at_zero I j) a × known (unless_zero I j) b)
+        → ShowsEach known (I ∷ Is) (ZeroAt j ∷ rest) z → IsZeroBranch I j × ShowsEach known (at_zero I j ∷ unless_zero I j ∷ Is) rest z
+    zero_read j inner (Clash d, others, e, s, w, o) = absurd (cc)
+    zero_read j inner (Farkas ns, others, e, s, w, o) = absurd (cc)
+    zero_read j inner (Bound ns, others, e, s, w, o) = absurd (cc)
+    zero_read j inner (Split i l a b, others, e, s, w, o) = absurd (cc)
+    zero_read j inner (Zero i a b, others, e, s, w, o) =
+        let p : i ≡ j = cc in
+        let r : rest ≡ (preorder a ++ preorder b) ++ others = cc in
+        let t : Shows I (Zero j a b) z = subst (λ n. Shows I (Zero n a b) z) p s in
+        let f = inner a b (subst (λ n. known I (Zero n a b)) p w) in
+        (t.0, (a, preorder b ++ others, r ∙ append_assoc (preorder a) (preorder b) others, t.1, f.0, (b, others, refl, t.2, f.1, o)))
+
+    zero_back : (j : ℕ) → ((a b : Tree) → known (at_zero I j) a → known (unless_zero I j) b → known I (Zero j a b))
+        → IsZeroBranch I j → ShowsEach known (at_zero I j ∷ unless_zero I j ∷ Is) rest z → ShowsEach known (I ∷ Is) (ZeroAt j ∷ rest) z
+    zero_back j outer br (a, ra, ea, sa, wa, (b, rb, eb, sb, wb, o)) =
+        (Zero j a b, rb, ap (λ r. ZeroAt j ∷ r) (ea ∙ ap (λ r. preorder a ++ r) eb ∙ sym (append_assoc (preorder a) (preorder b) rb)), (br, sa, sb), outer a b wa wb, o)
+
+-- by sums that fit
 pub start : (I : Instance) (nodes : List Node) (z : Option Ratio) → ProvesWithin I nodes z ↔ ShowsAll (I ∷ []) nodes z
 start I nodes z = (
   λ p. (p.tree, [], p.listed ∙ sym (append-nil (preorder p.tree)), p.shows, p.fits, refl),
@@ -14,84 +93,25 @@ start I nodes z = (
 )
 
 pub none_left : (I : Instance) (Is : List Instance) (z : Option Ratio) → ShowsAll (I ∷ Is) [] z → ⊥
-none_left I Is z (Clash c, rest, e, s, w, o) = cc
-none_left I Is z (Farkas ms, rest, e, s, w, o) = cc
-none_left I Is z (Bound ms, rest, e, s, w, o) = cc
-none_left I Is z (Split j k a b, rest, e, s, w, o) = cc
-none_left I Is z (Zero j a b, rest, e, s, w, o) = cc
+none_left I Is z s = none_read TreeFits I Is z s
 
 pub one_more : (node : Node) (nodes : List Node) (z : Option Ratio) → ShowsAll [] (node ∷ nodes) z → ⊥
 one_more node nodes z e = cc
 
 pub clash_step : (I : Instance) (Is : List Instance) (c : ℕ) (rest : List Node) (z : Option Ratio) → ShowsAll (I ∷ Is) (ClashAt c ∷ rest) z ↔ (((c < width I + height I) × IsEmpty (column_at I c)) × ShowsAll Is rest z)
-clash_step I Is c rest z = (to, λ (s, o). (Clash c, rest, refl, s, tt, o))
-  where
-    to : ShowsAll (I ∷ Is) (ClashAt c ∷ rest) z → ((c < width I + height I) × IsEmpty (column_at I c)) × ShowsAll Is rest z
-    to (Clash d, others, e, s, w, o) = let p : d ≡ c = cc in let q : others ≡ rest = cc in (subst (λ d. (d < width I + height I) × IsEmpty (column_at I d)) p s, subst (λ r. ShowsAll Is r z) q o)
-    to (Farkas ms, others, e, s, w, o) = absurd (cc)
-    to (Bound ms, others, e, s, w, o) = absurd (cc)
-    to (Split j k a b, others, e, s, w, o) = absurd (cc)
-    to (Zero j a b, others, e, s, w, o) = absurd (cc)
+clash_step I Is c rest z = (λ s. let t = clash_read TreeFits I Is z rest c s in (t.0, t.2), λ (s, o). (Clash c, rest, refl, s, tt, o))
 
 pub farkas_step : (I : Instance) (Is : List Instance) (ms : List Multiplier) (rest : List Node) (z : Option Ratio) → ShowsAll (I ∷ Is) (FarkasBy ms ∷ rest) z ↔ (IsFarkas I ms × LeafFits I none ms × ShowsAll Is rest z)
-farkas_step I Is ms rest z = (to, λ (s, w, o). (Farkas ms, rest, refl, s, w, o))
-  where
-    to : ShowsAll (I ∷ Is) (FarkasBy ms ∷ rest) z → IsFarkas I ms × LeafFits I none ms × ShowsAll Is rest z
-    to (Clash d, others, e, s, w, o) = absurd (cc)
-    to (Farkas ns, others, e, s, w, o) = let p : ns ≡ ms = cc in let q : others ≡ rest = cc in (subst (λ m. IsFarkas I m) p s, subst (λ m. LeafFits I none m) p w, subst (λ r. ShowsAll Is r z) q o)
-    to (Bound ns, others, e, s, w, o) = absurd (cc)
-    to (Split j k a b, others, e, s, w, o) = absurd (cc)
-    to (Zero j a b, others, e, s, w, o) = absurd (cc)
+farkas_step I Is ms rest z = (λ s. farkas_read TreeFits I Is z rest ms s, λ (s, w, o). (Farkas ms, rest, refl, s, w, o))
 
 pub bound_step : (I : Instance) (Is : List Instance) (ms : List Multiplier) (rest : List Node) (z : Ratio) → ShowsAll (I ∷ Is) (BoundBy ms ∷ rest) (Some z) ↔ (IsBound I ms z × LeafFits I (minimising I I.goal.constant) ms × ShowsAll Is rest (Some z))
-bound_step I Is ms rest z = (to, λ (s, w, o). (Bound ms, rest, refl, s, w, o))
-  where
-    to : ShowsAll (I ∷ Is) (BoundBy ms ∷ rest) (Some z) → IsBound I ms z × LeafFits I (minimising I I.goal.constant) ms × ShowsAll Is rest (Some z)
-    to (Clash d, others, e, s, w, o) = absurd (cc)
-    to (Farkas ns, others, e, s, w, o) = absurd (cc)
-    to (Bound ns, others, e, s, w, o) = let p : ns ≡ ms = cc in let q : others ≡ rest = cc in (subst (λ m. IsBound I m z) p s, subst (λ m. LeafFits I (minimising I I.goal.constant) m) p w, subst (λ r. ShowsAll Is r (Some z)) q o)
-    to (Split j k a b, others, e, s, w, o) = absurd (cc)
-    to (Zero j a b, others, e, s, w, o) = absurd (cc)
+bound_step I Is ms rest z = (λ s. bound_read TreeFits I Is (Some z) rest ms s, λ (s, w, o). (Bound ms, rest, refl, s, w, o))
 
 pub no_bound : (I : Instance) (Is : List Instance) (ms : List Multiplier) (rest : List Node) → ShowsAll (I ∷ Is) (BoundBy ms ∷ rest) None → ⊥
-no_bound I Is ms rest (Clash d, others, e, s, w, o) = cc
-no_bound I Is ms rest (Farkas ns, others, e, s, w, o) = cc
-no_bound I Is ms rest (Bound ns, others, e, s, w, o) = s
-no_bound I Is ms rest (Split j k a b, others, e, s, w, o) = cc
-no_bound I Is ms rest (Zero j a b, others, e, s, w, o) = cc
+no_bound I Is ms rest s = (bound_read TreeFits I Is None rest ms s).0
 
 pub split_step : (I : Instance) (Is : List Instance) (j : ℕ) (k : ℤ) (rest : List Node) (z : Option Ratio) → ShowsAll (I ∷ Is) (SplitAt j k ∷ rest) z ↔ (IsBranch I j k × ShowsAll (at_most I j k ∷ at_least I j (k +ℤ pos 1) ∷ Is) rest z)
-split_step I Is j k rest z = (to, λ (br, (a, ra, ea, sa, wa, (b, rb, eb, sb, wb, o))). (Split j k a b, rb, ap (λ r. SplitAt j k ∷ r) (ea ∙ ap (λ r. preorder a ++ r) eb ∙ sym (append_assoc (preorder a) (preorder b) rb)), (br, sa, sb), (wa, wb), o))
-  where
-    to : ShowsAll (I ∷ Is) (SplitAt j k ∷ rest) z → IsBranch I j k × ShowsAll (at_most I j k ∷ at_least I j (k +ℤ pos 1) ∷ Is) rest z
-    to (Clash d, others, e, s, w, o) = absurd (cc)
-    to (Farkas ns, others, e, s, w, o) = absurd (cc)
-    to (Bound ns, others, e, s, w, o) = absurd (cc)
-    to (Zero i a b, others, e, s, w, o) = absurd (cc)
-    to (Split i l a b, others, e, s, w, o) =
-        let p : i ≡ j = cc in
-        let q : l ≡ k = cc in
-        let r : rest ≡ (preorder a ++ preorder b) ++ others = cc in
-        let t : IsBranch I j k × Shows (at_most I j k) a z × Shows (at_least I j (k +ℤ pos 1)) b z =
-        subst (λ i. IsBranch I i k × Shows (at_most I i k) a z × Shows (at_least I i (k +ℤ pos 1)) b z) p
-        (subst (λ l. IsBranch I i l × Shows (at_most I i l) a z × Shows (at_least I i (l +ℤ pos 1)) b z) q s) in
-        let f : TreeFits (at_most I j k) a × TreeFits (at_least I j (k +ℤ pos 1)) b =
-        subst (λ i. TreeFits (at_most I i k) a × TreeFits (at_least I i (k +ℤ pos 1)) b) p
-        (subst (λ l. TreeFits (at_most I i l) a × TreeFits (at_least I i (l +ℤ pos 1)) b) q w) in
-        (t.0, (a, preorder b ++ others, r ∙ append_assoc (preorder a) (preorder b) others, t.1, f.0, (b, others, refl, t.2, f.1, o)))
+split_step I Is j k rest z = (λ s. split_read TreeFits I Is z rest j k (λ a b w. w) s, λ (br, s). split_back TreeFits I Is z rest j k (λ a b v w. (v, w)) br s)
 
 pub zero_step : (I : Instance) (Is : List Instance) (j : ℕ) (rest : List Node) (z : Option Ratio) → ShowsAll (I ∷ Is) (ZeroAt j ∷ rest) z ↔ (IsZeroBranch I j × ShowsAll (at_zero I j ∷ unless_zero I j ∷ Is) rest z)
-zero_step I Is j rest z = (to, λ (br, (a, ra, ea, sa, wa, (b, rb, eb, sb, wb, o))). (Zero j a b, rb, ap (λ r. ZeroAt j ∷ r) (ea ∙ ap (λ r. preorder a ++ r) eb ∙ sym (append_assoc (preorder a) (preorder b) rb)), (br, sa, sb), (wa, wb), o))
-  where
-    to : ShowsAll (I ∷ Is) (ZeroAt j ∷ rest) z → IsZeroBranch I j × ShowsAll (at_zero I j ∷ unless_zero I j ∷ Is) rest z
-    to (Clash d, others, e, s, w, o) = absurd (cc)
-    to (Farkas ns, others, e, s, w, o) = absurd (cc)
-    to (Bound ns, others, e, s, w, o) = absurd (cc)
-    to (Split i l a b, others, e, s, w, o) = absurd (cc)
-    to (Zero i a b, others, e, s, w, o) =
-        let p : i ≡ j = cc in
-        let r : rest ≡ (preorder a ++ preorder b) ++ others = cc in
-        let t : IsZeroBranch I j × Shows (at_zero I j) a z × Shows (unless_zero I j) b z =
-        subst (λ i. IsZeroBranch I i × Shows (at_zero I i) a z × Shows (unless_zero I i) b z) p s in
-        let f : TreeFits (at_zero I j) a × TreeFits (unless_zero I j) b = subst (λ i. TreeFits (at_zero I i) a × TreeFits (unless_zero I i) b) p w in
-        (t.0, (a, preorder b ++ others, r ∙ append_assoc (preorder a) (preorder b) others, t.1, f.0, (b, others, refl, t.2, f.1, o)))
+zero_step I Is j rest z = (λ s. zero_read TreeFits I Is z rest j (λ a b w. w) s, λ (br, s). zero_back TreeFits I Is z rest j (λ a b v w. (v, w)) br s)

@@ -16,7 +16,7 @@ use Rattle.evidence.proofs.Duality.{weak, form-number}
 use Rattle.evidence.proofs.Branches.{Meets, shown, whole_at_least}
 use Rattle.evidence.proofs.AddedRows.{feasible_added, instance_added}
 
-whole-number : (n : ℤ) → IsNumber (whole n)
+pub whole-number : (n : ℤ) → IsNumber (whole n)
 whole-number n = lit< tt
 
 near_whole : (x : Ratio) → IsNumber x → (w : IsWhole x) → x ≈ whole w.number

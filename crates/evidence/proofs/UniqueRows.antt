@@ -8,7 +8,7 @@ use Rattle.rational.proofs.Scaling.{same_multiple, IsSame-trans}
 use Rattle.rational.proofs.ReducedForms.{same_reduced}
 use Rattle.evidence.specs.Sums.{none}
 use Rattle.evidence.specs.OneDenominator.{number_at}
-use Rattle.evidence.specs.Instance.{Instance, IsInstance, Goal, width, coefficient_at, column_at, minimising}
+use Rattle.evidence.specs.Instance.{Range, HasNumbers, Instance, IsInstance, Goal, width, coefficient_at, column_at, minimising}
 use Rattle.evidence.specs.Cases.{Multiplier, Node, multiplier_at, form, low_sum, AreLegal, end_by, end_of, or_none}
 use Rattle.evidence.specs.Width.{LeafFits}
 use Rattle.evidence.specs.Rounds.{Certificate, IsCeiling, IsRoundingCut, derive, ShowsAfter, CertificateShows}
@@ -22,6 +22,10 @@ pub or_none-number : (o : Option Ratio) → IfSome o IsNumber → IsNumber (or_n
 or_none-number None h = none-number
 or_none-number (Some x) h = h
 
+pub end_by-number : (z : ℤ) (r : Range) → HasNumbers r → IsNumber (or_none (end_by z r))
+end_by-number (pos n) r h = or_none-number r.lb h.0
+end_by-number (negsuc n) r h = or_none-number r.ub h.1
+
 module _ (I : Instance) (good : IsInstance I) (ms : List Multiplier) (legal : AreLegal I ms) where
   pub by-number : (k : ℕ) → IsNumber (multiplier_at ms k).by
   by-number k = All-anywhere (λ m. IsNumber m.by) ms (record { column = 0; by = none }) none-number legal.numbers k
@@ -31,14 +35,10 @@ module _ (I : Instance) (good : IsInstance I) (ms : List Multiplier) (legal : Ar
       total-number none (length ms) (λ k. product (multiplier_at ms k).by (coefficient_at I (multiplier_at ms k).column j)) none-number
       (λ k. product-number (multiplier_at ms k).by (coefficient_at I (multiplier_at ms k).column j) (by-number k) (coefficient-number I good (multiplier_at ms k).column j))
 
-  end-number : (n : ℤ) (c : ℕ) → IsNumber (or_none (end_by n (column_at I c)))
-  end-number (pos n) c = or_none-number (column_at I c).lb (let h = column-numbers I good c in h.0)
-  end-number (negsuc n) c = or_none-number (column_at I c).ub (let h = column-numbers I good c in h.1)
-
   pub low-number : IsNumber (low_sum I none ms)
   low-number =
       total-number none (length ms) (λ k. product (multiplier_at ms k).by (or_none (end_of I (multiplier_at ms k)))) none-number
-      (λ k. product-number (multiplier_at ms k).by (or_none (end_of I (multiplier_at ms k))) (by-number k) (end-number (multiplier_at ms k).by.num (multiplier_at ms k).column))
+      (λ k. product-number (multiplier_at ms k).by (or_none (end_of I (multiplier_at ms k))) (by-number k) (end_by-number (multiplier_at ms k).by.num (column_at I (multiplier_at ms k).column) (column-numbers I good (multiplier_at ms k).column)))
 
 -- a number is one whole number at most
 one_whole : (x : Ratio) (a b : ℤ) → IsNumber x → IsSame x (whole a) → IsSame x (whole b) → a ≡ b

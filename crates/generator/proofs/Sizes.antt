@@ -1,5 +1,5 @@
 -- How long the text of an instance is, whose numbers are written in at most four bytes.
-use Rattle.std.proofs.Common.{ℕ, zero, suc, ◌+◌, ◌*◌, ◌≤◌, Bool, true, false, cond, nat_lt, List, [], ◌∷◌, map, length, ap, subst, sym, arith, inl, inr}
+use Rattle.std.proofs.Common.{ℕ, zero, suc, ◌+◌, ◌*◌, ◌≤◌, Bool, true, false, nat_lt, List, [], ◌∷◌, map, length, ap, subst, sym, arith, inl, inr}
 use Rattle.std.specs.List.{All}
 use Rattle.std.proofs.Math.Nat.{le_trans}
 use Rattle.std.proofs.lemmas.List.Elements.{All-head, All-tail}
@@ -17,6 +17,7 @@ use Rattle.instance.specs.declared.parts.Sense.TheVariants.{Min, Max}
 use Rattle.instance.specs.Parts.{Parts}
 use Rattle.osil_grammar.specs.Writing.{IsEndText, type_text, sense_text, WriteVars, WriteRows, WriteCosts, CountsCosts, WritesGoal, WriteGoals, WriteValues, WriteLists, IsWrittenText, counts_nodes, entries_below, row_starts}
 use Rattle.generator.proofs.Digits.{IsShort, count_short}
+use Rattle.osil_grammar.proofs.Documents.{one_below}
 
 -- each text of an end has at most four bytes
 abbrev pub IsShortEnd : End → Type 0
@@ -96,13 +97,9 @@ goals_size (g ∷ gs) nodes brief is =
     let rest = goals_size gs is.0 (All-tail GoalIsBrief g gs brief) is.1 in
     omega (arith, first, rest)
 
-one_more_or_none : (b : Bool) (n m : ℕ) → n ≤ m → cond b (n + 1) n ≤ m + 1
-one_more_or_none true n m few = omega (arith, few)
-one_more_or_none false n m few = omega (arith, few)
-
 few_below : (i : ℕ) (es : List Entry) → entries_below i es ≤ length es
 few_below i [] = omega arith
-few_below i (e ∷ es) = omega (arith, one_more_or_none (nat_lt e.row i) (entries_below i es) (length es) (few_below i es))
+few_below i (e ∷ es) = omega (arith, one_below (nat_lt e.row i) (entries_below i es) (length es) (few_below i es))
 
 starts_size : (es : List Entry) (m i : ℕ) → length es ≤ 1000 → nodes_size (counts_nodes (row_starts es i m)) ≤ 33 * m + 33
 starts_size es zero i few = omega (arith, count_short (entries_below i es) (omega (arith, few, few_below i es)))

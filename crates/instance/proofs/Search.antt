@@ -19,8 +19,12 @@ use Rattle.instance.specs.Program.{variable, row, program}
 use Rattle.instance.specs.Feasibility.{KeptBelow, RowsKeptBelow, IsFirstRowWide, IsFeasibleWithin}
 use Rattle.instance.proofs.Numbers.{range-numbers, program-instance}
 
-point-numbers : (x : List Frac) → All IsNumber (ratios x)
+pub point-numbers : (x : List Frac) → All IsNumber (ratios x)
 point-numbers x = All-map IsNumber ratio x (λ k d h. (slice_index_or x k d).above)
+
+-- a row's activity, and the fraction that it is
+pub activity_near : (I : Of.Instance) → Of.IsInstance I → (x : List Frac) (i : ℕ) (a : Frac) → IsSame (ratio a) (activity I (ratios x) i) → ratio a ≈ activity I (ratios x) i
+activity_near I good x i a is = record { left = a.above; right = activity-number I good (ratios x) (point-numbers x) i; is = is }
 
 -- row i's ends, and its activity as a fraction
 module _ (p : Parts) (x : List Frac) (i : ℕ) (rows : List Row) (r : Row) (a : Frac) (er : rows ≡ p.rows) (h : i < length rows) (is : r ≡ get_or rows i r) (ea : IsSame (ratio a) (activity (program p) (ratios x) i)) where
@@ -31,7 +35,7 @@ module _ (p : Parts) (x : List Frac) (i : ℕ) (rows : List Row) (r : Row) (a : 
   row_inside = let n = length-map p.rows row in let m = ap length er in omega arith
 
   near : ratio a ≈ activity (program p) (ratios x) i
-  near = record { left = a.above; right = activity-number (program p) (program-instance p) (ratios x) (point-numbers x) i; is = ea }
+  near = activity_near (program p) (program-instance p) x i a ea
 
   pub between_to : IsBetween (row r) (ratio a) → IsBetween (Of.row_at (program p) i) (activity (program p) (ratios x) i)
   between_to b = subst (λ s. IsBetween s (activity (program p) (ratios x) i)) (sym row_is) (between_same (row r) (ratio a) (activity (program p) (ratios x) i) (range-numbers r.lb r.ub) near b)

@@ -13,6 +13,7 @@
 #![tactic(auto)]
 
 mod checks;
+mod constants;
 mod ends;
 mod feasible;
 mod instance;
@@ -21,6 +22,8 @@ mod parts;
 mod rows;
 mod sums;
 
+pub use checks::are_ends;
+pub use constants::{one, zero};
 pub use ends::is_between;
 pub use feasible::Feas;
 pub use instance::{Instance, MAX_ENTRIES, MAX_GOALS, MAX_ROWS, MAX_VARS};

@@ -1,5 +1,5 @@
 -- Runs in a history.
-use Rattle.std.proofs.Common.{◌≡◌, ℕ, Bool, true, List, [], ◌∷◌, ◌++◌, Option, Some, refl, sym, ◌∙◌, ap, subst, inl, inr}
+use Rattle.std.proofs.Common.{◌≡◌, ℕ, Bool, true, List, [], ◌∷◌, ◌++◌, Some, refl, sym, ◌∙◌, ap, subst, inl, inr}
 use Rattle.std.proofs.lemmas.List.Elements.{All-nil, All-cons, All-append}
 use Rattle.job_table.specs.declared.job.Job.{Job}
 use Rattle.job_table.specs.declared.calls.Call.{Call}
@@ -15,12 +15,7 @@ use Rattle.job_table.specs.Looks.{looks}
 use Rattle.job_table.proofs.Histories.{runs_split, leads_split}
 use Rattle.job_runs.specs.Runs.{stop_if, IsJobRun}
 use Rattle.job_runs.specs.Laws.{IsFinishKept, AreKept, RunsAreKept}
-
-abbrev Made : Type 1
-Made = List ℕ → List ℕ → List Bool → Option (List ℕ) → Type 0
-
-abbrev Right : Type 1
-Right = List ℕ → List ℕ → Bool → Option (List ℕ) → Type 0
+use Rattle.job_runs.proofs.Kinds.{Made, Judgement}
 
 no_finish : (n : ℕ) (answers : List Bool) → NoFinish n (looks n answers)
 no_finish n [] = tt
@@ -37,7 +32,7 @@ looks_kept n (a ∷ answers) = All-cons IsFinishKept _ _ refl (looks_kept n answ
 same_end : (a b : answer.Finish) → ◌≡◌ {A = Reply} (reply.Finish a) (reply.Finish b) → a ≡ b
 same_end a b e = cc
 
-end_kept : (made : Made) (right : Right) → FirstFinishIsKept right → (j : Job) (call : Call) (before run : List Entry) (now : Register) → IsGiving call
+end_kept : (made : Made) (right : Judgement) → FirstFinishIsKept right → (j : Job) (call : Call) (before run : List Entry) (now : Register) → IsGiving call
     → (r : IsJobRun made j run) → LeadsTo right (before ++ entry_of_move call (reply.Gave (Some j)) ∷ run) now → r.end ≡ ends.Kept
 end_kept made right law j call before run now giving r runs =
     let (old, first, (new, gave, rest)) = leads_split right before (entry_of_move call (reply.Gave (Some j)) ∷ run) now runs in
@@ -52,7 +47,7 @@ end_kept made right law j call before run now giving r runs =
     finish)
 
 -- the finish of a run is kept
-pub run_kept : (made : Made) (right : Right) → FirstFinishIsKept right → RunsAreKept made right
+pub run_kept : (made : Made) (right : Judgement) → FirstFinishIsKept right → RunsAreKept made right
 run_kept made right law j call before run now giving r runs =
     let kept = end_kept made right law j call before run now giving r runs in
     subst (λ (es : List Entry). AreKept es) (sym r.are)

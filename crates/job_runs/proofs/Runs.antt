@@ -1,5 +1,5 @@
 -- A job's run, and the calls round it.
-use Rattle.std.proofs.Common.{◌≡◌, ℕ, ◌+◌, nat_lt, Bool, true, false, List, [], ◌∷◌, ◌++◌, Option, Some, refl, sym, ◌∙◌, ap, subst, append-nil, inr, arith, rules, IsTrue, ◌↔◌, IsSome}
+use Rattle.std.proofs.Common.{◌≡◌, ℕ, ◌+◌, nat_lt, Bool, true, false, List, [], ◌∷◌, ◌++◌, Option, Some, refl, sym, ap, subst, append-nil, inr, arith, rules, IsTrue, ◌↔◌, IsSome}
 use Rattle.std.proofs.lemmas.Bool.Decides.{nat_tests}
 use Rattle.os_io.specs.Looks.{stops_of}
 use Rattle.os_io.specs.Laws.{stops_more}
@@ -12,13 +12,7 @@ use Rattle.job_table.specs.History.{Entry, entry_of_move}
 use Rattle.job_table.specs.Looks.{looks}
 use Rattle.job_runs.specs.Runs.{AreLooks, IsJobRun, Works}
 use Rattle.job_runs.specs.Solves.{EntersAndRuns, Solves, BeginsToSolve}
-
-abbrev Made : Type 1
-Made = List ℕ → List ℕ → List Bool → Option (List ℕ) → Type 0
-
--- calls after calls are both
-abbrev Joins : (List Entry → Type 0) → (List Entry → Type 0) → (List Entry → Type 0) → Type 0
-Joins did did' both = (a b : List Entry) → did a → did' b → both (a ++ b)
+use Rattle.job_runs.proofs.Kinds.{Made, Joins}
 
 -- looks and a finish are a run
 pub run_of : (made : Made) (did did' both : List Entry → Type 0) → Joins did did' both

@@ -22,7 +22,7 @@ use Rattle.no_cycles.proofs.Moves as Moves
 use Rattle.no_cycles.proofs.Turned.{full, full-number, full_other, rest_number, known}
 use Rattle.no_cycles.proofs.Feasible.{not_out}
 
-first_nonbasic : (lo hi : Option Ratio) → is_basic (first_status lo hi) ≡ false
+pub first_nonbasic : (lo hi : Option Ratio) → is_basic (first_status lo hi) ≡ false
 first_nonbasic (Some l) hi = refl
 first_nonbasic None (Some h) = refl
 first_nonbasic None None = refl

@@ -1,5 +1,5 @@
 -- A search without whole variables ends at the limit of turns only where the run of its one case does.
-use Rattle.std.proofs.Common.{◌≡◌, ◌+◌, ◌^◌, ◌≤◌, ◌⊎◌, inl, inr, false, Option, None, Some, List, [], ◌∷◌, refl, ◌∙◌, ap, subst, arith}
+use Rattle.std.proofs.Common.{◌≡◌, ◌+◌, ◌^◌, ◌≤◌, ◌⊎◌, inl, inr, Bool, false, Option, None, Some, List, [], ◌∷◌, refl, ◌∙◌, ap, subst, arith}
 use Rattle.rational.specs.Ratio.{Ratio}
 use Rattle.evidence.specs.Instance.{Instance, IsInstance, width, height}
 use Rattle.evidence.specs.Cases.{Multiplier, Node}
@@ -10,17 +10,17 @@ use Rattle.search_rules.specs.Search.{Found, Moment, Outcome, Out, MeetsPoint, G
 use Rattle.search_rules.specs.Outcomes.{IsPlain}
 use Rattle.search_rules.proofs.PlainSearches.{comes_plain, next_closed}
 use Rattle.no_cycles.specs.Beginning.{BeginsFeasible}
-use Rattle.no_cycles.specs.Searches.{is_turn_limit, is_out_of_turns}
+use Rattle.no_cycles.specs.Searches.{is_turn_limit, is_for, is_out_of_turns}
 use Rattle.no_cycles.proofs.Bounded.{never_out}
 use Rattle.no_cycles.proofs.Begun.{settled_first}
 
-pub early_is : (best : Option Found) (c : Cause) → is_out_of_turns (early best c) ≡ is_turn_limit c
-early_is None c = refl
-early_is (Some f) c = refl
+pub early_is : (such : Cause → Bool) (best : Option Found) (c : Cause) → is_for such (early best c) ≡ such c
+early_is such None c = refl
+early_is such (Some f) c = refl
 
-closed_is : (best : Option Found) (nodes : List Node) → is_out_of_turns (closed best nodes) ≡ false
-closed_is None nodes = refl
-closed_is (Some f) nodes = refl
+pub closed_is : (such : Cause → Bool) (best : Option Found) (nodes : List Node) → is_for such (closed best nodes) ≡ false
+closed_is such None nodes = refl
+closed_is such (Some f) nodes = refl
 
 -- an outcome that is told is within its turns
 told : {o p : Outcome} {c d : Clock} → Out o c ≡ Out p d → is_out_of_turns p ≡ false → is_out_of_turns o ≡ false
@@ -29,7 +29,7 @@ told {o} {p} {c} {d} e within = let f : o ≡ p = cc in ap is_out_of_turns f ∙
 module _ (I : Instance) (t : Terms) where
   meets_within : (J : Instance) (rest : List Instance) (m : Moment) (x : List Ratio) (ms : List Multiplier) (o : Outcome) (c : Clock) → MeetsPoint I J rest m x ms (Out o c) → is_out_of_turns o ≡ false
   meets_within J rest m x ms o c (inl (j, k, s, e)) = absurd (cc)
-  meets_within J rest m x ms o c (inr (inl (w, f, e))) = told e (early_is m.best _)
+  meets_within J rest m x ms o c (inr (inl (w, f, e))) = told e (early_is is_turn_limit m.best _)
   meets_within J rest m x ms o c (inr (inr (inl (v, w, f, g, r, e)))) = absurd (cc)
   meets_within J rest m x ms o c (inr (inr (inr (v, s, w, f, g, r, e)))) = told e refl
 
@@ -38,11 +38,11 @@ module _ (I : Instance) (t : Terms) where
   goes_within J rest m (Empty ms) o c off e = absurd (cc)
   goes_within J rest m (Best b x ms) o c off (inl (p, e)) = absurd (cc)
   goes_within J rest m (Best b x ms) o c off (inr (p, g)) = meets_within J rest m x ms o c g
-  goes_within J rest m (Endless x d) o c off (inl (f, e)) = told e (early_is m.best _)
+  goes_within J rest m (Endless x d) o c off (inl (f, e)) = told e (early_is is_turn_limit m.best _)
   goes_within J rest m (Endless x d) o c off (inr (r, s, g)) = meets_within J rest (record m { ray = Some r }) x [] o c g
   goes_within J rest m TurnsOut o c off e = absurd (off refl)
-  goes_within J rest m (TooWide w) o c off e = told e (early_is m.best _)
-  goes_within J rest m Stopped o c off e = told e (early_is m.best _)
+  goes_within J rest m (TooWide w) o c off e = told e (early_is is_turn_limit m.best _)
+  goes_within J rest m Stopped o c off e = told e (early_is is_turn_limit m.best _)
 
   module _ (plain : IsPlain I) where
     -- the first moment, or one at which no case is left
@@ -60,13 +60,13 @@ module _ (I : Instance) (t : Terms) where
           (λ e. never_out I false t (looked_once (first I).clock) v.clock good (λ room. settled_first I false good room feasible) (omega (arith, enough)) (subst (λ x. Run I false t (looked_once (first I).clock) x v.clock) e run)) v.goes
 
       next_within : (m : Moment) (o : Outcome) (c : Clock) → (m ≡ first I) ⊎ (m.waiting ≡ []) → IsNext I t m (Out o c) → is_out_of_turns o ≡ false
-      next_within m o c where_at (inl (e, f)) = told f (closed_is m.best m.nodes)
-      next_within m o c where_at (inr (inl (e, f, g))) = told g (early_is m.best _)
-      next_within m o c where_at (inr (inr (inl (e, f, s, g)))) = told g (early_is m.best _)
+      next_within m o c where_at (inl (e, f)) = told f (closed_is is_turn_limit m.best m.nodes)
+      next_within m o c where_at (inr (inl (e, f, g))) = told g (early_is is_turn_limit m.best _)
+      next_within m o c where_at (inr (inr (inl (e, f, s, g)))) = told g (early_is is_turn_limit m.best _)
       next_within m o c (inl e) (inr (inr (inr v))) = visit_within o c (subst (λ x. IsVisit I t x (Out o c)) e v)
       next_within m o c (inr e) (inr (inr (inr v))) = let q = v.visit.is in absurd (cc)
 
       pub within_turns : (o : Outcome) (c : Clock) → IsSearchAnswer I t o c → is_out_of_turns o ≡ false
       within_turns o c (searched s) = next_within s.last o c (whole_or_closed s.last s.comes) s.ends
-      within_turns o c (given_up {m} comes) = early_is m.best _
-      within_turns o c (given_up_after {m} comes run) = early_is m.best _
+      within_turns o c (given_up {m} comes) = early_is is_turn_limit m.best _
+      within_turns o c (given_up_after {m} comes run) = early_is is_turn_limit m.best _

@@ -13,10 +13,14 @@ is_turn_limit (Wide place) = false
 is_turn_limit Length = false
 is_turn_limit Memory = false
 
--- the search was given up for that
+-- the search was given up for such a cause
+abbrev pub is_for : (Cause → Bool) → Outcome → Bool
+is_for such (Optimal x v ns) = false
+is_for such (Infeasible ns) = false
+is_for such (Unbounded x v r) = false
+is_for such (BestSoFar x v c) = such c
+is_for such (Unsure c) = such c
+
+-- and for that one
 abbrev pub is_out_of_turns : Outcome → Bool
-is_out_of_turns (Optimal x v ns) = false
-is_out_of_turns (Infeasible ns) = false
-is_out_of_turns (Unbounded x v r) = false
-is_out_of_turns (BestSoFar x v c) = is_turn_limit c
-is_out_of_turns (Unsure c) = is_turn_limit c
+is_out_of_turns o = is_for is_turn_limit o

@@ -35,7 +35,7 @@ use Rattle.osrl_grammar.specs.declared.report.Report.{Report}
 use Rattle.osrl_grammar.specs.Writing.{report_text}
 use Rattle.solve_run.specs.Judging.{checked, given_up, wide_check}
 use Rattle.solve_run.specs.Closings.{IsClosed, IsFitted}
-use Rattle.solve_run.specs.JobAnswers.{AnswersJob, GaveUp, IsBestOfSearch, Solved, no_options, no_instance, not_solved, solved, gave_up, job_terms}
+use Rattle.solve_run.specs.JobAnswers.{AnswersJob, IsBestOfSearch, Solved, no_options, no_instance, not_solved, solved, gave_up, job_terms}
 use Rattle.no_cycles.specs.Beginning.{BeginsFeasible}
 use Rattle.no_cycles.specs.Limit.{safe_limit}
 use Rattle.no_cycles.specs.Searches.{is_out_of_turns, is_turn_limit}
@@ -45,7 +45,7 @@ use Rattle.os_app.specs.Safe.{IsSafeText, HasNoSafeText, Takes, claims_turn_limi
 use Rattle.os_app.specs.Safe as safe
 use Rattle.os_io.specs.Files.{Held, Holds, MayHold}
 use Rattle.command_answers.specs.Outputs.{IsTold}
-use Rattle.command_line.specs.Words.{Command, Session, Solve, Call, Serve, asks, IsSolve, IsNoCommand}
+use Rattle.command_line.specs.Words.{Command, Session, Solve, Call, asks, IsSolve, IsNoCommand}
 use Rattle.os_app.specs.Solves.{IsDocumentAbout}
 use Rattle.os_app.specs.Runs.{Run, RunEnds, IsDue, IsUsageDue, IsAnswerDue, IsUnsent, WritesWithinTurns, asks_to_serve, served, answered, called, hosted, misused, file_fault, unsent, unheard}
 use Rattle.os_app.proofs.Words.{one_command}
@@ -124,7 +124,7 @@ closed_is p job turns found told closed within = fitted_is job _ told closed.fit
 
 gave_up_is : (osil osol : List ℕ) (c : Claim) → (c ≡ Unsure Memory) ⊎ IsBestOfSearch osil osol c → claims_turn_limit c ≡ false
 gave_up_is osil osol c (inl is) = ap claims_turn_limit is
-gave_up_is osil osol c (inr best) = told_turned c (early best.moment.best Memory) best.tells ∙ early_is best.moment.best Memory
+gave_up_is osil osol c (inr best) = told_turned c (early best.moment.best Memory) best.tells ∙ early_is is_turn_limit best.moment.best Memory
 
 -- ---- the laws of the crates below
 

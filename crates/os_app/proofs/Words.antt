@@ -1,5 +1,5 @@
 -- What the words of a run decide of it.
-use Rattle.std.proofs.Common.{◌≡◌, ◌∙◌, ℕ, ◌⊎◌, inl, inr, Bool, true, false, List, Option, Some, None, arith, refl, sym, subst}
+use Rattle.std.proofs.Common.{◌≡◌, ◌∙◌, ℕ, ◌⊎◌, inl, inr, true, false, List, Option, Some, None, arith, refl, sym, subst}
 use Rattle.std.proofs.lemmas.Option.{none-some, same_Some}
 use Rattle.os_server.specs.declared.serve.Served.{Served}
 use Rattle.os_server.specs.declared.serve.Served.TheVariants.{Ended, CutShort, ReadFault, WriteFault, Memory}
@@ -8,18 +8,11 @@ use Rattle.serving.specs.declared.ending.Ending.TheVariants as endings
 use Rattle.os_app.specs.Statuses.{serve_status}
 use Rattle.serving.specs.Serving as serving
 use Rattle.os_app.specs.Statuses.{session_status}
+pub use Rattle.command_line.proofs.Texts.{true_or_false}
 use Rattle.command_line.specs.Words.{Command, Session, Check, Solve, Generate, Call, Serve, asks, asks_for_links, names_files, AsksForNoLink, IsCheck, IsNoCommand, NamesNoFile}
 use Rattle.os_app.specs.Runs.{Run, ServesSession, IsUnheard, LeavesInput, RunEnds, served, hosted, unheard, AllFilesRead, Checks, Runs, asks_to_serve}
 use Rattle.serving.specs.declared.setup.Setup.{Setup}
 use Rattle.os_app.specs.Runs as runs
-
--- what is true isn't false
-abbrev IsTrue : Bool → Type 0
-IsTrue true = Unit {0}
-IsTrue false = ⊥
-
-pub true_or_false : true ≡ false → ⊥
-true_or_false is = subst IsTrue is tt
 
 -- words that ask for something aren't words that ask for nothing
 pub some_or_none : (asked : Option Command) (it : Command) → asked ≡ Some it → asked ≡ None → ⊥

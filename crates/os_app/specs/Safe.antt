@@ -1,7 +1,7 @@
 -- The options' text that a job is solved with where the safe limit of turns is asked for.
 use Rattle.std.specs.Prelude.{◌≡◌, ◌≢◌, ◌⊎◌, ℕ, Bool, true, false, Option, None, Some, List, length}
 use Rattle.certificate.specs.declared.claims.Claim.{Claim}
-use Rattle.certificate.specs.declared.claims.Claim.TheVariants.{Optimal, Infeasible, Unbounded, BestSoFar, Unsure}
+use Rattle.branch_bound.specs.Claims.{claims_for}
 use Rattle.instance.specs.Parts.{Parts}
 use Rattle.osol_grammar.specs.declared.options.Options.{Options}
 use Rattle.osol_grammar.specs.declared.fault.OsolFault.{OsolFault}
@@ -13,7 +13,6 @@ use Rattle.osil_grammar.specs.declared.fault.OsilFault.{OsilFault}
 use Rattle.osil_grammar.specs.declared.fault.OsilFault.TheVariants as instance_faults
 use Rattle.osil_grammar.specs.Reading.{IsInstanceText}
 use Rattle.osil_grammar.specs.Reading as instances
-use Rattle.osrl_grammar.specs.declared.report.Report.{Report}
 use Rattle.no_cycles.specs.Limit.{safe_limit}
 use Rattle.no_cycles.specs.Searches.{is_turn_limit}
 
@@ -45,11 +44,7 @@ Takes true osil osol taken = IsSafeText osil osol taken ⊎ (HasNoSafeText osil 
 
 -- the claim was given up at the limit of turns
 abbrev pub claims_turn_limit : Claim → Bool
-claims_turn_limit (Optimal x vs cs) = false
-claims_turn_limit (Infeasible cert) = false
-claims_turn_limit (Unbounded x vs cs r) = false
-claims_turn_limit (BestSoFar x vs c) = is_turn_limit c
-claims_turn_limit (Unsure c) = is_turn_limit c
+claims_turn_limit c = claims_for is_turn_limit c
 
 -- and the report says so
 abbrev pub says_turn_limit : Option Claim → Bool

@@ -3,7 +3,7 @@ use Rattle.std.specs.Prelude.{◌≡◌, ℕ, Bool, true, false, Some, List, []}
 use Rattle.certificate.specs.declared.causes.Cause.{Cause}
 use Rattle.certificate.specs.declared.causes.Cause.TheVariants as causes
 use Rattle.certificate.specs.declared.claims.Claim.{Claim}
-use Rattle.certificate.specs.declared.claims.Claim.TheVariants as claims
+use Rattle.branch_bound.specs.Claims.{claims_for}
 use Rattle.osil_grammar.specs.Writing.{IsWrittenText}
 use Rattle.osrl_grammar.specs.declared.report.Report.{Report}
 use Rattle.osrl_grammar.specs.Reading.{IsReportText}
@@ -27,11 +27,7 @@ is_memory causes.Memory = true
 
 -- the search stopped for want of memory
 abbrev pub wanted_memory : Claim → Bool
-wanted_memory (claims.Optimal x vs cs) = false
-wanted_memory (claims.Infeasible cert) = false
-wanted_memory (claims.Unbounded x vs cs r) = false
-wanted_memory (claims.BestSoFar x vs c) = is_memory c
-wanted_memory (claims.Unsure c) = is_memory c
+wanted_memory c = claims_for is_memory c
 
 -- the checker accepts what the documents claim, or it doesn't; want of memory decides neither
 abbrev pub IsDecided : (osil osrl : List ℕ) → (is_accepted : Bool) → Type 0

@@ -1,11 +1,12 @@
 -- What a call does to its link.
-use Rattle.std.specs.Prelude.{◌≡◌, ◌⊎◌, ℕ, Bool, true, false, List, codes, Result, Ok, Err}
+use Rattle.std.specs.Prelude.{◌≡◌, ◌⊎◌, ℕ, Bool, List, Result, Ok, Err}
 use Rattle.os_io.specs.Streams.{Tells, BothTold, Appends, AppendsPart, Grows, HasRisen, SameInput, SameOutput}
 use Rattle.http_link.specs.Outgoing.{request_text}
 use Rattle.http_link.specs.Replies.{BytesCome, ComesPart, IsReplyBegun, IsReplyPart}
 use Rattle.six_calls.specs.declared.call.CallKind.{CallKind}
 use Rattle.soap_calls.specs.declared.call.SoapCall.{SoapCall}
 use Rattle.six_calls.specs.Names.{kind_text}
+use Rattle.soap_calls.specs.Replies.{bool_text}
 use Rattle.soap_calls.specs.Writing.{call_text}
 use Rattle.os_client.specs.declared.fault.CallFault.{CallFault}
 use Rattle.os_client.specs.declared.fault.CallFault.TheVariants.{ReadFault, WriteFault, Memory}
@@ -65,11 +66,6 @@ calling kind osil osol ospl = record { kind = kind; parts = record { osil = osil
 -- what comes of a call
 abbrev pub Calls : SoapCall → Result (List ℕ) CallFault → Tells → Tells → Type 0
 Calls call result old new = CallsWith (kind_text call.kind) (call_text call) result old new
-
--- the text that says yes or no
-abbrev pub bool_text : Bool → List ℕ
-bool_text true = codes "true"
-bool_text false = codes "false"
 
 -- what comes of a call that says yes or no
 abbrev pub CallsBool : SoapCall → Result Bool CallFault → Tells → Tells → Type 0

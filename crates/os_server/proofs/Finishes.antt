@@ -1,5 +1,5 @@
 -- The finishes of a conversation are kept.
-use Rattle.std.proofs.Common.{◌≡◌, ℕ, Bool, true, false, List, [], ◌++◌, Option, Some, refl, sym, subst, append_assoc}
+use Rattle.std.proofs.Common.{◌≡◌, true, false, List, [], ◌++◌, Some, refl, sym, subst, append_assoc}
 use Rattle.std.proofs.lemmas.List.Elements.{All-nil, All-cons, All-append}
 use Rattle.job_table.specs.declared.job.Job.{Job}
 use Rattle.job_table.specs.declared.calls.Call.{Call}
@@ -12,10 +12,8 @@ use Rattle.job_runs.specs.Laws.{kept_if_finish, IsFinishKept, AreKept, RunsAreKe
 use Rattle.job_table.proofs.Histories.{leads_split}
 use Rattle.os_server.specs.declared.serve.Served.{Served}
 use Rattle.os_server.specs.Talk.{Part, Talk}
-use Rattle.os_server.proofs.Pieces.{Made, Wakes, is_plain, Builds, talk_so}
-
-abbrev Right : Type 1
-Right = List ℕ → List ℕ → Bool → Option (List ℕ) → Type 0
+use Rattle.job_runs.proofs.Kinds.{Made, Judgement}
+use Rattle.os_server.proofs.Pieces.{Wakes, is_plain, Builds, talk_so}
 
 false_is_not : false ≡ true → ⊥
 false_is_not e = cc
@@ -29,7 +27,7 @@ given_kept (calls.Enter o p) j giving = refl
 given_kept (calls.Claim worker) j giving = refl
 given_kept call j giving = absurd giving
 
-module _ (made : Made) (right : Right) (law : RunsAreKept made right) where
+module _ (made : Made) (right : Judgement) (law : RunsAreKept made right) where
   -- these moves are kept wherever they stand in a history
   abbrev Keeps : List Entry → Type 0
   Keeps own = (before : List Entry) (now : Register) → LeadsTo right (before ++ own) now → AreKept own

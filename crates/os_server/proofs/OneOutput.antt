@@ -36,12 +36,14 @@ use Rattle.os_server.specs.declared.fault.FaultCode.{FaultCode}
 use Rattle.os_server.specs.declared.fault.FaultCode.TheVariants as codes_of
 use Rattle.os_server.specs.declared.saying.Said.{Said}
 use Rattle.os_server.specs.declared.serve.Served.{Served}
-use Rattle.os_server.specs.Orders.{Names, name_in, order_of, SaysProcess, IsAsked, Orders, Asks, SaysOptionsRefused, RefusesProcess, Faults}
+use Rattle.ospl_grammar.specs.Table.{text_or_none}
+use Rattle.os_server.specs.Orders.{Names, order_of, SaysProcess, IsAsked, Orders, Asks, SaysOptionsRefused, RefusesProcess, Faults}
 use Rattle.os_server.specs.Answers.{said_by, fault_said, Doing, Moves, RunsAtOnce, doing_of, DoesSo, Does}
 use Rattle.os_server.specs.Talk.{Part, all_of, IsBodyAnswered, IsRefusedAs, IsExchange, response_text, Talk}
 use Rattle.os_server.specs.Laws.{HasNoFault, takens, replies}
 use Rattle.os_server.specs.OneReading.{Requests, Bodies}
-use Rattle.os_server.proofs.Pieces.{Made, Wakes}
+use Rattle.job_runs.proofs.Kinds.{Made}
+use Rattle.os_server.proofs.Pieces.{Wakes}
 use Rattle.os_server.proofs.RequestCuts.{Front, Whole, Refuses, Between, Inside, Brings, ShowsLast, shows_once, last_shows, cut_one_way, whole_bytes}
 
 -- what a body asks
@@ -55,7 +57,7 @@ names_once id n m (inr (none, unnamed)) (inr (none', unnamed')) = none ∙ sym n
 
 asked_once : (call : SoapCall) (o p : Options) (x y : Order) → p ≡ o → IsAsked call o x → IsAsked call p y → x ≡ y
 asked_once call o p x y same (n, named, is) (m, named', is') =
-    is ∙ ap (order_of call) (names_once (name_in o.job) n m named (subst (λ (q : Options). Names (name_in q.job) m) same named')) ∙ sym is'
+    is ∙ ap (order_of call) (names_once (text_or_none o.job) n m named (subst (λ (q : Options). Names (text_or_none q.job) m) same named')) ∙ sym is'
 
 -- why a body asks nothing: it is refused as a call, or its call is refused
 abbrev said_of : SoapFault → FaultCode × List ℕ

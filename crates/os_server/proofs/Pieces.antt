@@ -12,6 +12,7 @@ use Rattle.job_table.specs.declared.calls.Reply.TheVariants as reply
 use Rattle.job_table.specs.History.{Entry, entry_of_move, IsGiving}
 use Rattle.job_runs.specs.Runs.{IsJobRun, Works}
 use Rattle.job_runs.specs.Solves.{EntersAndRuns}
+use Rattle.job_runs.proofs.Kinds.{Made}
 use Rattle.os_server.specs.declared.order.Order.{Order}
 use Rattle.os_server.specs.declared.saying.Said.{Said}
 use Rattle.os_server.specs.declared.reply.Reply.{Reply}
@@ -20,9 +21,6 @@ use Rattle.os_server.specs.declared.serve.Served.{Served}
 use Rattle.os_server.specs.declared.serve.Served.TheVariants.{Ended, CutShort, ReadFault, WriteFault, Memory}
 use Rattle.os_server.specs.Answers.{Doing, Moves, RunsAtOnce, doing, doing_of, DoesSo, Does, BeginsSo}
 use Rattle.os_server.specs.Talk.{Part, all_of, IsBodyAnswered, IsReplyDue, IsExchange, EndsTalk, IsLastPart, Talk}
-
-abbrev pub Made : Type 1
-Made = List ℕ → List ℕ → List Bool → Option (List ℕ) → Type 0
 
 abbrev pub Wakes : Type 1
 Wakes = Bool → Type 0

@@ -2,7 +2,7 @@
 use Rattle.std.proofs.Common.{◌≡◌, ℕ, ◌+◌, ◌<◌, true, false, List, [], ◌∷◌, ◌++◌, length, Option, Some, None, Result, Ok, Err, refl, sym, ◌∙◌, ap, subst, inl, inr, length-append, append-nil, append_assoc}
 use Rattle.std.specs.Prelude.{All}
 use Rattle.std.proofs.lemmas.List.Elements.{All-nil, All-push}
-use Rattle.os_io.specs.Streams.{Tells, BothTold, IsPart, Appends, AppendsPart, Grows, HasRisen, SameInput, SameOutput, Sends}
+use Rattle.os_io.specs.Streams.{Tells, BothTold, IsPart, Appends, AppendsPart, Grows, HasRisen, SameOutput, Sends}
 use Rattle.os_io.specs.declared.streams.Failed.{Failed}
 use Rattle.os_io.proofs.Pieces.{grows_same, grows_on}
 use Rattle.http_link.specs.Carry.{with_carry, tells_ahead}
@@ -20,16 +20,13 @@ use Rattle.os_server.specs.declared.serve.Served.{Served}
 use Rattle.os_server.specs.declared.serve.Served.TheVariants.{Ended, CutShort, ReadFault, WriteFault, Memory}
 use Rattle.os_server.specs.Talk.{Part, part, then, all_of, ReadsBytes, AtEnd, most_requests, text_of_reply, IsReplyDue, IsExchange, EndsTalk, IsLastPart, HandsOn, Accounts, Serves, ServesWhole, both_ends}
 use Rattle.os_server.specs.Serving.{IsReplied, AnswersOne, FollowsReply, CameWithDue, CountsCame, ComesOnLink, AccountsOne, ServesOne}
-use Rattle.os_server.proofs.Pieces.{Made, Wakes}
+use Rattle.job_runs.proofs.Kinds.{Made, Joins}
+use Rattle.os_server.proofs.Pieces.{Wakes}
 use Rattle.os_server.proofs.Steps.{read_then, wrote_then, at_end_then, read_none, wrote_none, read_whole, read_of, hands_then, then_none, all_more}
 use Rattle.os_server.proofs.Replies.{due}
 
 abbrev Bytes : Type 0
 Bytes = Option (List ℕ)
-
--- moves after moves are both
-abbrev Joins : (List Entry → Type 0) → (List Entry → Type 0) → (List Entry → Type 0) → Type 0
-Joins did did' both = (a b : List Entry) → did a → did' b → both (a ++ b)
 
 -- ---- what came
 
@@ -223,9 +220,6 @@ output_then a b c p q = record {
   handed_on = q.handed_on ∙ p.handed_on;
   write_faults = q.write_faults ∙ p.write_faults;
 }
-
-pub input_then : (a b c : Tells) → SameInput a b → SameInput b c → SameInput a c
-input_then a b c p q = record { left = q.left ∙ p.left; read_faults = q.read_faults ∙ p.read_faults }
 
 -- what came on an input that is one of two ends
 pub comes_between : (made : Made) (wakes : Wakes) (did : List Entry → Type 0) (came : Result Reply Served) (i j o : Tells) → ComesOnLink made wakes did came i j

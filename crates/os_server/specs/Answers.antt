@@ -29,6 +29,7 @@ use Rattle.ospl_grammar.specs.Writing.{process_text}
 use Rattle.six_calls.specs.declared.call.CallKind.{CallKind}
 use Rattle.six_calls.specs.declared.call.CallKind.TheVariants as kinds
 use Rattle.six_calls.specs.Names.{kind_text}
+use Rattle.soap_calls.specs.Replies.{bool_text}
 use Rattle.soap_calls.specs.Writing.{reply_text, fault_text}
 use Rattle.os_server.specs.declared.doing.LastReply.{LastReply}
 use Rattle.os_server.specs.declared.doing.LastReply.TheVariants as lasts
@@ -80,10 +81,6 @@ job_alone n (Some state) = stated (n, state) ∷ []
 -- the process document that follows the kill of a job
 abbrev pub process_after : ℕ → Killing → Process
 process_after n told = Statistics told.busy told.current told.total (job_alone n told.state)
-
-abbrev pub bool_text : Bool → List ℕ
-bool_text true = codes "true"
-bool_text false = codes "false"
 
 -- the envelope of what a call returns
 abbrev pub returns : CallKind → List ℕ → Option Said

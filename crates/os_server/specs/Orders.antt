@@ -1,5 +1,5 @@
 -- What the body of a request asks of the table of jobs, or why it asks nothing (SOAP 1.1, sections 4 and 4.4, and the calls of the Optimization Services).
-use Rattle.std.specs.Prelude.{◌≡◌, ◌≢◌, ◌⊎◌, ℕ, ◌<◌, ◌^◌, List, [], ◌++◌, Option, None, Some, codes}
+use Rattle.std.specs.Prelude.{◌≡◌, ◌≢◌, ◌⊎◌, ℕ, ◌<◌, ◌^◌, List, [], ◌++◌, Option, codes}
 use Rattle.job_table.specs.Ids.{id_text}
 use Rattle.six_calls.specs.declared.part.Part as given
 use Rattle.soap_calls.specs.declared.call.SoapCall.{SoapCall}
@@ -16,6 +16,7 @@ use Rattle.ospl_grammar.specs.declared.process.Process.{Process}
 use Rattle.ospl_grammar.specs.declared.fault.OsplFault.{OsplFault}
 use Rattle.ospl_grammar.specs.Meaning.{IsProcessText}
 use Rattle.ospl_grammar.specs.Refusals as ospl
+use Rattle.ospl_grammar.specs.Table.{text_or_none}
 use Rattle.ospl_grammar.specs.Texts as ospl_texts
 use Rattle.os_server.specs.declared.order.Order.{Order}
 use Rattle.os_server.specs.declared.fault.FaultCode.{FaultCode}
@@ -28,14 +29,9 @@ abbrev pub Names : List ℕ → ℕ → Type 0
 Names id n =
     ((n < 2 ^ 64) × (id ≡ id_text n)) ⊎ ((n ≡ 0) × ((m : ℕ) → m < 2 ^ 64 → id ≡ id_text m → ⊥))
 
--- the name of a job, which is empty where there is none
-abbrev pub name_in : Option (List ℕ) → List ℕ
-name_in None = []
-name_in (Some id) = id
-
--- the job that options name
+-- the job that options name, whose name is empty where they have none
 abbrev pub NamesJob : Options → ℕ → Type 0
-NamesJob o n = Names (name_in o.job) n
+NamesJob o n = Names (text_or_none o.job) n
 
 -- what a call asks of the job with this number
 abbrev pub order_of : SoapCall → ℕ → Order

@@ -1,6 +1,7 @@
 //! What answers a call.
 ghost use Rattle.std.specs.Prelude.{◌≡◌, Some, IfOk};
-ghost use Rattle.os_server.specs.Answers.{said_by, fault_said, reply_of, bool_text, returns, shown_text};
+ghost use Rattle.soap_calls.specs.Replies.{bool_text};
+ghost use Rattle.os_server.specs.Answers.{said_by, fault_said, reply_of, returns, shown_text};
 
 use crate::doing::LastReply;
 use crate::fault::FaultCode;

@@ -18,7 +18,7 @@ counts_few (c ∷ cs) n (inl is) = let rest = counts_few cs n is.1 in omega (ari
 counts_few (c ∷ cs) n (inr is) = let rest = counts_few cs is.1 is.2 in let one = is.3 in omega (arith, rest, one)
 
 -- no more entries than there are stand before a row
-one_below : (b : Bool) (n m : ℕ) → n ≤ m → cond b (n + 1) n ≤ m + 1
+pub one_below : (b : Bool) (n m : ℕ) → n ≤ m → cond b (n + 1) n ≤ m + 1
 one_below true n m less = omega (arith, less)
 one_below false n m less = omega (arith, less)
 

@@ -1,6 +1,7 @@
 -- What start tags and texts say is one thing, so a mark that is taken leaves one state.
-use Rattle.osil_grammar.proofs.Words.{◌≡◌, ◌∙◌, ◌+◌, ℕ, zero, suc, inl, inr, ℤ, pos, Bool, cond, true, false, List, [], ◌∷◌, ◌++◌, map, length, get_or, set, replicate, refl, ap, sym, subst, arith, lit<, ◌||◌, Option, None, Some, IsSomeAnd, bytes_eq, codes, Attribute, Mark, Char, Ratio, IsNumber, IsSame, sum, negative, IsSame-trans, sum-number, Frac, End, NegInf, At, Inf, Entry, ratio, ratios, same_fraction, SaysEnd, IsCount, IsWholeText, IsDecimal, only_inf, only_neg_inf, count_once, whole_once, value_of, Row, Sense, Min, Max, LeavesOne, Domain, Continuous, Integer, Binary, SemiContinuous, SemiInteger, Listing, Place, whole_run, ratio_run, AreSame, IsEndAt, raised, lowered, IsBinary, IsLess, IsSense, IsDeclared, SaysCount, nought, SaysStep, SaysWholeStep, letters, IsLetterOf, IsOfDomain, SaysVar, SaysRow, SaysSense, State, Kind, begins, text, ends, kind, attributes, count_name, part_row, into, out_of, is_variables, SaysRun, Begins, Passes, AddsWholes, AddsRun, AddsCost, Ends, Leaves, osil}
+use Rattle.osil_grammar.proofs.Words.{◌≡◌, ◌∙◌, ◌+◌, ℕ, zero, suc, inl, inr, ℤ, pos, Bool, cond, true, false, List, [], ◌∷◌, ◌++◌, map, length, get_or, set, replicate, refl, ap, sym, subst, arith, lit<, ◌||◌, Option, None, Some, bytes_eq, codes, Attribute, Mark, Char, Ratio, IsNumber, IsSame, sum, negative, IsSame-trans, sum-number, Frac, End, NegInf, At, Inf, Entry, ratio, ratios, same_fraction, SaysEnd, IsCount, IsWholeText, IsDecimal, only_inf, only_neg_inf, count_once, whole_once, value_of, Row, Sense, Min, Max, LeavesOne, Domain, Continuous, Integer, Binary, SemiContinuous, SemiInteger, Listing, Place, whole_run, ratio_run, AreSame, IsEndAt, raised, lowered, IsBinary, IsLess, IsSense, IsDeclared, SaysCount, nought, SaysStep, SaysWholeStep, letters, IsLetterOf, IsOfDomain, SaysVar, SaysRow, SaysSense, State, Kind, begins, text, ends, kind, attributes, count_name, part_row, into, out_of, is_variables, SaysRun, Begins, Passes, AddsWholes, AddsRun, AddsCost, Ends, Leaves, osil}
 use Rattle.evidence.specs.Sums as evidence
+use Rattle.document_tags.proofs.SomeAnd.{some_once}
 use Rattle.instance.specs.declared.parts.Var.{Var as Variable}
 use Rattle.osil_grammar.specs.declared.elements.Part.TheVariants as parts
 use Rattle.osil_grammar.specs.declared.elements.Listing.TheVariants as listings
@@ -128,10 +129,6 @@ step_once as' x y a b = said_once as' (codes "incr") nought (λ t z. IsDecimal t
 whole_step_once : (as' : List Attribute) (x y : ℤ) → SaysWholeStep as' x → SaysWholeStep as' y → x ≡ y
 whole_step_once as' x y a b = said_once as' (codes "incr") (pos 0) IsWholeText whole_once x y a b
 
-index_of_once : (o : Option (List ℕ)) (i j : ℕ) → IsSomeAnd o (λ t. IsCount t i) → IsSomeAnd o (λ t. IsCount t j) → i ≡ j
-index_of_once None i j a b = absurd a
-index_of_once (Some t) i j a b = count_once t i j a b
-
 -- two states that differ in what is one thing
 run_once : (l : Listing) (as' : List Attribute) (s a b : State) → SaysRun l as' s a → SaysRun l as' s b → a ≡ b
 run_once listings.Values as' s a b (m, d, t, u, e) (n, c, v, w, f) =
@@ -158,7 +155,7 @@ begins_once s m places.Obj a b (g, c, d, i, x, k, l, t, e) (h, o, n, j, y, q, r,
     ∙ ap (λ (w : Option ℕ). let z : State = record (into s places.Obj) { obj_at = s.count + 1; times = i; coefs = 0; declared_coefs = w; sense = h; constant = o; costs = none_each s } in z) (count_said_once (attributes m) (codes "numberOfObjCoef") d n l r)
     ∙ ap (λ (w : ℕ). let z : State = record (into s places.Obj) { obj_at = s.count + 1; times = w; coefs = 0; declared_coefs = n; sense = h; constant = o; costs = none_each s } in z) (times_once (attributes m) i j t u) ∙ sym f
 begins_once s m places.Coef a b (i, x, e) (j, y, f) =
-    e ∙ ap (λ (k : ℕ). let z : State = record (into s places.Coef) { coefs = s.coefs + 1; variable = k; text = [] } in z) (index_of_once (value_of (codes "idx") (attributes m)) i j x y) ∙ sym f
+    e ∙ ap (λ (k : ℕ). let z : State = record (into s places.Coef) { coefs = s.coefs + 1; variable = k; text = [] } in z) (some_once IsCount count_once (value_of (codes "idx") (attributes m)) i j x y) ∙ sym f
 begins_once s m (places.El l) a b e f = run_once l (attributes m) (into s (places.El l)) a b e f
 begins_once s m p a b e f = e ∙ sym f
 

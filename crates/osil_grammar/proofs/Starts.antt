@@ -1,6 +1,7 @@
 -- How many entries stand before a row, found by halving.
-use Rattle.osil_grammar.proofs.Words.{◌≡◌, ℕ, suc, ◌+◌, ◌<◌, ◌≤◌, true, false, nat_lt, List, [], ◌∷◌, ◌++◌, length, take, drop, arith, refl, sym, ◌∙◌, ap, All, AllWithin, IsPartitionPoint, get_or-take, get_or-drop, length-take-le, length-take, length-drop, take-append-drop, All-head, All-tail, Entry, Event, nodes_events, Building, said, counts_nodes, entries_below, row_starts}
+use Rattle.osil_grammar.proofs.Words.{◌≡◌, ℕ, suc, ◌+◌, ◌≤◌, true, false, nat_lt, List, [], ◌∷◌, ◌++◌, length, take, drop, arith, refl, sym, ◌∙◌, ap, All, IsPartitionPoint, length-take-le, take-append-drop, All-head, All-tail, Entry, Event, nodes_events, Building, said, counts_nodes, entries_below, row_starts}
 use Rattle.document_tags.specs.Telling.{Told}
+use Rattle.instance.proofs.Partition.{within_take, within_drop}
 
 -- the entries of the rows before it all count
 all_below : (i : ℕ) (xs ys : List Entry) → All (λ e. nat_lt e.row i ≡ true) xs → entries_below i (xs ++ ys) ≡ entries_below i ys + length xs
@@ -16,12 +17,6 @@ none_below i [] after = refl
 none_below i (y ∷ ys) after =
     let here = All-head (λ (e : Entry). nat_lt e.row i ≡ false) y ys after in
     rw here (none_below i ys (All-tail (λ (e : Entry). nat_lt e.row i ≡ false) y ys after))
-
-within_take : {X : Type 0} (P : X → Type 0) (xs : List X) (i : ℕ) → AllWithin P xs 0 i → All P (take i xs)
-within_take P xs i h = λ k d g. let n = length-take i xs in let b : k < i = omega arith in rw (get_or-take i xs k d b) (h k d (omega arith) b)
-
-within_drop : {X : Type 0} (P : X → Type 0) (xs : List X) (i : ℕ) → AllWithin P xs i (length xs) → All P (drop i xs)
-within_drop P xs i h = λ k d g. let n = length-drop i xs in rw (get_or-drop i xs k d) (h (i + k) d (omega arith) (omega arith))
 
 -- where the rows before this one end, so many entries stand before it
 pub below_point : (es : List Entry) (i at : ℕ) → at ≤ length es → IsPartitionPoint (λ e. nat_lt e.row i ≡ true) (λ e. nat_lt e.row i ≡ false) es at → at ≡ entries_below i es

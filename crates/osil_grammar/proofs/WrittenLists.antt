@@ -16,6 +16,7 @@ use Rattle.osil_grammar.proofs.RoundTrips.{plain_decimal, whole_read}
 use Rattle.osil_grammar.proofs.RowEntries.{Rises, rises, below_rises, all_before, none_first, lines_are, placed_are, sums_are}
 use Rattle.osil_grammar.proofs.TagNumbers as numbers
 use Rattle.osil_grammar.proofs.WrittenItems.{Reads, read_one, read_text}
+use Rattle.tag_tests.proofs.Forms.{heads}
 
 -- A LIST OF WHOLE NUMBERS: the starts, or the columns' indices
 abbrev list_of : Bool → Listing
@@ -128,9 +129,6 @@ starts_divide es m inside =
       last = start_at es 0 m m (omega arith) ∙ ap (λ (j : ℕ). entries_below j es) last ∙ all_before m es inside;
       one_more = long;
     }
-
-heads : {T : Type 0} (x y : T) (xs ys : List T) → x ∷ xs ≡ y ∷ ys → (x ≡ y) × (xs ≡ ys)
-heads x y xs ys e = let a : x ≡ y = cc in let b : xs ≡ ys = cc in (a, b)
 
 -- no two entries stand at one place
 record IsOneOf (es : List Entry) (x : Of.Entry) (before : List Of.Entry) : Type 0 where

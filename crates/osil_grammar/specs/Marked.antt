@@ -1,8 +1,9 @@
 -- OSiL documents by their marks: the form, which roots are accepted and what they stand for, and which are refused.
 use Rattle.std.specs.Prelude.{◌≡◌, ℕ, List, [], ◌∷◌, length, replicate}
-use Rattle.tree_grammar.specs.Elements.{Element, events}
-use Rattle.doc_tree.specs.Marks.{Mark, spread}
+use Rattle.tree_grammar.specs.Elements.{Element}
+use Rattle.doc_tree.specs.Marks.{Mark}
 use Rattle.tag_tests.specs.Forms.{Form, AreTaken, AreRefused}
+pub use Rattle.tag_tests.specs.Readers.{marks}
 use Rattle.instance.specs.declared.parts.Goal.{Goal}
 use Rattle.instance.specs.declared.parts.Sense.TheVariants.{Min}
 use Rattle.instance.specs.Parts.{Parts}
@@ -24,10 +25,6 @@ goals_said (g ∷ gs) n = g ∷ gs
 -- what the marks have said is this instance
 abbrev pub instance_of : State → Parts
 instance_of s = record { vars = s.vars; rows = s.rows; entries = s.entries; goals = goals_said s.goals (length s.vars) }
-
--- the marks of a document with this root
-abbrev pub marks : Element → List Mark
-marks root = spread (events root)
 
 -- all are taken, and this instance is said
 abbrev pub StandsFor : Element → Parts → Type 0

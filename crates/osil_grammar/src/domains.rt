@@ -1,7 +1,6 @@
-//! The types of variables, and their ends.
+//! The types of variables.
 
-ghost use Rattle.std.specs.Prelude.{◌≡◌, ◌↔◌, IsTrue};
-ghost use Rattle.instance.specs.Parts.{AreEnds};
+ghost use Rattle.std.specs.Prelude.{◌≡◌};
 ghost use Rattle.osil_grammar.specs.Meaning as meaning;
 ghost use Rattle.osil_grammar.specs.Meaning.{IsEndAt};
 ghost use Rattle.osil_grammar.specs.Grammars.{nought};
@@ -92,11 +91,4 @@ pub(crate) fn variable(domain: Domain, lb: End, ub: End) -> Var
             zero: true,
         },
     }
-}
-
-/// Whether some number may lie between two ends: no lower one of infinity, no upper one of minus infinity.
-pub(crate) fn are_ends(lb: End, ub: End) -> bool
-    ensures { IsTrue result ↔ AreEnds lb ub }
-{
-    !matches!(lb, End::Inf) && !matches!(ub, End::NegInf)
 }

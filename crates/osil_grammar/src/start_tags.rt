@@ -19,13 +19,13 @@ ghost use Rattle.osil_grammar.specs.Failing as failing;
 ghost use Rattle.osil_grammar.specs.Reading.{told_refusal};
 ghost use Rattle.osil_grammar.specs.Refusals as refusals;
 
-use crate::domains::{Domain, are_ends, variable, zero};
+use crate::domains::{Domain, variable, zero};
 use crate::elements::Listing;
 use crate::fault::Refusal;
 use crate::tag_numbers::{bound, count, decimal, refusal, times, whole};
 use element_tree::Attributes;
 use fraction::{End, Frac};
-use instance::{Row, Sense, Var};
+use instance::{Row, Sense, Var, are_ends};
 use tag_tests::{Unread, both, value};
 
 /// Whether so many more items, behind so many, are more than there may be.

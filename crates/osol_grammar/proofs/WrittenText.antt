@@ -12,7 +12,7 @@ use Rattle.document_tags.specs.Texts.{document_limit, IsDocument}
 use Rattle.document_tags.specs.Writing.{text_nodes, leaf, group, bare_root}
 use Rattle.document_tags.proofs.PrintableTexts.{fixed_text, number_text}
 use Rattle.document_tags.proofs.XmlNodes.{AreFlat, none_flat, text_flat, element_flat, still_flat, root_is_document}
-use Rattle.document_tags.proofs.Lengths.{nodes_size, decimal_size, written_short}
+use Rattle.document_tags.proofs.Lengths.{nodes_size, text_size, decimal_size, written_short}
 use Rattle.osol_grammar.specs.declared.limit.Limit.{Limit}
 use Rattle.osol_grammar.specs.declared.options.Options.{Options}
 use Rattle.osol_grammar.specs.Limits.{all, limit_row}
@@ -41,10 +41,6 @@ job_flat None more is rest = rest
 job_flat (Some job) more is rest =
     let inner = element_flat 1 (codes "jobID") [] (text_nodes job) none (text_nodes job) none refl tt (text_flat 1 job is.characters) (none_flat 2) in
     element_flat 2 (codes "general") [] (leaf (codes "jobID") job none) more (leaf (codes "jobID") job none) more refl tt inner rest
-
-text_size : (text : List ℕ) → nodes_size (text_nodes text) ≤ 6 * length text
-text_size [] = omega arith
-text_size (c ∷ cs) = omega arith
 
 job_size : (job : Option (List ℕ)) (more : tree.Nodes) → IsNameOrNone job → nodes_size (job_nodes job more) ≤ 2000 + nodes_size more
 job_size None more is = omega arith

@@ -1,54 +1,12 @@
 //! The parts of statistics that are being read.
 
-ghost use Rattle.std.specs.Prelude.{◌≡◌, ◌++◌, [], ◌∷◌, OnOk};
+ghost use Rattle.std.specs.Prelude.{◌≡◌, OnOk};
 ghost use Rattle.ospl_grammar.specs.Parts as parts;
 
 use crate::process::{JobState, JobStates, Process, StatedJob};
 use items::Items;
 use os_io::{Memory, Text};
 use std::alloc::Global;
-use std::marker::Model;
-
-/// Jobs in their order, as they come.
-#[derive(Drop)]
-pub(crate) struct JobList {
-    jobs: Vec<StatedJob>,
-}
-
-impl Model for JobList {
-    ghost use Rattle.std.specs.Prelude.{List};
-    ghost use Rattle.ospl_grammar.specs.declared.process.StatedJob.{StatedJob};
-
-    ghost Value = { List StatedJob };
-
-    ghost view = { λ l. l.jobs.items };
-}
-
-impl JobList {
-    /// No jobs.
-    pub(crate) fn new(alloc: Global) -> Self
-        ensures { result ≡ [] }
-    {
-        JobList {
-            jobs: Vec::new(alloc),
-        }
-    }
-
-    /// Adds one.
-    pub(crate) fn push(&mut self, job: StatedJob) -> Result<(), Memory>
-        ensures { OnOk result (self.new ≡ self.old ++ job ∷ []) }
-    {
-        self.jobs.push(job)?;
-        Ok(())
-    }
-
-    /// The jobs.
-    pub(crate) fn into_states(self) -> JobStates
-        ensures { result ≡ self }
-    {
-        Items::of(self.jobs)
-    }
-}
 
 /// What the parts of statistics have said so far, and whether they can't be whole any more; of the latest job its name and
 /// its state.
@@ -59,7 +17,7 @@ pub(crate) struct Parts {
     pub current: Option<u32>,
     pub total: Option<u64>,
     pub listed: bool,
-    pub jobs: JobList,
+    pub jobs: JobStates,
     pub id: Option<Text>,
     pub state: Option<JobState>,
 }
@@ -82,7 +40,7 @@ impl Parts {
             current: None,
             total: None,
             listed: false,
-            jobs: JobList::new(alloc),
+            jobs: Items::new(alloc),
             id: None,
             state: None,
         }
@@ -162,7 +120,7 @@ impl Parts {
                 busy,
                 current,
                 total,
-                jobs: jobs.into_states(),
+                jobs,
             }),
             _ => None,
         }

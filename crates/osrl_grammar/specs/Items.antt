@@ -2,6 +2,7 @@
 use Rattle.std.specs.Prelude.{◌≡◌, ℕ, Bool, false, Option, None, Some, option_map, cond, bytes_eq, Result, Ok, Err, List, [], ◌∷◌, ◌++◌, codes}
 use Rattle.certificate.specs.declared.causes.Step.{Step}
 use Rattle.certificate.specs.declared.causes.Step.TheVariants as steps
+pub use Rattle.certificate.specs.Words.{step_text}
 use Rattle.tag_tests.specs.Tests.{AllPass}
 use Rattle.tag_tests.specs.Fields.{OneFirst}
 use Rattle.osrl_grammar.specs.declared.parts.Part.{Part}
@@ -18,7 +19,7 @@ use Rattle.osrl_grammar.specs.Words.{worded}
 use Rattle.osrl_grammar.specs.Numbers.{Kind, Index, Turn, Whole, Exact, Field, IsBad, IsTooGreat}
 use Rattle.osrl_grammar.specs.Pieces.{pieces, Pair, parted}
 
--- the words of nodes and of what begins a level, of causes, of steps, and of rounds
+-- the words of nodes and of what begins a level, of causes, and of rounds; steps have theirs
 abbrev pub node_word : NodeWord → List ℕ
 node_word nodes.Split = codes "split"
 node_word nodes.Zero = codes "zero"
@@ -40,15 +41,6 @@ cause_word causes.Memory = codes "memory"
 
 abbrev pub all_cause_words : List CauseWord
 all_cause_words = causes.Killed ∷ causes.NodeLimit ∷ causes.TurnLimit ∷ causes.Wide ∷ causes.Length ∷ causes.Memory ∷ []
-
-abbrev pub step_text : Step → List ℕ
-step_text steps.Values = codes "values"
-step_text steps.Ratio = codes "ratio"
-step_text steps.Pivot = codes "pivot"
-step_text steps.Point = codes "point"
-step_text steps.Ray = codes "ray"
-step_text steps.Round = codes "round"
-step_text steps.Check = codes "check"
 
 abbrev pub all_steps : List Step
 all_steps = steps.Values ∷ steps.Ratio ∷ steps.Pivot ∷ steps.Point ∷ steps.Ray ∷ steps.Round ∷ steps.Check ∷ []

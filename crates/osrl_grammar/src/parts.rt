@@ -121,20 +121,12 @@ impl Worded for JobStatus {
 }
 
 impl Worded for Step {
-    ghost use Rattle.osrl_grammar.specs.Items.{step_text};
+    ghost use Rattle.certificate.specs.Words.{step_text};
 
     ghost text = { step_text };
 
     fn word(self) -> &'static [u8] {
-        match self {
-            Step::Values => b"values",
-            Step::Ratio => b"ratio",
-            Step::Pivot => b"pivot",
-            Step::Point => b"point",
-            Step::Ray => b"ray",
-            Step::Round => b"round",
-            Step::Check => b"check",
-        }
+        self.name()
     }
 }
 

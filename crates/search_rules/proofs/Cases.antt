@@ -1,5 +1,5 @@
 -- A case of a search is the searched instance with narrower ranges.
-use Rattle.std.proofs.Common.{◌≡◌, ℕ, ◌<◌, ℤ, Bool, true, false, cond, IsTrue, Option, None, Some, IfSome, List, get_or, arith, lit<, refl, sym, ◌∙◌, ap, subst}
+use Rattle.std.proofs.Common.{◌≡◌, ℕ, ◌<◌, ℤ, Bool, true, false, cond, IsTrue, Option, None, Some, IfSome, List, get_or, arith, refl, sym, ◌∙◌, ap, subst}
 use Rattle.std.proofs.lemmas.Int.{ints}
 use Rattle.std.proofs.lemmas.List.{length-set, get_or-set_same, get_or-set_other}
 use Rattle.std.proofs.lemmas.List.Elements.{All-set}
@@ -9,6 +9,7 @@ use Rattle.evidence.specs.Instance.{Range, Variable, Goal, Instance, IsInstance,
 use Rattle.evidence.specs.Point.{value_at, objective, IsBetween, IsZeroOr, IsFeasible}
 use Rattle.evidence.specs.Cases.{lesser_end, greater_end, with_range, at_most, at_least}
 use Rattle.evidence.proofs.Columns.{by_lt, further-numbers, All-anywhere}
+use Rattle.evidence.proofs.RoundingCuts.{whole-number}
 use Rattle.simplex_rules.specs.Ends.{IsRelaxed}
 use Rattle.search_rules.specs.Outcomes.{HaveOneRange}
 use Rattle.search_rules.proofs.Nodes.{at_most-trans}
@@ -23,9 +24,6 @@ pub record IsCase (I J : Instance) : Type 0 where
 
 pub itself : (I : Instance) → IsInstance I → IsCase I I
 itself I n = record { numbers = n; goal = refl; count = refl; whole = λ j. refl; relaxed = λ x h. h }
-
-whole-number : (k : ℤ) → IsNumber (whole k)
-whole-number k = lit< tt
 
 is_below-true : (x y : Ratio) → is_below x y ≡ true → IsAtMost x y
 is_below-true x y e = grind (arith, ints)

@@ -17,7 +17,8 @@ use Rattle.evidence.proofs.Duality.{minimising-number}
 use Rattle.simplex_rules.specs.Ends.{Terms, Clock, End, Clash, Empty, Best, Endless, TurnsOut, TooWide, Stopped, Shown, IsDirection, IsBest, IsRelaxed}
 use Rattle.search_rules.specs.Search.{Found, Moment, To, first, closed_by_leaf, branch, IsPassed, IsHopeful, IsValue, IsSplit, IsWholeBelow, MeetsPoint, GoesFrom, IsNext, ComesInSearch, begins, goes_on}
 use Rattle.search_rules.specs.Outcomes.{HaveOneRange, IsPoint}
-use Rattle.search_rules.proofs.Nodes.{ProvesAll, Within, Leads, leads_first, leads_on, clash_first, farkas_first, bound_first, split_first, at_most-trans, at_most-below, at_most-same, minimising_by-same}
+use Rattle.evidence.specs.PendingNodes.{ProvesAll}
+use Rattle.search_rules.proofs.Nodes.{Within, Leads, leads_first, leads_on, clash_first, farkas_first, bound_first, split_first, at_most-trans, at_most-below, at_most-same, minimising_by-same}
 use Rattle.simplex_rules.proofs.Moments.{run_true}
 use Rattle.search_rules.specs.Rays.{IsScaled}
 use Rattle.search_rules.proofs.Rays.{ray_of}

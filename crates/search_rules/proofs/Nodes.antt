@@ -1,18 +1,15 @@
 -- What holds at each moment of a search: its nodes, with trees for the cases still open, show what its best value asks.
-use Rattle.std.proofs.Common.{◌≡◌, ℕ, ◌+◌, ◌<◌, ℤ, pos, neg_ℤ, ◌+ℤ◌, ◌*ℤ◌, Option, None, Some, List, [], ◌∷◌, ◌++◌, append_assoc, append-nil, arith, refl, sym, ◌∙◌, ap, subst}
+use Rattle.std.proofs.Common.{ℕ, ◌+◌, ◌<◌, ℤ, pos, neg_ℤ, ◌+ℤ◌, ◌*ℤ◌, Option, None, Some, List, [], ◌∷◌, ◌++◌, append_assoc, append-nil, arith, refl, sym, ◌∙◌, ap, subst}
 use Rattle.std.proofs.lemmas.Int.{ints}
 use Rattle.rational.specs.Ratio.{Ratio, IsSame, IsBelow, IsNumber, IsAtMost}
 use Rattle.rational.proofs.Integers.{more-times, most-from_times, neg-times}
 use Rattle.rational.proofs.Scaling.{times_swap}
 use Rattle.evidence.specs.Instance.{Instance, Sense, Minimum, Maximum, width, height, column_at, minimising, minimising_by}
-use Rattle.evidence.specs.Cases.{Tree, Shows, Multiplier, Clash, Farkas, Bound, Split, Node, ClashAt, FarkasBy, BoundBy, SplitAt, preorder, IsEmpty, IsFarkas, IsBound, IsBranch, low_sum, at_most, at_least}
+use Rattle.evidence.specs.Cases.{Multiplier, Clash, Farkas, Bound, Node, ClashAt, FarkasBy, BoundBy, SplitAt, preorder, IsEmpty, IsFarkas, IsBound, IsBranch, low_sum, at_most, at_least}
+use Rattle.evidence.specs.PendingNodes.{ProvesAll, anything}
+use Rattle.evidence.proofs.PendingNodes.{split_back}
 use Rattle.search_rules.specs.Outcomes.{Proves}
 use Rattle.search_rules.specs.Search.{Found}
-
--- a tree for each instance, one after the other, and nothing after them
-abbrev pub ProvesAll : List Instance → List Node → Option Ratio → Type 0
-ProvesAll [] nodes z = nodes ≡ []
-ProvesAll (I ∷ Is) nodes z = (tree : Tree) × (rest : List Node) × (nodes ≡ preorder tree ++ rest) × Shows I tree z × ProvesAll Is rest z
 
 -- order, where the middle one is a number
 pub at_most-trans : (x y z : Ratio) → IsNumber y → IsAtMost x y → IsAtMost y z → IsAtMost x z
@@ -41,18 +38,17 @@ Within I None (Some f) = ⊥
 Within I (Some w) (Some f) = IsAtMost w (minimising I f.value)
 
 pub clash_first : (J : Instance) (js : List Instance) (c : ℕ) (rest : List Node) (z : Option Ratio) → (c < width J + height J) × IsEmpty (column_at J c) → ProvesAll js rest z → ProvesAll (J ∷ js) (ClashAt c ∷ rest) z
-clash_first J js c rest z h o = (Clash c, rest, refl, h, o)
+clash_first J js c rest z h o = (Clash c, rest, refl, h, tt, o)
 
 pub farkas_first : (J : Instance) (js : List Instance) (ms : List Multiplier) (rest : List Node) (z : Option Ratio) → IsFarkas J ms → ProvesAll js rest z → ProvesAll (J ∷ js) (FarkasBy ms ∷ rest) z
-farkas_first J js ms rest z h o = (Farkas ms, rest, refl, h, o)
+farkas_first J js ms rest z h o = (Farkas ms, rest, refl, h, tt, o)
 
 pub bound_first : (J : Instance) (js : List Instance) (ms : List Multiplier) (b w : Ratio) (rest : List Node) → IsNumber b → IsBound J ms b → IsAtMost w b → ProvesAll js rest (Some w) → ProvesAll (J ∷ js) (BoundBy ms ∷ rest) (Some w)
 bound_first J js ms b w rest n h le o =
-    (Bound ms, rest, refl, record { legal = h.legal; costs = h.costs; reaches = at_most-trans w b (low_sum J (minimising J J.goal.constant) ms) n le h.reaches }, o)
+    (Bound ms, rest, refl, record { legal = h.legal; costs = h.costs; reaches = at_most-trans w b (low_sum J (minimising J J.goal.constant) ms) n le h.reaches }, tt, o)
 
 pub split_first : (J : Instance) (js : List Instance) (j : ℕ) (k : ℤ) (rest : List Node) (z : Option Ratio) → IsBranch J j k → ProvesAll (at_most J j k ∷ at_least J j (k +ℤ pos 1) ∷ js) rest z → ProvesAll (J ∷ js) (SplitAt j k ∷ rest) z
-split_first J js j k rest z br (a, ra, ea, sa, (b, rb, eb, sb, o)) =
-    (Split j k a b, rb, ap (λ r. SplitAt j k ∷ r) (ea ∙ ap (λ r. preorder a ++ r) eb ∙ sym (append_assoc (preorder a) (preorder b) rb)), (br, sa, sb), o)
+split_first J js j k rest z br s = split_back anything J js z rest j k (λ a b v w. tt) br s
 
 -- the nodes so far, with trees for the open cases, prove what the best value asks
 abbrev pub Leads : Instance → List Instance → List Node → Option Found → Type 0
@@ -73,4 +69,4 @@ leads_on I js after nodes node best better back step leads z w rest p =
 pub leads_out : (I : Instance) (nodes : List Node) (best : Option Found) → Leads I [] nodes best → (z : Option Ratio) → Within I z best → Proves I nodes z
 leads_out I nodes best leads z w =
     let p = leads z w [] refl in
-    record { tree = p.0; listed = sym (append-nil nodes) ∙ p.2 ∙ ap (λ r. preorder p.0 ++ r) p.4 ∙ append-nil (preorder p.0); shows = p.3 }
+    record { tree = p.0; listed = sym (append-nil nodes) ∙ p.2 ∙ ap (λ r. preorder p.0 ++ r) p.5 ∙ append-nil (preorder p.0); shows = p.3 }

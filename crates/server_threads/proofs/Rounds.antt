@@ -14,11 +14,11 @@ use Rattle.desk.specs.declared.view.Met.{Met}
 use Rattle.desk.specs.declared.view.View.{View}
 use Rattle.desk.specs.History.{StartsWith, by, calls_by}
 use Rattle.desk.proofs.Histories.{starts_again}
-use Rattle.desk.specs.Rule.{HasMet, one_more, newcomer, met_as}
+use Rattle.desk.specs.Rule.{HasMet, one_if, one_more, newcomer, met_as}
 use Rattle.desk.specs.SeatMoves.{IsSeatOf, Meets}
 use Rattle.server_threads.specs.declared.means.ServeFault.{ServeFault}
 use Rattle.server_threads.specs.declared.promise.Finished.{Finished}
-use Rattle.server_threads.specs.Talks.{DeskSeat, LinkTalk, Shift, talk_met, shift_met, one_if, short_of, Came, GivenBack, AllTalked, AllWorked, IsShift, Acts}
+use Rattle.server_threads.specs.Talks.{DeskSeat, LinkTalk, Shift, talk_met, shift_met, short_of, Came, GivenBack, AllTalked, AllWorked, IsShift, Acts}
 use Rattle.server_threads.specs.Promises.{Due}
 use Rattle.server_threads.specs.Serving.{Stand, taken, Opens, AtOnce, ServesLinks, EndsServing}
 use Rattle.server_threads.specs.OpenLinks.{IsOut, AreNumbered, KeepsSeats, Visit, visit, AreAmong, Begun, AllBegun, Conversing, promised, seat_out, number_out, visit_out, served_so, Going, Working, shift_promised, workers_out, worked_so, Hired, Staffed, LinksServed, HaveLeft, CameSo, served_result}

@@ -1,5 +1,5 @@
 -- Links that are served beside each other, each by a seat of its own, and the workers beside them.
-use Rattle.std.specs.Prelude.{◌≡◌, ℕ, ◌+◌, Bool, true, false, List, [], ◌∷◌, ◌++◌, ◌⊎◌, Option}
+use Rattle.std.specs.Prelude.{◌≡◌, ℕ, ◌+◌, Bool, List, [], ◌∷◌, ◌++◌, ◌⊎◌, Option}
 use Rattle.atomic_table.specs.declared.shared.Seat.{Seat}
 use Rattle.job_table.specs.History.{Entry as Said}
 use Rattle.os_io.specs.Streams.{Tells, BothTold}
@@ -7,6 +7,7 @@ use Rattle.desk.specs.declared.held.Held.{Held}
 use Rattle.desk.specs.declared.view.Met.{Met}
 use Rattle.desk.specs.declared.view.View.{View}
 use Rattle.desk.specs.History.{by}
+use Rattle.desk.specs.Rule.{one_if}
 use Rattle.desk.specs.SeatMoves.{IsSeatOf}
 use Rattle.desk.specs.SeatHistory.{Asked}
 use Rattle.workers.specs.Shifts.{WorksThrough}
@@ -35,10 +36,6 @@ talk_met t = record { seat = t.seat; calls = by t.seat t.said }
 -- a worker's seat as the first seat knows it
 abbrev pub shift_met : Shift → Met
 shift_met s = record { seat = s.seat; calls = by s.seat s.said }
-
-abbrev pub one_if : Bool → ℕ
-one_if true = 1
-one_if false = 0
 
 -- how many ended for want of memory
 abbrev pub short_of : List LinkTalk → ℕ

@@ -12,12 +12,10 @@ use Rattle.job_table.specs.History.{Entry as Said, entry_of_move, LeadsStepwise,
 use Rattle.job_table.proofs.Histories.{leads_on}
 use Rattle.job_table.specs.Laws.{WasGiven, FirstFinishIsKept, NumbersAreGivenOnce}
 use Rattle.job_runs.specs.Laws.{kept_if_finish, IsFinishKept, AreKept}
+use Rattle.job_runs.proofs.Kinds.{Judgement}
 use Rattle.desk.specs.declared.view.Entry.{Entry}
 use Rattle.desk.specs.History.{LeadsTo, calls, calls_by}
 use Rattle.serving.proofs.Hands.{Hand, after_gave, after_look, then_in_hand, Allows, IsOrderly}
-
-abbrev Right : Type 1
-Right = List ℕ → List ℕ → Bool → Option (List ℕ) → Type 0
 
 false_is_not : false ≡ true → ⊥
 false_is_not e = cc
@@ -45,7 +43,7 @@ told_now : (n : ℕ) (es : List Said) → WasTold n (es ++ entry_of_move (Look n
 told_now n [] = inl refl
 told_now n (x ∷ xs) = inr (told_now n xs)
 
-module _ (right : Right) where
+module _ (right : Judgement) where
   -- the job in hand was given, and no finish of it stands since; where a look said that it is to stop, that look stands there
   record Holds (now : Register) (h : Hand) : Type 0 where
     before : List Said

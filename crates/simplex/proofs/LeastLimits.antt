@@ -1,8 +1,7 @@
 -- Limits in memory, and the least of them.
-use Rattle.std.proofs.Common.{◌≡◌, ℕ, zero, suc, ◌+◌, ◌<◌, ◌≤◌, ℤ, pos, ◌*ℤ◌, ◌<ℤ◌, true, false, Option, None, Some, Result, Ok, Err, OnErr, IfOk, sym, ◌∙◌, ap, subst, arith, below_more}
+use Rattle.std.proofs.Common.{◌≡◌, ℕ, zero, suc, ◌+◌, ◌<◌, ◌≤◌, pos, true, false, Option, None, Some, sym, ◌∙◌, ap, subst, arith, below_more}
 use Rattle.std.proofs.lemmas.Int.{ints}
-use Rattle.std.specs.Prelude.{int_lt}
-use Rattle.rational.specs.Ratio.{Ratio, sum, negative, inverse, quotient, IsNumber, IsSame, IsBelow, IsAtMost}
+use Rattle.rational.specs.Ratio.{Ratio, sum, negative, inverse, quotient, IsNumber, IsSame, IsAtMost}
 use Rattle.rational.specs.Width.{ReducedFits, SumFits}
 use Rattle.fraction.specs.Frac.{ratio}
 use Rattle.fraction.specs.declared.frac.Frac.{Frac}
@@ -11,7 +10,7 @@ use Rattle.evidence.proofs.Numbers.{◌≈◌, ◌≲◌, ◌⋖◌, ≈-refl, �
 use Rattle.evidence.proofs.Fits.{reduced_same}
 use Rattle.evidence.proofs.Columns.{by_lt}
 use Rattle.evidence.proofs.Inverses.{inverse-number}
-use Rattle.simplex.proofs.Slots.{made_fits}
+use Rattle.dictionary.proofs.Rows.{made_fits}
 use Rattle.evidence.proofs.Columns.{by_eq}
 use Rattle.std.proofs.Common.{List, length, nat_eq, MatchOption}
 use Rattle.std.proofs.Math.Path.{fun_ext}
@@ -28,24 +27,7 @@ use Rattle.simplex_rules.specs.Turns.{rate, IsFirstLeast, limit_one, NoLimit, Is
 use Rattle.simplex_rules.specs.Widths.{UntilFits, OneFits, LimitsFit}
 use Rattle.simplex.specs.Limits.{IsLimitTold, IsLimit, IsFirst, IsLeastOf}
 use Rattle.simplex_rules.proofs.Facts.{not_below, below_no}
-
-pub on_err : {T E : Type 0} {P : Type 0} (r : Result T E) → P → OnErr r P
-on_err (Ok x) p = tt
-on_err (Err e) p = p
-
-pub ok_map : {T E : Type 0} {P Q : T → Type 0} (r : Result T E) → ((x : T) → P x → Q x) → IfOk r P → IfOk r Q
-ok_map (Ok x) f p = f x p
-ok_map (Err e) f p = tt
-
-pub err_map : {T E : Type 0} {P Q : Type 0} (r : Result T E) → (P → Q) → OnErr r P → OnErr r Q
-err_map (Ok x) f p = tt
-err_map (Err e) f p = f p
-
-pub is_below_yes : (x y : Ratio) → is_below x y ≡ true → IsBelow x y
-is_below_yes x y e = decide (x.num *ℤ pos y.den) (y.num *ℤ pos x.den) e
-  where
-    decide : (a b : ℤ) → int_lt a b ≡ true → a <ℤ b
-    decide a b e = grind (arith, ints)
+use Rattle.no_cycles.proofs.Signs.{below_yes}
 
 pub difference_number : (h l : Frac) → IsNumber (sum (ratio h) (negative (ratio l)))
 difference_number h l = sum-number (ratio h) (negative (ratio l)) h.above l.above
@@ -125,7 +107,7 @@ module _ (f : ℕ → Option Ratio) (n : ℕ) where
 
     pub less : is_below (ratio q) (ratio b.quotient) ≡ true → IsFirst f (n + 1) (record { col = n; quotient = q })
     less e =
-        let c : ratio q ⋖ ratio b.quotient = record { left = q.above; right = b.quotient.above; is = is_below_yes (ratio q) (ratio b.quotient) e } in
+        let c : ratio q ⋖ ratio b.quotient = record { left = q.above; right = b.quotient.above; is = below_yes (ratio q) (ratio b.quotient) e } in
         let d : l ⋖ before.least.limit = ≲-⋖ (≲-from (≈-sym new_is)) (⋖-≲ c (≲-from old_is)) in
         record {
           least = record {

@@ -2,17 +2,12 @@
 use Rattle.std.proofs.Common.{◌≡◌, ℕ, zero, suc, ◌<◌, pos, List, [], ◌∷◌, length, get_or, ◌∙◌, ap, arith}
 use Rattle.std.specs.Prelude.{slice_set}
 use Rattle.std.proofs.lemmas.List.{map-set, length-map, get_or-set_same, get_or-set_other}
-use Rattle.rational.specs.Ratio.{Ratio, IsNumber, IsSame}
-use Rattle.rational.specs.Width.{IsReduced, ReducedFits}
+use Rattle.rational.specs.Width.{IsReduced}
 use Rattle.fraction.specs.Frac.{ratio, ratios}
 use Rattle.fraction.specs.declared.frac.Frac.{Frac}
 use Rattle.evidence.specs.Sums.{none}
 use Rattle.evidence.specs.Point.{value_at}
 use Rattle.evidence.proofs.Fits.{whole-reduced}
-
--- the number of a fraction fits
-pub made_fits : (f : Frac) (x : Ratio) → IsNumber x → IsSame (ratio f) x → ReducedFits x
-made_fits f x p e = record { number = p; form = ratio f; same = e; reduced = (f.above, f.reduced); within = (f.numer_within, f.denom_within) }
 
 pub value_set : (xs : List Frac) (i : ℕ) (v : Frac) → i < length xs → value_at (ratios (slice_set xs i v)) i ≡ ratio v
 value_set xs i v h = ap (λ l. get_or l i none) (map-set ratio xs i v) ∙ get_or-set_same (ratios xs) i (ratio v) none (omega (arith, length-map xs ratio))

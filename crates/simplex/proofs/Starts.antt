@@ -1,5 +1,5 @@
 -- How a run begins, read from memory.
-use Rattle.std.proofs.Common.{◌≡◌, ℕ, ◌+◌, ◌<◌, ◌≤◌, ℤ, pos, ◌*ℤ◌, ◌<ℤ◌, Bool, true, false, IsTrue, cond, nat_lt, Option, None, Some, List, length, map, get_or, refl, sym, ◌∙◌, ap, ap₂, subst, arith}
+use Rattle.std.proofs.Common.{◌≡◌, ℕ, ◌+◌, ◌<◌, ◌≤◌, ℤ, pos, ◌*ℤ◌, ◌<ℤ◌, Bool, true, false, IsTrue, cond, nat_lt, Some, List, length, map, get_or, sym, ◌∙◌, ap, ap₂, subst, arith}
 use Rattle.std.specs.Prelude.{slice_set, int_lt}
 use Rattle.std.proofs.lemmas.Int.{ints}
 use Rattle.std.proofs.lemmas.List.{map-set, length-map, get_or-set_same, get_or-set_other}
@@ -21,7 +21,8 @@ use Rattle.simplex_rules.specs.declared.columns.Status.{Status}
 use Rattle.simplex_rules.specs.declared.columns.Status.TheVariants.{Basic}
 use Rattle.simplex_rules.specs.Statuses.{is_basic, status_at, basic_in, first_status, IsFirstBasis}
 use Rattle.simplex.specs.Cuts.{range_of, ranges_in, AreEndsOf}
-use Rattle.simplex.proofs.LeastLimits.{is_below_yes}
+use Rattle.no_cycles.proofs.Signs.{below_yes}
+use Rattle.no_cycles.proofs.Begun.{first_nonbasic}
 
 is_below_of : (x y : Ratio) → IsBelow x y → is_below x y ≡ true
 is_below_of x y h = decide (x.num *ℤ pos y.den) (y.num *ℤ pos x.den) h
@@ -30,7 +31,7 @@ is_below_of x y h = decide (x.num *ℤ pos y.den) (y.num *ℤ pos x.den) h
     decide a b e = grind (arith, ints)
 
 pub crossed : (lb ub : End) (l h : Frac) → lb ≡ At l → ub ≡ At h → (b : Bool) → b ≡ is_below (ratio h) (ratio l) → IsTrue b → IsEmpty (range lb ub)
-crossed lb ub l h el eh b is t = (ratio l, ratio h, ap limit el, ap limit eh, is_below_yes (ratio h) (ratio l) (sym is ∙ t))
+crossed lb ub l h el eh b is t = (ratio l, ratio h, ap limit el, ap limit eh, below_yes (ratio h) (ratio l) (sym is ∙ t))
 
 pub crossed_back : (lb ub : End) (l h : Frac) → lb ≡ At l → ub ≡ At h → (b : Bool) → b ≡ is_below (ratio h) (ratio l) → IsEmpty (range lb ub) → IsTrue b
 crossed_back lb ub l h el eh b is (x, y, ex, ey, less) =
@@ -46,11 +47,6 @@ range_set es i e h = ap (λ l. get_or l i free) (map-set range_of es i e) ∙ ge
 
 pub range_other : (es : List Ends) (i j : ℕ) (e : Ends) → (j ≡ i → ⊥) → ranges_in (slice_set es i e) j ≡ ranges_in es j
 range_other es i j e h = ap (λ l. get_or l j free) (map-set range_of es i e) ∙ get_or-set_other (map range_of es) i j (range_of e) free h
-
-free_first : (lb ub : Option Ratio) → is_basic (first_status lb ub) ≡ false
-free_first (Some l) ub = refl
-free_first None (Some u) = refl
-free_first None None = refl
 
 abbrev pub first_of : List Ends → ℕ → ℕ → Status
 first_of es n c = cond (nat_lt c n) (first_status (ranges_in es c).lb (ranges_in es c).ub) Basic
@@ -75,5 +71,5 @@ module _ (es : List Ends) (n : ℕ) (ss : List Status) (long : length es ≡ len
   pub first_basic : (c : ℕ) → basic_in ss c ≡ is_fresh n c
   first_basic c =
       by_lt c n
-      (λ h. let t = lt-ltb c n h in ap is_basic (of_variable c h) ∙ free_first (ranges_in es c).lb (ranges_in es c).ub ∙ sym (ap (λ b. cond b false true) t))
+      (λ h. let t = lt-ltb c n h in ap is_basic (of_variable c h) ∙ first_nonbasic (ranges_in es c).lb (ranges_in es c).ub ∙ sym (ap (λ b. cond b false true) t))
       (λ h. let t = le-ltb c n h in ap is_basic (of_row c h) ∙ sym (ap (λ b. cond b false true) t))

@@ -23,11 +23,10 @@ ghost use Rattle.simplex.specs.declared.choosing.Choice.TheVariants.{Done};
 
 use crate::ends::Ends;
 use crate::finish::Finish;
-use crate::valued::zero;
 use certificate::Step;
 use dictionary::{Dict, Places, Steps};
 use fraction::{Frac, Wide};
-use instance::add_product;
+use instance::{add_product, zero};
 use simplex_rules::Status;
 use std::sync::ledger::Ledger;
 

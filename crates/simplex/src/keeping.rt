@@ -13,8 +13,9 @@ ghost use Rattle.simplex.specs.Values.{AreResting, AreKnown, IsForgotten};
 
 use crate::choosing::{Flip, Swap};
 use crate::ends::Ends;
-use crate::valued::{rest_value, zero};
+use crate::valued::rest_value;
 use dictionary::{Dict, Places, Steps};
+use instance::zero;
 use marks::Marks;
 use simplex_rules::Status;
 use std::sync::ledger::Ledger;

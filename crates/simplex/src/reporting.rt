@@ -1,6 +1,5 @@
 // What the end of a run is told by.
-ghost use Rattle.std.specs.Prelude.{◌≡◌, ℕ, ◌+◌, ◌<◌, ◌≤◌, pos, true, false, cond, nat_eq, length};
-ghost use Rattle.rational.specs.Ratio.{whole};
+ghost use Rattle.std.specs.Prelude.{◌≡◌, ℕ, ◌+◌, ◌<◌, ◌≤◌, true, false, cond, nat_eq, length};
 ghost use Rattle.fraction.specs.Frac.{ratio};
 ghost use Rattle.evidence.specs.Sums.{none};
 ghost use Rattle.evidence.specs.Instance.{Instance, width};
@@ -18,18 +17,11 @@ use crate::answer::LpEnd;
 use crate::finish::{Finish, Move};
 use crate::helping::entry_at;
 use crate::limits::rate;
-use crate::valued::zero;
 use dictionary::{Dict, Steps};
 use fraction::Frac;
+use instance::{one, zero};
 use simplex_rules::{Status, Way};
 use std::sync::ledger::Ledger;
-
-/// 1, as contracts say it.
-fn one() -> Frac
-    ensures { ratio result ≡ whole (pos 1) }
-{
-    Frac::ONE
-}
 
 /// Up by 1, or down by 1.
 fn step_of(way: Way) -> Frac

@@ -21,16 +21,10 @@ use crate::ends::{Ends, is_less};
 use crate::finish::Move;
 use dictionary::{Dict, Places, Steps};
 use fraction::{End, Frac, Wide};
+use instance::zero;
 use marks::Marks;
 use simplex_rules::{Status, Way};
 use std::sync::ledger::Ledger;
-
-/// 0, as contracts say it.
-pub fn zero() -> Frac
-    ensures { ratio result ≡ none }
-{
-    Frac::ZERO
-}
 
 /// The end, or 0 where it is infinite.
 fn number(end: End) -> Frac

@@ -1,6 +1,6 @@
 -- Numbers, ends and places: what single columns need.
 use Rattle.std.proofs.Common.{◌≡◌, zero, suc, ℤ, pos, negsuc, ◌+ℤ◌, ◌*ℤ◌, neg_ℤ, ◌<ℤ◌, ◌≤ℤ◌, true, false, Option, None, Some, IfSome, IsSome, refl, sym, ◌∙◌, ap, subst, arith}
-use Rattle.std.proofs.Math.IntN.{zero-*ℤ, *ℤ_comm}
+use Rattle.std.proofs.Math.IntN.{zero-*ℤ}
 use Rattle.std.proofs.lemmas.Int.{ints, by_lt_z}
 use Rattle.std.specs.Prelude.{int_lt}
 use Rattle.rational.specs.Ratio.{Ratio, sum, product, negative, IsNumber, IsSame, IsBelow, IsAtMost}
@@ -9,7 +9,7 @@ use Rattle.evidence.specs.Sums.{none, is_below}
 use Rattle.evidence.specs.Instance.{Range, HasNumbers}
 use Rattle.evidence.specs.Cases.{IsEmpty, end_by, or_none}
 use Rattle.evidence.specs.Point.{IsBetween}
-use Rattle.evidence.proofs.Numbers.{◌≈◌, ≈-refl, ◌⊙◌, product-≈, product-none, one_times, ≲-from}
+use Rattle.evidence.proofs.Numbers.{◌≈◌, ≈-refl, ◌⊙◌, product-≈, product-none, ≲-from}
 use Rattle.evidence.proofs.Columns.{by_bool, none-number}
 use Rattle.simplex_rules.specs.declared.columns.Status.{Status}
 use Rattle.simplex_rules.specs.declared.columns.Status.TheVariants.{Basic, Lower, Upper, Zero}
@@ -18,6 +18,8 @@ use Rattle.simplex_rules.specs.declared.columns.Way.TheVariants.{Rise, Fall}
 use Rattle.simplex_rules.specs.Statuses.{is_basic, rest_at, has_room, less}
 use Rattle.simplex_rules.specs.Turns.{rate, Moves, Can, Misses}
 use Rattle.simplex_rules.specs.Reports.{against}
+use Rattle.evidence.proofs.Examples.{times_one}
+use Rattle.evidence.proofs.UniqueRows.{or_none-number}
 
 pub if_some : (o : Option Ratio) (P : Ratio → Type 0) → ((l : Ratio) → o ≡ Some l → P l) → IfSome o P
 if_some None P f = tt
@@ -34,18 +36,10 @@ pub has_number : (o : Option Ratio) (l : Ratio) → IfSome o IsNumber → o ≡ 
 has_number None l p e = absurd (cc)
 has_number (Some k) l p e = subst IsNumber (let h : k ≡ l = cc in h) p
 
-pub or-number : (o : Option Ratio) → IfSome o IsNumber → IsNumber (or_none o)
-or-number None p = none-number
-or-number (Some l) p = p
-
-pub end_by-number : (z : ℤ) (r : Range) → HasNumbers r → IsNumber (or_none (end_by z r))
-end_by-number (pos n) r h = or-number r.lb h.0
-end_by-number (negsuc n) r h = or-number r.ub h.1
-
 pub rest-number : (r : Range) (s : Status) → HasNumbers r → IsNumber (rest_at r s)
 rest-number r Basic h = none-number
-rest-number r Lower h = or-number r.lb h.0
-rest-number r Upper h = or-number r.ub h.1
+rest-number r Lower h = or_none-number r.lb h.0
+rest-number r Upper h = or_none-number r.ub h.1
 rest-number r Zero h = none-number
 
 pub zero_number : (x : Ratio) → IsNumber x → x.num ≡ pos 0 → x ≈ none
@@ -54,20 +48,17 @@ zero_number x p e = record { left = p; right = none-number; is = ap (λ z. z *�
 pub zero_times : (x y : Ratio) → IsNumber x → IsNumber y → x.num ≡ pos 0 → product x y ≈ none
 zero_times x y p q e = product-≈ (zero_number x p e) (≈-refl q) ⊙ product-none y q
 
-by_one : (z : ℤ) → z *ℤ pos 1 ≡ z
-by_one z = *ℤ_comm z (pos 1) ∙ one_times z
-
 pub above_none : (x : Ratio) → pos 0 <ℤ x.num → IsBelow none x
-above_none x h = let e = zero-*ℤ (pos x.den) in let f = by_one x.num in omega (arith, ints)
+above_none x h = let e = zero-*ℤ (pos x.den) in let f = times_one x.num in omega (arith, ints)
 
 pub below_none : (x : Ratio) → x.num <ℤ pos 0 → IsBelow x none
-below_none x h = let e = zero-*ℤ (pos x.den) in let f = by_one x.num in omega (arith, ints)
+below_none x h = let e = zero-*ℤ (pos x.den) in let f = times_one x.num in omega (arith, ints)
 
 pub at_least_none : (x : Ratio) → pos 0 ≤ℤ x.num → IsAtMost none x
-at_least_none x h = let e = zero-*ℤ (pos x.den) in let f = by_one x.num in omega (arith, ints)
+at_least_none x h = let e = zero-*ℤ (pos x.den) in let f = times_one x.num in omega (arith, ints)
 
 pub at_most_none : (x : Ratio) → x.num ≤ℤ pos 0 → IsAtMost x none
-at_most_none x h = let e = zero-*ℤ (pos x.den) in let f = by_one x.num in omega (arith, ints)
+at_most_none x h = let e = zero-*ℤ (pos x.den) in let f = times_one x.num in omega (arith, ints)
 
 -- the distance from the lesser to the greater is above 0
 pub above_difference : (a b : Ratio) → IsBelow a b → IsBelow none (sum (negative a) b)
@@ -121,7 +112,7 @@ met w r s x hn room place nb off nz = by (against w x).num refl s place nb off
   where
     up : (s : Status) → HasPlace r s → is_basic s ≡ false → ((v : Way) → Can v r s → Moves w (rate v x) → ⊥) → pos 0 <ℤ (against w x).num → IsSome r.lb × (or_none r.lb ≈ rest_at r s)
     up Basic place nb off h = absurd (cc)
-    up Lower place nb off h = (place, ≈-refl (or-number r.lb hn.0))
+    up Lower place nb off h = (place, ≈-refl (or_none-number r.lb hn.0))
     up Upper place nb off h = absurd (off Fall tt (falls w x h))
     up Zero place nb off h = absurd (off Fall tt (falls w x h))
 
@@ -130,7 +121,7 @@ met w r s x hn room place nb off nz = by (against w x).num refl s place nb off
     down Lower place nb off h =
         by_bool (has_room r) (λ e. absurd (off Rise e (rises w x h)))
         (λ e. no_room r.lb r.ub hn.0 hn.1 (λ l k p q b. room (l, k, p, q, b)) place e)
-    down Upper place nb off h = (place.0, ≈-refl (or-number r.ub hn.1))
+    down Upper place nb off h = (place.0, ≈-refl (or_none-number r.ub hn.1))
     down Zero place nb off h = absurd (off Rise tt (rises w x h))
 
     by : (z : ℤ) → (against w x).num ≡ z → (s : Status) → HasPlace r s → is_basic s ≡ false → ((v : Way) → Can v r s → Moves w (rate v x) → ⊥) → IsSome (end_by z r) × (or_none (end_by z r) ≈ rest_at r s)

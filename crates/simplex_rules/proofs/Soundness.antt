@@ -8,15 +8,16 @@ use Rattle.std.proofs.lemmas.List.{get_or_default}
 use Rattle.rational.specs.Ratio.{Ratio, whole, sum, product, negative, IsNumber, IsSame, IsBelow, IsAtMost}
 use Rattle.rational.specs.Width.{IsReduced}
 use Rattle.evidence.specs.Sums.{none, total}
-use Rattle.evidence.specs.Instance.{Range, Instance, IsInstance, HasNumbers, Sense, Minimum, Maximum, width, height, variable_at, row_at, column_at, cost_at, entry_at, coefficient_at, minimising, minimising_by}
+use Rattle.evidence.specs.Instance.{Range, Instance, IsInstance, HasNumbers, width, height, variable_at, row_at, column_at, cost_at, entry_at, coefficient_at, minimising}
 use Rattle.evidence.specs.Point.{value_at, activity, objective, IsBetween, NeverLeaves}
 use Rattle.evidence.specs.Cases.{Multiplier, end_by, end_of, or_none, form, low_sum, AreLegal, IsFarkas}
 use Rattle.evidence.proofs.Numbers.{◌≈◌, ◌≲◌, ◌⋖◌, ≈-refl, ≈-from, ≈-sym, ◌⊙◌, ◌▹◌, ≲-from, ⋖-≲, ≲-⋖, ⋖-absurd, ≲-trans, product-number, product-≈, product-none, sum-≈, sum-none, none-sum, sum_swap, negative-product}
 use Rattle.evidence.proofs.Totals.{total-number, total-≈, total-none, total-start, total-same, total-negative}
 use Rattle.evidence.proofs.Columns.{by_lt, by_eq, by_bool, none-number, pick, value-number, entry-number, column-numbers}
 use Rattle.evidence.proofs.Inverses.{sum-negative, negative-≈}
-use Rattle.evidence.proofs.Duality.{minimising-number}
+use Rattle.evidence.proofs.Duality.{minimising-number, minimising_total, minimising_slope}
 use Rattle.evidence.proofs.Rays.{between_same}
+use Rattle.evidence.proofs.UniqueRows.{end_by-number}
 use Rattle.bases.specs.Dictionary.{Entries, Values, value_by, SolvesLists}
 use Rattle.bases.specs.Forms.{form_of}
 use Rattle.bases.specs.Program.{goal_column, columns, goal_row, rows_with_goal}
@@ -33,7 +34,7 @@ use Rattle.simplex_rules.specs.Reports.{base, against, factor_at, multipliers_of
 use Rattle.simplex_rules.specs.Runs.{HasNoClash}
 use Rattle.simplex_rules.proofs.Core.{value_≈, form_by_list, value_with, value_with-number, row_value, base-number, base_sum, base_others, unit_step, unit_step-number, unit_value, rate-number}
 use Rattle.simplex_rules.proofs.MultiplierLists.{collected_total, collected_all, collected_ascending}
-use Rattle.simplex_rules.proofs.Facts.{HasPlace, met, rest_between, kept_between, rest-number, end_by-number, zero_times, some_is, or_is, above_difference, below_difference, if_some, at_least_none, at_most_none, below_none}
+use Rattle.simplex_rules.proofs.Facts.{HasPlace, met, rest_between, kept_between, rest-number, zero_times, some_is, or_is, above_difference, below_difference, if_some, at_least_none, at_most_none, below_none}
 
 -- what a moment of a run has: a place for each column
 pub record IsPlaced (I : Instance) (ss : List Status) : Type 0 where
@@ -55,16 +56,6 @@ against-≈ Fall e = e
 against_total : (w : Way) (n : ℕ) (b x : ℕ → Ratio) → total none n (λ c. product (against w (b c)) (x c)) ≡ against w (total none n (λ c. product (b c) (x c)))
 against_total Rise n b x = total-same none n (λ c. product (negative (b c)) (x c)) (λ c. negative (product (b c) (x c))) (λ c. negative-product (b c) (x c)) ∙ total-negative none n (λ c. product (b c) (x c))
 against_total Fall n b x = refl
-
-minimising_total : (s : Sense) (c : Ratio) (n : ℕ) (f g : ℕ → Ratio) → total (minimising_by s c) n (λ j. product (minimising_by s (f j)) (g j)) ≡ minimising_by s (total c n (λ j. product (f j) (g j)))
-minimising_total Minimum c n f g = refl
-minimising_total Maximum c n f g =
-    total-same (negative c) n (λ j. product (negative (f j)) (g j)) (λ j. negative (product (f j) (g j))) (λ j. negative-product (f j) (g j))
-    ∙ total-negative c n (λ j. product (f j) (g j))
-
-none_minimised : (s : Sense) → minimising_by s none ≡ none
-none_minimised Minimum = refl
-none_minimised Maximum = refl
 
 -- the end that a column misses which is to move this way, and that its value misses it
 abbrev pub end_missed : Way → Range → Option Ratio
@@ -546,7 +537,7 @@ module _ (I : Instance) (good : IsInstance I) (zeroed : Bool) (ss : List Status)
         better =
             let s = subst (λ (b : Bool). total none n (λ j. product (goal_row b I j) (value_at x j)) ≈ d goal) not_zeroed costs_fall in
             let opened : minimising I (total none n (λ j. product (cost_at I j) (value_at x j))) ≡ total none n (λ j. product (minimising I (cost_at I j)) (value_at x j)) =
-            sym (ap (λ z. total z n (λ j. product (minimising I (cost_at I j)) (value_at x j))) (sym (none_minimised I.goal.sense)) ∙ minimising_total I.goal.sense none n (cost_at I) (value_at x)) in
+            sym (minimising_slope I.goal.sense n (cost_at I) (value_at x)) in
             let low : d goal ⋖ none = record { left = d_number goal; right = none-number; is = below_none (d goal) d_goal } in
             let all = ≲-⋖ (≲-from s) low in
             rw opened all.is;

@@ -1,5 +1,5 @@
 -- What an envelope answers (SOAP 1.1, sections 4.4 and 7.1: faults, and the response of a call).
-use Rattle.std.specs.Prelude.{◌≡◌, ◌⊎◌, ℕ, Option, None, Some, IsSomeAnd, List, ◌++◌, codes}
+use Rattle.std.specs.Prelude.{◌≡◌, ◌⊎◌, ℕ, Bool, true, false, Option, None, Some, IsSomeAnd, List, ◌++◌, codes}
 use Rattle.tree_grammar.specs.Elements.{Element, Event, events, IsShallow, IsTextWithin}
 use Rattle.tree_grammar.specs.Document.{Doc}
 use Rattle.document_tags.specs.OneChild.{only_child, only_element, plain_text}
@@ -33,6 +33,11 @@ IsAnswer name e (Fault code text) = (e.name ≡ codes "Fault") × (plain_child e
 -- this answer stands in the envelope
 abbrev pub IsAnswerIn : List ℕ → Element → Answer → Type 0
 IsAnswerIn name root a = IsSomeAnd (held root) (λ e. IsAnswer name e a)
+
+-- the text that says yes or no
+abbrev pub bool_text : Bool → List ℕ
+bool_text true = codes "true"
+bool_text false = codes "false"
 
 -- the greatest length of a reply in bytes
 abbrev pub reply_limit : ℕ

@@ -6,8 +6,7 @@ use Rattle.std.proofs.lemmas.List.{length-reverse}
 use Rattle.rational.specs.Ratio.{Ratio}
 use Rattle.fraction.specs.Frac.{ratio}
 use Rattle.fraction.specs.declared.frac.Frac.{Frac}
-use Rattle.document_tags.specs.Writing.{text_nodes}
-use Rattle.document_tags.proofs.Lengths.{decimal_size, nodes_size, written_short}
+use Rattle.document_tags.proofs.Lengths.{decimal_size, nodes_size, text_size, written_short}
 use Rattle.decimal_text.specs.Sign.{optional}
 use Rattle.decimal_text.specs.Plain.{point_text}
 use Rattle.decimal_text.specs.Exact.{ratio_text, denominator_text}
@@ -25,10 +24,6 @@ use Rattle.solve_run.specs.Closings.{claim_report, IsShort}
 -- a job's name, if there is one, has at most 256 bytes
 abbrev pub IsShortName : Option (List ℕ) → Type 0
 IsShortName job = IfSome job (λ name. length name ≤ 256)
-
-text_size : (text : List ℕ) → nodes_size (text_nodes text) ≤ 6 * length text
-text_size [] = omega arith
-text_size (c ∷ cs) = omega arith
 
 -- ---- numbers
 

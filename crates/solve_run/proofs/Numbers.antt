@@ -1,9 +1,7 @@
 -- The columns of a tree that shows something of an instance are the instance's, and its splits are at numbers that fit.
-use Rattle.std.proofs.Common.{◌≡◌, ℕ, ◌+◌, ◌^◌, ◌<◌, ◌≤◌, ℤ, pos, negsuc, ◌+ℤ◌, Option, None, Some, List, [], ◌∷◌, ◌++◌, length, sym, subst, arith}
-use Rattle.std.specs.Prelude.{unsigned_abs, neg_ℤ, ◌≤ℤ◌, ◌<ℤ◌}
+use Rattle.std.proofs.Common.{◌≡◌, ℕ, ◌+◌, ◌^◌, ◌<◌, ◌≤◌, ℤ, pos, ◌+ℤ◌, Option, None, Some, List, [], ◌∷◌, ◌++◌, length, sym, subst, arith}
+use Rattle.std.specs.Prelude.{neg_ℤ, ◌≤ℤ◌, ◌<ℤ◌}
 use Rattle.std.specs.List.{All}
-use Rattle.std.proofs.lemmas.Int.{ints}
-use Rattle.std.proofs.lemmas.List.{length-set}
 use Rattle.std.proofs.lemmas.List.Elements.{All-nil, All-cons, All-head, All-tail, All-append}
 use Rattle.rational.specs.Ratio.{Ratio, whole}
 use Rattle.rational.specs.Width.{most}
@@ -11,10 +9,10 @@ use Rattle.evidence.specs.Sums.{none}
 use Rattle.evidence.specs.Instance.{Range, Instance, width, height, variable_at}
 use Rattle.evidence.specs.Cases as Of
 use Rattle.evidence.specs.Cases.{Multiplier, Tree, preorder, Shows, lesser_end, greater_end, both, or_free, with_range, at_most, at_least, at_zero, unless_zero}
-use Rattle.certificate.specs.declared.lists.Mult.{Mult}
 use Rattle.certificate.specs.declared.nodes.Node.{Node}
 use Rattle.certificate.specs.declared.nodes.Node.TheVariants.{Split, Zero, Clash, Farkas, Bound}
-use Rattle.certificate.specs.Meanings.{multiplier, multipliers, node, nodes}
+use Rattle.evidence.proofs.Branches.{width_with}
+use Rattle.certificate.specs.Meanings.{node, nodes}
 use Rattle.certificate.specs.Nodes.{IsInRange}
 
 -- the columns are below n, and a split's number fits
@@ -31,12 +29,8 @@ IsWithin n (Of.ZeroAt j) = j < n
 all_of_one : (n : ℕ) (x : Of.Node) → IsWithin n x → All (IsWithin n) (x ∷ [])
 all_of_one n x h = All-cons (IsWithin n) x [] h (All-nil (IsWithin n))
 
--- another range leaves the number of variables
-as_wide : (I : Instance) (j : ℕ) (r : Range) → width (with_range I j r) ≡ width I
-as_wide I j r = length-set I.variables j (record (variable_at I j) { range = r })
-
 few_with : (n : ℕ) (I : Instance) (j : ℕ) (r : Range) → width I + height I ≤ n → width (with_range I j r) + height I ≤ n
-few_with n I j r few = let same = as_wide I j r in omega (arith, same)
+few_with n I j r few = let same = width_with I j r in omega (arith, same)
 
 tree_within : (n : ℕ) (I : Instance) (t : Tree) (z : Option Ratio) → width I + height I ≤ n → Shows I t z → All (IsWithin n) (preorder t)
 tree_within n I (Of.Clash c) z few s = all_of_one n (Of.ClashAt c) (omega (arith, s.0))

@@ -23,7 +23,8 @@ use Rattle.osrl_grammar.specs.declared.report.Report.{Report}
 use Rattle.solve_run.specs.Judging.{IsSearched, IsWideAt, IsJudged, checked}
 use Rattle.solve_run.specs.Closings.{error_report, claim_report, IsShort, IsFitted, IsClosed}
 use Rattle.solve_run.specs.JobAnswers.{job_terms, RefusesOptions, RefusesInstance, LeavesInstance, AreJobTexts, Solved, GaveUp, MayStop, AnswersJob, no_options, no_instance, not_solved, solved, gave_up}
-use Rattle.solve_run.specs.Grounds.{OptionsAreOne, InstancesAreOne, SearchesAreOne}
+use Rattle.document_checker.specs.Grounds.{InstancesAreOne}
+use Rattle.solve_run.specs.Grounds.{OptionsAreOne, SearchesAreOne}
 use Rattle.solve_run.proofs.OneClaim.{claim_once}
 
 -- want of memory is told in no text

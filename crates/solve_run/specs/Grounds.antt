@@ -18,10 +18,6 @@ use Rattle.osol_grammar.specs.declared.fault.OsolFault.TheVariants as options_fa
 use Rattle.osol_grammar.specs.Meaning.{IsOptionsText}
 use Rattle.osol_grammar.specs.Reading as options
 use Rattle.osol_grammar.specs.Texts as options_texts
-use Rattle.osil_grammar.specs.declared.fault.OsilFault.{OsilFault}
-use Rattle.osil_grammar.specs.declared.fault.OsilFault.TheVariants as instance_faults
-use Rattle.osil_grammar.specs.Reading.{IsInstanceText}
-use Rattle.osil_grammar.specs.Reading as instances
 
 -- texts are one kind of options, or are refused in one text
 pub record OptionsAreOne : Type 0 where
@@ -29,12 +25,6 @@ pub record OptionsAreOne : Type 0 where
   pub apart : (bytes : List ℕ) (o : Options) (f : OsolFault) → IsOptionsText bytes o → options.DecodeFails bytes f → f ≡ options_faults.Memory
   pub refused : (bytes : List ℕ) (f g : OsolFault) → f ≢ options_faults.Memory → g ≢ options_faults.Memory → options.DecodeFails bytes f → options.DecodeFails bytes g → f ≡ g
   pub told : (f : OsolFault) (s t : List ℕ) → options_texts.IsFaultText f s → options_texts.IsFaultText f t → s ≡ t
-
--- texts are one instance, or are refused in one text
-pub record InstancesAreOne : Type 0 where
-  pub once : (bytes : List ℕ) (p q : Parts) → IsInstanceText bytes p → IsInstanceText bytes q → p ≡ q
-  pub apart : (bytes : List ℕ) (p : Parts) (f : OsilFault) → IsInstanceText bytes p → instances.DecodeFails bytes f → f ≡ instance_faults.Memory
-  pub told : (bytes : List ℕ) (f g : OsilFault) (s t : List ℕ) → instances.DecodeFails bytes f → instances.DecodeFails bytes g → instances.IsFaultText f s → instances.IsFaultText g t → s ≡ t
 
 -- a search has one outcome, whose claim is checked with one answer
 pub record SearchesAreOne : Type 0 where

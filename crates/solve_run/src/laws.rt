@@ -21,16 +21,15 @@ ghost use Rattle.document_checker.specs.Documents.{kind, IsAcceptedText};
 ghost use Rattle.solve_run.specs.Judging.{IsSearched, IsFinal, IsWideAt};
 ghost use Rattle.solve_run.specs.Closings.{IsShort, claim_report};
 ghost use Rattle.solve_run.specs.JobAnswers.{job_terms, RefusesOptions, RefusesInstance, LeavesInstance, Solved, GaveUp, AnswersJob, Right};
-ghost use Rattle.solve_run.specs.Grounds.{OptionsAreOne, InstancesAreOne, SearchesAreOne};
+ghost use Rattle.solve_run.specs.Grounds.{OptionsAreOne, SearchesAreOne};
 
 use cert_checker::{
     claims_have_one_refusal, refused_is_not_accepted, shown_is_refused_for_width_alone,
 };
-use document_checker::accepted_documents_are_true;
+use document_checker::{accepted_documents_are_true, instances_are_one};
 use document_tags::tree_faults_have_one_text;
 use fraction::equal_fractions;
 use instance::{problems_have_numbers, programs_have_numbers};
-use osil_grammar::{documents_are_refused_in_one_way, documents_mean_one_instance};
 use osol_grammar::{
     document_has_one_refusal, document_says_one, options_are_not_refused, options_have_names,
 };
@@ -45,14 +44,6 @@ fn options_are_one()
     options_are_not_refused();
     document_has_one_refusal();
     tree_faults_have_one_text();
-}
-
-/// The laws of instances' texts.
-fn instances_are_one()
-    ensures { InstancesAreOne }
-{
-    documents_mean_one_instance();
-    documents_are_refused_in_one_way();
 }
 
 /// The laws of searches, and of the checks of what they claim.

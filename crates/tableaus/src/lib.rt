@@ -13,5 +13,5 @@ mod turning;
 
 pub use programs::{read_counts, read_program, read_var};
 pub use reading::{Exchange, read_column, read_exchanges, read_factor, read_numbers, read_tableau};
-pub use telling::{put_count, step_word};
+pub use telling::put_count;
 pub use turning::{tell_goal, tell_turned, tell_values};

@@ -2,7 +2,6 @@
 ghost use Rattle.std.specs.Prelude.{◌≡◌, ◌≤◌, IsTrue};
 ghost use Rattle.dictionary.specs.Dict.{width_of, height_of, IsLoaded, IsBasic, IsNonbasic};
 
-use certificate::Step;
 use decimal_text::write_ratio;
 use dictionary::{Dict, Steps};
 use fraction::Frac;
@@ -26,19 +25,6 @@ pub fn put_count(text: &mut Text, count: u64) -> Result<(), Memory> {
 
 pub fn put_number(text: &mut Text, number: u32) -> Result<(), Memory> {
     put_count(text, number as u64)
-}
-
-/// The step at which a number doesn't fit, as a word.
-pub fn step_word(step: Step) -> &'static [u8] {
-    match step {
-        Step::Values => b"values",
-        Step::Ratio => b"ratio",
-        Step::Pivot => b"pivot",
-        Step::Point => b"point",
-        Step::Ray => b"ray",
-        Step::Round => b"round",
-        Step::Check => b"check",
-    }
 }
 
 /// Whether the column is basic.

@@ -26,7 +26,7 @@ middle {S} F one s (b ∷ before) t after m z r taken refuses all =
 pub not_both : {S T C R : Type 0} (F : Form S T C R) → LeavesOne F → (s : S) (ts : List T) (z : S) (r : R) → AreTaken F s ts z → AreRefused F s ts r → ⊥
 not_both {S} {T} F one s ts z r taken f = middle F one s f.before f.mark f.after f.state z r f.taken f.refuses (subst (λ (l : List T). AreTaken F s l z) f.split taken)
 
-heads : {T : Type 0} (x y : T) (xs ys : List T) → x ∷ xs ≡ y ∷ ys → (x ≡ y) × (xs ≡ ys)
+pub heads : {T : Type 0} (x y : T) (xs ys : List T) → x ∷ xs ≡ y ∷ ys → (x ≡ y) × (xs ≡ ys)
 heads x y xs ys e = let a : x ≡ y = cc in let b : xs ≡ ys = cc in (a, b)
 
 -- a mark at which some test doesn't pass, behind marks that are taken, is one mark in one state

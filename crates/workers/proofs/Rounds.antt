@@ -1,14 +1,12 @@
 -- Rounds of a worker, one after another.
-use Rattle.std.proofs.Common.{◌≡◌, ℕ, Bool, true, false, List, [], ◌∷◌, ◌++◌, Option, Some, None, refl, sym, ap, ◌∙◌, subst, append_assoc, append-nil, IsTrue, ◌↔◌, IsSome}
+use Rattle.std.proofs.Common.{◌≡◌, Bool, true, false, List, [], ◌∷◌, ◌++◌, Option, Some, None, refl, sym, ap, ◌∙◌, subst, append_assoc, append-nil, IsTrue, ◌↔◌, IsSome}
 use Rattle.job_table.specs.declared.job.Job.{Job}
 use Rattle.job_table.specs.declared.calls.Call.TheVariants.{Claim, Enlist, Leave}
 use Rattle.job_table.specs.declared.calls.Reply.TheVariants as reply
 use Rattle.job_table.specs.History.{Entry, entry_of_move}
 use Rattle.job_runs.specs.Runs.{Works}
+use Rattle.job_runs.proofs.Kinds.{Made, Joins}
 use Rattle.workers.specs.Shifts.{WorkOff, Rests, WorksThrough}
-
-abbrev pub Made : Type 1
-Made = List ℕ → List ℕ → List Bool → Option (List ℕ) → Type 0
 
 false_is_not : false ≡ true → ⊥
 false_is_not e = cc
@@ -26,10 +24,6 @@ pub work_on : (made : Made) (a b : List (Option Job)) (xs ys : List Entry) → W
 work_on made [] b xs ys none more = subst (λ (es : List Entry). WorkOff made b (es ++ ys)) (sym none) more
 work_on made (given ∷ a) b xs ys (own, rest, worked, later, are) more =
     (own, rest ++ ys, worked, work_on made a b rest ys later more, ap (λ (es : List Entry). es ++ ys) are ∙ append_assoc own rest ys)
-
--- calls after calls are both
-abbrev pub Joins : (List Entry → Type 0) → (List Entry → Type 0) → (List Entry → Type 0) → Type 0
-Joins did did' both = (a b : List Entry) → did a → did' b → both (a ++ b)
 
 abbrev pub Claimed : Made → (List Entry → Type 0) → Type 0
 Claimed made did = (given : List (Option Job)) × (own : List Entry) × did own × WorkOff made given own

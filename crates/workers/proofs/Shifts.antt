@@ -1,20 +1,17 @@
 -- Behind a shift no job waits.
-use Rattle.std.proofs.Common.{◌≡◌, ℕ, ◌+◌, Bool, true, false, cond, List, [], ◌∷◌, ◌++◌, Option, Some, None, refl, sym, ap, ◌∙◌, subst}
+use Rattle.std.proofs.Common.{◌≡◌, ℕ, ◌+◌, Bool, true, false, cond, List, [], ◌∷◌, Option, Some, None, refl, sym, ap, ◌∙◌, subst}
 use Rattle.std.proofs.lemmas.List.Sums.{sum_by-cons}
 use Rattle.job_table.specs.declared.job.Job.{Job}
 use Rattle.job_table.specs.declared.job.Phase.{Phase}
 use Rattle.job_table.specs.declared.job.Phase.TheVariants.{Issued, Waiting, Running, Finished, Killed}
-use Rattle.job_table.specs.declared.calls.Call.TheVariants.{Claim, Enlist, Leave}
+use Rattle.job_table.specs.declared.calls.Call.TheVariants.{Claim, Leave}
 use Rattle.job_table.specs.declared.calls.Reply.TheVariants as reply
 use Rattle.job_table.specs.Jobs.{HeldJobs, Register, job, is_waiting, or_waiting, first_waiting, waiting_jobs}
 use Rattle.job_table.specs.Steps.{Step, Outcome, outcome, claims}
 use Rattle.job_table.specs.History.{Entry, entry_of_move, LeadsStepwise}
 use Rattle.job_table.proofs.Histories.{runs_split}
 use Rattle.workers.specs.Shifts.{Rests, WorksThrough}
-use Rattle.workers.proofs.Rounds.{Made}
-
-abbrev Right : Type 1
-Right = List ℕ → List ℕ → Bool → Option (List ℕ) → Type 0
+use Rattle.job_runs.proofs.Kinds.{Made, Judgement}
 
 some_is_not_none : (j : Job) → Some j ≡ None → ⊥
 some_is_not_none j e = cc
@@ -41,7 +38,7 @@ claims_none : (first : Option Job) (r next : Register) → claims first r ≡ ou
 claims_none None r next is = (refl, ap (λ (o : Outcome). o.after) (sym is))
 claims_none (Some j) r next is = absurd (gave_is_not_none j (ap (λ (o : Outcome). o.reply) is))
 
-module _ (made : Made) (right : Right) where
+module _ (made : Made) (right : Judgement) where
   rests_idle : (r after : Register) (es : List Entry) → Rests made es → LeadsStepwise right r es after → waiting_jobs after.jobs ≡ 0
   rests_idle r after es rests runs =
       let (mid, before, (next, step, same)) = runs_split right r after rests.before (entry_of_move (Claim true) (reply.Gave None) ∷ [])

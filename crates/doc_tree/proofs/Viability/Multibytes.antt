@@ -4,7 +4,8 @@ use Rattle.doc_tree.specs.declared.machine.Goal.TheVariants as goals
 use Rattle.doc_tree.specs.declared.machine.Place.TheVariants as places
 use Rattle.doc_tree.proofs.Viability.HighBytes.{Absorbs, absorbs, high_space}
 use Rattle.doc_tree.proofs.Viability.PrintableEnds.{wide, marked}
-use Rattle.doc_tree.proofs.ByteGrammar.{IsMultibyte, each_both, marked_stuck, whole_mark, whole_plain}
+use Rattle.element_tree.proofs.XmlTexts.{each_append}
+use Rattle.doc_tree.proofs.ByteGrammar.{IsMultibyte, marked_stuck, whole_mark, whole_plain}
 use Rattle.doc_tree.proofs.Viability.Completions.{Completion}
 use Rattle.doc_tree.proofs.Viability.Prefixes.{IsSteady, steady, printable_steady, mark_steady, multibyte_steady, printable_xml, Open, open_here, open_mark}
 
@@ -60,7 +61,7 @@ finishes_of : (s : State) (r : Bool) (x : List ℕ) (later : List Mark) → Each
 finishes_of s r x later h k = record { later = later; whole = refl; rest = subst (λ z. RestsAt s.place s t z later) (sym (steady r x h)) k }
 
 open_steady : (s : State) (r : Bool) (more : List ℕ) (o : Open 32 s r more) → Each IsSteady more → Each IsSteady (more ++ o.bytes)
-open_steady s r more o h = each_both IsSteady more o.bytes h (printable_steady o.bytes o.printable)
+open_steady s r more o h = each_append IsSteady more o.bytes h (printable_steady o.bytes o.printable)
 
 -- Between characters the machine isn't in the mark.
 pub open_unmarked : (s : State) (r : Bool) → Good s.place s → Open 32 s r [] → IsInMark s.place s.goal → ⊥
@@ -82,7 +83,7 @@ module _ (s : State) (r : Bool) (b : ℕ) (new : State) (returns : Bool) (l : 12
   others a o more h =
       let k = back s r b new returns [] l tt p o in
       let m = a o.bytes k.0 k.2 more h in
-      let e : Each IsSteady (b ∷ (more ++ o.bytes)) = (omega arith, each_both IsSteady more o.bytes (multibyte_steady more h) (printable_steady o.bytes o.printable)) in
+      let e : Each IsSteady (b ∷ (more ++ o.bytes)) = (omega arith, each_append IsSteady more o.bytes (multibyte_steady more h) (printable_steady o.bytes o.printable)) in
       record { bytes = o.bytes; printable = o.printable; marks = s.marks ++ m.0; rest = (p.same t (omega arith) (more ++ o.bytes) (s.marks ++ m.0)).0 (finishes_of s r (b ∷ (more ++ o.bytes)) m.0 e m.1) }
 
   -- the mark takes no others

@@ -4,7 +4,8 @@ use Rattle.doc_tree.specs.declared.machine.Goal.TheVariants as goals
 use Rattle.doc_tree.specs.declared.machine.Place.TheVariants as places
 use Rattle.doc_tree.proofs.TextTrees.Wholes.{Held, held_of, whole_of, document_marks}
 use Rattle.doc_tree.proofs.Viability.Specials.{plain_line, deep_stuck}
-use Rattle.doc_tree.proofs.ByteGrammar.{IsMultibyte, each_both, each_map, start_printable, start_range}
+use Rattle.element_tree.proofs.XmlTexts.{each_append}
+use Rattle.doc_tree.proofs.ByteGrammar.{IsMultibyte, each_map, start_printable, start_range}
 use Rattle.doc_tree.proofs.MachineSteps.{content_tag_any}
 use Rattle.doc_tree.proofs.Viability.Completions.{Completion, completes_map, completes_tag, completes_between}
 use Rattle.doc_tree.proofs.Viability.PrintableEnds.{wide, alive, marked}
@@ -39,7 +40,7 @@ printable_xml bytes h = record {
 pub xml_both : (a b : List ℕ) → IsXmlText a → IsXmlText b → IsXmlText (a ++ b)
 xml_both a b p q = record {
   characters = p.characters ++ q.characters;
-  each = each_both IsXmlChar p.characters q.characters p.each q.each;
+  each = each_append IsXmlChar p.characters q.characters p.each q.each;
   encoded = ap (λ z. z ++ b) p.encoded ∙ ap (λ z. encode_utf8_all p.characters ++ z) q.encoded ∙ sym (encodes-append p.characters q.characters);
 }
 
@@ -55,7 +56,7 @@ open_of depth s r more h c = record {
   bytes = c.bytes;
   printable = c.printable;
   marks = s.marks ++ c.marks;
-  rest = record { later = c.marks; whole = refl; rest = subst (λ z. RestsAt s.place s (wide depth) z c.marks) (sym (steady r (more ++ c.bytes) (each_both IsSteady more c.bytes h (printable_steady c.bytes c.printable)))) c.rest };
+  rest = record { later = c.marks; whole = refl; rest = subst (λ z. RestsAt s.place s (wide depth) z c.marks) (sym (steady r (more ++ c.bytes) (each_append IsSteady more c.bytes h (printable_steady c.bytes c.printable)))) c.rest };
 }
 
 -- the machine between characters

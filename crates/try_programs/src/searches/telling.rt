@@ -4,7 +4,7 @@ use decimal_text::write_ratio;
 use fraction::Frac;
 use itoa::Buffer;
 use os_io::{Memory, Text};
-use tableaus::{put_count, step_word};
+use tableaus::put_count;
 
 fn put_numbers(text: &mut Text, word: &[u8], numbers: &[Frac]) -> Result<(), Memory> {
     text.extend(word)?;
@@ -86,7 +86,7 @@ fn put_cause(text: &mut Text, cause: Cause) -> Result<(), Memory> {
             text.push(b' ')?;
             put_count(text, place.turn)?;
             text.push(b' ')?;
-            text.extend(step_word(place.step))
+            text.extend(place.step.name())
         }
         Cause::Length => text.extend(b" length"),
         Cause::Memory => text.extend(b" memory"),

@@ -6,7 +6,7 @@ use decimal_text::write_ratio;
 use os_io::{Memory, Text};
 use simplex::{LpEnd, Work};
 use std::sync::ledger::Ledger;
-use tableaus::{put_count, step_word};
+use tableaus::put_count;
 
 /// Puts the last point.
 fn put_point<L: Ledger>(text: &mut Text, work: &Work<L>, width: u32) -> Result<(), Memory>
@@ -89,7 +89,7 @@ pub fn put_end<L: Ledger>(
         LpEnd::TurnLimit => text.extend(b"turn limit"),
         LpEnd::Wide(step) => {
             text.extend(b"wide ")?;
-            text.extend(step_word(step))
+            text.extend(step.name())
         }
         LpEnd::Stopped => text.extend(b"stopped"),
     }

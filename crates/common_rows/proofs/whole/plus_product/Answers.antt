@@ -1,7 +1,7 @@
 use Rattle.std.proofs.Common.{◌≡◌, ◌+ℤ◌, ◌*ℤ◌, ◌∙◌, FitsSigned, w64, rules}
 use mir.Syntax.{w128}
 use Rattle.std.proofs.lemmas.Int.{to_z-of_z}
-use Rattle.common_rows.proofs.Sizes.{size_within}
+use Rattle.fraction.proofs.Wholes.{narrow_size}
 use Rattle.common_rows.proofs.Wholes.{whole_sum, whole_fits}
 use Rattle.common_rows.proofs.whole.plus_product.Goals as goal
 
@@ -26,4 +26,4 @@ returns-clause-fits c =
     let fits_n : FitsSigned w64 n = search rules in
     let fits_k : FitsSigned w64 k = search rules in
     let fits_m : FitsSigned w64 m = search rules in
-    whole_fits c.args.start c.args.a c.args.x n k m c.in-Some.ensures.whole c.in-Some.ensures.number c.in-Some-narrow.ensures.whole c.in-Some-narrow.ensures.number c.in-Some-narrow-2.ensures.whole c.in-Some-narrow-2.ensures.number (size_within n fits_n) (size_within k fits_k) (size_within m fits_m)
+    whole_fits c.args.start c.args.a c.args.x n k m c.in-Some.ensures.whole c.in-Some.ensures.number c.in-Some-narrow.ensures.whole c.in-Some-narrow.ensures.number c.in-Some-narrow-2.ensures.whole c.in-Some-narrow-2.ensures.number (narrow_size n fits_n) (narrow_size k fits_k) (narrow_size m fits_m)

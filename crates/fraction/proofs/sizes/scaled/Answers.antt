@@ -4,7 +4,7 @@ use Rattle.std.specs.Prelude.{unsigned_abs}
 use Rattle.std.proofs.lemmas.Int.{to_z-of_z, unsigned_abs-mul, fits_signed_from_abs}
 use Rattle.rational.specs.Width.{most}
 use Rattle.rational.proofs.Signs.{signed-mul, unsigned_abs-signed}
-use Rattle.fraction.proofs.Forms.{on_err}
+use Rattle.fraction.proofs.Forms.{at_err}
 use Rattle.fraction.proofs.Wholes.{kept, product_kept}
 use Rattle.fraction.proofs.sizes.scaled.Goals as goal
 
@@ -27,7 +27,7 @@ pub returns-in_err-size-clause-wide : goal.returns-in_err-size-clause-wide
 returns-in_err-size-clause-wide c =
     let same = to_z-of_z w128 c.args.a c.ranges.a in
     let past = rw (c.size_of.ensures, same) at c.in_err-size.ensures.wide in
-    on_err c.from_residual.result (rw (unsigned_abs-mul c.args.a (pos c.args.by)) past)
+    at_err c.from_residual.result (rw (unsigned_abs-mul c.args.a (pos c.args.by)) past)
 
 pub returns-clause-value : goal.returns-clause-value
 returns-clause-value c =

@@ -12,7 +12,8 @@ use Rattle.dictionary.specs.Dict.{entry_of}
 use Rattle.simplex.specs.Cuts.{ranges_in, range_of}
 use Rattle.simplex.specs.Tables.{values_in}
 use Rattle.simplex.proofs.ColumnEnds.{read_range}
-use Rattle.simplex.proofs.LeastLimits.{on_err, keep_to, limit_known, limits_known, limit_fits}
+use Rattle.instance.proofs.Terms.{at_err}
+use Rattle.simplex.proofs.LeastLimits.{keep_to, limit_known, limits_known, limit_fits}
 use Rattle.simplex.proofs.BasicColumns.{still_none, still_fits}
 use Rattle.simplex.proofs.limits.first_limit.Goals as goal
 
@@ -26,7 +27,7 @@ returns-in_err-next-clause-wide g c = λ I e.
     let r = read_range c.args.ends.now c.in-Some.c c.index-ends-c.result c.index-ends-c.is h in
     let v = read c.args.values.now c.in-Some.c c.index-values-c.result hv c.index-values-c.is in
     let u = entry_of c.args.dict.now in
-    on_err c.from_residual.result
+    at_err c.from_residual.result
     (λ f. c.in_err-next.ensures.wide
     (subst (λ (x : Ratio). OneFits (basic_in c.args.statuses.now c.in-Some.c) (nat_eq c.in-Some.c c.args.moving.col) (range_of c.index-ends-c.result) x (rate c.args.moving.way (entry_of c.args.dict.now c.in-Some.c c.args.moving.col))) v
     (subst (λ (x : Range). OneFits (basic_in c.args.statuses.now c.in-Some.c) (nat_eq c.in-Some.c c.args.moving.col) x (values_in c.args.values.now c.in-Some.c) (rate c.args.moving.way (entry_of c.args.dict.now c.in-Some.c c.args.moving.col))) r

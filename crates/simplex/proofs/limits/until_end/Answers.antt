@@ -3,12 +3,13 @@ use Rattle.rational.specs.Ratio.{sum, negative, quotient}
 use Rattle.fraction.specs.Frac.{ratio}
 use Rattle.instance.specs.Program.{limit}
 use Rattle.simplex_rules.specs.Widths.{EndFits}
-use Rattle.simplex.proofs.LeastLimits.{on_err, until_told, until_fits, until_wide}
+use Rattle.instance.proofs.Terms.{at_err}
+use Rattle.simplex.proofs.LeastLimits.{until_told, until_fits, until_wide}
 use Rattle.simplex.proofs.limits.until_end.Goals as goal
 
 pub returns-in_err-quotient-in-At-clause-wide : goal.returns-in_err-quotient-in-At-clause-wide
 returns-in_err-quotient-in-At-clause-wide c =
-    on_err c.from_residual-in_err-quotient-in-At.result
+    at_err c.from_residual-in_err-quotient-in-At.result
     (λ f. until_wide c.in-At.e c.args.value c.args.rate c.in_ok-difference-in-At.difference c.requires c.in_ok-difference-in-At.ensures.ok c.in_err-quotient-in-At.ensures.wide
     (subst (λ z. EndFits (limit z) (ratio c.args.value) (ratio c.args.rate)) c.in-At.is f))
 

@@ -3,19 +3,19 @@ use Rattle.std.specs.Prelude.{unsigned_abs}
 use Rattle.std.proofs.Math.Nat.{not-le_of_lt}
 use Rattle.std.proofs.lemmas.Result.{IfOk-weaker, on_err_weaker}
 use Rattle.rational.specs.Width.{most}
-use Rattle.fraction.proofs.Forms.{on_err}
+use Rattle.fraction.proofs.Forms.{at_err}
 use Rattle.fraction.proofs.Wholes.{kept}
 use Rattle.fraction.proofs.frac.Frac.joint.Goals as goal
 
 pub returns-in_err-left-clause-wide : goal.returns-in_err-left-clause-wide
 returns-in_err-left-clause-wide c =
     let past = rw (kept c.args.self.numer c.args.self.numer_within) at c.in_err-left.ensures.wide in
-    on_err c.from_residual.result (λ fits. not-le_of_lt past fits.0)
+    at_err c.from_residual.result (λ fits. not-le_of_lt past fits.0)
 
 pub returns-in_err-right-clause-wide : goal.returns-in_err-right-clause-wide
 returns-in_err-right-clause-wide c =
     let past = rw (kept c.args.other.numer c.args.other.numer_within) at c.in_err-right.ensures.wide in
-    on_err c.from_residual-in_err-right.result (λ fits. not-le_of_lt past fits.1)
+    at_err c.from_residual-in_err-right.result (λ fits. not-le_of_lt past fits.1)
 
 pub returns-clause-value : goal.returns-clause-value
 returns-clause-value c =
