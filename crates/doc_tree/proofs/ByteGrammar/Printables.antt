@@ -39,17 +39,9 @@ field_printable fields.Version = printable_text (field_name fields.Version) refl
 field_printable fields.Encoding = printable_text (field_name fields.Encoding) refl
 field_printable fields.Standalone = printable_text (field_name fields.Standalone) refl
 
-pub word_printable : (g : Field) (word : List ℕ) → field_name g ≡ first_letter g ∷ word → Each IsPrintable word
-word_printable g word e = (subst (Each IsPrintable) e (field_printable g)).1
-
 -- the innermost name
 pub first_printable : (names : List (List ℕ)) (n : List ℕ) (rest : List (List ℕ)) → names ≡ n ∷ rest → ArePrintable names → Each IsPrintable n × ArePrintable rest
 first_printable names n rest e h = subst ArePrintable e h
-
--- both texts
-pub each_both : (P : ℕ → Type 0) (xs ys : List ℕ) → Each P xs → Each P ys → Each P (xs ++ ys)
-each_both P [] ys h k = k
-each_both P (x ∷ xs) ys h k = (h.0, each_both P xs ys h.1 k)
 
 -- the second text
 pub each_right : (P : ℕ → Type 0) (xs ys : List ℕ) → Each P (xs ++ ys) → Each P ys

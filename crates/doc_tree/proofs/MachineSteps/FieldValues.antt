@@ -1,6 +1,6 @@
 -- How the value of a field may go on.
-use Rattle.doc_tree.proofs.ByteGrammar.{each_both, each_last, some_each}
-use Rattle.doc_tree.proofs.Words.{Aim, Each, EncodingNext, Field, IsDigit, IsEncodingChar, IsFieldValue, IsNextField, IsValueBegun, IsYesOrNo, List, Some1, VersionNext, WordNext, [], any, ap, append-nil, arith, inl, inr, length, refl, subst, sym, ℕ, ◌++◌, ◌↔◌, ◌∙◌, ◌∷◌, ◌≡◌, ◌≢◌}
+use Rattle.doc_tree.proofs.ByteGrammar.{each_last, some_each}
+use Rattle.doc_tree.proofs.Words.{Aim, Each, EncodingNext, Field, IsDigit, IsEncodingChar, IsFieldValue, IsNextField, IsValueBegun, IsYesOrNo, List, Some1, VersionNext, WordNext, [], any, ap, append-nil, arith, inl, inr, length, refl, subst, sym, ℕ, ◌++◌, ◌↔◌, ◌∙◌, ◌∷◌, ◌≡◌, ◌≢◌, each_append}
 use Rattle.doc_tree.specs.declared.declaration.Field.TheVariants as fields
 
 -- a value that may stand where an encoding is asked for may stand where none is
@@ -26,7 +26,7 @@ each_left P [] ys h = tt
 each_left P (x ∷ xs) ys h = (h.0, each_left P xs ys h.1)
 
 pub each_longer : (P : ℕ → Type 0) (xs : List ℕ) (b : ℕ) → Each P xs → P b → Each P (xs ++ (b ∷ []))
-each_longer P xs b h p = each_both P xs (b ∷ []) h (p, tt)
+each_longer P xs b h p = each_append P xs (b ∷ []) h (p, tt)
 
 each_some : (P : ℕ → Type 0) (xs : List ℕ) (b : ℕ) → Each P xs → P b → Some1 P (xs ++ (b ∷ []))
 each_some P [] b h p = (p, tt)
