@@ -11,9 +11,10 @@ relieved had s new told h r e = record { told = told; has = h; rest = r; same = 
 pub handed : (had : List Mark → Type 0) (f v : Feeding) (s : State) → f ≡ v → Relieved f.state s had → HandedOn v (record f { state = s }) had
 handed had f v s e r = subst (λ z. HandedOn z (record f { state = s }) had) e (record { told = r.told; has = r.has; rest = r.rest; same = ap (λ z. record f { state = z }) r.same })
 
-pub on_option : (o : Option TreeFault) (A B : Type 0) → (A → B) → MatchOption o A (λ fault. Unit {0}) → MatchOption o B (λ fault. Unit {0})
-on_option None A B f h = f h
-on_option (Some x) A B f h = tt
+-- where a reader wasn't refused
+pub on_option : {A B : Type 0} (o : Option TreeFault) (R : TreeFault → Type 0) → (A → B) → MatchOption o A R → MatchOption o B R
+on_option None R f h = f h
+on_option (Some fault) R f h = h
 
 -- more marks are told
 abbrev with_marks : Feeding → List Mark → Feeding
