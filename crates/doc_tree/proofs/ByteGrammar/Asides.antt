@@ -1,5 +1,5 @@
 -- Comments, instructions and CDATA sections, byte by byte.
-use Rattle.doc_tree.proofs.Words.{Begins, Char, Comment, CommentRest, Each, Instruction, IsInstructionText, IsName, IsNameChar, IsNameRest, IsNameStart, IsSectionText, IsSpace, List, Mark, PiOver, PiRest, PiSpace, PiText, Saying, SectionRest, Then, Word, [], ap, append_assoc, arith, bare, brackets, codes, comment_dash, comment_over, comment_plain, comment_text, inl, inr, instruction_text, map, refl, subst, sym, to_ascii_lowercase, with_text, ℕ, ◌++◌, ◌↔◌, ◌∙◌, ◌∷◌, ◌≡◌, ◌≢◌, ◌≤◌, ◌⊎◌}
+use Rattle.doc_tree.proofs.Words.{Begins, Char, Comment, CommentRest, Each, Instruction, IsInstructionText, IsName, IsNameChar, IsNameRest, IsNameStart, IsSectionText, IsSpace, List, Mark, PiOver, PiRest, PiSpace, PiText, Saying, SectionRest, Then, Word, [], ap, append_assoc, arith, bare, brackets, codes, comment_dash, comment_over, comment_plain, comment_text, inl, inr, instruction_text, map, refl, subst, sym, to_ascii_lowercase, with_text, ℕ, ◌++◌, ◌↔◌, ◌∙◌, ◌∷◌, ◌≡◌, ◌≢◌, ◌≤◌, ◌⊎◌, pending_brackets, zero, suc}
 use Rattle.doc_tree.specs.declared.names.Part.TheVariants as parts
 use Rattle.doc_tree.proofs.ByteGrammar.Spans.{then_over, then_next, then_back, word_first, word_back, word_last}
 use Rattle.doc_tree.proofs.ByteGrammar.Bytes.{IsHigh, high_not_space, not_space, space_low}
@@ -162,10 +162,6 @@ module _ (K : List ℕ → List Mark → Type 0) where
     λ k. record { run = []; is = tt; behind = 93 ∷ 93 ∷ 62 ∷ r; text = refl; after = record { behind = r; text = refl; after = record { later = es; says = refl; after = k } } },
   )
 
-  -- behind so many `]`
-  section_0 : (b : ℕ) (r : List ℕ) (es : List Mark) → b ≢ 93 → SectionRest 0 K (b ∷ r) es ↔ Saying (Char b ∷ []) (SectionRest 0 K) r es
-  section_0 b r es n = subst (λ z. SectionRest 0 K (b ∷ r) es ↔ Saying (Char b ∷ []) (SectionRest z K) r es) (no_brackets 0 b n) (section_char 0 b r es (λ l. absurd (omega arith)) (λ w. let e = w.text in n (cc)))
-
   -- what two say together
   both : (x y : List Mark) (L : List ℕ → List Mark → Type 0) (r : List ℕ) (es : List Mark) → Saying x (Saying y L) r es ↔ Saying (x ++ y) L r es
   both x y L r es = (
@@ -179,31 +175,22 @@ module _ (K : List ℕ → List Mark → Type 0) where
     λ h. record { later = h.later; says = h.says; after = (f h.later).1 h.after },
   )
 
-  section_1 : (b : ℕ) (r : List ℕ) (es : List Mark) → b ≢ 93 → SectionRest 1 K (b ∷ r) es ↔ Saying (Char b ∷ []) (SectionRest 0 K) r es
-  section_1 b r es n = subst (λ z. SectionRest 1 K (b ∷ r) es ↔ Saying (Char b ∷ []) (SectionRest z K) r es) (no_brackets 1 b n) (section_char 1 b r es (λ l. absurd (omega arith)) (λ w. let e = w.text in n (cc)))
-
-  section_2 : (b : ℕ) (r : List ℕ) (es : List Mark) → b ≢ 93 → b ≢ 62 → SectionRest 2 K (b ∷ r) es ↔ Saying (Char b ∷ []) (SectionRest 0 K) r es
-  section_2 b r es n m = subst (λ z. SectionRest 2 K (b ∷ r) es ↔ Saying (Char b ∷ []) (SectionRest z K) r es) (no_brackets 2 b n) (section_char 2 b r es (λ l. m) (λ w. let e = w.text in n (cc)))
-
   -- a character behind none, one or two `]` that wait
-  pub section_none : (b : ℕ) (r : List ℕ) (es : List Mark) → b ≢ 93 → SectionRest 0 K (b ∷ r) es ↔ Saying (map Char (b ∷ [])) (SectionRest 0 K) r es
-  section_none b r es n = section_0 b r es n
+  last_run : (n b : ℕ) (r : List ℕ) (es : List Mark) → b ≢ 93 → (2 ≤ n → b ≢ 62) → SectionRest n K (b ∷ r) es ↔ Saying (Char b ∷ []) (SectionRest 0 K) r es
+  last_run n b r es nb ng = subst (λ z. SectionRest n K (b ∷ r) es ↔ Saying (Char b ∷ []) (SectionRest z K) r es) (no_brackets n b nb) (section_char n b r es ng (λ w. let e = w.text in nb (cc)))
 
-  pub section_one : (b : ℕ) (r : List ℕ) (es : List Mark) → b ≢ 93 → SectionRest 0 K (93 ∷ b ∷ r) es ↔ Saying (map Char (93 ∷ b ∷ [])) (SectionRest 0 K) r es
-  section_one b r es n =
-      let a = section_char 0 93 (b ∷ r) es (λ l. absurd (omega arith)) (λ w. let e = w.text in n (cc)) in
-      let c = under (Char 93 ∷ []) (SectionRest 1 K) (Saying (Char b ∷ []) (SectionRest 0 K)) (b ∷ r) r es (λ fs. section_1 b r fs n) in
-      let d = both (Char 93 ∷ []) (Char b ∷ []) (SectionRest 0 K) r es in
+  bracket_run : (n m b : ℕ) (r : List ℕ) (es : List Mark) → (E [] (93 ∷ pending_brackets n (b ∷ r)) es → ⊥) → ((fs : List Mark) → SectionRest (brackets m 93) K (pending_brackets n (b ∷ r)) fs ↔ Saying (map Char (pending_brackets n (b ∷ []))) (SectionRest 0 K) r fs) → SectionRest m K (93 ∷ pending_brackets n (b ∷ r)) es ↔ Saying (map Char (93 ∷ pending_brackets n (b ∷ []))) (SectionRest 0 K) r es
+  bracket_run n m b r es f rest =
+      let a = section_char m 93 (pending_brackets n (b ∷ r)) es (λ l e. omega arith) f in
+      let c = under (Char 93 ∷ []) (SectionRest (brackets m 93) K) (Saying (map Char (pending_brackets n (b ∷ []))) (SectionRest 0 K)) (pending_brackets n (b ∷ r)) r es rest in
+      let d = both (Char 93 ∷ []) (map Char (pending_brackets n (b ∷ []))) (SectionRest 0 K) r es in
       (λ h. d.0 (c.0 (a.0 h)), λ h. a.1 (c.1 (d.1 h)))
 
-  pub section_two : (b : ℕ) (r : List ℕ) (es : List Mark) → b ≢ 93 → b ≢ 62 → SectionRest 0 K (93 ∷ 93 ∷ b ∷ r) es ↔ Saying (map Char (93 ∷ 93 ∷ b ∷ [])) (SectionRest 0 K) r es
-  section_two b r es n m =
-      let a = section_char 0 93 (93 ∷ b ∷ r) es (λ l. absurd (omega arith)) (λ w. let e = w.text in m (cc)) in
-      let a2 = under (Char 93 ∷ []) (SectionRest 1 K) (Saying (Char 93 ∷ []) (SectionRest 2 K)) (93 ∷ b ∷ r) (b ∷ r) es (λ fs. section_char 1 93 (b ∷ r) fs (λ l. absurd (omega arith)) (λ w. let e = w.text in n (cc))) in
-      let d2 = both (Char 93 ∷ []) (Char 93 ∷ []) (SectionRest 2 K) (b ∷ r) es in
-      let c = under (Char 93 ∷ Char 93 ∷ []) (SectionRest 2 K) (Saying (Char b ∷ []) (SectionRest 0 K)) (b ∷ r) r es (λ fs. section_2 b r fs n m) in
-      let d = both (Char 93 ∷ Char 93 ∷ []) (Char b ∷ []) (SectionRest 0 K) r es in
-      (λ h. d.0 (c.0 (d2.0 (a2.0 (a.0 h)))), λ h. a.1 (a2.1 (d2.1 (c.1 (d.1 h)))))
+  pub section_run : (n b : ℕ) (r : List ℕ) (es : List Mark) → n ≤ 2 → b ≢ 93 → (2 ≤ n → b ≢ 62) → SectionRest 0 K (pending_brackets n (b ∷ r)) es ↔ Saying (map Char (pending_brackets n (b ∷ []))) (SectionRest 0 K) r es
+  section_run zero b r es l nb ng = last_run 0 b r es nb (λ h. absurd (omega arith))
+  section_run (suc zero) b r es l nb ng = bracket_run 0 0 b r es (λ w. let e = w.text in nb (cc)) (λ fs. last_run 1 b r fs nb (λ h. absurd (omega arith)))
+  section_run (suc (suc zero)) b r es l nb ng = bracket_run 1 0 b r es (λ w. let e = w.text in ng (omega arith) (cc)) (λ fs. bracket_run 0 1 b r fs (λ w. let e = w.text in nb (cc)) (λ gs. last_run 2 b r gs nb ng))
+  section_run (suc (suc (suc n))) b r es l nb ng = absurd (omega arith)
 
   -- a third `]`
   fewer : (r : List ℕ) (es : List Mark) (run : List ℕ) → IsSectionText 1 run → (y : List ℕ) → 93 ∷ 93 ∷ r ≡ run ++ y → E run y es → SectionRest 0 K (93 ∷ 93 ∷ r) es

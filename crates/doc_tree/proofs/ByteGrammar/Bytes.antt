@@ -48,6 +48,3 @@ part_high parts.Local c cs h = char_high c h.0
 pub some_run : (p : Part) → (run : List ℕ) × IsNameRest p run
 some_run parts.Colon = (97 ∷ [], (inl (inr (omega arith, omega arith)), tt))
 some_run _ = ([], tt)
-
-pub next_high : (p q : Part) (c : ℕ) → ((run : List ℕ) → IsNameRest p (c ∷ run) ↔ IsNameRest q run) → IsHigh c
-next_high p q c f = let s = some_run q in part_high p c s.0 ((f s.0).1 s.1)

@@ -3,7 +3,7 @@ use Rattle.doc_tree.proofs.Words.{AttributeValue, Between, BodyRest, EqualsRest,
 use Rattle.doc_tree.specs.declared.names.Part.TheVariants as parts
 use Rattle.doc_tree.proofs.ByteGrammar.Spans.{then_over, then_here, then_next, then_back, then_map, spaces_more, spaces_over, word_first, word_last, quoted_first, quoted_back}
 use Rattle.doc_tree.proofs.ByteGrammar.Tags.{tag_plain, body_begins, body_space}
-use Rattle.doc_tree.proofs.ByteGrammar.Bytes.{IsHigh, high_not_space, next_high, not_space, quote_range, space_low, start_range}
+use Rattle.doc_tree.proofs.ByteGrammar.Bytes.{IsHigh, high_not_space, not_space, part_high, quote_range, some_run, space_low, start_range}
 
 module _ (K : ℕ → List ℕ → List Mark → Type 0) where
   pub equals_space : (b : ℕ) (r : List ℕ) (es : List Mark) → IsSpace b → EqualsRest K (b ∷ r) es ↔ EqualsRest K r es
@@ -28,7 +28,7 @@ module _ (K : ℕ → List ℕ → List Mark → Type 0) where
 module _ (L : List ℕ → List ℕ → List Mark → Type 0) (n : List ℕ) where
   pub name_next : (p q : Part) (b : ℕ) (r : List ℕ) (es : List Mark) → ((run : List ℕ) → IsNameRest p (b ∷ run) ↔ IsNameRest q run) → ((m x : List ℕ) (fs : List Mark) → IsHigh b → L m (b ∷ x) fs → ⊥) → Then (IsNameRest p) (λ run. L (n ++ run)) (b ∷ r) es ↔ Then (IsNameRest q) (λ run. L ((n ++ (b ∷ [])) ++ run)) r es
   name_next p q b r es f g = (
-    λ h. then_map (IsNameRest q) (IsNameRest q) (λ run. L (n ++ (b ∷ run))) (λ run. L ((n ++ (b ∷ [])) ++ run)) (λ run i. i) (λ run x fs k. subst (λ z. L z x fs) (sym (append_assoc n (b ∷ []) run)) k) r es (then_next (IsNameRest p) (IsNameRest q) (λ run. L (n ++ run)) b r es (λ run. (f run).0) (λ i k. g (n ++ []) r es (next_high p q b f) k) h),
+    λ h. then_map (IsNameRest q) (IsNameRest q) (λ run. L (n ++ (b ∷ run))) (λ run. L ((n ++ (b ∷ [])) ++ run)) (λ run i. i) (λ run x fs k. subst (λ z. L z x fs) (sym (append_assoc n (b ∷ []) run)) k) r es (then_next (IsNameRest p) (IsNameRest q) (λ run. L (n ++ run)) b r es (λ run. (f run).0) (λ i k. g (n ++ []) r es (let s = some_run q in part_high p b s.0 ((f s.0).1 s.1)) k) h),
     λ h. then_back (IsNameRest p) (IsNameRest q) (λ run. L (n ++ run)) b r es (λ run. (f run).1) (then_map (IsNameRest q) (IsNameRest q) (λ run. L ((n ++ (b ∷ [])) ++ run)) (λ run. L (n ++ (b ∷ run))) (λ run i. i) (λ run x fs k. subst (λ z. L z x fs) (append_assoc n (b ∷ []) run) k) r es h),
   )
 

@@ -39,9 +39,6 @@ field_printable fields.Version = printable_text (field_name fields.Version) refl
 field_printable fields.Encoding = printable_text (field_name fields.Encoding) refl
 field_printable fields.Standalone = printable_text (field_name fields.Standalone) refl
 
-pub word_printable : (g : Field) (word : List ℕ) → field_name g ≡ first_letter g ∷ word → Each IsPrintable word
-word_printable g word e = (subst (Each IsPrintable) e (field_printable g)).1
-
 -- the innermost name
 pub first_printable : (names : List (List ℕ)) (n : List ℕ) (rest : List (List ℕ)) → names ≡ n ∷ rest → ArePrintable names → Each IsPrintable n × ArePrintable rest
 first_printable names n rest e h = subst ArePrintable e h

@@ -7,7 +7,7 @@ use Rattle.doc_tree.specs.declared.machine.Round.TheVariants as rounds
 use Rattle.doc_tree.specs.declared.machine.Place.TheVariants as places
 use Rattle.doc_tree.proofs.MachineSteps.Moves.{moves, moves_at, follows_saying, stays}
 use Rattle.doc_tree.proofs.MachineSteps.Steps.{at_byte, at_place}
-use Rattle.doc_tree.proofs.ByteGrammar.{after_round, before_round, content_bang, content_dash, content_question, first_declares, first_instructs, first_over_high, marked_question, name_first, name_next, name_none, name_over, no_type, pi_over_high, round_bang, round_dash, round_question, section_end, section_none, section_one, section_three, section_two}
+use Rattle.doc_tree.proofs.ByteGrammar.{after_round, before_round, content_bang, content_dash, content_question, first_declares, first_instructs, first_over_high, marked_question, name_first, name_next, name_none, name_over, no_type, pi_over_high, round_bang, round_dash, round_question, section_end, section_run, section_three}
 
 -- behind `<!` and `<?`, wherever they stand
 module _ (u : Terms) where
@@ -74,13 +74,13 @@ section_third s marks kept e k n p g =
 pub section_said : (s : State) (b : ℕ) (marks : List Mark) (kept : List Attribute) → marks ≡ s.marks ++ map Char (b ∷ []) → InElement s.names kept → s.count ≡ 0 → s.place ≡ places.Section → b ≢ 93 → FollowsByte s.marks (RestsAt places.Section s) b (record s { kept = kept; marks = marks })
 section_said s b marks kept e k c p n =
     let t : State = record s { kept = kept; marks = marks } in
-    at_count s 0 b t c (follows_saying s.marks (map Char (b ∷ [])) (S s 0) (S s 0) b t (λ u d x es. section_none (Insides 0 s.names u) b x es n) (subst (λ z. ReachesState z (S s 0) t) e (section_here t 0 p c (omega arith) k)))
+    at_count s 0 b t c (follows_saying s.marks (map Char (b ∷ [])) (S s 0) (S s 0) b t (λ u d x es. section_run (Insides 0 s.names u) 0 b x es (omega arith) n (λ h. absurd (omega arith))) (subst (λ z. ReachesState z (S s 0) t) e (section_here t 0 p c (omega arith) k)))
 
 pub section_said_one : (s : State) (b : ℕ) (marks : List Mark) (kept : List Attribute) → marks ≡ s.marks ++ map Char (93 ∷ b ∷ []) → InElement s.names kept → s.count ≡ 1 → s.place ≡ places.Section → b ≢ 93 → FollowsByte s.marks (RestsAt places.Section s) b (record s { count = 0; kept = kept; marks = marks })
-section_said_one s b marks kept e k c p n = says_on s 1 0 b (93 ∷ b ∷ []) marks kept c (omega arith) e k p (λ u x es. section_one (Insides 0 s.names u) b x es n)
+section_said_one s b marks kept e k c p n = says_on s 1 0 b (93 ∷ b ∷ []) marks kept c (omega arith) e k p (λ u x es. section_run (Insides 0 s.names u) 1 b x es (omega arith) n (λ h. absurd (omega arith)))
 
 pub section_said_two : (s : State) (b : ℕ) (marks : List Mark) (kept : List Attribute) → marks ≡ s.marks ++ map Char (93 ∷ 93 ∷ b ∷ []) → InElement s.names kept → s.count ≡ 2 → s.place ≡ places.Section → b ≢ 93 → b ≢ 62 → FollowsByte s.marks (RestsAt places.Section s) b (record s { count = 0; kept = kept; marks = marks })
-section_said_two s b marks kept e k c p n m = says_on s 2 0 b (93 ∷ 93 ∷ b ∷ []) marks kept c (omega arith) e k p (λ u x es. section_two (Insides 0 s.names u) b x es n m)
+section_said_two s b marks kept e k c p n m = says_on s 2 0 b (93 ∷ 93 ∷ b ∷ []) marks kept c (omega arith) e k p (λ u x es. section_run (Insides 0 s.names u) 2 b x es (omega arith) n (λ h. m))
 
 -- the first byte of an instruction's name
 pub question_goes : (s : State) (to : Place) (b : ℕ) (name : List ℕ) → name ≡ b ∷ [] → QuestionAt s to → IsNameStart b → FollowsByte s.marks (RestsAt s.place s) b (record s { name = name; place = to })

@@ -8,12 +8,9 @@ module _ (u : Terms) where
   ends_first fields.Before b r es h = absurd h
   ends_first _ b r es h = (word_first (Before u) 63 (62 ∷ []) b r es h).0
 
-  ends_both : (r : List ℕ) (es : List Mark) → EndsDeclaration u (63 ∷ r) es ↔ Word (62 ∷ []) (Before u) r es
-  ends_both r es = (λ h. (word_first (Before u) 63 (62 ∷ []) 63 r es h).1, λ h. word_back (Before u) 63 (62 ∷ []) r es h)
-
   pub ends_next : (f : Field) (r : List ℕ) (es : List Mark) → f ≢ fields.Before → EndsBehind f u (63 ∷ r) es ↔ Word (62 ∷ []) (Before u) r es
   ends_next fields.Before r es n = absurd (n refl)
-  ends_next _ r es n = ends_both r es
+  ends_next _ r es n = (λ h. (word_first (Before u) 63 (62 ∷ []) 63 r es h).1, λ h. word_back (Before u) 63 (62 ∷ []) r es h)
 
   ends_space : (f : Field) (b : ℕ) (r : List ℕ) (es : List Mark) → IsSpace b → EndsBehind f u (b ∷ r) es → ⊥
   ends_space f b r es s h = let l = space_low b s in let e = ends_first f b r es h in omega arith
@@ -104,9 +101,6 @@ module _ (u : Terms) where
   no_quote : (q : ℕ) → IsQuote q → IsEncodingChar q → ⊥
   no_quote q i h = grind arith
 
-  value_quote : (f : Field) (v : List ℕ) (q : ℕ) (run : List ℕ) → IsQuote q → IsFieldValue u.aim f (v ++ (q ∷ run)) → ⊥
-  value_quote f v q run i h = no_quote q i (each_right IsEncodingChar v (q ∷ run) (field_each f (v ++ (q ∷ run)) h)).0
-
   module _ (f : Field) (K : List ℕ → List Mark → Type 0) (v : List ℕ) (q : ℕ) where
     abbrev P : List ℕ → Type 0
     P more = IsFieldValue u.aim f (v ++ more)
@@ -130,7 +124,7 @@ module _ (u : Terms) where
     )
 
     value_done : (r : List ℕ) (es : List Mark) → IsQuote q → FieldValue u f K v q (q ∷ r) es → P [] × Word (q ∷ []) (Valued u f K (v ++ [])) (q ∷ r) es
-    value_done r es i h = then_over P L q r es (λ run k. value_quote f v q run i k) h
+    value_done r es i h = then_over P L q r es (λ run k. no_quote q i (each_right IsEncodingChar v (q ∷ run) (field_each f (v ++ (q ∷ run)) k)).0) h
 
     -- the same without the nothing behind
     pub value_valued : (r : List ℕ) (es : List Mark) → IsQuote q → FieldValue u f K v q (q ∷ r) es → Valued u f K v r es

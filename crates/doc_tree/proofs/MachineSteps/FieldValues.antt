@@ -1,7 +1,6 @@
 -- How the value of a field may go on.
-use Rattle.element_tree.proofs.XmlTexts.{each_append}
 use Rattle.doc_tree.proofs.ByteGrammar.{each_last, some_each}
-use Rattle.doc_tree.proofs.Words.{Aim, Each, EncodingNext, Field, IsDigit, IsEncodingChar, IsFieldValue, IsNextField, IsValueBegun, IsYesOrNo, List, Some1, VersionNext, WordNext, [], any, ap, append-nil, arith, inl, inr, length, refl, subst, sym, ℕ, ◌++◌, ◌↔◌, ◌∙◌, ◌∷◌, ◌≡◌, ◌≢◌}
+use Rattle.doc_tree.proofs.Words.{Aim, Each, EncodingNext, Field, IsDigit, IsEncodingChar, IsFieldValue, IsNextField, IsValueBegun, IsYesOrNo, List, Some1, VersionNext, WordNext, [], any, ap, append-nil, arith, inl, inr, length, refl, subst, sym, ℕ, ◌++◌, ◌↔◌, ◌∙◌, ◌∷◌, ◌≡◌, ◌≢◌, each_append}
 use Rattle.doc_tree.specs.declared.declaration.Field.TheVariants as fields
 
 -- a value that may stand where an encoding is asked for may stand where none is

@@ -3,8 +3,9 @@ use Rattle.doc_tree.proofs.Words.{ArePrintable, Attribute, AttributeValue, Behin
 use Rattle.doc_tree.specs.declared.machine.Goal.TheVariants as goals
 use Rattle.doc_tree.specs.declared.names.Part.TheVariants as parts
 use Rattle.doc_tree.specs.declared.machine.Place.TheVariants as places
+use Rattle.doc_tree.proofs.Behind.{good_reference, in_reference}
 use Rattle.doc_tree.proofs.MachineSteps.FieldValues.{begun_nothing, next_not_before}
-use Rattle.doc_tree.proofs.ByteGrammar.{content_char, content_end, content_tag, content_tag_from, equals_sign, equals_space, equals_stuck, first_printable, first_tag, numeral_digit, quote_over, quote_space, quote_stuck, ref_hash, ref_x, spaces_more, spaces_over, start_printable, word_over, word_printable}
+use Rattle.doc_tree.proofs.ByteGrammar.{content_char, content_end, content_tag, content_tag_from, equals_sign, equals_space, equals_stuck, field_printable, first_printable, first_tag, numeral_digit, quote_over, quote_space, quote_stuck, ref_hash, ref_x, spaces_more, spaces_over, start_printable, word_over}
 use Rattle.doc_tree.proofs.MachineSteps.Moves.{moves, moves_at, moves_word, follows_from, follows_saying, stays}
 use Rattle.doc_tree.proofs.MachineSteps.FieldSteps.{choice_not_space, choice_next, choice_ends}
 
@@ -55,23 +56,17 @@ at_byte before A b d new e h = subst (λ z. FollowsByte before A z new) (sym e) 
 pub stuck_at : (A : Terms → List ℕ → List Mark → Type 0) (b d : ℕ) → b ≡ d → Stuck A d → Stuck A b
 stuck_at A b d e h = subst (λ z. Stuck A z) (sym e) h
 
--- in what a reference stands in nothing else has a say
-behind_word : (u : Terms) (v : Bool) (s : State) (chars word x : List ℕ) (es : List Mark) (n : ℕ) → Word word (Behind v s u chars) x es ↔ Word word (Behind v (record s { place = places.Word; left = word; goal = goals.Entity; number = n }) u chars) x es
-behind_word u true s chars word x es n = (λ h. record { behind = h.behind; text = h.text; after = h.after }, λ h. record { behind = h.behind; text = h.text; after = h.after })
-behind_word u false s chars word x es n = (λ h. record { behind = h.behind; text = h.text; after = h.after }, λ h. record { behind = h.behind; text = h.text; after = h.after })
-
+-- what holds in what a reference stands in
 good_same : (v : Bool) (s : State) (p : Place) (w : List ℕ) (g : Goal) (n r : ℕ) → GoodReference v s → GoodReference v (record s { place = p; left = w; goal = g; number = n; radix = r })
-good_same true s p w g n r h = h
-good_same false s p w g n r h = h
+good_same v s p w g n r h = subst (λ z. z) (sym (good_reference v s p w g n r s.marks)) h
 
 -- an entity
 entity_any : (before : List ℕ) (s : State) (b : ℕ) (word : List ℕ) (char : ℕ) (new : State) → new ≡ record s { place = places.Word; left = word; goal = goals.Entity; number = char } → word ≢ [] → Each IsPrintable word → encode_utf8 char ≡ char ∷ [] → IsScalar char → GoodReference s.in_value s → ((K : List ℕ → List ℕ → List Mark → Type 0) (x : List ℕ) (es : List Mark) → RefRest K (before ++ (b ∷ x)) es ↔ Word word (K (char ∷ [])) x es) → FollowsByte s.marks (λ u x es. RefRest (Behind s.in_value s u) (before ++ x) es) b new
 entity_any before s b word char new e n w f i g h =
     let t : State = record s { place = places.Word; left = word; goal = goals.Entity; number = char } in
     subst (λ z. FollowsByte s.marks (λ u x es. RefRest (Behind s.in_value s u) (before ++ x) es) b z) (sym e) (moves s.marks (λ u x es. RefRest (Behind s.in_value s u) (before ++ x) es) b t refl (λ l h. h) (n, w, (good_same s.in_value s places.Word word goals.Entity char s.radix g, i)) (λ u l x es.
-    let k = h (Behind s.in_value s u) x es in let q = behind_word u s.in_value s (char ∷ []) word x es char in
-    let r : Word word (Behind s.in_value t u (char ∷ [])) x es ↔ Word word (Behind s.in_value t u (encode_utf8 char)) x es = (λ z. subst (λ cs. Word word (Behind s.in_value t u cs) x es) (sym f) z, λ z. subst (λ cs. Word word (Behind s.in_value t u cs) x es) f z) in
-    (λ z. r.0 (q.0 (k.0 z)), λ z. k.1 (q.1 (r.1 z)))))
+    let same = ap (λ k. k (encode_utf8 char)) (in_reference s.in_value s places.Word word goals.Entity char s.radix s.marks u) ∙ ap (Behind s.in_value s u) f in
+    subst (λ z. RefRest (Behind s.in_value s u) (before ++ (b ∷ x)) es ↔ Word word z x es) (sym same) (h (Behind s.in_value s u) x es)))
 
 pub entity_moves : (s : State) (b : ℕ) (word : List ℕ) (char : ℕ) (new : State) → new ≡ record s { place = places.Word; left = word; goal = goals.Entity; number = char } → word ≢ [] → Each IsPrintable word → encode_utf8 char ≡ char ∷ [] → IsScalar char → GoodReference s.in_value s → ((K : List ℕ → List ℕ → List Mark → Type 0) (x : List ℕ) (es : List Mark) → RefRest K (b ∷ x) es ↔ Word word (K (char ∷ [])) x es) → FollowsByte s.marks (RestsAt places.Ampersand s) b new
 entity_moves s b word char new e n w f i g h = entity_any [] s b word char new e n w f i g h
@@ -79,28 +74,12 @@ entity_moves s b word char new e n w f i g h = entity_any [] s b word char new e
 pub entity_moves_a : (s : State) (b : ℕ) (word : List ℕ) (char : ℕ) (new : State) → new ≡ record s { place = places.Word; left = word; goal = goals.Entity; number = char } → word ≢ [] → Each IsPrintable word → encode_utf8 char ≡ char ∷ [] → IsScalar char → GoodReference s.in_value s → ((K : List ℕ → List ℕ → List Mark → Type 0) (x : List ℕ) (es : List Mark) → RefRest K (97 ∷ b ∷ x) es ↔ Word word (K (char ∷ [])) x es) → FollowsByte s.marks (RestsAt places.AmpersandA s) b new
 entity_moves_a s b word char new e n w f i g h = entity_any (97 ∷ []) s b word char new e n w f i g h
 
--- in digits too
-behind_numeral : (u : Terms) (v : Bool) (s t : State) (radix n : ℕ) (x : List ℕ) (es : List Mark) → ((v : Bool) (cs y : List ℕ) (fs : List Mark) → Behind v s u cs y fs ↔ Behind v t u cs y fs) → NumeralRest radix n (Behind v s u) x es ↔ NumeralRest radix n (Behind v t u) x es
-behind_numeral u v s t radix n x es f = (
-  λ h. let w = h.after in record { run = h.run; is = h.is; behind = h.behind; text = h.text; after = record { behind = w.behind; text = w.text; after = (f v _ w.behind es).0 w.after } },
-  λ h. let w = h.after in record { run = h.run; is = h.is; behind = h.behind; text = h.text; after = record { behind = w.behind; text = w.text; after = (f v _ w.behind es).1 w.after } },
-)
-
-behind_digit : (u : Terms) (v : Bool) (s t : State) (radix n : ℕ) (x : List ℕ) (es : List Mark) → ((v : Bool) (cs y : List ℕ) (fs : List Mark) → Behind v s u cs y fs ↔ Behind v t u cs y fs) → DigitRest radix n (Behind v s u) x es ↔ DigitRest radix n (Behind v t u) x es
-behind_digit u v s t radix n x es f = (
-  λ h. let w = h.after in record { run = h.run; is = h.is; behind = h.behind; text = h.text; after = record { behind = w.behind; text = w.text; after = (f v _ w.behind es).0 w.after } },
-  λ h. let w = h.after in record { run = h.run; is = h.is; behind = h.behind; text = h.text; after = record { behind = w.behind; text = w.text; after = (f v _ w.behind es).1 w.after } },
-)
-
-behind_same : (u : Terms) (s : State) (p : Place) (n r : ℕ) (v : Bool) (cs y : List ℕ) (fs : List Mark) → Behind v s u cs y fs ↔ Behind v (record s { place = p; number = n; radix = r }) u cs y fs
-behind_same u s p n r true cs y fs = (λ h. h, λ h. h)
-behind_same u s p n r false cs y fs = (λ h. h, λ h. h)
-
+-- a number
 pub hash_x : (s : State) → GoodReference s.in_value s → FollowsByte s.marks (RestsAt places.Hash s) 120 (record s { place = places.NoDigit; number = 0; radix = 16 })
-hash_x s g = let t : State = record s { place = places.NoDigit; number = 0; radix = 16 } in moves s.marks (RestsAt places.Hash s) 120 t refl (λ l h. h) (inr refl, refl, good_same s.in_value s places.NoDigit s.left s.goal 0 16 g) (λ u l x es. let a = ref_x (Behind s.in_value s u) x es in let q = behind_numeral u s.in_value s t 16 0 x es (behind_same u s places.NoDigit 0 16) in (λ h. q.0 (a.0 h), λ h. a.1 (q.1 h)))
+hash_x s g = moves s.marks (RestsAt places.Hash s) 120 (record s { place = places.NoDigit; number = 0; radix = 16 }) refl (λ l h. h) (inr refl, refl, good_same s.in_value s places.NoDigit s.left s.goal 0 16 g) (λ u l x es. subst (λ k. RestsAt places.Hash s u (120 ∷ x) es ↔ NumeralRest 16 0 k x es) (sym (in_reference s.in_value s places.NoDigit s.left s.goal 0 16 s.marks u)) (ref_x (Behind s.in_value s u) x es))
 
 hash_both : (u : Terms) (s : State) (b : ℕ) (x : List ℕ) (es : List Mark) → b ≢ 120 → RestsAt places.Hash s u (b ∷ x) es ↔ InNumeral 10 0 (record s { number = 0; radix = 10 }) u (b ∷ x) es
-hash_both u s b x es n = let a = ref_hash (Behind s.in_value s u) b x es n in let q = behind_numeral u s.in_value s (record s { number = 0; radix = 10 }) 10 0 (b ∷ x) es (behind_same u s s.place 0 10) in (λ h. q.0 (a.0 h), λ h. a.1 (q.1 h))
+hash_both u s b x es n = subst (λ k. RestsAt places.Hash s u (b ∷ x) es ↔ NumeralRest 10 0 k (b ∷ x) es) (sym (in_reference s.in_value s s.place s.left s.goal 0 10 s.marks u)) (ref_hash (Behind s.in_value s u) b x es n)
 
 pub hash_to : (u : Terms) (s : State) (b : ℕ) (x : List ℕ) (es : List Mark) → b ≢ 120 → RestsAt places.Hash s u (b ∷ x) es → InNumeral 10 0 (record s { number = 0; radix = 10 }) u (b ∷ x) es
 hash_to u s b x es n h = (hash_both u s b x es n).0 h
@@ -112,8 +91,7 @@ pub digit_moves : (s : State) (b d n : ℕ) → d ≡ digit_value b → n ≡ s.
 digit_moves s b d n e f l m i g = let t : State = record s { number = n; place = places.Digit } in moves s.marks (InNumeral s.radix s.number s) b t refl (λ l h. h) (i, m, good_same s.in_value s places.Digit s.left s.goal n s.radix g) (λ u o x es.
     let k = numeral_digit s.radix s.number (Behind s.in_value s u) b x es (subst (λ z. z < s.radix) e l) in
     let j : s.number * s.radix + digit_value b ≡ n = ap (λ z. s.number * s.radix + z) (sym e) ∙ sym f in
-    let q = behind_digit u s.in_value s t s.radix n x es (behind_same u s places.Digit n s.radix) in
-    (λ h. q.0 (subst (λ z. DigitRest s.radix z (Behind s.in_value s u) x es) j (k.0 h)), λ h. k.1 (subst (λ z. DigitRest s.radix z (Behind s.in_value s u) x es) (sym j) (q.1 h))))
+    subst (λ z. InNumeral s.radix s.number s u (b ∷ x) es ↔ DigitRest s.radix n z x es) (sym (in_reference s.in_value s places.Digit s.left s.goal n s.radix s.marks u)) (subst (λ z. InNumeral s.radix s.number s u (b ∷ x) es ↔ DigitRest s.radix z (Behind s.in_value s u) x es) j k))
 
 pub at_here : (t : State) → t.place ≡ places.Content → InElement t.names t.kept → ReachesState t.marks (Insides t.count t.names) t
 at_here t p g = stays t.marks (Insides t.count t.names) t refl (λ h. subst (λ z. IsInMark z t.goal) p h) (at_place (λ z. Good z t) t.place places.Content p g) (λ u l x es. at_place (λ z. Insides t.count t.names u x es ↔ RestsAt z t u x es) t.place places.Content p (λ h. h, λ h. h))
@@ -158,7 +136,7 @@ pub space_stays : (s : State) (b : ℕ) → s.place ≡ places.FieldSpace → Ou
 space_stays s b p o i = moves_at s.marks (RestsAt places.FieldSpace s) b s places.FieldSpace p refl (λ l h. h) o (λ u l x es. spaces_more (Choice s.field u) b x es i (λ k. choice_not_space u s.field b x es i k))
 
 pub field_moves : (s : State) (b : ℕ) (g : Field) (word : List ℕ) (new : State) → new ≡ record s { field = g; place = places.Word; left = word; goal = goals.Field } → Outer s → (IsSpace b → ⊥) → IsNextField s.field g × (b ≡ first_letter g) → field_name g ≡ first_letter g ∷ word → word ≢ [] → FollowsByte s.marks (RestsAt places.FieldSpace s) b new
-field_moves s b g word new q o n i e m = moves_word s.marks (RestsAt places.FieldSpace s) b (record s { field = g }) goals.Field word new q refl (λ l h. h) m (word_printable g word e) (o, next_not_before s.field g i.0) (λ u l x es.
+field_moves s b g word new q o n i e m = moves_word s.marks (RestsAt places.FieldSpace s) b (record s { field = g }) goals.Field word new q refl (λ l h. h) m ((subst (Each IsPrintable) e (field_printable g)).1) (o, next_not_before s.field g i.0) (λ u l x es.
     let a = spaces_over (Choice s.field u) b x es n in
     let c = subst (λ z. Choice s.field u (z ∷ x) es ↔ Word word (FieldOver u g (Gap g u)) x es) (sym i.1) (choice_next u s.field g word x es i.0 e) in
     (λ h. c.0 (a.0 h), λ h. a.1 (c.1 h)))

@@ -48,9 +48,6 @@ module _ {K : Type 0} (bytes : K → List ℕ) where
   finds name (k ∷ keys) (inl e) = ap (λ z. z || list_any (test name) keys) (is_eq-slice_cmp name (bytes k) ∙ (bytes_eq-Decides name (bytes k)).1 e)
   finds name (k ∷ keys) (inr h) = ap (λ z. test name k || z) (finds name keys h) ∙ or_true (test name k)
 
-  same_by : (key k : K) → Equal ≡ order key k → bytes key ≡ bytes k
-  same_by key k e = (bytes_eq-Decides (bytes key) (bytes k)).0 (sym (is_eq-slice_cmp (bytes key) (bytes k)) ∙ ap is_eq (sym e))
-
   put_by : (key k : K) (keys : List K) (o : Ordering) → o ≡ order key k → AreSameNames (map bytes (insert_key order keys key)) (map bytes keys ++ (bytes key ∷ [])) → AreSameNames (map bytes (match_ordering o (key ∷ k ∷ keys) (k ∷ keys) (k ∷ insert_key order keys key))) (map bytes (k ∷ keys) ++ (bytes key ∷ []))
   put_by key k keys Less e more = λ n. (
     (λ h. elim h [ inl q ↦ among_last n (bytes key) (map bytes (k ∷ keys)) q | inr q ↦ among_first n (bytes key) (map bytes (k ∷ keys)) q ]),
@@ -58,7 +55,7 @@ module _ {K : Type 0} (bytes : K → List ℕ) where
   )
   put_by key k keys Equal e more = λ n. (
     (λ h. among_first n (bytes key) (map bytes (k ∷ keys)) h),
-    (λ h. elim (among_either n (bytes key) (map bytes (k ∷ keys)) h) [ inl q ↦ q | inr q ↦ inl (q ∙ same_by key k e) ]),
+    (λ h. elim (among_either n (bytes key) (map bytes (k ∷ keys)) h) [ inl q ↦ q | inr q ↦ inl (q ∙ ((bytes_eq-Decides (bytes key) (bytes k)).0 (sym (is_eq-slice_cmp (bytes key) (bytes k)) ∙ ap is_eq (sym e)))) ]),
   )
   put_by key k keys Greater e more = λ n. (
     (λ h. elim h [ inl q ↦ inl q | inr q ↦ inr ((more n).0 q) ]),

@@ -2,6 +2,7 @@
 use Rattle.doc_tree.proofs.Words.{After, Attribute, Behind, BehindReference, BehindValue, Bool, Char, Completes, FollowsByte, Goal, Good, GoodGoal, GoodReference, GoodTag, HoldsKey, InElement, Insides, IsFixed, IsInMark, List, Mark, Place, ReachesGoal, ReachesState, RestsAt, State, Terms, Word, [], ap, append-nil, arith, cond, drop, drop-cons, encode_utf8, false, get_or, inl, inr, is_kept, keep, length, map, misc_over, refl, subst, sym, true, ℕ, ◌++◌, ◌+◌, ◌<◌, ◌↔◌, ◌∙◌, ◌∷◌, ◌≡◌, ◌≢◌}
 use Rattle.doc_tree.specs.declared.machine.Goal.TheVariants as goals
 use Rattle.doc_tree.specs.declared.machine.Place.TheVariants as places
+use Rattle.doc_tree.proofs.Behind.{good_goal, in_goal}
 use Rattle.doc_tree.proofs.MachineSteps.Moves.{moves_at, follows_reached, reached_from, reached_saying, stays}
 use Rattle.doc_tree.proofs.ByteGrammar.{word_back, word_first, word_last}
 use Rattle.doc_tree.proofs.MachineSteps.Steps.{at_here}
@@ -29,32 +30,15 @@ fixed_high goals.Marked b left n (inr e) l h = n (cc)
 fixed_high _ b left n f l h = h
 
 -- a fixed text
-pub word_stays : (s : State) (b : ℕ) (left : List ℕ) → s.left ≡ b ∷ left → left ≢ [] → s.place ≡ places.Word → IsFixed s.goal s.left → GoodGoal s.goal (record s { left = left }) → ((u : Terms) (x : List ℕ) (es : List Mark) → ReachesGoal s.goal s u x es ↔ ReachesGoal s.goal (record s { left = left }) u x es) → FollowsByte s.marks (RestsAt places.Word s) b (record s { left = left })
-word_stays s b left e n p i k f =
+pub word_goes : (s : State) (b : ℕ) (left : List ℕ) → s.left ≡ b ∷ left → left ≢ [] → s.place ≡ places.Word → IsFixed s.goal s.left → GoodGoal s.goal s → FollowsByte s.marks (RestsAt places.Word s) b (record s { left = left })
+word_goes s b left e n p i g =
     let t : State = record s { left = left } in
-    moves_at s.marks (RestsAt places.Word s) b t places.Word p refl (fixed_high s.goal b left n (subst (IsFixed s.goal) e i)) (n, fixed_left s.goal b left n (subst (IsFixed s.goal) e i), k) (λ u d x es. subst (λ z. Word z (ReachesGoal s.goal s u) (b ∷ x) es ↔ Word left (ReachesGoal s.goal t u) x es) (sym e) (
-      (λ h. let w = (word_first (ReachesGoal s.goal s u) b left b x es h).1 in record { behind = w.behind; text = w.text; after = (f u w.behind es).0 w.after }),
-      (λ h. word_back (ReachesGoal s.goal s u) b left x es (record { behind = h.behind; text = h.text; after = (f u h.behind es).1 h.after })),
-    ))
+    let f : IsFixed s.goal (b ∷ left) = subst (IsFixed s.goal) e i in
+    moves_at s.marks (RestsAt places.Word s) b t places.Word p refl (fixed_high s.goal b left n f) (n, fixed_left s.goal b left n f, subst (λ z. z) (sym (good_goal s.goal s left s.marks)) g) (λ u d x es.
+    subst (λ z. Word z (ReachesGoal s.goal s u) (b ∷ x) es ↔ Word left (ReachesGoal s.goal t u) x es) (sym e) (subst (λ k. Word (b ∷ left) (ReachesGoal s.goal s u) (b ∷ x) es ↔ Word left k x es) (sym (in_goal s.goal s left s.marks u)) (λ h. (word_first (ReachesGoal s.goal s u) b left b x es h).1, λ h. word_back (ReachesGoal s.goal s u) b left x es h)))
 
 pub word_ends : (s : State) (b : ℕ) (new : State) → s.left ≡ b ∷ [] → ReachesState s.marks (ReachesGoal s.goal s) new → FollowsByte s.marks (RestsAt places.Word s) b new
 word_ends s b new e r = follows_reached s.marks (RestsAt places.Word s) (ReachesGoal s.goal s) b new (λ u d x es. subst (λ z. Word z (ReachesGoal s.goal s u) (b ∷ x) es ↔ ReachesGoal s.goal s u x es) (sym e) (word_last (ReachesGoal s.goal s u) b x es)) r
-
--- what a goal asks for doesn't depend on how much of the text is left
-pub reaches_same : (g : Goal) (s : State) (left : List ℕ) (u : Terms) (x : List ℕ) (es : List Mark) → ReachesGoal g s u x es ↔ ReachesGoal g (record s { left = left }) u x es
-reaches_same goals.Marked s left u x es = (λ h. h, λ h. h)
-reaches_same goals.Comment s left u x es = (λ h. h, λ h. h)
-reaches_same goals.Section s left u x es = (λ h. h, λ h. h)
-reaches_same goals.Around s left u x es = (λ h. h, λ h. h)
-reaches_same goals.Field s left u x es = (λ h. h, λ h. h)
-reaches_same goals.Prolog s left u x es = (λ h. h, λ h. h)
-reaches_same goals.EmptyTag s left u x es = (λ h. h, λ h. h)
-reaches_same goals.EndName s left u x es = (λ h. h, λ h. h)
-reaches_same goals.Entity s left u x es = behind_left u s.in_value s left (encode_utf8 s.number) x es
-  where
-    behind_left : (u : Terms) (v : Bool) (s : State) (left cs x : List ℕ) (es : List Mark) → Behind v s u cs x es ↔ Behind v (record s { left = left }) u cs x es
-    behind_left u true s left cs x es = (λ h. h, λ h. h)
-    behind_left u false s left cs x es = (λ h. h, λ h. h)
 
 -- a reference to a number
 pub attribute_done : (s t new : State) → GoodTag s → t.kept ≡ keep s.key s.value s.kept → s.marks ≡ t.marks → t ≡ record s { kept = t.kept; marks = t.marks } → HoldsKey t new → ReachesState s.marks (BehindValue s s.value) new
@@ -80,25 +64,6 @@ finish_whole s e u says = (
   (λ q. let a : After u [] [] = record { misc = misc_over; text = refl; says = refl } in record { later = []; whole = q ∙ sym (append-nil s.marks); rest = subst (λ z. RestsAt z s u [] []) (sym e) a }),
 )
 
--- the goal's own condition doesn't either
-goal_same : (g : Goal) (s : State) (left : List ℕ) → GoodGoal g s → GoodGoal g (record s { left = left })
-goal_same goals.Marked s left h = h
-goal_same goals.Comment s left h = h
-goal_same goals.Section s left h = h
-goal_same goals.Around s left h = h
-goal_same goals.Field s left h = h
-goal_same goals.Prolog s left h = h
-goal_same goals.EmptyTag s left h = h
-goal_same goals.EndName s left h = h
-goal_same goals.Entity s left h = (value_same s.in_value s left h.0, h.1)
-  where
-    value_same : (v : Bool) (s : State) (left : List ℕ) → GoodReference v s → GoodReference v (record s { left = left })
-    value_same true s left h = h
-    value_same false s left h = h
-
-pub word_goes : (s : State) (b : ℕ) (left : List ℕ) → s.left ≡ b ∷ left → left ≢ [] → s.place ≡ places.Word → IsFixed s.goal s.left → GoodGoal s.goal s → FollowsByte s.marks (RestsAt places.Word s) b (record s { left = left })
-word_goes s b left e n p i g = word_stays s b left e n p i (goal_same s.goal s left g) (λ u x es. reaches_same s.goal s left u x es)
-
 pub left_at : (ws : List ℕ) (m x b : ℕ) → m < length ws → x ≡ get_or ws m x → x ≡ b → drop m ws ≡ b ∷ drop (m + 1) ws
 left_at ws m x b l e q = drop_at ws m x l e ∙ ap (λ z. z ∷ drop (m + 1) ws) q
 
@@ -106,4 +71,4 @@ pub drop_some : (xs : List ℕ) (i : ℕ) → i < length xs → drop i xs ≢ []
 drop_some xs i l e = let d = drop-cons xs i 0 l in cc
 
 pub word_reaches : (s : State) (b : ℕ) (left : List ℕ) (new : State) → s.left ≡ b ∷ left → left ≡ [] → ReachesState s.marks (ReachesGoal s.goal (record s { left = left })) new → FollowsByte s.marks (RestsAt places.Word s) b new
-word_reaches s b left new e n r = word_ends s b new (e ∙ ap (λ z. b ∷ z) n) (reached_from s.marks (ReachesGoal s.goal s) (ReachesGoal s.goal (record s { left = left })) new (λ u d x es. reaches_same s.goal s left u x es) r)
+word_reaches s b left new e n r = word_ends s b new (e ∙ ap (λ z. b ∷ z) n) (reached_from s.marks (ReachesGoal s.goal s) (ReachesGoal s.goal (record s { left = left })) new (λ u d x es. subst (λ k. k x es ↔ ReachesGoal s.goal (record s { left = left }) u x es) (in_goal s.goal s left s.marks u) (λ h. h, λ h. h)) r)

@@ -9,9 +9,6 @@ behind_comment K comment_over x es h = (word_last K 62 x es).0 ((comment_end K (
 behind_comment K (comment_plain c o t) x es h = behind_comment K t x es ((comment_plain_byte K c (comment_text t x) es o).0 h)
 behind_comment K (comment_dash c o t) x es h = behind_comment K t x es ((comment_dash_byte K c (comment_text t x) es o).0 h)
 
-pub comment_same : (t u : Comment) (x y : List ℕ) → comment_text t x ≡ comment_text u y → x ≡ y
-comment_same t u x y e = behind_comment (λ z fs. z ≡ y) t x [] (record { comment = u; behind = y; text = e; after = refl })
-
 -- an instruction's text
 text_end : (b x y : List ℕ) → IsInstructionText b → 63 ∷ 62 ∷ x ≡ b ++ (63 ∷ 62 ∷ y) → x ≡ y
 text_end b x y i e =

@@ -1,6 +1,6 @@
 -- What content says is found from the text.
 use Rattle.doc_tree.proofs.Words.{Attribute, Body, BodyRest, Char, CommentRest, Content, Each, EndRest, Finish, Inside, IsBodyFit, IsQName, IsSpace, List, Mark, RefRest, Saying, SectionRest, Start, Tag, TagRest, Then, Word, [], ap, append_cancel_left, arith, attribute_list, attributes_text, body_marks, body_text, brackets, char, closed, comment, comment_text, content_marks, content_text, empty, end_text, inl, inr, instruction, instruction_text, local_part, map, nested, nothing, opened, reference, reference_chars, reference_text, refl, section, subst, sym, tag_text, ℕ, ◌++◌, ◌-◌, ◌∙◌, ◌∷◌, ◌≡◌}
-use Rattle.doc_tree.proofs.ByteGrammar.{LessCases, end_to, inside_amp, inside_char_to, inside_dash, inside_less, inside_question, inside_square, not_space, start_range, tag_to, word_last}
+use Rattle.doc_tree.proofs.ByteGrammar.{LessCases, body_close, body_open, end_to, inside_amp, inside_char_to, inside_dash, inside_less, inside_question, inside_square, not_space, start_range, tag_to, word_last}
 use Rattle.doc_tree.proofs.OneDocument.Spans.{spaces_same}
 use Rattle.doc_tree.proofs.OneDocument.References.{reference_same}
 use Rattle.doc_tree.proofs.OneDocument.Tags.{IsTagEnd, tag_same}
@@ -23,22 +23,11 @@ module _ (room : ℕ) (K : List ℕ → List Mark → Type 0) where
       subst (λ z. BodyRest room tag.name (attribute_list tag.attributes) K z es) (sym same.2) (subst (λ z. BodyRest room tag.name z K r.behind es) (sym same.1) (subst (λ z. BodyRest room z (attribute_list r.attributes) K r.behind es) (sym same.0) b))
 
   module _ (name : List ℕ) (kept : List Attribute) where
-    closed_to : (x : List ℕ) (es : List Mark) (body : Body) (y : List ℕ) (later : List Mark) → 47 ∷ 62 ∷ x ≡ body_text body name y → es ≡ Start (local_part name) kept ∷ body_marks body (Finish (local_part name) ∷ later) → K y later → Saying (Start (local_part name) kept ∷ Finish (local_part name) ∷ []) K x es
-    closed_to x es closed y later e q a = let h : x ≡ y = cc in record { later = later; says = q; after = subst (λ z. K z later) (sym h) a }
-    closed_to x es (opened inner space s) y later e q a = let h : ◌≡◌ {A = ℕ} 47 62 = cc in absurd (omega arith)
-
     pub closed_says : (x : List ℕ) (es : List Mark) → BodyRest room name kept K (47 ∷ 62 ∷ x) es → Saying (Start (local_part name) kept ∷ Finish (local_part name) ∷ []) K x es
-    closed_says x es h = closed_to x es h.body h.behind h.later h.text h.says h.after
-
-    opened_to : (x : List ℕ) (es : List Mark) (r : BodyRest room name kept K (62 ∷ x) es) (body : Body) → r.body ≡ body → Saying (Start (local_part name) kept ∷ []) (Inside room 0 name K) x es
-    opened_to x es r closed b = let e = r.text in let h : 62 ∷ x ≡ body_text closed name r.behind = e ∙ ap (λ z. body_text z name r.behind) b in let n : ◌≡◌ {A = ℕ} 62 47 = cc in absurd (omega arith)
-    opened_to x es r (opened inner space s) b =
-        let e : 62 ∷ x ≡ body_text (opened inner space s) name r.behind = r.text ∙ ap (λ z. body_text z name r.behind) b in
-        let q : es ≡ Start (local_part name) kept ∷ content_marks inner (Finish (local_part name) ∷ r.later) = r.says ∙ ap (λ z. Start (local_part name) kept ∷ body_marks z (Finish (local_part name) ∷ r.later)) b in
-        record { later = content_marks inner (Finish (local_part name) ∷ r.later); says = q; after = record { content = inner; fit = subst (λ z. IsBodyFit room z) b r.fit; space = space; spaced = s; behind = r.behind; later = r.later; text = cc; says = refl; after = r.after } }
+    closed_says x es h = (word_last (Saying (Start (local_part name) kept ∷ Finish (local_part name) ∷ []) K) 62 x es).0 ((body_close room name kept K (62 ∷ x) es).0 h)
 
     pub opened_says : (x : List ℕ) (es : List Mark) → BodyRest room name kept K (62 ∷ x) es → Saying (Start (local_part name) kept ∷ []) (Inside room 0 name K) x es
-    opened_says x es r = opened_to x es r r.body refl
+    opened_says x es h = (body_open room name kept K x es).0 h
 
 -- What content says before K goes on.
 pub record Leaves (content : Content) (name : List ℕ) (K : List ℕ → List Mark → Type 0) (k : List ℕ) (es : List Mark) : Type 0 where

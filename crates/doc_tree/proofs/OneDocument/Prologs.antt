@@ -1,8 +1,11 @@
 -- What stands before the root is found from the text.
-use Rattle.doc_tree.proofs.Words.{Bool, Declaration, Each, Encoding, Equals, Instruction, IsDigit, IsEncodingChar, IsEncodingName, IsLetter, IsName, IsQName, IsQuote, IsSpace, IsYesOrNo, List, Misc, Some1, Standalone, Version, [], ap, append_assoc, arith, bare, codes, comment_text, declaration_text, declared, each_append, encoded, encoding_text, equals_text, false, inl, inr, instruction_text, leb, leb-true, map, mark_text, misc_comment, misc_instruction, misc_over, misc_space, misc_text, no_declaration, no_encoding, no_standalone, refl, standalone_text, standing, subst, sym, to_ascii_lowercase, true, version_text, with_text, ℕ, ◌&&◌, ◌++◌, ◌<◌, ◌∙◌, ◌∷◌, ◌≡◌, ◌≢◌, ◌≤◌}
+use Rattle.doc_tree.proofs.Words.{Bool, Declaration, Each, Encoding, Equals, Instruction, IsDigit, IsEncodingChar, IsEncodingName, IsLetter, IsName, IsQName, IsQuote, IsSpace, IsYesOrNo, List, Misc, Some1, Standalone, Version, [], ap, append_assoc, arith, bare, codes, comment_text, declaration_text, declared, each_append, encoded, encoding_text, equals_text, false, inl, inr, instruction_text, leb, leb-true, map, mark_text, misc_comment, misc_instruction, misc_over, misc_space, misc_text, no_declaration, no_encoding, no_standalone, refl, standalone_text, standing, subst, sym, to_ascii_lowercase, true, version_text, with_text, ℕ, ◌&&◌, ◌++◌, ◌<◌, ◌∙◌, ◌∷◌, ◌≡◌, ◌≢◌, ◌≤◌, Field, IsFieldValue, any, and_parts}
+use Rattle.doc_tree.specs.declared.declaration.Field.TheVariants as fields
+use Rattle.doc_tree.proofs.MachineSteps.{field_each}
+use Rattle.doc_tree.proofs.Viability.Continuations.{inside, inside_carries}
 use Rattle.doc_tree.proofs.ByteGrammar.{IsHigh, each_map, not_space, quote_range, some_each, space_low, start_range}
 use Rattle.doc_tree.proofs.OneDocument.Spans.{Stops, each_same, name_high, space_not_high}
-use Rattle.doc_tree.proofs.OneDocument.Asides.{comment_same, instruction_same, mark_not_high}
+use Rattle.doc_tree.proofs.OneDocument.Asides.{behind_comment, instruction_same, mark_not_high}
 
 -- a name stands first
 abbrev pub IsNamed : List ℕ → Type 0
@@ -30,7 +33,7 @@ misc_same (misc_space c s m) misc_over x y a b e = sym (element_first (misc_spac
 misc_same (misc_space c s m) (misc_space d t n) x y a b e = misc_same m n x y a b (cc)
 misc_same (misc_comment t m) misc_over x y a b e = sym (element_first (misc_comment t m) y x b a (sym e))
 misc_same (misc_comment t m) (misc_space d s n) x y a b e = let h : 60 ≡ d = cc in absurd (not_space d (omega arith) s)
-misc_same (misc_comment t m) (misc_comment u n) x y a b e = misc_same m n x y a b (comment_same t u (misc_text m (60 ∷ x)) (misc_text n (60 ∷ y)) (cc))
+misc_same (misc_comment t m) (misc_comment u n) x y a b e = misc_same m n x y a b (behind_comment (λ z fs. z ≡ (misc_text n (60 ∷ y))) t (misc_text m (60 ∷ x)) [] (record { comment = u; behind = (misc_text n (60 ∷ y)); text = (cc); after = refl }))
 misc_same (misc_comment t m) (misc_instruction i n) x y a b e = let h : ◌≡◌ {A = ℕ} 33 63 = cc in absurd (omega arith)
 misc_same (misc_instruction i m) misc_over x y a b e = sym (element_first (misc_instruction i m) y x b a (sym e))
 misc_same (misc_instruction i m) (misc_space d s n) x y a b e = let h : 60 ≡ d = cc in absurd (not_space d (omega arith) s)
@@ -38,37 +41,17 @@ misc_same (misc_instruction i m) (misc_comment t n) x y a b e = let h : ◌≡�
 misc_same (misc_instruction i m) (misc_instruction j n) x y a b e = misc_same m n x y a b (instruction_same i j (misc_text m (60 ∷ x)) (misc_text n (60 ∷ y)) (cc))
 misc_same (misc_space c s m) _ x y a b e = let h : c ≡ 60 = cc in absurd (not_space c (omega arith) s)
 
--- a text without `?` before what comes
-pub record Plain (f : List ℕ → List ℕ) : Type 0 where
-  pub run : List ℕ
-  pub each : Each (λ c. c ≢ 63) run
-  pub same : (k : List ℕ) → f k ≡ run ++ k
+-- no `?`
+abbrev Other : ℕ → Type 0
+Other c = c ≢ 63
 
-plain_then : (f g : List ℕ → List ℕ) → Plain f → Plain g → Plain (λ k. f (g k))
-plain_then f g p q = record { run = p.run ++ q.run; each = each_append (λ c. c ≢ 63) p.run q.run p.each q.each; same = λ k. p.same (g k) ∙ (ap (λ z. p.run ++ z) (q.same k) ∙ sym (append_assoc p.run q.run k)) }
-
-plain_text : (x : List ℕ) → Each (λ c. c ≢ 63) x → Plain (λ k. x ++ k)
-plain_text x p = record { run = x; each = p; same = λ k. refl }
-
-plain_byte : (c : ℕ) → c ≢ 63 → Plain (λ k. c ∷ k)
-plain_byte c n = record { run = c ∷ []; each = (n, tt); same = λ k. refl }
-
-plain_nothing : Plain (λ k. k)
-plain_nothing = record { run = []; each = tt; same = λ k. refl }
-
-space_other : (c : ℕ) → IsSpace c → c ≢ 63
+space_other : (c : ℕ) → IsSpace c → Other c
 space_other c s e = let l = space_low c s in omega arith
 
-digit_other : (c : ℕ) → IsDigit c → c ≢ 63
-digit_other c d e = let h = d.1 in omega arith
-
-letter_other : (c : ℕ) → IsLetter c → c ≢ 63
-letter_other c l e = grind arith
-
-encoding_other : (c : ℕ) → IsEncodingChar c → c ≢ 63
+encoding_other : (c : ℕ) → IsEncodingChar c → Other c
 encoding_other c p e = grind arith
 
-quote_other : (c : ℕ) → IsQuote c → c ≢ 63
+quote_other : (c : ℕ) → IsQuote c → Other c
 quote_other c i e = let r = quote_range c i in omega arith
 
 -- a text of letters
@@ -76,61 +59,29 @@ abbrev pub all_above : List ℕ → Bool
 all_above [] = true
 all_above (c ∷ cs) = leb 64 c && all_above cs
 
-both_of : (a b : Bool) → a && b ≡ true → (a ≡ true) × (b ≡ true)
-both_of true b e = (refl, e)
-both_of false b e = cc
-
-above_other : (x : List ℕ) → all_above x ≡ true → Each (λ c. c ≢ 63) x
+above_other : (x : List ℕ) → all_above x ≡ true → Each Other x
 above_other [] e = tt
-above_other (c ∷ cs) e = let b = both_of (leb 64 c) (all_above cs) e in ((λ h. let l = leb-true 64 c b.0 in omega arith), above_other cs b.1)
+above_other (c ∷ cs) e = let b = and_parts (leb 64 c) (all_above cs) e in ((λ h. let l = leb-true 64 c b.0 in omega arith), above_other cs b.1)
 
-plain_spaces : (x : List ℕ) → Each IsSpace x → Plain (λ k. x ++ k)
-plain_spaces x s = plain_text x (each_map IsSpace (λ c. c ≢ 63) space_other x s)
+-- a field of the declaration, and what stands behind it
+field_other : (f : Field) (space word : List ℕ) (e : Equals) (quote : ℕ) (value k : List ℕ) → Some1 IsSpace space → all_above word ≡ true → IsQuote quote → IsFieldValue any f value → Each Other k → Each Other (space ++ (word ++ equals_text e (quote ∷ (value ++ (quote ∷ k)))))
+field_other f space word e quote value k s w q v r =
+    let spaces : (x : List ℕ) → Each IsSpace x → Each Other x = each_map IsSpace Other space_other in
+    let n : Other quote = quote_other quote q in
+    let a : Each Other (quote ∷ (value ++ (quote ∷ k))) = (n, each_append Other value (quote ∷ k) (each_map IsEncodingChar Other encoding_other value (field_each (record { depth = 32; aim = any }) f value v)) (n, r)) in
+    let b : Each Other (equals_text e (quote ∷ (value ++ (quote ∷ k)))) = each_append Other e.before (61 ∷ (e.after ++ (quote ∷ (value ++ (quote ∷ k))))) (spaces e.before e.spaced_before) ((λ h. omega arith), each_append Other e.after (quote ∷ (value ++ (quote ∷ k))) (spaces e.after e.spaced_after) a) in
+    each_append Other space (word ++ equals_text e (quote ∷ (value ++ (quote ∷ k)))) (spaces space (some_each IsSpace space s)) (each_append Other word (equals_text e (quote ∷ (value ++ (quote ∷ k)))) (above_other word w) b)
 
-plain_equals : (e : Equals) → Plain (equals_text e)
-plain_equals e = plain_then (λ k. e.before ++ k) (λ k. 61 ∷ (e.after ++ k)) (plain_spaces e.before e.spaced_before) (plain_then (λ k. 61 ∷ k) (λ k. e.after ++ k) (plain_byte 61 (λ h. omega arith)) (plain_spaces e.after e.spaced_after))
+encoded_other : (e : Encoding) (k : List ℕ) → Each Other k → Each Other (encoding_text e k)
+encoded_other no_encoding k r = r
+encoded_other (encoded space s e quote q name n) k r = field_other fields.Encoding space (codes "encoding") e quote name k s refl q (n, tt) r
 
--- a field of the declaration
-module _ (space word : List ℕ) (e : Equals) (quote : ℕ) (value : List ℕ) where
-  plain_field : Some1 IsSpace space → all_above word ≡ true → IsQuote quote → Each (λ c. c ≢ 63) value → Plain (λ k. space ++ (word ++ equals_text e (quote ∷ (value ++ (quote ∷ k)))))
-  plain_field s w q v =
-      let mark = plain_byte quote (quote_other quote q) in
-      plain_then (λ k. space ++ k) (λ k. word ++ equals_text e (quote ∷ (value ++ (quote ∷ k)))) (plain_spaces space (some_each IsSpace space s))
-      (plain_then (λ k. word ++ k) (λ k. equals_text e (quote ∷ (value ++ (quote ∷ k)))) (plain_text word (above_other word w))
-      (plain_then (equals_text e) (λ k. quote ∷ (value ++ (quote ∷ k))) (plain_equals e)
-      (plain_then (λ k. quote ∷ k) (λ k. value ++ (quote ∷ k)) mark
-      (plain_then (λ k. value ++ k) (λ k. quote ∷ k) (plain_text value v) mark))))
+standing_other : (s : Standalone) (k : List ℕ) → Each Other k → Each Other (standalone_text s k)
+standing_other no_standalone k r = r
+standing_other (standing space s e quote q word w) k r = field_other fields.Standalone space (codes "standalone") e quote word k s refl q w r
 
-plain_version : (v : Version) → Plain (version_text v)
-plain_version v = plain_field v.space (codes "version") v.equals v.quote (49 ∷ 46 ∷ v.digits) v.spaced refl v.quoted ((λ h. omega arith), ((λ h. omega arith), each_map IsDigit (λ c. c ≢ 63) digit_other v.digits (some_each IsDigit v.digits v.numbered)))
-
-name_other : (name : List ℕ) → IsEncodingName name → Each (λ c. c ≢ 63) name
-name_other [] n = absurd n
-name_other (c ∷ cs) n = (letter_other c n.0, each_map IsEncodingChar (λ z. z ≢ 63) encoding_other cs n.1)
-
-plain_encoding : (e : Encoding) → Plain (encoding_text e)
-plain_encoding no_encoding = plain_nothing
-plain_encoding (encoded space s e quote q name n) = plain_field space (codes "encoding") e quote name s refl q (name_other name n)
-
-word_other : (word : List ℕ) → IsYesOrNo word → Each (λ c. c ≢ 63) word
-word_other word (inl e) = subst (Each (λ c. c ≢ 63)) (sym e) (above_other (codes "yes") refl)
-word_other word (inr e) = subst (Each (λ c. c ≢ 63)) (sym e) (above_other (codes "no") refl)
-
-plain_standalone : (s : Standalone) → Plain (standalone_text s)
-plain_standalone no_standalone = plain_nothing
-plain_standalone (standing space s e quote q word w) = plain_field space (codes "standalone") e quote word s refl q (word_other word w)
-
-plain_inside : (v : Version) (e : Encoding) (s : Standalone) (space : List ℕ) → Each IsSpace space → Plain (λ k. version_text v (encoding_text e (standalone_text s (space ++ k))))
-plain_inside v e s space sp =
-    plain_then (version_text v) (λ k. encoding_text e (standalone_text s (space ++ k))) (plain_version v)
-    (plain_then (encoding_text e) (λ k. standalone_text s (space ++ k)) (plain_encoding e)
-    (plain_then (standalone_text s) (λ k. space ++ k) (plain_standalone s) (plain_spaces space sp)))
-
-plain_same : (f g : List ℕ → List ℕ) → Plain f → Plain g → (x y : List ℕ) → f (63 ∷ x) ≡ g (63 ∷ y) → x ≡ y
-plain_same f g p q x y e =
-    let r = each_same (λ c. c ≢ 63) p.run q.run (63 ∷ x) (63 ∷ y) p.each q.each (λ n. n refl) (λ n. n refl) (sym (p.same (63 ∷ x)) ∙ (e ∙ q.same (63 ∷ y))) in
-    let b = r.1 in
-    cc
+inside_other : (v : Version) (e : Encoding) (s : Standalone) (space : List ℕ) → Each IsSpace space → Each Other (inside v e s space [])
+inside_other v e s space sp = field_other fields.Version v.space (codes "version") v.equals v.quote (49 ∷ 46 ∷ v.digits) (encoding_text e (standalone_text s (space ++ []))) v.spaced refl v.quoted (v.digits, refl, v.numbered) (encoded_other e (standalone_text s (space ++ [])) (standing_other s (space ++ []) (each_append Other space [] (each_map IsSpace Other space_other space sp) tt)))
 
 -- no declaration stands first: no `<?xml` with white space behind it
 abbrev pub IsUndeclared : List ℕ → Type 0
@@ -150,7 +101,9 @@ declaration_same no_declaration no_declaration x y n m e = e
 declaration_same no_declaration (declared v e s space sp) x y n m h = absurd (declared_first x n v (encoding_text e (standalone_text s (space ++ (63 ∷ 62 ∷ y)))) h)
 declaration_same (declared v e s space sp) no_declaration x y n m h = absurd (declared_first y m v (encoding_text e (standalone_text s (space ++ (63 ∷ 62 ∷ x)))) (sym h))
 declaration_same (declared v e s space sp) (declared v' e' s' space' sp') x y n m h =
-    let r = plain_same (λ k. version_text v (encoding_text e (standalone_text s (space ++ k)))) (λ k. version_text v' (encoding_text e' (standalone_text s' (space' ++ k)))) (plain_inside v e s space sp) (plain_inside v' e' s' space' sp') (62 ∷ x) (62 ∷ y) (cc) in
+    let same : inside v e s space (63 ∷ 62 ∷ x) ≡ inside v' e' s' space' (63 ∷ 62 ∷ y) = cc in
+    let r = each_same Other (inside v e s space []) (inside v' e' s' space' []) (63 ∷ 62 ∷ x) (63 ∷ 62 ∷ y) (inside_other v e s space sp) (inside_other v' e' s' space' sp') (λ n. n refl) (λ n. n refl) (sym (inside_carries v e s space [] (63 ∷ 62 ∷ x)) ∙ (same ∙ inside_carries v' e' s' space' [] (63 ∷ 62 ∷ y))) in
+    let b = r.1 in
     cc
 
 -- an instruction's name isn't `xml`

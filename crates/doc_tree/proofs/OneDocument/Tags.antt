@@ -1,42 +1,24 @@
 -- Values, attributes and start tags are found from the text.
-use Rattle.doc_tree.proofs.Words.{Attributes, Each, Equals, IsQName, IsQuote, IsSpace, List, Some1, Value, [], ap, arith, attribute, attribute_list, attributes_text, equals_text, inl, inr, no_attribute, refl, subst, sym, value_chars, value_over, value_plain, value_reference, value_text, value_white, ℕ, ◌++◌, ◌∷◌, ◌≡◌, ◌≢◌, ◌≤◌, ◌⊎◌}
-use Rattle.doc_tree.proofs.ByteGrammar.{IsHigh, some_each, space_low}
+use Rattle.doc_tree.proofs.Words.{Attributes, Each, Equals, IsQName, IsQuote, IsSpace, List, Some1, Value, [], ap, arith, attribute, attribute_list, attributes_text, equals_text, inl, inr, no_attribute, refl, subst, sym, value_chars, value_over, value_plain, value_reference, value_text, value_white, ℕ, ◌++◌, ◌∷◌, ◌≡◌, ◌≢◌, ◌≤◌, ◌⊎◌, Mark, ValueRest, append-nil, append_assoc, reference_chars, reference_text}
+use Rattle.doc_tree.proofs.ByteGrammar.{value_amp, value_char, value_end, value_space, IsHigh, some_each, space_low}
 use Rattle.doc_tree.proofs.OneDocument.Spans.{Stops, qname_begins, letter_not_space, spaces_stop, space_not_high, spaces_same, names_same, equals_stop, equals_same, quote_not_space}
 use Rattle.doc_tree.proofs.OneDocument.References.{reference_same}
 
-quote_not_amp : (q : ℕ) → IsQuote q → q ≢ 38
-quote_not_amp q i e = grind arith
-
-amp_not_space : (c : ℕ) → c ≡ 38 → IsSpace c → ⊥
-amp_not_space c e s = let l = space_low c s in omega arith
-
 module _ (q : ℕ) (i : IsQuote q) where
-  pub value_same : (v w : Value q) (k l : List ℕ) → value_text v k ≡ value_text w l → (value_chars v ≡ value_chars w) × (k ≡ l)
-  value_same value_over value_over k l e = (refl, (cc))
-  value_same value_over (value_plain d nq nl na ns w) k l e = let h : d ≡ q = cc in absurd (nq h)
-  value_same value_over (value_white d s w) k l e = let h : d ≡ q = cc in absurd (quote_not_space q i (subst IsSpace h s))
-  value_same (value_plain c nq nl na ns v) value_over k l e = let h : c ≡ q = cc in absurd (nq h)
-  value_same (value_plain c nq nl na ns v) (value_plain d mq ml ma ms w) k l e = let r = value_same v w k l (cc) in let a = r.0 in let h : c ≡ d = cc in ((cc), r.1)
-  value_same (value_plain c nq nl na ns v) (value_white d s w) k l e = let h : c ≡ d = cc in absurd (ns (subst IsSpace (sym h) s))
-  value_same (value_plain c nq nl na ns v) (value_reference r w) k l e = let h : c ≡ 38 = cc in absurd (na h)
-  value_same (value_white c s v) value_over k l e = let h : c ≡ q = cc in absurd (quote_not_space q i (subst IsSpace h s))
-  value_same (value_white c s v) (value_plain d mq ml ma ms w) k l e = let h : c ≡ d = cc in absurd (ms (subst IsSpace h s))
-  value_same (value_white c s v) (value_white d t w) k l e = let r = value_same v w k l (cc) in (ap (λ z. 32 ∷ z) r.0, r.1)
-  value_same (value_white c s v) (value_reference r w) k l e = let h : c ≡ 38 = cc in absurd (amp_not_space c h s)
-  value_same (value_reference r v) (value_plain d mq ml ma ms w) k l e = let h : d ≡ 38 = cc in absurd (ma h)
-  value_same (value_reference r v) (value_white d t w) k l e = let h : d ≡ 38 = cc in absurd (amp_not_space d h t)
-  value_same (value_reference r v) (value_reference s w) k l e =
-      let a = reference_same r s (value_text v k) (value_text w l) (cc) in
-      let b = value_same v w k l a.1 in
-      let x = a.0 in
-      let y = b.0 in
-      ((cc), b.1)
-  value_same _ _ k l e = let h : q ≡ 38 = cc in absurd (quote_not_amp q i h)
+  value_says : (K : List ℕ → List ℕ → List Mark → Type 0) (v : Value q) (before k : List ℕ) (es : List Mark) → ValueRest q before K (value_text v k) es → K (before ++ value_chars v) k es
+  value_says K value_over before k es h = subst (λ z. K z k es) (sym (append-nil before)) ((value_end q before K k es i).0 h)
+  value_says K (value_plain c nq nl na ns v) before k es h = subst (λ z. K z k es) (append_assoc before (c ∷ []) (value_chars v)) (value_says K v (before ++ (c ∷ [])) k es ((value_char q before K c (value_text v k) es nq nl na ns).0 h))
+  value_says K (value_white c s v) before k es h = subst (λ z. K z k es) (append_assoc before (32 ∷ []) (value_chars v)) (value_says K v (before ++ (32 ∷ [])) k es ((value_space q before K c (value_text v k) es i s).0 h))
+  value_says K (value_reference r v) before k es h =
+      let f = (value_amp q before K (reference_text r (value_text v k)) es i).0 h in
+      let a = reference_same r f.to (value_text v k) f.behind f.text in
+      let g : ValueRest q (before ++ reference_chars r) K (value_text v k) es = subst (λ z. ValueRest q (before ++ z) K (value_text v k) es) (sym a.0) (subst (λ z. ValueRest q (before ++ reference_chars f.to) K z es) (sym a.1) f.after) in
+      subst (λ z. K z k es) (append_assoc before (reference_chars r) (value_chars v)) (value_says K v (before ++ reference_chars r) k es g)
 
   pub quoted_same : (p : ℕ) (v : Value q) (w : Value p) (k l : List ℕ) → q ∷ value_text v k ≡ p ∷ value_text w l → (value_chars v ≡ value_chars w) × (k ≡ l)
   quoted_same p v w k l e =
       let h : q ≡ p = cc in
-      subst (λ z. (u : Value z) → value_text v k ≡ value_text u l → (value_chars v ≡ value_chars u) × (k ≡ l)) h (λ u f. value_same v u k l f) w (cc)
+      subst (λ z. (u : Value z) → value_text v k ≡ value_text u l → (value_chars v ≡ value_chars u) × (k ≡ l)) h (λ u f. value_says (λ c y fs. (c ≡ value_chars u) × (y ≡ l)) v [] k [] (record { value = u; behind = l; text = f; after = (refl, refl) })) w (cc)
 
 -- `>` or `/` stands first
 abbrev pub IsTagEnd : List ℕ → Type 0

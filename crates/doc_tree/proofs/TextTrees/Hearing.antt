@@ -8,15 +8,13 @@ use Rattle.doc_tree.proofs.TextTrees.Verdicts.{refused_fed, visited}
 pub relieved : (had : List Mark → Type 0) (s new : State) (told : List Mark) → had told → s.marks ≡ told ++ new.marks → new ≡ record s { marks = new.marks } → Relieved s new had
 relieved had s new told h r e = record { told = told; has = h; rest = r; same = e }
 
-handed_by : (had : List Mark → Type 0) (f : Feeding) (s : State) → Relieved f.state s had → HandedOn f (record f { state = s }) had
-handed_by had f s r = record { told = r.told; has = r.has; rest = r.rest; same = ap (λ z. record f { state = z }) r.same }
-
 pub handed : (had : List Mark → Type 0) (f v : Feeding) (s : State) → f ≡ v → Relieved f.state s had → HandedOn v (record f { state = s }) had
-handed had f v s e r = subst (λ z. HandedOn z (record f { state = s }) had) e (handed_by had f s r)
+handed had f v s e r = subst (λ z. HandedOn z (record f { state = s }) had) e (record { told = r.told; has = r.has; rest = r.rest; same = ap (λ z. record f { state = z }) r.same })
 
-pub on_option : (o : Option TreeFault) (A B : Type 0) → (A → B) → MatchOption o A (λ fault. Unit {0}) → MatchOption o B (λ fault. Unit {0})
-on_option None A B f h = f h
-on_option (Some x) A B f h = tt
+-- where a reader wasn't refused
+pub on_option : {A B : Type 0} (o : Option TreeFault) (R : TreeFault → Type 0) → (A → B) → MatchOption o A R → MatchOption o B R
+on_option None R f h = f h
+on_option (Some fault) R f h = h
 
 -- more marks are told
 abbrev with_marks : Feeding → List Mark → Feeding
@@ -40,11 +38,6 @@ heard_bytes had old mid bytes taken f k = record { told = k.told; has = k.has; t
 
 pub bytes_refused : (had now : List Mark → Type 0) (old mid : Feeding) (bytes more : List ℕ) (fault : TreeFault) → RefusesBytes old more fault → mid.limit ≡ old.limit → mid.refusal ≡ Some fault → Heard had old bytes → WasHeard now mid (bytes ++ more)
 bytes_refused had now old mid bytes more fault f l e k = refused_fed now mid (bytes ++ more) fault e (subst (λ z. Refused z (bytes ++ more) fault) (sym l) (f k.told bytes k.taken))
-
--- a yes or a no that says as much
-pub match_map : {A B C D : Type 0} (r : Bool) → (A → C) → (B → D) → MatchBool r A B → MatchBool r C D
-match_map true f g m = f m
-match_map false f g m = g m
 
 -- the bytes end too early
 abbrev pub Cut : Feeding → Type 0

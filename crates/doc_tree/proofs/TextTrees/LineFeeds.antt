@@ -11,9 +11,6 @@ over : (s : State) (t : Terms) (x y : List ℕ) (says : List Mark) → x ≡ y �
 over s t x y says e = (λ h. subst (λ z. Completes s t z says) e h, λ h. subst (λ z. Completes s t z says) (sym e) h)
 
 -- what the bytes so far say
-pub continues_start : (s : State) → RunsOn s [] → Continues s false []
-continues_start s r = record { good = r.good; same = λ t l rest says. r.same t l (normal_lines rest) says }
-
 pub continues_on : (s : State) (returned : Bool) (bytes : List ℕ) (b : ℕ) (t : State) (returns : Bool) → Continues s returned bytes → PassesByte s returned b t returns → Continues t returns (bytes ++ b ∷ [])
 continues_on s returned bytes b t returns c p = record {
   good = p.good;
@@ -32,9 +29,6 @@ allowed = omega arith
 abbrev pub BlocksHere : State → Bool → ℕ → Type 0
 BlocksHere s returned b = (rest : List ℕ) (says : List Mark) → Finishes s returned bounds (b ∷ rest) says → ⊥
 
-pub continues_blocked : (s : State) (returned : Bool) (bytes : List ℕ) (b : ℕ) (rest whole : List ℕ) → whole ≡ bytes ++ (b ∷ rest) → Continues s returned bytes → BlocksHere s returned b → IsNoDocument whole
-continues_blocked s returned bytes b rest whole e c k = λ says h. k rest says ((c.same bounds allowed (b ∷ rest) says).0 (subst (λ z. Whole bounds (normal_lines z) says) e h))
-
 pub continues_end : (s : State) (returned : Bool) (bytes : List ℕ) → Continues s returned bytes → (t : Terms) → IsDepthAllowed t → (says : List Mark) → Whole t (normal_lines bytes) says ↔ Completes s t [] says
 continues_end s returned bytes c t l says =
     let e : bytes ++ [] ≡ bytes = append-nil bytes in
@@ -48,9 +42,6 @@ pub refused_blocks : {T E B : Type 0} {y : E} (r : Result T E) (x : E) → (IsEr
 refused_blocks {T} {E} {B} {y} r x f e q = f (e ∙ ap Err q)
 
 -- whether the document is over
-pub over_none : (s : State) (returned : Bool) (bytes : List ℕ) → Continues s returned bytes → ((t : Terms) (says : List Mark) → Completes s t [] says → ⊥) → IsNoDocument bytes
-over_none s returned bytes c n = λ says h. n bounds says ((continues_end s returned bytes c bounds allowed says).0 h)
-
 pub over_whole : (s : State) (returned : Bool) (bytes : List ℕ) → Continues s returned bytes → ((t : Terms) (says : List Mark) → Completes s t [] says ↔ (says ≡ s.marks)) → Whole bounds (normal_lines bytes) s.marks
 over_whole s returned bytes c f = (continues_end s returned bytes c bounds allowed s.marks).1 ((f bounds s.marks).1 refl)
 

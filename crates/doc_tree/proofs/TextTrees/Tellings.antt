@@ -109,10 +109,6 @@ unless_wanted wanted f (inr a) = inr (f a)
 pub one_more : (es : List Event) (i : ℕ) → i < length es → spread (take (i + 1) es) ≡ spread (take i es) ++ spread (event_at es i ∷ [])
 one_more es i l = ap spread (take_more es i (Close []) l) ∙ spread_more (take i es) (event_at es i ∷ [])
 
--- a start tag is told at once
-pub tag_told : (old new : Building) (name : List ℕ) (attributes : List Attribute) → new ≡ record { events = said old ++ (Open name attributes ∷ []); attributes = []; text = [] } → spread (said new) ≡ spread (said old) ++ (Start name attributes ∷ [])
-tag_told old new name attributes e = ap (λ z. spread (said z)) e ∙ spread_more (said old) (Open name attributes ∷ [])
-
 -- unless memory was wanted, no attribute waits
 pub none_waits : (wanted : Bool) (b : Building) → (IsTrue wanted → ⊥) → IsTrue wanted ⊎ IsBuildingReady b → b.attributes ≡ []
 none_waits wanted b n (inl w) = absurd (n w)

@@ -4,16 +4,12 @@ use Rattle.doc_tree.proofs.OneTree.{one_tree}
 use Rattle.doc_tree.proofs.TextTrees.MarkEvents.{spread_gathers}
 use Rattle.doc_tree.proofs.TextTrees.Wholes.{document_marks, document_gathers}
 use Rattle.doc_tree.proofs.TextTrees.Verdicts.{gather_apart, fed_refused, refused_ends}
-use Rattle.doc_tree.proofs.TextTrees.Hearing.{answers_err}
+use Rattle.doc_tree.proofs.TextTrees.Hearing.{answers_err, on_option}
 
 abbrev pub none : Building
 none = record { events = []; attributes = []; text = [] }
 
 -- what was told from nothing on is what the tree has
-on_option : {A B : Type 0} (o : Option TreeFault) (R : TreeFault → Type 0) → (A → B) → MatchOption o A R → MatchOption o B R
-on_option None R f h = f h
-on_option (Some fault) R f h = h
-
 pub of_heard : (f : Feeding) (b : Building) (bytes : List ℕ) → WasHeard (Gathers none b) f bytes → WasFed (whole f b) bytes
 of_heard f b bytes h = on_option {A = Heard (Gathers none b) f bytes} {B = IsTaken (whole f b) bytes} f.refusal (Refused f.limit bytes) (λ k. subst (λ z. IsTaken (behind z f) bytes) (sym k.has) k.taken) h
 

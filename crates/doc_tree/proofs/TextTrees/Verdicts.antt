@@ -1,12 +1,11 @@
 -- What all the bytes say, or why they are no document.
-use Rattle.doc_tree.proofs.Words.{Char, CharacterRest, Chars, Completes, Continues, Document, Event, Feeding, Finish, Heard, IsApart, IsTaken, IsText, IsXmlText, List, Mark, MatchOption, None, NoneWithin, ReadingFails, ReadsDocument, Refused, Some, Spells, Start, Terms, TreeFault, Visits, WasHeard, Whole, [], any_encoding, ap, append-nil, append_assoc, arith, bounds, closed, codes, drop, false, gather, get_or, inl, inr, join, length, misc_over, no_attribute, no_declaration, normal_lines, refl, spread, subst, sym, take, ℕ, ◌++◌, ◌+◌, ◌<◌, ◌↔◌, ◌∙◌, ◌∷◌, ◌≡◌}
-use Rattle.std.specs.Char.{encode_utf8}
+use Rattle.doc_tree.proofs.Words.{Char, CharacterRest, Chars, Completes, Continues, Document, Event, Feeding, Finish, Heard, IsApart, IsTaken, IsText, IsXmlText, List, Mark, MatchOption, None, NoneWithin, ReadingFails, ReadsDocument, Refused, Some, Spells, Start, Terms, TreeFault, Visits, WasHeard, Whole, [], any_encoding, ap, append-nil, append_assoc, arith, bounds, closed, codes, drop, false, gather, get_or, inl, inr, join, length, misc_over, no_attribute, no_declaration, normal_lines, refl, spread, subst, sym, take, ℕ, ◌++◌, ◌+◌, ◌<◌, ◌↔◌, ◌∙◌, ◌∷◌, ◌≡◌, clean_fixed}
 use Rattle.doc_tree.specs.declared.characters.Awaited.TheVariants as awaits
 use Rattle.doc_tree.specs.declared.fault.TreeFault.TheVariants as faults
-use Rattle.doc_tree.proofs.TextTrees.LineFeeds.{over_none, over_whole, continues_end}
+use Rattle.doc_tree.proofs.TextTrees.LineFeeds.{allowed, continues_end, over_whole}
 use Rattle.doc_tree.proofs.Viability.Refusals.{as_deep, as_deep_allowed, text_whole, refused_on, clean_start, clean_short}
 use Rattle.doc_tree.proofs.TextTrees.Results.{split_at, none_refuses, text_refuses, read_so}
-use Rattle.doc_tree.proofs.Utf8.{low_char, spells_start, spells_whole, spells_cut}
+use Rattle.doc_tree.proofs.Utf8.{spells_start, spells_whole, spells_cut}
 use Rattle.doc_tree.proofs.TextTrees.Wholes.{whole_of, document_marks}
 
 -- whether they were all taken
@@ -38,7 +37,7 @@ module _ (f : Feeding) (bytes : List ℕ) (t : IsTaken f bytes) where
   pub cut_document : ((u : Terms) (says : List Mark) → Completes f.state u [] says → ⊥) → ReadingFails f.limit bytes (faults.Malformed f.count)
   cut_document n =
       let none : IsText bytes → ⊥ = λ i. n (as_deep i.document) _ ((continues_end f.state f.returned bytes t.continues (as_deep i.document) (as_deep_allowed i.document) _).0 (text_whole bytes i)) in
-      inr (inr (record { clean = t.clean; none = none; says = ap faults.Malformed t.counted }), none_refuses f.limit bytes (over_none f.state f.returned bytes t.continues n))
+      inr (inr (record { clean = t.clean; none = none; says = ap faults.Malformed t.counted }), none_refuses f.limit bytes (λ says h. n bounds says ((continues_end f.state f.returned bytes t.continues bounds allowed says).0 h)))
 
   -- it is over, and this was told
   module _ (whole : f.awaited ≡ awaits.First) (told : List Event) (says : f.state.marks ≡ spread told) (over : (u : Terms) (marks : List Mark) → Completes f.state u [] marks ↔ (marks ≡ f.state.marks)) (apart : IsApart told) where
@@ -74,8 +73,7 @@ unfolding root
 root_whole = whole_of any_encoding root (omega arith) (omega arith) tt
 
 root_text : IsXmlText (codes "<a/>")
-unfolding encode_utf8
-root_text = record { characters = codes "<a/>"; each = (low_char 60 (omega arith) (omega arith), (low_char 97 (omega arith) (omega arith), (low_char 47 (omega arith) (omega arith), (low_char 62 (omega arith) (omega arith), tt)))); encoded = refl }
+root_text = (clean_fixed (codes "<a/>") refl).text
 
 pub start_taken : (f : Feeding) → Continues f.state f.returned [] → f.awaited ≡ awaits.First → f.count ≡ 0 → IsTaken f []
 start_taken f c e n = record {

@@ -1,5 +1,5 @@
 -- Behind each byte that the machine and the characters take, some bytes complete both.
-use Rattle.doc_tree.proofs.Words.{Awaited, Bool, CharacterFollows, CharacterRest, Continues, Each, Good, IsFixed, IsInMark, IsXmlText, List, Mark, Marked, MeetsBoth, PassesByte, Spells, State, Terms, [], ap, append-nil, arith, eqb_tells, false, inl, inr, leb_tells, normal_lines, refl, subst, sym, true, unread, ℕ, ◌++◌, ◌<◌, ◌∙◌, ◌∷◌, ◌≡◌, ◌≤◌, ◌⊎◌}
+use Rattle.doc_tree.proofs.Words.{Awaited, Bool, CharacterFollows, CharacterRest, Continues, Each, Good, IsFixed, IsInMark, IsXmlText, List, Mark, Marked, MeetsBoth, PassesByte, Spells, State, Terms, [], ap, append-nil, arith, eqb_tells, false, inl, inr, leb_tells, normal_lines, refl, subst, sym, true, unread, ℕ, ◌++◌, ◌<◌, ◌∙◌, ◌∷◌, ◌≡◌, ◌≤◌, ◌⊎◌, ByteBetween, OneMore, TwoMore, cond}
 use Rattle.doc_tree.specs.declared.characters.Awaited.TheVariants as awaits
 use Rattle.doc_tree.specs.declared.machine.Goal.TheVariants as goals
 use Rattle.doc_tree.proofs.ByteGrammar.{IsMultibyte, marked_stuck}
@@ -8,7 +8,7 @@ use Rattle.doc_tree.proofs.Viability.HighBytes.{high_space}
 use Rattle.doc_tree.proofs.Viability.PrintableEnds.{wide}
 use Rattle.doc_tree.proofs.Viability.Endings.{marked_lasts}
 use Rattle.doc_tree.proofs.Viability.Specials.{plain_line}
-use Rattle.doc_tree.proofs.Utf8.{BeginsInside, ascii_xml, first_inner, first_last, first_one, first_or_inside, no_text}
+use Rattle.doc_tree.proofs.Utf8.{ascii_xml, first_inner, first_last, first_one, first_or_inside, no_text}
 
 -- bytes that complete the character
 abbrev pub Filling : Awaited → Type 0
@@ -25,20 +25,6 @@ filling awaits.ThreeHigh = (144 ∷ 128 ∷ 128 ∷ [], (omega arith, (omega ari
 filling awaits.ThreeLow = (128 ∷ 128 ∷ 128 ∷ [], (omega arith, (omega arith, (omega arith, tt))), λ x h. (omega arith, omega arith, (omega arith, omega arith, (omega arith, omega arith, h))))
 filling _ = (128 ∷ [], (omega arith, tt), λ x h. (omega arith, omega arith, h))
 
--- in a character that has begun comes none that begins one
-first_or_low : (w : Awaited) (b : ℕ) (rest : List ℕ) → CharacterRest w (b ∷ rest) → (w ≡ awaits.First) ⊎ (b ≤ 191)
-first_or_low awaits.First b rest h = inl refl
-first_or_low awaits.One b rest h = inr h.1
-first_or_low awaits.OneLow b rest h = let k = h.1 in inr (omega arith)
-first_or_low awaits.Two b rest h = inr h.1
-first_or_low awaits.TwoHigh b rest h = inr h.1
-first_or_low awaits.TwoLow b rest h = let k = h.1 in inr (omega arith)
-first_or_low awaits.TwoLast b rest (inl h) = let k = h.1 in inr (omega arith)
-first_or_low awaits.TwoLast b rest (inr h) = inr h.1
-first_or_low awaits.Three b rest h = inr h.1
-first_or_low awaits.ThreeHigh b rest h = inr h.1
-first_or_low awaits.ThreeLow b rest h = let k = h.1 in inr (omega arith)
-
 module _ (w v : Awaited) (b : ℕ) (f : CharacterFollows w b v) where
   -- what the byte stands before
   before : CharacterRest w (b ∷ (filling v).0)
@@ -50,15 +36,15 @@ module _ (w v : Awaited) (b : ℕ) (f : CharacterFollows w b v) where
         let t : IsXmlText (b ∷ (filling v).0) = subst (λ z. CharacterRest z (b ∷ (filling v).0)) e before in
         let k : IsXmlText (b ∷ x) = (first_one b (ascii_xml b (filling v).0 l t) l x).1 h in
         (f x).0 (subst (λ z. CharacterRest z (b ∷ x)) (sym e) k))
-    | inr k ↦ absurd (omega arith)
+    | inr k ↦ (let j = k.0 in absurd (omega arith))
   ]
 
   mark_first : b ≡ 239 → Fills (CharacterRest v) (187 ∷ 191 ∷ [])
-  mark_first e x h = elim (first_or_low w b (filling v).0 before) [
+  mark_first e x h = elim (first_or_inside w (b ∷ (filling v).0) before) [
     | inl q ↦ (
         let k : CharacterRest awaits.First (239 ∷ 187 ∷ 191 ∷ x) = (first_last 239 refl (187 ∷ 191 ∷ x)).1 (inl (omega arith, omega arith, (omega arith, omega arith, h))) in
         (f (187 ∷ 191 ∷ x)).0 (subst (λ z. CharacterRest w (z ∷ 187 ∷ 191 ∷ x)) (sym e) (subst (λ z. CharacterRest z (239 ∷ 187 ∷ 191 ∷ x)) (sym q) k)))
-    | inr k ↦ absurd (omega arith)
+    | inr k ↦ (let j = k.1 in absurd (omega arith))
   ]
 
   -- in the mark no character begins
@@ -69,7 +55,7 @@ module _ (w v : Awaited) (b : ℕ) (f : CharacterFollows w b v) where
   mark_high : (s : State) → Good s.place s → Marks (CharacterRest w) s → IsInMark s.place s.goal → 128 ≤ b
   mark_high s g m i = elim (first_or_inside w (b ∷ (filling v).0) before) [
     | inl e ↦ absurd (fixed_not_first s.left (mark_fixed s g i) (subst (λ z. Fills (CharacterRest z) s.left) e (m i)))
-    | inr k ↦ k
+    | inr k ↦ k.0
   ]
 
   pub meets_on : (s : State) (r : Bool) (new : State) (returns : Bool) → Good s.place s → PassesByte s r b new returns → Marks (CharacterRest w) s → Met (CharacterRest v) new returns × Marks (CharacterRest v) new
@@ -108,99 +94,76 @@ marked_low u (c ∷ z) es h = elim (leb_tells 128 c) [
   | inr k ↦ (c, z, refl, k.1)
 ]
 
--- which characters the mark's bytes complete
-one_left : (w : Awaited) (d : ℕ) (z : List ℕ) → d < 128 → (w ≡ awaits.First → ⊥) → CharacterRest w (191 ∷ d ∷ z) → Fills (CharacterRest w) (191 ∷ [])
-one_left awaits.First d z l n k = absurd (n refl)
-one_left awaits.One d z l n k = λ x h. (omega arith, omega arith, h)
-one_left awaits.OneLow d z l n k = let m = k.1 in absurd (omega arith)
-one_left awaits.Two d z l n k = let m = k.2.0 in absurd (omega arith)
-one_left awaits.TwoHigh d z l n k = let m = k.2.0 in absurd (omega arith)
-one_left awaits.TwoLow d z l n k = let m = k.1 in absurd (omega arith)
-one_left awaits.TwoLast d z l n (inl k) = let m = k.1 in absurd (omega arith)
-one_left awaits.TwoLast d z l n (inr k) = let m = k.2.0 in absurd (omega arith)
-one_left awaits.Three d z l n k = let m = k.2.0 in absurd (omega arith)
-one_left awaits.ThreeHigh d z l n k = let m = k.2.0 in absurd (omega arith)
-one_left awaits.ThreeLow d z l n k = let m = k.1 in absurd (omega arith)
+-- bytes that begin no character
+abbrev IsInner : ℕ → Type 0
+IsInner c = (128 ≤ c) × (c < 194)
 
-two_left : (w : Awaited) (d : ℕ) (z : List ℕ) → d < 128 → (w ≡ awaits.First → ⊥) → CharacterRest w (187 ∷ 191 ∷ d ∷ z) → Fills (CharacterRest w) (187 ∷ 191 ∷ [])
-two_left awaits.First d z l n k = absurd (n refl)
-two_left awaits.Two d z l n k = λ x h. (omega arith, omega arith, (omega arith, omega arith, h))
-two_left awaits.TwoHigh d z l n k = λ x h. (omega arith, omega arith, (omega arith, omega arith, h))
-two_left awaits.TwoLow d z l n k = let m = k.1 in absurd (omega arith)
-two_left awaits.TwoLast d z l n (inl k) = λ x h. inl (omega arith, omega arith, (omega arith, omega arith, h))
-two_left awaits.TwoLast d z l n (inr k) = let m = k.0 in absurd (omega arith)
-two_left awaits.Three d z l n k = let m = k.2.2.0 in absurd (omega arith)
-two_left awaits.ThreeHigh d z l n k = let m = k.2.2.0 in absurd (omega arith)
-two_left awaits.ThreeLow d z l n k = let m = k.1 in absurd (omega arith)
-two_left _ d z l n k = absurd (first_inner 191 (omega arith) (omega arith) (d ∷ z) k.2)
+-- such bytes complete the character where a byte of ASCII goes on behind them
+abbrev Cut : (List ℕ → Type 0) → Type 0
+Cut C = (left : List ℕ) → Each IsInner left → (d : ℕ) (z : List ℕ) → d < 128 → C (left ++ (d ∷ z)) → Fills C left
 
--- the bytes that end a document in the mark, their line ends made normal
-text_left : (w : Awaited) (left rest y : List ℕ) → IsFixed goals.Marked left → (w ≡ awaits.First → ⊥) → CharacterRest w rest → (c : ℕ) (z : List ℕ) → c < 128 → y ≡ c ∷ z → normal_lines rest ≡ left ++ y → Fills (CharacterRest w) left
-text_left w left rest y (inl e) n k c z l f q =
-    let p : normal_lines rest ≡ 187 ∷ 191 ∷ c ∷ z = subst (λ m. normal_lines rest ≡ 187 ∷ 191 ∷ m) f (subst (λ m. normal_lines rest ≡ m ++ y) e q) in
-    let a = head_high rest 187 (191 ∷ c ∷ z) (omega arith) p in
-    let b = head_high a.0 191 (c ∷ z) (omega arith) a.2 in
-    let d = head_low b.0 c z l b.2 in
-    let t : rest ≡ 187 ∷ 191 ∷ d.0 ∷ d.1 = subst (λ m. rest ≡ 187 ∷ 191 ∷ m) d.2 (subst (λ m. rest ≡ 187 ∷ m) b.1 a.1) in
-    subst (Fills (CharacterRest w)) (sym e) (two_left w d.0 d.1 d.3 n (subst (CharacterRest w) t k))
-text_left w left rest y (inr e) n k c z l f q =
-    let p : normal_lines rest ≡ 191 ∷ c ∷ z = subst (λ m. normal_lines rest ≡ 191 ∷ m) f (subst (λ m. normal_lines rest ≡ m ++ y) e q) in
-    let a = head_high rest 191 (c ∷ z) (omega arith) p in
-    let d = head_low a.0 c z l a.2 in
-    let t : rest ≡ 191 ∷ d.0 ∷ d.1 = subst (λ m. rest ≡ 191 ∷ m) d.2 a.1 in
-    subst (Fills (CharacterRest w)) (sym e) (one_left w d.0 d.1 d.3 n (subst (CharacterRest w) t k))
+text_cut : Cut IsXmlText
+text_cut [] i d z l k = λ x h. h
+text_cut (c ∷ cs) i d z l k = absurd (first_inner c i.0.0 i.0.1 (cs ++ (d ∷ z)) k)
 
--- a line feed that is left out changes nothing
-unread_inside : (r : Bool) (rest : List ℕ) → BeginsInside rest → unread r rest ≡ rest
-unread_inside r [] h = absurd h
-unread_inside true (b ∷ bs) h = grind arith
-unread_inside false (b ∷ bs) h = refl
+between_cut : (low high : ℕ) (K : List ℕ → Type 0) → 128 ≤ low → Cut K → Cut (ByteBetween low high K)
+between_cut low high K m f [] i d z l k = let n = k.0 in absurd (omega arith)
+between_cut low high K m f (c ∷ cs) i d z l k = λ x h. (k.0, k.1, f cs i.1 d z l k.2 x h)
 
-fixed_head : (left y : List ℕ) → IsFixed goals.Marked left → (h : ℕ) × (z : List ℕ) × (left ++ y ≡ h ∷ z) × (128 ≤ h) × (h < 194)
-fixed_head left y (inl e) = (187, 191 ∷ y, ap (λ m. m ++ y) e, omega arith, omega arith)
-fixed_head left y (inr e) = (191, y, ap (λ m. m ++ y) e, omega arith, omega arith)
+one_cut : Cut OneMore
+one_cut = between_cut 128 191 IsXmlText (omega arith) text_cut
 
--- behind whole characters no document ends in the mark
-inner_stuck : (rest : List ℕ) (h : ℕ) → 128 ≤ h → h < 194 → IsXmlText rest → (k : List ℕ) → rest ≡ h ∷ k → ⊥
-inner_stuck rest h l m t k e = first_inner h l m k (subst IsXmlText e t)
+two_cut : Cut TwoMore
+two_cut = between_cut 128 191 OneMore (omega arith) one_cut
 
-lines_first : (rest : List ℕ) (h : ℕ) (z : List ℕ) → 128 ≤ h → h < 194 → IsXmlText rest → normal_lines rest ≡ h ∷ z → ⊥
-lines_first rest h z l m t e = let a = head_high rest h z l e in inner_stuck rest h l m t a.0 a.1
+character_cut : (w : Awaited) → Cut (CharacterRest w)
+character_cut awaits.First left i d z l k = text_cut left i d z l k
+character_cut awaits.One left i d z l k = one_cut left i d z l k
+character_cut awaits.OneLow left i d z l k = between_cut 128 189 IsXmlText (omega arith) text_cut left i d z l k
+character_cut awaits.Two left i d z l k = two_cut left i d z l k
+character_cut awaits.TwoHigh left i d z l k = between_cut 160 191 OneMore (omega arith) one_cut left i d z l k
+character_cut awaits.TwoLow left i d z l k = between_cut 128 159 OneMore (omega arith) one_cut left i d z l k
+character_cut awaits.TwoLast left i d z l (inl k) = λ x h. inl (between_cut 128 190 OneMore (omega arith) one_cut left i d z l k x h)
+character_cut awaits.TwoLast left i d z l (inr k) = λ x h. inr (between_cut 191 191 (ByteBetween 128 189 IsXmlText) (omega arith) (between_cut 128 189 IsXmlText (omega arith) text_cut) left i d z l k x h)
+character_cut awaits.Three left i d z l k = between_cut 128 191 TwoMore (omega arith) two_cut left i d z l k
+character_cut awaits.ThreeHigh left i d z l k = between_cut 144 191 TwoMore (omega arith) two_cut left i d z l k
+character_cut awaits.ThreeLow left i d z l k = between_cut 128 143 TwoMore (omega arith) two_cut left i d z l k
 
-unread_first : (r : Bool) (rest : List ℕ) (h : ℕ) (z : List ℕ) → 128 ≤ h → h < 194 → IsXmlText rest → normal_lines (unread r rest) ≡ h ∷ z → ⊥
-unread_first false rest h z l m t e = lines_first rest h z l m t e
-unread_first true [] h z l m t e = absurd (cc)
-unread_first true (b ∷ bs) h z l m t e = elim (eqb_tells b 10) [
-  | inl q ↦ (
-      let f : normal_lines bs ≡ h ∷ z = (let k = q.1 in grind arith) in
-      lines_first bs h z l m ((first_one 10 (inr (inl refl)) (omega arith) bs).0 (subst (λ n. IsXmlText (n ∷ bs)) q.1 t)) f)
-  | inr q ↦ (
-      let f : normal_lines (b ∷ bs) ≡ h ∷ z = (let k = q.1 in grind arith) in
-      lines_first (b ∷ bs) h z l m t f)
+-- such bytes, and one of ASCII behind them, stand in a text as they do where its line ends are normal
+lines_left : (left : List ℕ) → Each IsInner left → (c : ℕ) (y rest : List ℕ) → c < 128 → normal_lines rest ≡ left ++ (c ∷ y) → (d : ℕ) × (z : List ℕ) × (rest ≡ left ++ (d ∷ z)) × (d < 128)
+lines_left [] i c y rest l e = head_low rest c y l e
+lines_left (b ∷ left) i c y rest l e =
+    let a = head_high rest b (left ++ (c ∷ y)) i.0.0 e in
+    let r = lines_left left i.1 c y a.0 l a.2 in
+    (r.0, r.1, a.1 ∙ ap (λ m. b ∷ m) r.2, r.3)
+
+-- a line feed that is left out leaves the same character to complete
+unread_rest : (w : Awaited) (r : Bool) (rest : List ℕ) → CharacterRest w rest → CharacterRest w (unread r rest)
+unread_rest w false rest k = k
+unread_rest w true [] k = k
+unread_rest w true (b ∷ bs) k = elim (eqb_tells b 10) [
+  | inl q ↦ elim (first_or_inside w (b ∷ bs) k) [
+    | inl f ↦ subst (λ z. CharacterRest w (cond z bs (b ∷ bs))) (sym q.0) (subst (λ z. CharacterRest z bs) (sym f) ((first_one 10 (inr (inl refl)) (omega arith) bs).0 (subst (λ n. IsXmlText (n ∷ bs)) q.1 (subst (λ z. CharacterRest z (b ∷ bs)) f k))))
+    | inr i ↦ (let l = i.0 in let e = q.1 in absurd (omega arith))
+  ]
+  | inr q ↦ subst (λ z. CharacterRest w (cond z bs (b ∷ bs))) (sym q.0) k
 ]
 
-marks_left : (w : Awaited) (left rest y : List ℕ) (r : Bool) (es : List Mark) (u : Terms) → IsFixed goals.Marked left → CharacterRest w rest → normal_lines (unread r rest) ≡ left ++ y → Marked u y es → Fills (CharacterRest w) left
-marks_left w left rest y r es u i k e d =
-    let c = marked_low u y es d in
-    let f = fixed_head left y i in
-    let n : w ≡ awaits.First → ⊥ = λ q. unread_first r rest f.0 f.1 f.3 f.4 (subst (λ z. CharacterRest z rest) q k) (e ∙ f.2) in
-    elim (first_or_inside w rest k) [
-      | inl q ↦ absurd (n q)
-      | inr b ↦ text_left w left rest y i n k c.0 c.1 c.3 c.2 (sym (ap normal_lines (unread_inside r rest b)) ∙ e)
-    ]
+fixed_inner : (left : List ℕ) → IsFixed goals.Marked left → Each IsInner left
+fixed_inner left (inl e) = subst (Each IsInner) (sym e) ((omega arith, omega arith), ((omega arith, omega arith), tt))
+fixed_inner left (inr e) = subst (Each IsInner) (sym e) ((omega arith, omega arith), tt)
 
 marks_of : (w : Awaited) (s : State) (r : Bool) → Good s.place s → Met (CharacterRest w) s r → Marks (CharacterRest w) s
 marks_of w s r g m i =
     let d = m.document in
     let t = mark_says s g i (normal_lines (unread r m.rest)) d.later d.rest in
-    marks_left w s.left m.rest t.behind r d.later (wide 32) (mark_fixed s g i) m.character t.text t.after
+    let f = fixed_inner s.left (mark_fixed s g i) in
+    let c = marked_low (wide 32) t.behind d.later t.after in
+    let x = lines_left s.left f c.0 c.1 (unread r m.rest) c.3 (t.text ∙ ap (λ z. s.left ++ z) c.2) in
+    character_cut w s.left f x.0 x.1 x.3 (subst (CharacterRest w) x.2 (unread_rest w r m.rest m.character))
 
 -- What completed characters and document before the byte may be chosen so that it does behind it.
-pub meets_behind : (w v : Awaited) (s : State) (r : Bool) (b : ℕ) (new : State) (returns : Bool) → Good s.place s → PassesByte s r b new returns → CharacterFollows w b v → Met (CharacterRest w) s r → Met (CharacterRest v) new returns
-meets_behind w v s r b new returns g p f m = (meets_on w v b f s r new returns g p (marks_of w s r g m)).0
-
--- the same of a reader that is fed
 pub fed_on : (s : State) (returned : Bool) (w : Awaited) (seen : List ℕ) (b : ℕ) (t : State) (returns : Bool) (v : Awaited) → Continues s returned seen → Spells w seen → MeetsBoth w s returned → PassesByte s returned b t returns → CharacterFollows w b v → MeetsBoth v t returns
 fed_on s returned w seen b t returns v c p m q f =
-    let k = meets_behind w v s returned b t returns c.good q f (record { rest = m.rest; character = m.character; says = m.says; document = m.document }) in
+    let k = (meets_on w v b f s returned t returns c.good q (marks_of w s returned c.good (record { rest = m.rest; character = m.character; says = m.says; document = m.document }))).0 in
     record { rest = k.rest; character = k.character; says = k.says; document = k.document }

@@ -4,7 +4,7 @@ use Rattle.doc_tree.specs.declared.declaration.Field.TheVariants as fields
 use Rattle.doc_tree.specs.declared.names.Part.TheVariants as parts
 use Rattle.doc_tree.specs.declared.machine.Place.TheVariants as places
 use Rattle.doc_tree.proofs.Viability.PrintableEnds.{fixed}
-use Rattle.doc_tree.proofs.ByteGrammar.{IsHigh, IsMultibyte, after_less, after_stuck, before_less, before_stuck, body_begins, choice_ends as tag_ends, comment_dash_byte, comment_plain_byte, content_char, content_tag, digit_more, each_last, encoding_printable, equals_stuck, first_over_high, first_stuck, key_high, marked_less, marked_question, marked_stuck, name_none, no_brackets, numeral_stuck, part_printable, pi_mark, pi_over_high, pi_plain, quote_range, quote_stuck, radix_low, ref_a_stuck, ref_hash, ref_stuck, section_none, section_one, section_two, space_low, spaces_over, start_printable, tag_high, then_over, value_char, word_first}
+use Rattle.doc_tree.proofs.ByteGrammar.{IsHigh, IsMultibyte, after_less, after_stuck, before_less, before_stuck, body_begins, choice_ends as tag_ends, comment_dash_byte, comment_plain_byte, content_char, content_tag, digit_more, each_last, encoding_printable, equals_stuck, first_over_high, first_stuck, key_high, marked_less, marked_question, marked_stuck, name_none, no_brackets, numeral_stuck, part_printable, pi_mark, pi_over_high, pi_plain, quote_range, quote_stuck, radix_low, ref_a_stuck, ref_hash, ref_stuck, section_run, space_low, spaces_over, start_printable, tag_high, then_over, value_char, word_first}
 use Rattle.doc_tree.proofs.MachineSteps.{KQ, around_mark, around_no, choice_ends, end_no, ends_first, field_each, gap_plain, value_more}
 
 -- Whatever the byte goes on with, it goes on so behind others, saying perhaps more.
@@ -90,22 +90,15 @@ module _ (K : List ℕ → List Mark → Type 0) where
   section_in x es h (c ∷ cs) m =
       let l : 128 ≤ c = m.0 in
       let k = section_in x es h cs m.1 in
-      (Char c ∷ k.0, (section_none K c (cs ++ x) (Char c ∷ k.0) (λ e. omega arith)).1 (record { later = k.0; says = refl; after = k.1 }))
+      (Char c ∷ k.0, (section_run K 0 c (cs ++ x) (Char c ∷ k.0) (omega arith) (λ e. omega arith) (λ h. absurd (omega arith))).1 (record { later = k.0; says = refl; after = k.1 }))
 
   section_said : (text : List ℕ) (x : List ℕ) (es : List Mark) → Saying (map Char text) (SectionRest 0 K) x es → (more : List ℕ) → Each IsMultibyte more → (says : List Mark) × Saying (map Char text) (SectionRest 0 K) (more ++ x) says
   section_said text x es h more m = let k = section_in x h.later h.after more m in (map Char text ++ k.0, record { later = k.0; says = refl; after = k.1 })
 
   section_absorbs : (n b : ℕ) → n ≤ 2 → 128 ≤ b → Absorbs (λ x. SectionRest 0 K (pending_brackets n x)) b
-  section_absorbs zero b j l x es h more m =
-      let k = section_said (b ∷ []) x es ((section_none K b x es (λ e. omega arith)).0 h) more m in
-      (k.0, (section_none K b (more ++ x) k.0 (λ e. omega arith)).1 k.1)
-  section_absorbs (suc zero) b j l x es h more m =
-      let k = section_said (93 ∷ b ∷ []) x es ((section_one K b x es (λ e. omega arith)).0 h) more m in
-      (k.0, (section_one K b (more ++ x) k.0 (λ e. omega arith)).1 k.1)
-  section_absorbs (suc (suc zero)) b j l x es h more m =
-      let k = section_said (93 ∷ 93 ∷ b ∷ []) x es ((section_two K b x es (λ e. omega arith) (λ e. omega arith)).0 h) more m in
-      (k.0, (section_two K b (more ++ x) k.0 (λ e. omega arith) (λ e. omega arith)).1 k.1)
-  section_absorbs (suc (suc (suc n))) b j l x es h more m = absurd (omega arith)
+  section_absorbs n b j l x es h more m =
+      let k = section_said (pending_brackets n (b ∷ [])) x es ((section_run K n b x es j (λ e. omega arith) (λ _ e. omega arith)).0 h) more m in
+      (k.0, (section_run K n b (more ++ x) k.0 j (λ e. omega arith) (λ _ e. omega arith)).1 k.1)
 
 -- where none may stand
 module _ (u : Terms) (b : ℕ) (l : 128 ≤ b) where

@@ -1,13 +1,12 @@
 -- The machine behind the first bytes of a character of more than one.
-use Rattle.doc_tree.proofs.Words.{Bool, Each, Finishes, Goal, Good, IsFixed, IsInMark, IsPrintable, IsXmlText, List, Mark, Marked, PassesByte, Place, ReachesGoal, RestsAt, State, Terms, Whole, Word, [], ap, arith, eqb_tells, inl, inr, leb_tells, refl, subst, sym, ℕ, ◌++◌, ◌<◌, ◌↔◌, ◌∙◌, ◌∷◌, ◌≡◌, ◌≢◌, ◌≤◌, ◌⊎◌}
+use Rattle.doc_tree.proofs.Words.{Bool, Each, Finishes, Goal, Good, IsFixed, IsInMark, IsPrintable, IsXmlText, List, Mark, Marked, PassesByte, Place, ReachesGoal, RestsAt, State, Terms, Whole, Word, [], ap, arith, eqb_tells, inl, inr, leb_tells, refl, subst, sym, ℕ, ◌++◌, ◌<◌, ◌↔◌, ◌∙◌, ◌∷◌, ◌≡◌, ◌≢◌, ◌≤◌, ◌⊎◌, each_append}
 use Rattle.doc_tree.specs.declared.machine.Goal.TheVariants as goals
 use Rattle.doc_tree.specs.declared.machine.Place.TheVariants as places
 use Rattle.doc_tree.proofs.Viability.HighBytes.{Absorbs, absorbs, high_space}
 use Rattle.doc_tree.proofs.Viability.PrintableEnds.{wide, marked}
-use Rattle.element_tree.proofs.XmlTexts.{each_append}
-use Rattle.doc_tree.proofs.ByteGrammar.{IsMultibyte, marked_stuck, whole_mark, whole_plain}
+use Rattle.doc_tree.proofs.ByteGrammar.{IsMultibyte, each_map, marked_stuck, whole_mark, whole_plain}
 use Rattle.doc_tree.proofs.Viability.Completions.{Completion}
-use Rattle.doc_tree.proofs.Viability.Prefixes.{IsSteady, steady, printable_steady, mark_steady, multibyte_steady, printable_xml, Open, open_here, open_mark}
+use Rattle.doc_tree.proofs.Viability.Prefixes.{IsSteady, steady, printable_steady, mark_steady, printable_xml, Open, open_here, open_mark}
 
 -- Whatever bytes from 128 on come, printable ones end a document behind them.
 abbrev pub OpenText : State → Bool → Type 0
@@ -53,6 +52,22 @@ printable_fixed : (left x y : List ℕ) → IsFixed goals.Marked left → Each I
 printable_fixed left [] y i h e = fixed_some left y i e
 printable_fixed left (b ∷ x) y i h e = let l = h.0.1 in elim (fixed_first left x y b i e) [ inl k ↦ omega arith | inr k ↦ omega arith ]
 
+-- what may be left of the mark behind one of its bytes, a document behind it, and that it is left in one way
+abbrev pub IsTail : List ℕ → Type 0
+IsTail left = (left ≡ []) ⊎ (left ≡ 191 ∷ [])
+
+any_document : Completion (Marked t)
+any_document = marked 32 (omega arith)
+
+tail_steady : (left : List ℕ) → IsTail left → Each IsSteady (left ++ any_document.bytes)
+tail_steady left (inl e) = subst (λ z. Each IsSteady (z ++ any_document.bytes)) (sym e) (printable_steady any_document.bytes any_document.printable)
+tail_steady left (inr e) = subst (λ z. Each IsSteady (z ++ any_document.bytes)) (sym e) (omega arith, printable_steady any_document.bytes any_document.printable)
+
+tail_same : (left x y other : List ℕ) → IsTail left → IsFixed goals.Marked other → Each IsPrintable x → left ++ x ≡ other ++ y → left ≡ other
+tail_same left x y other (inl a) i h e = absurd (printable_fixed other x y i h (sym (ap (λ z. z ++ x) a) ∙ e))
+tail_same left x y other (inr a) (inl j) h e = let k : 191 ∷ x ≡ 187 ∷ 191 ∷ y = sym (ap (λ z. z ++ x) a) ∙ (e ∙ ap (λ z. z ++ y) j) in let v : ◌≡◌ {A = ℕ} 191 187 = cc in absurd (omega arith)
+tail_same left x y other (inr a) (inr j) h e = a ∙ sym j
+
 -- bytes that are no line ends, before and behind the layer
 rests_of : (s : State) (r : Bool) (x : List ℕ) (es : List Mark) → Each IsSteady x → Finishes s r t x es → (later : List Mark) × (es ≡ s.marks ++ later) × RestsAt s.place s t x later
 rests_of s r x es h f = (f.later, f.whole, subst (λ z. RestsAt s.place s t z f.later) (steady r x h) f.rest)
@@ -83,7 +98,7 @@ module _ (s : State) (r : Bool) (b : ℕ) (new : State) (returns : Bool) (l : 12
   others a o more h =
       let k = back s r b new returns [] l tt p o in
       let m = a o.bytes k.0 k.2 more h in
-      let e : Each IsSteady (b ∷ (more ++ o.bytes)) = (omega arith, each_append IsSteady more o.bytes (multibyte_steady more h) (printable_steady o.bytes o.printable)) in
+      let e : Each IsSteady (b ∷ (more ++ o.bytes)) = (omega arith, each_append IsSteady more o.bytes (each_map IsMultibyte IsSteady (λ c (p : 128 ≤ c). omega arith) more h) (printable_steady o.bytes o.printable)) in
       record { bytes = o.bytes; printable = o.printable; marks = s.marks ++ m.0; rest = (p.same t (omega arith) (more ++ o.bytes) (s.marks ++ m.0)).0 (finishes_of s r (b ∷ (more ++ o.bytes)) m.0 e m.1) }
 
   -- the mark takes no others
@@ -147,59 +162,29 @@ module _ (s : State) (r : Bool) (b : ℕ) (new : State) (returns : Bool) (l : 12
       let k : Word s.left (ReachesGoal s.goal s t) x es = subst (λ z. Word s.left (ReachesGoal z s t) x es) (sym f) h in
       subst (λ z. RestsAt z s t x es) (sym e) k
 
-  mark_over : s.place ≡ places.Word → s.goal ≡ goals.Marked → s.left ≡ b ∷ [] → new.place ≡ places.Word → new.goal ≡ goals.Marked → ⊥
-  mark_over e f m g h =
-      let c : Completion (Marked t) = marked 32 (omega arith) in
-      let k : RestsAt s.place s t (b ∷ c.bytes) c.marks = mark_back e f (b ∷ c.bytes) c.marks (record { behind = c.bytes; text = ap (λ z. z ++ c.bytes) (sym m); after = c.rest }) in
-      let hc : Each IsSteady c.bytes = printable_steady c.bytes c.printable in
-      let n : Finishes new returns t c.bytes (s.marks ++ c.marks) = (p.same t (omega arith) c.bytes (s.marks ++ c.marks)).0 (finishes_of s r (b ∷ c.bytes) c.marks (omega arith, hc) k) in
-      let q = rests_of new returns c.bytes (s.marks ++ c.marks) hc n in
-      let w = mark_text new g h c.bytes q.0 q.2 in
-      printable_fixed new.left c.bytes w.behind (mark_left new p.good g h) c.printable w.text
+  some_open : (more : List ℕ) × Each IsSteady more × Open 32 new returns more
+  some_open = elim (in_mark new.place new.goal) [
+    | inl n ↦ ([], tt, open_here 32 (omega arith) new returns p.good n)
+    | inr q ↦ (new.left, mark_steady new.left (mark_left new p.good q.0 q.1), open_mark 32 (omega arith) new returns p.good q.0 q.1)
+  ]
 
-  abbrev pub MarkOn : Type 0
-  MarkOn = ((s.left ≡ b ∷ []) × (IsInMark new.place new.goal → ⊥)) ⊎ ((s.left ≡ b ∷ new.left) × IsInMark new.place new.goal)
-
-  mark_here : s.place ≡ places.Word → s.goal ≡ goals.Marked → Good s.place s → (IsInMark new.place new.goal → ⊥) → MarkOn
-  mark_here e f g n =
-      let o : Open 32 new returns [] = open_here 32 (omega arith) new returns p.good n in
-      let k = back s r b new returns [] l tt p o in
-      let w = mark_text s e f (b ∷ o.bytes) k.0 k.2 in
-      let m : b ∷ o.bytes ≡ s.left ++ w.behind = w.text in
-      elim (mark_left s g e f) [
-        | inl j ↦ (let q : b ∷ o.bytes ≡ 187 ∷ 191 ∷ w.behind = m ∙ ap (λ z. z ++ w.behind) j in absurd (printable_fixed (191 ∷ []) o.bytes w.behind (inr refl) o.printable (cc)))
-        | inr j ↦ (let q : b ∷ o.bytes ≡ 191 ∷ w.behind = m ∙ ap (λ z. z ++ w.behind) j in let a : b ≡ 191 = cc in inl (j ∙ ap (λ z. z ∷ []) (sym a), n))
+  mark_left_over : Good s.place s → IsInMark s.place s.goal → (left : List ℕ) × (s.left ≡ b ∷ left) × IsTail left
+  mark_left_over g m =
+      let o = some_open in
+      let k = back s r b new returns o.0 l o.1 p o.2 in
+      let w = mark_says s g m (b ∷ (o.0 ++ o.2.bytes)) k.0 k.2 in
+      elim (mark_fixed s g m) [
+        | inl j ↦ (let q : b ∷ (o.0 ++ o.2.bytes) ≡ 187 ∷ 191 ∷ w.behind = w.text ∙ ap (λ z. z ++ w.behind) j in let a : b ≡ 187 = cc in (191 ∷ [], j ∙ ap (λ z. z ∷ 191 ∷ []) (sym a), inr refl))
+        | inr j ↦ (let q : b ∷ (o.0 ++ o.2.bytes) ≡ 191 ∷ w.behind = w.text ∙ ap (λ z. z ++ w.behind) j in let a : b ≡ 191 = cc in ([], j ∙ ap (λ z. z ∷ []) (sym a), inl refl))
       ]
 
-  mark_still : s.place ≡ places.Word → s.goal ≡ goals.Marked → Good s.place s → new.place ≡ places.Word → new.goal ≡ goals.Marked → MarkOn
-  mark_still e f g d h =
-      let i = mark_left new p.good d h in
-      let o : Open 32 new returns new.left = open_mark 32 (omega arith) new returns p.good d h in
-      let k = back s r b new returns new.left l (mark_steady new.left i) p o in
-      let w = mark_text s e f (b ∷ (new.left ++ o.bytes)) k.0 k.2 in
-      let m : b ∷ (new.left ++ o.bytes) ≡ s.left ++ w.behind = w.text in
-      elim (mark_left s g e f) [
-        | inl j ↦ (
-            let q : b ∷ (new.left ++ o.bytes) ≡ 187 ∷ 191 ∷ w.behind = m ∙ ap (λ z. z ++ w.behind) j in
-            let a : b ≡ 187 = cc in
-            let c : new.left ++ o.bytes ≡ 191 ∷ w.behind = cc in
-            elim i [
-              | inl x ↦ (let y : 187 ∷ 191 ∷ o.bytes ≡ 191 ∷ w.behind = sym (ap (λ z. z ++ o.bytes) x) ∙ c in let v : ◌≡◌ {A = ℕ} 187 191 = cc in absurd (omega arith))
-              | inr x ↦ inr (j ∙ ap (λ z. z ∷ 191 ∷ []) (sym a) ∙ ap (λ z. b ∷ z) (sym x), is_mark new.place new.goal d h)
-            ])
-        | inr j ↦ (
-            let q : b ∷ (new.left ++ o.bytes) ≡ 191 ∷ w.behind = m ∙ ap (λ z. z ++ w.behind) j in
-            let a : b ≡ 191 = cc in
-            absurd (mark_over e f (j ∙ ap (λ z. z ∷ []) (sym a)) d h))
-      ]
-
-  pub mark_goes : Good s.place s → IsInMark s.place s.goal → MarkOn
-  mark_goes g m = elim (in_mark s.place s.goal) [
+  -- behind what is left of it goes a document
+  mark_document : (left : List ℕ) → s.left ≡ b ∷ left → IsTail left → IsInMark s.place s.goal → Finishes new returns t (left ++ any_document.bytes) (s.marks ++ any_document.marks)
+  mark_document left e h m = elim (in_mark s.place s.goal) [
     | inl n ↦ absurd (n m)
-    | inr q ↦ elim (in_mark new.place new.goal) [
-      | inl n ↦ mark_here q.0 q.1 g n
-      | inr d ↦ mark_still q.0 q.1 g d.0 d.1
-    ]
+    | inr q ↦ (
+        let k = mark_back q.0 q.1 (b ∷ (left ++ any_document.bytes)) any_document.marks (record { behind = any_document.bytes; text = ap (λ z. z ++ any_document.bytes) (sym e); after = any_document.rest }) in
+        (p.same t (omega arith) (left ++ any_document.bytes) (s.marks ++ any_document.marks)).0 (finishes_of s r (b ∷ (left ++ any_document.bytes)) any_document.marks (omega arith, tail_steady left h) k))
   ]
 
 -- Some bytes complete a character, in whatever way, and a document at once.
@@ -234,9 +219,16 @@ module _ (W V : List ℕ → Type 0) (s : State) (r : Bool) (b : ℕ) (new : Sta
     | inr q ↦ (met_of V new returns new.left (open_mark 32 (omega arith) new returns p.good q.0 q.1) f, λ k. f)
   ]
 
-  -- behind the mark's own bytes
-  goes_left : (left : List ℕ) → s.left ≡ b ∷ left → Fills W s.left → Fills V left
-  goes_left left e f x h = (follows (left ++ x)).0 (subst (λ z. W (z ++ x)) e (f x h))
+  -- in the mark
+  goes_on : 128 ≤ b → IsInMark s.place s.goal → Fills W s.left → Goes
+  goes_on l m f =
+      let o = mark_left_over s r b new returns l p g m in
+      let n = mark_document s r b new returns l p o.0 o.1 o.2 m in
+      let k : Fills V o.0 = λ x h. (follows (o.0 ++ x)).0 (subst (λ z. W (z ++ x)) o.1 (f x h)) in
+      (record { rest = o.0 ++ any_document.bytes; character = k any_document.bytes (printable_xml any_document.bytes any_document.printable); says = s.marks ++ any_document.marks; document = n }, λ i.
+      let q = rests_of new returns (o.0 ++ any_document.bytes) (s.marks ++ any_document.marks) (tail_steady o.0 o.2) n in
+      let w = mark_says new p.good i (o.0 ++ any_document.bytes) q.0 q.2 in
+      subst (Fills V) (tail_same o.0 any_document.bytes w.behind new.left o.2 (mark_fixed new p.good i) any_document.printable w.text) k)
 
   goes_longer : 128 ≤ b → (IsInMark s.place s.goal → ⊥) → (more : List ℕ) → Each IsMultibyte more → Fills V more → (b ≡ 239 → Fills V (187 ∷ 191 ∷ [])) → Goes
   goes_longer l n more h f first = elim (begun s r b new returns l p g n) [
@@ -251,10 +243,5 @@ module _ (W V : List ℕ → Type 0) (s : State) (r : Bool) (b : ℕ) (new : Sta
       | inl l ↦ goes_longer l.1 n more h f first
       | inr l ↦ goes_plain (p.unmarked l.1 n) (low l.1)
     ]
-    | inr q ↦ (
-        let k : IsInMark s.place s.goal = is_mark s.place s.goal q.0 q.1 in
-        elim (mark_goes s r b new returns (high k) p g k) [
-          | inl e ↦ goes_plain e.1 (goes_left [] e.0 (m k))
-          | inr e ↦ goes_mark e.1 (goes_left new.left e.0 (m k))
-        ])
+    | inr q ↦ (let k : IsInMark s.place s.goal = is_mark s.place s.goal q.0 q.1 in goes_on (high k) k (m k))
   ]

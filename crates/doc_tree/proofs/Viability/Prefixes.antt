@@ -1,10 +1,9 @@
 -- Documents go on behind what the machine has taken, and none behind what it refuses.
-use Rattle.doc_tree.proofs.Words.{Between, Bool, Continues, Declaration, Each, Finishes, Good, Insides, IsDeclarationRead, IsDeep, IsDeepAt, IsFixed, IsInMark, IsNameStart, IsPrintable, IsShallowlyViable, IsText, IsViable, IsXmlChar, IsXmlText, List, Mark, Marked, ReachesGoal, RestsAt, State, TagRest, Terms, Whole, Word, [], any, ap, append-nil, append_assoc, arith, body_nodes, declared, depth_left, encode_ascii, encode_utf8_all, encodes-append, false, inl, inr, length, no_encoding, nodes_depth, normal_lines, refl, subst, suc, sym, true, unread, ℕ, ◌++◌, ◌-◌, ◌<◌, ◌∙◌, ◌∷◌, ◌≡◌, ◌≤◌}
+use Rattle.doc_tree.proofs.Words.{Between, Bool, Continues, Declaration, Each, Finishes, Good, Insides, IsDeclarationRead, IsDeep, IsDeepAt, IsFixed, IsInMark, IsNameStart, IsPrintable, IsShallowlyViable, IsText, IsViable, IsXmlChar, IsXmlText, List, Mark, Marked, ReachesGoal, RestsAt, State, TagRest, Terms, Whole, Word, [], any, ap, append-nil, append_assoc, arith, body_nodes, declared, depth_left, encode_ascii, encode_utf8_all, encodes-append, false, inl, inr, length, no_encoding, nodes_depth, normal_lines, refl, subst, suc, sym, true, unread, ℕ, ◌++◌, ◌-◌, ◌<◌, ◌∙◌, ◌∷◌, ◌≡◌, ◌≤◌, each_append, text_append, clean_ascii, clean_nothing, Printable}
 use Rattle.doc_tree.specs.declared.machine.Goal.TheVariants as goals
 use Rattle.doc_tree.specs.declared.machine.Place.TheVariants as places
 use Rattle.doc_tree.proofs.TextTrees.Wholes.{Held, held_of, whole_of, document_marks}
 use Rattle.doc_tree.proofs.Viability.Specials.{plain_line, deep_stuck}
-use Rattle.element_tree.proofs.XmlTexts.{each_append}
 use Rattle.doc_tree.proofs.ByteGrammar.{IsMultibyte, each_map, start_printable, start_range}
 use Rattle.doc_tree.proofs.MachineSteps.{content_tag_any}
 use Rattle.doc_tree.proofs.Viability.Completions.{Completion, completes_map, completes_tag, completes_between}
@@ -22,27 +21,9 @@ steady r (c ∷ cs) h = let l : 32 ≤ c = h.0 in plain_line r c cs (omega arith
 pub printable_steady : (bytes : List ℕ) → Each IsPrintable bytes → Each IsSteady bytes
 printable_steady bytes h = each_map IsPrintable IsSteady (λ c p. p.0) bytes h
 
-pub multibyte_steady : (bytes : List ℕ) → Each IsMultibyte bytes → Each IsSteady bytes
-multibyte_steady bytes h = each_map IsMultibyte IsSteady (λ c (p : 128 ≤ c). omega arith) bytes h
-
 -- characters of XML
-printable_encoded : (bytes : List ℕ) → Each IsPrintable bytes → bytes ≡ encode_utf8_all bytes
-printable_encoded [] h = refl
-printable_encoded (c ∷ cs) h = let l = h.0.1 in ap (λ z. c ∷ z) (printable_encoded cs h.1) ∙ ap (λ z. z ++ encode_utf8_all cs) (sym (encode_ascii c (omega arith)))
-
 pub printable_xml : (bytes : List ℕ) → Each IsPrintable bytes → IsXmlText bytes
-printable_xml bytes h = record {
-  characters = bytes;
-  each = each_map IsPrintable IsXmlChar (λ c p. (let l = p.1 in inr (inr (inr (inl (p.0, omega arith)))))) bytes h;
-  encoded = printable_encoded bytes h;
-}
-
-pub xml_both : (a b : List ℕ) → IsXmlText a → IsXmlText b → IsXmlText (a ++ b)
-xml_both a b p q = record {
-  characters = p.characters ++ q.characters;
-  each = each_append IsXmlChar p.characters q.characters p.each q.each;
-  encoded = ap (λ z. z ++ b) p.encoded ∙ ap (λ z. encode_utf8_all p.characters ++ z) q.encoded ∙ sym (encodes-append p.characters q.characters);
-}
+printable_xml bytes h = subst IsXmlText (append-nil bytes) (clean_ascii bytes [] (each_map IsPrintable Printable (λ c p. (let l = p.1 in (p.0, omega arith))) bytes h) clean_nothing).text
 
 -- Behind these bytes, printable ones end a document of at most this depth.
 pub record Open (depth : ℕ) (s : State) (returned : Bool) (more : List ℕ) : Type 0 where
@@ -93,7 +74,7 @@ pub viable_so : (s : State) (r : Bool) (seen rest : List ℕ) (says : List Mark)
 viable_so s r seen rest says c f x = let w = ended 32 (omega arith) s r seen rest says c f x in record { rest = rest; whole = w.0; shallow = w.1 }
 
 open_xml : (depth : ℕ) (s : State) (r : Bool) (seen more : List ℕ) (o : Open depth s r more) → IsXmlText (seen ++ more) → IsXmlText (seen ++ (more ++ o.bytes))
-open_xml depth s r seen more o x = subst IsXmlText (append_assoc seen more o.bytes) (xml_both (seen ++ more) o.bytes x (printable_xml o.bytes o.printable))
+open_xml depth s r seen more o x = subst IsXmlText (append_assoc seen more o.bytes) (text_append (seen ++ more) o.bytes x (printable_xml o.bytes o.printable))
 
 -- Some document that isn't too deep goes on so.
 pub viable : (s : State) (r : Bool) (seen more : List ℕ) → Continues s r seen → Open 32 s r more → IsXmlText (seen ++ more) → IsShallowlyViable seen
@@ -135,7 +116,7 @@ deep_viable : (s : State) (r : Bool) (seen : List ℕ) (b : ℕ) → Continues s
 deep_viable s r seen b c x d =
     let l = d.1 in
     let o : Open (suc (length s.names)) s r (b ∷ []) = deep_open s r b c.good d in
-    let y : IsXmlText (seen ++ (b ∷ [])) = xml_both seen (b ∷ []) x (printable_xml (b ∷ []) (start_printable b d.2, tt)) in
+    let y : IsXmlText (seen ++ (b ∷ [])) = text_append seen (b ∷ []) x (printable_xml (b ∷ []) (start_printable b d.2, tt)) in
     let w : IsWithinDepth (suc (length s.names)) (seen ++ (b ∷ o.bytes)) = ended (suc (length s.names)) (omega arith) s r seen (b ∷ o.bytes) o.marks c o.rest (open_xml (suc (length s.names)) s r seen (b ∷ []) o y) in
     record { rest = o.bytes; whole = subst IsText (sym (append_assoc seen (b ∷ []) o.bytes)) w.0 }
 

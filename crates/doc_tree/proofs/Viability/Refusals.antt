@@ -1,12 +1,11 @@
 -- Which refusal a byte decides, and that one that is taken decides none.
-use Rattle.doc_tree.proofs.Words.{Awaited, Blocks, Bool, CharacterFollows, CharacterRest, CharacterStuck, Continues, Decides, Document, Feeding, Finishes, Insides, IsClean, IsDeep, IsDeepAt, IsDepthAllowed, IsDoctype, IsDoctypeAt, IsEncodingAt, IsMalformedAt, IsNameStart, IsOther, IsQName, IsQuote, IsRefusedIn, IsShallowlyViable, IsTaken, IsText, IsViable, IsXmlText, List, Mark, MeetsBoth, NoneBegins, NoneWithin, PassesByte, Refused, RestsAt, Spells, State, TagFirst, Terms, TreeFault, Whole, [], any, any_encoding, ap, append_assoc, arith, begins_with_line_feed, body_nodes, bounds, cases_lt, codes, cond, drop, false, get_or, inl, inr, length, length-append, length-take-le, nodes_depth, normal_lines, rank, refl, subst, suc, sym, take, true, ℕ, ◌++◌, ◌+◌, ◌-◌, ◌<◌, ◌==◌, ◌∙◌, ◌∷◌, ◌≡◌, ◌≤◌}
-use Rattle.std.specs.Char.{encode_utf8}
+use Rattle.doc_tree.proofs.Words.{Awaited, Blocks, Bool, CharacterFollows, CharacterRest, CharacterStuck, Continues, Decides, Document, Feeding, Finishes, Insides, IsClean, IsDeep, IsDeepAt, IsDepthAllowed, IsDoctype, IsDoctypeAt, IsEncodingAt, IsMalformedAt, IsNameStart, IsOther, IsQName, IsQuote, IsRefusedIn, IsShallowlyViable, IsTaken, IsText, IsViable, IsXmlText, List, Mark, MeetsBoth, NoneBegins, NoneWithin, PassesByte, Refused, RestsAt, Spells, State, TagFirst, Terms, TreeFault, Whole, [], any, any_encoding, ap, append_assoc, arith, begins_with_line_feed, body_nodes, bounds, cases_lt, codes, cond, drop, false, get_or, inl, inr, length, length-append, length-take-le, nodes_depth, normal_lines, rank, refl, subst, suc, sym, take, true, ℕ, ◌++◌, ◌+◌, ◌-◌, ◌<◌, ◌==◌, ◌∙◌, ◌∷◌, ◌≡◌, ◌≤◌, clean_fixed}
 use Rattle.doc_tree.specs.declared.characters.Awaited.TheVariants as awaits
 use Rattle.doc_tree.specs.declared.fault.TreeFault.TheVariants as faults
 use Rattle.doc_tree.specs.declared.machine.Place.TheVariants as at
 use Rattle.doc_tree.proofs.ByteGrammar.{content_tag, marked_stuck, not_space, quote_range, start_range, whole_plain}
-use Rattle.doc_tree.proofs.TextTrees.LineFeeds.{allowed, BlocksHere, continues_on, continues_blocked}
-use Rattle.doc_tree.proofs.Viability.Specials.{plain_line, deep_blocks, doctype_blocks, other_blocks}
+use Rattle.doc_tree.proofs.TextTrees.LineFeeds.{allowed, BlocksHere, continues_on}
+use Rattle.doc_tree.proofs.Viability.Specials.{plain_line, deep_blocks, other_blocks}
 use Rattle.doc_tree.proofs.OneRefusal.{Places, same, before, behind, places}
 use Rattle.doc_tree.proofs.TextTrees.Results.{split_at, none_refuses, long_refuses, text_refuses}
 use Rattle.doc_tree.proofs.Utf8.{low_char, first_one, BeginsInside, first_or_inside, spells_on, spells_whole}
@@ -78,12 +77,9 @@ refused_more limit bytes more fault r = record {
   least = r.least;
 }
 
-pub none_more : (limit : ℕ) (bytes more : List ℕ) → NoneBegins limit bytes → NoneBegins limit (bytes ++ more)
-none_more limit bytes more n = λ rest. subst (NoneWithin limit) (sym (append_assoc bytes more rest)) (n (more ++ rest))
-
 pub refused_on : (limit : ℕ) (bytes more : List ℕ) (fault : TreeFault) → Refused limit bytes fault → Refused limit (bytes ++ more) fault
 refused_on limit bytes more fault (inl e) = inl e
-refused_on limit bytes more fault (inr r) = inr (refused_more limit bytes more fault r.0, none_more limit bytes more r.1)
+refused_on limit bytes more fault (inr r) = inr (refused_more limit bytes more fault r.0, (λ rest. subst (NoneWithin limit) (sym (append_assoc bytes more rest)) (r.1 (more ++ rest))))
 
 -- a byte that decides nothing leaves the bytes clean
 last_longer : (bytes seen k more : List ℕ) (b byte : ℕ) → bytes ++ (b ∷ []) ≡ seen ++ (byte ∷ more) → seen ≡ bytes ++ (b ∷ k) → ⊥
@@ -140,32 +136,25 @@ name_low : (b : ℕ) (x run later : List ℕ) → 128 ≤ b → IsQName run → 
 name_low b x [] later l n e = n
 name_low b x (c ∷ cs) later l n e = let h : b ≡ c = cc in let k = (start_range c n.0).1 in omega arith
 
-tag_first_low : (b : ℕ) (names : List (List ℕ)) (t : Terms) (x : List ℕ) (es : List Mark) → 128 ≤ b → TagFirst names t (b ∷ x) es → ⊥
-tag_first_low b names t x es l h = let r = h.rest in name_low b x r.run r.behind l r.is r.text
-
 -- Behind a `<` no character is cut.
 less_inside : (s : State) (returned : Bool) (rest : List ℕ) (says : List Mark) → s.place ≡ at.ContentLess → BeginsInside rest → Finishes s returned any_encoding rest says → ⊥
 less_inside s returned [] says e i h = i
 less_inside s returned (b ∷ rest) says e i h =
-    let l : 128 ≤ b = i in
+    let l : 128 ≤ b = i.0 in
     let r : RestsAt s.place s any_encoding (b ∷ normal_lines rest) h.later = subst (λ z. RestsAt s.place s any_encoding z h.later) (plain_line returned b rest (omega arith)) h.rest in
     let k : Insides 0 s.names any_encoding (60 ∷ b ∷ normal_lines rest) h.later = subst (λ z. RestsAt z s any_encoding (b ∷ normal_lines rest) h.later) e r in
     let g : TagFirst s.names any_encoding (b ∷ normal_lines rest) h.later = content_tag any_encoding s.names b (normal_lines rest) h.later (λ q. omega arith) (λ q. omega arith) (λ q. omega arith) k in
-    tag_first_low b s.names any_encoding (normal_lines rest) h.later l g
-
-less_whole : (s : State) (returned : Bool) (w : Awaited) → s.place ≡ at.ContentLess → MeetsBoth w s returned → w ≡ awaits.First
-less_whole s returned w e m = elim (first_or_inside w m.rest m.character) [ inl q ↦ q | inr i ↦ absurd (less_inside s returned m.rest m.says e i m.document) ]
+    (let r = g.rest in name_low b (normal_lines rest) r.run r.behind l r.is r.text)
 
 -- behind the quote of an encoding that isn't read goes a document of a small depth: what ends a declaration, and a small root
 small_text : IsXmlText (codes "?><a/>")
-unfolding encode_utf8
-small_text = record { characters = codes "?><a/>"; each = (low_char 63 (omega arith) (omega arith), (low_char 62 (omega arith) (omega arith), (low_char 60 (omega arith) (omega arith), (low_char 97 (omega arith) (omega arith), (low_char 47 (omega arith) (omega arith), (low_char 62 (omega arith) (omega arith), tt)))))); encoded = refl }
+small_text = (clean_fixed (codes "?><a/>") refl).text
 
 quote_text : (b : ℕ) → IsQuote b → IsXmlText (b ∷ codes "?><a/>")
 quote_text b q = let h = quote_range b q in let l : b < 128 = omega arith in (first_one b (low_char b (omega arith) (omega arith)) l (codes "?><a/>")).1 small_text
 
 quote_first : (w : Awaited) (b : ℕ) (rest : List ℕ) → IsQuote b → CharacterRest w (b ∷ rest) → w ≡ awaits.First
-quote_first w b rest q h = let l = quote_range b q in elim (first_or_inside w (b ∷ rest) h) [ inl e ↦ e | inr i ↦ (let k : 128 ≤ b = i in absurd (omega arith)) ]
+quote_first w b rest q h = let l = quote_range b q in elim (first_or_inside w (b ∷ rest) h) [ inl e ↦ e | inr i ↦ (let k : 128 ≤ b = i.0 in absurd (omega arith)) ]
 
 other_shallow : (s : State) (returned : Bool) (seen : List ℕ) → Continues s returned seen → (b : ℕ) → IsOther s b → IsEncodingAt seen b → (w : Awaited) → Spells w seen → IsViable (seen ++ (b ∷ [])) → IsShallowlyViable (seen ++ (b ∷ []))
 other_shallow s returned seen c b o e w p v =
@@ -182,7 +171,7 @@ module _ (f : Feeding) (bytes : List ℕ) (b : ℕ) (t : IsTaken f bytes) where
   now = bytes ++ (b ∷ [])
 
   blocks_begin : BlocksHere f.state f.returned b → NoneBegins f.limit now
-  blocks_begin n = λ more. none_refuses f.limit (now ++ more) (continues_blocked f.state f.returned bytes b more (now ++ more) (append_assoc bytes (b ∷ []) more) t.continues n)
+  blocks_begin n = λ more. none_refuses f.limit (now ++ more) (λ says h. n more says ((t.continues.same bounds allowed (b ∷ more) says).0 (subst (λ z. Whole bounds (normal_lines z) says) (append_assoc bytes (b ∷ []) more) h)))
 
   pub long_refused : f.limit ≤ f.count → Refused f.limit now faults.Long
   long_refused l =
@@ -198,7 +187,7 @@ module _ (f : Feeding) (bytes : List ℕ) (b : ℕ) (t : IsTaken f bytes) where
     fits = let n = t.counted in omega arith
 
     deep_whole : IsDeep f.state b → f.awaited ≡ awaits.First
-    deep_whole d = less_whole f.state f.returned f.awaited d.0 t.meets
+    deep_whole d = elim (first_or_inside f.awaited t.meets.rest t.meets.character) [ inl q ↦ q | inr i ↦ absurd (less_inside f.state f.returned t.meets.rest t.meets.says d.0 i t.meets.document) ]
 
     pub deep_refused : (place : ℕ) → place ≡ f.count - 1 → IsDeep f.state b → Refused f.limit now (faults.Deep place)
     deep_refused place e d =
@@ -220,7 +209,7 @@ module _ (f : Feeding) (bytes : List ℕ) (b : ℕ) (t : IsTaken f bytes) where
         let none : IsDeepAt bytes b → ⊥ = λ h. doctype_none f.state f.returned bytes t.continues b d h.viable in
         inr (
           refused_last f.limit bytes b (faults.Doctype place) t.clean (type, omega arith) (decided f.limit bytes b fits (λ n. 2 ≤ n) (λ h. absurd (none h)) (λ h. omega arith) (λ h. omega arith) (λ h. omega arith)),
-          blocks_begin (doctype_blocks f.state f.returned b d),
+          blocks_begin (doctype_blocked f.state f.returned b d bounds (λ i. i)),
         )
 
     pub encoding_refused : IsOther f.state b → Refused f.limit now faults.Encoding

@@ -43,6 +43,3 @@ doctype_stops s b d t n x es h = let e : b ≡ 68 = d.2 in bang_no t s b (λ f. 
 
 pub doctype_blocked : (s : State) (r : Bool) (b : ℕ) → IsDoctype s b → (t : Terms) → (IsSpecial t.aim → ⊥) → (rest : List ℕ) (says : List Mark) → Finishes s r t (b ∷ rest) says → ⊥
 doctype_blocked s r b d t n = let e : b ≡ 68 = d.2 in stops s r b t (omega arith) (λ x es h. doctype_stops s b d t n x es h)
-
-pub doctype_blocks : (s : State) (r : Bool) (b : ℕ) → IsDoctype s b → BlocksHere s r b
-doctype_blocks s r b d = doctype_blocked s r b d bounds (λ i. i)

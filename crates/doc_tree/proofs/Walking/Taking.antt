@@ -33,7 +33,7 @@ walks_taken (b ∷ xs) f t a l (mid, i, step, w) told bytes k =
     subst (IsTaken (behind told (walked f t false (f.count + length (b ∷ xs))))) (append_assoc bytes (b ∷ []) xs) (subst (λ z. IsTaken (behind told (walked f t false z)) ((bytes ++ b ∷ []) ++ xs)) n (subst (λ z. IsTaken (behind told (walked f t z (f.count + 1 + length xs))) ((bytes ++ b ∷ []) ++ xs)) (still xs) all))
 
 pub walks_can : (f : Feeding) (xs : List ℕ) (t : State) (returned : Bool) (count : ℕ) → Walks f.state xs t → CanGoOn f → CanGoOn (walked f t returned count)
-walks_can f xs t returned count w h = on_option f.refusal (Good f.state.place f.state) (Good t.place t) (walks_good f.state t xs w) h
+walks_can f xs t returned count w h = on_option {A = Good f.state.place f.state} {B = Good t.place t} f.refusal (λ fault. Unit {0}) (walks_good f.state t xs w) h
 
 -- those of the first `m` that were taken
 pub together_taken : (f v : Feeding) (t : State) (returned : Bool) (n m : ℕ) (xs : List ℕ) → f ≡ v → f.awaited ≡ awaits.First → n ≤ length (take m xs) → m ≤ length xs → m ≤ f.limit - f.count → Walks f.state (take n (take m xs)) t → returned ≡ returned_behind (take n (take m xs)) f.returned → TakesBytes v (take n xs) (walked f t returned (f.count + n))
