@@ -15,7 +15,7 @@ use Rattle.job_table.specs.Looks.{looks}
 use Rattle.job_table.proofs.Histories.{runs_split, leads_split}
 use Rattle.job_runs.specs.Runs.{stop_if, IsJobRun}
 use Rattle.job_runs.specs.Laws.{IsFinishKept, AreKept, RunsAreKept}
-use Rattle.job_runs.proofs.Kinds.{Made, Judgement}
+use Rattle.job_runs.proofs.Judgements.{Made, Judgement}
 
 no_finish : (n : ℕ) (answers : List Bool) → NoFinish n (looks n answers)
 no_finish n [] = tt

@@ -1,3 +1,3 @@
-pub mod Kinds
+pub mod Judgements
 pub mod Runs
 pub mod Histories

@@ -12,7 +12,7 @@ use Rattle.job_table.specs.History.{Entry, entry_of_move}
 use Rattle.job_table.specs.Looks.{looks}
 use Rattle.job_runs.specs.Runs.{AreLooks, IsJobRun, Works}
 use Rattle.job_runs.specs.Solves.{EntersAndRuns, Solves, BeginsToSolve}
-use Rattle.job_runs.proofs.Kinds.{Made, Joins}
+use Rattle.job_runs.proofs.Judgements.{Made, Joins}
 
 -- looks and a finish are a run
 pub run_of : (made : Made) (did did' both : List Entry → Type 0) → Joins did did' both

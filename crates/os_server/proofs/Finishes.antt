@@ -12,7 +12,7 @@ use Rattle.job_runs.specs.Laws.{kept_if_finish, IsFinishKept, AreKept, RunsAreKe
 use Rattle.job_table.proofs.Histories.{leads_split}
 use Rattle.os_server.specs.declared.serve.Served.{Served}
 use Rattle.os_server.specs.Talk.{Part, Talk}
-use Rattle.job_runs.proofs.Kinds.{Made, Judgement}
+use Rattle.job_runs.proofs.Judgements.{Made, Judgement}
 use Rattle.os_server.proofs.Pieces.{Wakes, is_plain, Builds, talk_so}
 
 false_is_not : false ≡ true → ⊥

@@ -11,7 +11,7 @@ use Rattle.os_server.specs.declared.serve.Served.TheVariants.{WriteFault, Memory
 use Rattle.os_server.specs.Talk.{text_of_reply, ServesWhole, both_ends}
 use Rattle.os_server.specs.Serving.{ComesOnLink, ServesOne}
 use Rattle.os_server.proofs.Steps.{read_none}
-use Rattle.job_runs.proofs.Kinds.{Made}
+use Rattle.job_runs.proofs.Judgements.{Made}
 use Rattle.os_server.proofs.Pieces.{Wakes}
 use Rattle.os_server.proofs.Rounds.{followed, unwritten, sends_between, none_yet, last_whole}
 

@@ -42,7 +42,7 @@ use Rattle.os_server.specs.Answers.{said_by, fault_said, Doing, Moves, RunsAtOnc
 use Rattle.os_server.specs.Talk.{Part, all_of, IsBodyAnswered, IsRefusedAs, IsExchange, response_text, Talk}
 use Rattle.os_server.specs.Laws.{HasNoFault, takens, replies}
 use Rattle.os_server.specs.OneReading.{Requests, Bodies}
-use Rattle.job_runs.proofs.Kinds.{Made}
+use Rattle.job_runs.proofs.Judgements.{Made}
 use Rattle.os_server.proofs.Pieces.{Wakes}
 use Rattle.os_server.proofs.RequestCuts.{Front, Whole, Refuses, Between, Inside, Brings, ShowsLast, shows_once, last_shows, cut_one_way, whole_bytes}
 

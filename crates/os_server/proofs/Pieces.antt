@@ -12,7 +12,7 @@ use Rattle.job_table.specs.declared.calls.Reply.TheVariants as reply
 use Rattle.job_table.specs.History.{Entry, entry_of_move, IsGiving}
 use Rattle.job_runs.specs.Runs.{IsJobRun, Works}
 use Rattle.job_runs.specs.Solves.{EntersAndRuns}
-use Rattle.job_runs.proofs.Kinds.{Made}
+use Rattle.job_runs.proofs.Judgements.{Made}
 use Rattle.os_server.specs.declared.order.Order.{Order}
 use Rattle.os_server.specs.declared.saying.Said.{Said}
 use Rattle.os_server.specs.declared.reply.Reply.{Reply}

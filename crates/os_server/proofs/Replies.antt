@@ -17,7 +17,7 @@ use Rattle.os_server.specs.Orders.{Asks, Faults, AsksNothing}
 use Rattle.os_server.specs.Answers.{said_by, fault_said, returns}
 use Rattle.os_server.specs.Talk.{IsReplyDue}
 use Rattle.os_server.specs.Serving.{IsOrdered, IsReplied}
-use Rattle.job_runs.proofs.Kinds.{Made}
+use Rattle.job_runs.proofs.Judgements.{Made}
 use Rattle.os_server.proofs.Pieces.{Wakes}
 
 abbrev Bytes : Type 0

@@ -17,7 +17,7 @@ use Rattle.os_server.specs.declared.serve.Served.TheVariants.{Ended, CutShort, R
 use Rattle.os_server.specs.Orders.{Faults}
 use Rattle.os_server.specs.Talk.{Part, part, all_of, then, most_requests, IsBodyAnswered, IsRefusedAs, IsExchange, IsSilentPart, IsRefusedRequest, EndsTalk, IsLastPart, Talk}
 use Rattle.os_server.specs.Laws.{HasNoFault, takens}
-use Rattle.job_runs.proofs.Kinds.{Made}
+use Rattle.job_runs.proofs.Judgements.{Made}
 use Rattle.os_server.proofs.Pieces.{Wakes}
 
 -- what stands at the front of bytes: a request that is answered, one that is refused, the end between requests, or inside one

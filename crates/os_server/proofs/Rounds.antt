@@ -20,7 +20,7 @@ use Rattle.os_server.specs.declared.serve.Served.{Served}
 use Rattle.os_server.specs.declared.serve.Served.TheVariants.{Ended, CutShort, ReadFault, WriteFault, Memory}
 use Rattle.os_server.specs.Talk.{Part, part, then, all_of, ReadsBytes, AtEnd, most_requests, text_of_reply, IsReplyDue, IsExchange, EndsTalk, IsLastPart, HandsOn, Accounts, Serves, ServesWhole, both_ends}
 use Rattle.os_server.specs.Serving.{IsReplied, AnswersOne, FollowsReply, CameWithDue, CountsCame, ComesOnLink, AccountsOne, ServesOne}
-use Rattle.job_runs.proofs.Kinds.{Made, Joins}
+use Rattle.job_runs.proofs.Judgements.{Made, Joins}
 use Rattle.os_server.proofs.Pieces.{Wakes}
 use Rattle.os_server.proofs.Steps.{read_then, wrote_then, at_end_then, read_none, wrote_none, read_whole, read_of, hands_then, then_none, all_more}
 use Rattle.os_server.proofs.Replies.{due}

@@ -12,7 +12,7 @@ use Rattle.job_table.specs.History.{Entry as Said, entry_of_move, LeadsStepwise,
 use Rattle.job_table.proofs.Histories.{leads_on}
 use Rattle.job_table.specs.Laws.{WasGiven, FirstFinishIsKept, NumbersAreGivenOnce}
 use Rattle.job_runs.specs.Laws.{kept_if_finish, IsFinishKept, AreKept}
-use Rattle.job_runs.proofs.Kinds.{Judgement}
+use Rattle.job_runs.proofs.Judgements.{Judgement}
 use Rattle.desk.specs.declared.view.Entry.{Entry}
 use Rattle.desk.specs.History.{LeadsTo, calls, calls_by}
 use Rattle.serving.proofs.Hands.{Hand, after_gave, after_look, then_in_hand, Allows, IsOrderly}

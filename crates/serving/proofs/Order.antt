@@ -9,7 +9,7 @@ use Rattle.job_table.specs.History.{Entry, entry_of_move, IsGiving}
 use Rattle.job_table.specs.Looks.{looks}
 use Rattle.job_runs.specs.Runs.{stop_if, IsJobRun}
 use Rattle.workers.specs.Shifts.{WorkOff, WorksThrough}
-use Rattle.job_runs.proofs.Kinds.{Made}
+use Rattle.job_runs.proofs.Judgements.{Made}
 use Rattle.os_server.proofs.Pieces.{is_plain, Builds, works_so}
 use Rattle.serving.proofs.Hands.{Hand, hand, after_gave, then_in_hand, IsOrderly, in_hand_after}
 

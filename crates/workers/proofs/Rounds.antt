@@ -5,7 +5,7 @@ use Rattle.job_table.specs.declared.calls.Call.TheVariants.{Claim, Enlist, Leave
 use Rattle.job_table.specs.declared.calls.Reply.TheVariants as reply
 use Rattle.job_table.specs.History.{Entry, entry_of_move}
 use Rattle.job_runs.specs.Runs.{Works}
-use Rattle.job_runs.proofs.Kinds.{Made, Joins}
+use Rattle.job_runs.proofs.Judgements.{Made, Joins}
 use Rattle.workers.specs.Shifts.{WorkOff, Rests, WorksThrough}
 
 false_is_not : false ≡ true → ⊥

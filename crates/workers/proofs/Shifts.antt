@@ -11,7 +11,7 @@ use Rattle.job_table.specs.Steps.{Step, Outcome, outcome, claims}
 use Rattle.job_table.specs.History.{Entry, entry_of_move, LeadsStepwise}
 use Rattle.job_table.proofs.Histories.{runs_split}
 use Rattle.workers.specs.Shifts.{Rests, WorksThrough}
-use Rattle.job_runs.proofs.Kinds.{Made, Judgement}
+use Rattle.job_runs.proofs.Judgements.{Made, Judgement}
 
 some_is_not_none : (j : Job) → Some j ≡ None → ⊥
 some_is_not_none j e = cc
