@@ -13,6 +13,7 @@ use crate::found::Found;
 use case_tree::{Branch, Cut, Division, back, cases_come_of_branches_above, enter};
 use certificate::{Node, Nodes, Ray};
 use fraction::End;
+use instance::Row;
 use std::alloc::AllocError;
 
 /// Where a search stands: the variables of the case at hand, the branches above it, how many of them count, the nodes so far,
@@ -71,8 +72,10 @@ pub fn split(walk: &mut Walk, depth: usize, col: u32, k: i128) -> Result<(), All
     let filler = Branch {
         col,
         by,
-        lb: End::NegInf,
-        ub: End::Inf,
+        before: Row {
+            lb: End::NegInf,
+            ub: End::Inf,
+        },
         is_second: false,
     };
     make_room(&mut walk.branches, depth, filler)?;

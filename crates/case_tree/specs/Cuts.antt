@@ -7,6 +7,7 @@ use Rattle.evidence.specs.Sums.{none}
 use Rattle.evidence.specs.Instance as Of
 use Rattle.evidence.specs.Cases.{with_range, lesser_end, greater_end, both, or_free}
 use Rattle.instance.specs.Program.{range, further_by}
+use Rattle.instance.specs.declared.parts.Row.{Row}
 use Rattle.case_tree.specs.declared.cuts.Cut.{Cut}
 use Rattle.case_tree.specs.declared.cuts.Division.{Division}
 use Rattle.case_tree.specs.declared.cuts.Division.TheVariants.{Split, Zero}
@@ -47,7 +48,7 @@ abbrev pub no_cut : Cut
 no_cut = record { lb = NegInf; ub = Inf; var = record { lb = NegInf; ub = Inf; whole = false; zero = false } }
 
 abbrev pub no_branch : Branch
-no_branch = record { col = 0; by = Zero; lb = NegInf; ub = Inf; is_second = false }
+no_branch = record { col = 0; by = Zero; before = record { lb = NegInf; ub = Inf }; is_second = false }
 
 abbrev pub branch_at : List Branch → ℕ → Branch
 branch_at bs d = get_or bs d no_branch
@@ -55,16 +56,16 @@ branch_at bs d = get_or bs d no_branch
 abbrev pub cut_at : List Cut → ℕ → Cut
 cut_at cs j = get_or cs j no_cut
 
--- a branch's variable as it was before it: the ends are kept with the branch
-abbrev pub before_branch : Cut → Branch → Cut
-before_branch c b = record c { lb = b.lb; ub = b.ub }
+-- the variable with these ends
+abbrev pub with_ends : Cut → Row → Cut
+with_ends c r = record c { lb = r.lb; ub = r.ub }
 
 -- what is still to show after the case at hand, whose variables are cs: at each branch above whose first case it is in, the second
 abbrev pub pending : Of.Instance → List Cut → List Branch → ℕ → List Of.Instance
 pending I cs bs zero = []
 pending I cs bs (suc d) =
     let b = branch_at bs d in
-    let before = slice_set cs b.col (before_branch (cut_at cs b.col) b) in
+    let before = slice_set cs b.col (with_ends (cut_at cs b.col) b.before) in
     cond b.is_second (pending I before bs d) (second_case (cut I before) b.col b.by ∷ pending I before bs d)
 
 -- all that is still to show: nothing, where the walk is at its end

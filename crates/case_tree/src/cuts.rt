@@ -5,12 +5,12 @@ ghost use Rattle.fraction.specs.Frac.{ratio};
 ghost use Rattle.evidence.specs.Instance as Of;
 ghost use Rattle.evidence.specs.Cases as Cases;
 ghost use Rattle.evidence.specs.SemiVariables.{low_or_zero, high_or_zero};
-ghost use Rattle.instance.specs.Program.{limit, variable};
-ghost use Rattle.case_tree.specs.Cuts.{cut, cut_variable, first_range, second_range, HasNext};
+ghost use Rattle.instance.specs.Program.{limit, row, variable};
+ghost use Rattle.case_tree.specs.Cuts.{cut, cut_variable, first_range, second_range, with_ends, HasNext};
 
 use crate::numbers::{is_below, whole, zero};
 use fraction::{End, Frac, MAX};
-use instance::Var;
+use instance::{Row, Var};
 
 /// A variable as a case has it: the ends of its column, and what it is in the instance.
 #[derive(Clone, Copy, PartialEq, Eq)]
@@ -106,43 +106,57 @@ pub fn uncut(var: Var) -> Cut
     }
 }
 
-/// The variable in the first case of a division.
-pub fn first(cut: Cut, by: Division) -> Cut
+/// The ends in the first case of a division.
+pub fn first(ends: Row, by: Division) -> Row
     requires { HasNext by }
-    ensures range { cut_variable result ≡ record (cut_variable cut) { range = first_range by (cut_variable cut) } }
-    ensures var { result.var ≡ cut.var }
+    ensures { (v : Of.Variable) → row result ≡ first_range by (record v { range = row ends }) }
 {
     match by {
-        Division::Split(k) => Cut {
-            ub: lesser_end(cut.ub, whole(k)),
-            ..cut
+        Division::Split(k) => Row {
+            lb: ends.lb,
+            ub: lesser_end(ends.ub, whole(k)),
         },
-        Division::Zero => Cut {
-            lb: greater_end(cut.lb, zero()),
-            ub: lesser_end(cut.ub, zero()),
-            var: cut.var,
+        Division::Zero => Row {
+            lb: greater_end(ends.lb, zero()),
+            ub: lesser_end(ends.ub, zero()),
         },
     }
 }
 
-/// The variable in the second case of a division.
-pub fn second(cut: Cut, by: Division) -> Cut
+/// The ends in the second case of a division of this variable.
+pub fn second(ends: Row, var: &Var, by: Division) -> Row
     requires { HasNext by }
-    ensures range { cut_variable result ≡ record (cut_variable cut) { range = second_range by (cut_variable cut) } }
-    ensures var { result.var ≡ cut.var }
+    ensures { row result ≡ second_range by (cut_variable (record { lb = ends.lb; ub = ends.ub; var = var.now })) }
 {
     match by {
-        Division::Split(k) => Cut {
-            lb: greater_end(cut.lb, whole(k + 1)),
-            ..cut
+        Division::Split(k) => Row {
+            lb: greater_end(ends.lb, whole(k + 1)),
+            ub: ends.ub,
         },
-        Division::Zero if cut.var.zero => Cut {
-            lb: either_low(cut.lb, cut.var.lb),
-            ub: either_high(cut.ub, cut.var.ub),
-            var: cut.var,
+        Division::Zero if var.zero => Row {
+            lb: either_low(ends.lb, var.lb),
+            ub: either_high(ends.ub, var.ub),
         },
-        Division::Zero => cut,
+        Division::Zero => ends,
     }
+}
+
+/// The ends that a variable has.
+pub fn ends_of(cut: &Cut) -> Row
+    ensures { result ≡ record { lb = cut.now.lb; ub = cut.now.ub } }
+{
+    Row {
+        lb: cut.lb,
+        ub: cut.ub,
+    }
+}
+
+/// Gives a variable these ends.
+pub fn set_ends(cut: &mut Cut, ends: Row)
+    ensures { cut.new ≡ with_ends cut.old ends }
+{
+    cut.lb = ends.lb;
+    cut.ub = ends.ub;
 }
 
 /// Whether the column is a whole variable, and the number has a next one that fits.

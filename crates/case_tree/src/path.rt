@@ -1,30 +1,18 @@
 // The branches above the case at hand, and the way back to the next case.
 ghost use Rattle.std.specs.Prelude.{◌≡◌, ◌+◌, ◌<◌, ◌≤◌, ◌∷◌, false, length, IfSome};
 ghost use Rattle.evidence.specs.Instance as Of;
-ghost use Rattle.case_tree.specs.Cuts.{cut, cases, pending, branch_at, before_branch, first_case, second_case, HasNext, AreBranches};
+ghost use Rattle.case_tree.specs.Cuts.{cut, cases, pending, branch_at, first_case, second_case, HasNext, AreBranches};
 
-use crate::cuts::{Cut, Division, first, second};
-use fraction::End;
+use crate::cuts::{Cut, Division, ends_of, first, second, set_ends};
+use instance::Row;
 
 /// A branch above the case at hand: which ends its variable had before, and whether the walk is in the second case.
 #[derive(Clone, Copy, PartialEq, Eq)]
 pub struct Branch {
     pub col: u32,
     pub by: Division,
-    pub lb: End,
-    pub ub: End,
+    pub before: Row,
     pub is_second: bool,
-}
-
-/// The branch's variable as it was before.
-fn before(cut: Cut, branch: Branch) -> Cut
-    ensures { result ≡ before_branch cut branch }
-{
-    Cut {
-        lb: branch.lb,
-        ub: branch.ub,
-        var: cut.var,
-    }
 }
 
 /// Goes to the first case of a branch.
@@ -37,15 +25,15 @@ pub fn enter(cuts: &mut [Cut], branches: &mut [Branch], depth: usize, col: u32, 
     ensures cases { (I : Of.Instance) → cases I cuts.new branches.new (Some (depth + 1)) ≡ first_case (cut I cuts.old) col by ∷ second_case (cut I cuts.old) col by ∷ pending I cuts.old branches.old depth }
 {
     let j = col as usize;
-    let old = cuts[j];
+    let before = ends_of(&cuts[j]);
     branches[depth] = Branch {
         col,
         by,
-        lb: old.lb,
-        ub: old.ub,
+        before,
         is_second: false,
     };
-    cuts[j] = first(old, by);
+    let ends = first(before, by);
+    set_ends(&mut cuts[j], ends);
 }
 
 /// Goes to the second case of a branch, over its variable as it was before.
@@ -58,7 +46,8 @@ fn turn(cuts: &mut [Cut], branches: &mut [Branch], place: usize)
 {
     let branch = branches[place];
     let j = branch.col as usize;
-    cuts[j] = second(before(cuts[j], branch), branch.by);
+    let ends = second(branch.before, &cuts[j].var, branch.by);
+    set_ends(&mut cuts[j], ends);
     branches[place].is_second = true;
 }
 
@@ -79,7 +68,7 @@ pub fn back(cuts: &mut [Cut], branches: &mut [Branch], depth: usize) -> Option<u
             return Some(place + 1);
         }
         let j = branch.col as usize;
-        cuts[j] = before(cuts[j], branch);
+        set_ends(&mut cuts[j], branch.before);
     }
     None
 }

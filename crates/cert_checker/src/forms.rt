@@ -1,5 +1,6 @@
 // The sums of multiplied columns, compared with what they should be.
-ghost use Rattle.std.specs.Prelude.{◌≡◌, ◌<◌, ℕ, List, length, OnOk, IfErr};
+ghost use Rattle.std.specs.Prelude.{◌≡◌, ◌↔◌, ◌<◌, ℕ, List, length, IsTrue, OnOk, IfErr};
+ghost use Rattle.rational.specs.Ratio.{IsSame};
 ghost use Rattle.fraction.specs.Frac.{ratio};
 ghost use Rattle.evidence.specs.Instance.{IsInstance, width};
 ghost use Rattle.evidence.specs.Cases.{AreLegal};
@@ -47,6 +48,13 @@ fn wanted(program: &Program, aim: Option<Frac>, j: usize) -> Frac
     }
 }
 
+/// Whether two fractions are one number. Mostly they are of the same parts, which need no product.
+fn is_one(x: Frac, y: Frac) -> bool
+    ensures { IsTrue result ↔ IsSame (ratio x) (ratio y) }
+{
+    x == y || is_same(x, y)
+}
+
 /// Whether each of the sums is what it should be.
 fn compare(
     program: &Program,
@@ -68,7 +76,7 @@ fn compare(
         match slots[j] {
             None => return Err(Unshown::Wide { node }),
             Some(sum) => {
-                if !is_same(sum, wanted(program, aim, j)) {
+                if !is_one(sum, wanted(program, aim, j)) {
                     return Err(Unshown::Form {
                         node,
                         col: j as u32,

@@ -114,8 +114,10 @@ impl Scratch {
         let branch = Branch {
             col: 0,
             by: Division::Zero,
-            lb: End::NegInf,
-            ub: End::Inf,
+            before: Row {
+                lb: End::NegInf,
+                ub: End::Inf,
+            },
             is_second: false,
         };
         Ok(Scratch {

@@ -15,7 +15,8 @@ pub enum Step {
     Check,
 }
 
-/// Where a number was found too wide: the node, from 1, the turn of the whole job, and what was being done.
+/// Where a number was found too wide: the node, from 1, or 0 where it was no node's; the turn of the whole job; and what was being
+/// done.
 #[derive(Clone, Copy, PartialEq, Eq, Debug)]
 pub struct Place {
     pub node: u32,

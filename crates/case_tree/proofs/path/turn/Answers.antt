@@ -2,8 +2,8 @@ use Rattle.std.proofs.Common.{◌≡◌, ◌+◌, ◌<◌, length, slice_set, sl
 use Rattle.std.proofs.lemmas.List.{length-set, get_or-set_same, get_or_default, get_or_read_under}
 use Rattle.case_tree.specs.declared.cuts.Cut.{Cut}
 use Rattle.case_tree.specs.declared.path.Branch.{Branch}
-use Rattle.case_tree.specs.Cuts.{no_branch, no_cut, branch_at, before_branch, cut_at, second_range, HasNext}
-use Rattle.case_tree.proofs.Paths.{branches_with, branches_less, turned, cut_by}
+use Rattle.case_tree.specs.Cuts.{no_branch, no_cut, branch_at, cut_at, cut_variable, with_ends, second_range, HasNext}
+use Rattle.case_tree.proofs.Paths.{branches_with, branches_less, turned, cut_by, ends_range}
 use Rattle.case_tree.proofs.path.turn.Goals as goal
 
 pub returns-clause-above : goal.returns-clause-above
@@ -26,10 +26,16 @@ returns-clause-cases c = λ I.
     let eb : branch_at bs d ≡ b = sym (get_or_read_under bs d (length bs) b no_branch c.index-branches-place.is c.requires.room refl) in
     let ec : slice_index_or bs d c.index-branches-place-2.result ≡ b = sym (get_or_read_under bs d (length bs) b c.index-branches-place-2.result c.index-branches-place.is c.requires.room refl) in
     let inside : b.col < length vs = subst (λ (x : Branch). x.col < length vs) eb (c.requires.above.columns d (omega arith)) in
-    let v : Cut = before_branch (cut_at vs b.col) b in
-    let is : c.before-2.result ≡ v = c.before-2.ensures ∙ ap (λ (x : Cut). before_branch x b) (get_or_read_under vs b.col (length vs) c.index-cuts-j.result no_cut c.index-cuts-j.is inside refl) in
+    let v : Cut = with_ends (cut_at vs b.col) b.before in
+    let w = c.set_ends.new.cut in
+    let at : (d : Cut) → slice_index_or vs b.col d ≡ cut_at vs b.col = λ d. sym (get_or_default vs b.col no_cut d inside) in
+    let is : w ≡ with_ends v c.second-ends.result = c.set_ends.ensures ∙ ap (λ (x : Cut). with_ends x c.second-ends.result) (at c.index-cuts-j-2.result) in
+    let set : cut_at (slice_set vs b.col v) b.col ≡ v = get_or-set_same vs b.col v no_cut inside in
     let long = length-set vs b.col v in
-    turned I vs bs d b (record (slice_index_or bs d c.index-branches-place-2.result) { is_second = true }) c.second.result c.requires.room inside eb (ap (λ (x : Branch). x.is_second) (sym eb) ∙ c.requires.first)
+    turned I vs bs d b (record (slice_index_or bs d c.index-branches-place-2.result) { is_second = true }) w c.requires.room inside eb (ap (λ (x : Branch). x.is_second) (sym eb) ∙ c.requires.first)
     (ap (λ (x : Branch). let y : Branch = record x { is_second = true } in y) ec)
-    (c.second.ensures.var ∙ ap (λ (x : Cut). x.var) is)
-    (cut_by I (slice_set vs b.col v) b.col c.before-2.result c.second.result (omega arith) (is ∙ sym (get_or-set_same vs b.col v c.before-2.result inside)) (second_range b.by) c.second.ensures.range)
+    (ap (λ (x : Cut). x.var) is)
+    (cut_by I (slice_set vs b.col v) b.col w (omega arith) (second_range b.by)
+    (subst (λ (x : Cut). cut_variable w ≡ record (cut_variable x) { range = second_range b.by (cut_variable x) }) (sym set)
+    (ends_range v w c.second-ends.result (second_range b.by (cut_variable v)) is
+    (c.second-ends.ensures ∙ ap (λ (x : Cut). second_range b.by (cut_variable (with_ends x b.before))) (at c.index-cuts-j.result)))))

@@ -26,8 +26,8 @@ returns-in-None-clause-err c =
       refl,
     )
 
-pub returns-then-not-is_same-clause-err : goal.returns-then-not-is_same-clause-err
-returns-then-not-is_same-clause-err c =
+pub returns-then-not-is_one-clause-err : goal.returns-then-not-is_one-clause-err
+returns-then-not-is_one-clause-err c =
     let w = width_is c.args.program.now c.args.cuts.now in
     let v = ap length c.vars-count.ensures.value in
     let n = length-map c.vars-count.result.now variable in
@@ -41,7 +41,7 @@ returns-then-not-is_same-clause-err c =
         below = c.loop-j.invariant;
         fits = fits_form (Tree.cut c.args.program.now c.args.cuts.now) (cut-instance c.args.program.now c.requires.numbers c.args.cuts.now) c.args.mults.now c.loop-j.j (slot_at c.args.slots.now c.loop-j.j) c.in-Some.sum e s;
         other = other_form (Tree.cut c.args.program.now c.args.cuts.now) (cut-instance c.args.program.now c.requires.numbers c.args.cuts.now) c.args.mults.now c.loop-j.j (slot_at c.args.slots.now c.loop-j.j) c.in-Some.sum e s (Of.aim c.args.aim) c.wanted.result (c.wanted.ensures c.args.cuts.now)
-            (λ q. let t : IsTrue false = c.if-not-is_same.ensures.1 q in cc);
+            (λ q. let t : IsTrue false = c.if-not-is_one.ensures.1 q in cc);
       },
       refl,
     )
@@ -54,4 +54,4 @@ loop-j-preserved c =
     let e : slot_at c.args.slots.now c.loop-j.j ≡ Some c.in-Some.sum = get_or_default c.args.slots.now c.loop-j.j None _ (omega arith) ∙ c.in-Some.is in
     let s = c.requires.sums c.loop-j.j h in
     below_more (HasForm (Tree.cut c.args.program.now c.args.cuts.now) (multipliers c.args.mults.now) (Of.aim c.args.aim)) c.loop-j.j c.loop-j.invariant
-    (has_form (Tree.cut c.args.program.now c.args.cuts.now) (cut-instance c.args.program.now c.requires.numbers c.args.cuts.now) c.args.mults.now c.loop-j.j (slot_at c.args.slots.now c.loop-j.j) c.in-Some.sum e s (Of.aim c.args.aim) c.wanted.result (c.wanted.ensures c.args.cuts.now) (c.if-not-is_same.ensures.0 refl))
+    (has_form (Tree.cut c.args.program.now c.args.cuts.now) (cut-instance c.args.program.now c.requires.numbers c.args.cuts.now) c.args.mults.now c.loop-j.j (slot_at c.args.slots.now c.loop-j.j) c.in-Some.sum e s (Of.aim c.args.aim) c.wanted.result (c.wanted.ensures c.args.cuts.now) (c.if-not-is_one.ensures.0 refl))
