@@ -8,9 +8,9 @@ ghost use Rattle.evidence.specs.SemiVariables.{low_or_zero, high_or_zero};
 ghost use Rattle.instance.specs.Program.{limit, variable};
 ghost use Rattle.case_tree.specs.Cuts.{cut, cut_variable, first_range, second_range, HasNext};
 
-use crate::numbers::{is_below, whole, zero};
+use crate::numbers::{is_below, whole};
 use fraction::{End, Frac, MAX};
-use instance::Var;
+use instance::{Var, zero};
 
 /// A variable as a case has it: the ends of its column, and what it is in the instance.
 #[derive(Clone, Copy, PartialEq, Eq)]
