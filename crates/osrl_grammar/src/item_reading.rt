@@ -1,6 +1,6 @@
 //! The items of a certificate's parts.
 
-ghost use Rattle.std.specs.Prelude.{◌≡◌, ◌↔◌, ◌++◌, ◌∷◌, [], ℕ, List, Some, IsTrue, IfOk, MatchOption, codes};
+ghost use Rattle.std.specs.Prelude.{◌≡◌, ◌↔◌, ◌++◌, ◌∷◌, [], ℕ, List, Some, IsTrue, IsFalse, false, IfOk, MatchOption, codes};
 ghost use Rattle.std.specs.List.{AllZip};
 ghost use Rattle.tag_tests.specs.Fields.{FieldsRead};
 ghost use Rattle.osrl_grammar.specs.declared.parts.Part.TheVariants as parts;
@@ -216,10 +216,23 @@ pub(crate) fn read_tree_item(
     }
 }
 
+/// Whether an item has the first letter of the word of a level. Most items of a tree don't, and aren't cut for it.
+fn may_begin_level(text: &[u8]) -> bool
+    ensures { IsFalse result → items.begins_level (pieces text.now) ≡ false }
+{
+    if text.is_empty() {
+        return false;
+    }
+    text[0] == b'l'
+}
+
 /// Whether an item begins with the word of a level.
 fn begins_level(text: &[u8]) -> bool
     ensures { result ≡ items.begins_level (pieces text.now) }
 {
+    if !may_begin_level(text) {
+        return false;
+    }
     let (word, _) = first_piece(text);
     word == b"level".as_slice()
 }
@@ -238,10 +251,10 @@ pub(crate) fn is_level(part: Part, text: &[u8]) -> bool
 fn level_text(text: &[u8]) -> Option<&[u8]>
     ensures { MatchOption result ((k : List ℕ) → pieces text.now ≡ codes "level" ∷ k ∷ [] → ⊥) (λ k. pieces text.now ≡ codes "level" ∷ k.now ∷ []) }
 {
-    let (word, rest) = first_piece(text);
-    if word != b"level".as_slice() {
+    if !begins_level(text) {
         return None;
     }
+    let (_, rest) = first_piece(text);
     one_piece(rest)
 }
 

@@ -175,8 +175,8 @@ fn says_infeasible(unknown: bool, word: &Option<Text>) -> bool
 fn may_begin(claiming: &Option<Text>, part: Part, text: &[u8]) -> bool
     ensures { result ≡ saying.says_infeasible true claiming.now && items.is_level part text.now }
 {
-    if says_infeasible(true, claiming) {
-        is_level(part, text)
+    if is_level(part, text) {
+        says_infeasible(true, claiming)
     } else {
         false
     }

@@ -1,8 +1,9 @@
 //! Links are accepted and served, each in a thread of its own.
 
 ghost use Rattle.std.specs.Prelude.{◌≡◌, ◌+◌, ◌<◌, ◌≤◌, ◌^◌, ◌∷◌, None, slice_index_or, vec_len};
+ghost use Rattle.desk.specs.Rule.{one_if};
 ghost use Rattle.desk.specs.SeatMoves.{desk_id, IsSeatOf};
-ghost use Rattle.server_threads.specs.Talks.{Acts, one_if, short_of};
+ghost use Rattle.server_threads.specs.Talks.{Acts, short_of};
 ghost use Rattle.server_threads.specs.Promises.{promise_of, Due};
 ghost use Rattle.server_threads.specs.Serving.{stand, taken, MayTake};
 ghost use Rattle.server_threads.specs.OpenLinks.{GoesOn, Goes, LinksServed, CameSo, served_result, served_so};

@@ -32,7 +32,23 @@ struct Listener<R, S> {
     course: Course<S, R>,
 }
 
-/// Keeps what marks came to.
+/// Keeps why a mark isn't taken.
+fn stop<R: Drop, S: Drop>(course: &mut Course<S, R>, why: Stop<R>) -> Result<(), NoMemory>
+    ensures { IsKept {X = Unit {0}} (Err why) course.old course.new result }
+{
+    match why {
+        Stop::Refused(r) => {
+            *course = Course::Stopped(r);
+            Ok(())
+        }
+        Stop::Memory => {
+            *course = Course::Lost;
+            Err(AllocError)
+        }
+    }
+}
+
+/// Keeps what marks came to. Most are taken: what the others need stands apart, so that it costs those nothing.
 fn keep<R: Drop, S: Drop>(
     course: &mut Course<S, R>,
     step: Result<(), Stop<R>>,
@@ -41,14 +57,7 @@ fn keep<R: Drop, S: Drop>(
 {
     match step {
         Ok(()) => Ok(()),
-        Err(Stop::Refused(r)) => {
-            *course = Course::Stopped(r);
-            Ok(())
-        }
-        Err(Stop::Memory) => {
-            *course = Course::Lost;
-            Err(AllocError)
-        }
+        Err(why) => stop(course, why),
     }
 }
 

@@ -1,5 +1,5 @@
 -- Which bytes are of which kind.
-use Rattle.doc_tree.proofs.Words.{IsNameChar, IsNameRest, IsNameStart, IsQNameRest, IsQuote, IsSpace, List, Part, [], arith, inl, inr, ℕ, ◌↔◌, ◌∷◌, ◌≡◌, ◌≢◌, ◌≤◌, ◌⊎◌}
+use Rattle.doc_tree.proofs.Words.{IsNameChar, IsNameRest, IsNameStart, IsQNameRest, IsQuote, IsSpace, List, Part, [], arith, inl, inr, ℕ, ◌∷◌, ◌≡◌, ◌≢◌, ◌≤◌, ◌⊎◌}
 use Rattle.doc_tree.specs.declared.names.Part.TheVariants as parts
 
 -- at `-`, at `.`, from `0` to `:`, or from `A` on

@@ -1,5 +1,5 @@
 -- Printable characters.
-use Rattle.doc_tree.proofs.Words.{ArePrintable, Some1, and_parts, Bool, Each, Field, IsEncodingChar, IsNameChar, IsNameRest, IsNameStart, IsPrintable, IsQuote, List, Part, [], arith, field_name, first_letter, inl, inr, leb, leb-true, refl, subst, true, ℕ, ◌&&◌, ◌++◌, ◌↔◌, ◌∷◌, ◌≡◌}
+use Rattle.doc_tree.proofs.Words.{ArePrintable, Some1, and_parts, Bool, Each, Field, IsEncodingChar, IsNameChar, IsNameRest, IsNameStart, IsPrintable, IsQuote, List, Part, [], arith, field_name, inl, inr, leb, leb-true, refl, subst, true, ℕ, ◌&&◌, ◌++◌, ◌↔◌, ◌∷◌, ◌≡◌}
 use Rattle.doc_tree.specs.declared.declaration.Field.TheVariants as fields
 use Rattle.doc_tree.specs.declared.names.Part.TheVariants as parts
 use Rattle.doc_tree.proofs.ByteGrammar.Bytes.{char_range, quote_range, some_run, start_range}

@@ -1,5 +1,5 @@
 -- Steps of states.
-use Rattle.doc_tree.proofs.Words.{ArePrintable, Attribute, AttributeValue, Behind, Between, Bool, Char, Choice, DigitRest, Each, EndOver, EndsBehind, EqualsAt, Field, FieldOver, FieldValue, FollowsByte, Gap, Goal, Good, GoodReference, InElement, InNumeral, Insides, IsInMark, IsNameRest, IsNameStart, IsNextField, IsPrintable, IsQuote, IsRadix, IsScalar, IsSpace, List, Mark, NoNextField, NumeralRest, Outer, Place, QuoteAt, ReachesState, RefRest, RestsAt, Saying, State, Stuck, TagFirst, TagRest, Terms, Then, Word, [], ap, arith, brackets, depth_left, digit_value, encode_utf8, false, field_name, first_letter, inl, inr, length, refl, subst, sym, true, ℕ, ◌*◌, ◌++◌, ◌+◌, ◌-◌, ◌<◌, ◌↔◌, ◌∙◌, ◌∷◌, ◌≡◌, ◌≢◌, ◌≤◌}
+use Rattle.doc_tree.proofs.Words.{ArePrintable, Attribute, AttributeValue, Behind, Between, Bool, Char, Choice, DigitRest, Each, EndOver, EndsBehind, EqualsAt, Field, FieldOver, FieldValue, FollowsByte, Gap, Goal, Good, GoodReference, InElement, InNumeral, Insides, IsInMark, IsNameRest, IsNameStart, IsNextField, IsPrintable, IsQuote, IsRadix, IsScalar, IsSpace, List, Mark, NoNextField, NumeralRest, Outer, Place, QuoteAt, ReachesState, RefRest, RestsAt, Saying, State, Stuck, TagFirst, TagRest, Terms, Then, Word, [], ap, arith, brackets, depth_left, digit_value, encode_utf8, field_name, first_letter, inl, inr, length, refl, subst, sym, ℕ, ◌*◌, ◌++◌, ◌+◌, ◌-◌, ◌<◌, ◌↔◌, ◌∙◌, ◌∷◌, ◌≡◌, ◌≢◌, ◌≤◌}
 use Rattle.doc_tree.specs.declared.machine.Goal.TheVariants as goals
 use Rattle.doc_tree.specs.declared.names.Part.TheVariants as parts
 use Rattle.doc_tree.specs.declared.machine.Place.TheVariants as places

@@ -1,5 +1,5 @@
 -- Fixed texts, references and attributes that are whole; and the machine's ends.
-use Rattle.doc_tree.proofs.Words.{After, Attribute, Behind, BehindReference, BehindValue, Bool, Char, Completes, FollowsByte, Goal, Good, GoodGoal, GoodReference, GoodTag, HoldsKey, InElement, Insides, IsFixed, IsInMark, List, Mark, Place, ReachesGoal, ReachesState, RestsAt, State, Terms, Word, [], ap, append-nil, arith, cond, drop, drop-cons, encode_utf8, false, get_or, inl, inr, is_kept, keep, length, map, misc_over, refl, subst, sym, true, ℕ, ◌++◌, ◌+◌, ◌<◌, ◌↔◌, ◌∙◌, ◌∷◌, ◌≡◌, ◌≢◌}
+use Rattle.doc_tree.proofs.Words.{After, Attribute, Behind, BehindReference, BehindValue, Char, Completes, FollowsByte, Goal, Good, GoodGoal, GoodReference, GoodTag, HoldsKey, InElement, Insides, IsFixed, IsInMark, List, Mark, Place, ReachesGoal, ReachesState, RestsAt, State, Terms, Word, [], ap, append-nil, arith, cond, drop, drop-cons, false, get_or, inl, inr, is_kept, keep, length, map, misc_over, refl, subst, sym, true, ℕ, ◌++◌, ◌+◌, ◌<◌, ◌↔◌, ◌∙◌, ◌∷◌, ◌≡◌, ◌≢◌}
 use Rattle.doc_tree.specs.declared.machine.Goal.TheVariants as goals
 use Rattle.doc_tree.specs.declared.machine.Place.TheVariants as places
 use Rattle.doc_tree.proofs.Behind.{good_goal, in_goal}

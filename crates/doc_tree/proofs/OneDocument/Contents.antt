@@ -1,5 +1,5 @@
 -- What content says is found from the text.
-use Rattle.doc_tree.proofs.Words.{Attribute, Body, BodyRest, Char, CommentRest, Content, Each, EndRest, Finish, Inside, IsBodyFit, IsQName, IsSpace, List, Mark, RefRest, Saying, SectionRest, Start, Tag, TagRest, Then, Word, [], ap, append_cancel_left, arith, attribute_list, attributes_text, body_marks, body_text, brackets, char, closed, comment, comment_text, content_marks, content_text, empty, end_text, inl, inr, instruction, instruction_text, local_part, map, nested, nothing, opened, reference, reference_chars, reference_text, refl, section, subst, sym, tag_text, ℕ, ◌++◌, ◌-◌, ◌∙◌, ◌∷◌, ◌≡◌}
+use Rattle.doc_tree.proofs.Words.{Attribute, Body, BodyRest, Char, CommentRest, Content, Each, EndRest, Finish, Inside, IsQName, IsSpace, List, Mark, RefRest, Saying, SectionRest, Start, Tag, TagRest, Then, Word, [], ap, append_cancel_left, arith, attribute_list, attributes_text, body_marks, body_text, brackets, char, closed, comment, comment_text, content_marks, content_text, empty, end_text, inl, inr, instruction, instruction_text, local_part, map, nested, nothing, opened, reference, reference_chars, reference_text, refl, section, subst, sym, tag_text, ℕ, ◌++◌, ◌-◌, ◌∙◌, ◌∷◌, ◌≡◌}
 use Rattle.doc_tree.proofs.ByteGrammar.{LessCases, body_close, body_open, end_to, inside_amp, inside_char_to, inside_dash, inside_less, inside_question, inside_square, not_space, start_range, tag_to, word_last}
 use Rattle.doc_tree.proofs.OneDocument.Spans.{spaces_same}
 use Rattle.doc_tree.proofs.OneDocument.References.{reference_same}

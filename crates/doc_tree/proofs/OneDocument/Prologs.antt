@@ -1,5 +1,5 @@
 -- What stands before the root is found from the text.
-use Rattle.doc_tree.proofs.Words.{Bool, Declaration, Each, Encoding, Equals, Instruction, IsDigit, IsEncodingChar, IsEncodingName, IsLetter, IsName, IsQName, IsQuote, IsSpace, IsYesOrNo, List, Misc, Some1, Standalone, Version, [], ap, append_assoc, arith, bare, codes, comment_text, declaration_text, declared, each_append, encoded, encoding_text, equals_text, false, inl, inr, instruction_text, leb, leb-true, map, mark_text, misc_comment, misc_instruction, misc_over, misc_space, misc_text, no_declaration, no_encoding, no_standalone, refl, standalone_text, standing, subst, sym, to_ascii_lowercase, true, version_text, with_text, ℕ, ◌&&◌, ◌++◌, ◌<◌, ◌∙◌, ◌∷◌, ◌≡◌, ◌≢◌, ◌≤◌, Field, IsFieldValue, any, and_parts}
+use Rattle.doc_tree.proofs.Words.{Bool, Declaration, Each, Encoding, Equals, Instruction, IsEncodingChar, IsName, IsQName, IsQuote, IsSpace, List, Misc, Some1, Standalone, Version, [], ap, arith, bare, codes, comment_text, declaration_text, declared, each_append, encoded, encoding_text, equals_text, false, instruction_text, leb, leb-true, map, mark_text, misc_comment, misc_instruction, misc_over, misc_space, misc_text, no_declaration, no_encoding, no_standalone, refl, standalone_text, standing, sym, to_ascii_lowercase, true, version_text, with_text, ℕ, ◌&&◌, ◌++◌, ◌<◌, ◌∙◌, ◌∷◌, ◌≡◌, ◌≢◌, ◌≤◌, Field, IsFieldValue, any, and_parts}
 use Rattle.doc_tree.specs.declared.declaration.Field.TheVariants as fields
 use Rattle.doc_tree.proofs.MachineSteps.{field_each}
 use Rattle.doc_tree.proofs.Viability.Continuations.{inside, inside_carries}

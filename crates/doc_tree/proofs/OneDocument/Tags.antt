@@ -1,6 +1,6 @@
 -- Values, attributes and start tags are found from the text.
-use Rattle.doc_tree.proofs.Words.{Attributes, Each, Equals, IsQName, IsQuote, IsSpace, List, Some1, Value, [], ap, arith, attribute, attribute_list, attributes_text, equals_text, inl, inr, no_attribute, refl, subst, sym, value_chars, value_over, value_plain, value_reference, value_text, value_white, ℕ, ◌++◌, ◌∷◌, ◌≡◌, ◌≢◌, ◌≤◌, ◌⊎◌, Mark, ValueRest, append-nil, append_assoc, reference_chars, reference_text}
-use Rattle.doc_tree.proofs.ByteGrammar.{value_amp, value_char, value_end, value_space, IsHigh, some_each, space_low}
+use Rattle.doc_tree.proofs.Words.{Attributes, Each, Equals, IsQName, IsQuote, IsSpace, List, Some1, Value, [], arith, attribute, attribute_list, attributes_text, equals_text, inl, inr, no_attribute, refl, subst, sym, value_chars, value_over, value_plain, value_reference, value_text, value_white, ℕ, ◌++◌, ◌∷◌, ◌≡◌, ◌≤◌, ◌⊎◌, Mark, ValueRest, append-nil, append_assoc, reference_chars, reference_text}
+use Rattle.doc_tree.proofs.ByteGrammar.{value_amp, value_char, value_end, value_space, IsHigh, some_each}
 use Rattle.doc_tree.proofs.OneDocument.Spans.{Stops, qname_begins, letter_not_space, spaces_stop, space_not_high, spaces_same, names_same, equals_stop, equals_same, quote_not_space}
 use Rattle.doc_tree.proofs.OneDocument.References.{reference_same}
 

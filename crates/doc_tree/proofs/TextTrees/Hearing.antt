@@ -1,5 +1,5 @@
 -- What a visitor was told, and what waits.
-use Rattle.doc_tree.proofs.Words.{Bool, Err, Feeding, HandedOn, Heard, IsEnd, IsTaken, List, Mark, MatchBool, MatchOption, None, Ok, Option, ReadingFails, Refused, RefusesBytes, Relieved, Result, Some, State, TakesBytes, TreeFault, Visits, WasHeard, ap, append_assoc, arith, behind, drop, false, length, length-drop, refl, subst, sym, take, take-add, take_rest, true, ℕ, ◌++◌, ◌+◌, ◌-◌, ◌<◌, ◌∙◌, ◌≡◌, ◌≤◌}
+use Rattle.doc_tree.proofs.Words.{Err, Feeding, HandedOn, Heard, IsEnd, IsTaken, List, Mark, MatchOption, None, Ok, Option, ReadingFails, Refused, RefusesBytes, Relieved, Result, Some, State, TakesBytes, TreeFault, Visits, WasHeard, ap, append_assoc, arith, behind, drop, length, length-drop, refl, subst, sym, take, take-add, take_rest, ℕ, ◌++◌, ◌+◌, ◌-◌, ◌<◌, ◌∙◌, ◌≡◌, ◌≤◌}
 use Rattle.doc_tree.specs.declared.fault.TreeFault.TheVariants as faults
 use Rattle.doc_tree.proofs.Behind.{over_after}
 use Rattle.doc_tree.proofs.TextTrees.Verdicts.{refused_fed, visited}

@@ -1,5 +1,5 @@
 -- What the bytes that were read say, their line ends made normal.
-use Rattle.doc_tree.proofs.Words.{Bool, Completes, Continues, Err, Finishes, FollowsByte, GoesBehind, IsDepthAllowed, IsErrOf, IsNoDocument, List, Mark, PassesByte, RestsAt, Result, RunsOn, State, Terms, Whole, [], ap, append-nil, append_assoc, arith, bounds, false, normal_lines, refl, subst, sym, true, unread, ℕ, ◌++◌, ◌<◌, ◌↔◌, ◌∙◌, ◌∷◌, ◌≡◌, ◌≢◌}
+use Rattle.doc_tree.proofs.Words.{Bool, Completes, Continues, Err, Finishes, FollowsByte, GoesBehind, IsDepthAllowed, IsErrOf, List, Mark, PassesByte, RestsAt, Result, State, Terms, Whole, [], ap, append-nil, append_assoc, arith, bounds, false, normal_lines, refl, subst, sym, true, unread, ℕ, ◌++◌, ◌<◌, ◌↔◌, ◌∙◌, ◌∷◌, ◌≡◌, ◌≢◌}
 
 -- nothing is left of nothing
 unread_nothing : (returned : Bool) → normal_lines (unread returned []) ≡ []

@@ -1,5 +1,5 @@
 -- Behind each byte that the machine and the characters take, some bytes complete both.
-use Rattle.doc_tree.proofs.Words.{Awaited, Bool, CharacterFollows, CharacterRest, Continues, Each, Good, IsFixed, IsInMark, IsXmlText, List, Mark, Marked, MeetsBoth, PassesByte, Spells, State, Terms, [], ap, append-nil, arith, eqb_tells, false, inl, inr, leb_tells, normal_lines, refl, subst, sym, true, unread, ℕ, ◌++◌, ◌<◌, ◌∙◌, ◌∷◌, ◌≡◌, ◌≤◌, ◌⊎◌, ByteBetween, OneMore, TwoMore, cond}
+use Rattle.doc_tree.proofs.Words.{Awaited, Bool, CharacterFollows, CharacterRest, Continues, Each, Good, IsFixed, IsInMark, IsXmlText, List, Mark, Marked, MeetsBoth, PassesByte, Spells, State, Terms, [], ap, append-nil, arith, eqb_tells, false, inl, inr, leb_tells, normal_lines, refl, subst, sym, true, unread, ℕ, ◌++◌, ◌<◌, ◌∙◌, ◌∷◌, ◌≡◌, ◌≤◌, ByteBetween, OneMore, TwoMore, cond}
 use Rattle.doc_tree.specs.declared.characters.Awaited.TheVariants as awaits
 use Rattle.doc_tree.specs.declared.machine.Goal.TheVariants as goals
 use Rattle.doc_tree.proofs.ByteGrammar.{IsMultibyte, marked_stuck}

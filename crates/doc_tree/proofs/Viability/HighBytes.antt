@@ -1,5 +1,5 @@
 -- Behind a byte from 128 on any others may stand, wherever it may stand at all.
-use Rattle.doc_tree.proofs.Words.{Around, Attribute, Before, Behind, BehindValue, Between, BodyRest, Char, Choice, CommentRest, Each, EndsBehind, Field, FieldValue, Finish, FirstOver, Gap, Goal, Good, InKey, InTag, Insides, IsEncodingChar, IsFixed, IsInMark, IsNameRest, IsNameStart, IsQuote, IsRadix, IsSpace, List, Mark, Marked, NumeralRest, Part, PiOver, PiText, Place, ReachesGoal, RefRest, RestsAt, Saying, SectionRest, Start, State, TagChoice, TagFirst, TagRest, Terms, Then, ValueRest, Word, [], arith, attribute_list, body_marks, brackets, depth_left, digit_value, first_letter, inl, inr, keep, local_part, map, pending_brackets, refl, subst, suc, sym, zero, ℕ, ◌++◌, ◌-◌, ◌↔◌, ◌∷◌, ◌≡◌, ◌≢◌, ◌≤◌}
+use Rattle.doc_tree.proofs.Words.{Around, Attribute, Before, Behind, BehindValue, Between, BodyRest, Char, Choice, CommentRest, Each, EndsBehind, Field, FieldValue, Finish, FirstOver, Gap, Goal, Good, InKey, InTag, Insides, IsEncodingChar, IsFixed, IsInMark, IsNameRest, IsNameStart, IsQuote, IsRadix, IsSpace, List, Mark, Marked, NumeralRest, Part, PiOver, PiText, Place, ReachesGoal, RefRest, RestsAt, Saying, SectionRest, Start, State, TagChoice, TagFirst, TagRest, Terms, Then, ValueRest, Word, [], arith, attribute_list, body_marks, brackets, depth_left, digit_value, first_letter, inl, inr, keep, local_part, map, pending_brackets, refl, subst, sym, ℕ, ◌++◌, ◌-◌, ◌↔◌, ◌∷◌, ◌≡◌, ◌≢◌, ◌≤◌}
 use Rattle.doc_tree.specs.declared.declaration.Field.TheVariants as fields
 use Rattle.doc_tree.specs.declared.names.Part.TheVariants as parts
 use Rattle.doc_tree.specs.declared.machine.Place.TheVariants as places

@@ -224,11 +224,13 @@ module _ (W V : List ℕ → Type 0) (s : State) (r : Bool) (b : ℕ) (new : Sta
   goes_on l m f =
       let o = mark_left_over s r b new returns l p g m in
       let n = mark_document s r b new returns l p o.0 o.1 o.2 m in
-      let k : Fills V o.0 = λ x h. (follows (o.0 ++ x)).0 (subst (λ z. W (z ++ x)) o.1 (f x h)) in
-      (record { rest = o.0 ++ any_document.bytes; character = k any_document.bytes (printable_xml any_document.bytes any_document.printable); says = s.marks ++ any_document.marks; document = n }, λ i.
-      let q = rests_of new returns (o.0 ++ any_document.bytes) (s.marks ++ any_document.marks) (tail_steady o.0 o.2) n in
-      let w = mark_says new p.good i (o.0 ++ any_document.bytes) q.0 q.2 in
-      subst (Fills V) (tail_same o.0 any_document.bytes w.behind new.left o.2 (mark_fixed new p.good i) any_document.printable w.text) k)
+      let k : Fills V o.0 = λ x h. (follows (o.0 ++ x)).0 (subst (λ z. W (z ++ x)) o.1 (f x h)) in (
+        record { rest = o.0 ++ any_document.bytes; character = k any_document.bytes (printable_xml any_document.bytes any_document.printable); says = s.marks ++ any_document.marks; document = n },
+        λ i.
+            let q = rests_of new returns (o.0 ++ any_document.bytes) (s.marks ++ any_document.marks) (tail_steady o.0 o.2) n in
+            let w = mark_says new p.good i (o.0 ++ any_document.bytes) q.0 q.2 in
+            subst (Fills V) (tail_same o.0 any_document.bytes w.behind new.left o.2 (mark_fixed new p.good i) any_document.printable w.text) k,
+      )
 
   goes_longer : 128 ≤ b → (IsInMark s.place s.goal → ⊥) → (more : List ℕ) → Each IsMultibyte more → Fills V more → (b ≡ 239 → Fills V (187 ∷ 191 ∷ [])) → Goes
   goes_longer l n more h f first = elim (begun s r b new returns l p g n) [

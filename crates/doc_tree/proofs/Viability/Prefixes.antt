@@ -1,10 +1,10 @@
 -- Documents go on behind what the machine has taken, and none behind what it refuses.
-use Rattle.doc_tree.proofs.Words.{Between, Bool, Continues, Declaration, Each, Finishes, Good, Insides, IsDeclarationRead, IsDeep, IsDeepAt, IsFixed, IsInMark, IsNameStart, IsPrintable, IsShallowlyViable, IsText, IsViable, IsXmlChar, IsXmlText, List, Mark, Marked, ReachesGoal, RestsAt, State, TagRest, Terms, Whole, Word, [], any, ap, append-nil, append_assoc, arith, body_nodes, declared, depth_left, encode_ascii, encode_utf8_all, encodes-append, false, inl, inr, length, no_encoding, nodes_depth, normal_lines, refl, subst, suc, sym, true, unread, ℕ, ◌++◌, ◌-◌, ◌<◌, ◌∙◌, ◌∷◌, ◌≡◌, ◌≤◌, each_append, text_append, clean_ascii, clean_nothing, Printable}
+use Rattle.doc_tree.proofs.Words.{Between, Bool, Continues, Declaration, Each, Finishes, Good, Insides, IsDeclarationRead, IsDeep, IsDeepAt, IsFixed, IsInMark, IsNameStart, IsPrintable, IsShallowlyViable, IsText, IsViable, IsXmlText, List, Mark, Marked, ReachesGoal, RestsAt, State, TagRest, Terms, Whole, Word, [], any, ap, append-nil, append_assoc, arith, body_nodes, declared, depth_left, false, inl, inr, length, no_encoding, nodes_depth, normal_lines, refl, subst, suc, sym, true, unread, ℕ, ◌++◌, ◌-◌, ◌<◌, ◌∙◌, ◌∷◌, ◌≡◌, ◌≤◌, each_append, text_append, clean_ascii, clean_nothing, Printable}
 use Rattle.doc_tree.specs.declared.machine.Goal.TheVariants as goals
 use Rattle.doc_tree.specs.declared.machine.Place.TheVariants as places
 use Rattle.doc_tree.proofs.TextTrees.Wholes.{Held, held_of, whole_of, document_marks}
 use Rattle.doc_tree.proofs.Viability.Specials.{plain_line, deep_stuck}
-use Rattle.doc_tree.proofs.ByteGrammar.{IsMultibyte, each_map, start_printable, start_range}
+use Rattle.doc_tree.proofs.ByteGrammar.{each_map, start_printable, start_range}
 use Rattle.doc_tree.proofs.MachineSteps.{content_tag_any}
 use Rattle.doc_tree.proofs.Viability.Completions.{Completion, completes_map, completes_tag, completes_between}
 use Rattle.doc_tree.proofs.Viability.PrintableEnds.{wide, alive, marked}
