@@ -8,9 +8,9 @@ ghost use Rattle.evidence.specs.SemiVariables.{low_or_zero, high_or_zero};
 ghost use Rattle.instance.specs.Program.{limit, row, variable};
 ghost use Rattle.case_tree.specs.Cuts.{cut, cut_variable, first_range, second_range, with_ends, HasNext};
 
-use crate::numbers::{is_below, whole, zero};
+use crate::numbers::{is_below, whole};
 use fraction::{End, Frac, MAX};
-use instance::{Row, Var};
+use instance::{Row, Var, zero};
 
 /// A variable as a case has it: the ends of its column, and what it is in the instance.
 #[derive(Clone, Copy, PartialEq, Eq)]

@@ -17,5 +17,5 @@ mod path;
 
 pub use cuts::{Cut, Division, is_branch, is_zero_branch, uncut};
 pub use laws::cases_come_of_branches_above;
-pub use numbers::{is_at_most, is_below, is_same, one, turned, whole, zero};
+pub use numbers::{is_at_most, is_below, is_same, turned, whole};
 pub use path::{Branch, back, enter};

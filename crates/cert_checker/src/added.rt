@@ -8,9 +8,8 @@ ghost use Rattle.cert_checker.specs.Programs.{coefficient, HoldsRow};
 ghost use Rattle.cert_checker.specs.Slots.{slot_at};
 
 use crate::at_hand::Added;
-use case_tree::zero;
 use fraction::Frac;
-use instance::Row;
+use instance::{Row, zero};
 
 /// The sum, 0 where there is none.
 fn number_of(slot: Option<Frac>) -> Frac

@@ -15,9 +15,10 @@ ghost use Rattle.cert_checker.specs.Slots.{slot_at, HoldsSum};
 use crate::at_hand::Program;
 use crate::refused::Unshown;
 use crate::slots::{add_column, clear};
-use case_tree::{Cut, is_same, zero};
+use case_tree::{Cut, is_same};
 use certificate::Mult;
 use fraction::Frac;
+use instance::zero;
 
 /// Makes the sums of the multiplied columns, one for each variable.
 pub(crate) fn add_columns(

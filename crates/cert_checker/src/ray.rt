@@ -11,9 +11,9 @@ ghost use Rattle.cert_checker.specs.Rays.{MayMove, VariablesMove, IsVariableHeld
 
 use crate::at_hand::Program;
 use crate::refused::Unshown;
-use case_tree::{is_below, zero};
+use case_tree::is_below;
 use fraction::{End, Frac, Wide};
-use instance::{Var, add_product, is_between};
+use instance::{Var, add_product, is_between, zero};
 
 /// Whether a movement meets no end, however far it goes.
 fn never_leaves(lb: End, ub: End, by: Frac) -> bool

@@ -20,10 +20,10 @@ use crate::forms::add_columns;
 use crate::pairs::first_illegal;
 use crate::refused::Refused;
 use crate::sums::low_sum;
-use case_tree::{Cut, whole, zero};
+use case_tree::{Cut, whole};
 use certificate::{Mult, Mults};
 use fraction::{End, Frac};
-use instance::{Instance, Row};
+use instance::{Instance, Row, zero};
 
 /// The least whole number that isn't below the fraction.
 fn ceiling(x: Frac) -> i128

@@ -14,10 +14,10 @@ ghost use Rattle.case_tree.specs.Cuts.{cut};
 ghost use Rattle.cert_checker.specs.Slots.{slot_at, IsStep};
 
 use crate::at_hand::Program;
-use case_tree::{Cut, one, zero};
+use case_tree::Cut;
 use certificate::Mult;
 use fraction::{Entry, Frac, Wide};
-use instance::add_product;
+use instance::{add_product, one, zero};
 
 /// The sum with one more product, which is left out where a factor is 0; none where it doesn't fit.
 fn plus(slot: Option<Frac>, a: Frac, x: Frac) -> Option<Frac>

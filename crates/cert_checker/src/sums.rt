@@ -14,10 +14,10 @@ ghost use Rattle.cert_checker.specs.Leaves as Leaf;
 use crate::at_hand::Program;
 use crate::columns::{end_by, ends_of};
 use crate::refused::Unshown;
-use case_tree::{Cut, is_at_most, is_below, zero};
+use case_tree::{Cut, is_at_most, is_below};
 use certificate::Mult;
 use fraction::{End, Frac, Wide};
-use instance::add_product;
+use instance::{add_product, zero};
 
 /// The end that the multiplier bounds its column by.
 fn end_at(program: &Program, cuts: &[Cut], mults: &[Mult], k: usize) -> Frac
