@@ -8,13 +8,11 @@
 mod unheard;
 
 use doc_tree::{Events, TreeFault, read};
+use os_io::MOST_BYTES;
 use std::alloc::Global;
 use std::env;
 use std::io::{self, Read};
 use unheard::Unheard;
-
-/// The most bytes of a document.
-const MOST: u64 = 4_194_304;
 
 /// How many bytes are asked for at once.
 const PIECE: usize = 65_536;
@@ -22,14 +20,14 @@ const PIECE: usize = 65_536;
 /// All the bytes of the input, or the first of them, one more than a document may have.
 fn input_of(alloc: Global, input: &mut impl Read) -> io::Result<Vec<u8>> {
     let mut bytes = Vec::new(alloc);
-    input.take(MOST + 1).read_to_end(&mut bytes)?;
+    input.take(MOST_BYTES + 1).read_to_end(&mut bytes)?;
     Ok(bytes)
 }
 
 /// Reads the input as a whole into a tree.
 fn gathered(alloc: Global, input: &mut impl Read) -> io::Result<Result<(), TreeFault>> {
     let bytes = input_of(alloc, input)?;
-    Ok(match read(alloc, bytes.as_slice(), MOST) {
+    Ok(match read(alloc, bytes.as_slice(), MOST_BYTES) {
         Ok(_) => Ok(()),
         Err(fault) => Err(fault),
     })
@@ -37,9 +35,9 @@ fn gathered(alloc: Global, input: &mut impl Read) -> io::Result<Result<(), TreeF
 
 /// Reads the input piece by piece. Each has a byte at least, so that a document is at its end, or too long, behind so many.
 fn heard(alloc: Global, input: &mut impl Read) -> io::Result<Result<(), TreeFault>> {
-    let mut events = Events::new(alloc, MOST, Unheard);
+    let mut events = Events::new(alloc, MOST_BYTES, Unheard);
     let mut room = [0; PIECE];
-    for _ in 0..=MOST {
+    for _ in 0..=MOST_BYTES {
         let count = input.read(&mut room)?;
         if count == 0 {
             break;

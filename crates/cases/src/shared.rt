@@ -1,10 +1,7 @@
 //! What the answers of many tables need: numbers and files that fields name, texts with many equal parts, and what is left.
 
-use os_io::{FileFault, Files, Memory, Source, Text};
+use os_io::{FileFault, Files, MOST_BYTES, Memory, Source, Text};
 use std::alloc::{AllocError, Global};
-
-/// The most bytes of a file.
-pub(crate) const MOST: u64 = 4_194_304;
 
 /// The number that these digits say, or else 0.
 pub fn number_of(digits: &[u8]) -> u64 {
@@ -35,7 +32,7 @@ pub fn bytes_of<F: Files>(alloc: Global, files: &mut F, name: &[u8]) -> Result<T
     let Ok(name) = str::from_utf8(name) else {
         return Ok(Text::new(alloc));
     };
-    match files.read_all(alloc, name, MOST) {
+    match files.read_all(alloc, name, MOST_BYTES) {
         Ok(text) => Ok(text),
         Err(FileFault::Failed) => Ok(Text::new(alloc)),
         Err(FileFault::Memory) => Err(AllocError),

@@ -1,8 +1,7 @@
 //! Tables, line by line.
 
 use crate::escapes::{put_escaped, read_escaped};
-use crate::shared::MOST;
-use os_io::{FileFault, Files, Memory, Text};
+use os_io::{FileFault, Files, MOST_BYTES, Memory, Text};
 use std::alloc::Global;
 use std::io::{self, Write};
 
@@ -93,7 +92,7 @@ pub fn try_file<A: Answers, F: Files, W: Write>(
     answers: &mut A,
     output: &mut W,
 ) -> io::Result<u64> {
-    match files.read_all(alloc, name, MOST) {
+    match files.read_all(alloc, name, MOST_BYTES) {
         Ok(table) => try_table(alloc, name, table.as_slice(), answers, output),
         Err(FileFault::Failed) => {
             tell(name, 0, b"can't be read", output)?;

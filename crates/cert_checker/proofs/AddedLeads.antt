@@ -131,7 +131,3 @@ module _ (J : Instance) (v : Ratio) (t k : Frac) (et : ratio t ≡ minimising J 
     same = subst (λ a. IsSame (ratio e) (sum a (negative (minimising J J.goal.constant)))) et (subst (λ b. IsSame (ratio e) (sum (ratio t) (negative b))) ek is);
   }
   reached_end (Err w) is fits = tt
-
-  pub end_unfit : (r : Result Frac Unfit) → OnErr r (SumFits (ratio t) (negative (ratio k)) → ⊥) → OnErr r (EndIsWide J v)
-  end_unfit (Ok e) w = tt
-  end_unfit (Err x) w = λ f. w (subst (λ a. SumFits a (negative (ratio k))) (sym et) (subst (λ b. SumFits (minimising J v) (negative b)) (sym ek) f))

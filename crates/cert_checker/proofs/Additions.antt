@@ -38,9 +38,6 @@ pub record IsAdded (row : List Entry) (d : Entry) (by : Ratio) (old new : List (
   pub added : (s : ℕ) → s < k → IsStep (slot_at old (at row s d).col) by (ratio (at row s d).value) (slot_at new (at row s d).col)
   pub others : (j : ℕ) → ((s : ℕ) → s < k → (at row s d).col ≡ j → ⊥) → slot_at new j ≡ slot_at old j
 
-pub none_added : (row : List Entry) (d : Entry) (by : Ratio) (old : List (Option Frac)) → IsAdded row d by old old 0
-none_added row d by old = record { added = λ s h. absurd (omega arith); others = λ j h. refl }
-
 module _ (row : List Entry) (i : ℕ) (d : Entry) (by : Ratio) (old : List (Option Frac)) (up : IsAscending row) (on : All (λ e. e.row ≡ i) row) where
   pub one_more : (new : List (Option Frac)) (k : ℕ) (v : Option Frac) → k < length row → (at row k d).col < length new → IsAdded row d by old new k → IsStep (slot_at new (at row k d).col) by (ratio (at row k d).value) v → IsAdded row d by old (slice_set new (at row k d).col v) (k + 1)
   one_more new k v h inside so step = record {

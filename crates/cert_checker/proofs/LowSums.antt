@@ -57,7 +57,3 @@ module _ (I : Instance) (good : IsInstance I) (ms : List Mult) (z : Option Frac)
 
   pub lacks_sum : (node : ℕ) → (ReachesBound (aim z) (ratio s) → ⊥) → SumRefuses I (multipliers ms) (aim z) node (Sum node)
   lacks_sum node fails = inr (fits_start, λ r. fails (reaches_same (aim z) (low_sum I (start I (aim z)) (multipliers ms)) (ratio s) (aim-number z) (≈-sym near) r), refl)
-
--- the start doesn't matter to how the refusal is written
-pub wide_sum : (I : Instance) (ms : List Mult) (z : Option Frac) (f : Frac) (node : ℕ) → ratio f ≡ start I (aim z) → (LowFits I (ratio f) (multipliers ms) → ⊥) → SumRefuses I (multipliers ms) (aim z) node (Wide node)
-wide_sum I ms z f node ef unfit = inl ((λ h. unfit (subst (λ t. LowFits I t (multipliers ms)) (sym ef) h)), refl)

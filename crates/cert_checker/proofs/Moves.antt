@@ -54,11 +54,6 @@ module _ (I : Instance) (x d : List Frac) (vs : List Var) (ev : map variable vs 
       subst (λ w. MayMove w (value_at (ratios x) j) (value_at (ratios d) j)) (sym variable_is)
       (subst (λ z. MayMove (variable v) z (value_at (ratios d) j)) (sym (read x j at hx ax)) (subst (λ z. MayMove (variable v) (ratio at) z) (sym (read d j by hd bd)) m))
 
-  pub move_from : MayMove (Of.variable_at I j) (value_at (ratios x) j) (value_at (ratios d) j) → MayMove (variable v) (ratio at) (ratio by)
-  move_from m =
-      subst (λ z. MayMove (variable v) (ratio at) z) (read d j by hd bd)
-      (subst (λ z. MayMove (variable v) z (value_at (ratios d) j)) (read x j at hx ax) (subst (λ w. MayMove w (value_at (ratios x) j) (value_at (ratios d) j)) variable_is m))
-
 some_weaker : {P Q : Ratio → Type 0} (o : Option Ratio) → ((l : Ratio) → P l → Q l) → IfSome o P → IfSome o Q
 some_weaker None f p = p
 some_weaker (Some l) f p = f l p
@@ -96,13 +91,6 @@ module _ (I : Instance) (good : IsInstance I) (x : List Frac) where
       let c : ratio s ⋖ none = record { left = s.above; right = none-number; is = subst (λ w. IsBelow (ratio s) w) ez b } in
       let d = ≲-⋖ (≲-from a) c in
       d.is
-
-  pub slope_not_below : (s z : Frac) → IsSame (ratio s) (slope I (ratios x)) → ratio z ≡ none → IsBelow (slope I (ratios x)) none → IsBelow (ratio s) (ratio z)
-  slope_not_below s z e ez b =
-      let a : ratio s ≈ slope I (ratios x) = record { left = s.above; right = slope-number; is = e } in
-      let c : slope I (ratios x) ⋖ none = record { left = slope-number; right = none-number; is = b } in
-      let d = ≲-⋖ (≲-from a) c in
-      subst (λ w. IsBelow (ratio s) w) (sym ez) (d.is)
 
 module _ (I : Instance) (x d : List Frac) (count : length d ≡ width I) (vars : VariablesMove I (ratios x) (ratios d) (width I)) (rows : RowsMove I (ratios d) (height I)) where
   pub is_ray : IsBelow (slope I (ratios d)) none → IsRay I (ratios x) (ratios d)

@@ -33,17 +33,6 @@ use Rattle.cert_checker.proofs.Widths.{cut-instance}
 none_from : (x : Ratio) → IsSame x none → x.num ≡ pos 0
 none_from x e = sym (one_times x.num) ∙ *ℤ_comm (pos 1) x.num ∙ e ∙ zero-*ℤ (pos x.den)
 
--- the negative of the floor of the negative number
-pub ceiling_from : (x : Ratio) (k : ℤ) → IsFloor (negative x) k → IsCeiling x (neg_ℤ k)
-ceiling_from x k f =
-    let low = f.low in
-    let high = f.high in
-    let e = neg-times k (pos x.den) in
-    let g = neg-times (k +ℤ pos 1) (pos x.den) in
-    let h : neg_ℤ (k +ℤ pos 1) ≡ neg_ℤ k +ℤ negsuc 0 = omega (arith, ints) in
-    let i : (neg_ℤ k +ℤ negsuc 0) *ℤ pos x.den ≡ neg_ℤ ((k +ℤ pos 1) *ℤ pos x.den) = ap (λ n. n *ℤ pos x.den) (sym h) ∙ g in
-    record { low = omega (arith, ints); high = omega (arith, ints) }
-
 -- the same number is rounded to the same
 pub ceiling_same : (x y : Ratio) (k : ℤ) → x ≈ y → IsCeiling x k → IsCeiling y k
 ceiling_same x y k e c =

@@ -52,12 +52,6 @@ module _ (p : Parts) (valid : IsValid p) (x vs : List Frac) (count : length vs �
         values = λ k h. (values k (omega arith)).is;
       }
 
-  pub point_fits : PointFits (problem p) (ratios x)
-  point_fits = let g = goals_count p valid in record { rows = feasible.fits; goals = λ k h. (values k (omega arith)).fits }
-
-pub not_counted : (p : Parts) (valid : IsValid p) (x vs : List Frac) → (length vs ≡ length p.goals → ⊥) → ValuesRefuse (problem p) (ratios x) (ratios vs) Value
-not_counted p valid x vs differs = let g = goals_count p valid in let m = length-map vs ratio in inl (λ e. differs (omega arith), refl)
-
 pub first_value : (p : Parts) (valid : IsValid p) (x vs : List Frac) (k : ℕ) (r : Refused) → length vs ≡ length p.goals → k < length p.goals → ValuesBelow (problem p) (ratios x) (ratios vs) k → ValueRefuses (problem p) (ratios x) (ratios vs) k r → ValuesRefuse (problem p) (ratios x) (ratios vs) r
 first_value p valid x vs k r count h below why =
     let g = goals_count p valid in

@@ -138,12 +138,6 @@ none_after (x ∷ xs) = none_after xs
 pub drop_all : {X : Type 0} (xs : List X) (n : ℕ) → n ≡ length xs → drop n xs ≡ []
 drop_all xs n e = ap (λ k. drop k xs) e ∙ none_after xs
 
-pub all_shown : (I : Instance) (ns : List Node) (i : ℕ) (z : Option Ratio) → i ≡ length ns → LeadsThrough (I ∷ []) ns 1 [] (drop i ns) (i + 1) z → ProvesWithin I ns z
-all_shown I ns i z e f = (start I ns z).1 (f.shown (drop_all ns i e))
-
-pub one_missing : (I J : Instance) (js : List Instance) (ns : List Node) (i : ℕ) (z : Option Ratio) → i ≡ length ns → LeadsThrough (I ∷ []) ns 1 (J ∷ js) (drop i ns) (i + 1) z → TreeRefuses (I ∷ []) ns z 1 (Missing (i + 1))
-one_missing I J js ns i z e f = f.refused (Missing (i + 1)) (subst (λ l. TreeRefuses (J ∷ js) l z (i + 1) (Missing (i + 1))) (sym (drop_all ns i e)) refl)
-
 pub one_more : (I : Instance) (ns : List Has.Node) (i : ℕ) (x : Has.Node) (z : Option Ratio) → i < length ns → x ≡ slice_index_or ns i x → LeadsThrough (I ∷ []) (Means.nodes ns) 1 [] (drop i (Means.nodes ns)) (i + 1) z → TreeRefuses (I ∷ []) (Means.nodes ns) z 1 (Missing (i + 1))
 one_more I ns i x z h is f = f.refused (Missing (i + 1)) (subst (λ l. TreeRefuses [] l z (i + 1) (Missing (i + 1))) (sym (drop_node ns i x h is)) refl)
 

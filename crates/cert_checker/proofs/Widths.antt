@@ -18,9 +18,6 @@ width_is I cs = length-map cs cut_variable
 pub columns_in : (I : Instance) (cs : List Cut) (k : ℕ) → k < width (cut I cs) + height (cut I cs) → k < length cs + height I
 columns_in I cs k h = let a = width_is I cs in omega arith
 
-pub columns_from : (I : Instance) (cs : List Cut) (k : ℕ) → k < length cs + height I → k < width (cut I cs) + height (cut I cs)
-columns_from I cs k h = let a = width_is I cs in omega arith
-
 -- a legal multiplier has a column
 pub legal_column : (I : Instance) (cs : List Cut) (ms : List Mult) (k : ℕ) (m : Mult) → AreLegal (cut I cs) (multipliers ms) → k < length ms → m ≡ slice_index_or ms k m → m.col < length cs + height I
 legal_column I cs ms k m legal h e =

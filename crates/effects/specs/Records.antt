@@ -1,6 +1,7 @@
 -- What calls of the table change, and the records of it.
 use Rattle.std.specs.Prelude.{◌≡◌, ◌≢◌, ℕ, ◌<◌, ◌≤◌, ◌^◌, List, [], ◌∷◌, ◌++◌, length, Option, Some, None}
 use Rattle.std.specs.Int.{w32, w64, to_be_bytes}
+use Rattle.os_io.specs.Limits.{most_bytes}
 use Rattle.effects.specs.declared.kinds.Effect.{Effect}
 use Rattle.effects.specs.declared.kinds.Effect.TheVariants as effect
 use Rattle.effects.specs.declared.kinds.Document.{Document}
@@ -33,7 +34,7 @@ deed_of (effect.Begin n) = Begin n
 
 -- the most bytes of a text
 abbrev pub most_text : ℕ
-most_text = 4194304
+most_text = most_bytes
 
 -- the fields of a record: a number in 8 bytes, a text behind its length in 4, and a document behind 1, or 0
 abbrev pub number : ℕ → List ℕ

@@ -18,7 +18,7 @@ CountsDisk _ before after = after ≡ before
 module _ {S : Type 0} (keeps : S → List Deed → Type 0) (too_long : S → List Deed → Deed → Bool) (broken : S → Bool) (faults : S → ℕ) where
   -- the effect was put, and stored or not
   pub record Puts (d : Deed) (old : S) (fault : Option NotStored) (new : S) : Type 0 where
-    -- where it was stored it is kept behind those before, and else no effect more is
+    -- where it was stored it is kept behind those before, and else what was kept stays
     pub stored : IfNone fault ((deeds : List Deed) → keeps old deeds → keeps new (deeds ++ d ∷ []))
     pub stays : IfSome fault (λ _. (deeds : List Deed) → keeps old deeds → keeps new deeds)
     pub counts : CountsDisk fault (faults old) (faults new)

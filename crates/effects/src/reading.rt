@@ -5,9 +5,10 @@ ghost use Rattle.std.specs.Int.{w32, to_be_bytes};
 ghost use Rattle.effects.specs.Records.{Deed, number, text, document, body, Fits, FitsPaper, most_text, deed_of, paper_of};
 
 use crate::kinds::{Document, Effect};
+use os_io::MOST_BYTES;
 
 /// The most bytes of a text.
-const MOST_TEXT: u32 = 4_194_304;
+const MOST_TEXT: u32 = MOST_BYTES as u32;
 
 fn take_number(bytes: &[u8]) -> Option<(u64, &[u8])>
     ensures some { IfSome result (λ r. bytes.now ≡ number r.0 ++ r.1.now) }

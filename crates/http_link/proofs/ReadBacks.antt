@@ -16,7 +16,8 @@ use Rattle.http_link.specs.declared.refusal.Refusal.TheVariants.{BadRequest, Met
 use Rattle.http_link.specs.declared.replies.ReplyHead.{ReplyHead}
 use Rattle.http_link.specs.Checks.{most_head, most_fields, is_number, writes_number, length_by}
 use Rattle.http_link.specs.Responses.{behind, head_end, refusal_bytes}
-use Rattle.http_link.specs.Replies.{most_reply, says_by, says_of, HeadSays, has_body, most_of, is_whole, IsReply, IsReadWhole, code_of}
+use Rattle.os_io.specs.Limits.{most_reply}
+use Rattle.http_link.specs.Replies.{says_by, says_of, HeadSays, has_body, most_of, is_whole, IsReply, IsReadWhole, code_of}
 use Rattle.http_link.proofs.Numbers.{both_parts}
 use Rattle.http_link.proofs.Fields.{response_is, status_line, status_full, head_lines, are_head_lines}
 

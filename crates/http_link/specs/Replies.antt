@@ -2,6 +2,7 @@
 use Rattle.std.specs.Prelude.{◌≡◌, ℕ, ◌+◌, ◌<◌, ◌≤◌, ◌⊎◌, Bool, ◌==◌, ◌||◌, nat_lt, nat_le, IsTrue, List, [], ◌++◌, length, map, count_by, if◌then◌else◌, codes, Option, None, Some, Result, Ok, Err}
 use Rattle.httparse.specs.Grammar.{ResponseHead, ReadsResponse, status_code}
 use Rattle.httparse.specs.Spans.{name_and_value}
+use Rattle.os_io.specs.Limits.{most_reply}
 use Rattle.os_io.specs.Streams.{BothTold}
 use Rattle.http_link.specs.declared.refusal.Refusal.{Refusal}
 use Rattle.http_link.specs.declared.refusal.Refusal.TheVariants.{BadRequest, MethodNotAllowed, LengthRequired, ContentTooLarge, HeadTooLarge, NotImplemented, ServiceUnavailable}
@@ -13,10 +14,6 @@ use Rattle.http_link.specs.declared.replies.Came.{Came}
 use Rattle.http_link.specs.Lines.{HeadLines, AreHeadLines, print_head, HasNoHead}
 use Rattle.http_link.specs.Checks.{most_head, most_fields, is_named, field_values, length_by}
 use Rattle.http_link.specs.Requests.{IsHeadBegun, IsHeadPart}
-
--- most bytes of a response's body
-abbrev pub most_reply : ℕ
-most_reply = 25165824
 
 -- by the length that Content-Length gives: without one the body goes to the end of the link
 abbrev pub says_by : ℕ → Result ℕ Refusal → Option ReplyHead

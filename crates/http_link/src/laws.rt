@@ -7,7 +7,8 @@ ghost use Rattle.http_link.specs.Outgoing.{request_text};
 ghost use Rattle.http_link.specs.Pieces.{TakesPieces};
 ghost use Rattle.http_link.specs.Requests.{IsRequest, IsBegun, IsHeadPart, IsCut, EndedBetween};
 ghost use Rattle.http_link.specs.Responses.{answer_text, fault_answer_text, refusal_bytes};
-ghost use Rattle.http_link.specs.Replies.{most_reply, code_of, IsReply, IsReadWhole, IsReplyBegun, IsReplyPart, EndsReading};
+ghost use Rattle.os_io.specs.Limits.{most_reply};
+ghost use Rattle.http_link.specs.Replies.{code_of, IsReply, IsReadWhole, IsReplyBegun, IsReplyPart, EndsReading};
 ghost use Rattle.http_link.specs.declared.refusal.Refusal.{Refusal};
 
 use os_io::Body;

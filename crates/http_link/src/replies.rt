@@ -15,7 +15,7 @@ use os_io::{MemBody, Source, Text};
 use std::alloc::Global;
 
 /// The most bytes of a response's body.
-const MOST_REPLY: usize = 25_165_824;
+const MOST_REPLY: usize = os_io::MOST_REPLY as usize;
 
 /// A response: its status, and its body. A status other than 200 and 500 has none here.
 #[derive(Drop)]

@@ -17,8 +17,4 @@ pub kept : (zero : Bool) (r : Of.Range) (whole : Bool) (x : Ratio) → Of.HasNum
 kept true r whole x h p = semi_kept r whole x h p
 kept false r whole x h p = (λ k. (k.between, k.whole), λ k. record { between = k.0; whole = k.1; further = tt })
 
-pub zero_same : (x : Ratio) → (x.num ≡ pos 0) ↔ IsSame x none
-zero_same x = (
-  λ e. ap (λ n. n *ℤ pos 1) e ∙ zero-*ℤ (pos 1) ∙ sym (zero-*ℤ (pos x.den)),
-  λ e. sym (one_times x.num) ∙ *ℤ_comm (pos 1) x.num ∙ e ∙ zero-*ℤ (pos x.den),
 )

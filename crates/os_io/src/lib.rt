@@ -43,7 +43,7 @@ pub use body::Body;
 pub use close::Close;
 pub use disk::DiskFiles;
 pub use files::{FileFault, Files};
-pub use limits::MOST_BYTES;
+pub use limits::{MOST_BYTES, MOST_REPLY};
 pub use listener::Listener;
 pub use mem_body::MemBody;
 pub use mem_files::MemFiles;

@@ -3,6 +3,7 @@ use Rattle.std.specs.Prelude.{◌≡◌, ◌⊎◌, ℕ, Bool, true, false, Opti
 use Rattle.tree_grammar.specs.Elements.{Element, Event, events, IsShallow, IsTextWithin}
 use Rattle.tree_grammar.specs.Document.{Doc}
 use Rattle.document_tags.specs.OneChild.{only_child, only_element, plain_text}
+use Rattle.os_io.specs.Limits.{most_reply}
 use Rattle.soap_calls.specs.declared.fault.Answer.{Answer}
 use Rattle.soap_calls.specs.declared.fault.Answer.TheVariants.{Return, Fault}
 use Rattle.soap_calls.specs.Envelope.{held}
@@ -39,14 +40,10 @@ abbrev pub bool_text : Bool → List ℕ
 bool_text true = codes "true"
 bool_text false = codes "false"
 
--- the greatest length of a reply in bytes
-abbrev pub reply_limit : ℕ
-reply_limit = 25165824
-
 -- the bytes are a document within the limits of a reply
 pub record IsReplyDocument (bytes : List ℕ) (root : Element) : Type 0 where
   pub document : Doc bytes root
-  pub short : IsTextWithin reply_limit bytes
+  pub short : IsTextWithin most_reply bytes
   pub shallow : IsShallow root
 
 abbrev pub NoReplyDocument : List ℕ → Type 0

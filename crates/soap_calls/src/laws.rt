@@ -3,6 +3,7 @@
 ghost use Rattle.std.specs.Prelude.{◌≡◌, ◌≢◌, ◌++◌, ℕ, ◌≤◌, List, Result, Ok, Err, IfOk, IfErr, length, codes};
 ghost use Rattle.tree_grammar.specs.Characters.{IsXmlText};
 ghost use Rattle.document_tags.specs.Texts.{document_limit};
+ghost use Rattle.os_io.specs.Limits.{most_reply};
 ghost use Rattle.six_calls.specs.declared.call.CallKind as kinds;
 ghost use Rattle.soap_calls.specs.declared.call.SoapCall as given;
 ghost use Rattle.soap_calls.specs.declared.fault.SoapFault as refused;
@@ -13,7 +14,7 @@ ghost use Rattle.soap_calls.specs.declared.fault.NotReply as unread;
 ghost use Rattle.soap_calls.specs.declared.fault.NotReply.TheVariants as lost;
 ghost use Rattle.six_calls.specs.Names.{kind_text};
 ghost use Rattle.soap_calls.specs.Calls.{IsCallText};
-ghost use Rattle.soap_calls.specs.Replies.{reply_limit, MayReturn, IsReplyText};
+ghost use Rattle.soap_calls.specs.Replies.{MayReturn, IsReplyText};
 ghost use Rattle.soap_calls.specs.Refusals.{CallFails, ReplyFails};
 ghost use Rattle.soap_calls.specs.Writing.{call_text, reply_text, fault_text};
 ghost use Rattle.soap_calls.specs.Back.{AreTexts};
@@ -56,9 +57,9 @@ pub fn calls_are_read_back()
 /// contract, is that text returned, but for want of memory; it is to be of characters of XML, of a call of `send` one of
 /// `true` and `false`, and the reply within the limit of a response's body.
 pub fn returns_are_read_back()
-    ensures says { (k : kinds.CallKind) (text : List ℕ) → IsXmlText text → MayReturn (kind_text k) text → length (reply_text (kind_text k) text) ≤ reply_limit
+    ensures says { (k : kinds.CallKind) (text : List ℕ) → IsXmlText text → MayReturn (kind_text k) text → length (reply_text (kind_text k) text) ≤ most_reply
         → IsReplyText (kind_text k) (reply_text (kind_text k) text) (answers.Return text) }
-    ensures read { (k : kinds.CallKind) (text : List ℕ) (r : Result given_back.Answer unread.NotReply) → IsXmlText text → MayReturn (kind_text k) text → length (reply_text (kind_text k) text) ≤ reply_limit
+    ensures read { (k : kinds.CallKind) (text : List ℕ) (r : Result given_back.Answer unread.NotReply) → IsXmlText text → MayReturn (kind_text k) text → length (reply_text (kind_text k) text) ≤ most_reply
         → IfOk r (IsReplyText (kind_text k) (reply_text (kind_text k) text)) → IfErr r (ReplyFails (kind_text k) (reply_text (kind_text k) text)) → r ≢ Err lost.Memory → r ≡ Ok (answers.Return text) }
 {}
 
@@ -66,8 +67,8 @@ pub fn returns_are_read_back()
 /// contract, is that fault, whatever the call, but for want of memory; its texts are to be characters of XML, and the text
 /// within the limit of a response's body.
 pub fn faults_are_read_back()
-    ensures says { (name code text : List ℕ) → IsXmlText code → IsXmlText text → length (fault_text code text) ≤ reply_limit
+    ensures says { (name code text : List ℕ) → IsXmlText code → IsXmlText text → length (fault_text code text) ≤ most_reply
         → IsReplyText name (fault_text code text) (answers.Fault (codes "soap:" ++ code) text) }
-    ensures read { (name code text : List ℕ) (r : Result given_back.Answer unread.NotReply) → IsXmlText code → IsXmlText text → length (fault_text code text) ≤ reply_limit
+    ensures read { (name code text : List ℕ) (r : Result given_back.Answer unread.NotReply) → IsXmlText code → IsXmlText text → length (fault_text code text) ≤ most_reply
         → IfOk r (IsReplyText name (fault_text code text)) → IfErr r (ReplyFails name (fault_text code text)) → r ≢ Err lost.Memory → r ≡ Ok (answers.Fault (codes "soap:" ++ code) text) }
 {}

@@ -12,18 +12,15 @@ use crate::fault::{Answer, NotReply};
 use doc_tree::{TreeFault, read};
 use document_tags::Spot;
 use element_tree::Tree;
-use os_io::Memory;
+use os_io::{MOST_REPLY, Memory};
 use std::alloc::Global;
-
-/// The most bytes of a reply.
-const MOST_OF_REPLY: u64 = 25_165_824;
 
 /// The tree of a reply's document, or that there is none.
 fn read_bytes(alloc: Global, bytes: &[u8]) -> Result<Tree, TreeFault>
     ensures ok { IfOk result (AreOfReply bytes.now) }
     ensures err { IfErr result (λ f. (f ≡ trees.Memory) ⊎ NoReplyDocument bytes.now) }
 {
-    read(alloc, bytes, MOST_OF_REPLY)
+    read(alloc, bytes, MOST_REPLY)
 }
 
 /// The answer in a tree, if there is one.

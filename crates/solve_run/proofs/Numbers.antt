@@ -68,10 +68,6 @@ some_nodes (Of.Bound ms) = omega arith
 some_nodes (Of.Split j k a b) = omega arith
 some_nodes (Of.Zero j a b) = omega arith
 
-pub some_of : (ns : List Node) → 0 < length (nodes ns) → 0 < length ns
-some_of [] h = h
-some_of (x ∷ ns) h = omega arith
-
 pub nodes_within : (I : Instance) (t : Tree) (z : Option Ratio) (ns : List Of.Node) → width I + height I ≤ 2 ^ 32 → ns ≡ preorder t → Shows I t z → All (IsWithin (2 ^ 32)) ns
 nodes_within I t z ns few listed shows = subst (All (IsWithin (2 ^ 32))) (sym listed) (tree_within (2 ^ 32) I t z few shows)
 
