@@ -15,7 +15,8 @@ use Rattle.instance.specs.declared.parts.Goal.{Goal}
 use Rattle.instance.specs.declared.parts.Sense.{Sense}
 use Rattle.instance.specs.declared.parts.Sense.TheVariants.{Min, Max}
 use Rattle.instance.specs.Parts.{Parts}
-use Rattle.osil_grammar.specs.Writing.{IsEndText, type_text, sense_text, WriteVars, WriteRows, WriteCosts, CountsCosts, WritesGoal, WriteGoals, WriteValues, WriteLists, IsWrittenText, counts_nodes, entries_below, row_starts}
+use Rattle.osil_grammar.specs.Writing.{IsEndText, sense_text, WriteVars, WriteRows, WriteCosts, CountsCosts, WritesGoal, WriteGoals, WriteValues, WriteLists, IsWrittenText, counts_nodes, entries_below, row_starts}
+use Rattle.osil_grammar.specs.VarTags.{type_text}
 use Rattle.generator.proofs.Digits.{IsShort, count_short}
 use Rattle.osil_grammar.proofs.Documents.{one_below}
 

@@ -26,6 +26,7 @@ pub mod WholesBelow
 pub mod EntryBounds
 pub mod TagNumbers
 pub mod StartTagTests
+pub mod VarTags
 pub mod EndTagTests
 pub mod Beginnings
 pub mod CharMarks

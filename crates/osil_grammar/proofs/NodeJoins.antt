@@ -1,5 +1,5 @@
 -- The nodes of one variable, row, cost, index or value may stand before those of the rest.
-use Rattle.osil_grammar.proofs.Words.{◌≡◌, ◌∙◌, ℕ, List, [], map, ap, sym, refl, inl, inr, codes, decimal, Attribute, Nodes, none, element, chars, Event, nodes_events, Entry, with_attribute, WriteVars, WriteRows, WriteCosts, WriteGoals, WriteValues, counts_nodes, sense_text, type_text}
+use Rattle.osil_grammar.proofs.Words.{◌≡◌, ◌∙◌, ℕ, List, [], map, ap, sym, refl, inl, inr, codes, decimal, Attribute, Nodes, none, element, chars, Event, nodes_events, Entry, with_attribute, WriteVars, WriteRows, WriteCosts, WriteGoals, WriteValues, counts_nodes, sense_text, var_attributes}
 use Rattle.osil_grammar.proofs.Tellings.{CanJoin}
 
 -- a single element, and then the rest
@@ -8,9 +8,9 @@ single_before name attributes children rest first end last is k = ap (λ (n : No
 
 pub vars_join : CanJoin (λ i. WriteVars)
 vars_join i v vs first rest one more = record {
-  nodes = element (codes "var") (with_attribute (codes "type") (type_text v.whole v.zero) (with_attribute (codes "lb") one.0 (with_attribute (codes "ub") one.1 []))) none rest;
+  nodes = element (codes "var") (var_attributes v one.0 one.1) none rest;
   writes = (one.0, one.1, rest, one.3, one.4, more, refl);
-  same = single_before (codes "var") (with_attribute (codes "type") (type_text v.whole v.zero) (with_attribute (codes "lb") one.0 (with_attribute (codes "ub") one.1 []))) none rest first one.2 one.5 one.6;
+  same = single_before (codes "var") (var_attributes v one.0 one.1) none rest first one.2 one.5 one.6;
 }
 
 pub rows_join : CanJoin (λ i. WriteRows)

@@ -1,5 +1,5 @@
 -- What start tags and texts say is one thing, so a mark that is taken leaves one state.
-use Rattle.osil_grammar.proofs.Words.{◌≡◌, ◌∙◌, ◌+◌, ℕ, zero, suc, inl, inr, ℤ, pos, Bool, cond, true, false, List, [], ◌∷◌, ◌++◌, map, length, get_or, set, replicate, refl, ap, sym, subst, arith, lit<, ◌||◌, Option, None, Some, bytes_eq, codes, Attribute, Mark, Char, Ratio, IsNumber, IsSame, sum, negative, IsSame-trans, sum-number, Frac, End, NegInf, At, Inf, Entry, ratio, ratios, same_fraction, SaysEnd, IsCount, IsWholeText, IsDecimal, only_inf, only_neg_inf, count_once, whole_once, value_of, Row, Sense, Min, Max, LeavesOne, Domain, Continuous, Integer, Binary, SemiContinuous, SemiInteger, Listing, Place, whole_run, ratio_run, AreSame, IsEndAt, raised, lowered, IsBinary, IsLess, IsSense, IsDeclared, SaysCount, nought, SaysStep, SaysWholeStep, letters, IsLetterOf, IsOfDomain, SaysVar, SaysRow, SaysSense, State, Kind, begins, text, ends, kind, attributes, count_name, part_row, into, out_of, is_variables, SaysRun, Begins, Passes, AddsWholes, AddsRun, AddsCost, Ends, Leaves, osil}
+use Rattle.osil_grammar.proofs.Words.{◌≡◌, ◌∙◌, ◌+◌, ℕ, zero, suc, inl, inr, ℤ, pos, cond, true, false, List, [], ◌∷◌, ◌++◌, map, length, get_or, set, replicate, refl, ap, sym, subst, arith, lit<, ◌||◌, Option, None, Some, bytes_eq, codes, Attribute, Mark, Char, Ratio, IsNumber, IsSame, sum, negative, sum-number, Frac, End, NegInf, At, Inf, Entry, ratio, ratios, SaysEnd, IsCount, IsWholeText, IsDecimal, count_once, whole_once, value_of, Row, Sense, Min, Max, LeavesOne, Listing, Place, whole_run, ratio_run, AreSame, IsEndAt, IsLess, IsSense, IsDeclared, SaysCount, nought, SaysStep, SaysWholeStep, SaysRow, SaysSense, State, Kind, begins, text, ends, kind, attributes, count_name, part_row, into, out_of, is_variables, SaysRun, Begins, Passes, AddsWholes, AddsRun, AddsCost, Ends, Leaves, osil}
 use Rattle.evidence.specs.Sums as evidence
 use Rattle.document_tags.proofs.SomeAnd.{some_once}
 use Rattle.instance.specs.declared.parts.Var.{Var as Variable}
@@ -7,78 +7,10 @@ use Rattle.osil_grammar.specs.declared.elements.Part.TheVariants as parts
 use Rattle.osil_grammar.specs.declared.elements.Listing.TheVariants as listings
 use Rattle.osil_grammar.specs.declared.elements.Place.TheVariants as places
 use Rattle.osil_grammar.specs.declared.elements.Led.TheVariants as led
-use Rattle.osil_grammar.proofs.TagNumbers.{decimal_once}
+use Rattle.osil_grammar.proofs.TagNumbers.{decimal_once, frac_once, bound_once, end_at_once}
 use Rattle.osil_grammar.proofs.StartTagTests.{said_once, times_once, constant_once}
+use Rattle.osil_grammar.proofs.VarTags.{var_once}
 use Rattle.osil_grammar.proofs.OneEntries.{matrix_once}
-use Rattle.osil_grammar.proofs.Places.{number_either}
-
--- a number has one fraction
-frac_once : (x y : Frac) (r : Ratio) → IsNumber r → IsSame (ratio x) r → IsSame (ratio y) r → x ≡ y
-frac_once x y r number a b = same_fraction x y (IsSame-trans (ratio x) r (ratio y) number a (sym b))
-
-bound_once : (t : List ℕ) (x y : End) → SaysEnd t x → SaysEnd t y → x ≡ y
-bound_once t x NegInf a b = only_neg_inf t x a b
-bound_once t x Inf a b = only_inf t x a b
-bound_once t NegInf (At y) a b = sym (only_neg_inf t (At y) b a)
-bound_once t Inf (At y) a b = sym (only_inf t (At y) b a)
-bound_once t (At x) (At y) a b = ap (λ (z : Frac). At z) (decimal_once t x y a b)
-
-end_at_once : (r : Ratio) → IsNumber r → (x y : End) → IsEndAt x r → IsEndAt y r → x ≡ y
-end_at_once r number (At x) (At y) a b = ap (λ (z : Frac). At z) (frac_once x y r number a b)
-end_at_once r number (At x) y a b = absurd b
-end_at_once r number x y a b = absurd a
-
-raised_number : (x : End) → IsNumber (raised x)
-raised_number (At f) = number_either (evidence.is_below (ratio f) evidence.none) evidence.none (ratio f) (lit< tt) f.above
-raised_number x = lit< tt
-
-lowered_number : (x : End) → IsNumber (lowered x)
-lowered_number (At f) = number_either (evidence.is_below (lowered Inf) (ratio f)) (lowered Inf) (ratio f) (lit< tt) f.above
-lowered_number x = lit< tt
-
--- a variable
-same_var : (v w : Variable) → v.lb ≡ w.lb → v.ub ≡ w.ub → v.whole ≡ w.whole → v.zero ≡ w.zero → v ≡ w
-same_var v w a b c d =
-    let low : v ≡ record { lb = w.lb; ub = v.ub; whole = v.whole; zero = v.zero } = ap (λ (x : End). record { lb = x; ub = v.ub; whole = v.whole; zero = v.zero }) a in
-    let high : v ≡ record { lb = w.lb; ub = w.ub; whole = v.whole; zero = v.zero } = low ∙ ap (λ (x : End). record { lb = w.lb; ub = x; whole = v.whole; zero = v.zero }) b in
-    let same : v ≡ record { lb = w.lb; ub = w.ub; whole = w.whole; zero = v.zero } = high ∙ ap (λ (x : Bool). record { lb = w.lb; ub = w.ub; whole = x; zero = v.zero }) c in
-    same ∙ ap (λ (x : Bool). record { lb = w.lb; ub = w.ub; whole = w.whole; zero = x }) d
-
-as_said : (lb ub : End) (whole semi : Bool) (v w : Variable) → (v.lb ≡ lb) × (v.ub ≡ ub) × (v.whole ≡ whole) × (v.zero ≡ semi) → (w.lb ≡ lb) × (w.ub ≡ ub) × (w.whole ≡ whole) × (w.zero ≡ semi) → v ≡ w
-as_said lb ub whole semi v w a b = same_var v w (a.0 ∙ sym b.0) (a.1 ∙ sym b.1) (a.2 ∙ sym b.2) (a.3 ∙ sym b.3)
-
-as_binary : (lb ub : End) (v w : Variable) → IsBinary lb ub v → IsBinary lb ub w → v ≡ w
-as_binary lb ub v w a b = same_var v w (end_at_once (raised lb) (raised_number lb) v.lb w.lb a.0 b.0) (end_at_once (lowered ub) (lowered_number ub) v.ub w.ub a.1 b.1) (a.2 ∙ sym b.2) (a.3 ∙ sym b.3)
-
-of_domain_once : (d : Domain) (lb ub : End) (v w : Variable) → IsOfDomain d lb ub v → IsOfDomain d lb ub w → v ≡ w
-of_domain_once Continuous lb ub v w a b = as_said lb ub false false v w a b
-of_domain_once Integer lb ub v w a b = as_said lb ub true false v w a b
-of_domain_once Binary lb ub v w a b = as_binary lb ub v w a b
-of_domain_once SemiContinuous lb ub v w a b = as_said lb ub false true v w a b
-of_domain_once SemiInteger lb ub v w a b = as_said lb ub true true v w a b
-
-abbrev letter_read : List ℕ → Option Domain
-letter_read t = cond (bytes_eq t (codes "C")) (Some Continuous) (cond (bytes_eq t (codes "B")) (Some Binary) (cond (bytes_eq t (codes "I")) (Some Integer) (cond (bytes_eq t (codes "D")) (Some SemiContinuous) (Some SemiInteger))))
-
-letter_is : (t : List ℕ) (d : Domain) → IsLetterOf letters t d → letter_read t ≡ Some d
-letter_is t d (inl a) = ap letter_read a.0 ∙ ap (λ (x : Domain). Some x) (sym a.1)
-letter_is t d (inr (inl a)) = ap letter_read a.0 ∙ ap (λ (x : Domain). Some x) (sym a.1)
-letter_is t d (inr (inr (inl a))) = ap letter_read a.0 ∙ ap (λ (x : Domain). Some x) (sym a.1)
-letter_is t d (inr (inr (inr (inl a)))) = ap letter_read a.0 ∙ ap (λ (x : Domain). Some x) (sym a.1)
-letter_is t d (inr (inr (inr (inr (inl a))))) = ap letter_read a.0 ∙ ap (λ (x : Domain). Some x) (sym a.1)
-letter_is t d (inr (inr (inr (inr (inr a))))) = absurd a
-
-letter_once : (t : List ℕ) (d e : Domain) → IsLetterOf letters t d → IsLetterOf letters t e → d ≡ e
-letter_once t d e a b = let same = sym (letter_is t d a) ∙ letter_is t e b in cc
-
-var_once : (as' : List Attribute) (v w : Variable) → SaysVar as' v → SaysVar as' w → v ≡ w
-var_once as' v w a b =
-    let low = said_once as' (codes "lb") (At nought) SaysEnd bound_once a.lb b.lb a.low b.low in
-    let high = said_once as' (codes "ub") Inf SaysEnd bound_once a.ub b.ub a.high b.high in
-    let type = said_once as' (codes "type") Continuous (λ t d. IsLetterOf letters t d) letter_once a.domain b.domain a.type b.type in
-    let first : IsOfDomain b.domain a.lb a.ub v = subst (λ (d : Domain). IsOfDomain d a.lb a.ub v) type a.is in
-    let second : IsOfDomain b.domain b.lb a.ub v = subst (λ (x : End). IsOfDomain b.domain x a.ub v) low first in
-    of_domain_once b.domain b.lb b.ub v w (subst (λ (x : End). IsOfDomain b.domain b.lb x v) high second) b.is
 
 -- a row
 same_row : (r s : Row) → r.lb ≡ s.lb → r.ub ≡ s.ub → r ≡ s

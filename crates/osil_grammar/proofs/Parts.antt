@@ -1,5 +1,5 @@
 -- The parts of an instance, each told in its steps.
-use Rattle.osil_grammar.proofs.Words.{◌≡◌, ◌∙◌, ℕ, pos, List, [], ◌∷◌, ◌++◌, ap, refl, inr, codes, decimal, Attribute, Nodes, none, element, chars, nodes_events, Building, said, ratio, Frac, PlainText, Var, Row, Goal, counted_element, with_attribute, WriteVars, WriteRows, WriteCosts, CountsCosts, WriteGoals, holding, sense_text, type_text, ToldAttributes, opening, closing, EndAttributes, content_told, told_around}
+use Rattle.osil_grammar.proofs.Words.{◌≡◌, ◌∙◌, ℕ, pos, List, [], ◌∷◌, ◌++◌, ap, refl, inr, codes, decimal, Attribute, Nodes, none, element, chars, nodes_events, Building, said, ratio, Frac, PlainText, Row, Goal, counted_element, with_attribute, WriteRows, WriteCosts, CountsCosts, WriteGoals, holding, sense_text, ToldAttributes, opening, closing, EndAttributes, content_told, told_around}
 use Rattle.document_tags.specs.Telling.{Told}
 
 -- an attribute was told
@@ -9,16 +9,6 @@ told_attribute b name value = record { events = said b; attributes = b.attribute
 -- these nodes were told, of which this holds
 abbrev pub ToldSome : (Nodes → Type 0) → Building → Building → Type 0
 ToldSome Q old new = (nodes : Nodes) × Q nodes × Told old new (nodes_events nodes)
-
--- a variable, by its type and its ends
-pub var_told : (v : Var) (a b c d : Building) (kind : List ℕ) (more : List Attribute) → a.attributes ≡ [] → kind ≡ type_text v.whole v.zero → b ≡ told_attribute a (codes "type") kind → EndAttributes v.lb v.ub more → ToldAttributes b c more → Told c d (nodes_events (element (codes "var") c.attributes none none)) → ToldSome (WriteVars (v ∷ [])) a d
-var_told v a b c d kind more waits is typed ends attributes tells =
-    let all : List Attribute = with_attribute (codes "type") (type_text v.whole v.zero) (with_attribute (codes "lb") ends.0 (with_attribute (codes "ub") ends.1 [])) in
-    let same : said c ≡ said a = attributes.told ∙ ap said typed in
-    let held : c.attributes ≡ all =
-    attributes.waiting ∙ ap (λ (x : Building). x.attributes ++ more) typed ∙ ap (λ (l : List Attribute). (l ++ record { name = codes "type"; value = kind } ∷ []) ++ more) waits
-    ∙ ap (λ (k : List ℕ). with_attribute (codes "type") k more) is ∙ ap (λ (l : List Attribute). with_attribute (codes "type") (type_text v.whole v.zero) l) ends.4 in
-    (element (codes "var") all none none, (ends.0, ends.1, none, ends.2, ends.3, refl, refl), content_told a c d (codes "var") c.attributes all none same held tells)
 
 -- a row, by its ends
 pub row_told : (r : Row) (a b c : Building) (more : List Attribute) → a.attributes ≡ [] → EndAttributes r.lb r.ub more → ToldAttributes a b more → Told b c (nodes_events (element (codes "con") b.attributes none none)) → ToldSome (WriteRows (r ∷ [])) a c

@@ -1,5 +1,5 @@
 -- The numbers of a start tag, each read by its grammar.
-use Rattle.osil_grammar.proofs.Words.{◌≡◌, ℕ, inl, inr, List, [], ◌∷◌, arith, Option, None, Some, MatchOption, IsSomeAnd, Result, Ok, Err, Attribute, Frac, ratio, NegInf, At, Inf, minus, IsWholeText, IsDecimal, SaysEnd, count_once, count_fits, whole_fits, decimal_fits, bound_fits, value_of, Unread, Grammar, count, times, whole, bound, field, IsOfGrammar, IsWideOf, IsBad, IsTooGreat, Says, ReadsSo, IsDeclared, IsTimes}
+use Rattle.osil_grammar.proofs.Words.{◌≡◌, ℕ, inl, inr, List, [], ◌∷◌, ap, sym, arith, Option, None, Some, MatchOption, IsSomeAnd, Result, Ok, Err, Attribute, Ratio, IsNumber, IsSame, IsSame-trans, Frac, ratio, same_fraction, End, NegInf, At, Inf, minus, IsWholeText, IsDecimal, SaysEnd, only_inf, only_neg_inf, IsEndAt, count_once, count_fits, whole_fits, decimal_fits, bound_fits, value_of, Unread, Grammar, count, times, whole, bound, field, IsOfGrammar, IsWideOf, IsBad, IsTooGreat, Says, ReadsSo, IsDeclared, IsTimes}
 use Rattle.decimal_text.proofs.OneDecimal.{decimal_read_back}
 use Rattle.tag_tests.specs.declared.numbers.Unread.TheVariants as unread
 use Rattle.tag_tests.specs.Fields.{FieldsRead}
@@ -52,3 +52,19 @@ field_read as' name g (Err unread.Wide) Default Is by h = ((wide_fine g (value_o
 -- a decimal is one fraction
 pub decimal_once : (text : List ℕ) (x y : Frac) → IsDecimal text (ratio x) → IsDecimal text (ratio y) → x ≡ y
 decimal_once text x y a b = let same = decimal_read_back y text (Ok x) b a tt in cc
+
+-- a number has one fraction
+pub frac_once : (x y : Frac) (r : Ratio) → IsNumber r → IsSame (ratio x) r → IsSame (ratio y) r → x ≡ y
+frac_once x y r number a b = same_fraction x y (IsSame-trans (ratio x) r (ratio y) number a (sym b))
+
+pub bound_once : (t : List ℕ) (x y : End) → SaysEnd t x → SaysEnd t y → x ≡ y
+bound_once t x NegInf a b = only_neg_inf t x a b
+bound_once t x Inf a b = only_inf t x a b
+bound_once t NegInf (At y) a b = sym (only_neg_inf t (At y) b a)
+bound_once t Inf (At y) a b = sym (only_inf t (At y) b a)
+bound_once t (At x) (At y) a b = ap (λ (z : Frac). At z) (decimal_once t x y a b)
+
+pub end_at_once : (r : Ratio) → IsNumber r → (x y : End) → IsEndAt x r → IsEndAt y r → x ≡ y
+end_at_once r number (At x) (At y) a b = ap (λ (z : Frac). At z) (frac_once x y r number a b)
+end_at_once r number (At x) y a b = absurd b
+end_at_once r number x y a b = absurd a

@@ -1,5 +1,5 @@
 -- What an instance's variables, rows and goal are written as is read as these, mark by mark.
-use Rattle.osil_grammar.proofs.Words.{◌≡◌, ◌∙◌, ℕ, zero, suc, ◌+◌, ◌/◌, ◌<◌, ◌≤◌, inl, inr, Bool, true, false, ℤ, pos, ◌+ℤ◌, List, [], ◌∷◌, ◌++◌, map, length, get_or, set, refl, ap, sym, subst, arith, Some, None, unsigned_abs, codes, All, div-one, ints, append-nil, append_assoc, length-append, All-head, All-tail, Attribute, Event, Nodes, nodes_events, local_nodes, with_attribute, Mark, Start, Char, Finish, spread, Ratio, IsSame, sum, negative, left_term, right_term, AreFourWithin, SumFits, whole-reduced, sum-none, none-sum, ratio, ratios, Frac, End, NegInf, At, Inf, same_fraction, IsDecimal, SaysEnd, count_once, count_fits, only_inf, only_neg_inf, Var, Row, Sense, Min, Max, AreEnds, Parts, Takes, AreTaken, Domain, Continuous, Integer, SemiContinuous, SemiInteger, Place, IsLess, IsSense, nought, senses, letters, letter_names, IsLetterOf, IsOfDomain, SaysVar, SaysRow, State, into, keeps_text, IsNear, osil, instance_of, HasDecimal, EndHasText, WriteVars, WriteRows, WriteCosts, CountsCosts, type_text, sense_text}
+use Rattle.osil_grammar.proofs.Words.{◌≡◌, ◌∙◌, ℕ, zero, suc, ◌+◌, ◌/◌, ◌<◌, ◌≤◌, inl, inr, true, false, ℤ, pos, ◌+ℤ◌, List, [], ◌∷◌, ◌++◌, map, length, get_or, set, refl, ap, sym, subst, arith, Some, None, unsigned_abs, codes, All, div-one, ints, append-nil, append_assoc, length-append, All-head, All-tail, Attribute, Event, Nodes, nodes_events, local_nodes, with_attribute, Mark, Start, Char, Finish, spread, Ratio, IsSame, sum, negative, left_term, right_term, AreFourWithin, SumFits, whole-reduced, sum-none, none-sum, ratio, ratios, Frac, End, NegInf, At, Inf, same_fraction, IsDecimal, SaysEnd, count_once, count_fits, only_inf, only_neg_inf, Var, Row, Sense, Min, Max, AreEnds, Parts, Takes, AreTaken, Place, IsLess, IsSense, nought, senses, SaysRow, State, into, keeps_text, IsNear, osil, instance_of, HasDecimal, EndHasText, WriteVars, WriteRows, WriteCosts, CountsCosts, var_attributes, sense_text}
 use Rattle.std.specs.Fmt.{decimal as digits}
 use Rattle.tree_grammar.specs.Tags.{IsAmong}
 use Rattle.rational.specs.Width.{most}
@@ -14,6 +14,7 @@ use Rattle.osil_grammar.proofs.EntrySums.{none_fits}
 use Rattle.osil_grammar.proofs.EndTagTests.{cost_added}
 use Rattle.osil_grammar.proofs.RoundTrips.{plain_decimal, end_bound, count_read}
 use Rattle.osil_grammar.proofs.StartTagTests.{no_great_end}
+use Rattle.osil_grammar.proofs.VarTags.{var_said, var_passes}
 use Rattle.osil_grammar.proofs.TagNumbers.{bound_read}
 use Rattle.osil_grammar.proofs.Zeros.{same_zero}
 
@@ -31,48 +32,15 @@ read_text place on s t before ms p (z, taken, is) =
     (z, taken_both osil (with before) (with (before ++ t)) z (map Char t) ms (chars_kept osil with (keeps_text place) (λ x c. (tt, refl)) before t (before ++ t) on refl) taken, is)
 
 -- VARIABLES
-abbrev domain_of : (whole semi : Bool) → Domain
-domain_of false false = Continuous
-domain_of true false = Integer
-domain_of false true = SemiContinuous
-domain_of true true = SemiInteger
-
-letter_of : (w z : Bool) → IsLetterOf letters (type_text w z) (domain_of w z)
-letter_of false false = inl (refl, refl)
-letter_of true false = inr (inr (inl (refl, refl)))
-letter_of false true = inr (inr (inr (inl (refl, refl))))
-letter_of true true = inr (inr (inr (inr (inl (refl, refl)))))
-
-domain_is : (v : Var) (w z : Bool) → v.whole ≡ w → v.zero ≡ z → IsOfDomain (domain_of w z) v.lb v.ub v
-domain_is v false false whole semi = (refl, refl, whole, semi)
-domain_is v true false whole semi = (refl, refl, whole, semi)
-domain_is v false true whole semi = (refl, refl, whole, semi)
-domain_is v true true whole semi = (refl, refl, whole, semi)
-
-type_known : (w z : Bool) → (IsAmong (type_text w z) letter_names → ⊥) → ⊥
-type_known false false out = out (inl refl)
-type_known true false out = out (inr (inr (inl refl)))
-type_known false true out = out (inr (inr (inr (inl refl))))
-type_known true true out = out (inr (inr (inr (inr (inl refl)))))
-
 abbrev pub in_vars : State → ℕ → List Var → State
 in_vars s n vs = record s { place = places.Part parts.Variables; count = n; vars = vs }
-
-abbrev var_attributes : Var → List ℕ → List ℕ → List Attribute
-var_attributes v lb ub = with_attribute (codes "type") (type_text v.whole v.zero) (with_attribute (codes "lb") lb (with_attribute (codes "ub") ub []))
 
 abbrev one_var : State → ℕ → List Var → Var → State
 one_var s n before v = record (into (in_vars s n before) places.Var) { vars = before ++ v ∷ [] }
 
 module _ (s : State) (n : ℕ) (before : List Var) (v : Var) (lb ub : List ℕ) (low : SaysEnd lb v.lb) (high : SaysEnd ub v.ub) (ends : AreEnds v.lb v.ub) (few : length before + 1 ≤ 1000) where
   var_taken : Takes osil (in_vars s n before) (Start (codes "var") (var_attributes v lb ub)) (one_var s n before v)
-  var_taken =
-      let l = bound_read lb v.lb low in
-      let h = bound_read ub v.ub high in
-      let says : SaysVar (var_attributes v lb ub) v = record { lb = v.lb; ub = v.ub; domain = domain_of v.whole v.zero; low = low; high = high; type = letter_of v.whole v.zero; is = domain_is v v.whole v.zero refl refl } in (
-        (λ b. b l.0, (λ b. b h.0, (λ b. b, (λ w. l.1 w, (λ w. h.1 w, (λ w. w, (λ o. type_known v.whole v.zero o, (λ i. ends.0 (only_inf lb v.lb low i), (λ i. ends.1 (only_neg_inf ub v.ub high i), (λ m. let one = m.1 in let many = m.2 in omega (arith, one, many, few), tt)))))))))),
-        (v, 1, says, refl, refl),
-      )
+  var_taken = (var_passes (in_vars s n before) v lb ub low high ends few, (v, 1, var_said v lb ub low high, refl, refl))
 
   pub read_var : (ms : List Mark) (p : Parts) → Reads (in_vars s (n + 1) (before ++ v ∷ [])) ms p → Reads (in_vars s n before) (Start (codes "var") (var_attributes v lb ub) ∷ Finish (codes "var") ∷ ms) p
   read_var ms p behind =

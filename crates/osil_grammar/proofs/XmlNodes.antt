@@ -1,8 +1,9 @@
 -- What is written of variables, rows, costs, indices and values: elements in a row, whose text is XML, and none in another.
-use Rattle.osil_grammar.proofs.Words.{ℕ, suc, ◌+◌, ◌^◌, ◌<◌, ◌≤◌, Bool, true, false, List, [], ◌∷◌, refl, sym, subst, arith, inl, inr, codes, decimal, All, All-head, All-tail, IsXmlText, Attribute, Nodes, none, element, chars, nodes_depth, NodesWritable, local_nodes, Frac, Entry, Var, Row, with_attribute, WriteVars, WriteRows, WriteCosts, WriteValues, counts_nodes, type_text}
+use Rattle.osil_grammar.proofs.Words.{ℕ, suc, ◌+◌, ◌^◌, ◌<◌, ◌≤◌, List, [], ◌∷◌, refl, sym, subst, arith, inl, inr, codes, decimal, All, All-head, All-tail, IsXmlText, Attribute, Nodes, none, element, chars, nodes_depth, NodesWritable, local_nodes, Frac, Entry, Var, Row, with_attribute, WriteVars, WriteRows, WriteCosts, WriteValues, counts_nodes, var_attributes}
 use Rattle.document_tags.proofs.XmlNodes.{IsTag, tag_by}
-use Rattle.document_tags.proofs.PrintableTexts.{printable_text, fixed_text, number_text}
+use Rattle.document_tags.proofs.PrintableTexts.{printable_text, number_text}
 use Rattle.osil_grammar.proofs.PrintableTexts.{IsShown, count_shown, plain_shown, end_shown}
+use Rattle.osil_grammar.proofs.VarTags.{var_tag}
 
 -- nodes of XML, of which at most so many stand in one another
 pub record AreLow (n : ℕ) (nodes : Nodes) : Type 0 where
@@ -26,12 +27,6 @@ still_low m n nodes less are = record { writable = are.writable; low = let k = a
 pub shown_text : (text : List ℕ) → IsShown text → IsXmlText text
 shown_text text shown = printable_text text shown.printable
 
-type_xml : (whole semi : Bool) → IsXmlText (type_text whole semi)
-type_xml true true = fixed_text (codes "J") refl
-type_xml true false = fixed_text (codes "I") refl
-type_xml false true = fixed_text (codes "D") refl
-type_xml false false = fixed_text (codes "C") refl
-
 abbrev ends : (lb ub : List ℕ) → List Attribute
 ends lb ub = with_attribute (codes "lb") lb (with_attribute (codes "ub") ub [])
 
@@ -42,8 +37,7 @@ vars_flat (v ∷ vs) nodes is =
     let ub = is.1 in
     let low = end_shown v.lb lb is.3 in
     let high = end_shown v.ub ub is.4 in
-    let tag : IsTag (codes "var") (with_attribute (codes "type") (type_text v.whole v.zero) (ends lb ub)) = tag_by (codes "var") (with_attribute (codes "type") (type_text v.whole v.zero) (ends lb ub)) refl (type_xml v.whole v.zero, (shown_text lb low, (shown_text ub high, tt))) in
-    subst (AreLow 1) (sym is.6) (element_low 0 (codes "var") (with_attribute (codes "type") (type_text v.whole v.zero) (ends lb ub)) none is.2 tag (none_low 0) (vars_flat vs is.2 is.5))
+    subst (AreLow 1) (sym is.6) (element_low 0 (codes "var") (var_attributes v lb ub) none is.2 (var_tag v lb ub (shown_text lb low) (shown_text ub high)) (none_low 0) (vars_flat vs is.2 is.5))
 
 pub rows_flat : (rs : List Row) (nodes : Nodes) → WriteRows rs nodes → AreLow 1 nodes
 rows_flat [] nodes is = subst (AreLow 1) (sym is) (none_low 1)

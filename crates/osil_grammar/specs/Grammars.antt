@@ -1,5 +1,5 @@
 -- The grammars of the numbers of OSiL documents (XML Schema part 2).
-use Rattle.std.specs.Prelude.{◌≡◌, ℕ, pos, ◌<◌, Option, None, MatchOption, IsSomeAnd, IfSome, IsSome, Result, MatchResult, List}
+use Rattle.std.specs.Prelude.{◌≡◌, ℕ, pos, ◌<◌, Option, None, MatchOption, IsSomeAnd, IfSome, IsSome, Result, MatchResult, List, codes}
 use Rattle.std.proofs.Common.{lit<, lit≤}
 use Rattle.std.proofs.Math.Nat.{one-dvd}
 use Rattle.std.proofs.lemmas.Nat.Gcd.{dvd_refl}
@@ -49,6 +49,16 @@ pub record Field : Type 0 where
 
 abbrev pub field : List ℕ → Grammar → Field
 field name grammar = record { name = name; grammar = grammar }
+
+-- those that several elements have
+abbrev pub lb : Field
+lb = field (codes "lb") bound
+
+abbrev pub ub : Field
+ub = field (codes "ub") bound
+
+abbrev pub mult : Field
+mult = field (codes "mult") times
 
 -- the attribute is there, and so
 abbrev pub HasSuch : List Attribute → List ℕ → (List ℕ → Type 0) → Type 0

@@ -27,7 +27,8 @@ use Rattle.osil_grammar.specs.Runs.{whole_run, ratio_run, AreSame}
 use Rattle.osil_grammar.specs.Matrix.{stored}
 use Rattle.osil_grammar.specs.Meaning.{AreEntriesOf}
 use Rattle.osil_grammar.specs.Grammars.{SaysCount, nought}
-use Rattle.osil_grammar.specs.Saying.{SaysTimes, SaysConstant, SaysStep, SaysWholeStep, SaysVar, SaysRow, SaysSense, SaysIndex}
+use Rattle.osil_grammar.specs.Saying.{SaysTimes, SaysConstant, SaysStep, SaysWholeStep, SaysRow, SaysSense, SaysIndex}
+use Rattle.osil_grammar.specs.VarTags.{SaysVar}
 use Rattle.osil_grammar.specs.Standing.{State}
 use Rattle.osil_grammar.specs.Table.{Kind, begins, text, ends, attributes, mark_name, part_row, list_row, count_name, around}
 use Rattle.osil_grammar.specs.Failing.{lists_so_far}

@@ -12,6 +12,7 @@ pub mod Grammars
 pub mod Standing
 pub mod Table
 pub mod Saying
+pub mod VarTags
 pub mod Failing
 pub mod Leaving
 pub mod Marked

@@ -74,16 +74,6 @@ SaysHigh as' x = Says as' (codes "ub") (λ (y : End). y ≡ Inf) SaysEnd x
 abbrev pub SaysRowLow : List Attribute → End → Type 0
 SaysRowLow as' x = Says as' (codes "lb") (λ (y : End). y ≡ NegInf) SaysEnd x
 
--- the variable of a `var`
-pub record SaysVar (as' : List Attribute) (v : Var) : Type 0 where
-  pub lb : End
-  pub ub : End
-  pub domain : Domain
-  pub low : SaysLow as' lb
-  pub high : SaysHigh as' ub
-  pub type : SaysDomain as' domain
-  pub is : IsOfDomain domain lb ub v
-
 -- the row of a `con`: the constant is taken off both ends
 pub record SaysRow (as' : List Attribute) (r : Row) : Type 0 where
   pub lb : End

@@ -16,7 +16,9 @@ use Rattle.osil_grammar.specs.declared.elements.Led.{Led}
 use Rattle.osil_grammar.specs.declared.elements.Led.TheVariants.{To, OtherRoot, InFurther, Beyond}
 use Rattle.osil_grammar.specs.Refusals as refusals
 use Rattle.osil_grammar.specs.Refusals.{Refusal}
-use Rattle.osil_grammar.specs.Grammars.{Grammar, count, times, whole, decimal, bound, Field, field}
+use Rattle.osil_grammar.specs.Grammars.{Grammar, count, whole, decimal, Field, field}
+pub use Rattle.osil_grammar.specs.Grammars.{lb, ub, mult}
+use Rattle.osil_grammar.specs.VarTags.{var_fields}
 use Rattle.osil_grammar.specs.Standing.{State}
 
 -- WHAT MAY STAND IN WHAT: the child elements that are read
@@ -101,19 +103,10 @@ abbrev pub list_grammar : Listing → Grammar
 list_grammar Values = decimal
 list_grammar l = whole
 
-abbrev pub lb : Field
-lb = field (codes "lb") bound
-
-abbrev pub ub : Field
-ub = field (codes "ub") bound
-
-abbrev pub mult : Field
-mult = field (codes "mult") times
-
 -- THE ATTRIBUTES THAT ARE NUMBERS
 abbrev pub fields : Place → List Field
 fields (places.Part part) = field (count_name part) count ∷ []
-fields Var = lb ∷ ub ∷ mult ∷ []
+fields Var = var_fields
 fields Obj = field (codes "constant") decimal ∷ field (codes "numberOfObjCoef") count ∷ mult ∷ []
 fields Coef = field (codes "idx") count ∷ []
 fields Con = lb ∷ ub ∷ field (codes "constant") decimal ∷ mult ∷ []

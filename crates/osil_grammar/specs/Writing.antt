@@ -1,5 +1,5 @@
 -- The text that an instance is written as: an OSiL document with all its defaults said, rows stored one after another, and no runs.
-use Rattle.std.specs.Prelude.{◌≡◌, ◌⊎◌, ℕ, zero, suc, ◌+◌, ◌<◌, pos, Bool, true, false, cond, nat_lt, List, [], ◌∷◌, map, length, codes}
+use Rattle.std.specs.Prelude.{◌≡◌, ◌⊎◌, ℕ, zero, suc, ◌+◌, ◌<◌, pos, cond, nat_lt, List, [], ◌∷◌, map, length, codes}
 use Rattle.std.specs.List.{All}
 use Rattle.std.specs.Fmt.{decimal}
 use Rattle.tree_grammar.specs.Elements.{Attribute, Nodes, none, element, chars, Element}
@@ -19,6 +19,7 @@ use Rattle.instance.specs.declared.parts.Goal.{Goal}
 use Rattle.instance.specs.declared.parts.Sense.{Sense}
 use Rattle.instance.specs.declared.parts.Sense.TheVariants.{Min, Max}
 use Rattle.instance.specs.Parts.{Parts}
+use Rattle.osil_grammar.specs.VarTags.{var_attributes}
 
 -- some decimal has the value
 abbrev pub HasDecimal : Frac → Type 0
@@ -39,18 +40,11 @@ EndHasText Inf = Unit {0}
 abbrev pub holding : (name : List ℕ) → List Attribute → (text : List ℕ) → Nodes → Nodes
 holding name attributes text more = element name attributes (chars text none) more
 
--- the type of a variable that is whole or not, and may be 0 besides or not
-abbrev pub type_text : (whole semi : Bool) → List ℕ
-type_text false false = codes "C"
-type_text true false = codes "I"
-type_text false true = codes "D"
-type_text true true = codes "J"
-
 -- the nodes that these variables are written as
 abbrev pub WriteVars : List Var → Nodes → Type 0
 WriteVars [] nodes = nodes ≡ none
 WriteVars (v ∷ vs) nodes = (lb : List ℕ) × (ub : List ℕ) × (more : Nodes) × IsEndText v.lb lb × IsEndText v.ub ub × WriteVars vs more
-    × (nodes ≡ element (codes "var") (with_attribute (codes "type") (type_text v.whole v.zero) (with_attribute (codes "lb") lb (with_attribute (codes "ub") ub []))) none more)
+    × (nodes ≡ element (codes "var") (var_attributes v lb ub) none more)
 
 -- the same of rows
 abbrev pub WriteRows : List Row → Nodes → Type 0

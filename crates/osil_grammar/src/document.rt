@@ -10,7 +10,8 @@ ghost use Rattle.decimal_text.specs.Plain.{PlainText};
 ghost use Rattle.instance.specs.Parts.{IsAscending};
 ghost use Rattle.element_tree.specs.Building.{said};
 ghost use Rattle.document_tags.specs.Writing.{counted_element, with_attribute};
-ghost use Rattle.osil_grammar.specs.Writing.{HasDecimal, EndHasText, IsEndText, WriteVars, WriteRows, WriteCosts, CountsCosts, WriteGoals, GoalHasDecimals, WriteValues, WriteLists, WritesInstance, HasDecimals, IsWrittenText, counts_nodes, entries_below, row_starts, sense_text, type_text};
+ghost use Rattle.osil_grammar.specs.Writing.{HasDecimal, EndHasText, IsEndText, WriteVars, WriteRows, WriteCosts, CountsCosts, WriteGoals, GoalHasDecimals, WriteValues, WriteLists, WritesInstance, HasDecimals, IsWrittenText, counts_nodes, entries_below, row_starts, sense_text};
+ghost use Rattle.osil_grammar.specs.VarTags.{type_text};
 ghost use Rattle.document_tags.specs.Telling.{Told, ToldAttributes, opening};
 ghost use Rattle.osil_grammar.specs.Telling.{HasNone, WritesNodes, EndsHaveTexts, EndAttributes, EncodeFails};
 

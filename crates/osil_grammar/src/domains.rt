@@ -4,10 +4,8 @@ ghost use Rattle.std.specs.Prelude.{◌≡◌};
 ghost use Rattle.osil_grammar.specs.Meaning as meaning;
 ghost use Rattle.osil_grammar.specs.Meaning.{IsEndAt};
 ghost use Rattle.osil_grammar.specs.Grammars.{nought};
-ghost use Rattle.osil_grammar.specs.Saying.{IsOfDomain};
 
 use fraction::{End, Frac};
-use instance::Var;
 use std::cmp::Ordering;
 
 /// 0, which a number is that isn't said.
@@ -28,7 +26,7 @@ pub(crate) enum Domain {
 }
 
 /// The greater of a lower end and 0.
-fn raised(lb: End) -> End
+pub(crate) fn raised(lb: End) -> End
     ensures { IsEndAt result (meaning.raised lb) }
 {
     let End::At(x) = lb else {
@@ -42,7 +40,7 @@ fn raised(lb: End) -> End
 }
 
 /// The lesser of an upper end and 1.
-fn lowered(ub: End) -> End
+pub(crate) fn lowered(ub: End) -> End
     ensures { IsEndAt result (meaning.lowered ub) }
 {
     let End::At(x) = ub else {
@@ -52,43 +50,5 @@ fn lowered(ub: End) -> End
         End::At(Frac::ONE)
     } else {
         ub
-    }
-}
-
-/// The variable of this type between these ends.
-pub(crate) fn variable(domain: Domain, lb: End, ub: End) -> Var
-    ensures { IsOfDomain domain lb ub result }
-{
-    match domain {
-        Domain::Continuous => Var {
-            lb,
-            ub,
-            whole: false,
-            zero: false,
-        },
-        Domain::Integer => Var {
-            lb,
-            ub,
-            whole: true,
-            zero: false,
-        },
-        Domain::Binary => Var {
-            lb: raised(lb),
-            ub: lowered(ub),
-            whole: true,
-            zero: false,
-        },
-        Domain::SemiContinuous => Var {
-            lb,
-            ub,
-            whole: false,
-            zero: true,
-        },
-        Domain::SemiInteger => Var {
-            lb,
-            ub,
-            whole: true,
-            zero: true,
-        },
     }
 }

@@ -9,7 +9,8 @@ ghost use Rattle.instance.specs.Parts.{AreEnds};
 ghost use Rattle.osil_grammar.specs.Meaning.{IsLess};
 ghost use Rattle.osil_grammar.specs.Grammars as grammars;
 ghost use Rattle.osil_grammar.specs.Grammars.{field, IsBad, IsTooGreat, HasSuch, SaysCount};
-ghost use Rattle.osil_grammar.specs.Saying.{SaysTimes, SaysConstant, SaysStep, SaysWholeStep, SaysLow, SaysRowLow, SaysHigh, SaysDomain, SaysVar, SaysRow, SaysSense, SaysIndex, letter_names};
+ghost use Rattle.osil_grammar.specs.Saying.{SaysTimes, SaysConstant, SaysStep, SaysWholeStep, SaysLow, SaysRowLow, SaysHigh, IsOfDomain, SaysDomain, SaysRow, SaysSense, SaysIndex, letter_names};
+ghost use Rattle.osil_grammar.specs.VarTags.{SaysVar};
 ghost use Rattle.osil_grammar.specs.Table as table;
 ghost use Rattle.osil_grammar.specs.declared.elements.Led.TheVariants as led;
 ghost use Rattle.osil_grammar.specs.declared.elements.Place.TheVariants as places;
@@ -19,7 +20,7 @@ ghost use Rattle.osil_grammar.specs.Failing as failing;
 ghost use Rattle.osil_grammar.specs.Reading.{told_refusal};
 ghost use Rattle.osil_grammar.specs.Refusals as refusals;
 
-use crate::domains::{Domain, variable, zero};
+use crate::domains::{Domain, lowered, raised, zero};
 use crate::elements::Listing;
 use crate::fault::Refusal;
 use crate::tag_numbers::{bound, count, decimal, refusal, times, whole};
@@ -47,6 +48,31 @@ fn type_of(attributes: &Attributes<'_>) -> Option<Domain>
         Some(b"D") => Some(Domain::SemiContinuous),
         Some(b"J") => Some(Domain::SemiInteger),
         Some(_) => None,
+    }
+}
+
+/// A variable between these ends.
+fn between(lb: End, ub: End, whole: bool, zero: bool) -> Var
+    ensures { result ≡ record { lb = lb; ub = ub; whole = whole; zero = zero } }
+{
+    Var {
+        lb,
+        ub,
+        whole,
+        zero,
+    }
+}
+
+/// The variable of this type between these ends.
+fn variable(domain: Domain, lb: End, ub: End) -> Var
+    ensures { IsOfDomain domain lb ub result }
+{
+    match domain {
+        Domain::Continuous => between(lb, ub, false, false),
+        Domain::Integer => between(lb, ub, true, false),
+        Domain::Binary => between(raised(lb), lowered(ub), true, false),
+        Domain::SemiContinuous => between(lb, ub, false, true),
+        Domain::SemiInteger => between(lb, ub, true, true),
     }
 }
 
@@ -89,7 +115,10 @@ pub(crate) fn read_var(attributes: &Attributes<'_>, before: u64) -> Result<(Var,
     ensures { AnswersTag (λ s. length s.vars ≡ before) attributes.now (led.To places.Var) result (λ x. SaysVar attributes.now x.0 × SaysTimes attributes.now x.1) }
 {
     match var_numbers(attributes) {
-        Ok(((lb, ub), times)) => var_of(attributes, lb, ub, times, before),
+        Ok(numbers) => {
+            let ((lb, ub), times) = numbers;
+            var_of(attributes, lb, ub, times, before)
+        }
         Err(unread) => Err(refusal(unread)),
     }
 }

@@ -1,4 +1,4 @@
-use Rattle.osil_grammar.proofs.Parts.{var_told}
+use Rattle.osil_grammar.proofs.VarTags.{var_told}
 use Rattle.osil_grammar.proofs.document.tell_var.Goals as goal
 
 pub returns : goal.returns

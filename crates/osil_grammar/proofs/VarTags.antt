@@ -1,0 +1,126 @@
+-- A `var`: what it says is one variable; a variable is told with its attributes, which are XML and are read back.
+use Rattle.osil_grammar.proofs.Words.{◌≡◌, ◌∙◌, ◌+◌, ◌≤◌, ℕ, inl, inr, Bool, cond, true, false, List, [], ◌∷◌, ◌++◌, length, refl, ap, sym, subst, arith, lit<, Option, Some, bytes_eq, codes, IsXmlText, Attribute, none, element, nodes_events, Building, said, Start, IsNumber, AllPass, ratio, End, At, Inf, SaysEnd, only_inf, only_neg_inf, Var, AreEnds, Domain, Continuous, Integer, Binary, SemiContinuous, SemiInteger, raised, lowered, IsBinary, nought, letters, letter_names, IsLetterOf, IsOfDomain, SaysTimes, SaysLow, SaysHigh, SaysVar, type_text, var_attributes, State, begins, tests, Fails, WriteVars, ToldAttributes, EndAttributes, content_told, with_attribute}
+use Rattle.tree_grammar.specs.Tags.{IsAmong}
+use Rattle.evidence.specs.Sums as evidence
+use Rattle.document_tags.specs.Telling.{Told}
+use Rattle.document_tags.proofs.XmlNodes.{IsTag, tag_by}
+use Rattle.document_tags.proofs.PrintableTexts.{fixed_text}
+use Rattle.osil_grammar.specs.declared.elements.Place.TheVariants as places
+use Rattle.osil_grammar.specs.declared.elements.Led.TheVariants as led
+use Rattle.osil_grammar.proofs.Places.{number_either}
+use Rattle.osil_grammar.proofs.Parts.{told_attribute, ToldSome}
+use Rattle.osil_grammar.proofs.TagNumbers.{bound_read, bound_once, end_at_once}
+use Rattle.osil_grammar.proofs.StartTagTests.{said_once}
+
+-- the numbers of a start tag: its ends, and for how many it stands
+abbrev pub VarNumbers : Type 0
+VarNumbers = (End × End) × ℕ
+
+abbrev pub AreVarNumbers : List Attribute → VarNumbers → Type 0
+AreVarNumbers as' x = (SaysLow as' x.0.0 × SaysHigh as' x.0.1) × SaysTimes as' x.1
+
+-- WHAT IT SAYS IS ONE VARIABLE
+raised_number : (x : End) → IsNumber (raised x)
+raised_number (At f) = number_either (evidence.is_below (ratio f) evidence.none) evidence.none (ratio f) (lit< tt) f.above
+raised_number x = lit< tt
+
+lowered_number : (x : End) → IsNumber (lowered x)
+lowered_number (At f) = number_either (evidence.is_below (lowered Inf) (ratio f)) (lowered Inf) (ratio f) (lit< tt) f.above
+lowered_number x = lit< tt
+
+same_var : (v w : Var) → v.lb ≡ w.lb → v.ub ≡ w.ub → v.whole ≡ w.whole → v.zero ≡ w.zero → v ≡ w
+same_var v w a b c d =
+    let low : v ≡ record { lb = w.lb; ub = v.ub; whole = v.whole; zero = v.zero } = ap (λ (x : End). record { lb = x; ub = v.ub; whole = v.whole; zero = v.zero }) a in
+    let high : v ≡ record { lb = w.lb; ub = w.ub; whole = v.whole; zero = v.zero } = low ∙ ap (λ (x : End). record { lb = w.lb; ub = x; whole = v.whole; zero = v.zero }) b in
+    let same : v ≡ record { lb = w.lb; ub = w.ub; whole = w.whole; zero = v.zero } = high ∙ ap (λ (x : Bool). record { lb = w.lb; ub = w.ub; whole = x; zero = v.zero }) c in
+    same ∙ ap (λ (x : Bool). record { lb = w.lb; ub = w.ub; whole = w.whole; zero = x }) d
+
+as_said : (lb ub : End) (whole semi : Bool) (v w : Var) → (v.lb ≡ lb) × (v.ub ≡ ub) × (v.whole ≡ whole) × (v.zero ≡ semi) → (w.lb ≡ lb) × (w.ub ≡ ub) × (w.whole ≡ whole) × (w.zero ≡ semi) → v ≡ w
+as_said lb ub whole semi v w a b = same_var v w (a.0 ∙ sym b.0) (a.1 ∙ sym b.1) (a.2 ∙ sym b.2) (a.3 ∙ sym b.3)
+
+as_binary : (lb ub : End) (v w : Var) → IsBinary lb ub v → IsBinary lb ub w → v ≡ w
+as_binary lb ub v w a b = same_var v w (end_at_once (raised lb) (raised_number lb) v.lb w.lb a.0 b.0) (end_at_once (lowered ub) (lowered_number ub) v.ub w.ub a.1 b.1) (a.2 ∙ sym b.2) (a.3 ∙ sym b.3)
+
+of_domain_once : (d : Domain) (lb ub : End) (v w : Var) → IsOfDomain d lb ub v → IsOfDomain d lb ub w → v ≡ w
+of_domain_once Continuous lb ub v w a b = as_said lb ub false false v w a b
+of_domain_once Integer lb ub v w a b = as_said lb ub true false v w a b
+of_domain_once Binary lb ub v w a b = as_binary lb ub v w a b
+of_domain_once SemiContinuous lb ub v w a b = as_said lb ub false true v w a b
+of_domain_once SemiInteger lb ub v w a b = as_said lb ub true true v w a b
+
+abbrev letter_read : List ℕ → Option Domain
+letter_read t = cond (bytes_eq t (codes "C")) (Some Continuous) (cond (bytes_eq t (codes "B")) (Some Binary) (cond (bytes_eq t (codes "I")) (Some Integer) (cond (bytes_eq t (codes "D")) (Some SemiContinuous) (Some SemiInteger))))
+
+letter_is : (t : List ℕ) (d : Domain) → IsLetterOf letters t d → letter_read t ≡ Some d
+letter_is t d (inl a) = ap letter_read a.0 ∙ ap (λ (x : Domain). Some x) (sym a.1)
+letter_is t d (inr (inl a)) = ap letter_read a.0 ∙ ap (λ (x : Domain). Some x) (sym a.1)
+letter_is t d (inr (inr (inl a))) = ap letter_read a.0 ∙ ap (λ (x : Domain). Some x) (sym a.1)
+letter_is t d (inr (inr (inr (inl a)))) = ap letter_read a.0 ∙ ap (λ (x : Domain). Some x) (sym a.1)
+letter_is t d (inr (inr (inr (inr (inl a))))) = ap letter_read a.0 ∙ ap (λ (x : Domain). Some x) (sym a.1)
+letter_is t d (inr (inr (inr (inr (inr a))))) = absurd a
+
+letter_once : (t : List ℕ) (d e : Domain) → IsLetterOf letters t d → IsLetterOf letters t e → d ≡ e
+letter_once t d e a b = let same = sym (letter_is t d a) ∙ letter_is t e b in cc
+
+pub var_once : (as' : List Attribute) (v w : Var) → SaysVar as' v → SaysVar as' w → v ≡ w
+var_once as' v w a b =
+    let low = said_once as' (codes "lb") (At nought) SaysEnd bound_once a.lb b.lb a.low b.low in
+    let high = said_once as' (codes "ub") Inf SaysEnd bound_once a.ub b.ub a.high b.high in
+    let type = said_once as' (codes "type") Continuous (λ t d. IsLetterOf letters t d) letter_once a.domain b.domain a.type b.type in
+    let first : IsOfDomain b.domain a.lb a.ub v = subst (λ (d : Domain). IsOfDomain d a.lb a.ub v) type a.is in
+    let second : IsOfDomain b.domain b.lb a.ub v = subst (λ (x : End). IsOfDomain b.domain x a.ub v) low first in
+    of_domain_once b.domain b.lb b.ub v w (subst (λ (x : End). IsOfDomain b.domain b.lb x v) high second) b.is
+
+-- TOLD by its type and its ends
+pub var_told : (v : Var) (a b c d : Building) (kind : List ℕ) (more : List Attribute) → a.attributes ≡ [] → kind ≡ type_text v.whole v.zero → b ≡ told_attribute a (codes "type") kind → EndAttributes v.lb v.ub more → ToldAttributes b c more → Told c d (nodes_events (element (codes "var") c.attributes none none)) → ToldSome (WriteVars (v ∷ [])) a d
+var_told v a b c d kind more waits is typed ends attributes tells =
+    let all : List Attribute = var_attributes v ends.0 ends.1 in
+    let same : said c ≡ said a = attributes.told ∙ ap said typed in
+    let held : c.attributes ≡ all =
+    attributes.waiting ∙ ap (λ (x : Building). x.attributes ++ more) typed ∙ ap (λ (l : List Attribute). (l ++ record { name = codes "type"; value = kind } ∷ []) ++ more) waits
+    ∙ ap (λ (k : List ℕ). with_attribute (codes "type") k more) is ∙ ap (λ (l : List Attribute). with_attribute (codes "type") (type_text v.whole v.zero) l) ends.4 in
+    (element (codes "var") all none none, (ends.0, ends.1, none, ends.2, ends.3, refl, refl), content_told a c d (codes "var") c.attributes all none same held tells)
+
+-- ITS ATTRIBUTES ARE XML
+type_xml : (whole semi : Bool) → IsXmlText (type_text whole semi)
+type_xml true true = fixed_text (codes "J") refl
+type_xml true false = fixed_text (codes "I") refl
+type_xml false true = fixed_text (codes "D") refl
+type_xml false false = fixed_text (codes "C") refl
+
+pub var_tag : (v : Var) (lb ub : List ℕ) → IsXmlText lb → IsXmlText ub → IsTag (codes "var") (var_attributes v lb ub)
+var_tag v lb ub low high = tag_by (codes "var") (var_attributes v lb ub) refl (type_xml v.whole v.zero, (low, (high, tt)))
+
+-- AND ARE READ BACK
+abbrev domain_of : (whole semi : Bool) → Domain
+domain_of false false = Continuous
+domain_of true false = Integer
+domain_of false true = SemiContinuous
+domain_of true true = SemiInteger
+
+letter_of : (w z : Bool) → IsLetterOf letters (type_text w z) (domain_of w z)
+letter_of false false = inl (refl, refl)
+letter_of true false = inr (inr (inl (refl, refl)))
+letter_of false true = inr (inr (inr (inl (refl, refl))))
+letter_of true true = inr (inr (inr (inr (inl (refl, refl)))))
+
+domain_is : (v : Var) (w z : Bool) → v.whole ≡ w → v.zero ≡ z → IsOfDomain (domain_of w z) v.lb v.ub v
+domain_is v false false whole semi = (refl, refl, whole, semi)
+domain_is v true false whole semi = (refl, refl, whole, semi)
+domain_is v false true whole semi = (refl, refl, whole, semi)
+domain_is v true true whole semi = (refl, refl, whole, semi)
+
+type_known : (w z : Bool) → (IsAmong (type_text w z) letter_names → ⊥) → ⊥
+type_known false false out = out (inl refl)
+type_known true false out = out (inr (inr (inl refl)))
+type_known false true out = out (inr (inr (inr (inl refl))))
+type_known true true out = out (inr (inr (inr (inr (inl refl)))))
+
+pub var_said : (v : Var) (lb ub : List ℕ) → SaysEnd lb v.lb → SaysEnd ub v.ub → SaysVar (var_attributes v lb ub) v
+var_said v lb ub low high = record { lb = v.lb; ub = v.ub; domain = domain_of v.whole v.zero; low = low; high = high; type = letter_of v.whole v.zero; is = domain_is v v.whole v.zero refl refl }
+
+pub var_passes : (s : State) (v : Var) (lb ub : List ℕ) → SaysEnd lb v.lb → SaysEnd ub v.ub → AreEnds v.lb v.ub → length s.vars + 1 ≤ 1000 → AllPass (Fails s (Start (codes "var") (var_attributes v lb ub))) (tests (begins (led.To places.Var)))
+var_passes s v lb ub low high ends few =
+    let l = bound_read lb v.lb low in
+    let h = bound_read ub v.ub high in
+    (λ b. b l.0, (λ b. b h.0, (λ b. b, (λ w. l.1 w, (λ w. h.1 w, (λ w. w, (λ o. type_known v.whole v.zero o, (λ i. ends.0 (only_inf lb v.lb low i), (λ i. ends.1 (only_neg_inf ub v.ub high i), (λ m. let one = m.1 in let many = m.2 in omega (arith, one, many, few), tt))))))))))
