@@ -15,7 +15,8 @@ use Rattle.instance.specs.declared.parts.Goal.{Goal}
 use Rattle.instance.specs.declared.parts.Sense.{Sense}
 use Rattle.instance.specs.declared.parts.Sense.TheVariants.{Min, Max}
 use Rattle.instance.specs.Parts.{Parts}
-use Rattle.osil_grammar.specs.Writing.{IsEndText, sense_text, WriteVars, WriteRows, WriteCosts, CountsCosts, WritesGoal, WriteGoals, WriteValues, WriteLists, IsWrittenText, counts_nodes, entries_below, row_starts}
+use Rattle.osil_grammar.specs.Saying.{IsEndText}
+use Rattle.osil_grammar.specs.Writing.{sense_text, WriteVars, WriteRows, WriteCosts, CountsCosts, WritesGoal, WriteGoals, WriteValues, WriteLists, IsWrittenText, counts_nodes, entries_below, row_starts}
 use Rattle.osil_grammar.specs.VarTags.{type_text}
 use Rattle.generator.proofs.Digits.{IsShort, count_short}
 use Rattle.osil_grammar.proofs.Documents.{one_below}
@@ -49,10 +50,10 @@ RowIsShort r = IsShortEnd r.lb × IsShortEnd r.ub
 
 vars_size : (vs : List Var) (nodes : Nodes) → All VarIsShort vs → WriteVars vs nodes → nodes_size nodes ≤ 85 * length vs
 vars_size [] nodes short is = omega (arith, ap nodes_size is)
-vars_size (v ∷ vs) nodes short is =
+vars_size (v ∷ vs) nodes short (more, others, is) =
     let here = All-head VarIsShort v vs short in
-    let rest = vars_size vs is.2 (All-tail VarIsShort v vs short) is.5 in
-    omega (arith, ap nodes_size is.6, rest, end_size v.lb is.0 here.0 is.3, end_size v.ub is.1 here.1 is.4, type_size v.whole v.zero)
+    let rest = vars_size vs more (All-tail VarIsShort v vs short) others in
+    omega (arith, ap nodes_size is.says, rest, end_size v.lb is.lb here.0 is.is_lb, end_size v.ub is.ub here.1 is.is_ub, type_size v.whole v.zero)
 
 rows_size : (rs : List Row) (nodes : Nodes) → All RowIsShort rs → WriteRows rs nodes → nodes_size nodes ≤ 71 * length rs
 rows_size [] nodes short is = omega (arith, ap nodes_size is)

@@ -1,17 +1,20 @@
 -- The nodes of one variable, row, cost, index or value may stand before those of the rest.
 use Rattle.osil_grammar.proofs.Words.{◌≡◌, ◌∙◌, ℕ, List, [], map, ap, sym, refl, inl, inr, codes, decimal, Attribute, Nodes, none, element, chars, Event, nodes_events, Entry, with_attribute, WriteVars, WriteRows, WriteCosts, WriteGoals, WriteValues, counts_nodes, sense_text, var_attributes}
 use Rattle.osil_grammar.proofs.Tellings.{CanJoin}
+use Rattle.osil_grammar.proofs.VarTags.{var_before}
 
 -- a single element, and then the rest
 single_before : (name : List ℕ) (attributes : List Attribute) (children rest first end : Nodes) → end ≡ none → first ≡ element name attributes children end → (k : List Event) → nodes_events (element name attributes children rest) k ≡ nodes_events first (nodes_events rest k)
 single_before name attributes children rest first end last is k = ap (λ (n : Nodes). nodes_events n (nodes_events rest k)) (sym (is ∙ ap (λ (n : Nodes). element name attributes children n) last))
 
 pub vars_join : CanJoin (λ i. WriteVars)
-vars_join i v vs first rest one more = record {
-  nodes = element (codes "var") (var_attributes v one.0 one.1) none rest;
-  writes = (one.0, one.1, rest, one.3, one.4, more, refl);
-  same = single_before (codes "var") (var_attributes v one.0 one.1) none rest first one.2 one.5 one.6;
-}
+vars_join i v vs first rest one more =
+    let is = one.2 in
+    record {
+      nodes = element (codes "var") (var_attributes v is.lb is.ub) none rest;
+      writes = (rest, more, var_before v one.0 first rest is);
+      same = single_before (codes "var") (var_attributes v is.lb is.ub) none rest first one.0 one.1 is.says;
+    }
 
 pub rows_join : CanJoin (λ i. WriteRows)
 rows_join i r rs first rest one more = record {

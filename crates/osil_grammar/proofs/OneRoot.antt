@@ -9,11 +9,13 @@ end_once end s t p q = p ∙ sym q
 vars_once : (vs : List Var) (a b : Nodes) → WriteVars vs a → WriteVars vs b → a ≡ b
 vars_once [] a b p q = p ∙ sym q
 vars_once (v ∷ vs) a b p q =
-    let low = end_once v.lb p.0 q.0 p.3 q.3 in
-    let high = end_once v.ub p.1 q.1 p.4 q.4 in
-    let rest = vars_once vs p.2 q.2 p.5 q.5 in
-    let first = p.6 in
-    let second = q.6 in
+    let x = p.2 in
+    let y = q.2 in
+    let low = end_once v.lb x.lb y.lb x.is_lb y.is_lb in
+    let high = end_once v.ub x.ub y.ub x.is_ub y.is_ub in
+    let rest = vars_once vs p.0 q.0 p.1 q.1 in
+    let first = x.says in
+    let second = y.says in
     cc
 
 rows_once : (rs : List Row) (a b : Nodes) → WriteRows rs a → WriteRows rs b → a ≡ b

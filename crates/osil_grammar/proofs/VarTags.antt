@@ -1,16 +1,18 @@
 -- A `var`: what it says is one variable; a variable is told with its attributes, which are XML and are read back.
-use Rattle.osil_grammar.proofs.Words.{◌≡◌, ◌∙◌, ◌+◌, ◌≤◌, ℕ, inl, inr, Bool, cond, true, false, List, [], ◌∷◌, ◌++◌, length, refl, ap, sym, subst, arith, lit<, Option, Some, bytes_eq, codes, IsXmlText, Attribute, none, element, nodes_events, Building, said, Start, IsNumber, AllPass, ratio, End, At, Inf, SaysEnd, only_inf, only_neg_inf, Var, AreEnds, Domain, Continuous, Integer, Binary, SemiContinuous, SemiInteger, raised, lowered, IsBinary, nought, letters, letter_names, IsLetterOf, IsOfDomain, SaysTimes, SaysLow, SaysHigh, SaysVar, type_text, var_attributes, State, begins, tests, Fails, WriteVars, ToldAttributes, EndAttributes, content_told, with_attribute}
+use Rattle.osil_grammar.proofs.Words.{◌≡◌, ◌∙◌, ◌+◌, ◌≤◌, ℕ, inl, inr, Bool, cond, true, false, List, [], ◌∷◌, ◌++◌, length, refl, ap, sym, subst, arith, lit<, Option, Some, bytes_eq, codes, IsXmlText, Attribute, Nodes, none, element, nodes_events, Building, said, Start, IsNumber, AllPass, ratio, End, At, Inf, SaysEnd, only_inf, only_neg_inf, Var, AreEnds, Domain, Continuous, Integer, Binary, SemiContinuous, SemiInteger, raised, lowered, IsBinary, nought, letters, letter_names, IsLetterOf, IsOfDomain, SaysTimes, SaysLow, SaysHigh, SaysVar, EndHasText, WritesVar, type_text, var_attributes, State, begins, tests, Fails, WriteVars, ToldAttributes, EndAttributes, content_told, with_attribute}
 use Rattle.tree_grammar.specs.Tags.{IsAmong}
 use Rattle.evidence.specs.Sums as evidence
 use Rattle.document_tags.specs.Telling.{Told}
 use Rattle.document_tags.proofs.XmlNodes.{IsTag, tag_by}
-use Rattle.document_tags.proofs.PrintableTexts.{fixed_text}
+use Rattle.document_tags.proofs.PrintableTexts.{printable_text, fixed_text}
 use Rattle.osil_grammar.specs.declared.elements.Place.TheVariants as places
 use Rattle.osil_grammar.specs.declared.elements.Led.TheVariants as led
 use Rattle.osil_grammar.proofs.Places.{number_either}
 use Rattle.osil_grammar.proofs.Parts.{told_attribute, ToldSome}
 use Rattle.osil_grammar.proofs.TagNumbers.{bound_read, bound_once, end_at_once}
 use Rattle.osil_grammar.proofs.StartTagTests.{said_once}
+use Rattle.osil_grammar.proofs.PrintableTexts.{end_shown}
+use Rattle.osil_grammar.proofs.RoundTrips.{end_bound}
 
 -- the numbers of a start tag: its ends, and for how many it stands
 abbrev pub VarNumbers : Type 0
@@ -79,7 +81,7 @@ var_told v a b c d kind more waits is typed ends attributes tells =
     let held : c.attributes ≡ all =
     attributes.waiting ∙ ap (λ (x : Building). x.attributes ++ more) typed ∙ ap (λ (l : List Attribute). (l ++ record { name = codes "type"; value = kind } ∷ []) ++ more) waits
     ∙ ap (λ (k : List ℕ). with_attribute (codes "type") k more) is ∙ ap (λ (l : List Attribute). with_attribute (codes "type") (type_text v.whole v.zero) l) ends.4 in
-    (element (codes "var") all none none, (ends.0, ends.1, none, ends.2, ends.3, refl, refl), content_told a c d (codes "var") c.attributes all none same held tells)
+    (element (codes "var") all none none, (none, refl, record { lb = ends.0; ub = ends.1; is_lb = ends.2; is_ub = ends.3; says = refl }), content_told a c d (codes "var") c.attributes all none same held tells)
 
 -- ITS ATTRIBUTES ARE XML
 type_xml : (whole semi : Bool) → IsXmlText (type_text whole semi)
@@ -88,8 +90,13 @@ type_xml true false = fixed_text (codes "I") refl
 type_xml false true = fixed_text (codes "D") refl
 type_xml false false = fixed_text (codes "C") refl
 
-pub var_tag : (v : Var) (lb ub : List ℕ) → IsXmlText lb → IsXmlText ub → IsTag (codes "var") (var_attributes v lb ub)
-var_tag v lb ub low high = tag_by (codes "var") (var_attributes v lb ub) refl (type_xml v.whole v.zero, (low, (high, tt)))
+pub var_tag : (v : Var) (more nodes : Nodes) (is : WritesVar v more nodes) → IsTag (codes "var") (var_attributes v is.lb is.ub)
+var_tag v more nodes is =
+    tag_by (codes "var") (var_attributes v is.lb is.ub) refl (type_xml v.whole v.zero, (printable_text is.lb (end_shown v.lb is.lb is.is_lb).printable, (printable_text is.ub (end_shown v.ub is.ub is.is_ub).printable, tt)))
+
+-- IT MAY STAND before others
+pub var_before : (v : Var) (more nodes rest : Nodes) (is : WritesVar v more nodes) → WritesVar v rest (element (codes "var") (var_attributes v is.lb is.ub) none rest)
+var_before v more nodes rest is = record { lb = is.lb; ub = is.ub; is_lb = is.is_lb; is_ub = is.is_ub; says = refl }
 
 -- AND ARE READ BACK
 abbrev domain_of : (whole semi : Bool) → Domain
@@ -116,11 +123,13 @@ type_known true false out = out (inr (inr (inl refl)))
 type_known false true out = out (inr (inr (inr (inl refl))))
 type_known true true out = out (inr (inr (inr (inr (inl refl)))))
 
-pub var_said : (v : Var) (lb ub : List ℕ) → SaysEnd lb v.lb → SaysEnd ub v.ub → SaysVar (var_attributes v lb ub) v
-var_said v lb ub low high = record { lb = v.lb; ub = v.ub; domain = domain_of v.whole v.zero; low = low; high = high; type = letter_of v.whole v.zero; is = domain_is v v.whole v.zero refl refl }
+pub var_said : (v : Var) (more nodes : Nodes) (is : WritesVar v more nodes) → EndHasText v.lb × EndHasText v.ub → SaysVar (var_attributes v is.lb is.ub) v
+var_said v more nodes is has = record { lb = v.lb; ub = v.ub; domain = domain_of v.whole v.zero; low = end_bound v.lb is.lb has.0 is.is_lb; high = end_bound v.ub is.ub has.1 is.is_ub; type = letter_of v.whole v.zero; is = domain_is v v.whole v.zero refl refl }
 
-pub var_passes : (s : State) (v : Var) (lb ub : List ℕ) → SaysEnd lb v.lb → SaysEnd ub v.ub → AreEnds v.lb v.ub → length s.vars + 1 ≤ 1000 → AllPass (Fails s (Start (codes "var") (var_attributes v lb ub))) (tests (begins (led.To places.Var)))
-var_passes s v lb ub low high ends few =
-    let l = bound_read lb v.lb low in
-    let h = bound_read ub v.ub high in
-    (λ b. b l.0, (λ b. b h.0, (λ b. b, (λ w. l.1 w, (λ w. h.1 w, (λ w. w, (λ o. type_known v.whole v.zero o, (λ i. ends.0 (only_inf lb v.lb low i), (λ i. ends.1 (only_neg_inf ub v.ub high i), (λ m. let one = m.1 in let many = m.2 in omega (arith, one, many, few), tt))))))))))
+pub var_passes : (s : State) (v : Var) (more nodes : Nodes) (is : WritesVar v more nodes) → EndHasText v.lb × EndHasText v.ub → AreEnds v.lb v.ub → length s.vars + 1 ≤ 1000 → AllPass (Fails s (Start (codes "var") (var_attributes v is.lb is.ub))) (tests (begins (led.To places.Var)))
+var_passes s v more nodes is has ends few =
+    let low = end_bound v.lb is.lb has.0 is.is_lb in
+    let high = end_bound v.ub is.ub has.1 is.is_ub in
+    let l = bound_read is.lb v.lb low in
+    let h = bound_read is.ub v.ub high in
+    (λ b. b l.0, (λ b. b h.0, (λ b. b, (λ w. l.1 w, (λ w. h.1 w, (λ w. w, (λ o. type_known v.whole v.zero o, (λ i. ends.0 (only_inf is.lb v.lb low i), (λ i. ends.1 (only_neg_inf is.ub v.ub high i), (λ m. let one = m.1 in let many = m.2 in omega (arith, one, many, few), tt))))))))))

@@ -32,12 +32,7 @@ ends lb ub = with_attribute (codes "lb") lb (with_attribute (codes "ub") ub [])
 
 pub vars_flat : (vs : List Var) (nodes : Nodes) → WriteVars vs nodes → AreLow 1 nodes
 vars_flat [] nodes is = subst (AreLow 1) (sym is) (none_low 1)
-vars_flat (v ∷ vs) nodes is =
-    let lb = is.0 in
-    let ub = is.1 in
-    let low = end_shown v.lb lb is.3 in
-    let high = end_shown v.ub ub is.4 in
-    subst (AreLow 1) (sym is.6) (element_low 0 (codes "var") (var_attributes v lb ub) none is.2 (var_tag v lb ub (shown_text lb low) (shown_text ub high)) (none_low 0) (vars_flat vs is.2 is.5))
+vars_flat (v ∷ vs) nodes (more, rest, is) = subst (AreLow 1) (sym is.says) (element_low 0 (codes "var") (var_attributes v is.lb is.ub) none more (var_tag v more nodes is) (none_low 0) (vars_flat vs more rest))
 
 pub rows_flat : (rs : List Row) (nodes : Nodes) → WriteRows rs nodes → AreLow 1 nodes
 rows_flat [] nodes is = subst (AreLow 1) (sym is) (none_low 1)

@@ -1,4 +1,4 @@
--- What the start tags and the texts of an OSiL document say.
+-- What the start tags and the texts of an OSiL document say, and as what ends are written.
 use Rattle.std.specs.Prelude.{◌≡◌, ◌⊎◌, ℕ, ℤ, pos, List, [], ◌∷◌, map, codes}
 use Rattle.tree_grammar.specs.Elements.{Attribute}
 use Rattle.fraction.specs.Frac.{ratio}
@@ -9,6 +9,7 @@ use Rattle.decimal_text.specs.Count.{IsCount}
 use Rattle.decimal_text.specs.Whole.{IsWholeText}
 use Rattle.decimal_text.specs.Decimal.{IsDecimal}
 use Rattle.decimal_text.specs.Bound.{SaysEnd}
+use Rattle.decimal_text.specs.Plain.{PlainText}
 use Rattle.instance.specs.declared.parts.Var.{Var}
 use Rattle.instance.specs.declared.parts.Row.{Row}
 use Rattle.instance.specs.declared.parts.Sense.{Sense}
@@ -73,6 +74,12 @@ SaysHigh as' x = Says as' (codes "ub") (λ (y : End). y ≡ Inf) SaysEnd x
 -- the lower end of a row: minus infinity by default
 abbrev pub SaysRowLow : List Attribute → End → Type 0
 SaysRowLow as' x = Says as' (codes "lb") (λ (y : End). y ≡ NegInf) SaysEnd x
+
+-- the text that an end is written as
+abbrev pub IsEndText : End → List ℕ → Type 0
+IsEndText NegInf text = text ≡ codes "-INF"
+IsEndText (At x) text = PlainText text (ratio x)
+IsEndText Inf text = text ≡ codes "INF"
 
 -- the row of a `con`: the constant is taken off both ends
 pub record SaysRow (as' : List Attribute) (r : Row) : Type 0 where

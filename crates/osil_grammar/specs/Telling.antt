@@ -8,7 +8,8 @@ use Rattle.instance.specs.Parts.{Parts}
 use Rattle.osil_grammar.specs.declared.fault.EncodeFault.{EncodeFault}
 use Rattle.osil_grammar.specs.declared.fault.EncodeFault.TheVariants.{NotDecimal, Long, Memory}
 use Rattle.document_tags.specs.Writing.{with_attribute}
-use Rattle.osil_grammar.specs.Writing.{EndHasText, IsEndText, HasDecimals, IsTooLong}
+use Rattle.osil_grammar.specs.Saying.{IsEndText}
+use Rattle.osil_grammar.specs.Writing.{EndHasText, HasDecimals, IsTooLong}
 
 -- a number has no decimal; or there was no memory
 abbrev pub HasNone : Type 0 → EncodeFault → Type 0

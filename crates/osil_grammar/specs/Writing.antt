@@ -19,17 +19,12 @@ use Rattle.instance.specs.declared.parts.Goal.{Goal}
 use Rattle.instance.specs.declared.parts.Sense.{Sense}
 use Rattle.instance.specs.declared.parts.Sense.TheVariants.{Min, Max}
 use Rattle.instance.specs.Parts.{Parts}
-use Rattle.osil_grammar.specs.VarTags.{var_attributes}
+use Rattle.osil_grammar.specs.Saying.{IsEndText}
+use Rattle.osil_grammar.specs.VarTags.{WritesVar}
 
 -- some decimal has the value
 abbrev pub HasDecimal : Frac → Type 0
 HasDecimal x = (text : List ℕ) × IsDecimal text (ratio x)
-
--- an end's text
-abbrev pub IsEndText : End → List ℕ → Type 0
-IsEndText NegInf text = text ≡ codes "-INF"
-IsEndText (At x) text = PlainText text (ratio x)
-IsEndText Inf text = text ≡ codes "INF"
 
 abbrev pub EndHasText : End → Type 0
 EndHasText NegInf = Unit {0}
@@ -43,8 +38,7 @@ holding name attributes text more = element name attributes (chars text none) mo
 -- the nodes that these variables are written as
 abbrev pub WriteVars : List Var → Nodes → Type 0
 WriteVars [] nodes = nodes ≡ none
-WriteVars (v ∷ vs) nodes = (lb : List ℕ) × (ub : List ℕ) × (more : Nodes) × IsEndText v.lb lb × IsEndText v.ub ub × WriteVars vs more
-    × (nodes ≡ element (codes "var") (var_attributes v lb ub) none more)
+WriteVars (v ∷ vs) nodes = (more : Nodes) × WriteVars vs more × WritesVar v more nodes
 
 -- the same of rows
 abbrev pub WriteRows : List Row → Nodes → Type 0
