@@ -1,5 +1,5 @@
 -- A mark that is taken in a sound state leaves a sound state.
-use Rattle.osil_grammar.proofs.Words.{◌≡◌, ◌∙◌, ◌+◌, ◌-◌, ◌<◌, ◌≤◌, ℕ, inl, inr, ℤ, pos, negsuc, Bool, true, false, cond, List, [], ◌++◌, map, length, replicate, refl, ap, sym, subst, arith, length-append, Option, None, Some, MatchOption, IsSomeAnd, unsigned_abs, ◌+ℤ◌, ◌*ℤ◌, codes, All, cases_lt, cases_eq, ints, length-replicate, length-map, All-nil, All-append, All-replicate, All-weaker, All-map, Attribute, Mark, Start, Char, Finish, Ratio, Frac, ratio, ratios, End, NegInf, At, Inf, Entry, SaysEnd, IsCount, IsWholeText, Row, AreEnds, IsInside, value_of, AllPass, Takes, Domain, Binary, Listing, Place, Led, IsEndAt, IsLess, raised, lowered, nought, Says, HasSuch, IsTimes, SaysTimes, IsOfDomain, State, start, begins, ends, tests, leads, Fails, AreTooMany, IsDivided, IsInRange, IsOutOfRange, lines, list_length, most, Begins, Ends, Leaves, AddsWholes, IsMatrixOf, heard, keeps_text, osil, AreItems, AreWithin, IsSoundSoFar, IsSoundAt, IsSoundIn, IsSound}
+use Rattle.osil_grammar.proofs.Words.{◌≡◌, ◌∙◌, ◌+◌, ◌-◌, ◌<◌, ◌≤◌, ℕ, inl, inr, ℤ, pos, negsuc, Bool, true, false, cond, List, [], ◌++◌, map, length, replicate, refl, ap, sym, subst, arith, length-append, Option, None, Some, MatchOption, IsSomeAnd, unsigned_abs, ◌+ℤ◌, ◌*ℤ◌, codes, All, cases_lt, cases_eq, ints, length-replicate, length-map, All-nil, All-append, All-replicate, All-weaker, All-map, Attribute, Mark, Start, Char, Finish, Ratio, Frac, ratio, ratios, End, NegInf, At, Inf, Entry, SaysEnd, IsCount, IsWholeText, Row, AreEnds, IsVar, IsInside, value_of, AllPass, Takes, Domain, Binary, Listing, Place, Led, IsEndAt, IsLess, raised, lowered, nought, Says, HasSuch, IsTimes, SaysTimes, IsOfDomain, State, start, begins, ends, tests, leads, Fails, AreTooMany, IsDivided, IsInRange, IsOutOfRange, lines, list_length, most, Begins, Ends, Leaves, AddsWholes, IsMatrixOf, heard, keeps_text, osil, AreItems, AreWithin, IsSoundSoFar, IsSoundAt, IsSoundIn, IsSound}
 use Rattle.instance.specs.declared.parts.Var.{Var as Variable}
 use Rattle.osil_grammar.specs.declared.elements.Part.TheVariants as parts
 use Rattle.osil_grammar.specs.declared.elements.Listing.TheVariants as listings
@@ -8,7 +8,8 @@ use Rattle.osil_grammar.specs.declared.elements.Led.TheVariants as led
 use Rattle.osil_grammar.proofs.EntryBounds.{are_within, nothing_within}
 use Rattle.osil_grammar.proofs.RatioRuns.{ratio_length}
 use Rattle.osil_grammar.proofs.RunSteps.{whole_length}
-use Rattle.osil_grammar.proofs.StartTagTests.{is_said}
+use Rattle.osil_grammar.proofs.StartTagTests.{at_inf, at_neg_inf, not_end, said_ends}
+use Rattle.osil_grammar.proofs.VarTags.{var_fits}
 use Rattle.osil_grammar.proofs.WholesBelow.{wholes_below}
 
 -- what no test refused
@@ -32,11 +33,11 @@ within_more r q v w rows vars es h = record { few = h.few; ascending = h.ascendi
 pub replicated : {X : Type 0} (xs : List X) (n : ℕ) (x : X) → length (xs ++ replicate n x) ≡ length xs + n
 replicated xs n x = length-append xs (replicate n x) ∙ ap (λ (m : ℕ). length xs + m) (length-replicate n x)
 
-more_vars : (vars : List Variable) (rows : List Row) (n : ℕ) (v : Variable) → AreItems vars rows → length vars + n ≤ 1000 → AreEnds v.lb v.ub → AreItems (vars ++ replicate n v) rows
+more_vars : (vars : List Variable) (rows : List Row) (n : ℕ) (v : Variable) → AreItems vars rows → length vars + n ≤ 1000 → IsVar v → AreItems (vars ++ replicate n v) rows
 more_vars vars rows n v k few both = record {
   few_vars = let long = replicated vars n v in omega (arith, long, few);
   few_rows = k.few_rows;
-  var_ends = All-append (λ (w : Variable). AreEnds w.lb w.ub) vars (replicate n v) k.var_ends (All-replicate (λ (w : Variable). AreEnds w.lb w.ub) n v both);
+  var_ends = All-append IsVar vars (replicate n v) k.var_ends (All-replicate IsVar n v both);
   row_ends = k.row_ends;
 }
 
@@ -48,30 +49,10 @@ more_rows vars rows n r k few both = record {
   row_ends = All-append (λ (w : Row). AreEnds w.lb w.ub) rows (replicate n r) k.row_ends (All-replicate (λ (w : Row). AreEnds w.lb w.ub) n r both);
 }
 
--- the ends of a variable and of a row
-at_inf : (f : Frac) → At f ≡ Inf → ⊥
-at_inf f e = cc
-
-at_neg_inf : (f : Frac) → At f ≡ NegInf → ⊥
-at_neg_inf f e = cc
-
-not_end : (y : End) → ((f : Frac) → At f ≡ y → ⊥) → (x : End) (r : Ratio) → IsEndAt x r → x ≡ y → ⊥
-not_end y never (At f) r h = never f
-not_end y never x r h = absurd h
-
-domain_ends : (d : Domain) (lb ub : End) (v : Variable) → IsOfDomain d lb ub v → AreEnds lb ub → AreEnds v.lb v.ub
-domain_ends Binary lb ub v is both = (not_end Inf at_inf v.lb (raised lb) is.0, not_end NegInf at_neg_inf v.ub (lowered ub) is.1)
-domain_ends d lb ub v is both = ((λ e. both.0 (sym is.0 ∙ e)), (λ e. both.1 (sym is.1 ∙ e)))
-
+-- the ends of a row
 less_end : (y : End) → ((f : Frac) → At f ≡ y → ⊥) → (end : End) (c : Frac) (x : End) → IsLess end c x → (end ≡ y → ⊥) → x ≡ y → ⊥
 less_end y never (At f) c x is other = not_end y never x _ is
 less_end y never end c x is other = λ e. other (sym is ∙ e)
-
-said_ends : (as' : List Attribute) (Low High : End → Type 0) → (Low Inf → ⊥) → (High NegInf → ⊥) → (lb ub : End) → Says as' (codes "lb") Low SaysEnd lb → Says as' (codes "ub") High SaysEnd ub → (HasSuch as' (codes "lb") (λ t. SaysEnd t Inf) → ⊥) → (HasSuch as' (codes "ub") (λ t. SaysEnd t NegInf) → ⊥) → AreEnds lb ub
-said_ends as' Low High no_low no_high lb ub low high not_low not_high = (
-  (λ e. not_low (is_said Inf (value_of (codes "lb") as') Low no_low lb low e)),
-  (λ e. not_high (is_said NegInf (value_of (codes "ub") as') High no_high ub high e)),
-)
 
 -- for how many an element stands
 some_times : (o : Option (List ℕ)) (m : ℕ) → MatchOption o (m ≡ 1) (λ t. IsTimes t m) → 0 < m
@@ -90,14 +71,13 @@ index_inside (Some t) n j says not_so = elim (cases_lt j n) [ inl inside ↦ ins
 begin_sound : (s : State) (name : List ℕ) (as' : List Attribute) (p : Place) (z : State) → IsSound s → AllPass (Fails s (Start name as')) (tests (begins (led.To p))) → Begins s (Start name as') p z → IsSound z
 begin_sound s name as' (places.Part part) z k pass (d, says, is) = subst IsSound (sym is) (k.0, tt)
 begin_sound s name as' places.Var z k pass (v, n, says, times, is) =
-    let others = pass.1.1.1.1.1.1.1 in
-    let few : length s.vars + n ≤ 1000 = not_more 1000 (length s.vars + n) (λ many. others.1.1.0 (n, times, many)) in
-    let both = said_ends as' (λ x. x ≡ At nought) (λ x. x ≡ Inf) (λ e. at_inf nought (sym e)) (λ e. absurd (cc)) says.lb says.ub says.low says.high others.0 others.1.0 in
+    let fit = var_fits s name as' v pass says in
+    let few : length s.vars + n ≤ 1000 = not_more 1000 (length s.vars + n) (λ many. fit.1 (n, times, many)) in
     let more : length s.vars ≤ length (s.vars ++ replicate n v) = let long = replicated s.vars n v in omega (arith, long) in
     let items = k.0.0 in
     subst IsSound (sym is) (
       (
-        more_vars s.vars s.rows n v items few (domain_ends says.domain says.lb says.ub v says.is both),
+        more_vars s.vars s.rows n v items few fit.0,
         k.0.1,
         k.0.2,
         below_more s.by_columns (length s.rows) (length s.rows) (length s.vars) (length (s.vars ++ replicate n v)) (omega arith) more s.indices k.0.3,
@@ -188,7 +168,7 @@ end_sound s name p z at k pass is = subst IsSound (sym is) (k.0, tt)
 pub sound_start : IsSound start
 sound_start = (
   (
-    record { few_vars = omega arith; few_rows = omega arith; var_ends = All-nil (λ (v : Variable). AreEnds v.lb v.ub); row_ends = All-nil (λ (r : Row). AreEnds r.lb r.ub) },
+    record { few_vars = omega arith; few_rows = omega arith; var_ends = All-nil IsVar; row_ends = All-nil (λ (r : Row). AreEnds r.lb r.ub) },
     omega arith,
     omega arith,
     All-nil (λ (n : ℕ). n < 0),

@@ -1,5 +1,5 @@
 -- What was read at a start tag answers the tests of its kind.
-use Rattle.osil_grammar.proofs.Words.{◌≡◌, ◌∙◌, ◌⊎◌, inl, inr, ℕ, ◌+◌, ◌<◌, ◌≤◌, List, [], ◌∷◌, ◌++◌, length, refl, ap, sym, subst, arith, Option, None, Some, MatchOption, IsSomeAnd, Result, Ok, Err, MatchResult, codes, Attribute, Start, End, NegInf, At, Inf, SaysEnd, IsDecimal, Frac, ratio, negative, SumFits, IsCount, only_inf, only_neg_inf, count_once, AreEnds, value_of, Unread, AllPass, FirstFails, pass_both, first_front, first_behind, fields_pass, fields_bad, fields_wide, Sense, Min, Max, Place, Listing, Values, IsSense, Domain, Continuous, told_refusal, Refusal, field, whole, IsBad, IsTooGreat, HasSuch, Says, IsTimes, IsDeclared, SaysCount, nought, State, Test, bad, too_great, low_infinite, high_infinite, too_many, mult, fields, numbers, refusal, senses, SaysTimes, SaysConstant, SaysDomain, SaysSense, SaysIndex, letters, letter_names, IsLetterOf, Fails, most, items, list_length, AreTooMany, IsGreatEnd, HasNoSense, unread_refusal, IsNear, IsTooFar}
+use Rattle.osil_grammar.proofs.Words.{◌≡◌, Ratio, IsEndAt, ◌∙◌, ◌⊎◌, inl, inr, ℕ, ◌+◌, ◌<◌, ◌≤◌, List, [], ◌∷◌, ◌++◌, length, refl, ap, sym, subst, arith, Option, None, Some, MatchOption, IsSomeAnd, Result, Ok, Err, MatchResult, codes, Attribute, Start, End, NegInf, At, Inf, SaysEnd, IsDecimal, Frac, ratio, negative, SumFits, IsCount, only_inf, only_neg_inf, count_once, AreEnds, value_of, Unread, AllPass, FirstFails, pass_both, first_front, first_behind, fields_pass, fields_bad, fields_wide, Sense, Min, Max, Place, Listing, Values, IsSense, Domain, Continuous, told_refusal, Refusal, field, whole, IsBad, IsTooGreat, HasSuch, Says, IsTimes, IsDeclared, SaysCount, nought, State, Test, bad, too_great, low_infinite, high_infinite, too_many, mult, fields, numbers, refusal, senses, SaysTimes, SaysConstant, SaysDomain, SaysSense, SaysIndex, letters, letter_names, IsLetterOf, Fails, most, items, list_length, AreTooMany, IsGreatEnd, HasNoSense, unread_refusal, IsNear, IsTooFar}
 use Rattle.tree_grammar.specs.Tags.{IsAmong}
 use Rattle.osil_grammar.proofs.TagNumbers.{decimal_once}
 use Rattle.tag_tests.specs.declared.numbers.Unread.TheVariants as unread
@@ -50,6 +50,23 @@ ends_refused s name as' Low High no_low no_high lb ub low high wrong more = elim
   | inl same ↦ inl (is_said Inf (value_of (codes "lb") as') Low no_low lb low same, refl)
   | inr h ↦ inr (not_said Inf (λ t x a b. only_inf t x a b) (value_of (codes "lb") as') (Low lb) lb low h.0, inl (is_said NegInf (value_of (codes "ub") as') High no_high ub high h.1, refl))
 ]
+
+-- ends that pass
+pub at_inf : (f : Frac) → At f ≡ Inf → ⊥
+at_inf f e = cc
+
+pub at_neg_inf : (f : Frac) → At f ≡ NegInf → ⊥
+at_neg_inf f e = cc
+
+pub not_end : (y : End) → ((f : Frac) → At f ≡ y → ⊥) → (x : End) (r : Ratio) → IsEndAt x r → x ≡ y → ⊥
+not_end y never (At f) r h = never f
+not_end y never x r h = absurd h
+
+pub said_ends : (as' : List Attribute) (Low High : End → Type 0) → (Low Inf → ⊥) → (High NegInf → ⊥) → (lb ub : End) → Says as' (codes "lb") Low SaysEnd lb → Says as' (codes "ub") High SaysEnd ub → (HasSuch as' (codes "lb") (λ t. SaysEnd t Inf) → ⊥) → (HasSuch as' (codes "ub") (λ t. SaysEnd t NegInf) → ⊥) → AreEnds lb ub
+said_ends as' Low High no_low no_high lb ub low high not_low not_high = (
+  (λ e. not_low (is_said Inf (value_of (codes "lb") as') Low no_low lb low e)),
+  (λ e. not_high (is_said NegInf (value_of (codes "ub") as') High no_high ub high e)),
+)
 
 -- what an attribute says, or is by default, is one thing
 pub said_once : {X : Type 0} (as' : List Attribute) (name : List ℕ) (default : X) (Is : List ℕ → X → Type 0) → ((text : List ℕ) (x y : X) → Is text x → Is text y → x ≡ y) → (x y : X) → Says as' name (λ z. z ≡ default) Is x → Says as' name (λ z. z ≡ default) Is y → x ≡ y

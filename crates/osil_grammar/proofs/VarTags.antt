@@ -1,5 +1,5 @@
 -- A `var`: what it says is one variable; a variable is told with its attributes, which are XML and are read back.
-use Rattle.osil_grammar.proofs.Words.{◌≡◌, ◌∙◌, ◌+◌, ◌≤◌, ℕ, inl, inr, Bool, cond, true, false, List, [], ◌∷◌, ◌++◌, length, refl, ap, sym, subst, arith, lit<, Option, Some, bytes_eq, codes, IsXmlText, Attribute, Nodes, none, element, nodes_events, Building, said, Start, IsNumber, AllPass, ratio, End, At, Inf, SaysEnd, only_inf, only_neg_inf, Var, AreEnds, Domain, Continuous, Integer, Binary, SemiContinuous, SemiInteger, raised, lowered, IsBinary, nought, letters, letter_names, IsLetterOf, IsOfDomain, SaysTimes, SaysLow, SaysHigh, SaysVar, EndHasText, WritesVar, type_text, var_attributes, State, begins, tests, Fails, WriteVars, ToldAttributes, EndAttributes, content_told, with_attribute}
+use Rattle.osil_grammar.proofs.Words.{◌≡◌, ◌∙◌, ◌+◌, ◌≤◌, ℕ, inl, inr, Bool, cond, true, false, List, [], ◌∷◌, ◌++◌, length, refl, ap, sym, subst, arith, lit<, Option, Some, bytes_eq, codes, IsXmlText, Attribute, Nodes, none, element, nodes_events, Building, said, Start, IsNumber, AllPass, ratio, End, NegInf, At, Inf, SaysEnd, only_inf, only_neg_inf, Var, AreEnds, IsVar, AreTooMany, Domain, Continuous, Integer, Binary, SemiContinuous, SemiInteger, raised, lowered, IsBinary, nought, letters, letter_names, IsLetterOf, IsOfDomain, SaysTimes, SaysLow, SaysHigh, SaysVar, EndHasText, WritesVar, type_text, var_attributes, State, begins, tests, Fails, WriteVars, ToldAttributes, EndAttributes, content_told, with_attribute}
 use Rattle.tree_grammar.specs.Tags.{IsAmong}
 use Rattle.evidence.specs.Sums as evidence
 use Rattle.document_tags.specs.Telling.{Told}
@@ -10,7 +10,7 @@ use Rattle.osil_grammar.specs.declared.elements.Led.TheVariants as led
 use Rattle.osil_grammar.proofs.Places.{number_either}
 use Rattle.osil_grammar.proofs.Parts.{told_attribute, ToldSome}
 use Rattle.osil_grammar.proofs.TagNumbers.{bound_read, bound_once, end_at_once}
-use Rattle.osil_grammar.proofs.StartTagTests.{said_once}
+use Rattle.osil_grammar.proofs.StartTagTests.{said_once, said_ends, at_inf, at_neg_inf, not_end}
 use Rattle.osil_grammar.proofs.PrintableTexts.{end_shown}
 use Rattle.osil_grammar.proofs.RoundTrips.{end_bound}
 
@@ -73,6 +73,17 @@ var_once as' v w a b =
     let second : IsOfDomain b.domain b.lb a.ub v = subst (λ (x : End). IsOfDomain b.domain x a.ub v) low first in
     of_domain_once b.domain b.lb b.ub v w (subst (λ (x : End). IsOfDomain b.domain b.lb x v) high second) b.is
 
+-- IT IS ONE OF AN INSTANCE, and there is room for it, where all tests pass
+domain_ends : (d : Domain) (lb ub : End) (v : Var) → IsOfDomain d lb ub v → AreEnds lb ub → AreEnds v.lb v.ub
+domain_ends Binary lb ub v is both = (not_end Inf at_inf v.lb (raised lb) is.0, not_end NegInf at_neg_inf v.ub (lowered ub) is.1)
+domain_ends d lb ub v is both = ((λ e. both.0 (sym is.0 ∙ e)), (λ e. both.1 (sym is.1 ∙ e)))
+
+pub var_fits : (s : State) (name : List ℕ) (as' : List Attribute) (v : Var) → AllPass (Fails s (Start name as')) (tests (begins (led.To places.Var))) → SaysVar as' v → IsVar v × (AreTooMany s as' places.Var → ⊥)
+var_fits s name as' v pass says =
+    let others = pass.1.1.1.1.1.1.1 in
+    let both = said_ends as' (λ x. x ≡ At nought) (λ x. x ≡ Inf) (λ e. at_inf nought (sym e)) (λ e. absurd (cc)) says.lb says.ub says.low says.high others.0 others.1.0 in
+    (domain_ends says.domain says.lb says.ub v says.is both, others.1.1.0)
+
 -- TOLD by its type and its ends
 pub var_told : (v : Var) (a b c d : Building) (kind : List ℕ) (more : List Attribute) → a.attributes ≡ [] → kind ≡ type_text v.whole v.zero → b ≡ told_attribute a (codes "type") kind → EndAttributes v.lb v.ub more → ToldAttributes b c more → Told c d (nodes_events (element (codes "var") c.attributes none none)) → ToldSome (WriteVars (v ∷ [])) a d
 var_told v a b c d kind more waits is typed ends attributes tells =
@@ -126,7 +137,7 @@ type_known true true out = out (inr (inr (inr (inr (inl refl)))))
 pub var_said : (v : Var) (more nodes : Nodes) (is : WritesVar v more nodes) → EndHasText v.lb × EndHasText v.ub → SaysVar (var_attributes v is.lb is.ub) v
 var_said v more nodes is has = record { lb = v.lb; ub = v.ub; domain = domain_of v.whole v.zero; low = end_bound v.lb is.lb has.0 is.is_lb; high = end_bound v.ub is.ub has.1 is.is_ub; type = letter_of v.whole v.zero; is = domain_is v v.whole v.zero refl refl }
 
-pub var_passes : (s : State) (v : Var) (more nodes : Nodes) (is : WritesVar v more nodes) → EndHasText v.lb × EndHasText v.ub → AreEnds v.lb v.ub → length s.vars + 1 ≤ 1000 → AllPass (Fails s (Start (codes "var") (var_attributes v is.lb is.ub))) (tests (begins (led.To places.Var)))
+pub var_passes : (s : State) (v : Var) (more nodes : Nodes) (is : WritesVar v more nodes) → EndHasText v.lb × EndHasText v.ub → IsVar v → length s.vars + 1 ≤ 1000 → AllPass (Fails s (Start (codes "var") (var_attributes v is.lb is.ub))) (tests (begins (led.To places.Var)))
 var_passes s v more nodes is has ends few =
     let low = end_bound v.lb is.lb has.0 is.is_lb in
     let high = end_bound v.ub is.ub has.1 is.is_ub in

@@ -1,5 +1,5 @@
 -- What an instance's variables, rows and goal are written as is read as these, mark by mark.
-use Rattle.osil_grammar.proofs.Words.{◌≡◌, ◌∙◌, ℕ, zero, suc, ◌+◌, ◌/◌, ◌<◌, ◌≤◌, inl, inr, true, false, ℤ, pos, ◌+ℤ◌, List, [], ◌∷◌, ◌++◌, map, length, get_or, set, refl, ap, sym, subst, arith, Some, None, unsigned_abs, codes, All, div-one, ints, append-nil, append_assoc, length-append, All-head, All-tail, Attribute, Event, Nodes, nodes_events, local_nodes, with_attribute, Mark, Start, Char, Finish, spread, Ratio, IsSame, sum, negative, left_term, right_term, AreFourWithin, SumFits, whole-reduced, sum-none, none-sum, ratio, ratios, Frac, End, NegInf, At, Inf, same_fraction, IsDecimal, SaysEnd, count_once, count_fits, only_inf, only_neg_inf, Var, Row, Sense, Min, Max, AreEnds, Parts, Takes, AreTaken, Place, IsLess, IsSense, nought, senses, SaysRow, State, into, keeps_text, IsNear, osil, instance_of, HasDecimal, EndHasText, WritesVar, WriteVars, WriteRows, WriteCosts, CountsCosts, var_attributes, sense_text}
+use Rattle.osil_grammar.proofs.Words.{◌≡◌, ◌∙◌, ℕ, zero, suc, ◌+◌, ◌/◌, ◌<◌, ◌≤◌, inl, inr, true, false, ℤ, pos, ◌+ℤ◌, List, [], ◌∷◌, ◌++◌, map, length, get_or, set, refl, ap, sym, subst, arith, Some, None, unsigned_abs, codes, All, div-one, ints, append-nil, append_assoc, length-append, All-head, All-tail, Attribute, Event, Nodes, nodes_events, local_nodes, with_attribute, Mark, Start, Char, Finish, spread, Ratio, IsSame, sum, negative, left_term, right_term, AreFourWithin, SumFits, whole-reduced, sum-none, none-sum, ratio, ratios, Frac, End, NegInf, At, Inf, same_fraction, IsDecimal, SaysEnd, count_once, count_fits, only_inf, only_neg_inf, Var, Row, Sense, Min, Max, AreEnds, IsVar, Parts, Takes, AreTaken, Place, IsLess, IsSense, nought, senses, SaysRow, State, into, keeps_text, IsNear, osil, instance_of, HasDecimal, EndHasText, WritesVar, WriteVars, WriteRows, WriteCosts, CountsCosts, var_attributes, sense_text}
 use Rattle.std.specs.Fmt.{decimal as digits}
 use Rattle.tree_grammar.specs.Tags.{IsAmong}
 use Rattle.rational.specs.Width.{most}
@@ -38,7 +38,7 @@ in_vars s n vs = record s { place = places.Part parts.Variables; count = n; vars
 abbrev one_var : State → ℕ → List Var → Var → State
 one_var s n before v = record (into (in_vars s n before) places.Var) { vars = before ++ v ∷ [] }
 
-module _ (s : State) (n : ℕ) (before : List Var) (v : Var) (more nodes : Nodes) (is : WritesVar v more nodes) (has : EndHasText v.lb × EndHasText v.ub) (ends : AreEnds v.lb v.ub) (few : length before + 1 ≤ 1000) where
+module _ (s : State) (n : ℕ) (before : List Var) (v : Var) (more nodes : Nodes) (is : WritesVar v more nodes) (has : EndHasText v.lb × EndHasText v.ub) (ends : IsVar v) (few : length before + 1 ≤ 1000) where
   var_taken : Takes osil (in_vars s n before) (Start (codes "var") (var_attributes v is.lb is.ub)) (one_var s n before v)
   var_taken = (var_passes (in_vars s n before) v more nodes is has ends few, (v, 1, var_said v more nodes is has, refl, refl))
 
@@ -47,15 +47,15 @@ module _ (s : State) (n : ℕ) (before : List Var) (v : Var) (more nodes : Nodes
       read_one (in_vars s n before) (one_var s n before v) (Start (codes "var") (var_attributes v is.lb is.ub)) (Finish (codes "var") ∷ ms) p var_taken
       (read_one (one_var s n before v) (in_vars s (n + 1) (before ++ v ∷ [])) (Finish (codes "var")) ms p (tt, refl) behind)
 
-pub read_vars : (s : State) (k : List Event) (p : Parts) (vs : List Var) (nodes : Nodes) → All (λ v. EndHasText v.lb × EndHasText v.ub) vs → All (λ v. AreEnds v.lb v.ub) vs → WriteVars vs nodes → (n : ℕ) (before : List Var) → length before + length vs ≤ 1000 → ((m : ℕ) → Reads (in_vars s m (before ++ vs)) (spread k) p) → Reads (in_vars s n before) (spread (nodes_events (local_nodes nodes) k)) p
+pub read_vars : (s : State) (k : List Event) (p : Parts) (vs : List Var) (nodes : Nodes) → All (λ v. EndHasText v.lb × EndHasText v.ub) vs → All IsVar vs → WriteVars vs nodes → (n : ℕ) (before : List Var) → length before + length vs ≤ 1000 → ((m : ℕ) → Reads (in_vars s m (before ++ vs)) (spread k) p) → Reads (in_vars s n before) (spread (nodes_events (local_nodes nodes) k)) p
 read_vars s k p [] nodes has ends is n before few behind =
     subst (λ (l : Nodes). Reads (in_vars s n before) (spread (nodes_events (local_nodes l) k)) p) (sym is) (subst (λ (l : List Var). Reads (in_vars s n l) (spread k) p) (append-nil before) (behind n))
 read_vars s k p (v ∷ vs) nodes has ends (more, rest, is) n before few behind =
     let here = All-head (λ (x : Var). EndHasText x.lb × EndHasText x.ub) v vs has in
     let longer = length-append before (v ∷ []) in
-    let next = read_vars s k p vs more (All-tail (λ (x : Var). EndHasText x.lb × EndHasText x.ub) v vs has) (All-tail (λ (x : Var). AreEnds x.lb x.ub) v vs ends) rest (n + 1) (before ++ v ∷ []) (omega (arith, few, longer)) (λ m. subst (λ (l : List Var). Reads (in_vars s m l) (spread k) p) (sym (append_assoc before (v ∷ []) vs)) (behind m)) in
+    let next = read_vars s k p vs more (All-tail (λ (x : Var). EndHasText x.lb × EndHasText x.ub) v vs has) (All-tail IsVar v vs ends) rest (n + 1) (before ++ v ∷ []) (omega (arith, few, longer)) (λ m. subst (λ (l : List Var). Reads (in_vars s m l) (spread k) p) (sym (append_assoc before (v ∷ []) vs)) (behind m)) in
     subst (λ (l : Nodes). Reads (in_vars s n before) (spread (nodes_events (local_nodes l) k)) p) (sym is.says)
-    (read_var s n before v more nodes is here (All-head (λ (x : Var). AreEnds x.lb x.ub) v vs ends) (omega (arith, few)) (spread (nodes_events (local_nodes more) k)) p next)
+    (read_var s n before v more nodes is here (All-head IsVar v vs ends) (omega (arith, few)) (spread (nodes_events (local_nodes more) k)) p next)
 
 -- ROWS, whose constant is 0
 abbrev no_constant : Ratio

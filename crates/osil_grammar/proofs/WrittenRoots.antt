@@ -1,5 +1,5 @@
 -- The root that an instance is written as is read as the instance, mark by mark.
-use Rattle.osil_grammar.proofs.Words.{◌≡◌, ℕ, ◌+◌, ◌≤◌, inr, true, List, [], ◌∷◌, ◌++◌, length, replicate, refl, ap, sym, subst, arith, append-nil, append_assoc, length-append, Option, Some, codes, All, All-head, All-tail, Attribute, Event, Open, Close, Nodes, nodes_events, Element, local_nodes, local_element, with_attribute, Mark, Start, Finish, spread, Frac, Var, Row, Goal, Sense, AreEnds, Parts, IsValid, Takes, nought, IsDeclared, State, start, goals_said, osil, StandsFor, GoalHasDecimals, HasDecimals, EndHasText, WriteVars, WriteRows, WriteGoals, WritesGoal, WriteLists, WritesInstance, sense_text}
+use Rattle.osil_grammar.proofs.Words.{◌≡◌, ℕ, ◌+◌, ◌≤◌, inr, true, List, [], ◌∷◌, ◌++◌, length, replicate, refl, ap, sym, subst, arith, append-nil, append_assoc, length-append, Option, Some, codes, All, All-head, All-tail, Attribute, Event, Open, Close, Nodes, nodes_events, Element, local_nodes, local_element, with_attribute, Mark, Start, Finish, spread, Frac, Var, Row, Goal, Sense, AreEnds, IsVar, Parts, IsValid, Takes, nought, IsDeclared, State, start, goals_said, osil, StandsFor, GoalHasDecimals, HasDecimals, EndHasText, WriteVars, WriteRows, WriteGoals, WritesGoal, WriteLists, WritesInstance, sense_text}
 use Rattle.std.specs.Fmt.{decimal as digits}
 use Rattle.osil_grammar.specs.declared.elements.Place.TheVariants as places
 use Rattle.osil_grammar.specs.declared.elements.Part.TheVariants as parts
@@ -20,7 +20,7 @@ before_vars s n = record s { place = places.Data; count = n; part = 0; vars = []
 abbrev behind_vars : State → (n at : ℕ) → List Var → State
 behind_vars s n at vs = record s { place = places.Data; count = n; part_at = at; part = 1; has_variables = true; declared = Some (length vs); vars = vs }
 
-pub variables_read : (s : State) (k : List Event) (p : Parts) (vs : List Var) (nodes : Nodes) → All (λ v. EndHasText v.lb × EndHasText v.ub) vs → All (λ v. AreEnds v.lb v.ub) vs → WriteVars vs nodes → length vs ≤ 1000 → (n : ℕ) → ((m at : ℕ) → Reads (behind_vars s m at vs) (spread k) p) → Reads (before_vars s n) (Start (codes "variables") (with_attribute (codes "numberOfVariables") (digits (length vs)) []) ∷ spread (nodes_events (local_nodes nodes) (Close (codes "variables") ∷ k))) p
+pub variables_read : (s : State) (k : List Event) (p : Parts) (vs : List Var) (nodes : Nodes) → All (λ v. EndHasText v.lb × EndHasText v.ub) vs → All IsVar vs → WriteVars vs nodes → length vs ≤ 1000 → (n : ℕ) → ((m at : ℕ) → Reads (behind_vars s m at vs) (spread k) p) → Reads (before_vars s n) (Start (codes "variables") (with_attribute (codes "numberOfVariables") (digits (length vs)) []) ∷ spread (nodes_events (local_nodes nodes) (Close (codes "variables") ∷ k))) p
 variables_read s k p vs nodes has ends is few n behind =
     let base : State = record s { part_at = n + 1; part = 1; has_variables = true; declared = Some (length vs) } in
     let says = declared (length vs) (omega (arith, few)) in

@@ -12,12 +12,13 @@ use Rattle.osil_grammar.specs.declared.elements.Place.TheVariants.{Obj, Coef, El
 use Rattle.osil_grammar.specs.Standing.{State}
 use Rattle.osil_grammar.specs.Table.{part_row}
 use Rattle.osil_grammar.specs.Failing.{most, list_length}
+use Rattle.osil_grammar.specs.VarTags.{IsVar}
 
 -- the variables and the rows of an instance
 pub record AreItems (vars : List Var) (rows : List Row) : Type 0 where
   pub few_vars : length vars ≤ 1000
   pub few_rows : length rows ≤ 1000
-  pub var_ends : All (λ v. AreEnds v.lb v.ub) vars
+  pub var_ends : All IsVar vars
   pub row_ends : All (λ r. AreEnds r.lb r.ub) rows
 
 -- entries in order, all in a matrix of so many rows and columns, and none 0

@@ -4,6 +4,7 @@ use Rattle.tree_grammar.specs.Elements.{Attribute, Nodes, none, element}
 use Rattle.document_tags.specs.Writing.{with_attribute}
 use Rattle.fraction.specs.declared.ends.End.{End}
 use Rattle.instance.specs.declared.parts.Var.{Var}
+use Rattle.instance.specs.Parts.{AreEnds}
 use Rattle.osil_grammar.specs.declared.domains.Domain.{Domain}
 use Rattle.osil_grammar.specs.Grammars as grammars
 use Rattle.osil_grammar.specs.Grammars.{Field}
@@ -41,3 +42,7 @@ pub record WritesVar (v : Var) (more nodes : Nodes) : Type 0 where
   pub is_lb : IsEndText v.lb lb
   pub is_ub : IsEndText v.ub ub
   pub says : nodes ≡ element (codes "var") (var_attributes v lb ub) none more
+
+-- a variable of an instance
+abbrev pub IsVar : Var → Type 0
+IsVar v = AreEnds v.lb v.ub
