@@ -8,7 +8,7 @@ use Rattle.osil_grammar.specs.declared.elements.Listing.TheVariants as listings
 use Rattle.osil_grammar.specs.declared.elements.Place.TheVariants as places
 use Rattle.osil_grammar.specs.declared.elements.Led.TheVariants as led
 use Rattle.osil_grammar.proofs.TagNumbers.{decimal_once, frac_once, bound_once, end_at_once}
-use Rattle.osil_grammar.proofs.StartTagTests.{said_once, times_once, constant_once}
+use Rattle.osil_grammar.proofs.StartTagTests.{said_once, times_once, count_said_once, constant_once}
 use Rattle.osil_grammar.proofs.VarTags.{var_once}
 use Rattle.osil_grammar.proofs.OneEntries.{matrix_once}
 
@@ -43,14 +43,6 @@ sense_is t Max a = ap sense_read a
 
 sense_once : (t : List ℕ) (x y : Sense) → IsSense t x → IsSense t y → x ≡ y
 sense_once t x y a b = sym (sense_is t x a) ∙ sense_is t y b
-
-declared_once : (t : List ℕ) (x y : Option ℕ) → IsDeclared t x → IsDeclared t y → x ≡ y
-declared_once t (Some n) (Some m) a b = ap (λ (k : ℕ). Some k) (count_once t n m a.0 b.0)
-declared_once t None y a b = absurd (let z = a.1 in cc)
-declared_once t (Some n) None a b = absurd (let z = b.1 in cc)
-
-count_said_once : (as' : List Attribute) (name : List ℕ) (x y : Option ℕ) → SaysCount as' name x → SaysCount as' name y → x ≡ y
-count_said_once as' name x y a b = said_once as' name None IsDeclared declared_once x y a b
 
 sense_said_once : (as' : List Attribute) (x y : Sense) → SaysSense as' x → SaysSense as' y → x ≡ y
 sense_said_once as' x y a b = said_once as' (codes "maxOrMin") Min IsSense sense_once x y a b

@@ -79,6 +79,15 @@ said_once as' name default Is read x y a b = by (value_of name as') a b where
 pub times_once : (as' : List Attribute) (m n : ℕ) → SaysTimes as' m → SaysTimes as' n → m ≡ n
 times_once as' m n a b = said_once as' (codes "mult") 1 IsTimes (λ t x y p q. count_once t x y p.0 q.0) m n a b
 
+-- a count that is declared
+declared_once : (t : List ℕ) (x y : Option ℕ) → IsDeclared t x → IsDeclared t y → x ≡ y
+declared_once t (Some n) (Some m) a b = ap (λ (k : ℕ). Some k) (count_once t n m a.0 b.0)
+declared_once t None y a b = absurd (let z = a.1 in cc)
+declared_once t (Some n) None a b = absurd (let z = b.1 in cc)
+
+pub count_said_once : (as' : List Attribute) (name : List ℕ) (x y : Option ℕ) → SaysCount as' name x → SaysCount as' name y → x ≡ y
+count_said_once as' name x y a b = said_once as' name None IsDeclared declared_once x y a b
+
 pub not_too_many : (s : State) (as' : List Attribute) (p : Place) (m : ℕ) → SaysTimes as' m → (most p < items s p + m → ⊥) → AreTooMany s as' p → ⊥
 not_too_many s as' p m says few h = few (let same = times_once as' m h.0 says h.1 in let many = h.2 in subst (λ (k : ℕ). most p < items s p + k) (sym same) many)
 

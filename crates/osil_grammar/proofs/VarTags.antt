@@ -134,13 +134,12 @@ type_known true false out = out (inr (inr (inl refl)))
 type_known false true out = out (inr (inr (inr (inl refl))))
 type_known true true out = out (inr (inr (inr (inr (inl refl)))))
 
-pub var_said : (v : Var) (more nodes : Nodes) (is : WritesVar v more nodes) → EndHasText v.lb × EndHasText v.ub → SaysVar (var_attributes v is.lb is.ub) v
-var_said v more nodes is has = record { lb = v.lb; ub = v.ub; domain = domain_of v.whole v.zero; low = end_bound v.lb is.lb has.0 is.is_lb; high = end_bound v.ub is.ub has.1 is.is_ub; type = letter_of v.whole v.zero; is = domain_is v v.whole v.zero refl refl }
-
-pub var_passes : (s : State) (v : Var) (more nodes : Nodes) (is : WritesVar v more nodes) → EndHasText v.lb × EndHasText v.ub → IsVar v → length s.vars + 1 ≤ 1000 → AllPass (Fails s (Start (codes "var") (var_attributes v is.lb is.ub))) (tests (begins (led.To places.Var)))
-var_passes s v more nodes is has ends few =
+pub var_comes_back : (s : State) (v : Var) (more nodes : Nodes) (is : WritesVar v more nodes) → EndHasText v.lb × EndHasText v.ub → IsVar v → length s.vars + 1 ≤ 1000 → AllPass (Fails s (Start (codes "var") (var_attributes v is.lb is.ub))) (tests (begins (led.To places.Var))) × SaysVar (var_attributes v is.lb is.ub) v
+var_comes_back s v more nodes is has ends few =
     let low = end_bound v.lb is.lb has.0 is.is_lb in
     let high = end_bound v.ub is.ub has.1 is.is_ub in
     let l = bound_read is.lb v.lb low in
-    let h = bound_read is.ub v.ub high in
-    (λ b. b l.0, (λ b. b h.0, (λ b. b, (λ w. l.1 w, (λ w. h.1 w, (λ w. w, (λ o. type_known v.whole v.zero o, (λ i. ends.0 (only_inf is.lb v.lb low i), (λ i. ends.1 (only_neg_inf is.ub v.ub high i), (λ m. let one = m.1 in let many = m.2 in omega (arith, one, many, few), tt))))))))))
+    let h = bound_read is.ub v.ub high in (
+      (λ b. b l.0, (λ b. b h.0, (λ b. b, (λ w. l.1 w, (λ w. h.1 w, (λ w. w, (λ o. type_known v.whole v.zero o, (λ i. ends.0 (only_inf is.lb v.lb low i), (λ i. ends.1 (only_neg_inf is.ub v.ub high i), (λ m. let one = m.1 in let many = m.2 in omega (arith, one, many, few), tt)))))))))),
+      record { lb = v.lb; ub = v.ub; domain = domain_of v.whole v.zero; low = low; high = high; type = letter_of v.whole v.zero; is = domain_is v v.whole v.zero refl refl },
+    )

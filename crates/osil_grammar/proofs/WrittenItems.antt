@@ -14,7 +14,7 @@ use Rattle.osil_grammar.proofs.EntrySums.{none_fits}
 use Rattle.osil_grammar.proofs.EndTagTests.{cost_added}
 use Rattle.osil_grammar.proofs.RoundTrips.{plain_decimal, end_bound, count_read}
 use Rattle.osil_grammar.proofs.StartTagTests.{no_great_end}
-use Rattle.osil_grammar.proofs.VarTags.{var_said, var_passes}
+use Rattle.osil_grammar.proofs.VarTags.{var_comes_back}
 use Rattle.osil_grammar.proofs.TagNumbers.{bound_read}
 use Rattle.osil_grammar.proofs.Zeros.{same_zero}
 
@@ -40,7 +40,7 @@ one_var s n before v = record (into (in_vars s n before) places.Var) { vars = be
 
 module _ (s : State) (n : ℕ) (before : List Var) (v : Var) (more nodes : Nodes) (is : WritesVar v more nodes) (has : EndHasText v.lb × EndHasText v.ub) (ends : IsVar v) (few : length before + 1 ≤ 1000) where
   var_taken : Takes osil (in_vars s n before) (Start (codes "var") (var_attributes v is.lb is.ub)) (one_var s n before v)
-  var_taken = (var_passes (in_vars s n before) v more nodes is has ends few, (v, 1, var_said v more nodes is has, refl, refl))
+  var_taken = let back = var_comes_back (in_vars s n before) v more nodes is has ends few in (back.0, (v, 1, back.1, refl, refl))
 
   pub read_var : (ms : List Mark) (p : Parts) → Reads (in_vars s (n + 1) (before ++ v ∷ [])) ms p → Reads (in_vars s n before) (Start (codes "var") (var_attributes v is.lb is.ub) ∷ Finish (codes "var") ∷ ms) p
   read_var ms p behind =
