@@ -8,13 +8,11 @@ single_before : (name : List ℕ) (attributes : List Attribute) (children rest f
 single_before name attributes children rest first end last is k = ap (λ (n : Nodes). nodes_events n (nodes_events rest k)) (sym (is ∙ ap (λ (n : Nodes). element name attributes children n) last))
 
 pub vars_join : CanJoin (λ i. WriteVars)
-vars_join i v vs first rest one more =
-    let is = one.2 in
-    record {
-      nodes = element (codes "var") (var_attributes v is.lb is.ub) none rest;
-      writes = (rest, more, var_before v one.0 first rest is);
-      same = single_before (codes "var") (var_attributes v is.lb is.ub) none rest first one.0 one.1 is.says;
-    }
+vars_join i v vs first rest (end, none_left, is) more = record {
+  nodes = element (codes "var") (var_attributes v is.lb is.ub) none rest;
+  writes = (rest, more, var_before v end first rest is);
+  same = single_before (codes "var") (var_attributes v is.lb is.ub) none rest first end none_left is.says;
+}
 
 pub rows_join : CanJoin (λ i. WriteRows)
 rows_join i r rs first rest one more = record {

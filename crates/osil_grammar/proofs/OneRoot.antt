@@ -8,12 +8,10 @@ end_once end s t p q = p ∙ sym q
 
 vars_once : (vs : List Var) (a b : Nodes) → WriteVars vs a → WriteVars vs b → a ≡ b
 vars_once [] a b p q = p ∙ sym q
-vars_once (v ∷ vs) a b p q =
-    let x = p.2 in
-    let y = q.2 in
+vars_once (v ∷ vs) a b (more, are, x) (others, are_others, y) =
     let low = end_once v.lb x.lb y.lb x.is_lb y.is_lb in
     let high = end_once v.ub x.ub y.ub x.is_ub y.is_ub in
-    let rest = vars_once vs p.0 q.0 p.1 q.1 in
+    let rest = vars_once vs more others are are_others in
     let first = x.says in
     let second = y.says in
     cc

@@ -8,7 +8,7 @@ use Rattle.osil_grammar.specs.declared.elements.Led.TheVariants as led
 use Rattle.osil_grammar.proofs.EntryBounds.{are_within, nothing_within}
 use Rattle.osil_grammar.proofs.RatioRuns.{ratio_length}
 use Rattle.osil_grammar.proofs.RunSteps.{whole_length}
-use Rattle.osil_grammar.proofs.StartTagTests.{at_inf, at_neg_inf, not_end, said_ends}
+use Rattle.osil_grammar.proofs.StartTagTests.{not_end, said_ends}
 use Rattle.osil_grammar.proofs.VarTags.{var_fits}
 use Rattle.osil_grammar.proofs.WholesBelow.{wholes_below}
 
@@ -94,7 +94,7 @@ begin_sound s name as' places.Con z k pass (r, n, says, times, is) =
     let items = k.0.0 in
     subst IsSound (sym is) (
       (
-        more_rows s.vars s.rows n r items few (less_end Inf at_inf says.lb says.constant r.lb says.less_low both.0, less_end NegInf at_neg_inf says.ub says.constant r.ub says.less_high both.1),
+        more_rows s.vars s.rows n r items few (less_end Inf (λ f e. absurd (cc)) says.lb says.constant r.lb says.less_low both.0, less_end NegInf (λ f e. absurd (cc)) says.ub says.constant r.ub says.less_high both.1),
         k.0.1,
         k.0.2,
         below_more s.by_columns (length s.rows) (length (s.rows ++ replicate n r)) (length s.vars) (length s.vars) more (omega arith) s.indices k.0.3,

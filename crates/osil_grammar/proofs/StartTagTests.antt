@@ -12,10 +12,6 @@ use Rattle.osil_grammar.specs.declared.fault.Refusal as code
 abbrev pub AnswersHere : {X : Type 0} → State → List ℕ → List Attribute → List Test → Result X code.Refusal → (X → Type 0) → Type 0
 AnswersHere {X} s name as' ts r Q = MatchResult r (λ x. AllPass (Fails s (Start name as')) ts × Q x) (λ e. FirstFails (Fails s (Start name as')) (refusal s (Start name as')) ts (told_refusal e))
 
--- that there is no variable of the `idx` of a `coef`
-abbrev pub IsNoVariable : State → List Attribute → Type 0
-IsNoVariable s as' = HasSuch as' (codes "idx") (λ text. (j : ℕ) × IsCount text j × (length s.vars ≤ j))
-
 -- the numbers of a start tag
 pub numbers_pass : {X : Type 0} (s : State) (name : List ℕ) (as' : List Attribute) (p : Place) (x : X) (P : X → Type 0) → FieldsRead (IsBad as') (IsTooGreat as') (fields p) (Ok x) P → AllPass (Fails s (Start name as')) (numbers p)
 numbers_pass s name as' p x P h = fields_pass (Fails s (Start name as')) bad too_great (fields p) x P h
@@ -52,12 +48,6 @@ ends_refused s name as' Low High no_low no_high lb ub low high wrong more = elim
 ]
 
 -- ends that pass
-pub at_inf : (f : Frac) → At f ≡ Inf → ⊥
-at_inf f e = cc
-
-pub at_neg_inf : (f : Frac) → At f ≡ NegInf → ⊥
-at_neg_inf f e = cc
-
 pub not_end : (y : End) → ((f : Frac) → At f ≡ y → ⊥) → (x : End) (r : Ratio) → IsEndAt x r → x ≡ y → ⊥
 not_end y never (At f) r h = never f
 not_end y never x r h = absurd h
@@ -156,42 +146,27 @@ pub few_pass : (s : State) (name : List ℕ) (as' : List Attribute) (p : Place) 
 few_pass s name as' p m says few = (not_too_many s as' p m says few, tt)
 
 -- the sense that an `obj` says is one of the two
-sense_among : (o : Option (List ℕ)) (x : Sense) → MatchOption o (x ≡ Min) (λ t. IsSense t x) → IsSomeAnd o (λ t. IsAmong t senses → ⊥) → ⊥
+pub sense_among : (o : Option (List ℕ)) (x : Sense) → MatchOption o (x ≡ Min) (λ t. IsSense t x) → IsSomeAnd o (λ t. IsAmong t senses → ⊥) → ⊥
 sense_among None x h other = other
 sense_among (Some t) Min h other = other (inl h)
 sense_among (Some t) Max h other = other (inr (inl h))
 
-pub sense_known : (as' : List Attribute) (x : Sense) → SaysSense as' x → HasNoSense as' → ⊥
-sense_known as' x h other = sense_among (value_of (codes "maxOrMin") as') x h other
-
 -- the variable of a `coef`
-index_is : (o : Option (List ℕ)) (j : ℕ) → MatchOption o (let d : Option ℕ = Some j in d ≡ None) (λ t. IsDeclared t (Some j)) → IsSomeAnd o (λ t. IsCount t j)
+pub index_is : (o : Option (List ℕ)) (j : ℕ) → MatchOption o (let d : Option ℕ = Some j in d ≡ None) (λ t. IsDeclared t (Some j)) → IsSomeAnd o (λ t. IsCount t j)
 index_is None j h = cc
 index_is (Some t) j h = h.0
 
-pub index_said : (as' : List Attribute) (j : ℕ) → SaysCount as' (codes "idx") (Some j) → SaysIndex as' j
-index_said as' j h = index_is (value_of (codes "idx") as') j h
-
-index_below : (o : Option (List ℕ)) (j n : ℕ) → IsSomeAnd o (λ t. IsCount t j) → j < n → IsSomeAnd o (λ t. (k : ℕ) × IsCount t k × (n ≤ k)) → ⊥
+pub index_below : (o : Option (List ℕ)) (j n : ℕ) → IsSomeAnd o (λ t. IsCount t j) → j < n → IsSomeAnd o (λ t. (k : ℕ) × IsCount t k × (n ≤ k)) → ⊥
 index_below None j n h inside out = out
 index_below (Some t) j n h inside out = let same = count_once t j out.0 h out.1 in let beyond = out.2 in omega arith
 
-pub variable_known : (s : State) (as' : List Attribute) (j : ℕ) → SaysIndex as' j → j < length s.vars → IsNoVariable s as' → ⊥
-variable_known s as' j h inside out = index_below (value_of (codes "idx") as') j (length s.vars) h inside out
-
-index_beyond : (o : Option (List ℕ)) (j n : ℕ) → IsSomeAnd o (λ t. IsCount t j) → n ≤ j → IsSomeAnd o (λ t. (k : ℕ) × IsCount t k × (n ≤ k))
+pub index_beyond : (o : Option (List ℕ)) (j n : ℕ) → IsSomeAnd o (λ t. IsCount t j) → n ≤ j → IsSomeAnd o (λ t. (k : ℕ) × IsCount t k × (n ≤ k))
 index_beyond None j n h out = h
 index_beyond (Some t) j n h out = (j, h, out)
 
-pub variable_unknown : (s : State) (as' : List Attribute) (j : ℕ) → SaysIndex as' j → length s.vars ≤ j → IsNoVariable s as'
-variable_unknown s as' j h out = index_beyond (value_of (codes "idx") as') j (length s.vars) h out
-
-index_there : (o : Option (List ℕ)) → (o ≡ None → ⊥) → MatchOption o (let d : Option ℕ = None in d ≡ None) (λ t. IsDeclared t None) → ⊥
+pub index_there : (o : Option (List ℕ)) → (o ≡ None → ⊥) → MatchOption o (let d : Option ℕ = None in d ≡ None) (λ t. IsDeclared t None) → ⊥
 index_there None some h = some refl
 index_there (Some t) some h = let z = h.1 in cc
-
-pub index_not_none : (as' : List Attribute) → (value_of (codes "idx") as' ≡ None → ⊥) → SaysCount as' (codes "idx") None → ⊥
-index_not_none as' some h = index_there (value_of (codes "idx") as') some h
 
 -- the numbers of an `el` in a list of whole ones
 pub whole_fields : {X : Type 0} (l : Listing) → (l ≡ Values → ⊥) → (as' : List Attribute) (r : Result X Unread) (P : X → Type 0) → FieldsRead (IsBad as') (IsTooGreat as') (mult ∷ field (codes "incr") whole ∷ []) r P → FieldsRead (IsBad as') (IsTooGreat as') (fields (El l)) r P

@@ -1,6 +1,5 @@
 -- A `var`: what it says is one variable; a variable is told with its attributes, which are XML and are read back.
-use Rattle.osil_grammar.proofs.Words.{◌≡◌, ◌∙◌, ◌+◌, ◌≤◌, ℕ, inl, inr, Bool, cond, true, false, List, [], ◌∷◌, ◌++◌, length, refl, ap, sym, subst, arith, lit<, Option, Some, bytes_eq, codes, IsXmlText, Attribute, Nodes, none, element, nodes_events, Building, said, Start, IsNumber, AllPass, ratio, End, NegInf, At, Inf, SaysEnd, only_inf, only_neg_inf, Var, AreEnds, IsVar, AreTooMany, Domain, Continuous, Integer, Binary, SemiContinuous, SemiInteger, raised, lowered, IsBinary, nought, letters, letter_names, IsLetterOf, IsOfDomain, SaysTimes, SaysLow, SaysHigh, SaysVar, EndHasText, WritesVar, type_text, var_attributes, State, begins, tests, Fails, WriteVars, ToldAttributes, EndAttributes, content_told, with_attribute}
-use Rattle.tree_grammar.specs.Tags.{IsAmong}
+use Rattle.osil_grammar.proofs.Words.{◌≡◌, ◌∙◌, ◌+◌, ◌≤◌, ℕ, inl, inr, Bool, cond, true, false, List, [], ◌∷◌, ◌++◌, length, refl, ap, sym, subst, arith, lit<, Option, Some, bytes_eq, codes, IsXmlText, Attribute, Nodes, none, element, nodes_events, Building, said, Start, IsNumber, AllPass, ratio, End, NegInf, At, Inf, SaysEnd, only_inf, only_neg_inf, Var, AreEnds, IsVar, AreTooMany, Domain, Continuous, Integer, Binary, SemiContinuous, SemiInteger, raised, lowered, nought, letters, IsLetterOf, IsOfDomain, SaysTimes, SaysLow, SaysHigh, SaysVar, EndHasText, WritesVar, type_text, var_attributes, State, begins, tests, Fails, WriteVars, ToldAttributes, EndAttributes, content_told, with_attribute}
 use Rattle.evidence.specs.Sums as evidence
 use Rattle.document_tags.specs.Telling.{Told}
 use Rattle.document_tags.proofs.XmlNodes.{IsTag, tag_by}
@@ -10,7 +9,7 @@ use Rattle.osil_grammar.specs.declared.elements.Led.TheVariants as led
 use Rattle.osil_grammar.proofs.Places.{number_either}
 use Rattle.osil_grammar.proofs.Parts.{told_attribute, ToldSome}
 use Rattle.osil_grammar.proofs.TagNumbers.{bound_read, bound_once, end_at_once}
-use Rattle.osil_grammar.proofs.StartTagTests.{said_once, said_ends, at_inf, at_neg_inf, not_end}
+use Rattle.osil_grammar.proofs.StartTagTests.{said_once, domain_known, said_ends, not_end}
 use Rattle.osil_grammar.proofs.PrintableTexts.{end_shown}
 use Rattle.osil_grammar.proofs.RoundTrips.{end_bound}
 
@@ -30,23 +29,19 @@ lowered_number : (x : End) → IsNumber (lowered x)
 lowered_number (At f) = number_either (evidence.is_below (lowered Inf) (ratio f)) (lowered Inf) (ratio f) (lit< tt) f.above
 lowered_number x = lit< tt
 
+abbrev made : (lb ub : End) (whole zero : Bool) → Var
+made lb ub whole zero = record { lb = lb; ub = ub; whole = whole; zero = zero }
+
 same_var : (v w : Var) → v.lb ≡ w.lb → v.ub ≡ w.ub → v.whole ≡ w.whole → v.zero ≡ w.zero → v ≡ w
-same_var v w a b c d =
-    let low : v ≡ record { lb = w.lb; ub = v.ub; whole = v.whole; zero = v.zero } = ap (λ (x : End). record { lb = x; ub = v.ub; whole = v.whole; zero = v.zero }) a in
-    let high : v ≡ record { lb = w.lb; ub = w.ub; whole = v.whole; zero = v.zero } = low ∙ ap (λ (x : End). record { lb = w.lb; ub = x; whole = v.whole; zero = v.zero }) b in
-    let same : v ≡ record { lb = w.lb; ub = w.ub; whole = w.whole; zero = v.zero } = high ∙ ap (λ (x : Bool). record { lb = w.lb; ub = w.ub; whole = x; zero = v.zero }) c in
-    same ∙ ap (λ (x : Bool). record { lb = w.lb; ub = w.ub; whole = w.whole; zero = x }) d
+same_var v w a b c d = ap (λ (x : End). made x v.ub v.whole v.zero) a ∙ ap (λ (x : End). made w.lb x v.whole v.zero) b ∙ ap (λ (x : Bool). made w.lb w.ub x v.zero) c ∙ ap (λ (x : Bool). made w.lb w.ub w.whole x) d
 
 as_said : (lb ub : End) (whole semi : Bool) (v w : Var) → (v.lb ≡ lb) × (v.ub ≡ ub) × (v.whole ≡ whole) × (v.zero ≡ semi) → (w.lb ≡ lb) × (w.ub ≡ ub) × (w.whole ≡ whole) × (w.zero ≡ semi) → v ≡ w
 as_said lb ub whole semi v w a b = same_var v w (a.0 ∙ sym b.0) (a.1 ∙ sym b.1) (a.2 ∙ sym b.2) (a.3 ∙ sym b.3)
 
-as_binary : (lb ub : End) (v w : Var) → IsBinary lb ub v → IsBinary lb ub w → v ≡ w
-as_binary lb ub v w a b = same_var v w (end_at_once (raised lb) (raised_number lb) v.lb w.lb a.0 b.0) (end_at_once (lowered ub) (lowered_number ub) v.ub w.ub a.1 b.1) (a.2 ∙ sym b.2) (a.3 ∙ sym b.3)
-
 of_domain_once : (d : Domain) (lb ub : End) (v w : Var) → IsOfDomain d lb ub v → IsOfDomain d lb ub w → v ≡ w
 of_domain_once Continuous lb ub v w a b = as_said lb ub false false v w a b
 of_domain_once Integer lb ub v w a b = as_said lb ub true false v w a b
-of_domain_once Binary lb ub v w a b = as_binary lb ub v w a b
+of_domain_once Binary lb ub v w a b = same_var v w (end_at_once (raised lb) (raised_number lb) v.lb w.lb a.0 b.0) (end_at_once (lowered ub) (lowered_number ub) v.ub w.ub a.1 b.1) (a.2 ∙ sym b.2) (a.3 ∙ sym b.3)
 of_domain_once SemiContinuous lb ub v w a b = as_said lb ub false true v w a b
 of_domain_once SemiInteger lb ub v w a b = as_said lb ub true true v w a b
 
@@ -75,13 +70,13 @@ var_once as' v w a b =
 
 -- IT IS ONE OF AN INSTANCE, and there is room for it, where all tests pass
 domain_ends : (d : Domain) (lb ub : End) (v : Var) → IsOfDomain d lb ub v → AreEnds lb ub → AreEnds v.lb v.ub
-domain_ends Binary lb ub v is both = (not_end Inf at_inf v.lb (raised lb) is.0, not_end NegInf at_neg_inf v.ub (lowered ub) is.1)
+domain_ends Binary lb ub v is both = (not_end Inf (λ f e. absurd (cc)) v.lb (raised lb) is.0, not_end NegInf (λ f e. absurd (cc)) v.ub (lowered ub) is.1)
 domain_ends d lb ub v is both = ((λ e. both.0 (sym is.0 ∙ e)), (λ e. both.1 (sym is.1 ∙ e)))
 
 pub var_fits : (s : State) (name : List ℕ) (as' : List Attribute) (v : Var) → AllPass (Fails s (Start name as')) (tests (begins (led.To places.Var))) → SaysVar as' v → IsVar v × (AreTooMany s as' places.Var → ⊥)
 var_fits s name as' v pass says =
     let others = pass.1.1.1.1.1.1.1 in
-    let both = said_ends as' (λ x. x ≡ At nought) (λ x. x ≡ Inf) (λ e. at_inf nought (sym e)) (λ e. absurd (cc)) says.lb says.ub says.low says.high others.0 others.1.0 in
+    let both = said_ends as' (λ x. x ≡ At nought) (λ x. x ≡ Inf) (λ e. absurd (cc)) (λ e. absurd (cc)) says.lb says.ub says.low says.high others.0 others.1.0 in
     (domain_ends says.domain says.lb says.ub v says.is both, others.1.1.0)
 
 -- TOLD by its type and its ends
@@ -110,36 +105,19 @@ pub var_before : (v : Var) (more nodes rest : Nodes) (is : WritesVar v more node
 var_before v more nodes rest is = record { lb = is.lb; ub = is.ub; is_lb = is.is_lb; is_ub = is.is_ub; says = refl }
 
 -- AND ARE READ BACK
-abbrev domain_of : (whole semi : Bool) → Domain
-domain_of false false = Continuous
-domain_of true false = Integer
-domain_of false true = SemiContinuous
-domain_of true true = SemiInteger
-
-letter_of : (w z : Bool) → IsLetterOf letters (type_text w z) (domain_of w z)
-letter_of false false = inl (refl, refl)
-letter_of true false = inr (inr (inl (refl, refl)))
-letter_of false true = inr (inr (inr (inl (refl, refl))))
-letter_of true true = inr (inr (inr (inr (inl (refl, refl)))))
-
-domain_is : (v : Var) (w z : Bool) → v.whole ≡ w → v.zero ≡ z → IsOfDomain (domain_of w z) v.lb v.ub v
-domain_is v false false whole semi = (refl, refl, whole, semi)
-domain_is v true false whole semi = (refl, refl, whole, semi)
-domain_is v false true whole semi = (refl, refl, whole, semi)
-domain_is v true true whole semi = (refl, refl, whole, semi)
-
-type_known : (w z : Bool) → (IsAmong (type_text w z) letter_names → ⊥) → ⊥
-type_known false false out = out (inl refl)
-type_known true false out = out (inr (inr (inl refl)))
-type_known false true out = out (inr (inr (inr (inl refl))))
-type_known true true out = out (inr (inr (inr (inr (inl refl)))))
+typed : (v : Var) (w z : Bool) → v.whole ≡ w → v.zero ≡ z → (d : Domain) × IsLetterOf letters (type_text w z) d × IsOfDomain d v.lb v.ub v
+typed v false false whole semi = (Continuous, inl (refl, refl), (refl, refl, whole, semi))
+typed v true false whole semi = (Integer, inr (inr (inl (refl, refl))), (refl, refl, whole, semi))
+typed v false true whole semi = (SemiContinuous, inr (inr (inr (inl (refl, refl)))), (refl, refl, whole, semi))
+typed v true true whole semi = (SemiInteger, inr (inr (inr (inr (inl (refl, refl))))), (refl, refl, whole, semi))
 
 pub var_comes_back : (s : State) (v : Var) (more nodes : Nodes) (is : WritesVar v more nodes) → EndHasText v.lb × EndHasText v.ub → IsVar v → length s.vars + 1 ≤ 1000 → AllPass (Fails s (Start (codes "var") (var_attributes v is.lb is.ub))) (tests (begins (led.To places.Var))) × SaysVar (var_attributes v is.lb is.ub) v
 var_comes_back s v more nodes is has ends few =
     let low = end_bound v.lb is.lb has.0 is.is_lb in
     let high = end_bound v.ub is.ub has.1 is.is_ub in
     let l = bound_read is.lb v.lb low in
-    let h = bound_read is.ub v.ub high in (
-      (λ b. b l.0, (λ b. b h.0, (λ b. b, (λ w. l.1 w, (λ w. h.1 w, (λ w. w, (λ o. type_known v.whole v.zero o, (λ i. ends.0 (only_inf is.lb v.lb low i), (λ i. ends.1 (only_neg_inf is.ub v.ub high i), (λ m. let one = m.1 in let many = m.2 in omega (arith, one, many, few), tt)))))))))),
-      record { lb = v.lb; ub = v.ub; domain = domain_of v.whole v.zero; low = low; high = high; type = letter_of v.whole v.zero; is = domain_is v v.whole v.zero refl refl },
+    let h = bound_read is.ub v.ub high in
+    let type = typed v v.whole v.zero refl refl in (
+      (λ b. b l.0, (λ b. b h.0, (λ b. b, (λ w. l.1 w, (λ w. h.1 w, (λ w. w, (λ o. domain_known (var_attributes v is.lb is.ub) type.0 type.1 o, (λ i. ends.0 (only_inf is.lb v.lb low i), (λ i. ends.1 (only_neg_inf is.ub v.ub high i), (λ m. let one = m.1 in let many = m.2 in omega (arith, one, many, few), tt)))))))))),
+      record { lb = v.lb; ub = v.ub; domain = type.0; low = low; high = high; type = type.1; is = type.2 },
     )

@@ -199,10 +199,6 @@ read_costs s k p (c ∷ cs) nodes count j has (inr (some, text, more, plain, res
     (read_cost s n m i j old text done (zeros cs) c size (omega (arith, fit)) (omega (arith, fit, few)) (plain_decimal c text plain (All-head HasDecimal c cs has)) (spread (nodes_events (local_nodes more) k)) p
     (subst (λ (l : List Frac). Reads (in_obj s (n + 1) (m + 1) j text l) (spread (nodes_events (local_nodes more) k)) p) (done_more done (zeros cs) c) next))
 
-pub sense_known : (x : Sense) → (IsAmong (sense_text x) senses → ⊥) → ⊥
-sense_known Min out = out (inl refl)
-sense_known Max out = out (inr (inl refl))
-
 pub sense_said : (x : Sense) → IsSense (sense_text x) x
 sense_said Min = refl
 sense_said Max = refl

@@ -6,7 +6,8 @@ use Rattle.osil_grammar.specs.declared.elements.Part.TheVariants as parts
 use Rattle.osil_grammar.proofs.Documents.{counts_few}
 use Rattle.osil_grammar.proofs.RoundTrips.{plain_decimal, count_read}
 use Rattle.osil_grammar.proofs.TagNumbers as numbers
-use Rattle.osil_grammar.proofs.WrittenItems.{Reads, read_one, in_vars, read_vars, in_rows, read_rows, in_obj, zeros, read_costs, sense_known, sense_said}
+use Rattle.osil_grammar.proofs.WrittenItems.{Reads, read_one, in_vars, read_vars, in_rows, read_rows, in_obj, zeros, read_costs, sense_said}
+use Rattle.osil_grammar.proofs.StartTagTests.{sense_among}
 use Rattle.osil_grammar.proofs.WrittenLists.{AreFine, at_matrix, behind_matrix, read_matrix}
 
 -- a count that is declared
@@ -92,7 +93,7 @@ module _ (s : State) (k : List Event) (p : Parts) (g : Goal) (more nodes : Nodes
       let says = declared is.count few_costs in
       let count = numbers.count_read (digits is.count) (Some is.count) says in (
         (
-          λ o. sense_known g.sense o,
+          λ o. sense_among (Some (sense_text g.sense)) g.sense (sense_said g.sense) o,
           (λ b. b fine.0, (λ b. b count.0, (λ b. b, (λ w. fine.1 w, (λ w. count.1 w, (λ w. w, (λ m. let one = m.1 in let many = m.2 in omega (arith, one, many, room), tt))))))),
         ),
         (g.sense, g.constant, Some is.count, 1, sense_said g.sense, reads, says, refl, refl),
