@@ -10,7 +10,7 @@ use Rattle.no_cycles.specs.Searches.{is_turn_limit, is_out_of_turns}
 use Rattle.no_cycles.proofs.Searched.{early_is, closed_is}
 use Rattle.branch_bound.specs.declared.ended.Ended.{Ended}
 use Rattle.branch_bound.specs.declared.ended.Ended.TheVariants as Has
-use Rattle.branch_bound.specs.Claims.{Tells, cause_of, is_kill, is_killed}
+use Rattle.branch_bound.specs.Claims.{ClaimTells, cause_of, is_kill, is_killed}
 use Rattle.branch_bound.specs.Walks.{best}
 use Rattle.branch_bound.specs.Cases.{outcome_of, was_killed}
 
@@ -19,8 +19,8 @@ killed_is (Has.Unbounded f r) = refl
 killed_is (Has.Early b c) = early_is is_kill (best b) c
 
 -- where no case is left, or memory is wanting then
-pub told_closed : (m : Moment) (claim : Claim) → Tells claim (closed m.best m.nodes) ⊎ Tells claim (early m.best Memory)
-    → (o : Outcome) × Tells claim o × (is_killed o ≡ false) × ((I : Instance) (t : Terms) → m.waiting ≡ [] → ComesInSearch I t m → IsSearchAnswer I t o m.clock)
+pub told_closed : (m : Moment) (claim : Claim) → ClaimTells claim (closed m.best m.nodes) ⊎ ClaimTells claim (early m.best Memory)
+    → (o : Outcome) × ClaimTells claim o × (is_killed o ≡ false) × ((I : Instance) (t : Terms) → m.waiting ≡ [] → ComesInSearch I t m → IsSearchAnswer I t o m.clock)
 told_closed m claim (inl tells) = (closed m.best m.nodes, tells, closed_is is_kill m.best m.nodes, λ I t none comes. searched (record { last = m; comes = comes; ends = inl (none, refl) }))
 told_closed m claim (inr tells) = (early m.best Memory, tells, early_is is_kill m.best Memory, λ I t none comes. given_up comes)
 

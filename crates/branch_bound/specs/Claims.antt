@@ -48,7 +48,7 @@ claims_for such (Has.BestSoFar x vs c) = such c
 claims_for such (Has.Unsure c) = such c
 
 -- the claim tells the outcome: what it says, and the cause
-pub record Tells (claim : Claim) (o : Outcome) : Type 0 where
+pub record ClaimTells (claim : Claim) (o : Outcome) : Type 0 where
   pub says : Means.claim claim ≡ said o
   pub cause : claimed_cause claim ≡ cause_of o
 

@@ -6,7 +6,7 @@ ghost use Rattle.certificate.specs.Meanings as Means;
 ghost use Rattle.certificate.specs.declared.causes.Cause.TheVariants.{Memory};
 ghost use Rattle.simplex_rules.specs.Ends.{Clock};
 ghost use Rattle.search_rules.specs.Search.{early, closed, too_wide as too_wide_at, closed_by_leaf as leaf_of, branch as branch_of};
-ghost use Rattle.branch_bound.specs.Claims.{Tells, is_kill};
+ghost use Rattle.branch_bound.specs.Claims.{ClaimTells, is_kill};
 ghost use Rattle.branch_bound.specs.Walks.{best as best_of, case, rest, moment, IsWalk, IsAt};
 ghost use Rattle.branch_bound.specs.Cases.{outcome_of, was_killed};
 
@@ -39,7 +39,7 @@ pub fn too_wide(walk: &mut Walk, turn: u64, step: Step) -> Ended
 
 /// The claim of a search that ends before all its cases are closed.
 pub fn claim_of(alloc: Global, ended: Ended) -> Claim
-    ensures { Tells result (outcome_of ended) }
+    ensures { ClaimTells result (outcome_of ended) }
 {
     match ended {
         Ended::Unbounded { found, ray } => Claim::Unbounded {
@@ -71,7 +71,7 @@ fn only(alloc: Global, nodes: Nodes) -> Result<Certs, AllocError>
 
 /// The claim where all cases are closed. Where there is no memory for it, the search is given up.
 pub fn all_closed(alloc: Global, best: Option<Found>, nodes: Nodes) -> Claim
-    ensures { Tells result (closed (best_of best) (Means.nodes nodes)) ⊎ Tells result (early (best_of best) Memory) }
+    ensures { ClaimTells result (closed (best_of best) (Means.nodes nodes)) ⊎ ClaimTells result (early (best_of best) Memory) }
 {
     let Some(found) = best else {
         let rounds = Items::new(alloc);

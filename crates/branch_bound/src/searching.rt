@@ -8,7 +8,7 @@ ghost use Rattle.simplex_rules.specs.Looks.{answers, AgreesWith, looks_after};
 ghost use Rattle.search_rules.specs.Search.{Outcome, IsSearchAnswer, first};
 ghost use Rattle.search_rules.specs.Outcomes.{IsPlain};
 ghost use Rattle.no_cycles.specs.Beginning.{BeginsFeasible};
-ghost use Rattle.branch_bound.specs.Claims.{Tells, claimed_cause, is_killed};
+ghost use Rattle.branch_bound.specs.Claims.{ClaimTells, claimed_cause, is_killed};
 ghost use Rattle.branch_bound.specs.Walks.{moment, IsWalk, IsAt};
 ghost use Rattle.branch_bound.specs.Cases.{terms, HasSize, clock_at, is_killed_by, FollowsStep};
 
@@ -100,7 +100,7 @@ fn explore<W: Watch, L: Ledger>(
     requires walk { IsWalk (length instance.now.vars) walk }
     requires first { moment (program instance.now) walk (clock_at relaxation.old 0) ≡ first (program instance.now) }
     requires stops { W.stops watch.old < 2 ^ 64 - 1 }
-    ensures answer { (n : ℕ) × (o : Outcome) × Tells result o × W.came watch.old watch.new (answers n (is_killed o)) × ((stop : Option ℕ) → AgreesWith stop 0 n (is_killed o) → IsSearchAnswer (program instance.now) (terms limits stop) o (clock_at relaxation.new (looks_after 0 n (is_killed o)))) }
+    ensures answer { (n : ℕ) × (o : Outcome) × ClaimTells result o × W.came watch.old watch.new (answers n (is_killed o)) × ((stop : Option ℕ) → AgreesWith stop 0 n (is_killed o) → IsSearchAnswer (program instance.now) (terms limits stop) o (clock_at relaxation.new (looks_after 0 n (is_killed o)))) }
     ensures counted { steps.old ≤ steps.new }
 {
     while let Some(depth) = walk.next {
@@ -173,7 +173,7 @@ pub fn search<W: Watch, L: Ledger>(
     steps: &mut Steps<L>,
 ) -> Searched
     requires { W.stops watch.old < 2 ^ 64 - 1 }
-    ensures answer { (n : ℕ) × (o : Outcome) × Tells result.claim o × W.came watch.old watch.new (answers n (is_killed o)) × ((stop : Option ℕ) → AgreesWith stop 0 n (is_killed o) → IsSearchAnswer (program instance.now) (record { nodes = nodes; turns = turns; stop = stop }) o (record { turns = result.turns; looks = looks_after 0 n (is_killed o) })) }
+    ensures answer { (n : ℕ) × (o : Outcome) × ClaimTells result.claim o × W.came watch.old watch.new (answers n (is_killed o)) × ((stop : Option ℕ) → AgreesWith stop 0 n (is_killed o) → IsSearchAnswer (program instance.now) (record { nodes = nodes; turns = turns; stop = stop }) o (record { turns = result.turns; looks = looks_after 0 n (is_killed o) })) }
     ensures enough { IsPlain (program instance.now) → BeginsFeasible (program instance.now) → 4 ^ (length instance.now.vars + length instance.now.rows) ≤ turns → (n : ℕ) → claimed_cause result.claim ≡ Some (causes.TurnLimit n) → ⊥ }
     ensures counted { steps.old ≤ steps.new }
 {

@@ -26,7 +26,7 @@ use Rattle.cert_checker.specs.Leaves.{LeafRefuses}
 use Rattle.cert_checker.specs.Trees.{TreeRefuses}
 use Rattle.cert_checker.specs.RoundRefusals.{RoundRefuses, RoundsRefuse, IsAfterRounds}
 use Rattle.cert_checker.specs.LevelRefusals.{Ending, Best, Endless, LevelRefuses, LevelsRefuse, AreEnough, CertificatesRefuse, ClaimRoundsRefuse}
-use Rattle.cert_checker.specs.Settled.{Settles, IsReached, AreSettled, IsForWidth}
+use Rattle.cert_checker.specs.Settled.{Settles, IsReachedValue, AreSettled, IsForWidth}
 use Rattle.cert_checker.specs.Refusals.{IsRefusedFor}
 use Rattle.cert_checker.proofs.Moves.{slope_is}
 use Rattle.cert_checker.proofs.Multipliers.{pair_of}
@@ -108,7 +108,7 @@ level_wide I c z level r good s (J, why, after, q, e) =
     let t = tree_wide (J ∷ []) c.nodes z 1 why (alone J c.nodes z (settled_after c.rounds I J c.nodes z good s after)) q in
     inr (level, t.0, e ∙ ap (Level level) t.1)
 
-settled_step : (end : Ending) (I : Instance) (g : Goal) (gs : List Goal) (v : Ratio) (vs : List Ratio) (c : Certificate) (cs : List Certificate) → AreSettled end I (g ∷ gs) (v ∷ vs) (c ∷ cs) → Settles I c.rounds c.nodes (Some (minimising I v)) × (e : Ratio) × IsReached I v e × AreSettled end (next_level I e g) gs vs cs
+settled_step : (end : Ending) (I : Instance) (g : Goal) (gs : List Goal) (v : Ratio) (vs : List Ratio) (c : Certificate) (cs : List Certificate) → AreSettled end I (g ∷ gs) (v ∷ vs) (c ∷ cs) → Settles I c.rounds c.nodes (Some (minimising I v)) × (e : Ratio) × IsReachedValue I v e × AreSettled end (next_level I e g) gs vs cs
 settled_step Best I g gs v vs c cs s = s
 settled_step (Endless x d) I g gs v vs c cs s = s
 

@@ -18,7 +18,7 @@ Settles I [] nodes z = (tree : Tree) × (nodes ≡ preorder tree) × Shows I tre
 Settles I (ms ∷ rounds) nodes z = (cs : List ℤ) × (k : ℤ) × IsRoundingCut I ms cs k × Settles (derive I cs k) rounds nodes z
 
 -- e, in lowest terms, is the minimising value v without the goal's constant
-pub record IsReached (I : Instance) (v e : Ratio) : Type 0 where
+pub record IsReachedValue (I : Instance) (v e : Ratio) : Type 0 where
   pub reduced : IsReduced e
   pub same : IsSame e (sum (minimising I v) (negative (minimising I I.goal.constant)))
 
@@ -27,7 +27,7 @@ abbrev pub AreSettled : Ending → Instance → List Goal → List Ratio → Lis
 AreSettled Best I gs vs [] = ⊥
 AreSettled (Endless x d) I gs vs [] = IsRay I x d
 AreSettled Best I [] (v ∷ vs) (c ∷ cs) = Settles I c.rounds c.nodes (Some (minimising I v))
-AreSettled end I (g ∷ gs) (v ∷ vs) (c ∷ cs) = Settles I c.rounds c.nodes (Some (minimising I v)) × (e : Ratio) × IsReached I v e × AreSettled end (next_level I e g) gs vs cs
+AreSettled end I (g ∷ gs) (v ∷ vs) (c ∷ cs) = Settles I c.rounds c.nodes (Some (minimising I v)) × (e : Ratio) × IsReachedValue I v e × AreSettled end (next_level I e g) gs vs cs
 AreSettled end I gs vs cs = ⊥
 
 -- a sum doesn't fit

@@ -7,8 +7,8 @@ use Rattle.effects.specs.Stores.{fault_of}
 use Rattle.effects.proofs.Faults.{as_fault}
 use Rattle.effects.specs.declared.store.NotStored.{NotStored}
 use Rattle.effects.specs.declared.store.NotStored.TheVariants.{Disk, Broken, Long}
-use Rattle.job_journal.specs.Journal.{StandsFor, IsBeforeOrAfter, IsAtRest, is_too_long}
-use Rattle.job_journal.specs.Ready.{Keeps}
+use Rattle.job_journal.specs.Journal.{FileStandsFor, IsBeforeOrAfter, FileRests, is_too_long}
+use Rattle.job_journal.specs.Ready.{KeepsDeeds}
 
 unbroken_by : (b : Bool) (P : Type 0) → (P ↔ (b ≡ true)) → (P → ⊥) → b ≡ false
 unbroken_by false P broken never = refl
@@ -16,10 +16,10 @@ unbroken_by true P broken never = absurd (never (broken.1 refl))
 
 module _ {D : Type 0} (told : D → Bool) (seen : D → List ℕ) (may_leave : D → List ℕ → Type 0) (moment : D → ℕ) (left_since : D → ℕ → List ℕ → Type 0) where
   abbrev K : D → ℕ → Bool → List Deed → Type 0
-  K disk end broken deeds = Keeps told seen may_leave disk end broken deeds
+  K disk end broken deeds = KeepsDeeds told seen may_leave disk end broken deeds
 
   module _ (old new : D) (m n : ℕ) (b c : Bool) (d : Deed) (res : Result (Unit {0}) NotStored) (same : told new ≡ told old) (broken : IsErrOf res Broken ↔ (b ≡ true)) where
-    one_more : b ≡ false → (deeds : List Deed) → (told old ≡ true → IsAtRest seen may_leave old m deeds → IsAtRest seen may_leave new n (deeds ++ d ∷ [])) → K old m b deeds → K new n c (deeds ++ d ∷ [])
+    one_more : b ≡ false → (deeds : List Deed) → (told old ≡ true → FileRests seen may_leave old m deeds → FileRests seen may_leave new n (deeds ++ d ∷ [])) → K old m b deeds → K new n c (deeds ++ d ∷ [])
     one_more intact deeds stored keeps = record {
       at_rest = λ t _. stored (sym same ∙ t) (keeps.at_rest (sym same ∙ t) intact);
       crash = λ t f left.
@@ -27,12 +27,12 @@ module _ {D : Type 0} (told : D → Bool) (seen : D → List ℕ) (may_leave : D
           inl (inl (record { gate = rest.gate; after = []; shut = rest.shut; is = rest.durable f left ∙ rest.file }));
     }
 
-    either : (deeds : List Deed) (f : List ℕ) → IsBeforeOrAfter deeds d f → StandsFor deeds f ⊎ ((e : Deed) × StandsFor (deeds ++ e ∷ []) f)
+    either : (deeds : List Deed) (f : List ℕ) → IsBeforeOrAfter deeds d f → FileStandsFor deeds f ⊎ ((e : Deed) × FileStandsFor (deeds ++ e ∷ []) f)
     either deeds f (inl before) = inl before
     either deeds f (inr after) = inr (d, after)
 
     no_more : b ≡ false → c ≡ true → ((t : ℕ) (f : List ℕ) → t ≤ moment new → may_leave new f → left_since new t f) → (deeds : List Deed)
-        → (told old ≡ true → IsAtRest seen may_leave old m deeds → LeavesOnly moment left_since old new (IsBeforeOrAfter deeds d)) → K old m b deeds → K new n c deeds
+        → (told old ≡ true → FileRests seen may_leave old m deeds → LeavesOnly moment left_since old new (IsBeforeOrAfter deeds d)) → K old m b deeds → K new n c deeds
     no_more intact shut now deeds leaves keeps = record {
       at_rest = λ t again. let wrong : true ≡ false = sym shut ∙ again in cc;
       crash = λ t f left.
@@ -46,7 +46,7 @@ module _ {D : Type 0} (told : D → Bool) (seen : D → List ℕ) (may_leave : D
 module _ {D : Type 0} (told : D → Bool) (seen : D → List ℕ) (may_leave : D → List ℕ → Type 0) (moment : D → ℕ) (left_since : D → ℕ → List ℕ → Type 0) where
   module _ (old new : D) (m n : ℕ) (b c : Bool) (d : Deed) (same : told new ≡ told old) where
     pub keeps_stored : (res : Result (Unit {0}) NotStored) → (IsErrOf res Broken ↔ (b ≡ true))
-        → OnOk res ((deeds : List Deed) → told old ≡ true → IsAtRest seen may_leave old m deeds → IsAtRest seen may_leave new n (deeds ++ d ∷ []))
+        → OnOk res ((deeds : List Deed) → told old ≡ true → FileRests seen may_leave old m deeds → FileRests seen may_leave new n (deeds ++ d ∷ []))
         → OnOk res ((deeds : List Deed) → K told seen may_leave moment left_since old m b deeds → K told seen may_leave moment left_since new n c (deeds ++ d ∷ []))
     keeps_stored (Ok x) broken stored = λ deeds keeps.
         one_more told seen may_leave moment left_since old new m n b c d (Ok x) same broken (unbroken_by b (IsErrOf (Ok x) Broken) broken (λ e. cc)) deeds (stored deeds) keeps
@@ -54,7 +54,7 @@ module _ {D : Type 0} (told : D → Bool) (seen : D → List ℕ) (may_leave : D
 
     pub keeps_refused : (res : Result (Unit {0}) NotStored) → (IsErrOf res Broken ↔ (b ≡ true)) → ((c ≡ true) ↔ ((b ≡ true) ⊎ IsErrOf res Disk))
         → ((t : ℕ) (f : List ℕ) → t ≤ moment new → may_leave new f → left_since new t f)
-        → ((deeds : List Deed) → told old ≡ true → IsAtRest seen may_leave old m deeds → LeavesOnly moment left_since old new (IsBeforeOrAfter deeds d))
+        → ((deeds : List Deed) → told old ≡ true → FileRests seen may_leave old m deeds → LeavesOnly moment left_since old new (IsBeforeOrAfter deeds d))
         → (IsErrOf res Broken → (new ≡ old) × (n ≡ m) × (c ≡ b)) → (IsErrOf res Long → (new ≡ old) × (n ≡ m) × (c ≡ b))
         → OnErr res ((deeds : List Deed) → K told seen may_leave moment left_since old m b deeds → K told seen may_leave moment left_since new n c deeds)
     keeps_refused (Ok x) broken breaks now leaves is_broken is_long = tt

@@ -4,15 +4,15 @@ use Rattle.effects.specs.Records.{Deed, records, EndsBehind}
 use Rattle.disks.specs.Disks.{Only}
 
 -- the file stands for these: their records, and an end behind a gate that isn't 1; or for none, with at most one byte
-abbrev pub StandsFor : List Deed → List ℕ → Type 0
-StandsFor deeds file = EndsBehind deeds file ⊎ ((deeds ≡ []) × (length file ≤ 1))
+abbrev pub FileStandsFor : List Deed → List ℕ → Type 0
+FileStandsFor deeds file = EndsBehind deeds file ⊎ ((deeds ≡ []) × (length file ≤ 1))
 
 -- the file stands for these, with one more or without it
 abbrev pub IsBeforeOrAfter : List Deed → Deed → List ℕ → Type 0
-IsBeforeOrAfter deeds d file = StandsFor deeds file ⊎ StandsFor (deeds ++ d ∷ []) file
+IsBeforeOrAfter deeds d file = FileStandsFor deeds file ⊎ FileStandsFor (deeds ++ d ∷ []) file
 
 -- the file is records of these and a gate that isn't 1, at that place, and a crash leaves it so
-pub record IsAtRest {D : Type 0} (seen : D → List ℕ) (may_leave : D → List ℕ → Type 0) (disk : D) (end : ℕ) (deeds : List Deed) : Type 0 where
+pub record FileRests {D : Type 0} (seen : D → List ℕ) (may_leave : D → List ℕ → Type 0) (disk : D) (end : ℕ) (deeds : List Deed) : Type 0 where
   pub gate : ℕ
   pub shut : gate ≢ 1
   pub file : seen disk ≡ records deeds ++ gate ∷ []
@@ -25,4 +25,4 @@ is_too_long end size = nat_le 4194340 size || nat_lt (2 ^ 40) (end + size + 2)
 
 -- the file stands for these, and the first k of more, where k is at most n
 abbrev pub StandsUpTo : List Deed → List Deed → ℕ → List ℕ → Type 0
-StandsUpTo deeds more n file = (k : ℕ) × (k ≤ n) × StandsFor (deeds ++ take k more) file
+StandsUpTo deeds more n file = (k : ℕ) × (k ≤ n) × FileStandsFor (deeds ++ take k more) file

@@ -3,7 +3,7 @@ use Rattle.std.specs.Prelude.{◌≡◌, ℕ, ◌<◌, Bool, List, ◌∷◌, �
 use Rattle.effects.specs.Records.{Deed, body, records, Fits, AllFit, EndsBehind}
 use Rattle.effects.specs.Fold.{Ledger, nothing, Folds, step}
 use Rattle.disks.specs.Disks.{LeavesOnly}
-use Rattle.job_journal.specs.Journal.{IsAtRest, StandsFor}
+use Rattle.job_journal.specs.Journal.{FileRests, FileStandsFor}
 use Rattle.job_journal.specs.declared.scanning.OpenFault.{OpenFault}
 use Rattle.job_journal.specs.declared.scanning.OpenFault.TheVariants.{ReadFault, WriteFault, Damaged, Memory}
 use Rattle.os_io.specs.Streams.{HasRisen}
@@ -17,7 +17,7 @@ pub record Calm {D : Type 0} (told : D → Bool) (seen : D → List ℕ) (may_le
 
 module _ (accepts : List ℕ → List ℕ → Bool) where
   -- the bytes are records of effects, each possible and accepted after those before, and a rest that isn't empty
-  pub record Reached (bytes rest : List ℕ) (ledger : Ledger) : Type 0 where
+  pub record IsReadUpTo (bytes rest : List ℕ) (ledger : Ledger) : Type 0 where
     pub deeds : List Deed
     pub fit : AllFit deeds
     pub folds : Folds accepts nothing deeds ledger
@@ -25,7 +25,7 @@ module _ (accepts : List ℕ → List ℕ → Bool) where
     pub some : 0 < length rest
 
   -- the records end at a gate at that place, which isn't 1
-  pub record Reads (bytes : List ℕ) (place : ℕ) (ledger : Ledger) : Type 0 where
+  pub record ReadsRecords (bytes : List ℕ) (place : ℕ) (ledger : Ledger) : Type 0 where
     pub deeds : List Deed
     pub fit : AllFit deeds
     pub folds : Folds accepts nothing deeds ledger
@@ -45,7 +45,7 @@ module _ (accepts : List ℕ → List ℕ → Bool) where
     pub none : (d : Deed) (gate : ℕ) (after : List ℕ) → Fits d → behind ≡ body d ++ gate ∷ after → step accepts d ledger ≡ None
 
   -- the bytes begin with the record of an effect that leads from one ledger to the other, and this follows it, which isn't empty
-  pub record Takes (bytes : List ℕ) (old : Ledger) (after : List ℕ) (new : Ledger) : Type 0 where
+  pub record CutsRecord (bytes : List ℕ) (old : Ledger) (after : List ℕ) (new : Ledger) : Type 0 where
     pub deed : Deed
     pub fits : Fits deed
     pub is : bytes ≡ body deed ++ after
@@ -54,7 +54,7 @@ module _ (accepts : List ℕ → List ℕ → Bool) where
 
   -- the same, or no record stands there with a gate behind it that is possible and accepted
   abbrev pub TakesRecord : List ℕ → Ledger → Option (List ℕ) → Ledger → Type 0
-  TakesRecord bytes old (Some after) new = Takes bytes old after new
+  TakesRecord bytes old (Some after) new = CutsRecord bytes old after new
   TakesRecord bytes old None new = (d : Deed) (gate : ℕ) (after : List ℕ) → Fits d → bytes ≡ body d ++ gate ∷ after → step accepts d old ≡ None
 
   -- what a scan answers where it gives no place
@@ -73,8 +73,8 @@ module _ (accepts : List ℕ → List ℕ → Bool) where
     pub deeds : List Deed
     pub fit : AllFit deeds
     pub folds : Folds accepts nothing deeds ledger
-    pub stands : StandsFor deeds file
-    pub rests : IsAtRest seen may_leave disk end deeds
+    pub stands : FileStandsFor deeds file
+    pub rests : FileRests seen may_leave disk end deeds
 
 -- a failed read, write, cut or sync was counted where that is answered, and else the count stays
 abbrev pub CountsFault : {X : Type 0} → Result X OpenFault → ℕ → ℕ → Type 0
@@ -90,10 +90,10 @@ CountsBack of_journal faults (Err (WriteFault, disk)) before = HasRisen before (
 CountsBack of_journal faults (Err (_, disk)) before = faults disk ≡ before
 
 -- the fault is one of reading
-abbrev pub IsUnread : OpenFault → Type 0
-IsUnread ReadFault = Unit {0}
-IsUnread Memory = Unit {0}
-IsUnread _ = ⊥
+abbrev pub IsReadingFault : OpenFault → Type 0
+IsReadingFault ReadFault = Unit {0}
+IsReadingFault Memory = Unit {0}
+IsReadingFault _ = ⊥
 
 -- the fault isn't one of the file
 abbrev pub IsUnfound : OpenFault → Type 0

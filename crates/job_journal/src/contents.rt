@@ -2,7 +2,7 @@
 
 ghost use Rattle.std.specs.Prelude.{◌≡◌, ◌<◌, ◌≤◌, List, ℕ, true, length, IfOk, IfErr, OnOk};
 ghost use Rattle.os_io.specs.Streams.{Counts};
-ghost use Rattle.job_journal.specs.Opening.{Calm, CountsFault, IsUnread};
+ghost use Rattle.job_journal.specs.Opening.{Calm, CountsFault, IsReadingFault};
 ghost use Rattle.disks.specs.Disks.{GivesAt, Only};
 
 use crate::scanning::OpenFault;
@@ -46,7 +46,7 @@ pub(crate) fn contents<D: Disk>(alloc: Global, disk: &mut D) -> Result<Vec<u8>, 
     ensures bytes { IfOk result (λ bytes. D.told disk.old ≡ true → bytes.items ≡ D.seen disk.old) }
     ensures calm { Calm D.told D.seen D.may_leave D.moment D.left_since disk.old disk.new }
     ensures cause { CountsFault result (D.faults disk.old) (D.faults disk.new) }
-    ensures err { IfErr result IsUnread }
+    ensures err { IfErr result IsReadingFault }
 {
     let len = match length_of(disk) {
         Ok(len) => len,

@@ -4,7 +4,7 @@ ghost use Rattle.std.specs.Prelude.{◌≡◌, ◌⊎◌, ◌<◌, ◌≤◌, Li
 ghost use Rattle.disks.specs.Disks.{LeavesOnly, Only};
 ghost use Rattle.effects.specs.Records.{Deed, AllFit};
 ghost use Rattle.effects.specs.Fold.{Ledger, Folds, nothing};
-ghost use Rattle.job_journal.specs.Journal.{StandsFor, IsAtRest};
+ghost use Rattle.job_journal.specs.Journal.{FileStandsFor, FileRests};
 ghost use Rattle.job_journal.specs.Opening.{Calm, CountsFault, CountsBack, IsUnfound, IsOpened, DamagedIn, IsDamaged};
 
 use crate::contents::{contents, settle};
@@ -39,8 +39,8 @@ fn prepare<D: Disk, R: Replay, S: Sieve>(
     requires { R.holds table.old ≡ nothing }
     ensures opened { IfOk result (λ end. D.told disk.old ≡ true → IsOpened S.accepted D.seen D.may_leave (D.seen disk.old) disk.new end (R.holds table.new)) }
     ensures damaged { IfErr result (λ f. D.told disk.old ≡ true → DamagedIn S.accepted (D.seen disk.old) f) }
-    ensures any_moment { (deeds : List Deed) → D.told disk.old ≡ true → AllFit deeds → StandsFor deeds (D.seen disk.old)
-        → LeavesOnly D.moment D.left_since disk.old disk.new (λ c. D.may_leave disk.old c ⊎ StandsFor deeds c) }
+    ensures any_moment { (deeds : List Deed) → D.told disk.old ≡ true → AllFit deeds → FileStandsFor deeds (D.seen disk.old)
+        → LeavesOnly D.moment D.left_since disk.old disk.new (λ c. D.may_leave disk.old c ⊎ FileStandsFor deeds c) }
     ensures told { D.told disk.new ≡ D.told disk.old }
     ensures cause { CountsFault result (D.faults disk.old) (D.faults disk.new) }
 {
@@ -81,12 +81,12 @@ pub fn open<D: Disk, R: Replay, S: Sieve>(
     ensures opened { IfOk result (λ j. D.told disk ≡ true → IsOpened S.accepted D.seen D.may_leave (D.seen disk) j.disk j.end (R.holds table.new)) }
 
     // Where it stood for these, the table is theirs, and the file at rest has them.
-    ensures same { IfOk result (λ j. (deeds : List Deed) → D.told disk ≡ true → AllFit deeds → StandsFor deeds (D.seen disk)
-        → Folds S.accepted nothing deeds (R.holds table.new) × IsAtRest D.seen D.may_leave j.disk j.end deeds) }
+    ensures same { IfOk result (λ j. (deeds : List Deed) → D.told disk ≡ true → AllFit deeds → FileStandsFor deeds (D.seen disk)
+        → Folds S.accepted nothing deeds (R.holds table.new) × FileRests D.seen D.may_leave j.disk j.end deeds) }
 
     // Damaged comes only where the file is, and never where it stands for effects that are possible and accepted.
     ensures damaged { IfErr result (λ f. D.told disk ≡ true → DamagedIn S.accepted (D.seen disk) f.0) }
-    ensures undamaged { IfErr result (λ f. (deeds : List Deed) (ledger : Ledger) → D.told disk ≡ true → AllFit deeds → Folds S.accepted nothing deeds ledger → StandsFor deeds (D.seen disk) → IsUnfound f.0) }
+    ensures undamaged { IfErr result (λ f. (deeds : List Deed) (ledger : Ledger) → D.told disk ≡ true → AllFit deeds → Folds S.accepted nothing deeds ledger → FileStandsFor deeds (D.seen disk) → IsUnfound f.0) }
 
     ensures sound { IfOk result (λ j. (place : ℕ) → D.told disk ≡ true → IsDamaged S.accepted (D.seen disk) place → ⊥) }
 
@@ -94,10 +94,10 @@ pub fn open<D: Disk, R: Replay, S: Sieve>(
     ensures cause { CountsBack (λ j. D.faults j.disk) D.faults result (D.faults disk) }
 
     // A crash at any moment leaves what it might have left before, or the same effects.
-    ensures any_moment { IfOk result (λ j. (deeds : List Deed) → D.told disk ≡ true → AllFit deeds → StandsFor deeds (D.seen disk)
-        → LeavesOnly D.moment D.left_since disk j.disk (λ c. D.may_leave disk c ⊎ StandsFor deeds c)) }
-    ensures any_moment_err { IfErr result (λ f. (deeds : List Deed) → D.told disk ≡ true → AllFit deeds → StandsFor deeds (D.seen disk)
-        → LeavesOnly D.moment D.left_since disk f.1 (λ c. D.may_leave disk c ⊎ StandsFor deeds c)) }
+    ensures any_moment { IfOk result (λ j. (deeds : List Deed) → D.told disk ≡ true → AllFit deeds → FileStandsFor deeds (D.seen disk)
+        → LeavesOnly D.moment D.left_since disk j.disk (λ c. D.may_leave disk c ⊎ FileStandsFor deeds c)) }
+    ensures any_moment_err { IfErr result (λ f. (deeds : List Deed) → D.told disk ≡ true → AllFit deeds → FileStandsFor deeds (D.seen disk)
+        → LeavesOnly D.moment D.left_since disk f.1 (λ c. D.may_leave disk c ⊎ FileStandsFor deeds c)) }
 {
     let mut disk = disk;
     match Vec::with_capacity(alloc, ROOM) {

@@ -4,15 +4,15 @@ ghost use Rattle.std.specs.Prelude.{◌≡◌, ◌<◌, ◌≤◌, ◌+◌, ◌-
 ghost use Rattle.os_io.specs.Streams.{Counts};
 ghost use Rattle.disks.specs.Disks.{LeavesOnly, Only};
 ghost use Rattle.effects.specs.Records.{Deed, records, EndsBehind};
-ghost use Rattle.job_journal.specs.Journal.{IsAtRest, StandsFor};
+ghost use Rattle.job_journal.specs.Journal.{FileRests, FileStandsFor};
 
 use disks::Disk;
 use os_io::Failed;
 
 /// Begins a file of at most one byte anew.
 pub(crate) fn begin<D: Disk>(disk: &mut D) -> Result<(), Failed>
-    ensures begun { OnOk result (D.told disk.old ≡ true → length (D.seen disk.old) ≤ 1 → IsAtRest D.seen D.may_leave disk.new 0 []) }
-    ensures any_moment { D.told disk.old ≡ true → length (D.seen disk.old) ≤ 1 → Only (D.seen disk.old) (D.may_leave disk.old) → LeavesOnly D.moment D.left_since disk.old disk.new (StandsFor []) }
+    ensures begun { OnOk result (D.told disk.old ≡ true → length (D.seen disk.old) ≤ 1 → FileRests D.seen D.may_leave disk.new 0 []) }
+    ensures any_moment { D.told disk.old ≡ true → length (D.seen disk.old) ≤ 1 → Only (D.seen disk.old) (D.may_leave disk.old) → LeavesOnly D.moment D.left_since disk.old disk.new (FileStandsFor []) }
     ensures told { D.told disk.new ≡ D.told disk.old }
     ensures cause { Counts result (D.faults disk.old) (D.faults disk.new) }
 {
@@ -25,9 +25,9 @@ pub(crate) fn begin<D: Disk>(disk: &mut D) -> Result<(), Failed>
 pub(crate) fn cut_behind<D: Disk>(disk: &mut D, end: u64) -> Result<(), Failed>
     requires small { end < 2 ^ 64 - 1 }
     requires within { D.told disk.old ≡ true → end + 1 ≤ length (D.seen disk.old) }
-    ensures cut { OnOk result ((deeds : List Deed) → D.told disk.old ≡ true → EndsBehind deeds (D.seen disk.old) → end ≡ length (records deeds) → IsAtRest D.seen D.may_leave disk.new end deeds) }
+    ensures cut { OnOk result ((deeds : List Deed) → D.told disk.old ≡ true → EndsBehind deeds (D.seen disk.old) → end ≡ length (records deeds) → FileRests D.seen D.may_leave disk.new end deeds) }
     ensures any_moment { (deeds : List Deed) → D.told disk.old ≡ true → EndsBehind deeds (D.seen disk.old) → end ≡ length (records deeds) → Only (D.seen disk.old) (D.may_leave disk.old)
-        → LeavesOnly D.moment D.left_since disk.old disk.new (StandsFor deeds) }
+        → LeavesOnly D.moment D.left_since disk.old disk.new (FileStandsFor deeds) }
     ensures told { D.told disk.new ≡ D.told disk.old }
     ensures cause { Counts result (D.faults disk.old) (D.faults disk.new) }
 {

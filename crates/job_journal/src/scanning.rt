@@ -3,7 +3,7 @@
 ghost use Rattle.std.specs.Prelude.{◌≡◌, ◌<◌, ◌≤◌, ◌-◌, ◌∷◌, List, ℕ, Some, None, if◌then◌else◌, length, IfOk, IfErr, IfSome, IfNone};
 ghost use Rattle.effects.specs.Records.{deed_of};
 ghost use Rattle.effects.specs.Fold.{nothing, passes, step};
-ghost use Rattle.job_journal.specs.Opening.{Reads, ScanFits, TakesRecord};
+ghost use Rattle.job_journal.specs.Opening.{ReadsRecords, ScanFits, TakesRecord};
 ghost use Rattle.std.specs.Option.{option_copied};
 
 use effects::{Document, Effect, Replay, decode};
@@ -110,7 +110,7 @@ pub(crate) fn scan<R: Replay, S: Sieve>(
 ) -> Result<u64, OpenFault>
     requires long { 1 < length bytes.now }
     requires empty { R.holds table.old ≡ nothing }
-    ensures ok { IfOk result (λ place. Reads S.accepted bytes.now place (R.holds table.new)) }
+    ensures ok { IfOk result (λ place. ReadsRecords S.accepted bytes.now place (R.holds table.new)) }
     ensures err { IfErr result (ScanFits S.accepted bytes.now) }
 {
     let mut rest = bytes;

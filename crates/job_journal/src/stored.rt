@@ -4,7 +4,7 @@ ghost use Rattle.std.specs.Prelude.{◌≡◌, ◌<◌, ◌≤◌, ◌+◌, ◌-
 ghost use Rattle.os_io.specs.Streams.{Counts};
 ghost use Rattle.disks.specs.Disks.{LeavesOnly};
 ghost use Rattle.effects.specs.Records.{Deed, body};
-ghost use Rattle.job_journal.specs.Journal.{IsAtRest, IsBeforeOrAfter};
+ghost use Rattle.job_journal.specs.Journal.{FileRests, IsBeforeOrAfter};
 
 use disks::Disk;
 use os_io::Failed;
@@ -15,11 +15,11 @@ pub(crate) fn store<D: Disk>(disk: &mut D, end: u64, bytes: &[u8]) -> Result<(),
     requires within { D.told disk.old ≡ true → end + 1 ≤ length (D.seen disk.old) }
 
     // At Ok the record is at rest, and from then on each crash leaves a file that has it.
-    ensures stored { OnOk result ((deeds : List Deed) (d : Deed) → D.told disk.old ≡ true → bytes.now ≡ body d ++ 0 ∷ [] → IsAtRest D.seen D.may_leave disk.old end deeds
-        → IsAtRest D.seen D.may_leave disk.new (end + length bytes.now) (deeds ++ d ∷ [])) }
+    ensures stored { OnOk result ((deeds : List Deed) (d : Deed) → D.told disk.old ≡ true → bytes.now ≡ body d ++ 0 ∷ [] → FileRests D.seen D.may_leave disk.old end deeds
+        → FileRests D.seen D.may_leave disk.new (end + length bytes.now) (deeds ++ d ∷ [])) }
 
     // A crash at any moment of the call leaves the effects from before it, with the new one or without.
-    ensures any_moment { (deeds : List Deed) (d : Deed) → D.told disk.old ≡ true → bytes.now ≡ body d ++ 0 ∷ [] → IsAtRest D.seen D.may_leave disk.old end deeds
+    ensures any_moment { (deeds : List Deed) (d : Deed) → D.told disk.old ≡ true → bytes.now ≡ body d ++ 0 ∷ [] → FileRests D.seen D.may_leave disk.old end deeds
         → LeavesOnly D.moment D.left_since disk.old disk.new (IsBeforeOrAfter deeds d) }
     ensures told { D.told disk.new ≡ D.told disk.old }
     ensures cause { Counts result (D.faults disk.old) (D.faults disk.new) }

@@ -11,7 +11,7 @@ use Rattle.solve_run.specs.JobAnswers.{AreJobTexts, IsBestOfSearch, AnswersJob, 
 use Rattle.solve_run.specs.Runs.{IsRight}
 use Rattle.command_answers.specs.FileNames.{ReadsNamed}
 use Rattle.command_answers.proofs.Outputs.{held_by}
-use Rattle.os_app.specs.Safe.{IsSafeText, HasNoSafeText, Takes}
+use Rattle.os_app.specs.Safe.{IsSafeText, HasNoSafeText, TakesOptions}
 use Rattle.os_app.specs.Safe as safe
 use Rattle.os_app.specs.Solves.{IsDocumentAbout, IsRightWith}
 use Rattle.os_app.specs.Statuses.{solve_status}
@@ -67,7 +67,7 @@ no_safe_file a osil osol shows (safe.no_options f other fails) = safe.no_options
 no_safe_file a osil osol shows (safe.no_instance f other fails) = safe.no_instance f other (shows.no_instance f fails)
 no_safe_file a osil osol shows (safe.no_limit p text none) = safe.no_limit p (shows.instance p text) none
 
-takes_file : (a osil osol : List ℕ) (shows : Shows a osil) (safe : Bool) (taken : List ℕ) → Takes safe a osol taken → Takes safe osil osol taken
+takes_file : (a osil osol : List ℕ) (shows : Shows a osil) (safe : Bool) (taken : List ℕ) → TakesOptions safe a osol taken → TakesOptions safe osil osol taken
 takes_file a osil osol shows false taken is = is
 takes_file a osil osol shows true taken (inl s) = inl (safe_file a osil osol shows taken s)
 takes_file a osil osol shows true taken (inr (none, is)) = inr (no_safe_file a osil osol shows none, is)

@@ -16,7 +16,7 @@ use Rattle.simplex_rules.specs.Ends.{Terms, Clock}
 use Rattle.search_rules.specs.Search as ends
 use Rattle.search_rules.specs.Search.{Outcome, IsSearchAnswer, searched, early}
 use Rattle.search_rules.specs.Outcomes.{IsPlain}
-use Rattle.branch_bound.specs.Claims.{Tells, cause_of, claimed_cause}
+use Rattle.branch_bound.specs.Claims.{ClaimTells, cause_of, claimed_cause}
 use Rattle.osol_grammar.specs.declared.options.Options.{Options}
 use Rattle.osol_grammar.specs.declared.fault.OsolFault.{OsolFault}
 use Rattle.osol_grammar.specs.declared.fault.OsolFault.TheVariants as options_faults
@@ -34,14 +34,14 @@ use Rattle.osil_grammar.specs.Reading as instances
 use Rattle.osrl_grammar.specs.declared.report.Report.{Report}
 use Rattle.osrl_grammar.specs.Writing.{report_text}
 use Rattle.solve_run.specs.Judging.{checked, given_up, wide_check}
-use Rattle.solve_run.specs.Closings.{IsClosed, IsFitted}
+use Rattle.solve_run.specs.Closings.{IsToldOf, IsFitted}
 use Rattle.solve_run.specs.JobAnswers.{AnswersJob, IsBestOfSearch, Solved, no_options, no_instance, not_solved, solved, gave_up, job_terms}
 use Rattle.no_cycles.specs.Beginning.{BeginsFeasible}
 use Rattle.no_cycles.specs.Limit.{safe_limit}
 use Rattle.no_cycles.specs.Searches.{is_out_of_turns, is_turn_limit}
 use Rattle.no_cycles.proofs.SafeLimits.{limit_is, has_limit}
 use Rattle.no_cycles.proofs.Searched.{early_is}
-use Rattle.os_app.specs.Safe.{IsSafeText, HasNoSafeText, Takes, claims_turn_limit, says_turn_limit}
+use Rattle.os_app.specs.Safe.{IsSafeText, HasNoSafeText, TakesOptions, claims_turn_limit, says_turn_limit}
 use Rattle.os_app.specs.Safe as safe
 use Rattle.os_io.specs.Files.{Held, Holds, MayHold}
 use Rattle.command_answers.specs.Outputs.{IsTold}
@@ -101,7 +101,7 @@ claim_turned (Unbounded x vs cs r) = refl
 claim_turned (BestSoFar x vs k) = refl
 claim_turned (Unsure k) = refl
 
-told_turned : (c : Claim) (o : Outcome) → Tells c o → claims_turn_limit c ≡ is_out_of_turns o
+told_turned : (c : Claim) (o : Outcome) → ClaimTells c o → claims_turn_limit c ≡ is_out_of_turns o
 told_turned c o tells = claim_turned c ∙ ap turned tells.cause ∙ sym (outcome_turned o)
 
 given_up_is : (c : Claim) (k : Cause) → claims_turn_limit (given_up c k) ≡ is_turn_limit k
@@ -119,7 +119,7 @@ fitted_is : (job : Option (List ℕ)) (found told : Claim) → IsFitted job foun
 fitted_is job found told (inl (short, is)) within = ap claims_turn_limit is ∙ within
 fitted_is job found told (inr (long, is)) within = ap claims_turn_limit is ∙ given_up_is found _
 
-closed_is : (p : Parts) (job : Option (List ℕ)) (turns : ℕ) (found told : Claim) → IsClosed p job turns found told → claims_turn_limit found ≡ false → claims_turn_limit told ≡ false
+closed_is : (p : Parts) (job : Option (List ℕ)) (turns : ℕ) (found told : Claim) → IsToldOf p job turns found told → claims_turn_limit found ≡ false → claims_turn_limit told ≡ false
 closed_is p job turns found told closed within = fitted_is job _ told closed.fitted (checked_is found turns closed.width within)
 
 gave_up_is : (osil osol : List ℕ) (c : Claim) → (c ≡ Unsure Memory) ⊎ IsBestOfSearch osil osol c → claims_turn_limit c ≡ false
@@ -152,7 +152,7 @@ module _ (laws : Laws) (osil osol taken : List ℕ) (p : Parts) (text : IsInstan
       ap (λ (x : Options). x.turns) (same_ok o (record s.options { turns = s.limit }) back)
 
   -- where options and an instance are read, there is such a text
-  is_safe : (o : Options) → IsOptionsText taken o → Takes true osil osol taken → IsSafeText osil osol taken
+  is_safe : (o : Options) → IsOptionsText taken o → TakesOptions true osil osol taken → IsSafeText osil osol taken
   is_safe o said (inl s) = s
   is_safe o said (inr (none, is)) = absurd (by none)
     where
@@ -164,7 +164,7 @@ module _ (laws : Laws) (osil osol taken : List ℕ) (p : Parts) (text : IsInstan
           let told = subst (λ (x : Parts). safe_limit (length x.vars) (length x.rows) ≡ None) same none in
           none-some (4 ^ (length p.vars + length p.rows)) (sym told ∙ has_limit (length p.vars) (length p.rows) few)
 
-  solved_within : (stop : Option ℕ) (looks : ℕ) (r : Report) → Takes true osil osol taken → Solved osil taken stop looks r → says_turn_limit r.claim ≡ false
+  solved_within : (stop : Option ℕ) (looks : ℕ) (r : Report) → TakesOptions true osil osol taken → Solved osil taken stop looks r → says_turn_limit r.claim ≡ false
   solved_within stop looks r takes s =
       let same : p ≡ s.given.parts = laws.once osil p s.given.parts text s.given.instance_text in
       let its = is_safe s.given.options s.given.options_text takes in
@@ -178,7 +178,7 @@ module _ (laws : Laws) (osil osol taken : List ℕ) (p : Parts) (text : IsInstan
       laws.within (program s.given.parts) (job_terms s.given.options stop) s.outcome _ its.limit (laws.numbers s.given.parts) (subst (λ (x : Parts). IsPlain (program x)) same plain) (subst (λ (x : Parts). BeginsFeasible (program x)) same feasible) enough (omega (arith, turns)) (searched s.ends) in
       ap (λ (x : Report). says_turn_limit x.claim) s.is ∙ closed_is s.given.parts s.given.options.job s.turns s.found s.told s.closed (told_turned s.found s.outcome s.tells ∙ found)
 
-  pub answers_within : (r : Report) → Takes true osil osol taken → AnswersJob osil taken false r → says_turn_limit r.claim ≡ false
+  pub answers_within : (r : Report) → TakesOptions true osil osol taken → AnswersJob osil taken false r → says_turn_limit r.claim ≡ false
   answers_within r takes (no_options h) = ap (λ (x : Report). says_turn_limit x.claim) h.is
   answers_within r takes (no_instance h) = ap (λ (x : Report). says_turn_limit x.claim) h.is
   answers_within r takes (not_solved h) = ap (λ (x : Report). says_turn_limit x.claim) h.is

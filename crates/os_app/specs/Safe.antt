@@ -38,9 +38,9 @@ IsSafeOrNone osil osol None = HasNoSafeText osil osol
 IsSafeOrNone osil osol (Some text) = IsSafeText osil osol text
 
 -- the text that is taken: the options' own, or, where it is asked for and there is one, that with the safe limit
-abbrev pub Takes : (safe : Bool) → (osil osol taken : List ℕ) → Type 0
-Takes false osil osol taken = taken ≡ osol
-Takes true osil osol taken = IsSafeText osil osol taken ⊎ (HasNoSafeText osil osol × (taken ≡ osol))
+abbrev pub TakesOptions : (safe : Bool) → (osil osol taken : List ℕ) → Type 0
+TakesOptions false osil osol taken = taken ≡ osol
+TakesOptions true osil osol taken = IsSafeText osil osol taken ⊎ (HasNoSafeText osil osol × (taken ≡ osol))
 
 -- the claim was given up at the limit of turns
 abbrev pub claims_turn_limit : Claim → Bool

@@ -7,12 +7,12 @@ use Rattle.osrl_grammar.specs.Writing.{report_text}
 use Rattle.solve_run.specs.JobAnswers.{AnswersJob}
 use Rattle.solve_run.specs.declared.document.Document.{Document}
 use Rattle.solve_run.specs.Runs.{IsRight}
-use Rattle.os_app.specs.Safe.{Takes}
+use Rattle.os_app.specs.Safe.{TakesOptions}
 use Rattle.os_app.specs.Statuses.{solve_status}
 
 -- the document answers these texts, with the safe limit or without, which nobody stops
 abbrev pub IsRightWith : (safe : Bool) → (osil osol : List ℕ) → Document → Type 0
-IsRightWith safe osil osol doc = (taken : List ℕ) × Takes safe osil osol taken × IsRight osil taken false doc
+IsRightWith safe osil osol doc = (taken : List ℕ) × TakesOptions safe osil osol taken × IsRight osil taken false doc
 
 -- the document that answers the job of an instance's file, and of a file of options, if one is named, with the safe limit or without,
 -- which nobody stops, and its status: 1 where it reports an error
@@ -23,7 +23,7 @@ pub record IsDocumentAbout (instance : Held) (options : Option Held) (safe : Boo
   pub options_file : ReadsNamed options osol
   pub report : Report
   pub taken : List ℕ
-  pub takes : Takes safe osil osol taken
+  pub takes : TakesOptions safe osil osol taken
   pub answers : AnswersJob osil taken false report
   pub written : text ≡ report_text report
   pub status_is : status ≡ solve_status report.error

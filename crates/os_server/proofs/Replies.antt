@@ -16,7 +16,7 @@ use Rattle.os_server.specs.declared.reply.Reply.TheVariants.{Answer, Refused, No
 use Rattle.os_server.specs.Orders.{Asks, Faults, AsksNothing}
 use Rattle.os_server.specs.Answers.{said_by, fault_said, returns}
 use Rattle.os_server.specs.Talk.{IsReplyDue}
-use Rattle.os_server.specs.Serving.{IsOrdered, IsReplied}
+use Rattle.os_server.specs.Serving.{DoesOrder, IsReplied}
 use Rattle.job_runs.proofs.Judgements.{Made}
 use Rattle.os_server.proofs.Pieces.{Wakes}
 
@@ -36,7 +36,7 @@ returned_as kind n last text (Err lost) is e = tt
 
 -- what is ordered is what a body is replied that asks it
 pub replied : (made : Made) (wakes : Wakes) (body : List ℕ) (order : Order) (close : Bool) (own : List Entry) (r : Reply) → Asks body order
-    → IsOrdered made wakes order close own r → IsReplied made wakes body close own r
+    → DoesOrder made wakes order close own r → IsReplied made wakes body close own r
 replied made wakes body order close own (Answer said closes as_worker) asks (same, last, does, says, woken) =
     (same, inl (record { order = order; last = last; asks = asks; does = does; says = says; woken = woken }))
 replied made wakes body order close own (Refused refusal) asks p = absurd p

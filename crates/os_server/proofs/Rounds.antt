@@ -18,7 +18,7 @@ use Rattle.os_server.specs.declared.reply.Reply.{Reply}
 use Rattle.os_server.specs.declared.reply.Reply.TheVariants.{Answer, Refused, NoMemory}
 use Rattle.os_server.specs.declared.serve.Served.{Served}
 use Rattle.os_server.specs.declared.serve.Served.TheVariants.{Ended, CutShort, ReadFault, WriteFault, Memory}
-use Rattle.os_server.specs.Talk.{Part, part, then, all_of, ReadsBytes, AtEnd, most_requests, text_of_reply, IsReplyDue, IsExchange, EndsTalk, IsLastPart, HandsOn, Accounts, Serves, ServesWhole, both_ends}
+use Rattle.os_server.specs.Talk.{Part, part, then, all_of, ReadsBytes, AtEnd, most_requests, text_of_reply, IsReplyDue, IsExchange, EndsTalk, IsLastPart, HandsOnAll, Accounts, Serves, ServesWhole, both_ends}
 use Rattle.os_server.specs.Serving.{IsReplied, AnswersOne, FollowsReply, CameWithDue, CountsCame, ComesOnLink, AccountsOne, ServesOne}
 use Rattle.job_runs.proofs.Judgements.{Made, Joins}
 use Rattle.os_server.proofs.Pieces.{Wakes}
@@ -120,7 +120,7 @@ answered made wakes AtEnd NoMemory end taken own after is_due (none, end_is) =
 
 -- no count rose, and what was written is handed on
 abbrev WentWell : Tells → Tells → Type 0
-WentWell old new = (new.read_faults ≡ old.read_faults) × (new.write_faults ≡ old.write_faults) × HandsOn old new
+WentWell old new = (new.read_faults ≡ old.read_faults) × (new.write_faults ≡ old.write_faults) × HandsOnAll old new
 
 settled : (made : Made) (wakes : Wakes) (reply : Reply) (end : Option Served) (after : List Entry) (old new : Tells) → FollowsReply made wakes reply after end
     → WentWell old new → AccountsOne end old new

@@ -1,7 +1,7 @@
 -- Parts of a conversation, one after another.
 use Rattle.std.proofs.Common.{◌≡◌, ℕ, List, [], ◌∷◌, ◌++◌, inl, inr, Option, Some, None, refl, sym, ◌∙◌, ap, append_assoc, append-nil}
 use Rattle.os_io.specs.Streams.{Tells, BothTold, Appends}
-use Rattle.os_server.specs.Talk.{Part, part, then, all_of, ReadsBytes, AtEnd, HandsOn}
+use Rattle.os_server.specs.Talk.{Part, part, then, all_of, ReadsBytes, AtEnd, HandsOnAll}
 
 abbrev Bytes : Type 0
 Bytes = Option (List ℕ)
@@ -53,7 +53,7 @@ end_of (Some x) None taken p = absurd p
 end_of (Some x) (Some y) taken p = p.1
 
 -- what is handed on after what was handed on
-pub hands_then : (a b c : Tells) → HandsOn a b → HandsOn b c → HandsOn a c
+pub hands_then : (a b c : Tells) → HandsOnAll a b → HandsOnAll b c → HandsOnAll a c
 hands_then a b c p (inl all) = inl all
 hands_then a b c (inl all) (inr same) = inl (same.1 ∙ all ∙ sym same.0)
 hands_then a b c (inr before) (inr same) = inr (same.0 ∙ before.0, same.1 ∙ before.1)

@@ -15,16 +15,16 @@ use Rattle.os_server.specs.declared.reply.Reply.TheVariants.{Answer, Refused, No
 use Rattle.os_server.specs.declared.serve.Served.{Served}
 use Rattle.os_server.specs.declared.serve.Served.TheVariants.{Ended, CutShort, ReadFault, WriteFault, Memory}
 use Rattle.os_server.specs.Answers.{said_by, Does, BeginsToDo}
-use Rattle.os_server.specs.Talk.{Part, was_taken, IsRung, AtEnd, ReadsBytes, IsBodyAnswered, LacksMemory, IsReplyDue, IsExchange, EndsTalk, HandsOn, Accounts}
+use Rattle.os_server.specs.Talk.{Part, was_taken, IsRung, AtEnd, ReadsBytes, IsBodyAnswered, LacksMemory, IsReplyDue, IsExchange, EndsTalk, HandsOnAll, Accounts}
 
 module _ (made : List ℕ → List ℕ → List Bool → Option (List ℕ) → Type 0) (wakes : Bool → Type 0) where
   -- the moves that do what is asked, and the reply that says the last one's
-  abbrev pub IsOrdered : Order → Bool → List Entry → Reply → Type 0
-  IsOrdered order close own (Answer said closes as_worker) =
+  abbrev pub DoesOrder : Order → Bool → List Entry → Reply → Type 0
+  DoesOrder order close own (Answer said closes as_worker) =
       (closes ≡ close) × (last : tables.Reply) × Does made order last own × (said_by order.kind order.number last ≡ Some said)
       × IsRung wakes (was_taken last) as_worker
-  IsOrdered order close own (Refused refusal) = ⊥
-  IsOrdered order close own NoMemory = BeginsToDo made order own ⊎ ((last : tables.Reply) × Does made order last own)
+  DoesOrder order close own (Refused refusal) = ⊥
+  DoesOrder order close own NoMemory = BeginsToDo made order own ⊎ ((last : tables.Reply) × Does made order last own)
 
   -- the moves for a body, and the reply that it is due after them
   abbrev pub IsReplied : List ℕ → Bool → List Entry → Reply → Type 0
@@ -77,7 +77,7 @@ pub record ComesOnLink (made : List ℕ → List ℕ → List Bool → Option (L
 -- the counts and what was handed on, where the next request may come or the conversation ends
 abbrev pub AccountsOne : Option Served → Tells → Tells → Type 0
 AccountsOne None old new =
-    (new.read_faults ≡ old.read_faults) × (new.write_faults ≡ old.write_faults) × HandsOn old new
+    (new.read_faults ≡ old.read_faults) × (new.write_faults ≡ old.write_faults) × HandsOnAll old new
 AccountsOne (Some end) old new = Accounts end old new
 
 -- one request of a link and of one who makes moves, and what follows

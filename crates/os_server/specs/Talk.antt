@@ -186,22 +186,22 @@ both_ends i o = record {
 }
 
 -- all that was written is handed on, or nothing was written and nothing handed on
-abbrev pub HandsOn : Tells → Tells → Type 0
-HandsOn old new =
+abbrev pub HandsOnAll : Tells → Tells → Type 0
+HandsOnAll old new =
     (new.handed_on ≡ new.written) ⊎ ((new.written ≡ old.written) × (new.handed_on ≡ old.handed_on))
 
 -- how often reads and writes failed, and what was handed on: a count rose where that fault is the end, and nowhere else
 abbrev pub Accounts : Served → Tells → Tells → Type 0
 Accounts Ended old new =
-    (new.read_faults ≡ old.read_faults) × (new.write_faults ≡ old.write_faults) × HandsOn old new
+    (new.read_faults ≡ old.read_faults) × (new.write_faults ≡ old.write_faults) × HandsOnAll old new
 Accounts CutShort old new =
-    (new.read_faults ≡ old.read_faults) × (new.write_faults ≡ old.write_faults) × HandsOn old new
+    (new.read_faults ≡ old.read_faults) × (new.write_faults ≡ old.write_faults) × HandsOnAll old new
 Accounts ReadFault old new =
-    HasRisen old.read_faults new.read_faults × (new.write_faults ≡ old.write_faults) × HandsOn old new
+    HasRisen old.read_faults new.read_faults × (new.write_faults ≡ old.write_faults) × HandsOnAll old new
 Accounts WriteFault old new =
     (new.read_faults ≡ old.read_faults) × HasRisen old.write_faults new.write_faults × Grows old.handed_on new.handed_on
 Accounts Memory old new =
-    (new.read_faults ≡ old.read_faults) × (new.write_faults ≡ old.write_faults) × HandsOn old new
+    (new.read_faults ≡ old.read_faults) × (new.write_faults ≡ old.write_faults) × HandsOnAll old new
 
 -- a conversation of a link and of one who makes moves, from before to after. More may have been read than it has, but where a read failed: there
 -- all that was read are requests that were answered and less than a whole one

@@ -6,7 +6,7 @@ ghost use Rattle.job_table.specs.History.{Entry};
 ghost use Rattle.os_server.specs.declared.serve.Served.TheVariants.{ReadFault};
 ghost use Rattle.os_server.specs.Answers.{reply_of};
 ghost use Rattle.os_server.specs.Talk.{was_taken, IsRung, text_of_reply, response_text};
-ghost use Rattle.os_server.specs.Serving.{IsReplied, IsOrdered, ComesOnLink};
+ghost use Rattle.os_server.specs.Serving.{IsReplied, DoesOrder, ComesOnLink};
 
 use crate::asking::read_order;
 use crate::doing::{LastReply, make};
@@ -65,7 +65,7 @@ fn answer_order<V: Verdicts, C: Calls<V>, S: Server<V>>(
     order: Order,
     close: bool,
 ) -> Reply
-    ensures { (own : List Entry) × C.did calls.old calls.new own × IsOrdered S.ran S.wakes order close own result }
+    ensures { (own : List Entry) × C.did calls.old calls.new own × DoesOrder S.ran S.wakes order close own result }
 {
     let kind = order.kind;
     let number = order.number;

@@ -21,7 +21,7 @@ use Rattle.server_threads.specs.declared.promise.Finished.{Finished}
 use Rattle.server_threads.specs.Talks.{DeskSeat, LinkTalk, Shift, talk_met, shift_met, short_of, Came, GivenBack, AllTalked, AllWorked, IsShift, Acts}
 use Rattle.server_threads.specs.Promises.{Due}
 use Rattle.server_threads.specs.Serving.{Stand, taken, Opens, AtOnce, ServesLinks, EndsServing}
-use Rattle.server_threads.specs.OpenLinks.{IsOut, AreNumbered, KeepsSeats, Visit, visit, AreAmong, Begun, AllBegun, Conversing, promised, seat_out, number_out, visit_out, served_so, Going, Working, shift_promised, workers_out, worked_so, Hired, Staffed, LinksServed, HaveLeft, CameSo, served_result}
+use Rattle.server_threads.specs.OpenLinks.{IsSplitOff, AreNumberedFrom, KeepsSeats, Visit, visit, AreAmong, Begun, AllBegun, Conversing, promised, seat_out, number_out, visit_out, served_so, Going, Working, shift_promised, workers_out, worked_so, Hired, Staffed, LinksServed, HaveLeft, CameSo, served_result}
 
 pub starts_through : (a b c : List Entry) → StartsWith b a → StartsWith c b → StartsWith c a
 starts_through a b c ab bc = (ab.0 ++ bc.0, bc.1 ∙ (ap (λ l. l ++ bc.0) ab.1 ∙ append_assoc a ab.0 bc.0))
@@ -93,7 +93,7 @@ module _ {J : Type 0} (desk : TableId) where
     number = refl;
     met_is = sym (append-nil v.met);
     given = omega arith;
-    waits = All-nil (IsOut desk);
+    waits = All-nil (IsSplitOff desk);
     mine = refl;
     seen = starts_again v.seen;
     known = λ i m at. absurd (some-ne-none m (sym at));
@@ -106,7 +106,7 @@ module _ {J : Type 0} (desk : TableId) where
     number = k.number;
     met_is = k.met_is;
     given = let all = k.given in let many = length_permutation out now same in omega arith;
-    waits = All-permutation (IsOut desk) out now same k.waits;
+    waits = All-permutation (IsSplitOff desk) out now same k.waits;
     mine = k.mine;
     seen = k.seen;
     known = k.known;
@@ -120,7 +120,7 @@ module _ {J : Type 0} (desk : TableId) where
     number = ap (λ (u : View). u.number) is ∙ k.number;
     met_is = ap (λ (u : View). u.met) is ∙ k.met_is;
     given = let now : after.given ≡ w.given + 1 = ap (λ (u : View). u.given) is in let before = k.given in omega arith;
-    waits = All-cons (IsOut desk) seat out (fits, ap (λ (u : View). u.mine) new) k.waits;
+    waits = All-cons (IsSplitOff desk) seat out (fits, ap (λ (u : View). u.mine) new) k.waits;
     mine = ap (λ (u : View). u.mine) is ∙ k.mine;
     seen = subst (λ (l : List Entry). StartsWith l v.seen) (sym (ap (λ (u : View). u.seen) is)) k.seen;
     known = subst (λ (l : List Entry). HasMet l met) (sym (ap (λ (u : View). u.seen) is)) k.known;
@@ -132,7 +132,7 @@ module _ {J : Type 0} (desk : TableId) where
   keeps_met right holds v w after met s other out k a m =
       let n : ℕ = s.me.0.number in
       let new : Met = record { seat = n; calls = by n a.said } in
-      let was : IsOut desk s = All-head (IsOut desk) s out k.waits in
+      let was : IsSplitOff desk s = All-head (IsSplitOff desk) s out k.waits in
       let number : other.me.0.number ≡ n = a.asked.stays.number in
       let calls : other.me.0.mine ≡ by n a.said = a.asked.mine ∙ ap (λ (l : List Entry). l ++ by n a.said) was.1 in
       let is_new : met_as other.me.0 ≡ new = λ i. record { seat = number i; calls = calls i } in
@@ -142,13 +142,13 @@ module _ {J : Type 0} (desk : TableId) where
         number = m.number ∙ k.number;
         met_is = all;
         given = let before = k.given in let same = m.given in let longer = length-append met (new ∷ []) in omega arith;
-        waits = All-tail (IsOut desk) s out k.waits;
+        waits = All-tail (IsSplitOff desk) s out k.waits;
         mine = m.mine ∙ k.mine;
         seen = starts_through v.seen w.seen after.seen k.seen m.begins.0;
         known = met_suffix after.seen v.met (met ++ new ∷ []) (subst (λ (l : List Met). HasMet after.seen l) all m.known);
       }
 
-  numbered_push : (n : ℕ) (ss : List (DeskSeat J)) (s : DeskSeat J) → AreNumbered n ss → s.me.0.number ≡ n + length ss → AreNumbered n (ss ++ s ∷ [])
+  numbered_push : (n : ℕ) (ss : List (DeskSeat J)) (s : DeskSeat J) → AreNumberedFrom n ss → s.me.0.number ≡ n + length ss → AreNumberedFrom n (ss ++ s ∷ [])
   numbered_push n [] s all is = (omega arith, tt)
   numbered_push n (x ∷ xs) s all is = (all.0, numbered_push (n + 1) xs s all.1 (omega arith))
 
@@ -448,7 +448,7 @@ module _ {J L S B : Type 0} (right : List ℕ → List ℕ → Bool → Option (
   pub seat_of_desk : (now : Stand) (short : ℕ) (places : List (Conversing J L S B)) (place : Conversing J L S B) (holds : List Said → Type 0) (seat : DeskSeat J) → Lasting now short (place ∷ places)
       → Acts right holds (promised place).seat.value seat → IsSeatOf desk seat
   seat_of_desk now short places place holds seat g a =
-      let out : IsOut desk (seat_out place) = All-head (IsOut desk) (seat_out place) (map seat_out places) g.keeps.waits in
+      let out : IsSplitOff desk (seat_out place) = All-head (IsSplitOff desk) (seat_out place) (map seat_out places) g.keeps.waits in
       subst (λ (d : TableId). IsSeatOf d seat) out.0 a.desk_is
 
   pub place_due : (now : Stand) (short : ℕ) (places : List (Conversing J L S B)) (place : Conversing J L S B) → Lasting now short (place ∷ places) → Due (served_so right talked tells) place
@@ -533,7 +533,7 @@ module _ {J S : Type 0} (right : List ℕ → List ℕ → Bool → Option (List
         keeps = subst (λ (out : List (DeskSeat J)). KeepsSeats desk v after [] out) (sym seats)
             (keeps_so desk v after [] (it ∷ workers_out places) (workers_out places ++ it ∷ []) (IsPermutation-sym (workers_out places ++ it ∷ []) (it ∷ workers_out places) (IsPermutation-to_front (workers_out places) it))
             (keeps_split desk v w after [] (workers_out places) it h.keeps is fits new));
-        numbered = subst (λ (out : List (DeskSeat J)). AreNumbered v.given out) (sym seats)
+        numbered = subst (λ (out : List (DeskSeat J)). AreNumberedFrom v.given out) (sym seats)
             (numbered_push desk v.given (workers_out places) it h.numbered (let number : it.me.0.number ≡ w.given = ap (λ (u : View). u.number) new in let all = h.keeps.given in omega arith));
         due = All-push (Due (worked_so right made)) places place h.due due;
         counted = let before = h.counted in let longer = length-append places (place ∷ []) in omega arith;
@@ -556,7 +556,7 @@ module _ {J S : Type 0} (right : List ℕ → List ℕ → Bool → Option (List
           seen = starts_through v.seen old.view.seen new.view.seen h.keeps.seen o.seen;
           known = subst (λ (l : List Met). HasMet new.view.seen l) (sym (append-nil met)) o.known;
         };
-        numbered = subst (λ (j : ℕ). AreNumbered j (workers_out places)) (omega arith) h.numbered;
+        numbered = subst (λ (j : ℕ). AreNumberedFrom j (workers_out places)) (omega arith) h.numbered;
         due = h.due;
         worked = tt;
         counted = let all = h.counted in omega arith;
@@ -566,7 +566,7 @@ module _ {J S : Type 0} (right : List ℕ → List ℕ → Bool → Option (List
       → items ≡ place ∷ rest → Acts right holds (shift_promised place).seat.value seat → IsSeatOf desk seat
   worker_of_desk w count met items rest place holds seat s is a =
       let went = subst (λ (l : List (Working J S)). Staffed right made desk v w count met l) is s in
-      let out : IsOut desk (shift_promised place).seat.value = All-head (IsOut desk) (shift_promised place).seat.value (workers_out rest) went.keeps.waits in
+      let out : IsSplitOff desk (shift_promised place).seat.value = All-head (IsSplitOff desk) (shift_promised place).seat.value (workers_out rest) went.keeps.waits in
       subst (λ (d : TableId). IsSeatOf d seat) out.0 a.desk_is
 
   -- a worker left, and was met
@@ -586,7 +586,7 @@ module _ {J S : Type 0} (right : List ℕ → List ℕ → Bool → Option (List
       let longer = length-append s.shifts (t ∷ []) in record {
         shifts = s.shifts ++ t ∷ [];
         keeps = subst (λ (l : List Met). KeepsSeats desk v after l (workers_out places)) (one ∙ mets) k;
-        numbered = subst (λ (j : ℕ). AreNumbered j (workers_out places)) (omega arith) s.numbered.1;
+        numbered = subst (λ (j : ℕ). AreNumberedFrom j (workers_out places)) (omega arith) s.numbered.1;
         due = All-tail (Due (worked_so right made)) place places s.due;
         worked = all_worked_snoc made v.given s.shifts t s.worked refl a.held;
         counted = let before = s.counted in omega arith;

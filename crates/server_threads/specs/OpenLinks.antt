@@ -27,13 +27,13 @@ use Rattle.server_threads.specs.Promises.{promise_of, Due}
 use Rattle.server_threads.specs.Serving.{Stand, stand, taken, MayTake, Opens, AtOnce, EndsServing}
 
 -- a seat is one of the desk's, and had made no move when it was split off
-abbrev pub IsOut : {J : Type 0} → TableId → DeskSeat J → Type 0
-IsOut desk s = (s.table_id ≡ desk) × (s.me.0.mine ≡ [])
+abbrev pub IsSplitOff : {J : Type 0} → TableId → DeskSeat J → Type 0
+IsSplitOff desk s = (s.table_id ≡ desk) × (s.me.0.mine ≡ [])
 
 -- the seats have the numbers from this one on
-abbrev pub AreNumbered : {J : Type 0} → ℕ → List (DeskSeat J) → Type 0
-AreNumbered n [] = Unit {0}
-AreNumbered n (s ∷ ss) = (s.me.0.number ≡ n) × AreNumbered (n + 1) ss
+abbrev pub AreNumberedFrom : {J : Type 0} → ℕ → List (DeskSeat J) → Type 0
+AreNumberedFrom n [] = Unit {0}
+AreNumberedFrom n (s ∷ ss) = (s.me.0.number ≡ n) × AreNumberedFrom (n + 1) ss
 
 -- the first seat met these seats, and split off as many and those that are out
 pub record KeepsSeats {J : Type 0} (desk : TableId) (v w : View) (met : List Met) (out : List (DeskSeat J)) : Type 0 where
@@ -41,7 +41,7 @@ pub record KeepsSeats {J : Type 0} (desk : TableId) (v w : View) (met : List Met
   pub number : w.number ≡ v.number
   pub met_is : w.met ≡ v.met ++ met
   pub given : w.given ≡ v.given + (length met + length out)
-  pub waits : All (IsOut desk) out
+  pub waits : All (IsSplitOff desk) out
   pub mine : w.mine ≡ v.mine
   pub seen : StartsWith w.seen v.seen
   pub known : HasMet w.seen met
@@ -174,7 +174,7 @@ module _ {J S : Type 0} where
     -- so many workers came, and are at work
     pub record Hired (desk : TableId) (v w : View) (count : ℕ) (places : List (Working J S)) : Type 0 where
       pub keeps : KeepsSeats desk v w [] (workers_out places)
-      pub numbered : AreNumbered v.given (workers_out places)
+      pub numbered : AreNumberedFrom v.given (workers_out places)
       pub due : All (Due worked_so) places
       pub counted : length places ≡ count
 
@@ -182,7 +182,7 @@ module _ {J S : Type 0} where
     pub record Staffed (desk : TableId) (v w : View) (count : ℕ) (met : List Met) (places : List (Working J S)) : Type 0 where
       pub shifts : List Shift
       pub keeps : KeepsSeats desk v w (met ++ map shift_met shifts) (workers_out places)
-      pub numbered : AreNumbered (v.given + length shifts) (workers_out places)
+      pub numbered : AreNumberedFrom (v.given + length shifts) (workers_out places)
       pub due : All (Due worked_so) places
       pub worked : AllWorked made v.given shifts
       pub counted : length shifts + length places ≡ count

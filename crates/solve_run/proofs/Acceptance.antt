@@ -12,7 +12,7 @@ use Rattle.certificate.specs.declared.claims.Claim.TheVariants as Has
 use Rattle.simplex_rules.specs.Ends.{Terms, Clock}
 use Rattle.search_rules.specs.Search.{Found, Outcome, IsSearchAnswer, searched, given_up as given_up_at, early}
 use Rattle.search_rules.specs.Outcomes.{HaveOneRange, IsShown}
-use Rattle.branch_bound.specs.Claims.{Tells}
+use Rattle.branch_bound.specs.Claims.{ClaimTells}
 use Rattle.osol_grammar.specs.declared.options.Options.{Options}
 use Rattle.osol_grammar.specs.Meaning.{IsOptionsText}
 use Rattle.osol_grammar.specs.Back.{IsNameOrNone}
@@ -24,7 +24,7 @@ use Rattle.osrl_grammar.specs.Back.{IsBareOrNone, CauseComesBack, ClaimComesBack
 use Rattle.document_checker.specs.declared.documents.Kind.{Kind}
 use Rattle.document_checker.specs.Documents.{kind, IsAcceptedText}
 use Rattle.solve_run.specs.Judging.{IsSearched, IsShownClaim, IsFinal, given_up, IsJudged, checked}
-use Rattle.solve_run.specs.Closings.{claim_report, IsShort, IsFitted, IsClosed}
+use Rattle.solve_run.specs.Closings.{claim_report, IsShort, IsFitted, IsToldOf}
 use Rattle.solve_run.specs.JobAnswers.{job_terms, Solved, IsJobOf, IsBestOfSearch, AnswersJob, no_options, no_instance, not_solved, solved, gave_up}
 use Rattle.solve_run.proofs.Lengths.{IsShortName}
 use Rattle.solve_run.proofs.Names.{short_name, bare_name}
@@ -60,7 +60,7 @@ module _ (p : Parts) (job : Option (List ℕ)) (valid : IsValid p) (name : IsSho
   fitted_good c told s final (inl (short, same)) = subst (IsGood p job) (sym same) (record { shown = s; accepted = final; short = short })
   fitted_good c told s final (inr (long, same)) = subst (IsGood p job) (sym same) (given_good c causes.Length s)
 
-  pub closed_good : (turns : ℕ) (found told : Claim) → IsShownClaim p found → IsClosed p job turns found told → IsGood p job told
+  pub closed_good : (turns : ℕ) (found told : Claim) → IsShownClaim p found → IsToldOf p job turns found told → IsGood p job told
   closed_good turns found told s c = by c.width c.judged c.fitted
     where
       by : (width : Option ℕ) → IsJudged p found width → IsFitted job (checked found turns width) told → IsGood p job told

@@ -7,7 +7,7 @@ use Rattle.certificate.specs.Meanings as Means
 use Rattle.certificate.specs.declared.claims.Claim.{Claim}
 use Rattle.simplex_rules.specs.Ends.{Clock}
 use Rattle.search_rules.specs.Search.{Outcome, Search}
-use Rattle.branch_bound.specs.Claims.{Tells}
+use Rattle.branch_bound.specs.Claims.{ClaimTells}
 use Rattle.cert_checker.specs.declared.refused.Refused.{Refused}
 use Rattle.cert_checker.specs.Refusals.{IsRefusedFor}
 use Rattle.osol_grammar.specs.declared.options.Options.{Options}
@@ -21,7 +21,7 @@ use Rattle.osil_grammar.specs.Reading.{IsInstanceText}
 use Rattle.osil_grammar.specs.Reading as instances
 use Rattle.osrl_grammar.specs.declared.report.Report.{Report}
 use Rattle.solve_run.specs.Judging.{IsSearched, IsWideAt, IsJudged, checked}
-use Rattle.solve_run.specs.Closings.{error_report, claim_report, IsShort, IsFitted, IsClosed}
+use Rattle.solve_run.specs.Closings.{error_report, claim_report, IsShort, IsFitted, IsToldOf}
 use Rattle.solve_run.specs.JobAnswers.{job_terms, RefusesOptions, RefusesInstance, LeavesInstance, AreJobTexts, Solved, GaveUp, MayStop, AnswersJob, no_options, no_instance, not_solved, solved, gave_up}
 use Rattle.document_checker.specs.Grounds.{InstancesAreOne}
 use Rattle.solve_run.specs.Grounds.{OptionsAreOne, SearchesAreOne}
@@ -96,7 +96,7 @@ module _ (laws : SearchesAreOne) where
   fitted_once job c s t (inr (long, same)) (inl (short, same_too)) = absurd (long short)
   fitted_once job c s t (inr (long, same)) (inr (long_too, same_too)) = same ∙ sym same_too
 
-  closed_once : (p : Parts) (job : Option (List ℕ)) (turns : ℕ) (c s t : Claim) → IsClosed p job turns c s → IsClosed p job turns c t → s ≡ t
+  closed_once : (p : Parts) (job : Option (List ℕ)) (turns : ℕ) (c s t : Claim) → IsToldOf p job turns c s → IsToldOf p job turns c t → s ≡ t
   closed_once p job turns c s t a b =
       let width = judged_once p c a.width b.width a.judged b.judged in
       fitted_once job (checked c turns b.width) s t (subst (λ (w : Option ℕ). IsFitted job (checked c turns w) s) width a.fitted) b.fitted
@@ -107,9 +107,9 @@ module _ (laws : SearchesAreOne) where
     outcome : Outcome
     ends : Search (program p) (job_terms o stop) outcome (record { turns = turns; looks = looks })
     found : Claim
-    tells : Tells found outcome
+    tells : ClaimTells found outcome
     told : Claim
-    closed : IsClosed p o.job turns found told
+    closed : IsToldOf p o.job turns found told
     is : r ≡ claim_report o.job told
 
   ended : (osil osol : List ℕ) (stop : Option ℕ) (looks : ℕ) (r : Report) (s : Solved osil osol stop looks r) → Ended s.given.options s.given.parts stop looks r
@@ -118,9 +118,9 @@ module _ (laws : SearchesAreOne) where
   ended_once : (o : Options) (p : Parts) (stop : Option ℕ) (looks more : ℕ) (r s : Report) → Ended o p stop looks r → Ended o p stop more s → (r ≡ s) × (looks ≡ more)
   ended_once o p stop looks more r s a b =
       let both = laws.once (program p) (job_terms o stop) a.outcome b.outcome _ _ (laws.numbers p) a.ends b.ends in
-      let found = claim_once laws.fractions a.found b.found b.outcome (subst (Tells a.found) both.0 a.tells) b.tells in
+      let found = claim_once laws.fractions a.found b.found b.outcome (subst (ClaimTells a.found) both.0 a.tells) b.tells in
       let turns = ap (λ (c : Clock). c.turns) both.1 in
-      let closed : IsClosed p o.job b.turns b.found a.told = subst (λ (t : ℕ). IsClosed p o.job t b.found a.told) turns (subst (λ (c : Claim). IsClosed p o.job a.turns c a.told) found a.closed) in
+      let closed : IsToldOf p o.job b.turns b.found a.told = subst (λ (t : ℕ). IsToldOf p o.job t b.found a.told) turns (subst (λ (c : Claim). IsToldOf p o.job a.turns c a.told) found a.closed) in
       let told = closed_once p o.job b.turns b.found a.told b.told closed b.closed in
       (a.is ∙ ap (claim_report o.job) told ∙ sym b.is, ap (λ (c : Clock). c.looks) both.1)
 
@@ -135,15 +135,15 @@ module _ (laws : SearchesAreOne) where
         ended_once b.given.options b.given.parts stop looks more r s (moved osil osol a.given b.given stop looks r (ended osil osol stop looks r a)) (ended osil osol stop more s b)
 
     -- a search that ends with a claim that is refused for no width, and isn't too long, is told
-    complete : (osil osol : List ℕ) (o : Options) (p : Parts) (oc : Outcome) (found : Claim) (c : Clock) (r : Report) → IsOptionsText osol o → IsInstanceText osil p → Search (program p) (job_terms o None) oc c → Tells found oc
+    complete : (osil osol : List ℕ) (o : Options) (p : Parts) (oc : Outcome) (found : Claim) (c : Clock) (r : Report) → IsOptionsText osol o → IsInstanceText osil p → Search (program p) (job_terms o None) oc c → ClaimTells found oc
         → ((q : Refused) (n : ℕ) → IsRefusedFor (problem p) (Means.claim found) q → IsWideAt q n → ⊥) → IsShort o.job found → (looks : ℕ) → Solved osil osol None looks r → r ≡ claim_report o.job found
     complete osil osol o p oc found c r options_text instance_text ends tells fits short looks s =
         let here = ended osil osol None looks r s in
         let moved_here = subst (λ (x : Options). Ended x p None looks r) (options.once osol s.given.options o s.given.options_text options_text)
         (subst (λ (q : Parts). Ended s.given.options q None looks r) (instances_one.once osil s.given.parts p s.given.instance_text instance_text) here) in
         let both = laws.once (program p) (job_terms o None) moved_here.outcome oc _ c (laws.numbers p) moved_here.ends ends in
-        let same = claim_once laws.fractions moved_here.found found oc (subst (Tells moved_here.found) both.0 moved_here.tells) tells in
-        let closed : IsClosed p o.job moved_here.turns found moved_here.told = subst (λ (x : Claim). IsClosed p o.job moved_here.turns x moved_here.told) same moved_here.closed in
+        let same = claim_once laws.fractions moved_here.found found oc (subst (ClaimTells moved_here.found) both.0 moved_here.tells) tells in
+        let closed : IsToldOf p o.job moved_here.turns found moved_here.told = subst (λ (x : Claim). IsToldOf p o.job moved_here.turns x moved_here.told) same moved_here.closed in
         moved_here.is ∙ ap (claim_report o.job) (by moved_here.turns moved_here.told closed.width closed.judged closed.fitted)
       where
         by : (turns : ℕ) (told : Claim) (width : Option ℕ) → IsJudged p found width → IsFitted o.job (checked found turns width) told → told ≡ found
@@ -151,7 +151,7 @@ module _ (laws : SearchesAreOne) where
         by turns told None judged (inr (long, same)) = absurd (long short)
         by turns told (Some n) (final, q, refused, wide) fitted = absurd (fits q n refused wide)
 
-    pub told_at_end : (osil osol : List ℕ) (o : Options) (p : Parts) (oc : Outcome) (found : Claim) (c : Clock) (r : Report) → IsOptionsText osol o → IsInstanceText osil p → IsSearched p → Search (program p) (job_terms o None) oc c → Tells found oc → ((q : Refused) (n : ℕ) → IsRefusedFor (problem p) (Means.claim found) q → IsWideAt q n → ⊥) → IsShort o.job found → AnswersJob osil osol false r
+    pub told_at_end : (osil osol : List ℕ) (o : Options) (p : Parts) (oc : Outcome) (found : Claim) (c : Clock) (r : Report) → IsOptionsText osol o → IsInstanceText osil p → IsSearched p → Search (program p) (job_terms o None) oc c → ClaimTells found oc → ((q : Refused) (n : ℕ) → IsRefusedFor (problem p) (Means.claim found) q → IsWideAt q n → ⊥) → IsShort o.job found → AnswersJob osil osol false r
         → (r ≡ claim_report o.job found) ⊎ GaveUp osil osol r
     told_at_end osil osol o p oc found c r options_text instance_text one ends tells fits short (no_options a) = absurd (no_options_given options instances_one osol o r a options_text)
     told_at_end osil osol o p oc found c r options_text instance_text one ends tells fits short (no_instance a) = absurd (no_instance_given options instances_one osil osol p r a instance_text)

@@ -14,7 +14,7 @@ use Rattle.certificate.specs.declared.claims.Claim.{Claim}
 use Rattle.certificate.specs.declared.claims.Claim.TheVariants as Has
 use Rattle.certificate.specs.Meanings.{multiplier, multipliers, node, certificate, certificates, claim}
 use Rattle.search_rules.specs.Search.{Outcome}
-use Rattle.branch_bound.specs.Claims.{Tells, claimed_cause}
+use Rattle.branch_bound.specs.Claims.{ClaimTells, claimed_cause}
 
 -- members that are told by what they mean make lists that are
 each_once : {A B : Type 0} (f : A → B) → ((x y : A) → f x ≡ f y → x ≡ y) → (xs ys : List A) → map f xs ≡ map f ys → xs ≡ ys
@@ -88,5 +88,5 @@ module _ (fractions : (x y : Frac) → IsSame (ratio x) (ratio y) → x ≡ y) w
   same_claim c d e f = absurd (cc)
 
   -- an outcome is told by one claim
-  pub claim_once : (c d : Claim) (o : Outcome) → Tells c o → Tells d o → c ≡ d
+  pub claim_once : (c d : Claim) (o : Outcome) → ClaimTells c o → ClaimTells d o → c ≡ d
   claim_once c d o a b = same_claim c d (a.says ∙ sym b.says) (a.cause ∙ sym b.cause)

@@ -16,7 +16,7 @@ use Rattle.simplex_rules.specs.Looks.{answers, went_on, AgreesWith as Agrees, lo
 use Rattle.simplex_rules.proofs.Looks.{agrees}
 use Rattle.search_rules.specs.Search.{Found, Outcome, BestSoFar, Unsure, Moment, ComesInSearch, Search, IsSearchAnswer, early, searched, given_up as given_up_at, given_up_after}
 use Rattle.search_rules.specs.Outcomes.{IsShown, HaveOneRange}
-use Rattle.branch_bound.specs.Claims.{Tells, is_killed}
+use Rattle.branch_bound.specs.Claims.{ClaimTells, is_killed}
 use Rattle.osol_grammar.specs.declared.options.Options.{Options}
 use Rattle.osol_grammar.specs.declared.fault.OsolFault.{OsolFault}
 use Rattle.osol_grammar.specs.Meaning.{IsOptionsText}
@@ -29,7 +29,7 @@ use Rattle.osil_grammar.specs.Reading as instances
 use Rattle.osrl_grammar.specs.declared.report.Report.{Report}
 use Rattle.solve_run.specs.declared.document.Document.{Document}
 use Rattle.solve_run.specs.Judging.{IsSearched, IsShownClaim, IsFinal, IsJudged, checked}
-use Rattle.solve_run.specs.Closings.{claim_report, error_report, IsShort, IsFitted, IsClosed}
+use Rattle.solve_run.specs.Closings.{claim_report, error_report, IsShort, IsFitted, IsToldOf}
 use Rattle.solve_run.specs.JobAnswers.{job_terms, AreJobTexts, IsJobOf, MayStop, AnswersJob, Right}
 use Rattle.solve_run.specs.JobAnswers as right
 use Rattle.solve_run.specs.Runs.{Reports, no_options, no_instance, not_solved, solved, gave_up, TellsOutcome, TellsText, TellsDocument, IsRight, Ran, ClosesClaim, IsClaimTold, IsMemoryDocument, IsErrorDocument}
@@ -48,7 +48,7 @@ claim_short p job (Has.BestSoFar x vs c) valid name s other = let (few, one) = f
 claim_short p job (Has.Unsure c) valid name s other = unsure_short job name c
 
 -- what is told of it is the claim itself
-kept : (p : Parts) (job : Option (List ℕ)) (turns : ℕ) (found told : Claim) → (IsFinal found → ⊥) → IsShort job found → IsClosed p job turns found told → told ≡ found
+kept : (p : Parts) (job : Option (List ℕ)) (turns : ℕ) (found told : Claim) → (IsFinal found → ⊥) → IsShort job found → IsToldOf p job turns found told → told ≡ found
 kept p job turns found told other short c = by c.width c.judged c.fitted
   where
     by : (width : Option ℕ) → IsJudged p found width → IsFitted job (checked found turns width) told → told ≡ found
@@ -57,7 +57,7 @@ kept p job turns found told other short c = by c.width c.judged c.fitted
     by (Some n) judged fitted = absurd (other judged.0)
 
 -- a claim for want of memory isn't final
-pub wanting : (c : Claim) (best : Option Found) → Tells c (early best Memory) → IsFinal c → ⊥
+pub wanting : (c : Claim) (best : Option Found) → ClaimTells c (early best Memory) → IsFinal c → ⊥
 wanting c None t final = decided c (Unsure Memory) final t.says
 wanting c (Some f) t final = decided c (BestSoFar f.point f.value Memory) final t.says
 
@@ -77,9 +77,9 @@ module _ (osil osol : List ℕ) (o : Options) (p : Parts) (valid : IsValid p) (o
 
   module _ (found : Claim) (turns n : ℕ) (doc : Document) where
     -- memory was wanting in the search: the claim of its moment is told
-    wanted : (oc : Outcome) (m : Moment) → Tells found oc → IsShown (program p) oc → ComesInSearch (program p) (job_terms o (stop_after n (is_killed oc))) m → early m.best Memory ≡ oc → ClosesClaim p o.job turns found doc → TellsOutcome osil osol n (is_killed oc) doc
+    wanted : (oc : Outcome) (m : Moment) → ClaimTells found oc → IsShown (program p) oc → ComesInSearch (program p) (job_terms o (stop_after n (is_killed oc))) m → early m.best Memory ≡ oc → ClosesClaim p o.job turns found doc → TellsOutcome osil osol n (is_killed oc) doc
     wanted oc m tells shown comes is closes =
-        let early_told : Tells found (early m.best Memory) = subst (Tells found) (sym is) tells in
+        let early_told : ClaimTells found (early m.best Memory) = subst (ClaimTells found) (sym is) tells in
         let other = wanting found m.best early_told in
         let same = kept p o.job turns found closes.told other (claim_short p o.job found valid (short_name o.job name) (record { outcome = oc; tells = tells; shown = shown }) other) closes.closed in
         let went : is_killed oc ≡ false = ap is_killed (sym is) ∙ memory_killed m.best in
@@ -94,14 +94,14 @@ module _ (osil osol : List ℕ) (o : Options) (p : Parts) (valid : IsValid p) (o
               searched = one;
               moment = m;
               comes = subst (λ (k : Bool). ComesInSearch (program p) (job_terms o (stop_after n k)) m) went comes;
-              tells = subst (λ (c : Claim). Tells c (early m.best Memory)) (sym same) early_told;
+              tells = subst (λ (c : Claim). ClaimTells c (early m.best Memory)) (sym same) early_told;
             });
             is = refl;
           });
           is = closes.is;
         }
 
-    ended : (oc : Outcome) → Tells found oc → Search (program p) (job_terms o (stop_after n (is_killed oc))) oc (clock_after turns n (is_killed oc)) → ClosesClaim p o.job turns found doc → TellsOutcome osil osol n (is_killed oc) doc
+    ended : (oc : Outcome) → ClaimTells found oc → Search (program p) (job_terms o (stop_after n (is_killed oc))) oc (clock_after turns n (is_killed oc)) → ClosesClaim p o.job turns found doc → TellsOutcome osil osol n (is_killed oc) doc
     ended oc tells ends closes = record {
       report = claim_report o.job closes.told;
       reports = solved (record {
@@ -120,7 +120,7 @@ module _ (osil osol : List ℕ) (o : Options) (p : Parts) (valid : IsValid p) (o
       is = closes.is;
     }
 
-    answered : (oc of : Outcome) (d : Clock) → of ≡ oc → d ≡ clock_after turns n (is_killed oc) → Tells found oc → IsShown (program p) oc → IsSearchAnswer (program p) (job_terms o (stop_after n (is_killed oc))) of d → ClosesClaim p o.job turns found doc → TellsOutcome osil osol n (is_killed oc) doc
+    answered : (oc of : Outcome) (d : Clock) → of ≡ oc → d ≡ clock_after turns n (is_killed oc) → ClaimTells found oc → IsShown (program p) oc → IsSearchAnswer (program p) (job_terms o (stop_after n (is_killed oc))) of d → ClosesClaim p o.job turns found doc → TellsOutcome osil osol n (is_killed oc) doc
     answered oc of d e f tells shown (searched s) closes =
         ended oc tells (subst (λ (x : Outcome). Search (program p) (job_terms o (stop_after n (is_killed oc))) x (clock_after turns n (is_killed oc))) e
         (subst (λ (x : Clock). Search (program p) (job_terms o (stop_after n (is_killed oc))) of x) f s)) closes
@@ -137,7 +137,7 @@ untold osil osol n killed job doc whose is = record {
 
 -- the run of an instance
 pub ran : {E : Type 0} (Came : List Bool → Type 0) (osil osol : List ℕ) (o : Options) (p : Parts) (found : Claim) (turns n : ℕ) (oc : Outcome) (result : Result Document E)
-    → IsValid p → IsNameOrNone o.job → IsOptionsText osol o → IsInstanceText osil p → IsSearched p → Tells found oc → IsShown (program p) oc
+    → IsValid p → IsNameOrNone o.job → IsOptionsText osol o → IsInstanceText osil p → IsSearched p → ClaimTells found oc → IsShown (program p) oc
     → Came (answers n (is_killed oc))
     → ((stop : Option ℕ) → Agrees stop 0 n (is_killed oc) → IsSearchAnswer (program p) (job_terms o stop) oc (clock_after turns n (is_killed oc)))
     → IfOk result (IsClaimTold p o.job turns found) → Ran Came osil osol (TellsDocument osil osol result)

@@ -26,7 +26,7 @@ abbrev pub IsFitted : (job : Option (List ℕ)) → (checked told : Claim) → T
 IsFitted job c told = (IsShort job c × (told ≡ c)) ⊎ ((IsShort job c → ⊥) × (told ≡ given_up c causes.Length))
 
 -- what is told of what a search found after so many turns: it is checked first, and then fitted
-pub record IsClosed (p : Parts) (job : Option (List ℕ)) (turns : ℕ) (found told : Claim) : Type 0 where
+pub record IsToldOf (p : Parts) (job : Option (List ℕ)) (turns : ℕ) (found told : Claim) : Type 0 where
   pub width : Option ℕ
   pub judged : IsJudged p found width
   pub fitted : IsFitted job (checked found turns width) told

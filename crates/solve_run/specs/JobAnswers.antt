@@ -7,7 +7,7 @@ use Rattle.certificate.specs.declared.claims.Claim.{Claim}
 use Rattle.certificate.specs.declared.claims.Claim.TheVariants.{Unsure}
 use Rattle.simplex_rules.specs.Ends.{Terms}
 use Rattle.search_rules.specs.Search.{Outcome, Moment, ComesInSearch, Search, early}
-use Rattle.branch_bound.specs.Claims.{Tells}
+use Rattle.branch_bound.specs.Claims.{ClaimTells}
 use Rattle.osol_grammar.specs.declared.options.Options.{Options}
 use Rattle.osol_grammar.specs.declared.fault.OsolFault.{OsolFault}
 use Rattle.osol_grammar.specs.Meaning.{IsOptionsText}
@@ -20,7 +20,7 @@ use Rattle.osrl_grammar.specs.declared.report.Report.{Report}
 use Rattle.osrl_grammar.specs.Writing.{report_text}
 use Rattle.osrl_grammar.specs.Back.{ClaimComesBack}
 use Rattle.solve_run.specs.Judging.{IsSearched}
-use Rattle.solve_run.specs.Closings.{error_report, claim_report, IsClosed}
+use Rattle.solve_run.specs.Closings.{error_report, claim_report, IsToldOf}
 
 -- a search within the options' limits, stopped by this look, if by one
 abbrev pub job_terms : Options → (stop : Option ℕ) → Terms
@@ -66,9 +66,9 @@ pub record Solved (osil osol : List ℕ) (stop : Option ℕ) (looks : ℕ) (r : 
   pub outcome : Outcome
   pub ends : Search (program given.parts) (job_terms given.options stop) outcome (record { turns = turns; looks = looks })
   pub found : Claim
-  pub tells : Tells found outcome
+  pub tells : ClaimTells found outcome
   pub told : Claim
-  pub closed : IsClosed given.parts given.options.job turns found told
+  pub closed : IsToldOf given.parts given.options.job turns found told
   pub numbers : ClaimComesBack (Some told)
   pub is : r ≡ claim_report given.options.job told
 
@@ -82,7 +82,7 @@ pub record IsBestOfSearch (osil osol : List ℕ) (c : Claim) : Type 0 where
   pub searched : IsSearched given.parts
   pub moment : Moment
   pub comes : ComesInSearch (program given.parts) (job_terms given.options None) moment
-  pub tells : Tells c (early moment.best Memory)
+  pub tells : ClaimTells c (early moment.best Memory)
 
 -- memory was wanting: nothing is claimed, or the best point of some moment of the search
 pub record GaveUp (osil osol : List ℕ) (r : Report) : Type 0 where

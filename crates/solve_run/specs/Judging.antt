@@ -13,7 +13,7 @@ use Rattle.certificate.specs.declared.claims.Claim.{Claim}
 use Rattle.certificate.specs.declared.claims.Claim.TheVariants.{Optimal, Infeasible, Unbounded, BestSoFar, Unsure}
 use Rattle.search_rules.specs.Search.{Outcome}
 use Rattle.search_rules.specs.Outcomes.{IsShown}
-use Rattle.branch_bound.specs.Claims.{Tells}
+use Rattle.branch_bound.specs.Claims.{ClaimTells}
 use Rattle.cert_checker.specs.declared.refused.Refused.{Refused}
 use Rattle.cert_checker.specs.declared.refused.Refused.TheVariants.{Level}
 use Rattle.cert_checker.specs.declared.refused.Unshown.TheVariants as why
@@ -27,7 +27,7 @@ pub record IsSearched (p : Parts) : Type 0 where
 -- the claim tells an outcome that is shown
 pub record IsShownClaim (p : Parts) (c : Claim) : Type 0 where
   pub outcome : Outcome
-  pub tells : Tells c outcome
+  pub tells : ClaimTells c outcome
   pub shown : IsShown (program p) outcome
 
 -- the claim says that a point is optimal, that none is feasible, or that points have no best value

@@ -10,7 +10,7 @@ use Rattle.search_rules.specs.Search.{Outcome, IsSearchAnswer}
 use Rattle.osrl_grammar.specs.declared.report.Report.{Report}
 use Rattle.osrl_grammar.specs.Writing.{report_text}
 use Rattle.osrl_grammar.specs.Back.{CauseComesBack, ClaimComesBack}
-use Rattle.solve_run.specs.Closings.{claim_report, error_report, IsFitted, IsClosed}
+use Rattle.solve_run.specs.Closings.{claim_report, error_report, IsFitted, IsToldOf}
 use Rattle.solve_run.specs.declared.document.Document.{Document}
 use Rattle.solve_run.specs.JobAnswers.{job_terms, RefusesOptions, RefusesInstance, LeavesInstance, AreJobTexts, Solved, GaveUp, AnswersJob}
 
@@ -91,7 +91,7 @@ HasCauses (Unsure c) = CauseComesBack c
 -- what is told of a claim that was found, closed
 pub record ClosesClaim (p : Parts) (job : Option (List ℕ)) (turns : ℕ) (found : Claim) (doc : Document) : Type 0 where
   pub told : Claim
-  pub closed : IsClosed p job turns found told
+  pub closed : IsToldOf p job turns found told
   pub numbers : ClaimComesBack (Some told)
   pub is : IsDocumentOf (claim_report job told) doc
 

@@ -3,7 +3,7 @@ ghost use Rattle.std.specs.Prelude.{◌≡◌, ◌↔◌, ℕ, ◌-◌, ◌^◌,
 ghost use Rattle.instance.specs.Program.{program};
 ghost use Rattle.simplex_rules.specs.Looks.{answers, AgreesWith, looks_after};
 ghost use Rattle.search_rules.specs.Search.{Outcome, IsSearchAnswer};
-ghost use Rattle.branch_bound.specs.Claims.{Tells, is_killed};
+ghost use Rattle.branch_bound.specs.Claims.{ClaimTells, is_killed};
 ghost use Rattle.solve_run.specs.Judging.{IsSearched};
 ghost use Rattle.solve_run.specs.JobAnswers.{job_terms};
 
@@ -35,7 +35,7 @@ fn find_on<W: Watch, L: Ledger>(
     requires parts { blank.parts ≡ L.parts }
     requires some { 0 < blank.parts }
     requires stops { W.stops watch.old < 2 ^ 64 - 1 }
-    ensures { (n : ℕ) × (o : Outcome) × Tells result.claim o × W.came watch.old watch.new (answers n (is_killed o)) × ((stop : Option ℕ) → AgreesWith stop 0 n (is_killed o) → IsSearchAnswer (program instance.now) (job_terms options.now stop) o (record { turns = result.turns; looks = looks_after 0 n (is_killed o) })) }
+    ensures { (n : ℕ) × (o : Outcome) × ClaimTells result.claim o × W.came watch.old watch.new (answers n (is_killed o)) × ((stop : Option ℕ) → AgreesWith stop 0 n (is_killed o) → IsSearchAnswer (program instance.now) (job_terms options.now stop) o (record { turns = result.turns; looks = looks_after 0 n (is_killed o) })) }
 {
     let mut steps = Steps::<L>::new(blank);
     search(
@@ -56,7 +56,7 @@ pub fn find<W: Watch>(
     watch: &mut W,
 ) -> Searched
     requires { W.stops watch.old < 2 ^ 64 - 1 }
-    ensures { (n : ℕ) × (o : Outcome) × Tells result.claim o × W.came watch.old watch.new (answers n (is_killed o)) × ((stop : Option ℕ) → AgreesWith stop 0 n (is_killed o) → IsSearchAnswer (program instance.now) (job_terms options.now stop) o (record { turns = result.turns; looks = looks_after 0 n (is_killed o) })) }
+    ensures { (n : ℕ) × (o : Outcome) × ClaimTells result.claim o × W.came watch.old watch.new (answers n (is_killed o)) × ((stop : Option ℕ) → AgreesWith stop 0 n (is_killed o) → IsSearchAnswer (program instance.now) (job_terms options.now stop) o (record { turns = result.turns; looks = looks_after 0 n (is_killed o) })) }
 {
     find_on::<W, Brand>(alloc, instance, options, watch, Blank::new(1))
 }

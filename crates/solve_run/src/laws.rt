@@ -7,7 +7,7 @@ ghost use Rattle.certificate.specs.Meanings as Means;
 ghost use Rattle.certificate.specs.declared.claims.Claim.{Claim};
 ghost use Rattle.simplex_rules.specs.Ends.{Terms, Clock};
 ghost use Rattle.search_rules.specs.Search.{Outcome, Search};
-ghost use Rattle.branch_bound.specs.Claims.{Tells};
+ghost use Rattle.branch_bound.specs.Claims.{ClaimTells};
 ghost use Rattle.osol_grammar.specs.declared.options.Options as kinds;
 ghost use Rattle.osol_grammar.specs.Meaning.{IsOptionsText};
 ghost use Rattle.osil_grammar.specs.Reading.{IsInstanceText};
@@ -88,7 +88,7 @@ pub fn answers_are_one()
 /// Law: a claim that a search finds, that a point is optimal, that none is feasible or that points have no best value, is refused
 /// by the checker for width alone.
 pub fn found_claims_are_refused_for_width_alone()
-    ensures { (p : Parts) (t : Terms) (o : Outcome) (found : Claim) (c : Clock) (r : Refused) → IsSearched p → Search (program p) t o c → Tells found o → IsFinal found → IsRefusedFor (problem p) (Means.claim found) r → (n : ℕ) × IsWideAt r n }
+    ensures { (p : Parts) (t : Terms) (o : Outcome) (found : Claim) (c : Clock) (r : Refused) → IsSearched p → Search (program p) t o c → ClaimTells found o → IsFinal found → IsRefusedFor (problem p) (Means.claim found) r → (n : ℕ) × IsWideAt r n }
 {
     programs_have_numbers();
     problems_have_numbers();
@@ -100,7 +100,7 @@ pub fn found_claims_are_refused_for_width_alone()
 /// isn't too long, the job's answer tells it, or memory is wanting. Such is each claim that a point is optimal, that none is
 /// feasible or that points have no best value, and that the checker accepts.
 pub fn ended_searches_are_told()
-    ensures { (osil osol : List ℕ) (o : kinds.Options) (p : Parts) (oc : Outcome) (found : Claim) (c : Clock) (r : Report) → IsOptionsText osol o → IsInstanceText osil p → IsSearched p → Search (program p) (job_terms o None) oc c → Tells found oc → ((q : Refused) (n : ℕ) → IsRefusedFor (problem p) (Means.claim found) q → IsWideAt q n → ⊥) → IsShort o.job found → AnswersJob osil osol false r → (r ≡ claim_report o.job found) ⊎ GaveUp osil osol r }
+    ensures { (osil osol : List ℕ) (o : kinds.Options) (p : Parts) (oc : Outcome) (found : Claim) (c : Clock) (r : Report) → IsOptionsText osol o → IsInstanceText osil p → IsSearched p → Search (program p) (job_terms o None) oc c → ClaimTells found oc → ((q : Refused) (n : ℕ) → IsRefusedFor (problem p) (Means.claim found) q → IsWideAt q n → ⊥) → IsShort o.job found → AnswersJob osil osol false r → (r ≡ claim_report o.job found) ⊎ GaveUp osil osol r }
 {
     options_are_one();
     instances_are_one();

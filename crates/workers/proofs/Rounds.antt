@@ -6,7 +6,7 @@ use Rattle.job_table.specs.declared.calls.Reply.TheVariants as reply
 use Rattle.job_table.specs.History.{Entry, entry_of_move}
 use Rattle.job_runs.specs.Runs.{Works}
 use Rattle.job_runs.proofs.Judgements.{Made, Joins}
-use Rattle.workers.specs.Shifts.{WorkOff, Rests, WorksThrough}
+use Rattle.workers.specs.Shifts.{WorkOff, WorksUntilNone, WorksThrough}
 
 false_is_not : false ≡ true → ⊥
 false_is_not e = cc
@@ -29,7 +29,7 @@ abbrev pub Claimed : Made → (List Entry → Type 0) → Type 0
 Claimed made did = (given : List (Option Job)) × (own : List Entry) × did own × WorkOff made given own
 
 abbrev pub Rested : Made → (List Entry → Type 0) → Type 0
-Rested made did = (own : List Entry) × did own × Rests made own
+Rested made did = (own : List Entry) × did own × WorksUntilNone made own
 
 -- a claim that gave none is all of its round
 gave_none : (made : Made) (given : Option Job) (own : List Entry) → Works made true given own → given ≡ None → own ≡ entry_of_move (Claim true) (reply.Gave None) ∷ []
@@ -37,7 +37,7 @@ gave_none made None own worked none = worked.are ∙ ap (λ (run : List Entry). 
 gave_none made (Some j) own worked none = absurd (some_is_not_none j none)
 
 -- a worker rests, works on and rests again
-rests_then : (made : Made) (a b : List Entry) → Rests made a → Rests made b → Rests made (a ++ b)
+rests_then : (made : Made) (a b : List Entry) → WorksUntilNone made a → WorksUntilNone made b → WorksUntilNone made (a ++ b)
 rests_then made a b x y =
     let last : List Entry = entry_of_move (Claim true) (reply.Gave None) ∷ [] in
     let round : Works made true None last = record { run = []; ran = refl; are = refl } in record {

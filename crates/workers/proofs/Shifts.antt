@@ -10,7 +10,7 @@ use Rattle.job_table.specs.Jobs.{HeldJobs, Register, job, is_waiting, or_waiting
 use Rattle.job_table.specs.Steps.{Step, Outcome, outcome, claims}
 use Rattle.job_table.specs.History.{Entry, entry_of_move, LeadsStepwise}
 use Rattle.job_table.proofs.Histories.{runs_split}
-use Rattle.workers.specs.Shifts.{Rests, WorksThrough}
+use Rattle.workers.specs.Shifts.{WorksUntilNone, WorksThrough}
 use Rattle.job_runs.proofs.Judgements.{Made, Judgement}
 
 some_is_not_none : (j : Job) → Some j ≡ None → ⊥
@@ -39,7 +39,7 @@ claims_none None r next is = (refl, ap (λ (o : Outcome). o.after) (sym is))
 claims_none (Some j) r next is = absurd (gave_is_not_none j (ap (λ (o : Outcome). o.reply) is))
 
 module _ (made : Made) (right : Judgement) where
-  rests_idle : (r after : Register) (es : List Entry) → Rests made es → LeadsStepwise right r es after → waiting_jobs after.jobs ≡ 0
+  rests_idle : (r after : Register) (es : List Entry) → WorksUntilNone made es → LeadsStepwise right r es after → waiting_jobs after.jobs ≡ 0
   rests_idle r after es rests runs =
       let (mid, before, (next, step, same)) = runs_split right r after rests.before (entry_of_move (Claim true) (reply.Gave None) ∷ [])
       (subst (λ (l : List Entry). LeadsStepwise right r l after) rests.are runs) in

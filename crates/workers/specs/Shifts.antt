@@ -15,7 +15,7 @@ module _ (made : List ℕ → List ℕ → List Bool → Option (List ℕ) → T
       (own : List Entry) × (rest : List Entry) × Works made true given own × WorkOff later rest × (entries ≡ own ++ rest)
 
   -- the same, up to a claim that gave none
-  pub record Rests (entries : List Entry) : Type 0 where
+  pub record WorksUntilNone (entries : List Entry) : Type 0 where
     pub given : List (Option Job)
     pub before : List Entry
     pub worked : WorkOff given before
@@ -24,5 +24,5 @@ module _ (made : List ℕ → List ℕ → List Bool → Option (List ℕ) → T
   -- a worker enlists, works until a claim gives none, and leaves
   pub record WorksThrough (entries : List Entry) : Type 0 where
     pub shift : List Entry
-    pub rests : Rests shift
+    pub rests : WorksUntilNone shift
     pub are : entries ≡ entry_of_move Enlist reply.Done ∷ shift ++ entry_of_move Leave reply.Done ∷ []

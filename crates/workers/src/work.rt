@@ -6,7 +6,7 @@ ghost use Rattle.job_table.specs.History.{Entry};
 ghost use Rattle.job_runs.specs.Runs.{Works};
 ghost use Rattle.desk.specs.SeatMoves.{desk_id, IsSeatOf};
 ghost use Rattle.desk.specs.SeatHistory.{Asked};
-ghost use Rattle.workers.specs.Shifts.{Rests, WorksThrough};
+ghost use Rattle.workers.specs.Shifts.{WorksUntilNone, WorksThrough};
 ghost use Rattle.workers.specs.Gates.{look_numbers};
 
 use crate::gate::{Gate, Gated};
@@ -113,7 +113,7 @@ fn work_and_sleep<V: Verdicts, C: Calls<V>, R: Wait, U: Runner<V>>(
     naps: &Naps,
     runner: &U,
 )
-    ensures { (own : List Entry) × C.did calls.old calls.new own × Rests U.ran own }
+    ensures { (own : List Entry) × C.did calls.old calls.new own × WorksUntilNone U.ran own }
 {
     work_off(rt, alloc, calls, runner);
     for _ in rt.forever() {
@@ -133,7 +133,7 @@ pub(crate) fn work_off<V: Verdicts, C: Calls<V>, R: Wait, U: Runner<V>>(
     calls: &mut C,
     runner: &U,
 )
-    ensures { (own : List Entry) × C.did calls.old calls.new own × Rests U.ran own }
+    ensures { (own : List Entry) × C.did calls.old calls.new own × WorksUntilNone U.ran own }
 {
     for _ in rt.forever() {
         if !job_runs::work_one(alloc, calls, runner, true) {
