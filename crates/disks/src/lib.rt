@@ -1,4 +1,5 @@
-//! Disks: a file's bytes that are read, written, cut and brought to rest, with what a crash may leave of them.
+//! Disks: a file's bytes that are read, written, cut and brought to rest, with what a crash may leave of them. They are for
+//! journals, of which the program keeps none yet.
 //!
 //! What a crash leaves is part of each contract of [`Disk`]: what one may leave now, and what one at some moment since an earlier
 //! moment might have left, within a call too. So who makes calls can say of each of his own what a crash in it leaves. Between two

@@ -16,5 +16,3 @@ of zero r whole = record { range = range_by zero r; whole = whole; unless_zero =
 pub kept : (zero : Bool) (r : Of.Range) (whole : Bool) (x : Ratio) → Of.HasNumbers r → IsNumber x → Keeps (of zero r whole) x ↔ (IsZeroOrWithin zero r x × (IsTrue whole → IsWhole x))
 kept true r whole x h p = semi_kept r whole x h p
 kept false r whole x h p = (λ k. (k.between, k.whole), λ k. record { between = k.0; whole = k.1; further = tt })
-
-)

@@ -1,5 +1,5 @@
-//! What the program does, over any words, files, input, output and links: [`run`], whose contract says what each status
-//! means.
+//! What the program does, over any words, files, input, output and links: [`run`], whose contract is the promise of the whole
+//! program: what it writes for what it reads, whatever the words, and what each status means.
 //!
 //! `session` serves the requests that come on the input, over a table of jobs of its own, and writes the answers to the
 //! output. `check OSIL OSRL` reads an instance and a result from two files and says whether what is claimed is shown.

@@ -1,4 +1,4 @@
-//! A solver service for linear programs.
+//! A solver service for linear and mixed-integer programs.
 //!
 //! `session` serves the requests that come on the standard input, and writes the answers to the standard output. `check OSIL
 //! OSRL` reads an instance and a result from two files and says whether what is claimed is shown, `solve OSIL [--options
