@@ -1,5 +1,5 @@
 -- A mark that is taken in a sound state leaves a sound state.
-use Rattle.osil_grammar.proofs.Words.{◌≡◌, ◌∙◌, ◌+◌, ◌-◌, ◌<◌, ◌≤◌, ℕ, inl, inr, ℤ, pos, negsuc, Bool, true, false, cond, List, [], ◌++◌, map, length, replicate, refl, ap, sym, subst, arith, length-append, Option, None, Some, MatchOption, IsSomeAnd, unsigned_abs, ◌+ℤ◌, ◌*ℤ◌, codes, All, cases_lt, cases_eq, ints, length-replicate, length-map, All-nil, All-append, All-replicate, All-weaker, All-map, Attribute, Mark, Start, Char, Finish, Ratio, Frac, ratio, ratios, End, NegInf, At, Inf, Entry, SaysEnd, IsCount, IsWholeText, Row, AreEnds, IsVar, IsInside, value_of, AllPass, Takes, Domain, Binary, Listing, Place, Led, IsEndAt, IsLess, raised, lowered, nought, Says, HasSuch, IsTimes, SaysTimes, IsOfDomain, State, start, begins, ends, tests, leads, Fails, AreTooMany, IsDivided, IsInRange, IsOutOfRange, lines, list_length, most, Begins, Ends, Leaves, AddsWholes, IsMatrixOf, heard, keeps_text, osil, AreItems, AreWithin, IsSoundSoFar, IsSoundAt, IsSoundIn, IsSound}
+use Rattle.osil_grammar.proofs.Words.{◌≡◌, ◌∙◌, ◌+◌, ◌-◌, ◌<◌, ◌≤◌, ℕ, inl, inr, ℤ, pos, negsuc, Bool, true, false, cond, List, [], ◌++◌, map, length, replicate, refl, ap, sym, subst, arith, length-append, Option, None, Some, MatchOption, IsSomeAnd, unsigned_abs, ◌+ℤ◌, ◌*ℤ◌, codes, All, cases_lt, cases_eq, ints, length-replicate, length-map, All-nil, All-append, All-replicate, All-weaker, All-map, Attribute, Mark, Start, Char, Finish, Frac, ratio, ratios, End, NegInf, At, Inf, Entry, IsCount, IsWholeText, Row, AreEnds, IsVar, IsInside, value_of, AllPass, Takes, Listing, Place, Led, IsLess, IsTimes, SaysTimes, State, start, begins, ends, tests, leads, Fails, AreTooMany, IsDivided, IsInRange, IsOutOfRange, lines, list_length, most, Begins, Ends, Leaves, AddsWholes, IsMatrixOf, heard, keeps_text, osil, AreItems, AreWithin, IsSoundSoFar, IsSoundAt, IsSoundIn, IsSound}
 use Rattle.instance.specs.declared.parts.Var.{Var as Variable}
 use Rattle.osil_grammar.specs.declared.elements.Part.TheVariants as parts
 use Rattle.osil_grammar.specs.declared.elements.Listing.TheVariants as listings

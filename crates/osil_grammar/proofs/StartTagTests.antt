@@ -1,5 +1,5 @@
 -- What was read at a start tag answers the tests of its kind.
-use Rattle.osil_grammar.proofs.Words.{◌≡◌, Ratio, IsEndAt, ◌∙◌, ◌⊎◌, inl, inr, ℕ, ◌+◌, ◌<◌, ◌≤◌, List, [], ◌∷◌, ◌++◌, length, refl, ap, sym, subst, arith, Option, None, Some, MatchOption, IsSomeAnd, Result, Ok, Err, MatchResult, codes, Attribute, Start, End, NegInf, At, Inf, SaysEnd, IsDecimal, Frac, ratio, negative, SumFits, IsCount, only_inf, only_neg_inf, count_once, AreEnds, value_of, Unread, AllPass, FirstFails, pass_both, first_front, first_behind, fields_pass, fields_bad, fields_wide, Sense, Min, Max, Place, Listing, Values, IsSense, Domain, Continuous, told_refusal, Refusal, field, whole, IsBad, IsTooGreat, HasSuch, Says, IsTimes, IsDeclared, SaysCount, nought, State, Test, bad, too_great, low_infinite, high_infinite, too_many, mult, fields, numbers, refusal, senses, SaysTimes, SaysConstant, SaysDomain, SaysSense, SaysIndex, letters, letter_names, IsLetterOf, Fails, most, items, list_length, AreTooMany, IsGreatEnd, HasNoSense, unread_refusal, IsNear, IsTooFar}
+use Rattle.osil_grammar.proofs.Words.{◌≡◌, Ratio, IsEndAt, ◌∙◌, ◌⊎◌, inl, inr, ℕ, ◌+◌, ◌<◌, ◌≤◌, List, [], ◌∷◌, ◌++◌, refl, ap, sym, subst, arith, Option, None, Some, MatchOption, IsSomeAnd, Result, Ok, Err, MatchResult, codes, Attribute, Start, End, NegInf, At, Inf, SaysEnd, IsDecimal, Frac, ratio, negative, SumFits, IsCount, only_inf, only_neg_inf, count_once, AreEnds, value_of, Unread, AllPass, FirstFails, pass_both, first_front, first_behind, fields_pass, fields_bad, fields_wide, Sense, Min, Max, Place, Listing, Values, IsSense, Domain, Continuous, told_refusal, Refusal, field, whole, IsBad, IsTooGreat, HasSuch, Says, IsTimes, IsDeclared, SaysCount, nought, State, Test, bad, too_great, low_infinite, high_infinite, too_many, mult, fields, numbers, refusal, senses, SaysTimes, SaysConstant, SaysDomain, letters, letter_names, IsLetterOf, Fails, most, items, list_length, AreTooMany, IsGreatEnd, unread_refusal, IsNear, IsTooFar}
 use Rattle.tree_grammar.specs.Tags.{IsAmong}
 use Rattle.osil_grammar.proofs.TagNumbers.{decimal_once}
 use Rattle.tag_tests.specs.declared.numbers.Unread.TheVariants as unread

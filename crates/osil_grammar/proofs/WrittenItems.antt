@@ -1,7 +1,6 @@
 -- What an instance's variables, rows and goal are written as is read as these, mark by mark.
-use Rattle.osil_grammar.proofs.Words.{◌≡◌, ◌∙◌, ℕ, zero, suc, ◌+◌, ◌/◌, ◌<◌, ◌≤◌, inl, inr, true, false, ℤ, pos, ◌+ℤ◌, List, [], ◌∷◌, ◌++◌, map, length, get_or, set, refl, ap, sym, subst, arith, Some, None, unsigned_abs, codes, All, div-one, ints, append-nil, append_assoc, length-append, All-head, All-tail, Attribute, Event, Nodes, nodes_events, local_nodes, with_attribute, Mark, Start, Char, Finish, spread, Ratio, IsSame, sum, negative, left_term, right_term, AreFourWithin, SumFits, whole-reduced, sum-none, none-sum, ratio, ratios, Frac, End, NegInf, At, Inf, same_fraction, IsDecimal, SaysEnd, count_once, count_fits, only_inf, only_neg_inf, Var, Row, Sense, Min, Max, AreEnds, IsVar, Parts, Takes, AreTaken, Place, IsLess, IsSense, nought, senses, SaysRow, State, into, keeps_text, IsNear, osil, instance_of, HasDecimal, EndHasText, WritesVar, WriteVars, WriteRows, WriteCosts, CountsCosts, var_attributes, sense_text}
+use Rattle.osil_grammar.proofs.Words.{◌≡◌, ◌∙◌, ℕ, zero, suc, ◌+◌, ◌/◌, ◌<◌, ◌≤◌, inl, inr, true, ℤ, pos, ◌+ℤ◌, List, [], ◌∷◌, ◌++◌, map, length, get_or, set, refl, ap, sym, subst, arith, Some, None, unsigned_abs, codes, All, div-one, ints, append-nil, append_assoc, length-append, All-head, All-tail, Attribute, Event, Nodes, nodes_events, local_nodes, with_attribute, Mark, Start, Char, Finish, spread, Ratio, IsSame, sum, negative, left_term, right_term, AreFourWithin, SumFits, whole-reduced, sum-none, none-sum, ratio, ratios, Frac, End, NegInf, At, Inf, same_fraction, IsDecimal, SaysEnd, count_once, count_fits, only_inf, only_neg_inf, Var, Row, Sense, Min, Max, AreEnds, IsVar, Parts, Takes, AreTaken, Place, IsLess, IsSense, nought, SaysRow, State, into, keeps_text, IsNear, osil, instance_of, HasDecimal, EndHasText, WritesVar, WriteVars, WriteRows, WriteCosts, CountsCosts, var_attributes, sense_text}
 use Rattle.std.specs.Fmt.{decimal as digits}
-use Rattle.tree_grammar.specs.Tags.{IsAmong}
 use Rattle.rational.specs.Width.{most}
 use Rattle.rational.proofs.CommonDivisors.{one_divides}
 use Rattle.evidence.specs.Sums as evidence
