@@ -7,5 +7,5 @@ mod Splits
 mod Multiples
 mod PointSteps
 mod CaseSteps
-mod Claimed
+mod ClaimsAtEnd
 mod Looks

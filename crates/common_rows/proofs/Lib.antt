@@ -1,6 +1,6 @@
 pub mod Sizes
-pub mod Written
-pub mod Changed
+pub mod Fronts
+pub mod NumberChanges
 pub mod Fitting
 pub mod Wholes
 pub mod Accumulators

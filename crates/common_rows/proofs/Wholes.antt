@@ -8,7 +8,7 @@ use Rattle.fraction.specs.Frac.{ratio}
 use Rattle.fraction.specs.declared.frac.Frac.{Frac}
 use Rattle.evidence.specs.Width.{TermFits}
 use Rattle.common_rows.specs.Row.{over}
-use Rattle.common_rows.proofs.Changed.{changed}
+use Rattle.common_rows.proofs.NumberChanges.{changed}
 use Rattle.common_rows.proofs.Fitting.{term_fits}
 
 -- a fraction with the denominator 1

@@ -20,8 +20,8 @@ use Rattle.simplex_rules.specs.Runs.{HasNoClash}
 use Rattle.simplex_rules.proofs.Core.{rate-number}
 use Rattle.simplex_rules.proofs.Facts.{at_most_none}
 use Rattle.simplex_rules.proofs.Soundness.{IsPlaced}
-use Rattle.no_cycles.proofs.Compared.{compared, leaving_basic}
-use Rattle.no_cycles.proofs.Turned.{IsMove, full, full-number, full_other, full_alike, known, flip_limit, flip_moves, swap_moves, pivoted_other, pivoted_entering, pivoted_leaving}
+use Rattle.no_cycles.proofs.SignArgument.{compared, leaving_basic}
+use Rattle.no_cycles.proofs.TurnValues.{IsMove, full, full-number, full_other, full_alike, known, flip_limit, flip_moves, swap_moves, pivoted_other, pivoted_entering, pivoted_leaving}
 use Rattle.no_cycles.proofs.Choices.{greatest, given_up}
 
 -- a fall

@@ -26,9 +26,9 @@ use Rattle.simplex_rules.proofs.Core.{rate-number}
 use Rattle.simplex_rules.proofs.Facts.{HasPlace, has_number, or_is, if_some, at_least_none, rest_between, kept_between}
 use Rattle.simplex_rules.proofs.Soundness.{IsPlaced}
 use Rattle.no_cycles.proofs.Signs.{both_up, reach, at_end}
-use Rattle.no_cycles.proofs.Compared.{leaving_basic}
+use Rattle.no_cycles.proofs.SignArgument.{leaving_basic}
 use Rattle.no_cycles.proofs.Limits.{if_is, gap_up, gap_down}
-use Rattle.no_cycles.proofs.Turned.{rest_number, known, after, after_basic, after_own, arrives, swap_limit, swap_agrees, flip_limit, flip_agrees, pivoted_other, status_set_other}
+use Rattle.no_cycles.proofs.TurnValues.{rest_number, known, after, after_basic, after_own, arrives, swap_limit, swap_agrees, flip_limit, flip_agrees, pivoted_other, status_set_other}
 use Rattle.no_cycles.proofs.Cycle.{Taken, IsTaken, at_most_sum}
 
 -- factors and order

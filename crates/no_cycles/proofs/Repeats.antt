@@ -14,7 +14,7 @@ use Rattle.simplex_rules.specs.Ends.{Terms, Clock}
 use Rattle.simplex_rules.specs.Runs.{Moment, To, PassesTurn, BeginsTurn, MovesOn, Improves, IsNext, ComesInRun, goes_on, HasNoClash}
 use Rattle.simplex_rules.proofs.Soundness.{IsPlaced}
 use Rattle.simplex_rules.proofs.Moments.{comes_placed}
-use Rattle.no_cycles.specs.Phase.{IsTurn, AreTurns, AreSame}
+use Rattle.no_cycles.specs.Phase.{IsImprovingTurn, AreTurns, HaveSamePlaces}
 use Rattle.no_cycles.proofs.Choices.{chosen}
 use Rattle.no_cycles.proofs.Cycle.{Taken, IsTaken, no_cycle}
 
@@ -28,13 +28,13 @@ begins_to t c F ss n (inl (a, e)) = absurd (cc)
 begins_to t c F ss n (inr (inl (a, b, e))) = absurd (cc)
 begins_to t c F ss n (inr (inr (a, b, e))) = passes_to t _ ss n e
 
-pub is_next : {I : Instance} {zeroed : Bool} {t : Terms} {m n : Moment} → IsTurn I zeroed t m n → IsNext I zeroed t m (To n)
+pub is_next : {I : Instance} {zeroed : Bool} {t : Terms} {m n : Moment} → IsImprovingTurn I zeroed t m n → IsNext I zeroed t m (To n)
 is_next x = (x.entries, x.dictionary, inr (x.columns, x.fit, x.values, inr (x.none_out, x.improves)))
 
 abbrev pub IsTakenAt : Instance → Bool → List Status → Taken → List Status → Type 0
 IsTakenAt I zeroed ss x ts = HasDictionary I zeroed ss x.u × IsTaken I ss x ts
 
-pub taken : (I : Instance) (zeroed : Bool) (t : Terms) (m n : Moment) → IsTurn I zeroed t m n → (x : Taken) × IsTakenAt I zeroed m.statuses x n.statuses
+pub taken : (I : Instance) (zeroed : Bool) (t : Terms) (m n : Moment) → IsImprovingTurn I zeroed t m n → (x : Taken) × IsTakenAt I zeroed m.statuses x n.statuses
 taken I zeroed t m n x = by x.improves
   where
     moves : (e : ℕ) (way : Way) → IsFirstHelp I m.statuses x.entries x.columns (goal_column I) Fall e way → MovesOn I zeroed t m x.entries x.columns e way (To n) → (y : Taken) × IsTakenAt I zeroed m.statuses y n.statuses
@@ -59,7 +59,7 @@ all_come I zeroed t c at k first turns zero h = first
 all_come I zeroed t c at k first turns (suc i) h = goes_on (all_come I zeroed t c at k first turns i (omega arith)) (is_next (turns i (omega arith)))
 
 -- the same places make the same list
-pub one_list : (I : Instance) (ss ts : List Status) → IsPlaced I ss → IsPlaced I ts → AreSame I ss ts → ss ≡ ts
+pub one_list : (I : Instance) (ss ts : List Status) → IsPlaced I ss → IsPlaced I ts → HaveSamePlaces I ss ts → ss ≡ ts
 one_list I ss ts p q same = ext_get_or Basic ss ts (p.count ∙ sym q.count) (λ c h. let n = p.count in same c (omega arith))
 
 -- turns that come back to where they began
@@ -79,7 +79,7 @@ comes_back I zeroed s k good room some placed turn closed =
     (a.0, (b.0, λ l. b.1)))) in
     no_cycle I good zeroed room k s x (λ i h. let a = all i (omega arith) in a.0) placed (λ i h. let a = all i (omega arith) in a.1 h) closed some
 
-pub once : (I : Instance) (zeroed : Bool) (t : Terms) (c : Clock) (at : ℕ → Moment) (k : ℕ) → IsInstance I → HasNoClash I → ComesInRun I zeroed t c (at 0) → AreTurns I zeroed t at k → (i j : ℕ) → i < j → j ≤ k → AreSame I (at i).statuses (at j).statuses → ⊥
+pub once : (I : Instance) (zeroed : Bool) (t : Terms) (c : Clock) (at : ℕ → Moment) (k : ℕ) → IsInstance I → HasNoClash I → ComesInRun I zeroed t c (at 0) → AreTurns I zeroed t at k → (i j : ℕ) → i < j → j ≤ k → HaveSamePlaces I (at i).statuses (at j).statuses → ⊥
 once I zeroed t c at k good room first turns i j h l same =
     let placed : (a : ℕ) → a ≤ k → IsPlaced I (at a).statuses = λ a g. comes_placed (all_come I zeroed t c at k first turns a g) in
     let z : i + 0 ≡ i = omega arith in

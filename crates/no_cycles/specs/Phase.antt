@@ -11,7 +11,7 @@ use Rattle.simplex_rules.specs.Ends.{Terms, Clock}
 use Rattle.simplex_rules.specs.Runs.{Moment, To, Improves, ComesInRun, begins, goes_on}
 
 -- n comes after m by a turn of the second phase
-pub record IsTurn (I : Instance) (zeroed : Bool) (t : Terms) (m n : Moment) : Type 0 where
+pub record IsImprovingTurn (I : Instance) (zeroed : Bool) (t : Terms) (m n : Moment) : Type 0 where
   pub entries : Entries
   pub dictionary : HasDictionary I zeroed m.statuses entries
   pub columns : Values
@@ -22,11 +22,11 @@ pub record IsTurn (I : Instance) (zeroed : Bool) (t : Terms) (m n : Moment) : Ty
 
 -- the moments at 0 to k, each after the other by a turn of the second phase
 abbrev pub AreTurns : Instance → Bool → Terms → (ℕ → Moment) → ℕ → Type 0
-AreTurns I zeroed t at k = (i : ℕ) → i < k → IsTurn I zeroed t (at i) (at (suc i))
+AreTurns I zeroed t at k = (i : ℕ) → i < k → IsImprovingTurn I zeroed t (at i) (at (suc i))
 
 -- the same columns are basic, and the others have the same places
-abbrev pub AreSame : Instance → List Status → List Status → Type 0
-AreSame I ss ts = (c : ℕ) → c < goal_column I → status_at ss c ≡ status_at ts c
+abbrev pub HaveSamePlaces : Instance → List Status → List Status → Type 0
+HaveSamePlaces I ss ts = (c : ℕ) → c < goal_column I → status_at ss c ≡ status_at ts c
 
 -- at this basis no column is out of its ends
 abbrev pub IsSettled : Instance → Bool → List Status → Type 0
@@ -43,4 +43,4 @@ came_through (goes_on {m} {n} before next) = came_through before ++ n.statuses �
 
 -- of these, no two that no column is out at are the same
 abbrev pub HasNoneTwice : Instance → Bool → List (List Status) → Type 0
-HasNoneTwice I zeroed past = (i j : ℕ) → i < j → j < length past → IsSettled I zeroed (get_or past i []) → AreSame I (get_or past i []) (get_or past j []) → ⊥
+HasNoneTwice I zeroed past = (i j : ℕ) → i < j → j < length past → IsSettled I zeroed (get_or past i []) → HaveSamePlaces I (get_or past i []) (get_or past j []) → ⊥

@@ -6,7 +6,7 @@ ghost use Rattle.simplex_rules.specs.Ends.{Terms, Clock, End, TurnsOut};
 ghost use Rattle.simplex_rules.specs.Runs.{Moment, To, IsNext, HasNoClash, ComesInRun, Run, IsRun};
 ghost use Rattle.search_rules.specs.Search.{Outcome, IsSearchAnswer};
 ghost use Rattle.search_rules.specs.Outcomes.{IsPlain};
-ghost use Rattle.no_cycles.specs.Phase.{IsTurn, AreTurns, AreSame, IsSettled, BeginsSettled, HasNoneTwice, came_through};
+ghost use Rattle.no_cycles.specs.Phase.{IsImprovingTurn, AreTurns, HaveSamePlaces, IsSettled, BeginsSettled, HasNoneTwice, came_through};
 ghost use Rattle.no_cycles.specs.Beginning.{BeginsFeasible};
 ghost use Rattle.no_cycles.specs.Searches.{is_out_of_turns};
 ghost use Rattle.no_cycles.specs.Limit.{safe_limit};
@@ -14,7 +14,7 @@ ghost use Rattle.no_cycles.specs.Limit.{safe_limit};
 /// Law: in the second phase no basis comes twice with the same places: not in turns of it one after the other, and not among
 /// all the bases that a run came through (Bland, 1977).
 pub fn no_basis_twice()
-    ensures turns { (I : Instance) (zeroed : Bool) (t : Terms) (c : Clock) (at : ℕ → Moment) (k : ℕ) → IsInstance I → HasNoClash I → ComesInRun I zeroed t c (at 0) → AreTurns I zeroed t at k → (i j : ℕ) → i < j → j ≤ k → AreSame I (at i).statuses (at j).statuses → ⊥ }
+    ensures turns { (I : Instance) (zeroed : Bool) (t : Terms) (c : Clock) (at : ℕ → Moment) (k : ℕ) → IsInstance I → HasNoClash I → ComesInRun I zeroed t c (at 0) → AreTurns I zeroed t at k → (i j : ℕ) → i < j → j ≤ k → HaveSamePlaces I (at i).statuses (at j).statuses → ⊥ }
     ensures runs { (I : Instance) (zeroed : Bool) (t : Terms) (c d : Clock) (e : End) → IsInstance I → (run : IsRun I zeroed t c e d) → HasNoneTwice I zeroed (came_through run.comes) }
 {}
 
@@ -26,8 +26,8 @@ pub fn turns_are_few()
 /// Law: a turn of the second phase keeps each basic column within its ends, and where no column is out the next turn is one of the
 /// second phase.
 pub fn second_phase_stays()
-    ensures settles { (I : Instance) (zeroed : Bool) (t : Terms) (c : Clock) (m n : Moment) → IsInstance I → HasNoClash I → ComesInRun I zeroed t c m → IsTurn I zeroed t m n → IsSettled I zeroed n.statuses }
-    ensures goes_on { (I : Instance) (zeroed : Bool) (t : Terms) (m n : Moment) → IsSettled I zeroed m.statuses → IsNext I zeroed t m (To n) → IsTurn I zeroed t m n }
+    ensures settles { (I : Instance) (zeroed : Bool) (t : Terms) (c : Clock) (m n : Moment) → IsInstance I → HasNoClash I → ComesInRun I zeroed t c m → IsImprovingTurn I zeroed t m n → IsSettled I zeroed n.statuses }
+    ensures goes_on { (I : Instance) (zeroed : Bool) (t : Terms) (m n : Moment) → IsSettled I zeroed m.statuses → IsNext I zeroed t m (To n) → IsImprovingTurn I zeroed t m n }
 {}
 
 /// Law: where each row is between its ends at the variables' first values, no column is out at the first basis.

@@ -40,7 +40,7 @@ use Rattle.no_cycles.specs.Beginning.{BeginsFeasible}
 use Rattle.no_cycles.specs.Limit.{safe_limit}
 use Rattle.no_cycles.specs.Searches.{is_out_of_turns, is_turn_limit}
 use Rattle.no_cycles.proofs.SafeLimits.{limit_is, has_limit}
-use Rattle.no_cycles.proofs.Searched.{early_is}
+use Rattle.no_cycles.proofs.OneCaseSearches.{early_is}
 use Rattle.os_app.specs.Safe.{IsSafeText, HasNoSafeText, TakesOptions, claims_turn_limit, says_turn_limit}
 use Rattle.os_app.specs.Safe as safe
 use Rattle.os_io.specs.Files.{Held, Holds, MayHold}

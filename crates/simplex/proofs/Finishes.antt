@@ -8,7 +8,7 @@ use Rattle.simplex_rules.specs.Ends.{Terms, Clock, End}
 use Rattle.simplex_rules.specs.Runs.{Out, IsNext, HasNoClash, Run}
 use Rattle.simplex_rules.specs.Reports.{collected}
 use Rattle.no_cycles.specs.Phase.{BeginsSettled}
-use Rattle.no_cycles.proofs.Bounded.{never_out}
+use Rattle.no_cycles.proofs.SecondPhase.{never_out}
 use Rattle.simplex.specs.declared.answer.LpEnd.{LpEnd}
 use Rattle.simplex.specs.declared.answer.LpEnd.TheVariants as Has
 use Rattle.simplex.specs.Tables.{values_in}

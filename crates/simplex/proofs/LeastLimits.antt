@@ -25,7 +25,7 @@ use Rattle.simplex.specs.Cuts.{ranges_in, AreEndsOf}
 use Rattle.simplex.specs.declared.limits.Limit.{Limit}
 use Rattle.simplex_rules.specs.Turns.{rate, IsFirstLeast, limit_one, NoLimit, IsFirstLimit}
 use Rattle.simplex_rules.specs.Widths.{UntilFits, OneFits, LimitsFit}
-use Rattle.simplex.specs.Limits.{IsLimitTold, IsLimit, IsFirst, IsLeastOf}
+use Rattle.simplex.specs.Limits.{IsLimitTold, IsLimit, IsFirstOfLeast, IsLeastOf}
 use Rattle.simplex_rules.proofs.Facts.{not_below, below_no}
 use Rattle.no_cycles.proofs.Signs.{below_yes}
 
@@ -66,7 +66,7 @@ module _ (f : ℕ → Option Ratio) (n : ℕ) where
     numbers = λ k l q e. by_eq k n (λ g. let a : None ≡ Some q = sym h ∙ ap f (sym g) ∙ e in absurd (cc)) (λ g. before.numbers k (omega arith) q e);
   }
 
-  pub start : (b : Option Limit) (x : Option Frac) (q : Frac) → IsLeastOf f n b → IsLimit (f n) x → b ≡ None → x ≡ Some q → IsFirst f (n + 1) (record { col = n; quotient = q })
+  pub start : (b : Option Limit) (x : Option Frac) (q : Frac) → IsLeastOf f n b → IsLimit (f n) x → b ≡ None → x ≡ Some q → IsFirstOfLeast f (n + 1) (record { col = n; quotient = q })
   start (Some b) x q before h e g = absurd (cc)
   start None None q before h e g = absurd (cc)
   start None (Some p) q before (l, h, t) e g = record {
@@ -81,7 +81,7 @@ module _ (f : ℕ → Option Ratio) (n : ℕ) where
     numbers = λ k i r a. by_eq k n (λ c. subst IsNumber (let d : Some l ≡ Some r = sym h ∙ ap f (sym c) ∙ a in let z : l ≡ r = cc in z) t.number) (λ c. let m = before k (omega arith) in let d : None ≡ Some r = sym m ∙ a in absurd (cc));
   }
 
-  module _ (b : Limit) (q : Frac) (before : IsFirst f n b) (l : Ratio) (h : f n ≡ Some l) (t : IsLimitTold l q) where
+  module _ (b : Limit) (q : Frac) (before : IsFirstOfLeast f n b) (l : Ratio) (h : f n ≡ Some l) (t : IsLimitTold l q) where
     old : Ratio
     old = before.least.limit
 
@@ -105,7 +105,7 @@ module _ (f : ℕ → Option Ratio) (n : ℕ) where
     old_is : ratio b.quotient ≈ before.least.limit
     old_is = record { left = b.quotient.above; right = before.told.number; is = before.told.same }
 
-    pub less : is_below (ratio q) (ratio b.quotient) ≡ true → IsFirst f (n + 1) (record { col = n; quotient = q })
+    pub less : is_below (ratio q) (ratio b.quotient) ≡ true → IsFirstOfLeast f (n + 1) (record { col = n; quotient = q })
     less e =
         let c : ratio q ⋖ ratio b.quotient = record { left = q.above; right = b.quotient.above; is = below_yes (ratio q) (ratio b.quotient) e } in
         let d : l ⋖ before.least.limit = ≲-⋖ (≲-from (≈-sym new_is)) (⋖-≲ c (≲-from old_is)) in
@@ -121,7 +121,7 @@ module _ (f : ℕ → Option Ratio) (n : ℕ) where
           numbers = numbers_more;
         }
 
-    pub more : is_below (ratio q) (ratio b.quotient) ≡ false → IsFirst f (n + 1) b
+    pub more : is_below (ratio q) (ratio b.quotient) ≡ false → IsFirstOfLeast f (n + 1) b
     more e =
         let c : ratio b.quotient ≲ ratio q = record { left = b.quotient.above; right = q.above; is = not_below (ratio q) (ratio b.quotient) (below_no (ratio q) (ratio b.quotient) e) } in
         let d : before.least.limit ≲ l = ≲-trans (≲-from (≈-sym old_is)) (≲-trans c (≲-from new_is)) in
@@ -148,17 +148,17 @@ keep_to f n (suc m) b l before none =
     (λ h. subst (λ j. IsLeastOf f j b) (let e : n ≡ suc m = omega arith in e) before)
 
 -- the same, where the two are read from options
-pub was_less : (f : ℕ → Option Ratio) (n : ℕ) (o : Option Limit) (x : Option Frac) (b : Limit) (q : Frac) → o ≡ Some b → x ≡ Some q → IsLeastOf f n o → IsLimit (f n) x → is_below (ratio q) (ratio b.quotient) ≡ true → IsFirst f (n + 1) (record { col = n; quotient = q })
+pub was_less : (f : ℕ → Option Ratio) (n : ℕ) (o : Option Limit) (x : Option Frac) (b : Limit) (q : Frac) → o ≡ Some b → x ≡ Some q → IsLeastOf f n o → IsLimit (f n) x → is_below (ratio q) (ratio b.quotient) ≡ true → IsFirstOfLeast f (n + 1) (record { col = n; quotient = q })
 was_less f n None x b q e g before t h = absurd (cc)
 was_less f n (Some a) None b q e g before t h = absurd (cc)
 was_less f n (Some a) (Some p) b q e g before (l, i, t) h =
-    less f n b q (subst (λ z. IsFirst f n z) (let y : a ≡ b = cc in y) before) l i (subst (λ z. IsLimitTold l z) (let y : p ≡ q = cc in y) t) h
+    less f n b q (subst (λ z. IsFirstOfLeast f n z) (let y : a ≡ b = cc in y) before) l i (subst (λ z. IsLimitTold l z) (let y : p ≡ q = cc in y) t) h
 
-pub was_more : (f : ℕ → Option Ratio) (n : ℕ) (o : Option Limit) (x : Option Frac) (b : Limit) (q : Frac) → o ≡ Some b → x ≡ Some q → IsLeastOf f n o → IsLimit (f n) x → is_below (ratio q) (ratio b.quotient) ≡ false → IsFirst f (n + 1) b
+pub was_more : (f : ℕ → Option Ratio) (n : ℕ) (o : Option Limit) (x : Option Frac) (b : Limit) (q : Frac) → o ≡ Some b → x ≡ Some q → IsLeastOf f n o → IsLimit (f n) x → is_below (ratio q) (ratio b.quotient) ≡ false → IsFirstOfLeast f (n + 1) b
 was_more f n None x b q e g before t h = absurd (cc)
 was_more f n (Some a) None b q e g before t h = absurd (cc)
 was_more f n (Some a) (Some p) b q e g before (l, i, t) h =
-    more f n b q (subst (λ z. IsFirst f n z) (let y : a ≡ b = cc in y) before) l i (subst (λ z. IsLimitTold l z) (let y : p ≡ q = cc in y) t) h
+    more f n b q (subst (λ z. IsFirstOfLeast f n z) (let y : a ≡ b = cc in y) before) l i (subst (λ z. IsLimitTold l z) (let y : p ≡ q = cc in y) t) h
 
 best_told : (f : ℕ → Option Ratio) (n : ℕ) (b : Option Limit) → IsLeastOf f n b → MatchOption b ((k : ℕ) → k < n → f k ≡ None) (λ l. IsFirstLeast f n l.col)
 best_told f n None h = h

@@ -22,7 +22,7 @@ use Rattle.simplex_rules.specs.declared.columns.Status.TheVariants.{Basic}
 use Rattle.simplex_rules.specs.Statuses.{is_basic, status_at, basic_in, first_status, IsFirstBasis}
 use Rattle.simplex.specs.Cuts.{range_of, ranges_in, AreEndsOf}
 use Rattle.no_cycles.proofs.Signs.{below_yes}
-use Rattle.no_cycles.proofs.Begun.{first_nonbasic}
+use Rattle.no_cycles.proofs.FirstBasis.{first_nonbasic}
 
 is_below_of : (x y : Ratio) → IsBelow x y → is_below x y ≡ true
 is_below_of x y h = decide (x.num *ℤ pos y.den) (y.num *ℤ pos x.den) h

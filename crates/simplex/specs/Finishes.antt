@@ -82,9 +82,9 @@ after_turn true ss c = Out Stopped c
 after_turn false ss c = To (record { statuses = ss; clock = c })
 
 -- a run that goes on has done one turn, of those that it may
-abbrev pub IsCounted : Turns → Turns → Option Finish → Type 0
-IsCounted old new None = (old.done < old.most) × (new.done ≡ old.done + 1)
-IsCounted old new (Some f) = (old.done ≤ new.done) × (old.done ≤ old.most → new.done ≤ old.most)
+abbrev pub CountsTurn : Turns → Turns → Option Finish → Type 0
+CountsTurn old new None = (old.done < old.most) × (new.done ≡ old.done + 1)
+CountsTurn old new (Some f) = (old.done ≤ new.done) × (old.done ≤ old.most → new.done ≤ old.most)
 
 -- the run comes to a moment with this end
 pub record ComesTo (I : Instance) (zeroed : Bool) (t : Terms) (c : Clock) (e : End) (d : Clock) : Type 0 where

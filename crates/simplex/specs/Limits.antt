@@ -18,14 +18,14 @@ IsLimit o None = o ≡ None
 IsLimit o (Some q) = (l : Ratio) × (o ≡ Some l) × IsLimitTold l q
 
 -- the first of the least limits below n
-pub record IsFirst (f : ℕ → Option Ratio) (n : ℕ) (b : Limit) : Type 0 where
+pub record IsFirstOfLeast (f : ℕ → Option Ratio) (n : ℕ) (b : Limit) : Type 0 where
   pub least : IsFirstLeast f n b.col
   pub told : IsLimitTold least.limit b.quotient
   pub numbers : (k : ℕ) → k < n → (q : Ratio) → f k ≡ Some q → IsNumber q
 
 abbrev pub IsLeastOf : (ℕ → Option Ratio) → ℕ → Option Limit → Type 0
 IsLeastOf f n None = (k : ℕ) → k < n → f k ≡ None
-IsLeastOf f n (Some b) = IsFirst f n b
+IsLeastOf f n (Some b) = IsFirstOfLeast f n b
 
 -- a column that sets no limit while column m moves: it isn't basic, nor m itself
 pub record IsStill {L : _} {G : _} (d : Dict L G) (m c : ℕ) : Type 0 where

@@ -13,7 +13,7 @@ ghost use Rattle.simplex.specs.Cuts.{AreEndsOf, ranges_in};
 ghost use Rattle.simplex.specs.Tables.{AreHeld, HasSizeOf, values_in};
 ghost use Rattle.marks.specs.Marks.{size_of};
 ghost use Rattle.simplex.specs.Values.{AreResting, AreKnown};
-ghost use Rattle.simplex.specs.Finishes.{stops_at, is_stop, next_at, end_at, IsLeft, IsLeftAt, IsCounted, KeepsAt, ComesTo};
+ghost use Rattle.simplex.specs.Finishes.{stops_at, is_stop, next_at, end_at, IsLeft, IsLeftAt, CountsTurn, KeepsAt, ComesTo};
 
 use crate::answer::Turns;
 use crate::choosing::{Choice, choose};
@@ -54,7 +54,7 @@ fn make_turn<W: Watch, L: Ledger>(
     ensures count { count_of rest.new ≡ count_of rest.old }
     ensures room { size_of unknown.new ≡ size_of unknown.old }
     ensures most { turns.new.most ≡ turns.old.most }
-    ensures counted { IsCounted turns.old turns.new result }
+    ensures counted { CountsTurn turns.old turns.new result }
     ensures stops { result ≡ None → W.stops watch.new ≡ W.stops watch.old }
     ensures left { IsLeftAt dict.new statuses.new result }
     ensures resting { result ≡ None → AreResting (ranges_in ends.now) statuses.new (place_values rest.new) }

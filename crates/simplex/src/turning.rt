@@ -11,7 +11,7 @@ ghost use Rattle.simplex_rules.specs.Runs.{BeginsTurn, PassesTurn};
 ghost use Rattle.simplex_rules.specs.Looks.{answers, AgreesWith, looks_after};
 ghost use Rattle.dictionary.specs.Dict.{Holds, HaveOneSize, entry_of};
 ghost use Rattle.simplex.specs.Tables.{AreHeld};
-ghost use Rattle.simplex.specs.Finishes.{stops_at, after_turn, next_at, IsLeftAt, IsCounted, KeepsAt};
+ghost use Rattle.simplex.specs.Finishes.{stops_at, after_turn, next_at, IsLeftAt, CountsTurn, KeepsAt};
 ghost use Rattle.simplex.specs.Choices.{IsSwap, IsFlip, IsSwapped};
 
 use crate::answer::Turns;
@@ -78,7 +78,7 @@ pub fn swap_turn<W: Watch, L: Ledger>(
     requires stops { W.stops watch.old < 2 ^ 64 - 1 }
     ensures size { HaveOneSize dict.old dict.new }
     ensures most { turns.new.most ≡ turns.old.most }
-    ensures counted { IsCounted turns.old turns.new result }
+    ensures counted { CountsTurn turns.old turns.new result }
     ensures stops { result ≡ None → W.stops watch.new ≡ W.stops watch.old }
     ensures left { IsLeftAt dict.new statuses.new result }
     ensures swapped { result ≡ None → IsSwapped dict.old dict.new statuses.old statuses.new swap }
@@ -112,7 +112,7 @@ pub fn flip_turn<W: Watch, L: Ledger>(
     requires flip { IsFlip statuses.old flip }
     requires stops { W.stops watch.old < 2 ^ 64 - 1 }
     ensures most { turns.new.most ≡ turns.old.most }
-    ensures counted { IsCounted turns.old turns.new result }
+    ensures counted { CountsTurn turns.old turns.new result }
     ensures stops { result ≡ None → W.stops watch.new ≡ W.stops watch.old }
     ensures left { IsLeftAt dict.now statuses.new result }
     ensures flipped { result ≡ None → statuses.new ≡ slice_set statuses.old flip.col flip.status }

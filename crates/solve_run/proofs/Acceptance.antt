@@ -28,7 +28,7 @@ use Rattle.solve_run.specs.Closings.{claim_report, IsShort, IsFitted, IsToldOf}
 use Rattle.solve_run.specs.JobAnswers.{job_terms, Solved, IsJobOf, IsBestOfSearch, AnswersJob, no_options, no_instance, not_solved, solved, gave_up}
 use Rattle.solve_run.proofs.Lengths.{IsShortName}
 use Rattle.solve_run.proofs.Names.{short_name, bare_name}
-use Rattle.solve_run.proofs.GivenUp.{given_other, given_shown}
+use Rattle.solve_run.proofs.PartialClaims.{given_other, given_shown}
 use Rattle.solve_run.proofs.WidthRefusals.{one_range, best_accepted}
 use Rattle.solve_run.proofs.ReadBack.{shown_back, wanting_causes}
 use Rattle.solve_run.proofs.Runs.{claim_short, wanting}

@@ -1,7 +1,7 @@
 pub mod Numbers
 pub mod ClaimNodes
 pub mod WidthRefusals
-pub mod GivenUp
+pub mod PartialClaims
 pub mod Lengths
 pub mod Names
 pub mod ReadBack

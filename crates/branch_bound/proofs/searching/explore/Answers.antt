@@ -9,7 +9,7 @@ use Rattle.branch_bound.specs.Cases.{terms, clock_at, outcome_of}
 use Rattle.simplex.proofs.Looks.{answers_more}
 use Rattle.branch_bound.proofs.Looks.{no_stops, after_less, tells_less, looks_more}
 use Rattle.branch_bound.proofs.CaseSteps.{answered}
-use Rattle.branch_bound.proofs.Claimed.{killed_is, told_closed}
+use Rattle.branch_bound.proofs.ClaimsAtEnd.{killed_is, told_closed}
 use Rattle.branch_bound.proofs.searching.explore.Goals as goal
 
 pub loop-walk-init : goal.loop-walk-init

@@ -6,9 +6,9 @@ use Rattle.instance.proofs.Numbers.{program-instance}
 use Rattle.simplex_rules.specs.Looks.{stop_after}
 use Rattle.simplex_rules.proofs.Looks.{agrees}
 use Rattle.search_rules.specs.Search.{Unsure, begins, given_up}
-use Rattle.no_cycles.proofs.Searched.{within_turns}
+use Rattle.no_cycles.proofs.OneCaseSearches.{within_turns}
 use Rattle.branch_bound.specs.Claims.{is_killed}
-use Rattle.branch_bound.proofs.Claimed.{no_turn_limit}
+use Rattle.branch_bound.proofs.ClaimsAtEnd.{no_turn_limit}
 use Rattle.branch_bound.proofs.searching.search.Goals as goal
 
 pub returns-in-Err-clause-answer : goal.returns-in-Err-clause-answer

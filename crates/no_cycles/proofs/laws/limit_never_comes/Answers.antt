@@ -1,4 +1,4 @@
-use Rattle.no_cycles.proofs.Bounded.{never_out}
+use Rattle.no_cycles.proofs.SecondPhase.{never_out}
 use Rattle.no_cycles.proofs.laws.limit_never_comes.Goals as goal
 
 pub returns : goal.returns

@@ -1,4 +1,4 @@
-use Rattle.no_cycles.proofs.Bounded.{none_twice}
+use Rattle.no_cycles.proofs.SecondPhase.{none_twice}
 use Rattle.no_cycles.proofs.Repeats.{once}
 use Rattle.no_cycles.proofs.laws.no_basis_twice.Goals as goal
 

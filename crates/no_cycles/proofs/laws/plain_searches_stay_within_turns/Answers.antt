@@ -1,4 +1,4 @@
-use Rattle.no_cycles.proofs.Searched.{within_turns}
+use Rattle.no_cycles.proofs.OneCaseSearches.{within_turns}
 use Rattle.no_cycles.proofs.laws.plain_searches_stay_within_turns.Goals as goal
 
 pub returns : goal.returns

@@ -1,6 +1,6 @@
 use Rattle.std.proofs.Common.{arith}
 use Rattle.no_cycles.proofs.SafeLimits.{limit_is}
-use Rattle.no_cycles.proofs.Searched.{within_turns}
+use Rattle.no_cycles.proofs.OneCaseSearches.{within_turns}
 use Rattle.no_cycles.proofs.laws.safe_limits_are_enough.Goals as goal
 
 pub returns : goal.returns

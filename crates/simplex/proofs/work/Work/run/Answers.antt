@@ -5,7 +5,7 @@ use Rattle.simplex_rules.specs.Ends.{Terms, Clock, End}
 use Rattle.simplex_rules.specs.Looks.{looks_after, stop_after}
 use Rattle.simplex_rules.proofs.Looks.{agrees}
 use Rattle.simplex_rules.specs.Runs.{Run}
-use Rattle.no_cycles.proofs.Bounded.{none_twice}
+use Rattle.no_cycles.proofs.SecondPhase.{none_twice}
 use Rattle.dictionary.specs.Dict.{width_of, height_of}
 use Rattle.simplex.specs.declared.ends.Ends.{Ends}
 use Rattle.simplex.specs.Cuts.{IsCutBy}

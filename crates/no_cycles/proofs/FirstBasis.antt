@@ -17,9 +17,9 @@ use Rattle.simplex_rules.specs.Runs.{HasNoClash}
 use Rattle.simplex_rules.proofs.Moments.{fresh_placed}
 use Rattle.no_cycles.specs.Phase.{BeginsSettled}
 use Rattle.no_cycles.specs.Beginning.{first_value, first_activity, BeginsFeasible}
-use Rattle.no_cycles.proofs.Compared.{rows-number}
+use Rattle.no_cycles.proofs.SignArgument.{rows-number}
 use Rattle.no_cycles.proofs.Moves as Moves
-use Rattle.no_cycles.proofs.Turned.{full, full-number, full_other, rest_number, known}
+use Rattle.no_cycles.proofs.TurnValues.{full, full-number, full_other, rest_number, known}
 use Rattle.no_cycles.proofs.Feasible.{not_out}
 
 pub first_nonbasic : (lo hi : Option Ratio) → is_basic (first_status lo hi) ≡ false

@@ -12,7 +12,7 @@ use Rattle.simplex_rules.specs.Statuses.{status_at, IsFirstBasis}
 use Rattle.simplex_rules.specs.Ends.{Terms, Clock, TurnsOut}
 use Rattle.simplex_rules.specs.Runs.{Moment, To, Out, PassesTurn, BeginsTurn, MovesOn, IsNext, ComesInRun, begins, goes_on, HasNoClash, Run}
 use Rattle.simplex_rules.proofs.Moments.{comes_placed}
-use Rattle.no_cycles.specs.Phase.{IsTurn, AreTurns, IsSettled, BeginsSettled, HasNoneTwice, came_through}
+use Rattle.no_cycles.specs.Phase.{IsImprovingTurn, AreTurns, IsSettled, BeginsSettled, HasNoneTwice, came_through}
 use Rattle.no_cycles.proofs.Repeats.{is_next, taken, once}
 use Rattle.no_cycles.proofs.Feasible.{stays_settled}
 use Rattle.no_cycles.proofs.Counting.{pigeons, code, code_below, code_one}
@@ -30,12 +30,12 @@ few I zeroed t c at k good room first turns =
     (λ f. omega arith)))
 
 -- the next moment of one at which no column is out comes by a turn of the second phase
-pub settled_turn : (I : Instance) (zeroed : Bool) (t : Terms) (m n : Moment) → IsSettled I zeroed m.statuses → IsNext I zeroed t m (To n) → IsTurn I zeroed t m n
+pub settled_turn : (I : Instance) (zeroed : Bool) (t : Terms) (m n : Moment) → IsSettled I zeroed m.statuses → IsNext I zeroed t m (To n) → IsImprovingTurn I zeroed t m n
 settled_turn I zeroed t m n s (u, d, inl (f, e)) = absurd (cc)
 settled_turn I zeroed t m n s (u, d, inr (w, f, v, inl (b, wanted, out, r))) = absurd (s u w d v b out.inside wanted out.out)
 settled_turn I zeroed t m n s (u, d, inr (w, f, v, inr (none_out, r))) = record { entries = u; dictionary = d; columns = w; fit = f; values = v; none_out = none_out; improves = r }
 
-pub turn_settles : (I : Instance) (zeroed : Bool) (t : Terms) (c : Clock) (m n : Moment) → IsInstance I → HasNoClash I → ComesInRun I zeroed t c m → IsTurn I zeroed t m n → IsSettled I zeroed n.statuses
+pub turn_settles : (I : Instance) (zeroed : Bool) (t : Terms) (c : Clock) (m n : Moment) → IsInstance I → HasNoClash I → ComesInRun I zeroed t c m → IsImprovingTurn I zeroed t m n → IsSettled I zeroed n.statuses
 turn_settles I zeroed t c m n good room first turn u w d v =
     let x = taken I zeroed t m n turn in
     let y = x.1 in
@@ -119,9 +119,9 @@ further {I} {zeroed} {t} {c} {m} n i past good room before next h =
           (λ e.
           let a : m ≡ at j = sym h.last ∙ ap h.at (sym e) ∙ old j (omega arith) in
           let b : n ≡ at (suc j) = new ∙ ap (λ j. at (suc j)) (sym e) in
-          subst (λ x. IsTurn I zeroed t x (at (suc j))) a (subst (IsTurn I zeroed t m) b turn))
+          subst (λ x. IsImprovingTurn I zeroed t x (at (suc j))) a (subst (IsImprovingTurn I zeroed t m) b turn))
           (λ e.
-          subst (λ x. IsTurn I zeroed t x (at (suc j))) (old j (omega arith)) (subst (IsTurn I zeroed t (h.at j)) (old (suc j) (omega arith)) (h.each j (omega arith))));
+          subst (λ x. IsImprovingTurn I zeroed t x (at (suc j))) (old j (omega arith)) (subst (IsImprovingTurn I zeroed t (h.at j)) (old (suc j) (omega arith)) (h.each j (omega arith))));
       last = sym new;
       places = λ j l.
           by_eq j (suc h.turns)

@@ -7,7 +7,7 @@ use Rattle.certificate.specs.declared.claims.Claim.{Claim}
 use Rattle.simplex_rules.specs.Ends.{Terms}
 use Rattle.search_rules.specs.Search.{Moment, Outcome, Optimal, Infeasible, Unbounded, BestSoFar, Unsure, closed, early, ComesInSearch, IsSearchAnswer, searched, given_up}
 use Rattle.no_cycles.specs.Searches.{is_turn_limit, is_out_of_turns}
-use Rattle.no_cycles.proofs.Searched.{early_is, closed_is}
+use Rattle.no_cycles.proofs.OneCaseSearches.{early_is, closed_is}
 use Rattle.branch_bound.specs.declared.ended.Ended.{Ended}
 use Rattle.branch_bound.specs.declared.ended.Ended.TheVariants as Has
 use Rattle.branch_bound.specs.Claims.{ClaimTells, cause_of, is_kill, is_killed}

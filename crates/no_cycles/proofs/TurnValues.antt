@@ -24,7 +24,7 @@ use Rattle.simplex_rules.proofs.Facts.{rest-number, kept_between, zero_times}
 use Rattle.simplex_rules.proofs.Soundness.{IsPlaced}
 use Rattle.no_cycles.proofs.Moves as Moves
 use Rattle.no_cycles.proofs.Moves.{pinned}
-use Rattle.no_cycles.proofs.Compared.{rows-number, goal_is_basic, before_goal, leaving_basic, leaving_limit}
+use Rattle.no_cycles.proofs.SignArgument.{rows-number, goal_is_basic, before_goal, leaving_basic, leaving_limit}
 use Rattle.no_cycles.proofs.Limits.{IsLimit, IsAcross, basic_limit, own_limit}
 
 -- the new values, of the old ones: the goal falls by q times its rate, and where q is 0 all values stay

@@ -11,8 +11,8 @@ use Rattle.search_rules.specs.Outcomes.{IsPlain}
 use Rattle.search_rules.proofs.PlainSearches.{comes_plain, next_closed}
 use Rattle.no_cycles.specs.Beginning.{BeginsFeasible}
 use Rattle.no_cycles.specs.Searches.{is_turn_limit, is_for, is_out_of_turns}
-use Rattle.no_cycles.proofs.Bounded.{never_out}
-use Rattle.no_cycles.proofs.Begun.{settled_first}
+use Rattle.no_cycles.proofs.SecondPhase.{never_out}
+use Rattle.no_cycles.proofs.FirstBasis.{settled_first}
 
 pub early_is : (such : Cause → Bool) (best : Option Found) (c : Cause) → is_for such (early best c) ≡ such c
 early_is such None c = refl
