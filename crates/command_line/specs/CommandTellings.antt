@@ -11,5 +11,5 @@ pub record IsToldForm (form : Form) (command : Command) : Type 0 where
   pub local : (fields_of command).has_globals ≡ false
 
 -- it is what it was before, with the command of this form behind those that it had
-pub record HasNext (before : Command) (form : Form) (after : Command) : Type 0 where
+pub record HasNextCommand (before : Command) (form : Form) (after : Command) : Type 0 where
   pub is : app_of after ≡ with_subcommand (app_of before) (shape form)

@@ -2,7 +2,7 @@
 ghost use Rattle.std.specs.Prelude.{◌≡◌, false, map, IfOk};
 ghost use Rattle.clap.specs.Words.{app_of, rule_of};
 ghost use Rattle.command_line.specs.Forms.{flag_word, program_form};
-ghost use Rattle.command_line.specs.CommandTellings.{HasNext, IsToldForm};
+ghost use Rattle.command_line.specs.CommandTellings.{HasNextCommand, IsToldForm};
 
 use clap::{Arg, ArgAction, Command};
 use os_io::Memory;
@@ -58,7 +58,7 @@ fn with_command<'a>(
     named: &[&'a str],
     flags: &[&'a str],
 ) -> Result<Command<'a>, Memory>
-    ensures { IfOk result (HasNext program.entry (record {
+    ensures { IfOk result (HasNextCommand program.entry (record {
       name = name.now;
       needed = map (λ id. id.now) needed.now;
       named = map (λ id. id.now) named.now;

@@ -7,7 +7,7 @@ use Rattle.document_tags.specs.Passages.{Pending}
 use Rattle.document_tags.specs.Spots.{AreSpots}
 
 -- so many elements that were begun in it are still to be ended, more nodes come then and its own end, and these child elements were found so far
-pub record Gathers (e : Element) (depth : ℕ) (events : List Event) (found : List Spot) : Type 0 where
+pub record GathersChildren (e : Element) (depth : ℕ) (events : List Event) (found : List Spot) : Type 0 where
   pub more : Nodes
   pub rest : List Event
   pub so_far : List Element
@@ -18,4 +18,4 @@ pub record Gathers (e : Element) (depth : ℕ) (events : List Event) (found : Li
 -- some are still to be ended, or all child elements were found
 abbrev pub AreGathered : Element → List Event → List Spot → Option ℕ → Type 0
 AreGathered e events found None = AreSpots found (child_elements e.children)
-AreGathered e events found (Some depth) = Gathers e depth events found
+AreGathered e events found (Some depth) = GathersChildren e depth events found

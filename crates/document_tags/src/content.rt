@@ -5,7 +5,7 @@ ghost use Rattle.tree_grammar.specs.Elements.{Element};
 ghost use Rattle.document_tags.specs.Rests.{child_elements};
 ghost use Rattle.document_tags.specs.Spots.{StandsAt, AreSpots};
 ghost use Rattle.document_tags.specs.OneChild as said;
-ghost use Rattle.document_tags.specs.ChildElements.{Gathers, AreGathered};
+ghost use Rattle.document_tags.specs.ChildElements.{GathersChildren, AreGathered};
 
 use crate::spot::Spot;
 use element_tree::{Item, Tree};
@@ -24,7 +24,7 @@ fn pass<'t>(
     requires near { depth ≤ at }
     requires fits { at + 1 < 2 ^ 64 }
     ensures near { IfOk result (λ r. IfSome r (λ d. d ≤ at + 1)) }
-    ensures passes { (e : Element) → Gathers e depth (drop at tree.now) out.old.items → IfOk result (AreGathered e (drop (at + 1) tree.now) out.new.items) }
+    ensures passes { (e : Element) → GathersChildren e depth (drop at tree.now) out.old.items → IfOk result (AreGathered e (drop (at + 1) tree.now) out.new.items) }
 {
     match tree.event(at) {
         Item::Open { .. } => {

@@ -83,11 +83,11 @@ AllFit [] = Unit {0}
 AllFit (d ∷ deeds) = Fits d × AllFit deeds
 
 -- records of these and an end behind a gate that isn't 1
-pub record EndsBehind (deeds : List Deed) (file : List ℕ) : Type 0 where
+pub record EndsBehindGate (deeds : List Deed) (file : List ℕ) : Type 0 where
   pub gate : ℕ
   pub after : List ℕ
   pub shut : gate ≢ 1
   pub is : file ≡ records deeds ++ gate ∷ after
 
 abbrev pub CutInOneWay : Type 0
-CutInOneWay = (file : List ℕ) (one other : List Deed) → AllFit one → AllFit other → EndsBehind one file → EndsBehind other file → one ≡ other
+CutInOneWay = (file : List ℕ) (one other : List Deed) → AllFit one → AllFit other → EndsBehindGate one file → EndsBehindGate other file → one ≡ other

@@ -7,6 +7,7 @@ pub use Rattle.evidence.specs.Rows
 pub use Rattle.evidence.specs.Width
 pub use Rattle.evidence.specs.Columns
 pub use Rattle.evidence.specs.SemiVariables
+pub mod Limits
 pub mod Parts
 pub mod Program
 pub mod Feasibility

@@ -1,11 +1,11 @@
 -- What a file of records stands for.
 use Rattle.std.specs.Prelude.{◌≡◌, ◌≢◌, ◌⊎◌, ℕ, ◌+◌, ◌^◌, ◌≤◌, nat_le, nat_lt, Bool, ◌||◌, List, [], ◌∷◌, ◌++◌, length, take}
-use Rattle.effects.specs.Records.{Deed, records, EndsBehind}
+use Rattle.effects.specs.Records.{Deed, records, EndsBehindGate}
 use Rattle.disks.specs.Disks.{Only}
 
 -- the file stands for these: their records, and an end behind a gate that isn't 1; or for none, with at most one byte
 abbrev pub FileStandsFor : List Deed → List ℕ → Type 0
-FileStandsFor deeds file = EndsBehind deeds file ⊎ ((deeds ≡ []) × (length file ≤ 1))
+FileStandsFor deeds file = EndsBehindGate deeds file ⊎ ((deeds ≡ []) × (length file ≤ 1))
 
 -- the file stands for these, with one more or without it
 abbrev pub IsBeforeOrAfter : List Deed → Deed → List ℕ → Type 0

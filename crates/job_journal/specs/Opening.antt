@@ -1,6 +1,6 @@
 -- What a file that is opened stands for, and where it is damaged.
 use Rattle.std.specs.Prelude.{◌≡◌, ℕ, ◌<◌, Bool, List, ◌∷◌, ◌++◌, length, Option, Some, None, Result, Ok, Err}
-use Rattle.effects.specs.Records.{Deed, body, records, Fits, AllFit, EndsBehind}
+use Rattle.effects.specs.Records.{Deed, body, records, Fits, AllFit, EndsBehindGate}
 use Rattle.effects.specs.Fold.{Ledger, nothing, Folds, step}
 use Rattle.disks.specs.Disks.{LeavesOnly}
 use Rattle.job_journal.specs.Journal.{FileRests, FileStandsFor}
@@ -29,7 +29,7 @@ module _ (accepts : List ℕ → List ℕ → Bool) where
     pub deeds : List Deed
     pub fit : AllFit deeds
     pub folds : Folds accepts nothing deeds ledger
-    pub ends : EndsBehind deeds bytes
+    pub ends : EndsBehindGate deeds bytes
     pub at : place ≡ length (records deeds)
 
   -- behind an open gate at that place, and records of effects, no record stands with a gate behind it that is possible and accepted

@@ -12,7 +12,7 @@ use Rattle.job_table.specs.declared.job.Phase.{Phase}
 use Rattle.job_table.specs.declared.job.Phase.TheVariants.{Issued, Waiting, Running, Finished, Killed}
 use Rattle.job_table.specs.declared.job.Job.{Job}
 use Rattle.job_table.specs.Jobs.{HeldJobs, job, phase_of, with_phase, without, is_waiting, is_running, waiting_jobs, running_jobs, or_waiting, first_waiting, IsFirstWaiting, Rise, Below}
-use Rattle.job_table.specs.WaitingJobs.{waiting_numbers, place_among, placed_among, taken, renewed, Climb, IsKept}
+use Rattle.job_table.specs.WaitingJobs.{waiting_numbers, place_among, placed_among, taken, renewed, Climb, IsKeptBeside}
 use Rattle.job_table.specs.Steps.{most_jobs}
 use Rattle.job_table.proofs.JobLists.{rise_le, above_apart, Stands, stands, with_there, without_there, rise_low, rise_more, rise_with, rise_without, rise_below}
 
@@ -145,7 +145,7 @@ waiting_by n w front behind = waiting_split front ((n, w) ∷ behind)
 few_waiting : (jobs : HeldJobs) → length (waiting_numbers jobs) ≤ length jobs
 few_waiting jobs = omega (arith, waiting_count jobs, both_few jobs)
 
-module _ (jobs : HeldJobs) (first next : ℕ) (waiting : List ℕ) (room running : ℕ) (kept : IsKept jobs first next waiting room running) where
+module _ (jobs : HeldJobs) (first next : ℕ) (waiting : List ℕ) (room running : ℕ) (kept : IsKeptBeside jobs first next waiting room running) where
   pub rises : Climb 0 waiting
   rises = subst (λ (ns : List ℕ). Climb 0 ns) (sym kept.waiting_is) (climbs 0 jobs next (rise_low 1 first jobs next kept.begins kept.rise))
 
@@ -195,7 +195,7 @@ module _ (jobs : HeldJobs) (first next : ℕ) (waiting : List ℕ) (room running
 
     -- another phase
     pub kept_put : (w : Phase) (waiting' : List ℕ) (room' running' : ℕ) → waiting' ≡ renewed n (is_waiting x) (is_waiting w) waiting → room ≤ room'
-        → running' + cond (is_running x) 1 0 ≡ running + cond (is_running w) 1 0 → IsKept (with_phase n w jobs) first next waiting' room' running'
+        → running' + cond (is_running x) 1 0 ≡ running + cond (is_running w) 1 0 → IsKeptBeside (with_phase n w jobs) first next waiting' room' running'
     kept_put w waiting' room' running' waits more runs =
         let put : with_phase n w jobs ≡ here.front ++ (n, w) ∷ here.behind =
         ap (with_phase n w) here.is ∙ with_there n x w here.front here.behind here.below in
@@ -220,7 +220,7 @@ module _ (jobs : HeldJobs) (first next : ℕ) (waiting : List ℕ) (room running
         }
 
     -- a job that neither waits nor runs is given up
-    kept_gone : is_waiting x ≡ false → is_running x ≡ false → IsKept (without n jobs) first next waiting room running
+    kept_gone : is_waiting x ≡ false → is_running x ≡ false → IsKeptBeside (without n jobs) first next waiting room running
     kept_gone waits runs =
         let cut : without n jobs ≡ here.front ++ here.behind =
         ap (without n) here.is ∙ without_there n x here.front here.behind here.below in
@@ -244,13 +244,13 @@ module _ (jobs : HeldJobs) (first next : ℕ) (waiting : List ℕ) (room running
         }
 
   pub gone_is : (n : ℕ) (q : Option Phase) → phase_of n jobs ≡ q → IsSomeAnd q (λ x. (is_waiting x ≡ false) × (is_running x ≡ false))
-      → IsKept (without n jobs) first next waiting room running
+      → IsKeptBeside (without n jobs) first next waiting room running
   gone_is n (Some x) at over = kept_gone n x at over.0 over.1
   gone_is n None at over = absurd over
 
   -- a new job
   pub kept_add : (w : Phase) (waiting' : List ℕ) (room' running' : ℕ) → waiting' ≡ renewed next false (is_waiting w) waiting → next < 2 ^ 63 → length jobs < most_jobs
-      → length jobs + 1 ≤ room' → running' + 0 ≡ running + cond (is_running w) 1 0 → IsKept (jobs ++ (next, w) ∷ []) first (next + 1) waiting' room' running'
+      → length jobs + 1 ≤ room' → running' + 0 ≡ running + cond (is_running w) 1 0 → IsKeptBeside (jobs ++ (next, w) ∷ []) first (next + 1) waiting' room' running'
   kept_add w waiting' room' running' waits below less more runs =
       let many : length (jobs ++ (next, w) ∷ []) ≡ length jobs + 1 = length-append jobs ((next, w) ∷ []) in
       record {
@@ -279,8 +279,8 @@ empty_between : (low : ℕ) (jobs : HeldJobs) (high : ℕ) → high ≤ low → 
 empty_between low [] high le rise = refl
 empty_between low (e ∷ es) high le rise = absurd (omega (arith, le, rise.0, rise_le (e.0 + 1) es high rise.1))
 
-pub kept_begin : (jobs : HeldJobs) (first issued : ℕ) (waiting : List ℕ) (room running : ℕ) → IsKept jobs first (first + issued) waiting room running → issued ≡ 0
-    → (new : ℕ) → 1 ≤ new → new ≤ 2 ^ 62 → IsKept jobs new (new + issued) waiting room running
+pub kept_begin : (jobs : HeldJobs) (first issued : ℕ) (waiting : List ℕ) (room running : ℕ) → IsKeptBeside jobs first (first + issued) waiting room running → issued ≡ 0
+    → (new : ℕ) → 1 ≤ new → new ≤ 2 ^ 62 → IsKeptBeside jobs new (new + issued) waiting room running
 kept_begin jobs first issued waiting room running kept none new some within = record {
   begins = some;
   fits = omega (arith, none, within);

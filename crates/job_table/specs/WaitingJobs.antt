@@ -35,7 +35,7 @@ Climb low (n ∷ numbers) = (low < n) × Climb n numbers
 
 -- what the table keeps beside its jobs: their numbers rise from the first one on, below the next one, the numbers of those that wait
 -- stand in order in a list with room for all that are held, and those that run are counted
-pub record IsKept (jobs : HeldJobs) (first next : ℕ) (waiting : List ℕ) (room : ℕ) (running : ℕ) : Type 0 where
+pub record IsKeptBeside (jobs : HeldJobs) (first next : ℕ) (waiting : List ℕ) (room : ℕ) (running : ℕ) : Type 0 where
   pub begins : 1 ≤ first
   pub fits : next ≤ 2 ^ 63
   pub rise : Rise first jobs next

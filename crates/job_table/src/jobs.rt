@@ -49,13 +49,13 @@ impl Model for Jobs {
     ghost use Rattle.std.specs.Prelude.{◌+◌};
     ghost use Rattle.std.specs.VecDeque.{deque_capacity};
     ghost use Rattle.job_table.specs.Jobs.{Register};
-    ghost use Rattle.job_table.specs.WaitingJobs.{IsKept};
+    ghost use Rattle.job_table.specs.WaitingJobs.{IsKeptBeside};
 
     ghost Value = { Register };
 
     ghost view = { λ j. record { first = j.first; jobs = j.phases.entries; issued = j.issued; workers = j.workers } };
 
-    ghost invariant = { λ j. IsKept j.phases.entries j.first (j.first + j.issued) j.waiting.items (deque_capacity j.waiting) j.running };
+    ghost invariant = { λ j. IsKeptBeside j.phases.entries j.first (j.first + j.issued) j.waiting.items (deque_capacity j.waiting) j.running };
 }
 
 /// What is told of a phase.

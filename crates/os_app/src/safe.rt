@@ -5,7 +5,7 @@ ghost use Rattle.os_app.specs.Safe.{IsSafeOrNone};
 use no_cycles::safe_limit;
 use os_io::{Memory, Text};
 use osil_grammar::OsilFault;
-use osol_grammar::{Options, OsolFault};
+use osol_grammar::OsolFault;
 use std::alloc::{AllocError, Global};
 
 /// The text of a job's options with the safe limit in place of their own, where options and instance are read, and there is
@@ -30,11 +30,7 @@ pub(crate) fn safe_options(alloc: Global, osil: &[u8], osol: &[u8]) -> Result<Op
     let Some(turns) = safe_limit(variables, rows) else {
         return Ok(None);
     };
-    let safe = Options {
-        job: options.job,
-        nodes: options.nodes,
-        turns,
-        rounds: options.rounds,
-    };
+    let mut safe = options;
+    safe.turns = turns;
     Ok(Some(osol_grammar::encode(alloc, &safe)?))
 }

@@ -1,5 +1,5 @@
 -- What is kept of marks, and what a decoder answers of the bytes that it was fed.
-use Rattle.osil_grammar.proofs.Words.{◌≡◌, ℕ, ◌⊎◌, inl, inr, List, [], ◌∷◌, refl, sym, subst, Result, Ok, Err, MatchResult, Mark, AreTaken, Takes, Parts, Stop, OsilFault, State, start, osil, IsInstanceText, DecodeFails, Steps, told_of, instance_of, IsFit, Refuse, tree_fault}
+use Rattle.osil_grammar.proofs.Words.{◌≡◌, ℕ, ◌⊎◌, inl, inr, List, [], ◌∷◌, refl, sym, subst, Result, Ok, Err, MatchResult, Mark, AreTaken, Takes, Parts, Stop, OsilFault, State, start, osil, IsInstanceText, DecodeFails, Steps, told_of, instance_of, MakesSoFar, Refuse, tree_fault}
 use Rattle.doc_tree.specs.declared.fault.TreeFault.{TreeFault}
 use Rattle.doc_tree.specs.declared.fault.TreeFault.TheVariants as tree
 use Rattle.document_tags.specs.Documents.{OfDocument, TreeFails}
@@ -16,9 +16,9 @@ module _ {X : Type 0} (s : State) (m : Mark) (z w : State) where
   Told r = readers.Steps (AreTaken osil) Refuse s (m ∷ []) w r
 
   -- a step that was kept leaves a state that is fit
-  pub kept_fit : (step : Result X Stop) → IsFit s → Steps s m z step → MatchResult step (λ _. w ≡ z) (λ _. w ≡ start) → IsFit w
-  kept_fit (Ok x) fit steps is = subst IsFit (sym is) (fit_kept s (m ∷ []) z (z, steps, refl) fit)
-  kept_fit (Err stop) fit steps is = subst IsFit (sym is) fit_start
+  pub kept_fit : (step : Result X Stop) → MakesSoFar s → Steps s m z step → MatchResult step (λ _. w ≡ z) (λ _. w ≡ start) → MakesSoFar w
+  kept_fit (Ok x) fit steps is = subst MakesSoFar (sym is) (fit_kept s (m ∷ []) z (z, steps, refl) fit)
+  kept_fit (Err stop) fit steps is = subst MakesSoFar (sym is) fit_start
 
   -- and is told
   step_told : (step : Result X Stop) → Steps s m z step → MatchResult step (λ _. w ≡ z) (λ _. w ≡ start) → Told step

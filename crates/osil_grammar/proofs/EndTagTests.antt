@@ -1,5 +1,5 @@
 -- What was read at an end tag answers the tests of its kind.
-use Rattle.osil_grammar.proofs.Words.{◌≡◌, ◌∙◌, ℕ, ◌<◌, ◌≤◌, inl, inr, ℤ, pos, ◌+ℤ◌, ◌*ℤ◌, List, [], ◌∷◌, ◌++◌, get_or, set, refl, ap, sym, subst, arith, Result, Ok, Err, MatchResult, ints, Finish, IsSame, sum, SumFits, Frac, ratio, ratios, Entry, IsDecimal, IsWholeText, whole_once, Unread, AllPass, FirstFails, first_with, Stop, Place, Listing, told_refusal, Refusal, ratio_at, Grammar, whole, IsOfGrammar, IsWideOf, IsUnread, State, Test, Told, bad_text, great_text, great_cost, great_run, out_of_range, other_count, ends, tests, refusal, end_ordinal, Fails, IsInRange, HasGreatEntry, limit, Ends, AddsRun, IsMatrixOf, out_of, EndAnswers, EndsAt, IsRun, HasGreat, unread_refusal}
+use Rattle.osil_grammar.proofs.Words.{◌≡◌, ◌∙◌, ℕ, ◌<◌, ◌≤◌, inl, inr, ℤ, pos, ◌+ℤ◌, ◌*ℤ◌, List, [], ◌∷◌, ◌++◌, get_or, set, refl, ap, sym, subst, arith, Result, Ok, Err, MatchResult, ints, Finish, IsSame, sum, SumFits, Frac, ratio, ratios, Entry, IsDecimal, IsWholeText, whole_once, Unread, AllPass, FirstFails, first_with, Stop, Place, Listing, told_refusal, Refusal, ratio_at, Grammar, whole, IsOfGrammar, IsWideOf, IsUnread, State, Test, Told, bad_text, great_text, great_cost, great_run, out_of_range, other_count, ends, tests, refusal, end_ordinal, Fails, IsIndexBelow, HasGreatEntry, limit, Ends, AddsRun, IsMatrixOf, out_of, EndAnswers, EndsAt, IsStepRun, HasGreat, unread_refusal}
 use Rattle.evidence.specs.Sums as evidence
 use Rattle.tag_tests.specs.declared.numbers.Unread.TheVariants as unread
 use Rattle.osil_grammar.specs.declared.fault.Refusal as code
@@ -43,19 +43,19 @@ cost_added s x y cs reads is same fits name = (
 pub run_great : (s : State) (name : List ℕ) (x : Frac) → IsDecimal s.text (ratio x) → HasGreat x s.step s.times → FirstFails (Fails s (Finish name)) (refusal s (Finish name)) (tests (ends (places.El listings.Values))) refusals.Wide
 run_great s name x reads h = text_behind s name decimal great_run refusals.Wide (decimal_read s.text x reads) (record { first = x; begins = reads; great = h }) refl
 
-pub run_added : (s : State) (x : Frac) (added vs : List Frac) → IsDecimal s.text (ratio x) → IsRun x s.step s.times added → vs ≡ s.values ++ added → (name : List ℕ) → AllPass (Fails s (Finish name)) (tests (ends (places.El listings.Values))) × Ends s (places.El listings.Values) (record s { place = places.Listed listings.Values; values = vs })
+pub run_added : (s : State) (x : Frac) (added vs : List Frac) → IsDecimal s.text (ratio x) → IsStepRun x s.step s.times added → vs ≡ s.values ++ added → (name : List ℕ) → AllPass (Fails s (Finish name)) (tests (ends (places.El listings.Values))) × Ends s (places.El listings.Values) (record s { place = places.Listed listings.Values; values = vs })
 run_added s x added vs reads run is name = (
   text_pass s name decimal great_run (decimal_read s.text x reads) (λ h. let g = h.great in g.2 (subst (λ (z : Frac). SumFits (ratio_at (ratio z) (ratio s.step) g.0) (ratio s.step)) (decimal_once s.text x h.first reads h.begins) (run.1 g.0 g.1))),
   (x, added, reads, run.0, ap (λ (l : List Frac). let z : State = record s { place = places.Listed listings.Values; values = l } in z) is),
 )
 
 -- a run of whole numbers
-pub whole_out : (s : State) (name : List ℕ) (l : Listing) (z : ℤ) → (l ≡ listings.Values → ⊥) → IsWholeText s.text z → (k : ℕ) × (k < s.times) × (IsInRange (z +ℤ pos k *ℤ s.whole_step) (limit s l) → ⊥) → FirstFails (Fails s (Finish name)) (refusal s (Finish name)) (tests (ends (places.El l))) refusals.Index
+pub whole_out : (s : State) (name : List ℕ) (l : Listing) (z : ℤ) → (l ≡ listings.Values → ⊥) → IsWholeText s.text z → (k : ℕ) × (k < s.times) × (IsIndexBelow (z +ℤ pos k *ℤ s.whole_step) (limit s l) → ⊥) → FirstFails (Fails s (Finish name)) (refusal s (Finish name)) (tests (ends (places.El l))) refusals.Index
 whole_out s name listings.Values z other reads h = absurd (other refl)
 whole_out s name l z other reads h = text_behind s name whole (out_of_range l) refusals.Index (whole_read s.text z reads) (record { first = z; begins = reads; k = h.0; inside = h.1; out = h.2 }) refl
 
-whole_passes : (s : State) (name : List ℕ) (l : Listing) (z : ℤ) → IsWholeText s.text z → ((k : ℕ) → k < s.times → IsInRange (z +ℤ pos k *ℤ s.whole_step) (limit s l)) → Fails s (Finish name) (out_of_range l) → ⊥
-whole_passes s name l z reads inside h = h.out (subst (λ (w : ℤ). IsInRange (w +ℤ pos h.k *ℤ s.whole_step) (limit s l)) (whole_once s.text z h.first reads h.begins) (inside h.k h.inside))
+whole_passes : (s : State) (name : List ℕ) (l : Listing) (z : ℤ) → IsWholeText s.text z → ((k : ℕ) → k < s.times → IsIndexBelow (z +ℤ pos k *ℤ s.whole_step) (limit s l)) → Fails s (Finish name) (out_of_range l) → ⊥
+whole_passes s name l z reads inside h = h.out (subst (λ (w : ℤ). IsIndexBelow (w +ℤ pos h.k *ℤ s.whole_step) (limit s l)) (whole_once s.text z h.first reads h.begins) (inside h.k h.inside))
 
 pub whole_text : (s : State) (name : List ℕ) (l : Listing) (u : Unread) (r : Refusal) → (l ≡ listings.Values → ⊥) → IsUnread u whole s.text → r ≡ unread_refusal u → FirstFails (Fails s (Finish name)) (refusal s (Finish name)) (tests (ends (places.El l))) r
 whole_text s name listings.Values u r other h is = absurd (other refl)
@@ -65,7 +65,7 @@ whole_text s name l u r other h is = text_refused s name whole u (out_of_range l
 pub cost_ends : (s now : State) → s ≡ now → (x : Frac) (cs : List Frac) → IsDecimal now.text (ratio x) → (y : Frac) × (cs ≡ set s.costs s.variable y) × IsSame (ratio y) (sum (get_or (ratios s.costs) s.variable evidence.none) (ratio x)) × SumFits (get_or (ratios s.costs) s.variable evidence.none) (ratio x) → EndsAt {X = Unit {0}} now places.Coef (record s { place = places.Obj; costs = cs }) (Ok tt)
 cost_ends s now same x cs reads h = subst (λ (n : State). IsDecimal n.text (ratio x) → EndsAt {X = Unit {0}} n places.Coef (record s { place = places.Obj; costs = cs }) (Ok tt)) same (λ r name. cost_added s x h.0 cs r h.1 h.2 h.3 name) reads
 
-pub run_ends : (s now : State) → s ≡ now → (x : Frac) (vs : List Frac) → IsDecimal now.text (ratio x) → (added : List Frac) × IsRun x s.step s.times added × (vs ≡ s.values ++ added) → EndsAt {X = Unit {0}} now (places.El listings.Values) (record s { place = places.Listed listings.Values; values = vs }) (Ok tt)
+pub run_ends : (s now : State) → s ≡ now → (x : Frac) (vs : List Frac) → IsDecimal now.text (ratio x) → (added : List Frac) × IsStepRun x s.step s.times added × (vs ≡ s.values ++ added) → EndsAt {X = Unit {0}} now (places.El listings.Values) (record s { place = places.Listed listings.Values; values = vs }) (Ok tt)
 run_ends s now same x vs reads h = subst (λ (n : State). IsDecimal n.text (ratio x) → EndsAt {X = Unit {0}} n (places.El listings.Values) (record s { place = places.Listed listings.Values; values = vs }) (Ok tt)) same (λ r name. run_added s x h.0 vs r h.1 h.2 name) reads
 
 -- what is so where something came of a call, or where nothing did
@@ -76,14 +76,14 @@ pub of_err : {X E : Type 0} (r : Result X E) (e : E) (P : X → Type 0) (Q : E �
 of_err {X} {E} r e P Q is h = subst (λ (z : Result X E). MatchResult z P Q) is h
 
 -- a run of whole numbers is added to its list
-pub range_within : (z : ℤ) (n m : ℕ) → n ≤ m → IsInRange z n → IsInRange z m
+pub range_within : (z : ℤ) (n m : ℕ) → n ≤ m → IsIndexBelow z n → IsIndexBelow z m
 range_within z n m most h = (h.0, (let high = h.1 in omega (arith, ints, most)))
 
 pub whole_added : (l : Listing) (s z : State) → (l ≡ listings.Values → ⊥) → AddsRun l s z → AddsRun l (out_of s (places.El l)) (record z { place = places.Listed l })
 whole_added listings.Values s z other h = absurd (other refl)
 whole_added l s z other (new, adds, is) = (new, adds, ap (λ (y : State). let p : State = record y { place = places.Listed l } in p) is)
 
-pub whole_pass : (s : State) (name : List ℕ) (l : Listing) (z : ℤ) → (l ≡ listings.Values → ⊥) → IsWholeText s.text z → ((k : ℕ) → k < s.times → IsInRange (z +ℤ pos k *ℤ s.whole_step) (limit s l)) → AllPass (Fails s (Finish name)) (tests (ends (places.El l)))
+pub whole_pass : (s : State) (name : List ℕ) (l : Listing) (z : ℤ) → (l ≡ listings.Values → ⊥) → IsWholeText s.text z → ((k : ℕ) → k < s.times → IsIndexBelow (z +ℤ pos k *ℤ s.whole_step) (limit s l)) → AllPass (Fails s (Finish name)) (tests (ends (places.El l)))
 whole_pass s name listings.Values z other reads inside = absurd (other refl)
 whole_pass s name l z other reads inside = text_pass s name whole (out_of_range l) (whole_read s.text z reads) (whole_passes s name l z reads inside)
 

@@ -1,5 +1,5 @@
 -- The lists of the matrix and its entries are never held at once.
-use Rattle.osil_grammar.proofs.Words.{◌≡◌, ℕ, ◌*◌, ◌≤◌, inl, inr, Bool, true, false, List, [], ◌∷◌, length, refl, ap, sym, subst, arith, lit<, All, All-head, All-tail, Frac, Entry, Goal, Mark, Start, Char, Finish, AllPass, Takes, AreTaken, Place, Led, around, State, start, begins, tests, leads, Fails, Begins, Ends, Leaves, osil, IsSoundSoFar, AreGoals, HasGoalsIn, is_in_matrix, AreHeldApart, HoldsApart, IsFit, goals_held, held}
+use Rattle.osil_grammar.proofs.Words.{◌≡◌, ℕ, ◌*◌, ◌≤◌, inl, inr, Bool, true, false, List, [], ◌∷◌, length, refl, ap, sym, subst, arith, lit<, All, All-head, All-tail, Frac, Entry, Goal, Mark, Start, Char, Finish, AllPass, Takes, AreTaken, Place, Led, around, State, start, begins, tests, leads, Fails, Begins, Ends, Leaves, osil, IsSoundSoFar, AreGoals, HasGoalsIn, is_in_matrix, AreHeldApart, HoldsApart, MakesSoFar, goals_held, held}
 use Rattle.osil_grammar.specs.declared.elements.Part.TheVariants as parts
 use Rattle.osil_grammar.specs.declared.elements.Listing.TheVariants as listings
 use Rattle.osil_grammar.specs.declared.elements.Place.TheVariants as places
@@ -125,12 +125,12 @@ held_at places.Obj s sound apart goals = open_few s sound goals.0 apart (goals.2
 held_at places.Coef s sound apart goals = open_few s sound goals.0 apart (goals.2 (lit< tt)) goals.3.0
 held_at p s sound apart goals = closed_few s sound goals.0 (is_in_matrix p) apart goals.3
 
-pub held_few : (s : State) → IsFit s → held s ≤ 211009
+pub held_few : (s : State) → MakesSoFar s → held s ≤ 211009
 held_few s fit = held_at s.place s fit.0.0 fit.1 fit.2
 
-pub fit_start : IsFit start
+pub fit_start : MakesSoFar start
 fit_start = (sound_start, apart_start, goals_start)
 
-pub fit_kept : (s : State) (ms : List Mark) (z : State) → AreTaken osil s ms z → IsFit s → IsFit z
-fit_kept s [] z taken fit = subst IsFit (sym taken) fit
+pub fit_kept : (s : State) (ms : List Mark) (z : State) → AreTaken osil s ms z → MakesSoFar s → MakesSoFar z
+fit_kept s [] z taken fit = subst MakesSoFar (sym taken) fit
 fit_kept s (m ∷ ms) z (w, takes, more) fit = fit_kept w ms z more (sound_kept s w m fit.0 takes, apart_kept s w m fit.1 takes, goals_kept s w m fit.2 takes)

@@ -1,5 +1,5 @@
 -- What start tags and texts say is one thing, so a mark that is taken leaves one state.
-use Rattle.osil_grammar.proofs.Words.{◌≡◌, ◌∙◌, ◌+◌, ℕ, zero, suc, inl, inr, ℤ, pos, cond, List, [], ◌∷◌, ◌++◌, map, length, get_or, set, replicate, refl, ap, sym, subst, arith, lit<, ◌||◌, Option, bytes_eq, codes, Attribute, Mark, Char, Ratio, IsNumber, IsSame, sum, negative, sum-number, Frac, End, NegInf, At, Inf, Entry, ratio, ratios, SaysEnd, IsCount, IsWholeText, IsDecimal, count_once, whole_once, value_of, Row, Sense, Min, Max, LeavesOne, Listing, Place, whole_run, ratio_run, AreSame, IsLess, IsSense, nought, SaysStep, SaysWholeStep, SaysRow, SaysSense, State, Kind, begins, text, ends, kind, attributes, count_name, part_row, into, out_of, is_variables, SaysRun, Begins, Passes, AddsWholes, AddsRun, AddsCost, Ends, Leaves, osil}
+use Rattle.osil_grammar.proofs.Words.{◌≡◌, ◌∙◌, ◌+◌, ℕ, zero, suc, inl, inr, ℤ, pos, cond, List, [], ◌∷◌, ◌++◌, map, length, get_or, set, replicate, refl, ap, sym, subst, arith, lit<, ◌||◌, Option, bytes_eq, codes, Attribute, Mark, Char, Ratio, IsNumber, IsSame, sum, negative, sum-number, Frac, End, NegInf, At, Inf, Entry, ratio, ratios, SaysEnd, IsCount, IsWholeText, IsDecimal, count_once, whole_once, value_of, Row, Sense, Min, Max, LeavesOne, Listing, Place, whole_run, ratio_run, AreSame, IsLess, IsSense, nought, SaysStep, SaysWholeStep, SaysRow, SaysSense, State, Kind, begins, text, ends, kind, attributes, count_name, part_row, into, out_of, is_variables, SaysRun, Begins, PassesOn, AddsWholes, AddsRun, AddsCost, Ends, Leaves, osil}
 use Rattle.evidence.specs.Sums as evidence
 use Rattle.document_tags.proofs.SomeAnd.{some_once}
 use Rattle.instance.specs.declared.parts.Var.{Var as Variable}
@@ -83,7 +83,7 @@ begins_once s m places.Coef a b (i, x, e) (j, y, f) =
 begins_once s m (places.El l) a b e f = run_once l (attributes m) (into s (places.El l)) a b e f
 begins_once s m p a b e f = e ∙ sym f
 
-passes_once : (s a b : State) → Passes s a → Passes s b → a ≡ b
+passes_once : (s a b : State) → PassesOn s a → PassesOn s b → a ≡ b
 passes_once s a b (inl e) (inl f) = e.1 ∙ sym f.1
 passes_once s a b (inr e) (inr f) = e.1 ∙ sym f.1
 passes_once s a b (inl e) (inr f) = absurd (let x = e.0 in let y = f.0 in omega arith)

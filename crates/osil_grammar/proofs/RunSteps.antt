@@ -1,5 +1,5 @@
 -- Runs of numbers, a step from one to the next.
-use Rattle.osil_grammar.proofs.Words.{◌^◌, to_z, of_z, ◌≡◌, ◌↔◌, MatchBool, Bool, true, false, ℕ, suc, ◌+◌, ◌-◌, ◌*◌, ◌<◌, ◌≤◌, ℤ, pos, negsuc, ◌+ℤ◌, ◌*ℤ◌, ◌<ℤ◌, ◌≤ℤ◌, neg_ℤ, List, [], ◌∷◌, ◌++◌, zero, length, arith, refl, sym, ◌∙◌, ap, subst, mul-le-mul_right, unsigned_abs, ints, to_z_pos, false≢true, append_assoc, map_push, length-append, length-map, whole_run, wholes, IsInRange}
+use Rattle.osil_grammar.proofs.Words.{◌^◌, to_z, of_z, ◌≡◌, ◌↔◌, MatchBool, Bool, true, false, ℕ, suc, ◌+◌, ◌-◌, ◌*◌, ◌<◌, ◌≤◌, ℤ, pos, negsuc, ◌+ℤ◌, ◌*ℤ◌, ◌<ℤ◌, ◌≤ℤ◌, neg_ℤ, List, [], ◌∷◌, ◌++◌, zero, length, arith, refl, sym, ◌∙◌, ap, subst, mul-le-mul_right, unsigned_abs, ints, to_z_pos, false≢true, append_assoc, map_push, length-append, length-map, whole_run, wholes, IsIndexBelow}
 use Rattle.std.specs.Int.{w128}
 use Rattle.std.proofs.Math.IntN.{pos-*ℤ-pos, pos-*ℤ-negsuc, suc_ℤ-*ℤ, zero-*ℤ}
 
@@ -43,18 +43,18 @@ pub first_place : (first step : ℤ) → at_step first step 0 ≡ first
 first_place first step = let e : pos 0 *ℤ step ≡ pos 0 = zero-*ℤ step in omega (arith, ints)
 
 -- whether all numbers are below the limit, by the first and the last
-pub place_out : (first step : ℤ) (times limit k : ℕ) → k < times → ((false ≡ true) ↔ IsInRange (at_step first step k) limit) → (k : ℕ) × (k < times) × (IsInRange (at_step first step k) limit → ⊥)
+pub place_out : (first step : ℤ) (times limit k : ℕ) → k < times → ((false ≡ true) ↔ IsIndexBelow (at_step first step k) limit) → (k : ℕ) × (k < times) × (IsIndexBelow (at_step first step k) limit → ⊥)
 place_out first step times limit k inside tells = (k, inside, λ below. false≢true (tells.1 below))
 
-pub range_answer : (a b : Bool) (first step : ℤ) (times limit : ℕ) → 0 < times → a ≡ true → ((a ≡ true) ↔ IsInRange (at_step first step 0) limit) → ((b ≡ true) ↔ IsInRange (at_step first step (times - 1)) limit) → MatchBool b ((k : ℕ) → k < times → IsInRange (at_step first step k) limit) ((k : ℕ) × (k < times) × (IsInRange (at_step first step k) limit → ⊥))
+pub range_answer : (a b : Bool) (first step : ℤ) (times limit : ℕ) → 0 < times → a ≡ true → ((a ≡ true) ↔ IsIndexBelow (at_step first step 0) limit) → ((b ≡ true) ↔ IsIndexBelow (at_step first step (times - 1)) limit) → MatchBool b ((k : ℕ) → k < times → IsIndexBelow (at_step first step k) limit) ((k : ℕ) × (k < times) × (IsIndexBelow (at_step first step k) limit → ⊥))
 range_answer a true first step times limit some on low tells =
-    let bottom : IsInRange first limit = subst (λ (z : ℤ). IsInRange z limit) (first_place first step) (low.0 on) in
+    let bottom : IsIndexBelow first limit = subst (λ (z : ℤ). IsIndexBelow z limit) (first_place first step) (low.0 on) in
     let high = tells.0 refl in
     λ k h. between first step (times - 1) limit k bottom.0 bottom.1 high.0 high.1 (omega arith)
 range_answer a false first step times limit some on low tells = place_out first step times limit (times - 1) (omega arith) tells
 
 -- a number below the limit is what its cast to an unsigned one is
-pub pushed_is : (z : ℤ) → IsInRange z 100001 → pos (unsigned_abs (to_z w128 (of_z w128 z))) ≡ z
+pub pushed_is : (z : ℤ) → IsIndexBelow z 100001 → pos (unsigned_abs (to_z w128 (of_z w128 z))) ≡ z
 pushed_is (pos n) below = let high = below.1 in let small : n < 2 ^ 127 = omega (arith, ints) in ap (λ (z : ℤ). pos (unsigned_abs z)) (to_z_pos w128 n small)
 pushed_is (negsuc n) below = absurd (let low = below.0 in omega (arith, ints))
 

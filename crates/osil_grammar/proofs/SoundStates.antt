@@ -1,5 +1,5 @@
 -- A mark that is taken in a sound state leaves a sound state.
-use Rattle.osil_grammar.proofs.Words.{◌≡◌, ◌∙◌, ◌+◌, ◌-◌, ◌<◌, ◌≤◌, ℕ, inl, inr, ℤ, pos, negsuc, Bool, true, false, cond, List, [], ◌++◌, map, length, replicate, refl, ap, sym, subst, arith, length-append, Option, None, Some, MatchOption, IsSomeAnd, unsigned_abs, ◌+ℤ◌, ◌*ℤ◌, codes, All, cases_lt, cases_eq, ints, length-replicate, length-map, All-nil, All-append, All-replicate, All-weaker, All-map, Attribute, Mark, Start, Char, Finish, Frac, ratio, ratios, End, NegInf, At, Inf, Entry, IsCount, IsWholeText, Row, AreEnds, IsVar, IsInside, value_of, AllPass, Takes, Listing, Place, Led, IsLess, IsTimes, SaysTimes, State, start, begins, ends, tests, leads, Fails, AreTooMany, IsDivided, IsInRange, IsOutOfRange, lines, list_length, most, Begins, Ends, Leaves, AddsWholes, IsMatrixOf, heard, keeps_text, osil, AreItems, AreWithin, IsSoundSoFar, IsSoundAt, IsSoundIn, IsSound}
+use Rattle.osil_grammar.proofs.Words.{◌≡◌, ◌∙◌, ◌+◌, ◌-◌, ◌<◌, ◌≤◌, ℕ, inl, inr, ℤ, pos, negsuc, Bool, true, false, cond, List, [], ◌++◌, map, length, replicate, refl, ap, sym, subst, arith, length-append, Option, None, Some, MatchOption, IsSomeAnd, unsigned_abs, ◌+ℤ◌, ◌*ℤ◌, codes, All, cases_lt, cases_eq, ints, length-replicate, length-map, All-nil, All-append, All-replicate, All-weaker, All-map, Attribute, Mark, Start, Char, Finish, Frac, ratio, ratios, End, NegInf, At, Inf, Entry, IsCount, IsWholeText, Row, AreEnds, IsVar, IsInside, value_of, AllPass, Takes, Listing, Place, Led, IsLess, IsTimes, SaysTimes, State, start, begins, ends, tests, leads, Fails, AreTooMany, IsDivided, IsIndexBelow, IsOutOfRange, lines, list_length, most, Begins, Ends, Leaves, AddsWholes, IsMatrixOf, heard, keeps_text, osil, AreItems, AreWithin, IsSoundSoFar, IsSoundAt, IsSoundIn, IsSound}
 use Rattle.instance.specs.declared.parts.Var.{Var as Variable}
 use Rattle.osil_grammar.specs.declared.elements.Part.TheVariants as parts
 use Rattle.osil_grammar.specs.declared.elements.Listing.TheVariants as listings
@@ -123,11 +123,11 @@ text_sound (places.El listings.Starts) s text h = h
 text_sound p s text h = h
 
 -- END TAGS
-in_range : (z : ℤ) (n : ℕ) → ((IsInRange z n → ⊥) → ⊥) → IsInRange z n
+in_range : (z : ℤ) (n : ℕ) → ((IsIndexBelow z n → ⊥) → ⊥) → IsIndexBelow z n
 in_range (pos k) n h = elim (cases_lt k n) [ inl below ↦ (omega (arith, ints), omega (arith, ints, below)) | inr above ↦ absurd (h (λ r. let high = r.1 in omega (arith, ints, above))) ]
 in_range (negsuc k) n h = absurd (h (λ r. let low = r.0 in omega (arith, ints)))
 
-all_in_range : (text : List ℕ) (first step : ℤ) (m n : ℕ) → IsWholeText text first → (IsOutOfRange text step m n → ⊥) → (k : ℕ) → k < m → IsInRange (first +ℤ pos k *ℤ step) n
+all_in_range : (text : List ℕ) (first step : ℤ) (m n : ℕ) → IsWholeText text first → (IsOutOfRange text step m n → ⊥) → (k : ℕ) → k < m → IsIndexBelow (first +ℤ pos k *ℤ step) n
 all_in_range text first step m n reads not_so k inside = in_range (first +ℤ pos k *ℤ step) n (λ out. not_so (record { first = first; begins = reads; k = k; inside = inside; out = out }))
 
 with_indices : (s : State) (new : List ℕ) → AddsWholes s.indices s new → IsSoundSoFar s → length s.indices + s.times ≤ 100000 → (IsOutOfRange s.text s.whole_step s.times (cond s.by_columns (length s.rows) (length s.vars)) → ⊥) → IsSoundSoFar (record s { indices = new })

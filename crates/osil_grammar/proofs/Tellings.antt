@@ -1,11 +1,11 @@
 -- What a builder is told one thing after another.
-use Rattle.osil_grammar.proofs.Words.{◌≡◌, ◌∙◌, ℕ, ◌+◌, ◌<◌, ◌≤◌, List, [], ◌∷◌, ◌++◌, length, take, drop, get_or, ap, sym, subst, All, drop_more, drop_all, take_all, All-more, Nodes, none, Event, nodes_events, Building, said, HasNone}
+use Rattle.osil_grammar.proofs.Words.{◌≡◌, ◌∙◌, ℕ, ◌+◌, ◌<◌, ◌≤◌, List, [], ◌∷◌, ◌++◌, length, take, drop, get_or, ap, sym, subst, All, drop_more, drop_all, take_all, All-more, Nodes, none, Event, nodes_events, Building, said, LacksDecimal}
 use Rattle.osil_grammar.specs.declared.fault.EncodeFault.{EncodeFault}
 use Rattle.osil_grammar.specs.declared.fault.EncodeFault.TheVariants.{NotDecimal, Long, Memory}
 use Rattle.document_tags.specs.Telling.{Told}
 
 -- a number that has no decimal is one of those that would need one
-pub none_of : (P Q : Type 0) (e : EncodeFault) → (Q → P) → HasNone P e → HasNone Q e
+pub none_of : (P Q : Type 0) (e : EncodeFault) → (Q → P) → LacksDecimal P e → LacksDecimal Q e
 none_of P Q NotDecimal needs has_none = λ q. has_none (needs q)
 none_of P Q Long needs has_none = has_none
 none_of P Q Memory needs has_none = tt
@@ -56,5 +56,5 @@ all_told {X} P W start b all i over empty first =
     (subst (λ (l : List X). All P l) (take_all i all over) first.decimals, done.nodes, done.writes, record { told = done.told; waiting = first.waiting })
 
 -- one that has no decimal is one of all
-pub none_at : {X : Type 0} (P : X → Type 0) (all : List X) (i : ℕ) (x : X) (e : EncodeFault) → i < length all → x ≡ get_or all i x → HasNone (P x) e → HasNone (All P all) e
+pub none_at : {X : Type 0} (P : X → Type 0) (all : List X) (i : ℕ) (x : X) (e : EncodeFault) → i < length all → x ≡ get_or all i x → LacksDecimal (P x) e → LacksDecimal (All P all) e
 none_at {X} P all i x e inside is has_none = none_of (P x) (All P all) e (λ (each : All P all). subst P (sym is) (each i x inside)) has_none

@@ -40,10 +40,10 @@ pub use Rattle.instance.specs.declared.parts.Row.{Row}
 pub use Rattle.instance.specs.declared.parts.Sense.{Sense}
 pub use Rattle.instance.specs.declared.parts.Sense.TheVariants.{Max, Min}
 pub use Rattle.instance.specs.declared.parts.Var.{Var}
-pub use Rattle.osil_grammar.specs.Failing.{AreTooMany, Fails, HasGreat, HasGreatEntry, HasNoSense, IsDivided, IsGreatEnd, IsInRange, IsOutOfRange, items, limit, lines, list_length, lists_so_far, most}
+pub use Rattle.osil_grammar.specs.Failing.{AreTooMany, Fails, HasGreat, HasGreatEntry, HasNoSense, IsDivided, IsGreatEnd, IsIndexBelow, IsOutOfRange, items, limit, lines, list_length, lists_so_far, most}
 pub use Rattle.osil_grammar.specs.Grammars.{Grammar, HasSuch, IsBad, IsDeclared, IsOfGrammar, IsTimes, IsTooGreat, IsUnread, IsWideOf, ReadsSo, Says, SaysCount, bound, count, field, lb, mult, nought, times, ub, whole}
-pub use Rattle.osil_grammar.specs.Hearing.{AreHeldApart, HoldsApart, IsFit, Refuse, WasFed, goals_held, held, is_in_matrix, tree_fault}
-pub use Rattle.osil_grammar.specs.Leaving.{AddsCost, AddsRun, AddsWholes, Begins, Ends, HasMatrix, IsMatrixOf, Leaves, Passes, SaysRun, goal_so_far, into, is_variables, keeps_text, out_of, with_goals}
+pub use Rattle.osil_grammar.specs.Hearing.{AreHeldApart, HoldsApart, MakesSoFar, Refuse, WasFed, goals_held, held, is_in_matrix, tree_fault}
+pub use Rattle.osil_grammar.specs.Leaving.{AddsCost, AddsRun, AddsWholes, Begins, Ends, HasMatrix, IsMatrixOf, Leaves, PassesOn, SaysRun, goal_so_far, into, is_variables, keeps_text, out_of, with_goals}
 pub use Rattle.osil_grammar.specs.Marked.{IsAccepted, IsRefused, StandsFor, goals_said, instance_of, marks, osil}
 pub use Rattle.osil_grammar.specs.Matrix.{HasWidePlace, IsDivision, lines_from, place_sum, placed, placed_all, stored}
 pub use Rattle.osil_grammar.specs.Meaning.{AreEntriesOf, IsBinary, IsContinuous, IsEndAt, IsLess, IsSense, lowered, raised}
@@ -54,10 +54,10 @@ pub use Rattle.osil_grammar.specs.Runs.{AreSame, ratio_at, ratio_run, whole_run}
 pub use Rattle.osil_grammar.specs.Saying.{IsEndText, IsLetterOf, IsOfDomain, SaysConstant, SaysDomain, SaysHigh, SaysIndex, SaysLow, SaysRow, SaysRowLow, SaysSense, SaysStep, SaysTimes, SaysWholeStep, letter_names, letters, senses}
 pub use Rattle.osil_grammar.specs.Sound.{AreCostsAt, AreGoals, AreGoalsLate, AreItems, AreWithin, HasGoals, HasGoalsIn, IsGoalOpen, IsInPart, IsSound, IsSoundAt, IsSoundIn, IsSoundSoFar, part_in}
 pub use Rattle.osil_grammar.specs.Standing.{State, start}
-pub use Rattle.osil_grammar.specs.Stepping.{BeginsAt, EndAnswers, EndsAt, IsNear, IsRun, IsTooFar, Steps, Stop, told_of, unread_refusal}
+pub use Rattle.osil_grammar.specs.Stepping.{BeginsAt, EndAnswers, EndsAt, IsNear, IsStepRun, IsTooFar, Steps, Stop, told_of, unread_refusal}
 pub use Rattle.osil_grammar.specs.Storing.{AreJoined, AreStored, AreSumsAt, line_entries, lists_of, matrix_lists, wholes}
 pub use Rattle.osil_grammar.specs.Table.{Kind, Test, Told, around, attributes, bad, bad_text, begins, content, count_name, end_ordinal, ends, fields, great_cost, great_end, great_run, great_text, has, high_infinite, kind, leads, list_row, low_infinite, mark_name, no_index, no_sense, no_type, no_variable, numbers, other_count, otherwise, out_of_range, part_row, refusal, tests, text, too_great, too_many}
-pub use Rattle.osil_grammar.specs.Telling.{EndAttributes, EndsHaveTexts, HasNone}
+pub use Rattle.osil_grammar.specs.Telling.{EndAttributes, EndsHaveTexts, LacksDecimal}
 pub use Rattle.osil_grammar.specs.VarTags.{IsVar, SaysVar, WritesVar, type_text, var_attributes, var_fields}
 pub use Rattle.osil_grammar.specs.Writing.{CountsCosts, EndHasText, GoalHasDecimals, HasDecimal, HasDecimals, IsWrittenText, WriteCosts, WriteGoals, WriteLists, WriteRows, WriteValues, WriteVars, WritesGoal, WritesInstance, counts_nodes, entries_below, holding, row_starts, sense_text}
 pub use Rattle.osil_grammar.specs.declared.domains.Domain.{Domain}

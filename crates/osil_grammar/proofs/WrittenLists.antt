@@ -1,5 +1,5 @@
 -- What an instance's matrix is written as is read as its entries, mark by mark.
-use Rattle.osil_grammar.proofs.Words.{◌≡◌, ◌∙◌, ℕ, zero, suc, ◌+◌, ◌<◌, ◌≤◌, inr, inl, Bool, true, false, cond, ℤ, pos, ◌+ℤ◌, ◌*ℤ◌, List, [], ◌∷◌, ◌++◌, map, matrix_lists, length, drop, get_or, refl, ap, sym, subst, arith, Some, Contains, codes, All, ints, append-nil, append_assoc, map_push, length-append, length-map, matrix_lists, All-head, All-tail, All-map, All-weaker, All-contains, Event, Open, Close, Nodes, nodes_events, local_nodes, Mark, Start, Char, Finish, spread, Ratio, IsSame, sum, SumFits, ratio, ratios, Frac, Entry, IsWholeText, IsDecimal, whole_once, Parts, IsBefore, IsAscending, IsInside, entry, entries, Takes, Listing, IsDivision, stored, placed_all, place_sum, HasWidePlace, AreEntriesOf, nought, State, IsInRange, IsOutOfRange, osil, HasDecimal, WriteLists, WriteValues, counts_nodes, entries_below, row_starts}
+use Rattle.osil_grammar.proofs.Words.{◌≡◌, ◌∙◌, ℕ, zero, suc, ◌+◌, ◌<◌, ◌≤◌, inr, inl, Bool, true, false, cond, ℤ, pos, ◌+ℤ◌, ◌*ℤ◌, List, [], ◌∷◌, ◌++◌, map, matrix_lists, length, drop, get_or, refl, ap, sym, subst, arith, Some, Contains, codes, All, ints, append-nil, append_assoc, map_push, length-append, length-map, matrix_lists, All-head, All-tail, All-map, All-weaker, All-contains, Event, Open, Close, Nodes, nodes_events, local_nodes, Mark, Start, Char, Finish, spread, Ratio, IsSame, sum, SumFits, ratio, ratios, Frac, Entry, IsWholeText, IsDecimal, whole_once, Parts, IsBefore, IsAscending, IsInside, entry, entries, Takes, Listing, IsDivision, stored, placed_all, place_sum, HasWidePlace, AreEntriesOf, nought, State, IsIndexBelow, IsOutOfRange, osil, HasDecimal, WriteLists, WriteValues, counts_nodes, entries_below, row_starts}
 use Rattle.std.specs.Fmt.{decimal as digits}
 use Rattle.evidence.specs.Sums as evidence
 use Rattle.evidence.specs.Instance as Of
@@ -44,7 +44,7 @@ only_one text m bound less small is o =
     let first : pos m ≡ o.first = whole_once text (pos m) o.first (subst (λ (t : List ℕ). IsWholeText t (pos m)) (sym is) (whole_read m small)) o.begins in
     let inside = o.inside in
     let here : pos m +ℤ pos o.k *ℤ pos 0 ≡ pos m = omega (arith, ints, inside) in
-    o.out (subst (λ (z : ℤ). IsInRange (z +ℤ pos o.k *ℤ pos 0) bound) first (subst (λ (z : ℤ). IsInRange z bound) (sym here) (omega (arith, ints), omega (arith, ints, less))))
+    o.out (subst (λ (z : ℤ). IsIndexBelow (z +ℤ pos o.k *ℤ pos 0) bound) first (subst (λ (z : ℤ). IsIndexBelow z bound) (sym here) (omega (arith, ints), omega (arith, ints, less))))
 
 el_begins : (b : Bool) (s : State) (n t : ℕ) (w : ℤ) (text ns : List ℕ) → length ns + 1 ≤ most_of b → Takes osil (in_list b s n t w text ns) (Start (codes "el") []) (in_el b s (n + 1) [] ns)
 el_begins true s n t w text ns few = ((λ x. x, (λ x. x, (λ x. x, (λ x. x, (λ m. let one = m.1 in let many = m.2 in omega (arith, one, many, few), tt))))), (1, pos 0, refl, refl, refl))

@@ -14,6 +14,7 @@ use Rattle.decimal_text.specs.Count.{IsCount}
 use Rattle.decimal_text.specs.Whole.{IsWholeText}
 use Rattle.decimal_text.specs.Decimal.{IsDecimal}
 use Rattle.decimal_text.specs.Bound.{SaysEnd}
+use Rattle.instance.specs.Limits.{most_vars, most_entries, most_goals}
 use Rattle.osil_grammar.specs.declared.elements.Part.{Part}
 use Rattle.osil_grammar.specs.declared.elements.Part.TheVariants.{Variables, Objectives, Constraints, Coefficients}
 use Rattle.osil_grammar.specs.declared.elements.Listing.{Listing}
@@ -28,12 +29,16 @@ use Rattle.osil_grammar.specs.Saying.{senses, SaysTimes, SaysConstant, letter_na
 use Rattle.osil_grammar.specs.Standing.{State}
 use Rattle.osil_grammar.specs.Table.{Test, other_root, no_data, no_variables, some_lists, beyond, in_further, second_data, late, late_list, no_index, has, no_sense, bad, bad_text, too_great, great_text, great_end, great_run, great_cost, great_entry, other_count, other_coefs, other_indices, no_variable, out_of_range, undivided, no_type, low_infinite, high_infinite, too_many, attributes}
 
--- THE LIMITS: the most items of each kind
+-- THE LIMITS: as many rows as columns, which are the lines that a matrix is stored by
+abbrev pub most_lines : ℕ
+most_lines = most_vars
+
+-- the most items of each kind
 abbrev pub most : Place → ℕ
-most Obj = 8
-most (El Starts) = 1001
-most (El l) = 100000
-most p = 1000
+most Obj = most_goals
+most (El Starts) = most_lines + 1
+most (El l) = most_entries
+most p = most_lines
 
 -- how many there are so far
 abbrev pub list_length : State → Listing → ℕ
@@ -102,8 +107,8 @@ pub record HasGreatEntry (s : State) : Type 0 where
   pub wide : HasWidePlace (stored (lists_so_far s))
 
 -- at least 0 and below a limit
-abbrev pub IsInRange : ℤ → ℕ → Type 0
-IsInRange z n = (pos 0 ≤ℤ z) × (z <ℤ pos n)
+abbrev pub IsIndexBelow : ℤ → ℕ → Type 0
+IsIndexBelow z n = (pos 0 ≤ℤ z) × (z <ℤ pos n)
 
 -- a number of a run of whole numbers isn't
 pub record IsOutOfRange (text : List ℕ) (step : ℤ) (m n : ℕ) : Type 0 where
@@ -111,7 +116,7 @@ pub record IsOutOfRange (text : List ℕ) (step : ℤ) (m n : ℕ) : Type 0 wher
   pub begins : IsWholeText text first
   pub k : ℕ
   pub inside : k < m
-  pub out : IsInRange (first +ℤ pos k *ℤ step) n → ⊥
+  pub out : IsIndexBelow (first +ℤ pos k *ℤ step) n → ⊥
 
 -- `maxOrMin` says neither
 abbrev pub HasNoSense : List Attribute → Type 0

@@ -52,8 +52,8 @@ abbrev pub HoldsApart : State → Type 0
 HoldsApart s = AreHeldApart (is_in_matrix s.place) s.part s.entries s.starts s.indices s.values
 
 -- the marks so far leave a state that makes an instance as far as it goes
-abbrev pub IsFit : State → Type 0
-IsFit s = IsSound s × HoldsApart s × HasGoals s
+abbrev pub MakesSoFar : State → Type 0
+MakesSoFar s = IsSound s × HoldsApart s × HasGoals s
 
 -- the first of these marks that isn't taken is refused so, as the code tells it
 abbrev pub Refuse : State → List Mark → Refused → Type 0

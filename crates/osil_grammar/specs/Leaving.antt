@@ -80,8 +80,8 @@ keeps_text (El l) = true
 keeps_text p = false
 
 -- one element fewer is open in one that is passed over, or none is
-abbrev pub Passes : State → State → Type 0
-Passes s z = ((1 < s.depth) × (z ≡ record s { depth = s.depth - 1 })) ⊎ ((s.depth ≤ 1) × (z ≡ record (out_of s Passed) { depth = 0 }))
+abbrev pub PassesOn : State → State → Type 0
+PassesOn s z = ((1 < s.depth) × (z ≡ record s { depth = s.depth - 1 })) ⊎ ((s.depth ≤ 1) × (z ≡ record (out_of s Passed) { depth = 0 }))
 
 -- a list of whole numbers with a run of them behind it
 abbrev pub AddsWholes : List ℕ → State → List ℕ → Type 0
@@ -113,7 +113,7 @@ HasMatrix s z = (es : List Entry) × IsMatrixOf s es × (z ≡ record s { starts
 
 -- WHAT THE END TAG OF SUCH AN ELEMENT LEAVES
 abbrev pub Ends : State → Place → State → Type 0
-Ends s Passed z = Passes s z
+Ends s Passed z = PassesOn s z
 Ends s (places.Part Coefficients) z = HasMatrix (out_of s (places.Part Coefficients)) z
 Ends s Obj z = z ≡ with_goals (out_of s Obj)
 Ends s Coef z = AddsCost (out_of s Coef) z

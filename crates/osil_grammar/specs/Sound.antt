@@ -5,25 +5,26 @@ use Rattle.instance.specs.declared.parts.Var.{Var}
 use Rattle.instance.specs.declared.parts.Row.{Row}
 use Rattle.instance.specs.declared.parts.Goal.{Goal}
 use Rattle.fraction.specs.declared.ends.Entry.{Entry}
+use Rattle.instance.specs.Limits.{most_vars, most_rows, most_entries}
 use Rattle.instance.specs.Parts.{AreEnds, IsAscending, IsInside}
 use Rattle.osil_grammar.specs.declared.elements.Place.{Place}
 use Rattle.osil_grammar.specs.declared.elements.Place.TheVariants as places
 use Rattle.osil_grammar.specs.declared.elements.Place.TheVariants.{Obj, Coef, El}
 use Rattle.osil_grammar.specs.Standing.{State}
 use Rattle.osil_grammar.specs.Table.{part_row}
-use Rattle.osil_grammar.specs.Failing.{most, list_length}
+use Rattle.osil_grammar.specs.Failing.{most, most_lines, list_length}
 use Rattle.osil_grammar.specs.VarTags.{IsVar}
 
 -- the variables and the rows of an instance
 pub record AreItems (vars : List Var) (rows : List Row) : Type 0 where
-  pub few_vars : length vars ≤ 1000
-  pub few_rows : length rows ≤ 1000
+  pub few_vars : length vars ≤ most_vars
+  pub few_rows : length rows ≤ most_rows
   pub var_ends : All IsVar vars
   pub row_ends : All (λ r. AreEnds r.lb r.ub) rows
 
 -- entries in order, all in a matrix of so many rows and columns, and none 0
 pub record AreWithin (rows cols : ℕ) (es : List Entry) : Type 0 where
-  pub few : length es ≤ 100000
+  pub few : length es ≤ most_entries
   pub ascending : IsAscending es
   pub inside : All (IsInside rows cols) es
 
@@ -33,7 +34,7 @@ AreBelow s indices = All (λ n. n < cond s.by_columns (length s.rows) (length s.
 
 -- what is said so far makes an instance as far as it goes: the items, the lists of the matrix, and its entries
 abbrev pub IsSoundSoFar : State → Type 0
-IsSoundSoFar s = AreItems s.vars s.rows × (length s.starts ≤ 1001) × (length s.indices ≤ 100000) × AreBelow s s.indices × (length s.values ≤ 100000) × AreWithin (length s.rows) (length s.vars) s.entries
+IsSoundSoFar s = AreItems s.vars s.rows × (length s.starts ≤ most_lines + 1) × (length s.indices ≤ most_entries) × AreBelow s s.indices × (length s.values ≤ most_entries) × AreWithin (length s.rows) (length s.vars) s.entries
 
 -- the variable of a `coef` that is open is one of those; an `el` that is open stands for some numbers, for which its list has room
 abbrev pub IsSoundAt : Place → State → Type 0

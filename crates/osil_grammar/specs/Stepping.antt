@@ -63,8 +63,8 @@ IsTooFar NegInf c u = ⊥
 IsTooFar Inf c u = ⊥
 
 -- the numbers of a run of decimals, each the same number as in the definition; all but the last fit with the step
-abbrev pub IsRun : Frac → Frac → ℕ → List Frac → Type 0
-IsRun first step m added = AreSame (ratios added) (ratio_run (ratio first) (ratio step) m) × ((k : ℕ) → suc k < m → SumFits (ratio_at (ratio first) (ratio step) k) (ratio step))
+abbrev pub IsStepRun : Frac → Frac → ℕ → List Frac → Type 0
+IsStepRun first step m added = AreSame (ratios added) (ratio_run (ratio first) (ratio step) m) × ((k : ℕ) → suc k < m → SumFits (ratio_at (ratio first) (ratio step) k) (ratio step))
 
 -- a start tag with these attributes answers these tests, whatever it is called, in each state of this sort
 abbrev pub AnswersTests : {X : Type 0} → (State → Type 0) → List Attribute → List Test → Result X code.Refusal → (X → Type 0) → Type 0

@@ -12,14 +12,14 @@ use Rattle.osil_grammar.specs.Saying.{IsEndText}
 use Rattle.osil_grammar.specs.Writing.{EndHasText, HasDecimals, IsTooLong}
 
 -- a number has no decimal; or there was no memory
-abbrev pub HasNone : Type 0 → EncodeFault → Type 0
-HasNone P NotDecimal = P → ⊥
-HasNone P Long = ⊥
-HasNone P Memory = Unit {0}
+abbrev pub LacksDecimal : Type 0 → EncodeFault → Type 0
+LacksDecimal P NotDecimal = P → ⊥
+LacksDecimal P Long = ⊥
+LacksDecimal P Memory = Unit {0}
 
 -- these nodes were told, for which there are decimals; or there are none
 abbrev pub WritesNodes : {X : Type 0} → Result X EncodeFault → Building → Building → Type 0 → (Nodes → Type 0) → Type 0
-WritesNodes result old new P Q = MatchResult result (λ x. P × (nodes : Nodes) × Q nodes × Told old new (nodes_events nodes)) (HasNone P)
+WritesNodes result old new P Q = MatchResult result (λ x. P × (nodes : Nodes) × Q nodes × Told old new (nodes_events nodes)) (LacksDecimal P)
 
 -- the ends have texts
 abbrev pub EndsHaveTexts : End → End → Type 0

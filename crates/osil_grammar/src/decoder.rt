@@ -26,13 +26,13 @@ struct Reader {
 
 impl Model for Reader {
     ghost use Rattle.osil_grammar.specs.Standing.{State};
-    ghost use Rattle.osil_grammar.specs.Hearing.{IsFit};
+    ghost use Rattle.osil_grammar.specs.Hearing.{MakesSoFar};
 
     ghost Value = { State };
 
     ghost view = { λ r. r.standing };
 
-    ghost invariant = { λ r. IsFit r.standing };
+    ghost invariant = { λ r. MakesSoFar r.standing };
 }
 
 /// What a mark came to. Behind one that isn't taken nothing is held.

@@ -14,7 +14,7 @@ ghost use Rattle.osil_grammar.specs.Writing.{HasDecimal, EndHasText, WriteVars, 
 ghost use Rattle.osil_grammar.specs.Saying.{IsEndText};
 ghost use Rattle.osil_grammar.specs.VarTags.{type_text};
 ghost use Rattle.document_tags.specs.Telling.{Told, ToldAttributes, opening};
-ghost use Rattle.osil_grammar.specs.Telling.{HasNone, WritesNodes, EndsHaveTexts, EndAttributes, EncodeFails};
+ghost use Rattle.osil_grammar.specs.Telling.{LacksDecimal, WritesNodes, EndsHaveTexts, EndAttributes, EncodeFails};
 
 use crate::fault::EncodeFault;
 use crate::telling::leaf;
@@ -29,7 +29,7 @@ use std::alloc::Global;
 
 /// A number's text.
 fn decimal(alloc: Global, value: Frac) -> Result<Text, EncodeFault>
-    ensures { MatchResult result (λ t. HasDecimal value × PlainText t (ratio value) × (t ≢ [])) (HasNone (HasDecimal value)) }
+    ensures { MatchResult result (λ t. HasDecimal value × PlainText t (ratio value) × (t ≢ [])) (LacksDecimal (HasDecimal value)) }
 {
     let mut text = Text::new(alloc);
     match write_decimal(value, &mut text) {
@@ -41,7 +41,7 @@ fn decimal(alloc: Global, value: Frac) -> Result<Text, EncodeFault>
 
 /// An end's text.
 fn end_text(alloc: Global, end: End) -> Result<Text, EncodeFault>
-    ensures { MatchResult result (λ t. EndHasText end × IsEndText end t) (HasNone (EndHasText end)) }
+    ensures { MatchResult result (λ t. EndHasText end × IsEndText end t) (LacksDecimal (EndHasText end)) }
 {
     match end {
         End::NegInf => Ok(Text::from_slice(alloc, b"-INF")?),
@@ -52,7 +52,7 @@ fn end_text(alloc: Global, end: End) -> Result<Text, EncodeFault>
 
 /// Tells two ends as attributes of the element that begins next.
 fn tell_ends(alloc: Global, b: &mut TreeBuilder, lb: End, ub: End) -> Result<(), EncodeFault>
-    ensures { MatchResult result (λ _. EndsHaveTexts lb ub × (more : List Attribute) × EndAttributes lb ub more × ToldAttributes b.old b.new more) (HasNone (EndsHaveTexts lb ub)) }
+    ensures { MatchResult result (λ _. EndsHaveTexts lb ub × (more : List Attribute) × EndAttributes lb ub more × ToldAttributes b.old b.new more) (LacksDecimal (EndsHaveTexts lb ub)) }
 {
     let low = end_text(alloc, lb)?;
     let high = end_text(alloc, ub)?;
@@ -315,7 +315,7 @@ fn tell_matrix(
 /// Tells the root that an instance is written as.
 fn tell_instance(alloc: Global, b: &mut TreeBuilder, instance: &Instance) -> Result<(), EncodeFault>
     requires { b.old ≡ record { events = []; attributes = []; text = [] } }
-    ensures { MatchResult result (λ _. HasDecimals instance.now × (root : Element) × WritesInstance instance.now root × (said b.new ≡ events root)) (HasNone (HasDecimals instance.now)) }
+    ensures { MatchResult result (λ _. HasDecimals instance.now × (root : Element) × WritesInstance instance.now root × (said b.new ≡ events root)) (LacksDecimal (HasDecimals instance.now)) }
 {
     let rows = instance.rows();
     open_after(b, b"osil", b"xmlns", b"os.optimizationservices.org")?;
@@ -332,7 +332,7 @@ fn tell_instance(alloc: Global, b: &mut TreeBuilder, instance: &Instance) -> Res
 
 /// The tree that an instance is written as.
 fn tree_of(alloc: Global, instance: &Instance) -> Result<Tree, EncodeFault>
-    ensures { MatchResult result (λ t. HasDecimals instance.now × (root : Element) × WritesInstance instance.now root × (t ≡ events root)) (HasNone (HasDecimals instance.now)) }
+    ensures { MatchResult result (λ t. HasDecimals instance.now × (root : Element) × WritesInstance instance.now root × (t ≡ events root)) (LacksDecimal (HasDecimals instance.now)) }
 {
     let mut b = TreeBuilder::new(alloc);
     tell_instance(alloc, &mut b, instance)?;

@@ -4,6 +4,7 @@ ghost use Rattle.std.specs.Prelude.{◌≡◌, ◌+◌, ◌<◌, ◌≤◌, ◌�
 ghost use Rattle.fraction.specs.Frac.{ratio};
 ghost use Rattle.instance.specs.Program.{entry as entry_of, entries as entries_of};
 ghost use Rattle.osil_grammar.specs.Orders.{IsInOrder};
+ghost use Rattle.osil_grammar.specs.Failing.{most_lines};
 ghost use Rattle.osil_grammar.specs.Matrix.{IsDivision, placed, stored as stored_lists};
 ghost use Rattle.osil_grammar.specs.Storing.{wholes, lists_of, AreStored, line_entries, Joins, SumsOrWide, JoinedOrWide};
 
@@ -33,7 +34,7 @@ fn is_rising(starts: &[u32]) -> bool
 
 /// Whether the starts divide so many values into so many lines.
 pub(crate) fn is_division(starts: &[u32], lines: usize, values: usize) -> bool
-    requires { lines ≤ 1000 }
+    requires { lines ≤ most_lines }
     ensures { IsTrue result ↔ IsDivision (wholes starts.now) lines values }
 {
     if starts.len() != lines + 1 {
@@ -83,7 +84,7 @@ fn push_line(
 
 /// The values with their places, in the order of storage.
 fn stored(alloc: Global, lists: &Lists) -> Result<Vec<Entry>, AllocError>
-    requires { (lines : ℕ) × (lines ≤ 1000) × AreStored lists.now lines }
+    requires { (lines : ℕ) × (lines ≤ most_lines) × AreStored lists.now lines }
     ensures { IfOk result (λ es. entries_of es.items ≡ stored_lists (lists_of lists.now)) }
 {
     let mut out = Vec::new(alloc);
@@ -140,7 +141,7 @@ fn joined(alloc: Global, entries: &[Entry]) -> Result<Result<Vec<Entry>, Wide>, 
 /// The entries of the matrix: the sums of the values at each place that aren't 0, by rows and in each row by columns.
 /// Wide where a sum, taken in the order of storage, doesn't fit.
 pub(crate) fn entries(alloc: Global, lists: &Lists) -> Result<Result<Vec<Entry>, Wide>, AllocError>
-    requires { (lines : ℕ) × (lines ≤ 1000) × AreStored lists.now lines }
+    requires { (lines : ℕ) × (lines ≤ most_lines) × AreStored lists.now lines }
     ensures { IfOk result (λ r. SumsOrWide r (λ es. es.items) (stored_lists (lists_of lists.now))) }
 {
     let mut stored = stored(alloc, lists)?;

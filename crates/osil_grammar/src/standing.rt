@@ -6,7 +6,8 @@ ghost use Rattle.doc_tree.specs.Marks.{Start, Char, Finish};
 ghost use Rattle.osil_grammar.specs.Reading.{told_refusal};
 ghost use Rattle.osil_grammar.specs.Standing as standing;
 ghost use Rattle.osil_grammar.specs.Failing as failing;
-ghost use Rattle.osil_grammar.specs.Failing.{IsInRange};
+ghost use Rattle.instance.specs.Limits.{most_entries};
+ghost use Rattle.osil_grammar.specs.Failing.{IsIndexBelow, most_lines};
 ghost use Rattle.osil_grammar.specs.Table.{part_row, list_row, count_name};
 ghost use Rattle.osil_grammar.specs.declared.elements.Place.TheVariants as places;
 ghost use Rattle.osil_grammar.specs.declared.elements.Led.TheVariants as led;
@@ -723,8 +724,8 @@ impl Standing {
 
     /// The numbers of a list of whole numbers are below this.
     fn limit(&self, list: Listing) -> u32
-        requires few_vars { length self.now.vars ≤ 1000 }
-        requires few_rows { length self.now.rows ≤ 1000 }
+        requires few_vars { length self.now.vars ≤ most_lines }
+        requires few_rows { length self.now.rows ≤ most_lines }
         ensures limit { result ≡ failing.limit self.now list }
         ensures low { result ≤ 100001 }
     {
@@ -739,8 +740,8 @@ impl Standing {
     fn push_run(&mut self, list: Listing, first: i64) -> Result<(), AllocError>
         requires other { list ≡ listings.Values → ⊥ }
         requires reads { IsWholeText self.old.text first }
-        requires few { self.old.times ≤ 100000 }
-        requires inside { (k : ℕ) → k < self.old.times → IsInRange (first +ℤ pos k *ℤ self.old.whole_step) 100001 }
+        requires few { self.old.times ≤ most_entries }
+        requires inside { (k : ℕ) → k < self.old.times → IsIndexBelow (first +ℤ pos k *ℤ self.old.whole_step) 100001 }
         ensures { OnOk result (AddsRun list self.old self.new) }
     {
         let (step, times) = (self.whole_step, self.times);
@@ -755,9 +756,9 @@ impl Standing {
         requires other { list ≡ listings.Values → ⊥ }
         requires reads { IsWholeText self.old.text first }
         requires some { 0 < self.old.times }
-        requires few { self.old.times ≤ 100000 }
-        requires few_vars { length self.old.vars ≤ 1000 }
-        requires few_rows { length self.old.rows ≤ 1000 }
+        requires few { self.old.times ≤ most_entries }
+        requires few_vars { length self.old.vars ≤ most_lines }
+        requires few_rows { length self.old.rows ≤ most_lines }
         ensures { EndsAt self.old (places.El list) self.new result }
     {
         if !is_in_range(first, self.whole_step, self.times, self.limit(list)) {
@@ -772,9 +773,9 @@ impl Standing {
     fn end_whole(&mut self, list: Listing) -> Result<(), Stop>
         requires other { list ≡ listings.Values → ⊥ }
         requires some { 0 < self.old.times }
-        requires few { self.old.times ≤ 100000 }
-        requires few_vars { length self.old.vars ≤ 1000 }
-        requires few_rows { length self.old.rows ≤ 1000 }
+        requires few { self.old.times ≤ most_entries }
+        requires few_vars { length self.old.vars ≤ most_lines }
+        requires few_rows { length self.old.rows ≤ most_lines }
         ensures { EndsAt self.old (places.El list) self.new result }
     {
         match whole_of(self.text.as_slice()) {
@@ -834,7 +835,7 @@ impl Standing {
     /// The entries of lists with as many indices as values, which the starts divide, at the end of the matrix.
     fn close_entries(&self) -> Result<Vec<Entry>, Stop>
         requires all { 3 ≤ self.now.lists }
-        requires few { failing.lines self.now ≤ 1000 }
+        requires few { failing.lines self.now ≤ most_lines }
         requires as_many { length self.now.indices ≡ length self.now.values }
         requires divided { failing.IsDivided self.now }
         ensures { EndAnswers self.now (places.Part parts.Coefficients) result (λ es. AreEntriesOf (stored (failing.lists_so_far self.now)) es.items) }
@@ -853,7 +854,7 @@ impl Standing {
     /// The entries of the three lists, at the end of the matrix.
     fn close_lists(&self) -> Result<Vec<Entry>, Stop>
         requires all { 3 ≤ self.now.lists }
-        requires few { failing.lines self.now ≤ 1000 }
+        requires few { failing.lines self.now ≤ most_lines }
         ensures { EndAnswers self.now (places.Part parts.Coefficients) result (λ es. AreEntriesOf (stored (failing.lists_so_far self.now)) es.items) }
     {
         let values = self.matrix.values.len();
@@ -871,7 +872,7 @@ impl Standing {
 
     /// The entries of the matrix at its end: none where no list has begun.
     fn close_matrix(&self) -> Result<Vec<Entry>, Stop>
-        requires { failing.lines self.now ≤ 1000 }
+        requires { failing.lines self.now ≤ most_lines }
         ensures { EndAnswers self.now (places.Part parts.Coefficients) result (λ es. IsMatrixOf self.now es.items) }
     {
         if 3 <= self.lists {
@@ -888,7 +889,7 @@ impl Standing {
 
     /// Goes past an end tag `linearConstraintCoefficients`.
     fn end_matrix(&mut self) -> Result<(), Stop>
-        requires { failing.lines self.old ≤ 1000 }
+        requires { failing.lines self.old ≤ most_lines }
         ensures { EndsAt self.old (places.Part parts.Coefficients) self.new result }
     {
         match self.close_matrix() {
@@ -906,7 +907,7 @@ impl Standing {
 
     /// Goes past an end tag of a part.
     fn end_part(&mut self, part: Part) -> Result<(), Stop>
-        requires { failing.lines self.old ≤ 1000 }
+        requires { failing.lines self.old ≤ most_lines }
         ensures { EndsAt self.old (places.Part part) self.new result }
     {
         match part {

@@ -26,7 +26,7 @@ use crate::fault::Refusal;
 use crate::tag_numbers::{bound, count, decimal, refusal, times, whole};
 use element_tree::Attributes;
 use fraction::{End, Frac};
-use instance::{Row, Sense, Var, are_ends};
+use instance::{MAX_ENTRIES, MAX_GOALS, MAX_ROWS, MAX_VARS, Row, Sense, Var, are_ends};
 use tag_tests::{Unread, both, value};
 
 /// Whether so many more items, behind so many, are more than there may be.
@@ -104,7 +104,7 @@ fn var_of(
     if !are_ends(lb, ub) {
         return Err(Refusal::Bound);
     }
-    if are_too_many(before, times, 1_000) {
+    if are_too_many(before, times, MAX_VARS as u64) {
         return Err(Refusal::TooBig);
     }
     Ok((variable(domain, lb, ub), times))
@@ -172,7 +172,7 @@ fn row_of(
     if !are_ends(lb, ub) {
         return Err(Refusal::Bound);
     }
-    if are_too_many(before, times, 1_000) {
+    if are_too_many(before, times, MAX_ROWS as u64) {
         return Err(Refusal::TooBig);
     }
     Ok((Row { lb: low, ub: high }, times))
@@ -233,7 +233,7 @@ fn goal_of(
     requires times { SaysTimes attributes.now times }
     ensures { AnswersTests (λ s. length s.goals ≡ before) attributes.now (table.too_many places.Obj ∷ []) result (λ x. SaysSense attributes.now x.sense × SaysConstant attributes.now x.constant × SaysCount attributes.now (codes "numberOfObjCoef") x.declared × SaysTimes attributes.now x.times) }
 {
-    if are_too_many(before, times, 8) {
+    if are_too_many(before, times, MAX_GOALS as u64) {
         return Err(Refusal::ManyObjectives);
     }
     Ok(ObjTag {
@@ -329,8 +329,8 @@ fn most_of(list: Listing) -> u64
     ensures { result ≡ failing.most (places.El list) }
 {
     match list {
-        Listing::Starts => 1_001,
-        _ => 100_000,
+        Listing::Starts => MAX_ROWS as u64 + 1,
+        _ => MAX_ENTRIES as u64,
     }
 }
 

@@ -2,7 +2,7 @@
 use Rattle.osrl_grammar.proofs.Names.{◌≡◌, ◌∙◌, ℕ, Option, Some, Result, List, [], ◌∷◌, refl, ap, sym, subst, Misread, option_map, Step, Index, Turn, Field, worded, field, step_text, all_steps, place_fields, ReadsSo, IsPlace, Begins}
 use Rattle.certificate.specs.declared.causes.Place.{Place}
 use Rattle.osrl_grammar.specs.Items.{behind_word, worded_fields}
-use Rattle.osrl_grammar.specs.Values.{IsIndex, IsTurn, Behind}
+use Rattle.osrl_grammar.specs.Values.{IsIndex, IsTurn, IsSaidBehind}
 use Rattle.osrl_grammar.proofs.WordValues.{worded_is}
 use Rattle.osrl_grammar.proofs.Fields.{Pass, reads_more}
 
@@ -10,11 +10,11 @@ module _ {W X : Type 0} (word : W → List ℕ) (all : List W) (behind : W → L
   worded_first : (pieces : List (List ℕ)) (p : List ℕ) (ps : List (List ℕ)) (o : Option W) → pieces ≡ p ∷ ps → worded word all p ≡ o → worded_fields word all behind pieces ≡ behind_word behind o ps
   worded_first pieces p ps o is found = ap (worded_fields word all behind) is ∙ ap (λ (q : Option W). behind_word behind q ps) found
 
-  pub begun_read : (pieces : List (List ℕ)) (p : List ℕ) (ps : List (List ℕ)) (w : W) (r : Result X Misread) → pieces ≡ p ∷ ps → worded word all p ≡ Some w → ReadsSo (behind w ps) r (Behind head Says w ps) → ReadsSo (worded_fields word all behind pieces) r (Begins word head Says pieces)
+  pub begun_read : (pieces : List (List ℕ)) (p : List ℕ) (ps : List (List ℕ)) (w : W) (r : Result X Misread) → pieces ≡ p ∷ ps → worded word all p ≡ Some w → ReadsSo (behind w ps) r (IsSaidBehind head Says w ps) → ReadsSo (worded_fields word all behind pieces) r (Begins word head Says pieces)
   begun_read pieces p ps w r is found h =
       let own : p ≡ word w = worded_is word all p w found in
       subst (λ (o : Option (List Field)). ReadsSo o r (Begins word head Says pieces)) (sym (worded_first pieces p ps (Some w) is found))
-      (reads_more (behind w ps) r (Behind head Says w ps) (Begins word head Says pieces) (λ x b. subst (λ (l : List (List ℕ)). Begins word head Says l x) (sym is) (own ∙ ap word (sym b.0), b.1)) h)
+      (reads_more (behind w ps) r (IsSaidBehind head Says w ps) (Begins word head Says pieces) (λ x b. subst (λ (l : List (List ℕ)). Begins word head Says l x) (sym is) (own ∙ ap word (sym b.0), b.1)) h)
 
   -- where what is said is made of numbers that pass
   pub begun_pass : ((w : W) → worded word all (word w) ≡ Some w) → ((x : X) (ps : List (List ℕ)) → Says x ps → Pass (behind (head x) ps)) → (pieces : List (List ℕ)) (x : X) → Begins word head Says pieces x → Pass (worded_fields word all behind pieces)

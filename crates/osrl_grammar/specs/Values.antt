@@ -89,8 +89,8 @@ SaysCause (causes.Wide p) ps = IsPlace ps p
 SaysCause c ps = ps ≡ []
 
 -- it is of this word, and said by what stands behind
-abbrev pub Behind : {W X : Type 0} → (X → W) → (X → List (List ℕ) → Type 0) → W → List (List ℕ) → X → Type 0
-Behind {W} {X} head Says w ps x = (head x ≡ w) × Says x ps
+abbrev pub IsSaidBehind : {W X : Type 0} → (X → W) → (X → List (List ℕ) → Type 0) → W → List (List ℕ) → X → Type 0
+IsSaidBehind {W} {X} head Says w ps x = (head x ≡ w) × Says x ps
 
 -- pieces of which the first is the word
 abbrev pub Begins : {W X : Type 0} → (W → List ℕ) → (X → W) → (X → List (List ℕ) → Type 0) → List (List ℕ) → X → Type 0

@@ -11,7 +11,7 @@ ghost use Rattle.osrl_grammar.specs.Numbers.{Index, Field, IsBad, IsTooGreat};
 ghost use Rattle.osrl_grammar.specs.Pieces.{more, pieces};
 ghost use Rattle.osrl_grammar.specs.Items as items;
 ghost use Rattle.osrl_grammar.specs.Items.{ReadsSo, pair_fields, mults_fields};
-ghost use Rattle.osrl_grammar.specs.Values.{IsMult, IsMultOf, IsOne, IsPlace, Behind, node_head, SaysNode, tree_head, SaysTree, IsTreeItem, IsRound, IsLevelBut, cause_head, SaysCause, IsCause};
+ghost use Rattle.osrl_grammar.specs.Values.{IsMult, IsMultOf, IsOne, IsPlace, IsSaidBehind, node_head, SaysNode, tree_head, SaysTree, IsTreeItem, IsRound, IsLevelBut, cause_head, SaysCause, IsCause};
 ghost use Rattle.osrl_grammar.specs.Stepping.{ReadMults};
 
 use crate::numbers::{read_exact, read_index, read_turn, read_whole};
@@ -96,7 +96,7 @@ fn read_one(rest: Option<&[u8]>) -> Result<u32, Misread>
 
 /// A split behind its word.
 fn read_split(rest: Option<&[u8]>) -> Result<Node, Misread>
-    ensures { ReadsSo (items.node_behind heads.Split (more rest.entry)) result (Behind node_head SaysNode heads.Split (more rest.entry)) }
+    ensures { ReadsSo (items.node_behind heads.Split (more rest.entry)) result (IsSaidBehind node_head SaysNode heads.Split (more rest.entry)) }
 {
     let Some((column, bound)) = two_pieces(rest) else {
         return Err(Misread::NoShape);
@@ -109,7 +109,7 @@ fn read_split(rest: Option<&[u8]>) -> Result<Node, Misread>
 
 /// A variable that is 0 or between its ends, behind its word.
 fn read_zero(rest: Option<&[u8]>) -> Result<Node, Misread>
-    ensures { ReadsSo (items.node_behind heads.Zero (more rest.entry)) result (Behind node_head SaysNode heads.Zero (more rest.entry)) }
+    ensures { ReadsSo (items.node_behind heads.Zero (more rest.entry)) result (IsSaidBehind node_head SaysNode heads.Zero (more rest.entry)) }
 {
     match read_one(rest) {
         Ok(col) => Ok(Node::Zero { col }),
@@ -119,7 +119,7 @@ fn read_zero(rest: Option<&[u8]>) -> Result<Node, Misread>
 
 /// A clash behind its word.
 fn read_clash(rest: Option<&[u8]>) -> Result<Node, Misread>
-    ensures { ReadsSo (items.node_behind heads.Clash (more rest.entry)) result (Behind node_head SaysNode heads.Clash (more rest.entry)) }
+    ensures { ReadsSo (items.node_behind heads.Clash (more rest.entry)) result (IsSaidBehind node_head SaysNode heads.Clash (more rest.entry)) }
 {
     match read_one(rest) {
         Ok(col) => Ok(Node::Clash { col }),
@@ -129,7 +129,7 @@ fn read_clash(rest: Option<&[u8]>) -> Result<Node, Misread>
 
 /// Multipliers by which no point is feasible.
 fn farkas(mults: Result<Mults, Misread>) -> Result<Node, Misread>
-    ensures { (ps : List (List ℕ)) → ReadsSo (mults_fields ps) mults (AllZip IsMult ps) → ReadsSo (mults_fields ps) result (Behind node_head SaysNode heads.Farkas ps) }
+    ensures { (ps : List (List ℕ)) → ReadsSo (mults_fields ps) mults (AllZip IsMult ps) → ReadsSo (mults_fields ps) result (IsSaidBehind node_head SaysNode heads.Farkas ps) }
 {
     match mults {
         Ok(mults) => Ok(Node::Farkas(mults)),
@@ -139,7 +139,7 @@ fn farkas(mults: Result<Mults, Misread>) -> Result<Node, Misread>
 
 /// Multipliers by which no point is better.
 fn bound(mults: Result<Mults, Misread>) -> Result<Node, Misread>
-    ensures { (ps : List (List ℕ)) → ReadsSo (mults_fields ps) mults (AllZip IsMult ps) → ReadsSo (mults_fields ps) result (Behind node_head SaysNode heads.Bound ps) }
+    ensures { (ps : List (List ℕ)) → ReadsSo (mults_fields ps) mults (AllZip IsMult ps) → ReadsSo (mults_fields ps) result (IsSaidBehind node_head SaysNode heads.Bound ps) }
 {
     match mults {
         Ok(mults) => Ok(Node::Bound(mults)),
@@ -149,7 +149,7 @@ fn bound(mults: Result<Mults, Misread>) -> Result<Node, Misread>
 
 /// The number of a level behind its word.
 fn read_level(rest: Option<&[u8]>) -> Result<TreeItem, Misread>
-    ensures { ReadsSo (items.node_behind heads.Level (more rest.entry)) result (Behind tree_head SaysTree heads.Level (more rest.entry)) }
+    ensures { ReadsSo (items.node_behind heads.Level (more rest.entry)) result (IsSaidBehind tree_head SaysTree heads.Level (more rest.entry)) }
 {
     match read_one(rest) {
         Ok(level) => Ok(TreeItem::Level(level)),
@@ -159,7 +159,7 @@ fn read_level(rest: Option<&[u8]>) -> Result<TreeItem, Misread>
 
 /// A node as an item of a tree.
 fn as_item(node: Result<Node, Misread>) -> Result<TreeItem, Misread>
-    ensures { (w : kinds.NodeWord) (ps : List (List ℕ)) → ReadsSo (items.node_behind w ps) node (Behind node_head SaysNode w ps) → ReadsSo (items.node_behind w ps) result (Behind tree_head SaysTree w ps) }
+    ensures { (w : kinds.NodeWord) (ps : List (List ℕ)) → ReadsSo (items.node_behind w ps) node (IsSaidBehind node_head SaysNode w ps) → ReadsSo (items.node_behind w ps) result (IsSaidBehind tree_head SaysTree w ps) }
 {
     match node {
         Ok(node) => Ok(TreeItem::Node(node)),
@@ -173,7 +173,7 @@ fn tree_item_of(
     word: NodeWord,
     rest: Option<&[u8]>,
 ) -> Result<Result<TreeItem, Misread>, Memory>
-    ensures { IfOk result (λ r. ReadsSo (items.node_behind word (more rest.entry)) r (Behind tree_head SaysTree word (more rest.entry))) }
+    ensures { IfOk result (λ r. ReadsSo (items.node_behind word (more rest.entry)) r (IsSaidBehind tree_head SaysTree word (more rest.entry))) }
 {
     match word {
         NodeWord::Split => Ok(as_item(read_split(rest))),
@@ -330,7 +330,7 @@ fn alone(rest: Option<&[u8]>, cause: Cause) -> Result<Cause, Misread>
 
 /// A cause behind its word.
 fn cause_of(word: CauseWord, rest: Option<&[u8]>) -> Result<Cause, Misread>
-    ensures { ReadsSo (items.cause_behind word (more rest.entry)) result (Behind cause_head SaysCause word (more rest.entry)) }
+    ensures { ReadsSo (items.cause_behind word (more rest.entry)) result (IsSaidBehind cause_head SaysCause word (more rest.entry)) }
 {
     match word {
         CauseWord::Killed => alone(rest, Cause::Killed),

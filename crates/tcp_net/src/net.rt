@@ -18,8 +18,8 @@ const TRIES: u32 = 50;
 ///
 /// A read of a link that came, and a write to it, fails where no byte comes, or none is taken, for as many seconds as
 /// [`listen`](Listener::listen) was told, and where it has only read for ten times as long. Where it is idle, with nothing read behind what
-/// was written last, and others wait for a seat, it fails after one second. Others wait where a connection does, and for a whole second
-/// nobody has waited for one in [`accept`](Listener::accept).
+/// was written last, and others wait for a seat, it fails after a second and a tenth. Others wait where a connection stands in the
+/// system's queue, and in that tenth of a second nobody waited for one in [`accept`](Listener::accept).
 #[derive(Drop)]
 pub struct TcpNet<R> {
     system: R,

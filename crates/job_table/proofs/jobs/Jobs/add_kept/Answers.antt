@@ -1,6 +1,6 @@
 use Rattle.std.proofs.Common.{Bool, ◌+◌, ◌∙◌, ap, sym, subst, ℕ, List, length, ◌++◌, ◌∷◌, [], add_assoc, arith, cond, false, deque_capacity}
 use Rattle.job_table.specs.Jobs.{HeldJobs}
-use Rattle.job_table.specs.WaitingJobs.{Climb, IsKept, renewed}
+use Rattle.job_table.specs.WaitingJobs.{Climb, IsKeptBeside, renewed}
 use Rattle.job_table.proofs.WaitingJobs.{rises, waiting_few, all_below, kept_add}
 use Rattle.job_table.proofs.jobs.Jobs.add_kept.Goals as goal
 
@@ -36,6 +36,6 @@ invariant_of-self-2 g c =
     (c.renew.ensures.numbers ∙ ap (λ (b : Bool). renewed next false b c.make_room.new.numbers.items) c.is_waiting-waits.ensures ∙ ap (renewed next false _) c.in-Ok.ensures.numbers)
     (let below = c.if-number-gt-LAST_NUMBER.false in omega (arith, below)) (omega (arith, fewer, held)) (let enough = c.in-Ok.ensures.ok in let kept = c.renew.ensures.room in omega (arith, enough, kept, held))
     (c.recount-self-inside.ensures ∙ ap (λ b. c.self.inside.running + cond b 1 0) c.is_running-runs.ensures) in
-    subst (λ (js : HeldJobs). IsKept js c.self.inside.first (c.self.inside.first + (c.self.inside.issued + 1)) c.renew.new.numbers.items room running)
+    subst (λ (js : HeldJobs). IsKeptBeside js c.self.inside.first (c.self.inside.first + (c.self.inside.issued + 1)) c.renew.new.numbers.items room running)
     (sym added)
-    (subst (λ (n : ℕ). IsKept (jobs ++ (next, c.args.phase) ∷ []) c.self.inside.first n c.renew.new.numbers.items room running) (add_assoc c.self.inside.first c.self.inside.issued 1) more)
+    (subst (λ (n : ℕ). IsKeptBeside (jobs ++ (next, c.args.phase) ∷ []) c.self.inside.first n c.renew.new.numbers.items room running) (add_assoc c.self.inside.first c.self.inside.issued 1) more)
