@@ -1,7 +1,7 @@
 //! The reader's state, and its step over a byte whose line ends are normal.
 
 ghost use Rattle.std.specs.Prelude.{◌≡◌, ◌↔◌, [], ◌∷◌, List, IsTrue, OnOk, IfOk, IsErrOf, MatchBool, MatchOption};
-ghost use Rattle.doc_tree.specs.Relieved.{Relieved};
+ghost use Rattle.doc_tree.specs.Relieved.{Relieved, NoMarkWaits};
 ghost use Rattle.doc_tree.specs.Marks.{Mark};
 ghost use Rattle.doc_tree.specs.Rests.{Terms};
 ghost use Rattle.doc_tree.specs.Completions.{view, Good, GoodGoal, RestsAt, ReachesGoal, FollowsByte, Stuck, ReachesState, RunsOn, Completes, IsDeep, IsOther, IsDoctype, IsPlainByte};
@@ -225,7 +225,8 @@ impl Machine {
 
     /// Tells a visitor what waits, where no tag is begun.
     pub(crate) fn hand_on<V: Visitor>(&mut self, visitor: &mut V) -> Result<(), Memory>
-        ensures { OnOk result (Relieved (view self.old) (view self.new) (V.had visitor.old visitor.new)) }
+        ensures told { OnOk result (Relieved (view self.old) (view self.new) (V.had visitor.old visitor.new)) }
+        ensures none { OnOk result (NoMarkWaits (view self.new)) }
     {
         self.builder.hand_on(visitor)
     }

@@ -76,8 +76,8 @@ with_limit o limit k back is few =
     let below = each (λ l. amount o l ≤ (limits.limit_row l).most) back.below limits.all in
     record {
       job = back.job;
-      above = each_limit (λ l. (limits.limit_row l).least ≤ amount (record o { turns = limit }) l) (all_of (λ l. (limits.limit_row l).least ≤ amount (record o { turns = limit }) l) limits.all (above.0, (omega (arith, is, low), (above.1.1.0, tt))));
-      below = each_limit (λ l. amount (record o { turns = limit }) l ≤ (limits.limit_row l).most) (all_of (λ l. amount (record o { turns = limit }) l ≤ (limits.limit_row l).most) limits.all (below.0, (omega (arith, is, high), (below.1.1.0, tt))));
+      above = each_limit (λ l. (limits.limit_row l).least ≤ amount (record o { turns = limit }) l) (all_of (λ l. (limits.limit_row l).least ≤ amount (record o { turns = limit }) l) limits.all (above.0, (omega (arith, is, low), above.1.1)));
+      below = each_limit (λ l. amount (record o { turns = limit }) l ≤ (limits.limit_row l).most) (all_of (λ l. amount (record o { turns = limit }) l ≤ (limits.limit_row l).most) limits.all (below.0, (omega (arith, is, high), below.1.1)));
     }
 
 -- ---- claims

@@ -1,6 +1,7 @@
 //! Reads OSiL documents that come in pieces.
 
-ghost use Rattle.std.specs.Prelude.{◌≡◌, ◌≤◌, ◌++◌, [], List, ℕ, None, Ok, Err, Some, IfOk, IfErr, MatchOption, MatchResult};
+ghost use Rattle.std.specs.Prelude.{◌≡◌, ◌≤◌, ◌++◌, [], List, ℕ, None, Ok, Err, Some, OnOk, IfOk, IfErr, MatchOption, MatchResult};
+ghost use Rattle.doc_tree.specs.Relieved.{NoMarkWaits};
 ghost use Rattle.doc_tree.specs.declared.fault.TreeFault.{TreeFault};
 ghost use Rattle.osil_grammar.specs.Standing as states;
 ghost use Rattle.osil_grammar.specs.Marked.{instance_of};
@@ -163,11 +164,13 @@ impl Decoder {
     }
 
     /// Reads the next piece. It answers only a tree's refusal, with the piece that has the byte which decides it, or
-    /// want of memory, and each later call answers it again.
+    /// want of memory, and each later call answers it again. Behind the piece no mark waits to be read, unless it ends within a
+    /// start tag behind an attribute.
     pub fn feed(&mut self, piece: &[u8]) -> Result<(), OsilFault>
         ensures stays { (fault : TreeFault) → self.old.reading.refusal ≡ Some fault → self.new.reading.refusal ≡ Some fault }
         ensures answers { MatchOption self.new.reading.refusal (result ≡ Ok tt) (λ fault. result ≡ Err (tree_fault fault)) }
         ensures fed { (bytes : List ℕ) → WasFed self.old bytes → WasFed self.new (bytes ++ piece.now) }
+        ensures none { OnOk result (NoMarkWaits self.new.reading.state) }
     {
         match self.marks.feed(piece) {
             Ok(()) => Ok(()),

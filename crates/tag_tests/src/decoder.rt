@@ -1,9 +1,10 @@
 //! Documents that readers of marks read, in pieces or whole.
 
-ghost use Rattle.std.specs.Prelude.{◌≡◌, ◌⊎◌, ◌++◌, [], List, ℕ, None, Some, Ok, Err, IfOk, IfErr, MatchOption};
+ghost use Rattle.std.specs.Prelude.{◌≡◌, ◌⊎◌, ◌++◌, [], List, ℕ, None, Some, Ok, Err, OnOk, IfOk, IfErr, MatchOption};
 ghost use Rattle.std.specs.Option.{option_copied};
 ghost use Rattle.doc_tree.specs.declared.fault.TreeFault.{TreeFault};
 ghost use Rattle.doc_tree.specs.declared.fault.TreeFault.TheVariants.{Memory};
+ghost use Rattle.doc_tree.specs.Relieved.{NoMarkWaits};
 ghost use Rattle.document_tags.specs.Documents.{OfDocument, TreeFails};
 ghost use Rattle.tag_tests.specs.Readers.{IsKept, IsReader, WasFed, Reads};
 
@@ -128,11 +129,13 @@ impl<R: Drop, S: MarkReader<R> + Drop> Decoder<R, S> {
     }
 
     /// Reads the next piece. It answers only a tree's refusal, with the piece that has the byte which decides it, or
-    /// want of memory, and each later call answers it again.
+    /// want of memory, and each later call answers it again. Behind the piece no mark waits for the reader, unless it ends
+    /// within a start tag behind an attribute.
     pub fn feed(&mut self, piece: &[u8]) -> Result<(), TreeFault>
         ensures stays { (fault : TreeFault) → self.old.reading.refusal ≡ Some fault → self.new.reading.refusal ≡ Some fault }
         ensures answers { MatchOption self.new.reading.refusal (result ≡ Ok tt) (λ fault. result ≡ Err fault) }
         ensures fed { (first : S) (bytes : List ℕ) → WasFed S.took S.refuses first self.old bytes → WasFed S.took S.refuses first self.new (bytes ++ piece.now) }
+        ensures none { OnOk result (NoMarkWaits self.new.reading.state) }
     {
         self.events.feed(piece)
     }

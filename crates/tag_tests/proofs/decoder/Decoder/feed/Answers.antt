@@ -8,3 +8,6 @@ returns-clause-fed g c =
     let new = c.feed.new.self in
     fed_more g.S.MarkReader.took g.S.MarkReader.refuses (record { reading = old.reading; course = old.visitor.course }) c.args.self.now (record { reading = new.reading; course = new.visitor.course }) c.args.piece.now c.self.view_is c.feed.ensures.limit
     (λ s bytes h. c.feed.ensures.fed (record { alloc = old.visitor.alloc; course = Going s }) bytes h)
+
+pub returns-clause-none : goal.returns-clause-none
+returns-clause-none g c = c.feed.ensures.none
