@@ -1,5 +1,5 @@
 -- Bits of words, 64 a word.
-use Rattle.std.specs.Prelude.{◌≡◌, ℕ, ◌/◌, ◌%◌, ◌<◌, ◌≤◌, Bool, true, false, nat_eq}
+use Rattle.std.specs.Prelude.{◌≡◌, ℕ, ◌/◌, ◌%◌, ◌<◌, ◌≤◌, Bool, true, false, cond, nat_eq, nat_lt}
 use Rattle.std.specs.Int.{bit_at}
 
 -- whether bit k is set
@@ -12,6 +12,14 @@ pub record IsFirst (test : ℕ → Bool) (from c : ℕ) : Type 0 where
   pub is : test c ≡ true
   pub first : (k : ℕ) → from ≤ k → k < c → test k ≡ false
 
--- none from there on does
+-- none from a place on up to a stop does
+abbrev pub HasNoneBelow : ℕ → (ℕ → Bool) → ℕ → Type 0
+HasNoneBelow stop test from = (k : ℕ) → from ≤ k → k < stop → test k ≡ false
+
+-- none from there on
 abbrev pub HasNone : (ℕ → Bool) → ℕ → Type 0
 HasNone test from = (k : ℕ) → from ≤ k → test k ≡ false
+
+-- the lesser of two numbers
+abbrev pub lesser : ℕ → ℕ → ℕ
+lesser a b = cond (nat_lt a b) a b

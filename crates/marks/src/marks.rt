@@ -1,7 +1,7 @@
 // A set of numbers.
 ghost use Rattle.std.specs.Prelude.{◌*◌, ◌≤◌, ◌^◌, length};
 
-use crate::words::{clear, next, set};
+use crate::words::{Both, Either, One, clear, has, next, set};
 use std::alloc::{AllocError, Global};
 
 /// A set of numbers below a size.
@@ -11,15 +11,16 @@ pub struct Marks {
     ghost few: { 64 * length words.items ≤ 2 ^ 32 },
 }
 
-#[tactic(auto, unfolding(crate::specs::Marks::is_marked, crate::specs::Marks::size_of))]
+#[tactic(auto, unfolding(crate::specs::Marks::is_marked, crate::specs::Marks::size_of, crate::specs::Marks::word_of, crate::specs::Marks::count_of))]
 impl Marks {
-    ghost use Rattle.std.specs.Prelude.{◌≡◌, ◌≢◌, ℕ, ◌+◌, ◌<◌, true, false, IfOk, MatchOption};
+    ghost use Rattle.std.specs.Prelude.{◌≡◌, ◌≢◌, ℕ, ◌+◌, ◌/◌, ◌<◌, ◌||◌, ◌&&◌, true, false, IfOk, MatchOption};
     ghost use Rattle.marks.specs.Words.{IsFirst, HasNone};
-    ghost use Rattle.marks.specs.Marks.{is_marked, size_of};
+    ghost use Rattle.marks.specs.Marks.{is_marked, size_of, word_of, count_of};
 
     /// A set for numbers below `count`, which has none. More than there are numbers of 32 bits find no room.
     pub fn with_size(alloc: Global, count: usize) -> Result<Marks, AllocError>
         ensures size { IfOk result (λ m. count ≤ size_of m) }
+        ensures words { IfOk result (λ m. size_of m ≡ 64 * ((count + 63) / 64)) }
         ensures none { IfOk result (λ m. (c : ℕ) → is_marked m c ≡ false) }
     {
         if count > 1 << 32 {
@@ -27,6 +28,15 @@ impl Marks {
         }
         let words = vec![in alloc; 0; (count + 63) / 64]?;
         Ok(Marks { words })
+    }
+
+    /// Whether it has a number.
+    #[inline(always)]
+    pub fn has(&self, k: u32) -> bool
+        requires { k < size_of self.now }
+        ensures { result ≡ is_marked self.now k }
+    {
+        has(self.words.as_slice(), k)
     }
 
     /// Takes in a number.
@@ -51,6 +61,21 @@ impl Marks {
         clear(self.words.as_mut_slice(), k);
     }
 
+    /// Takes a number in, or out.
+    #[inline(always)]
+    pub fn put(&mut self, k: u32, is_in: bool)
+        requires { k < size_of self.old }
+        ensures size { size_of self.new ≡ size_of self.old }
+        ensures own { is_marked self.new k ≡ is_in }
+        ensures others { (c : ℕ) → c ≢ k → is_marked self.new c ≡ is_marked self.old c }
+    {
+        if is_in {
+            self.mark(k);
+        } else {
+            self.unmark(k);
+        }
+    }
+
     /// Takes out all numbers.
     pub fn clear(&mut self)
         ensures size { size_of self.new ≡ size_of self.old }
@@ -59,11 +84,62 @@ impl Marks {
         self.words.as_mut_slice().fill(0);
     }
 
+    /// How many words of 64 numbers it has.
+    #[inline(always)]
+    pub fn count(&self) -> usize
+        ensures { result ≡ count_of self.now }
+    {
+        self.words.len()
+    }
+
+    /// The numbers of a word, a bit each.
+    #[inline(always)]
+    pub fn word(&self, w: usize) -> u64
+        requires { w < count_of self.now }
+        ensures { result ≡ word_of self.now w }
+    {
+        self.words[w]
+    }
+
+    /// Gives a word other numbers.
+    #[inline(always)]
+    pub fn set_word(&mut self, w: usize, bits: u64)
+        requires { w < count_of self.old }
+        ensures size { size_of self.new ≡ size_of self.old }
+        ensures own { word_of self.new w ≡ bits }
+        ensures others { (v : ℕ) → v ≢ w → word_of self.new v ≡ word_of self.old v }
+    {
+        let words = self.words.as_mut_slice();
+        words[w] = bits;
+    }
+
     /// The first number from this one on that it has.
     #[inline(always)]
     pub fn next(&self, from: u32) -> Option<u32>
         ensures { MatchOption result (HasNone (is_marked self.now) from) (IsFirst (is_marked self.now) from) }
     {
-        next(self.words.as_slice(), from)
+        let words = self.words.as_slice();
+        next(&One { words }, from)
+    }
+
+    /// The first number from this one on that one of two sets has.
+    #[inline(always)]
+    pub fn next_of_either(&self, other: &Marks, from: u32) -> Option<u32>
+        requires { size_of other.now ≡ size_of self.now }
+        ensures { MatchOption result (HasNone (λ k. is_marked self.now k || is_marked other.now k) from) (IsFirst (λ k. is_marked self.now k || is_marked other.now k) from) }
+    {
+        let left = self.words.as_slice();
+        let right = other.words.as_slice();
+        next(&Either { left, right }, from)
+    }
+
+    /// The first number from this one on that two sets have.
+    #[inline(always)]
+    pub fn next_of_both(&self, other: &Marks, from: u32) -> Option<u32>
+        ensures { MatchOption result (HasNone (λ k. is_marked self.now k && is_marked other.now k) from) (IsFirst (λ k. is_marked self.now k && is_marked other.now k) from) }
+    {
+        let left = self.words.as_slice();
+        let right = other.words.as_slice();
+        next(&Both { left, right }, from)
     }
 }

@@ -1,26 +1,29 @@
-use Rattle.std.proofs.Common.{◌≡◌, ℕ, ◌+◌, ◌*◌, ◌/◌, ◌<◌, ◌≤◌, ◌^◌, inl, inr, zero-add, subst, slice_index, arith}
+use Rattle.std.proofs.Common.{◌≡◌, ℕ, ◌+◌, ◌*◌, ◌/◌, ◌<◌, ◌≤◌, ◌^◌, zero-add, subst, sym, ◌∙◌, arith}
 use Rattle.std.specs.Int.{trailing_zeros, w64}
-use Rattle.std.proofs.lemmas.Bool.{cases_lt}
-use Rattle.marks.specs.Words.{has_bit, IsFirst}
-use Rattle.marks.proofs.Bits.{NoneBelow, none_below, none_from, past_last, first_at, below_more_from}
+use Rattle.marks.specs.Words.{has_bit, IsFirst, HasNoneBelow}
+use Rattle.marks.proofs.Bits.{none_below, first_at, below_more_from}
 use Rattle.marks.proofs.words.first_from.Goals as goal
 
+-- src/words.rt:97:5
 pub loop-k-init : goal.loop-k-init
-loop-k-init c = λ j a b. absurd (omega arith)
+loop-k-init g c = λ j a b. absurd (omega arith)
 
+-- src/words.rt:100:13
 pub returns-then-word-ne0 : goal.returns-then-word-ne0
-returns-then-word-ne0 c =
-    let words : ℕ → ℕ = slice_index c.args.words.now in
+returns-then-word-ne0 g c =
+    let words : ℕ → ℕ = g.W.Words.word_at c.args.words.now in
     let k : ℕ = c.loop-k.k in
-    let small : words k < 2 ^ 64 = omega arith in
-    let e : words k ≡ words k / 2 ^ 0 = omega arith in
+    let small : words k < 2 ^ 64 = omega (arith, c.word-word.ensures, c.word-word.type_inv) in
+    let e : c.word-word.result ≡ words k / 2 ^ 0 = omega (arith, c.word-word.ensures) in
     let low : 64 * c.args.w ≤ 64 * k + 0 = omega arith in
     let P : ℕ → Type 0 = λ i. IsFirst (has_bit words) (64 * c.args.w) (64 * k + i) in
-    let none : NoneBelow (64 * k + 0) (has_bit words) (64 * c.args.w) = λ j a b. none_below words c.args.w k c.loop-k.invariant j a (omega arith) in
-    subst P (zero-add (trailing_zeros w64 (words k))) (first_at words (64 * c.args.w) k 0 (words k) e small c.if-word-ne0.true low none)
+    let none : HasNoneBelow (64 * k + 0) (has_bit words) (64 * c.args.w) = λ j a b. none_below words c.args.w k c.loop-k.invariant j a (omega arith) in
+    subst P (zero-add (trailing_zeros w64 c.word-word.result)) (first_at words (64 * c.args.w) k 0 c.word-word.result e small c.if-word-ne0.true low none)
 
+-- src/words.rt:97:5
 pub loop-k-preserved : goal.loop-k-preserved
-loop-k-preserved c = below_more_from (λ j. slice_index c.args.words.now j ≡ 0) c.args.w c.loop-k.k c.loop-k.invariant c.if-word-ne0.false
+loop-k-preserved g c = below_more_from (λ j. g.W.Words.word_at c.args.words.now j ≡ 0) c.args.w c.loop-k.k c.loop-k.invariant (sym c.word-word.ensures ∙ c.if-word-ne0.false)
 
+-- src/words.rt:93:1
 pub returns : goal.returns
-returns c = none_from (slice_index c.args.words.now) c.args.w (λ j a. elim (cases_lt j c.loop-k.k) [ inl h ↦ c.loop-k.invariant j a h | inr h ↦ past_last c.args.words.now j (omega arith) ])
+returns g c = λ k a b. none_below (g.W.Words.word_at c.args.words.now) c.args.w c.loop-k.k c.loop-k.invariant k a (omega arith)

@@ -1,5 +1,5 @@
-use Rattle.std.proofs.Common.{◌≡◌, ℕ, ◌<◌, ◌≤◌, slice_index}
+use Rattle.std.proofs.Common.{◌≡◌, ℕ, ◌<◌, ◌≤◌}
 use Rattle.marks.proofs.words.first_from.Given as goal
 
 abbrev pub invariant-loop-k : goal.invariant-loop-k
-invariant-loop-k l = (j : ℕ) → l.fn.w ≤ j → j < l.k → slice_index l.words j ≡ 0
+invariant-loop-k g l = (j : ℕ) → l.fn.w ≤ j → j < l.k → g.W.Words.word_at l.words j ≡ 0
