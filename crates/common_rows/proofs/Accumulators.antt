@@ -1,16 +1,16 @@
 -- Sums over a common denominator.
 use Rattle.std.proofs.Common.{◌≡◌, ℕ, ◌*◌, ◌/◌, ◌^◌, ◌<◌, ◌≤◌, ℤ, pos, ◌+ℤ◌, ◌*ℤ◌, FitsSigned, w64, arith, refl, sym, ◌∙◌, ap, ap₂, subst}
-use Rattle.std.specs.Prelude.{unsigned_abs}
+use Rattle.std.specs.Prelude.{unsigned_abs, Result, Ok, Err, IfOk, OnErr}
 use Rattle.std.specs.Int.{◌∣◌}
 use Rattle.std.proofs.Math.Nat.{div-mul_cancel}
 use Rattle.std.proofs.lemmas.Int.{ints}
 use Rattle.rational.specs.Ratio.{Ratio, whole, sum, product, quotient, IsSame, IsNumber}
 use Rattle.rational.specs.Width.{most, ReducedFits, SumFits}
-use Rattle.rational.proofs.Scaling.{add-times, times-times}
+use Rattle.rational.proofs.Scaling.{add-times, times-times, same_multiple}
 use Rattle.rational.proofs.ReducedForms.{one_number}
 use Rattle.evidence.specs.Width.{TermFits}
-use Rattle.evidence.proofs.Numbers.{◌≈◌, ◌⊙◌, ≈-refl, sum-≈, sum-number, product-number}
-use Rattle.evidence.proofs.Fits.{sums_same, term_same}
+use Rattle.evidence.proofs.Numbers.{◌≈◌, ◌⊙◌, ≈-refl, sum-≈, product-≈, sum-number, product-number}
+use Rattle.evidence.proofs.Fits.{sums_same, term_same, reduced_same}
 use Rattle.common_rows.specs.Row.{over}
 use Rattle.common_rows.proofs.Fitting.{sum_fits_over, reduced_fits}
 use Rattle.common_rows.proofs.Sizes.{product_within}
@@ -98,3 +98,60 @@ module _ (s t p : Ratio) (ns : IsNumber s) (nt : IsNumber t) (np : IsNumber p) (
 
   pub parts_fit : SumFits (over n d) t → SumFits s p
   parts_fit f = joined_fits s t p ns nt np same (subst (λ (z : Ratio). SumFits z t) (one_number (over n d) s en ed) f)
+
+-- a number over a denominator times a whole one
+module _ (t n k : ℤ) (d : ℕ) (x : Ratio) (up : 0 < d) (one : x.den ≡ 1) (is : k ≡ x.num) where
+  term_number : IsNumber (product (over n d) x)
+  term_number = let e : d * x.den ≡ d * 1 = ap (λ m. d * m) one in omega (arith, e)
+
+  term_over : IsSame (product (over n d) x) (over (n *ℤ k) d)
+  term_over = ap₂ (λ (z : ℤ) (m : ℕ). n *ℤ z *ℤ pos m) (sym is) (let e : d * x.den ≡ d * 1 = ap (λ m. d * m) one in omega (arith, e))
+
+  pub number_sum : IsSame (over (t +ℤ n *ℤ k) d) (sum (over t d) (product (over n d) x))
+  number_sum = sum_over (over t d) (product (over n d) x) t (n *ℤ k) d up term_number up refl term_over
+
+  pub number_fits : unsigned_abs t ≤ most → unsigned_abs (n *ℤ k) ≤ most → unsigned_abs (t +ℤ n *ℤ k) ≤ most → d ≤ most → TermFits (over t d) (over n d) x
+  number_fits lt lk ls ld =
+      let e : d * x.den ≡ d * 1 = ap (λ m. d * m) one in
+      let small : unsigned_abs (n *ℤ x.num) ≤ most = subst (λ z. unsigned_abs (n *ℤ z) ≤ most) is lk in
+      record {
+        term = λ _ _. reduced_fits (product (over n d) x) term_number small (omega (arith, e, ld));
+        sum = λ _ _. sum_fits_over (over t d) (product (over n d) x) t (n *ℤ k) d up term_number up refl term_over lt lk ls ld;
+      }
+
+-- the same with a factor in another form
+module _ (s f a x : Ratio) (ns : IsNumber s) (nf : IsNumber f) (na : IsNumber a) (nx : IsNumber x) (same : IsSame f a) where
+  factor_same : IsSame (product f x) (product a x)
+  factor_same =
+      let factor : f ≈ a = record { left = nf; right = na; is = same } in
+      let all = product-≈ factor (≈-refl nx) in
+      all.is
+
+  nothing : (k : ℕ) → pos 0 *ℤ pos k ≡ pos 0
+  nothing k = omega (arith, ints)
+
+  factor_zero : f.num ≡ pos 0 → a.num ≡ pos 0
+  factor_zero z =
+      let e : a.num *ℤ pos f.den ≡ pos 0 *ℤ pos a.den = sym same ∙ ap (λ n. n *ℤ pos a.den) z in
+      same_multiple a.num (pos 0) f.den nf (e ∙ nothing a.den ∙ sym (nothing f.den))
+
+  pub factored : (r : Ratio) → IsNumber r → IsSame r (sum s (product f x)) → IsSame r (sum s (product a x))
+  factored r nr e = joined s (product f x) (product a x) ns (product-number f x nf nx) (product-number a x na nx) factor_same r nr e
+
+  pub factored_fits : TermFits s f x → TermFits s a x
+  factored_fits t =
+      let nt = product-number f x nf nx in
+      let np = product-number a x na nx in
+      record {
+        term = λ p q. reduced_same (product f x) (product a x) np factor_same (t.term (λ z. p (factor_zero z)) q);
+        sum = λ p q. joined_fits s (product f x) (product a x) ns nt np factor_same (t.sum (λ z. p (factor_zero z)) q);
+      }
+
+-- what holds of each answer
+pub ok_by : {T E : Type 0} (r : Result T E) (P Q : T → Type 0) → ((x : T) → P x → Q x) → IfOk r P → IfOk r Q
+ok_by (Ok x) P Q f p = f x p
+ok_by (Err e) P Q f p = tt
+
+pub err_by : {T E P Q : Type 0} (r : Result T E) → (P → Q) → OnErr r P → OnErr r Q
+err_by (Ok x) f p = tt
+err_by (Err e) f p = f p

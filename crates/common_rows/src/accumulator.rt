@@ -2,8 +2,9 @@
 ghost use Rattle.std.specs.Prelude.{◌≡◌, ◌<◌, ◌≤◌, unsigned_abs};
 ghost use Rattle.rational.specs.Width.{most};
 
+use crate::change::product;
 use crate::form::{Form, size};
-use crate::whole::narrowed;
+use crate::whole::{narrowed, within};
 use fraction::{Frac, Wide};
 use instance::add_product;
 
@@ -24,6 +25,7 @@ impl Accumulator {
     ghost use Rattle.fraction.specs.Frac.{ratio};
     ghost use Rattle.evidence.specs.Sums.{none};
     ghost use Rattle.evidence.specs.Width.{TermFits};
+    ghost use Rattle.common_rows.specs.Row.{over};
     ghost use Rattle.common_rows.specs.Accumulators.{sum_of};
 
     /// 0.
@@ -31,6 +33,60 @@ impl Accumulator {
         ensures { sum_of result ≡ none }
     {
         Accumulator { numer: 0, denom: 1 }
+    }
+
+    /// 0, over a denominator.
+    pub fn over(denom: u64) -> Accumulator
+        requires { 0 < denom }
+        ensures { IsSame (sum_of result) none }
+    {
+        Accumulator {
+            numer: 0,
+            denom: denom as u128,
+        }
+    }
+
+    /// The sum and a number times a whole one, where both stand over one denominator and it fits.
+    #[inline]
+    fn plus_whole(self, n: i64, denom: u64, x: &Frac) -> Option<Accumulator>
+        ensures same { IfSome result (λ r. IsSame (sum_of r) (sum (sum_of self) (product (over n denom) (ratio x.now)))) }
+        ensures fits { IfSome result (λ _. TermFits (sum_of self) (over n denom) (ratio x.now)) }
+    {
+        if x.denom != 1 || self.denom != denom as u128 {
+            return None;
+        }
+        let by = narrowed(x.numer)?;
+        let numer = within(self.numer, product(n, by))?;
+        Some(Accumulator {
+            numer,
+            denom: self.denom,
+        })
+    }
+
+    /// The sum and a number over a denominator times another one, in any form.
+    #[inline(never)]
+    fn plus_quotient(self, n: i64, denom: u64, x: &Frac) -> Result<Accumulator, Wide>
+        requires { 0 < denom }
+        ensures ok { IfOk result (λ r. IsSame (sum_of r) (sum (sum_of self) (product (over n denom) (ratio x.now)))) }
+        ensures fits { IfOk result (λ _. TermFits (sum_of self) (over n denom) (ratio x.now)) }
+        ensures wide { OnErr result (TermFits (sum_of self) (over n denom) (ratio x.now) → ⊥) }
+    {
+        let a = Form { numer: n, denom }.fraction();
+        self.plus(&a, x)
+    }
+
+    /// The sum and a number over a denominator times another one, as [`add_product`] has them.
+    #[inline]
+    pub fn plus_number(self, n: i64, denom: u64, x: &Frac) -> Result<Accumulator, Wide>
+        requires { 0 < denom }
+        ensures ok { IfOk result (λ r. IsSame (sum_of r) (sum (sum_of self) (product (over n denom) (ratio x.now)))) }
+        ensures fits { IfOk result (λ _. TermFits (sum_of self) (over n denom) (ratio x.now)) }
+        ensures wide { OnErr result (TermFits (sum_of self) (over n denom) (ratio x.now) → ⊥) }
+    {
+        match self.plus_whole(n, denom, x) {
+            Some(more) => Ok(more),
+            None => self.plus_quotient(n, denom, x),
+        }
     }
 
     /// The sum and a product, where all their numbers have 64 bits.

@@ -49,6 +49,18 @@ pub fn total(n: i64, k: i64, m: i64) -> i128
     n as i128 + crate::change::product(k, m)
 }
 
+/// The sum of two numbers, where it doesn't pass the greatest size.
+#[inline]
+pub fn within(a: i128, b: i128) -> Option<i128>
+    ensures value { IfSome result (λ n. n ≡ a +ℤ b) }
+    ensures size { IfSome result (λ n. unsigned_abs n ≤ most) }
+{
+    match a.checked_add(b) {
+        Some(n) if n != i128::MIN => Some(n),
+        _ => None,
+    }
+}
+
 /// A fraction and a product, where their parts have 64 bits.
 #[inline]
 fn narrow_sum(start: &Frac, a: &Frac, x: &Frac) -> Option<Form>
