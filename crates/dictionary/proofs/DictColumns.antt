@@ -1,24 +1,22 @@
 -- What a dictionary in memory tells.
-use Rattle.std.proofs.Common.{◌≡◌, ℕ, ◌+◌, ◌-◌, ◌^◌, ◌<◌, ◌≤◌, true, false, length, arith, sym, ◌∙◌, ap, subst}
-use Rattle.rational.specs.Ratio.{Ratio, product}
-use Rattle.evidence.specs.Sums.{none}
+use Rattle.std.proofs.Common.{◌≡◌, ℕ, zero, suc, ◌+◌, ◌-◌, ◌^◌, ◌<◌, ◌≤◌, true, false, not, nat_eq, Option, None, Some, MatchOption, List, [], ◌∷◌, length, get_or, arith, refl, sym, ◌∙◌, ap, subst}
+use Rattle.std.specs.Prelude.{unsigned_abs, IfSome}
+use Rattle.std.proofs.lemmas.Bool.{le-ltb}
+use Rattle.rational.specs.Ratio.{Ratio}
 use Rattle.evidence.proofs.Columns.{by_lt}
-use Rattle.evidence.proofs.Totals.{total-same}
-use Rattle.evidence.proofs.Fits.{stated_same}
-use Rattle.bases.specs.Dictionary.{Values, value_by}
-use Rattle.bases.specs.Pivot.{ValueFits}
+use Rattle.bases.specs.Dictionary.{Values}
 use Rattle.bases.specs.Order.{GoesThrough}
+use Rattle.marks.specs.Words.{IsFirst, HasNone}
 use Rattle.dictionary.specs.declared.dict.Dict.{Dict}
+use Rattle.dictionary.specs.declared.row.Row.{Row}
 use Rattle.dictionary.specs.declared.places.Places.{Places}
-use Rattle.dictionary.specs.Row.{entries_in, number_in, HasColumn, IsOver}
-use Rattle.dictionary.specs.Value.{AreValuesAt}
+use Rattle.dictionary.specs.Rows.{numbers_of, numbers_in, entries_at, has_number, HasNumber, IsRow, IsOverPlaces, AreValuesOf}
 use Rattle.dictionary.specs.Steps.{nonzeros}
-use Rattle.dictionary.specs.Dict.{width_of, height_of, columns_of, column_standing, place_of_column, basic_of, entry_of, IsLoaded, IsBasic, IsNonbasic, Rest, count_of, place_values}
-use Rattle.dictionary.proofs.EntryCounts.{at_most}
-use Rattle.dictionary.proofs.Nonzeros.{counted, nonzeros_same}
+use Rattle.dictionary.specs.Dict.{width_of, height_of, columns_of, column_standing, place_of_column, basic_of, entry_of, IsLoaded, IsBasic, IsNonbasic, Rest, place_values}
+use Rattle.dictionary.proofs.Nonzeros.{few_over}
 use Rattle.dictionary.proofs.Exchanges.{one_place, basic_below, basic_from, place_basic, place_nonbasic}
-use Rattle.dictionary.proofs.RowPivots.{listed}
-use Rattle.dictionary.proofs.DictPivots.{cols, place, rows, rows_over}
+use Rattle.dictionary.proofs.DictParts.{cols, place}
+use Rattle.dictionary.proofs.RowForms.{marked_has, has_marked}
 
 -- the goal's column stands at its place alone
 not_goal : {L : _} {G : _} (d : Dict L G) (j : ℕ) → j < d.width + d.height → cols d j < d.width + d.height
@@ -102,54 +100,99 @@ goal_from d = let p = d.basis in let e = p.place_at (d.width + d.height) (omega 
 pub goal_row : {L : _} {G : _} (d : Dict L G) → d.height ≡ place d (d.width + d.height) - d.width
 goal_row d = let p = d.basis in let e = p.place_at (d.width + d.height) (omega arith) in let g = ap (place d) d.goal in omega arith
 
-module _ {L : _} {G : _} (d : Dict L G) (loaded : IsLoaded d) (b r : ℕ) (from : d.width ≤ place d b) (er : r ≡ place d b - d.width) (inside : r < length d.rows.items) where
-  pub over_there : IsOver d.width (cols d) (entries_in (rows d) r)
-  over_there = rows_over d loaded r inside
+-- a row that was read has the numbers of its place in the table
+pub told_row : {L : _} {G : _} (rows : List (Row L G)) (r : ℕ) (row : Row L G) → r < length rows → row ≡ get_or rows r row → numbers_in rows r ≡ numbers_of row
+told_row [] r row h e = absurd (omega arith)
+told_row (x ∷ xs) zero row h e = ap numbers_of (sym e)
+told_row (x ∷ xs) (suc r) row h e = told_row xs r row (omega arith) e
 
-  pub said_there : (c : ℕ) → number_in (entries_in (rows d) r) c ≡ entry_of d b c
+-- a row that was read is that of column b's equation
+pub record IsRead {L : _} {G : _} (d : Dict L G) (b : ℕ) (row : Row L G) : Type 0 where
+  pub loaded : IsLoaded d
+  pub from : d.width ≤ place d b
+  pub inside : place d b - d.width < length d.rows.items
+  pub at : row ≡ get_or d.rows.items (place d b - d.width) row
+
+pub read_equation : {L : _} {G : _} (d : Dict L G) → IsLoaded d → (b r : ℕ) → b < columns_of d → basic_of d b ≡ true → r ≡ place d b - d.width → (row : Row L G) → row ≡ get_or d.rows.items r row → IsRead d b row
+read_equation d loaded b r l h e row at = record { loaded = loaded; from = equation_from d b h; inside = equation_row d b l; at = subst (λ k. row ≡ get_or d.rows.items k row) e at }
+
+pub read_basic : {L : _} {G : _} (d : Dict L G) → IsLoaded d → (b r : ℕ) → IsBasic d b → r ≡ place d b - d.width → (row : Row L G) → row ≡ get_or d.rows.items r row → IsRead d b row
+read_basic d loaded b r h e row at = read_equation d loaded b r (let i = h.inside in omega arith) h.is e row at
+
+-- the goal's is the last
+pub read_goal : {L : _} {G : _} (d : Dict L G) → IsLoaded d → (row : Row L G) → row ≡ get_or d.rows.items d.height row → IsRead d (d.width + d.height) row
+read_goal d loaded row at = record {
+  loaded = loaded;
+  from = goal_from d;
+  inside = let e = goal_row d in let n = d.count in omega arith;
+  at = subst (λ k. row ≡ get_or d.rows.items k row) (goal_row d) at;
+}
+
+module _ {L : _} {G : _} (d : Dict L G) (b : ℕ) (row : Row L G) (read : IsRead d b row) where
+  pub row_is : IsRow (d.width + (d.height + 1)) d.width row
+  row_is = d.rows_are (place d b - d.width) row read.inside read.at
+
+  told : numbers_in d.rows.items (place d b - d.width) ≡ numbers_of row
+  told = told_row d.rows.items (place d b - d.width) row read.inside read.at
+
+  pub said_there : (c : ℕ) → numbers_of row c ≡ entry_of d b c
   unfolding entry_of
-  said_there c = ap (λ j. number_in (entries_in (rows d) j) c) er ∙ sym (listed d.width (place d) (rows d) b c from)
+  said_there c =
+      let l : entry_of d b c ≡ numbers_in d.rows.items (place d b - d.width) c = rw (le-ltb (place d b) d.width read.from) refl in
+      sym (l ∙ ap (λ (f : ℕ → Ratio). f c) told)
 
-  pub digits_there : (b : ℕ) → width_of d < 2 ^ b → length (entries_in (rows d) r) < 2 ^ b
+  pub over_there : IsOverPlaces d.width (place d) (numbers_of row)
+  unfolding IsLoaded
+  over_there c h =
+      let o = read.loaded.1 in
+      let n = d.count in
+      let i = read.inside in
+      ap (λ (f : ℕ → Ratio). f c) (sym told) ∙ o.over (place d b - d.width) (omega arith) c h
+
+  few : nonzeros (d.width + (d.height + 1)) (numbers_of row) ≤ d.width
+  few = few_over d.width (d.width + (d.height + 1)) (cols d) (place d) (numbers_of row) d.basis (λ c h. ap (λ (v : Ratio). v.num) (over_there c h))
+
+  pub digits_there : (k : ℕ) → width_of d < 2 ^ k → nonzeros (d.width + (d.height + 1)) (numbers_of row) < 2 ^ k
   unfolding width_of
-  digits_there b l = let m = at_most d.width (cols d) (entries_in (rows d) r) over_there in omega arith
+  digits_there k l = let m = few in omega arith
+
+  column_in : (c : ℕ) → IsNonbasic d c → c < d.width + (d.height + 1)
+  unfolding width_of height_of
+  column_in c h = let i = h.inside in omega arith
+
+  -- what a row's calls ask for
+  pub column_asked : (c : ℕ) → IsNonbasic d c → (k n : ℕ) × IsRow k n row × (c < k)
+  column_asked c h = (d.width + (d.height + 1), d.width, row_is, column_in c h)
+
+  pub mark_there : (c : ℕ) → entries_at row c ≡ has_number (entry_of d b) c
+  unfolding entries_at
+  mark_there c = let i = row_is in i.marked c ∙ ap (λ (x : Ratio). not (nat_eq (unsigned_abs x.num) 0)) (said_there c)
 
   -- an entry's column isn't basic
-  column_there : (c : ℕ) → HasColumn (entries_in (rows d) r) c → (c < d.width + d.height) × (place d c < d.width)
-  column_there c h =
-      let o = over_there in
-      let s = o.columns c h in
+  pub column_there : (c : ℕ) → entries_at row c ≡ true → IsNonbasic d c
+  unfolding entries_at width_of height_of basic_of
+  column_there c e =
       let p = d.basis in
-      let i = s.inside in
-      let low : s.place < d.width + d.height = omega arith in
-      (subst (λ j. j < d.width + d.height) s.is (not_goal d s.place low), subst (λ j. place d j < d.width) s.is (let e = p.place_at s.place (omega arith) in omega arith))
+      let i = row_is in
+      let w = i.inside c e in
+      let has : HasNumber (numbers_of row) c = marked_has row (d.width + (d.height + 1)) d.width i c e in
+      let low : place d c < d.width = by_lt (place d c) d.width (λ g. g) (λ g. absurd (has (ap (λ (v : Ratio). v.num) (over_there c g)))) in
+      record { inside = omega arith; is = basic_below d.width (place d) c low }
 
-  pub count_there : length (entries_in (rows d) r) ≤ nonzeros (columns_of d) (entry_of d b)
-  unfolding width_of height_of
-  count_there =
-      let o = over_there in
-      let a = counted (d.width + (d.height + 1)) 0 (2 ^ 32) (entries_in (rows d) r) o.ascending (λ c h. let k = column_there c h in let i = k.0 in omega arith) in
-      let e = nonzeros_same (d.width + (d.height + 1)) (number_in (entries_in (rows d) r)) (entry_of d b) said_there in
-      omega arith
+  pub first_there : (from : ℕ) (o : Option ℕ) → MatchOption o (HasNone (entries_at row) from) (IsFirst (entries_at row) from) → IfSome o (λ c. IsNonbasic d c)
+  first_there from None h = tt
+  first_there from (Some c) h = column_there c h.is
 
-  pub columns_counted : (p : Places) → width_of d + height_of d ≤ count_of p → (c : ℕ) → HasColumn (entries_in (rows d) r) c → c < count_of p
-  unfolding width_of height_of
-  columns_counted p l c h = let k = column_there c h in let i = k.0 in omega arith
+  -- an entry's column
+  pub entry_there : (c : ℕ) → HasNumber (numbers_of row) c → IsNonbasic d c
+  entry_there c h = column_there c (has_marked row (d.width + (d.height + 1)) d.width row_is c h)
 
-  module _ (p : Places) (w : Values) (rest : Rest d p w) where
-    pub values_there : AreValuesAt (entries_in (rows d) r) (place_values p) (columns_of d) w
-    unfolding width_of height_of basic_of
-    values_there = record {
-      numbers = rest.numbers;
-      inside = λ c h. let k = column_there c h in let i = k.0 in omega arith;
-      same = λ c h. let k = column_there c h in rest.values c k.0 (basic_below d.width (place d) c k.1);
-    }
+  pub told_numbers : numbers_of row ≡ entry_of d b
+  told_numbers = λ i c. said_there c i
 
-    pub sum_there : value_by (columns_of d) (number_in (entries_in (rows d) r)) w ≡ value_by (columns_of d) (entry_of d b) w
-    sum_there = total-same none (columns_of d) (λ c. product (number_in (entries_in (rows d) r) c) (w c)) (λ c. product (entry_of d b c) (w c)) (λ c. ap (λ (v : Ratio). product v (w c)) (said_there c))
-
-    pub fits_on : ValueFits (columns_of d) (number_in (entries_in (rows d) r)) w → ValueFits (columns_of d) (entry_of d b) w
-    fits_on = stated_same none (columns_of d) (number_in (entries_in (rows d) r)) (entry_of d b) w said_there
-
-    pub fits_off : ValueFits (columns_of d) (entry_of d b) w → ValueFits (columns_of d) (number_in (entries_in (rows d) r)) w
-    fits_off = stated_same none (columns_of d) (entry_of d b) (number_in (entries_in (rows d) r)) w (λ c. sym (said_there c))
+  pub values_there : (p : Places) (w : Values) → Rest d p w → AreValuesOf (numbers_of row) (place_values p) (columns_of d) w
+  values_there p w rest = record {
+    numbers = rest.numbers;
+    inside = λ c h. let n = entry_there c h in let i = n.inside in omega arith;
+    same = λ c h. let n = entry_there c h in rest.values c n.inside n.is;
+  }

@@ -1,67 +1,45 @@
 -- A dictionary in memory before and after a pivot.
-use Rattle.std.proofs.Common.{◌≡◌, ℕ, ◌+◌, ◌-◌, zero, suc, ◌*◌, ◌^◌, ◌<◌, ◌≤◌, ◌⊎◌, inl, inr, pos, Bool, true, false, IsTrue, List, [], ◌∷◌, length, slice_index, get_or, arith, refl, sym, ◌∙◌, ap, subst}
-use Rattle.rational.specs.Ratio.{Ratio}
+use Rattle.std.proofs.Common.{◌≡◌, ℕ, ◌+◌, ◌-◌, zero, suc, ◌<◌, ◌≤◌, pos, IsTrue, List, [], ◌∷◌, length, arith, refl, sym, ◌∙◌, ap, subst}
+use Rattle.rational.specs.Ratio.{Ratio, IsNumber}
+use Rattle.rational.specs.Width.{IsReduced}
 use Rattle.evidence.specs.Sums.{none}
+use Rattle.evidence.proofs.Columns.{by_eq, none-number}
+use Rattle.evidence.proofs.Fits.{whole-reduced}
 use Rattle.bases.specs.Dictionary.{Entries, IsDictionary}
 use Rattle.bases.specs.Pivot.{exchanged, IsPivoted, PivotFits}
 use Rattle.bases.proofs.Pivots.{pivoted_dictionary}
 use Rattle.bases.proofs.Lists.{same_basis}
 use Rattle.dictionary.specs.declared.dict.Dict.{Dict}
 use Rattle.dictionary.specs.declared.row.Row.{Row}
-use Rattle.dictionary.specs.Row.{entries_in, number_in, IsSparseRow, HasColumn, IsOver}
-use Rattle.dictionary.specs.Table.{IsTablePivot, IsWidePivot, PivotHasRoom, others_cost}
+use Rattle.dictionary.specs.Numbers.{HasNumber}
+use Rattle.dictionary.specs.Rows.{numbers_in, AreRows, IsOverPlaces, IsTableTurned, TableFits, PivotHasRoom, replacements_cost}
 use Rattle.dictionary.specs.Basis.{ArePlaces, ChangePlaces, basic_by, entries_by}
 use Rattle.dictionary.specs.Steps.{pivot_steps}
 use Rattle.dictionary.specs.Dict.{width_of, height_of, columns_of, basic_of, entry_of, IsLoaded, Holds, IsBasic, IsNonbasic}
-use Rattle.dictionary.proofs.Rows.{has_or_none}
-use Rattle.dictionary.proofs.Exchanges.{AreExchanged, place_basic, place_nonbasic, basic_after, places_after}
-use Rattle.dictionary.proofs.Rooms.{with_changed, exchange_of, pivot_room}
-use Rattle.dictionary.proofs.RowPivots.{ArePivoted, listed, pivoted, over_after}
-use Rattle.dictionary.proofs.Widths.{own_in, own_absent, pivot_fits, pivot_wide}
-use Rattle.dictionary.proofs.Bounds.{pivot_bound}
+use Rattle.dictionary.proofs.DictParts.{cols, place, past_list, all_columns, placed}
+use Rattle.dictionary.proofs.Exchanges.{AreExchanged, with_changed, exchange_of, place_basic, place_nonbasic, basic_after, places_after, solved_over, replaced_over}
+use Rattle.dictionary.proofs.RowForms.{numbers-number, numbers-reduced}
+use Rattle.dictionary.proofs.TurnedTables.{AreTurned, told, listed, pivoted, turned_fits, own_in, turn_room, turned_back, turn_cost}
 
-pub carry : {L : _} (P : List (Row L) → ℕ → Type 0) (R S : List (Row L)) (p q : ℕ) → R ≡ S → p ≡ q → P S q → P R p
-carry P R S p q e f h = subst (λ (X : List (Row _)). P X p) (sym e) (subst (λ j. P S j) (sym f) h)
+-- what holds of a table and a place holds of the same ones
+pub carried : {L : _} {G : _} (P : List (Row L G) → ℕ → Type 0) (x y : List (Row L G)) (p q : ℕ) → x ≡ y → p ≡ q → P y q → P x p
+carried P x y p q e f h = subst (λ (a : List (Row _ _)). P a p) (sym e) (subst (λ b. P y b) (sym f) h)
 
-abbrev pub cols : {L : _} {G : _} → Dict L G → ℕ → ℕ
-cols d = slice_index d.columns.items
+-- no row stands past the last
+pub beyond_rows : {L : _} {G : _} (rows : List (Row L G)) (r : ℕ) → length rows ≤ r → (c : ℕ) → numbers_in rows r c ≡ none
+beyond_rows [] r l c = refl
+beyond_rows (x ∷ xs) zero l c = absurd (omega arith)
+beyond_rows (x ∷ xs) (suc r) l c = beyond_rows xs r (omega arith) c
 
-abbrev pub place : {L : _} {G : _} → Dict L G → ℕ → ℕ
-place d = slice_index d.places.items
+pub table-number : {L : _} {G : _} (rows : List (Row L G)) (r c : ℕ) → IsNumber (numbers_in rows r c)
+table-number [] r c = none-number
+table-number (x ∷ xs) zero c = numbers-number x c
+table-number (x ∷ xs) (suc r) c = table-number xs r c
 
-abbrev pub rows : {L : _} {G : _} → Dict L G → List (Row L)
-rows d = d.rows.items
-
--- an element that was read
-pub same_number : (xs : List ℕ) (i x : ℕ) → i < length xs → x ≡ get_or xs i x → x ≡ slice_index xs i
-same_number [] i x h e = absurd (omega arith)
-same_number (y ∷ ys) zero x h e = e
-same_number (y ∷ ys) (suc i) x h e = same_number ys i x (omega arith) e
-
--- a list of numbers past its end
-pub past_list : (xs : List ℕ) (c : ℕ) → length xs ≤ c → slice_index xs c ≡ 0
-past_list [] c h = refl
-past_list (x ∷ xs) zero h = absurd (omega arith)
-past_list (x ∷ xs) (suc c) h = past_list xs c (omega arith)
-
-pub not_loaded : {L : _} {G : _} (d : Dict L G) → d.is_loaded ≡ false → IsLoaded d → ⊥
-unfolding IsLoaded
-not_loaded d e h = let f : false ≡ true = subst (λ (x : Bool). IsTrue x) e h.0 in absurd (cc)
-
--- the places that were lent, and the columns
-pub moved_there : {L : _} {G : _} (d : Dict L G) (b e : ℕ) (P C : List ℕ) (to : ℕ → ℕ) → P ≡ d.places.items → C ≡ d.columns.items → ChangePlaces (slice_index P b) (slice_index P e) (slice_index C) to → ChangePlaces (place d b) (place d e) (cols d) to
-moved_there d b e P C to ep ec h = subst (λ (X : List ℕ). ChangePlaces (slice_index X b) (slice_index X e) (cols d) to) ep (subst (λ (X : List ℕ). ChangePlaces (slice_index P b) (slice_index P e) (slice_index X) to) ec h)
-
-pub all_columns : {L : _} {G : _} (d : Dict L G) → columns_of d ≡ d.width + length d.rows.items
-unfolding width_of height_of
-all_columns d = let c = d.count in omega arith
-
-pub placed : {L : _} {G : _} (d : Dict L G) → ArePlaces (d.width + length d.rows.items) (cols d) (place d)
-placed d = subst (λ k. ArePlaces (d.width + k) (cols d) (place d)) (sym d.count) d.basis
-
-pub rows_over : {L : _} {G : _} (d : Dict L G) → IsLoaded d → (r : ℕ) → r < length d.rows.items → IsOver d.width (cols d) (entries_in (rows d) r)
-unfolding IsLoaded
-rows_over d h r l = h.1 r (let c = d.count in omega arith)
+pub table-reduced : {L : _} {G : _} (k n : ℕ) (rows : List (Row L G)) → AreRows k n rows → (r c : ℕ) → IsReduced (numbers_in rows r c)
+table-reduced k n [] are r c = whole-reduced (pos 0)
+table-reduced k n (x ∷ xs) are zero c = numbers-reduced x k n (are 0 x (omega arith) refl) c
+table-reduced k n (x ∷ xs) are (suc r) c = table-reduced k n xs (λ j v l e. are (suc j) v (omega arith) e) r c
 
 module _ {L : _} {G : _} (d : Dict L G) (b e : ℕ) (basic : IsBasic d b) (nonbasic : IsNonbasic d e) where
   pub b_inside : b < d.width + length d.rows.items
@@ -105,75 +83,114 @@ module _ {L : _} {G : _} (d : Dict L G) (b e : ℕ) (basic : IsBasic d b) (nonba
   b_apart h = let f = b_from in let g = e_below in let i = ap (place d) h in omega arith
 
   module _ (loaded : IsLoaded d) where
-    pub row_is : IsSparseRow (entries_in (rows d) (place d b - d.width))
-    row_is = let o = rows_over d loaded (place d b - d.width) (own_in d.width (cols d) (place d) (with_changed (place d b) (place d e) (cols d)) (with_changed b e (place d)) b e (rows d) before (rows_over d loaded)) in o.ascending
+    abbrev T : Entries
+    T = numbers_in d.rows.items
+
+    rows_over : (r : ℕ) → r < length d.rows.items → IsOverPlaces d.width (place d) (numbers_in d.rows.items r)
+    unfolding IsLoaded
+    rows_over r l = let o = loaded.1 in o.over r (let n = d.count in omega arith)
 
     pub row_inside : place d b - d.width < length d.rows.items
-    row_inside = own_in d.width (cols d) (place d) (with_changed (place d b) (place d e) (cols d)) (with_changed b e (place d)) b e (rows d) before (rows_over d loaded)
+    row_inside = own_in d.width (length d.rows.items) (cols d) (place d) (with_changed (place d b) (place d e) (cols d)) (with_changed b e (place d)) b e T before rows_over
 
-    pub row_absent : HasColumn (entries_in (rows d) (place d b - d.width)) b → ⊥
-    row_absent = own_absent d.width (cols d) (place d) (with_changed (place d b) (place d e) (cols d)) (with_changed b e (place d)) b e (rows d) before (rows_over d loaded)
+    pub row_absent : (numbers_in d.rows.items (place d b - d.width) b).num ≡ pos 0
+    row_absent = ap (λ (v : Ratio). v.num) (rows_over (place d b - d.width) row_inside b b_from)
 
-    pub row_stands : ((entry_of d b e).num ≡ pos 0 → ⊥) → HasColumn (entries_in (rows d) (place d b - d.width)) e
+    pub row_stands : ((entry_of d b e).num ≡ pos 0 → ⊥) → HasNumber (numbers_in d.rows.items (place d b - d.width)) e
     unfolding entry_of
-    row_stands nz = which (has_or_none (entries_in (rows d) (place d b - d.width)) e)
-      where
-        which : HasColumn (entries_in (rows d) (place d b - d.width)) e ⊎ (number_in (entries_in (rows d) (place d b - d.width)) e ≡ none) → HasColumn (entries_in (rows d) (place d b - d.width)) e
-        which (inl h) = h
-        which (inr z) = absurd (nz (ap (λ (v : Ratio). v.num) (listed d.width (place d) (rows d) b e b_from ∙ z)))
+    row_stands nz z = nz (ap (λ (v : Ratio). v.num) (listed d.width (place d) T b e b_from) ∙ z)
 
-    pub room_there : PivotHasRoom (place d b - d.width) b e (rows d) d.scratch
-    room_there = pivot_room d.width (cols d) (place d) (with_changed (place d b) (place d e) (cols d)) (with_changed b e (place d)) b e (rows d) before (rows_over d loaded) d.scratch d.room
+    pub room_there : ((entry_of d b e).num ≡ pos 0 → ⊥) → PivotHasRoom (d.width + length d.rows.items) (numbers_in d.rows.items) (place d b - d.width) b e (length d.rows.items) d.width
+    room_there nz = turn_room d.width (length d.rows.items) (cols d) (place d) (with_changed (place d b) (place d e) (cols d)) (with_changed b e (place d)) b e T before rows_over (row_stands nz)
 
-    pub never_fits : IsWidePivot (place d b - d.width) b e (rows d) → PivotFits (entry_of d) b e → ⊥
+    pub never_fits : ((entry_of d b e).num ≡ pos 0 → ⊥) → (TableFits (place d b - d.width) b e (numbers_in d.rows.items) (length d.rows.items) → ⊥) → PivotFits (entry_of d) b e → ⊥
     unfolding entry_of
-    never_fits = pivot_wide d.width (cols d) (place d) (with_changed (place d b) (place d e) (cols d)) (with_changed b e (place d)) b e (rows d) before (rows_over d loaded)
+    never_fits nz wide fits = wide (turned_back d.width (length d.rows.items) (cols d) (place d) (with_changed (place d b) (place d e) (cols d)) (with_changed b e (place d)) b e T before rows_over (table-number d.rows.items) (row_stands nz) row_absent fits)
 
-    pub fits_there : (out : List (Row L)) → length out ≡ length d.rows.items → IsTablePivot (place d b - d.width) b e (rows d) out → PivotFits (entry_of d) b e
+    pub bounded : (digits s t : ℕ) → t ≤ s + replacements_cost (d.width + length d.rows.items) (numbers_in d.rows.items) (numbers_in d.rows.items (place d b - d.width)) e (length d.rows.items) → t ≤ s + pivot_steps (columns_of d) (height_of d + 1) (entry_of d) b e digits
+    unfolding width_of height_of entry_of
+    bounded digits s t cost =
+        let a = turn_cost d.width (length d.rows.items) (cols d) (place d) (with_changed (place d b) (place d e) (cols d)) (with_changed b e (place d)) b e T before rows_over digits in
+        subst (λ m. t ≤ s + pivot_steps (d.width + m) m (entries_by d.width (place d) d.rows.items) b e digits) d.count (omega arith)
+
+    -- what fits of the table fits of the entries, whatever rows it is turned to
+    pub fits_there : (R : List (Row L G)) → AreRows (d.width + (d.height + 1)) d.width R → length R ≡ length d.rows.items → IsTableTurned (place d b - d.width) b e (numbers_in d.rows.items) (numbers_in R) (length d.rows.items) → ((entry_of d b e).num ≡ pos 0 → ⊥) → TableFits (place d b - d.width) b e (numbers_in d.rows.items) (length d.rows.items) → PivotFits (entry_of d) b e
     unfolding entry_of
-    fits_there out count pivot = pivot_fits d.width (cols d) (place d) (with_changed (place d b) (place d e) (cols d)) (with_changed b e (place d)) b e (rows d) out (record { exchanged = before; past = past_places; over = rows_over d loaded; count = count; pivot = pivot })
+    fits_there R are as_many turned nz = turned_fits d.width (length d.rows.items) (cols d) (place d) (with_changed (place d b) (place d e) (cols d)) (with_changed b e (place d)) b e T (numbers_in R) (record {
+      exchanged = before;
+      past = past_places;
+      numbers = table-number d.rows.items;
+      reduced = table-reduced (d.width + (d.height + 1)) d.width R are;
+      beyond = λ r c l. beyond_rows R r (omega arith) c;
+      stands = row_stands nz;
+      turned = turned;
+    })
 
-    -- the rows are pivoted, and the columns have exchanged their places
-    module _ (f : Dict L G) (width : f.width ≡ d.width) (height : f.height ≡ d.height) (flag : IsTrue f.is_loaded) (pivot : IsTablePivot (place d b - d.width) b e (rows d) (rows f)) (moved : ChangePlaces (place d b) (place d e) (cols d) (cols f)) (new : ChangePlaces b e (place d) (place f)) where
-      turned : ArePivoted d.width (cols d) (place d) (cols f) (place f) b e (rows d) (rows f)
-      turned = record {
+    -- the rows are turned, and the columns have exchanged their places
+    module _ (f : Dict L G) (width : f.width ≡ d.width) (height : f.height ≡ d.height) (turned : IsTableTurned (place d b - d.width) b e (numbers_in d.rows.items) (numbers_in f.rows.items) (length d.rows.items)) (moved : ChangePlaces (place d b) (place d e) (cols d) (cols f)) (new : ChangePlaces b e (place d) (place f)) (nz : (entry_of d b e).num ≡ pos 0 → ⊥) where
+      abbrev U : Entries
+      U = numbers_in f.rows.items
+
+      as_many : length f.rows.items ≡ length d.rows.items
+      as_many = let g = f.count in let h = d.count in omega arith
+
+      reduced_after : (r c : ℕ) → IsReduced (numbers_in f.rows.items r c)
+      reduced_after = table-reduced (f.width + (f.height + 1)) f.width f.rows.items f.rows_are
+
+      table : AreTurned d.width (length d.rows.items) (cols d) (place d) (cols f) (place f) b e T U
+      table = record {
         exchanged = after (cols f) (place f) moved new;
         past = past_places;
-        over = rows_over d loaded;
-        count = let g = f.count in let h = d.count in omega arith;
-        pivot = pivot;
+        numbers = table-number d.rows.items;
+        reduced = reduced_after;
+        beyond = λ r c l. beyond_rows f.rows.items r (let m = as_many in omega arith) c;
+        stands = row_stands nz;
+        turned = turned;
       }
 
       pub turned_basis : (c : ℕ) → basic_of f c ≡ exchanged (basic_of d) b e c
       unfolding basic_of
       turned_basis c = ap (λ n. basic_by n (place f) c) width ∙ basic_after d.width (d.width + length d.rows.items) (cols d) (place d) (cols f) (place f) b e (after (cols f) (place f) moved new) c
 
+      turned_table : IsPivoted (told d.width (place d) T) b e (told d.width (place f) U)
+      turned_table = pivoted d.width (length d.rows.items) (cols d) (place d) (cols f) (place f) b e T U table
+
       pub turned_entries : IsPivoted (entry_of d) b e (entry_of f)
       unfolding entry_of
-      turned_entries = subst (λ n. IsPivoted (entries_by d.width (place d) (rows d)) b e (entries_by n (place f) (rows f))) (sym width) (pivoted d.width (cols d) (place d) (cols f) (place f) b e (rows d) (rows f) turned)
+      turned_entries = subst (λ n. IsPivoted (entries_by d.width (place d) d.rows.items) b e (entries_by n (place f) f.rows.items)) (sym width) turned_table
 
-      turned_loaded : IsLoaded f
+      -- each row is over the columns that aren't basic then
+      over_after : (r : ℕ) → r < length d.rows.items → IsOverPlaces d.width (place f) (numbers_in f.rows.items r)
+      over_after r l =
+          let x = after (cols f) (place f) moved new in
+          let s = turned.own in
+          let mine = solved_over d.width (d.width + length d.rows.items) (cols d) (place d) (cols f) (place f) b e x (T (place d b - d.width)) (U (place d b - d.width)) (reduced_after (place d b - d.width)) (rows_over (place d b - d.width) row_inside) (row_stands nz) s in
+          by_eq r (place d b - d.width)
+          (λ h. subst (λ j. IsOverPlaces d.width (place f) (U j)) (sym h) mine)
+          (λ h. replaced_over d.width (d.width + length d.rows.items) (cols d) (place d) (cols f) (place f) b e x (T r) (U r) (reduced_after r) (rows_over r l) (U (place d b - d.width)) (table-number d.rows.items r e) mine (turned.others r l h))
+
+      turned_loaded : IsTrue f.is_loaded → IsLoaded f
       unfolding IsLoaded
-      turned_loaded = (flag, λ r l. subst (λ n. IsOver n (cols f) (entries_in (rows f) r)) (sym width) (over_after d.width (cols d) (place d) (cols f) (place f) b e (rows d) (rows f) turned r (let c = f.count in omega arith)))
+      turned_loaded flag = (
+        flag,
+        record {
+          rows_are = f.rows_are;
+          over = λ r l. subst (λ n. IsOverPlaces n (place f) (numbers_in f.rows.items r)) (sym width) (over_after r (let c = f.count in let m = as_many in omega arith));
+        },
+      )
 
-      turned_is : (A : Entries) → ((entry_of d b e).num ≡ pos 0 → ⊥) → IsDictionary (width_of d) (height_of d + 1) A (basic_of d) (entry_of d) → IsDictionary (width_of f) (height_of f + 1) A (basic_of f) (entry_of f)
+      turned_is : (A : Entries) → IsDictionary (width_of d) (height_of d + 1) A (basic_of d) (entry_of d) → IsDictionary (width_of f) (height_of f + 1) A (basic_of f) (entry_of f)
       unfolding width_of height_of basic_of entry_of
-      turned_is A nz h =
+      turned_is A h =
           let c = d.count in
           let l = all_columns d in
           let i = b_inside in
           let j = e_inside in
-          let v = entries_by d.width (place f) (rows f) in
-          let made = pivoted_dictionary d.width (d.height + 1) A (basic_by d.width (place d)) (entries_by d.width (place d) (rows d)) v b e (omega arith) (omega arith) basic.is nonbasic.is nz (pivoted d.width (cols d) (place d) (cols f) (place f) b e (rows d) (rows f) turned) h in
+          let v = entries_by d.width (place f) f.rows.items in
+          let made = pivoted_dictionary d.width (d.height + 1) A (basic_by d.width (place d)) (entries_by d.width (place d) d.rows.items) v b e (omega arith) (omega arith) basic.is nonbasic.is nz turned_table h in
           let same = same_basis d.width (d.height + 1) A (exchanged (basic_by d.width (place d)) b e) (basic_by d.width (place f)) v (λ q _. sym (basic_after d.width (d.width + length d.rows.items) (cols d) (place d) (cols f) (place f) b e (after (cols f) (place f) moved new) q)) made in
-          subst (λ n. IsDictionary n (f.height + 1) A (basic_by n (place f)) (entries_by n (place f) (rows f))) (sym width)
+          subst (λ n. IsDictionary n (f.height + 1) A (basic_by n (place f)) (entries_by n (place f) f.rows.items)) (sym width)
           (subst (λ m. IsDictionary d.width (m + 1) A (basic_by d.width (place f)) v) (sym height) same)
 
-      pub turned_holds : ((entry_of d b e).num ≡ pos 0 → ⊥) → (A : Entries) → Holds A d → Holds A f
-      turned_holds nz A h = record { loaded = turned_loaded; is = turned_is A nz h.is }
-
-    pub bounded : ((entry_of d b e).num ≡ pos 0 → ⊥) → (digits s t : ℕ) → width_of d < 2 ^ digits → (((r : ℕ) → r < length d.rows.items → length (entries_in (rows d) r) < 2 ^ digits) → t ≤ s + digits + 3 * (1 + length (entries_in (rows d) (place d b - d.width))) + others_cost (entries_in (rows d)) (place d b - d.width) (entries_in (rows d) (place d b - d.width)) e digits (length d.rows.items)) → t ≤ s + pivot_steps (columns_of d) (height_of d + 1) (entry_of d) b e digits
-    unfolding width_of height_of entry_of
-    bounded nz digits s t l cost =
-        let a = pivot_bound d.width (cols d) (place d) (with_changed (place d b) (place d e) (cols d)) (with_changed b e (place d)) b e (rows d) before (rows_over d loaded) digits s t (row_stands nz) l cost in
-        subst (λ m. t ≤ s + pivot_steps (d.width + m) m (entries_by d.width (place d) (rows d)) b e digits) d.count a
+      pub turned_holds : IsTrue f.is_loaded → (A : Entries) → Holds A d → Holds A f
+      turned_holds flag A h = record { loaded = turned_loaded flag; is = turned_is A h.is }

@@ -1,6 +1,6 @@
 -- Places of entries.
 use Rattle.std.proofs.Common.{◌≡◌, ℕ, zero, suc, ◌+◌, ◌*◌, ◌/◌, ◌^◌, ◌<◌, ◌≤◌, inl, inr, List, [], ◌∷◌, length, get_or, take, drop, arith, refl, sym, ◌∙◌, ap, subst}
-use Rattle.dictionary.specs.declared.row.Item.{Item}
+use Rattle.dictionary.specs.declared.fractions.Item.{Item}
 use Rattle.dictionary.specs.Row.{IsFrom, HasColumn, IsEntry}
 use Rattle.dictionary.proofs.Rows.{number_rest, number_head, has_above}
 

@@ -1,13 +1,16 @@
 -- Two columns change places: the one at x below n, and the one at y from n on.
-use Rattle.std.proofs.Common.{◌≡◌, ℕ, ◌<◌, ◌≤◌, ◌⊎◌, inl, inr, true, false, cond, nat_lt, List, arith, refl, sym, ◌∙◌, ap, subst}
-use Rattle.std.proofs.lemmas.Bool.{lt-ltb, le-ltb}
-use Rattle.rational.specs.Ratio.{Ratio}
+use Rattle.std.proofs.Common.{◌≡◌, ℕ, ◌<◌, ◌≤◌, true, false, cond, nat_eq, nat_lt, arith, refl, sym, ◌∙◌, ap, subst}
+use Rattle.std.proofs.lemmas.Bool.{lt-ltb, le-ltb, eq-eqb, ne_eqb}
+use Rattle.rational.specs.Ratio.{Ratio, sum, product, negative, inverse, quotient, IsNumber, IsSame}
+use Rattle.rational.specs.Width.{IsReduced}
+use Rattle.evidence.specs.Sums.{none}
+use Rattle.evidence.proofs.Numbers.{◌≈◌, ◌⊙◌, product-none, times_none, none-sum, negative-product}
+use Rattle.evidence.proofs.Inverses.{inverse-number}
+use Rattle.bases.proofs.Lists.{reduced_none}
 use Rattle.evidence.proofs.Columns.{by_eq, by_lt}
 use Rattle.bases.specs.Pivot.{exchanged}
 use Rattle.bases.proofs.Pivots.{exchanged_own, exchanged_left, exchanged_other}
-use Rattle.dictionary.specs.declared.row.Item.{Item}
-use Rattle.dictionary.specs.Row.{HasColumn, StandsBelow, IsOver}
-use Rattle.dictionary.specs.Table.{SolvesRow, IsReplacedRow}
+use Rattle.dictionary.specs.Rows.{IsOverPlaces, HasNumber, IsSolvedFor, IsReplacedBy}
 use Rattle.dictionary.specs.Basis.{ArePlaces, ChangePlaces, basic_by}
 
 changed_inside : (k x y : ℕ) (f g : ℕ → ℕ) → x < k → y < k → ChangePlaces x y f g → ((j : ℕ) → j < k → f j < k) → (j : ℕ) → j < k → g j < k
@@ -40,6 +43,16 @@ place_basic n place c h = by_lt (place c) n (λ l. let e : false ≡ true = sym 
 pub place_nonbasic : (n : ℕ) (place : ℕ → ℕ) (c : ℕ) → basic_by n place c ≡ false → place c < n
 place_nonbasic n place c h = by_lt (place c) n (λ l. l) (λ l. let e : true ≡ false = sym (basic_from n place c l) ∙ h in absurd (cc))
 
+-- a number that is said to be 0
+pub made_none : (y z : Ratio) → IsReduced y → IsSame y z → z ≈ none → y ≡ none
+made_none y z r is near =
+    let k : y ≈ z = record { left = r.0; right = near.left; is = is } in
+    let l = k ⊙ near in
+    reduced_none y r l.is
+
+pub zero_solved : (y : Ratio) → IsNumber (inverse y) → negative (quotient none y) ≈ none
+zero_solved y p = subst (λ (z : Ratio). z ≈ none) (negative-product none (inverse y)) (product-none (inverse y) p)
+
 -- b is at a place from n on, e at one below, and they change places
 pub record AreExchanged (n k : ℕ) (at place to new : ℕ → ℕ) (b e : ℕ) : Type 0 where
   pub places : ArePlaces k at place
@@ -50,6 +63,29 @@ pub record AreExchanged (n k : ℕ) (at place to new : ℕ → ℕ) (b e : ℕ) 
   pub e_below : place e < n
   pub moved : ChangePlaces (place b) (place e) at to
   pub placed : ChangePlaces b e place new
+
+abbrev pub with_changed : ℕ → ℕ → (ℕ → ℕ) → ℕ → ℕ
+with_changed x y f j = cond (nat_eq j x) (f y) (cond (nat_eq j y) (f x) (f j))
+
+changed : (x y : ℕ) (f : ℕ → ℕ) → (x ≡ y → ⊥) → ChangePlaces x y f (with_changed x y f)
+changed x y f d = record {
+  first = rw (eq-eqb x x refl) refl;
+  second = rw (ne_eqb y x (λ e. d (sym e)), eq-eqb y y refl) refl;
+  other = λ j a b. rw (ne_eqb j x a, ne_eqb j y b) refl;
+}
+
+-- the columns' places with b and e exchanged
+pub exchange_of : (n k : ℕ) (at place : ℕ → ℕ) (b e : ℕ) → ArePlaces k at place → n ≤ k → b < k → e < k → n ≤ place b → place e < n → AreExchanged n k at place (with_changed (place b) (place e) at) (with_changed b e place) b e
+exchange_of n k at place b e places within b_in e_in b_from e_below = record {
+  places = places;
+  within = within;
+  b_in = b_in;
+  e_in = e_in;
+  b_from = b_from;
+  e_below = e_below;
+  moved = changed (place b) (place e) at (λ h. omega arith);
+  placed = changed b e place (λ h. let g : place b ≡ place e = subst (λ j. place b ≡ place j) h refl in omega arith);
+}
 
 module _ (n k : ℕ) (at place to new : ℕ → ℕ) (b e : ℕ) (x : AreExchanged n k at place to new b e) where
   pub apart : b ≡ e → ⊥
@@ -95,47 +131,20 @@ module _ (n k : ℕ) (at place to new : ℕ → ℕ) (b e : ℕ) (x : AreExchang
       (λ h. ap (λ j. basic_by n new j) h ∙ basic_below n new b (let f = new_b in let g = x.e_below in omega arith) ∙ sym (exchanged_left (basic_by n place) b e c d h))
       (λ h. ap (λ j. cond (nat_lt j n) false true) (new_other c h d) ∙ sym (exchanged_other (basic_by n place) b e c d h)))
 
-  -- a column that isn't basic, and isn't the one that comes in, stands where it stood
-  stays : (c : ℕ) → (c ≡ e → ⊥) → StandsBelow n at c → StandsBelow n to c
-  stays c d s = record {
-    place = s.place;
-    inside = s.inside;
-    is =
-        let m = x.moved in let p = x.places in let f = x.b_from in let i = s.inside in
-        m.other s.place (λ h. omega arith) (λ h. d (sym s.is ∙ ap at h ∙ p.at_place e x.e_in)) ∙ s.is;
-  }
+  -- a row with numbers at the first n places alone: solved, and then put into others, it leaves them so
+  module _ (row : ℕ → Ratio) (out : ℕ → Ratio) (reduced : (c : ℕ) → IsReduced (out c)) (over : IsOverPlaces n place row) where
+    not_b : (c : ℕ) → n ≤ new c → c ≡ b → ⊥
+    not_b c h i = let l = ap new i in let f = new_b in let g = x.e_below in omega arith
 
-  comes : StandsBelow n to b
-  comes = record { place = place e; inside = x.e_below; is = to_b }
+    was_none : (c : ℕ) → n ≤ new c → (c ≡ e → ⊥) → row c ≡ none
+    was_none c h d = over c (let f = new_other c (not_b c h) d in omega arith)
 
-  -- a basic column isn't in a row
-  pub no_basic : (xs : List Item) → IsOver n at xs → HasColumn xs b → ⊥
-  no_basic xs o h =
-      let s = o.columns b h in let p = x.places in let i = s.inside in let w = x.within in let f = x.b_from in
-      let j = one_place k at place p s.place (place b) (omega arith) b_place (s.is ∙ sym (p.at_place b x.b_in)) in
-      omega arith
+    pub solved_over : HasNumber row e → IsSolvedFor row b e out → IsOverPlaces n new out
+    solved_over stands s c h = by_eq c e (λ i. ap out i ∙ s.gone)
+        (λ d. made_none (out c) (negative (quotient none (row e))) (reduced c) (subst (λ (v : Ratio). IsSame (out c) (negative (quotient v (row e)))) (was_none c h d) (s.others c d (not_b c h))) (zero_solved (row e) (inverse-number (row e) stands)))
 
-  pub no_entering : (xs : List Item) → IsOver n to xs → HasColumn xs e → ⊥
-  no_entering xs o h =
-      let s = o.columns e h in let i = s.inside in let w = x.within in let f = x.b_from in
-      let j = one_place k to new places_after s.place (place b) (omega arith) b_place (s.is ∙ sym to_e) in
-      omega arith
-
-  pub solved_over : (row out : List Item) (t : Ratio) → IsOver n at row → SolvesRow row t b e out → IsOver n to out
-  solved_over row out t o s = record { ascending = s.ascending; columns = λ c h. let j = s.columns c h in which c j.0 j.1 }
-    where
-      which : (c : ℕ) → (c ≡ e → ⊥) → (c ≡ b) ⊎ HasColumn row c → StandsBelow n to c
-      which c d (inl h) = subst (λ j. StandsBelow n to j) (sym h) comes
-      which c d (inr h) = stays c d (o.columns c h)
-
-  -- so are all columns of two rows but the one that comes in
-  pub joined_over : (row by : List Item) → IsOver n at row → IsOver n to by → (c : ℕ) → (c ≡ e → ⊥) × (HasColumn row c ⊎ HasColumn by c) → StandsBelow n to c
-  joined_over row by o p c h = which h.0 h.1
-    where
-      which : (c ≡ e → ⊥) → HasColumn row c ⊎ HasColumn by c → StandsBelow n to c
-      which d (inl i) = stays c d (o.columns c i)
-      which d (inr i) = p.columns c i
-
-  pub replaced_over : (row by out : List Item) → IsOver n at row → IsOver n to by → IsReplacedRow row by e out → IsOver n to out
-  replaced_over row by out o p (inl c) = let m = c.merged in record { ascending = m.ascending; columns = λ j h. joined_over row by o p j (m.columns j h) }
-  replaced_over row by out o p (inr s) = subst (λ (y : List Item). IsOver n to y) (sym s.1) (record { ascending = o.ascending; columns = λ j h. stays j (λ d. s.0 (subst (λ i. HasColumn row i) d h)) (o.columns j h) })
+    pub replaced_over : (by : ℕ → Ratio) → IsNumber (row e) → IsOverPlaces n new by → IsReplacedBy row by e out → IsOverPlaces n new out
+    replaced_over by number after s c h = by_eq c e (λ i. ap out i ∙ s.gone)
+        (λ d. made_none (out c) (sum none (product (row e) none)) (reduced c)
+        (subst (λ (v : Ratio). IsSame (out c) (sum none (product (row e) v))) (after c h) (subst (λ (v : Ratio). IsSame (out c) (sum v (product (row e) (by c)))) (was_none c h d) (s.others c d)))
+        (subst (λ (v : Ratio). v ≈ none) (sym (none-sum (product (row e) none))) (times_none (row e) number)))

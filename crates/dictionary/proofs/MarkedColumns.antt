@@ -7,7 +7,7 @@ use Rattle.dictionary.specs.declared.dict.Dict.{Dict}
 use Rattle.dictionary.specs.Basis.{AreMarked, ChangePlaces, basic_by}
 use Rattle.dictionary.specs.Dict.{width_of, height_of, basic_of, IsLoaded, IsBasic, IsNonbasic}
 use Rattle.dictionary.proofs.Exchanges.{basic_below, basic_from, place_basic, place_nonbasic}
-use Rattle.dictionary.proofs.DictPivots.{place}
+use Rattle.dictionary.proofs.DictParts.{place}
 
 -- each column stands at the place of its number, and those from n on are marked
 pub rows_marked : (k n : ℕ) (at : ℕ → ℕ) (m : Marks) → ((c : ℕ) → c < k → at c ≡ c) → ((c : ℕ) → c < n → is_marked m c ≡ false) → ((c : ℕ) → n ≤ c → c < k → is_marked m c ≡ true) → ((c : ℕ) → k ≤ c → is_marked m c ≡ false) → AreMarked k n at m

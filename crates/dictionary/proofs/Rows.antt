@@ -17,9 +17,8 @@ use Rattle.evidence.specs.Width.{TermFits}
 use Rattle.evidence.proofs.Columns.{none-number, by_eq}
 use Rattle.evidence.proofs.Fits.{whole-reduced}
 use Rattle.evidence.proofs.Numbers.{sum-none, none-sum, product-number}
-use Rattle.dictionary.specs.declared.row.Item.{Item}
+use Rattle.dictionary.specs.declared.fractions.Item.{Item}
 use Rattle.dictionary.specs.Row.{item_at, number_in, IsFrom, HasColumn}
-use Rattle.dictionary.specs.Merge.{IsBeforeItems}
 
 -- a fraction's number fits, in each of its forms
 pub made_fits : (f : Frac) (x : Ratio) → IsNumber x → IsSame (ratio f) x → ReducedFits x
@@ -79,10 +78,6 @@ from_high low high more (x ∷ xs) l h = (h.0, h.1, from_high (x.col + 1) high m
 pub from_append : (low mid : ℕ) (xs : List Item) (z : Item) → mid ≤ z.col → (z.value.numer ≡ pos 0 → ⊥) → IsFrom low mid xs → IsFrom low (z.col + 1) (xs ++ z ∷ [])
 from_append low mid [] z l n h = (omega arith, n, omega arith)
 from_append low mid (x ∷ xs) z l n h = (h.0, h.1, from_append (x.col + 1) mid xs z l n h.2)
-
-pub before_from : (c low high : ℕ) (xs : List Item) → c < high → IsBeforeItems c xs → IsFrom low high xs → IsFrom (c + 1) high xs
-before_from c low high [] l b h = omega arith
-before_from c low high (x ∷ xs) l b h = (omega arith, h.1, h.2)
 
 pub no_item : (x : Item) (c : ℕ) → (x.col ≡ c → ⊥) → item_at x c ≡ none
 no_item x c h = rw (ne_eqb x.col c h) refl

@@ -5,7 +5,7 @@ use Rattle.bases.specs.Dictionary.{Entries}
 use Rattle.marks.specs.declared.marks.Marks.{Marks}
 use Rattle.marks.specs.Marks.{is_marked}
 use Rattle.dictionary.specs.declared.row.Row.{Row}
-use Rattle.dictionary.specs.Row.{entries_in, number_in}
+use Rattle.dictionary.specs.Rows.{numbers_in}
 
 -- the columns below k have places below k, and each place its column
 pub record ArePlaces (k : ℕ) (at place : ℕ → ℕ) : Type 0 where
@@ -24,8 +24,8 @@ pub record AreMarked (k n : ℕ) (place : ℕ → ℕ) (m : Marks) : Type 0 wher
   pub past : (c : ℕ) → k ≤ c → is_marked m c ≡ false
 
 -- the entry of column c in the equation of basic column b, which is the row at its place
-abbrev pub entries_by : {L : _} → ℕ → (ℕ → ℕ) → List (Row L) → Entries
-entries_by n place rows b c = cond (nat_lt (place b) n) none (number_in (entries_in rows (place b - n)) c)
+abbrev pub entries_by : {L : _} {G : _} → ℕ → (ℕ → ℕ) → List (Row L G) → Entries
+entries_by n place rows b c = cond (nat_lt (place b) n) none (numbers_in rows (place b - n) c)
 
 -- the columns at places x and y have changed them
 pub record ChangePlaces (x y : ℕ) (at to : ℕ → ℕ) : Type 0 where

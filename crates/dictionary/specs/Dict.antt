@@ -6,7 +6,7 @@ use Rattle.evidence.specs.Point.{value_at}
 use Rattle.bases.specs.Dictionary.{Entries, Values, IsDictionary}
 use Rattle.dictionary.specs.declared.dict.Dict.{Dict}
 use Rattle.dictionary.specs.declared.places.Places.{Places}
-use Rattle.dictionary.specs.Row.{entries_in, IsOver}
+use Rattle.dictionary.specs.Rows.{AreOver}
 use Rattle.dictionary.specs.Basis.{basic_by, entries_by}
 
 -- how many variables and rows, and how many columns with the goal's
@@ -36,7 +36,7 @@ entry_of d = entries_by d.width (slice_index d.places.items) d.rows.items
 
 -- it is loaded: each row has entries of columns that aren't basic alone
 unfoldable pub IsLoaded : {L : _} {G : _} → Dict L G → Type 0
-IsLoaded d = IsTrue d.is_loaded × ((r : ℕ) → r < d.height + 1 → IsOver d.width (slice_index d.columns.items) (entries_in d.rows.items r))
+IsLoaded d = IsTrue d.is_loaded × AreOver d.width (d.height + 1) (slice_index d.places.items) d.rows.items
 
 -- it is loaded, and is the dictionary of its basis for these rows, the goal's being the last
 pub record Holds {L : _} {G : _} (A : Entries) (d : Dict L G) : Type 0 where

@@ -5,10 +5,11 @@ pub use Rattle.bases.specs.Order
 pub use Rattle.bases.specs.Pivot
 pub use Rattle.instance.specs.Parts
 pub mod Row
-pub mod Merge
-pub mod Table
+pub mod Lowest
+pub mod Numbers
+pub mod Rows
 pub mod Basis
 pub mod ProgramRows
-pub mod Value
+pub mod Scratch
 pub mod Steps
 pub mod Dict

@@ -1,15 +1,15 @@
 // A dictionary in memory.
-ghost use Rattle.std.specs.Prelude.{◌≡◌, ℕ, ◌+◌, ◌<◌, ◌≤◌, ◌^◌, true, false, length, slice_index, IfOk};
+ghost use Rattle.std.specs.Prelude.{◌≡◌, ℕ, ◌+◌, ◌<◌, ◌≤◌, ◌^◌, pos, true, false, length, slice_index, IfOk};
 ghost use Rattle.marks.specs.Marks.{is_marked, size_of};
-ghost use Rattle.dictionary.specs.Row.{room_of, HaveRoom, RowsHaveRoom};
+ghost use Rattle.dictionary.specs.Rows.{numbers_of, IsRow, IsRow-prop, AreRows, AreRows-prop};
 ghost use Rattle.dictionary.specs.Basis.{ArePlaces, AreMarked};
 
 use crate::basis::{exchange, make_numbers, number};
-use crate::finding::{number_at, number_near};
 use crate::loading::load_rows;
 use crate::pivoting::pivot_rows;
 use crate::places::Places;
 use crate::row::Row;
+use crate::scratch::Scratch;
 use crate::steps::Steps;
 use crate::value::sum_row;
 use fraction::{Entry, Frac, Wide};
@@ -27,15 +27,17 @@ pub struct Dict<L: Ledger> {
     width: u32,
     height: u32,
     rows: Vec<Row<L>>,
-    lead: Row<L>,
-    scratch: Row<L>,
+    own: Row<L>,
+    scratch: Scratch,
     columns: Vec<u32>,
     places: Vec<u32>,
     basic: Marks,
     is_loaded: bool,
     ghost count: { length rows.items ≡ height + 1 },
-    ghost room: { HaveRoom width rows.items scratch },
-    ghost lead_room: { 0 < room_of lead },
+    ghost rows_are: { AreRows (width + (height + 1)) width rows.items } by { AreRows-prop (width + (height + 1)) width rows.items },
+    ghost own_is: { IsRow (width + (height + 1)) width own } by { IsRow-prop (width + (height + 1)) width own },
+    ghost own_empty: { is_loaded ≡ true → (c : ℕ) → (numbers_of own c).num ≡ pos 0 },
+    ghost scratch_count: { length scratch.values.items ≡ width + (height + 1) },
     ghost columns_count: { length columns.items ≡ width + (height + 1) },
     ghost places_count: { length places.items ≡ width + (height + 1) },
     ghost basis: { ArePlaces (width + (height + 1)) (slice_index columns.items) (slice_index places.items) },
@@ -62,21 +64,23 @@ fn mark_rows(basic: &mut Marks, width: u32, height: u32)
 
 fn make_rows<L: Ledger>(
     alloc: Global,
+    columns: usize,
     width: usize,
     count: usize,
 ) -> Result<Vec<Row<L>>, AllocError>
+    requires { columns ≤ 2 ^ 32 }
     ensures count { IfOk result (λ v. length v.items ≡ count) }
-    ensures room { IfOk result (λ v. RowsHaveRoom width v.items) }
+    ensures rows { IfOk result (λ v. AreRows columns width v.items) }
 {
     let mut rows = Vec::with_capacity(alloc, count)?;
     for _r in 0..count {
-        rows.push(Row::with_room(alloc, width)?)?;
+        rows.push(Row::with_room(alloc, columns, width)?)?;
     }
     Ok(rows)
 }
 
 impl<L: Ledger> Dict<L> {
-    ghost use Rattle.std.specs.Prelude.{◌≢◌, ◌-◌, pos, OnErr};
+    ghost use Rattle.std.specs.Prelude.{◌≢◌, ◌-◌, OnErr, IfSome, MatchOption, int_lt};
     ghost use Rattle.std.specs.List.{All};
     ghost use Rattle.rational.specs.Ratio.{IsSame};
     ghost use Rattle.fraction.specs.Frac.{ratio};
@@ -84,7 +88,9 @@ impl<L: Ledger> Dict<L> {
     ghost use Rattle.bases.specs.Dictionary.{Entries, Values, value_by};
     ghost use Rattle.bases.specs.Program.{is_fresh};
     ghost use Rattle.bases.specs.Pivot.{exchanged, IsPivoted, PivotFits, ValueFits};
+    ghost use Rattle.marks.specs.Words.{IsFirst, HasNone};
     ghost use Rattle.dictionary.specs.ProgramRows.{program_rows};
+    ghost use Rattle.dictionary.specs.Rows.{has_number};
     ghost use Rattle.dictionary.specs.Steps.{nonzeros, pivot_steps};
     ghost use Rattle.dictionary.specs.Dict.{width_of, height_of, columns_of, column_standing, place_of_column, basic_of, entry_of, IsLoaded, Holds, IsBasic, IsNonbasic, HaveOneSize, count_of, Rest};
 
@@ -99,17 +105,17 @@ impl<L: Ledger> Dict<L> {
         if room + count > 1 << 32 {
             return Err(AllocError);
         }
-        let rows = make_rows(alloc, room, count)?;
-        let lead = Row::with_room(alloc, 1)?;
-        let scratch = Row::with_room(alloc, room)?;
+        let rows = make_rows(alloc, room + count, room, count)?;
+        let own = Row::with_room(alloc, room + count, room)?;
+        let scratch = Scratch::with_size(alloc, room + count)?;
+        let basic = Marks::with_size(alloc, room + count)?;
         let columns = make_numbers(alloc, room + count)?;
         let places = make_numbers(alloc, room + count)?;
-        let basic = Marks::with_size(alloc, room + count)?;
         Ok(Dict {
             width,
             height,
             rows,
-            lead,
+            own,
             scratch,
             columns,
             places,
@@ -133,7 +139,8 @@ impl<L: Ledger> Dict<L> {
         let rows = self.rows.as_mut_slice();
         let columns = self.columns.as_mut_slice();
         let places = self.places.as_mut_slice();
-        load_rows(rows, matrix, costs, factor, steps);
+        self.own.clear();
+        load_rows(rows, matrix, costs, factor, &mut self.scratch, steps);
         number(columns);
         number(places);
         mark_rows(&mut self.basic, self.width, self.height);
@@ -173,7 +180,7 @@ impl<L: Ledger> Dict<L> {
         let rows = self.rows.as_mut_slice();
         pivot_rows(
             rows,
-            &mut self.lead,
+            &mut self.own,
             &mut self.scratch,
             p,
             basic,
@@ -218,7 +225,7 @@ impl<L: Ledger> Dict<L> {
         ensures counted { steps.old ≤ steps.new }
     {
         let r = self.row_of(basic);
-        number_at(&self.rows[r], nonbasic, steps)
+        self.rows[r].value(nonbasic, steps)
     }
 
     /// The goal's entry at a column that isn't basic, by a search too.
@@ -229,11 +236,11 @@ impl<L: Ledger> Dict<L> {
         ensures cost { (b : ℕ) → width_of self.now < 2 ^ b → steps.new ≤ steps.old + b }
         ensures counted { steps.old ≤ steps.new }
     {
-        number_at(&self.rows[self.height as usize], nonbasic, steps)
+        self.rows[self.height as usize].value(nonbasic, steps)
     }
 
-    /// The entry of a column that isn't basic in the equation of a basic one, the goal's too, as the others tell it. Where columns
-    /// are asked for in ascending order, from the place 0 on, each is found at once. Else there is a search after three steps.
+    /// The entry of a column that isn't basic in the equation of a basic one, the goal's too, as the others tell it. A row in common
+    /// form has it at hand, and in one of fractions it is searched. The place is the caller's, and stays as it is.
     pub fn entry_near(
         &self,
         row: u32,
@@ -249,8 +256,51 @@ impl<L: Ledger> Dict<L> {
         ensures cost { (b : ℕ) → width_of self.now < 2 ^ b → steps.new ≤ steps.old + 3 + b }
         ensures counted { steps.old ≤ steps.new }
     {
+        let _place = place;
         let r = self.row_of(row);
-        number_near(&self.rows[r], nonbasic, place, steps)
+        self.rows[r].value(nonbasic, steps)
+    }
+
+    /// Whether a column that isn't basic has an entry in the equation of a basic one, the goal's too.
+    #[inline]
+    pub fn has_entry(&self, row: u32, nonbasic: u32) -> bool
+        requires loaded { IsLoaded self.now }
+        requires row { row < columns_of self.now }
+        requires basic { basic_of self.now row ≡ true }
+        requires nonbasic { IsNonbasic self.now nonbasic }
+        ensures { result ≡ has_number (entry_of self.now row) nonbasic }
+    {
+        let r = self.row_of(row);
+        self.rows[r].has(nonbasic)
+    }
+
+    /// The first column from this one on that has an entry in the equation of a basic one, the goal's too. It isn't basic.
+    #[inline]
+    pub fn next_entry(&self, row: u32, from: u32) -> Option<u32>
+        requires loaded { IsLoaded self.now }
+        requires row { row < columns_of self.now }
+        requires basic { basic_of self.now row ≡ true }
+        ensures first { MatchOption result (HasNone (has_number (entry_of self.now row)) from) (IsFirst (has_number (entry_of self.now row)) from) }
+        ensures nonbasic { IfSome result (λ c. IsNonbasic self.now c) }
+    {
+        let r = self.row_of(row);
+        self.rows[r].marks.next(from)
+    }
+
+    /// The sign of an entry: a number below 0, 0, or one above it.
+    #[inline]
+    pub fn entry_sign(&self, row: u32, nonbasic: u32, steps: &mut Steps<L>) -> i64
+        requires loaded { IsLoaded self.now }
+        requires row { row < columns_of self.now }
+        requires basic { basic_of self.now row ≡ true }
+        requires nonbasic { IsNonbasic self.now nonbasic }
+        ensures above { int_lt (pos 0) result ≡ int_lt (pos 0) (entry_of self.now row nonbasic).num }
+        ensures below { int_lt result (pos 0) ≡ int_lt (entry_of self.now row nonbasic).num (pos 0) }
+        ensures cost { (b : ℕ) → width_of self.now < 2 ^ b → steps.new ≤ steps.old + b }
+        ensures counted { steps.old ≤ steps.new }
+    {
+        let r = self.row_of(row);
+        self.rows[r].sign(nonbasic, steps)
     }
 
     /// The basic columns of variables and rows as a set, which goes over them in ascending order.

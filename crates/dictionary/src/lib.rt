@@ -14,16 +14,19 @@
 #![tactic(auto)]
 
 mod basis;
+mod changing;
 mod dict;
 mod finding;
+mod fractions;
 mod laws;
 mod loading;
-mod merging;
 mod numbers;
 mod pivoting;
 mod places;
 mod replacing;
 mod row;
+mod scratch;
+mod settling;
 mod solving;
 mod steps;
 mod value;

@@ -1,13 +1,19 @@
 // The rows of a program in a table.
-ghost use Rattle.std.specs.Prelude.{◌≡◌, ◌≢◌, ℕ, ◌+◌, ◌-◌, ◌<◌, ◌≤◌, ◌^◌, pos, [], length};
+ghost use Rattle.std.specs.Prelude.{◌≡◌, ℕ, ◌+◌, ◌-◌, ◌<◌, ◌≤◌, true, false, length};
 ghost use Rattle.std.specs.List.{All};
 ghost use Rattle.fraction.specs.Frac.{ratio, ratios};
+ghost use Rattle.evidence.specs.Instance.{entry_at};
 ghost use Rattle.evidence.specs.Point.{value_at};
 ghost use Rattle.instance.specs.Parts.{IsAscending, IsInside};
-ghost use Rattle.dictionary.specs.Row.{entries_of, room_of, entries_in, RowsHaveRoom};
-ghost use Rattle.dictionary.specs.ProgramRows.{times_sign, program_rows, row_items, IsPut, IsRowOf, AreRowsOf};
+ghost use Rattle.instance.specs.Program.{entries};
+ghost use Rattle.dictionary.specs.Rows.{numbers_in, AreRows};
+ghost use Rattle.dictionary.specs.ProgramRows.{times_sign, program_rows, IsRowAt, IsOtherRowAt, BeginsAt};
+ghost use Rattle.dictionary.specs.Scratch.{found_at, AreFound};
+ghost use Rattle.dictionary.specs.Steps.{nonzeros};
 
-use crate::row::{Item, Row};
+use crate::row::Row;
+use crate::scratch::Scratch;
+use crate::settling::settle;
 use crate::steps::Steps;
 use fraction::{Entry, Frac};
 use instance::zero;
@@ -26,61 +32,49 @@ fn times_factor(factor: i8, cost: Frac) -> Frac
     }
 }
 
-fn clear_rows<L: Ledger>(rows: &mut [Row<L>])
-    ensures cleared { (r : ℕ) → entries_in rows.new r ≡ [] }
-    ensures room { (n : ℕ) → RowsHaveRoom n rows.old → RowsHaveRoom n rows.new }
+/// Whether the entry at a place is one of this row.
+fn is_of(matrix: &[Entry], k: usize, row: u32) -> bool
+    ensures inside { result ≡ true → k < length matrix.now }
+    ensures yes { result ≡ true → IsRowAt matrix.now k row }
+    ensures no { result ≡ false → IsOtherRowAt matrix.now k row }
 {
-    for r in 0..rows.len() {
-        rows[r].clear();
+    if k >= matrix.len() {
+        return false;
     }
+    matrix[k].row == row
 }
 
-/// Puts the entries into rows that have none.
-fn put_entries<L: Ledger>(rows: &mut [Row<L>], matrix: &[Entry], width: usize, steps: &mut Steps<L>)
-    requires cleared { (r : ℕ) → entries_in rows.old r ≡ [] }
+/// Gives columns the values of a row's entries, which begin at `start`: where they end.
+fn gather(matrix: &[Entry], start: usize, row: u32, scratch: &mut Scratch) -> usize
+    requires columns { (m n : ℕ) × All (IsInside m n) matrix.now × (n < length scratch.old.values.items) }
     requires ascending { IsAscending matrix.now }
-    requires inside { All (IsInside (length rows.old - 1) width) matrix.now }
-    requires room { RowsHaveRoom width rows.old }
-    ensures put { (r : ℕ) → entries_in rows.new r ≡ row_items r matrix.now }
-    ensures room { (n : ℕ) → RowsHaveRoom n rows.old → RowsHaveRoom n rows.new }
-    ensures cost { steps.new ≡ steps.old + length matrix.now }
+    requires begun { BeginsAt matrix.now row start }
+    ensures ended { BeginsAt matrix.now (row + 1) result }
+    ensures count { length scratch.new.values.items ≡ length scratch.old.values.items }
+    ensures found { AreFound scratch.new }
+    ensures is { (c : ℕ) → found_at scratch.new c ≡ entry_at (entries matrix.now) row c }
+    ensures few { start + nonzeros (length scratch.old.values.items) (found_at scratch.new) ≤ result }
 {
-    for k in 0..matrix.len() {
+    scratch.clear();
+    let mut k = start;
+    while is_of(matrix, k, row) {
         let e = matrix[k];
-        let item = Item {
-            col: e.col,
-            value: e.value,
-        };
-        rows[e.row as usize].write(item, steps);
+        scratch.put(e.col, e.value);
+        k += 1;
     }
+    k
 }
 
-/// Puts a number at the end of a row, where it isn't 0.
-fn put_cost<L: Ledger>(row: &mut Row<L>, col: u32, value: Frac, steps: &mut Steps<L>)
-    requires { value.numer ≢ pos 0 → length (entries_of row.old) < room_of row.old }
-    ensures is { IsPut col value (entries_of row.old) (entries_of row.new) }
-    ensures room { room_of row.old ≤ room_of row.new }
-    ensures cost { steps.new ≤ steps.old + 1 }
-    ensures counted { steps.old ≤ steps.new }
+/// Gives columns the costs, times the factor.
+fn gather_costs(costs: &[Frac], factor: i8, scratch: &mut Scratch)
+    requires { length costs.now < length scratch.old.values.items }
+    ensures count { length scratch.new.values.items ≡ length scratch.old.values.items }
+    ensures found { AreFound scratch.new }
+    ensures is { (c : ℕ) → found_at scratch.new c ≡ times_sign factor (value_at (ratios costs.now) c) }
 {
-    if value.numer != 0 {
-        row.write(Item { col, value }, steps);
-    }
-}
-
-/// Puts the costs that aren't 0, times the factor, into a row that has no entries.
-fn put_costs<L: Ledger>(row: &mut Row<L>, costs: &[Frac], factor: i8, steps: &mut Steps<L>)
-    requires cleared { entries_of row.old ≡ [] }
-    requires few { length costs.now ≤ 2 ^ 32 }
-    requires room { length costs.now ≤ room_of row.old }
-    ensures put { IsRowOf (length costs.now) (λ c. times_sign factor (value_at (ratios costs.now) c)) (entries_of row.new) }
-    ensures room { room_of row.old ≤ room_of row.new }
-    ensures cost { steps.new ≤ steps.old + length costs.now }
-    ensures counted { steps.old ≤ steps.new }
-{
+    scratch.clear();
     for j in 0..costs.len() {
-        let value = times_factor(factor, costs[j]);
-        put_cost(row, j as u32, value, steps);
+        scratch.put(j as u32, times_factor(factor, costs[j]));
     }
 }
 
@@ -90,20 +84,26 @@ pub fn load_rows<L: Ledger>(
     matrix: &[Entry],
     costs: &[Frac],
     factor: i8,
+    scratch: &mut Scratch,
     steps: &mut Steps<L>,
 )
     requires goal { 0 < length rows.old }
     requires ascending { IsAscending matrix.now }
     requires inside { All (IsInside (length rows.old - 1) (length costs.now)) matrix.now }
-    requires few { length costs.now ≤ 2 ^ 32 }
-    requires room { RowsHaveRoom (length costs.now) rows.old }
-    ensures rows { AreRowsOf (length costs.now) (length rows.old) (program_rows matrix.now costs.now factor (length rows.old - 1)) rows.new }
-    ensures room { (n : ℕ) → RowsHaveRoom n rows.old → RowsHaveRoom n rows.new }
+    requires columns { length scratch.old.values.items ≡ length costs.now + length rows.old }
+    requires rows { AreRows (length costs.now + length rows.old) (length costs.now) rows.old }
+    ensures rows { AreRows (length costs.now + length rows.old) (length costs.now) rows.new }
+    ensures numbers { (r c : ℕ) → r < length rows.old → numbers_in rows.new r c ≡ program_rows matrix.now costs.now factor (length rows.old - 1) r c }
+    ensures count { length scratch.new.values.items ≡ length scratch.old.values.items }
     ensures cost { steps.new ≤ steps.old + (length matrix.now + length costs.now) }
     ensures counted { steps.old ≤ steps.new }
 {
     let last = rows.len() - 1;
-    clear_rows(rows);
-    put_entries(rows, matrix, costs.len(), steps);
-    put_costs(&mut rows[last], costs, factor, steps);
+    let mut start = 0;
+    for r in 0..last {
+        start = gather(matrix, start, r as u32, scratch);
+        settle(&mut rows[r], scratch, steps);
+    }
+    gather_costs(costs, factor, scratch);
+    settle(&mut rows[last], scratch, steps);
 }

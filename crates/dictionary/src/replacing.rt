@@ -1,91 +1,162 @@
 // A pivot's work on the rows that aren't its own.
-ghost use Rattle.std.specs.Prelude.{◌≡◌, ◌≢◌, ℕ, ◌+◌, ◌*◌, ◌^◌, ◌<◌, ◌≤◌, length, cond, nat_eq, IfOk, OnErr};
-ghost use Rattle.fraction.specs.Frac.{ratio};
-ghost use Rattle.dictionary.specs.Row.{entries_of, room_of, entries_in, IsSparseRow, HaveRoom};
-ghost use Rattle.dictionary.specs.Merge.{HasRowRoom};
-ghost use Rattle.dictionary.specs.Table.{IsChanged, IsWideRow, IsReplacedAt, AreReplaced, MergesHaveRoom, IsWideTable, row_cost, others_cost};
+ghost use Rattle.std.specs.Prelude.{◌≡◌, ◌≢◌, ℕ, ◌+◌, ◌*◌, ◌<◌, ◌≤◌, ◌⊎◌, pos, cond, length, IfOk, OnErr};
+ghost use Rattle.rational.specs.Ratio.{sum, product, IsSame};
+ghost use Rattle.fraction.specs.Frac.{ratio, ratios};
+ghost use Rattle.evidence.specs.Sums.{none};
+ghost use Rattle.evidence.specs.Point.{value_at};
+ghost use Rattle.evidence.specs.Width.{TermFits};
+ghost use Rattle.marks.specs.Marks.{is_marked, size_of};
+ghost use Rattle.dictionary.specs.Numbers.{HasNumber};
+ghost use Rattle.dictionary.specs.Scratch.{found_at, AreFound};
+ghost use Rattle.dictionary.specs.Rows.{numbers_of, numbers_in, IsRow, AreRows, IsSpread, IsReplacedBy, ReplacementFits, HasRoomFor, replacement_cost, replacements_cost};
+ghost use Rattle.dictionary.specs.Steps.{nonzeros};
 
-use crate::finding::find;
-use crate::merging::merge;
+use crate::changing::change_common;
 use crate::row::Row;
+use crate::scratch::Scratch;
+use crate::settling::settle;
 use crate::steps::Steps;
-use fraction::Wide;
+use common_rows::plus_product;
+use fraction::{Frac, Wide};
+use instance::zero;
+use marks::Marks;
 use std::sync::ledger::Ledger;
 
-/// Merges where the row has an entry at `skip`: whether it has.
-fn change<L: Ledger>(
+/// The value at a column, where it is marked, or 0.
+fn value_of(values: &[Frac], marks: &Marks, c: u32) -> Frac
+    requires marks { c < size_of marks.now }
+    requires values { c < length values.now }
+    ensures { ratio result ≡ cond (is_marked marks.now c) (value_at (ratios values.now) c) none }
+{
+    if !marks.has(c) {
+        return zero();
+    }
+    values[c as usize]
+}
+
+/// The sum of a value and a factor times another one, or 0 at the column `skip`.
+fn sum_at(c: u32, skip: u32, x: Frac, factor: Frac, y: Frac) -> Result<Frac, Wide>
+    ensures gone { c ≡ skip → IfOk result (λ r. ratio r ≡ none) }
+    ensures is { c ≢ skip → IfOk result (λ r. IsSame (ratio r) (sum (ratio x) (product (ratio factor) (ratio y)))) }
+    ensures fits { c ≢ skip → IfOk result (λ _. TermFits (ratio x) (ratio factor) (ratio y)) }
+    ensures wide { OnErr result ((c ≢ skip) × (TermFits (ratio x) (ratio factor) (ratio y) → ⊥)) }
+{
+    if c == skip {
+        return Ok(zero());
+    }
+    plus_product(x, factor, y)
+}
+
+/// The sums of a row's values and a factor times another one's, but for the column `skip`.
+fn add_values<L: Ledger>(
     row: &Row<L>,
     by: &Row<L>,
     skip: u32,
-    out: &mut Row<L>,
-    steps: &mut Steps<L>,
-) -> Result<bool, Wide>
-    requires row { IsSparseRow (entries_of row.now) }
-    requires by { IsSparseRow (entries_of by.now) }
-    requires room { HasRowRoom (entries_of row.now) (entries_of by.now) skip (room_of out.old) }
-    ensures room { room_of out.old ≤ room_of out.new }
-    ensures is { IfOk result (λ b. IsChanged b (entries_of row.now) (entries_of by.now) skip (entries_of out.new)) }
-    ensures wide { OnErr result (IsWideRow (entries_of row.now) (entries_of by.now) skip) }
-    ensures cost { (b : ℕ) → length (entries_of row.now) < 2 ^ b → steps.new ≤ steps.old + b + row_cost (entries_of row.now) (entries_of by.now) skip }
-    ensures counted { steps.old ≤ steps.new }
-{
-    match find(row, skip, steps) {
-        None => Ok(false),
-        Some(factor) => {
-            merge(row, factor, by, skip, out, steps)?;
-            Ok(true)
-        }
-    }
-}
-
-/// Replaces the column `skip` in row `r`, another than `p`, by what row `p` says it is.
-fn replace_at<L: Ledger>(
-    rows: &mut [Row<L>],
-    scratch: &mut Row<L>,
-    r: usize,
-    p: usize,
-    skip: u32,
-    steps: &mut Steps<L>,
+    factor: Frac,
+    scratch: &mut Scratch,
 ) -> Result<(), Wide>
-    requires r { r < length rows.old }
-    requires p { p < length rows.old }
-    requires row { IsSparseRow (entries_in rows.old r) }
-    requires by { IsSparseRow (entries_in rows.old p) }
-    requires room { HasRowRoom (entries_in rows.old r) (entries_in rows.old p) skip (room_of scratch.old) }
-    ensures room { (n : ℕ) → HaveRoom n rows.old scratch.old → HaveRoom n rows.new scratch.new }
-    ensures is { IfOk result (λ _. IsReplacedAt r p skip rows.old rows.new) }
-    ensures wide { OnErr result ((r ≢ p) × IsWideRow (entries_in rows.old r) (entries_in rows.old p) skip) }
-    ensures cost { (b : ℕ) → length (entries_in rows.old r) < 2 ^ b → steps.new ≤ steps.old + cond (nat_eq r p) 0 (b + row_cost (entries_in rows.old r) (entries_in rows.old p) skip) }
-    ensures counted { steps.old ≤ steps.new }
+    requires rows { (n : ℕ) × IsRow (length scratch.old.values.items) n row.now × IsRow (length scratch.old.values.items) n by.now }
+    requires values { IsSpread row.now (ratios scratch.old.values.items) }
+    requires others { IsSpread by.now (ratios scratch.old.others.items) }
+    ensures count { length scratch.new.values.items ≡ length scratch.old.values.items }
+    ensures found { AreFound scratch.new }
+    ensures gone { IfOk result (λ _. found_at scratch.new skip ≡ none) }
+    ensures is { IfOk result (λ _. (c : ℕ) → c ≢ skip → IsSame (found_at scratch.new c) (sum (numbers_of row.now c) (product (ratio factor) (numbers_of by.now c)))) }
+    ensures stands { IfOk result (λ _. (c : ℕ) → HasNumber (found_at scratch.new) c → HasNumber (numbers_of row.now) c ⊎ HasNumber (numbers_of by.now) c) }
+    ensures fits { IfOk result (λ _. (c : ℕ) → c ≢ skip → TermFits (numbers_of row.now c) (ratio factor) (numbers_of by.now c)) }
+    ensures wide { OnErr result (((c : ℕ) → c ≢ skip → TermFits (numbers_of row.now c) (ratio factor) (numbers_of by.now c)) → ⊥) }
 {
-    if r == p {
-        return Ok(());
-    }
-    let is_changed = change(&rows[r], &rows[p], skip, scratch, steps)?;
-    if is_changed {
-        std::mem::swap(&mut rows[r], scratch);
+    scratch.clear();
+    let mut from = 0;
+    while let Some(c) = row.marks.next_of_either(&by.marks, from) {
+        let x = value_of(scratch.values.as_slice(), &row.marks, c);
+        let y = value_of(scratch.others.as_slice(), &by.marks, c);
+        let value = sum_at(c, skip, x, factor, y)?;
+        scratch.put(c, value);
+        from = c + 1;
     }
     Ok(())
 }
 
-/// Replaces the column `skip` in all rows but `p` by what row `p` says it is.
-pub fn replace_others<L: Ledger>(
-    rows: &mut [Row<L>],
-    scratch: &mut Row<L>,
-    p: usize,
+/// Replaces the column `skip` in a row by another row, of which one stands as fractions.
+#[inline(never)]
+fn change_fractions<L: Ledger>(
+    row: &mut Row<L>,
+    by: &Row<L>,
     skip: u32,
+    scratch: &mut Scratch,
     steps: &mut Steps<L>,
 ) -> Result<(), Wide>
-    requires p { p < length rows.old }
-    requires merges { (n : ℕ) × HaveRoom n rows.old scratch.old × MergesHaveRoom p skip n rows.old }
-    ensures room { (n : ℕ) → HaveRoom n rows.old scratch.old → HaveRoom n rows.new scratch.new }
-    ensures is { IfOk result (λ _. AreReplaced p skip (length rows.old) rows.old rows.new) }
-    ensures wide { OnErr result (IsWideTable p skip rows.old) }
-    ensures cost { (b : ℕ) → ((r : ℕ) → r < length rows.old → length (entries_in rows.old r) < 2 ^ b) → steps.new ≤ steps.old + others_cost (entries_in rows.old) p (entries_in rows.old p) skip b (length rows.old) }
+    requires rows { (n : ℕ) × IsRow (length scratch.old.values.items) n row.old × IsRow (length scratch.old.values.items) n by.now × HasRoomFor (length scratch.old.values.items) (numbers_of row.old) (numbers_of by.now) skip n }
+    requires stands { HasNumber (numbers_of row.old) skip }
+    requires inside { skip + 1 < length scratch.old.values.items }
+    requires gone { (numbers_of by.now skip).num ≡ pos 0 }
+    ensures row { (n : ℕ) → IsRow (length scratch.old.values.items) n row.old → IsRow (length scratch.old.values.items) n row.new }
+    ensures count { length scratch.new.values.items ≡ length scratch.old.values.items }
+    ensures is { IfOk result (λ _. IsReplacedBy (numbers_of row.old) (numbers_of by.now) skip (numbers_of row.new)) }
+    ensures fits { IfOk result (λ _. ReplacementFits (numbers_of row.old) (numbers_of by.now) skip) }
+    ensures wide { OnErr result (ReplacementFits (numbers_of row.old) (numbers_of by.now) skip → ⊥) }
+    ensures cost { steps.new ≤ steps.old + 3 * (nonzeros (length scratch.old.values.items) (numbers_of row.old) + nonzeros (length scratch.old.values.items) (numbers_of by.now)) }
+    ensures counted { steps.old ≤ steps.new }
+{
+    row.spread(scratch.values.as_mut_slice(), steps);
+    by.spread(scratch.others.as_mut_slice(), steps);
+    let factor = scratch.values[skip as usize];
+    add_values(row, by, skip, factor, scratch)?;
+    settle(row, scratch, steps);
+    Ok(())
+}
+
+/// Replaces the column `skip` in a row, where it has an entry, by another row.
+fn replace<L: Ledger>(
+    row: &mut Row<L>,
+    by: &Row<L>,
+    skip: u32,
+    scratch: &mut Scratch,
+    steps: &mut Steps<L>,
+) -> Result<(), Wide>
+    requires rows { (n : ℕ) × IsRow (length scratch.old.values.items) n row.old × IsRow (length scratch.old.values.items) n by.now × HasRoomFor (length scratch.old.values.items) (numbers_of row.old) (numbers_of by.now) skip n }
+    requires inside { skip + 1 < length scratch.old.values.items }
+    requires gone { (numbers_of by.now skip).num ≡ pos 0 }
+    ensures row { (n : ℕ) → IsRow (length scratch.old.values.items) n row.old → IsRow (length scratch.old.values.items) n row.new }
+    ensures count { length scratch.new.values.items ≡ length scratch.old.values.items }
+    ensures is { IfOk result (λ _. IsReplacedBy (numbers_of row.old) (numbers_of by.now) skip (numbers_of row.new)) }
+    ensures fits { IfOk result (λ _. ReplacementFits (numbers_of row.old) (numbers_of by.now) skip) }
+    ensures wide { OnErr result (ReplacementFits (numbers_of row.old) (numbers_of by.now) skip → ⊥) }
+    ensures cost { steps.new ≤ steps.old + replacement_cost (length scratch.old.values.items) (numbers_of row.old) (numbers_of by.now) skip }
+    ensures counted { steps.old ≤ steps.new }
+{
+    if !row.has(skip) {
+        return Ok(());
+    }
+    if row.is_common && by.is_common {
+        change_common(row, by, skip, scratch, steps);
+        return Ok(());
+    }
+    change_fractions(row, by, skip, scratch, steps)
+}
+
+/// Replaces the column `skip` in all rows by another row.
+pub fn replace_all<L: Ledger>(
+    rows: &mut [Row<L>],
+    by: &Row<L>,
+    skip: u32,
+    scratch: &mut Scratch,
+    steps: &mut Steps<L>,
+) -> Result<(), Wide>
+    requires rows { (n : ℕ) × AreRows (length scratch.old.values.items) n rows.old × IsRow (length scratch.old.values.items) n by.now × ((r : ℕ) → r < length rows.old → HasRoomFor (length scratch.old.values.items) (numbers_in rows.old r) (numbers_of by.now) skip n) }
+    requires inside { skip + 1 < length scratch.old.values.items }
+    requires gone { (numbers_of by.now skip).num ≡ pos 0 }
+    ensures rows { (n : ℕ) → AreRows (length scratch.old.values.items) n rows.old → AreRows (length scratch.old.values.items) n rows.new }
+    ensures count { length scratch.new.values.items ≡ length scratch.old.values.items }
+    ensures is { IfOk result (λ _. (r : ℕ) → r < length rows.old → IsReplacedBy (numbers_in rows.old r) (numbers_of by.now) skip (numbers_in rows.new r)) }
+    ensures fits { IfOk result (λ _. (r : ℕ) → r < length rows.old → ReplacementFits (numbers_in rows.old r) (numbers_of by.now) skip) }
+    ensures wide { OnErr result (((r : ℕ) → r < length rows.old → ReplacementFits (numbers_in rows.old r) (numbers_of by.now) skip) → ⊥) }
+    ensures cost { steps.new ≤ steps.old + replacements_cost (length scratch.old.values.items) (numbers_in rows.old) (numbers_of by.now) skip (length rows.old) }
     ensures counted { steps.old ≤ steps.new }
 {
     for r in 0..rows.len() {
-        replace_at(rows, scratch, r, p, skip, steps)?;
+        replace(&mut rows[r], by, skip, scratch, steps)?;
     }
     Ok(())
 }

@@ -1,98 +1,186 @@
 // The pivot's own row.
-ghost use Rattle.std.specs.Prelude.{◌≡◌, ◌≢◌, ℕ, ◌+◌, ◌*◌, ◌^◌, ◌<◌, ◌≤◌, pos, length, IfOk, OnErr};
-ghost use Rattle.fraction.specs.Frac.{ratio};
-ghost use Rattle.dictionary.specs.Row.{entries_of, room_of, entries_in, IsSparseRow, HasColumn, IsEntry, HaveRoom};
-ghost use Rattle.dictionary.specs.Table.{SolveFits, SolvesRow, IsSolvedBy, IsWideBy, IsSolvedAt};
+ghost use Rattle.std.specs.Prelude.{◌≡◌, ◌≢◌, ℕ, ◌+◌, ◌*◌, ◌^◌, ◌<◌, ◌≤◌, pos, neg_ℤ, ◌<ℤ◌, true, length, unsigned_abs, IfOk, OnErr};
+ghost use Rattle.rational.specs.Ratio.{product, IsSame};
+ghost use Rattle.rational.specs.Width.{ReducedFits};
+ghost use Rattle.fraction.specs.Frac.{ratio, ratios};
+ghost use Rattle.evidence.specs.Sums.{none};
+ghost use Rattle.dictionary.specs.Numbers.{HasNumber};
+ghost use Rattle.dictionary.specs.Rows.{numbers_of, numer_at, IsRow, IsDivided, IsSpread, IsSolvedFor, SolutionFits};
+ghost use Rattle.dictionary.specs.Scratch.{found_at, AreFound};
+ghost use Rattle.dictionary.specs.Steps.{nonzeros};
 
-use crate::finding::find;
-use crate::merging::merge;
 use crate::numbers::one;
-use crate::row::{Item, Row};
+use crate::row::Row;
+use crate::scratch::Scratch;
+use crate::settling::settle;
 use crate::steps::Steps;
+use common_rows::times;
 use fraction::{Frac, Wide};
+use instance::zero;
 use std::sync::ledger::Ledger;
 
-/// Solves a row for the column `nonbasic`, whose entry is `pivot`: the merge of 1/pivot at `basic` and the row times -1/pivot.
-fn solve<L: Ledger>(
-    row: &Row<L>,
-    pivot: Frac,
-    basic: u32,
-    nonbasic: u32,
-    lead: &mut Row<L>,
-    out: &mut Row<L>,
-    steps: &mut Steps<L>,
-) -> Result<(), Wide>
-    requires row { IsSparseRow (entries_of row.now) }
-    requires entry { IsEntry (entries_of row.now) nonbasic pivot }
-    requires absent { HasColumn (entries_of row.now) basic → ⊥ }
+/// Solves a row in common form for the column `nonbasic`; `basic` comes in for it.
+fn solve_common<L: Ledger>(row: &mut Row<L>, basic: u32, nonbasic: u32, steps: &mut Steps<L>)
+    requires row { (k n : ℕ) × IsRow k n row.old × (basic + 1 < k) }
+    requires common { row.old.is_common ≡ true }
+    requires stands { HasNumber (numbers_of row.old) nonbasic }
+    requires absent { (numbers_of row.old basic).num ≡ pos 0 }
     requires apart { basic ≢ nonbasic }
-    requires lead { 0 < room_of lead.old }
-    requires room { length (entries_of row.now) ≤ room_of out.old }
-    ensures lead { room_of lead.old ≤ room_of lead.new }
-    ensures room { room_of out.old ≤ room_of out.new }
-    ensures is { IfOk result (λ _. SolvesRow (entries_of row.now) (ratio pivot) basic nonbasic (entries_of out.new)) }
-    ensures wide { OnErr result (SolveFits (entries_of row.now) (ratio pivot) → ⊥) }
-    ensures cost { steps.new ≤ steps.old + 3 * (1 + length (entries_of row.now)) }
+    ensures row { (k n : ℕ) → IsRow k n row.old → basic + 1 < k → IsRow k n row.new }
+    ensures is { IsSolvedFor (numbers_of row.old) basic nonbasic (numbers_of row.new) }
+    ensures fits { SolutionFits (numbers_of row.old) nonbasic }
+    ensures cost { (k n : ℕ) → IsRow k n row.old → steps.new ≤ steps.old + 3 * (1 + nonzeros k (numbers_of row.old)) }
     ensures counted { steps.old ≤ steps.new }
 {
-    let value = one().div(pivot)?;
-    lead.hold(Item { col: basic, value });
-    merge(lead, value.neg(), row, nonbasic, out, steps)
+    let pivot = row.read(nonbasic, steps);
+    row.write(nonbasic, 0, steps);
+    if pivot > 0 {
+        return divide_up(row, basic, pivot, steps);
+    }
+    divide_down(row, basic, pivot, steps);
 }
 
-/// Solves a row for the column `nonbasic`, where it has an entry.
-fn solve_from<L: Ledger>(
-    row: &Row<L>,
-    basic: u32,
-    nonbasic: u32,
-    lead: &mut Row<L>,
-    out: &mut Row<L>,
-    steps: &mut Steps<L>,
-) -> Result<(), Wide>
-    requires row { IsSparseRow (entries_of row.now) }
-    requires stands { HasColumn (entries_of row.now) nonbasic }
-    requires absent { HasColumn (entries_of row.now) basic → ⊥ }
-    requires apart { basic ≢ nonbasic }
-    requires lead { 0 < room_of lead.old }
-    requires room { length (entries_of row.now) ≤ room_of out.old }
-    ensures lead { room_of lead.old ≤ room_of lead.new }
-    ensures room { room_of out.old ≤ room_of out.new }
-    ensures is { IfOk result (λ _. IsSolvedBy (entries_of row.now) basic nonbasic (entries_of out.new)) }
-    ensures wide { OnErr result (IsWideBy (entries_of row.now) nonbasic) }
-    ensures cost { (b : ℕ) → length (entries_of row.now) < 2 ^ b → steps.new ≤ steps.old + b + 3 * (1 + length (entries_of row.now)) }
+/// Divides a row's numbers by a pivot above 0, and puts what one over it is at `basic`.
+fn divide_up<L: Ledger>(row: &mut Row<L>, basic: u32, pivot: i64, steps: &mut Steps<L>)
+    requires row { (k n : ℕ) × IsRow k n row.old × (basic + 1 < k) }
+    requires common { row.old.is_common ≡ true }
+    requires pivot { pos 0 <ℤ pivot }
+    ensures divided { IsDivided row.old basic pivot row.new }
+    ensures small { unsigned_abs row.old.denom < 2 ^ 63 }
+    ensures cost { (k n : ℕ) → IsRow k n row.old → steps.new ≤ steps.old + (1 + 2 * nonzeros k (numbers_of row.old)) }
     ensures counted { steps.old ≤ steps.new }
 {
-    match find(row, nonbasic, steps) {
-        None => Ok(()),
-        Some(pivot) => solve(row, pivot, basic, nonbasic, lead, out, steps),
+    let denom = row.denom;
+    negate(row, steps);
+    row.write(basic, denom, steps);
+    row.denom = pivot;
+}
+
+/// The same by a pivot below 0.
+fn divide_down<L: Ledger>(row: &mut Row<L>, basic: u32, pivot: i64, steps: &mut Steps<L>)
+    requires row { (k n : ℕ) × IsRow k n row.old × (basic + 1 < k) }
+    requires common { row.old.is_common ≡ true }
+    requires pivot { pivot <ℤ pos 0 }
+    requires small { unsigned_abs pivot < 2 ^ 63 }
+    ensures divided { IsDivided row.old basic pivot row.new }
+    ensures small { unsigned_abs row.old.denom < 2 ^ 63 }
+    ensures cost { steps.new ≡ steps.old + 1 }
+{
+    let denom = row.denom;
+    row.write(basic, -denom, steps);
+    row.denom = -pivot;
+}
+
+/// Turns all signs.
+fn negate<L: Ledger>(row: &mut Row<L>, steps: &mut Steps<L>)
+    requires row { (k n : ℕ) × IsRow k n row.old }
+    requires common { row.old.is_common ≡ true }
+    ensures row { (k n : ℕ) → IsRow k n row.old → IsRow k n row.new }
+    ensures common { row.new.is_common ≡ true }
+    ensures denom { row.new.denom ≡ row.old.denom }
+    ensures negated { (c : ℕ) → numer_at row.new c ≡ neg_ℤ (numer_at row.old c) }
+    ensures cost { (k n : ℕ) → IsRow k n row.old → steps.new ≤ steps.old + 2 * nonzeros k (numbers_of row.old) }
+    ensures counted { steps.old ≤ steps.new }
+{
+    let mut from = 0;
+    while let Some(c) = row.marks.next(from) {
+        let x = row.read(c, steps);
+        row.write(c, -x, steps);
+        from = c + 1;
     }
 }
 
-/// Solves row `p` for the column `nonbasic`, in place.
-pub fn solve_at<L: Ledger>(
-    rows: &mut [Row<L>],
-    lead: &mut Row<L>,
-    scratch: &mut Row<L>,
-    p: usize,
+/// A factor times a value, or 0 at the column `skip`.
+fn product_at(c: u32, skip: u32, factor: Frac, x: Frac) -> Result<Frac, Wide>
+    ensures gone { c ≡ skip → IfOk result (λ r. ratio r ≡ none) }
+    ensures is { c ≢ skip → IfOk result (λ r. IsSame (ratio r) (product (ratio factor) (ratio x))) }
+    ensures wide { OnErr result ((c ≢ skip) × (ReducedFits (product (ratio factor) (ratio x)) → ⊥)) }
+{
+    if c == skip {
+        return Ok(zero());
+    }
+    times(factor, x)
+}
+
+/// A row's values times a factor, but for the column `skip`.
+fn multiply_values<L: Ledger>(
+    row: &Row<L>,
+    skip: u32,
+    factor: Frac,
+    scratch: &mut Scratch,
+) -> Result<(), Wide>
+    requires row { (n : ℕ) × IsRow (length scratch.old.values.items) n row.now }
+    requires values { IsSpread row.now (ratios scratch.old.values.items) }
+    ensures count { length scratch.new.values.items ≡ length scratch.old.values.items }
+    ensures found { AreFound scratch.new }
+    ensures gone { IfOk result (λ _. found_at scratch.new skip ≡ none) }
+    ensures is { IfOk result (λ _. (c : ℕ) → c ≢ skip → IsSame (found_at scratch.new c) (product (ratio factor) (numbers_of row.now c))) }
+    ensures fits { IfOk result (λ _. (c : ℕ) → c ≢ skip → ReducedFits (product (ratio factor) (numbers_of row.now c))) }
+    ensures wide { OnErr result (((c : ℕ) → c ≢ skip → ReducedFits (product (ratio factor) (numbers_of row.now c))) → ⊥) }
+{
+    scratch.clear();
+    let mut from = 0;
+    while let Some(c) = row.marks.next(from) {
+        let value = product_at(c, skip, factor, scratch.values[c as usize])?;
+        scratch.put(c, value);
+        from = c + 1;
+    }
+    Ok(())
+}
+
+/// Solves a row that stands as fractions for the column `nonbasic`: 1/pivot at `basic`, and the row times -1/pivot.
+fn solve_fractions<L: Ledger>(
+    row: &mut Row<L>,
     basic: u32,
     nonbasic: u32,
+    scratch: &mut Scratch,
     steps: &mut Steps<L>,
 ) -> Result<(), Wide>
-    requires p { p < length rows.old }
-    requires row { IsSparseRow (entries_in rows.old p) }
-    requires stands { HasColumn (entries_in rows.old p) nonbasic }
-    requires absent { HasColumn (entries_in rows.old p) basic → ⊥ }
+    requires row { (n : ℕ) × IsRow (length scratch.old.values.items) n row.old × (nonzeros (length scratch.old.values.items) (numbers_of row.old) ≤ n) }
+    requires inside { basic + 1 < length scratch.old.values.items }
+    requires stands { HasNumber (numbers_of row.old) nonbasic }
+    requires absent { (numbers_of row.old basic).num ≡ pos 0 }
     requires apart { basic ≢ nonbasic }
-    requires lead { 0 < room_of lead.old }
-    requires room { length (entries_in rows.old p) ≤ room_of scratch.old }
-    ensures lead { room_of lead.old ≤ room_of lead.new }
-    ensures room { (n : ℕ) → HaveRoom n rows.old scratch.old → HaveRoom n rows.new scratch.new }
-    ensures is { IfOk result (λ _. IsSolvedAt p basic nonbasic rows.old rows.new) }
-    ensures wide { OnErr result (IsWideBy (entries_in rows.old p) nonbasic) }
-    ensures cost { (b : ℕ) → length (entries_in rows.old p) < 2 ^ b → steps.new ≤ steps.old + b + 3 * (1 + length (entries_in rows.old p)) }
+    ensures row { (n : ℕ) → IsRow (length scratch.old.values.items) n row.old → IsRow (length scratch.old.values.items) n row.new }
+    ensures count { length scratch.new.values.items ≡ length scratch.old.values.items }
+    ensures is { IfOk result (λ _. IsSolvedFor (numbers_of row.old) basic nonbasic (numbers_of row.new)) }
+    ensures fits { IfOk result (λ _. SolutionFits (numbers_of row.old) nonbasic) }
+    ensures wide { OnErr result (SolutionFits (numbers_of row.old) nonbasic → ⊥) }
+    ensures cost { steps.new ≤ steps.old + 3 * (1 + nonzeros (length scratch.old.values.items) (numbers_of row.old)) }
     ensures counted { steps.old ≤ steps.new }
 {
-    solve_from(&rows[p], basic, nonbasic, lead, scratch, steps)?;
-    std::mem::swap(&mut rows[p], scratch);
+    row.spread(scratch.values.as_mut_slice(), steps);
+    let value = one().div(scratch.values[nonbasic as usize])?;
+    multiply_values(row, nonbasic, value.neg(), scratch)?;
+    scratch.put(basic, value);
+    settle(row, scratch, steps);
     Ok(())
+}
+
+/// Solves a row for the column `nonbasic`, in place.
+pub fn solve_row<L: Ledger>(
+    row: &mut Row<L>,
+    basic: u32,
+    nonbasic: u32,
+    scratch: &mut Scratch,
+    steps: &mut Steps<L>,
+) -> Result<(), Wide>
+    requires row { (n : ℕ) × IsRow (length scratch.old.values.items) n row.old × (nonzeros (length scratch.old.values.items) (numbers_of row.old) ≤ n) }
+    requires inside { basic + 1 < length scratch.old.values.items }
+    requires stands { HasNumber (numbers_of row.old) nonbasic }
+    requires absent { (numbers_of row.old basic).num ≡ pos 0 }
+    requires apart { basic ≢ nonbasic }
+    ensures row { (n : ℕ) → IsRow (length scratch.old.values.items) n row.old → IsRow (length scratch.old.values.items) n row.new }
+    ensures count { length scratch.new.values.items ≡ length scratch.old.values.items }
+    ensures is { IfOk result (λ _. IsSolvedFor (numbers_of row.old) basic nonbasic (numbers_of row.new)) }
+    ensures fits { IfOk result (λ _. SolutionFits (numbers_of row.old) nonbasic) }
+    ensures wide { OnErr result (SolutionFits (numbers_of row.old) nonbasic → ⊥) }
+    ensures cost { steps.new ≤ steps.old + 3 * (1 + nonzeros (length scratch.old.values.items) (numbers_of row.old)) }
+    ensures counted { steps.old ≤ steps.new }
+{
+    if row.is_common {
+        solve_common(row, basic, nonbasic, steps);
+        return Ok(());
+    }
+    solve_fractions(row, basic, nonbasic, scratch, steps)
 }

@@ -1,33 +1,28 @@
-use Rattle.std.proofs.Common.{◌+◌, ◌<◌, ◌^◌, length, List, arith, sym, ◌∙◌, ap, subst}
-use Rattle.dictionary.specs.declared.row.Item.{Item}
-use Rattle.dictionary.specs.Row.{number_in, IsSparseRow}
+use Rattle.std.proofs.Common.{◌+◌, ◌∙◌, arith}
 use Rattle.dictionary.specs.Dict.{width_of, height_of}
-use Rattle.dictionary.proofs.RowChanges.{entries_is}
-use Rattle.dictionary.proofs.DictColumns.{goal_from, goal_row, over_there, said_there, digits_there}
+use Rattle.dictionary.proofs.DictColumns.{IsRead, read_goal, row_is, said_there, digits_there, column_asked}
 use Rattle.dictionary.proofs.dict.Dict.cost.Goals as goal
+use Rattle.dictionary.proofs.dict.Dict.cost.Goals.{After-index}
+
+read : (g : _) (c : After-index g) → let d = c.args.self.now in IsRead d (d.width + d.height) c.index.result.now
+read g c = read_goal c.args.self.now c.requires.loaded c.index.result.now c.index.ensures
 
 pub index-requires : goal.index-requires
 index-requires g c = let d = c.args.self.now in let v = d.rows in let o = v.ok.0 in let e = d.count in omega arith
 
-pub number_at-requires : goal.number_at-requires
-number_at-requires g c =
+pub value-requires : goal.value-requires
+value-requires g c =
     let d = c.args.self.now in
-    let inside : d.height < length d.rows.items = let e = d.count in omega arith in
-    let is = entries_is d.rows.items d.height c.index.result.now inside c.index.ensures in
-    let o = over_there d c.requires.loaded (d.width + d.height) d.height (goal_from d) (goal_row d) inside in
-    subst (λ (l : List Item). IsSparseRow l) (sym is) o.ascending
+    column_asked d (d.width + d.height) c.index.result.now (read g (goal.at.value-requires g c).After-index) c.args.nonbasic c.requires.nonbasic
 
 pub returns-clause-entry : goal.returns-clause-entry
 unfolding width_of height_of
 returns-clause-entry g c =
     let d = c.args.self.now in
-    let inside : d.height < length d.rows.items = let e = d.count in omega arith in
-    let is = entries_is d.rows.items d.height c.index.result.now inside c.index.ensures in
-    c.number_at.ensures.number ∙ ap (λ (l : List Item). number_in l c.args.nonbasic) is ∙ said_there d c.requires.loaded (d.width + d.height) d.height (goal_from d) (goal_row d) inside c.args.nonbasic
+    c.value.ensures.value ∙ said_there d (d.width + d.height) c.index.result.now (read g (goal.at.returns-clause-entry g c).After-index) c.args.nonbasic
 
 pub returns-clause-cost : goal.returns-clause-cost
 returns-clause-cost g c b l =
     let d = c.args.self.now in
-    let inside : d.height < length d.rows.items = let e = d.count in omega arith in
-    let is = entries_is d.rows.items d.height c.index.result.now inside c.index.ensures in
-    c.number_at.ensures.cost b (subst (λ (xs : List Item). length xs < 2 ^ b) (sym is) (digits_there d c.requires.loaded (d.width + d.height) d.height (goal_from d) (goal_row d) inside b l))
+    let is = read g (goal.at.returns-clause-cost g c).After-index in
+    c.value.ensures.cost (d.width + (d.height + 1)) d.width b (row_is d (d.width + d.height) c.index.result.now is) (digits_there d (d.width + d.height) c.index.result.now is b l)

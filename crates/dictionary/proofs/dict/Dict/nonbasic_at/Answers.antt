@@ -1,7 +1,7 @@
 use Rattle.std.proofs.Common.{arith, sym, subst}
 use Rattle.dictionary.specs.Dict.{width_of, height_of, column_standing, IsNonbasic}
 use Rattle.dictionary.proofs.DictColumns.{nonbasic_there}
-use Rattle.dictionary.proofs.DictPivots.{same_number}
+use Rattle.dictionary.proofs.DictParts.{same_number}
 use Rattle.dictionary.proofs.dict.Dict.nonbasic_at.Goals as goal
 
 pub index-requires : goal.index-requires

@@ -1,16 +1,21 @@
-use Rattle.std.proofs.Common.{ℕ, ◌<◌, length, List, IfOk, OnErr, arith, sym, ap, subst}
+use Rattle.std.proofs.Common.{ℕ, ◌<◌, ◌≤◌, ◌+◌, IfOk, OnErr, arith, subst}
 use Rattle.rational.specs.Ratio.{Ratio, IsSame}
 use Rattle.fraction.specs.Frac.{ratio}
-use Rattle.instance.proofs.Terms.{if_ok, on_err}
-use Rattle.bases.specs.Dictionary.{Values, value_by}
+use Rattle.bases.specs.Dictionary.{value_by}
 use Rattle.bases.specs.Pivot.{ValueFits}
-use Rattle.dictionary.specs.declared.row.Item.{Item}
-use Rattle.dictionary.specs.Row.{number_in, IsSparseRow, HasColumn}
-use Rattle.dictionary.specs.Value.{AreValuesAt}
-use Rattle.dictionary.specs.Dict.{columns_of, count_of, place_values}
-use Rattle.dictionary.proofs.RowChanges.{entries_is}
-use Rattle.dictionary.proofs.DictColumns.{from_basic, place_in, row_in, over_there, count_there, columns_counted, values_there, sum_there, fits_on, fits_off}
+use Rattle.dictionary.specs.Numbers.{HasNumber}
+use Rattle.dictionary.specs.Rows.{numbers_of}
+use Rattle.dictionary.specs.Steps.{nonzeros}
+use Rattle.dictionary.specs.Dict.{columns_of}
+use Rattle.dictionary.proofs.DictColumns.{IsRead, place_in, row_in, read_basic, row_is, entry_there, told_numbers, values_there}
 use Rattle.dictionary.proofs.dict.Dict.value_of.Goals as goal
+use Rattle.dictionary.proofs.dict.Dict.value_of.Goals.{After-index}
+
+read : (g : _) (c : After-index g) → IsRead c.args.self.now c.args.basic c.index.result.now
+read g c = read_basic c.args.self.now c.requires.loaded c.args.basic c.row_of-r.result c.requires.basic c.row_of-r.ensures c.index.result.now c.index.ensures
+
+inside : (g : _) (c : After-index g) → (j : ℕ) → HasNumber (numbers_of c.index.result.now) j → j < columns_of c.args.self.now
+inside g c j h = let n = entry_there c.args.self.now c.args.basic c.index.result.now (read g c) j h in let i = n.inside in omega arith
 
 pub row_of-r-requires : goal.row_of-r-requires
 row_of-r-requires g c = place_in c.args.self.now c.args.basic c.requires.basic
@@ -21,60 +26,39 @@ index-requires g c = let d = c.args.self.now in let v = d.rows in let o = v.ok.0
 pub sum_row-requires-clause-row : goal.sum_row-requires-clause-row
 sum_row-requires-clause-row g c =
     let d = c.args.self.now in
-    let r = c.row_of-r.result in
-    let from = from_basic d c.args.basic c.requires.basic in
-    let inside : c.row_of-r.result < length d.rows.items = let i = row_in d c.args.basic c.requires.basic in let e = c.row_of-r.ensures in omega arith in
-    let is = entries_is d.rows.items c.row_of-r.result c.index.result.now inside c.index.ensures in
-    let o = over_there d c.requires.loaded c.args.basic c.row_of-r.result from c.row_of-r.ensures inside in
-    subst (λ (l : List Item). IsSparseRow l) (sym is) o.ascending
+    (d.width + (d.height + 1), d.width, row_is d c.args.basic c.index.result.now (read g (goal.at.sum_row-requires-clause-row g c).After-index))
 
 pub sum_row-requires-clause-inside : goal.sum_row-requires-clause-inside
-sum_row-requires-clause-inside g c =
-    let d = c.args.self.now in
-    let r = c.row_of-r.result in
-    let from = from_basic d c.args.basic c.requires.basic in
-    let inside : c.row_of-r.result < length d.rows.items = let i = row_in d c.args.basic c.requires.basic in let e = c.row_of-r.ensures in omega arith in
-    let is = entries_is d.rows.items c.row_of-r.result c.index.result.now inside c.index.ensures in
-    subst (λ (l : List Item). (k : ℕ) → HasColumn l k → k < count_of c.args.places.now) (sym is) (columns_counted d c.requires.loaded c.args.basic c.row_of-r.result from c.row_of-r.ensures inside c.args.places.now c.requires.places)
+sum_row-requires-clause-inside g c j h =
+    let n = entry_there c.args.self.now c.args.basic c.index.result.now (read g (goal.at.sum_row-requires-clause-inside g c).After-index) j h in
+    let i = n.inside in
+    let p = c.requires.places in
+    omega arith
 
 pub returns-clause-ok : goal.returns-clause-ok
 returns-clause-ok g c w rest =
     let d = c.args.self.now in
-    let r = c.row_of-r.result in
-    let from = from_basic d c.args.basic c.requires.basic in
-    let inside : c.row_of-r.result < length d.rows.items = let i = row_in d c.args.basic c.requires.basic in let e = c.row_of-r.ensures in omega arith in
-    let is = entries_is d.rows.items c.row_of-r.result c.index.result.now inside c.index.ensures in
-    let told = subst (λ (l : List Item). (k : ℕ) (w : Values) → AreValuesAt l (place_values c.args.places.now) k w → IfOk c.sum_row.result (λ x. IsSame (ratio x) (value_by k (number_in l) w))) is c.sum_row.ensures.ok in
-    if_ok c.sum_row.result (λ x e. subst (λ (v : Ratio). IsSame (ratio x) v) (sum_there d c.requires.loaded c.args.basic c.row_of-r.result from c.row_of-r.ensures inside c.args.places.now w rest) e) (told (columns_of d) w (values_there d c.requires.loaded c.args.basic c.row_of-r.result from c.row_of-r.ensures inside c.args.places.now w rest))
+    let is = read g (goal.at.returns-clause-ok g c).After-index in
+    subst (λ (f : ℕ → Ratio). IfOk c.sum_row.result (λ r. IsSame (ratio r) (value_by (columns_of d) f w))) (told_numbers d c.args.basic c.index.result.now is)
+    (c.sum_row.ensures.ok (columns_of d) w (values_there d c.args.basic c.index.result.now is c.args.places.now w rest))
 
 pub returns-clause-fits : goal.returns-clause-fits
 returns-clause-fits g c w rest =
     let d = c.args.self.now in
-    let r = c.row_of-r.result in
-    let from = from_basic d c.args.basic c.requires.basic in
-    let inside : c.row_of-r.result < length d.rows.items = let i = row_in d c.args.basic c.requires.basic in let e = c.row_of-r.ensures in omega arith in
-    let is = entries_is d.rows.items c.row_of-r.result c.index.result.now inside c.index.ensures in
-    let told = subst (λ (l : List Item). (k : ℕ) (w : Values) → AreValuesAt l (place_values c.args.places.now) k w → IfOk c.sum_row.result (λ _. ValueFits k (number_in l) w)) is c.sum_row.ensures.fits in
-    if_ok c.sum_row.result (λ x. fits_on d c.requires.loaded c.args.basic c.row_of-r.result from c.row_of-r.ensures inside c.args.places.now w rest) (told (columns_of d) w (values_there d c.requires.loaded c.args.basic c.row_of-r.result from c.row_of-r.ensures inside c.args.places.now w rest))
+    let is = read g (goal.at.returns-clause-fits g c).After-index in
+    subst (λ (f : ℕ → Ratio). IfOk c.sum_row.result (λ _. ValueFits (columns_of d) f w)) (told_numbers d c.args.basic c.index.result.now is)
+    (c.sum_row.ensures.fits (columns_of d) w (values_there d c.args.basic c.index.result.now is c.args.places.now w rest))
 
 pub returns-clause-wide : goal.returns-clause-wide
 returns-clause-wide g c w rest =
     let d = c.args.self.now in
-    let r = c.row_of-r.result in
-    let from = from_basic d c.args.basic c.requires.basic in
-    let inside : c.row_of-r.result < length d.rows.items = let i = row_in d c.args.basic c.requires.basic in let e = c.row_of-r.ensures in omega arith in
-    let is = entries_is d.rows.items c.row_of-r.result c.index.result.now inside c.index.ensures in
-    let told = subst (λ (l : List Item). (k : ℕ) (w : Values) → AreValuesAt l (place_values c.args.places.now) k w → OnErr c.sum_row.result (ValueFits k (number_in l) w → ⊥)) is c.sum_row.ensures.wide in
-    on_err c.sum_row.result (λ unfit f. unfit (fits_off d c.requires.loaded c.args.basic c.row_of-r.result from c.row_of-r.ensures inside c.args.places.now w rest f)) (told (columns_of d) w (values_there d c.requires.loaded c.args.basic c.row_of-r.result from c.row_of-r.ensures inside c.args.places.now w rest))
+    let is = read g (goal.at.returns-clause-wide g c).After-index in
+    subst (λ (f : ℕ → Ratio). OnErr c.sum_row.result (ValueFits (columns_of d) f w → ⊥)) (told_numbers d c.args.basic c.index.result.now is)
+    (c.sum_row.ensures.wide (columns_of d) w (values_there d c.args.basic c.index.result.now is c.args.places.now w rest))
 
 pub returns-clause-cost : goal.returns-clause-cost
 returns-clause-cost g c =
     let d = c.args.self.now in
-    let r = c.row_of-r.result in
-    let from = from_basic d c.args.basic c.requires.basic in
-    let inside : c.row_of-r.result < length d.rows.items = let i = row_in d c.args.basic c.requires.basic in let e = c.row_of-r.ensures in omega arith in
-    let is = entries_is d.rows.items c.row_of-r.result c.index.result.now inside c.index.ensures in
-    let n = ap length is in
-    let a = count_there d c.requires.loaded c.args.basic c.row_of-r.result from c.row_of-r.ensures inside in
-    let k = c.sum_row.ensures.cost in
-    omega arith
+    let at' = (goal.at.returns-clause-cost g c).After-index in
+    subst (λ (f : ℕ → Ratio). c.sum_row.new.steps ≤ c.args.steps.now + nonzeros (columns_of d) f) (told_numbers d c.args.basic c.index.result.now (read g at'))
+    (c.sum_row.ensures.cost (columns_of d) (inside g at'))

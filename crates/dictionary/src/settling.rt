@@ -1,0 +1,62 @@
+// A row that takes the values beside it.
+ghost use Rattle.std.specs.Prelude.{◌≡◌, ℕ, ◌+◌, ◌<◌, ◌≤◌, pos, ◌<ℤ◌, true, length, unsigned_abs, IfSome};
+ghost use Rattle.fraction.specs.Frac.{ratios};
+ghost use Rattle.evidence.specs.Point.{value_at};
+ghost use Rattle.marks.specs.Marks.{is_marked};
+ghost use Rattle.dictionary.specs.Numbers.{IsOver};
+ghost use Rattle.dictionary.specs.Rows.{numbers_of, IsRow};
+ghost use Rattle.dictionary.specs.Scratch.{found_at, AreFound};
+ghost use Rattle.dictionary.specs.Steps.{nonzeros};
+
+use crate::numbers::{joined, number_over};
+use crate::row::Row;
+use crate::scratch::Scratch;
+use crate::steps::Steps;
+use std::sync::ledger::Ledger;
+
+/// A denominator over which the values at marked columns have 64 bits, where there is one.
+fn common_denom(scratch: &Scratch) -> Option<i64>
+    requires { AreFound scratch.now }
+    ensures above { IfSome result (λ d. pos 0 <ℤ d) }
+    ensures over { (c : ℕ) → is_marked scratch.now.found c ≡ true → IfSome result (λ d. IsOver (unsigned_abs d) (value_at (ratios scratch.now.values.items) c)) }
+{
+    let denom = joined_denom(scratch)?;
+    let mut from = 0;
+    while let Some(c) = scratch.found.next(from) {
+        number_over(&scratch.values[c as usize], denom)?;
+        from = c + 1;
+    }
+    Some(denom)
+}
+
+/// A denominator of the values at marked columns.
+fn joined_denom(scratch: &Scratch) -> Option<i64>
+    requires { AreFound scratch.now }
+    ensures { IfSome result (λ d. pos 0 <ℤ d) }
+{
+    let mut all = 1;
+    let mut from = 0;
+    while let Some(c) = scratch.found.next(from) {
+        all = joined(all, scratch.values[c as usize].denom)?;
+        from = c + 1;
+    }
+    Some(all)
+}
+
+/// Gives a row the values at marked columns in place of its own numbers.
+pub fn settle<L: Ledger>(row: &mut Row<L>, scratch: &Scratch, steps: &mut Steps<L>)
+    requires row { (n : ℕ) × IsRow (length scratch.now.values.items) n row.old × (nonzeros (length scratch.now.values.items) (found_at scratch.now) ≤ n) }
+    requires found { AreFound scratch.now }
+    ensures row { (n : ℕ) → IsRow (length scratch.now.values.items) n row.old → IsRow (length scratch.now.values.items) n row.new }
+    ensures is { (c : ℕ) → numbers_of row.new c ≡ found_at scratch.now c }
+    ensures cost { steps.new ≤ steps.old + nonzeros (length scratch.now.values.items) (found_at scratch.now) }
+    ensures counted { steps.old ≤ steps.new }
+{
+    row.clear();
+    row.begin(common_denom(scratch));
+    let mut from = 0;
+    while let Some(c) = scratch.found.next(from) {
+        row.put(c, &scratch.values[c as usize], steps);
+        from = c + 1;
+    }
+}
