@@ -3,6 +3,7 @@ pub mod ColumnEnds
 pub mod PlainPrograms
 pub mod LeastLimits
 pub mod FirstLimit
+pub mod Helps
 pub mod BasicColumns
 pub mod ValueLists
 pub mod Values

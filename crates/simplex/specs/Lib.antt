@@ -15,3 +15,4 @@ pub mod Choices
 pub mod Values
 pub mod Limits
 pub mod Loads
+pub mod Signs

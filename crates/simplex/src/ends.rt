@@ -4,8 +4,9 @@ ghost use Rattle.fraction.specs.Frac.{ratio};
 ghost use Rattle.evidence.specs.Sums.{is_below};
 ghost use Rattle.evidence.specs.Cases.{IsEmpty};
 ghost use Rattle.simplex_rules.specs.Statuses.{has_room};
-ghost use Rattle.simplex_rules.specs.Turns.{Can, Moves, rate};
+ghost use Rattle.simplex_rules.specs.Turns.{Can};
 ghost use Rattle.simplex.specs.Cuts.{range_of};
+ghost use Rattle.simplex.specs.Signs.{moves_by};
 
 use fraction::{End, Frac};
 use simplex_rules::{Status, Way};
@@ -70,25 +71,25 @@ fn can(e: Ends, status: Status, way: Way) -> bool
     }
 }
 
-/// Whether a column whose entry at the moving one this is moves as wanted.
-fn moves(wanted: Way, way: Way, entry: Frac) -> bool
-    ensures { IsTrue result ↔ Moves wanted (rate way (ratio entry)) }
+/// Whether a column whose entry at the moving one has this sign moves as wanted.
+fn moves(wanted: Way, way: Way, entry: i64) -> bool
+    ensures { result ≡ moves_by wanted way entry }
 {
     match wanted {
         Way::Rise => match way {
-            Way::Rise => entry.numer > 0,
-            Way::Fall => entry.numer < 0,
+            Way::Rise => entry > 0,
+            Way::Fall => entry < 0,
         },
         Way::Fall => match way {
-            Way::Rise => entry.numer < 0,
-            Way::Fall => entry.numer > 0,
+            Way::Rise => entry < 0,
+            Way::Fall => entry > 0,
         },
     }
 }
 
 /// The way in which a column that isn't basic moves another one as wanted.
-pub fn help(e: Ends, status: Status, wanted: Way, entry: Frac) -> Option<Way>
-    ensures { MatchOption result ((v : Way) → Can v (range_of e) status → Moves wanted (rate v (ratio entry)) → ⊥) (λ v. Can v (range_of e) status × Moves wanted (rate v (ratio entry))) }
+pub fn help(e: Ends, status: Status, wanted: Way, entry: i64) -> Option<Way>
+    ensures { MatchOption result ((v : Way) → Can v (range_of e) status → IsTrue (moves_by wanted v entry) → ⊥) (λ v. Can v (range_of e) status × IsTrue (moves_by wanted v entry)) }
 {
     if moves(wanted, Way::Rise, entry) && can(e, status, Way::Rise) {
         return Some(Way::Rise);

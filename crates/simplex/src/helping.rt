@@ -3,7 +3,7 @@ ghost use Rattle.std.specs.Prelude.{◌≡◌, ◌+◌, ◌<◌, ◌≤◌, true
 ghost use Rattle.fraction.specs.Frac.{ratio};
 ghost use Rattle.evidence.specs.Instance.{Instance};
 ghost use Rattle.bases.specs.Dictionary.{Values};
-ghost use Rattle.dictionary.specs.Dict.{IsLoaded, width_of, height_of, columns_of, basic_of, entry_of};
+ghost use Rattle.dictionary.specs.Dict.{IsLoaded, width_of, height_of, columns_of, basic_of, entry_of, IsNonbasic};
 ghost use Rattle.simplex_rules.specs.declared.columns.Way.{Way};
 ghost use Rattle.simplex_rules.specs.Statuses.{is_basic, basic_in};
 ghost use Rattle.simplex_rules.specs.Turns.{Can, Moves, rate, NoneHelps, IsFirstHelp};
@@ -41,7 +41,7 @@ pub fn entry_at<L: Ledger>(
     }
 }
 
-/// The way in which a column helps, if it does.
+/// The way in which a column that isn't basic helps, if it does.
 fn help_at<L: Ledger>(
     dict: &Dict<L>,
     ends: &Ends,
@@ -49,38 +49,17 @@ fn help_at<L: Ledger>(
     row: u32,
     wanted: Way,
     col: u32,
-    place: &mut usize,
     steps: &mut Steps<L>,
 ) -> Option<Way>
     requires loaded { IsLoaded dict.now }
     requires row { row < columns_of dict.now }
     requires basic { basic_of dict.now row ≡ true }
-    requires col { col < width_of dict.now + height_of dict.now }
+    requires nonbasic { IsNonbasic dict.now col }
     requires status { is_basic status ≡ basic_of dict.now col }
     ensures help { MatchOption result ((v : Way) → Can v (range_of ends.now) status → Moves wanted (rate v (entry_of dict.now row col)) → ⊥) (λ v. (is_basic status ≡ false) × Can v (range_of ends.now) status × Moves wanted (rate v (entry_of dict.now row col))) }
     ensures counted { steps.old ≤ steps.new }
 {
-    match status {
-        Status::Basic => None,
-        Status::Lower => help(
-            *ends,
-            status,
-            wanted,
-            dict.entry_near(row, col, place, steps),
-        ),
-        Status::Upper => help(
-            *ends,
-            status,
-            wanted,
-            dict.entry_near(row, col, place, steps),
-        ),
-        Status::Zero => help(
-            *ends,
-            status,
-            wanted,
-            dict.entry_near(row, col, place, steps),
-        ),
-    }
+    help(*ends, status, wanted, dict.entry_sign(row, col, steps))
 }
 
 /// The first column that moves the row's one as wanted.
@@ -102,20 +81,14 @@ pub fn first_help<L: Ledger>(
     ensures help { (I : Instance) (w : Values) → AreEndsOf I ends.now → MatchOption result (NoneHelps I statuses.now (entry_of dict.now) w row wanted) (λ m. IsFirstHelp I statuses.now (entry_of dict.now) w row wanted m.col m.way) }
     ensures counted { steps.old ≤ steps.new }
 {
-    let mut place = 0;
-    for c in 0..goal {
-        if let Some(way) = help_at(
-            dict,
-            &ends[c as usize],
-            statuses[c as usize],
-            row,
-            wanted,
-            c,
-            &mut place,
-            steps,
-        ) {
+    let _goal = goal;
+    let mut from = 0;
+    while let Some(c) = dict.next_entry(row, from) {
+        let status = statuses[c as usize];
+        if let Some(way) = help_at(dict, &ends[c as usize], status, row, wanted, c, steps) {
             return Some(Move { col: c, way });
         }
+        from = c + 1;
     }
     None
 }

@@ -38,8 +38,8 @@ fn forget_at<L: Ledger>(
     ensures size { size_of unknown.new ≡ size_of unknown.old }
     ensures counted { steps.old ≤ steps.new }
 {
-    let entry = dict.entry(col, moving, steps);
-    if entry.numer != 0 {
+    let _steps = steps;
+    if dict.has_entry(col, moving) {
         unknown.mark(col);
     }
 }

@@ -111,6 +111,9 @@ fn limit_at<L: Ledger>(
     ensures counted { steps.old ≤ steps.new }
 {
     if status == Status::Basic {
+        if !dict.has_entry(col, moving.col) {
+            return Ok(None);
+        }
         let entry = entry_at(dict, col, moving.col, goal, steps);
         return until_by(*ends, *value, rate(moving.way, entry));
     }

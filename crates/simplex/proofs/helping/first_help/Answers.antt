@@ -1,39 +1,73 @@
-use Rattle.std.proofs.Common.{◌<◌, length, below_more, subst, sym, ◌∙◌, arith}
+use Rattle.std.proofs.Common.{◌≡◌, ℕ, ◌<◌, false, length, arith, sym, ◌∙◌, subst}
+use Rattle.evidence.proofs.Columns.{by_eq, by_lt}
 use Rattle.simplex_rules.specs.declared.columns.Way.{Way}
 use Rattle.simplex_rules.specs.Statuses.{status_at}
 use Rattle.simplex_rules.specs.Turns.{Can, Moves, rate}
 use Rattle.dictionary.specs.Dict.{entry_of}
+use Rattle.dictionary.specs.Rows.{has_number}
+use Rattle.dictionary.proofs.RowForms.{sized_zero}
 use Rattle.simplex.specs.Cuts.{ranges_in}
 use Rattle.simplex.proofs.ColumnEnds.{read_range}
+use Rattle.simplex.proofs.PlainPrograms.{moves_nonzero}
 use Rattle.simplex.proofs.helping.first_help.Goals as goal
+use Rattle.simplex.proofs.helping.first_help.Goals.{In-Some}
 
 pub loop-c-init : goal.loop-c-init
 loop-c-init g c = record { before = λ k h. absurd (omega arith); counted = omega arith }
 
-pub returns-in-Some-clause-help : goal.returns-in-Some-clause-help
-returns-in-Some-clause-help g c = λ I w e.
-    let h : c.loop-c.c < length c.args.ends.now = let a = c.requires.ends in let b = c.requires.goal in omega arith in
-    let r = read_range c.args.ends.now c.loop-c.c c.index-ends-c.result c.index-ends-c.is h in
-    let f = c.in-Some.ensures.help in
+-- the column at hand has ends
+inside : (g : _) (c : In-Some g) → c.in-Some.c < length c.args.ends.now
+inside g c = let i = c.in-Some.ensures.nonbasic.inside in let s = c.requires.statuses in let n = s.count in let e = c.requires.ends in omega arith
+
+-- a column without an entry moves nothing
+stays : (g : _) (c : In-Some g) (k : ℕ) → has_number (entry_of c.args.dict.now c.args.row) k ≡ false → (v : Way) → Moves c.args.wanted (rate v (entry_of c.args.dict.now c.args.row k)) → ⊥
+stays g c k e v m = moves_nonzero c.args.wanted v (entry_of c.args.dict.now c.args.row k) m (sized_zero (entry_of c.args.dict.now c.args.row k).num (sym e))
+
+-- up to the column at hand none helps
+none_before : (g : _) (c : In-Some g) (k : ℕ) → k < c.in-Some.c → (v : Way) → Can v (ranges_in c.args.ends.now k) (status_at c.args.statuses.now k) → Moves c.args.wanted (rate v (entry_of c.args.dict.now c.args.row k)) → ⊥
+none_before g c k l v can moves = by_lt k c.loop-c.from (λ h. c.loop-c.invariant.before k h v can moves) (λ h. stays g c k (c.in-Some.ensures.first.first k h l) v moves)
+
+pub bounds-statuses-c : goal.bounds-statuses-c
+bounds-statuses-c g c = let l = inside g (goal.at.bounds-statuses-c g c).In-Some in let e = c.requires.ends in omega arith
+
+pub bounds-ends-c : goal.bounds-ends-c
+bounds-ends-c g c = inside g (goal.at.bounds-ends-c g c).In-Some
+
+pub help_at-requires-clause-nonbasic : goal.help_at-requires-clause-nonbasic
+help_at-requires-clause-nonbasic g c = c.in-Some.ensures.nonbasic
+
+pub overflow_add-from : goal.overflow_add-from
+overflow_add-from g c = let l = inside g (goal.at.overflow_add-from g c).In-Some in let e = c.requires.ends in let n = c.requires.goal in let w = c.ranges.goal in record { fits = omega arith }
+
+pub returns-in-Some-help_at-clause-help : goal.returns-in-Some-help_at-clause-help
+returns-in-Some-help_at-clause-help g c I w e =
+    let at' = (goal.at.returns-in-Some-help_at-clause-help g c).In-Some in
+    let h = inside g at' in
+    let r = read_range c.args.ends.now c.in-Some.c c.index-ends-c.result c.index-ends-c.is h in
+    let f = c.in-Some-help_at.ensures.help in
     record {
-      inside = let a = e.count in let b = c.requires.ends in let d = c.requires.goal in omega arith;
+      inside = let a = e.count in omega arith;
       helps = record {
         nonbasic = f.0;
-        can = subst (λ x. Can c.in-Some.way x (status_at c.args.statuses.now c.loop-c.c)) (sym (e.is c.loop-c.c ∙ r)) f.1;
+        can = subst (λ x. Can c.in-Some-help_at.way x (status_at c.args.statuses.now c.in-Some.c)) (sym (e.is c.in-Some.c ∙ r)) f.1;
         moves = f.2;
       };
-      before = λ k l v p. c.loop-c.invariant.before k l v (subst (λ x. Can v x (status_at c.args.statuses.now k)) (e.is k) p.can) p.moves;
+      before = λ k l v p. none_before g at' k l v (subst (λ x. Can v x (status_at c.args.statuses.now k)) (e.is k) p.can) p.moves;
     }
 
 pub loop-c-preserved : goal.loop-c-preserved
 loop-c-preserved g c =
-    let h : c.loop-c.c < length c.args.ends.now = let a = c.requires.ends in let b = c.requires.goal in omega arith in
-    let r = read_range c.args.ends.now c.loop-c.c c.index-ends-c.result c.index-ends-c.is h in
+    let at' = (goal.at.loop-c-preserved g c).In-Some in
+    let r = read_range c.args.ends.now c.in-Some.c c.index-ends-c.result c.index-ends-c.is (inside g at') in
     record {
-      before = below_more (λ k. (v : Way) → Can v (ranges_in c.args.ends.now k) (status_at c.args.statuses.now k) → Moves c.args.wanted (rate v (entry_of c.args.dict.now c.args.row k)) → ⊥) c.loop-c.c c.loop-c.invariant.before
-          (λ v p. c.in_default.ensures.help v (subst (λ x. Can v x (status_at c.args.statuses.now c.loop-c.c)) r p));
-      counted = let a = c.loop-c.invariant.counted in let b = c.in_default.ensures.counted in omega arith;
+      before = λ k l v can moves. by_eq k c.in-Some.c
+          (λ e. c.in_default-help_at.ensures.help v (subst (λ x. Can v x (status_at c.args.statuses.now c.in-Some.c)) r (subst (λ j. Can v (ranges_in c.args.ends.now j) (status_at c.args.statuses.now j)) e can)) (subst (λ j. Moves c.args.wanted (rate v (entry_of c.args.dict.now c.args.row j))) e moves))
+          (λ d. none_before g at' k (omega arith) v can moves);
+      counted = let a = c.loop-c.invariant.counted in let b = c.in_default-help_at.ensures.counted in omega arith;
     }
 
 pub returns-clause-help : goal.returns-clause-help
-returns-clause-help g c = λ I w e k h v p. c.loop-c.invariant.before k (let a = e.count in let b = c.requires.ends in let d = c.requires.goal in let f = c.loop-c-test.false in omega arith) v (subst (λ x. Can v x (status_at c.args.statuses.now k)) (e.is k) p.can) p.moves
+returns-clause-help g c I w e k h v p =
+    let can = subst (λ x. Can v x (status_at c.args.statuses.now k)) (e.is k) p.can in
+    by_lt k c.loop-c.from (λ l. c.loop-c.invariant.before k l v can p.moves)
+    (λ l. moves_nonzero c.args.wanted v (entry_of c.args.dict.now c.args.row k) p.moves (sized_zero (entry_of c.args.dict.now c.args.row k).num (sym (c.in_default.ensures.first k l))))

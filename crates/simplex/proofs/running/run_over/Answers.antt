@@ -1,4 +1,4 @@
-use Rattle.std.proofs.Common.{◌≡◌, ℕ, ◌+◌, Bool, List, length, refl, sym, ◌∙◌, ap, ap₂, subst, arith}
+use Rattle.std.proofs.Common.{◌≡◌, ℕ, ◌+◌, inl, Bool, List, length, refl, sym, ◌∙◌, ap, ap₂, subst, arith}
 use Rattle.evidence.specs.Instance as Of
 use Rattle.evidence.specs.Instance.{minimising_by}
 use Rattle.instance.specs.declared.parts.Var.{Var}
@@ -14,6 +14,16 @@ use Rattle.simplex.proofs.CutPrograms.{start_cut, rows_count}
 use Rattle.simplex.proofs.Finishes.{finish_run}
 use Rattle.simplex.proofs.KnownValues.{none_known}
 use Rattle.simplex.proofs.running.run_over.Goals as goal
+
+-- a column clashes: no look was made
+pub returns-in-Some-clause-run : goal.returns-in-Some-clause-run
+returns-in-Some-clause-run g c = (
+  0,
+  g.met.W.Watch.stays c.args.watch.now,
+  (λ I t looks cut most tells.
+      let none : looks + 0 ≡ looks = omega arith in
+      inl (c.in-Some.col, c.in-Some.ensures.clash I cut, refl, ap (λ (j : ℕ). record { turns = c.args.turns.now.done; looks = j }) none)),
+)
 
 pub returns-clause-run : goal.returns-clause-run
 returns-clause-run g c =
