@@ -208,7 +208,7 @@ fn asked_by<'w>(matches: &ArgMatches<'w>) -> Option<Asked<'w>>
 
 /// What the words ask for, the first of which is the program's name. There is nothing where they are no command, or ask
 /// for help.
-pub fn read<'w>(alloc: Global, words: &'w [String]) -> Result<Option<Asked<'w>>, Memory>
+pub fn read_words<'w>(alloc: Global, words: &'w [String]) -> Result<Option<Asked<'w>>, Memory>
     ensures { IfOk result (λ asked. option_map says.meant asked ≡ says.asks (map string_bytes words.now)) }
 {
     match program(alloc)?.try_get_matches_from(words) {

@@ -36,7 +36,7 @@ fn reports_are_one()
 }
 
 /// Documents that are accepted aren't refused, but for want of memory.
-pub fn accepted_is_not_refused()
+pub fn accepted_documents_are_not_refused()
     ensures { (osil osrl : List ℕ) (k : Kind) (f : CheckFault) → IsAcceptedText osil osrl k → DocsRefuse osil osrl f → f ≡ Memory }
 {
     instances_are_one();

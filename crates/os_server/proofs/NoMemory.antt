@@ -5,7 +5,7 @@ use Rattle.os_io.specs.declared.streams.Failed.{Failed}
 use Rattle.http_link.specs.Requests.{IsHeadPart}
 use Rattle.http_link.specs.Lines.{print_head}
 use Rattle.job_table.specs.History.{Entry}
-use Rattle.os_server.specs.declared.reply.Reply.TheVariants.{NoMemory}
+use Rattle.os_server.specs.declared.reply.HttpReply.TheVariants.{NoMemory}
 use Rattle.os_server.specs.declared.serve.Served.{Served}
 use Rattle.os_server.specs.declared.serve.Served.TheVariants.{WriteFault, Memory}
 use Rattle.os_server.specs.Talk.{text_of_reply, ServesWhole, both_ends}

@@ -15,8 +15,8 @@ use Rattle.job_runs.specs.Solves.{EntersAndRuns}
 use Rattle.job_runs.proofs.Judgements.{Made}
 use Rattle.os_server.specs.declared.order.Order.{Order}
 use Rattle.os_server.specs.declared.saying.Said.{Said}
-use Rattle.os_server.specs.declared.reply.Reply.{Reply}
-use Rattle.os_server.specs.declared.reply.Reply.TheVariants.{Answer, Refused, NoMemory}
+use Rattle.os_server.specs.declared.reply.HttpReply.{HttpReply}
+use Rattle.os_server.specs.declared.reply.HttpReply.TheVariants.{Answer, Refused, NoMemory}
 use Rattle.os_server.specs.declared.serve.Served.{Served}
 use Rattle.os_server.specs.declared.serve.Served.TheVariants.{Ended, CutShort, ReadFault, WriteFault, Memory}
 use Rattle.os_server.specs.Answers.{Doing, Moves, RunsAtOnce, doing, doing_of, DoesSo, Does, BeginsSo}
@@ -105,7 +105,7 @@ module _ (made : Made) (Holds : List Entry → Type 0) (b : Builds made Holds) w
     answers_so body own said as_worker (inl d) = does_so d.order d.last own d.does
     answers_so body own said as_worker (inr f) = no_calls own f.none
 
-    due_so : (taken : List ℕ) (own : List Entry) (r : Reply) → IsReplyDue made wakes taken own r → Holds own
+    due_so : (taken : List ℕ) (own : List Entry) (r : HttpReply) → IsReplyDue made wakes taken own r → Holds own
     due_so taken own (Answer said close as_worker) (body, request, answers) = answers_so body own said as_worker answers
     due_so taken own (Refused refusal) (refused, none) = no_calls own none
     due_so taken own NoMemory (inl (head, none)) = no_calls own none

@@ -14,8 +14,8 @@ use Rattle.http_link.specs.Requests.{CountsFault, ShowsTaken, EndsWith, AnswersT
 use Rattle.soap_calls.specs.declared.calling.CallReader.{CallReader}
 use Rattle.soap_calls.specs.Reading.{HasTaken}
 use Rattle.job_table.specs.History.{Entry}
-use Rattle.os_server.specs.declared.reply.Reply.{Reply}
-use Rattle.os_server.specs.declared.reply.Reply.TheVariants.{Answer, Refused, NoMemory}
+use Rattle.os_server.specs.declared.reply.HttpReply.{HttpReply}
+use Rattle.os_server.specs.declared.reply.HttpReply.TheVariants.{Answer, Refused, NoMemory}
 use Rattle.os_server.specs.declared.serve.Served.{Served}
 use Rattle.os_server.specs.declared.serve.Served.TheVariants.{Ended, CutShort, ReadFault, WriteFault, Memory}
 use Rattle.os_server.specs.Talk.{Part, part, then, all_of, ReadsBytes, AtEnd, most_requests, text_of_reply, IsReplyDue, IsExchange, EndsTalk, IsLastPart, HandsOnAll, Accounts, Serves, ServesWhole, both_ends}
@@ -31,7 +31,7 @@ Bytes = Option (List ℕ)
 -- ---- what came
 
 -- a request that is whole, and whose body was read as it came
-pub whole_comes : (made : Made) (wakes : Wakes) (did : List Entry → Type 0) (To : List ℕ → Type 0) (read : CallReader) (i : Incoming) (head : Head) (reply : Reply)
+pub whole_comes : (made : Made) (wakes : Wakes) (did : List Entry → Type 0) (To : List ℕ → Type 0) (read : CallReader) (i : Incoming) (head : Head) (reply : HttpReply)
     (old new : Tells) → ((bytes : List ℕ) → To bytes → HasTaken read bytes) → i ≡ incoming.Whole head → Reading To (Ok i) old.left new.left
     → new.read_faults ≡ old.read_faults → SameOutput old new
     → ((bytes : List ℕ) → HasTaken read bytes → (own : List Entry) × did own × IsReplied made wakes bytes head.close own reply)
@@ -57,7 +57,7 @@ end_of b (Some x) None taken p = p
 end_of b (Some x) (Some y) taken p = p.1
 
 -- what asks nothing: no request that is whole, an answer by another name
-pub quiet_comes : (made : Made) (wakes : Wakes) (did : List Entry → Type 0) (To : List ℕ → Type 0) (a b : Result Incoming LinkFault) (came : Result Reply Served)
+pub quiet_comes : (made : Made) (wakes : Wakes) (did : List Entry → Type 0) (To : List ℕ → Type 0) (a b : Result Incoming LinkFault) (came : Result HttpReply Served)
     (old new : Tells) → a ≡ b → did [] → Reading To a old.left new.left → CountsFault a old.read_faults new.read_faults → SameOutput old new
     → ((taken : List ℕ) → ShowsTaken To b taken → BothTold old.left new.left (λ before after. EndsWith b after) → CameWithDue made wakes came (AtEnd [] old.left new.left) taken [])
     → (CountsFault b old.read_faults new.read_faults → CountsCame came old.read_faults new.read_faults) → ComesOnLink made wakes did came old new
@@ -76,13 +76,13 @@ quiet_comes made wakes did To a b came old new is stays answer counted output sh
 -- ---- one request
 
 -- no moves after these
-without_more : (made : Made) (wakes : Wakes) (taken : List ℕ) (own after : List Entry) (reply : Reply) → after ≡ [] → IsReplyDue made wakes taken own reply
+without_more : (made : Made) (wakes : Wakes) (taken : List ℕ) (own after : List Entry) (reply : HttpReply) → after ≡ [] → IsReplyDue made wakes taken own reply
     → IsReplyDue made wakes taken (own ++ after) reply
 without_more made wakes taken own after reply none is_due =
     subst (λ (es : List Entry). IsReplyDue made wakes taken es reply) (sym (ap (λ s. own ++ s) none ∙ append-nil own)) is_due
 
 -- a reply that was written, and what followed
-answered : (made : Made) (wakes : Wakes) (AtEnd : Type 0) (reply : Reply) (end : Option Served) (taken : List ℕ) (own after : List Entry)
+answered : (made : Made) (wakes : Wakes) (AtEnd : Type 0) (reply : HttpReply) (end : Option Served) (taken : List ℕ) (own after : List Entry)
     → IsReplyDue made wakes taken own reply → FollowsReply made wakes reply after end
     → AnswersOne made wakes end AtEnd (part taken (own ++ after) (text_of_reply reply))
 answered made wakes AtEnd (Answer said true as_worker) end taken own after is_due (works, end_is) =
@@ -122,7 +122,7 @@ answered made wakes AtEnd NoMemory end taken own after is_due (none, end_is) =
 abbrev WentWell : Tells → Tells → Type 0
 WentWell old new = (new.read_faults ≡ old.read_faults) × (new.write_faults ≡ old.write_faults) × HandsOnAll old new
 
-settled : (made : Made) (wakes : Wakes) (reply : Reply) (end : Option Served) (after : List Entry) (old new : Tells) → FollowsReply made wakes reply after end
+settled : (made : Made) (wakes : Wakes) (reply : HttpReply) (end : Option Served) (after : List Entry) (old new : Tells) → FollowsReply made wakes reply after end
     → WentWell old new → AccountsOne end old new
 settled made wakes (Answer said true as_worker) end after old new f w = subst (λ (e : Option Served). AccountsOne e old new) (sym f.1) w
 settled made wakes (Answer said false as_worker) end after old new f w = subst (λ (e : Option Served). AccountsOne e old new) (sym f.1) w
@@ -130,7 +130,7 @@ settled made wakes (Refused refusal) end after old new f w = subst (λ (e : Opti
 settled made wakes NoMemory end after old new f w = subst (λ (e : Option Served). AccountsOne e old new) (sym f.1) w
 
 -- a reply that was sent, and what followed
-pub followed : (made : Made) (wakes : Wakes) (did did' both : List Entry → Type 0) (reply : Reply) (end : Option Served) (x : Unit {0}) (old mid new : Tells)
+pub followed : (made : Made) (wakes : Wakes) (did did' both : List Entry → Type 0) (reply : HttpReply) (end : Option Served) (x : Unit {0}) (old mid new : Tells)
     → Joins did did' both → ComesOnLink made wakes did (Ok reply) old mid → Sends {X = Unit {0}} {E = Failed} (Ok x) (text_of_reply reply) mid new
     → ((after : List Entry) × did' after × FollowsReply made wakes reply after end) → ServesOne made wakes both end old new
 followed made wakes did did' both reply end x old mid new joins came sent (after, calls, follows) = record {
@@ -151,7 +151,7 @@ part_written (Some x) None text p = absurd p
 part_written (Some x) (Some y) text (out, is, wrote) = (out, is, wrote)
 
 -- a reply of which a first part was written
-pub unwritten : (made : Made) (wakes : Wakes) (did : List Entry → Type 0) (reply : Reply) (e : Failed) (old mid new : Tells)
+pub unwritten : (made : Made) (wakes : Wakes) (did : List Entry → Type 0) (reply : HttpReply) (e : Failed) (old mid new : Tells)
     → ComesOnLink made wakes did (Ok reply) old mid → Sends {X = Unit {0}} {E = Failed} (Err e) (text_of_reply reply) mid new
     → ServesOne made wakes did (Some WriteFault) old new
 unwritten made wakes did reply e old mid new came sent =
@@ -191,7 +191,7 @@ goes_on : (end : Served) → None ≡ Some end → ⊥
 goes_on end e = cc
 
 -- what follows a reply is no read fault
-pub follows_no_fault : (made : Made) (wakes : Wakes) (reply : Reply) (after : List Entry) (end : Option Served) → FollowsReply made wakes reply after end
+pub follows_no_fault : (made : Made) (wakes : Wakes) (reply : HttpReply) (after : List Entry) (end : Option Served) → FollowsReply made wakes reply after end
     → end ≡ Some ReadFault → ⊥
 follows_no_fault made wakes (Answer said true as_worker) after end (works, is) e = let same : Some Ended ≡ Some ReadFault = sym is ∙ e in cc
 follows_no_fault made wakes (Answer said false as_worker) after end (works, is) e = goes_on ReadFault (sym is ∙ e)
@@ -222,7 +222,7 @@ output_then a b c p q = record {
 }
 
 -- what came on an input that is one of two ends
-pub comes_between : (made : Made) (wakes : Wakes) (did : List Entry → Type 0) (came : Result Reply Served) (i j o : Tells) → ComesOnLink made wakes did came i j
+pub comes_between : (made : Made) (wakes : Wakes) (did : List Entry → Type 0) (came : Result HttpReply Served) (i j o : Tells) → ComesOnLink made wakes did came i j
     → ComesOnLink made wakes did came (both_ends i o) (both_ends j o)
 comes_between made wakes did came i j o c = record {
   taken = c.taken;

@@ -16,8 +16,8 @@ use Rattle.job_runs.specs.Runs.{Works}
 use Rattle.os_server.specs.declared.order.Order.{Order}
 use Rattle.os_server.specs.declared.fault.FaultCode.{FaultCode}
 use Rattle.os_server.specs.declared.saying.Said.{Said}
-use Rattle.os_server.specs.declared.reply.Reply.{Reply}
-use Rattle.os_server.specs.declared.reply.Reply.TheVariants.{Answer, Refused, NoMemory}
+use Rattle.os_server.specs.declared.reply.HttpReply.{HttpReply}
+use Rattle.os_server.specs.declared.reply.HttpReply.TheVariants.{Answer, Refused, NoMemory}
 use Rattle.os_server.specs.declared.serve.Served.{Served}
 use Rattle.os_server.specs.declared.serve.Served.TheVariants.{Ended, CutShort, ReadFault, WriteFault, Memory}
 use Rattle.os_server.specs.Orders.{Asks, Faults}
@@ -53,7 +53,7 @@ abbrev pub response_text : Said → List ℕ
 response_text said = response_with said.fault said.text
 
 -- what a reply is written as
-abbrev pub text_of_reply : Reply → List ℕ
+abbrev pub text_of_reply : HttpReply → List ℕ
 text_of_reply (Answer said close as_worker) = response_text said
 text_of_reply (Refused refusal) = refusal_bytes refusal
 text_of_reply NoMemory = refusal_bytes ServiceUnavailable
@@ -117,7 +117,7 @@ module _ (made : List ℕ → List ℕ → List Bool → Option (List ℕ) → T
       ⊎ ((close : Bool) × (body : List ℕ) × IsRequest taken close body × ((own ≡ []) ⊎ LacksMemory body own))
 
   -- the bytes, the moves made for them, and the reply that they are due
-  abbrev pub IsReplyDue : List ℕ → List Entry → Reply → Type 0
+  abbrev pub IsReplyDue : List ℕ → List Entry → HttpReply → Type 0
   IsReplyDue taken own (Answer said close as_worker) = IsAnswered taken own said close as_worker
   IsReplyDue taken own (Refused refusal) = IsRefusedAs taken refusal × (own ≡ [])
   IsReplyDue taken own NoMemory = IsUnanswered taken own
@@ -148,7 +148,7 @@ module _ (made : List ℕ → List ℕ → List Bool → Option (List ℕ) → T
   EndsTalk CutShort AtEnd p = IsCut p.taken × IsSilentPart p × AtEnd
   EndsTalk ReadFault AtEnd p = IsBegun p.taken × IsSilentPart p
   EndsTalk WriteFault AtEnd p =
-      (reply : Reply) × IsReplyDue p.taken p.entries reply × IsPart (text_of_reply reply) p.out
+      (reply : HttpReply) × IsReplyDue p.taken p.entries reply × IsPart (text_of_reply reply) p.out
   EndsTalk Memory AtEnd p = IsReplyDue p.taken p.entries NoMemory × (p.out ≡ text_of_reply NoMemory)
 
   -- as many requests were answered as may be, and nothing follows

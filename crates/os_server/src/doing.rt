@@ -30,7 +30,7 @@ pub enum LastReply {
 }
 
 /// Does what is asked, and gives the last reply.
-pub(crate) fn make<V: Verdicts, C: Calls<V>, R: Runner<V>>(
+pub(crate) fn do_order<V: Verdicts, C: Calls<V>, R: Runner<V>>(
     alloc: Global,
     calls: &mut C,
     runner: &R,

@@ -25,8 +25,8 @@ mod reply;
 mod saying;
 mod serve;
 mod server;
-mod shown;
-mod stated;
+mod results;
+mod processes;
 
 pub use fault::FaultCode;
 pub use laws::{

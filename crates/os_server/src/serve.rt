@@ -7,7 +7,7 @@ ghost use Rattle.os_server.specs.Talk.{Serves, ServesWhole, both_ends};
 ghost use Rattle.os_server.specs.declared.serve.Served.TheVariants.{ReadFault};
 ghost use Rattle.os_server.specs.Serving.{FollowsReply, ServesOne};
 
-use crate::reply::{Reply, next_reply, send};
+use crate::reply::{HttpReply, answer_next, send_reply};
 use crate::server::Server;
 use http_link::Carried;
 use job_runs::work_one;
@@ -39,12 +39,12 @@ fn follow<V: Verdicts, C: Calls<V>, S: Server<V>>(
     alloc: Global,
     calls: &mut C,
     server: &S,
-    reply: &Reply,
+    reply: &HttpReply,
 ) -> Option<Served>
     ensures { (after : List Entry) × C.did calls.old calls.new after × FollowsReply S.ran S.wakes reply.now after result }
 {
     match reply {
-        Reply::Answer {
+        HttpReply::Answer {
             said: _,
             close,
             as_worker,
@@ -53,8 +53,8 @@ fn follow<V: Verdicts, C: Calls<V>, S: Server<V>>(
             work_one(alloc, calls, server, *as_worker);
             if close { Some(Served::Ended) } else { None }
         }
-        Reply::Refused(_) => Some(Served::Ended),
-        Reply::NoMemory => Some(Served::Memory),
+        HttpReply::Refused(_) => Some(Served::Ended),
+        HttpReply::NoMemory => Some(Served::Memory),
     }
 }
 
@@ -68,8 +68,8 @@ fn serve_request<L: Link, V: Verdicts, C: Calls<V>, S: Server<V>>(
     ensures serves { ServesOne S.ran S.wakes (C.did calls.old calls.new) result (tells_ahead link.old.carry (L.tells link.old.link)) (tells_ahead link.new.carry (L.tells link.new.link)) }
     ensures ahead { result ≡ Some ReadFault → link.new.carry ≡ [] }
 {
-    match next_reply(alloc, link, calls, server) {
-        Ok(reply) => match send(link, &reply) {
+    match answer_next(alloc, link, calls, server) {
+        Ok(reply) => match send_reply(link, &reply) {
             Ok(()) => follow(alloc, calls, server, &reply),
             Err(_) => Some(Served::WriteFault),
         },
@@ -78,7 +78,7 @@ fn serve_request<L: Link, V: Verdicts, C: Calls<V>, S: Server<V>>(
 }
 
 /// Serves one request of an input and an output, and says whether the conversation ends with it.
-fn serve_next<I: Source, O: Sink, V: Verdicts, C: Calls<V>, S: Server<V>>(
+fn serve_request_of_ends<I: Source, O: Sink, V: Verdicts, C: Calls<V>, S: Server<V>>(
     alloc: Global,
     input: &mut I,
     output: &mut O,
@@ -89,8 +89,8 @@ fn serve_next<I: Source, O: Sink, V: Verdicts, C: Calls<V>, S: Server<V>>(
     ensures output_of_input { SameOutput (I.tells input.old) (I.tells input.new) }
     ensures input_of_output { SameInput (O.tells output.old) (O.tells output.new) }
 {
-    match next_reply(alloc, input, calls, server) {
-        Ok(reply) => match send(output, &reply) {
+    match answer_next(alloc, input, calls, server) {
+        Ok(reply) => match send_reply(output, &reply) {
             Ok(()) => follow(alloc, calls, server, &reply),
             Err(_) => Some(Served::WriteFault),
         },
@@ -112,7 +112,7 @@ pub fn serve_ends<I: Source, O: Sink, V: Verdicts, C: Calls<V>, S: Server<V>>(
     ensures input_of_output { SameInput (O.tells output.old) (O.tells output.new) }
 {
     for _ in 0..MOST_REQUESTS {
-        match serve_next(alloc, input, output, calls, server) {
+        match serve_request_of_ends(alloc, input, output, calls, server) {
             None => {}
             Some(served) => return served,
         }
@@ -129,7 +129,7 @@ pub fn turn_away<I: Source, O: Sink, V: Verdicts, S: Server<V>>(
     ensures serves { ServesWhole S.ran S.wakes (λ made. made ≡ []) result (both_ends (I.tells _input.now) (O.tells output.old)) (both_ends (I.tells _input.now) (O.tells output.new)) }
     ensures input_of_output { SameInput (O.tells output.old) (O.tells output.new) }
 {
-    match send(output, &Reply::NoMemory) {
+    match send_reply(output, &HttpReply::NoMemory) {
         Ok(()) => Served::Memory,
         Err(_) => Served::WriteFault,
     }

@@ -11,7 +11,7 @@ use Rattle.desk.specs.declared.view.View.{View}
 use Rattle.desk.specs.History.{StartsWith}
 use Rattle.desk.specs.Rule.{HasMet}
 use Rattle.desk.specs.SeatMoves.{desk_id, IsSeatOf}
-use Rattle.server_threads.specs.declared.means.Limits.{Limits}
+use Rattle.server_threads.specs.declared.means.ServeLimits.{ServeLimits}
 use Rattle.server_threads.specs.declared.means.Means.{Means}
 use Rattle.server_threads.specs.declared.means.Room.{Room}
 use Rattle.server_threads.specs.declared.means.ServeFault.{ServeFault}
@@ -134,12 +134,12 @@ pub record LinksServed (talked : Tells → List Said → Tells → Bool → Type
   pub known : HasMet new.view.seen (map talk_met returned)
 
 -- links were served beside the workers: from this seat and listener to those, with this answer
-abbrev pub HasServedLinks : {J N : Type 0} → (talked : Tells → List Said → Tells → Bool → Type 0) → (N → NetTells) → Limits → (seat seat' : DeskSeat J) → (net net' : N) → Result ℕ ServeFault → Type 0
+abbrev pub HasServedLinks : {J N : Type 0} → (talked : Tells → List Said → Tells → Bool → Type 0) → (N → NetTells) → ServeLimits → (seat seat' : DeskSeat J) → (net net' : N) → Result ℕ ServeFault → Type 0
 HasServedLinks talked tells limits seat seat' net net' answer =
     (o : LinksServed talked limits.servers (stand tells seat net) (stand tells seat' net')) × EndsServing answer limits.connections o.links (tells net).faults (tells net').faults
 
 -- there is room for as many links and workers as these limits say
-pub record MayServe {J L S : Type 0} (limits : Limits) (room : Room J L S) : Type 0 where
+pub record MayServe {J L S : Type 0} (limits : ServeLimits) (room : Room J L S) : Type 0 where
   pub may : MayTake limits room.running
   pub none : room.shifts.items ≡ []
   pub empty : deque_len room.shifts ≡ 0

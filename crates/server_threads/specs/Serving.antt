@@ -8,7 +8,7 @@ use Rattle.desk.specs.declared.view.Entry.{Entry}
 use Rattle.desk.specs.History.{StartsWith, by, calls_by}
 use Rattle.desk.specs.Rule.{HasMet, out_of}
 use Rattle.server_threads.specs.declared.links.Running.{Running}
-use Rattle.server_threads.specs.declared.means.Limits.{Limits}
+use Rattle.server_threads.specs.declared.means.ServeLimits.{ServeLimits}
 use Rattle.server_threads.specs.declared.means.ServeFault.{ServeFault}
 use Rattle.server_threads.specs.declared.means.ServeFault.TheVariants.{Failed, Memory}
 use Rattle.server_threads.specs.Talks.{DeskSeat, LinkTalk, Shift, talk_met, shift_met, short_of, Came, GivenBack, AllTalked, AllWorked}
@@ -31,7 +31,7 @@ taken (None ∷ xs) = taken xs
 taken (Some x ∷ xs) = x ∷ taken xs
 
 -- links may be taken: at least one at a time, none is being served, and there are as many places as links may be served at once
-pub record MayTake {J L S B : Type 0} (limits : Limits) (running : Running J L S B) : Type 0 where
+pub record MayTake {J L S B : Type 0} (limits : ServeLimits) (running : Running J L S B) : Type 0 where
   pub some : 0 < limits.servers
   pub fresh : running.short ≡ 0
   pub none : taken running.places.items ≡ []
@@ -84,7 +84,7 @@ EndsServing (Err Failed) connections links faults faults' = (length links < conn
 EndsServing (Err Memory) connections links faults faults' = (links ≡ []) × (faults' ≡ faults)
 
 -- links and workers served: from this seat and listener to those, within these limits, with this answer
-abbrev pub HasServed : {J N : Type 0} → (made : List ℕ → List ℕ → List Bool → Option (List ℕ) → Type 0) → (talked : Tells → List Said → Tells → Bool → Type 0) → (N → NetTells) → Limits → (seat seat' : DeskSeat J) → (net net' : N)
+abbrev pub HasServed : {J N : Type 0} → (made : List ℕ → List ℕ → List Bool → Option (List ℕ) → Type 0) → (talked : Tells → List Said → Tells → Bool → Type 0) → (N → NetTells) → ServeLimits → (seat seat' : DeskSeat J) → (net net' : N)
     → Result ℕ ServeFault → Type 0
 HasServed made talked tells limits seat seat' net net' answer =
     (links : List LinkTalk) × ServesLinks made talked limits.servers limits.workers (stand tells seat net) (stand tells seat' net') links × EndsServing answer limits.connections links (tells net).faults (tells net').faults

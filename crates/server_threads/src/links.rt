@@ -255,7 +255,7 @@ where
     ensures goes { Goes J.right (S.talked B.rang) N.Conn.tells N.tells means.now before.now seat.new net.new running.new }
     ensures came { CameSo result means.now.limits.connections seat.old.me.0.given seat.new.me.0.given (N.tells net.old).faults (N.tells net.new).faults }
 {
-    for turn in 0..means.limits.connections {
+    for number in 0..means.limits.connections {
         let at = free_place(means, before, seat, net, running);
         let link = net.accept()?;
         let theirs = means.desk.split(seat);

@@ -24,7 +24,7 @@ pub enum CallKind {
 
 /// What is known of a call: its name, and which of the parts it has that not every call has.
 #[derive(Clone, Copy)]
-struct Row {
+struct CallRow {
     name: &'static [u8],
     osil: bool,
     ospl: bool,
@@ -32,38 +32,38 @@ struct Row {
 
 impl CallKind {
     /// What is known of it.
-    fn row(self) -> Row
+    fn row(self) -> CallRow
         ensures name { result.name.now ≡ (names.row self).name }
         ensures osil { result.osil ≡ (names.row self).osil }
         ensures ospl { result.ospl ≡ (names.row self).ospl }
     {
         match self {
-            CallKind::Solve => Row {
+            CallKind::Solve => CallRow {
                 name: b"solve",
                 osil: true,
                 ospl: false,
             },
-            CallKind::GetJobId => Row {
+            CallKind::GetJobId => CallRow {
                 name: b"getJobID",
                 osil: false,
                 ospl: false,
             },
-            CallKind::Send => Row {
+            CallKind::Send => CallRow {
                 name: b"send",
                 osil: true,
                 ospl: false,
             },
-            CallKind::Retrieve => Row {
+            CallKind::Retrieve => CallRow {
                 name: b"retrieve",
                 osil: false,
                 ospl: false,
             },
-            CallKind::Knock => Row {
+            CallKind::Knock => CallRow {
                 name: b"knock",
                 osil: false,
                 ospl: true,
             },
-            CallKind::Kill => Row {
+            CallKind::Kill => CallRow {
                 name: b"kill",
                 osil: false,
                 ospl: false,

@@ -19,7 +19,7 @@ use std::marker::PhantomData;
 use std::sync::Wait;
 
 /// Claims one job that waits, runs it and finishes it, by calls of this seat. False exactly where the claim gave none.
-pub fn work_one<J: Verdicts, R: Wait, U: Runner<J>, G: Gate>(
+pub fn work_one_by_seat<J: Verdicts, R: Wait, U: Runner<J>, G: Gate>(
     rt: &R,
     alloc: Global,
     desk: &Desk<J>,

@@ -4,10 +4,10 @@ use Rattle.http_link.specs.declared.requests.LinkFault.TheVariants as lost
 use Rattle.http_link.specs.Pieces.{TakesPieces}
 use Rattle.http_link.proofs.OneRequest.{begun_alone}
 use Rattle.soap_calls.specs.Reading.{TakesMore}
-use Rattle.os_server.specs.declared.reply.Reply.TheVariants as replies
+use Rattle.os_server.specs.declared.reply.HttpReply.TheVariants as replies
 use Rattle.os_server.specs.declared.serve.Served.TheVariants as ends
 use Rattle.os_server.proofs.Rounds.{whole_comes, quiet_comes}
-use Rattle.os_server.proofs.reply.next_reply.Goals as goal
+use Rattle.os_server.proofs.reply.answer_next.Goals as goal
 
 pub returns-in-Ok-Whole-clause-comes : goal.returns-in-Ok-Whole-clause-comes
 returns-in-Ok-Whole-clause-comes g c =
