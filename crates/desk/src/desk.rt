@@ -55,11 +55,11 @@ impl<J: Verdicts> Desk<J> {
     /// memory no move was made, and what the table held after all that the seat has then seen is such that this move wants some.
     pub fn ask<R: Wait, M: Move<J>>(&self, rt: &R, me: &mut Seat<J>, step: M) -> M::Answer
         requires seat { IsSeatOf (desk_id self.now) me.old }
-        requires call { May J.right (M.call step) }
+        requires may { May J.right (M.table_move step) }
         ensures seat { IsSeatOf (desk_id self.now) me.new }
-        ensures fits { IfSome (M.said result) (λ reply. fits (M.call step) reply ≡ true) }
-        ensures ok { IfSome (M.said result) (λ reply. AddsEntry J.right (first_number self.now) me.old.me.0 (M.call step) reply me.new.me.0) }
-        ensures sure { IfNone (M.said result) (Lacks J.right (first_number self.now) (M.call step) me.new.me.0.seen) }
+        ensures fits { IfSome (M.said result) (λ reply. fits (M.table_move step) reply ≡ true) }
+        ensures ok { IfSome (M.said result) (λ reply. AddsEntry J.right (first_number self.now) me.old.me.0 (M.table_move step) reply me.new.me.0) }
+        ensures sure { IfNone (M.said result) (Lacks J.right (first_number self.now) (M.table_move step) me.new.me.0.seen) }
         ensures err { IfNone (M.said result) (Waits me.old.me.0 me.new.me.0) }
     {
         let number = self.draw(rt, me);
@@ -80,7 +80,7 @@ impl<J: Verdicts> Desk<J> {
         other
     }
 
-    /// Takes in a seat that was split off. The first one then knows its number and its calls.
+    /// Takes in a seat that was split off. The first one then knows its number and its moves.
     pub fn meet(&self, me: &mut Seat<J>, other: Seat<J>)
         requires seat { IsSeatOf (desk_id self.now) me.old }
         requires first { me.old.me.0.number ≡ 0 }
@@ -158,11 +158,11 @@ impl<J: Verdicts> Desk<J> {
     fn answer<M: Move<J>>(&self, me: &mut Seat<J>, number: u64, held: Held<J>, step: M) -> M::Answer
         requires seat { me.old.table_id ≡ (desk_id self.now) }
         requires turn { IsServed J.right (first_number self.now) number me.old.me held }
-        requires call { May J.right (M.call step) }
+        requires may { May J.right (M.table_move step) }
         ensures seat { me.new.table_id ≡ me.old.table_id }
-        ensures fits { IfSome (M.said result) (λ reply. fits (M.call step) reply ≡ true) }
-        ensures ok { IfSome (M.said result) (λ reply. AnswersMove J.right (first_number self.now) (M.call step) reply me.old.me me.new.me) }
-        ensures sure { IfNone (M.said result) (wants_memory (M.call step) held.table ≡ true) }
+        ensures fits { IfSome (M.said result) (λ reply. fits (M.table_move step) reply ≡ true) }
+        ensures ok { IfSome (M.said result) (λ reply. AnswersMove J.right (first_number self.now) (M.table_move step) reply me.old.me me.new.me) }
+        ensures sure { IfNone (M.said result) (wants_memory (M.table_move step) held.table ≡ true) }
         ensures err { IfNone (M.said result) (me.new.me ≡ (with_turn Idle me.old.me.0, [])) }
     {
         let Held { mut table } = held;
@@ -186,9 +186,9 @@ impl<J: Verdicts> Desk<J> {
         _answer: &M::Answer,
     )
         requires seat { me.old.table_id ≡ (desk_id self.now) }
-        requires turn { IsMoveAnswered J.right (first_number self.now) K.call K.reply me.old.me }
+        requires turn { IsMoveAnswered J.right (first_number self.now) K.table_move K.reply me.old.me }
         ensures seat { me.new.table_id ≡ me.old.table_id }
-        ensures made { AnswersMove J.right (first_number self.now) K.call K.reply me.old.me me.new.me }
+        ensures made { AnswersMove J.right (first_number self.now) K.table_move K.reply me.old.me me.new.me }
     {
         self.table.shared.fetch_add::<PassOn<K>>(me, SERVING, 1);
     }

@@ -2,8 +2,8 @@
 
 ghost use Rattle.std.specs.Prelude.{◌≡◌, ℕ, List, Option, ◌+◌, ◌-◌, ◌<◌, ◌≤◌, ◌^◌, length, Some, None, true, false, IfOk, IfSome, OnOk, OnErr, IfErr, IfNone, IsSome, IsSomeAnd, min, if◌then◌else◌, [], ◌∷◌, ◌++◌};
 ghost use Rattle.std.specs.Option.{option_copied};
-ghost use Rattle.job_table.specs.declared.calls.Reply.{Reply};
-ghost use Rattle.job_table.specs.declared.calls.Finish.TheVariants.{Kept};
+ghost use Rattle.job_table.specs.declared.entries.Reply.{Reply};
+ghost use Rattle.job_table.specs.declared.entries.Finishing.TheVariants.{Kept};
 ghost use Rattle.job_table.specs.declared.job.Phase.TheVariants.{Issued, Running, Finished};
 ghost use Rattle.job_table.specs.Jobs.{Register, beginning, next_number, Rise, phase_of, with_phase, without, state_of, is_waiting, is_running, states, waiting_jobs, running_jobs, first_waiting, IsFirstWaiting, Below};
 ghost use Rattle.effects.specs.Records.{deed_of};
@@ -13,7 +13,7 @@ ghost use Rattle.job_table.specs.Plans.{has_room};
 ghost use Rattle.job_table.specs.Remade.{first_marked, settled};
 ghost use Rattle.job_table.specs.Steps.{most_jobs, last_number, with_new, moved, forgotten, adds, added_reply, LeadsBy, claims, kills, outcome, sends, finishes, is_marked};
 
-use crate::calls::{Finish, IssueFault, JobStates};
+use crate::entries::{Finishing, IssueFault, NumberedStates};
 use crate::job::{Job, Phase, State};
 use crate::waiting::{make_room, renew};
 use effects::{Effect, NoStore, NotStored, Store};
@@ -221,7 +221,7 @@ impl Jobs {
     }
 
     /// How a finish of a job ends that keeps no document, where it does.
-    pub(crate) fn unkept(&self, job: &Job, asked: bool) -> Option<Finish>
+    pub(crate) fn unkept(&self, job: &Job, asked: bool) -> Option<Finishing>
         ensures end { IfSome result (λ end. (document : Option (List ℕ)) → finishes job.now asked document (phase_of job.now.number self.now.jobs) self.now ≡ outcome (Reply.Finish end) self.now) }
         ensures held { IfNone result (IsSome (phase_of job.now.number self.now.jobs)) }
         ensures none { IfNone result ((document : Option (List ℕ)) → finishes job.now asked document (phase_of job.now.number self.now.jobs) self.now ≡ outcome (Reply.Finish Kept) (moved job.now.number (Finished document) self.now)) }
@@ -237,17 +237,17 @@ impl Jobs {
                 if job.osil.as_slice() != kept_osil.as_slice()
                     || job.osol.as_slice() != kept_osol.as_slice()
                 {
-                    Some(Finish::Other)
+                    Some(Finishing::Other)
                 } else if asked && !*marked {
-                    Some(Finish::Unmarked)
+                    Some(Finishing::Unmarked)
                 } else {
                     None
                 }
             }
-            Some(phase) => Some(Finish::Stale {
+            Some(phase) => Some(Finishing::Stale {
                 state: Some(state_of(phase)),
             }),
-            None => Some(Finish::Stale { state: None }),
+            None => Some(Finishing::Stale { state: None }),
         }
     }
 
@@ -263,10 +263,10 @@ impl Jobs {
     }
 
     /// The states of all, in order of issue.
-    pub(crate) fn states(&self, alloc: Global) -> Result<JobStates, Memory>
+    pub(crate) fn states(&self, alloc: Global) -> Result<NumberedStates, Memory>
         ensures { IfOk result (λ all. all ≡ states self.now.jobs) }
     {
-        let mut all = JobStates::new(alloc);
+        let mut all = NumberedStates::new(alloc);
         for (number, phase) in &self.phases {
             match all.push(*number, state_of(phase)) {
                 Ok(()) => {}

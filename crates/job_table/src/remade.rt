@@ -9,7 +9,7 @@ ghost use Rattle.job_table.specs.Jobs.{phase_of, is_waiting};
 ghost use Rattle.job_table.specs.Plans.{ledger_of};
 ghost use Rattle.job_table.specs.Remade.{takes_document, takes_kill, takes_mark, takes_farewell, Remakes, TriesAgain, osil_of, table_of};
 
-use crate::calls::{IssueFault, Verdicts};
+use crate::entries::{IssueFault, Verdicts};
 use crate::job::Phase;
 use crate::jobs::Jobs;
 use crate::plans::takes_texts;

@@ -2,7 +2,7 @@
 ghost use Rattle.std.specs.Prelude.{◌≡◌, ℕ, List, [], Err};
 ghost use Rattle.os_io.specs.Streams.{Writes, Sends};
 ghost use Rattle.soap_calls.specs.Reading.{HasTaken};
-ghost use Rattle.job_table.specs.History.{Entry};
+ghost use Rattle.job_table.specs.History.{MoveEntry};
 ghost use Rattle.os_server.specs.declared.serve.Served.TheVariants.{ReadFault};
 ghost use Rattle.os_server.specs.Answers.{reply_of};
 ghost use Rattle.os_server.specs.Talk.{was_taken, IsRung, text_of_reply, response_text};
@@ -19,7 +19,7 @@ use http_link::{
     Feed, Incoming, LinkFault, Refusal, pieces_are_their_bytes, read_request_into, write_answer,
     write_fault_answer, write_refusal,
 };
-use job_table::{Calls, Verdicts};
+use job_table::{Mover, Verdicts};
 use os_io::{Failed, Sink};
 use soap_calls::CallReader;
 use std::alloc::Global;
@@ -58,18 +58,18 @@ fn works_after<V: Verdicts, S: Server<V>>(server: &S, last: &LastReply) -> bool
 }
 
 /// Does what is asked, and says the last reply.
-fn answer_order<V: Verdicts, C: Calls<V>, S: Server<V>>(
+fn answer_order<V: Verdicts, C: Mover<V>, S: Server<V>>(
     alloc: Global,
-    calls: &mut C,
+    mover: &mut C,
     server: &S,
     order: Order,
     close: bool,
 ) -> HttpReply
-    ensures { (own : List Entry) × C.did calls.old calls.new own × DoesOrder S.ran S.wakes order close own result }
+    ensures { (own : List MoveEntry) × C.did mover.old mover.new own × DoesOrder S.ran S.wakes order close own result }
 {
     let kind = order.kind;
     let number = order.number;
-    match do_order(alloc, calls, server, order) {
+    match do_order(alloc, mover, server, order) {
         Ok(last) => match say(alloc, kind, number, &last) {
             Ok(said) => {
                 let as_worker = works_after(server, &last);
@@ -86,17 +86,17 @@ fn answer_order<V: Verdicts, C: Calls<V>, S: Server<V>>(
 }
 
 /// What a body is replied that was read.
-fn reply_to<V: Verdicts, C: Calls<V>, S: Server<V>>(
+fn reply_to<V: Verdicts, C: Mover<V>, S: Server<V>>(
     alloc: Global,
-    calls: &mut C,
+    mover: &mut C,
     server: &S,
     body: CallReader,
     close: bool,
 ) -> HttpReply
-    ensures { (bytes : List ℕ) → HasTaken body bytes → (own : List Entry) × C.did calls.old calls.new own × IsReplied S.ran S.wakes bytes close own result }
+    ensures { (bytes : List ℕ) → HasTaken body bytes → (own : List MoveEntry) × C.did mover.old mover.new own × IsReplied S.ran S.wakes bytes close own result }
 {
     match read_order(alloc, body) {
-        Ok(order) => answer_order(alloc, calls, server, order, close),
+        Ok(order) => answer_order(alloc, mover, server, order, close),
         Err(NoOrder::Envelope) => HttpReply::Refused(Refusal::BadRequest),
         Err(NoOrder::Fault { code, text }) => match said_fault(alloc, code, text.as_slice()) {
             Ok(said) => HttpReply::Answer {
@@ -111,20 +111,20 @@ fn reply_to<V: Verdicts, C: Calls<V>, S: Server<V>>(
 }
 
 /// Reads a request, its call as the body comes, and makes its moves. Where a read fails, nothing is left of what was read ahead.
-pub(crate) fn answer_next<I: Feed, V: Verdicts, C: Calls<V>, S: Server<V>>(
+pub(crate) fn answer_next<I: Feed, V: Verdicts, C: Mover<V>, S: Server<V>>(
     alloc: Global,
     input: &mut I,
-    calls: &mut C,
+    mover: &mut C,
     server: &S,
 ) -> Result<HttpReply, Served>
-    ensures comes { ComesOnLink S.ran S.wakes (C.did calls.old calls.new) result (I.tells input.old) (I.tells input.new) }
+    ensures comes { ComesOnLink S.ran S.wakes (C.did mover.old mover.new) result (I.tells input.old) (I.tells input.new) }
     ensures ahead { result ≡ Err ReadFault → I.ahead input.new ≡ [] }
 {
     let mut body = CallReader::new(alloc);
     match read_request_into(alloc, input, &mut body) {
         Ok(Incoming::Whole(head)) => {
             pieces_are_their_bytes::<CallReader>();
-            Ok(reply_to(alloc, calls, server, body, head.close))
+            Ok(reply_to(alloc, mover, server, body, head.close))
         }
         Ok(Incoming::Refused(refusal)) => Ok(HttpReply::Refused(refusal)),
         Ok(Incoming::Cut) => Err(Served::CutShort),

@@ -2,10 +2,10 @@
 use Rattle.std.specs.Prelude.{◌≡◌, ℕ, ◌+◌, ◌<◌, ◌≤◌, ◌^◌, Bool, List, [], ◌∷◌, ◌++◌, length, map, All, Contains, IsPermutation, Option, Result, Ok, Err}
 use Rattle.std.specs.VecDeque.{deque_len, deque_capacity}
 use Rattle.atomic_table.specs.Seated.{TableId}
-use Rattle.job_table.specs.History.{Entry as Said}
+use Rattle.job_table.specs.History.{MoveEntry as Said}
 use Rattle.os_io.specs.Streams.{Tells, HasRisen}
 use Rattle.os_io.specs.Links.{NetTells}
-use Rattle.desk.specs.declared.view.Entry.{Entry}
+use Rattle.desk.specs.declared.view.SeatEntry.{SeatEntry}
 use Rattle.desk.specs.declared.view.Met.{Met}
 use Rattle.desk.specs.declared.view.View.{View}
 use Rattle.desk.specs.History.{StartsWith}
@@ -60,14 +60,14 @@ AreAmong n (c ∷ cs) visits = Contains visits (n, c) × AreAmong (n + 1) cs vis
 
 -- so much of the history had been seen when the link with this number came, and of those that are being served the ones that came before it were
 -- out then
-pub record Begun (servers : ℕ) (log : List Entry) (talks : List LinkTalk) (running : List ℕ) (seat : ℕ) (seen : List Entry) : Type 0 where
+pub record Begun (servers : ℕ) (log : List SeatEntry) (talks : List LinkTalk) (running : List ℕ) (seat : ℕ) (seen : List SeatEntry) : Type 0 where
   pub opens : Opens servers log talks seat seen
   pub still : All (λ n. n < seat → Contains opens.out n) running
 
 -- so did all links, those that were served and those that are being served, and their numbers were given
-abbrev pub AllBegun : (servers given : ℕ) → List Entry → List LinkTalk → List ℕ → Type 0
+abbrev pub AllBegun : (servers given : ℕ) → List SeatEntry → List LinkTalk → List ℕ → Type 0
 AllBegun servers given log talks running =
-    All (λ n. (n < given) × ((seen : List Entry) × Begun servers log talks running n seen)) (map (λ t. t.seat) talks ++ running)
+    All (λ n. (n < given) × ((seen : List SeatEntry) × Begun servers log talks running n seen)) (map (λ t. t.seat) talks ++ running)
 
 -- what is done for a link
 abbrev pub Conversing : Type 0 → Type 0 → Type 0 → Type 0 → Type 0

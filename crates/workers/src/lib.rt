@@ -1,4 +1,4 @@
-//! Workers: who runs the jobs of a desk's table beside its other callers.
+//! Workers: who runs the jobs of a desk's table beside its other movers.
 //!
 //! [`work_one_by_seat`] claims one job that waits, runs it and finishes it, by moves of one seat; [`work_loop`] does so until there is
 //! nothing to wait for. Each says of the seat's moves that they are these and no others (`Works` of `job_runs`, `WorksThrough`).
@@ -9,7 +9,7 @@
 //! [`work_closing_shift`] is the shift of whoever closes the desk, who doesn't sleep: behind it no job waits.
 //!
 //! [`DeskWatch`] is what a run looks at: it asks the desk whether its job is to stop, and a [`Gate`] is passed before each look.
-//! A [`Gated`] caller has such a gate before its looks, and an [`OpenGate`] holds nobody.
+//! A [`Gated`] mover has such a gate before its looks, and an [`OpenGate`] holds nobody.
 #![tactic(auto)]
 
 mod closing_shift;

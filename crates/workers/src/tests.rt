@@ -80,11 +80,11 @@ fn queue<R: Wait>(
     requires { IsSeatOf (desk_id desk.now) seat.old }
     ensures { IsSeatOf (desk_id desk.now) seat.new }
 {
-    let call = send(alloc, number)?;
+    let texts = send(alloc, number)?;
     if desk.ask(rt, seat, Issue).is_err() {
         return Err(AllocError);
     }
-    desk.ask(rt, seat, call);
+    desk.ask(rt, seat, texts);
     if wake.ring(rt) {
         Ok(())
     } else {

@@ -3,7 +3,7 @@ use Rattle.os_server.proofs.serve.serve_request.Goals as goal
 
 pub returns-in-Ok-send_reply-clause-serves : goal.returns-in-Ok-send_reply-clause-serves
 returns-in-Ok-send_reply-clause-serves g c =
-    followed g.S.Runner.ran g.S.Server.wakes _ _ _ c.in-Ok.reply _ c.in-Ok-send_reply.field-0 _ _ _ (λ a b. g.met.C.Calls.joins _ _ _ a b)
+    followed g.S.Runner.ran g.S.Server.wakes _ _ _ c.in-Ok.reply _ c.in-Ok-send_reply.field-0 _ _ _ (λ a b. g.met.C.Mover.joins _ _ _ a b)
     c.in-Ok.ensures.comes c.in-Ok-send_reply.ensures c.follow.ensures
 
 pub returns-in-Ok-send_reply-clause-ahead : goal.returns-in-Ok-send_reply-clause-ahead
