@@ -1,4 +1,4 @@
--- Which command words call, and what it makes of the words behind it.
+-- Which command words name, and what it makes of the words behind it.
 use Rattle.std.proofs.Common.{◌≡◌, ◌∙◌, ◌+◌, ◌<◌, ℕ, ◌⊎◌, zero, suc, List, [], ◌∷◌, ◌++◌, length, get_or, Bool, true, false, cond, not, Option, Some, None, inl, inr, refl, sym, ap, ap₂, subst, arith}
 use Rattle.std.specs.Prelude.{◌||◌, ◌&&◌, codes, drop, find, fold, is_some, map, nat_le, option_map, slice_get}
 use Rattle.std.specs.List.{list_all, list_any, zip}

@@ -37,10 +37,10 @@ flag_word id = record (new_rule id) { long = Some id; action = Some Set; range =
 abbrev pub shape : CommandForm → Shape
 shape form = record (new_shape form.name) { rules = map needed_word form.needed ++ map named_word form.named ++ map flag_word form.flags }
 
--- a command that is called by one of its subcommands
+-- a command that goes by one of its subcommands
 abbrev pub needing_subcommand : Shape → Shape
 needing_subcommand command = record command { subcommand_required = true }
 
--- the program's command line: it is called by one of the commands
+-- the program's command line: it goes by one of the commands
 abbrev pub program_form : App
 program_form = fold with_subcommand (on_top needing_subcommand (new_app (codes "os_app"))) (map shape forms)

@@ -1,4 +1,4 @@
-//! The words that the program is called with, and the usage that is written where they are no command.
+//! The words that the program is started with, and the usage that is written where they are no command.
 //!
 //! [`read_words`] says what the words ask for ([`Asked`]): `session`, `check OSIL OSRL`, `solve OSIL [--options OSOL] [--safe]`,
 //! `generate N`, `call NAME HOST PORT [--osil F] [--osol F] [--ospl F]`, or

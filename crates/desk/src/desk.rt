@@ -1,7 +1,7 @@
 //! The desk.
 
-ghost use Rattle.std.specs.Prelude.{◌≡◌, ◌≤◌, ◌^◌, [], ◌∷◌, true, None, Some, IfOk, IfSome, IfNone};
-ghost use Rattle.job_table.specs.Steps.{May, fits, wants_memory};
+ghost use Rattle.std.specs.Prelude.{◌≡◌, ◌≤◌, [], ◌∷◌, true, None, Some, IfOk, IfSome, IfNone};
+ghost use Rattle.job_table.specs.Steps.{May, fits, most_first, wants_memory};
 ghost use Rattle.desk.specs.declared.view.Turn.TheVariants.{Idle, Waiting};
 ghost use Rattle.desk.specs.History.{IsLegal};
 ghost use Rattle.desk.specs.Rule.{first_view, with_turn, one_more, newcomer, out_of};
@@ -33,7 +33,7 @@ impl<J: Verdicts> Desk<J> {
     /// A desk on the empty table whose numbers begin with this one, and its first seat.
     pub fn new(alloc: Global, first: u64) -> Result<(Desk<J>, Seat<J>), Memory>
         requires some { 1 ≤ first }
-        requires within { first ≤ 2 ^ 62 }
+        requires within { first ≤ most_first }
         ensures seat { IfOk result (λ d. IsSeatOf (desk_id d.0) d.1 × (d.1.me.0 ≡ first_view)) }
         ensures first { IfOk result (λ d. first_number d.0 ≡ first) }
     {

@@ -11,23 +11,17 @@ ghost use Rattle.effects.specs.Stores.{Puts, PutsIf, fault_of};
 ghost use Rattle.job_table.specs.Kept.{KeptBy};
 ghost use Rattle.job_table.specs.Plans.{has_room};
 ghost use Rattle.job_table.specs.Remade.{first_marked, settled};
-ghost use Rattle.job_table.specs.Steps.{most_jobs, last_number, with_new, moved, forgotten, adds, added_reply, LeadsBy, claims, kills, outcome, sends, finishes, is_marked};
+ghost use Rattle.job_table.specs.Steps.{most_jobs, last_number, most_first, with_new, moved, forgotten, adds, added_reply, LeadsBy, claims, kills, outcome, sends, finishes, is_marked};
 
 use crate::entries::{Finishing, IssueFault, NumberedStates};
 use crate::job::{Job, Phase, State};
 use crate::waiting::{make_room, renew};
-use effects::{Effect, NoStore, NotStored, Store};
+use effects::{Effect, LAST_NUMBER, MOST_JOBS, NoStore, NotStored, Store};
 use os_io::Memory;
 use std::alloc::{AllocError, Global};
 use std::collections::btree_map::Entry;
 use std::collections::{BTreeMap, VecDeque};
 use std::marker::Model;
-
-/// The most jobs that are held.
-const MOST_JOBS: usize = 10_000;
-
-/// The last number that is given.
-const LAST_NUMBER: u64 = (1 << 63) - 1;
 
 /// The jobs that are held. Contracts see the number with which numbers begin, the jobs in order of issue, how many numbers were
 /// given, and how many workers are enlisted.
@@ -154,7 +148,7 @@ fn recount(running: u32, ran: bool, runs: bool) -> u32
 impl Jobs {
     pub(crate) fn new(alloc: Global, first: u64) -> Jobs
         requires some { 1 ≤ first }
-        requires within { first ≤ 2 ^ 62 }
+        requires within { first ≤ most_first }
         ensures { result ≡ beginning first }
     {
         Jobs {
@@ -178,7 +172,7 @@ impl Jobs {
     pub(crate) fn begin(&mut self, first: u64)
         requires none { self.old.issued ≡ 0 }
         requires some { 1 ≤ first }
-        requires within { first ≤ 2 ^ 62 }
+        requires within { first ≤ most_first }
         ensures { self.new ≡ record self.old { first = first } }
     {
         self.first = first;

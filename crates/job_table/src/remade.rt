@@ -15,13 +15,10 @@ use crate::jobs::Jobs;
 use crate::plans::takes_texts;
 use crate::table::Table;
 use crate::texts::{SharedText, Twin};
-use effects::{Document, Effect, Replay};
+use effects::{Document, Effect, MOST_FIRST, Replay};
 use os_io::{Memory, Text};
 use std::alloc::{AllocError, Global};
 use std::marker::{Model, PhantomData};
-
-/// The greatest number with which numbers begin.
-const MOST_FIRST: u64 = 1 << 62;
 
 /// A text of these bytes, with two owners.
 fn twin(alloc: Global, bytes: &[u8]) -> Result<Twin, Memory>

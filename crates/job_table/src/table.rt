@@ -1,11 +1,11 @@
 //! The table.
 
-ghost use Rattle.std.specs.Prelude.{◌≡◌, ◌≤◌, ◌^◌, List, ℕ, Some, None, true, IfOk, IfErr, OnErr, IsSome};
+ghost use Rattle.std.specs.Prelude.{◌≡◌, ◌≤◌, List, ℕ, Some, None, true, IfOk, IfErr, OnErr, IsSome};
 ghost use Rattle.job_table.specs.Jobs.{Register, beginning, phase_of};
 ghost use Rattle.effects.specs.Stores.{PutsIf};
 ghost use Rattle.job_table.specs.Kept.{KeptBy, with_texts};
 ghost use Rattle.job_table.specs.Plans.{planned};
-ghost use Rattle.job_table.specs.Steps.{May, Step, Follows, fits, has_document, wants_memory, row_of_move, outcome, added_reply, kills, is_marked};
+ghost use Rattle.job_table.specs.Steps.{most_first, May, Step, Follows, fits, has_document, wants_memory, row_of_move, outcome, added_reply, kills, is_marked};
 
 use crate::entries::{TableMove, Finishing, IssueFault, Killing, Reply, Retrieved, Statistics, Verdicts};
 use crate::job::{Job, Phase};
@@ -51,7 +51,7 @@ impl<V: Verdicts> Table<V> {
     /// The empty table whose numbers begin with this one.
     pub fn new(alloc: Global, first: u64) -> Table<V>
         requires some { 1 ≤ first }
-        requires within { first ≤ 2 ^ 62 }
+        requires within { first ≤ most_first }
         ensures { result ≡ beginning first }
     {
         Table {
