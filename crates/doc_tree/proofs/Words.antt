@@ -50,7 +50,7 @@ pub use Rattle.element_tree.specs.Building.{Building, said, with_run}
 pub use Rattle.element_tree.specs.Items.{event_at}
 pub use Rattle.element_tree.specs.Nesting.{IsOneElement}
 pub use Rattle.tree_grammar.specs.Characters.{Each, Entity, IsDigit, IsLetter, IsName, IsNameChar, IsNameStart, IsQName, IsQNameRest, IsSpace, IsXmlChar, IsXmlText, Reference, Some1, amp, apos, begins_with_line_feed, behind_colon, decimal, entity_text, gt, has_prefix, hexadecimal, local_part, lt, named, normal_lines, quot, reference_chars, reference_text}
-pub use Rattle.tree_grammar.specs.Content.{BeginsWith, Body, Comment, Content, Instruction, IsBodyClear, IsClear, IsInstructionText, IsSectionText, Misc, bare, body_nodes, body_text, brackets, char, closed, comment, comment_dash, comment_over, comment_plain, comment_text, content_nodes, content_text, empty, end_text, instruction, instruction_text, misc_comment, misc_instruction, misc_over, misc_space, misc_text, nested, nothing, opened, put_char, put_chars, reference, section, with_text}
+pub use Rattle.tree_grammar.specs.Content.{Begins, Body, Comment, Content, Instruction, IsBodyClear, IsClear, IsInstructionText, IsSectionText, Misc, bare, body_nodes, body_text, brackets, char, closed, comment, comment_dash, comment_over, comment_plain, comment_text, content_nodes, content_text, empty, end_text, instruction, instruction_text, misc_comment, misc_instruction, misc_over, misc_space, misc_text, nested, nothing, opened, put_char, put_chars, reference, section, with_text}
 pub use Rattle.tree_grammar.specs.Declaration.{Declaration, Encoding, IsDeclarationReadable, IsEncodingChar, IsEncodingName, IsUtf8Name, IsYesOrNo, Standalone, Version, declaration_text, declared, encoded, encoding_text, no_declaration, no_encoding, no_standalone, standalone_text, standing, version_text}
 pub use Rattle.tree_grammar.specs.Document.{Doc, Document, document_element, document_text, mark_text}
 pub use Rattle.tree_grammar.specs.Elements.{Attribute, Chars, Close, Element, Event, IsShallow, Nodes, Open, chars, element, events, nodes_depth, nodes_events, none}

@@ -7,12 +7,12 @@ use Rattle.six_calls.specs.declared.part.Part.{Part}
 use Rattle.six_calls.specs.declared.part.Part.TheVariants.{Osil, Osol, Ospl}
 
 -- a call's name, and which of the parts it has that not every call has
-pub record CallRow : Type 0 where
+pub record Row : Type 0 where
   pub name : List ℕ
   pub osil : Bool
   pub ospl : Bool
 
-abbrev pub row : CallKind → CallRow
+abbrev pub row : CallKind → Row
 row kinds.Solve = record { name = codes "solve"; osil = true; ospl = false }
 row kinds.GetJobId = record { name = codes "getJobID"; osil = false; ospl = false }
 row kinds.Send = record { name = codes "send"; osil = true; ospl = false }

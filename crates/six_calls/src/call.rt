@@ -24,7 +24,7 @@ pub enum CallKind {
 
 /// What is known of a call: its name, and which of the parts it has that not every call has.
 #[derive(Clone, Copy)]
-struct CallRow {
+struct Row {
     name: &'static [u8],
     osil: bool,
     ospl: bool,
@@ -32,38 +32,38 @@ struct CallRow {
 
 impl CallKind {
     /// What is known of it.
-    fn row(self) -> CallRow
+    fn row(self) -> Row
         ensures name { result.name.now ≡ (names.row self).name }
         ensures osil { result.osil ≡ (names.row self).osil }
         ensures ospl { result.ospl ≡ (names.row self).ospl }
     {
         match self {
-            CallKind::Solve => CallRow {
+            CallKind::Solve => Row {
                 name: b"solve",
                 osil: true,
                 ospl: false,
             },
-            CallKind::GetJobId => CallRow {
+            CallKind::GetJobId => Row {
                 name: b"getJobID",
                 osil: false,
                 ospl: false,
             },
-            CallKind::Send => CallRow {
+            CallKind::Send => Row {
                 name: b"send",
                 osil: true,
                 ospl: false,
             },
-            CallKind::Retrieve => CallRow {
+            CallKind::Retrieve => Row {
                 name: b"retrieve",
                 osil: false,
                 ospl: false,
             },
-            CallKind::Knock => CallRow {
+            CallKind::Knock => Row {
                 name: b"knock",
                 osil: false,
                 ospl: true,
             },
-            CallKind::Kill => CallRow {
+            CallKind::Kill => Row {
                 name: b"kill",
                 osil: false,
                 ospl: false,

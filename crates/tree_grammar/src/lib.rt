@@ -13,7 +13,7 @@ ghost use Rattle.tree_grammar.specs.WrittenText.{written_element, written_events
 /// The most elements that may stand in one another; the root counts as one.
 pub const DEPTH: usize = 32;
 
-/// Law: the text of an element is that of its events in document order.
+/// The text of an element is that of its events in document order.
 pub fn written_in_document_order()
     ensures { (e : Element) → written_events false (events e) ≡ written_element e }
 {}
