@@ -11,6 +11,6 @@ mod program;
 mod words;
 
 pub use words::{
-    Asked, CallWords, ServeWords, commands_have_their_words, numbers_are_within_their_ends, read_words,
-    write_usage,
+    Asked, CallWords, ServeWords, commands_have_their_words, numbers_are_within_their_ends,
+    read_words, write_usage,
 };

@@ -6,7 +6,7 @@ ghost use Rattle.job_runs.specs.Solves.{Solves, BeginsToSolve};
 
 use crate::runner::Runner;
 use crate::work::run_given;
-use job_table::{Mover, IssueFault, Reply, Retrieved, Twin, Verdicts};
+use job_table::{IssueFault, Mover, Reply, Retrieved, Twin, Verdicts};
 use std::alloc::Global;
 
 /// Enters a job with these texts, runs it, finishes it and retrieves it. The answer is what is then shown of the job, or that there

@@ -5,7 +5,7 @@ ghost use Rattle.job_table.specs.Looks.{looks};
 ghost use Rattle.job_runs.specs.Runs.{AreLooks, IsJobRun, Works};
 
 use crate::runner::Runner;
-use job_table::{Mover, MoverWatch, Job, SharedText, Verdicts};
+use job_table::{Job, Mover, MoverWatch, SharedText, Verdicts};
 use std::alloc::Global;
 use std::marker::PhantomData;
 

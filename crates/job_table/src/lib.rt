@@ -23,12 +23,12 @@
 //! given, and texts have two owners from the start ([`Twin`]), so that `send`, `claim`, `look`, `finish` and `kill` take no memory.
 #![tactic(auto)]
 
-mod mover;
 mod entries;
 mod ids;
 mod job;
 mod jobs;
 mod laws;
+mod mover;
 pub mod moves;
 mod plans;
 mod remade;
@@ -37,13 +37,14 @@ mod texts;
 mod waiting;
 mod watch;
 
-pub use mover::Mover;
 pub use entries::{
-    TableMove, Finishing, IssueFault, NumberedStates, Killing, Reply, Retrieved, Statistics, Verdicts,
+    Finishing, IssueFault, Killing, NumberedStates, Reply, Retrieved, Statistics, TableMove,
+    Verdicts,
 };
 pub use ids::{read_id, write_id};
 pub use job::{Job, Phase, State};
 pub use laws::{documents_are_right, first_finish_is_kept, given_jobs_run, numbers_are_given_once};
+pub use mover::Mover;
 pub use plans::plans_are_so;
 pub use remade::Remade;
 pub use table::Table;

@@ -7,7 +7,9 @@ ghost use Rattle.job_table.specs.Kept.{KeptBy, with_texts};
 ghost use Rattle.job_table.specs.Plans.{planned};
 ghost use Rattle.job_table.specs.Steps.{most_first, May, Step, Follows, fits, has_document, wants_memory, row_of_move, outcome, added_reply, kills, is_marked};
 
-use crate::entries::{TableMove, Finishing, IssueFault, Killing, Reply, Retrieved, Statistics, Verdicts};
+use crate::entries::{
+    Finishing, IssueFault, Killing, Reply, Retrieved, Statistics, TableMove, Verdicts,
+};
 use crate::job::{Job, Phase};
 use crate::jobs::{Jobs, state_of};
 use crate::texts::{SharedText, Twin};

@@ -5,7 +5,7 @@ ghost use Rattle.os_app.specs.Checks.{IsAnswerAbout, IsAnswerLine, IsAnswerTo};
 ghost use Rattle.os_app.specs.Statuses.{check_status};
 
 use command_answers::status::{DONE, NEGATIVE};
-use command_answers::{StatusText, MOST_READ};
+use command_answers::{MOST_READ, StatusText};
 use document_checker::{CheckFault as Refused, Kind, answer_text, check_docs};
 use os_io::{FileFault, Files, Memory, Text};
 use std::alloc::Global;

@@ -7,7 +7,7 @@ ghost use Rattle.os_app.specs.Statuses.{solve_status};
 
 use crate::safe::safe_options;
 use command_answers::status::{DONE, NEGATIVE};
-use command_answers::{StatusText, MOST_READ, read_named};
+use command_answers::{MOST_READ, StatusText, read_named};
 use os_io::{FileFault, Files, Memory, Never};
 use solve_run::{Document, answer_job};
 use std::alloc::Global;

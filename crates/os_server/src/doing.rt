@@ -5,7 +5,7 @@ ghost use Rattle.os_server.specs.Answers.{reply_of, Does, BeginsToDo};
 
 use crate::order::Order;
 use job_runs::{Runner, solve};
-use job_table::{Mover, IssueFault, Killing, Retrieved, Statistics, Twin, Verdicts};
+use job_table::{IssueFault, Killing, Mover, Retrieved, Statistics, Twin, Verdicts};
 use os_io::Memory;
 use soap_calls::CallKind;
 use std::alloc::{AllocError, Global};

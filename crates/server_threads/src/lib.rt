@@ -26,7 +26,7 @@ mod serve;
 mod service;
 mod staff;
 
-pub use means::{ServeLimits, ServeFault};
+pub use means::{ServeFault, ServeLimits};
 pub use open::OpenLink;
 pub use serve::serve_loop;
 pub use service::Service;

@@ -14,7 +14,7 @@ use crate::places::{Place, put_in, take_out};
 use crate::promise::{Finished, ToServe};
 use crate::service::Service;
 use crossbeam_channel::Receiver;
-use desk::{LentSeat, Desk, Seat};
+use desk::{Desk, LentSeat, Seat};
 use job_table::Verdicts;
 use os_io::{Close, Failed, Link, Listener};
 use std::alloc::Global;

@@ -6,7 +6,7 @@ ghost use Rattle.desk.specs.Rule.{first_view};
 ghost use Rattle.desk.specs.SeatMoves.{desk_id, first_number, IsSeatOf};
 ghost use Rattle.sessions.specs.Sessions.{ServesAlone, IsSession};
 
-use desk::{LentSeat, Desk, Seat};
+use desk::{Desk, LentSeat, Seat};
 use job_solver::{SolvedJobs, Solver, shown_documents_are_proved};
 use os_io::{Sink, Source};
 use os_server::{Served, conversations_are_kept, serve_ends, turn_away};

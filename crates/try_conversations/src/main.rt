@@ -5,13 +5,13 @@
 //! each answer that is another, and how many cases there are.
 #![tactic(auto)]
 
-mod mover;
 mod conditions;
+mod mover;
 mod served;
 
-use mover::CountingMover;
 use cases::{Answers, Tables, number_of, repeated};
 use conditions::Conditions;
+use mover::CountingMover;
 use os_io::{Memory, Text};
 use served::{told_of_conversation, told_of_other};
 use std::alloc::Global;

@@ -1,7 +1,7 @@
 //! One who makes moves of a table of jobs, beside whom another connection may be served.
 use job_solver::{SolvedJobs, Solver};
 use job_table::moves::Move;
-use job_table::{Mover, IssueFault, Job, Statistics, Table, Twin};
+use job_table::{IssueFault, Job, Mover, Statistics, Table, Twin};
 use os_io::{MemSink, MemSource, Memory};
 use os_server::{Served, serve_ends};
 use std::alloc::{AllocError, Global};

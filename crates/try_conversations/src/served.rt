@@ -1,7 +1,7 @@
 //! Connections in memory, served and told as texts.
 
-use crate::mover::CountingMover;
 use crate::conditions::Conditions;
+use crate::mover::CountingMover;
 use cases::count_left;
 use job_solver::Solver;
 use os_io::{MemLink, MemSink, MemSource, Memory, Text};

@@ -9,7 +9,7 @@ use disks::MemDisk;
 use effects::NotStored;
 use job_journal::Journal;
 use job_table::moves::{Claim, Enter, Finish, Issue, Kill, Knock, Move, Send};
-use job_table::{TableMove, Job, SharedText, Table, Twin, Verdicts};
+use job_table::{Job, SharedText, Table, TableMove, Twin, Verdicts};
 use os_io::{Memory, Text};
 use std::alloc::{AllocError, Global};
 

@@ -7,7 +7,7 @@ ghost use Rattle.desk.specs.SeatHistory.{Asked};
 ghost use Rattle.workers.specs.Shifts.{WorksThrough};
 
 use crate::work::work_off;
-use desk::{LentSeat, Desk, Seat};
+use desk::{Desk, LentSeat, Seat};
 use job_runs::Runner;
 use job_table::{Mover, Verdicts};
 use std::alloc::Global;

@@ -11,7 +11,7 @@ ghost use Rattle.workers.specs.Gates.{look_numbers};
 
 use crate::gate::{Gate, Gated};
 use crate::wake::Naps;
-use desk::{LentSeat, Desk, Seat};
+use desk::{Desk, LentSeat, Seat};
 use job_runs::Runner;
 use job_table::{Mover, Verdicts};
 use std::alloc::Global;
