@@ -2,10 +2,6 @@
 use Rattle.std.specs.Prelude.{ℕ, List, ◌++◌, Option, None, Some}
 use Rattle.os_io.specs.Streams.{Tells}
 
--- the most bytes that one read ahead asks for
-abbrev pub most_ahead : ℕ
-most_ahead = 16384
-
 -- bytes that were read ahead come before those that the link has still to give
 abbrev pub with_carry : List ℕ → Option (List ℕ) → Option (List ℕ)
 with_carry carry None = None

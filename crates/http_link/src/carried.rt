@@ -20,13 +20,12 @@ pub struct Carry {
 
 impl Model for Carry {
     ghost use Rattle.std.specs.Prelude.{ℕ, List, take, drop, ◌-◌, ◌≤◌};
-    ghost use Rattle.http_link.specs.Carry.{most_ahead};
 
     ghost Value = { List ℕ };
 
     ghost view = { λ c. take (c.end - c.at) (drop c.at c.buffer) };
 
-    ghost invariant = { λ c. (c.at ≤ c.end) × (c.end ≤ most_ahead) };
+    ghost invariant = { λ c. (c.at ≤ c.end) × (c.end ≤ 16384) };
 }
 
 impl Carry {
