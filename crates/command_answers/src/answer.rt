@@ -8,14 +8,14 @@ use os_io::{Failed, Sink, Text, send_all};
 
 /// A text that is to be written, and the status of the run that writes it.
 #[derive(Drop)]
-pub struct Answer {
+pub struct StatusText {
     pub status: u8,
     pub text: Text,
 }
 
 /// Writes an answer's text and hands it on, and says with which status the run ends: the answer's, or 4 where a write or the
 /// flush failed. Takes no memory.
-pub fn send_answer<O: Sink>(output: &mut O, answer: &Answer) -> u8
+pub fn send_answer<O: Sink>(output: &mut O, answer: &StatusText) -> u8
     ensures told { IsTold answer.now.status answer.now.text result (O.tells output.old) (O.tells output.new) }
     ensures input { SameInput (O.tells output.old) (O.tells output.new) }
 {

@@ -1,4 +1,4 @@
--- Which command words call, and what it makes of the words behind it.
+-- Which command words name, and what it makes of the words behind it.
 use Rattle.std.proofs.Common.{◌≡◌, ◌∙◌, ◌+◌, ◌<◌, ℕ, ◌⊎◌, zero, suc, List, [], ◌∷◌, ◌++◌, length, get_or, Bool, true, false, cond, not, Option, Some, None, inl, inr, refl, sym, ap, ap₂, subst, arith}
 use Rattle.std.specs.Prelude.{◌||◌, ◌&&◌, codes, drop, find, fold, is_some, map, nat_le, option_map, slice_get}
 use Rattle.std.specs.List.{list_all, list_any, zip}
@@ -19,7 +19,7 @@ use Rattle.clap.proofs.OnLiterals.{clap_on_literals}
 use Rattle.clap.proofs.WalkLemmas.{both, walk_stopped}
 use Rattle.command_line.specs.CommandWords.{AreNew, Give, Given, AreWordsOf, given_in, has_name}
 use Rattle.command_line.specs.CommandWords as giving
-use Rattle.command_line.specs.Forms.{Form, forms, program_form}
+use Rattle.command_line.specs.Forms.{CommandForm, forms, program_form}
 use Rattle.command_line.specs.Words.{Command, asked_by, asked_with, asks}
 use Rattle.std.proofs.Math.Bool.{or-true}
 use Rattle.std.proofs.lemmas.List.Folds.{list_any-append}
@@ -45,7 +45,7 @@ abbrev pub are_apart : List Text → Bool
 are_apart [] = true
 are_apart (name ∷ names) = is_apart name names && are_apart names
 
-abbrev pub is_fit : Form → Bool
+abbrev pub is_fit : CommandForm → Bool
 is_fit f = list_all is_name (f.named ++ f.flags) && (list_all (λ n. is_apart n f.needed) (f.named ++ f.flags) && (list_all (λ n. not (has_name f.named n)) f.flags && (are_apart f.needed && nat_le (length f.needed) 15)))
 
 name_of : (name : Text) → is_name name ≡ true → IsName name
@@ -74,7 +74,7 @@ none_given : (names : List Text) → AreFree [] names
 none_given [] = tt
 none_given (name ∷ names) = (refl, none_given names)
 
-module _ (f : Form) (fit : is_fit f ≡ true) where
+module _ (f : CommandForm) (fit : is_fit f ≡ true) where
   among : (name : Text) → may_give f name ≡ true → has_name (f.named ++ f.flags) name ≡ true
   among name may = list_any-append (λ n. bytes_eq n name) f.named f.flags ∙ may
 
@@ -164,7 +164,7 @@ level_parts walks settles defaults checks none =
     let after = next_none walks (or_else settles (or_else defaults checks)) none in
     (first_none walks (or_else settles (or_else defaults checks)) none, first_none settles (or_else defaults checks) after, next_none defaults checks (next_none settles (or_else defaults checks) after))
 
-module _ (f : Form) where
+module _ (f : CommandForm) where
   -- what is found at the end of the words, and what is refused then
   abbrev level : List Text → Kinds
   level words = level_fault (leaf f) [] nothing_held words false []
@@ -220,11 +220,11 @@ asks_is words = ap (λ (a : App). asks_of a words) whole_is
 program_alone : HasHelpAlone program_shape.rules
 program_alone x = refl
 
-abbrev label : Form → Text × List Text
+abbrev label : CommandForm → Text × List Text
 label f = (f.name, [])
 
 -- the word is a command's name, or what is found by it is found among others
-which_form : (fs : List Form) (others : Names) (word : Text) (d : Form)
+which_form : (fs : List CommandForm) (others : Names) (word : Text) (d : CommandForm)
     → ((k : ℕ) × (k < length fs) × (word ≡ (get_or fs k d).name)) ⊎ (find (answers_to word) (map label fs ++ others) ≡ find (answers_to word) others)
 which_form [] others word d = inr refl
 which_form (f ∷ fs) others word d = go (bytes_eq f.name word) refl (which_form fs others word d)
@@ -268,7 +268,7 @@ unfolding clap_on_literals
 dashes_are_refused [] none = some_fault _ _ none
 dashes_are_refused (word ∷ words) none = some_fault _ _ none
 
-first_word : (word : Text) (words : List Text) (d : Form) → built_fault whole nothing_held (word ∷ words) ≡ [] → (k : ℕ) × (k < 6) × (word ≡ (get_or forms k d).name)
+first_word : (word : Text) (words : List Text) (d : CommandForm) → built_fault whole nothing_held (word ∷ words) ≡ [] → (k : ℕ) × (k < 6) × (word ≡ (get_or forms k d).name)
 unfolding clap_on_literals
 first_word word words d none =
     let turn : turn_with (option_map (λ (s : Text × List Text). s.0) (find (answers_to word) subcommands)) word ≡ [] = first_none _ _ (first_none _ _ none) in
@@ -308,11 +308,11 @@ reached command met passes name words =
     asks_is (name ∷ command ∷ words) ∙ (λ i. asked_with (faults_by (none i) (end i)) (entered whole (end i).stopped))
 
 -- the program has this command
-pub record HasCommand (f : Form) : Type 0 where
+pub record HasCommand (f : CommandForm) : Type 0 where
   pub fit : is_fit f ≡ true
   pub heard : (name : Text) (words : List Text) → asks (name ∷ f.name ∷ words) ≡ heard_by f.name (level f words) (rows_after (rules_of f) [] words)
 
-has_command : (k : ℕ) (d : Form) → k < 6 → HasCommand (get_or forms k d)
+has_command : (k : ℕ) (d : CommandForm) → k < 6 → HasCommand (get_or forms k d)
 unfolding clap_on_literals
 has_command zero d within = record { fit = refl; heard = λ name words. reached (codes "session") refl refl name words }
 has_command (suc zero) d within = record { fit = refl; heard = λ name words. reached (codes "check") refl refl name words }
@@ -360,7 +360,7 @@ none_refused : (faults : Kinds) (found : Option (Text × List Row)) (it : Comman
 none_refused [] found it asked = refl
 none_refused (fault ∷ faults) found it asked = absurd (none-some it asked)
 
-module _ (f : Form) (has : HasCommand f) (name : Text) (words : List Text) where
+module _ (f : CommandForm) (has : HasCommand f) (name : Text) (words : List Text) where
   -- words that give texts ask for what these mean
   given_asks : (given : Given) → Give f.named f.flags f.needed words given → AreNew [] given → asks (name ∷ f.name ∷ words) ≡ asked_by f.name (given_in given)
   given_asks given give new =
@@ -378,7 +378,7 @@ module _ (f : Form) (has : HasCommand f) (name : Text) (words : List Text) where
 -- ---- which words ask for a command
 
 -- any form
-abbrev no_form : Form
+abbrev no_form : CommandForm
 no_form = record { name = []; needed = []; named = []; flags = [] }
 
 pub call_asks : (words : List Text) (it : Command) → AreWordsOf it words → asks words ≡ Some it

@@ -1,4 +1,4 @@
--- What the words of a call ask for, and what is written where they are no command's.
+-- What the words of a command line ask for, and what is written where they are no command's.
 use Rattle.std.proofs.Common.{◌≡◌, ◌∙◌, List, [], ◌∷◌, Option, Some, None, inl, inr, sym, ap, subst, refl, true}
 use Rattle.std.specs.Prelude.{option_and_then, option_map}
 use Rattle.clap.specs.Words.{App, HasKind, HasMatchesOf, IsAmong, Kinds, Row, Text, fault_of, is_simple, is_simple_and_free, kind_of, first_of, rows_of, subcommand_of, subcommand_rows_of}

@@ -1,6 +1,6 @@
 -- The numbers of a command are within their ends.
 use Rattle.std.proofs.Common.{◌≡◌, ◌≤◌, ℕ, Bool, true, false, cond, List, [], ◌∷◌, Option, Some, None, refl, subst, arith}
-use Rattle.std.specs.Prelude.{◌^◌, codes, is_some, option_and_then, option_map}
+use Rattle.std.specs.Prelude.{codes, is_some, option_and_then, option_map}
 use Rattle.std.specs.Str.{bytes_eq}
 use Rattle.std.specs.Str.Parse.{digits_value, without_leading_plus}
 use Rattle.std.proofs.lemmas.Option.{none-some, same_Some}
@@ -10,6 +10,7 @@ use Rattle.clap.specs.ValueTests.{is_unsigned_in}
 use Rattle.clap.specs.declared.builder.value_parser.ValueParser.TheVariants as parsers
 use Rattle.clap.proofs.ValueTestLemmas.{accepts-Accepts}
 use Rattle.six_calls.specs.declared.call.CallKind.{CallKind}
+use Rattle.effects.specs.Limits.{most_first}
 use Rattle.six_calls.specs.Names.{kind_named}
 use Rattle.command_line.specs.Forms.{program_form}
 use Rattle.command_line.specs.Numbers.{number_between, number_or}
@@ -56,7 +57,7 @@ module _ (said : Said) (it : Command) where
 
   serve_within : (host : Option Text) (port workers servers connections patience first : Option ℕ) → port_of said ≡ port → number_or 2 0 16 (said (codes "workers")) ≡ workers
       → number_or 8 1 64 (said (codes "servers")) ≡ servers → number_or 1000000 1 1000000 (said (codes "connections")) ≡ connections
-      → number_or 30 1 3600 (said (codes "patience")) ≡ patience → number_or 1 1 (2 ^ 62) (said (codes "first")) ≡ first
+      → number_or 30 1 3600 (said (codes "patience")) ≡ patience → number_or 1 1 most_first (said (codes "first")) ≡ first
       → option_and_then (λ (h : Text). option_and_then (λ (p : ℕ). option_and_then (λ (w : ℕ). option_and_then (λ (s : ℕ). option_and_then (λ (c : ℕ). option_and_then (λ (t : ℕ). option_map (λ (n : ℕ). Serve h p w s c t n) first) patience) connections) servers) workers) port) host ≡ Some it
       → AreNumbersWithin it
   serve_within None port workers servers connections patience first p w s c t n is = absurd (none-some it is)
@@ -73,7 +74,7 @@ module _ (said : Said) (it : Command) where
         or_within 8 1 64 (said (codes "servers")) servers (omega arith) (omega arith) s,
         or_within 1000000 1 1000000 (said (codes "connections")) connections (omega arith) (omega arith) c,
         or_within 30 1 3600 (said (codes "patience")) patience (omega arith) (omega arith) t,
-        or_within 1 1 (2 ^ 62) (said (codes "first")) first (omega arith) (omega arith) n,
+        or_within 1 1 most_first (said (codes "first")) first (omega arith) (omega arith) n,
       ) in
       subst AreNumbersWithin (same_Some (Serve host port workers servers connections patience first) it is) within
 
@@ -85,7 +86,7 @@ module _ (said : Said) (it : Command) where
   by_name false false false true call serve is = generate_within (option_and_then (number_between 1 1000) (said (codes "variables"))) refl is
   by_name false false false false true serve is = call_within (option_and_then kind_named (said (codes "name"))) (said (codes "host")) (port_of said) refl is
   by_name false false false false false true is = serve_within (said (codes "host")) (port_of said) (number_or 2 0 16 (said (codes "workers"))) (number_or 8 1 64 (said (codes "servers"))) (number_or 1000000 1 1000000 (said (codes "connections")))
-      (number_or 30 1 3600 (said (codes "patience"))) (number_or 1 1 (2 ^ 62) (said (codes "first"))) refl refl refl refl refl refl is
+      (number_or 30 1 3600 (said (codes "patience"))) (number_or 1 1 most_first (said (codes "first"))) refl refl refl refl refl refl is
   by_name false false false false false false is = absurd (none-some it is)
 
 asked_within : (faults : Kinds) (found : Option (Text × List Row)) (it : Command) → asked_with faults found ≡ Some it → AreNumbersWithin it

@@ -8,7 +8,7 @@ use Rattle.std.proofs.lemmas.Slice.Eq.{bytes_eq-Decides}
 use Rattle.clap.specs.Walk.{Rule, Text, arg_by_id, arg_by_index, arg_by_long, arg_by_short, has_long, has_short}
 use Rattle.clap.specs.Simple.{Shape, filled, with_index}
 use Rattle.command_line.specs.CommandWords.{has_name}
-use Rattle.command_line.specs.Forms.{Form, flag_word, named_word, needed_word, shape}
+use Rattle.command_line.specs.Forms.{CommandForm, flag_word, named_word, needed_word, shape}
 use Rattle.command_line.proofs.Texts.{true_or_false}
 use Rattle.command_line.proofs.Flags.{HasHelpAlone, help_flag}
 
@@ -30,11 +30,11 @@ places k (n ∷ ns) = place_rule k n ∷ places (k + 1) ns
 abbrev pub options : (named flags : List Text) → List Rule
 options named flags = map option_rule named ++ (map flag_rule flags ++ help_flag ∷ [])
 
-abbrev pub rules_of : Form → List Rule
+abbrev pub rules_of : CommandForm → List Rule
 rules_of f = places 1 f.needed ++ options f.named f.flags
 
 -- a command of this form that is built
-abbrev pub leaf : Form → Shape
+abbrev pub leaf : CommandForm → Shape
 leaf f = record (shape f) { rules = rules_of f; is_built = true; disable_help_subcommand = true }
 
 -- ---- by a place
@@ -72,12 +72,12 @@ module _ (rule : Text → Rule) (reads : (n name : Text) → (not (is_some (rule
       go false is after = after
 
 -- what is found by a name: a word that has it, one that stands alone, or the flag for help
-pub data ByName (f : Form) (name : Text) (found : Option Rule) : Type 0 where
+pub data ByName (f : CommandForm) (name : Text) (found : Option Rule) : Type 0 where
   is_option : has_name f.named name ≡ true → found ≡ Some (option_rule name) → ByName f name found
   is_flag : has_name f.flags name ≡ true → found ≡ Some (flag_rule name) → ByName f name found
   is_help : found ≡ cond (has_long help_flag name) (Some help_flag) None → ByName f name found
 
-module _ (f : Form) (name : Text) where
+module _ (f : CommandForm) (name : Text) where
   options_at : (has_name f.named name ≡ true → arg_by_long (options f.named f.flags) name ≡ Some (option_rule name)) × (has_name f.named name ≡ false → arg_by_long (options f.named f.flags) name ≡ arg_by_long (map flag_rule f.flags ++ help_flag ∷ []) name)
   options_at = found_at option_rule (λ n t. or-false (bytes_eq n t)) (map flag_rule f.flags ++ help_flag ∷ []) name f.named
 
@@ -104,7 +104,7 @@ short_behind [] [] (n ∷ flags) k x = short_behind [] [] flags k x
 short_behind [] (n ∷ named) flags k x = short_behind [] named flags k x
 short_behind (n ∷ ns) named flags k x = short_behind ns named flags (k + 1) x
 
-pub help_alone : (f : Form) → HasHelpAlone (rules_of f)
+pub help_alone : (f : CommandForm) → HasHelpAlone (rules_of f)
 help_alone f x = short_behind f.needed f.named f.flags 1 x
 
 -- ---- by an id

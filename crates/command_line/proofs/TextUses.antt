@@ -10,7 +10,7 @@ use Rattle.clap.specs.declared.builder.value_parser.Reading.TheVariants.{AsWritt
 use Rattle.clap.specs.declared.parser.matches.ValueSource.TheVariants.{CommandLine}
 use Rattle.clap.specs.declared.error.kind.ErrorKind.TheVariants.{ArgumentConflict}
 use Rattle.command_line.specs.CommandWords.{AreNew, Given, given_in, has_name}
-use Rattle.command_line.specs.Forms.{Form}
+use Rattle.command_line.specs.Forms.{CommandForm}
 use Rattle.command_line.proofs.Texts.{true_or_false}
 use Rattle.command_line.proofs.Flags.{some_fault}
 use Rattle.command_line.proofs.Rows.{has_row_is, rows, rows_used}
@@ -32,7 +32,7 @@ last_of None = []
 last_of (Some p) = p ∷ []
 
 -- the last text is of a word of the form
-abbrev pub IsOwn : Form → Last → Type 0
+abbrev pub IsOwn : CommandForm → Last → Type 0
 IsOwn f None = Unit {0}
 IsOwn f (Some p) = (has_name f.needed p.0 || has_name f.named p.0) ≡ true
 
@@ -71,7 +71,7 @@ module _ (past : Given) (p : Text × Text) (values : List Text) (a : Rule) (uses
   pub used_rows : given_in past p.0 ≡ None → used a values (rows past) ≡ rows (past ++ p ∷ [])
   used_rows new = uses.added (rows past) ∙ rows_used past p new
 
-module _ (f : Form) where
+module _ (f : CommandForm) where
   pub own_word : (name : Text) → (has_name f.needed name || has_name f.named name) ≡ true → IsWord (rules_of f) name
   own_word name own = word_is f.needed f.named f.flags 1 name own
 

@@ -10,7 +10,7 @@ use Rattle.clap.specs.Walk.{Held, Rule, Text, Waiting, Walk, arg_by_long, has_lo
 use Rattle.clap.specs.Faults.{long_fault, option_fault, other_fault, settle_fault, stray_fault, turn_fault, use_fault, walk_fault}
 use Rattle.command_line.specs.CommandWords.{AreNew, Give, Given, ends, given_in, has_name, is_plain}
 use Rattle.command_line.specs.CommandWords as giving
-use Rattle.command_line.specs.Forms.{Form}
+use Rattle.command_line.specs.Forms.{CommandForm}
 use Rattle.command_line.proofs.Texts.{true_or_false}
 use Rattle.command_line.proofs.Flags.{IsLong, Tells, first_none, help_flag, is_dashes, is_long, is_value, next_none, some_fault, tells}
 use Rattle.command_line.proofs.Rows.{rows}
@@ -55,13 +55,13 @@ still_free given p (name ∷ names) apart free = (one_more_free given p name apa
 -- ---- a command's form, and the words that it still needs
 
 -- what is still needed: no name is another word's, and what has a text for all that is needed has one for these
-pub record Lacks (f : Form) (given : Given) (needed : List Text) : Type 0 where
+pub record Lacks (f : CommandForm) (given : Given) (needed : List Text) : Type 0 where
   pub apart : AreApart needed
   pub named : (name : Text) → may_give f name ≡ true → IsApart name needed
   pub free : AreFree given needed
   pub among : (all : Given) → AreGiven all f.needed → AreGiven all needed
 
-lacks_rest : (f : Form) (given : Given) (name word : Text) (needed : List Text) → Lacks f given (name ∷ needed) → Lacks f (given ++ (name, word) ∷ []) needed
+lacks_rest : (f : CommandForm) (given : Given) (name word : Text) (needed : List Text) → Lacks f given (name ∷ needed) → Lacks f (given ++ (name, word) ∷ []) needed
 lacks_rest f given name word needed lacks = record {
   apart = lacks.apart.1;
   named = λ n has. (lacks.named n has).1;
@@ -69,7 +69,7 @@ lacks_rest f given name word needed lacks = record {
   among = λ all given. (lacks.among all given).1;
 }
 
-lacks_still : (f : Form) (given : Given) (name word : Text) (needed : List Text) → may_give f name ≡ true → Lacks f given needed → Lacks f (given ++ (name, word) ∷ []) needed
+lacks_still : (f : CommandForm) (given : Given) (name word : Text) (needed : List Text) → may_give f name ≡ true → Lacks f given needed → Lacks f (given ++ (name, word) ∷ []) needed
 lacks_still f given name word needed has lacks = record {
   apart = lacks.apart;
   named = lacks.named;
@@ -77,7 +77,7 @@ lacks_still f given name word needed has lacks = record {
   among = lacks.among;
 }
 
-module _ (f : Form) (form : IsForm f) where
+module _ (f : CommandForm) (form : IsForm f) where
   -- nothing is needed any more where all that is needed was given
   none_needed : (given : Given) (needed : List Text) → Lacks f given needed → AreGiven given f.needed → needed ≡ []
   none_needed given [] lacks all = refl
@@ -198,12 +198,12 @@ module _ (f : Form) (form : IsForm f) where
           absurd (asks_text past name has (own_settles other text (asking past name) (own_named other text (asking past name) none)))
 
 -- words that have no fault give texts, each a new one
-abbrev pub IsSaid : (f : Form) → IsForm f → ℕ → Type 0
+abbrev pub IsSaid : (f : CommandForm) → IsForm f → ℕ → Type 0
 IsSaid f form most = (words needed : List Text) → length words ≤ most → (count : ℕ) (past : Given) (last : Last) → Needs f count needed → IsOwn f last → Lacks f (past ++ last_of last) needed
     → Ended f form (at count (held past last) idle false) words → Said f form needed words past last
 
 -- a word, and then fewer
-module _ (f : Form) (form : IsForm f) (most : ℕ) (again : IsSaid f form most) (word : Text) (words : List Text) (within : length words ≤ most) (count : ℕ) (past : Given) (last : Last) (own : IsOwn f last)
+module _ (f : CommandForm) (form : IsForm f) (most : ℕ) (again : IsSaid f form most) (word : Text) (words : List Text) (within : length words ≤ most) (count : ℕ) (past : Given) (last : Last) (own : IsOwn f last)
     (ended : Ended f form (at count (held past last) idle false) (word ∷ words)) where
   turn : turn_fault (leaf f) [] (at count (held past last) idle false) word ≡ []
   turn = turn_of f form _ word words ended
@@ -264,7 +264,7 @@ module _ (f : Form) (form : IsForm f) (most : ℕ) (again : IsSaid f form most) 
   pub said_more : (needed : List Text) → Needs f count needed → Lacks f (past ++ last_of last) needed → Said f form needed (word ∷ words) past last
   said_more needed needs lacks = said_word needed needs lacks (tells (leaf f) (help_alone f) (held past last) refl word (other_of_turn f form count (held past last) idle word turn))
 
-pub said : (f : Form) (form : IsForm f) (most : ℕ) → IsSaid f form most
+pub said : (f : CommandForm) (form : IsForm f) (most : ℕ) → IsSaid f form most
 said f form most [] needed within count past last needs own lacks ended =
     let new = settle_is_new f past last own ended.settle in
     let none = none_needed f form (past ++ last_of last) needed lacks (ended.complete _ (settles f past last own new)) in

@@ -15,7 +15,7 @@ use Rattle.std.specs.Str.{bytes_eq}
 use Rattle.std.proofs.Math.Bool.{or-false, or-true}
 use Rattle.command_line.specs.CommandWords.{AreNew, Give, Given, ends, given_in, has_name, is_plain}
 use Rattle.command_line.specs.CommandWords as giving
-use Rattle.command_line.specs.Forms.{Form}
+use Rattle.command_line.specs.Forms.{CommandForm}
 use Rattle.command_line.proofs.Flags.{IsLong, IsName, bare_long, first_none, goes_to_place, joined_long, long_faults, long_meets, next_none, no_flag, passes}
 use Rattle.command_line.proofs.Rows.{rows}
 use Rattle.command_line.proofs.Rules.{TakesText, alone_rule, at_place, behind_name, flag_rule, leaf, named_rule, option_rule, place_at, place_rule, rules_of}
@@ -32,17 +32,17 @@ abbrev pub asking : Given → Text → Held
 asking past name = record { rows = rows past; pending = Some (name, []); skip = 0 }
 
 -- these words are still needed after so many values, which are few
-pub record Needs (f : Form) (count : ℕ) (needed : List Text) : Type 0 where
+pub record Needs (f : CommandForm) (count : ℕ) (needed : List Text) : Type 0 where
   pub rest : (i : ℕ) → slice_get f.needed (count + i) ≡ slice_get needed i
   pub few : count + length needed ≤ 16
 
-pub needs_rest : (f : Form) (count : ℕ) (name : Text) (needed : List Text) → Needs f count (name ∷ needed) → Needs f (count + 1) needed
+pub needs_rest : (f : CommandForm) (count : ℕ) (name : Text) (needed : List Text) → Needs f count (name ∷ needed) → Needs f (count + 1) needed
 needs_rest f count name needed needs = record {
   rest = λ i. let same : count + 1 + i ≡ count + suc i = omega arith in ap (slice_get f.needed) same ∙ needs.rest (suc i);
   few = omega (arith, needs.few);
 }
 
-module _ (f : Form) where
+module _ (f : CommandForm) where
   abbrev s : Shape
   s = leaf f
 
@@ -275,17 +275,17 @@ module _ (f : Form) where
 -- ---- words that give texts are read as these
 
 -- a name that may be given, or stand alone
-abbrev pub may_give : Form → Text → Bool
+abbrev pub may_give : CommandForm → Text → Bool
 may_give f name = has_name f.named name || has_name f.flags name
 
-pub may_name : (f : Form) (name : Text) → has_name f.named name ≡ true → may_give f name ≡ true
+pub may_name : (f : CommandForm) (name : Text) → has_name f.named name ≡ true → may_give f name ≡ true
 may_name f name has = ap (λ (b : Bool). b || has_name f.flags name) has
 
-pub may_stand : (f : Form) (name : Text) → has_name f.flags name ≡ true → may_give f name ≡ true
+pub may_stand : (f : CommandForm) (name : Text) → has_name f.flags name ≡ true → may_give f name ≡ true
 may_stand f name has = ap (λ (b : Bool). has_name f.named name || b) has ∙ or-true (has_name f.named name)
 
 -- the names that may be given are names, and no name is another word's
-pub record IsForm (f : Form) : Type 0 where
+pub record IsForm (f : CommandForm) : Type 0 where
   pub names : (name : Text) → may_give f name ≡ true → IsName name
   pub apart : (name : Text) → has_name f.flags name ≡ true → has_name f.named name ≡ false
   pub few : length f.needed ≤ 15
@@ -295,7 +295,7 @@ has_at [] i name is = absurd (none-some name is)
 has_at (n ∷ names) zero name is = ap (λ (b : Bool). b || has_name names name) ((bytes_eq-Decides n name).1 (same_Some n name is))
 has_at (n ∷ names) (suc i) name is = ap (λ (b : Bool). bytes_eq n name || b) (has_at names i name is) ∙ or-true (bytes_eq n name)
 
-module _ (f : Form) (form : IsForm f) where
+module _ (f : CommandForm) (form : IsForm f) where
   pub own_needed : (count : ℕ) (name : Text) (needed : List Text) → Needs f count (name ∷ needed) → (has_name f.needed name || has_name f.named name) ≡ true
   own_needed count name needed needs =
       ap (λ (b : Bool). b || has_name f.named name) (has_at f.needed (count + 0) name (needs.rest 0))

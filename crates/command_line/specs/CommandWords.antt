@@ -3,7 +3,7 @@ use Rattle.std.specs.Prelude.{◌≡◌, ◌==◌, ◌||◌, Bool, true, not, No
 use Rattle.std.specs.List.{Any, list_any, zip}
 use Rattle.std.specs.Str.{bytes_eq, chars}
 use Rattle.clap.specs.Words.{Text}
-use Rattle.command_line.specs.Forms.{Form, forms}
+use Rattle.command_line.specs.Forms.{CommandForm, forms}
 use Rattle.command_line.specs.Words.{Command, Said, asked_by}
 
 -- the word is no flag: it doesn't begin with `-` (45), or no character stands behind that, as in `-` alone (POSIX.1, XBD 12.2,
@@ -48,7 +48,7 @@ AreNew before (first ∷ given) = (given_in before first.0 ≡ None) × AreNew (
 -- most once each
 pub record AreWordsOf (it : Command) (words : List Text) : Type 0 where
   pub name : Text
-  pub form : Form
+  pub form : CommandForm
   pub rest : List Text
   pub given : Given
   pub among : Any (λ f. f ≡ form) forms

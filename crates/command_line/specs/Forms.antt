@@ -5,14 +5,14 @@ use Rattle.clap.specs.Simple.{Shape, new_shape, on_top}
 use Rattle.clap.specs.declared.builder.action.ArgAction.TheVariants.{Set}
 
 -- a command: its name, the names of the words that it needs, in their order, of those that may be given behind their names, and of those that may stand alone
-pub record Form : Type 0 where
+pub record CommandForm : Type 0 where
   pub name : Text
   pub needed : List Text
   pub named : List Text
   pub flags : List Text
 
 -- the commands
-abbrev pub forms : List Form
+abbrev pub forms : List CommandForm
 forms = record { name = codes "session"; needed = []; named = []; flags = [] }
     ∷ record { name = codes "check"; needed = codes "osil" ∷ codes "osrl" ∷ []; named = []; flags = [] }
     ∷ record { name = codes "solve"; needed = codes "osil" ∷ []; named = codes "options" ∷ []; flags = codes "safe" ∷ [] }
@@ -34,13 +34,13 @@ abbrev pub flag_word : Text → Rule
 flag_word id = record (new_rule id) { long = Some id; action = Some Set; range = Some (record { start_inclusive = 0; end_inclusive = 0 }); missing = id ∷ [] }
 
 -- what `clap` is told of a command
-abbrev pub shape : Form → Shape
+abbrev pub shape : CommandForm → Shape
 shape form = record (new_shape form.name) { rules = map needed_word form.needed ++ map named_word form.named ++ map flag_word form.flags }
 
--- a command that is called by one of its subcommands
+-- a command that goes by one of its subcommands
 abbrev pub needing_subcommand : Shape → Shape
 needing_subcommand command = record command { subcommand_required = true }
 
--- the program's command line: it is called by one of the commands
+-- the program's command line: it goes by one of the commands
 abbrev pub program_form : App
 program_form = fold with_subcommand (on_top needing_subcommand (new_app (codes "os_app"))) (map shape forms)

@@ -1,8 +1,9 @@
--- What the words of a call ask for: what clap makes of them, where it refuses none.
-use Rattle.std.specs.Prelude.{◌≡◌, ◌≤◌, ◌||◌, ◌^◌, ℕ, Bool, true, false, List, [], ◌∷◌, Option, Some, None, codes, is_some, option_and_then, option_map, if◌then◌else◌}
+-- What the words of a command line ask for: what clap makes of them, where it refuses none.
+use Rattle.std.specs.Prelude.{◌≡◌, ◌≤◌, ◌||◌, ℕ, Bool, true, false, List, [], ◌∷◌, Option, Some, None, codes, is_some, option_and_then, option_map, if◌then◌else◌}
 use Rattle.std.specs.Str.{bytes_eq}
 use Rattle.clap.specs.Words.{Row, Text, fault_of, first_of, subcommand_of}
 use Rattle.clap.specs.Kinds.{Kinds}
+use Rattle.effects.specs.Limits.{most_first}
 use Rattle.six_calls.specs.Names.{kind_named}
 use Rattle.six_calls.specs.declared.call.CallKind.{CallKind}
 use Rattle.command_line.specs.Forms.{program_form}
@@ -59,7 +60,7 @@ called_command said = option_and_then (λ kind. option_and_then (λ host. option
 abbrev pub serve_of : Said → Option Command
 serve_of said =
     option_and_then (λ host. option_and_then (λ port. option_and_then (λ workers. option_and_then (λ servers. option_and_then (λ connections. option_and_then (λ patience. option_map (λ first. Serve host port workers servers connections patience first)
-    (number_or 1 1 (2 ^ 62) (said (codes "first")))) (number_or 30 1 3600 (said (codes "patience")))) (number_or 1000000 1 1000000 (said (codes "connections"))))
+    (number_or 1 1 most_first (said (codes "first")))) (number_or 30 1 3600 (said (codes "patience")))) (number_or 1000000 1 1000000 (said (codes "connections"))))
     (number_or 8 1 64 (said (codes "servers")))) (number_or 2 0 16 (said (codes "workers")))) (port_of said)) (said (codes "host"))
 
 -- what a command asks for, by its name and by the texts of its words
@@ -111,7 +112,7 @@ AreNumbersWithin (Generate variables) = (1 ≤ variables) × (variables ≤ 1000
 AreNumbersWithin (Call kind host port osil osol ospl) = port ≤ 65535
 AreNumbersWithin (Serve host port workers servers connections patience first) =
     (port ≤ 65535) × (workers ≤ 16) × ((1 ≤ servers) × (servers ≤ 64)) × ((1 ≤ connections) × (connections ≤ 1000000)) × ((1 ≤ patience) × (patience ≤ 3600))
-    × ((1 ≤ first) × (first ≤ 2 ^ 62))
+    × ((1 ≤ first) × (first ≤ most_first))
 
 -- the command names files: a call does where one of its parts is in a file
 abbrev pub names_files : Command → Bool

@@ -1,6 +1,6 @@
-//! The words that the program is called with, and the usage that is written where they are no command.
+//! The words that the program is started with, and the usage that is written where they are no command.
 //!
-//! [`read`] says what the words ask for ([`Asked`]): `session`, `check OSIL OSRL`, `solve OSIL [--options OSOL] [--safe]`,
+//! [`read_words`] says what the words ask for ([`Asked`]): `session`, `check OSIL OSRL`, `solve OSIL [--options OSOL] [--safe]`,
 //! `generate N`, `call NAME HOST PORT [--osil F] [--osol F] [--ospl F]`, or
 //! `serve HOST PORT [--workers W] [--servers S] [--connections C] [--patience SECONDS] [--first N]`. They are read by `clap`, and
 //! what it makes of them is stated exactly (`specs/Words.antt`). [`CallWords`] and [`ServeWords`] are those of `call` and `serve`.
@@ -11,6 +11,6 @@ mod program;
 mod words;
 
 pub use words::{
-    Asked, CallWords, ServeWords, commands_have_their_words, numbers_are_within_their_ends, read,
-    write_usage,
+    Asked, CallWords, ServeWords, commands_have_their_words, numbers_are_within_their_ends,
+    read_words, write_usage,
 };

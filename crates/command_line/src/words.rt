@@ -1,4 +1,4 @@
-//! What the words of a call ask for.
+//! What the words of a command line ask for.
 ghost use Rattle.std.specs.Prelude.{◌≡◌, ◌↔◌, ◌≤◌, ℕ, List, Some, IfOk, IfSome, map, option_and_then, option_map};
 ghost use Rattle.std.specs.String.{string_bytes};
 ghost use Rattle.os_io.specs.Streams.{Sends};
@@ -10,11 +10,12 @@ ghost use Rattle.command_line.specs.Words as says;
 use crate::program::program;
 use clap::ArgMatches;
 use clap::error::ErrorKind;
+use effects::MOST_FIRST;
 use os_io::{Failed, Memory, Sink, send_all};
 use six_calls::CallKind;
 use std::alloc::{AllocError, Global};
 
-/// How the program is called.
+/// How the program is started.
 const USAGE: &[u8] = b"usage: os_app session | solve | check | serve | call | generate\n";
 
 /// Which call is to be made, of whom, and the names of the files with its parts. A part whose file isn't named is empty, and
@@ -165,7 +166,7 @@ fn serve_of<'w>(matches: &ArgMatches<'w>) -> Option<Asked<'w>>
     let servers = number_or(8, matches.get_str("servers"), 1, 64)?;
     let connections = number_or(1_000_000, matches.get_str("connections"), 1, 1_000_000)?;
     let patience = number_or(30, matches.get_str("patience"), 1, 3_600)?;
-    let first = number_or(1, matches.get_str("first"), 1, 1 << 62)?;
+    let first = number_or(1, matches.get_str("first"), 1, MOST_FIRST)?;
     Some(Asked::Serve(ServeWords {
         host,
         port,
@@ -208,7 +209,7 @@ fn asked_by<'w>(matches: &ArgMatches<'w>) -> Option<Asked<'w>>
 
 /// What the words ask for, the first of which is the program's name. There is nothing where they are no command, or ask
 /// for help.
-pub fn read<'w>(alloc: Global, words: &'w [String]) -> Result<Option<Asked<'w>>, Memory>
+pub fn read_words<'w>(alloc: Global, words: &'w [String]) -> Result<Option<Asked<'w>>, Memory>
     ensures { IfOk result (λ asked. option_map says.meant asked ≡ says.asks (map string_bytes words.now)) }
 {
     match program(alloc)?.try_get_matches_from(words) {
@@ -232,7 +233,7 @@ pub fn numbers_are_within_their_ends()
     ensures { (words : List (List ℕ)) (it : says.Command) → says.asks words ≡ Some it → says.AreNumbersWithin it }
 {}
 
-/// Writes how the program is called.
+/// Writes how the program is started.
 pub fn write_usage<O: Sink>(output: &mut O) -> Result<(), Failed>
     ensures { Sends result says.usage (O.tells output.old) (O.tells output.new) }
 {

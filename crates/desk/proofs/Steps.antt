@@ -10,19 +10,19 @@ use Rattle.atomic_table.specs.Table.{opening, State, Me, step, keeps, takes, giv
 use Rattle.atomic_table.proofs.Lists.{at_set, set_here, set_else, set_again}
 use Rattle.job_table.specs.Jobs.{Register, beginning}
 use Rattle.job_table.specs.Steps.{Step as Step_of}
-use Rattle.job_table.specs.declared.calls.Call.{Call}
-use Rattle.job_table.specs.declared.calls.Reply.{Reply}
+use Rattle.job_table.specs.declared.entries.TableMove.{TableMove}
+use Rattle.job_table.specs.declared.entries.Reply.{Reply}
 use Rattle.desk.specs.declared.held.Held.{Held}
-use Rattle.desk.specs.declared.view.Entry.{Entry}
+use Rattle.desk.specs.declared.view.SeatEntry.{SeatEntry}
 use Rattle.desk.specs.declared.view.Met.{Met}
 use Rattle.desk.specs.declared.view.View.{View}
 use Rattle.desk.specs.declared.view.Turn.{Turn}
 use Rattle.desk.specs.declared.view.Turn.TheVariants.{Idle, Waiting, Served}
-use Rattle.desk.specs.History.{LeadsFrom, calls_by, StartsWith, entry_of_seat}
+use Rattle.desk.specs.History.{LeadsFrom, entries_by, StartsWith, entry_of_seat}
 use Rattle.desk.specs.Rule.{first_view, with_turn, with_seen, one_if, live_in, KnowsLog, KnowsTurn, Knows, HasNumber, Turns, Slot, HasMet, StandsInSeen, CountsSeats, First, Kept}
 use Rattle.desk.specs.Steps.{drew, looked_at_turn, with_entry, passed_on, skipped}
 use Rattle.desk.specs.SeatMoves.{AddsEntry, HasTurn, IsServed, IsMoveAnswered, AnswersMove, reply_in}
-use Rattle.desk.proofs.Histories.{calls_own, calls_other, none_behind, starts_again, starts_grown, leads_on, met_stand}
+use Rattle.desk.proofs.Histories.{entries_own, entries_other, none_behind, starts_again, starts_grown, leads_on, met_stand}
 
 pub false_is_not : true ≡ false → ⊥
 false_is_not e = cc
@@ -44,9 +44,9 @@ pub record Same (v w : View) : Type 0 where
   pub met : w.met ≡ v.met
 
 -- a history that only this seat made longer
-pub record Longer (id : ℕ) (log more : List Entry) : Type 0 where
-  pub grown : (seen : List Entry) → StartsWith log seen → StartsWith more seen
-  pub others : (j : ℕ) → j ≢ id → calls_by j more ≡ calls_by j log
+pub record Longer (id : ℕ) (log more : List SeatEntry) : Type 0 where
+  pub grown : (seen : List SeatEntry) → StartsWith log seen → StartsWith more seen
+  pub others : (j : ℕ) → j ≢ id → entries_by j more ≡ entries_by j log
 
 pub length_above : {A : Type 0} (l : List A) (i : ℕ) (a : A) → get_elem? l i ≡ some a → i < length l
 length_above [] i a e = absurd (some-ne-none a (sym e))
@@ -64,7 +64,7 @@ dead_is_other views id k v u at live at_k dead is =
     let one : u ≡ v = some-injective u v (sym at_k ∙ ap (get_elem? views) is ∙ at) in
     let both : true ≡ false = sym live ∙ sym (ap (λ (z : View). z.live) one) ∙ dead in absurd (false_is_not both)
 
-counts_stay : (log more : List Entry) (views : List View) (id : ℕ) (v w : View) (given : ℕ) (met : List Met) → get_elem? views id ≡ some v → v.live ≡ true → w.live ≡ v.live → Longer id log more
+counts_stay : (log more : List SeatEntry) (views : List View) (id : ℕ) (v w : View) (given : ℕ) (met : List Met) → get_elem? views id ≡ some v → v.live ≡ true → w.live ≡ v.live → Longer id log more
     → CountsSeats log views given met → CountsSeats more (set views id w) given met
 counts_stay log more views id v w given met at live same longer c = record {
   all_given = c.all_given ∙ sym (length-set views id w);
@@ -77,16 +77,16 @@ counts_stay log more views id v w given met at live same longer c = record {
       (at_set views id k w u there);
 }
 
-pub same_log : (id : ℕ) (log : List Entry) → Longer id log log
+pub same_log : (id : ℕ) (log : List SeatEntry) → Longer id log log
 same_log id log = record { grown = λ seen st. st; others = λ j other. refl }
 
-longer_log : (id : ℕ) (log : List Entry) (e : Entry) → e.seat ≡ id → Longer id log (log ++ e ∷ [])
+longer_log : (id : ℕ) (log : List SeatEntry) (e : SeatEntry) → e.seat ≡ id → Longer id log (log ++ e ∷ [])
 longer_log id log e own = record {
   grown = λ seen st. starts_grown log seen (e ∷ []) st;
-  others = λ j other. calls_other j log e (λ is. other (sym is ∙ own));
+  others = λ j other. entries_other j log e (λ is. other (sym is ∙ own));
 }
 
-pub others_know_log : (id : ℕ) (log more : List Entry) → Longer id log more → (j : ℕ) (u : View) → j ≢ id → KnowsLog log j u → KnowsLog more j u
+pub others_know_log : (id : ℕ) (log more : List SeatEntry) → Longer id log more → (j : ℕ) (u : View) → j ≢ id → KnowsLog log j u → KnowsLog more j u
 others_know_log id log more longer j u other k = record {
   number = k.number;
   prefix = longer.grown u.seen k.prefix;
@@ -96,7 +96,7 @@ others_know_log id log more longer j u other k = record {
   alone = k.alone;
 }
 
-first_stays : (log more : List Entry) (views : List View) (id : ℕ) (v w f : View) → get_elem? views id ≡ some v → v.live ≡ true → Same v w → Longer id log more → StartsWith more w.seen
+first_stays : (log more : List SeatEntry) (views : List View) (id : ℕ) (v w f : View) → get_elem? views id ≡ some v → v.live ≡ true → Same v w → Longer id log more → StartsWith more w.seen
     → First log views f → (g : View) × First more (set views id w) g
 first_stays log more views id v w f at live same longer whole c = dite (ℕ_discrete 0 id)
     (λ here.
@@ -129,11 +129,11 @@ same_view v t = record { live = refl; seen = starts_again v.seen; given = refl; 
 pub same_itself : (v : View) → Same v v
 same_itself v = record { live = refl; seen = starts_again v.seen; given = refl; met = refl }
 
-same_seen : (v : View) (t : Turn) (seen mine : List Entry) → StartsWith seen v.seen → Same v (with_seen t seen mine v)
+same_seen : (v : View) (t : Turn) (seen mine : List SeatEntry) → StartsWith seen v.seen → Same v (with_seen t seen mine v)
 same_seen v t seen mine grown = record { live = refl; seen = grown; given = refl; met = refl }
 
 -- a view whose turn alone changes knows what it knew
-turned : (log : List Entry) (ticket serving : ℕ) (owner : ℕ → ℕ) (away : Bool) (id : ℕ) (v : View) (t : Turn) → v.live ≡ true → KnowsLog log id v → KnowsTurn log ticket serving owner away id v.seen t
+turned : (log : List SeatEntry) (ticket serving : ℕ) (owner : ℕ → ℕ) (away : Bool) (id : ℕ) (v : View) (t : Turn) → v.live ≡ true → KnowsLog log id v → KnowsTurn log ticket serving owner away id v.seen t
     → Knows log ticket serving owner away id (with_turn t v)
 turned log ticket serving owner away id v t live k mine = record {
   turn = mine;
@@ -150,7 +150,7 @@ given_here n id owner = rw (eq-eqb n n refl) refl
 given_else : (n id : ℕ) (owner : ℕ → ℕ) (k : ℕ) → k ≢ n → given_to n id owner k ≡ owner k
 given_else n id owner k other = rw (ne_eqb k n other) refl
 
-others_draw : (log : List Entry) (ticket serving old id : ℕ) (owner : ℕ → ℕ) (away : Bool) (j : ℕ) (seen : List Entry) (t : Turn) → ticket ≡ old
+others_draw : (log : List SeatEntry) (ticket serving old id : ℕ) (owner : ℕ → ℕ) (away : Bool) (j : ℕ) (seen : List SeatEntry) (t : Turn) → ticket ≡ old
     → KnowsTurn log ticket serving owner away j seen t → KnowsTurn log (old + 1) serving (given_to old id owner) away j seen t
 others_draw log ticket serving old id owner away j seen Idle is k = tt
 others_draw log ticket serving old id owner away j seen (Waiting n) is k = let lt = k.1 in (k.0, omega arith, given_else old id owner n (λ e. omega arith) ∙ k.2)
@@ -164,13 +164,13 @@ number_of (Served n) = n
 true_is_not : (b : Bool) → b ≡ false → b ≡ true → ⊥
 true_is_not b is_false is_true = false_is_not (sym is_true ∙ is_false)
 
-others_take : (log : List Entry) (ticket serving : ℕ) (owner : ℕ → ℕ) (away : Bool) (j : ℕ) (seen : List Entry) (t : Turn) → away ≡ false
+others_take : (log : List SeatEntry) (ticket serving : ℕ) (owner : ℕ → ℕ) (away : Bool) (j : ℕ) (seen : List SeatEntry) (t : Turn) → away ≡ false
     → KnowsTurn log ticket serving owner away j seen t → KnowsTurn log ticket serving owner true j seen t
 others_take log ticket serving owner away j seen Idle home k = tt
 others_take log ticket serving owner away j seen (Waiting n) home k = k
 others_take log ticket serving owner away j seen (Served n) home k = absurd (true_is_not away home k.3)
 
-others_pass : (log more : List Entry) (ticket serving id : ℕ) (owner : ℕ → ℕ) (away : Bool) (j : ℕ) (seen : List Entry) (t : Turn) → owner serving ≡ id → j ≢ id
+others_pass : (log more : List SeatEntry) (ticket serving id : ℕ) (owner : ℕ → ℕ) (away : Bool) (j : ℕ) (seen : List SeatEntry) (t : Turn) → owner serving ≡ id → j ≢ id
     → KnowsTurn log ticket serving owner away j seen t → KnowsTurn more ticket (serving + 1) owner false j seen t
 others_pass log more ticket serving id owner away j seen Idle mine other k = tt
 others_pass log more ticket serving id owner away j seen (Waiting n) mine other k =
@@ -270,7 +270,7 @@ module _ {J : Type 0} where
 
 module _ {J : Type 0} (right : List ℕ → List ℕ → Bool → Option (List ℕ) → Type 0) {start : ℕ} where
   -- a live seat makes a step
-  pub moves : (s : St J) (r : Kept right start s) (id : ℕ) (v w : View) (words : List ℕ) (homes : List (maybe.Option (S J))) (log : List Entry) (state : Register) (ticket serving : ℕ) (owner : ℕ → ℕ) (away : Bool)
+  pub moves : (s : St J) (r : Kept right start s) (id : ℕ) (v w : View) (words : List ℕ) (homes : List (maybe.Option (S J))) (log : List SeatEntry) (state : Register) (ticket serving : ℕ) (owner : ℕ → ℕ) (away : Bool)
       → get_elem? s.views id ≡ some v → v.live ≡ true → Same v w → Longer id r.log log
       → words ≡ ticket ∷ serving ∷ [] → serving ≤ ticket → ticket < 18446744073709551616 → LeadsFrom right start log state
       → Slot {J = J} state serving owner homes (set s.views id w) away
@@ -314,11 +314,11 @@ module _ {J : Type 0} (right : List ℕ → List ℕ → Bool → Option (List �
   stays_so s r id v words at are =
       subst (λ (z : List ℕ × List View). Kept right start record { words = z.0; homes = s.homes; views = z.1 }) (λ i. ((r.words ∙ sym are) i, sym (set_again s.views id v at) i)) r
 
-  -- all calls of a live seat stand in what it has seen, and all calls of those that it met
+  -- all moves of a live seat stand in what it has seen, and all moves of those that it met
   pub stands_of : (s : St J) (r : Kept {J = J} right start s) (id : ℕ) (v : View) → get_elem? s.views id ≡ some v → v.live ≡ true → StandsInSeen v
   stands_of s r id v at live =
       let k = (r.seats id v at).knows live in (
-        ap (λ (n : ℕ). calls_by n v.seen) k.number ∙ k.stand,
+        ap (λ (n : ℕ). entries_by n v.seen) k.number ∙ k.stand,
         dite (ℕ_discrete 0 id)
             (λ first. subst (λ (z : View). HasMet z.seen z.met) (some-injective r.head v (sym r.first.here ∙ ap (get_elem? s.views) first ∙ at)) r.first.stand)
             (λ other. λ i m there. absurd (none_there i m (sym (ap (λ (met : List Met). get_elem? met i) (k.alone (λ is. other (sym is)))) ∙ there))),
@@ -409,7 +409,7 @@ module _ {J : Type 0} (right : List ℕ → List ℕ → Bool → Option (List �
   served_knows s r id n me at served = subst (λ (t : Turn). KnowsTurn r.log r.ticket r.serving r.owner r.away id me.seen t) served ((r.seats id me at).turn)
 
   -- the seat whose turn it is gives the slot back and passes the turn on, with the history `more`
-  ends : (s : St J) (r : Kept {J = J} right start s) (id n : ℕ) (me : M J) (held : Held J) (w : View) (more : List Entry) → get_elem? s.views id ≡ some me.0 → me.0.turn ≡ Served n → me.0.live ≡ true → me.1 ≡ (0, Some held) ∷ []
+  ends : (s : St J) (r : Kept {J = J} right start s) (id n : ℕ) (me : M J) (held : Held J) (w : View) (more : List SeatEntry) → get_elem? s.views id ≡ some me.0 → me.0.turn ≡ Served n → me.0.live ≡ true → me.1 ≡ (0, Some held) ∷ []
       → get_or s.words 1 0 < 18446744073709551616
       → Same me.0 w → w.turn ≡ Idle → Longer id r.log more → LeadsFrom right start more held.table → KnowsLog more id w
       → Kept {J = J} right start (stepped s 1 ((get_or s.words 1 0 + 1) % 18446744073709551616) id me.1 w gives)
@@ -432,10 +432,10 @@ module _ {J : Type 0} (right : List ℕ → List ℕ → Bool → Option (List �
       (λ j u other ku. others_pass r.log more r.ticket r.serving id r.owner r.away j u.seen u.turn (ap r.owner (sym k.0) ∙ k.2) other ku.turn)
       (turns_passed r.ticket r.serving id n r.owner s.views me.0 w at served k.0 r.turns)
 
-  -- a call goes into the history
-  pub passes : (slots id : ℕ) (me : M J) (call : Call) (reply : Reply) → IsMoveAnswered right {J = J} start call reply me
-      → Allows (Kept {J = J} right start) slots id me 1 (λ k. (k + 1) % 18446744073709551616) (passed_on call reply (step slots 1 1 0 none) me)
-  passes slots id me call reply a s r _ at small =
+  -- a move goes into the history
+  pub passes : (slots id : ℕ) (me : M J) (move : TableMove) (reply : Reply) → IsMoveAnswered right {J = J} start move reply me
+      → Allows (Kept {J = J} right start) slots id me 1 (λ k. (k + 1) % 18446744073709551616) (passed_on move reply (step slots 1 1 0 none) me)
+  passes slots id me move reply a s r _ at small =
       let n = a.number in
       let held = a.held in
       let served = a.turn in
@@ -443,19 +443,19 @@ module _ {J : Type 0} (right : List ℕ → List ℕ → Bool → Option (List �
       let has = a.given in
       let k = served_knows s r id n me.0 at served in
       let all : me.0.seen ≡ r.log = k.4 in
-      let e : Entry = entry_of_seat me.0.number call reply in
+      let e : SeatEntry = entry_of_seat me.0.number move reply in
       let kn = (r.seats id me.0 at).knows live in
-      let w : View = with_entry me.0 call reply in
-      let mine : calls_by id (r.log ++ e ∷ []) ≡ w.mine = calls_own id r.log e kn.number ∙ ap (λ (l : List Entry). l ++ e ∷ []) kn.mine in
-      let same_all : me.0.seen ++ e ∷ [] ≡ r.log ++ e ∷ [] = ap (λ (l : List Entry). l ++ e ∷ []) all in
+      let w : View = with_entry me.0 move reply in
+      let mine : entries_by id (r.log ++ e ∷ []) ≡ w.mine = entries_own id r.log e kn.number ∙ ap (λ (l : List SeatEntry). l ++ e ∷ []) kn.mine in
+      let same_all : me.0.seen ++ e ∷ [] ≡ r.log ++ e ∷ [] = ap (λ (l : List SeatEntry). l ++ e ∷ []) all in
       let new = ends s r id n me held w (r.log ++ e ∷ []) at served live has small
       (same_seen me.0 Idle (me.0.seen ++ e ∷ []) (me.0.mine ++ e ∷ []) (e ∷ [], refl)) refl (longer_log id r.log e kn.number)
-      (leads_on right start r.log a.before e held.table (subst (λ (l : List Entry). LeadsFrom right start l a.before) all a.leads) a.answers)
+      (leads_on right start r.log a.before e held.table (subst (λ (l : List SeatEntry). LeadsFrom right start l a.before) all a.leads) a.answers)
       record {
         number = kn.number;
-        prefix = subst (λ (l : List Entry). StartsWith (r.log ++ e ∷ []) l) (sym same_all) (starts_again (r.log ++ e ∷ []));
+        prefix = subst (λ (l : List SeatEntry). StartsWith (r.log ++ e ∷ []) l) (sym same_all) (starts_again (r.log ++ e ∷ []));
         mine = mine;
-        stand = ap (calls_by id) same_all ∙ mine;
+        stand = ap (entries_by id) same_all ∙ mine;
         shorter = starts_grown r.log me.0.shorter (e ∷ []) kn.shorter;
         alone = kn.alone;
       } in (
@@ -466,7 +466,7 @@ module _ {J : Type 0} (right : List ℕ → List ℕ → Bool → Option (List �
         ((λ i. (w, rest (has i))), stands_of _ new id w (set_here s.views id w (length_above s.views id me.0 at)) live),
       )
 
-  -- a turn with no call
+  -- a turn with no move
   pub skips : (slots id : ℕ) (me : M J) (n : ℕ) (held : Held J) → me.0.turn ≡ Served n → me.0.live ≡ true → me.1 ≡ (0, Some held) ∷ []
       → LeadsFrom right start me.0.seen held.table
       → Allows (Kept {J = J} right start) slots id me 1 (λ k. (k + 1) % 18446744073709551616) (skipped (step slots 1 1 0 none) me)
@@ -478,7 +478,7 @@ module _ {J : Type 0} (right : List ℕ → List ℕ → Bool → Option (List �
         tt,
         ends s r id n me held (with_turn Idle me.0) r.log at served live has small
             (same_view me.0 Idle) refl (same_log id r.log)
-            (subst (λ (l : List Entry). LeadsFrom right start l held.table) k.4 run)
+            (subst (λ (l : List SeatEntry). LeadsFrom right start l held.table) k.4 run)
             record { number = kn.number; prefix = kn.prefix; mine = kn.mine; stand = kn.stand; shorter = kn.shorter; alone = kn.alone },
         (λ i. (with_turn Idle me.0, rest (has i))),
       )
@@ -514,50 +514,50 @@ module _ {J : Type 0} (right : List ℕ → List ℕ → Bool → Option (List �
     };
   }
 
-  -- what the seat whose call went into the history then knows
-  pub passed_tells : (slots r : ℕ) (me after : M J) (call : Call) (reply : Reply) → IsMoveAnswered right {J = J} start call reply me
-      → passed_on call reply (step slots 1 1 0 none) me r after → AnswersMove right {J = J} start call reply me after
-  passed_tells slots r me after call reply a told = (
+  -- what the seat whose move went into the history then knows
+  pub passed_tells : (slots r : ℕ) (me after : M J) (move : TableMove) (reply : Reply) → IsMoveAnswered right {J = J} start move reply me
+      → passed_on move reply (step slots 1 1 0 none) me r after → AnswersMove right {J = J} start move reply me after
+  passed_tells slots r me after move reply a told = (
     told.0,
-    (a.held.table, leads_on right start me.0.seen a.before (entry_of_seat me.0.number call reply) a.held.table a.leads a.answers),
+    (a.held.table, leads_on right start me.0.seen a.before (entry_of_seat me.0.number move reply) a.held.table a.leads a.answers),
     subst (λ (m : M J). StandsInSeen m.0) (sym told.0) told.1,
   )
 
   -- a seat that has just put the table back
-  pub answered : (me given : M J) (n : ℕ) (held new : Held J) (call : Call) (said : Option Reply) → IsServed right {J = J} start n me held
-      → given ≡ (me.0, (0, Some new) ∷ []) → IfSome said (λ reply. Step_of right held.table call reply new.table) → IsSome said
-      → IsMoveAnswered right {J = J} start call (reply_in said) given
-  answered me given n held new call (Some reply) turn is stp there = record {
+  pub answered : (me given : M J) (n : ℕ) (held new : Held J) (move : TableMove) (said : Option Reply) → IsServed right {J = J} start n me held
+      → given ≡ (me.0, (0, Some new) ∷ []) → IfSome said (λ reply. Step_of right held.table move reply new.table) → IsSome said
+      → IsMoveAnswered right {J = J} start move (reply_in said) given
+  answered me given n held new move (Some reply) turn is stp there = record {
     number = n;
     before = held.table;
     held = new;
     turn = ap (λ (m : M J). m.0.turn) is ∙ turn.turn;
     live = ap (λ (m : M J). m.0.live) is ∙ turn.live;
     given = ap (λ (m : M J). m.1) is;
-    leads = subst (λ (l : List Entry). LeadsFrom right start l held.table) (sym (ap (λ (m : M J). m.0.seen) is)) turn.leads;
+    leads = subst (λ (l : List SeatEntry). LeadsFrom right start l held.table) (sym (ap (λ (m : M J). m.0.seen) is)) turn.leads;
     answers = stp;
   }
-  answered me given n held new call None turn is stp there = absurd (false_is_not (sym there))
+  answered me given n held new move None turn is stp there = absurd (false_is_not (sym there))
 
-  -- a seat that drew a number, had its turn and made its call
-  pub adds_of : (v : View) (n : ℕ) (drawn served after : M J) (held : Held J) (call : Call) (reply : Reply) → calls_by v.number v.seen ≡ v.mine → drawn ≡ (with_turn (Waiting n) v, [])
-      → HasTurn right {J = J} start n drawn.0 served held → AnswersMove right {J = J} start call reply served after → AddsEntry right start v call reply after.0
-  adds_of v n drawn served after held call reply stand is turn answered =
-      let e : Entry = entry_of_seat v.number call reply in
+  -- a seat that drew a number, had its turn and made its move
+  pub adds_of : (v : View) (n : ℕ) (drawn served after : M J) (held : Held J) (move : TableMove) (reply : Reply) → entries_by v.number v.seen ≡ v.mine → drawn ≡ (with_turn (Waiting n) v, [])
+      → HasTurn right {J = J} start n drawn.0 served held → AnswersMove right {J = J} start move reply served after → AddsEntry right start v move reply after.0
+  adds_of v n drawn served after held move reply stand is turn answered =
+      let e : SeatEntry = entry_of_seat v.number move reply in
       let t = subst (λ (m : M J). HasTurn right {J = J} start n m.0 served held) is turn in
-      let a = subst (λ (m : M J). AnswersMove right {J = J} start call reply m after) t.now answered in
-      subst (λ (m : M J). AddsEntry right start v call reply m.0) (sym a.0) record {
+      let a = subst (λ (m : M J). AnswersMove right {J = J} start move reply m after) t.now answered in
+      subst (λ (m : M J). AddsEntry right start v move reply m.0) (sym a.0) record {
         between = t.begins.0;
-        seen = ap (λ (l : List Entry). l ++ e ∷ []) t.begins.1;
-        others = none_behind v.number v.seen t.begins.0 v.mine stand (ap (calls_by v.number) (sym t.begins.1) ∙ t.stands.0);
+        seen = ap (λ (l : List SeatEntry). l ++ e ∷ []) t.begins.1;
+        others = none_behind v.number v.seen t.begins.0 v.mine stand (ap (entries_by v.number) (sym t.begins.1) ∙ t.stands.0);
         legal = a.1;
         mine = refl;
         stays = record { number = refl; given = refl; met = refl };
       }
 
-  -- the same where it made its call, or didn't
-  pub adds_if : (v : View) (n : ℕ) (drawn served after : M J) (held : Held J) (call : Call) (said : Option Reply) → calls_by v.number v.seen ≡ v.mine
+  -- the same where it made its move, or didn't
+  pub adds_if : (v : View) (n : ℕ) (drawn served after : M J) (held : Held J) (move : TableMove) (said : Option Reply) → entries_by v.number v.seen ≡ v.mine
       → drawn ≡ (with_turn (Waiting n) v, []) → HasTurn right {J = J} start n drawn.0 served held
-      → IfSome said (λ reply. AnswersMove right {J = J} start call reply served after) → IfSome said (λ reply. AddsEntry right start v call reply after.0)
-  adds_if v n drawn served after held call (Some reply) stand is turn answered = adds_of v n drawn served after held call reply stand is turn answered
-  adds_if v n drawn served after held call None stand is turn answered = tt
+      → IfSome said (λ reply. AnswersMove right {J = J} start move reply served after) → IfSome said (λ reply. AddsEntry right start v move reply after.0)
+  adds_if v n drawn served after held move (Some reply) stand is turn answered = adds_of v n drawn served after held move reply stand is turn answered
+  adds_if v n drawn served after held move None stand is turn answered = tt

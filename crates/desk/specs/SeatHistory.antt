@@ -1,24 +1,24 @@
--- What a list of calls does to a seat: its own calls grow by exactly these, they stand once each in what it has seen, in their
--- order, and it may have seen others in between. Where a call was made, what it has seen is legal.
+-- What a list of moves does to a seat: its own moves grow by exactly these, they stand once each in what it has seen, in their
+-- order, and it may have seen others in between. Where a move was made, what it has seen is legal.
 use Rattle.std.specs.Prelude.{◌≡◌, ◌≢◌, ℕ, List, [], ◌∷◌, ◌++◌, Bool, Option}
 use Rattle.std.proofs.Common.{refl, sym, ◌∙◌, ap, subst, append_assoc, append-nil}
 use Rattle.std.proofs.lemmas.List.{map-append}
-use Rattle.job_table.specs.History.{Entry as Said}
-use Rattle.desk.specs.declared.view.Entry.{Entry}
+use Rattle.job_table.specs.History.{MoveEntry as Said}
+use Rattle.desk.specs.declared.view.SeatEntry.{SeatEntry}
 use Rattle.desk.specs.declared.view.View.{View}
-use Rattle.desk.specs.History.{IsLegal, StartsWith, entry_of_seat, by, calls_by}
+use Rattle.desk.specs.History.{IsLegal, StartsWith, entry_of_seat, by, entries_by}
 use Rattle.desk.specs.Rule.{HasMet}
 use Rattle.desk.specs.SeatMoves.{Stays}
 
--- calls of one seat after others of it, as they are listed
+-- moves of one seat after others of it, as they are listed
 by_then : (m n : ℕ) (a b : List Said) → n ≡ m → by m a ++ by n b ≡ by m (a ++ b)
-by_then m n a b same = ap (λ (k : ℕ). by m a ++ by k b) same ∙ sym (map-append (λ s. entry_of_seat m s.call s.reply) a b)
+by_then m n a b same = ap (λ (k : ℕ). by m a ++ by k b) same ∙ sym (map-append (λ s. entry_of_seat m s.table_move s.reply) a b)
 
 abbrev IsFull : List Said → Type 0
 IsFull [] = ⊥
 IsFull (x ∷ xs) = Unit {0}
 
--- where calls were made, the first ones or the last ones were
+-- where moves were made, the first ones or the last ones were
 legal_then : (before after : Type 0) (a b : List Said) → (a ≢ [] → before) → (before → after) → (b ≢ [] → after) → a ++ b ≢ [] → after
 legal_then before after a [] first still last some = still (first (λ none. some (append-nil a ∙ none)))
 legal_then before after a (y ∷ ys) first still last some = last (λ none. subst IsFull none tt)
@@ -27,33 +27,33 @@ module _ (right : List ℕ → List ℕ → Bool → Option (List ℕ) → Type 
   pub record Asked (v w : View) (said : List Said) : Type 0 where
     pub mine : w.mine ≡ v.mine ++ by v.number said
     pub seen : StartsWith w.seen v.seen
-    pub stand : calls_by w.number w.seen ≡ calls_by v.number v.seen ++ by v.number said
+    pub stand : entries_by w.number w.seen ≡ entries_by v.number v.seen ++ by v.number said
     pub legal : IsLegal right v.seen → IsLegal right w.seen
     pub made_legal : said ≢ [] → IsLegal right w.seen
     pub known : HasMet v.seen v.met → HasMet w.seen w.met
     pub stays : Stays v w
 
-  -- no call
+  -- no move
   pub asked_none : (v : View) → Asked v v []
   asked_none v = record {
     mine = sym (append-nil v.mine);
     seen = ([], sym (append-nil v.seen));
-    stand = sym (append-nil (calls_by v.number v.seen));
+    stand = sym (append-nil (entries_by v.number v.seen));
     legal = λ before. before;
     made_legal = λ some. absurd (some refl);
     known = λ before. before;
     stays = record { number = refl; given = refl; met = refl };
   }
 
-  -- calls after calls are both
+  -- moves after moves are both
   pub asked_then : (v w x : View) (a b : List Said) → Asked v w a → Asked w x b → Asked v x (a ++ b)
   asked_then v w x a b p q =
-      let both : (m m' m'' : List Entry) → m' ≡ m ++ by v.number a → m'' ≡ m' ++ by w.number b → m'' ≡ m ++ by v.number (a ++ b) = λ m m' m'' first last.
+      let both : (m m' m'' : List SeatEntry) → m' ≡ m ++ by v.number a → m'' ≡ m' ++ by w.number b → m'' ≡ m ++ by v.number (a ++ b) = λ m m' m'' first last.
       last ∙ ap (λ l. l ++ by w.number b) first ∙ append_assoc m (by v.number a) (by w.number b)
       ∙ ap (λ l. m ++ l) (by_then v.number w.number a b p.stays.number) in record {
         mine = both v.mine w.mine x.mine p.mine q.mine;
         seen = (p.seen.0 ++ q.seen.0, q.seen.1 ∙ ap (λ s. s ++ q.seen.0) p.seen.1 ∙ append_assoc v.seen p.seen.0 q.seen.0);
-        stand = both (calls_by v.number v.seen) (calls_by w.number w.seen) (calls_by x.number x.seen) p.stand q.stand;
+        stand = both (entries_by v.number v.seen) (entries_by w.number w.seen) (entries_by x.number x.seen) p.stand q.stand;
         legal = λ before. q.legal (p.legal before);
         made_legal = legal_then (IsLegal right w.seen) (IsLegal right x.seen) a b p.made_legal q.legal q.made_legal;
         known = λ before. q.known (p.known before);

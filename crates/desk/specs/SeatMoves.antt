@@ -1,4 +1,4 @@
--- What a call of the desk does to a seat.
+-- What each function of the desk does to a seat.
 use mathlib.Core.Option.{some}
 use lib.ListN.{get_elem?}
 use Rattle.std.specs.Prelude.{◌≡◌, ◌≢◌, ℕ, ◌+◌, true, List, [], ◌∷◌, ◌++◌, Option, None, Some, Bool}
@@ -6,26 +6,26 @@ use Rattle.atomic_table.specs.Seated.{TableId}
 use Rattle.atomic_table.specs.declared.shared.Seat.{Seat}
 use Rattle.job_table.specs.Jobs.{Register}
 use Rattle.job_table.specs.Steps.{wants_memory, Step}
-use Rattle.job_table.specs.declared.calls.Call.{Call}
-use Rattle.job_table.specs.declared.calls.Reply.{Reply}
-use Rattle.job_table.specs.declared.calls.Reply.TheVariants as replies
+use Rattle.job_table.specs.declared.entries.TableMove.{TableMove}
+use Rattle.job_table.specs.declared.entries.Reply.{Reply}
+use Rattle.job_table.specs.declared.entries.Reply.TheVariants as replies
 use Rattle.desk.specs.declared.shape.Locked.{Locked}
 use Rattle.desk.specs.declared.held.Held.{Held}
-use Rattle.desk.specs.declared.view.Entry.{Entry}
+use Rattle.desk.specs.declared.view.SeatEntry.{SeatEntry}
 use Rattle.desk.specs.declared.view.Met.{Met}
 use Rattle.desk.specs.declared.view.View.{View}
 use Rattle.desk.specs.declared.view.Turn.TheVariants.{Idle, Served}
-use Rattle.desk.specs.History.{LeadsFrom, LeadsTo, IsLegalFrom, StartsWith, entry_of_seat, calls_by}
+use Rattle.desk.specs.History.{LeadsFrom, LeadsTo, IsLegalFrom, StartsWith, entry_of_seat, entries_by}
 use Rattle.desk.specs.Steps.{Sat}
 use Rattle.desk.specs.Rule.{with_seen, longer_of, met_as, out_of, HasMet, StandsInSeen}
 
--- the seat is live, has no number of a turn, and no slot. All of its own calls stand in what it has seen, and so do all calls of the
+-- the seat is live, has no number of a turn, and no slot. All of its own moves stand in what it has seen, and so do all moves of the
 -- seats that it met
 pub record IsSeatReady {J : Type 0} (me : Sat J) : Type 0 where
   pub idle : me.0.turn ≡ Idle
   pub live : me.0.live ≡ true
   pub bare : me.1 ≡ []
-  pub stand : calls_by me.0.number me.0.seen ≡ me.0.mine
+  pub stand : entries_by me.0.number me.0.seen ≡ me.0.mine
   pub known : HasMet me.0.seen me.0.met
 
 -- which desk it is
@@ -47,19 +47,19 @@ pub record Stays (v w : View) : Type 0 where
   pub given : w.given ≡ v.given
   pub met : w.met ≡ v.met
 
--- the reply of a call that was made, and any of one that wasn't
+-- the reply of a move that was made, and any of one that wasn't
 abbrev pub reply_in : Option Reply → Reply
 reply_in None = replies.Done
 reply_in (Some reply) = reply
 
--- the seat may have seen more, and made no call
+-- the seat may have seen more, and made no move
 pub record Waits (v w : View) : Type 0 where
   pub seen : StartsWith w.seen v.seen
   pub mine : w.mine ≡ v.mine
   pub stays : Stays v w
 
--- a seat was met: the first one knows its number and its calls, and has seen the longer of what both had seen, which begins with
--- both and has the known calls of each seat that was met
+-- a seat was met: the first one knows its number and its moves, and has seen the longer of what both had seen, which begins with
+-- both and has the known moves of each seat that was met
 pub record Meets (v w after : View) : Type 0 where
   pub seen : after.seen ≡ longer_of v.seen w.seen
   pub begins : StartsWith after.seen v.seen × StartsWith after.seen w.seen
@@ -71,25 +71,25 @@ pub record Meets (v w after : View) : Type 0 where
   pub out : out_of after + 1 ≡ out_of v
 
 module _ (right : List ℕ → List ℕ → Bool → Option (List ℕ) → Type 0) where
-  -- a call was made, where the numbers of the table begin with this one: the history after it is legal, begins with all that had been seen,
-  -- and ends with the call, which is one more of the seat's own and the only one behind what had been seen
-  pub record AddsEntry (start : ℕ) (v : View) (call : Call) (reply : Reply) (w : View) : Type 0 where
-    pub between : List Entry
-    pub seen : w.seen ≡ (v.seen ++ between) ++ entry_of_seat v.number call reply ∷ []
-    pub others : calls_by v.number between ≡ []
+  -- a move was made, where the numbers of the table begin with this one: the history after it is legal, begins with all that had been seen,
+  -- and ends with the move, which is one more of the seat's own and the only one behind what had been seen
+  pub record AddsEntry (start : ℕ) (v : View) (move : TableMove) (reply : Reply) (w : View) : Type 0 where
+    pub between : List SeatEntry
+    pub seen : w.seen ≡ (v.seen ++ between) ++ entry_of_seat v.number move reply ∷ []
+    pub others : entries_by v.number between ≡ []
     pub legal : IsLegalFrom right start w.seen
-    pub mine : w.mine ≡ v.mine ++ entry_of_seat v.number call reply ∷ []
+    pub mine : w.mine ≡ v.mine ++ entry_of_seat v.number move reply ∷ []
     pub stays : Stays v w
 
   -- what was seen leads to this
-  pub record Lacks (start : ℕ) (call : Call) (seen : List Entry) : Type 0 where
+  pub record Lacks (start : ℕ) (move : TableMove) (seen : List SeatEntry) : Type 0 where
     pub held : Register
     pub leads : LeadsFrom right start seen held
-    pub wants : wants_memory call held ≡ true
+    pub wants : wants_memory move held ≡ true
 
   -- it is the turn of this number, and the table is the one after all that the seat has now seen
   pub record HasTurn {J : Type 0} (start number : ℕ) (v : View) (me : Sat J) (held : Held J) : Type 0 where
-    pub seen : List Entry
+    pub seen : List SeatEntry
     pub now : me ≡ (with_seen (Served number) seen v.mine v, (0, None) ∷ [])
     pub begins : StartsWith seen v.seen
     pub leads : LeadsFrom right start seen held.table
@@ -103,8 +103,8 @@ module _ (right : List ℕ → List ℕ → Bool → Option (List ℕ) → Type 
     pub leads : LeadsFrom right start me.0.seen held.table
     pub stands : StandsInSeen me.0
 
-  -- it is the seat's turn, and it gave the table back, which is the one after all that the seat has seen and this call
-  pub record IsMoveAnswered {J : Type 0} (start : ℕ) (call : Call) (reply : Reply) (me : Sat J) : Type 0 where
+  -- it is the seat's turn, and it gave the table back, which is the one after all that the seat has seen and this move
+  pub record IsMoveAnswered {J : Type 0} (start : ℕ) (move : TableMove) (reply : Reply) (me : Sat J) : Type 0 where
     pub number : ℕ
     pub before : Register
     pub held : Held J
@@ -112,20 +112,20 @@ module _ (right : List ℕ → List ℕ → Bool → Option (List ℕ) → Type 
     pub live : me.0.live ≡ true
     pub given : me.1 ≡ (0, Some held) ∷ []
     pub leads : LeadsFrom right start me.0.seen before
-    pub answers : Step right before call reply held.table
+    pub answers : Step right before move reply held.table
 
-  -- the call is the last of the history, which is legal, the seat is idle, and all of its own calls stand there
-  abbrev pub AnswersMove : {J : Type 0} → ℕ → Call → Reply → Sat J → Sat J → Type 0
-  AnswersMove start call reply m m' =
-      (m' ≡ (with_seen Idle (m.0.seen ++ entry_of_seat m.0.number call reply ∷ []) (m.0.mine ++ entry_of_seat m.0.number call reply ∷ []) m.0, []))
-      × IsLegalFrom right start (m.0.seen ++ entry_of_seat m.0.number call reply ∷ []) × StandsInSeen m'.0
+  -- the move is the last of the history, which is legal, the seat is idle, and all of its own moves stand there
+  abbrev pub AnswersMove : {J : Type 0} → ℕ → TableMove → Reply → Sat J → Sat J → Type 0
+  AnswersMove start move reply m m' =
+      (m' ≡ (with_seen Idle (m.0.seen ++ entry_of_seat m.0.number move reply ∷ []) (m.0.mine ++ entry_of_seat m.0.number move reply ∷ []) m.0, []))
+      × IsLegalFrom right start (m.0.seen ++ entry_of_seat m.0.number move reply ∷ []) × StandsInSeen m'.0
 
-  -- the table is the one after a history that begins with all that the first seat had seen. Its entries are the seat's own calls
+  -- the table is the one after a history that begins with all that the first seat had seen. Its entries are the seat's own moves
   -- and those of the seats that it met, and no others
   pub record Closes (v : View) (table : Register) : Type 0 where
-    pub log : List Entry
+    pub log : List SeatEntry
     pub leads : LeadsTo right log table
     pub begins : StartsWith log v.seen
-    pub mine : calls_by 0 log ≡ v.mine
+    pub mine : entries_by 0 log ≡ v.mine
     pub met : HasMet log v.met
-    pub no_others : (k : ℕ) → k ≢ 0 → ((i : ℕ) (m : Met) → get_elem? v.met i ≡ some m → m.seat ≢ k) → calls_by k log ≡ []
+    pub no_others : (k : ℕ) → k ≢ 0 → ((i : ℕ) (m : Met) → get_elem? v.met i ≡ some m → m.seat ≢ k) → entries_by k log ≡ []

@@ -1,7 +1,7 @@
 //! The desk.
 
-ghost use Rattle.std.specs.Prelude.{◌≡◌, ◌≤◌, ◌^◌, [], ◌∷◌, true, None, Some, IfOk, IfSome, IfNone};
-ghost use Rattle.job_table.specs.Steps.{May, fits, wants_memory};
+ghost use Rattle.std.specs.Prelude.{◌≡◌, ◌≤◌, [], ◌∷◌, true, None, Some, IfOk, IfSome, IfNone};
+ghost use Rattle.job_table.specs.Steps.{May, fits, most_first, wants_memory};
 ghost use Rattle.desk.specs.declared.view.Turn.TheVariants.{Idle, Waiting};
 ghost use Rattle.desk.specs.History.{IsLegal};
 ghost use Rattle.desk.specs.Rule.{first_view, with_turn, one_more, newcomer, out_of};
@@ -33,7 +33,7 @@ impl<J: Verdicts> Desk<J> {
     /// A desk on the empty table whose numbers begin with this one, and its first seat.
     pub fn new(alloc: Global, first: u64) -> Result<(Desk<J>, Seat<J>), Memory>
         requires some { 1 ≤ first }
-        requires within { first ≤ 2 ^ 62 }
+        requires within { first ≤ most_first }
         ensures seat { IfOk result (λ d. IsSeatOf (desk_id d.0) d.1 × (d.1.me.0 ≡ first_view)) }
         ensures first { IfOk result (λ d. first_number d.0 ≡ first) }
     {
@@ -55,11 +55,11 @@ impl<J: Verdicts> Desk<J> {
     /// memory no move was made, and what the table held after all that the seat has then seen is such that this move wants some.
     pub fn ask<R: Wait, M: Move<J>>(&self, rt: &R, me: &mut Seat<J>, step: M) -> M::Answer
         requires seat { IsSeatOf (desk_id self.now) me.old }
-        requires call { May J.right (M.call step) }
+        requires may { May J.right (M.table_move step) }
         ensures seat { IsSeatOf (desk_id self.now) me.new }
-        ensures fits { IfSome (M.said result) (λ reply. fits (M.call step) reply ≡ true) }
-        ensures ok { IfSome (M.said result) (λ reply. AddsEntry J.right (first_number self.now) me.old.me.0 (M.call step) reply me.new.me.0) }
-        ensures sure { IfNone (M.said result) (Lacks J.right (first_number self.now) (M.call step) me.new.me.0.seen) }
+        ensures fits { IfSome (M.said result) (λ reply. fits (M.table_move step) reply ≡ true) }
+        ensures ok { IfSome (M.said result) (λ reply. AddsEntry J.right (first_number self.now) me.old.me.0 (M.table_move step) reply me.new.me.0) }
+        ensures sure { IfNone (M.said result) (Lacks J.right (first_number self.now) (M.table_move step) me.new.me.0.seen) }
         ensures err { IfNone (M.said result) (Waits me.old.me.0 me.new.me.0) }
     {
         let number = self.draw(rt, me);
@@ -80,7 +80,7 @@ impl<J: Verdicts> Desk<J> {
         other
     }
 
-    /// Takes in a seat that was split off. The first one then knows its number and its calls.
+    /// Takes in a seat that was split off. The first one then knows its number and its moves.
     pub fn meet(&self, me: &mut Seat<J>, other: Seat<J>)
         requires seat { IsSeatOf (desk_id self.now) me.old }
         requires first { me.old.me.0.number ≡ 0 }
@@ -158,11 +158,11 @@ impl<J: Verdicts> Desk<J> {
     fn answer<M: Move<J>>(&self, me: &mut Seat<J>, number: u64, held: Held<J>, step: M) -> M::Answer
         requires seat { me.old.table_id ≡ (desk_id self.now) }
         requires turn { IsServed J.right (first_number self.now) number me.old.me held }
-        requires call { May J.right (M.call step) }
+        requires may { May J.right (M.table_move step) }
         ensures seat { me.new.table_id ≡ me.old.table_id }
-        ensures fits { IfSome (M.said result) (λ reply. fits (M.call step) reply ≡ true) }
-        ensures ok { IfSome (M.said result) (λ reply. AnswersMove J.right (first_number self.now) (M.call step) reply me.old.me me.new.me) }
-        ensures sure { IfNone (M.said result) (wants_memory (M.call step) held.table ≡ true) }
+        ensures fits { IfSome (M.said result) (λ reply. fits (M.table_move step) reply ≡ true) }
+        ensures ok { IfSome (M.said result) (λ reply. AnswersMove J.right (first_number self.now) (M.table_move step) reply me.old.me me.new.me) }
+        ensures sure { IfNone (M.said result) (wants_memory (M.table_move step) held.table ≡ true) }
         ensures err { IfNone (M.said result) (me.new.me ≡ (with_turn Idle me.old.me.0, [])) }
     {
         let Held { mut table } = held;
@@ -186,9 +186,9 @@ impl<J: Verdicts> Desk<J> {
         _answer: &M::Answer,
     )
         requires seat { me.old.table_id ≡ (desk_id self.now) }
-        requires turn { IsMoveAnswered J.right (first_number self.now) K.call K.reply me.old.me }
+        requires turn { IsMoveAnswered J.right (first_number self.now) K.table_move K.reply me.old.me }
         ensures seat { me.new.table_id ≡ me.old.table_id }
-        ensures made { AnswersMove J.right (first_number self.now) K.call K.reply me.old.me me.new.me }
+        ensures made { AnswersMove J.right (first_number self.now) K.table_move K.reply me.old.me me.new.me }
     {
         self.table.shared.fetch_add::<PassOn<K>>(me, SERVING, 1);
     }

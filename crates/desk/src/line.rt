@@ -1,4 +1,4 @@
-//! How callers wait for the number that is served. No clause speaks of it: it says how long somebody waits, and not what is answered.
+//! How movers wait for the number that is served. No clause speaks of it: it says how long somebody waits, and not what is answered.
 
 use std::hint::spin_loop;
 use std::sync::Wait;
@@ -6,7 +6,7 @@ use std::sync::atomic::AtomicU64;
 use std::sync::atomic::Ordering::SeqCst;
 use std::thread::yield_now;
 
-/// How often a caller tries to draw at once: a move of the table takes about as long.
+/// How often a mover tries to draw at once: a move of the table takes about as long.
 const AT_ONCE: u32 = 40;
 
 /// How often it tries in all before it sleeps. Behind the first ones it lets others run.
@@ -24,7 +24,7 @@ const ANYBODY: u64 = 0;
 /// Where the next number is for somebody who has slept in vain.
 const SOMEBODY: u64 = 1;
 
-/// Two words that all callers of a desk share.
+/// Two words that all movers of a desk share.
 #[derive(Drop)]
 pub(crate) struct Line {
     /// Whether somebody may sleep.
@@ -33,7 +33,7 @@ pub(crate) struct Line {
     next: AtomicU64,
 }
 
-/// How long one caller has waited.
+/// How long one mover has waited.
 #[derive(Drop)]
 pub(crate) struct Waiter {
     tries: u32,
@@ -59,19 +59,19 @@ impl Line {
         }
     }
 
-    /// Whether a caller may try to draw: not where the next number is another one's.
+    /// Whether a mover may try to draw: not where the next number is another one's.
     pub(crate) fn lets(&self, waiter: &Waiter) -> bool {
         waiter.is_next || self.next.load(SeqCst) == ANYBODY
     }
 
-    /// What a caller that has drawn leaves to others.
+    /// What a mover that has drawn leaves to others.
     pub(crate) fn leave(&self, waiter: &Waiter) {
         if waiter.is_next {
             self.next.store(ANYBODY, SeqCst);
         }
     }
 
-    /// What a caller does behind a try that failed. Before it sleeps until the bell rings it says that it listens, and tries once more;
+    /// What a mover does behind a try that failed. Before it sleeps until the bell rings it says that it listens, and tries once more;
     /// when it wakes it says so again, for others who may sleep. Where it has slept before, it asks for the next number first.
     pub(crate) fn rest<R: Wait>(&self, rt: &R, waiter: &mut Waiter) {
         if waiter.tries < AT_ONCE {
@@ -98,7 +98,7 @@ impl Line {
         }
     }
 
-    /// Wakes one caller, where somebody may sleep.
+    /// Wakes one mover, where somebody may sleep.
     pub(crate) fn ring(&self) {
         if self.bell.load(SeqCst) == LISTEN && self.bell.swap(QUIET, SeqCst) == LISTEN {
             self.bell.wake_one();

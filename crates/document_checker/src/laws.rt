@@ -35,15 +35,15 @@ fn reports_are_one()
     document_has_one_refusal();
 }
 
-/// Documents that are accepted aren't refused, but for want of memory.
-pub fn accepted_is_not_refused()
+/// Law: documents that are accepted aren't refused, but for want of memory.
+pub fn accepted_documents_are_not_refused()
     ensures { (osil osrl : List ℕ) (k : Kind) (f : CheckFault) → IsAcceptedText osil osrl k → DocsRefuse osil osrl f → f ≡ Memory }
 {
     instances_are_one();
     reports_are_one();
 }
 
-/// Documents are accepted as one kind at most.
+/// Law: documents are accepted as one kind at most.
 pub fn documents_have_one_kind()
     ensures { (osil osrl : List ℕ) (j k : Kind) → IsAcceptedText osil osrl j → IsAcceptedText osil osrl k → j ≡ k }
 {
@@ -51,7 +51,7 @@ pub fn documents_have_one_kind()
     reports_are_one();
 }
 
-/// What accepted documents claim is true: whichever instance the first stands for, and whichever report the second is,
+/// Law: what accepted documents claim is true: whichever instance the first stands for, and whichever report the second is,
 /// the report's claim is of the accepted kind, and what it says holds of the instance's points.
 pub fn accepted_documents_are_true()
     ensures kind { (osil osrl : List ℕ) (k : Kind) (report : Report) (c : carried.Claim) → IsAcceptedText osil osrl k → IsReportText osrl report → report.claim ≡ Some c → kind c ≡ Some k }
@@ -61,7 +61,7 @@ pub fn accepted_documents_are_true()
     reports_are_one();
 }
 
-/// Documents have one answer, in one text; want of memory has none.
+/// Law: documents have one answer, in one text; want of memory has none.
 pub fn documents_have_one_answer()
     ensures { (osil osrl : List ℕ) (a b : Result Kind CheckFault) (s t : List ℕ) → MatchResult a (IsAcceptedText osil osrl) (DocsRefuse osil osrl) → MatchResult b (IsAcceptedText osil osrl) (DocsRefuse osil osrl) → IsAnswerText a s → IsAnswerText b t → s ≡ t }
 {

@@ -15,7 +15,7 @@ mod texts;
 pub use documents::{Kind, check_docs};
 pub use fault::CheckFault;
 pub use laws::{
-    accepted_documents_are_true, accepted_is_not_refused, documents_have_one_answer,
+    accepted_documents_are_not_refused, accepted_documents_are_true, documents_have_one_answer,
     documents_have_one_kind, instances_are_one,
 };
 pub use texts::answer_text;

@@ -1,6 +1,7 @@
 -- What effects leave, in order: jobs with their numbers, with which number these begin, and how many were given.
-use Rattle.std.specs.Prelude.{◌≡◌, ℕ, ◌+◌, ◌-◌, ◌^◌, nat_le, nat_lt, nat_eq, Bool, true, false, ◌||◌, ◌&&◌, List, [], ◌∷◌, ◌++◌, length, Option, Some, None, if◌then◌else◌}
+use Rattle.std.specs.Prelude.{◌≡◌, ℕ, ◌+◌, nat_le, nat_lt, nat_eq, Bool, true, false, ◌||◌, ◌&&◌, List, [], ◌∷◌, ◌++◌, length, Option, Some, None, if◌then◌else◌}
 use Rattle.std.specs.Map.{lookup, set_value, remove_entry}
+use Rattle.effects.specs.Limits.{most_jobs, last_number, most_first}
 use Rattle.effects.specs.Records.{Deed, Issue, Send, Enter, Finish, Killed, Marked, GivenUp, Begin}
 
 -- how far a job has come
@@ -37,10 +38,10 @@ next_of l = l.first + l.issued
 abbrev pub stage_of : ℕ → Ledger → Option Stage
 stage_of n l = lookup (nat_eq n) l.jobs
 
--- a new job, which has the next number, where fewer than 10,000 are held and a number is left
+-- a new job, which has the next number, where there is room for one and a number is left
 abbrev pub with_job : Stage → Ledger → Option Ledger
 with_job stage l =
-    if nat_le 10000 (length l.jobs) || nat_lt (2 ^ 63 - 1) (next_of l) then None
+    if nat_le most_jobs (length l.jobs) || nat_lt last_number (next_of l) then None
     else Some (record l { jobs = l.jobs ++ (next_of l, stage) ∷ []; issued = l.issued + 1 })
 
 abbrev pub moved : ℕ → Stage → Ledger → Ledger
@@ -49,9 +50,9 @@ moved n stage l = record l { jobs = set_value (nat_eq n) l.jobs stage }
 abbrev pub forgotten : ℕ → Ledger → Ledger
 forgotten n l = record l { jobs = remove_entry (nat_eq n) l.jobs }
 
--- numbers begin with another one, from 1 to 2^62, while none was given
+-- numbers begin with another one, of those with which they may, while none was given
 abbrev pub begins : ℕ → Ledger → Option Ledger
-begins n l = if nat_eq l.issued 0 && nat_le 1 n && nat_le n (2 ^ 62) then Some (record l { first = n }) else None
+begins n l = if nat_eq l.issued 0 && nat_le 1 n && nat_le n most_first then Some (record l { first = n }) else None
 
 -- texts follow an issue
 abbrev pub sends : ℕ → List ℕ → List ℕ → Option Stage → Ledger → Option Ledger

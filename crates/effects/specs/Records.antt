@@ -1,4 +1,4 @@
--- What calls of the table change, and the records of it.
+-- What moves of the table change, and the records of it.
 use Rattle.std.specs.Prelude.{◌≡◌, ◌≢◌, ℕ, ◌<◌, ◌≤◌, ◌^◌, List, [], ◌∷◌, ◌++◌, length, Option, Some, None}
 use Rattle.std.specs.Int.{w32, w64, to_be_bytes}
 use Rattle.os_io.specs.Limits.{most_bytes}
@@ -7,7 +7,7 @@ use Rattle.effects.specs.declared.kinds.Effect.TheVariants as effect
 use Rattle.effects.specs.declared.kinds.Document.{Document}
 use Rattle.effects.specs.declared.kinds.Document.TheVariants.{Missing, Kept}
 
--- what a call changes: a job is named by its number, texts are their bytes, and a document may be missing
+-- what a move changes: a job is named by its number, texts are their bytes, and a document may be missing
 pub data Deed : Type 0 where
   Issue : Deed
   Send : ℕ → List ℕ → List ℕ → Deed

@@ -7,11 +7,13 @@
 //! ([`records_are_cut_in_one_way`]).
 //!
 //! `specs/Fold.antt` says in which order effects are possible, and what they leave. [`Replay`] is what they are made in again, and
-//! [`Store`] what keeps them, or says that one is [`NotStored`]; [`NoStore`] keeps none.
+//! [`Store`] what keeps them, or says that one is [`NotStored`]; [`NoStore`] keeps none. [`MOST_JOBS`], [`LAST_NUMBER`] and
+//! [`MOST_FIRST`] are the limits of a table.
 #![tactic(auto)]
 
 mod kinds;
 mod laws;
+mod limits;
 mod reading;
 mod replay;
 mod store;
@@ -19,6 +21,7 @@ mod writing;
 
 pub use kinds::{Document, Effect};
 pub use laws::records_are_cut_in_one_way;
+pub use limits::{LAST_NUMBER, MOST_FIRST, MOST_JOBS};
 pub use reading::decode;
 pub use replay::Replay;
 pub use store::{NoStore, NotStored, Store};

@@ -19,9 +19,13 @@ pub record FileRests {D : Type 0} (seen : D → List ℕ) (may_leave : D → Lis
   pub place : end ≡ length (records deeds)
   pub durable : Only (seen disk) (may_leave disk)
 
+-- the most bytes of a record with a gate
+abbrev pub most_record : ℕ
+most_record = 4194340
+
 -- a record of so many bytes from its kind on is too long for the buffer, or the file would be, where a gate ends it at that place
 abbrev pub is_too_long : ℕ → ℕ → Bool
-is_too_long end size = nat_le 4194340 size || nat_lt (2 ^ 40) (end + size + 2)
+is_too_long end size = nat_le most_record size || nat_lt (2 ^ 40) (end + size + 2)
 
 -- the file stands for these, and the first k of more, where k is at most n
 abbrev pub StandsUpTo : List Deed → List Deed → ℕ → List ℕ → Type 0

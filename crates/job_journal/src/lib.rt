@@ -2,11 +2,11 @@
 //! yet: nothing that it calls stands on this crate.
 //!
 //! The file is records, each behind an open gate 1, and then a gate that isn't 1. [`Journal::put`] writes a record with a closed
-//! gate behind it, syncs, opens the gate before it, and syncs. [`open`] reads the records of a file that a crash may have left,
+//! gate behind it, syncs, opens the gate before it, and syncs. [`open_journal`] reads the records of a file that a crash may have left,
 //! makes their effects again, and cuts what follows the first gate that isn't 1.
 //!
 //! After a crash at any moment, within a call too, the file stands for the effects that were put, in order and none in part: all
-//! that were acknowledged, and at most one more ([`Journal::put_each`] says so of any run of puts). [`open`] makes the table of
+//! that were acknowledged, and at most one more ([`Journal::put_each`] says so of any run of puts). [`open_journal`] makes the table of
 //! exactly these, and a crash while it opens leaves a file that stands for them too. It answers that a file is damaged only where
 //! it is, and never of one that stands for effects that are possible and accepted. So it is for every [`Disk`](disks::Disk) that
 //! tells what it holds, every [`Replay`](effects::Replay) and every [`Sieve`]. A journal is a [`Store`](effects::Store), whose word for
@@ -22,7 +22,7 @@ mod stored;
 
 pub use effects::NotStored;
 pub use journal::Journal;
-pub use opening::open;
+pub use opening::open_journal;
 pub use scanning::{OpenFault, Sieve};
 
 #[cfg(test)]

@@ -66,7 +66,7 @@ fn prepare<D: Disk, R: Replay, S: Sieve>(
 
 /// Opens a file that a crash may have left: makes its effects again in an empty table, and cuts what follows the first gate that
 /// isn't 1.
-pub fn open<D: Disk, R: Replay, S: Sieve>(
+pub fn open_journal<D: Disk, R: Replay, S: Sieve>(
     alloc: Global,
     disk: D,
     table: &mut R,

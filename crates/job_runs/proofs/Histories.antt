@@ -2,14 +2,14 @@
 use Rattle.std.proofs.Common.{◌≡◌, ℕ, Bool, true, List, [], ◌∷◌, ◌++◌, Some, refl, sym, ◌∙◌, ap, subst, inl, inr}
 use Rattle.std.proofs.lemmas.List.Elements.{All-nil, All-cons, All-append}
 use Rattle.job_table.specs.declared.job.Job.{Job}
-use Rattle.job_table.specs.declared.calls.Call.{Call}
-use Rattle.job_table.specs.declared.calls.Call.TheVariants.{Finish}
-use Rattle.job_table.specs.declared.calls.Finish as answer
-use Rattle.job_table.specs.declared.calls.Finish.TheVariants as ends
-use Rattle.job_table.specs.declared.calls.Reply.{Reply}
-use Rattle.job_table.specs.declared.calls.Reply.TheVariants as reply
+use Rattle.job_table.specs.declared.entries.TableMove.{TableMove}
+use Rattle.job_table.specs.declared.entries.TableMove.TheVariants.{Finish}
+use Rattle.job_table.specs.declared.entries.Finishing as answer
+use Rattle.job_table.specs.declared.entries.Finishing.TheVariants as ends
+use Rattle.job_table.specs.declared.entries.Reply.{Reply}
+use Rattle.job_table.specs.declared.entries.Reply.TheVariants as reply
 use Rattle.job_table.specs.Jobs.{Register}
-use Rattle.job_table.specs.History.{Entry, entry_of_move, LeadsStepwise, LeadsTo, NoFinish, WasTold, IsGiving}
+use Rattle.job_table.specs.History.{MoveEntry, entry_of_move, LeadsStepwise, LeadsTo, NoFinish, WasTold, IsGiving}
 use Rattle.job_table.specs.Laws.{FirstFinishIsKept}
 use Rattle.job_table.specs.Looks.{looks}
 use Rattle.job_table.proofs.Histories.{runs_split, leads_split}
@@ -29,18 +29,18 @@ looks_kept : (n : ℕ) (answers : List Bool) → AreKept (looks n answers)
 looks_kept n [] = All-nil IsFinishKept
 looks_kept n (a ∷ answers) = All-cons IsFinishKept _ _ refl (looks_kept n answers)
 
-same_end : (a b : answer.Finish) → ◌≡◌ {A = Reply} (reply.Finish a) (reply.Finish b) → a ≡ b
+same_end : (a b : answer.Finishing) → ◌≡◌ {A = Reply} (reply.Finish a) (reply.Finish b) → a ≡ b
 same_end a b e = cc
 
-end_kept : (made : Made) (right : Judgement) → FirstFinishIsKept right → (j : Job) (call : Call) (before run : List Entry) (now : Register) → IsGiving call
-    → (r : IsJobRun made j run) → LeadsTo right (before ++ entry_of_move call (reply.Gave (Some j)) ∷ run) now → r.end ≡ ends.Kept
-end_kept made right law j call before run now giving r runs =
-    let (old, first, (new, gave, rest)) = leads_split right before (entry_of_move call (reply.Gave (Some j)) ∷ run) now runs in
+end_kept : (made : Made) (right : Judgement) → FirstFinishIsKept right → (j : Job) (move : TableMove) (before run : List MoveEntry) (now : Register) → IsGiving move
+    → (r : IsJobRun made j run) → LeadsTo right (before ++ entry_of_move move (reply.Gave (Some j)) ∷ run) now → r.end ≡ ends.Kept
+end_kept made right law j move before run now giving r runs =
+    let (old, first, (new, gave, rest)) = leads_split right before (entry_of_move move (reply.Gave (Some j)) ∷ run) now runs in
     let (mid, looked, (after, finish, over)) =
     runs_split right new now (looks j.number r.answers) (entry_of_move (Finish j r.asked r.document) (reply.Finish r.end) ∷ [])
-    (subst (λ (es : List Entry). LeadsStepwise right new es now) r.are rest) in
+    (subst (λ (es : List MoveEntry). LeadsStepwise right new es now) r.are rest) in
     same_end r.end ends.Kept (law j before (looks j.number r.answers) mid after r.asked r.document (reply.Finish r.end)
-    (record { old = old; new = new; call = call; runs = first; giving = giving; gave = gave; rest = looked })
+    (record { old = old; new = new; table_move = move; runs = first; giving = giving; gave = gave; rest = looked })
     (no_finish j.number r.answers)
     (λ asked. subst (λ (l : List Bool). WasTold j.number (looks j.number l))
     (sym (r.looked.are ∙ ap (λ b. r.looked.before ++ stop_if b) asked)) (told_last j.number r.looked.before))
@@ -48,8 +48,8 @@ end_kept made right law j call before run now giving r runs =
 
 -- the finish of a run is kept
 pub run_kept : (made : Made) (right : Judgement) → FirstFinishIsKept right → RunsAreKept made right
-run_kept made right law j call before run now giving r runs =
-    let kept = end_kept made right law j call before run now giving r runs in
-    subst (λ (es : List Entry). AreKept es) (sym r.are)
+run_kept made right law j move before run now giving r runs =
+    let kept = end_kept made right law j move before run now giving r runs in
+    subst (λ (es : List MoveEntry). AreKept es) (sym r.are)
     (All-append IsFinishKept (looks j.number r.answers) (entry_of_move (Finish j r.asked r.document) (reply.Finish r.end) ∷ []) (looks_kept j.number r.answers)
-    (All-cons IsFinishKept (entry_of_move (Finish j r.asked r.document) (reply.Finish r.end)) [] (subst (λ (end : answer.Finish). IsFinishKept (entry_of_move (Finish j r.asked r.document) (reply.Finish end))) (sym kept) refl) (All-nil IsFinishKept)))
+    (All-cons IsFinishKept (entry_of_move (Finish j r.asked r.document) (reply.Finish r.end)) [] (subst (λ (end : answer.Finishing). IsFinishKept (entry_of_move (Finish j r.asked r.document) (reply.Finish end))) (sym kept) refl) (All-nil IsFinishKept)))

@@ -1,18 +1,18 @@
 -- What holds of runs in every history from an empty table on, whatever its numbers begin with.
 use Rattle.std.specs.Prelude.{◌≡◌, ℕ, Bool, true, false, All, List, ◌∷◌, ◌++◌, Option, Some}
 use Rattle.job_table.specs.declared.job.Job.{Job}
-use Rattle.job_table.specs.declared.calls.Call.{Call}
-use Rattle.job_table.specs.declared.calls.Call.TheVariants as calls
-use Rattle.job_table.specs.declared.calls.Finish as answer
-use Rattle.job_table.specs.declared.calls.Finish.TheVariants as ends
-use Rattle.job_table.specs.declared.calls.Reply.{Reply}
-use Rattle.job_table.specs.declared.calls.Reply.TheVariants as reply
+use Rattle.job_table.specs.declared.entries.TableMove.{TableMove}
+use Rattle.job_table.specs.declared.entries.TableMove.TheVariants as moves
+use Rattle.job_table.specs.declared.entries.Finishing as answer
+use Rattle.job_table.specs.declared.entries.Finishing.TheVariants as ends
+use Rattle.job_table.specs.declared.entries.Reply.{Reply}
+use Rattle.job_table.specs.declared.entries.Reply.TheVariants as reply
 use Rattle.job_table.specs.Jobs.{Register}
-use Rattle.job_table.specs.History.{Entry, entry_of_move, LeadsTo, IsGiving}
+use Rattle.job_table.specs.History.{MoveEntry, entry_of_move, LeadsTo, IsGiving}
 use Rattle.job_runs.specs.Runs.{IsJobRun}
 
 -- a finish was kept
-abbrev pub kept_end : answer.Finish → Bool
+abbrev pub kept_end : answer.Finishing → Bool
 kept_end ends.Kept = true
 kept_end (ends.Stale state) = false
 kept_end ends.Other = false
@@ -22,20 +22,20 @@ abbrev pub kept_reply : Reply → Bool
 kept_reply (reply.Finish end) = kept_end end
 kept_reply _ = false
 
--- a call that is a finish was kept
-abbrev pub kept_if_finish : Call → Reply → Bool
-kept_if_finish (calls.Finish j asked document) said = kept_reply said
+-- a move that is a finish was kept
+abbrev pub kept_if_finish : TableMove → Reply → Bool
+kept_if_finish (moves.Finish j asked document) said = kept_reply said
 kept_if_finish _ said = true
 
-abbrev pub IsFinishKept : Entry → Type 0
-IsFinishKept e = kept_if_finish e.call e.reply ≡ true
+abbrev pub IsFinishKept : MoveEntry → Type 0
+IsFinishKept e = kept_if_finish e.table_move e.reply ≡ true
 
--- every finish among these calls was kept
-abbrev pub AreKept : List Entry → Type 0
+-- every finish among these moves was kept
+abbrev pub AreKept : List MoveEntry → Type 0
 AreKept entries = All IsFinishKept entries
 
 -- the finish of a run that follows the claim or the enter that gave the job is kept
 abbrev pub RunsAreKept : (List ℕ → List ℕ → List Bool → Option (List ℕ) → Type 0) → (List ℕ → List ℕ → Bool → Option (List ℕ) → Type 0) → Type 0
 RunsAreKept made right =
-    (j : Job) (call : Call) (before run : List Entry) (now : Register) → IsGiving call → IsJobRun made j run
-    → LeadsTo right (before ++ entry_of_move call (reply.Gave (Some j)) ∷ run) now → AreKept run
+    (j : Job) (move : TableMove) (before run : List MoveEntry) (now : Register) → IsGiving move → IsJobRun made j run
+    → LeadsTo right (before ++ entry_of_move move (reply.Gave (Some j)) ∷ run) now → AreKept run

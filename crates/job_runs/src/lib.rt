@@ -5,8 +5,8 @@
 //! stand the looks of its run alone, the document is right for the job's texts, and the finish says that the job was asked to
 //! stop exactly where the last of these looks did. [`run_given`] runs and finishes a job that a move has given.
 //!
-//! What runs a job is a [`Runner`], which looks at a watch of the caller's and makes no move itself. What makes the moves is
-//! anyone who may (`job_table::Calls`).
+//! What runs a job is a [`Runner`], which looks at a watch that it is given and makes no move itself. What makes the moves is
+//! anyone who may (`job_table::Mover`).
 //!
 //! In every history [`finishes_are_kept`].
 #![tactic(auto)]

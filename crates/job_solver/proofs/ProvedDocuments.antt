@@ -11,7 +11,7 @@ use Rattle.osrl_grammar.specs.Writing.{report_text}
 use Rattle.document_checker.specs.declared.documents.Kind.{Kind}
 use Rattle.document_checker.specs.Documents.{kind, IsAcceptedText}
 use Rattle.solve_run.specs.JobAnswers.{AnswersJob, Right}
-use Rattle.job_table.specs.History.{Entry, LeadsTo, CameRight}
+use Rattle.job_table.specs.History.{MoveEntry, LeadsTo, CameRight}
 use Rattle.job_table.specs.Laws.{RetrievedDocumentsAreRight}
 use Rattle.job_table.proofs.Histories.{leads_split}
 use Rattle.job_solver.specs.ProvedDocuments.{IsProved, ShownAreProved}
@@ -28,7 +28,7 @@ IsTrue =
     (osil osol : List ℕ) (asked : Bool) (p : Parts) (r : Report) (c : Claim) (k : Kind) → IsInstanceText osil p → AnswersJob osil osol asked r
     → r.claim ≡ Some c → kind c ≡ Some k → IsTrueOf (problem p) (Means.claim c)
 
-proved_of : Accepted → IsTrue → (n : ℕ) (document : List ℕ) (before : List Entry) → CameRight Right n (Some document) before
+proved_of : Accepted → IsTrue → (n : ℕ) (document : List ℕ) (before : List MoveEntry) → CameRight Right n (Some document) before
     → IsProved n document before
 proved_of accepted is_true n document before came =
     let (report, answers, written) = came.is_right in
@@ -52,5 +52,5 @@ proved_of accepted is_true n document before came =
 -- what is shown in a history is proved
 pub shown_proved : RetrievedDocumentsAreRight Right → Accepted → IsTrue → ShownAreProved
 shown_proved right accepted is_true entries now runs n document before after are =
-    let (mid, first, (next, shows, rest)) = leads_split Right before _ now (subst (λ (es : List Entry). LeadsTo Right es now) are runs) in
+    let (mid, first, (next, shows, rest)) = leads_split Right before _ now (subst (λ (es : List MoveEntry). LeadsTo Right es now) are runs) in
     proved_of accepted is_true n document before (right n (Some document) before mid next first shows)

@@ -11,24 +11,24 @@ use Rattle.osrl_grammar.specs.Writing.{report_text}
 use Rattle.document_checker.specs.declared.documents.Kind.{Kind}
 use Rattle.document_checker.specs.Documents.{kind, IsAcceptedText}
 use Rattle.solve_run.specs.JobAnswers.{AnswersJob, Right}
-use Rattle.job_table.specs.declared.calls.Call.TheVariants.{Finish, Retrieve}
-use Rattle.job_table.specs.declared.calls.Finish.TheVariants.{Kept}
-use Rattle.job_table.specs.declared.calls.Retrieved.TheVariants as shown
-use Rattle.job_table.specs.declared.calls.Reply.TheVariants as reply
+use Rattle.job_table.specs.declared.entries.TableMove.TheVariants.{Finish, Retrieve}
+use Rattle.job_table.specs.declared.entries.Finishing.TheVariants.{Kept}
+use Rattle.job_table.specs.declared.entries.Retrieved.TheVariants as shown
+use Rattle.job_table.specs.declared.entries.Reply.TheVariants as reply
 use Rattle.job_table.specs.Jobs.{Register, job}
-use Rattle.job_table.specs.History.{Entry, entry_of_move, LeadsTo, WasKilled, WasBrought}
+use Rattle.job_table.specs.History.{MoveEntry, entry_of_move, LeadsTo, WasKilled, WasBrought}
 
 -- a document that is shown of a job came with a finish of it that was kept. It answers texts that were sent or entered under the job's
 -- number before that finish: it is the result document of a report about them. A claim in it, that a point is optimal, that none is
 -- feasible, that points have no best value, or of a point, is accepted by the checker from these bytes and those of the instance, and is true of
 -- the instance. Only where a kill of the job stands before the finish was the job asked to stop
-pub record IsProved (n : ℕ) (document : List ℕ) (before : List Entry) : Type 0 where
+pub record IsProved (n : ℕ) (document : List ℕ) (before : List MoveEntry) : Type 0 where
   pub osil : List ℕ
   pub osol : List ℕ
   pub asked : Bool
   pub report : Report
-  pub until : List Entry
-  pub since : List Entry
+  pub until : List MoveEntry
+  pub since : List MoveEntry
   pub finished : before ≡ until ++ entry_of_move (Finish (job n osil osol) asked (Some document)) (reply.Finish Kept) ∷ since
   pub brought : WasBrought n osil osol until
   pub killed : asked ≡ true → WasKilled n until
@@ -38,12 +38,12 @@ pub record IsProved (n : ℕ) (document : List ℕ) (before : List Entry) : Type
   pub is_true : (p : Parts) (c : Claim) (k : Kind) → IsInstanceText osil p → report.claim ≡ Some c → kind c ≡ Some k → IsTrueOf (problem p) (Means.claim c)
 
 -- each document that is shown is such a one, by what stands before
-abbrev pub AreProved : List Entry → Type 0
+abbrev pub AreProved : List MoveEntry → Type 0
 AreProved entries =
-    (n : ℕ) (document : List ℕ) (before after : List Entry)
+    (n : ℕ) (document : List ℕ) (before after : List MoveEntry)
     → entries ≡ before ++ entry_of_move (Retrieve n) (reply.Retrieved (shown.Finished (Some document))) ∷ after
     → IsProved n document before
 
 -- in every history of solved jobs from an empty table on, whatever its numbers begin with, each document that is shown is such a one
 abbrev pub ShownAreProved : Type 0
-ShownAreProved = (entries : List Entry) (now : Register) → LeadsTo Right entries now → AreProved entries
+ShownAreProved = (entries : List MoveEntry) (now : Register) → LeadsTo Right entries now → AreProved entries

@@ -1,4 +1,4 @@
--- The effect of a call leads to what its row leaves.
+-- The effect of a move leads to what its row leaves.
 use Rattle.std.proofs.Common.{◌≡◌, ℕ, ◌+◌, ◌≤◌, nat_eq, nat_le, nat_lt, Bool, true, false, not, ◌&&◌, ◌||◌, if◌then◌else◌, List, [], ◌∷◌, ◌++◌, length, map, Option, Some, None, refl, sym, ◌∙◌, ap, subst, arith, bytes_eq}
 use Rattle.std.specs.Option.{option_map}
 use Rattle.std.specs.Map.{lookup, set_value, remove_entry}
@@ -11,10 +11,10 @@ use Rattle.effects.specs.Fold as fold
 use Rattle.job_table.specs.declared.job.Phase.{Phase}
 use Rattle.job_table.specs.declared.job.Phase.TheVariants.{Issued, Waiting, Running, Finished, Killed}
 use Rattle.job_table.specs.declared.job.Job.{Job}
-use Rattle.job_table.specs.declared.calls.Call.TheVariants.{Issue, Send, Enter, Claim, Look, Finish, Kill, Retrieve, Knock, Enlist, Leave}
-use Rattle.job_table.specs.declared.calls.Finish.TheVariants as end
-use Rattle.job_table.specs.declared.calls.Reply.{Reply}
-use Rattle.job_table.specs.declared.calls.Reply.TheVariants as reply
+use Rattle.job_table.specs.declared.entries.TableMove.TheVariants.{Issue, Send, Enter, Claim, Look, Finish, Kill, Retrieve, Knock, Enlist, Leave}
+use Rattle.job_table.specs.declared.entries.Finishing.TheVariants as end
+use Rattle.job_table.specs.declared.entries.Reply.{Reply}
+use Rattle.job_table.specs.declared.entries.Reply.TheVariants as reply
 use Rattle.job_table.specs.Jobs.{Register, HeldJobs, phase_of, next_number, job, Rise, or_waiting, first_waiting}
 use Rattle.job_table.specs.Steps.{outcome, most_jobs, last_number, with_new, moved, forgotten, adds, sends, claims, finish_running, finishes, kills, row_of_move}
 use Rattle.job_table.proofs.JobLists.{is_itself, above_apart}

@@ -8,12 +8,12 @@ use Rattle.effects.specs.Fold.{Stage, Given, Sent, Asked, Over, Stopped, Ledger,
 use Rattle.effects.specs.Fold as fold
 use Rattle.job_table.specs.declared.job.Phase.{Phase}
 use Rattle.job_table.specs.declared.job.Phase.TheVariants.{Issued, Waiting, Running, Finished, Killed}
-use Rattle.job_table.specs.declared.calls.IssueFault.{IssueFault}
-use Rattle.job_table.specs.declared.calls.IssueFault.TheVariants as fault
-use Rattle.job_table.specs.declared.calls.Reply.{Reply}
-use Rattle.job_table.specs.declared.calls.Reply.TheVariants as reply
+use Rattle.job_table.specs.declared.entries.IssueFault.{IssueFault}
+use Rattle.job_table.specs.declared.entries.IssueFault.TheVariants as fault
+use Rattle.job_table.specs.declared.entries.Reply.{Reply}
+use Rattle.job_table.specs.declared.entries.Reply.TheVariants as reply
 use Rattle.job_table.specs.Jobs.{Register, HeldJobs, phase_of, with_phase, without, next_number}
-use Rattle.job_table.specs.Steps.{Outcome, outcome, most_jobs, last_number, with_new, moved, forgotten, adds, added_reply, LeadsBy}
+use Rattle.job_table.specs.Steps.{MoveOutcome, outcome, most_jobs, last_number, with_new, moved, forgotten, adds, added_reply, LeadsBy}
 use Rattle.job_table.specs.Plans.{stage, seen_as, ledger_of, takes_texts}
 use Rattle.job_table.specs.Remade.{takes_document, takes_kill, takes_mark, takes_farewell, IsAtRest, AllAtRest, IsRemade, Remakes, TriesAgain, osil_of}
 use Rattle.job_table.proofs.JobLists.{put_twice, some_is}
@@ -179,17 +179,17 @@ module _ (d : Deed) (w : Phase) (old new : Register) (rest : IsAtRest w) (is : (
       → ((said : Reply) → LeadsBy (if x then outcome reply.Full old else (if y then outcome reply.Spent old else outcome said (with_new w old))) old (added_reply (λ _. said) res) new)
       → AddedAgain d old res new
   added_by x y (Err fault.Memory) row leads = leads reply.Done
-  added_by true y (Ok n) row leads = let wrong : reply.Full ≡ reply.Done = ap (λ (o : Outcome). o.reply) (leads reply.Done) in cc
-  added_by true y (Err fault.Full) row leads = (row, sym (ap (λ (o : Outcome). o.after) (leads reply.Done)))
-  added_by true y (Err fault.Spent) row leads = let wrong : reply.Full ≡ reply.Spent = ap (λ (o : Outcome). o.reply) (leads reply.Done) in cc
-  added_by false true (Ok n) row leads = let wrong : reply.Spent ≡ reply.Done = ap (λ (o : Outcome). o.reply) (leads reply.Done) in cc
-  added_by false true (Err fault.Full) row leads = let wrong : reply.Spent ≡ reply.Full = ap (λ (o : Outcome). o.reply) (leads reply.Done) in cc
-  added_by false true (Err fault.Spent) row leads = (row, sym (ap (λ (o : Outcome). o.after) (leads reply.Done)))
+  added_by true y (Ok n) row leads = let wrong : reply.Full ≡ reply.Done = ap (λ (o : MoveOutcome). o.reply) (leads reply.Done) in cc
+  added_by true y (Err fault.Full) row leads = (row, sym (ap (λ (o : MoveOutcome). o.after) (leads reply.Done)))
+  added_by true y (Err fault.Spent) row leads = let wrong : reply.Full ≡ reply.Spent = ap (λ (o : MoveOutcome). o.reply) (leads reply.Done) in cc
+  added_by false true (Ok n) row leads = let wrong : reply.Spent ≡ reply.Done = ap (λ (o : MoveOutcome). o.reply) (leads reply.Done) in cc
+  added_by false true (Err fault.Full) row leads = let wrong : reply.Spent ≡ reply.Full = ap (λ (o : MoveOutcome). o.reply) (leads reply.Done) in cc
+  added_by false true (Err fault.Spent) row leads = (row, sym (ap (λ (o : MoveOutcome). o.after) (leads reply.Done)))
   added_by false false (Ok n) row leads =
-      subst (λ (x : Register). Remakes d old true x) (ap (λ (o : Outcome). o.after) (leads reply.Done))
+      subst (λ (x : Register). Remakes d old true x) (ap (λ (o : MoveOutcome). o.after) (leads reply.Done))
       (row, λ m. record { nobody = m.nobody; at_rest = rest_more (next_number old) w old.jobs rest m.at_rest })
-  added_by false false (Err fault.Full) row leads = let wrong : reply.Done ≡ reply.Full = ap (λ (o : Outcome). o.reply) (leads reply.Done) in cc
-  added_by false false (Err fault.Spent) row leads = let wrong : reply.Done ≡ reply.Spent = ap (λ (o : Outcome). o.reply) (leads reply.Done) in cc
+  added_by false false (Err fault.Full) row leads = let wrong : reply.Done ≡ reply.Full = ap (λ (o : MoveOutcome). o.reply) (leads reply.Done) in cc
+  added_by false false (Err fault.Spent) row leads = let wrong : reply.Done ≡ reply.Spent = ap (λ (o : MoveOutcome). o.reply) (leads reply.Done) in cc
 
   row_after : after d (ledger_of old) ≡ (if nat_le most_jobs (length old.jobs) || nat_lt last_number (next_number old) then None else Some (ledger_of (with_new w old)))
   row_after =

@@ -13,7 +13,7 @@ use Rattle.job_table.specs.declared.job.Phase.TheVariants.{Issued, Waiting, Runn
 use Rattle.job_table.specs.declared.job.Job.{Job}
 use Rattle.job_table.specs.Jobs.{HeldJobs, job, phase_of, with_phase, without, is_waiting, is_running, waiting_jobs, running_jobs, or_waiting, first_waiting, IsFirstWaiting, Rise, Below}
 use Rattle.job_table.specs.WaitingJobs.{waiting_numbers, place_among, placed_among, taken, renewed, Climb, IsKeptBeside}
-use Rattle.job_table.specs.Steps.{most_jobs}
+use Rattle.job_table.specs.Steps.{most_jobs, most_first}
 use Rattle.job_table.proofs.JobLists.{rise_le, above_apart, Stands, stands, with_there, without_there, rise_low, rise_more, rise_with, rise_without, rise_below}
 
 -- numbers that are all below one
@@ -280,7 +280,7 @@ empty_between low [] high le rise = refl
 empty_between low (e ∷ es) high le rise = absurd (omega (arith, le, rise.0, rise_le (e.0 + 1) es high rise.1))
 
 pub kept_begin : (jobs : HeldJobs) (first issued : ℕ) (waiting : List ℕ) (room running : ℕ) → IsKeptBeside jobs first (first + issued) waiting room running → issued ≡ 0
-    → (new : ℕ) → 1 ≤ new → new ≤ 2 ^ 62 → IsKeptBeside jobs new (new + issued) waiting room running
+    → (new : ℕ) → 1 ≤ new → new ≤ most_first → IsKeptBeside jobs new (new + issued) waiting room running
 kept_begin jobs first issued waiting room running kept none new some within = record {
   begins = some;
   fits = omega (arith, none, within);

@@ -2,8 +2,8 @@
 use Rattle.std.specs.Prelude.{◌≡◌, ℕ, Bool, List, Option, Some, None, Result, Ok, Err}
 use Rattle.effects.specs.Records.{Deed}
 use Rattle.effects.specs.Stores.{PutsIf}
-use Rattle.job_table.specs.declared.calls.IssueFault.{IssueFault}
-use Rattle.job_table.specs.declared.calls.Reply.{Reply}
+use Rattle.job_table.specs.declared.entries.IssueFault.{IssueFault}
+use Rattle.job_table.specs.declared.entries.Reply.{Reply}
 use Rattle.job_table.specs.declared.job.Job.{Job}
 use Rattle.job_table.specs.Jobs.{job}
 

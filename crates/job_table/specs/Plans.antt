@@ -1,4 +1,4 @@
--- Which effect a call has, and how effects stand for what the table holds.
+-- Which effect a move has, and how effects stand for what the table holds.
 use Rattle.std.specs.Prelude.{◌≡◌, ℕ, nat_le, nat_lt, Bool, true, false, ◌&&◌, not, List, Option, Some, None, if◌then◌else◌, length, bytes_eq, map}
 use Rattle.effects.specs.Records.{Deed}
 use Rattle.effects.specs.Records as deed
@@ -6,8 +6,8 @@ use Rattle.effects.specs.Fold.{Stage, Given, Sent, Asked, Over, Stopped, Ledger,
 use Rattle.job_table.specs.declared.job.Phase.{Phase}
 use Rattle.job_table.specs.declared.job.Phase.TheVariants.{Issued, Waiting, Running, Finished, Killed}
 use Rattle.job_table.specs.declared.job.Job.{Job}
-use Rattle.job_table.specs.declared.calls.Call.{Call}
-use Rattle.job_table.specs.declared.calls.Call.TheVariants.{Issue, Send, Enter, Finish, Kill}
+use Rattle.job_table.specs.declared.entries.TableMove.{TableMove}
+use Rattle.job_table.specs.declared.entries.TableMove.TheVariants.{Issue, Send, Enter, Finish, Kill}
 use Rattle.job_table.specs.Jobs.{Register, phase_of, next_number, Rise}
 use Rattle.job_table.specs.Steps.{most_jobs, last_number, row_of_move}
 
@@ -52,8 +52,8 @@ killed_of n (Some (Finished document)) = Some (deed.GivenUp n)
 killed_of n (Some Killed) = Some (deed.GivenUp n)
 killed_of n None = None
 
--- the effect of a call, where it has one
-abbrev pub planned : Call → Register → Option Deed
+-- the effect of a move, where it has one
+abbrev pub planned : TableMove → Register → Option Deed
 planned Issue r = if has_room r then Some deed.Issue else None
 planned (Send n osil osol) r = if takes_texts (phase_of n r.jobs) then Some (deed.Send n osil osol) else None
 planned (Enter osil osol) r = if has_room r then Some (deed.Enter osil osol) else None
@@ -66,8 +66,8 @@ abbrev pub Effected : Option Deed → Ledger → Ledger → Type 0
 Effected (Some d) old new = after d old ≡ Some new
 Effected None old new = new ≡ old
 
--- the effect of each call leads from what effects see of the table to what they see of it after the call's row
+-- the effect of each move leads from what effects see of the table to what they see of it after the move's row
 abbrev pub PlansSo : Type 0
 PlansSo =
-    (call : Call) (r : Register) → Rise r.first r.jobs (next_number r)
-    → Effected (planned call r) (ledger_of r) (ledger_of (row_of_move call r).after)
+    (move : TableMove) (r : Register) → Rise r.first r.jobs (next_number r)
+    → Effected (planned move r) (ledger_of r) (ledger_of (row_of_move move r).after)

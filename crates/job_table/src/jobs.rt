@@ -2,8 +2,8 @@
 
 ghost use Rattle.std.specs.Prelude.{◌≡◌, ℕ, List, Option, ◌+◌, ◌-◌, ◌<◌, ◌≤◌, ◌^◌, length, Some, None, true, false, IfOk, IfSome, OnOk, OnErr, IfErr, IfNone, IsSome, IsSomeAnd, min, if◌then◌else◌, [], ◌∷◌, ◌++◌};
 ghost use Rattle.std.specs.Option.{option_copied};
-ghost use Rattle.job_table.specs.declared.calls.Reply.{Reply};
-ghost use Rattle.job_table.specs.declared.calls.Finish.TheVariants.{Kept};
+ghost use Rattle.job_table.specs.declared.entries.Reply.{Reply};
+ghost use Rattle.job_table.specs.declared.entries.Finishing.TheVariants.{Kept};
 ghost use Rattle.job_table.specs.declared.job.Phase.TheVariants.{Issued, Running, Finished};
 ghost use Rattle.job_table.specs.Jobs.{Register, beginning, next_number, Rise, phase_of, with_phase, without, state_of, is_waiting, is_running, states, waiting_jobs, running_jobs, first_waiting, IsFirstWaiting, Below};
 ghost use Rattle.effects.specs.Records.{deed_of};
@@ -11,23 +11,17 @@ ghost use Rattle.effects.specs.Stores.{Puts, PutsIf, fault_of};
 ghost use Rattle.job_table.specs.Kept.{KeptBy};
 ghost use Rattle.job_table.specs.Plans.{has_room};
 ghost use Rattle.job_table.specs.Remade.{first_marked, settled};
-ghost use Rattle.job_table.specs.Steps.{most_jobs, last_number, with_new, moved, forgotten, adds, added_reply, LeadsBy, claims, kills, outcome, sends, finishes, is_marked};
+ghost use Rattle.job_table.specs.Steps.{most_jobs, last_number, most_first, with_new, moved, forgotten, adds, added_reply, LeadsBy, claims, kills, outcome, sends, finishes, is_marked};
 
-use crate::calls::{Finish, IssueFault, JobStates};
+use crate::entries::{Finishing, IssueFault, NumberedStates};
 use crate::job::{Job, Phase, State};
 use crate::waiting::{make_room, renew};
-use effects::{Effect, NoStore, NotStored, Store};
+use effects::{Effect, LAST_NUMBER, MOST_JOBS, NoStore, NotStored, Store};
 use os_io::Memory;
 use std::alloc::{AllocError, Global};
 use std::collections::btree_map::Entry;
 use std::collections::{BTreeMap, VecDeque};
 use std::marker::Model;
-
-/// The most jobs that are held.
-const MOST_JOBS: usize = 10_000;
-
-/// The last number that is given.
-const LAST_NUMBER: u64 = (1 << 63) - 1;
 
 /// The jobs that are held. Contracts see the number with which numbers begin, the jobs in order of issue, how many numbers were
 /// given, and how many workers are enlisted.
@@ -154,7 +148,7 @@ fn recount(running: u32, ran: bool, runs: bool) -> u32
 impl Jobs {
     pub(crate) fn new(alloc: Global, first: u64) -> Jobs
         requires some { 1 ≤ first }
-        requires within { first ≤ 2 ^ 62 }
+        requires within { first ≤ most_first }
         ensures { result ≡ beginning first }
     {
         Jobs {
@@ -178,7 +172,7 @@ impl Jobs {
     pub(crate) fn begin(&mut self, first: u64)
         requires none { self.old.issued ≡ 0 }
         requires some { 1 ≤ first }
-        requires within { first ≤ 2 ^ 62 }
+        requires within { first ≤ most_first }
         ensures { self.new ≡ record self.old { first = first } }
     {
         self.first = first;
@@ -221,7 +215,7 @@ impl Jobs {
     }
 
     /// How a finish of a job ends that keeps no document, where it does.
-    pub(crate) fn unkept(&self, job: &Job, asked: bool) -> Option<Finish>
+    pub(crate) fn unkept(&self, job: &Job, asked: bool) -> Option<Finishing>
         ensures end { IfSome result (λ end. (document : Option (List ℕ)) → finishes job.now asked document (phase_of job.now.number self.now.jobs) self.now ≡ outcome (Reply.Finish end) self.now) }
         ensures held { IfNone result (IsSome (phase_of job.now.number self.now.jobs)) }
         ensures none { IfNone result ((document : Option (List ℕ)) → finishes job.now asked document (phase_of job.now.number self.now.jobs) self.now ≡ outcome (Reply.Finish Kept) (moved job.now.number (Finished document) self.now)) }
@@ -237,17 +231,17 @@ impl Jobs {
                 if job.osil.as_slice() != kept_osil.as_slice()
                     || job.osol.as_slice() != kept_osol.as_slice()
                 {
-                    Some(Finish::Other)
+                    Some(Finishing::Other)
                 } else if asked && !*marked {
-                    Some(Finish::Unmarked)
+                    Some(Finishing::Unmarked)
                 } else {
                     None
                 }
             }
-            Some(phase) => Some(Finish::Stale {
+            Some(phase) => Some(Finishing::Stale {
                 state: Some(state_of(phase)),
             }),
-            None => Some(Finish::Stale { state: None }),
+            None => Some(Finishing::Stale { state: None }),
         }
     }
 
@@ -263,10 +257,10 @@ impl Jobs {
     }
 
     /// The states of all, in order of issue.
-    pub(crate) fn states(&self, alloc: Global) -> Result<JobStates, Memory>
+    pub(crate) fn states(&self, alloc: Global) -> Result<NumberedStates, Memory>
         ensures { IfOk result (λ all. all ≡ states self.now.jobs) }
     {
-        let mut all = JobStates::new(alloc);
+        let mut all = NumberedStates::new(alloc);
         for (number, phase) in &self.phases {
             match all.push(*number, state_of(phase)) {
                 Ok(()) => {}

@@ -1,8 +1,8 @@
-//! What holds of every history of calls from an empty table on, whatever its numbers begin with.
+//! What holds of every history of moves from an empty table on, whatever its numbers begin with.
 
 ghost use Rattle.job_table.specs.Laws.{GivenJobsRun, NumbersAreGivenOnce, FirstFinishIsKept, RetrievedDocumentsAreRight};
 
-use crate::calls::Verdicts;
+use crate::entries::Verdicts;
 
 /// Law: a job that a claim or an enter gave runs, with the texts that were given, until a finish names it.
 pub fn given_jobs_run<V: Verdicts>()

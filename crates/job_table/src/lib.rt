@@ -6,12 +6,12 @@
 //! these, as the calls of Optimization Services ask for (Optimization Services manual, the calls `getJobID`, `send`, `solve`,
 //! `kill`, `retrieve` and `knock`), and [`moves`] has each as a value with its own type of answer. Contracts see the jobs in
 //! order of issue, the number with which numbers begin, how many were given, and how many workers are enlisted; histories have
-//! each move as a [`Call`] with its [`Reply`], and for each one row of `specs/Steps.antt` says what it answers and what it
+//! each move as a [`TableMove`] with its [`Reply`], and for each one row of `specs/Steps.antt` says what it answers and what it
 //! leaves.
 //!
 //! A [`Job`] is what whoever runs one is given, [`Phase`] how far one has come, with what the table keeps of it, and
 //! [`State`] without that. A document of a job is right where [`Verdicts`] says so, and a finish asks for one that is.
-//! [`Calls`] is who makes moves: a table's owner, or one of many who share it; [`CallsWatch`] asks them whether a job is to
+//! [`Mover`] is who makes moves: a table's owner, or one of many who share it; [`MoverWatch`] asks them whether a job is to
 //! stop. [`write_id`] and [`read_id`] know the texts that name jobs. What holds of every history of moves is said by four
 //! laws, [`given_jobs_run`], [`numbers_are_given_once`], [`first_finish_is_kept`] and [`documents_are_right`].
 //!
@@ -23,12 +23,12 @@
 //! given, and texts have two owners from the start ([`Twin`]), so that `send`, `claim`, `look`, `finish` and `kill` take no memory.
 #![tactic(auto)]
 
-mod caller;
-mod calls;
+mod entries;
 mod ids;
 mod job;
 mod jobs;
 mod laws;
+mod mover;
 pub mod moves;
 mod plans;
 mod remade;
@@ -37,15 +37,16 @@ mod texts;
 mod waiting;
 mod watch;
 
-pub use caller::Calls;
-pub use calls::{
-    Call, Finish, IssueFault, JobStates, Killing, Reply, Retrieved, Statistics, Verdicts,
+pub use entries::{
+    Finishing, IssueFault, Killing, NumberedStates, Reply, Retrieved, Statistics, TableMove,
+    Verdicts,
 };
 pub use ids::{read_id, write_id};
 pub use job::{Job, Phase, State};
 pub use laws::{documents_are_right, first_finish_is_kept, given_jobs_run, numbers_are_given_once};
+pub use mover::Mover;
 pub use plans::plans_are_so;
 pub use remade::Remade;
 pub use table::Table;
 pub use texts::{SharedText, Twin};
-pub use watch::CallsWatch;
+pub use watch::MoverWatch;

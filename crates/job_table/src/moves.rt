@@ -1,11 +1,11 @@
 //! The moves of the table, each with its own type of answer.
 
 ghost use Rattle.std.specs.Prelude.{◌≡◌, Some, None};
-ghost use Rattle.job_table.specs.declared.calls.Call.TheVariants as asks;
-ghost use Rattle.job_table.specs.declared.calls.Reply.TheVariants as replies;
+ghost use Rattle.job_table.specs.declared.entries.TableMove.TheVariants as asks;
+ghost use Rattle.job_table.specs.declared.entries.Reply.TheVariants as replies;
 ghost use Rattle.job_table.specs.Steps.{added_reply, ok_reply};
 
-use crate::calls::{self, IssueFault, Killing, Retrieved, Statistics, Verdicts};
+use crate::entries::{Finishing, IssueFault, Killing, Retrieved, Statistics, Verdicts};
 use crate::job::Job;
 use crate::plans::put_if;
 use crate::table::Table;
@@ -27,8 +27,8 @@ pub enum MoveKind {
 /// A move of the table.
 pub trait Move<V: Verdicts>: Sized {
     ghost use Rattle.std.specs.Prelude.{Option, Some, true, IfOk, IfErr, IfSome, IfNone, IsTrue, ◌↔◌, IsSome};
-    ghost use Rattle.job_table.specs.declared.calls.Call.{Call};
-    ghost use Rattle.job_table.specs.declared.calls.Reply.{Reply};
+    ghost use Rattle.job_table.specs.declared.entries.TableMove.{TableMove};
+    ghost use Rattle.job_table.specs.declared.entries.Reply.{Reply};
     ghost use Rattle.effects.specs.Stores.{PutsIf};
     ghost use Rattle.job_table.specs.Kept.{KeptBy};
     ghost use Rattle.job_table.specs.Plans.{planned};
@@ -38,14 +38,14 @@ pub trait Move<V: Verdicts>: Sized {
     type Answer;
 
     /// The move, as histories have it.
-    ghost call: { Self → Call };
+    ghost table_move: { Self → TableMove };
 
     /// The answer, as histories have it, or none where there was no memory and no move was made.
     ghost said: { Self.Answer → Option Reply };
 
     /// What it does to the looks at a job.
     fn kind(&self) -> MoveKind
-        ensures { result ≡ move_kind (call self.now) };
+        ensures { result ≡ move_kind (table_move self.now) };
 
     /// Whether the move was made: false where there was no memory.
     fn is_made(answer: &Self::Answer) -> bool
@@ -58,20 +58,20 @@ pub trait Move<V: Verdicts>: Sized {
         table: &mut Table<V>,
         store: &mut S,
     ) -> Result<Self::Answer, NotStored>
-        requires { May V.right (call self) }
-        ensures ok { IfOk result (λ answer. IfSome (said answer) (λ reply. Step V.right table.old (call self) reply table.new)) }
-        ensures fits { IfOk result (λ answer. IfSome (said answer) (λ reply. fits (call self) reply ≡ true)) }
-        ensures kept { IfOk result (λ answer. KeptBy S.keeps S.too_long S.broken S.faults (planned (call self) table.old) store.old (said answer) store.new) }
-        ensures sure { IfOk result (λ answer. IfNone (said answer) (wants_memory (call self) table.old ≡ true)) }
+        requires { May V.right (table_move self) }
+        ensures ok { IfOk result (λ answer. IfSome (said answer) (λ reply. Step V.right table.old (table_move self) reply table.new)) }
+        ensures fits { IfOk result (λ answer. IfSome (said answer) (λ reply. fits (table_move self) reply ≡ true)) }
+        ensures kept { IfOk result (λ answer. KeptBy S.keeps S.too_long S.broken S.faults (planned (table_move self) table.old) store.old (said answer) store.new) }
+        ensures sure { IfOk result (λ answer. IfNone (said answer) (wants_memory (table_move self) table.old ≡ true)) }
         ensures err { IfOk result (λ answer. IfNone (said answer) (table.new ≡ table.old)) }
-        ensures refused { IfErr result (λ fault. (table.new ≡ table.old) × PutsIf S.keeps S.too_long S.broken S.faults (planned (call self) table.old) store.old (Some fault) store.new) };
+        ensures refused { IfErr result (λ fault. (table.new ≡ table.old) × PutsIf S.keeps S.too_long S.broken S.faults (planned (table_move self) table.old) store.old (Some fault) store.new) };
 
     /// Makes the move at its table, and keeps no effect. Where there is no memory, the table stays.
     fn make(self, table: &mut Table<V>) -> Self::Answer
-        requires { May V.right (call self) }
-        ensures ok { IfSome (said result) (λ reply. Step V.right table.old (call self) reply table.new) }
-        ensures fits { IfSome (said result) (λ reply. fits (call self) reply ≡ true) }
-        ensures sure { IfNone (said result) (wants_memory (call self) table.old ≡ true) }
+        requires { May V.right (table_move self) }
+        ensures ok { IfSome (said result) (λ reply. Step V.right table.old (table_move self) reply table.new) }
+        ensures fits { IfSome (said result) (λ reply. fits (table_move self) reply ≡ true) }
+        ensures sure { IfNone (said result) (wants_memory (table_move self) table.old ≡ true) }
         ensures err { IfNone (said result) (table.new ≡ table.old) }
     {
         match self.make_kept(table, &mut NoStore) {
@@ -88,7 +88,7 @@ pub struct Issue;
 impl<V: Verdicts> Move<V> for Issue {
     type Answer = Result<u64, IssueFault>;
 
-    ghost call = { λ _. asks.Issue };
+    ghost table_move = { λ _. asks.Issue };
 
     ghost said = { added_reply replies.Issued };
 
@@ -120,7 +120,7 @@ pub struct Send {
 impl<V: Verdicts> Move<V> for Send {
     type Answer = bool;
 
-    ghost call = { λ m. asks.Send m.number m.osil m.osol };
+    ghost table_move = { λ m. asks.Send m.number m.osil m.osol };
 
     ghost said = { λ taken. Some (replies.Sent taken) };
 
@@ -141,7 +141,7 @@ impl<V: Verdicts> Move<V> for Send {
     }
 }
 
-/// A new job with its texts, which the caller runs at once.
+/// A new job with its texts, which the mover runs at once.
 #[derive(Drop)]
 pub struct Enter {
     pub osil: Twin,
@@ -151,7 +151,7 @@ pub struct Enter {
 impl<V: Verdicts> Move<V> for Enter {
     type Answer = Result<Job, IssueFault>;
 
-    ghost call = { λ m. asks.Enter m.osil m.osol };
+    ghost table_move = { λ m. asks.Enter m.osil m.osol };
 
     ghost said = { added_reply (λ job. replies.Gave (Some job)) };
 
@@ -173,7 +173,7 @@ impl<V: Verdicts> Move<V> for Enter {
     }
 }
 
-/// The first job that waits, for a worker or for another caller.
+/// The first job that waits, for a worker or for another mover.
 #[derive(Drop)]
 pub struct Claim {
     pub worker: bool,
@@ -182,7 +182,7 @@ pub struct Claim {
 impl<V: Verdicts> Move<V> for Claim {
     type Answer = Option<Job>;
 
-    ghost call = { λ m. asks.Claim m.worker };
+    ghost table_move = { λ m. asks.Claim m.worker };
 
     ghost said = { λ given. Some (replies.Gave given) };
 
@@ -212,7 +212,7 @@ pub struct Look {
 impl<V: Verdicts> Move<V> for Look {
     type Answer = bool;
 
-    ghost call = { λ m. asks.Look m.number };
+    ghost table_move = { λ m. asks.Look m.number };
 
     ghost said = { λ marked. Some (replies.Marked marked) };
 
@@ -229,7 +229,7 @@ impl<V: Verdicts> Move<V> for Look {
     }
 }
 
-/// The document of a job that the caller ran, and whether the job was asked to stop.
+/// The document of a job that the mover ran, and whether the job was asked to stop.
 #[derive(Drop)]
 pub struct Finish {
     pub job: Job,
@@ -238,9 +238,9 @@ pub struct Finish {
 }
 
 impl<V: Verdicts> Move<V> for Finish {
-    type Answer = calls::Finish;
+    type Answer = Finishing;
 
-    ghost call = { λ m. asks.Finish m.job m.asked m.document };
+    ghost table_move = { λ m. asks.Finish m.job m.asked m.document };
 
     ghost said = { λ end. Some (replies.Finish end) };
 
@@ -248,7 +248,7 @@ impl<V: Verdicts> Move<V> for Finish {
         MoveKind::Else
     }
 
-    fn is_made(_answer: &calls::Finish) -> bool {
+    fn is_made(_answer: &Finishing) -> bool {
         true
     }
 
@@ -256,7 +256,7 @@ impl<V: Verdicts> Move<V> for Finish {
         self,
         table: &mut Table<V>,
         store: &mut S,
-    ) -> Result<calls::Finish, NotStored> {
+    ) -> Result<Finishing, NotStored> {
         let Finish {
             job,
             asked,
@@ -278,7 +278,7 @@ pub struct Kill {
 impl<V: Verdicts> Move<V> for Kill {
     type Answer = Killing;
 
-    ghost call = { λ m. asks.Kill m.number };
+    ghost table_move = { λ m. asks.Kill m.number };
 
     ghost said = { λ told. Some (replies.Killing told) };
 
@@ -311,7 +311,7 @@ pub struct Retrieve {
 impl<V: Verdicts> Move<V> for Retrieve {
     type Answer = Result<Retrieved, Memory>;
 
-    ghost call = { λ m. asks.Retrieve m.number };
+    ghost table_move = { λ m. asks.Retrieve m.number };
 
     ghost said = { ok_reply replies.Retrieved };
 
@@ -339,7 +339,7 @@ pub struct Knock;
 impl<V: Verdicts> Move<V> for Knock {
     type Answer = Result<Statistics, Memory>;
 
-    ghost call = { λ _. asks.Knock };
+    ghost table_move = { λ _. asks.Knock };
 
     ghost said = { ok_reply replies.Statistics };
 
@@ -367,7 +367,7 @@ pub struct Enlist;
 impl<V: Verdicts> Move<V> for Enlist {
     type Answer = ();
 
-    ghost call = { λ _. asks.Enlist };
+    ghost table_move = { λ _. asks.Enlist };
 
     ghost said = { λ _. Some replies.Done };
 
@@ -392,7 +392,7 @@ pub struct Leave;
 impl<V: Verdicts> Move<V> for Leave {
     type Answer = ();
 
-    ghost call = { λ _. asks.Leave };
+    ghost table_move = { λ _. asks.Leave };
 
     ghost said = { λ _. Some replies.Done };
 

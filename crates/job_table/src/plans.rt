@@ -7,7 +7,7 @@ ghost use Rattle.effects.specs.Stores.{PutsIf, fault_of};
 ghost use Rattle.job_table.specs.Plans.{planned, has_room, takes_texts, killed_of, finished_of, PlansSo};
 ghost use Rattle.job_table.specs.Jobs.{phase_of};
 
-use crate::calls::{Call, Verdicts};
+use crate::entries::{TableMove, Verdicts};
 use crate::job::{Job, Phase};
 use crate::table::Table;
 use crate::texts::{SharedText, Twin};
@@ -94,7 +94,7 @@ impl<V: Verdicts> Table<V> {
         osil: &'a Twin,
         osol: &'a Twin,
     ) -> Option<Effect<'a>>
-        ensures { option_map deed_of result ≡ planned (Call.Send number osil.now osol.now) self.now }
+        ensures { option_map deed_of result ≡ planned (TableMove.Send number osil.now osol.now) self.now }
     {
         let (osil, osol) = (osil.as_slice(), osol.as_slice());
         let sent = Effect::Send { number, osil, osol };
@@ -108,7 +108,7 @@ impl<V: Verdicts> Table<V> {
         asked: bool,
         document: &'a Option<SharedText>,
     ) -> Option<Effect<'a>>
-        ensures { option_map deed_of result ≡ planned (Call.Finish job.now asked document.now) self.now }
+        ensures { option_map deed_of result ≡ planned (TableMove.Finish job.now asked document.now) self.now }
     {
         let (number, document) = (job.number, document_of(document));
         let kept = is_kept(job, asked, self.jobs.phase(number));
@@ -117,34 +117,34 @@ impl<V: Verdicts> Table<V> {
 
     /// The effect of a kill.
     pub(crate) fn plan_kill<'a>(&self, number: u64) -> Option<Effect<'a>>
-        ensures { option_map deed_of result ≡ planned (Call.Kill number) self.now }
+        ensures { option_map deed_of result ≡ planned (TableMove.Kill number) self.now }
     {
         killing_of(number, self.jobs.phase(number))
     }
 
     /// The effect that a move has in this table, where it has one. It takes no memory, and changes nothing.
-    pub fn plan<'a>(&self, call: &'a Call) -> Option<Effect<'a>>
-        ensures { option_map deed_of result ≡ planned call.now self.now }
+    pub fn plan<'a>(&self, table_move: &'a TableMove) -> Option<Effect<'a>>
+        ensures { option_map deed_of result ≡ planned table_move.now self.now }
     {
-        match call {
-            Call::Issue => only_if(self.jobs.has_room(), Effect::Issue),
-            Call::Send { number, osil, osol } => self.plan_send(*number, osil, osol),
-            Call::Enter { osil, osol } => {
+        match table_move {
+            TableMove::Issue => only_if(self.jobs.has_room(), Effect::Issue),
+            TableMove::Send { number, osil, osol } => self.plan_send(*number, osil, osol),
+            TableMove::Enter { osil, osol } => {
                 let (osil, osol) = (osil.as_slice(), osol.as_slice());
                 only_if(self.jobs.has_room(), Effect::Enter { osil, osol })
             }
-            Call::Finish {
+            TableMove::Finish {
                 job,
                 asked,
                 document,
             } => self.plan_finish(job, *asked, document),
-            Call::Kill { number } => self.plan_kill(*number),
-            Call::Claim { .. } => None,
-            Call::Look { .. } => None,
-            Call::Retrieve { .. } => None,
-            Call::Knock => None,
-            Call::Enlist => None,
-            Call::Leave => None,
+            TableMove::Kill { number } => self.plan_kill(*number),
+            TableMove::Claim { .. } => None,
+            TableMove::Look { .. } => None,
+            TableMove::Retrieve { .. } => None,
+            TableMove::Knock => None,
+            TableMove::Enlist => None,
+            TableMove::Leave => None,
         }
     }
 }

@@ -9,19 +9,16 @@ ghost use Rattle.job_table.specs.Jobs.{phase_of, is_waiting};
 ghost use Rattle.job_table.specs.Plans.{ledger_of};
 ghost use Rattle.job_table.specs.Remade.{takes_document, takes_kill, takes_mark, takes_farewell, Remakes, TriesAgain, osil_of, table_of};
 
-use crate::calls::{IssueFault, Verdicts};
+use crate::entries::{IssueFault, Verdicts};
 use crate::job::Phase;
 use crate::jobs::Jobs;
 use crate::plans::takes_texts;
 use crate::table::Table;
 use crate::texts::{SharedText, Twin};
-use effects::{Document, Effect, Replay};
+use effects::{Document, Effect, MOST_FIRST, Replay};
 use os_io::{Memory, Text};
 use std::alloc::{AllocError, Global};
 use std::marker::{Model, PhantomData};
-
-/// The greatest number with which numbers begin.
-const MOST_FIRST: u64 = 1 << 62;
 
 /// A text of these bytes, with two owners.
 fn twin(alloc: Global, bytes: &[u8]) -> Result<Twin, Memory>

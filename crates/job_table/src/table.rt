@@ -1,13 +1,15 @@
 //! The table.
 
-ghost use Rattle.std.specs.Prelude.{◌≡◌, ◌≤◌, ◌^◌, List, ℕ, Some, None, true, IfOk, IfErr, OnErr, IsSome};
+ghost use Rattle.std.specs.Prelude.{◌≡◌, ◌≤◌, List, ℕ, Some, None, true, IfOk, IfErr, OnErr, IsSome};
 ghost use Rattle.job_table.specs.Jobs.{Register, beginning, phase_of};
 ghost use Rattle.effects.specs.Stores.{PutsIf};
 ghost use Rattle.job_table.specs.Kept.{KeptBy, with_texts};
 ghost use Rattle.job_table.specs.Plans.{planned};
-ghost use Rattle.job_table.specs.Steps.{May, Step, Follows, fits, has_document, wants_memory, row_of_move, outcome, added_reply, kills, is_marked};
+ghost use Rattle.job_table.specs.Steps.{most_first, May, Step, Follows, fits, has_document, wants_memory, row_of_move, outcome, added_reply, kills, is_marked};
 
-use crate::calls::{Call, Finish, IssueFault, Killing, Reply, Retrieved, Statistics, Verdicts};
+use crate::entries::{
+    Finishing, IssueFault, Killing, Reply, Retrieved, Statistics, TableMove, Verdicts,
+};
 use crate::job::{Job, Phase};
 use crate::jobs::{Jobs, state_of};
 use crate::texts::{SharedText, Twin};
@@ -51,7 +53,7 @@ impl<V: Verdicts> Table<V> {
     /// The empty table whose numbers begin with this one.
     pub fn new(alloc: Global, first: u64) -> Table<V>
         requires some { 1 ≤ first }
-        requires within { first ≤ 2 ^ 62 }
+        requires within { first ≤ most_first }
         ensures { result ≡ beginning first }
     {
         Table {
@@ -61,7 +63,7 @@ impl<V: Verdicts> Table<V> {
         }
     }
 
-    /// How many numbers were given. It is no call, and no history has it.
+    /// How many numbers were given. It is no move, and no history has it.
     pub fn issued(&self) -> u64
         ensures { result ≡ self.now.issued }
     {
@@ -70,7 +72,7 @@ impl<V: Verdicts> Table<V> {
 
     /// A new job, with its number alone. The answer is the number.
     pub fn issue(&mut self) -> Result<u64, IssueFault>
-        ensures { Follows Call.Issue self.old (added_reply Reply.Issued result) self.new }
+        ensures { Follows TableMove.Issue self.old (added_reply Reply.Issued result) self.new }
     {
         match self.issue_kept(&mut NoStore) {
             Ok(added) => added,
@@ -83,16 +85,16 @@ impl<V: Verdicts> Table<V> {
         &mut self,
         store: &mut S,
     ) -> Result<Result<u64, IssueFault>, NotStored>
-        ensures made { IfOk result (λ added. Follows Call.Issue self.old (added_reply Reply.Issued added) self.new) }
-        ensures kept { IfOk result (λ added. KeptBy S.keeps S.too_long S.broken S.faults (planned Call.Issue self.old) store.old (added_reply Reply.Issued added) store.new) }
-        ensures refused { IfErr result (λ fault. (self.new ≡ self.old) × PutsIf S.keeps S.too_long S.broken S.faults (planned Call.Issue self.old) store.old (Some fault) store.new) }
+        ensures made { IfOk result (λ added. Follows TableMove.Issue self.old (added_reply Reply.Issued added) self.new) }
+        ensures kept { IfOk result (λ added. KeptBy S.keeps S.too_long S.broken S.faults (planned TableMove.Issue self.old) store.old (added_reply Reply.Issued added) store.new) }
+        ensures refused { IfErr result (λ fault. (self.new ≡ self.old) × PutsIf S.keeps S.too_long S.broken S.faults (planned TableMove.Issue self.old) store.old (Some fault) store.new) }
     {
         self.jobs.add_kept(Phase::Issued, &Effect::Issue, store)
     }
 
     /// Sends texts to a job that has its number alone; true where they were taken. It takes no memory.
     pub fn send(&mut self, number: u64, osil: Twin, osol: Twin) -> bool
-        ensures { row_of_move (Call.Send number osil osol) self.old ≡ outcome (Reply.Sent result) self.new }
+        ensures { row_of_move (TableMove.Send number osil osol) self.old ≡ outcome (Reply.Sent result) self.new }
     {
         if !self.jobs.is_new(number) {
             return false;
@@ -101,9 +103,9 @@ impl<V: Verdicts> Table<V> {
         true
     }
 
-    /// A new job with its texts, which the caller runs at once.
+    /// A new job with its texts, which the mover runs at once.
     pub fn enter(&mut self, osil: Twin, osol: Twin) -> Result<Job, IssueFault>
-        ensures { Follows (Call.Enter osil osol) self.old (added_reply (λ job. Reply.Gave (Some job)) result) self.new }
+        ensures { Follows (TableMove.Enter osil osol) self.old (added_reply (λ job. Reply.Gave (Some job)) result) self.new }
     {
         match self.enter_kept(osil, osol, &mut NoStore) {
             Ok(entered) => entered,
@@ -118,9 +120,9 @@ impl<V: Verdicts> Table<V> {
         osol: Twin,
         store: &mut S,
     ) -> Result<Result<Job, IssueFault>, NotStored>
-        ensures made { IfOk result (λ added. Follows (Call.Enter osil osol) self.old (added_reply (λ job. Reply.Gave (Some job)) added) self.new) }
-        ensures kept { IfOk result (λ added. KeptBy S.keeps S.too_long S.broken S.faults (planned (Call.Enter osil osol) self.old) store.old (added_reply (λ job. Reply.Gave (Some job)) added) store.new) }
-        ensures refused { IfErr result (λ fault. (self.new ≡ self.old) × PutsIf S.keeps S.too_long S.broken S.faults (planned (Call.Enter osil osol) self.old) store.old (Some fault) store.new) }
+        ensures made { IfOk result (λ added. Follows (TableMove.Enter osil osol) self.old (added_reply (λ job. Reply.Gave (Some job)) added) self.new) }
+        ensures kept { IfOk result (λ added. KeptBy S.keeps S.too_long S.broken S.faults (planned (TableMove.Enter osil osol) self.old) store.old (added_reply (λ job. Reply.Gave (Some job)) added) store.new) }
+        ensures refused { IfErr result (λ fault. (self.new ≡ self.old) × PutsIf S.keeps S.too_long S.broken S.faults (planned (TableMove.Enter osil osol) self.old) store.old (Some fault) store.new) }
     {
         let (kept_osil, osil) = osil.split();
         let (kept_osol, osol) = osol.split();
@@ -139,10 +141,10 @@ impl<V: Verdicts> Table<V> {
         }
     }
 
-    /// The first job that waits, which the caller runs from then on. None where no job waits, or where the caller is no worker
+    /// The first job that waits, which the mover runs from then on. None where no job waits, or where the mover is no worker
     /// and a worker is enlisted. It takes no memory.
     pub fn claim(&mut self, worker: bool) -> Option<Job>
-        ensures { row_of_move (Call.Claim worker) self.old ≡ outcome (Reply.Gave result) self.new }
+        ensures { row_of_move (TableMove.Claim worker) self.old ≡ outcome (Reply.Gave result) self.new }
     {
         if !worker && self.jobs.workers() > 0 {
             return None;
@@ -152,7 +154,7 @@ impl<V: Verdicts> Table<V> {
 
     /// Whether a job runs and was asked to stop. It takes no memory.
     pub fn look(&self, number: u64) -> bool
-        ensures { row_of_move (Call.Look number) self.now ≡ outcome (Reply.Marked result) self.now }
+        ensures { row_of_move (TableMove.Look number) self.now ≡ outcome (Reply.Marked result) self.now }
     {
         match self.jobs.phase(number) {
             Some(Phase::Running { marked, .. }) => *marked,
@@ -166,15 +168,15 @@ impl<V: Verdicts> Table<V> {
 
     /// Keeps the document of a job that runs with these texts, which may say that the job was asked to stop only where it was.
     /// `None` stands for want of memory. It takes no memory, and lets go of what isn't kept.
-    pub fn finish(&mut self, job: Job, asked: bool, document: Option<SharedText>) -> Finish
+    pub fn finish(&mut self, job: Job, asked: bool, document: Option<SharedText>) -> Finishing
         requires { V.right job.osil job.osol asked document }
-        ensures { row_of_move (Call.Finish job asked document) self.old ≡ outcome (Reply.Finish result) self.new }
+        ensures { row_of_move (TableMove.Finish job asked document) self.old ≡ outcome (Reply.Finish result) self.new }
     {
         match self.jobs.unkept(&job, asked) {
             Some(end) => end,
             None => {
                 self.jobs.put(job.number, Phase::Finished(document));
-                Finish::Kept
+                Finishing::Kept
             }
         }
     }
@@ -182,7 +184,7 @@ impl<V: Verdicts> Table<V> {
     /// Kills a job that doesn't run yet, asks one that runs to stop, and gives up the record of one that is over. The answer
     /// tells what stands afterwards. It takes no memory.
     pub fn kill(&mut self, number: u64) -> Killing
-        ensures { row_of_move (Call.Kill number) self.old ≡ outcome (Reply.Killing result) self.new }
+        ensures { row_of_move (TableMove.Kill number) self.old ≡ outcome (Reply.Killing result) self.new }
     {
         self.jobs.stop(number);
         let state = match self.jobs.phase(number) {
@@ -199,7 +201,7 @@ impl<V: Verdicts> Table<V> {
 
     /// How far a job has come, with a further owner of its document, which alone needs memory.
     pub fn retrieve(&self, number: u64) -> Result<Retrieved, Memory>
-        ensures ok { IfOk result (λ shown. row_of_move (Call.Retrieve number) self.now ≡ outcome (Reply.Retrieved shown) self.now) }
+        ensures ok { IfOk result (λ shown. row_of_move (TableMove.Retrieve number) self.now ≡ outcome (Reply.Retrieved shown) self.now) }
         ensures err { OnErr result (has_document (phase_of number self.now.jobs) ≡ true) }
     {
         match self.jobs.phase(number) {
@@ -218,7 +220,7 @@ impl<V: Verdicts> Table<V> {
 
     /// How far all jobs have come. It goes over the jobs that are held.
     pub fn knock(&self) -> Result<Statistics, Memory>
-        ensures { IfOk result (λ told. row_of_move Call.Knock self.now ≡ outcome (Reply.Statistics told) self.now) }
+        ensures { IfOk result (λ told. row_of_move TableMove.Knock self.now ≡ outcome (Reply.Statistics told) self.now) }
     {
         match self.jobs.states(self.alloc) {
             Ok(jobs) => Ok(Statistics {
@@ -233,14 +235,14 @@ impl<V: Verdicts> Table<V> {
 
     /// One more worker, up to 4,294,967,295. It takes no memory.
     pub fn enlist(&mut self)
-        ensures { row_of_move Call.Enlist self.old ≡ outcome Reply.Done self.new }
+        ensures { row_of_move TableMove.Enlist self.old ≡ outcome Reply.Done self.new }
     {
         self.jobs.enlist();
     }
 
     /// One worker less, down to none. It takes no memory.
     pub fn leave(&mut self)
-        ensures { row_of_move Call.Leave self.old ≡ outcome Reply.Done self.new }
+        ensures { row_of_move TableMove.Leave self.old ≡ outcome Reply.Done self.new }
     {
         self.jobs.leave();
     }

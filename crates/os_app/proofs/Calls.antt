@@ -5,7 +5,7 @@ use Rattle.six_calls.specs.declared.call.CallKind.{CallKind}
 use Rattle.command_line.specs.Words.{Call, asks}
 use Rattle.os_client.specs.Runs.{CallEnds, NamesNone}
 use Rattle.os_client.proofs.Runs.{never_misused, none_failed}
-use Rattle.os_app.specs.Runs.{Run, LeavesInput, Runs, call_run, called}
+use Rattle.os_app.specs.Runs.{ProgramRun, LeavesInput, Runs, call_run, called}
 use Rattle.os_app.proofs.Words.{command_runs, no_check, true_or_false}
 
 -- a call that names no file
@@ -15,7 +15,7 @@ none_named None None (Some ospl) none = absurd (true_or_false none)
 none_named None (Some osol) ospl none = absurd (true_or_false none)
 none_named (Some osil) osol ospl none = absurd (true_or_false none)
 
-pub call_runs : (status : ℕ) (run : Run) (kind : CallKind) (host : List ℕ) (port : ℕ) (osil osol ospl : Option (List ℕ)) → asks run.words ≡ Some (Call kind host port osil osol ospl)
+pub call_runs : (status : ℕ) (run : ProgramRun) (kind : CallKind) (host : List ℕ) (port : ℕ) (osil osol ospl : Option (List ℕ)) → asks run.words ≡ Some (Call kind host port osil osol ospl)
     → CallEnds status (call_run run kind host port osil osol ospl) → LeavesInput run → Runs status run
 call_runs status run kind host port osil osol ospl asked ends input =
     command_runs status run (Call kind host port osil osol ospl) asked

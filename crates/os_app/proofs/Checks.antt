@@ -11,7 +11,7 @@ use Rattle.os_app.specs.Grounds.{AnswersAreOne}
 use Rattle.os_app.specs.Checks.{IsAnswerLine, IsAnswerTo, IsAnswerAbout, accepted, refused}
 use Rattle.os_app.specs.Ends.{in_full, unread, unwritten, unmade}
 use Rattle.command_line.specs.Words.{Command, Session, Check, Solve, Generate, Call, Serve, IsCheck}
-use Rattle.os_app.specs.Runs.{Run, Checks, IsUntaken, IsFileFault, IsUnheard, MayBeThere, IsPairJudged, Runs}
+use Rattle.os_app.specs.Runs.{ProgramRun, Checks, IsUntaken, IsFileFault, IsUnheard, MayBeThere, IsPairJudged, Runs}
 use Rattle.os_app.specs.Runs as runs
 use Rattle.os_app.proofs.Words.{one_command}
 use Rattle.os_app.proofs.Ends.{EndsText, text_runs}
@@ -62,26 +62,26 @@ may_be_there held read is none = subst (λ (h : Held). MayHold h read) none is
 -- ---- a run
 
 -- how the check of a run ends
-abbrev EndsCheck : ℕ → Run → List ℕ → List ℕ → Type 0
+abbrev EndsCheck : ℕ → ProgramRun → List ℕ → List ℕ → Type 0
 EndsCheck status run osil_name osrl_name = EndsText status run (Check osil_name osrl_name)
 
 -- what a run and its check say of it
-record Checking (status : ℕ) (run : Run) (osil_name osrl_name : List ℕ) : Type 0 where
+record Checking (status : ℕ) (run : ProgramRun) (osil_name osrl_name : List ℕ) : Type 0 where
   pub check : IsCheck run.words osil_name osrl_name
   pub ends : EndsCheck status run osil_name osrl_name
   pub untaken : IsUntaken run
 
-fault_of_file : (status : ℕ) (run : Run) (osil_name osrl_name : List ℕ) → Checking status run osil_name osrl_name → HasRisen run.file_faults run.file_faults_after
+fault_of_file : (status : ℕ) (run : ProgramRun) (osil_name osrl_name : List ℕ) → Checking status run osil_name osrl_name → HasRisen run.file_faults run.file_faults_after
     → run.output_after ≡ run.output → IsFileFault run
 fault_of_file status run osil_name osrl_name c risen same =
     record { named = (Check osil_name osrl_name, c.check, refl); failed = risen; untaken = c.untaken; unwritten = same }
 
-no_memory : (status : ℕ) (run : Run) (osil_name osrl_name : List ℕ) → Checking status run osil_name osrl_name
+no_memory : (status : ℕ) (run : ProgramRun) (osil_name osrl_name : List ℕ) → Checking status run osil_name osrl_name
     → run.file_faults_after ≡ run.file_faults → run.output_after ≡ run.output → IsUnheard run
 no_memory status run osil_name osrl_name c files same = record { untaken = c.untaken; unwritten = same; all_files_read = files }
 
 -- what the bytes decide
-judged_by : AnswersAreOne → (status : ℕ) (run : Run) (osil_name osrl_name osil osrl : List ℕ) → Checking status run osil_name osrl_name
+judged_by : AnswersAreOne → (status : ℕ) (run : ProgramRun) (osil_name osrl_name osil osrl : List ℕ) → Checking status run osil_name osrl_name
     → run.held osil_name ≡ Holds osil → run.held osrl_name ≡ Holds osrl → IsPairJudged status run osil osrl
 judged_by one status run osil_name osrl_name osil osrl c first second = go c.ends
   where
@@ -120,7 +120,7 @@ judged_by one status run osil_name osrl_name osil osrl c first second = go c.end
         }
 
 -- an answer is given where no file is told to be absent
-both_there : (status : ℕ) (run : Run) (osil_name osrl_name : List ℕ) → EndsCheck status run osil_name osrl_name → (status ≡ 0) ⊎ (status ≡ 1)
+both_there : (status : ℕ) (run : ProgramRun) (osil_name osrl_name : List ℕ) → EndsCheck status run osil_name osrl_name → (status ≡ 0) ⊎ (status ≡ 1)
     → MayBeThere run osil_name × MayBeThere run osrl_name
 both_there status run osil_name osrl_name (in_full line about files sent) which = (
   may_be_there (run.held osil_name) about.osil about.instance_file,
@@ -134,7 +134,7 @@ both_there status run osil_name osrl_name (unmade is files same) (inl zero) = ab
 both_there status run osil_name osrl_name (unmade is files same) (inr one) = absurd (omega (arith, is, one))
 
 -- a check of two files
-pub check_runs : AnswersAreOne → (status : ℕ) (run : Run) (osil_name osrl_name : List ℕ) → IsCheck run.words osil_name osrl_name
+pub check_runs : AnswersAreOne → (status : ℕ) (run : ProgramRun) (osil_name osrl_name : List ℕ) → IsCheck run.words osil_name osrl_name
     → EndsCheck status run osil_name osrl_name → IsUntaken run → Runs status run
 check_runs one status run osil_name osrl_name check ends untaken =
     text_runs status run (Check osil_name osrl_name) check ends untaken

@@ -15,7 +15,7 @@ use Rattle.os_app.specs.Safe.{IsSafeText, HasNoSafeText, TakesOptions}
 use Rattle.os_app.specs.Safe as safe
 use Rattle.os_app.specs.Solves.{IsDocumentAbout, IsRightWith}
 use Rattle.os_app.specs.Statuses.{solve_status}
-use Rattle.os_app.specs.Runs.{Run, IsUntaken, Runs}
+use Rattle.os_app.specs.Runs.{ProgramRun, IsUntaken, Runs}
 use Rattle.command_line.specs.Words.{IsSolve, Solve}
 use Rattle.os_app.proofs.FirstBytes.{Shows, file_of}
 use Rattle.os_app.proofs.Words.{no_check}
@@ -102,7 +102,7 @@ about_named held instance name safe status text about = subst (λ (o : Option He
 
 -- ---- a run
 
-pub solve_runs : (status : ℕ) (run : Run) (osil_name : List ℕ) (options_name : Option (List ℕ)) (safe : Bool) → IsSolve run.words osil_name options_name safe
+pub solve_runs : (status : ℕ) (run : ProgramRun) (osil_name : List ℕ) (options_name : Option (List ℕ)) (safe : Bool) → IsSolve run.words osil_name options_name safe
     → EndsText status run (Solve osil_name options_name safe) → IsUntaken run → Runs status run
 solve_runs status run osil_name options_name safe solve ends untaken =
     text_runs status run (Solve osil_name options_name safe) solve ends untaken (no_check status run (Solve osil_name options_name safe) solve tt)

@@ -47,7 +47,7 @@ use Rattle.os_io.specs.Files.{Held, Holds, MayHold}
 use Rattle.command_answers.specs.Outputs.{IsTold}
 use Rattle.command_line.specs.Words.{Command, Session, Solve, Call, asks, IsSolve, IsNoCommand}
 use Rattle.os_app.specs.Solves.{IsDocumentAbout}
-use Rattle.os_app.specs.Runs.{Run, RunEnds, IsDue, IsUsageDue, IsAnswerDue, IsUnsent, WritesWithinTurns, asks_to_serve, served, answered, called, hosted, misused, file_fault, unsent, unheard}
+use Rattle.os_app.specs.Runs.{ProgramRun, RunEnds, IsDue, IsUsageDue, IsAnswerDue, IsUnsent, WritesWithinTurns, asks_to_serve, served, answered, called, hosted, misused, file_fault, unsent, unheard}
 use Rattle.os_app.proofs.Words.{one_command}
 
 -- ---- options
@@ -187,7 +187,7 @@ module _ (laws : Laws) (osil osol taken : List ℕ) (p : Parts) (text : IsInstan
 
 -- ---- a run
 
-module _ (laws : Laws) (status : ℕ) (run : Run) (osil_name : List ℕ) (options_name : Option (List ℕ)) (osil : List ℕ) (p : Parts) (solve : IsSolve run.words osil_name options_name true) (holds : run.held osil_name ≡ Holds osil) (text : IsInstanceText osil p) (plain : IsPlain (program p)) (feasible : BeginsFeasible (program p)) (few : length p.vars + length p.rows ≤ 13) where
+module _ (laws : Laws) (status : ℕ) (run : ProgramRun) (osil_name : List ℕ) (options_name : Option (List ℕ)) (osil : List ℕ) (p : Parts) (solve : IsSolve run.words osil_name options_name true) (holds : run.held osil_name ≡ Holds osil) (text : IsInstanceText osil p) (plain : IsPlain (program p)) (feasible : BeginsFeasible (program p)) (few : length p.vars + length p.rows ≤ 13) where
   due_within : (it : Command) (due : ℕ) (line : List ℕ) → it ≡ Solve osil_name options_name true → IsDue run.held it due line → IsTold due line status run.output run.output_after → WritesWithinTurns status run
   due_within it due line is asked told =
       let about : IsDocumentAbout (run.held osil_name) (option_map run.held options_name) true due line = subst (λ (x : Command). IsDue run.held x due line) is asked in

@@ -10,7 +10,7 @@ use Rattle.serving.specs.Serving as serving
 use Rattle.os_app.specs.Statuses.{session_status}
 pub use Rattle.command_line.proofs.Texts.{true_or_false}
 use Rattle.command_line.specs.Words.{Command, Session, Check, Solve, Generate, Call, Serve, asks, asks_for_links, names_files, AsksForNoLink, IsCheck, IsNoCommand, NamesNoFile}
-use Rattle.os_app.specs.Runs.{Run, ServesSession, IsUnheard, LeavesInput, RunEnds, served, hosted, unheard, AllFilesRead, Checks, Runs, asks_to_serve}
+use Rattle.os_app.specs.Runs.{ProgramRun, ServesSession, IsUnheard, LeavesInput, RunEnds, served, hosted, unheard, AllFilesRead, Checks, Runs, asks_to_serve}
 use Rattle.serving.specs.declared.setup.Setup.{Setup}
 use Rattle.os_app.specs.Runs as runs
 
@@ -31,7 +31,7 @@ IsOther (Generate variables) = Unit {0}
 IsOther (Call kind host port osil osol ospl) = Unit {0}
 IsOther (Serve host port workers servers connections patience first) = Unit {0}
 
-pub no_check : (status : ℕ) (run : Run) (it : Command) → asks run.words ≡ Some it → IsOther it → (a b : List ℕ) → IsCheck run.words a b → Checks status run a b
+pub no_check : (status : ℕ) (run : ProgramRun) (it : Command) → asks run.words ≡ Some it → IsOther it → (a b : List ℕ) → IsCheck run.words a b → Checks status run a b
 no_check status run it asked other a b check = absurd (subst IsOther (one_command _ it (Check a b) asked check) other)
 
 -- words that ask for something name files where that does
@@ -43,7 +43,7 @@ pub links_none : (words : List (List ℕ)) (it : Command) → asks words ≡ Som
 links_none words it asked links none = true_or_false (sym links ∙ none it asked)
 
 -- a run of a command that doesn't end with 2
-pub command_runs : (status : ℕ) (run : Run) (it : Command) → asks run.words ≡ Some it → RunEnds status run → (status ≡ 2 → ⊥) → (NamesNoFile run.words → AllFilesRead run)
+pub command_runs : (status : ℕ) (run : ProgramRun) (it : Command) → asks run.words ≡ Some it → RunEnds status run → (status ≡ 2 → ⊥) → (NamesNoFile run.words → AllFilesRead run)
     → ((a b : List ℕ) → IsCheck run.words a b → Checks status run a b) → Runs status run
 command_runs status run it asked ends never files checks = record {
   ends = ends;
@@ -72,10 +72,10 @@ serve_never endings.ReportFault two = absurd (omega (arith, two))
 
 -- ---- the commands over links
 
-pub session_runs : (run : Run) (how : Served) (status : ℕ) → status ≡ session_status how → ServesSession how run → AllFilesRead run → Runs status run
+pub session_runs : (run : ProgramRun) (how : Served) (status : ℕ) → status ≡ session_status how → ServesSession how run → AllFilesRead run → Runs status run
 session_runs run how status is one files = command_runs status run Session one.session (served how is one) (λ two. session_never how (sym is ∙ two)) (λ none. files) (no_check status run Session one.session tt)
 
-pub serve_runs : (run : Run) (how : Ending) (status : ℕ) (host : List ℕ) (port : ℕ) (setup : Setup) → status ≡ serve_status how → asks run.words ≡ Some (asks_to_serve host port setup)
+pub serve_runs : (run : ProgramRun) (how : Ending) (status : ℕ) (host : List ℕ) (port : ℕ) (setup : Setup) → status ≡ serve_status how → asks run.words ≡ Some (asks_to_serve host port setup)
     → serving.IsServerRun how host port setup run.net run.net_after run.output run.output_after → LeavesInput run → AllFilesRead run → Runs status run
 serve_runs run how status host port setup is asked serves input files =
     command_runs status run (asks_to_serve host port setup) asked
@@ -87,7 +87,7 @@ serve_runs run how status host port setup is asked serves input files =
 -- ---- no command, and none that is heard
 
 -- words that are no command's, whose usage was sent, or not whole
-pub other_runs : (run : Run) (status : ℕ) → IsNoCommand run.words → RunEnds status run
+pub other_runs : (run : ProgramRun) (status : ℕ) → IsNoCommand run.words → RunEnds status run
     → (status ≡ 2) ⊎ (status ≡ 4) → AllFilesRead run → Runs status run
 other_runs run status other ends which files = record {
   ends = ends;
@@ -103,7 +103,7 @@ other_runs run status other ends which files = record {
 }
 
 -- no memory to read the words
-pub unheard_runs : (run : Run) → IsUnheard run → Runs 5 run
+pub unheard_runs : (run : ProgramRun) → IsUnheard run → Runs 5 run
 unheard_runs run none = record {
   ends = unheard refl none;
   files = λ no. none.all_files_read;

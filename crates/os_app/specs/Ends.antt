@@ -3,17 +3,17 @@ use Rattle.std.specs.Prelude.{◌≡◌, ℕ, Result, Ok, Err, List}
 use Rattle.os_io.specs.declared.files.FileFault.{FileFault}
 use Rattle.os_io.specs.declared.files.FileFault.TheVariants.{Failed, Memory}
 use Rattle.os_io.specs.Streams.{Tells, HasRisen}
-use Rattle.command_answers.specs.declared.answer.Answer.{Answer}
+use Rattle.command_answers.specs.declared.answer.StatusText.{StatusText}
 use Rattle.command_answers.specs.Outputs.{IsSent, BreaksOff, IsTold}
 
 -- what becomes of an answer: its text is sent, with its status, or a write fails; where there is none, nothing is written
-abbrev pub AnswerEnds : Result Answer FileFault → (status : ℕ) → (output output_after : Tells) → Type 0
+abbrev pub AnswerEnds : Result StatusText FileFault → (status : ℕ) → (output output_after : Tells) → Type 0
 AnswerEnds (Ok a) status output output_after = IsTold a.status a.text status output output_after
 AnswerEnds (Err Failed) status output output_after = (status ≡ 3) × (output_after ≡ output)
 AnswerEnds (Err Memory) status output output_after = (status ≡ 5) × (output_after ≡ output)
 
 -- an answer for which no file is read
-abbrev pub from_memory : {E : Type 0} → Result Answer E → Result Answer FileFault
+abbrev pub from_memory : {E : Type 0} → Result StatusText E → Result StatusText FileFault
 from_memory (Ok a) = Ok a
 from_memory (Err e) = Err Memory
 

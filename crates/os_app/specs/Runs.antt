@@ -27,7 +27,7 @@ use Rattle.os_app.specs.Statuses.{serve_status, session_status, solve_status}
 use Rattle.command_line.specs.Words.{Command, Session, Check, Solve, Generate, Call, Serve, asks, names_files, AsksSession, IsCheck, NamesNoFile, IsNoCommand, usage}
 
 -- a run's words, what names hold, and what its files, its input, its output and its net tell before and after it
-pub record Run : Type 0 where
+pub record ProgramRun : Type 0 where
   pub words : List (List ℕ)
   pub held : List ℕ → Held
   pub file_faults : ℕ
@@ -40,15 +40,15 @@ pub record Run : Type 0 where
   pub net_after : NetTells
 
 -- no file failed to be read
-abbrev pub AllFilesRead : Run → Type 0
+abbrev pub AllFilesRead : ProgramRun → Type 0
 AllFilesRead run = run.file_faults_after ≡ run.file_faults
 
 -- nothing is told anew of the input: nothing was taken, and no read failed
-abbrev pub LeavesInput : Run → Type 0
+abbrev pub LeavesInput : ProgramRun → Type 0
 LeavesInput run = run.input_after ≡ run.input
 
 -- nothing is told anew of the input or of the net: nothing was taken, no link came or was given back, and nothing of them failed
-abbrev pub IsUntaken : Run → Type 0
+abbrev pub IsUntaken : ProgramRun → Type 0
 IsUntaken run = LeavesInput run × (run.net_after ≡ run.net)
 
 -- the text that a command asks for, with its status, by what names hold: a check's line, the result document of a job, or the line
@@ -62,7 +62,7 @@ IsDue held (Call kind host port osil osol ospl) status text = ⊥
 IsDue held (Serve host port workers servers connections patience first) status text = ⊥
 
 -- the text that the words ask for
-pub record AsksForText (run : Run) (status : ℕ) (text : List ℕ) : Type 0 where
+pub record AsksForText (run : ProgramRun) (status : ℕ) (text : List ℕ) : Type 0 where
   pub command : Command
   pub asked : asks run.words ≡ Some command
   pub due : IsDue run.held command status text
@@ -72,12 +72,12 @@ abbrev pub NamesFiles : List (List ℕ) → Type 0
 NamesFiles words = (it : Command) × (asks words ≡ Some it) × (names_files it ≡ true)
 
 -- a session was served, which ended so: over a table of jobs of its own its requests were answered, and each document that was shown is proved
-pub record ServesSession (how : Served) (run : Run) : Type 0 where
+pub record ServesSession (how : Served) (run : ProgramRun) : Type 0 where
   pub session : AsksSession run.words
   pub serves : sessions.IsSession how (both_ends run.input run.output) (both_ends run.input_after run.output_after)
 
 -- the text that was asked for was sent
-pub record IsTextSent (status : ℕ) (run : Run) : Type 0 where
+pub record IsTextSent (status : ℕ) (run : ProgramRun) : Type 0 where
   pub text : List ℕ
   pub asked : AsksForText run status text
   pub sent : IsSent text run.output run.output_after
@@ -85,44 +85,44 @@ pub record IsTextSent (status : ℕ) (run : Run) : Type 0 where
   pub all_files_read : AllFilesRead run
 
 -- the words are no command's: the usage was sent
-pub record IsMisused (run : Run) : Type 0 where
+pub record IsMisused (run : ProgramRun) : Type 0 where
   pub other : IsNoCommand run.words
   pub sent : IsSent usage run.output run.output_after
   pub untaken : IsUntaken run
 
 -- a file that the words name wasn't read, and nothing was taken or written
-pub record IsFileFault (run : Run) : Type 0 where
+pub record IsFileFault (run : ProgramRun) : Type 0 where
   pub named : NamesFiles run.words
   pub failed : HasRisen run.file_faults run.file_faults_after
   pub untaken : IsUntaken run
   pub unwritten : run.output_after ≡ run.output
 
 -- what is due to words that are no command's: the usage
-pub record IsUsageDue (run : Run) (text : List ℕ) : Type 0 where
+pub record IsUsageDue (run : ProgramRun) (text : List ℕ) : Type 0 where
   pub other : IsNoCommand run.words
   pub usage_is : text ≡ usage
 
 -- what is due to words that ask for a text
-pub record IsAnswerDue (run : Run) (text : List ℕ) : Type 0 where
+pub record IsAnswerDue (run : ProgramRun) (text : List ℕ) : Type 0 where
   pub status : ℕ
   pub asked : AsksForText run status text
   pub all_files_read : AllFilesRead run
 
 -- a write or a flush failed, and a first part was written of what was due
-pub record IsUnsent (run : Run) : Type 0 where
+pub record IsUnsent (run : ProgramRun) : Type 0 where
   pub text : List ℕ
   pub due : IsUsageDue run text ⊎ IsAnswerDue run text
   pub breaks_off : BreaksOff text run.output run.output_after
   pub untaken : IsUntaken run
 
 -- there was no memory to read the words, or to make the text that they ask for: nothing was taken, and nothing was written
-pub record IsUnheard (run : Run) : Type 0 where
+pub record IsUnheard (run : ProgramRun) : Type 0 where
   pub untaken : IsUntaken run
   pub unwritten : run.output_after ≡ run.output
   pub all_files_read : AllFilesRead run
 
 -- what a run tells of the call that its words ask for, of this host and port, with the files of these names
-abbrev pub call_run : Run → CallKind → (host : List ℕ) → (port : ℕ) → (osil osol ospl : Option (List ℕ)) → CallRun
+abbrev pub call_run : ProgramRun → CallKind → (host : List ℕ) → (port : ℕ) → (osil osol ospl : Option (List ℕ)) → CallRun
 call_run run kind host port osil osol ospl = record {
   kind = kind;
   host = host;
@@ -138,7 +138,7 @@ call_run run kind host port osil osol ospl = record {
 }
 
 -- a call was made, or it came to nothing
-pub record IsCalled (status : ℕ) (run : Run) : Type 0 where
+pub record IsCalled (status : ℕ) (run : ProgramRun) : Type 0 where
   pub kind : CallKind
   pub host : List ℕ
   pub port : ℕ
@@ -154,7 +154,7 @@ abbrev pub asks_to_serve : (host : List ℕ) → (port : ℕ) → Setup → Comm
 asks_to_serve host port setup = Serve host port setup.limits.workers setup.limits.servers setup.limits.connections setup.patience setup.first
 
 -- links were served, by a server that was set up as the words say, which ended so
-pub record IsHosted (how : Ending) (run : Run) : Type 0 where
+pub record IsHosted (how : Ending) (run : ProgramRun) : Type 0 where
   pub host : List ℕ
   pub port : ℕ
   pub setup : Setup
@@ -164,7 +164,7 @@ pub record IsHosted (how : Ending) (run : Run) : Type 0 where
   pub all_files_read : AllFilesRead run
 
 -- how a run ends, by its status
-pub data RunEnds (status : ℕ) (run : Run) : Type 0 where
+pub data RunEnds (status : ℕ) (run : ProgramRun) : Type 0 where
   served : (how : Served) → status ≡ session_status how → ServesSession how run → RunEnds status run
   answered : IsTextSent status run → RunEnds status run
   called : IsCalled status run → RunEnds status run
@@ -175,7 +175,7 @@ pub data RunEnds (status : ℕ) (run : Run) : Type 0 where
   unheard : status ≡ 5 → IsUnheard run → RunEnds status run
 
 -- the line that was due was sent, with its status; or a file wasn't read, or a write failed, or there was no memory
-pub data Gives (due : ℕ) (MayBe : List ℕ → Type 0) (status : ℕ) (run : Run) : Type 0 where
+pub data Gives (due : ℕ) (MayBe : List ℕ → Type 0) (status : ℕ) (run : ProgramRun) : Type 0 where
   in_full : (line : List ℕ) → status ≡ due → MayBe line → IsSent line run.output run.output_after → Gives due MayBe status run
   no_file : status ≡ 3 → IsFileFault run → Gives due MayBe status run
   not_written : (line : List ℕ) → status ≡ 4 → MayBe line → BreaksOff line run.output run.output_after → Gives due MayBe status run
@@ -183,37 +183,37 @@ pub data Gives (due : ℕ) (MayBe : List ℕ → Type 0) (status : ℕ) (run : R
 
 -- what the bytes of two files decide of a check: it says that the claim is accepted exactly where it is, and why something is
 -- refused exactly where that is
-pub record IsPairJudged (status : ℕ) (run : Run) (osil osrl : List ℕ) : Type 0 where
+pub record IsPairJudged (status : ℕ) (run : ProgramRun) (osil osrl : List ℕ) : Type 0 where
   pub accepted : (k : Kind) → IsAcceptedText osil osrl k → Gives 0 (IsAnswerLine (Ok k)) status run
   pub accepted_only : status ≡ 0 → (k : Kind) × IsAcceptedText osil osrl k
   pub refused : (r : Refused) (text : List ℕ) → DocsRefuse osil osrl r → IsAnswerText (Err r) text → Gives 1 (λ line. line ≡ text ++ (10 ∷ [])) status run
   pub refused_only : status ≡ 1 → (r : Refused) × DocsRefuse osil osrl r × (r ≡ reasons.Memory → ⊥)
 
 -- a file of this name may be there: it isn't told that there is none
-abbrev pub MayBeThere : Run → List ℕ → Type 0
+abbrev pub MayBeThere : ProgramRun → List ℕ → Type 0
 MayBeThere run name = run.held name ≡ NoFile → ⊥
 
 -- how a check of the files of these names ends: their bytes, where they are told, decide it, and it answers only where neither is told
 -- to be absent
-pub record Checks (status : ℕ) (run : Run) (osil_name osrl_name : List ℕ) : Type 0 where
+pub record Checks (status : ℕ) (run : ProgramRun) (osil_name osrl_name : List ℕ) : Type 0 where
   pub judged : (osil osrl : List ℕ) → run.held osil_name ≡ Holds osil → run.held osrl_name ≡ Holds osrl → IsPairJudged status run osil osrl
   pub there : (status ≡ 0) ⊎ (status ≡ 1) → MayBeThere run osil_name × MayBeThere run osrl_name
 
 -- a run ends in one of these ways. What the bytes to come decide of a session follows by the laws of `os_server`. Status 2
 -- says that the words are no command's, no write failed and there was memory, exactly. Only of words that name files a file fails to be
 -- read
-pub record Runs (status : ℕ) (run : Run) : Type 0 where
+pub record Runs (status : ℕ) (run : ProgramRun) : Type 0 where
   pub ends : RunEnds status run
   pub files : NamesNoFile run.words → AllFilesRead run
   pub misused : (status ≡ 2) ↔ (IsNoCommand run.words × (status ≡ 4 → ⊥) × (status ≡ 5 → ⊥))
   pub checks : (osil_name osrl_name : List ℕ) → IsCheck run.words osil_name osrl_name → Checks status run osil_name osrl_name
 
 -- the text of a report that doesn't name the limit of turns was sent, with its status, or a first part of it
-pub record TellsWithinTurns (status : ℕ) (run : Run) : Type 0 where
+pub record TellsWithinTurns (status : ℕ) (run : ProgramRun) : Type 0 where
   pub report : Report
   pub told : IsTold (solve_status report.error) (report_text report) status run.output run.output_after
   pub within : says_turn_limit report.claim ≡ false
 
 -- or nothing was written
-abbrev pub WritesWithinTurns : (status : ℕ) → Run → Type 0
+abbrev pub WritesWithinTurns : (status : ℕ) → ProgramRun → Type 0
 WritesWithinTurns status run = (run.output_after ≡ run.output) ⊎ TellsWithinTurns status run

@@ -5,7 +5,7 @@ ghost use Rattle.os_app.specs.Checks.{IsAnswerAbout, IsAnswerLine, IsAnswerTo};
 ghost use Rattle.os_app.specs.Statuses.{check_status};
 
 use command_answers::status::{DONE, NEGATIVE};
-use command_answers::{Answer, MOST_READ};
+use command_answers::{MOST_READ, StatusText};
 use document_checker::{CheckFault as Refused, Kind, answer_text, check_docs};
 use os_io::{FileFault, Files, Memory, Text};
 use std::alloc::Global;
@@ -27,12 +27,12 @@ fn line_of(alloc: Global, answer: &Result<Kind, Refused>) -> Result<Text, Memory
 }
 
 /// What these bytes of two files say together.
-fn answer_to(alloc: Global, osil: &[u8], osrl: &[u8]) -> Result<Answer, Memory>
+fn answer_to(alloc: Global, osil: &[u8], osrl: &[u8]) -> Result<StatusText, Memory>
     ensures { IfOk result (λ a. IsAnswerTo osil.now osrl.now a.status a.text) }
 {
     let answer = check_docs(alloc, osil, osrl);
     let line = line_of(alloc, &answer)?;
-    Ok(Answer {
+    Ok(StatusText {
         status: status_of(answer.is_ok()),
         text: line,
     })
@@ -44,7 +44,7 @@ pub(crate) fn answer_about<F: Files>(
     files: &mut F,
     osil: &str,
     osrl: &str,
-) -> Result<Answer, FileFault>
+) -> Result<StatusText, FileFault>
     ensures held { F.held files.new ≡ F.held files.old }
     ensures counted { CountsFiles result (F.faults files.old) (F.faults files.new) }
     ensures ok { IfOk result (λ a. IsAnswerAbout (F.held files.old osil.now) (F.held files.old osrl.now) a.status a.text) }

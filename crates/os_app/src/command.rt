@@ -1,4 +1,4 @@
-//! What the words of a call ask for.
+//! What the words of a command line ask for.
 ghost use Rattle.std.specs.Prelude.{◌≡◌, map, IfOk, OnErr};
 ghost use Rattle.std.specs.Process.{exit_status};
 ghost use Rattle.std.specs.String.{string_bytes};
@@ -16,15 +16,15 @@ use crate::solving::solve_files;
 use command_answers::status::{
     CUT_SHORT, DONE, MISUSED, NO_LINK, NO_MEMORY, READ_FAULT, WRITE_FAULT,
 };
-use command_answers::{Answer, send_answer};
-use command_line::{Asked, numbers_are_within_their_ends, read, write_usage};
+use command_answers::{StatusText, send_answer};
+use command_line::{Asked, numbers_are_within_their_ends, read_words, write_usage};
 use document_checker::{
-    accepted_is_not_refused, documents_have_one_answer, documents_have_one_kind,
+    accepted_documents_are_not_refused, documents_have_one_answer, documents_have_one_kind,
 };
 use os_client::make_call;
 use os_io::{Failed, FileFault, Files, Listener, Memory, Sink, Source};
 use os_server::Served;
-use serving::{Ending, Limits, Setup, serve};
+use serving::{Ending, ServeLimits, Setup, serve};
 use sessions::serve_session;
 use std::alloc::{AllocError, Global};
 use std::process::ExitCode;
@@ -57,7 +57,7 @@ fn serve_status(ending: Ending) -> u8
 }
 
 /// Sends an answer, if there is one, and says how it went.
-fn tell<O: Sink>(output: &mut O, answer: Result<Answer, FileFault>) -> u8
+fn tell<O: Sink>(output: &mut O, answer: Result<StatusText, FileFault>) -> u8
     ensures told { AnswerEnds answer result (O.tells output.old) (O.tells output.new) }
     ensures input { SameInput (O.tells output.old) (O.tells output.new) }
 {
@@ -69,7 +69,7 @@ fn tell<O: Sink>(output: &mut O, answer: Result<Answer, FileFault>) -> u8
 }
 
 /// An answer for which no file is read.
-fn from_memory(answer: Result<Answer, Memory>) -> Result<Answer, FileFault>
+fn from_memory(answer: Result<StatusText, Memory>) -> Result<StatusText, FileFault>
     ensures { result ≡ from_memory answer }
 {
     match answer {
@@ -94,7 +94,7 @@ fn documents_are_judged_once()
     ensures { AnswersAreOne }
 {
     documents_have_one_kind();
-    accepted_is_not_refused();
+    accepted_documents_are_not_refused();
     documents_have_one_answer();
 }
 
@@ -141,7 +141,7 @@ where
     ensures unread { NamesNoFile (map string_bytes words.now) → files.new ≡ files.old }
     ensures unlinked { AsksForNoLink (map string_bytes words.now) → net.new ≡ net.old }
 {
-    match read(alloc, words) {
+    match read_words(alloc, words) {
         Ok(Some(Asked::Session)) => session_status(serve_session(rt, alloc, input, output)),
         Ok(Some(Asked::Check { osil, osrl })) => {
             documents_are_judged_once();
@@ -166,7 +166,7 @@ where
             let setup = Setup {
                 patience: to.patience,
                 first: to.first,
-                limits: Limits {
+                limits: ServeLimits {
                     workers: to.workers,
                     servers: to.servers,
                     connections: to.connections,

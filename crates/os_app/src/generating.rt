@@ -5,7 +5,7 @@ ghost use Rattle.os_app.specs.Summaries.{IsDecided, IsSummaryAbout, IsSummaryOf,
 use crate::checking::status_of;
 use crate::solving::solve;
 use certificate::{Cause, Claim};
-use command_answers::Answer;
+use command_answers::StatusText;
 use document_checker::{CheckFault as Refused, check_docs};
 use generator::{line_of, make};
 use os_io::Memory;
@@ -41,7 +41,7 @@ fn is_accepted(alloc: Global, osil: &[u8], osrl: &[u8]) -> Result<bool, Memory>
 
 /// The line about the generated instance of `n` variables, whose result document this is, and its status. A document that answers
 /// it is a report with a claim, so where it says none, there was no memory.
-fn summary_about(alloc: Global, n: u32, osil: &[u8], osrl: &[u8]) -> Result<Answer, Memory>
+fn summary_about(alloc: Global, n: u32, osil: &[u8], osrl: &[u8]) -> Result<StatusText, Memory>
     ensures { IfOk result (λ a. IsSummaryAbout n osil.now osrl.now a.status a.text) }
 {
     let Ok(report) = decode(alloc, osrl) else {
@@ -55,7 +55,7 @@ fn summary_about(alloc: Global, n: u32, osil: &[u8], osrl: &[u8]) -> Result<Answ
     }
     let is_accepted = is_accepted(alloc, osil, osrl)?;
     let text = line_of(alloc, n, claim, is_accepted)?;
-    Ok(Answer {
+    Ok(StatusText {
         status: status_of(is_accepted),
         text,
     })
@@ -63,7 +63,7 @@ fn summary_about(alloc: Global, n: u32, osil: &[u8], osrl: &[u8]) -> Result<Answ
 
 /// The generated instance of `n` variables, solved without options, and checked, in a line. Its text is written unless there is no
 /// memory (`generator`).
-pub(crate) fn generate(alloc: Global, n: u32) -> Result<Answer, Memory>
+pub(crate) fn generate(alloc: Global, n: u32) -> Result<StatusText, Memory>
     requires least { 1 ≤ n }
     requires most { n ≤ 1000 }
     ensures { IfOk result (λ a. IsSummaryOf n a.status a.text) }

@@ -7,7 +7,7 @@ ghost use Rattle.osil_grammar.specs.Reading.{IsInstanceText};
 ghost use Rattle.search_rules.specs.Outcomes.{IsPlain};
 ghost use Rattle.no_cycles.specs.Beginning.{BeginsFeasible};
 ghost use Rattle.command_line.specs.Words.{IsSolve};
-ghost use Rattle.os_app.specs.Runs.{Run, Runs, WritesWithinTurns};
+ghost use Rattle.os_app.specs.Runs.{ProgramRun, Runs, WritesWithinTurns};
 
 use instance::programs_have_numbers;
 use no_cycles::safe_limits_are_enough;
@@ -17,7 +17,7 @@ use osol_grammar::{comes_back, options_are_not_refused, read_options_come_back};
 /// Law: what `solve --safe` writes never names the limit of turns, where the instance has no whole variables, its first values keep each row
 /// between its ends, and it has at most 13 variables and rows together.
 pub fn safe_solves_stay_within_turns()
-    ensures { (status : ℕ) (run : Run) (osil_name : List ℕ) (options_name : Option (List ℕ)) (osil : List ℕ) (p : Parts) → Runs status run → IsSolve run.words osil_name options_name true → run.held osil_name ≡ Holds osil → IsInstanceText osil p → IsPlain (program p) → BeginsFeasible (program p) → length p.vars + length p.rows ≤ 13 → WritesWithinTurns status run }
+    ensures { (status : ℕ) (run : ProgramRun) (osil_name : List ℕ) (options_name : Option (List ℕ)) (osil : List ℕ) (p : Parts) → Runs status run → IsSolve run.words osil_name options_name true → run.held osil_name ≡ Holds osil → IsInstanceText osil p → IsPlain (program p) → BeginsFeasible (program p) → length p.vars + length p.rows ≤ 13 → WritesWithinTurns status run }
 {
     programs_have_numbers();
     safe_limits_are_enough();

@@ -7,7 +7,7 @@ ghost use Rattle.os_app.specs.Statuses.{solve_status};
 
 use crate::safe::safe_options;
 use command_answers::status::{DONE, NEGATIVE};
-use command_answers::{Answer, MOST_READ, read_named};
+use command_answers::{MOST_READ, StatusText, read_named};
 use os_io::{FileFault, Files, Memory, Never};
 use solve_run::{Document, answer_job};
 use std::alloc::Global;
@@ -48,7 +48,7 @@ pub(crate) fn solve_files<F: Files>(
     osil: &str,
     options: Option<&str>,
     safe: bool,
-) -> Result<Answer, FileFault>
+) -> Result<StatusText, FileFault>
     ensures held { F.held files.new ≡ F.held files.old }
     ensures counted { CountsFiles result (F.faults files.old) (F.faults files.new) }
     ensures ok { IfOk result (λ a. IsDocumentAbout (F.held files.old osil.now) (option_map (λ n. F.held files.old n.now) options.entry) safe a.status a.text) }
@@ -56,7 +56,7 @@ pub(crate) fn solve_files<F: Files>(
     let instance = files.read_all(alloc, osil, MOST_READ)?;
     let options = read_named(alloc, files, options)?;
     match solve_with(alloc, instance.as_slice(), options.as_slice(), safe) {
-        Ok(document) => Ok(Answer {
+        Ok(document) => Ok(StatusText {
             status: status_of(document.is_error),
             text: document.text,
         }),

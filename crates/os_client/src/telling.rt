@@ -7,7 +7,7 @@ ghost use Rattle.os_client.specs.Telling.{TellsLine, TellsOf};
 
 use crate::fault::CallFault;
 use command_answers::status::{DONE, NEGATIVE, NO_MEMORY, NO_REPLY, READ_FAULT, WRITE_FAULT};
-use command_answers::{Answer, send_answer};
+use command_answers::{StatusText, send_answer};
 use os_io::{Memory, Sink, Text};
 use six_calls::CallKind;
 use std::alloc::Global;
@@ -60,7 +60,7 @@ fn send_line<O: Sink>(output: &mut O, line: Result<Text, Memory>) -> u8
 {
     match line {
         Ok(text) => {
-            let answer = Answer {
+            let answer = StatusText {
                 status: NEGATIVE,
                 text,
             };
@@ -83,7 +83,7 @@ pub(crate) fn tell<O: Sink>(
     match outcome {
         Ok(text) => {
             let status = returned_status(kind, text.as_slice());
-            send_answer(output, &Answer { status, text })
+            send_answer(output, &StatusText { status, text })
         }
         Err(CallFault::Refused { code, text }) => {
             let line = fault_line(alloc, code.as_slice(), text.as_slice());
@@ -91,7 +91,7 @@ pub(crate) fn tell<O: Sink>(
         }
         Err(CallFault::Http { status }) => send_line(output, http_line(alloc, status)),
         Err(CallFault::NoReply { bytes }) => {
-            let answer = Answer {
+            let answer = StatusText {
                 status: NO_REPLY,
                 text: bytes,
             };

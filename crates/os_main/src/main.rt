@@ -15,7 +15,7 @@ use std::io::ErrorKind;
 use std::process::ExitCode;
 use tcp_net::TcpNet;
 
-/// The words of the call, of which the first is the program's name. Words that aren't all UTF-8 are no command's, so
+/// The words of the command line, of which the first is the program's name. Words that aren't all UTF-8 are no command's, so
 /// none stand for them.
 fn words_of(rt: &HostRuntime) -> Result<Vec<String>, Memory> {
     match env::args(rt) {

@@ -4,8 +4,8 @@ use Rattle.os_io.specs.Streams.{Tells, Sends}
 use Rattle.os_io.specs.declared.streams.Failed.{Failed}
 use Rattle.http_link.specs.Requests.{IsHeadPart}
 use Rattle.http_link.specs.Lines.{print_head}
-use Rattle.job_table.specs.History.{Entry}
-use Rattle.os_server.specs.declared.reply.Reply.TheVariants.{NoMemory}
+use Rattle.job_table.specs.History.{MoveEntry}
+use Rattle.os_server.specs.declared.reply.HttpReply.TheVariants.{NoMemory}
 use Rattle.os_server.specs.declared.serve.Served.{Served}
 use Rattle.os_server.specs.declared.serve.Served.TheVariants.{WriteFault, Memory}
 use Rattle.os_server.specs.Talk.{text_of_reply, ServesWhole, both_ends}
@@ -16,10 +16,10 @@ use Rattle.os_server.proofs.Pieces.{Wakes}
 use Rattle.os_server.proofs.Rounds.{followed, unwritten, sends_between, none_yet, last_whole}
 
 -- no move was made
-abbrev None : List Entry → Type 0
+abbrev None : List MoveEntry → Type 0
 None es = es ≡ []
 
-none_then : (a b : List Entry) → None a → None b → None (a ++ b)
+none_then : (a b : List MoveEntry) → None a → None b → None (a ++ b)
 none_then a b p q = ap (λ s. s ++ b) p ∙ q
 
 nothing_left : (a b : List ℕ) → [] ≡ a ++ b → b ≡ []
@@ -34,7 +34,7 @@ nothing_came made wakes i o = record {
   taken = [];
   own = [];
   shows = inl (nothing_is_part, refl);
-  calls = refl;
+  moves = refl;
   read = read_none i.left;
   counted = refl;
   output = record { written = refl; handed_on = refl; write_faults = refl };

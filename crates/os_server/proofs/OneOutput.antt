@@ -22,13 +22,13 @@ use Rattle.ospl_grammar.specs.declared.fault.OsplFault.{OsplFault}
 use Rattle.ospl_grammar.specs.declared.fault.OsplFault.TheVariants as ospl
 use Rattle.ospl_grammar.specs.Texts as ospl_texts
 use Rattle.job_table.specs.declared.job.Job.{Job}
-use Rattle.job_table.specs.declared.calls.Call.{Call}
-use Rattle.job_table.specs.declared.calls.Call.TheVariants as tables
-use Rattle.job_table.specs.declared.calls.Finish.{Finish}
-use Rattle.job_table.specs.declared.calls.Reply.{Reply}
-use Rattle.job_table.specs.declared.calls.Reply.TheVariants as reply
+use Rattle.job_table.specs.declared.entries.TableMove.{TableMove}
+use Rattle.job_table.specs.declared.entries.TableMove.TheVariants as tables
+use Rattle.job_table.specs.declared.entries.Finishing.{Finishing}
+use Rattle.job_table.specs.declared.entries.Reply.{Reply}
+use Rattle.job_table.specs.declared.entries.Reply.TheVariants as reply
 use Rattle.job_table.specs.Looks.{looks}
-use Rattle.job_table.specs.History.{Entry, entry_of_move}
+use Rattle.job_table.specs.History.{MoveEntry, entry_of_move}
 use Rattle.job_runs.specs.Runs.{IsJobRun, RunsGiven, Works}
 use Rattle.job_runs.specs.Solves.{IsRetrieved, Solves}
 use Rattle.os_server.specs.declared.order.Order.{Order}
@@ -166,14 +166,14 @@ module _ (says : Bodies) where
 
 -- replies, one after another
 
-replies_of : (own : List Entry) (es : List Entry) (x : List Reply) → own ≡ es → replies own ++ x ≡ replies es ++ x
+replies_of : (own : List MoveEntry) (es : List MoveEntry) (x : List Reply) → own ≡ es → replies own ++ x ≡ replies es ++ x
 replies_of own es x is = ap (λ k. replies k ++ x) is
 
-replies_then : (a b : List Entry) (x : List Reply) → replies (a ++ b) ++ x ≡ replies a ++ (replies b ++ x)
-replies_then a b x = ap (λ r. r ++ x) (map-append (λ (e : Entry). e.reply) a b) ∙ append_assoc (replies a) (replies b) x
+replies_then : (a b : List MoveEntry) (x : List Reply) → replies (a ++ b) ++ x ≡ replies a ++ (replies b ++ x)
+replies_then a b x = ap (λ r. r ++ x) (map-append (λ (e : MoveEntry). e.reply) a b) ∙ append_assoc (replies a) (replies b) x
 
 -- looks and a finish end at one place
-past_looks : (n m : ℕ) (s t : List Bool) (e f : Finish) (x y : List Reply)
+past_looks : (n m : ℕ) (s t : List Bool) (e f : Finishing) (x y : List Reply)
     → replies (looks n s) ++ (reply.Finish e ∷ x) ≡ replies (looks m t) ++ (reply.Finish f ∷ y) → x ≡ y
 past_looks n m [] [] e f x y h = (cons_same (reply.Finish e) (reply.Finish f) x y h).1
 past_looks n m [] (b ∷ t) e f x y h =
@@ -185,18 +185,18 @@ past_looks n m (a ∷ s) (b ∷ t) e f x y h =
     (cons_same (reply.Marked a) (reply.Marked b) (replies (looks n s) ++ (reply.Finish e ∷ x)) (replies (looks m t) ++ (reply.Finish f ∷ y)) h).1
 
 module _ (made : Made) where
-  run_replies : (j : Job) (run : List Entry) (r : IsJobRun made j run) (x : List Reply)
+  run_replies : (j : Job) (run : List MoveEntry) (r : IsJobRun made j run) (x : List Reply)
       → replies run ++ x ≡ replies (looks j.number r.answers) ++ (reply.Finish r.end ∷ x)
   run_replies j run r x =
       let finish = entry_of_move (tables.Finish j r.asked r.document) (reply.Finish r.end) in
       replies_of run (looks j.number r.answers ++ finish ∷ []) x r.are ∙ replies_then (looks j.number r.answers) (finish ∷ []) x
 
-  past_run : (j k : Job) (run again : List Entry) (x y : List Reply) → IsJobRun made j run → IsJobRun made k again
+  past_run : (j k : Job) (run again : List MoveEntry) (x y : List Reply) → IsJobRun made j run → IsJobRun made k again
       → replies run ++ x ≡ replies again ++ y → x ≡ y
   past_run j k run again x y p q h =
       past_looks j.number k.number p.answers q.answers p.end q.end x y (sym (run_replies j run p x) ∙ h ∙ run_replies k again q y)
 
-  past_given : (g h : Option Job) (run again : List Entry) (x y : List Reply) → RunsGiven made g run → RunsGiven made h again
+  past_given : (g h : Option Job) (run again : List MoveEntry) (x y : List Reply) → RunsGiven made g run → RunsGiven made h again
       → g ≡ h → replies run ++ x ≡ replies again ++ y → x ≡ y
   past_given None None run again x y p q same e = sym (replies_of run [] x p) ∙ e ∙ replies_of again [] y q
   past_given None (Some k) run again x y p q same e = cc
@@ -204,7 +204,7 @@ module _ (made : Made) where
   past_given (Some j) (Some k) run again x y p q same e = past_run j k run again x y p q e
 
   -- a claim and the run of the job that it gave
-  past_work : (w v : Bool) (g h : Option Job) (a b : List Entry) (x y : List Reply) → Works made w g a → Works made v h b
+  past_work : (w v : Bool) (g h : Option Job) (a b : List MoveEntry) (x y : List Reply) → Works made w g a → Works made v h b
       → replies a ++ x ≡ replies b ++ y → x ≡ y
   past_work w v g h a b x y p q e =
       let same = cons_same (reply.Gave g) (reply.Gave h) (replies p.run ++ x) (replies q.run ++ y)
@@ -212,13 +212,13 @@ module _ (made : Made) where
       let given : g ≡ h = let gave = same.0 in cc in
       past_given g h p.run q.run x y p.ran q.ran given same.1
 
-  past_one : (c d : Call) (l m : Reply) (own again : List Entry) (x y : List Reply) → own ≡ entry_of_move c l ∷ [] → again ≡ entry_of_move d m ∷ []
+  past_one : (c d : TableMove) (l m : Reply) (own again : List MoveEntry) (x y : List Reply) → own ≡ entry_of_move c l ∷ [] → again ≡ entry_of_move d m ∷ []
       → replies own ++ x ≡ replies again ++ y → (l ≡ m) × (x ≡ y)
   past_one c d l m own again x y p q e =
       cons_same l m x y (sym (replies_of own (entry_of_move c l ∷ []) x p) ∙ e ∙ replies_of again (entry_of_move d m ∷ []) y q)
 
   module _ (osil osol : List ℕ) where
-    solved_replies : (said : Reply) (own : List Entry) (r : IsRetrieved made osil osol said own) (x : List Reply)
+    solved_replies : (said : Reply) (own : List MoveEntry) (r : IsRetrieved made osil osol said own) (x : List Reply)
         → replies own ++ x ≡ reply.Gave (Some r.job) ∷ (replies r.ran.run ++ (said ∷ x))
     solved_replies said own r x =
         replies_of own (r.run ++ entry_of_move (tables.Retrieve r.job.number) said ∷ []) x r.are
@@ -230,7 +230,7 @@ module _ (made : Made) where
     no_job l j (inl full) e = cc
     no_job l j (inr spent) e = cc
 
-    past_solve : (l m : Reply) (own again : List Entry) (x y : List Reply) → Solves made osil osol l own → Solves made osil osol m again
+    past_solve : (l m : Reply) (own again : List MoveEntry) (x y : List Reply) → Solves made osil osol l own → Solves made osil osol m again
         → replies own ++ x ≡ replies again ++ y → (l ≡ m) × (x ≡ y)
     past_solve l m own again x y (inl p) (inl q) e = past_one (tables.Enter osil osol) (tables.Enter osil osol) l m own again x y p.0 q.0 e
     past_solve l m own again x y (inl p) (inr q) e =
@@ -248,14 +248,14 @@ module _ (made : Made) where
         (sym (solved_replies l own p x) ∙ e ∙ solved_replies m again q y)).1)
 
   -- the moves that do what is asked
-  past_doing : (d : Doing) (l m : Reply) (own again : List Entry) (x y : List Reply) → DoesSo made d l own → DoesSo made d m again
+  past_doing : (d : Doing) (l m : Reply) (own again : List MoveEntry) (x y : List Reply) → DoesSo made d l own → DoesSo made d m again
       → replies own ++ x ≡ replies again ++ y → (l ≡ m) × (x ≡ y)
-  past_doing (Moves call) l m own again x y p q e = past_one call call l m own again x y p q e
+  past_doing (Moves move) l m own again x y p q e = past_one move move l m own again x y p q e
   past_doing (RunsAtOnce osil osol) l m own again x y p q e = past_solve osil osol l m own again x y p q e
 
 -- the replies of one part before the rest
-regrouped : (a b l : List Entry) → replies ((a ++ b) ++ l) ≡ replies a ++ replies (b ++ l)
-regrouped a b l = ap replies (append_assoc a b l) ∙ map-append (λ (e : Entry). e.reply) a (b ++ l)
+regrouped : (a b l : List MoveEntry) → replies ((a ++ b) ++ l) ≡ replies a ++ replies (b ++ l)
+regrouped a b l = ap replies (append_assoc a b l) ∙ map-append (λ (e : MoveEntry). e.reply) a (b ++ l)
 
 -- parts with the same bytes have the same bytes together
 all_taken_once : (ps qs : List Part) → takens ps ≡ takens qs → (all_of ps).taken ≡ (all_of qs).taken
@@ -272,7 +272,7 @@ module _ (made : Made) (wakes : Wakes) (by : Requests) (says : Bodies) where
   some_once a b e = cc
 
   -- an answer and the moves for it
-  past_answer : (body : List ℕ) (own again : List Entry) (s t : Said) (w v : Bool) (x y : List Reply) → IsBodyAnswered made wakes body own s w
+  past_answer : (body : List ℕ) (own again : List MoveEntry) (s t : Said) (w v : Bool) (x y : List Reply) → IsBodyAnswered made wakes body own s w
       → IsBodyAnswered made wakes body again t v → replies own ++ x ≡ replies again ++ y → (s ≡ t) × (x ≡ y)
   past_answer body own again s t w v x y (inl p) (inl q) e =
       let same = asks_once says body q.order p.order q.asks p.asks in

@@ -5,18 +5,18 @@ use Rattle.std.proofs.lemmas.List.Elements.{All-head, All-tail}
 use Rattle.six_calls.specs.declared.call.CallKind.{CallKind}
 use Rattle.six_calls.proofs.Names.{each_passes}
 use Rattle.job_table.specs.declared.job.Job.{Job}
-use Rattle.job_table.specs.declared.calls.Call.{Call}
-use Rattle.job_table.specs.declared.calls.Call.TheVariants as calls
-use Rattle.job_table.specs.declared.calls.Reply as tables
-use Rattle.job_table.specs.declared.calls.Reply.TheVariants as reply
-use Rattle.job_table.specs.History.{Entry, entry_of_move, IsGiving}
+use Rattle.job_table.specs.declared.entries.TableMove.{TableMove}
+use Rattle.job_table.specs.declared.entries.TableMove.TheVariants as moves
+use Rattle.job_table.specs.declared.entries.Reply as tables
+use Rattle.job_table.specs.declared.entries.Reply.TheVariants as reply
+use Rattle.job_table.specs.History.{MoveEntry, entry_of_move, IsGiving}
 use Rattle.job_runs.specs.Runs.{IsJobRun, Works}
 use Rattle.job_runs.specs.Solves.{EntersAndRuns}
 use Rattle.job_runs.proofs.Judgements.{Made}
 use Rattle.os_server.specs.declared.order.Order.{Order}
 use Rattle.os_server.specs.declared.saying.Said.{Said}
-use Rattle.os_server.specs.declared.reply.Reply.{Reply}
-use Rattle.os_server.specs.declared.reply.Reply.TheVariants.{Answer, Refused, NoMemory}
+use Rattle.os_server.specs.declared.reply.HttpReply.{HttpReply}
+use Rattle.os_server.specs.declared.reply.HttpReply.TheVariants.{Answer, Refused, NoMemory}
 use Rattle.os_server.specs.declared.serve.Served.{Served}
 use Rattle.os_server.specs.declared.serve.Served.TheVariants.{Ended, CutShort, ReadFault, WriteFault, Memory}
 use Rattle.os_server.specs.Answers.{Doing, Moves, RunsAtOnce, doing, doing_of, DoesSo, Does, BeginsSo}
@@ -30,86 +30,86 @@ gives_none (reply.Gave (Some j)) = false
 gives_none said = true
 
 -- the move gives no job, looks at none and finishes none
-abbrev pub is_plain : Call → tables.Reply → Bool
-is_plain (calls.Enter o p) said = gives_none said
-is_plain (calls.Claim worker) said = gives_none said
-is_plain (calls.Look n) said = false
-is_plain (calls.Finish j asked document) said = false
-is_plain call said = true
+abbrev pub is_plain : TableMove → tables.Reply → Bool
+is_plain (moves.Enter o p) said = gives_none said
+is_plain (moves.Claim worker) said = gives_none said
+is_plain (moves.Look n) said = false
+is_plain (moves.Finish j asked document) said = false
+is_plain move said = true
 
 -- nor may it, whatever it is replied
-abbrev never_gives : Call → Bool
-never_gives (calls.Enter o p) = false
-never_gives (calls.Claim worker) = false
-never_gives (calls.Look n) = false
-never_gives (calls.Finish j asked document) = false
-never_gives call = true
+abbrev never_gives : TableMove → Bool
+never_gives (moves.Enter o p) = false
+never_gives (moves.Claim worker) = false
+never_gives (moves.Look n) = false
+never_gives (moves.Finish j asked document) = false
+never_gives move = true
 
 abbrev moves_plainly : Doing → Bool
-moves_plainly (Moves call) = never_gives call
+moves_plainly (Moves move) = never_gives move
 moves_plainly (RunsAtOnce osil osol) = true
 
 -- what is done for a call is a plain move, or a run
 done_plainly : (k : CallKind) (n : ℕ) (osil osol : List ℕ) → moves_plainly (doing k n osil osol) ≡ true
 done_plainly k n osil osol = each_passes (λ kind. moves_plainly (doing kind n osil osol)) refl k
 
-plain_then : (call : Call) (said : tables.Reply) → never_gives call ≡ true → is_plain call said ≡ true
-plain_then (calls.Enter o p) said never = cc
-plain_then (calls.Claim worker) said never = cc
-plain_then (calls.Look n) said never = never
-plain_then (calls.Finish j asked document) said never = never
-plain_then call said never = refl
+plain_then : (move : TableMove) (said : tables.Reply) → never_gives move ≡ true → is_plain move said ≡ true
+plain_then (moves.Enter o p) said never = cc
+plain_then (moves.Claim worker) said never = cc
+plain_then (moves.Look n) said never = never
+plain_then (moves.Finish j asked document) said never = never
+plain_then move said never = refl
 
 -- this holds of no moves, of moves after moves, of a plain move, and of a move that gives a job with the job's run
-pub record Builds (made : Made) (Holds : List Entry → Type 0) : Type 0 where
+pub record Builds (made : Made) (Holds : List MoveEntry → Type 0) : Type 0 where
   pub none : Holds []
-  pub both : (a b : List Entry) → Holds a → Holds b → Holds (a ++ b)
-  pub plain : (call : Call) (said : tables.Reply) → is_plain call said ≡ true → Holds (entry_of_move call said ∷ [])
-  pub given : (j : Job) (call : Call) (run : List Entry) → IsGiving call → IsJobRun made j run → Holds (entry_of_move call (reply.Gave (Some j)) ∷ run)
+  pub both : (a b : List MoveEntry) → Holds a → Holds b → Holds (a ++ b)
+  pub plain : (move : TableMove) (said : tables.Reply) → is_plain move said ≡ true → Holds (entry_of_move move said ∷ [])
+  pub given : (j : Job) (move : TableMove) (run : List MoveEntry) → IsGiving move → IsJobRun made j run → Holds (entry_of_move move (reply.Gave (Some j)) ∷ run)
 
-module _ (made : Made) (Holds : List Entry → Type 0) (b : Builds made Holds) where
-  no_calls : (own : List Entry) → own ≡ [] → Holds own
-  no_calls own none = subst Holds (sym none) b.none
+module _ (made : Made) (Holds : List MoveEntry → Type 0) (b : Builds made Holds) where
+  no_moves : (own : List MoveEntry) → own ≡ [] → Holds own
+  no_moves own none = subst Holds (sym none) b.none
 
-  one_call : (call : Call) (said : tables.Reply) (own : List Entry) → own ≡ entry_of_move call said ∷ [] → is_plain call said ≡ true → Holds own
-  one_call call said own is plain = subst Holds (sym is) (b.plain call said plain)
+  one_move : (move : TableMove) (said : tables.Reply) (own : List MoveEntry) → own ≡ entry_of_move move said ∷ [] → is_plain move said ≡ true → Holds own
+  one_move move said own is plain = subst Holds (sym is) (b.plain move said plain)
 
-  entered : (o p : List ℕ) (j : Job) (own : List Entry) → EntersAndRuns made o p j own → Holds own
-  entered o p j own e = subst Holds (sym e.are) (b.given j (calls.Enter o p) e.run tt e.is_run)
+  entered : (o p : List ℕ) (j : Job) (own : List MoveEntry) → EntersAndRuns made o p j own → Holds own
+  entered o p j own e = subst Holds (sym e.are) (b.given j (moves.Enter o p) e.run tt e.is_run)
 
-  pub works_so : (as_worker : Bool) (given : Option Job) (own : List Entry) → Works made as_worker given own → Holds own
+  pub works_so : (as_worker : Bool) (given : Option Job) (own : List MoveEntry) → Works made as_worker given own → Holds own
   works_so as_worker None own w =
-      one_call (calls.Claim as_worker) (reply.Gave None) own (w.are ∙ ap (λ es. entry_of_move (calls.Claim as_worker) (reply.Gave None) ∷ es) w.ran) refl
-  works_so as_worker (Some j) own w = subst Holds (sym w.are) (b.given j (calls.Claim as_worker) w.run tt w.ran)
+      one_move (moves.Claim as_worker) (reply.Gave None) own (w.are ∙ ap (λ es. entry_of_move (moves.Claim as_worker) (reply.Gave None) ∷ es) w.ran) refl
+  works_so as_worker (Some j) own w = subst Holds (sym w.are) (b.given j (moves.Claim as_worker) w.run tt w.ran)
 
   turned_away : (said : tables.Reply) → (said ≡ reply.Full) ⊎ (said ≡ reply.Spent) → gives_none said ≡ true
   turned_away said (inl full) = subst (λ (s : tables.Reply). gives_none s ≡ true) (sym full) refl
   turned_away said (inr spent) = subst (λ (s : tables.Reply). gives_none s ≡ true) (sym spent) refl
 
-  doing_so : (d : Doing) (last : tables.Reply) (own : List Entry) → moves_plainly d ≡ true → DoesSo made d last own → Holds own
-  doing_so (Moves call) last own plain is = one_call call last own is (plain_then call last plain)
-  doing_so (RunsAtOnce o p) last own plain (inl away) = one_call (calls.Enter o p) last own away.0 (turned_away last away.1)
+  doing_so : (d : Doing) (last : tables.Reply) (own : List MoveEntry) → moves_plainly d ≡ true → DoesSo made d last own → Holds own
+  doing_so (Moves move) last own plain is = one_move move last own is (plain_then move last plain)
+  doing_so (RunsAtOnce o p) last own plain (inl away) = one_move (moves.Enter o p) last own away.0 (turned_away last away.1)
   doing_so (RunsAtOnce o p) last own plain (inr r) =
-      subst Holds (sym r.are) (b.both r.run (entry_of_move (calls.Retrieve r.job.number) last ∷ []) (entered o p r.job r.run r.ran) (b.plain (calls.Retrieve r.job.number) last refl))
+      subst Holds (sym r.are) (b.both r.run (entry_of_move (moves.Retrieve r.job.number) last ∷ []) (entered o p r.job r.run r.ran) (b.plain (moves.Retrieve r.job.number) last refl))
 
-  does_so : (order : Order) (last : tables.Reply) (own : List Entry) → Does made order last own → Holds own
+  does_so : (order : Order) (last : tables.Reply) (own : List MoveEntry) → Does made order last own → Holds own
   does_so order last own does = doing_so (doing_of order) last own (done_plainly order.kind order.number order.osil order.osol) does
 
-  begun_so : (d : Doing) (own : List Entry) → BeginsSo made d own → Holds own
-  begun_so (Moves call) own none = no_calls own none
-  begun_so (RunsAtOnce o p) own (inl none) = no_calls own none
+  begun_so : (d : Doing) (own : List MoveEntry) → BeginsSo made d own → Holds own
+  begun_so (Moves move) own none = no_moves own none
+  begun_so (RunsAtOnce o p) own (inl none) = no_moves own none
   begun_so (RunsAtOnce o p) own (inr (j, e)) = entered o p j own e
 
   module _ (wakes : Wakes) where
-    answers_so : (body : List ℕ) (own : List Entry) (said : Said) (as_worker : Bool) → IsBodyAnswered made wakes body own said as_worker → Holds own
+    answers_so : (body : List ℕ) (own : List MoveEntry) (said : Said) (as_worker : Bool) → IsBodyAnswered made wakes body own said as_worker → Holds own
     answers_so body own said as_worker (inl d) = does_so d.order d.last own d.does
-    answers_so body own said as_worker (inr f) = no_calls own f.none
+    answers_so body own said as_worker (inr f) = no_moves own f.none
 
-    due_so : (taken : List ℕ) (own : List Entry) (r : Reply) → IsReplyDue made wakes taken own r → Holds own
+    due_so : (taken : List ℕ) (own : List MoveEntry) (r : HttpReply) → IsReplyDue made wakes taken own r → Holds own
     due_so taken own (Answer said close as_worker) (body, request, answers) = answers_so body own said as_worker answers
-    due_so taken own (Refused refusal) (refused, none) = no_calls own none
-    due_so taken own NoMemory (inl (head, none)) = no_calls own none
-    due_so taken own NoMemory (inr (close, body, request, inl none)) = no_calls own none
+    due_so taken own (Refused refusal) (refused, none) = no_moves own none
+    due_so taken own NoMemory (inl (head, none)) = no_moves own none
+    due_so taken own NoMemory (inr (close, body, request, inl none)) = no_moves own none
     due_so taken own NoMemory (inr (close, body, request, inr (order, asks, inl begins))) = begun_so (doing_of order) own begins
     due_so taken own NoMemory (inr (close, body, request, inr (order, asks, inr does))) = does_so order does.0 own does.1
 
@@ -118,17 +118,17 @@ module _ (made : Made) (Holds : List Entry → Type 0) (b : Builds made Holds) w
         subst Holds (sym x.entries) (b.both x.own x.after (answers_so x.answered.0 x.own x.said x.as_worker x.answered.2) (works_so x.as_worker x.given x.after x.works))
 
     last_so : (end : Served) (A : Type 0) (p : Part) → EndsTalk made wakes end A p → Holds p.entries
-    last_so Ended A p (inl (ended, silence, at)) = no_calls p.entries silence.0
+    last_so Ended A p (inl (ended, silence, at)) = no_moves p.entries silence.0
     last_so Ended A p (inr (inl x)) = exchange_so true p x
     last_so Ended A p (inr (inr (refusal, is_due, out))) = due_so p.taken p.entries (Refused refusal) is_due
-    last_so CutShort A p (cut, silence, at) = no_calls p.entries silence.0
-    last_so ReadFault A p (begun, silence) = no_calls p.entries silence.0
+    last_so CutShort A p (cut, silence, at) = no_moves p.entries silence.0
+    last_so ReadFault A p (begun, silence) = no_moves p.entries silence.0
     last_so WriteFault A p (r, is_due, out) = due_so p.taken p.entries r is_due
     last_so Memory A p (is_due, out) = due_so p.taken p.entries NoMemory is_due
 
     end_so : (end : Served) (count : ℕ) (A : Type 0) (p : Part) → IsLastPart made wakes end count A p → Holds p.entries
     end_so end count A p (inl (few, ends)) = last_so end A p ends
-    end_so end count A p (inr (is, full, none)) = no_calls p.entries (ap (λ q. q.entries) none)
+    end_so end count A p (inr (is, full, none)) = no_moves p.entries (ap (λ q. q.entries) none)
 
     all_so : (ps : List Part) → All (IsExchange made wakes false) ps → Holds (all_of ps).entries
     all_so [] xs = b.none

@@ -4,15 +4,15 @@ use Rattle.std.specs.Prelude.{IfOk}
 use Rattle.std.specs.declared.alloc.AllocError.{AllocError}
 use Rattle.http_link.specs.Requests.{IsRequest}
 use Rattle.six_calls.specs.declared.call.CallKind.{CallKind}
-use Rattle.job_table.specs.declared.calls.Reply as tables
-use Rattle.job_table.specs.History.{Entry}
+use Rattle.job_table.specs.declared.entries.Reply as tables
+use Rattle.job_table.specs.History.{MoveEntry}
 use Rattle.os_server.specs.declared.order.Order.{Order}
 use Rattle.os_server.specs.declared.fault.FaultCode.{FaultCode}
 use Rattle.os_server.specs.declared.fault.NoOrder.{NoOrder}
 use Rattle.os_server.specs.declared.fault.NoOrder.TheVariants as none
 use Rattle.os_server.specs.declared.saying.Said.{Said}
-use Rattle.os_server.specs.declared.reply.Reply.{Reply}
-use Rattle.os_server.specs.declared.reply.Reply.TheVariants.{Answer, Refused, NoMemory}
+use Rattle.os_server.specs.declared.reply.HttpReply.{HttpReply}
+use Rattle.os_server.specs.declared.reply.HttpReply.TheVariants.{Answer, Refused, NoMemory}
 use Rattle.os_server.specs.Orders.{Asks, Faults, AsksNothing}
 use Rattle.os_server.specs.Answers.{said_by, fault_said, returns}
 use Rattle.os_server.specs.Talk.{IsReplyDue}
@@ -35,7 +35,7 @@ returned_as kind n last text (Ok s) is e = is ∙ e
 returned_as kind n last text (Err lost) is e = tt
 
 -- what is ordered is what a body is replied that asks it
-pub replied : (made : Made) (wakes : Wakes) (body : List ℕ) (order : Order) (close : Bool) (own : List Entry) (r : Reply) → Asks body order
+pub replied : (made : Made) (wakes : Wakes) (body : List ℕ) (order : Order) (close : Bool) (own : List MoveEntry) (r : HttpReply) → Asks body order
     → DoesOrder made wakes order close own r → IsReplied made wakes body close own r
 replied made wakes body order close own (Answer said closes as_worker) asks (same, last, does, says, woken) =
     (same, inl (record { order = order; last = last; asks = asks; does = does; says = says; woken = woken }))
@@ -55,7 +55,7 @@ refused made wakes body close n code text lent said is lent_is nothing says =
     faulted made wakes body close code text said (subst (λ (m : NoOrder). AsksNothing body m) is nothing) (says ∙ ap (fault_said code) lent_is)
 
 -- a reply to a body is due to its request
-pub due : (made : Made) (wakes : Wakes) (taken body : List ℕ) (close : Bool) (own : List Entry) (r : Reply) → IsRequest taken close body
+pub due : (made : Made) (wakes : Wakes) (taken body : List ℕ) (close : Bool) (own : List MoveEntry) (r : HttpReply) → IsRequest taken close body
     → IsReplied made wakes body close own r → IsReplyDue made wakes taken own r
 due made wakes taken body close own (Answer said closes as_worker) request (same, answers) =
     (body, subst (λ (c : Bool). IsRequest taken c body) (sym same) request, answers)

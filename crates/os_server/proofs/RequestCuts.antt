@@ -8,7 +8,7 @@ use Rattle.http_link.specs.Requests.{IsRequest, IsCut, EndedBetween}
 use Rattle.soap_calls.specs.declared.fault.SoapFault.TheVariants as soap
 use Rattle.soap_calls.specs.Refusals.{CallFails}
 use Rattle.os_server.specs.OneReading.{Requests, Bodies}
-use Rattle.job_table.specs.History.{Entry}
+use Rattle.job_table.specs.History.{MoveEntry}
 use Rattle.os_server.specs.declared.fault.FaultCode.{FaultCode}
 use Rattle.os_server.specs.declared.fault.FaultCode.TheVariants as codes_of
 use Rattle.os_server.specs.declared.saying.Said.{Said}
@@ -130,7 +130,7 @@ module _ (made : Made) (wakes : Wakes) where
       ⊎ ((end ≡ Ended) × (count ≡ most_requests) × (l ≡ part [] [] []))
 
 module _ (made : Made) (wakes : Wakes) (by : Requests) (says : Bodies) where
-  answers_call : (body : List ℕ) (own : List Entry) (said : Said) (as_worker : Bool) → IsBodyAnswered made wakes body own said as_worker
+  answers_call : (body : List ℕ) (own : List MoveEntry) (said : Said) (as_worker : Bool) → IsBodyAnswered made wakes body own said as_worker
       → CallFails body soap.Envelope → ⊥
   answers_call body own said as_worker (inl d) none =
       let same : soap.Envelope ≡ soap.Memory = says.apart body d.asks.call soap.Envelope d.asks.is_call none in cc

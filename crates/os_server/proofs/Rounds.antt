@@ -13,9 +13,9 @@ use Rattle.http_link.specs.declared.requests.LinkFault.{LinkFault}
 use Rattle.http_link.specs.Requests.{CountsFault, ShowsTaken, EndsWith, AnswersTaken as Reading}
 use Rattle.soap_calls.specs.declared.calling.CallReader.{CallReader}
 use Rattle.soap_calls.specs.Reading.{HasTaken}
-use Rattle.job_table.specs.History.{Entry}
-use Rattle.os_server.specs.declared.reply.Reply.{Reply}
-use Rattle.os_server.specs.declared.reply.Reply.TheVariants.{Answer, Refused, NoMemory}
+use Rattle.job_table.specs.History.{MoveEntry}
+use Rattle.os_server.specs.declared.reply.HttpReply.{HttpReply}
+use Rattle.os_server.specs.declared.reply.HttpReply.TheVariants.{Answer, Refused, NoMemory}
 use Rattle.os_server.specs.declared.serve.Served.{Served}
 use Rattle.os_server.specs.declared.serve.Served.TheVariants.{Ended, CutShort, ReadFault, WriteFault, Memory}
 use Rattle.os_server.specs.Talk.{Part, part, then, all_of, ReadsBytes, AtEnd, most_requests, text_of_reply, IsReplyDue, IsExchange, EndsTalk, IsLastPart, HandsOnAll, Accounts, Serves, ServesWhole, both_ends}
@@ -31,10 +31,10 @@ Bytes = Option (List ℕ)
 -- ---- what came
 
 -- a request that is whole, and whose body was read as it came
-pub whole_comes : (made : Made) (wakes : Wakes) (did : List Entry → Type 0) (To : List ℕ → Type 0) (read : CallReader) (i : Incoming) (head : Head) (reply : Reply)
+pub whole_comes : (made : Made) (wakes : Wakes) (did : List MoveEntry → Type 0) (To : List ℕ → Type 0) (read : CallReader) (i : Incoming) (head : Head) (reply : HttpReply)
     (old new : Tells) → ((bytes : List ℕ) → To bytes → HasTaken read bytes) → i ≡ incoming.Whole head → Reading To (Ok i) old.left new.left
     → new.read_faults ≡ old.read_faults → SameOutput old new
-    → ((bytes : List ℕ) → HasTaken read bytes → (own : List Entry) × did own × IsReplied made wakes bytes head.close own reply)
+    → ((bytes : List ℕ) → HasTaken read bytes → (own : List MoveEntry) × did own × IsReplied made wakes bytes head.close own reply)
     → ComesOnLink made wakes did (Ok reply) old new
 whole_comes made wakes did To read i head reply old new took is came counted output replied =
     let whole = subst (λ (j : Incoming). Reading To (Ok j) old.left new.left) is came in
@@ -44,7 +44,7 @@ whole_comes made wakes did To read i head reply old new took is came counted out
       taken = whole.0;
       own = done.0;
       shows = due made wakes whole.0 body head.close done.0 reply whole.1.1 done.2;
-      calls = done.1;
+      moves = done.1;
       read = read_of _ old.left new.left whole.0 whole.2;
       counted = counted;
       output = output;
@@ -57,7 +57,7 @@ end_of b (Some x) None taken p = p
 end_of b (Some x) (Some y) taken p = p.1
 
 -- what asks nothing: no request that is whole, an answer by another name
-pub quiet_comes : (made : Made) (wakes : Wakes) (did : List Entry → Type 0) (To : List ℕ → Type 0) (a b : Result Incoming LinkFault) (came : Result Reply Served)
+pub quiet_comes : (made : Made) (wakes : Wakes) (did : List MoveEntry → Type 0) (To : List ℕ → Type 0) (a b : Result Incoming LinkFault) (came : Result HttpReply Served)
     (old new : Tells) → a ≡ b → did [] → Reading To a old.left new.left → CountsFault a old.read_faults new.read_faults → SameOutput old new
     → ((taken : List ℕ) → ShowsTaken To b taken → BothTold old.left new.left (λ before after. EndsWith b after) → CameWithDue made wakes came (AtEnd [] old.left new.left) taken [])
     → (CountsFault b old.read_faults new.read_faults → CountsCame came old.read_faults new.read_faults) → ComesOnLink made wakes did came old new
@@ -67,7 +67,7 @@ quiet_comes made wakes did To a b came old new is stays answer counted output sh
       taken = got.0;
       own = [];
       shows = shows got.0 got.1 (end_of b old.left new.left got.0 got.2);
-      calls = stays;
+      moves = stays;
       read = read_of _ old.left new.left got.0 got.2;
       counted = counts (subst (λ (r : Result Incoming LinkFault). CountsFault r old.read_faults new.read_faults) is counted);
       output = output;
@@ -76,13 +76,13 @@ quiet_comes made wakes did To a b came old new is stays answer counted output sh
 -- ---- one request
 
 -- no moves after these
-without_more : (made : Made) (wakes : Wakes) (taken : List ℕ) (own after : List Entry) (reply : Reply) → after ≡ [] → IsReplyDue made wakes taken own reply
+without_more : (made : Made) (wakes : Wakes) (taken : List ℕ) (own after : List MoveEntry) (reply : HttpReply) → after ≡ [] → IsReplyDue made wakes taken own reply
     → IsReplyDue made wakes taken (own ++ after) reply
 without_more made wakes taken own after reply none is_due =
-    subst (λ (es : List Entry). IsReplyDue made wakes taken es reply) (sym (ap (λ s. own ++ s) none ∙ append-nil own)) is_due
+    subst (λ (es : List MoveEntry). IsReplyDue made wakes taken es reply) (sym (ap (λ s. own ++ s) none ∙ append-nil own)) is_due
 
 -- a reply that was written, and what followed
-answered : (made : Made) (wakes : Wakes) (AtEnd : Type 0) (reply : Reply) (end : Option Served) (taken : List ℕ) (own after : List Entry)
+answered : (made : Made) (wakes : Wakes) (AtEnd : Type 0) (reply : HttpReply) (end : Option Served) (taken : List ℕ) (own after : List MoveEntry)
     → IsReplyDue made wakes taken own reply → FollowsReply made wakes reply after end
     → AnswersOne made wakes end AtEnd (part taken (own ++ after) (text_of_reply reply))
 answered made wakes AtEnd (Answer said true as_worker) end taken own after is_due (works, end_is) =
@@ -122,7 +122,7 @@ answered made wakes AtEnd NoMemory end taken own after is_due (none, end_is) =
 abbrev WentWell : Tells → Tells → Type 0
 WentWell old new = (new.read_faults ≡ old.read_faults) × (new.write_faults ≡ old.write_faults) × HandsOnAll old new
 
-settled : (made : Made) (wakes : Wakes) (reply : Reply) (end : Option Served) (after : List Entry) (old new : Tells) → FollowsReply made wakes reply after end
+settled : (made : Made) (wakes : Wakes) (reply : HttpReply) (end : Option Served) (after : List MoveEntry) (old new : Tells) → FollowsReply made wakes reply after end
     → WentWell old new → AccountsOne end old new
 settled made wakes (Answer said true as_worker) end after old new f w = subst (λ (e : Option Served). AccountsOne e old new) (sym f.1) w
 settled made wakes (Answer said false as_worker) end after old new f w = subst (λ (e : Option Served). AccountsOne e old new) (sym f.1) w
@@ -130,13 +130,13 @@ settled made wakes (Refused refusal) end after old new f w = subst (λ (e : Opti
 settled made wakes NoMemory end after old new f w = subst (λ (e : Option Served). AccountsOne e old new) (sym f.1) w
 
 -- a reply that was sent, and what followed
-pub followed : (made : Made) (wakes : Wakes) (did did' both : List Entry → Type 0) (reply : Reply) (end : Option Served) (x : Unit {0}) (old mid new : Tells)
+pub followed : (made : Made) (wakes : Wakes) (did did' both : List MoveEntry → Type 0) (reply : HttpReply) (end : Option Served) (x : Unit {0}) (old mid new : Tells)
     → Joins did did' both → ComesOnLink made wakes did (Ok reply) old mid → Sends {X = Unit {0}} {E = Failed} (Ok x) (text_of_reply reply) mid new
-    → ((after : List Entry) × did' after × FollowsReply made wakes reply after end) → ServesOne made wakes both end old new
-followed made wakes did did' both reply end x old mid new joins came sent (after, calls, follows) = record {
+    → ((after : List MoveEntry) × did' after × FollowsReply made wakes reply after end) → ServesOne made wakes both end old new
+followed made wakes did did' both reply end x old mid new joins came sent (after, moves, follows) = record {
   part = part came.taken (came.own ++ after) (text_of_reply reply);
   answers = answered made wakes (AtEnd [] old.left new.left) reply end came.taken came.own after came.shows follows;
-  calls = joins came.own after came.calls calls;
+  moves = joins came.own after came.moves moves;
   read = subst (λ (b : Bytes). ReadsBytes came.taken old.left b) (sym sent.writes.input.left) came.read;
   wrote = subst (λ (b : Bytes). BothTold b new.written (Appends (text_of_reply reply))) came.output.written sent.writes.written;
   accounts = settled made wakes reply end after old new follows
@@ -151,7 +151,7 @@ part_written (Some x) None text p = absurd p
 part_written (Some x) (Some y) text (out, is, wrote) = (out, is, wrote)
 
 -- a reply of which a first part was written
-pub unwritten : (made : Made) (wakes : Wakes) (did : List Entry → Type 0) (reply : Reply) (e : Failed) (old mid new : Tells)
+pub unwritten : (made : Made) (wakes : Wakes) (did : List MoveEntry → Type 0) (reply : HttpReply) (e : Failed) (old mid new : Tells)
     → ComesOnLink made wakes did (Ok reply) old mid → Sends {X = Unit {0}} {E = Failed} (Err e) (text_of_reply reply) mid new
     → ServesOne made wakes did (Some WriteFault) old new
 unwritten made wakes did reply e old mid new came sent =
@@ -160,7 +160,7 @@ unwritten made wakes did reply e old mid new came sent =
     record {
       part = part came.taken came.own out;
       answers = (reply, came.shows, is_part);
-      calls = came.calls;
+      moves = came.moves;
       read = subst (λ (b : Bytes). ReadsBytes came.taken old.left b) (sym sent.writes.input.left) came.read;
       wrote = subst (λ (b : Bytes). BothTold b new.written (Appends out)) came.output.written wrote;
       accounts = (
@@ -171,7 +171,7 @@ unwritten made wakes did reply e old mid new came sent =
       grew = grew;
     }
 
-ended_with : (made : Made) (wakes : Wakes) (end : Served) (A : Type 0) (taken : List ℕ) (own : List Entry) → CameWithDue made wakes (Err end) A taken own
+ended_with : (made : Made) (wakes : Wakes) (end : Served) (A : Type 0) (taken : List ℕ) (own : List MoveEntry) → CameWithDue made wakes (Err end) A taken own
     → AnswersOne made wakes (Some end) A (part taken own [])
 ended_with made wakes Ended A taken own (ended, none, at) = inl (ended, (none, refl), at)
 ended_with made wakes CutShort A taken own (cut, none, at) = (cut, (none, refl), at)
@@ -179,7 +179,7 @@ ended_with made wakes ReadFault A taken own (begun, none) = (begun, (none, refl)
 ended_with made wakes WriteFault A taken own p = absurd p
 ended_with made wakes Memory A taken own p = absurd p
 
-silent_accounts : (made : Made) (wakes : Wakes) (did : List Entry → Type 0) (end : Served) (old new : Tells) → ComesOnLink made wakes did (Err end) old new
+silent_accounts : (made : Made) (wakes : Wakes) (did : List MoveEntry → Type 0) (end : Served) (old new : Tells) → ComesOnLink made wakes did (Err end) old new
     → Accounts end old new
 silent_accounts made wakes did Ended old new came = (came.counted, came.output.write_faults, inr (came.output.written, came.output.handed_on))
 silent_accounts made wakes did CutShort old new came = (came.counted, came.output.write_faults, inr (came.output.written, came.output.handed_on))
@@ -191,7 +191,7 @@ goes_on : (end : Served) → None ≡ Some end → ⊥
 goes_on end e = cc
 
 -- what follows a reply is no read fault
-pub follows_no_fault : (made : Made) (wakes : Wakes) (reply : Reply) (after : List Entry) (end : Option Served) → FollowsReply made wakes reply after end
+pub follows_no_fault : (made : Made) (wakes : Wakes) (reply : HttpReply) (after : List MoveEntry) (end : Option Served) → FollowsReply made wakes reply after end
     → end ≡ Some ReadFault → ⊥
 follows_no_fault made wakes (Answer said true as_worker) after end (works, is) e = let same : Some Ended ≡ Some ReadFault = sym is ∙ e in cc
 follows_no_fault made wakes (Answer said false as_worker) after end (works, is) e = goes_on ReadFault (sym is ∙ e)
@@ -199,12 +199,12 @@ follows_no_fault made wakes (Refused refusal) after end (none, is) e = let same 
 follows_no_fault made wakes NoMemory after end (none, is) e = let same : Some Memory ≡ Some ReadFault = sym is ∙ e in cc
 
 -- no request came, and nothing was written
-pub silent : (made : Made) (wakes : Wakes) (did : List Entry → Type 0) (end : Served) (old new : Tells) → ComesOnLink made wakes did (Err end) old new
+pub silent : (made : Made) (wakes : Wakes) (did : List MoveEntry → Type 0) (end : Served) (old new : Tells) → ComesOnLink made wakes did (Err end) old new
     → ServesOne made wakes did (Some end) old new
 silent made wakes did end old new came = record {
   part = part came.taken came.own [];
   answers = ended_with made wakes end (AtEnd [] old.left new.left) came.taken came.own came.shows;
-  calls = came.calls;
+  moves = came.moves;
   read = came.read;
   wrote = subst (λ (b : Bytes). BothTold old.written b (Appends [])) (sym came.output.written) (wrote_none old.written);
   accounts = silent_accounts made wakes did end old new came;
@@ -222,13 +222,13 @@ output_then a b c p q = record {
 }
 
 -- what came on an input that is one of two ends
-pub comes_between : (made : Made) (wakes : Wakes) (did : List Entry → Type 0) (came : Result Reply Served) (i j o : Tells) → ComesOnLink made wakes did came i j
+pub comes_between : (made : Made) (wakes : Wakes) (did : List MoveEntry → Type 0) (came : Result HttpReply Served) (i j o : Tells) → ComesOnLink made wakes did came i j
     → ComesOnLink made wakes did came (both_ends i o) (both_ends j o)
 comes_between made wakes did came i j o c = record {
   taken = c.taken;
   own = c.own;
   shows = c.shows;
-  calls = c.calls;
+  moves = c.moves;
   read = c.read;
   counted = c.counted;
   output = record { written = refl; handed_on = refl; write_faults = refl };
@@ -250,22 +250,22 @@ sends_between r text i o p s = record {
 -- ---- many requests
 
 -- the requests so far, all of which were answered
-pub record SoFar (made : Made) (wakes : Wakes) (did : List Entry → Type 0) (count : ℕ) (old new : Tells) : Type 0 where
+pub record SoFar (made : Made) (wakes : Wakes) (did : List MoveEntry → Type 0) (count : ℕ) (old new : Tells) : Type 0 where
   pub done : List Part
   pub exchanges : All (IsExchange made wakes false) done
   pub length_is : length done ≡ count
-  pub calls : did (all_of done).entries
+  pub moves : did (all_of done).entries
   pub read : ReadsBytes (all_of done).taken old.left new.left
   pub wrote : BothTold old.written new.written (Appends (all_of done).out)
   pub accounts : WentWell old new
   pub grew : Grows old.handed_on new.handed_on
 
-pub none_yet : (made : Made) (wakes : Wakes) (did : List Entry → Type 0) (t : Tells) → did [] → SoFar made wakes did 0 t t
+pub none_yet : (made : Made) (wakes : Wakes) (did : List MoveEntry → Type 0) (t : Tells) → did [] → SoFar made wakes did 0 t t
 none_yet made wakes did t stays = record {
   done = [];
   exchanges = All-nil (IsExchange made wakes false);
   length_is = refl;
-  calls = stays;
+  moves = stays;
   read = read_none t.left;
   wrote = wrote_none t.written;
   accounts = (refl, refl, inr (refl, refl));
@@ -275,13 +275,13 @@ none_yet made wakes did t stays = record {
 well_then : (a b c : Tells) → WentWell a b → WentWell b c → WentWell a c
 well_then a b c p q = (q.0 ∙ p.0, q.1 ∙ p.1, hands_then a b c p.2 q.2)
 
-pub one_more : (made : Made) (wakes : Wakes) (did did' both : List Entry → Type 0) (count : ℕ) (a b c : Tells) → Joins did did' both
+pub one_more : (made : Made) (wakes : Wakes) (did did' both : List MoveEntry → Type 0) (count : ℕ) (a b c : Tells) → Joins did did' both
     → SoFar made wakes did count a b → ServesOne made wakes did' None b c → SoFar made wakes both (count + 1) a c
 one_more made wakes did did' both count a b c joins s r = record {
   done = s.done ++ r.part ∷ [];
   exchanges = All-push (IsExchange made wakes false) s.done r.part s.exchanges r.answers;
   length_is = length-append s.done (r.part ∷ []) ∙ ap (λ n. n + 1) s.length_is;
-  calls = subst (λ (p : Part). both p.entries) (sym (all_more s.done r.part)) (joins _ _ s.calls r.calls);
+  moves = subst (λ (p : Part). both p.entries) (sym (all_more s.done r.part)) (joins _ _ s.moves r.moves);
   read = subst (λ (p : Part). ReadsBytes p.taken a.left c.left) (sym (all_more s.done r.part)) (read_then a.left b.left c.left _ _ s.read r.read);
   wrote = subst (λ (p : Part). BothTold a.written c.written (Appends p.out)) (sym (all_more s.done r.part)) (wrote_then a.written b.written c.written _ _ s.wrote r.wrote);
   accounts = well_then a b c s.accounts r.accounts;
@@ -309,7 +309,7 @@ accounts_then WriteFault a b c w grew q = (
 )
 accounts_then Memory a b c w grew q = well_then a b c w q
 
-pub last_whole : (made : Made) (wakes : Wakes) (did did' both : List Entry → Type 0) (end : Served) (count : ℕ) (a b c : Tells)
+pub last_whole : (made : Made) (wakes : Wakes) (did did' both : List MoveEntry → Type 0) (end : Served) (count : ℕ) (a b c : Tells)
     → Joins did did' both → count < most_requests
     → SoFar made wakes did count a b → ServesOne made wakes did' (Some end) b c → ServesWhole made wakes both end a c
 last_whole made wakes did did' both end count a b c joins most s r = (
@@ -327,7 +327,7 @@ last_whole made wakes did did' both end count a b c joins most s r = (
       );
       whole = refl;
     };
-    calls = joins _ _ s.calls r.calls;
+    moves = joins _ _ s.moves r.moves;
     read = read_whole a.left c.left _ (read_then a.left b.left c.left _ _ s.read r.read);
     wrote = wrote_then a.written b.written c.written _ _ s.wrote r.wrote;
     accounts = accounts_then end a b c s.accounts s.grew r.accounts;
@@ -335,7 +335,7 @@ last_whole made wakes did did' both end count a b c joins most s r = (
   refl,
 )
 
-pub done_whole : (made : Made) (wakes : Wakes) (did : List Entry → Type 0) (count : ℕ) (a b : Tells) → count ≡ most_requests
+pub done_whole : (made : Made) (wakes : Wakes) (did : List MoveEntry → Type 0) (count : ℕ) (a b : Tells) → count ≡ most_requests
     → SoFar made wakes did count a b → ServesWhole made wakes did Ended a b
 done_whole made wakes did count a b full s = (
   record {
@@ -349,7 +349,7 @@ done_whole made wakes did count a b full s = (
       ends = inr (refl, s.length_is ∙ full, refl);
       whole = sym (then_none (all_of s.done));
     };
-    calls = s.calls;
+    moves = s.moves;
     read = read_whole a.left b.left _ s.read;
     wrote = s.wrote;
     accounts = s.accounts;
@@ -357,24 +357,24 @@ done_whole made wakes did count a b full s = (
   refl,
 )
 
-pub last_one : (made : Made) (wakes : Wakes) (did did' both : List Entry → Type 0) (end : Served) (count : ℕ) (a b c : Tells)
+pub last_one : (made : Made) (wakes : Wakes) (did did' both : List MoveEntry → Type 0) (end : Served) (count : ℕ) (a b c : Tells)
     → Joins did did' both → count < most_requests
     → SoFar made wakes did count a b → ServesOne made wakes did' (Some end) b c → Serves made wakes both end a c
 last_one made wakes did did' both end count a b c joins most s r = (last_whole made wakes did did' both end count a b c joins most s r).0
 
-pub all_done : (made : Made) (wakes : Wakes) (did : List Entry → Type 0) (count : ℕ) (a b : Tells) → count ≡ most_requests
+pub all_done : (made : Made) (wakes : Wakes) (did : List MoveEntry → Type 0) (count : ℕ) (a b : Tells) → count ≡ most_requests
     → SoFar made wakes did count a b → Serves made wakes did Ended a b
 all_done made wakes did count a b full s = (done_whole made wakes did count a b full s).0
 
 -- of the moves of a conversation something else may be said
-abbrev pub serves_so : (made : Made) (wakes : Wakes) (did said : List Entry → Type 0) (end : Served) (old new : Tells) → (s : Serves made wakes did end old new)
+abbrev pub serves_so : (made : Made) (wakes : Wakes) (did said : List MoveEntry → Type 0) (end : Served) (old new : Tells) → (s : Serves made wakes did end old new)
     → said s.part.entries → Serves made wakes said end old new
 serves_so made wakes did said end old new s is = record {
   part = s.part;
   past = s.past;
   none_past = s.none_past;
   talk = s.talk;
-  calls = is;
+  moves = is;
   read = s.read;
   wrote = s.wrote;
   accounts = s.accounts;
@@ -405,7 +405,7 @@ accounts_of ReadFault first carry a b p = p
 accounts_of WriteFault first carry a b p = p
 accounts_of Memory first carry a b p = p
 
-serves_from : (made : Made) (wakes : Wakes) (did : List Entry → Type 0) (end : Served) (a b : Tells) (carry : List ℕ)
+serves_from : (made : Made) (wakes : Wakes) (did : List MoveEntry → Type 0) (end : Served) (a b : Tells) (carry : List ℕ)
     → (end ≡ ReadFault → carry ≡ []) → Serves made wakes did end (tells_ahead [] a) (tells_ahead carry b) → Serves made wakes did end a b
 serves_from made wakes did end a b carry none s = record {
   part = s.part;
@@ -418,14 +418,14 @@ serves_from made wakes did end a b carry none s = record {
     ends = last_at made wakes end (length s.talk.done) _ _ s.talk.last (at_end_of a.left b.left s.past carry) s.talk.ends;
     whole = s.talk.whole;
   };
-  calls = s.calls;
+  moves = s.moves;
   read = read_past a.left b.left s.part.taken s.past carry s.read;
   wrote = s.wrote;
   accounts = accounts_of end [] carry a b s.accounts;
 }
 
 -- a link that is owned, with nothing read ahead of it yet
-pub none_of_owned : {L : Type 0} (tells : L → Tells) (made : Made) (wakes : Wakes) (did : List Entry → Type 0) (link owned : L) (carry : List ℕ)
+pub none_of_owned : {L : Type 0} (tells : L → Tells) (made : Made) (wakes : Wakes) (did : List MoveEntry → Type 0) (link owned : L) (carry : List ℕ)
     → owned ≡ link → carry ≡ [] → did [] → SoFar made wakes did 0 (tells_ahead [] (tells link)) (tells_ahead carry (tells owned))
 none_of_owned {L} tells made wakes did link owned carry owned_is none stays =
     subst (λ (l : L). SoFar made wakes did 0 (tells_ahead [] (tells link)) (tells_ahead carry (tells l))) (sym owned_is)
@@ -433,7 +433,7 @@ none_of_owned {L} tells made wakes did link owned carry owned_is none stays =
     (none_yet made wakes did (tells_ahead [] (tells link)) stays))
 
 -- a link that was owned meanwhile is given back: what is carried at the end was read past it
-pub serves_owned : {L : Type 0} (tells : L → Tells) (made : Made) (wakes : Wakes) (did : List Entry → Type 0) (end : Served) (link kept given : L)
+pub serves_owned : {L : Type 0} (tells : L → Tells) (made : Made) (wakes : Wakes) (did : List MoveEntry → Type 0) (end : Served) (link kept given : L)
     (carry : List ℕ) → given ≡ kept → (end ≡ ReadFault → carry ≡ [])
     → Serves made wakes did end (tells_ahead [] (tells link)) (tells_ahead carry (tells kept)) → Serves made wakes did end (tells link) (tells given)
 serves_owned {L} tells made wakes did end link kept given carry given_is none s =

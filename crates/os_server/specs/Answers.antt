@@ -2,16 +2,16 @@
 use Rattle.std.specs.Prelude.{◌≡◌, ℕ, Bool, true, false, List, [], ◌∷◌, Option, None, Some, map, codes}
 use Rattle.job_table.specs.declared.job.State.{State}
 use Rattle.job_table.specs.declared.job.State.TheVariants as states
-use Rattle.job_table.specs.declared.calls.Call.{Call}
-use Rattle.job_table.specs.declared.calls.Call.TheVariants as tables
-use Rattle.job_table.specs.declared.calls.Killing.{Killing}
-use Rattle.job_table.specs.declared.calls.Statistics as given
-use Rattle.job_table.specs.declared.calls.Retrieved.{Retrieved}
-use Rattle.job_table.specs.declared.calls.Retrieved.TheVariants as shown
-use Rattle.job_table.specs.declared.calls.Reply.{Reply}
-use Rattle.job_table.specs.declared.calls.Reply.TheVariants as reply
+use Rattle.job_table.specs.declared.entries.TableMove.{TableMove}
+use Rattle.job_table.specs.declared.entries.TableMove.TheVariants as tables
+use Rattle.job_table.specs.declared.entries.Killing.{Killing}
+use Rattle.job_table.specs.declared.entries.Statistics as given
+use Rattle.job_table.specs.declared.entries.Retrieved.{Retrieved}
+use Rattle.job_table.specs.declared.entries.Retrieved.TheVariants as shown
+use Rattle.job_table.specs.declared.entries.Reply.{Reply}
+use Rattle.job_table.specs.declared.entries.Reply.TheVariants as reply
 use Rattle.job_table.specs.Ids.{id_text}
-use Rattle.job_table.specs.History.{Entry, entry_of_move}
+use Rattle.job_table.specs.History.{MoveEntry, entry_of_move}
 use Rattle.job_runs.specs.Solves.{Solves, BeginsToSolve}
 use Rattle.certificate.specs.declared.causes.Cause.TheVariants as causes
 use Rattle.certificate.specs.declared.claims.Claim.{Claim}
@@ -114,7 +114,7 @@ said_by kind n _ = None
 
 -- what is done for a call: one move of the table, or a job with these texts is entered and run at once
 pub data Doing : Type 0 where
-  Moves : Call → Doing
+  Moves : TableMove → Doing
   RunsAtOnce : (osil osol : List ℕ) → Doing
 
 -- one row for each call, of the job with this number and with these texts
@@ -130,18 +130,18 @@ abbrev pub doing_of : Order → Doing
 doing_of order = doing order.kind order.number order.osil order.osol
 
 module _ (made : List ℕ → List ℕ → List Bool → Option (List ℕ) → Type 0) where
-  abbrev pub DoesSo : Doing → Reply → List Entry → Type 0
-  DoesSo (Moves call) last own = own ≡ entry_of_move call last ∷ []
+  abbrev pub DoesSo : Doing → Reply → List MoveEntry → Type 0
+  DoesSo (Moves move) last own = own ≡ entry_of_move move last ∷ []
   DoesSo (RunsAtOnce osil osol) last own = Solves made osil osol last own
 
   -- the moves that do what is asked, the last of which has this reply
-  abbrev pub Does : Order → Reply → List Entry → Type 0
+  abbrev pub Does : Order → Reply → List MoveEntry → Type 0
   Does order last own = DoesSo (doing_of order) last own
 
-  abbrev pub BeginsSo : Doing → List Entry → Type 0
-  BeginsSo (Moves call) own = own ≡ []
+  abbrev pub BeginsSo : Doing → List MoveEntry → Type 0
+  BeginsSo (Moves move) own = own ≡ []
   BeginsSo (RunsAtOnce osil osol) own = BeginsToSolve made osil osol own
 
   -- the moves until one found no memory
-  abbrev pub BeginsToDo : Order → List Entry → Type 0
+  abbrev pub BeginsToDo : Order → List MoveEntry → Type 0
   BeginsToDo order own = BeginsSo (doing_of order) own

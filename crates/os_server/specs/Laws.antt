@@ -1,8 +1,8 @@
 -- What holds of every conversation.
 use Rattle.std.specs.Prelude.{◌≡◌, ℕ, Bool, List, ◌++◌, Option, Some, map, ⊤}
-use Rattle.job_table.specs.declared.calls.Reply.{Reply}
+use Rattle.job_table.specs.declared.entries.Reply.{Reply}
 use Rattle.job_table.specs.Jobs.{Register}
-use Rattle.job_table.specs.History.{Entry, LeadsTo}
+use Rattle.job_table.specs.History.{MoveEntry, LeadsTo}
 use Rattle.job_runs.specs.Laws.{AreKept}
 use Rattle.os_server.specs.declared.serve.Served.{Served}
 use Rattle.os_server.specs.declared.serve.Served.TheVariants.{Ended, CutShort, ReadFault, WriteFault, Memory}
@@ -21,13 +21,13 @@ abbrev pub takens : List Part → List (List ℕ)
 takens parts = map (λ p. p.taken) parts
 
 -- what the moves were replied
-abbrev pub replies : List Entry → List Reply
+abbrev pub replies : List MoveEntry → List Reply
 replies entries = map (λ e. e.reply) entries
 
 -- where a table's history is that of one who makes moves, every finish of a conversation is kept
 abbrev pub ConversationsAreKept : (List ℕ → List ℕ → List Bool → Option (List ℕ) → Type 0) → (Bool → Type 0) → (List ℕ → List ℕ → Bool → Option (List ℕ) → Type 0) → Type 0
 ConversationsAreKept made wakes right =
-    (end : Served) (past : List ℕ) (left left' : Option (List ℕ)) (p : Part) (before : List Entry) (now : Register)
+    (end : Served) (past : List ℕ) (left left' : Option (List ℕ)) (p : Part) (before : List MoveEntry) (now : Register)
     → Talk made wakes end (AtEnd past left left') p → LeadsTo right (before ++ p.entries) now → AreKept p.entries
 
 module _ (made : List ℕ → List ℕ → List Bool → Option (List ℕ) → Type 0) (wakes : Bool → Type 0) where

@@ -6,12 +6,12 @@ use Rattle.http_link.specs.Requests.{IsBegun, IsCut, EndedBetween}
 use Rattle.soap_calls.specs.declared.fault.SoapFault.TheVariants as soap
 use Rattle.soap_calls.specs.Refusals.{CallFails}
 use Rattle.job_table.specs.declared.job.Job.{Job}
-use Rattle.job_table.specs.declared.calls.Reply as tables
-use Rattle.job_table.specs.History.{Entry}
+use Rattle.job_table.specs.declared.entries.Reply as tables
+use Rattle.job_table.specs.History.{MoveEntry}
 use Rattle.job_runs.specs.Runs.{Works}
 use Rattle.os_server.specs.declared.order.Order.{Order}
-use Rattle.os_server.specs.declared.reply.Reply.{Reply}
-use Rattle.os_server.specs.declared.reply.Reply.TheVariants.{Answer, Refused, NoMemory}
+use Rattle.os_server.specs.declared.reply.HttpReply.{HttpReply}
+use Rattle.os_server.specs.declared.reply.HttpReply.TheVariants.{Answer, Refused, NoMemory}
 use Rattle.os_server.specs.declared.serve.Served.{Served}
 use Rattle.os_server.specs.declared.serve.Served.TheVariants.{Ended, CutShort, ReadFault, WriteFault, Memory}
 use Rattle.os_server.specs.Answers.{said_by, Does, BeginsToDo}
@@ -19,7 +19,7 @@ use Rattle.os_server.specs.Talk.{Part, was_taken, IsRung, AtEnd, ReadsBytes, IsB
 
 module _ (made : List ℕ → List ℕ → List Bool → Option (List ℕ) → Type 0) (wakes : Bool → Type 0) where
   -- the moves that do what is asked, and the reply that says the last one's
-  abbrev pub DoesOrder : Order → Bool → List Entry → Reply → Type 0
+  abbrev pub DoesOrder : Order → Bool → List MoveEntry → HttpReply → Type 0
   DoesOrder order close own (Answer said closes as_worker) =
       (closes ≡ close) × (last : tables.Reply) × Does made order last own × (said_by order.kind order.number last ≡ Some said)
       × IsRung wakes (was_taken last) as_worker
@@ -27,13 +27,13 @@ module _ (made : List ℕ → List ℕ → List Bool → Option (List ℕ) → T
   DoesOrder order close own NoMemory = BeginsToDo made order own ⊎ ((last : tables.Reply) × Does made order last own)
 
   -- the moves for a body, and the reply that it is due after them
-  abbrev pub IsReplied : List ℕ → Bool → List Entry → Reply → Type 0
+  abbrev pub IsReplied : List ℕ → Bool → List MoveEntry → HttpReply → Type 0
   IsReplied body close own (Answer said closes as_worker) = (closes ≡ close) × IsBodyAnswered made wakes body own said as_worker
   IsReplied body close own (Refused refusal) = CallFails body soap.Envelope × (refusal ≡ BadRequest) × (own ≡ [])
   IsReplied body close own NoMemory = (own ≡ []) ⊎ LacksMemory made wakes body own
 
   -- what came on the link and what is due to it, by what was taken, the moves and the answer
-  abbrev pub CameWithDue : Result Reply Served → Type 0 → List ℕ → List Entry → Type 0
+  abbrev pub CameWithDue : Result HttpReply Served → Type 0 → List ℕ → List MoveEntry → Type 0
   CameWithDue (Ok reply) AtEnd taken own = IsReplyDue made wakes taken own reply
   CameWithDue (Err Ended) AtEnd taken own = EndedBetween taken × (own ≡ []) × AtEnd
   CameWithDue (Err CutShort) AtEnd taken own = IsCut taken × (own ≡ []) × AtEnd
@@ -47,7 +47,7 @@ module _ (made : List ℕ → List ℕ → List Bool → Option (List ℕ) → T
   AnswersOne (Some end) AtEnd p = EndsTalk made wakes end AtEnd p
 
   -- what follows a reply that was written: a claim with the run of the job that it gave, and the next request or the end
-  abbrev pub FollowsReply : Reply → List Entry → Option Served → Type 0
+  abbrev pub FollowsReply : HttpReply → List MoveEntry → Option Served → Type 0
   FollowsReply (Answer said true as_worker) after end =
       ((given : Option Job) × Works made as_worker given after) × (end ≡ Some Ended)
   FollowsReply (Answer said false as_worker) after end =
@@ -56,7 +56,7 @@ module _ (made : List ℕ → List ℕ → List Bool → Option (List ℕ) → T
   FollowsReply NoMemory after end = (after ≡ []) × (end ≡ Some Memory)
 
 -- how often reads failed where a request came or didn't
-abbrev pub CountsCame : Result Reply Served → ℕ → ℕ → Type 0
+abbrev pub CountsCame : Result HttpReply Served → ℕ → ℕ → Type 0
 CountsCame (Ok reply) before after = after ≡ before
 CountsCame (Err Ended) before after = after ≡ before
 CountsCame (Err CutShort) before after = after ≡ before
@@ -65,11 +65,11 @@ CountsCame (Err WriteFault) before after = ⊥
 CountsCame (Err Memory) before after = ⊥
 
 -- what was read of the link, and the moves for it
-pub record ComesOnLink (made : List ℕ → List ℕ → List Bool → Option (List ℕ) → Type 0) (wakes : Bool → Type 0) (did : List Entry → Type 0) (came : Result Reply Served) (old new : Tells) : Type 0 where
+pub record ComesOnLink (made : List ℕ → List ℕ → List Bool → Option (List ℕ) → Type 0) (wakes : Bool → Type 0) (did : List MoveEntry → Type 0) (came : Result HttpReply Served) (old new : Tells) : Type 0 where
   pub taken : List ℕ
-  pub own : List Entry
+  pub own : List MoveEntry
   pub shows : CameWithDue made wakes came (AtEnd [] old.left new.left) taken own
-  pub calls : did own
+  pub moves : did own
   pub read : ReadsBytes taken old.left new.left
   pub counted : CountsCame came old.read_faults new.read_faults
   pub output : SameOutput old new
@@ -81,10 +81,10 @@ AccountsOne None old new =
 AccountsOne (Some end) old new = Accounts end old new
 
 -- one request of a link and of one who makes moves, and what follows
-pub record ServesOne (made : List ℕ → List ℕ → List Bool → Option (List ℕ) → Type 0) (wakes : Bool → Type 0) (did : List Entry → Type 0) (end : Option Served) (old new : Tells) : Type 0 where
+pub record ServesOne (made : List ℕ → List ℕ → List Bool → Option (List ℕ) → Type 0) (wakes : Bool → Type 0) (did : List MoveEntry → Type 0) (end : Option Served) (old new : Tells) : Type 0 where
   pub part : Part
   pub answers : AnswersOne made wakes end (AtEnd [] old.left new.left) part
-  pub calls : did part.entries
+  pub moves : did part.entries
   pub read : ReadsBytes part.taken old.left new.left
   pub wrote : BothTold old.written new.written (Appends part.out)
   pub accounts : AccountsOne end old new

@@ -9,15 +9,15 @@ use Rattle.http_link.specs.Responses.{answer_text, fault_answer_text, refusal_by
 use Rattle.soap_calls.specs.declared.fault.SoapFault.TheVariants as soap
 use Rattle.soap_calls.specs.Refusals.{CallFails}
 use Rattle.job_table.specs.declared.job.Job.{Job}
-use Rattle.job_table.specs.declared.calls.Reply as tables
-use Rattle.job_table.specs.declared.calls.Reply.TheVariants as table
-use Rattle.job_table.specs.History.{Entry}
+use Rattle.job_table.specs.declared.entries.Reply as tables
+use Rattle.job_table.specs.declared.entries.Reply.TheVariants as table
+use Rattle.job_table.specs.History.{MoveEntry}
 use Rattle.job_runs.specs.Runs.{Works}
 use Rattle.os_server.specs.declared.order.Order.{Order}
 use Rattle.os_server.specs.declared.fault.FaultCode.{FaultCode}
 use Rattle.os_server.specs.declared.saying.Said.{Said}
-use Rattle.os_server.specs.declared.reply.Reply.{Reply}
-use Rattle.os_server.specs.declared.reply.Reply.TheVariants.{Answer, Refused, NoMemory}
+use Rattle.os_server.specs.declared.reply.HttpReply.{HttpReply}
+use Rattle.os_server.specs.declared.reply.HttpReply.TheVariants.{Answer, Refused, NoMemory}
 use Rattle.os_server.specs.declared.serve.Served.{Served}
 use Rattle.os_server.specs.declared.serve.Served.TheVariants.{Ended, CutShort, ReadFault, WriteFault, Memory}
 use Rattle.os_server.specs.Orders.{Asks, Faults}
@@ -30,10 +30,10 @@ most_requests = 1000000
 -- a part of a conversation: bytes read, moves with their replies, bytes written
 pub record Part : Type 0 where
   pub taken : List ℕ
-  pub entries : List Entry
+  pub entries : List MoveEntry
   pub out : List ℕ
 
-abbrev pub part : List ℕ → List Entry → List ℕ → Part
+abbrev pub part : List ℕ → List MoveEntry → List ℕ → Part
 part taken entries out = record { taken = taken; entries = entries; out = out }
 
 -- one part after another
@@ -53,7 +53,7 @@ abbrev pub response_text : Said → List ℕ
 response_text said = response_with said.fault said.text
 
 -- what a reply is written as
-abbrev pub text_of_reply : Reply → List ℕ
+abbrev pub text_of_reply : HttpReply → List ℕ
 text_of_reply (Answer said close as_worker) = response_text said
 text_of_reply (Refused refusal) = refusal_bytes refusal
 text_of_reply NoMemory = refusal_bytes ServiceUnavailable
@@ -79,7 +79,7 @@ IsRung wakes false as_worker = as_worker ≡ false
 module _ (made : List ℕ → List ℕ → List Bool → Option (List ℕ) → Type 0) (wakes : Bool → Type 0) where
   -- a body asks something of the table, these moves do it, and the reply of the last one is said. A waiting job is then claimed
   -- as a worker claims one behind a send alone that was taken, where nobody was woken
-  pub record IsDone (body : List ℕ) (own : List Entry) (said : Said) (as_worker : Bool) : Type 0 where
+  pub record IsDone (body : List ℕ) (own : List MoveEntry) (said : Said) (as_worker : Bool) : Type 0 where
     pub order : Order
     pub last : tables.Reply
     pub asks : Asks body order
@@ -88,7 +88,7 @@ module _ (made : List ℕ → List ℕ → List Bool → Option (List ℕ) → T
     pub woken : IsRung wakes (was_taken last) as_worker
 
   -- a body is an envelope whose call is refused, no move of the table is made, and the fault is said
-  pub record IsFaulted (body : List ℕ) (own : List Entry) (said : Said) (as_worker : Bool) : Type 0 where
+  pub record IsFaulted (body : List ℕ) (own : List MoveEntry) (said : Said) (as_worker : Bool) : Type 0 where
     pub code : FaultCode
     pub text : List ℕ
     pub faults : Faults body code text
@@ -97,27 +97,27 @@ module _ (made : List ℕ → List ℕ → List Bool → Option (List ℕ) → T
     pub alone : as_worker ≡ false
 
   -- what a body is answered by these moves, and whether a waiting job is then claimed as a worker claims one
-  abbrev pub IsBodyAnswered : List ℕ → List Entry → Said → Bool → Type 0
+  abbrev pub IsBodyAnswered : List ℕ → List MoveEntry → Said → Bool → Type 0
   IsBodyAnswered body own said as_worker = IsDone body own said as_worker ⊎ IsFaulted body own said as_worker
 
   -- a body asks something of the table, and these moves were made until there was no memory: for one of them, or for the answer
-  abbrev pub LacksMemory : List ℕ → List Entry → Type 0
+  abbrev pub LacksMemory : List ℕ → List MoveEntry → Type 0
   LacksMemory body own =
       (order : Order) × Asks body order × (BeginsToDo made order own ⊎ ((last : tables.Reply) × Does made order last own))
 
   -- the bytes are a request whose body is answered so
-  abbrev pub IsAnswered : List ℕ → List Entry → Said → Bool → Bool → Type 0
+  abbrev pub IsAnswered : List ℕ → List MoveEntry → Said → Bool → Bool → Type 0
   IsAnswered taken own said close as_worker =
       (body : List ℕ) × IsRequest taken close body × IsBodyAnswered body own said as_worker
 
   -- there was no memory: for a head, of which the bytes are a first part or all; or for a request, for its body, for what it asks or for its answer
-  abbrev pub IsUnanswered : List ℕ → List Entry → Type 0
+  abbrev pub IsUnanswered : List ℕ → List MoveEntry → Type 0
   IsUnanswered taken own =
       (IsHeadPart taken × (own ≡ []))
       ⊎ ((close : Bool) × (body : List ℕ) × IsRequest taken close body × ((own ≡ []) ⊎ LacksMemory body own))
 
   -- the bytes, the moves made for them, and the reply that they are due
-  abbrev pub IsReplyDue : List ℕ → List Entry → Reply → Type 0
+  abbrev pub IsReplyDue : List ℕ → List MoveEntry → HttpReply → Type 0
   IsReplyDue taken own (Answer said close as_worker) = IsAnswered taken own said close as_worker
   IsReplyDue taken own (Refused refusal) = IsRefusedAs taken refusal × (own ≡ [])
   IsReplyDue taken own NoMemory = IsUnanswered taken own
@@ -127,8 +127,8 @@ module _ (made : List ℕ → List ℕ → List Bool → Option (List ℕ) → T
     pub said : Said
     pub as_worker : Bool
     pub given : Option Job
-    pub own : List Entry
-    pub after : List Entry
+    pub own : List MoveEntry
+    pub after : List MoveEntry
     pub answered : IsAnswered p.taken own said close as_worker
     pub works : Works made as_worker given after
     pub entries : p.entries ≡ own ++ after
@@ -148,7 +148,7 @@ module _ (made : List ℕ → List ℕ → List Bool → Option (List ℕ) → T
   EndsTalk CutShort AtEnd p = IsCut p.taken × IsSilentPart p × AtEnd
   EndsTalk ReadFault AtEnd p = IsBegun p.taken × IsSilentPart p
   EndsTalk WriteFault AtEnd p =
-      (reply : Reply) × IsReplyDue p.taken p.entries reply × IsPart (text_of_reply reply) p.out
+      (reply : HttpReply) × IsReplyDue p.taken p.entries reply × IsPart (text_of_reply reply) p.out
   EndsTalk Memory AtEnd p = IsReplyDue p.taken p.entries NoMemory × (p.out ≡ text_of_reply NoMemory)
 
   -- as many requests were answered as may be, and nothing follows
@@ -205,16 +205,16 @@ Accounts Memory old new =
 
 -- a conversation of a link and of one who makes moves, from before to after. More may have been read than it has, but where a read failed: there
 -- all that was read are requests that were answered and less than a whole one
-pub record Serves (made : List ℕ → List ℕ → List Bool → Option (List ℕ) → Type 0) (wakes : Bool → Type 0) (did : List Entry → Type 0) (end : Served) (old new : Tells) : Type 0 where
+pub record Serves (made : List ℕ → List ℕ → List Bool → Option (List ℕ) → Type 0) (wakes : Bool → Type 0) (did : List MoveEntry → Type 0) (end : Served) (old new : Tells) : Type 0 where
   pub part : Part
   pub past : List ℕ
   pub none_past : end ≡ ReadFault → past ≡ []
   pub talk : Talk made wakes end (AtEnd past old.left new.left) part
-  pub calls : did part.entries
+  pub moves : did part.entries
   pub read : ReadsBytes (part.taken ++ past) old.left new.left
   pub wrote : BothTold old.written new.written (Appends part.out)
   pub accounts : Accounts end old new
 
 -- the same, and no byte past it was read
-abbrev pub ServesWhole : (List ℕ → List ℕ → List Bool → Option (List ℕ) → Type 0) → (Bool → Type 0) → (List Entry → Type 0) → Served → Tells → Tells → Type 0
+abbrev pub ServesWhole : (List ℕ → List ℕ → List Bool → Option (List ℕ) → Type 0) → (Bool → Type 0) → (List MoveEntry → Type 0) → Served → Tells → Tells → Type 0
 ServesWhole made wakes did end old new = (s : Serves made wakes did end old new) × (s.past ≡ [])

@@ -1,11 +1,11 @@
 //! What is asked is done by moves of the table.
 ghost use Rattle.std.specs.Prelude.{List, IfOk, OnErr};
-ghost use Rattle.job_table.specs.History.{Entry};
+ghost use Rattle.job_table.specs.History.{MoveEntry};
 ghost use Rattle.os_server.specs.Answers.{reply_of, Does, BeginsToDo};
 
 use crate::order::Order;
 use job_runs::{Runner, solve};
-use job_table::{Calls, IssueFault, Killing, Retrieved, Statistics, Twin, Verdicts};
+use job_table::{IssueFault, Killing, Mover, Retrieved, Statistics, Twin, Verdicts};
 use os_io::Memory;
 use soap_calls::CallKind;
 use std::alloc::{AllocError, Global};
@@ -30,14 +30,14 @@ pub enum LastReply {
 }
 
 /// Does what is asked, and gives the last reply.
-pub(crate) fn make<V: Verdicts, C: Calls<V>, R: Runner<V>>(
+pub(crate) fn do_order<V: Verdicts, C: Mover<V>, R: Runner<V>>(
     alloc: Global,
-    calls: &mut C,
+    mover: &mut C,
     runner: &R,
     order: Order,
 ) -> Result<LastReply, Memory>
-    ensures ok { IfOk result (λ last. (own : List Entry) × C.did calls.old calls.new own × Does R.ran order (reply_of last) own) }
-    ensures err { OnErr result ((own : List Entry) × C.did calls.old calls.new own × BeginsToDo R.ran order own) }
+    ensures ok { IfOk result (λ last. (own : List MoveEntry) × C.did mover.old mover.new own × Does R.ran order (reply_of last) own) }
+    ensures err { OnErr result ((own : List MoveEntry) × C.did mover.old mover.new own × BeginsToDo R.ran order own) }
 {
     let Order {
         kind,
@@ -46,7 +46,7 @@ pub(crate) fn make<V: Verdicts, C: Calls<V>, R: Runner<V>>(
         osol,
     } = order;
     match kind {
-        CallKind::GetJobId => match calls.issue() {
+        CallKind::GetJobId => match mover.issue() {
             Ok(number) => Ok(LastReply::Issued(number)),
             Err(IssueFault::Full) => Ok(LastReply::Full),
             Err(IssueFault::Spent) => Ok(LastReply::Spent),
@@ -55,7 +55,7 @@ pub(crate) fn make<V: Verdicts, C: Calls<V>, R: Runner<V>>(
         CallKind::Solve => {
             let osil = Twin::new(alloc, osil)?;
             let osol = Twin::new(alloc, osol)?;
-            match solve(alloc, calls, runner, osil, osol) {
+            match solve(alloc, mover, runner, osil, osol) {
                 Ok(shown) => Ok(LastReply::Retrieved(shown)),
                 Err(IssueFault::Full) => Ok(LastReply::Full),
                 Err(IssueFault::Spent) => Ok(LastReply::Spent),
@@ -65,16 +65,16 @@ pub(crate) fn make<V: Verdicts, C: Calls<V>, R: Runner<V>>(
         CallKind::Send => {
             let osil = Twin::new(alloc, osil)?;
             let osol = Twin::new(alloc, osol)?;
-            Ok(LastReply::Sent(calls.send(number, osil, osol)))
+            Ok(LastReply::Sent(mover.send(number, osil, osol)))
         }
-        CallKind::Retrieve => match calls.retrieve(number) {
+        CallKind::Retrieve => match mover.retrieve(number) {
             Ok(shown) => Ok(LastReply::Retrieved(shown)),
             Err(lost) => Err(lost),
         },
-        CallKind::Knock => match calls.knock() {
+        CallKind::Knock => match mover.knock() {
             Ok(told) => Ok(LastReply::Statistics(told)),
             Err(lost) => Err(lost),
         },
-        CallKind::Kill => Ok(LastReply::Killing(calls.kill(number))),
+        CallKind::Kill => Ok(LastReply::Killing(mover.kill(number))),
     }
 }

@@ -21,12 +21,12 @@ mod doing;
 mod fault;
 mod laws;
 mod order;
+mod processes;
 mod reply;
+mod results;
 mod saying;
 mod serve;
 mod server;
-mod shown;
-mod stated;
 
 pub use fault::FaultCode;
 pub use laws::{

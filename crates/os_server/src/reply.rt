@@ -2,14 +2,14 @@
 ghost use Rattle.std.specs.Prelude.{◌≡◌, ℕ, List, [], Err};
 ghost use Rattle.os_io.specs.Streams.{Writes, Sends};
 ghost use Rattle.soap_calls.specs.Reading.{HasTaken};
-ghost use Rattle.job_table.specs.History.{Entry};
+ghost use Rattle.job_table.specs.History.{MoveEntry};
 ghost use Rattle.os_server.specs.declared.serve.Served.TheVariants.{ReadFault};
 ghost use Rattle.os_server.specs.Answers.{reply_of};
 ghost use Rattle.os_server.specs.Talk.{was_taken, IsRung, text_of_reply, response_text};
 ghost use Rattle.os_server.specs.Serving.{IsReplied, DoesOrder, ComesOnLink};
 
 use crate::asking::read_order;
-use crate::doing::{LastReply, make};
+use crate::doing::{LastReply, do_order};
 use crate::fault::NoOrder;
 use crate::order::Order;
 use crate::saying::{Said, said_fault, say};
@@ -19,14 +19,14 @@ use http_link::{
     Feed, Incoming, LinkFault, Refusal, pieces_are_their_bytes, read_request_into, write_answer,
     write_fault_answer, write_refusal,
 };
-use job_table::{Calls, Verdicts};
+use job_table::{Mover, Verdicts};
 use os_io::{Failed, Sink};
 use soap_calls::CallReader;
 use std::alloc::Global;
 
 /// What a request is replied.
 #[derive(Drop)]
-pub enum Reply {
+pub enum HttpReply {
     /// A response with this envelope, whether the connection closes behind it, and whether the job after it is claimed as a
     /// worker claims one.
     Answer {
@@ -58,79 +58,79 @@ fn works_after<V: Verdicts, S: Server<V>>(server: &S, last: &LastReply) -> bool
 }
 
 /// Does what is asked, and says the last reply.
-fn answer_order<V: Verdicts, C: Calls<V>, S: Server<V>>(
+fn answer_order<V: Verdicts, C: Mover<V>, S: Server<V>>(
     alloc: Global,
-    calls: &mut C,
+    mover: &mut C,
     server: &S,
     order: Order,
     close: bool,
-) -> Reply
-    ensures { (own : List Entry) × C.did calls.old calls.new own × DoesOrder S.ran S.wakes order close own result }
+) -> HttpReply
+    ensures { (own : List MoveEntry) × C.did mover.old mover.new own × DoesOrder S.ran S.wakes order close own result }
 {
     let kind = order.kind;
     let number = order.number;
-    match make(alloc, calls, server, order) {
+    match do_order(alloc, mover, server, order) {
         Ok(last) => match say(alloc, kind, number, &last) {
             Ok(said) => {
                 let as_worker = works_after(server, &last);
-                Reply::Answer {
+                HttpReply::Answer {
                     said,
                     close,
                     as_worker,
                 }
             }
-            Err(_) => Reply::NoMemory,
+            Err(_) => HttpReply::NoMemory,
         },
-        Err(_) => Reply::NoMemory,
+        Err(_) => HttpReply::NoMemory,
     }
 }
 
 /// What a body is replied that was read.
-fn reply_to<V: Verdicts, C: Calls<V>, S: Server<V>>(
+fn reply_to<V: Verdicts, C: Mover<V>, S: Server<V>>(
     alloc: Global,
-    calls: &mut C,
+    mover: &mut C,
     server: &S,
     body: CallReader,
     close: bool,
-) -> Reply
-    ensures { (bytes : List ℕ) → HasTaken body bytes → (own : List Entry) × C.did calls.old calls.new own × IsReplied S.ran S.wakes bytes close own result }
+) -> HttpReply
+    ensures { (bytes : List ℕ) → HasTaken body bytes → (own : List MoveEntry) × C.did mover.old mover.new own × IsReplied S.ran S.wakes bytes close own result }
 {
     match read_order(alloc, body) {
-        Ok(order) => answer_order(alloc, calls, server, order, close),
-        Err(NoOrder::Envelope) => Reply::Refused(Refusal::BadRequest),
+        Ok(order) => answer_order(alloc, mover, server, order, close),
+        Err(NoOrder::Envelope) => HttpReply::Refused(Refusal::BadRequest),
         Err(NoOrder::Fault { code, text }) => match said_fault(alloc, code, text.as_slice()) {
-            Ok(said) => Reply::Answer {
+            Ok(said) => HttpReply::Answer {
                 said,
                 close,
                 as_worker: false,
             },
-            Err(_) => Reply::NoMemory,
+            Err(_) => HttpReply::NoMemory,
         },
-        Err(NoOrder::Memory) => Reply::NoMemory,
+        Err(NoOrder::Memory) => HttpReply::NoMemory,
     }
 }
 
 /// Reads a request, its call as the body comes, and makes its moves. Where a read fails, nothing is left of what was read ahead.
-pub(crate) fn next_reply<I: Feed, V: Verdicts, C: Calls<V>, S: Server<V>>(
+pub(crate) fn answer_next<I: Feed, V: Verdicts, C: Mover<V>, S: Server<V>>(
     alloc: Global,
     input: &mut I,
-    calls: &mut C,
+    mover: &mut C,
     server: &S,
-) -> Result<Reply, Served>
-    ensures comes { ComesOnLink S.ran S.wakes (C.did calls.old calls.new) result (I.tells input.old) (I.tells input.new) }
+) -> Result<HttpReply, Served>
+    ensures comes { ComesOnLink S.ran S.wakes (C.did mover.old mover.new) result (I.tells input.old) (I.tells input.new) }
     ensures ahead { result ≡ Err ReadFault → I.ahead input.new ≡ [] }
 {
     let mut body = CallReader::new(alloc);
     match read_request_into(alloc, input, &mut body) {
         Ok(Incoming::Whole(head)) => {
             pieces_are_their_bytes::<CallReader>();
-            Ok(reply_to(alloc, calls, server, body, head.close))
+            Ok(reply_to(alloc, mover, server, body, head.close))
         }
-        Ok(Incoming::Refused(refusal)) => Ok(Reply::Refused(refusal)),
+        Ok(Incoming::Refused(refusal)) => Ok(HttpReply::Refused(refusal)),
         Ok(Incoming::Cut) => Err(Served::CutShort),
         Ok(Incoming::Ended) => Err(Served::Ended),
         Err(LinkFault::ReadFault) => Err(Served::ReadFault),
-        Err(LinkFault::Memory) => Ok(Reply::NoMemory),
+        Err(LinkFault::Memory) => Ok(HttpReply::NoMemory),
     }
 }
 
@@ -146,20 +146,20 @@ fn write_said<S: Sink>(sink: &mut S, said: &Said) -> Result<(), Failed>
 }
 
 /// Writes a reply.
-fn write_reply<S: Sink>(sink: &mut S, reply: &Reply) -> Result<(), Failed>
+fn write_response<S: Sink>(sink: &mut S, reply: &HttpReply) -> Result<(), Failed>
     ensures { Writes result (text_of_reply reply.now) (S.tells sink.old) (S.tells sink.new) }
 {
     match reply {
-        Reply::Answer { said, .. } => write_said(sink, said),
-        Reply::Refused(refusal) => write_refusal(sink, *refusal),
-        Reply::NoMemory => write_refusal(sink, Refusal::ServiceUnavailable),
+        HttpReply::Answer { said, .. } => write_said(sink, said),
+        HttpReply::Refused(refusal) => write_refusal(sink, *refusal),
+        HttpReply::NoMemory => write_refusal(sink, Refusal::ServiceUnavailable),
     }
 }
 
 /// Writes a reply and hands it on.
-pub(crate) fn send<S: Sink>(sink: &mut S, reply: &Reply) -> Result<(), Failed>
+pub(crate) fn send_reply<S: Sink>(sink: &mut S, reply: &HttpReply) -> Result<(), Failed>
     ensures { Sends result (text_of_reply reply.now) (S.tells sink.old) (S.tells sink.new) }
 {
-    write_reply(sink, reply)?;
+    write_response(sink, reply)?;
     sink.flush()
 }

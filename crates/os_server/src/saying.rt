@@ -5,8 +5,8 @@ ghost use Rattle.os_server.specs.Answers.{said_by, fault_said, reply_of, returns
 
 use crate::doing::LastReply;
 use crate::fault::FaultCode;
-use crate::shown::reply_of_shown;
-use crate::stated::{id_of, text_after_kill, text_of_all};
+use crate::processes::{id_of, text_after_kill, text_of_all};
+use crate::results::reply_of_shown;
 use job_table::Retrieved;
 use os_io::{Memory, Text};
 use soap_calls::{CallKind, write_fault, write_reply};

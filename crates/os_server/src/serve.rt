@@ -1,17 +1,17 @@
 //! The requests of a connection, one after another.
 ghost use Rattle.std.specs.Prelude.{◌≡◌, List, [], Some};
-ghost use Rattle.job_table.specs.History.{Entry};
+ghost use Rattle.job_table.specs.History.{MoveEntry};
 ghost use Rattle.os_io.specs.Streams.{SameInput, SameOutput};
 ghost use Rattle.http_link.specs.Carry.{tells_ahead};
 ghost use Rattle.os_server.specs.Talk.{Serves, ServesWhole, both_ends};
 ghost use Rattle.os_server.specs.declared.serve.Served.TheVariants.{ReadFault};
 ghost use Rattle.os_server.specs.Serving.{FollowsReply, ServesOne};
 
-use crate::reply::{Reply, next_reply, send};
+use crate::reply::{HttpReply, answer_next, send_reply};
 use crate::server::Server;
 use http_link::Carried;
 use job_runs::work_one;
-use job_table::{Calls, Verdicts};
+use job_table::{Mover, Verdicts};
 use os_io::{Link, Sink, Source};
 use std::alloc::Global;
 
@@ -35,42 +35,42 @@ pub enum Served {
 const MOST_REQUESTS: u32 = 1_000_000;
 
 /// Does what follows a reply that was written, and says whether the conversation ends.
-fn follow<V: Verdicts, C: Calls<V>, S: Server<V>>(
+fn follow<V: Verdicts, C: Mover<V>, S: Server<V>>(
     alloc: Global,
-    calls: &mut C,
+    mover: &mut C,
     server: &S,
-    reply: &Reply,
+    reply: &HttpReply,
 ) -> Option<Served>
-    ensures { (after : List Entry) × C.did calls.old calls.new after × FollowsReply S.ran S.wakes reply.now after result }
+    ensures { (after : List MoveEntry) × C.did mover.old mover.new after × FollowsReply S.ran S.wakes reply.now after result }
 {
     match reply {
-        Reply::Answer {
+        HttpReply::Answer {
             said: _,
             close,
             as_worker,
         } => {
             let close = *close;
-            work_one(alloc, calls, server, *as_worker);
+            work_one(alloc, mover, server, *as_worker);
             if close { Some(Served::Ended) } else { None }
         }
-        Reply::Refused(_) => Some(Served::Ended),
-        Reply::NoMemory => Some(Served::Memory),
+        HttpReply::Refused(_) => Some(Served::Ended),
+        HttpReply::NoMemory => Some(Served::Memory),
     }
 }
 
 /// Serves one request, and says whether the conversation ends with it. Where a read fails, nothing is left of what was read ahead.
-fn serve_request<L: Link, V: Verdicts, C: Calls<V>, S: Server<V>>(
+fn serve_request<L: Link, V: Verdicts, C: Mover<V>, S: Server<V>>(
     alloc: Global,
     link: &mut Carried<L>,
-    calls: &mut C,
+    mover: &mut C,
     server: &S,
 ) -> Option<Served>
-    ensures serves { ServesOne S.ran S.wakes (C.did calls.old calls.new) result (tells_ahead link.old.carry (L.tells link.old.link)) (tells_ahead link.new.carry (L.tells link.new.link)) }
+    ensures serves { ServesOne S.ran S.wakes (C.did mover.old mover.new) result (tells_ahead link.old.carry (L.tells link.old.link)) (tells_ahead link.new.carry (L.tells link.new.link)) }
     ensures ahead { result ≡ Some ReadFault → link.new.carry ≡ [] }
 {
-    match next_reply(alloc, link, calls, server) {
-        Ok(reply) => match send(link, &reply) {
-            Ok(()) => follow(alloc, calls, server, &reply),
+    match answer_next(alloc, link, mover, server) {
+        Ok(reply) => match send_reply(link, &reply) {
+            Ok(()) => follow(alloc, mover, server, &reply),
             Err(_) => Some(Served::WriteFault),
         },
         Err(served) => Some(served),
@@ -78,20 +78,20 @@ fn serve_request<L: Link, V: Verdicts, C: Calls<V>, S: Server<V>>(
 }
 
 /// Serves one request of an input and an output, and says whether the conversation ends with it.
-fn serve_next<I: Source, O: Sink, V: Verdicts, C: Calls<V>, S: Server<V>>(
+fn serve_request_of_ends<I: Source, O: Sink, V: Verdicts, C: Mover<V>, S: Server<V>>(
     alloc: Global,
     input: &mut I,
     output: &mut O,
-    calls: &mut C,
+    mover: &mut C,
     server: &S,
 ) -> Option<Served>
-    ensures serves { ServesOne S.ran S.wakes (C.did calls.old calls.new) result (both_ends (I.tells input.old) (O.tells output.old)) (both_ends (I.tells input.new) (O.tells output.new)) }
+    ensures serves { ServesOne S.ran S.wakes (C.did mover.old mover.new) result (both_ends (I.tells input.old) (O.tells output.old)) (both_ends (I.tells input.new) (O.tells output.new)) }
     ensures output_of_input { SameOutput (I.tells input.old) (I.tells input.new) }
     ensures input_of_output { SameInput (O.tells output.old) (O.tells output.new) }
 {
-    match next_reply(alloc, input, calls, server) {
-        Ok(reply) => match send(output, &reply) {
-            Ok(()) => follow(alloc, calls, server, &reply),
+    match answer_next(alloc, input, mover, server) {
+        Ok(reply) => match send_reply(output, &reply) {
+            Ok(()) => follow(alloc, mover, server, &reply),
             Err(_) => Some(Served::WriteFault),
         },
         Err(served) => Some(served),
@@ -100,19 +100,19 @@ fn serve_next<I: Source, O: Sink, V: Verdicts, C: Calls<V>, S: Server<V>>(
 
 /// Serves the requests that come on an input, one after another, and writes the answers to an output, until the conversation's end.
 /// Nothing is read past it, and of a head one byte after another, so a costly input wants a buffer of its own.
-pub fn serve_ends<I: Source, O: Sink, V: Verdicts, C: Calls<V>, S: Server<V>>(
+pub fn serve_ends<I: Source, O: Sink, V: Verdicts, C: Mover<V>, S: Server<V>>(
     alloc: Global,
     input: &mut I,
     output: &mut O,
-    calls: &mut C,
+    mover: &mut C,
     server: &S,
 ) -> Served
-    ensures serves { ServesWhole S.ran S.wakes (C.did calls.old calls.new) result (both_ends (I.tells input.old) (O.tells output.old)) (both_ends (I.tells input.new) (O.tells output.new)) }
+    ensures serves { ServesWhole S.ran S.wakes (C.did mover.old mover.new) result (both_ends (I.tells input.old) (O.tells output.old)) (both_ends (I.tells input.new) (O.tells output.new)) }
     ensures output_of_input { SameOutput (I.tells input.old) (I.tells input.new) }
     ensures input_of_output { SameInput (O.tells output.old) (O.tells output.new) }
 {
     for _ in 0..MOST_REQUESTS {
-        match serve_next(alloc, input, output, calls, server) {
+        match serve_request_of_ends(alloc, input, output, mover, server) {
             None => {}
             Some(served) => return served,
         }
@@ -129,7 +129,7 @@ pub fn turn_away<I: Source, O: Sink, V: Verdicts, S: Server<V>>(
     ensures serves { ServesWhole S.ran S.wakes (λ made. made ≡ []) result (both_ends (I.tells _input.now) (O.tells output.old)) (both_ends (I.tells _input.now) (O.tells output.new)) }
     ensures input_of_output { SameInput (O.tells output.old) (O.tells output.new) }
 {
-    match send(output, &Reply::NoMemory) {
+    match send_reply(output, &HttpReply::NoMemory) {
         Ok(()) => Served::Memory,
         Err(_) => Served::WriteFault,
     }
@@ -139,17 +139,17 @@ pub fn turn_away<I: Source, O: Sink, V: Verdicts, S: Server<V>>(
 /// behind each answer that is 200 or 500 a claim is made, and a job that it gives is run. The link is read ahead in large pieces,
 /// and what was read past the conversation's end is given up. Where a read fails, every whole request that had come before it was
 /// answered.
-pub fn serve_one<L: Link, V: Verdicts, C: Calls<V>, S: Server<V>>(
+pub fn serve_one<L: Link, V: Verdicts, C: Mover<V>, S: Server<V>>(
     alloc: Global,
     link: L,
-    calls: &mut C,
+    mover: &mut C,
     server: &S,
 ) -> (Served, L)
-    ensures { Serves S.ran S.wakes (C.did calls.old calls.new) result.0 (L.tells link) (L.tells result.1) }
+    ensures { Serves S.ran S.wakes (C.did mover.old mover.new) result.0 (L.tells link) (L.tells result.1) }
 {
     let mut carried = Carried::new(link);
     for _ in 0..MOST_REQUESTS {
-        match serve_request(alloc, &mut carried, calls, server) {
+        match serve_request(alloc, &mut carried, mover, server) {
             None => {}
             Some(served) => return (served, carried.into_link()),
         }

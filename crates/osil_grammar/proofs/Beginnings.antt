@@ -1,5 +1,5 @@
 -- A start tag is gone past, or refused, in the state that the code holds.
-use Rattle.osil_grammar.proofs.Words.{◌≡◌, ◌∙◌, ◌+◌, ℕ, ℤ, List, [], ◌++◌, length, replicate, refl, ap, ap₂, sym, subst, Option, codes, Result, Ok, Err, Attribute, Start, Finish, Frac, Row, Sense, AllPass, FirstFails, first_with, Stop, Place, Listing, Values, Led, told_refusal, Refusal, nought, SaysCount, SaysTimes, SaysConstant, SaysSense, SaysStep, SaysWholeStep, SaysVar, SaysRow, SaysIndex, State, begins, Told, tests, refusal, leads, Fails, into, SaysRun, Begins, BeginsAt, EndsAt, Steps}
+use Rattle.osil_grammar.proofs.Words.{◌≡◌, ◌∙◌, ◌+◌, ℕ, ℤ, List, [], ◌++◌, length, replicate, refl, ap, ap₂, sym, subst, Option, codes, Result, Ok, Err, Attribute, Start, Finish, Frac, Row, Sense, AllPass, FirstFails, first_with, Stop, Place, Listing, Values, Led, told_refusal, Refusal, nought, SaysCount, SaysTimes, SaysConstant, SaysSense, SaysStep, SaysWholeStep, SaysVar, SaysRow, SaysIndex, State, begins, ToldRefusal, tests, refusal, leads, Fails, into, SaysRun, Begins, BeginsAt, EndsAt, StepsAt}
 use Rattle.instance.specs.declared.parts.Var.{Var as Variable}
 use Rattle.osil_grammar.specs.declared.fault.Refusal as code
 use Rattle.osil_grammar.specs.declared.stop.Refused as kept
@@ -11,7 +11,7 @@ use Rattle.osil_grammar.specs.declared.elements.Led.TheVariants as led
 pub begin_refused : (s z : State) (name : List ℕ) (as' : List Attribute) (p : Place) (r : code.Refusal) (n : ℕ) (stop : Stop) → stop ≡ Refused (record { refusal = r; at = n }) → n ≡ s.count + 1 → FirstFails (Fails s (Start name as')) (refusal s (Start name as')) (tests (begins (led.To p))) (told_refusal r) → BeginsAt {X = Unit {0}} s name as' (led.To p) z (Err stop)
 begin_refused s z name as' p r n stop is at h =
     subst (λ (f : Stop). BeginsAt {X = Unit {0}} s name as' (led.To p) z (Err f)) (sym (is ∙ ap (λ (k : ℕ). let told : kept.Refused = record { refusal = r; at = k } in Refused told) at))
-    (first_with (Fails s (Start name as')) (refusal s (Start name as')) (λ (q : Refusal). let t : Told = record { refusal = q; at = s.count + 1 } in t) (tests (begins (led.To p))) (told_refusal r) h)
+    (first_with (Fails s (Start name as')) (refusal s (Start name as')) (λ (q : Refusal). let t : ToldRefusal = record { refusal = q; at = s.count + 1 } in t) (tests (begins (led.To p))) (told_refusal r) h)
 
 -- all tests pass, and the state is left that the code made of its own, which is that before
 pub begun : (s now : State) → s ≡ now → (name : List ℕ) (as' : List Attribute) (p : Place) (z : State) → AllPass (Fails now (Start name as')) (tests (begins (led.To p))) → Begins s (Start name as') p z → BeginsAt {X = Unit {0}} now name as' (led.To p) z (Ok tt)
@@ -43,13 +43,13 @@ obj_begun s now same name as' g c d n x w old cs z is more none width zero h =
     begun s now same name as' places.Obj z h.0 (g, c, d, n, h.1.0, h.1.1, h.1.2, h.1.3, is ∙ ap (λ (l : List Frac). let y : State = record (into s places.Obj) { obj_at = s.count + 1; times = n; coefs = 0; declared_coefs = d; sense = g; constant = c; costs = l } in y) zeros)
 
 -- a start tag by where it leads
-pub at_begin : {X : Type 0} (s : State) (name : List ℕ) (as' : List Attribute) (l : Led) (z : State) (r : Result X Stop) → leads s.place name ≡ l → BeginsAt s name as' l z r → Steps s (Start name as') z r
+pub at_begin : {X : Type 0} (s : State) (name : List ℕ) (as' : List Attribute) (l : Led) (z : State) (r : Result X Stop) → leads s.place name ≡ l → BeginsAt s name as' l z r → StepsAt s (Start name as') z r
 at_begin {X} s name as' l z (Ok x) there h = subst (λ (k : Led). BeginsAt {X = X} s name as' k z (Ok x)) (sym there) h
 at_begin {X} s name as' l z (Err (Refused q)) there h = subst (λ (k : Led). BeginsAt {X = X} s name as' k z (Err (Refused q))) (sym there) h
 at_begin {X} s name as' l z (Err Memory) there h = tt
 
 -- an end tag by the element that the marks before end in
-pub at_end : {X : Type 0} (s z : State) (name : List ℕ) (r : Result X Stop) → EndsAt s s.place z r → Steps s (Finish name) z r
+pub at_end : {X : Type 0} (s z : State) (name : List ℕ) (r : Result X Stop) → EndsAt s s.place z r → StepsAt s (Finish name) z r
 at_end s z name (Ok x) h = h name
 at_end s z name (Err (Refused q)) h = h name
 at_end s z name (Err Memory) h = tt

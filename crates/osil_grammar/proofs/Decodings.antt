@@ -1,5 +1,5 @@
 -- What is kept of marks, and what a decoder answers of the bytes that it was fed.
-use Rattle.osil_grammar.proofs.Words.{◌≡◌, ℕ, ◌⊎◌, inl, inr, List, [], ◌∷◌, refl, sym, subst, Result, Ok, Err, MatchResult, Mark, AreTaken, Takes, Parts, Stop, OsilFault, State, start, osil, IsInstanceText, DecodeFails, Steps, told_of, instance_of, MakesSoFar, Refuse, tree_fault}
+use Rattle.osil_grammar.proofs.Words.{◌≡◌, ℕ, ◌⊎◌, inl, inr, List, [], ◌∷◌, refl, sym, subst, Result, Ok, Err, MatchResult, Mark, AreTaken, TakesMark, Parts, Stop, OsilFault, State, start, osil, IsInstanceText, DecodeFails, StepsAt, told_of, instance_of, MakesSoFar, Refuse, tree_fault}
 use Rattle.doc_tree.specs.declared.fault.TreeFault.{TreeFault}
 use Rattle.doc_tree.specs.declared.fault.TreeFault.TheVariants as tree
 use Rattle.document_tags.specs.Documents.{OfDocument, TreeFails}
@@ -16,17 +16,17 @@ module _ {X : Type 0} (s : State) (m : Mark) (z w : State) where
   Told r = readers.Steps (AreTaken osil) Refuse s (m ∷ []) w r
 
   -- a step that was kept leaves a state that is fit
-  pub kept_fit : (step : Result X Stop) → MakesSoFar s → Steps s m z step → MatchResult step (λ _. w ≡ z) (λ _. w ≡ start) → MakesSoFar w
+  pub kept_fit : (step : Result X Stop) → MakesSoFar s → StepsAt s m z step → MatchResult step (λ _. w ≡ z) (λ _. w ≡ start) → MakesSoFar w
   kept_fit (Ok x) fit steps is = subst MakesSoFar (sym is) (fit_kept s (m ∷ []) z (z, steps, refl) fit)
   kept_fit (Err stop) fit steps is = subst MakesSoFar (sym is) fit_start
 
   -- and is told
-  step_told : (step : Result X Stop) → Steps s m z step → MatchResult step (λ _. w ≡ z) (λ _. w ≡ start) → Told step
-  step_told (Ok x) steps is = (w, subst (λ (y : State). Takes osil s m y) (sym is) steps, refl)
+  step_told : (step : Result X Stop) → StepsAt s m z step → MatchResult step (λ _. w ≡ z) (λ _. w ≡ start) → Told step
+  step_told (Ok x) steps is = (w, subst (λ (y : State). TakesMark osil s m y) (sym is) steps, refl)
   step_told (Err (stops.Refused r)) steps is = refused_here osil s m [] (told_of r.refusal r.at) steps
   step_told (Err stops.Memory) steps is = tt
 
-  pub kept_told : (step result : Result X Stop) → result ≡ step → Steps s m z step → MatchResult step (λ _. w ≡ z) (λ _. w ≡ start) → Told result
+  pub kept_told : (step result : Result X Stop) → result ≡ step → StepsAt s m z step → MatchResult step (λ _. w ≡ z) (λ _. w ≡ start) → Told result
   kept_told step result is steps held = subst Told (sym is) (step_told step steps held)
 
 -- a document that stands for an instance, and one that is refused

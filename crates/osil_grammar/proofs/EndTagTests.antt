@@ -1,5 +1,5 @@
 -- What was read at an end tag answers the tests of its kind.
-use Rattle.osil_grammar.proofs.Words.{◌≡◌, ◌∙◌, ℕ, ◌<◌, ◌≤◌, inl, inr, ℤ, pos, ◌+ℤ◌, ◌*ℤ◌, List, [], ◌∷◌, ◌++◌, get_or, set, refl, ap, sym, subst, arith, Result, Ok, Err, MatchResult, ints, Finish, IsSame, sum, SumFits, Frac, ratio, ratios, Entry, IsDecimal, IsWholeText, whole_once, Unread, AllPass, FirstFails, first_with, Stop, Place, Listing, told_refusal, Refusal, ratio_at, Grammar, whole, IsOfGrammar, IsWideOf, IsUnread, State, Test, Told, bad_text, great_text, great_cost, great_run, out_of_range, other_count, ends, tests, refusal, end_ordinal, Fails, IsIndexBelow, HasGreatEntry, limit, Ends, AddsRun, IsMatrixOf, out_of, EndAnswers, EndsAt, IsStepRun, HasGreat, unread_refusal}
+use Rattle.osil_grammar.proofs.Words.{◌≡◌, ◌∙◌, ℕ, ◌<◌, ◌≤◌, inl, inr, ℤ, pos, ◌+ℤ◌, ◌*ℤ◌, List, [], ◌∷◌, ◌++◌, get_or, set, refl, ap, sym, subst, arith, Result, Ok, Err, MatchResult, ints, Finish, IsSame, sum, SumFits, Frac, ratio, ratios, Entry, IsDecimal, IsWholeText, whole_once, Unread, AllPass, FirstFails, first_with, Stop, Place, Listing, told_refusal, Refusal, ratio_at, Grammar, whole, IsOfGrammar, IsWideOf, IsUnread, State, Test, ToldRefusal, bad_text, great_text, great_cost, great_run, out_of_range, other_count, ends, tests, refusal, end_ordinal, Fails, IsIndexBelow, HasGreatEntry, limit, Ends, AddsRun, IsMatrixOf, out_of, EndAnswers, EndsAt, IsStepRun, HasGreat, unread_refusal}
 use Rattle.evidence.specs.Sums as evidence
 use Rattle.tag_tests.specs.declared.numbers.Unread.TheVariants as unread
 use Rattle.osil_grammar.specs.declared.fault.Refusal as code
@@ -16,7 +16,7 @@ use Rattle.osil_grammar.proofs.TagNumbers.{wide_of, decimal_read, whole_read, de
 pub end_refused : {X : Type 0} (s : State) (p : Place) (Says : X → Type 0) (r : code.Refusal) (n : ℕ) (stop : Stop) → stop ≡ Refused (record { refusal = r; at = n }) → n ≡ end_ordinal s p → ((name : List ℕ) → FirstFails (Fails s (Finish name)) (refusal s (Finish name)) (tests (ends p)) (told_refusal r)) → EndAnswers s p (Err stop) Says
 end_refused {X} s p Says r n stop is at h =
     subst (λ (f : Stop). EndAnswers s p (Err f) Says) (sym (is ∙ ap (λ (k : ℕ). let told : kept.Refused = record { refusal = r; at = k } in Refused told) at))
-    (λ name. first_with (Fails s (Finish name)) (refusal s (Finish name)) (λ (q : Refusal). let t : Told = record { refusal = q; at = end_ordinal s p } in t) (tests (ends p)) (told_refusal r) (h name))
+    (λ name. first_with (Fails s (Finish name)) (refusal s (Finish name)) (λ (q : Refusal). let t : ToldRefusal = record { refusal = q; at = end_ordinal s p } in t) (tests (ends p)) (told_refusal r) (h name))
 
 -- the text of a `coef` or an `el` isn't a number that is read
 pub text_refused : (s : State) (name : List ℕ) (g : Grammar) (u : Unread) (more : List Test) (r : Refusal) → IsUnread u g s.text → r ≡ unread_refusal u → FirstFails (Fails s (Finish name)) (refusal s (Finish name)) (bad_text g ∷ great_text g ∷ more) r

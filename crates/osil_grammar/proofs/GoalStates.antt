@@ -1,5 +1,5 @@
 -- A mark that is taken leaves the goals as those of an instance as far as it goes.
-use Rattle.osil_grammar.proofs.Words.{◌≡◌, ◌∙◌, ◌+◌, ◌-◌, ◌<◌, ◌≤◌, ℕ, inl, inr, Bool, true, false, cond, List, [], ◌∷◌, ◌++◌, length, replicate, refl, sym, subst, arith, lit<, bytes_eq, All, All-nil, All-append, All-replicate, length-replicate, length-set, Attribute, Mark, Start, Char, Finish, Goal, nought, AllPass, Takes, Child, Place, Led, State, start, among, content, otherwise, leads, part_row, begins, tests, Fails, most, around, Begins, Ends, Leaves, goal_so_far, heard, keeps_text, osil, AreGoals, AreGoalsLate, IsInPart, AreCostsAt, HasGoals, HasGoalsIn}
+use Rattle.osil_grammar.proofs.Words.{◌≡◌, ◌∙◌, ◌+◌, ◌-◌, ◌<◌, ◌≤◌, ℕ, inl, inr, Bool, true, false, cond, List, [], ◌∷◌, ◌++◌, length, replicate, refl, sym, subst, arith, lit<, bytes_eq, All, All-nil, All-append, All-replicate, length-replicate, length-set, Attribute, Mark, Start, Char, Finish, Goal, nought, AllPass, TakesMark, Child, Place, Led, State, start, among, content, otherwise, leads, part_row, begins, tests, Fails, most, around, Begins, Ends, Leaves, goal_so_far, heard, keeps_text, osil, AreGoals, AreGoalsLate, IsInPart, AreCostsAt, HasGoals, HasGoalsIn}
 use Rattle.osil_grammar.specs.declared.elements.Part.TheVariants as parts
 use Rattle.osil_grammar.specs.declared.elements.Listing.TheVariants as listings
 use Rattle.osil_grammar.specs.declared.elements.Place.TheVariants as places
@@ -126,7 +126,7 @@ end_goals s p z at h is = subst HasGoals (sym is) (h.0, h.1, out_part p s.part h
 pub goals_start : HasGoals start
 goals_start = (record { few = omega arith; one_each = All-nil (λ (g : Goal). length g.costs ≡ 0) }, (λ low. refl), no_part 0, refl)
 
-pub goals_kept : (s z : State) (m : Mark) → HasGoals s → Takes osil s m z → HasGoals z
+pub goals_kept : (s z : State) (m : Mark) → HasGoals s → TakesMark osil s m z → HasGoals z
 goals_kept s z (Start name as') h takes = start_goals s name as' h (leads s.place name) z (leads_in s.place name) takes
 goals_kept s z (Char c) h takes = subst HasGoals (sym takes.1) (text_goals s.place s (heard (keeps_text s.place) s.text c) h)
 goals_kept s z (Finish name) h takes = end_goals s s.place z refl h takes.1

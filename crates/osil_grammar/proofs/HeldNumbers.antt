@@ -1,5 +1,5 @@
 -- The lists of the matrix and its entries are never held at once.
-use Rattle.osil_grammar.proofs.Words.{◌≡◌, ℕ, ◌*◌, ◌≤◌, inl, inr, Bool, true, false, List, [], ◌∷◌, length, refl, ap, sym, subst, arith, lit<, All, All-head, All-tail, Frac, Entry, Goal, Mark, Start, Char, Finish, AllPass, Takes, AreTaken, Place, Led, around, State, start, begins, tests, leads, Fails, Begins, Ends, Leaves, osil, IsSoundSoFar, AreGoals, HasGoalsIn, is_in_matrix, AreHeldApart, HoldsApart, MakesSoFar, goals_held, held}
+use Rattle.osil_grammar.proofs.Words.{◌≡◌, ℕ, ◌*◌, ◌≤◌, inl, inr, Bool, true, false, List, [], ◌∷◌, length, refl, ap, sym, subst, arith, lit<, All, All-head, All-tail, Frac, Entry, Goal, Mark, Start, Char, Finish, AllPass, TakesMark, AreTaken, Place, Led, around, State, start, begins, tests, leads, Fails, Begins, Ends, Leaves, osil, IsSoundSoFar, AreGoals, HasGoalsIn, is_in_matrix, AreHeldApart, HoldsApart, MakesSoFar, goals_held, held}
 use Rattle.osil_grammar.specs.declared.elements.Part.TheVariants as parts
 use Rattle.osil_grammar.specs.declared.elements.Listing.TheVariants as listings
 use Rattle.osil_grammar.specs.declared.elements.Place.TheVariants as places
@@ -80,7 +80,7 @@ module _ (s : State) (m : Mark) (apart : HoldsApart s) where
   led_apart (led.To p) z side pass h = begun_apart p z side pass h
   led_apart l z side pass h = absurd h
 
-apart_kept : (s z : State) (m : Mark) → HoldsApart s → Takes osil s m z → HoldsApart z
+apart_kept : (s z : State) (m : Mark) → HoldsApart s → TakesMark osil s m z → HoldsApart z
 apart_kept s z (Start name as') apart takes = led_apart s (Start name as') apart (leads s.place name) z (on_side s.place (leads s.place name) (leads_in s.place name)) takes.0 takes.1
 apart_kept s z (Char c) apart takes = subst HoldsApart (sym takes.1) apart
 apart_kept s z (Finish name) apart takes = ended_apart s (Finish name) apart s.place z refl apart takes.1

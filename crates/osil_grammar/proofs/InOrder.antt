@@ -1,5 +1,5 @@
 -- The tests of each kind stand in the order of their refusals.
-use Rattle.osil_grammar.proofs.Words.{◌≡◌, true, map, refl, Mark, order_tested, Values, number, State, Kind, begins, ends, Test, Told, tests, refusal, kind, osil}
+use Rattle.osil_grammar.proofs.Words.{◌≡◌, true, map, refl, Mark, order_tested, Values, number, State, Kind, begins, ends, Test, ToldRefusal, tests, refusal, kind, osil}
 use Rattle.tag_tests.specs.Firsts.{IsOrdered}
 use Rattle.tag_tests.proofs.Tests.{stand_in_order}
 use Rattle.osil_grammar.specs.declared.elements.Part.TheVariants.{Coefficients}
@@ -14,5 +14,5 @@ kind_in_order s m (ends (Part Coefficients)) = refl
 kind_in_order s m (ends (El Values)) = refl
 kind_in_order s m k = refl
 
-pub in_order : IsOrdered osil (λ (r : Told). number r.refusal)
+pub in_order : IsOrdered osil (λ (r : ToldRefusal). number r.refusal)
 in_order s m = order_tested (λ (t : Test). number (refusal s m t)) (tests (kind s m)) (kind_in_order s m (kind s m))

@@ -1,5 +1,5 @@
 -- A document stands for one instance or is refused in one way, and so do its bytes.
-use Rattle.osil_grammar.proofs.Words.{◌≡◌, ◌∙◌, ℕ, List, ap, sym, subst, Element, Parts, Refusal, start, Told, osil, marks, instance_of, StandsFor, IsAccepted, IsRefused, IsInstanceText, IsRefusedText}
+use Rattle.osil_grammar.proofs.Words.{◌≡◌, ◌∙◌, ℕ, List, ap, sym, subst, Element, Parts, Refusal, start, ToldRefusal, osil, marks, instance_of, StandsFor, IsAccepted, IsRefused, IsInstanceText, IsRefusedText}
 use Rattle.doc_tree.proofs.OneTree.{one_tree}
 use Rattle.tag_tests.proofs.Forms.{taken_once, refused_once, not_both}
 use Rattle.osil_grammar.proofs.OneState.{leaves_one}
@@ -10,7 +10,7 @@ root_not_both root r n a b = not_both osil leaves_one start (marks root) a.0 (re
 pub root_refused_once : (root : Element) (r q : Refusal) (n m : ℕ) → IsRefused root r n → IsRefused root q m → (r ≡ q) × (n ≡ m)
 root_refused_once root r q n m a b =
     let same = refused_once osil leaves_one start (marks root) (record { refusal = r; at = n }) (record { refusal = q; at = m }) a b in
-    (ap (λ (t : Told). t.refusal) same, ap (λ (t : Told). t.at) same)
+    (ap (λ (t : ToldRefusal). t.refusal) same, ap (λ (t : ToldRefusal). t.at) same)
 
 pub root_means_once : (root : Element) (p q : Parts) → StandsFor root p → StandsFor root q → p ≡ q
 root_means_once root p q a b = a.2 ∙ ap instance_of (taken_once osil leaves_one start (marks root) a.0 b.0 a.1 b.1) ∙ sym b.2

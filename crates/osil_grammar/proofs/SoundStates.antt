@@ -1,5 +1,5 @@
 -- A mark that is taken in a sound state leaves a sound state.
-use Rattle.osil_grammar.proofs.Words.{◌≡◌, ◌∙◌, ◌+◌, ◌-◌, ◌<◌, ◌≤◌, ℕ, inl, inr, ℤ, pos, negsuc, Bool, true, false, cond, List, [], ◌++◌, map, length, replicate, refl, ap, sym, subst, arith, length-append, Option, None, Some, MatchOption, IsSomeAnd, unsigned_abs, ◌+ℤ◌, ◌*ℤ◌, codes, All, cases_lt, cases_eq, ints, length-replicate, length-map, All-nil, All-append, All-replicate, All-weaker, All-map, Attribute, Mark, Start, Char, Finish, Frac, ratio, ratios, End, NegInf, At, Inf, Entry, IsCount, IsWholeText, Row, AreEnds, IsVar, IsInside, value_of, AllPass, Takes, Listing, Place, Led, IsLess, IsTimes, SaysTimes, State, start, begins, ends, tests, leads, Fails, AreTooMany, IsDivided, IsIndexBelow, IsOutOfRange, lines, list_length, most, Begins, Ends, Leaves, AddsWholes, IsMatrixOf, heard, keeps_text, osil, AreItems, AreWithin, IsSoundSoFar, IsSoundAt, IsSoundIn, IsSound}
+use Rattle.osil_grammar.proofs.Words.{◌≡◌, ◌∙◌, ◌+◌, ◌-◌, ◌<◌, ◌≤◌, ℕ, inl, inr, ℤ, pos, negsuc, Bool, true, false, cond, List, [], ◌++◌, map, length, replicate, refl, ap, sym, subst, arith, length-append, Option, None, Some, MatchOption, IsSomeAnd, unsigned_abs, ◌+ℤ◌, ◌*ℤ◌, codes, All, cases_lt, cases_eq, ints, length-replicate, length-map, All-nil, All-append, All-replicate, All-weaker, All-map, Attribute, Mark, Start, Char, Finish, Frac, ratio, ratios, End, NegInf, At, Inf, Entry, IsCount, IsWholeText, Row, AreEnds, IsVar, IsInside, value_of, AllPass, TakesMark, Listing, Place, Led, IsLess, IsTimes, SaysTimes, State, start, begins, ends, tests, leads, Fails, AreTooMany, IsDivided, IsIndexBelow, IsOutOfRange, lines, list_length, most, Begins, Ends, Leaves, AddsWholes, IsMatrixOf, heard, keeps_text, osil, AreItems, AreWithin, IsSoundSoFar, IsSoundAt, IsSoundIn, IsSound}
 use Rattle.instance.specs.declared.parts.Var.{Var as Variable}
 use Rattle.osil_grammar.specs.declared.elements.Part.TheVariants as parts
 use Rattle.osil_grammar.specs.declared.elements.Listing.TheVariants as listings
@@ -178,7 +178,7 @@ sound_start = (
   tt,
 )
 
-pub sound_kept : (s z : State) (m : Mark) → IsSound s → Takes osil s m z → IsSound z
+pub sound_kept : (s z : State) (m : Mark) → IsSound s → TakesMark osil s m z → IsSound z
 sound_kept s z (Start name as') k h = start_sound (leads s.place name) s name as' z k h
 sound_kept s z (Char c) k h = subst IsSound (sym h.1) (k.0, text_sound s.place s (heard (keeps_text s.place) s.text c) k.1)
 sound_kept s z (Finish name) k h = end_sound s name s.place z refl k h.0 h.1

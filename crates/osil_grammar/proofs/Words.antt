@@ -54,9 +54,9 @@ pub use Rattle.osil_grammar.specs.Runs.{AreSame, ratio_at, ratio_run, whole_run}
 pub use Rattle.osil_grammar.specs.Saying.{IsEndText, IsLetterOf, IsOfDomain, SaysConstant, SaysDomain, SaysHigh, SaysIndex, SaysLow, SaysRow, SaysRowLow, SaysSense, SaysStep, SaysTimes, SaysWholeStep, letter_names, letters, senses}
 pub use Rattle.osil_grammar.specs.Sound.{AreCostsAt, AreGoals, AreGoalsLate, AreItems, AreWithin, HasGoals, HasGoalsIn, IsGoalOpen, IsInPart, IsSound, IsSoundAt, IsSoundIn, IsSoundSoFar, part_in}
 pub use Rattle.osil_grammar.specs.Standing.{State, start}
-pub use Rattle.osil_grammar.specs.Stepping.{BeginsAt, EndAnswers, EndsAt, IsNear, IsStepRun, IsTooFar, Steps, Stop, told_of, unread_refusal}
+pub use Rattle.osil_grammar.specs.Stepping.{BeginsAt, EndAnswers, EndsAt, IsNear, IsStepRun, IsTooFar, StepsAt, Stop, told_of, unread_refusal}
 pub use Rattle.osil_grammar.specs.Storing.{AreJoined, AreStored, AreSumsAt, line_entries, lists_of, matrix_lists, wholes}
-pub use Rattle.osil_grammar.specs.Table.{Kind, Test, Told, around, attributes, bad, bad_text, begins, content, count_name, end_ordinal, ends, fields, great_cost, great_end, great_run, great_text, has, high_infinite, kind, leads, list_row, low_infinite, mark_name, no_index, no_sense, no_type, no_variable, numbers, other_count, otherwise, out_of_range, part_row, refusal, tests, text, too_great, too_many}
+pub use Rattle.osil_grammar.specs.Table.{Kind, Test, ToldRefusal, around, attributes, bad, bad_text, begins, content, count_name, end_ordinal, ends, fields, great_cost, great_end, great_run, great_text, has, high_infinite, kind, leads, list_row, low_infinite, mark_name, no_index, no_sense, no_type, no_variable, numbers, other_count, otherwise, out_of_range, part_row, refusal, tests, text, too_great, too_many}
 pub use Rattle.osil_grammar.specs.Telling.{EndAttributes, EndsHaveTexts, LacksDecimal}
 pub use Rattle.osil_grammar.specs.VarTags.{IsVar, SaysVar, WritesVar, type_text, var_attributes, var_fields}
 pub use Rattle.osil_grammar.specs.Writing.{CountsCosts, EndHasText, GoalHasDecimals, HasDecimal, HasDecimals, IsWrittenText, WriteCosts, WriteGoals, WriteLists, WriteRows, WriteValues, WriteVars, WritesGoal, WritesInstance, counts_nodes, entries_below, holding, row_starts, sense_text}
@@ -74,7 +74,7 @@ pub use Rattle.tag_tests.proofs.Fields.{both_read, fields_bad, fields_pass, fiel
 pub use Rattle.tag_tests.proofs.Tests.{first_behind, first_front, first_with, order_tested, pass_both}
 pub use Rattle.tag_tests.specs.Characters.{heard}
 pub use Rattle.tag_tests.specs.Places.{Child, among}
-pub use Rattle.tag_tests.specs.Forms.{AreRefused, AreTaken, LeavesOne, Takes}
+pub use Rattle.tag_tests.specs.Forms.{AreRefused, AreTaken, LeavesOne, TakesMark}
 pub use Rattle.tag_tests.specs.Tests.{AllPass, FirstFails, InOrder}
 pub use Rattle.tag_tests.specs.declared.numbers.Unread.{Unread}
 pub use Rattle.tree_grammar.specs.Characters.{Each, IsXmlText}

@@ -1,5 +1,5 @@
 -- What an instance's variables, rows and goal are written as is read as these, mark by mark.
-use Rattle.osil_grammar.proofs.Words.{◌≡◌, ◌∙◌, ℕ, zero, suc, ◌+◌, ◌/◌, ◌<◌, ◌≤◌, inl, inr, true, ℤ, pos, ◌+ℤ◌, List, [], ◌∷◌, ◌++◌, map, length, get_or, set, refl, ap, sym, subst, arith, Some, None, unsigned_abs, codes, All, div-one, ints, append-nil, append_assoc, length-append, All-head, All-tail, Attribute, Event, Nodes, nodes_events, local_nodes, with_attribute, Mark, Start, Char, Finish, spread, Ratio, IsSame, sum, negative, left_term, right_term, AreFourWithin, SumFits, whole-reduced, sum-none, none-sum, ratio, ratios, Frac, End, NegInf, At, Inf, same_fraction, IsDecimal, SaysEnd, count_once, count_fits, only_inf, only_neg_inf, Var, Row, Sense, Min, Max, AreEnds, IsVar, Parts, Takes, AreTaken, Place, IsLess, IsSense, nought, SaysRow, State, into, keeps_text, IsNear, osil, instance_of, HasDecimal, EndHasText, WritesVar, WriteVars, WriteRows, WriteCosts, CountsCosts, var_attributes, sense_text}
+use Rattle.osil_grammar.proofs.Words.{◌≡◌, ◌∙◌, ℕ, zero, suc, ◌+◌, ◌/◌, ◌<◌, ◌≤◌, inl, inr, true, ℤ, pos, ◌+ℤ◌, List, [], ◌∷◌, ◌++◌, map, length, get_or, set, refl, ap, sym, subst, arith, Some, None, unsigned_abs, codes, All, div-one, ints, append-nil, append_assoc, length-append, All-head, All-tail, Attribute, Event, Nodes, nodes_events, local_nodes, with_attribute, Mark, Start, Char, Finish, spread, Ratio, IsSame, sum, negative, left_term, right_term, AreFourWithin, SumFits, whole-reduced, sum-none, none-sum, ratio, ratios, Frac, End, NegInf, At, Inf, same_fraction, IsDecimal, SaysEnd, count_once, count_fits, only_inf, only_neg_inf, Var, Row, Sense, Min, Max, AreEnds, IsVar, Parts, TakesMark, AreTaken, Place, IsLess, IsSense, nought, SaysRow, State, into, keeps_text, IsNear, osil, instance_of, HasDecimal, EndHasText, WritesVar, WriteVars, WriteRows, WriteCosts, CountsCosts, var_attributes, sense_text}
 use Rattle.std.specs.Fmt.{decimal as digits}
 use Rattle.rational.specs.Width.{most}
 use Rattle.rational.proofs.CommonDivisors.{one_divides}
@@ -21,7 +21,7 @@ use Rattle.osil_grammar.proofs.Zeros.{same_zero}
 abbrev pub Reads : State → List Mark → Parts → Type 0
 Reads s ms p = (z : State) × AreTaken osil s ms z × (p ≡ instance_of z)
 
-pub read_one : (s m : State) (t : Mark) (ms : List Mark) (p : Parts) → Takes osil s t m → Reads m ms p → Reads s (t ∷ ms) p
+pub read_one : (s m : State) (t : Mark) (ms : List Mark) (p : Parts) → TakesMark osil s t m → Reads m ms p → Reads s (t ∷ ms) p
 read_one s m t ms p takes (z, taken, is) = (z, (m, takes, taken), is)
 
 -- characters that are kept
@@ -38,7 +38,7 @@ abbrev one_var : State → ℕ → List Var → Var → State
 one_var s n before v = record (into (in_vars s n before) places.Var) { vars = before ++ v ∷ [] }
 
 module _ (s : State) (n : ℕ) (before : List Var) (v : Var) (more nodes : Nodes) (is : WritesVar v more nodes) (has : EndHasText v.lb × EndHasText v.ub) (ends : IsVar v) (few : length before + 1 ≤ 1000) where
-  var_taken : Takes osil (in_vars s n before) (Start (codes "var") (var_attributes v is.lb is.ub)) (one_var s n before v)
+  var_taken : TakesMark osil (in_vars s n before) (Start (codes "var") (var_attributes v is.lb is.ub)) (one_var s n before v)
   var_taken = let back = var_comes_back (in_vars s n before) v more nodes is has ends few in (back.0, (v, 1, back.1, refl, refl))
 
   pub read_var : (ms : List Mark) (p : Parts) → Reads (in_vars s (n + 1) (before ++ v ∷ [])) ms p → Reads (in_vars s n before) (Start (codes "var") (var_attributes v is.lb is.ub) ∷ Finish (codes "var") ∷ ms) p
@@ -98,7 +98,7 @@ abbrev one_row : State → ℕ → List Row → Row → State
 one_row s n before r = record (into (in_rows s n before) places.Con) { rows = before ++ r ∷ [] }
 
 module _ (s : State) (n : ℕ) (before : List Row) (r : Row) (lb ub : List ℕ) (low : SaysEnd lb r.lb) (high : SaysEnd ub r.ub) (ends : AreEnds r.lb r.ub) (few : length before + 1 ≤ 1000) where
-  row_taken : Takes osil (in_rows s n before) (Start (codes "con") (row_attributes lb ub)) (one_row s n before r)
+  row_taken : TakesMark osil (in_rows s n before) (Start (codes "con") (row_attributes lb ub)) (one_row s n before r)
   row_taken =
       let l = bound_read lb r.lb low in
       let h = bound_read ub r.ub high in
@@ -154,14 +154,14 @@ module _ (s : State) (n m i j : ℕ) (old text : List ℕ) (done more : List Fra
   abbrev begun : List ℕ → State
   begun t = record (into (in_obj s n m i old (done ++ nought ∷ more)) places.Coef) { coefs = m + 1; variable = j; text = t }
 
-  coef_taken : Takes osil (in_obj s n m i old (done ++ nought ∷ more)) (Start (codes "coef") (coef_attributes j)) (begun [])
+  coef_taken : TakesMark osil (in_obj s n m i old (done ++ nought ∷ more)) (Start (codes "coef") (coef_attributes j)) (begun [])
   coef_taken =
       let is = count_read j small in (
         (λ none. let clash : Some (digits j) ≡ None = none in absurd (cc), (λ h. h, (λ h. h, (λ b. b (j, is.0), (λ w. count_fits (digits j) j is w, (λ h. let same = count_once (digits j) h.0 j h.1 is in let out = h.2 in omega (arith, same, out, less), tt)))))),
         (j, is, refl),
       )
 
-  cost_taken : Takes osil (begun text) (Finish (codes "coef")) (in_obj s (n + 1) (m + 1) j text (done ++ c ∷ more))
+  cost_taken : TakesMark osil (begun text) (Finish (codes "coef")) (in_obj s (n + 1) (m + 1) j text (done ++ c ∷ more))
   cost_taken =
       let at = cost_at done more j size in
       cost_added (begun text) c c (done ++ c ∷ more) reads (sym (cost_set done more nought c j size))

@@ -1,5 +1,5 @@
 -- What an instance's matrix is written as is read as its entries, mark by mark.
-use Rattle.osil_grammar.proofs.Words.{◌≡◌, ◌∙◌, ℕ, zero, suc, ◌+◌, ◌<◌, ◌≤◌, inr, inl, Bool, true, false, cond, ℤ, pos, ◌+ℤ◌, ◌*ℤ◌, List, [], ◌∷◌, ◌++◌, map, matrix_lists, length, drop, get_or, refl, ap, sym, subst, arith, Some, Contains, codes, All, ints, append-nil, append_assoc, map_push, length-append, length-map, matrix_lists, All-head, All-tail, All-map, All-weaker, All-contains, Event, Open, Close, Nodes, nodes_events, local_nodes, Mark, Start, Char, Finish, spread, Ratio, IsSame, sum, SumFits, ratio, ratios, Frac, Entry, IsWholeText, IsDecimal, whole_once, Parts, IsBefore, IsAscending, IsInside, entry, entries, Takes, Listing, IsDivision, stored, placed_all, place_sum, HasWidePlace, AreEntriesOf, nought, State, IsIndexBelow, IsOutOfRange, osil, HasDecimal, WriteLists, WriteValues, counts_nodes, entries_below, row_starts}
+use Rattle.osil_grammar.proofs.Words.{◌≡◌, ◌∙◌, ℕ, zero, suc, ◌+◌, ◌<◌, ◌≤◌, inr, inl, Bool, true, false, cond, ℤ, pos, ◌+ℤ◌, ◌*ℤ◌, List, [], ◌∷◌, ◌++◌, map, matrix_lists, length, drop, get_or, refl, ap, sym, subst, arith, Some, Contains, codes, All, ints, append-nil, append_assoc, map_push, length-append, length-map, matrix_lists, All-head, All-tail, All-map, All-weaker, All-contains, Event, Open, Close, Nodes, nodes_events, local_nodes, Mark, Start, Char, Finish, spread, Ratio, IsSame, sum, SumFits, ratio, ratios, Frac, Entry, IsWholeText, IsDecimal, whole_once, Parts, IsBefore, IsAscending, IsInside, entry, entries, TakesMark, Listing, IsDivision, stored, placed_all, place_sum, HasWidePlace, AreEntriesOf, nought, State, IsIndexBelow, IsOutOfRange, osil, HasDecimal, WriteLists, WriteValues, counts_nodes, entries_below, row_starts}
 use Rattle.std.specs.Fmt.{decimal as digits}
 use Rattle.evidence.specs.Sums as evidence
 use Rattle.evidence.specs.Instance as Of
@@ -46,11 +46,11 @@ only_one text m bound less small is o =
     let here : pos m +ℤ pos o.k *ℤ pos 0 ≡ pos m = omega (arith, ints, inside) in
     o.out (subst (λ (z : ℤ). IsIndexBelow (z +ℤ pos o.k *ℤ pos 0) bound) first (subst (λ (z : ℤ). IsIndexBelow z bound) (sym here) (omega (arith, ints), omega (arith, ints, less))))
 
-el_begins : (b : Bool) (s : State) (n t : ℕ) (w : ℤ) (text ns : List ℕ) → length ns + 1 ≤ most_of b → Takes osil (in_list b s n t w text ns) (Start (codes "el") []) (in_el b s (n + 1) [] ns)
+el_begins : (b : Bool) (s : State) (n t : ℕ) (w : ℤ) (text ns : List ℕ) → length ns + 1 ≤ most_of b → TakesMark osil (in_list b s n t w text ns) (Start (codes "el") []) (in_el b s (n + 1) [] ns)
 el_begins true s n t w text ns few = ((λ x. x, (λ x. x, (λ x. x, (λ x. x, (λ m. let one = m.1 in let many = m.2 in omega (arith, one, many, few), tt))))), (1, pos 0, refl, refl, refl))
 el_begins false s n t w text ns few = ((λ x. x, (λ x. x, (λ x. x, (λ x. x, (λ m. let one = m.1 in let many = m.2 in omega (arith, one, many, few), tt))))), (1, pos 0, refl, refl, refl))
 
-el_ends : (b : Bool) (s : State) (n m : ℕ) (ns : List ℕ) → m < below_of b s → m ≤ 100000 → Takes osil (in_el b s n (digits m) ns) (Finish (codes "el")) (in_list b s n 1 (pos 0) (digits m) (ns ++ m ∷ []))
+el_ends : (b : Bool) (s : State) (n m : ℕ) (ns : List ℕ) → m < below_of b s → m ≤ 100000 → TakesMark osil (in_el b s n (digits m) ns) (Finish (codes "el")) (in_list b s n 1 (pos 0) (digits m) (ns ++ m ∷ []))
 el_ends true s n m ns less small =
     let reads = whole_read m small in
     let fine = numbers.whole_read (digits m) (pos m) reads in
@@ -218,7 +218,7 @@ module _ (s : State) (es : List Entry) (fine : AreFine (length s.vars) (length s
     sums = λ i j. subst (λ (l : List Of.Entry). IsSame (Of.entry_at (entries es) i j) (place_sum evidence.none l i j)) (sym (stored_are (length s.rows) es up rows_inside)) (sums_are es i j up);
   }
 
-  full_ends : (n t : ℕ) (w : ℤ) (d : Frac) (text : List ℕ) → Takes osil (full n t w d text) last_mark (behind_matrix s n 3 t false w d text es)
+  full_ends : (n t : ℕ) (w : ℤ) (d : Frac) (text : List ℕ) → TakesMark osil (full n t w d text) last_mark (behind_matrix s n 3 t false w d text es)
   full_ends n t w d text =
       let long = length-map es (λ (e : Entry). e.value) in
       let wide = length-map es (λ (e : Entry). e.col) in (

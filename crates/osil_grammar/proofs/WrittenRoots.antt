@@ -1,5 +1,5 @@
 -- The root that an instance is written as is read as the instance, mark by mark.
-use Rattle.osil_grammar.proofs.Words.{◌≡◌, ℕ, ◌+◌, ◌≤◌, inr, true, List, [], ◌∷◌, ◌++◌, length, replicate, refl, ap, sym, subst, arith, append-nil, append_assoc, length-append, Option, Some, codes, All, All-head, All-tail, Attribute, Event, Open, Close, Nodes, nodes_events, Element, local_nodes, local_element, with_attribute, Mark, Start, Finish, spread, Frac, Var, Row, Goal, Sense, AreEnds, IsVar, Parts, IsValid, Takes, nought, IsDeclared, State, start, goals_said, osil, StandsFor, GoalHasDecimals, HasDecimals, EndHasText, WriteVars, WriteRows, WriteGoals, WritesGoal, WriteLists, WritesInstance, sense_text}
+use Rattle.osil_grammar.proofs.Words.{◌≡◌, ℕ, ◌+◌, ◌≤◌, inr, true, List, [], ◌∷◌, ◌++◌, length, replicate, refl, ap, sym, subst, arith, append-nil, append_assoc, length-append, Option, Some, codes, All, All-head, All-tail, Attribute, Event, Open, Close, Nodes, nodes_events, Element, local_nodes, local_element, with_attribute, Mark, Start, Finish, spread, Frac, Var, Row, Goal, Sense, AreEnds, IsVar, Parts, IsValid, TakesMark, nought, IsDeclared, State, start, goals_said, osil, StandsFor, GoalHasDecimals, HasDecimals, EndHasText, WriteVars, WriteRows, WriteGoals, WritesGoal, WriteLists, WritesInstance, sense_text}
 use Rattle.std.specs.Fmt.{decimal as digits}
 use Rattle.osil_grammar.specs.declared.elements.Place.TheVariants as places
 use Rattle.osil_grammar.specs.declared.elements.Part.TheVariants as parts
@@ -86,7 +86,7 @@ module _ (s : State) (k : List Event) (p : Parts) (g : Goal) (more nodes : Nodes
   abbrev begun : List Frac → State
   begun costs = in_obj opened (n + 1) 0 l.variable l.text costs
 
-  goal_taken : Takes osil (in_goals s n l before) (Start (codes "obj") (obj_attributes g is.constant is.count)) (begun (replicate (length s.vars) nought))
+  goal_taken : TakesMark osil (in_goals s n l before) (Start (codes "obj") (obj_attributes g is.constant is.count)) (begun (replicate (length s.vars) nought))
   goal_taken =
       let reads = plain_decimal g.constant is.constant is.is_constant has.0 in
       let fine = numbers.decimal_read is.constant g.constant reads in

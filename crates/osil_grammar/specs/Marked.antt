@@ -10,11 +10,11 @@ use Rattle.instance.specs.Parts.{Parts}
 use Rattle.osil_grammar.specs.Refusals.{Refusal}
 use Rattle.osil_grammar.specs.Grammars.{nought}
 use Rattle.osil_grammar.specs.Standing.{State, start}
-use Rattle.osil_grammar.specs.Table.{Test, Told, kind, tests, told}
+use Rattle.osil_grammar.specs.Table.{Test, ToldRefusal, kind, tests, told}
 use Rattle.osil_grammar.specs.Failing.{Fails}
 use Rattle.osil_grammar.specs.Leaving.{Leaves}
 
-abbrev pub osil : Form State Mark Test Told
+abbrev pub osil : Form State Mark Test ToldRefusal
 osil = record { tests = λ s m. tests (kind s m); Fails = Fails; told = told; Becomes = λ s m z. Leaves s m (kind s m) z }
 
 -- the goals, in order; without an `obj` the one goal is to minimise 0
@@ -31,7 +31,7 @@ abbrev pub StandsFor : Element → Parts → Type 0
 StandsFor root p = (z : State) × AreTaken osil start (marks root) z × (p ≡ instance_of z)
 
 -- the first that isn't taken refuses so
-abbrev pub IsRefusedSo : Element → Told → Type 0
+abbrev pub IsRefusedSo : Element → ToldRefusal → Type 0
 IsRefusedSo root r = AreRefused osil start (marks root) r
 
 -- nothing is refused; or the first that isn't taken is refused at the element with this ordinal

@@ -16,7 +16,7 @@ use Rattle.tag_tests.specs.declared.numbers.Unread.TheVariants as unread
 use Rattle.tag_tests.specs.declared.marks.Stop as marks
 use Rattle.tag_tests.specs.declared.marks.Stop.TheVariants.{Refused, Memory}
 use Rattle.tag_tests.specs.Tests.{AllPass, FirstFails}
-use Rattle.tag_tests.specs.Forms.{Takes, Refuses}
+use Rattle.tag_tests.specs.Forms.{TakesMark, Refuses}
 use Rattle.osil_grammar.specs.declared.fault.Refusal as code
 use Rattle.osil_grammar.specs.declared.stop.Refused as stop
 use Rattle.osil_grammar.specs.declared.elements.Led.{Led}
@@ -26,7 +26,7 @@ use Rattle.osil_grammar.specs.Refusals.{Refusal}
 use Rattle.osil_grammar.specs.Reading.{told_refusal}
 use Rattle.osil_grammar.specs.Runs.{ratio_run, ratio_at, AreSame}
 use Rattle.osil_grammar.specs.Standing.{State}
-use Rattle.osil_grammar.specs.Table.{begins, ends, Test, Told, tests, refusal, begin_ordinal, end_ordinal}
+use Rattle.osil_grammar.specs.Table.{begins, ends, Test, ToldRefusal, tests, refusal, begin_ordinal, end_ordinal}
 use Rattle.osil_grammar.specs.Failing.{Fails}
 use Rattle.osil_grammar.specs.Leaving.{Ends, Leaves}
 use Rattle.osil_grammar.specs.Marked.{osil}
@@ -79,7 +79,7 @@ abbrev pub Anything : State → Type 0
 Anything s = Unit {0}
 
 -- a refusal of an element, as it is told
-abbrev pub told_of : code.Refusal → ℕ → Told
+abbrev pub told_of : code.Refusal → ℕ → ToldRefusal
 told_of r n = record { refusal = told_refusal r; at = n }
 
 -- why a mark isn't taken
@@ -87,26 +87,26 @@ abbrev pub Stop : Type 0
 Stop = marks.Stop stop.Refused
 
 -- it is that refusal, or there was no memory
-abbrev pub IsToldAs : Stop → Told → Type 0
+abbrev pub IsToldAs : Stop → ToldRefusal → Type 0
 IsToldAs (Refused r) t = told_of r.refusal r.at ≡ t
 IsToldAs Memory t = Unit {0}
 
 -- a mark is taken, or refused; or there was no memory
-abbrev pub Steps : {X : Type 0} → State → Mark → State → Result X Stop → Type 0
-Steps {X} s m z (Ok x) = Takes osil s m z
-Steps {X} s m z (Err (Refused r)) = Refuses osil s m (told_of r.refusal r.at)
-Steps {X} s m z (Err Memory) = Unit {0}
+abbrev pub StepsAt : {X : Type 0} → State → Mark → State → Result X Stop → Type 0
+StepsAt {X} s m z (Ok x) = TakesMark osil s m z
+StepsAt {X} s m z (Err (Refused r)) = Refuses osil s m (told_of r.refusal r.at)
+StepsAt {X} s m z (Err Memory) = Unit {0}
 
 -- the same of a start tag that leads there, and of an end tag of such an element
 abbrev pub BeginsAt : {X : Type 0} → State → List ℕ → List Attribute → Led → State → Result X Stop → Type 0
 BeginsAt {X} s name as' l z (Ok x) = AllPass (Fails s (Start name as')) (tests (begins l)) × Leaves s (Start name as') (begins l) z
-BeginsAt {X} s name as' l z (Err (Refused r)) = FirstFails {R = Told} (Fails s (Start name as')) (λ t. record { refusal = refusal s (Start name as') t; at = begin_ordinal s l }) (tests (begins l)) (told_of r.refusal r.at)
+BeginsAt {X} s name as' l z (Err (Refused r)) = FirstFails {R = ToldRefusal} (Fails s (Start name as')) (λ t. record { refusal = refusal s (Start name as') t; at = begin_ordinal s l }) (tests (begins l)) (told_of r.refusal r.at)
 BeginsAt {X} s name as' l z (Err Memory) = Unit {0}
 
 -- the tests of the end tag of such an element were answered: all pass, and it is so
 abbrev pub EndAnswers : {X : Type 0} → State → Place → Result X Stop → (X → Type 0) → Type 0
 EndAnswers {X} s p (Ok x) Says = (name : List ℕ) → AllPass (Fails s (Finish name)) (tests (ends p)) × Says x
-EndAnswers {X} s p (Err (Refused r)) Says = (name : List ℕ) → FirstFails {R = Told} (Fails s (Finish name)) (λ t. record { refusal = refusal s (Finish name) t; at = end_ordinal s p }) (tests (ends p)) (told_of r.refusal r.at)
+EndAnswers {X} s p (Err (Refused r)) Says = (name : List ℕ) → FirstFails {R = ToldRefusal} (Fails s (Finish name)) (λ t. record { refusal = refusal s (Finish name) t; at = end_ordinal s p }) (tests (ends p)) (told_of r.refusal r.at)
 EndAnswers {X} s p (Err Memory) Says = Unit {0}
 
 abbrev pub EndsAt : {X : Type 0} → State → Place → State → Result X Stop → Type 0

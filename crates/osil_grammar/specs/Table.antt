@@ -237,9 +237,9 @@ ordinal s text = s.count
 ordinal s (ends p) = end_ordinal s p
 
 -- a refusal, and the ordinal of its element
-pub record Told : Type 0 where
+pub record ToldRefusal : Type 0 where
   pub refusal : Refusal
   pub at : ℕ
 
-abbrev pub told : State → Mark → Test → Told
+abbrev pub told : State → Mark → Test → ToldRefusal
 told s m t = record { refusal = refusal s m t; at = ordinal s (kind s m) }

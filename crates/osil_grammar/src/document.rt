@@ -347,7 +347,7 @@ fn tree_of(alloc: Global, instance: &Instance) -> Result<Tree, EncodeFault>
 /// [`EncodeFault::NotDecimal`] exactly where a number of it has no decimal, and else [`EncodeFault::Long`] exactly
 /// where the text is longer than a document may be. There is one such text
 /// ([`instances_have_one_text`](crate::instances_have_one_text)), and the document that it is
-/// ([`written_text_is_document`](crate::written_text_is_document)) stands for the instance
+/// ([`written_instance_is_document`](crate::written_instance_is_document)) stands for the instance
 /// ([`written_root_means_instance`](crate::written_root_means_instance)).
 pub fn encode(alloc: Global, instance: &Instance) -> Result<Text, EncodeFault>
     ensures ok { IfOk result (λ text. IsWrittenText instance.now text) }

@@ -19,7 +19,7 @@ pub fn instances_are_read_back()
 
 /// Law: the text of a written instance, if it isn't longer than a document may be, is a document within the limits,
 /// and holds the root that the instance is written as, without its namespace.
-pub fn written_text_is_document()
+pub fn written_instance_is_document()
     ensures { (p : Parts) (text : List ℕ) → IsValid p → IsWrittenText p text → length text ≤ document_limit → (root : Element) × WritesInstance p root × IsDocument text (local_element root) }
 {}
 

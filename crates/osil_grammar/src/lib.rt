@@ -32,8 +32,8 @@ pub use decoder::Decoder;
 pub use document::encode;
 pub use fault::{EncodeFault, OsilFault, Refusal};
 pub use laws::{
-    instances_are_read_back, instances_have_one_text, written_root_is_accepted,
-    written_root_means_instance, written_text_is_document, written_text_is_of_one_instance,
+    instances_are_read_back, instances_have_one_text, written_instance_is_document,
+    written_root_is_accepted, written_root_means_instance, written_text_is_of_one_instance,
 };
 pub use reading::decode;
 pub use reading_laws::{

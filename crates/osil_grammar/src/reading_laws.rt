@@ -8,7 +8,7 @@ ghost use Rattle.osil_grammar.specs.declared.fault.OsilFault.{OsilFault};
 ghost use Rattle.osil_grammar.specs.declared.fault.OsilFault.TheVariants.{Memory};
 ghost use Rattle.osil_grammar.specs.Refusals.{Refusal, number};
 ghost use Rattle.osil_grammar.specs.Standing.{start};
-ghost use Rattle.osil_grammar.specs.Table.{Told};
+ghost use Rattle.osil_grammar.specs.Table.{ToldRefusal};
 ghost use Rattle.osil_grammar.specs.Marked.{osil, marks, StandsFor, IsRefusedSo, IsAccepted, IsRefused};
 ghost use Rattle.osil_grammar.specs.Reading.{IsInstanceText, IsRefusedText, DecodeFails, AreAlike, IsFaultText};
 
@@ -37,5 +37,5 @@ pub fn documents_mean_one_instance()
 /// Law: what is told of a document is decided at the first tag at which something is, and is the least of what is
 /// decided there.
 pub fn first_and_least_is_told()
-    ensures { (root : Element) (r : Told) → IsRefusedSo root r → IsFirstDecided osil (λ t. number t.refusal) start (marks root) r }
+    ensures { (root : Element) (r : ToldRefusal) → IsRefusedSo root r → IsFirstDecided osil (λ t. number t.refusal) start (marks root) r }
 {}

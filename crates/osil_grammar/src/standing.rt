@@ -28,7 +28,7 @@ ghost use Rattle.tag_tests.specs.Forms.{AreTaken};
 ghost use Rattle.osil_grammar.specs.Marked.{osil, goals_said, instance_of};
 ghost use Rattle.osil_grammar.specs.Hearing.{goals_held, held};
 ghost use Rattle.osil_grammar.specs.Sound.{IsSound, IsSoundIn, HasGoals, HasGoalsIn};
-ghost use Rattle.osil_grammar.specs.Stepping.{Steps, BeginsAt, EndsAt, EndAnswers, IsToldAs, AddsUp};
+ghost use Rattle.osil_grammar.specs.Stepping.{StepsAt, BeginsAt, EndsAt, EndAnswers, IsToldAs, AddsUp};
 
 use crate::domains::zero;
 use crate::elements::{Led, Listing, Part, Place, keeps_text, leads, outer};
@@ -570,7 +570,7 @@ impl Standing {
     /// Goes past a start tag.
     pub(crate) fn enter(&mut self, name: &[u8], attributes: &Attributes<'_>) -> Result<(), Stop>
         requires { self.old.count + 1 < 2 ^ 64 }
-        ensures { Steps self.old (Start name.now attributes.now) self.new result }
+        ensures { StepsAt self.old (Start name.now attributes.now) self.new result }
     {
         match leads(self.place, name) {
             Led::To(place) => self.begin(place, name, attributes),
@@ -1002,7 +1002,7 @@ impl Standing {
     pub(crate) fn close(&mut self) -> Result<(), Stop>
         requires sound { IsSound self.old }
         requires goals { HasGoals self.old }
-        ensures { (name : List ℕ) → Steps self.old (Finish name) self.new result }
+        ensures { (name : List ℕ) → StepsAt self.old (Finish name) self.new result }
     {
         self.end(self.place)
     }

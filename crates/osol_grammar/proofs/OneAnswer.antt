@@ -17,7 +17,7 @@ use Rattle.osol_grammar.specs.declared.standing.Refused as told
 use Rattle.osol_grammar.specs.Table.{start}
 use Rattle.osol_grammar.specs.Marked.{osol}
 use Rattle.osol_grammar.specs.Meaning.{IsOptions, IsRefused, IsBlank, IsOptionsText}
-use Rattle.osol_grammar.specs.Reading.{Refuses, DecodeFails}
+use Rattle.osol_grammar.specs.Reading.{IsRefusalOfRoot, DecodeFails}
 use Rattle.osol_grammar.proofs.OneState.{leaves_one}
 
 pub options_once : (root : Element) (o p : Options) → IsOptions root o → IsOptions root p → o ≡ p
@@ -34,7 +34,7 @@ refused_once root r q n m h k =
     let same = forms.refused_once osol leaves_one start (marks root) (record { refusal = r; at = n }) (record { refusal = q; at = m }) h k in
     (ap (λ (t : told.Refused). t.refusal) same, ap (λ (t : told.Refused). t.at) same)
 
-faults_once : (root : Element) (f g : OsolFault) → Refuses root f → Refuses root g → f ≡ g
+faults_once : (root : Element) (f g : OsolFault) → IsRefusalOfRoot root f → IsRefusalOfRoot root g → f ≡ g
 faults_once root (Refused r n) (Refused q m) h k = let one = refused_once root r q n m h k in ap₂ (λ (x : Refusal) (y : ℕ). Refused x y) one.0 one.1
 faults_once root (Tree t) g h k = absurd h
 faults_once root Memory g h k = absurd h
@@ -43,22 +43,22 @@ faults_once root f Memory h k = absurd k
 
 -- bytes that aren't blank, and say no options
 abbrev IsNoText : List ℕ → OsolFault → Type 0
-IsNoText bytes f = (IsBlank bytes → ⊥) × Fails Tree Refuses bytes f
+IsNoText bytes f = (IsBlank bytes → ⊥) × Fails Tree IsRefusalOfRoot bytes f
 
 pub refusal_once : (bytes : List ℕ) (f g : OsolFault) → f ≢ Memory → g ≢ Memory → DecodeFails bytes f → DecodeFails bytes g → f ≡ g
-refusal_once bytes = fault_once Memory (IsNoText bytes) (λ f g h k. fails_once Tree Refuses faults_once bytes f g h.1 k.1)
+refusal_once bytes = fault_once Memory (IsNoText bytes) (λ f g h k. fails_once Tree IsRefusalOfRoot faults_once bytes f g h.1 k.1)
 
 pub root_apart : (root : Element) (o : Options) (r : Refusal) (n : ℕ) → IsOptions root o → IsRefused root r n → ⊥
 root_apart root o r n h k = not_both osol leaves_one start (marks root) h.0 (record { refusal = r; at = n }) h.1 k
 
-fault_apart : (root : Element) (o : Options) (f : OsolFault) → IsOptions root o → Refuses root f → ⊥
+fault_apart : (root : Element) (o : Options) (f : OsolFault) → IsOptions root o → IsRefusalOfRoot root f → ⊥
 fault_apart root o (Tree t) h k = k
 fault_apart root o (Refused r n) h k = root_apart root o r n h k
 fault_apart root o Memory h k = k
 
 pub text_apart : (bytes : List ℕ) (o : Options) (f : OsolFault) → IsOptionsText bytes o → DecodeFails bytes f → f ≡ Memory
 text_apart bytes o f (inl h) = only_memory Memory (IsNoText bytes) f (λ k. k.0 h.0)
-text_apart bytes o f (inr h) = only_memory Memory (IsNoText bytes) f (λ k. fails_apart Tree IsOptions Refuses fault_apart bytes o f h.1 k.1)
+text_apart bytes o f (inr h) = only_memory Memory (IsNoText bytes) f (λ k. fails_apart Tree IsOptions IsRefusalOfRoot fault_apart bytes o f h.1 k.1)
 
 -- what is answered of a text of options is those options
 pub answer_is : (text : List ℕ) (o : Options) (r : Result Options OsolFault) → IsOptionsText text o → IfOk r (IsOptionsText text) → IfErr r (DecodeFails text) → r ≢ Err Memory → r ≡ Ok o

@@ -3,7 +3,7 @@ use Rattle.std.specs.Prelude.{ℕ, Bool, true, false, List, [], ◌∷◌, codes
 use Rattle.osol_grammar.specs.declared.limit.Limit.{Limit}
 use Rattle.osol_grammar.specs.declared.limit.Limit.TheVariants.{Nodes, Turns, Rounds}
 
-pub record Row : Type 0 where
+pub record LimitRow : Type 0 where
   pub name : List ℕ
   pub least : ℕ
   pub most : ℕ
@@ -15,7 +15,7 @@ abbrev pub all : List Limit
 all = Nodes ∷ Turns ∷ Rounds ∷ []
 
 -- nodes of the tree of cases, turns of the simplex method, and rows that rounds add
-abbrev pub limit_row : Limit → Row
+abbrev pub limit_row : Limit → LimitRow
 limit_row Nodes = record { name = codes "nodeLimit"; least = 1; most = 1000000; default = 10000; always = true }
 limit_row Turns = record { name = codes "pivotLimit"; least = 1; most = 100000000; default = 1000000; always = true }
 limit_row Rounds = record { name = codes "rounds"; least = 0; most = 100; default = 0; always = false }

@@ -7,11 +7,11 @@ use Rattle.osol_grammar.specs.declared.fault.OsolFault.TheVariants.{Tree, Refuse
 use Rattle.osol_grammar.specs.Meaning.{IsRefused, IsBlank}
 
 -- the fault is the refusal of the document with this root
-abbrev pub Refuses : Element → OsolFault → Type 0
-Refuses root (Tree f) = ⊥
-Refuses root (Refused r n) = IsRefused root r n
-Refuses root Memory = ⊥
+abbrev pub IsRefusalOfRoot : Element → OsolFault → Type 0
+IsRefusalOfRoot root (Tree f) = ⊥
+IsRefusalOfRoot root (Refused r n) = IsRefused root r n
+IsRefusalOfRoot root Memory = ⊥
 
 -- why bytes say no options: they aren't blank, and are no document or one that is refused; or there was no memory
 abbrev pub DecodeFails : List ℕ → OsolFault → Type 0
-DecodeFails bytes f = (f ≡ Memory) ⊎ ((IsBlank bytes → ⊥) × Fails Tree Refuses bytes f)
+DecodeFails bytes f = (f ≡ Memory) ⊎ ((IsBlank bytes → ⊥) × Fails Tree IsRefusalOfRoot bytes f)

@@ -7,7 +7,7 @@ use Rattle.decimal_text.specs.Space.{trimmed}
 use Rattle.tag_tests.specs.declared.places.Led.{Led}
 use Rattle.tag_tests.specs.declared.places.Led.TheVariants.{To, OtherRoot, Over}
 use Rattle.tag_tests.specs.Places.{child, Kind, begins, text, ends, ends_over}
-use Rattle.tag_tests.specs.Contents.{Content, root, reads, leads_by, kind_by, keeps_in}
+use Rattle.tag_tests.specs.Contents.{ChildPlaces, root, reads, leads_by, kind_by, keeps_in}
 use Rattle.tag_tests.specs.Characters.{heard}
 use Rattle.osol_grammar.specs.declared.fault.Refusal.{Refusal}
 use Rattle.osol_grammar.specs.declared.fault.Refusal.TheVariants.{Root, JobTwice, BadLimit, LongJob}
@@ -24,7 +24,7 @@ abbrev pub start : State
 start = record { place = Outside; depth = 0; count = 0; job_at = 0; text = []; options = no_options }
 
 -- WHAT MAY STAND IN WHAT: the child elements that are read
-abbrev pub content : Place → Content Place
+abbrev pub content : Place → ChildPlaces Place
 content Outside = root (codes "osol") Osol
 content Osol = reads (child (codes "general") General ∷ child (codes "optimization") Optimization ∷ [])
 content General = reads (child (codes "jobID") JobId ∷ [])

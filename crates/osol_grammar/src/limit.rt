@@ -17,7 +17,7 @@ pub(crate) const LIMITS: [Limit; 3] = [Limit::Nodes, Limit::Turns, Limit::Rounds
 /// What is known of a limit: the name of its option, the least and the greatest amount that it may have, the amount that it
 /// has where no option says one, and whether its option is also written where it has that amount.
 #[derive(Clone, Copy)]
-pub(crate) struct Row {
+pub(crate) struct LimitRow {
     pub name: &'static [u8],
     pub least: u32,
     pub most: u32,
@@ -30,7 +30,7 @@ impl Limit {
     ghost use Rattle.osol_grammar.specs.Limits as table;
 
     /// What is known of it.
-    pub(crate) fn row(self) -> Row
+    pub(crate) fn row(self) -> LimitRow
         ensures name { result.name.now ≡ (table.limit_row self).name }
         ensures least { result.least ≡ (table.limit_row self).least }
         ensures most { result.most ≡ (table.limit_row self).most }
@@ -38,21 +38,21 @@ impl Limit {
         ensures always { result.always ≡ (table.limit_row self).always }
     {
         match self {
-            Limit::Nodes => Row {
+            Limit::Nodes => LimitRow {
                 name: b"nodeLimit",
                 least: 1,
                 most: 1_000_000,
                 default: 10_000,
                 always: true,
             },
-            Limit::Turns => Row {
+            Limit::Turns => LimitRow {
                 name: b"pivotLimit",
                 least: 1,
                 most: 100_000_000,
                 default: 1_000_000,
                 always: true,
             },
-            Limit::Rounds => Row {
+            Limit::Rounds => LimitRow {
                 name: b"rounds",
                 least: 0,
                 most: 100,

@@ -5,7 +5,7 @@ use Rattle.tree_grammar.specs.Elements.{Nodes, none, Event, Close, nodes_events}
 use Rattle.doc_tree.specs.Marks.{Mark, Start, Char, Finish, spread}
 use Rattle.document_tags.specs.Writing.{text_nodes, leaf, group, bare_root}
 use Rattle.decimal_text.proofs.RoundTrips.{count_read}
-use Rattle.tag_tests.specs.Forms.{Takes, AreTaken}
+use Rattle.tag_tests.specs.Forms.{TakesMark, AreTaken}
 use Rattle.tag_tests.proofs.Forms.{taken_both}
 use Rattle.tag_tests.proofs.Characters.{chars_kept}
 use Rattle.ospl_grammar.specs.declared.process.StatedJob.{StatedJob}
@@ -39,8 +39,8 @@ chars_say [] es s m p taken says = subst (λ (x : Standing). Say x (spread es) p
 chars_say (c ∷ cs) es s m p taken says = (says.0, taken_both ospl s m says.0 (map Char (c ∷ cs)) (spread es) taken says.1, says.2)
 
 -- an element whose text is read
-leaf_says : (name text : List ℕ) (more : Nodes) (es : List Event) (around inside : Place) (q r : Parts) (p : Process) → is_text inside ≡ true → Takes ospl (at around q) (Start name []) (at inside q)
-    → Takes ospl (with inside q text) (Finish name) (at around r) → Say (at around r) (spread (nodes_events more es)) p → Say (at around q) (spread (nodes_events (leaf name text more) es)) p
+leaf_says : (name text : List ℕ) (more : Nodes) (es : List Event) (around inside : Place) (q r : Parts) (p : Process) → is_text inside ≡ true → TakesMark ospl (at around q) (Start name []) (at inside q)
+    → TakesMark ospl (with inside q text) (Finish name) (at around r) → Say (at around r) (spread (nodes_events more es)) p → Say (at around q) (spread (nodes_events (leaf name text more) es)) p
 leaf_says name text more es around inside q r p on begins ends says =
     let kept = chars_kept ospl (with inside q) (is_text inside) (λ t c. (tt, refl)) [] text text on refl in
     let rest = chars_say text (Close name ∷ nodes_events more es) (at inside q) (with inside q text) p kept (says.0, (at around r, ends, says.1), says.2) in

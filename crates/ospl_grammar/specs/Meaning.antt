@@ -16,12 +16,12 @@ asked_or_told (Some action) told = Some (Ask action)
 asked_or_told None told = told
 
 -- all marks of a document with this root are taken, and say this, or nothing
-abbrev pub Says : Element → Option Process → Type 0
-Says root o = (z : Standing) × AreTaken ospl start (marks root) z × (o ≡ asked_or_told z.asked z.told)
+abbrev pub RootSays : Element → Option Process → Type 0
+RootSays root o = (z : Standing) × AreTaken ospl start (marks root) z × (o ≡ asked_or_told z.asked z.told)
 
 -- the document with this root says this
 abbrev pub IsProcess : Element → Process → Type 0
-IsProcess root p = Says root (Some p)
+IsProcess root p = RootSays root (Some p)
 
 -- the bytes are the document of a process
 abbrev pub IsProcessText : List ℕ → Process → Type 0

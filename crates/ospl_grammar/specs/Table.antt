@@ -8,7 +8,7 @@ use Rattle.decimal_text.specs.Count.{IsCount}
 use Rattle.tag_tests.specs.declared.places.Led.{Led}
 use Rattle.tag_tests.specs.declared.places.Led.TheVariants.{To, OtherRoot, Over}
 use Rattle.tag_tests.specs.Places.{child, Kind, begins, text, ends, ends_over}
-use Rattle.tag_tests.specs.Contents.{Content, root, reads, leads_by, kind_by, keeps_in}
+use Rattle.tag_tests.specs.Contents.{ChildPlaces, root, reads, leads_by, kind_by, keeps_in}
 use Rattle.tag_tests.specs.Characters.{heard}
 use Rattle.ospl_grammar.specs.declared.process.JobState.{JobState}
 use Rattle.ospl_grammar.specs.declared.place.Place.{Place}
@@ -22,7 +22,7 @@ abbrev pub start : Standing
 start = record { place = Outside; depth = 0; text = []; parts = no_parts; asked = None; told = None }
 
 -- WHAT MAY STAND IN WHAT: the child elements that are read
-abbrev pub content : Place → Content Place
+abbrev pub content : Place → ChildPlaces Place
 content Outside = root (codes "ospl") Ospl
 content Ospl = reads (child (codes "processHeader") Header ∷ child (codes "processData") Data ∷ [])
 content Header = reads (child (codes "request") Request ∷ [])

@@ -1,5 +1,5 @@
 -- Written items are read as what they say.
-use Rattle.osrl_grammar.proofs.Names.{◌≡◌, ◌∙◌, ℕ, ◌^◌, ◌<◌, true, Option, List, [], ◌∷◌, ◌++◌, map, refl, ap, sym, subst, arith, append-nil, codes, decimal, flat_map, signed_decimal, All, AllZip, All-head, All-tail, ratio, Frac, ratio_text, Mult, Node, Step, IsFree, pieces, Pair, step_text, node_word, IsMultOf, IsMult, IsOne, IsPlace, IsFraction, SaysNode, tree_head, SaysTree, Begins, IsTreeItem, IsRoundOf, IsRound, IsCause, round_text, level_text, mult_text, node_text, cause_text, fraction_texts, HaveColumns, NodeComesBack, CauseComesBack}
+use Rattle.osrl_grammar.proofs.Names.{◌≡◌, ◌∙◌, ℕ, ◌^◌, ◌<◌, true, Option, List, [], ◌∷◌, ◌++◌, map, refl, ap, sym, subst, arith, append-nil, codes, decimal, flat_map, signed_decimal, All, AllZip, All-head, All-tail, ratio, Frac, ratio_text, Mult, Node, Step, IsFree, pieces, Pair, step_text, node_word, IsMultOf, IsMult, IsOne, IsPlace, IsFraction, SaysNode, tree_head, SaysTree, BeginsWithWord, IsTreeItem, IsRoundOf, IsRound, IsCause, round_text, level_text, mult_text, node_text, cause_text, fraction_texts, HaveColumns, NodeComesBack, CauseComesBack}
 use Rattle.certificate.specs.declared.nodes.Node.TheVariants as nodes
 use Rattle.osrl_grammar.specs.declared.parts.TreeItem.TheVariants as trees
 use Rattle.certificate.specs.declared.causes.Cause as why
@@ -33,8 +33,8 @@ node_back (nodes.Split j k) back =
     (refl, subst (SaysNode (nodes.Split j k)) (sym behind) (index_back j back.0, whole_back k back.1))
 node_back (nodes.Zero j) back = (refl, subst (SaysNode (nodes.Zero j)) (sym (pieces_free (decimal j) (decimal_spaceless j))) (index_back j back))
 node_back (nodes.Clash c) back = (refl, subst (SaysNode (nodes.Clash c)) (sym (pieces_free (decimal c) (decimal_spaceless c))) (index_back c back))
-node_back (nodes.Farkas ms) back = subst (λ (l : List (List ℕ)). Begins node_word tree_head SaysTree l (trees.Node (nodes.Farkas ms))) (sym (mults_pieces (codes "farkas") ms (seen_free 32 (codes "farkas") refl))) (refl, mults_back ms back)
-node_back (nodes.Bound ms) back = subst (λ (l : List (List ℕ)). Begins node_word tree_head SaysTree l (trees.Node (nodes.Bound ms))) (sym (mults_pieces (codes "bound") ms (seen_free 32 (codes "bound") refl))) (refl, mults_back ms back)
+node_back (nodes.Farkas ms) back = subst (λ (l : List (List ℕ)). BeginsWithWord node_word tree_head SaysTree l (trees.Node (nodes.Farkas ms))) (sym (mults_pieces (codes "farkas") ms (seen_free 32 (codes "farkas") refl))) (refl, mults_back ms back)
+node_back (nodes.Bound ms) back = subst (λ (l : List (List ℕ)). BeginsWithWord node_word tree_head SaysTree l (trees.Node (nodes.Bound ms))) (sym (mults_pieces (codes "bound") ms (seen_free 32 (codes "bound") refl))) (refl, mults_back ms back)
 
 step_spaceless : (s : Step) → IsFree 32 (step_text s)
 step_spaceless s = seen_free 32 (step_text s) (elim s as (λ (r : Step). is_without 32 (step_text r) ≡ true) [ steps.Values ↦ refl | steps.Ratio ↦ refl | steps.Pivot ↦ refl | steps.Point ↦ refl | steps.Ray ↦ refl | steps.Round ↦ refl | steps.Check ↦ refl ])

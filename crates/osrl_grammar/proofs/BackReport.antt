@@ -1,5 +1,5 @@
 -- The document that a report is written as reports it.
-use Rattle.osrl_grammar.proofs.Names.{◌≡◌, ◌∙◌, ℕ, ◌+◌, Bool, true, false, ◌||◌, cond, Option, None, Some, List, [], ◌∷◌, ◌++◌, map, refl, ap, sym, subst, append-nil, append_assoc, codes, bytes_eq, is_some, length, AllZip, false≢true, Nodes, none, element, chars, Close, Start, Finish, trimmed, unless_empty, leaf, group, typed, Takes, Frac, Node, Mult, Cert, Claim, Optimal, Infeasible, Unbounded, BestSoFar, Unsure, JobStatus, Report, Held, To, Part, Claiming, part_name, claiming_text, status_text, IsFraction, IsRound, IsCause, IsOutOfOrder, BadItem, next_level, cert, inl, inr, ◌⊎◌, ◌≤◌, ◌<◌, ◌^◌, ap₂, arith, Ok, All, HaveColumns, MayHaveTrees, TreesComeBack, State, nothing_held, start, has, items, status_of, report_with, nonempty, report_of, MayHoldItems, with_part, AddsItem, osrl, IsReport, IsReportText, row_values, values_part_unless_none, variable_values, values_part, point_values, goal_values, tree_values, dual_values, node_text, round_text, level_texts, cause_text, item_nodes, certificate_part, fraction_texts, point_parts, ray_part, rounds_part, tree_parts, trees_parts, cause_part, solution, claim_nodes, leaf_of, optimization, general_type, general_nodes, status_nodes, report_element, report_text, IsBareOrNone, CauseComesBack, ClaimComesBack, ComesBack, keeps}
+use Rattle.osrl_grammar.proofs.Names.{◌≡◌, ◌∙◌, ℕ, ◌+◌, Bool, true, false, ◌||◌, cond, Option, None, Some, List, [], ◌∷◌, ◌++◌, map, refl, ap, sym, subst, append-nil, append_assoc, codes, bytes_eq, is_some, length, AllZip, false≢true, Nodes, none, element, chars, Close, Start, Finish, trimmed, unless_empty, leaf, group, typed, TakesMark, Frac, Node, Mult, Cert, Claim, Optimal, Infeasible, Unbounded, BestSoFar, Unsure, JobStatus, Report, Held, To, Part, Claiming, part_name, claiming_text, status_text, IsFraction, IsRound, IsCause, IsOutOfOrder, BadItem, next_level, cert, inl, inr, ◌⊎◌, ◌≤◌, ◌<◌, ◌^◌, ap₂, arith, Ok, All, HaveColumns, MayHaveTrees, TreesComeBack, State, nothing_held, start, has, items, status_of, report_with, nonempty, report_of, MayHoldItems, with_part, AddsItem, osrl, IsReport, IsReportText, row_values, values_part_unless_none, variable_values, values_part, point_values, goal_values, tree_values, dual_values, node_text, round_text, level_texts, cause_text, item_nodes, certificate_part, fraction_texts, point_parts, ray_part, rounds_part, tree_parts, trees_parts, cause_part, solution, claim_nodes, leaf_of, optimization, general_type, general_nodes, status_nodes, report_element, report_text, IsBareOrNone, CauseComesBack, ClaimComesBack, ComesBack, keeps}
 use Rattle.document_tags.specs.Writing.{only}
 use Rattle.certificate.specs.declared.nodes.Node.TheVariants as nodes
 use Rattle.certificate.specs.declared.causes.Cause as why
@@ -226,11 +226,11 @@ optimization_goes s (Some c) back few =
 abbrev told : Bool → (job message status : Option (List ℕ)) → Place → State
 told error job message status p = record start { place = p; general = Some (general_type error); job = job; message = message; status = status }
 
-said_goes : (name : List ℕ) (p : Place) (put : Option (List ℕ) → State) → keeps (put None).depth p ≡ true → ((n : ℕ) (t : List ℕ) → (i : ℕ) × Takes osrl (at (put None) n t) (Start name []) (at (record (put None) { place = p }) i [])) → ((n : ℕ) (text : List ℕ) → Takes osrl (at (record (put None) { place = p }) n text) (Finish name) (at (put (Some (trimmed text))) n text)) → (o : Option (List ℕ)) → IsBareOrNone o → (more : Nodes) (z : State) → Goes more (put o) z → Goes (leaf_of name o more) (put None) z
+said_goes : (name : List ℕ) (p : Place) (put : Option (List ℕ) → State) → keeps (put None).depth p ≡ true → ((n : ℕ) (t : List ℕ) → (i : ℕ) × TakesMark osrl (at (put None) n t) (Start name []) (at (record (put None) { place = p }) i [])) → ((n : ℕ) (text : List ℕ) → TakesMark osrl (at (record (put None) { place = p }) n text) (Finish name) (at (put (Some (trimmed text))) n text)) → (o : Option (List ℕ)) → IsBareOrNone o → (more : Nodes) (z : State) → Goes more (put o) z → Goes (leaf_of name o more) (put None) z
 said_goes name p put on begin end None bare more z behind = behind
 said_goes name p put on begin end (Some text) bare more z behind =
     let inside : State = record (put None) { place = p } in
-    goes_leaf name text more (put None) inside (put (Some text)) z begin on (λ n. subst (λ (w : List ℕ). Takes osrl (at inside n text) (Finish name) (at (put (Some w)) n text)) bare.bare (end n text)) behind
+    goes_leaf name text more (put None) inside (put (Some text)) z begin on (λ n. subst (λ (w : List ℕ). TakesMark osrl (at inside n text) (Finish name) (at (put (Some w)) n text)) bare.bare (end n text)) behind
 
 general_goes : (error : Bool) (job message : Option (List ℕ)) → IsBareOrNone job → IsBareOrNone message → Goes (typed (codes "generalStatus") (general_type error) (leaf_of (codes "jobID") job (leaf_of (codes "message") message none))) (record start { place = places.General }) (told error job message None places.General)
 general_goes error job message bare plain =
@@ -330,7 +330,7 @@ none_bad : (b : Bool) → IsSome {T = BadItem} (cond b None None) → ⊥
 none_bad true some = false≢true some
 none_bad false some = false≢true some
 
-root_ends : (r : Report) → ComesBack r → (n : ℕ) (t : List ℕ) → Takes osrl (at (reported r) n t) (Finish (codes "osrl")) (record start { report = r })
+root_ends : (r : Report) → ComesBack r → (n : ℕ) (t : List ℕ) → TakesMark osrl (at (reported r) n t) (Finish (codes "osrl")) (record start { report = r })
 root_ends r back n t =
     let says : report_of (at (reported r) n t) ≡ Some r = report_said r back in
     ((none_bad (says_infeasible false (type_in r.claim)), (false≢true, (value_counted r.claim back.claim, (tree_counted r.claim back.claim, (cause_counted r.claim, ((λ none. let clash : Some r ≡ None = sym says ∙ none in absurd (cc)), tt)))))), (r, says, refl))

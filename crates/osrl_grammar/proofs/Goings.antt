@@ -1,5 +1,5 @@
 -- Nodes of a written report are gone past, whatever was counted before and whatever text was heard last: elements that are passed over, texts that are read, and elements with what stands in them.
-use Rattle.osrl_grammar.proofs.Names.{◌≡◌, ℕ, ◌+◌, ◌-◌, ◌<◌, true, List, [], ◌∷◌, map, refl, subst, arith, Attribute, Event, Close, Nodes, none, element, chars, nodes_events, Start, Char, Finish, spread, text_nodes, leaf, AreTaken, Takes, Over, State, keeps, osrl}
+use Rattle.osrl_grammar.proofs.Names.{◌≡◌, ℕ, ◌+◌, ◌-◌, ◌<◌, true, List, [], ◌∷◌, map, refl, subst, arith, Attribute, Event, Close, Nodes, none, element, chars, nodes_events, Start, Char, Finish, spread, text_nodes, leaf, AreTaken, TakesMark, Over, State, keeps, osrl}
 use Rattle.tag_tests.proofs.Forms.{taken_both}
 use Rattle.tag_tests.proofs.Characters.{chars_kept, chars_passed}
 use Rattle.osrl_grammar.proofs.Steps.{led_at, led_over, start_over, end_over, over_keeps}
@@ -17,10 +17,10 @@ goes_none s = λ k y h. h
 
 -- a start tag is taken, and an end tag
 abbrev pub Opens : State → List ℕ → List Attribute → State → Type 0
-Opens s name as' a = (n : ℕ) (t : List ℕ) → (i : ℕ) × (u : List ℕ) × Takes osrl (at s n t) (Start name as') (at a i u)
+Opens s name as' a = (n : ℕ) (t : List ℕ) → (i : ℕ) × (u : List ℕ) × TakesMark osrl (at s n t) (Start name as') (at a i u)
 
 abbrev pub Closes : State → List ℕ → State → Type 0
-Closes m name b = (n : ℕ) (t : List ℕ) → Takes osrl (at m n t) (Finish name) (at b n t)
+Closes m name b = (n : ℕ) (t : List ℕ) → TakesMark osrl (at m n t) (Finish name) (at b n t)
 
 pub goes_element : (name : List ℕ) (as' : List Attribute) (children more : Nodes) (s a m b z : State) → Opens s name as' a → Goes children a m → Closes m name b → Goes more b z → Goes (element name as' children more) s z
 goes_element name as' children more s a m b z begin inside end behind =
@@ -32,7 +32,7 @@ goes_text [] k y s on n h = h
 goes_text (c ∷ cs) k y s on n h = taken_both osrl (at s n []) (at s n (c ∷ cs)) y (map Char (c ∷ cs)) (spread k) (chars_kept osrl (at s n) (keeps s.depth s.place) (λ t b. (tt, refl)) [] (c ∷ cs) (c ∷ cs) on refl) h
 
 -- an element whose text is read
-pub goes_leaf : (name text : List ℕ) (more : Nodes) (s a b z : State) → ((n : ℕ) (t : List ℕ) → (i : ℕ) × Takes osrl (at s n t) (Start name []) (at a i [])) → keeps a.depth a.place ≡ true → ((n : ℕ) → Takes osrl (at a n text) (Finish name) (at b n text)) → Goes more b z → Goes (leaf name text more) s z
+pub goes_leaf : (name text : List ℕ) (more : Nodes) (s a b z : State) → ((n : ℕ) (t : List ℕ) → (i : ℕ) × TakesMark osrl (at s n t) (Start name []) (at a i [])) → keeps a.depth a.place ≡ true → ((n : ℕ) → TakesMark osrl (at a n text) (Finish name) (at b n text)) → Goes more b z → Goes (leaf name text more) s z
 goes_leaf name text more s a b z begin on end behind =
     λ k y h n t. let o = begin n t in (at a o.0 [], o.1, goes_text text (Close name ∷ nodes_events more k) y a on o.0 (at b o.0 text, end o.0, behind k y h o.0 text))
 
@@ -40,11 +40,11 @@ goes_leaf name text more s a b z begin on end behind =
 is_over : (n : ℕ) → 0 < n + 1
 is_over n = omega arith
 
-over_ends : (s : State) (name : List ℕ) → Takes osrl (record s { depth = s.depth + 1 }) (Finish name) s
+over_ends : (s : State) (name : List ℕ) → TakesMark osrl (record s { depth = s.depth + 1 }) (Finish name) s
 over_ends s name =
     let in_it : State = record s { depth = s.depth + 1 } in
     let same : s.depth + 1 - 1 ≡ s.depth = omega arith in
-    subst (λ (n : ℕ). Takes osrl in_it (Finish name) (record s { depth = n })) same (end_over in_it name (is_over s.depth))
+    subst (λ (n : ℕ). TakesMark osrl in_it (Finish name) (record s { depth = n })) same (end_over in_it name (is_over s.depth))
 
 -- an element that isn't read, and all that stands in it
 pub goes_over : (ns : Nodes) (s : State) → 0 < s.depth → Goes ns s s

@@ -1,5 +1,5 @@
 -- Items that begin with a word.
-use Rattle.osrl_grammar.proofs.Names.{◌≡◌, ◌∙◌, ℕ, Option, Some, Result, List, [], ◌∷◌, refl, ap, sym, subst, Misread, option_map, Step, Index, Turn, Field, worded, field, step_text, all_steps, place_fields, ReadsSo, IsPlace, Begins}
+use Rattle.osrl_grammar.proofs.Names.{◌≡◌, ◌∙◌, ℕ, Option, Some, Result, List, [], ◌∷◌, refl, ap, sym, subst, Misread, option_map, Step, Index, Turn, Field, worded, field, step_text, all_steps, place_fields, ReadsTexts, IsPlace, BeginsWithWord}
 use Rattle.certificate.specs.declared.causes.Place.{Place}
 use Rattle.osrl_grammar.specs.Items.{behind_word, worded_fields}
 use Rattle.osrl_grammar.specs.Values.{IsIndex, IsTurn, IsSaidBehind}
@@ -10,19 +10,19 @@ module _ {W X : Type 0} (word : W → List ℕ) (all : List W) (behind : W → L
   worded_first : (pieces : List (List ℕ)) (p : List ℕ) (ps : List (List ℕ)) (o : Option W) → pieces ≡ p ∷ ps → worded word all p ≡ o → worded_fields word all behind pieces ≡ behind_word behind o ps
   worded_first pieces p ps o is found = ap (worded_fields word all behind) is ∙ ap (λ (q : Option W). behind_word behind q ps) found
 
-  pub begun_read : (pieces : List (List ℕ)) (p : List ℕ) (ps : List (List ℕ)) (w : W) (r : Result X Misread) → pieces ≡ p ∷ ps → worded word all p ≡ Some w → ReadsSo (behind w ps) r (IsSaidBehind head Says w ps) → ReadsSo (worded_fields word all behind pieces) r (Begins word head Says pieces)
+  pub begun_read : (pieces : List (List ℕ)) (p : List ℕ) (ps : List (List ℕ)) (w : W) (r : Result X Misread) → pieces ≡ p ∷ ps → worded word all p ≡ Some w → ReadsTexts (behind w ps) r (IsSaidBehind head Says w ps) → ReadsTexts (worded_fields word all behind pieces) r (BeginsWithWord word head Says pieces)
   begun_read pieces p ps w r is found h =
       let own : p ≡ word w = worded_is word all p w found in
-      subst (λ (o : Option (List Field)). ReadsSo o r (Begins word head Says pieces)) (sym (worded_first pieces p ps (Some w) is found))
-      (reads_more (behind w ps) r (IsSaidBehind head Says w ps) (Begins word head Says pieces) (λ x b. subst (λ (l : List (List ℕ)). Begins word head Says l x) (sym is) (own ∙ ap word (sym b.0), b.1)) h)
+      subst (λ (o : Option (List Field)). ReadsTexts o r (BeginsWithWord word head Says pieces)) (sym (worded_first pieces p ps (Some w) is found))
+      (reads_more (behind w ps) r (IsSaidBehind head Says w ps) (BeginsWithWord word head Says pieces) (λ x b. subst (λ (l : List (List ℕ)). BeginsWithWord word head Says l x) (sym is) (own ∙ ap word (sym b.0), b.1)) h)
 
   -- where what is said is made of numbers that pass
-  pub begun_pass : ((w : W) → worded word all (word w) ≡ Some w) → ((x : X) (ps : List (List ℕ)) → Says x ps → Pass (behind (head x) ps)) → (pieces : List (List ℕ)) (x : X) → Begins word head Says pieces x → Pass (worded_fields word all behind pieces)
+  pub begun_pass : ((w : W) → worded word all (word w) ≡ Some w) → ((x : X) (ps : List (List ℕ)) → Says x ps → Pass (behind (head x) ps)) → (pieces : List (List ℕ)) (x : X) → BeginsWithWord word head Says pieces x → Pass (worded_fields word all behind pieces)
   begun_pass each pass [] x h = absurd h
   begun_pass each pass (p ∷ ps) x h = subst Pass (sym (worded_first (p ∷ ps) p ps (Some (head x)) refl (ap (worded word all) h.0 ∙ each (head x)))) (pass x ps h.1)
 
   -- and what is said so is one
-  pub begun_once : ((w : W) → worded word all (word w) ≡ Some w) → ((x y : X) (ps : List (List ℕ)) → head x ≡ head y → Says x ps → Says y ps → x ≡ y) → (pieces : List (List ℕ)) (x y : X) → Begins word head Says pieces x → Begins word head Says pieces y → x ≡ y
+  pub begun_once : ((w : W) → worded word all (word w) ≡ Some w) → ((x y : X) (ps : List (List ℕ)) → head x ≡ head y → Says x ps → Says y ps → x ≡ y) → (pieces : List (List ℕ)) (x y : X) → BeginsWithWord word head Says pieces x → BeginsWithWord word head Says pieces y → x ≡ y
   begun_once each once [] x y h k = absurd h
   begun_once each once (p ∷ ps) x y h k =
       let same : Some (head x) ≡ Some (head y) = sym (each (head x)) ∙ ap (worded word all) (sym h.0 ∙ k.0) ∙ each (head y) in

@@ -1,5 +1,5 @@
 -- What is read of an item, and when it is one.
-use Rattle.osrl_grammar.proofs.Names.{◌≡◌, ◌∙◌, inr, ℕ, ◌+◌, Bool, false, length, pos, Option, None, Some, Result, Ok, Err, List, [], ◌∷◌, ◌++◌, refl, ap, sym, subst, AllZip, option_map, whole, ratio, Frac, Mult, Node, Step, Held, Part, Point, Value, Ray, Misread, NoShape, NoNumber, TooGreat, Index, Turn, Whole, Exact, Field, pieces, Pair, parted, worded, field, step_text, all_steps, node_word, all_node_words, cause_word, all_cause_words, pair_fields, mult_fields, mults_fields, no_field, one_field, place_fields, node_behind, cause_behind, item_fields, ReadsSo, IsFraction, IsMult, IsMultOf, IsOne, IsPlace, node_head, SaysNode, cause_head, SaysCause, IsRoundOf, TreeItem, tree_head, SaysTree, IsOutOfOrder, next_level, round_word, round_fields, IsItemRead, AddsItem, IfOk-weaker}
+use Rattle.osrl_grammar.proofs.Names.{◌≡◌, ◌∙◌, inr, ℕ, ◌+◌, Bool, false, length, pos, Option, None, Some, Result, Ok, Err, List, [], ◌∷◌, ◌++◌, refl, ap, sym, subst, AllZip, option_map, whole, ratio, Frac, Mult, Node, Step, Held, Part, Point, Value, Ray, Misread, NoShape, NoNumber, TooGreat, Index, Turn, Whole, Exact, Field, pieces, Pair, parted, worded, field, step_text, all_steps, node_word, all_node_words, cause_word, all_cause_words, pair_fields, mult_fields, mults_fields, no_field, one_field, place_fields, node_behind, cause_behind, item_fields, ReadsTexts, IsFraction, IsMult, IsMultOf, IsOne, IsPlace, node_head, SaysNode, cause_head, SaysCause, IsRoundOf, TreeItem, tree_head, SaysTree, IsOutOfOrder, next_level, round_word, round_fields, IsItemRead, AddsItem, IfOk-weaker}
 use Rattle.certificate.specs.declared.nodes.Node.TheVariants as nodes
 use Rattle.osrl_grammar.specs.declared.parts.TreeItem.TheVariants as trees
 use Rattle.certificate.specs.declared.causes.Place.{Place}
@@ -83,26 +83,26 @@ added_readable Tree said h k a = begun_pass node_word all_node_words node_behind
 added_readable Cause said h k a = begun_pass cause_word all_cause_words cause_behind cause_head SaysCause each_cause_word cause_pass (pieces said) a.0 a.1
 
 -- an item that was added was read
-pub added_read : (o : Option (List Field)) (k : Held) (P : Held → Type 0) → Pass o → P k → ReadsSo o (Ok k) P
+pub added_read : (o : Option (List Field)) (k : Held) (P : Held → Type 0) → Pass o → P k → ReadsTexts o (Ok k) P
 added_read None k P pass is = absurd pass
 added_read (Some fs) k P pass is = (pass.0, pass.1, is)
 
 -- what was read of its text is read of the item, where it begins no level out of order
-pub reads_held : {X : Type 0} (o : Option (List Field)) (r : Result X Misread) (k : Held) (P : X → Type 0) (Q : Held → Type 0) → ((x : X) → P x → Q k) → ReadsSo o r P → ReadsSo o (as_held k r) Q
+pub reads_held : {X : Type 0} (o : Option (List Field)) (r : Result X Misread) (k : Held) (P : X → Type 0) (Q : Held → Type 0) → ((x : X) → P x → Q k) → ReadsTexts o r P → ReadsTexts o (as_held k r) Q
 reads_held None r k P Q says h = ap (as_held k) h
 reads_held (Some fs) (Ok x) k P Q says h = (h.0, h.1, says x h.2)
 reads_held (Some fs) (Err NoShape) k P Q says h = h
 reads_held (Some fs) (Err NoNumber) k P Q says h = h
 reads_held (Some fs) (Err TooGreat) k P Q says h = h
 
-pub item_is_read : {X : Type 0} (p : Part) (said : List ℕ) (h k : Held) (r : Result X Misread) (P : X → Type 0) → (IsOutOfOrder (next_level h) p said → ⊥) → ((x : X) → P x → AddsItem p said h k) → ReadsSo (item_fields p said) r P → IsItemRead p said h (as_held k r)
+pub item_is_read : {X : Type 0} (p : Part) (said : List ℕ) (h k : Held) (r : Result X Misread) (P : X → Type 0) → (IsOutOfOrder (next_level h) p said → ⊥) → ((x : X) → P x → AddsItem p said h k) → ReadsTexts (item_fields p said) r P → IsItemRead p said h (as_held k r)
 item_is_read p said h k r P order says is = inr (order, reads_held (item_fields p said) r k P (λ (g : Held). AddsItem p said h g) says is)
 
 -- one that was read, or not
-pub item_made : {X : Type 0} (p : Part) (said : List ℕ) (h k : Held) (x : X) (P : X → Type 0) → (IsOutOfOrder (next_level h) p said → ⊥) → (P x → AddsItem p said h k) → ReadsSo (item_fields p said) (Ok x) P → IsItemRead p said h (Ok k)
+pub item_made : {X : Type 0} (p : Part) (said : List ℕ) (h k : Held) (x : X) (P : X → Type 0) → (IsOutOfOrder (next_level h) p said → ⊥) → (P x → AddsItem p said h k) → ReadsTexts (item_fields p said) (Ok x) P → IsItemRead p said h (Ok k)
 item_made p said h k x P order says reads = inr (order, reads_made (item_fields p said) (Ok x) x k P (λ (g : Held). AddsItem p said h g) refl says reads)
 
-pub item_unmade : {X : Type 0} (p : Part) (said : List ℕ) (h : Held) (u : Misread) (P : X → Type 0) → (IsOutOfOrder (next_level h) p said → ⊥) → ReadsSo (item_fields p said) (Err u) P → IsItemRead p said h (Err u)
+pub item_unmade : {X : Type 0} (p : Part) (said : List ℕ) (h : Held) (u : Misread) (P : X → Type 0) → (IsOutOfOrder (next_level h) p said → ⊥) → ReadsTexts (item_fields p said) (Err u) P → IsItemRead p said h (Err u)
 item_unmade p said h u P order reads = inr (order, still_unread (item_fields p said) u P (λ (g : Held). AddsItem p said h g) reads)
 
 -- an item of a tree that was tested for the level that comes next
@@ -113,7 +113,7 @@ in_order h n said b is tests not out = refused b (IsLevelBut (n + 2) (pieces sai
 number_added : {X E : Type 0} (r : Result (Result X Misread) E) (p q : Part) (said : List ℕ) (old new : List Frac) (h k : Held) → p ≡ q → (IsOutOfOrder (next_level h) q said → ⊥) → item_fields q said ≡ Some (field Exact said ∷ []) → ((y : Frac) → IsFraction said y → new ≡ old ++ y ∷ [] → AddsItem q said h k) → ReadsNumber said old new r → ReadsItem p said h k r
 number_added {X} r p q said old new h k at order are adds reads =
     subst (λ (t : Part). ReadsItem t said h k r) (sym at)
-    (IfOk-weaker r _ _ (λ (x : Result X Misread) is. item_is_read q said h k x _ order (λ y n. adds n.0 n.1 n.2) (subst (λ (o : Option (List Field)). ReadsSo o x (λ y. (n : Frac) × IsFraction said n × (new ≡ old ++ n ∷ []))) (sym are) is)) reads)
+    (IfOk-weaker r _ _ (λ (x : Result X Misread) is. item_is_read q said h k x _ order (λ y n. adds n.0 n.1 n.2) (subst (λ (o : Option (List Field)). ReadsTexts o x (λ y. (n : Frac) × IsFraction said n × (new ≡ old ++ n ∷ []))) (sym are) is)) reads)
 
 pub point_added : {X E : Type 0} (r : Result (Result X Misread) E) (p : Part) (said : List ℕ) (h : Held) (new : List Frac) → p ≡ Point → ReadsNumber said h.point new r → ReadsItem p said h (record h { point = new }) r
 point_added r p said h new at = number_added r p Point said h.point new h (record h { point = new }) at (λ none. none) refl (λ y n is. (y, n, ap (λ (l : List Frac). let z : Held = record h { point = l } in z) is))

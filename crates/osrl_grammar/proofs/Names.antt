@@ -40,7 +40,7 @@ pub use Rattle.osrl_grammar.specs.Back.{CauseComesBack, ClaimComesBack, ComesBac
 pub use Rattle.osrl_grammar.specs.Cuts.{cut_size, cut_text, decimals, has_sign, without_zeros}
 pub use Rattle.osrl_grammar.specs.Failing.{Fails, MayHoldItems}
 pub use Rattle.osrl_grammar.specs.Grounds.{TextsAreOfCharacters}
-pub use Rattle.osrl_grammar.specs.Items.{ReadsSo, all_cause_words, all_node_words, all_steps, cause_behind, cause_word, field, item_fields, mult_fields, mults_fields, no_field, node_behind, node_word, one_field, pair_fields, place_fields, round_fields, round_word, step_text, two_fields, with_fields}
+pub use Rattle.osrl_grammar.specs.Items.{ReadsTexts, all_cause_words, all_node_words, all_steps, cause_behind, cause_word, field, item_fields, mult_fields, mults_fields, no_field, node_behind, node_word, one_field, pair_fields, place_fields, round_fields, round_word, step_text, two_fields, with_fields}
 pub use Rattle.osrl_grammar.specs.Adding.{AddsItem, AfterItem, IsItemRead, noted, with_read, with_tree_item}
 pub use Rattle.osrl_grammar.specs.Leaving.{Ends, Leaves, begun, first, keeps, with_part}
 pub use Rattle.osrl_grammar.specs.Marked.{IsReport, marks, osrl}
@@ -52,7 +52,7 @@ pub use Rattle.osrl_grammar.specs.Saying.{bad_item, cert, certs, claim_as, has, 
 pub use Rattle.osrl_grammar.specs.Standing.{State, nothing_held, start}
 pub use Rattle.osrl_grammar.specs.Stepping.{EndsAt}
 pub use Rattle.osrl_grammar.specs.Table.{around, item_refusal, kind, leads, refusal_of, tests, told}
-pub use Rattle.osrl_grammar.specs.Values.{Begins, IsCause, IsFraction, IsMult, IsMultOf, IsOne, IsOutOfOrder, IsPlace, IsRound, IsRoundOf, IsTreeItem, SaysCause, SaysNode, SaysTree, cause_head, node_head, tree_head}
+pub use Rattle.osrl_grammar.specs.Values.{BeginsWithWord, IsCause, IsFraction, IsMult, IsMultOf, IsOne, IsOutOfOrder, IsPlace, IsRound, IsRoundOf, IsTreeItem, SaysCause, SaysNode, SaysTree, cause_head, node_head, tree_head}
 pub use Rattle.osrl_grammar.specs.Words.{claiming_text, part_name, status_text, worded}
 pub use Rattle.osrl_grammar.specs.Writing.{cause_part, cause_text, certificate_part, claim_nodes, dual_values, fraction_texts, general_nodes, general_type, indexed, item_nodes, leaf_of, mult_text, node_text, optimization, point_parts, point_values, goal_values, level_text, level_texts, ray_part, report_element, report_text, round_text, rounds_part, row_values, solution, status_nodes, tree_parts, tree_values, trees_parts, values_part, values_part_unless_none, variable_values}
 pub use Rattle.tag_tests.specs.declared.places.Led.{Led}
@@ -75,7 +75,7 @@ pub use Rattle.rational.specs.Width.{IsReduced, IsWithin, most}
 pub use Rattle.tag_tests.proofs.Fields.{both_read}
 pub use Rattle.tag_tests.proofs.Forms.{taken_once}
 pub use Rattle.tag_tests.specs.Fields.{FieldsRead}
-pub use Rattle.tag_tests.specs.Forms.{AreTaken, Takes}
+pub use Rattle.tag_tests.specs.Forms.{AreTaken, TakesMark}
 pub use Rattle.tag_tests.specs.Places.{Kind, begins, end_kind, ends, ends_over, led_from, text}
 pub use Rattle.tag_tests.specs.Tests.{AllPass, FirstFails}
 pub use Rattle.tag_tests.specs.declared.marks.Stop.{Stop}

@@ -1,5 +1,5 @@
 -- A mark that is taken leaves one state.
-use Rattle.osrl_grammar.proofs.Names.{◌≡◌, ◌∙◌, inl, inr, ℕ, Option, None, Some, Result, Ok, Err, List, [], ◌∷◌, ◌++◌, refl, ap, sym, AllPass, Frac, Mult, TreeItem, BadItem, Misread, NoShape, NoNumber, TooGreat, Field, IsBad, IsTooGreat, ReadsSo, item_fields, IsItemRead, AfterItem, noted, with_read, with_tree_item, Report, Held, To, Over, OtherRoot, Part, State, start, begins, ends, kind, AddsItem, Ends, Leaves, osrl, Kind}
+use Rattle.osrl_grammar.proofs.Names.{◌≡◌, ◌∙◌, inl, inr, ℕ, Option, None, Some, Result, Ok, Err, List, [], ◌∷◌, ◌++◌, refl, ap, sym, AllPass, Frac, Mult, TreeItem, BadItem, Misread, NoShape, NoNumber, TooGreat, Field, IsBad, IsTooGreat, ReadsTexts, item_fields, IsItemRead, AfterItem, noted, with_read, with_tree_item, Report, Held, To, Over, OtherRoot, Part, State, start, begins, ends, kind, AddsItem, Ends, Leaves, osrl, Kind}
 use Rattle.tag_tests.specs.Fields.{OneFirst}
 use Rattle.tag_tests.specs.Forms.{LeavesOne}
 use Rattle.certificate.specs.declared.causes.Cause as why
@@ -24,7 +24,7 @@ added_once parts.Tree said h a b k l = k.2 ∙ ap (λ (x : TreeItem). with_tree_
 added_once parts.Cause said h a b k l = k.2 ∙ ap (λ (x : why.Cause). let g : Held = record h { causes = h.causes ++ x ∷ [] } in g) (cause_said_once said k.0 l.0 k.1 l.1) ∙ sym l.2
 
 -- what is read of texts that pass, or not, is one thing
-reads_once : (o : Option (List Field)) (P : Held → Type 0) → ((a b : Held) → P a → P b → a ≡ b) → (r q : Result Held Misread) → ReadsSo o r P → ReadsSo o q P → r ≡ q
+reads_once : (o : Option (List Field)) (P : Held → Type 0) → ((a b : Held) → P a → P b → a ≡ b) → (r q : Result Held Misread) → ReadsTexts o r P → ReadsTexts o q P → r ≡ q
 reads_once None P one r q h g = h ∙ sym g
 reads_once (Some fs) P one (Ok a) (Ok b) h g = ap (λ (k : Held). let t : Result Held Misread = Ok k in t) (one a b h.2 g.2)
 reads_once (Some fs) P one (Ok a) (Err NoShape) h g = absurd g

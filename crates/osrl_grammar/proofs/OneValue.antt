@@ -7,7 +7,7 @@ use Rattle.osrl_grammar.specs.declared.parts.NodeWord.TheVariants as heads
 use Rattle.osrl_grammar.specs.declared.parts.TreeItem.TheVariants as trees
 use Rattle.certificate.specs.declared.causes.Cause as why
 use Rattle.certificate.specs.declared.causes.Cause.TheVariants as causes
-use Rattle.osrl_grammar.specs.Numbers.{Kind}
+use Rattle.osrl_grammar.specs.Numbers.{NumberKind}
 use Rattle.osrl_grammar.proofs.WordValues.{one_step, each_node_word, each_cause_word}
 use Rattle.osrl_grammar.proofs.Heads.{begun_once}
 
@@ -26,10 +26,10 @@ each_once Is once (x ∷ xs) (y ∷ ys) (z ∷ zs) h k =
     cc
 
 -- a text is one whole number
-whole_once : (k : Kind) (t : List ℕ) (a b : ℤ) → IsNumberText k t (whole a) → IsNumberText k t (whole b) → a ≡ b
+whole_once : (k : NumberKind) (t : List ℕ) (a b : ℤ) → IsNumberText k t (whole a) → IsNumberText k t (whole b) → a ≡ b
 whole_once k t a b h g = ap (λ (r : Ratio). r.num) (ratio_once t (whole a) (whole b) h.0.form g.0.form)
 
-count_once : (k : Kind) (t : List ℕ) (n m : ℕ) → IsNumberText k t (whole (pos n)) → IsNumberText k t (whole (pos m)) → n ≡ m
+count_once : (k : NumberKind) (t : List ℕ) (n m : ℕ) → IsNumberText k t (whole (pos n)) → IsNumberText k t (whole (pos m)) → n ≡ m
 count_once k t n m h g = let e : pos n ≡ pos m = whole_once k t (pos n) (pos m) h g in cc
 
 pair_once : (o : Option Pair) (m n : Mult) → IsMultOf o m → IsMultOf o n → m ≡ n

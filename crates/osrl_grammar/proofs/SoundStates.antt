@@ -1,5 +1,5 @@
 -- What the marks of a document leave comes back from what is written of it: its texts are of characters of XML, its nodes and causes hold numbers of their types, and there are at most as many nodes as elements.
-use Rattle.osrl_grammar.proofs.Names.{◌≡◌, ◌∙◌, ℕ, zero, suc, ◌+◌, ◌-◌, ◌^◌, ◌<◌, ◌≤◌, inl, inr, Bool, true, false, cond, Option, None, Some, List, [], ◌∷◌, ◌++◌, map, length, refl, ap, sym, subst, arith, option_map, flat_map, append-nil, false≢true, true≢false, ◌&&◌, worded, claiming_text, Result, Ok, Err, Misread, NoShape, Field, bytes_eq, codes, All, AllZip, All-nil, All-cons, All-head, All-tail, All-append, IsXmlText, Attribute, Event, Close, Element, Nodes, none, element, chars, nodes_events, Char, spread, elements_in, trimmed, AllPass, AreTaken, Frac, nodes_of, Mult, Cert, Node, Split, Zero, Clash, Farkas, Bound, Claim, Infeasible, Unsure, JobStatus, Report, Held, Led, Part, Claiming, pieces, Pair, parted, node_word, cause_word, IsMultOf, IsMult, IsOne, SaysNode, TreeItem, tree_head, SaysTree, cause_head, SaysCause, Begins, IsTreeItem, IsRoundOf, IsRound, IsCause, item_fields, ReadsSo, IsItemRead, AfterItem, BadItem, noted, with_read, with_tree_item, bad_item, cert, certs, State, start, nothing_held, claim_as, report_with, report_of, nonempty, status_of, begins, ends, around, tests, leads, Fails, with_part, begun, first, AddsItem, Ends, Leaves, osrl, IsReport, TextsAreOfCharacters, HaveColumns, NodeComesBack, CauseComesBack, LevelComesBack, HasTrees, MayHaveTrees, ClaimComesBack, IsBareOrNone, end_kind, led_from, keeps}
+use Rattle.osrl_grammar.proofs.Names.{◌≡◌, ◌∙◌, ℕ, zero, suc, ◌+◌, ◌-◌, ◌^◌, ◌<◌, ◌≤◌, inl, inr, Bool, true, false, cond, Option, None, Some, List, [], ◌∷◌, ◌++◌, map, length, refl, ap, sym, subst, arith, option_map, flat_map, append-nil, false≢true, true≢false, ◌&&◌, worded, claiming_text, Result, Ok, Err, Misread, NoShape, Field, bytes_eq, codes, All, AllZip, All-nil, All-cons, All-head, All-tail, All-append, IsXmlText, Attribute, Event, Close, Element, Nodes, none, element, chars, nodes_events, Char, spread, elements_in, trimmed, AllPass, AreTaken, Frac, nodes_of, Mult, Cert, Node, Split, Zero, Clash, Farkas, Bound, Claim, Infeasible, Unsure, JobStatus, Report, Held, Led, Part, Claiming, pieces, Pair, parted, node_word, cause_word, IsMultOf, IsMult, IsOne, SaysNode, TreeItem, tree_head, SaysTree, cause_head, SaysCause, BeginsWithWord, IsTreeItem, IsRoundOf, IsRound, IsCause, item_fields, ReadsTexts, IsItemRead, AfterItem, BadItem, noted, with_read, with_tree_item, bad_item, cert, certs, State, start, nothing_held, claim_as, report_with, report_of, nonempty, status_of, begins, ends, around, tests, leads, Fails, with_part, begun, first, AddsItem, Ends, Leaves, osrl, IsReport, TextsAreOfCharacters, HaveColumns, NodeComesBack, CauseComesBack, LevelComesBack, HasTrees, MayHaveTrees, ClaimComesBack, IsBareOrNone, end_kind, led_from, keeps}
 use Rattle.std.specs.Prelude.{option_and_then, IsSome}
 use Rattle.std.proofs.lemmas.List.{length-append}
 use Rattle.std.proofs.lemmas.List.Elements.{All-weaker}
@@ -79,7 +79,7 @@ why_back causes.Memory ps h = tt
 node_back : (text : List ℕ) (n : Node) → IsTreeItem text (trees.Node n) → NodeComesBack n
 node_back text n h = begun_says (pieces text) n h
   where
-    begun_says : (ps : List (List ℕ)) (n : Node) → Begins node_word tree_head SaysTree ps (trees.Node n) → NodeComesBack n
+    begun_says : (ps : List (List ℕ)) (n : Node) → BeginsWithWord node_word tree_head SaysTree ps (trees.Node n) → NodeComesBack n
     begun_says [] n h = absurd h
     begun_says (p ∷ ps) n h = said_back n ps h.1
 
@@ -93,7 +93,7 @@ round_back text ms h = begun_says (pieces text) h
 cause_back : (text : List ℕ) (c : why.Cause) → IsCause text c → CauseComesBack c
 cause_back text c h = begun_says (pieces text) c h
   where
-    begun_says : (ps : List (List ℕ)) (c : why.Cause) → Begins cause_word cause_head SaysCause ps c → CauseComesBack c
+    begun_says : (ps : List (List ℕ)) (c : why.Cause) → BeginsWithWord cause_word cause_head SaysCause ps c → CauseComesBack c
     begun_says [] c h = absurd h
     begun_says (p ∷ ps) c h = why_back c ps h.1
 
@@ -320,12 +320,12 @@ chars_sound n s z cs taken xml f =
     subst (Sound n) (sym (chars_leave osrl (λ (t : List ℕ). record s { text = t }) (keeps s.depth s.place) (λ t c m takes. takes.1) s.text cs z taken)) (kept_xml (keeps s.depth s.place) s.text cs f.0 xml, f.1, f.2, f.3, f.4, f.5)
 
 -- what was added of an item that was read
-reads_adds : (o : Option (List Field)) (k : Held) (P : Held → Type 0) → ReadsSo o (Ok k) P → P k
+reads_adds : (o : Option (List Field)) (k : Held) (P : Held → Type 0) → ReadsTexts o (Ok k) P → P k
 reads_adds None k P h = absurd (cc)
 reads_adds (Some fs) k P h = h.2
 
 -- an item that begins a level begins with its word
-level_noted : (ps : List (List ℕ)) (l : ℕ) → Begins node_word tree_head SaysTree ps (trees.Level l) → begins_level ps ≡ true
+level_noted : (ps : List (List ℕ)) (l : ℕ) → BeginsWithWord node_word tree_head SaysTree ps (trees.Level l) → begins_level ps ≡ true
 level_noted [] l h = absurd h
 level_noted (p ∷ ps) l h = (bytes_eq-Decides p (codes "level")).1 h.0
 

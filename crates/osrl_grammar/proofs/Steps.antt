@@ -1,5 +1,5 @@
 -- A mark is taken, or refused, by the kind that it is of in the state that the code holds.
-use Rattle.osrl_grammar.proofs.Names.{◌≡◌, ℕ, zero, suc, ◌+◌, ◌-◌, ◌<◌, ◌≤◌, false, List, refl, sym, subst, arith, Result, Ok, Err, Attribute, Start, Finish, AllPass, FirstFails, Takes, OsrlFault, Stop, Refused, Led, To, Over, Kind, begins, ends_over, end_kind, led_from, State, tests, told, leads, Fails, keeps, begun, Leaves, osrl, EndsAt}
+use Rattle.osrl_grammar.proofs.Names.{◌≡◌, ℕ, zero, suc, ◌+◌, ◌-◌, ◌<◌, ◌≤◌, false, List, refl, sym, subst, arith, Result, Ok, Err, Attribute, Start, Finish, AllPass, FirstFails, TakesMark, OsrlFault, Stop, Refused, Led, To, Over, Kind, begins, ends_over, end_kind, led_from, State, tests, told, leads, Fails, keeps, begun, Leaves, osrl, EndsAt}
 use Rattle.tag_tests.specs.declared.marks.Stop.TheVariants.{Memory}
 use Rattle.tag_tests.specs.Readers.{StepsBy}
 use Rattle.tag_tests.proofs.EndKinds.{end_here}
@@ -29,14 +29,14 @@ abbrev IsTakenAs : State → State → Kind Place → Type 0
 IsTakenAs s z k = AllPass (Fails s) (tests k) × Leaves s k z
 
 -- a start tag of an element that is read, and of one that is passed over
-pub start_in : (s : State) (name : List ℕ) (as' : List Attribute) (p : Place) → led_at s name as' ≡ To p → (z : State) → z ≡ begun s as' p → Takes osrl s (Start name as') z
+pub start_in : (s : State) (name : List ℕ) (as' : List Attribute) (p : Place) → led_at s name as' ≡ To p → (z : State) → z ≡ begun s as' p → TakesMark osrl s (Start name as') z
 start_in s name as' p is z h = subst (λ (l : Led Place). IsTakenAs s z (begins l as')) (sym is) (tt, h)
 
-pub start_over : (s : State) (name : List ℕ) (as' : List Attribute) → led_at s name as' ≡ Over → Takes osrl s (Start name as') (record s { depth = s.depth + 1 })
+pub start_over : (s : State) (name : List ℕ) (as' : List Attribute) → led_at s name as' ≡ Over → TakesMark osrl s (Start name as') (record s { depth = s.depth + 1 })
 start_over s name as' is = subst (λ (l : Led Place). IsTakenAs s (record s { depth = s.depth + 1 }) (begins l as')) (sym is) (tt, refl)
 
 -- an end tag, of an element that is passed over
-pub end_over : (s : State) (name : List ℕ) → 0 < s.depth → Takes osrl s (Finish name) (record s { depth = s.depth - 1 })
+pub end_over : (s : State) (name : List ℕ) → 0 < s.depth → TakesMark osrl s (Finish name) (record s { depth = s.depth - 1 })
 end_over s name deep = subst (IsTakenAs s (record s { depth = s.depth - 1 })) (over_ends s.depth s.place deep) (tt, refl)
 
 -- and of one that is read

@@ -1,5 +1,5 @@
 -- The items of written trees, each read behind those before it.
-use Rattle.osrl_grammar.proofs.Names.{◌≡◌, ◌∙◌, ℕ, ◌+◌, ◌^◌, ◌<◌, ◌≤◌, ◌&&◌, ◌⊎◌, inl, inr, pos, Bool, true, false, Option, Ok, List, [], ◌∷◌, ◌++◌, map, length, refl, ap, sym, subst, arith, append_assoc, append-nil, bytes_eq, codes, decimal, false≢true, All, All-head, All-tail, Mult, Cert, Node, Held, Part, ratio_once, whole, pieces, node_word, item_fields, node_head, SaysTree, tree_head, Begins, IsOutOfOrder, IsItemRead, AddsItem, cert, certs, next_level, node_text, level_text, level_texts, NodeComesBack, LevelComesBack}
+use Rattle.osrl_grammar.proofs.Names.{◌≡◌, ◌∙◌, ℕ, ◌+◌, ◌^◌, ◌<◌, ◌≤◌, ◌&&◌, ◌⊎◌, inl, inr, pos, Bool, true, false, Option, Ok, List, [], ◌∷◌, ◌++◌, map, length, refl, ap, sym, subst, arith, append_assoc, append-nil, bytes_eq, codes, decimal, false≢true, All, All-head, All-tail, Mult, Cert, Node, Held, Part, ratio_once, whole, pieces, node_word, item_fields, node_head, SaysTree, tree_head, BeginsWithWord, IsOutOfOrder, IsItemRead, AddsItem, cert, certs, next_level, node_text, level_text, level_texts, NodeComesBack, LevelComesBack}
 use Rattle.std.proofs.lemmas.List.{length-append}
 use Rattle.std.proofs.lemmas.Slice.Eq.{bytes_eq-Decides}
 use Rattle.certificate.specs.declared.nodes.Node.TheVariants as nodes
@@ -42,7 +42,7 @@ node_other (nodes.Clash c) = refl
 node_other (nodes.Farkas ms) = refl
 node_other (nodes.Bound ms) = refl
 
-node_apart : (l : ℕ) (ps : List (List ℕ)) (n : Node) → Begins node_word tree_head SaysTree ps (trees.Node n) → (begins_level ps ≡ false) × (IsLevelBut l ps → ⊥)
+node_apart : (l : ℕ) (ps : List (List ℕ)) (n : Node) → BeginsWithWord node_word tree_head SaysTree ps (trees.Node n) → (begins_level ps ≡ false) × (IsLevelBut l ps → ⊥)
 node_apart l [] n h = absurd h
 node_apart l (p ∷ []) n h = (ap (λ (w : List ℕ). bytes_eq w (codes "level")) h.0 ∙ node_other n, (λ other. other))
 node_apart l (p ∷ k ∷ []) n h = (ap (λ (w : List ℕ). bytes_eq w (codes "level")) h.0 ∙ node_other n, (λ other. false≢true (sym (node_other n) ∙ (bytes_eq-Decides (node_word (node_head n)) (codes "level")).1 (sym h.0 ∙ other.0))))

@@ -7,7 +7,7 @@ use Rattle.std.proofs.lemmas.Str.Parse.{digit_from_value}
 use Rattle.rational.proofs.ReducedForms.{one_number}
 use Rattle.decimal_text.specs.Exact.{IsPositive, Under, absent, over, under_text, under_value, IsUnder}
 use Rattle.tag_tests.specs.declared.numbers.Unread.TheVariants.{NotNumber}
-use Rattle.osrl_grammar.specs.Numbers.{Kind, IsOfKind}
+use Rattle.osrl_grammar.specs.Numbers.{NumberKind, IsOfKind}
 
 -- no byte
 pub free_nil : (byte : ℕ) → IsFree byte []
@@ -120,7 +120,7 @@ size_read text k h free =
     record { form = w.form; of_kind = (unsigned_abs k, refl); reduced = w.reduced }
 
 -- a kind of numbers from 0 on, all of which are within the width
-pub record IsSizes (kind : Kind) : Type 0 where
+pub record IsSizes (kind : NumberKind) : Type 0 where
   pub sized : (x : Ratio) → IsOfKind kind x → (n : ℕ) × (x ≡ whole (pos n))
   pub every : (n : ℕ) → IsOfKind kind (whole (pos n))
   pub narrow : (x : Ratio) → FitsKind kind x → unsigned_abs x.num ≤ most
@@ -132,11 +132,11 @@ pub turn_sizes : IsSizes Turn
 turn_sizes = record { sized = λ x h. h; every = λ n. (n, refl); narrow = λ x h. let top : 2 ^ 64 ≤ most = lit≤ tt in omega (arith, h, top) }
 
 -- a text with `-` is none of them
-pub not_size : (kind : Kind) (text : List ℕ) → IsSizes kind → (IsFree 45 text → ⊥) → IsNot kind text NotNumber
+pub not_size : (kind : NumberKind) (text : List ℕ) → IsSizes kind → (IsFree 45 text → ⊥) → IsNot kind text NotNumber
 not_size kind text sizes signed_text = λ x w. let n = sizes.sized x w.of_kind in signed_text (size_free text x n.0 w.form (ap (λ (y : Ratio). y.num) n.1))
 
 -- what isn't a whole number is none of them
-pub size_unread : (kind : Kind) (text : List ℕ) (u : Unread) → IsSizes kind → IsNot Whole text u → IsFree 45 text → IsNot kind text u
+pub size_unread : (kind : NumberKind) (text : List ℕ) (u : Unread) → IsSizes kind → IsNot Whole text u → IsFree 45 text → IsNot kind text u
 size_unread kind text NotNumber sizes h free = λ x w. h x (record { form = w.form; of_kind = ap (λ (y : Ratio). y.den) (sizes.sized x w.of_kind).1; reduced = w.reduced })
 size_unread kind text Wide sizes (x, w, wide) free =
     let same : x ≡ whole (pos (unsigned_abs x.num)) = one_number x (whole (pos (unsigned_abs x.num))) (free_size text x w.form free) w.of_kind in

@@ -11,7 +11,7 @@ use Rattle.osrl_grammar.specs.declared.parts.Misread.TheVariants.{NoShape}
 use Rattle.osrl_grammar.specs.declared.parts.BadItem.{BadItem}
 use Rattle.osrl_grammar.specs.declared.parts.TreeItem.{TreeItem}
 use Rattle.osrl_grammar.specs.declared.parts.TreeItem.TheVariants as trees
-use Rattle.osrl_grammar.specs.Items.{item_fields, is_level, ReadsSo}
+use Rattle.osrl_grammar.specs.Items.{item_fields, is_level, ReadsTexts}
 use Rattle.osrl_grammar.specs.Values.{IsFraction, IsRound, IsTreeItem, IsCause, IsOutOfOrder}
 use Rattle.osrl_grammar.specs.Standing.{State, nothing_held}
 use Rattle.osrl_grammar.specs.Saying.{cert, next_level, says_infeasible}
@@ -32,7 +32,7 @@ AddsItem Cause said h k = (c : why.Cause) × IsCause said c × (k ≡ record h {
 
 -- WHAT IS READ OF AN ITEM: what the parts hold then, or what is wrong with it; a level out of order isn't of its shape
 abbrev pub IsItemRead : Part → (said : List ℕ) → Held → Result Held Misread → Type 0
-IsItemRead p said h r = (IsOutOfOrder (next_level h) p said × (r ≡ Err NoShape)) ⊎ ((IsOutOfOrder (next_level h) p said → ⊥) × ReadsSo (item_fields p said) r (λ k. AddsItem p said h k))
+IsItemRead p said h r = (IsOutOfOrder (next_level h) p said × (r ≡ Err NoShape)) ⊎ ((IsOutOfOrder (next_level h) p said → ⊥) × ReadsTexts (item_fields p said) r (λ k. AddsItem p said h k))
 
 -- the number of the first item that begins with the word of a level, where the solution may claim that no point is feasible
 abbrev pub first_level : Bool → Option ℕ → ℕ → Option ℕ

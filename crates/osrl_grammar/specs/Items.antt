@@ -16,7 +16,7 @@ use Rattle.osrl_grammar.specs.declared.parts.Misread.TheVariants.{NoShape, NoNum
 use Rattle.tag_tests.specs.declared.numbers.Unread.{Unread}
 use Rattle.tag_tests.specs.declared.numbers.Unread.TheVariants.{NotNumber, Wide}
 use Rattle.osrl_grammar.specs.Words.{worded}
-use Rattle.osrl_grammar.specs.Numbers.{Kind, Index, Turn, Whole, Exact, Field, IsBad, IsTooGreat}
+use Rattle.osrl_grammar.specs.Numbers.{NumberKind, Index, Turn, Whole, Exact, Field, IsBad, IsTooGreat}
 use Rattle.osrl_grammar.specs.Pieces.{pieces, Pair, parted}
 
 -- the words of nodes and of what begins a level, of causes, and of rounds; steps have theirs
@@ -48,7 +48,7 @@ all_steps = steps.Values ∷ steps.Ratio ∷ steps.Pivot ∷ steps.Point ∷ ste
 abbrev pub round_word : List ℕ
 round_word = codes "round"
 
-abbrev pub field : Kind → List ℕ → Field
+abbrev pub field : NumberKind → List ℕ → Field
 field kind text = record { kind = kind; text = text }
 
 -- THE TEXTS FOR NUMBERS, in their order, in pieces behind a word; none where the pieces aren't of such a shape
@@ -56,11 +56,11 @@ abbrev pub no_field : List (List ℕ) → Option (List Field)
 no_field [] = Some []
 no_field ps = None
 
-abbrev pub one_field : Kind → List (List ℕ) → Option (List Field)
+abbrev pub one_field : NumberKind → List (List ℕ) → Option (List Field)
 one_field k (a ∷ []) = Some (field k a ∷ [])
 one_field k ps = None
 
-abbrev pub two_fields : Kind → Kind → List (List ℕ) → Option (List Field)
+abbrev pub two_fields : NumberKind → NumberKind → List (List ℕ) → Option (List Field)
 two_fields k l (a ∷ b ∷ []) = Some (field k a ∷ field l b ∷ [])
 two_fields k l ps = None
 
@@ -127,12 +127,12 @@ misread_of NotNumber = NoNumber
 misread_of Wide = TooGreat
 
 -- all of these texts were read, and say so; or this is wrong with the item
-abbrev pub ReadsSo : {A : Type 0} → Option (List Field) → Result A Misread → (A → Type 0) → Type 0
-ReadsSo {A} None r Says = r ≡ Err NoShape
-ReadsSo {A} (Some fs) (Ok a) Says = AllPass IsBad fs × AllPass IsTooGreat fs × Says a
-ReadsSo {A} (Some fs) (Err NoShape) Says = ⊥
-ReadsSo {A} (Some fs) (Err NoNumber) Says = OneFirst IsBad fs
-ReadsSo {A} (Some fs) (Err TooGreat) Says = AllPass IsBad fs × OneFirst IsTooGreat fs
+abbrev pub ReadsTexts : {A : Type 0} → Option (List Field) → Result A Misread → (A → Type 0) → Type 0
+ReadsTexts {A} None r Says = r ≡ Err NoShape
+ReadsTexts {A} (Some fs) (Ok a) Says = AllPass IsBad fs × AllPass IsTooGreat fs × Says a
+ReadsTexts {A} (Some fs) (Err NoShape) Says = ⊥
+ReadsTexts {A} (Some fs) (Err NoNumber) Says = OneFirst IsBad fs
+ReadsTexts {A} (Some fs) (Err TooGreat) Says = AllPass IsBad fs × OneFirst IsTooGreat fs
 
 -- an item that begins with the word of a level
 abbrev pub begins_level : List (List ℕ) → Bool

@@ -15,7 +15,7 @@ use Rattle.osrl_grammar.specs.declared.parts.Part.{Part}
 use Rattle.osrl_grammar.specs.declared.parts.Part.TheVariants.{Value, Tree, Cause}
 use Rattle.osrl_grammar.specs.declared.parts.Misread.{Misread}
 use Rattle.osrl_grammar.specs.Numbers.{Exact, Field, IsBad, IsTooGreat}
-use Rattle.osrl_grammar.specs.Items.{field, ReadsSo}
+use Rattle.osrl_grammar.specs.Items.{field, ReadsTexts}
 use Rattle.osrl_grammar.specs.Values.{IsFraction, IsMult}
 use Rattle.osrl_grammar.specs.Standing.{State}
 use Rattle.osrl_grammar.specs.Saying.{has, items}
@@ -38,7 +38,7 @@ ReadMults {X} done fs ms r = FieldsRead IsBad IsTooGreat fs r (λ x. AllZip IsMu
 
 -- a number was read of this text and added to these, or this is wrong with it; the other error is want of memory
 abbrev pub ReadsNumber : {X E : Type 0} → List ℕ → List Frac → List Frac → Result (Result X Misread) E → Type 0
-ReadsNumber {X} {E} said old new result = IfOk result (λ r. ReadsSo (Some (field Exact said ∷ [])) r (λ x. (y : Frac) × IsFraction said y × (new ≡ old ++ y ∷ [])))
+ReadsNumber {X} {E} said old new result = IfOk result (λ r. ReadsTexts (Some (field Exact said ∷ [])) r (λ x. (y : Frac) × IsFraction said y × (new ≡ old ++ y ∷ [])))
 
 -- what the parts hold then, where it was read
 abbrev pub as_held : {X : Type 0} → Held → Result X Misread → Result Held Misread

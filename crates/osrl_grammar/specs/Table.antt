@@ -8,7 +8,7 @@ use Rattle.osrl_grammar.specs.declared.elements.Place.TheVariants.{Outside, Osrl
 use Rattle.tag_tests.specs.declared.places.Led.{Led}
 use Rattle.tag_tests.specs.declared.places.Led.TheVariants.{To, Over, OtherRoot}
 use Rattle.tag_tests.specs.Places.{Child, child, among, Kind, begins, ends}
-use Rattle.tag_tests.specs.Contents.{Content, root, reads, leads_by, kind_by}
+use Rattle.tag_tests.specs.Contents.{ChildPlaces, root, reads, leads_by, kind_by}
 use Rattle.osrl_grammar.specs.declared.parts.Part.{Part}
 use Rattle.osrl_grammar.specs.declared.parts.Part.TheVariants.{Point, Value, Ray, Rounds, Tree, Cause}
 use Rattle.osrl_grammar.specs.declared.parts.BadItem.{BadItem}
@@ -21,7 +21,7 @@ use Rattle.osrl_grammar.specs.Standing.{State}
 use Rattle.osrl_grammar.specs.Saying.{bad_item}
 
 -- WHAT IS READ IN WHAT: the child elements of these names
-abbrev pub content : Place → Content Place
+abbrev pub content : Place → ChildPlaces Place
 content Outside = root (codes "osrl") Osrl
 content Osrl = reads (child (codes "general") General ∷ child (codes "job") Job ∷ child (codes "optimization") Optimization ∷ [])
 content General = reads (child (codes "generalStatus") GeneralStatus ∷ child (codes "jobID") JobId ∷ child (codes "message") Message ∷ [])

@@ -93,12 +93,12 @@ abbrev pub IsSaidBehind : {W X : Type 0} → (X → W) → (X → List (List ℕ
 IsSaidBehind {W} {X} head Says w ps x = (head x ≡ w) × Says x ps
 
 -- pieces of which the first is the word
-abbrev pub Begins : {W X : Type 0} → (W → List ℕ) → (X → W) → (X → List (List ℕ) → Type 0) → List (List ℕ) → X → Type 0
-Begins {W} {X} word head Says [] x = ⊥
-Begins {W} {X} word head Says (p ∷ ps) x = (p ≡ word (head x)) × Says x ps
+abbrev pub BeginsWithWord : {W X : Type 0} → (W → List ℕ) → (X → W) → (X → List (List ℕ) → Type 0) → List (List ℕ) → X → Type 0
+BeginsWithWord {W} {X} word head Says [] x = ⊥
+BeginsWithWord {W} {X} word head Says (p ∷ ps) x = (p ≡ word (head x)) × Says x ps
 
 abbrev pub IsTreeItem : List ℕ → TreeItem → Type 0
-IsTreeItem text i = Begins node_word tree_head SaysTree (pieces text) i
+IsTreeItem text i = BeginsWithWord node_word tree_head SaysTree (pieces text) i
 
 -- behind the word of rounds
 abbrev pub IsRoundOf : List (List ℕ) → List Mult → Type 0
@@ -109,7 +109,7 @@ abbrev pub IsRound : List ℕ → List Mult → Type 0
 IsRound text ms = IsRoundOf (pieces text) ms
 
 abbrev pub IsCause : List ℕ → why.Cause → Type 0
-IsCause text c = Begins cause_word cause_head SaysCause (pieces text) c
+IsCause text c = BeginsWithWord cause_word cause_head SaysCause (pieces text) c
 
 -- pieces that begin a level whose number is written, and isn't l
 abbrev pub IsLevelBut : ℕ → List (List ℕ) → Type 0

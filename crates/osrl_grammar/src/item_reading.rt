@@ -10,7 +10,7 @@ ghost use Rattle.osrl_grammar.specs.Words.{worded};
 ghost use Rattle.osrl_grammar.specs.Numbers.{Index, Field, IsBad, IsTooGreat};
 ghost use Rattle.osrl_grammar.specs.Pieces.{more, pieces};
 ghost use Rattle.osrl_grammar.specs.Items as items;
-ghost use Rattle.osrl_grammar.specs.Items.{ReadsSo, pair_fields, mults_fields};
+ghost use Rattle.osrl_grammar.specs.Items.{ReadsTexts, pair_fields, mults_fields};
 ghost use Rattle.osrl_grammar.specs.Values.{IsMult, IsMultOf, IsOne, IsPlace, IsSaidBehind, node_head, SaysNode, tree_head, SaysTree, IsTreeItem, IsRound, IsLevelBut, cause_head, SaysCause, IsCause};
 ghost use Rattle.osrl_grammar.specs.Stepping.{ReadMults};
 
@@ -62,7 +62,7 @@ fn push_read(
 
 /// Multipliers, one a piece.
 fn read_mults(alloc: Global, pairs: Option<&[u8]>) -> Result<Result<Mults, Misread>, Memory>
-    ensures { IfOk result (λ r. ReadsSo (mults_fields (more pairs.entry)) r (AllZip IsMult (more pairs.entry))) }
+    ensures { IfOk result (λ r. ReadsTexts (mults_fields (more pairs.entry)) r (AllZip IsMult (more pairs.entry))) }
 {
     let mut mults = Mults::new(alloc);
     let mut so_far = Ok(());
@@ -83,7 +83,7 @@ fn read_mults(alloc: Global, pairs: Option<&[u8]>) -> Result<Result<Mults, Misre
 
 /// A column, or a limit, that stands alone.
 fn read_one(rest: Option<&[u8]>) -> Result<u32, Misread>
-    ensures { ReadsSo (items.one_field Index (more rest.entry)) result (IsOne (more rest.entry)) }
+    ensures { ReadsTexts (items.one_field Index (more rest.entry)) result (IsOne (more rest.entry)) }
 {
     let Some(text) = one_piece(rest) else {
         return Err(Misread::NoShape);
@@ -96,7 +96,7 @@ fn read_one(rest: Option<&[u8]>) -> Result<u32, Misread>
 
 /// A split behind its word.
 fn read_split(rest: Option<&[u8]>) -> Result<Node, Misread>
-    ensures { ReadsSo (items.node_behind heads.Split (more rest.entry)) result (IsSaidBehind node_head SaysNode heads.Split (more rest.entry)) }
+    ensures { ReadsTexts (items.node_behind heads.Split (more rest.entry)) result (IsSaidBehind node_head SaysNode heads.Split (more rest.entry)) }
 {
     let Some((column, bound)) = two_pieces(rest) else {
         return Err(Misread::NoShape);
@@ -109,7 +109,7 @@ fn read_split(rest: Option<&[u8]>) -> Result<Node, Misread>
 
 /// A variable that is 0 or between its ends, behind its word.
 fn read_zero(rest: Option<&[u8]>) -> Result<Node, Misread>
-    ensures { ReadsSo (items.node_behind heads.Zero (more rest.entry)) result (IsSaidBehind node_head SaysNode heads.Zero (more rest.entry)) }
+    ensures { ReadsTexts (items.node_behind heads.Zero (more rest.entry)) result (IsSaidBehind node_head SaysNode heads.Zero (more rest.entry)) }
 {
     match read_one(rest) {
         Ok(col) => Ok(Node::Zero { col }),
@@ -119,7 +119,7 @@ fn read_zero(rest: Option<&[u8]>) -> Result<Node, Misread>
 
 /// A clash behind its word.
 fn read_clash(rest: Option<&[u8]>) -> Result<Node, Misread>
-    ensures { ReadsSo (items.node_behind heads.Clash (more rest.entry)) result (IsSaidBehind node_head SaysNode heads.Clash (more rest.entry)) }
+    ensures { ReadsTexts (items.node_behind heads.Clash (more rest.entry)) result (IsSaidBehind node_head SaysNode heads.Clash (more rest.entry)) }
 {
     match read_one(rest) {
         Ok(col) => Ok(Node::Clash { col }),
@@ -129,7 +129,7 @@ fn read_clash(rest: Option<&[u8]>) -> Result<Node, Misread>
 
 /// Multipliers by which no point is feasible.
 fn farkas(mults: Result<Mults, Misread>) -> Result<Node, Misread>
-    ensures { (ps : List (List ℕ)) → ReadsSo (mults_fields ps) mults (AllZip IsMult ps) → ReadsSo (mults_fields ps) result (IsSaidBehind node_head SaysNode heads.Farkas ps) }
+    ensures { (ps : List (List ℕ)) → ReadsTexts (mults_fields ps) mults (AllZip IsMult ps) → ReadsTexts (mults_fields ps) result (IsSaidBehind node_head SaysNode heads.Farkas ps) }
 {
     match mults {
         Ok(mults) => Ok(Node::Farkas(mults)),
@@ -139,7 +139,7 @@ fn farkas(mults: Result<Mults, Misread>) -> Result<Node, Misread>
 
 /// Multipliers by which no point is better.
 fn bound(mults: Result<Mults, Misread>) -> Result<Node, Misread>
-    ensures { (ps : List (List ℕ)) → ReadsSo (mults_fields ps) mults (AllZip IsMult ps) → ReadsSo (mults_fields ps) result (IsSaidBehind node_head SaysNode heads.Bound ps) }
+    ensures { (ps : List (List ℕ)) → ReadsTexts (mults_fields ps) mults (AllZip IsMult ps) → ReadsTexts (mults_fields ps) result (IsSaidBehind node_head SaysNode heads.Bound ps) }
 {
     match mults {
         Ok(mults) => Ok(Node::Bound(mults)),
@@ -149,7 +149,7 @@ fn bound(mults: Result<Mults, Misread>) -> Result<Node, Misread>
 
 /// The number of a level behind its word.
 fn read_level(rest: Option<&[u8]>) -> Result<TreeItem, Misread>
-    ensures { ReadsSo (items.node_behind heads.Level (more rest.entry)) result (IsSaidBehind tree_head SaysTree heads.Level (more rest.entry)) }
+    ensures { ReadsTexts (items.node_behind heads.Level (more rest.entry)) result (IsSaidBehind tree_head SaysTree heads.Level (more rest.entry)) }
 {
     match read_one(rest) {
         Ok(level) => Ok(TreeItem::Level(level)),
@@ -159,7 +159,7 @@ fn read_level(rest: Option<&[u8]>) -> Result<TreeItem, Misread>
 
 /// A node as an item of a tree.
 fn as_item(node: Result<Node, Misread>) -> Result<TreeItem, Misread>
-    ensures { (w : kinds.NodeWord) (ps : List (List ℕ)) → ReadsSo (items.node_behind w ps) node (IsSaidBehind node_head SaysNode w ps) → ReadsSo (items.node_behind w ps) result (IsSaidBehind tree_head SaysTree w ps) }
+    ensures { (w : kinds.NodeWord) (ps : List (List ℕ)) → ReadsTexts (items.node_behind w ps) node (IsSaidBehind node_head SaysNode w ps) → ReadsTexts (items.node_behind w ps) result (IsSaidBehind tree_head SaysTree w ps) }
 {
     match node {
         Ok(node) => Ok(TreeItem::Node(node)),
@@ -173,7 +173,7 @@ fn tree_item_of(
     word: NodeWord,
     rest: Option<&[u8]>,
 ) -> Result<Result<TreeItem, Misread>, Memory>
-    ensures { IfOk result (λ r. ReadsSo (items.node_behind word (more rest.entry)) r (IsSaidBehind tree_head SaysTree word (more rest.entry))) }
+    ensures { IfOk result (λ r. ReadsTexts (items.node_behind word (more rest.entry)) r (IsSaidBehind tree_head SaysTree word (more rest.entry))) }
 {
     match word {
         NodeWord::Split => Ok(as_item(read_split(rest))),
@@ -207,7 +207,7 @@ pub(crate) fn read_tree_item(
     alloc: Global,
     text: &[u8],
 ) -> Result<Result<TreeItem, Misread>, Memory>
-    ensures { IfOk result (λ r. ReadsSo (items.item_fields parts.Tree text.now) r (IsTreeItem text.now)) }
+    ensures { IfOk result (λ r. ReadsTexts (items.item_fields parts.Tree text.now) r (IsTreeItem text.now)) }
 {
     let (word, rest) = first_piece(text);
     match node_word(word) {
@@ -274,7 +274,7 @@ pub(crate) fn is_level_but(text: &[u8], level: u32) -> bool
 
 /// The multipliers that an item says of a round.
 pub(crate) fn read_round(alloc: Global, text: &[u8]) -> Result<Result<Mults, Misread>, Memory>
-    ensures { IfOk result (λ r. ReadsSo (items.item_fields parts.Rounds text.now) r (IsRound text.now)) }
+    ensures { IfOk result (λ r. ReadsTexts (items.item_fields parts.Rounds text.now) r (IsRound text.now)) }
 {
     let (word, rest) = first_piece(text);
     if word == b"round".as_slice() {
@@ -304,7 +304,7 @@ fn step_of(word: &[u8]) -> Option<Step>
 
 /// The place of a number that was too wide.
 fn read_place(rest: Option<&[u8]>) -> Result<Place, Misread>
-    ensures { ReadsSo (items.place_fields (more rest.entry)) result (IsPlace (more rest.entry)) }
+    ensures { ReadsTexts (items.place_fields (more rest.entry)) result (IsPlace (more rest.entry)) }
 {
     let Some((node, turn, word)) = three_pieces(rest) else {
         return Err(Misread::NoShape);
@@ -320,7 +320,7 @@ fn read_place(rest: Option<&[u8]>) -> Result<Place, Misread>
 
 /// This cause, where nothing stands behind its word.
 fn alone(rest: Option<&[u8]>, cause: Cause) -> Result<Cause, Misread>
-    ensures { ReadsSo (items.no_field (more rest.entry)) result (λ c. (c ≡ cause) × (more rest.entry ≡ [])) }
+    ensures { ReadsTexts (items.no_field (more rest.entry)) result (λ c. (c ≡ cause) × (more rest.entry ≡ [])) }
 {
     match rest {
         None => Ok(cause),
@@ -330,7 +330,7 @@ fn alone(rest: Option<&[u8]>, cause: Cause) -> Result<Cause, Misread>
 
 /// A cause behind its word.
 fn cause_of(word: CauseWord, rest: Option<&[u8]>) -> Result<Cause, Misread>
-    ensures { ReadsSo (items.cause_behind word (more rest.entry)) result (IsSaidBehind cause_head SaysCause word (more rest.entry)) }
+    ensures { ReadsTexts (items.cause_behind word (more rest.entry)) result (IsSaidBehind cause_head SaysCause word (more rest.entry)) }
 {
     match word {
         CauseWord::Killed => alone(rest, Cause::Killed),
@@ -370,7 +370,7 @@ fn cause_word(word: &[u8]) -> Option<CauseWord>
 
 /// The cause that an item is.
 pub(crate) fn read_cause(text: &[u8]) -> Result<Cause, Misread>
-    ensures { ReadsSo (items.item_fields parts.Cause text.now) result (IsCause text.now) }
+    ensures { ReadsTexts (items.item_fields parts.Cause text.now) result (IsCause text.now) }
 {
     let (word, rest) = first_piece(text);
     match cause_word(word) {

@@ -6,13 +6,13 @@ use Rattle.std.proofs.lemmas.List.Elements.{All-nil, All-cons, All-head, All-tai
 use Rattle.std.proofs.lemmas.List.Recursion.{is_sum_by}
 use Rattle.std.proofs.lemmas.List.Sorted.{IsPermutation-refl, IsPermutation-sym, IsPermutation-trans, IsPermutation-cons, IsPermutation-middle, IsPermutation-to_front, IsPermutation-append_right, IsPermutation-map, length_permutation, All-permutation, Contains-permutation, sum_by-IsPermutation}
 use Rattle.atomic_table.specs.Seated.{TableId}
-use Rattle.job_table.specs.History.{Entry as Said}
+use Rattle.job_table.specs.History.{MoveEntry as Said}
 use Rattle.os_io.specs.Streams.{Tells}
 use Rattle.os_io.specs.Links.{Comes, IsGivenBack}
-use Rattle.desk.specs.declared.view.Entry.{Entry}
+use Rattle.desk.specs.declared.view.SeatEntry.{SeatEntry}
 use Rattle.desk.specs.declared.view.Met.{Met}
 use Rattle.desk.specs.declared.view.View.{View}
-use Rattle.desk.specs.History.{StartsWith, by, calls_by}
+use Rattle.desk.specs.History.{StartsWith, by, entries_by}
 use Rattle.desk.proofs.Histories.{starts_again}
 use Rattle.desk.specs.Rule.{HasMet, one_if, one_more, newcomer, met_as}
 use Rattle.desk.specs.SeatMoves.{IsSeatOf, Meets}
@@ -23,11 +23,11 @@ use Rattle.server_threads.specs.Promises.{Due}
 use Rattle.server_threads.specs.Serving.{Stand, taken, Opens, AtOnce, ServesLinks, EndsServing}
 use Rattle.server_threads.specs.OpenLinks.{IsSplitOff, AreNumberedFrom, KeepsSeats, Visit, visit, AreAmong, Begun, AllBegun, Conversing, promised, seat_out, number_out, visit_out, served_so, Going, Working, shift_promised, workers_out, worked_so, Hired, Staffed, LinksServed, HaveLeft, CameSo, served_result}
 
-pub starts_through : (a b c : List Entry) → StartsWith b a → StartsWith c b → StartsWith c a
+pub starts_through : (a b c : List SeatEntry) → StartsWith b a → StartsWith c b → StartsWith c a
 starts_through a b c ab bc = (ab.0 ++ bc.0, bc.1 ∙ (ap (λ l. l ++ bc.0) ab.1 ∙ append_assoc a ab.0 bc.0))
 
 -- the moves of the later ones of those that were met
-met_suffix : (log : List Entry) (a b : List Met) → HasMet log (a ++ b) → HasMet log b
+met_suffix : (log : List SeatEntry) (a b : List Met) → HasMet log (a ++ b) → HasMet log b
 met_suffix log [] b all = all
 met_suffix log (x ∷ xs) b all = met_suffix log xs b (λ i m at. all (suc i) m at)
 
@@ -122,20 +122,20 @@ module _ {J : Type 0} (desk : TableId) where
     given = let now : after.given ≡ w.given + 1 = ap (λ (u : View). u.given) is in let before = k.given in omega arith;
     waits = All-cons (IsSplitOff desk) seat out (fits, ap (λ (u : View). u.mine) new) k.waits;
     mine = ap (λ (u : View). u.mine) is ∙ k.mine;
-    seen = subst (λ (l : List Entry). StartsWith l v.seen) (sym (ap (λ (u : View). u.seen) is)) k.seen;
-    known = subst (λ (l : List Entry). HasMet l met) (sym (ap (λ (u : View). u.seen) is)) k.known;
+    seen = subst (λ (l : List SeatEntry). StartsWith l v.seen) (sym (ap (λ (u : View). u.seen) is)) k.seen;
+    known = subst (λ (l : List SeatEntry). HasMet l met) (sym (ap (λ (u : View). u.seen) is)) k.known;
   }
 
   -- one of the seats that are out was met
   pub keeps_met : (right : List ℕ → List ℕ → Bool → Option (List ℕ) → Type 0) (holds : List Said → Type 0) (v w after : View) (met : List Met) (s other : DeskSeat J) (out : List (DeskSeat J))
-      → KeepsSeats desk v w met (s ∷ out) → (a : Acts right holds s other) → Meets w other.me.0 after → KeepsSeats desk v after (met ++ record { seat = s.me.0.number; calls = by s.me.0.number a.said } ∷ []) out
+      → KeepsSeats desk v w met (s ∷ out) → (a : Acts right holds s other) → Meets w other.me.0 after → KeepsSeats desk v after (met ++ record { seat = s.me.0.number; entries = by s.me.0.number a.said } ∷ []) out
   keeps_met right holds v w after met s other out k a m =
       let n : ℕ = s.me.0.number in
-      let new : Met = record { seat = n; calls = by n a.said } in
+      let new : Met = record { seat = n; entries = by n a.said } in
       let was : IsSplitOff desk s = All-head (IsSplitOff desk) s out k.waits in
       let number : other.me.0.number ≡ n = a.asked.stays.number in
-      let calls : other.me.0.mine ≡ by n a.said = a.asked.mine ∙ ap (λ (l : List Entry). l ++ by n a.said) was.1 in
-      let is_new : met_as other.me.0 ≡ new = λ i. record { seat = number i; calls = calls i } in
+      let entries : other.me.0.mine ≡ by n a.said = a.asked.mine ∙ ap (λ (l : List SeatEntry). l ++ by n a.said) was.1 in
+      let is_new : met_as other.me.0 ≡ new = λ i. record { seat = number i; entries = entries i } in
       let all : after.met ≡ v.met ++ (met ++ new ∷ []) =
       m.met ∙ ap (λ (x : Met). w.met ++ x ∷ []) is_new ∙ ap (λ (l : List Met). l ++ new ∷ []) k.met_is ∙ append_assoc v.met met (new ∷ []) in record {
         first = m.number ∙ k.first;
@@ -213,9 +213,9 @@ all_unmapped P f [] all = All-nil (λ x. P (f x))
 all_unmapped P f (x ∷ xs) all = All-cons (λ y. P (f y)) x xs (All-head P (f x) (map f xs) all) (all_unmapped P f xs (All-tail P (f x) (map f xs) all))
 
 -- of each link that was met all moves are known
-met_all : (log : List Entry) (ts : List LinkTalk) → HasMet log (map talk_met ts) → All (λ t. calls_by t.seat log ≡ by t.seat t.said) ts
-met_all log [] known = All-nil (λ t. calls_by t.seat log ≡ by t.seat t.said)
-met_all log (t ∷ ts) known = All-cons (λ u. calls_by u.seat log ≡ by u.seat u.said) t ts (known zero (talk_met t) refl) (met_all log ts (λ i m at. known (suc i) m at))
+met_all : (log : List SeatEntry) (ts : List LinkTalk) → HasMet log (map talk_met ts) → All (λ t. entries_by t.seat log ≡ by t.seat t.said) ts
+met_all log [] known = All-nil (λ t. entries_by t.seat log ≡ by t.seat t.said)
+met_all log (t ∷ ts) known = All-cons (λ u. entries_by u.seat log ≡ by u.seat u.said) t ts (known zero (talk_met t) refl) (met_all log ts (λ i m at. known (suc i) m at))
 
 among_more : (n : ℕ) (cs : List Tells) (vs ws : List Visit) → ((v : Visit) → Contains vs v → Contains ws v) → AreAmong n cs vs → AreAmong n cs ws
 among_more n [] vs ws more all = tt
@@ -275,16 +275,16 @@ module _ (talked : Tells → List Said → Tells → Bool → Type 0) where
 
 module _ (servers : ℕ) where
   -- the order of those that are being served doesn't matter
-  begun_so : (given : ℕ) (log : List Entry) (talks : List LinkTalk) (running now : List ℕ) → IsPermutation running now → AllBegun servers given log talks running → AllBegun servers given log talks now
+  begun_so : (given : ℕ) (log : List SeatEntry) (talks : List LinkTalk) (running now : List ℕ) → IsPermutation running now → AllBegun servers given log talks running → AllBegun servers given log talks now
   begun_so given log talks running now same all =
       let seats = map (λ (t : LinkTalk). t.seat) talks in
-      All-permutation (λ n. (n < given) × ((seen : List Entry) × Begun servers log talks now n seen)) (seats ++ running) (seats ++ now) (IsPermutation-append_right seats running now same)
-      (All-weaker (λ n. (n < given) × ((seen : List Entry) × Begun servers log talks running n seen)) (λ n. (n < given) × ((seen : List Entry) × Begun servers log talks now n seen))
+      All-permutation (λ n. (n < given) × ((seen : List SeatEntry) × Begun servers log talks now n seen)) (seats ++ running) (seats ++ now) (IsPermutation-append_right seats running now same)
+      (All-weaker (λ n. (n < given) × ((seen : List SeatEntry) × Begun servers log talks running n seen)) (λ n. (n < given) × ((seen : List SeatEntry) × Begun servers log talks now n seen))
       (λ n b. (b.0, (b.1.0, record { opens = b.1.1.opens; still = All-permutation (λ k. k < n → Contains b.1.1.opens.out k) running now same b.1.1.still }))) (seats ++ running) all)
 
   -- one link more is being served
-  begun_more : (given : ℕ) (log : List Entry) (talks : List LinkTalk) (running : List ℕ) → AllBegun servers given log talks running → length running < servers → calls_by given log ≡ []
-      → All (λ t. calls_by t.seat log ≡ by t.seat t.said) talks → AllBegun servers (given + 1) log talks (given ∷ running)
+  begun_more : (given : ℕ) (log : List SeatEntry) (talks : List LinkTalk) (running : List ℕ) → AllBegun servers given log talks running → length running < servers → entries_by given log ≡ []
+      → All (λ t. entries_by t.seat log ≡ by t.seat t.said) talks → AllBegun servers (given + 1) log talks (given ∷ running)
   begun_more given log talks running all few none done =
       let seats = map (λ (t : LinkTalk). t.seat) talks in
       let new : Begun servers log talks (given ∷ running) given log = record {
@@ -293,15 +293,15 @@ module _ (servers : ℕ) where
           few = few;
           begins = starts_again log;
           none = none;
-          earlier = All-weaker (λ t. calls_by t.seat log ≡ by t.seat t.said) (λ t. t.seat < given → Contains running t.seat ⊎ (calls_by t.seat log ≡ by t.seat t.said)) (λ t is less. inr is) talks done;
+          earlier = All-weaker (λ t. entries_by t.seat log ≡ by t.seat t.said) (λ t. t.seat < given → Contains running t.seat ⊎ (entries_by t.seat log ≡ by t.seat t.said)) (λ t is less. inr is) talks done;
         };
         still = All-cons (λ k. k < given → Contains running k) given running (λ less. absurd (omega arith))
             (All-weaker (Contains running) (λ k. k < given → Contains running k) (λ k is less. is) running (All-contains_itself running));
       } in
-      All-permutation (λ n. (n < given + 1) × ((seen : List Entry) × Begun servers log talks (given ∷ running) n seen)) (given ∷ (seats ++ running)) (seats ++ given ∷ running)
+      All-permutation (λ n. (n < given + 1) × ((seen : List SeatEntry) × Begun servers log talks (given ∷ running) n seen)) (given ∷ (seats ++ running)) (seats ++ given ∷ running)
       (IsPermutation-sym (seats ++ given ∷ running) (given ∷ (seats ++ running)) (IsPermutation-middle seats given running))
-      (All-cons (λ n. (n < given + 1) × ((seen : List Entry) × Begun servers log talks (given ∷ running) n seen)) given (seats ++ running) (omega arith, (log, new))
-      (All-weaker (λ n. (n < given) × ((seen : List Entry) × Begun servers log talks running n seen)) (λ n. (n < given + 1) × ((seen : List Entry) × Begun servers log talks (given ∷ running) n seen))
+      (All-cons (λ n. (n < given + 1) × ((seen : List SeatEntry) × Begun servers log talks (given ∷ running) n seen)) given (seats ++ running) (omega arith, (log, new))
+      (All-weaker (λ n. (n < given) × ((seen : List SeatEntry) × Begun servers log talks running n seen)) (λ n. (n < given + 1) × ((seen : List SeatEntry) × Begun servers log talks (given ∷ running) n seen))
       (λ n b. (
         let below = b.0 in omega arith,
         (
@@ -314,13 +314,13 @@ module _ (servers : ℕ) where
       )) (seats ++ running) all))
 
   -- one of them was given back
-  begun_met : (given : ℕ) (log log' : List Entry) (talks : List LinkTalk) (t : LinkTalk) (running : List ℕ) → StartsWith log' log → AllBegun servers given log talks (t.seat ∷ running) → AllBegun servers given log' (talks ++ t ∷ []) running
+  begun_met : (given : ℕ) (log log' : List SeatEntry) (talks : List LinkTalk) (t : LinkTalk) (running : List ℕ) → StartsWith log' log → AllBegun servers given log talks (t.seat ∷ running) → AllBegun servers given log' (talks ++ t ∷ []) running
   begun_met given log log' talks t running later all =
       let seats = map (λ (u : LinkTalk). u.seat) talks in
       let same : seats ++ t.seat ∷ running ≡ map (λ (u : LinkTalk). u.seat) (talks ++ t ∷ []) ++ running =
       sym (append_assoc seats (t.seat ∷ []) running) ∙ ap (λ (l : List ℕ). l ++ running) (sym (map-append (λ (u : LinkTalk). u.seat) talks (t ∷ []))) in
-      subst (λ (l : List ℕ). All (λ n. (n < given) × ((seen : List Entry) × Begun servers log' (talks ++ t ∷ []) running n seen)) l) same
-      (All-weaker (λ n. (n < given) × ((seen : List Entry) × Begun servers log talks (t.seat ∷ running) n seen)) (λ n. (n < given) × ((seen : List Entry) × Begun servers log' (talks ++ t ∷ []) running n seen))
+      subst (λ (l : List ℕ). All (λ n. (n < given) × ((seen : List SeatEntry) × Begun servers log' (talks ++ t ∷ []) running n seen)) l) same
+      (All-weaker (λ n. (n < given) × ((seen : List SeatEntry) × Begun servers log talks (t.seat ∷ running) n seen)) (λ n. (n < given) × ((seen : List SeatEntry) × Begun servers log' (talks ++ t ∷ []) running n seen))
       (λ n b. let o = b.1.1.opens in (
         b.0,
         (
@@ -331,7 +331,7 @@ module _ (servers : ℕ) where
               few = o.few;
               begins = starts_through b.1.0 log log' o.begins later;
               none = o.none;
-              earlier = All-push (λ u. u.seat < n → Contains o.out u.seat ⊎ (calls_by u.seat b.1.0 ≡ by u.seat u.said)) talks t o.earlier
+              earlier = All-push (λ u. u.seat < n → Contains o.out u.seat ⊎ (entries_by u.seat b.1.0 ≡ by u.seat u.said)) talks t o.earlier
                   (λ less. inl (All-head (λ k. k < n → Contains o.out k) t.seat running b.1.1.still less));
             };
             still = All-tail (λ k. k < n → Contains o.out k) t.seat running b.1.1.still;
@@ -340,11 +340,11 @@ module _ (servers : ℕ) where
       )) (seats ++ t.seat ∷ running) all)
 
   -- none is being served any more
-  begun_over : (given : ℕ) (log : List Entry) (links talks : List LinkTalk) → IsPermutation talks links → AllBegun servers given log talks [] → AtOnce servers log links
+  begun_over : (given : ℕ) (log : List SeatEntry) (links talks : List LinkTalk) → IsPermutation talks links → AllBegun servers given log talks [] → AtOnce servers log links
   begun_over given log links talks same all =
       let seats = map (λ (u : LinkTalk). u.seat) talks in
-      All-permutation (λ t. (seen : List Entry) × Opens servers log links t.seat seen) talks links same
-      (All-weaker (λ t. (t.seat < given) × ((seen : List Entry) × Begun servers log talks [] t.seat seen)) (λ t. (seen : List Entry) × Opens servers log links t.seat seen)
+      All-permutation (λ t. (seen : List SeatEntry) × Opens servers log links t.seat seen) talks links same
+      (All-weaker (λ t. (t.seat < given) × ((seen : List SeatEntry) × Begun servers log talks [] t.seat seen)) (λ t. (seen : List SeatEntry) × Opens servers log links t.seat seen)
       (λ t b. let o = b.1.1.opens in (
         b.1.0,
         record {
@@ -352,11 +352,11 @@ module _ (servers : ℕ) where
           few = o.few;
           begins = o.begins;
           none = o.none;
-          earlier = All-permutation (λ u. u.seat < t.seat → Contains o.out u.seat ⊎ (calls_by u.seat b.1.0 ≡ by u.seat u.said)) talks links same o.earlier;
+          earlier = All-permutation (λ u. u.seat < t.seat → Contains o.out u.seat ⊎ (entries_by u.seat b.1.0 ≡ by u.seat u.said)) talks links same o.earlier;
         },
       )) talks
-      (all_unmapped (λ n. (n < given) × ((seen : List Entry) × Begun servers log talks [] n seen)) (λ (u : LinkTalk). u.seat) talks
-      (subst (λ (l : List ℕ). All (λ n. (n < given) × ((seen : List Entry) × Begun servers log talks [] n seen)) l) (append-nil seats) all)))
+      (all_unmapped (λ n. (n < given) × ((seen : List SeatEntry) × Begun servers log talks [] n seen)) (λ (u : LinkTalk). u.seat) talks
+      (subst (λ (l : List ℕ). All (λ n. (n < given) × ((seen : List SeatEntry) × Begun servers log talks [] n seen)) l) (append-nil seats) all)))
 
 -- ---- links that are being served
 
@@ -370,7 +370,7 @@ module _ {J L S B : Type 0} (right : List ℕ → List ℕ → Bool → Option (
     talks = [];
     keeps = keeps_new desk old.view (ap (λ (s : Stand). s.view.number) same ∙ first);
     due = All-nil (Due (served_so right talked tells));
-    begun = All-nil (λ n. (n < old.view.given) × ((seen : List Entry) × Begun servers old.view.seen [] [] n seen));
+    begun = All-nil (λ n. (n < old.view.given) × ((seen : List SeatEntry) × Begun servers old.view.seen [] [] n seen));
     all_talked = All-nil (λ t. talked t.came t.said t.back t.short);
     counted = refl;
     numbered = tt;
@@ -413,7 +413,7 @@ module _ {J L S B : Type 0} (right : List ℕ → List ℕ → Bool → Option (
       let given : after.view.given ≡ now.view.given + 1 = ap (λ (v : View). v.given) is in
       let it : (seat_out place).me.0 ≡ newcomer now.view = ap (λ (s : DeskSeat J). s.me.0) seat_is ∙ new in
       let number : number_out place ≡ now.view.given = ap (λ (v : View). v.number) it in
-      let none : calls_by now.view.given now.view.seen ≡ [] = subst (λ (v : View). calls_by v.number v.seen ≡ v.mine) new fits.ready.stand in
+      let none : entries_by now.view.given now.view.seen ≡ [] = subst (λ (v : View). entries_by v.number v.seen ≡ v.mine) new fits.ready.stand in
       let its : Tells = tells (promised place).link.value in
       let visits = map (λ (p : Conversing J L S B). visit_out right talked tells p) places in
       let before = map visit g.talks in
@@ -423,7 +423,7 @@ module _ {J L S B : Type 0} (right : List ℕ → List ℕ → Bool → Option (
         talks = g.talks;
         keeps = keeps_split desk old.view now.view after.view (map talk_met g.talks) (map seat_out places) (seat_out place) g.keeps is (ap (λ (s : DeskSeat J). s.table_id) seat_is ∙ fits.desk_is) it;
         due = All-cons (Due (served_so right talked tells)) place places due g.due;
-        begun = subst (λ (z : ℕ × List Entry × ℕ). AllBegun servers z.0 z.1 g.talks (z.2 ∷ map number_out places)) (λ i. (sym given i, sym seen i, sym number i)) begun;
+        begun = subst (λ (z : ℕ × List SeatEntry × ℕ). AllBegun servers z.0 z.1 g.talks (z.2 ∷ map number_out places)) (λ i. (sym given i, sym seen i, sym number i)) begun;
         all_talked = g.all_talked;
         counted = let all = g.counted in let longer = length-append g.links (its ∷ []) in omega arith;
         numbered = among_push old.view.given (number_out place) g.links its (before ++ (number_out place, its) ∷ visits)
@@ -579,8 +579,8 @@ module _ {J S : Type 0} (right : List ℕ → List ℕ → Bool → Option (List
       let it : DeskSeat J = (shift_promised place).seat.value in
       let number : it.me.0.number ≡ n = s.numbered.0 in
       let k = keeps_met desk right (IsShift made) v w after (met ++ map shift_met s.shifts) it seat (workers_out places) s.keeps a meets in
-      let one : (met ++ map shift_met s.shifts) ++ record { seat = it.me.0.number; calls = by it.me.0.number a.said } ∷ [] ≡ (met ++ map shift_met s.shifts) ++ shift_met t ∷ [] =
-      ap (λ (j : ℕ). (met ++ map shift_met s.shifts) ++ record { seat = j; calls = by j a.said } ∷ []) number in
+      let one : (met ++ map shift_met s.shifts) ++ record { seat = it.me.0.number; entries = by it.me.0.number a.said } ∷ [] ≡ (met ++ map shift_met s.shifts) ++ shift_met t ∷ [] =
+      ap (λ (j : ℕ). (met ++ map shift_met s.shifts) ++ record { seat = j; entries = by j a.said } ∷ []) number in
       let mets : (met ++ map shift_met s.shifts) ++ shift_met t ∷ [] ≡ met ++ map shift_met (s.shifts ++ t ∷ []) =
       append_assoc met (map shift_met s.shifts) (shift_met t ∷ []) ∙ ap (λ (l : List Met). met ++ l) (sym (map-append shift_met s.shifts (t ∷ []))) in
       let longer = length-append s.shifts (t ∷ []) in record {
@@ -623,7 +623,7 @@ serves {J} {S} right made talked desk v servers old staffed served new count pla
       worked = l.worked;
       all_talked = subst (λ (n : ℕ). AllTalked talked n o.links)
           (let given = h.keeps.given in let many = h.counted in let all = l.counted in let same = length-map places (λ (p : Working J S). (shift_promised p).seat.value) in omega arith) o.all_talked;
-      at_once = All-weaker (λ t. (seen : List Entry) × Opens servers served.view.seen o.links t.seat seen) (λ t. (seen : List Entry) × Opens servers new.view.seen o.links t.seat seen)
+      at_once = All-weaker (λ t. (seen : List SeatEntry) × Opens servers served.view.seen o.links t.seat seen) (λ t. (seen : List SeatEntry) × Opens servers new.view.seen o.links t.seat seen)
           (λ t is. (is.0, record { out = is.1.out; few = is.1.few; begins = starts_through is.0 served.view.seen new.view.seen is.1.begins later; none = is.1.none; earlier = is.1.earlier })) o.links o.at_once;
       came = subst (λ (z : Option (List Tells) × Option (List Tells)). Came z.0 z.1 (map (λ (t : LinkTalk). t.came) o.links)) (λ i. (coming i, sym coming' i)) o.came;
       back = subst (λ (z : Option (List Tells) × Option (List Tells)). GivenBack z.0 z.1 (map (λ (t : LinkTalk). t.back) o.returned)) (λ i. (back i, sym back' i)) o.back;
@@ -667,7 +667,7 @@ serves_none made talked servers count old = record {
   staff = omega arith;
   worked = tt;
   all_talked = tt;
-  at_once = All-nil (λ t. (seen : List Entry) × Opens servers old.view.seen [] t.seat seen);
+  at_once = All-nil (λ t. (seen : List SeatEntry) × Opens servers old.view.seen [] t.seat seen);
   came = came_none old.coming;
   back = back_none old.given_back;
   reached = refl;

@@ -2,16 +2,16 @@
 use Rattle.std.specs.Prelude.{◌≡◌, ℕ, ◌+◌, ◌<◌, ◌≤◌, ◌^◌, Bool, List, [], ◌∷◌, ◌++◌, length, map, All, Contains, IsPermutation, Option, Result, Ok, Err}
 use Rattle.std.specs.VecDeque.{deque_len, deque_capacity}
 use Rattle.atomic_table.specs.Seated.{TableId}
-use Rattle.job_table.specs.History.{Entry as Said}
+use Rattle.job_table.specs.History.{MoveEntry as Said}
 use Rattle.os_io.specs.Streams.{Tells, HasRisen}
 use Rattle.os_io.specs.Links.{NetTells}
-use Rattle.desk.specs.declared.view.Entry.{Entry}
+use Rattle.desk.specs.declared.view.SeatEntry.{SeatEntry}
 use Rattle.desk.specs.declared.view.Met.{Met}
 use Rattle.desk.specs.declared.view.View.{View}
 use Rattle.desk.specs.History.{StartsWith}
 use Rattle.desk.specs.Rule.{HasMet}
 use Rattle.desk.specs.SeatMoves.{desk_id, IsSeatOf}
-use Rattle.server_threads.specs.declared.means.Limits.{Limits}
+use Rattle.server_threads.specs.declared.means.ServeLimits.{ServeLimits}
 use Rattle.server_threads.specs.declared.means.Means.{Means}
 use Rattle.server_threads.specs.declared.means.Room.{Room}
 use Rattle.server_threads.specs.declared.means.ServeFault.{ServeFault}
@@ -60,14 +60,14 @@ AreAmong n (c ∷ cs) visits = Contains visits (n, c) × AreAmong (n + 1) cs vis
 
 -- so much of the history had been seen when the link with this number came, and of those that are being served the ones that came before it were
 -- out then
-pub record Begun (servers : ℕ) (log : List Entry) (talks : List LinkTalk) (running : List ℕ) (seat : ℕ) (seen : List Entry) : Type 0 where
+pub record Begun (servers : ℕ) (log : List SeatEntry) (talks : List LinkTalk) (running : List ℕ) (seat : ℕ) (seen : List SeatEntry) : Type 0 where
   pub opens : Opens servers log talks seat seen
   pub still : All (λ n. n < seat → Contains opens.out n) running
 
 -- so did all links, those that were served and those that are being served, and their numbers were given
-abbrev pub AllBegun : (servers given : ℕ) → List Entry → List LinkTalk → List ℕ → Type 0
+abbrev pub AllBegun : (servers given : ℕ) → List SeatEntry → List LinkTalk → List ℕ → Type 0
 AllBegun servers given log talks running =
-    All (λ n. (n < given) × ((seen : List Entry) × Begun servers log talks running n seen)) (map (λ t. t.seat) talks ++ running)
+    All (λ n. (n < given) × ((seen : List SeatEntry) × Begun servers log talks running n seen)) (map (λ t. t.seat) talks ++ running)
 
 -- what is done for a link
 abbrev pub Conversing : Type 0 → Type 0 → Type 0 → Type 0 → Type 0
@@ -134,12 +134,12 @@ pub record LinksServed (talked : Tells → List Said → Tells → Bool → Type
   pub known : HasMet new.view.seen (map talk_met returned)
 
 -- links were served beside the workers: from this seat and listener to those, with this answer
-abbrev pub HasServedLinks : {J N : Type 0} → (talked : Tells → List Said → Tells → Bool → Type 0) → (N → NetTells) → Limits → (seat seat' : DeskSeat J) → (net net' : N) → Result ℕ ServeFault → Type 0
+abbrev pub HasServedLinks : {J N : Type 0} → (talked : Tells → List Said → Tells → Bool → Type 0) → (N → NetTells) → ServeLimits → (seat seat' : DeskSeat J) → (net net' : N) → Result ℕ ServeFault → Type 0
 HasServedLinks talked tells limits seat seat' net net' answer =
     (o : LinksServed talked limits.servers (stand tells seat net) (stand tells seat' net')) × EndsServing answer limits.connections o.links (tells net).faults (tells net').faults
 
 -- there is room for as many links and workers as these limits say
-pub record MayServe {J L S : Type 0} (limits : Limits) (room : Room J L S) : Type 0 where
+pub record MayServe {J L S : Type 0} (limits : ServeLimits) (room : Room J L S) : Type 0 where
   pub may : MayTake limits room.running
   pub none : room.shifts.items ≡ []
   pub empty : deque_len room.shifts ≡ 0

@@ -1,7 +1,7 @@
 -- Links that are served beside each other, each by a seat of its own, and the workers beside them.
 use Rattle.std.specs.Prelude.{◌≡◌, ℕ, ◌+◌, Bool, List, [], ◌∷◌, ◌++◌, ◌⊎◌, Option}
 use Rattle.atomic_table.specs.declared.shared.Seat.{Seat}
-use Rattle.job_table.specs.History.{Entry as Said}
+use Rattle.job_table.specs.History.{MoveEntry as Said}
 use Rattle.os_io.specs.Streams.{Tells, BothTold}
 use Rattle.desk.specs.declared.held.Held.{Held}
 use Rattle.desk.specs.declared.view.Met.{Met}
@@ -31,11 +31,11 @@ pub record Shift : Type 0 where
 
 -- a link's seat as the first seat knows it
 abbrev pub talk_met : LinkTalk → Met
-talk_met t = record { seat = t.seat; calls = by t.seat t.said }
+talk_met t = record { seat = t.seat; entries = by t.seat t.said }
 
 -- a worker's seat as the first seat knows it
 abbrev pub shift_met : Shift → Met
-shift_met s = record { seat = s.seat; calls = by s.seat s.said }
+shift_met s = record { seat = s.seat; entries = by s.seat s.said }
 
 -- how many ended for want of memory
 abbrev pub short_of : List LinkTalk → ℕ

@@ -6,7 +6,7 @@
 //! number no other link has. The desk's first seat then has met these seats and those of the workers, and knows their moves.
 //!
 //! Who has the conversation is handed in, as a [`Service`]: it serves an [`OpenLink`], which only a link that is open can become, and
-//! gives it back. How much is served is said by [`Limits`], and why serving ended before all links were served by a [`ServeFault`].
+//! gives it back. How much is served is said by [`ServeLimits`], and why serving ended before all links were served by a [`ServeFault`].
 //!
 //! Threads of links stand in a scope inside that of the workers, each in one of so many places. The one whose conversation is over
 //! first makes room first: as its last act a thread says which place it leaves, and is joined before the next link is taken, so that
@@ -26,7 +26,7 @@ mod serve;
 mod service;
 mod staff;
 
-pub use means::{Limits, ServeFault};
+pub use means::{ServeFault, ServeLimits};
 pub use open::OpenLink;
 pub use serve::serve_loop;
 pub use service::Service;

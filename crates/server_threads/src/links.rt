@@ -14,7 +14,7 @@ use crate::places::{Place, put_in, take_out};
 use crate::promise::{Finished, ToServe};
 use crate::service::Service;
 use crossbeam_channel::Receiver;
-use desk::{Caller, Desk, Seat};
+use desk::{Desk, LentSeat, Seat};
 use job_table::Verdicts;
 use os_io::{Close, Failed, Link, Listener};
 use std::alloc::Global;
@@ -102,20 +102,20 @@ fn serve_link<
         ensures { Acts J.right (λ said. S.talked B.rang (L.tells link) said (L.tells result.link) result.short) seat result.seat }
     {
         let mut seat = seat;
-        let mut caller = Caller {
+        let mut mover = LentSeat {
             rt,
             desk,
             seat: &mut seat,
         };
         let open = OpenLink::new(link);
-        let (short, open) = service.serve(rt, alloc, bell, open, &mut caller);
+        let (short, open) = service.serve(rt, alloc, bell, open, &mut mover);
         let mut link = open.into_link();
         link.close();
-        let Caller {
+        let LentSeat {
             rt: _,
             desk: _,
             seat: _seat,
-        } = caller;
+        } = mover;
         let done = Finished { seat, link, short };
         let _ = leaving.send(rt, at);
         done
@@ -255,7 +255,7 @@ where
     ensures goes { Goes J.right (S.talked B.rang) N.Conn.tells N.tells means.now before.now seat.new net.new running.new }
     ensures came { CameSo result means.now.limits.connections seat.old.me.0.given seat.new.me.0.given (N.tells net.old).faults (N.tells net.new).faults }
 {
-    for turn in 0..means.limits.connections {
+    for number in 0..means.limits.connections {
         let at = free_place(means, before, seat, net, running);
         let link = net.accept()?;
         let theirs = means.desk.split(seat);

@@ -27,7 +27,7 @@ pub enum ServeFault {
 
 /// How much is served.
 #[derive(Clone, Copy, PartialEq, Eq, Drop)]
-pub struct Limits {
+pub struct ServeLimits {
     /// How many links may be served at once.
     pub servers: u32,
     /// How many links are to come.
@@ -48,7 +48,7 @@ pub(crate) struct Means<'s, J: Verdicts, R, S> {
     pub(crate) leaving: &'s Sender<usize>,
     /// The number of the worker that couldn't be started last.
     pub(crate) missing: &'s AtomicU64,
-    pub(crate) limits: Limits,
+    pub(crate) limits: ServeLimits,
 }
 
 /// Room for the links that are served at once, and for the workers, with what wakes these.
@@ -79,7 +79,7 @@ impl<J: Verdicts, L: Link + Drop, S: Service<J>> Room<J, L, S> {
     /// Takes as much room as is needed. What workers sleep on comes with it, and where threads of links say that they are over.
     pub(crate) fn new(
         alloc: Global,
-        limits: &Limits,
+        limits: &ServeLimits,
     ) -> Result<(Room<J, L, S>, Naps, Sender<usize>), Memory>
         requires { 0 < limits.now.servers }
         ensures { IfOk result (λ r. MayServe limits.now r.0) }

@@ -7,7 +7,7 @@ ghost use Rattle.server_threads.specs.Serving.{HasServed, MayTake};
 ghost use Rattle.server_threads.specs.OpenLinks.{HasServedLinks, MayServe};
 
 use crate::links::{Before, ending, join_all, take_links};
-use crate::means::{Limits, Means, Room, ServeFault};
+use crate::means::{Means, Room, ServeFault, ServeLimits};
 use crate::service::Service;
 use crate::staff::{relieve, staff};
 use desk::{Desk, Seat};
@@ -90,7 +90,7 @@ pub fn serve_loop<
     seat: Seat<J>,
     net: &mut N,
     service: &'s S,
-    limits: Limits,
+    limits: ServeLimits,
 ) -> (Seat<J>, Result<u64, ServeFault>)
 where
     N::Conn: Send + Drop,

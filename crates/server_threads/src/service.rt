@@ -1,11 +1,11 @@
 //! What serves a link: whoever has the conversation on it.
 
 ghost use Rattle.std.specs.Prelude.{List};
-ghost use Rattle.job_table.specs.History.{Entry};
+ghost use Rattle.job_table.specs.History.{MoveEntry};
 
 use crate::open::OpenLink;
 use job_runs::Runner;
-use job_table::{Calls, Verdicts};
+use job_table::{Mover, Verdicts};
 use os_io::{Close, Stream};
 use std::alloc::Global;
 use std::sync::Wait;
@@ -14,22 +14,22 @@ use workers::Bell;
 /// What serves links and runs jobs.
 pub trait Service<V: Verdicts>: Runner<V> {
     ghost use Rattle.std.specs.Prelude.{List, Bool};
-    ghost use Rattle.job_table.specs.History.{Entry};
+    ghost use Rattle.job_table.specs.History.{MoveEntry};
     ghost use Rattle.os_io.specs.Streams.{Tells};
 
     /// What one conversation may be: how a bell answers that is rung, what the link told before it, the moves that were made for it, what
     /// the link told after it, and whether it ended for want of memory.
-    ghost talked: { (Bool → Type 0) → Tells → List Entry → Tells → Bool → Type 0 };
+    ghost talked: { (Bool → Type 0) → Tells → List MoveEntry → Tells → Bool → Type 0 };
 
-    /// Serves an open link from its first byte to its last, by moves of one caller, and gives it back. Where work is left for a worker
+    /// Serves an open link from its first byte to its last, by moves of one seat, and gives it back. Where work is left for a worker
     /// it rings. The answer is whether it ended for want of memory.
-    fn serve<L: Close, C: Calls<V>, R: Wait, B: Bell>(
+    fn serve<L: Close, C: Mover<V>, R: Wait, B: Bell>(
         &self,
         rt: &R,
         alloc: Global,
         bell: &B,
         link: OpenLink<L>,
-        calls: &mut C,
+        mover: &mut C,
     ) -> (bool, OpenLink<L>)
-        ensures { (own : List Entry) × C.did calls.old calls.new own × talked B.rang (⟦<OpenLink<L> as Stream>⟧.tells link) own (⟦<OpenLink<L> as Stream>⟧.tells result.1) result.0 };
+        ensures { (own : List MoveEntry) × C.did mover.old mover.new own × talked B.rang (⟦<OpenLink<L> as Stream>⟧.tells link) own (⟦<OpenLink<L> as Stream>⟧.tells result.1) result.0 };
 }

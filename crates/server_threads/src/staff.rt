@@ -111,9 +111,9 @@ pub(crate) fn staff<
     ensures seat { IsSeatOf (desk_id means.now.desk.now) first.new }
     ensures hired { Hired J.right S.ran (desk_id means.now.desk.now) first.old.me.0 first.new.me.0 means.now.limits.workers shifts.new.items }
 {
-    for turn in 0..means.limits.workers {
+    for number in 0..means.limits.workers {
         let seat = means.desk.split(first);
-        let place = hire(means, scope, seat, u64::from(turn));
+        let place = hire(means, scope, seat, u64::from(number));
         shifts.push_back_reserved(place);
     }
 }

@@ -2,8 +2,8 @@
 use Rattle.std.proofs.Common.{◌≡◌, ℕ, ◌<◌, nat_eq, eqb-true, Bool, true, false, List, Result, Ok, Err, refl, sym, ◌∙◌, subst, arith}
 use Rattle.os_io.specs.Streams.{Tells, HasRisen}
 use Rattle.os_io.specs.Links.{NetTells, ListenedAt, IsReached, SameLinks}
-use Rattle.desk.specs.declared.view.Entry.{Entry}
-use Rattle.desk.specs.History.{calls}
+use Rattle.desk.specs.declared.view.SeatEntry.{SeatEntry}
+use Rattle.desk.specs.History.{moves_in}
 use Rattle.server_threads.specs.declared.means.ServeFault.{ServeFault}
 use Rattle.server_threads.specs.declared.means.ServeFault.TheVariants.{Failed, Memory}
 use Rattle.server_threads.specs.Talks.{LinkTalk, short_of}
@@ -42,7 +42,7 @@ module _ (host : List ℕ) (port : ℕ) (setup : Setup) where
     module _ (listens : IsSent listening output said) (new : NetTells) (stayed : new.reached ≡ old.reached) where
       abbrev Answered : ℕ → Result ℕ ServeFault → Type 0
       Answered given served =
-          Hosts (λ links log. (given ≡ numbers_given (calls log)) × threads.EndsServing served setup.limits.connections links old.faults new.faults) setup old new
+          Hosts (λ links log. (given ≡ numbers_given (moves_in log)) × threads.EndsServing served setup.limits.connections links old.faults new.faults) setup old new
 
       still : IsReached first.reached new.reached (ListenedAt host port setup.patience)
       still = subst (λ r. IsReached first.reached r (ListenedAt host port setup.patience)) (sym stayed) reached

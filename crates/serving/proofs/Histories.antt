@@ -7,22 +7,22 @@ use Rattle.std.proofs.lemmas.List.Elements.{All-nil, All-cons, All-append, All-h
 use Rattle.std.proofs.lemmas.List.Sorted.{IsPermutation-refl, IsPermutation-sym, IsPermutation-map, IsPermutation-append_left, All-permutation}
 use Rattle.os_io.specs.Streams.{Tells}
 use Rattle.os_io.specs.Links.{NetTells, SameLinks}
-use Rattle.job_table.specs.declared.calls.Call.TheVariants.{Retrieve}
-use Rattle.job_table.specs.declared.calls.Retrieved.TheVariants as shown
-use Rattle.job_table.specs.declared.calls.Reply.TheVariants as reply
+use Rattle.job_table.specs.declared.entries.TableMove.TheVariants.{Retrieve}
+use Rattle.job_table.specs.declared.entries.Retrieved.TheVariants as shown
+use Rattle.job_table.specs.declared.entries.Reply.TheVariants as reply
 use Rattle.job_table.specs.Jobs.{Register, beginning, waiting_jobs}
-use Rattle.job_table.specs.History.{Entry as Said, entry_of_move, LeadsTo as Leads}
+use Rattle.job_table.specs.History.{MoveEntry as Said, entry_of_move, LeadsTo as Leads}
 use Rattle.job_table.specs.Laws.{FirstFinishIsKept, NumbersAreGivenOnce}
 use Rattle.job_runs.specs.Laws.{IsFinishKept}
-use Rattle.desk.specs.declared.view.Entry.{Entry}
+use Rattle.desk.specs.declared.view.SeatEntry.{SeatEntry}
 use Rattle.desk.specs.declared.view.Met.{Met}
 use Rattle.desk.specs.declared.view.View.{View}
-use Rattle.desk.specs.History.{LeadsTo, calls, calls_by, by}
+use Rattle.desk.specs.History.{LeadsTo, moves_in, entries_by, by}
 use Rattle.desk.specs.Rule.{first_view, HasMet}
 use Rattle.desk.specs.SeatMoves.{Closes}
 use Rattle.desk.specs.SeatHistory.{Asked}
 use Rattle.desk.proofs.Histories.{starts_grown}
-use Rattle.desk.proofs.WholeHistory.{calls_by_one, calls_then, whole_history}
+use Rattle.desk.proofs.WholeHistory.{moves_by_one, moves_then, whole_history}
 use Rattle.job_table.proofs.Histories.{leads_split}
 use Rattle.workers.specs.Shifts.{WorksThrough}
 use Rattle.workers.specs.Bells.{Untold}
@@ -37,7 +37,7 @@ use Rattle.job_solver.specs.Runs.{Makes}
 use Rattle.job_solver.specs.ProvedDocuments.{ShownAreProved}
 use Rattle.os_server.proofs.Pieces.{talk_so}
 use Rattle.serving.specs.declared.setup.Setup.{Setup}
-use Rattle.serving.specs.Serving.{Converses, callers, WorksLast, IsHistory, Hosts, numbers_given}
+use Rattle.serving.specs.Serving.{Converses, movers, WorksLast, IsHistory, Hosts, numbers_given}
 use Rattle.serving.proofs.Hands.{IsOrderly}
 use Rattle.serving.proofs.Finishes.{kept_beside}
 use Rattle.serving.proofs.Order.{IsNeat, neat, shift_neat}
@@ -75,13 +75,13 @@ module _ (P Q : Met → Type 0) (n : ℕ) where
 -- ---- the moves of each are orderly
 
 abbrev IsOrderlyMet : Met → Type 0
-IsOrderlyMet m = IsOrderly None (calls m.calls)
+IsOrderlyMet m = IsOrderly None (moves_in m.entries)
 
-neat_met : (n : ℕ) (said : List Said) → IsNeat said → IsOrderly None (calls (by n said))
-neat_met n said is = subst (λ (es : List Said). IsOrderly None es) (sym (calls_by_one n said)) is.0
+neat_met : (n : ℕ) (said : List Said) → IsNeat said → IsOrderly None (moves_in (by n said))
+neat_met n said is = subst (λ (es : List Said). IsOrderly None es) (sym (moves_by_one n said)) is.0
 
 conversation_neat : (came back : Tells) (said : List Said) (short : Bool) → Converses Untold came said back short → IsNeat said
-conversation_neat came back said short (end, s, is) = subst IsNeat s.calls (talk_so Makes IsNeat (neat Makes) Untold end _ s.part s.talk)
+conversation_neat came back said short (end, s, is) = subst IsNeat s.moves (talk_so Makes IsNeat (neat Makes) Untold end _ s.part s.talk)
 
 shift_so : (said : List Said) → IsShift Makes said → IsNeat said
 shift_so said (inl none) = subst IsNeat (sym none) (tt, refl)
@@ -97,7 +97,7 @@ shifts_orderly n [] all = All-nil IsOrderlyMet
 shifts_orderly n (s ∷ ss) all =
     All-cons IsOrderlyMet (shift_met s) (map shift_met ss) (neat_met s.seat s.said (shift_so s.said all.1)) (shifts_orderly (n + 1) ss all.2)
 
--- ---- one caller more, behind the first ones
+-- ---- one mover more, behind the first ones
 
 module _ {A : Type 0} (P : A → Type 0) (x : A) where
   all_with : (xs ys : List A) → P x → All P (xs ++ ys) → All P (xs ++ x ∷ ys)
@@ -117,20 +117,20 @@ abbrev stood : View → NetTells → threads.Stand
 stood v net = record { view = v; coming = net.coming; given_back = net.given_back; reached = net.reached }
 
 -- what came behind other moves still does in a longer history
-at_once_grown : (servers : ℕ) (log more : List Entry) (links : List LinkTalk) → AtOnce servers log links → AtOnce servers (log ++ more) links
+at_once_grown : (servers : ℕ) (log more : List SeatEntry) (links : List LinkTalk) → AtOnce servers log links → AtOnce servers (log ++ more) links
 at_once_grown servers log more links =
-    All-weaker (λ t. (seen : List Entry) × Opens servers log links t.seat seen) (λ t. (seen : List Entry) × Opens servers (log ++ more) links t.seat seen)
+    All-weaker (λ t. (seen : List SeatEntry) × Opens servers log links t.seat seen) (λ t. (seen : List SeatEntry) × Opens servers (log ++ more) links t.seat seen)
     (λ t is. (is.0, record { out = is.1.out; few = is.1.few; begins = starts_grown log is.0 more is.1.begins; none = is.1.none; earlier = is.1.earlier })) links
 
 module _ (kept : FirstFinishIsKept Right) (numbers : NumbersAreGivenOnce Right) (shown_proved : ShownAreProved) where
-  history_of : (first servers : ℕ) (links : List LinkTalk) (staff : List Shift) (closer : Shift) (log : List Entry) (table : Register) → table.first ≡ first → LeadsTo Right log table
-      → AllWorked Makes 0 (closer ∷ staff) → AllTalked (Converses Untold) (1 + length staff) links → All (λ m. calls_by m.seat log ≡ m.calls) (callers links (closer ∷ staff))
-      → ((n : ℕ) → All (λ m. m.seat ≢ n) (callers links (closer ∷ staff)) → calls_by n log ≡ []) → WorksLast closer log → AtOnce servers log links
+  history_of : (first servers : ℕ) (links : List LinkTalk) (staff : List Shift) (closer : Shift) (log : List SeatEntry) (table : Register) → table.first ≡ first → LeadsTo Right log table
+      → AllWorked Makes 0 (closer ∷ staff) → AllTalked (Converses Untold) (1 + length staff) links → All (λ m. entries_by m.seat log ≡ m.entries) (movers links (closer ∷ staff))
+      → ((n : ℕ) → All (λ m. m.seat ≢ n) (movers links (closer ∷ staff)) → entries_by n log ≡ []) → WorksLast closer log → AtOnce servers log links
       → waiting_jobs table.jobs ≡ 0 → IsHistory first servers links staff closer log
   history_of first servers links staff closer log table begins leads worked talked made no_others last at_once none_waits =
-      let found : (n : ℕ) → Sits (λ m. calls_by m.seat log ≡ m.calls) IsOrderlyMet n (callers links (closer ∷ staff)) → IsOrderly None (calls (calls_by n log)) =
-      λ n sat. ⊎_elim (λ m. subst (λ (k : ℕ). IsOrderly None (calls (calls_by k log))) m.3 (subst (λ (es : List Entry). IsOrderly None (calls es)) (sym m.1) m.2))
-      (λ none. subst (λ (es : List Entry). IsOrderly None (calls es)) (sym (no_others n none)) tt) sat in
+      let found : (n : ℕ) → Sits (λ m. entries_by m.seat log ≡ m.entries) IsOrderlyMet n (movers links (closer ∷ staff)) → IsOrderly None (moves_in (entries_by n log)) =
+      λ n sat. ⊎_elim (λ m. subst (λ (k : ℕ). IsOrderly None (moves_in (entries_by k log))) m.3 (subst (λ (es : List SeatEntry). IsOrderly None (moves_in es)) (sym m.1) m.2))
+      (λ none. subst (λ (es : List SeatEntry). IsOrderly None (moves_in es)) (sym (no_others n none)) tt) sat in
       let orderly = All-append IsOrderlyMet (map talk_met links) (map shift_met (closer ∷ staff)) (talks_orderly (1 + length staff) links talked)
       (shifts_orderly 0 (closer ∷ staff) worked) in
       record {
@@ -144,31 +144,31 @@ module _ (kept : FirstFinishIsKept Right) (numbers : NumbersAreGivenOnce Right) 
         closes = inr last;
         at_once = at_once;
         kept = kept_beside Right numbers kept log table leads
-            (λ n. found n (sits (λ m. calls_by m.seat log ≡ m.calls) IsOrderlyMet n (callers links (closer ∷ staff)) made orderly));
-        proved = shown_proved (calls log) table leads;
+            (λ n. found n (sits (λ m. entries_by m.seat log ≡ m.entries) IsOrderlyMet n (movers links (closer ∷ staff)) made orderly));
+        proved = shown_proved (moves_in log) table leads;
         none_waits = none_waits;
       }
 
   -- links that were served by moves of a new desk, whose first seat worked off what waited then and closed it
-  hosts_of : (E : List LinkTalk → List Entry → Type 0) (setup : Setup) (old new : NetTells) (v w last : View) (links : List LinkTalk) (own : List Said)
-      (table : Register) → (s : threads.ServesLinks Makes (Converses Untold) setup.limits.servers setup.limits.workers (stood v old) (stood w new) links) → v ≡ first_view → calls_by w.number w.seen ≡ w.mine
+  hosts_of : (E : List LinkTalk → List SeatEntry → Type 0) (setup : Setup) (old new : NetTells) (v w last : View) (links : List LinkTalk) (own : List Said)
+      (table : Register) → (s : threads.ServesLinks Makes (Converses Untold) setup.limits.servers setup.limits.workers (stood v old) (stood w new) links) → v ≡ first_view → entries_by w.number w.seen ≡ w.mine
       → HasMet w.seen w.met → (asked : Asked Right w last own) → WorksThrough Makes own → table.first ≡ setup.first → (c : Closes Right last table) → E links c.log
       → Hosts E setup old new
   hosts_of E setup old new v w last links own table s fresh stand known asked works begins c ends =
       let closer : Shift = record { seat = 0; said = own } in
       let talks = map talk_met links in
       let shifts = map shift_met s.shifts in
-      let back = callers s.returned s.shifts in
+      let back = movers s.returned s.shifts in
       let same : IsPermutation back (talks ++ shifts) =
       IsPermutation-append_left shifts (map talk_met s.returned) talks (IsPermutation-map talk_met s.returned links (IsPermutation-sym links s.returned s.all_back)) in
       let number : w.number ≡ 0 = s.number ∙ ap (λ (x : View). x.number) fresh in
       let met : last.met ≡ back = asked.stays.met ∙ s.met ∙ ap (λ (x : View). x.met ++ back) fresh in
       let given : v.given ≡ 1 = ap (λ (x : View). x.given) fresh in
       let before : w.mine ≡ [] = s.mine ∙ ap (λ (x : View). x.mine) fresh in
-      let mine : calls_by 0 c.log ≡ by 0 own = c.mine ∙ asked.mine ∙ ap (λ (es : List Entry). es ++ by w.number own) before ∙ ap (λ (n : ℕ). by n own) number in
+      let mine : entries_by 0 c.log ≡ by 0 own = c.mine ∙ asked.mine ∙ ap (λ (es : List SeatEntry). es ++ by w.number own) before ∙ ap (λ (n : ℕ). by n own) number in
       let whole : c.log ≡ w.seen ++ by 0 own = whole_history Right w last own asked number stand known table c in
-      let all : calls c.log ≡ calls w.seen ++ own = ap calls whole ∙ calls_then w.seen 0 own in
-      let (mid, earlier, shift) = leads_split Right (calls w.seen) own table (subst (λ (es : List Said). Leads Right es table) all c.leads) in
+      let all : moves_in c.log ≡ moves_in w.seen ++ own = ap moves_in whole ∙ moves_then w.seen 0 own in
+      let (mid, earlier, shift) = leads_split Right (moves_in w.seen) own table (subst (λ (es : List Said). Leads Right es table) all c.leads) in
       record {
         links = links;
         returned = s.returned;
@@ -182,26 +182,26 @@ module _ (kept : FirstFinishIsKept Right) (numbers : NumbersAreGivenOnce Right) 
         history = history_of setup.first setup.limits.servers links s.shifts closer c.log table begins c.leads
             (refl, inr works, subst (λ (n : ℕ). AllWorked Makes n s.shifts) given s.worked)
             (subst (λ (n : ℕ). AllTalked (Converses Untold) (n + length s.shifts) links) given s.all_talked)
-            (all_with (λ m. calls_by m.seat c.log ≡ m.calls) (shift_met closer) talks shifts mine
-            (All-permutation (λ m. calls_by m.seat c.log ≡ m.calls) back (talks ++ shifts) same
-            (subst (λ (ms : List Met). All (λ m. calls_by m.seat c.log ≡ m.calls) ms) met (all_by_place (λ m. calls_by m.seat c.log ≡ m.calls) last.met c.met))))
+            (all_with (λ m. entries_by m.seat c.log ≡ m.entries) (shift_met closer) talks shifts mine
+            (All-permutation (λ m. entries_by m.seat c.log ≡ m.entries) back (talks ++ shifts) same
+            (subst (λ (ms : List Met). All (λ m. entries_by m.seat c.log ≡ m.entries) ms) met (all_by_place (λ m. entries_by m.seat c.log ≡ m.entries) last.met c.met))))
             (λ n none. let (other, rest) = all_without (λ m. m.seat ≢ n) (shift_met closer) talks shifts none in
             c.no_others n (λ is. other (sym is)) (place_of_all (λ m. m.seat ≢ n) last.met (subst (λ (ms : List Met). All (λ m. m.seat ≢ n) ms) (sym met)
             (All-permutation (λ m. m.seat ≢ n) (talks ++ shifts) back (IsPermutation-sym back (talks ++ shifts) same) rest))))
-            (record { others = w.seen; worked = works; none = subst (λ (n : ℕ). calls_by n w.seen ≡ []) number (stand ∙ before); last = whole })
-            (subst (λ (es : List Entry). AtOnce setup.limits.servers es links) (sym whole) (at_once_grown setup.limits.servers w.seen (by 0 own) links s.at_once))
+            (record { others = w.seen; worked = works; none = subst (λ (n : ℕ). entries_by n w.seen ≡ []) number (stand ∙ before); last = whole })
+            (subst (λ (es : List SeatEntry). AtOnce setup.limits.servers es links) (sym whole) (at_once_grown setup.limits.servers w.seen (by 0 own) links s.at_once))
             (shift_leaves_none Makes Right mid table own works shift);
         ends = ends;
       }
 
   -- the same of what serving answered, and of how many numbers the table gave that was closed
   pub hosted : (setup : Setup) (given : ℕ) (served : Result ℕ ServeFault) (old new : NetTells) (v w last : View) (own : List Said) (table : Register)
-      → (o : (links : List LinkTalk) × threads.ServesLinks Makes (Converses Untold) setup.limits.servers setup.limits.workers (stood v old) (stood w new) links × threads.EndsServing served setup.limits.connections links old.faults new.faults) → v ≡ first_view → calls_by w.number w.seen ≡ w.mine
+      → (o : (links : List LinkTalk) × threads.ServesLinks Makes (Converses Untold) setup.limits.servers setup.limits.workers (stood v old) (stood w new) links × threads.EndsServing served setup.limits.connections links old.faults new.faults) → v ≡ first_view → entries_by w.number w.seen ≡ w.mine
       → HasMet w.seen w.met → Asked Right w last own → WorksThrough Makes own → table.first ≡ setup.first → Closes Right last table → given ≡ table.issued
-      → Hosts (λ links log. (given ≡ numbers_given (calls log)) × threads.EndsServing served setup.limits.connections links old.faults new.faults) setup old new
+      → Hosts (λ links log. (given ≡ numbers_given (moves_in log)) × threads.EndsServing served setup.limits.connections links old.faults new.faults) setup old new
   hosted setup given served old new v w last own table o fresh stand known asked works begins c is =
-      hosts_of (λ links log. (given ≡ numbers_given (calls log)) × threads.EndsServing served setup.limits.connections links old.faults new.faults) setup old new v w last o.0 own table o.1
-      fresh stand known asked works begins c (is ∙ all_counted Right table (calls c.log) c.leads, o.2)
+      hosts_of (λ links log. (given ≡ numbers_given (moves_in log)) × threads.EndsServing served setup.limits.connections links old.faults new.faults) setup old new v w last o.0 own table o.1
+      fresh stand known asked works begins c (is ∙ all_counted Right table (moves_in c.log) c.leads, o.2)
 
 -- ---- where no link came
 
@@ -220,17 +220,17 @@ no_history first servers = record {
   runs = refl;
   worked = (refl, inl refl, tt);
   talked = tt;
-  made = All-cons (λ m. calls_by m.seat [] ≡ m.calls) (shift_met no_closer) [] refl (All-nil (λ m. calls_by m.seat [] ≡ m.calls));
+  made = All-cons (λ m. entries_by m.seat [] ≡ m.entries) (shift_met no_closer) [] refl (All-nil (λ m. entries_by m.seat [] ≡ m.entries));
   no_others = λ n none. refl;
   closes = inl refl;
-  at_once = All-nil (λ t. (seen : List Entry) × Opens servers [] [] t.seat seen);
+  at_once = All-nil (λ t. (seen : List SeatEntry) × Opens servers [] [] t.seat seen);
   kept = All-nil IsFinishKept;
   proved = λ n document before after are. absurd (not_nil before after (entry_of_move (Retrieve n) (reply.Retrieved (shown.Finished (Some document)))) are);
   none_waits = refl;
 }
 
 -- nothing came and nothing was given back
-pub hosts_none : (E : List LinkTalk → List Entry → Type 0) (setup : Setup) (old new : NetTells) → SameLinks old new → E [] [] → Hosts E setup old new
+pub hosts_none : (E : List LinkTalk → List SeatEntry → Type 0) (setup : Setup) (old new : NetTells) → SameLinks old new → E [] [] → Hosts E setup old new
 hosts_none E setup old new same ends = record {
   links = [];
   returned = [];
@@ -246,8 +246,8 @@ hosts_none E setup old new same ends = record {
 }
 
 -- what else holds of the links and the history may be said otherwise, and the listener may have told the same links before
-pub hosts_so : (E F : List LinkTalk → List Entry → Type 0) (setup : Setup) (first old new : NetTells) → SameLinks first old
-    → ((links : List LinkTalk) (log : List Entry) → E links log → F links log) → Hosts E setup old new → Hosts F setup first new
+pub hosts_so : (E F : List LinkTalk → List SeatEntry → Type 0) (setup : Setup) (first old new : NetTells) → SameLinks first old
+    → ((links : List LinkTalk) (log : List SeatEntry) → E links log → F links log) → Hosts E setup old new → Hosts F setup first new
 hosts_so E F setup first old new same so h = record {
   links = h.links;
   returned = h.returned;

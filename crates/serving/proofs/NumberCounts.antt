@@ -4,17 +4,17 @@ use Rattle.std.proofs.lemmas.List.Sums.{sum_by-cons}
 use Rattle.job_table.specs.declared.job.Job.{Job}
 use Rattle.job_table.specs.declared.job.Phase.{Phase}
 use Rattle.job_table.specs.declared.job.Phase.TheVariants.{Issued, Waiting, Running, Finished, Killed}
-use Rattle.job_table.specs.declared.calls.Call.{Call}
-use Rattle.job_table.specs.declared.calls.Call.TheVariants as calls
-use Rattle.job_table.specs.declared.calls.Reply.{Reply}
-use Rattle.job_table.specs.declared.calls.Reply.TheVariants as reply
+use Rattle.job_table.specs.declared.entries.TableMove.{TableMove}
+use Rattle.job_table.specs.declared.entries.TableMove.TheVariants as moves
+use Rattle.job_table.specs.declared.entries.Reply.{Reply}
+use Rattle.job_table.specs.declared.entries.Reply.TheVariants as reply
 use Rattle.job_table.specs.Jobs.{Register, beginning, next_number, phase_of, first_waiting, job}
-use Rattle.job_table.specs.Steps.{Outcome, outcome, most_jobs, last_number, with_new, sends, claims, finishes, kills, row_of_move}
-use Rattle.job_table.specs.History.{Entry, LeadsStepwise, LeadsTo}
+use Rattle.job_table.specs.Steps.{MoveOutcome, outcome, most_jobs, last_number, with_new, sends, claims, finishes, kills, row_of_move}
+use Rattle.job_table.specs.History.{MoveEntry, LeadsStepwise, LeadsTo}
 use Rattle.serving.specs.Serving.{gives_number, numbers_given}
 
 -- the count after an outcome, by whether its reply gives a number
-abbrev Counted : (Reply → Bool) → Register → Outcome → Type 0
+abbrev Counted : (Reply → Bool) → Register → MoveOutcome → Type 0
 Counted gives r o = o.after.issued ≡ cond (gives o.reply) (1 + r.issued) r.issued
 
 one_more : (n : ℕ) → n + 1 ≡ 1 + n
@@ -43,7 +43,7 @@ kills_none n (Some (Running o p marked)) r = refl
 kills_none n (Some (Finished document)) r = refl
 kills_none n (Some Killed) r = refl
 
-if_none : (test : Bool) (a b : Outcome) (n : ℕ) → a.after.issued ≡ n → b.after.issued ≡ n → (cond test a b).after.issued ≡ n
+if_none : (test : Bool) (a b : MoveOutcome) (n : ℕ) → a.after.issued ≡ n → b.after.issued ≡ n → (cond test a b).after.issued ≡ n
 if_none true a b n p q = p
 if_none false a b n p q = q
 
@@ -52,28 +52,28 @@ finishes_none j asked document (Some (Running o p marked)) r =
     if_none (bytes_eq j.osil o && bytes_eq j.osol p) _ _ r.issued (if_none (asked && not marked) _ _ r.issued refl refl) refl
 finishes_none j asked document phase r = refl
 
-row_counted : (call : Call) (r : Register) → Counted (gives_number call) r (row_of_move call r)
-row_counted calls.Issue r = adds_counted (gives_number calls.Issue) Issued (reply.Issued (next_number r)) r (nat_le most_jobs (length r.jobs)) (nat_lt last_number (next_number r)) refl refl refl
-row_counted (calls.Enter o p) r =
-    adds_counted (gives_number (calls.Enter o p)) (Running o p false) (reply.Gave (Some (job (next_number r) o p))) r (nat_le most_jobs (length r.jobs)) (nat_lt last_number (next_number r)) refl refl refl
-row_counted (calls.Send n o p) r = sends_none n o p (phase_of n r.jobs) r
-row_counted (calls.Claim worker) r = claims_none (not worker && nat_lt 0 r.workers) (first_waiting r.jobs) r
-row_counted (calls.Kill n) r = kills_none n (phase_of n r.jobs) r
-row_counted (calls.Finish j asked document) r = finishes_none j asked document (phase_of j.number r.jobs) r
-row_counted call r = refl
+row_counted : (move : TableMove) (r : Register) → Counted (gives_number move) r (row_of_move move r)
+row_counted moves.Issue r = adds_counted (gives_number moves.Issue) Issued (reply.Issued (next_number r)) r (nat_le most_jobs (length r.jobs)) (nat_lt last_number (next_number r)) refl refl refl
+row_counted (moves.Enter o p) r =
+    adds_counted (gives_number (moves.Enter o p)) (Running o p false) (reply.Gave (Some (job (next_number r) o p))) r (nat_le most_jobs (length r.jobs)) (nat_lt last_number (next_number r)) refl refl refl
+row_counted (moves.Send n o p) r = sends_none n o p (phase_of n r.jobs) r
+row_counted (moves.Claim worker) r = claims_none (not worker && nat_lt 0 r.workers) (first_waiting r.jobs) r
+row_counted (moves.Kill n) r = kills_none n (phase_of n r.jobs) r
+row_counted (moves.Finish j asked document) r = finishes_none j asked document (phase_of j.number r.jobs) r
+row_counted move r = refl
 
 first_counted : (gives : Bool) (n next rest : ℕ) → next ≡ cond gives (1 + n) n → next + rest ≡ n + (cond gives 1 0 + rest)
 first_counted true n next rest is = omega (arith, is)
 first_counted false n next rest is = omega (arith, is)
 
-runs_counted : (right : List ℕ → List ℕ → Bool → Option (List ℕ) → Type 0) (r after : Register) (es : List Entry) → LeadsStepwise right r es after → after.issued ≡ r.issued + numbers_given es
+runs_counted : (right : List ℕ → List ℕ → Bool → Option (List ℕ) → Type 0) (r after : Register) (es : List MoveEntry) → LeadsStepwise right r es after → after.issued ≡ r.issued + numbers_given es
 runs_counted right r after [] runs = ap (λ (s : Register). s.issued) runs ∙ omega arith
 runs_counted right r after (e ∷ es) (next, step, runs) =
-    let one : next.issued ≡ cond (gives_number e.call e.reply) (1 + r.issued) r.issued =
-    subst (λ (o : Outcome). Counted (gives_number e.call) r o) step.is (row_counted e.call r) in
-    runs_counted right next after es runs ∙ first_counted (gives_number e.call e.reply) r.issued next.issued (numbers_given es) one
-    ∙ ap (λ (n : ℕ). r.issued + n) (sym (sum_by-cons (λ (x : Entry). cond (gives_number x.call x.reply) 1 0) e es))
+    let one : next.issued ≡ cond (gives_number e.table_move e.reply) (1 + r.issued) r.issued =
+    subst (λ (o : MoveOutcome). Counted (gives_number e.table_move) r o) step.is (row_counted e.table_move r) in
+    runs_counted right next after es runs ∙ first_counted (gives_number e.table_move e.reply) r.issued next.issued (numbers_given es) one
+    ∙ ap (λ (n : ℕ). r.issued + n) (sym (sum_by-cons (λ (x : MoveEntry). cond (gives_number x.table_move x.reply) 1 0) e es))
 
 -- from an empty table on
-pub all_counted : (right : List ℕ → List ℕ → Bool → Option (List ℕ) → Type 0) (after : Register) (es : List Entry) → LeadsTo right es after → after.issued ≡ numbers_given es
+pub all_counted : (right : List ℕ → List ℕ → Bool → Option (List ℕ) → Type 0) (after : Register) (es : List MoveEntry) → LeadsTo right es after → after.issued ≡ numbers_given es
 all_counted right after es runs = runs_counted right (beginning after.first) after es runs ∙ omega arith

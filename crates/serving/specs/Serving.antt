@@ -2,16 +2,16 @@
 use Rattle.std.specs.Prelude.{◌≡◌, ◌≢◌, ◌⊎◌, ℕ, ◌+◌, ◌<◌, ◌≤◌, Bool, true, false, List, [], ◌∷◌, ◌++◌, length, map, count_by, All, IsPermutation, Some}
 use Rattle.os_io.specs.Streams.{Tells, HasRisen}
 use Rattle.os_io.specs.Links.{NetTells, ListenedAt, IsReached}
-use Rattle.job_table.specs.declared.calls.Call.{Call}
-use Rattle.job_table.specs.declared.calls.Call.TheVariants.{Issue, Enter}
-use Rattle.job_table.specs.declared.calls.Reply.{Reply}
-use Rattle.job_table.specs.declared.calls.Reply.TheVariants.{Issued, Gave}
+use Rattle.job_table.specs.declared.entries.TableMove.{TableMove}
+use Rattle.job_table.specs.declared.entries.TableMove.TheVariants.{Issue, Enter}
+use Rattle.job_table.specs.declared.entries.Reply.{Reply}
+use Rattle.job_table.specs.declared.entries.Reply.TheVariants.{Issued, Gave}
 use Rattle.job_table.specs.Jobs.{Register, waiting_jobs}
-use Rattle.job_table.specs.History.{Entry as Said}
+use Rattle.job_table.specs.History.{MoveEntry as Said}
 use Rattle.job_runs.specs.Laws.{AreKept}
-use Rattle.desk.specs.declared.view.Entry.{Entry}
+use Rattle.desk.specs.declared.view.SeatEntry.{SeatEntry}
 use Rattle.desk.specs.declared.view.Met.{Met}
-use Rattle.desk.specs.History.{LeadsTo, calls, calls_by, by}
+use Rattle.desk.specs.History.{LeadsTo, moves_in, entries_by, by}
 use Rattle.workers.specs.Shifts.{WorksThrough}
 use Rattle.workers.specs.Bells.{Untold}
 use Rattle.server_threads.specs.declared.means.ServeFault.{ServeFault}
@@ -47,45 +47,45 @@ Converses rang came said back short =
     (end : Served) × Serves Makes rang (λ made. made ≡ said) end came back × (short ≡ lacks_memory end)
 
 -- who made moves: the links that came, and the workers, each with its number and its moves
-abbrev pub callers : List LinkTalk → List Shift → List Met
-callers links staff = map talk_met links ++ map shift_met staff
+abbrev pub movers : List LinkTalk → List Shift → List Met
+movers links staff = map talk_met links ++ map shift_met staff
 
 -- whoever closes the table worked a whole shift, and its moves stand last: before them stand the moves of others alone
-pub record WorksLast (closer : Shift) (log : List Entry) : Type 0 where
-  pub others : List Entry
+pub record WorksLast (closer : Shift) (log : List SeatEntry) : Type 0 where
+  pub others : List SeatEntry
   pub worked : WorksThrough Makes closer.said
-  pub none : calls_by closer.seat others ≡ []
+  pub none : entries_by closer.seat others ≡ []
   pub last : log ≡ others ++ by closer.seat closer.said
 
--- one history of moves of the table, step by step from the empty one whose jobs have the numbers from this one on. Among the callers the workers
+-- one history of moves of the table, step by step from the empty one whose jobs have the numbers from this one on. Among the movers the workers
 -- have the numbers from 1 on, and their moves are those of their shifts; the links have the next ones, in the order in which they came, and their
 -- moves are those of their conversations. Whoever closes the table is one worker more, with the number 0, whose shift stands last; or nobody
 -- made a move. Under the number of each stand its moves, in their order, and nobody else has any. At most so many links are served
 -- at once, as far as moves show it. Every finish is kept, every document that is shown is proved, and at the end no job waits
-pub record IsHistory (first servers : ℕ) (links : List LinkTalk) (staff : List Shift) (closer : Shift) (log : List Entry) : Type 0 where
+pub record IsHistory (first servers : ℕ) (links : List LinkTalk) (staff : List Shift) (closer : Shift) (log : List SeatEntry) : Type 0 where
   pub table : Register
   pub begins : table.first ≡ first
   pub runs : LeadsTo Right log table
   pub worked : AllWorked Makes 0 (closer ∷ staff)
   pub talked : AllTalked (Converses Untold) (1 + length staff) links
-  pub made : All (λ m. calls_by m.seat log ≡ m.calls) (callers links (closer ∷ staff))
-  pub no_others : (n : ℕ) → All (λ m. m.seat ≢ n) (callers links (closer ∷ staff)) → calls_by n log ≡ []
+  pub made : All (λ m. entries_by m.seat log ≡ m.entries) (movers links (closer ∷ staff))
+  pub no_others : (n : ℕ) → All (λ m. m.seat ≢ n) (movers links (closer ∷ staff)) → entries_by n log ≡ []
   pub closes : (log ≡ []) ⊎ WorksLast closer log
   pub at_once : AtOnce servers log links
-  pub kept : AreKept (calls log)
-  pub proved : AreProved (calls log)
+  pub kept : AreKept (moves_in log)
+  pub proved : AreProved (moves_in log)
   pub none_waits : waiting_jobs table.jobs ≡ 0
 
 -- ---- what comes and goes
 
 -- links came in this order and were given back, perhaps in another, and with at most so many workers, and so many links at once, they made one
 -- history, whose numbers begin as they were to. What else holds of the links and the history is given
-pub record Hosts (Further : List LinkTalk → List Entry → Type 0) (setup : Setup) (old new : NetTells) : Type 0 where
+pub record Hosts (Further : List LinkTalk → List SeatEntry → Type 0) (setup : Setup) (old new : NetTells) : Type 0 where
   pub links : List LinkTalk
   pub returned : List LinkTalk
   pub staff : List Shift
   pub closer : Shift
-  pub log : List Entry
+  pub log : List SeatEntry
   pub all_back : IsPermutation links returned
   pub few : length staff ≤ setup.limits.workers
   pub came : Came old.coming new.coming (map (λ t. t.came) links)
@@ -94,18 +94,18 @@ pub record Hosts (Further : List LinkTalk → List Entry → Type 0) (setup : Se
   pub ends : Further links log
 
 -- the move gives a number: an issue, or the enter of a job
-abbrev pub gives_number : Call → Reply → Bool
+abbrev pub gives_number : TableMove → Reply → Bool
 gives_number Issue (Issued n) = true
 gives_number (Enter osil osol) (Gave (Some j)) = true
-gives_number call said = false
+gives_number move said = false
 
 -- how many numbers these moves gave
 abbrev pub numbers_given : List Said → ℕ
-numbers_given said = count_by (λ e. gives_number e.call e.reply) said
+numbers_given said = count_by (λ e. gives_number e.table_move e.reply) said
 
 -- ---- how it ends
 
-module _ (connections : ℕ) (links : List LinkTalk) (log : List Entry) (old new : NetTells) (output output' : Tells) where
+module _ (connections : ℕ) (links : List LinkTalk) (log : List SeatEntry) (old new : NetTells) (output output' : Tells) where
   -- so many links came, and no call of the listener failed
   abbrev pub AllCame : Type 0
   AllCame = (length links ≡ connections) × (new.faults ≡ old.faults)
@@ -115,17 +115,17 @@ module _ (connections : ℕ) (links : List LinkTalk) (log : List Entry) (old new
   abbrev pub ServerEnds : Ending → Type 0
   ServerEnds Done =
       AllCame × (short_of links ≡ 0)
-      × ((said : Tells) × IsSent listening output said × IsSent (jobs_line (numbers_given (calls log))) said output')
+      × ((said : Tells) × IsSent listening output said × IsSent (jobs_line (numbers_given (moves_in log))) said output')
   ServerEnds LinkMemory =
       AllCame × (0 < short_of links)
-      × ((said : Tells) × IsSent listening output said × IsSent (jobs_line (numbers_given (calls log))) said output')
+      × ((said : Tells) × IsSent listening output said × IsSent (jobs_line (numbers_given (moves_in log))) said output')
   ServerEnds ListenFault = (links ≡ []) × HasRisen old.faults new.faults × (output' ≡ output)
   ServerEnds AnnounceFault = (links ≡ []) × (new.faults ≡ old.faults) × BreaksOff listening output output'
   ServerEnds NoMemory = (links ≡ []) × (new.faults ≡ old.faults) × IsSent listening output output'
   ServerEnds AcceptFault = (length links < connections) × HasRisen old.faults new.faults × IsSent listening output output'
   ServerEnds ReportFault =
       AllCame
-      × ((said : Tells) × IsSent listening output said × BreaksOff (jobs_line (numbers_given (calls log))) said output')
+      × ((said : Tells) × IsSent listening output said × BreaksOff (jobs_line (numbers_given (moves_in log))) said output')
 
 -- what is answered where all links came and both lines were written, by whether no link ended for want of memory
 abbrev pub done_if : Bool → Ending

@@ -9,7 +9,7 @@
 //! the job, and a result that says that a point is optimal, that none is feasible, or that points have no best value, is accepted by
 //! the checker from the document's own bytes, and is true; and in the table that is left no job waits.
 //!
-//! How much is served is said by the setup's [`Limits`]. Which way of ending comes when is a table by [`Ending`]
+//! How much is served is said by the setup's [`ServeLimits`]. Which way of ending comes when is a table by [`Ending`]
 //! (`specs/Serving.antt`). What the clauses say of the whole service is gone through in `docs/HEADLINE.md`.
 #![tactic(auto)]
 
@@ -21,5 +21,5 @@ mod setup;
 
 pub use ending::Ending;
 pub use server::serve;
-pub use server_threads::Limits;
+pub use server_threads::ServeLimits;
 pub use setup::Setup;

@@ -4,7 +4,7 @@ ghost use Rattle.serving.specs.Serving.{lacks_memory};
 
 use job_runs::Runner;
 use job_solver::{SolvedJobs, Solver};
-use job_table::{Calls, SharedText};
+use job_table::{Mover, SharedText};
 use os_io::{Close, Watch};
 use os_server::{Served, Server, serve_one};
 use server_threads::{OpenLink, Service};
@@ -62,16 +62,16 @@ impl Service<SolvedJobs> for LinkServer<()> {
 
     ghost talked = { Converses };
 
-    fn serve<L: Close, C: Calls<SolvedJobs>, R: Wait, B: Bell>(
+    fn serve<L: Close, C: Mover<SolvedJobs>, R: Wait, B: Bell>(
         &self,
         rt: &R,
         alloc: Global,
         bell: &B,
         link: OpenLink<L>,
-        calls: &mut C,
+        mover: &mut C,
     ) -> (bool, OpenLink<L>) {
         let ringing = LinkServer(Ringing { rt, bell });
-        let (served, link) = serve_one(alloc, link, calls, &ringing);
+        let (served, link) = serve_one(alloc, link, mover, &ringing);
         (lacks_memory(served), link)
     }
 }

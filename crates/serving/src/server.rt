@@ -1,6 +1,7 @@
 //! A server, from `listen` to its last line.
-ghost use Rattle.std.specs.Prelude.{◌≡◌, ◌<◌, ◌≤◌, ◌^◌, nat_eq};
+ghost use Rattle.std.specs.Prelude.{◌≡◌, ◌<◌, ◌≤◌, nat_eq};
 ghost use Rattle.os_io.specs.Streams.{SameInput};
+ghost use Rattle.job_table.specs.Steps.{most_first};
 ghost use Rattle.serving.specs.Serving.{done_if, ending_of, IsServerRun};
 
 use crate::ending::Ending;
@@ -57,7 +58,7 @@ where
     N::Conn: Send + Drop,
     requires servers { 1 ≤ setup.limits.servers }
     requires first { 1 ≤ setup.first }
-    requires fits { setup.first ≤ 2 ^ 62 }
+    requires fits { setup.first ≤ most_first }
     ensures served { IsServerRun result host.now port setup (N.tells net.old) (N.tells net.new) (O.tells output.old) (O.tells output.new) }
     ensures input { SameInput (O.tells output.old) (O.tells output.new) }
 {

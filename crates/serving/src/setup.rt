@@ -1,6 +1,6 @@
 //! How a server is set up.
 
-use server_threads::Limits;
+use server_threads::ServeLimits;
 
 /// How a server is set up.
 #[derive(Clone, Copy, PartialEq, Eq, Drop)]
@@ -10,5 +10,5 @@ pub struct Setup {
     /// The number that the table of jobs gives first, from 1 to 2^62.
     pub first: u64,
     /// How much is served.
-    pub limits: Limits,
+    pub limits: ServeLimits,
 }

@@ -3,15 +3,15 @@ use Rattle.std.proofs.Common.{◌≡◌, ℕ, ◌-◌, ◌+◌, List, [], ◌++�
 use mathlib.Core.Option.{some-ne-none}
 use Rattle.os_io.specs.Streams.{Tells}
 use Rattle.job_table.specs.Jobs.{Register, beginning}
-use Rattle.job_table.specs.History.{Entry, LeadsStepwise, LeadsTo}
+use Rattle.job_table.specs.History.{MoveEntry, LeadsStepwise, LeadsTo}
 use Rattle.job_table.proofs.Histories.{first_led}
 use Rattle.desk.specs.declared.view.Met.{Met}
 use Rattle.desk.specs.declared.view.View.{View}
-use Rattle.desk.specs.History.{calls, calls_by}
+use Rattle.desk.specs.History.{moves_in, entries_by}
 use Rattle.desk.specs.Rule.{first_view, HasMet}
 use Rattle.desk.specs.SeatMoves.{Closes}
 use Rattle.desk.specs.SeatHistory.{Asked}
-use Rattle.desk.proofs.WholeHistory.{calls_then, whole_history}
+use Rattle.desk.proofs.WholeHistory.{moves_then, whole_history}
 use Rattle.os_server.specs.declared.serve.Served.{Served}
 use Rattle.os_server.specs.Laws.{ConversationsAreKept}
 use Rattle.os_server.specs.Talk.{ServesWhole}
@@ -23,33 +23,33 @@ use Rattle.sessions.specs.Sessions.{ServesAlone, IsSession}
 
 -- ---- a new desk
 
-module _ (first v : View) (fresh : first ≡ first_view) (said : List Entry) (asked : Asked Right first v said) where
+module _ (first v : View) (fresh : first ≡ first_view) (said : List MoveEntry) (asked : Asked Right first v said) where
   -- its history is these moves
   pub closed_runs : (table : Register) → Closes Right v table → table.first ≡ 1 → LeadsStepwise Right (beginning 1) said table
   closed_runs table c begins =
-      let stand : calls_by first.number first.seen ≡ first.mine = subst (λ (f : View). calls_by f.number f.seen ≡ f.mine) (sym fresh) refl in
+      let stand : entries_by first.number first.seen ≡ first.mine = subst (λ (f : View). entries_by f.number f.seen ≡ f.mine) (sym fresh) refl in
       let known : HasMet first.seen first.met = subst (λ (f : View). HasMet f.seen f.met) (sym fresh) (λ i m there. absurd (some-ne-none m (sym there))) in
       let log : c.log ≡ _ = whole_history Right first v said asked (ap (λ (f : View). f.number) fresh) stand known table c in
-      let are : calls c.log ≡ said = ap calls log ∙ calls_then first.seen 0 said ∙ ap (λ (f : View). calls f.seen ++ said) fresh in
-      subst (λ (z : ℕ × List Entry). LeadsStepwise Right (beginning z.0) z.1 table) (λ i. (begins i, are i)) c.leads
+      let are : moves_in c.log ≡ said = ap moves_in log ∙ moves_then first.seen 0 said ∙ ap (λ (f : View). moves_in f.seen ++ said) fresh in
+      subst (λ (z : ℕ × List MoveEntry). LeadsStepwise Right (beginning z.0) z.1 table) (λ i. (begins i, are i)) c.leads
 
 -- a conversation by moves of a new desk, which was closed
-pub served_alone : (did : List Entry → Type 0) (end : Served) (old new : Tells) (table : Register) → (s : ServesWhole Makes WakesNobody did end old new)
+pub served_alone : (did : List MoveEntry → Type 0) (end : Served) (old new : Tells) (table : Register) → (s : ServesWhole Makes WakesNobody did end old new)
     → LeadsStepwise Right (beginning 1) s.0.part.entries table → ServesAlone end old new
 served_alone did end old new table (s, whole) runs = (table, (serves_so Makes WakesNobody did (λ made. LeadsStepwise Right (beginning 1) made table) end old new s runs, whole))
 
 -- a conversation without a move
 pub served_without : (end : Served) (old new : Tells) → ServesWhole Makes WakesNobody (λ made. made ≡ []) end old new → ServesAlone end old new
 served_without end old new s =
-    served_alone (λ made. made ≡ []) end old new (beginning 1) s (subst (λ (es : List Entry). LeadsStepwise Right (beginning 1) es (beginning 1)) (sym s.0.calls) refl)
+    served_alone (λ made. made ≡ []) end old new (beginning 1) s (subst (λ (es : List MoveEntry). LeadsStepwise Right (beginning 1) es (beginning 1)) (sym s.0.moves) refl)
 
 -- a conversation whose moves were all that were made is a session
 pub session_of : ConversationsAreKept Makes WakesNobody Right → ShownAreProved → (end : Served) (old new : Tells) → ServesAlone end old new → IsSession end old new
 session_of kept shown end old new (table, (s, whole)) =
-    let runs : LeadsTo Right s.part.entries table = subst (λ (k : ℕ). LeadsStepwise Right (beginning k) s.part.entries table) (sym (first_led Right 1 s.part.entries table s.calls)) s.calls in record {
+    let runs : LeadsTo Right s.part.entries table = subst (λ (k : ℕ). LeadsStepwise Right (beginning k) s.part.entries table) (sym (first_led Right 1 s.part.entries table s.moves)) s.moves in record {
       entries = s.part.entries;
       table = table;
-      runs = s.calls;
+      runs = s.moves;
       serves = (serves_so Makes WakesNobody (λ made. LeadsStepwise Right (beginning 1) made table) (λ made. made ≡ s.part.entries) end old new s refl, whole);
       kept = kept end s.past old.left new.left s.part [] table s.talk runs;
       proved = shown s.part.entries table runs;

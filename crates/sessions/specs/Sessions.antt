@@ -3,7 +3,7 @@ use Rattle.std.specs.Prelude.{◌≡◌, List}
 use Rattle.os_io.specs.Streams.{Tells}
 use Rattle.solve_run.specs.JobAnswers.{Right}
 use Rattle.job_table.specs.Jobs.{Register, beginning}
-use Rattle.job_table.specs.History.{Entry, LeadsStepwise}
+use Rattle.job_table.specs.History.{MoveEntry, LeadsStepwise}
 use Rattle.job_runs.specs.Laws.{AreKept}
 use Rattle.job_solver.specs.Runs.{Makes, WakesNobody}
 use Rattle.job_solver.specs.ProvedDocuments.{AreProved}
@@ -18,7 +18,7 @@ ServesAlone end old new = (table : Register) × ServesWhole Makes WakesNobody (�
 -- a session that ended so, from before to after: moves of the table, step by step from the empty one whose numbers begin with 1, which are
 -- this conversation's and no other's; every finish among them is kept, and every document that is shown is proved
 pub record IsSession (end : Served) (old new : Tells) : Type 0 where
-  pub entries : List Entry
+  pub entries : List MoveEntry
   pub table : Register
   pub runs : LeadsStepwise Right (beginning 1) entries table
   pub serves : ServesWhole Makes WakesNobody (λ made. made ≡ entries) end old new

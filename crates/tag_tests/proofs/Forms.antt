@@ -1,12 +1,12 @@
 -- Marks one after another.
 use Rattle.std.proofs.Common.{◌≡◌, ◌∙◌, List, [], ◌∷◌, ◌++◌, refl, ap, sym, subst, append_assoc}
 use Rattle.tag_tests.specs.Tests.{AllPass}
-use Rattle.tag_tests.specs.Forms.{Form, Refuses, Takes, AreTaken, AreRefused, LeavesOne}
+use Rattle.tag_tests.specs.Forms.{Form, Refuses, TakesMark, AreTaken, AreRefused, LeavesOne}
 use Rattle.tag_tests.proofs.Tests.{not_pass, first_is_one}
 
 -- one mark more is taken
-pub taken_then : {S T C R : Type 0} (F : Form S T C R) (s m z : S) (ts : List T) (t : T) → AreTaken F s ts m → Takes F m t z → AreTaken F s (ts ++ t ∷ []) z
-taken_then F s m z [] t taken takes = let P = subst (λ x. Takes F x t z) taken takes in (z, P, refl)
+pub taken_then : {S T C R : Type 0} (F : Form S T C R) (s m z : S) (ts : List T) (t : T) → AreTaken F s ts m → TakesMark F m t z → AreTaken F s (ts ++ t ∷ []) z
+taken_then F s m z [] t taken takes = let P = subst (λ x. TakesMark F x t z) taken takes in (z, P, refl)
 taken_then F s m z (x ∷ ts) t taken takes = (taken.0, taken.1, taken_then F taken.0 m z ts t taken.2 takes)
 
 -- marks are taken in one way
@@ -40,7 +40,7 @@ one_stop {S} {T} F one s (x ∷ before) [] t u after more m k same p o a b =
     absurd (subst (λ (y : T). AllPass (F.Fails s y) (F.tests s y) → ⊥) (sym (heads x u (before ++ t ∷ after) more same).0) there p.1.0)
 one_stop {S} {T} F one s (x ∷ before) (y ∷ others) t u after more m k same p o a b =
     let parts = heads x y (before ++ t ∷ after) (others ++ u ∷ more) same in
-    let takes = subst (λ (w : T). Takes F s w o.0) (sym parts.0) o.1 in
+    let takes = subst (λ (w : T). TakesMark F s w o.0) (sym parts.0) o.1 in
     let state : o.0 ≡ p.0 = one s x o.0 p.0 takes p.1 in
     one_stop F one p.0 before others t u after more m k parts.1 p.2 (subst (λ (w : S). AreTaken F w others k) state o.2) a b
 
@@ -57,7 +57,7 @@ refused_once {S} {T} {C} {R} F one s ts r q a b =
 pub refused_here : {S T C R : Type 0} (F : Form S T C R) (s : S) (t : T) (ts : List T) (r : R) → Refuses F s t r → AreRefused F s (t ∷ ts) r
 refused_here F s t ts r refuses = record { before = []; mark = t; after = ts; split = refl; state = s; taken = refl; refuses = refuses }
 
-pub refused_later : {S T C R : Type 0} (F : Form S T C R) (s m : S) (t : T) (ts : List T) (r : R) → Takes F s t m → AreRefused F m ts r → AreRefused F s (t ∷ ts) r
+pub refused_later : {S T C R : Type 0} (F : Form S T C R) (s m : S) (t : T) (ts : List T) (r : R) → TakesMark F s t m → AreRefused F m ts r → AreRefused F s (t ∷ ts) r
 refused_later {S} {T} F s m t ts r takes f = record { before = t ∷ f.before; mark = f.mark; after = f.after; split = ap (λ (l : List T). t ∷ l) f.split; state = f.state; taken = (m, takes, f.taken); refuses = f.refuses }
 
 -- marks, and marks behind them

@@ -7,20 +7,20 @@ use Rattle.tag_tests.specs.declared.places.Led.TheVariants.{To, OtherRoot, Over}
 use Rattle.tag_tests.specs.Places.{Child, child, among, led_from, Kind, begins, text, end_kind}
 
 -- the child elements that are read, and where the start tags of all others lead
-pub record Content (P : Type 0) : Type 0 where
+pub record ChildPlaces (P : Type 0) : Type 0 where
   pub children : List (Child P)
   pub others : Led P
 
 -- outside of all elements: the root. One of another name isn't read
-abbrev pub root : {P : Type 0} → List ℕ → P → Content P
+abbrev pub root : {P : Type 0} → List ℕ → P → ChildPlaces P
 root {P} name place = record { children = child name place ∷ []; others = OtherRoot }
 
 -- in an element: these. All else is passed over, with all that stands in it
-abbrev pub reads : {P : Type 0} → List (Child P) → Content P
+abbrev pub reads : {P : Type 0} → List (Child P) → ChildPlaces P
 reads {P} cs = record { children = cs; others = Over }
 
 -- where the start tag of an element of this name leads
-abbrev pub leads_by : {P : Type 0} → (P → Content P) → P → List ℕ → Led P
+abbrev pub leads_by : {P : Type 0} → (P → ChildPlaces P) → P → List ℕ → Led P
 leads_by {P} content p name = among (λ q. To q) name (content p).children (content p).others
 
 -- the kind of a mark in an element where so many are open that are passed over

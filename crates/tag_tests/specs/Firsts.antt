@@ -4,8 +4,8 @@ use Rattle.tag_tests.specs.Tests.{SomeFails, InOrder}
 use Rattle.tag_tests.specs.Forms.{Form, AreTaken}
 
 -- at this mark some test fails and refuses so
-abbrev pub Decides : {S T C R : Type 0} → Form S T C R → S → T → R → Type 0
-Decides {S} {T} {C} {R} F s t r = SomeFails (F.Fails s t) (F.told s t) (F.tests s t) r
+abbrev pub SomeTestRefuses : {S T C R : Type 0} → Form S T C R → S → T → R → Type 0
+SomeTestRefuses {S} {T} {C} {R} F s t r = SomeFails (F.Fails s t) (F.told s t) (F.tests s t) r
 
 -- the marks before are taken, at this one something is decided, and this is the least of it
 pub record IsFirstDecided {S T C R : Type 0} (F : Form S T C R) (number : R → ℕ) (s : S) (ts : List T) (r : R) : Type 0 where
@@ -15,8 +15,8 @@ pub record IsFirstDecided {S T C R : Type 0} (F : Form S T C R) (number : R → 
   pub split : ts ≡ before ++ mark ∷ after
   pub state : S
   pub taken : AreTaken F s before state
-  pub decided : Decides F state mark r
-  pub least : (q : R) → Decides F state mark q → number r ≤ number q
+  pub decided : SomeTestRefuses F state mark r
+  pub least : (q : R) → SomeTestRefuses F state mark q → number r ≤ number q
 
 -- the tests of each mark stand in the order of their refusals' numbers
 abbrev pub IsOrdered : {S T C R : Type 0} → Form S T C R → (R → ℕ) → Type 0
@@ -24,4 +24,4 @@ IsOrdered {S} {T} {C} {R} F number = (s : S) (t : T) → InOrder (λ c. number (
 
 -- of one number, one refusal is decided at a mark
 abbrev pub IsDecidedOnce : {S T C R : Type 0} → Form S T C R → (R → ℕ) → Type 0
-IsDecidedOnce {S} {T} {C} {R} F number = (s : S) (t : T) (r q : R) → number r ≡ number q → Decides F s t r → Decides F s t q → r ≡ q
+IsDecidedOnce {S} {T} {C} {R} F number = (s : S) (t : T) (r q : R) → number r ≡ number q → SomeTestRefuses F s t r → SomeTestRefuses F s t q → r ≡ q

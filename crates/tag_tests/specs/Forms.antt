@@ -14,13 +14,13 @@ abbrev pub Refuses : {S T C R : Type 0} → Form S T C R → S → T → R → T
 Refuses {S} {T} {C} {R} F s t r = FirstFails (F.Fails s t) (F.told s t) (F.tests s t) r
 
 -- this mark is taken, and leaves this state
-abbrev pub Takes : {S T C R : Type 0} → Form S T C R → S → T → S → Type 0
-Takes {S} {T} {C} {R} F s t z = AllPass (F.Fails s t) (F.tests s t) × F.Becomes s t z
+abbrev pub TakesMark : {S T C R : Type 0} → Form S T C R → S → T → S → Type 0
+TakesMark {S} {T} {C} {R} F s t z = AllPass (F.Fails s t) (F.tests s t) × F.Becomes s t z
 
 -- all these marks are taken, from one state to the other
 abbrev pub AreTaken : {S T C R : Type 0} → Form S T C R → S → List T → S → Type 0
 AreTaken {S} {T} {C} {R} F s [] z = z ≡ s
-AreTaken {S} {T} {C} {R} F s (t ∷ ts) z = (m : S) × Takes F s t m × AreTaken F m ts z
+AreTaken {S} {T} {C} {R} F s (t ∷ ts) z = (m : S) × TakesMark F s t m × AreTaken F m ts z
 
 -- the first of these marks that isn't taken refuses so
 pub record AreRefused {S T C R : Type 0} (F : Form S T C R) (s : S) (ts : List T) (r : R) : Type 0 where
@@ -34,4 +34,4 @@ pub record AreRefused {S T C R : Type 0} (F : Form S T C R) (s : S) (ts : List T
 
 -- a mark that is taken leaves one state
 abbrev pub LeavesOne : {S T C R : Type 0} → Form S T C R → Type 0
-LeavesOne {S} {T} {C} {R} F = (s : S) (t : T) (a b : S) → Takes F s t a → Takes F s t b → a ≡ b
+LeavesOne {S} {T} {C} {R} F = (s : S) (t : T) (a b : S) → TakesMark F s t a → TakesMark F s t b → a ≡ b

@@ -8,7 +8,7 @@ use Rattle.tag_tests.specs.declared.marks.Stop.{Stop}
 use Rattle.tag_tests.specs.declared.marks.Stop.TheVariants.{Refused, Memory}
 use Rattle.tag_tests.specs.declared.decoder.Course.{Course}
 use Rattle.tag_tests.specs.declared.decoder.Course.TheVariants.{Going, Stopped, Lost}
-use Rattle.tag_tests.specs.Forms.{Form, Takes, Refuses}
+use Rattle.tag_tests.specs.Forms.{Form, TakesMark, Refuses}
 
 -- the marks of a document with this root
 abbrev pub marks : Element → List Mark
@@ -22,7 +22,7 @@ Steps {S} {R} {X} Took Refuse s ms z (Err Memory) = Unit {0}
 
 -- the same of one mark, by its tests
 abbrev pub StepsBy : {S T C R X : Type 0} → Form S T C R → S → T → S → Result X (Stop R) → Type 0
-StepsBy {S} {T} {C} {R} {X} F s t z (Ok x) = Takes F s t z
+StepsBy {S} {T} {C} {R} {X} F s t z (Ok x) = TakesMark F s t z
 StepsBy {S} {T} {C} {R} {X} F s t z (Err (Refused r)) = Refuses F s t r
 StepsBy {S} {T} {C} {R} {X} F s t z (Err Memory) = Unit {0}
 

@@ -20,7 +20,7 @@ pub(crate) struct Conditions {
     pub write: u64,
     /// How many bytes can be written.
     pub room: u64,
-    /// The call of the table that finds no memory.
+    /// The move of the table that finds no memory.
     pub lacks: u64,
     /// Whether it is a link.
     pub is_link: bool,

@@ -5,13 +5,13 @@
 //! each answer that is another, and how many cases there are.
 #![tactic(auto)]
 
-mod caller;
 mod conditions;
+mod mover;
 mod served;
 
-use caller::Caller;
 use cases::{Answers, Tables, number_of, repeated};
 use conditions::Conditions;
+use mover::CountingMover;
 use os_io::{Memory, Text};
 use served::{told_of_conversation, told_of_other};
 use std::alloc::Global;
@@ -40,7 +40,7 @@ impl Answers for Conversations {
     }
 }
 
-/// Given conditions and the bytes of a connection, before which of its calls another connection is served, or 0 for behind its
+/// Given conditions and the bytes of a connection, before which of its moves another connection is served, or 0 for behind its
 /// end, and the bytes of that one.
 #[derive(Drop)]
 struct Meetings;
@@ -48,12 +48,12 @@ struct Meetings;
 impl Answers for Meetings {
     fn answer(&mut self, alloc: Global, given: &[Vec<u8>]) -> Result<Text, Memory> {
         match given {
-            [conditions, bytes, call, others] => {
+            [conditions, bytes, number, others] => {
                 let conditions = Conditions::read(conditions.as_slice());
-                let call = number_of(call.as_slice());
-                let mut caller = Caller::new(alloc, conditions.lacks);
-                caller.meet(alloc, call, others.as_slice())?;
-                told_of_other(alloc, conditions, bytes.as_slice(), caller)
+                let number = number_of(number.as_slice());
+                let mut mover = CountingMover::new(alloc, conditions.lacks);
+                mover.meet(alloc, number, others.as_slice())?;
+                told_of_other(alloc, conditions, bytes.as_slice(), mover)
             }
             _ => Text::from_slice(alloc, b"four fields"),
         }

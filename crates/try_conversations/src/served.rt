@@ -1,7 +1,7 @@
 //! Connections in memory, served and told as texts.
 
-use crate::caller::Caller;
 use crate::conditions::Conditions;
+use crate::mover::CountingMover;
 use cases::count_left;
 use job_solver::Solver;
 use os_io::{MemLink, MemSink, MemSource, Memory, Text};
@@ -57,14 +57,14 @@ fn served(
     conditions: Conditions,
     bytes: &[u8],
     way: Way,
-    caller: &mut Caller,
+    mover: &mut CountingMover,
 ) -> Result<Text, Memory> {
     let room = conditions.room as usize;
     match way {
         Way::Ends(piece) => {
             let mut input = MemSource::new(alloc, bytes, piece, &[conditions.read])?;
             let mut output = MemSink::new(alloc, room, &[conditions.write])?;
-            let end = serve_ends(alloc, &mut input, &mut output, caller, &Solver);
+            let end = serve_ends(alloc, &mut input, &mut output, mover, &Solver);
             let faults = (input.faults(), output.faults());
             let left = count_left(&mut input, bytes.len()).saturating_add(conditions.taken);
             let sent = output.handed_on().len();
@@ -80,7 +80,7 @@ fn served(
         }
         Way::Link(piece) => {
             let link = MemLink::new(alloc, bytes, piece, room, &[conditions.link])?;
-            let (end, mut link) = serve_one(alloc, link, caller, &Solver);
+            let (end, mut link) = serve_one(alloc, link, mover, &Solver);
             let faults = (link.read_faults(), link.write_faults());
             let left = count_left(&mut link, bytes.len());
             let sent = link.handed_on().len();
@@ -96,8 +96,8 @@ fn served_alone(
     bytes: &[u8],
     way: Way,
 ) -> Result<Text, Memory> {
-    let mut caller = Caller::new(alloc, conditions.lacks);
-    served(alloc, conditions, bytes, way, &mut caller)
+    let mut mover = CountingMover::new(alloc, conditions.lacks);
+    served(alloc, conditions, bytes, way, &mut mover)
 }
 
 /// The way that conditions ask for.
@@ -150,13 +150,13 @@ pub(crate) fn told_of_other(
     alloc: Global,
     conditions: Conditions,
     bytes: &[u8],
-    mut caller: Caller,
+    mut mover: CountingMover,
 ) -> Result<Text, Memory> {
     let way = way_of(conditions);
-    let mut text = served(alloc, conditions, bytes, way, &mut caller)?;
-    caller.serve_other(0);
+    let mut text = served(alloc, conditions, bytes, way, &mut mover)?;
+    mover.serve_other(0);
     text.extend(b" | ")?;
-    let Some(other) = &mut caller.other else {
+    let Some(other) = &mut mover.other else {
         return Ok(text);
     };
     let Some(end) = other.end else {

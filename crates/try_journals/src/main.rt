@@ -13,7 +13,7 @@ mod telling;
 use cases::{Answers, Tables, number_of};
 use disks::MemDisk;
 use effects_of::{answer_of, effect_of};
-use job_journal::{Journal, open};
+use job_journal::{Journal, open_journal};
 use job_table::Remade;
 use jobs::{Any, NoNo, tell_jobs};
 use moves::make_all;
@@ -51,7 +51,7 @@ fn put_all(journal: &mut Journal<MemDisk>, effects: &[u8], text: &mut Text) -> R
 fn tell_opened(alloc: Global, file: &[u8], fails: &[u64], text: &mut Text) -> Result<(), Memory> {
     let disk = MemDisk::new(alloc, file, fails, u64::MAX)?;
     let mut table = Remade::<Any>::new(alloc);
-    match open(alloc, disk, &mut table, &mut NoNo) {
+    match open_journal(alloc, disk, &mut table, &mut NoNo) {
         Ok(journal) => {
             tell_jobs(&table.into_table(), text)?;
             text.extend(b"; ")?;
@@ -69,7 +69,7 @@ fn tell_opened(alloc: Global, file: &[u8], fails: &[u64], text: &mut Text) -> Re
 fn tell_puts(alloc: Global, effects: &[u8], fails: &[u64], stop: u64) -> Result<Text, Memory> {
     let mut text = Text::new(alloc);
     let disk = MemDisk::new(alloc, b"", fails, stop)?;
-    let disk = match open(alloc, disk, &mut Remade::<Any>::new(alloc), &mut NoNo) {
+    let disk = match open_journal(alloc, disk, &mut Remade::<Any>::new(alloc), &mut NoNo) {
         Ok(journal) => {
             let mut journal = journal;
             put_all(&mut journal, effects, &mut text)?;
@@ -92,7 +92,7 @@ fn tell_moves(alloc: Global, moves: &[u8], fails: &[u64], stop: u64) -> Result<T
     let mut text = Text::new(alloc);
     let disk = MemDisk::new(alloc, b"", fails, stop)?;
     let mut made = Remade::<Any>::new(alloc);
-    let disk = match open(alloc, disk, &mut made, &mut NoNo) {
+    let disk = match open_journal(alloc, disk, &mut made, &mut NoNo) {
         Ok(journal) => {
             let mut journal = journal;
             let mut table = made.into_table();

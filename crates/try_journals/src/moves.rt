@@ -9,7 +9,7 @@ use disks::MemDisk;
 use effects::NotStored;
 use job_journal::Journal;
 use job_table::moves::{Claim, Enter, Finish, Issue, Kill, Knock, Move, Send};
-use job_table::{Call, Job, SharedText, Table, Twin, Verdicts};
+use job_table::{Job, SharedText, Table, TableMove, Twin, Verdicts};
 use os_io::{Memory, Text};
 use std::alloc::{AllocError, Global};
 
@@ -22,7 +22,7 @@ fn twin(alloc: Global, bytes: &[u8]) -> Result<Twin, Memory> {
 }
 
 /// The move that these words say; other words say a knock.
-fn move_of(alloc: Global, text: &[u8]) -> Result<Call, Memory> {
+fn move_of(alloc: Global, text: &[u8]) -> Result<TableMove, Memory> {
     let mut words = text.split(|b| *b == b' ');
     let kind = words.next().unwrap_or(b"");
     let first = words.next().unwrap_or(b"");
@@ -31,18 +31,18 @@ fn move_of(alloc: Global, text: &[u8]) -> Result<Call, Memory> {
     let fourth = words.next().unwrap_or(b"");
     let number = number_of(first);
     match kind {
-        b"issue" => Ok(Call::Issue),
-        b"send" => Ok(Call::Send {
+        b"issue" => Ok(TableMove::Issue),
+        b"send" => Ok(TableMove::Send {
             number,
             osil: twin(alloc, second)?,
             osol: twin(alloc, third)?,
         }),
-        b"enter" => Ok(Call::Enter {
+        b"enter" => Ok(TableMove::Enter {
             osil: twin(alloc, first)?,
             osol: twin(alloc, second)?,
         }),
-        b"claim" => Ok(Call::Claim { worker: false }),
-        b"finish" => Ok(Call::Finish {
+        b"claim" => Ok(TableMove::Claim { worker: false }),
+        b"finish" => Ok(TableMove::Finish {
             job: Job {
                 number,
                 osil: shared(alloc, second)?,
@@ -51,8 +51,8 @@ fn move_of(alloc: Global, text: &[u8]) -> Result<Call, Memory> {
             asked: false,
             document: Some(shared(alloc, fourth)?),
         }),
-        b"kill" => Ok(Call::Kill { number }),
-        _ => Ok(Call::Knock),
+        b"kill" => Ok(TableMove::Kill { number }),
+        _ => Ok(TableMove::Knock),
     }
 }
 
@@ -64,7 +64,7 @@ fn make<V: Verdicts, M: Move<V>>(
 ) -> Result<Result<(), NotStored>, Memory>
 where
     M::Answer: Drop,
-    requires { May V.right (M.call step) }
+    requires { May V.right (M.table_move step) }
 {
     match step.make_kept(table, journal) {
         Ok(answer) => {
@@ -82,14 +82,14 @@ where
 fn make_asked(
     table: &mut Table<Any>,
     journal: &mut Journal<MemDisk>,
-    call: Call,
+    table_move: TableMove,
 ) -> Result<Result<(), NotStored>, Memory> {
-    match call {
-        Call::Issue => make(table, journal, Issue),
-        Call::Send { number, osil, osol } => make(table, journal, Send { number, osil, osol }),
-        Call::Enter { osil, osol } => make(table, journal, Enter { osil, osol }),
-        Call::Claim { worker } => make(table, journal, Claim { worker }),
-        Call::Finish {
+    match table_move {
+        TableMove::Issue => make(table, journal, Issue),
+        TableMove::Send { number, osil, osol } => make(table, journal, Send { number, osil, osol }),
+        TableMove::Enter { osil, osol } => make(table, journal, Enter { osil, osol }),
+        TableMove::Claim { worker } => make(table, journal, Claim { worker }),
+        TableMove::Finish {
             job,
             asked,
             document,
@@ -101,7 +101,7 @@ fn make_asked(
             };
             make(table, journal, end)
         }
-        Call::Kill { number } => make(table, journal, Kill { number }),
+        TableMove::Kill { number } => make(table, journal, Kill { number }),
         _ => make(table, journal, Knock),
     }
 }
@@ -115,9 +115,9 @@ pub fn make_all(
     text: &mut Text,
 ) -> Result<(), Memory> {
     for words in moves.split(|b| *b == b';') {
-        let call = move_of(alloc, words)?;
-        let has_effect = table.plan(&call).is_some();
-        let stored = make_asked(table, journal, call)?;
+        let table_move = move_of(alloc, words)?;
+        let has_effect = table.plan(&table_move).is_some();
+        let stored = make_asked(table, journal, table_move)?;
         if has_effect {
             text.extend(answer_of(stored))?;
         } else {

@@ -6,7 +6,7 @@ use crate::clients::{Asker, Knocker, Patient, Signals, Turn, Turner, job_of, sta
 use crate::links::Clients;
 use crate::names::end_name;
 use os_io::{MemSink, Memory};
-use serving::{Limits, Setup, serve};
+use serving::{ServeLimits, Setup, serve};
 use std::alloc::Global;
 use std::sync::Wait;
 use std::sync::atomic::AtomicBool;
@@ -21,7 +21,7 @@ pub(crate) fn setup_of(connections: u32, servers: u32, workers: u32) -> Setup
     ensures servers { result.limits.servers ≡ servers }
     ensures first { result.first ≡ 1 }
 {
-    let limits = Limits {
+    let limits = ServeLimits {
         servers,
         connections,
         workers,

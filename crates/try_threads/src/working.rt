@@ -15,7 +15,7 @@ use std::sync::atomic::AtomicBool;
 use std::sync::atomic::Ordering::SeqCst;
 use std::thread::{Threads, join};
 use std::time::Clock;
-use workers::{Gate, work_one};
+use workers::{Gate, work_one_by_seat};
 
 /// max x0 in whole numbers, 2 x0 <= 5. The third look comes before the third node: then the best point so far is 2.
 const HALVES: &[u8] =
@@ -101,7 +101,7 @@ fn work<R: Wait + Clock>(
 )
     requires { IsSeatOf (desk_id desk.now) seat }
 {
-    work_one(rt, alloc, desk, &mut seat, &Solver, true, &mut gate);
+    work_one_by_seat(rt, alloc, desk, &mut seat, &Solver, true, &mut gate);
 }
 
 /// A knock, and then a kill of the job.

@@ -4,11 +4,11 @@ use Rattle.std.proofs.lemmas.List.Sums.{sum_by-cons}
 use Rattle.job_table.specs.declared.job.Job.{Job}
 use Rattle.job_table.specs.declared.job.Phase.{Phase}
 use Rattle.job_table.specs.declared.job.Phase.TheVariants.{Issued, Waiting, Running, Finished, Killed}
-use Rattle.job_table.specs.declared.calls.Call.TheVariants.{Claim, Leave}
-use Rattle.job_table.specs.declared.calls.Reply.TheVariants as reply
+use Rattle.job_table.specs.declared.entries.TableMove.TheVariants.{Claim, Leave}
+use Rattle.job_table.specs.declared.entries.Reply.TheVariants as reply
 use Rattle.job_table.specs.Jobs.{HeldJobs, Register, job, is_waiting, or_waiting, first_waiting, waiting_jobs}
-use Rattle.job_table.specs.Steps.{Step, Outcome, outcome, claims}
-use Rattle.job_table.specs.History.{Entry, entry_of_move, LeadsStepwise}
+use Rattle.job_table.specs.Steps.{Step, MoveOutcome, outcome, claims}
+use Rattle.job_table.specs.History.{MoveEntry, entry_of_move, LeadsStepwise}
 use Rattle.job_table.proofs.Histories.{runs_split}
 use Rattle.workers.specs.Shifts.{WorksUntilNone, WorksThrough}
 use Rattle.job_runs.proofs.Judgements.{Made, Judgement}
@@ -35,19 +35,19 @@ none_first (held ∷ jobs) none =
 
 -- a worker's claim that gave none found no job that waits
 claims_none : (first : Option Job) (r next : Register) → claims first r ≡ outcome (reply.Gave None) next → (first ≡ None) × (next ≡ r)
-claims_none None r next is = (refl, ap (λ (o : Outcome). o.after) (sym is))
-claims_none (Some j) r next is = absurd (gave_is_not_none j (ap (λ (o : Outcome). o.reply) is))
+claims_none None r next is = (refl, ap (λ (o : MoveOutcome). o.after) (sym is))
+claims_none (Some j) r next is = absurd (gave_is_not_none j (ap (λ (o : MoveOutcome). o.reply) is))
 
 module _ (made : Made) (right : Judgement) where
-  rests_idle : (r after : Register) (es : List Entry) → WorksUntilNone made es → LeadsStepwise right r es after → waiting_jobs after.jobs ≡ 0
+  rests_idle : (r after : Register) (es : List MoveEntry) → WorksUntilNone made es → LeadsStepwise right r es after → waiting_jobs after.jobs ≡ 0
   rests_idle r after es rests runs =
       let (mid, before, (next, step, same)) = runs_split right r after rests.before (entry_of_move (Claim true) (reply.Gave None) ∷ [])
-      (subst (λ (l : List Entry). LeadsStepwise right r l after) rests.are runs) in
+      (subst (λ (l : List MoveEntry). LeadsStepwise right r l after) rests.are runs) in
       let (none, stays) = claims_none (first_waiting mid.jobs) mid next step.is in
       ap (λ (s : Register). waiting_jobs s.jobs) (same ∙ stays) ∙ none_first mid.jobs none
 
-  pub shift_leaves_none : (r after : Register) (es : List Entry) → WorksThrough made es → LeadsStepwise right r es after → waiting_jobs after.jobs ≡ 0
+  pub shift_leaves_none : (r after : Register) (es : List MoveEntry) → WorksThrough made es → LeadsStepwise right r es after → waiting_jobs after.jobs ≡ 0
   shift_leaves_none r after es works runs =
-      let (next, enlists, later) = subst (λ (l : List Entry). LeadsStepwise right r l after) works.are runs in
+      let (next, enlists, later) = subst (λ (l : List MoveEntry). LeadsStepwise right r l after) works.are runs in
       let (mid, shift, (last, leaves, same)) = runs_split right next after works.shift (entry_of_move Leave reply.Done ∷ []) later in
-      ap (λ (s : Register). waiting_jobs s.jobs) same ∙ ap (λ (o : Outcome). waiting_jobs o.after.jobs) (sym leaves.is) ∙ rests_idle next mid works.shift works.rests shift
+      ap (λ (s : Register). waiting_jobs s.jobs) same ∙ ap (λ (o : MoveOutcome). waiting_jobs o.after.jobs) (sym leaves.is) ∙ rests_idle next mid works.shift works.rests shift

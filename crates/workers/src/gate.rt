@@ -3,9 +3,9 @@
 ghost use Rattle.std.specs.Prelude.{◌≡◌};
 ghost use Rattle.workers.specs.Gates.{looks_with, look_number};
 
-use desk::Caller;
+use desk::LentSeat;
 use job_table::moves::{Move, MoveKind};
-use job_table::{Calls, CallsWatch, Verdicts};
+use job_table::{Mover, MoverWatch, Verdicts};
 use std::marker::PhantomData;
 
 /// Is passed before each look at whether a job is to stop.
@@ -40,9 +40,9 @@ impl Gate for OpenGate {
     ghost joins = { λ _ _ _ _ _ _ _. tt };
 }
 
-/// One who makes calls, with a gate before each look. What the calls are, the gate doesn't change.
-pub struct Gated<'a, V: Verdicts, C: Calls<V>, G> {
-    pub calls: C,
+/// One who makes moves, with a gate before each look. What the moves are, the gate doesn't change.
+pub struct Gated<'a, V: Verdicts, C: Mover<V>, G> {
+    pub mover: C,
     pub gate: &'a mut G,
     /// How many looks were made since a claim or an enter last gave a job.
     pub looks: u64,
@@ -50,7 +50,7 @@ pub struct Gated<'a, V: Verdicts, C: Calls<V>, G> {
 }
 
 /// A watch that asks a desk for one job, with a gate before each look.
-pub type DeskWatch<'a, 'b, J, R, G> = CallsWatch<'a, J, Gated<'b, J, Caller<'b, J, R>, G>>;
+pub type DeskWatch<'a, 'b, J, R, G> = MoverWatch<'a, J, Gated<'b, J, LentSeat<'b, J, R>, G>>;
 
 /// How many looks at a job there are with a move of this kind.
 fn count_with(looks: u64, kind: MoveKind) -> u64
@@ -72,28 +72,28 @@ fn pass_before<G: Gate>(gate: &mut G, look: u64, kind: MoveKind)
     }
 }
 
-impl<'a, V: Verdicts, C: Calls<V>, G: Gate> Calls<V> for Gated<'a, V, C, G> {
+impl<'a, V: Verdicts, C: Mover<V>, G: Gate> Mover<V> for Gated<'a, V, C, G> {
     ghost use Rattle.std.specs.Prelude.{◌≡◌};
     ghost use Rattle.std.proofs.Common.{refl, ◌∙◌};
     ghost use Rattle.workers.specs.Gates.{look_numbers, looks_counted, passed_then, looks_counted_then};
 
-    /// The same gate is lent, these calls were made, and the gate was passed before each look among them.
-    ghost did = { λ x y es. (y.gate.ghost_name ≡ x.gate.ghost_name) × C.did x.calls y.calls es × G.passed x.gate.now y.gate.now (look_numbers x.looks es) × (y.looks ≡ looks_counted x.looks es) };
+    /// The same gate is lent, these moves were made, and the gate was passed before each look among them.
+    ghost did = { λ x y es. (y.gate.ghost_name ≡ x.gate.ghost_name) × C.did x.mover y.mover es × G.passed x.gate.now y.gate.now (look_numbers x.looks es) × (y.looks ≡ looks_counted x.looks es) };
 
-    ghost left = { λ x r. C.left x.calls r };
+    ghost left = { λ x r. C.left x.mover r };
 
     fn make<M: Move<V>>(&mut self, step: M) -> M::Answer {
         let kind = step.kind();
         let looks = count_with(self.looks, kind);
         pass_before(&mut *self.gate, looks, kind);
-        let answer = self.calls.make(step);
+        let answer = self.mover.make(step);
         if M::is_made(&answer) {
             self.looks = looks;
         }
         answer
     }
 
-    ghost stays = { λ x. (refl, C.stays x.calls, G.stays x.gate.now, refl) };
+    ghost stays = { λ x. (refl, C.stays x.mover, G.stays x.gate.now, refl) };
 
-    ghost joins = { λ x y z a b p q. (q.0 ∙ p.0, C.joins x.calls y.calls z.calls a b p.1 q.1, passed_then (G.passed x.gate.now y.gate.now) (G.passed y.gate.now z.gate.now) (G.passed x.gate.now z.gate.now) (G.joins x.gate.now y.gate.now z.gate.now) x.looks y.looks a b p.3 p.2 q.2, looks_counted_then x.looks y.looks z.looks a b p.3 q.3) };
+    ghost joins = { λ x y z a b p q. (q.0 ∙ p.0, C.joins x.mover y.mover z.mover a b p.1 q.1, passed_then (G.passed x.gate.now y.gate.now) (G.passed y.gate.now z.gate.now) (G.passed x.gate.now z.gate.now) (G.joins x.gate.now y.gate.now z.gate.now) x.looks y.looks a b p.3 p.2 q.2, looks_counted_then x.looks y.looks z.looks a b p.3 q.3) };
 }

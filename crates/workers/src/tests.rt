@@ -1,6 +1,6 @@
 ghost use Rattle.desk.specs.SeatMoves.{desk_id, IsSeatOf};
 
-use crate::{Bell, Gate, OpenGate, Wake, wake_pair, work_loop, work_one};
+use crate::{Bell, Gate, OpenGate, Wake, wake_pair, work_loop, work_one_by_seat};
 use desk::{Desk, Seat};
 use job_runs::Runner;
 use job_table::moves::{Issue, Retrieve, Send};
@@ -80,11 +80,11 @@ fn queue<R: Wait>(
     requires { IsSeatOf (desk_id desk.now) seat.old }
     ensures { IsSeatOf (desk_id desk.now) seat.new }
 {
-    let call = send(alloc, number)?;
+    let texts = send(alloc, number)?;
     if desk.ask(rt, seat, Issue).is_err() {
         return Err(AllocError);
     }
-    desk.ask(rt, seat, call);
+    desk.ask(rt, seat, texts);
     if wake.ring(rt) {
         Ok(())
     } else {
@@ -105,7 +105,7 @@ fn workers_run_what_waits_and_leave_at_the_end(rt: HostRuntime) -> Result<(), Fa
     queue(&rt, rt.alloc(), &desk, &mut seat, &wake, 2)?;
     drop(wake);
     let mut gate = LastLook(0);
-    assert!(rt; work_one(&rt, rt.alloc(), &desk, &mut seat, &Echo, false, &mut gate));
+    assert!(rt; work_one_by_seat(&rt, rt.alloc(), &desk, &mut seat, &Echo, false, &mut gate));
     assert_eq!(rt; gate.0, 1);
     work_loop(
         &rt,

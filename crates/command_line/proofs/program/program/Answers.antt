@@ -4,11 +4,11 @@ use Rattle.clap.specs.Words.{App, app_of, with_subcommand}
 use Rattle.clap.specs.Simple.{app_of_fields, on_top}
 use Rattle.clap.specs.declared.builder.command.Command.{Command}
 use Rattle.command_line.specs.CommandTellings.{HasNextCommand}
-use Rattle.command_line.specs.Forms.{Form, needing_subcommand, shape}
+use Rattle.command_line.specs.Forms.{CommandForm, needing_subcommand, shape}
 use Rattle.command_line.proofs.program.program.Goals as goal
 
 -- one more command, behind those that are known
-behind : {before after : Command} {form : Form} {known : App} → HasNextCommand before form after → app_of before ≡ known → app_of after ≡ with_subcommand known (shape form)
+behind : {before after : Command} {form : CommandForm} {known : App} → HasNextCommand before form after → app_of before ≡ known → app_of after ≡ with_subcommand known (shape form)
 behind {form = form} next same = next.is ∙ ap (λ app. with_subcommand app (shape form)) same
 
 pub returns : goal.returns

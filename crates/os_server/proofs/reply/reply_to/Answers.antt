@@ -12,11 +12,11 @@ returns-in-Ok g c = λ bytes taken.
 pub returns-in-Ok-said_fault : goal.returns-in-Ok-said_fault
 returns-in-Ok-said_fault g c = λ bytes taken. (
   [],
-  g.met.C.Calls.stays c.args.calls.now,
+  g.met.C.Mover.stays c.args.mover.now,
   refused g.S.Runner.ran g.S.Server.wakes bytes c.args.close c.in-Err-Fault.field-0 c.in-Err-Fault.code c.in-Err-Fault.text c.as_slice.result.now
       c.in-Ok-said_fault.said c.in-Err-Fault.field-0-is c.as_slice.ensures (c.in-Err-Fault.ensures.err bytes taken) c.in-Ok-said_fault.ensures,
 )
 
 pub returns-in-Err-Envelope : goal.returns-in-Err-Envelope
 returns-in-Err-Envelope g c = λ bytes taken.
-    ([], g.met.C.Calls.stays c.args.calls.now, (subst (λ (n : NoOrder). AsksNothing bytes n) c.in-Err-Envelope.field-0-is (c.in-Err-Envelope.ensures.err bytes taken), refl, refl))
+    ([], g.met.C.Mover.stays c.args.mover.now, (subst (λ (n : NoOrder). AsksNothing bytes n) c.in-Err-Envelope.field-0-is (c.in-Err-Envelope.ensures.err bytes taken), refl, refl))

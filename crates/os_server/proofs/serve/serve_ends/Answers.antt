@@ -5,21 +5,21 @@ use Rattle.os_server.proofs.serve.serve_ends.Goals as goal
 
 pub loop-init : goal.loop-init
 loop-init g c = record {
-  so_far = none_yet g.S.Runner.ran g.S.Server.wakes _ _ (g.met.C.Calls.stays c.args.calls.now);
+  so_far = none_yet g.S.Runner.ran g.S.Server.wakes _ _ (g.met.C.Mover.stays c.args.mover.now);
   output_of_input = record { written = refl; handed_on = refl; write_faults = refl };
   input_of_output = record { left = refl; read_faults = refl };
 }
 
 pub loop-preserved : goal.loop-preserved
 loop-preserved g c = record {
-  so_far = one_more g.S.Runner.ran g.S.Server.wakes _ _ _ _ _ _ _ (λ a b. g.met.C.Calls.joins _ _ _ a b) c.loop.invariant.so_far c.in-None.ensures.serves;
+  so_far = one_more g.S.Runner.ran g.S.Server.wakes _ _ _ _ _ _ _ (λ a b. g.met.C.Mover.joins _ _ _ a b) c.loop.invariant.so_far c.in-None.ensures.serves;
   output_of_input = output_then _ _ _ c.loop.invariant.output_of_input c.in-None.ensures.output_of_input;
   input_of_output = input_on _ _ _ c.loop.invariant.input_of_output c.in-None.ensures.input_of_output;
 }
 
 pub returns-in-Some-clause-serves : goal.returns-in-Some-clause-serves
 returns-in-Some-clause-serves g c =
-    last_whole g.S.Runner.ran g.S.Server.wakes _ _ _ _ _ _ _ _ (λ a b. g.met.C.Calls.joins _ _ _ a b) (omega (arith, c.loop-test.true)) c.loop.invariant.so_far
+    last_whole g.S.Runner.ran g.S.Server.wakes _ _ _ _ _ _ _ _ (λ a b. g.met.C.Mover.joins _ _ _ a b) (omega (arith, c.loop-test.true)) c.loop.invariant.so_far
     c.in-Some.ensures.serves
 
 pub returns-in-Some-clause-output_of_input : goal.returns-in-Some-clause-output_of_input

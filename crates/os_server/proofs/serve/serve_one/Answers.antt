@@ -5,17 +5,17 @@ use Rattle.os_server.proofs.serve.serve_one.Goals as goal
 pub loop-init : goal.loop-init
 loop-init g c =
     none_of_owned g.L.Stream.tells g.S.Runner.ran g.S.Server.wakes _ c.args.link _ _ c.new-carried.ensures.0 c.new-carried.ensures.1
-    (g.met.C.Calls.stays c.args.calls.now)
+    (g.met.C.Mover.stays c.args.mover.now)
 
 pub loop-preserved : goal.loop-preserved
 loop-preserved g c =
-    one_more g.S.Runner.ran g.S.Server.wakes _ _ _ _ _ _ _ (λ a b. g.met.C.Calls.joins _ _ _ a b) c.loop.invariant c.in-None.ensures.serves
+    one_more g.S.Runner.ran g.S.Server.wakes _ _ _ _ _ _ _ (λ a b. g.met.C.Mover.joins _ _ _ a b) c.loop.invariant c.in-None.ensures.serves
 
 pub returns-in-Some : goal.returns-in-Some
 returns-in-Some g c =
     serves_owned g.L.Stream.tells g.S.Runner.ran g.S.Server.wakes _ _ c.args.link _ _ _ c.into_link.ensures
     (λ e. c.in-Some.ensures.ahead (ap (λ s. Some s) e))
-    (last_one g.S.Runner.ran g.S.Server.wakes _ _ _ _ _ _ _ _ (λ a b. g.met.C.Calls.joins _ _ _ a b) (omega (arith, c.loop-test.true)) c.loop.invariant c.in-Some.ensures.serves)
+    (last_one g.S.Runner.ran g.S.Server.wakes _ _ _ _ _ _ _ _ (λ a b. g.met.C.Mover.joins _ _ _ a b) (omega (arith, c.loop-test.true)) c.loop.invariant c.in-Some.ensures.serves)
 
 pub returns : goal.returns
 returns g c =

@@ -5,5 +5,5 @@ use Rattle.os_server.proofs.serve.serve_one.Given as goal
 
 abbrev pub invariant-loop : goal.invariant-loop
 invariant-loop g l =
-    SoFar g.S.Runner.ran g.S.Server.wakes (g.C.Calls.did l.fn.calls l.calls) l.counter
+    SoFar g.S.Runner.ran g.S.Server.wakes (g.C.Mover.did l.fn.mover l.mover) l.counter
     (tells_ahead [] (g.L.Stream.tells l.fn.link)) (tells_ahead l.carried.carry (g.L.Stream.tells l.carried.link))

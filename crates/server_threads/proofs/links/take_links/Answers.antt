@@ -4,9 +4,9 @@ use Rattle.server_threads.specs.Serving.{taken}
 use Rattle.server_threads.proofs.Rounds.{taken_fewer, going_so, going_more}
 use Rattle.server_threads.proofs.links.take_links.Goals as goal
 
-pub loop-turn-preserved : goal.loop-turn-preserved
-loop-turn-preserved g c =
-    let before = c.loop-turn.invariant in
+pub loop-number-preserved : goal.loop-number-preserved
+loop-number-preserved g c =
+    let before = c.loop-number.invariant in
     let way = c.free_place-at.ensures in
     let a = c.in_ok-link.ensures in
     let s = c.split-theirs.ensures in
@@ -24,7 +24,7 @@ loop-turn-preserved g c =
     let kept = way.len in record {
       goes = record {
         seat_is = s.seat.0;
-        few = let below = c.loop-turn-test.true in omega arith;
+        few = let below = c.loop-number-test.true in omega arith;
         going = going_so _ _ _ _ _ _ _ _ _ _ q.put
             (going_more _ _ _ _ _ _ _ _ _ _ c.serve_link-place.result c.in_ok-link.link c.split-theirs.result way.goes.going (omega arith) a.came a.given_back a.reached s.seat.1 s.new.0 s.new.1 p.seat p.link p.due);
       };

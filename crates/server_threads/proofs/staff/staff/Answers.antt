@@ -3,17 +3,17 @@ use Rattle.server_threads.specs.Talks.{DeskSeat}
 use Rattle.server_threads.proofs.Rounds.{hired_begins, hired_more}
 use Rattle.server_threads.proofs.staff.staff.Goals as goal
 
-pub loop-turn-init : goal.loop-turn-init
-loop-turn-init g c = record {
+pub loop-number-init : goal.loop-number-init
+loop-number-init g c = record {
   seat = c.requires.seat;
   hired = hired_begins _ _ _ _ _ c.requires.first c.requires.none;
   long = c.requires.empty;
   room = c.requires.room;
 }
 
-pub loop-turn-preserved : goal.loop-turn-preserved
-loop-turn-preserved g c =
-    let before = c.loop-turn.invariant in
+pub loop-number-preserved : goal.loop-number-preserved
+loop-number-preserved g c =
+    let before = c.loop-number.invariant in
     let s = c.split-seat.ensures in
     let p = c.hire-place.ensures in
     let q = c.push_back_reserved.ensures in

@@ -3,4 +3,4 @@ use Rattle.workers.proofs.work.work_and_sleep.Given as goal
 
 -- nothing waited when it last worked
 abbrev pub invariant-loop : goal.invariant-loop
-invariant-loop g l = Rested g.U.Runner.ran (λ own. g.C.Calls.did l.fn.calls l.calls own)
+invariant-loop g l = Rested g.U.Runner.ran (λ own. g.C.Mover.did l.fn.mover l.mover own)

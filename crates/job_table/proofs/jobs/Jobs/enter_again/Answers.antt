@@ -3,8 +3,8 @@ use Rattle.effects.specs.Records as deeds
 use Rattle.effects.specs.Fold.{with_job}
 use Rattle.job_table.specs.declared.job.Phase.{Phase}
 use Rattle.job_table.specs.declared.job.Phase.TheVariants.{Waiting}
-use Rattle.job_table.specs.declared.calls.IssueFault.{IssueFault}
-use Rattle.job_table.specs.declared.calls.Reply.{Reply}
+use Rattle.job_table.specs.declared.entries.IssueFault.{IssueFault}
+use Rattle.job_table.specs.declared.entries.Reply.{Reply}
 use Rattle.job_table.specs.Jobs.{Register}
 use Rattle.job_table.specs.Steps.{LeadsBy, adds, added_reply}
 use Rattle.job_table.specs.Plans.{stage}

@@ -1,10 +1,10 @@
 use Rattle.std.proofs.Common.{◌≡◌, ◌∙◌, ap, Result, Err, ℕ, refl, subst}
 use Rattle.effects.specs.Records as deeds
 use Rattle.job_table.specs.declared.job.Phase.TheVariants.{Issued}
-use Rattle.job_table.specs.declared.calls.IssueFault.{IssueFault}
+use Rattle.job_table.specs.declared.entries.IssueFault.{IssueFault}
 use Rattle.job_table.specs.Jobs.{Register}
 use Rattle.job_table.specs.Steps.{LeadsBy, adds, added_reply}
-use Rattle.job_table.specs.declared.calls.Reply.{Reply}
+use Rattle.job_table.specs.declared.entries.Reply.{Reply}
 use Rattle.job_table.proofs.Remaking.{AddedAgain, adds_again}
 use Rattle.job_table.proofs.jobs.Jobs.issue_again.Goals as goal
 

@@ -1,11 +1,11 @@
 use Rattle.std.proofs.Common.{◌≡◌, ℕ, List, Result, Ok, Err, IfOk, Some, sym, ◌∙◌, subst, false}
 use Rattle.job_table.specs.declared.job.Job.{Job}
 use Rattle.job_table.specs.declared.job.Phase.TheVariants.{Running}
-use Rattle.job_table.specs.declared.calls.IssueFault.{IssueFault}
-use Rattle.job_table.specs.declared.calls.IssueFault.TheVariants as fault
-use Rattle.job_table.specs.declared.calls.Call.TheVariants.{Enter}
-use Rattle.job_table.specs.declared.calls.Reply.{Reply}
-use Rattle.job_table.specs.declared.calls.Reply.TheVariants as reply
+use Rattle.job_table.specs.declared.entries.IssueFault.{IssueFault}
+use Rattle.job_table.specs.declared.entries.IssueFault.TheVariants as fault
+use Rattle.job_table.specs.declared.entries.TableMove.TheVariants.{Enter}
+use Rattle.job_table.specs.declared.entries.Reply.{Reply}
+use Rattle.job_table.specs.declared.entries.Reply.TheVariants as reply
 use Rattle.job_table.specs.Jobs.{Register, next_number, job}
 use Rattle.job_table.specs.Kept.{with_texts}
 use Rattle.job_table.specs.Steps.{LeadsBy, Follows, adds, added_reply, outcome}

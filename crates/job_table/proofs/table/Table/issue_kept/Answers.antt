@@ -1,10 +1,10 @@
 use Rattle.std.proofs.Common.{◌≡◌, ℕ, Result, Ok, Err, IfOk, ◌∙◌, ap, sym, subst}
 use Rattle.job_table.specs.declared.job.Phase.TheVariants.{Issued}
-use Rattle.job_table.specs.declared.calls.IssueFault.{IssueFault}
-use Rattle.job_table.specs.declared.calls.IssueFault.TheVariants as fault
-use Rattle.job_table.specs.declared.calls.Call.TheVariants.{Issue}
-use Rattle.job_table.specs.declared.calls.Reply.{Reply}
-use Rattle.job_table.specs.declared.calls.Reply.TheVariants as reply
+use Rattle.job_table.specs.declared.entries.IssueFault.{IssueFault}
+use Rattle.job_table.specs.declared.entries.IssueFault.TheVariants as fault
+use Rattle.job_table.specs.declared.entries.TableMove.TheVariants.{Issue}
+use Rattle.job_table.specs.declared.entries.Reply.{Reply}
+use Rattle.job_table.specs.declared.entries.Reply.TheVariants as reply
 use Rattle.effects.specs.declared.store.NotStored.{NotStored}
 use Rattle.job_table.specs.Jobs.{Register, next_number}
 use Rattle.job_table.specs.Steps.{LeadsBy, Follows, adds, added_reply, outcome}

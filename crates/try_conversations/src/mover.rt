@@ -1,7 +1,7 @@
-//! One who makes calls of a table of jobs, beside whom another connection may be served.
+//! One who makes moves of a table of jobs, beside whom another connection may be served.
 use job_solver::{SolvedJobs, Solver};
 use job_table::moves::Move;
-use job_table::{Calls, IssueFault, Job, Statistics, Table, Twin};
+use job_table::{IssueFault, Job, Mover, Statistics, Table, Twin};
 use os_io::{MemSink, MemSource, Memory};
 use os_server::{Served, serve_ends};
 use std::alloc::{AllocError, Global};
@@ -12,29 +12,29 @@ const ROOM: usize = 20_000;
 /// Another connection on the same table.
 #[derive(Drop)]
 pub(crate) struct Other {
-    /// The call before which it is served.
-    call: u64,
+    /// The move before which it is served.
+    number: u64,
     pub input: MemSource,
     pub output: MemSink,
     /// How it ended, if it was served.
     pub end: Option<Served>,
 }
 
-/// One who makes calls of a table.
+/// One who makes moves of a table.
 #[derive(Drop)]
-pub(crate) struct Caller {
+pub(crate) struct CountingMover {
     alloc: Global,
     table: Table<SolvedJobs>,
-    /// How many calls were made.
+    /// How many moves were made.
     made: u64,
-    /// The call that finds no memory, if it is one that may.
+    /// The move that finds no memory, if it is one that may.
     lacks: u64,
     pub other: Option<Other>,
 }
 
-impl Caller {
-    pub(crate) fn new(alloc: Global, lacks: u64) -> Caller {
-        Caller {
+impl CountingMover {
+    pub(crate) fn new(alloc: Global, lacks: u64) -> CountingMover {
+        CountingMover {
             alloc,
             table: Table::new(alloc, 1),
             made: 0,
@@ -43,12 +43,12 @@ impl Caller {
         }
     }
 
-    /// Another connection with these bytes is to be served before that call.
-    pub(crate) fn meet(&mut self, alloc: Global, call: u64, bytes: &[u8]) -> Result<(), Memory> {
+    /// Another connection with these bytes is to be served before that move.
+    pub(crate) fn meet(&mut self, alloc: Global, number: u64, bytes: &[u8]) -> Result<(), Memory> {
         let input = MemSource::new(alloc, bytes, bytes.len(), &[])?;
         let output = MemSink::new(alloc, ROOM, &[])?;
         self.other = Some(Other {
-            call,
+            number,
             input,
             output,
             end: None,
@@ -56,18 +56,18 @@ impl Caller {
         Ok(())
     }
 
-    /// Counts a call, before which the other connection may be served. True where the call finds no memory, if it is one that may.
-    fn begin_call(&mut self) -> bool {
+    /// Counts a move, before which the other connection may be served. True where the move finds no memory, if it is one that may.
+    fn begin_move(&mut self) -> bool {
         self.made = self.made.saturating_add(1);
         let made = self.made;
         self.serve_other(made);
         made == self.lacks
     }
 
-    /// Serves the other connection, if it comes before this call; 0 is none.
-    pub(crate) fn serve_other(&mut self, call: u64) {
+    /// Serves the other connection, if it comes before this move; 0 is none.
+    pub(crate) fn serve_other(&mut self, number: u64) {
         if let Some(other) = &mut self.other {
-            if other.call == call {
+            if other.number == number {
                 let (input, output) = (&mut other.input, &mut other.output);
                 let end = serve_ends(self.alloc, input, output, &mut self.table, &Solver);
                 other.end = Some(end);
@@ -76,19 +76,19 @@ impl Caller {
     }
 }
 
-impl Calls<SolvedJobs> for Caller {
-    /// Nothing is said of the calls, since others fall between them.
+impl Mover<SolvedJobs> for CountingMover {
+    /// Nothing is said of the moves, since others fall between them.
     ghost did = { λ _ _ _. Unit {0} };
 
     ghost left = { λ _ _. Unit {0} };
 
     fn make<M: Move<SolvedJobs>>(&mut self, step: M) -> M::Answer {
-        self.begin_call();
+        self.begin_move();
         step.make(&mut self.table)
     }
 
     fn issue(&mut self) -> Result<u64, IssueFault> {
-        if self.begin_call() {
+        if self.begin_move() {
             return Err(IssueFault::Memory);
         }
         match self.table.issue() {
@@ -100,7 +100,7 @@ impl Calls<SolvedJobs> for Caller {
     }
 
     fn enter(&mut self, osil: Twin, osol: Twin) -> Result<Job, IssueFault> {
-        if self.begin_call() {
+        if self.begin_move() {
             return Err(IssueFault::Memory);
         }
         match self.table.enter(osil, osol) {
@@ -112,7 +112,7 @@ impl Calls<SolvedJobs> for Caller {
     }
 
     fn knock(&mut self) -> Result<Statistics, Memory> {
-        if self.begin_call() {
+        if self.begin_move() {
             return Err(AllocError);
         }
         match self.table.knock() {

@@ -1,6 +1,6 @@
 use Rattle.std.proofs.Common.{refl}
 use Rattle.desk.proofs.Entries.{asked_if}
-use Rattle.desk.proofs.caller.CallerCalls.make.Goals as goal
+use Rattle.desk.proofs.lent_seat.LentSeatMover.make.Goals as goal
 
 pub returns-clause-did : goal.returns-clause-did
 returns-clause-did g c =

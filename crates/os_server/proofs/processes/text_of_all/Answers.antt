@@ -4,7 +4,7 @@ use Rattle.ospl_grammar.specs.declared.process.StatedJob.{StatedJob}
 use Rattle.ospl_grammar.specs.declared.process.Process.TheVariants.{Statistics}
 use Rattle.ospl_grammar.specs.Writing.{process_text}
 use Rattle.os_server.specs.Answers.{stated}
-use Rattle.os_server.proofs.stated.text_of_all.Goals as goal
+use Rattle.os_server.proofs.processes.text_of_all.Goals as goal
 
 pub returns : goal.returns
 returns c =

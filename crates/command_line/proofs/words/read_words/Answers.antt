@@ -1,6 +1,6 @@
 use Rattle.std.proofs.Common.{◌∙◌}
 use Rattle.command_line.proofs.Meanings.{asks_by_subcommand, asks_nothing}
-use Rattle.command_line.proofs.words.read.Goals as goal
+use Rattle.command_line.proofs.words.read_words.Goals as goal
 
 pub returns-in-Ok : goal.returns-in-Ok
 returns-in-Ok c =
