@@ -24,7 +24,7 @@ lines() {
 }
 
 # The room is a copy of these crates without their must-fail edits and their tests, so that the toolchain's gate there proves the
-# crates, builds the program, and tries no more. What it proved stays beside the toolchain: so a build that was interrupted goes on
+# crates, builds the program, and tries no more. Where the toolchain keeps what it proved, a build that was interrupted goes on
 # where it was, and behind a change only the crate and those above it are proved again. The room stands outside the checkout, where the
 # gate wants no second crates.txt, and the folder .git makes it the top of a repository, wherever it stands.
 lay_out() {
@@ -89,12 +89,17 @@ cant_write() {
     echo "can't write to $1; see that there is space, and that you may write there"
 }
 
+# How the next build begins: a gate that keeps what it proved can be told to prove all anew.
+next_start() {
+    if rt help 2>&1 | grep -q -e --anew; then echo "goes on where it was"; else echo "begins it anew"; fi
+}
+
 # Where the build was interrupted, says so and ends.
 heed_signal() {
     [ -n "$caught" ] || return 0
     remove_room
     [ ! -t 2 ] || echo >&2
-    say "the build was interrupted; ./os goes on where it was"
+    say "the build was interrupted; ./os $(next_start)"
     end_by "$caught"
 }
 

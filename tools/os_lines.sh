@@ -108,9 +108,10 @@ expect 'line without rt' "$(cat out err)" "os: not built: the toolchain's comman
 
 # ---- the first build
 
-# What stands in for rt tells of each crate of its folder that it is proved, or kept where RT_KEPT has its name.
+# What stands in for rt tells of each crate of its folder that it is proved, or kept where RT_KEPT has its name. Its help is RT_HELP.
 cat >bin/rt <<'RT'
 #!/bin/sh
+[ "$*" != help ] || { echo "${RT_HELP-}" >&2 && exit; }
 [ "$*" = ci ] || exit 9
 { find . -name '*.edit' -o -name 'tests*' && grep -r '^#.cfg' crates; } >"$RT_LEFT"
 for listed in $(sed 's/[ :].*//' crates.txt); do
@@ -147,7 +148,7 @@ expect 'output of a build that fails' "$(cat out)" ''
 expect 'line of a build that fails' "$(tail -n 1 err)" "os: not built: $room/crates/os_main/out/crates.log says why"
 rm -rf crates/os_main/out
 
-RT_STOPS=yes ./os generate 1 >out 2>err &
+RT_HELP='rt ci [--anew]' RT_STOPS=yes ./os generate 1 >out 2>err &
 for _ in $(seq 300); do
     [ ! -s rt_pid ] || break
     sleep 0.1
@@ -161,7 +162,7 @@ expect 'an interrupted build leaves nothing behind' $? 1
 
 seen=$({ sleep 2; printf '\003'; sleep 1; } | at_terminal 'trap : INT; RT_STOPS=yes ./os generate 1; echo status $?')
 expect 'status of a build behind Ctrl-C' "$(has 'status 130' "$seen")" yes
-expect 'line of a build behind Ctrl-C' "$(has 'os: the build was interrupted; ./os goes on where it was' "$seen")" yes
+expect 'line of a build behind Ctrl-C' "$(has 'os: the build was interrupted; ./os begins it anew' "$seen")" yes
 kill -0 "$(cat rt_pid)" 2>/dev/null
 expect 'Ctrl-C leaves nothing behind' $? 1
 
