@@ -1,4 +1,4 @@
-// Digits at the head of a text, and the number that digits write.
+//! Digits at the head of a text, and the number that digits write.
 ghost use Rattle.std.specs.Prelude.{◌≡◌, ◌+◌, ◌*◌, ◌<◌, ◌≤◌, ◌++◌, false, MatchOption};
 ghost use Rattle.std.specs.Str.Parse.{AllDigits, digits_value};
 ghost use Rattle.decimal_text.specs.Head.{DoesNotBegin, HasNoDigit, SignSplit};

@@ -1,4 +1,4 @@
-// The parts of a decimal's text behind its sign.
+//! The parts of a decimal's text behind its sign.
 ghost use Rattle.std.specs.Prelude.{IfOk, IfErr, MatchOption};
 ghost use Rattle.decimal_text.specs.Head.{DoesNotBegin};
 ghost use Rattle.decimal_text.specs.Parts.{HasLetter, MantissaSplit, PowerSplit, PowerStop, UnsignedSplit, UnsignedStop};

@@ -1,4 +1,4 @@
-// Digits and powers of ten as fractions.
+//! Digits and powers of ten as fractions.
 ghost use Rattle.std.specs.Prelude.{◌≡◌, ◌≢◌, ℕ, ◌+◌, ◌*◌, ◌%◌, ◌^◌, ◌<◌, ◌≤◌, ◌++◌, cond, length, Option, Some, IfOk, OnErr, MatchOption};
 ghost use Rattle.std.specs.Str.Parse.{AllDigits, digits_value, digits_value_after};
 ghost use Rattle.rational.specs.Ratio.{IsSame};

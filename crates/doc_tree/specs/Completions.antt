@@ -8,7 +8,7 @@ use Rattle.tree_grammar.specs.Tags.{IsAmong, IsQuote}
 use Rattle.tree_grammar.specs.Declaration.{IsEncodingName, IsUtf8Name}
 use Rattle.element_tree.specs.Building.{said}
 use Rattle.doc_tree.specs.Marks.{Mark, Start, Char, Finish, spread}
-use Rattle.doc_tree.specs.Rests.{Terms, Then, Word, QuoteRest, RefRest, DigitRest, NumeralRest, IsNameRest, CommentRest, SectionRest, pending_brackets, PiText, PiOver, FirstOver, EndRest, Saying, Or, Never, TagRest, BodyRest, AttributeValue, KeyOver, KeyRest, After, depth_left, keep, Between, Before, FieldValue, FieldOver, IsValueBegun, Choice, Gap, Marked, Whole}
+use Rattle.doc_tree.specs.Rests.{TreeTerms, Then, Word, QuoteRest, RefRest, DigitRest, NumeralRest, IsNameRest, CommentRest, SectionRest, pending_brackets, PiText, PiOver, FirstOver, EndRest, Saying, Or, Never, TagRest, BodyRest, AttributeValue, KeyOver, KeyRest, After, depth_left, keep, Between, Before, FieldValue, FieldOver, IsValueBegun, Choice, Gap, Marked, Whole}
 use Rattle.doc_tree.specs.declared.names.Part.{Part}
 use Rattle.doc_tree.specs.declared.names.Part.TheVariants as parts
 use Rattle.doc_tree.specs.declared.machine.Round.{Round}
@@ -22,7 +22,7 @@ use Rattle.doc_tree.specs.declared.machine.Place.TheVariants as places
 use Rattle.doc_tree.specs.declared.machine.Machine.{Machine}
 
 -- Where the machine stands, what it holds of the text that is read, and what it has told so far.
-pub record State : Type 0 where
+pub record MachineState : Type 0 where
   pub place : Place
   pub round : Round
   pub names : List (List ℕ)
@@ -43,7 +43,7 @@ pub record State : Type 0 where
   pub marks : List Mark
 
 -- The machine's state: its open elements are listed with the innermost first.
-abbrev pub view : Machine → State
+abbrev pub view : Machine → MachineState
 view m = record {
   place = m.place;
   round = m.round;
@@ -66,80 +66,80 @@ view m = record {
 }
 
 -- In the content of an element.
-abbrev pub Insides : ℕ → List (List ℕ) → Terms → List ℕ → List Mark → Type 0
+abbrev pub Insides : ℕ → List (List ℕ) → TreeTerms → List ℕ → List Mark → Type 0
 Insides count [] t = Never
 Insides count (name ∷ names) t = Between count (name ∷ names) t
 
 -- In an end tag, behind the innermost element's name.
-abbrev pub EndOver : List (List ℕ) → Terms → List ℕ → List Mark → Type 0
+abbrev pub EndOver : List (List ℕ) → TreeTerms → List ℕ → List Mark → Type 0
 EndOver [] t bytes marks = ⊥
 EndOver (name ∷ names) t bytes marks = EndRest name (Between 0 names t) bytes marks
 
 -- In the start tag that is read.
-abbrev pub InTag : State → List ℕ → Terms → List ℕ → List Mark → Type 0
+abbrev pub InTag : MachineState → List ℕ → TreeTerms → List ℕ → List Mark → Type 0
 InTag s name t = TagRest (depth_left t s.names - 1) name s.keys s.kept (Between 0 s.names t)
 
 -- In its attribute that is read, behind the name.
-abbrev pub InKey : State → Terms → List ℕ → List ℕ → List Mark → Type 0
+abbrev pub InKey : MachineState → TreeTerms → List ℕ → List ℕ → List Mark → Type 0
 InKey s t key = KeyRest (depth_left t s.names - 1) s.name s.keys s.kept (Between 0 s.names t) key
 
 -- The same behind the whole name.
-abbrev pub BehindKey : State → Terms → List ℕ → List Mark → Type 0
+abbrev pub BehindKey : MachineState → TreeTerms → List ℕ → List Mark → Type 0
 BehindKey s t = InKey s t s.key
 
 -- Behind its white space.
-abbrev pub InBody : State → Terms → List ℕ → List Mark → Type 0
+abbrev pub InBody : MachineState → TreeTerms → List ℕ → List Mark → Type 0
 InBody s t = BodyRest (depth_left t s.names - 1) s.name s.kept (Between 0 s.names t)
 
 -- Behind white space in it: an attribute, or the tag's end.
-abbrev pub TagChoice : State → Terms → List ℕ → List Mark → Type 0
+abbrev pub TagChoice : MachineState → TreeTerms → List ℕ → List Mark → Type 0
 TagChoice s t = Or (InBody s t) (Then IsQName (InKey s t))
 
 -- In its value, behind this much of what it says.
-abbrev pub InValue : State → List ℕ → Terms → List ℕ → List Mark → Type 0
+abbrev pub InValue : MachineState → List ℕ → TreeTerms → List ℕ → List Mark → Type 0
 InValue s before t = AttributeValue (depth_left t s.names - 1) s.name s.keys s.kept (Between 0 s.names t) s.key s.quote before
 
 -- Behind the attribute that is read, whose value this is.
-abbrev pub BehindValue : State → List ℕ → Terms → List ℕ → List Mark → Type 0
+abbrev pub BehindValue : MachineState → List ℕ → TreeTerms → List ℕ → List Mark → Type 0
 BehindValue s value t = TagRest (depth_left t s.names - 1) s.name (s.keys ++ (s.key ∷ [])) (keep s.key value s.kept) (Between 0 s.names t)
 
 -- Behind the attribute that is read, whose name is now among those of its tag.
-abbrev pub HoldsKey : State → State → Type 0
+abbrev pub HoldsKey : MachineState → MachineState → Type 0
 HoldsKey old new = new ≡ record old { place = places.TagAfter; keys = old.keys ++ (old.key ∷ []); key = [] }
 
 -- Behind a reference in content that stands for these characters.
-abbrev pub SaidByReference : List (List ℕ) → Terms → List ℕ → List ℕ → List Mark → Type 0
+abbrev pub SaidByReference : List (List ℕ) → TreeTerms → List ℕ → List ℕ → List Mark → Type 0
 SaidByReference names t chars = Saying (map Char chars) (Insides 0 names t)
 
 -- Behind a reference that stands for these characters.
-abbrev pub Behind : Bool → State → Terms → List ℕ → List ℕ → List Mark → Type 0
+abbrev pub Behind : Bool → MachineState → TreeTerms → List ℕ → List ℕ → List Mark → Type 0
 Behind true s t chars = InValue s (s.value ++ chars) t
 Behind false s t chars = SaidByReference s.names t chars
 
 -- The same where the state knows where it stands.
-abbrev pub BehindReference : State → List ℕ → Terms → List ℕ → List Mark → Type 0
+abbrev pub BehindReference : MachineState → List ℕ → TreeTerms → List ℕ → List Mark → Type 0
 BehindReference s chars t = Behind s.in_value s t chars
 
 -- Behind an empty-element tag.
-abbrev pub Emptied : State → Terms → List ℕ → List Mark → Type 0
+abbrev pub Emptied : MachineState → TreeTerms → List ℕ → List Mark → Type 0
 Emptied s t = Saying (Start (local_part s.name) s.kept ∷ Finish (local_part s.name) ∷ []) (Between 0 s.names t)
 
 -- Behind a comment, an instruction or a section.
-abbrev pub Around : Round → List (List ℕ) → Terms → List ℕ → List Mark → Type 0
+abbrev pub Around : Round → List (List ℕ) → TreeTerms → List ℕ → List Mark → Type 0
 Around rounds.Prolog names t = Before t
 Around rounds.Content names t = Insides 0 names t
 Around rounds.Epilog names t = After t
 
 -- Behind the name of the instruction that is read.
-abbrev pub PiNamed : State → Terms → List ℕ → List Mark → Type 0
+abbrev pub PiNamed : MachineState → TreeTerms → List ℕ → List Mark → Type 0
 PiNamed s t = PiOver s.name (Around s.round s.names t)
 
 -- In a reference's digits, with this value so far.
-abbrev pub InNumeral : ℕ → ℕ → State → Terms → List ℕ → List Mark → Type 0
+abbrev pub InNumeral : ℕ → ℕ → MachineState → TreeTerms → List ℕ → List Mark → Type 0
 InNumeral radix number s t = NumeralRest radix number (Behind s.in_value s t)
 
 -- Behind the fixed text that is read.
-abbrev pub ReachesGoal : Goal → State → Terms → List ℕ → List Mark → Type 0
+abbrev pub ReachesGoal : Goal → MachineState → TreeTerms → List ℕ → List Mark → Type 0
 ReachesGoal goals.Marked s t = Marked t
 ReachesGoal goals.Field s t = FieldOver t s.field (Gap s.field t)
 ReachesGoal goals.Prolog s t = Before t
@@ -151,7 +151,7 @@ ReachesGoal goals.Around s t = Around s.round s.names t
 ReachesGoal goals.Entity s t = Behind s.in_value s t (encode_utf8 s.number)
 
 -- The bytes and marks that complete a document from here.
-abbrev pub RestsAt : Place → State → Terms → List ℕ → List Mark → Type 0
+abbrev pub RestsAt : Place → MachineState → TreeTerms → List ℕ → List Mark → Type 0
 RestsAt places.Start s t bytes = Whole t bytes
 RestsAt places.Marked s t bytes = Marked t bytes
 RestsAt places.FirstLess s t bytes = Marked t (60 ∷ bytes)
@@ -198,7 +198,7 @@ pub record GoesBehind (before : List Mark) (K : List ℕ → List Mark → Type 
   pub rest : K bytes later
 
 -- The rest of the bytes with which the document says all of this.
-abbrev pub Completes : State → Terms → List ℕ → List Mark → Type 0
+abbrev pub Completes : MachineState → TreeTerms → List ℕ → List Mark → Type 0
 Completes s t = GoesBehind s.marks (RestsAt s.place s t)
 
 -- a printable character of ASCII
@@ -215,11 +215,11 @@ abbrev pub InElement : List (List ℕ) → List Attribute → Type 0
 InElement names kept = (kept ≡ []) × (names ≢ []) × ArePrintable names
 
 -- In a start tag (XML 1.0, section 3.1).
-abbrev pub GoodTag : State → Type 0
+abbrev pub GoodTag : MachineState → Type 0
 GoodTag s = Each IsPrintable s.name × ArePrintable s.names
 
 -- Before the root.
-abbrev pub Outer : State → Type 0
+abbrev pub Outer : MachineState → Type 0
 Outer s = (s.kept ≡ []) × (s.names ≡ [])
 
 -- Where a comment or an instruction stands.
@@ -229,16 +229,16 @@ GoodRound rounds.Content names kept = InElement names kept
 GoodRound rounds.Epilog names kept = Unit {0}
 
 -- In an attribute's value.
-abbrev pub GoodValue : State → Type 0
+abbrev pub GoodValue : MachineState → Type 0
 GoodValue s = (IsAmong s.key s.keys → ⊥) × IsQuote s.quote × GoodTag s
 
 -- In a reference, in a value or in content (XML 1.0, section 4.1).
-abbrev pub GoodReference : Bool → State → Type 0
+abbrev pub GoodReference : Bool → MachineState → Type 0
 GoodReference true s = GoodValue s
 GoodReference false s = InElement s.names s.kept
 
 -- What holds where a fixed text that leads to this is read.
-abbrev pub GoodGoal : Goal → State → Type 0
+abbrev pub GoodGoal : Goal → MachineState → Type 0
 GoodGoal goals.Field s = Outer s × (s.field ≢ fields.Before)
 GoodGoal goals.EmptyTag s = GoodTag s
 GoodGoal goals.EndName s = InElement s.names s.kept
@@ -263,7 +263,7 @@ abbrev pub IsRadix : ℕ → Type 0
 IsRadix radix = (radix ≡ 10) ⊎ (radix ≡ 16)
 
 -- what holds at each place of a machine that has been used as it should
-abbrev pub Good : Place → State → Type 0
+abbrev pub Good : Place → MachineState → Type 0
 Good places.Word s = (s.left ≢ []) × IsFixed s.goal s.left × GoodGoal s.goal s
 Good places.TagName s = (s.kept ≡ []) × (s.keys ≡ []) × GoodTag s
 Good places.TagAfter s = GoodTag s
@@ -296,54 +296,54 @@ Good places.PiMark s = GoodRound s.round s.names s.kept
 Good _ s = Outer s
 
 -- before a field's or an attribute's `=`, and the place behind it
-abbrev pub EqualsAt : State → Place → Type 0
+abbrev pub EqualsAt : MachineState → Place → Type 0
 EqualsAt s to = ((s.place ≡ places.FieldEquals) × (to ≡ places.FieldQuote) × Outer s × (s.field ≢ fields.Before)) ⊎ ((s.place ≡ places.KeyEquals) × (to ≡ places.KeyQuote) × (IsAmong s.key s.keys → ⊥) × GoodTag s)
 
 -- behind `<?`, and the place in the name
-abbrev pub QuestionAt : State → Place → Type 0
+abbrev pub QuestionAt : MachineState → Place → Type 0
 QuestionAt s to = ((s.place ≡ places.FirstQuestion) × (to ≡ places.FirstName) × Outer s) ⊎ ((s.place ≡ places.Question) × (to ≡ places.PiName) × GoodRound s.round s.names s.kept)
 
 -- before a field's or an attribute's value, and the place in it
-abbrev pub QuoteAt : State → Place → Type 0
+abbrev pub QuoteAt : MachineState → Place → Type 0
 QuoteAt s to = ((s.place ≡ places.FieldQuote) × (to ≡ places.FieldValue) × Outer s × (s.field ≢ fields.Before)) ⊎ ((s.place ≡ places.KeyQuote) × (to ≡ places.Value) × (IsAmong s.key s.keys → ⊥) × GoodTag s)
 
 -- The machine goes on wherever that many elements may stand in one another.
-abbrev pub IsDepthAllowed : Terms → Type 0
+abbrev pub IsDepthAllowed : TreeTerms → Type 0
 IsDepthAllowed t = DEPTH ≤ t.depth
 
 -- From what completes this, the machine takes the byte: behind it all stays the same. No byte of ASCII leads into the byte order mark.
-pub record FollowsByte (before : List Mark) (K : Terms → List ℕ → List Mark → Type 0) (b : ℕ) (new : State) : Type 0 where
+pub record FollowsByte (before : List Mark) (K : TreeTerms → List ℕ → List Mark → Type 0) (b : ℕ) (new : MachineState) : Type 0 where
   pub good : Good new.place new
   pub unmarked : b < 128 → IsInMark new.place new.goal → ⊥
-  pub same : (t : Terms) → IsDepthAllowed t → (bytes : List ℕ) (says : List Mark) → GoesBehind before (K t) (b ∷ bytes) says ↔ Completes new t bytes says
+  pub same : (t : TreeTerms) → IsDepthAllowed t → (bytes : List ℕ) (says : List Mark) → GoesBehind before (K t) (b ∷ bytes) says ↔ Completes new t bytes says
 
 -- Nothing that begins with this byte completes it.
-pub record Stuck (K : Terms → List ℕ → List Mark → Type 0) (b : ℕ) : Type 0 where
-  pub none : (t : Terms) → IsDepthAllowed t → (bytes : List ℕ) (marks : List Mark) → K t (b ∷ bytes) marks → ⊥
+pub record Stuck (K : TreeTerms → List ℕ → List Mark → Type 0) (b : ℕ) : Type 0 where
+  pub none : (t : TreeTerms) → IsDepthAllowed t → (bytes : List ℕ) (marks : List Mark) → K t (b ∷ bytes) marks → ⊥
 
 -- An element begins in as many as may stand in one another.
-abbrev pub IsDeep : State → ℕ → Type 0
+abbrev pub IsDeep : MachineState → ℕ → Type 0
 IsDeep s b = (s.place ≡ places.ContentLess) × (DEPTH ≤ length s.names) × IsNameStart b
 
 -- The declaration's encoding ends here, and isn't one that is read.
-abbrev pub IsOther : State → ℕ → Type 0
+abbrev pub IsOther : MachineState → ℕ → Type 0
 IsOther s b = (s.place ≡ places.FieldValue) × (s.field ≡ fields.Encoding) × (b ≡ s.quote) × IsEncodingName s.value × (IsUtf8Name s.value → ⊥)
 
 -- A document type begins.
-abbrev pub IsDoctype : State → ℕ → Type 0
+abbrev pub IsDoctype : MachineState → ℕ → Type 0
 IsDoctype s b = (s.place ≡ places.Bang) × (s.round ≡ rounds.Prolog) × (b ≡ 68)
 
 -- No element that is too deep begins, no such encoding ends, and no document type begins.
-abbrev pub IsPlainByte : State → ℕ → Type 0
+abbrev pub IsPlainByte : MachineState → ℕ → Type 0
 IsPlainByte s b = (IsDeep s b → ⊥) × (IsOther s b → ⊥) × (IsDoctype s b → ⊥)
 
 -- What completes this is what completes the machine.
-pub record ReachesState (before : List Mark) (K : Terms → List ℕ → List Mark → Type 0) (new : State) : Type 0 where
+pub record ReachesState (before : List Mark) (K : TreeTerms → List ℕ → List Mark → Type 0) (new : MachineState) : Type 0 where
   pub good : Good new.place new
   pub unmarked : IsInMark new.place new.goal → ⊥
-  pub same : (t : Terms) → IsDepthAllowed t → (bytes : List ℕ) (says : List Mark) → GoesBehind before (K t) bytes says ↔ Completes new t bytes says
+  pub same : (t : TreeTerms) → IsDepthAllowed t → (bytes : List ℕ) (says : List Mark) → GoesBehind before (K t) bytes says ↔ Completes new t bytes says
 
 -- What completes the state is what continues the bytes.
-pub record RunsOn (s : State) (bytes : List ℕ) : Type 0 where
+pub record RunsOn (s : MachineState) (bytes : List ℕ) : Type 0 where
   pub good : Good s.place s
-  pub same : (t : Terms) → IsDepthAllowed t → (rest : List ℕ) (says : List Mark) → Whole t (bytes ++ rest) says ↔ Completes s t rest says
+  pub same : (t : TreeTerms) → IsDepthAllowed t → (rest : List ℕ) (says : List Mark) → Whole t (bytes ++ rest) says ↔ Completes s t rest says

@@ -2,8 +2,8 @@
 use Rattle.std.specs.Prelude.{◌≡◌, ℕ, Bool, List, [], ◌∷◌, ◌++◌, length, Option, MatchOption}
 use Rattle.tree_grammar.specs.declared.TheConstants.{DEPTH}
 use Rattle.doc_tree.specs.Marks.{Mark}
-use Rattle.doc_tree.specs.Rests.{Terms, any}
-use Rattle.doc_tree.specs.Completions.{State, Good}
+use Rattle.doc_tree.specs.Rests.{TreeTerms, any}
+use Rattle.doc_tree.specs.Completions.{MachineState, Good}
 use Rattle.doc_tree.specs.LineEnds.{Finishes, Continues}
 use Rattle.doc_tree.specs.Reading.{Refused}
 use Rattle.doc_tree.specs.Refusals.{IsClean}
@@ -12,12 +12,12 @@ use Rattle.doc_tree.specs.declared.characters.Awaited.{Awaited}
 use Rattle.doc_tree.specs.declared.fault.TreeFault.{TreeFault}
 
 -- A document of any encoding that isn't too deep.
-abbrev pub any_encoding : Terms
+abbrev pub any_encoding : TreeTerms
 any_encoding = record { depth = DEPTH; aim = any }
 
 -- Where a reader stands in a document, in a line's end and in a character; how many bytes it took of how many; and why it takes no more.
 pub record Feeding : Type 0 where
-  pub state : State
+  pub state : MachineState
   pub returned : Bool
   pub awaited : Awaited
   pub limit : ℕ
@@ -25,7 +25,7 @@ pub record Feeding : Type 0 where
   pub refusal : Option TreeFault
 
 -- Some bytes complete the character and the document at once.
-pub record MeetsBoth (awaited : Awaited) (s : State) (returned : Bool) : Type 0 where
+pub record MeetsBoth (awaited : Awaited) (s : MachineState) (returned : Bool) : Type 0 where
   pub rest : List ℕ
   pub character : CharacterRest awaited rest
   pub says : List Mark

@@ -1,16 +1,16 @@
 -- Bytes that the machine takes together, as the steps over them one by one.
 use Rattle.std.specs.Prelude.{◌≡◌, ◌≢◌, ◌≤◌, ◌<◌, ℕ, Bool, false, List, [], ◌∷◌, ◌++◌}
 use Rattle.tree_grammar.specs.Tags.{IsQuote}
-use Rattle.doc_tree.specs.Completions.{State, RestsAt, FollowsByte}
+use Rattle.doc_tree.specs.Completions.{MachineState, RestsAt, FollowsByte}
 
 -- a byte of ASCII that is no control character: a character by itself, and no line end
 abbrev pub IsAlone : ℕ → Type 0
 IsAlone b = (32 ≤ b) × (b < 128)
 
 -- The machine goes from one state to another over these bytes, which are such, one by one.
-abbrev pub Walks : State → List ℕ → State → Type 0
+abbrev pub Walks : MachineState → List ℕ → MachineState → Type 0
 Walks s [] t = t ≡ s
-Walks s (b ∷ bytes) t = (mid : State) × IsAlone b × FollowsByte s.marks (RestsAt s.place s) b mid × Walks mid bytes t
+Walks s (b ∷ bytes) t = (mid : MachineState) × IsAlone b × FollowsByte s.marks (RestsAt s.place s) b mid × Walks mid bytes t
 
 -- whether a carriage return stands just before, behind bytes of which none is one
 abbrev pub returned_behind : List ℕ → Bool → Bool

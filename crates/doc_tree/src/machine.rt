@@ -3,7 +3,7 @@
 ghost use Rattle.std.specs.Prelude.{◌≡◌, ◌↔◌, [], ◌∷◌, List, IsTrue, OnOk, IfOk, IsErrOf, MatchBool, MatchOption};
 ghost use Rattle.doc_tree.specs.Relieved.{Relieved, NoMarkWaits};
 ghost use Rattle.doc_tree.specs.Marks.{Mark};
-ghost use Rattle.doc_tree.specs.Rests.{Terms};
+ghost use Rattle.doc_tree.specs.Rests.{TreeTerms};
 ghost use Rattle.doc_tree.specs.Completions.{view, Good, GoodGoal, RestsAt, ReachesGoal, FollowsByte, Stuck, ReachesState, RunsOn, Completes, IsDeep, IsOther, IsDoctype, IsPlainByte};
 
 mod asides;
@@ -218,7 +218,7 @@ impl Machine {
     /// Whether the document is over.
     pub(crate) fn is_over(&self) -> bool
         requires { Good self.now.place (view self.now) }
-        ensures { MatchBool result ((t : Terms) (says : List Mark) → Completes (view self.now) t [] says ↔ (says ≡ (view self.now).marks)) ((t : Terms) (says : List Mark) → Completes (view self.now) t [] says → ⊥) }
+        ensures { MatchBool result ((t : TreeTerms) (says : List Mark) → Completes (view self.now) t [] says ↔ (says ≡ (view self.now).marks)) ((t : TreeTerms) (says : List Mark) → Completes (view self.now) t [] says → ⊥) }
     {
         matches!(self.place, Place::Epilog)
     }

@@ -5,7 +5,7 @@ use Rattle.doc_tree.specs.declared.fault.TreeFault.{TreeFault}
 use Rattle.doc_tree.proofs.OneRefusal.{one_refusal}
 use Rattle.doc_tree.proofs.OneTree.{one_tree}
 use Rattle.document_tags.specs.Texts.{document_limit, IsDocument}
-use Rattle.document_tags.specs.Documents.{OfDocument, Fails}
+use Rattle.document_tags.specs.Documents.{OfDocument, FailsAsDocument}
 
 pub one_root : (bytes : List ℕ) (a b : Element) → IsDocument bytes a → IsDocument bytes b → a ≡ b
 one_root bytes a b is at = one_tree bytes a b is.document at.document
@@ -19,13 +19,13 @@ pub documents_apart : {X Y : Type 0} (Is : Element → X → Type 0) (Or : Eleme
 documents_apart Is Or apart bytes x y h k = apart k.root x y (subst (λ (e : Element). Is e x) (one_root bytes h.root k.root h.document k.document) h.is) k.is
 
 -- bytes are refused in one way
-pub fails_once : {F : Type 0} (tree : TreeFault → F) (IsRefused : Element → F → Type 0) → ((root : Element) (f g : F) → IsRefused root f → IsRefused root g → f ≡ g) → (bytes : List ℕ) (f g : F) → Fails tree IsRefused bytes f → Fails tree IsRefused bytes g → f ≡ g
+pub fails_once : {F : Type 0} (tree : TreeFault → F) (IsRefused : Element → F → Type 0) → ((root : Element) (f g : F) → IsRefused root f → IsRefused root g → f ≡ g) → (bytes : List ℕ) (f g : F) → FailsAsDocument tree IsRefused bytes f → FailsAsDocument tree IsRefused bytes g → f ≡ g
 fails_once tree IsRefused once bytes f g (inl (t, e, h)) (inl (s, d, k)) = e ∙ ap tree (one_refusal document_limit bytes t s h.refusal k.refusal) ∙ sym d
 fails_once tree IsRefused once bytes f g (inl (t, e, h)) (inr k) = absurd (h.none k.root k.document)
 fails_once tree IsRefused once bytes f g (inr h) (inl (s, d, k)) = absurd (k.none h.root h.document)
 fails_once tree IsRefused once bytes f g (inr h) (inr k) = document_once IsRefused once bytes f g h k
 
 -- and those of which something else holds aren't
-pub fails_apart : {X F : Type 0} (tree : TreeFault → F) (Is : Element → X → Type 0) (IsRefused : Element → F → Type 0) → ((root : Element) (x : X) (f : F) → Is root x → IsRefused root f → ⊥) → (bytes : List ℕ) (x : X) (f : F) → OfDocument Is bytes x → Fails tree IsRefused bytes f → ⊥
+pub fails_apart : {X F : Type 0} (tree : TreeFault → F) (Is : Element → X → Type 0) (IsRefused : Element → F → Type 0) → ((root : Element) (x : X) (f : F) → Is root x → IsRefused root f → ⊥) → (bytes : List ℕ) (x : X) (f : F) → OfDocument Is bytes x → FailsAsDocument tree IsRefused bytes f → ⊥
 fails_apart tree Is IsRefused apart bytes x f is (inl (t, e, h)) = h.none is.root is.document
 fails_apart tree Is IsRefused apart bytes x f is (inr h) = documents_apart Is IsRefused apart bytes x f is h

@@ -17,5 +17,5 @@ pub record TreeFails (bytes : List ℕ) (fault : TreeFault) : Type 0 where
   pub none : (root : Element) → IsDocument bytes root → ⊥
 
 -- the bytes are refused: as no document, or as a document that is refused
-abbrev pub Fails : {F : Type 0} → (TreeFault → F) → (Element → F → Type 0) → List ℕ → F → Type 0
-Fails {F} tree IsRefused bytes fault = ((t : TreeFault) × (fault ≡ tree t) × TreeFails bytes t) ⊎ OfDocument IsRefused bytes fault
+abbrev pub FailsAsDocument : {F : Type 0} → (TreeFault → F) → (Element → F → Type 0) → List ℕ → F → Type 0
+FailsAsDocument {F} tree IsRefused bytes fault = ((t : TreeFault) × (fault ≡ tree t) × TreeFails bytes t) ⊎ OfDocument IsRefused bytes fault

@@ -1,4 +1,4 @@
-// 0 and 1, as contracts say them.
+//! 0 and 1, as contracts say them.
 ghost use Rattle.std.specs.Prelude.{◌≡◌, pos};
 ghost use Rattle.rational.specs.Ratio.{whole};
 ghost use Rattle.fraction.specs.Frac.{ratio};

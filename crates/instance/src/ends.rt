@@ -1,4 +1,4 @@
-// Whether numbers are between two ends.
+//! Whether numbers are between two ends.
 ghost use Rattle.std.specs.Prelude.{◌≡◌, ◌↔◌, length, IsTrue, IfSome, MatchOption};
 ghost use Rattle.rational.specs.Ratio.{IsAtMost};
 ghost use Rattle.fraction.specs.Frac.{ratio};

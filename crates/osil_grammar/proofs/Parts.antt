@@ -1,5 +1,5 @@
 -- The parts of an instance, each told in its steps.
-use Rattle.osil_grammar.proofs.Words.{◌≡◌, ◌∙◌, ℕ, pos, List, [], ◌∷◌, ◌++◌, ap, refl, inr, codes, decimal, Attribute, Nodes, none, element, chars, nodes_events, Building, said, ratio, Frac, PlainText, Row, Goal, counted_element, with_attribute, WriteRows, WriteCosts, CountsCosts, WriteGoals, holding, sense_text, ToldAttributes, opening, closing, EndAttributes, content_told, told_around}
+use Rattle.osil_grammar.proofs.Words.{◌≡◌, ◌∙◌, ℕ, pos, List, [], ◌∷◌, ◌++◌, ap, refl, inr, codes, decimal, Attribute, Nodes, none, element, chars, nodes_events, Building, said, ratio, Frac, PlainText, Row, Goal, counted_element, with_attribute, WriteRows, WriteCosts, CountsCosts, WriteGoals, holding_text, sense_text, ToldAttributes, opening, closing, EndAttributes, content_told, told_around}
 use Rattle.document_tags.specs.Telling.{Told}
 
 -- an attribute was told
@@ -18,11 +18,11 @@ row_told r a b c more waits ends attributes tells =
     (element (codes "con") all none none, (ends.0, ends.1, none, ends.2, ends.3, refl, refl), content_told a b c (codes "con") b.attributes all none attributes.told held tells)
 
 -- a cost that isn't 0, by its index and its text
-pub cost_told : (j : ℕ) (x : Frac) (a b c : Building) (key text : List ℕ) → a.attributes ≡ [] → key ≡ decimal j → (x.numer ≡ pos 0 → ⊥) → PlainText text (ratio x) → b ≡ told_attribute a (codes "idx") key → Told b c (nodes_events (holding (codes "coef") b.attributes text none)) → ToldSome (WriteCosts j (x ∷ [])) a c
+pub cost_told : (j : ℕ) (x : Frac) (a b c : Building) (key text : List ℕ) → a.attributes ≡ [] → key ≡ decimal j → (x.numer ≡ pos 0 → ⊥) → PlainText text (ratio x) → b ≡ told_attribute a (codes "idx") key → Told b c (nodes_events (holding_text (codes "coef") b.attributes text none)) → ToldSome (WriteCosts j (x ∷ [])) a c
 cost_told j x a b c key text waits is some plain indexed tells =
     let all : List Attribute = with_attribute (codes "idx") (decimal j) [] in
     let held : b.attributes ≡ all = ap (λ (y : Building). y.attributes) indexed ∙ ap (λ (l : List Attribute). l ++ with_attribute (codes "idx") key []) waits ∙ ap (λ (k : List ℕ). with_attribute (codes "idx") k []) is in
-    (holding (codes "coef") all text none, inr (some, text, none, plain, refl, refl), content_told a b c (codes "coef") b.attributes all (chars text none) (ap said indexed) held tells)
+    (holding_text (codes "coef") all text none, inr (some, text, none, plain, refl, refl), content_told a b c (codes "coef") b.attributes all (chars text none) (ap said indexed) held tells)
 
 -- an element with a count of what stands in it
 pub counted_told : (a b c d : Building) (name key : List ℕ) (n : ℕ) (inner : Nodes) → a.attributes ≡ [] → Told a b (opening name (a.attributes ++ with_attribute key (decimal n) [])) → Told b c (nodes_events inner) → Told c d (closing name) → Told a d (nodes_events (counted_element name key n inner none))

@@ -59,7 +59,7 @@ pub use Rattle.osil_grammar.specs.Storing.{AreJoined, AreStored, AreSumsAt, line
 pub use Rattle.osil_grammar.specs.Table.{Kind, Test, ToldRefusal, around, attributes, bad, bad_text, begins, content, count_name, end_ordinal, ends, fields, great_cost, great_end, great_run, great_text, has, high_infinite, kind, leads, list_row, low_infinite, mark_name, no_index, no_sense, no_type, no_variable, numbers, other_count, otherwise, out_of_range, part_row, refusal, tests, text, too_great, too_many}
 pub use Rattle.osil_grammar.specs.Telling.{EndAttributes, EndsHaveTexts, LacksDecimal}
 pub use Rattle.osil_grammar.specs.VarTags.{IsVar, SaysVar, WritesVar, type_text, var_attributes, var_fields}
-pub use Rattle.osil_grammar.specs.Writing.{CountsCosts, EndHasText, GoalHasDecimals, HasDecimal, HasDecimals, IsWrittenText, WriteCosts, WriteGoals, WriteLists, WriteRows, WriteValues, WriteVars, WritesGoal, WritesInstance, counts_nodes, entries_below, holding, row_starts, sense_text}
+pub use Rattle.osil_grammar.specs.Writing.{CountsCosts, EndHasText, GoalHasDecimals, HasDecimal, HasDecimals, IsWrittenText, WriteCosts, WriteGoals, WriteLists, WriteRows, WriteValues, WriteVars, WritesGoal, WritesInstance, counts_nodes, entries_below, holding_text, row_starts, sense_text}
 pub use Rattle.osil_grammar.specs.declared.domains.Domain.{Domain}
 pub use Rattle.osil_grammar.specs.declared.domains.Domain.TheVariants.{Binary, Continuous, Integer, SemiContinuous, SemiInteger}
 pub use Rattle.osil_grammar.specs.declared.elements.Led.{Led}

@@ -32,8 +32,8 @@ EndHasText (At x) = HasDecimal x
 EndHasText Inf = Unit {0}
 
 -- an element that holds this text, and then more; the text isn't empty
-abbrev pub holding : (name : List ℕ) → List Attribute → (text : List ℕ) → Nodes → Nodes
-holding name attributes text more = element name attributes (chars text none) more
+abbrev pub holding_text : (name : List ℕ) → List Attribute → (text : List ℕ) → Nodes → Nodes
+holding_text name attributes text more = element name attributes (chars text none) more
 
 -- the nodes that these variables are written as
 abbrev pub WriteVars : List Var → Nodes → Type 0
@@ -50,7 +50,7 @@ WriteRows (r ∷ rs) nodes = (lb : List ℕ) × (ub : List ℕ) × (more : Nodes
 abbrev pub WriteCosts : ℕ → List Frac → Nodes → Type 0
 WriteCosts j [] nodes = nodes ≡ none
 WriteCosts j (c ∷ cs) nodes = ((c.numer ≡ pos 0) × WriteCosts (j + 1) cs nodes)
-    ⊎ ((c.numer ≡ pos 0 → ⊥) × (text : List ℕ) × (more : Nodes) × PlainText text (ratio c) × WriteCosts (j + 1) cs more × (nodes ≡ holding (codes "coef") (with_attribute (codes "idx") (decimal j) []) text more))
+    ⊎ ((c.numer ≡ pos 0 → ⊥) × (text : List ℕ) × (more : Nodes) × PlainText text (ratio c) × WriteCosts (j + 1) cs more × (nodes ≡ holding_text (codes "coef") (with_attribute (codes "idx") (decimal j) []) text more))
 
 -- how many costs aren't 0
 abbrev pub CountsCosts : List Frac → ℕ → Type 0
@@ -79,7 +79,7 @@ WriteGoals (g ∷ gs) nodes = (more : Nodes) × WriteGoals gs more × WritesGoal
 -- one `el` for each count
 abbrev pub counts_nodes : List ℕ → Nodes
 counts_nodes [] = none
-counts_nodes (n ∷ ns) = holding (codes "el") [] (decimal n) (counts_nodes ns)
+counts_nodes (n ∷ ns) = holding_text (codes "el") [] (decimal n) (counts_nodes ns)
 
 -- how many entries stand before row i
 abbrev pub entries_below : ℕ → List Entry → ℕ
@@ -94,7 +94,7 @@ row_starts es i (suc n) = entries_below i es ∷ row_starts es (i + 1) n
 -- one `el` for each value
 abbrev pub WriteValues : List Entry → Nodes → Type 0
 WriteValues [] nodes = nodes ≡ none
-WriteValues (e ∷ es) nodes = (text : List ℕ) × (more : Nodes) × PlainText text (ratio e.value) × WriteValues es more × (nodes ≡ holding (codes "el") [] text more)
+WriteValues (e ∷ es) nodes = (text : List ℕ) × (more : Nodes) × PlainText text (ratio e.value) × WriteValues es more × (nodes ≡ holding_text (codes "el") [] text more)
 
 -- the three lists, or nothing where there are no entries
 abbrev pub WriteLists : ℕ → List Entry → Nodes → Type 0

@@ -4,7 +4,7 @@ use Rattle.std.specs.Prelude.{IfOk, IfErr}
 use Rattle.tree_grammar.specs.Elements.{Element}
 use Rattle.document_tags.proofs.OneDocument.{document_once, fails_once, fails_apart}
 use Rattle.document_tags.proofs.UnlessMemory.{fault_once, only_memory, answered}
-use Rattle.document_tags.specs.Documents.{Fails}
+use Rattle.document_tags.specs.Documents.{FailsAsDocument}
 use Rattle.tag_tests.specs.Readers.{marks}
 use Rattle.tag_tests.proofs.Forms.{taken_once, not_both}
 use Rattle.tag_tests.proofs.Forms as forms
@@ -43,7 +43,7 @@ faults_once root f Memory h k = absurd k
 
 -- bytes that aren't blank, and say no options
 abbrev IsNoText : List ℕ → OsolFault → Type 0
-IsNoText bytes f = (IsBlank bytes → ⊥) × Fails Tree IsRefusalOfRoot bytes f
+IsNoText bytes f = (IsBlank bytes → ⊥) × FailsAsDocument Tree IsRefusalOfRoot bytes f
 
 pub refusal_once : (bytes : List ℕ) (f g : OsolFault) → f ≢ Memory → g ≢ Memory → DecodeFails bytes f → DecodeFails bytes g → f ≡ g
 refusal_once bytes = fault_once Memory (IsNoText bytes) (λ f g h k. fails_once Tree IsRefusalOfRoot faults_once bytes f g h.1 k.1)

@@ -1,7 +1,7 @@
 -- What the reader promises.
 use Rattle.std.specs.Prelude.{◌≡◌, ◌⊎◌, ℕ, List}
 use Rattle.tree_grammar.specs.Elements.{Element}
-use Rattle.document_tags.specs.Documents.{Fails}
+use Rattle.document_tags.specs.Documents.{FailsAsDocument}
 use Rattle.osol_grammar.specs.declared.fault.OsolFault.{OsolFault}
 use Rattle.osol_grammar.specs.declared.fault.OsolFault.TheVariants.{Tree, Refused, Memory}
 use Rattle.osol_grammar.specs.Meaning.{IsRefused, IsBlank}
@@ -14,4 +14,4 @@ IsRefusalOfRoot root Memory = ⊥
 
 -- why bytes say no options: they aren't blank, and are no document or one that is refused; or there was no memory
 abbrev pub DecodeFails : List ℕ → OsolFault → Type 0
-DecodeFails bytes f = (f ≡ Memory) ⊎ ((IsBlank bytes → ⊥) × Fails Tree IsRefusalOfRoot bytes f)
+DecodeFails bytes f = (f ≡ Memory) ⊎ ((IsBlank bytes → ⊥) × FailsAsDocument Tree IsRefusalOfRoot bytes f)

@@ -4,7 +4,7 @@ use Rattle.std.specs.Prelude.{IfOk, IfErr}
 use Rattle.tree_grammar.specs.Elements.{Element}
 use Rattle.document_tags.proofs.OneDocument.{document_once, fails_once, fails_apart}
 use Rattle.document_tags.proofs.UnlessMemory.{fault_once, only_memory, answered}
-use Rattle.document_tags.specs.Documents.{Fails}
+use Rattle.document_tags.specs.Documents.{FailsAsDocument}
 use Rattle.tag_tests.specs.Readers.{marks}
 use Rattle.tag_tests.proofs.Forms.{taken_once, not_both}
 use Rattle.ospl_grammar.specs.declared.fault.OsplFault.{OsplFault}
@@ -43,10 +43,10 @@ process_apart root p Root is h = not_both ospl leaves_one start (marks root) is.
 process_apart root p Missing is h = let same = says_once root (Some p) None is h in cc
 
 pub refusal_once : (bytes : List ℕ) (f g : OsplFault) → f ≢ Memory → g ≢ Memory → DecodeFails bytes f → DecodeFails bytes g → f ≡ g
-refusal_once bytes = fault_once Memory (Fails Tree IsRefused bytes) (fails_once Tree IsRefused refused_once bytes)
+refusal_once bytes = fault_once Memory (FailsAsDocument Tree IsRefused bytes) (fails_once Tree IsRefused refused_once bytes)
 
 pub refusal_apart : (bytes : List ℕ) (p : Process) (f : OsplFault) → IsProcessText bytes p → DecodeFails bytes f → f ≡ Memory
-refusal_apart bytes p f is = only_memory Memory (Fails Tree IsRefused bytes) f (fails_apart Tree IsProcess IsRefused process_apart bytes p f is)
+refusal_apart bytes p f is = only_memory Memory (FailsAsDocument Tree IsRefused bytes) f (fails_apart Tree IsProcess IsRefused process_apart bytes p f is)
 
 -- bytes that say a process are answered by it
 pub answer_is : (bytes : List ℕ) (p : Process) (r : Result Process OsplFault) → IsProcessText bytes p → IfOk r (IsProcessText bytes) → IfErr r (DecodeFails bytes) → r ≢ Err Memory → r ≡ Ok p

@@ -1,7 +1,7 @@
 -- Which documents are refused as processes, and why.
 use Rattle.std.specs.Prelude.{◌≡◌, ◌⊎◌, ℕ, None, List}
 use Rattle.tree_grammar.specs.Elements.{Element}
-use Rattle.document_tags.specs.Documents.{Fails}
+use Rattle.document_tags.specs.Documents.{FailsAsDocument}
 use Rattle.tag_tests.specs.Forms.{AreRefused}
 use Rattle.tag_tests.specs.Readers.{marks}
 use Rattle.ospl_grammar.specs.declared.fault.OsplFault.{OsplFault}
@@ -19,4 +19,4 @@ IsRefused root Memory = ⊥
 
 -- why bytes say no process: they are no document, or one that is refused; or there was no memory
 abbrev pub DecodeFails : List ℕ → OsplFault → Type 0
-DecodeFails bytes f = (f ≡ Memory) ⊎ Fails Tree IsRefused bytes f
+DecodeFails bytes f = (f ≡ Memory) ⊎ FailsAsDocument Tree IsRefused bytes f

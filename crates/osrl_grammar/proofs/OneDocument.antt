@@ -21,7 +21,7 @@ pub report_text_once : (bytes : List ℕ) (r s : Report) → IsReportText bytes 
 report_text_once bytes r s a b = document_once IsReport report_once bytes r s a b
 
 pub refusal_text_once : (bytes : List ℕ) (f g : OsrlFault) → f ≢ Memory → g ≢ Memory → DecodeFails bytes f → DecodeFails bytes g → f ≡ g
-refusal_text_once bytes = fault_once Memory (documents.Fails Tree IsRefused bytes) (fails_once Tree IsRefused refusal_once bytes)
+refusal_text_once bytes = fault_once Memory (documents.FailsAsDocument Tree IsRefused bytes) (fails_once Tree IsRefused refusal_once bytes)
 
 pub refusal_apart : (bytes : List ℕ) (r : Report) (f : OsrlFault) → IsReportText bytes r → DecodeFails bytes f → f ≡ Memory
-refusal_apart bytes r f is = only_memory Memory (documents.Fails Tree IsRefused bytes) f (fails_apart Tree IsReport IsRefused report_apart bytes r f is)
+refusal_apart bytes r f is = only_memory Memory (documents.FailsAsDocument Tree IsRefused bytes) f (fails_apart Tree IsReport IsRefused report_apart bytes r f is)

@@ -1,6 +1,6 @@
 -- What bytes are as result documents: the document of a report, or refused in one way.
 use Rattle.std.specs.Prelude.{◌≡◌, ◌⊎◌, ℕ, List}
-use Rattle.document_tags.specs.Documents.{OfDocument, Fails}
+use Rattle.document_tags.specs.Documents.{OfDocument, FailsAsDocument}
 use Rattle.osrl_grammar.specs.declared.report.Report.{Report}
 use Rattle.osrl_grammar.specs.declared.fault.OsrlFault.{OsrlFault}
 use Rattle.osrl_grammar.specs.declared.fault.OsrlFault.TheVariants.{Tree, Memory}
@@ -12,4 +12,4 @@ IsReportText bytes r = OfDocument IsReport bytes r
 
 -- why bytes aren't read: they are no document, or one that is refused; or there was no memory
 abbrev pub DecodeFails : List ℕ → OsrlFault → Type 0
-DecodeFails bytes f = (f ≡ Memory) ⊎ Fails Tree IsRefused bytes f
+DecodeFails bytes f = (f ≡ Memory) ⊎ FailsAsDocument Tree IsRefused bytes f

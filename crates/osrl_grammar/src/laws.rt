@@ -18,9 +18,8 @@ use document_tags::{documents_are_of_characters, texts_part_at_ascii};
 /// behind it, and only it may have rounds; and the numbers of what is claimed are to be of their types, a split's above the
 /// least of its type.
 ///
-/// This is of the definitions alone: what [`decode`](crate::decode) answers is said by [`reports_are_read_back`]. In
-/// `osol_grammar` and `ospl_grammar` the law of this name is of what `decode` answers.
-pub fn comes_back()
+/// This is of the definitions alone: what [`decode`](crate::decode) answers is said by [`reports_are_read_back`].
+pub fn written_texts_are_reports()
     ensures { (r : Report) → ComesBack r → IsReportText (report_text r) r }
 {}
 

@@ -2,9 +2,9 @@
 //!
 //! [`decode`] gives the [`Report`] that a document says, or why it says none ([`OsrlFault`]), and [`Decoder`] that of one
 //! which comes in pieces: a document is read mark by mark, and no tree of it is held. A [`JobStatus`] is how far a report's
-//! job is. [`encode`] writes a report as a document. [`comes_back`] says that this is the document of that report, if the
-//! report can come back (`specs/Back.antt`), and [`reports_are_read_back`] that a report which was read is read again from
-//! it, if it isn't too long. [`refusal_text`] says in words why a document is refused.
+//! job is. [`encode`] writes a report as a document. [`written_texts_are_reports`] says that this is the document of that
+//! report, if the report can come back (`specs/Back.antt`), and [`reports_are_read_back`] that a report which was read is
+//! read again from it, if it isn't too long. [`refusal_text`] says in words why a document is refused.
 #![tactic(auto)]
 
 mod certificates;
@@ -30,7 +30,7 @@ mod words;
 pub use decoder::Decoder;
 pub use document::encode;
 pub use fault::OsrlFault;
-pub use laws::{comes_back, reports_are_read_back};
+pub use laws::{reports_are_read_back, written_texts_are_reports};
 pub use reading::decode;
 pub use reading_laws::{
     document_has_one_refusal, document_has_one_report, first_and_least_is_told, read_claims_fit,

@@ -18,14 +18,14 @@ comment_text (comment_plain c other t) k = c ∷ comment_text t k
 comment_text (comment_dash c other t) k = 45 ∷ c ∷ comment_text t k
 
 -- the character stands first
-abbrev pub Begins : ℕ → List ℕ → Type 0
-Begins x [] = ⊥
-Begins x (c ∷ cs) = c ≡ x
+abbrev pub BeginsWith : ℕ → List ℕ → Type 0
+BeginsWith x [] = ⊥
+BeginsWith x (c ∷ cs) = c ≡ x
 
 -- a text without `?>`
 abbrev pub IsInstructionText : List ℕ → Type 0
 IsInstructionText [] = Unit {0}
-IsInstructionText (c ∷ cs) = (c ≡ 63 → Begins 62 cs → ⊥) × IsInstructionText cs
+IsInstructionText (c ∷ cs) = (c ≡ 63 → BeginsWith 62 cs → ⊥) × IsInstructionText cs
 
 -- Production 16: a name other than `xml` in any case, and nothing, or white space and a text without `?>`.
 pub data Instruction : Type 0 where

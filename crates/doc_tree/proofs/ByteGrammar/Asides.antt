@@ -1,10 +1,10 @@
 -- Comments, instructions and CDATA sections, byte by byte.
-use Rattle.doc_tree.proofs.Words.{Begins, Char, Comment, CommentRest, Each, Instruction, IsInstructionText, IsName, IsNameChar, IsNameRest, IsNameStart, IsSectionText, IsSpace, List, Mark, PiOver, PiRest, PiSpace, PiText, Saying, SectionRest, Then, Word, [], ap, append_assoc, arith, bare, brackets, codes, comment_dash, comment_over, comment_plain, comment_text, inl, inr, instruction_text, map, refl, subst, sym, to_ascii_lowercase, with_text, ℕ, ◌++◌, ◌↔◌, ◌∙◌, ◌∷◌, ◌≡◌, ◌≢◌, ◌≤◌, ◌⊎◌, pending_brackets, zero, suc}
+use Rattle.doc_tree.proofs.Words.{BeginsWith, Char, Comment, CommentRest, Each, Instruction, IsInstructionText, IsName, IsNameChar, IsNameRest, IsNameStart, IsSectionText, IsSpace, List, Mark, PiOver, PiRest, PiSpace, PiText, Saying, SectionRest, Then, Word, [], ap, append_assoc, arith, bare, brackets, codes, comment_dash, comment_over, comment_plain, comment_text, inl, inr, instruction_text, map, refl, subst, sym, to_ascii_lowercase, with_text, ℕ, ◌++◌, ◌↔◌, ◌∙◌, ◌∷◌, ◌≡◌, ◌≢◌, ◌≤◌, ◌⊎◌, pending_brackets, zero, suc}
 use Rattle.doc_tree.specs.declared.names.Part.TheVariants as parts
 use Rattle.doc_tree.proofs.ByteGrammar.Spans.{then_over, then_next, then_back, word_first, word_back, word_last}
 use Rattle.doc_tree.proofs.ByteGrammar.Bytes.{IsHigh, high_not_space, not_space, space_low}
 
-not_begins : (b : ℕ) (r run y : List ℕ) → b ≢ 62 → b ∷ r ≡ run ++ y → Begins 62 run → ⊥
+not_begins : (b : ℕ) (r run y : List ℕ) → b ≢ 62 → b ∷ r ≡ run ++ y → BeginsWith 62 run → ⊥
 not_begins b r [] y n e h = h
 not_begins b r (c ∷ cs) y n e h = n (cc)
 

@@ -1,5 +1,5 @@
 -- The content of an element, byte by byte.
-use Rattle.doc_tree.proofs.Words.{Between, Body, BodyRest, Char, CommentRest, Content, Each, EndRest, Finish, Inside, Insides, IsBodyFit, IsFit, IsQName, IsSpace, List, Mark, PiRest, RefRest, SaidByReference, Saying, SectionRest, Start, Tag, TagFirst, TagRest, Terms, Then, Word, [], ap, arith, attribute_list, attributes_text, body_marks, body_text, brackets, char, closed, comment, comment_text, content_marks, content_text, depth_left, empty, end_text, instruction, instruction_text, local_part, map, nested, nothing, opened, reference, reference_chars, refl, section, subst, sym, tag_text, ℕ, ◌++◌, ◌-◌, ◌<◌, ◌↔◌, ◌∙◌, ◌∷◌, ◌≡◌, ◌≢◌, ◌≤◌}
+use Rattle.doc_tree.proofs.Words.{Between, Body, BodyRest, Char, CommentRest, Content, Each, EndRest, Finish, Inside, Insides, IsBodyFit, IsFit, IsQName, IsSpace, List, Mark, PiRest, RefRest, SaidByReference, Saying, SectionRest, Start, Tag, TagFirst, TagRest, TreeTerms, Then, Word, [], ap, arith, attribute_list, attributes_text, body_marks, body_text, brackets, char, closed, comment, comment_text, content_marks, content_text, depth_left, empty, end_text, instruction, instruction_text, local_part, map, nested, nothing, opened, reference, reference_chars, refl, section, subst, sym, tag_text, ℕ, ◌++◌, ◌-◌, ◌<◌, ◌↔◌, ◌∙◌, ◌∷◌, ◌≡◌, ◌≢◌, ◌≤◌}
 use Rattle.doc_tree.proofs.ByteGrammar.Asides.{instruction_to, instruction_of}
 use Rattle.doc_tree.proofs.ByteGrammar.Bytes.{start_range}
 
@@ -228,7 +228,7 @@ module _ (room : ℕ) (n : List ℕ) (K : List ℕ → List Mark → Type 0) whe
   pub inside_question : (count : ℕ) (r : List ℕ) (es : List Mark) → Inside room count n K (60 ∷ 63 ∷ r) es ↔ PiRest (Inside room 0 n K) r es
   inside_question count r es = (λ h. question_to r es (inside_less room n K count (63 ∷ r) es h), λ h. inside_pi room n K count r es h)
 
-module _ (u : Terms) where
+module _ (u : TreeTerms) where
   -- in the content of some element
   pub content_char : (count : ℕ) (names : List (List ℕ)) (b : ℕ) (r : List ℕ) (es : List Mark) → b ≢ 60 → b ≢ 38 → (2 ≤ count → b ≢ 62) → Insides count names u (b ∷ r) es ↔ Saying (Char b ∷ []) (Insides (brackets count b) names u) r es
   content_char count [] b r es nl na g = (λ h. absurd h, λ h. absurd (h.after))

@@ -1,6 +1,6 @@
 -- The fields of the declaration.
 use Rattle.doc_tree.proofs.ByteGrammar.Printables.{some_each}
-use Rattle.doc_tree.proofs.Words.{Aim, Before, Each, Encoding, EndsDeclaration, Equals, Field, FieldOver, FieldRest, FieldValue, Foreign, ForeignRest, Gap, GapRest, IsEncodingRead, IsFieldValue, IsQuote, IsReadEncoding, IsSpace, IsSpecial, List, Mark, Never, Next1, Next2, Or, Some1, Standalone, Terms, Valued, Version, VersionRest, Word, [], ap, encoded, encoding_text, equals_text, field_name, inl, inr, no_encoding, no_standalone, readable, refl, standalone_text, standing, version_text, ℕ, ◌++◌, ◌∙◌, ◌∷◌, ◌≡◌, ◌≢◌, ◌⊎◌}
+use Rattle.doc_tree.proofs.Words.{Aim, Before, Each, Encoding, EndsDeclaration, Equals, Field, FieldOver, FieldRest, FieldValue, Foreign, ForeignRest, Gap, GapRest, IsEncodingRead, IsFieldValue, IsQuote, IsReadEncoding, IsSpace, IsSpecial, List, Mark, Never, Next1, Next2, Or, Some1, Standalone, TreeTerms, Valued, Version, VersionRest, Word, [], ap, encoded, encoding_text, equals_text, field_name, inl, inr, no_encoding, no_standalone, readable, refl, standalone_text, standing, version_text, ℕ, ◌++◌, ◌∙◌, ◌∷◌, ◌≡◌, ◌≢◌, ◌⊎◌}
 use Rattle.doc_tree.specs.declared.declaration.Field.TheVariants as fields
 use Rattle.doc_tree.proofs.ByteGrammar.Spans.{then_map}
 use Rattle.doc_tree.proofs.ByteGrammar.Tags.{equals_to, equals_of}
@@ -9,7 +9,7 @@ of_special : (aim : Aim) (name : List ℕ) → IsSpecial aim → IsReadEncoding 
 of_special readable name h = absurd h
 of_special _ name h = tt
 
-module _ (u : Terms) where
+module _ (u : TreeTerms) where
   -- the end behind a field
   end_gap : (Next : List ℕ → List Mark → Type 0) (space : List ℕ) → Each IsSpace space → (y x : List ℕ) (es : List Mark) → x ≡ space ++ (63 ∷ 62 ∷ y) → Before u y es → GapRest u Next x es
   end_gap Next [] s y x es e a = inl (record { behind = y; text = e; after = a })

@@ -1,5 +1,5 @@
 -- Names, and what stands behind an attribute's or a field's name, byte by byte.
-use Rattle.doc_tree.proofs.Words.{AttributeValue, Between, BodyRest, EqualsRest, InKey, InTag, IsNameRest, IsNameStart, IsQName, IsQNameRest, IsQuote, IsSpace, List, Mark, Part, QuoteRest, Quoted, State, TagChoice, TagFirst, TagRest, Terms, Then, Word, [], append-nil, append_assoc, arith, depth_left, inl, inr, subst, sym, ℕ, ◌++◌, ◌-◌, ◌↔◌, ◌∷◌, ◌≢◌, ◌≤◌}
+use Rattle.doc_tree.proofs.Words.{AttributeValue, Between, BodyRest, EqualsRest, InKey, InTag, IsNameRest, IsNameStart, IsQName, IsQNameRest, IsQuote, IsSpace, List, Mark, Part, QuoteRest, Quoted, MachineState, TagChoice, TagFirst, TagRest, TreeTerms, Then, Word, [], append-nil, append_assoc, arith, depth_left, inl, inr, subst, sym, ℕ, ◌++◌, ◌-◌, ◌↔◌, ◌∷◌, ◌≢◌, ◌≤◌}
 use Rattle.doc_tree.specs.declared.names.Part.TheVariants as parts
 use Rattle.doc_tree.proofs.ByteGrammar.Spans.{then_over, then_here, then_next, then_back, then_map, spaces_more, spaces_over, word_first, word_last, quoted_first, quoted_back}
 use Rattle.doc_tree.proofs.ByteGrammar.Tags.{tag_plain, body_begins, body_space}
@@ -48,33 +48,33 @@ qname_first L b r es s = (
 pub qname_stuck : (L : List ℕ → List ℕ → List Mark → Type 0) (b : ℕ) (r : List ℕ) (es : List Mark) → (IsNameStart b → ⊥) → Then IsQName L (b ∷ r) es → ⊥
 qname_stuck L b r es n h = (then_over IsQName L b r es (λ run i. n i.0) h).0
 
-module _ (u : Terms) where
-  pub tag_high : (s : State) (b : ℕ) (m x : List ℕ) (es : List Mark) → IsHigh b → InTag s m u (b ∷ x) es → ⊥
+module _ (u : TreeTerms) where
+  pub tag_high : (s : MachineState) (b : ℕ) (m x : List ℕ) (es : List Mark) → IsHigh b → InTag s m u (b ∷ x) es → ⊥
   tag_high s b m x es i h = let k = body_begins (depth_left u s.names - 1) m s.kept (Between 0 s.names u) b x es ((tag_plain u (record s { name = m }) b x es (high_not_space b i)).0 h) in grind arith
 
-  pub key_high : (s : State) (b : ℕ) (m x : List ℕ) (es : List Mark) → IsHigh b → InKey s u m (b ∷ x) es → ⊥
+  pub key_high : (s : MachineState) (b : ℕ) (m x : List ℕ) (es : List Mark) → IsHigh b → InKey s u m (b ∷ x) es → ⊥
   key_high s b m x es i h = equals_stuck (λ quote. AttributeValue (depth_left u s.names - 1) s.name s.keys s.kept (Between 0 s.names u) m quote []) b x es (high_not_space b i) (λ e. grind arith) h.over
 
   -- an attribute begins, or the tag ends
-  choice_to : (s : State) (b : ℕ) (r : List ℕ) (es : List Mark) → IsNameStart b → TagChoice s u (b ∷ r) es → Then (IsNameRest parts.First) (λ run. InKey s u (b ∷ run)) r es
+  choice_to : (s : MachineState) (b : ℕ) (r : List ℕ) (es : List Mark) → IsNameStart b → TagChoice s u (b ∷ r) es → Then (IsNameRest parts.First) (λ run. InKey s u (b ∷ run)) r es
   choice_to s b r es i (inl h) = let l = (start_range b i).0 in elim (body_begins (depth_left u s.names - 1) s.name s.kept (Between 0 s.names u) b r es h) [ inl e ↦ absurd (omega arith) | inr e ↦ absurd (omega arith) ]
   choice_to s b r es i (inr h) = (qname_first (InKey s u) b r es i).0 h
 
-  ends_to : (s : State) (b : ℕ) (r : List ℕ) (es : List Mark) → (IsNameStart b → ⊥) → TagChoice s u (b ∷ r) es → BodyRest (depth_left u s.names - 1) s.name s.kept (Between 0 s.names u) (b ∷ r) es
+  ends_to : (s : MachineState) (b : ℕ) (r : List ℕ) (es : List Mark) → (IsNameStart b → ⊥) → TagChoice s u (b ∷ r) es → BodyRest (depth_left u s.names - 1) s.name s.kept (Between 0 s.names u) (b ∷ r) es
   ends_to s b r es n (inl h) = h
   ends_to s b r es n (inr h) = absurd (qname_stuck (InKey s u) b r es n h)
 
-  no_space : (s : State) (b : ℕ) (r : List ℕ) (es : List Mark) → IsSpace b → TagChoice s u (b ∷ r) es → ⊥
+  no_space : (s : MachineState) (b : ℕ) (r : List ℕ) (es : List Mark) → IsSpace b → TagChoice s u (b ∷ r) es → ⊥
   no_space s b r es i (inl h) = body_space (depth_left u s.names - 1) s.name s.kept (Between 0 s.names u) b r es i h
   no_space s b r es i (inr h) = qname_stuck (InKey s u) b r es (λ q. let l = (start_range b q).0 in let k = space_low b i in omega arith) h
 
-  pub choice_key : (s : State) (b : ℕ) (r : List ℕ) (es : List Mark) → IsNameStart b → TagChoice s u (b ∷ r) es ↔ Then (IsNameRest parts.First) (λ run. InKey s u (b ∷ run)) r es
+  pub choice_key : (s : MachineState) (b : ℕ) (r : List ℕ) (es : List Mark) → IsNameStart b → TagChoice s u (b ∷ r) es ↔ Then (IsNameRest parts.First) (λ run. InKey s u (b ∷ run)) r es
   choice_key s b r es i = (choice_to s b r es i, λ h. inr ((qname_first (InKey s u) b r es i).1 h))
 
-  pub choice_ends : (s : State) (b : ℕ) (r : List ℕ) (es : List Mark) → (IsNameStart b → ⊥) → TagChoice s u (b ∷ r) es ↔ BodyRest (depth_left u s.names - 1) s.name s.kept (Between 0 s.names u) (b ∷ r) es
+  pub choice_ends : (s : MachineState) (b : ℕ) (r : List ℕ) (es : List Mark) → (IsNameStart b → ⊥) → TagChoice s u (b ∷ r) es ↔ BodyRest (depth_left u s.names - 1) s.name s.kept (Between 0 s.names u) (b ∷ r) es
   choice_ends s b r es n = (ends_to s b r es n, λ h. inl h)
 
-  pub choice_space : (s : State) (b : ℕ) (r : List ℕ) (es : List Mark) → IsSpace b → TagChoice s u (b ∷ r) es → ⊥
+  pub choice_space : (s : MachineState) (b : ℕ) (r : List ℕ) (es : List Mark) → IsSpace b → TagChoice s u (b ∷ r) es → ⊥
   choice_space s b r es i h = no_space s b r es i h
 
   -- an element begins

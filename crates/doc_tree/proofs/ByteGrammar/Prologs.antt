@@ -1,5 +1,5 @@
 -- What stands round the root, byte by byte.
-use Rattle.doc_tree.proofs.Words.{After, Before, Bool, Choice, Declaration, FirstOver, Gap, IsDeclarationRead, IsName, IsQName, IsSpace, IsSpecial, List, Mark, Marked, Misc, Never, PiOver, PiRest, RootOrType, TagFirst, TagRest, Terms, Then, Whole, Word, [], ap, arith, attributes_text, codes, comment_text, declaration_text, declared, depth_left, encoding_text, false, inl, inr, instruction_text, map, mark_text, misc_comment, misc_instruction, misc_over, misc_space, misc_text, no_declaration, refl, standalone_text, subst, sym, to_ascii_lowercase, true, version_text, ℕ, ◌++◌, ◌-◌, ◌↔◌, ◌∷◌, ◌≡◌, ◌≢◌, ◌≤◌, ◌⊎◌}
+use Rattle.doc_tree.proofs.Words.{After, Before, Bool, Choice, Declaration, FirstOver, Gap, IsDeclarationRead, IsName, IsQName, IsSpace, IsSpecial, List, Mark, Marked, Misc, Never, PiOver, PiRest, RootOrType, TagFirst, TagRest, TreeTerms, Then, Whole, Word, [], ap, arith, attributes_text, codes, comment_text, declaration_text, declared, depth_left, encoding_text, false, inl, inr, instruction_text, map, mark_text, misc_comment, misc_instruction, misc_over, misc_space, misc_text, no_declaration, refl, standalone_text, subst, sym, to_ascii_lowercase, true, version_text, ℕ, ◌++◌, ◌-◌, ◌↔◌, ◌∷◌, ◌≡◌, ◌≢◌, ◌≤◌, ◌⊎◌}
 use Rattle.doc_tree.specs.declared.declaration.Field.TheVariants as fields
 use Rattle.doc_tree.proofs.ByteGrammar.Bytes.{IsHigh, high_not_space, space_low, start_range}
 use Rattle.doc_tree.proofs.ByteGrammar.Spans.{some_stuck}
@@ -12,7 +12,7 @@ name_high : (b : ℕ) (r run : List ℕ) → IsQName run → (y : List ℕ) → 
 name_high b r [] q y e = absurd q
 name_high b r (c ∷ cs) q y e = let h : b ≡ c = cc in let k = (start_range c q.0).0 in omega arith
 
-module _ (u : Terms) where
+module _ (u : TreeTerms) where
   -- behind the root
   after_to : (b : ℕ) (r : List ℕ) (es : List Mark) (m : Misc) → b ∷ r ≡ misc_text m [] → es ≡ [] → Cases (After u) b r es
   after_to b r es misc_over e q = absurd (cc)

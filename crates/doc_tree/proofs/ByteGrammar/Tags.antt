@@ -1,5 +1,5 @@
 -- Start tags, byte by byte.
-use Rattle.doc_tree.proofs.Words.{AreUniqueNames, Attribute, AttributeValue, Attributes, Between, Body, BodyRest, Bool, Each, Equals, EqualsRest, Finish, InKey, InTag, Inside, IsBodyFit, IsQuote, IsSpace, List, Mark, QuoteRest, Quoted, Saying, Start, State, TagChoice, TagRest, Terms, Then, Word, [], ap, append-nil, append_assoc, arith, attribute, attribute_list, attributes_text, body_marks, body_text, closed, cond, content_marks, depth_left, equals_text, false, inl, inr, is_kept, keep, local_part, no_attribute, opened, refl, subst, sym, true, value_chars, value_text, ℕ, ◌++◌, ◌-◌, ◌↔◌, ◌∷◌, ◌≡◌, ◌⊎◌}
+use Rattle.doc_tree.proofs.Words.{AreUniqueNames, Attribute, AttributeValue, Attributes, Between, Body, BodyRest, Bool, Each, Equals, EqualsRest, Finish, InKey, InTag, Inside, IsBodyFit, IsQuote, IsSpace, List, Mark, QuoteRest, Quoted, Saying, Start, MachineState, TagChoice, TagRest, TreeTerms, Then, Word, [], ap, append-nil, append_assoc, arith, attribute, attribute_list, attributes_text, body_marks, body_text, closed, cond, content_marks, depth_left, equals_text, false, inl, inr, is_kept, keep, local_part, no_attribute, opened, refl, subst, sym, true, value_chars, value_text, ℕ, ◌++◌, ◌-◌, ◌↔◌, ◌∷◌, ◌≡◌, ◌⊎◌}
 use Rattle.doc_tree.proofs.ByteGrammar.Bytes.{space_low}
 
 -- `=` with white space round it, and a quote
@@ -50,7 +50,7 @@ module _ (room : ℕ) (name : List ℕ) (kept : List Attribute) (K : List ℕ �
   )
 
 -- the fields of the tag that is read
-module _ (u : Terms) (s : State) where
+module _ (u : TreeTerms) (s : MachineState) where
   abbrev R : ℕ
   R = depth_left u s.names - 1
 

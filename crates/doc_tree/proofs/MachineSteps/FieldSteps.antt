@@ -1,9 +1,9 @@
 -- The declaration, byte by byte.
-use Rattle.doc_tree.proofs.Words.{Before, Choice, Each, EndsBehind, Field, FieldOver, FieldRest, FieldValue, Foreign, Gap, GapRest, IsDigit, IsEncodingChar, IsFieldValue, IsNextField, IsQuote, IsSpace, IsYesOrNo, List, Mark, Never, Next1, Next2, NextFields, NoNextField, Some1, Terms, Then, Valued, Word, [], append-nil, append_assoc, arith, field_name, first_letter, inl, inr, refl, subst, sym, ℕ, ◌++◌, ◌↔◌, ◌∷◌, ◌≡◌, ◌≢◌, ◌≤◌}
+use Rattle.doc_tree.proofs.Words.{Before, Choice, Each, EndsBehind, Field, FieldOver, FieldRest, FieldValue, Foreign, Gap, GapRest, IsDigit, IsEncodingChar, IsFieldValue, IsNextField, IsQuote, IsSpace, IsYesOrNo, List, Mark, Never, Next1, Next2, NextFields, NoNextField, Some1, TreeTerms, Then, Valued, Word, [], append-nil, append_assoc, arith, field_name, first_letter, inl, inr, refl, subst, sym, ℕ, ◌++◌, ◌↔◌, ◌∷◌, ◌≡◌, ◌≢◌, ◌≤◌}
 use Rattle.doc_tree.specs.declared.declaration.Field.TheVariants as fields
 use Rattle.doc_tree.proofs.ByteGrammar.{each_right, some_more, some_stuck, space_low, then_back, then_here, then_map, then_next, then_over, word_back, word_first, word_last}
 
-module _ (u : Terms) where
+module _ (u : TreeTerms) where
   pub ends_first : (f : Field) (b : ℕ) (r : List ℕ) (es : List Mark) → EndsBehind f u (b ∷ r) es → b ≡ 63
   ends_first fields.Before b r es h = absurd h
   ends_first _ b r es h = (word_first (Before u) 63 (62 ∷ []) b r es h).0

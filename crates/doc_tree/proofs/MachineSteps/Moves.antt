@@ -1,5 +1,5 @@
 -- What a step owes, from what completes it before and after.
-use Rattle.doc_tree.proofs.Words.{Completes, FollowsByte, Goal, GoesBehind, Good, GoodGoal, IsDepthAllowed, IsFixed, IsInMark, List, Mark, Place, ReachesGoal, ReachesState, RestsAt, Saying, State, Terms, Word, [], ap, append_assoc, refl, subst, sym, ℕ, ◌++◌, ◌<◌, ◌↔◌, ◌∙◌, ◌∷◌, ◌≡◌, ◌≢◌}
+use Rattle.doc_tree.proofs.Words.{Completes, FollowsByte, Goal, GoesBehind, Good, GoodGoal, IsDepthAllowed, IsFixed, IsInMark, List, Mark, Place, ReachesGoal, ReachesState, RestsAt, Saying, MachineState, TreeTerms, Word, [], ap, append_assoc, refl, subst, sym, ℕ, ◌++◌, ◌<◌, ◌↔◌, ◌∙◌, ◌∷◌, ◌≡◌, ◌≢◌}
 use Rattle.doc_tree.specs.declared.machine.Place.TheVariants as places
 
 -- what goes on behind the same marks goes on to the same
@@ -17,42 +17,42 @@ same_saying before said A B x y says C f g = (
 )
 
 -- what completes a state that has the same marks
-here : (before : List Mark) (new : State) → before ≡ new.marks → (t : Terms) (x : List ℕ) (says : List Mark) → GoesBehind before (RestsAt new.place new t) x says ↔ Completes new t x says
+here : (before : List Mark) (new : MachineState) → before ≡ new.marks → (t : TreeTerms) (x : List ℕ) (says : List Mark) → GoesBehind before (RestsAt new.place new t) x says ↔ Completes new t x says
 here before new e t x says = subst (λ z. GoesBehind before (RestsAt new.place new t) x says ↔ GoesBehind z (RestsAt new.place new t) x says) e (λ h. h, λ h. h)
 
-module _ (before : List Mark) (A B : Terms → List ℕ → List Mark → Type 0) where
+module _ (before : List Mark) (A B : TreeTerms → List ℕ → List Mark → Type 0) where
   -- a tail call
-  pub follows_from : (b : ℕ) (new : State) → ((t : Terms) → IsDepthAllowed t → (x : List ℕ) (es : List Mark) → A t (b ∷ x) es ↔ B t (b ∷ x) es) → FollowsByte before B b new → FollowsByte before A b new
+  pub follows_from : (b : ℕ) (new : MachineState) → ((t : TreeTerms) → IsDepthAllowed t → (x : List ℕ) (es : List Mark) → A t (b ∷ x) es ↔ B t (b ∷ x) es) → FollowsByte before B b new → FollowsByte before A b new
   follows_from b new f h = record { good = h.good; unmarked = h.unmarked; same = λ t l x says. same_from before (A t) (B t) (b ∷ x) (b ∷ x) says (Completes new t x says) (f t l x) (h.same t l x says) }
 
   -- a byte before what is reached
-  pub follows_reached : (b : ℕ) (new : State) → ((t : Terms) → IsDepthAllowed t → (x : List ℕ) (es : List Mark) → A t (b ∷ x) es ↔ B t x es) → ReachesState before B new → FollowsByte before A b new
+  pub follows_reached : (b : ℕ) (new : MachineState) → ((t : TreeTerms) → IsDepthAllowed t → (x : List ℕ) (es : List Mark) → A t (b ∷ x) es ↔ B t x es) → ReachesState before B new → FollowsByte before A b new
   follows_reached b new f h = record { good = h.good; unmarked = λ l. h.unmarked; same = λ t l x says. same_from before (A t) (B t) (b ∷ x) x says (Completes new t x says) (f t l x) (h.same t l x says) }
 
-  pub reached_from : (new : State) → ((t : Terms) → IsDepthAllowed t → (x : List ℕ) (es : List Mark) → A t x es ↔ B t x es) → ReachesState before B new → ReachesState before A new
+  pub reached_from : (new : MachineState) → ((t : TreeTerms) → IsDepthAllowed t → (x : List ℕ) (es : List Mark) → A t x es ↔ B t x es) → ReachesState before B new → ReachesState before A new
   reached_from new f h = record { good = h.good; unmarked = h.unmarked; same = λ t l x says. same_from before (A t) (B t) x x says (Completes new t x says) (f t l x) (h.same t l x says) }
 
-module _ (before : List Mark) (A : Terms → List ℕ → List Mark → Type 0) where
+module _ (before : List Mark) (A : TreeTerms → List ℕ → List Mark → Type 0) where
   -- a byte that says nothing
-  pub moves : (b : ℕ) (new : State) → before ≡ new.marks → (b < 128 → IsInMark new.place new.goal → ⊥) → Good new.place new → ((t : Terms) → IsDepthAllowed t → (x : List ℕ) (es : List Mark) → A t (b ∷ x) es ↔ RestsAt new.place new t x es) → FollowsByte before A b new
+  pub moves : (b : ℕ) (new : MachineState) → before ≡ new.marks → (b < 128 → IsInMark new.place new.goal → ⊥) → Good new.place new → ((t : TreeTerms) → IsDepthAllowed t → (x : List ℕ) (es : List Mark) → A t (b ∷ x) es ↔ RestsAt new.place new t x es) → FollowsByte before A b new
   moves b new e u good f = record { good = good; unmarked = u; same = λ t l x says. same_from before (A t) (RestsAt new.place new t) (b ∷ x) x says (Completes new t x says) (f t l x) (here before new e t x says) }
 
   -- the same where the place is known by an equation
-  pub moves_at : (b : ℕ) (new : State) (p : Place) → new.place ≡ p → before ≡ new.marks → (b < 128 → IsInMark p new.goal → ⊥) → Good p new → ((t : Terms) → IsDepthAllowed t → (x : List ℕ) (es : List Mark) → A t (b ∷ x) es ↔ RestsAt p new t x es) → FollowsByte before A b new
-  moves_at b new p e m u good f = moves b new m (λ l h. u l (subst (λ z. IsInMark z new.goal) e h)) (subst (λ z. Good z new) (sym e) good) (subst (λ z. (t : Terms) → IsDepthAllowed t → (x : List ℕ) (es : List Mark) → A t (b ∷ x) es ↔ RestsAt z new t x es) (sym e) f)
+  pub moves_at : (b : ℕ) (new : MachineState) (p : Place) → new.place ≡ p → before ≡ new.marks → (b < 128 → IsInMark p new.goal → ⊥) → Good p new → ((t : TreeTerms) → IsDepthAllowed t → (x : List ℕ) (es : List Mark) → A t (b ∷ x) es ↔ RestsAt p new t x es) → FollowsByte before A b new
+  moves_at b new p e m u good f = moves b new m (λ l h. u l (subst (λ z. IsInMark z new.goal) e h)) (subst (λ z. Good z new) (sym e) good) (subst (λ z. (t : TreeTerms) → IsDepthAllowed t → (x : List ℕ) (es : List Mark) → A t (b ∷ x) es ↔ RestsAt z new t x es) (sym e) f)
 
   -- before a fixed text
-  pub moves_word : (b : ℕ) (s : State) (goal : Goal) (word : List ℕ) (new : State) → new ≡ record s { place = places.Word; left = word; goal = goal } → before ≡ s.marks → (b < 128 → IsInMark places.Word goal → ⊥) → word ≢ [] → IsFixed goal word → GoodGoal goal (record s { place = places.Word; left = word; goal = goal }) → ((t : Terms) → IsDepthAllowed t → (x : List ℕ) (es : List Mark) → A t (b ∷ x) es ↔ Word word (ReachesGoal goal (record s { place = places.Word; left = word; goal = goal }) t) x es) → FollowsByte before A b new
+  pub moves_word : (b : ℕ) (s : MachineState) (goal : Goal) (word : List ℕ) (new : MachineState) → new ≡ record s { place = places.Word; left = word; goal = goal } → before ≡ s.marks → (b < 128 → IsInMark places.Word goal → ⊥) → word ≢ [] → IsFixed goal word → GoodGoal goal (record s { place = places.Word; left = word; goal = goal }) → ((t : TreeTerms) → IsDepthAllowed t → (x : List ℕ) (es : List Mark) → A t (b ∷ x) es ↔ Word word (ReachesGoal goal (record s { place = places.Word; left = word; goal = goal }) t) x es) → FollowsByte before A b new
   moves_word b s goal word new e m u n i good f = subst (λ z. FollowsByte before A b z) (sym e) (moves b (record s { place = places.Word; left = word; goal = goal }) m u (n, i, good) f)
 
   -- nothing is read or said
-  pub stays : (new : State) → before ≡ new.marks → (IsInMark new.place new.goal → ⊥) → Good new.place new → ((t : Terms) → IsDepthAllowed t → (x : List ℕ) (es : List Mark) → A t x es ↔ RestsAt new.place new t x es) → ReachesState before A new
+  pub stays : (new : MachineState) → before ≡ new.marks → (IsInMark new.place new.goal → ⊥) → Good new.place new → ((t : TreeTerms) → IsDepthAllowed t → (x : List ℕ) (es : List Mark) → A t x es ↔ RestsAt new.place new t x es) → ReachesState before A new
   stays new e u good f = record { good = good; unmarked = u; same = λ t l x says. same_from before (A t) (RestsAt new.place new t) x x says (Completes new t x says) (f t l x) (here before new e t x says) }
 
-module _ (before said : List Mark) (A B : Terms → List ℕ → List Mark → Type 0) where
+module _ (before said : List Mark) (A B : TreeTerms → List ℕ → List Mark → Type 0) where
   -- marks are said, and then K goes on
-  pub reached_saying : (new : State) → ((t : Terms) → IsDepthAllowed t → (x : List ℕ) (es : List Mark) → A t x es ↔ Saying said (B t) x es) → ReachesState (before ++ said) B new → ReachesState before A new
+  pub reached_saying : (new : MachineState) → ((t : TreeTerms) → IsDepthAllowed t → (x : List ℕ) (es : List Mark) → A t x es ↔ Saying said (B t) x es) → ReachesState (before ++ said) B new → ReachesState before A new
   reached_saying new f h = record { good = h.good; unmarked = h.unmarked; same = λ t l x says. same_saying before said (A t) (B t) x x says (Completes new t x says) (f t l x) (h.same t l x says) }
 
-  pub follows_saying : (b : ℕ) (new : State) → ((t : Terms) → IsDepthAllowed t → (x : List ℕ) (es : List Mark) → A t (b ∷ x) es ↔ Saying said (B t) x es) → ReachesState (before ++ said) B new → FollowsByte before A b new
+  pub follows_saying : (b : ℕ) (new : MachineState) → ((t : TreeTerms) → IsDepthAllowed t → (x : List ℕ) (es : List Mark) → A t (b ∷ x) es ↔ Saying said (B t) x es) → ReachesState (before ++ said) B new → FollowsByte before A b new
   follows_saying b new f h = record { good = h.good; unmarked = λ l. h.unmarked; same = λ t l x says. same_saying before said (A t) (B t) (b ∷ x) x says (Completes new t x says) (f t l x) (h.same t l x says) }

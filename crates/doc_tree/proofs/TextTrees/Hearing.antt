@@ -1,14 +1,14 @@
 -- What a visitor was told, and what waits.
-use Rattle.doc_tree.proofs.Words.{Err, Feeding, HandedOn, Heard, IsEnd, IsTaken, List, Mark, MatchOption, None, Ok, Option, ReadingFails, Refused, RefusesBytes, Relieved, Result, Some, State, TakesBytes, TreeFault, Visits, WasHeard, ap, append_assoc, arith, behind, drop, length, length-drop, refl, subst, sym, take, take-add, take_rest, ℕ, ◌++◌, ◌+◌, ◌-◌, ◌<◌, ◌∙◌, ◌≡◌, ◌≤◌}
+use Rattle.doc_tree.proofs.Words.{Err, Feeding, HandedOn, Heard, IsEnd, IsTaken, List, Mark, MatchOption, None, Ok, Option, ReadingFails, Refused, RefusesBytes, Relieved, Result, Some, MachineState, TakesBytes, TreeFault, Visits, WasHeard, ap, append_assoc, arith, behind, drop, length, length-drop, refl, subst, sym, take, take-add, take_rest, ℕ, ◌++◌, ◌+◌, ◌-◌, ◌<◌, ◌∙◌, ◌≡◌, ◌≤◌}
 use Rattle.doc_tree.specs.declared.fault.TreeFault.TheVariants as faults
 use Rattle.doc_tree.proofs.Behind.{over_after}
 use Rattle.doc_tree.proofs.TextTrees.Verdicts.{refused_fed, visited}
 
 -- a machine that is relieved
-pub relieved : (had : List Mark → Type 0) (s new : State) (told : List Mark) → had told → s.marks ≡ told ++ new.marks → new ≡ record s { marks = new.marks } → Relieved s new had
+pub relieved : (had : List Mark → Type 0) (s new : MachineState) (told : List Mark) → had told → s.marks ≡ told ++ new.marks → new ≡ record s { marks = new.marks } → Relieved s new had
 relieved had s new told h r e = record { told = told; has = h; rest = r; same = e }
 
-pub handed : (had : List Mark → Type 0) (f v : Feeding) (s : State) → f ≡ v → Relieved f.state s had → HandedOn v (record f { state = s }) had
+pub handed : (had : List Mark → Type 0) (f v : Feeding) (s : MachineState) → f ≡ v → Relieved f.state s had → HandedOn v (record f { state = s }) had
 handed had f v s e r = subst (λ z. HandedOn z (record f { state = s }) had) e (record { told = r.told; has = r.has; rest = r.rest; same = ap (λ z. record f { state = z }) r.same })
 
 -- where a reader wasn't refused

@@ -1,5 +1,5 @@
 -- What all the bytes say, or why they are no document.
-use Rattle.doc_tree.proofs.Words.{Char, CharacterRest, Chars, Completes, Continues, Document, Event, Feeding, Finish, Heard, IsApart, IsTaken, IsText, IsXmlText, List, Mark, MatchOption, None, NoneWithin, ReadingFails, ReadsDocument, Refused, Some, Spells, Start, Terms, TreeFault, Visits, WasHeard, Whole, [], any_encoding, ap, append-nil, append_assoc, arith, bounds, closed, codes, drop, false, gather, get_or, inl, inr, join, length, misc_over, no_attribute, no_declaration, normal_lines, refl, spread, subst, sym, take, ℕ, ◌++◌, ◌+◌, ◌<◌, ◌↔◌, ◌∙◌, ◌∷◌, ◌≡◌, clean_fixed}
+use Rattle.doc_tree.proofs.Words.{Char, CharacterRest, Chars, Completes, Continues, Document, Event, Feeding, Finish, Heard, IsApart, IsTaken, IsText, IsXmlText, List, Mark, MatchOption, None, NoneWithin, ReadingFails, ReadsDocument, Refused, Some, Spells, Start, TreeTerms, TreeFault, Visits, WasHeard, Whole, [], any_encoding, ap, append-nil, append_assoc, arith, bounds, closed, codes, drop, false, gather, get_or, inl, inr, join, length, misc_over, no_attribute, no_declaration, normal_lines, refl, spread, subst, sym, take, ℕ, ◌++◌, ◌+◌, ◌<◌, ◌↔◌, ◌∙◌, ◌∷◌, ◌≡◌, clean_fixed}
 use Rattle.doc_tree.specs.declared.characters.Awaited.TheVariants as awaits
 use Rattle.doc_tree.specs.declared.fault.TreeFault.TheVariants as faults
 use Rattle.doc_tree.proofs.TextTrees.LineFeeds.{allowed, continues_end, over_whole}
@@ -34,13 +34,13 @@ module _ (f : Feeding) (bytes : List ℕ) (t : IsTaken f bytes) where
       inr (inr (record { clean = t.clean; none = λ i. none i.characters; says = ap faults.Malformed t.counted }), text_refuses f.limit bytes none)
 
   -- the document is cut
-  pub cut_document : ((u : Terms) (says : List Mark) → Completes f.state u [] says → ⊥) → ReadingFails f.limit bytes (faults.Malformed f.count)
+  pub cut_document : ((u : TreeTerms) (says : List Mark) → Completes f.state u [] says → ⊥) → ReadingFails f.limit bytes (faults.Malformed f.count)
   cut_document n =
       let none : IsText bytes → ⊥ = λ i. n (as_deep i.document) _ ((continues_end f.state f.returned bytes t.continues (as_deep i.document) (as_deep_allowed i.document) _).0 (text_whole bytes i)) in
       inr (inr (record { clean = t.clean; none = none; says = ap faults.Malformed t.counted }), none_refuses f.limit bytes (λ says h. n bounds says ((continues_end f.state f.returned bytes t.continues bounds allowed says).0 h)))
 
   -- it is over, and this was told
-  module _ (whole : f.awaited ≡ awaits.First) (told : List Event) (says : f.state.marks ≡ spread told) (over : (u : Terms) (marks : List Mark) → Completes f.state u [] marks ↔ (marks ≡ f.state.marks)) (apart : IsApart told) where
+  module _ (whole : f.awaited ≡ awaits.First) (told : List Event) (says : f.state.marks ≡ spread told) (over : (u : TreeTerms) (marks : List Mark) → Completes f.state u [] marks ↔ (marks ≡ f.state.marks)) (apart : IsApart told) where
     all_read : ReadsDocument f.limit bytes told
     all_read = read_so f.limit bytes told (spells_whole f.awaited bytes whole t.spells) (clean_short f.limit bytes t.clean) (subst (λ z. Whole bounds (normal_lines bytes) z) says (over_whole f.state f.returned bytes t.continues over)) apart
 
@@ -106,7 +106,7 @@ gather_spreads (Start name attributes ∷ more) = ap (λ z. Start name attribute
 gather_spreads (Char c ∷ more) = spread_join c (gather more) ∙ ap (λ z. Char c ∷ z) (gather_spreads more)
 gather_spreads (Finish name ∷ more) = ap (λ z. Finish name ∷ z) (gather_spreads more)
 
-pub visited : (had : List Mark → Type 0) (f : Feeding) (bytes : List ℕ) → IsTaken f bytes → f.awaited ≡ awaits.First → ((u : Terms) (marks : List Mark) → Completes f.state u [] marks ↔ (marks ≡ f.state.marks)) → had f.state.marks → Visits had f.limit bytes
+pub visited : (had : List Mark → Type 0) (f : Feeding) (bytes : List ℕ) → IsTaken f bytes → f.awaited ≡ awaits.First → ((u : TreeTerms) (marks : List Mark) → Completes f.state u [] marks ↔ (marks ≡ f.state.marks)) → had f.state.marks → Visits had f.limit bytes
 visited had f bytes t whole over has =
     let says : f.state.marks ≡ spread (gather f.state.marks) = sym (gather_spreads f.state.marks) in
     let r : ReadsDocument f.limit bytes (gather f.state.marks) = all_read f bytes t whole (gather f.state.marks) says over (gather_apart f.state.marks) in

@@ -1,5 +1,5 @@
 -- What a whole text says, and the document that it is.
-use Rattle.doc_tree.proofs.Words.{After, Before, BodyRest, Bool, Declaration, Document, Finish, ForeignRest, IsDeclarationRead, IsSpecial, List, Mark, Marked, Misc, RootOrType, RootRest, Start, Terms, Version, VersionRest, Whole, [], ap, attribute_list, body_marks, body_nodes, body_text, codes, declaration_text, depth_left, document_element, document_text, events, gather, inl, inr, local_part, mark_text, misc_text, nodes_depth, refl, tag_text, version_text, ℕ, ◌++◌, ◌-◌, ◌∙◌, ◌∷◌, ◌≡◌, ◌≤◌}
+use Rattle.doc_tree.proofs.Words.{After, Before, BodyRest, Bool, Declaration, Document, Finish, ForeignRest, IsDeclarationRead, IsSpecial, List, Mark, Marked, Misc, RootOrType, RootRest, Start, TreeTerms, Version, VersionRest, Whole, [], ap, attribute_list, body_marks, body_nodes, body_text, codes, declaration_text, depth_left, document_element, document_text, events, gather, inl, inr, local_part, mark_text, misc_text, nodes_depth, refl, tag_text, version_text, ℕ, ◌++◌, ◌-◌, ◌∙◌, ◌∷◌, ◌≡◌, ◌≤◌}
 use Rattle.doc_tree.proofs.TextTrees.Depths.{body_plain, body_fit}
 use Rattle.doc_tree.proofs.TextTrees.MarkEvents.{body_gathers}
 
@@ -11,7 +11,7 @@ pub document_gathers : (d : Document) → gather (document_marks d) ≡ events (
 document_gathers d = body_gathers d.body (local_part d.tag.name) (attribute_list d.tag.attributes)
 
 -- A document that meets the terms, which this text is.
-pub record Held (t : Terms) (text : List ℕ) (marks : List Mark) : Type 0 where
+pub record Held (t : TreeTerms) (text : List ℕ) (marks : List Mark) : Type 0 where
   pub document : Document
   pub room : 1 ≤ depth_left t []
   pub deep : nodes_depth (body_nodes document.body) ≤ depth_left t [] - 1
@@ -20,7 +20,7 @@ pub record Held (t : Terms) (text : List ℕ) (marks : List Mark) : Type 0 where
   pub says : marks ≡ document_marks document
 
 -- The text ends with the `D` of a document type.
-pub record Typed (t : Terms) (text : List ℕ) (marks : List Mark) : Type 0 where
+pub record Typed (t : TreeTerms) (text : List ℕ) (marks : List Mark) : Type 0 where
   pub special : IsSpecial t.aim
   pub mark : Bool
   pub declaration : Declaration
@@ -29,7 +29,7 @@ pub record Typed (t : Terms) (text : List ℕ) (marks : List Mark) : Type 0 wher
   pub says : marks ≡ []
 
 -- It ends with the closing quote of an encoding that isn't read.
-pub record Foreigned (t : Terms) (text : List ℕ) (marks : List Mark) : Type 0 where
+pub record Foreigned (t : TreeTerms) (text : List ℕ) (marks : List Mark) : Type 0 where
   pub mark : Bool
   pub version : Version
   pub behind : List ℕ
@@ -37,12 +37,12 @@ pub record Foreigned (t : Terms) (text : List ℕ) (marks : List Mark) : Type 0 
   pub after : ForeignRest t behind marks
 
 -- Which of them a text is.
-pub data Texts (t : Terms) (text : List ℕ) (marks : List Mark) : Type 0 where
+pub data Texts (t : TreeTerms) (text : List ℕ) (marks : List Mark) : Type 0 where
   held : Held t text marks → Texts t text marks
   typed : Typed t text marks → Texts t text marks
   foreign : Foreigned t text marks → Texts t text marks
 
-root_text : (t : Terms) (mark : Bool) (d : Declaration) → IsDeclarationRead t.aim d → (m : Misc) (x text : List ℕ) (marks : List Mark) → text ≡ mark_text mark (declaration_text d (misc_text m (60 ∷ x))) → RootOrType t x marks → Texts t text marks
+root_text : (t : TreeTerms) (mark : Bool) (d : Declaration) → IsDeclarationRead t.aim d → (m : Misc) (x text : List ℕ) (marks : List Mark) → text ≡ mark_text mark (declaration_text d (misc_text m (60 ∷ x))) → RootOrType t x marks → Texts t text marks
 root_text t mark d read m x text marks e (inl b) =
     let r : BodyRest (depth_left t [] - 1) b.tag.name (attribute_list b.tag.attributes) (After t) b.behind marks = b.after in
     let a : After t r.behind r.later = r.after in
@@ -57,7 +57,7 @@ root_text t mark d read m x text marks e (inl b) =
     })
 root_text t mark d read m x text marks e (inr k) = typed (record { special = k.special; mark = mark; declaration = d; misc = m; same = e ∙ ap (λ z. mark_text mark (declaration_text d (misc_text m (60 ∷ z)))) k.text; says = k.says })
 
-marked_text : (t : Terms) (mark : Bool) (x text : List ℕ) (marks : List Mark) → text ≡ mark_text mark x → Marked t x marks → Texts t text marks
+marked_text : (t : TreeTerms) (mark : Bool) (x text : List ℕ) (marks : List Mark) → text ≡ mark_text mark x → Marked t x marks → Texts t text marks
 marked_text t mark x text marks e (inl m) =
     let b : Before t m.behind marks = m.after in
     root_text t mark m.declaration m.read b.misc b.behind text marks (e ∙ ap (mark_text mark) (m.text ∙ ap (declaration_text m.declaration) b.text)) b.after
@@ -65,18 +65,18 @@ marked_text t mark x text marks e (inr m) =
     let v : VersionRest t m.behind marks = m.after in
     foreign (record { mark = mark; version = v.version; behind = v.behind; same = e ∙ ap (mark_text mark) (m.text ∙ ap (λ z. codes "<?xml" ++ z) v.text); after = v.after })
 
-pub texts_of : (t : Terms) (text : List ℕ) (marks : List Mark) → Whole t text marks → Texts t text marks
+pub texts_of : (t : TreeTerms) (text : List ℕ) (marks : List Mark) → Whole t text marks → Texts t text marks
 texts_of t text marks w = marked_text t w.mark w.behind text marks w.text w.after
 
-only_held : (t : Terms) (text : List ℕ) (marks : List Mark) → (IsSpecial t.aim → ⊥) → Texts t text marks → Held t text marks
+only_held : (t : TreeTerms) (text : List ℕ) (marks : List Mark) → (IsSpecial t.aim → ⊥) → Texts t text marks → Held t text marks
 only_held t text marks n (held h) = h
 only_held t text marks n (typed h) = absurd (n h.special)
 only_held t text marks n (foreign h) = let k : ForeignRest t h.behind marks = h.after in absurd (n k.special)
 
-pub held_of : (t : Terms) (text : List ℕ) (marks : List Mark) → (IsSpecial t.aim → ⊥) → Whole t text marks → Held t text marks
+pub held_of : (t : TreeTerms) (text : List ℕ) (marks : List Mark) → (IsSpecial t.aim → ⊥) → Whole t text marks → Held t text marks
 held_of t text marks n w = only_held t text marks n (texts_of t text marks w)
 
-pub whole_of : (t : Terms) (d : Document) → 1 ≤ depth_left t [] → nodes_depth (body_nodes d.body) ≤ depth_left t [] - 1 → IsDeclarationRead t.aim d.declaration → Whole t (document_text d) (document_marks d)
+pub whole_of : (t : TreeTerms) (d : Document) → 1 ≤ depth_left t [] → nodes_depth (body_nodes d.body) ≤ depth_left t [] - 1 → IsDeclarationRead t.aim d.declaration → Whole t (document_text d) (document_marks d)
 whole_of t d room l read =
     let body_rest = body_text d.body d.tag.name (misc_text d.after []) in
     let root = misc_text d.before (60 ∷ tag_text d.tag body_rest) in

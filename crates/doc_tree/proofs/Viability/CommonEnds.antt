@@ -1,5 +1,5 @@
 -- Behind each byte that the machine and the characters take, some bytes complete both.
-use Rattle.doc_tree.proofs.Words.{Awaited, Bool, CharacterFollows, CharacterRest, Continues, Each, Good, IsFixed, IsInMark, IsXmlText, List, Mark, Marked, MeetsBoth, PassesByte, Spells, State, Terms, [], ap, append-nil, arith, eqb_tells, false, inl, inr, leb_tells, normal_lines, refl, subst, sym, true, unread, ℕ, ◌++◌, ◌<◌, ◌∙◌, ◌∷◌, ◌≡◌, ◌≤◌, ByteBetween, OneMore, TwoMore, cond}
+use Rattle.doc_tree.proofs.Words.{Awaited, Bool, CharacterFollows, CharacterRest, Continues, Each, Good, IsFixed, IsInMark, IsXmlText, List, Mark, Marked, MeetsBoth, PassesByte, Spells, MachineState, TreeTerms, [], ap, append-nil, arith, eqb_tells, false, inl, inr, leb_tells, normal_lines, refl, subst, sym, true, unread, ℕ, ◌++◌, ◌<◌, ◌∙◌, ◌∷◌, ◌≡◌, ◌≤◌, ByteBetween, OneMore, TwoMore, cond}
 use Rattle.doc_tree.specs.declared.characters.Awaited.TheVariants as awaits
 use Rattle.doc_tree.specs.declared.machine.Goal.TheVariants as goals
 use Rattle.doc_tree.proofs.ByteGrammar.{IsMultibyte, marked_stuck}
@@ -52,13 +52,13 @@ module _ (w v : Awaited) (b : ℕ) (f : CharacterFollows w b v) where
   fixed_not_first left (inl e) k = first_inner 187 (omega arith) (omega arith) (191 ∷ []) (subst (λ z. IsXmlText (z ++ [])) e (k [] no_text))
   fixed_not_first left (inr e) k = first_inner 191 (omega arith) (omega arith) [] (subst (λ z. IsXmlText (z ++ [])) e (k [] no_text))
 
-  mark_high : (s : State) → Good s.place s → Marks (CharacterRest w) s → IsInMark s.place s.goal → 128 ≤ b
+  mark_high : (s : MachineState) → Good s.place s → Marks (CharacterRest w) s → IsInMark s.place s.goal → 128 ≤ b
   mark_high s g m i = elim (first_or_inside w (b ∷ (filling v).0) before) [
     | inl e ↦ absurd (fixed_not_first s.left (mark_fixed s g i) (subst (λ z. Fills (CharacterRest z) s.left) e (m i)))
     | inr k ↦ k.0
   ]
 
-  pub meets_on : (s : State) (r : Bool) (new : State) (returns : Bool) → Good s.place s → PassesByte s r b new returns → Marks (CharacterRest w) s → Met (CharacterRest v) new returns × Marks (CharacterRest v) new
+  pub meets_on : (s : MachineState) (r : Bool) (new : MachineState) (returns : Bool) → Good s.place s → PassesByte s r b new returns → Marks (CharacterRest w) s → Met (CharacterRest v) new returns × Marks (CharacterRest v) new
   meets_on s r new returns g p m = let k = filling v in meets (CharacterRest w) (CharacterRest v) s r b new returns f p g m (mark_high s g m) k.0 k.1 k.2 low mark_first
 
 -- line ends leave bytes from 128 on, and no such comes from another
@@ -87,7 +87,7 @@ head_low (d ∷ ds) c y l e = elim (leb_tells 128 d) [
 ]
 
 -- behind the mark a document begins, with a byte of ASCII
-marked_low : (u : Terms) (y : List ℕ) (es : List Mark) → Marked u y es → (c : ℕ) × (z : List ℕ) × (y ≡ c ∷ z) × (c < 128)
+marked_low : (u : TreeTerms) (y : List ℕ) (es : List Mark) → Marked u y es → (c : ℕ) × (z : List ℕ) × (y ≡ c ∷ z) × (c < 128)
 marked_low u [] es h = absurd (marked_lasts u es h)
 marked_low u (c ∷ z) es h = elim (leb_tells 128 c) [
   | inl k ↦ (let m = k.1 in absurd (marked_stuck u c z es (high_space c m) (λ e. omega arith) h))
@@ -153,7 +153,7 @@ fixed_inner : (left : List ℕ) → IsFixed goals.Marked left → Each IsInner l
 fixed_inner left (inl e) = subst (Each IsInner) (sym e) ((omega arith, omega arith), ((omega arith, omega arith), tt))
 fixed_inner left (inr e) = subst (Each IsInner) (sym e) ((omega arith, omega arith), tt)
 
-marks_of : (w : Awaited) (s : State) (r : Bool) → Good s.place s → Met (CharacterRest w) s r → Marks (CharacterRest w) s
+marks_of : (w : Awaited) (s : MachineState) (r : Bool) → Good s.place s → Met (CharacterRest w) s r → Marks (CharacterRest w) s
 marks_of w s r g m i =
     let d = m.document in
     let t = mark_says s g i (normal_lines (unread r m.rest)) d.later d.rest in
@@ -163,7 +163,7 @@ marks_of w s r g m i =
     character_cut w s.left f x.0 x.1 x.3 (subst (CharacterRest w) x.2 (unread_rest w r m.rest m.character))
 
 -- What completed characters and document before the byte may be chosen so that it does behind it.
-pub fed_on : (s : State) (returned : Bool) (w : Awaited) (seen : List ℕ) (b : ℕ) (t : State) (returns : Bool) (v : Awaited) → Continues s returned seen → Spells w seen → MeetsBoth w s returned → PassesByte s returned b t returns → CharacterFollows w b v → MeetsBoth v t returns
+pub fed_on : (s : MachineState) (returned : Bool) (w : Awaited) (seen : List ℕ) (b : ℕ) (t : MachineState) (returns : Bool) (v : Awaited) → Continues s returned seen → Spells w seen → MeetsBoth w s returned → PassesByte s returned b t returns → CharacterFollows w b v → MeetsBoth v t returns
 fed_on s returned w seen b t returns v c p m q f =
     let k = (meets_on w v b f s returned t returns c.good q (marks_of w s returned c.good (record { rest = m.rest; character = m.character; says = m.says; document = m.document }))).0 in
     record { rest = k.rest; character = k.character; says = k.says; document = k.document }

@@ -1,6 +1,6 @@
 -- Where a document type shows, and an encoding that isn't read.
 use Rattle.doc_tree.proofs.ByteGrammar.{quote_range}
-use Rattle.doc_tree.proofs.Words.{After, Aim, Around, Before, Blocks, BodyRest, Bool, Completes, Continues, Declaration, Equals, FieldValue, Finish, Finishes, Foreign, ForeignRest, Gap, Good, IsDeclarationRead, IsDoctype, IsDoctypeAt, IsEncodingAt, IsFieldValue, IsOther, IsQuote, IsReadEncoding, List, Mark, Misc, RestsAt, Start, State, Tag, Terms, Version, Whole, [], any, ap, append-nil, arith, begins_with_line_feed, closed, codes, cond, declaration_text, declared, encoded, equals_text, false, inl, inr, length, length-append, mark_text, misc_over, misc_text, no_attribute, normal_lines, refl, special, subst, sym, true, unread, version_text, ℕ, ◌++◌, ◌<◌, ◌==◌, ◌∙◌, ◌∷◌, ◌≡◌, ◌≤◌, ◌⊎◌}
+use Rattle.doc_tree.proofs.Words.{After, Aim, Around, Before, Blocks, BodyRest, Bool, Completes, Continues, Declaration, Equals, FieldValue, Finish, Finishes, Foreign, ForeignRest, Gap, Good, IsDeclarationRead, IsDoctype, IsDoctypeAt, IsEncodingAt, IsFieldValue, IsOther, IsQuote, IsReadEncoding, List, Mark, Misc, RestsAt, Start, MachineState, Tag, TreeTerms, Version, Whole, [], any, ap, append-nil, arith, begins_with_line_feed, closed, codes, cond, declaration_text, declared, encoded, equals_text, false, inl, inr, length, length-append, mark_text, misc_over, misc_text, no_attribute, normal_lines, refl, special, subst, sym, true, unread, version_text, ℕ, ◌++◌, ◌<◌, ◌==◌, ◌∙◌, ◌∷◌, ◌≡◌, ◌≤◌, ◌⊎◌}
 use Rattle.doc_tree.specs.declared.declaration.Field.TheVariants as fields
 use Rattle.doc_tree.specs.declared.machine.Place.TheVariants as places
 use Rattle.doc_tree.proofs.TextTrees.LineFeeds.{allowed, continues_end}
@@ -37,11 +37,11 @@ lines_so b (c ∷ cs) l =
     ap (λ z. cond (c == 13) (cond z N (10 ∷ N)) (c ∷ N)) (begins_so b cs l) ∙ (ap (λ z. cond (c == 13) (cond (begins_with_line_feed cs) z (10 ∷ z)) (c ∷ z)) (lines_so b cs l) ∙ choose_carries (c == 13) (begins_with_line_feed cs) c (normal_lines cs) (b ∷ []))
 
 -- texts that end with a document type's `D` or an encoding's quote
-abbrev pub specials : Terms
+abbrev pub specials : TreeTerms
 specials = record { depth = 32; aim = special }
 
 -- documents of any encoding
-abbrev pub named : Terms
+abbrev pub named : TreeTerms
 named = record { depth = 32; aim = any }
 
 read_free : (aim : Aim) → ((name : List ℕ) → IsReadEncoding aim name) → (d : Declaration) → IsDeclarationRead aim d
@@ -128,7 +128,7 @@ shown_of seen b marks n (held h) = absurd (n h)
 shown_of seen b marks n (typed h) = inl (typed_at seen b marks h)
 shown_of seen b marks n (foreign h) = inr (foreign_at seen b marks h)
 
-module _ (s : State) (returned : Bool) (seen : List ℕ) (b : ℕ) (l : 13 < b) (c : Continues s returned seen) where
+module _ (s : MachineState) (returned : Bool) (seen : List ℕ) (b : ℕ) (l : 13 < b) (c : Continues s returned seen) where
   last_line : normal_lines (unread returned (b ∷ [])) ≡ b ∷ []
   last_line = plain_line returned b [] l
 
@@ -148,7 +148,7 @@ module _ (s : State) (returned : Bool) (seen : List ℕ) (b : ℕ) (l : 13 < b) 
       shown_of seen b says (λ g. let p = held_ends says g in n p.0 p.1) (texts_of specials (normal_lines seen ++ (b ∷ [])) says w)
 
 -- a document can't end with the quote
-no_gap : (s : State) (b : ℕ) → IsOther s b → IsQuote s.quote → (es : List Mark) → RestsAt s.place s named (b ∷ []) es → ⊥
+no_gap : (s : MachineState) (b : ℕ) → IsOther s b → IsQuote s.quote → (es : List Mark) → RestsAt s.place s named (b ∷ []) es → ⊥
 no_gap s b o q es h =
     let e : b ≡ s.quote = o.2 in
     let f : FieldValue named s.field (Gap s.field named) s.value s.quote (s.quote ∷ []) es = subst (λ z. RestsAt places.FieldValue s named (z ∷ []) es) e (subst (λ z. RestsAt z s named (b ∷ []) es) o.0 h) in
@@ -157,11 +157,11 @@ no_gap s b o q es h =
 not_letter : (q : ℕ) → IsQuote q → q ≡ 68 → ⊥
 not_letter q i e = grind arith
 
-nothing_behind : (t : Terms) → After t [] []
+nothing_behind : (t : TreeTerms) → After t [] []
 nothing_behind t = record { misc = misc_over; text = refl; says = refl }
 
 -- a document says something
-nothing_said : (s : State) (returned : Bool) (bytes : List ℕ) → Continues s returned bytes → s.place ≡ places.Epilog → Completes s specials [] [] → ⊥
+nothing_said : (s : MachineState) (returned : Bool) (bytes : List ℕ) → Continues s returned bytes → s.place ≡ places.Epilog → Completes s specials [] [] → ⊥
 nothing_said s returned bytes c e k =
     let r : RestsAt s.place s named [] [] = subst (λ z. RestsAt z s named [] []) (sym e) (nothing_behind named) in
     let d : Completes s named [] s.marks = record { later = []; whole = sym (append-nil s.marks); rest = r } in
@@ -170,7 +170,7 @@ nothing_said s returned bytes c e k =
     absurd (cc)
 
 -- Where the machine stands before the `D` of a document type.
-pub doctype_at : (s : State) (returned : Bool) (seen : List ℕ) (b : ℕ) → IsDoctype s b → Continues s returned seen → IsDoctypeAt seen b
+pub doctype_at : (s : MachineState) (returned : Bool) (seen : List ℕ) (b : ℕ) → IsDoctype s b → Continues s returned seen → IsDoctypeAt seen b
 doctype_at s returned seen b d c =
     let e : b ≡ 68 = d.2 in
     let l : 13 < b = omega arith in
@@ -183,7 +183,7 @@ doctype_at s returned seen b d c =
     ]
 
 -- Where it stands before the closing quote of an encoding that isn't read.
-pub encoding_at : (s : State) (returned : Bool) (seen : List ℕ) (b : ℕ) → IsOther s b → Continues s returned seen → IsEncodingAt seen b
+pub encoding_at : (s : MachineState) (returned : Bool) (seen : List ℕ) (b : ℕ) → IsOther s b → Continues s returned seen → IsEncodingAt seen b
 encoding_at s returned seen b o c =
     let g : Good places.FieldValue s = subst (λ z. Good z s) o.0 c.good in
     let q : IsQuote s.quote = g.1 in
@@ -200,13 +200,13 @@ encoding_at s returned seen b o c =
     ]
 
 -- A byte that was taken shows neither.
-pub taken_plain : (s : State) (returned : Bool) (seen : List ℕ) (b : ℕ) → Continues s returned (seen ++ (b ∷ [])) → IsShownAt seen b → ⊥
+pub taken_plain : (s : MachineState) (returned : Bool) (seen : List ℕ) (b : ℕ) → Continues s returned (seen ++ (b ∷ [])) → IsShownAt seen b → ⊥
 taken_plain s returned seen b c h =
     let k : Completes s specials [] [] = (continues_end s returned (seen ++ (b ∷ [])) c specials allowed []).0 (shown_whole seen b h) in
     not_over specials s (λ e. nothing_said s returned (seen ++ (b ∷ [])) c e k) c.good [] k
 
 -- Nor does one that was refused.
-pub refused_plain : (s : State) (returned : Bool) (seen : List ℕ) (b : ℕ) → Continues s returned seen → Blocks s returned b → IsShownAt seen b → ⊥
+pub refused_plain : (s : MachineState) (returned : Bool) (seen : List ℕ) (b : ℕ) → Continues s returned seen → Blocks s returned b → IsShownAt seen b → ⊥
 refused_plain s returned seen b c n h = n specials allowed [] [] ((c.same specials allowed (b ∷ []) []).0 (shown_whole seen b h))
 
 -- Two bytes at least stand before the `D` of a document type.
@@ -229,7 +229,7 @@ small_gap : Gap fields.Encoding named (codes "?><a/>") (Start (97 ∷ []) [] ∷
 small_gap = inl (record { behind = codes "<a/>"; text = refl; after = small_root })
 
 -- Some document of a small depth goes on behind the quote of an encoding that isn't read.
-pub encoding_goes : (s : State) (returned : Bool) (seen : List ℕ) (b : ℕ) → IsOther s b → Continues s returned seen → (says : List Mark) × Whole named (normal_lines (seen ++ (b ∷ codes "?><a/>"))) says
+pub encoding_goes : (s : MachineState) (returned : Bool) (seen : List ℕ) (b : ℕ) → IsOther s b → Continues s returned seen → (says : List Mark) × Whole named (normal_lines (seen ++ (b ∷ codes "?><a/>"))) says
 encoding_goes s returned seen b o c =
     let g : Good places.FieldValue s = subst (λ z. Good z s) o.0 c.good in
     let q : IsQuote s.quote = g.1 in

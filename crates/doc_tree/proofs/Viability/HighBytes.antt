@@ -1,5 +1,5 @@
 -- Behind a byte from 128 on any others may stand, wherever it may stand at all.
-use Rattle.doc_tree.proofs.Words.{Around, Attribute, Before, Behind, BehindValue, Between, BodyRest, Char, Choice, CommentRest, Each, EndsBehind, Field, FieldValue, Finish, FirstOver, Gap, Goal, Good, InKey, InTag, Insides, IsEncodingChar, IsFixed, IsInMark, IsNameRest, IsNameStart, IsQuote, IsRadix, IsSpace, List, Mark, Marked, NumeralRest, Part, PiOver, PiText, Place, ReachesGoal, RefRest, RestsAt, Saying, SectionRest, Start, State, TagChoice, TagFirst, TagRest, Terms, Then, ValueRest, Word, [], arith, attribute_list, body_marks, brackets, depth_left, digit_value, first_letter, inl, inr, keep, local_part, map, pending_brackets, refl, subst, sym, ℕ, ◌++◌, ◌-◌, ◌↔◌, ◌∷◌, ◌≡◌, ◌≢◌, ◌≤◌}
+use Rattle.doc_tree.proofs.Words.{Around, Attribute, Before, Behind, BehindValue, Between, BodyRest, Char, Choice, CommentRest, Each, EndsBehind, Field, FieldValue, Finish, FirstOver, Gap, Goal, Good, InKey, InTag, Insides, IsEncodingChar, IsFixed, IsInMark, IsNameRest, IsNameStart, IsQuote, IsRadix, IsSpace, List, Mark, Marked, NumeralRest, Part, PiOver, PiText, Place, ReachesGoal, RefRest, RestsAt, Saying, SectionRest, Start, MachineState, TagChoice, TagFirst, TagRest, TreeTerms, Then, ValueRest, Word, [], arith, attribute_list, body_marks, brackets, depth_left, digit_value, first_letter, inl, inr, keep, local_part, map, pending_brackets, refl, subst, sym, ℕ, ◌++◌, ◌-◌, ◌↔◌, ◌∷◌, ◌≡◌, ◌≢◌, ◌≤◌}
 use Rattle.doc_tree.specs.declared.declaration.Field.TheVariants as fields
 use Rattle.doc_tree.specs.declared.names.Part.TheVariants as parts
 use Rattle.doc_tree.specs.declared.machine.Place.TheVariants as places
@@ -27,7 +27,7 @@ high_digit : (b : ℕ) → 128 ≤ b → digit_value b ≡ 36
 high_digit b l = grind arith
 
 -- content
-module _ (t : Terms) (names : List (List ℕ)) where
+module _ (t : TreeTerms) (names : List (List ℕ)) where
   content_in : (x : List ℕ) (es : List Mark) → Insides 0 names t x es → (more : List ℕ) → Each IsMultibyte more → (says : List Mark) × Insides 0 names t (more ++ x) says
   content_in x es h [] m = (es, h)
   content_in x es h (c ∷ cs) m =
@@ -101,7 +101,7 @@ module _ (K : List ℕ → List Mark → Type 0) where
       (k.0, (section_run K n b (more ++ x) k.0 j (λ e. omega arith) (λ _ e. omega arith)).1 k.1)
 
 -- where none may stand
-module _ (u : Terms) (b : ℕ) (l : 128 ≤ b) where
+module _ (u : TreeTerms) (b : ℕ) (l : 128 ≤ b) where
   letter_low : (f : Field) → first_letter f ≤ 118
   letter_low fields.Before = omega arith
   letter_low _ = omega arith
@@ -134,7 +134,7 @@ module _ (u : Terms) (b : ℕ) (l : 128 ≤ b) where
   less_none : (names : List (List ℕ)) (x : List ℕ) (es : List Mark) → Insides 0 names u (60 ∷ b ∷ x) es → ⊥
   less_none names x es h = first_none names x es (content_tag u names b x es (λ e. omega arith) (λ e. omega arith) (λ e. omega arith) h)
 
-  choice_tag_none : (s : State) (x : List ℕ) (es : List Mark) → TagChoice s u (b ∷ x) es → ⊥
+  choice_tag_none : (s : MachineState) (x : List ℕ) (es : List Mark) → TagChoice s u (b ∷ x) es → ⊥
   choice_tag_none s x es h = elim (body_begins _ _ _ _ b x es ((tag_ends u s b x es (high_start b l)).0 h)) [ inl e ↦ omega arith | inr e ↦ omega arith ]
 
   -- a name that goes on, or what is behind it
@@ -162,7 +162,7 @@ module _ (u : Terms) (b : ℕ) (l : 128 ≤ b) where
       let k = (fixed g (w ∷ ws) i m).0.1 in omega arith
 
   -- at each place
-  pub absorbs : (p : Place) (s : State) → p ≢ places.Start → Good p s → (IsInMark p s.goal → ⊥) → Absorbs (RestsAt p s u) b
+  pub absorbs : (p : Place) (s : MachineState) → p ≢ places.Start → Good p s → (IsInMark p s.goal → ⊥) → Absorbs (RestsAt p s u) b
   absorbs places.Start s n g i = absurd (n refl)
   absorbs places.Marked s n g i = never (Marked u) b (λ x es h. marked_stuck u b x es (high_space b l) (λ e. omega arith) h)
   absorbs places.FirstLess s n g i = never (λ x. Marked u (60 ∷ x)) b marked_none

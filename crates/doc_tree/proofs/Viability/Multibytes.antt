@@ -1,5 +1,5 @@
 -- The machine behind the first bytes of a character of more than one.
-use Rattle.doc_tree.proofs.Words.{Bool, Each, Finishes, Goal, Good, IsFixed, IsInMark, IsPrintable, IsXmlText, List, Mark, Marked, PassesByte, Place, ReachesGoal, RestsAt, State, Terms, Whole, Word, [], ap, arith, eqb_tells, inl, inr, leb_tells, refl, subst, sym, ℕ, ◌++◌, ◌<◌, ◌↔◌, ◌∙◌, ◌∷◌, ◌≡◌, ◌≢◌, ◌≤◌, ◌⊎◌, each_append}
+use Rattle.doc_tree.proofs.Words.{Bool, Each, Finishes, Goal, Good, IsFixed, IsInMark, IsPrintable, IsXmlText, List, Mark, Marked, PassesByte, Place, ReachesGoal, RestsAt, MachineState, TreeTerms, Whole, Word, [], ap, arith, eqb_tells, inl, inr, leb_tells, refl, subst, sym, ℕ, ◌++◌, ◌<◌, ◌↔◌, ◌∙◌, ◌∷◌, ◌≡◌, ◌≢◌, ◌≤◌, ◌⊎◌, each_append}
 use Rattle.doc_tree.specs.declared.machine.Goal.TheVariants as goals
 use Rattle.doc_tree.specs.declared.machine.Place.TheVariants as places
 use Rattle.doc_tree.proofs.Viability.HighBytes.{Absorbs, absorbs, high_space}
@@ -9,10 +9,10 @@ use Rattle.doc_tree.proofs.Viability.Completions.{Completion}
 use Rattle.doc_tree.proofs.Viability.Prefixes.{IsSteady, steady, printable_steady, mark_steady, printable_xml, Open, open_here, open_mark}
 
 -- Whatever bytes from 128 on come, printable ones end a document behind them.
-abbrev pub OpenText : State → Bool → Type 0
+abbrev pub OpenText : MachineState → Bool → Type 0
 OpenText s r = (more : List ℕ) → Each IsMultibyte more → Open 32 s r more
 
-abbrev t : Terms
+abbrev t : TreeTerms
 t = wide 32
 
 in_mark : (p : Place) (g : Goal) → (IsInMark p g → ⊥) ⊎ ((p ≡ places.Word) × (g ≡ goals.Marked))
@@ -26,17 +26,17 @@ at_start _ = inr (λ e. cc)
 is_mark : (p : Place) (g : Goal) → p ≡ places.Word → g ≡ goals.Marked → IsInMark p g
 is_mark p g e f = subst (λ z. IsInMark z g) (sym e) (subst (λ z. IsInMark places.Word z) (sym f) tt)
 
-mark_left : (s : State) → Good s.place s → s.place ≡ places.Word → s.goal ≡ goals.Marked → IsFixed goals.Marked s.left
+mark_left : (s : MachineState) → Good s.place s → s.place ≡ places.Word → s.goal ≡ goals.Marked → IsFixed goals.Marked s.left
 mark_left s g p q = let k : Good places.Word s = subst (λ z. Good z s) p g in subst (λ z. IsFixed z s.left) q k.1
 
-pub mark_fixed : (s : State) → Good s.place s → IsInMark s.place s.goal → IsFixed goals.Marked s.left
+pub mark_fixed : (s : MachineState) → Good s.place s → IsInMark s.place s.goal → IsFixed goals.Marked s.left
 mark_fixed s g m = elim (in_mark s.place s.goal) [ inl n ↦ absurd (n m) | inr q ↦ mark_left s g q.0 q.1 ]
 
 -- what follows in the mark
-mark_text : (s : State) → s.place ≡ places.Word → s.goal ≡ goals.Marked → (x : List ℕ) (es : List Mark) → RestsAt s.place s t x es → Word s.left (Marked t) x es
+mark_text : (s : MachineState) → s.place ≡ places.Word → s.goal ≡ goals.Marked → (x : List ℕ) (es : List Mark) → RestsAt s.place s t x es → Word s.left (Marked t) x es
 mark_text s p q x es h = let k : Word s.left (ReachesGoal s.goal s t) x es = subst (λ z. RestsAt z s t x es) p h in subst (λ z. Word s.left (ReachesGoal z s t) x es) q k
 
-pub mark_says : (s : State) → Good s.place s → IsInMark s.place s.goal → (x : List ℕ) (es : List Mark) → RestsAt s.place s t x es → Word s.left (Marked t) x es
+pub mark_says : (s : MachineState) → Good s.place s → IsInMark s.place s.goal → (x : List ℕ) (es : List Mark) → RestsAt s.place s t x es → Word s.left (Marked t) x es
 mark_says s g m x es h = elim (in_mark s.place s.goal) [ inl n ↦ absurd (n m) | inr q ↦ mark_text s q.0 q.1 x es h ]
 
 fixed_first : (left x y : List ℕ) (b : ℕ) → IsFixed goals.Marked left → b ∷ x ≡ left ++ y → (b ≡ 187) ⊎ (b ≡ 191)
@@ -69,17 +69,17 @@ tail_same left x y other (inr a) (inl j) h e = let k : 191 ∷ x ≡ 187 ∷ 191
 tail_same left x y other (inr a) (inr j) h e = a ∙ sym j
 
 -- bytes that are no line ends, before and behind the layer
-rests_of : (s : State) (r : Bool) (x : List ℕ) (es : List Mark) → Each IsSteady x → Finishes s r t x es → (later : List Mark) × (es ≡ s.marks ++ later) × RestsAt s.place s t x later
+rests_of : (s : MachineState) (r : Bool) (x : List ℕ) (es : List Mark) → Each IsSteady x → Finishes s r t x es → (later : List Mark) × (es ≡ s.marks ++ later) × RestsAt s.place s t x later
 rests_of s r x es h f = (f.later, f.whole, subst (λ z. RestsAt s.place s t z f.later) (steady r x h) f.rest)
 
-finishes_of : (s : State) (r : Bool) (x : List ℕ) (later : List Mark) → Each IsSteady x → RestsAt s.place s t x later → Finishes s r t x (s.marks ++ later)
+finishes_of : (s : MachineState) (r : Bool) (x : List ℕ) (later : List Mark) → Each IsSteady x → RestsAt s.place s t x later → Finishes s r t x (s.marks ++ later)
 finishes_of s r x later h k = record { later = later; whole = refl; rest = subst (λ z. RestsAt s.place s t z later) (sym (steady r x h)) k }
 
-open_steady : (s : State) (r : Bool) (more : List ℕ) (o : Open 32 s r more) → Each IsSteady more → Each IsSteady (more ++ o.bytes)
+open_steady : (s : MachineState) (r : Bool) (more : List ℕ) (o : Open 32 s r more) → Each IsSteady more → Each IsSteady (more ++ o.bytes)
 open_steady s r more o h = each_append IsSteady more o.bytes h (printable_steady o.bytes o.printable)
 
 -- Between characters the machine isn't in the mark.
-pub open_unmarked : (s : State) (r : Bool) → Good s.place s → Open 32 s r [] → IsInMark s.place s.goal → ⊥
+pub open_unmarked : (s : MachineState) (r : Bool) → Good s.place s → Open 32 s r [] → IsInMark s.place s.goal → ⊥
 open_unmarked s r g o m = elim (in_mark s.place s.goal) [
   | inl n ↦ n m
   | inr p ↦ (
@@ -89,10 +89,10 @@ open_unmarked s r g o m = elim (in_mark s.place s.goal) [
 ]
 
 -- what the old state finishes where the new one does
-back : (s : State) (r : Bool) (b : ℕ) (new : State) (returns : Bool) (more : List ℕ) → 128 ≤ b → Each IsSteady more → PassesByte s r b new returns → (o : Open 32 new returns more) → (later : List Mark) × (o.marks ≡ s.marks ++ later) × RestsAt s.place s t (b ∷ (more ++ o.bytes)) later
+back : (s : MachineState) (r : Bool) (b : ℕ) (new : MachineState) (returns : Bool) (more : List ℕ) → 128 ≤ b → Each IsSteady more → PassesByte s r b new returns → (o : Open 32 new returns more) → (later : List Mark) × (o.marks ≡ s.marks ++ later) × RestsAt s.place s t (b ∷ (more ++ o.bytes)) later
 back s r b new returns more l h p o = rests_of s r (b ∷ (more ++ o.bytes)) o.marks (omega arith, open_steady new returns more o h) ((p.same t (omega arith) (more ++ o.bytes) o.marks).1 o.rest)
 
-module _ (s : State) (r : Bool) (b : ℕ) (new : State) (returns : Bool) (l : 128 ≤ b) (p : PassesByte s r b new returns) where
+module _ (s : MachineState) (r : Bool) (b : ℕ) (new : MachineState) (returns : Bool) (l : 128 ≤ b) (p : PassesByte s r b new returns) where
   -- any others may come
   others : Absorbs (RestsAt s.place s t) b → Open 32 new returns [] → OpenText new returns
   others a o more h =
@@ -188,7 +188,7 @@ module _ (s : State) (r : Bool) (b : ℕ) (new : State) (returns : Bool) (l : 12
   ]
 
 -- Some bytes complete a character, in whatever way, and a document at once.
-pub record Met (C : List ℕ → Type 0) (s : State) (r : Bool) : Type 0 where
+pub record Met (C : List ℕ → Type 0) (s : MachineState) (r : Bool) : Type 0 where
   pub rest : List ℕ
   pub character : C rest
   pub says : List Mark
@@ -198,15 +198,15 @@ pub record Met (C : List ℕ → Type 0) (s : State) (r : Bool) : Type 0 where
 abbrev pub Fills : (List ℕ → Type 0) → List ℕ → Type 0
 Fills C more = (x : List ℕ) → IsXmlText x → C (more ++ x)
 
-met_of : (C : List ℕ → Type 0) (s : State) (r : Bool) (more : List ℕ) → Open 32 s r more → Fills C more → Met C s r
+met_of : (C : List ℕ → Type 0) (s : MachineState) (r : Bool) (more : List ℕ) → Open 32 s r more → Fills C more → Met C s r
 met_of C s r more o f = record { rest = more ++ o.bytes; character = f o.bytes (printable_xml o.bytes o.printable); says = o.marks; document = o.rest }
 
 -- In the mark, its own bytes complete the character.
-abbrev pub Marks : (List ℕ → Type 0) → State → Type 0
+abbrev pub Marks : (List ℕ → Type 0) → MachineState → Type 0
 Marks C s = IsInMark s.place s.goal → Fills C s.left
 
 -- A byte that the machine and the characters take: the character before it is completed by W, that behind it by V.
-module _ (W V : List ℕ → Type 0) (s : State) (r : Bool) (b : ℕ) (new : State) (returns : Bool) (follows : (x : List ℕ) → W (b ∷ x) ↔ V x) (p : PassesByte s r b new returns) (g : Good s.place s) where
+module _ (W V : List ℕ → Type 0) (s : MachineState) (r : Bool) (b : ℕ) (new : MachineState) (returns : Bool) (follows : (x : List ℕ) → W (b ∷ x) ↔ V x) (p : PassesByte s r b new returns) (g : Good s.place s) where
   abbrev Goes : Type 0
   Goes = Met V new returns × Marks V new
 

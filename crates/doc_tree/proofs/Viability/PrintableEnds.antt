@@ -1,5 +1,5 @@
 -- At each place of the machine some printable bytes complete a document.
-use Rattle.doc_tree.proofs.Words.{After, Around, Attribute, AttributeValue, Before, Behind, Between, Bool, Char, Choice, CommentRest, Each, Emptied, EndsDeclaration, Field, FieldOver, FieldRest, FieldValue, Finish, FirstOver, Gap, GapRest, Goal, Good, GoodGoal, GoodReference, GoodRound, GoodTag, InBody, InKey, InTag, Insides, IsFieldValue, IsFixed, IsInMark, IsNameRest, IsPrintable, IsSpace, IsValueBegun, KeyOver, List, Mark, Marked, Never, Next1, Next2, Or, PiOver, PiRest, Place, ReachesGoal, RefRest, RestsAt, Round, Some1, Start, State, TagChoice, TagRest, Terms, Then, Valued, Whole, Word, [], any, arith, depth_left, encode_utf8, false, field_name, inl, inr, keep, local_part, map, refl, suc, true, ℕ, ◌++◌, ◌-◌, ◌∷◌, ◌≢◌, ◌≤◌}
+use Rattle.doc_tree.proofs.Words.{After, Around, Attribute, AttributeValue, Before, Behind, Between, Bool, Char, Choice, CommentRest, Each, Emptied, EndsDeclaration, Field, FieldOver, FieldRest, FieldValue, Finish, FirstOver, Gap, GapRest, Goal, Good, GoodGoal, GoodReference, GoodRound, GoodTag, InBody, InKey, InTag, Insides, IsFieldValue, IsFixed, IsInMark, IsNameRest, IsPrintable, IsSpace, IsValueBegun, KeyOver, List, Mark, Marked, Never, Next1, Next2, Or, PiOver, PiRest, Place, ReachesGoal, RefRest, RestsAt, Round, Some1, Start, MachineState, TagChoice, TagRest, TreeTerms, Then, Valued, Whole, Word, [], any, arith, depth_left, encode_utf8, false, field_name, inl, inr, keep, local_part, map, refl, suc, true, ℕ, ◌++◌, ◌-◌, ◌∷◌, ◌≢◌, ◌≤◌}
 use Rattle.doc_tree.specs.declared.declaration.Field.TheVariants as fields
 use Rattle.doc_tree.specs.declared.names.Part.TheVariants as parts
 use Rattle.doc_tree.specs.declared.machine.Round.TheVariants as rounds
@@ -11,7 +11,7 @@ use Rattle.doc_tree.proofs.Viability.Completions.{Completion, letters, letters_e
 use Rattle.doc_tree.proofs.Viability.Numerals.{completes_digit, completes_numeral, completes_hash}
 
 -- documents that may name any encoding
-abbrev pub wide : ℕ → Terms
+abbrev pub wide : ℕ → TreeTerms
 wide depth = record { depth = depth; aim = any }
 
 -- a fixed text other than the mark
@@ -20,7 +20,7 @@ fixed goals.Marked left i n = absurd (n tt)
 fixed _ left i n = i
 
 module _ (depth : ℕ) (l : 1 ≤ depth) where
-  abbrev t : Terms
+  abbrev t : TreeTerms
   t = wide depth
 
   before : Completion (Before t)
@@ -80,31 +80,31 @@ module _ (depth : ℕ) (l : 1 ≤ depth) where
   question r names kept g = completes_map (PiRest (Around r names t)) (λ x. Around r names t (60 ∷ 63 ∷ x)) (λ x es k. (around_mark t r names x es).1 k) (completes_pi (Around r names t) (around r names kept g))
 
   -- tags
-  pub tag : (s : State) (name : List ℕ) (keys : List (List ℕ)) (kept : List Attribute) → GoodTag s → Completion (TagRest (depth_left t s.names - 1) name keys kept (Between 0 s.names t))
+  pub tag : (s : MachineState) (name : List ℕ) (keys : List (List ℕ)) (kept : List Attribute) → GoodTag s → Completion (TagRest (depth_left t s.names - 1) name keys kept (Between 0 s.names t))
   tag s name keys kept g = completes_tag (depth_left t s.names - 1) name (Between 0 s.names t) (completes_between t 0 s.names g.1) keys kept
 
-  value : (s : State) (quote : ℕ) (v : List ℕ) → Each IsPrintable (quote ∷ []) → GoodTag s → Completion (AttributeValue (depth_left t s.names - 1) s.name s.keys s.kept (Between 0 s.names t) s.key quote v)
+  value : (s : MachineState) (quote : ℕ) (v : List ℕ) → Each IsPrintable (quote ∷ []) → GoodTag s → Completion (AttributeValue (depth_left t s.names - 1) s.name s.keys s.kept (Between 0 s.names t) s.key quote v)
   value s quote v p g = completes_value quote v (λ w. TagRest (depth_left t s.names - 1) s.name (s.keys ++ (s.key ∷ [])) (keep s.key w s.kept) (Between 0 s.names t)) p (tag s s.name (s.keys ++ (s.key ∷ [])) (keep s.key (v ++ []) s.kept) g)
 
-  key_value : (s : State) (key : List ℕ) → GoodTag s → Completion (AttributeValue (depth_left t s.names - 1) s.name s.keys s.kept (Between 0 s.names t) key 34 [])
+  key_value : (s : MachineState) (key : List ℕ) → GoodTag s → Completion (AttributeValue (depth_left t s.names - 1) s.name s.keys s.kept (Between 0 s.names t) key 34 [])
   key_value s key g = value (record s { key = key }) 34 [] (quote_printable 34 (inl refl)) g
 
-  key_over : (s : State) (key : List ℕ) → GoodTag s → Completion (KeyOver (depth_left t s.names - 1) s.name s.keys s.kept (Between 0 s.names t) key)
+  key_over : (s : MachineState) (key : List ℕ) → GoodTag s → Completion (KeyOver (depth_left t s.names - 1) s.name s.keys s.kept (Between 0 s.names t) key)
   key_over s key g = completes_equals (λ quote. AttributeValue (depth_left t s.names - 1) s.name s.keys s.kept (Between 0 s.names t) key quote []) (key_value s key g)
 
-  key_new : (s : State) → GoodTag s → Completion (InKey s t (s.key ++ letters (suc (total s.keys))))
+  key_new : (s : MachineState) → GoodTag s → Completion (InKey s t (s.key ++ letters (suc (total s.keys))))
   key_new s g = let key : List ℕ = s.key ++ letters (suc (total s.keys)) in completes_map (KeyOver (depth_left t s.names - 1) s.name s.keys s.kept (Between 0 s.names t) key) (InKey s t key) (λ x es k. record { new = long_new s.key s.keys; over = k }) (key_over s key g)
 
-  emptied : (s : State) → GoodTag s → Completion (Emptied s t)
+  emptied : (s : MachineState) → GoodTag s → Completion (Emptied s t)
   emptied s g = completes_said (Start (local_part s.name) s.kept ∷ Finish (local_part s.name) ∷ []) (Between 0 s.names t) (completes_between t 0 s.names g.1)
 
   -- references
-  behind : (v : Bool) (s : State) → GoodReference v s → (chars : List ℕ) → Completion (Behind v s t chars)
+  behind : (v : Bool) (s : MachineState) → GoodReference v s → (chars : List ℕ) → Completion (Behind v s t chars)
   behind true s g chars = value s s.quote (s.value ++ chars) (quote_printable s.quote g.1) g.2
   behind false s g chars = completes_said (map Char chars) (Insides 0 s.names t) (completes_insides t 0 s.names g.1 g.2)
 
   -- a fixed text
-  reaches : (g : Goal) (s : State) → GoodGoal g s → Completion (ReachesGoal g s t)
+  reaches : (g : Goal) (s : MachineState) → GoodGoal g s → Completion (ReachesGoal g s t)
   reaches goals.Marked s g = marked
   reaches goals.Field s g = field_over s.field (Gap s.field t) g.1 (gap s.field)
   reaches goals.Prolog s g = before
@@ -126,7 +126,7 @@ module _ (depth : ℕ) (l : 1 ≤ depth) where
       completes_map (PiRest (Before t)) (λ x. Marked t (60 ∷ 63 ∷ x)) (λ x es k. (marked_question t x es).1 (record { run = k.run; is = k.is; behind = k.behind; text = k.text; after = inr k.after })) p
 
   -- at each place
-  pub alive : (p : Place) (s : State) → Good p s → (IsInMark p s.goal → ⊥) → Completion (RestsAt p s t)
+  pub alive : (p : Place) (s : MachineState) → Good p s → (IsInMark p s.goal → ⊥) → Completion (RestsAt p s t)
   alive places.Start s g n = completes_map (Marked t) (Whole t) (λ x es k. record { mark = false; behind = x; text = refl; after = k }) marked
   alive places.Marked s g n = marked
   alive places.FirstLess s g n = completes_map (λ x. Before t (60 ∷ x)) (λ x. Marked t (60 ∷ x)) (λ x es k. marked_plain t (60 ∷ x) es k) (completes_before_less t (omega arith))

@@ -1,5 +1,5 @@
 -- Which refusal a byte decides, and that one that is taken decides none.
-use Rattle.doc_tree.proofs.Words.{Awaited, Blocks, Bool, CharacterFollows, CharacterRest, CharacterStuck, Continues, Decides, Document, Feeding, Finishes, Insides, IsClean, IsDeep, IsDeepAt, IsDepthAllowed, IsDoctype, IsDoctypeAt, IsEncodingAt, IsMalformedAt, IsNameStart, IsOther, IsQName, IsQuote, IsRefusedIn, IsShallowlyViable, IsTaken, IsText, IsViable, IsXmlText, List, Mark, MeetsBoth, NoneBegins, NoneWithin, PassesByte, Refused, RestsAt, Spells, State, TagFirst, Terms, TreeFault, Whole, [], any, any_encoding, ap, append_assoc, arith, begins_with_line_feed, body_nodes, bounds, cases_lt, codes, cond, drop, false, get_or, inl, inr, length, length-append, length-take-le, nodes_depth, normal_lines, rank, refl, subst, suc, sym, take, true, ℕ, ◌++◌, ◌+◌, ◌-◌, ◌<◌, ◌==◌, ◌∙◌, ◌∷◌, ◌≡◌, ◌≤◌, clean_fixed}
+use Rattle.doc_tree.proofs.Words.{Awaited, Blocks, Bool, CharacterFollows, CharacterRest, CharacterStuck, Continues, Decides, Document, Feeding, Finishes, Insides, IsClean, IsDeep, IsDeepAt, IsDepthAllowed, IsDoctype, IsDoctypeAt, IsEncodingAt, IsMalformedAt, IsNameStart, IsOther, IsQName, IsQuote, IsRefusedIn, IsShallowlyViable, IsTaken, IsText, IsViable, IsXmlText, List, Mark, MeetsBoth, NoneBegins, NoneWithin, PassesByte, Refused, RestsAt, Spells, MachineState, TagFirst, TreeTerms, TreeFault, Whole, [], any, any_encoding, ap, append_assoc, arith, begins_with_line_feed, body_nodes, bounds, cases_lt, codes, cond, drop, false, get_or, inl, inr, length, length-append, length-take-le, nodes_depth, normal_lines, rank, refl, subst, suc, sym, take, true, ℕ, ◌++◌, ◌+◌, ◌-◌, ◌<◌, ◌==◌, ◌∙◌, ◌∷◌, ◌≡◌, ◌≤◌, clean_fixed}
 use Rattle.doc_tree.specs.declared.characters.Awaited.TheVariants as awaits
 use Rattle.doc_tree.specs.declared.fault.TreeFault.TheVariants as faults
 use Rattle.doc_tree.specs.declared.machine.Place.TheVariants as at
@@ -19,7 +19,7 @@ named_allowed : IsDepthAllowed any_encoding
 named_allowed = omega arith
 
 -- A document is a whole at some terms.
-abbrev pub as_deep : Document → Terms
+abbrev pub as_deep : Document → TreeTerms
 as_deep d = record { depth = 32 + nodes_depth (body_nodes d.body); aim = any }
 
 pub as_deep_allowed : (d : Document) → IsDepthAllowed (as_deep d)
@@ -35,7 +35,7 @@ shallow_of seen rest says w t =
     let deep = h.deep in
     record { rest = rest; whole = record { characters = t; document = h.document; text = h.same }; shallow = omega arith }
 
-module _ (s : State) (returned : Bool) (seen : List ℕ) (c : Continues s returned seen) where
+module _ (s : MachineState) (returned : Bool) (seen : List ℕ) (c : Continues s returned seen) where
   -- what goes on with the byte completes the state
   viable_finishes : (b : ℕ) (v : IsViable (seen ++ (b ∷ []))) → Finishes s returned (as_deep v.whole.document) (b ∷ v.rest) (document_marks v.whole.document)
   viable_finishes b v = text_finishes (32 + nodes_depth (body_nodes v.whole.document.body)) (omega arith) s returned seen b v.rest v.whole (omega arith) c
@@ -137,7 +137,7 @@ name_low b x [] later l n e = n
 name_low b x (c ∷ cs) later l n e = let h : b ≡ c = cc in let k = (start_range c n.0).1 in omega arith
 
 -- Behind a `<` no character is cut.
-less_inside : (s : State) (returned : Bool) (rest : List ℕ) (says : List Mark) → s.place ≡ at.ContentLess → BeginsInside rest → Finishes s returned any_encoding rest says → ⊥
+less_inside : (s : MachineState) (returned : Bool) (rest : List ℕ) (says : List Mark) → s.place ≡ at.ContentLess → BeginsInside rest → Finishes s returned any_encoding rest says → ⊥
 less_inside s returned [] says e i h = i
 less_inside s returned (b ∷ rest) says e i h =
     let l : 128 ≤ b = i.0 in
@@ -156,7 +156,7 @@ quote_text b q = let h = quote_range b q in let l : b < 128 = omega arith in (fi
 quote_first : (w : Awaited) (b : ℕ) (rest : List ℕ) → IsQuote b → CharacterRest w (b ∷ rest) → w ≡ awaits.First
 quote_first w b rest q h = let l = quote_range b q in elim (first_or_inside w (b ∷ rest) h) [ inl e ↦ e | inr i ↦ (let k : 128 ≤ b = i.0 in absurd (omega arith)) ]
 
-other_shallow : (s : State) (returned : Bool) (seen : List ℕ) → Continues s returned seen → (b : ℕ) → IsOther s b → IsEncodingAt seen b → (w : Awaited) → Spells w seen → IsViable (seen ++ (b ∷ [])) → IsShallowlyViable (seen ++ (b ∷ []))
+other_shallow : (s : MachineState) (returned : Bool) (seen : List ℕ) → Continues s returned seen → (b : ℕ) → IsOther s b → IsEncodingAt seen b → (w : Awaited) → Spells w seen → IsViable (seen ++ (b ∷ [])) → IsShallowlyViable (seen ++ (b ∷ []))
 other_shallow s returned seen c b o e w p v =
     let inside : CharacterRest w (b ∷ v.rest) = (p (b ∷ v.rest)).0 (subst IsXmlText (append_assoc seen (b ∷ []) v.rest) v.whole.characters) in
     let first : w ≡ awaits.First = quote_first w b v.rest e.quoted inside in
@@ -232,7 +232,7 @@ module _ (f : Feeding) (bytes : List ℕ) (b : ℕ) (t : IsTaken f bytes) where
     pub blocked_refused : Blocks f.state f.returned b → Refused f.limit now (faults.Malformed f.count)
     blocked_refused n = malformed (blocked_none f.state f.returned bytes t.continues b n) (refused_plain f.state f.returned bytes b t.continues n) (blocks_begin (λ rest says h. n bounds allowed rest says h))
 
-    pub character_refused : (s : State) (returns : Bool) → PassesByte f.state f.returned b s returns → CharacterStuck f.awaited b → Refused f.limit now (faults.Malformed f.count)
+    pub character_refused : (s : MachineState) (returns : Bool) → PassesByte f.state f.returned b s returns → CharacterStuck f.awaited b → Refused f.limit now (faults.Malformed f.count)
     character_refused s returns p n =
         let never : (more : List ℕ) → IsXmlText (now ++ more) → ⊥ = λ more i. n more ((t.spells (b ∷ more)).0 (subst IsXmlText (append_assoc bytes (b ∷ []) more) i)) in
         malformed (λ v. never v.rest v.whole.characters) (taken_plain s returns bytes b (continues_on f.state f.returned bytes b s returns t.continues p)) (λ more. text_refuses f.limit (now ++ more) (never more))

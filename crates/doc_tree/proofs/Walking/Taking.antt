@@ -1,5 +1,5 @@
 -- A reader whose machine took bytes together took them one by one.
-use Rattle.doc_tree.proofs.Words.{Awaited, Bool, CanGoOn, CharacterFollows, Feeding, Good, IsAlone, IsTaken, List, Refused, RefusesByte, RefusesBytes, State, TakesBytes, TreeFault, Walks, [], ap, append-nil, append_assoc, arith, behind, false, get_or, length, length-take-le, refl, returned_behind, subst, sym, take, take-take, take_more, ℕ, ◌++◌, ◌+◌, ◌-◌, ◌<◌, ◌∙◌, ◌∷◌, ◌≡◌, ◌≤◌}
+use Rattle.doc_tree.proofs.Words.{Awaited, Bool, CanGoOn, CharacterFollows, Feeding, Good, IsAlone, IsTaken, List, Refused, RefusesByte, RefusesBytes, MachineState, TakesBytes, TreeFault, Walks, [], ap, append-nil, append_assoc, arith, behind, false, get_or, length, length-take-le, refl, returned_behind, subst, sym, take, take-take, take_more, ℕ, ◌++◌, ◌+◌, ◌-◌, ◌<◌, ◌∙◌, ◌∷◌, ◌≡◌, ◌≤◌}
 use Rattle.doc_tree.specs.declared.characters.Awaited.TheVariants as awaits
 use Rattle.doc_tree.proofs.Behind.{passes_after}
 use Rattle.doc_tree.proofs.Utf8.{first_one, low_char}
@@ -9,7 +9,7 @@ use Rattle.doc_tree.proofs.TextTrees.Verdicts.{fed_up_to}
 use Rattle.doc_tree.proofs.Viability.Refusals.{taken}
 use Rattle.doc_tree.proofs.Walking.Steps.{walks_good}
 
-abbrev walked : Feeding → State → Bool → ℕ → Feeding
+abbrev walked : Feeding → MachineState → Bool → ℕ → Feeding
 walked f t returned count = record f { state = t; returned = returned; count = count }
 
 alone_follows : (awaited : Awaited) (b : ℕ) → awaited ≡ awaits.First → IsAlone b → CharacterFollows awaited b awaited
@@ -19,7 +19,7 @@ still : (xs : List ℕ) → returned_behind xs false ≡ false
 still [] = refl
 still (x ∷ xs) = refl
 
-pub walks_taken : (xs : List ℕ) (f : Feeding) (t : State) → f.awaited ≡ awaits.First → length xs ≤ f.limit - f.count → Walks f.state xs t → TakesBytes f xs (walked f t (returned_behind xs f.returned) (f.count + length xs))
+pub walks_taken : (xs : List ℕ) (f : Feeding) (t : MachineState) → f.awaited ≡ awaits.First → length xs ≤ f.limit - f.count → Walks f.state xs t → TakesBytes f xs (walked f t (returned_behind xs f.returned) (f.count + length xs))
 walks_taken [] f t a l w told bytes k =
     let n : f.count ≡ f.count + 0 = omega arith in
     subst (IsTaken (behind told (walked f t f.returned (f.count + 0)))) (sym (append-nil bytes)) (subst (λ z. IsTaken (behind told (walked f z f.returned (f.count + 0))) bytes) (sym w) (subst (λ z. IsTaken (behind told (walked f f.state f.returned z)) bytes) n k))
@@ -32,11 +32,11 @@ walks_taken (b ∷ xs) f t a l (mid, i, step, w) told bytes k =
     let n : f.count + 1 + length xs ≡ f.count + length (b ∷ xs) = omega arith in
     subst (IsTaken (behind told (walked f t false (f.count + length (b ∷ xs))))) (append_assoc bytes (b ∷ []) xs) (subst (λ z. IsTaken (behind told (walked f t false z)) ((bytes ++ b ∷ []) ++ xs)) n (subst (λ z. IsTaken (behind told (walked f t z (f.count + 1 + length xs))) ((bytes ++ b ∷ []) ++ xs)) (still xs) all))
 
-pub walks_can : (f : Feeding) (xs : List ℕ) (t : State) (returned : Bool) (count : ℕ) → Walks f.state xs t → CanGoOn f → CanGoOn (walked f t returned count)
+pub walks_can : (f : Feeding) (xs : List ℕ) (t : MachineState) (returned : Bool) (count : ℕ) → Walks f.state xs t → CanGoOn f → CanGoOn (walked f t returned count)
 walks_can f xs t returned count w h = on_option {A = Good f.state.place f.state} {B = Good t.place t} f.refusal (λ fault. Unit {0}) (walks_good f.state t xs w) h
 
 -- those of the first `m` that were taken
-pub together_taken : (f v : Feeding) (t : State) (returned : Bool) (n m : ℕ) (xs : List ℕ) → f ≡ v → f.awaited ≡ awaits.First → n ≤ length (take m xs) → m ≤ length xs → m ≤ f.limit - f.count → Walks f.state (take n (take m xs)) t → returned ≡ returned_behind (take n (take m xs)) f.returned → TakesBytes v (take n xs) (walked f t returned (f.count + n))
+pub together_taken : (f v : Feeding) (t : MachineState) (returned : Bool) (n m : ℕ) (xs : List ℕ) → f ≡ v → f.awaited ≡ awaits.First → n ≤ length (take m xs) → m ≤ length xs → m ≤ f.limit - f.count → Walks f.state (take n (take m xs)) t → returned ≡ returned_behind (take n (take m xs)) f.returned → TakesBytes v (take n xs) (walked f t returned (f.count + n))
 together_taken f v t returned n m xs e a l k room w r =
     let o : length (take m xs) ≡ m = length-take-le m xs k in
     let size : length (take n xs) ≡ n = length-take-le n xs (omega arith) in

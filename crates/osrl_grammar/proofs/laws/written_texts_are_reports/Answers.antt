@@ -1,5 +1,5 @@
 use Rattle.osrl_grammar.proofs.BackReport.{text_comes_back}
-use Rattle.osrl_grammar.proofs.laws.comes_back.Goals as goal
+use Rattle.osrl_grammar.proofs.laws.written_texts_are_reports.Goals as goal
 
 pub returns : goal.returns
 returns c = text_comes_back
