@@ -1,5 +1,4 @@
 pub mod Sizes
-pub mod Fronts
 pub mod NumberChanges
 pub mod Fitting
 pub mod Wholes

@@ -1,9 +1,9 @@
-// Sums that are reduced only where they are asked for.
+//! Sums that are reduced only where they are asked for.
 ghost use Rattle.std.specs.Prelude.{◌≡◌, ◌<◌, ◌≤◌, unsigned_abs};
 ghost use Rattle.rational.specs.Width.{most};
 
-use crate::change::product;
 use crate::form::{Form, size};
+use crate::product::product;
 use crate::whole::{narrowed, within};
 use fraction::{Frac, Wide};
 use instance::add_product;

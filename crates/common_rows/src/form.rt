@@ -1,7 +1,7 @@
-// Numbers over a denominator, of 64 bits.
+//! Numbers over a denominator, of 64 bits.
 ghost use Rattle.std.specs.Prelude.{◌≡◌, ◌<◌, ◌/◌, pos, IfSome};
 
-use crate::change::product;
+use crate::product::product;
 use crate::whole::{narrowed, total};
 use fraction::{Frac, lcm};
 

@@ -1,4 +1,4 @@
-// Whole numbers: rows over the denominator 1.
+//! Whole numbers: rows over the denominator 1.
 ghost use Rattle.std.specs.Prelude.{◌≡◌, ◌≤◌, ◌+ℤ◌, ◌*ℤ◌, unsigned_abs, IfSome, IfOk, OnErr};
 ghost use Rattle.rational.specs.Ratio.{sum, product, IsSame};
 ghost use Rattle.rational.specs.Width.{most, ReducedFits};
@@ -46,7 +46,7 @@ pub fn total(n: i64, k: i64, m: i64) -> i128
     ensures value { result ≡ n +ℤ k *ℤ m }
     ensures size { unsigned_abs result ≤ most }
 {
-    n as i128 + crate::change::product(k, m)
+    n as i128 + crate::product::product(k, m)
 }
 
 /// The sum of two numbers, where it doesn't pass the greatest size.
@@ -129,5 +129,5 @@ pub fn times(a: Frac, x: Frac) -> Result<Frac, Wide>
     let Some(m) = narrow(x) else {
         return times_fractions(&a, &x);
     };
-    Ok(whole(crate::change::product(k, m)))
+    Ok(whole(crate::product::product(k, m)))
 }

@@ -16,7 +16,7 @@ use Rattle.dictionary.specs.declared.row.Row.{Row}
 use Rattle.dictionary.specs.Lowest.{lowest}
 use Rattle.dictionary.proofs.Lowest.{lowest-same}
 use Rattle.dictionary.specs.Numbers.{HasNumber}
-use Rattle.dictionary.specs.Rows.{numbers_of, numer_at, either_at, entries_at, AreSums, AreSumsLeft, IsRow, ReplacementFits, HasRoom, HasRoomFor}
+use Rattle.dictionary.specs.Rows.{numbers_of, numer_at, either_at, entries_at, AreSums, AreSumsLeft, IsRow, ReplacementFits, NonzerosFit, HasRoomFor}
 use Rattle.dictionary.specs.Steps.{unless_zero, nonzeros}
 use Rattle.dictionary.proofs.Rows.{zero_or}
 use Rattle.dictionary.proofs.Nonzeros.{unless_not}
@@ -143,7 +143,7 @@ common_fits row by m n is is_by common by_common ld lp skip = record {
 }
 
 -- a row without its number at a column leaves room for what comes in there
-pub room_without : (k n skip : ℕ) (row less by : ℕ → Ratio) → (less skip).num ≡ pos 0 → ((c : ℕ) → (c ≡ skip → ⊥) → less c ≡ row c) → (by skip).num ≡ pos 0 → HasRoomFor k row by skip n → HasRoom k less by n
+pub room_without : (k n skip : ℕ) (row less by : ℕ → Ratio) → (less skip).num ≡ pos 0 → ((c : ℕ) → (c ≡ skip → ⊥) → less c ≡ row c) → (by skip).num ≡ pos 0 → HasRoomFor k row by skip n → NonzerosFit k less by n
 room_without k n skip row less by gone rest none_in room f sub = room f (λ c h. (apart c h, was c h (sub c h)))
   where
     apart : (c : ℕ) → HasNumber f c → c ≡ skip → ⊥

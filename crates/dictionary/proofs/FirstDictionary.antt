@@ -22,7 +22,7 @@ use Rattle.dictionary.specs.declared.dict.Dict.{Dict}
 use Rattle.dictionary.specs.Rows.{numbers_in, IsOverPlaces}
 use Rattle.dictionary.specs.Basis.{ArePlaces, entries_by}
 use Rattle.dictionary.specs.ProgramRows.{times_sign, program_rows}
-use Rattle.dictionary.specs.Dict.{width_of, height_of, basic_of, entry_of, IsLoaded, Holds}
+use Rattle.dictionary.specs.Dict.{width_of, height_of, basic_of, entry_of, IsLoaded, IsJustLoaded, Holds}
 use Rattle.dictionary.proofs.DictParts.{cols, place, past_list}
 use Rattle.dictionary.proofs.DictPivots.{beyond_rows, table-reduced}
 use Rattle.dictionary.proofs.TurnedTables.{listed, unlisted}
@@ -89,6 +89,15 @@ module _ {L : _} {G : _} (f : Dict L G) (A : Entries) (number : (i j : ℕ) → 
 
   pub begun_holds : Holds A f
   begun_holds = record { loaded = begun_loaded; is = begun_is }
+
+-- what was loaded, and had no pivot since
+pub first_basis : {L : _} {G : _} (d : Dict L G) (A : Entries) → IsJustLoaded A d → (c : ℕ) → c < d.width + (d.height + 1) → basic_of d c ≡ is_fresh d.width c
+unfolding IsJustLoaded basic_of
+first_basis d A first c l = ap (λ k. cond (nat_lt k d.width) false true) (first.5 c l)
+
+pub first_holds : {L : _} {G : _} (d : Dict L G) (A : Entries) → IsJustLoaded A d → Holds A d
+unfolding IsJustLoaded
+first_holds d A first = begun_holds d A first.0 first.1 first.2 first.3 first.4 first.5
 
 pub own_places : (k : ℕ) (at place : ℕ → ℕ) → ((j : ℕ) → j < k → at j ≡ j) → ((c : ℕ) → c < k → place c ≡ c) → ArePlaces k at place
 own_places k at place a p = record {

@@ -14,7 +14,7 @@ use Rattle.evidence.proofs.Fits.{whole-reduced}
 use Rattle.marks.specs.Marks.{is_marked}
 use Rattle.marks.specs.Words.{IsFirst}
 use Rattle.dictionary.specs.declared.row.Row.{Row}
-use Rattle.dictionary.specs.Rows.{numbers_of, IsBegun}
+use Rattle.dictionary.specs.Rows.{numbers_of, HasRowForm}
 use Rattle.dictionary.specs.declared.scratch.Scratch.{Scratch}
 use Rattle.dictionary.specs.Numbers.{HasNumber}
 use Rattle.dictionary.specs.Scratch.{found_at, AreFound}
@@ -114,7 +114,7 @@ nonzeros_cut k from f g l same none_left =
     subst (λ j. nonzeros j f ≡ nonzeros from f) e (past_none from (k - from) f none_left) ∙ below_same from f g same
 
 -- what was found over a denominator holds of the row that begins over it
-pub begun_over : {L : _} {G : _} (o : Option ℤ) (row : Row L G) (P : ℤ → Type 0) → IsBegun o row → row.is_common ≡ true → IfSome o P → P row.denom
+pub begun_over : {L : _} {G : _} (o : Option ℤ) (row : Row L G) (P : ℤ → Type 0) → HasRowForm o row → row.is_common ≡ true → IfSome o P → P row.denom
 begun_over None row P h common over = absurd (false≢true (sym h ∙ common))
 begun_over (Some d) row P h common over = subst P (sym h.1) over
 

@@ -29,3 +29,4 @@ pub mod Filled
 pub mod DictColumns
 pub mod EqualRows
 pub mod FirstDictionary
+pub mod SetRows

@@ -67,13 +67,13 @@ pub lowest-≈ : (n : ℤ) (d : ℕ) → 0 < d → lowest n d ≈ over n d
 lowest-≈ n d up = record { left = (lowest-reduced n d up).0; right = up; is = lowest-same n d up }
 
 -- what a number and its denominator are of its lowest terms
-pub record IsDivided (n : ℤ) (d : ℕ) (x : Ratio) : Type 0 where
+pub record IsRowDivided (n : ℤ) (d : ℕ) (x : Ratio) : Type 0 where
   pub divisor : ℕ
   pub above : 0 < divisor
   pub num : x.num *ℤ pos divisor ≡ n
   pub den : x.den * divisor ≡ d
 
-pub lowest_parts : (n : ℤ) (d : ℕ) → 0 < d → IsDivided n d (lowest n d)
+pub lowest_parts : (n : ℤ) (d : ℕ) → 0 < d → IsRowDivided n d (lowest n d)
 unfolding lowest
 lowest_parts (pos n) d up =
     let is = is_divisor n d in

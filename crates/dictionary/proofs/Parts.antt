@@ -14,7 +14,7 @@ use Rattle.common_rows.specs.Row.{over}
 use Rattle.common_rows.proofs.Fitting.{sum_size}
 use Rattle.dictionary.specs.Lowest.{lowest}
 use Rattle.dictionary.specs.Numbers.{ArePartsOf}
-use Rattle.dictionary.proofs.Lowest.{IsDivided, lowest_parts, lowest-same}
+use Rattle.dictionary.proofs.Lowest.{IsRowDivided, lowest_parts, lowest-same}
 use Rattle.dictionary.proofs.RowForms.{lowest_by, sized_above}
 
 -- a factor is at most the product
@@ -23,8 +23,8 @@ at_most m zero w up e = absurd (omega arith)
 at_most m (suc g) w up e = let f : m * suc g ≡ m * g + m = omega arith in omega (arith, e, f)
 
 module _ (x : Frac) (n d : ℤ) (up : pos 0 <ℤ d) (same : IsSame (ratio x) (quotient (whole n) (whole d))) where
-  parts : IsDivided n (unsigned_abs d) (ratio x)
-  parts = subst (λ (y : Ratio). IsDivided n (unsigned_abs d) y) (sym (lowest_by x n d up same)) (lowest_parts n (unsigned_abs d) (sized_above d up))
+  parts : IsRowDivided n (unsigned_abs d) (ratio x)
+  parts = subst (λ (y : Ratio). IsRowDivided n (unsigned_abs d) y) (sym (lowest_by x n d up same)) (lowest_parts n (unsigned_abs d) (sized_above d up))
 
   pub part_denom : x.denom ≤ unsigned_abs d
   part_denom = let p = parts in at_most x.denom p.divisor (unsigned_abs d) p.above p.den

@@ -13,7 +13,7 @@ use Rattle.evidence.specs.Point.{value_at}
 use Rattle.evidence.proofs.Columns.{by_eq, by_lt}
 use Rattle.instance.specs.Parts.{IsBefore, IsAscending, IsInside}
 use Rattle.instance.specs.Program.{entries}
-use Rattle.dictionary.specs.ProgramRows.{times_sign, program_rows, BeginsAt}
+use Rattle.dictionary.specs.ProgramRows.{times_sign, program_rows, RowBeginsAt}
 
 before_trans : (e f h : Entry) → IsBefore e f → IsBefore f h → IsBefore e h
 before_trans e f h (inl a) (inl b) = inl (omega arith)
@@ -69,7 +69,7 @@ taken_at (suc n) (x ∷ xs) zero d l = refl
 taken_at (suc n) (x ∷ xs) (suc j) d l = taken_at n xs j d (omega arith)
 
 -- those before a row's say nothing of it
-pub begun_none : (es : List Entry) (r start : ℕ) → BeginsAt es r start → (c : ℕ) → entry_at (entries (take start es)) r c ≡ none
+pub begun_none : (es : List Entry) (r start : ℕ) → RowBeginsAt es r start → (c : ℕ) → entry_at (entries (take start es)) r c ≡ none
 begun_none es r start b c = none_at (take start es) r c (λ j d l e f.
     let h = b.before j d (take_below start es j l) in
     let g = ap (λ (y : Entry). y.row) (taken_at start es j d (take_below start es j l)) in
@@ -112,7 +112,7 @@ rest_none (x ∷ xs) zero r c h = none_at (x ∷ xs) r c (λ j d l e f. h j d (o
 rest_none (x ∷ xs) (suc k) r c h = ap (λ (v : Ratio). cond (nat_eq x.row r && nat_eq x.col c) (ratio x.value) v) (rest_none xs k r c (λ j d a l e. h (suc j) d (omega arith) (omega arith) e))
 
 -- a row's entries end where another row's begin
-module _ (es : List Entry) (asc : IsAscending es) (r start k : ℕ) (b : BeginsAt es r start) (low : start ≤ k) (high : k ≤ length es) (before : (j : ℕ) (d : Entry) → j < k → (get_or es j d).row ≤ r) (stops : (d : Entry) → k < length es → (get_or es k d).row ≡ r → ⊥) where
+module _ (es : List Entry) (asc : IsAscending es) (r start k : ℕ) (b : RowBeginsAt es r start) (low : start ≤ k) (high : k ≤ length es) (before : (j : ℕ) (d : Entry) → j < k → (get_or es j d).row ≤ r) (stops : (d : Entry) → k < length es → (get_or es k d).row ≡ r → ⊥) where
   later_rows : (j : ℕ) (d : Entry) → k ≤ j → j < length es → r + 1 ≤ (get_or es j d).row
   later_rows j d l h =
       let here : r + 1 ≤ (get_or es k d).row = let a = b.after k d low (omega arith) in let s = stops d (omega arith) in by_lt r (get_or es k d).row (λ i. omega arith) (λ i. absurd (s (omega arith))) in
@@ -122,7 +122,7 @@ module _ (es : List Entry) (asc : IsAscending es) (r start k : ℕ) (b : BeginsA
       least_row x y (inl a) = omega arith
       least_row x y (inr a) = let e = a.0 in omega arith
 
-  pub begins_next : BeginsAt es (r + 1) k
+  pub begins_next : RowBeginsAt es (r + 1) k
   begins_next = record { within = high; before = λ j d l. let h = before j d l in omega arith; after = later_rows }
 
   pub nothing_later : (c : ℕ) → entry_at (entries es) r c ≡ entry_at (entries (take k es)) r c

@@ -6,11 +6,11 @@ use Rattle.rational.specs.Width.{most, ReducedFits}
 use Rattle.dictionary.specs.declared.row.Row.{Row}
 use Rattle.dictionary.specs.Lowest.{lowest}
 use Rattle.dictionary.specs.Numbers.{turned}
-use Rattle.dictionary.specs.Rows.{numbers_of, numer_at, IsRow, IsDivided, IsSolvedFor, SolutionFits}
+use Rattle.dictionary.specs.Rows.{numbers_of, numer_at, IsRow, IsRowDivided, IsSolvedFor, SolutionFits}
 use Rattle.dictionary.proofs.RowForms.{sized_above, common_number, lowest_none}
 use Rattle.dictionary.proofs.SolvedNumbers.{turned_none, own_solved, other_solved, quotient_fit, lead_fit}
 
-module _ {L : _} {G : _} (row less new : Row L G) (basic e : ℕ) (common : row.is_common ≡ true) (denom : less.denom ≡ row.denom) (gone : numer_at less e ≡ pos 0) (rest : (c : ℕ) → (c ≡ e → ⊥) → numer_at less c ≡ numer_at row c) (apart : basic ≢ e) (stands : numer_at row e ≡ pos 0 → ⊥) (divided : IsDivided less basic (numer_at row e) new) where
+module _ {L : _} {G : _} (row less new : Row L G) (basic e : ℕ) (common : row.is_common ≡ true) (denom : less.denom ≡ row.denom) (gone : numer_at less e ≡ pos 0) (rest : (c : ℕ) → (c ≡ e → ⊥) → numer_at less c ≡ numer_at row c) (apart : basic ≢ e) (stands : numer_at row e ≡ pos 0 → ⊥) (divided : IsRowDivided less basic (numer_at row e) new) where
   abbrev pivot : ℤ
   pivot = numer_at row e
 

@@ -1,12 +1,13 @@
 -- What a dictionary in memory says, by columns: those of the variables, of the rows and of the goal, which is one more row.
-use Rattle.std.specs.Prelude.{◌≡◌, ℕ, ◌+◌, ◌<◌, Bool, true, false, IsTrue, length, slice_index}
+use Rattle.std.specs.Prelude.{◌≡◌, ℕ, ◌+◌, ◌<◌, ◌≤◌, Bool, true, false, IsTrue, length, slice_index}
 use Rattle.rational.specs.Ratio.{IsNumber}
 use Rattle.fraction.specs.Frac.{ratios}
+use Rattle.evidence.specs.Sums.{none}
 use Rattle.evidence.specs.Point.{value_at}
 use Rattle.bases.specs.Dictionary.{Entries, Values, IsDictionary}
 use Rattle.dictionary.specs.declared.dict.Dict.{Dict}
 use Rattle.dictionary.specs.declared.places.Places.{Places}
-use Rattle.dictionary.specs.Rows.{AreOver}
+use Rattle.dictionary.specs.Rows.{numbers_in, AreOver}
 use Rattle.dictionary.specs.Basis.{basic_by, entries_by}
 
 -- how many variables and rows, and how many columns with the goal's
@@ -42,6 +43,16 @@ IsLoaded d = IsTrue d.is_loaded × AreOver d.width (d.height + 1) (slice_index d
 pub record Holds {L : _} {G : _} (A : Entries) (d : Dict L G) : Type 0 where
   pub loaded : IsLoaded d
   pub is : IsDictionary (width_of d) (height_of d + 1) A (basic_of d) (entry_of d)
+
+-- it is loaded and had no pivot since: each column stands at its own place, and the rows have the numbers of A, the goal's being the last
+unfoldable pub IsJustLoaded : {L : _} {G : _} → Entries → Dict L G → Type 0
+IsJustLoaded A d =
+    ((r c : ℕ) → IsNumber (A r c))
+    × IsTrue d.is_loaded
+    × ((r c : ℕ) → r < d.height + 1 → numbers_in d.rows.items r c ≡ A r c)
+    × ((r c : ℕ) → d.width ≤ c → A r c ≡ none)
+    × ((c : ℕ) → c < d.width + (d.height + 1) → slice_index d.columns.items c ≡ c)
+    × ((c : ℕ) → c < d.width + (d.height + 1) → slice_index d.places.items c ≡ c)
 
 -- a variable's or a row's column that is basic, or isn't
 pub record IsBasic {L : _} {G : _} (d : Dict L G) (c : ℕ) : Type 0 where

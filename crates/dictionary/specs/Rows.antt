@@ -75,9 +75,9 @@ pub record IsCleared {L : _} {G : _} (k n : ℕ) (row : Row L G) : Type 0 where
   pub empty : entries_of row.fractions ≡ []
 
 -- it is in common form over the denominator, or in fractions where there is none
-abbrev pub IsBegun : {L : _} {G : _} → Option ℤ → Row L G → Type 0
-IsBegun None row = row.is_common ≡ false
-IsBegun (Some d) row = (row.is_common ≡ true) × (row.denom ≡ d)
+abbrev pub HasRowForm : {L : _} {G : _} → Option ℤ → Row L G → Type 0
+HasRowForm None row = row.is_common ≡ false
+HasRowForm (Some d) row = (row.is_common ≡ true) × (row.denom ≡ d)
 
 -- the values at the columns with an entry are those of the row
 abbrev pub IsSpread : {L : _} {G : _} → Row L G → List Ratio → Type 0
@@ -98,7 +98,7 @@ IsRow-prop k n row p q = λ i. record {
 }
 
 -- a row in common form whose numbers were divided by a pivot and turned, with what one over it is at a column
-pub record IsDivided {L : _} {G : _} (old : Row L G) (basic : ℕ) (pivot : ℤ) (new : Row L G) : Type 0 where
+pub record IsRowDivided {L : _} {G : _} (old : Row L G) (basic : ℕ) (pivot : ℤ) (new : Row L G) : Type 0 where
   pub form : new.is_common ≡ true
   pub rows : (k n : ℕ) → IsRow k n old → basic + 1 < k → IsRow k n new
   pub denom : unsigned_abs new.denom ≡ unsigned_abs pivot
@@ -160,8 +160,8 @@ abbrev pub HasRoomFor : ℕ → (ℕ → Ratio) → (ℕ → Ratio) → ℕ → 
 HasRoomFor k row by skip room = (f : ℕ → Ratio) → ((c : ℕ) → HasNumber f c → (c ≡ skip → ⊥) × (HasNumber row c ⊎ HasNumber by c)) → nonzeros k f ≤ room
 
 -- the same where none is left out
-abbrev pub HasRoom : ℕ → (ℕ → Ratio) → (ℕ → Ratio) → ℕ → Type 0
-HasRoom k row by room = (f : ℕ → Ratio) → ((c : ℕ) → HasNumber f c → HasNumber row c ⊎ HasNumber by c) → nonzeros k f ≤ room
+abbrev pub NonzerosFit : ℕ → (ℕ → Ratio) → (ℕ → Ratio) → ℕ → Type 0
+NonzerosFit k row by room = (f : ℕ → Ratio) → ((c : ℕ) → HasNumber f c → HasNumber row c ⊎ HasNumber by c) → nonzeros k f ≤ room
 
 -- the rows of a table have room for what a pivot makes of them
 pub record PivotHasRoom (k : ℕ) (T : Entries) (p basic skip count room : ℕ) : Type 0 where

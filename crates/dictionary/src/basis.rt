@@ -1,4 +1,4 @@
-// The places of columns.
+//! The places of columns.
 ghost use Rattle.std.specs.Prelude.{◌≡◌, ℕ, ◌<◌, ◌≤◌, ◌^◌, length, slice_index, IfOk};
 ghost use Rattle.dictionary.specs.Basis.{ChangePlaces};
 

@@ -1,4 +1,4 @@
-// Rows of numbers over one denominator, which another one comes into.
+//! Rows of numbers over one denominator, which another one comes into.
 ghost use Rattle.std.specs.Prelude.{◌≡◌, ◌≢◌, ℕ, ◌+◌, ◌*◌, ◌^◌, ◌<◌, ◌≤◌, pos, ◌+ℤ◌, ◌*ℤ◌, ◌<ℤ◌, true, false, length, slice_index_or, unsigned_abs, IfSome};
 ghost use Rattle.rational.specs.Ratio.{IsSame};
 ghost use Rattle.rational.specs.Width.{most};
@@ -8,7 +8,7 @@ ghost use Rattle.common_rows.specs.Row.{over};
 ghost use Rattle.dictionary.specs.Lowest.{lowest};
 ghost use Rattle.dictionary.specs.Numbers.{ArePartsOf, HasNumber};
 ghost use Rattle.dictionary.specs.Scratch.{found_at, AreFound};
-ghost use Rattle.dictionary.specs.Rows.{numbers_of, numer_at, either_at, changes, IsNextChanged, AreSums, AreSumsLeft, IsRow, IsReplacedBy, ReplacementFits, HasRoom, HasRoomFor};
+ghost use Rattle.dictionary.specs.Rows.{numbers_of, numer_at, either_at, changes, IsNextChanged, AreSums, AreSumsLeft, IsRow, IsReplacedBy, ReplacementFits, NonzerosFit, HasRoomFor};
 ghost use Rattle.dictionary.specs.Steps.{nonzeros};
 
 use crate::row::{Row, reduced};
@@ -305,7 +305,7 @@ fn change_sums<L: Ledger>(
     scratch: &mut Scratch,
     steps: &mut Steps<L>,
 )
-    requires rows { (n : ℕ) × IsRow (length scratch.old.values.items) n row.old × IsRow (length scratch.old.values.items) n by.now × HasRoom (length scratch.old.values.items) (numbers_of row.old) (numbers_of by.now) n }
+    requires rows { (n : ℕ) × IsRow (length scratch.old.values.items) n row.old × IsRow (length scratch.old.values.items) n by.now × NonzerosFit (length scratch.old.values.items) (numbers_of row.old) (numbers_of by.now) n }
     requires common { (row.old.is_common ≡ true) × (by.now.is_common ≡ true) }
     ensures row { (n : ℕ) → IsRow (length scratch.old.values.items) n row.old → IsRow (length scratch.old.values.items) n row.new }
     ensures count { length scratch.new.values.items ≡ length scratch.old.values.items }

@@ -1,11 +1,11 @@
-// A dictionary in memory.
+//! A dictionary in memory.
 ghost use Rattle.std.specs.Prelude.{◌≡◌, ℕ, ◌+◌, ◌<◌, ◌≤◌, ◌^◌, pos, true, false, length, slice_index, IfOk};
 ghost use Rattle.marks.specs.Marks.{is_marked, size_of};
 ghost use Rattle.dictionary.specs.Rows.{numbers_of, IsRow, IsRow-prop, AreRows, AreRows-prop};
 ghost use Rattle.dictionary.specs.Basis.{ArePlaces, AreMarked};
 
 use crate::basis::{exchange, make_numbers, number};
-use crate::loading::load_rows;
+use crate::loading::{load_rows, set_entries};
 use crate::pivoting::pivot_rows;
 use crate::places::Places;
 use crate::row::Row;
@@ -83,22 +83,25 @@ impl<L: Ledger> Dict<L> {
     ghost use Rattle.std.specs.Prelude.{◌≢◌, ◌-◌, OnErr, IfSome, MatchOption, int_lt};
     ghost use Rattle.std.specs.List.{All};
     ghost use Rattle.rational.specs.Ratio.{IsSame};
+    ghost use Rattle.fraction.specs.declared.ends.Entry as Of;
     ghost use Rattle.fraction.specs.Frac.{ratio};
     ghost use Rattle.instance.specs.Parts.{IsAscending, IsInside};
     ghost use Rattle.bases.specs.Dictionary.{Entries, Values, value_by};
     ghost use Rattle.bases.specs.Program.{is_fresh};
     ghost use Rattle.bases.specs.Pivot.{exchanged, IsPivoted, PivotFits, ValueFits};
     ghost use Rattle.marks.specs.Words.{IsFirst, HasNone};
-    ghost use Rattle.dictionary.specs.ProgramRows.{program_rows};
+    ghost use Rattle.dictionary.specs.ProgramRows.{program_rows, with_entries};
     ghost use Rattle.dictionary.specs.Rows.{has_number};
     ghost use Rattle.dictionary.specs.Steps.{nonzeros, pivot_steps};
-    ghost use Rattle.dictionary.specs.Dict.{width_of, height_of, columns_of, column_standing, place_of_column, basic_of, entry_of, IsLoaded, Holds, IsBasic, IsNonbasic, HaveOneSize, count_of, Rest};
+    ghost use Rattle.dictionary.specs.Dict.{width_of, height_of, IsJustLoaded, columns_of, column_standing, place_of_column, basic_of, entry_of, IsLoaded, Holds, IsBasic, IsNonbasic, HaveOneSize, count_of, Rest};
 
-    /// Room for a dictionary of so many variables and rows, which isn't loaded: `width` entries for each row, the goal and
-    /// one row more. The room is reserved and not written to. More columns than there are numbers of 32 bits find none.
+    /// Room for a dictionary of so many variables and rows, which isn't loaded: for each row, the goal and one row more a number of
+    /// 64 bits for each column, which is written, and `width` fractions, which are only reserved. More columns than there are
+    /// numbers of 32 bits find none.
     pub fn with_size(alloc: Global, width: u32, height: u32) -> Result<Dict<L>, AllocError>
         ensures width { IfOk result (λ d. width_of d ≡ width) }
         ensures height { IfOk result (λ d. height_of d ≡ height) }
+        ensures few { IfOk result (λ _. width + (height + 1) ≤ 2 ^ 32) }
     {
         let room = width as usize;
         let count = height as usize + 1;
@@ -131,6 +134,7 @@ impl<L: Ledger> Dict<L> {
         requires ascending { IsAscending matrix.now }
         requires inside { All (IsInside (height_of self.old) (width_of self.old)) matrix.now }
         ensures size { HaveOneSize self.old self.new }
+        ensures first { IsJustLoaded (program_rows matrix.now costs.now factor (height_of self.old)) self.new }
         ensures holds { Holds (program_rows matrix.now costs.now factor (height_of self.old)) self.new }
         ensures basis { (c : ℕ) → c < columns_of self.old → basic_of self.new c ≡ is_fresh (width_of self.old) c }
         ensures cost { steps.new ≤ steps.old + (length matrix.now + width_of self.old) }
@@ -145,6 +149,22 @@ impl<L: Ledger> Dict<L> {
         number(places);
         mark_rows(&mut self.basic, self.width, self.height);
         self.is_loaded = true;
+    }
+
+    /// Gives a row these entries in place of its own, where there was no pivot since the dictionary was loaded. Each is written at most once.
+    pub fn set_row(&mut self, row: u32, entries: &[Entry], steps: &mut Steps<L>)
+        requires first { (A : Entries) × IsJustLoaded A self.old }
+        requires row { row < height_of self.old }
+        requires ascending { IsAscending entries.now }
+        requires inside { All (IsInside (height_of self.old) (width_of self.old)) entries.now }
+        requires own { All (λ (e : Of.Entry). e.row ≡ row) entries.now }
+        ensures size { HaveOneSize self.old self.new }
+        ensures first { (A : Entries) → IsJustLoaded A self.old → IsJustLoaded (with_entries A row entries.now) self.new }
+        ensures cost { steps.new ≤ steps.old + length entries.now }
+        ensures counted { steps.old ≤ steps.new }
+    {
+        let rows = self.rows.as_mut_slice();
+        set_entries(rows, row as usize, entries, &mut self.scratch, steps);
     }
 
     /// The row of a basic column.
@@ -239,24 +259,17 @@ impl<L: Ledger> Dict<L> {
         self.rows[self.height as usize].value(nonbasic, steps)
     }
 
-    /// The entry of a column that isn't basic in the equation of a basic one, the goal's too, as the others tell it. A row in common
-    /// form has it at hand, and in one of fractions it is searched. The place is the caller's, and stays as it is.
-    pub fn entry_near(
-        &self,
-        row: u32,
-        nonbasic: u32,
-        place: &mut usize,
-        steps: &mut Steps<L>,
-    ) -> Frac
+    /// The entry of a column that isn't basic in the equation of a basic one, the goal's too: at hand in a row in common form, and
+    /// in one of fractions by a search.
+    pub fn entry_of_row(&self, row: u32, nonbasic: u32, steps: &mut Steps<L>) -> Frac
         requires loaded { IsLoaded self.now }
         requires row { row < columns_of self.now }
         requires basic { basic_of self.now row ≡ true }
         requires nonbasic { IsNonbasic self.now nonbasic }
         ensures entry { ratio result ≡ entry_of self.now row nonbasic }
-        ensures cost { (b : ℕ) → width_of self.now < 2 ^ b → steps.new ≤ steps.old + 3 + b }
+        ensures cost { (b : ℕ) → width_of self.now < 2 ^ b → steps.new ≤ steps.old + b }
         ensures counted { steps.old ≤ steps.new }
     {
-        let _place = place;
         let r = self.row_of(row);
         self.rows[r].value(nonbasic, steps)
     }

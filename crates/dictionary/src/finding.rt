@@ -1,4 +1,4 @@
-// Finding an entry by the order of the columns.
+//! Finding an entry by the order of the columns.
 ghost use Rattle.std.specs.Prelude.{◌≡◌, ℕ, ◌+◌, ◌<◌, ◌≤◌, ◌^◌, true, length, take, drop, None, IfSome};
 ghost use Rattle.fraction.specs.Frac.{ratio};
 ghost use Rattle.dictionary.specs.Row.{entries_of, IsSparseRow, HasColumn, IsEntry, number_in};

@@ -1,4 +1,4 @@
-// Entries of a row as fractions, those that aren't 0 alone.
+//! Entries of a row as fractions, those that aren't 0 alone.
 ghost use Rattle.std.specs.Prelude.{◌≡◌, ℕ, ◌+◌, ◌<◌, ◌≤◌, [], ◌∷◌, ◌++◌, length, slice_index_or, IfOk};
 
 use crate::steps::Steps;

@@ -1,13 +1,14 @@
-// The rows of a program in a table.
-ghost use Rattle.std.specs.Prelude.{◌≡◌, ℕ, ◌+◌, ◌-◌, ◌<◌, ◌≤◌, true, false, length};
+//! The rows of a program in a table.
+ghost use Rattle.std.specs.Prelude.{◌≡◌, ℕ, ◌+◌, ◌-◌, ◌^◌, ◌<◌, ◌≤◌, true, false, length};
 ghost use Rattle.std.specs.List.{All};
+ghost use Rattle.fraction.specs.declared.ends.Entry as Of;
 ghost use Rattle.fraction.specs.Frac.{ratio, ratios};
 ghost use Rattle.evidence.specs.Instance.{entry_at};
 ghost use Rattle.evidence.specs.Point.{value_at};
 ghost use Rattle.instance.specs.Parts.{IsAscending, IsInside};
 ghost use Rattle.instance.specs.Program.{entries};
 ghost use Rattle.dictionary.specs.Rows.{numbers_in, AreRows};
-ghost use Rattle.dictionary.specs.ProgramRows.{times_sign, program_rows, IsRowAt, IsOtherRowAt, BeginsAt};
+ghost use Rattle.dictionary.specs.ProgramRows.{times_sign, program_rows, IsRowAt, IsOtherRowAt, RowBeginsAt};
 ghost use Rattle.dictionary.specs.Scratch.{found_at, AreFound};
 ghost use Rattle.dictionary.specs.Steps.{nonzeros};
 
@@ -48,8 +49,8 @@ fn is_of(matrix: &[Entry], k: usize, row: u32) -> bool
 fn gather(matrix: &[Entry], start: usize, row: u32, scratch: &mut Scratch) -> usize
     requires columns { (m n : ℕ) × All (IsInside m n) matrix.now × (n < length scratch.old.values.items) }
     requires ascending { IsAscending matrix.now }
-    requires begun { BeginsAt matrix.now row start }
-    ensures ended { BeginsAt matrix.now (row + 1) result }
+    requires begun { RowBeginsAt matrix.now row start }
+    ensures ended { RowBeginsAt matrix.now (row + 1) result }
     ensures count { length scratch.new.values.items ≡ length scratch.old.values.items }
     ensures found { AreFound scratch.new }
     ensures is { (c : ℕ) → found_at scratch.new c ≡ entry_at (entries matrix.now) row c }
@@ -63,6 +64,30 @@ fn gather(matrix: &[Entry], start: usize, row: u32, scratch: &mut Scratch) -> us
         k += 1;
     }
     k
+}
+
+/// Gives row `r` of a table these entries, all of that row, in place of its own.
+pub fn set_entries<L: Ledger>(
+    rows: &mut [Row<L>],
+    r: usize,
+    list: &[Entry],
+    scratch: &mut Scratch,
+    steps: &mut Steps<L>,
+)
+    requires r { r < length rows.old }
+    requires few { r < 2 ^ 32 }
+    requires ascending { IsAscending list.now }
+    requires own { All (λ (e : Of.Entry). e.row ≡ r) list.now }
+    requires rows { (m n : ℕ) × All (IsInside m n) list.now × (n < length scratch.old.values.items) × AreRows (length scratch.old.values.items) n rows.old }
+    ensures rows { (n : ℕ) → AreRows (length scratch.old.values.items) n rows.old → AreRows (length scratch.old.values.items) n rows.new }
+    ensures own { (c : ℕ) → numbers_in rows.new r c ≡ entry_at (entries list.now) r c }
+    ensures others { (k c : ℕ) → (k ≡ r → ⊥) → numbers_in rows.new k c ≡ numbers_in rows.old k c }
+    ensures count { length scratch.new.values.items ≡ length scratch.old.values.items }
+    ensures cost { steps.new ≤ steps.old + length list.now }
+    ensures counted { steps.old ≤ steps.new }
+{
+    gather(list, 0, r as u32, scratch);
+    settle(&mut rows[r], scratch, steps);
 }
 
 /// Gives columns the costs, times the factor.

@@ -1,4 +1,4 @@
-// Numbers of 64 bits.
+//! Numbers of 64 bits.
 ghost use Rattle.std.specs.Prelude.{◌≡◌, ◌<◌, ◌≤◌, ◌^◌, pos, ◌<ℤ◌, ◌*ℤ◌, None, unsigned_abs, IfSome};
 ghost use Rattle.rational.specs.Width.{most};
 ghost use Rattle.fraction.specs.Frac.{ratio};
@@ -15,7 +15,7 @@ pub fn one() -> Frac
 }
 
 /// The number, where it has 64 bits and isn't the least of them.
-pub fn narrowed(n: i128) -> Option<i64>
+pub fn narrowed_size(n: i128) -> Option<i64>
     ensures some { IfSome result (λ k. (k ≡ n) × (unsigned_abs n < 2 ^ 63)) }
     ensures none { result ≡ None → 2 ^ 63 ≤ unsigned_abs n }
 {
@@ -36,7 +36,7 @@ pub fn joined(all: i64, denom: u128) -> Option<i64>
         return Some(all);
     }
     match lcm(all as i128, denom as i128) {
-        Ok(m) => narrowed(m),
+        Ok(m) => narrowed_size(m),
         Err(_) => None,
     }
 }
@@ -51,8 +51,8 @@ pub fn number_over(value: &Frac, denom: i64) -> Option<i64>
     if whole % value.denom != 0 {
         return None;
     }
-    let numer = narrowed(value.numer)?;
-    narrowed(product(numer, whole / value.denom))
+    let numer = narrowed_size(value.numer)?;
+    narrowed_size(product(numer, whole / value.denom))
 }
 
 /// The product of two numbers.

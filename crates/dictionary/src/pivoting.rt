@@ -1,4 +1,4 @@
-// A pivot of all rows of a table.
+//! A pivot of all rows of a table.
 ghost use Rattle.std.specs.Prelude.{◌≡◌, ◌≢◌, ℕ, ◌+◌, ◌<◌, ◌≤◌, pos, length, IfOk, OnErr};
 ghost use Rattle.dictionary.specs.Numbers.{HasNumber};
 ghost use Rattle.dictionary.specs.Rows.{numbers_of, numbers_in, IsRow, AreRows, IsTableTurned, TableFits, PivotHasRoom, replacements_cost};

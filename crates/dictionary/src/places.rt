@@ -1,4 +1,4 @@
-// The values of columns while they aren't basic.
+//! The values of columns while they aren't basic.
 ghost use Rattle.std.specs.Prelude.{◌≡◌, ℕ, ◌<◌, ◌≤◌, ◌≢◌, length, IfOk};
 ghost use Rattle.fraction.specs.Frac.{ratio, ratios};
 ghost use Rattle.evidence.specs.Sums.{none};

@@ -1,4 +1,4 @@
-// A pivot's work on the rows that aren't its own.
+//! A pivot's work on the rows that aren't its own.
 ghost use Rattle.std.specs.Prelude.{◌≡◌, ◌≢◌, ℕ, ◌+◌, ◌*◌, ◌<◌, ◌≤◌, ◌⊎◌, pos, cond, length, IfOk, OnErr};
 ghost use Rattle.rational.specs.Ratio.{sum, product, IsSame};
 ghost use Rattle.fraction.specs.Frac.{ratio, ratios};

@@ -1,4 +1,4 @@
-// Rows of a table: numbers over one denominator where all fit 64 bits, else fractions.
+//! Rows of a table: numbers over one denominator where all fit 64 bits, else fractions.
 ghost use Rattle.std.specs.Prelude.{◌≡◌, ℕ, ◌+◌, ◌<◌, ◌≤◌, true, false, ℤ, pos, ◌<ℤ◌, int_lt, length, slice_index_or, unsigned_abs};
 ghost use Rattle.rational.specs.Width.{most};
 ghost use Rattle.fraction.specs.Frac.{ratio, ratios};
@@ -34,7 +34,7 @@ impl<L: Ledger> Row<L> {
     ghost use Rattle.std.specs.Prelude.{◌≢◌, ◌^◌, cond, IfOk, IfSome};
     ghost use Rattle.evidence.specs.Sums.{none};
     ghost use Rattle.dictionary.specs.Numbers.{HasNumber, IsOver};
-    ghost use Rattle.dictionary.specs.Rows.{numbers_of, numer_at, entries_at, IsRow, IsCleared, IsBegun, IsSpread};
+    ghost use Rattle.dictionary.specs.Rows.{numbers_of, numer_at, entries_at, IsRow, IsCleared, HasRowForm, IsSpread};
     ghost use Rattle.dictionary.specs.Steps.{nonzeros};
 
     /// A row of so many columns without entries, and room for so many.
@@ -122,7 +122,7 @@ impl<L: Ledger> Row<L> {
         requires above { IfSome denom (λ d. pos 0 <ℤ d) }
         ensures row { (k n : ℕ) → IsCleared k n self.old → IsRow k n self.new }
         ensures none { (c : ℕ) → numbers_of self.new c ≡ none }
-        ensures form { IsBegun denom self.new }
+        ensures form { HasRowForm denom self.new }
     {
         match denom {
             Some(denom) => self.denom = denom,

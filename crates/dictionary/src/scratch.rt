@@ -1,4 +1,4 @@
-// Numbers beside rows.
+//! Numbers beside rows.
 ghost use Rattle.std.specs.Prelude.{◌≡◌, ℕ, ◌+◌, ◌<◌, length, IfOk};
 ghost use Rattle.fraction.specs.Frac.{ratios};
 ghost use Rattle.evidence.specs.Point.{value_at};

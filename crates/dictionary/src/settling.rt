@@ -1,4 +1,4 @@
-// A row that takes the values beside it.
+//! A row that takes the values beside it.
 ghost use Rattle.std.specs.Prelude.{◌≡◌, ℕ, ◌+◌, ◌<◌, ◌≤◌, pos, ◌<ℤ◌, true, length, unsigned_abs, IfSome};
 ghost use Rattle.fraction.specs.Frac.{ratios};
 ghost use Rattle.evidence.specs.Point.{value_at};

@@ -1,11 +1,11 @@
-// The pivot's own row.
+//! The pivot's own row.
 ghost use Rattle.std.specs.Prelude.{◌≡◌, ◌≢◌, ℕ, ◌+◌, ◌*◌, ◌^◌, ◌<◌, ◌≤◌, pos, neg_ℤ, ◌<ℤ◌, true, length, unsigned_abs, IfOk, OnErr};
 ghost use Rattle.rational.specs.Ratio.{product, IsSame};
 ghost use Rattle.rational.specs.Width.{ReducedFits};
 ghost use Rattle.fraction.specs.Frac.{ratio, ratios};
 ghost use Rattle.evidence.specs.Sums.{none};
 ghost use Rattle.dictionary.specs.Numbers.{HasNumber};
-ghost use Rattle.dictionary.specs.Rows.{numbers_of, numer_at, IsRow, IsDivided, IsSpread, IsSolvedFor, SolutionFits};
+ghost use Rattle.dictionary.specs.Rows.{numbers_of, numer_at, IsRow, IsRowDivided, IsSpread, IsSolvedFor, SolutionFits};
 ghost use Rattle.dictionary.specs.Scratch.{found_at, AreFound};
 ghost use Rattle.dictionary.specs.Steps.{nonzeros};
 
@@ -45,7 +45,7 @@ fn divide_up<L: Ledger>(row: &mut Row<L>, basic: u32, pivot: i64, steps: &mut St
     requires row { (k n : ℕ) × IsRow k n row.old × (basic + 1 < k) }
     requires common { row.old.is_common ≡ true }
     requires pivot { pos 0 <ℤ pivot }
-    ensures divided { IsDivided row.old basic pivot row.new }
+    ensures divided { IsRowDivided row.old basic pivot row.new }
     ensures small { unsigned_abs row.old.denom < 2 ^ 63 }
     ensures cost { (k n : ℕ) → IsRow k n row.old → steps.new ≤ steps.old + (1 + 2 * nonzeros k (numbers_of row.old)) }
     ensures counted { steps.old ≤ steps.new }
@@ -62,7 +62,7 @@ fn divide_down<L: Ledger>(row: &mut Row<L>, basic: u32, pivot: i64, steps: &mut 
     requires common { row.old.is_common ≡ true }
     requires pivot { pivot <ℤ pos 0 }
     requires small { unsigned_abs pivot < 2 ^ 63 }
-    ensures divided { IsDivided row.old basic pivot row.new }
+    ensures divided { IsRowDivided row.old basic pivot row.new }
     ensures small { unsigned_abs row.old.denom < 2 ^ 63 }
     ensures cost { steps.new ≡ steps.old + 1 }
 {

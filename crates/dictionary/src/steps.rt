@@ -1,4 +1,4 @@
-// Steps that are counted, at no cost.
+//! Steps that are counted, at no cost.
 ghost use Rattle.std.specs.Prelude.{◌≡◌, ℕ, ◌+◌, ◌<◌};
 
 use std::marker::Model;

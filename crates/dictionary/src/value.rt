@@ -1,4 +1,4 @@
-// Values of basic columns.
+//! Values of basic columns.
 ghost use Rattle.std.specs.Prelude.{◌≡◌, ℕ, ◌+◌, ◌<◌, ◌≤◌, true, length, IfOk, OnErr};
 ghost use Rattle.rational.specs.Ratio.{IsNumber, IsSame};
 ghost use Rattle.fraction.specs.Frac.{ratio};

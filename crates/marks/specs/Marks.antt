@@ -3,14 +3,7 @@ use Rattle.std.specs.Prelude.{ℕ, ◌*◌, Bool, length, slice_index}
 use Rattle.marks.specs.Words.{has_bit}
 use Rattle.marks.specs.declared.marks.Marks.{Marks}
 
--- the numbers of a set in words, a bit each
-unfoldable pub word_of : Marks → ℕ → ℕ
-word_of m = slice_index m.words.items
-
-unfoldable pub count_of : Marks → ℕ
-count_of m = length m.words.items
-
--- which numbers it has
+-- which numbers it has, a bit each
 unfoldable pub is_marked : Marks → ℕ → Bool
 is_marked m = has_bit (slice_index m.words.items)
 

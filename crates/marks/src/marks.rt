@@ -1,4 +1,4 @@
-// A set of numbers.
+//! A set of numbers.
 ghost use Rattle.std.specs.Prelude.{◌*◌, ◌≤◌, ◌^◌, length};
 
 use crate::words::{Both, Either, One, clear, has, next, set};
@@ -11,11 +11,11 @@ pub struct Marks {
     ghost few: { 64 * length words.items ≤ 2 ^ 32 },
 }
 
-#[tactic(auto, unfolding(crate::specs::Marks::is_marked, crate::specs::Marks::size_of, crate::specs::Marks::word_of, crate::specs::Marks::count_of))]
+#[tactic(auto, unfolding(crate::specs::Marks::is_marked, crate::specs::Marks::size_of))]
 impl Marks {
     ghost use Rattle.std.specs.Prelude.{◌≡◌, ◌≢◌, ℕ, ◌+◌, ◌/◌, ◌<◌, ◌||◌, ◌&&◌, true, false, IfOk, MatchOption};
     ghost use Rattle.marks.specs.Words.{IsFirst, HasNone};
-    ghost use Rattle.marks.specs.Marks.{is_marked, size_of, word_of, count_of};
+    ghost use Rattle.marks.specs.Marks.{is_marked, size_of};
 
     /// A set for numbers below `count`, which has none. More than there are numbers of 32 bits find no room.
     pub fn with_size(alloc: Global, count: usize) -> Result<Marks, AllocError>
@@ -82,35 +82,6 @@ impl Marks {
         ensures none { (c : ℕ) → is_marked self.new c ≡ false }
     {
         self.words.as_mut_slice().fill(0);
-    }
-
-    /// How many words of 64 numbers it has.
-    #[inline(always)]
-    pub fn count(&self) -> usize
-        ensures { result ≡ count_of self.now }
-    {
-        self.words.len()
-    }
-
-    /// The numbers of a word, a bit each.
-    #[inline(always)]
-    pub fn word(&self, w: usize) -> u64
-        requires { w < count_of self.now }
-        ensures { result ≡ word_of self.now w }
-    {
-        self.words[w]
-    }
-
-    /// Gives a word other numbers.
-    #[inline(always)]
-    pub fn set_word(&mut self, w: usize, bits: u64)
-        requires { w < count_of self.old }
-        ensures size { size_of self.new ≡ size_of self.old }
-        ensures own { word_of self.new w ≡ bits }
-        ensures others { (v : ℕ) → v ≢ w → word_of self.new v ≡ word_of self.old v }
-    {
-        let words = self.words.as_mut_slice();
-        words[w] = bits;
     }
 
     /// The first number from this one on that it has.

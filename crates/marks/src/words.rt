@@ -1,4 +1,4 @@
-// Words of 64 bits, and the first bit that is set in them.
+//! Words of 64 bits, and the first bit that is set in them.
 ghost use Rattle.std.specs.Prelude.{◌≡◌, ◌≢◌, ℕ, ◌*◌, ◌<◌, ◌≤◌, ◌^◌, true, false, MatchOption, length, slice_index, bit_and, bit_or};
 ghost use Rattle.marks.specs.Words.{has_bit, lesser, IsFirst, HasNoneBelow};
 

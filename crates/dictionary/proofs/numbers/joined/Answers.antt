@@ -19,4 +19,4 @@ above (Some k) n up h = subst (λ z. pos 0 <ℤ z) (sym h.0) up
 pub returns-in-Ok : goal.returns-in-Ok
 returns-in-Ok c =
     let fits : FitsSigned w128 c.in-Ok.m = search rules in
-    above c.narrowed.result c.in-Ok.m c.in-Ok.ensures.above (simp to_z-of_z at c.narrowed.ensures.some)
+    above c.narrowed_size.result c.in-Ok.m c.in-Ok.ensures.above (simp to_z-of_z at c.narrowed_size.ensures.some)

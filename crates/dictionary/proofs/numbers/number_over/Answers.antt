@@ -16,7 +16,7 @@ returns-clause-some c =
     let whole = simp to_z-of_z at c.unsigned_abs-whole.ensures.value in
     let ek = simp to_z-of_z at c.in_ok-numer.ensures.some.0 in
     let em = simp to_z-of_z at c.product.ensures in
-    made_over (ratio v) (unsigned_abs c.args.denom) c.unsigned_abs-whole.result whole _ _ ek em c.narrowed-2.result c.if-whole-value-ne0.false (simp to_z-of_z at c.narrowed-2.ensures.some)
+    made_over (ratio v) (unsigned_abs c.args.denom) c.unsigned_abs-whole.result whole _ _ ek em c.narrowed_size-2.result c.if-whole-value-ne0.false (simp to_z-of_z at c.narrowed_size-2.ensures.some)
 
 pub returns-clause-none : goal.returns-clause-none
 returns-clause-none c none =
@@ -28,4 +28,4 @@ returns-clause-none c none =
     let whole = simp to_z-of_z at c.unsigned_abs-whole.ensures.value in
     let ek = simp to_z-of_z at c.in_ok-numer.ensures.some.0 in
     let em = simp to_z-of_z at c.product.ensures in
-    none_over (ratio v) (unsigned_abs c.args.denom) c.unsigned_abs-whole.result whole _ _ ek em v.above (simp to_z-of_z at (c.narrowed-2.ensures.none none))
+    none_over (ratio v) (unsigned_abs c.args.denom) c.unsigned_abs-whole.result whole _ _ ek em v.above (simp to_z-of_z at (c.narrowed_size-2.ensures.none none))

@@ -2,7 +2,7 @@ use Rattle.std.proofs.Common.{◌≡◌, ℕ, zero, suc, ℤ, ◌+◌, ◌<◌, 
 use Rattle.std.specs.Prelude.{unsigned_abs}
 use Rattle.std.proofs.lemmas.Int.{to_z-of_z, ints}
 use Rattle.rational.specs.Ratio.{Ratio}
-use Rattle.dictionary.specs.Rows.{numbers_of, numer_at, entries_at, IsRow, IsDivided}
+use Rattle.dictionary.specs.Rows.{numbers_of, numer_at, entries_at, IsRow, IsRowDivided}
 use Rattle.dictionary.specs.Steps.{nonzeros}
 use Rattle.dictionary.proofs.Nonzeros.{one_more}
 use Rattle.dictionary.proofs.RowForms.{common_number, lowest_alike, lowest_none, sized_above, has_below}
@@ -64,17 +64,17 @@ begun g c = one (entries_at c.args.row.now c.args.nonbasic) (let p = c.read-pivo
     one false h = omega arith
 
 -- what divides the row is its number there
-up : (g : _) (c : After-divide_up g) → IsDivided c.write.new.self c.args.basic (numer_at c.args.row.now c.args.nonbasic) c.divide_up.new.row
+up : (g : _) (c : After-divide_up g) → IsRowDivided c.write.new.self c.args.basic (numer_at c.args.row.now c.args.nonbasic) c.divide_up.new.row
 up g c =
     let x : FitsSigned w64 c.read-pivot.result = search rules in
     let divided = simp to_z-of_z at c.divide_up.ensures.divided in
-    subst (λ (z : ℤ). IsDivided c.write.new.self c.args.basic z c.divide_up.new.row) c.read-pivot.ensures.number divided
+    subst (λ (z : ℤ). IsRowDivided c.write.new.self c.args.basic z c.divide_up.new.row) c.read-pivot.ensures.number divided
 
-down : (g : _) (c : After-divide_down g) → IsDivided c.write.new.self c.args.basic (numer_at c.args.row.now c.args.nonbasic) c.divide_down.new.row
+down : (g : _) (c : After-divide_down g) → IsRowDivided c.write.new.self c.args.basic (numer_at c.args.row.now c.args.nonbasic) c.divide_down.new.row
 down g c =
     let x : FitsSigned w64 c.read-pivot.result = search rules in
     let divided = simp to_z-of_z at c.divide_down.ensures.divided in
-    subst (λ (z : ℤ). IsDivided c.write.new.self c.args.basic z c.divide_down.new.row) c.read-pivot.ensures.number divided
+    subst (λ (z : ℤ). IsRowDivided c.write.new.self c.args.basic z c.divide_down.new.row) c.read-pivot.ensures.number divided
 
 pub returns-then-pivot-gt0-clause-row : goal.returns-then-pivot-gt0-clause-row
 returns-then-pivot-gt0-clause-row g c k n is l =

@@ -9,8 +9,8 @@ use Rattle.instance.specs.Parts.{IsInside}
 use Rattle.dictionary.specs.declared.row.Row.{Row}
 use Rattle.dictionary.specs.ProgramRows.{program_rows}
 use Rattle.dictionary.specs.Rows.{numbers_in, AreRows}
-use Rattle.dictionary.specs.Dict.{width_of, height_of}
-use Rattle.dictionary.proofs.FirstDictionary.{begun_holds, begun_basis, rows-number, own_places}
+use Rattle.dictionary.specs.Dict.{width_of, height_of, IsJustLoaded}
+use Rattle.dictionary.proofs.FirstDictionary.{first_holds, first_basis, rows-number, own_places}
 use Rattle.dictionary.proofs.MarkedColumns.{rows_marked}
 use Rattle.dictionary.proofs.ProgramRows.{program_past}
 use Rattle.dictionary.proofs.dict.Dict.load.Goals as goal
@@ -115,19 +115,19 @@ pub returns-clause-size : goal.returns-clause-size
 unfolding width_of height_of
 returns-clause-size g c = record { width = refl; height = refl }
 
-pub returns-clause-holds : goal.returns-clause-holds
-unfolding width_of height_of
-returns-clause-holds g c =
-    let all = goal.at.returns-clause-holds g c in
+pub returns-clause-first : goal.returns-clause-first
+unfolding width_of height_of IsJustLoaded
+returns-clause-first g c =
+    let all = goal.at.returns-clause-first g c in
     let at' = all.After-mark_rows in
-    begun_holds _ _ (rows-number c.args.matrix.now c.args.costs.now c.args.factor c.args.self.now.height) refl (told g at') (past g at' (costs_count g all.After-as_mut_slice-places) (inside g all.After-as_mut_slice-places)) (at_is g at') (place_is g at')
+    (rows-number c.args.matrix.now c.args.costs.now c.args.factor c.args.self.now.height, refl, told g at', past g at' (costs_count g all.After-as_mut_slice-places) (inside g all.After-as_mut_slice-places), at_is g at', place_is g at')
+
+pub returns-clause-holds : goal.returns-clause-holds
+returns-clause-holds g c = first_holds _ _ (returns-clause-first g c)
 
 pub returns-clause-basis : goal.returns-clause-basis
 unfolding width_of height_of
-returns-clause-basis g c =
-    let all = goal.at.returns-clause-basis g c in
-    let at' = all.After-mark_rows in
-    begun_basis _ _ (rows-number c.args.matrix.now c.args.costs.now c.args.factor c.args.self.now.height) refl (told g at') (past g at' (costs_count g all.After-as_mut_slice-places) (inside g all.After-as_mut_slice-places)) (at_is g at') (place_is g at')
+returns-clause-basis g c = first_basis _ _ (returns-clause-first g c)
 
 pub returns-clause-cost : goal.returns-clause-cost
 unfolding width_of

@@ -1,7 +1,7 @@
 use Rattle.std.proofs.Common.{◌+◌, ◌∙◌, arith}
 use Rattle.dictionary.proofs.DictColumns.{IsRead, equation_place, equation_row, read_equation, row_is, said_there, digits_there, column_asked}
-use Rattle.dictionary.proofs.dict.Dict.entry_near.Goals as goal
-use Rattle.dictionary.proofs.dict.Dict.entry_near.Goals.{After-index}
+use Rattle.dictionary.proofs.dict.Dict.entry_of_row.Goals as goal
+use Rattle.dictionary.proofs.dict.Dict.entry_of_row.Goals.{After-index}
 
 read : (g : _) (c : After-index g) → IsRead c.args.self.now c.args.row c.index.result.now
 read g c = read_equation c.args.self.now c.requires.loaded c.args.row c.row_of-r.result c.requires.row c.requires.basic c.row_of-r.ensures c.index.result.now c.index.ensures
@@ -22,5 +22,4 @@ pub returns-clause-cost : goal.returns-clause-cost
 returns-clause-cost g c b l =
     let d = c.args.self.now in
     let is = read g (goal.at.returns-clause-cost g c).After-index in
-    let k = c.value.ensures.cost (d.width + (d.height + 1)) d.width b (row_is d c.args.row c.index.result.now is) (digits_there d c.args.row c.index.result.now is b l) in
-    omega arith
+    c.value.ensures.cost (d.width + (d.height + 1)) d.width b (row_is d c.args.row c.index.result.now is) (digits_there d c.args.row c.index.result.now is b l)
